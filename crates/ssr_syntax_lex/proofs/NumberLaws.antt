@@ -1,0 +1,67 @@
+-- That the tests of the code on the parts of a number are those of the definition on the whole token.
+use Rattle.std.proofs.Common.{◌≡◌, ℕ, suc, zero, ◌+◌, ◌-◌, ◌<◌, ◌≤◌, ◌==◌, Bool, true, false, not, ◌&&◌, ◌||◌, if◌then◌else◌, List, [], ◌∷◌, ◌++◌, length, take, drop, refl, sym, ap, subst, ◌∙◌, arith, append_assoc, length-append}
+use Rattle.std.specs.List.{list_all}
+use Rattle.std.specs.Option.{option_map_or}
+use Rattle.std.specs.Prelude.{slice_get, Some}
+use Rattle.std.proofs.lemmas.Bool.{eqb-true}
+use Rattle.std.proofs.lemmas.Bool.Decides.{nat_tests}
+use Rattle.ssr_syntax_lex.specs.Cursor.{Chars, passes_at, is_at, run, past}
+use Rattle.ssr_syntax_lex.specs.Characters.{is_digit, is_digit_or_underscore, is_exponent_mark, continues_word}
+use Rattle.ssr_syntax_lex.specs.Numbers.{Part, with_run, has_radix, ends_with_exponent_mark, takes_point, is_signed_digit, takes_sign, has_exponent, whole_run, with_point, with_sign, number_kind, number}
+use Rattle.ssr_syntax_lex.specs.declared.kinds.SyntaxKind.{SyntaxKind}
+use Rattle.ssr_syntax_lex.specs.declared.kinds.SyntaxKind.TheVariants as k
+
+not_empty : (c : ℕ) (cs : Chars) → (length (c ∷ cs) == 0) ≡ false
+not_empty c cs = grind (arith, nat_tests)
+
+-- all characters pass exactly where nothing is left behind those that do
+pub all_passed : (test : ℕ → Bool) (cs : Chars) → list_all test cs ≡ (length (past test cs) == 0)
+all_passed test [] = refl
+all_passed test (c ∷ cs) =
+    elim (test c) as (λ b. (b && list_all test cs) ≡ (length (if b then past test cs else (c ∷ cs)) == 0)) [
+      | true ↦ all_passed test cs
+      | false ↦ sym (not_empty c cs)
+    ]
+
+pub both : (a b : Bool) → (a && b) ≡ true → (a ≡ true) × (b ≡ true)
+both true b h = (refl, h)
+both false b h = absurd (cc)
+
+-- a character that passes is none that doesn't
+differs : (test : ℕ → Bool) (d c : ℕ) (b : Bool) → (d == c) ≡ b → test d ≡ true → test c ≡ false → b ≡ false
+differs test d c true e passes fails =
+    let clash : true ≡ false = sym passes ∙ (ap test (eqb-true d c e) ∙ fails) in absurd (cc)
+differs test d c false e passes fails = refl
+
+-- no digit and no `_` is the mark of a radix
+no_mark : (d : ℕ) → is_digit_or_underscore d ≡ true → ((d == 120) || (d == 111) || (d == 98)) ≡ false
+no_mark d plain =
+    ap (λ b. b || (d == 111) || (d == 98)) (differs is_digit_or_underscore d 120 (d == 120) refl plain refl)
+    ∙ (ap (λ b. b || (d == 98)) (differs is_digit_or_underscore d 111 (d == 111) refl plain refl)
+    ∙ differs is_digit_or_underscore d 98 (d == 98) refl plain refl)
+
+-- a text of digits and `_` has no radix, nor has one that goes on with a point
+pub plain_no_radix : (text more : Chars) → list_all is_digit_or_underscore text ≡ true → has_radix (text ++ 46 ∷ more) ≡ false
+plain_no_radix [] more plain = refl
+plain_no_radix (c ∷ []) more plain = elim (c == 48) as (λ b. (b && false) ≡ false) [ true ↦ refl | false ↦ refl ]
+plain_no_radix (c ∷ d ∷ cs) more plain =
+    ap (λ b. (c == 48) && b) (no_mark d (both _ _ (both _ _ plain).1).0)
+    ∙ elim (c == 48) as (λ b. (b && false) ≡ false) [ true ↦ refl | false ↦ refl ]
+
+pub at_append : (xs ys : Chars) (i : ℕ) → slice_get (xs ++ ys) (length xs + i) ≡ slice_get ys i
+at_append [] ys i = ap (slice_get ys) (omega arith)
+at_append (x ∷ xs) ys i =
+    let next : length (x ∷ xs) + i ≡ suc (length xs + i) = omega arith in
+    ap (slice_get (x ∷ (xs ++ ys))) next ∙ at_append xs ys i
+
+pub last_at : (xs : Chars) (c : ℕ) → slice_get (xs ++ c ∷ []) (length (xs ++ c ∷ []) - 1) ≡ Some c
+last_at xs c =
+    let place : length (xs ++ c ∷ []) - 1 ≡ length xs + 0 = omega (arith, length-append xs (c ∷ [])) in
+    ap (slice_get (xs ++ c ∷ [])) place ∙ at_append xs (c ∷ []) 0
+
+pub last_passes : (test : ℕ → Bool) (text front : Chars) (c : ℕ) → text ≡ front ++ c ∷ [] → passes_at (length text - 1) test text ≡ test c
+last_passes test text front c e =
+    ap (λ cs. passes_at (length cs - 1) test cs) e ∙ ap (λ o. option_map_or test o false) (last_at front c)
+
+pub none_passes : (test : ℕ → Bool) (text : Chars) → text ≡ [] → passes_at (length text - 1) test text ≡ false
+none_passes test text e = ap (λ cs. passes_at (length cs - 1) test cs) e

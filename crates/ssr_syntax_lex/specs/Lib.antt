@@ -1,0 +1,7 @@
+pub mod Kinds
+pub mod Cursor
+pub mod Characters
+pub mod Words
+pub mod Numbers
+pub mod Raw
+pub mod Tokens

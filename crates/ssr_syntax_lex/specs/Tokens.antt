@@ -1,0 +1,84 @@
+-- The raw tokens of a text.
+use Rattle.std.specs.Prelude.{ℕ, zero, suc, ◌≡◌, ◌+◌, ◌-◌, ◌^◌, ◌<◌, ◌≤◌, Bool, true, false, if◌then◌else◌, List, [], ◌∷◌, Option, Some, None, Result, Ok, Err, Vec, length, slice_range, flat_map, All, IsCharBoundary}
+use Rattle.std.specs.Option.{option_map, option_and_then}
+use Rattle.std.specs.Str.{chars, encode_utf8_all}
+use Rattle.std.specs.declared.alloc.Global.{Global}
+use Rattle.std.proofs.Math.Nat.{le-add_right}
+use Rattle.ssr_syntax_lex.specs.Cursor.{Chars}
+use Rattle.ssr_syntax_lex.specs.Words.{is_punctuation}
+use Rattle.ssr_syntax_lex.specs.Raw.{Taken, token}
+use Rattle.ssr_syntax_lex.specs.declared.kinds.SyntaxKind.{SyntaxKind}
+use Rattle.ssr_syntax_lex.specs.declared.kinds.SyntaxKind.TheVariants as k
+use Rattle.ssr_syntax_lex.specs.declared.range.TextRange.{TextRange}
+use Rattle.ssr_syntax_lex.specs.declared.tokens.RawToken.{RawToken}
+use Rattle.ssr_syntax_lex.specs.declared.tokens.LexError.{LexError}
+use Rattle.ssr_syntax_lex.specs.declared.tokens.LexError.TheVariants.{TooLong, Fault, Memory}
+
+-- how many bytes characters take
+abbrev pub size : Chars → ℕ
+size cs = length (encode_utf8_all cs)
+
+-- the range of so many bytes from a place on
+abbrev pub range_of : ℕ → ℕ → TextRange
+range_of start count = record { start = start; end = start + count; ordered = le-add_right start count }
+
+abbrev pub begins_with_punctuation : List RawToken → Bool
+begins_with_punctuation [] = false
+begins_with_punctuation (t ∷ ts) = is_punctuation t.kind
+
+-- a token in front of others: it is joint if the first of these is punctuation
+abbrev pub in_front : SyntaxKind → TextRange → List RawToken → List RawToken
+in_front kind range ts = record { kind = kind; range = range; joint = begins_with_punctuation ts } ∷ ts
+
+abbrev pub is_dot : SyntaxKind → Bool
+is_dot k.DOT = true
+is_dot _ = false
+
+-- how many `.` stand directly before what follows a token of this kind
+abbrev pub dots_behind : ℕ → SyntaxKind → ℕ
+dots_behind dots kind = if is_dot kind then dots + 1 else 0
+
+-- the tokens of the characters that are left from the byte `start` on, with `dots` points directly in front;
+-- there are at most `fuel` of them
+abbrev pub tokens_from : ℕ → ℕ → ℕ → Chars → Option (List RawToken)
+tokens_from fuel start dots [] = Some []
+tokens_from zero start dots (c ∷ cs) = None
+tokens_from (suc fuel) start dots (c ∷ cs) =
+    option_and_then
+    (λ (taken : Taken). let count : ℕ = size (c ∷ cs) - size taken.1 in
+    option_map (in_front taken.0 (range_of start count)) (tokens_from fuel (start + count) (dots_behind dots taken.0) taken.1))
+    (token dots (c ∷ cs))
+
+-- the tokens of a text, or None where there is a fault
+unfoldable pub tokens : List ℕ → Option (List RawToken)
+tokens text = tokens_from (length (chars text)) 0 0 (chars text)
+
+-- what `lex` gives
+abbrev pub Lexes : Result (Vec RawToken Global) LexError → List ℕ → Type 0
+Lexes (Ok v) text = (length text < 2 ^ 32) × (tokens text ≡ Some v.items)
+Lexes (Err (Fault fault)) text = (length text < 2 ^ 32) × (tokens text ≡ None)
+Lexes (Err TooLong) text = 2 ^ 32 ≤ length text
+Lexes (Err Memory) text = Unit {0}
+
+-- the bytes of the text at a token's range
+abbrev pub token_text : List ℕ → RawToken → List ℕ
+token_text text t = slice_range text t.range.start t.range.end
+
+-- the texts of tokens, one after the other
+abbrev pub spell : List ℕ → List RawToken → List ℕ
+spell text ts = flat_map (token_text text) ts
+
+-- the ranges follow one another from a byte to another, none is empty, and each begins at a character
+abbrev pub TilesFrom : List ℕ → ℕ → List RawToken → Type 0
+TilesFrom text start [] = start ≡ length text
+TilesFrom text start (t ∷ ts) =
+    (t.range.start ≡ start) × (start < t.range.end) × IsCharBoundary text start × TilesFrom text t.range.end ts
+
+-- the ranges are the whole text in order
+abbrev pub Tiles : List ℕ → List RawToken → Type 0
+Tiles text ts = TilesFrom text 0 ts
+
+-- the token that waits for its flag, with it
+abbrev pub flagged : Option RawToken → Bool → List RawToken
+flagged None joint = []
+flagged (Some t) joint = record t { joint = joint } ∷ []

@@ -1,0 +1,49 @@
+//! Classes of characters.
+
+ghost use Rattle.std.specs.Prelude.{◌≡◌};
+ghost use Rattle.ssr_syntax_lex.specs.Characters as spec;
+
+pub(crate) fn is_whitespace(c: char) -> bool
+    ensures { result ≡ spec.is_whitespace c }
+{
+    matches!(
+        c,
+        '\u{9}'..='\u{d}' | ' ' | '\u{85}' | '\u{200e}' | '\u{200f}' | '\u{2028}' | '\u{2029}'
+    )
+}
+
+pub(crate) fn is_hash(c: char) -> bool
+    ensures { result ≡ spec.is_hash c }
+{
+    c == '#'
+}
+
+pub(crate) fn is_digit(c: char) -> bool
+    ensures { result ≡ spec.is_digit c }
+{
+    matches!(c, '0'..='9')
+}
+
+pub(crate) fn is_digit_or_underscore(c: char) -> bool
+    ensures { result ≡ spec.is_digit_or_underscore c }
+{
+    is_digit(c) || c == '_'
+}
+
+pub(crate) fn is_exponent_mark(c: char) -> bool
+    ensures { result ≡ spec.is_exponent_mark c }
+{
+    c == 'e' || c == 'E'
+}
+
+pub(crate) fn starts_word(c: char) -> bool
+    ensures { result ≡ spec.starts_word c }
+{
+    unicode_ident::is_xid_start(c) || c == '_'
+}
+
+pub(crate) fn continues_word(c: char) -> bool
+    ensures { result ≡ spec.continues_word c }
+{
+    unicode_ident::is_xid_continue(c)
+}

@@ -1,0 +1,15 @@
+//! Raw tokens of Rust texts: kinds, ranges and the lexer.
+#![tactic(auto)]
+
+mod characters;
+mod cursor;
+mod kinds;
+mod numbers;
+mod range;
+mod raw;
+mod tokens;
+mod words;
+
+pub use kinds::SyntaxKind;
+pub use range::TextRange;
+pub use tokens::{LexError, LexFault, RawToken, lex};
