@@ -1,0 +1,141 @@
+-- What the rows of a tree tell of it.
+use Rattle.std.proofs.Common.{inl, inr, ◌≡◌, ℕ, vec_len, ◌+◌, ◌-◌, ◌<◌, ◌≤◌, List, [], ◌∷◌, ◌++◌, All, length, take, drop, get_or, refl, sym, ap, ◌∙◌, subst, arith, append_assoc, length-append, take-append-drop}
+use Rattle.std.proofs.lemmas.List.{get_or-map, take-take, length-map, take_all, take_at, drop_at, drop-take}
+use Rattle.std.proofs.lemmas.Bool.{cases_lt}
+use Rattle.std.proofs.lemmas.List.Elements.{All-head, All-tail, All-drop}
+use Rattle.std.proofs.lemmas.Option.{unwrap_or-slice_get}
+use Rattle.std.proofs.lemmas.Str.{IsUtf8-append, IsUtf8-nil, IsCharBoundary-at_seam}
+use Rattle.std.specs.Prelude.{zero, suc}
+use Rattle.std.specs.Str.{IsUtf8, IsCharBoundary}
+use Rattle.std.specs.String.{string_bytes}
+use Rattle.ssr_syntax_tree.specs.declared.rows.NodeRow.{NodeRow}
+use Rattle.ssr_syntax_tree.specs.declared.rows.TokenRow.{TokenRow}
+use Rattle.ssr_syntax_tree.specs.declared.tree.Tree.TheInside.{Inside}
+use Rattle.ssr_syntax_tree.specs.Flat.{syntax_of, IsFlat}
+use Rattle.ssr_syntax_tree.specs.Parts.{node_row, token_rows, AreParts}
+use Rattle.ssr_syntax_tree.specs.Places.{nodes_of, root_of, node_of, token_of, offset_of, HasNode, HasToken}
+use Rattle.ssr_syntax_tree.specs.Syntax.{Token, Syntax, token_count, node_count, tokens_of, spelled, source_of}
+use Rattle.ssr_syntax_tree.proofs.Siblings.{length-nodes_in, length-tokens_in}
+
+-- the parts of an opened tree are those of the tree that it is seen as
+pub are_parts : (tree : Inside) (syntax : Syntax) → IsFlat tree → syntax_of tree ≡ syntax → AreParts (string_bytes tree.source) tree.tokens.items tree.nodes.items syntax
+are_parts tree syntax flat e = subst (AreParts (string_bytes tree.source) tree.tokens.items tree.nodes.items) e flat
+
+pub length-nodes_of : (syntax : Syntax) → length (nodes_of syntax) ≡ 1 + node_count syntax.children
+length-nodes_of syntax = omega (arith, length-nodes_in 0 1 0 syntax.children)
+
+pub length-token_rows : (start : ℕ) (tokens : List Token) → length (token_rows start tokens) ≡ length tokens
+length-token_rows start [] = refl
+length-token_rows start (token ∷ next) = ap suc (length-token_rows (start + length token.text) next)
+
+spelled-append : (xs ys : List Token) → spelled (xs ++ ys) ≡ spelled xs ++ spelled ys
+spelled-append [] ys = refl
+spelled-append (x ∷ xs) ys = ap (λ rest. x.text ++ rest) (spelled-append xs ys) ∙ sym (append_assoc x.text (spelled xs) (spelled ys))
+
+pub token_row-in : (start : ℕ) (tokens : List Token) (t : ℕ) (row : TokenRow) (token : Token) → t < length tokens → row ≡ get_or (token_rows start tokens) t row → (row.kind ≡ (get_or tokens t token).kind) × (row.start ≡ start + length (spelled (take t tokens)))
+token_row-in start [] t row token h e = absurd (omega arith)
+token_row-in start (first ∷ next) zero row token h e = (ap (λ row. row.kind) e, ap (λ row. row.start) e ∙ omega arith)
+token_row-in start (first ∷ next) (suc t) row token h e =
+    let later = token_row-in (start + length first.text) next t row token (omega arith) e in
+    (later.0, later.1 ∙ omega (arith, length-append first.text (spelled (take t next))))
+
+pub spelled-texts : (tokens : List Token) → All (λ token. IsUtf8 token.text) tokens → IsUtf8 (spelled tokens)
+spelled-texts [] h = IsUtf8-nil
+spelled-texts (token ∷ next) h =
+    IsUtf8-append token.text (spelled next) (All-head (λ token. IsUtf8 token.text) token next h) (spelled-texts next (All-tail (λ token. IsUtf8 token.text) token next h))
+
+split_at : (syntax : Syntax) (t : ℕ) → source_of syntax ≡ spelled (take t (tokens_of syntax)) ++ spelled (drop t (tokens_of syntax))
+split_at syntax t = ap spelled (sym (take-append-drop t (tokens_of syntax))) ∙ spelled-append (take t (tokens_of syntax)) (drop t (tokens_of syntax))
+
+pub offset_boundary : (syntax : Syntax) (t : ℕ) → All (λ token. IsUtf8 token.text) (tokens_of syntax) → IsCharBoundary (source_of syntax) (offset_of syntax t)
+offset_boundary syntax t texts =
+    IsCharBoundary-at_seam (source_of syntax) (spelled (take t (tokens_of syntax))) (spelled (drop t (tokens_of syntax))) (split_at syntax t)
+    (spelled-texts (drop t (tokens_of syntax)) (All-drop (λ token. IsUtf8 token.text) t (tokens_of syntax) texts))
+
+-- behind the tokens there is nothing more
+pub offset_past : (syntax : Syntax) (t : ℕ) → token_count syntax.children ≤ t → offset_of syntax t ≡ length (source_of syntax)
+offset_past syntax t h = ap (λ tokens. length (spelled tokens)) (take_all t (tokens_of syntax) (omega (arith, length-tokens_in syntax.children)))
+
+take_between : {A : Type 0} (xs : List A) (a b : ℕ) → a ≤ b → take b xs ≡ take a xs ++ take (b - a) (drop a xs)
+take_between xs a b h =
+    sym (take-append-drop a (take b xs))
+    ∙ ap (λ front. front ++ drop a (take b xs)) (take-take a b xs h)
+    ∙ ap (λ n. take a xs ++ drop a (take n xs)) (omega arith)
+    ∙ ap (λ rest. take a xs ++ rest) (drop-take a (b - a) xs)
+
+-- where there are bytes, there is a token
+pub some_token : (syntax : Syntax) → 0 < length (source_of syntax) → 0 < token_count syntax.children
+some_token syntax h =
+    elim (cases_lt 0 (token_count syntax.children)) [ inl some ↦ some | inr none ↦ absurd (omega (arith, offset_past syntax 0 none)) ]
+
+-- offsets of tokens grow
+pub offset_grows : (syntax : Syntax) (a b : ℕ) → a ≤ b → offset_of syntax a ≤ offset_of syntax b
+offset_grows syntax a b h =
+    omega (
+      arith,
+      ap length (ap spelled (take_between (tokens_of syntax) a b h) ∙ spelled-append (take a (tokens_of syntax)) (take (b - a) (drop a (tokens_of syntax)))),
+      length-append (spelled (take a (tokens_of syntax))) (spelled (take (b - a) (drop a (tokens_of syntax)))),
+    )
+
+pub offset_within : (syntax : Syntax) (t : ℕ) → offset_of syntax t ≤ length (source_of syntax)
+offset_within syntax t = omega (arith, ap length (split_at syntax t), length-append (spelled (take t (tokens_of syntax))) (spelled (drop t (tokens_of syntax))))
+
+-- the bytes between two tokens' offsets are what the tokens between them spell
+pub slice_spelled : (syntax : Syntax) (a b : ℕ) → a ≤ b → take (offset_of syntax b - offset_of syntax a) (drop (offset_of syntax a) (source_of syntax)) ≡ spelled (take (b - a) (drop a (tokens_of syntax)))
+slice_spelled syntax a b h =
+    let tokens = tokens_of syntax in
+    let front = spelled (take a tokens) in
+    let middle = spelled (take (b - a) (drop a tokens)) in
+    let rest = spelled (drop (b - a) (drop a tokens)) in
+    let long : length middle ≡ offset_of syntax b - offset_of syntax a =
+    omega (arith, ap length (ap spelled (take_between tokens a b h) ∙ spelled-append (take a tokens) (take (b - a) (drop a tokens))), length-append front middle) in
+    let dropped : drop (offset_of syntax a) (source_of syntax) ≡ middle ++ rest =
+    ap (drop (offset_of syntax a)) (split_at syntax a)
+    ∙ drop_at front (spelled (drop a tokens)) (offset_of syntax a) refl
+    ∙ ap spelled (sym (take-append-drop (b - a) (drop a tokens)))
+    ∙ spelled-append (take (b - a) (drop a tokens)) (drop (b - a) (drop a tokens)) in
+    ap (take (offset_of syntax b - offset_of syntax a)) dropped ∙ take_at middle rest (offset_of syntax b - offset_of syntax a) long
+
+-- the row of a number
+pub node_row-at : (source : List ℕ) (tokens : List TokenRow) (nodes : List NodeRow) (syntax : Syntax) → AreParts source tokens nodes syntax → (n : ℕ) (row : NodeRow) → HasNode syntax n → row ≡ get_or nodes n row → row ≡ node_row (node_of syntax n)
+unfolding node_of
+node_row-at source tokens nodes syntax are n row h e =
+    let within : n < length (nodes_of syntax) = omega (arith, length-nodes_of syntax) in
+    e
+    ∙ ap (λ nodes. get_or nodes n row) are.nodes_are
+    ∙ get_or-map node_row (nodes_of syntax) n (root_of syntax) row within
+    ∙ ap node_row (sym (unwrap_or-slice_get (nodes_of syntax) n (root_of syntax)))
+
+pub token_row-at : (source : List ℕ) (tokens : List TokenRow) (nodes : List NodeRow) (syntax : Syntax) → AreParts source tokens nodes syntax → (t : ℕ) (row : TokenRow) → HasToken syntax t → row ≡ get_or tokens t row → (row.kind ≡ (token_of syntax t).kind) × (row.start ≡ offset_of syntax t)
+unfolding token_of
+token_row-at source tokens nodes syntax are t row h e =
+    let within : t < length (tokens_of syntax) = omega (arith, length-tokens_in syntax.children) in
+    let read : row ≡ get_or (token_rows 0 (tokens_of syntax)) t row = e ∙ ap (λ tokens. get_or tokens t row) are.tokens_are in
+    let found = token_row-in 0 (tokens_of syntax) t row _ within read in
+    (found.0 ∙ ap (λ token. token.kind) (sym (unwrap_or-slice_get (tokens_of syntax) t _)), found.1 ∙ omega arith)
+
+pub nodes_counted : (source : List ℕ) (tokens : List TokenRow) (nodes : List NodeRow) (syntax : Syntax) → AreParts source tokens nodes syntax → length nodes ≡ 1 + node_count syntax.children
+nodes_counted source tokens nodes syntax are = ap length are.nodes_are ∙ length-map (nodes_of syntax) node_row ∙ length-nodes_of syntax
+
+pub tokens_counted : (source : List ℕ) (tokens : List TokenRow) (nodes : List NodeRow) (syntax : Syntax) → AreParts source tokens nodes syntax → length tokens ≡ token_count syntax.children
+tokens_counted source tokens nodes syntax are = ap length are.tokens_are ∙ length-token_rows 0 (tokens_of syntax) ∙ length-tokens_in syntax.children
+
+pub offset_read : (source : List ℕ) (tokens : List TokenRow) (nodes : List NodeRow) (syntax : Syntax) → AreParts source tokens nodes syntax → (t : ℕ) (row : TokenRow) (read : List TokenRow) → read ≡ tokens → t < length read → row ≡ get_or read t row → row.start ≡ offset_of syntax t
+offset_read source tokens nodes syntax are t row read same within e =
+    let count = tokens_counted source tokens nodes syntax are in
+    (token_row-at source tokens nodes syntax are t row (omega (arith, ap length same)) (e ∙ ap (λ tokens. get_or tokens t row) same)).1
+
+-- the same of an opened tree
+pub node_within : (tree : Inside) (syntax : Syntax) → IsFlat tree → syntax_of tree ≡ syntax → (n : ℕ) → HasNode syntax n → n < vec_len tree.nodes
+node_within tree syntax flat e n h =
+    let are = are_parts tree syntax flat e in
+    omega (arith, nodes_counted (string_bytes tree.source) tree.tokens.items tree.nodes.items syntax are, tree.nodes.ok)
+
+pub node_row-is : (tree : Inside) (syntax : Syntax) → IsFlat tree → syntax_of tree ≡ syntax → (n : ℕ) (row : NodeRow) → HasNode syntax n → row ≡ get_or tree.nodes.items n row → row ≡ node_row (node_of syntax n)
+node_row-is tree syntax flat e n row h read =
+    node_row-at (string_bytes tree.source) tree.tokens.items tree.nodes.items syntax (are_parts tree syntax flat e) n row h read
+
+pub token_within : (tree : Inside) (syntax : Syntax) → IsFlat tree → syntax_of tree ≡ syntax → (t : ℕ) → HasToken syntax t → t < vec_len tree.tokens
+token_within tree syntax flat e t h =
+    let are = are_parts tree syntax flat e in
+    omega (arith, tokens_counted (string_bytes tree.source) tree.tokens.items tree.nodes.items syntax are, tree.tokens.ok)

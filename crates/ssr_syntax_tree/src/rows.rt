@@ -1,0 +1,22 @@
+use ssr_syntax_lex::SyntaxKind;
+
+/// A token of a tree: its kind, and where it begins, in bytes.
+#[derive(Clone, Copy)]
+pub struct TokenRow {
+    pub kind: SyntaxKind,
+    pub start: u32,
+}
+
+/// A node of a tree, in preorder.
+#[derive(Clone, Copy)]
+pub struct NodeRow {
+    pub kind: SyntaxKind,
+    /// The number of the node above it; the root's own is 0.
+    pub parent: u32,
+    /// The number of its first token; of the next token, where it has none.
+    pub first: u32,
+    /// The number of the token past its last one.
+    pub past: u32,
+    /// How many nodes are below it.
+    pub below: u32,
+}
