@@ -1,0 +1,23 @@
+-- One turn of a loop, and its end.
+use Rattle.std.proofs.Common.{◌≡◌, ℕ, zero, suc, ◌+◌, ◌-◌, ◌<◌, if◌then◌else◌, Result, Ok, Err, refl, arith}
+use Rattle.ssr_syntax.specs.declared.goals.Fault.{Fault}
+use Rattle.ssr_syntax.specs.declared.goals.Fault.TheVariants as faults
+use Rattle.ssr_syntax.specs.Forms.{Test, passes, repeat, ◌>>=◌}
+use Rattle.ssr_syntax.specs.Runs.{State}
+
+repeat_suc : (n : ℕ) (test : Test) (step : State → Result State Fault) (s : State) (m : ℕ) → m ≡ suc n
+    → repeat (λ z. z.rest) m test step s ≡ (if passes test s.rest then step s >>= repeat (λ z. z.rest) n test step else Ok s)
+repeat_suc n test step s m e = rw e refl
+
+repeat_zero : (test : Test) (step : State → Result State Fault) (s : State) (m : ℕ) → m ≡ zero
+    → repeat (λ z. z.rest) m test step s ≡ Err faults.NoTree
+repeat_zero test step s m e = rw e refl
+
+pub repeat_step : (total turn : ℕ) (test : Test) (step : State → Result State Fault) (s : State) → turn < total
+    → repeat (λ z. z.rest) (total - turn) test step s
+    ≡ (if passes test s.rest then step s >>= repeat (λ z. z.rest) (total - (turn + 1)) test step else Ok s)
+repeat_step total turn test step s lt = repeat_suc (total - (turn + 1)) test step s (total - turn) (omega arith)
+
+pub repeat_end : (total : ℕ) (test : Test) (step : State → Result State Fault) (s : State)
+    → repeat (λ z. z.rest) (total - total) test step s ≡ Err faults.NoTree
+repeat_end total test step s = repeat_zero test step s (total - total) (omega arith)

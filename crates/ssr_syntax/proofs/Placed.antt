@@ -1,0 +1,383 @@
+-- The rows of a forest, read from the right, give its nodes' rows in preorder.
+use Rattle.std.proofs.Common.{◌≡◌, ℕ, suc, ◌+◌, ◌-◌, ◌<◌, ◌≤◌, Bool, true, false, ◌||◌, ◌⊎◌, inl, inr, List, [], ◌∷◌, ◌++◌, length, map, refl, sym, ◌∙◌, ap, subst, arith, append_assoc, length-append}
+use Rattle.ssr_syntax_lex.specs.declared.kinds.SyntaxKind.{SyntaxKind}
+use Rattle.std.specs.Prelude.{⊤, nat_le, nat_lt, reverse, Result, Ok, Err}
+use Rattle.std.specs.Result.{IsErr, IsErrAnd}
+use Rattle.std.proofs.lemmas.List.{append-nil, reverse-append, reverse-reverse, length-reverse}
+use Rattle.std.proofs.lemmas.Bool.Decides.{nat_tests}
+use Rattle.std.proofs.lemmas.Bool.{ltb-true, ltb-false, lt-ltb, le-ltb}
+use Rattle.ssr_syntax_tree.specs.declared.rows.NodeRow.{NodeRow}
+use Rattle.ssr_syntax.specs.declared.rows.Row.{Row}
+use Rattle.ssr_syntax.specs.declared.preorder.Open.{Open}
+use Rattle.ssr_syntax.specs.declared.syntax_error.SyntaxError.{SyntaxError}
+use Rattle.ssr_syntax.specs.declared.syntax_error.SyntaxError.TheVariants as errors
+use Rattle.ssr_syntax.specs.Trees.{Forest, done, leaf, tree, spell, nodes, rows}
+use Rattle.ssr_syntax.specs.Preorder.{node_rows, still_open, closed, number_of, first_of, opened, from_right, is_deeper, first_at, past_at, high, most_deep, tree_rows, IsDepthFault, OkUnlessDeep, IsClosed, IsFromRight}
+
+-- Whether a node of the forest has more than `limit` others above it, where so many stand above the forest.
+abbrev pub deeper_by : ℕ → ℕ → Forest → Bool
+deeper_by limit above done = false
+deeper_by limit above (leaf kind tokens x) = deeper_by limit above x
+deeper_by limit above (tree kind kids x) = deeper_by limit above x || (nat_lt limit above || deeper_by limit (1 + above) kids)
+
+-- the open nodes begin at a place or before it
+abbrev pub BeginBy : ℕ → List Open → Type 0
+BeginBy place [] = ⊤
+BeginBy place (inner ∷ above) = (inner.start ≤ place) × BeginBy place above
+
+begins_later : (place later : ℕ) (above : List Open) → place ≤ later → BeginBy place above → BeginBy later above
+begins_later place later [] le h = tt
+begins_later place later (inner ∷ above) le h = (omega (arith, h.0), begins_later place later above le h.1)
+
+shut : (n m : ℕ) → m < n → nat_le n m ≡ false
+shut n m h = grind (arith, nat_tests)
+
+opens : (n m : ℕ) → n ≤ m → nat_le n m ≡ true
+opens n m h = grind (arith, nat_tests)
+
+all_open : (place later : ℕ) (above : List Open) → place < later → BeginBy place above → still_open later above ≡ above
+all_open place later [] lt h = refl
+all_open place later (inner ∷ above) lt h =
+    let e : nat_le later inner.start ≡ false = shut later inner.start (omega (arith, h.0)) in
+    rw e
+
+none_closed : (place later : ℕ) (above : List Open) → place < later → BeginBy place above → closed later above ≡ []
+none_closed place later [] lt h = refl
+none_closed place later (inner ∷ above) lt h =
+    let e : nat_le later inner.start ≡ false = shut later inner.start (omega (arith, h.0)) in
+    rw e
+
+pub length-rows : (x : Forest) (left : ℕ) → length (rows x left) ≡ nodes x
+length-rows done left = refl
+length-rows (leaf kind tokens x) left = length-rows x left
+length-rows (tree kind kids x) left =
+    let e = length-rows kids (length (spell x) + left) in
+    let f = length-rows x left in
+    rw (length-append (rows kids (length (spell x) + left)), e, f) (omega arith)
+
+length-reversed : (xs more : List Row) → length (reverse xs ++ more) ≡ length xs + length more
+length-reversed xs more = rw (length-append, length-reverse)
+
+pub length-reversed_rows : (x : Forest) (left : ℕ) (more : List Row) → length (reverse (rows x left) ++ more) ≡ nodes x + length more
+length-reversed_rows x left more = length-reversed (rows x left) more ∙ ap (λ n. n + length more) (length-rows x left)
+
+-- a node that begins where the rest ends is closed first
+closes_first : (at : ℕ → ℕ) (total : ℕ) (inner : Open) (above : List Open) (rest : List Row) → length rest ≤ inner.start
+    → from_right at total (inner ∷ above) rest ≡ inner.node ∷ from_right at total above rest
+closes_first at total inner above [] h = refl
+closes_first at total inner above (row ∷ rest) h =
+    let e : nat_le (1 + length rest) inner.start ≡ true = opens (1 + length rest) inner.start (omega arith) in
+    rw e
+
+-- where all open nodes stay open
+stay : (at : ℕ → ℕ) (total : ℕ) (above : List Open) (row : Row) (rest : List Row) → BeginBy (length rest) above
+    → from_right at total above (row ∷ rest) ≡ from_right at total (opened at total row (length rest) above ∷ above) rest
+stay at total above row rest h =
+    let e = all_open (length rest) (1 + length rest) above (omega arith) h in
+    let f = none_closed (length rest) (1 + length rest) above (omega arith) h in
+    rw (e, f)
+
+reversed_middle : (k x more : List Row) (r : Row) → reverse (k ++ (r ∷ x)) ++ more ≡ reverse x ++ (r ∷ (reverse k ++ more))
+reversed_middle k x more r =
+    let e : k ++ (r ∷ x) ≡ (k ++ (r ∷ [])) ++ x = sym (append_assoc k (r ∷ []) x) in
+    rw (e, reverse-append, reverse-append, append_assoc)
+
+reversed_node : (k x rest : List NodeRow) (r : NodeRow) → reverse (r ∷ (k ++ x)) ++ rest ≡ reverse x ++ (reverse k ++ (r ∷ rest))
+reversed_node k x rest r =
+    let e : r ∷ (k ++ x) ≡ (r ∷ []) ++ (k ++ x) = refl in
+    rw (reverse-append (r ∷ []) (k ++ x), reverse-append k x, append_assoc, append_assoc)
+
+-- the node of a tree's row
+opened_is : (at : ℕ → ℕ) (total : ℕ) (kind : SyntaxKind) (kids x : Forest) (i left before place : ℕ) (above : List Open)
+    → i + (length (spell kids) + (length (spell x) + left)) ≡ total → place ≡ nodes kids + before
+    → opened at total (record {
+      kind = kind;
+      first = length (spell kids) + (length (spell x) + left);
+      end = length (spell x) + left;
+      below = nodes kids;
+    }) place above
+    ≡ record {
+      start = before;
+      number = before + length above;
+      node = record {
+        kind = kind;
+        parent = number_of above;
+        first = first_at at (first_of above) i (length (spell kids));
+        past = past_at at (first_of above) i (length (spell kids));
+        below = nodes kids;
+      };
+    }
+opened_is at total kind kids x i left before place above h e =
+    let e1 : total - (length (spell kids) + (length (spell x) + left)) ≡ i = omega arith in
+    let e2 : (length (spell kids) + (length (spell x) + left)) - (length (spell x) + left) ≡ length (spell kids) = omega arith in
+    let e3 : place - nodes kids ≡ before = omega arith in
+    let e4 : place - before ≡ nodes kids = omega arith in
+    rw (e1, e2, e3, e4)
+
+pub placed : (at : ℕ → ℕ) (total : ℕ) (f : Forest) (i left : ℕ) (above : List Open) (more : List Row)
+    → i + (length (spell f) + left) ≡ total → BeginBy (length more) above
+    → from_right at total above (reverse (rows f left) ++ more)
+    ≡ reverse (node_rows at (number_of above) (first_of above) (length more + length above) i f) ++ from_right at total above more
+placed at total done i left above more h b = refl
+placed at total (leaf kind tokens x) i left above more h b =
+    placed at total x (i + length tokens) left above more (omega (arith, h, length-append tokens (spell x))) b
+placed at total (tree kind kids x) i left above more h b =
+    let n : ℕ = length (spell kids) in
+    let row : Row = record { kind = kind; first = n + (length (spell x) + left); end = length (spell x) + left; below = nodes kids } in
+    let rest : List Row = reverse (rows kids (length (spell x) + left)) ++ more in
+    let rest_length : length rest ≡ nodes kids + length more = length-reversed_rows kids (length (spell x) + left) more in
+    let sum : i + (n + (length (spell x) + left)) ≡ total = omega (arith, h, length-append (spell kids) (spell x)) in
+    let inner : Open = record {
+      start = length more;
+      number = length more + length above;
+      node = record {
+        kind = kind;
+        parent = number_of above;
+        first = first_at at (first_of above) i n;
+        past = past_at at (first_of above) i n;
+        below = nodes kids;
+      };
+    } in
+    let later : BeginBy (length rest) above = begins_later (length more) (length rest) above (omega arith) b in
+    let even_later : BeginBy (length (row ∷ rest)) above = begins_later (length more) (suc (length rest)) above (omega arith) b in
+    let xs : List NodeRow = node_rows at (number_of above) (first_of above) (1 + (length more + length above) + nodes kids) (i + n) x in
+    let ks : List NodeRow = node_rows at (length more + length above) (first_at at (first_of above) i n) (1 + (length more + length above)) i kids in
+    let right : from_right at total above (reverse (rows x left) ++ (row ∷ rest)) ≡ reverse xs ++ from_right at total above (row ∷ rest) =
+    placed at total x (i + n) left above (row ∷ rest) (omega arith) even_later
+    ∙ ap (λ m. reverse (node_rows at (number_of above) (first_of above) m (i + n) x) ++ from_right at total above (row ∷ rest)) (omega arith) in
+    let here : from_right at total above (row ∷ rest) ≡ from_right at total (inner ∷ above) rest =
+    stay at total above row rest later
+    ∙ ap (λ o. from_right at total (o ∷ above) rest)
+    (opened_is at total kind kids x i left (length more) (length rest) above sum rest_length) in
+    let below : from_right at total (inner ∷ above) rest ≡ reverse ks ++ from_right at total (inner ∷ above) more =
+    placed at total kids i (length (spell x) + left) (inner ∷ above) more sum (omega arith, b)
+    ∙ ap (λ m. reverse (node_rows at (length more + length above) (first_at at (first_of above) i n) m i kids) ++ from_right at total (inner ∷ above) more) (omega arith) in
+    let last : from_right at total (inner ∷ above) more ≡ inner.node ∷ from_right at total above more =
+    closes_first at total inner above more (omega arith) in
+    ap (from_right at total above) (reversed_middle (rows kids (length (spell x) + left)) (rows x left) more row)
+    ∙ right
+    ∙ ap (λ l. reverse xs ++ l) (here ∙ below ∙ ap (λ l. reverse ks ++ l) last)
+    ∙ sym (reversed_node ks xs (from_right at total above more) inner.node)
+
+-- ** How deep the nodes stand.
+
+or_assoc : (a b c : Bool) → (a || (b || c)) ≡ ((a || b) || c)
+or_assoc true b c = refl
+or_assoc false b c = refl
+
+closes_unseen : (limit : ℕ) (at : ℕ → ℕ) (total : ℕ) (inner : Open) (above : List Open) (rest : List Row) → length rest ≤ inner.start
+    → is_deeper limit at total (inner ∷ above) rest ≡ is_deeper limit at total above rest
+closes_unseen limit at total inner above [] h = refl
+closes_unseen limit at total inner above (row ∷ rest) h =
+    let e : nat_le (1 + length rest) inner.start ≡ true = opens (1 + length rest) inner.start (omega arith) in
+    rw e
+
+depth_here : (limit : ℕ) (at : ℕ → ℕ) (total : ℕ) (above : List Open) (row : Row) (rest : List Row) → BeginBy (length rest) above
+    → is_deeper limit at total above (row ∷ rest)
+    ≡ (nat_lt limit (length above) || is_deeper limit at total (opened at total row (length rest) above ∷ above) rest)
+depth_here limit at total above row rest h =
+    let e = all_open (length rest) (1 + length rest) above (omega arith) h in
+    rw e
+
+four : (a b c d : Bool) → (a || (b || (c || d))) ≡ ((a || (b || c)) || d)
+four true b c d = refl
+four false true c d = refl
+four false false c d = refl
+
+-- a node of the forest or of what is to its left is too deep
+pub depth_told : (limit : ℕ) (at : ℕ → ℕ) (total : ℕ) (f : Forest) (i left : ℕ) (above : List Open) (more : List Row)
+    → i + (length (spell f) + left) ≡ total → BeginBy (length more) above
+    → is_deeper limit at total above (reverse (rows f left) ++ more)
+    ≡ (deeper_by limit (length above) f || is_deeper limit at total above more)
+depth_told limit at total done i left above more h b = refl
+depth_told limit at total (leaf kind tokens x) i left above more h b =
+    depth_told limit at total x (i + length tokens) left above more (omega (arith, h, length-append tokens (spell x))) b
+depth_told limit at total (tree kind kids x) i left above more h b =
+    let n : ℕ = length (spell kids) in
+    let row : Row = record { kind = kind; first = n + (length (spell x) + left); end = length (spell x) + left; below = nodes kids } in
+    let rest : List Row = reverse (rows kids (length (spell x) + left)) ++ more in
+    let rest_length : length rest ≡ nodes kids + length more = length-reversed_rows kids (length (spell x) + left) more in
+    let sum : i + (n + (length (spell x) + left)) ≡ total = omega (arith, h, length-append (spell kids) (spell x)) in
+    let inner : Open = record {
+      start = length more;
+      number = length more + length above;
+      node = record {
+        kind = kind;
+        parent = number_of above;
+        first = first_at at (first_of above) i n;
+        past = past_at at (first_of above) i n;
+        below = nodes kids;
+      };
+    } in
+    let later : BeginBy (length rest) above = begins_later (length more) (length rest) above (omega arith) b in
+    let even_later : BeginBy (length (row ∷ rest)) above = begins_later (length more) (suc (length rest)) above (omega arith) b in
+    let right : is_deeper limit at total above (reverse (rows x left) ++ (row ∷ rest)) ≡ (deeper_by limit (length above) x || is_deeper limit at total above (row ∷ rest)) =
+    depth_told limit at total x (i + n) left above (row ∷ rest) (omega arith) even_later in
+    let here : is_deeper limit at total above (row ∷ rest) ≡ (nat_lt limit (length above) || is_deeper limit at total (inner ∷ above) rest) =
+    depth_here limit at total above row rest later
+    ∙ ap (λ o. nat_lt limit (length above) || is_deeper limit at total (o ∷ above) rest)
+    (opened_is at total kind kids x i left (length more) (length rest) above sum rest_length) in
+    let below : is_deeper limit at total (inner ∷ above) rest ≡ (deeper_by limit (length (inner ∷ above)) kids || is_deeper limit at total (inner ∷ above) more) =
+    depth_told limit at total kids i (length (spell x) + left) (inner ∷ above) more sum (omega arith, b) in
+    let last : is_deeper limit at total (inner ∷ above) more ≡ is_deeper limit at total above more =
+    closes_unseen limit at total inner above more (omega arith) in
+    let deep : Bool = deeper_by limit (1 + length above) kids in
+    let same : deeper_by limit (length (inner ∷ above)) kids ≡ deep = ap (λ m. deeper_by limit m kids) (omega arith) in
+    ap (is_deeper limit at total above) (reversed_middle (rows kids (length (spell x) + left)) (rows x left) more row)
+    ∙ right
+    ∙ ap (λ l. deeper_by limit (length above) x || l)
+    (here ∙ ap (λ l. nat_lt limit (length above) || l) (below ∙ ap (λ l. l || is_deeper limit at total (inner ∷ above) more) same ∙ ap (λ l. deep || l) last))
+    ∙ four (deeper_by limit (length above) x) (nat_lt limit (length above)) deep (is_deeper limit at total above more)
+
+or_true : (a b : Bool) → (a || b) ≡ true → (a ≡ true) ⊎ (b ≡ true)
+or_true true b h = inl refl
+or_true false b h = inr h
+
+or_false : (a b : Bool) → (a || b) ≡ false → (a ≡ false) × (b ≡ false)
+or_false true b h = absurd (cc)
+or_false false b h = (refl, h)
+
+pub too_high : (limit above : ℕ) (f : Forest) → deeper_by limit above f ≡ true → 1 + limit < above + high f
+too_high limit above done h = absurd (cc)
+too_high limit above (leaf kind tokens x) h = too_high limit above x h
+too_high limit above (tree kind kids x) h =
+    elim (or_true (deeper_by limit above x) (nat_lt limit above || deeper_by limit (1 + above) kids) h) [
+      | inl e ↦ omega (arith, too_high limit above x e)
+      | inr e ↦ elim (or_true (nat_lt limit above) (deeper_by limit (1 + above) kids) e) [
+        | inl lt ↦ omega (arith, ltb-true limit above lt)
+        | inr deep ↦ omega (arith, too_high limit (1 + above) kids deep)
+      ]
+    ]
+
+pub not_high : (limit above : ℕ) (f : Forest) → above ≤ 1 + limit → deeper_by limit above f ≡ false → above + high f ≤ 1 + limit
+not_high limit above done le h = omega arith
+not_high limit above (leaf kind tokens x) le h = not_high limit above x le h
+not_high limit above (tree kind kids x) le h =
+    let e = or_false (deeper_by limit above x) (nat_lt limit above || deeper_by limit (1 + above) kids) h in
+    let f = or_false (nat_lt limit above) (deeper_by limit (1 + above) kids) e.1 in
+    let here : above ≤ limit = ltb-false limit above f.0 in
+    omega (arith, not_high limit above x le e.0, not_high limit (1 + above) kids (omega arith) f.1)
+
+-- ** A whole tree.
+
+-- the open root
+abbrev pub root_open : SyntaxKind → ℕ → ℕ → Open
+root_open kind tokens below =
+    record { start = 0; number = 0; node = record { kind = kind; parent = 0; first = 0; past = tokens; below = below } }
+
+or_nothing : (a : Bool) → (a || false) ≡ a
+or_nothing true = refl
+or_nothing false = refl
+
+same_test : (a b : Bool) → (a ≡ true → b ≡ true) → (a ≡ false → b ≡ false) → a ≡ b
+same_test true b yes_case no_case = sym (yes_case refl)
+same_test false b yes_case no_case = sym (no_case refl)
+
+abbrev pub Whole : (ℕ → ℕ) → ℕ → SyntaxKind → Forest → List Row → Row → Type 0
+Whole at tokens kind kids below root =
+    (from_right at (root.first) (root_open root.kind tokens (length below) ∷ []) (reverse below) ≡ reverse (tree_rows at tokens kind kids))
+    × (is_deeper most_deep at (root.first) (root_open root.kind tokens (length below) ∷ []) (reverse below) ≡ nat_lt most_deep (high kids))
+
+whole_rows : (at : ℕ → ℕ) (tokens : ℕ) (kind : SyntaxKind) (kids : Forest)
+    → Whole at tokens kind kids (rows kids 0) (record { kind = kind; first = length (spell kids) + 0; end = 0; below = nodes kids })
+whole_rows at tokens kind kids =
+    let root : Open = root_open kind tokens (length (rows kids 0)) in
+    let total : ℕ = length (spell kids) + 0 in
+    let none : reverse (rows kids 0) ++ [] ≡ reverse (rows kids 0) = append-nil (reverse (rows kids 0)) in
+    let count : length (rows kids 0) ≡ nodes kids = length-rows kids 0 in
+    let node : ℕ → NodeRow = λ n. record { kind = kind; parent = 0; first = 0; past = tokens; below = n } in (
+      ap (from_right at total (root ∷ [])) (sym none)
+          ∙ placed at total kids 0 0 (root ∷ []) [] (omega arith) (omega arith, tt)
+          ∙ sym (reverse-append (root.node ∷ []) (node_rows at 0 0 1 0 kids))
+          ∙ ap (λ n. reverse (node n ∷ node_rows at 0 0 1 0 kids)) count,
+      ap (is_deeper most_deep at total (root ∷ [])) (sym none)
+          ∙ depth_told most_deep at total kids 0 0 (root ∷ []) [] (omega arith) (omega arith, tt)
+          ∙ or_nothing (deeper_by most_deep 1 kids)
+          ∙ same_test (deeper_by most_deep 1 kids) (nat_lt most_deep (high kids))
+          (λ e. lt-ltb most_deep (high kids) (omega (arith, too_high most_deep 1 kids e)))
+          (λ e. le-ltb most_deep (high kids) (omega (arith, not_high most_deep 1 kids (omega arith) e))),
+    )
+
+snoc_same : (xs ys : List Row) (x y : Row) → xs ++ (x ∷ []) ≡ ys ++ (y ∷ []) → (xs ≡ ys) × (x ≡ y)
+snoc_same xs ys x y e =
+    let turned : x ∷ reverse xs ≡ y ∷ reverse ys =
+    sym (reverse-append xs (x ∷ [])) ∙ ap reverse e ∙ reverse-append ys (y ∷ []) in
+    let front : reverse xs ≡ reverse ys = cc in
+    (sym (reverse-reverse xs) ∙ ap reverse front ∙ reverse-reverse ys, cc)
+
+pub whole_placed : (at : ℕ → ℕ) (tokens : ℕ) (kind : SyntaxKind) (kids : Forest) (below : List Row) (root : Row)
+    → below ++ (root ∷ []) ≡ rows (tree kind kids done) 0 → Whole at tokens kind kids below root
+whole_placed at tokens kind kids below root e =
+    let last : Row = record { kind = kind; first = length (spell kids) + 0; end = 0; below = nodes kids } in
+    let same = snoc_same below (rows kids 0) root last e in
+    subst (λ r. Whole at tokens kind kids below r) (sym same.1)
+    (subst (λ l. Whole at tokens kind kids l last) (sym same.0) (whole_rows at tokens kind kids))
+
+-- ** The ends of the loops.
+
+closes_all : (above : List Open) → closed 0 above ≡ map (λ inner. inner.node) above
+closes_all [] = refl
+closes_all (inner ∷ above) =
+    let e : nat_le 0 inner.start ≡ true = opens 0 inner.start (omega arith) in
+    rw (e, closes_all above)
+
+memory_says_nothing : (deep : Bool) (e : SyntaxError) → e ≡ errors.Memory → IsDepthFault deep e
+memory_says_nothing deep e h = subst (IsDepthFault deep) (sym h) tt
+
+closed_here : {R : Type 0} (at : ℕ → ℕ) (total : ℕ) (rows : List Row) (above old new : List Open) (before written nodes : List NodeRow)
+    (result : Result R SyntaxError)
+    → written ++ from_right at total (reverse old) [] ≡ before ++ from_right at total (reverse above) (reverse rows)
+    → is_deeper most_deep at total (reverse old) [] ≡ is_deeper most_deep at total (reverse above) (reverse rows)
+    → IsClosed 0 old new written nodes result → IsFromRight at total rows above before nodes result
+closed_here at total rows above old new before written nodes (Ok r) e f h =
+    (sym f, h.1 ∙ ap (λ l. written ++ l) (closes_all (reverse old)) ∙ e)
+closed_here at total rows above old new before written nodes (Err x) e f h =
+    memory_says_nothing (is_deeper most_deep at total (reverse above) (reverse rows)) x h
+
+pub closed_at_end : {R : Type 0} (at : ℕ → ℕ) (total : ℕ) (rest rows : List Row) (above old new : List Open) (before written nodes : List NodeRow)
+    (result : Result R SyntaxError)
+    → length rest ≡ 0
+    → written ++ from_right at total (reverse old) (reverse rest) ≡ before ++ from_right at total (reverse above) (reverse rows)
+    → is_deeper most_deep at total (reverse old) (reverse rest) ≡ is_deeper most_deep at total (reverse above) (reverse rows)
+    → IsClosed 0 old new written nodes result → IsFromRight at total rows above before nodes result
+closed_at_end at total [] rows above old new before written nodes result none e f h =
+    closed_here at total rows above old new before written nodes result e f h
+closed_at_end at total (row ∷ rest) rows above old new before written nodes result none e f h = absurd (omega arith)
+
+-- all rows of a tree read
+pub all_placed : (at : ℕ → ℕ) (tokens : ℕ) (kind : SyntaxKind) (kids : Forest) (below : List Row) (root : Row) (nodes : List NodeRow)
+    → below ++ (root ∷ []) ≡ rows (tree kind kids done) 0
+    → is_deeper most_deep at root.first (root_open root.kind tokens (length below) ∷ []) (reverse below) ≡ false
+    → nodes ≡ from_right at root.first (root_open root.kind tokens (length below) ∷ []) (reverse below)
+    → (nat_lt most_deep (high kids) ≡ false) × (reverse nodes ≡ tree_rows at tokens kind kids)
+all_placed at tokens kind kids below root nodes e deep is =
+    let whole = whole_placed at tokens kind kids below root e in
+    (sym whole.1 ∙ deep, ap reverse (is ∙ whole.0) ∙ reverse-reverse (tree_rows at tokens kind kids))
+
+pub carried : {B : Type 0} (deep same_deep : Bool) (Q : B → Type 0) (x : SyntaxError) (r : Result B SyntaxError)
+    → IsDepthFault deep x → deep ≡ same_deep → IsErr r → IsErrAnd r (λ e. e ≡ x) → OkUnlessDeep same_deep Q r
+carried deep same_deep Q x (Ok b) h same err is = cc
+carried deep same_deep Q x (Err e) h same err is = subst (λ d. IsDepthFault d e) same (subst (IsDepthFault deep) (sym is) h)
+
+module _ (at : ℕ → ℕ) (tokens : ℕ) (kind : SyntaxKind) (kids : Forest) (below rows_now : List Row) (root : Row) (none opened_root : List Open)
+    (split : rows_now ≡ below ++ (root ∷ []))
+    (are : rows_now ≡ rows (tree kind kids done) 0)
+    (none_is : none ≡ [])
+    (opened_is_root : opened_root ≡ none ++ (root_open root.kind tokens (length below) ∷ [])) where
+  open_root : reverse opened_root ≡ root_open root.kind tokens (length below) ∷ []
+  open_root = ap reverse (opened_is_root ∙ ap (λ l. l ++ (root_open root.kind tokens (length below) ∷ [])) none_is)
+
+  pub rows_done : (before nodes : List NodeRow) → before ≡ []
+      → is_deeper most_deep at root.first (reverse opened_root) (reverse below) ≡ false
+      → nodes ≡ before ++ from_right at root.first (reverse opened_root) (reverse below)
+      → (nat_lt most_deep (high kids) ≡ false) × (reverse nodes ≡ tree_rows at tokens kind kids)
+  rows_done before nodes empty deep is =
+      all_placed at tokens kind kids below root nodes (sym split ∙ are)
+      (ap (λ l. is_deeper most_deep at root.first l (reverse below)) (sym open_root) ∙ deep)
+      (is ∙ ap (λ l. l ++ from_right at root.first (reverse opened_root) (reverse below)) empty
+      ∙ ap (λ l. from_right at root.first l (reverse below)) open_root)
+
+  pub rows_too_deep : is_deeper most_deep at root.first (reverse opened_root) (reverse below) ≡ nat_lt most_deep (high kids)
+  rows_too_deep =
+      ap (λ l. is_deeper most_deep at root.first l (reverse below)) open_root
+      ∙ (whole_placed at tokens kind kids below root (sym split ∙ are)).1

@@ -1,0 +1,204 @@
+-- Laws of the reading of texts: its trees fit and spell the text, and what fits is read.
+use Rattle.std.proofs.Common.{◌≡◌, ℕ, zero, suc, ◌^◌, ◌<◌, ◌≤◌, Bool, true, false, ◌&&◌, if◌then◌else◌, List, length, Some, None, ◌⊎◌, inl, inr, refl, sym, ◌∙◌, ap, subst, arith}
+use Rattle.std.specs.Prelude.{nat_lt, reverse, Option, Result, Ok, Err, IfOk}
+use Rattle.std.specs.Str.{IsUtf8}
+use Rattle.std.proofs.lemmas.Bool.{ltb-true, ltb-false, lt-ltb}
+use Rattle.ssr_syntax_lex.specs.declared.kinds.SyntaxKind.{SyntaxKind}
+use Rattle.ssr_syntax_lex.specs.declared.tokens.RawToken.{RawToken}
+use Rattle.ssr_syntax_lex.specs.Tokens.{tokens, spell as spelled_by}
+use Rattle.ssr_syntax_lex.proofs.Tiling.{tokens_tile, tiles_spell}
+use Rattle.ssr_syntax_tree.specs.Syntax.{Syntax, nothing, branch, depth_of, source_of}
+use Rattle.ssr_syntax.specs.declared.fragments.Fragment.{Fragment}
+use Rattle.ssr_syntax.specs.declared.goals.Goal.{Goal}
+use Rattle.ssr_syntax.specs.declared.goals.Goal.TheVariants as goals
+use Rattle.ssr_syntax.specs.declared.goals.Fault.{Fault}
+use Rattle.ssr_syntax.specs.declared.goals.Fault.TheVariants as faults
+use Rattle.ssr_syntax.specs.declared.syntax_error.SyntaxError.{SyntaxError}
+use Rattle.ssr_syntax.specs.declared.syntax_error.SyntaxError.TheVariants as errors
+use Rattle.ssr_syntax.specs.Trees.{Forest, done, leaf, tree, spell, IsShallow}
+use Rattle.ssr_syntax.specs.Lossless.{whole_tree, IsTrimmed}
+use Rattle.ssr_syntax.specs.Preorder.{high, most_deep}
+use Rattle.ssr_syntax.specs.Solid.{solid_tokens}
+use Rattle.ssr_syntax.specs.Reading.{reading, most_levels, pieces, one_tree, tree_reading, lexed_reading, short_reading, file_reading, fragment_reading, trimmed, goal_of, begins_solid, error_of, Answers, AnswersTrimmed, FitsTokens, FitsFile, FitsFragment, IsTreeOfFile, IsTreeOfFragment, IsThatOrTooDeep}
+use Rattle.ssr_syntax.proofs.Laid.{AreOf, IsSingle}
+use Rattle.ssr_syntax.proofs.Trimmed.{trimmed-whole, trimmed-root}
+use Rattle.ssr_syntax.proofs.Whole.{reading_fits, reading_complete}
+use Rattle.ssr_syntax.proofs.Texts.{Read, is_read, read_given, reading_is, read_is, read_ok, read_too_deep, whole-depth, whole-source}
+
+shallow : (m : ℕ) (f : Forest) → high f ≤ m → IsShallow m f
+shallow m done h = tt
+shallow m (leaf kind us x) h = shallow m x h
+shallow zero (tree kind kids x) h = absurd (omega arith)
+shallow (suc m) (tree kind kids x) h = (shallow m kids (omega arith), shallow (suc m) x (omega arith))
+
+-- ** What is read fits.
+
+ok_of : {r : Result Forest Fault} (goal : Goal) (text : List ℕ) (raw : List RawToken) (s : Syntax) → reading goal (solid_tokens raw) ≡ r
+    → ◌≡◌ {A = Result Syntax SyntaxError} (elim r [ Ok z ↦ one_tree z (pieces text raw) | Err e ↦ Err (error_of e) ]) (Ok s)
+    → (z : Forest) × (reading goal (solid_tokens raw) ≡ Ok z)
+ok_of {r = Ok z} goal text raw s e h = (z, e)
+ok_of {r = Err x} goal text raw s e h = cc
+
+ok_tree : (w s : Syntax) (b : Bool) → nat_lt most_deep (depth_of w) ≡ b
+    → ◌≡◌ {A = Result Syntax SyntaxError} (if b then Err errors.TooDeep else Ok w) (Ok s) → (w ≡ s) × (depth_of w ≤ most_deep)
+ok_tree w s true e h = cc
+ok_tree w s false e h = (cc, ltb-false most_deep (depth_of w) e)
+
+abbrev IsWhole : List ℕ → List RawToken → Syntax → Type 0
+IsWhole text raw s =
+    (kind : SyntaxKind) × (kids : Forest) × IsSingle kids × AreOf (spell kids) (pieces text raw) × (whole_tree kind kids (pieces text raw) ≡ s)
+
+pub tokens_sound : (goal : Goal) (text : List ℕ) (raw : List RawToken) (s : Syntax) → spelled_by text raw ≡ text
+    → tree_reading goal text raw ≡ Ok s
+    → FitsTokens goal text raw s × (source_of s ≡ text) × (depth_of s ≤ most_deep) × IsWhole text raw s
+tokens_sound goal text raw s spells e =
+    let was = ok_of goal text raw s refl e in
+    let r = is_read goal text raw was.0 was.1 in
+    let w : Syntax = whole_tree r.0 r.1 (pieces text raw) in
+    let t = ok_tree w s (nat_lt most_deep (depth_of w)) refl (sym (read_is goal text raw r.0 r.1 r.3) ∙ e) in (
+      (r.0, r.1, most_levels, reading_fits goal (solid_tokens raw) (tree r.0 r.1 done) r.3.reads, sym t.0),
+      ap source_of (sym t.0) ∙ whole-source text raw r.0 r.1 r.3.single r.3.are spells,
+      subst (λ v. depth_of v ≤ most_deep) t.0 t.1,
+      (r.0, r.1, r.3.single, r.3.are, t.0),
+    )
+
+-- ** What fits is read.
+
+-- what a reading says of a tree
+abbrev Told : Result Syntax SyntaxError → Syntax → Type 0
+Told read s = (read ≡ Ok s) ⊎ ((read ≡ Err errors.TooDeep) × (most_deep < depth_of s))
+
+told_whole : (goal : Goal) (text : List ℕ) (raw : List RawToken) (kind : SyntaxKind) (kids : Forest) (b : Bool) → Read goal text raw kind kids
+    → nat_lt most_deep (high kids) ≡ b → Told (tree_reading goal text raw) (whole_tree kind kids (pieces text raw))
+told_whole goal text raw kind kids true r e =
+    inr (read_too_deep goal text raw kind kids r e, omega (arith, ltb-true most_deep (high kids) e, whole-depth kind kids (pieces text raw)))
+told_whole goal text raw kind kids false r e = inl (read_ok goal text raw kind kids r e)
+
+deeper_than : (kind : SyntaxKind) (kids : Forest) (b : Bool) → nat_lt most_deep (high kids) ≡ b
+    → (IsShallow (suc most_deep) (tree kind kids done) → ⊥) → most_deep < high kids
+deeper_than kind kids true e h = ltb-true most_deep (high kids) e
+deeper_than kind kids false e h = absurd (h (shallow most_deep kids (ltb-false most_deep (high kids) e), tt))
+
+pub tokens_complete : (goal : Goal) (text : List ℕ) (raw : List RawToken) (s : Syntax) → FitsTokens goal text raw s
+    → Told (tree_reading goal text raw) s
+tokens_complete goal text raw s (kind, kids, n, fits, is) =
+    subst (Told (tree_reading goal text raw)) (sym is)
+    (elim (reading_complete goal (solid_tokens raw) (tree kind kids done) n fits) [
+      | inl e ↦ told_whole goal text raw kind kids (nat_lt most_deep (high kids)) (read_given goal text raw kind kids e) refl
+      | inr e ↦ inr (
+        reading_is goal text raw (Err faults.TooDeep) e.0,
+        omega (arith, deeper_than kind kids (nat_lt most_deep (high kids)) refl e.1, whole-depth kind kids (pieces text raw)),
+      )
+    ])
+
+-- ** By the text.
+
+abbrev Lexed : (List RawToken → Result Syntax SyntaxError) → List ℕ → List ℕ → Syntax → Type 0
+Lexed read inner text s = (length text < 2 ^ 32) × ((raw : List RawToken) × (tokens inner ≡ Some raw) × (read raw ≡ Ok s))
+
+lexed_ok : (read : List RawToken → Result Syntax SyntaxError) (inner : List ℕ) (s : Syntax) (o : Option (List RawToken)) → tokens inner ≡ o
+    → ◌≡◌ {A = Result Syntax SyntaxError} (elim o [ None ↦ Err errors.Lex | Some raw ↦ read raw ]) (Ok s)
+    → (raw : List RawToken) × (tokens inner ≡ Some raw) × (read raw ≡ Ok s)
+lexed_ok read inner s None e h = cc
+lexed_ok read inner s (Some raw) e h = (raw, e, h)
+
+short_ok : (read : List RawToken → Result Syntax SyntaxError) (inner text : List ℕ) (s : Syntax) (b : Bool) → nat_lt (length text) (2 ^ 32) ≡ b
+    → ◌≡◌ {A = Result Syntax SyntaxError} (if b then lexed_reading read inner else Err errors.TooLong) (Ok s) → Lexed read inner text s
+short_ok read inner text s true e h = (ltb-true (length text) (2 ^ 32) e, lexed_ok read inner s (tokens inner) refl h)
+short_ok read inner text s false e h = cc
+
+reads_short : (read : List RawToken → Result Syntax SyntaxError) (inner text : List ℕ) (raw : List RawToken)
+    → length text < 2 ^ 32 → tokens inner ≡ Some raw → short_reading (lexed_reading read inner) text ≡ read raw
+reads_short read inner text raw lt e =
+    ap (λ b. if b then lexed_reading read inner else Err errors.TooLong) (lt-ltb (length text) (2 ^ 32) lt)
+    ∙ ap (elim [ None ↦ Err errors.Lex | Some ts ↦ read ts ]) e
+
+spells_text : (text : List ℕ) (raw : List RawToken) → IsUtf8 text → tokens text ≡ Some raw → spelled_by text raw ≡ text
+spells_text text raw utf8 e = tiles_spell text raw (tokens_tile text raw utf8 e)
+
+-- ** Files.
+
+pub file_sound : (text : List ℕ) (s : Syntax) → IsUtf8 text → file_reading text ≡ Ok s → IsTreeOfFile text s
+unfolding file_reading
+file_sound text s utf8 e =
+    let l = short_ok (tree_reading goals.File text) text text s (nat_lt (length text) (2 ^ 32)) refl e in
+    let raw : List RawToken = l.1.0 in
+    let t = tokens_sound goals.File text raw s (spells_text text raw utf8 l.1.1) l.1.2 in
+    record {
+      short = l.0;
+      fits = (raw, l.1.1, t.0);
+      spells = t.1;
+      shallow = t.2;
+      trimmed_nodes = subst (λ v. IsTrimmed v.children) t.3.4 (trimmed-whole t.3.0 t.3.1 (pieces text raw) t.3.2 t.3.3);
+    }
+
+pub file_answers : (text : List ℕ) (r : Result Syntax SyntaxError) → IsUtf8 text → Answers r (file_reading text) → IfOk r (IsTreeOfFile text)
+file_answers text (Ok s) utf8 h = file_sound text s utf8 h
+file_answers text (Err e) utf8 h = tt
+
+told_ok : (read : Result Syntax SyntaxError) (s v : Syntax) → Told read s → read ≡ Ok v → v ≡ s
+told_ok read s v (inl k) h = cc (h, k)
+told_ok read s v (inr k) h = absurd (cc (h, k.0))
+
+told_err : (read : Result Syntax SyntaxError) (s : Syntax) (e : SyntaxError) → Told read s → read ≡ Err e → (e ≡ errors.TooDeep) × (most_deep < depth_of s)
+told_err read s e (inl k) h = absurd (cc (h, k))
+told_err read s e (inr k) h = (cc (h, k.0), k.1)
+
+file_told : (text : List ℕ) (s : Syntax) → length text < 2 ^ 32 → FitsFile text s → Told (file_reading text) s
+unfolding file_reading
+file_told text s lt (raw, e, fits) =
+    subst (λ w. Told w s) (sym (reads_short (tree_reading goals.File text) text text raw lt e)) (tokens_complete goals.File text raw s fits)
+
+pub file_complete : (text : List ℕ) (s : Syntax) (r : Result Syntax SyntaxError) → length text < 2 ^ 32 → FitsFile text s
+    → Answers r (file_reading text) → IsThatOrTooDeep (λ v. v) s r
+file_complete text s (Ok v) lt fits h = told_ok (file_reading text) s v (file_told text s lt fits) h
+file_complete text s (Err x) lt fits h = λ m. told_err (file_reading text) s x (file_told text s lt fits) (h m)
+
+-- ** Fragments.
+
+inside : (goal : Goal) (inner : List ℕ) (raw : List RawToken) (s : Syntax) (b : Bool) → (begins_solid raw && begins_solid (reverse raw)) ≡ b
+    → ◌≡◌ {A = Result Syntax SyntaxError} (if b then tree_reading goal inner raw else Err errors.NoTree) (Ok s)
+    → ((begins_solid raw && begins_solid (reverse raw)) ≡ true) × (tree_reading goal inner raw ≡ Ok s)
+inside goal inner raw s true e h = (e, h)
+inside goal inner raw s false e h = cc
+
+abbrev fragment_reads : Fragment → List ℕ → List RawToken → Result Syntax SyntaxError
+fragment_reads fragment inner raw =
+    if begins_solid raw && begins_solid (reverse raw) then tree_reading (goal_of fragment) inner raw else Err errors.NoTree
+
+pub fragment_sound : (fragment : Fragment) (text : List ℕ) (s : Syntax) → IsUtf8 (trimmed text) → fragment_reading fragment text ≡ Ok s
+    → IsTreeOfFragment fragment text s
+unfolding fragment_reading
+fragment_sound fragment text s utf8 e =
+    let inner : List ℕ = trimmed text in
+    let l = short_ok (fragment_reads fragment inner) inner text s (nat_lt (length text) (2 ^ 32)) refl e in
+    let raw : List RawToken = l.1.0 in
+    let was = inside (goal_of fragment) inner raw s (begins_solid raw && begins_solid (reverse raw)) refl l.1.2 in
+    let t = tokens_sound (goal_of fragment) inner raw s (spells_text inner raw utf8 l.1.1) was.1 in
+    record {
+      short = l.0;
+      fits = (raw, l.1.1, was.0, t.0);
+      spells = t.1;
+      shallow = t.2;
+      trimmed_nodes = subst (λ v. IsTrimmed (branch v.kind v.children nothing)) t.3.4 (trimmed-root inner raw t.3.0 t.3.1 t.3.2 t.3.3 was.0);
+    }
+
+pub fragment_answers : (fragment : Fragment) (text : List ℕ) (r : Result (Syntax × ℕ) SyntaxError) → IsUtf8 (trimmed text)
+    → AnswersTrimmed r (fragment_reading fragment text) text → IfOk r (λ v. IsTreeOfFragment fragment text v.0)
+fragment_answers fragment text (Ok v) utf8 h = fragment_sound fragment text v.0 utf8 h.0
+fragment_answers fragment text (Err e) utf8 h = tt
+
+fragment_told : (fragment : Fragment) (text : List ℕ) (s : Syntax) → length text < 2 ^ 32 → FitsFragment fragment text s
+    → Told (fragment_reading fragment text) s
+unfolding fragment_reading
+fragment_told fragment text s lt (raw, e, outside, fits) =
+    let inner : List ℕ = trimmed text in
+    subst (λ w. Told w s)
+    (sym (reads_short (fragment_reads fragment inner) inner text raw lt e
+    ∙ ap (λ b. if b then tree_reading (goal_of fragment) inner raw else Err errors.NoTree) outside))
+    (tokens_complete (goal_of fragment) inner raw s fits)
+
+pub fragment_complete : (fragment : Fragment) (text : List ℕ) (s : Syntax) (r : Result (Syntax × ℕ) SyntaxError) → length text < 2 ^ 32
+    → FitsFragment fragment text s → AnswersTrimmed r (fragment_reading fragment text) text → IsThatOrTooDeep (λ v. v.0) s r
+fragment_complete fragment text s (Ok v) lt fits h = told_ok (fragment_reading fragment text) s v.0 (fragment_told fragment text s lt fits) h.0
+fragment_complete fragment text s (Err x) lt fits h = λ m. told_err (fragment_reading fragment text) s x (fragment_told fragment text s lt fits) (h m)

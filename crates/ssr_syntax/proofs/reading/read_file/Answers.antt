@@ -1,0 +1,7 @@
+use Rattle.std.proofs.Common.{arith, length, ap}
+use Rattle.ssr_syntax.proofs.Texts.{tiles_count}
+use Rattle.ssr_syntax.proofs.reading.read_file.Goals as goal
+
+pub read_tokens-requires-clause-few : goal.read_tokens-requires-clause-few
+read_tokens-requires-clause-few c =
+    omega (arith, tiles_count c.args.text.now 0 c.in-Ok.tokens.items c.in-Ok.ensures.2, c.in-Ok.ensures.0, ap length c.deref.ensures.value)

@@ -1,0 +1,13 @@
+pub mod Kinds
+pub mod Trees
+pub mod Forms
+pub mod Runs
+pub mod Levels
+pub mod Paths
+pub mod Expressions
+pub mod Items
+pub mod Grammar
+pub mod Lossless
+pub mod Preorder
+pub mod Solid
+pub mod Reading

@@ -1,0 +1,181 @@
+-- The reading of a list of tokens, and what its rows are.
+use Rattle.std.specs.Prelude.{◌≡◌, ◌≢◌, ℕ, ◌-◌, ◌^◌, ◌<◌, ◌≤◌, nat_lt, Bool, true, not, ◌&&◌, if◌then◌else◌, ⊤, List, [], ◌∷◌, length, map, reverse, Some, None, Result, Ok, Err}
+use Rattle.std.specs.Str.{trim, trim_start}
+use Rattle.ssr_syntax_lex.specs.declared.kinds.SyntaxKind.{SyntaxKind}
+use Rattle.ssr_syntax_lex.specs.declared.tokens.RawToken.{RawToken}
+use Rattle.ssr_syntax_lex.specs.Kinds.{is_trivia}
+use Rattle.ssr_syntax_lex.specs.Tokens.{tokens, token_text, spell as spelled_by, Tiles}
+use Rattle.ssr_syntax_tree.specs.Syntax as plain
+use Rattle.ssr_syntax_tree.specs.Syntax.{Syntax, depth_of, source_of}
+use Rattle.ssr_syntax.specs.declared.goals.Goal.TheVariants as goals
+use Rattle.ssr_syntax.specs.declared.fragments.Fragment.{Fragment}
+use Rattle.ssr_syntax.specs.declared.fragments.Fragment.TheVariants as fragments
+use Rattle.ssr_syntax.specs.declared.syntax_error.SyntaxError.{SyntaxError}
+use Rattle.ssr_syntax.specs.declared.syntax_error.SyntaxError.TheVariants as errors
+use Rattle.ssr_syntax.specs.declared.tokens.Token.{Token}
+use Rattle.ssr_syntax.specs.declared.rows.Row.{Row}
+use Rattle.ssr_syntax.specs.declared.goals.Goal.{Goal}
+use Rattle.ssr_syntax.specs.declared.goals.Fault.{Fault}
+use Rattle.ssr_syntax.specs.declared.goals.Fault.TheVariants as faults
+use Rattle.ssr_syntax.specs.Trees.{Forest, done, leaf, tree, spell, rows, IsShallow}
+use Rattle.ssr_syntax.specs.Forms.{SoFar, ◌>>=◌}
+use Rattle.ssr_syntax.specs.Levels.{FitsGoal, read_goal}
+use Rattle.ssr_syntax.specs.Grammar.{grammar}
+use Rattle.ssr_syntax.specs.Solid.{solid_tokens}
+use Rattle.ssr_syntax.specs.Lossless.{whole_tree, IsTrimmed}
+use Rattle.ssr_syntax.specs.Preorder.{most_deep}
+
+-- A tree is read where no more nodes than these stand above one another: the root, and 1,024 below it.
+abbrev pub most_high : ℕ
+most_high = 1025
+
+-- How many levels of goals are read. Each level but the first stands below a node.
+abbrev pub most_levels : ℕ
+most_levels = 1026
+
+-- a tree, if no token is left
+abbrev pub whole : SoFar → Result Forest Fault
+whole r = elim r.rest [ [] ↦ Ok r.made | t ∷ ts ↦ Err faults.NoTree ]
+
+unfoldable pub reading : Goal → List Token → Result Forest Fault
+reading goal tokens = read_goal grammar most_levels goal tokens >>= whole
+
+-- The answer is the reading's: its rows, or its fault. Want of memory says nothing.
+abbrev pub IsReading : {R : Type 0} → (R → List Row) → Result R Fault → Result Forest Fault → Type 0
+IsReading now (Ok v) read = (z : Forest) × (read ≡ Ok z) × (now v ≡ rows z 0)
+IsReading now (Err e) read = e ≢ faults.Memory → read ≡ Err e
+
+-- the rows are those of a forest that fits the goal and spells the tokens
+abbrev pub IsTreeOf : Goal → List Token → List Row → Type 0
+IsTreeOf goal tokens made =
+    (z : Forest) × (n : ℕ) × FitsGoal grammar n goal z tokens [] × (spell z ≡ tokens) × (made ≡ rows z 0)
+
+-- The answer is the rows of this forest, or it is told too deep and has more than `high` nodes above one another.
+-- Want of memory says nothing.
+abbrev pub IsTree : {R : Type 0} → (R → List Row) → ℕ → Forest → Result R Fault → Type 0
+IsTree now high z (Ok v) = now v ≡ rows z 0
+IsTree now high z (Err e) = (e ≢ faults.NoTree) × (e ≡ faults.TooDeep → ¬ IsShallow high z)
+
+-- ** The reading of a text.
+
+-- a text's tokens, with the bytes of each
+abbrev pub pieces : List ℕ → List RawToken → List plain.Token
+pieces text raw = map (λ t. record { kind = t.kind; text = token_text text t }) raw
+
+abbrev pub error_of : Fault → SyntaxError
+error_of faults.NoTree = errors.NoTree
+error_of faults.TooDeep = errors.TooDeep
+error_of faults.Memory = errors.Memory
+
+abbrev pub unless_too_deep : Syntax → Result Syntax SyntaxError
+unless_too_deep syntax = if nat_lt most_deep (depth_of syntax) then Err errors.TooDeep else Ok syntax
+
+-- one tree, with all tokens of the text
+abbrev pub one_tree : Forest → List plain.Token → Result Syntax SyntaxError
+one_tree done ts = Err errors.NoTree
+one_tree (leaf kind us next) ts = Err errors.NoTree
+one_tree (tree kind kids done) ts = unless_too_deep (whole_tree kind kids ts)
+one_tree (tree kind kids (leaf k us next)) ts = Err errors.NoTree
+one_tree (tree kind kids (tree k below next)) ts = Err errors.NoTree
+
+abbrev pub tree_reading : Goal → List ℕ → List RawToken → Result Syntax SyntaxError
+tree_reading goal text raw =
+    elim (reading goal (solid_tokens raw)) [ Ok z ↦ one_tree z (pieces text raw) | Err e ↦ Err (error_of e) ]
+
+-- of a text that is short enough, by its tokens
+abbrev pub lexed_reading : (List RawToken → Result Syntax SyntaxError) → List ℕ → Result Syntax SyntaxError
+lexed_reading read text = elim (tokens text) [ None ↦ Err errors.Lex | Some raw ↦ read raw ]
+
+abbrev pub short_reading : Result Syntax SyntaxError → List ℕ → Result Syntax SyntaxError
+short_reading read text = if nat_lt (length text) (2 ^ 32) then read else Err errors.TooLong
+
+-- a file: white space and comments around it are children of its root
+unfoldable pub file_reading : List ℕ → Result Syntax SyntaxError
+file_reading text = short_reading (lexed_reading (tree_reading goals.File text) text) text
+
+-- a text without the white space around it, and how many bytes of it stood in front
+abbrev pub trimmed : List ℕ → List ℕ
+trimmed text = trim text
+
+abbrev pub trimmed_front : List ℕ → ℕ
+trimmed_front text = length text - length (trim_start text)
+
+abbrev pub goal_of : Fragment → Goal
+goal_of fragments.Expr = goals.Expr
+
+-- no white space or comment stands in front
+abbrev pub begins_solid : List RawToken → Bool
+begins_solid [] = true
+begins_solid (t ∷ ts) = not (is_trivia t.kind)
+
+-- a fragment: its first and last tokens are the trimmed text's
+abbrev pub fragment_of : Fragment → List ℕ → Result Syntax SyntaxError
+fragment_of fragment text =
+    lexed_reading
+    (λ raw. if begins_solid raw && begins_solid (reverse raw) then tree_reading (goal_of fragment) text raw else Err errors.NoTree)
+    text
+
+unfoldable pub fragment_reading : Fragment → List ℕ → Result Syntax SyntaxError
+fragment_reading fragment text = short_reading (fragment_of fragment (trimmed text)) text
+
+-- the answer is the reading's; want of memory says nothing
+abbrev pub Answers : Result Syntax SyntaxError → Result Syntax SyntaxError → Type 0
+Answers (Ok syntax) read = read ≡ Ok syntax
+Answers (Err e) read = e ≢ errors.Memory → read ≡ Err e
+
+abbrev pub AnswersTrimmed : Result (Syntax × ℕ) SyntaxError → Result Syntax SyntaxError → List ℕ → Type 0
+AnswersTrimmed (Ok answer) read text = (read ≡ Ok answer.0) × (answer.1 ≡ trimmed_front text)
+AnswersTrimmed (Err e) read text = e ≢ errors.Memory → read ≡ Err e
+
+-- ** What fits a text: no order of reading is in it.
+
+-- the tree has all tokens of the text, and is one of the goal without white space and comments
+abbrev pub FitsTokens : Goal → List ℕ → List RawToken → Syntax → Type 0
+FitsTokens goal text raw syntax =
+    (kind : SyntaxKind) × (kids : Forest) × (n : ℕ)
+    × FitsGoal grammar n goal (tree kind kids done) (solid_tokens raw) []
+    × (syntax ≡ whole_tree kind kids (pieces text raw))
+
+abbrev pub FitsFile : List ℕ → Syntax → Type 0
+FitsFile text syntax = (raw : List RawToken) × (tokens text ≡ Some raw) × FitsTokens goals.File text raw syntax
+
+abbrev pub FitsFragment : Fragment → List ℕ → Syntax → Type 0
+FitsFragment fragment text syntax =
+    (raw : List RawToken)
+    × (tokens (trimmed text) ≡ Some raw)
+    × ((begins_solid raw && begins_solid (reverse raw)) ≡ true)
+    × FitsTokens (goal_of fragment) (trimmed text) raw syntax
+
+-- what is known of the trees of texts
+pub record IsTreeOfFile (text : List ℕ) (syntax : Syntax) : Type 0 where
+  pub short : length text < 2 ^ 32
+  pub fits : FitsFile text syntax
+  pub spells : source_of syntax ≡ text
+  pub shallow : depth_of syntax ≤ most_deep
+  pub trimmed_nodes : IsTrimmed syntax.children
+
+pub record IsTreeOfFragment (fragment : Fragment) (text : List ℕ) (syntax : Syntax) : Type 0 where
+  pub short : length text < 2 ^ 32
+  pub fits : FitsFragment fragment text syntax
+  pub spells : source_of syntax ≡ trimmed text
+  pub shallow : depth_of syntax ≤ most_deep
+  pub trimmed_nodes : IsTrimmed (plain.branch syntax.kind syntax.children plain.nothing)
+
+-- The answer is this tree, or the tree is too deep and that is told. Want of memory says nothing.
+abbrev pub IsThatOrTooDeep : {R : Type 0} → (R → Syntax) → Syntax → Result R SyntaxError → Type 0
+IsThatOrTooDeep now syntax (Ok v) = now v ≡ syntax
+IsThatOrTooDeep now syntax (Err e) = e ≢ errors.Memory → (e ≡ errors.TooDeep) × (most_deep < depth_of syntax)
+
+-- ** What the calls below give.
+
+-- the tokens of a text, or why there are none
+abbrev pub IsLexFault : List ℕ → SyntaxError → Type 0
+IsLexFault text errors.Lex = (length text < 2 ^ 32) × (tokens text ≡ None)
+IsLexFault text errors.TooLong = 2 ^ 32 ≤ length text
+IsLexFault text errors.Memory = ⊤
+IsLexFault text errors.NoTree = ⊥
+IsLexFault text errors.TooDeep = ⊥
+
+abbrev pub IsLexed : {R : Type 0} → (R → List RawToken) → List ℕ → Result R SyntaxError → Type 0
+IsLexed now text (Ok v) = (length text < 2 ^ 32) × (tokens text ≡ Some (now v)) × Tiles text (now v) × (spelled_by text (now v) ≡ text)
+IsLexed now text (Err e) = IsLexFault text e

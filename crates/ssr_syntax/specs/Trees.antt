@@ -1,0 +1,57 @@
+-- The plain tree that a text is read to, and the parser's rows.
+use Rattle.std.specs.Prelude.{ℕ, zero, suc, ◌+◌, ⊤, List, [], ◌∷◌, ◌++◌, length}
+use Rattle.ssr_syntax_lex.specs.declared.kinds.SyntaxKind.{SyntaxKind}
+use Rattle.ssr_syntax.specs.declared.tokens.Token.{Token}
+use Rattle.ssr_syntax.specs.declared.rows.Row.{Row}
+
+-- Some trees side by side. The last argument of `leaf` and `tree` is what stands beside them to the right.
+pub data Forest : Type 0 where
+  done : Forest
+  -- one token of the grammar: its kind, and the solid tokens that it is joined from
+  leaf : SyntaxKind → List Token → Forest → Forest
+  -- a node: its kind and its children
+  tree : SyntaxKind → Forest → Forest → Forest
+
+-- the one to the left of the other
+abbrev pub join : Forest → Forest → Forest
+join done y = y
+join (leaf kind tokens x) y = leaf kind tokens (join x y)
+join (tree kind kids x) y = tree kind kids (join x y)
+
+-- its tokens in order
+abbrev pub spell : Forest → List Token
+spell done = []
+spell (leaf kind tokens x) = tokens ++ spell x
+spell (tree kind kids x) = spell kids ++ spell x
+
+-- the kinds of its nodes, each behind those below it
+abbrev pub kinds : Forest → List SyntaxKind
+kinds done = []
+kinds (leaf kind tokens x) = kinds x
+kinds (tree kind kids x) = kinds kids ++ kind ∷ kinds x
+
+-- how many nodes it has
+abbrev pub nodes : Forest → ℕ
+nodes done = 0
+nodes (leaf kind tokens x) = nodes x
+nodes (tree kind kids x) = nodes kids + (1 + nodes x)
+
+-- Its nodes, each behind those below it, where `left` tokens stand to its right.
+abbrev pub rows : Forest → ℕ → List Row
+rows done left = []
+rows (leaf kind tokens x) left = rows x left
+rows (tree kind kids x) left =
+    rows kids (length (spell x) + left)
+    ++ record {
+      kind = kind;
+      first = length (spell kids) + (length (spell x) + left);
+      end = length (spell x) + left;
+      below = nodes kids;
+    } ∷ rows x left
+
+-- at most `high` nodes stand above one another
+abbrev pub IsShallow : ℕ → Forest → Type 0
+IsShallow high done = ⊤
+IsShallow high (leaf kind tokens x) = IsShallow high x
+IsShallow zero (tree kind kids x) = ⊥
+IsShallow (suc high) (tree kind kids x) = IsShallow high kids × IsShallow (suc high) x

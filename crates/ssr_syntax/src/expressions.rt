@@ -1,0 +1,226 @@
+ghost use Rattle.std.specs.Prelude.{◌≡◌, true};
+ghost use Rattle.ssr_syntax.specs.Kinds.{mem};
+ghost use Rattle.ssr_syntax.specs.Forms.{at, passes, past};
+ghost use Rattle.ssr_syntax.specs.Expressions.{atom, block_expr, expr_first, literal, operations, operators, paren_expr, path_expr, product, stmt_list, sum, tighter};
+ghost use Rattle.ssr_syntax.specs.Runs.{Gives, Leaves, mark_at, run, run_marked, state};
+
+use crate::goals::{Fault, Goal, Rank};
+use crate::paths::path;
+use crate::reader::Reader;
+use crate::rows::{Row, close};
+use crate::tokens::{Token, at, behind, expect};
+use ssr_syntax_lex::SyntaxKind;
+
+/// LITERAL: a number.
+#[tactic(auto, unfolding(crate::specs::Expressions::literal))]
+pub fn literal<'a, R: Reader<'a>>(
+    reader: &R,
+    tokens: &'a [Token],
+    out: &mut Vec<Row>,
+) -> Result<&'a [Token], Fault>
+    requires { R.can_read reader.now }
+    ensures { Gives (λ r. r.now) out.new.items result (run_marked (R.reads reader.now) literal (state out.old.items tokens.now)) }
+{
+    let mark = out.len();
+    let rest = expect(SyntaxKind::INT_NUMBER, tokens)?;
+    close(SyntaxKind::LITERAL, mark, tokens, rest, out)
+}
+
+/// PATH_EXPR: a PATH.
+#[tactic(auto, unfolding(crate::specs::Expressions::path_expr))]
+pub fn path_expr<'a, R: Reader<'a>>(
+    reader: &R,
+    tokens: &'a [Token],
+    out: &mut Vec<Row>,
+) -> Result<&'a [Token], Fault>
+    requires { R.can_read reader.now }
+    ensures { Gives (λ r. r.now) out.new.items result (run_marked (R.reads reader.now) path_expr (state out.old.items tokens.now)) }
+{
+    let mark = out.len();
+    let rest = path(reader, tokens, out)?;
+    close(SyntaxKind::PATH_EXPR, mark, tokens, rest, out)
+}
+
+/// PAREN_EXPR: an expression in parentheses.
+#[tactic(auto, unfolding(crate::specs::Expressions::paren_expr))]
+pub fn paren_expr<'a, R: Reader<'a>>(
+    reader: &R,
+    tokens: &'a [Token],
+    out: &mut Vec<Row>,
+) -> Result<&'a [Token], Fault>
+    requires { R.can_read reader.now }
+    ensures { Gives (λ r. r.now) out.new.items result (run_marked (R.reads reader.now) paren_expr (state out.old.items tokens.now)) }
+{
+    let mark = out.len();
+    let rest = expect(SyntaxKind::L_PAREN, tokens)?;
+    let rest = reader.read(Goal::Expr, rest, out)?;
+    let rest = expect(SyntaxKind::R_PAREN, rest)?;
+    close(SyntaxKind::PAREN_EXPR, mark, tokens, rest, out)
+}
+
+/// An expression without an operator outside brackets.
+#[tactic(auto, unfolding(crate::specs::Expressions::atom))]
+pub fn atom<'a, R: Reader<'a>>(
+    reader: &R,
+    tokens: &'a [Token],
+    out: &mut Vec<Row>,
+) -> Result<&'a [Token], Fault>
+    requires { R.can_read reader.now }
+    ensures { Gives (λ r. r.now) out.new.items result (run_marked (R.reads reader.now) atom (state out.old.items tokens.now)) }
+{
+    if at(SyntaxKind::IDENT, tokens) {
+        path_expr(reader, tokens, out)
+    } else if at(SyntaxKind::INT_NUMBER, tokens) {
+        literal(reader, tokens, out)
+    } else {
+        paren_expr(reader, tokens, out)
+    }
+}
+
+/// BIN_EXPR with `*`, `/` or `%`, or an expression that binds tighter.
+#[tactic(auto, unfolding(crate::specs::Expressions::product))]
+pub fn product<'a, R: Reader<'a>>(
+    reader: &R,
+    tokens: &'a [Token],
+    out: &mut Vec<Row>,
+) -> Result<&'a [Token], Fault>
+    requires { R.can_read reader.now }
+    ensures { Gives (λ r. r.now) out.new.items result (run_marked (R.reads reader.now) product (state out.old.items tokens.now)) }
+{
+    let mark = out.len();
+    let rest = atom(reader, tokens, out)?;
+    operations(reader, Rank::Product, mark, tokens, rest, out)
+}
+
+/// BIN_EXPR with `+` or `-`, or an expression that binds tighter.
+#[tactic(auto, unfolding(crate::specs::Expressions::sum))]
+pub fn sum<'a, R: Reader<'a>>(
+    reader: &R,
+    tokens: &'a [Token],
+    out: &mut Vec<Row>,
+) -> Result<&'a [Token], Fault>
+    requires { R.can_read reader.now }
+    ensures { Gives (λ r. r.now) out.new.items result (run_marked (R.reads reader.now) sum (state out.old.items tokens.now)) }
+{
+    let mark = out.len();
+    let rest = product(reader, tokens, out)?;
+    operations(reader, Rank::Sum, mark, tokens, rest, out)
+}
+
+/// Any number of operators of this rank, each with its right operand. All since the mark is the left operand.
+#[tactic(auto, using(crate::proofs::Loops::repeat_step, crate::proofs::Loops::repeat_end), unfolding(crate::specs::Expressions::operations))]
+pub fn operations<'a, R: Reader<'a>>(
+    reader: &R,
+    rank: Rank,
+    mark: usize,
+    start: &'a [Token],
+    tokens: &'a [Token],
+    out: &mut Vec<Row>,
+) -> Result<&'a [Token], Fault>
+    requires { R.can_read reader.now }
+    ensures { Gives (λ r. r.now) out.new.items result (run (R.reads reader.now) (operations rank) (mark_at mark start.now) (state out.old.items tokens.now)) }
+{
+    let mut rest = tokens;
+    'turns: for _turn in 0..tokens.len() + 1 {
+        if !at_operator(rank, rest) {
+            return Ok(rest);
+        }
+        rest = operator(rank, rest)?;
+        rest = reader.read(Goal::Operand(tighter(rank)), rest, out)?;
+        rest = close(SyntaxKind::BIN_EXPR, mark, start, rest, out)?;
+    }
+    Err(Fault::NoTree)
+}
+
+/// Whether the next token begins an expression.
+fn at_expr(tokens: &[Token]) -> bool
+    ensures { result ≡ passes (at expr_first) tokens.now }
+{
+    match tokens.split_first() {
+        Some((first, _)) => {
+            first.joined == SyntaxKind::IDENT
+                || first.joined == SyntaxKind::INT_NUMBER
+                || first.joined == SyntaxKind::L_PAREN
+        }
+        None => false,
+    }
+}
+
+/// Whether it is an operator of this rank.
+fn is_operator(rank: Rank, kind: SyntaxKind) -> bool
+    ensures { result ≡ mem kind (operators rank) }
+{
+    match rank {
+        Rank::Atom => false,
+        Rank::Product => {
+            kind == SyntaxKind::STAR || kind == SyntaxKind::SLASH || kind == SyntaxKind::PERCENT
+        }
+        Rank::Sum => kind == SyntaxKind::PLUS || kind == SyntaxKind::MINUS,
+    }
+}
+
+/// Whether the next token is an operator of this rank.
+fn at_operator(rank: Rank, tokens: &[Token]) -> bool
+    ensures { result ≡ passes (at (operators rank)) tokens.now }
+{
+    match tokens.split_first() {
+        Some((first, _)) => is_operator(rank, first.joined),
+        None => false,
+    }
+}
+
+/// What is left behind an operator of this rank.
+fn operator(rank: Rank, tokens: &[Token]) -> Result<&[Token], Fault>
+    ensures { Leaves (λ r. r.now) result (past true (operators rank) tokens.now) }
+{
+    match tokens.split_first() {
+        Some((first, rest)) if is_operator(rank, first.joined) => behind(first.size, rest),
+        _ => Err(Fault::NoTree),
+    }
+}
+
+/// The rank of what stands to the right of an operator of this rank.
+fn tighter(rank: Rank) -> Rank
+    ensures { result ≡ tighter rank }
+{
+    match rank {
+        Rank::Atom | Rank::Product => Rank::Atom,
+        Rank::Sum => Rank::Product,
+    }
+}
+
+/// STMT_LIST: braces, with an expression or none.
+#[tactic(auto, unfolding(crate::specs::Expressions::stmt_list))]
+pub fn stmt_list<'a, R: Reader<'a>>(
+    reader: &R,
+    tokens: &'a [Token],
+    out: &mut Vec<Row>,
+) -> Result<&'a [Token], Fault>
+    requires { R.can_read reader.now }
+    ensures { Gives (λ r. r.now) out.new.items result (run_marked (R.reads reader.now) stmt_list (state out.old.items tokens.now)) }
+{
+    let mark = out.len();
+    let rest = expect(SyntaxKind::L_CURLY, tokens)?;
+    let rest = if at_expr(rest) {
+        reader.read(Goal::Expr, rest, out)?
+    } else {
+        rest
+    };
+    let rest = expect(SyntaxKind::R_CURLY, rest)?;
+    close(SyntaxKind::STMT_LIST, mark, tokens, rest, out)
+}
+
+/// BLOCK_EXPR: a STMT_LIST.
+#[tactic(auto, unfolding(crate::specs::Expressions::block_expr))]
+pub fn block_expr<'a, R: Reader<'a>>(
+    reader: &R,
+    tokens: &'a [Token],
+    out: &mut Vec<Row>,
+) -> Result<&'a [Token], Fault>
+    requires { R.can_read reader.now }
+    ensures { Gives (λ r. r.now) out.new.items result (run_marked (R.reads reader.now) block_expr (state out.old.items tokens.now)) }
+{
+    let mark = out.len();
+    let rest = stmt_list(reader, tokens, out)?;
+    close(SyntaxKind::BLOCK_EXPR, mark, tokens, rest, out)
+}

@@ -1,0 +1,6 @@
+/// What a text is read as.
+#[derive(Debug, Clone, Copy, PartialEq, Eq)]
+pub enum Fragment {
+    /// An expression.
+    Expr,
+}

@@ -1,0 +1,56 @@
+use std::alloc::{AllocError, AllocFailed};
+
+/// What is to be read.
+#[derive(Clone, Copy)]
+pub enum Goal {
+    /// A whole file.
+    File,
+    /// Any expression.
+    Expr,
+    /// An expression that binds at least as tightly as this rank.
+    Operand(Rank),
+}
+
+/// How tightly an expression binds, the tightest first.
+#[derive(Clone, Copy)]
+pub enum Rank {
+    /// No operator outside brackets.
+    Atom,
+    /// `*`, `/` and `%`.
+    Product,
+    /// `+` and `-`.
+    Sum,
+}
+
+/// Why there is no tree.
+#[derive(Clone, Copy, Debug, PartialEq, Eq)]
+pub enum Fault {
+    /// The tokens are not of this grammar.
+    NoTree,
+    /// The tree would be nested too deeply.
+    TooDeep,
+    /// There is not enough memory.
+    Memory,
+}
+
+impl From<AllocError> for Fault {
+    ghost use Rattle.std.specs.Prelude.{◌≡◌};
+    ghost use Rattle.ssr_syntax.specs.declared.goals.Fault.TheVariants.{Memory};
+
+    ghost from_gives = { λ _ e. e ≡ Memory };
+
+    fn from(_refused: AllocError) -> Fault {
+        Fault::Memory
+    }
+}
+
+impl<T: Drop> From<AllocFailed<T>> for Fault {
+    ghost use Rattle.std.specs.Prelude.{◌≡◌};
+    ghost use Rattle.ssr_syntax.specs.declared.goals.Fault.TheVariants.{Memory};
+
+    ghost from_gives = { λ _ e. e ≡ Memory };
+
+    fn from(_refused: AllocFailed<T>) -> Fault {
+        Fault::Memory
+    }
+}

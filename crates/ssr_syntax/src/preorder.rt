@@ -1,0 +1,175 @@
+ghost use Rattle.std.specs.Prelude.{◌≡◌, ◌+◌, ◌<◌, ◌≤◌, ◌^◌, length, reverse, slice_index, nat_lt};
+ghost use Rattle.ssr_syntax_lex.specs.declared.kinds.SyntaxKind.{SyntaxKind};
+ghost use Rattle.ssr_syntax.specs.Preorder.{opened, first_at, past_at, IsClosed, IsOpened, IsFromRight, OkUnlessDeep, tree_rows, high, most_deep};
+ghost use Rattle.ssr_syntax.specs.Trees.{Forest, done, tree, rows as rows_of};
+
+use crate::rows::Row;
+use crate::syntax_error::SyntaxError;
+use ssr_syntax_tree::NodeRow;
+use std::alloc::Global;
+
+/// How deep a tree may be: the depth of its root is 0.
+const MOST_DEEP: usize = 1024;
+
+/// How many nodes a tree may have, so that their numbers are of 32 bits. More of them don't fit in any memory.
+const MOST_NODES: usize = 0xffff_f000;
+
+/// A node with its row, as long as more nodes may stand below it.
+#[derive(Clone, Copy)]
+struct Open {
+    /// How many of the parser's rows are in front of it and of those below it.
+    start: usize,
+    number: u32,
+    node: NodeRow,
+}
+
+/// Closes the open nodes that begin at `place` or behind it.
+fn close(place: usize, above: &mut Vec<Open>, nodes: &mut Vec<NodeRow>) -> Result<(), SyntaxError>
+    ensures { IsClosed place above.old.items above.new.items nodes.old.items nodes.new.items result }
+{
+    while let Some(inner) = above.last() {
+        if inner.start < place {
+            break;
+        }
+        nodes.push(inner.node)?;
+        above.pop();
+    }
+    Ok(())
+}
+
+/// How many tokens there are up to the solid one of that number.
+fn taken(behind: &[u32], solid: usize) -> u32
+    ensures { result ≡ slice_index behind.now solid }
+{
+    behind.get(solid).copied().unwrap_or(0)
+}
+
+/// The first token of a node of `count` solid tokens, of which `left` are to its left.
+fn first_token(behind: &[u32], low: u32, left: usize, count: usize) -> u32
+    requires { left < 2 ^ 33 }
+    ensures { result ≡ first_at (λ i. slice_index behind.now i) low left count }
+{
+    if count == 0 {
+        taken(behind, left).max(low)
+    } else {
+        taken(behind, left + 1).saturating_sub(1)
+    }
+}
+
+/// The token past the last one of such a node.
+fn past_token(behind: &[u32], low: u32, left: usize, count: usize) -> u32
+    requires { left + count < 2 ^ 64 }
+    ensures { result ≡ past_at (λ i. slice_index behind.now i) low left count }
+{
+    if count == 0 {
+        taken(behind, left).max(low)
+    } else {
+        taken(behind, left + count)
+    }
+}
+
+/// The node of a row with `place` rows in front of it, below the open ones.
+fn opened(behind: &[u32], total: usize, row: &Row, place: usize, above: &[Open]) -> Open
+    requires tokens { total < 2 ^ 33 }
+    requires rows { place + length above.now < 2 ^ 32 }
+    ensures { result ≡ opened (λ i. slice_index behind.now i) total row.now place (reverse above.now) }
+{
+    let (parent, low) = match above.last() {
+        Some(inner) => (inner.number, inner.node.first),
+        None => (0, 0),
+    };
+    let left = total.saturating_sub(row.first);
+    let count = row.first.saturating_sub(row.end);
+    let start = place.saturating_sub(row.below);
+    Open {
+        start,
+        number: (start + above.len()) as u32,
+        node: NodeRow {
+            kind: row.kind,
+            parent,
+            first: first_token(behind, low, left, count),
+            past: past_token(behind, low, left, count),
+            below: (place - start) as u32,
+        },
+    }
+}
+
+/// Opens the node of a row with `place` rows in front of it.
+fn open_row(
+    behind: &[u32],
+    total: usize,
+    row: &Row,
+    place: usize,
+    above: &mut Vec<Open>,
+    nodes: &mut Vec<NodeRow>,
+) -> Result<(), SyntaxError>
+    requires tokens { total < 2 ^ 33 }
+    requires rows { place ≤ 0xffff_f000 }
+    ensures { IsOpened (λ i. slice_index behind.now i) total row.now place above.old.items above.new.items nodes.old.items nodes.new.items result }
+{
+    close(place + 1, above, nodes)?;
+    if above.len() > MOST_DEEP {
+        return Err(SyntaxError::TooDeep);
+    }
+    let node = opened(behind, total, row, place, above);
+    above.push(node)?;
+    Ok(())
+}
+
+/// Writes the nodes of the rows, the last one first, and then those above.
+fn from_right(
+    behind: &[u32],
+    total: usize,
+    rows: &[Row],
+    above: &mut Vec<Open>,
+    nodes: &mut Vec<NodeRow>,
+) -> Result<(), SyntaxError>
+    requires tokens { total < 2 ^ 33 }
+    requires rows { length rows.now ≤ 0xffff_f000 }
+    ensures { IsFromRight (λ i. slice_index behind.now i) total rows.now above.old.items nodes.old.items nodes.new.items result }
+{
+    let mut rest = rows;
+    while let Some((row, front)) = rest.split_last() {
+        open_row(behind, total, row, front.len(), above, nodes)?;
+        rest = front;
+    }
+    close(0, above, nodes)
+}
+
+/// The rows of a tree's nodes in preorder, from the parser's. `behind` says how many of the `tokens` tokens there are up
+/// to each solid one, from none on.
+pub(crate) fn node_rows(
+    alloc: Global,
+    rows: &[Row],
+    behind: &[u32],
+    tokens: u32,
+) -> Result<Vec<NodeRow>, SyntaxError>
+    ensures { (kind : SyntaxKind) (kids : Forest) → rows.now ≡ rows_of (tree kind kids done) 0
+        → OkUnlessDeep (nat_lt most_deep (high kids))
+        (λ v. (v.items ≡ tree_rows (λ i. slice_index behind.now i) tokens kind kids) × (length rows.now ≤ 0xffff_f000))
+        result }
+{
+    let Some((root, below)) = rows.split_last() else {
+        return Err(SyntaxError::NoTree);
+    };
+    if rows.len() > MOST_NODES || root.first > MOST_NODES {
+        return Err(SyntaxError::Memory);
+    }
+    let mut above = Vec::new(alloc);
+    let mut nodes = Vec::with_capacity(alloc, rows.len())?;
+    let node = NodeRow {
+        kind: root.kind,
+        parent: 0,
+        first: 0,
+        past: tokens,
+        below: below.len() as u32,
+    };
+    above.push(Open {
+        start: 0,
+        number: 0,
+        node,
+    })?;
+    from_right(behind, root.first, below, &mut above, &mut nodes)?;
+    nodes.reverse();
+    Ok(nodes)
+}

@@ -1,0 +1,40 @@
+ghost use Rattle.std.specs.Prelude.{Ok};
+ghost use Rattle.ssr_syntax.specs.Runs.{Gives, close, mark_at, state};
+
+use crate::goals::Fault;
+use crate::tokens::Token;
+use ssr_syntax_lex::SyntaxKind;
+
+/// A node of the tree, as the parser writes it: behind all nodes below it.
+#[derive(Clone, Copy)]
+pub struct Row {
+    pub kind: SyntaxKind,
+    /// How many tokens were left at its first one.
+    pub first: usize,
+    /// How many tokens were left behind its last one.
+    pub end: usize,
+    /// How many nodes stand below it: the rows directly in front of this one.
+    pub below: usize,
+}
+
+/// Puts all since the mark into a node: the rows behind the first `made`, and the tokens from `start` up to `rest`.
+/// The answer is `rest`.
+pub fn close<'a>(
+    kind: SyntaxKind,
+    made: usize,
+    start: &'a [Token],
+    rest: &'a [Token],
+    out: &mut Vec<Row>,
+) -> Result<&'a [Token], Fault>
+    ensures { Gives (λ r. r.now) out.new.items result (Ok (close kind (mark_at made start.now) (state out.old.items rest.now))) }
+{
+    let below = out.len().saturating_sub(made);
+    let (first, end) = (start.len(), rest.len());
+    out.push(Row {
+        kind,
+        first,
+        end,
+        below,
+    })?;
+    Ok(rest)
+}

@@ -1,0 +1,153 @@
+ghost use Rattle.std.specs.Prelude.{◌≡◌, ◌<◌, ◌^◌, ◌∷◌, length, IfOk, drop};
+ghost use Rattle.ssr_syntax.specs.Solid.{with_eq, with_r_angle, twice, joined, lengthened, is_joint, solid_token, solid_tokens, ends};
+
+use crate::tokens::Token;
+use ssr_syntax_lex::{RawToken, SyntaxKind};
+use std::alloc::{AllocError, Global};
+
+/// The kind of a token of this kind and `=`.
+fn with_eq(kind: SyntaxKind) -> Option<SyntaxKind>
+    ensures { result ≡ with_eq kind }
+{
+    match kind {
+        SyntaxKind::EQ => Some(SyntaxKind::EQ2),
+        SyntaxKind::BANG => Some(SyntaxKind::NEQ),
+        SyntaxKind::L_ANGLE => Some(SyntaxKind::LTEQ),
+        SyntaxKind::R_ANGLE => Some(SyntaxKind::GTEQ),
+        SyntaxKind::PLUS => Some(SyntaxKind::PLUSEQ),
+        SyntaxKind::MINUS => Some(SyntaxKind::MINUSEQ),
+        SyntaxKind::STAR => Some(SyntaxKind::STAREQ),
+        SyntaxKind::SLASH => Some(SyntaxKind::SLASHEQ),
+        SyntaxKind::PERCENT => Some(SyntaxKind::PERCENTEQ),
+        SyntaxKind::CARET => Some(SyntaxKind::CARETEQ),
+        SyntaxKind::AMP => Some(SyntaxKind::AMPEQ),
+        SyntaxKind::PIPE => Some(SyntaxKind::PIPEEQ),
+        SyntaxKind::DOT2 => Some(SyntaxKind::DOT2EQ),
+        SyntaxKind::SHL => Some(SyntaxKind::SHLEQ),
+        SyntaxKind::SHR => Some(SyntaxKind::SHREQ),
+        _ => None,
+    }
+}
+
+/// The kind of a token of this kind and `>`.
+fn with_r_angle(kind: SyntaxKind) -> Option<SyntaxKind>
+    ensures { result ≡ with_r_angle kind }
+{
+    match kind {
+        SyntaxKind::MINUS => Some(SyntaxKind::THIN_ARROW),
+        SyntaxKind::EQ => Some(SyntaxKind::FAT_ARROW),
+        SyntaxKind::R_ANGLE => Some(SyntaxKind::SHR),
+        _ => None,
+    }
+}
+
+/// The kind of two tokens of this kind.
+fn twice(kind: SyntaxKind) -> Option<SyntaxKind>
+    ensures { result ≡ twice kind }
+{
+    match kind {
+        SyntaxKind::COLON => Some(SyntaxKind::COLON2),
+        SyntaxKind::DOT => Some(SyntaxKind::DOT2),
+        SyntaxKind::AMP => Some(SyntaxKind::AMP2),
+        SyntaxKind::PIPE => Some(SyntaxKind::PIPE2),
+        SyntaxKind::L_ANGLE => Some(SyntaxKind::SHL),
+        _ => None,
+    }
+}
+
+/// The kind of a token joined from one of `kind` and one of `next` directly behind it.
+fn joined(next: SyntaxKind, kind: SyntaxKind) -> Option<SyntaxKind>
+    ensures { result ≡ joined next kind }
+{
+    match next {
+        SyntaxKind::EQ => with_eq(kind),
+        SyntaxKind::R_ANGLE => with_r_angle(kind),
+        _ => { if kind == next { twice(kind) } else { None } }
+    }
+}
+
+/// The kind joined from one that is joint or isn't, and the first of those behind it.
+fn lengthened(kind: SyntaxKind, joint: bool, behind: &[RawToken]) -> Option<SyntaxKind>
+    ensures { result ≡ lengthened kind joint behind.now }
+{
+    if !joint {
+        return None;
+    }
+    let next = behind.first()?;
+    joined(next.kind, kind)
+}
+
+fn is_joint(tokens: &[RawToken]) -> bool
+    ensures { result ≡ is_joint tokens.now }
+{
+    match tokens.first() {
+        Some(token) => token.joint,
+        None => false,
+    }
+}
+
+/// All but the first one.
+fn others(tokens: &[RawToken]) -> &[RawToken]
+    ensures { result.now ≡ drop 1 tokens.now }
+{
+    match tokens.split_first() {
+        Some((_, others)) => others,
+        None => tokens,
+    }
+}
+
+/// The token in front of others, with the longest one that is joined from it and those.
+fn solid_token(first: &RawToken, behind: &[RawToken]) -> Token
+    ensures { result ≡ solid_token first.now behind.now }
+{
+    let kind = first.kind;
+    let Some(two) = lengthened(kind, first.joint, behind) else {
+        return Token {
+            kind,
+            joined: kind,
+            size: 1,
+        };
+    };
+    match lengthened(two, is_joint(behind), others(behind)) {
+        None => Token {
+            kind,
+            joined: two,
+            size: 2,
+        },
+        Some(three) => Token {
+            kind,
+            joined: three,
+            size: 3,
+        },
+    }
+}
+
+/// The solid tokens of a text.
+#[derive(Drop)]
+pub(crate) struct SolidTokens {
+    pub(crate) tokens: Vec<Token>,
+    /// How many of all tokens there are up to each solid one and with it, after none for no solid token.
+    pub(crate) behind: Vec<u32>,
+}
+
+/// All tokens but white space and comments.
+pub(crate) fn solid(alloc: Global, raw: &[RawToken]) -> Result<SolidTokens, AllocError>
+    requires { length raw.now < 2 ^ 32 }
+    ensures tokens { IfOk result (λ s. s.tokens.items ≡ solid_tokens raw.now) }
+    ensures behind { IfOk result (λ s. s.behind.items ≡ 0 ∷ ends 0 raw.now) }
+{
+    let mut tokens = Vec::new(alloc);
+    let mut behind = Vec::new(alloc);
+    behind.push(0)?;
+    let mut rest = raw;
+    let mut before = 0u32;
+    while let Some((first, others)) = rest.split_first() {
+        before += 1;
+        if !first.kind.is_trivia() {
+            tokens.push(solid_token(first, others))?;
+            behind.push(before)?;
+        }
+        rest = others;
+    }
+    Ok(SolidTokens { tokens, behind })
+}

@@ -1,0 +1,39 @@
+use crate::goals::Fault;
+use std::alloc::{AllocError, AllocFailed};
+
+/// Why a text has no syntax tree.
+#[derive(Debug, Clone, Copy, PartialEq, Eq, Drop)]
+pub enum SyntaxError {
+    /// Some of the text is no token.
+    Lex,
+    /// The tokens aren't those of a tree.
+    NoTree,
+    /// The tree's deepest node has more than 1,024 nodes above it.
+    TooDeep,
+    /// The text isn't shorter than 2^32 bytes.
+    TooLong,
+    /// There is not enough memory.
+    Memory,
+}
+
+impl From<AllocError> for SyntaxError {
+    ghost use Rattle.std.specs.Prelude.{◌≡◌};
+    ghost use Rattle.ssr_syntax.specs.declared.syntax_error.SyntaxError.TheVariants.{Memory};
+
+    ghost from_gives = { λ _ e. e ≡ Memory };
+
+    fn from(_error: AllocError) -> SyntaxError {
+        SyntaxError::Memory
+    }
+}
+
+impl<T: Drop> From<AllocFailed<T>> for SyntaxError {
+    ghost use Rattle.std.specs.Prelude.{◌≡◌};
+    ghost use Rattle.ssr_syntax.specs.declared.syntax_error.SyntaxError.TheVariants.{Memory};
+
+    ghost from_gives = { λ _ e. e ≡ Memory };
+
+    fn from(_error: AllocFailed<T>) -> SyntaxError {
+        SyntaxError::Memory
+    }
+}
