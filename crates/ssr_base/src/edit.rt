@@ -1,0 +1,120 @@
+ghost use Rattle.std.specs.Prelude.{◌≡◌, ◌↔◌, IsTrue, IfOk, length, string_bytes};
+ghost use Rattle.std.specs.List.{All};
+ghost use Rattle.std.specs.Slice.Iter.{iter_rest};
+ghost use Rattle.ssr_base.specs.Changes.{AreInOrder, Fits, replaced};
+ghost use Rattle.ssr_base.specs.Applied.{changes_of, Applies};
+
+use ssr_syntax_lex::TextRange;
+use std::alloc::{AllocError, Global};
+use std::marker::Model;
+use std::slice;
+use thiserror::Error;
+
+/// Why an edit was not applied.
+#[derive(Clone, Copy, Debug, PartialEq, Eq, Error)]
+pub enum ApplyError {
+    #[error("a change lies past the end of the text or inside of a character")]
+    Range,
+    #[error("out of memory")]
+    Memory,
+}
+
+/// Changes of a text, in order and sharing no byte: each puts a text in the place of a range of bytes.
+#[derive(Debug, Drop)]
+pub struct TextEdit {
+    changes: Vec<(TextRange, String)>,
+}
+
+impl Model for TextEdit {
+    ghost use Rattle.std.specs.Prelude.{List};
+    ghost use Rattle.ssr_base.specs.Changes.{Change, AreInOrder};
+    ghost use Rattle.ssr_base.specs.Applied.{changes_of};
+
+    ghost Value = { List Change };
+
+    ghost view = { λ edit. changes_of edit.changes.items };
+
+    ghost invariant = { λ edit. AreInOrder 0 (changes_of edit.changes.items) };
+}
+
+impl TextEdit {
+    /// The edit that makes these changes; each begins at or after the end of the one before.
+    pub fn new(changes: Vec<(TextRange, String)>) -> TextEdit
+        requires { AreInOrder 0 (changes_of changes.items) }
+        ensures { result ≡ changes_of changes.items }
+    {
+        TextEdit { changes }
+    }
+
+    /// The changes in order, each with its range and its new text.
+    pub fn iter(&self) -> slice::Iter<'_, (TextRange, String)>
+        ensures items { changes_of (iter_rest result) ≡ self.now }
+        ensures order { AreInOrder 0 self.now }
+    {
+        self.changes.iter()
+    }
+
+    /// The text with the changes made. `Range` where one of them lies past the end of the text or begins or
+    /// ends inside of a character.
+    pub fn apply(&self, alloc: Global, text: &str) -> Result<String, ApplyError>
+        ensures answer { Applies self.now text.now result }
+        ensures text { IfOk result (λ new. string_bytes new ≡ replaced text.now 0 (length text.now) self.now) }
+    {
+        if !self.fits(text) {
+            return Err(ApplyError::Range);
+        }
+        match self.written(alloc, text) {
+            Ok(new) => Ok(new),
+            Err(_) => Err(ApplyError::Memory),
+        }
+    }
+
+    /// Whether each change begins and ends between two characters of the text.
+    fn fits(&self, text: &str) -> bool
+        ensures fits { IsTrue result ↔ All (Fits text.now) self.now }
+        ensures order { AreInOrder 0 self.now }
+    {
+        for (range, _) in &self.changes {
+            if !text.is_char_boundary(range.start as usize)
+                || !text.is_char_boundary(range.end as usize)
+            {
+                return false;
+            }
+        }
+        true
+    }
+
+    fn written(&self, alloc: Global, text: &str) -> Result<String, AllocError>
+        requires { All (Fits text.now) self.now }
+        ensures { IfOk result (λ new. string_bytes new ≡ replaced text.now 0 (length text.now) self.now) }
+    {
+        let mut new = String::new(alloc);
+        let mut at = 0;
+        for (range, replacement) in &self.changes {
+            new.push_str(&text[at..range.start as usize])?;
+            new.push_str(replacement.as_str())?;
+            at = range.end as usize;
+        }
+        new.push_str(&text[at..])?;
+        Ok(new)
+    }
+}
+
+#[cfg(test)]
+mod tests {
+    use super::*;
+    use std::test::Fail;
+
+    #[test]
+    fn changes_are_made(rt: HostRuntime) -> Result<(), Fail> {
+        let alloc = rt.alloc();
+        let mut changes = Vec::new(alloc);
+        changes.push((TextRange::new(0, 1), String::from_str(alloc, "one")?))?;
+        changes.push((TextRange::new(4, 7), String::from_str(alloc, "")?))?;
+        let edit = TextEdit::new(changes);
+        assert_eq!(rt; edit.iter().count(), 2);
+        assert_eq!(rt; edit.apply(alloc, "1, zwei, 3")?.as_str(), "one, z, 3");
+        assert_eq!(rt; edit.apply(alloc, "1, 2"), Err(ApplyError::Range));
+        Ok(())
+    }
+}
