@@ -1,0 +1,128 @@
+-- The steps of reading a rule, each after those that accepted.
+use Rattle.std.proofs.Common.{◌≡◌, ℕ, List, ◌++◌, Result, Ok, ap, ◌∙◌, sym, subst}
+use Rattle.ide_ssr_rules.specs.declared.elements.Element.{Element}
+use Rattle.ide_ssr_rules.specs.declared.error.SsrError.{SsrError}
+use Rattle.ide_ssr_rules.specs.declared.kinds.ParsedRule.{ParsedRule}
+use Rattle.ide_ssr_rules.specs.Elements.{names_of, side}
+use Rattle.ide_ssr_rules.specs.Refusals.{Refusal, TellsOf, Answers, ◌>>=◌, unless, no_token, reserved}
+use Rattle.ide_ssr_rules.specs.Rules.{Rule, check_sides, check_defined, kinds_of, some_kind, rule_of, rule_reading}
+use Rattle.ide_ssr_rules.specs.Sides.{sides}
+use Rattle.ide_ssr_rules.specs.StandIns.{changed, code_of, spelled_stand_in}
+use Rattle.ide_ssr_rules.proofs.Telling.{tells_first, after_ok}
+
+module _ (pattern template : List Element) where
+  abbrev tokens_stay : List Element → Result (Unit {0}) Refusal
+  tokens_stay elements = unless no_token (changed elements)
+
+  abbrev names_free : List (List ℕ) → List Element → Result (Unit {0}) Refusal
+  names_free names elements = unless reserved (spelled_stand_in names elements)
+
+  abbrev all_names : List (List ℕ)
+  all_names = names_of pattern ++ names_of template
+
+  abbrev after_pattern : Unit {0} → Result (Unit {0}) Refusal
+  after_pattern _ = tokens_stay template >>= (λ _. names_free all_names pattern >>= (λ _. names_free all_names template))
+
+  pub pattern_changed : (error : SsrError) → TellsOf error (unless no_token (changed pattern)) → TellsOf error (check_sides pattern template)
+  unfolding check_sides
+  pattern_changed error tells = tells_first (tokens_stay pattern) after_pattern error tells
+
+  pub template_changed : (error : SsrError) → unless no_token (changed pattern) ≡ Ok tt → TellsOf error (unless no_token (changed template)) → TellsOf error (check_sides pattern template)
+  unfolding check_sides
+  template_changed error stays tells =
+      after_ok (λ r. TellsOf error r) (tokens_stay pattern) after_pattern tt stays
+      (tells_first (tokens_stay template) (λ _. names_free all_names pattern >>= (λ _. names_free all_names template)) error tells)
+
+  pub pattern_reserved : (error : SsrError) (names : List (List ℕ)) → unless no_token (changed pattern) ≡ Ok tt → unless no_token (changed template) ≡ Ok tt → names ≡ names_of pattern ++ names_of template
+      → TellsOf error (unless reserved (spelled_stand_in names pattern)) → TellsOf error (check_sides pattern template)
+  unfolding check_sides
+  pattern_reserved error names stays too are tells =
+      after_ok (λ r. TellsOf error r) (tokens_stay pattern) after_pattern tt stays
+      (after_ok (λ r. TellsOf error r) (tokens_stay template) (λ _. names_free all_names pattern >>= (λ _. names_free all_names template)) tt too
+      (tells_first (names_free all_names pattern) (λ _. names_free all_names template) error
+      (subst (λ ns. TellsOf error (names_free ns pattern)) are tells)))
+
+  pub sides_checked : (result : Result (Unit {0}) SsrError) (names kept : List (List ℕ)) → unless no_token (changed pattern) ≡ Ok tt → unless no_token (changed template) ≡ Ok tt
+      → names ≡ names_of pattern ++ names_of template → unless reserved (spelled_stand_in names pattern) ≡ Ok tt → kept ≡ names
+      → Answers result (unless reserved (spelled_stand_in kept template)) → Answers result (check_sides pattern template)
+  unfolding check_sides
+  sides_checked result names kept stays too are free keeps answers =
+      after_ok (λ r. Answers result r) (tokens_stay pattern) after_pattern tt stays
+      (after_ok (λ r. Answers result r) (tokens_stay template) (λ _. names_free all_names pattern >>= (λ _. names_free all_names template)) tt too
+      (after_ok (λ r. Answers result r) (names_free all_names pattern) (λ _. names_free all_names template) tt (ap (λ ns. names_free ns pattern) (sym are) ∙ free)
+      (subst (λ ns. Answers result (names_free ns template)) (keeps ∙ are) answers)))
+
+  abbrev kinds_read : Result (List ParsedRule) Refusal
+  kinds_read = some_kind (kinds_of (code_of pattern) (code_of template))
+
+  abbrev rule_with : List ParsedRule → Unit {0} → Result Rule Refusal
+  rule_with kinds _ = Ok (record { names = names_of pattern; kinds = kinds })
+
+  abbrev after_kinds : List ParsedRule → Result Rule Refusal
+  after_kinds kinds = check_defined (names_of pattern) (names_of template) >>= rule_with kinds
+
+  abbrev after_sides : Unit {0} → Result Rule Refusal
+  after_sides _ = kinds_read >>= after_kinds
+
+  pub sides_refused : (error : SsrError) → TellsOf error (check_sides pattern template) → TellsOf error (rule_of pattern template)
+  unfolding rule_of
+  sides_refused error tells = tells_first (check_sides pattern template) after_sides error tells
+
+  pub kinds_refused : (error : SsrError) → check_sides pattern template ≡ Ok tt → TellsOf error (some_kind (kinds_of (code_of pattern) (code_of template)))
+      → TellsOf error (rule_of pattern template)
+  unfolding rule_of
+  kinds_refused error checked tells =
+      after_ok (λ r. TellsOf error r) (check_sides pattern template) after_sides tt checked (tells_first kinds_read after_kinds error tells)
+
+  pub names_refused : (error : SsrError) (kinds : List ParsedRule) (names used : List (List ℕ)) → check_sides pattern template ≡ Ok tt
+      → some_kind (kinds_of (code_of pattern) (code_of template)) ≡ Ok kinds → names ≡ names_of pattern → used ≡ names_of template
+      → TellsOf error (check_defined names used) → TellsOf error (rule_of pattern template)
+  unfolding rule_of
+  names_refused error kinds names used checked read are uses tells =
+      after_ok (λ r. TellsOf error r) (check_sides pattern template) after_sides tt checked
+      (after_ok (λ r. TellsOf error r) kinds_read after_kinds kinds read
+      (tells_first (check_defined (names_of pattern) (names_of template)) (rule_with kinds) error
+      (subst (λ us. TellsOf error (check_defined (names_of pattern) us)) uses (subst (λ ns. TellsOf error (check_defined ns used)) are tells))))
+
+  pub rule_made : (kinds : List ParsedRule) (names used kept : List (List ℕ)) → check_sides pattern template ≡ Ok tt
+      → some_kind (kinds_of (code_of pattern) (code_of template)) ≡ Ok kinds → names ≡ names_of pattern → used ≡ names_of template
+      → check_defined names used ≡ Ok tt → kept ≡ names → rule_of pattern template ≡ Ok (record { names = kept; kinds = kinds })
+  unfolding rule_of
+  rule_made kinds names used kept checked read are uses defined keeps =
+      after_ok (λ r. r ≡ Ok (record { names = kept; kinds = kinds })) (check_sides pattern template) after_sides tt checked
+      (after_ok (λ r. r ≡ Ok (record { names = kept; kinds = kinds })) kinds_read after_kinds kinds read
+      (after_ok (λ r. r ≡ Ok (record { names = kept; kinds = kinds })) (check_defined (names_of pattern) (names_of template)) (rule_with kinds) tt
+      (ap (λ ns. check_defined ns (names_of template)) (sym are) ∙ ap (check_defined names) (sym uses) ∙ defined)
+      (ap (λ ns. Ok (record { names = ns; kinds = kinds })) (sym (keeps ∙ are)))))
+
+module _ (text : List ℕ) where
+  abbrev after_side : List ℕ × List ℕ → List Element → Result Rule Refusal
+  after_side texts pattern = side texts.1 >>= (λ template. rule_of pattern template)
+
+  abbrev after_split : List ℕ × List ℕ → Result Rule Refusal
+  after_split texts = side texts.0 >>= after_side texts
+
+  pub split_refused : (error : SsrError) → TellsOf error (sides text) → TellsOf error (rule_reading text)
+  unfolding rule_reading
+  split_refused error tells = tells_first (sides text) after_split error tells
+
+  pub pattern_refused : (error : SsrError) (texts : List ℕ × List ℕ) → sides text ≡ Ok texts → TellsOf error (side texts.0) → TellsOf error (rule_reading text)
+  unfolding rule_reading
+  pattern_refused error texts split tells =
+      after_ok (λ r. TellsOf error r) (sides text) after_split texts split (tells_first (side texts.0) (after_side texts) error tells)
+
+  pub template_refused : (error : SsrError) (texts : List ℕ × List ℕ) (pattern : List Element) → sides text ≡ Ok texts → side texts.0 ≡ Ok pattern
+      → TellsOf error (side texts.1) → TellsOf error (rule_reading text)
+  unfolding rule_reading
+  template_refused error texts pattern split read tells =
+      after_ok (λ r. TellsOf error r) (sides text) after_split texts split
+      (after_ok (λ r. TellsOf error r) (side texts.0) (after_side texts) pattern read (tells_first (side texts.1) (λ template. rule_of pattern template) error tells))
+
+  pub rule_read : (result : Result Rule SsrError) (texts : List ℕ × List ℕ) (pattern template kept changed : List Element) → sides text ≡ Ok texts → side texts.0 ≡ Ok pattern
+      → side texts.1 ≡ Ok template → kept ≡ pattern → changed ≡ template → Answers result (rule_of kept changed) → Answers result (rule_reading text)
+  unfolding rule_reading
+  rule_read result texts pattern template kept changed split read too keeps stays answers =
+      after_ok (λ r. Answers result r) (sides text) after_split texts split
+      (after_ok (λ r. Answers result r) (side texts.0) (after_side texts) pattern read
+      (after_ok (λ r. Answers result r) (side texts.1) (λ template. rule_of pattern template) template too
+      (subst (λ es. Answers result (rule_of pattern es)) stays (subst (λ es. Answers result (rule_of es changed)) keeps answers))))

@@ -1,0 +1,81 @@
+-- What the lexer answers, as tokens with their texts.
+use Rattle.std.proofs.Common.{◌≡◌, ℕ, ◌+◌, ◌<◌, ◌≤◌, ◌^◌, List, [], map, length, nat_lt, Some, None, Err, arith, ap, ◌∙◌, sym, cond, false, take, get_or, subst, ◌∷◌}
+use Rattle.std.proofs.lemmas.List.{take_all}
+use Rattle.std.proofs.lemmas.Bool.{lt-ltb}
+use Rattle.std.proofs.lemmas.List.Elements.{All-get_or, All-from_recursion}
+use Rattle.std.proofs.lemmas.List.{length-map, length-take}
+use Rattle.std.proofs.lemmas.Str.{IsCharBoundary-end}
+use Rattle.std.specs.List.{All, AllByRecursion}
+use Rattle.std.specs.Str.{IsCharBoundary}
+use Rattle.std.proofs.lemmas.Bool.Decides.{nat_tests}
+use Rattle.ssr_syntax_lex.specs.declared.tokens.RawToken.{RawToken}
+use Rattle.ssr_syntax_lex.specs.Tokens.{tokens, TilesFrom, Tiles}
+use Rattle.ssr_syntax_tree.specs.Syntax.{Token}
+use Rattle.ide_ssr_rules.specs.Elements.{lexed, token_of, side, elements, elements_of}
+use Rattle.ide_ssr_rules.specs.Refusals.{lexer_fault}
+use Rattle.std.specs.Option.{option_map}
+
+pub lexed-tokens : (text : List ℕ) (raw : List RawToken) → length text < 2 ^ 32 → tokens text ≡ Some raw → lexed text ≡ Some (map (token_of text) raw)
+unfolding lexed
+lexed-tokens text raw short is =
+    ap (λ b. cond b (option_map (map (token_of text)) (tokens text)) None) (lt-ltb (length text) (2 ^ 32) short)
+    ∙ ap (option_map (map (token_of text))) is
+
+pub lexed-fault : (text : List ℕ) → length text < 2 ^ 32 → tokens text ≡ None → lexed text ≡ None
+unfolding lexed
+lexed-fault text short is =
+    ap (λ b. cond b (option_map (map (token_of text)) (tokens text)) None) (lt-ltb (length text) (2 ^ 32) short)
+    ∙ ap (option_map (map (token_of text))) is
+
+pub lexed-long : (text : List ℕ) → 2 ^ 32 ≤ length text → lexed text ≡ None
+unfolding lexed
+lexed-long text long =
+    let not_short : nat_lt (length text) (2 ^ 32) ≡ false = grind (arith, nat_tests) in
+    ap (λ b. cond b (option_map (map (token_of text)) (tokens text)) None) not_short
+
+pub lexed-all : (text : List ℕ) (raw items : List RawToken) (found : List Token) (n : ℕ)
+    → length text < 2 ^ 32 → tokens text ≡ Some raw → items ≡ raw → found ≡ map (token_of text) (take n items) → length items ≤ n
+    → lexed text ≡ Some found
+lexed-all text raw items found n short is same made all =
+    lexed-tokens text raw short is ∙ ap (λ ts. Some (map (token_of text) ts)) (sym same) ∙ ap (λ ts. Some (map (token_of text) ts)) (sym (take_all n items all)) ∙ ap Some (sym made)
+
+pub side-tokens : (text : List ℕ) (found : List Token) → lexed text ≡ Some found → side text ≡ elements [] found
+unfolding side
+side-tokens text found is = ap elements_of is
+
+pub side-fault : (text : List ℕ) → lexed text ≡ None → side text ≡ Err lexer_fault
+unfolding side
+side-fault text is = ap elements_of is
+
+-- where a token's text may be cut out of the text
+pub record IsPlace (text : List ℕ) (raw : RawToken) : Type 0 where
+  pub starts : IsCharBoundary text raw.range.start
+  pub ends : IsCharBoundary text raw.range.end
+
+tiles_start : (text : List ℕ) (start : ℕ) (raw : List RawToken) → TilesFrom text start raw → IsCharBoundary text start
+tiles_start text start [] is = let P : ℕ → Type 0 = λ n. IsCharBoundary text n in subst P (sym is) (IsCharBoundary-end text)
+tiles_start text start (t ∷ raw) tiles = tiles.2
+
+places : (text : List ℕ) (start : ℕ) (raw : List RawToken) → TilesFrom text start raw → AllByRecursion (IsPlace text) raw
+places text start [] is = tt
+places text start (t ∷ raw) tiles = (
+  record {
+    starts = let P : ℕ → Type 0 = λ n. IsCharBoundary text n in subst P (sym tiles.0) tiles.2;
+    ends = tiles_start text t.range.end raw tiles.3;
+  },
+  places text t.range.end raw tiles.3,
+)
+
+pub place_at : (text : List ℕ) (raw items : List RawToken) (i : ℕ) (t : RawToken) → Tiles text raw → items ≡ raw → i < length items → t ≡ get_or items i t → IsPlace text t
+place_at text raw items i t tiles same small is =
+    let P : RawToken → Type 0 = λ r. IsPlace text r in
+    subst P (sym is) (All-get_or (IsPlace text) items i t small (subst (All (IsPlace text)) (sym same) (All-from_recursion (IsPlace text) raw (places text 0 raw tiles))))
+
+tiles_few : (text : List ℕ) (start : ℕ) (raw : List RawToken) → TilesFrom text start raw → start + length raw ≤ length text
+tiles_few text start [] is = omega (arith, is)
+tiles_few text start (t ∷ raw) tiles = omega (arith, tiles_few text t.range.end raw tiles.3, tiles.1)
+
+pub lexed_few : (text : List ℕ) (raw items : List RawToken) (found : List Token) (n : ℕ)
+    → length text < 2 ^ 32 → Tiles text raw → items ≡ raw → found ≡ map (token_of text) (take n items) → length found < 2 ^ 32
+lexed_few text raw items found n short tiles same made =
+    omega (arith, tiles_few text 0 raw tiles, ap length same, ap length made, length-map (take n items) (token_of text), length-take n items)

@@ -1,0 +1,10 @@
+pub mod LexedSides
+pub mod Splitting
+pub mod Telling
+pub mod ReadingElements
+pub mod Walking
+pub mod Changing
+pub mod Chains
+pub mod Nodes
+pub mod Resolved
+pub mod Uses

@@ -1,0 +1,119 @@
+-- The nodes of a tree one by one, and what stands in them alone.
+use Rattle.std.proofs.Common.{◌≡◌, ℕ, ◌+◌, ◌<◌, ◌≤◌, List, [], ◌∷◌, ◌++◌, map, length, take, drop, get_or, Option, Some, None, slice_get, unwrap_or, refl, ap, ◌∙◌, sym, arith, cond, true, false}
+use Rattle.std.proofs.lemmas.List.{drop_more, drop_all, take_all, length-map, get_or-map, map_more}
+use Rattle.std.proofs.lemmas.Option.{slice_get-get_or}
+use Rattle.std.specs.Option.{option_map}
+use Rattle.std.specs.List.{find}
+use Rattle.ssr_syntax_tree.specs.Places.{Node, Part, node_part, token_part, parts_in, parts_of, elements_of, element_of, nodes_of, node_of, root_of, HasNode, text_of}
+use Rattle.ssr_syntax_tree.specs.Syntax.{Token, Forest, nothing, leaf, branch, Syntax, node_count}
+use Rattle.ssr_syntax_tree.proofs.RowLaws.{length-nodes_of}
+use Rattle.ide_ssr_rules.specs.Resolving.{only_token, placeholder_at, placeholders, is_unresolved, unresolved}
+
+-- ** Nodes by their numbers.
+pub node_is : (s : Syntax) (n : ℕ) → HasNode s n → node_of s n ≡ get_or (nodes_of s) n (root_of s)
+unfolding node_of
+node_is s n has = ap (λ o. unwrap_or o (root_of s)) (slice_get-get_or (nodes_of s) n (root_of s) (omega (arith, has, length-nodes_of s)))
+
+pub node_left : (s : Syntax) (n : ℕ) → HasNode s n → drop n (nodes_of s) ≡ node_of s n ∷ drop (n + 1) (nodes_of s)
+node_left s n has =
+    drop_more (nodes_of s) n (root_of s) (omega (arith, has, length-nodes_of s)) ∙ ap (λ x. x ∷ drop (n + 1) (nodes_of s)) (sym (node_is s n has))
+
+pub table_next : (names : List (List ℕ)) (s : Syntax) (n : ℕ) (old new : List (Option ℕ)) (found : Option ℕ) → HasNode s n → found ≡ placeholder_at names (node_of s n)
+    → old ≡ map (placeholder_at names) (take n (nodes_of s)) → new ≡ old ++ found ∷ [] → new ≡ map (placeholder_at names) (take (n + 1) (nodes_of s))
+table_next names s n old new found has is so_far pushed =
+    pushed ∙ ap (λ t. t ++ found ∷ []) so_far
+    ∙ ap (λ o. map (placeholder_at names) (take n (nodes_of s)) ++ o ∷ []) (is ∙ ap (placeholder_at names) (node_is s n has))
+    ∙ sym (map_more (placeholder_at names) (nodes_of s) n (root_of s) (omega (arith, has, length-nodes_of s)))
+
+pub table_all : (names : List (List ℕ)) (s : Syntax) (n : ℕ) (table : List (Option ℕ)) → 1 + node_count s.children ≤ n
+    → table ≡ map (placeholder_at names) (take n (nodes_of s)) → table ≡ placeholders names s
+table_all names s n table all so_far = so_far ∙ ap (map (placeholder_at names)) (take_all n (nodes_of s) (omega (arith, length-nodes_of s)))
+
+pub table_long : (names : List (List ℕ)) (s : Syntax) (table : List (Option ℕ)) (n : ℕ) → table ≡ placeholders names s → HasNode s n → n < length table
+table_long names s table n is has = omega (arith, has, ap length is, length-map (nodes_of s) (placeholder_at names), length-nodes_of s)
+
+pub table_at : (names : List (List ℕ)) (s : Syntax) (table : List (Option ℕ)) (n : ℕ) (found : Option ℕ) → table ≡ placeholders names s → HasNode s n → found ≡ get_or table n found
+    → found ≡ placeholder_at names (node_of s n)
+table_at names s table n found is has at =
+    at ∙ ap (λ t. get_or t n found) is
+    ∙ get_or-map (placeholder_at names) (nodes_of s) n (root_of s) found (omega (arith, has, length-nodes_of s))
+    ∙ ap (placeholder_at names) (sym (node_is s n has))
+
+-- ** Single children.
+pub record IsOnly (forest : Forest) (node : Node) : Type 0 where
+  pub same : only_token forest ≡ only_token node.children
+  pub smaller : node_count node.children < node_count forest
+
+node_of_part : Part → Forest
+node_of_part (node_part node) = node.children
+node_of_part (token_part t token) = nothing
+
+single_node : (p m t : ℕ) (forest : Forest) (node : Node) → length (parts_in p m t forest) ≡ 1 → slice_get (parts_in p m t forest) 0 ≡ Some (node_part node) → IsOnly forest node
+unfolding node_of_part
+single_node p m t nothing node one is = absurd (omega (arith, one))
+single_node p m t (leaf token next) node one is = absurd cc
+single_node p m t (branch kind below nothing) node one is =
+    let same : node_part (record { number = m; parent = p; first = t; kind = kind; children = below }) ≡ node_part node = cc in
+    let children : below ≡ node.children = ap node_of_part same in
+    record { same = ap only_token children; smaller = omega (arith, ap node_count children) }
+single_node p m t (branch kind below (leaf token next)) node one is = absurd (omega (arith, one))
+single_node p m t (branch kind below (branch other inner next)) node one is = absurd (omega (arith, one))
+
+token_of_part : Part → Option Token
+token_of_part (node_part node) = None
+token_of_part (token_part t token) = Some token
+
+single_token : (p m t : ℕ) (forest : Forest) (n : ℕ) (token : Token) → length (parts_in p m t forest) ≡ 1 → slice_get (parts_in p m t forest) 0 ≡ Some (token_part n token) → only_token forest ≡ Some token
+unfolding token_of_part
+single_token p m t nothing n token one is = absurd (omega (arith, one))
+single_token p m t (leaf other nothing) n token one is =
+    let same : token_part t other ≡ token_part n token = cc in ap token_of_part same
+single_token p m t (leaf other (leaf more next)) n token one is = absurd (omega (arith, one))
+single_token p m t (leaf other (branch kind below next)) n token one is = absurd (omega (arith, one))
+single_token p m t (branch kind below next) n token one is = absurd cc
+
+not_single : (p m t : ℕ) (forest : Forest) → (length (parts_in p m t forest) ≡ 1 → ⊥) → only_token forest ≡ None
+not_single p m t nothing several = refl
+not_single p m t (leaf token nothing) several = absurd (several refl)
+not_single p m t (leaf token (leaf more next)) several = refl
+not_single p m t (leaf token (branch kind below next)) several = refl
+not_single p m t (branch kind below nothing) several = absurd (several refl)
+not_single p m t (branch kind below (leaf token next)) several = refl
+not_single p m t (branch kind below (branch other inner next)) several = refl
+
+pub only_node : (node below : Node) → length (elements_of node) ≡ 1 → slice_get (parts_of node) 0 ≡ Some (node_part below) → IsOnly node.children below
+only_node node below one is =
+    single_node node.number (1 + node.number) node.first node.children below (sym (length-map (parts_of node) element_of) ∙ one) is
+
+pub only_leaf : (node : Node) (n : ℕ) (token : Token) → length (elements_of node) ≡ 1 → slice_get (parts_of node) 0 ≡ Some (token_part n token) → only_token node.children ≡ Some token
+only_leaf node n token one is =
+    single_token node.number (1 + node.number) node.first node.children n token (sym (length-map (parts_of node) element_of) ∙ one) is
+
+pub several : (node : Node) → (length (elements_of node) ≡ 1 → ⊥) → only_token node.children ≡ None
+several node more =
+    not_single node.number (1 + node.number) node.first node.children (λ one. more (length-map (parts_of node) element_of ∙ one))
+
+-- ** The first path without a meaning.
+module _ (names : List (List ℕ)) (s : Syntax) where
+  pub path_found : (n : ℕ) (text : List ℕ) → HasNode s n → is_unresolved names (node_of s n) ≡ true → text ≡ text_of (node_of s n)
+      → find (is_unresolved names) (drop n (nodes_of s)) ≡ find (is_unresolved names) (nodes_of s) → Some text ≡ unresolved names s
+  unfolding unresolved
+  path_found n text has is named so_far =
+      ap (λ t. Some t) named
+      ∙ ap (λ b. option_map text_of (cond b (Some (node_of s n)) (find (is_unresolved names) (drop (n + 1) (nodes_of s))))) (sym is)
+      ∙ ap (λ xs. option_map text_of (find (is_unresolved names) xs)) (sym (node_left s n has))
+      ∙ ap (option_map text_of) so_far
+
+  pub path_passed : (n : ℕ) → HasNode s n → is_unresolved names (node_of s n) ≡ false
+      → find (is_unresolved names) (drop n (nodes_of s)) ≡ find (is_unresolved names) (nodes_of s)
+      → find (is_unresolved names) (drop (n + 1) (nodes_of s)) ≡ find (is_unresolved names) (nodes_of s)
+  path_passed n has is so_far =
+      ap (λ b. cond b (Some (node_of s n)) (find (is_unresolved names) (drop (n + 1) (nodes_of s)))) (sym is)
+      ∙ ap (find (is_unresolved names)) (sym (node_left s n has)) ∙ so_far
+
+  pub no_path : (n : ℕ) → 1 + node_count s.children ≤ n
+      → find (is_unresolved names) (drop n (nodes_of s)) ≡ find (is_unresolved names) (nodes_of s) → None ≡ unresolved names s
+  unfolding unresolved
+  no_path n all so_far =
+      ap (λ xs. option_map text_of (find (is_unresolved names) xs)) (sym (drop_all n (nodes_of s) (omega (arith, all, length-nodes_of s))))
+      ∙ ap (option_map text_of) so_far

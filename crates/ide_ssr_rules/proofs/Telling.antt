@@ -1,0 +1,26 @@
+-- How an error that tells one reading's refusal tells that of a larger one.
+use Rattle.std.proofs.Common.{◌≡◌, Result, Ok, Err, subst, sym, refl, ap}
+use Rattle.ide_ssr_rules.specs.declared.error.SsrError.{SsrError}
+use Rattle.ide_ssr_rules.specs.declared.error.SsrError.TheVariants as errors
+use Rattle.ide_ssr_rules.specs.Refusals.{Refusal, Tells, TellsOf, ◌>>=◌}
+
+pub tells_memory : {A : Type 0} (reading : Result A Refusal) (error : SsrError) → error ≡ errors.Memory → TellsOf error reading
+tells_memory {A = A} (Ok value) error is = let P : SsrError → Type 0 = λ e. TellsOf {A = A} e (Ok value) in subst P (sym is) tt
+tells_memory {A = A} (Err refusal) error is = let P : SsrError → Type 0 = λ e. TellsOf {A = A} e (Err refusal) in subst P (sym is) tt
+
+pub tells_refusal : {A : Type 0} (reading : Result A Refusal) (error : SsrError) (refusal : Refusal) → reading ≡ Err refusal → Tells error refusal → TellsOf error reading
+tells_refusal {A = A} reading error refusal is tells = let P : Result A Refusal → Type 0 = λ r. TellsOf error r in subst P (sym is) tells
+
+pub tells_first : {A B : Type 0} (first : Result A Refusal) (next : A → Result B Refusal) (error : SsrError) → TellsOf error first → TellsOf error (first >>= next)
+tells_first (Ok value) next errors.Memory tells = tells_memory (next value) errors.Memory refl
+tells_first (Ok value) next (errors.Message message) tells = absurd tells
+tells_first (Err refusal) next error tells = tells
+
+-- an error that tells nothing of what is no refusal is want of memory
+pub tells_ok : {A B : Type 0} (one : A) (reading : Result B Refusal) (error : SsrError) → (let ok : Result A Refusal = Ok one in TellsOf error ok) → TellsOf error reading
+tells_ok one reading errors.Memory tells = tells_memory reading errors.Memory refl
+tells_ok one reading (errors.Message message) tells = absurd tells
+
+-- what holds of the reading that follows an accepted one holds of both together
+pub after_ok : {A B : Type 0} (P : Result B Refusal → Type 0) (first : Result A Refusal) (next : A → Result B Refusal) (value : A) → first ≡ Ok value → P (next value) → P (first >>= next)
+after_ok P first next value is holds = subst P (sym (ap (λ r. r >>= next) is)) holds

@@ -1,0 +1,71 @@
+-- Where placeholders stand in a tree, and which paths resolve.
+use Rattle.std.specs.Prelude.{ℕ, refl, Bool, true, false, ◌&&◌, List, [], ◌∷◌, map, Option, Some, None, Result, Ok, bytes_eq, if◌then◌else◌}
+use Rattle.std.specs.Coded.{Coded, code_by, coded×, coded_list, coded_ℕ}
+use Rattle.std.specs.List.{find, position_from}
+use Rattle.std.specs.Option.{is_none, option_map, option_and_then}
+use Rattle.ssr_syntax_lex.specs.declared.kinds.SyntaxKind.{SyntaxKind}
+use Rattle.ssr_syntax_lex.specs.declared.kinds.SyntaxKind.TheVariants as k
+use Rattle.ssr_syntax_tree.specs.Places.{Node, nodes_of, text_of}
+use Rattle.ssr_syntax_tree.specs.Syntax.{Token, Forest, nothing, leaf, branch, Syntax}
+use Rattle.ssr_syntax_tree.specs.SyntaxCode.{syntax_code}
+use Rattle.ide_ssr_rules.specs.declared.kinds.ParsedRule.{ParsedRule}
+use Rattle.ide_ssr_rules.specs.Elements.{is_ident}
+use Rattle.ide_ssr_rules.specs.Refusals.{Refusal, ◌>>=◌, unless, no_meaning}
+use Rattle.ide_ssr_rules.specs.StandIns.{stand_in_of}
+
+-- one kind of a rule whose paths resolve
+pub record ResolvedKind : Type 0 where
+  pub names : List (List ℕ)
+  pub pattern : Syntax
+  pub template : Syntax
+
+-- the only token of siblings, reached through single children
+abbrev pub only_token : Forest → Option Token
+only_token nothing = None
+only_token (leaf token nothing) = Some token
+only_token (leaf token next) = None
+only_token (branch kind below nothing) = only_token below
+only_token (branch kind below next) = None
+
+-- which name's stand-in a token is
+abbrev pub name_at : List (List ℕ) → Token → Option ℕ
+name_at names token = if is_ident token.kind then position_from (λ name. bytes_eq token.text (stand_in_of name)) 0 names else None
+
+-- which name's stand-in a node is: through single children it is only an identifier that spells it
+unfoldable pub placeholder_at : List (List ℕ) → Node → Option ℕ
+placeholder_at names node = option_and_then (name_at names) (only_token node.children)
+
+-- for each node of a tree
+abbrev pub placeholders : List (List ℕ) → Syntax → List (Option ℕ)
+placeholders names tree = map (placeholder_at names) (nodes_of tree)
+
+abbrev pub is_path : SyntaxKind → Bool
+is_path k.PATH = true
+is_path _ = false
+
+-- nothing resolves: a path has to be a stand-in
+abbrev pub is_unresolved : List (List ℕ) → Node → Bool
+is_unresolved names node = is_path node.kind && is_none (placeholder_at names node)
+
+-- the text of the first path that has to resolve and doesn't
+unfoldable pub unresolved : List (List ℕ) → Syntax → Option (List ℕ)
+unresolved names tree = option_map text_of (find (is_unresolved names) (nodes_of tree))
+
+-- a kind is resolved with its template first
+unfoldable pub resolved_kind : List (List ℕ) → ParsedRule → Result ResolvedKind Refusal
+resolved_kind names kind = do
+  _ ← unless no_meaning (unresolved names kind.template)
+  _ ← unless no_meaning (unresolved names kind.pattern)
+  Ok (record { names = names; pattern = kind.pattern; template = kind.template })
+
+-- kinds are resolved in their order
+abbrev pub resolved_kinds : List (List ℕ) → List ParsedRule → Result (List ResolvedKind) Refusal
+resolved_kinds names [] = Ok []
+resolved_kinds names (kind ∷ kinds) =
+    resolved_kind names kind >>= (λ first. resolved_kinds names kinds >>= (λ rest. Ok (first ∷ rest)))
+
+-- how the logic stores a resolved kind
+abbrev pub resolved_code : Coded ResolvedKind
+resolved_code =
+    code_by (List (List ℕ) × (Syntax × Syntax)) (coded× (coded_list (coded_list coded_ℕ)) (coded× syntax_code syntax_code))
+    (λ kind. (kind.names, (kind.pattern, kind.template))) (λ p. record { names = p.0; pattern = p.1.0; template = p.1.1 }) (λ _. refl)

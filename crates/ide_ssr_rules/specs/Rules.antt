@@ -1,0 +1,83 @@
+-- Rules: the names of their placeholders, and a pattern and a template for each kind that they can be read as.
+use Rattle.std.specs.Prelude.{ℕ, refl, not, List, [], ◌∷◌, ◌++◌, Option, Some, Result, Ok, Err}
+use Rattle.std.specs.List.{filter}
+use Rattle.std.specs.Result.{result_ok}
+use Rattle.std.specs.Coded.{Coded, code_by, coded×, coded_list, coded_ℕ}
+use Rattle.ssr_syntax.specs.declared.fragments.Fragment.TheVariants as fragments
+use Rattle.ssr_syntax.specs.Reading.{fragment_reading}
+use Rattle.ssr_syntax_tree.specs.Syntax.{Syntax}
+use Rattle.ssr_syntax_tree.specs.SyntaxCode.{syntax_code}
+use Rattle.ide_ssr_rules.specs.declared.elements.Element.{Element}
+use Rattle.ide_ssr_rules.specs.declared.kinds.ParsedRule.{ParsedRule}
+use Rattle.ide_ssr_rules.specs.Elements.{has, side, names_of}
+use Rattle.ide_ssr_rules.specs.Refusals.{Refusal, ◌>>=◌, unless, no_token, reserved, no_kind, undefined}
+use Rattle.ide_ssr_rules.specs.Sides.{sides}
+use Rattle.ide_ssr_rules.specs.StandIns.{code_of, changed, spelled_stand_in}
+-- what the crates above cite of rules, from one place
+pub use Rattle.ide_ssr_rules.specs.declared.kinds.ParsedRule.{ParsedRule as Kind}
+pub use Rattle.ide_ssr_rules.specs.StandIns.{stand_in_of}
+pub use Rattle.ide_ssr_rules.specs.Resolving.{ResolvedKind, placeholder_at, unresolved}
+
+pub record Rule : Type 0 where
+  pub names : List (List ℕ)
+  pub kinds : List ParsedRule
+
+-- how the logic stores a rule
+abbrev pub kind_code : Coded ParsedRule
+kind_code = code_by (Syntax × Syntax) (coded× syntax_code syntax_code) (λ kind. (kind.pattern, kind.template)) (λ p. record { pattern = p.0; template = p.1 }) (λ _. refl)
+
+abbrev pub rule_code : Coded Rule
+rule_code =
+    code_by (List (List ℕ) × List ParsedRule) (coded× (coded_list (coded_list coded_ℕ)) (coded_list kind_code))
+    (λ rule. (rule.names, rule.kinds)) (λ p. record { names = p.0; kinds = p.1 }) (λ _. refl)
+
+-- a kind, where both sides are of it
+abbrev pub kind_of : Option Syntax → Option Syntax → List ParsedRule
+kind_of (Some pattern) (Some template) = record { pattern = pattern; template = template } ∷ []
+kind_of _ _ = []
+
+abbrev pub expr_of : List ℕ → Option Syntax
+expr_of text = result_ok (fragment_reading fragments.Expr text)
+
+-- the kinds of a rule, from both sides' texts with stand-ins: expressions alone so far
+unfoldable pub kinds_of : List ℕ → List ℕ → List ParsedRule
+kinds_of pattern template = kind_of (expr_of pattern) (expr_of template)
+
+abbrev pub some_kind : List ParsedRule → Result (List ParsedRule) Refusal
+some_kind [] = Err no_kind
+some_kind (kind ∷ kinds) = Ok (kind ∷ kinds)
+
+-- names that a template uses and the pattern lacks
+abbrev pub lacking : List (List ℕ) → List (List ℕ) → List (List ℕ)
+lacking names used = filter (λ name. not (has names name)) used
+
+abbrev pub none_of : List (List ℕ) → Result (Unit {0}) Refusal
+none_of [] = Ok tt
+none_of (name ∷ names) = Err (undefined (name ∷ names))
+
+abbrev pub check_defined : List (List ℕ) → List (List ℕ) → Result (Unit {0}) Refusal
+check_defined names used = none_of (lacking names used)
+
+-- placeholders and the identifiers beside them are told apart where a side is read with stand-ins
+unfoldable pub check_sides : List Element → List Element → Result (Unit {0}) Refusal
+check_sides pattern template = do
+  _ ← unless no_token (changed pattern)
+  _ ← unless no_token (changed template)
+  _ ← unless reserved (spelled_stand_in (names_of pattern ++ names_of template) pattern)
+  unless reserved (spelled_stand_in (names_of pattern ++ names_of template) template)
+
+-- the rule of two sides
+unfoldable pub rule_of : List Element → List Element → Result Rule Refusal
+rule_of pattern template = do
+  _ ← check_sides pattern template
+  kinds ← some_kind (kinds_of (code_of pattern) (code_of template))
+  _ ← check_defined (names_of pattern) (names_of template)
+  Ok (record { names = names_of pattern; kinds = kinds })
+
+-- the rule that a text says, or its first refusal
+unfoldable pub rule_reading : List ℕ → Result Rule Refusal
+rule_reading text = do
+  texts ← sides text
+  pattern ← side texts.0
+  template ← side texts.1
+  rule_of pattern template

@@ -1,0 +1,64 @@
+-- Stand-ins: what is read in a placeholder's place.
+use Rattle.std.specs.Prelude.{ℕ, Bool, ◌&&◌, List, [], ◌∷◌, ◌++◌, Option, Some, None, bytes_eq, codes, unwrap_or, if◌then◌else◌}
+use Rattle.std.specs.List.{list_any, flat_map}
+use Rattle.std.specs.Option.{option_map_or, option_or}
+use denote.Enum.Bare.{sameb}
+use Rattle.ssr_syntax_lex.specs.declared.kinds.SyntaxKind.{SyntaxKind}
+use Rattle.ssr_syntax_lex.specs.declared.kinds.SyntaxKind.TheVariants as k
+use Rattle.ssr_syntax_lex.specs.contracts.kinds.SyntaxKind.{the_type}
+use Rattle.ssr_syntax_tree.specs.Syntax.{Token}
+use Rattle.ide_ssr_rules.specs.declared.elements.Element.{Element}
+use Rattle.ide_ssr_rules.specs.declared.elements.Element.TheVariants as e
+use Rattle.ide_ssr_rules.specs.Elements.{lexed, is_ident, name_of}
+
+abbrev pub stand_in_of : List ℕ → List ℕ
+stand_in_of name = codes "__placeholder_" ++ name
+
+-- the token that is read for an element
+abbrev pub read_as : Element → Token
+read_as (e.Token token) = token
+read_as (e.Placeholder name) = record { kind = k.IDENT; text = stand_in_of name }
+
+-- a side's text with stand-ins
+abbrev pub code_of : List Element → List ℕ
+code_of elements = flat_map (λ element. (read_as element).text) elements
+
+unfoldable pub same_kind : SyntaxKind → SyntaxKind → Bool
+same_kind one other = sameb the_type one other
+
+abbrev pub same_token : Token → Token → Bool
+same_token one other = same_kind one.kind other.kind && bytes_eq one.text other.text
+
+-- what the first element gives that gives something
+abbrev pub first_of : {X : Type 0} → (Element → Option X) → List Element → Option X
+first_of find [] = None
+first_of find (element ∷ elements) = option_or (find element) (first_of find elements)
+
+-- the first placeholder's name; a side whose tokens change has one
+abbrev pub first_name : List Element → List ℕ
+first_name elements = unwrap_or (first_of name_of elements) []
+
+-- which placeholder isn't a token of its own, where the text with stand-ins has these tokens:
+-- the first at or after the first token that differs
+abbrev pub first_changed : List Element → List Token → Option (List ℕ)
+first_changed [] [] = None
+first_changed [] (token ∷ tokens) = Some []
+first_changed (element ∷ elements) [] = Some (first_name (element ∷ elements))
+first_changed (element ∷ elements) (token ∷ tokens) =
+    if same_token (read_as element) token then first_changed elements tokens else Some (first_name (element ∷ elements))
+
+-- the same of a side: its first placeholder, if the text with stand-ins doesn't lex
+unfoldable pub changed : List Element → Option (List ℕ)
+changed elements = option_map_or (first_changed elements) (lexed (code_of elements)) (Some (first_name elements))
+
+abbrev pub is_stand_in : List (List ℕ) → List ℕ → Bool
+is_stand_in names text = list_any (λ name. bytes_eq text (stand_in_of name)) names
+
+-- an identifier's text, where it is spelled as a stand-in of one of the names
+abbrev pub stand_in_text : List (List ℕ) → Element → Option (List ℕ)
+stand_in_text names (e.Token token) = if is_ident token.kind && is_stand_in names token.text then Some token.text else None
+stand_in_text names (e.Placeholder name) = None
+
+-- the first such identifier of a side
+abbrev pub spelled_stand_in : List (List ℕ) → List Element → Option (List ℕ)
+spelled_stand_in names elements = first_of (stand_in_text names) elements

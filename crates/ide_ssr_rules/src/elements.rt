@@ -1,0 +1,8 @@
+use crate::tokens::{Name, Token};
+
+/// A part of a side.
+#[derive(Drop)]
+pub(crate) enum Element<'a> {
+    Token(Token<'a>),
+    Placeholder(Name<'a>),
+}

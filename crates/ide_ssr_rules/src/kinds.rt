@@ -1,0 +1,8 @@
+use ssr_syntax_tree::Tree;
+
+/// A pattern and a template of one kind.
+#[derive(Drop)]
+pub(crate) struct ParsedRule {
+    pub(crate) pattern: Tree,
+    pub(crate) template: Tree,
+}

@@ -1,0 +1,18 @@
+//! Rules of structural search and replace: rule texts, the kinds of a rule, resolving.
+#![tactic(auto)]
+
+mod elements;
+mod error;
+mod kinds;
+mod placeholders;
+mod resolving;
+mod rules;
+mod sides;
+mod stand_ins;
+mod tokens;
+mod var;
+
+pub use error::SsrError;
+pub use resolving::ResolvedRule;
+pub use rules::SsrRule;
+pub use var::Var;

@@ -1,0 +1,141 @@
+ghost use Rattle.std.specs.Prelude.{◌≡◌, ◌++◌, [], IfOk, OnOk, bytes_eq, string_bytes};
+ghost use Rattle.std.specs.Option.{option_copied};
+ghost use Rattle.ide_ssr_rules.specs.StandIns.{stand_in_of, read_as, code_of, same_token, first_name, first_changed, changed, is_stand_in, stand_in_text, spelled_stand_in};
+
+use crate::elements::Element;
+use crate::tokens::{Name, Token, Unlexed, lexed};
+use ssr_syntax_lex::SyntaxKind;
+use std::alloc::{AllocError, Global};
+
+/// What stands before a placeholder's name in the identifier that is read in its place.
+const PREFIX: &str = "__placeholder_";
+
+/// Whether the text is the stand-in of a name.
+pub(crate) fn is_stand_in_of(text: &str, name: &str) -> bool
+    ensures { result ≡ bytes_eq text.now (stand_in_of name.now) }
+{
+    match text.strip_prefix(PREFIX) {
+        Some(rest) => rest == name,
+        None => false,
+    }
+}
+
+/// Whether the text is the stand-in of one of the names.
+fn is_stand_in(names: &[Name<'_>], text: &str) -> bool
+    ensures { result ≡ is_stand_in names.now text.now }
+{
+    names.iter().any(|name| is_stand_in_of(text, name.text))
+}
+
+impl<'a> Element<'a> {
+    /// Adds the text that is read for the element.
+    fn push_to(&self, code: &mut String) -> Result<(), AllocError>
+        ensures { OnOk result (string_bytes code.new ≡ string_bytes code.old ++ (read_as self.now).text) }
+    {
+        match self {
+            Element::Token(token) => code.push_str(token.text),
+            Element::Placeholder(name) => {
+                code.push_str(PREFIX)?;
+                code.push_str(name.text)
+            }
+        }
+    }
+
+    /// Whether the token is the one that is read for the element.
+    #[tactic(auto, unfolding(crate::specs::StandIns::same_kind))]
+    fn is_read_as(&self, token: &Token<'_>) -> bool
+        ensures { result ≡ same_token (read_as self.now) token.now }
+    {
+        match self {
+            Element::Token(own) => own.kind == token.kind && own.text == token.text,
+            Element::Placeholder(name) => {
+                let kind = SyntaxKind::IDENT;
+                kind == token.kind && is_stand_in_of(token.text, name.text)
+            }
+        }
+    }
+
+    /// The text of an identifier that is spelled as a stand-in of one of the names.
+    fn stand_in_text(&self, names: &[Name<'_>]) -> Option<&'a str>
+        ensures { option_copied result ≡ stand_in_text names.now self.now }
+    {
+        let Element::Token(token) = self else {
+            return None;
+        };
+        if token.is_ident() && is_stand_in(names, token.text) {
+            Some(token.text)
+        } else {
+            None
+        }
+    }
+}
+
+/// A side's text with stand-ins.
+pub(crate) fn code_of(alloc: Global, elements: &[Element<'_>]) -> Result<String, AllocError>
+    ensures { IfOk result (λ code. string_bytes code ≡ code_of elements.now) }
+{
+    let mut code = String::new(alloc);
+    for element in elements {
+        element.push_to(&mut code)?;
+    }
+    Ok(code)
+}
+
+/// The name of the first placeholder; without one, the empty text.
+fn first_name<'a>(elements: &[Element<'a>]) -> &'a str
+    ensures { result.now ≡ first_name elements.now }
+{
+    for element in elements {
+        let Element::Placeholder(name) = element else {
+            continue;
+        };
+        return name.text;
+    }
+    ""
+}
+
+/// The first placeholder at or behind the first element that isn't read as its own token.
+fn first_changed<'a>(elements: &[Element<'a>], tokens: &[Token<'_>]) -> Option<&'a str>
+    ensures { option_copied result ≡ first_changed elements.now tokens.now }
+{
+    for (place, element) in elements.iter().enumerate() {
+        if place >= tokens.len() {
+            return Some(first_name(&elements[place..]));
+        }
+        if !element.is_read_as(&tokens[place]) {
+            return Some(first_name(&elements[place..]));
+        }
+    }
+    if elements.len() < tokens.len() {
+        Some("")
+    } else {
+        None
+    }
+}
+
+/// The name of a placeholder that isn't a token of its own.
+pub(crate) fn changed<'a>(
+    alloc: Global,
+    elements: &[Element<'a>],
+) -> Result<Option<&'a str>, AllocError>
+    ensures { IfOk result (λ name. option_copied name ≡ changed elements.now) }
+{
+    let code = code_of(alloc, elements)?;
+    match lexed(alloc, code.as_str()) {
+        Ok(tokens) => Ok(first_changed(elements, tokens.as_slice())),
+        Err(Unlexed::Fault(_)) => Ok(Some(first_name(elements))),
+        Err(Unlexed::Memory) => Err(AllocError),
+    }
+}
+
+/// The first identifier that is spelled as a stand-in of one of the names.
+pub(crate) fn spelled_stand_in<'a>(names: &[Name<'_>], elements: &[Element<'a>]) -> Option<&'a str>
+    ensures { option_copied result ≡ spelled_stand_in names.now elements.now }
+{
+    for element in elements {
+        if let Some(text) = element.stand_in_text(names) {
+            return Some(text);
+        }
+    }
+    None
+}

@@ -1,0 +1,87 @@
+ghost use Rattle.std.specs.Prelude.{◌≡◌, ◌<◌, ◌^◌, length, IfOk};
+ghost use Rattle.ide_ssr_rules.specs.Elements.{IsLexed};
+
+use ssr_syntax_lex::{LexError, SyntaxKind, lex};
+use std::alloc::Global;
+use std::marker::Model;
+
+/// A token of a side: its kind and its text.
+#[derive(Drop)]
+pub(crate) struct Token<'a> {
+    pub(crate) kind: SyntaxKind,
+    pub(crate) text: &'a str,
+}
+
+impl<'a> Model for Token<'a> {
+    ghost use Rattle.ssr_syntax_tree.specs.Syntax.{Token};
+
+    ghost Value = { Token };
+
+    ghost view = { λ token. record { kind = token.kind; text = token.text.now } };
+}
+
+impl<'a> Token<'a> {
+    ghost use Rattle.ide_ssr_rules.specs.Elements.{is_dollar, is_ident};
+
+    pub(crate) fn is_dollar(&self) -> bool
+        ensures { result ≡ is_dollar self.now.kind }
+    {
+        matches!(self.kind, SyntaxKind::DOLLAR)
+    }
+
+    pub(crate) fn is_ident(&self) -> bool
+        ensures { result ≡ is_ident self.now.kind }
+    {
+        matches!(self.kind, SyntaxKind::IDENT)
+    }
+
+    pub(crate) fn text(&self) -> &'a str
+        ensures { result.now ≡ self.now.text }
+    {
+        self.text
+    }
+}
+
+/// The name of a placeholder, without its `$`.
+#[derive(Drop)]
+pub(crate) struct Name<'a> {
+    pub(crate) text: &'a str,
+}
+
+impl<'a> Model for Name<'a> {
+    ghost use Rattle.std.specs.Prelude.{List, ℕ};
+
+    ghost Value = { List ℕ };
+
+    ghost view = { λ name. name.text.now };
+}
+
+/// Why a text has no tokens.
+#[derive(Drop)]
+pub(crate) enum Unlexed {
+    /// The lexer refuses it; this is never its want of memory.
+    Fault(LexError),
+    Memory,
+}
+
+/// The tokens of a text.
+pub(crate) fn lexed<'a>(alloc: Global, text: &'a str) -> Result<Vec<Token<'a>>, Unlexed>
+    ensures value { IsLexed result text.now }
+    ensures few { IfOk result (λ v. length v.items < 2 ^ 32) }
+{
+    let raw = match lex(alloc, text) {
+        Ok(raw) => raw,
+        Err(LexError::Memory) => return Err(Unlexed::Memory),
+        Err(LexError::TooLong) => return Err(Unlexed::Fault(LexError::TooLong)),
+        Err(LexError::Fault(fault)) => return Err(Unlexed::Fault(LexError::Fault(fault))),
+    };
+    let mut tokens = Vec::new(alloc);
+    for token in raw.as_slice() {
+        let kind = token.kind;
+        let text = &text[token.range.start as usize..token.range.end as usize];
+        if tokens.push(Token { kind, text }).is_err() {
+            return Err(Unlexed::Memory);
+        }
+    }
+    Ok(tokens)
+}
