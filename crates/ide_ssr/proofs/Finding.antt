@@ -1,0 +1,107 @@
+-- All matches of rules in a tree, found node by node.
+use Rattle.std.proofs.Common.{◌≡◌, ℕ, ◌+◌, ◌<◌, Bool, true, false, List, [], ◌∷◌, ◌++◌, length, get_or, drop, drop-cons, add-one, Option, Some, None, refl, sym, ◌∙◌, ap, arith, append_assoc, append-nil, ◌≤◌, nat_lt}
+use Rattle.std.specs.Prelude.{option_map, flat_map}
+use Rattle.ssr_syntax_tree.specs.Syntax.{Syntax, node_count}
+use Rattle.ssr_syntax_tree.specs.Places.{HasNode, Node, node_of, nodes_of, root_of, start_of, end_of}
+use Rattle.ssr_syntax_tree.proofs.RowLaws.{length-nodes_of}
+use Rattle.std.proofs.lemmas.Bool.{cond-true, cond-false}
+use Rattle.std.proofs.lemmas.Bool.Decides.{nat_tests}
+use Rattle.std.proofs.lemmas.List.{drop_all}
+use Rattle.std.proofs.lemmas.Option.{unwrap_or-slice_get}
+use Rattle.ssr_syntax_tree.proofs.Places.{node_of-number}
+use Rattle.ide_ssr_rules.specs.Resolving.{ResolvedKind}
+use Rattle.ide_ssr.specs.declared.bindings.Binding.{Binding}
+use Rattle.ide_ssr.specs.Bindings.{bindings_of, Answers, matched, other}
+use Rattle.ide_ssr.specs.Found.{Found, match_at, matches_at, found_at, found}
+
+node_of-root : (syntax : Syntax) → node_of syntax 0 ≡ root_of syntax
+unfolding node_of
+node_of-root syntax = refl
+
+pub bindings-found : (names : List (List ℕ)) (pattern : Syntax) (c : Node) (old new : List Binding) (b : Bool)
+    → old ≡ [] → Answers (bindings_of names (node_of pattern 0) c) old new b → b ≡ true → Some new ≡ bindings_of names (root_of pattern) c
+bindings-found names pattern c old new b none (matched bs is found new_is) found_is =
+    ap Some (new_is ∙ ap (λ old. old ++ bs) none) ∙ sym found ∙ ap (λ p. bindings_of names p c) (node_of-root pattern)
+bindings-found names pattern c old new b none (other is found) found_is = let e : true ≡ false = sym found_is ∙ is in cc
+
+pub bindings-not_found : (names : List (List ℕ)) (pattern : Syntax) (c : Node) (old new : List Binding) (b : Bool)
+    → Answers (bindings_of names (node_of pattern 0) c) old new b → b ≡ false → None ≡ bindings_of names (root_of pattern) c
+bindings-not_found names pattern c old new b (matched bs is found new_is) not_found = let e : true ≡ false = sym is ∙ not_found in cc
+bindings-not_found names pattern c old new b (other is found) not_found = sym found ∙ ap (λ p. bindings_of names p c) (node_of-root pattern)
+
+abbrev match_of : ℕ → Node → Option (List Binding) → List Found
+match_of n node o = elim o [ Some bs ↦ record { rule = n; node = node.number; bindings = bs } ∷ [] | None ↦ [] ]
+
+match-some : (n : ℕ) (rule : ResolvedKind) (node : Node) (bs : List Binding) → bindings_of rule.names (root_of rule.pattern) node ≡ Some bs
+    → match_at n rule node ≡ record { rule = n; node = node.number; bindings = bs } ∷ []
+match-some n rule node bs is = ap (match_of n node) is
+
+match-none : (n : ℕ) (rule : ResolvedKind) (node : Node) → bindings_of rule.names (root_of rule.pattern) node ≡ None → match_at n rule node ≡ []
+match-none n rule node is = ap (match_of n node) is
+
+split_at : {X : Type 0} (xs : List X) (n : ℕ) (d : X) → n < length xs → drop n xs ≡ get_or xs n d ∷ drop (n + 1) xs
+split_at xs n d lt = rw (add-one, drop-cons xs n d) refl
+
+pub rules-turn : (rules : List ResolvedKind) (n : ℕ) (rule : ResolvedKind) (node : Node) (so_far new total : List Found) → n < length rules → rule ≡ get_or rules n rule
+    → so_far ++ matches_at n (drop n rules) node ≡ total → new ≡ so_far ++ match_at n rule node → new ++ matches_at (n + 1) (drop (n + 1) rules) node ≡ total
+rules-turn rules n rule node so_far new total lt read sum new_is =
+    ap (λ new. new ++ matches_at (n + 1) (drop (n + 1) rules) node) new_is
+    ∙ append_assoc so_far (match_at n rule node) (matches_at (n + 1) (drop (n + 1) rules) node)
+    ∙ ap (λ k. so_far ++ (match_at n rule node ++ matches_at k (drop (n + 1) rules) node)) (let e : n + 1 ≡ 1 + n = omega arith in e)
+    ∙ ap (λ r. so_far ++ (match_at n r node ++ matches_at (1 + n) (drop (n + 1) rules) node)) read
+    ∙ ap (λ rest. so_far ++ matches_at n rest node) (sym (split_at rules n rule lt))
+    ∙ sum
+
+pub added-some : (code : Syntax) (rule : ResolvedKind) (n m : ℕ) (so_far new : List Found) (bs : List Binding) → HasNode code m
+    → Some bs ≡ bindings_of rule.names (root_of rule.pattern) (node_of code m) → new ≡ so_far ++ record { rule = n; node = m; bindings = bs } ∷ []
+    → new ≡ so_far ++ match_at n rule (node_of code m)
+added-some code rule n m so_far new bs has is new_is =
+    new_is
+    ∙ ap (λ m. so_far ++ record { rule = n; node = m; bindings = bs } ∷ []) (sym (node_of-number code m has))
+    ∙ ap (λ ms. so_far ++ ms) (sym (match-some n rule (node_of code m) bs (sym is)))
+
+pub added-none : (code : Syntax) (rule : ResolvedKind) (n m : ℕ) (so_far : List Found)
+    → None ≡ bindings_of rule.names (root_of rule.pattern) (node_of code m) → so_far ≡ so_far ++ match_at n rule (node_of code m)
+added-none code rule n m so_far is = sym (append-nil so_far) ∙ ap (λ ms. so_far ++ ms) (sym (match-none n rule (node_of code m) (sym is)))
+
+less : (a b : ℕ) → a < b → nat_lt a b ≡ true
+less a b lt = grind (arith, nat_tests)
+
+not_less : (a b : ℕ) → b ≤ a → nat_lt a b ≡ false
+not_less a b le = grind (arith, nat_tests)
+
+pub found_at-some : (rules : List ResolvedKind) (code : Syntax) (node : Node) (s e : ℕ) (so_far new : List Found) → s ≡ start_of code node → e ≡ end_of code node → s < e
+    → new ≡ so_far ++ matches_at 0 rules node → new ≡ so_far ++ found_at rules code node
+found_at-some rules code node s e so_far new s_is e_is lt new_is =
+    new_is ∙ ap (λ ms. so_far ++ ms) (sym (cond-true (nat_lt (start_of code node) (end_of code node)) _ _ (less (start_of code node) (end_of code node) (omega arith))))
+
+pub found_at-none : (rules : List ResolvedKind) (code : Syntax) (node : Node) (s e : ℕ) (so_far : List Found) → s ≡ start_of code node → e ≡ end_of code node → e ≤ s
+    → so_far ≡ so_far ++ found_at rules code node
+found_at-none rules code node s e so_far s_is e_is le =
+    sym (append-nil so_far)
+    ∙ ap (λ ms. so_far ++ ms) (sym (cond-false (nat_lt (start_of code node) (end_of code node)) _ _ (not_less (start_of code node) (end_of code node) (omega arith))))
+
+pub nodes-turn : (rules : List ResolvedKind) (code : Syntax) (n : ℕ) (so_far new : List Found) (total : List Found) → HasNode code n
+    → so_far ++ flat_map (found_at rules code) (drop n (nodes_of code)) ≡ total → new ≡ so_far ++ found_at rules code (node_of code n)
+    → new ++ flat_map (found_at rules code) (drop (n + 1) (nodes_of code)) ≡ total
+unfolding node_of
+nodes-turn rules code n so_far new total has sum new_is =
+    ap (λ new. new ++ flat_map (found_at rules code) (drop (n + 1) (nodes_of code))) new_is
+    ∙ append_assoc so_far (found_at rules code (node_of code n)) (flat_map (found_at rules code) (drop (n + 1) (nodes_of code)))
+    ∙ ap (λ node. so_far ++ (found_at rules code node ++ flat_map (found_at rules code) (drop (n + 1) (nodes_of code)))) (unwrap_or-slice_get (nodes_of code) n (root_of code))
+    ∙ ap (λ rest. so_far ++ flat_map (found_at rules code) rest) (sym (split_at (nodes_of code) n (root_of code) (let e = length-nodes_of code in omega arith)))
+    ∙ sum
+
+pub nodes-start : (rules : List ResolvedKind) (code : Syntax) (none_yet : List Found) → none_yet ≡ [] → none_yet ++ flat_map (found_at rules code) (nodes_of code) ≡ found rules code
+unfolding found
+nodes-start rules code none_yet none = rw none refl
+
+pub nodes-end : (rules : List ResolvedKind) (code : Syntax) (n : ℕ) (so_far total : List Found) → 1 + node_count code.children ≤ n
+    → so_far ++ flat_map (found_at rules code) (drop n (nodes_of code)) ≡ total → so_far ≡ total
+nodes-end rules code n so_far total past sum =
+    sym (append-nil so_far)
+    ∙ ap (λ rest. so_far ++ flat_map (found_at rules code) rest) (sym (drop_all n (nodes_of code) (let e = length-nodes_of code in omega arith)))
+    ∙ sum
+
+pub some-items : {V : Type 0} (o : Option V) (v : V) → o ≡ Some v → (items : V → List Binding) (x : Option (List Binding)) → option_map items o ≡ x → Some (items v) ≡ x
+some-items o v is items x e = ap (option_map items) (sym is) ∙ e

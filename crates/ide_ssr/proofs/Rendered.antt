@@ -1,0 +1,93 @@
+-- Laws of what a template gives.
+use Rattle.std.proofs.Common.{◌≡◌, ℕ, ◌+◌, ◌<◌, ◌≤◌, ◌==◌, ◌&&◌, inl, inr, nat_le, if◌then◌else◌, Bool, true, false, List, ◌++◌, length, drop, get_or, is_some, refl, sym, ◌∙◌, ap, subst, arith, append_assoc, bytes_eq}
+use Rattle.std.proofs.lemmas.List.{get_or_default}
+use Rattle.std.proofs.lemmas.List.Folds.{list_any_at, list_any_none}
+use Rattle.std.proofs.lemmas.Option.{unwrap_or-slice_get}
+use Rattle.std.proofs.lemmas.Slice.Eq.{bytes_eq-Decides}
+use Rattle.std.proofs.lemmas.Bool.Decides.{nat_tests}
+use Rattle.std.specs.Bool.{Decides}
+use Rattle.ssr_syntax_tree.specs.Syntax.{Syntax, node_count, tokens_of}
+use Rattle.ssr_syntax_tree.specs.Places.{Node, nodes_of, node_of, token_of, start_of, end_of, IsAbove, HasNode, HasToken}
+use Rattle.ssr_syntax_tree.proofs.Places.{node_of-number}
+use Rattle.ssr_syntax_tree.proofs.Ranges.{start_of-below, end_of-below}
+use Rattle.std.proofs.lemmas.Bool.{cases_lt}
+use Rattle.ssr_syntax_tree.proofs.Siblings.{length-nodes_in}
+use Rattle.ide_ssr.specs.Rendering.{text_for, plain, is_node, wrapped, wrapped_text, placeholder_of}
+use Rattle.ide_ssr.proofs.Tokens.{tokens_from}
+
+-- a token's text is pushed: the rest comes behind it
+pub pushed : (old new text left rest whole : List ℕ) → old ++ left ≡ whole → left ≡ text ++ rest → new ≡ old ++ text → new ++ rest ≡ whole
+pushed old new text left rest whole is so e = rw (e, append_assoc, ← so) is
+
+pub plain_from : (names : List (List ℕ)) (piece : ℕ → List ℕ) (tree : Syntax) (t : ℕ) → HasToken tree t
+    → plain names piece (drop t (tokens_of tree)) ≡ text_for names piece (token_of tree t) ++ plain names piece (drop (t + 1) (tokens_of tree))
+plain_from names piece tree t h = ap (plain names piece) (tokens_from tree t h)
+
+pub wrapped_from : (read : Syntax) (front : ℕ) (names : List (List ℕ)) (piece : ℕ → List ℕ) (at : ℕ) (tree : Syntax) (t : ℕ) → HasToken tree t
+    → wrapped read front names piece at (drop t (tokens_of tree))
+    ≡ wrapped_text read front (is_some (placeholder_of names (token_of tree t))) at (text_for names piece (token_of tree t))
+    ++ wrapped read front names piece (at + length (text_for names piece (token_of tree t))) (drop (t + 1) (tokens_of tree))
+wrapped_from read front names piece at tree t h = ap (wrapped read front names piece at) (tokens_from tree t h)
+
+-- the node of a number, in the list of nodes
+length-nodes_of : (tree : Syntax) → length (nodes_of tree) ≡ 1 + node_count tree.children
+length-nodes_of tree = omega (arith, length-nodes_in 0 1 0 tree.children)
+
+pub node_at : (tree : Syntax) (n : ℕ) (d : Node) → HasNode tree n → get_or (nodes_of tree) n d ≡ node_of tree n
+unfolding node_of
+node_at tree n d h = get_or_default (nodes_of tree) n d _ (omega (arith, length-nodes_of tree)) ∙ sym (unwrap_or-slice_get (nodes_of tree) n _)
+
+-- whether a node has the bytes from one place to another
+abbrev pub has_bytes : Syntax → ℕ → ℕ → ℕ → ℕ → Bool
+has_bytes tree front from to n = front + start_of tree (node_of tree n) == from && front + end_of tree (node_of tree n) == to
+
+pub is_node-found : (tree : Syntax) (front from to n : ℕ) → HasNode tree n → has_bytes tree front from to n ≡ true → is_node tree front from to ≡ true
+unfolding is_node
+is_node-found tree front from to n h e =
+    list_any_at (λ node. front + start_of tree node == from && front + end_of tree node == to) (nodes_of tree) n (node_of tree n)
+    (omega (arith, length-nodes_of tree))
+    (rw (node_at tree n (node_of tree n) h) e)
+
+pub is_node-missing : (tree : Syntax) (front from to : ℕ)
+    → ((n : ℕ) → HasNode tree n → (front + start_of tree (node_of tree n) == from && front + end_of tree (node_of tree n) == to) ≡ false)
+    → is_node tree front from to ≡ false
+unfolding is_node
+is_node-missing tree front from to none =
+    list_any_none (λ node. front + start_of tree node == from && front + end_of tree node == to) (nodes_of tree)
+    (λ k d h. let has : HasNode tree k = omega (arith, length-nodes_of tree) in rw (node_at tree k d has) (none k has))
+
+outside : (s e from to : ℕ) (f : ℕ) (a b : ℕ) → (nat_le (f + s) from && nat_le to (f + e)) ≡ false → s ≤ a → b ≤ e → (f + a == from && f + b == to) ≡ false
+outside s e from to f a b h g k = grind (arith, nat_tests)
+
+looked_at : (look : Bool) (n : ℕ) → 0 < (if look then 0 else n) → look ≡ false
+looked_at true n h = absurd (omega arith)
+looked_at false n h = refl
+
+-- no node up to the next one that is looked at has the bytes
+pub none_up_to : (tree : Syntax) (front from to node passed : ℕ) (look : Bool) → HasNode tree node
+    → look ≡ (nat_le (front + start_of tree (node_of tree node)) from && nat_le to (front + end_of tree (node_of tree node)))
+    → passed ≡ (if look then 0 else node_count (node_of tree node).children) → has_bytes tree front from to node ≡ false
+    → ((n : ℕ) → n < node → has_bytes tree front from to n ≡ false) → (n : ℕ) → n < node + (1 + passed) → has_bytes tree front from to n ≡ false
+none_up_to tree front from to node passed look has l p here before n lt =
+    elim (cases_lt n node) [
+      | inl earlier ↦ before n earlier
+      | inr not_before ↦
+          elim (cases_lt node n) [
+            | inl after ↦
+                let off : look ≡ false = looked_at look (node_count (node_of tree node).children) (subst (λ (k : ℕ). 0 < k) p (omega arith)) in
+                let all : passed ≡ node_count (node_of tree node).children = subst (λ (b : Bool). passed ≡ (if b then 0 else node_count (node_of tree node).children)) off p in
+                let number : (node_of tree node).number ≡ node = node_of-number tree node has in
+                let above : IsAbove (node_of tree node) n = (omega arith, omega arith) in
+                outside (start_of tree (node_of tree node)) (end_of tree (node_of tree node)) from to front (start_of tree (node_of tree n)) (end_of tree (node_of tree n))
+                (sym l ∙ off) (start_of-below tree node n has above) (end_of-below tree node n has above)
+            | inr same ↦ let at : node ≡ n = omega arith in subst (λ (n : ℕ). has_bytes tree front from to n ≡ false) at here
+          ]
+    ]
+
+-- a text that doesn't begin like another one isn't it
+pub no_prefix : (text front name : List ℕ) → ((rest : List ℕ) → text ≡ front ++ rest → ⊥) → false ≡ bytes_eq text (front ++ name)
+no_prefix text front name not_so = cases_of (bytes_eq text (front ++ name)) (bytes_eq-Decides text (front ++ name)) (not_so name)
+  where
+    cases_of : {P : Type 0} (b : Bool) → Decides b P → (P → ⊥) → false ≡ b
+    cases_of false d f = refl
+    cases_of true d f = absurd (f (d.0 refl))

@@ -1,0 +1,10 @@
+use Rattle.std.proofs.Common.{◌+◌}
+use Rattle.std.specs.Option.{option_map_or}
+use Rattle.ide_ssr.specs.Nearest.{IsPast}
+use Rattle.ide_ssr.proofs.kept.KeptMatches.nearest.Given as goal
+
+abbrev pub invariant-loop-candidate : goal.invariant-loop-candidate
+invariant-loop-candidate l = IsPast l.tree l.self.matches.items l.m l.candidate
+
+abbrev pub decreases-loop-candidate : goal.decreases-loop-candidate
+decreases-loop-candidate l = option_map_or (λ p. 1 + p) l.candidate 0

@@ -1,0 +1,12 @@
+use Rattle.std.proofs.Common.{◌≡◌, ◌++◌, ◌+◌, length, drop, map, string_bytes}
+use Rattle.ssr_syntax_tree.specs.Syntax.{tokens_of}
+use Rattle.ide_ssr.specs.Rendering.{piece_of, plain, wrapped}
+use Rattle.ide_ssr.proofs.rendering.wrapped.Given as goal
+
+abbrev pub invariant-loop-token : goal.invariant-loop-token
+invariant-loop-token l = record {
+  spelled : string_bytes l.wrapped ++ wrapped l.tree l.front l.rule.names (piece_of l.bindings (map string_bytes l.pieces)) l.at (drop l.token (tokens_of l.rule.template))
+      ≡ wrapped l.tree l.front l.rule.names (piece_of l.bindings (map string_bytes l.pieces)) 0 (tokens_of l.rule.template);
+  within : l.at + length (plain l.rule.names (piece_of l.bindings (map string_bytes l.pieces)) (drop l.token (tokens_of l.rule.template)))
+      ≡ length (plain l.rule.names (piece_of l.bindings (map string_bytes l.pieces)) (tokens_of l.rule.template));
+}

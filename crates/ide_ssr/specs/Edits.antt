@@ -1,0 +1,81 @@
+-- The edit of a file: what stands for each outermost kept match.
+use Rattle.std.specs.Prelude.{ℕ, ◌+◌, length, List, [], ◌∷◌, Option, Some, None, is_none, filter, map, slice_get}
+use Rattle.ssr_syntax_tree.specs.Syntax.{Syntax, tokens_of, source_of}
+use Rattle.ssr_syntax_tree.specs.Places.{node_of, start_of, end_of}
+use Rattle.ssr_base.specs.declared.ids.FileId.{FileId}
+use Rattle.ssr_base.specs.Changes.{Change, replaced}
+use Rattle.ide_ssr_rules.specs.Resolving.{ResolvedKind}
+use Rattle.ide_ssr.specs.declared.bindings.Binding.{Binding}
+use Rattle.ide_ssr.specs.declared.holders.Holder.{Holder}
+use Rattle.ide_ssr.specs.Found.{Found, found}
+use Rattle.ide_ssr.specs.Kept.{kept}
+use Rattle.ide_ssr.specs.Lists.{holder_of, is_holder}
+use Rattle.ide_ssr.specs.Rendering.{piece_of, rendered}
+
+-- a kept match with its replacement: what holds it, and the change of the source
+pub record Rewrite : Type 0 where
+  pub holder : Option Holder
+  pub change : Change
+
+-- the changes that are listed under a holder
+abbrev pub held_changes : Holder → List Rewrite → List Change
+held_changes holder rewrites = map (λ r. r.change) (filter (λ r. is_holder holder r.holder) rewrites)
+
+-- a node's bytes with changes made
+abbrev pub node_replaced : Syntax → ℕ → List Change → List ℕ
+node_replaced code n changes = replaced (source_of code) (start_of code (node_of code n)) (end_of code (node_of code n)) changes
+
+-- What the bindings hold, rewritten, from the binding of the place i on. The match has the place n, and
+-- `later` are those behind it.
+abbrev pub pieces : Syntax → List Rewrite → ℕ → ℕ → List Binding → List (List ℕ)
+pieces code later n i [] = []
+pieces code later n i (binding ∷ bindings) =
+    node_replaced code binding.node.0 (held_changes (record { place = n; binding = i }) later)
+    ∷ pieces code later n (1 + i) bindings
+
+-- the text for a match of the rule with these bindings and their pieces
+abbrev pub text_by : Option ResolvedKind → List Binding → List (List ℕ) → List ℕ
+text_by (Some rule) bindings pieces = rendered rule.names (piece_of bindings pieces) (tokens_of rule.template)
+text_by None bindings pieces = []
+
+-- the replacement of the match m of the place n
+abbrev pub replacement : Syntax → List ResolvedKind → List Rewrite → ℕ → Found → List ℕ
+replacement code rules later n m = text_by (slice_get rules m.rule) m.bindings (pieces code later n 0 m.bindings)
+
+-- likewise with what holds it, among the kept matches ks
+abbrev pub rewrite_of : Syntax → List ResolvedKind → List Found → List Rewrite → ℕ → Found → Rewrite
+rewrite_of code rules ks later n m = record {
+  holder = holder_of code ks m;
+  change = record {
+    start = start_of code (node_of code m.node);
+    end = end_of code (node_of code m.node);
+    text = replacement code rules later n m;
+  };
+}
+
+-- The matches ms with their replacements, where ks are all kept matches and the first of ms has the place n
+-- among them. A match holds none but later ones.
+abbrev pub rewrites : Syntax → List ResolvedKind → List Found → ℕ → List Found → List Rewrite
+rewrites code rules ks n [] = []
+rewrites code rules ks n (m ∷ ms) =
+    let later = rewrites code rules ks (1 + n) ms in rewrite_of code rules ks later n m ∷ later
+
+-- the changes of the outermost matches, in order
+abbrev pub outermost_changes : List Rewrite → List Change
+outermost_changes rewrites = map (λ r. r.change) (filter (λ r. is_none r.holder) rewrites)
+
+-- the edit of a file, from all its kept matches
+abbrev pub edit_from : Syntax → List ResolvedKind → List Found → List Change
+edit_from code rules ks = outermost_changes (rewrites code rules ks 0 ks)
+
+unfoldable pub edit_of : Syntax → List ResolvedKind → List Change
+edit_of code rules = edit_from code rules (kept code (found rules code))
+
+-- the file with the edit made
+abbrev pub rewritten_file : Syntax → List ResolvedKind → List ℕ
+rewritten_file code rules = replaced (source_of code) 0 (length (source_of code)) (edit_of code rules)
+
+-- the edits by files: the first file has one, unless nothing changes
+abbrev pub file_edits : List Change → List (FileId × List Change)
+file_edits [] = []
+file_edits (c ∷ cs) = (record { 0 = 0 }, c ∷ cs) ∷ []

@@ -1,0 +1,15 @@
+pub mod Matching
+pub mod Bindings
+pub mod Found
+pub mod Kept
+pub mod Lists
+pub mod Order
+pub mod Rendering
+pub mod Edits
+pub mod Finder
+pub mod Pending
+pub mod Nearest
+pub mod Elements
+pub mod Adding
+pub mod Matches
+pub mod Nesting

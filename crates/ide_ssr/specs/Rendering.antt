@@ -1,0 +1,60 @@
+-- The text that a rule's template gives for a match.
+use Rattle.std.specs.Prelude.{ℕ, ◌+◌, ◌==◌, ◌&&◌, not, Bool, true, false, if◌then◌else◌, codes, bytes_eq, is_some, position, slice_index_or, length, List, [], ◌∷◌, ◌++◌, flat_map, Option, Some, None, Result, Ok, Err}
+use Rattle.std.specs.List.{list_any, position_or_len}
+use Rattle.ssr_syntax_lex.specs.declared.kinds.SyntaxKind.{SyntaxKind}
+use Rattle.ssr_syntax_lex.specs.declared.kinds.SyntaxKind.TheVariants as k
+use Rattle.ssr_syntax_tree.specs.Syntax.{Token, Syntax}
+use Rattle.ssr_syntax_tree.specs.Places.{nodes_of, start_of, end_of}
+use Rattle.ssr_syntax.specs.declared.fragments.Fragment.TheVariants as fragments
+use Rattle.ssr_syntax.specs.declared.syntax_error.SyntaxError.{SyntaxError}
+use Rattle.ssr_syntax.specs.Reading.{fragment_reading, trimmed_front}
+use Rattle.ide_ssr_rules.specs.StandIns.{stand_in_of}
+use Rattle.ide_ssr.specs.declared.bindings.Binding.{Binding}
+
+abbrev pub is_ident : SyntaxKind → Bool
+is_ident k.IDENT = true
+is_ident _ = false
+
+-- the place, among a rule's names, of the name whose stand-in a token is
+unfoldable pub placeholder_of : List (List ℕ) → Token → Option ℕ
+placeholder_of names token =
+    if is_ident token.kind then position (λ name. bytes_eq token.text (stand_in_of name)) names else None
+
+-- the piece of the placeholder whose name has the place i, where the bindings have these pieces
+unfoldable pub piece_of : List Binding → List (List ℕ) → ℕ → List ℕ
+piece_of bindings pieces i = slice_index_or pieces (position_or_len (λ binding. binding.placeholder == i) bindings) []
+
+-- what stands for a token of the template: the piece of its placeholder, or its own text; `piece` are the pieces
+abbrev pub text_for : List (List ℕ) → (ℕ → List ℕ) → Token → List ℕ
+text_for names piece token = elim (placeholder_of names token) [ Some i ↦ piece i | None ↦ token.text ]
+
+-- the template with its pieces
+abbrev pub plain : List (List ℕ) → (ℕ → List ℕ) → List Token → List ℕ
+plain names piece tokens = flat_map (text_for names piece) tokens
+
+-- whether a node has exactly the bytes from one place to another of a text, of which the tree was read
+-- without the first `front` bytes
+unfoldable pub is_node : Syntax → ℕ → ℕ → ℕ → Bool
+is_node tree front from to =
+    list_any (λ node. front + start_of tree node == from && front + end_of tree node == to) (nodes_of tree)
+
+-- the text for a token at a place of the template with its pieces: a piece that is no node stands in parentheses
+abbrev pub wrapped_text : Syntax → ℕ → Bool → ℕ → List ℕ → List ℕ
+wrapped_text tree front is_piece at text =
+    if is_piece && not (is_node tree front at (at + length text)) then codes "(" ++ (text ++ codes ")") else text
+
+-- the rest of the template from that place on
+abbrev pub wrapped : Syntax → ℕ → List (List ℕ) → (ℕ → List ℕ) → ℕ → List Token → List ℕ
+wrapped tree front names piece at [] = []
+wrapped tree front names piece at (token ∷ tokens) =
+    let text = text_for names piece token in
+    wrapped_text tree front (is_some (placeholder_of names token)) at text
+    ++ wrapped tree front names piece (at + length text) tokens
+
+-- with parentheses if the text without them reads as an expression
+abbrev pub rendered_as : Result Syntax SyntaxError → List (List ℕ) → (ℕ → List ℕ) → List Token → List ℕ
+rendered_as (Ok tree) names piece tokens = wrapped tree (trimmed_front (plain names piece tokens)) names piece 0 tokens
+rendered_as (Err error) names piece tokens = plain names piece tokens
+
+abbrev pub rendered : List (List ℕ) → (ℕ → List ℕ) → List Token → List ℕ
+rendered names piece tokens = rendered_as (fragment_reading fragments.Expr (plain names piece tokens)) names piece tokens

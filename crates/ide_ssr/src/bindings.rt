@@ -1,0 +1,9 @@
+use ssr_syntax_tree::NodeNo;
+
+/// What a placeholder of a rule's pattern holds: the place of its name in the rule's list of names, and the
+/// node of the code.
+#[derive(Clone, Copy, PartialEq, Eq)]
+pub(crate) struct Binding {
+    pub(crate) placeholder: u32,
+    pub(crate) node: NodeNo,
+}

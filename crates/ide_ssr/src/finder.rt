@@ -1,0 +1,137 @@
+ghost use Rattle.std.specs.Prelude.{◌≡◌, All, IfErr, IfOk, OnErr, []};
+ghost use Rattle.ssr_syntax_tree.specs.Syntax.{source_of};
+ghost use Rattle.ssr_base.specs.Changes.{Fits};
+ghost use Rattle.ide_ssr_rules.specs.Resolving.{resolved_kinds};
+ghost use Rattle.ide_ssr.specs.Adding.{Adds};
+ghost use Rattle.ide_ssr.specs.Edits.{edit_of, file_edits};
+ghost use Rattle.ide_ssr.specs.Found.{found as found_of};
+ghost use Rattle.ide_ssr.specs.Kept.{kept as kept_of};
+ghost use Rattle.ide_ssr.specs.Lists.{outermost};
+ghost use Rattle.ide_ssr.specs.Nesting.{Show};
+
+use crate::edits::{EditError, edits};
+use crate::kept::kept;
+use crate::matches::SsrMatches;
+use crate::nesting::nested_matches;
+use crate::search::found;
+use ide_ssr_rules::{ResolvedRule, SsrError, SsrRule};
+use ssr_base::{FileId, TextEdit};
+use ssr_syntax_tree::Tree;
+use std::alloc::{AllocError, Global};
+use std::collections::BTreeMap;
+use std::marker::Model;
+
+/// Finds what matches rules in a file, and rewrites it.
+#[derive(Drop)]
+pub struct MatchFinder<'a> {
+    alloc: Global,
+    tree: &'a Tree,
+    rules: Vec<ResolvedRule>,
+}
+
+impl<'a> Model for MatchFinder<'a> {
+    ghost use Rattle.ide_ssr.specs.Finder.{Finder, finder_code};
+
+    ghost Value = { Finder };
+
+    ghost coded = { finder_code };
+
+    ghost view = { λ finder. record { code = finder.tree.now; rules = finder.rules.items } };
+}
+
+impl<'a> MatchFinder<'a> {
+    /// A finder in the first file, without rules.
+    pub fn at_first_file(alloc: Global, tree: &'a Tree) -> MatchFinder<'a>
+        ensures { result ≡ record { code = tree.now; rules = [] } }
+    {
+        MatchFinder {
+            alloc,
+            tree,
+            rules: Vec::new(alloc),
+        }
+    }
+
+    /// Adds all kinds of a rule, in their order. A refused rule, or one that there is no memory for, leaves the
+    /// finder as it was.
+    pub fn add_rule(&mut self, rule: SsrRule) -> Result<(), SsrError>
+        ensures answer { Adds self.old self.new (resolved_kinds rule.names rule.kinds) result }
+        ensures unchanged { OnErr result (self.new ≡ self.old) }
+    {
+        let mut kinds = rule.resolve(self.alloc)?;
+        self.rules.append(&mut kinds)?;
+        Ok(())
+    }
+
+    /// The edits of the files by their numbers: the file 0 has one if something matches. Each outermost match
+    /// becomes its rule's template with what its placeholders hold, in which the matches are rewritten likewise.
+    pub fn edits(&self) -> Result<BTreeMap<FileId, TextEdit>, EditError>
+        ensures edits { IfOk result (λ m. m.entries ≡ file_edits (edit_of self.now.code self.now.rules)) }
+        ensures fits { IfOk result (λ _. All (Fits (source_of self.now.code)) (edit_of self.now.code self.now.rules)) }
+        ensures memory { IfErr result (λ e. e ≡ EditError.Memory) }
+    {
+        match self.first_file_edits() {
+            Ok(edits) => Ok(edits),
+            Err(_) => Err(EditError::Memory),
+        }
+    }
+
+    /// The kept matches as `edits` replaces them: the outermost ones, each with what its placeholders hold. Every
+    /// node of the file is tried.
+    pub fn matches(&self) -> Result<SsrMatches<'a>, AllocError>
+        ensures { IfOk result (λ found. let ks = kept_of self.now.code (found_of self.now.rules self.now.code) in Show self.now.code self.now.rules ks (outermost self.now.code ks) found.matches.items) }
+    {
+        self.scan_matches()
+    }
+
+    /// The same list, always found by trying every node.
+    pub fn scan_matches(&self) -> Result<SsrMatches<'a>, AllocError>
+        ensures { IfOk result (λ found. let ks = kept_of self.now.code (found_of self.now.rules self.now.code) in Show self.now.code self.now.rules ks (outermost self.now.code ks) found.matches.items) }
+    {
+        let found = found(self.alloc, &self.rules, self.tree)?;
+        let kept = kept(self.alloc, self.tree, found)?;
+        let matches = nested_matches(self.alloc, self.tree, &self.rules, &kept, 0, None)?;
+        Ok(SsrMatches { matches })
+    }
+
+    fn first_file_edits(&self) -> Result<BTreeMap<FileId, TextEdit>, AllocError>
+        ensures edits { IfOk result (λ m. m.entries ≡ file_edits (edit_of self.now.code self.now.rules)) }
+        ensures fits { IfOk result (λ _. All (Fits (source_of self.now.code)) (edit_of self.now.code self.now.rules)) }
+    {
+        let found = found(self.alloc, &self.rules, self.tree)?;
+        let kept = kept(self.alloc, self.tree, found)?;
+        edits(self.alloc, self.tree, &self.rules, &kept)
+    }
+}
+
+#[cfg(test)]
+mod tests {
+    use super::*;
+    use ssr_syntax::parse_file;
+    use std::test::Fail;
+
+    #[test]
+    fn swaps_nested_sums(rt: HostRuntime) -> Result<(), Fail> {
+        let alloc = rt.alloc();
+        let tree = parse_file(alloc, "fn f() {1 + 2 + 3}")?;
+        let mut finder = MatchFinder::at_first_file(alloc, &tree);
+        finder.add_rule(SsrRule::parse(alloc, "$a + $b ==>> $b + $a")?)?;
+        let found = finder.matches()?;
+        assert_eq!(rt; found.matches.len(), 1);
+        let sum = &found.matches[0];
+        assert_eq!(rt; sum.matched_text(alloc)?.as_str(), "1 + 2 + 3");
+        let placeholders = sum.placeholders();
+        assert_eq!(rt; placeholders.len(), 2);
+        let inner = placeholders[0].inner();
+        assert_eq!(rt; inner.len(), 1);
+        assert_eq!(rt; inner[0].matched_str(), "1 + 2");
+        assert_eq!(rt; placeholders[1].inner().len(), 0);
+        assert_eq!(rt; finder.scan_matches()?.matches.len(), 1);
+        let edits = finder.edits()?;
+        let edit = edits.get(&FileId(0)).ok_or("no edit")?;
+        assert_eq!(rt;
+            edit.apply(alloc, tree.source())?.as_str(),
+            "fn f() {3 + (2 + 1)}"
+        );
+        Ok(())
+    }
+}

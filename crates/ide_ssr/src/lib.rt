@@ -1,0 +1,20 @@
+//! Structural search and replace.
+#![tactic(auto)]
+
+mod bindings;
+mod children;
+mod edits;
+mod finder;
+mod found;
+mod holders;
+mod kept;
+pub mod laws;
+mod matches;
+mod matching;
+mod nesting;
+mod rendering;
+mod search;
+
+pub use edits::EditError;
+pub use finder::MatchFinder;
+pub use matches::{Match, PlaceholderMatch, SsrMatches};

@@ -1,0 +1,85 @@
+ghost use Rattle.std.specs.Prelude.{◌≡◌, ◌&&◌, IfOk};
+ghost use Rattle.std.specs.Str.{bytes_eq};
+ghost use Rattle.ssr_syntax_tree.specs.Places.{HasNode, HasToken, HasElement, node_of, token_of, part_of};
+ghost use Rattle.ide_ssr.specs.Matching.{is_kind};
+ghost use Rattle.ide_ssr.specs.Bindings.{bindings_of, pair_by, Answers};
+
+use crate::bindings::Binding;
+use crate::children::{bare_children, is_kind};
+use ide_ssr_rules::ResolvedRule;
+use ssr_syntax_tree::{Element, NodeNo, TokenNo, Tree};
+use std::alloc::{AllocError, Global};
+
+/// Whether the node `c` of the code matches the node `p` of the rule's pattern; if so, `out` gets what the
+/// placeholders bind.
+#[cycle(matching)]
+pub(crate) fn node_matches(
+    alloc: Global,
+    rule: &ResolvedRule,
+    code: &Tree,
+    p: NodeNo,
+    c: NodeNo,
+    out: &mut Vec<Binding>,
+) -> Result<bool, AllocError>
+    requires p_in { HasNode rule.now.pattern p.0 }
+    requires c_in { HasNode code.now c.0 }
+    ensures { IfOk result (λ answer. Answers (bindings_of rule.now.names (node_of rule.now.pattern p.0) (node_of code.now c.0)) out.old.items out.new.items answer) }
+{
+    if let Some(placeholder) = rule.placeholder(p) {
+        out.push(Binding {
+            placeholder,
+            node: c,
+        })?;
+        return Ok(true);
+    }
+    let pattern = rule.pattern();
+    if !is_kind(pattern.kind(p), code.kind(c)) {
+        return Ok(false);
+    }
+    let pattern_children = bare_children(alloc, pattern, p)?;
+    let code_children = bare_children(alloc, code, c)?;
+    let mut ps: &[Element] = &pattern_children;
+    let mut cs: &[Element] = &code_children;
+    while let Some((first, ps_behind)) = ps.split_first() {
+        let Some((other, cs_behind)) = cs.split_first() else {
+            return Ok(false);
+        };
+        if !pair_matches(alloc, rule, code, *first, *other, out)? {
+            return Ok(false);
+        }
+        ps = ps_behind;
+        cs = cs_behind;
+    }
+    Ok(cs.is_empty())
+}
+
+/// The same for a child of a node of the pattern and one of the code.
+#[cycle(matching)]
+fn pair_matches(
+    alloc: Global,
+    rule: &ResolvedRule,
+    code: &Tree,
+    p: Element,
+    c: Element,
+    out: &mut Vec<Binding>,
+) -> Result<bool, AllocError>
+    requires p_in { HasElement rule.now.pattern p }
+    requires c_in { HasElement code.now c }
+    ensures { IfOk result (λ answer. Answers (pair_by rule.now.names (part_of rule.now.pattern p) (part_of code.now c)) out.old.items out.new.items answer) }
+{
+    match (p, c) {
+        (Element::Node(p), Element::Node(c)) => node_matches(alloc, rule, code, p, c, out),
+        (Element::Token(p), Element::Token(c)) => Ok(tokens_match(rule.pattern(), p, code, c)),
+        _ => Ok(false),
+    }
+}
+
+/// Whether two tokens have one kind and one text.
+fn tokens_match(pattern: &Tree, p: TokenNo, code: &Tree, c: TokenNo) -> bool
+    requires p_in { HasToken pattern.now p.0 }
+    requires c_in { HasToken code.now c.0 }
+    ensures { result ≡ (is_kind (token_of pattern.now p.0).kind (token_of code.now c.0).kind && bytes_eq (token_of pattern.now p.0).text (token_of code.now c.0).text) }
+{
+    is_kind(pattern.token_kind(p), code.token_kind(c))
+        && pattern.token_text(p) == code.token_text(c)
+}

@@ -1,0 +1,213 @@
+ghost use Rattle.std.specs.Prelude.{◌≡◌, ◌+◌, ◌++◌, ◌^◌, ◌<◌, ◌≤◌, ◌==◌, ◌&&◌, ℕ, if◌then◌else◌, nat_le, IfOk, length, map, position, bytes_eq, string_bytes};
+ghost use Rattle.std.specs.List.{position_or_len};
+ghost use Rattle.ide_ssr_rules.specs.StandIns.{stand_in_of};
+ghost use Rattle.ssr_syntax_tree.specs.Syntax.{node_count, tokens_of};
+ghost use Rattle.ssr_syntax_tree.specs.Places.{HasNode, HasToken, node_of, token_of};
+ghost use Rattle.ide_ssr.specs.Rendering.{is_ident, placeholder_of, piece_of, text_for, plain, is_node, wrapped_text, wrapped, rendered};
+
+use crate::bindings::Binding;
+use ide_ssr_rules::ResolvedRule;
+use ssr_syntax::{Fragment, SyntaxError, fragment};
+use ssr_syntax_lex::{SyntaxKind, TextRange};
+use ssr_syntax_tree::{NodeNo, TokenNo, Tree};
+use std::alloc::{AllocError, Global};
+
+/// What a stand-in's text begins with.
+const STAND_IN: &str = "__placeholder_";
+
+/// The text that the rule's template gives for a match with these bindings, each of which has its piece.
+pub(crate) fn rendered(
+    alloc: Global,
+    rule: &ResolvedRule,
+    bindings: &[Binding],
+    pieces: &[String],
+) -> Result<String, AllocError>
+    ensures { IfOk result (λ text. string_bytes text ≡ rendered rule.now.names (piece_of bindings.now (map string_bytes pieces.now)) (tokens_of rule.now.template)) }
+{
+    let plain = plain(alloc, rule, bindings, pieces)?;
+    match fragment(alloc, Fragment::Expr, plain.as_str()) {
+        Ok((tree, front)) => wrapped(alloc, rule, bindings, pieces, &tree, front),
+        Err(SyntaxError::Memory) => Err(AllocError),
+        Err(_) => Ok(plain),
+    }
+}
+
+/// The place, among the rule's names, of the name whose stand-in the token of the template is.
+fn placeholder(rule: &ResolvedRule, token: TokenNo) -> Option<usize>
+    requires { HasToken rule.now.template token.0 }
+    ensures { result ≡ placeholder_of rule.now.names (token_of rule.now.template token.0) }
+{
+    let template = rule.template();
+    if is_ident(template.token_kind(token)) {
+        place_of_name(rule.names(), template.token_text(token))
+    } else {
+        None
+    }
+}
+
+fn is_ident(kind: SyntaxKind) -> bool
+    ensures { result ≡ is_ident kind }
+{
+    matches!(kind, SyntaxKind::IDENT)
+}
+
+/// The place of the name whose stand-in the text is.
+fn place_of_name(names: &[String], text: &str) -> Option<usize>
+    ensures { result ≡ position (λ name. bytes_eq text.now (stand_in_of name)) (map string_bytes names.now) }
+{
+    for (place, name) in names.iter().enumerate() {
+        if is_stand_in(text, name.as_str()) {
+            return Some(place);
+        }
+    }
+    None
+}
+
+fn is_stand_in(text: &str, name: &str) -> bool
+    ensures { result ≡ bytes_eq text.now (stand_in_of name.now) }
+{
+    match text.strip_prefix(STAND_IN) {
+        Some(rest) => rest == name,
+        None => false,
+    }
+}
+
+/// The place of the placeholder's binding, or the count of bindings.
+fn place_of_binding(bindings: &[Binding], placeholder: usize) -> usize
+    ensures { result ≡ position_or_len (λ binding. binding.placeholder == placeholder) bindings.now }
+{
+    for (place, binding) in bindings.iter().enumerate() {
+        if binding.placeholder as usize == placeholder {
+            return place;
+        }
+    }
+    bindings.len()
+}
+
+/// The piece of the placeholder whose name has this place.
+fn piece<'a>(bindings: &[Binding], pieces: &'a [String], placeholder: usize) -> &'a str
+    ensures { result.now ≡ piece_of bindings.now (map string_bytes pieces.now) placeholder }
+{
+    match pieces.get(place_of_binding(bindings, placeholder)) {
+        Some(piece) => piece.as_str(),
+        None => "",
+    }
+}
+
+/// What stands for the token of the template.
+fn text_for<'a>(
+    rule: &'a ResolvedRule,
+    bindings: &[Binding],
+    pieces: &'a [String],
+    token: TokenNo,
+) -> &'a str
+    requires { HasToken rule.now.template token.0 }
+    ensures { result.now ≡ text_for rule.now.names (piece_of bindings.now (map string_bytes pieces.now)) (token_of rule.now.template token.0) }
+{
+    match placeholder(rule, token) {
+        Some(place) => piece(bindings, pieces, place),
+        None => rule.template().token_text(token),
+    }
+}
+
+/// The template with its pieces.
+fn plain(
+    alloc: Global,
+    rule: &ResolvedRule,
+    bindings: &[Binding],
+    pieces: &[String],
+) -> Result<String, AllocError>
+    ensures { IfOk result (λ text. string_bytes text ≡ plain rule.now.names (piece_of bindings.now (map string_bytes pieces.now)) (tokens_of rule.now.template)) }
+{
+    let mut text = String::new(alloc);
+    for token in 0..rule.template().token_count() {
+        text.push_str(text_for(rule, bindings, pieces, TokenNo(token)))?;
+    }
+    Ok(text)
+}
+
+/// The template with its pieces, of which `tree` was read without the first `front` bytes: a piece that is no
+/// node of it stands in parentheses.
+fn wrapped(
+    alloc: Global,
+    rule: &ResolvedRule,
+    bindings: &[Binding],
+    pieces: &[String],
+    tree: &Tree,
+    front: u32,
+) -> Result<String, AllocError>
+    requires { length (plain rule.now.names (piece_of bindings.now (map string_bytes pieces.now)) (tokens_of rule.now.template)) < 2 ^ 64 }
+    ensures { IfOk result (λ text. string_bytes text ≡ wrapped tree.now front rule.now.names (piece_of bindings.now (map string_bytes pieces.now)) 0 (tokens_of rule.now.template)) }
+{
+    let mut wrapped = String::new(alloc);
+    let mut at = 0;
+    for token in 0..rule.template().token_count() {
+        let text = text_for(rule, bindings, pieces, TokenNo(token));
+        let is_piece = placeholder(rule, TokenNo(token)).is_some();
+        push_wrapped(&mut wrapped, tree, front, is_piece, at, text)?;
+        at += text.len();
+    }
+    Ok(wrapped)
+}
+
+/// Pushes the text of a token at a place of the template with its pieces, in parentheses if it is a piece and
+/// no node.
+fn push_wrapped(
+    out: &mut String,
+    tree: &Tree,
+    front: u32,
+    is_piece: bool,
+    at: usize,
+    text: &str,
+) -> Result<(), AllocError>
+    requires { at + length text.now < 2 ^ 64 }
+    ensures { IfOk result (λ _. string_bytes out.new ≡ string_bytes out.old ++ wrapped_text tree.now front is_piece at text.now) }
+{
+    if is_piece && !is_node(tree, front, at, at + text.len()) {
+        out.push_str("(")?;
+        out.push_str(text)?;
+        out.push_str(")")
+    } else {
+        out.push_str(text)
+    }
+}
+
+/// Whether a node has exactly the bytes from one place to another of a text, of which the tree was read
+/// without the first `front` bytes.
+fn is_node(tree: &Tree, front: u32, from: usize, to: usize) -> bool
+    ensures { result ≡ is_node tree.now front from to }
+{
+    let mut node = 0;
+    while node < tree.node_count() {
+        let range = tree.range(NodeNo(node));
+        if is_range(front, range, from, to) {
+            return true;
+        }
+        // What doesn't lie in a node is no node below it.
+        node += 1 + below_unless(tree, NodeNo(node), holds_range(front, range, from, to));
+    }
+    false
+}
+
+/// Whether the range, `front` bytes further on, is that from one place to another.
+fn is_range(front: u32, range: TextRange, from: usize, to: usize) -> bool
+    ensures { result ≡ (front + range.start == from && front + range.end == to) }
+{
+    front as usize + range.start as usize == from && front as usize + range.end as usize == to
+}
+
+/// Whether the range, `front` bytes further on, holds that from one place to another.
+fn holds_range(front: u32, range: TextRange, from: usize, to: usize) -> bool
+    ensures { result ≡ (nat_le (front + range.start) from && nat_le to (front + range.end)) }
+{
+    front as usize + range.start as usize <= from && to <= front as usize + range.end as usize
+}
+
+/// How many nodes are below the node; none if they are to be looked at.
+fn below_unless(tree: &Tree, node: NodeNo, look: bool) -> u32
+    requires { HasNode tree.now node.0 }
+    ensures count { result ≡ (if look then 0 else node_count (node_of tree.now node.0).children) }
+    ensures within { node.0 + result ≤ node_count tree.now.children }
+{
+    if look { 0 } else { tree.below(node) }
+}
