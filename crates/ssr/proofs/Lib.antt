@@ -1,0 +1,7 @@
+pub mod Sending
+pub mod Answering
+pub mod RulesRead
+pub mod Outputs
+pub mod Telling
+pub mod Rewritings
+pub mod FirstEdit

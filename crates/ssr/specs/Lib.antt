@@ -1,0 +1,5 @@
+pub mod Streams
+pub mod Noted
+pub mod Output
+pub mod Rewriting
+pub mod Running

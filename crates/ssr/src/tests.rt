@@ -1,0 +1,401 @@
+//! The program as a whole, over memory.
+
+use crate::counted::{Counted, CountedSink};
+use crate::program::run;
+use std::io;
+use std::io::{Error, ErrorKind, Read, Write};
+use std::test::Fail;
+
+const SWAP: &str = "$a + $b ==>> $b + $a";
+
+const NO_LIMIT: usize = 1_000_000_000;
+
+/// Gives a text in parts of at most `at_once` bytes, and fails after `good_reads` reads.
+#[derive(Drop)]
+struct TextIn<'a> {
+    rest: &'a [u8],
+    at_once: usize,
+    good_reads: usize,
+}
+
+impl Read for TextIn<'_> {
+    fn read(&mut self, buf: &mut [u8]) -> io::Result<usize> {
+        if self.good_reads == 0 {
+            return Err(Error::from(ErrorKind::Other));
+        }
+        self.good_reads -= 1;
+        let count = self.rest.len().min(buf.len()).min(self.at_once);
+        buf[..count].copy_from_slice(&self.rest[..count]);
+        self.rest = &self.rest[count..];
+        Ok(count)
+    }
+}
+
+/// Takes at most `at_once` bytes in a write, and fails after `good_writes` writes.
+#[derive(Drop)]
+struct TextOut {
+    bytes: Vec<u8>,
+    at_once: usize,
+    good_writes: usize,
+}
+
+impl Write for TextOut {
+    fn write(&mut self, buf: &[u8]) -> io::Result<usize> {
+        if self.good_writes == 0 {
+            return Err(Error::from(ErrorKind::Other));
+        }
+        self.good_writes -= 1;
+        let count = buf.len().min(self.at_once);
+        self.bytes.extend_from_slice(&buf[..count])?;
+        Ok(count)
+    }
+
+    fn flush(&mut self) -> io::Result<()> {
+        Ok(())
+    }
+}
+
+/// What is written for the words of a command and a file, and the status.
+fn output_of(rt: &HostRuntime, words: &[&str], file: &[u8]) -> Result<(String, u8), Fail> {
+    let given = TextIn {
+        rest: file,
+        at_once: 7,
+        good_reads: NO_LIMIT,
+    };
+    let mut taken = TextOut {
+        bytes: Vec::new(rt.alloc()),
+        at_once: NO_LIMIT,
+        good_writes: NO_LIMIT,
+    };
+    let status = run_between(rt, words, given, &mut taken)?;
+    let Ok(text) = String::from_utf8(taken.bytes) else {
+        return Err(Fail::new("the output is not UTF-8"));
+    };
+    Ok((text, status))
+}
+
+fn run_between(
+    rt: &HostRuntime,
+    words: &[&str],
+    given: TextIn<'_>,
+    taken: &mut TextOut,
+) -> Result<u8, Fail> {
+    let mut owned = Vec::new(rt.alloc());
+    for word in words {
+        owned.push(String::from_str(rt.alloc(), word)?)?;
+    }
+    let mut source = Counted::new(given);
+    let mut sink = CountedSink::new(taken);
+    Ok(run(rt.alloc(), Some(owned.as_slice()), &mut source, &mut sink))
+}
+
+#[test]
+fn rewrites_files(rt: HostRuntime) -> Result<(), Fail> {
+    for (rule, file, text) in [
+        (SWAP, "fn f() {1 + 2 + 3 + 4}", "fn f() {4 + (3 + (2 + 1))}"),
+        (SWAP, "", ""),
+        (SWAP, "fn f() {x}", "fn f() {x}"),
+        (
+            "$a - $b ==>> $b - $a",
+            "fn f() {1 - 2 - 3}",
+            "fn f() {3 - (2 - 1)}",
+        ),
+        (
+            "$a * $b ==>> $b * $a",
+            "fn f() {(1 + 2) * 3}",
+            "fn f() {3 * (1 + 2)}",
+        ),
+        ("$a + 1 ==>> $a", "fn f() {2 * (x + 1)}", "fn f() {2 * (x)}"),
+        (
+            "$a + $b ==>> $a",
+            "fn f() {1 + 2} fn g() {3}",
+            "fn f() {1} fn g() {3}",
+        ),
+        (
+            "$a+$b==>>$b-$a",
+            "fn  f ( )\n{\n  1\t+ 2 }\r\n",
+            "fn  f ( )\n{\n  2-1 }\r\n",
+        ),
+    ] {
+        let (written, status) = output_of(&rt, &[rule], file.as_bytes())?;
+        assert_eq!(rt; written.as_str(), text, "{rule} on {file}");
+        assert_eq!(rt; status, 0, "{rule} on {file}");
+    }
+    Ok(())
+}
+
+#[test]
+fn earlier_rules_come_first(rt: HostRuntime) -> Result<(), Fail> {
+    for (rules, file, text) in [
+        (
+            ["$a + 1 ==>> $a", "$a + $b ==>> $b"],
+            "fn f() {3 + 1}",
+            "fn f() {3}",
+        ),
+        (
+            ["$a + $b ==>> $b", "$a + 1 ==>> $a"],
+            "fn f() {3 + 1}",
+            "fn f() {1}",
+        ),
+        (
+            ["$a + 1 ==>> $a * 7", "$a + $b ==>> $a - $b"],
+            "fn f() {3 + 2 + 1}",
+            "fn f() {(3 - 2) * 7}",
+        ),
+    ] {
+        let (written, status) = output_of(&rt, &rules, file.as_bytes())?;
+        assert_eq!(rt; written.as_str(), text, "{file}");
+        assert_eq!(rt; status, 0, "{file}");
+    }
+    Ok(())
+}
+
+#[test]
+fn refuses_wrong_words(rt: HostRuntime) -> Result<(), Fail> {
+    let usage = "usage: ssr [--facts FILE] RULE..\n";
+    let (none, status) = output_of(&rt, &[], b"fn f() {}")?;
+    assert_eq!(rt; none.as_str(), usage);
+    assert_eq!(rt; status, 2);
+    let (facts, status) = output_of(&rt, &["--facts", "f.json", SWAP], b"fn f() {}")?;
+    assert_eq!(rt; facts.as_str(), usage);
+    assert_eq!(rt; status, 2);
+    let given = TextIn {
+        rest: b"",
+        at_once: 7,
+        good_reads: 0,
+    };
+    let mut taken = TextOut {
+        bytes: Vec::new(rt.alloc()),
+        at_once: NO_LIMIT,
+        good_writes: NO_LIMIT,
+    };
+    assert_eq!(rt;
+        run(
+            rt.alloc(),
+            None,
+            &mut Counted::new(given),
+            &mut CountedSink::new(&mut taken)
+        ),
+        2
+    );
+    assert_eq!(rt; taken.bytes.as_slice(), usage.as_bytes());
+    Ok(())
+}
+
+#[test]
+fn refuses_files(rt: HostRuntime) -> Result<(), Fail> {
+    for (file, line) in [
+        (
+            "fn f() {1 + ",
+            "error: standard input: not a file of this grammar\n",
+        ),
+        (
+            "fn f() {'",
+            "error: standard input: not tokens of this grammar\n",
+        ),
+        ("1", "error: standard input: not a file of this grammar\n"),
+    ] {
+        // a file is told before a rule
+        for rule in [SWAP, "no rule"] {
+            let (written, status) = output_of(&rt, &[rule], file.as_bytes())?;
+            assert_eq!(rt; written.as_str(), line, "{file}");
+            assert_eq!(rt; status, 1, "{file}");
+        }
+    }
+    for bytes in [b"fn f() {\xFF}", b"fn f() {\xC3}"] {
+        let (written, status) = output_of(&rt, &["no rule"], bytes)?;
+        assert_eq!(rt; written.as_str(), "error: standard input: not UTF-8\n");
+        assert_eq!(rt; status, 1);
+    }
+    Ok(())
+}
+
+#[test]
+fn refuses_rules(rt: HostRuntime) -> Result<(), Fail> {
+    for (rule, message) in [
+        ("", "Cannot find delimiter `==>>`"),
+        ("1 ==>> 2 ==>> 3", "More than one delimiter found"),
+        ("$ ==>> 1", "Placeholder ($) with no name"),
+        (
+            "$ a ==>> 1",
+            "Placeholders should either be $name or ${name:constraints}",
+        ),
+        (
+            "${a} ==>> 1",
+            "Placeholders should either be $name or ${name:constraints}",
+        ),
+        ("$a + $a ==>> $a", "Placeholder `$a` repeats more than once"),
+        ("foo$a ==>> 1", "Placeholder `$a` isn't a token of its own"),
+        (
+            "__placeholder_a + $a ==>> $a",
+            "Name `__placeholder_a` is reserved",
+        ),
+        (
+            " ==>> 1",
+            "Not a valid Rust expression, type, item, path or pattern",
+        ),
+        (
+            "1 ==>> )",
+            "Not a valid Rust expression, type, item, path or pattern",
+        ),
+        (
+            "42 ==>> $a + $b",
+            "Replacement contains undefined placeholders: $a, $b",
+        ),
+        ("foo ==>> bar", "Failed to resolve path `bar`"),
+        ("foo ==>> 1", "Failed to resolve path `foo`"),
+    ] {
+        let line = format!(in rt.alloc(); "error: Parse error: {message}\n")?;
+        // the first refusal is told
+        for later in [SWAP, "no rule"] {
+            let (written, status) = output_of(&rt, &[SWAP, rule, later], b"fn f() {1 + 2}")?;
+            assert_eq!(rt; written.as_str(), line.as_str(), "{rule}");
+            assert_eq!(rt; status, 1, "{rule}");
+        }
+    }
+    let (written, status) = output_of(&rt, &["' ==>> 1"], b"")?;
+    assert!(rt;
+        written
+            .as_str()
+            .starts_with("error: Parse error: Failed to parse pattern: ")
+    );
+    assert!(rt; written.as_str().ends_with("\n"));
+    assert_eq!(rt; status, 1);
+    Ok(())
+}
+
+#[test]
+fn tells_failed_reads(rt: HostRuntime) -> Result<(), Fail> {
+    for good_reads in [0, 1, 2] {
+        let given = TextIn {
+            rest: b"fn f() {1 + 2}",
+            at_once: 7,
+            good_reads,
+        };
+        let mut taken = TextOut {
+            bytes: Vec::new(rt.alloc()),
+            at_once: 5,
+            good_writes: NO_LIMIT,
+        };
+        assert_eq!(rt; run_between(&rt, &[SWAP], given, &mut taken)?, 1);
+        assert_eq!(rt;
+            taken.bytes.as_slice(),
+            b"error: standard input: cannot be read\n".as_slice()
+        );
+    }
+    Ok(())
+}
+
+#[test]
+fn failed_writes_leave_a_beginning(rt: HostRuntime) -> Result<(), Fail> {
+    let whole = b"fn f() {2 + 1}";
+    for (at_once, good_writes, count, status) in [
+        (5, 2, 10, 1),
+        (5, 3, 14, 0),
+        (NO_LIMIT, 0, 0, 1),
+        (0, 9, 0, 1),
+    ] {
+        let given = TextIn {
+            rest: b"fn f() {1 + 2}",
+            at_once: 7,
+            good_reads: NO_LIMIT,
+        };
+        let mut taken = TextOut {
+            bytes: Vec::new(rt.alloc()),
+            at_once,
+            good_writes,
+        };
+        assert_eq!(rt; run_between(&rt, &[SWAP], given, &mut taken)?, status);
+        assert_eq!(rt; Some(taken.bytes.as_slice()), whole.get(..count));
+    }
+    Ok(())
+}
+
+/// An answer is a text of status 0, or one line of status 1.
+fn is_answer(text: &str, status: u8) -> bool {
+    status == 0 || status == 1 && text.starts_with("error: ") && text.ends_with("\n")
+}
+
+#[test]
+fn answers_every_beginning(rt: HostRuntime) -> Result<(), Fail> {
+    for text in [
+        "fn f() {4 + (3 + (2 + 1))} fn g() {(x * y) % z / 3}",
+        "$a + $b ==>> $b + $a",
+        "1 * (2 - x) ==>> 0x1F / 3",
+        "__placeholder_a $a ${a} ' // /* \"",
+    ] {
+        for end in 0..text.len() {
+            let Some(beginning) = text.get(..end) else {
+                continue;
+            };
+            let (written, status) = output_of(&rt, &[SWAP], beginning.as_bytes())?;
+            assert!(rt; is_answer(written.as_str(), status), "{beginning}");
+            let (written, status) = output_of(&rt, &[beginning], b"fn f() {1 + 2}")?;
+            assert!(rt; is_answer(written.as_str(), status), "{beginning}");
+        }
+    }
+    Ok(())
+}
+
+/// `text`, `count` times.
+fn times(rt: &HostRuntime, text: &str, count: usize) -> Result<String, Fail> {
+    let mut all = String::new(rt.alloc());
+    for _ in 0..count {
+        all.push_str(text)?;
+    }
+    Ok(all)
+}
+
+#[test]
+fn reads_to_a_depth_of_1024(rt: HostRuntime) -> Result<(), Fail> {
+    let deep = "error: standard input: nested too deeply\n";
+    // a block's tail expression has depth 4
+    for (pairs, fits) in [(1020, true), (1021, false)] {
+        let open = times(&rt, "(", pairs)?;
+        let close = times(&rt, ")", pairs)?;
+        let file = format!(in rt.alloc(); "fn f() {{{open}1{close}}}")?;
+        let (written, status) = output_of(&rt, &["2 ==>> 3"], file.as_bytes())?;
+        assert_eq!(rt;
+            written.as_str(),
+            if fits { file.as_str() } else { deep },
+            "{pairs}"
+        );
+        assert_eq!(rt; status == 0, fits, "{pairs}");
+    }
+    for (pairs, fits) in [(1024, true), (1025, false)] {
+        let open = times(&rt, "(", pairs)?;
+        let close = times(&rt, ")", pairs)?;
+        let rule = format!(in rt.alloc(); "{open}1{close} ==>> 3")?;
+        let (written, status) = output_of(&rt, &[rule.as_str()], b"fn f() {1}")?;
+        let invalid =
+            "error: Parse error: Not a valid Rust expression, type, item, path or pattern\n";
+        assert_eq!(rt;
+            written.as_str(),
+            if fits { "fn f() {1}" } else { invalid },
+            "{pairs}"
+        );
+        assert_eq!(rt; status == 0, fits, "{pairs}");
+    }
+    for (terms, fits) in [(1021, true), (1022, false), (100_000, false)] {
+        let sum = times(&rt, "1 + ", terms - 1)?;
+        let file = format!(in rt.alloc(); "fn f() {{{sum}1}}")?;
+        let (written, status) = output_of(&rt, &["2 ==>> 3"], file.as_bytes())?;
+        assert_eq!(rt;
+            written.as_str(),
+            if fits { file.as_str() } else { deep },
+            "{terms}"
+        );
+        assert_eq!(rt; status == 0, fits, "{terms}");
+    }
+    Ok(())
+}
+
+#[test]
+fn a_million_brackets_are_refused(rt: HostRuntime) -> Result<(), Fail> {
+    let open = times(&rt, "(", 1_000_000)?;
+    let file = format!(in rt.alloc(); "fn f() {{{open}")?;
+    let (written, status) = output_of(&rt, &[SWAP], file.as_bytes())?;
+    assert!(rt; written.as_str().starts_with("error: standard input: n"));
+    assert_eq!(rt; status, 1);
+    Ok(())
+}
