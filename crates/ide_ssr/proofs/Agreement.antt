@@ -10,8 +10,8 @@ use Rattle.ssr_syntax_tree.specs.Places.{Node, Part, token_part, node_part, part
 use Rattle.ide_ssr_rules.specs.Resolving.{placeholder_at}
 use Rattle.ide_ssr.specs.declared.bindings.Binding.{Binding}
 use Rattle.ide_ssr.specs.Matching.{is_kind, is_left_out, bare, Matches, bound, alike, Pairs, end, tokens, nodes}
-use Rattle.ide_ssr.specs.Bindings.{joined, bindings_of, pairs_by}
-use Rattle.ide_ssr.proofs.Pairs.{bindings-placeholder, bindings-other_kind, bindings-children}
+use Rattle.ide_ssr.specs.Bindings.{joined, bindings_of}
+use Rattle.ide_ssr.proofs.Pairs.{pairs_by, bindings-placeholder, bindings-other_kind, bindings-children}
 
 kinds_same : (a b : SyntaxKind) → is_kind a b ≡ true → a ≡ b
 unfolding is_kind

@@ -1,7 +1,6 @@
 pub mod Fits
 pub mod Nearest
 pub mod Places
-pub mod Positions
 pub mod Rendered
 pub mod Rewrites
 pub mod Runs
@@ -12,7 +11,11 @@ pub mod Outermost
 pub mod Bare
 pub mod Pairs
 pub mod Finding
+pub mod Apart
 pub mod InOrder
 pub mod Agreement
 pub mod OneKept
 pub mod Showing
+pub mod Passed
+pub mod BindsOnce
+pub mod Made

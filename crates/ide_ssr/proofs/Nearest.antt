@@ -10,10 +10,15 @@ use Rattle.ide_ssr.specs.declared.holders.Holder.{Holder}
 use Rattle.ide_ssr.specs.Found.{Found}
 use Rattle.ide_ssr.specs.Kept.{is_over, is_within, holds}
 use Rattle.ide_ssr.specs.Lists.{binding_over, as_holder, last_over, holder_of}
-use Rattle.ide_ssr.specs.Nearest.{NoneOver, IsNearest, IsPast}
+use Rattle.ide_ssr.specs.Nearest.{NoneOver, IsNearest}
 use Rattle.ide_ssr.specs.Order.{Precedes, AreHeld}
 use Rattle.ide_ssr.proofs.Places.{position-any, position-none}
 use Rattle.ide_ssr.proofs.Tests.{Over, Over-is_over, is_over-Over}
+
+-- the last match over m, if there is one, has a place up to this one
+abbrev pub IsPast : Syntax → List Found → Found → Option ℕ → Type 0
+IsPast code ks m None = NoneOver code ks m 0
+IsPast code ks m (Some p) = (p < length ks) × NoneOver code ks m (1 + p)
 
 closed_by : (j jr k kr m mr s : ℕ) → (j < k) ⊎ ((j ≡ k) × (jr < kr)) → (k < m) ⊎ ((k ≡ m) × (kr < mr))
     → ((j < m) × (m < j + s)) ⊎ ((j ≡ m) × (jr < mr)) → ((((j < k) × (k < j + s)) ⊎ ((j ≡ k) × (jr < kr))) → ⊥) → ⊥

@@ -20,7 +20,7 @@ use Rattle.ide_ssr.proofs.Rewrites.{each-reverse}
 use Rattle.ide_ssr.proofs.Waiting.{at_drop, over_after}
 
 -- of two matches of which the first is not over the second, the first ends before the second begins
-apart : (code : Syntax) (k m : Found) → HasNode code k.node → HasNode code m.node → Precedes k m → (is_over code k m ≡ true → ⊥)
+pub apart : (code : Syntax) (k m : Found) → HasNode code k.node → HasNode code m.node → Precedes k m → (is_over code k m ≡ true → ⊥)
     → end_of code (node_of code k.node) ≤ start_of code (node_of code m.node)
 apart code k m hk hm (inl before) other =
     ranges_apart code k.node m.node hk hm

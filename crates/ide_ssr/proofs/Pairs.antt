@@ -15,7 +15,13 @@ use Rattle.ide_ssr.specs.declared.bindings.Binding.{Binding}
 use Rattle.ide_ssr.specs.Elements.{IsBelow}
 use Rattle.ide_ssr.proofs.Bare.{below-has}
 use Rattle.ide_ssr.specs.Matching.{is_kind, is_left_out, bare}
-use Rattle.ide_ssr.specs.Bindings.{joined, token_then, node_then, siblings_by, bindings_of, pair_by, pairs_by, Answers, matched, other}
+use Rattle.ide_ssr.specs.Bindings.{joined, token_then, node_then, siblings_by, bindings_of, nothing_then, pair_by, Answers, matched, other}
+
+-- bare children, pair by pair
+abbrev pub pairs_by : List (List ℕ) → List Part → List Part → Option (List Binding)
+pairs_by names [] cs = nothing_then cs
+pairs_by names (p ∷ ps) [] = None
+pairs_by names (p ∷ ps) (c ∷ cs) = joined (pair_by names p c) (pairs_by names ps cs)
 
 joined-none : (o : Option (List Binding)) → joined (Some []) o ≡ o
 joined-none None = refl

@@ -1,18 +1,17 @@
 -- Laws of what a template gives.
-use Rattle.std.proofs.Common.{◌≡◌, ℕ, ◌+◌, ◌<◌, ◌≤◌, ◌==◌, ◌&&◌, inl, inr, nat_le, if◌then◌else◌, Bool, true, false, List, ◌++◌, length, drop, get_or, is_some, refl, sym, ◌∙◌, ap, subst, arith, append_assoc, bytes_eq}
+use Rattle.std.proofs.Common.{◌≡◌, ℕ, ◌+◌, ◌<◌, ◌≤◌, ◌==◌, ◌&&◌, inl, inr, nat_le, if◌then◌else◌, Bool, true, false, List, ◌++◌, length, drop, get_or, is_some, refl, sym, ◌∙◌, ap, subst, arith, append_assoc}
 use Rattle.std.proofs.lemmas.List.{get_or_default}
 use Rattle.std.proofs.lemmas.List.Folds.{list_any_at, list_any_none}
 use Rattle.std.proofs.lemmas.Option.{unwrap_or-slice_get}
-use Rattle.std.proofs.lemmas.Slice.Eq.{bytes_eq-Decides}
 use Rattle.std.proofs.lemmas.Bool.Decides.{nat_tests}
-use Rattle.std.specs.Bool.{Decides}
 use Rattle.ssr_syntax_tree.specs.Syntax.{Syntax, node_count, tokens_of}
 use Rattle.ssr_syntax_tree.specs.Places.{Node, nodes_of, node_of, token_of, start_of, end_of, IsAbove, HasNode, HasToken}
 use Rattle.ssr_syntax_tree.proofs.Places.{node_of-number}
 use Rattle.ssr_syntax_tree.proofs.Ranges.{start_of-below, end_of-below}
 use Rattle.std.proofs.lemmas.Bool.{cases_lt}
 use Rattle.ssr_syntax_tree.proofs.Siblings.{length-nodes_in}
-use Rattle.ide_ssr.specs.Rendering.{text_for, plain, is_node, wrapped, wrapped_text, placeholder_of}
+use Rattle.ide_ssr_rules.specs.Resolving.{name_at}
+use Rattle.ide_ssr.specs.Rendering.{text_for, plain, is_node, wrapped, wrapped_text}
 use Rattle.ide_ssr.proofs.Tokens.{tokens_from}
 
 -- a token's text is pushed: the rest comes behind it
@@ -25,7 +24,7 @@ plain_from names piece tree t h = ap (plain names piece) (tokens_from tree t h)
 
 pub wrapped_from : (read : Syntax) (front : ℕ) (names : List (List ℕ)) (piece : ℕ → List ℕ) (at : ℕ) (tree : Syntax) (t : ℕ) → HasToken tree t
     → wrapped read front names piece at (drop t (tokens_of tree))
-    ≡ wrapped_text read front (is_some (placeholder_of names (token_of tree t))) at (text_for names piece (token_of tree t))
+    ≡ wrapped_text read front (is_some (name_at names (token_of tree t))) at (text_for names piece (token_of tree t))
     ++ wrapped read front names piece (at + length (text_for names piece (token_of tree t))) (drop (t + 1) (tokens_of tree))
 wrapped_from read front names piece at tree t h = ap (wrapped read front names piece at) (tokens_from tree t h)
 
@@ -83,11 +82,3 @@ none_up_to tree front from to node passed look has l p here before n lt =
             | inr same ↦ let at : node ≡ n = omega arith in subst (λ (n : ℕ). has_bytes tree front from to n ≡ false) at here
           ]
     ]
-
--- a text that doesn't begin like another one isn't it
-pub no_prefix : (text front name : List ℕ) → ((rest : List ℕ) → text ≡ front ++ rest → ⊥) → false ≡ bytes_eq text (front ++ name)
-no_prefix text front name not_so = cases_of (bytes_eq text (front ++ name)) (bytes_eq-Decides text (front ++ name)) (not_so name)
-  where
-    cases_of : {P : Type 0} (b : Bool) → Decides b P → (P → ⊥) → false ≡ b
-    cases_of false d f = refl
-    cases_of true d f = absurd (f (d.0 refl))

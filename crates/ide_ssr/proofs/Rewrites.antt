@@ -72,7 +72,7 @@ holder_and n i (Some h) = held_tests h.place n h.binding i
 other_tests : (p n b i : ℕ) → (p == n) ≡ false → (n == p && i == b) ≡ false
 other_tests p n b i h = grind (arith, nat_tests)
 
-not_held : (n i : ℕ) (h : Option Holder) → is_at n h ≡ false → is_holder (record { place = n; binding = i }) h ≡ false
+pub not_held : (n i : ℕ) (h : Option Holder) → is_at n h ≡ false → is_holder (record { place = n; binding = i }) h ≡ false
 not_held n i None e = refl
 not_held n i (Some h) e = other_tests h.place n h.binding i e
 

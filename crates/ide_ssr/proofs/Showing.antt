@@ -1,5 +1,5 @@
 -- Nested matches show kept ones, one more at a time.
-use Rattle.std.proofs.Common.{◌≡◌, ℕ, zero, suc, ◌+◌, ◌<◌, ◌≤◌, Bool, true, false, cond, List, [], ◌∷◌, ◌++◌, AllPairs, length, take, drop, filter, get_or, map, Option, Some, None, refl, sym, ◌∙◌, ap, subst, arith}
+use Rattle.std.proofs.Common.{◌≡◌, ℕ, zero, suc, ◌+◌, ◌<◌, ◌≤◌, Bool, true, false, not, cond, List, [], ◌∷◌, ◌++◌, AllPairs, inl, inr, length, take, filter, get_or, map, Option, Some, None, refl, sym, ◌∙◌, ap, subst, arith}
 use Rattle.std.specs.Prelude.{slice_get}
 use Rattle.std.proofs.Math.Seq.{take-suc, take_all}
 use Rattle.std.proofs.lemmas.List.{append-nil, get_or_default, get_or_past, get_or-map, length-map, length-take}
@@ -15,11 +15,15 @@ use Rattle.ide_ssr.specs.declared.matches.PlaceholderMatch.{PlaceholderMatch}
 use Rattle.ide_ssr.specs.Found.{Found}
 use Rattle.ide_ssr.specs.Lists.{holder_of, is_holder}
 use Rattle.ide_ssr.specs.Matches.{inner_of, placeholders_of}
-use Rattle.ide_ssr.specs.Nesting.{is_listed, listed, NoneListed, placeholder_name, HasParts, HasBinding, Show, Shows, ShowBindings}
+use Rattle.ide_ssr.specs.Nesting.{is_listed, listed, NoneListed, NoneListedFrom, placeholder_name, HasParts, HasBinding, Show, Shows, ShowBindings}
 use Rattle.ide_ssr.specs.Nesting as nesting
+use Rattle.std.proofs.lemmas.Bool.{cases_lt}
+use Rattle.ide_ssr.specs.Kept.{is_over}
 use Rattle.ide_ssr.specs.Order.{Precedes, AreHeld}
-use Rattle.ide_ssr.specs.Pending.{is_open}
-use Rattle.ide_ssr.proofs.Waiting.{is_open-own}
+use Rattle.ide_ssr.specs.Pending.{is_at, is_open}
+use Rattle.ide_ssr.proofs.Nearest.{closed, true_false}
+use Rattle.ide_ssr.proofs.Rewrites.{not_held}
+use Rattle.ide_ssr.proofs.Waiting.{at_over, is_open-own}
 
 -- one match more
 pub show-push : (code : Syntax) (rules : List ResolvedKind) (ks ms : List Found) (vs : List Match) (m : Found) (v : Match)
@@ -51,6 +55,60 @@ none_taken t (k ∷ ks) (suc n) h =
     ap (λ (b : Bool). cond b (k ∷ filter t (take n ks)) (filter t (take n ks))) (h 0 k (omega arith))
     ∙ none_taken t ks n (λ j d lt. h (suc j) d (omega arith))
 
+-- all elements that pass stand in front
+none_left : (t : Found → Bool) (ks : List Found) (n : ℕ) → ((j : ℕ) (d : Found) → n ≤ j → j < length ks → t (get_or ks j d) ≡ false) → filter t (take n ks) ≡ filter t ks
+none_left t [] zero h = refl
+none_left t [] (suc n) h = refl
+none_left t (k ∷ ks) zero h =
+    none_left t ks zero (λ j d le lt. h (suc j) d (omega arith) (omega arith))
+    ∙ sym (ap (λ (b : Bool). cond b (k ∷ filter t ks) (filter t ks)) (h 0 k (omega arith) (omega arith)))
+none_left t (k ∷ ks) (suc n) h =
+    ap (λ (r : List Found). cond (t k) (k ∷ r) r) (none_left t ks n (λ j d le lt. h (suc j) d (omega arith) (omega arith)))
+
+pub show-past : (code : Syntax) (rules : List ResolvedKind) (ks : List Found) (holder : Option Holder) (n : ℕ) (vs : List Match)
+    → Show code rules ks (filter (λ m. is_listed holder (holder_of code ks m)) (take n ks)) vs
+    → NoneListedFrom code ks holder n → Show code rules ks (listed code ks holder) vs
+show-past code rules ks holder n vs so_far none =
+    subst (λ (ms : List Found). Show code rules ks ms vs) (none_left (λ m. is_listed holder (holder_of code ks m)) ks n none) so_far
+
+-- behind a match that the holder's isn't over it holds none
+pub none_from : (code : Syntax) (ks : List Found) → AllPairs Precedes ks → (holder : Holder) (n : ℕ) → holder.place < n → n < length ks
+    → ((d : Found) → is_over code (get_or ks holder.place d) (get_or ks n d) ≡ false) → NoneListedFrom code ks (Some holder) n
+none_from code ks order holder n before lt clear j d le within =
+    let h = holder_of code ks (get_or ks j d) in
+    let off : is_over code (get_or ks holder.place d) (get_or ks j d) ≡ false =
+    elim (cases_lt n j) [
+      | inl behind ↦
+          closed code (get_or ks holder.place d) (get_or ks n d) (get_or ks j d)
+          (order holder.place n d before lt) (order n j d behind within) (clear d)
+      | inr same ↦ let at : n ≡ j = omega arith in subst (λ (i : ℕ). is_over code (get_or ks holder.place d) (get_or ks i d) ≡ false) at (clear d)
+    ]
+    in
+    not_held holder.place holder.binding h
+    (true_false (is_at holder.place h) (λ e. let over = at_over code ks holder.place (get_or ks j d) d e in cc))
+
+-- the same of a test of the two matches
+open_before : (holder : Holder) (n : ℕ) → is_open n (Some holder) ≡ true → holder.place < n
+open_before holder n e = grind (arith, nat_tests)
+
+no_over : (b : Bool) → not b ≡ true → b ≡ false
+no_over true e = sym e
+no_over false e = refl
+
+pub none_from_test : (code : Syntax) (ks : List Found) → AllPairs Precedes ks → (own : Option Holder) (holder : Holder) → own ≡ Some holder
+    → (n : ℕ) → is_open n own ≡ true → n < length ks → (k m : Found) → k ≡ get_or ks holder.place k → m ≡ get_or ks n m
+    → (b : Bool) → b ≡ is_over code k m → not b ≡ true → NoneListedFrom code ks own n
+none_from_test code ks order own holder is n opened lt k m k_at m_at b tested e =
+    let before : holder.place < n = open_before holder n (subst (λ (own : Option Holder). is_open n own ≡ true) is opened) in
+    let over : is_over code k m ≡ false = sym tested ∙ no_over b e in
+    let clear : (d : Found) → is_over code (get_or ks holder.place d) (get_or ks n d) ≡ false =
+    λ d.
+    let left : get_or ks holder.place d ≡ k = get_or_default ks holder.place d k (omega arith) ∙ sym k_at in
+    let right : get_or ks n d ≡ m = get_or_default ks n d m lt ∙ sym m_at in
+    rw (left, right) over
+    in
+    subst (λ (own : Option Holder). NoneListedFrom code ks own n) (sym is) (none_from code ks order holder n before lt clear)
+
 pub show-starts : (code : Syntax) (rules : List ResolvedKind) (ks : List Found) (holder : Option Holder) (n : ℕ) (vs : List Match) → vs ≡ []
     → NoneListed code ks holder n → Show code rules ks (filter (λ m. is_listed holder (holder_of code ks m)) (take n ks)) vs
 show-starts code rules ks holder n vs empty h =
@@ -65,7 +123,7 @@ taken t ks n m lt is =
     ∙ filter-append t (take n ks) (m ∷ []))
 
 -- how the match of a place is listed is read from the list of holders
-own_holder : (code : Syntax) (ks : List Found) (holders : List (Option Holder)) → AreHeld code ks holders → (n : ℕ) (m : Found) → n < length ks
+pub own_holder : (code : Syntax) (ks : List Found) (holders : List (Option Holder)) → AreHeld code ks holders → (n : ℕ) (m : Found) → n < length ks
     → (other : Option Holder) → other ≡ get_or holders n other → other ≡ holder_of code ks (get_or ks n m)
 own_holder code ks holders held n m lt other is =
     is ∙ (ap (λ (hs : List (Option Holder)). get_or hs n other) held.holders_are ∙ get_or-map (holder_of code ks) ks n m other lt)
@@ -112,6 +170,9 @@ show-unlisted code rules ks holders held holder n lt old vs other so_far is e sa
 later_by : (n p i j : ℕ) (h : Option Holder) → j ≤ n → is_open j h ≡ true → is_holder (record { place = n; binding = i }) h ≡ false
 later_by n p i j None le open_one = refl
 later_by n p i j (Some h) le open_one = grind (arith, nat_tests)
+
+pub opened : (holder : Holder) → is_open (holder.place + 1) (Some holder) ≡ true
+opened holder = grind (arith, nat_tests)
 
 pub none_before : (code : Syntax) (ks : List Found) (holders : List (Option Holder)) → AreHeld code ks holders → (holder : Holder)
     → holder.place < length ks → NoneListed code ks (Some holder) (holder.place + 1)

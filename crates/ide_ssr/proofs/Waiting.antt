@@ -15,6 +15,7 @@ use Rattle.ide_ssr.specs.Kept.{is_over, holds}
 use Rattle.ide_ssr.specs.Lists.{binding_over, holder_of}
 use Rattle.ide_ssr.specs.Nearest.{IsNearest}
 use Rattle.ide_ssr.specs.Order.{Precedes, AreHeld}
+use Rattle.ide_ssr.specs.Comments.{kept_comments, comments_text}
 use Rattle.ide_ssr.specs.Edits.{Rewrite, held_changes, pieces, text_by, replacement, rewrite_of, rewrites}
 use Rattle.ide_ssr.specs.Pending.{is_at, is_open, Places, IsPending}
 use Rattle.ide_ssr.proofs.Nearest.{nothing_over, at, answered, closed, not_over_before, holder-held, true_false}
@@ -158,7 +159,9 @@ pieces_same code xs ys n i (b ∷ bs) same = rw (same i, pieces_same code xs ys 
 pub replacement_same : (code : Syntax) (rules : List ResolvedKind) (xs ys : List Rewrite) (n : ℕ) (m : Found)
     → ((i : ℕ) → held_changes (record { place = n; binding = i }) xs ≡ held_changes (record { place = n; binding = i }) ys)
     → replacement code rules xs n m ≡ replacement code rules ys n m
-replacement_same code rules xs ys n m same = ap (text_by (slice_get rules m.rule) m.bindings) (pieces_same code xs ys n 0 m.bindings same)
+replacement_same code rules xs ys n m same =
+    ap (λ (pieces : List (List ℕ)). text_by (slice_get rules m.rule) m.bindings pieces ++ comments_text code (kept_comments code m))
+    (pieces_same code xs ys n 0 m.bindings same)
 
 -- the last one of the first ones
 last_of : {X : Type 0} (xs : List X) (f : ℕ) (r : X) (rest : List X) → f ≤ length xs → reverse (take f xs) ≡ r ∷ rest

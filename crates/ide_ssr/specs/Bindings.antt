@@ -63,12 +63,6 @@ pair_by names (token_part t token) (node_part c) = None
 pair_by names (node_part p) (token_part u c) = None
 pair_by names (node_part p) (node_part c) = bindings_of names p c
 
--- bare children, pair by pair
-abbrev pub pairs_by : List (List ℕ) → List Part → List Part → Option (List Binding)
-pairs_by names [] cs = nothing_then cs
-pairs_by names (p ∷ ps) [] = None
-pairs_by names (p ∷ ps) (c ∷ cs) = joined (pair_by names p c) (pairs_by names ps cs)
-
 -- how a test of a pattern answers: bindings that are added to those before, or that there is no match
 pub data Answers (bindings : Option (List Binding)) (old new : List Binding) (answer : Bool) : Type 0 where
   matched : (bs : List Binding) → answer ≡ true → bindings ≡ Some bs → new ≡ old ++ bs → Answers bindings old new answer

@@ -1,5 +1,5 @@
 -- The edit of a file: what stands for each outermost kept match.
-use Rattle.std.specs.Prelude.{ℕ, ◌+◌, length, List, [], ◌∷◌, Option, Some, None, is_none, filter, map, slice_get}
+use Rattle.std.specs.Prelude.{ℕ, ◌+◌, length, List, [], ◌∷◌, ◌++◌, Option, Some, None, is_none, filter, map, slice_get}
 use Rattle.ssr_syntax_tree.specs.Syntax.{Syntax, tokens_of, source_of}
 use Rattle.ssr_syntax_tree.specs.Places.{node_of, start_of, end_of}
 use Rattle.ssr_base.specs.declared.ids.FileId.{FileId}
@@ -11,6 +11,7 @@ use Rattle.ide_ssr.specs.Found.{Found, found}
 use Rattle.ide_ssr.specs.Kept.{kept}
 use Rattle.ide_ssr.specs.Lists.{holder_of, is_holder}
 use Rattle.ide_ssr.specs.Rendering.{piece_of, rendered}
+use Rattle.ide_ssr.specs.Comments.{kept_comments, comments_text}
 
 -- a kept match with its replacement: what holds it, and the change of the source
 pub record Rewrite : Type 0 where
@@ -38,9 +39,13 @@ abbrev pub text_by : Option ResolvedKind → List Binding → List (List ℕ) �
 text_by (Some rule) bindings pieces = rendered rule.names (piece_of bindings pieces) (tokens_of rule.template)
 text_by None bindings pieces = []
 
--- the replacement of the match m of the place n
+-- what the rule's template gives for the match m of the place n
+abbrev pub template_text : Syntax → List ResolvedKind → List Rewrite → ℕ → Found → List ℕ
+template_text code rules later n m = text_by (slice_get rules m.rule) m.bindings (pieces code later n 0 m.bindings)
+
+-- its replacement: the same, and then the comments that it keeps
 abbrev pub replacement : Syntax → List ResolvedKind → List Rewrite → ℕ → Found → List ℕ
-replacement code rules later n m = text_by (slice_get rules m.rule) m.bindings (pieces code later n 0 m.bindings)
+replacement code rules later n m = template_text code rules later n m ++ comments_text code (kept_comments code m)
 
 -- likewise with what holds it, among the kept matches ks
 abbrev pub rewrite_of : Syntax → List ResolvedKind → List Found → List Rewrite → ℕ → Found → Rewrite

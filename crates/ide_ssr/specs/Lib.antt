@@ -1,10 +1,12 @@
 pub mod Matching
 pub mod Bindings
+pub mod Apart
 pub mod Found
 pub mod Kept
 pub mod Lists
 pub mod Order
 pub mod Rendering
+pub mod Comments
 pub mod Edits
 pub mod Finder
 pub mod Pending
@@ -13,3 +15,5 @@ pub mod Elements
 pub mod Adding
 pub mod Matches
 pub mod Nesting
+pub mod BindsOnce
+pub mod Made

@@ -30,7 +30,3 @@ outermost code ks = filter (λ m. is_none (holder_of code ks m)) ks
 abbrev pub is_holder : Holder → Option Holder → Bool
 is_holder holder None = false
 is_holder holder (Some other) = holder.place == other.place && holder.binding == other.binding
-
--- the kept matches that are listed under a holder, in order
-abbrev pub held : Syntax → List Found → Holder → List Found
-held code ks holder = filter (λ m. is_holder holder (holder_of code ks m)) ks

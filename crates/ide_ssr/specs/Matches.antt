@@ -1,7 +1,11 @@
 -- What the calls of nested matches answer.
-use Rattle.std.specs.Prelude.{ℕ, List, string_bytes}
+use Rattle.std.specs.Prelude.{ℕ, ◌+◌, List, string_bytes}
 use Rattle.ssr_syntax_lex.specs.declared.range.TextRange.{TextRange}
 use Rattle.ssr_syntax_tree.specs.declared.number.NodeNo.{NodeNo}
+use Rattle.ssr_syntax_tree.specs.declared.number.TokenNo.{TokenNo}
+use Rattle.ssr_syntax_tree.specs.Syntax.{Syntax}
+use Rattle.ssr_syntax_tree.specs.Places.{offset_of}
+use Rattle.ssr_base.specs.declared.ids.FileRange.{FileRange}
 use Rattle.ide_ssr.specs.declared.matches.Match.{Match, out-Match}
 use Rattle.ide_ssr.specs.declared.matches.PlaceholderMatch.{PlaceholderMatch, out-PlaceholderMatch}
 
@@ -40,3 +44,18 @@ held_node p = (out-PlaceholderMatch p).node
 -- the matches in it
 abbrev pub inner_of : PlaceholderMatch → List Match
 inner_of p = (out-PlaceholderMatch p).inner.items
+
+-- where its comments stand
+abbrev pub comments_of : Match → List FileRange
+comments_of m = (out-Match m).comments.items
+
+-- a place in the files: the number of a file, and bytes of it from one up to before another
+abbrev pub Place : Type 0
+Place = ℕ × (ℕ × ℕ)
+
+abbrev pub place_of_range : FileRange → Place
+place_of_range range = (range.file_id.0, (range.range.start, range.range.end))
+
+-- the place of a token of the first file
+abbrev pub place_of_token : Syntax → TokenNo → Place
+place_of_token code token = (0, (offset_of code token.0, offset_of code (1 + token.0)))

@@ -1,5 +1,5 @@
 -- The nearest match over another one, told by places.
-use Rattle.std.specs.Prelude.{ℕ, ◌≡◌, ◌+◌, ◌<◌, ◌≤◌, true, false, List, length, slice_index_or, Option, Some, None}
+use Rattle.std.specs.Prelude.{ℕ, ◌≡◌, ◌+◌, ◌<◌, ◌≤◌, true, false, List, length, slice_index_or}
 use Rattle.ssr_syntax_tree.specs.Syntax.{Syntax}
 use Rattle.ide_ssr.specs.Found.{Found}
 use Rattle.ide_ssr.specs.Kept.{is_over}
@@ -13,8 +13,3 @@ pub record IsNearest (code : Syntax) (ks : List Found) (m : Found) (p : ℕ) : T
   pub is_place : p < length ks
   pub over : (d : Found) → is_over code (slice_index_or ks p d) m ≡ true
   pub last : NoneOver code ks m (1 + p)
-
--- the last match over m, if there is one, has a place up to this one
-abbrev pub IsPast : Syntax → List Found → Found → Option ℕ → Type 0
-IsPast code ks m None = NoneOver code ks m 0
-IsPast code ks m (Some p) = (p < length ks) × NoneOver code ks m (1 + p)

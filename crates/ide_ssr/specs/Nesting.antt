@@ -1,7 +1,10 @@
 -- How nested matches show the kept ones: those that nothing holds in order, and under each placeholder
 -- those that it holds.
-use Rattle.std.specs.Prelude.{ℕ, ◌≡◌, ◌+◌, ◌<◌, Bool, false, is_none, List, [], ◌∷◌, Option, Some, None, filter, slice_get, slice_index_or}
-use Rattle.ssr_syntax_tree.specs.Syntax.{Syntax}
+use Rattle.std.specs.Prelude.{ℕ, ◌≡◌, ◌+◌, ◌<◌, ◌≤◌, Bool, false, is_none, length, List, [], ◌∷◌, Option, Some, None, filter, map, slice_get, slice_index_or}
+use Rattle.std.specs.List.{All}
+use Rattle.std.specs.Str.{IsCharBoundary}
+use Rattle.ssr_syntax_lex.specs.declared.range.TextRange.{TextRange}
+use Rattle.ssr_syntax_tree.specs.Syntax.{Syntax, source_of}
 use Rattle.ssr_syntax_tree.specs.Places.{node_of as code_node, text_of as node_text, start_of, end_of}
 use Rattle.ide_ssr_rules.specs.Resolving.{ResolvedKind}
 use Rattle.ide_ssr.specs.declared.bindings.Binding.{Binding}
@@ -9,15 +12,16 @@ use Rattle.ide_ssr.specs.declared.holders.Holder.{Holder}
 use Rattle.ide_ssr.specs.declared.matches.Match.{Match}
 use Rattle.ide_ssr.specs.declared.matches.PlaceholderMatch.{PlaceholderMatch}
 use Rattle.ide_ssr.specs.Found.{Found}
+use Rattle.ide_ssr.specs.Comments.{kept_comments}
 use Rattle.ide_ssr.specs.Lists.{holder_of, is_holder}
-use Rattle.ide_ssr.specs.Matches.{text_of, range_of, node_of, rule_of, placeholders_of, name_of, place_of, held_node, inner_of}
+use Rattle.ide_ssr.specs.Matches.{text_of, range_of, node_of, rule_of, placeholders_of, name_of, place_of, held_node, inner_of, comments_of, place_of_range, place_of_token}
 
 -- whether a match with the second holder is listed under the first one, or among the outermost ones
 abbrev pub is_listed : Option Holder → Option Holder → Bool
 is_listed None other = is_none other
 is_listed (Some holder) other = is_holder holder other
 
--- the kept matches that are listed there, in order: `outermost` and `held`
+-- the kept matches that are listed there, in order; without a holder, the outermost ones
 abbrev pub listed : Syntax → List Found → Option Holder → List Found
 listed code ks holder = filter (λ m. is_listed holder (holder_of code ks m)) ks
 
@@ -25,18 +29,30 @@ listed code ks holder = filter (λ m. is_listed holder (holder_of code ks m)) ks
 abbrev pub NoneListed : Syntax → List Found → Option Holder → ℕ → Type 0
 NoneListed code ks holder n = (j : ℕ) (d : Found) → j < n → is_listed holder (holder_of code ks (slice_index_or ks j d)) ≡ false
 
+-- none from the place n on is listed there
+abbrev pub NoneListedFrom : Syntax → List Found → Option Holder → ℕ → Type 0
+NoneListedFrom code ks holder n =
+    (j : ℕ) (d : Found) → n ≤ j → j < length ks → is_listed holder (holder_of code ks (slice_index_or ks j d)) ≡ false
+
 -- the name of a placeholder of a rule
 abbrev pub placeholder_name : Option ResolvedKind → ℕ → List ℕ
 placeholder_name (Some rule) i = slice_index_or rule.names i []
 placeholder_name None i = []
 
--- a match has the rule, the node, its range and its text
+-- a range begins and ends between two characters of the code
+abbrev pub IsBetweenCharacters : Syntax → TextRange → Type 0
+IsBetweenCharacters code range = IsCharBoundary (source_of code) range.start × IsCharBoundary (source_of code) range.end
+
+-- a match has the rule, the node, its range and its text, and the comments that it keeps
 pub record HasParts (code : Syntax) (m : Found) (v : Match) : Type 0 where
   pub rule : rule_of v ≡ m.rule
   pub node : (node_of v).0 ≡ m.node
   pub start : (range_of v).start ≡ start_of code (code_node code m.node)
   pub end : (range_of v).end ≡ end_of code (code_node code m.node)
   pub text : text_of v ≡ node_text (code_node code m.node)
+  pub place : IsBetweenCharacters code (range_of v)
+  pub comments : map place_of_range (comments_of v) ≡ map (place_of_token code) (kept_comments code m)
+  pub comment_places : All (λ range. IsBetweenCharacters code range.range) (comments_of v)
 
 -- a placeholder has the name, the node and its range
 pub record HasBinding (code : Syntax) (rule : Option ResolvedKind) (binding : Binding) (p : PlaceholderMatch) : Type 0 where
@@ -44,6 +60,7 @@ pub record HasBinding (code : Syntax) (rule : Option ResolvedKind) (binding : Bi
   pub node : held_node p ≡ binding.node
   pub start : (place_of p).start ≡ start_of code (code_node code binding.node.0)
   pub end : (place_of p).end ≡ end_of code (code_node code binding.node.0)
+  pub place : IsBetweenCharacters code (place_of p)
 
 mutual
   -- nested matches show these kept ones, one by one

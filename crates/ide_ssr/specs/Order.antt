@@ -3,6 +3,7 @@ use Rattle.std.specs.Prelude.{◌≡◌, ◌<◌, ◌||◌, ◌⊎◌, not, true
 use Rattle.ssr_syntax_tree.specs.Syntax.{Syntax}
 use Rattle.ssr_syntax_tree.specs.Places.{HasNode}
 use Rattle.ide_ssr.specs.declared.holders.Holder.{Holder}
+use Rattle.ide_ssr.specs.Apart.{ComesBefore}
 use Rattle.ide_ssr.specs.Found.{Found}
 use Rattle.ide_ssr.specs.Kept.{is_over, holds}
 use Rattle.ide_ssr.specs.Lists.{holder_of}
@@ -11,10 +12,11 @@ use Rattle.ide_ssr.specs.Lists.{holder_of}
 abbrev pub Precedes : Found → Found → Type 0
 Precedes k m = (k.node < m.node) ⊎ ((k.node ≡ m.node) × (k.rule < m.rule))
 
--- the nodes that a match names are nodes of the code
+-- the nodes that a match names are nodes of the code, and those that it binds lie one behind another
 pub record IsIn (code : Syntax) (m : Found) : Type 0 where
   pub node : HasNode code m.node
   pub bindings : All (λ binding. HasNode code binding.node.0) m.bindings
+  pub apart : AllPairs (ComesBefore code) m.bindings
 
 -- matches as a search finds them
 pub record AreInOrder (code : Syntax) (ms : List Found) : Type 0 where

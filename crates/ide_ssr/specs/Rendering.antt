@@ -1,24 +1,13 @@
 -- The text that a rule's template gives for a match.
-use Rattle.std.specs.Prelude.{ℕ, ◌+◌, ◌==◌, ◌&&◌, not, Bool, true, false, if◌then◌else◌, codes, bytes_eq, is_some, position, slice_index_or, length, List, [], ◌∷◌, ◌++◌, flat_map, Option, Some, None, Result, Ok, Err}
+use Rattle.std.specs.Prelude.{ℕ, ◌+◌, ◌==◌, ◌&&◌, not, Bool, if◌then◌else◌, codes, is_some, slice_index_or, length, List, [], ◌∷◌, ◌++◌, flat_map, Some, None, Result, Ok, Err}
 use Rattle.std.specs.List.{list_any, position_or_len}
-use Rattle.ssr_syntax_lex.specs.declared.kinds.SyntaxKind.{SyntaxKind}
-use Rattle.ssr_syntax_lex.specs.declared.kinds.SyntaxKind.TheVariants as k
 use Rattle.ssr_syntax_tree.specs.Syntax.{Token, Syntax}
 use Rattle.ssr_syntax_tree.specs.Places.{nodes_of, start_of, end_of}
 use Rattle.ssr_syntax.specs.declared.fragments.Fragment.TheVariants as fragments
 use Rattle.ssr_syntax.specs.declared.syntax_error.SyntaxError.{SyntaxError}
 use Rattle.ssr_syntax.specs.Reading.{fragment_reading, trimmed_front}
-use Rattle.ide_ssr_rules.specs.StandIns.{stand_in_of}
+use Rattle.ide_ssr_rules.specs.Resolving.{name_at}
 use Rattle.ide_ssr.specs.declared.bindings.Binding.{Binding}
-
-abbrev pub is_ident : SyntaxKind → Bool
-is_ident k.IDENT = true
-is_ident _ = false
-
--- the place, among a rule's names, of the name whose stand-in a token is
-unfoldable pub placeholder_of : List (List ℕ) → Token → Option ℕ
-placeholder_of names token =
-    if is_ident token.kind then position (λ name. bytes_eq token.text (stand_in_of name)) names else None
 
 -- the piece of the placeholder whose name has the place i, where the bindings have these pieces
 unfoldable pub piece_of : List Binding → List (List ℕ) → ℕ → List ℕ
@@ -26,7 +15,7 @@ piece_of bindings pieces i = slice_index_or pieces (position_or_len (λ binding.
 
 -- what stands for a token of the template: the piece of its placeholder, or its own text; `piece` are the pieces
 abbrev pub text_for : List (List ℕ) → (ℕ → List ℕ) → Token → List ℕ
-text_for names piece token = elim (placeholder_of names token) [ Some i ↦ piece i | None ↦ token.text ]
+text_for names piece token = elim (name_at names token) [ Some i ↦ piece i | None ↦ token.text ]
 
 -- the template with its pieces
 abbrev pub plain : List (List ℕ) → (ℕ → List ℕ) → List Token → List ℕ
@@ -48,7 +37,7 @@ abbrev pub wrapped : Syntax → ℕ → List (List ℕ) → (ℕ → List ℕ) �
 wrapped tree front names piece at [] = []
 wrapped tree front names piece at (token ∷ tokens) =
     let text = text_for names piece token in
-    wrapped_text tree front (is_some (placeholder_of names token)) at text
+    wrapped_text tree front (is_some (name_at names token)) at text
     ++ wrapped tree front names piece (at + length text) tokens
 
 -- with parentheses if the text without them reads as an expression

@@ -6,10 +6,11 @@ ghost use Rattle.ssr_base.specs.Changes.{AreInOrder, Fits};
 ghost use Rattle.ssr_base.specs.Applied.{changes_of};
 ghost use Rattle.ide_ssr.specs.Lists.{is_holder};
 ghost use Rattle.ide_ssr.specs.Order.{IsIn, AreHeld};
-ghost use Rattle.ide_ssr.specs.Edits.{Rewrite as RewriteValue, held_changes, node_replaced, pieces, replacement, edit_from, file_edits};
+ghost use Rattle.ide_ssr.specs.Edits.{Rewrite as RewriteValue, held_changes, node_replaced, pieces, template_text, replacement, edit_from, file_edits};
 ghost use Rattle.ide_ssr.specs.Pending.{is_at, Places, IsPending};
 
 use crate::bindings::Binding;
+use crate::comments::{kept_comments, push_comments};
 use crate::found::Found;
 use crate::holders::Holder;
 use crate::kept::KeptMatches;
@@ -64,10 +65,7 @@ impl Rewrite {
     fn is_held_by(&self, holder: Holder) -> bool
         ensures { result ≡ is_holder holder self.now.holder }
     {
-        match self.holder {
-            Some(other) => holder.place == other.place && holder.binding == other.binding,
-            None => false,
-        }
+        holder.is(self.holder)
     }
 
     fn range(&self) -> TextRange
@@ -158,6 +156,26 @@ fn pieces(
     Ok(pieces)
 }
 
+/// What the template of the rule gives for the match of the place.
+fn template_text(
+    alloc: Global,
+    tree: &Tree,
+    rules: &[ResolvedRule],
+    m: &Found,
+    place: usize,
+    held: &[Rewrite],
+) -> Result<String, AllocError>
+    requires m { IsIn tree.now m.now }
+    requires held { All (Places (source_of tree.now)) held.now }
+    ensures { IfOk result (λ text. string_bytes text ≡ template_text tree.now rules.now (reverse held.now) place m.now) }
+{
+    let Some(rule) = rules.get(m.rule()) else {
+        return Ok(String::new(alloc));
+    };
+    let pieces = pieces(alloc, tree, m.bindings(), place, held)?;
+    rendered(alloc, rule, m.bindings(), &pieces)
+}
+
 /// The replacement of the match of the place.
 fn replacement(
     alloc: Global,
@@ -171,11 +189,10 @@ fn replacement(
     requires held { All (Places (source_of tree.now)) held.now }
     ensures { IfOk result (λ text. string_bytes text ≡ replacement tree.now rules.now (reverse held.now) place m.now) }
 {
-    let Some(rule) = rules.get(m.rule()) else {
-        return Ok(String::new(alloc));
-    };
-    let pieces = pieces(alloc, tree, m.bindings(), place, held)?;
-    rendered(alloc, rule, m.bindings(), &pieces)
+    let mut text = template_text(alloc, tree, rules, m, place, held)?;
+    let comments = kept_comments(alloc, tree, m)?;
+    push_comments(&mut text, tree, &comments)?;
+    Ok(text)
 }
 
 /// Rewrites the match of the place, which takes those that it holds off the pending ones, and adds it to them.
@@ -251,6 +268,7 @@ pub(crate) fn edits(
     requires held { AreHeld tree.now kept.now.matches.items kept.now.holders.items }
     ensures edits { IfOk result (λ m. m.entries ≡ file_edits (edit_from tree.now rules.now kept.now.matches.items)) }
     ensures fits { IfOk result (λ _. All (Fits (source_of tree.now)) (edit_from tree.now rules.now kept.now.matches.items)) }
+    ensures order { IfOk result (λ _. AreInOrder 0 (edit_from tree.now rules.now kept.now.matches.items)) }
 {
     let changes = changes(alloc, tree, rules, kept)?;
     let mut edits = BTreeMap::new(alloc);

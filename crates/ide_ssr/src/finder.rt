@@ -1,11 +1,12 @@
 ghost use Rattle.std.specs.Prelude.{◌≡◌, All, IfErr, IfOk, OnErr, []};
 ghost use Rattle.ssr_syntax_tree.specs.Syntax.{source_of};
-ghost use Rattle.ssr_base.specs.Changes.{Fits};
+ghost use Rattle.ssr_base.specs.Changes.{AreInOrder, Fits};
 ghost use Rattle.ide_ssr_rules.specs.Resolving.{resolved_kinds};
 ghost use Rattle.ide_ssr.specs.Adding.{Adds};
+ghost use Rattle.ide_ssr.specs.BindsOnce.{AreApart, BindOnce};
 ghost use Rattle.ide_ssr.specs.Edits.{edit_of, file_edits};
 ghost use Rattle.ide_ssr.specs.Found.{found as found_of};
-ghost use Rattle.ide_ssr.specs.Kept.{kept as kept_of};
+ghost use Rattle.ide_ssr.specs.Kept.{IsKept, is_among, kept as kept_of};
 ghost use Rattle.ide_ssr.specs.Lists.{outermost};
 ghost use Rattle.ide_ssr.specs.Nesting.{Show};
 
@@ -30,6 +31,8 @@ pub struct MatchFinder<'a> {
 }
 
 impl<'a> Model for MatchFinder<'a> {
+    ghost use Rattle.std.specs.Prelude.{All};
+    ghost use Rattle.ide_ssr_rules.specs.Patterns.{HasEachOnce};
     ghost use Rattle.ide_ssr.specs.Finder.{Finder, finder_code};
 
     ghost Value = { Finder };
@@ -37,6 +40,8 @@ impl<'a> Model for MatchFinder<'a> {
     ghost coded = { finder_code };
 
     ghost view = { λ finder. record { code = finder.tree.now; rules = finder.rules.items } };
+
+    ghost invariant = { λ finder. All (λ rule. HasEachOnce rule.names rule.pattern) finder.rules.items };
 }
 
 impl<'a> MatchFinder<'a> {
@@ -67,6 +72,7 @@ impl<'a> MatchFinder<'a> {
     pub fn edits(&self) -> Result<BTreeMap<FileId, TextEdit>, EditError>
         ensures edits { IfOk result (λ m. m.entries ≡ file_edits (edit_of self.now.code self.now.rules)) }
         ensures fits { IfOk result (λ _. All (Fits (source_of self.now.code)) (edit_of self.now.code self.now.rules)) }
+        ensures order { IfOk result (λ _. AreInOrder 0 (edit_of self.now.code self.now.rules)) }
         ensures memory { IfErr result (λ e. e ≡ EditError.Memory) }
     {
         match self.first_file_edits() {
@@ -76,26 +82,34 @@ impl<'a> MatchFinder<'a> {
     }
 
     /// The kept matches as `edits` replaces them: the outermost ones, each with what its placeholders hold. Every
-    /// node of the file is tried.
+    /// node of the file is tried. A match has each placeholder of its rule once, and their ranges share no byte; nor
+    /// do those of the matches of one list.
     pub fn matches(&self) -> Result<SsrMatches<'a>, AllocError>
-        ensures { IfOk result (λ found. let ks = kept_of self.now.code (found_of self.now.rules self.now.code) in Show self.now.code self.now.rules ks (outermost self.now.code ks) found.matches.items) }
+        ensures shows { IfOk result (λ found. let ks = kept_of self.now.code (found_of self.now.rules self.now.code) in Show self.now.code self.now.rules ks (outermost self.now.code ks) found.matches.items) }
+        ensures kept { IfOk result (λ _. let found = found_of self.now.rules self.now.code in IsKept self.now.code found (is_among (kept_of self.now.code found))) }
+        ensures binds { IfOk result (λ found. BindOnce self.now.rules found.matches.items) }
+        ensures apart { IfOk result (λ found. AreApart found.matches.items) }
     {
         self.scan_matches()
     }
 
     /// The same list, always found by trying every node.
     pub fn scan_matches(&self) -> Result<SsrMatches<'a>, AllocError>
-        ensures { IfOk result (λ found. let ks = kept_of self.now.code (found_of self.now.rules self.now.code) in Show self.now.code self.now.rules ks (outermost self.now.code ks) found.matches.items) }
+        ensures shows { IfOk result (λ found. let ks = kept_of self.now.code (found_of self.now.rules self.now.code) in Show self.now.code self.now.rules ks (outermost self.now.code ks) found.matches.items) }
+        ensures kept { IfOk result (λ _. let found = found_of self.now.rules self.now.code in IsKept self.now.code found (is_among (kept_of self.now.code found))) }
+        ensures binds { IfOk result (λ found. BindOnce self.now.rules found.matches.items) }
+        ensures apart { IfOk result (λ found. AreApart found.matches.items) }
     {
         let found = found(self.alloc, &self.rules, self.tree)?;
         let kept = kept(self.alloc, self.tree, found)?;
-        let matches = nested_matches(self.alloc, self.tree, &self.rules, &kept, 0, None)?;
+        let matches = nested_matches(self.alloc, self.tree, &self.rules, &kept)?;
         Ok(SsrMatches { matches })
     }
 
     fn first_file_edits(&self) -> Result<BTreeMap<FileId, TextEdit>, AllocError>
         ensures edits { IfOk result (λ m. m.entries ≡ file_edits (edit_of self.now.code self.now.rules)) }
         ensures fits { IfOk result (λ _. All (Fits (source_of self.now.code)) (edit_of self.now.code self.now.rules)) }
+        ensures order { IfOk result (λ _. AreInOrder 0 (edit_of self.now.code self.now.rules)) }
     {
         let found = found(self.alloc, &self.rules, self.tree)?;
         let kept = kept(self.alloc, self.tree, found)?;
@@ -132,6 +146,28 @@ mod tests {
             edit.apply(alloc, tree.source())?.as_str(),
             "fn f() {3 + (2 + 1)}"
         );
+        Ok(())
+    }
+
+    #[test]
+    fn makes_and_drops_deep_matches(rt: HostRuntime) -> Result<(), Fail> {
+        let alloc = rt.alloc();
+        let mut text = String::from_str(alloc, "fn f() {")?;
+        for _ in 0..1_000 {
+            text.push('(')?;
+        }
+        text.push('1')?;
+        for _ in 0..1_000 {
+            text.push(')')?;
+        }
+        text.push('}')?;
+        let tree = parse_file(alloc, text.as_str())?;
+        let mut finder = MatchFinder::at_first_file(alloc, &tree);
+        for _ in 0..30 {
+            finder.add_rule(SsrRule::parse(alloc, "$a ==>> $a")?)?;
+        }
+        let found = finder.matches()?;
+        assert_eq!(rt; found.matches.len(), 1);
         Ok(())
     }
 }

@@ -18,7 +18,7 @@ pub(crate) struct KeptMatches {
 }
 
 /// Whether `above` stands above the node of `m`, or at it with an earlier rule.
-fn is_over(tree: &Tree, k: &Found, m: &Found) -> bool
+pub(crate) fn is_over(tree: &Tree, k: &Found, m: &Found) -> bool
     requires { HasNode tree.now k.now.node }
     ensures { result ≡ is_over tree.now k.now m.now }
 {

@@ -3,6 +3,7 @@
 
 mod bindings;
 mod children;
+mod comments;
 mod edits;
 mod finder;
 mod found;
@@ -17,4 +18,5 @@ mod search;
 
 pub use edits::EditError;
 pub use finder::MatchFinder;
+pub use ide_ssr_rules::{SsrError, SsrRule, Var};
 pub use matches::{Match, PlaceholderMatch, SsrMatches};

@@ -1,5 +1,5 @@
 ghost use Rattle.std.specs.Prelude.{◌≡◌, IfOk, string_bytes};
-ghost use Rattle.ide_ssr.specs.Matches.{text_of, range_of, node_of, rule_of, placeholders_of, name_of, place_of, held_node, inner_of};
+ghost use Rattle.ide_ssr.specs.Matches.{text_of, range_of, node_of, rule_of, placeholders_of, name_of, place_of, held_node, inner_of, comments_of};
 
 use ide_ssr_rules::Var;
 use ssr_base::{FileId, FileRange, NodeId};
@@ -9,9 +9,51 @@ use std::alloc::{AllocError, Global};
 
 /// The matches of a search: those that stand in no placeholder of another one, in order. The others stand
 /// below them.
-#[derive(Drop)]
 pub struct SsrMatches<'a> {
     pub matches: Vec<Match<'a>>,
+}
+
+/// Moves the matches in the placeholders to those that are left.
+fn leave_inner<'a>(placeholders: Vec<PlaceholderMatch<'a>>, left: &mut Vec<Match<'a>>) {
+    for placeholder in placeholders {
+        let PlaceholderMatch {
+            var: _,
+            range: _,
+            node: _,
+            mut inner,
+        } = placeholder;
+        // Where there is no memory for them they are dropped here, level by level on the stack. One alone always
+        // has the place of the match that held it.
+        let _ = left.append(&mut inner);
+    }
+}
+
+/// Drops the matches one by one, and those in them.
+fn drop_nested(matches: Vec<Match<'_>>) {
+    let mut left = matches;
+    // There are no more than memory holds.
+    for _ in 0..u64::MAX {
+        let Some(m) = left.pop() else {
+            return;
+        };
+        let Match {
+            text: _,
+            range: _,
+            node: _,
+            rule_index: _,
+            placeholders,
+            comments: _,
+        } = m;
+        leave_inner(placeholders, &mut left);
+    }
+}
+
+impl Drop for SsrMatches<'_> {
+    /// A loop: matches nest as deep as the tree times the number of rules, which can be more than the stack holds.
+    fn drop(self) {
+        let SsrMatches { matches } = self;
+        drop_nested(matches);
+    }
 }
 
 /// A match of a rule.
@@ -23,6 +65,7 @@ pub struct Match<'a> {
     pub(crate) node: NodeNo,
     pub(crate) rule_index: usize,
     pub(crate) placeholders: Vec<PlaceholderMatch<'a>>,
+    pub(crate) comments: Vec<FileRange>,
 }
 
 /// What a placeholder holds, and the matches in it.
@@ -33,6 +76,23 @@ pub struct PlaceholderMatch<'a> {
     pub(crate) range: TextRange,
     pub(crate) node: NodeNo,
     pub(crate) inner: Vec<Match<'a>>,
+}
+
+/// The range, of the file 0: a search is over this one alone.
+pub(crate) fn in_first_file(range: TextRange) -> FileRange
+    ensures { result ≡ record { file_id = record { 0 = 0 }; range = range } }
+{
+    FileRange {
+        file_id: FileId(0),
+        range,
+    }
+}
+
+/// The node, of the tree 0, which is that file's.
+fn in_first_tree(node: NodeNo) -> NodeId
+    ensures { result ≡ record { tree = 0; node = node } }
+{
+    NodeId { tree: 0, node }
 }
 
 impl<'a> Match<'a> {
@@ -54,20 +114,14 @@ impl<'a> Match<'a> {
     pub fn range(&self) -> FileRange
         ensures { result ≡ record { file_id = record { 0 = 0 }; range = range_of self.now } }
     {
-        FileRange {
-            file_id: FileId(0),
-            range: self.range,
-        }
+        in_first_file(self.range)
     }
 
     /// The node that matches.
     pub fn node(&self) -> NodeId
         ensures { result ≡ record { tree = 0; node = node_of self.now } }
     {
-        NodeId {
-            tree: 0,
-            node: self.node,
-        }
+        in_first_tree(self.node)
     }
 
     /// The place of the rule among the rules of the search.
@@ -83,6 +137,13 @@ impl<'a> Match<'a> {
     {
         &self.placeholders
     }
+
+    /// Where the comments stand that the match keeps: those below its node that no placeholder holds, in order.
+    pub fn comments(&self) -> &[FileRange]
+        ensures { result.now ≡ comments_of self.now }
+    {
+        &self.comments
+    }
 }
 
 impl<'a> PlaceholderMatch<'a> {
@@ -97,20 +158,14 @@ impl<'a> PlaceholderMatch<'a> {
     pub fn range(&self) -> FileRange
         ensures { result ≡ record { file_id = record { 0 = 0 }; range = place_of self.now } }
     {
-        FileRange {
-            file_id: FileId(0),
-            range: self.range,
-        }
+        in_first_file(self.range)
     }
 
     /// The node that it holds.
     pub fn node(&self) -> NodeId
         ensures { result ≡ record { tree = 0; node = held_node self.now } }
     {
-        NodeId {
-            tree: 0,
-            node: self.node,
-        }
+        in_first_tree(self.node)
     }
 
     /// The matches in it that stand in no placeholder of another one in it, in order.
@@ -118,5 +173,38 @@ impl<'a> PlaceholderMatch<'a> {
         ensures { result.now ≡ inner_of self.now }
     {
         &self.inner
+    }
+}
+
+#[cfg(test)]
+mod tests {
+    use super::*;
+    use std::test::Fail;
+
+    #[test]
+    fn drops_deep_matches(rt: HostRuntime) -> Result<(), Fail> {
+        let alloc = rt.alloc();
+        let mut matches = Vec::new(alloc);
+        for _ in 0..300_000 {
+            let placeholder = PlaceholderMatch {
+                var: Var(String::from_str(alloc, "a")?),
+                range: TextRange { start: 0, end: 1 },
+                node: NodeNo(0),
+                inner: matches,
+            };
+            matches = vec![in alloc;
+                Match {
+                    text: "1",
+                    range: TextRange { start: 0, end: 1 },
+                    node: NodeNo(0),
+                    rule_index: 0,
+                    placeholders: vec![in alloc; placeholder]?,
+                    comments: Vec::new(alloc),
+                },
+            ]?;
+        }
+        let found = SsrMatches { matches };
+        assert_eq!(rt; found.matches.len(), 1);
+        Ok(())
     }
 }

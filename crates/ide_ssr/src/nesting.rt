@@ -1,13 +1,18 @@
-ghost use Rattle.std.specs.Prelude.{◌≡◌, ◌<◌, Some, [], IfOk, length, map, slice_get, slice_index_or, string_bytes};
+ghost use Rattle.std.specs.Prelude.{◌≡◌, ◌≢◌, ◌<◌, ◌+◌, ℕ, List, true, false, Some, None, [], IfOk, IsSome, OnOk, length, map, slice_get, slice_index_or, string_bytes};
 ghost use Rattle.ssr_syntax_tree.specs.Places.{HasNode};
+ghost use Rattle.ide_ssr_rules.specs.Resolving.{ResolvedKind};
 ghost use Rattle.ide_ssr.specs.Found.{Found as FoundMatch};
 ghost use Rattle.ide_ssr.specs.Order.{AreHeld};
 ghost use Rattle.ide_ssr.specs.Matches.{inner_of};
-ghost use Rattle.ide_ssr.specs.Nesting.{is_listed, listed, NoneListed, placeholder_name, HasBinding, Show, Shows};
+ghost use Rattle.ide_ssr.specs.Lists.{holder_of};
+ghost use Rattle.ide_ssr.specs.Made.{AreMade, ListedAreMade, ListedAreThere, OthersLeft};
+ghost use Rattle.ide_ssr.specs.Pending.{is_at, is_open};
+ghost use Rattle.ide_ssr.specs.Nesting.{is_listed, listed, NoneListed, NoneListedFrom, placeholder_name, HasBinding, Show, Shows};
 
 use crate::bindings::Binding;
+use crate::comments::{comment_ranges, kept_comments};
 use crate::holders::Holder;
-use crate::kept::KeptMatches;
+use crate::kept::{KeptMatches, is_over};
 use crate::matches::{Match, PlaceholderMatch};
 use ide_ssr_rules::{ResolvedRule, Var};
 use ssr_syntax_tree::Tree;
@@ -17,11 +22,22 @@ use std::alloc::{AllocError, Global};
 fn is_listed(holder: Option<Holder>, other: Option<Holder>) -> bool
     ensures { result ≡ is_listed holder other }
 {
-    match (holder, other) {
-        (None, None) => true,
-        (Some(holder), Some(other)) => holder.place == other.place
-            && holder.binding == other.binding,
-        _ => false,
+    match holder {
+        Some(holder) => holder.is(other),
+        None => other.is_none(),
+    }
+}
+
+/// Whether neither the match of the place nor one behind it is listed under the holder.
+fn is_past(tree: &Tree, kept: &KeptMatches, holder: Option<Holder>, place: usize) -> bool
+    requires held { AreHeld tree.now kept.now.matches.items kept.now.holders.items }
+    requires behind { is_open place holder ≡ true }
+    requires place { place < length kept.now.matches.items }
+    ensures { result ≡ true → NoneListedFrom tree.now kept.now.matches.items holder place }
+{
+    match holder {
+        Some(holder) => !is_over(tree, &kept.matches[holder.place], &kept.matches[place]),
+        None => false,
     }
 }
 
@@ -45,81 +61,151 @@ fn placeholder_name(rules: &[ResolvedRule], rule: usize, placeholder: u32) -> &s
     name_at(rule.names(), placeholder)
 }
 
-/// The kept matches from the place on that are listed under the holder, with those that they hold.
-#[cycle(nesting)]
-pub(crate) fn nested_matches<'a>(
+/// A place for each of so many matches, of which none is made.
+fn none_made<'a>(alloc: Global, count: usize) -> Result<Vec<Option<Match<'a>>>, AllocError>
+    ensures { IfOk result (λ made. length made.items ≡ count) }
+{
+    let mut made = Vec::new(alloc);
+    for _ in 0..count {
+        made.push(None)?;
+    }
+    Ok(made)
+}
+
+/// Takes the match of the place.
+fn take_made<'a>(made: &mut Vec<Option<Match<'a>>>, place: usize) -> Match<'a>
+    requires place { place < length made.old.items }
+    requires made { IsSome (slice_index_or made.old.items place None) }
+    ensures taken { slice_index_or made.old.items place None ≡ Some result }
+    ensures others { (j : ℕ) → j ≢ place → slice_index_or made.new.items j None ≡ slice_index_or made.old.items j None }
+    ensures len { length made.new.items ≡ length made.old.items }
+{
+    match made[place].take() {
+        Some(m) => m,
+        None => unreachable!(),
+    }
+}
+
+/// Takes those of the made matches from the place on that are listed under the holder.
+fn take_listed<'a>(
     alloc: Global,
-    tree: &'a Tree,
-    rules: &[ResolvedRule],
+    tree: &Tree,
     kept: &KeptMatches,
     first: usize,
     holder: Option<Holder>,
+    made: &mut Vec<Option<Match<'a>>>,
 ) -> Result<Vec<Match<'a>>, AllocError>
     requires held { AreHeld tree.now kept.now.matches.items kept.now.holders.items }
+    requires behind { is_open first holder ≡ true }
     requires none_before { NoneListed tree.now kept.now.matches.items holder first }
-    ensures { IfOk result (λ v. Show tree.now rules.now kept.now.matches.items (listed tree.now kept.now.matches.items holder) v.items) }
+    requires len { length made.old.items ≡ length kept.now.matches.items }
+    requires there { ListedAreThere tree.now kept.now.matches.items holder made.old.items }
+    ensures shown { IfOk result (λ v. (rules : List ResolvedKind) → ListedAreMade tree.now rules kept.now.matches.items holder made.old.items → Show tree.now rules kept.now.matches.items (listed tree.now kept.now.matches.items holder) v.items) }
+    ensures others { OnOk result (OthersLeft tree.now kept.now.matches.items holder made.old.items made.new.items) }
+    ensures len { OnOk result (length made.new.items ≡ length made.old.items) }
 {
     let mut matches = Vec::new(alloc);
     for place in first..kept.matches.len() {
+        if is_past(tree, kept, holder, place) {
+            return Ok(matches);
+        }
         if is_listed(holder, kept.holders[place]) {
-            matches.push(nested_match(alloc, tree, rules, kept, place)?)?;
+            matches.push(take_made(made, place))?;
         }
     }
     Ok(matches)
 }
 
-/// The kept match of the place with those that it holds.
-#[cycle(nesting)]
-fn nested_match<'a>(
-    alloc: Global,
-    tree: &'a Tree,
-    rules: &[ResolvedRule],
-    kept: &KeptMatches,
-    place: usize,
-) -> Result<Match<'a>, AllocError>
-    requires held { AreHeld tree.now kept.now.matches.items kept.now.holders.items }
-    requires place { place < length kept.now.matches.items }
-    ensures { IfOk result (λ v. (m : FoundMatch) → slice_get kept.now.matches.items place ≡ Some m → Shows tree.now rules.now kept.now.matches.items m v) }
-{
-    let m = &kept.matches[place];
-    let mut placeholders = Vec::new(alloc);
-    for (binding, bound) in m.bindings().iter().enumerate() {
-        let holder = Holder { place, binding };
-        placeholders.push(nested_placeholder(alloc, tree, rules, kept, holder, m.rule(), *bound)?)?;
-    }
-    Ok(Match {
-        text: tree.text(m.node()),
-        range: tree.range(m.node()),
-        node: m.node(),
-        rule_index: m.rule(),
-        placeholders,
-    })
-}
-
 /// What a placeholder of a kept match holds, with the matches in it.
-#[cycle(nesting)]
 fn nested_placeholder<'a>(
     alloc: Global,
-    tree: &'a Tree,
+    tree: &Tree,
     rules: &[ResolvedRule],
-    kept: &KeptMatches,
-    holder: Holder,
     rule: usize,
     bound: Binding,
+    inner: Vec<Match<'a>>,
 ) -> Result<PlaceholderMatch<'a>, AllocError>
-    requires held { AreHeld tree.now kept.now.matches.items kept.now.holders.items }
-    requires place { holder.place < length kept.now.matches.items }
-    requires node { HasNode tree.now bound.node.0 }
+    requires { HasNode tree.now bound.node.0 }
     ensures binding { IfOk result (λ p. HasBinding tree.now (slice_get rules.now rule) bound p) }
-    ensures inner { IfOk result (λ p. Show tree.now rules.now kept.now.matches.items (listed tree.now kept.now.matches.items (Some holder)) (inner_of p)) }
+    ensures inner { IfOk result (λ p. inner_of p ≡ inner.entry.items) }
 {
     let name = placeholder_name(rules, rule, bound.placeholder);
     let var = Var(String::from_str(alloc, name)?);
-    let inner = nested_matches(alloc, tree, rules, kept, holder.place + 1, Some(holder))?;
     Ok(PlaceholderMatch {
         var,
         range: tree.range(bound.node),
         node: bound.node,
         inner,
     })
+}
+
+/// The kept match of the place with those that it holds, which are taken from the made ones.
+fn nested_match<'a>(
+    alloc: Global,
+    tree: &'a Tree,
+    rules: &[ResolvedRule],
+    kept: &KeptMatches,
+    place: usize,
+    made: &mut Vec<Option<Match<'a>>>,
+) -> Result<Match<'a>, AllocError>
+    requires held { AreHeld tree.now kept.now.matches.items kept.now.holders.items }
+    requires place { place < length kept.now.matches.items }
+    requires made { AreMade tree.now rules.now kept.now.matches.items (place + 1) made.old.items }
+    ensures shown { IfOk result (λ v. (m : FoundMatch) → slice_get kept.now.matches.items place ≡ Some m → Shows tree.now rules.now kept.now.matches.items m v) }
+    ensures others { OnOk result ((j : ℕ) (d : FoundMatch) → is_at place (holder_of tree.now kept.now.matches.items (slice_index_or kept.now.matches.items j d)) ≡ false → slice_index_or made.new.items j None ≡ slice_index_or made.old.items j None) }
+    ensures len { OnOk result (length made.new.items ≡ length made.old.items) }
+{
+    let m = &kept.matches[place];
+    let mut placeholders = Vec::new(alloc);
+    for (binding, bound) in m.bindings().iter().enumerate() {
+        let holder = Some(Holder { place, binding });
+        let inner = take_listed(alloc, tree, kept, place + 1, holder, made)?;
+        placeholders.push(nested_placeholder(alloc, tree, rules, m.rule(), *bound, inner)?)?;
+    }
+    let comments = kept_comments(alloc, tree, m)?;
+    Ok(Match {
+        text: tree.text(m.node()),
+        range: tree.range(m.node()),
+        node: m.node(),
+        rule_index: m.rule(),
+        placeholders,
+        comments: comment_ranges(alloc, tree, &comments)?,
+    })
+}
+
+/// Makes the match of the place, where those behind it are made.
+fn make_match<'a>(
+    alloc: Global,
+    tree: &'a Tree,
+    rules: &[ResolvedRule],
+    kept: &KeptMatches,
+    place: usize,
+    made: &mut Vec<Option<Match<'a>>>,
+) -> Result<(), AllocError>
+    requires held { AreHeld tree.now kept.now.matches.items kept.now.holders.items }
+    requires place { place < length kept.now.matches.items }
+    requires made { AreMade tree.now rules.now kept.now.matches.items (place + 1) made.old.items }
+    ensures { OnOk result (AreMade tree.now rules.now kept.now.matches.items place made.new.items) }
+{
+    let m = nested_match(alloc, tree, rules, kept, place, made)?;
+    made[place] = Some(m);
+    Ok(())
+}
+
+/// The outermost kept matches, with those that they hold. They are made from the last to the first: what a match
+/// holds comes behind it.
+pub(crate) fn nested_matches<'a>(
+    alloc: Global,
+    tree: &'a Tree,
+    rules: &[ResolvedRule],
+    kept: &KeptMatches,
+) -> Result<Vec<Match<'a>>, AllocError>
+    requires { AreHeld tree.now kept.now.matches.items kept.now.holders.items }
+    ensures { IfOk result (λ v. Show tree.now rules.now kept.now.matches.items (listed tree.now kept.now.matches.items None) v.items) }
+{
+    let mut made = none_made(alloc, kept.matches.len())?;
+    for place in (0..kept.matches.len()).rev() {
+        make_match(alloc, tree, rules, kept, place, &mut made)?;
+    }
+    take_listed(alloc, tree, kept, 0, None, &mut made)
 }

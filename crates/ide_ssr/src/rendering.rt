@@ -1,19 +1,15 @@
-ghost use Rattle.std.specs.Prelude.{◌≡◌, ◌+◌, ◌++◌, ◌^◌, ◌<◌, ◌≤◌, ◌==◌, ◌&&◌, ℕ, if◌then◌else◌, nat_le, IfOk, length, map, position, bytes_eq, string_bytes};
+ghost use Rattle.std.specs.Prelude.{◌≡◌, ◌+◌, ◌++◌, ◌^◌, ◌<◌, ◌≤◌, ◌==◌, ◌&&◌, ℕ, if◌then◌else◌, nat_le, IfOk, length, map, string_bytes};
 ghost use Rattle.std.specs.List.{position_or_len};
-ghost use Rattle.ide_ssr_rules.specs.StandIns.{stand_in_of};
 ghost use Rattle.ssr_syntax_tree.specs.Syntax.{node_count, tokens_of};
 ghost use Rattle.ssr_syntax_tree.specs.Places.{HasNode, HasToken, node_of, token_of};
-ghost use Rattle.ide_ssr.specs.Rendering.{is_ident, placeholder_of, piece_of, text_for, plain, is_node, wrapped_text, wrapped, rendered};
+ghost use Rattle.ide_ssr.specs.Rendering.{piece_of, text_for, plain, is_node, wrapped_text, wrapped, rendered};
 
 use crate::bindings::Binding;
 use ide_ssr_rules::ResolvedRule;
 use ssr_syntax::{Fragment, SyntaxError, fragment};
-use ssr_syntax_lex::{SyntaxKind, TextRange};
+use ssr_syntax_lex::TextRange;
 use ssr_syntax_tree::{NodeNo, TokenNo, Tree};
 use std::alloc::{AllocError, Global};
-
-/// What a stand-in's text begins with.
-const STAND_IN: &str = "__placeholder_";
 
 /// The text that the rule's template gives for a match with these bindings, each of which has its piece.
 pub(crate) fn rendered(
@@ -32,52 +28,12 @@ pub(crate) fn rendered(
     }
 }
 
-/// The place, among the rule's names, of the name whose stand-in the token of the template is.
-fn placeholder(rule: &ResolvedRule, token: TokenNo) -> Option<usize>
-    requires { HasToken rule.now.template token.0 }
-    ensures { result ≡ placeholder_of rule.now.names (token_of rule.now.template token.0) }
-{
-    let template = rule.template();
-    if is_ident(template.token_kind(token)) {
-        place_of_name(rule.names(), template.token_text(token))
-    } else {
-        None
-    }
-}
-
-fn is_ident(kind: SyntaxKind) -> bool
-    ensures { result ≡ is_ident kind }
-{
-    matches!(kind, SyntaxKind::IDENT)
-}
-
-/// The place of the name whose stand-in the text is.
-fn place_of_name(names: &[String], text: &str) -> Option<usize>
-    ensures { result ≡ position (λ name. bytes_eq text.now (stand_in_of name)) (map string_bytes names.now) }
-{
-    for (place, name) in names.iter().enumerate() {
-        if is_stand_in(text, name.as_str()) {
-            return Some(place);
-        }
-    }
-    None
-}
-
-fn is_stand_in(text: &str, name: &str) -> bool
-    ensures { result ≡ bytes_eq text.now (stand_in_of name.now) }
-{
-    match text.strip_prefix(STAND_IN) {
-        Some(rest) => rest == name,
-        None => false,
-    }
-}
-
 /// The place of the placeholder's binding, or the count of bindings.
-fn place_of_binding(bindings: &[Binding], placeholder: usize) -> usize
+fn place_of_binding(bindings: &[Binding], placeholder: u32) -> usize
     ensures { result ≡ position_or_len (λ binding. binding.placeholder == placeholder) bindings.now }
 {
     for (place, binding) in bindings.iter().enumerate() {
-        if binding.placeholder as usize == placeholder {
+        if binding.placeholder == placeholder {
             return place;
         }
     }
@@ -85,7 +41,7 @@ fn place_of_binding(bindings: &[Binding], placeholder: usize) -> usize
 }
 
 /// The piece of the placeholder whose name has this place.
-fn piece<'a>(bindings: &[Binding], pieces: &'a [String], placeholder: usize) -> &'a str
+fn piece<'a>(bindings: &[Binding], pieces: &'a [String], placeholder: u32) -> &'a str
     ensures { result.now ≡ piece_of bindings.now (map string_bytes pieces.now) placeholder }
 {
     match pieces.get(place_of_binding(bindings, placeholder)) {
@@ -104,7 +60,7 @@ fn text_for<'a>(
     requires { HasToken rule.now.template token.0 }
     ensures { result.now ≡ text_for rule.now.names (piece_of bindings.now (map string_bytes pieces.now)) (token_of rule.now.template token.0) }
 {
-    match placeholder(rule, token) {
+    match rule.template_placeholder(token) {
         Some(place) => piece(bindings, pieces, place),
         None => rule.template().token_text(token),
     }
@@ -143,7 +99,7 @@ fn wrapped(
     let mut at = 0;
     for token in 0..rule.template().token_count() {
         let text = text_for(rule, bindings, pieces, TokenNo(token));
-        let is_piece = placeholder(rule, TokenNo(token)).is_some();
+        let is_piece = rule.template_placeholder(TokenNo(token)).is_some();
         push_wrapped(&mut wrapped, tree, front, is_piece, at, text)?;
         at += text.len();
     }

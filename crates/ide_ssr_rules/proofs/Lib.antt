@@ -8,3 +8,6 @@ pub mod Chains
 pub mod Nodes
 pub mod Resolved
 pub mod Uses
+pub mod Patterns
+pub mod EachOnce
+pub mod TrimmedSides

@@ -65,7 +65,7 @@ pub record Went {A B : Type 0} (first : Result A Refusal) (next : A → Result B
   pub first_is : first ≡ Ok found
   pub next_is : next found ≡ Ok value
 
-went : {A B : Type 0} (first : Result A Refusal) (next : A → Result B Refusal) (value : B) → (first >>= next) ≡ Ok value → Went first next value
+pub went : {A B : Type 0} (first : Result A Refusal) (next : A → Result B Refusal) (value : B) → (first >>= next) ≡ Ok value → Went first next value
 went (Ok found) next value is = record { found = found; first_is = refl; next_is = is }
 went (Err refusal) next value is = absurd cc
 

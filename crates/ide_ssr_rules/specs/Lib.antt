@@ -5,3 +5,4 @@ pub mod StandIns
 pub mod Resolving
 pub mod Rules
 pub mod Uses
+pub mod Patterns

@@ -28,7 +28,7 @@ only_token (branch kind below nothing) = only_token below
 only_token (branch kind below next) = None
 
 -- which name's stand-in a token is
-abbrev pub name_at : List (List ℕ) → Token → Option ℕ
+unfoldable pub name_at : List (List ℕ) → Token → Option ℕ
 name_at names token = if is_ident token.kind then position_from (λ name. bytes_eq token.text (stand_in_of name)) 0 names else None
 
 -- which name's stand-in a node is: through single children it is only an identifier that spells it

@@ -24,7 +24,8 @@ fn only_token(tree: &Tree, node: NodeNo) -> Option<TokenNo>
 }
 
 /// Which name's stand-in a token is.
-fn name_at(names: &[String], tree: &Tree, token: TokenNo) -> Option<u32>
+#[tactic(auto, unfolding(crate::specs::Resolving::name_at))]
+pub(crate) fn name_at(names: &[String], tree: &Tree, token: TokenNo) -> Option<u32>
     requires few { length names.now < 2 ^ 32 }
     requires has { HasToken tree.now token.0 }
     ensures { result ≡ name_at (map string_bytes names.now) (token_of tree.now token.0) }

@@ -1,15 +1,16 @@
-ghost use Rattle.std.specs.Prelude.{◌≡◌, ◌<◌, ◌^◌, length, map, string_bytes, IfOk};
+ghost use Rattle.std.specs.Prelude.{◌≡◌, ◌<◌, ◌^◌, length, map, string_bytes, All, IfOk};
 ghost use Rattle.std.specs.Option.{option_copied};
-ghost use Rattle.ssr_syntax_tree.specs.Places.{HasNode, node_of};
+ghost use Rattle.ssr_syntax_tree.specs.Places.{HasNode, HasToken, node_of, token_of};
+ghost use Rattle.ide_ssr_rules.specs.Patterns.{HasEachOnce};
 ghost use Rattle.ide_ssr_rules.specs.Refusals.{Answers, AnswersBy, unless, no_meaning};
-ghost use Rattle.ide_ssr_rules.specs.Resolving.{placeholder_at, is_path, is_unresolved, unresolved, resolved_kind, resolved_kinds};
+ghost use Rattle.ide_ssr_rules.specs.Resolving.{name_at, placeholder_at, is_path, is_unresolved, unresolved, resolved_kind, resolved_kinds};
 
 use crate::error::SsrError;
 use crate::kinds::ParsedRule;
-use crate::placeholders::{placeholder_at, placeholders};
+use crate::placeholders::{name_at, placeholder_at, placeholders};
 use crate::rules::SsrRule;
 use ssr_syntax_lex::SyntaxKind;
-use ssr_syntax_tree::{NodeNo, Tree};
+use ssr_syntax_tree::{NodeNo, TokenNo, Tree};
 use std::alloc::{AllocError, Global};
 use std::marker::Model;
 
@@ -20,11 +21,10 @@ pub struct ResolvedRule {
     pattern: Tree,
     template: Tree,
     in_pattern: Vec<Option<u32>>,
-    in_template: Vec<Option<u32>>,
 }
 
 impl Model for ResolvedRule {
-    ghost use Rattle.std.specs.Prelude.{◌≡◌, map, string_bytes};
+    ghost use Rattle.std.specs.Prelude.{◌≡◌, ◌<◌, ◌^◌, length, map, string_bytes};
     ghost use Rattle.ide_ssr_rules.specs.Resolving.{ResolvedKind, resolved_code, placeholders};
 
     ghost Value = { ResolvedKind };
@@ -35,7 +35,7 @@ impl Model for ResolvedRule {
 
     ghost invariant = { λ rule. record {
       in_pattern : rule.in_pattern.items ≡ placeholders (map string_bytes rule.names.items) rule.pattern;
-      in_template : rule.in_template.items ≡ placeholders (map string_bytes rule.names.items) rule.template;
+      few : length rule.names.items < 2 ^ 32;
     } };
 }
 
@@ -67,19 +67,21 @@ impl ResolvedRule {
         self.in_pattern[node.0 as usize]
     }
 
-    /// The same of a node of the template.
-    pub fn template_placeholder(&self, node: NodeNo) -> Option<u32>
-        requires { HasNode self.now.template node.0 }
-        ensures { result ≡ placeholder_at self.now.names (node_of self.now.template node.0) }
+    /// The same of a token of the template.
+    pub fn template_placeholder(&self, token: TokenNo) -> Option<u32>
+        requires { HasToken self.now.template token.0 }
+        ensures { result ≡ name_at self.now.names (token_of self.now.template token.0) }
     {
-        self.in_template[node.0 as usize]
+        name_at(self.names.as_slice(), &self.template, token)
     }
 }
 
 impl SsrRule {
-    /// The kinds of the rule in their order, or why one of its paths has no meaning.
+    /// The kinds of the rule in their order, or why one of its paths has no meaning. The pattern of each kind has
+    /// each placeholder once.
     pub fn resolve(self, alloc: Global) -> Result<Vec<ResolvedRule>, SsrError>
-        ensures { AnswersBy (λ v. v.items) result (resolved_kinds self.names self.kinds) }
+        ensures kinds { AnswersBy (λ v. v.items) result (resolved_kinds self.names self.kinds) }
+        ensures each { IfOk result (λ v. All (λ kind. HasEachOnce kind.names kind.pattern) v.items) }
     {
         let SsrRule { names, kinds } = self;
         let mut resolved = Vec::new(alloc);
@@ -104,14 +106,12 @@ fn resolved_kind(
     check_paths(alloc, names, &template)?;
     check_paths(alloc, names, &pattern)?;
     let in_pattern = placeholders(alloc, names, &pattern)?;
-    let in_template = placeholders(alloc, names, &template)?;
     let names = copied(alloc, names)?;
     Ok(ResolvedRule {
         names,
         pattern,
         template,
         in_pattern,
-        in_template,
     })
 }
 

@@ -1,9 +1,10 @@
 ghost use Rattle.std.specs.Prelude.{◌≡◌, ◌<◌, ◌^◌, ◌++◌, [], length, map, string_bytes, IfOk};
 ghost use Rattle.std.specs.Option.{option_copied};
+ghost use Rattle.std.specs.Str.{IsUtf8, trim};
 ghost use Rattle.ide_ssr_rules.specs.Elements.{names_of};
 ghost use Rattle.ide_ssr_rules.specs.Refusals.{Answers, AnswersBy, unless, no_token, reserved};
 ghost use Rattle.ide_ssr_rules.specs.Rules.{expr_of, kinds_of, some_kind, lacking, check_sides, check_defined, rule_of, rule_reading};
-ghost use Rattle.ide_ssr_rules.specs.Uses.{UsesPlaceholdersOnce};
+ghost use Rattle.ide_ssr_rules.specs.Uses.{AreNew, UsesPlaceholdersOnce};
 ghost use Rattle.ide_ssr_rules.specs.StandIns.{code_of, changed, spelled_stand_in};
 
 use crate::elements::Element;
@@ -25,7 +26,7 @@ pub struct SsrRule {
 }
 
 impl Model for SsrRule {
-    ghost use Rattle.std.specs.Prelude.{◌<◌, ◌^◌, length, map, string_bytes};
+    ghost use Rattle.std.specs.Prelude.{◌<◌, ◌^◌, All, length, map, string_bytes};
     ghost use Rattle.ide_ssr_rules.specs.Rules.{Rule, rule_code};
 
     ghost Value = { Rule };
@@ -34,7 +35,12 @@ impl Model for SsrRule {
 
     ghost view = { λ rule. record { names = map string_bytes rule.names.items; kinds = rule.kinds.items } };
 
-    ghost invariant = { λ rule. length rule.names.items < 2 ^ 32 };
+    ghost use Rattle.ide_ssr_rules.specs.Patterns.{HasEachOnce};
+
+    ghost invariant = { λ rule. record {
+      few : length rule.names.items < 2 ^ 32;
+      each : All (λ kind. HasEachOnce (map string_bytes rule.names.items) kind.pattern) rule.kinds.items;
+    } };
 }
 
 impl SsrRule {
@@ -62,7 +68,9 @@ fn rule_of<'a>(
     pattern: &[Element<'a>],
     template: &[Element<'a>],
 ) -> Result<SsrRule, SsrError>
-    requires { length pattern.now < 2 ^ 32 }
+    requires few { length pattern.now < 2 ^ 32 }
+    requires new { AreNew [] (names_of pattern.now) }
+    requires trimmed { trim (code_of pattern.now) ≡ code_of pattern.now }
     ensures { Answers result (rule_of pattern.now template.now) }
 {
     check_sides(alloc, pattern, template)?;
@@ -180,7 +188,8 @@ fn some_kind(
     pattern: &[Element<'_>],
     template: &[Element<'_>],
 ) -> Result<Vec<ParsedRule>, SsrError>
-    ensures { AnswersBy (λ v. v.items) result (some_kind (kinds_of (code_of pattern.now) (code_of template.now))) }
+    ensures kinds { AnswersBy (λ v. v.items) result (some_kind (kinds_of (code_of pattern.now) (code_of template.now))) }
+    ensures text { IfOk result (λ _. IsUtf8 (code_of pattern.now)) }
 {
     let pattern = code_of(alloc, pattern)?;
     let template = code_of(alloc, template)?;

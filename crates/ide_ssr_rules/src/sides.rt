@@ -1,7 +1,9 @@
 ghost use Rattle.std.specs.Prelude.{◌≡◌, ◌<◌, ◌≤◌, ◌^◌, ◌++◌, [], length, IfOk, OnOk};
+ghost use Rattle.std.specs.Str.{trim};
 ghost use Rattle.ide_ssr_rules.specs.Elements.{has, name_in, elements, side, names_of};
 ghost use Rattle.ide_ssr_rules.specs.Refusals.{AnswersBy};
 ghost use Rattle.ide_ssr_rules.specs.Sides.{sides};
+ghost use Rattle.ide_ssr_rules.specs.StandIns.{code_of};
 
 use crate::elements::Element;
 use crate::error::SsrError;
@@ -12,7 +14,8 @@ const DELIMITER: &str = "==>>";
 
 /// The pattern and the template of a rule text, without the white space around them.
 pub(crate) fn sides(alloc: Global, text: &str) -> Result<(&str, &str), SsrError>
-    ensures { AnswersBy (λ parts. (parts.0.now, parts.1.now)) result (sides text.now) }
+    ensures parts { AnswersBy (λ parts. (parts.0.now, parts.1.now)) result (sides text.now) }
+    ensures trimmed { IfOk result (λ parts. trim parts.0.now ≡ parts.0.now) }
 {
     let Some((pattern, template)) = text.split_once(DELIMITER) else {
         return Err(SsrError::no_delimiter(alloc));
@@ -71,6 +74,7 @@ fn elements<'a>(alloc: Global, tokens: Vec<Token<'a>>) -> Result<Vec<Element<'a>
 pub(crate) fn side<'a>(alloc: Global, text: &'a str) -> Result<Vec<Element<'a>>, SsrError>
     ensures value { AnswersBy (λ v. v.items) result (side text.now) }
     ensures few { IfOk result (λ v. length v.items < 2 ^ 32) }
+    ensures trimmed { IfOk result (λ v. trim text.now ≡ text.now → trim (code_of v.items) ≡ code_of v.items) }
 {
     match lexed(alloc, text) {
         Ok(tokens) => elements(alloc, tokens),

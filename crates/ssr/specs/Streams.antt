@@ -21,6 +21,10 @@ Gives old new buffer count =
     (count ≤ length buffer) × (new.bytes ≡ old.bytes ++ take count buffer)
     × (0 < length buffer → new.ended ≡ (count == 0)) × (new.failures ≡ old.failures)
 
+-- a read failed, and gave nothing
+abbrev pub GivesNothing : Given → Given → Type 0
+GivesNothing old new = (new.bytes ≡ old.bytes) × (new.ended ≡ old.ended) × (new.failures ≡ old.failures + 1)
+
 -- a write took the first `count` bytes of the buffer
 abbrev pub Takes : Taken → Taken → List ℕ → ℕ → Type 0
 Takes old new buffer count =

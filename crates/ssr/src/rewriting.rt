@@ -7,8 +7,7 @@ ghost use Rattle.ide_ssr.specs.Edits.{rewritten_file};
 ghost use Rattle.ssr.specs.declared.rewriting.RewriteError.TheVariants as errors;
 ghost use Rattle.ssr_syntax_tree.specs.Syntax.{source_of};
 
-use ide_ssr::{EditError, MatchFinder};
-use ide_ssr_rules::{SsrError, SsrRule};
+use ide_ssr::{EditError, MatchFinder, SsrError, SsrRule};
 use ssr_base::{ApplyError, FileId};
 use ssr_syntax::{SyntaxError, parse_file};
 use std::alloc::{AllocError, Global};

@@ -1,6 +1,6 @@
 //! What the program reads from and writes to.
-ghost use Rattle.std.specs.Prelude.{◌≡◌, ◌+◌, IfOk, OnErr};
-ghost use Rattle.ssr.specs.Streams.{Given, Taken, Gives, Takes, TakesNothing};
+ghost use Rattle.std.specs.Prelude.{IfOk, OnErr};
+ghost use Rattle.ssr.specs.Streams.{Given, Taken, Gives, GivesNothing, Takes, TakesNothing};
 
 /// A read or a write that failed.
 #[derive(Clone, Copy, Debug, PartialEq, Eq)]
@@ -13,7 +13,7 @@ pub trait Source {
     /// Puts the next bytes at the front of `buf`, and answers how many they are. With room for a byte, 0 is the end.
     fn read(&mut self, buf: &mut [u8]) -> Result<usize, Failed>
         ensures ok { IfOk result (Gives (given self.old) (given self.new) buf.new) }
-        ensures err { OnErr result ((given self.new).failures ≡ (given self.old).failures + 1) };
+        ensures err { OnErr result (GivesNothing (given self.old) (given self.new)) };
 }
 
 /// Where bytes go to.

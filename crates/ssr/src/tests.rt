@@ -125,6 +125,70 @@ fn rewrites_files(rt: HostRuntime) -> Result<(), Fail> {
 }
 
 #[test]
+fn rewrites_literals(rt: HostRuntime) -> Result<(), Fail> {
+    for (rule, file, text) in [
+        (SWAP, "fn f() {\"é\" + x}", "fn f() {x + \"é\"}"),
+        ("true ==>> false", "fn f() {true}", "fn f() {false}"),
+        (
+            "$a + 1.5e-3 ==>> $a",
+            "fn f() {r#\"a\"b\"# + 1.5e-3}",
+            "fn f() {r#\"a\"b\"#}",
+        ),
+        (
+            "'\\'' * $a ==>> b'x' - $a",
+            "fn f() {'\\'' * br\"y\"}",
+            "fn f() {b'x' - br\"y\"}",
+        ),
+        // only the same spelling is the same literal
+        (
+            "1 ==>> 2",
+            "fn f() {1.0 + 0x1 + 1u8 + 1}",
+            "fn f() {1.0 + 0x1 + 1u8 + 2}",
+        ),
+    ] {
+        let (written, status) = output_of(&rt, &[rule], file.as_bytes())?;
+        assert_eq!(rt; written.as_str(), text, "{rule} on {file}");
+        assert_eq!(rt; status, 0, "{rule} on {file}");
+    }
+    Ok(())
+}
+
+#[test]
+fn keeps_comments(rt: HostRuntime) -> Result<(), Fail> {
+    for (rule, file, text) in [
+        (
+            "$a + 1 ==>> $a",
+            "fn f() {x /* k */ + 1}",
+            "fn f() {x/* k */}",
+        ),
+        ("$a + 1 ==>> $a", "fn f() {x // k\n+ 1}", "fn f() {x// k\n}"),
+        // a placeholder's own comments stay in it, and those around it come in their order
+        (
+            "($a + $b) ==>> $b * $a",
+            "fn f() { // 0\n( /* 1 */ (x /* 2 */) // 3\n + /* 4 */ y) /* 5 */ }",
+            "fn f() { // 0\ny * (x /* 2 */)/* 1 */// 3\n/* 4 */ /* 5 */ }",
+        ),
+        // those of a match in a placeholder stay with it
+        (
+            "$a - $b ==>> $b",
+            "fn f() {1 - (2 /* 1 */ - /* 2 */ 3)}",
+            "fn f() {(3/* 1 *//* 2 */)}",
+        ),
+        // a text of a rule may hold comments as well
+        (
+            "$a /* k */ + $b ==>> $a /* l */ - $b",
+            "fn f() {1 + 2}",
+            "fn f() {1 /* l */ - 2}",
+        ),
+    ] {
+        let (written, status) = output_of(&rt, &[rule], file.as_bytes())?;
+        assert_eq!(rt; written.as_str(), text, "{rule} on {file}");
+        assert_eq!(rt; status, 0, "{rule} on {file}");
+    }
+    Ok(())
+}
+
+#[test]
 fn earlier_rules_come_first(rt: HostRuntime) -> Result<(), Fail> {
     for (rules, file, text) in [
         (
@@ -319,12 +383,27 @@ fn is_answer(text: &str, status: u8) -> bool {
 #[test]
 fn answers_every_beginning(rt: HostRuntime) -> Result<(), Fail> {
     for text in [
+        SWAP,
+        "fn f() {1 + 2 + 3 + 4}",
+        "foo ==>> bar",
+        "$a - $b ==>> $b - $a",
+        "fn f() {1 - 2 - 3}",
+        "$a * $b ==>> $b * $a",
+        "fn f() {(1 + 2) * 3}",
+        "$a + 1 ==>> $a",
+        "fn f() {2 * (x + 1)}",
+        "$a + $b ==>> $a",
+        "fn f() {1 + 2} fn g() {3}",
+        "fn f() {\"é\" + x}",
+        "fn f() {x /* k */ + 1}",
+        "fn f() {x // k\n+ 1}",
         "fn f() {4 + (3 + (2 + 1))} fn g() {(x * y) % z / 3}",
-        "$a + $b ==>> $b + $a",
         "1 * (2 - x) ==>> 0x1F / 3",
         "__placeholder_a $a ${a} ' // /* \"",
+        "fn f() {\"é\" + 1.5e-3 * b'\\n' - r#\"x\"#} // k",
+        "$a /* k /* l */ */ + 'x' ==>> c\"é\" // k",
     ] {
-        for end in 0..text.len() {
+        for end in 0..=text.len() {
             let Some(beginning) = text.get(..end) else {
                 continue;
             };

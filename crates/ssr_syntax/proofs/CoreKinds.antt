@@ -1,13 +1,13 @@
 -- The grammar's look-ahead decides: each goal keeps what the tables claim of it.
 use Rattle.std.proofs.Common.{◌≡◌, true, false, List, [], ◌∷◌, ◌++◌, refl}
 use Rattle.ssr_syntax_lex.specs.declared.kinds.SyntaxKind.{SyntaxKind}
-use Rattle.ssr_syntax_lex.specs.declared.kinds.SyntaxKind.TheVariants.{FN_KW, IDENT, INT_NUMBER, L_PAREN, R_PAREN, L_CURLY, R_CURLY, STAR, SLASH, PERCENT, PLUS, MINUS, SOURCE_FILE, FN, NAME, PARAM_LIST, BLOCK_EXPR, STMT_LIST, LITERAL, PATH_EXPR, PATH, PATH_SEGMENT, NAME_REF, PAREN_EXPR, BIN_EXPR}
+use Rattle.ssr_syntax_lex.specs.declared.kinds.SyntaxKind.TheVariants.{FN_KW, IDENT, L_PAREN, R_PAREN, L_CURLY, R_CURLY, STAR, SLASH, PERCENT, PLUS, MINUS, SOURCE_FILE, FN, NAME, PARAM_LIST, BLOCK_EXPR, STMT_LIST, LITERAL, PATH_EXPR, PATH, PATH_SEGMENT, NAME_REF, PAREN_EXPR, BIN_EXPR}
 use Rattle.ssr_syntax.specs.declared.goals.Goal.{Goal}
 use Rattle.ssr_syntax.specs.declared.goals.Goal.TheVariants.{File, Expr, Operand}
 use Rattle.ssr_syntax.specs.declared.goals.Rank.{Rank}
 use Rattle.ssr_syntax.specs.declared.goals.Rank.TheVariants.{Atom, Product, Sum}
 use Rattle.ssr_syntax.specs.Kinds.{mem}
-use Rattle.ssr_syntax.specs.Expressions.{literal, path_expr, paren_expr, atom, operations, product, sum, expr_first, operators, stmt_list, block_expr}
+use Rattle.ssr_syntax.specs.Expressions.{literal, literals, path_expr, paren_expr, atom, operations, product, sum, expr_first, operators, stmt_list, block_expr}
 use Rattle.ssr_syntax.specs.Items.{name, param_list, function, items, source_file}
 use Rattle.ssr_syntax.specs.Paths.{name_ref, path_segment, path}
 use Rattle.ssr_syntax.specs.Grammar.{grammar}
@@ -18,9 +18,9 @@ use Rattle.ssr_syntax.proofs.Keeping.{within}
 -- all kinds of the grammar
 abbrev pub core_kinds : List SyntaxKind
 core_kinds =
-    FN_KW ∷ IDENT ∷ INT_NUMBER ∷ L_PAREN ∷ R_PAREN ∷ L_CURLY ∷ R_CURLY ∷ STAR ∷ SLASH ∷ PERCENT ∷ PLUS ∷ MINUS
+    FN_KW ∷ IDENT ∷ L_PAREN ∷ R_PAREN ∷ L_CURLY ∷ R_CURLY ∷ STAR ∷ SLASH ∷ PERCENT ∷ PLUS ∷ MINUS
     ∷ SOURCE_FILE ∷ FN ∷ NAME ∷ PARAM_LIST ∷ BLOCK_EXPR ∷ STMT_LIST
-    ∷ LITERAL ∷ PATH_EXPR ∷ PATH ∷ PATH_SEGMENT ∷ NAME_REF ∷ PAREN_EXPR ∷ BIN_EXPR ∷ []
+    ∷ LITERAL ∷ PATH_EXPR ∷ PATH ∷ PATH_SEGMENT ∷ NAME_REF ∷ PAREN_EXPR ∷ BIN_EXPR ∷ literals
 
 -- what may stand behind an expression
 abbrev behind_expr : List SyntaxKind

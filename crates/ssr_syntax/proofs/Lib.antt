@@ -20,6 +20,8 @@ pub mod Laid
 pub mod SolidLaws
 pub mod Single
 pub mod Lone
+pub mod Identifiers
 pub mod Texts
 pub mod Trimmed
 pub mod TextLaws
+pub mod IdentTexts

@@ -22,7 +22,7 @@ subset_mem k (l ∷ ks) ls s h =
       | inr m ↦ subset_mem k ks ls b.1 m
     ]
 
-neither : (a b : Bool) → (a || b) ≡ false → (a ≡ false) × (b ≡ false)
+pub neither : (a b : Bool) → (a || b) ≡ false → (a ≡ false) × (b ≡ false)
 neither true b h = cc
 neither false b h = (refl, h)
 

@@ -344,6 +344,65 @@ closed_at_end at total [] rows above old new before written nodes result none e 
     closed_here at total rows above old new before written nodes result e f h
 closed_at_end at total (row ∷ rest) rows above old new before written nodes result none e f h = absurd (omega arith)
 
+-- ** One row: `mid` are the nodes that stay open before it, `inner` is its node.
+module _ (at : ℕ → ℕ) (total : ℕ) (row : Row) (place : ℕ) (old mid : List Open) (written kept : List NodeRow) (inner : Open)
+    (open_is : reverse mid ≡ still_open (place + 1) (reverse old))
+    (kept_is : kept ≡ written ++ closed (place + 1) (reverse old))
+    (few : length mid ≤ most_deep)
+    (inner_is : inner ≡ opened at total row place (reverse mid)) where
+  not_too_many : nat_lt most_deep (length (still_open (1 + place) (reverse old))) ≡ false
+  not_too_many =
+      let count : length (still_open (1 + place) (reverse old)) ≡ length mid =
+      ap (λ n. length (still_open n (reverse old))) (omega arith) ∙ ap length (sym open_is) ∙ length-reverse mid in
+      le-ltb most_deep (length (still_open (1 + place) (reverse old))) (omega arith)
+
+  abbrev Goes : List Open → List NodeRow → List Row → Type 0
+  Goes above nodes front =
+      (nodes ++ from_right at total above front ≡ written ++ from_right at total (reverse old) (row ∷ front))
+      × (is_deeper most_deep at total above front ≡ is_deeper most_deep at total (reverse old) (row ∷ front))
+
+  goes_open : (front : List Row) → length front ≡ place → Goes (inner ∷ reverse mid) kept front
+  goes_open front e =
+      let still : List Open = still_open (1 + length front) (reverse old) in
+      let same : reverse mid ≡ still = open_is ∙ ap (λ n. still_open n (reverse old)) (omega arith) in
+      let above : inner ∷ reverse mid ≡ opened at total row (length front) still ∷ still =
+      ap (λ o. o ∷ reverse mid) (inner_is ∙ ap (λ n. opened at total row n (reverse mid)) (sym e))
+      ∙ ap (λ s. opened at total row (length front) s ∷ s) same in
+      let none : nat_lt most_deep (length still) ≡ false = ap (λ n. nat_lt most_deep (length (still_open (1 + n) (reverse old)))) e ∙ not_too_many in (
+        ap (λ l. l ++ from_right at total (inner ∷ reverse mid) front) (kept_is ∙ ap (λ n. written ++ closed n (reverse old)) (omega arith))
+            ∙ append_assoc written (closed (1 + length front) (reverse old)) (from_right at total (inner ∷ reverse mid) front)
+            ∙ ap (λ s. written ++ (closed (1 + length front) (reverse old) ++ from_right at total s front)) above,
+        ap (λ s. is_deeper most_deep at total s front) above
+            ∙ ap (λ b. b || is_deeper most_deep at total (opened at total row (length front) still ∷ still) front) (sym none),
+      )
+
+  abbrev Went : List Open → List NodeRow → Type 0
+  Went above nodes =
+      (nat_lt most_deep (length (still_open (1 + place) (reverse old))) ≡ false)
+      × ((front : List Row) → length front ≡ place → Goes above nodes front)
+
+  -- its node stays open
+  pub goes_on : (new : List Open) → new ≡ mid ++ (inner ∷ []) → Went (reverse new) kept
+  goes_on new new_is =
+      let turned : reverse new ≡ inner ∷ reverse mid = ap reverse new_is ∙ reverse-append mid (inner ∷ []) in
+      (not_too_many, λ front e. subst (λ s. Goes s kept front) (sym turned) (goes_open front e))
+
+  -- its node is written at once
+  goes_written : (nodes : List NodeRow) → inner.start ≡ place → nodes ≡ kept ++ (inner.node ∷ [])
+      → (front : List Row) → length front ≡ place → Goes (reverse mid) nodes front
+  goes_written nodes here nodes_are front e =
+      let le : length front ≤ inner.start = omega arith in
+      let went = goes_open front e in (
+        ap (λ l. l ++ from_right at total (reverse mid) front) nodes_are
+            ∙ append_assoc kept (inner.node ∷ []) (from_right at total (reverse mid) front)
+            ∙ ap (λ l. kept ++ l) (sym (closes_first at total inner (reverse mid) front le))
+            ∙ went.0,
+        sym (closes_unseen most_deep at total inner (reverse mid) front le) ∙ went.1,
+      )
+
+  pub goes_on_written : (nodes : List NodeRow) → inner.start ≡ place → nodes ≡ kept ++ (inner.node ∷ []) → Went (reverse mid) nodes
+  goes_on_written nodes here nodes_are = (not_too_many, goes_written nodes here nodes_are)
+
 -- all rows of a tree read
 pub all_placed : (at : ℕ → ℕ) (tokens : ℕ) (kind : SyntaxKind) (kids : Forest) (below : List Row) (root : Row) (nodes : List NodeRow)
     → below ++ (root ∷ []) ≡ rows (tree kind kids done) 0

@@ -77,7 +77,7 @@ whole-rows text raw kind kids single are few =
 
 -- ** Tokens that tile a text.
 
-tiles_within : (text : List ℕ) (start : ℕ) (raw : List RawToken) → TilesFrom text start raw → start ≤ length text
+pub tiles_within : (text : List ℕ) (start : ℕ) (raw : List RawToken) → TilesFrom text start raw → start ≤ length text
 tiles_within text start [] h = omega arith
 tiles_within text start (t ∷ ts) h = omega (arith, h.1, tiles_within text t.range.end ts h.3)
 
@@ -85,7 +85,7 @@ boundary : (text : List ℕ) (start : ℕ) (raw : List RawToken) → TilesFrom t
 boundary text start [] h = subst (IsCharBoundary text) (sym h) (IsCharBoundary-end text)
 boundary text start (t ∷ ts) h = h.2
 
-length-token : (text : List ℕ) (t : RawToken) (start : ℕ) → t.range.start ≡ start → t.range.end ≤ length text
+pub length-token : (text : List ℕ) (t : RawToken) (start : ℕ) → t.range.start ≡ start → t.range.end ≤ length text
     → length (token_text text t) ≡ t.range.end - start
 length-token text t start e le =
     length-take (t.range.end - t.range.start) (drop t.range.start text)
@@ -104,7 +104,7 @@ tiled_rows text start (t ∷ ts) h =
     ap (λ n. row n ∷ map row_of ts) h.0
     ∙ ap (λ l. row start ∷ l) (tiled_rows text t.range.end ts h.3 ∙ ap (λ n. token_rows n (pieces text ts)) (sym next))
 
-tiled_texts : (text : List ℕ) (start : ℕ) (raw : List RawToken) → IsUtf8 text → TilesFrom text start raw
+pub tiled_texts : (text : List ℕ) (start : ℕ) (raw : List RawToken) → IsUtf8 text → TilesFrom text start raw
     → AllByRecursion (λ token. IsUtf8 token.text) (pieces text raw)
 tiled_texts text start [] utf8 h = tt
 tiled_texts text start (t ∷ ts) utf8 h = (
@@ -112,7 +112,7 @@ tiled_texts text start (t ∷ ts) utf8 h = (
   tiled_texts text t.range.end ts utf8 h.3,
 )
 
-spelled-pieces : (text : List ℕ) (raw : List RawToken) → plain.spelled (pieces text raw) ≡ spell text raw
+pub spelled-pieces : (text : List ℕ) (raw : List RawToken) → plain.spelled (pieces text raw) ≡ spell text raw
 spelled-pieces text [] = refl
 spelled-pieces text (t ∷ ts) = ap (λ l. token_text text t ++ l) (spelled-pieces text ts)
 

@@ -1,15 +1,20 @@
 -- Forms of expressions.
 use Rattle.std.specs.Prelude.{List, [], ◌∷◌}
 use Rattle.ssr_syntax_lex.specs.declared.kinds.SyntaxKind.{SyntaxKind}
-use Rattle.ssr_syntax_lex.specs.declared.kinds.SyntaxKind.TheVariants.{INT_NUMBER, IDENT, L_PAREN, R_PAREN, L_CURLY, R_CURLY, STAR, SLASH, PERCENT, PLUS, MINUS, LITERAL, PATH_EXPR, PAREN_EXPR, BIN_EXPR, STMT_LIST, BLOCK_EXPR}
+use Rattle.ssr_syntax_lex.specs.declared.kinds.SyntaxKind.TheVariants.{INT_NUMBER, FLOAT_NUMBER, STRING, BYTE_STRING, C_STRING, BYTE, CHAR, TRUE_KW, FALSE_KW, IDENT, L_PAREN, R_PAREN, L_CURLY, R_CURLY, STAR, SLASH, PERCENT, PLUS, MINUS, LITERAL, PATH_EXPR, PAREN_EXPR, BIN_EXPR, STMT_LIST, BLOCK_EXPR}
 use Rattle.ssr_syntax.specs.declared.goals.Rank.{Rank}
 use Rattle.ssr_syntax.specs.declared.goals.Rank.TheVariants.{Atom, Product, Sum}
 use Rattle.ssr_syntax.specs.declared.goals.Goal.TheVariants.{Expr, Operand}
 use Rattle.ssr_syntax.specs.Forms.{Form, child, mark, seal, ◌then◌, choose, many, a, any, at, optional}
 use Rattle.ssr_syntax.specs.Paths.{path}
 
+-- the tokens that are literals
+abbrev pub literals : List SyntaxKind
+literals =
+    INT_NUMBER ∷ FLOAT_NUMBER ∷ STRING ∷ BYTE_STRING ∷ C_STRING ∷ BYTE ∷ CHAR ∷ TRUE_KW ∷ FALSE_KW ∷ []
+
 unfoldable pub literal : Form
-literal = a INT_NUMBER then seal LITERAL
+literal = any literals then seal LITERAL
 
 unfoldable pub path_expr : Form
 path_expr = mark path then seal PATH_EXPR
@@ -20,7 +25,7 @@ paren_expr = a L_PAREN then child Expr then a R_PAREN then seal PAREN_EXPR
 unfoldable pub atom : Form
 atom =
     choose (at (IDENT ∷ [])) (mark path_expr)
-    (choose (at (INT_NUMBER ∷ [])) (mark literal)
+    (choose (at literals) (mark literal)
     (mark paren_expr))
 
 -- the operators that bind as tightly as the rank
@@ -55,7 +60,7 @@ operand Sum = sum
 
 -- what an expression begins with
 abbrev pub expr_first : List SyntaxKind
-expr_first = IDENT ∷ INT_NUMBER ∷ L_PAREN ∷ []
+expr_first = IDENT ∷ L_PAREN ∷ literals
 
 unfoldable pub stmt_list : Form
 stmt_list = a L_CURLY then optional expr_first (child Expr) then a R_CURLY then seal STMT_LIST

@@ -8,6 +8,7 @@ pub mod Expressions
 pub mod Items
 pub mod Grammar
 pub mod Lossless
+pub mod Identifiers
 pub mod Preorder
 pub mod Solid
 pub mod Reading

@@ -124,13 +124,14 @@ IsClosed place old new written nodes (Ok r) =
     (reverse new ≡ still_open place (reverse old)) × (nodes ≡ written ++ closed place (reverse old))
 IsClosed place old new written nodes (Err e) = e ≡ errors.Memory
 
+-- what is written, with what the rows in front of this one give, and whether those are too deep: as with this one
 abbrev pub IsOpened : {R : Type 0}
     → (ℕ → ℕ) → ℕ → Row → ℕ → List Open → List Open → List NodeRow → List NodeRow → Result R SyntaxError → Type 0
 IsOpened at total row place old new written nodes result =
     OkUnlessDeep (nat_lt most_deep (length (still_open (1 + place) (reverse old))))
-    (λ r.
-    (reverse new ≡ opened at total row place (still_open (1 + place) (reverse old)) ∷ still_open (1 + place) (reverse old))
-    × (nodes ≡ written ++ closed (1 + place) (reverse old)))
+    (λ r. (front : List Row) → length front ≡ place
+    → (nodes ++ from_right at total (reverse new) front ≡ written ++ from_right at total (reverse old) (row ∷ front))
+    × (is_deeper most_deep at total (reverse new) front ≡ is_deeper most_deep at total (reverse old) (row ∷ front)))
     result
 
 abbrev pub IsFromRight : {R : Type 0}

@@ -1,7 +1,7 @@
 ghost use Rattle.std.specs.Prelude.{◌≡◌, true};
 ghost use Rattle.ssr_syntax.specs.Kinds.{mem};
 ghost use Rattle.ssr_syntax.specs.Forms.{at, passes, past};
-ghost use Rattle.ssr_syntax.specs.Expressions.{atom, block_expr, expr_first, literal, operations, operators, paren_expr, path_expr, product, stmt_list, sum, tighter};
+ghost use Rattle.ssr_syntax.specs.Expressions.{atom, block_expr, expr_first, literal, literals, operations, operators, paren_expr, path_expr, product, stmt_list, sum, tighter};
 ghost use Rattle.ssr_syntax.specs.Runs.{Gives, Leaves, mark_at, run, run_marked, state};
 
 use crate::goals::{Fault, Goal, Rank};
@@ -11,7 +11,7 @@ use crate::rows::{Row, close};
 use crate::tokens::{Token, at, behind, expect};
 use ssr_syntax_lex::SyntaxKind;
 
-/// LITERAL: a number.
+/// LITERAL: a number, a string, a byte, a character, `true` or `false`.
 #[tactic(auto, unfolding(crate::specs::Expressions::literal))]
 pub fn literal<'a, R: Reader<'a>>(
     reader: &R,
@@ -22,7 +22,7 @@ pub fn literal<'a, R: Reader<'a>>(
     ensures { Gives (λ r. r.now) out.new.items result (run_marked (R.reads reader.now) literal (state out.old.items tokens.now)) }
 {
     let mark = out.len();
-    let rest = expect(SyntaxKind::INT_NUMBER, tokens)?;
+    let rest = literal_token(tokens)?;
     close(SyntaxKind::LITERAL, mark, tokens, rest, out)
 }
 
@@ -70,7 +70,7 @@ pub fn atom<'a, R: Reader<'a>>(
 {
     if at(SyntaxKind::IDENT, tokens) {
         path_expr(reader, tokens, out)
-    } else if at(SyntaxKind::INT_NUMBER, tokens) {
+    } else if at_literal(tokens) {
         literal(reader, tokens, out)
     } else {
         paren_expr(reader, tokens, out)
@@ -132,6 +132,44 @@ pub fn operations<'a, R: Reader<'a>>(
     Err(Fault::NoTree)
 }
 
+/// Whether a token of this kind is a literal.
+fn is_literal(kind: SyntaxKind) -> bool
+    ensures { result ≡ mem kind literals }
+{
+    matches!(
+        kind,
+        SyntaxKind::INT_NUMBER
+            | SyntaxKind::FLOAT_NUMBER
+            | SyntaxKind::STRING
+            | SyntaxKind::BYTE_STRING
+            | SyntaxKind::C_STRING
+            | SyntaxKind::BYTE
+            | SyntaxKind::CHAR
+            | SyntaxKind::TRUE_KW
+            | SyntaxKind::FALSE_KW
+    )
+}
+
+/// Whether the next token is a literal.
+fn at_literal(tokens: &[Token]) -> bool
+    ensures { result ≡ passes (at literals) tokens.now }
+{
+    match tokens.split_first() {
+        Some((first, _)) => is_literal(first.joined),
+        None => false,
+    }
+}
+
+/// What is left behind a literal.
+fn literal_token(tokens: &[Token]) -> Result<&[Token], Fault>
+    ensures { Leaves (λ r. r.now) result (past true literals tokens.now) }
+{
+    match tokens.split_first() {
+        Some((first, rest)) if is_literal(first.joined) => behind(first.size, rest),
+        _ => Err(Fault::NoTree),
+    }
+}
+
 /// Whether the next token begins an expression.
 fn at_expr(tokens: &[Token]) -> bool
     ensures { result ≡ passes (at expr_first) tokens.now }
@@ -139,8 +177,8 @@ fn at_expr(tokens: &[Token]) -> bool
     match tokens.split_first() {
         Some((first, _)) => {
             first.joined == SyntaxKind::IDENT
-                || first.joined == SyntaxKind::INT_NUMBER
                 || first.joined == SyntaxKind::L_PAREN
+                || is_literal(first.joined)
         }
         None => false,
     }

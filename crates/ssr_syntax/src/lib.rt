@@ -5,6 +5,7 @@ mod expressions;
 mod fragments;
 mod goals;
 mod items;
+pub mod laws;
 mod parser;
 mod paths;
 mod preorder;
@@ -17,4 +18,6 @@ mod tokens;
 
 pub use fragments::Fragment;
 pub use reading::{fragment, parse_file};
+pub use ssr_syntax_lex::{LexError, LexFault, RawToken, SyntaxKind, TextRange, lex};
+pub use ssr_syntax_tree::{Element, NodeNo, TokenNo, Tree};
 pub use syntax_error::SyntaxError;

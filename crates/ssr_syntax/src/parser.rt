@@ -157,6 +157,34 @@ mod tests {
     }
 
     #[test]
+    fn reads_each_literal(rt: HostRuntime) -> Result<(), Fail> {
+        let literals = [
+            SyntaxKind::INT_NUMBER,
+            SyntaxKind::FLOAT_NUMBER,
+            SyntaxKind::STRING,
+            SyntaxKind::BYTE_STRING,
+            SyntaxKind::C_STRING,
+            SyntaxKind::BYTE,
+            SyntaxKind::CHAR,
+            SyntaxKind::TRUE_KW,
+            SyntaxKind::FALSE_KW,
+        ];
+        for kind in literals {
+            let rows = parsed(rt.alloc(), Goal::Expr, &[kind])?;
+            assert_eq!(rt; rows.len(), 1);
+            assert!(rt; rows[0].kind.is(SyntaxKind::LITERAL));
+        }
+        for kind in [
+            SyntaxKind::LIFETIME_IDENT,
+            SyntaxKind::UNDERSCORE,
+            SyntaxKind::FN_KW,
+        ] {
+            assert!(rt; matches!(parsed(rt.alloc(), Goal::Expr, &[kind]), Err(Fault::NoTree)));
+        }
+        Ok(())
+    }
+
+    #[test]
     fn reads_a_file(rt: HostRuntime) -> Result<(), Fail> {
         // fn f() {}
         let kinds = [

@@ -11,20 +11,20 @@ use std::alloc::Global;
 /// How deep a tree may be: the depth of its root is 0.
 const MOST_DEEP: usize = 1024;
 
-/// How many nodes a tree may have, so that their numbers are of 32 bits. More of them don't fit in any memory.
+/// How many nodes a tree may have, so that their numbers are of 32 bits; more are told as want of memory.
 const MOST_NODES: usize = 0xffff_f000;
 
 /// A node with its row, as long as more nodes may stand below it.
 #[derive(Clone, Copy)]
 struct Open {
     /// How many of the parser's rows are in front of it and of those below it.
-    start: usize,
+    start: u32,
     number: u32,
     node: NodeRow,
 }
 
 /// Closes the open nodes that begin at `place` or behind it.
-fn close(place: usize, above: &mut Vec<Open>, nodes: &mut Vec<NodeRow>) -> Result<(), SyntaxError>
+fn close(place: u32, above: &mut Vec<Open>, nodes: &mut Vec<NodeRow>) -> Result<(), SyntaxError>
     ensures { IsClosed place above.old.items above.new.items nodes.old.items nodes.new.items result }
 {
     while let Some(inner) = above.last() {
@@ -45,33 +45,30 @@ fn taken(behind: &[u32], solid: usize) -> u32
 }
 
 /// The first token of a node of `count` solid tokens, of which `left` are to its left.
-fn first_token(behind: &[u32], low: u32, left: usize, count: usize) -> u32
-    requires { left < 2 ^ 33 }
+fn first_token(behind: &[u32], low: u32, left: u32, count: u32) -> u32
     ensures { result ≡ first_at (λ i. slice_index behind.now i) low left count }
 {
     if count == 0 {
-        taken(behind, left).max(low)
+        taken(behind, left as usize).max(low)
     } else {
-        taken(behind, left + 1).saturating_sub(1)
+        taken(behind, left as usize + 1).saturating_sub(1)
     }
 }
 
 /// The token past the last one of such a node.
-fn past_token(behind: &[u32], low: u32, left: usize, count: usize) -> u32
-    requires { left + count < 2 ^ 64 }
+fn past_token(behind: &[u32], low: u32, left: u32, count: u32) -> u32
     ensures { result ≡ past_at (λ i. slice_index behind.now i) low left count }
 {
     if count == 0 {
-        taken(behind, left).max(low)
+        taken(behind, left as usize).max(low)
     } else {
-        taken(behind, left + count)
+        taken(behind, left as usize + count as usize)
     }
 }
 
 /// The node of a row with `place` rows in front of it, below the open ones.
-fn opened(behind: &[u32], total: usize, row: &Row, place: usize, above: &[Open]) -> Open
-    requires tokens { total < 2 ^ 33 }
-    requires rows { place + length above.now < 2 ^ 32 }
+fn opened(behind: &[u32], total: u32, row: &Row, place: u32, above: &[Open]) -> Open
+    requires { place + length above.now < 2 ^ 32 }
     ensures { result ≡ opened (λ i. slice_index behind.now i) total row.now place (reverse above.now) }
 {
     let (parent, low) = match above.last() {
@@ -83,54 +80,56 @@ fn opened(behind: &[u32], total: usize, row: &Row, place: usize, above: &[Open])
     let start = place.saturating_sub(row.below);
     Open {
         start,
-        number: (start + above.len()) as u32,
+        number: start + above.len() as u32,
         node: NodeRow {
             kind: row.kind,
             parent,
             first: first_token(behind, low, left, count),
             past: past_token(behind, low, left, count),
-            below: (place - start) as u32,
+            below: place - start,
         },
     }
 }
 
-/// Opens the node of a row with `place` rows in front of it.
+/// Opens the node of a row with `place` rows in front of it, or writes it at once if no node is below it.
 fn open_row(
     behind: &[u32],
-    total: usize,
+    total: u32,
     row: &Row,
-    place: usize,
+    place: u32,
     above: &mut Vec<Open>,
     nodes: &mut Vec<NodeRow>,
 ) -> Result<(), SyntaxError>
-    requires tokens { total < 2 ^ 33 }
-    requires rows { place ≤ 0xffff_f000 }
+    requires { place ≤ 0xffff_f000 }
     ensures { IsOpened (λ i. slice_index behind.now i) total row.now place above.old.items above.new.items nodes.old.items nodes.new.items result }
 {
     close(place + 1, above, nodes)?;
     if above.len() > MOST_DEEP {
         return Err(SyntaxError::TooDeep);
     }
-    let node = opened(behind, total, row, place, above);
-    above.push(node)?;
+    let inner = opened(behind, total, row, place, above);
+    if inner.start == place {
+        nodes.push(inner.node)?;
+    } else {
+        above.push(inner)?;
+    }
     Ok(())
 }
 
 /// Writes the nodes of the rows, the last one first, and then those above.
 fn from_right(
     behind: &[u32],
-    total: usize,
+    total: u32,
     rows: &[Row],
     above: &mut Vec<Open>,
     nodes: &mut Vec<NodeRow>,
 ) -> Result<(), SyntaxError>
-    requires tokens { total < 2 ^ 33 }
-    requires rows { length rows.now ≤ 0xffff_f000 }
+    requires { length rows.now ≤ 0xffff_f000 }
     ensures { IsFromRight (λ i. slice_index behind.now i) total rows.now above.old.items nodes.old.items nodes.new.items result }
 {
     let mut rest = rows;
     while let Some((row, front)) = rest.split_last() {
-        open_row(behind, total, row, front.len(), above, nodes)?;
+        open_row(behind, total, row, front.len() as u32, above, nodes)?;
         rest = front;
     }
     close(0, above, nodes)
@@ -152,7 +151,7 @@ pub(crate) fn node_rows(
     let Some((root, below)) = rows.split_last() else {
         return Err(SyntaxError::NoTree);
     };
-    if rows.len() > MOST_NODES || root.first > MOST_NODES {
+    if rows.len() > MOST_NODES {
         return Err(SyntaxError::Memory);
     }
     let mut above = Vec::new(alloc);

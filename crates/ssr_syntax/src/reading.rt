@@ -67,10 +67,13 @@ fn read_tokens(
         Ok(rows) => rows,
         Err(fault) => return Err(syntax_error(fault)),
     };
+    drop(solid_tokens.tokens);
     let nodes = match node_rows(alloc, &rows, &solid_tokens.behind, tokens.len() as u32) {
         Ok(nodes) => nodes,
         Err(error) => return Err(error),
     };
+    drop(rows);
+    drop(solid_tokens.behind);
     let tokens = token_rows(alloc, tokens)?;
     let source = String::from_str(alloc, text)?;
     Ok(Tree::from_parts(source, tokens, nodes))
@@ -146,7 +149,7 @@ fn read_fragment(
 }
 
 /// The syntax tree of a text without the white space around it, and how many bytes of that stand in front. The tree's
-/// root is a node of the fragment's kind.
+/// root is a node of the fragment's kind. A comment in front of it or behind it is no part of a fragment: `NoTree`.
 pub fn fragment(alloc: Global, fragment: Fragment, text: &str) -> Result<(Tree, u32), SyntaxError>
     ensures answers { AnswersTrimmed result (fragment_reading fragment text.now) text.now }
     ensures sound { IfOk result (λ answer. IsTreeOfFragment fragment text.now answer.0) }
@@ -160,7 +163,7 @@ pub fn fragment(alloc: Global, fragment: Fragment, text: &str) -> Result<(Tree, 
 #[cfg(test)]
 mod tests {
     use super::*;
-    use ssr_syntax_lex::SyntaxKind;
+    use ssr_syntax_lex::{SyntaxKind, TextRange};
     use ssr_syntax_tree::NodeNo;
     use std::test::Fail;
 
@@ -216,6 +219,53 @@ mod tests {
             (SyntaxKind::LITERAL, 13, 14),
         ];
         assert_eq!(rt; outline(rt.alloc(), &tree)?.as_slice(), want.as_slice());
+        Ok(())
+    }
+
+    #[test]
+    fn truth_values_are_literals(rt: HostRuntime) -> Result<(), Fail> {
+        let (tree, _) = fragment(rt.alloc(), Fragment::Expr, "true*(false)")?;
+        let want = [
+            (SyntaxKind::BIN_EXPR, 0, 12),
+            (SyntaxKind::LITERAL, 0, 4),
+            (SyntaxKind::PAREN_EXPR, 5, 12),
+            (SyntaxKind::LITERAL, 6, 11),
+        ];
+        assert_eq!(rt; outline(rt.alloc(), &tree)?.as_slice(), want.as_slice());
+        Ok(())
+    }
+
+    #[test]
+    fn a_tail_expression_may_be_a_truth_value(rt: HostRuntime) -> Result<(), Fail> {
+        let tree = parse_file(rt.alloc(), "fn f() {true}")?;
+        let want = [
+            (SyntaxKind::SOURCE_FILE, 0, 13),
+            (SyntaxKind::FN, 0, 13),
+            (SyntaxKind::NAME, 3, 4),
+            (SyntaxKind::PARAM_LIST, 4, 6),
+            (SyntaxKind::BLOCK_EXPR, 7, 13),
+            (SyntaxKind::STMT_LIST, 7, 13),
+            (SyntaxKind::LITERAL, 8, 12),
+        ];
+        assert_eq!(rt; outline(rt.alloc(), &tree)?.as_slice(), want.as_slice());
+        Ok(())
+    }
+
+    #[test]
+    fn comments_around_are_seen(rt: HostRuntime) -> Result<(), Fail> {
+        let comment = RawToken {
+            kind: SyntaxKind::COMMENT,
+            range: TextRange::new(0, 4),
+            joint: false,
+        };
+        let number = RawToken {
+            kind: SyntaxKind::INT_NUMBER,
+            range: TextRange::new(4, 5),
+            joint: false,
+        };
+        assert!(rt; !is_solid_outside(&[comment, number]));
+        assert!(rt; !is_solid_outside(&[number, comment]));
+        assert!(rt; is_solid_outside(&[number, comment, number]));
         Ok(())
     }
 

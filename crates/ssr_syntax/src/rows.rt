@@ -10,15 +10,18 @@ use ssr_syntax_lex::SyntaxKind;
 pub struct Row {
     pub kind: SyntaxKind,
     /// How many tokens were left at its first one.
-    pub first: usize,
+    pub first: u32,
     /// How many tokens were left behind its last one.
-    pub end: usize,
+    pub end: u32,
     /// How many nodes stand below it: the rows directly in front of this one.
-    pub below: usize,
+    pub below: u32,
 }
 
+/// The most rows and tokens that are counted.
+const MOST: usize = u32::MAX as usize;
+
 /// Puts all since the mark into a node: the rows behind the first `made`, and the tokens from `start` up to `rest`.
-/// The answer is `rest`.
+/// The answer is `rest`. More rows or tokens than are counted are told as want of memory.
 pub fn close<'a>(
     kind: SyntaxKind,
     made: usize,
@@ -30,11 +33,14 @@ pub fn close<'a>(
 {
     let below = out.len().saturating_sub(made);
     let (first, end) = (start.len(), rest.len());
+    if first > MOST || end > MOST || below > MOST {
+        return Err(Fault::Memory);
+    }
     out.push(Row {
         kind,
-        first,
-        end,
-        below,
+        first: first as u32,
+        end: end as u32,
+        below: below as u32,
     })?;
     Ok(rest)
 }

@@ -151,3 +151,48 @@ pub(crate) fn solid(alloc: Global, raw: &[RawToken]) -> Result<SolidTokens, Allo
     }
     Ok(SolidTokens { tokens, behind })
 }
+
+#[cfg(test)]
+mod tests {
+    use super::*;
+    use ssr_syntax_lex::TextRange;
+    use std::test::Fail;
+
+    // A token of one byte.
+    fn byte(kind: SyntaxKind, start: u8, joint: bool) -> RawToken {
+        let start = start as u32;
+        RawToken {
+            kind,
+            range: TextRange::new(start, start + 1),
+            joint,
+        }
+    }
+
+    #[test]
+    fn white_space_and_comments_are_left_out(rt: HostRuntime) -> Result<(), Fail> {
+        let raw = [
+            byte(SyntaxKind::IDENT, 0, false),
+            byte(SyntaxKind::WHITESPACE, 1, false),
+            byte(SyntaxKind::COMMENT, 2, false),
+            byte(SyntaxKind::EQ, 3, true),
+            byte(SyntaxKind::EQ, 4, false),
+            byte(SyntaxKind::COMMENT, 5, false),
+            byte(SyntaxKind::IDENT, 6, false),
+        ];
+        let solid = solid(rt.alloc(), &raw)?;
+        let want = [
+            (SyntaxKind::IDENT, SyntaxKind::IDENT, 1),
+            (SyntaxKind::EQ, SyntaxKind::EQ2, 2),
+            (SyntaxKind::EQ, SyntaxKind::EQ, 1),
+            (SyntaxKind::IDENT, SyntaxKind::IDENT, 1),
+        ];
+        assert_eq!(rt; solid.tokens.len(), want.len());
+        for (token, (kind, joined, size)) in solid.tokens.iter().zip(want) {
+            assert_eq!(rt; token.kind, kind);
+            assert_eq!(rt; token.joined, joined);
+            assert_eq!(rt; token.size, size);
+        }
+        assert_eq!(rt; solid.behind.as_slice(), [0, 1, 4, 5, 7].as_slice());
+        Ok(())
+    }
+}

@@ -14,7 +14,7 @@ pub struct Token {
     /// The kind of the longest token that begins here, joined from this one and those directly behind it.
     pub joined: SyntaxKind,
     /// How many tokens, this one among them, that longest token is joined from.
-    pub size: u32,
+    pub size: u8,
 }
 
 /// Whether the next token is of this kind.
@@ -38,7 +38,7 @@ pub fn expect(kind: SyntaxKind, tokens: &[Token]) -> Result<&[Token], Fault>
 }
 
 /// What is left behind the other tokens that one of this size is joined from.
-pub fn behind(size: u32, rest: &[Token]) -> Result<&[Token], Fault>
+pub fn behind(size: u8, rest: &[Token]) -> Result<&[Token], Fault>
     ensures { Leaves (λ r. r.now) result (behind (size - 1) rest.now) }
 {
     let more = size.saturating_sub(1) as usize;

@@ -1,16 +1,17 @@
 -- The loop that cuts a text into tokens: what is known of what it has, and of what is left.
-use Rattle.std.proofs.Common.{◌≡◌, ℕ, suc, zero, ◌+◌, ◌-◌, ◌<◌, ◌≤◌, ◌==◌, Bool, true, false, if◌then◌else◌, List, [], ◌∷◌, ◌++◌, length, refl, eqb-true, sym, ap, subst, ◌∙◌, arith, append_assoc}
+use Rattle.std.proofs.Common.{◌≡◌, ℕ, suc, zero, ◌+◌, ◌-◌, ◌<◌, ◌≤◌, ◌==◌, true, false, if◌then◌else◌, List, [], ◌∷◌, ◌++◌, length, refl, eqb-true, sym, ap, subst, ◌∙◌, arith, append_assoc}
 use Rattle.std.specs.Prelude.{Option, Some, None}
-use Rattle.std.specs.Option.{option_map, option_and_then}
+use Rattle.std.specs.Option.{option_map, option_map_or, option_and_then}
 use Rattle.std.specs.Str.{chars}
 use Rattle.ssr_syntax_lex.specs.Cursor.{Chars}
 use Rattle.ssr_syntax_lex.specs.Words.{is_punctuation}
-use Rattle.ssr_syntax_lex.specs.Raw.{Taken, token}
-use Rattle.ssr_syntax_lex.specs.Tokens.{size, range_of, in_front, is_dot, dots_behind, tokens_from, tokens, flagged}
+use Rattle.ssr_syntax_lex.specs.Raw.{Taken, token, fault_of}
+use Rattle.ssr_syntax_lex.specs.Tokens.{size, range_of, in_front, is_dot, dots_behind, tokens_from, tokens, fault_from, fault, flagged}
 use Rattle.ssr_syntax_lex.specs.declared.kinds.SyntaxKind.{SyntaxKind}
 use Rattle.ssr_syntax_lex.specs.declared.range.TextRange.{TextRange}
 use Rattle.ssr_syntax_lex.specs.declared.tokens.RawToken.{RawToken}
-use Rattle.ssr_syntax_lex.proofs.Fronts.{Follows, token_leaves, shorter}
+use Rattle.ssr_syntax_lex.specs.declared.tokens.LexFault.{LexFault}
+use Rattle.ssr_syntax_lex.proofs.Fronts.{token_leaves, shorter}
 use Rattle.ssr_syntax_lex.proofs.Ranges.{TextRange-same}
 
 -- the tokens behind the one that waits, and it
@@ -18,11 +19,12 @@ abbrev pub with_waiting : Option RawToken → List RawToken → List RawToken
 with_waiting None ts = ts
 with_waiting (Some t) ts = in_front t.kind t.range ts
 
--- The text is `whole`; of it, `done` is finished, and one token waits for its flag.
-pub record Cutting (whole : Option (List RawToken)) (total : ℕ) (done : List RawToken) (waiting : Option RawToken) (start dots : ℕ) (rest : Chars) : Type 0 where
+-- The text is `whole`, with this fault; of it, `done` is finished, and one token waits for its flag.
+pub record Cutting (whole : Option (List RawToken)) (told : Option LexFault) (total : ℕ) (done : List RawToken) (waiting : Option RawToken) (start dots : ℕ) (rest : Chars) : Type 0 where
   pub fuel : ℕ
   pub enough : length rest ≤ fuel
   pub goes_on : option_map (λ ts. done ++ with_waiting waiting ts) (tokens_from fuel start dots rest) ≡ whole
+  pub tells : fault_from fuel start dots rest ≡ told
   pub place : start + size rest ≡ total
   pub few : dots ≤ start
 
@@ -30,12 +32,13 @@ nothing_yet : (o : Option (List RawToken)) → option_map (λ ts. let none : Lis
 nothing_yet None = refl
 nothing_yet (Some ts) = refl
 
-pub started : (text : List ℕ) (total : ℕ) → total ≡ size (chars text) → Cutting (tokens text) total [] None 0 0 (chars text)
-unfolding tokens
+pub started : (text : List ℕ) (total : ℕ) → total ≡ size (chars text) → Cutting (tokens text) (fault text) total [] None 0 0 (chars text)
+unfolding tokens fault
 started text total e = record {
   fuel = length (chars text);
   enough = omega arith;
   goes_on = nothing_yet (tokens_from (length (chars text)) 0 0 (chars text));
+  tells = refl;
   place = omega arith;
   few = omega arith;
 }
@@ -50,10 +53,10 @@ one_is_zero n e = omega arith
 not_empty : (c : ℕ) (cs : Chars) → (length (c ∷ cs) == 0) ≡ true → ⊥
 not_empty c cs e = absurd (one_is_zero (length cs) (eqb-true (suc (length cs)) 0 e))
 
-pub ended : (whole : Option (List RawToken)) (total : ℕ) (done : List RawToken) (waiting : Option RawToken) (start dots : ℕ) (rest : Chars) → Cutting whole total done waiting start dots rest → (length rest == 0) ≡ true → whole ≡ Some (done ++ flagged waiting false)
-ended whole total done waiting start dots [] cutting empty =
+pub ended : (whole : Option (List RawToken)) (told : Option LexFault) (total : ℕ) (done : List RawToken) (waiting : Option RawToken) (start dots : ℕ) (rest : Chars) → Cutting whole told total done waiting start dots rest → (length rest == 0) ≡ true → whole ≡ Some (done ++ flagged waiting false)
+ended whole told total done waiting start dots [] cutting empty =
     sym cutting.goes_on ∙ ap (λ ts. let all : Option (List RawToken) = Some (done ++ ts) in all) (waits_no_more waiting)
-ended whole total done waiting start dots (c ∷ cs) cutting empty = absurd (not_empty c cs empty)
+ended whole told total done waiting start dots (c ∷ cs) cutting empty = absurd (not_empty c cs empty)
 
 -- the first token of what is left, in front of the others
 one_more : (fuel start dots c : ℕ) (cs : Chars) (kind : SyntaxKind) (rest : Chars) → token dots (c ∷ cs) ≡ Some (kind, rest) → tokens_from (suc fuel) start dots (c ∷ cs) ≡ option_map (in_front kind (range_of start (size (c ∷ cs) - size rest))) (tokens_from fuel (start + (size (c ∷ cs) - size rest)) (dots_behind dots kind) rest)
@@ -66,15 +69,32 @@ fault_here fuel start dots c cs e =
     ap (option_and_then (λ (taken : Taken). let count : ℕ = size (c ∷ cs) - size taken.1 in
     option_map (in_front taken.0 (range_of start count)) (tokens_from fuel (start + count) (dots_behind dots taken.0) taken.1))) e
 
+-- the fault is that behind the first token, or where that would begin
+fault_behind : (fuel start dots c : ℕ) (cs : Chars) (kind : SyntaxKind) (rest : Chars) → token dots (c ∷ cs) ≡ Some (kind, rest) → fault_from (suc fuel) start dots (c ∷ cs) ≡ fault_from fuel (start + (size (c ∷ cs) - size rest)) (dots_behind dots kind) rest
+fault_behind fuel start dots c cs kind rest e =
+    let here : Option LexFault = Some (record { kind = fault_of (c ∷ cs); start = start }) in
+    ap (λ o. option_map_or (λ (taken : Taken). let count : ℕ = size (c ∷ cs) - size taken.1 in fault_from fuel (start + count) (dots_behind dots taken.0) taken.1) o here) e
+
+fault_first : (fuel start dots c : ℕ) (cs : Chars) → suc (length cs) ≤ fuel → token dots (c ∷ cs) ≡ None → fault_from fuel start dots (c ∷ cs) ≡ Some (record { kind = fault_of (c ∷ cs); start = start })
+fault_first zero start dots c cs enough e = absurd (omega arith)
+fault_first (suc fuel) start dots c cs enough e =
+    let here : Option LexFault = Some (record { kind = fault_of (c ∷ cs); start = start }) in
+    ap (λ o. option_map_or (λ (taken : Taken). let count : ℕ = size (c ∷ cs) - size taken.1 in fault_from fuel (start + count) (dots_behind dots taken.0) taken.1) o here) e
+
 fault_at : (whole : Option (List RawToken)) (done : List RawToken) (waiting : Option RawToken) (fuel start dots c : ℕ) (cs : Chars) → suc (length cs) ≤ fuel → option_map (λ ts. done ++ with_waiting waiting ts) (tokens_from fuel start dots (c ∷ cs)) ≡ whole → token dots (c ∷ cs) ≡ None → whole ≡ None
 fault_at whole done waiting zero start dots c cs enough goes fault = absurd (omega arith)
 fault_at whole done waiting (suc fuel) start dots c cs enough goes fault =
     sym goes ∙ ap (option_map (λ ts. done ++ with_waiting waiting ts)) (fault_here fuel start dots c cs fault)
 
-pub faulted : (whole : Option (List RawToken)) (total : ℕ) (done : List RawToken) (waiting : Option RawToken) (start dots : ℕ) (rest : Chars) → Cutting whole total done waiting start dots rest → (length rest == 0) ≡ false → token dots rest ≡ None → whole ≡ None
-faulted whole total done waiting start dots [] cutting some fault = absurd (cc)
-faulted whole total done waiting start dots (c ∷ cs) cutting some fault =
+pub faulted : (whole : Option (List RawToken)) (told : Option LexFault) (total : ℕ) (done : List RawToken) (waiting : Option RawToken) (start dots : ℕ) (rest : Chars) → Cutting whole told total done waiting start dots rest → (length rest == 0) ≡ false → token dots rest ≡ None → whole ≡ None
+faulted whole told total done waiting start dots [] cutting some fault = absurd (cc)
+faulted whole told total done waiting start dots (c ∷ cs) cutting some fault =
     fault_at whole done waiting cutting.fuel start dots c cs cutting.enough cutting.goes_on fault
+
+pub told_here : (whole : Option (List RawToken)) (told : Option LexFault) (total : ℕ) (done : List RawToken) (waiting : Option RawToken) (start dots : ℕ) (rest : Chars) → Cutting whole told total done waiting start dots rest → (length rest == 0) ≡ false → token dots rest ≡ None → told ≡ Some (record { kind = fault_of rest; start = start })
+told_here whole told total done waiting start dots [] cutting some fault = absurd (cc)
+told_here whole told total done waiting start dots (c ∷ cs) cutting some fault =
+    sym cutting.tells ∙ fault_first cutting.fuel start dots c cs cutting.enough fault
 
 flag_first : (waiting : Option RawToken) (kind : SyntaxKind) (range : TextRange) (ts : List RawToken) → with_waiting waiting (in_front kind range ts) ≡ flagged waiting (is_punctuation kind) ++ in_front kind range ts
 flag_first None kind range ts = refl
@@ -91,9 +111,9 @@ few_dots : (dots : ℕ) (kind : SyntaxKind) → dots_behind dots kind ≤ dots +
 few_dots dots kind = elim (is_dot kind) as (λ b. (if b then dots + 1 else 0) ≤ dots + 1) [ true ↦ omega arith | false ↦ omega arith ]
 
 -- one token further, with the fuel, the place and the range as variables
-step : (whole : Option (List RawToken)) (done more : List RawToken) (waiting : Option RawToken) (fuel start dots next c : ℕ) (cs : Chars) (kind : SyntaxKind) (rest : Chars) (range : TextRange) → length rest ≤ length cs → suc (length cs) ≤ fuel → option_map (λ ts. done ++ with_waiting waiting ts) (tokens_from fuel start dots (c ∷ cs)) ≡ whole → token dots (c ∷ cs) ≡ Some (kind, rest) → more ≡ done ++ flagged waiting (is_punctuation kind) → next ≡ start + (size (c ∷ cs) - size rest) → range ≡ range_of start (size (c ∷ cs) - size rest) → (left : ℕ) × (length rest ≤ left) × (option_map (λ ts. more ++ in_front kind range ts) (tokens_from left next (dots_behind dots kind) rest) ≡ whole)
-step whole done more waiting zero start dots next c cs kind rest range less enough goes e pushed place is = absurd (omega arith)
-step whole done more waiting (suc fuel) start dots next c cs kind rest range less enough goes e pushed place is = (
+step : (whole : Option (List RawToken)) (told : Option LexFault) (done more : List RawToken) (waiting : Option RawToken) (fuel start dots next c : ℕ) (cs : Chars) (kind : SyntaxKind) (rest : Chars) (range : TextRange) → length rest ≤ length cs → suc (length cs) ≤ fuel → option_map (λ ts. done ++ with_waiting waiting ts) (tokens_from fuel start dots (c ∷ cs)) ≡ whole → fault_from fuel start dots (c ∷ cs) ≡ told → token dots (c ∷ cs) ≡ Some (kind, rest) → more ≡ done ++ flagged waiting (is_punctuation kind) → next ≡ start + (size (c ∷ cs) - size rest) → range ≡ range_of start (size (c ∷ cs) - size rest) → (left : ℕ) × (length rest ≤ left) × (option_map (λ ts. more ++ in_front kind range ts) (tokens_from left next (dots_behind dots kind) rest) ≡ whole) × (fault_from left next (dots_behind dots kind) rest ≡ told)
+step whole told done more waiting zero start dots next c cs kind rest range less enough goes tells e pushed place is = absurd (omega arith)
+step whole told done more waiting (suc fuel) start dots next c cs kind rest range less enough goes tells e pushed place is = (
   fuel,
   omega arith,
   ap (λ xs. option_map (λ ts. xs ++ in_front kind range ts) (tokens_from fuel next (dots_behind dots kind) rest)) pushed
@@ -102,6 +122,7 @@ step whole done more waiting (suc fuel) start dots next c cs kind rest range les
       ∙ (sym (pass_on done waiting kind (range_of start (size (c ∷ cs) - size rest)) (tokens_from fuel (start + (size (c ∷ cs) - size rest)) (dots_behind dots kind) rest))
       ∙ (sym (ap (option_map (λ ts. done ++ with_waiting waiting ts)) (one_more fuel start dots c cs kind rest e))
       ∙ goes)))),
+  ap (λ n. fault_from fuel n (dots_behind dots kind) rest) place ∙ (sym (fault_behind fuel start dots c cs kind rest e) ∙ tells),
 )
 
 places : (start here left total : ℕ) → left < here → start + here ≡ total → total - left ≡ start + (here - left)
@@ -113,29 +134,30 @@ left_place start here left total h e = omega arith
 few_left : (start here left total dots more : ℕ) → left < here → start + here ≡ total → dots ≤ start → more ≤ dots + 1 → more ≤ total - left
 few_left start here left total dots more h e few m = omega arith
 
-pub gone_on : (whole : Option (List RawToken)) (total : ℕ) (done : List RawToken) (waiting : Option RawToken) (start dots : ℕ) (cs : Chars) (kind : SyntaxKind) (rest : Chars) (more : List RawToken) (range : TextRange) → Cutting whole total done waiting start dots cs → (length cs == 0) ≡ false → token dots cs ≡ Some (kind, rest) → more ≡ done ++ flagged waiting (is_punctuation kind) → range.start ≡ start → range.end ≡ total - size rest → Cutting whole total more (Some (record { kind = kind; range = range; joint = false })) (total - size rest) (dots_behind dots kind) rest
-gone_on whole total done waiting start dots [] kind rest more range cutting some e pushed starts ends = absurd (cc)
-gone_on whole total done waiting start dots (c ∷ cs) kind rest more range cutting some e pushed starts ends =
+pub gone_on : (whole : Option (List RawToken)) (told : Option LexFault) (total : ℕ) (done : List RawToken) (waiting : Option RawToken) (start dots : ℕ) (cs : Chars) (kind : SyntaxKind) (rest : Chars) (more : List RawToken) (range : TextRange) → Cutting whole told total done waiting start dots cs → (length cs == 0) ≡ false → token dots cs ≡ Some (kind, rest) → more ≡ done ++ flagged waiting (is_punctuation kind) → range.start ≡ start → range.end ≡ total - size rest → Cutting whole told total more (Some (record { kind = kind; range = range; joint = false })) (total - size rest) (dots_behind dots kind) rest
+gone_on whole told total done waiting start dots [] kind rest more range cutting some e pushed starts ends = absurd (cc)
+gone_on whole told total done waiting start dots (c ∷ cs) kind rest more range cutting some e pushed starts ends =
     let less = shorter c cs rest (token_leaves dots c cs (kind, rest) e) in
     let fewer : size rest < size (c ∷ cs) = less.1 in
     let whole_place : start + size (c ∷ cs) ≡ total = cutting.place in
     let place : total - size rest ≡ start + (size (c ∷ cs) - size rest) = places start (size (c ∷ cs)) (size rest) total fewer whole_place in
-    let stepped = step whole done more waiting cutting.fuel start dots (total - size rest) c cs kind rest range less.0 cutting.enough cutting.goes_on e pushed place
+    let stepped = step whole told done more waiting cutting.fuel start dots (total - size rest) c cs kind rest range less.0 cutting.enough cutting.goes_on cutting.tells e pushed place
     (TextRange-same range (range_of start (size (c ∷ cs) - size rest)) starts (ends ∙ place)) in
     record {
       fuel = stepped.0;
       enough = stepped.1;
       goes_on = stepped.2;
+      tells = stepped.3;
       place = left_place start (size (c ∷ cs)) (size rest) total fewer whole_place;
       few = few_left start (size (c ∷ cs)) (size rest) total dots (dots_behind dots kind) fewer whole_place cutting.few (few_dots dots kind);
     }
 
 -- the same, with the numbers as the code has them
-pub gone_to : (whole : Option (List RawToken)) (total : ℕ) (done : List RawToken) (waiting : Option RawToken) (start dots : ℕ) (cs : Chars) (kind : SyntaxKind) (rest : Chars) (more : List RawToken) (range : TextRange) (next points : ℕ) → Cutting whole total done waiting start dots cs → (length cs == 0) ≡ false → token dots cs ≡ Some (kind, rest) → more ≡ done ++ flagged waiting (is_punctuation kind) → next ≡ total - size rest → points ≡ dots_behind dots kind → range.start ≡ start → range.end ≡ next → Cutting whole total more (Some (record { kind = kind; range = range; joint = false })) next points rest
-gone_to whole total done waiting start dots cs kind rest more range next points cutting some e pushed n p starts ends =
-    let there = gone_on whole total done waiting start dots cs kind rest more range cutting some e pushed starts (ends ∙ n) in
-    subst (λ (x : ℕ). Cutting whole total more (Some (record { kind = kind; range = range; joint = false })) x points rest) (sym n)
-    (subst (λ (y : ℕ). Cutting whole total more (Some (record { kind = kind; range = range; joint = false })) (total - size rest) y rest) (sym p) there)
+pub gone_to : (whole : Option (List RawToken)) (told : Option LexFault) (total : ℕ) (done : List RawToken) (waiting : Option RawToken) (start dots : ℕ) (cs : Chars) (kind : SyntaxKind) (rest : Chars) (more : List RawToken) (range : TextRange) (next points : ℕ) → Cutting whole told total done waiting start dots cs → (length cs == 0) ≡ false → token dots cs ≡ Some (kind, rest) → more ≡ done ++ flagged waiting (is_punctuation kind) → next ≡ total - size rest → points ≡ dots_behind dots kind → range.start ≡ start → range.end ≡ next → Cutting whole told total more (Some (record { kind = kind; range = range; joint = false })) next points rest
+gone_to whole told total done waiting start dots cs kind rest more range next points cutting some e pushed n p starts ends =
+    let there = gone_on whole told total done waiting start dots cs kind rest more range cutting some e pushed starts (ends ∙ n) in
+    subst (λ (x : ℕ). Cutting whole told total more (Some (record { kind = kind; range = range; joint = false })) x points rest) (sym n)
+    (subst (λ (y : ℕ). Cutting whole told total more (Some (record { kind = kind; range = range; joint = false })) (total - size rest) y rest) (sym p) there)
 
 one_less : (n m : ℕ) → n ≤ m → n < suc m
 one_less n m h = omega arith
@@ -150,9 +172,9 @@ pub record Ahead (total start dots : ℕ) (cs rest : Chars) : Type 0 where
 ahead_bounds : (total start dots here left : ℕ) → left < here → start + here ≡ total → dots ≤ start → (left ≤ total) × (start ≤ total - left) × (dots + 1 ≤ total)
 ahead_bounds total start dots here left h e few = (omega arith, omega arith, omega arith)
 
-pub looked_ahead : (whole : Option (List RawToken)) (total : ℕ) (done : List RawToken) (waiting : Option RawToken) (start dots : ℕ) (cs : Chars) (kind : SyntaxKind) (rest : Chars) → Cutting whole total done waiting start dots cs → (length cs == 0) ≡ false → token dots cs ≡ Some (kind, rest) → Ahead total start dots cs rest
-looked_ahead whole total done waiting start dots [] kind rest cutting some e = absurd (cc)
-looked_ahead whole total done waiting start dots (c ∷ cs) kind rest cutting some e =
+pub looked_ahead : (whole : Option (List RawToken)) (told : Option LexFault) (total : ℕ) (done : List RawToken) (waiting : Option RawToken) (start dots : ℕ) (cs : Chars) (kind : SyntaxKind) (rest : Chars) → Cutting whole told total done waiting start dots cs → (length cs == 0) ≡ false → token dots cs ≡ Some (kind, rest) → Ahead total start dots cs rest
+looked_ahead whole told total done waiting start dots [] kind rest cutting some e = absurd (cc)
+looked_ahead whole told total done waiting start dots (c ∷ cs) kind rest cutting some e =
     let less = shorter c cs rest (token_leaves dots c cs (kind, rest) e) in
     let bounds = ahead_bounds total start dots (size (c ∷ cs)) (size rest) less.1 cutting.place cutting.few in
     record { left = bounds.0; begins = bounds.1; few = bounds.2; less = one_less (length rest) (length cs) less.0 }

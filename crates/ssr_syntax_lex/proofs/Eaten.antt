@@ -1,9 +1,9 @@
 -- What a run of characters is in the bytes of a text, for the loop that passes over one.
-use Rattle.std.proofs.Common.{◌≡◌, ℕ, suc, zero, ◌+◌, ◌-◌, ◌<◌, ◌≤◌, ◌==◌, Bool, true, false, if◌then◌else◌, List, [], ◌∷◌, ◌++◌, length, take, drop, refl, sym, ap, subst, ◌∙◌, arith, append_assoc, length-append}
+use Rattle.std.proofs.Common.{◌≡◌, ℕ, ◌-◌, ◌<◌, ◌≤◌, ◌==◌, Bool, true, false, if◌then◌else◌, List, [], ◌∷◌, ◌++◌, length, take, drop, refl, sym, ap, subst, ◌∙◌, arith, append_assoc, length-append}
 use Rattle.std.proofs.lemmas.List.{append_cancel_right, append-nil}
 use Rattle.std.proofs.Math.Seq.{take-append_seam, drop-append_seam}
 use Rattle.std.proofs.lemmas.Bool.Decides.{nat_tests}
-use Rattle.std.proofs.lemmas.Str.{chars-append, chars-nil, chars_past_char, IsCharBoundary-from_take, IsUtf8-drop, encodes-chars, length-encode, len_utf8_bounds, IsCharBoundary-at_seam}
+use Rattle.std.proofs.lemmas.Str.{chars-append, chars-nil, chars_past_char, IsCharBoundary-from_take, IsUtf8-drop, encodes-chars, length-encode, len_utf8_bounds, IsCharBoundary-at_seam, length-le-encodes}
 use Rattle.std.specs.Str.{chars, IsUtf8, IsCharBoundary}
 use Rattle.std.specs.Prelude.{encode_utf8, encode_utf8_all, slice_range}
 use Rattle.ssr_syntax_lex.specs.Cursor.{Chars, run, past}
@@ -91,3 +91,7 @@ last_of_text text front c utf8 front_utf8 e =
 pub nothing_in : (text : List ℕ) → length text ≡ 0 → chars text ≡ []
 nothing_in [] h = chars-nil
 nothing_in (b ∷ bs) h = absurd (omega arith)
+
+-- a text has no more characters than bytes
+pub chars_small : (text : List ℕ) (n : ℕ) → IsUtf8 text → length text < n → length (chars text) < n
+chars_small text n utf8 h = omega (arith, length-le-encodes (chars text), ap length (encodes-chars text utf8))

@@ -1,8 +1,7 @@
 -- What a token leaves is the end of the text, without its first character.
-use Rattle.std.proofs.Common.{◌≡◌, ℕ, suc, zero, ◌+◌, ◌-◌, ◌<◌, ◌≤◌, ◌==◌, Bool, true, false, not, ◌&&◌, ◌||◌, if◌then◌else◌, List, [], ◌∷◌, ◌++◌, length, take, drop, refl, sym, ap, subst, ◌∙◌, arith, append_assoc, length-append}
+use Rattle.std.proofs.Common.{◌≡◌, ℕ, suc, zero, ◌+◌, ◌<◌, ◌≤◌, ◌==◌, Bool, true, false, ◌&&◌, ◌||◌, if◌then◌else◌, [], ◌∷◌, ◌++◌, length, take, drop, refl, sym, ap, subst, ◌∙◌, arith, append_assoc, length-append}
 use Rattle.std.specs.Prelude.{Option, Some, None, encode_utf8, encode_utf8_all}
 use Rattle.std.specs.Option.{option_map, option_map_or}
-use Rattle.std.specs.Char.{is_ascii_alphanumeric}
 use Rattle.std.proofs.lemmas.List.{take-append-drop}
 use Rattle.std.specs.Int.{is_in_range}
 use Rattle.std.proofs.Common.{lit<, leb-true, eqb-true}
@@ -11,12 +10,12 @@ use Rattle.std.proofs.lemmas.Str.{encodes-append, length-encode, len_utf8_bounds
 use Rattle.unicode_ident.specs.Ident.{is_xid_start, is_xid_continue}
 use Rattle.unicode_ident.proofs.IdentLemmas.{is_xid_continue-ascii, is_xid_start-is_xid_continue}
 use Rattle.ssr_syntax_lex.specs.Cursor.{Chars, passes_at, is_at, run, past}
-use Rattle.ssr_syntax_lex.specs.Characters.{is_whitespace, is_digit, starts_word, continues_word}
+use Rattle.ssr_syntax_lex.specs.Characters.{is_whitespace, is_hash, is_digit, starts_word, continues_word}
 use Rattle.ssr_syntax_lex.specs.Words.{mark_kind}
 use Rattle.ssr_syntax_lex.specs.Numbers.{Part, with_run, takes_point, takes_sign, whole_run, with_point, with_sign, number}
-use Rattle.ssr_syntax_lex.specs.Raw.{Taken, begins_string, begins_raw_identifier, punctuation, kind_of_word, past_word, token, is_float}
+use Rattle.ssr_syntax_lex.specs.Scan.{is_in_line, is_in_char, past_comments, past_quoted, past_raw, past_raw_string, past_apostrophe, past_char, begins_with_hashes}
+use Rattle.ssr_syntax_lex.specs.Raw.{Taken, begins_string, past_string, begins_raw_identifier, begins_lifetime, punctuation, closed, token}
 use Rattle.ssr_syntax_lex.specs.declared.kinds.SyntaxKind.{SyntaxKind}
-use Rattle.ssr_syntax_lex.specs.declared.kinds.SyntaxKind.TheVariants as k
 use Rattle.ssr_syntax_lex.specs.Tokens.{size}
 use Rattle.ssr_syntax_lex.proofs.Eaten.{run-past}
 
@@ -113,21 +112,99 @@ leaves_punctuation c cs =
       | Some kind ↦ leaves_some cs kind cs (follows_itself cs)
     ]
 
+-- whatever an option holds is an end of these characters
+abbrev Ends : Chars → Option Chars → Type 0
+Ends cs o = (rest : Chars) → o ≡ Some rest → Follows cs rest
+
+ends_none : (cs : Chars) → Ends cs None
+ends_none cs rest e = absurd (cc)
+
+ends_some : (cs rest : Chars) → Follows cs rest → Ends cs (Some rest)
+ends_some cs rest follows other e = subst (Follows cs) (ap (λ o. option_map_or (λ (xs : Chars). xs) o cs) e) follows
+
+ends_if : (cs : Chars) (b : Bool) (o p : Option Chars) → Ends cs o → Ends cs p → Ends cs (if b then o else p)
+ends_if cs true o p holds fails = holds
+ends_if cs false o p holds fails = fails
+
+ends_on : (cs ds : Chars) (o : Option Chars) → Follows cs ds → Ends ds o → Ends cs o
+ends_on cs ds o follows ends rest e = follows_on cs ds rest follows (ends rest e)
+
+follows_next : (c : ℕ) (cs : Chars) → Follows (c ∷ cs) cs
+follows_next c cs = (c ∷ [], refl)
+
+ends_comments : (depth : ℕ) (cs : Chars) → Ends cs (past_comments depth cs)
+ends_comments zero cs = ends_some cs cs (follows_itself cs)
+ends_comments (suc depth) [] = ends_none []
+ends_comments (suc depth) (c ∷ []) = ends_none (c ∷ [])
+ends_comments (suc depth) (c ∷ d ∷ cs) =
+    let two : Follows (c ∷ d ∷ cs) cs = (c ∷ d ∷ [], refl) in
+    ends_if (c ∷ d ∷ cs) (c == 47 && d == 42) _ _ (ends_on (c ∷ d ∷ cs) cs _ two (ends_comments (suc (suc depth)) cs))
+    (ends_if (c ∷ d ∷ cs) (c == 42 && d == 47) _ _ (ends_on (c ∷ d ∷ cs) cs _ two (ends_comments depth cs))
+    (ends_on (c ∷ d ∷ cs) (d ∷ cs) _ (follows_next c (d ∷ cs)) (ends_comments (suc depth) (d ∷ cs))))
+
+ends_quoted : (escaped : Bool) (cs : Chars) → Ends cs (past_quoted escaped cs)
+ends_quoted escaped [] = ends_none []
+ends_quoted escaped (c ∷ cs) =
+    ends_if (c ∷ cs) escaped _ _ (ends_on (c ∷ cs) cs _ (follows_next c cs) (ends_quoted false cs))
+    (ends_if (c ∷ cs) (c == 34) _ _ (ends_some (c ∷ cs) cs (follows_next c cs))
+    (ends_on (c ∷ cs) cs _ (follows_next c cs) (ends_quoted (c == 92) cs)))
+
+ends_raw : (hashes : ℕ) (cs : Chars) → Ends cs (past_raw hashes cs)
+ends_raw hashes [] = ends_none []
+ends_raw hashes (c ∷ cs) =
+    ends_if (c ∷ cs) (c == 34 && begins_with_hashes hashes cs) _ _
+    (ends_some (c ∷ cs) (drop hashes cs) (follows_on (c ∷ cs) cs _ (follows_next c cs) (follows_drop hashes cs)))
+    (ends_on (c ∷ cs) cs _ (follows_next c cs) (ends_raw hashes cs))
+
+ends_raw_string : (cs : Chars) → Ends cs (past_raw_string cs)
+ends_raw_string cs =
+    ends_on cs (drop 1 (past is_hash cs)) _ (follows_on cs (past is_hash cs) _ (follows_past is_hash cs) (follows_drop 1 (past is_hash cs)))
+    (ends_raw (length (run is_hash cs)) (drop 1 (past is_hash cs)))
+
+slash_in_line : (c : ℕ) → (c == 47) ≡ true → is_in_line c ≡ true
+slash_in_line c slash = ap is_in_line (eqb-true c 47 slash)
+
+-- a string takes its first character
+ends_string : (c : ℕ) (cs : Chars) → Ends cs (past_string (c ∷ cs))
+ends_string c cs = ends_if cs (is_at 0 34 (c ∷ cs)) _ _ (ends_quoted false cs) (ends_raw_string cs)
+
+ends_apostrophe : (cs : Chars) → Ends cs (past_apostrophe cs)
+ends_apostrophe cs = ends_if cs (is_at 0 39 cs) _ _ (ends_some cs (drop 1 cs) (follows_drop 1 cs)) (ends_none cs)
+
+ends_char : (cs : Chars) → Ends cs (past_char cs)
+ends_char cs =
+    ends_if cs (is_at 0 92 cs) _ _ (ends_on cs (past is_in_char (drop 2 cs)) _ (follows_past_drop is_in_char 2 cs) (ends_apostrophe (past is_in_char (drop 2 cs))))
+    (ends_if cs (passes_at 0 is_in_char cs) _ _ (ends_on cs (drop 1 cs) _ (follows_drop 1 cs) (ends_apostrophe (drop 1 cs)))
+    (ends_none cs))
+
+leaves_closed : (cs : Chars) (kind : SyntaxKind) (o : Option Chars) → Ends cs o → Leaves cs (closed kind o)
+leaves_closed cs kind None ends = leaves_none cs
+leaves_closed cs kind (Some rest) ends = leaves_some cs kind rest (ends rest refl)
+
+-- behind a prefix
+ends_behind : (n : ℕ) (cs : Chars) (o : Option Chars) → Ends (drop n cs) o → Ends cs o
+ends_behind n cs o ends = ends_on cs (drop n cs) o (follows_drop n cs) ends
+
+prefixed_string : (cs : Chars) → Ends cs (past_string cs)
+prefixed_string [] = ends_if [] false _ _ (ends_quoted false []) (ends_raw_string [])
+prefixed_string (c ∷ cs) = ends_on (c ∷ cs) cs _ (follows_next c cs) (ends_string c cs)
+
 pub token_leaves : (dots c : ℕ) (cs : Chars) → Leaves cs (token dots (c ∷ cs))
 unfolding token
 token_leaves dots c cs =
     leaves_if cs (passes_at 0 is_whitespace (c ∷ cs)) _ _ (λ white. leaves_some cs _ _ (past_first is_whitespace c cs white))
-    (leaves_if cs (is_at 0 47 (c ∷ cs) && is_at 1 47 (c ∷ cs)) _ _ (λ _. leaves_none cs)
-    (leaves_if cs (is_at 0 47 (c ∷ cs) && is_at 1 42 (c ∷ cs)) _ _ (λ _. leaves_none cs)
-    (leaves_if cs (begins_string (c ∷ cs)) _ _ (λ _. leaves_none cs)
-    (leaves_if cs ((is_at 0 98 (c ∷ cs) || is_at 0 99 (c ∷ cs)) && begins_string (drop 1 (c ∷ cs))) _ _ (λ _. leaves_none cs)
-    (leaves_if cs (is_at 0 98 (c ∷ cs) && is_at 1 39 (c ∷ cs)) _ _ (λ _. leaves_none cs)
+    (leaves_if cs (is_at 0 47 (c ∷ cs) && is_at 1 47 (c ∷ cs)) _ _ (λ slashes. leaves_some cs _ _ (past_first is_in_line c cs (slash_in_line c (both _ _ slashes).0)))
+    (leaves_if cs (is_at 0 47 (c ∷ cs) && is_at 1 42 (c ∷ cs)) _ _ (λ _. leaves_closed cs _ _ (ends_behind 1 cs _ (ends_comments 1 (drop 1 cs))))
+    (leaves_if cs (begins_string (c ∷ cs)) _ _ (λ _. leaves_closed cs _ _ (ends_string c cs))
+    (leaves_if cs (is_at 0 98 (c ∷ cs) && begins_string (drop 1 (c ∷ cs))) _ _ (λ _. leaves_closed cs _ _ (prefixed_string cs))
+    (leaves_if cs (is_at 0 99 (c ∷ cs) && begins_string (drop 1 (c ∷ cs))) _ _ (λ _. leaves_closed cs _ _ (prefixed_string cs))
+    (leaves_if cs (is_at 0 98 (c ∷ cs) && is_at 1 39 (c ∷ cs)) _ _ (λ _. leaves_closed cs _ _ (ends_behind 1 cs _ (ends_char (drop 1 cs))))
     (leaves_if cs (begins_raw_identifier (c ∷ cs)) _ _ (λ _. leaves_some cs _ _ (follows_past_drop continues_word 1 cs))
     (leaves_if cs (passes_at 0 starts_word (c ∷ cs)) _ _ (λ starts. leaves_some cs _ _ (past_first continues_word c cs (starts_continues c starts)))
-    (leaves_if cs (is_at 0 39 (c ∷ cs)) _ _ (λ _. leaves_none cs)
-    (leaves_if cs (passes_at 0 is_digit (c ∷ cs)) _ _ (λ digit.
-    leaves_if cs (is_float (number dots (c ∷ cs)).0) _ _ (λ _. leaves_none cs) (leaves_some cs _ _ (leaves_number dots c cs digit)))
-    (leaves_punctuation c cs))))))))))
+    (leaves_if cs (begins_lifetime (c ∷ cs)) _ _ (λ _. leaves_some cs _ _ (follows_past continues_word cs))
+    (leaves_if cs (is_at 0 39 (c ∷ cs)) _ _ (λ _. leaves_closed cs _ _ (ends_char cs))
+    (leaves_if cs (passes_at 0 is_digit (c ∷ cs)) _ _ (λ digit. leaves_some cs _ _ (leaves_number dots c cs digit))
+    (leaves_punctuation c cs))))))))))))
 
 -- so it is shorter, in characters and in bytes
 pub shorter : (c : ℕ) (cs rest : Chars) → Follows cs rest → (length rest ≤ length cs) × (size rest < size (c ∷ cs))

@@ -1,4 +1,7 @@
 pub mod Eaten
+pub mod WordLaws
+pub mod ScanSteps
+pub mod FirstCharacters
 pub mod NumberLaws
 pub mod PointLaws
 pub mod NumberCases

@@ -1,16 +1,9 @@
 -- The number at the front, by the run that it begins with and what the code finds behind it.
-use Rattle.std.proofs.Common.{◌≡◌, ℕ, suc, zero, ◌+◌, ◌-◌, ◌<◌, ◌≤◌, ◌==◌, Bool, true, false, not, ◌&&◌, ◌||◌, if◌then◌else◌, List, [], ◌∷◌, ◌++◌, length, take, drop, refl, sym, ap, subst, ◌∙◌, arith, append_assoc, length-append}
-use Rattle.std.specs.List.{list_all}
-use Rattle.std.specs.Option.{option_map_or}
-use Rattle.std.specs.Prelude.{slice_get, Some}
-use Rattle.std.proofs.lemmas.Bool.{eqb-true}
-use Rattle.std.proofs.lemmas.Bool.Decides.{nat_tests}
-use Rattle.ssr_syntax_lex.specs.Cursor.{Chars, passes_at, is_at, run, past}
-use Rattle.ssr_syntax_lex.specs.Characters.{is_digit, is_digit_or_underscore, is_exponent_mark, continues_word}
-use Rattle.ssr_syntax_lex.specs.Numbers.{Part, with_run, has_radix, ends_with_exponent_mark, takes_point, is_signed_digit, takes_sign, has_exponent, whole_run, with_point, with_sign, number_kind, number}
-use Rattle.ssr_syntax_lex.specs.declared.kinds.SyntaxKind.{SyntaxKind}
+use Rattle.std.proofs.Common.{◌≡◌, ℕ, Bool, true, false, ◌&&◌, ◌||◌, if◌then◌else◌, drop, refl, sym, ap, subst, ◌∙◌}
+use Rattle.ssr_syntax_lex.specs.Cursor.{Chars, run, past}
+use Rattle.ssr_syntax_lex.specs.Characters.{is_digit, continues_word}
+use Rattle.ssr_syntax_lex.specs.Numbers.{Part, with_run, ends_with_exponent_mark, takes_point, is_signed_digit, takes_sign, has_exponent, whole_run, with_point, with_sign, number_kind, number}
 use Rattle.ssr_syntax_lex.specs.declared.kinds.SyntaxKind.TheVariants as k
-use Rattle.ssr_syntax_lex.proofs.NumberLaws.{both, plain_no_radix, at_append, last_at}
 use Rattle.ssr_syntax_lex.proofs.PointLaws.{pointed_sign}
 use Rattle.std.proofs.Common.{ne_eqb}
 

@@ -3,5 +3,6 @@ pub mod Cursor
 pub mod Characters
 pub mod Words
 pub mod Numbers
+pub mod Scan
 pub mod Raw
 pub mod Tokens

@@ -1,5 +1,5 @@
 -- Number tokens.
-use Rattle.std.specs.Prelude.{ℕ, ◌-◌, ◌==◌, Bool, not, ◌&&◌, ◌||◌, List, [], ◌++◌, length, take, drop, if◌then◌else◌}
+use Rattle.std.specs.Prelude.{ℕ, ◌-◌, ◌==◌, Bool, not, ◌&&◌, ◌||◌, [], ◌++◌, length, take, drop, if◌then◌else◌}
 use Rattle.std.specs.List.{list_all}
 use Rattle.ssr_syntax_lex.specs.Cursor.{Chars, passes_at, is_at, run, past}
 use Rattle.ssr_syntax_lex.specs.Characters.{is_digit, is_digit_or_underscore, is_exponent_mark, starts_word, continues_word}

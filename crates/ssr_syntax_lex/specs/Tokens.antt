@@ -1,16 +1,17 @@
 -- The raw tokens of a text.
-use Rattle.std.specs.Prelude.{ℕ, zero, suc, ◌≡◌, ◌+◌, ◌-◌, ◌^◌, ◌<◌, ◌≤◌, Bool, true, false, if◌then◌else◌, List, [], ◌∷◌, Option, Some, None, Result, Ok, Err, Vec, length, slice_range, flat_map, All, IsCharBoundary}
-use Rattle.std.specs.Option.{option_map, option_and_then}
+use Rattle.std.specs.Prelude.{ℕ, zero, suc, ◌≡◌, ◌+◌, ◌-◌, ◌^◌, ◌<◌, ◌≤◌, Bool, true, false, if◌then◌else◌, List, [], ◌∷◌, Option, Some, None, Result, Ok, Err, Vec, length, slice_range, flat_map, IsCharBoundary}
+use Rattle.std.specs.Option.{option_map, option_map_or, option_and_then}
 use Rattle.std.specs.Str.{chars, encode_utf8_all}
 use Rattle.std.specs.declared.alloc.Global.{Global}
 use Rattle.std.proofs.Math.Nat.{le-add_right}
 use Rattle.ssr_syntax_lex.specs.Cursor.{Chars}
 use Rattle.ssr_syntax_lex.specs.Words.{is_punctuation}
-use Rattle.ssr_syntax_lex.specs.Raw.{Taken, token}
+use Rattle.ssr_syntax_lex.specs.Raw.{Taken, token, fault_of}
 use Rattle.ssr_syntax_lex.specs.declared.kinds.SyntaxKind.{SyntaxKind}
 use Rattle.ssr_syntax_lex.specs.declared.kinds.SyntaxKind.TheVariants as k
 use Rattle.ssr_syntax_lex.specs.declared.range.TextRange.{TextRange}
 use Rattle.ssr_syntax_lex.specs.declared.tokens.RawToken.{RawToken}
+use Rattle.ssr_syntax_lex.specs.declared.tokens.LexFault.{LexFault}
 use Rattle.ssr_syntax_lex.specs.declared.tokens.LexError.{LexError}
 use Rattle.ssr_syntax_lex.specs.declared.tokens.LexError.TheVariants.{TooLong, Fault, Memory}
 
@@ -59,6 +60,27 @@ Lexes (Ok v) text = (length text < 2 ^ 32) × (tokens text ≡ Some v.items)
 Lexes (Err (Fault fault)) text = (length text < 2 ^ 32) × (tokens text ≡ None)
 Lexes (Err TooLong) text = 2 ^ 32 ≤ length text
 Lexes (Err Memory) text = Unit {0}
+
+-- the fault of the characters that are left from the byte `start` on, if there is one
+abbrev pub fault_from : ℕ → ℕ → ℕ → Chars → Option LexFault
+fault_from fuel start dots [] = None
+fault_from zero start dots (c ∷ cs) = None
+fault_from (suc fuel) start dots (c ∷ cs) =
+    option_map_or
+    (λ (taken : Taken). let count : ℕ = size (c ∷ cs) - size taken.1 in fault_from fuel (start + count) (dots_behind dots taken.0) taken.1)
+    (token dots (c ∷ cs))
+    (Some (record { kind = fault_of (c ∷ cs); start = start }))
+
+-- the first place of a text where there is no token, and what begins there
+unfoldable pub fault : List ℕ → Option LexFault
+fault text = fault_from (length (chars text)) 0 0 (chars text)
+
+-- a fault that `lex` tells is the text's
+abbrev pub TellsFault : Result (Vec RawToken Global) LexError → List ℕ → Type 0
+TellsFault (Ok v) text = Unit {0}
+TellsFault (Err (Fault told)) text = fault text ≡ Some told
+TellsFault (Err TooLong) text = Unit {0}
+TellsFault (Err Memory) text = Unit {0}
 
 -- the bytes of the text at a token's range
 abbrev pub token_text : List ℕ → RawToken → List ℕ

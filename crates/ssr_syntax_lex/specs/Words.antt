@@ -1,5 +1,5 @@
 -- Keywords and punctuation.
-use Rattle.std.specs.Prelude.{ℕ, ◌==◌, Bool, true, false, bytes_eq, List, [], ◌∷◌, Option, Some, None, codes, if◌then◌else◌}
+use Rattle.std.specs.Prelude.{ℕ, ◌==◌, ◌&&◌, nat_le, Bool, true, false, bytes_eq, List, [], ◌∷◌, Option, Some, None, codes, if◌then◌else◌}
 use Rattle.ssr_syntax_lex.specs.declared.kinds.SyntaxKind.{SyntaxKind}
 use Rattle.ssr_syntax_lex.specs.declared.kinds.SyntaxKind.TheVariants as k
 
@@ -64,9 +64,22 @@ abbrev pub kind_in : List (List ℕ × SyntaxKind) → List ℕ → SyntaxKind
 kind_in [] word = k.IDENT
 kind_in (row ∷ rows) word = if bytes_eq word row.0 then row.1 else kind_in rows word
 
+-- the words that are no identifiers, each with its kind
+abbrev pub word_kinds : List (List ℕ × SyntaxKind)
+word_kinds = (codes "_", k.UNDERSCORE) ∷ keywords
+
 -- the kind of a word: a keyword's, that of `_`, or an identifier's
 unfoldable pub word_kind : List ℕ → SyntaxKind
-word_kind word = if bytes_eq word (codes "_") then k.UNDERSCORE else kind_in keywords word
+word_kind word = kind_in word_kinds word
+
+abbrev pub begins_between : ℕ → ℕ → List ℕ → Bool
+begins_between low high [] = false
+begins_between low high (c ∷ cs) = nat_le low c && nat_le c high
+
+-- the rows whose word begins with a byte from `low` to `high`
+abbrev pub beginning : ℕ → ℕ → List (List ℕ × SyntaxKind) → List (List ℕ × SyntaxKind)
+beginning low high [] = []
+beginning low high (row ∷ rows) = if begins_between low high row.0 then row ∷ beginning low high rows else beginning low high rows
 
 -- the punctuation characters, each with its kind
 abbrev pub marks : List (ℕ × SyntaxKind)

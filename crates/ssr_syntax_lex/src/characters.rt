@@ -42,8 +42,12 @@ pub(crate) fn starts_word(c: char) -> bool
     unicode_ident::is_xid_start(c) || c == '_'
 }
 
+#[tactic(auto, using(crate::proofs::WordLaws::ascii_words))]
 pub(crate) fn continues_word(c: char) -> bool
     ensures { result ≡ spec.continues_word c }
 {
+    if c.is_ascii() {
+        return c.is_ascii_alphanumeric() || c == '_';
+    }
     unicode_ident::is_xid_continue(c)
 }

@@ -112,20 +112,46 @@ impl<'a> Cursor<'a> {
         self.first().is_some_and(|first| first == c)
     }
 
+    /// Whether this character comes behind the next one.
+    pub(crate) fn is_second(&self, c: char) -> bool
+        ensures { result ≡ is_at 1 c self.now }
+    {
+        self.second().is_some_and(|second| second == c)
+    }
+
     /// Whether these two characters come next.
     pub(crate) fn is_pair(&self, first: char, second: char) -> bool
         ensures { result ≡ (is_at 0 first self.now && is_at 1 second self.now) }
     {
-        self.is_at(first) && self.second().is_some_and(|c| c == second)
+        self.is_at(first) && self.is_second(second)
     }
 
     /// Passes over the next character, if there is one.
     pub(crate) fn bump(&mut self)
-        ensures { self.new ≡ drop 1 self.old }
+        ensures rest { self.new ≡ drop 1 self.old }
+        ensures small { length self.old < 2 ^ 32 }
     {
         if let Some((_, rest)) = split_first_char(self.rest) {
             self.rest = rest;
         }
+    }
+
+    /// Passes over the next two characters, as far as they are there.
+    pub(crate) fn bump_pair(&mut self)
+        ensures rest { self.new ≡ drop 2 self.old }
+        ensures small { length self.old < 2 ^ 32 }
+    {
+        self.bump();
+        self.bump();
+    }
+
+    /// Passes over the next character, if there is one, and gives it.
+    pub(crate) fn next(&mut self) -> Option<char>
+        ensures { MatchOption result ((self.old ≡ []) × (self.new ≡ [])) (λ c. self.old ≡ c ∷ self.new) }
+    {
+        let (first, rest) = split_first_char(self.rest)?;
+        self.rest = rest;
+        Some(first)
     }
 
     /// Passes over the longest run of characters that pass the test, and gives it.

@@ -3,10 +3,12 @@
 
 mod characters;
 mod cursor;
+mod fault;
 mod kinds;
 mod numbers;
 mod range;
 mod raw;
+mod scan;
 mod tokens;
 mod words;
 

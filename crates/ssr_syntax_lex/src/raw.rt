@@ -1,41 +1,19 @@
 //! The raw token at the front of a text.
 
-ghost use Rattle.std.specs.Prelude.{◌≡◌, ◌&&◌, ◌||◌, not, drop, if◌then◌else◌};
+ghost use Rattle.std.specs.Prelude.{ℕ, ◌≡◌, ◌&&◌, not, true, Some, drop, slice_get};
 ghost use Rattle.ssr_syntax_lex.specs.Raw as spec;
-ghost use Rattle.ssr_syntax_lex.specs.Numbers.{number};
-ghost use Rattle.ssr_syntax_lex.specs.Characters.{is_whitespace, is_digit, starts_word};
+ghost use Rattle.ssr_syntax_lex.specs.Scan.{PassesOver};
+ghost use Rattle.ssr_syntax_lex.specs.declared.fault.FaultKind.TheVariants as faults;
+ghost use Rattle.ssr_syntax_lex.specs.Characters.{starts_word};
 ghost use Rattle.ssr_syntax_lex.specs.Cursor.{passes_at, is_at};
 
 use crate::characters::{continues_word, is_digit, is_hash, is_whitespace, starts_word};
 use crate::cursor::Cursor;
+use crate::fault::FaultKind;
 use crate::kinds::SyntaxKind;
 use crate::numbers::eat_number;
+use crate::scan::{eat_block_comment, eat_char, eat_quoted, eat_raw_string, is_in_line};
 use crate::words::{mark_kind, word_kind};
-
-/// What a lexer fault is.
-#[derive(Clone, Copy, Debug, PartialEq, Eq)]
-pub(crate) enum FaultKind {
-    /// A character that begins no token.
-    NoToken,
-}
-
-fn begins_whitespace(cursor: &Cursor<'_>) -> bool
-    ensures { result ≡ passes_at 0 is_whitespace cursor.now }
-{
-    cursor.first().is_some_and(is_whitespace)
-}
-
-fn begins_word(cursor: &Cursor<'_>) -> bool
-    ensures { result ≡ passes_at 0 starts_word cursor.now }
-{
-    cursor.first().is_some_and(starts_word)
-}
-
-fn begins_number(cursor: &Cursor<'_>) -> bool
-    ensures { result ≡ passes_at 0 is_digit cursor.now }
-{
-    cursor.first().is_some_and(is_digit)
-}
 
 /// Whether `r`, any number of `#` and `"` come next.
 fn begins_hashed_string(cursor: &Cursor<'_>) -> bool
@@ -50,22 +28,13 @@ fn begins_hashed_string(cursor: &Cursor<'_>) -> bool
     ahead.is_at('"')
 }
 
-fn begins_string(cursor: &Cursor<'_>) -> bool
-    ensures { result ≡ spec.begins_string cursor.now }
+/// Whether a string comes behind the next character.
+fn begins_string_behind(cursor: &Cursor<'_>) -> bool
+    ensures { result ≡ spec.begins_string (drop 1 cursor.now) }
 {
-    cursor.is_at('"') || begins_hashed_string(cursor)
-}
-
-/// Whether `b` or `c` and a string come next.
-fn begins_prefixed_string(cursor: &Cursor<'_>) -> bool
-    ensures { result ≡ ((is_at 0 98 cursor.now || is_at 0 99 cursor.now) && spec.begins_string (drop 1 cursor.now)) }
-{
-    if !(cursor.is_at('b') || cursor.is_at('c')) {
-        return false;
-    }
     let mut ahead = cursor.fork();
     ahead.bump();
-    begins_string(&ahead)
+    ahead.is_at('"') || begins_hashed_string(&ahead)
 }
 
 /// Whether `r#` and a word other than `_` come next.
@@ -78,6 +47,13 @@ fn begins_raw_identifier(cursor: &Cursor<'_>) -> bool
             && !cursor.fourth().is_some_and(continues_word))
 }
 
+/// Whether a word, whose first character isn't directly followed by `'`, comes behind the next character.
+fn begins_lifetime_behind(cursor: &Cursor<'_>) -> bool
+    ensures { result ≡ (passes_at 1 starts_word cursor.now && not (is_at 2 39 cursor.now)) }
+{
+    cursor.second().is_some_and(starts_word) && !cursor.third().is_some_and(|c| c == '\'')
+}
+
 /// Passes over a word, and gives its kind.
 fn eat_word(cursor: &mut Cursor<'_>) -> SyntaxKind
     ensures kind { result ≡ spec.kind_of_word cursor.old }
@@ -87,25 +63,21 @@ fn eat_word(cursor: &mut Cursor<'_>) -> SyntaxKind
     word_kind(word)
 }
 
-fn is_float(kind: SyntaxKind) -> bool
-    ensures { result ≡ spec.is_float kind }
+/// Passes over the string that comes next.
+fn eat_string(cursor: &mut Cursor<'_>) -> Result<(), FaultKind>
+    ensures { PassesOver faults.UnclosedString result (spec.past_string cursor.old) cursor.new }
 {
-    matches!(kind, SyntaxKind::FLOAT_NUMBER)
-}
-
-/// Passes over a number, and gives its kind; floats are not read yet.
-fn eat_whole_number(cursor: &mut Cursor<'_>, dots: u32) -> Result<SyntaxKind, FaultKind>
-    ensures { spec.Takes result (if spec.is_float (number dots cursor.old).0 then None else Some (number dots cursor.old)) cursor.new }
-{
-    let kind = eat_number(cursor, dots);
-    if is_float(kind) {
-        return Err(FaultKind::NoToken);
+    let plain = cursor.is_at('"');
+    cursor.bump();
+    if plain {
+        eat_quoted(cursor)
+    } else {
+        eat_raw_string(cursor)
     }
-    Ok(kind)
 }
 
 fn eat_punctuation(cursor: &mut Cursor<'_>) -> Result<SyntaxKind, FaultKind>
-    ensures { spec.Takes result (spec.punctuation cursor.old) cursor.new }
+    ensures { spec.Takes faults.NoToken result (spec.punctuation cursor.old) cursor.new }
 {
     let Some(first) = cursor.first() else {
         return Err(FaultKind::NoToken);
@@ -117,44 +89,138 @@ fn eat_punctuation(cursor: &mut Cursor<'_>) -> Result<SyntaxKind, FaultKind>
     Ok(kind)
 }
 
-/// Passes over the token that comes next, and gives its kind. `dots` counts the `.` directly in front of it.
-#[tactic(auto, unfolding(crate::specs::Raw::token))]
-pub(crate) fn eat_token(cursor: &mut Cursor<'_>, dots: u32) -> Result<SyntaxKind, FaultKind>
-    ensures { spec.Takes result (spec.token dots cursor.old) cursor.new }
+/// Passes over a comment or `/`.
+#[tactic(auto, using(crate::proofs::FirstCharacters::slash_rows))]
+fn eat_slash(cursor: &mut Cursor<'_>) -> Result<SyntaxKind, FaultKind>
+    requires { slice_get cursor.old 0 ≡ Some 47 }
+    ensures { (dots : ℕ) → spec.Takes (spec.fault_of cursor.old) result (spec.token dots cursor.old) cursor.new }
 {
-    if begins_whitespace(cursor) {
-        cursor.eat_while(is_whitespace);
-        return Ok(SyntaxKind::WHITESPACE);
+    if cursor.is_second('/') {
+        cursor.eat_while(is_in_line);
+        return Ok(SyntaxKind::COMMENT);
     }
-    if cursor.is_pair('/', '/') {
-        return Err(FaultKind::NoToken);
+    if cursor.is_second('*') {
+        eat_block_comment(cursor)?;
+        return Ok(SyntaxKind::COMMENT);
     }
-    if cursor.is_pair('/', '*') {
-        return Err(FaultKind::NoToken);
-    }
-    if begins_string(cursor) {
-        return Err(FaultKind::NoToken);
-    }
-    if begins_prefixed_string(cursor) {
-        return Err(FaultKind::NoToken);
-    }
-    if cursor.is_pair('b', '\'') {
-        return Err(FaultKind::NoToken);
+    cursor.bump();
+    Ok(SyntaxKind::SLASH)
+}
+
+/// Passes over what begins with `"`.
+#[tactic(auto, using(crate::proofs::FirstCharacters::quote_rows))]
+fn eat_quote(cursor: &mut Cursor<'_>) -> Result<SyntaxKind, FaultKind>
+    requires { slice_get cursor.old 0 ≡ Some 34 }
+    ensures { (dots : ℕ) → spec.Takes (spec.fault_of cursor.old) result (spec.token dots cursor.old) cursor.new }
+{
+    cursor.bump();
+    eat_quoted(cursor)?;
+    Ok(SyntaxKind::STRING)
+}
+
+/// Passes over what begins with `r`: a raw string, a raw identifier or a word.
+#[tactic(auto, using(crate::proofs::FirstCharacters::r_rows))]
+fn eat_r(cursor: &mut Cursor<'_>) -> Result<SyntaxKind, FaultKind>
+    requires { slice_get cursor.old 0 ≡ Some 114 }
+    ensures { (dots : ℕ) → spec.Takes (spec.fault_of cursor.old) result (spec.token dots cursor.old) cursor.new }
+{
+    if begins_hashed_string(cursor) {
+        cursor.bump();
+        eat_raw_string(cursor)?;
+        return Ok(SyntaxKind::STRING);
     }
     if begins_raw_identifier(cursor) {
-        cursor.bump();
-        cursor.bump();
+        cursor.bump_pair();
         cursor.eat_while(continues_word);
         return Ok(SyntaxKind::IDENT);
     }
-    if begins_word(cursor) {
+    Ok(eat_word(cursor))
+}
+
+/// Passes over what begins with `b`: a string of bytes, a byte or a word.
+#[tactic(auto, using(crate::proofs::FirstCharacters::b_rows))]
+fn eat_b(cursor: &mut Cursor<'_>) -> Result<SyntaxKind, FaultKind>
+    requires { slice_get cursor.old 0 ≡ Some 98 }
+    ensures { (dots : ℕ) → spec.Takes (spec.fault_of cursor.old) result (spec.token dots cursor.old) cursor.new }
+{
+    if begins_string_behind(cursor) {
+        cursor.bump();
+        eat_string(cursor)?;
+        return Ok(SyntaxKind::BYTE_STRING);
+    }
+    if cursor.is_second('\'') {
+        cursor.bump_pair();
+        eat_char(cursor, FaultKind::UnclosedByte)?;
+        return Ok(SyntaxKind::BYTE);
+    }
+    Ok(eat_word(cursor))
+}
+
+/// Passes over what begins with `c`: a C string or a word.
+#[tactic(auto, using(crate::proofs::FirstCharacters::c_rows))]
+fn eat_c(cursor: &mut Cursor<'_>) -> Result<SyntaxKind, FaultKind>
+    requires { slice_get cursor.old 0 ≡ Some 99 }
+    ensures { (dots : ℕ) → spec.Takes (spec.fault_of cursor.old) result (spec.token dots cursor.old) cursor.new }
+{
+    if begins_string_behind(cursor) {
+        cursor.bump();
+        eat_string(cursor)?;
+        return Ok(SyntaxKind::C_STRING);
+    }
+    Ok(eat_word(cursor))
+}
+
+/// Passes over what begins with `'`: a lifetime or a character.
+#[tactic(auto, using(crate::proofs::FirstCharacters::apostrophe_rows))]
+fn eat_lifetime_or_char(cursor: &mut Cursor<'_>) -> Result<SyntaxKind, FaultKind>
+    requires { slice_get cursor.old 0 ≡ Some 39 }
+    ensures { (dots : ℕ) → spec.Takes (spec.fault_of cursor.old) result (spec.token dots cursor.old) cursor.new }
+{
+    let is_lifetime = begins_lifetime_behind(cursor);
+    cursor.bump();
+    if is_lifetime {
+        cursor.eat_while(continues_word);
+        return Ok(SyntaxKind::LIFETIME_IDENT);
+    }
+    eat_char(cursor, FaultKind::UnclosedChar)?;
+    Ok(SyntaxKind::CHAR)
+}
+
+/// Passes over a token that needs no second look: white space, a word, a number or punctuation.
+#[tactic(auto, using(crate::proofs::FirstCharacters::plain_rows))]
+fn eat_other(cursor: &mut Cursor<'_>, first: char, dots: u32) -> Result<SyntaxKind, FaultKind>
+    requires comes { slice_get cursor.old 0 ≡ Some first }
+    requires plain { spec.IsPlain first }
+    ensures { spec.Takes (spec.fault_of cursor.old) result (spec.token dots cursor.old) cursor.new }
+{
+    if is_whitespace(first) {
+        cursor.eat_while(is_whitespace);
+        return Ok(SyntaxKind::WHITESPACE);
+    }
+    if starts_word(first) {
         return Ok(eat_word(cursor));
     }
-    if cursor.is_at('\'') {
-        return Err(FaultKind::NoToken);
-    }
-    if begins_number(cursor) {
-        return eat_whole_number(cursor, dots);
+    if is_digit(first) {
+        return Ok(eat_number(cursor, dots));
     }
     eat_punctuation(cursor)
+}
+
+/// Passes over the token that comes next, and gives its kind. `dots` counts the `.` directly in front of it.
+#[tactic(auto, using(crate::proofs::FirstCharacters::no_rows))]
+pub(crate) fn eat_token(cursor: &mut Cursor<'_>, dots: u32) -> Result<SyntaxKind, FaultKind>
+    ensures { spec.Takes (spec.fault_of cursor.old) result (spec.token dots cursor.old) cursor.new }
+{
+    let Some(first) = cursor.first() else {
+        return Err(FaultKind::NoToken);
+    };
+    match first {
+        '/' => eat_slash(cursor),
+        '"' => eat_quote(cursor),
+        'r' => eat_r(cursor),
+        'b' => eat_b(cursor),
+        'c' => eat_c(cursor),
+        '\'' => eat_lifetime_or_char(cursor),
+        _ => eat_other(cursor, first, dots),
+    }
 }

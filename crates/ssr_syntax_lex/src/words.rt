@@ -5,61 +5,143 @@ ghost use Rattle.ssr_syntax_lex.specs.Words as spec;
 
 use crate::kinds::SyntaxKind;
 
-/// The kind of a word: a keyword's, that of `_`, or an identifier's.
-#[tactic(auto, unfolding(crate::specs::Words::word_kind))]
+/// The kind of a word: a keyword's, that of `_`, or an identifier's. The first letter decides which few words it is
+/// compared with.
+#[tactic(auto, unfolding(crate::specs::Words::word_kind), using(crate::proofs::WordLaws::kind_by_letter, crate::proofs::WordLaws::kind_of_nothing))]
 pub(crate) fn word_kind(word: &str) -> SyntaxKind
     ensures { result ≡ spec.word_kind word.now }
 {
+    match word.as_bytes().first() {
+        None => SyntaxKind::IDENT,
+        Some(..=b'`') => kind_before_a(word),
+        Some(b'a'..=b'b') => kind_from_a(word),
+        Some(b'c'..=b'd') => kind_from_c(word),
+        Some(b'e'..=b'h') => kind_from_e(word),
+        Some(b'i'..=b'l') => kind_from_i(word),
+        Some(b'm'..=b'q') => kind_from_m(word),
+        Some(b'r'..=b's') => kind_from_r(word),
+        Some(b't') => kind_from_t(word),
+        Some(b'u'..) => kind_from_u(word),
+    }
+}
+
+fn kind_before_a(word: &str) -> SyntaxKind
+    ensures { result ≡ spec.kind_in (spec.beginning 0 96 spec.word_kinds) word.now }
+{
     match word {
         "_" => SyntaxKind::UNDERSCORE,
+        "Self" => SyntaxKind::SELF_TYPE_KW,
+        _ => SyntaxKind::IDENT,
+    }
+}
+
+fn kind_from_a(word: &str) -> SyntaxKind
+    ensures { result ≡ spec.kind_in (spec.beginning 97 98 spec.word_kinds) word.now }
+{
+    match word {
         "as" => SyntaxKind::AS_KW,
         "async" => SyntaxKind::ASYNC_KW,
         "await" => SyntaxKind::AWAIT_KW,
         "break" => SyntaxKind::BREAK_KW,
+        "abstract" => SyntaxKind::ABSTRACT_KW,
+        "become" => SyntaxKind::BECOME_KW,
+        "box" => SyntaxKind::BOX_KW,
+        _ => SyntaxKind::IDENT,
+    }
+}
+
+fn kind_from_c(word: &str) -> SyntaxKind
+    ensures { result ≡ spec.kind_in (spec.beginning 99 100 spec.word_kinds) word.now }
+{
+    match word {
         "const" => SyntaxKind::CONST_KW,
         "continue" => SyntaxKind::CONTINUE_KW,
         "crate" => SyntaxKind::CRATE_KW,
         "dyn" => SyntaxKind::DYN_KW,
+        "do" => SyntaxKind::DO_KW,
+        _ => SyntaxKind::IDENT,
+    }
+}
+
+fn kind_from_e(word: &str) -> SyntaxKind
+    ensures { result ≡ spec.kind_in (spec.beginning 101 104 spec.word_kinds) word.now }
+{
+    match word {
         "else" => SyntaxKind::ELSE_KW,
         "enum" => SyntaxKind::ENUM_KW,
         "extern" => SyntaxKind::EXTERN_KW,
         "false" => SyntaxKind::FALSE_KW,
         "fn" => SyntaxKind::FN_KW,
         "for" => SyntaxKind::FOR_KW,
+        "final" => SyntaxKind::FINAL_KW,
+        _ => SyntaxKind::IDENT,
+    }
+}
+
+fn kind_from_i(word: &str) -> SyntaxKind
+    ensures { result ≡ spec.kind_in (spec.beginning 105 108 spec.word_kinds) word.now }
+{
+    match word {
         "if" => SyntaxKind::IF_KW,
         "impl" => SyntaxKind::IMPL_KW,
         "in" => SyntaxKind::IN_KW,
         "let" => SyntaxKind::LET_KW,
         "loop" => SyntaxKind::LOOP_KW,
+        _ => SyntaxKind::IDENT,
+    }
+}
+
+fn kind_from_m(word: &str) -> SyntaxKind
+    ensures { result ≡ spec.kind_in (spec.beginning 109 113 spec.word_kinds) word.now }
+{
+    match word {
         "match" => SyntaxKind::MATCH_KW,
         "mod" => SyntaxKind::MOD_KW,
         "move" => SyntaxKind::MOVE_KW,
         "mut" => SyntaxKind::MUT_KW,
         "pub" => SyntaxKind::PUB_KW,
+        "macro" => SyntaxKind::MACRO_KW,
+        "override" => SyntaxKind::OVERRIDE_KW,
+        "priv" => SyntaxKind::PRIV_KW,
+        _ => SyntaxKind::IDENT,
+    }
+}
+
+fn kind_from_r(word: &str) -> SyntaxKind
+    ensures { result ≡ spec.kind_in (spec.beginning 114 115 spec.word_kinds) word.now }
+{
+    match word {
         "ref" => SyntaxKind::REF_KW,
         "return" => SyntaxKind::RETURN_KW,
         "self" => SyntaxKind::SELF_KW,
-        "Self" => SyntaxKind::SELF_TYPE_KW,
         "static" => SyntaxKind::STATIC_KW,
         "struct" => SyntaxKind::STRUCT_KW,
         "super" => SyntaxKind::SUPER_KW,
+        _ => SyntaxKind::IDENT,
+    }
+}
+
+fn kind_from_t(word: &str) -> SyntaxKind
+    ensures { result ≡ spec.kind_in (spec.beginning 116 116 spec.word_kinds) word.now }
+{
+    match word {
         "trait" => SyntaxKind::TRAIT_KW,
         "true" => SyntaxKind::TRUE_KW,
         "type" => SyntaxKind::TYPE_KW,
+        "try" => SyntaxKind::TRY_KW,
+        "typeof" => SyntaxKind::TYPEOF_KW,
+        _ => SyntaxKind::IDENT,
+    }
+}
+
+fn kind_from_u(word: &str) -> SyntaxKind
+    ensures { result ≡ spec.kind_in (spec.beginning 117 255 spec.word_kinds) word.now }
+{
+    match word {
         "unsafe" => SyntaxKind::UNSAFE_KW,
         "use" => SyntaxKind::USE_KW,
         "where" => SyntaxKind::WHERE_KW,
         "while" => SyntaxKind::WHILE_KW,
-        "abstract" => SyntaxKind::ABSTRACT_KW,
-        "become" => SyntaxKind::BECOME_KW,
-        "box" => SyntaxKind::BOX_KW,
-        "do" => SyntaxKind::DO_KW,
-        "final" => SyntaxKind::FINAL_KW,
-        "macro" => SyntaxKind::MACRO_KW,
-        "override" => SyntaxKind::OVERRIDE_KW,
-        "priv" => SyntaxKind::PRIV_KW,
-        "try" => SyntaxKind::TRY_KW,
-        "typeof" => SyntaxKind::TYPEOF_KW,
         "unsized" => SyntaxKind::UNSIZED_KW,
         "virtual" => SyntaxKind::VIRTUAL_KW,
         "yield" => SyntaxKind::YIELD_KW,

@@ -7,3 +7,6 @@ pub new-requires : goal.new-requires
 new-requires c =
     subst (AreInOrder 0) (sym c.in_ok-changes.ensures.edit)
     (edit_ordered c.args.tree.now c.args.rules.now c.args.kept.now.matches.items c.args.kept.now.holders.items c.requires.held)
+
+pub returns-clause-order : goal.returns-clause-order
+returns-clause-order c = edit_ordered c.args.tree.now c.args.rules.now c.args.kept.now.matches.items c.args.kept.now.holders.items c.requires.held

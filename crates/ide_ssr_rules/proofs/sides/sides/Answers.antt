@@ -1,12 +1,16 @@
 use Rattle.ide_ssr_rules.proofs.Splitting.{no_split, second_split, one_split}
 use Rattle.ide_ssr_rules.proofs.Telling.{tells_refusal}
+use Rattle.ide_ssr_rules.proofs.TrimmedSides.{trimmed_stays}
 use Rattle.ide_ssr_rules.proofs.sides.sides.Goals as goal
 
-pub returns-in_default : goal.returns-in_default
-returns-in_default c = tells_refusal _ _ _ (no_split _ c.in_default.ensures.cases) c.no_delimiter.ensures
+pub returns-in_default-clause-parts : goal.returns-in_default-clause-parts
+returns-in_default-clause-parts c = tells_refusal _ _ _ (no_split _ c.in_default.ensures.cases) c.no_delimiter.ensures
 
-pub returns-then-contains : goal.returns-then-contains
-returns-then-contains c = tells_refusal _ _ _ (second_split _ _ _ c.in-Some.ensures.cases c.if-contains.ensures.cases) c.second_delimiter.ensures
+pub returns-then-contains-clause-parts : goal.returns-then-contains-clause-parts
+returns-then-contains-clause-parts c = tells_refusal _ _ _ (second_split _ _ _ c.in-Some.ensures.cases c.if-contains.ensures.cases) c.second_delimiter.ensures
 
-pub returns : goal.returns
-returns c = let is = one_split _ _ _ c.in-Some.ensures.cases c.if-contains.ensures.cases in cc
+pub returns-clause-parts : goal.returns-clause-parts
+returns-clause-parts c = let is = one_split _ _ _ c.in-Some.ensures.cases c.if-contains.ensures.cases in cc
+
+pub returns-clause-trimmed : goal.returns-clause-trimmed
+returns-clause-trimmed c = trimmed_stays _ _ c.trim.ensures.value c.trim.utf8

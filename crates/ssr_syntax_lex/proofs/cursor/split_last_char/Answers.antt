@@ -1,4 +1,4 @@
-use Rattle.std.proofs.Common.{◌≡◌, ◌++◌, length, drop, take, ap, sym, subst, ◌∙◌, arith, length-append}
+use Rattle.std.proofs.Common.{◌≡◌, ◌++◌, length, ap, sym, ◌∙◌}
 use Rattle.std.specs.Prelude.{encode_utf8}
 use Rattle.ssr_syntax_lex.proofs.Eaten.{last_of_text, nothing_in}
 use Rattle.ssr_syntax_lex.proofs.cursor.split_last_char.Goals as goal

@@ -15,8 +15,8 @@ returns-then-has_signed_exponent-clause-rest c =
     c.eat_signed_run.ensures ∙ rest_by_point _ _ _ _ _ _ true c.if-dots-eq1.false
     (c.eat_while-run.ensures.text continues_word (λ _ _ p. p)) (c.eat_while-run.ensures.rest continues_word (λ _ _ p. p))
     (sym c.takes_point.ensures ∙ c.if-takes_point.true)
-    (c.eat_while-fraction.ensures.text continues_word (λ _ _ p. p) ∙ ap (run continues_word) c.bump.ensures)
-    (c.eat_while-fraction.ensures.rest continues_word (λ _ _ p. p) ∙ ap (past continues_word) c.bump.ensures)
+    (c.eat_while-fraction.ensures.text continues_word (λ _ _ p. p) ∙ ap (run continues_word) c.bump.ensures.rest)
+    (c.eat_while-fraction.ensures.rest continues_word (λ _ _ p. p) ∙ ap (past continues_word) c.bump.ensures.rest)
     (sym c.has_signed_exponent.ensures ∙ c.if-has_signed_exponent.true)
 
 pub returns-else-has_signed_exponent-clause-kind : goal.returns-else-has_signed_exponent-clause-kind
@@ -30,8 +30,8 @@ returns-else-has_signed_exponent-clause-rest c =
     rest_by_point _ _ _ _ _ _ false c.if-dots-eq1.false
     (c.eat_while-run.ensures.text continues_word (λ _ _ p. p)) (c.eat_while-run.ensures.rest continues_word (λ _ _ p. p))
     (sym c.takes_point.ensures ∙ c.if-takes_point.true)
-    (c.eat_while-fraction.ensures.text continues_word (λ _ _ p. p) ∙ ap (run continues_word) c.bump.ensures)
-    (c.eat_while-fraction.ensures.rest continues_word (λ _ _ p. p) ∙ ap (past continues_word) c.bump.ensures)
+    (c.eat_while-fraction.ensures.text continues_word (λ _ _ p. p) ∙ ap (run continues_word) c.bump.ensures.rest)
+    (c.eat_while-fraction.ensures.rest continues_word (λ _ _ p. p) ∙ ap (past continues_word) c.bump.ensures.rest)
     (sym c.has_signed_exponent.ensures ∙ c.if-has_signed_exponent.false)
 
 pub returns-then-takes_sign-clause-kind : goal.returns-then-takes_sign-clause-kind

@@ -1,6 +1,6 @@
 use Rattle.std.proofs.Common.{◌≡◌, List, All, IfOk, ◌∙◌, ap, subst}
 use Rattle.ssr_syntax_tree.specs.Syntax.{Syntax, source_of}
-use Rattle.ssr_base.specs.Changes.{Change, Fits}
+use Rattle.ssr_base.specs.Changes.{AreInOrder, Change, Fits}
 use Rattle.ide_ssr_rules.specs.Resolving.{ResolvedKind}
 use Rattle.ide_ssr.specs.Found.{Found, found}
 use Rattle.ide_ssr.specs.Kept.{kept}
@@ -29,3 +29,10 @@ returns-clause-fits c =
     c.in_ok-kept.ensures.matches c.in_ok-found.ensures.matches c.deref.ensures.value c.deref-2.ensures.value in
     subst (λ (f : Finder). IfOk c.edits.result (λ _. All (Fits (source_of f.code)) (edit_of f.code f.rules))) c.self.view_is
     (subst (λ (cs : List Change). IfOk c.edits.result (λ _. All (Fits (source_of c.self.inside.tree.now)) cs)) e c.edits.ensures.fits)
+
+pub returns-clause-order : goal.returns-clause-order
+returns-clause-order c =
+    let e = edit_is c.self.inside.tree.now c.self.inside.rules.items c.deref.result.now c.deref-2.result.now c.in_ok-found.found.items c.in_ok-kept.kept.matches.items
+    c.in_ok-kept.ensures.matches c.in_ok-found.ensures.matches c.deref.ensures.value c.deref-2.ensures.value in
+    subst (λ (f : Finder). IfOk c.edits.result (λ _. AreInOrder 0 (edit_of f.code f.rules))) c.self.view_is
+    (subst (λ (cs : List Change). IfOk c.edits.result (λ _. AreInOrder 0 cs)) e c.edits.ensures.order)

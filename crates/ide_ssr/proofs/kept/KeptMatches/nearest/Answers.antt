@@ -1,6 +1,5 @@
 use Rattle.std.proofs.Common.{subst}
-use Rattle.ide_ssr.specs.Nearest.{IsPast}
-use Rattle.ide_ssr.proofs.Nearest.{stepped_from, step-past, step-smaller}
+use Rattle.ide_ssr.proofs.Nearest.{IsPast, stepped_from, step-past, step-smaller}
 use Rattle.ide_ssr.proofs.kept.KeptMatches.nearest.Goals as goal
 
 pub loop-candidate-smaller : goal.loop-candidate-smaller

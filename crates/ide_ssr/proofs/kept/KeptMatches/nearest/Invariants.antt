@@ -1,6 +1,6 @@
 use Rattle.std.proofs.Common.{◌+◌}
 use Rattle.std.specs.Option.{option_map_or}
-use Rattle.ide_ssr.specs.Nearest.{IsPast}
+use Rattle.ide_ssr.proofs.Nearest.{IsPast}
 use Rattle.ide_ssr.proofs.kept.KeptMatches.nearest.Given as goal
 
 abbrev pub invariant-loop-candidate : goal.invariant-loop-candidate

@@ -1,8 +1,8 @@
-use Rattle.std.proofs.Common.{rules, ◌≡◌, ◌<◌, ◌^◌, ℕ, Bool, [], ◌∷◌, ◌++◌, length, drop, slice_get, MatchOption, ◌&&◌, ◌||◌, ◌==◌, encode_utf8, encode_utf8_all, ◌+◌, ◌-◌, ◌*◌, ◌≤◌, ◌/◌, ◌%◌, true, false, nat_eq, nat_lt, List, slice_index_or, slice_set, bit_and, bit_or, Fits, w8, w32, w64, Bor, MutBor, sym, ap, ◌∙◌}
+use Rattle.std.proofs.Common.{◌≡◌, encode_utf8_all, sym, ap, ◌∙◌}
 use Rattle.std.specs.Str.{chars}
-use Rattle.ssr_syntax_lex.specs.Cursor.{passes_at, is_at, run, past}
+use Rattle.ssr_syntax_lex.specs.Cursor.{past}
 use Rattle.std.proofs.lemmas.Str.{IsUtf8-past_char, encodes-chars}
-use Rattle.ssr_syntax_lex.proofs.Eaten.{EndsIn, EndsIn-step, EndsIn-boundary, length-past_char, past-passes, past-stops, past-ends, eaten_run}
+use Rattle.ssr_syntax_lex.proofs.Eaten.{EndsIn-step, EndsIn-boundary, length-past_char, past-passes, past-stops, past-ends, eaten_run}
 use Rattle.ssr_syntax_lex.proofs.cursor.Cursor.eat_while.Goals as goal
 use Rattle.ssr_syntax_lex.proofs.cursor.Cursor.eat_while.Goals.{in-Some+then-not-passes, in_default}
 

@@ -1,0 +1,40 @@
+-- The comments of the code that a match keeps: what is written behind its replacement.
+use Rattle.std.specs.Prelude.{ℕ, ◌+◌, Bool, true, false, not, ◌&&◌, if◌then◌else◌, nat_le, nat_lt, eqb, List, [], ◌∷◌, ◌++◌, map, filter, flat_map, codes}
+use Rattle.std.specs.List.{list_any, range_with_len, starts_with}
+use Rattle.ssr_syntax_lex.specs.declared.kinds.SyntaxKind.{SyntaxKind}
+use Rattle.ssr_syntax_lex.specs.declared.kinds.SyntaxKind.TheVariants as k
+use Rattle.ssr_syntax_tree.specs.declared.number.TokenNo.{TokenNo}
+use Rattle.ssr_syntax_tree.specs.Syntax.{Syntax, token_count}
+use Rattle.ssr_syntax_tree.specs.Places.{Node, node_of, token_of}
+use Rattle.ide_ssr.specs.declared.bindings.Binding.{Binding}
+use Rattle.ide_ssr.specs.Found.{Found}
+
+unfoldable pub is_comment : SyntaxKind → Bool
+is_comment k.COMMENT = true
+is_comment _ = false
+
+-- the tokens below a node, in order
+abbrev pub tokens_below : Node → List TokenNo
+tokens_below node = map (λ t. record { 0 = t }) (range_with_len node.first (token_count node.children))
+
+-- whether a token lies below a node
+abbrev pub is_below : Node → TokenNo → Bool
+is_below node token = nat_le node.first token.0 && nat_lt token.0 (node.first + token_count node.children)
+
+-- whether a placeholder holds a token
+abbrev pub is_bound : Syntax → List Binding → TokenNo → Bool
+is_bound code bindings token = list_any (λ binding. is_below (node_of code binding.node.0) token) bindings
+
+abbrev pub is_kept_comment : Syntax → List Binding → TokenNo → Bool
+is_kept_comment code bindings token = is_comment (token_of code token.0).kind && not (is_bound code bindings token)
+
+-- all comments below the match's node that none of its placeholders holds
+unfoldable pub kept_comments : Syntax → Found → List TokenNo
+kept_comments code m = filter (is_kept_comment code m.bindings) (tokens_below (node_of code m.node))
+
+-- a comment that goes to the end of its line is followed by a line break
+abbrev pub comment_text : List ℕ → List ℕ
+comment_text text = if starts_with eqb text (codes "//") then text ++ 10 ∷ [] else text
+
+abbrev pub comments_text : Syntax → List TokenNo → List ℕ
+comments_text code comments = flat_map (λ token. comment_text (token_of code token.0).text) comments

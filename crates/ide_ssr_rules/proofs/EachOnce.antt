@@ -1,0 +1,257 @@
+-- A pattern's tokens have each placeholder once.
+use Rattle.std.proofs.Common.{◌≡◌, ℕ, suc, ◌+◌, ◌^◌, Bool, true, false, ◌&&◌, cond, List, [], ◌∷◌, ◌++◌, map, length, All, nat_lt, Option, Some, None, Result, Ok, Err, refl, sym, ◌∙◌, ap, subst, arith, append_assoc, length-append, bytes_eq}
+use denote.Enum.Bare.{same_true}
+use Rattle.std.specs.List.{flat_map, list_any, position_from, range_with_len}
+use Rattle.std.specs.Option.{option_map, option_map_or, option_or}
+use Rattle.std.specs.Result.{result_ok}
+use Rattle.std.specs.Str.{IsUtf8, trim}
+use Rattle.std.proofs.lemmas.List.Elements.{All-nil, All-cons, All-head, All-tail}
+use Rattle.std.proofs.lemmas.List.Folds.{list_any-append}
+use Rattle.std.proofs.lemmas.Slice.Eq.{bytes_eq-Decides}
+use Rattle.ssr_syntax_lex.specs.declared.kinds.SyntaxKind.{SyntaxKind}
+use Rattle.ssr_syntax_lex.specs.contracts.kinds.SyntaxKind.{the_type}
+use Rattle.ssr_syntax_lex.specs.declared.tokens.RawToken.{RawToken}
+use Rattle.ssr_syntax_lex.specs.Tokens.{tokens}
+use Rattle.ssr_syntax_tree.specs.Syntax.{Token, Syntax, tokens_of}
+use Rattle.ssr_syntax.specs.declared.fragments.Fragment.TheVariants as fragments
+use Rattle.ssr_syntax.specs.declared.syntax_error.SyntaxError.{SyntaxError}
+use Rattle.ssr_syntax.specs.Reading.{pieces, fragment_reading, FitsFragment}
+use Rattle.ssr_syntax.proofs.Answers.{both}
+use Rattle.ssr_syntax.proofs.IdentTexts.{fragment_tokens, fragment_alone}
+use Rattle.ssr_syntax.proofs.Members.{neither}
+use Rattle.ssr_syntax.proofs.TextLaws.{fragment_sound}
+use Rattle.ide_ssr_rules.specs.Resolving.{name_at}
+use Rattle.ide_ssr_rules.specs.declared.elements.Element.{Element}
+use Rattle.ide_ssr_rules.specs.declared.elements.Element.TheVariants as e
+use Rattle.ide_ssr_rules.specs.declared.kinds.ParsedRule.{ParsedRule}
+use Rattle.ide_ssr_rules.specs.Elements.{has, is_ident, lexed, names_of, token_of}
+use Rattle.ide_ssr_rules.specs.Patterns.{or_below, HasEachOnce}
+use Rattle.ide_ssr_rules.specs.Refusals.{Refusal, ◌>>=◌, unless, no_token, reserved, no_meaning}
+use Rattle.ide_ssr_rules.specs.Resolving.{ResolvedKind, unresolved, resolved_kind, resolved_kinds}
+use Rattle.ide_ssr_rules.specs.Rules.{kind_of, expr_of, kinds_of, some_kind, check_sides}
+use Rattle.ide_ssr_rules.specs.StandIns.{stand_in_of, read_as, code_of, same_kind, same_token, first_changed, first_name, changed, is_stand_in, stand_in_text, spelled_stand_in}
+use Rattle.ide_ssr_rules.specs.Uses.{AreNew}
+use Rattle.ide_ssr_rules.proofs.Patterns.{named, placeholders_named}
+use Rattle.ide_ssr_rules.proofs.Uses.{went}
+
+-- ** The tokens are those that are read for the elements.
+
+same_bytes : (xs ys : List ℕ) → bytes_eq xs ys ≡ true → xs ≡ ys
+same_bytes xs ys h = (bytes_eq-Decides xs ys).0 h
+
+same_tokens : (one other : Token) → same_token one other ≡ true → one ≡ other
+unfolding same_kind
+same_tokens one other h =
+    let b = both (same_kind one.kind other.kind) (bytes_eq one.text other.text) h in
+    let kind : one.kind ≡ other.kind = same_true the_type tt one.kind other.kind b.0 in
+    let text : one.text ≡ other.text = same_bytes one.text other.text b.1 in
+    let token : SyntaxKind → List ℕ → Token = λ kind text. record { kind = kind; text = text } in
+    ap (λ kind. token kind one.text) kind ∙ ap (token other.kind) text
+
+goes_on : (same : Bool) (rest : Option (List ℕ)) (name : List ℕ) → cond same rest (Some name) ≡ None → (same ≡ true) × (rest ≡ None)
+goes_on true rest name h = (refl, h)
+goes_on false rest name h = cc
+
+read_tokens : (es : List Element) (ts : List Token) → first_changed es ts ≡ None → ts ≡ map read_as es
+read_tokens [] [] h = refl
+read_tokens [] (t ∷ ts) h = cc
+read_tokens (e ∷ es) [] h = cc
+read_tokens (e ∷ es) (t ∷ ts) h =
+    let g = goes_on (same_token (read_as e) t) (first_changed es ts) (first_name (e ∷ es)) h in
+    ap (λ u. u ∷ ts) (sym (same_tokens (read_as e) t g.0)) ∙ ap (λ us. read_as e ∷ us) (read_tokens es ts g.1)
+
+-- ** Each placeholder is the stand-in of its name, and no other token is one.
+
+none_passes : (p : List ℕ → Bool) (i : ℕ) (xs : List (List ℕ)) → list_any p xs ≡ false → position_from p i xs ≡ None
+none_passes p i [] h = refl
+none_passes p i (x ∷ xs) h =
+    let n = neither (p x) (list_any p xs) h in
+    ap (λ b. cond b (Some i) (position_from p (i + 1) xs)) n.0 ∙ none_passes p (i + 1) xs n.1
+
+first_passes : (p : List ℕ → Bool) (i : ℕ) (xs : List (List ℕ)) (x : List ℕ) (ys : List (List ℕ)) → list_any p xs ≡ false → p x ≡ true
+    → position_from p i (xs ++ x ∷ ys) ≡ Some (i + length xs)
+first_passes p i [] x ys none h =
+    let same : i ≡ i + 0 = omega arith in
+    ap (λ b. cond b (Some i) (position_from p (i + 1) ys)) h ∙ ap Some same
+first_passes p i (y ∷ xs) x ys none h =
+    let n = neither (p y) (list_any p xs) none in
+    let same : i + 1 + length xs ≡ i + suc (length xs) = omega arith in
+    ap (λ b. cond b (Some i) (position_from p (i + 1) (xs ++ x ∷ ys))) n.0 ∙ first_passes p (i + 1) xs x ys n.1 h ∙ ap Some same
+
+not_stand_in : (ident stands : Bool) (text : List ℕ) → cond (ident && stands) (Some text) None ≡ None → ident ≡ true → stands ≡ false
+not_stand_in true true text h is = cc
+not_stand_in true false text h is = refl
+not_stand_in false stands text h is = cc
+
+unnamed_if : (ident : Bool) (o : Option ℕ) → (ident ≡ true → o ≡ None) → or_below (cond ident o None) [] ≡ []
+unnamed_if true o h = ap (λ o. or_below o []) (h refl)
+unnamed_if false o h = refl
+
+unnamed : (names others : List (List ℕ)) (t : Token) → stand_in_text (names ++ others) (e.Token t) ≡ None → named names t ≡ []
+unfolding name_at
+unnamed names others t h =
+    let test : List ℕ → Bool = λ name. bytes_eq t.text (stand_in_of name) in
+    unnamed_if (is_ident t.kind) (position_from test 0 names)
+    (λ is.
+    let any : list_any test (names ++ others) ≡ false = not_stand_in (is_ident t.kind) (is_stand_in (names ++ others) t.text) t.text h is in
+    none_passes test 0 names (neither (list_any test names) (list_any test others) (sym (list_any-append test names others) ∙ any)).0)
+
+-- the stand-in of a name that none before it is
+stand_in_named : (before rest : List (List ℕ)) (name : List ℕ) → has before name ≡ false
+    → named (before ++ name ∷ rest) (read_as (e.Placeholder name)) ≡ length before ∷ []
+unfolding name_at
+stand_in_named before rest name new =
+    let test : List ℕ → Bool = λ other. bytes_eq (stand_in_of name) (stand_in_of other) in
+    let place : 0 + length before ≡ length before = omega arith in
+    ap (λ o. or_below o []) (first_passes test 0 before name rest new ((bytes_eq-Decides (stand_in_of name) (stand_in_of name)).1 refl))
+    ∙ ap (λ i. i ∷ []) place
+
+neither_of : {X : Type 0} (one other : Option X) → option_or one other ≡ None → (one ≡ None) × (other ≡ None)
+neither_of None other h = (refl, h)
+neither_of (Some x) other h = absurd (let f : Some x ≡ None = h in cc)
+
+each_from : (es : List Element) (before names others : List (List ℕ)) → names ≡ before ++ names_of es → AreNew before (names_of es)
+    → spelled_stand_in (names ++ others) es ≡ None
+    → flat_map (named names) (map read_as es) ≡ range_with_len (length before) (length (names_of es))
+each_from [] before names others are new none = refl
+each_from (e.Token t ∷ es) before names others are new none =
+    let n = neither_of (stand_in_text (names ++ others) (e.Token t)) (spelled_stand_in (names ++ others) es) none in
+    ap (λ ps. ps ++ flat_map (named names) (map read_as es)) (unnamed names others t n.0) ∙ each_from es before names others are new n.1
+each_from (e.Placeholder name ∷ es) before names others are new none =
+    let more : length (before ++ name ∷ []) ≡ length before + 1 = length-append before (name ∷ []) in
+    let count = length (names_of es) in
+    ap (λ ps. ps ++ flat_map (named names) (map read_as es))
+    (ap (λ ns. named ns (read_as (e.Placeholder name))) are ∙ stand_in_named before (names_of es) name new.0)
+    ∙ ap (λ ps. length before ∷ ps)
+    (each_from es (before ++ name ∷ []) names others (are ∙ sym (append_assoc before (name ∷ []) (names_of es))) new.1 none
+    ∙ ap (λ i. range_with_len i count) more)
+
+-- ** The tree of a side's text with stand-ins.
+
+lexed_same : (es : List Element) (o : Option (List Token)) → option_map_or (first_changed es) o (Some (first_name es)) ≡ None
+    → (ts : List Token) × (o ≡ Some ts) × (first_changed es ts ≡ None)
+lexed_same es None h = cc
+lexed_same es (Some ts) h = (ts, refl, h)
+
+unchanged : (es : List Element) → changed es ≡ None → (ts : List Token) × (lexed (code_of es) ≡ Some ts) × (ts ≡ map read_as es)
+unfolding changed
+unchanged es h = let same = lexed_same es (lexed (code_of es)) h in (same.0, same.1, read_tokens es same.0 same.2)
+
+raw_of : (text : List ℕ) (short : Bool) (o : Option (List RawToken)) (ts : List Token) → cond short (option_map (map (token_of text)) o) None ≡ Some ts
+    → (raw : List RawToken) × (o ≡ Some raw) × (ts ≡ map (token_of text) raw)
+raw_of text true (Some raw) ts h = (raw, refl, cc)
+raw_of text true None ts h = cc
+raw_of text false o ts h = cc
+
+pub lexed_raw : (text : List ℕ) (ts : List Token) → lexed text ≡ Some ts → (raw : List RawToken) × (tokens text ≡ Some raw) × (ts ≡ map (token_of text) raw)
+unfolding lexed
+lexed_raw text ts h = raw_of text (nat_lt (length text) (2 ^ 32)) (tokens text) ts h
+
+one_raw : (one other : List RawToken) → ◌≡◌ {A = Option (List RawToken)} (Some one) (Some other) → one ≡ other
+one_raw one other h = cc
+
+-- the tokens of the tree are those that are read for the elements
+tree_tokens : (es : List Element) (tree : Syntax) → trim (code_of es) ≡ code_of es → changed es ≡ None
+    → FitsFragment fragments.Expr (code_of es) tree → tokens_of tree ≡ map read_as es
+tree_tokens es tree is_trimmed same fits =
+    let text = code_of es in
+    let t = unchanged es same in
+    let r = lexed_raw text t.0 t.1 in
+    let f = fragment_tokens fragments.Expr text tree fits in
+    let raw : f.0 ≡ r.0 = one_raw f.0 r.0 (sym f.1 ∙ ap tokens is_trimmed ∙ r.1) in
+    f.2 ∙ ap (λ text. pieces text f.0) is_trimmed ∙ ap (pieces text) raw ∙ sym r.2 ∙ t.2
+
+read_ok : (r : Result Syntax SyntaxError) (tree : Syntax) → result_ok r ≡ Some tree → r ≡ Ok tree
+read_ok (Ok other) tree h = cc
+read_ok (Err error) tree h = cc
+
+pub pattern_each : (es : List Element) (others : List (List ℕ)) (tree : Syntax) → IsUtf8 (code_of es) → trim (code_of es) ≡ code_of es
+    → AreNew [] (names_of es) → changed es ≡ None → spelled_stand_in (names_of es ++ others) es ≡ None
+    → expr_of (code_of es) ≡ Some tree → HasEachOnce (names_of es) tree
+pattern_each es others tree utf8 is_trimmed new same free read =
+    let text = code_of es in
+    let sound = fragment_sound fragments.Expr text tree (subst IsUtf8 (sym is_trimmed) utf8) (read_ok (fragment_reading fragments.Expr text) tree read) in
+    record {
+      each =
+          placeholders_named (names_of es) tree (fragment_alone fragments.Expr text tree sound.fits)
+          ∙ ap (flat_map (named (names_of es))) (tree_tokens es tree is_trimmed same sound.fits)
+          ∙ each_from es [] (names_of es) others refl new free;
+      different = new;
+    }
+
+-- ** The kinds of an accepted rule.
+
+kind_of_each : (names : List (List ℕ)) (pattern template : Option Syntax) → ((tree : Syntax) → pattern ≡ Some tree → HasEachOnce names tree)
+    → All (λ kind. HasEachOnce names kind.pattern) (kind_of pattern template)
+kind_of_each names (Some pattern) (Some template) h = All-cons (λ kind. HasEachOnce names kind.pattern) _ [] (h pattern refl) (All-nil _)
+kind_of_each names (Some pattern) None h = All-nil _
+kind_of_each names None template h = All-nil _
+
+some_kinds : (kinds found : List ParsedRule) → some_kind kinds ≡ Ok found → kinds ≡ found
+some_kinds [] found h = cc
+some_kinds (kind ∷ kinds) found h = cc
+
+all_unless : {X : Type 0} (refusal : X → Refusal) (o : Option X) → unless refusal o ≡ Ok tt → o ≡ None
+all_unless refusal None h = refl
+all_unless refusal (Some x) h = cc
+
+-- what checked sides are
+record AreChecked (pattern template : List Element) : Type 0 where
+  same : changed pattern ≡ None
+  free : spelled_stand_in (names_of pattern ++ names_of template) pattern ≡ None
+
+checked : (pattern template : List Element) → check_sides pattern template ≡ Ok tt → AreChecked pattern template
+unfolding check_sides
+checked pattern template h =
+    let names = names_of pattern ++ names_of template in
+    let stays : List Element → Result (Unit {0}) Refusal = λ side. unless no_token (changed side) in
+    let free : List Element → Result (Unit {0}) Refusal = λ side. unless reserved (spelled_stand_in names side) in
+    let first = went (stays pattern) (λ _. stays template >>= (λ _. free pattern >>= (λ _. free template))) tt h in
+    let second = went (stays template) (λ _. free pattern >>= (λ _. free template)) tt first.next_is in
+    let third = went (free pattern) (λ _. free template) tt second.next_is in
+    record {
+      same = all_unless no_token (changed pattern) first.first_is;
+      free = all_unless reserved (spelled_stand_in names pattern) third.first_is;
+    }
+
+pub kinds_each : (pattern template : List Element) (names : List (List ℕ)) (kinds : List ParsedRule) → IsUtf8 (code_of pattern)
+    → trim (code_of pattern) ≡ code_of pattern → AreNew [] (names_of pattern) → check_sides pattern template ≡ Ok tt
+    → some_kind (kinds_of (code_of pattern) (code_of template)) ≡ Ok kinds → names ≡ names_of pattern
+    → All (λ kind. HasEachOnce names kind.pattern) kinds
+unfolding kinds_of
+kinds_each pattern template names kinds utf8 is_trimmed new sides_checked read are =
+    let c = checked pattern template sides_checked in
+    let all : All (λ kind. HasEachOnce (names_of pattern) kind.pattern) (kinds_of (code_of pattern) (code_of template)) =
+    kind_of_each (names_of pattern) (expr_of (code_of pattern)) (expr_of (code_of template))
+    (λ tree is. pattern_each pattern (names_of template) tree utf8 is_trimmed new c.same c.free is) in
+    subst (λ ns. All (λ kind. HasEachOnce ns kind.pattern) kinds) (sym are)
+    (subst (All (λ kind. HasEachOnce (names_of pattern) kind.pattern)) (some_kinds _ kinds read) all)
+
+-- ** Resolved kinds.
+
+pub ok_same : {X : Type 0} (one other : X) → ◌≡◌ {A = Result X Refusal} (Ok one) (Ok other) → one ≡ other
+ok_same one other h = cc
+
+resolved_like : (names : List (List ℕ)) (kind : ParsedRule) (found : ResolvedKind) → resolved_kind names kind ≡ Ok found
+    → record { names = names; pattern = kind.pattern; template = kind.template } ≡ found
+unfolding resolved_kind
+resolved_like names kind found h =
+    let made : ResolvedKind = record { names = names; pattern = kind.pattern; template = kind.template } in
+    let paths : Syntax → Result (Unit {0}) Refusal = λ tree. unless no_meaning (unresolved names tree) in
+    let first = went (paths kind.template) (λ _. paths kind.pattern >>= (λ _. Ok made)) found h in
+    ok_same made found (went (paths kind.pattern) (λ _. Ok made) found first.next_is).next_is
+
+abbrev HasEach : ResolvedKind → Type 0
+HasEach kind = HasEachOnce kind.names kind.pattern
+
+pub resolved_each : (names : List (List ℕ)) (kinds : List ParsedRule) (found : List ResolvedKind) → resolved_kinds names kinds ≡ Ok found
+    → All (λ kind. HasEachOnce names kind.pattern) kinds → All (λ kind. HasEachOnce kind.names kind.pattern) found
+resolved_each names [] found h all = subst (All HasEach) (ok_same [] found h) (All-nil HasEach)
+resolved_each names (kind ∷ kinds) found h all =
+    let in_front : ResolvedKind → List ResolvedKind → Result (List ResolvedKind) Refusal = λ first rest. Ok (first ∷ rest) in
+    let first = went (resolved_kind names kind) (λ first. resolved_kinds names kinds >>= in_front first) found h in
+    let rest = went (resolved_kinds names kinds) (in_front first.found) found first.next_is in
+    subst (All HasEach) (ok_same (first.found ∷ rest.found) found rest.next_is)
+    (All-cons HasEach first.found rest.found
+    (subst HasEach (resolved_like names kind first.found first.first_is) (All-head (λ kind. HasEachOnce names kind.pattern) kind kinds all))
+    (resolved_each names kinds rest.found rest.first_is (All-tail (λ kind. HasEachOnce names kind.pattern) kind kinds all)))

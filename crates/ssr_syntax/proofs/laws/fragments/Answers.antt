@@ -1,0 +1,5 @@
+use Rattle.ssr_syntax.proofs.IdentTexts.{fragment_tokens, fragment_alone}
+use Rattle.ssr_syntax.proofs.laws.fragments.Goals as goal
+
+pub returns : goal.returns
+returns c = record { tokens = fragment_tokens; alone = fragment_alone }

@@ -1,0 +1,30 @@
+-- Identifiers stand alone: each is the only child of its node.
+use Rattle.std.specs.Prelude.{◌≡◌, ⊤, Bool, true, false, not, ◌||◌, [], ◌∷◌}
+use Rattle.ssr_syntax_lex.specs.declared.kinds.SyntaxKind.{SyntaxKind}
+use Rattle.ssr_syntax_lex.specs.declared.kinds.SyntaxKind.TheVariants.{IDENT}
+use Rattle.ssr_syntax_tree.specs.Syntax.{Forest, nothing, leaf, branch, Syntax}
+use Rattle.ssr_syntax.specs.Kinds.{mem}
+
+abbrev pub is_ident : SyntaxKind → Bool
+is_ident kind = mem kind (IDENT ∷ [])
+
+-- one of the siblings themselves is an identifier
+abbrev pub has_ident : Forest → Bool
+has_ident nothing = false
+has_ident (leaf token next) = is_ident token.kind || has_ident next
+has_ident (branch kind below next) = has_ident next
+
+-- children of a node: one token, or none of them is an identifier
+abbrev pub stand_alone : Forest → Bool
+stand_alone (leaf token nothing) = true
+stand_alone children = not (has_ident children)
+
+-- no node among the siblings or below them has an identifier beside other children
+abbrev pub IdentsAlone : Forest → Type 0
+IdentsAlone nothing = ⊤
+IdentsAlone (leaf token next) = IdentsAlone next
+IdentsAlone (branch kind below next) = (stand_alone below ≡ true) × IdentsAlone below × IdentsAlone next
+
+-- nor the root
+abbrev pub IdentsAloneIn : Syntax → Type 0
+IdentsAloneIn syntax = IdentsAlone (branch syntax.kind syntax.children nothing)

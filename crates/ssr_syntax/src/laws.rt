@@ -1,0 +1,17 @@
+//! What holds of the trees of texts, whatever the code: each function here does nothing, and what it
+//! ensures is a law.
+ghost use Rattle.std.specs.Prelude.{◌≡◌, ℕ, List, Some};
+ghost use Rattle.ssr_syntax_lex.specs.declared.tokens.RawToken.{RawToken};
+ghost use Rattle.ssr_syntax_lex.specs.Tokens.{tokens};
+ghost use Rattle.ssr_syntax_tree.specs.Syntax.{Syntax, tokens_of};
+ghost use Rattle.ssr_syntax.specs.declared.fragments.Fragment.{Fragment};
+ghost use Rattle.ssr_syntax.specs.Identifiers.{IdentsAloneIn};
+ghost use Rattle.ssr_syntax.specs.Reading.{FitsFragment, pieces, trimmed};
+
+/// A fragment's tree has the tokens of the text without the white space around it, and in it an identifier is
+/// the only child of its node.
+pub fn fragments()
+    ensures tokens { (fragment : Fragment) (text : List ℕ) (syntax : Syntax) → FitsFragment fragment text syntax
+        → (raw : List RawToken) × (tokens (trimmed text) ≡ Some raw) × (tokens_of syntax ≡ pieces (trimmed text) raw) }
+    ensures alone { (fragment : Fragment) (text : List ℕ) (syntax : Syntax) → FitsFragment fragment text syntax → IdentsAloneIn syntax }
+{}

@@ -1,0 +1,151 @@
+-- The rows that are left when the first character is known.
+use Rattle.std.proofs.Common.{◌≡◌, ℕ, ◌==◌, Bool, true, false, not, ◌&&◌, if◌then◌else◌, [], ◌∷◌, drop, refl, sym, ap, subst, ◌∙◌, lit<, ne_eqb, eqb-true}
+use Rattle.std.specs.Prelude.{Option, Some, None, Result, slice_get}
+use Rattle.unicode_ident.proofs.IdentLemmas.{is_xid_start-ascii}
+use Rattle.ssr_syntax_lex.specs.Cursor.{Chars, passes_at, is_at, past}
+use Rattle.ssr_syntax_lex.specs.Characters.{is_whitespace, is_digit, starts_word}
+use Rattle.ssr_syntax_lex.specs.Words.{mark_kind}
+use Rattle.ssr_syntax_lex.specs.Numbers.{number}
+use Rattle.ssr_syntax_lex.specs.Scan.{is_in_line, past_comments, past_quoted, past_raw_string, past_char}
+use Rattle.ssr_syntax_lex.specs.Raw.{Taken, begins_string, past_string, begins_raw_identifier, punctuation, kind_of_word, past_word, past_hashes, closed, IsPlain, token, fault_of, Takes}
+use Rattle.ssr_syntax_lex.specs.declared.fault.FaultKind.{FaultKind}
+use Rattle.ssr_syntax_lex.specs.declared.fault.FaultKind.TheVariants as faults
+use Rattle.ssr_syntax_lex.specs.declared.kinds.SyntaxKind.{SyntaxKind}
+use Rattle.ssr_syntax_lex.specs.declared.kinds.SyntaxKind.TheVariants as k
+
+first_is : (d c : ℕ) (cs : Chars) → slice_get (d ∷ cs) 0 ≡ Some c → c ≡ d
+first_is d c cs e = cc
+
+-- what holds where the first character stands in front, holds where it is the first
+abbrev From : (Chars → Type 0) → ℕ → Type 0
+From P c = (cs : Chars) → slice_get cs 0 ≡ Some c → P cs
+
+from_front : (P : Chars → Type 0) (c : ℕ) → ((cs : Chars) → P (c ∷ cs)) → From P c
+from_front P c holds [] e = absurd (cc)
+from_front P c holds (d ∷ cs) e = subst (λ (x : ℕ). P (x ∷ cs)) (first_is d c cs e) (holds cs)
+
+pub token_slash : (dots : ℕ) (cs : Chars) → slice_get cs 0 ≡ Some 47 → token dots cs ≡ (if is_at 1 47 cs then Some (k.COMMENT, past is_in_line cs) else (if is_at 1 42 cs then closed k.COMMENT (past_comments 1 (drop 2 cs)) else Some (k.SLASH, drop 1 cs)))
+unfolding token mark_kind
+token_slash dots = from_front (λ cs. token dots cs ≡ (if is_at 1 47 cs then Some (k.COMMENT, past is_in_line cs) else (if is_at 1 42 cs then closed k.COMMENT (past_comments 1 (drop 2 cs)) else Some (k.SLASH, drop 1 cs)))) 47
+    (λ cs. rw (is_xid_start-ascii 47 (lit< tt)) refl)
+
+pub token_quote : (dots : ℕ) (cs : Chars) → slice_get cs 0 ≡ Some 34 → token dots cs ≡ (closed k.STRING (past_quoted false (drop 1 cs)))
+unfolding token
+token_quote dots = from_front (λ cs. token dots cs ≡ (closed k.STRING (past_quoted false (drop 1 cs)))) 34
+    (λ cs. refl)
+
+pub token_r : (dots : ℕ) (cs : Chars) → slice_get cs 0 ≡ Some 114 → token dots cs ≡ (if is_at 0 114 cs && is_at 0 34 (past_hashes (drop 1 cs)) then closed k.STRING (past_raw_string (drop 1 cs)) else (if begins_raw_identifier cs then Some (k.IDENT, past_word (drop 2 cs)) else Some (kind_of_word cs, past_word cs)))
+unfolding token
+token_r dots = from_front (λ cs. token dots cs ≡ (if is_at 0 114 cs && is_at 0 34 (past_hashes (drop 1 cs)) then closed k.STRING (past_raw_string (drop 1 cs)) else (if begins_raw_identifier cs then Some (k.IDENT, past_word (drop 2 cs)) else Some (kind_of_word cs, past_word cs)))) 114
+    (λ cs. rw (is_xid_start-ascii 114 (lit< tt)) refl)
+
+pub token_b : (dots : ℕ) (cs : Chars) → slice_get cs 0 ≡ Some 98 → token dots cs ≡ (if begins_string (drop 1 cs) then closed k.BYTE_STRING (past_string (drop 1 cs)) else (if is_at 1 39 cs then closed k.BYTE (past_char (drop 2 cs)) else Some (kind_of_word cs, past_word cs)))
+unfolding token
+token_b dots = from_front (λ cs. token dots cs ≡ (if begins_string (drop 1 cs) then closed k.BYTE_STRING (past_string (drop 1 cs)) else (if is_at 1 39 cs then closed k.BYTE (past_char (drop 2 cs)) else Some (kind_of_word cs, past_word cs)))) 98
+    (λ cs. rw (is_xid_start-ascii 98 (lit< tt)) refl)
+
+pub token_c : (dots : ℕ) (cs : Chars) → slice_get cs 0 ≡ Some 99 → token dots cs ≡ (if begins_string (drop 1 cs) then closed k.C_STRING (past_string (drop 1 cs)) else Some (kind_of_word cs, past_word cs))
+unfolding token
+token_c dots = from_front (λ cs. token dots cs ≡ (if begins_string (drop 1 cs) then closed k.C_STRING (past_string (drop 1 cs)) else Some (kind_of_word cs, past_word cs))) 99
+    (λ cs. rw (is_xid_start-ascii 99 (lit< tt)) refl)
+
+pub token_apostrophe : (dots : ℕ) (cs : Chars) → slice_get cs 0 ≡ Some 39 → token dots cs ≡ (if passes_at 1 starts_word cs && not (is_at 2 39 cs) then Some (k.LIFETIME_IDENT, past_word (drop 1 cs)) else closed k.CHAR (past_char (drop 1 cs)))
+unfolding token
+token_apostrophe dots = from_front (λ cs. token dots cs ≡ (if passes_at 1 starts_word cs && not (is_at 2 39 cs) then Some (k.LIFETIME_IDENT, past_word (drop 1 cs)) else closed k.CHAR (past_char (drop 1 cs)))) 39
+    (λ cs. rw (is_xid_start-ascii 39 (lit< tt)) refl)
+
+other_at : (dots c : ℕ) (cs : Chars) → (c ≡ 47 → ⊥) → (c ≡ 34 → ⊥) → (c ≡ 114 → ⊥) → (c ≡ 98 → ⊥) → (c ≡ 99 → ⊥) → (c ≡ 39 → ⊥) → token dots (c ∷ cs) ≡ (if is_whitespace c then Some (k.WHITESPACE, past is_whitespace (c ∷ cs)) else (if starts_word c then Some (kind_of_word (c ∷ cs), past_word (c ∷ cs)) else (if is_digit c then Some (number dots (c ∷ cs)) else punctuation (c ∷ cs))))
+unfolding token
+other_at dots c cs slash quote r b c_letter apostrophe =
+    rw (ne_eqb c 47 slash, ne_eqb c 34 quote, ne_eqb c 114 r, ne_eqb c 98 b, ne_eqb c 99 c_letter, ne_eqb c 39 apostrophe) refl
+
+token_other : (dots c : ℕ) (cs : Chars) → slice_get cs 0 ≡ Some c → IsPlain c → token dots cs ≡ (if is_whitespace c then Some (k.WHITESPACE, past is_whitespace cs) else (if starts_word c then Some (kind_of_word cs, past_word cs) else (if is_digit c then Some (number dots cs) else punctuation cs)))
+token_other dots c cs first plain = from_front (λ cs. token dots cs ≡ (if is_whitespace c then Some (k.WHITESPACE, past is_whitespace cs) else (if starts_word c then Some (kind_of_word cs, past_word cs) else (if is_digit c then Some (number dots cs) else punctuation cs)))) c (λ cs. other_at dots c cs plain.0 plain.1 plain.2 plain.3 plain.4 plain.5) cs first
+
+other_row : (dots c : ℕ) (cs : Chars) (white word digit : Bool) → slice_get cs 0 ≡ Some c → IsPlain c → is_whitespace c ≡ white → starts_word c ≡ word → is_digit c ≡ digit → token dots cs ≡ (if white then Some (k.WHITESPACE, past is_whitespace cs) else (if word then Some (kind_of_word cs, past_word cs) else (if digit then Some (number dots cs) else punctuation cs)))
+other_row dots c cs white word digit first plain is_white is_word is_a_digit =
+    token_other dots c cs first plain
+    ∙ (ap (λ b. if b then Some (k.WHITESPACE, past is_whitespace cs) else (if starts_word c then Some (kind_of_word cs, past_word cs) else (if is_digit c then Some (number dots cs) else punctuation cs))) is_white
+    ∙ (ap (λ b. if white then Some (k.WHITESPACE, past is_whitespace cs) else (if b then Some (kind_of_word cs, past_word cs) else (if is_digit c then Some (number dots cs) else punctuation cs))) is_word
+    ∙ ap (λ b. if white then Some (k.WHITESPACE, past is_whitespace cs) else (if word then Some (kind_of_word cs, past_word cs) else (if b then Some (number dots cs) else punctuation cs))) is_a_digit))
+
+pub token_white : (dots c : ℕ) (cs : Chars) → slice_get cs 0 ≡ Some c → IsPlain c → is_whitespace c ≡ true → token dots cs ≡ Some (k.WHITESPACE, past is_whitespace cs)
+token_white dots c cs first plain white = other_row dots c cs true (starts_word c) (is_digit c) first plain white refl refl
+
+pub token_word : (dots c : ℕ) (cs : Chars) → slice_get cs 0 ≡ Some c → IsPlain c → is_whitespace c ≡ false → starts_word c ≡ true → token dots cs ≡ Some (kind_of_word cs, past_word cs)
+token_word dots c cs first plain white word = other_row dots c cs false true (is_digit c) first plain white word refl
+
+pub token_number : (dots c : ℕ) (cs : Chars) → slice_get cs 0 ≡ Some c → IsPlain c → is_whitespace c ≡ false → starts_word c ≡ false → is_digit c ≡ true → token dots cs ≡ Some (number dots cs)
+token_number dots c cs first plain white word digit = other_row dots c cs false false true first plain white word digit
+
+pub token_mark : (dots c : ℕ) (cs : Chars) → slice_get cs 0 ≡ Some c → IsPlain c → is_whitespace c ≡ false → starts_word c ≡ false → is_digit c ≡ false → token dots cs ≡ punctuation cs
+token_mark dots c cs first plain white word digit = other_row dots c cs false false false first plain white word digit
+
+pub token_nothing : (dots : ℕ) (cs : Chars) → slice_get cs 0 ≡ None → token dots cs ≡ None
+unfolding token
+token_nothing dots [] e = refl
+token_nothing dots (c ∷ cs) e = absurd (cc)
+
+-- what a fault is then
+pub fault_slash : (cs : Chars) → slice_get cs 0 ≡ Some 47 → fault_of cs ≡ faults.UnclosedComment
+fault_slash = from_front (λ cs. fault_of cs ≡ faults.UnclosedComment) 47 (λ cs. refl)
+
+pub fault_quote : (cs : Chars) → slice_get cs 0 ≡ Some 34 → fault_of cs ≡ faults.UnclosedString
+fault_quote = from_front (λ cs. fault_of cs ≡ faults.UnclosedString) 34 (λ cs. refl)
+
+pub fault_r : (cs : Chars) → slice_get cs 0 ≡ Some 114 → fault_of cs ≡ faults.UnclosedString
+fault_r = from_front (λ cs. fault_of cs ≡ faults.UnclosedString) 114 (λ cs. refl)
+
+pub fault_c : (cs : Chars) → slice_get cs 0 ≡ Some 99 → fault_of cs ≡ faults.UnclosedString
+fault_c = from_front (λ cs. fault_of cs ≡ faults.UnclosedString) 99 (λ cs. refl)
+
+pub fault_apostrophe : (cs : Chars) → slice_get cs 0 ≡ Some 39 → fault_of cs ≡ faults.UnclosedChar
+fault_apostrophe = from_front (λ cs. fault_of cs ≡ faults.UnclosedChar) 39 (λ cs. refl)
+
+string_no_byte : (d : ℕ) (ds : Chars) (b : Bool) → (d == 39) ≡ b → begins_string (d ∷ ds) ≡ true → b ≡ false
+string_no_byte d ds true e begins =
+    let clash : false ≡ true = ap (λ x. begins_string (x ∷ ds)) (sym (eqb-true d 39 e)) ∙ begins in absurd (cc)
+string_no_byte d ds false e begins = refl
+
+string_at : (cs : Chars) → begins_string cs ≡ true → fault_of (98 ∷ cs) ≡ faults.UnclosedString
+string_at [] begins = absurd (cc)
+string_at (d ∷ ds) begins =
+    ap (λ b. if b then faults.UnclosedByte else faults.UnclosedString) (string_no_byte d ds (d == 39) refl begins)
+
+pub fault_b_string : (cs : Chars) → slice_get cs 0 ≡ Some 98 → begins_string (drop 1 cs) ≡ true → fault_of cs ≡ faults.UnclosedString
+fault_b_string = from_front (λ cs. begins_string (drop 1 cs) ≡ true → fault_of cs ≡ faults.UnclosedString) 98 string_at
+
+pub fault_b_byte : (cs : Chars) → slice_get cs 0 ≡ Some 98 → is_at 1 39 cs ≡ true → fault_of cs ≡ faults.UnclosedByte
+fault_b_byte = from_front (λ cs. is_at 1 39 cs ≡ true → fault_of cs ≡ faults.UnclosedByte) 98
+    (λ cs byte. ap (λ b. if b then faults.UnclosedByte else faults.UnclosedString) byte)
+
+plain_at : (c : ℕ) (cs : Chars) → IsPlain c → fault_of (c ∷ cs) ≡ faults.NoToken
+plain_at c cs plain = rw (ne_eqb c 47 plain.0, ne_eqb c 39 plain.5, ne_eqb c 98 plain.3, ne_eqb c 34 plain.1, ne_eqb c 114 plain.2, ne_eqb c 99 plain.4) refl
+
+pub fault_plain : (c : ℕ) (cs : Chars) → slice_get cs 0 ≡ Some c → IsPlain c → fault_of cs ≡ faults.NoToken
+fault_plain c cs first plain = from_front (λ cs. fault_of cs ≡ faults.NoToken) c (λ cs. plain_at c cs plain) cs first
+
+pub fault_nothing : (cs : Chars) → slice_get cs 0 ≡ None → fault_of cs ≡ faults.NoToken
+fault_nothing [] e = refl
+fault_nothing (c ∷ cs) e = absurd (cc)
+
+pub takes_same : (told wanted : FaultKind) (r : Result SyntaxKind FaultKind) (o p : Option Taken) (rest : Chars) → told ≡ wanted → o ≡ p → Takes told r o rest → Takes wanted r p rest
+takes_same told wanted r o p rest e f takes =
+    subst (λ (x : FaultKind). Takes x r p rest) e (subst (λ (x : Option Taken). Takes told r x rest) f takes)
+
+-- what the functions that know the first character need
+pub ruleset slash_rows = (token_slash, fault_slash)
+
+pub ruleset quote_rows = (token_quote, fault_quote)
+
+pub ruleset r_rows = (token_r, fault_r)
+
+pub ruleset b_rows = (token_b, fault_b_string, fault_b_byte)
+
+pub ruleset c_rows = (token_c, fault_c)
+
+pub ruleset apostrophe_rows = (token_apostrophe, fault_apostrophe)
+
+pub ruleset plain_rows = (token_white, token_word, token_number, token_mark)
+
+pub ruleset no_rows = (token_nothing, fault_nothing)
