@@ -2,28 +2,16 @@
 use Rattle.std.proofs.Common.{◌≡◌, ℕ, ◌+◌, Bool, true, false, ◌&&◌, cond, List, [], ◌∷◌, ◌++◌, Option, Some, None, refl, sym, ◌∙◌, ap, subst}
 use Rattle.std.specs.Str.{bytes_eq}
 use Rattle.std.proofs.lemmas.Slice.Eq.{bytes_eq-Decides}
-use denote.Enum.Bare.{same_true, true_same}
-use Rattle.ssr_syntax_lex.specs.declared.kinds.SyntaxKind.{SyntaxKind}
-use Rattle.ssr_syntax_lex.specs.contracts.kinds.SyntaxKind.{the_type}
+use Rattle.ssr_syntax_lex.proofs.SameKinds.{same_kind-equal, equal-same_kind}
+use Rattle.ssr_syntax_lex.specs.Kinds.{same_kind}
 use Rattle.ssr_syntax_tree.specs.Syntax.{Token, Forest, nothing, leaf, branch, token_count, node_count}
 use Rattle.ssr_syntax_tree.specs.Places.{Node, Part, token_part, node_part, parts_in, parts_of}
+use Rattle.ssr_syntax.proofs.Answers.{both}
 use Rattle.ide_ssr_rules.specs.Resolving.{placeholder_at}
 use Rattle.ide_ssr.specs.declared.bindings.Binding.{Binding}
-use Rattle.ide_ssr.specs.Matching.{is_kind, is_left_out, bare, Matches, bound, alike, Pairs, end, tokens, nodes}
+use Rattle.ide_ssr.specs.Matching.{is_left_out, bare, Matches, bound, alike, Pairs, end, tokens, nodes}
 use Rattle.ide_ssr.specs.Bindings.{joined, bindings_of}
 use Rattle.ide_ssr.proofs.Pairs.{pairs_by, bindings-placeholder, bindings-other_kind, bindings-children}
-
-kinds_same : (a b : SyntaxKind) → is_kind a b ≡ true → a ≡ b
-unfolding is_kind
-kinds_same a b h = same_true the_type tt a b h
-
-same_kinds : (a b : SyntaxKind) → a ≡ b → is_kind a b ≡ true
-unfolding is_kind
-same_kinds a b e = true_same the_type a b e
-
-both : (a b : Bool) → (a && b) ≡ true → (a ≡ true) × (b ≡ true)
-both true b h = (refl, h)
-both false b h = let e : false ≡ true = h in cc
 
 both_true : (a b : Bool) → a ≡ true → b ≡ true → (a && b) ≡ true
 both_true a b p q = rw (p, q) refl
@@ -41,29 +29,29 @@ SiblingsAgree names ps = (cs : List Part) (bs : List Binding) → pairs_by names
 node_agrees : (names : List (List ℕ)) (p c : Node) (bs : List Binding) → SiblingsAgree names (bare (parts_of p)) → bindings_of names p c ≡ Some bs → Matches names p c bs
 node_agrees names p c bs below h = by_placeholder (placeholder_at names p) refl
   where
-    by_kind : (b : Bool) → is_kind p.kind c.kind ≡ b → placeholder_at names p ≡ None → Matches names p c bs
+    by_kind : (b : Bool) → same_kind p.kind c.kind ≡ b → placeholder_at names p ≡ None → Matches names p c bs
     by_kind true same none =
-        alike p c bs none (kinds_same p.kind c.kind same) (below (bare (parts_of c)) bs (sym (bindings-children names p c none same) ∙ h))
+        alike p c bs none (same_kind-equal p.kind c.kind same) (below (bare (parts_of c)) bs (sym (bindings-children names p c none same) ∙ h))
     by_kind false differs none = absurd (unlike bs (sym (bindings-other_kind names p c none differs) ∙ h))
 
     by_placeholder : (o : Option ℕ) → placeholder_at names p ≡ o → Matches names p c bs
     by_placeholder (Some i) is =
         subst (Matches names p c) (inner (record { placeholder = i; node = record { 0 = c.number } } ∷ []) bs (sym (bindings-placeholder names p c i is) ∙ h)) (bound p c i is)
-    by_placeholder None is = by_kind (is_kind p.kind c.kind) refl is
+    by_placeholder None is = by_kind (same_kind p.kind c.kind) refl is
 
 -- a token of the pattern before siblings that agree
 token_agrees : (names : List (List ℕ)) (t : ℕ) (p : Token) (ps : List Part) → SiblingsAgree names ps → SiblingsAgree names (token_part t p ∷ ps)
 token_agrees names t p ps behind [] bs h = absurd (unlike bs h)
 token_agrees names t p ps behind (node_part c ∷ cs) bs h = absurd (unlike bs h)
 token_agrees names t p ps behind (token_part u c ∷ cs) bs h =
-    by_test (is_kind p.kind c.kind && bytes_eq p.text c.text) refl (pairs_by names ps cs) refl h
+    by_test (same_kind p.kind c.kind && bytes_eq p.text c.text) refl (pairs_by names ps cs) refl h
   where
-    by_test : (b : Bool) → (is_kind p.kind c.kind && bytes_eq p.text c.text) ≡ b → (o : Option (List Binding)) → pairs_by names ps cs ≡ o
+    by_test : (b : Bool) → (same_kind p.kind c.kind && bytes_eq p.text c.text) ≡ b → (o : Option (List Binding)) → pairs_by names ps cs ≡ o
         → joined (cond b (Some []) None) o ≡ Some bs → Pairs names (token_part t p ∷ ps) (token_part u c ∷ cs) bs
     by_test true same None is g = absurd (unlike bs g)
     by_test true same (Some rest) is g =
-        let e = both (is_kind p.kind c.kind) (bytes_eq p.text c.text) same in
-        tokens t u p c ps cs bs (kinds_same p.kind c.kind e.0) ((bytes_eq-Decides p.text c.text).0 e.1) (behind cs bs (is ∙ g))
+        let e = both (same_kind p.kind c.kind) (bytes_eq p.text c.text) same in
+        tokens t u p c ps cs bs (same_kind-equal p.kind c.kind e.0) ((bytes_eq-Decides p.text c.text).0 e.1) (behind cs bs (is ∙ g))
     by_test false same o is g = absurd (unlike bs g)
 
 -- likewise a node of the pattern
@@ -111,14 +99,14 @@ same_tokens : (names : List (List ℕ)) (t u : ℕ) (p c : Token) (ps cs : List 
     → pairs_by names ps cs ≡ Some bs → pairs_by names (token_part t p ∷ ps) (token_part u c ∷ cs) ≡ Some bs
 same_tokens names t u p c ps cs bs kinds texts behind =
     ap (λ b. joined (cond b (Some []) None) (pairs_by names ps cs))
-    (both_true (is_kind p.kind c.kind) (bytes_eq p.text c.text) (same_kinds p.kind c.kind kinds) ((bytes_eq-Decides p.text c.text).1 texts))
+    (both_true (same_kind p.kind c.kind) (bytes_eq p.text c.text) (equal-same_kind p.kind c.kind kinds) ((bytes_eq-Decides p.text c.text).1 texts))
     ∙ ap (joined (Some [])) behind
 
 mutual
   pub Matches-bindings_of : (names : List (List ℕ)) (p c : Node) (bs : List Binding) → Matches names p c bs → bindings_of names p c ≡ Some bs
   Matches-bindings_of names _ _ _ (bound p c i is) = bindings-placeholder names p c i is
   Matches-bindings_of names _ _ _ (alike p c bs none kinds children) =
-      bindings-children names p c none (same_kinds p.kind c.kind kinds)
+      bindings-children names p c none (equal-same_kind p.kind c.kind kinds)
       ∙ Pairs-pairs_by names (bare (parts_of p)) (bare (parts_of c)) bs children
 
   Pairs-pairs_by : (names : List (List ℕ)) (ps cs : List Part) (bs : List Binding) → Pairs names ps cs bs → pairs_by names ps cs ≡ Some bs

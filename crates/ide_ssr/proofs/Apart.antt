@@ -1,10 +1,11 @@
 -- What a match binds: the placeholders of its pattern, to nodes that lie in its own, one behind another.
-use Rattle.std.proofs.Common.{◌≡◌, ℕ, ◌+◌, ◌≤◌, Bool, true, false, List, [], ◌∷◌, ◌++◌, All, AllPairs, Option, Some, None, refl, sym, ◌∙◌, ap, subst, arith, append-nil}
+use Rattle.std.proofs.Common.{◌≡◌, ℕ, ◌+◌, ◌≤◌, Bool, true, false, map, List, [], ◌∷◌, ◌++◌, All, AllPairs, Option, Some, None, refl, sym, ◌∙◌, ap, subst, arith, append-nil}
 use Rattle.std.specs.Prelude.{if◌then◌else◌}
 use Rattle.std.proofs.lemmas.List.{map-append}
 use Rattle.std.proofs.lemmas.List.Elements.{All-nil, All-cons, All-weaker}
 use Rattle.std.proofs.lemmas.List.Kept.{AllPairs-cons}
 use Rattle.ssr_syntax_lex.specs.declared.kinds.SyntaxKind.{SyntaxKind}
+use Rattle.ssr_syntax_lex.specs.Kinds.{same_kind}
 use Rattle.ssr_syntax_tree.specs.Syntax.{Token, Forest, nothing, leaf, branch, Syntax, token_count, node_count}
 use Rattle.ssr_syntax_tree.specs.Places.{HasNode, Node, Part, token_part, node_part, node_of, parts_in, parts_of, root_of, offset_of, start_of, end_of}
 use Rattle.ssr_syntax_tree.specs.Siblings.{At}
@@ -15,9 +16,13 @@ use Rattle.ssr_syntax_tree.proofs.Ranges.{start_before_end}
 use Rattle.ide_ssr_rules.specs.Patterns.{or_below, placeholders_in, placeholders_of}
 use Rattle.ide_ssr_rules.specs.Resolving.{placeholder_at}
 use Rattle.ide_ssr.specs.declared.bindings.Binding.{Binding}
-use Rattle.ide_ssr.specs.Matching.{is_kind, is_left_out, bare}
+use Rattle.ide_ssr.specs.Matching.{is_left_out, bare}
 use Rattle.ide_ssr.specs.Bindings.{joined, token_then, node_then, nothing_then, node_by, siblings_by, bindings_of}
-use Rattle.ide_ssr.specs.Apart.{ComesBefore, placeholders_bound}
+use Rattle.ide_ssr.specs.Apart.{ComesBefore}
+
+-- the placeholders of bindings
+abbrev pub placeholders_bound : List Binding → List ℕ
+placeholders_bound bindings = map (λ binding. binding.placeholder) bindings
 
 -- a node as the code has it under its number
 abbrev pub IsOf : Syntax → Node → Type 0
@@ -151,7 +156,7 @@ by-binds code (Some i) ps kind children h c is =
     (is.0, here.0, here.1))
     refl
 by-binds code None ps kind children h c is =
-    bound-if code (start_of code c) (end_of code c) ps (is_kind kind c.kind) (children (bare (parts_of c)))
+    bound-if code (start_of code c) (end_of code c) ps (same_kind kind c.kind) (children (bare (parts_of c)))
     (h (start_of code c) (end_of code c) (bare (parts_of c)) (spans_bare code (start_of code c) (end_of code c) (parts_of c) (spans_children code c is)))
 
 siblings-bind : (code : Syntax) (names : List (List ℕ)) (parent m t : ℕ) (forest : Forest)

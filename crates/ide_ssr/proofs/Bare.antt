@@ -1,11 +1,11 @@
 -- Bare children, found from the left.
-use Rattle.std.proofs.Common.{◌≡◌, ℕ, zero, suc, Bool, true, false, ◌&&◌, ◌||◌, cond, List, [], ◌∷◌, ◌++◌, All, refl, sym, ◌∙◌, ap, subst, arith, append_assoc, append-nil}
+use Rattle.std.proofs.Common.{◌≡◌, ℕ, zero, suc, Bool, true, false, ◌&&◌, ◌||◌, cond, List, [], ◌∷◌, ◌++◌, All, refl, sym, ◌∙◌, ap, subst, arith, append_assoc}
 use Rattle.std.specs.Prelude.{map}
 use Rattle.std.proofs.lemmas.List.{map-append}
 use Rattle.std.proofs.lemmas.List.Elements.{All-append}
 use Rattle.ssr_syntax_lex.specs.declared.kinds.SyntaxKind.{SyntaxKind}
 use Rattle.ssr_syntax_lex.specs.declared.kinds.SyntaxKind.TheVariants as k
-use Rattle.ssr_syntax_lex.specs.Kinds.{is_trivia}
+use Rattle.ssr_syntax_lex.specs.Kinds.{same_kind, is_trivia}
 use Rattle.ssr_syntax_tree.specs.declared.number.Element.{Element}
 use Rattle.ssr_syntax_tree.specs.declared.number.Element.TheVariants as element
 use Rattle.ssr_syntax_tree.specs.declared.number.TokenNo.{TokenNo}
@@ -13,26 +13,26 @@ use Rattle.ssr_syntax_tree.specs.Syntax.{Syntax}
 use Rattle.ssr_syntax_tree.specs.Places.{HasNode, HasElement, Part, token_part, node_part, element_of, elements_of, node_of, parts_of, part_of, token_of}
 use Rattle.ssr_syntax_tree.proofs.Places.{IsChild, children_known, elements_had, parts_of-elements_of}
 use Rattle.ide_ssr.specs.Elements.{IsBelow}
-use Rattle.ide_ssr.specs.Matching.{is_kind, closes, leaves_out, bare}
+use Rattle.ide_ssr.specs.Matching.{closes, leaves_out, bare}
 
 pub left_out-comma : (code : Syntax) (first : Element) (token : TokenNo) (kind : SyntaxKind) (rest : List Part) (trivia comma closing : Bool) → first ≡ element.Token token
-    → kind ≡ (token_of code token.0).kind → trivia ≡ is_trivia kind → trivia ≡ false → comma ≡ is_kind kind k.COMMA → comma ≡ true → closing ≡ closes rest
+    → kind ≡ (token_of code token.0).kind → trivia ≡ is_trivia kind → trivia ≡ false → comma ≡ same_kind kind k.COMMA → comma ≡ true → closing ≡ closes rest
     → closing ≡ leaves_out (part_of code first) rest
 left_out-comma code first token kind rest trivia comma closing first_is kind_is trivia_is no_trivia comma_is a_comma closing_is =
     rw
     (first_is, ← kind_is)
-    (closing_is ∙ sym (tested (is_trivia kind) (is_kind kind k.COMMA) (closes rest) (sym trivia_is ∙ no_trivia) (sym comma_is ∙ a_comma)))
+    (closing_is ∙ sym (tested (is_trivia kind) (same_kind kind k.COMMA) (closes rest) (sym trivia_is ∙ no_trivia) (sym comma_is ∙ a_comma)))
   where
     tested : (a b c : Bool) → a ≡ false → b ≡ true → (a || (b && c)) ≡ c
     tested a b c p q = rw (p, q) refl
 
 pub left_out-other : (code : Syntax) (first : Element) (token : TokenNo) (kind : SyntaxKind) (rest : List Part) (trivia comma : Bool) → first ≡ element.Token token
-    → kind ≡ (token_of code token.0).kind → trivia ≡ is_trivia kind → trivia ≡ false → comma ≡ is_kind kind k.COMMA → comma ≡ false
+    → kind ≡ (token_of code token.0).kind → trivia ≡ is_trivia kind → trivia ≡ false → comma ≡ same_kind kind k.COMMA → comma ≡ false
     → comma ≡ leaves_out (part_of code first) rest
 left_out-other code first token kind rest trivia comma first_is kind_is trivia_is no_trivia comma_is no_comma =
     rw
     (first_is, ← kind_is)
-    (no_comma ∙ sym (tested (is_trivia kind) (is_kind kind k.COMMA) (closes rest) (sym trivia_is ∙ no_trivia) (sym comma_is ∙ no_comma)))
+    (no_comma ∙ sym (tested (is_trivia kind) (same_kind kind k.COMMA) (closes rest) (sym trivia_is ∙ no_trivia) (sym comma_is ∙ no_comma)))
   where
     tested : (a b c : Bool) → a ≡ false → b ≡ false → (a || (b && c)) ≡ false
     tested a b c p q = rw (p, q) refl
@@ -82,15 +82,6 @@ pub bare-added : (code : Syntax) (bared rest more all : List Element) (x : Eleme
     → b ≡ leaves_out (part_of code x) (map (part_of code) more) → b ≡ false → (new : List Element) → new ≡ bared ++ x ∷ [] → BareSoFar code new more all
 bare-added code bared rest more all x b so_far is out not_out new new_is =
     rw new_is (bare_step code bared more all x false (sym not_out ∙ out) (subst (λ rest. BareSoFar code bared rest all) is so_far))
-
-pub bare-ends : (code : Syntax) (bared rest all : List Element) → BareSoFar code bared rest all → rest ≡ [] → map (part_of code) bared ≡ bare (map (part_of code) all)
-bare-ends code bared rest all so_far is =
-    sym (append-nil (map (part_of code) bared)) ∙ ap (λ rest. map (part_of code) bared ++ bare (map (part_of code) rest)) (sym is) ∙ so_far.bare_is
-
-pub first-has : (code : Syntax) (bared rest more all : List Element) (x : Element) → BareSoFar code bared rest all → rest ≡ x ∷ more
-    → HasElement code x × All (HasElement code) more
-first-has code bared rest more all x so_far is =
-    let h : All (HasElement code) (x ∷ more) = subst (All (HasElement code)) is so_far.has in (h 0 x (omega arith), λ i d lt. h (suc i) d (omega arith))
 
 element_below : (code : Syntax) (n : ℕ) (part : Part) → IsChild code n part → IsBelow code n (element_of part)
 element_below code n (token_part t token) child = child.0

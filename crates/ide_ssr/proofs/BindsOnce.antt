@@ -1,34 +1,31 @@
 -- Nested matches bind each placeholder once, and those of one list come one behind another.
-use Rattle.std.proofs.Common.{◌≡◌, ℕ, zero, suc, ◌+◌, ◌<◌, ◌≤◌, Bool, true, false, ◌==◌, if◌then◌else◌, List, [], ◌∷◌, ◌++◌, map, filter, length, get_or, All, AllPairs, Option, Some, None, refl, sym, ◌∙◌, ap, subst, arith, append_assoc, length-append}
+use Rattle.std.proofs.Common.{◌≡◌, ℕ, zero, suc, ◌+◌, Bool, true, false, if◌then◌else◌, List, [], ◌∷◌, ◌++◌, map, filter, length, get_or, All, AllPairs, Option, Some, None, refl, sym, ◌∙◌, ap, subst, arith, append_assoc, length-append}
 use Rattle.std.specs.Prelude.{slice_get, Contains}
 use Rattle.std.specs.List.{range_with_len}
-use Rattle.std.proofs.lemmas.Bool.Decides.{nat_tests}
 use Rattle.std.proofs.lemmas.List.Elements.{All-nil, All-cons, All-head, All-tail, All-append, All-weaker, All-contains, All-get_or, filter_passes}
 use Rattle.std.proofs.lemmas.List.Kept.{AllPairs-cons, AllPairs-filter}
 use Rattle.std.proofs.lemmas.Option.{get_or_from_slice_get, slice_get_within}
 use Rattle.ssr_syntax_tree.specs.Syntax.{Syntax}
-use Rattle.ssr_syntax_tree.specs.Places.{node_of as code_node, start_of, end_of}
 use Rattle.ide_ssr_rules.specs.Patterns.{HasEachOnce}
 use Rattle.ide_ssr_rules.specs.Resolving.{ResolvedKind}
 use Rattle.ide_ssr.specs.declared.bindings.Binding.{Binding}
 use Rattle.ide_ssr.specs.declared.holders.Holder.{Holder}
 use Rattle.ide_ssr.specs.declared.matches.Match.{Match}
 use Rattle.ide_ssr.specs.declared.matches.PlaceholderMatch.{PlaceholderMatch}
-use Rattle.ide_ssr.specs.Apart.{ComesBefore, placeholders_bound}
+use Rattle.ide_ssr.specs.Apart.{ComesBefore}
 use Rattle.ide_ssr.specs.BindsOnce.{EndsBefore, HoldsBefore, BindsOnce, IsListIn, AreApart, BindOnce}
 use Rattle.ide_ssr.specs.BindsOnce as once
-use Rattle.ide_ssr.specs.Found.{Found, found}
+use Rattle.ide_ssr.specs.Found.{Found, found_in}
 use Rattle.ide_ssr.specs.Kept.{fits, kept_behind, kept}
-use Rattle.ide_ssr.specs.Lists.{holder_of, outermost}
+use Rattle.ide_ssr.specs.Lists.{holder_of, outermost, is_listed, listed}
 use Rattle.ide_ssr.specs.Matches.{placeholders_of, name_of, inner_of}
-use Rattle.ide_ssr.specs.Nesting.{is_listed, listed, placeholder_name, HasParts, HasBinding, Show, Shows, ShowBindings}
+use Rattle.ide_ssr.specs.Nesting.{placeholder_name, HasParts, HasBinding, Show, Shows, ShowBindings}
 use Rattle.ide_ssr.specs.Nesting as nesting
 use Rattle.ide_ssr.specs.Order.{IsIn, AreHeld}
-use Rattle.ide_ssr.specs.Pending.{is_open}
-use Rattle.ssr_syntax.proofs.Answers.{both}
+use Rattle.ide_ssr.proofs.Apart.{placeholders_bound}
+use Rattle.ide_ssr.proofs.Choices.{pairs_head, pairs_tail}
 use Rattle.ide_ssr.proofs.InOrder.{IsOfRule, found_of_rules}
-use Rattle.ide_ssr.proofs.Outermost.{apart}
-use Rattle.ide_ssr.proofs.Waiting.{over_after, is_open-own}
+use Rattle.ide_ssr.proofs.Ordered.{EndsBeforeIn, listed_apart}
 
 -- ** The kept ones are among those that were found.
 
@@ -42,9 +39,9 @@ all_behind P code ks (m ∷ ms) all more =
     all_behind P code (if fits code ks m then ks ++ m ∷ [] else ks) ms
     (kept_if P (fits code ks m) ks m all (All-head P m ms more)) (All-tail P m ms more)
 
-kept_of_rules : (rules : List ResolvedKind) (code : Syntax) → All (IsOfRule rules) (kept code (found rules code))
+kept_of_rules : (rules : List ResolvedKind) (code : Syntax) → All (IsOfRule rules) (kept code (found_in rules code))
 unfolding kept
-kept_of_rules rules code = all_behind (IsOfRule rules) code [] (found rules code) (All-nil (IsOfRule rules)) (found_of_rules rules code)
+kept_of_rules rules code = all_behind (IsOfRule rules) code [] (found_in rules code) (All-nil (IsOfRule rules)) (found_of_rules rules code)
 
 -- ** The names of placeholders.
 
@@ -77,12 +74,6 @@ names_shown code rules ks _ _ _ _ _ (nesting.bound n rule i b bs p ps has inner 
     ∙ ap (λ names. placeholder_name rule b.placeholder ∷ names) (names_shown code rules ks n rule (1 + i) bs ps rest)
 
 -- ** What placeholders hold, one behind another.
-
-pairs_head : {X : Type 0} (R : X → X → Type 0) (x : X) (xs : List X) → AllPairs R (x ∷ xs) → All (R x) xs
-pairs_head R x xs all = λ k d lt. all zero (suc k) d (omega arith) (omega arith)
-
-pairs_tail : {X : Type 0} (R : X → X → Type 0) (x : X) (xs : List X) → AllPairs R (x ∷ xs) → AllPairs R xs
-pairs_tail R x xs all = λ i j d lt in_list. all (suc i) (suc j) d (omega arith) (omega arith)
 
 behind_shown : (code : Syntax) (rules : List ResolvedKind) (ks : List Found) (n : ℕ) (rule : Option ResolvedKind) (i : ℕ) (bs : List Binding) (ps : List PlaceholderMatch)
     (first : Binding) (p : PlaceholderMatch) → HasBinding code rule first p → ShowBindings code rules ks n rule i bs ps → All (ComesBefore code first) bs → All (HoldsBefore p) ps
@@ -161,30 +152,6 @@ list_shown code rules ks answer _ show (once.inner vs v p is has held) =
 
 -- ** The matches of one list.
 
-abbrev EndsBeforeIn : Syntax → Found → Found → Type 0
-EndsBeforeIn code k m = end_of code (code_node code k.node) ≤ start_of code (code_node code m.node)
-
--- what is listed where something before the place n is listed has a holder before n
-not_behind : (holder one : Option Holder) (n p i : ℕ) → is_listed holder one ≡ true → is_open n one ≡ true
-    → is_listed holder (Some (record { place = p; binding = i })) ≡ true → n ≤ p → ⊥
-not_behind None one n p i h before g le = absurd (cc g)
-not_behind (Some holder) None n p i h before g le = absurd (cc h)
-not_behind (Some holder) (Some one) n p i h before g le =
-    let a = (both (holder.place == one.place) (holder.binding == one.binding) h).0 in
-    let b = (both (holder.place == p) (holder.binding == i) g).0 in
-    grind (arith, nat_tests)
-
-listed_apart : (code : Syntax) (ks : List Found) (holders : List (Option Holder)) → AreHeld code ks holders → (holder : Option Holder)
-    → AllPairs (λ k m. is_listed holder (holder_of code ks k) ≡ true → is_listed holder (holder_of code ks m) ≡ true → EndsBeforeIn code k m) ks
-listed_apart code ks holders held holder i j d lt in_list first second =
-    let here : i < length ks = omega arith in
-    apart code (get_or ks i d) (get_or ks j d) (held.ordered.are_in i d here).node (held.ordered.are_in j d in_list).node
-    (held.ordered.in_order i j d lt in_list)
-    (λ over.
-    let after = over_after code ks holders held i j d here in_list over in
-    not_behind holder (holder_of code ks (get_or ks i d)) i after.0 after.1 first (is_open-own code ks i d held.ordered.in_order here)
-    (ap (is_listed holder) (sym after.3) ∙ second) after.2)
-
 passing : {X : Type 0} (R : X → X → Type 0) (P : X → Type 0) (xs : List X) → All P xs → AllPairs (λ x y. P x → P y → R x y) xs → AllPairs R xs
 passing R P xs all pairs = λ i j d lt in_list. pairs i j d lt in_list (all i d (omega arith)) (all j d in_list)
 
@@ -215,7 +182,7 @@ answer_apart code rules ks holders answer held show vs is =
     (AllPairs-filter (λ k m. test k ≡ true → test m ≡ true → EndsBeforeIn code k m) test ks (listed_apart code ks holders held list.0)))
 
 pub answer_once : (code : Syntax) (rules : List ResolvedKind) (ks : List Found) (holders : List (Option Holder)) (answer : List Match)
-    → All (λ rule. HasEachOnce rule.names rule.pattern) rules → ks ≡ kept code (found rules code) → AreHeld code ks holders
+    → All (λ rule. HasEachOnce rule.names rule.pattern) rules → ks ≡ kept code (found_in rules code) → AreHeld code ks holders
     → Show code rules ks (outermost code ks) answer → BindOnce rules answer
 answer_once code rules ks holders answer each are held show vs is =
     let list = list_shown code rules ks answer vs show is in

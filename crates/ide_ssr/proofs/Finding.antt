@@ -2,9 +2,8 @@
 use Rattle.std.proofs.Common.{◌≡◌, ℕ, ◌+◌, ◌<◌, Bool, true, false, List, [], ◌∷◌, ◌++◌, length, get_or, drop, drop-cons, add-one, Option, Some, None, refl, sym, ◌∙◌, ap, arith, append_assoc, append-nil, ◌≤◌, nat_lt}
 use Rattle.std.specs.Prelude.{option_map, flat_map}
 use Rattle.ssr_syntax_tree.specs.Syntax.{Syntax, node_count}
-use Rattle.ssr_syntax_tree.specs.Places.{HasNode, Node, node_of, nodes_of, root_of, start_of, end_of}
+use Rattle.ssr_syntax_tree.specs.Places.{HasNode, Node, node_of, nodes_of, root_of}
 use Rattle.ssr_syntax_tree.proofs.RowLaws.{length-nodes_of}
-use Rattle.std.proofs.lemmas.Bool.{cond-true, cond-false}
 use Rattle.std.proofs.lemmas.Bool.Decides.{nat_tests}
 use Rattle.std.proofs.lemmas.List.{drop_all}
 use Rattle.std.proofs.lemmas.Option.{unwrap_or-slice_get}
@@ -12,7 +11,7 @@ use Rattle.ssr_syntax_tree.proofs.Places.{node_of-number}
 use Rattle.ide_ssr_rules.specs.Resolving.{ResolvedKind}
 use Rattle.ide_ssr.specs.declared.bindings.Binding.{Binding}
 use Rattle.ide_ssr.specs.Bindings.{bindings_of, Answers, matched, other}
-use Rattle.ide_ssr.specs.Found.{Found, match_at, matches_at, found_at, found}
+use Rattle.ide_ssr.specs.Found.{Found, match_at, matches_at, found_at, found_in}
 
 node_of-root : (syntax : Syntax) → node_of syntax 0 ≡ root_of syntax
 unfolding node_of
@@ -36,9 +35,6 @@ match-some : (n : ℕ) (rule : ResolvedKind) (node : Node) (bs : List Binding) �
     → match_at n rule node ≡ record { rule = n; node = node.number; bindings = bs } ∷ []
 match-some n rule node bs is = ap (match_of n node) is
 
-match-none : (n : ℕ) (rule : ResolvedKind) (node : Node) → bindings_of rule.names (root_of rule.pattern) node ≡ None → match_at n rule node ≡ []
-match-none n rule node is = ap (match_of n node) is
-
 split_at : {X : Type 0} (xs : List X) (n : ℕ) (d : X) → n < length xs → drop n xs ≡ get_or xs n d ∷ drop (n + 1) xs
 split_at xs n d lt = rw (add-one, drop-cons xs n d) refl
 
@@ -60,26 +56,8 @@ added-some code rule n m so_far new bs has is new_is =
     ∙ ap (λ m. so_far ++ record { rule = n; node = m; bindings = bs } ∷ []) (sym (node_of-number code m has))
     ∙ ap (λ ms. so_far ++ ms) (sym (match-some n rule (node_of code m) bs (sym is)))
 
-pub added-none : (code : Syntax) (rule : ResolvedKind) (n m : ℕ) (so_far : List Found)
-    → None ≡ bindings_of rule.names (root_of rule.pattern) (node_of code m) → so_far ≡ so_far ++ match_at n rule (node_of code m)
-added-none code rule n m so_far is = sym (append-nil so_far) ∙ ap (λ ms. so_far ++ ms) (sym (match-none n rule (node_of code m) (sym is)))
-
 less : (a b : ℕ) → a < b → nat_lt a b ≡ true
 less a b lt = grind (arith, nat_tests)
-
-not_less : (a b : ℕ) → b ≤ a → nat_lt a b ≡ false
-not_less a b le = grind (arith, nat_tests)
-
-pub found_at-some : (rules : List ResolvedKind) (code : Syntax) (node : Node) (s e : ℕ) (so_far new : List Found) → s ≡ start_of code node → e ≡ end_of code node → s < e
-    → new ≡ so_far ++ matches_at 0 rules node → new ≡ so_far ++ found_at rules code node
-found_at-some rules code node s e so_far new s_is e_is lt new_is =
-    new_is ∙ ap (λ ms. so_far ++ ms) (sym (cond-true (nat_lt (start_of code node) (end_of code node)) _ _ (less (start_of code node) (end_of code node) (omega arith))))
-
-pub found_at-none : (rules : List ResolvedKind) (code : Syntax) (node : Node) (s e : ℕ) (so_far : List Found) → s ≡ start_of code node → e ≡ end_of code node → e ≤ s
-    → so_far ≡ so_far ++ found_at rules code node
-found_at-none rules code node s e so_far s_is e_is le =
-    sym (append-nil so_far)
-    ∙ ap (λ ms. so_far ++ ms) (sym (cond-false (nat_lt (start_of code node) (end_of code node)) _ _ (not_less (start_of code node) (end_of code node) (omega arith))))
 
 pub nodes-turn : (rules : List ResolvedKind) (code : Syntax) (n : ℕ) (so_far new : List Found) (total : List Found) → HasNode code n
     → so_far ++ flat_map (found_at rules code) (drop n (nodes_of code)) ≡ total → new ≡ so_far ++ found_at rules code (node_of code n)
@@ -92,8 +70,8 @@ nodes-turn rules code n so_far new total has sum new_is =
     ∙ ap (λ rest. so_far ++ flat_map (found_at rules code) rest) (sym (split_at (nodes_of code) n (root_of code) (let e = length-nodes_of code in omega arith)))
     ∙ sum
 
-pub nodes-start : (rules : List ResolvedKind) (code : Syntax) (none_yet : List Found) → none_yet ≡ [] → none_yet ++ flat_map (found_at rules code) (nodes_of code) ≡ found rules code
-unfolding found
+pub nodes-start : (rules : List ResolvedKind) (code : Syntax) (none_yet : List Found) → none_yet ≡ [] → none_yet ++ flat_map (found_at rules code) (nodes_of code) ≡ found_in rules code
+unfolding found_in
 nodes-start rules code none_yet none = rw none refl
 
 pub nodes-end : (rules : List ResolvedKind) (code : Syntax) (n : ℕ) (so_far total : List Found) → 1 + node_count code.children ≤ n

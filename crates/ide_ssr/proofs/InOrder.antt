@@ -14,10 +14,9 @@ use Rattle.ide_ssr_rules.specs.Patterns.{placeholders_of}
 use Rattle.ide_ssr_rules.specs.Resolving.{ResolvedKind}
 use Rattle.ide_ssr.specs.declared.bindings.Binding.{Binding}
 use Rattle.ide_ssr.specs.Bindings.{bindings_of}
-use Rattle.ide_ssr.specs.Apart.{placeholders_bound}
-use Rattle.ide_ssr.specs.Found.{Found, is_permitted, matches_at, found_at, found}
+use Rattle.ide_ssr.specs.Found.{Found, is_permitted, matches_at, found_at, found_in}
 use Rattle.ide_ssr.specs.Order.{Precedes, IsIn, AreInOrder}
-use Rattle.ide_ssr.proofs.Apart.{IsOf, bindings_hold, all_bound, all_apart}
+use Rattle.ide_ssr.proofs.Apart.{IsOf, bindings_hold, all_bound, all_apart, placeholders_bound}
 
 -- a match of one of the rules binds the placeholders of its pattern
 pub record IsOfRule (rules : List ResolvedKind) (m : Found) : Type 0 where
@@ -44,7 +43,7 @@ later-at code rules node n ms all =
     All-weaker (IsAt code rules node (1 + n)) (IsAt code rules node n)
     (λ m at. record { at = at.at; from = (let low = at.from in omega arith); is_in = at.is_in; of_rule = at.of_rule }) ms all
 
-abbrev match_of : ℕ → Node → Option (List Binding) → List Found
+abbrev pub match_of : ℕ → Node → Option (List Binding) → List Found
 match_of n node o = elim o [ Some bs ↦ record { rule = n; node = node.number; bindings = bs } ∷ [] | None ↦ [] ]
 
 match-at : (code : Syntax) (rules : List ResolvedKind) (n : ℕ) (rule : ResolvedKind) (node : Node) (o : Option (List Binding)) (ms : List Found)
@@ -115,7 +114,7 @@ node-step code rules n ms rest here behind =
     }
 
 -- nodes of the code with the numbers from n on
-abbrev AreNumbered : Syntax → ℕ → List Node → Type 0
+abbrev pub AreNumbered : Syntax → ℕ → List Node → Type 0
 AreNumbered code n nodes = (i : ℕ) (d : Node) → i < length nodes → IsOf code (get_or nodes i d) × ((get_or nodes i d).number ≡ n + i)
 
 nodes-from : (rules : List ResolvedKind) (code : Syntax) (n : ℕ) (nodes : List Node) → AreNumbered code n nodes → AreFrom code rules n (flat_map (found_at rules code) nodes)
@@ -129,27 +128,27 @@ nodes-from rules code n (node ∷ nodes) numbered =
     (subst (λ n. AreAt code rules n 0 (found_at rules code node)) number (found-at rules code node first.0))
     (nodes-from rules code (1 + n) nodes later)
 
-node_of-read : (code : Syntax) (i : ℕ) (d : Node) → i < length (nodes_of code) → node_of code i ≡ get_or (nodes_of code) i d
+pub node_of-read : (code : Syntax) (i : ℕ) (d : Node) → i < length (nodes_of code) → node_of code i ≡ get_or (nodes_of code) i d
 unfolding node_of
 node_of-read code i d lt = unwrap_or-slice_get (nodes_of code) i (root_of code) ∙ get_or_default (nodes_of code) i (root_of code) d lt
 
-numbered : (code : Syntax) (i : ℕ) → HasNode code i → IsOf code (node_of code i) × ((node_of code i).number ≡ i)
+pub numbered : (code : Syntax) (i : ℕ) → HasNode code i → IsOf code (node_of code i) × ((node_of code i).number ≡ i)
 numbered code i has =
     let number = node_of-number code i has in
     ((subst (HasNode code) (sym number) has, ap (node_of code) number), number)
 
-nodes-numbered : (code : Syntax) → AreNumbered code 0 (nodes_of code)
+pub nodes-numbered : (code : Syntax) → AreNumbered code 0 (nodes_of code)
 nodes-numbered code i d lt =
     let has : HasNode code i = let e = length-nodes_of code in omega arith in
     let h = numbered code i has in
     subst (λ node. IsOf code node × (node.number ≡ 0 + i)) (node_of-read code i d lt) (h.0, h.1 ∙ omega arith)
 
-found-from : (rules : List ResolvedKind) (code : Syntax) → AreFrom code rules 0 (found rules code)
-unfolding found
+found-from : (rules : List ResolvedKind) (code : Syntax) → AreFrom code rules 0 (found_in rules code)
+unfolding found_in
 found-from rules code = nodes-from rules code 0 (nodes_of code) (nodes-numbered code)
 
-pub found_in_order : (rules : List ResolvedKind) (code : Syntax) → AreInOrder code (found rules code)
+pub found_in_order : (rules : List ResolvedKind) (code : Syntax) → AreInOrder code (found_in rules code)
 found_in_order rules code = let all = found-from rules code in record { in_order = all.ordered; are_in = all.are_in }
 
-pub found_of_rules : (rules : List ResolvedKind) (code : Syntax) → All (IsOfRule rules) (found rules code)
+pub found_of_rules : (rules : List ResolvedKind) (code : Syntax) → All (IsOfRule rules) (found_in rules code)
 found_of_rules rules code = (found-from rules code).of_rules

@@ -9,9 +9,9 @@ use Rattle.ide_ssr_rules.specs.Resolving.{ResolvedKind}
 use Rattle.ide_ssr.specs.declared.holders.Holder.{Holder}
 use Rattle.ide_ssr.specs.declared.matches.Match.{Match}
 use Rattle.ide_ssr.specs.Found.{Found}
-use Rattle.ide_ssr.specs.Lists.{holder_of, is_holder}
+use Rattle.ide_ssr.specs.Lists.{holder_of, is_holder, is_listed, listed}
 use Rattle.ide_ssr.specs.Made.{IsMade, ListedAreMade, ListedAreThere, AreMade, OthersLeft}
-use Rattle.ide_ssr.specs.Nesting.{is_listed, listed, NoneListed, NoneListedFrom, Show, Shows}
+use Rattle.ide_ssr.specs.Nesting.{NoneListed, NoneListedFrom, Show, Shows}
 use Rattle.ide_ssr.specs.Order.{AreHeld}
 use Rattle.ide_ssr.specs.Pending.{is_at, is_open}
 use Rattle.ide_ssr.proofs.Rewrites.{not_held}
@@ -189,10 +189,6 @@ made-more code rules ks n lt old made new v are shown left len more = record {
             (v, ap (λ (xs : List (Option Match)). get_or xs n None) more ∙ get_or-set_same made n (Some v) None at, shown)
       ];
 }
-
-pub made-none : (code : Syntax) (rules : List ResolvedKind) (ks : List Found) (n : ℕ) (made : List (Option Match))
-    → length made ≡ length ks → length ks ≤ n → AreMade code rules ks n made
-made-none code rules ks n made len past = record { len = len; open_ones = λ j d le within e. absurd (omega arith) }
 
 pub made-all : (code : Syntax) (rules : List ResolvedKind) (ks : List Found) (n : ℕ) (made : List (Option Match)) → n ≡ 0
     → AreMade code rules ks n made → ListedAreMade code rules ks None made

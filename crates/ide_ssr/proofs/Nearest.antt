@@ -187,7 +187,7 @@ not_over_from code ks m p q order behind is_place past other clear n d ge lt =
 at_place : (ks : List Found) (m d : Found) (p : ℕ) → p < length ks → get_or ks p d ≡ get_or ks p m
 at_place ks m d p lt = get_or_default ks p d m lt
 
-nearest_earlier : (code : Syntax) (ks : List Found) (p q : ℕ) (m : Found) → AllPairs Precedes ks → p < length ks → IsNearest code ks (get_or ks p m) q → q < p
+pub nearest_earlier : (code : Syntax) (ks : List Found) (p q : ℕ) (m : Found) → AllPairs Precedes ks → p < length ks → IsNearest code ks (get_or ks p m) q → q < p
 nearest_earlier code ks p q m order is_place near =
     elim (cases_lt q p) [
       | inl lt ↦ lt

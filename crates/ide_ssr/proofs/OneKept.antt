@@ -4,25 +4,13 @@ use Rattle.std.specs.Prelude.{filter}
 use Rattle.std.specs.List.{list_any}
 use Rattle.std.proofs.lemmas.Bool.Decides.{nat_tests}
 use Rattle.std.proofs.lemmas.List.Folds.{list_all-append, list_any-append, list_any_none}
-use Rattle.std.proofs.lemmas.List.Elements.{All-append}
+use Rattle.std.proofs.lemmas.List.Elements.{All-append, All-cons, All-tail}
 use Rattle.ssr_syntax_tree.specs.Syntax.{Syntax}
 use Rattle.ide_ssr.specs.Found.{Found}
 use Rattle.ide_ssr.specs.Kept.{is_over, holds, fits, is_among, IsKept, kept, kept_behind}
 use Rattle.ide_ssr.specs.Order.{Precedes}
+use Rattle.ide_ssr.proofs.Choices.{All-chosen, pairs_head, pairs_tail}
 use Rattle.ide_ssr.proofs.Nearest.{not_over_before, not_over_self, false_of}
-
-tail : {X : Type 0} (P : X → Type 0) (x : X) (xs : List X) → All P (x ∷ xs) → All P xs
-tail P x xs h n d lt = h (suc n) d (omega arith)
-
-onto : {X : Type 0} (P : X → Type 0) (x : X) (xs : List X) → P x → All P xs → All P (x ∷ xs)
-onto P x xs p h zero d lt = p
-onto P x xs p h (suc n) d lt = h n d (omega arith)
-
-tail_pairs : (m : Found) (ms : List Found) → AllPairs Precedes (m ∷ ms) → AllPairs Precedes ms
-tail_pairs m ms h i j d lt in_list = h (suc i) (suc j) d (omega arith) (omega arith)
-
-head_precedes : (m : Found) (ms : List Found) → AllPairs Precedes (m ∷ ms) → All (Precedes m) ms
-head_precedes m ms h n d lt = h 0 (suc n) d (omega arith) (omega arith)
 
 -- Of matches none of which is over m, any choice lets m fit.
 not_over_passes : (over held : Bool) → over ≡ false → (not over || held) ≡ true
@@ -34,15 +22,7 @@ fits_one code k ks m other rest = rw (not_over_passes (is_over code k m) (holds 
 fits_none : (code : Syntax) (ms : List Found) (m : Found) → All (λ k. is_over code k m ≡ false) ms → fits code ms m ≡ true
 fits_none code [] m none = refl
 fits_none code (k ∷ ms) m none =
-    fits_one code k ms m (none 0 k (omega arith)) (fits_none code ms m (tail (λ k. is_over code k m ≡ false) k ms none))
-
-All_cond : {X : Type 0} (P : X → Type 0) (b : Bool) (x : X) (xs : List X) → P x → All P xs → All P (cond b (x ∷ xs) xs)
-All_cond P true x xs p h = onto P x xs p h
-All_cond P false x xs p h = h
-
-All_filter : {X : Type 0} (P : X → Type 0) (test : X → Bool) (xs : List X) → All P xs → All P (filter test xs)
-All_filter P test [] h = h
-All_filter P test (x ∷ xs) h = All_cond P (test x) x (filter test xs) (h 0 x (omega arith)) (All_filter P test xs (tail P x xs h))
+    fits_one code k ms m (none 0 k (omega arith)) (fits_none code ms m (All-tail (λ k. is_over code k m ≡ false) k ms none))
 
 self_clear : (code : Syntax) (m : Found) → is_over code m m ≡ false
 self_clear code m = false_of (is_over code m m) (not_over_self code m)
@@ -50,7 +30,7 @@ self_clear code m = false_of (is_over code m m) (not_over_self code m)
 -- none of a match and those behind it is over it
 clear_behind : (code : Syntax) (m : Found) (ms : List Found) → All (Precedes m) ms → All (λ k. is_over code k m ≡ false) (m ∷ ms)
 clear_behind code m ms behind =
-    onto (λ k. is_over code k m ≡ false) m ms (self_clear code m) (λ n d lt. not_over_before code (get_or ms n d) m (behind n d lt))
+    All-cons (λ k. is_over code k m ≡ false) m ms (self_clear code m) (λ n d lt. not_over_before code (get_or ms n d) m (behind n d lt))
 
 -- so whether a match fits is told by those before it
 and_true : (b : Bool) → (b && true) ≡ b
@@ -84,10 +64,10 @@ kept_after code chosen ks (m ∷ ms) in_order is =
     (sym
     (is 0 m (omega arith)
     ∙ fits_before code ks (filter chosen (m ∷ ms)) m
-    (All_filter (λ k. is_over code k m ≡ false) chosen (m ∷ ms) (clear_behind code m ms (head_precedes m ms in_order)))))
+    (All-chosen (λ k. is_over code k m ≡ false) chosen (m ∷ ms) (clear_behind code m ms (pairs_head Precedes m ms in_order)))))
     ∙ kept_step code chosen ks m ms (chosen m)
-    (λ ks is. kept_after code chosen ks ms (tail_pairs m ms in_order) is)
-    (tail (λ n. chosen n ≡ fits code (ks ++ filter chosen (m ∷ ms)) n) m ms is)
+    (λ ks is. kept_after code chosen ks ms (pairs_tail Precedes m ms in_order) is)
+    (All-tail (λ n. chosen n ≡ fits code (ks ++ filter chosen (m ∷ ms)) n) m ms is)
 
 pub IsKept-kept : (code : Syntax) (ms : List Found) (chosen : Found → Bool) → AllPairs Precedes ms → IsKept code ms chosen → filter chosen ms ≡ kept code ms
 unfolding kept
@@ -117,8 +97,8 @@ All_chosen : (P : Found → Type 0) (code : Syntax) (ks ms : List Found) → All
 All_chosen P code ks [] h = h
 All_chosen P code ks (m ∷ ms) h =
     All_either P (fits code ks m) (m ∷ chosen_after code (ks ++ m ∷ []) ms) (chosen_after code ks ms)
-    (onto P m (chosen_after code (ks ++ m ∷ []) ms) (h 0 m (omega arith)) (All_chosen P code (ks ++ m ∷ []) ms (tail P m ms h)))
-    (All_chosen P code ks ms (tail P m ms h))
+    (All-cons P m (chosen_after code (ks ++ m ∷ []) ms) (h 0 m (omega arith)) (All_chosen P code (ks ++ m ∷ []) ms (All-tail P m ms h)))
+    (All_chosen P code ks ms (All-tail P m ms h))
 
 -- a match is told by its node and its rule
 abbrev is_same : Found → Found → Bool
@@ -152,7 +132,7 @@ not_among ks xs m before behind =
     ∙ list_any_none (is_same m) xs (λ n d lt. other_numbers_back (get_or xs n d).node (get_or xs n d).rule m.node m.rule (behind n d lt))
 
 -- The choice of what is in ks chooses of ms what fits, and that is `left`.
-abbrev Gives : Syntax → List Found → List Found → List Found → Type 0
+abbrev pub Gives : Syntax → List Found → List Found → List Found → Type 0
 Gives code ks left ms = All (λ m. is_among ks m ≡ fits code ks m) ms × (filter (is_among ks) ms ≡ left)
 
 gives_step : (code : Syntax) (ks : List Found) (m : Found) (ms taken left : List Found) (b : Bool) → fits code ks m ≡ b
@@ -162,7 +142,7 @@ gives_step : (code : Syntax) (ks : List Found) (m : Found) (ms taken left : List
 gives_step code ks m ms taken left true e before behind_taken behind_left f g =
     let here = subst (λ ks. Gives code ks taken ms) (append_assoc ks (m ∷ []) taken) f in
     let is_in = among ks taken m in (
-      onto (λ n. is_among (ks ++ m ∷ taken) n ≡ fits code (ks ++ m ∷ taken) n) m ms
+      All-cons (λ n. is_among (ks ++ m ∷ taken) n ≡ fits code (ks ++ m ∷ taken) n) m ms
           (is_in ∙ sym (fits_before code ks (m ∷ taken) m (clear_behind code m taken behind_taken) ∙ e))
           here.0,
       ap (λ b. cond b (m ∷ filter (is_among (ks ++ m ∷ taken)) ms) (filter (is_among (ks ++ m ∷ taken)) ms)) is_in
@@ -170,36 +150,36 @@ gives_step code ks m ms taken left true e before behind_taken behind_left f g =
     )
 gives_step code ks m ms taken left false e before behind_taken behind_left f g =
     let is_out = not_among ks left m before behind_left in (
-      onto (λ n. is_among (ks ++ left) n ≡ fits code (ks ++ left) n) m ms
+      All-cons (λ n. is_among (ks ++ left) n ≡ fits code (ks ++ left) n) m ms
           (is_out
-          ∙ sym (fits_before code ks left m (tail (λ k. is_over code k m ≡ false) m left (clear_behind code m left behind_left)) ∙ e))
+          ∙ sym (fits_before code ks left m (All-tail (λ k. is_over code k m ≡ false) m left (clear_behind code m left behind_left)) ∙ e))
           g.0,
       ap (λ b. cond b (m ∷ filter (is_among (ks ++ left)) ms) (filter (is_among (ks ++ left)) ms)) is_out
           ∙ g.1,
     )
 
 behind_tail : (ks : List Found) (m : Found) (ms : List Found) → All (λ k. All (Precedes k) (m ∷ ms)) ks → All (λ k. All (Precedes k) ms) ks
-behind_tail ks m ms behind n d lt = tail (Precedes (get_or ks n d)) m ms (behind n d lt)
+behind_tail ks m ms behind n d lt = All-tail (Precedes (get_or ks n d)) m ms (behind n d lt)
 
 behind_pushed : (ks : List Found) (m : Found) (ms : List Found) → AllPairs Precedes (m ∷ ms) → All (λ k. All (Precedes k) (m ∷ ms)) ks
     → All (λ k. All (Precedes k) ms) (ks ++ m ∷ [])
 behind_pushed ks m ms in_order behind =
     All-append (λ k. All (Precedes k) ms) ks (m ∷ []) (behind_tail ks m ms behind)
-    (onto (λ k. All (Precedes k) ms) m [] (head_precedes m ms in_order) (λ n d lt. absurd (omega arith)))
+    (All-cons (λ k. All (Precedes k) ms) m [] (pairs_head Precedes m ms in_order) (λ n d lt. absurd (omega arith)))
 
 chosen-gives : (code : Syntax) (ks ms : List Found) → AllPairs Precedes ms → All (λ k. All (Precedes k) ms) ks
     → Gives code (ks ++ chosen_after code ks ms) (chosen_after code ks ms) ms
 chosen-gives code ks [] in_order behind = ((λ n d lt. absurd (omega arith)), refl)
 chosen-gives code ks (m ∷ ms) in_order behind =
-    let after = head_precedes m ms in_order in
+    let after = pairs_head Precedes m ms in_order in
     gives_step code ks m ms (chosen_after code (ks ++ m ∷ []) ms) (chosen_after code ks ms) (fits code ks m) refl
     (λ n d lt. behind n d lt 0 m (omega arith))
     (All_chosen (Precedes m) code (ks ++ m ∷ []) ms after)
     (All_chosen (Precedes m) code ks ms after)
-    (chosen-gives code (ks ++ m ∷ []) ms (tail_pairs m ms in_order) (behind_pushed ks m ms in_order behind))
-    (chosen-gives code ks ms (tail_pairs m ms in_order) (behind_tail ks m ms behind))
+    (chosen-gives code (ks ++ m ∷ []) ms (pairs_tail Precedes m ms in_order) (behind_pushed ks m ms in_order behind))
+    (chosen-gives code ks ms (pairs_tail Precedes m ms in_order) (behind_tail ks m ms behind))
 
-kept-gives : (code : Syntax) (ms : List Found) → AllPairs Precedes ms → Gives code (kept code ms) (kept code ms) ms
+pub kept-gives : (code : Syntax) (ms : List Found) → AllPairs Precedes ms → Gives code (kept code ms) (kept code ms) ms
 unfolding kept
 kept-gives code ms in_order =
     subst (λ ks. Gives code ks ks ms) (sym (kept-split code [] ms)) (chosen-gives code [] ms in_order (λ n d lt. absurd (omega arith)))

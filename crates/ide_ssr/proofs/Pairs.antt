@@ -4,6 +4,7 @@ use Rattle.std.specs.Prelude.{map}
 use Rattle.std.specs.Str.{bytes_eq}
 use Rattle.std.proofs.lemmas.Bool.Decides.{nat_tests}
 use Rattle.ssr_syntax_lex.specs.declared.kinds.SyntaxKind.{SyntaxKind}
+use Rattle.ssr_syntax_lex.specs.Kinds.{same_kind}
 use Rattle.ssr_syntax_tree.specs.declared.number.TokenNo.{TokenNo}
 use Rattle.ssr_syntax_tree.specs.Syntax.{Token, Forest, nothing, leaf, branch, Syntax, token_count, node_count}
 use Rattle.ssr_syntax_tree.specs.Places.{HasNode, Node, Part, token_part, node_part, parts_in, parts_of, part_of, node_of, token_of, size_of, HasElement}
@@ -14,7 +15,7 @@ use Rattle.ide_ssr_rules.specs.Resolving.{placeholder_at}
 use Rattle.ide_ssr.specs.declared.bindings.Binding.{Binding}
 use Rattle.ide_ssr.specs.Elements.{IsBelow}
 use Rattle.ide_ssr.proofs.Bare.{below-has}
-use Rattle.ide_ssr.specs.Matching.{is_kind, is_left_out, bare}
+use Rattle.ide_ssr.specs.Matching.{is_left_out, bare}
 use Rattle.ide_ssr.specs.Bindings.{joined, token_then, node_then, siblings_by, bindings_of, nothing_then, pair_by, Answers, matched, other}
 
 -- bare children, pair by pair
@@ -35,8 +36,8 @@ token-pairs : (names : List (List ℕ)) (t : ℕ) (token : Token) (ps : List Par
     → ((cs : List Part) → behind cs ≡ pairs_by names ps cs) → (cs : List Part) → token_then token behind cs ≡ pairs_by names (token_part t token ∷ ps) cs
 token-pairs names t token ps behind h [] = refl
 token-pairs names t token ps behind h (token_part u c ∷ cs) =
-    ap (λ o. cond (is_kind token.kind c.kind && bytes_eq token.text c.text) o None) (h cs)
-    ∙ tested (is_kind token.kind c.kind && bytes_eq token.text c.text) (pairs_by names ps cs)
+    ap (λ o. cond (same_kind token.kind c.kind && bytes_eq token.text c.text) o None) (h cs)
+    ∙ tested (same_kind token.kind c.kind && bytes_eq token.text c.text) (pairs_by names ps cs)
 token-pairs names t token ps behind h (node_part c ∷ cs) = refl
 
 node-pairs : (names : List (List ℕ)) (p : Node) (ps : List Part) (behind : List Part → Option (List Binding))
@@ -73,11 +74,11 @@ pub bindings-placeholder : (names : List (List ℕ)) (p c : Node) (i : ℕ) → 
 unfolding bindings_of
 bindings-placeholder names p c i is = rw is refl
 
-pub bindings-other_kind : (names : List (List ℕ)) (p c : Node) → placeholder_at names p ≡ None → is_kind p.kind c.kind ≡ false → bindings_of names p c ≡ None
+pub bindings-other_kind : (names : List (List ℕ)) (p c : Node) → placeholder_at names p ≡ None → same_kind p.kind c.kind ≡ false → bindings_of names p c ≡ None
 unfolding bindings_of
 bindings-other_kind names p c none differs = rw (none, differs) refl
 
-pub bindings-children : (names : List (List ℕ)) (p c : Node) → placeholder_at names p ≡ None → is_kind p.kind c.kind ≡ true
+pub bindings-children : (names : List (List ℕ)) (p c : Node) → placeholder_at names p ≡ None → same_kind p.kind c.kind ≡ true
     → bindings_of names p c ≡ pairs_by names (bare (parts_of p)) (bare (parts_of c))
 unfolding bindings_of
 bindings-children names p c none same = rw (none, same) (siblings-pairs names p.number (1 + p.number) p.first p.children (bare (parts_of c)))
@@ -101,7 +102,7 @@ none_else (Some i) h = absurd (h i refl)
 
 pub paired-starts : (names : List (List ℕ)) (pattern code : Syntax) (n m : ℕ) (ps cs : List Element) (old out : List Binding) (placeholder : Option ℕ) (pk ck : SyntaxKind) (b : Bool)
     → placeholder ≡ placeholder_at names (node_of pattern n) → ((i : ℕ) → placeholder ≡ Some i → ⊥)
-    → pk ≡ (node_of pattern n).kind → ck ≡ (node_of code m).kind → b ≡ is_kind pk ck → b ≡ true
+    → pk ≡ (node_of pattern n).kind → ck ≡ (node_of code m).kind → b ≡ same_kind pk ck → b ≡ true
     → map (part_of pattern) ps ≡ bare (parts_of (node_of pattern n)) → All (IsBelow pattern n) ps
     → map (part_of code) cs ≡ bare (parts_of (node_of code m)) → All (IsBelow code m) cs
     → out ≡ old → PairedSoFar names pattern code n m ps cs old out
@@ -109,7 +110,7 @@ paired-starts names pattern code n m ps cs old out placeholder pk ck b at none p
     record {
       bound = [];
       comes_to =
-          bindings-children names (node_of pattern n) (node_of code m) (sym at ∙ none_else placeholder none) (ap (λ k. is_kind k (node_of code m).kind) (sym pk_is) ∙ ap (is_kind pk) (sym ck_is) ∙ sym b_is ∙ same)
+          bindings-children names (node_of pattern n) (node_of code m) (sym at ∙ none_else placeholder none) (ap (λ k. same_kind k (node_of code m).kind) (sym pk_is) ∙ ap (same_kind pk) (sym ck_is) ∙ sym b_is ∙ same)
           ∙ ap (λ ps. pairs_by names ps (bare (parts_of (node_of code m)))) (sym ps_are)
           ∙ ap (pairs_by names (map (part_of pattern) ps)) (sym cs_are)
           ∙ sym (joined-none (pairs_by names (map (part_of pattern) ps) (map (part_of code) cs)));
@@ -145,27 +146,6 @@ paired-turns names pattern code n m p c all ps others cs old out new b so_far al
 paired-turns names pattern code n m p c all ps others cs old out new b so_far all_is others_are (other is none) yes_matched =
     let e : true ≡ false = sym yes_matched ∙ is in cc
 
-pub paired-fails : (names : List (List ℕ)) (pattern code : Syntax) (n m : ℕ) (p c : Element) (all ps others cs : List Element) (old out new : List Binding) (b : Bool)
-    → PairedSoFar names pattern code n m all others old out → all ≡ p ∷ ps → others ≡ c ∷ cs
-    → Answers (pair_by names (part_of pattern p) (part_of code c)) out new b → b ≡ false
-    → Answers (bindings_of names (node_of pattern n) (node_of code m)) old new false
-paired-fails names pattern code n m p c all ps others cs old out new b so_far all_is others_are (matched bs is found new_is) not_matched =
-    let e : true ≡ false = sym is ∙ not_matched in cc
-paired-fails names pattern code n m p c all ps others cs old out new b so_far all_is others_are (other is none) not_matched =
-    other refl
-    (so_far.comes_to
-    ∙ ap (λ ps. joined (Some so_far.bound) (pairs_by names (map (part_of pattern) ps) (map (part_of code) others))) all_is
-    ∙ ap (λ cs. joined (Some so_far.bound) (pairs_by names (map (part_of pattern) (p ∷ ps)) (map (part_of code) cs))) others_are
-    ∙ ap (λ o. joined (Some so_far.bound) (joined o (pairs_by names (map (part_of pattern) ps) (map (part_of code) cs)))) none)
-
-pub paired-short : (names : List (List ℕ)) (pattern code : Syntax) (n m : ℕ) (p : Element) (all ps others : List Element) (old out : List Binding)
-    → PairedSoFar names pattern code n m all others old out → all ≡ p ∷ ps → length others ≡ 0
-    → Answers (bindings_of names (node_of pattern n) (node_of code m)) old out false
-paired-short names pattern code n m p all ps [] old out so_far all_is none =
-    other refl
-    (so_far.comes_to ∙ ap (λ ps. joined (Some so_far.bound) (pairs_by names (map (part_of pattern) ps) [])) all_is)
-paired-short names pattern code n m p all ps (c ∷ cs) old out so_far all_is none = absurd (omega (arith, none))
-
 not_empty : (n : ℕ) → 0 < n → (n == 0) ≡ false
 not_empty n lt = grind (arith, nat_tests)
 
@@ -196,7 +176,7 @@ first-below code n all ps p below is = below-has code n p (subst (All (IsBelow c
 -- the same with what the code holds: the pattern that it was lent, and the texts of its lists
 pub paired-starts_from : (names : List (List ℕ)) (pattern lent code : Syntax) (n m : ℕ) (ps ps_items cs cs_items : List Element) (old : List Binding) (placeholder : Option ℕ) (pk ck : SyntaxKind) (b : Bool)
     → lent ≡ pattern → placeholder ≡ placeholder_at names (node_of pattern n) → ((i : ℕ) → placeholder ≡ Some i → ⊥)
-    → pk ≡ (node_of lent n).kind → ck ≡ (node_of code m).kind → b ≡ is_kind pk ck → b ≡ true
+    → pk ≡ (node_of lent n).kind → ck ≡ (node_of code m).kind → b ≡ same_kind pk ck → b ≡ true
     → ps ≡ ps_items → map (part_of lent) ps_items ≡ bare (parts_of (node_of lent n)) → All (IsBelow lent n) ps_items
     → cs ≡ cs_items → map (part_of code) cs_items ≡ bare (parts_of (node_of code m)) → All (IsBelow code m) cs_items
     → PairedSoFar names pattern code n m ps cs old old
@@ -212,12 +192,12 @@ paired-starts_from names pattern lent code n m ps ps_items cs cs_items old place
 
 pub other_kind-from : (names : List (List ℕ)) (pattern lent code : Syntax) (n m : ℕ) (old : List Binding) (placeholder : Option ℕ) (pk ck : SyntaxKind) (b : Bool)
     → lent ≡ pattern → placeholder ≡ placeholder_at names (node_of pattern n) → ((i : ℕ) → placeholder ≡ Some i → ⊥)
-    → pk ≡ (node_of lent n).kind → ck ≡ (node_of code m).kind → b ≡ is_kind pk ck → b ≡ false
+    → pk ≡ (node_of lent n).kind → ck ≡ (node_of code m).kind → b ≡ same_kind pk ck → b ≡ false
     → Answers (bindings_of names (node_of pattern n) (node_of code m)) old old false
 other_kind-from names pattern lent code n m old placeholder pk ck b lent_is at none pk_is ck_is b_is differs =
     other refl
     (bindings-other_kind names (node_of pattern n) (node_of code m) (sym at ∙ none_else placeholder none)
-    (ap (λ p. is_kind (node_of p n).kind (node_of code m).kind) (sym lent_is) ∙ ap (λ k. is_kind k (node_of code m).kind) (sym pk_is) ∙ ap (is_kind pk) (sym ck_is) ∙ sym b_is ∙ differs))
+    (ap (λ p. same_kind (node_of p n).kind (node_of code m).kind) (sym lent_is) ∙ ap (λ k. same_kind k (node_of code m).kind) (sym pk_is) ∙ ap (same_kind pk) (sym ck_is) ∙ sym b_is ∙ differs))
 
 pub placeholder-from : (names : List (List ℕ)) (pattern code : Syntax) (n m : ℕ) (old new : List Binding) (i : ℕ) → HasNode code m
     → Some i ≡ placeholder_at names (node_of pattern n) → new ≡ old ++ record { placeholder = i; node = record { 0 = m } } ∷ []
@@ -236,12 +216,12 @@ tested_answer false old b is = other is refl
 
 pub tokens-answer : (names : List (List ℕ)) (pattern lent code : Syntax) (p c : Element) (t u : TokenNo) (old : List Binding) (b : Bool)
     → p ≡ element.Token t → c ≡ element.Token u → lent ≡ pattern
-    → b ≡ (is_kind (token_of lent t.0).kind (token_of code u.0).kind && bytes_eq (token_of lent t.0).text (token_of code u.0).text)
+    → b ≡ (same_kind (token_of lent t.0).kind (token_of code u.0).kind && bytes_eq (token_of lent t.0).text (token_of code u.0).text)
     → Answers (pair_by names (part_of pattern p) (part_of code c)) old old b
 tokens-answer names pattern lent code p c t u old b p_is c_is lent_is b_is =
     rw (p_is, c_is)
     (tested_answer
-    (is_kind (token_of pattern t.0).kind (token_of code u.0).kind && bytes_eq (token_of pattern t.0).text (token_of code u.0).text)
+    (same_kind (token_of pattern t.0).kind (token_of code u.0).kind && bytes_eq (token_of pattern t.0).text (token_of code u.0).text)
     old
     b
-    (b_is ∙ ap (λ s. is_kind (token_of s t.0).kind (token_of code u.0).kind && bytes_eq (token_of s t.0).text (token_of code u.0).text) lent_is))
+    (b_is ∙ ap (λ s. same_kind (token_of s t.0).kind (token_of code u.0).kind && bytes_eq (token_of s t.0).text (token_of code u.0).text) lent_is))

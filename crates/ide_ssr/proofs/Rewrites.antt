@@ -6,7 +6,7 @@ use Rattle.std.proofs.lemmas.List.{reverse-append}
 use Rattle.std.proofs.lemmas.List.Elements.{All-head, All-tail}
 use Rattle.ide_ssr.specs.declared.holders.Holder.{Holder}
 use Rattle.ide_ssr.specs.Lists.{is_holder}
-use Rattle.ide_ssr.specs.Edits.{Rewrite, held_changes}
+use Rattle.ide_ssr.specs.Edits.{Rewrite, listed_changes}
 use Rattle.ide_ssr.specs.Pending.{is_at, is_open}
 
 -- lists of which some are left out
@@ -132,12 +132,12 @@ none_at-back n (r ∷ rest) h other = let e = other r rest refl in (e, h.0 e)
 -- Those that wait behind the place n split into the ones that its match holds and those that wait on.
 pub record Splits (n : ℕ) (later front back : List Rewrite) : Type 0 where
   pub waiting : filter (λ r. is_open n r.holder) later ≡ back
-  pub held : (i : ℕ) → held_changes (record { place = n; binding = i }) later ≡ held_changes (record { place = n; binding = i }) front
+  pub held : (i : ℕ) → listed_changes (Some (record { place = n; binding = i })) later ≡ listed_changes (Some (record { place = n; binding = i })) front
 
-pub splits : (n : ℕ) (later front back : List Rewrite) → filter (λ r. is_open (1 + n) r.holder) later ≡ front ++ back
+pub Splits-first : (n : ℕ) (later front back : List Rewrite) → filter (λ r. is_open (1 + n) r.holder) later ≡ front ++ back
     → HeldFirst n later → AllByRecursion (λ r. is_at n r.holder ≡ true) front
     → ((r : Rewrite) (rest : List Rewrite) → back ≡ r ∷ rest → is_at n r.holder ≡ false) → Splits n later front back
-splits n later front back is first held other =
+Splits-first n later front back is first held other =
     let none : NoneAt n back = none_at-back n back (at_first-back n front back (subst (AtFirst n) is (at_first n later first))) other in
     record {
       waiting =

@@ -6,7 +6,7 @@ use Rattle.ssr_syntax_tree.specs.Syntax.{Syntax}
 use Rattle.ide_ssr.specs.declared.holders.Holder.{Holder}
 use Rattle.ide_ssr.specs.Found.{Found}
 use Rattle.ide_ssr.specs.Kept.{fits, kept, kept_behind}
-use Rattle.ide_ssr.specs.Order.{Precedes, IsIn, AreInOrder, AreHeld}
+use Rattle.ide_ssr.specs.Order.{Precedes, AreInOrder, AreHeld}
 
 -- the kept ones ks of those before, where `rest` is still to come, and the kept ones of all are `all`
 pub record AreKeptSoFar (code : Syntax) (ks : List Found) (holders : List (Option Holder)) (rest all : List Found) : Type 0 where
@@ -35,11 +35,6 @@ pub kept-behind : (code : Syntax) (ks : List Found) (holders : List (Option Hold
     → (m : Found) (more : List Found) → rest ≡ m ∷ more → All (λ k. Precedes k m) ks
 kept-behind code ks holders rest all so_far m more is n d lt =
     let h : All (Precedes (get_or ks n d)) (m ∷ more) = subst (All (Precedes (get_or ks n d))) is (so_far.behind n d lt) in h 0 d (omega arith)
-
-pub kept-is_in : (code : Syntax) (ks : List Found) (holders : List (Option Holder)) (rest all : List Found) → AreKeptSoFar code ks holders rest all
-    → (m : Found) (more : List Found) → rest ≡ m ∷ more → IsIn code m
-kept-is_in code ks holders rest all so_far m more is =
-    let h : All (IsIn code) (m ∷ more) = subst (All (IsIn code)) is so_far.in_order.are_in in h 0 m (omega arith)
 
 behind_next : (code : Syntax) (ks : List Found) (m : Found) (more : List Found) (b : Bool) → All (λ k. All (Precedes k) (m ∷ more)) ks
     → AllPairs Precedes (m ∷ more) → All (λ k. All (Precedes k) more) (if b then ks ++ m ∷ [] else ks)
@@ -71,7 +66,3 @@ pub kept-turns : (code : Syntax) (ks : List Found) (holders : List (Option Holde
     → AreKeptSoFar code new beside more all
 kept-turns code ks holders rest all so_far m more is new new_is beside held =
     kept-turns_at code ks holders m more all (subst (λ rest. AreKeptSoFar code ks holders rest all) is so_far) new new_is beside held
-
-pub kept-ends : (code : Syntax) (ks : List Found) (holders : List (Option Holder)) (rest all : List Found) → AreKeptSoFar code ks holders rest all → rest ≡ [] → ks ≡ all
-kept-ends code ks holders rest all so_far is =
-    let h = subst (λ rest. AreKeptSoFar code ks holders rest all) is so_far in h.comes_to

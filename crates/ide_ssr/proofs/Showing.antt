@@ -13,9 +13,9 @@ use Rattle.ide_ssr.specs.declared.holders.Holder.{Holder}
 use Rattle.ide_ssr.specs.declared.matches.Match.{Match}
 use Rattle.ide_ssr.specs.declared.matches.PlaceholderMatch.{PlaceholderMatch}
 use Rattle.ide_ssr.specs.Found.{Found}
-use Rattle.ide_ssr.specs.Lists.{holder_of, is_holder}
+use Rattle.ide_ssr.specs.Lists.{holder_of, is_holder, is_listed, listed}
 use Rattle.ide_ssr.specs.Matches.{inner_of, placeholders_of}
-use Rattle.ide_ssr.specs.Nesting.{is_listed, listed, NoneListed, NoneListedFrom, placeholder_name, HasParts, HasBinding, Show, Shows, ShowBindings}
+use Rattle.ide_ssr.specs.Nesting.{NoneListed, NoneListedFrom, placeholder_name, HasParts, HasBinding, Show, Shows, ShowBindings}
 use Rattle.ide_ssr.specs.Nesting as nesting
 use Rattle.std.proofs.lemmas.Bool.{cases_lt}
 use Rattle.ide_ssr.specs.Kept.{is_over}

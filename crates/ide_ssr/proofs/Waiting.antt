@@ -16,11 +16,11 @@ use Rattle.ide_ssr.specs.Lists.{binding_over, holder_of}
 use Rattle.ide_ssr.specs.Nearest.{IsNearest}
 use Rattle.ide_ssr.specs.Order.{Precedes, AreHeld}
 use Rattle.ide_ssr.specs.Comments.{kept_comments, comments_text}
-use Rattle.ide_ssr.specs.Edits.{Rewrite, held_changes, pieces, text_by, replacement, rewrite_of, rewrites}
+use Rattle.ide_ssr.specs.Edits.{Rewrite, listed_changes, pieces, text_by, replacement, rewrite_of, rewrites}
 use Rattle.ide_ssr.specs.Pending.{is_at, is_open, Places, IsPending}
 use Rattle.ide_ssr.proofs.Nearest.{nothing_over, at, answered, closed, not_over_before, holder-held, true_false}
 use Rattle.ide_ssr.proofs.Tests.{Over-is_over}
-use Rattle.ide_ssr.proofs.Rewrites.{is_after, NoneAt, HeldFirst, Splits, splits, each-reverse}
+use Rattle.ide_ssr.proofs.Rewrites.{is_after, NoneAt, HeldFirst, Splits, Splits-first, each-reverse}
 use Rattle.std.proofs.Math.Seq.{drop-cons, take-add}
 
 -- the element of a place, in the list from there on
@@ -151,13 +151,13 @@ held_first code rules ks holders held n is_n j (m ∷ ms) lt is =
 
 -- the replacement depends on what the match holds alone
 pieces_same : (code : Syntax) (xs ys : List Rewrite) (n i : ℕ) (bindings : List Binding)
-    → ((i : ℕ) → held_changes (record { place = n; binding = i }) xs ≡ held_changes (record { place = n; binding = i }) ys)
+    → ((i : ℕ) → listed_changes (Some (record { place = n; binding = i })) xs ≡ listed_changes (Some (record { place = n; binding = i })) ys)
     → pieces code xs n i bindings ≡ pieces code ys n i bindings
 pieces_same code xs ys n i [] same = refl
 pieces_same code xs ys n i (b ∷ bs) same = rw (same i, pieces_same code xs ys n (1 + i) bs same) refl
 
 pub replacement_same : (code : Syntax) (rules : List ResolvedKind) (xs ys : List Rewrite) (n : ℕ) (m : Found)
-    → ((i : ℕ) → held_changes (record { place = n; binding = i }) xs ≡ held_changes (record { place = n; binding = i }) ys)
+    → ((i : ℕ) → listed_changes (Some (record { place = n; binding = i })) xs ≡ listed_changes (Some (record { place = n; binding = i })) ys)
     → replacement code rules xs n m ≡ replacement code rules ys n m
 replacement_same code rules xs ys n m same =
     ap (λ (pieces : List (List ℕ)). text_by (slice_get rules m.rule) m.bindings pieces ++ comments_text code (kept_comments code m))
@@ -192,7 +192,7 @@ waits code rules ks holders held n lt m is old wait first within at_end before n
     ∙ (sym wait.open_ones
     ∙ (ap reverse (sym (take-append-drop first old)) ∙ reverse-append (take first old) (drop first old))) in
     let split : Splits n later (reverse (drop first old)) (reverse (take first old)) =
-    splits n later (reverse (drop first old)) (reverse (take first old)) parts
+    Splits-first n later (reverse (drop first old)) (reverse (take first old)) parts
     (held_first code rules ks holders held n lt (1 + n) (drop (1 + n) ks) (omega arith) refl)
     (each-reverse (λ r. is_at n r.holder ≡ true) (drop first old) at_end)
     (λ r rest e. let l = last_of old first r rest within e in subst (λ (q : Rewrite). is_at n q.holder ≡ false) l.1 (before r l.0)) in

@@ -1,13 +1,13 @@
 -- The bindings of a match, computed along the pattern: those of the relation of `Matching`, as the law
 -- `laws::matching` says.
-use Rattle.std.specs.Prelude.{ℕ, ◌+◌, ◌≡◌, ◌&&◌, Bool, true, false, if◌then◌else◌, List, [], ◌∷◌, ◌++◌, Option, Some, None}
-use Rattle.std.specs.Str.{bytes_eq}
+use Rattle.std.specs.Prelude.{ℕ, ◌+◌, ◌≡◌, Bool, true, false, if◌then◌else◌, List, [], ◌∷◌, ◌++◌, Option, Some, None}
 use Rattle.ssr_syntax_lex.specs.declared.kinds.SyntaxKind.{SyntaxKind}
-use Rattle.ssr_syntax_tree.specs.Syntax.{Token, Forest, nothing, leaf, branch, token_count, node_count}
+use Rattle.ssr_syntax_lex.specs.Kinds.{same_kind}
+use Rattle.ssr_syntax_tree.specs.Syntax.{Token, same_token, Forest, nothing, leaf, branch, token_count, node_count}
 use Rattle.ssr_syntax_tree.specs.Places.{Node, Part, token_part, node_part, parts_in, parts_of}
 use Rattle.ide_ssr_rules.specs.Resolving.{placeholder_at}
 use Rattle.ide_ssr.specs.declared.bindings.Binding.{Binding}
-use Rattle.ide_ssr.specs.Matching.{bare, is_left_out, is_kind}
+use Rattle.ide_ssr.specs.Matching.{bare, is_left_out}
 
 -- both bindings, where there are both
 abbrev pub joined : Option (List Binding) → Option (List Binding) → Option (List Binding)
@@ -19,7 +19,7 @@ joined None rest = None
 abbrev pub token_then : Token → (List Part → Option (List Binding)) → List Part → Option (List Binding)
 token_then token behind [] = None
 token_then token behind (token_part u c ∷ cs) =
-    if is_kind token.kind c.kind && bytes_eq token.text c.text then behind cs else None
+    if same_token token c then behind cs else None
 token_then token behind (node_part c ∷ cs) = None
 
 -- likewise a node of the pattern
@@ -36,7 +36,7 @@ nothing_then (c ∷ cs) = None
 -- a node of the pattern that is the placeholder, or of the kind and with the children, against a node
 abbrev pub node_by : Option ℕ → SyntaxKind → (List Part → Option (List Binding)) → Node → Option (List Binding)
 node_by (Some i) kind children c = Some (record { placeholder = i; node = record { 0 = c.number } } ∷ [])
-node_by None kind children c = if is_kind kind c.kind then children (bare (parts_of c)) else None
+node_by None kind children c = if same_kind kind c.kind then children (bare (parts_of c)) else None
 
 -- siblings of the pattern below `parent`, where the next node has the number m and the next token t
 abbrev pub siblings_by : List (List ℕ) → ℕ → ℕ → ℕ → Forest → List Part → Option (List Binding)
@@ -58,7 +58,7 @@ bindings_of names p c = node_by (placeholder_at names p) p.kind (siblings_by nam
 
 -- a pair of bare children
 abbrev pub pair_by : List (List ℕ) → Part → Part → Option (List Binding)
-pair_by names (token_part t token) (token_part u c) = if is_kind token.kind c.kind && bytes_eq token.text c.text then Some [] else None
+pair_by names (token_part t token) (token_part u c) = if same_token token c then Some [] else None
 pair_by names (token_part t token) (node_part c) = None
 pair_by names (node_part p) (token_part u c) = None
 pair_by names (node_part p) (node_part c) = bindings_of names p c

@@ -1,15 +1,15 @@
 -- The edit of a file: what stands for each outermost kept match.
-use Rattle.std.specs.Prelude.{ℕ, ◌+◌, length, List, [], ◌∷◌, ◌++◌, Option, Some, None, is_none, filter, map, slice_get}
-use Rattle.ssr_syntax_tree.specs.Syntax.{Syntax, tokens_of, source_of}
+use Rattle.std.specs.Prelude.{ℕ, ◌+◌, ◌<◌, ◌≢◌, max, min, length, List, [], ◌∷◌, ◌++◌, Option, Some, None, filter, map, slice_get}
+use Rattle.ssr_syntax_tree.specs.Syntax.{Syntax, source_of}
 use Rattle.ssr_syntax_tree.specs.Places.{node_of, start_of, end_of}
 use Rattle.ssr_base.specs.declared.ids.FileId.{FileId}
 use Rattle.ssr_base.specs.Changes.{Change, replaced}
 use Rattle.ide_ssr_rules.specs.Resolving.{ResolvedKind}
 use Rattle.ide_ssr.specs.declared.bindings.Binding.{Binding}
 use Rattle.ide_ssr.specs.declared.holders.Holder.{Holder}
-use Rattle.ide_ssr.specs.Found.{Found, found}
-use Rattle.ide_ssr.specs.Kept.{kept}
-use Rattle.ide_ssr.specs.Lists.{holder_of, is_holder}
+use Rattle.ide_ssr.specs.Found.{Found}
+use Rattle.ide_ssr.specs.Kept.{kept_in}
+use Rattle.ide_ssr.specs.Lists.{holder_of, is_listed}
 use Rattle.ide_ssr.specs.Rendering.{piece_of, rendered}
 use Rattle.ide_ssr.specs.Comments.{kept_comments, comments_text}
 
@@ -18,9 +18,9 @@ pub record Rewrite : Type 0 where
   pub holder : Option Holder
   pub change : Change
 
--- the changes that are listed under a holder
-abbrev pub held_changes : Holder → List Rewrite → List Change
-held_changes holder rewrites = map (λ r. r.change) (filter (λ r. is_holder holder r.holder) rewrites)
+-- the changes that are listed under a holder, in order; without a holder, those of the outermost matches
+abbrev pub listed_changes : Option Holder → List Rewrite → List Change
+listed_changes holder rewrites = map (λ r. r.change) (filter (λ r. is_listed holder r.holder) rewrites)
 
 -- a node's bytes with changes made
 abbrev pub node_replaced : Syntax → ℕ → List Change → List ℕ
@@ -31,12 +31,12 @@ node_replaced code n changes = replaced (source_of code) (start_of code (node_of
 abbrev pub pieces : Syntax → List Rewrite → ℕ → ℕ → List Binding → List (List ℕ)
 pieces code later n i [] = []
 pieces code later n i (binding ∷ bindings) =
-    node_replaced code binding.node.0 (held_changes (record { place = n; binding = i }) later)
+    node_replaced code binding.node.0 (listed_changes (Some (record { place = n; binding = i })) later)
     ∷ pieces code later n (1 + i) bindings
 
 -- the text for a match of the rule with these bindings and their pieces
 abbrev pub text_by : Option ResolvedKind → List Binding → List (List ℕ) → List ℕ
-text_by (Some rule) bindings pieces = rendered rule.names (piece_of bindings pieces) (tokens_of rule.template)
+text_by (Some rule) bindings pieces = rendered rule (piece_of bindings pieces)
 text_by None bindings pieces = []
 
 -- what the rule's template gives for the match m of the place n
@@ -65,16 +65,16 @@ rewrites code rules ks n [] = []
 rewrites code rules ks n (m ∷ ms) =
     let later = rewrites code rules ks (1 + n) ms in rewrite_of code rules ks later n m ∷ later
 
--- the changes of the outermost matches, in order
-abbrev pub outermost_changes : List Rewrite → List Change
-outermost_changes rewrites = map (λ r. r.change) (filter (λ r. is_none r.holder) rewrites)
+-- two changes of one list clash: their ranges share a byte, and their ranges or texts differ
+abbrev pub Clash : Change → Change → Type 0
+Clash a b = (max a.start b.start < min a.end b.end) × (a ≢ b)
 
 -- the edit of a file, from all its kept matches
 abbrev pub edit_from : Syntax → List ResolvedKind → List Found → List Change
-edit_from code rules ks = outermost_changes (rewrites code rules ks 0 ks)
+edit_from code rules ks = listed_changes None (rewrites code rules ks 0 ks)
 
 unfoldable pub edit_of : Syntax → List ResolvedKind → List Change
-edit_of code rules = edit_from code rules (kept code (found rules code))
+edit_of code rules = edit_from code rules (kept_in rules code)
 
 -- the file with the edit made
 abbrev pub rewritten_file : Syntax → List ResolvedKind → List ℕ

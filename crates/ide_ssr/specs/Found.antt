@@ -33,5 +33,5 @@ abbrev pub found_at : List ResolvedKind → Syntax → Node → List Found
 found_at rules code node = if is_permitted code node then matches_at 0 rules node else []
 
 -- nodes in preorder, at a node rules in order
-unfoldable pub found : List ResolvedKind → Syntax → List Found
-found rules code = flat_map (found_at rules code) (nodes_of code)
+unfoldable pub found_in : List ResolvedKind → Syntax → List Found
+found_in rules code = flat_map (found_at rules code) (nodes_of code)

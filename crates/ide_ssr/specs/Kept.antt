@@ -3,7 +3,8 @@ use Rattle.std.specs.Prelude.{ℕ, ◌+◌, ◌≡◌, ◌&&◌, ◌||◌, ◌==
 use Rattle.std.specs.List.{list_any, list_all}
 use Rattle.ssr_syntax_tree.specs.Syntax.{Syntax}
 use Rattle.ssr_syntax_tree.specs.Places.{node_of, size_of, start_of, end_of}
-use Rattle.ide_ssr.specs.Found.{Found}
+use Rattle.ide_ssr_rules.specs.Resolving.{ResolvedKind}
+use Rattle.ide_ssr.specs.Found.{Found, found_in}
 
 -- whether the first node stands above the second
 abbrev pub is_above : Syntax → ℕ → ℕ → Bool
@@ -23,9 +24,13 @@ is_within code inner outer =
 unfoldable pub holds : Syntax → Found → Found → Bool
 holds code k m = list_any (λ binding. is_within code m.node binding.node.0) k.bindings
 
+-- whether k lets m be kept: k is not over m, or m lies in a placeholder of k
+abbrev pub lets : Syntax → Found → Found → Bool
+lets code k m = not (is_over code k m) || holds code k m
+
 -- whether m lies in a placeholder of each of these matches that is over it
 abbrev pub fits : Syntax → List Found → Found → Bool
-fits code ks m = list_all (λ k. not (is_over code k m) || holds code k m) ks
+fits code ks m = list_all (λ k. lets code k m) ks
 
 -- A choice of matches is the kept ones if it chooses a match exactly where that fits the chosen ones.
 abbrev pub IsKept : Syntax → List Found → (Found → Bool) → Type 0
@@ -44,3 +49,11 @@ kept code ms = kept_behind code [] ms
 -- whether one of these matches is m: a match is told by its node and its rule
 abbrev pub is_among : List Found → Found → Bool
 is_among ks m = list_any (λ k. k.node == m.node && k.rule == m.rule) ks
+
+-- the kept ones among all that are found in the code
+abbrev pub kept_in : List ResolvedKind → Syntax → List Found
+kept_in rules code = kept code (found_in rules code)
+
+-- these are the kept ones by the condition
+abbrev pub AreKept : List ResolvedKind → Syntax → Type 0
+AreKept rules code = IsKept code (found_in rules code) (is_among (kept_in rules code))

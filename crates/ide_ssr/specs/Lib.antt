@@ -2,8 +2,10 @@ pub mod Matching
 pub mod Bindings
 pub mod Apart
 pub mod Found
+pub mod WholeMatches
 pub mod Kept
 pub mod Lists
+pub mod Holding
 pub mod Order
 pub mod Rendering
 pub mod Comments

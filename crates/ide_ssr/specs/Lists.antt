@@ -24,9 +24,18 @@ last_over code before n (k ∷ ks) m = last_over code (if is_over code k m then 
 unfoldable pub holder_of : Syntax → List Found → Found → Option Holder
 holder_of code ks m = last_over code None 0 ks m
 
-abbrev pub outermost : Syntax → List Found → List Found
-outermost code ks = filter (λ m. is_none (holder_of code ks m)) ks
-
 abbrev pub is_holder : Holder → Option Holder → Bool
 is_holder holder None = false
 is_holder holder (Some other) = holder.place == other.place && holder.binding == other.binding
+
+-- whether a match with the second holder is listed under the first one, or among the outermost ones
+abbrev pub is_listed : Option Holder → Option Holder → Bool
+is_listed None other = is_none other
+is_listed (Some holder) other = is_holder holder other
+
+-- the kept matches that are listed there, in order; without a holder, the outermost ones
+abbrev pub listed : Syntax → List Found → Option Holder → List Found
+listed code ks holder = filter (λ m. is_listed holder (holder_of code ks m)) ks
+
+abbrev pub outermost : Syntax → List Found → List Found
+outermost code ks = listed code ks None

@@ -5,8 +5,8 @@ use Rattle.ide_ssr_rules.specs.Resolving.{ResolvedKind}
 use Rattle.ide_ssr.specs.declared.holders.Holder.{Holder}
 use Rattle.ide_ssr.specs.declared.matches.Match.{Match}
 use Rattle.ide_ssr.specs.Found.{Found}
-use Rattle.ide_ssr.specs.Lists.{holder_of}
-use Rattle.ide_ssr.specs.Nesting.{is_listed, Shows}
+use Rattle.ide_ssr.specs.Lists.{holder_of, is_listed}
+use Rattle.ide_ssr.specs.Nesting.{Shows}
 use Rattle.ide_ssr.specs.Pending.{is_open}
 
 -- the match of the place n is made

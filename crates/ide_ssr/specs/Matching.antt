@@ -1,19 +1,13 @@
 -- When a node of code matches a pattern, and what its placeholders hold then. Trivia don't count, and
 -- neither does a comma that stands directly, trivia aside, before a closing bracket.
 use Rattle.std.specs.Prelude.{ℕ, ◌≡◌, ◌&&◌, ◌||◌, Bool, true, false, if◌then◌else◌, List, [], ◌∷◌, ◌++◌, Some, None}
-use denote.Enum.Bare.{sameb}
 use Rattle.ssr_syntax_lex.specs.declared.kinds.SyntaxKind.{SyntaxKind}
 use Rattle.ssr_syntax_lex.specs.declared.kinds.SyntaxKind.TheVariants as k
-use Rattle.ssr_syntax_lex.specs.contracts.kinds.SyntaxKind.{the_type}
-use Rattle.ssr_syntax_lex.specs.Kinds.{is_trivia}
+use Rattle.ssr_syntax_lex.specs.Kinds.{same_kind, is_trivia}
 use Rattle.ssr_syntax_tree.specs.Syntax.{Token}
 use Rattle.ssr_syntax_tree.specs.Places.{Node, Part, token_part, node_part, parts_of}
 use Rattle.ide_ssr_rules.specs.Resolving.{placeholder_at}
 use Rattle.ide_ssr.specs.declared.bindings.Binding.{Binding}
-
--- whether two kinds are the same
-unfoldable pub is_kind : SyntaxKind → SyntaxKind → Bool
-is_kind a b = sameb the_type a b
 
 -- the brackets directly before which a comma may stand or not
 unfoldable pub is_closing : SyntaxKind → Bool
@@ -30,7 +24,7 @@ closes (node_part node ∷ rest) = false
 
 -- whether a token of this kind, with these siblings behind it, is left out
 abbrev pub is_left_out : SyntaxKind → List Part → Bool
-is_left_out kind rest = is_trivia kind || (is_kind kind k.COMMA && closes rest)
+is_left_out kind rest = is_trivia kind || (same_kind kind k.COMMA && closes rest)
 
 abbrev pub leaves_out : Part → List Part → Bool
 leaves_out (token_part t token) rest = is_left_out token.kind rest

@@ -1,6 +1,6 @@
 -- How nested matches show the kept ones: those that nothing holds in order, and under each placeholder
 -- those that it holds.
-use Rattle.std.specs.Prelude.{ℕ, ◌≡◌, ◌+◌, ◌<◌, ◌≤◌, Bool, false, is_none, length, List, [], ◌∷◌, Option, Some, None, filter, map, slice_get, slice_index_or}
+use Rattle.std.specs.Prelude.{ℕ, ◌≡◌, ◌+◌, ◌<◌, ◌≤◌, false, length, List, [], ◌∷◌, Option, Some, None, map, slice_get, slice_index_or}
 use Rattle.std.specs.List.{All}
 use Rattle.std.specs.Str.{IsCharBoundary}
 use Rattle.ssr_syntax_lex.specs.declared.range.TextRange.{TextRange}
@@ -12,18 +12,10 @@ use Rattle.ide_ssr.specs.declared.holders.Holder.{Holder}
 use Rattle.ide_ssr.specs.declared.matches.Match.{Match}
 use Rattle.ide_ssr.specs.declared.matches.PlaceholderMatch.{PlaceholderMatch}
 use Rattle.ide_ssr.specs.Found.{Found}
+use Rattle.ide_ssr.specs.Kept.{kept_in}
 use Rattle.ide_ssr.specs.Comments.{kept_comments}
-use Rattle.ide_ssr.specs.Lists.{holder_of, is_holder}
+use Rattle.ide_ssr.specs.Lists.{holder_of, is_listed, listed, outermost}
 use Rattle.ide_ssr.specs.Matches.{text_of, range_of, node_of, rule_of, placeholders_of, name_of, place_of, held_node, inner_of, comments_of, place_of_range, place_of_token}
-
--- whether a match with the second holder is listed under the first one, or among the outermost ones
-abbrev pub is_listed : Option Holder → Option Holder → Bool
-is_listed None other = is_none other
-is_listed (Some holder) other = is_holder holder other
-
--- the kept matches that are listed there, in order; without a holder, the outermost ones
-abbrev pub listed : Syntax → List Found → Option Holder → List Found
-listed code ks holder = filter (λ m. is_listed holder (holder_of code ks m)) ks
 
 -- none before the place n is listed there
 abbrev pub NoneListed : Syntax → List Found → Option Holder → ℕ → Type 0
@@ -80,3 +72,7 @@ mutual
     bound : (n : ℕ) (rule : Option ResolvedKind) (i : ℕ) (b : Binding) (bs : List Binding) (p : PlaceholderMatch) (ps : List PlaceholderMatch)
         → HasBinding code rule b p → Show code rules ks (listed code ks (Some (record { place = n; binding = i }))) (inner_of p)
         → ShowBindings code rules ks n rule (1 + i) bs ps → ShowBindings code rules ks n rule i (b ∷ bs) (p ∷ ps)
+
+-- nested matches show what is kept in the code: the outermost ones, with those that they hold
+abbrev pub ShowKept : Syntax → List ResolvedKind → List Match → Type 0
+ShowKept code rules answer = let ks = kept_in rules code in Show code rules ks (outermost code ks) answer

@@ -1,11 +1,11 @@
 -- The order in which a search finds matches, and lists that are in this order.
-use Rattle.std.specs.Prelude.{◌≡◌, ◌<◌, ◌||◌, ◌⊎◌, not, true, List, Option, map, All, AllPairs}
+use Rattle.std.specs.Prelude.{◌≡◌, ◌<◌, ◌⊎◌, true, List, Option, map, All, AllPairs}
 use Rattle.ssr_syntax_tree.specs.Syntax.{Syntax}
 use Rattle.ssr_syntax_tree.specs.Places.{HasNode}
 use Rattle.ide_ssr.specs.declared.holders.Holder.{Holder}
 use Rattle.ide_ssr.specs.Apart.{ComesBefore}
 use Rattle.ide_ssr.specs.Found.{Found}
-use Rattle.ide_ssr.specs.Kept.{is_over, holds}
+use Rattle.ide_ssr.specs.Kept.{lets}
 use Rattle.ide_ssr.specs.Lists.{holder_of}
 
 -- nodes in preorder, at a node rules in order
@@ -26,5 +26,5 @@ pub record AreInOrder (code : Syntax) (ms : List Found) : Type 0 where
 -- kept matches, each of which lies in a placeholder of those over it, and their holders
 pub record AreHeld (code : Syntax) (ks : List Found) (holders : List (Option Holder)) : Type 0 where
   pub ordered : AreInOrder code ks
-  pub fit : AllPairs (λ k m. (not (is_over code k m) || holds code k m) ≡ true) ks
+  pub fit : AllPairs (λ k m. lets code k m ≡ true) ks
   pub holders_are : holders ≡ map (holder_of code ks) ks

@@ -1,12 +1,11 @@
 -- The text that a rule's template gives for a match.
 use Rattle.std.specs.Prelude.{ℕ, ◌+◌, ◌==◌, ◌&&◌, not, Bool, if◌then◌else◌, codes, is_some, slice_index_or, length, List, [], ◌∷◌, ◌++◌, flat_map, Some, None, Result, Ok, Err}
 use Rattle.std.specs.List.{list_any, position_or_len}
-use Rattle.ssr_syntax_tree.specs.Syntax.{Token, Syntax}
+use Rattle.ssr_syntax_tree.specs.Syntax.{Token, Syntax, tokens_of}
 use Rattle.ssr_syntax_tree.specs.Places.{nodes_of, start_of, end_of}
-use Rattle.ssr_syntax.specs.declared.fragments.Fragment.TheVariants as fragments
 use Rattle.ssr_syntax.specs.declared.syntax_error.SyntaxError.{SyntaxError}
 use Rattle.ssr_syntax.specs.Reading.{fragment_reading, trimmed_front}
-use Rattle.ide_ssr_rules.specs.Resolving.{name_at}
+use Rattle.ide_ssr_rules.specs.Resolving.{ResolvedKind, category, name_at}
 use Rattle.ide_ssr.specs.declared.bindings.Binding.{Binding}
 
 -- the piece of the placeholder whose name has the place i, where the bindings have these pieces
@@ -40,10 +39,13 @@ wrapped tree front names piece at (token ∷ tokens) =
     wrapped_text tree front (is_some (name_at names token)) at text
     ++ wrapped tree front names piece (at + length text) tokens
 
--- with parentheses if the text without them reads as an expression
+-- with parentheses if the text without them reads in the template's category
 abbrev pub rendered_as : Result Syntax SyntaxError → List (List ℕ) → (ℕ → List ℕ) → List Token → List ℕ
 rendered_as (Ok tree) names piece tokens = wrapped tree (trimmed_front (plain names piece tokens)) names piece 0 tokens
 rendered_as (Err error) names piece tokens = plain names piece tokens
 
-abbrev pub rendered : List (List ℕ) → (ℕ → List ℕ) → List Token → List ℕ
-rendered names piece tokens = rendered_as (fragment_reading fragments.Expr (plain names piece tokens)) names piece tokens
+-- a rule's template with its pieces
+abbrev pub rendered : ResolvedKind → (ℕ → List ℕ) → List ℕ
+rendered rule piece =
+    let tokens = tokens_of rule.template in
+    rendered_as (fragment_reading (category rule) (plain rule.names piece tokens)) rule.names piece tokens

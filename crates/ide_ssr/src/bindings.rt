@@ -1,3 +1,5 @@
+//! What a placeholder holds in a match.
+
 use ssr_syntax_tree::NodeNo;
 
 /// What a placeholder of a rule's pattern holds: the place of its name in the rule's list of names, and the

@@ -1,19 +1,13 @@
+//! A node's children, without those that do not count for a match.
+
 ghost use Rattle.std.specs.Prelude.{◌≡◌, ℕ, IfOk, All, map};
 ghost use Rattle.ssr_syntax_tree.specs.Places.{HasNode, HasElement, node_of, parts_of, part_of, elements_of};
-ghost use Rattle.ide_ssr.specs.Matching.{is_kind, is_closing, closes, leaves_out, bare};
+ghost use Rattle.ide_ssr.specs.Matching.{is_closing, closes, leaves_out, bare};
 ghost use Rattle.ide_ssr.specs.Elements.{IsBelow};
 
 use ssr_syntax_lex::SyntaxKind;
 use ssr_syntax_tree::{Element, NodeNo, Tree};
 use std::alloc::{AllocError, Global};
-
-/// Whether both are the same kind.
-#[tactic(auto, unfolding(crate::specs::Matching::is_kind))]
-pub(crate) fn is_kind(kind: SyntaxKind, other: SyntaxKind) -> bool
-    ensures { result ≡ is_kind kind other }
-{
-    kind == other
-}
 
 /// Whether it is a bracket directly before which a comma may stand or not.
 #[tactic(auto, unfolding(crate::specs::Matching::is_closing))]
@@ -52,7 +46,7 @@ fn is_left_out(tree: &Tree, first: Element, behind: &[Element]) -> bool
     match first {
         Element::Token(token) => {
             let kind = tree.token_kind(token);
-            kind.is_trivia() || (is_kind(kind, SyntaxKind::COMMA) && closes(tree, behind))
+            kind.is_trivia() || (kind.is(SyntaxKind::COMMA) && closes(tree, behind))
         }
         Element::Node(_) => false,
     }

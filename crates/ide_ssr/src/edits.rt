@@ -1,3 +1,5 @@
+//! The replacements of the kept matches, and the edits of the files.
+
 ghost use Rattle.std.specs.Prelude.{◌≡◌, ◌+◌, ◌-◌, ◌<◌, ◌≤◌, ◌↔◌, ℕ, All, IfOk, IsTrue, drop, false, true, length, map, reverse, slice_index_or, slice_range, string_bytes};
 ghost use Rattle.std.specs.Str.{IsCharBoundary};
 ghost use Rattle.ssr_syntax_tree.specs.Syntax.{source_of};
@@ -6,7 +8,7 @@ ghost use Rattle.ssr_base.specs.Changes.{AreInOrder, Fits};
 ghost use Rattle.ssr_base.specs.Applied.{changes_of};
 ghost use Rattle.ide_ssr.specs.Lists.{is_holder};
 ghost use Rattle.ide_ssr.specs.Order.{IsIn, AreHeld};
-ghost use Rattle.ide_ssr.specs.Edits.{Rewrite as RewriteValue, held_changes, node_replaced, pieces, template_text, replacement, edit_from, file_edits};
+ghost use Rattle.ide_ssr.specs.Edits.{Rewrite as RewriteValue, listed_changes, node_replaced, pieces, template_text, replacement, edit_from, file_edits};
 ghost use Rattle.ide_ssr.specs.Pending.{is_at, Places, IsPending};
 
 use crate::bindings::Binding;
@@ -27,11 +29,24 @@ use thiserror::Error;
 /// Why there are no edits.
 #[derive(Clone, Copy, Debug, PartialEq, Eq, Error)]
 pub enum EditError {
-    /// Two matches that stand in no placeholder of each other share a byte.
+    /// Two matches that stand in no placeholder of each other share a byte. Not told so far: no two matches of
+    /// expressions in one list do.
     #[error("two matches share a byte")]
     Clash(FileRange, FileRange),
+    /// Memory ran out.
     #[error("out of memory")]
     Memory,
+}
+
+impl From<AllocError> for EditError {
+    ghost use Rattle.std.specs.Prelude.{◌≡◌};
+    ghost use Rattle.ide_ssr.specs.declared.edits.EditError.TheVariants as errors;
+
+    ghost from_gives = { λ _ error. error ≡ errors.Memory };
+
+    fn from(_: AllocError) -> EditError {
+        EditError::Memory
+    }
 }
 
 /// A kept match with its replacement: what holds it, and the change of the source.
@@ -115,7 +130,7 @@ fn piece(
 ) -> Result<String, AllocError>
     requires node { HasNode tree.now node.0 }
     requires held { All (Places (source_of tree.now)) held.now }
-    ensures { IfOk result (λ text. string_bytes text ≡ node_replaced tree.now node.0 (held_changes holder (reverse held.now))) }
+    ensures { IfOk result (λ text. string_bytes text ≡ node_replaced tree.now node.0 (listed_changes (Some holder) (reverse held.now))) }
 {
     let source = tree.source();
     let range = tree.range(node);

@@ -1,3 +1,5 @@
+//! The finder: rules, and a file in which they are matched and rewritten.
+
 ghost use Rattle.std.specs.Prelude.{◌≡◌, All, IfErr, IfOk, OnErr, []};
 ghost use Rattle.ssr_syntax_tree.specs.Syntax.{source_of};
 ghost use Rattle.ssr_base.specs.Changes.{AreInOrder, Fits};
@@ -5,16 +7,15 @@ ghost use Rattle.ide_ssr_rules.specs.Resolving.{resolved_kinds};
 ghost use Rattle.ide_ssr.specs.Adding.{Adds};
 ghost use Rattle.ide_ssr.specs.BindsOnce.{AreApart, BindOnce};
 ghost use Rattle.ide_ssr.specs.Edits.{edit_of, file_edits};
-ghost use Rattle.ide_ssr.specs.Found.{found as found_of};
-ghost use Rattle.ide_ssr.specs.Kept.{IsKept, is_among, kept as kept_of};
-ghost use Rattle.ide_ssr.specs.Lists.{outermost};
-ghost use Rattle.ide_ssr.specs.Nesting.{Show};
+ghost use Rattle.ide_ssr.specs.Kept.{AreKept, kept_in};
+ghost use Rattle.ide_ssr.specs.Nesting.{ShowKept};
+ghost use Rattle.ide_ssr.specs.Order.{AreHeld};
 
 use crate::edits::{EditError, edits};
-use crate::kept::kept;
+use crate::kept::{KeptMatches, kept};
 use crate::matches::SsrMatches;
 use crate::nesting::nested_matches;
-use crate::search::found;
+use crate::search::find_matches;
 use ide_ssr_rules::{ResolvedRule, SsrError, SsrRule};
 use ssr_base::{FileId, TextEdit};
 use ssr_syntax_tree::Tree;
@@ -75,18 +76,15 @@ impl<'a> MatchFinder<'a> {
         ensures order { IfOk result (λ _. AreInOrder 0 (edit_of self.now.code self.now.rules)) }
         ensures memory { IfErr result (λ e. e ≡ EditError.Memory) }
     {
-        match self.first_file_edits() {
-            Ok(edits) => Ok(edits),
-            Err(_) => Err(EditError::Memory),
-        }
+        Ok(self.first_file_edits()?)
     }
 
     /// The kept matches as `edits` replaces them: the outermost ones, each with what its placeholders hold. Every
     /// node of the file is tried. A match has each placeholder of its rule once, and their ranges share no byte; nor
     /// do those of the matches of one list.
     pub fn matches(&self) -> Result<SsrMatches<'a>, AllocError>
-        ensures shows { IfOk result (λ found. let ks = kept_of self.now.code (found_of self.now.rules self.now.code) in Show self.now.code self.now.rules ks (outermost self.now.code ks) found.matches.items) }
-        ensures kept { IfOk result (λ _. let found = found_of self.now.rules self.now.code in IsKept self.now.code found (is_among (kept_of self.now.code found))) }
+        ensures shows { IfOk result (λ found. ShowKept self.now.code self.now.rules found.matches.items) }
+        ensures kept { IfOk result (λ _. AreKept self.now.rules self.now.code) }
         ensures binds { IfOk result (λ found. BindOnce self.now.rules found.matches.items) }
         ensures apart { IfOk result (λ found. AreApart found.matches.items) }
     {
@@ -95,15 +93,23 @@ impl<'a> MatchFinder<'a> {
 
     /// The same list, always found by trying every node.
     pub fn scan_matches(&self) -> Result<SsrMatches<'a>, AllocError>
-        ensures shows { IfOk result (λ found. let ks = kept_of self.now.code (found_of self.now.rules self.now.code) in Show self.now.code self.now.rules ks (outermost self.now.code ks) found.matches.items) }
-        ensures kept { IfOk result (λ _. let found = found_of self.now.rules self.now.code in IsKept self.now.code found (is_among (kept_of self.now.code found))) }
+        ensures shows { IfOk result (λ found. ShowKept self.now.code self.now.rules found.matches.items) }
+        ensures kept { IfOk result (λ _. AreKept self.now.rules self.now.code) }
         ensures binds { IfOk result (λ found. BindOnce self.now.rules found.matches.items) }
         ensures apart { IfOk result (λ found. AreApart found.matches.items) }
     {
-        let found = found(self.alloc, &self.rules, self.tree)?;
-        let kept = kept(self.alloc, self.tree, found)?;
+        let kept = self.kept_matches()?;
         let matches = nested_matches(self.alloc, self.tree, &self.rules, &kept)?;
         Ok(SsrMatches { matches })
+    }
+
+    /// The kept ones among the matches of all rules, with what holds them.
+    fn kept_matches(&self) -> Result<KeptMatches, AllocError>
+        ensures matches { IfOk result (λ kept. kept.matches.items ≡ kept_in self.now.rules self.now.code) }
+        ensures held { IfOk result (λ kept. AreHeld self.now.code kept.matches.items kept.holders.items) }
+    {
+        let found = find_matches(self.alloc, &self.rules, self.tree)?;
+        kept(self.alloc, self.tree, found)
     }
 
     fn first_file_edits(&self) -> Result<BTreeMap<FileId, TextEdit>, AllocError>
@@ -111,8 +117,7 @@ impl<'a> MatchFinder<'a> {
         ensures fits { IfOk result (λ _. All (Fits (source_of self.now.code)) (edit_of self.now.code self.now.rules)) }
         ensures order { IfOk result (λ _. AreInOrder 0 (edit_of self.now.code self.now.rules)) }
     {
-        let found = found(self.alloc, &self.rules, self.tree)?;
-        let kept = kept(self.alloc, self.tree, found)?;
+        let kept = self.kept_matches()?;
         edits(self.alloc, self.tree, &self.rules, &kept)
     }
 }

@@ -1,3 +1,5 @@
+//! The matches that a search finds.
+
 ghost use Rattle.std.specs.Prelude.{◌≡◌};
 
 use crate::bindings::Binding;

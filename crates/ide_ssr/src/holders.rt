@@ -1,3 +1,5 @@
+//! Which placeholder of which kept match a match stands in.
+
 ghost use Rattle.std.specs.Prelude.{◌≡◌};
 ghost use Rattle.ide_ssr.specs.Lists.{is_holder};
 

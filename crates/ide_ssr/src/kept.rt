@@ -1,3 +1,5 @@
+//! Which of the found matches are kept.
+
 ghost use Rattle.std.specs.Prelude.{◌≡◌, ◌++◌, ◌∷◌, [], ◌<◌, ◌-◌, ℕ, length, All, IfOk, MatchOption, if◌then◌else◌, map, false, true, slice_index_or, option_map};
 ghost use Rattle.ssr_syntax_tree.specs.Places.{HasNode};
 ghost use Rattle.ide_ssr.specs.Kept.{is_over, is_within, fits, kept as kept_of};
@@ -17,7 +19,7 @@ pub(crate) struct KeptMatches {
     pub(crate) holders: Vec<Option<Holder>>,
 }
 
-/// Whether `above` stands above the node of `m`, or at it with an earlier rule.
+/// Whether `k` stands above the node of `m`, or at it with an earlier rule.
 pub(crate) fn is_over(tree: &Tree, k: &Found, m: &Found) -> bool
     requires { HasNode tree.now k.now.node }
     ensures { result ≡ is_over tree.now k.now m.now }

@@ -1,3 +1,5 @@
+//! What a caller sees of kept matches: those in no other one, with the others nested in their placeholders.
+
 ghost use Rattle.std.specs.Prelude.{◌≡◌, IfOk, string_bytes};
 ghost use Rattle.ide_ssr.specs.Matches.{text_of, range_of, node_of, rule_of, placeholders_of, name_of, place_of, held_node, inner_of, comments_of};
 

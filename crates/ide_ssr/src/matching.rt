@@ -1,11 +1,13 @@
+//! Whether a node of the code matches a node of a pattern.
+
 ghost use Rattle.std.specs.Prelude.{◌≡◌, ◌&&◌, IfOk};
 ghost use Rattle.std.specs.Str.{bytes_eq};
 ghost use Rattle.ssr_syntax_tree.specs.Places.{HasNode, HasToken, HasElement, node_of, token_of, part_of};
-ghost use Rattle.ide_ssr.specs.Matching.{is_kind};
+ghost use Rattle.ssr_syntax_tree.specs.Syntax.{same_token};
 ghost use Rattle.ide_ssr.specs.Bindings.{bindings_of, pair_by, Answers};
 
 use crate::bindings::Binding;
-use crate::children::{bare_children, is_kind};
+use crate::children::bare_children;
 use ide_ssr_rules::ResolvedRule;
 use ssr_syntax_tree::{Element, NodeNo, TokenNo, Tree};
 use std::alloc::{AllocError, Global};
@@ -33,7 +35,7 @@ pub(crate) fn node_matches(
         return Ok(true);
     }
     let pattern = rule.pattern();
-    if !is_kind(pattern.kind(p), code.kind(c)) {
+    if !pattern.kind(p).is(code.kind(c)) {
         return Ok(false);
     }
     let pattern_children = bare_children(alloc, pattern, p)?;
@@ -78,8 +80,7 @@ fn pair_matches(
 fn tokens_match(pattern: &Tree, p: TokenNo, code: &Tree, c: TokenNo) -> bool
     requires p_in { HasToken pattern.now p.0 }
     requires c_in { HasToken code.now c.0 }
-    ensures { result ≡ (is_kind (token_of pattern.now p.0).kind (token_of code.now c.0).kind && bytes_eq (token_of pattern.now p.0).text (token_of code.now c.0).text) }
+    ensures { result ≡ same_token (token_of pattern.now p.0) (token_of code.now c.0) }
 {
-    is_kind(pattern.token_kind(p), code.token_kind(c))
-        && pattern.token_text(p) == code.token_text(c)
+    pattern.token_kind(p).is(code.token_kind(c)) && pattern.token_text(p) == code.token_text(c)
 }

@@ -1,13 +1,15 @@
+//! Nesting the kept matches.
+
 ghost use Rattle.std.specs.Prelude.{◌≡◌, ◌≢◌, ◌<◌, ◌+◌, ℕ, List, true, false, Some, None, [], IfOk, IsSome, OnOk, length, map, slice_get, slice_index_or, string_bytes};
 ghost use Rattle.ssr_syntax_tree.specs.Places.{HasNode};
 ghost use Rattle.ide_ssr_rules.specs.Resolving.{ResolvedKind};
 ghost use Rattle.ide_ssr.specs.Found.{Found as FoundMatch};
 ghost use Rattle.ide_ssr.specs.Order.{AreHeld};
 ghost use Rattle.ide_ssr.specs.Matches.{inner_of};
-ghost use Rattle.ide_ssr.specs.Lists.{holder_of};
+ghost use Rattle.ide_ssr.specs.Lists.{holder_of, is_listed, listed};
 ghost use Rattle.ide_ssr.specs.Made.{AreMade, ListedAreMade, ListedAreThere, OthersLeft};
 ghost use Rattle.ide_ssr.specs.Pending.{is_at, is_open};
-ghost use Rattle.ide_ssr.specs.Nesting.{is_listed, listed, NoneListed, NoneListedFrom, placeholder_name, HasBinding, Show, Shows};
+ghost use Rattle.ide_ssr.specs.Nesting.{NoneListed, NoneListedFrom, placeholder_name, HasBinding, Show, Shows};
 
 use crate::bindings::Binding;
 use crate::comments::{comment_ranges, kept_comments};

@@ -1,3 +1,5 @@
+//! The text that a template gives for a match.
+
 ghost use Rattle.std.specs.Prelude.{◌≡◌, ◌+◌, ◌++◌, ◌^◌, ◌<◌, ◌≤◌, ◌==◌, ◌&&◌, ℕ, if◌then◌else◌, nat_le, IfOk, length, map, string_bytes};
 ghost use Rattle.std.specs.List.{position_or_len};
 ghost use Rattle.ssr_syntax_tree.specs.Syntax.{node_count, tokens_of};
@@ -18,7 +20,7 @@ pub(crate) fn rendered(
     bindings: &[Binding],
     pieces: &[String],
 ) -> Result<String, AllocError>
-    ensures { IfOk result (λ text. string_bytes text ≡ rendered rule.now.names (piece_of bindings.now (map string_bytes pieces.now)) (tokens_of rule.now.template)) }
+    ensures { IfOk result (λ text. string_bytes text ≡ rendered rule.now (piece_of bindings.now (map string_bytes pieces.now))) }
 {
     let plain = plain(alloc, rule, bindings, pieces)?;
     match fragment(alloc, Fragment::Expr, plain.as_str()) {

@@ -1,7 +1,9 @@
+//! Finding matches by trying every node.
+
 ghost use Rattle.std.specs.Prelude.{◌≡◌, ◌+◌, ◌++◌, ◌<◌, ◌≤◌, ℕ, IfOk, map, option_map, length};
 ghost use Rattle.ssr_syntax_tree.specs.Places.{HasNode, node_of, root_of};
 ghost use Rattle.ide_ssr.specs.Bindings.{bindings_of};
-ghost use Rattle.ide_ssr.specs.Found.{match_at, matches_at, found_at, found as found_of};
+ghost use Rattle.ide_ssr.specs.Found.{match_at, matches_at, found_at, found_in};
 ghost use Rattle.ide_ssr.specs.Order.{AreInOrder};
 
 use crate::bindings::Binding;
@@ -80,17 +82,16 @@ fn add_found(
     if range.start >= range.end {
         return Ok(());
     }
-    add_matches(alloc, rules, tree, node, found)?;
-    Ok(())
+    add_matches(alloc, rules, tree, node, found)
 }
 
 /// All matches of the rules in the tree: nodes in preorder, at a node rules in order.
-pub(crate) fn found(
+pub(crate) fn find_matches(
     alloc: Global,
     rules: &[ResolvedRule],
     tree: &Tree,
 ) -> Result<Vec<Found>, AllocError>
-    ensures matches { IfOk result (λ found. found.items ≡ found_of rules.now tree.now) }
+    ensures matches { IfOk result (λ found. found.items ≡ found_in rules.now tree.now) }
     ensures order { IfOk result (λ found. AreInOrder tree.now found.items) }
 {
     let mut found = Vec::new(alloc);

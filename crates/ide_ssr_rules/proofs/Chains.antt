@@ -4,15 +4,15 @@ use Rattle.ide_ssr_rules.specs.declared.elements.Element.{Element}
 use Rattle.ide_ssr_rules.specs.declared.error.SsrError.{SsrError}
 use Rattle.ide_ssr_rules.specs.declared.kinds.ParsedRule.{ParsedRule}
 use Rattle.ide_ssr_rules.specs.Elements.{names_of, side}
-use Rattle.ide_ssr_rules.specs.Refusals.{Refusal, TellsOf, Answers, ◌>>=◌, unless, no_token, reserved}
+use Rattle.ide_ssr_rules.specs.Refusals.{Refusal, TellsOf, Answers, ◌>>=◌, unless, glued, reserved}
 use Rattle.ide_ssr_rules.specs.Rules.{Rule, check_sides, check_defined, kinds_of, some_kind, rule_of, rule_reading}
 use Rattle.ide_ssr_rules.specs.Sides.{sides}
-use Rattle.ide_ssr_rules.specs.StandIns.{changed, code_of, spelled_stand_in}
+use Rattle.ide_ssr_rules.specs.StandIns.{glued_placeholder, code_of, spelled_stand_in}
 use Rattle.ide_ssr_rules.proofs.Telling.{tells_first, after_ok}
 
 module _ (pattern template : List Element) where
   abbrev tokens_stay : List Element → Result (Unit {0}) Refusal
-  tokens_stay elements = unless no_token (changed elements)
+  tokens_stay elements = unless glued (glued_placeholder elements)
 
   abbrev names_free : List (List ℕ) → List Element → Result (Unit {0}) Refusal
   names_free names elements = unless reserved (spelled_stand_in names elements)
@@ -23,17 +23,17 @@ module _ (pattern template : List Element) where
   abbrev after_pattern : Unit {0} → Result (Unit {0}) Refusal
   after_pattern _ = tokens_stay template >>= (λ _. names_free all_names pattern >>= (λ _. names_free all_names template))
 
-  pub pattern_changed : (error : SsrError) → TellsOf error (unless no_token (changed pattern)) → TellsOf error (check_sides pattern template)
+  pub pattern_glued : (error : SsrError) → TellsOf error (unless glued (glued_placeholder pattern)) → TellsOf error (check_sides pattern template)
   unfolding check_sides
-  pattern_changed error tells = tells_first (tokens_stay pattern) after_pattern error tells
+  pattern_glued error tells = tells_first (tokens_stay pattern) after_pattern error tells
 
-  pub template_changed : (error : SsrError) → unless no_token (changed pattern) ≡ Ok tt → TellsOf error (unless no_token (changed template)) → TellsOf error (check_sides pattern template)
+  pub template_glued : (error : SsrError) → unless glued (glued_placeholder pattern) ≡ Ok tt → TellsOf error (unless glued (glued_placeholder template)) → TellsOf error (check_sides pattern template)
   unfolding check_sides
-  template_changed error stays tells =
+  template_glued error stays tells =
       after_ok (λ r. TellsOf error r) (tokens_stay pattern) after_pattern tt stays
       (tells_first (tokens_stay template) (λ _. names_free all_names pattern >>= (λ _. names_free all_names template)) error tells)
 
-  pub pattern_reserved : (error : SsrError) (names : List (List ℕ)) → unless no_token (changed pattern) ≡ Ok tt → unless no_token (changed template) ≡ Ok tt → names ≡ names_of pattern ++ names_of template
+  pub pattern_reserved : (error : SsrError) (names : List (List ℕ)) → unless glued (glued_placeholder pattern) ≡ Ok tt → unless glued (glued_placeholder template) ≡ Ok tt → names ≡ names_of pattern ++ names_of template
       → TellsOf error (unless reserved (spelled_stand_in names pattern)) → TellsOf error (check_sides pattern template)
   unfolding check_sides
   pattern_reserved error names stays too are tells =
@@ -42,7 +42,7 @@ module _ (pattern template : List Element) where
       (tells_first (names_free all_names pattern) (λ _. names_free all_names template) error
       (subst (λ ns. TellsOf error (names_free ns pattern)) are tells)))
 
-  pub sides_checked : (result : Result (Unit {0}) SsrError) (names kept : List (List ℕ)) → unless no_token (changed pattern) ≡ Ok tt → unless no_token (changed template) ≡ Ok tt
+  pub sides_checked : (result : Result (Unit {0}) SsrError) (names kept : List (List ℕ)) → unless glued (glued_placeholder pattern) ≡ Ok tt → unless glued (glued_placeholder template) ≡ Ok tt
       → names ≡ names_of pattern ++ names_of template → unless reserved (spelled_stand_in names pattern) ≡ Ok tt → kept ≡ names
       → Answers result (unless reserved (spelled_stand_in kept template)) → Answers result (check_sides pattern template)
   unfolding check_sides
@@ -118,11 +118,11 @@ module _ (text : List ℕ) where
       after_ok (λ r. TellsOf error r) (sides text) after_split texts split
       (after_ok (λ r. TellsOf error r) (side texts.0) (after_side texts) pattern read (tells_first (side texts.1) (λ template. rule_of pattern template) error tells))
 
-  pub rule_read : (result : Result Rule SsrError) (texts : List ℕ × List ℕ) (pattern template kept changed : List Element) → sides text ≡ Ok texts → side texts.0 ≡ Ok pattern
-      → side texts.1 ≡ Ok template → kept ≡ pattern → changed ≡ template → Answers result (rule_of kept changed) → Answers result (rule_reading text)
+  pub rule_read : (result : Result Rule SsrError) (texts : List ℕ × List ℕ) (pattern template kept stayed : List Element) → sides text ≡ Ok texts → side texts.0 ≡ Ok pattern
+      → side texts.1 ≡ Ok template → kept ≡ pattern → stayed ≡ template → Answers result (rule_of kept stayed) → Answers result (rule_reading text)
   unfolding rule_reading
-  rule_read result texts pattern template kept changed split read too keeps stays answers =
+  rule_read result texts pattern template kept stayed split read too keeps stays answers =
       after_ok (λ r. Answers result r) (sides text) after_split texts split
       (after_ok (λ r. Answers result r) (side texts.0) (after_side texts) pattern read
       (after_ok (λ r. Answers result r) (side texts.1) (λ template. rule_of pattern template) template too
-      (subst (λ es. Answers result (rule_of pattern es)) stays (subst (λ es. Answers result (rule_of es changed)) keeps answers))))
+      (subst (λ es. Answers result (rule_of pattern es)) stays (subst (λ es. Answers result (rule_of es stayed)) keeps answers))))

@@ -1,7 +1,6 @@
 -- A pattern's tokens have each placeholder once.
-use Rattle.std.proofs.Common.{◌≡◌, ℕ, suc, ◌+◌, ◌^◌, Bool, true, false, ◌&&◌, cond, List, [], ◌∷◌, ◌++◌, map, length, All, nat_lt, Option, Some, None, Result, Ok, Err, refl, sym, ◌∙◌, ap, subst, arith, append_assoc, length-append, bytes_eq}
-use denote.Enum.Bare.{same_true}
-use Rattle.std.specs.List.{flat_map, list_any, position_from, range_with_len}
+use Rattle.std.proofs.Common.{◌≡◌, ℕ, suc, ◌+◌, ◌<◌, ◌^◌, Bool, true, false, ◌&&◌, cond, List, [], ◌∷◌, ◌++◌, map, length, All, nat_lt, Option, Some, None, Result, Ok, Err, refl, sym, ◌∙◌, ap, subst, arith, append_assoc, length-append, bytes_eq}
+use Rattle.std.specs.List.{AllByRecursion, flat_map, list_any, position_from, range_with_len}
 use Rattle.std.specs.Option.{option_map, option_map_or, option_or}
 use Rattle.std.specs.Result.{result_ok}
 use Rattle.std.specs.Str.{IsUtf8, trim}
@@ -9,27 +8,30 @@ use Rattle.std.proofs.lemmas.List.Elements.{All-nil, All-cons, All-head, All-tai
 use Rattle.std.proofs.lemmas.List.Folds.{list_any-append}
 use Rattle.std.proofs.lemmas.Slice.Eq.{bytes_eq-Decides}
 use Rattle.ssr_syntax_lex.specs.declared.kinds.SyntaxKind.{SyntaxKind}
-use Rattle.ssr_syntax_lex.specs.contracts.kinds.SyntaxKind.{the_type}
 use Rattle.ssr_syntax_lex.specs.declared.tokens.RawToken.{RawToken}
-use Rattle.ssr_syntax_lex.specs.Tokens.{tokens}
-use Rattle.ssr_syntax_tree.specs.Syntax.{Token, Syntax, tokens_of}
+use Rattle.ssr_syntax_lex.specs.Tokens.{tokens, TilesFrom}
+use Rattle.ssr_syntax_lex.proofs.Tiling.{tokens_tile, tiles_spell}
+use Rattle.ssr_syntax_lex.specs.Kinds.{same_kind}
+use Rattle.ssr_syntax_lex.proofs.SameKinds.{same_kind-equal}
+use Rattle.ssr_syntax_tree.specs.Syntax.{Token, Syntax, tokens_of, spelled, same_token}
 use Rattle.ssr_syntax.specs.declared.fragments.Fragment.TheVariants as fragments
 use Rattle.ssr_syntax.specs.declared.syntax_error.SyntaxError.{SyntaxError}
 use Rattle.ssr_syntax.specs.Reading.{pieces, fragment_reading, FitsFragment}
 use Rattle.ssr_syntax.proofs.Answers.{both}
 use Rattle.ssr_syntax.proofs.IdentTexts.{fragment_tokens, fragment_alone}
 use Rattle.ssr_syntax.proofs.Members.{neither}
+use Rattle.ssr_syntax.proofs.Texts.{length-token, tiles_within, spelled-pieces}
 use Rattle.ssr_syntax.proofs.TextLaws.{fragment_sound}
 use Rattle.ide_ssr_rules.specs.Resolving.{name_at}
 use Rattle.ide_ssr_rules.specs.declared.elements.Element.{Element}
 use Rattle.ide_ssr_rules.specs.declared.elements.Element.TheVariants as e
 use Rattle.ide_ssr_rules.specs.declared.kinds.ParsedRule.{ParsedRule}
-use Rattle.ide_ssr_rules.specs.Elements.{has, is_ident, lexed, names_of, token_of}
+use Rattle.ide_ssr_rules.specs.Elements.{has, is_ident, lexed, names_of}
 use Rattle.ide_ssr_rules.specs.Patterns.{or_below, HasEachOnce}
-use Rattle.ide_ssr_rules.specs.Refusals.{Refusal, ◌>>=◌, unless, no_token, reserved, no_meaning}
+use Rattle.ide_ssr_rules.specs.Refusals.{Refusal, ◌>>=◌, unless, glued, reserved, unresolved_path}
 use Rattle.ide_ssr_rules.specs.Resolving.{ResolvedKind, unresolved, resolved_kind, resolved_kinds}
 use Rattle.ide_ssr_rules.specs.Rules.{kind_of, expr_of, kinds_of, some_kind, check_sides}
-use Rattle.ide_ssr_rules.specs.StandIns.{stand_in_of, read_as, code_of, same_kind, same_token, first_changed, first_name, changed, is_stand_in, stand_in_text, spelled_stand_in}
+use Rattle.ide_ssr_rules.specs.StandIns.{stand_in_of, read_as, code_of, first_glued, first_name, glued_placeholder, is_stand_in, stand_in_text, spelled_stand_in}
 use Rattle.ide_ssr_rules.specs.Uses.{AreNew}
 use Rattle.ide_ssr_rules.proofs.Patterns.{named, placeholders_named}
 use Rattle.ide_ssr_rules.proofs.Uses.{went}
@@ -40,10 +42,9 @@ same_bytes : (xs ys : List ℕ) → bytes_eq xs ys ≡ true → xs ≡ ys
 same_bytes xs ys h = (bytes_eq-Decides xs ys).0 h
 
 same_tokens : (one other : Token) → same_token one other ≡ true → one ≡ other
-unfolding same_kind
 same_tokens one other h =
     let b = both (same_kind one.kind other.kind) (bytes_eq one.text other.text) h in
-    let kind : one.kind ≡ other.kind = same_true the_type tt one.kind other.kind b.0 in
+    let kind : one.kind ≡ other.kind = same_kind-equal one.kind other.kind b.0 in
     let text : one.text ≡ other.text = same_bytes one.text other.text b.1 in
     let token : SyntaxKind → List ℕ → Token = λ kind text. record { kind = kind; text = text } in
     ap (λ kind. token kind one.text) kind ∙ ap (token other.kind) text
@@ -52,13 +53,21 @@ goes_on : (same : Bool) (rest : Option (List ℕ)) (name : List ℕ) → cond sa
 goes_on true rest name h = (refl, h)
 goes_on false rest name h = cc
 
-read_tokens : (es : List Element) (ts : List Token) → first_changed es ts ≡ None → ts ≡ map read_as es
-read_tokens [] [] h = refl
-read_tokens [] (t ∷ ts) h = cc
-read_tokens (e ∷ es) [] h = cc
-read_tokens (e ∷ es) (t ∷ ts) h =
-    let g = goes_on (same_token (read_as e) t) (first_changed es ts) (first_name (e ∷ es)) h in
-    ap (λ u. u ∷ ts) (sym (same_tokens (read_as e) t g.0)) ∙ ap (λ us. read_as e ∷ us) (read_tokens es ts g.1)
+abbrev HasBytes : Token → Type 0
+HasBytes token = 0 < length token.text
+
+-- no token is left over, since each has a byte
+read_tokens : (es : List Element) (ts : List Token) → first_glued es ts ≡ None → AllByRecursion HasBytes ts
+    → length (spelled ts) ≡ length (code_of es) → ts ≡ map read_as es
+read_tokens [] [] h some long = refl
+read_tokens [] (t ∷ ts) h some long = absurd (omega (arith, long, some.0, length-append t.text (spelled ts)))
+read_tokens (e ∷ es) [] h some long = cc
+read_tokens (e ∷ es) (t ∷ ts) h some long =
+    let g = goes_on (same_token (read_as e) t) (first_glued es ts) (first_name (e ∷ es)) h in
+    let same : read_as e ≡ t = same_tokens (read_as e) t g.0 in
+    let rest : length (spelled ts) ≡ length (code_of es) =
+    omega (arith, long, length-append t.text (spelled ts), length-append (read_as e).text (code_of es), ap (λ (u : Token). length u.text) same) in
+    ap (λ u. u ∷ ts) (sym same) ∙ ap (λ us. read_as e ∷ us) (read_tokens es ts g.1 some.1 rest)
 
 -- ** Each placeholder is the stand-in of its name, and no other token is one.
 
@@ -128,34 +137,47 @@ each_from (e.Placeholder name ∷ es) before names others are new none =
 
 -- ** The tree of a side's text with stand-ins.
 
-lexed_same : (es : List Element) (o : Option (List Token)) → option_map_or (first_changed es) o (Some (first_name es)) ≡ None
-    → (ts : List Token) × (o ≡ Some ts) × (first_changed es ts ≡ None)
+lexed_same : (es : List Element) (o : Option (List Token)) → option_map_or (first_glued es) o (Some (first_name es)) ≡ None
+    → (ts : List Token) × (o ≡ Some ts) × (first_glued es ts ≡ None)
 lexed_same es None h = cc
 lexed_same es (Some ts) h = (ts, refl, h)
 
-unchanged : (es : List Element) → changed es ≡ None → (ts : List Token) × (lexed (code_of es) ≡ Some ts) × (ts ≡ map read_as es)
-unfolding changed
-unchanged es h = let same = lexed_same es (lexed (code_of es)) h in (same.0, same.1, read_tokens es same.0 same.2)
-
-raw_of : (text : List ℕ) (short : Bool) (o : Option (List RawToken)) (ts : List Token) → cond short (option_map (map (token_of text)) o) None ≡ Some ts
-    → (raw : List RawToken) × (o ≡ Some raw) × (ts ≡ map (token_of text) raw)
+raw_of : (text : List ℕ) (short : Bool) (o : Option (List RawToken)) (ts : List Token) → cond short (option_map (pieces text) o) None ≡ Some ts
+    → (raw : List RawToken) × (o ≡ Some raw) × (ts ≡ pieces text raw)
 raw_of text true (Some raw) ts h = (raw, refl, cc)
 raw_of text true None ts h = cc
 raw_of text false o ts h = cc
 
-pub lexed_raw : (text : List ℕ) (ts : List Token) → lexed text ≡ Some ts → (raw : List RawToken) × (tokens text ≡ Some raw) × (ts ≡ map (token_of text) raw)
+pub lexed_raw : (text : List ℕ) (ts : List Token) → lexed text ≡ Some ts → (raw : List RawToken) × (tokens text ≡ Some raw) × (ts ≡ pieces text raw)
 unfolding lexed
 lexed_raw text ts h = raw_of text (nat_lt (length text) (2 ^ 32)) (tokens text) ts h
+
+have_bytes : (text : List ℕ) (start : ℕ) (raw : List RawToken) → TilesFrom text start raw → AllByRecursion HasBytes (pieces text raw)
+have_bytes text start [] tiles = tt
+have_bytes text start (t ∷ raw) tiles =
+    let long = length-token text t start tiles.0 (tiles_within text t.range.end raw tiles.3) in
+    (omega (arith, long, tiles.1), have_bytes text t.range.end raw tiles.3)
+
+unchanged : (es : List Element) → IsUtf8 (code_of es) → glued_placeholder es ≡ None
+    → (ts : List Token) × (lexed (code_of es) ≡ Some ts) × (ts ≡ map read_as es)
+unfolding glued_placeholder
+unchanged es utf8 h =
+    let text = code_of es in
+    let same = lexed_same es (lexed text) h in
+    let r = lexed_raw text same.0 same.1 in
+    let tiles = tokens_tile text r.0 utf8 r.1 in
+    let spells : spelled same.0 ≡ text = ap spelled r.2 ∙ spelled-pieces text r.0 ∙ tiles_spell text r.0 tiles in
+    (same.0, same.1, read_tokens es same.0 same.2 (subst (AllByRecursion HasBytes) (sym r.2) (have_bytes text 0 r.0 tiles)) (ap length spells))
 
 one_raw : (one other : List RawToken) → ◌≡◌ {A = Option (List RawToken)} (Some one) (Some other) → one ≡ other
 one_raw one other h = cc
 
 -- the tokens of the tree are those that are read for the elements
-tree_tokens : (es : List Element) (tree : Syntax) → trim (code_of es) ≡ code_of es → changed es ≡ None
+tree_tokens : (es : List Element) (tree : Syntax) → IsUtf8 (code_of es) → trim (code_of es) ≡ code_of es → glued_placeholder es ≡ None
     → FitsFragment fragments.Expr (code_of es) tree → tokens_of tree ≡ map read_as es
-tree_tokens es tree is_trimmed same fits =
+tree_tokens es tree utf8 is_trimmed same fits =
     let text = code_of es in
-    let t = unchanged es same in
+    let t = unchanged es utf8 same in
     let r = lexed_raw text t.0 t.1 in
     let f = fragment_tokens fragments.Expr text tree fits in
     let raw : f.0 ≡ r.0 = one_raw f.0 r.0 (sym f.1 ∙ ap tokens is_trimmed ∙ r.1) in
@@ -166,7 +188,7 @@ read_ok (Ok other) tree h = cc
 read_ok (Err error) tree h = cc
 
 pub pattern_each : (es : List Element) (others : List (List ℕ)) (tree : Syntax) → IsUtf8 (code_of es) → trim (code_of es) ≡ code_of es
-    → AreNew [] (names_of es) → changed es ≡ None → spelled_stand_in (names_of es ++ others) es ≡ None
+    → AreNew [] (names_of es) → glued_placeholder es ≡ None → spelled_stand_in (names_of es ++ others) es ≡ None
     → expr_of (code_of es) ≡ Some tree → HasEachOnce (names_of es) tree
 pattern_each es others tree utf8 is_trimmed new same free read =
     let text = code_of es in
@@ -174,7 +196,7 @@ pattern_each es others tree utf8 is_trimmed new same free read =
     record {
       each =
           placeholders_named (names_of es) tree (fragment_alone fragments.Expr text tree sound.fits)
-          ∙ ap (flat_map (named (names_of es))) (tree_tokens es tree is_trimmed same sound.fits)
+          ∙ ap (flat_map (named (names_of es))) (tree_tokens es tree utf8 is_trimmed same sound.fits)
           ∙ each_from es [] (names_of es) others refl new free;
       different = new;
     }
@@ -197,20 +219,20 @@ all_unless refusal (Some x) h = cc
 
 -- what checked sides are
 record AreChecked (pattern template : List Element) : Type 0 where
-  same : changed pattern ≡ None
+  same : glued_placeholder pattern ≡ None
   free : spelled_stand_in (names_of pattern ++ names_of template) pattern ≡ None
 
 checked : (pattern template : List Element) → check_sides pattern template ≡ Ok tt → AreChecked pattern template
 unfolding check_sides
 checked pattern template h =
     let names = names_of pattern ++ names_of template in
-    let stays : List Element → Result (Unit {0}) Refusal = λ side. unless no_token (changed side) in
+    let stays : List Element → Result (Unit {0}) Refusal = λ side. unless glued (glued_placeholder side) in
     let free : List Element → Result (Unit {0}) Refusal = λ side. unless reserved (spelled_stand_in names side) in
     let first = went (stays pattern) (λ _. stays template >>= (λ _. free pattern >>= (λ _. free template))) tt h in
     let second = went (stays template) (λ _. free pattern >>= (λ _. free template)) tt first.next_is in
     let third = went (free pattern) (λ _. free template) tt second.next_is in
     record {
-      same = all_unless no_token (changed pattern) first.first_is;
+      same = all_unless glued (glued_placeholder pattern) first.first_is;
       free = all_unless reserved (spelled_stand_in names pattern) third.first_is;
     }
 
@@ -237,7 +259,7 @@ resolved_like : (names : List (List ℕ)) (kind : ParsedRule) (found : ResolvedK
 unfolding resolved_kind
 resolved_like names kind found h =
     let made : ResolvedKind = record { names = names; pattern = kind.pattern; template = kind.template } in
-    let paths : Syntax → Result (Unit {0}) Refusal = λ tree. unless no_meaning (unresolved names tree) in
+    let paths : Syntax → Result (Unit {0}) Refusal = λ tree. unless unresolved_path (unresolved names tree) in
     let first = went (paths kind.template) (λ _. paths kind.pattern >>= (λ _. Ok made)) found h in
     ok_same made found (went (paths kind.pattern) (λ _. Ok made) found first.next_is).next_is
 

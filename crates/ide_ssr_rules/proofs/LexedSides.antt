@@ -1,5 +1,5 @@
 -- What the lexer answers, as tokens with their texts.
-use Rattle.std.proofs.Common.{◌≡◌, ℕ, ◌+◌, ◌<◌, ◌≤◌, ◌^◌, List, [], map, length, nat_lt, Some, None, Err, arith, ap, ◌∙◌, sym, cond, false, take, get_or, subst, ◌∷◌}
+use Rattle.std.proofs.Common.{◌≡◌, ℕ, ◌+◌, ◌<◌, ◌≤◌, ◌^◌, List, [], length, nat_lt, Some, None, Err, arith, ap, ◌∙◌, sym, cond, false, take, get_or, subst, ◌∷◌}
 use Rattle.std.proofs.lemmas.List.{take_all}
 use Rattle.std.proofs.lemmas.Bool.{lt-ltb}
 use Rattle.std.proofs.lemmas.List.Elements.{All-get_or, All-from_recursion}
@@ -10,34 +10,35 @@ use Rattle.std.specs.Str.{IsCharBoundary}
 use Rattle.std.proofs.lemmas.Bool.Decides.{nat_tests}
 use Rattle.ssr_syntax_lex.specs.declared.tokens.RawToken.{RawToken}
 use Rattle.ssr_syntax_lex.specs.Tokens.{tokens, TilesFrom, Tiles}
+use Rattle.ssr_syntax.specs.Reading.{pieces}
 use Rattle.ssr_syntax_tree.specs.Syntax.{Token}
-use Rattle.ide_ssr_rules.specs.Elements.{lexed, token_of, side, elements, elements_of}
+use Rattle.ide_ssr_rules.specs.Elements.{lexed, side, elements, elements_of}
 use Rattle.ide_ssr_rules.specs.Refusals.{lexer_fault}
 use Rattle.std.specs.Option.{option_map}
 
-pub lexed-tokens : (text : List ℕ) (raw : List RawToken) → length text < 2 ^ 32 → tokens text ≡ Some raw → lexed text ≡ Some (map (token_of text) raw)
+pub lexed-tokens : (text : List ℕ) (raw : List RawToken) → length text < 2 ^ 32 → tokens text ≡ Some raw → lexed text ≡ Some (pieces text raw)
 unfolding lexed
 lexed-tokens text raw short is =
-    ap (λ b. cond b (option_map (map (token_of text)) (tokens text)) None) (lt-ltb (length text) (2 ^ 32) short)
-    ∙ ap (option_map (map (token_of text))) is
+    ap (λ b. cond b (option_map (pieces text) (tokens text)) None) (lt-ltb (length text) (2 ^ 32) short)
+    ∙ ap (option_map (pieces text)) is
 
 pub lexed-fault : (text : List ℕ) → length text < 2 ^ 32 → tokens text ≡ None → lexed text ≡ None
 unfolding lexed
 lexed-fault text short is =
-    ap (λ b. cond b (option_map (map (token_of text)) (tokens text)) None) (lt-ltb (length text) (2 ^ 32) short)
-    ∙ ap (option_map (map (token_of text))) is
+    ap (λ b. cond b (option_map (pieces text) (tokens text)) None) (lt-ltb (length text) (2 ^ 32) short)
+    ∙ ap (option_map (pieces text)) is
 
 pub lexed-long : (text : List ℕ) → 2 ^ 32 ≤ length text → lexed text ≡ None
 unfolding lexed
 lexed-long text long =
     let not_short : nat_lt (length text) (2 ^ 32) ≡ false = grind (arith, nat_tests) in
-    ap (λ b. cond b (option_map (map (token_of text)) (tokens text)) None) not_short
+    ap (λ b. cond b (option_map (pieces text) (tokens text)) None) not_short
 
 pub lexed-all : (text : List ℕ) (raw items : List RawToken) (found : List Token) (n : ℕ)
-    → length text < 2 ^ 32 → tokens text ≡ Some raw → items ≡ raw → found ≡ map (token_of text) (take n items) → length items ≤ n
+    → length text < 2 ^ 32 → tokens text ≡ Some raw → items ≡ raw → found ≡ pieces text (take n items) → length items ≤ n
     → lexed text ≡ Some found
 lexed-all text raw items found n short is same made all =
-    lexed-tokens text raw short is ∙ ap (λ ts. Some (map (token_of text) ts)) (sym same) ∙ ap (λ ts. Some (map (token_of text) ts)) (sym (take_all n items all)) ∙ ap Some (sym made)
+    lexed-tokens text raw short is ∙ ap (λ ts. Some (pieces text ts)) (sym same) ∙ ap (λ ts. Some (pieces text ts)) (sym (take_all n items all)) ∙ ap Some (sym made)
 
 pub side-tokens : (text : List ℕ) (found : List Token) → lexed text ≡ Some found → side text ≡ elements [] found
 unfolding side
@@ -75,7 +76,10 @@ tiles_few : (text : List ℕ) (start : ℕ) (raw : List RawToken) → TilesFrom 
 tiles_few text start [] is = omega (arith, is)
 tiles_few text start (t ∷ raw) tiles = omega (arith, tiles_few text t.range.end raw tiles.3, tiles.1)
 
+length-pieces : (text : List ℕ) (raw : List RawToken) → length (pieces text raw) ≡ length raw
+length-pieces text raw = length-map raw _
+
 pub lexed_few : (text : List ℕ) (raw items : List RawToken) (found : List Token) (n : ℕ)
-    → length text < 2 ^ 32 → Tiles text raw → items ≡ raw → found ≡ map (token_of text) (take n items) → length found < 2 ^ 32
+    → length text < 2 ^ 32 → Tiles text raw → items ≡ raw → found ≡ pieces text (take n items) → length found < 2 ^ 32
 lexed_few text raw items found n short tiles same made =
-    omega (arith, tiles_few text 0 raw tiles, ap length same, ap length made, length-map (take n items) (token_of text), length-take n items)
+    omega (arith, tiles_few text 0 raw tiles, ap length same, ap length made, length-pieces text (take n items), length-take n items)

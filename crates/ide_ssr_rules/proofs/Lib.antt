@@ -3,7 +3,7 @@ pub mod Splitting
 pub mod Telling
 pub mod ReadingElements
 pub mod Walking
-pub mod Changing
+pub mod StandIns
 pub mod Chains
 pub mod Nodes
 pub mod Resolved

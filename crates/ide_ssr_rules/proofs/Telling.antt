@@ -16,11 +16,6 @@ tells_first (Ok value) next errors.Memory tells = tells_memory (next value) erro
 tells_first (Ok value) next (errors.Message message) tells = absurd tells
 tells_first (Err refusal) next error tells = tells
 
--- an error that tells nothing of what is no refusal is want of memory
-pub tells_ok : {A B : Type 0} (one : A) (reading : Result B Refusal) (error : SsrError) → (let ok : Result A Refusal = Ok one in TellsOf error ok) → TellsOf error reading
-tells_ok one reading errors.Memory tells = tells_memory reading errors.Memory refl
-tells_ok one reading (errors.Message message) tells = absurd tells
-
 -- what holds of the reading that follows an accepted one holds of both together
 pub after_ok : {A B : Type 0} (P : Result B Refusal → Type 0) (first : Result A Refusal) (next : A → Result B Refusal) (value : A) → first ≡ Ok value → P (next value) → P (first >>= next)
 after_ok P first next value is holds = subst P (sym (ap (λ r. r >>= next) is)) holds

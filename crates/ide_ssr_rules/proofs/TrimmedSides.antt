@@ -1,5 +1,5 @@
 -- Without white space around a side, its text with stand-ins has none around it either.
-use Rattle.std.proofs.Common.{◌≡◌, ℕ, ◌<◌, ◌≤◌, Bool, true, false, not, ◌&&◌, ◌==◌, ◌⊎◌, inl, inr, cond, List, [], ◌∷◌, ◌++◌, map, length, take, Option, Some, None, Result, Ok, Err, IfOk, refl, sym, ◌∙◌, ap, subst, arith, append_assoc, append-nil, codes}
+use Rattle.std.proofs.Common.{◌≡◌, ℕ, ◌<◌, Bool, true, false, not, ◌&&◌, ◌==◌, ◌⊎◌, inl, inr, cond, List, [], ◌∷◌, ◌++◌, map, length, take, Option, Some, None, Result, Ok, Err, IfOk, refl, sym, ◌∙◌, ap, subst, arith, append_assoc, append-nil, codes}
 use Rattle.std.specs.List.{AllByRecursion, flat_map}
 use Rattle.std.specs.Char.{is_whitespace, is_not_whitespace, encode_utf8}
 use Rattle.std.specs.Str.{IsUtf8, chars, encode_utf8_all, all_scalars, EmptyOrStartsWithPassing, EmptyOrEndsWithPassing, IsTrim, skip_leading_whitespace, drop_trailing_whitespace, trim_start, trim_end, trim}
@@ -10,11 +10,12 @@ use Rattle.ssr_syntax_lex.specs.declared.tokens.RawToken.{RawToken}
 use Rattle.ssr_syntax_lex.specs.Tokens.{token_text, TilesFrom}
 use Rattle.ssr_syntax_lex.proofs.Tiling.{tokens_tile, tiles_spell}
 use Rattle.ssr_syntax_tree.specs.Syntax.{Token, spelled}
+use Rattle.ssr_syntax.specs.Reading.{pieces}
 use Rattle.ssr_syntax.proofs.Answers.{both, flipped}
 use Rattle.ssr_syntax.proofs.Texts.{length-token, tiled_texts, tiles_within, spelled-pieces}
 use Rattle.ide_ssr_rules.specs.declared.elements.Element.{Element}
 use Rattle.ide_ssr_rules.specs.declared.elements.Element.TheVariants as e
-use Rattle.ide_ssr_rules.specs.Elements.{token_of, lexed, is_dollar, is_ident, has, name_in, after, elements, elements_of, side}
+use Rattle.ide_ssr_rules.specs.Elements.{lexed, is_dollar, is_ident, has, name_in, after, elements, elements_of, side}
 use Rattle.ide_ssr_rules.specs.declared.error.SsrError.{SsrError}
 use Rattle.ide_ssr_rules.specs.Refusals.{Refusal, AnswersBy, ◌>>=◌, no_name, no_placeholder, repeated}
 use Rattle.ide_ssr_rules.specs.StandIns.{stand_in_of, read_as, code_of}
@@ -241,7 +242,7 @@ some_char text [] is h = absurd (omega (arith, ap length is))
 some_char text (c ∷ cs) is h = (c, cs, refl)
 
 have_texts : (text : List ℕ) (start : ℕ) (raw : List RawToken) → TilesFrom text start raw
-    → AllByRecursion (λ token. IsUtf8 token.text) (map (token_of text) raw) → AllByRecursion HasText (map (token_of text) raw)
+    → AllByRecursion (λ token. IsUtf8 token.text) (pieces text raw) → AllByRecursion HasText (pieces text raw)
 have_texts text start [] tiles utf8 = tt
 have_texts text start (t ∷ raw) tiles utf8 =
     let long = length-token text t start tiles.0 (tiles_within text t.range.end raw tiles.3) in
@@ -265,10 +266,10 @@ side_trimmed text es utf8 is_trimmed is =
     let raw : List RawToken = r.0 in
     let tiles = tokens_tile text raw utf8 r.1 in
     let texts = tiled_texts text 0 raw utf8 tiles in
-    let whole : chars text ≡ chars_of (map (token_of text) raw) =
-    ap chars (sym (spelled-pieces text raw ∙ tiles_spell text raw tiles)) ∙ chars-spelled (map (token_of text) raw) texts in
-    let like : Reads (map (token_of text) raw) es =
-    read_like [] (map (token_of text) raw) es (have_texts text 0 raw tiles texts) (ap (elements []) (sym r.2) ∙ read.2) in
+    let whole : chars text ≡ chars_of (pieces text raw) =
+    ap chars (sym (spelled-pieces text raw ∙ tiles_spell text raw tiles)) ∙ chars-spelled (pieces text raw) texts in
+    let like : Reads (pieces text raw) es =
+    read_like [] (pieces text raw) es (have_texts text 0 raw tiles texts) (ap (elements []) (sym r.2) ∙ read.2) in
     let cs = skip_leading_whitespace (chars text) in
     let dark : chars text ≡ drop_trailing_whitespace cs = ap chars (sym is_trimmed) ∙ chars-trim text utf8 in
     let begins : begins_dark (chars text) ≡ true = ap begins_dark dark ∙ begins_dropped cs (begins_skipped (chars text)) in

@@ -60,12 +60,12 @@ pub side_new : (text : List ℕ) (es : List Element) → side text ≡ Ok es →
 side_new text es is = subst (Fresh []) is (fresh_side text)
 
 -- an accepted reading's first part was accepted too
-pub record Went {A B : Type 0} (first : Result A Refusal) (next : A → Result B Refusal) (value : B) : Type 0 where
+pub record BothAccepted {A B : Type 0} (first : Result A Refusal) (next : A → Result B Refusal) (value : B) : Type 0 where
   pub found : A
   pub first_is : first ≡ Ok found
   pub next_is : next found ≡ Ok value
 
-pub went : {A B : Type 0} (first : Result A Refusal) (next : A → Result B Refusal) (value : B) → (first >>= next) ≡ Ok value → Went first next value
+pub went : {A B : Type 0} (first : Result A Refusal) (next : A → Result B Refusal) (value : B) → (first >>= next) ≡ Ok value → BothAccepted first next value
 went (Ok found) next value is = record { found = found; first_is = refl; next_is = is }
 went (Err refusal) next value is = absurd cc
 

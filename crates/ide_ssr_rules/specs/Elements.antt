@@ -1,13 +1,13 @@
 -- The elements of a side: its tokens and placeholders.
-use Rattle.std.specs.Prelude.{ℕ, ◌≡◌, Bool, true, false, ◌^◌, nat_lt, List, [], ◌∷◌, ◌++◌, map, length, Option, Some, None, Result, Ok, Err, bytes_eq, if◌then◌else◌}
+use Rattle.std.specs.Prelude.{ℕ, ◌≡◌, Bool, true, false, ◌^◌, nat_lt, List, [], ◌∷◌, ◌++◌, length, Option, Some, None, Result, Ok, Err, bytes_eq, if◌then◌else◌}
 use Rattle.std.specs.declared.alloc.Global.{Global}
 use Rattle.std.specs.declared.vec.Vec.{Vec}
 use Rattle.std.specs.List.{list_any, filter_map}
 use Rattle.std.specs.Option.{option_map}
 use Rattle.ssr_syntax_lex.specs.declared.kinds.SyntaxKind.{SyntaxKind}
 use Rattle.ssr_syntax_lex.specs.declared.kinds.SyntaxKind.TheVariants as k
-use Rattle.ssr_syntax_lex.specs.declared.tokens.RawToken.{RawToken}
-use Rattle.ssr_syntax_lex.specs.Tokens.{tokens, token_text}
+use Rattle.ssr_syntax_lex.specs.Tokens.{tokens}
+use Rattle.ssr_syntax.specs.Reading.{pieces}
 use Rattle.ssr_syntax_tree.specs.Syntax.{Token}
 use Rattle.ide_ssr_rules.specs.declared.elements.Element.{Element}
 use Rattle.ide_ssr_rules.specs.declared.elements.Element.TheVariants as e
@@ -15,13 +15,9 @@ use Rattle.ide_ssr_rules.specs.declared.tokens.Unlexed.{Unlexed}
 use Rattle.ide_ssr_rules.specs.declared.tokens.Unlexed.TheVariants as u
 use Rattle.ide_ssr_rules.specs.Refusals.{Refusal, ◌>>=◌, lexer_fault, no_name, no_placeholder, repeated}
 
--- a raw token of a text, with its text
-abbrev pub token_of : List ℕ → RawToken → Token
-token_of text raw = record { kind = raw.kind; text = token_text text raw }
-
 -- the tokens of a text; none where the lexer refuses it, for its length too
 unfoldable pub lexed : List ℕ → Option (List Token)
-lexed text = if nat_lt (length text) (2 ^ 32) then option_map (map (token_of text)) (tokens text) else None
+lexed text = if nat_lt (length text) (2 ^ 32) then option_map (pieces text) (tokens text) else None
 
 -- what lexing answers, seen as tokens with texts
 abbrev pub IsLexed : Result (Vec Token Global) Unlexed → List ℕ → Type 0

@@ -10,11 +10,11 @@ pub data Refusal : Type 0 where
   no_name : Refusal
   no_placeholder : Refusal
   repeated : List ℕ → Refusal
-  no_token : List ℕ → Refusal
+  glued : List ℕ → Refusal
   reserved : List ℕ → Refusal
   no_kind : Refusal
   undefined : List (List ℕ) → Refusal
-  no_meaning : List ℕ → Refusal
+  unresolved_path : List ℕ → Refusal
 
 -- names as a user writes them: `$a, $b`
 abbrev pub mark : ℕ → List ℕ
@@ -35,11 +35,11 @@ words lexer_fault = codes "Failed to parse pattern: "
 words no_name = codes "Placeholder ($) with no name"
 words no_placeholder = codes "Placeholders should either be $name or ${name:constraints}"
 words (repeated name) = codes "Placeholder `$" ++ (name ++ codes "` repeats more than once")
-words (no_token name) = codes "Placeholder `$" ++ (name ++ codes "` isn't a token of its own")
+words (glued name) = codes "Placeholder `$" ++ (name ++ codes "` isn't a token of its own")
 words (reserved text) = codes "Name `" ++ (text ++ codes "` is reserved")
 words no_kind = codes "Not a valid Rust expression, type, item, path or pattern"
 words (undefined names) = codes "Replacement contains undefined placeholders: " ++ listed names
-words (no_meaning path) = codes "Failed to resolve path `" ++ (path ++ codes "`")
+words (unresolved_path path) = codes "Failed to resolve path `" ++ (path ++ codes "`")
 
 -- whether a message is that of a refusal
 abbrev pub Says : Refusal → List ℕ → Type 0

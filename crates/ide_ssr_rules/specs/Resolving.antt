@@ -5,12 +5,14 @@ use Rattle.std.specs.List.{find, position_from}
 use Rattle.std.specs.Option.{is_none, option_map, option_and_then}
 use Rattle.ssr_syntax_lex.specs.declared.kinds.SyntaxKind.{SyntaxKind}
 use Rattle.ssr_syntax_lex.specs.declared.kinds.SyntaxKind.TheVariants as k
+use Rattle.ssr_syntax.specs.declared.fragments.Fragment.{Fragment}
+use Rattle.ssr_syntax.specs.declared.fragments.Fragment.TheVariants as fragments
 use Rattle.ssr_syntax_tree.specs.Places.{Node, nodes_of, text_of}
 use Rattle.ssr_syntax_tree.specs.Syntax.{Token, Forest, nothing, leaf, branch, Syntax}
 use Rattle.ssr_syntax_tree.specs.SyntaxCode.{syntax_code}
 use Rattle.ide_ssr_rules.specs.declared.kinds.ParsedRule.{ParsedRule}
 use Rattle.ide_ssr_rules.specs.Elements.{is_ident}
-use Rattle.ide_ssr_rules.specs.Refusals.{Refusal, ◌>>=◌, unless, no_meaning}
+use Rattle.ide_ssr_rules.specs.Refusals.{Refusal, ◌>>=◌, unless, unresolved_path}
 use Rattle.ide_ssr_rules.specs.StandIns.{stand_in_of}
 
 -- one kind of a rule whose paths resolve
@@ -18,6 +20,10 @@ pub record ResolvedKind : Type 0 where
   pub names : List (List ℕ)
   pub pattern : Syntax
   pub template : Syntax
+
+-- a template's category, the kind that it was read as: expressions alone so far
+abbrev pub category : ResolvedKind → Fragment
+category kind = fragments.Expr
 
 -- the only token of siblings, reached through single children
 abbrev pub only_token : Forest → Option Token
@@ -54,15 +60,17 @@ unresolved names tree = option_map text_of (find (is_unresolved names) (nodes_of
 -- a kind is resolved with its template first
 unfoldable pub resolved_kind : List (List ℕ) → ParsedRule → Result ResolvedKind Refusal
 resolved_kind names kind = do
-  _ ← unless no_meaning (unresolved names kind.template)
-  _ ← unless no_meaning (unresolved names kind.pattern)
+  _ ← unless unresolved_path (unresolved names kind.template)
+  _ ← unless unresolved_path (unresolved names kind.pattern)
   Ok (record { names = names; pattern = kind.pattern; template = kind.template })
 
 -- kinds are resolved in their order
 abbrev pub resolved_kinds : List (List ℕ) → List ParsedRule → Result (List ResolvedKind) Refusal
 resolved_kinds names [] = Ok []
-resolved_kinds names (kind ∷ kinds) =
-    resolved_kind names kind >>= (λ first. resolved_kinds names kinds >>= (λ rest. Ok (first ∷ rest)))
+resolved_kinds names (kind ∷ kinds) = do
+  first ← resolved_kind names kind
+  rest ← resolved_kinds names kinds
+  Ok (first ∷ rest)
 
 -- how the logic stores a resolved kind
 abbrev pub resolved_code : Coded ResolvedKind

@@ -10,13 +10,9 @@ use Rattle.ssr_syntax_tree.specs.SyntaxCode.{syntax_code}
 use Rattle.ide_ssr_rules.specs.declared.elements.Element.{Element}
 use Rattle.ide_ssr_rules.specs.declared.kinds.ParsedRule.{ParsedRule}
 use Rattle.ide_ssr_rules.specs.Elements.{has, side, names_of}
-use Rattle.ide_ssr_rules.specs.Refusals.{Refusal, ◌>>=◌, unless, no_token, reserved, no_kind, undefined}
+use Rattle.ide_ssr_rules.specs.Refusals.{Refusal, ◌>>=◌, unless, glued, reserved, no_kind, undefined}
 use Rattle.ide_ssr_rules.specs.Sides.{sides}
-use Rattle.ide_ssr_rules.specs.StandIns.{code_of, changed, spelled_stand_in}
--- what the crates above cite of rules, from one place
-pub use Rattle.ide_ssr_rules.specs.declared.kinds.ParsedRule.{ParsedRule as Kind}
-pub use Rattle.ide_ssr_rules.specs.StandIns.{stand_in_of}
-pub use Rattle.ide_ssr_rules.specs.Resolving.{ResolvedKind, placeholder_at, unresolved}
+use Rattle.ide_ssr_rules.specs.StandIns.{code_of, glued_placeholder, spelled_stand_in}
 
 pub record Rule : Type 0 where
   pub names : List (List ℕ)
@@ -61,8 +57,8 @@ check_defined names used = none_of (lacking names used)
 -- placeholders and the identifiers beside them are told apart where a side is read with stand-ins
 unfoldable pub check_sides : List Element → List Element → Result (Unit {0}) Refusal
 check_sides pattern template = do
-  _ ← unless no_token (changed pattern)
-  _ ← unless no_token (changed template)
+  _ ← unless glued (glued_placeholder pattern)
+  _ ← unless glued (glued_placeholder template)
   _ ← unless reserved (spelled_stand_in (names_of pattern ++ names_of template) pattern)
   unless reserved (spelled_stand_in (names_of pattern ++ names_of template) template)
 

@@ -2,11 +2,8 @@
 use Rattle.std.specs.Prelude.{ℕ, Bool, ◌&&◌, List, [], ◌∷◌, ◌++◌, Option, Some, None, bytes_eq, codes, unwrap_or, if◌then◌else◌}
 use Rattle.std.specs.List.{list_any, flat_map}
 use Rattle.std.specs.Option.{option_map_or, option_or}
-use denote.Enum.Bare.{sameb}
-use Rattle.ssr_syntax_lex.specs.declared.kinds.SyntaxKind.{SyntaxKind}
 use Rattle.ssr_syntax_lex.specs.declared.kinds.SyntaxKind.TheVariants as k
-use Rattle.ssr_syntax_lex.specs.contracts.kinds.SyntaxKind.{the_type}
-use Rattle.ssr_syntax_tree.specs.Syntax.{Token}
+use Rattle.ssr_syntax_tree.specs.Syntax.{Token, same_token}
 use Rattle.ide_ssr_rules.specs.declared.elements.Element.{Element}
 use Rattle.ide_ssr_rules.specs.declared.elements.Element.TheVariants as e
 use Rattle.ide_ssr_rules.specs.Elements.{lexed, is_ident, name_of}
@@ -23,12 +20,6 @@ read_as (e.Placeholder name) = record { kind = k.IDENT; text = stand_in_of name 
 abbrev pub code_of : List Element → List ℕ
 code_of elements = flat_map (λ element. (read_as element).text) elements
 
-unfoldable pub same_kind : SyntaxKind → SyntaxKind → Bool
-same_kind one other = sameb the_type one other
-
-abbrev pub same_token : Token → Token → Bool
-same_token one other = same_kind one.kind other.kind && bytes_eq one.text other.text
-
 -- what the first element gives that gives something
 abbrev pub first_of : {X : Type 0} → (Element → Option X) → List Element → Option X
 first_of find [] = None
@@ -39,17 +30,17 @@ abbrev pub first_name : List Element → List ℕ
 first_name elements = unwrap_or (first_of name_of elements) []
 
 -- which placeholder isn't a token of its own, where the text with stand-ins has these tokens:
--- the first at or after the first token that differs
-abbrev pub first_changed : List Element → List Token → Option (List ℕ)
-first_changed [] [] = None
-first_changed [] (token ∷ tokens) = Some []
-first_changed (element ∷ elements) [] = Some (first_name (element ∷ elements))
-first_changed (element ∷ elements) (token ∷ tokens) =
-    if same_token (read_as element) token then first_changed elements tokens else Some (first_name (element ∷ elements))
+-- the first at or after the first token that differs. Elements and tokens spell the same text, so if no element
+-- differs, no token is left.
+abbrev pub first_glued : List Element → List Token → Option (List ℕ)
+first_glued [] tokens = None
+first_glued (element ∷ elements) [] = Some (first_name (element ∷ elements))
+first_glued (element ∷ elements) (token ∷ tokens) =
+    if same_token (read_as element) token then first_glued elements tokens else Some (first_name (element ∷ elements))
 
 -- the same of a side: its first placeholder, if the text with stand-ins doesn't lex
-unfoldable pub changed : List Element → Option (List ℕ)
-changed elements = option_map_or (first_changed elements) (lexed (code_of elements)) (Some (first_name elements))
+unfoldable pub glued_placeholder : List Element → Option (List ℕ)
+glued_placeholder elements = option_map_or (first_glued elements) (lexed (code_of elements)) (Some (first_name elements))
 
 abbrev pub is_stand_in : List (List ℕ) → List ℕ → Bool
 is_stand_in names text = list_any (λ name. bytes_eq text (stand_in_of name)) names

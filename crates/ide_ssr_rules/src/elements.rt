@@ -1,3 +1,5 @@
+//! The elements of a side.
+
 use crate::tokens::{Name, Token};
 
 /// A part of a side.

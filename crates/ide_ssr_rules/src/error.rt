@@ -1,3 +1,4 @@
+//! Why a rule is refused, in words for a user.
 ghost use Rattle.std.specs.Prelude.{◌≡◌, ◌++◌, Some, MatchResult, IfOk, string_bytes};
 ghost use Rattle.ide_ssr_rules.specs.Refusals.{listed, mark};
 ghost use Rattle.ide_ssr_rules.specs.declared.error.SsrError.TheVariants as errors;
@@ -64,7 +65,7 @@ fn told(message: Result<String, AllocError>) -> SsrError
 
 // The refusals of a rule text, each in its words.
 impl SsrError {
-    ghost use Rattle.ide_ssr_rules.specs.Refusals.{Tells, no_delimiter, second_delimiter, lexer_fault, no_name, no_placeholder, repeated, no_token, reserved, no_kind, undefined, no_meaning};
+    ghost use Rattle.ide_ssr_rules.specs.Refusals.{Tells, no_delimiter, second_delimiter, lexer_fault, no_name, no_placeholder, repeated, glued, reserved, no_kind, undefined, unresolved_path};
 
     pub(crate) fn no_delimiter(alloc: Global) -> SsrError
         ensures { Tells result no_delimiter }
@@ -109,8 +110,8 @@ impl SsrError {
         told(format!(in alloc; "Placeholder `${name}` repeats more than once"))
     }
 
-    pub(crate) fn no_token(alloc: Global, name: &str) -> SsrError
-        ensures { Tells result (no_token name.now) }
+    pub(crate) fn glued(alloc: Global, name: &str) -> SsrError
+        ensures { Tells result (glued name.now) }
     {
         told(format!(in alloc; "Placeholder `${name}` isn't a token of its own"))
     }
@@ -130,8 +131,8 @@ impl SsrError {
         ))
     }
 
-    pub(crate) fn no_meaning(alloc: Global, path: &str) -> SsrError
-        ensures { Tells result (no_meaning path.now) }
+    pub(crate) fn unresolved_path(alloc: Global, path: &str) -> SsrError
+        ensures { Tells result (unresolved_path path.now) }
     {
         told(format!(in alloc; "Failed to resolve path `{path}`"))
     }
@@ -164,4 +165,17 @@ fn mark(place: usize) -> &'static str
     ensures { result.now ≡ mark place }
 {
     if place == 0 { "$" } else { ", $" }
+}
+
+#[cfg(test)]
+mod tests {
+    use super::*;
+    use std::test::Fail;
+
+    #[test]
+    fn want_of_memory_has_its_words(rt: HostRuntime) -> Result<(), Fail> {
+        let told = SsrError::Memory.to_string(rt.alloc())?;
+        assert_eq!(rt; told.as_str(), "out of memory");
+        Ok(())
+    }
 }

@@ -1,3 +1,5 @@
+//! The kinds of a rule.
+
 use ssr_syntax_tree::Tree;
 
 /// A pattern and a template of one kind.

@@ -1,9 +1,10 @@
+//! Rules whose paths resolve, kind by kind.
 ghost use Rattle.std.specs.Prelude.{◌≡◌, ◌<◌, ◌^◌, length, map, string_bytes, All, IfOk};
 ghost use Rattle.std.specs.Option.{option_copied};
 ghost use Rattle.ssr_syntax_tree.specs.Places.{HasNode, HasToken, node_of, token_of};
 ghost use Rattle.ide_ssr_rules.specs.Patterns.{HasEachOnce};
-ghost use Rattle.ide_ssr_rules.specs.Refusals.{Answers, AnswersBy, unless, no_meaning};
-ghost use Rattle.ide_ssr_rules.specs.Resolving.{name_at, placeholder_at, is_path, is_unresolved, unresolved, resolved_kind, resolved_kinds};
+ghost use Rattle.ide_ssr_rules.specs.Refusals.{Answers, AnswersBy, unless, unresolved_path};
+ghost use Rattle.ide_ssr_rules.specs.Resolving.{name_at, placeholder_at, is_unresolved, unresolved, resolved_kind, resolved_kinds};
 
 use crate::error::SsrError;
 use crate::kinds::ParsedRule;
@@ -47,12 +48,14 @@ impl ResolvedRule {
         self.names.as_slice()
     }
 
+    /// What matches have to look like, with stand-ins for placeholders.
     pub fn pattern(&self) -> &Tree
         ensures { result.now ≡ self.now.pattern }
     {
         &self.pattern
     }
 
+    /// What takes a match's place, with stand-ins for placeholders.
     pub fn template(&self) -> &Tree
         ensures { result.now ≡ self.now.template }
     {
@@ -67,7 +70,7 @@ impl ResolvedRule {
         self.in_pattern[node.0 as usize]
     }
 
-    /// The same of a token of the template.
+    /// Which placeholder a token of the template is: the place of its name among the names.
     pub fn template_placeholder(&self, token: TokenNo) -> Option<u32>
         requires { HasToken self.now.template token.0 }
         ensures { result ≡ name_at self.now.names (token_of self.now.template token.0) }
@@ -77,7 +80,7 @@ impl ResolvedRule {
 }
 
 impl SsrRule {
-    /// The kinds of the rule in their order, or why one of its paths has no meaning. The pattern of each kind has
+    /// The kinds of the rule in their order, or which of its paths doesn't resolve. The pattern of each kind has
     /// each placeholder once.
     pub fn resolve(self, alloc: Global) -> Result<Vec<ResolvedRule>, SsrError>
         ensures kinds { AnswersBy (λ v. v.items) result (resolved_kinds self.names self.kinds) }
@@ -85,8 +88,7 @@ impl SsrRule {
     {
         let SsrRule { names, kinds } = self;
         let mut resolved = Vec::new(alloc);
-        let mut kinds = kinds.into_iter();
-        while let Some(kind) = kinds.next() {
+        for kind in kinds {
             resolved.push(resolved_kind(alloc, names.as_slice(), kind)?)?;
         }
         Ok(resolved)
@@ -126,12 +128,13 @@ fn copied(alloc: Global, names: &[String]) -> Result<Vec<String>, AllocError>
     Ok(copies)
 }
 
+/// Refuses the first path that has to resolve and doesn't.
 fn check_paths(alloc: Global, names: &[String], tree: &Tree) -> Result<(), SsrError>
     requires { length names.now < 2 ^ 32 }
-    ensures { Answers result (unless no_meaning (unresolved (map string_bytes names.now) tree.now)) }
+    ensures { Answers result (unless unresolved_path (unresolved (map string_bytes names.now) tree.now)) }
 {
     match unresolved(names, tree) {
-        Some(path) => Err(SsrError::no_meaning(alloc, path)),
+        Some(path) => Err(SsrError::unresolved_path(alloc, path)),
         None => Ok(()),
     }
 }
@@ -150,6 +153,7 @@ fn unresolved<'a>(names: &[String], tree: &'a Tree) -> Option<&'a str>
     None
 }
 
+/// Whether a node is a path that has to resolve and doesn't.
 fn is_unresolved(names: &[String], tree: &Tree, node: NodeNo) -> bool
     requires few { length names.now < 2 ^ 32 }
     requires has { HasNode tree.now node.0 }

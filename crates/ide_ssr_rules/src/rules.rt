@@ -1,17 +1,17 @@
+//! Rules, read from their texts.
 ghost use Rattle.std.specs.Prelude.{◌≡◌, ◌<◌, ◌^◌, ◌++◌, [], length, map, string_bytes, IfOk};
-ghost use Rattle.std.specs.Option.{option_copied};
 ghost use Rattle.std.specs.Str.{IsUtf8, trim};
 ghost use Rattle.ide_ssr_rules.specs.Elements.{names_of};
-ghost use Rattle.ide_ssr_rules.specs.Refusals.{Answers, AnswersBy, unless, no_token, reserved};
+ghost use Rattle.ide_ssr_rules.specs.Refusals.{Answers, AnswersBy, unless, glued, reserved};
 ghost use Rattle.ide_ssr_rules.specs.Rules.{expr_of, kinds_of, some_kind, lacking, check_sides, check_defined, rule_of, rule_reading};
 ghost use Rattle.ide_ssr_rules.specs.Uses.{AreNew, UsesPlaceholdersOnce};
-ghost use Rattle.ide_ssr_rules.specs.StandIns.{code_of, changed, spelled_stand_in};
+ghost use Rattle.ide_ssr_rules.specs.StandIns.{code_of, glued_placeholder, spelled_stand_in};
 
 use crate::elements::Element;
 use crate::error::SsrError;
 use crate::kinds::ParsedRule;
 use crate::sides::{has, push_names, side, sides};
-use crate::stand_ins::{changed, code_of, spelled_stand_in};
+use crate::stand_ins::{code_of, glued_placeholder, spelled_stand_in};
 use crate::tokens::Name;
 use ssr_syntax::{Fragment, SyntaxError, fragment};
 use ssr_syntax_tree::Tree;
@@ -53,6 +53,7 @@ impl SsrRule {
     }
 }
 
+/// The rule that a text says.
 fn rule_of_text(alloc: Global, text: &str) -> Result<SsrRule, SsrError>
     ensures { Answers result (rule_reading text.now) }
 {
@@ -130,15 +131,17 @@ fn owned(alloc: Global, names: &[Name<'_>]) -> Result<Vec<String>, AllocError>
     Ok(texts)
 }
 
+/// Refuses a placeholder that isn't a token of its own.
 fn check_tokens(alloc: Global, elements: &[Element<'_>]) -> Result<(), SsrError>
-    ensures { Answers result (unless no_token (changed elements.now)) }
+    ensures { Answers result (unless glued (glued_placeholder elements.now)) }
 {
-    match changed(alloc, elements)? {
-        Some(name) => Err(SsrError::no_token(alloc, name)),
+    match glued_placeholder(alloc, elements)? {
+        Some(name) => Err(SsrError::glued(alloc, name)),
         None => Ok(()),
     }
 }
 
+/// Refuses an identifier that is spelled as a stand-in of one of the names.
 fn check_reserved(
     alloc: Global,
     names: &[Name<'_>],
@@ -152,17 +155,14 @@ fn check_reserved(
     }
 }
 
-/// The tree of a text that is an expression.
+/// The tree of a text, if it is an expression.
 fn expr_of(alloc: Global, text: &str) -> Result<Option<Tree>, AllocError>
     ensures { IfOk result (λ tree. tree ≡ expr_of text.now) }
 {
     match fragment(alloc, Fragment::Expr, text) {
         Ok((tree, _)) => Ok(Some(tree)),
         Err(SyntaxError::Memory) => Err(AllocError),
-        Err(SyntaxError::Lex) => Ok(None),
-        Err(SyntaxError::NoTree) => Ok(None),
-        Err(SyntaxError::TooDeep) => Ok(None),
-        Err(SyntaxError::TooLong) => Ok(None),
+        Err(_) => Ok(None),
     }
 }
 
@@ -211,14 +211,14 @@ fn lacking<'a>(
     let mut lacking = Vec::new(alloc);
     for name in used {
         let text = name.text;
-        if has(names, text) {
-            continue;
+        if !has(names, text) {
+            lacking.push(Name { text })?;
         }
-        lacking.push(Name { text })?;
     }
     Ok(lacking)
 }
 
+/// Refuses used names that are not among the names.
 fn check_defined(alloc: Global, names: &[Name<'_>], used: &[Name<'_>]) -> Result<(), SsrError>
     ensures { Answers result (check_defined names.now used.now) }
 {

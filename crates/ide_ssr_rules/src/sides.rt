@@ -1,3 +1,4 @@
+//! The two sides of a rule text, and the elements of a side.
 ghost use Rattle.std.specs.Prelude.{◌≡◌, ◌<◌, ◌≤◌, ◌^◌, ◌++◌, [], length, IfOk, OnOk};
 ghost use Rattle.std.specs.Str.{trim};
 ghost use Rattle.ide_ssr_rules.specs.Elements.{has, name_in, elements, side, names_of};
@@ -91,11 +92,9 @@ pub(crate) fn push_names<'a>(
     ensures { OnOk result (names.new.items ≡ names.old.items ++ names_of elements.now) }
 {
     for element in elements {
-        let Element::Placeholder(name) = element else {
-            continue;
-        };
-        let text = name.text;
-        names.push(Name { text })?;
+        if let Element::Placeholder(name) = element {
+            names.push(Name { text: name.text })?;
+        }
     }
     Ok(())
 }

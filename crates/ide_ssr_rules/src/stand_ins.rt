@@ -1,6 +1,8 @@
-ghost use Rattle.std.specs.Prelude.{◌≡◌, ◌++◌, [], IfOk, OnOk, bytes_eq, string_bytes};
+//! Stand-ins: the identifiers that are read in the place of placeholders.
+ghost use Rattle.std.specs.Prelude.{◌≡◌, ◌++◌, IfOk, OnOk, bytes_eq, string_bytes};
 ghost use Rattle.std.specs.Option.{option_copied};
-ghost use Rattle.ide_ssr_rules.specs.StandIns.{stand_in_of, read_as, code_of, same_token, first_name, first_changed, changed, is_stand_in, stand_in_text, spelled_stand_in};
+ghost use Rattle.ssr_syntax_tree.specs.Syntax.{same_token};
+ghost use Rattle.ide_ssr_rules.specs.StandIns.{stand_in_of, read_as, code_of, first_name, first_glued, glued_placeholder, is_stand_in, stand_in_text, spelled_stand_in};
 
 use crate::elements::Element;
 use crate::tokens::{Name, Token, Unlexed, lexed};
@@ -42,15 +44,13 @@ impl<'a> Element<'a> {
     }
 
     /// Whether the token is the one that is read for the element.
-    #[tactic(auto, unfolding(crate::specs::StandIns::same_kind))]
     fn is_read_as(&self, token: &Token<'_>) -> bool
         ensures { result ≡ same_token (read_as self.now) token.now }
     {
         match self {
-            Element::Token(own) => own.kind == token.kind && own.text == token.text,
+            Element::Token(own) => own.kind.is(token.kind) && own.text == token.text,
             Element::Placeholder(name) => {
-                let kind = SyntaxKind::IDENT;
-                kind == token.kind && is_stand_in_of(token.text, name.text)
+                token.is_ident() && is_stand_in_of(token.text, name.text)
             }
         }
     }
@@ -95,34 +95,27 @@ fn first_name<'a>(elements: &[Element<'a>]) -> &'a str
 }
 
 /// The first placeholder at or behind the first element that isn't read as its own token.
-fn first_changed<'a>(elements: &[Element<'a>], tokens: &[Token<'_>]) -> Option<&'a str>
-    ensures { option_copied result ≡ first_changed elements.now tokens.now }
+fn first_glued<'a>(elements: &[Element<'a>], tokens: &[Token<'_>]) -> Option<&'a str>
+    ensures { option_copied result ≡ first_glued elements.now tokens.now }
 {
     for (place, element) in elements.iter().enumerate() {
-        if place >= tokens.len() {
-            return Some(first_name(&elements[place..]));
-        }
-        if !element.is_read_as(&tokens[place]) {
+        if place >= tokens.len() || !element.is_read_as(&tokens[place]) {
             return Some(first_name(&elements[place..]));
         }
     }
-    if elements.len() < tokens.len() {
-        Some("")
-    } else {
-        None
-    }
+    None
 }
 
 /// The name of a placeholder that isn't a token of its own.
-pub(crate) fn changed<'a>(
+pub(crate) fn glued_placeholder<'a>(
     alloc: Global,
     elements: &[Element<'a>],
 ) -> Result<Option<&'a str>, AllocError>
-    ensures { IfOk result (λ name. option_copied name ≡ changed elements.now) }
+    ensures { IfOk result (λ name. option_copied name ≡ glued_placeholder elements.now) }
 {
     let code = code_of(alloc, elements)?;
     match lexed(alloc, code.as_str()) {
-        Ok(tokens) => Ok(first_changed(elements, tokens.as_slice())),
+        Ok(tokens) => Ok(first_glued(elements, tokens.as_slice())),
         Err(Unlexed::Fault(_)) => Ok(Some(first_name(elements))),
         Err(Unlexed::Memory) => Err(AllocError),
     }

@@ -1,3 +1,4 @@
+//! The tokens of a side.
 ghost use Rattle.std.specs.Prelude.{◌≡◌, ◌<◌, ◌^◌, length, IfOk};
 ghost use Rattle.ide_ssr_rules.specs.Elements.{IsLexed};
 
@@ -61,6 +62,7 @@ impl<'a> Model for Name<'a> {
 pub(crate) enum Unlexed {
     /// The lexer refuses it; this is never its want of memory.
     Fault(LexError),
+    /// Memory ran out.
     Memory,
 }
 

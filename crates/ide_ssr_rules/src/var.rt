@@ -1,3 +1,4 @@
+//! Variables of a rule, as a user writes them.
 ghost use Rattle.std.specs.Prelude.{◌++◌, Some, codes, string_bytes};
 
 use std::fmt;

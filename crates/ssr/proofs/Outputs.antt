@@ -5,7 +5,7 @@ use Rattle.std.proofs.lemmas.Str.{IsUtf8-from_is_utf8, is_utf8-from_IsUtf8}
 use Rattle.ssr_syntax_tree.specs.Syntax.{Syntax}
 use Rattle.ssr_syntax.specs.declared.syntax_error.SyntaxError.{SyntaxError}
 use Rattle.ssr_syntax.specs.Reading.{file_reading}
-use Rattle.ide_ssr_rules.specs.Refusals.{Refusal, no_delimiter, second_delimiter, lexer_fault, no_name, no_placeholder, repeated, no_token, reserved, no_kind, undefined, no_meaning, Says, words}
+use Rattle.ide_ssr_rules.specs.Refusals.{Refusal, no_delimiter, second_delimiter, lexer_fault, no_name, no_placeholder, repeated, glued, reserved, no_kind, undefined, unresolved_path, Says, words}
 use Rattle.ide_ssr_rules.specs.Resolving.{ResolvedKind}
 use Rattle.ide_ssr.specs.Edits.{rewritten_file}
 use Rattle.ssr.specs.Output.{Output, IsOutput, no_text, no_file, no_rules, rewritten, rule_refused, written, input_refused, words_of, rules_reading}
@@ -18,11 +18,11 @@ said second_delimiter = refl
 said no_name = refl
 said no_placeholder = refl
 said (repeated x) = refl
-said (no_token x) = refl
+said (glued x) = refl
 said (reserved x) = refl
 said no_kind = refl
 said (undefined x) = refl
-said (no_meaning x) = refl
+said (unresolved_path x) = refl
 
 module _ (rules : List (List ℕ)) (bytes : List ℕ) where
   by_rules : (code : Syntax) → IsUtf8 bytes → file_reading bytes ≡ Ok code
@@ -48,11 +48,11 @@ module _ (rules : List (List ℕ)) (bytes : List ℕ) where
   same_words no_name m n other a b = a ∙ sym b
   same_words no_placeholder m n other a b = a ∙ sym b
   same_words (repeated x) m n other a b = a ∙ sym b
-  same_words (no_token x) m n other a b = a ∙ sym b
+  same_words (glued x) m n other a b = a ∙ sym b
   same_words (reserved x) m n other a b = a ∙ sym b
   same_words no_kind m n other a b = a ∙ sym b
   same_words (undefined x) m n other a b = a ∙ sym b
-  same_words (no_meaning x) m n other a b = a ∙ sym b
+  same_words (unresolved_path x) m n other a b = a ∙ sym b
 
   pub output_unique : (a b : Output) → (rules_reading rules ≡ Err lexer_fault → ⊥) → IsOutput rules bytes a → IsOutput rules bytes b → a ≡ b
   output_unique a b sure (no_text _) (no_text _) = refl

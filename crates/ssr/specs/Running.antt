@@ -1,11 +1,7 @@
 -- What a run of the program does to its source and its sink.
-use Rattle.std.specs.Prelude.{ℕ, ◌≡◌, ◌+◌, true, false, List, ◌++◌, Option, Some, None, codes}
-use Rattle.ssr.specs.Streams.{Given, Taken, Sent}
+use Rattle.std.specs.Prelude.{ℕ, ◌≡◌, ◌+◌, true, false, List, Option, Some, None, codes}
+use Rattle.ssr.specs.Streams.{Given, Taken, IsRead, Sent}
 use Rattle.ssr.specs.Output.{Output, usage, refused, input_refused, rules_of, IsFile, IsOutput}
-
--- all bytes that a source had left were read
-abbrev pub IsRead : Given → Given → List ℕ → Type 0
-IsRead old new input = (new.bytes ≡ old.bytes ++ input) × (new.ended ≡ true) × (new.failures ≡ old.failures)
 
 -- What is answered: the output of the rules and of all bytes that the source had left; or what was in its way.
 -- A failed read is told only where the source counted one more.

@@ -35,10 +35,13 @@ Takes old new buffer count =
 abbrev pub TakesNothing : Taken → Taken → Type 0
 TakesNothing old new = (new.bytes ≡ old.bytes) × (new.failures ≡ old.failures + 1)
 
--- all bytes of a source were read, up to its end; or there was no memory; or a read failed
+-- all bytes that a source had left were read
+abbrev pub IsRead : Given → Given → List ℕ → Type 0
+IsRead old new input = (new.bytes ≡ old.bytes ++ input) × (new.ended ≡ true) × (new.failures ≡ old.failures)
+
+-- all bytes that a source had left were read; or there was no memory; or a read failed
 abbrev pub ReadsAll : {A : Type 0} → Given → Given → Result (Vec ℕ A) ReadError → Type 0
-ReadsAll old new (Ok input) =
-    (new.bytes ≡ old.bytes ++ input.items) × (new.ended ≡ true) × (new.failures ≡ old.failures)
+ReadsAll old new (Ok input) = IsRead old new input.items
 ReadsAll old new (Err Memory) = new.failures ≡ old.failures
 ReadsAll old new (Err Failed) = new.failures ≡ old.failures + 1
 

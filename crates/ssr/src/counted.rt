@@ -1,6 +1,6 @@
 //! Readers and writers as the program's source and sink. What they gave and took so far is known to proofs alone:
 //! a `Log` has no bytes at run time.
-ghost use Rattle.std.specs.Prelude.{◌≡◌, ◌++◌, length};
+ghost use Rattle.std.specs.Prelude.{◌≡◌, ◌++◌, [], false, length};
 ghost use Rattle.ssr.specs.Noted.{bytes_of};
 
 use crate::streams::{Failed, Sink, Source};
@@ -10,16 +10,19 @@ use std::mem;
 
 /// A reader as a source.
 #[derive(Drop)]
-pub struct Counted<R> {
+pub struct CountedSource<R> {
     inner: R,
     given: Log<u8, ()>,
     failed: Log<(), ()>,
     ended: bool,
 }
 
-impl<R> Counted<R> {
-    pub fn new(inner: R) -> Counted<R> {
-        Counted {
+impl<R: Read> CountedSource<R> {
+    /// A reader that gave nothing yet.
+    pub fn new(inner: R) -> CountedSource<R>
+        ensures { ⟦<CountedSource<R> as Source>⟧.given result ≡ record { bytes = []; ended = false; failures = 0 } }
+    {
+        CountedSource {
             inner,
             given: Log::new(),
             failed: Log::new(),
@@ -28,7 +31,7 @@ impl<R> Counted<R> {
     }
 }
 
-impl<R: Read> Source for Counted<R> {
+impl<R: Read> Source for CountedSource<R> {
     ghost given = { λ s. record { bytes = bytes_of s.given.items; ended = s.ended; failures = length s.failed.items } };
 
     fn read(&mut self, buf: &mut [u8]) -> Result<usize, Failed> {
@@ -54,8 +57,11 @@ pub struct CountedSink<W> {
     failed: Log<(), ()>,
 }
 
-impl<W> CountedSink<W> {
-    pub fn new(inner: W) -> CountedSink<W> {
+impl<W: Write> CountedSink<W> {
+    /// A writer that took nothing yet.
+    pub fn new(inner: W) -> CountedSink<W>
+        ensures { ⟦<CountedSink<W> as Sink>⟧.taken result ≡ record { bytes = []; failures = 0 } }
+    {
         CountedSink {
             inner,
             taken: Log::new(),
@@ -84,7 +90,7 @@ impl<W: Write> Sink for CountedSink<W> {
     }
 }
 
-// The bytes of the log and those of the slice behind them.
+/// The bytes of the log and those of the slice behind them.
 fn noted(log: Log<u8, ()>, bytes: &[u8]) -> Log<u8, ()>
     ensures { bytes_of result.items ≡ bytes_of log.items ++ bytes.now }
 {

@@ -3,6 +3,7 @@
 #![tactic(auto)]
 
 mod counted;
+mod laws;
 mod program;
 mod rewriting;
 mod streams;
@@ -10,14 +11,14 @@ mod streams;
 mod tests;
 mod transfer;
 
-use counted::{Counted, CountedSink};
+use counted::{CountedSink, CountedSource};
 use program::run;
 use std::process::ExitCode;
 use std::{env, io};
 
 fn main(rt: HostRuntime) -> ExitCode {
     let words = words(&rt);
-    let mut source = Counted::new(rt.reader());
+    let mut source = CountedSource::new(rt.reader());
     let mut sink = CountedSink::new(io::writer(&rt));
     let status = run(
         rt.alloc(),

@@ -1,5 +1,5 @@
 //! From rules and the text of a file to its new text.
-ghost use Rattle.std.specs.Prelude.{◌≡◌, List, map, string_bytes, Err, IfOk, IfErr};
+ghost use Rattle.std.specs.Prelude.{◌≡◌, map, string_bytes, Err, IfOk, IfErr};
 ghost use Rattle.ssr.specs.Output.{rule_kinds, rules_reading};
 ghost use Rattle.ssr.specs.Rewriting.{Rewrites};
 ghost use Rattle.ide_ssr.specs.Adding.{Adds};
@@ -19,6 +19,7 @@ pub enum RewriteError {
     File(SyntaxError),
     /// A rule is refused, with this message.
     Rule(String),
+    /// Memory ran out.
     Memory,
 }
 
@@ -76,6 +77,7 @@ fn add_rules(alloc: Global, finder: &mut MatchFinder<'_>, rules: &[String]) -> R
     Ok(())
 }
 
+/// Adds the rule that a text says.
 fn add_rule(alloc: Global, finder: &mut MatchFinder<'_>, text: &str) -> Result<(), SsrError>
     ensures { Adds finder.old finder.new (rule_kinds text.now) result }
 {

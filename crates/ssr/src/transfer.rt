@@ -1,18 +1,42 @@
 //! Whole texts in and out.
-ghost use Rattle.std.specs.Prelude.{◌≡◌, ◌+◌, ◌++◌, true, false, IfOk, is_ok};
+ghost use Rattle.std.specs.Prelude.{◌+◌, true, false};
 ghost use Rattle.std.specs.List.{flat_map};
 ghost use Rattle.ssr.specs.Streams.{Sent, ReadsAll};
+ghost use Rattle.ssr.specs.declared.transfer.ReadError.TheVariants as errors;
 
-use crate::streams::{Sink, Source};
-use std::alloc::Global;
+use crate::streams::{Failed, Sink, Source};
+use std::alloc::{AllocError, Global};
 
 /// Why not all bytes of a source could be read.
 #[derive(Clone, Copy, Debug, PartialEq, Eq)]
 pub enum ReadError {
+    /// A read failed.
     Failed,
+    /// There was no memory for the bytes.
     Memory,
 }
 
+impl From<Failed> for ReadError {
+    ghost use Rattle.std.specs.Prelude.{◌≡◌};
+
+    ghost from_gives = { λ _ error. error ≡ errors.Failed };
+
+    fn from(_: Failed) -> ReadError {
+        ReadError::Failed
+    }
+}
+
+impl From<AllocError> for ReadError {
+    ghost use Rattle.std.specs.Prelude.{◌≡◌};
+
+    ghost from_gives = { λ _ error. error ≡ errors.Memory };
+
+    fn from(_: AllocError) -> ReadError {
+        ReadError::Memory
+    }
+}
+
+/// How many bytes are asked for at once.
 const AT_ONCE: usize = 16384;
 
 /// All bytes that are left in the source.
@@ -22,21 +46,16 @@ pub fn read_all<R: Source>(alloc: Global, source: &mut R) -> Result<Vec<u8>, Rea
     let mut input = Vec::new(alloc);
     let mut buffer = [0; AT_ONCE];
     loop {
-        let count = match source.read(&mut buffer) {
-            Ok(count) => count,
-            Err(_) => return Err(ReadError::Failed),
-        };
+        let count = source.read(&mut buffer)?;
         if count == 0 {
             return Ok(input);
         }
-        if input.extend_from_slice(&buffer[..count]).is_err() {
-            return Err(ReadError::Memory);
-        }
+        input.extend_from_slice(&buffer[..count])?;
     }
 }
 
 /// Writes all bytes of a text; whether all went out.
-pub fn write_all<W: Sink>(sink: &mut W, bytes: &[u8]) -> bool
+fn write_all<W: Sink>(sink: &mut W, bytes: &[u8]) -> bool
     ensures { Sent (W.taken sink.old) (W.taken sink.new) bytes.now result }
 {
     let mut at = 0;

@@ -1,8 +1,8 @@
 -- Laws of changes and of the text with them made.
 use Rattle.std.proofs.Common.{◌≡◌, ℕ, suc, ◌+◌, ◌-◌, ◌<◌, ◌≤◌, List, [], ◌∷◌, ◌++◌, length, get_or, drop, sym, ◌∙◌, ap, subst, arith, add-one, String}
-use Rattle.std.proofs.lemmas.List.{get_or-map, length-map, append_assoc, length-append, length-drop, take_all, length-take-le, drop-drop}
+use Rattle.std.proofs.lemmas.List.{get_or-map, length-map, append_assoc, length-drop, take_all, length-take-le}
 use Rattle.std.proofs.lemmas.List.Folds.{drop_split}
-use Rattle.std.proofs.Math.Seq.{drop-cons, take-append_seam, drop-append_seam}
+use Rattle.std.proofs.Math.Seq.{drop-cons}
 use Rattle.std.specs.List.{All, slice_range}
 use Rattle.std.specs.Global.{Global}
 use Rattle.ssr_syntax_lex.specs.declared.range.TextRange.{TextRange}
@@ -29,39 +29,10 @@ pub one_more : (text new mid out kept old whole : List ℕ) (at to : ℕ) (c : C
 one_more text new mid out kept old whole at to c cs left so is m n k o =
     rw (n, m, append_assoc, append_assoc, k, o) (subst (λ (cs : List Change). new ++ replaced text at to cs ≡ whole) is so)
 
--- the relation and the function say the same
-front_of : (text kept rest : List ℕ) (at start : ℕ) → kept ++ rest ≡ drop at text → at + length kept ≡ start
-    → kept ≡ slice_range text at start
-front_of text kept rest at start e s =
-    let n : start - at ≡ length kept = omega arith in
-    rw (n, ← e) (sym (take-append_seam kept rest))
-
-back_of : (text kept rest : List ℕ) (at start : ℕ) → kept ++ rest ≡ drop at text → at + length kept ≡ start
-    → at ≤ length text → rest ≡ drop start text
-back_of text kept rest at start e s h =
-    sym (drop-append_seam kept rest)
-    ∙ (ap (drop (length kept)) e ∙ (drop-drop (length kept) at text ∙ ap (λ (n : ℕ). drop n text) s))
-
-ends_within : (text kept rest : List ℕ) (at start : ℕ) → kept ++ rest ≡ drop at text → at + length kept ≡ start
-    → at ≤ length text → start ≤ length text
-ends_within text kept rest at start e s h = omega (arith, length-append kept rest, ap length e, length-drop at text)
-
-pub replaced-from_IsReplaced : (text : List ℕ) (at : ℕ) (changes : List Change) (old new : List ℕ)
-    → IsReplaced at old changes new → old ≡ drop at text → at ≤ length text → new ≡ replaced text at (length text) changes
-replaced-from_IsReplaced text _ _ _ _ (same at kept) e h =
-    e ∙ sym (take_all (length text - at) (drop at text) (omega (arith, length-drop at text)))
-replaced-from_IsReplaced text _ _ _ _ (next at kept gone behind after c cs s n r) e h =
-    let start : c.start ≤ length text = ends_within text kept (gone ++ behind) at c.start e s h in
-    let back : gone ++ behind ≡ drop c.start text = back_of text kept (gone ++ behind) at c.start e s h in
-    let end : c.end ≤ length text = ends_within text gone behind c.start c.end back n start in
-    let front : kept ≡ slice_range text at c.start = front_of text kept (gone ++ behind) at c.start e s in
-    let rest : after ≡ replaced text c.end (length text) cs =
-    replaced-from_IsReplaced text c.end cs behind after r (back_of text gone behind c.start c.end back n start) end in
-    cc
-
 length_between : (text : List ℕ) (at start : ℕ) → at ≤ start → start ≤ length text → length (slice_range text at start) ≡ start - at
 length_between text at start h l = length-take-le (start - at) (drop at text) (omega (arith, length-drop at text))
 
+-- the text with the changes made replaces each of their ranges
 pub IsReplaced-replaced : (text : List ℕ) (at : ℕ) (changes : List Change) → AreInOrder at changes
     → at ≤ length text → All (Fits text) changes
     → IsReplaced at (drop at text) changes (replaced text at (length text) changes)

@@ -1,8 +1,10 @@
+//! Edits of a text, and what is in the way of applying one.
 ghost use Rattle.std.specs.Prelude.{◌≡◌, ◌↔◌, IsTrue, IfOk, length, string_bytes};
 ghost use Rattle.std.specs.List.{All};
 ghost use Rattle.std.specs.Slice.Iter.{iter_rest};
 ghost use Rattle.ssr_base.specs.Changes.{AreInOrder, Fits, replaced};
 ghost use Rattle.ssr_base.specs.Applied.{changes_of, Applies};
+ghost use Rattle.ssr_base.specs.declared.edit.ApplyError.TheVariants as errors;
 
 use ssr_syntax_lex::TextRange;
 use std::alloc::{AllocError, Global};
@@ -13,10 +15,22 @@ use thiserror::Error;
 /// Why an edit was not applied.
 #[derive(Clone, Copy, Debug, PartialEq, Eq, Error)]
 pub enum ApplyError {
+    /// A change lies past the end of the text, or begins or ends inside of a character.
     #[error("a change lies past the end of the text or inside of a character")]
     Range,
+    /// Memory ran out.
     #[error("out of memory")]
     Memory,
+}
+
+impl From<AllocError> for ApplyError {
+    ghost use Rattle.std.specs.Prelude.{◌≡◌};
+
+    ghost from_gives = { λ _ error. error ≡ errors.Memory };
+
+    fn from(_: AllocError) -> ApplyError {
+        ApplyError::Memory
+    }
 }
 
 /// Changes of a text, in order and sharing no byte: each puts a text in the place of a range of bytes.
@@ -63,10 +77,7 @@ impl TextEdit {
         if !self.fits(text) {
             return Err(ApplyError::Range);
         }
-        match self.written(alloc, text) {
-            Ok(new) => Ok(new),
-            Err(_) => Err(ApplyError::Memory),
-        }
+        Ok(self.written(alloc, text)?)
     }
 
     /// Whether each change begins and ends between two characters of the text.
@@ -84,6 +95,7 @@ impl TextEdit {
         true
     }
 
+    /// The text with the changes made, each of which fits it.
     fn written(&self, alloc: Global, text: &str) -> Result<String, AllocError>
         requires { All (Fits text.now) self.now }
         ensures { IfOk result (λ new. string_bytes new ≡ replaced text.now 0 (length text.now) self.now) }

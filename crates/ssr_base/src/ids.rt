@@ -1,3 +1,5 @@
+//! Files, ranges of files, and nodes of their trees.
+
 use ssr_syntax_lex::TextRange;
 use ssr_syntax_tree::NodeNo;
 

@@ -9,7 +9,7 @@ use Rattle.ssr_syntax.specs.declared.goals.Goal.{Goal}
 use Rattle.ssr_syntax.specs.declared.goals.Fault.{Fault}
 use Rattle.ssr_syntax.specs.Trees.{Forest, done, tree, join, spell, kinds, nodes, rows}
 use Rattle.ssr_syntax.specs.Forms.{Form, one, child, mark, seal, ◌then◌, nothing, choose, many, look, check, Test, more, passes, agrees, SoFar, so_far, ReadsBelow, read, past, first_leaf, repeat, beside, ◌>>=◌}
-use Rattle.ssr_syntax.specs.Runs.{State, state, Mark, mark_at, close, RunsBelow, run}
+use Rattle.ssr_syntax.specs.Runs.{State, state_of, Mark, mark_at, close, RunsBelow, run}
 use Rattle.ssr_syntax.proofs.Answers.{decide}
 use Rattle.ssr_syntax.proofs.Joins.{rows-join, length-rows, kinds-rows}
 use Rattle.ssr_syntax.proofs.Soundness.{past_ok}
@@ -17,11 +17,11 @@ use Rattle.ssr_syntax.proofs.Spelling.{ReadsSpelled, read_spelled}
 
 -- the rows so far, and then those of what is read
 abbrev pub emit : List Row → Result SoFar Fault → Result State Fault
-emit out (Ok r) = Ok (state (out ++ rows r.made (length r.rest)) r.rest)
+emit out (Ok r) = Ok (state_of (out ++ rows r.made (length r.rest)) r.rest)
 emit out (Err e) = Err e
 
-abbrev pub Agrees : RunsBelow → ReadsBelow → Type 0
-Agrees runs below = (goal : Goal) (out : List Row) (ts : List Token) → runs goal (state out ts) ≡ emit out (below goal ts)
+abbrev pub RunsAsRead : RunsBelow → ReadsBelow → Type 0
+RunsAsRead runs below = (goal : Goal) (out : List Row) (ts : List Token) → runs goal (state_of out ts) ≡ emit out (below goal ts)
 
 -- either answer
 pub answer : {A : Type 0} (r : Result A Fault) → ((x : A) × (r ≡ Ok x)) ⊎ ((e : Fault) × (r ≡ Err e))
@@ -38,7 +38,7 @@ emit-beside : (out : List Row) (x : Forest) (ts : List Token) (q : Result SoFar 
     → ((y : SoFar) → q ≡ Ok y → ts ≡ spell y.made ++ y.rest)
     → emit (out ++ rows x (length ts)) q ≡ emit out (beside x q)
 emit-beside out x ts (Ok y) h =
-    ap (λ w. Ok (state w y.rest))
+    ap (λ w. Ok (state_of w y.rest))
     (append_assoc out (rows x (length ts)) (rows y.made (length y.rest))
     ∙ ap (λ w. out ++ w) (beside_rows x y.made ts y.rest (h y refl)))
 emit-beside out x ts (Err e) h = refl
@@ -59,12 +59,12 @@ leaf_rows whole (t ∷ ts) n = refl
 
 -- the state behind some rows
 abbrev after : List Row → SoFar → State
-after out r = state (out ++ rows r.made (length r.rest)) r.rest
+after out r = state_of (out ++ rows r.made (length r.rest)) r.rest
 
 put : (kind : SyntaxKind) (out old new : List Row) (first end below first' end' below' : ℕ) (rest : List Token)
     → old ≡ new → first ≡ first' → end ≡ end' → below ≡ below'
-    → state ((out ++ old) ++ record { kind = kind; first = first; end = end; below = below } ∷ []) rest
-    ≡ state (out ++ (new ++ record { kind = kind; first = first'; end = end'; below = below' } ∷ [])) rest
+    → state_of ((out ++ old) ++ record { kind = kind; first = first; end = end; below = below } ∷ []) rest
+    ≡ state_of (out ++ (new ++ record { kind = kind; first = first'; end = end'; below = below' } ∷ [])) rest
 put kind out old new first end below first' end' below' rest o f e b = rw (o, f, e, b) (simp append_assoc)
 
 sealed : (kind : SyntaxKind) (out : List Row) (start : List Token) (r : SoFar) → start ≡ spell r.made ++ r.rest
@@ -109,13 +109,13 @@ repeats_agree out start test ran red h k (suc n) r e =
       | inr miss ↦ rw miss refl
     ]
 
-pub agree : (runs : RunsBelow) (below : ReadsBelow) → Agrees runs below → ReadsSpelled below
+pub agree : (runs : RunsBelow) (below : ReadsBelow) → RunsAsRead runs below → ReadsSpelled below
     → (form : Form) (out : List Row) (start : List Token) (r : SoFar) → start ≡ spell r.made ++ r.rest
     → run runs form (mark_at (length out) start) (after out r) ≡ emit out (read below form r)
 agree runs below h k (one whole ks) out start r e =
     elim (answer (past whole ks r.rest)) [
       | inl p ↦ rw p.1
-          (ap (λ w. Ok (state (out ++ w) p.0))
+          (ap (λ w. Ok (state_of (out ++ w) p.0))
           (sym (append-nil (rows r.made (length r.rest)))
           ∙ ap (λ w. rows r.made (length r.rest) ++ w) (sym (leaf_rows whole r.rest (length p.0)))
           ∙ beside_rows r.made (first_leaf whole r.rest) r.rest p.0 (leaf_spelled whole ks r.rest p.0 p.1)))
@@ -125,7 +125,7 @@ agree runs below h k (child goal) out start r e =
     h goal (out ++ rows r.made (length r.rest)) r.rest ∙ emit-beside out r.made r.rest (below goal r.rest) (k goal r.rest)
 agree runs below h k (mark f) out start r e =
     let old : List Row = out ++ rows r.made (length r.rest) in
-    subst (λ w. run runs f (mark_at (length old) r.rest) (state w r.rest) ≡ emit old (read below f (so_far done r.rest)))
+    subst (λ w. run runs f (mark_at (length old) r.rest) (state_of w r.rest) ≡ emit old (read below f (so_far done r.rest)))
     (append-nil old) (agree runs below h k f old r.rest (so_far done r.rest) refl)
     ∙ emit-beside out r.made r.rest (read below f (so_far done r.rest)) (read_spelled below k f (so_far done r.rest))
 agree runs below h k (seal kind) out start r e = ap Ok (sealed kind out start r e)

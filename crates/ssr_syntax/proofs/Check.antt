@@ -6,7 +6,7 @@ use Rattle.ssr_syntax.specs.declared.tokens.Token.{Token}
 use Rattle.ssr_syntax.specs.declared.goals.Goal.{Goal}
 use Rattle.ssr_syntax.specs.Kinds.{mem}
 use Rattle.ssr_syntax.specs.Forms.{Form, one, child, mark, seal, ◌then◌, nothing, choose, many, look, check, Test, agrees}
-use Rattle.ssr_syntax.specs.Levels.{Grammar}
+use Rattle.ssr_syntax.specs.Levels.{Productions}
 
 -- ** Lists of kinds.
 -- a kind that no token has, for the end
@@ -135,7 +135,7 @@ decides t (look want test) follow = true
 decides t (check holds) follow = true
 
 -- the claims on a goal hold of its form, if those on the goals below it do
-abbrev pub keeps : Tables → Grammar → Goal → Bool
+abbrev pub keeps : Tables → Productions → Goal → Bool
 keeps t grammar goal =
     if t.is_dead goal then dead t (grammar goal)
     else (decides t (grammar goal) (t.follow goal)

@@ -32,8 +32,8 @@ behind_operand Atom = operators Product ++ (operators Sum ++ behind_expr)
 behind_operand Product = operators Sum ++ behind_expr
 behind_operand Sum = behind_expr
 
-abbrev pub tables : Tables
-tables = record {
+abbrev pub core_tables : Tables
+core_tables = record {
   core = core_kinds;
   is_dead = λ goal. false;
   is_empty = elim [ File ↦ true | _ ↦ false ];
@@ -41,7 +41,7 @@ tables = record {
   follow = elim [ File ↦ END ∷ [] | Expr ↦ behind_expr | Operand rank ↦ behind_operand rank ];
 }
 
-pub core_keeps : (goal : Goal) → keeps tables grammar goal ≡ true
+pub core_keeps : (goal : Goal) → keeps core_tables grammar goal ≡ true
 unfolding grammar literal path_expr paren_expr atom operations product sum stmt_list block_expr name param_list function items source_file name_ref path_segment path
 core_keeps File = refl
 core_keeps Expr = refl
@@ -66,7 +66,7 @@ all_within (Operand Product) = refl
 all_within (Operand Sum) = refl
 
 -- each goal may end the text
-pub may_end : (goal : Goal) → mem END (tables.follow goal) ≡ true
+pub may_end : (goal : Goal) → mem END (core_tables.follow goal) ≡ true
 may_end File = refl
 may_end Expr = refl
 may_end (Operand Atom) = refl

@@ -6,7 +6,7 @@ use Rattle.ssr_syntax.specs.declared.goals.Fault.{Fault}
 use Rattle.ssr_syntax.specs.declared.goals.Fault.TheVariants as faults
 use Rattle.ssr_syntax.specs.Trees.{done}
 use Rattle.ssr_syntax.specs.Forms.{Form, one, child, mark, seal, ◌then◌, nothing, choose, many, look, check, Test, passes, SoFar, so_far, ReadsBelow, read, repeat, beside, ◌>>=◌}
-use Rattle.ssr_syntax.specs.Levels.{Grammar, read_goal}
+use Rattle.ssr_syntax.specs.Levels.{Productions, read_goal}
 use Rattle.ssr_syntax.proofs.Answers.{decide}
 
 abbrev pub IsCut : Result SoFar Fault → Result SoFar Fault → Type 0
@@ -57,7 +57,7 @@ read_cut fewer more h (many test f) r =
 read_cut fewer more h (look want test) r = inr refl
 read_cut fewer more h (check holds) r = inr refl
 
-pub cut_goals : (grammar : Grammar) (n m : ℕ) → n ≤ m → Cuts (read_goal grammar n) (read_goal grammar m)
+pub cut_goals : (grammar : Productions) (n m : ℕ) → n ≤ m → Cuts (read_goal grammar n) (read_goal grammar m)
 unfolding read_goal
 cut_goals grammar zero m le goal ts = inl refl
 cut_goals grammar (suc n) zero le goal ts = absurd (omega (arith, le))

@@ -4,7 +4,7 @@ use Rattle.ssr_syntax.specs.declared.tokens.Token.{Token}
 use Rattle.ssr_syntax.specs.declared.goals.Goal.{Goal}
 use Rattle.ssr_syntax.specs.Trees.{Forest, done, leaf, tree, join, IsShallow}
 use Rattle.ssr_syntax.specs.Forms.{Form, one, child, mark, seal, ◌then◌, nothing, choose, many, look, check, FitsBelow, Step, Repeats, Fits}
-use Rattle.ssr_syntax.specs.Levels.{Grammar, FitsGoal}
+use Rattle.ssr_syntax.specs.Levels.{Productions, FitsGoal}
 use Rattle.ssr_syntax.proofs.Answers.{both, decide, either}
 
 -- all since the mark is put into a node
@@ -167,7 +167,7 @@ lower n fits fewer b (many test g) later c x z us rest f h =
 lower n fits fewer b (look want test) later c x z us rest f h = f
 lower n fits fewer b (check holds) later c x z us rest f h = f
 
-pub lower_goal : (grammar : Grammar) → ((goal : Goal) → covered false (grammar goal) ≡ true) → (n m : ℕ)
+pub lower_goal : (grammar : Productions) → ((goal : Goal) → covered false (grammar goal) ≡ true) → (n m : ℕ)
     (goal : Goal) (z : Forest) (us rest : List Token) → FitsGoal grammar n goal z us rest → Low m z → FitsGoal grammar m goal z us rest
 unfolding FitsGoal
 lower_goal grammar all zero m goal z us rest f h = absurd f

@@ -2,11 +2,10 @@
 use Rattle.std.proofs.Common.{◌≡◌, ℕ, zero, suc, true, false, not, ◌||◌, ◌&&◌, if◌then◌else◌, List, [], ◌∷◌, ◌++◌, length, Some, inl, inr, refl, sym, ◌∙◌, ap, subst, append_assoc}
 use Rattle.std.specs.Prelude.{⊤, reverse}
 use Rattle.std.proofs.lemmas.List.{append-nil, reverse-append}
-use denote.Enum.Bare.{same_true}
 use Rattle.ssr_syntax_lex.specs.declared.kinds.SyntaxKind.{SyntaxKind}
 use Rattle.ssr_syntax_lex.specs.declared.kinds.SyntaxKind.TheVariants.{IDENT}
-use Rattle.ssr_syntax_lex.specs.contracts.kinds.SyntaxKind.{the_type}
-use Rattle.ssr_syntax_lex.specs.Kinds.{is_trivia}
+use Rattle.ssr_syntax_lex.specs.Kinds.{same_kind, is_trivia}
+use Rattle.ssr_syntax_lex.proofs.SameKinds.{same_kind-equal}
 use Rattle.ssr_syntax_lex.specs.declared.tokens.RawToken.{RawToken}
 use Rattle.ssr_syntax_lex.specs.Tokens.{tokens, token_text}
 use Rattle.ssr_syntax_tree.specs.Syntax as plain
@@ -15,7 +14,6 @@ use Rattle.ssr_syntax.specs.declared.fragments.Fragment.{Fragment}
 use Rattle.ssr_syntax.specs.declared.goals.Goal.{Goal}
 use Rattle.ssr_syntax.specs.Trees as solid
 use Rattle.ssr_syntax.specs.Grammar.{grammar}
-use Rattle.ssr_syntax.specs.Kinds.{same}
 use Rattle.ssr_syntax.specs.Solid.{solid_token, solid_tokens}
 use Rattle.ssr_syntax.specs.Lossless.{trivia, behind_trivia, gap, behind_gap, upto, past, before, behind, lossless, whole_tree, begins_with_trivia}
 use Rattle.ssr_syntax.specs.Identifiers.{is_ident, has_ident, stand_alone, IdentsAlone, IdentsAloneIn}
@@ -29,13 +27,13 @@ use Rattle.ssr_syntax.proofs.Texts.{whole-tokens}
 use Rattle.ssr_syntax.proofs.Trimmed.{trimmed-root}
 use Rattle.ssr_syntax.proofs.Identifiers.{shows, lone, AllLone, goals_alone}
 
-ident_like : (kind : SyntaxKind) → same kind IDENT ≡ true → is_trivia kind ≡ false
-ident_like kind e = ap is_trivia (same_true the_type tt kind IDENT e)
+ident_like : (kind : SyntaxKind) → same_kind kind IDENT ≡ true → is_trivia kind ≡ false
+ident_like kind e = ap is_trivia (same_kind-equal kind IDENT e)
 
 no_ident : (kind : SyntaxKind) → is_trivia kind ≡ true → is_ident kind ≡ false
 no_ident kind h =
     elim (decide (is_ident kind)) [
-      | inl is ↦ elim (either (same kind IDENT) false is) [ inl e ↦ absurd (cc (h, ident_like kind e)) | inr e ↦ absurd (cc e) ]
+      | inl is ↦ elim (either (same_kind kind IDENT) false is) [ inl e ↦ absurd (cc (h, ident_like kind e)) | inr e ↦ absurd (cc e) ]
       | inr other ↦ other
     ]
 
@@ -154,14 +152,14 @@ none_first (suc n) [] e = refl
 none_first (suc n) (t ∷ ts) e = ap (λ b. if b then behind_trivia ts else t ∷ ts) e
 
 -- what is known of a tree that fits
-record Whole (text : List ℕ) (raw : List RawToken) (kind : SyntaxKind) (kids : solid.Forest) : Type 0 where
+record WholeTree (text : List ℕ) (raw : List RawToken) (kind : SyntaxKind) (kids : solid.Forest) : Type 0 where
   spells : solid.spell kids ≡ solid_tokens raw
   single : IsSingle kids
   are : AreOf (solid.spell kids) (pieces text raw)
   children_alone : lone kids ≡ true
   all_alone : AllLone kids
 
-whole_of : (goal : Goal) (text : List ℕ) (raw : List RawToken) (s : Syntax) (fits : FitsTokens goal text raw s) → Whole text raw fits.0 fits.1
+whole_of : (goal : Goal) (text : List ℕ) (raw : List RawToken) (s : Syntax) (fits : FitsTokens goal text raw s) → WholeTree text raw fits.0 fits.1
 whole_of goal text raw s (kind, kids, n, fits, is) =
     let us = solid_tokens raw in
     let z : solid.Forest = solid.tree kind kids solid.done in
@@ -176,7 +174,7 @@ whole_of goal text raw s (kind, kids, n, fits, is) =
     }
 
 -- the children of the root are those of its solid tokens
-children_are : (text : List ℕ) (raw : List RawToken) (kind : SyntaxKind) (kids : solid.Forest) → Whole text raw kind kids
+children_are : (text : List ℕ) (raw : List RawToken) (kind : SyntaxKind) (kids : solid.Forest) → WholeTree text raw kind kids
     → (begins_solid raw && begins_solid (reverse raw)) ≡ true
     → plain.Syntax.children (whole_tree kind kids (pieces text raw)) ≡ lossless kids (behind_gap (length (solid.spell kids)) (pieces text raw))
 children_are text raw kind kids whole outside =

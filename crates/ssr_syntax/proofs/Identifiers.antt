@@ -98,18 +98,18 @@ is_clean (Some empty) = true
 is_clean (Some clean) = true
 is_clean (Some either) = false
 
-abbrev step : Form → Place → Option Place
-step (one true ks) p = behind_token (meets ks (IDENT ∷ [])) p
-step (one false ks) p = None
-step (child goal) p = behind_node p
-step (mark f) p = if is_clean (step f empty) then behind_node p else None
-step (seal kind) p = Some clean
-step (f then g) p = option_and_then (step g) (step f p)
-step nothing p = Some p
-step (choose test f g) p = wider_of (step f p) (step g p)
-step (many test f) p = if is_clean (step f clean) then behind_node p else None
-step (look want test) p = Some p
-step (check holds) p = Some p
+abbrev place_behind : Form → Place → Option Place
+place_behind (one true ks) p = behind_token (meets ks (IDENT ∷ [])) p
+place_behind (one false ks) p = None
+place_behind (child goal) p = behind_node p
+place_behind (mark f) p = if is_clean (place_behind f empty) then behind_node p else None
+place_behind (seal kind) p = Some clean
+place_behind (f then g) p = option_and_then (place_behind g) (place_behind f p)
+place_behind nothing p = Some p
+place_behind (choose test f g) p = wider_of (place_behind f p) (place_behind g p)
+place_behind (many test f) p = if is_clean (place_behind f clean) then behind_node p else None
+place_behind (look want test) p = Some p
+place_behind (check holds) p = Some p
 
 one_place : {p q : Place} → ◌≡◌ {A = Option Place} (Some p) (Some q) → p ≡ q
 one_place e = cc
@@ -187,34 +187,34 @@ repeats_clean step on (suc n) x z us rest f at =
 abbrev pub AloneBelow : FitsBelow → Type 0
 AloneBelow fits = (goal : Goal) (y : Forest) (us rest : List Token) → fits goal y us rest → (shows y ≡ false) × AllLone y
 
-keeps : (fits : FitsBelow) → AloneBelow fits → (form : Form) (p q : Place) → step form p ≡ Some q
+keeps : (fits : FitsBelow) → AloneBelow fits → (form : Form) (p q : Place) → place_behind form p ≡ Some q
     → (x z : Forest) (us rest : List Token) → Fits fits form x z us rest → IsAt p x → IsAt q z
 keeps fits h (one true ks) p q e x z us rest f at =
     token_beside (meets ks (IDENT ∷ [])) p q x z f.0.joined (f.0 ∷ f.1) e (λ none. apart f.0.joined ks (IDENT ∷ []) none f.3) f.5 at
 keeps fits h (one false ks) p q e x z us rest f at = cc
 keeps fits h (child goal) p q e x z us rest f at = let y = h goal f.0 us rest f.1 in beside p q x f.0 z e f.2 at y.0 y.1
 keeps fits h (mark g) p q e x z us rest f at =
-    let w = under (is_clean (step g empty)) (behind_node p) q e in
-    let c = cleaned (step g empty) w.0 in
+    let w = under (is_clean (place_behind g empty)) (behind_node p) q e in
+    let c = cleaned (place_behind g empty) w.0 in
     let y = keeps fits h g empty c.0 c.1 done f.0 us rest f.1 (refl, tt) in
     beside p q x f.0 z w.1 f.2 at (c.2 f.0 y.0) y.1
 keeps fits h (seal kind) p q e x z us rest f at =
     subst (λ r. IsAt r z) (one_place e) (subst (IsAt clean) (sym f.1) (refl, (lone_at p x at.0, at.1, tt)))
 keeps fits h (g then k) p q e x z us rest f at =
-    let w = went (step g p) (step k) q e in
+    let w = went (place_behind g p) (place_behind k) q e in
     keeps fits h k w.0 q w.2 f.0 z f.2 rest f.5 (keeps fits h g p w.0 w.1 x f.0 f.1 (f.2 ++ rest) f.4 at)
 keeps fits h nothing p q e x z us rest f at = subst (λ r. IsAt r z) (one_place e) (subst (IsAt p) (sym f.1) at)
 keeps fits h (choose test g k) p q e x z us rest (inl f) at =
-    let w = are_both (step g p) (step k p) q e in
+    let w = are_both (place_behind g p) (place_behind k p) q e in
     let y = keeps fits h g p w.0 w.2 x z us rest f at in
     subst (λ r. IsAt r z) w.4 (wider_left w.0 w.1 z y.0, y.1)
 keeps fits h (choose test g k) p q e x z us rest (inr f) at =
-    let w = are_both (step g p) (step k p) q e in
+    let w = are_both (place_behind g p) (place_behind k p) q e in
     let y = keeps fits h k p w.1 w.3 x z us rest f at in
     subst (λ r. IsAt r z) w.4 (wider_right w.0 w.1 z y.0, y.1)
 keeps fits h (many test g) p q e x z us rest f at =
-    let w = under (is_clean (step g clean)) (behind_node p) q e in
-    let c = cleaned (step g clean) w.0 in
+    let w = under (is_clean (place_behind g clean)) (behind_node p) q e in
+    let c = cleaned (place_behind g clean) w.0 in
     let before = clean_before p q x w.1 at.0 in
     let turn : (x z : Forest) (us rest : List Token) → Fits fits g x z us rest → IsAt clean x → IsAt clean z =
     λ x z us rest f at. (let y = keeps fits h g clean c.0 c.1 x z us rest f at in (c.2 z y.0, y.1)) in
@@ -222,7 +222,7 @@ keeps fits h (many test g) p q e x z us rest f at =
 keeps fits h (look want test) p q e x z us rest f at = subst (λ r. IsAt r z) (one_place e) (subst (IsAt p) (sym f.1) at)
 keeps fits h (check holds) p q e x z us rest f at = subst (λ r. IsAt r z) (one_place e) (subst (IsAt p) (sym f.1) at)
 
-all_clean : (goal : Goal) → is_clean (step (grammar goal) empty) ≡ true
+all_clean : (goal : Goal) → is_clean (place_behind (grammar goal) empty) ≡ true
 unfolding grammar literal path_expr paren_expr atom operations product sum stmt_list block_expr name param_list function items source_file name_ref path_segment path
 all_clean File = refl
 all_clean Expr = refl
@@ -234,6 +234,6 @@ pub goals_alone : (n : ℕ) → AloneBelow (FitsGoal grammar n)
 unfolding FitsGoal
 goals_alone zero goal y us rest f = absurd f
 goals_alone (suc n) goal y us rest f =
-    let c = cleaned (step (grammar goal) empty) (all_clean goal) in
+    let c = cleaned (place_behind (grammar goal) empty) (all_clean goal) in
     let z = keeps (FitsGoal grammar n) (goals_alone n) (grammar goal) empty c.0 c.1 done y us rest f (refl, tt) in
     (c.2 y z.0, z.1)

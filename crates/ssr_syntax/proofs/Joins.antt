@@ -3,16 +3,6 @@ use Rattle.std.proofs.Common.{◌≡◌, ℕ, ◌+◌, ◌++◌, length, refl, s
 use Rattle.std.proofs.lemmas.List.{length-append, map-append}
 use Rattle.ssr_syntax.specs.Trees.{Forest, done, leaf, tree, join, spell, nodes, kinds, rows}
 
-pub join-done : (x : Forest) → join x done ≡ x
-join-done done = refl
-join-done (leaf kind us x) = ap (leaf kind us) (join-done x)
-join-done (tree kind kids x) = ap (tree kind kids) (join-done x)
-
-pub join-join : (x y z : Forest) → join (join x y) z ≡ join x (join y z)
-join-join done y z = refl
-join-join (leaf kind us x) y z = ap (leaf kind us) (join-join x y z)
-join-join (tree kind kids x) y z = ap (tree kind kids) (join-join x y z)
-
 pub spell-join : (x y : Forest) → spell (join x y) ≡ spell x ++ spell y
 spell-join done y = refl
 spell-join (leaf kind us x) y = ap (λ z. us ++ z) (spell-join x y) ∙ sym (append_assoc us (spell x) (spell y))

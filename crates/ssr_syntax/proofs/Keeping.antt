@@ -6,7 +6,7 @@ use Rattle.ssr_syntax.specs.declared.goals.Goal.{Goal}
 use Rattle.ssr_syntax.specs.Kinds.{mem}
 use Rattle.ssr_syntax.specs.Trees.{Forest, done, leaf, tree, join}
 use Rattle.ssr_syntax.specs.Forms.{Form, one, child, mark, seal, ◌then◌, nothing, choose, many, look, check, FitsBelow, Step, Repeats, Fits}
-use Rattle.ssr_syntax.specs.Levels.{Grammar, FitsGoal, read_goal}
+use Rattle.ssr_syntax.specs.Levels.{Productions, FitsGoal, read_goal}
 use Rattle.ssr_syntax.proofs.Answers.{decide, both, either, flipped}
 use Rattle.ssr_syntax.proofs.Check.{Tables, dead, empty, firsts, decides, keeps, subset}
 use Rattle.ssr_syntax.proofs.Members.{subset_mem}
@@ -15,34 +15,34 @@ use Rattle.ssr_syntax.proofs.Starts.{Claims, no_tokens, first_token}
 use Rattle.ssr_syntax.proofs.Completeness.{ReadBelow, complete}
 
 -- what is kept of a goal that isn't dead
-abbrev Kept : Tables → Grammar → Goal → Type 0
+abbrev Kept : Tables → Productions → Goal → Type 0
 Kept t grammar goal =
     (decides t (grammar goal) (t.follow goal) ≡ true) × ((t.is_empty goal || not (empty t (grammar goal))) ≡ true)
     × (subset (firsts t (grammar goal)) (t.first goal) ≡ true)
 
-kept : (t : Tables) (grammar : Grammar) (goal : Goal) → keeps t grammar goal ≡ true → t.is_dead goal ≡ false → Kept t grammar goal
-kept t grammar goal k d =
+kept_live : (t : Tables) (grammar : Productions) (goal : Goal) → keeps t grammar goal ≡ true → t.is_dead goal ≡ false → Kept t grammar goal
+kept_live t grammar goal k d =
     let a = both (decides t (grammar goal) (t.follow goal))
     ((t.is_empty goal || not (empty t (grammar goal))) && subset (firsts t (grammar goal)) (t.first goal)) (rw d at k) in
     let b = both (t.is_empty goal || not (empty t (grammar goal))) (subset (firsts t (grammar goal)) (t.first goal)) a.1 in
     (a.0, b.0, b.1)
 
-kept_dead : (t : Tables) (grammar : Grammar) (goal : Goal) → keeps t grammar goal ≡ true → t.is_dead goal ≡ true
+kept_dead : (t : Tables) (grammar : Productions) (goal : Goal) → keeps t grammar goal ≡ true → t.is_dead goal ≡ true
     → dead t (grammar goal) ≡ true
 kept_dead t grammar goal k d = rw d at k
 
-abbrev Keeps : Tables → Grammar → Type 0
-Keeps t grammar = (goal : Goal) → keeps t grammar goal ≡ true
+abbrev KeepsAll : Tables → Productions → Type 0
+KeepsAll t grammar = (goal : Goal) → keeps t grammar goal ≡ true
 
-pub claims : (t : Tables) (grammar : Grammar) → Keeps t grammar → (n : ℕ) → Claims t (FitsGoal grammar n)
+pub claims_hold : (t : Tables) (grammar : Productions) → KeepsAll t grammar → (n : ℕ) → Claims t (FitsGoal grammar n)
 unfolding FitsGoal
-claims t grammar k zero = record {
+claims_hold t grammar k zero = record {
   dead = λ goal d y us rest f h. f;
   empty = λ goal y us rest f h e. absurd f;
   first = λ goal y us rest v vs f h e. absurd f;
 }
-claims t grammar k (suc n) =
-    let below = claims t grammar k n in
+claims_hold t grammar k (suc n) =
+    let below = claims_hold t grammar k n in
     let fits = FitsGoal grammar n in
     let is_dead : (goal : Goal) → t.is_dead goal ≡ true → (y : Forest) (us rest : List Token)
     → Fits fits (grammar goal) done y us rest → IsCore t.core y → ⊥ =
@@ -53,7 +53,7 @@ claims t grammar k (suc n) =
           elim (decide (t.is_dead goal)) [
             | inl d ↦ absurd (is_dead goal d y us rest f h)
             | inr d ↦
-                elim (either (t.is_empty goal) (not (empty t (grammar goal))) (kept t grammar goal (k goal) d).1) [
+                elim (either (t.is_empty goal) (not (empty t (grammar goal))) (kept_live t grammar goal (k goal) d).1) [
                   | inl is ↦ is
                   | inr w ↦ absurd (cc (flipped (empty t (grammar goal)) w, no_tokens t fits below (grammar goal) done y us rest f h e))
                 ]
@@ -61,21 +61,21 @@ claims t grammar k (suc n) =
       first = λ goal y us rest v vs f h e.
           elim (decide (t.is_dead goal)) [
             | inl d ↦ absurd (is_dead goal d y us rest f h)
-            | inr d ↦ subset_mem v.joined (firsts t (grammar goal)) (t.first goal) (kept t grammar goal (k goal) d).2
+            | inr d ↦ subset_mem v.joined (firsts t (grammar goal)) (t.first goal) (kept_live t grammar goal (k goal) d).2
                 (first_token t fits below (grammar goal) done y us rest v vs f h e)
           ];
     }
 
-pub complete_goal : (t : Tables) (grammar : Grammar) → Keeps t grammar → (n : ℕ)
+pub complete_goal : (t : Tables) (grammar : Productions) → KeepsAll t grammar → (n : ℕ)
     → ReadBelow t (FitsGoal grammar n) (read_goal grammar n)
 unfolding FitsGoal read_goal
 complete_goal t grammar k zero goal y us rest f h m = absurd f
 complete_goal t grammar k (suc n) goal y us rest f h m =
     elim (decide (t.is_dead goal)) [
-      | inl d ↦ absurd (none_fits t (FitsGoal grammar n) (claims t grammar k n).dead (grammar goal)
+      | inl d ↦ absurd (none_fits t (FitsGoal grammar n) (claims_hold t grammar k n).dead (grammar goal)
           (kept_dead t grammar goal (k goal) d) done y us rest f h)
-      | inr d ↦ complete t (FitsGoal grammar n) (read_goal grammar n) (claims t grammar k n) (complete_goal t grammar k n)
-          (grammar goal) (t.follow goal) (kept t grammar goal (k goal) d).0 done y us rest f h m
+      | inr d ↦ complete t (FitsGoal grammar n) (read_goal grammar n) (claims_hold t grammar k n) (complete_goal t grammar k n)
+          (grammar goal) (t.follow goal) (kept_live t grammar goal (k goal) d).0 done y us rest f h m
     ]
 
 -- ** Forms of core kinds alone.
@@ -126,7 +126,7 @@ all_core ks fits b (many test g) w x z us rest f h =
 all_core ks fits b (look want test) w x z us rest f h = subst (IsCore ks) (sym f.1) h
 all_core ks fits b (check holds) w x z us rest f h = subst (IsCore ks) (sym f.1) h
 
-pub goals_core : (ks : List SyntaxKind) (grammar : Grammar) → ((goal : Goal) → within ks (grammar goal) ≡ true) → (n : ℕ)
+pub goals_core : (ks : List SyntaxKind) (grammar : Productions) → ((goal : Goal) → within ks (grammar goal) ≡ true) → (n : ℕ)
     (goal : Goal) (y : Forest) (us rest : List Token) → FitsGoal grammar n goal y us rest → IsCore ks y
 unfolding FitsGoal
 goals_core ks grammar w zero goal y us rest f = absurd f

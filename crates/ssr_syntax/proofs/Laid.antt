@@ -12,7 +12,7 @@ use Rattle.ssr_syntax_tree.specs.Parts.{node_row}
 use Rattle.ssr_syntax.specs.declared.tokens.Token.{Token}
 use Rattle.ssr_syntax.specs.Trees as solid
 use Rattle.ssr_syntax.specs.Lossless.{trivia, behind_trivia, gap, behind_gap, upto, past, before, behind, lossless}
-use Rattle.ssr_syntax.specs.Preorder.{node_rows, first_at, past_at, high}
+use Rattle.ssr_syntax.specs.Preorder.{node_rows, first_at, past_at}
 
 -- ** Tokens beside siblings.
 
@@ -87,16 +87,6 @@ upto-add (suc n) k (t ∷ ts) =
     as (λ b. upto (if b then suc (n + k) else n + k) ts ≡ upto (if b then suc n else n) ts ++ upto k (past (if b then suc n else n) ts))
     [ true ↦ ap (λ m. upto m ts) (sym e) ∙ upto-add (suc n) k ts | false ↦ upto-add n k ts ])
 
-past-add : (n k : ℕ) (ts : List plain.Token) → past (n + k) ts ≡ past k (past n ts)
-past-add n k [] = refl
-past-add zero k (t ∷ ts) = ap (λ n. past n (t ∷ ts)) (omega arith)
-past-add (suc n) k (t ∷ ts) =
-    let e : suc n + k ≡ suc (n + k) = omega arith in
-    ap (λ m. past m (t ∷ ts)) e
-    ∙ elim (is_trivia t.kind)
-    as (λ b. past (if b then suc (n + k) else n + k) ts ≡ past k (past (if b then suc n else n) ts))
-    [ true ↦ ap (λ m. past m ts) (sym e) ∙ past-add (suc n) k ts | false ↦ past-add n k ts ]
-
 -- What holds in both cases of a token.
 pub by_kind : (P : Bool → Type 0) (t : plain.Token) → (is_trivia t.kind ≡ true → P true) → (is_trivia t.kind ≡ false → P false) → P (is_trivia t.kind)
 by_kind P t yes_case no_case =
@@ -108,13 +98,6 @@ upto-behind_trivia n (t ∷ ts) =
     by_kind (λ b. t ∷ upto (if b then suc n else n) ts ≡ (if b then t ∷ trivia ts else []) ++ upto (suc n) (if b then behind_trivia ts else t ∷ ts)) t
     (λ e. ap (λ l. t ∷ l) (upto-behind_trivia n ts))
     (λ e. ap (λ b. t ∷ upto (if b then suc n else n) ts) (sym e))
-
-past-behind_trivia : (n : ℕ) (ts : List plain.Token) → past (suc n) ts ≡ past (suc n) (behind_trivia ts)
-past-behind_trivia n [] = refl
-past-behind_trivia n (t ∷ ts) =
-    by_kind (λ b. past (if b then suc n else n) ts ≡ past (suc n) (if b then behind_trivia ts else t ∷ ts)) t
-    (λ e. past-behind_trivia n ts)
-    (λ e. ap (λ b. past (if b then suc n else n) ts) (sym e))
 
 upto-behind_gap : (n : ℕ) (ts : List plain.Token) → upto n ts ≡ gap n ts ++ upto n (behind_gap n ts)
 upto-behind_gap zero ts = refl
@@ -244,7 +227,7 @@ count-lossless (solid.tree kind kids x) ts =
     count-before (gap n ts) _
     ∙ omega (arith, count-lossless kids (behind_gap n ts), count-lossless x (past n ts))
 
-pub height-lossless : (f : solid.Forest) (ts : List plain.Token) → plain.height (lossless f ts) ≡ high f
+pub height-lossless : (f : solid.Forest) (ts : List plain.Token) → plain.height (lossless f ts) ≡ solid.height f
 height-lossless solid.done ts = refl
 height-lossless (solid.leaf kind tokens x) ts =
     height-before (gap (length tokens) ts) _ ∙ height-lossless x (past (length tokens) ts)
@@ -289,13 +272,13 @@ first_length u us ts are =
     ∙ length-append (trivia ts) (record { kind = u.kind; text = plain.spelled (upto 1 (behind_trivia ts)) } ∷ [])
 
 -- What is below a node of the tokens us, which stands there.
-pub record Inside (at : ℕ → ℕ) (t low i n : ℕ) (ts : List plain.Token) : Type 0 where
+pub record StandsInside (at : ℕ → ℕ) (t low i n : ℕ) (ts : List plain.Token) : Type 0 where
   pub first : t + length (gap n ts) ≡ first_at at low i n
   pub last : t + length (gap n ts) + length (upto n (behind_gap n ts)) ≡ past_at at low i n
   pub inside : StandsAt at (t + length (gap n ts)) (first_at at low i n) i n (behind_gap n ts)
 
 stands_inside : (at : ℕ → ℕ) (t low i more : ℕ) (us : List Token) (ts : List plain.Token) → AreOf us ts
-    → StandsAt at t low i (length us + more) ts → Inside at t low i (length us) ts
+    → StandsAt at t low i (length us + more) ts → StandsInside at t low i (length us) ts
 stands_inside at t low i more [] ts are h =
     let here : t ≡ max (at i) low = h.here in
     let none : length (upto zero ts) ≡ 0 = ap length (upto-zero ts) in

@@ -1,23 +1,23 @@
 -- Kinds in lists.
 use Rattle.std.proofs.Common.{◌≡◌, Bool, true, false, not, ◌||◌, ◌&&◌, List, [], ◌∷◌, ◌++◌, inl, inr, refl, sym, ap, subst, ◌∙◌}
-use denote.Enum.Bare.{same_true}
 use Rattle.ssr_syntax_lex.specs.declared.kinds.SyntaxKind.{SyntaxKind}
-use Rattle.ssr_syntax_lex.specs.contracts.kinds.SyntaxKind.{the_type}
+use Rattle.ssr_syntax_lex.specs.Kinds.{same_kind}
+use Rattle.ssr_syntax_lex.proofs.SameKinds.{same_kind-equal}
 use Rattle.ssr_syntax.specs.declared.tokens.Token.{Token}
-use Rattle.ssr_syntax.specs.Kinds.{same, mem}
+use Rattle.ssr_syntax.specs.Kinds.{mem}
 use Rattle.ssr_syntax.specs.Forms.{Test, passes, agrees}
 use Rattle.ssr_syntax.proofs.Answers.{decide, both, either, left_of, right_of, flipped}
 use Rattle.ssr_syntax.proofs.Check.{subset, meets, sift, sifted, decides_on, decides_off, next, END}
 
 -- a test of a kind passes for equal kinds only
-mem_like : (k l : SyntaxKind) (ks : List SyntaxKind) → same k l ≡ true → mem l ks ≡ true → mem k ks ≡ true
-mem_like k l ks e h = subst (λ w. mem w ks ≡ true) (sym (same_true the_type tt k l e)) h
+mem_like : (k l : SyntaxKind) (ks : List SyntaxKind) → same_kind k l ≡ true → mem l ks ≡ true → mem k ks ≡ true
+mem_like k l ks e h = subst (λ w. mem w ks ≡ true) (sym (same_kind-equal k l e)) h
 
 pub subset_mem : (k : SyntaxKind) (ks ls : List SyntaxKind) → subset ks ls ≡ true → mem k ks ≡ true → mem k ls ≡ true
 subset_mem k [] ls s h = cc
 subset_mem k (l ∷ ks) ls s h =
     let b = both (mem l ls) (subset ks ls) s in
-    elim (either (same k l) (mem k ks) h) [
+    elim (either (same_kind k l) (mem k ks) h) [
       | inl e ↦ mem_like k l ls e b.0
       | inr m ↦ subset_mem k ks ls b.1 m
     ]
@@ -30,22 +30,22 @@ pub apart : (k : SyntaxKind) (ks ls : List SyntaxKind) → meets ks ls ≡ false
 apart k [] ls s h = cc
 apart k (l ∷ ks) ls s h =
     let b = neither (mem l ls) (meets ks ls) s in
-    elim (either (same k l) (mem k ks) h) [
-      | inl e ↦ ap (λ w. mem w ls) (same_true the_type tt k l e) ∙ b.0
+    elim (either (same_kind k l) (mem k ks) h) [
+      | inl e ↦ ap (λ w. mem w ls) (same_kind-equal k l e) ∙ b.0
       | inr m ↦ apart k ks ls b.1 m
     ]
 
 pub mem_left : (k : SyntaxKind) (ks ls : List SyntaxKind) → mem k ks ≡ true → mem k (ks ++ ls) ≡ true
 mem_left k [] ls h = cc
 mem_left k (l ∷ ks) ls h =
-    elim (either (same k l) (mem k ks) h) [
-      | inl e ↦ left_of (same k l) (mem k (ks ++ ls)) e
-      | inr m ↦ right_of (same k l) (mem k (ks ++ ls)) (mem_left k ks ls m)
+    elim (either (same_kind k l) (mem k ks) h) [
+      | inl e ↦ left_of (same_kind k l) (mem k (ks ++ ls)) e
+      | inr m ↦ right_of (same_kind k l) (mem k (ks ++ ls)) (mem_left k ks ls m)
     ]
 
 pub mem_right : (k : SyntaxKind) (ks ls : List SyntaxKind) → mem k ls ≡ true → mem k (ks ++ ls) ≡ true
 mem_right k [] ls h = h
-mem_right k (l ∷ ks) ls h = right_of (same k l) (mem k (ks ++ ls)) (mem_right k ks ls h)
+mem_right k (l ∷ ks) ls h = right_of (same_kind k l) (mem k (ks ++ ls)) (mem_right k ks ls h)
 
 sift_mem : (want : Bool) (k : SyntaxKind) (ls ks : List SyntaxKind) → agrees want (mem k ls) ≡ true → mem k ks ≡ true
     → mem k (sift want ls ks) ≡ true
@@ -53,13 +53,13 @@ sift_mem want k ls [] a h = cc
 sift_mem want k ls (l ∷ ks) a h =
     elim (decide (agrees want (mem l ls))) [
       | inl hit ↦ rw hit
-          (elim (either (same k l) (mem k ks) h) [
-            | inl e ↦ left_of (same k l) (mem k (sift want ls ks)) e
-            | inr m ↦ right_of (same k l) (mem k (sift want ls ks)) (sift_mem want k ls ks a m)
+          (elim (either (same_kind k l) (mem k ks) h) [
+            | inl e ↦ left_of (same_kind k l) (mem k (sift want ls ks)) e
+            | inr m ↦ right_of (same_kind k l) (mem k (sift want ls ks)) (sift_mem want k ls ks a m)
           ])
       | inr miss ↦ rw miss
-          (elim (either (same k l) (mem k ks) h) [
-            | inl e ↦ absurd (cc (sym miss ∙ ap (λ w. agrees want (mem w ls)) (sym (same_true the_type tt k l e)) ∙ a))
+          (elim (either (same_kind k l) (mem k ks) h) [
+            | inl e ↦ absurd (cc (sym miss ∙ ap (λ w. agrees want (mem w ls)) (sym (same_kind-equal k l e)) ∙ a))
             | inr m ↦ sift_mem want k ls ks a m
           ])
     ]

@@ -11,8 +11,9 @@ use Rattle.ssr_syntax.specs.declared.rows.Row.{Row}
 use Rattle.ssr_syntax.specs.declared.preorder.Open.{Open}
 use Rattle.ssr_syntax.specs.declared.syntax_error.SyntaxError.{SyntaxError}
 use Rattle.ssr_syntax.specs.declared.syntax_error.SyntaxError.TheVariants as errors
-use Rattle.ssr_syntax.specs.Trees.{Forest, done, leaf, tree, spell, nodes, rows}
-use Rattle.ssr_syntax.specs.Preorder.{node_rows, still_open, closed, number_of, first_of, opened, from_right, is_deeper, first_at, past_at, high, most_deep, tree_rows, IsDepthFault, OkUnlessDeep, IsClosed, IsFromRight}
+use Rattle.ssr_syntax.specs.Trees.{Forest, done, leaf, tree, spell, nodes, rows, height}
+use Rattle.ssr_syntax.specs.Preorder.{node_rows, first_at, past_at, most_deep, tree_rows, IsDepthFault, OkUnlessDeep}
+use Rattle.ssr_syntax.specs.OpenNodes.{still_open, closed, number_of, first_of, opened, from_right, is_deeper, IsClosed, IsFromRight}
 
 -- Whether a node of the forest has more than `limit` others above it, where so many stand above the forest.
 abbrev pub deeper_by : ℕ → ℕ → Forest → Bool
@@ -87,16 +88,20 @@ reversed_node k x rest r =
     let e : r ∷ (k ++ x) ≡ (r ∷ []) ++ (k ++ x) = refl in
     rw (reverse-append (r ∷ []) (k ++ x), reverse-append k x, append_assoc, append_assoc)
 
--- the node of a tree's row
-opened_is : (at : ℕ → ℕ) (total : ℕ) (kind : SyntaxKind) (kids x : Forest) (i left before place : ℕ) (above : List Open)
-    → i + (length (spell kids) + (length (spell x) + left)) ≡ total → place ≡ nodes kids + before
-    → opened at total (record {
-      kind = kind;
-      first = length (spell kids) + (length (spell x) + left);
-      end = length (spell x) + left;
-      below = nodes kids;
-    }) place above
-    ≡ record {
+-- ** One tree's row comes: x and so many tokens stand to the tree's right.
+
+abbrev row_of : SyntaxKind → Forest → Forest → ℕ → Row
+row_of kind kids x left =
+    record { kind = kind; first = length (spell kids) + (length (spell x) + left); end = length (spell x) + left; below = nodes kids }
+
+-- what comes then: the rows below it, and more
+abbrev rest_of : Forest → Forest → ℕ → List Row → List Row
+rest_of kids x left more = reverse (rows kids (length (spell x) + left)) ++ more
+
+-- its open node: `before` rows come behind those below it, and i tokens are to its left
+abbrev node_of : (ℕ → ℕ) → SyntaxKind → Forest → ℕ → ℕ → List Open → Open
+node_of at kind kids i before above =
+    record {
       start = before;
       number = before + length above;
       node = record {
@@ -107,12 +112,38 @@ opened_is : (at : ℕ → ℕ) (total : ℕ) (kind : SyntaxKind) (kids x : Fores
         below = nodes kids;
       };
     }
+
+opened_is : (at : ℕ → ℕ) (total : ℕ) (kind : SyntaxKind) (kids x : Forest) (i left before place : ℕ) (above : List Open)
+    → i + (length (spell kids) + (length (spell x) + left)) ≡ total → place ≡ nodes kids + before
+    → opened at total (row_of kind kids x left) place above ≡ node_of at kind kids i before above
 opened_is at total kind kids x i left before place above h e =
     let e1 : total - (length (spell kids) + (length (spell x) + left)) ≡ i = omega arith in
     let e2 : (length (spell kids) + (length (spell x) + left)) - (length (spell x) + left) ≡ length (spell kids) = omega arith in
     let e3 : place - nodes kids ≡ before = omega arith in
     let e4 : place - before ≡ nodes kids = omega arith in
     rw (e1, e2, e3, e4)
+
+-- what is known then
+record TreeFacts (at : ℕ → ℕ) (total : ℕ) (kind : SyntaxKind) (kids x : Forest) (i left : ℕ) (above : List Open) (more : List Row) : Type 0 where
+  count : length (rest_of kids x left more) ≡ nodes kids + length more
+  sum : i + (length (spell kids) + (length (spell x) + left)) ≡ total
+  later : BeginBy (length (rest_of kids x left more)) above
+  even_later : BeginBy (suc (length (rest_of kids x left more))) above
+  opens_node : opened at total (row_of kind kids x left) (length (rest_of kids x left more)) above ≡ node_of at kind kids i (length more) above
+
+facts_of_tree : (at : ℕ → ℕ) (total : ℕ) (kind : SyntaxKind) (kids x : Forest) (i left : ℕ) (above : List Open) (more : List Row)
+    → i + (length (spell (tree kind kids x)) + left) ≡ total → BeginBy (length more) above → TreeFacts at total kind kids x i left above more
+facts_of_tree at total kind kids x i left above more h b =
+    let rest : List Row = rest_of kids x left more in
+    let rest_length : length rest ≡ nodes kids + length more = length-reversed_rows kids (length (spell x) + left) more in
+    let sum_here : i + (length (spell kids) + (length (spell x) + left)) ≡ total = omega (arith, h, length-append (spell kids) (spell x)) in
+    record {
+      count = rest_length;
+      sum = sum_here;
+      later = begins_later (length more) (length rest) above (omega arith) b;
+      even_later = begins_later (length more) (suc (length rest)) above (omega arith) b;
+      opens_node = opened_is at total kind kids x i left (length more) (length rest) above sum_here rest_length;
+    }
 
 pub placed : (at : ℕ → ℕ) (total : ℕ) (f : Forest) (i left : ℕ) (above : List Open) (more : List Row)
     → i + (length (spell f) + left) ≡ total → BeginBy (length more) above
@@ -123,34 +154,19 @@ placed at total (leaf kind tokens x) i left above more h b =
     placed at total x (i + length tokens) left above more (omega (arith, h, length-append tokens (spell x))) b
 placed at total (tree kind kids x) i left above more h b =
     let n : ℕ = length (spell kids) in
-    let row : Row = record { kind = kind; first = n + (length (spell x) + left); end = length (spell x) + left; below = nodes kids } in
-    let rest : List Row = reverse (rows kids (length (spell x) + left)) ++ more in
-    let rest_length : length rest ≡ nodes kids + length more = length-reversed_rows kids (length (spell x) + left) more in
-    let sum : i + (n + (length (spell x) + left)) ≡ total = omega (arith, h, length-append (spell kids) (spell x)) in
-    let inner : Open = record {
-      start = length more;
-      number = length more + length above;
-      node = record {
-        kind = kind;
-        parent = number_of above;
-        first = first_at at (first_of above) i n;
-        past = past_at at (first_of above) i n;
-        below = nodes kids;
-      };
-    } in
-    let later : BeginBy (length rest) above = begins_later (length more) (length rest) above (omega arith) b in
-    let even_later : BeginBy (length (row ∷ rest)) above = begins_later (length more) (suc (length rest)) above (omega arith) b in
+    let row : Row = row_of kind kids x left in
+    let rest : List Row = rest_of kids x left more in
+    let inner : Open = node_of at kind kids i (length more) above in
+    let now = facts_of_tree at total kind kids x i left above more h b in
     let xs : List NodeRow = node_rows at (number_of above) (first_of above) (1 + (length more + length above) + nodes kids) (i + n) x in
     let ks : List NodeRow = node_rows at (length more + length above) (first_at at (first_of above) i n) (1 + (length more + length above)) i kids in
     let right : from_right at total above (reverse (rows x left) ++ (row ∷ rest)) ≡ reverse xs ++ from_right at total above (row ∷ rest) =
-    placed at total x (i + n) left above (row ∷ rest) (omega arith) even_later
-    ∙ ap (λ m. reverse (node_rows at (number_of above) (first_of above) m (i + n) x) ++ from_right at total above (row ∷ rest)) (omega arith) in
+    placed at total x (i + n) left above (row ∷ rest) (omega (arith, now.sum)) now.even_later
+    ∙ ap (λ m. reverse (node_rows at (number_of above) (first_of above) m (i + n) x) ++ from_right at total above (row ∷ rest)) (omega (arith, now.count)) in
     let here : from_right at total above (row ∷ rest) ≡ from_right at total (inner ∷ above) rest =
-    stay at total above row rest later
-    ∙ ap (λ o. from_right at total (o ∷ above) rest)
-    (opened_is at total kind kids x i left (length more) (length rest) above sum rest_length) in
+    stay at total above row rest now.later ∙ ap (λ o. from_right at total (o ∷ above) rest) now.opens_node in
     let below : from_right at total (inner ∷ above) rest ≡ reverse ks ++ from_right at total (inner ∷ above) more =
-    placed at total kids i (length (spell x) + left) (inner ∷ above) more sum (omega arith, b)
+    placed at total kids i (length (spell x) + left) (inner ∷ above) more now.sum (omega arith, b)
     ∙ ap (λ m. reverse (node_rows at (length more + length above) (first_at at (first_of above) i n) m i kids) ++ from_right at total (inner ∷ above) more) (omega arith) in
     let last : from_right at total (inner ∷ above) more ≡ inner.node ∷ from_right at total above more =
     closes_first at total inner above more (omega arith) in
@@ -160,10 +176,6 @@ placed at total (tree kind kids x) i left above more h b =
     ∙ sym (reversed_node ks xs (from_right at total above more) inner.node)
 
 -- ** How deep the nodes stand.
-
-or_assoc : (a b c : Bool) → (a || (b || c)) ≡ ((a || b) || c)
-or_assoc true b c = refl
-or_assoc false b c = refl
 
 closes_unseen : (limit : ℕ) (at : ℕ → ℕ) (total : ℕ) (inner : Open) (above : List Open) (rest : List Row) → length rest ≤ inner.start
     → is_deeper limit at total (inner ∷ above) rest ≡ is_deeper limit at total above rest
@@ -194,31 +206,17 @@ depth_told limit at total (leaf kind tokens x) i left above more h b =
     depth_told limit at total x (i + length tokens) left above more (omega (arith, h, length-append tokens (spell x))) b
 depth_told limit at total (tree kind kids x) i left above more h b =
     let n : ℕ = length (spell kids) in
-    let row : Row = record { kind = kind; first = n + (length (spell x) + left); end = length (spell x) + left; below = nodes kids } in
-    let rest : List Row = reverse (rows kids (length (spell x) + left)) ++ more in
-    let rest_length : length rest ≡ nodes kids + length more = length-reversed_rows kids (length (spell x) + left) more in
-    let sum : i + (n + (length (spell x) + left)) ≡ total = omega (arith, h, length-append (spell kids) (spell x)) in
-    let inner : Open = record {
-      start = length more;
-      number = length more + length above;
-      node = record {
-        kind = kind;
-        parent = number_of above;
-        first = first_at at (first_of above) i n;
-        past = past_at at (first_of above) i n;
-        below = nodes kids;
-      };
-    } in
-    let later : BeginBy (length rest) above = begins_later (length more) (length rest) above (omega arith) b in
-    let even_later : BeginBy (length (row ∷ rest)) above = begins_later (length more) (suc (length rest)) above (omega arith) b in
+    let row : Row = row_of kind kids x left in
+    let rest : List Row = rest_of kids x left more in
+    let inner : Open = node_of at kind kids i (length more) above in
+    let now = facts_of_tree at total kind kids x i left above more h b in
     let right : is_deeper limit at total above (reverse (rows x left) ++ (row ∷ rest)) ≡ (deeper_by limit (length above) x || is_deeper limit at total above (row ∷ rest)) =
-    depth_told limit at total x (i + n) left above (row ∷ rest) (omega arith) even_later in
+    depth_told limit at total x (i + n) left above (row ∷ rest) (omega (arith, now.sum)) now.even_later in
     let here : is_deeper limit at total above (row ∷ rest) ≡ (nat_lt limit (length above) || is_deeper limit at total (inner ∷ above) rest) =
-    depth_here limit at total above row rest later
-    ∙ ap (λ o. nat_lt limit (length above) || is_deeper limit at total (o ∷ above) rest)
-    (opened_is at total kind kids x i left (length more) (length rest) above sum rest_length) in
+    depth_here limit at total above row rest now.later
+    ∙ ap (λ o. nat_lt limit (length above) || is_deeper limit at total (o ∷ above) rest) now.opens_node in
     let below : is_deeper limit at total (inner ∷ above) rest ≡ (deeper_by limit (length (inner ∷ above)) kids || is_deeper limit at total (inner ∷ above) more) =
-    depth_told limit at total kids i (length (spell x) + left) (inner ∷ above) more sum (omega arith, b) in
+    depth_told limit at total kids i (length (spell x) + left) (inner ∷ above) more now.sum (omega arith, b) in
     let last : is_deeper limit at total (inner ∷ above) more ≡ is_deeper limit at total above more =
     closes_unseen limit at total inner above more (omega arith) in
     let deep : Bool = deeper_by limit (1 + length above) kids in
@@ -237,7 +235,7 @@ or_false : (a b : Bool) → (a || b) ≡ false → (a ≡ false) × (b ≡ false
 or_false true b h = absurd (cc)
 or_false false b h = (refl, h)
 
-pub too_high : (limit above : ℕ) (f : Forest) → deeper_by limit above f ≡ true → 1 + limit < above + high f
+pub too_high : (limit above : ℕ) (f : Forest) → deeper_by limit above f ≡ true → 1 + limit < above + height f
 too_high limit above done h = absurd (cc)
 too_high limit above (leaf kind tokens x) h = too_high limit above x h
 too_high limit above (tree kind kids x) h =
@@ -249,7 +247,7 @@ too_high limit above (tree kind kids x) h =
       ]
     ]
 
-pub not_high : (limit above : ℕ) (f : Forest) → above ≤ 1 + limit → deeper_by limit above f ≡ false → above + high f ≤ 1 + limit
+pub not_high : (limit above : ℕ) (f : Forest) → above ≤ 1 + limit → deeper_by limit above f ≡ false → above + height f ≤ 1 + limit
 not_high limit above done le h = omega arith
 not_high limit above (leaf kind tokens x) le h = not_high limit above x le h
 not_high limit above (tree kind kids x) le h =
@@ -273,13 +271,13 @@ same_test : (a b : Bool) → (a ≡ true → b ≡ true) → (a ≡ false → b 
 same_test true b yes_case no_case = sym (yes_case refl)
 same_test false b yes_case no_case = sym (no_case refl)
 
-abbrev pub Whole : (ℕ → ℕ) → ℕ → SyntaxKind → Forest → List Row → Row → Type 0
-Whole at tokens kind kids below root =
+abbrev pub PlacedWhole : (ℕ → ℕ) → ℕ → SyntaxKind → Forest → List Row → Row → Type 0
+PlacedWhole at tokens kind kids below root =
     (from_right at (root.first) (root_open root.kind tokens (length below) ∷ []) (reverse below) ≡ reverse (tree_rows at tokens kind kids))
-    × (is_deeper most_deep at (root.first) (root_open root.kind tokens (length below) ∷ []) (reverse below) ≡ nat_lt most_deep (high kids))
+    × (is_deeper most_deep at (root.first) (root_open root.kind tokens (length below) ∷ []) (reverse below) ≡ nat_lt most_deep (height kids))
 
 whole_rows : (at : ℕ → ℕ) (tokens : ℕ) (kind : SyntaxKind) (kids : Forest)
-    → Whole at tokens kind kids (rows kids 0) (record { kind = kind; first = length (spell kids) + 0; end = 0; below = nodes kids })
+    → PlacedWhole at tokens kind kids (rows kids 0) (record { kind = kind; first = length (spell kids) + 0; end = 0; below = nodes kids })
 whole_rows at tokens kind kids =
     let root : Open = root_open kind tokens (length (rows kids 0)) in
     let total : ℕ = length (spell kids) + 0 in
@@ -293,9 +291,9 @@ whole_rows at tokens kind kids =
       ap (is_deeper most_deep at total (root ∷ [])) (sym none)
           ∙ depth_told most_deep at total kids 0 0 (root ∷ []) [] (omega arith) (omega arith, tt)
           ∙ or_nothing (deeper_by most_deep 1 kids)
-          ∙ same_test (deeper_by most_deep 1 kids) (nat_lt most_deep (high kids))
-          (λ e. lt-ltb most_deep (high kids) (omega (arith, too_high most_deep 1 kids e)))
-          (λ e. le-ltb most_deep (high kids) (omega (arith, not_high most_deep 1 kids (omega arith) e))),
+          ∙ same_test (deeper_by most_deep 1 kids) (nat_lt most_deep (height kids))
+          (λ e. lt-ltb most_deep (height kids) (omega (arith, too_high most_deep 1 kids e)))
+          (λ e. le-ltb most_deep (height kids) (omega (arith, not_high most_deep 1 kids (omega arith) e))),
     )
 
 snoc_same : (xs ys : List Row) (x y : Row) → xs ++ (x ∷ []) ≡ ys ++ (y ∷ []) → (xs ≡ ys) × (x ≡ y)
@@ -306,12 +304,12 @@ snoc_same xs ys x y e =
     (sym (reverse-reverse xs) ∙ ap reverse front ∙ reverse-reverse ys, cc)
 
 pub whole_placed : (at : ℕ → ℕ) (tokens : ℕ) (kind : SyntaxKind) (kids : Forest) (below : List Row) (root : Row)
-    → below ++ (root ∷ []) ≡ rows (tree kind kids done) 0 → Whole at tokens kind kids below root
+    → below ++ (root ∷ []) ≡ rows (tree kind kids done) 0 → PlacedWhole at tokens kind kids below root
 whole_placed at tokens kind kids below root e =
     let last : Row = record { kind = kind; first = length (spell kids) + 0; end = 0; below = nodes kids } in
     let same = snoc_same below (rows kids 0) root last e in
-    subst (λ r. Whole at tokens kind kids below r) (sym same.1)
-    (subst (λ l. Whole at tokens kind kids l last) (sym same.0) (whole_rows at tokens kind kids))
+    subst (λ r. PlacedWhole at tokens kind kids below r) (sym same.1)
+    (subst (λ l. PlacedWhole at tokens kind kids l last) (sym same.0) (whole_rows at tokens kind kids))
 
 -- ** The ends of the loops.
 
@@ -408,7 +406,7 @@ pub all_placed : (at : ℕ → ℕ) (tokens : ℕ) (kind : SyntaxKind) (kids : F
     → below ++ (root ∷ []) ≡ rows (tree kind kids done) 0
     → is_deeper most_deep at root.first (root_open root.kind tokens (length below) ∷ []) (reverse below) ≡ false
     → nodes ≡ from_right at root.first (root_open root.kind tokens (length below) ∷ []) (reverse below)
-    → (nat_lt most_deep (high kids) ≡ false) × (reverse nodes ≡ tree_rows at tokens kind kids)
+    → (nat_lt most_deep (height kids) ≡ false) × (reverse nodes ≡ tree_rows at tokens kind kids)
 all_placed at tokens kind kids below root nodes e deep is =
     let whole = whole_placed at tokens kind kids below root e in
     (sym whole.1 ∙ deep, ap reverse (is ∙ whole.0) ∙ reverse-reverse (tree_rows at tokens kind kids))
@@ -429,14 +427,14 @@ module _ (at : ℕ → ℕ) (tokens : ℕ) (kind : SyntaxKind) (kids : Forest) (
   pub rows_done : (before nodes : List NodeRow) → before ≡ []
       → is_deeper most_deep at root.first (reverse opened_root) (reverse below) ≡ false
       → nodes ≡ before ++ from_right at root.first (reverse opened_root) (reverse below)
-      → (nat_lt most_deep (high kids) ≡ false) × (reverse nodes ≡ tree_rows at tokens kind kids)
+      → (nat_lt most_deep (height kids) ≡ false) × (reverse nodes ≡ tree_rows at tokens kind kids)
   rows_done before nodes empty deep is =
       all_placed at tokens kind kids below root nodes (sym split ∙ are)
       (ap (λ l. is_deeper most_deep at root.first l (reverse below)) (sym open_root) ∙ deep)
       (is ∙ ap (λ l. l ++ from_right at root.first (reverse opened_root) (reverse below)) empty
       ∙ ap (λ l. from_right at root.first l (reverse below)) open_root)
 
-  pub rows_too_deep : is_deeper most_deep at root.first (reverse opened_root) (reverse below) ≡ nat_lt most_deep (high kids)
+  pub rows_too_deep : is_deeper most_deep at root.first (reverse opened_root) (reverse below) ≡ nat_lt most_deep (height kids)
   rows_too_deep =
       ap (λ l. is_deeper most_deep at root.first l (reverse below)) open_root
       ∙ (whole_placed at tokens kind kids below root (sym split ∙ are)).1

@@ -4,12 +4,12 @@ use Rattle.std.specs.Prelude.{⊤, Option, get_or}
 use Rattle.std.specs.Bool.{MatchBool}
 use Rattle.ssr_syntax_lex.specs.declared.kinds.SyntaxKind.{SyntaxKind}
 use Rattle.ssr_syntax_lex.specs.declared.kinds.SyntaxKind.TheVariants as k
-use Rattle.ssr_syntax_lex.specs.Kinds.{is_trivia}
+use Rattle.ssr_syntax_lex.specs.Kinds.{same_kind, is_trivia}
 use Rattle.ssr_syntax_lex.specs.Tokens.{token_text}
 use Rattle.ssr_syntax_lex.specs.declared.tokens.RawToken.{RawToken}
 use Rattle.ssr_syntax_tree.specs.Syntax as plain
 use Rattle.ssr_syntax.specs.declared.tokens.Token.{Token}
-use Rattle.ssr_syntax.specs.Kinds.{same, mem}
+use Rattle.ssr_syntax.specs.Kinds.{mem}
 use Rattle.ssr_syntax.specs.Solid.{with_eq, with_r_angle, twice, joined, lengthened, is_joint, joined_two, joined_three, solid_token, solid_tokens, ends}
 use Rattle.ssr_syntax.specs.Lossless.{upto}
 use Rattle.ssr_syntax.specs.Reading.{pieces}
@@ -96,7 +96,7 @@ perhaps_joins false kind = refl
 joined_joins : (next kind : SyntaxKind) → joins (joined next kind) ≡ true
 joined_joins k.EQ kind = eq_joins kind
 joined_joins k.R_ANGLE kind = r_angle_joins kind
-joined_joins next kind = perhaps_joins (same kind next) kind
+joined_joins next kind = perhaps_joins (same_kind kind next) kind
 
 lengthened_joins : (kind : SyntaxKind) (joint : Bool) (ts : List RawToken) → joins (lengthened kind joint ts) ≡ true
 lengthened_joins kind false ts = refl

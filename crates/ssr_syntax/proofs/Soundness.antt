@@ -25,8 +25,8 @@ past_ok whole ks (t ∷ us) rest e =
     ]
 
 -- the reading of each goal fits it
-abbrev pub Sound : FitsBelow → ReadsBelow → Type 0
-Sound fits below =
+abbrev pub IsSound : FitsBelow → ReadsBelow → Type 0
+IsSound fits below =
     (goal : Goal) (ts : List Token) (r : SoFar) → below goal ts ≡ Ok r
     → (us : List Token) × (ts ≡ us ++ r.rest) × fits goal r.made us r.rest
 
@@ -43,18 +43,18 @@ turn_before : (step : Step) (n : ℕ) (x y z : Forest) (vs ws mid rest : List To
     → Repeats n step y z ws rest → Repeats (suc n) step x z (vs ++ ws) rest
 turn_before step n x y z vs ws mid rest e turn others = (y, vs, ws, refl, subst (step x y vs) e turn, others)
 
-repeats : (step : Step) (test : Test) (f : SoFar → Result SoFar Fault)
+repeat_fits : (step : Step) (test : Test) (f : SoFar → Result SoFar Fault)
     → ((r s : SoFar) → f r ≡ Ok s → Takes step r s)
     → (n : ℕ) (r s : SoFar) → repeat (λ z. z.rest) n test f r ≡ Ok s
     → (us : List Token) × (r.rest ≡ us ++ s.rest) × ((m : ℕ) × Repeats m step r.made s.made us s.rest)
-repeats step test f found zero r s e = cc
-repeats step test f found (suc n) r s e =
+repeat_fits step test f found zero r s e = cc
+repeat_fits step test f found (suc n) r s e =
     elim (decide (passes test r.rest)) [
       | inl hit ↦
           let m = bind_ok (f r) (repeat (λ z. z.rest) n test f) s (rw hit at e) in
           let q = m.0 in
           let turn = found r q m.1 in
-          let others = repeats step test f found n q s m.2 in
+          let others = repeat_fits step test f found n q s m.2 in
           let all = turn_before step others.2.0 r.made q.made s.made turn.0 others.0 q.rest s.rest others.1 turn.2 others.2.1 in
           (turn.0 ++ others.0, over r q s turn.0 others.0 turn.1 others.1, (suc others.2.0, all))
       | inr miss ↦
@@ -62,7 +62,7 @@ repeats step test f found (suc n) r s e =
           ([], ap (λ z. z.rest) same, (zero, (refl, ap (λ z. z.made) (sym same))))
     ]
 
-pub sound : (fits : FitsBelow) (below : ReadsBelow) → Sound fits below
+pub sound : (fits : FitsBelow) (below : ReadsBelow) → IsSound fits below
     → (form : Form) (r s : SoFar) → read below form r ≡ Ok s → Takes (Fits fits form) r s
 sound fits below h (one whole ks) r s e =
     let m = bind_ok (past whole ks r.rest) (λ ts. Ok (so_far (join r.made (first_leaf whole r.rest)) ts)) s e in
@@ -98,7 +98,7 @@ sound fits below h (choose test f g) r s e =
       | inr miss ↦ let k = sound fits below h g r s (rw miss at e) in (k.0, k.1, inr k.2)
     ]
 sound fits below h (many test f) r s e =
-    repeats (Fits fits f) test (read below f) (sound fits below h f) (length r.rest + 1) r s e
+    repeat_fits (Fits fits f) test (read below f) (sound fits below h f) (length r.rest + 1) r s e
 sound fits below h (look want test) r s e =
     elim (decide (agrees want (passes test r.rest))) [
       | inl hit ↦ subst (λ z. Takes (Fits fits (look want test)) r z) (ok_one (rw hit at e)) ([], refl, (refl, refl, hit))

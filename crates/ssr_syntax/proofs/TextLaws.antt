@@ -15,17 +15,17 @@ use Rattle.ssr_syntax.specs.declared.goals.Fault.{Fault}
 use Rattle.ssr_syntax.specs.declared.goals.Fault.TheVariants as faults
 use Rattle.ssr_syntax.specs.declared.syntax_error.SyntaxError.{SyntaxError}
 use Rattle.ssr_syntax.specs.declared.syntax_error.SyntaxError.TheVariants as errors
-use Rattle.ssr_syntax.specs.Trees.{Forest, done, leaf, tree, spell, IsShallow}
+use Rattle.ssr_syntax.specs.Trees.{Forest, done, leaf, tree, spell, IsShallow, height}
 use Rattle.ssr_syntax.specs.Lossless.{whole_tree, IsTrimmed}
-use Rattle.ssr_syntax.specs.Preorder.{high, most_deep}
+use Rattle.ssr_syntax.specs.Preorder.{most_deep}
 use Rattle.ssr_syntax.specs.Solid.{solid_tokens}
 use Rattle.ssr_syntax.specs.Reading.{reading, most_levels, pieces, one_tree, tree_reading, lexed_reading, short_reading, file_reading, fragment_reading, trimmed, goal_of, begins_solid, error_of, Answers, AnswersTrimmed, FitsTokens, FitsFile, FitsFragment, IsTreeOfFile, IsTreeOfFragment, IsThatOrTooDeep}
 use Rattle.ssr_syntax.proofs.Laid.{AreOf, IsSingle}
 use Rattle.ssr_syntax.proofs.Trimmed.{trimmed-whole, trimmed-root}
-use Rattle.ssr_syntax.proofs.Whole.{reading_fits, reading_complete}
-use Rattle.ssr_syntax.proofs.Texts.{Read, is_read, read_given, reading_is, read_is, read_ok, read_too_deep, whole-depth, whole-source}
+use Rattle.ssr_syntax.proofs.Whole.{one_fits, reading_fits, reading_complete}
+use Rattle.ssr_syntax.proofs.Texts.{ReadsAs, is_read, read_given, reading_is, read_is, read_ok, read_too_deep, whole-depth, whole-source}
 
-shallow : (m : ℕ) (f : Forest) → high f ≤ m → IsShallow m f
+shallow : (m : ℕ) (f : Forest) → height f ≤ m → IsShallow m f
 shallow m done h = tt
 shallow m (leaf kind us x) h = shallow m x h
 shallow zero (tree kind kids x) h = absurd (omega arith)
@@ -68,26 +68,26 @@ tokens_sound goal text raw s spells e =
 abbrev Told : Result Syntax SyntaxError → Syntax → Type 0
 Told read s = (read ≡ Ok s) ⊎ ((read ≡ Err errors.TooDeep) × (most_deep < depth_of s))
 
-told_whole : (goal : Goal) (text : List ℕ) (raw : List RawToken) (kind : SyntaxKind) (kids : Forest) (b : Bool) → Read goal text raw kind kids
-    → nat_lt most_deep (high kids) ≡ b → Told (tree_reading goal text raw) (whole_tree kind kids (pieces text raw))
+told_whole : (goal : Goal) (text : List ℕ) (raw : List RawToken) (kind : SyntaxKind) (kids : Forest) (b : Bool) → ReadsAs goal text raw kind kids
+    → nat_lt most_deep (height kids) ≡ b → Told (tree_reading goal text raw) (whole_tree kind kids (pieces text raw))
 told_whole goal text raw kind kids true r e =
-    inr (read_too_deep goal text raw kind kids r e, omega (arith, ltb-true most_deep (high kids) e, whole-depth kind kids (pieces text raw)))
+    inr (read_too_deep goal text raw kind kids r e, omega (arith, ltb-true most_deep (height kids) e, whole-depth kind kids (pieces text raw)))
 told_whole goal text raw kind kids false r e = inl (read_ok goal text raw kind kids r e)
 
-deeper_than : (kind : SyntaxKind) (kids : Forest) (b : Bool) → nat_lt most_deep (high kids) ≡ b
-    → (IsShallow (suc most_deep) (tree kind kids done) → ⊥) → most_deep < high kids
-deeper_than kind kids true e h = ltb-true most_deep (high kids) e
-deeper_than kind kids false e h = absurd (h (shallow most_deep kids (ltb-false most_deep (high kids) e), tt))
+deeper_than : (kind : SyntaxKind) (kids : Forest) (b : Bool) → nat_lt most_deep (height kids) ≡ b
+    → (IsShallow (suc most_deep) (tree kind kids done) → ⊥) → most_deep < height kids
+deeper_than kind kids true e h = ltb-true most_deep (height kids) e
+deeper_than kind kids false e h = absurd (h (shallow most_deep kids (ltb-false most_deep (height kids) e), tt))
 
 pub tokens_complete : (goal : Goal) (text : List ℕ) (raw : List RawToken) (s : Syntax) → FitsTokens goal text raw s
     → Told (tree_reading goal text raw) s
 tokens_complete goal text raw s (kind, kids, n, fits, is) =
     subst (Told (tree_reading goal text raw)) (sym is)
     (elim (reading_complete goal (solid_tokens raw) (tree kind kids done) n fits) [
-      | inl e ↦ told_whole goal text raw kind kids (nat_lt most_deep (high kids)) (read_given goal text raw kind kids e) refl
+      | inl e ↦ told_whole goal text raw kind kids (nat_lt most_deep (height kids)) (read_given goal text raw kind kids e) refl
       | inr e ↦ inr (
         reading_is goal text raw (Err faults.TooDeep) e.0,
-        omega (arith, deeper_than kind kids (nat_lt most_deep (high kids)) refl e.1, whole-depth kind kids (pieces text raw)),
+        omega (arith, deeper_than kind kids (nat_lt most_deep (height kids)) refl e.1, whole-depth kind kids (pieces text raw)),
       )
     ])
 
@@ -202,3 +202,30 @@ pub fragment_complete : (fragment : Fragment) (text : List ℕ) (s : Syntax) (r 
     → FitsFragment fragment text s → AnswersTrimmed r (fragment_reading fragment text) text → IsThatOrTooDeep (λ v. v.0) s r
 fragment_complete fragment text s (Ok v) lt fits h = told_ok (fragment_reading fragment text) s v.0 (fragment_told fragment text s lt fits) h.0
 fragment_complete fragment text s (Err x) lt fits h = λ m. told_err (fragment_reading fragment text) s x (fragment_told fragment text s lt fits) (h m)
+
+-- ** At most one tree fits.
+
+node_parts : (P : SyntaxKind → Forest → Type 0) (kind other : SyntaxKind) (kids below : Forest) → tree kind kids done ≡ tree other below done
+    → P kind kids → P other below
+node_parts P kind other kids below e h =
+    let same_kind : kind ≡ other = cc in
+    let same_kids : kids ≡ below = cc in
+    subst (λ k. P k below) same_kind (subst (P kind) same_kids h)
+
+one_tokens : (goal : Goal) (text : List ℕ) (raw : List RawToken) (a b : Syntax)
+    → FitsTokens goal text raw a → FitsTokens goal text raw b → a ≡ b
+one_tokens goal text raw a b (kind, kids, n, f, e) (other, below, m, g, d) =
+    let same = one_fits goal (solid_tokens raw) (tree kind kids done) (tree other below done) n m f g in
+    e
+    ∙ node_parts (λ k l. whole_tree kind kids (pieces text raw) ≡ whole_tree k l (pieces text raw)) kind other kids below same refl
+    ∙ sym d
+
+pub one_file : (text : List ℕ) (a b : Syntax) → FitsFile text a → FitsFile text b → a ≡ b
+one_file text a b (raw, e, f) (raws, d, g) =
+    let same : raws ≡ raw = cc (d, e) in
+    one_tokens goals.File text raw a b f (subst (λ ts. FitsTokens goals.File text ts b) same g)
+
+pub one_fragment : (fragment : Fragment) (text : List ℕ) (a b : Syntax) → FitsFragment fragment text a → FitsFragment fragment text b → a ≡ b
+one_fragment fragment text a b (raw, e, out, f) (raws, d, outside, g) =
+    let same : raws ≡ raw = cc (d, e) in
+    one_tokens (goal_of fragment) (trimmed text) raw a b f (subst (λ ts. FitsTokens (goal_of fragment) (trimmed text) ts b) same g)

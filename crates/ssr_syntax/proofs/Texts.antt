@@ -1,7 +1,8 @@
 -- The tree of a text: what a flat tree is made of, and its laws.
 use Rattle.std.proofs.Common.{◌≡◌, ℕ, suc, ◌+◌, ◌-◌, ◌^◌, ◌<◌, ◌≤◌, true, false, if◌then◌else◌, List, [], ◌∷◌, ◌++◌, length, map, drop, refl, sym, ◌∙◌, ap, subst, arith, length-append}
-use Rattle.std.specs.Prelude.{All, slice_index, nat_lt, IsCharBoundary, Result, Ok, Err, ◌≢◌}
+use Rattle.std.specs.Prelude.{All, slice_index, nat_lt, IsCharBoundary, Result, Ok, Err}
 use Rattle.std.specs.List.{AllByRecursion}
+use Rattle.std.specs.Result.{IsErr, IsErrAnd}
 use Rattle.std.specs.Str.{IsUtf8}
 use Rattle.std.proofs.lemmas.List.{append-nil, length-map, length-take, length-drop}
 use Rattle.std.proofs.lemmas.List.Elements.{All-from_recursion}
@@ -10,19 +11,18 @@ use Rattle.ssr_syntax_lex.specs.declared.kinds.SyntaxKind.{SyntaxKind}
 use Rattle.ssr_syntax_lex.specs.declared.tokens.RawToken.{RawToken}
 use Rattle.ssr_syntax_lex.specs.Tokens.{token_text, spell, TilesFrom, Tiles}
 use Rattle.ssr_syntax_tree.specs.Syntax as plain
-use Rattle.ssr_syntax_tree.specs.Syntax.{depth_of, source_of, tokens_of}
+use Rattle.ssr_syntax_tree.specs.Syntax.{Syntax, depth_of, source_of, tokens_of}
 use Rattle.ssr_syntax_tree.specs.Places.{nodes_of, nodes_in, root_of}
 use Rattle.ssr_syntax_tree.specs.Parts.{AreParts, node_row, token_rows}
 use Rattle.ssr_syntax_tree.specs.declared.rows.NodeRow.{NodeRow}
 use Rattle.ssr_syntax_tree.specs.declared.rows.TokenRow.{TokenRow}
-use Rattle.ssr_syntax.specs.Trees.{Forest, nodes}
+use Rattle.ssr_syntax.specs.Trees.{Forest, nodes, height}
 use Rattle.ssr_syntax.specs.Trees as solid
 use Rattle.ssr_syntax.specs.Lossless.{past, lossless, whole_tree}
-use Rattle.ssr_syntax.specs.Preorder.{tree_rows, node_rows, first_at, high, most_deep, IsDepthFault}
+use Rattle.ssr_syntax.specs.Preorder.{tree_rows, node_rows, first_at, most_deep, IsDepthFault, most_nodes}
 use Rattle.ssr_syntax.specs.Solid.{solid_tokens, ends}
 use Rattle.ssr_syntax.specs.declared.goals.Goal.{Goal}
 use Rattle.ssr_syntax.specs.declared.goals.Fault.{Fault}
-use Rattle.ssr_syntax.specs.declared.goals.Fault.TheVariants as faults
 use Rattle.ssr_syntax.specs.declared.syntax_error.SyntaxError.{SyntaxError}
 use Rattle.ssr_syntax.specs.declared.syntax_error.SyntaxError.TheVariants as errors
 use Rattle.ssr_syntax.specs.Reading.{pieces, reading, most_levels, tree_reading, one_tree, unless_too_deep, error_of, Answers}
@@ -43,7 +43,7 @@ whole-tokens kind kids ts single are =
     ∙ ap (λ l. l ++ past (length (solid.spell kids)) ts) (tokens-lossless kids ts single are)
     ∙ upto-past (length (solid.spell kids)) ts
 
-pub whole-depth : (kind : SyntaxKind) (kids : Forest) (ts : List plain.Token) → depth_of (whole_tree kind kids ts) ≡ high kids
+pub whole-depth : (kind : SyntaxKind) (kids : Forest) (ts : List plain.Token) → depth_of (whole_tree kind kids ts) ≡ height kids
 whole-depth kind kids ts = height-behind (lossless kids ts) (past (length (solid.spell kids)) ts) ∙ height-lossless kids ts
 
 root_row : (kind : SyntaxKind) (below : plain.Forest) (past count : ℕ) → plain.token_count below ≡ past → plain.node_count below ≡ count
@@ -157,7 +157,7 @@ length-node_rows at parent low m i (solid.tree kind kids x) =
     )
 
 pub count_fits : (at : ℕ → ℕ) (tokens : ℕ) (kind : SyntaxKind) (kids : Forest) (rows : List Row) (made : List NodeRow)
-    → rows ≡ solid.rows (solid.tree kind kids solid.done) 0 → length rows ≤ 0xffff_f000 → made ≡ tree_rows at tokens kind kids
+    → rows ≡ solid.rows (solid.tree kind kids solid.done) 0 → length rows ≤ most_nodes → made ≡ tree_rows at tokens kind kids
     → length made < 2 ^ 32
 count_fits at tokens kind kids rows made e le f =
     omega (arith, ap length e, length-rows (solid.tree kind kids solid.done) 0, ap length f, length-node_rows at 0 0 1 0 kids)
@@ -165,18 +165,18 @@ count_fits at tokens kind kids rows made e le f =
 -- ** The reading of tokens: what the trees of a goal are.
 
 -- what a text's tokens read as
-pub record Read (goal : Goal) (text : List ℕ) (raw : List RawToken) (kind : SyntaxKind) (kids : Forest) : Type 0 where
+pub record ReadsAs (goal : Goal) (text : List ℕ) (raw : List RawToken) (kind : SyntaxKind) (kids : Forest) : Type 0 where
   pub reads : reading goal (solid_tokens raw) ≡ Ok (solid.tree kind kids solid.done)
   pub single : IsSingle kids
   pub are : AreOf (solid.spell kids) (pieces text raw)
   pub few : length (solid.spell kids) ≤ length (solid_tokens raw)
 
 abbrev pub IsRead : Goal → List ℕ → List RawToken → Forest → Type 0
-IsRead goal text raw z = (kind : SyntaxKind) × (kids : Forest) × (z ≡ solid.tree kind kids solid.done) × Read goal text raw kind kids
+IsRead goal text raw z = (kind : SyntaxKind) × (kids : Forest) × (z ≡ solid.tree kind kids solid.done) × ReadsAs goal text raw kind kids
 
 -- the same where it is known to be one node
 pub read_given : (goal : Goal) (text : List ℕ) (raw : List RawToken) (kind : SyntaxKind) (kids : Forest)
-    → reading goal (solid_tokens raw) ≡ Ok (solid.tree kind kids solid.done) → Read goal text raw kind kids
+    → reading goal (solid_tokens raw) ≡ Ok (solid.tree kind kids solid.done) → ReadsAs goal text raw kind kids
 read_given goal text raw kind kids e =
     let us = solid_tokens raw in
     let z : Forest = solid.tree kind kids solid.done in
@@ -198,46 +198,46 @@ pub reading_is : (goal : Goal) (text : List ℕ) (raw : List RawToken) (r : Resu
     → tree_reading goal text raw ≡ elim r [ Ok z ↦ one_tree z (pieces text raw) | Err e ↦ Err (error_of e) ]
 reading_is goal text raw r e = ap (elim [ Ok z ↦ one_tree z (pieces text raw) | Err x ↦ Err (error_of x) ]) e
 
-pub read_is : (goal : Goal) (text : List ℕ) (raw : List RawToken) (kind : SyntaxKind) (kids : Forest) → Read goal text raw kind kids
+pub read_is : (goal : Goal) (text : List ℕ) (raw : List RawToken) (kind : SyntaxKind) (kids : Forest) → ReadsAs goal text raw kind kids
     → tree_reading goal text raw ≡ unless_too_deep (whole_tree kind kids (pieces text raw))
 read_is goal text raw kind kids r = reading_is goal text raw (Ok (solid.tree kind kids solid.done)) r.reads
 
-pub read_ok : (goal : Goal) (text : List ℕ) (raw : List RawToken) (kind : SyntaxKind) (kids : Forest) → Read goal text raw kind kids
-    → nat_lt most_deep (high kids) ≡ false → tree_reading goal text raw ≡ Ok (whole_tree kind kids (pieces text raw))
+pub read_ok : (goal : Goal) (text : List ℕ) (raw : List RawToken) (kind : SyntaxKind) (kids : Forest) → ReadsAs goal text raw kind kids
+    → nat_lt most_deep (height kids) ≡ false → tree_reading goal text raw ≡ Ok (whole_tree kind kids (pieces text raw))
 read_ok goal text raw kind kids r shallow =
     read_is goal text raw kind kids r
     ∙ ap (λ b. if b then Err errors.TooDeep else Ok (whole_tree kind kids (pieces text raw)))
     (ap (nat_lt most_deep) (whole-depth kind kids (pieces text raw)) ∙ shallow)
 
-pub read_too_deep : (goal : Goal) (text : List ℕ) (raw : List RawToken) (kind : SyntaxKind) (kids : Forest) → Read goal text raw kind kids
-    → nat_lt most_deep (high kids) ≡ true → tree_reading goal text raw ≡ Err errors.TooDeep
+pub read_too_deep : (goal : Goal) (text : List ℕ) (raw : List RawToken) (kind : SyntaxKind) (kids : Forest) → ReadsAs goal text raw kind kids
+    → nat_lt most_deep (height kids) ≡ true → tree_reading goal text raw ≡ Err errors.TooDeep
 read_too_deep goal text raw kind kids r deep =
     read_is goal text raw kind kids r
     ∙ ap (λ b. if b then Err errors.TooDeep else Ok (whole_tree kind kids (pieces text raw)))
     (ap (nat_lt most_deep) (whole-depth kind kids (pieces text raw)) ∙ deep)
 
-pub depth_fault : (goal : Goal) (text : List ℕ) (raw : List RawToken) (kind : SyntaxKind) (kids : Forest) (e : SyntaxError) → Read goal text raw kind kids
-    → IsDepthFault (nat_lt most_deep (high kids)) e → Answers (Err e) (tree_reading goal text raw)
+pub depth_fault : (goal : Goal) (text : List ℕ) (raw : List RawToken) (kind : SyntaxKind) (kids : Forest) (e : SyntaxError) → ReadsAs goal text raw kind kids
+    → IsDepthFault (nat_lt most_deep (height kids)) e → Answers (Err e) (tree_reading goal text raw)
 depth_fault goal text raw kind kids errors.TooDeep r h = λ k. read_too_deep goal text raw kind kids r h
 depth_fault goal text raw kind kids errors.Memory r h = λ k. absurd (k refl)
 depth_fault goal text raw kind kids errors.Lex r h = absurd h
 depth_fault goal text raw kind kids errors.NoTree r h = absurd h
 depth_fault goal text raw kind kids errors.TooLong r h = absurd h
 
-pub told_fault : (goal : Goal) (text : List ℕ) (raw : List RawToken) (e : Fault) (told : SyntaxError)
-    → (e ≢ faults.Memory → reading goal (solid_tokens raw) ≡ Err e) → told ≡ error_of e → Answers (Err told) (tree_reading goal text raw)
-told_fault goal text raw e told h is =
-    λ k. reading_is goal text raw (Err e) (h (λ m. k (is ∙ ap error_of m))) ∙ ap Err (sym is)
+-- a fault is told on
+pub told_on : (x : SyntaxError) (r read : Result Syntax SyntaxError) → IsErr r → IsErrAnd r (λ e. e ≡ x) → Answers (Err x) read → Answers r read
+told_on x (Ok syntax) read err is h = cc
+told_on x (Err e) read err is h = subst (λ y. Answers (Err y) read) (sym is) h
 
 -- what the rows that were read stand for
-pub record Rows (goal : Goal) (text : List ℕ) (raw : List RawToken) (given : List Row) : Type 0 where
+pub record RowsOfText (goal : Goal) (text : List ℕ) (raw : List RawToken) (given : List Row) : Type 0 where
   pub kind : SyntaxKind
   pub kids : Forest
-  pub read : Read goal text raw kind kids
+  pub read : ReadsAs goal text raw kind kids
   pub rows : given ≡ solid.rows (solid.tree kind kids solid.done) 0
 
 pub rows_read : (goal : Goal) (text : List ℕ) (raw : List RawToken) (tokens : List Token) (z : Forest) (made given : List Row)
-    → tokens ≡ solid_tokens raw → reading goal tokens ≡ Ok z → made ≡ solid.rows z 0 → given ≡ made → Rows goal text raw given
+    → tokens ≡ solid_tokens raw → reading goal tokens ≡ Ok z → made ≡ solid.rows z 0 → given ≡ made → RowsOfText goal text raw given
 rows_read goal text raw tokens z made given same e f g =
     let r = is_read goal text raw z (ap (reading goal) (sym same) ∙ e) in
     record { kind = r.0; kids = r.1; read = r.3; rows = g ∙ f ∙ ap (λ w. solid.rows w 0) r.2 }

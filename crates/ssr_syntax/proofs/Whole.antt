@@ -9,7 +9,7 @@ use Rattle.ssr_syntax.specs.declared.goals.Fault.{Fault}
 use Rattle.ssr_syntax.specs.declared.goals.Fault.TheVariants as faults
 use Rattle.ssr_syntax.specs.Trees.{Forest, spell, rows, IsShallow}
 use Rattle.ssr_syntax.specs.Forms.{SoFar, so_far, ◌>>=◌}
-use Rattle.ssr_syntax.specs.Runs.{State, state}
+use Rattle.ssr_syntax.specs.Runs.{State, state_of}
 use Rattle.ssr_syntax.specs.Levels.{FitsGoal, read_goal, run_goal}
 use Rattle.ssr_syntax.specs.Grammar.{grammar}
 use Rattle.ssr_syntax.specs.Reading.{most_high, most_levels, whole, reading, IsReading, IsTreeOf, IsTree}
@@ -19,14 +19,14 @@ use Rattle.ssr_syntax.proofs.Core.{IsCore}
 use Rattle.ssr_syntax.proofs.Cuts.{cut_goals}
 use Rattle.ssr_syntax.proofs.Depth.{lower_goal}
 use Rattle.ssr_syntax.proofs.Keeping.{complete_goal, goals_core}
-use Rattle.ssr_syntax.proofs.CoreKinds.{core_kinds, tables, core_keeps, all_covered, all_within, may_end}
+use Rattle.ssr_syntax.proofs.CoreKinds.{core_kinds, core_tables, core_keeps, all_covered, all_within, may_end}
 use Rattle.ssr_syntax.proofs.Levels.{goals_spell, goals_sound, goals_agree}
 
 -- what the run tells of what is read
-from_rows : (red : Result SoFar Fault) (out : List Row) (rest : List Token) → emit [] red ≡ Ok (state out rest)
+from_rows : (red : Result SoFar Fault) (out : List Row) (rest : List Token) → emit [] red ≡ Ok (state_of out rest)
     → (z : Forest) × (red ≡ Ok (so_far z rest)) × (out ≡ rows z (length rest))
 from_rows (Ok r) out rest e =
-    let same : state (rows r.made (length r.rest)) r.rest ≡ state out rest = ok_one e in
+    let same : state_of (rows r.made (length r.rest)) r.rest ≡ state_of out rest = ok_one e in
     let same_rest : r.rest ≡ rest = ap (λ w. w.rest) same in
     let same_rows : rows r.made (length r.rest) ≡ out = ap (λ w. w.out) same in
     (r.made, ap (λ w. Ok (so_far r.made w)) same_rest, sym same_rows ∙ ap (λ w. rows r.made (length w)) same_rest)
@@ -37,30 +37,30 @@ from_fault (Ok r) f e = cc
 from_fault (Err g) f e = cc
 
 from_ran : (goal : Goal) (ts : List Token) (old : List Row) (ran : Result State Fault)
-    → old ≡ [] → run_goal grammar most_levels goal (state old ts) ≡ ran → emit [] (read_goal grammar most_levels goal ts) ≡ ran
+    → old ≡ [] → run_goal grammar most_levels goal (state_of old ts) ≡ ran → emit [] (read_goal grammar most_levels goal ts) ≡ ran
 from_ran goal ts old ran none e =
-    sym (goals_agree grammar most_levels goal [] ts) ∙ ap (λ w. run_goal grammar most_levels goal (state w ts)) (sym none) ∙ e
+    sym (goals_agree grammar most_levels goal [] ts) ∙ ap (λ w. run_goal grammar most_levels goal (state_of w ts)) (sym none) ∙ e
 
 pub whole_tree : (goal : Goal) (ts : List Token) (old out : List Row) (rest : List Token)
-    → old ≡ [] → run_goal grammar most_levels goal (state old ts) ≡ Ok (state out rest) → eqb (length rest) 0 ≡ true
+    → old ≡ [] → run_goal grammar most_levels goal (state_of old ts) ≡ Ok (state_of out rest) → eqb (length rest) 0 ≡ true
     → (z : Forest) × (reading goal ts ≡ Ok z) × (out ≡ rows z 0)
 unfolding reading
 whole_tree goal ts old out [] none e end =
-    let m = from_rows (read_goal grammar most_levels goal ts) out [] (from_ran goal ts old (Ok (state out [])) none e) in
+    let m = from_rows (read_goal grammar most_levels goal ts) out [] (from_ran goal ts old (Ok (state_of out [])) none e) in
     (m.0, ap (λ w. w >>= whole) m.1, m.2)
 whole_tree goal ts old out (t ∷ us) none e end = absurd (omega (arith, eqb-true (length (t ∷ us)) 0 end))
 
 pub tokens_left : (goal : Goal) (ts : List Token) (old out : List Row) (rest : List Token)
-    → old ≡ [] → run_goal grammar most_levels goal (state old ts) ≡ Ok (state out rest) → eqb (length rest) 0 ≡ false
+    → old ≡ [] → run_goal grammar most_levels goal (state_of old ts) ≡ Ok (state_of out rest) → eqb (length rest) 0 ≡ false
     → reading goal ts ≡ Err faults.NoTree
 unfolding reading
 tokens_left goal ts old out [] none e more = absurd (eqb-false 0 0 more refl)
 tokens_left goal ts old out (t ∷ us) none e more =
-    let m = from_rows (read_goal grammar most_levels goal ts) out (t ∷ us) (from_ran goal ts old (Ok (state out (t ∷ us))) none e) in
+    let m = from_rows (read_goal grammar most_levels goal ts) out (t ∷ us) (from_ran goal ts old (Ok (state_of out (t ∷ us))) none e) in
     ap (λ w. w >>= whole) m.1
 
 pub no_tree : (goal : Goal) (ts : List Token) (old : List Row) (f : Fault)
-    → old ≡ [] → run_goal grammar most_levels goal (state old ts) ≡ Err f → reading goal ts ≡ Err f
+    → old ≡ [] → run_goal grammar most_levels goal (state_of old ts) ≡ Err f → reading goal ts ≡ Err f
 unfolding reading
 no_tree goal ts old f none e =
     ap (λ w. w >>= whole) (from_fault (read_goal grammar most_levels goal ts) f (from_ran goal ts old (Err f) none e))
@@ -94,7 +94,7 @@ at_level : (n : ℕ) (goal : Goal) (ts : List Token) (z : Forest) → FitsGoal g
     → read_goal grammar n goal ts ≡ Ok (so_far z [])
 at_level n goal ts z f core =
     subst (λ w. read_goal grammar n goal w ≡ Ok (so_far z [])) (append-nil ts)
-    (complete_goal tables grammar core_keeps n goal z ts [] f core (may_end goal))
+    (complete_goal core_tables grammar core_keeps n goal z ts [] f core (may_end goal))
 
 -- what is read at a number of levels is read at each greater one
 above : (n m : ℕ) (goal : Goal) (ts : List Token) (z : Forest) → n ≤ m → FitsGoal grammar n goal z ts []

@@ -10,5 +10,6 @@ pub mod Grammar
 pub mod Lossless
 pub mod Identifiers
 pub mod Preorder
+pub mod OpenNodes
 pub mod Solid
 pub mod Reading

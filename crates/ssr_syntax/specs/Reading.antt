@@ -1,5 +1,5 @@
 -- The reading of a list of tokens, and what its rows are.
-use Rattle.std.specs.Prelude.{◌≡◌, ◌≢◌, ℕ, ◌-◌, ◌^◌, ◌<◌, ◌≤◌, nat_lt, Bool, true, not, ◌&&◌, if◌then◌else◌, ⊤, List, [], ◌∷◌, length, map, reverse, Some, None, Result, Ok, Err}
+use Rattle.std.specs.Prelude.{◌≡◌, ◌≢◌, ℕ, ◌+◌, ◌-◌, ◌^◌, ◌<◌, ◌≤◌, nat_lt, Bool, true, not, ◌&&◌, if◌then◌else◌, ⊤, List, [], ◌∷◌, length, map, reverse, Some, None, Result, Ok, Err}
 use Rattle.std.specs.Str.{trim, trim_start}
 use Rattle.ssr_syntax_lex.specs.declared.kinds.SyntaxKind.{SyntaxKind}
 use Rattle.ssr_syntax_lex.specs.declared.tokens.RawToken.{RawToken}
@@ -27,11 +27,11 @@ use Rattle.ssr_syntax.specs.Preorder.{most_deep}
 
 -- A tree is read where no more nodes than these stand above one another: the root, and 1,024 below it.
 abbrev pub most_high : ℕ
-most_high = 1025
+most_high = 1 + most_deep
 
 -- How many levels of goals are read. Each level but the first stands below a node.
 abbrev pub most_levels : ℕ
-most_levels = 1026
+most_levels = 1 + most_high
 
 -- a tree, if no token is left
 abbrev pub whole : SoFar → Result Forest Fault
@@ -82,10 +82,11 @@ abbrev pub tree_reading : Goal → List ℕ → List RawToken → Result Syntax 
 tree_reading goal text raw =
     elim (reading goal (solid_tokens raw)) [ Ok z ↦ one_tree z (pieces text raw) | Err e ↦ Err (error_of e) ]
 
--- of a text that is short enough, by its tokens
+-- what is read of a text by its tokens; nothing where it has none
 abbrev pub lexed_reading : (List RawToken → Result Syntax SyntaxError) → List ℕ → Result Syntax SyntaxError
 lexed_reading read text = elim (tokens text) [ None ↦ Err errors.Lex | Some raw ↦ read raw ]
 
+-- of a text shorter than 2^32 bytes
 abbrev pub short_reading : Result Syntax SyntaxError → List ℕ → Result Syntax SyntaxError
 short_reading read text = if nat_lt (length text) (2 ^ 32) then read else Err errors.TooLong
 
@@ -108,7 +109,7 @@ abbrev pub begins_solid : List RawToken → Bool
 begins_solid [] = true
 begins_solid (t ∷ ts) = not (is_trivia t.kind)
 
--- a fragment: its first and last tokens are the trimmed text's
+-- a fragment, around which no comment stands
 abbrev pub fragment_of : Fragment → List ℕ → Result Syntax SyntaxError
 fragment_of fragment text =
     lexed_reading

@@ -13,8 +13,8 @@ pub record State : Type 0 where
   pub out : List Row
   pub rest : List Token
 
-abbrev pub state : List Row → List Token → State
-state out rest = record { out = out; rest = rest }
+abbrev pub state_of : List Row → List Token → State
+state_of out rest = record { out = out; rest = rest }
 
 -- how many rows were written at a mark, and which tokens were left
 pub record Mark : Type 0 where
@@ -30,13 +30,13 @@ mark_of s = mark_at (length s.out) s.rest
 -- all since the mark is put into a node
 abbrev pub close : SyntaxKind → Mark → State → State
 close kind m s =
-    state (s.out ++ record { kind = kind; first = length m.start; end = length s.rest; below = length s.out - m.made } ∷ []) s.rest
+    state_of (s.out ++ record { kind = kind; first = length m.start; end = length s.rest; below = length s.out - m.made } ∷ []) s.rest
 
 abbrev pub RunsBelow : Type 0
 RunsBelow = Goal → State → Result State Fault
 
 abbrev pub run : RunsBelow → Form → Mark → State → Result State Fault
-run below (one whole ks) m s = past whole ks s.rest >>= λ ts. Ok (state s.out ts)
+run below (one whole ks) m s = past whole ks s.rest >>= λ ts. Ok (state_of s.out ts)
 run below (child goal) m s = below goal s
 run below (mark f) m s = run below f (mark_of s) s
 run below (seal kind) m s = Ok (close kind m s)
@@ -55,7 +55,7 @@ run_marked below f s = run below f (mark_of s) s
 
 -- A function's answer, the tokens that are left, and the rows as it leaves them. Want of memory says nothing.
 abbrev pub Gives : {R : Type 0} → (R → List Token) → List Row → Result R Fault → Result State Fault → Type 0
-Gives now out (Ok r) ran = ran ≡ Ok (state out (now r))
+Gives now out (Ok r) ran = ran ≡ Ok (state_of out (now r))
 Gives now out (Err e) ran = e ≢ faults.Memory → ran ≡ Err e
 
 -- The same of the tokens alone, where no memory is asked for.

@@ -1,11 +1,10 @@
 -- Solid tokens: what the grammar reads of a text's tokens.
 use Rattle.std.specs.Prelude.{ℕ, ◌+◌, Bool, true, false, if◌then◌else◌, List, [], ◌∷◌, drop, Option, Some, None}
-use Rattle.ssr_syntax_lex.specs.Kinds.{is_trivia}
+use Rattle.ssr_syntax_lex.specs.Kinds.{same_kind, is_trivia}
 use Rattle.ssr_syntax_lex.specs.declared.kinds.SyntaxKind.{SyntaxKind}
 use Rattle.ssr_syntax_lex.specs.declared.kinds.SyntaxKind.TheVariants as k
 use Rattle.ssr_syntax_lex.specs.declared.tokens.RawToken.{RawToken}
 use Rattle.ssr_syntax.specs.declared.tokens.Token.{Token}
-use Rattle.ssr_syntax.specs.Kinds.{same}
 
 -- ** Joined tokens.
 
@@ -48,7 +47,7 @@ twice _ = None
 abbrev pub joined : SyntaxKind → SyntaxKind → Option SyntaxKind
 joined k.EQ kind = with_eq kind
 joined k.R_ANGLE kind = with_r_angle kind
-joined next kind = if same kind next then twice kind else None
+joined next kind = if same_kind kind next then twice kind else None
 
 -- the same of a token that is joint or isn't, and those behind it
 abbrev pub lengthened : SyntaxKind → Bool → List RawToken → Option SyntaxKind

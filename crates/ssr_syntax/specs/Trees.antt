@@ -1,5 +1,5 @@
 -- The plain tree that a text is read to, and the parser's rows.
-use Rattle.std.specs.Prelude.{ℕ, zero, suc, ◌+◌, ⊤, List, [], ◌∷◌, ◌++◌, length}
+use Rattle.std.specs.Prelude.{ℕ, zero, suc, ◌+◌, max, ⊤, List, [], ◌∷◌, ◌++◌, length}
 use Rattle.ssr_syntax_lex.specs.declared.kinds.SyntaxKind.{SyntaxKind}
 use Rattle.ssr_syntax.specs.declared.tokens.Token.{Token}
 use Rattle.ssr_syntax.specs.declared.rows.Row.{Row}
@@ -35,6 +35,12 @@ abbrev pub nodes : Forest → ℕ
 nodes done = 0
 nodes (leaf kind tokens x) = nodes x
 nodes (tree kind kids x) = nodes kids + (1 + nodes x)
+
+-- how many nodes stand above one another, the highest number
+abbrev pub height : Forest → ℕ
+height done = 0
+height (leaf kind tokens x) = height x
+height (tree kind kids x) = max (1 + height kids) (height x)
 
 -- Its nodes, each behind those below it, where `left` tokens stand to its right.
 abbrev pub rows : Forest → ℕ → List Row

@@ -1,8 +1,9 @@
+//! The functions that read expressions.
 ghost use Rattle.std.specs.Prelude.{◌≡◌, true};
 ghost use Rattle.ssr_syntax.specs.Kinds.{mem};
 ghost use Rattle.ssr_syntax.specs.Forms.{at, passes, past};
 ghost use Rattle.ssr_syntax.specs.Expressions.{atom, block_expr, expr_first, literal, literals, operations, operators, paren_expr, path_expr, product, stmt_list, sum, tighter};
-ghost use Rattle.ssr_syntax.specs.Runs.{Gives, Leaves, mark_at, run, run_marked, state};
+ghost use Rattle.ssr_syntax.specs.Runs.{Gives, Leaves, mark_at, run, run_marked, state_of};
 
 use crate::goals::{Fault, Goal, Rank};
 use crate::paths::path;
@@ -13,13 +14,13 @@ use ssr_syntax_lex::SyntaxKind;
 
 /// LITERAL: a number, a string, a byte, a character, `true` or `false`.
 #[tactic(auto, unfolding(crate::specs::Expressions::literal))]
-pub fn literal<'a, R: Reader<'a>>(
+fn literal<'a, R: Reader<'a>>(
     reader: &R,
     tokens: &'a [Token],
     out: &mut Vec<Row>,
 ) -> Result<&'a [Token], Fault>
     requires { R.can_read reader.now }
-    ensures { Gives (λ r. r.now) out.new.items result (run_marked (R.reads reader.now) literal (state out.old.items tokens.now)) }
+    ensures { Gives (λ r. r.now) out.new.items result (run_marked (R.reads reader.now) literal (state_of out.old.items tokens.now)) }
 {
     let mark = out.len();
     let rest = literal_token(tokens)?;
@@ -28,13 +29,13 @@ pub fn literal<'a, R: Reader<'a>>(
 
 /// PATH_EXPR: a PATH.
 #[tactic(auto, unfolding(crate::specs::Expressions::path_expr))]
-pub fn path_expr<'a, R: Reader<'a>>(
+fn path_expr<'a, R: Reader<'a>>(
     reader: &R,
     tokens: &'a [Token],
     out: &mut Vec<Row>,
 ) -> Result<&'a [Token], Fault>
     requires { R.can_read reader.now }
-    ensures { Gives (λ r. r.now) out.new.items result (run_marked (R.reads reader.now) path_expr (state out.old.items tokens.now)) }
+    ensures { Gives (λ r. r.now) out.new.items result (run_marked (R.reads reader.now) path_expr (state_of out.old.items tokens.now)) }
 {
     let mark = out.len();
     let rest = path(reader, tokens, out)?;
@@ -43,13 +44,13 @@ pub fn path_expr<'a, R: Reader<'a>>(
 
 /// PAREN_EXPR: an expression in parentheses.
 #[tactic(auto, unfolding(crate::specs::Expressions::paren_expr))]
-pub fn paren_expr<'a, R: Reader<'a>>(
+fn paren_expr<'a, R: Reader<'a>>(
     reader: &R,
     tokens: &'a [Token],
     out: &mut Vec<Row>,
 ) -> Result<&'a [Token], Fault>
     requires { R.can_read reader.now }
-    ensures { Gives (λ r. r.now) out.new.items result (run_marked (R.reads reader.now) paren_expr (state out.old.items tokens.now)) }
+    ensures { Gives (λ r. r.now) out.new.items result (run_marked (R.reads reader.now) paren_expr (state_of out.old.items tokens.now)) }
 {
     let mark = out.len();
     let rest = expect(SyntaxKind::L_PAREN, tokens)?;
@@ -58,15 +59,15 @@ pub fn paren_expr<'a, R: Reader<'a>>(
     close(SyntaxKind::PAREN_EXPR, mark, tokens, rest, out)
 }
 
-/// An expression without an operator outside brackets.
+/// An expression without an operator outside parentheses.
 #[tactic(auto, unfolding(crate::specs::Expressions::atom))]
-pub fn atom<'a, R: Reader<'a>>(
+pub(crate) fn atom<'a, R: Reader<'a>>(
     reader: &R,
     tokens: &'a [Token],
     out: &mut Vec<Row>,
 ) -> Result<&'a [Token], Fault>
     requires { R.can_read reader.now }
-    ensures { Gives (λ r. r.now) out.new.items result (run_marked (R.reads reader.now) atom (state out.old.items tokens.now)) }
+    ensures { Gives (λ r. r.now) out.new.items result (run_marked (R.reads reader.now) atom (state_of out.old.items tokens.now)) }
 {
     if at(SyntaxKind::IDENT, tokens) {
         path_expr(reader, tokens, out)
@@ -79,13 +80,13 @@ pub fn atom<'a, R: Reader<'a>>(
 
 /// BIN_EXPR with `*`, `/` or `%`, or an expression that binds tighter.
 #[tactic(auto, unfolding(crate::specs::Expressions::product))]
-pub fn product<'a, R: Reader<'a>>(
+pub(crate) fn product<'a, R: Reader<'a>>(
     reader: &R,
     tokens: &'a [Token],
     out: &mut Vec<Row>,
 ) -> Result<&'a [Token], Fault>
     requires { R.can_read reader.now }
-    ensures { Gives (λ r. r.now) out.new.items result (run_marked (R.reads reader.now) product (state out.old.items tokens.now)) }
+    ensures { Gives (λ r. r.now) out.new.items result (run_marked (R.reads reader.now) product (state_of out.old.items tokens.now)) }
 {
     let mark = out.len();
     let rest = atom(reader, tokens, out)?;
@@ -94,13 +95,13 @@ pub fn product<'a, R: Reader<'a>>(
 
 /// BIN_EXPR with `+` or `-`, or an expression that binds tighter.
 #[tactic(auto, unfolding(crate::specs::Expressions::sum))]
-pub fn sum<'a, R: Reader<'a>>(
+pub(crate) fn sum<'a, R: Reader<'a>>(
     reader: &R,
     tokens: &'a [Token],
     out: &mut Vec<Row>,
 ) -> Result<&'a [Token], Fault>
     requires { R.can_read reader.now }
-    ensures { Gives (λ r. r.now) out.new.items result (run_marked (R.reads reader.now) sum (state out.old.items tokens.now)) }
+    ensures { Gives (λ r. r.now) out.new.items result (run_marked (R.reads reader.now) sum (state_of out.old.items tokens.now)) }
 {
     let mark = out.len();
     let rest = product(reader, tokens, out)?;
@@ -109,7 +110,7 @@ pub fn sum<'a, R: Reader<'a>>(
 
 /// Any number of operators of this rank, each with its right operand. All since the mark is the left operand.
 #[tactic(auto, using(crate::proofs::Loops::repeat_step, crate::proofs::Loops::repeat_end), unfolding(crate::specs::Expressions::operations))]
-pub fn operations<'a, R: Reader<'a>>(
+fn operations<'a, R: Reader<'a>>(
     reader: &R,
     rank: Rank,
     mark: usize,
@@ -118,7 +119,7 @@ pub fn operations<'a, R: Reader<'a>>(
     out: &mut Vec<Row>,
 ) -> Result<&'a [Token], Fault>
     requires { R.can_read reader.now }
-    ensures { Gives (λ r. r.now) out.new.items result (run (R.reads reader.now) (operations rank) (mark_at mark start.now) (state out.old.items tokens.now)) }
+    ensures { Gives (λ r. r.now) out.new.items result (run (R.reads reader.now) (operations rank) (mark_at mark start.now) (state_of out.old.items tokens.now)) }
 {
     let mut rest = tokens;
     'turns: for _turn in 0..tokens.len() + 1 {
@@ -154,10 +155,7 @@ fn is_literal(kind: SyntaxKind) -> bool
 fn at_literal(tokens: &[Token]) -> bool
     ensures { result ≡ passes (at literals) tokens.now }
 {
-    match tokens.split_first() {
-        Some((first, _)) => is_literal(first.joined),
-        None => false,
-    }
+    tokens.first().is_some_and(|first| is_literal(first.joined))
 }
 
 /// What is left behind a literal.
@@ -170,18 +168,20 @@ fn literal_token(tokens: &[Token]) -> Result<&[Token], Fault>
     }
 }
 
+/// Whether an expression begins with a token of this kind.
+fn begins_expr(kind: SyntaxKind) -> bool
+    ensures { result ≡ mem kind expr_first }
+{
+    kind == SyntaxKind::IDENT || kind == SyntaxKind::L_PAREN || is_literal(kind)
+}
+
 /// Whether the next token begins an expression.
 fn at_expr(tokens: &[Token]) -> bool
     ensures { result ≡ passes (at expr_first) tokens.now }
 {
-    match tokens.split_first() {
-        Some((first, _)) => {
-            first.joined == SyntaxKind::IDENT
-                || first.joined == SyntaxKind::L_PAREN
-                || is_literal(first.joined)
-        }
-        None => false,
-    }
+    tokens
+        .first()
+        .is_some_and(|first| begins_expr(first.joined))
 }
 
 /// Whether it is an operator of this rank.
@@ -201,10 +201,9 @@ fn is_operator(rank: Rank, kind: SyntaxKind) -> bool
 fn at_operator(rank: Rank, tokens: &[Token]) -> bool
     ensures { result ≡ passes (at (operators rank)) tokens.now }
 {
-    match tokens.split_first() {
-        Some((first, _)) => is_operator(rank, first.joined),
-        None => false,
-    }
+    tokens
+        .first()
+        .is_some_and(|first| is_operator(rank, first.joined))
 }
 
 /// What is left behind an operator of this rank.
@@ -229,13 +228,13 @@ fn tighter(rank: Rank) -> Rank
 
 /// STMT_LIST: braces, with an expression or none.
 #[tactic(auto, unfolding(crate::specs::Expressions::stmt_list))]
-pub fn stmt_list<'a, R: Reader<'a>>(
+fn stmt_list<'a, R: Reader<'a>>(
     reader: &R,
     tokens: &'a [Token],
     out: &mut Vec<Row>,
 ) -> Result<&'a [Token], Fault>
     requires { R.can_read reader.now }
-    ensures { Gives (λ r. r.now) out.new.items result (run_marked (R.reads reader.now) stmt_list (state out.old.items tokens.now)) }
+    ensures { Gives (λ r. r.now) out.new.items result (run_marked (R.reads reader.now) stmt_list (state_of out.old.items tokens.now)) }
 {
     let mark = out.len();
     let rest = expect(SyntaxKind::L_CURLY, tokens)?;
@@ -250,13 +249,13 @@ pub fn stmt_list<'a, R: Reader<'a>>(
 
 /// BLOCK_EXPR: a STMT_LIST.
 #[tactic(auto, unfolding(crate::specs::Expressions::block_expr))]
-pub fn block_expr<'a, R: Reader<'a>>(
+pub(crate) fn block_expr<'a, R: Reader<'a>>(
     reader: &R,
     tokens: &'a [Token],
     out: &mut Vec<Row>,
 ) -> Result<&'a [Token], Fault>
     requires { R.can_read reader.now }
-    ensures { Gives (λ r. r.now) out.new.items result (run_marked (R.reads reader.now) block_expr (state out.old.items tokens.now)) }
+    ensures { Gives (λ r. r.now) out.new.items result (run_marked (R.reads reader.now) block_expr (state_of out.old.items tokens.now)) }
 {
     let mark = out.len();
     let rest = stmt_list(reader, tokens, out)?;

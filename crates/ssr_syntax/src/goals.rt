@@ -1,8 +1,10 @@
+//! What the parser is asked for, and why it gives no tree.
+
 use std::alloc::{AllocError, AllocFailed};
 
 /// What is to be read.
 #[derive(Clone, Copy)]
-pub enum Goal {
+pub(crate) enum Goal {
     /// A whole file.
     File,
     /// Any expression.
@@ -13,8 +15,8 @@ pub enum Goal {
 
 /// How tightly an expression binds, the tightest first.
 #[derive(Clone, Copy)]
-pub enum Rank {
-    /// No operator outside brackets.
+pub(crate) enum Rank {
+    /// No operator outside parentheses.
     Atom,
     /// `*`, `/` and `%`.
     Product,
@@ -24,7 +26,7 @@ pub enum Rank {
 
 /// Why there is no tree.
 #[derive(Clone, Copy, Debug, PartialEq, Eq)]
-pub enum Fault {
+pub(crate) enum Fault {
     /// The tokens are not of this grammar.
     NoTree,
     /// The tree would be nested too deeply.

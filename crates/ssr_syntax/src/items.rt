@@ -1,5 +1,6 @@
+//! The functions that read items.
 ghost use Rattle.ssr_syntax.specs.Items.{function, items, name, param_list, source_file};
-ghost use Rattle.ssr_syntax.specs.Runs.{Gives, run_marked, state};
+ghost use Rattle.ssr_syntax.specs.Runs.{Gives, run_marked, state_of};
 
 use crate::expressions::block_expr;
 use crate::goals::Fault;
@@ -10,13 +11,13 @@ use ssr_syntax_lex::SyntaxKind;
 
 /// NAME: an identifier.
 #[tactic(auto, unfolding(crate::specs::Items::name))]
-pub fn name<'a, R: Reader<'a>>(
+fn name<'a, R: Reader<'a>>(
     reader: &R,
     tokens: &'a [Token],
     out: &mut Vec<Row>,
 ) -> Result<&'a [Token], Fault>
     requires { R.can_read reader.now }
-    ensures { Gives (λ r. r.now) out.new.items result (run_marked (R.reads reader.now) name (state out.old.items tokens.now)) }
+    ensures { Gives (λ r. r.now) out.new.items result (run_marked (R.reads reader.now) name (state_of out.old.items tokens.now)) }
 {
     let mark = out.len();
     let rest = expect(SyntaxKind::IDENT, tokens)?;
@@ -25,13 +26,13 @@ pub fn name<'a, R: Reader<'a>>(
 
 /// PARAM_LIST: a pair of parentheses.
 #[tactic(auto, unfolding(crate::specs::Items::param_list))]
-pub fn param_list<'a, R: Reader<'a>>(
+fn param_list<'a, R: Reader<'a>>(
     reader: &R,
     tokens: &'a [Token],
     out: &mut Vec<Row>,
 ) -> Result<&'a [Token], Fault>
     requires { R.can_read reader.now }
-    ensures { Gives (λ r. r.now) out.new.items result (run_marked (R.reads reader.now) param_list (state out.old.items tokens.now)) }
+    ensures { Gives (λ r. r.now) out.new.items result (run_marked (R.reads reader.now) param_list (state_of out.old.items tokens.now)) }
 {
     let mark = out.len();
     let rest = expect(SyntaxKind::L_PAREN, tokens)?;
@@ -41,13 +42,13 @@ pub fn param_list<'a, R: Reader<'a>>(
 
 /// FN: `fn`, a NAME, a PARAM_LIST and a BLOCK_EXPR.
 #[tactic(auto, unfolding(crate::specs::Items::function))]
-pub fn function<'a, R: Reader<'a>>(
+fn function<'a, R: Reader<'a>>(
     reader: &R,
     tokens: &'a [Token],
     out: &mut Vec<Row>,
 ) -> Result<&'a [Token], Fault>
     requires { R.can_read reader.now }
-    ensures { Gives (λ r. r.now) out.new.items result (run_marked (R.reads reader.now) function (state out.old.items tokens.now)) }
+    ensures { Gives (λ r. r.now) out.new.items result (run_marked (R.reads reader.now) function (state_of out.old.items tokens.now)) }
 {
     let mark = out.len();
     let rest = expect(SyntaxKind::FN_KW, tokens)?;
@@ -59,13 +60,13 @@ pub fn function<'a, R: Reader<'a>>(
 
 /// Any number of items.
 #[tactic(auto, using(crate::proofs::Loops::repeat_step, crate::proofs::Loops::repeat_end), unfolding(crate::specs::Items::items))]
-pub fn items<'a, R: Reader<'a>>(
+fn items<'a, R: Reader<'a>>(
     reader: &R,
     tokens: &'a [Token],
     out: &mut Vec<Row>,
 ) -> Result<&'a [Token], Fault>
     requires { R.can_read reader.now }
-    ensures { Gives (λ r. r.now) out.new.items result (run_marked (R.reads reader.now) items (state out.old.items tokens.now)) }
+    ensures { Gives (λ r. r.now) out.new.items result (run_marked (R.reads reader.now) items (state_of out.old.items tokens.now)) }
 {
     let mut rest = tokens;
     'turns: for _turn in 0..tokens.len() + 1 {
@@ -79,13 +80,13 @@ pub fn items<'a, R: Reader<'a>>(
 
 /// SOURCE_FILE: any number of items.
 #[tactic(auto, unfolding(crate::specs::Items::source_file))]
-pub fn source_file<'a, R: Reader<'a>>(
+pub(crate) fn source_file<'a, R: Reader<'a>>(
     reader: &R,
     tokens: &'a [Token],
     out: &mut Vec<Row>,
 ) -> Result<&'a [Token], Fault>
     requires { R.can_read reader.now }
-    ensures { Gives (λ r. r.now) out.new.items result (run_marked (R.reads reader.now) source_file (state out.old.items tokens.now)) }
+    ensures { Gives (λ r. r.now) out.new.items result (run_marked (R.reads reader.now) source_file (state_of out.old.items tokens.now)) }
 {
     let mark = out.len();
     let rest = items(reader, tokens, out)?;

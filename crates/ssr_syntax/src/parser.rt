@@ -1,9 +1,10 @@
+//! The parser: solid tokens in, the rows of the one tree out.
 ghost use Rattle.std.specs.Prelude.{◌≡◌, ℕ, [], IfOk};
 ghost use Rattle.ssr_syntax.specs.Grammar.{grammar};
 ghost use Rattle.ssr_syntax.specs.Levels.{FitsGoal, run_goal};
 ghost use Rattle.ssr_syntax.specs.Reading.{IsReading, IsTree, IsTreeOf, most_high, reading};
 ghost use Rattle.ssr_syntax.specs.Trees.{Forest};
-ghost use Rattle.ssr_syntax.specs.Runs.{Gives, run_marked, state};
+ghost use Rattle.ssr_syntax.specs.Runs.{Gives, run_marked, state_of};
 
 use crate::expressions::{atom, product, sum};
 use crate::goals::{Fault, Goal, Rank};
@@ -26,7 +27,7 @@ impl<'a, F: Fn(Goal, &'a [Token], &mut Vec<Row>) -> Result<&'a [Token], Fault> +
 
     ghost can_read = { λ d. F.IsAlwaysCallable d.read
         × ((goal : Goal) (tokens : _) (out : _) (r : _) (after : _) → F.post d.read goal tokens out r after
-        → Gives (λ x. x.now) after.now.items r (run_goal grammar d.left goal (state out.now.items tokens.now))) };
+        → Gives (λ x. x.now) after.now.items r (run_goal grammar d.left goal (state_of out.now.items tokens.now))) };
 
     ghost reads = { λ d. run_goal grammar d.left };
 
@@ -48,14 +49,14 @@ fn read<'a>(
     tokens: &'a [Token],
     out: &mut Vec<Row>,
 ) -> Result<&'a [Token], Fault>
-    ensures { Gives (λ r. r.now) out.new.items result (run_goal grammar left goal (state out.old.items tokens.now)) }
+    ensures { Gives (λ r. r.now) out.new.items result (run_goal grammar left goal (state_of out.old.items tokens.now)) }
 {
     if left == 0 {
         return Err(Fault::TooDeep);
     }
     let less = left - 1;
     let read_less = |goal: Goal, tokens: _, out: &mut Vec<Row>|
-        ensures { Gives (λ r. r.now) out.new.items result (run_goal grammar less goal (state out.old.items tokens.now)) }
+        ensures { Gives (λ r. r.now) out.new.items result (run_goal grammar less goal (state_of out.old.items tokens.now)) }
     { read(less, goal, tokens, out) };
     read_goal(
         &Level {
@@ -77,7 +78,7 @@ fn read_goal<'a, R: Reader<'a>>(
     out: &mut Vec<Row>,
 ) -> Result<&'a [Token], Fault>
     requires { R.can_read reader.now }
-    ensures { Gives (λ r. r.now) out.new.items result (run_marked (R.reads reader.now) (grammar goal) (state out.old.items tokens.now)) }
+    ensures { Gives (λ r. r.now) out.new.items result (run_marked (R.reads reader.now) (grammar goal) (state_of out.old.items tokens.now)) }
 {
     match goal {
         Goal::File => source_file(reader, tokens, out),
@@ -88,7 +89,7 @@ fn read_goal<'a, R: Reader<'a>>(
     }
 }
 
-// How many levels of goals are read. Each level but the first stands below a node.
+/// How many levels of goals are read. Each level but the first stands below a node.
 const MOST_LEVELS: u32 = 1026;
 
 /// Reads all tokens as the goal.
@@ -107,7 +108,7 @@ fn read_whole(alloc: Global, goal: Goal, tokens: &[Token]) -> Result<Vec<Row>, F
 
 /// The rows of the one tree that fits the goal and has these tokens; `NoTree` where none fits. A tree with at most
 /// 1,025 nodes above one another is never told too deep.
-pub fn parse_as(alloc: Global, goal: Goal, tokens: &[Token]) -> Result<Vec<Row>, Fault>
+pub(crate) fn parse_as(alloc: Global, goal: Goal, tokens: &[Token]) -> Result<Vec<Row>, Fault>
     ensures reads { IsReading (λ v. v.items) result (reading goal tokens.now) }
     ensures sound { IfOk result (λ v. IsTreeOf goal tokens.now v.items) }
     ensures complete { (z : Forest) (n : ℕ) → FitsGoal grammar n goal z tokens.now [] → IsTree (λ v. v.items) most_high z result }

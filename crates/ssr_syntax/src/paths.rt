@@ -1,5 +1,6 @@
+//! The functions that read paths.
 ghost use Rattle.ssr_syntax.specs.Paths.{name_ref, path, path_segment};
-ghost use Rattle.ssr_syntax.specs.Runs.{Gives, run_marked, state};
+ghost use Rattle.ssr_syntax.specs.Runs.{Gives, run_marked, state_of};
 
 use crate::goals::Fault;
 use crate::reader::Reader;
@@ -9,13 +10,13 @@ use ssr_syntax_lex::SyntaxKind;
 
 /// NAME_REF: an identifier.
 #[tactic(auto, unfolding(crate::specs::Paths::name_ref))]
-pub fn name_ref<'a, R: Reader<'a>>(
+fn name_ref<'a, R: Reader<'a>>(
     reader: &R,
     tokens: &'a [Token],
     out: &mut Vec<Row>,
 ) -> Result<&'a [Token], Fault>
     requires { R.can_read reader.now }
-    ensures { Gives (λ r. r.now) out.new.items result (run_marked (R.reads reader.now) name_ref (state out.old.items tokens.now)) }
+    ensures { Gives (λ r. r.now) out.new.items result (run_marked (R.reads reader.now) name_ref (state_of out.old.items tokens.now)) }
 {
     let mark = out.len();
     let rest = expect(SyntaxKind::IDENT, tokens)?;
@@ -24,13 +25,13 @@ pub fn name_ref<'a, R: Reader<'a>>(
 
 /// PATH_SEGMENT: a NAME_REF.
 #[tactic(auto, unfolding(crate::specs::Paths::path_segment))]
-pub fn path_segment<'a, R: Reader<'a>>(
+fn path_segment<'a, R: Reader<'a>>(
     reader: &R,
     tokens: &'a [Token],
     out: &mut Vec<Row>,
 ) -> Result<&'a [Token], Fault>
     requires { R.can_read reader.now }
-    ensures { Gives (λ r. r.now) out.new.items result (run_marked (R.reads reader.now) path_segment (state out.old.items tokens.now)) }
+    ensures { Gives (λ r. r.now) out.new.items result (run_marked (R.reads reader.now) path_segment (state_of out.old.items tokens.now)) }
 {
     let mark = out.len();
     let rest = name_ref(reader, tokens, out)?;
@@ -39,13 +40,13 @@ pub fn path_segment<'a, R: Reader<'a>>(
 
 /// PATH: a PATH_SEGMENT.
 #[tactic(auto, unfolding(crate::specs::Paths::path))]
-pub fn path<'a, R: Reader<'a>>(
+pub(crate) fn path<'a, R: Reader<'a>>(
     reader: &R,
     tokens: &'a [Token],
     out: &mut Vec<Row>,
 ) -> Result<&'a [Token], Fault>
     requires { R.can_read reader.now }
-    ensures { Gives (λ r. r.now) out.new.items result (run_marked (R.reads reader.now) path (state out.old.items tokens.now)) }
+    ensures { Gives (λ r. r.now) out.new.items result (run_marked (R.reads reader.now) path (state_of out.old.items tokens.now)) }
 {
     let mark = out.len();
     let rest = path_segment(reader, tokens, out)?;

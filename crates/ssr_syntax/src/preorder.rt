@@ -1,7 +1,9 @@
+//! The rows of a tree's nodes in preorder, from the parser's rows.
 ghost use Rattle.std.specs.Prelude.{◌≡◌, ◌+◌, ◌<◌, ◌≤◌, ◌^◌, length, reverse, slice_index, nat_lt};
 ghost use Rattle.ssr_syntax_lex.specs.declared.kinds.SyntaxKind.{SyntaxKind};
-ghost use Rattle.ssr_syntax.specs.Preorder.{opened, first_at, past_at, IsClosed, IsOpened, IsFromRight, OkUnlessDeep, tree_rows, high, most_deep};
-ghost use Rattle.ssr_syntax.specs.Trees.{Forest, done, tree, rows as rows_of};
+ghost use Rattle.ssr_syntax.specs.Preorder.{first_at, past_at, OkUnlessDeep, tree_rows, most_deep, most_nodes};
+ghost use Rattle.ssr_syntax.specs.OpenNodes.{opened, IsClosed, IsOpened, IsFromRight};
+ghost use Rattle.ssr_syntax.specs.Trees.{Forest, done, height, tree, rows as rows_of};
 
 use crate::rows::Row;
 use crate::syntax_error::SyntaxError;
@@ -11,7 +13,8 @@ use std::alloc::Global;
 /// How deep a tree may be: the depth of its root is 0.
 const MOST_DEEP: usize = 1024;
 
-/// How many nodes a tree may have, so that their numbers are of 32 bits; more are told as want of memory.
+/// How many nodes a tree may have, so that their numbers are of 32 bits; more are told as want of memory. The gap below
+/// 2^32 is room for the open nodes, which are added to a number.
 const MOST_NODES: usize = 0xffff_f000;
 
 /// A node with its row, as long as more nodes may stand below it.
@@ -24,7 +27,11 @@ struct Open {
 }
 
 /// Closes the open nodes that begin at `place` or behind it.
-fn close(place: u32, above: &mut Vec<Open>, nodes: &mut Vec<NodeRow>) -> Result<(), SyntaxError>
+fn close_open(
+    place: u32,
+    above: &mut Vec<Open>,
+    nodes: &mut Vec<NodeRow>,
+) -> Result<(), SyntaxError>
     ensures { IsClosed place above.old.items above.new.items nodes.old.items nodes.new.items result }
 {
     while let Some(inner) = above.last() {
@@ -38,38 +45,39 @@ fn close(place: u32, above: &mut Vec<Open>, nodes: &mut Vec<NodeRow>) -> Result<
 }
 
 /// How many tokens there are up to the solid one of that number.
-fn taken(behind: &[u32], solid: usize) -> u32
-    ensures { result ≡ slice_index behind.now solid }
+fn taken(ends: &[u32], solid: usize) -> u32
+    ensures { result ≡ slice_index ends.now solid }
 {
-    behind.get(solid).copied().unwrap_or(0)
+    ends.get(solid).copied().unwrap_or(0)
 }
 
-/// The first token of a node of `count` solid tokens, of which `left` are to its left.
-fn first_token(behind: &[u32], low: u32, left: u32, count: u32) -> u32
-    ensures { result ≡ first_at (λ i. slice_index behind.now i) low left count }
+/// The first token of a node of `count` solid tokens, to whose left `left` stand. A node without tokens stands at the
+/// token `low` or behind it.
+fn first_token(ends: &[u32], low: u32, left: u32, count: u32) -> u32
+    ensures { result ≡ first_at (λ i. slice_index ends.now i) low left count }
 {
     if count == 0 {
-        taken(behind, left as usize).max(low)
+        taken(ends, left as usize).max(low)
     } else {
-        taken(behind, left as usize + 1).saturating_sub(1)
+        taken(ends, left as usize + 1).saturating_sub(1)
     }
 }
 
 /// The token past the last one of such a node.
-fn past_token(behind: &[u32], low: u32, left: u32, count: u32) -> u32
-    ensures { result ≡ past_at (λ i. slice_index behind.now i) low left count }
+fn past_token(ends: &[u32], low: u32, left: u32, count: u32) -> u32
+    ensures { result ≡ past_at (λ i. slice_index ends.now i) low left count }
 {
     if count == 0 {
-        taken(behind, left as usize).max(low)
+        taken(ends, left as usize).max(low)
     } else {
-        taken(behind, left as usize + count as usize)
+        taken(ends, left as usize + count as usize)
     }
 }
 
 /// The node of a row with `place` rows in front of it, below the open ones.
-fn opened(behind: &[u32], total: u32, row: &Row, place: u32, above: &[Open]) -> Open
+fn opened(ends: &[u32], total: u32, row: &Row, place: u32, above: &[Open]) -> Open
     requires { place + length above.now < 2 ^ 32 }
-    ensures { result ≡ opened (λ i. slice_index behind.now i) total row.now place (reverse above.now) }
+    ensures { result ≡ opened (λ i. slice_index ends.now i) total row.now place (reverse above.now) }
 {
     let (parent, low) = match above.last() {
         Some(inner) => (inner.number, inner.node.first),
@@ -84,8 +92,8 @@ fn opened(behind: &[u32], total: u32, row: &Row, place: u32, above: &[Open]) -> 
         node: NodeRow {
             kind: row.kind,
             parent,
-            first: first_token(behind, low, left, count),
-            past: past_token(behind, low, left, count),
+            first: first_token(ends, low, left, count),
+            past: past_token(ends, low, left, count),
             below: place - start,
         },
     }
@@ -93,21 +101,21 @@ fn opened(behind: &[u32], total: u32, row: &Row, place: u32, above: &[Open]) -> 
 
 /// Opens the node of a row with `place` rows in front of it, or writes it at once if no node is below it.
 fn open_row(
-    behind: &[u32],
+    ends: &[u32],
     total: u32,
     row: &Row,
     place: u32,
     above: &mut Vec<Open>,
     nodes: &mut Vec<NodeRow>,
 ) -> Result<(), SyntaxError>
-    requires { place ≤ 0xffff_f000 }
-    ensures { IsOpened (λ i. slice_index behind.now i) total row.now place above.old.items above.new.items nodes.old.items nodes.new.items result }
+    requires { place ≤ most_nodes }
+    ensures { IsOpened (λ i. slice_index ends.now i) total row.now place above.old.items above.new.items nodes.old.items nodes.new.items result }
 {
-    close(place + 1, above, nodes)?;
+    close_open(place + 1, above, nodes)?;
     if above.len() > MOST_DEEP {
         return Err(SyntaxError::TooDeep);
     }
-    let inner = opened(behind, total, row, place, above);
+    let inner = opened(ends, total, row, place, above);
     if inner.start == place {
         nodes.push(inner.node)?;
     } else {
@@ -118,34 +126,34 @@ fn open_row(
 
 /// Writes the nodes of the rows, the last one first, and then those above.
 fn from_right(
-    behind: &[u32],
+    ends: &[u32],
     total: u32,
     rows: &[Row],
     above: &mut Vec<Open>,
     nodes: &mut Vec<NodeRow>,
 ) -> Result<(), SyntaxError>
-    requires { length rows.now ≤ 0xffff_f000 }
-    ensures { IsFromRight (λ i. slice_index behind.now i) total rows.now above.old.items nodes.old.items nodes.new.items result }
+    requires { length rows.now ≤ most_nodes }
+    ensures { IsFromRight (λ i. slice_index ends.now i) total rows.now above.old.items nodes.old.items nodes.new.items result }
 {
     let mut rest = rows;
     while let Some((row, front)) = rest.split_last() {
-        open_row(behind, total, row, front.len() as u32, above, nodes)?;
+        open_row(ends, total, row, front.len() as u32, above, nodes)?;
         rest = front;
     }
-    close(0, above, nodes)
+    close_open(0, above, nodes)
 }
 
-/// The rows of a tree's nodes in preorder, from the parser's. `behind` says how many of the `tokens` tokens there are up
+/// The rows of a tree's nodes in preorder, from the parser's. `ends` says how many of the `tokens` tokens there are up
 /// to each solid one, from none on.
 pub(crate) fn node_rows(
     alloc: Global,
     rows: &[Row],
-    behind: &[u32],
+    ends: &[u32],
     tokens: u32,
 ) -> Result<Vec<NodeRow>, SyntaxError>
     ensures { (kind : SyntaxKind) (kids : Forest) → rows.now ≡ rows_of (tree kind kids done) 0
-        → OkUnlessDeep (nat_lt most_deep (high kids))
-        (λ v. (v.items ≡ tree_rows (λ i. slice_index behind.now i) tokens kind kids) × (length rows.now ≤ 0xffff_f000))
+        → OkUnlessDeep (nat_lt most_deep (height kids))
+        (λ v. (v.items ≡ tree_rows (λ i. slice_index ends.now i) tokens kind kids) × (length rows.now ≤ most_nodes))
         result }
 {
     let Some((root, below)) = rows.split_last() else {
@@ -168,7 +176,7 @@ pub(crate) fn node_rows(
         number: 0,
         node,
     })?;
-    from_right(behind, root.first, below, &mut above, &mut nodes)?;
+    from_right(ends, root.first, below, &mut above, &mut nodes)?;
     nodes.reverse();
     Ok(nodes)
 }

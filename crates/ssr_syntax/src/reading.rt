@@ -1,10 +1,11 @@
+//! The syntax trees of texts.
 ghost use Rattle.std.specs.Prelude.{◌≡◌, ◌<◌, ◌≤◌, ◌^◌, length, map, IfOk, reverse, ◌&&◌};
 ghost use Rattle.ssr_syntax_lex.specs.Tokens.{Tiles, spell};
-ghost use Rattle.ssr_syntax.specs.Reading.{Answers, AnswersTrimmed, IsLexed, error_of, goal_of, begins_solid, tree_reading, file_reading, fragment_reading, trimmed, FitsFile, FitsFragment, IsTreeOfFile, IsTreeOfFragment, IsThatOrTooDeep};
+ghost use Rattle.ssr_syntax.specs.Reading.{Answers, AnswersTrimmed, IsLexed, goal_of, begins_solid, tree_reading, file_reading, fragment_reading, trimmed, FitsFile, FitsFragment, IsTreeOfFile, IsTreeOfFragment, IsThatOrTooDeep};
 ghost use Rattle.ssr_syntax_tree.specs.Syntax.{Syntax};
 
 use crate::fragments::Fragment;
-use crate::goals::{Fault, Goal};
+use crate::goals::Goal;
 use crate::parser::parse_as;
 use crate::preorder::node_rows;
 use crate::solid::solid;
@@ -22,16 +23,6 @@ fn raw_tokens(alloc: Global, text: &str) -> Result<Vec<RawToken>, SyntaxError>
         Err(LexError::TooLong) => Err(SyntaxError::TooLong),
         Err(LexError::Fault(_)) => Err(SyntaxError::Lex),
         Err(LexError::Memory) => Err(SyntaxError::Memory),
-    }
-}
-
-fn syntax_error(fault: Fault) -> SyntaxError
-    ensures { result ≡ error_of fault }
-{
-    match fault {
-        Fault::NoTree => SyntaxError::NoTree,
-        Fault::TooDeep => SyntaxError::TooDeep,
-        Fault::Memory => SyntaxError::Memory,
     }
 }
 
@@ -63,17 +54,12 @@ fn read_tokens(
     ensures { Answers result (tree_reading goal text.now tokens.now) }
 {
     let solid_tokens = solid(alloc, tokens)?;
-    let rows = match parse_as(alloc, goal, &solid_tokens.tokens) {
-        Ok(rows) => rows,
-        Err(fault) => return Err(syntax_error(fault)),
-    };
+    let rows = parse_as(alloc, goal, &solid_tokens.tokens)?;
+    // Dropped as soon as they are read, which keeps the most memory in use low.
     drop(solid_tokens.tokens);
-    let nodes = match node_rows(alloc, &rows, &solid_tokens.behind, tokens.len() as u32) {
-        Ok(nodes) => nodes,
-        Err(error) => return Err(error),
-    };
+    let nodes = node_rows(alloc, &rows, &solid_tokens.ends, tokens.len() as u32)?;
     drop(rows);
-    drop(solid_tokens.behind);
+    drop(solid_tokens.ends);
     let tokens = token_rows(alloc, tokens)?;
     let source = String::from_str(alloc, text)?;
     Ok(Tree::from_parts(source, tokens, nodes))
@@ -83,10 +69,7 @@ fn read_tokens(
 fn read_file(alloc: Global, text: &str) -> Result<Tree, SyntaxError>
     ensures { Answers result (file_reading text.now) }
 {
-    let tokens = match raw_tokens(alloc, text) {
-        Ok(tokens) => tokens,
-        Err(error) => return Err(error),
-    };
+    let tokens = raw_tokens(alloc, text)?;
     read_tokens(alloc, Goal::File, text, &tokens)
 }
 
@@ -135,17 +118,12 @@ fn read_fragment(
         return Err(SyntaxError::TooLong);
     }
     let front = text.len().saturating_sub(text.trim_start().len()) as u32;
-    let tokens = match raw_tokens(alloc, inner) {
-        Ok(tokens) => tokens,
-        Err(error) => return Err(error),
-    };
+    let tokens = raw_tokens(alloc, inner)?;
     if !is_solid_outside(&tokens) {
         return Err(SyntaxError::NoTree);
     }
-    match read_tokens(alloc, fragment.goal(), inner, &tokens) {
-        Ok(tree) => Ok((tree, front)),
-        Err(error) => Err(error),
-    }
+    let tree = read_tokens(alloc, fragment.goal(), inner, &tokens)?;
+    Ok((tree, front))
 }
 
 /// The syntax tree of a text without the white space around it, and how many bytes of that stand in front. The tree's
@@ -194,10 +172,6 @@ mod tests {
             text.push_str(back)?;
         }
         Ok(text)
-    }
-
-    fn error_of(answer: Result<(Tree, u32), SyntaxError>) -> Option<SyntaxError> {
-        answer.err()
     }
 
     #[test]
@@ -311,15 +285,15 @@ mod tests {
             Some(SyntaxError::Lex)
         );
         assert_eq!(rt;
-            error_of(fragment(alloc, Fragment::Expr, "")),
+            fragment(alloc, Fragment::Expr, "").err(),
             Some(SyntaxError::NoTree)
         );
         assert_eq!(rt;
-            error_of(fragment(alloc, Fragment::Expr, "1 == 2")),
+            fragment(alloc, Fragment::Expr, "1 == 2").err(),
             Some(SyntaxError::NoTree)
         );
         assert_eq!(rt;
-            error_of(fragment(alloc, Fragment::Expr, "\u{200e}1")),
+            fragment(alloc, Fragment::Expr, "\u{200e}1").err(),
             Some(SyntaxError::NoTree)
         );
         Ok(())
@@ -331,14 +305,11 @@ mod tests {
         for (count, want) in [(1024, None), (1025, Some(SyntaxError::TooDeep))] {
             let nested = repeated(alloc, "(", count, "1", ")")?;
             assert_eq!(rt;
-                error_of(fragment(alloc, Fragment::Expr, nested.as_str())),
+                fragment(alloc, Fragment::Expr, nested.as_str()).err(),
                 want
             );
             let sum = repeated(alloc, "1+", count, "1", "")?;
-            assert_eq!(rt;
-                error_of(fragment(alloc, Fragment::Expr, sum.as_str())),
-                want
-            );
+            assert_eq!(rt; fragment(alloc, Fragment::Expr, sum.as_str()).err(), want);
         }
         Ok(())
     }
@@ -348,12 +319,12 @@ mod tests {
         let alloc = rt.alloc();
         let open = repeated(alloc, "(", 1_000_000, "", "")?;
         assert_eq!(rt;
-            error_of(fragment(alloc, Fragment::Expr, open.as_str())),
+            fragment(alloc, Fragment::Expr, open.as_str()).err(),
             Some(SyntaxError::TooDeep)
         );
         let sum = repeated(alloc, "1+", 100_000, "1", "")?;
         assert_eq!(rt;
-            error_of(fragment(alloc, Fragment::Expr, sum.as_str())),
+            fragment(alloc, Fragment::Expr, sum.as_str()).err(),
             Some(SyntaxError::TooDeep)
         );
         Ok(())

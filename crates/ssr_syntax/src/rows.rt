@@ -1,5 +1,6 @@
+//! The parser's rows: the nodes of a tree, each behind those below it.
 ghost use Rattle.std.specs.Prelude.{Ok};
-ghost use Rattle.ssr_syntax.specs.Runs.{Gives, close, mark_at, state};
+ghost use Rattle.ssr_syntax.specs.Runs.{Gives, close, mark_at, state_of};
 
 use crate::goals::Fault;
 use crate::tokens::Token;
@@ -7,14 +8,14 @@ use ssr_syntax_lex::SyntaxKind;
 
 /// A node of the tree, as the parser writes it: behind all nodes below it.
 #[derive(Clone, Copy)]
-pub struct Row {
-    pub kind: SyntaxKind,
+pub(crate) struct Row {
+    pub(crate) kind: SyntaxKind,
     /// How many tokens were left at its first one.
-    pub first: u32,
+    pub(crate) first: u32,
     /// How many tokens were left behind its last one.
-    pub end: u32,
+    pub(crate) end: u32,
     /// How many nodes stand below it: the rows directly in front of this one.
-    pub below: u32,
+    pub(crate) below: u32,
 }
 
 /// The most rows and tokens that are counted.
@@ -22,14 +23,14 @@ const MOST: usize = u32::MAX as usize;
 
 /// Puts all since the mark into a node: the rows behind the first `made`, and the tokens from `start` up to `rest`.
 /// The answer is `rest`. More rows or tokens than are counted are told as want of memory.
-pub fn close<'a>(
+pub(crate) fn close<'a>(
     kind: SyntaxKind,
     made: usize,
     start: &'a [Token],
     rest: &'a [Token],
     out: &mut Vec<Row>,
 ) -> Result<&'a [Token], Fault>
-    ensures { Gives (λ r. r.now) out.new.items result (Ok (close kind (mark_at made start.now) (state out.old.items rest.now))) }
+    ensures { Gives (λ r. r.now) out.new.items result (Ok (close kind (mark_at made start.now) (state_of out.old.items rest.now))) }
 {
     let below = out.len().saturating_sub(made);
     let (first, end) = (start.len(), rest.len());

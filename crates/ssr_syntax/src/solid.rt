@@ -1,3 +1,4 @@
+//! The solid tokens of a text: all but white space and comments, joined to the longest ones.
 ghost use Rattle.std.specs.Prelude.{◌≡◌, ◌<◌, ◌^◌, ◌∷◌, length, IfOk, drop};
 ghost use Rattle.ssr_syntax.specs.Solid.{with_eq, with_r_angle, twice, joined, lengthened, is_joint, solid_token, solid_tokens, ends};
 
@@ -62,7 +63,8 @@ fn joined(next: SyntaxKind, kind: SyntaxKind) -> Option<SyntaxKind>
     match next {
         SyntaxKind::EQ => with_eq(kind),
         SyntaxKind::R_ANGLE => with_r_angle(kind),
-        _ => { if kind == next { twice(kind) } else { None } }
+        _ if kind == next => twice(kind),
+        _ => None,
     }
 }
 
@@ -80,10 +82,7 @@ fn lengthened(kind: SyntaxKind, joint: bool, behind: &[RawToken]) -> Option<Synt
 fn is_joint(tokens: &[RawToken]) -> bool
     ensures { result ≡ is_joint tokens.now }
 {
-    match tokens.first() {
-        Some(token) => token.joint,
-        None => false,
-    }
+    tokens.first().is_some_and(|token| token.joint)
 }
 
 /// All but the first one.
@@ -127,29 +126,29 @@ fn solid_token(first: &RawToken, behind: &[RawToken]) -> Token
 pub(crate) struct SolidTokens {
     pub(crate) tokens: Vec<Token>,
     /// How many of all tokens there are up to each solid one and with it, after none for no solid token.
-    pub(crate) behind: Vec<u32>,
+    pub(crate) ends: Vec<u32>,
 }
 
 /// All tokens but white space and comments.
 pub(crate) fn solid(alloc: Global, raw: &[RawToken]) -> Result<SolidTokens, AllocError>
     requires { length raw.now < 2 ^ 32 }
     ensures tokens { IfOk result (λ s. s.tokens.items ≡ solid_tokens raw.now) }
-    ensures behind { IfOk result (λ s. s.behind.items ≡ 0 ∷ ends 0 raw.now) }
+    ensures ends { IfOk result (λ s. s.ends.items ≡ 0 ∷ ends 0 raw.now) }
 {
     let mut tokens = Vec::new(alloc);
-    let mut behind = Vec::new(alloc);
-    behind.push(0)?;
+    let mut ends = Vec::new(alloc);
+    ends.push(0)?;
     let mut rest = raw;
     let mut before = 0u32;
     while let Some((first, others)) = rest.split_first() {
         before += 1;
         if !first.kind.is_trivia() {
             tokens.push(solid_token(first, others))?;
-            behind.push(before)?;
+            ends.push(before)?;
         }
         rest = others;
     }
-    Ok(SolidTokens { tokens, behind })
+    Ok(SolidTokens { tokens, ends })
 }
 
 #[cfg(test)]
@@ -192,7 +191,7 @@ mod tests {
             assert_eq!(rt; token.joined, joined);
             assert_eq!(rt; token.size, size);
         }
-        assert_eq!(rt; solid.behind.as_slice(), [0, 1, 4, 5, 7].as_slice());
+        assert_eq!(rt; solid.ends.as_slice(), [0, 1, 4, 5, 7].as_slice());
         Ok(())
     }
 }

@@ -1,3 +1,5 @@
+//! The error of the calls that read a text.
+
 use crate::goals::Fault;
 use std::alloc::{AllocError, AllocFailed};
 
@@ -35,5 +37,20 @@ impl<T: Drop> From<AllocFailed<T>> for SyntaxError {
 
     fn from(_error: AllocFailed<T>) -> SyntaxError {
         SyntaxError::Memory
+    }
+}
+
+impl From<Fault> for SyntaxError {
+    ghost use Rattle.std.specs.Prelude.{◌≡◌};
+    ghost use Rattle.ssr_syntax.specs.Reading.{error_of};
+
+    ghost from_gives = { λ fault error. error ≡ error_of fault };
+
+    fn from(fault: Fault) -> SyntaxError {
+        match fault {
+            Fault::NoTree => SyntaxError::NoTree,
+            Fault::TooDeep => SyntaxError::TooDeep,
+            Fault::Memory => SyntaxError::Memory,
+        }
     }
 }

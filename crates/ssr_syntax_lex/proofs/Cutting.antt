@@ -1,5 +1,5 @@
 -- The loop that cuts a text into tokens: what is known of what it has, and of what is left.
-use Rattle.std.proofs.Common.{◌≡◌, ℕ, suc, zero, ◌+◌, ◌-◌, ◌<◌, ◌≤◌, ◌==◌, true, false, if◌then◌else◌, List, [], ◌∷◌, ◌++◌, length, refl, eqb-true, sym, ap, subst, ◌∙◌, arith, append_assoc}
+use Rattle.std.proofs.Common.{◌≡◌, ℕ, suc, zero, ◌+◌, ◌-◌, ◌<◌, ◌≤◌, ◌==◌, true, false, if◌then◌else◌, List, [], ◌∷◌, ◌++◌, length, refl, sym, ap, subst, ◌∙◌, arith, append_assoc}
 use Rattle.std.specs.Prelude.{Option, Some, None}
 use Rattle.std.specs.Option.{option_map, option_map_or, option_and_then}
 use Rattle.std.specs.Str.{chars}
@@ -43,29 +43,9 @@ started text total e = record {
   few = omega arith;
 }
 
-waits_no_more : (waiting : Option RawToken) → with_waiting waiting [] ≡ flagged waiting false
-waits_no_more None = refl
-waits_no_more (Some t) = refl
-
-one_is_zero : (n : ℕ) → suc n ≡ 0 → ⊥
-one_is_zero n e = omega arith
-
-not_empty : (c : ℕ) (cs : Chars) → (length (c ∷ cs) == 0) ≡ true → ⊥
-not_empty c cs e = absurd (one_is_zero (length cs) (eqb-true (suc (length cs)) 0 e))
-
-pub ended : (whole : Option (List RawToken)) (told : Option LexFault) (total : ℕ) (done : List RawToken) (waiting : Option RawToken) (start dots : ℕ) (rest : Chars) → Cutting whole told total done waiting start dots rest → (length rest == 0) ≡ true → whole ≡ Some (done ++ flagged waiting false)
-ended whole told total done waiting start dots [] cutting empty =
-    sym cutting.goes_on ∙ ap (λ ts. let all : Option (List RawToken) = Some (done ++ ts) in all) (waits_no_more waiting)
-ended whole told total done waiting start dots (c ∷ cs) cutting empty = absurd (not_empty c cs empty)
-
 -- the first token of what is left, in front of the others
 one_more : (fuel start dots c : ℕ) (cs : Chars) (kind : SyntaxKind) (rest : Chars) → token dots (c ∷ cs) ≡ Some (kind, rest) → tokens_from (suc fuel) start dots (c ∷ cs) ≡ option_map (in_front kind (range_of start (size (c ∷ cs) - size rest))) (tokens_from fuel (start + (size (c ∷ cs) - size rest)) (dots_behind dots kind) rest)
 one_more fuel start dots c cs kind rest e =
-    ap (option_and_then (λ (taken : Taken). let count : ℕ = size (c ∷ cs) - size taken.1 in
-    option_map (in_front taken.0 (range_of start count)) (tokens_from fuel (start + count) (dots_behind dots taken.0) taken.1))) e
-
-fault_here : (fuel start dots c : ℕ) (cs : Chars) → token dots (c ∷ cs) ≡ None → tokens_from (suc fuel) start dots (c ∷ cs) ≡ None
-fault_here fuel start dots c cs e =
     ap (option_and_then (λ (taken : Taken). let count : ℕ = size (c ∷ cs) - size taken.1 in
     option_map (in_front taken.0 (range_of start count)) (tokens_from fuel (start + count) (dots_behind dots taken.0) taken.1))) e
 
@@ -74,27 +54,6 @@ fault_behind : (fuel start dots c : ℕ) (cs : Chars) (kind : SyntaxKind) (rest 
 fault_behind fuel start dots c cs kind rest e =
     let here : Option LexFault = Some (record { kind = fault_of (c ∷ cs); start = start }) in
     ap (λ o. option_map_or (λ (taken : Taken). let count : ℕ = size (c ∷ cs) - size taken.1 in fault_from fuel (start + count) (dots_behind dots taken.0) taken.1) o here) e
-
-fault_first : (fuel start dots c : ℕ) (cs : Chars) → suc (length cs) ≤ fuel → token dots (c ∷ cs) ≡ None → fault_from fuel start dots (c ∷ cs) ≡ Some (record { kind = fault_of (c ∷ cs); start = start })
-fault_first zero start dots c cs enough e = absurd (omega arith)
-fault_first (suc fuel) start dots c cs enough e =
-    let here : Option LexFault = Some (record { kind = fault_of (c ∷ cs); start = start }) in
-    ap (λ o. option_map_or (λ (taken : Taken). let count : ℕ = size (c ∷ cs) - size taken.1 in fault_from fuel (start + count) (dots_behind dots taken.0) taken.1) o here) e
-
-fault_at : (whole : Option (List RawToken)) (done : List RawToken) (waiting : Option RawToken) (fuel start dots c : ℕ) (cs : Chars) → suc (length cs) ≤ fuel → option_map (λ ts. done ++ with_waiting waiting ts) (tokens_from fuel start dots (c ∷ cs)) ≡ whole → token dots (c ∷ cs) ≡ None → whole ≡ None
-fault_at whole done waiting zero start dots c cs enough goes fault = absurd (omega arith)
-fault_at whole done waiting (suc fuel) start dots c cs enough goes fault =
-    sym goes ∙ ap (option_map (λ ts. done ++ with_waiting waiting ts)) (fault_here fuel start dots c cs fault)
-
-pub faulted : (whole : Option (List RawToken)) (told : Option LexFault) (total : ℕ) (done : List RawToken) (waiting : Option RawToken) (start dots : ℕ) (rest : Chars) → Cutting whole told total done waiting start dots rest → (length rest == 0) ≡ false → token dots rest ≡ None → whole ≡ None
-faulted whole told total done waiting start dots [] cutting some fault = absurd (cc)
-faulted whole told total done waiting start dots (c ∷ cs) cutting some fault =
-    fault_at whole done waiting cutting.fuel start dots c cs cutting.enough cutting.goes_on fault
-
-pub told_here : (whole : Option (List RawToken)) (told : Option LexFault) (total : ℕ) (done : List RawToken) (waiting : Option RawToken) (start dots : ℕ) (rest : Chars) → Cutting whole told total done waiting start dots rest → (length rest == 0) ≡ false → token dots rest ≡ None → told ≡ Some (record { kind = fault_of rest; start = start })
-told_here whole told total done waiting start dots [] cutting some fault = absurd (cc)
-told_here whole told total done waiting start dots (c ∷ cs) cutting some fault =
-    sym cutting.tells ∙ fault_first cutting.fuel start dots c cs cutting.enough fault
 
 flag_first : (waiting : Option RawToken) (kind : SyntaxKind) (range : TextRange) (ts : List RawToken) → with_waiting waiting (in_front kind range ts) ≡ flagged waiting (is_punctuation kind) ++ in_front kind range ts
 flag_first None kind range ts = refl

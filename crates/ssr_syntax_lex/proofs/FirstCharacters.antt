@@ -1,13 +1,13 @@
 -- The rows that are left when the first character is known.
-use Rattle.std.proofs.Common.{◌≡◌, ℕ, ◌==◌, Bool, true, false, not, ◌&&◌, if◌then◌else◌, [], ◌∷◌, drop, refl, sym, ap, subst, ◌∙◌, lit<, ne_eqb, eqb-true}
+use Rattle.std.proofs.Common.{◌≡◌, ℕ, ◌==◌, Bool, true, false, if◌then◌else◌, [], ◌∷◌, drop, refl, sym, ap, subst, ◌∙◌, lit<, ne_eqb, eqb-true}
 use Rattle.std.specs.Prelude.{Option, Some, None, Result, slice_get}
 use Rattle.unicode_ident.proofs.IdentLemmas.{is_xid_start-ascii}
-use Rattle.ssr_syntax_lex.specs.Cursor.{Chars, passes_at, is_at, past}
+use Rattle.ssr_syntax_lex.specs.Cursor.{Chars, is_at, past}
 use Rattle.ssr_syntax_lex.specs.Characters.{is_whitespace, is_digit, starts_word}
 use Rattle.ssr_syntax_lex.specs.Words.{mark_kind}
 use Rattle.ssr_syntax_lex.specs.Numbers.{number}
 use Rattle.ssr_syntax_lex.specs.Scan.{is_in_line, past_comments, past_quoted, past_raw_string, past_char}
-use Rattle.ssr_syntax_lex.specs.Raw.{Taken, begins_string, past_string, begins_raw_identifier, punctuation, kind_of_word, past_word, past_hashes, closed, IsPlain, token, fault_of, Takes}
+use Rattle.ssr_syntax_lex.specs.Raw.{Taken, begins_raw_string, begins_string, past_string, begins_raw_identifier, begins_lifetime_behind, punctuation, kind_of_word, past_word, closed, IsPlain, token, fault_of, Takes}
 use Rattle.ssr_syntax_lex.specs.declared.fault.FaultKind.{FaultKind}
 use Rattle.ssr_syntax_lex.specs.declared.fault.FaultKind.TheVariants as faults
 use Rattle.ssr_syntax_lex.specs.declared.kinds.SyntaxKind.{SyntaxKind}
@@ -34,9 +34,9 @@ unfolding token
 token_quote dots = from_front (λ cs. token dots cs ≡ (closed k.STRING (past_quoted false (drop 1 cs)))) 34
     (λ cs. refl)
 
-pub token_r : (dots : ℕ) (cs : Chars) → slice_get cs 0 ≡ Some 114 → token dots cs ≡ (if is_at 0 114 cs && is_at 0 34 (past_hashes (drop 1 cs)) then closed k.STRING (past_raw_string (drop 1 cs)) else (if begins_raw_identifier cs then Some (k.IDENT, past_word (drop 2 cs)) else Some (kind_of_word cs, past_word cs)))
+pub token_r : (dots : ℕ) (cs : Chars) → slice_get cs 0 ≡ Some 114 → token dots cs ≡ (if begins_raw_string cs then closed k.STRING (past_raw_string (drop 1 cs)) else (if begins_raw_identifier cs then Some (k.IDENT, past_word (drop 2 cs)) else Some (kind_of_word cs, past_word cs)))
 unfolding token
-token_r dots = from_front (λ cs. token dots cs ≡ (if is_at 0 114 cs && is_at 0 34 (past_hashes (drop 1 cs)) then closed k.STRING (past_raw_string (drop 1 cs)) else (if begins_raw_identifier cs then Some (k.IDENT, past_word (drop 2 cs)) else Some (kind_of_word cs, past_word cs)))) 114
+token_r dots = from_front (λ cs. token dots cs ≡ (if begins_raw_string cs then closed k.STRING (past_raw_string (drop 1 cs)) else (if begins_raw_identifier cs then Some (k.IDENT, past_word (drop 2 cs)) else Some (kind_of_word cs, past_word cs)))) 114
     (λ cs. rw (is_xid_start-ascii 114 (lit< tt)) refl)
 
 pub token_b : (dots : ℕ) (cs : Chars) → slice_get cs 0 ≡ Some 98 → token dots cs ≡ (if begins_string (drop 1 cs) then closed k.BYTE_STRING (past_string (drop 1 cs)) else (if is_at 1 39 cs then closed k.BYTE (past_char (drop 2 cs)) else Some (kind_of_word cs, past_word cs)))
@@ -49,9 +49,9 @@ unfolding token
 token_c dots = from_front (λ cs. token dots cs ≡ (if begins_string (drop 1 cs) then closed k.C_STRING (past_string (drop 1 cs)) else Some (kind_of_word cs, past_word cs))) 99
     (λ cs. rw (is_xid_start-ascii 99 (lit< tt)) refl)
 
-pub token_apostrophe : (dots : ℕ) (cs : Chars) → slice_get cs 0 ≡ Some 39 → token dots cs ≡ (if passes_at 1 starts_word cs && not (is_at 2 39 cs) then Some (k.LIFETIME_IDENT, past_word (drop 1 cs)) else closed k.CHAR (past_char (drop 1 cs)))
+pub token_apostrophe : (dots : ℕ) (cs : Chars) → slice_get cs 0 ≡ Some 39 → token dots cs ≡ (if begins_lifetime_behind cs then Some (k.LIFETIME_IDENT, past_word (drop 1 cs)) else closed k.CHAR (past_char (drop 1 cs)))
 unfolding token
-token_apostrophe dots = from_front (λ cs. token dots cs ≡ (if passes_at 1 starts_word cs && not (is_at 2 39 cs) then Some (k.LIFETIME_IDENT, past_word (drop 1 cs)) else closed k.CHAR (past_char (drop 1 cs)))) 39
+token_apostrophe dots = from_front (λ cs. token dots cs ≡ (if begins_lifetime_behind cs then Some (k.LIFETIME_IDENT, past_word (drop 1 cs)) else closed k.CHAR (past_char (drop 1 cs)))) 39
     (λ cs. rw (is_xid_start-ascii 39 (lit< tt)) refl)
 
 other_at : (dots c : ℕ) (cs : Chars) → (c ≡ 47 → ⊥) → (c ≡ 34 → ⊥) → (c ≡ 114 → ⊥) → (c ≡ 98 → ⊥) → (c ≡ 99 → ⊥) → (c ≡ 39 → ⊥) → token dots (c ∷ cs) ≡ (if is_whitespace c then Some (k.WHITESPACE, past is_whitespace (c ∷ cs)) else (if starts_word c then Some (kind_of_word (c ∷ cs), past_word (c ∷ cs)) else (if is_digit c then Some (number dots (c ∷ cs)) else punctuation (c ∷ cs))))

@@ -1,3 +1,4 @@
+pub mod SameKinds
 pub mod Eaten
 pub mod WordLaws
 pub mod ScanSteps

@@ -60,6 +60,3 @@ last_at xs c =
 pub last_passes : (test : ℕ → Bool) (text front : Chars) (c : ℕ) → text ≡ front ++ c ∷ [] → passes_at (length text - 1) test text ≡ test c
 last_passes test text front c e =
     ap (λ cs. passes_at (length cs - 1) test cs) e ∙ ap (λ o. option_map_or test o false) (last_at front c)
-
-pub none_passes : (test : ℕ → Bool) (text : Chars) → text ≡ [] → passes_at (length text - 1) test text ≡ false
-none_passes test text e = ap (λ cs. passes_at (length cs - 1) test cs) e

@@ -92,11 +92,6 @@ none_in_run hashes counter all cs here less counted =
     let fewer : all < hashes = omega (arith, empty) in
     grind (arith, nat_tests)
 
-pub all_in_run : (hashes counter all left : ℕ) → hashes ≤ counter → counter + left ≡ all → true ≡ nat_le hashes all
-all_in_run hashes counter all left less counted =
-    let more : hashes ≤ all = omega arith in
-    grind (arith, nat_tests)
-
 -- a `#` is no `"`
 no_quote : (c : ℕ) → is_hash c ≡ true → (c == 34) ≡ false
 no_quote c hash = ap (λ d. d == 34) (eqb-true c 35 hash)
@@ -116,11 +111,7 @@ past_raw-past_hashes hashes (c ∷ cs) = skips_hash hashes c cs (is_hash c) refl
 no_end : (c : ℕ) (b : Bool) → b ≡ false → (c == 34 && b) ≡ false
 no_end c b e = ap (λ x. c == 34 && x) e ∙ elim (c == 34) as (λ x. (x && false) ≡ false) [ true ↦ refl | false ↦ refl ]
 
--- a `"` that closes, one that doesn't, and any other character
-pub raw_closes : (hashes c : ℕ) (cs rest : Chars) → cs ≡ c ∷ rest → c ≡ 34 → begins_with_hashes hashes rest ≡ true → past_raw hashes cs ≡ Some (drop hashes rest)
-raw_closes hashes c cs rest e quote all =
-    ap (past_raw hashes) e ∙ raw_step hashes c rest true (ap (λ d. d == 34 && begins_with_hashes hashes rest) quote ∙ all)
-
+-- a `"` that doesn't close, and any other character
 pub raw_stays : (hashes c : ℕ) (cs rest : Chars) → cs ≡ c ∷ rest → begins_with_hashes hashes rest ≡ false → past_raw hashes cs ≡ past_raw hashes (past is_hash rest)
 raw_stays hashes c cs rest e few =
     ap (past_raw hashes) e ∙ (raw_step hashes c rest false (no_end c (begins_with_hashes hashes rest) few) ∙ sym (past_raw-past_hashes hashes rest))

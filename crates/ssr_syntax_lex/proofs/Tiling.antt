@@ -16,16 +16,6 @@ use Rattle.std.specs.declared.alloc.Global.{Global}
 use Rattle.ssr_syntax_lex.specs.declared.tokens.LexError.{LexError}
 use Rattle.ssr_syntax_lex.specs.Tokens.{Lexes}
 
-nothing_at_end : (dots : ℕ) → token dots [] ≡ None
-unfolding token
-nothing_at_end dots = refl
-
--- each token takes at least one character
-pub token_takes : (dots : ℕ) (cs rest : Chars) (kind : SyntaxKind) → token dots cs ≡ Some (kind, rest) → length rest < length cs
-token_takes dots [] rest kind e = absurd (cc (nothing_at_end dots))
-token_takes dots (c ∷ cs) rest kind e =
-    let fewer = (shorter c cs rest (token_leaves dots c cs (kind, rest) e)).0 in omega arith
-
 -- the end of a text is a text
 ends_utf8 : (taken rest : Chars) → IsUtf8 (encode_utf8_all (taken ++ rest)) → IsUtf8 (encode_utf8_all rest)
 ends_utf8 [] rest utf8 = utf8

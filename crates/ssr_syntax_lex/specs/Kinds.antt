@@ -1,6 +1,13 @@
+-- Kinds of tokens and of nodes.
 use Rattle.std.specs.Prelude.{ℕ, List, Bool, true, false, codes}
+use denote.Enum.Bare.{sameb}
 use Rattle.ssr_syntax_lex.specs.declared.kinds.SyntaxKind.{SyntaxKind}
 use Rattle.ssr_syntax_lex.specs.declared.kinds.SyntaxKind.TheVariants as k
+use Rattle.ssr_syntax_lex.specs.contracts.kinds.SyntaxKind.{the_type}
+
+-- whether two kinds are the same
+abbrev pub same_kind : SyntaxKind → SyntaxKind → Bool
+same_kind a b = sameb the_type a b
 
 -- white space and comments, which stand between the tokens that the grammar reads
 abbrev pub is_trivia : SyntaxKind → Bool

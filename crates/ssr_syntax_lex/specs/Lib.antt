@@ -6,3 +6,4 @@ pub mod Numbers
 pub mod Scan
 pub mod Raw
 pub mod Tokens
+pub mod Fault

@@ -37,13 +37,15 @@ takes_sign part = not (has_radix part.0) && ends_with_exponent_mark part.0 && is
 abbrev pub has_exponent : Chars → Bool
 has_exponent text = not (has_radix text) && passes_at 0 is_exponent_mark (past is_digit_or_underscore text)
 
--- the longest run of word characters, the point and the run behind it, the sign, its digit and the run behind these
+-- the longest run of word characters, from the front
 abbrev pub whole_run : Chars → Part
 whole_run cs = with_run 0 ([], cs)
 
+-- also the point and the run behind it, where the number takes them
 abbrev pub with_point : Part → Part
 with_point part = if takes_point part then with_run 1 part else part
 
+-- also a sign, its digit and the run behind these
 abbrev pub with_sign : Part → Part
 with_sign part = if takes_sign part then with_run 2 part else part
 

@@ -16,19 +16,21 @@ use Rattle.ssr_syntax_lex.specs.declared.kinds.SyntaxKind.TheVariants as k
 abbrev pub Taken : Type 0
 Taken = SyntaxKind × Chars
 
-abbrev pub past_hashes : Chars → Chars
-past_hashes cs = past is_hash cs
-
--- the kind of the word at the front, and what follows the word
+-- the kind of the word at the front
 abbrev pub kind_of_word : Chars → SyntaxKind
 kind_of_word cs = word_kind (encode_utf8_all (run continues_word cs))
 
+-- what follows that word
 abbrev pub past_word : Chars → Chars
 past_word cs = past continues_word cs
 
--- `"`, or `r`, any number of `#` and `"`
+-- a raw string: `r`, any number of `#` and `"`
+abbrev pub begins_raw_string : Chars → Bool
+begins_raw_string cs = is_at 0 114 cs && is_at 0 34 (past is_hash (drop 1 cs))
+
+-- `"`, or a raw string
 abbrev pub begins_string : Chars → Bool
-begins_string cs = is_at 0 34 cs || (is_at 0 114 cs && is_at 0 34 (past_hashes (drop 1 cs)))
+begins_string cs = is_at 0 34 cs || begins_raw_string cs
 
 -- what follows the string that begins there
 abbrev pub past_string : Chars → Option Chars
@@ -41,9 +43,13 @@ abbrev pub begins_raw_identifier : Chars → Bool
 begins_raw_identifier cs =
     is_at 0 114 cs && is_at 1 35 cs && passes_at 2 starts_word cs && not (is_at 2 95 cs && not (passes_at 3 continues_word cs))
 
--- `'` and a word whose first character isn't directly followed by `'`
+-- behind the next character comes a word whose first character isn't directly followed by `'`
+abbrev pub begins_lifetime_behind : Chars → Bool
+begins_lifetime_behind cs = passes_at 1 starts_word cs && not (is_at 2 39 cs)
+
+-- `'` and such a word
 abbrev pub begins_lifetime : Chars → Bool
-begins_lifetime cs = is_at 0 39 cs && passes_at 1 starts_word cs && not (is_at 2 39 cs)
+begins_lifetime cs = is_at 0 39 cs && begins_lifetime_behind cs
 
 -- a punctuation character
 abbrev pub punctuation : Chars → Option Taken

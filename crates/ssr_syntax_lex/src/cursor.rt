@@ -1,8 +1,8 @@
 //! A cursor over the characters that are left of a text.
 
-ghost use Rattle.std.specs.Prelude.{◌≡◌, ◌<◌, ◌^◌, ℕ, Bool, [], ◌∷◌, ◌++◌, length, drop, slice_get, MatchOption, ◌&&◌, ◌||◌, ◌==◌, encode_utf8, encode_utf8_all};
+ghost use Rattle.std.specs.Prelude.{◌≡◌, ◌<◌, ◌^◌, ℕ, Bool, [], ◌∷◌, ◌++◌, length, drop, slice_get, MatchOption, ◌&&◌, ◌==◌, encode_utf8, encode_utf8_all};
 ghost use Rattle.std.specs.Str.{chars};
-ghost use Rattle.ssr_syntax_lex.specs.Cursor.{passes_at, is_at, run, past};
+ghost use Rattle.ssr_syntax_lex.specs.Cursor.{is_at, run, past};
 
 use std::marker::Model;
 

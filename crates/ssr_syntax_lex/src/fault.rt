@@ -18,6 +18,11 @@ pub(crate) enum FaultKind {
 }
 
 impl fmt::Display for FaultKind {
+    ghost use Rattle.std.specs.Prelude.{Some};
+    ghost use Rattle.ssr_syntax_lex.specs.Fault.{kind_words};
+
+    ghost output = { λ kind. Some (kind_words kind) };
+
     fn fmt<W: fmt::Write>(&self, f: &mut fmt::Formatter<W>) -> fmt::Result {
         f.write_str(match self {
             FaultKind::UnclosedComment => "a block comment that is not closed",

@@ -1,3 +1,5 @@
+//! The kinds of tokens and of nodes.
+
 ghost use Rattle.std.specs.Prelude.{◌≡◌, ◌↔◌, IsTrue, Some};
 
 use std::fmt;
@@ -244,11 +246,12 @@ pub enum SyntaxKind {
 }
 
 impl SyntaxKind {
-    ghost use Rattle.ssr_syntax_lex.specs.Kinds.{is_trivia, name};
+    ghost use Rattle.ssr_syntax_lex.specs.Kinds.{same_kind, is_trivia, name};
 
     /// Whether both are the same kind.
     pub fn is(self, other: SyntaxKind) -> bool
-        ensures { IsTrue result ↔ (self ≡ other) }
+        ensures decides { IsTrue result ↔ (self ≡ other) }
+        ensures same { result ≡ same_kind self other }
     {
         self == other
     }

@@ -1,6 +1,6 @@
 //! Number tokens.
 
-ghost use Rattle.std.specs.Prelude.{◌≡◌, ◌&&◌, ◌-◌, ◌<◌, ◌^◌, length, drop, slice_get};
+ghost use Rattle.std.specs.Prelude.{◌≡◌, ◌&&◌, ◌<◌, ◌^◌, length, drop};
 ghost use Rattle.std.specs.Str.{chars};
 ghost use Rattle.std.specs.List.{list_all};
 ghost use Rattle.ssr_syntax_lex.specs.Numbers as spec;
@@ -85,7 +85,7 @@ fn takes_sign(run: &str, cursor: &Cursor<'_>) -> bool
     requires { length run.now < 2 ^ 32 }
     ensures { result ≡ spec.takes_sign (chars run.now, cursor.now) }
 {
-    !has_radix(run) && ends_with_exponent_mark(run) && is_signed_digit(cursor)
+    !has_radix(run) && has_signed_exponent(run, cursor)
 }
 
 /// Passes over a number, and gives its kind. `dots` counts the `.` directly in front of it.
@@ -122,7 +122,6 @@ pub(crate) fn eat_number(cursor: &mut Cursor<'_>, dots: u32) -> SyntaxKind
 fn eat_signed_run(cursor: &mut Cursor<'_>)
     ensures { cursor.new ≡ past continues_word (drop 2 cursor.old) }
 {
-    cursor.bump();
-    cursor.bump();
+    cursor.bump_pair();
     cursor.eat_while(continues_word);
 }

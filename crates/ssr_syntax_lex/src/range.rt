@@ -1,3 +1,5 @@
+//! Ranges of bytes in a text.
+
 ghost use Rattle.std.specs.Prelude.{◌≡◌, ◌-◌, ◌<◌, ◌≤◌, ◌↔◌, min, max, IsTrue};
 
 /// A range of bytes in a text: from `start` up to before `end`.
@@ -9,6 +11,7 @@ pub struct TextRange {
 }
 
 impl TextRange {
+    /// The range from the byte `start` up to before the byte `end`, which is `start` or more.
     pub fn new(start: u32, end: u32) -> TextRange
         requires { start ≤ end }
         ensures start { result.start ≡ start }
@@ -17,24 +20,28 @@ impl TextRange {
         TextRange { start, end }
     }
 
+    /// The first byte of the range; where it is empty, the byte at which it stands.
     pub fn start(self) -> u32
         ensures { result ≡ self.start }
     {
         self.start
     }
 
+    /// The byte behind the last one.
     pub fn end(self) -> u32
         ensures { result ≡ self.end }
     {
         self.end
     }
 
+    /// How many bytes the range has.
     pub fn len(self) -> u32
         ensures { result ≡ self.end - self.start }
     {
         self.end - self.start
     }
 
+    /// Whether the range has no byte.
     pub fn is_empty(self) -> bool
         ensures { IsTrue result ↔ (self.start ≡ self.end) }
     {

@@ -1,11 +1,9 @@
 //! The raw token at the front of a text.
 
-ghost use Rattle.std.specs.Prelude.{ℕ, ◌≡◌, ◌&&◌, not, true, Some, drop, slice_get};
+ghost use Rattle.std.specs.Prelude.{ℕ, ◌≡◌, Some, drop, slice_get};
 ghost use Rattle.ssr_syntax_lex.specs.Raw as spec;
 ghost use Rattle.ssr_syntax_lex.specs.Scan.{PassesOver};
 ghost use Rattle.ssr_syntax_lex.specs.declared.fault.FaultKind.TheVariants as faults;
-ghost use Rattle.ssr_syntax_lex.specs.Characters.{starts_word};
-ghost use Rattle.ssr_syntax_lex.specs.Cursor.{passes_at, is_at};
 
 use crate::characters::{continues_word, is_digit, is_hash, is_whitespace, starts_word};
 use crate::cursor::Cursor;
@@ -16,8 +14,8 @@ use crate::scan::{eat_block_comment, eat_char, eat_quoted, eat_raw_string, is_in
 use crate::words::{mark_kind, word_kind};
 
 /// Whether `r`, any number of `#` and `"` come next.
-fn begins_hashed_string(cursor: &Cursor<'_>) -> bool
-    ensures { result ≡ (is_at 0 114 cursor.now && is_at 0 34 (spec.past_hashes (drop 1 cursor.now))) }
+fn begins_raw_string(cursor: &Cursor<'_>) -> bool
+    ensures { result ≡ spec.begins_raw_string cursor.now }
 {
     if !cursor.is_at('r') {
         return false;
@@ -34,7 +32,7 @@ fn begins_string_behind(cursor: &Cursor<'_>) -> bool
 {
     let mut ahead = cursor.fork();
     ahead.bump();
-    ahead.is_at('"') || begins_hashed_string(&ahead)
+    ahead.is_at('"') || begins_raw_string(&ahead)
 }
 
 /// Whether `r#` and a word other than `_` come next.
@@ -49,7 +47,7 @@ fn begins_raw_identifier(cursor: &Cursor<'_>) -> bool
 
 /// Whether a word, whose first character isn't directly followed by `'`, comes behind the next character.
 fn begins_lifetime_behind(cursor: &Cursor<'_>) -> bool
-    ensures { result ≡ (passes_at 1 starts_word cursor.now && not (is_at 2 39 cursor.now)) }
+    ensures { result ≡ spec.begins_lifetime_behind cursor.now }
 {
     cursor.second().is_some_and(starts_word) && !cursor.third().is_some_and(|c| c == '\'')
 }
@@ -124,7 +122,7 @@ fn eat_r(cursor: &mut Cursor<'_>) -> Result<SyntaxKind, FaultKind>
     requires { slice_get cursor.old 0 ≡ Some 114 }
     ensures { (dots : ℕ) → spec.Takes (spec.fault_of cursor.old) result (spec.token dots cursor.old) cursor.new }
 {
-    if begins_hashed_string(cursor) {
+    if begins_raw_string(cursor) {
         cursor.bump();
         eat_raw_string(cursor)?;
         return Ok(SyntaxKind::STRING);

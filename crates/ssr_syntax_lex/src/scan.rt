@@ -1,6 +1,6 @@
 //! Passing over comments, strings and characters.
 
-ghost use Rattle.std.specs.Prelude.{◌≡◌, false, true, length, drop};
+ghost use Rattle.std.specs.Prelude.{◌≡◌, false, true, drop};
 ghost use Rattle.ssr_syntax_lex.specs.Scan as spec;
 ghost use Rattle.ssr_syntax_lex.specs.declared.fault.FaultKind.TheVariants as faults;
 ghost use Rattle.ssr_syntax_lex.specs.Characters.{is_hash};

@@ -1,6 +1,6 @@
 //! The raw tokens of a text.
 
-ghost use Rattle.std.specs.Prelude.{◌≡◌, ◌≤◌, ◌+◌, ◌<◌, ◌^◌, ◌++◌, length, IfOk};
+ghost use Rattle.std.specs.Prelude.{◌≡◌, ◌+◌, ◌<◌, ◌^◌, ◌++◌, length, IfOk};
 ghost use Rattle.ssr_syntax_lex.specs.Tokens as spec;
 
 use crate::cursor::Cursor;
@@ -54,18 +54,28 @@ impl<T: Drop> From<AllocFailed<T>> for LexError {
 
     ghost from_gives = { λ _ e. e ≡ Memory };
 
-    fn from(_failed: AllocFailed<T>) -> LexError {
+    fn from(_: AllocFailed<T>) -> LexError {
         LexError::Memory
     }
 }
 
 impl fmt::Display for LexFault {
+    ghost use Rattle.std.specs.Prelude.{Some};
+    ghost use Rattle.ssr_syntax_lex.specs.Fault.{fault_words};
+
+    ghost output = { λ fault. Some (fault_words fault) };
+
     fn fmt<W: fmt::Write>(&self, f: &mut fmt::Formatter<W>) -> fmt::Result {
         write!(f, "{}, at byte {}", self.kind, self.start)
     }
 }
 
 impl fmt::Display for LexError {
+    ghost use Rattle.std.specs.Prelude.{Some};
+    ghost use Rattle.ssr_syntax_lex.specs.Fault.{error_words};
+
+    ghost output = { λ error. Some (error_words error) };
+
     fn fmt<W: fmt::Write>(&self, f: &mut fmt::Formatter<W>) -> fmt::Result {
         match self {
             LexError::TooLong => f.write_str("text too long"),

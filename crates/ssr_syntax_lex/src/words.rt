@@ -191,34 +191,34 @@ pub(crate) fn mark_kind(c: char) -> Option<SyntaxKind>
 pub(crate) fn is_punctuation(kind: SyntaxKind) -> bool
     ensures { result ≡ spec.is_punctuation kind }
 {
-    match kind {
+    matches!(
+        kind,
         SyntaxKind::SEMICOLON
-        | SyntaxKind::COMMA
-        | SyntaxKind::L_PAREN
-        | SyntaxKind::R_PAREN
-        | SyntaxKind::L_CURLY
-        | SyntaxKind::R_CURLY
-        | SyntaxKind::L_BRACK
-        | SyntaxKind::R_BRACK
-        | SyntaxKind::L_ANGLE
-        | SyntaxKind::R_ANGLE
-        | SyntaxKind::AT
-        | SyntaxKind::POUND
-        | SyntaxKind::TILDE
-        | SyntaxKind::QUESTION => true,
-        SyntaxKind::DOLLAR
-        | SyntaxKind::AMP
-        | SyntaxKind::PLUS
-        | SyntaxKind::STAR
-        | SyntaxKind::SLASH
-        | SyntaxKind::CARET
-        | SyntaxKind::PERCENT
-        | SyntaxKind::DOT
-        | SyntaxKind::COLON
-        | SyntaxKind::EQ
-        | SyntaxKind::BANG
-        | SyntaxKind::MINUS
-        | SyntaxKind::PIPE => true,
-        _ => false,
-    }
+            | SyntaxKind::COMMA
+            | SyntaxKind::L_PAREN
+            | SyntaxKind::R_PAREN
+            | SyntaxKind::L_CURLY
+            | SyntaxKind::R_CURLY
+            | SyntaxKind::L_BRACK
+            | SyntaxKind::R_BRACK
+            | SyntaxKind::L_ANGLE
+            | SyntaxKind::R_ANGLE
+            | SyntaxKind::AT
+            | SyntaxKind::POUND
+            | SyntaxKind::TILDE
+            | SyntaxKind::QUESTION
+            | SyntaxKind::DOLLAR
+            | SyntaxKind::AMP
+            | SyntaxKind::PLUS
+            | SyntaxKind::STAR
+            | SyntaxKind::SLASH
+            | SyntaxKind::CARET
+            | SyntaxKind::PERCENT
+            | SyntaxKind::DOT
+            | SyntaxKind::COLON
+            | SyntaxKind::EQ
+            | SyntaxKind::BANG
+            | SyntaxKind::MINUS
+            | SyntaxKind::PIPE
+    )
 }

@@ -2,7 +2,7 @@
 use Rattle.std.proofs.Common.{◌≡◌, ℕ, ◌+◌, ◌<◌, ◌≤◌, inl, inr, arith, refl, sym, ap, subst}
 use Rattle.std.proofs.lemmas.Bool.{cases_lt}
 use Rattle.ssr_syntax_lex.specs.declared.range.TextRange.{TextRange}
-use Rattle.ssr_syntax_tree.specs.Places.{node_of, size_of, IsAbove, depth_at, HasNode, HoldsRange, IsCovering}
+use Rattle.ssr_syntax_tree.specs.Places.{node_of, size_of, IsAbove, depth_at, HasNode, HoldsRange}
 use Rattle.ssr_syntax_tree.specs.Syntax.{Syntax, node_count}
 use Rattle.ssr_syntax_tree.proofs.Places.{node_of-number, depth_at-root, root_size}
 use Rattle.ssr_syntax_tree.proofs.Ranges.{start_of-below, end_of-below}
@@ -97,11 +97,3 @@ best_past syntax range next found depth past best h free is within = record {
               ]
               )
         ]
-
-pub best_covers : (syntax : Syntax) (range : TextRange) (next found depth : ℕ) → IsBest syntax range next found depth → 1 + node_count syntax.children ≤ next → IsCovering syntax range found
-best_covers syntax range next found depth best all = record {
-  has = omega (arith, best.before, best.within);
-  holds = best.holds;
-  deepest = λ m h held. omega (arith, best.depth_is, best.deepest m (omega arith) held);
-  first = λ m h held same. best.first m (omega arith) held (omega (arith, same, best.depth_is));
-}

@@ -24,51 +24,35 @@ record Found (syntax : Syntax) (m t : ℕ) (forest : Forest) (n : ℕ) : Type 0 
   ends : token + token_count below ≤ t + token_count forest
   within : n + 1 + node_count below ≤ m + node_count forest
 
-found : (syntax : Syntax) (parent m t : ℕ) (forest : Forest) → At syntax parent m t forest → (n : ℕ) → m ≤ n → n < m + node_count forest → Found syntax m t forest n
-found syntax parent m t nothing a n low high = absurd (omega arith)
-found syntax parent m t (leaf token next) a n low high =
-    let later = found syntax parent m (1 + t) next (at_leaf syntax parent m t token next a) n low high in
-    record {
-      parent = later.parent;
-      token = later.token;
-      kind = later.kind;
-      below = later.below;
-      next = later.next;
-      at = later.at;
-      starts = omega arith;
-      ends = omega arith;
-      within = later.within;
-    }
-found syntax parent m t (branch kind below next) a n low high =
+-- a place among siblings or below them is one among siblings that hold these
+widened : (syntax : Syntax) (m t p u : ℕ) (inner outer : Forest) (n : ℕ) → u ≤ t → t + token_count inner ≤ u + token_count outer → m + node_count inner ≤ p + node_count outer → Found syntax m t inner n → Found syntax p u outer n
+widened syntax m t p u inner outer n starts ends within place = record {
+  parent = place.parent;
+  token = place.token;
+  kind = place.kind;
+  below = place.below;
+  next = place.next;
+  at = place.at;
+  starts = omega (arith, place.starts);
+  ends = omega (arith, place.ends);
+  within = omega (arith, place.within);
+}
+
+found_among : (syntax : Syntax) (parent m t : ℕ) (forest : Forest) → At syntax parent m t forest → (n : ℕ) → m ≤ n → n < m + node_count forest → Found syntax m t forest n
+found_among syntax parent m t nothing a n low high = absurd (omega arith)
+found_among syntax parent m t (leaf token next) a n low high =
+    widened syntax m (1 + t) m t next (leaf token next) n (omega arith) (omega arith) (omega arith)
+    (found_among syntax parent m (1 + t) next (at_leaf syntax parent m t token next a) n low high)
+found_among syntax parent m t (branch kind below next) a n low high =
     elim (cases_lt m n) [
       | inl behind ↦
           elim (cases_lt n (1 + m + node_count below)) [
             | inl inside ↦
-                let inner = found syntax m (1 + m) t below (at_below syntax parent m t kind below next a) n (omega arith) inside in
-                record {
-                  parent = inner.parent;
-                  token = inner.token;
-                  kind = inner.kind;
-                  below = inner.below;
-                  next = inner.next;
-                  at = inner.at;
-                  starts = inner.starts;
-                  ends = omega arith;
-                  within = omega arith;
-                }
+                widened syntax (1 + m) t m t below (branch kind below next) n (omega arith) (omega arith) (omega arith)
+                (found_among syntax m (1 + m) t below (at_below syntax parent m t kind below next a) n (omega arith) inside)
             | inr outside ↦
-                let later = found syntax parent (1 + m + node_count below) (t + token_count below) next (at_next syntax parent m t kind below next a) n outside (omega arith) in
-                record {
-                  parent = later.parent;
-                  token = later.token;
-                  kind = later.kind;
-                  below = later.below;
-                  next = later.next;
-                  at = later.at;
-                  starts = omega arith;
-                  ends = omega arith;
-                  within = omega arith;
-                }
+                widened syntax (1 + m + node_count below) (t + token_count below) m t next (branch kind below next) n (omega arith) (omega arith) (omega arith)
+                (found_among syntax parent (1 + m + node_count below) (t + token_count below) next (at_next syntax parent m t kind below next a) n outside (omega arith))
           ]
       | inr here ↦
           record {
@@ -86,17 +70,17 @@ found syntax parent m t (branch kind below next) a n low high =
 
 -- a node other than the root stands among those below the root
 standing : (syntax : Syntax) (n : ℕ) → HasNode syntax n → 0 < n → Found syntax 1 0 syntax.children n
-standing syntax n h behind = found syntax 0 1 0 syntax.children (at_top syntax) n (omega arith) (omega arith)
+standing syntax n h behind = found_among syntax 0 1 0 syntax.children (at_top syntax) n (omega arith) (omega arith)
 
 node_of-found : (syntax : Syntax) (m t : ℕ) (forest : Forest) (n : ℕ) (place : Found syntax m t forest n) → node_of syntax n ≡ record { number = n; parent = place.parent; first = place.token; kind = place.kind; children = place.below }
 node_of-found syntax m t forest n place = node_of-at syntax place.parent n place.token place.kind place.below place.next place.at
 
 -- the node of a number has that number, and what is below it stands behind it
-pub record Known (syntax : Syntax) (n : ℕ) : Type 0 where
+pub record IsKnown (syntax : Syntax) (n : ℕ) : Type 0 where
   pub number : (node_of syntax n).number ≡ n
   pub children : At syntax n (1 + n) (node_of syntax n).first (node_of syntax n).children
 
-pub known : (syntax : Syntax) (n : ℕ) → HasNode syntax n → Known syntax n
+pub known : (syntax : Syntax) (n : ℕ) → HasNode syntax n → IsKnown syntax n
 unfolding node_of
 known syntax zero h = record { number = refl; children = at_top syntax }
 known syntax (suc n) h =
@@ -122,22 +106,11 @@ below_has syntax n m h above = omega (arith, below_fits syntax n h, node_of-numb
 pub tokens_fit : (syntax : Syntax) (n : ℕ) → HasNode syntax n → (node_of syntax n).first + token_count (node_of syntax n).children ≤ token_count syntax.children
 tokens_fit syntax n h = let ends = (known syntax n h).children.tokens_end in omega arith
 
--- the parent of a node stands before it and above it
+-- the parent of a node stands before it
 pub parent_before : (syntax : Syntax) (n : ℕ) → HasNode syntax n → 0 < n → (node_of syntax n).parent < n
 parent_before syntax n h behind =
     let place = standing syntax n h behind in
     rw (node_of-found syntax 1 0 syntax.children n place) place.at.behind_parent
-
-pub parent_has : (syntax : Syntax) (n : ℕ) → HasNode syntax n → 0 < n → HasNode syntax (node_of syntax n).parent
-parent_has syntax n h behind = omega (arith, parent_before syntax n h behind, h)
-
-pub parent_above : (syntax : Syntax) (n : ℕ) → HasNode syntax n → 0 < n → IsAbove (node_of syntax (node_of syntax n).parent) n
-parent_above syntax n h behind =
-    let place = standing syntax n h behind in
-    let before : place.parent < n = place.at.behind_parent in
-    let number = node_of-number syntax place.parent (omega (arith, h)) in
-    let holds = place.at.in_parent in
-    rw (node_of-found syntax 1 0 syntax.children n place) (omega arith, omega arith)
 
 -- the depths
 pub depth_at-root : (syntax : Syntax) → depth_at syntax 0 ≡ 0
@@ -167,7 +140,7 @@ pub below_within : (syntax : Syntax) (n m : ℕ) → HasNode syntax n → IsAbov
 below_within syntax n m h above =
     let about = known syntax n h in
     let number = about.number in
-    let place = found syntax n (1 + n) (node_of syntax n).first (node_of syntax n).children about.children m (omega (arith, above.0)) (omega (arith, above.1)) in
+    let place = found_among syntax n (1 + n) (node_of syntax n).first (node_of syntax n).children about.children m (omega (arith, above.0)) (omega (arith, above.1)) in
     let starts = place.starts in
     let ends = place.ends in
     let within = place.within in
@@ -178,13 +151,6 @@ pub smaller : (syntax : Syntax) (n m : ℕ) → HasNode syntax n → IsAbove (no
 smaller syntax n m h above =
     let within = (below_within syntax n m h above).nodes in
     omega (arith, node_of-number syntax n h, node_of-number syntax m (below_has syntax n m h above), above.0)
-
--- a node above another one is above those below that one
-pub above_below : (syntax : Syntax) (n m k : ℕ) → HasNode syntax n → IsAbove (node_of syntax n) m → IsAbove (node_of syntax m) k → IsAbove (node_of syntax n) k
-above_below syntax n m k h above below =
-    let within = (below_within syntax n m h above).nodes in
-    let number = node_of-number syntax m (below_has syntax n m h above) in
-    (omega (arith, above.0, below.0), omega (arith, below.1))
 
 node_of-get_or : (syntax : Syntax) (n : ℕ) → node_of syntax n ≡ get_or (nodes_of syntax) n (root_of syntax)
 unfolding node_of

@@ -1,19 +1,15 @@
 -- Laws of ranges and texts in bytes.
-use Rattle.std.proofs.Common.{◌≡◌, ℕ, ◌+◌, ◌-◌, ◌<◌, ◌≤◌, List, length, take, drop, get_or, slice_range, append-nil, sym, ap, ◌∙◌, inl, inr, arith, length-take, length-drop}
-use Rattle.std.proofs.lemmas.Bool.{cases_lt}
+use Rattle.std.proofs.Common.{◌≡◌, ℕ, ◌+◌, ◌-◌, ◌<◌, ◌≤◌, List, length, take, drop, get_or, slice_range, append-nil, sym, ap, ◌∙◌, arith}
 use Rattle.std.proofs.lemmas.List.{drop_more, get_or_default}
 use Rattle.std.proofs.lemmas.Option.{unwrap_or-slice_get}
 use Rattle.ssr_syntax_tree.specs.Places.{Node, node_of, token_of, size_of, IsAbove, text_of, offset_of, start_of, end_of, HasNode, HasToken}
 use Rattle.ssr_syntax_tree.specs.Syntax.{Syntax, token_count, tokens_of, spelled, source_of}
 use Rattle.ssr_syntax_tree.proofs.Siblings.{length-tokens_in}
-use Rattle.ssr_syntax_tree.proofs.Places.{node_of-number, below_within, tokens_apart, tokens_in-node}
-use Rattle.ssr_syntax_tree.proofs.RowLaws.{offset_grows, offset_within, slice_spelled}
+use Rattle.ssr_syntax_tree.proofs.Places.{below_within, tokens_apart, tokens_in-node}
+use Rattle.ssr_syntax_tree.proofs.RowLaws.{offset_grows, slice_spelled}
 
 pub start_before_end : (syntax : Syntax) (node : Node) → start_of syntax node ≤ end_of syntax node
 start_before_end syntax node = offset_grows syntax node.first (node.first + token_count node.children) (omega arith)
-
-pub end_within : (syntax : Syntax) (node : Node) → end_of syntax node ≤ length (source_of syntax)
-end_within syntax node = offset_within syntax (node.first + token_count node.children)
 
 -- a node below another one has its range in that one's
 pub start_of-below : (syntax : Syntax) (n m : ℕ) → HasNode syntax n → IsAbove (node_of syntax n) m → start_of syntax (node_of syntax n) ≤ start_of syntax (node_of syntax m)
@@ -52,36 +48,3 @@ token_text-slice syntax t h =
 
 pub token_text_read : (syntax : Syntax) (t : ℕ) → HasToken syntax t → (source : List ℕ) (start end : ℕ) → source ≡ source_of syntax → start ≡ offset_of syntax t → end ≡ offset_of syntax (1 + t) → slice_range source start end ≡ (token_of syntax t).text
 token_text_read syntax t h source start end whole first past = rw whole (rw first (rw past (token_text-slice syntax t h)))
-
--- of two nodes the later one is below the earlier one, or its range comes after that one's
-pub apart_or_below : (syntax : Syntax) (n m : ℕ) → HasNode syntax n → HasNode syntax m → n < m → (IsAbove (node_of syntax n) m → ⊥) → end_of syntax (node_of syntax n) ≤ start_of syntax (node_of syntax m)
-apart_or_below syntax n m h g later apart =
-    elim (cases_lt m (n + size_of (node_of syntax n))) [
-      | inl inside ↦ let number = node_of-number syntax n h in absurd (apart (omega arith, omega arith))
-      | inr outside ↦ ranges_apart syntax n m h g outside
-    ]
-
--- a node's range is as long as its text, and a token's too
-pub length-text_of : (syntax : Syntax) (n : ℕ) → HasNode syntax n → end_of syntax (node_of syntax n) ≡ start_of syntax (node_of syntax n) + length (text_of (node_of syntax n))
-length-text_of syntax n h =
-    let node = node_of syntax n in
-    let long = end_of syntax node - start_of syntax node in
-    omega (
-      arith,
-      ap length (text_of-slice syntax n h),
-      length-take long (drop (start_of syntax node) (source_of syntax)),
-      length-drop (start_of syntax node) (source_of syntax),
-      start_before_end syntax node,
-      end_within syntax node,
-    )
-
-pub offset_of-more : (syntax : Syntax) (t : ℕ) → HasToken syntax t → offset_of syntax (1 + t) ≡ offset_of syntax t + length (token_of syntax t).text
-offset_of-more syntax t h =
-    omega (
-      arith,
-      ap length (token_text-slice syntax t h),
-      length-take (offset_of syntax (1 + t) - offset_of syntax t) (drop (offset_of syntax t) (source_of syntax)),
-      length-drop (offset_of syntax t) (source_of syntax),
-      offset_grows syntax t (1 + t) (omega arith),
-      offset_within syntax (1 + t),
-    )

@@ -77,9 +77,6 @@ offset_grows syntax a b h =
       length-append (spelled (take a (tokens_of syntax))) (spelled (take (b - a) (drop a (tokens_of syntax)))),
     )
 
-pub offset_within : (syntax : Syntax) (t : ℕ) → offset_of syntax t ≤ length (source_of syntax)
-offset_within syntax t = omega (arith, ap length (split_at syntax t), length-append (spelled (take t (tokens_of syntax))) (spelled (drop t (tokens_of syntax))))
-
 -- the bytes between two tokens' offsets are what the tokens between them spell
 pub slice_spelled : (syntax : Syntax) (a b : ℕ) → a ≤ b → take (offset_of syntax b - offset_of syntax a) (drop (offset_of syntax a) (source_of syntax)) ≡ spelled (take (b - a) (drop a (tokens_of syntax)))
 slice_spelled syntax a b h =

@@ -1,12 +1,17 @@
 -- A plain syntax tree: what contracts see of a `Tree`. Trivia are leaves like the other tokens.
-use Rattle.std.specs.Prelude.{ℕ, ◌+◌, List, [], ◌∷◌, ◌++◌, max}
+use Rattle.std.specs.Prelude.{ℕ, ◌+◌, Bool, ◌&&◌, bytes_eq, List, [], ◌∷◌, ◌++◌, max}
 use Rattle.std.specs.List.{flat_map}
+use Rattle.ssr_syntax_lex.specs.Kinds.{same_kind}
 use Rattle.ssr_syntax_lex.specs.declared.kinds.SyntaxKind.{SyntaxKind}
 
 -- a token of a tree: its kind and its bytes
 pub record Token : Type 0 where
   pub kind : SyntaxKind
   pub text : List ℕ
+
+-- whether two tokens have one kind and one text
+abbrev pub same_token : Token → Token → Bool
+same_token a b = same_kind a.kind b.kind && bytes_eq a.text b.text
 
 -- siblings in order: the first one, with what is below it, and those after it
 pub data Forest : Type 0 where

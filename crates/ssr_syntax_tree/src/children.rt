@@ -1,3 +1,5 @@
+//! A node's children, one after the other.
+
 ghost use Rattle.std.specs.Prelude.{All, ◌≡◌, ◌^◌, ◌<◌, length};
 
 use crate::number::{Element, NodeNo, TokenNo};

@@ -1,3 +1,5 @@
+//! The numbers that name the nodes and the tokens of a tree.
+
 /// The number of a node in its tree: nodes are counted in preorder, the root is 0.
 #[derive(Clone, Copy, Debug, PartialEq, Eq, PartialOrd, Ord)]
 pub struct NodeNo(pub u32);

@@ -1,3 +1,5 @@
+//! The rows that a tree is stored in: one for each token, and one for each node.
+
 use ssr_syntax_lex::SyntaxKind;
 
 /// A token of a tree: its kind, and where it begins, in bytes.

@@ -1,3 +1,5 @@
+//! A syntax tree over one source, and what it tells of its nodes and tokens.
+
 ghost use Rattle.std.specs.Prelude.{All, ◌≡◌, ◌+◌, ◌^◌, ◌<◌, ◌≤◌, ◌↔◌, ℕ, Some, IsTrue, IsNone, IfSome, IfNone, length, slice_get, string_bytes};
 ghost use Rattle.std.specs.Str.{IsCharBoundary};
 
@@ -241,7 +243,7 @@ impl Tree {
         self.children(node).count()
     }
 
-    /// The child at an index; it passes those before it one by one.
+    /// The child at an index, which is less than `child_count`; it passes those before it one by one.
     pub fn child(&self, node: NodeNo, index: usize) -> Element
         requires has_node { HasNode self.now node.0 }
         requires within { index < length (elements_of (node_of self.now node.0)) }

@@ -3,7 +3,7 @@ use Rattle.std.proofs.lemmas.Result.{IfOk-weaker}
 use Rattle.ssr_syntax_tree.specs.Syntax.{source_of}
 use Rattle.ssr_base.specs.Changes.{Fits}
 use Rattle.ssr_base.specs.Applied.{changes_of}
-use Rattle.ide_ssr.proofs.Outermost.{all_fit}
+use Rattle.ide_ssr.proofs.Ordered.{all_fit}
 use Rattle.ide_ssr.proofs.edits.changes.Goals as goal
 
 pub returns-clause-fits : goal.returns-clause-fits

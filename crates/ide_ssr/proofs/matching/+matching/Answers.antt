@@ -7,13 +7,13 @@ pub node_matches-returns-in-Some : goal.node_matches-returns-in-Some
 node_matches-returns-in-Some t c =
     placeholder-from _ _ _ _ _ _ _ _ c.requires.c_in c.in-Some.ensures c.in_ok-push.ensures.items
 
-pub node_matches-returns-then-not-is_kind : goal.node_matches-returns-then-not-is_kind
-node_matches-returns-then-not-is_kind t c =
-    other_kind-from _ _ _ _ _ _ _ _ _ _ _ c.pattern-pattern.ensures c.placeholder.ensures c.in_default.not-Some c.kind.ensures c.kind-2.ensures c.is_kind.ensures c.if-not-is_kind.true
+pub node_matches-returns-then-not-is : goal.node_matches-returns-then-not-is
+node_matches-returns-then-not-is t c =
+    other_kind-from _ _ _ _ _ _ _ _ _ _ _ c.pattern-pattern.ensures c.placeholder.ensures c.in_default.not-Some c.kind.ensures c.kind-2.ensures c.is.ensures.same c.if-not-is.true
 
 pub node_matches-loop-first-init : goal.node_matches-loop-first-init
 node_matches-loop-first-init t c =
-    paired-starts_from _ _ _ _ _ _ _ _ _ _ _ _ _ _ _ c.pattern-pattern.ensures c.placeholder.ensures c.in_default.not-Some c.kind.ensures c.kind-2.ensures c.is_kind.ensures c.if-not-is_kind.false
+    paired-starts_from _ _ _ _ _ _ _ _ _ _ _ _ _ _ _ c.pattern-pattern.ensures c.placeholder.ensures c.in_default.not-Some c.kind.ensures c.kind-2.ensures c.is.ensures.same c.if-not-is.false
     c.deref-ps.ensures.value
     c.in_ok-pattern_children.ensures.bare
     c.in_ok-pattern_children.ensures.below

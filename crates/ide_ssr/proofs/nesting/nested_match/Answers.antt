@@ -8,7 +8,8 @@ use Rattle.ide_ssr.specs.declared.matches.Match.{Match}
 use Rattle.ide_ssr.specs.declared.matches.Match.TheViews.{out-roll-Match}
 use Rattle.ide_ssr.specs.Made.{ListedAreMade}
 use Rattle.ide_ssr.specs.Matches.{place_of_range, place_of_token}
-use Rattle.ide_ssr.specs.Nesting.{IsBetweenCharacters, listed, Show}
+use Rattle.ide_ssr.specs.Lists.{listed}
+use Rattle.ide_ssr.specs.Nesting.{IsBetweenCharacters, Show}
 use Rattle.ide_ssr.proofs.Made.{holding-starts, holding-more, holding-others, held-made, there-made}
 use Rattle.ide_ssr.proofs.Showing.{none_before, opened, bindings-start, bindings-step, show-match}
 use Rattle.ide_ssr.proofs.nesting.nested_match.Goals as goal

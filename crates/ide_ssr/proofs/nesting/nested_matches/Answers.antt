@@ -2,7 +2,8 @@ use Rattle.std.proofs.lemmas.Result.{IfOk-weaker}
 use Rattle.ide_ssr_rules.specs.Resolving.{ResolvedKind}
 use Rattle.std.proofs.Common.{List, None, arith}
 use Rattle.ide_ssr.specs.Made.{ListedAreMade}
-use Rattle.ide_ssr.specs.Nesting.{listed, Show}
+use Rattle.ide_ssr.specs.Lists.{listed}
+use Rattle.ide_ssr.specs.Nesting.{Show}
 use Rattle.ide_ssr.proofs.Made.{made-all}
 use Rattle.ide_ssr.proofs.nesting.nested_matches.Goals as goal
 

@@ -1,17 +1,17 @@
 use Rattle.std.proofs.lemmas.Result.{err_from_is_err_and}
-use Rattle.ide_ssr_rules.proofs.Chains.{pattern_changed, template_changed, pattern_reserved, sides_checked}
+use Rattle.ide_ssr_rules.proofs.Chains.{pattern_glued, template_glued, pattern_reserved, sides_checked}
 use Rattle.std.proofs.Common.{sym, ◌∙◌}
 use Rattle.ide_ssr_rules.proofs.rules.check_sides.Goals as goal
 
 pub returns-in_err-check_tokens : goal.returns-in_err-check_tokens
 returns-in_err-check_tokens c =
     let p = err_from_is_err_and c.from_residual.result c.from_residual.ensures.1 in
-    rw (p.1, p.2) (pattern_changed _ _ _ c.in_err-check_tokens.ensures)
+    rw (p.1, p.2) (pattern_glued _ _ _ c.in_err-check_tokens.ensures)
 
 pub returns-in_err-check_tokens-2 : goal.returns-in_err-check_tokens-2
 returns-in_err-check_tokens-2 c =
     let p = err_from_is_err_and c.from_residual-in_err-check_tokens-2.result c.from_residual-in_err-check_tokens-2.ensures.1 in
-    rw (p.1, p.2) (template_changed _ _ _ c.in_ok-check_tokens.ensures c.in_err-check_tokens-2.ensures)
+    rw (p.1, p.2) (template_glued _ _ _ c.in_ok-check_tokens.ensures c.in_err-check_tokens-2.ensures)
 
 pub returns-in_err-check_reserved : goal.returns-in_err-check_reserved
 returns-in_err-check_reserved c =

@@ -4,4 +4,4 @@ use Rattle.ssr_syntax.proofs.reading.read_file.Goals as goal
 
 pub read_tokens-requires-clause-few : goal.read_tokens-requires-clause-few
 read_tokens-requires-clause-few c =
-    omega (arith, tiles_count c.args.text.now 0 c.in-Ok.tokens.items c.in-Ok.ensures.2, c.in-Ok.ensures.0, ap length c.deref.ensures.value)
+    omega (arith, tiles_count c.args.text.now 0 c.in_ok-tokens.tokens.items c.in_ok-tokens.ensures.2, c.in_ok-tokens.ensures.0, ap length c.deref.ensures.value)

@@ -5,7 +5,7 @@ use Rattle.ssr_syntax.proofs.solid.solid.Given as goal
 abbrev pub invariant-loop-first : goal.invariant-loop-first
 invariant-loop-first l =
     (l.tokens.items ++ solid_tokens l.rest ≡ solid_tokens l.raw)
-    × (l.behind.items ++ ends l.before l.rest ≡ 0 ∷ ends 0 l.raw)
+    × (l.ends.items ++ ends l.before l.rest ≡ 0 ∷ ends 0 l.raw)
     × (l.before + length l.rest ≡ length l.raw)
 
 abbrev pub decreases-loop-first : goal.decreases-loop-first

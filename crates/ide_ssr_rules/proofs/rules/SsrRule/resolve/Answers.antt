@@ -9,8 +9,8 @@ use Rattle.ide_ssr_rules.proofs.rules.SsrRule.resolve.Goals as goal
 
 pub returns-clause-each : goal.returns-clause-each
 returns-clause-each c =
-    let left = into_iter_items c.loop-kind.kinds in
-    let none : length left ≡ 0 = sym c.loop-kind.kinds.rest.ok.0 ∙ c.in_default.ensures.cases.0 in
+    let left = into_iter_items c.loop-kind.kind-iterator in
+    let none : length left ≡ 0 = sym c.loop-kind.kind-iterator.rest.ok.0 ∙ c.in-None.ensures.steps.0 in
     resolved_each _ _ _
     (resolves_all c.args.self.names c.args.self.kinds left c.loop-kind.resolved.items c.loop-kind.invariant (nil_from_length left none))
     (subst (λ (rule : Rule). All (λ kind. HasEachOnce rule.names kind.pattern) rule.kinds) c.self.view_is c.self.invariant.each)

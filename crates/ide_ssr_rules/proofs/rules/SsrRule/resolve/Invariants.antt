@@ -1,10 +1,6 @@
-use Rattle.std.proofs.Common.{length}
 use Rattle.std.specs.Vec.Iter.{into_iter_items}
 use Rattle.ide_ssr_rules.proofs.Resolved.{Resolves}
 use Rattle.ide_ssr_rules.proofs.rules.SsrRule.resolve.Given as goal
 
 abbrev pub invariant-loop-kind : goal.invariant-loop-kind
-invariant-loop-kind l = Resolves l.fn.self.names l.fn.self.kinds l.resolved.items (into_iter_items l.kinds)
-
-abbrev pub decreases-loop-kind : goal.decreases-loop-kind
-decreases-loop-kind l = length (into_iter_items l.kinds)
+invariant-loop-kind l = Resolves l.fn.self.names l.fn.self.kinds l.resolved.items (into_iter_items l.kind-iterator)

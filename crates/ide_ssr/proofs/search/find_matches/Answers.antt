@@ -1,10 +1,10 @@
 use Rattle.std.proofs.Common.{◌≡◌, arith, subst, sym}
 use Rattle.ssr_syntax_tree.specs.Places.{HasNode}
-use Rattle.ide_ssr.specs.Found.{found}
+use Rattle.ide_ssr.specs.Found.{found_in}
 use Rattle.ide_ssr.specs.Order.{AreInOrder}
 use Rattle.ide_ssr.proofs.Finding.{nodes-start, nodes-turn, nodes-end}
 use Rattle.ide_ssr.proofs.InOrder.{found_in_order}
-use Rattle.ide_ssr.proofs.search.found.Goals as goal
+use Rattle.ide_ssr.proofs.search.find_matches.Goals as goal
 
 pub loop-number-init : goal.loop-number-init
 loop-number-init c = nodes-start c.args.rules.now c.args.tree.now _ c.new-found.ensures.items
@@ -16,6 +16,6 @@ loop-number-preserved c =
 
 pub returns : goal.returns
 returns c =
-    let is : c.loop-number.found.items ≡ found c.args.rules.now c.args.tree.now =
+    let is : c.loop-number.found.items ≡ found_in c.args.rules.now c.args.tree.now =
     nodes-end c.args.rules.now c.args.tree.now c.loop-number.number _ _ (omega arith) c.loop-number.invariant in
     record { matches = is; order = subst (AreInOrder c.args.tree.now) (sym is) (found_in_order c.args.rules.now c.args.tree.now) }

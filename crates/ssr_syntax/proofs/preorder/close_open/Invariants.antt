@@ -1,7 +1,7 @@
 use Rattle.std.proofs.Common.{◌≡◌, ◌++◌, vec_len}
 use Rattle.std.specs.Prelude.{reverse}
-use Rattle.ssr_syntax.specs.Preorder.{still_open, closed}
-use Rattle.ssr_syntax.proofs.preorder.close.Given as goal
+use Rattle.ssr_syntax.specs.OpenNodes.{still_open, closed}
+use Rattle.ssr_syntax.proofs.preorder.close_open.Given as goal
 
 abbrev pub invariant-loop-inner : goal.invariant-loop-inner
 invariant-loop-inner l =

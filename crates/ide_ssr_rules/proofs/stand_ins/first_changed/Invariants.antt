@@ -1,6 +1,0 @@
-use Rattle.std.proofs.Common.{◌≡◌, drop}
-use Rattle.ide_ssr_rules.specs.StandIns.{first_changed}
-use Rattle.ide_ssr_rules.proofs.stand_ins.first_changed.Given as goal
-
-abbrev pub invariant-loop-place : goal.invariant-loop-place
-invariant-loop-place l = first_changed (drop l.place l.elements) (drop l.place l.tokens) ≡ first_changed l.elements l.tokens

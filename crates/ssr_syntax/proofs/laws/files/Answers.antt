@@ -1,0 +1,5 @@
+use Rattle.ssr_syntax.proofs.TextLaws.{one_file}
+use Rattle.ssr_syntax.proofs.laws.files.Goals as goal
+
+pub returns : goal.returns
+returns c = record { one = one_file }
