@@ -21,7 +21,7 @@ use Rattle.ide_ssr.specs.Nearest.{IsNearest}
 use Rattle.ide_ssr.specs.Holding.{IsHeld, IsHeldBy}
 use Rattle.ide_ssr.proofs.Choices.{All-chosen, All-pass}
 use Rattle.ide_ssr.proofs.InOrder.{found_in_order}
-use Rattle.ide_ssr.proofs.Nearest.{Answer, nothing_over, at, answered, closed, nearest_earlier, binding-held, fit_held}
+use Rattle.ide_ssr.proofs.Nearest.{Answer, nothing_over, at, answered, closed, nearest_earlier, binding-held, fit_held, true_of}
 use Rattle.ide_ssr.proofs.OneKept.{kept-gives}
 use Rattle.ide_ssr.proofs.Ordered.{listed_ordered}
 
@@ -44,10 +44,6 @@ all_let code (k ∷ ks) m h =
 
 -- ** The nearest match over another one.
 
-either_over : (over : Bool) → (over ≡ false → ⊥) → over ≡ true
-either_over true h = refl
-either_over false h = absurd (h refl)
-
 held_at : (code : Syntax) (ks : List Found) (p : ℕ) (m : Found) → AllPairs Precedes ks → p < length ks → get_or ks p m ≡ m → fits code ks m ≡ true
     → (holder : Option Holder) → Answer code None 0 ks m holder → IsHeld code ks m holder
 held_at code ks p m in_order is_place is fit _ (nothing_over clear e) =
@@ -69,7 +65,7 @@ held_at code ks p m in_order is_place is fit _ (at q near e) =
       others = λ j d lt other.
           elim (cases_lt j q) [
             | inl less ↦
-                inr (either_over (is_over code (get_or ks j d) k) (λ none.
+                inr (true_of (is_over code (get_or ks j d) k) (λ none.
                 let first : Precedes (get_or ks j d) k = subst (Precedes (get_or ks j d)) (get_or_default ks q d m near.is_place) (in_order j q d less near.is_place) in
                 let clear = closed code (get_or ks j d) k m first before none in cc))
             | inr more ↦ elim (cases_lt q j) [

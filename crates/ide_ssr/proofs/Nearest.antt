@@ -42,7 +42,7 @@ pub false_of : (b : Bool) → (b ≡ true → ⊥) → b ≡ false
 false_of true h = absurd (h refl)
 false_of false h = refl
 
-true_of : (b : Bool) → (b ≡ false → ⊥) → b ≡ true
+pub true_of : (b : Bool) → (b ≡ false → ⊥) → b ≡ true
 true_of true h = refl
 true_of false h = absurd (h refl)
 

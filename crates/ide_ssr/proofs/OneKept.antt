@@ -93,12 +93,12 @@ All_either : {X : Type 0} (P : X → Type 0) (b : Bool) (xs ys : List X) → All
 All_either P true xs ys f g = f
 All_either P false xs ys f g = g
 
-All_chosen : (P : Found → Type 0) (code : Syntax) (ks ms : List Found) → All P ms → All P (chosen_after code ks ms)
-All_chosen P code ks [] h = h
-All_chosen P code ks (m ∷ ms) h =
+All-chosen_after : (P : Found → Type 0) (code : Syntax) (ks ms : List Found) → All P ms → All P (chosen_after code ks ms)
+All-chosen_after P code ks [] h = h
+All-chosen_after P code ks (m ∷ ms) h =
     All_either P (fits code ks m) (m ∷ chosen_after code (ks ++ m ∷ []) ms) (chosen_after code ks ms)
-    (All-cons P m (chosen_after code (ks ++ m ∷ []) ms) (h 0 m (omega arith)) (All_chosen P code (ks ++ m ∷ []) ms (All-tail P m ms h)))
-    (All_chosen P code ks ms (All-tail P m ms h))
+    (All-cons P m (chosen_after code (ks ++ m ∷ []) ms) (h 0 m (omega arith)) (All-chosen_after P code (ks ++ m ∷ []) ms (All-tail P m ms h)))
+    (All-chosen_after P code ks ms (All-tail P m ms h))
 
 -- a match is told by its node and its rule
 abbrev is_same : Found → Found → Bool
@@ -174,8 +174,8 @@ chosen-gives code ks (m ∷ ms) in_order behind =
     let after = pairs_head Precedes m ms in_order in
     gives_step code ks m ms (chosen_after code (ks ++ m ∷ []) ms) (chosen_after code ks ms) (fits code ks m) refl
     (λ n d lt. behind n d lt 0 m (omega arith))
-    (All_chosen (Precedes m) code (ks ++ m ∷ []) ms after)
-    (All_chosen (Precedes m) code ks ms after)
+    (All-chosen_after (Precedes m) code (ks ++ m ∷ []) ms after)
+    (All-chosen_after (Precedes m) code ks ms after)
     (chosen-gives code (ks ++ m ∷ []) ms (pairs_tail Precedes m ms in_order) (behind_pushed ks m ms in_order behind))
     (chosen-gives code ks ms (pairs_tail Precedes m ms in_order) (behind_tail ks m ms behind))
 

@@ -1,7 +1,7 @@
 //! The comments that a match keeps: those below its node that no placeholder holds.
 
 ghost use Rattle.std.specs.Prelude.{◌≡◌, ◌++◌, All, IfOk, OnOk, map, string_bytes};
-ghost use Rattle.ssr_syntax_tree.specs.Places.{HasNode, HasToken, node_of, token_of};
+ghost use Rattle.ssr_syntax_tree.specs.Places.{HasNode, HasToken, node_of};
 ghost use Rattle.ide_ssr.specs.Comments.{is_comment, is_below, is_bound, is_kept_comment, kept_comments, comment_text, comments_text};
 ghost use Rattle.ide_ssr.specs.Order.{IsIn};
 ghost use Rattle.ide_ssr.specs.Matches.{place_of_range, place_of_token};

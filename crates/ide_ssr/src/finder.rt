@@ -76,7 +76,8 @@ impl<'a> MatchFinder<'a> {
         ensures order { IfOk result (λ _. AreInOrder 0 (edit_of self.now.code self.now.rules)) }
         ensures memory { IfErr result (λ e. e ≡ EditError.Memory) }
     {
-        Ok(self.first_file_edits()?)
+        let kept = self.kept_matches()?;
+        Ok(edits(self.alloc, self.tree, &self.rules, &kept)?)
     }
 
     /// The kept matches as `edits` replaces them: the outermost ones, each with what its placeholders hold. Every
@@ -110,15 +111,6 @@ impl<'a> MatchFinder<'a> {
     {
         let found = find_matches(self.alloc, &self.rules, self.tree)?;
         kept(self.alloc, self.tree, found)
-    }
-
-    fn first_file_edits(&self) -> Result<BTreeMap<FileId, TextEdit>, AllocError>
-        ensures edits { IfOk result (λ m. m.entries ≡ file_edits (edit_of self.now.code self.now.rules)) }
-        ensures fits { IfOk result (λ _. All (Fits (source_of self.now.code)) (edit_of self.now.code self.now.rules)) }
-        ensures order { IfOk result (λ _. AreInOrder 0 (edit_of self.now.code self.now.rules)) }
-    {
-        let kept = self.kept_matches()?;
-        edits(self.alloc, self.tree, &self.rules, &kept)
     }
 }
 

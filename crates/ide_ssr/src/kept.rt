@@ -1,6 +1,6 @@
 //! Which of the found matches are kept.
 
-ghost use Rattle.std.specs.Prelude.{◌≡◌, ◌++◌, ◌∷◌, [], ◌<◌, ◌-◌, ℕ, length, All, IfOk, MatchOption, if◌then◌else◌, map, false, true, slice_index_or, option_map};
+ghost use Rattle.std.specs.Prelude.{◌≡◌, ◌++◌, ◌∷◌, [], ◌<◌, ◌-◌, All, IfOk, MatchOption, if◌then◌else◌, option_map};
 ghost use Rattle.ssr_syntax_tree.specs.Places.{HasNode};
 ghost use Rattle.ide_ssr.specs.Kept.{is_over, is_within, fits, kept as kept_of};
 ghost use Rattle.ide_ssr.specs.Lists.{binding_over, holder_of};

@@ -1,7 +1,6 @@
 //! Whether a node of the code matches a node of a pattern.
 
-ghost use Rattle.std.specs.Prelude.{◌≡◌, ◌&&◌, IfOk};
-ghost use Rattle.std.specs.Str.{bytes_eq};
+ghost use Rattle.std.specs.Prelude.{◌≡◌, IfOk};
 ghost use Rattle.ssr_syntax_tree.specs.Places.{HasNode, HasToken, HasElement, node_of, token_of, part_of};
 ghost use Rattle.ssr_syntax_tree.specs.Syntax.{same_token};
 ghost use Rattle.ide_ssr.specs.Bindings.{bindings_of, pair_by, Answers};

@@ -1,6 +1,6 @@
 //! Finding matches by trying every node.
 
-ghost use Rattle.std.specs.Prelude.{◌≡◌, ◌+◌, ◌++◌, ◌<◌, ◌≤◌, ℕ, IfOk, map, option_map, length};
+ghost use Rattle.std.specs.Prelude.{◌≡◌, ◌+◌, ◌++◌, ◌<◌, IfOk, option_map};
 ghost use Rattle.ssr_syntax_tree.specs.Places.{HasNode, node_of, root_of};
 ghost use Rattle.ide_ssr.specs.Bindings.{bindings_of};
 ghost use Rattle.ide_ssr.specs.Found.{match_at, matches_at, found_at, found_in};

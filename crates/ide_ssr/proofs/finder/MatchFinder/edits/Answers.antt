@@ -1,12 +1,12 @@
-use Rattle.std.proofs.Common.{◌≡◌, ℕ, List, All, IfOk, ◌∙◌, ap, subst}
+use Rattle.std.proofs.Common.{◌≡◌, ℕ, List, All, ◌∙◌, ap, subst}
 use Rattle.ssr_syntax_tree.specs.Syntax.{Syntax, source_of}
-use Rattle.ssr_base.specs.Changes.{AreInOrder, Change, Fits}
+use Rattle.ssr_base.specs.Changes.{AreInOrder, Fits}
 use Rattle.ide_ssr_rules.specs.Resolving.{ResolvedKind}
 use Rattle.ide_ssr.specs.Found.{Found}
 use Rattle.ide_ssr.specs.Kept.{kept_in}
 use Rattle.ide_ssr.specs.Edits.{edit_from, edit_of, file_edits}
 use Rattle.ide_ssr.specs.Finder.{Finder}
-use Rattle.ide_ssr.proofs.finder.MatchFinder.first_file_edits.Goals as goal
+use Rattle.ide_ssr.proofs.finder.MatchFinder.edits.Goals as goal
 
 -- the edit of a finder is made of the kept ones
 edit_is : (code : Syntax) (rules : List ResolvedKind) (finder : Finder) (rendered : List ResolvedKind) (ks : List Found)
@@ -21,16 +21,16 @@ edit_is code rules finder rendered ks view are_kept r =
 pub returns-clause-edits : goal.returns-clause-edits
 returns-clause-edits c =
     let e = edit_is _ _ _ _ _ c.self.view_is c.in_ok-kept.ensures.matches c.deref.ensures.value in
-    subst (λ (cs : List Change). IfOk c.edits.result (λ m. m.entries ≡ file_edits cs)) e c.edits.ensures.edits
+    c.in_ok-edits.ensures.edits ∙ ap file_edits e
 
 pub returns-clause-fits : goal.returns-clause-fits
 returns-clause-fits c =
     let e = edit_is _ _ _ _ _ c.self.view_is c.in_ok-kept.ensures.matches c.deref.ensures.value in
     let source = ap (λ (f : Finder). source_of f.code) c.self.view_is in
-    subst (λ (source : List ℕ). IfOk c.edits.result (λ _. All (Fits source) (edit_of c.args.self.now.code c.args.self.now.rules))) source
-    (subst (λ (cs : List Change). IfOk c.edits.result (λ _. All (Fits (source_of c.self.inside.tree.now)) cs)) e c.edits.ensures.fits)
+    subst (λ (source : List ℕ). All (Fits source) (edit_of c.args.self.now.code c.args.self.now.rules)) source
+    (subst (All (Fits (source_of c.self.inside.tree.now))) e c.in_ok-edits.ensures.fits)
 
 pub returns-clause-order : goal.returns-clause-order
 returns-clause-order c =
     let e = edit_is _ _ _ _ _ c.self.view_is c.in_ok-kept.ensures.matches c.deref.ensures.value in
-    subst (λ (cs : List Change). IfOk c.edits.result (λ _. AreInOrder 0 cs)) e c.edits.ensures.order
+    subst (AreInOrder 0) e c.in_ok-edits.ensures.order
