@@ -6,7 +6,7 @@ use Rattle.ssr_syntax_lex.proofs.SameKinds.{same_kind-equal, equal-same_kind}
 use Rattle.ssr_syntax_lex.specs.Kinds.{same_kind}
 use Rattle.ssr_syntax_tree.specs.Syntax.{Token, Forest, nothing, leaf, branch, token_count, node_count}
 use Rattle.ssr_syntax_tree.specs.Places.{Node, Part, token_part, node_part, parts_in, parts_of}
-use Rattle.ssr_syntax.proofs.Answers.{both}
+use Rattle.ide_ssr.proofs.Booleans.{both}
 use Rattle.ide_ssr_rules.specs.Resolving.{placeholder_at}
 use Rattle.ide_ssr.specs.declared.bindings.Binding.{Binding}
 use Rattle.ide_ssr.specs.Matching.{is_left_out, bare, Matches, bound, alike, Pairs, end, tokens, nodes}

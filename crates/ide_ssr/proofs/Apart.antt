@@ -7,12 +7,8 @@ use Rattle.std.proofs.lemmas.List.Kept.{AllPairs-cons}
 use Rattle.ssr_syntax_lex.specs.declared.kinds.SyntaxKind.{SyntaxKind}
 use Rattle.ssr_syntax_lex.specs.Kinds.{same_kind}
 use Rattle.ssr_syntax_tree.specs.Syntax.{Token, Forest, nothing, leaf, branch, Syntax, token_count, node_count}
-use Rattle.ssr_syntax_tree.specs.Places.{HasNode, Node, Part, token_part, node_part, node_of, parts_in, parts_of, root_of, offset_of, start_of, end_of}
-use Rattle.ssr_syntax_tree.specs.Siblings.{At}
-use Rattle.ssr_syntax_tree.proofs.Siblings.{at_leaf, at_next, node_of-at}
-use Rattle.ssr_syntax_tree.proofs.Places.{known}
-use Rattle.ssr_syntax_tree.proofs.RowLaws.{offset_grows}
-use Rattle.ssr_syntax_tree.proofs.Ranges.{start_before_end}
+use Rattle.ssr_syntax_tree.specs.Places.{HasNode, Node, Part, token_part, node_part, node_of, parts_in, parts_of, root_of, start_of, end_of}
+use Rattle.ssr_syntax_tree.proofs.Shared.{IsOf, Spans, spans_children, start_before_end}
 use Rattle.ide_ssr_rules.specs.Patterns.{or_below, placeholders_in, placeholders_of}
 use Rattle.ide_ssr_rules.specs.Resolving.{placeholder_at}
 use Rattle.ide_ssr.specs.declared.bindings.Binding.{Binding}
@@ -24,53 +20,13 @@ use Rattle.ide_ssr.specs.Apart.{ComesBefore}
 abbrev pub placeholders_bound : List Binding → List ℕ
 placeholders_bound bindings = map (λ binding. binding.placeholder) bindings
 
--- a node as the code has it under its number
-abbrev pub IsOf : Syntax → Node → Type 0
-IsOf code node = HasNode code node.number × (node_of code node.number ≡ node)
-
--- parts of the code between two places of the text, of which the nodes lie one behind another
-abbrev Spans : Syntax → ℕ → ℕ → List Part → Type 0
-Spans code from to [] = from ≤ to
-Spans code from to (token_part t token ∷ parts) = Spans code from to parts
-Spans code from to (node_part node ∷ parts) = IsOf code node × (from ≤ start_of code node) × Spans code (end_of code node) to parts
-
--- likewise the nodes that bindings hold
+-- nodes that bindings hold, between two places of the text and one behind another
 abbrev pub HoldNodes : Syntax → ℕ → ℕ → List Binding → Type 0
 HoldNodes code from to [] = from ≤ to
 HoldNodes code from to (b ∷ bs) =
     HasNode code b.node.0 × (from ≤ start_of code (node_of code b.node.0)) × HoldNodes code (end_of code (node_of code b.node.0)) to bs
 
 -- ** The parts of a node.
-
-spans_from : (code : Syntax) (low from to : ℕ) (parts : List Part) → low ≤ from → Spans code from to parts → Spans code low to parts
-spans_from code low from to [] le s = omega arith
-spans_from code low from to (token_part t token ∷ parts) le s = spans_from code low from to parts le s
-spans_from code low from to (node_part node ∷ parts) le s = let first = s.1 in (s.0, omega arith, s.2)
-
-spans_in : (code : Syntax) (parent m t : ℕ) (forest : Forest) → At code parent m t forest
-    → Spans code (offset_of code t) (offset_of code (t + token_count forest)) (parts_in parent m t forest)
-spans_in code parent m t nothing a = offset_grows code t (t + 0) (omega arith)
-spans_in code parent m t (leaf token next) a =
-    let to : 1 + t + token_count next ≡ t + (1 + token_count next) = omega arith in
-    let behind = parts_in parent m (1 + t) next in
-    subst (λ n. Spans code (offset_of code t) (offset_of code n) behind) to
-    (spans_from code (offset_of code t) (offset_of code (1 + t)) (offset_of code (1 + t + token_count next)) behind
-    (offset_grows code t (1 + t) (omega arith))
-    (spans_in code parent m (1 + t) next (at_leaf code parent m t token next a)))
-spans_in code parent m t (branch kind below next) a =
-    let ends = a.nodes_end in
-    let to : t + token_count below + token_count next ≡ t + (token_count below + token_count next) = omega arith in
-    let behind = parts_in parent (1 + m + node_count below) (t + token_count below) next in (
-      (omega arith, node_of-at code parent m t kind below next a),
-      omega arith,
-      subst (λ n. Spans code (offset_of code (t + token_count below)) (offset_of code n) behind) to
-          (spans_in code parent (1 + m + node_count below) (t + token_count below) next (at_next code parent m t kind below next a)),
-    )
-
-spans_children : (code : Syntax) (c : Node) → IsOf code c → Spans code (start_of code c) (end_of code c) (parts_of c)
-spans_children code c is =
-    spans_in code c.number (1 + c.number) c.first c.children
-    (subst (λ (node : Node). At code c.number (1 + c.number) node.first node.children) is.1 (known code c.number is.0).children)
 
 spans_if : (code : Syntax) (from to t : ℕ) (token : Token) (parts : List Part) (b : Bool) → Spans code from to parts
     → Spans code from to (if b then parts else token_part t token ∷ parts)

@@ -11,7 +11,7 @@ use Rattle.ssr_syntax_tree.specs.declared.number.Element.TheVariants as element
 use Rattle.ssr_syntax_tree.specs.declared.number.TokenNo.{TokenNo}
 use Rattle.ssr_syntax_tree.specs.Syntax.{Syntax}
 use Rattle.ssr_syntax_tree.specs.Places.{HasNode, HasElement, Part, token_part, node_part, element_of, elements_of, node_of, parts_of, part_of, token_of}
-use Rattle.ssr_syntax_tree.proofs.Places.{IsChild, children_known, elements_had, parts_of-elements_of}
+use Rattle.ssr_syntax_tree.proofs.Shared.{IsChild, children_known, elements_had, parts_of-elements_of}
 use Rattle.ide_ssr.specs.Elements.{IsBelow}
 use Rattle.ide_ssr.specs.Matching.{closes, leaves_out, bare}
 

@@ -3,11 +3,10 @@ use Rattle.std.proofs.Common.{◌≡◌, ℕ, ◌+◌, ◌<◌, Bool, true, fals
 use Rattle.std.specs.Prelude.{option_map, flat_map}
 use Rattle.ssr_syntax_tree.specs.Syntax.{Syntax, node_count}
 use Rattle.ssr_syntax_tree.specs.Places.{HasNode, Node, node_of, nodes_of, root_of}
-use Rattle.ssr_syntax_tree.proofs.RowLaws.{length-nodes_of}
+use Rattle.ssr_syntax_tree.proofs.Shared.{length-nodes_of, node_of-number}
 use Rattle.std.proofs.lemmas.Bool.Decides.{nat_tests}
 use Rattle.std.proofs.lemmas.List.{drop_all}
 use Rattle.std.proofs.lemmas.Option.{unwrap_or-slice_get}
-use Rattle.ssr_syntax_tree.proofs.Places.{node_of-number}
 use Rattle.ide_ssr_rules.specs.Resolving.{ResolvedKind}
 use Rattle.ide_ssr.specs.declared.bindings.Binding.{Binding}
 use Rattle.ide_ssr.specs.Bindings.{bindings_of, Answers, matched, other}

@@ -10,8 +10,7 @@ use Rattle.std.proofs.lemmas.List.Quantifiers.{all_pairs_push}
 use Rattle.std.proofs.lemmas.List.Sums.{AllPass-from_list_all, list_all-from_AllPass}
 use Rattle.ssr_syntax_tree.specs.Syntax.{Syntax}
 use Rattle.ssr_syntax_tree.specs.Places.{HasNode, node_of, size_of, IsAbove}
-use Rattle.ssr_syntax_tree.proofs.Places.{node_of-number}
-use Rattle.ssr_syntax_tree.proofs.Ranges.{start_of-below, end_of-below}
+use Rattle.ssr_syntax_tree.proofs.Shared.{node_of-number, start_of-below, end_of-below}
 use Rattle.ide_ssr.specs.declared.holders.Holder.{Holder}
 use Rattle.ide_ssr.specs.Found.{Found}
 use Rattle.ide_ssr.specs.Kept.{is_over, is_within, holds, fits}

@@ -8,8 +8,8 @@ use Rattle.std.proofs.lemmas.List.Elements.{All-nil, All-cons, All-head, All-tai
 use Rattle.std.proofs.lemmas.List.Kept.{AllPairs-cons, AllPairs-filter}
 use Rattle.std.proofs.lemmas.List.Quantifiers.{position-Some}
 use Rattle.ssr_syntax_tree.specs.Syntax.{Syntax}
-use Rattle.ssr_base.specs.Changes.{Change, AreInOrder as ChangesAreInOrder}
-use Rattle.ssr_syntax.proofs.Answers.{both}
+use Rattle.ssr_base.specs.Changes.{Change, ChangesInOrder}
+use Rattle.ide_ssr.proofs.Booleans.{both}
 use Rattle.ide_ssr_rules.specs.Resolving.{ResolvedKind}
 use Rattle.ide_ssr.specs.declared.holders.Holder.{Holder}
 use Rattle.ide_ssr.specs.Found.{Found, found_in}
@@ -105,7 +105,7 @@ kept_are_held rules code =
       holders_are = refl;
     }
 
-behind_all : (from : ℕ) (c : Change) (cs : List Change) → c.end ≤ from → ChangesAreInOrder from cs → All (λ d. Clash c d → ⊥) cs
+behind_all : (from : ℕ) (c : Change) (cs : List Change) → c.end ≤ from → ChangesInOrder from cs → All (λ d. Clash c d → ⊥) cs
 behind_all from c [] le are = All-nil (λ d. Clash c d → ⊥)
 behind_all from c (d ∷ cs) le are =
     All-cons (λ d. Clash c d → ⊥) d cs
@@ -115,7 +115,7 @@ behind_all from c (d ∷ cs) le are =
     clash_apart : (a b c d : ℕ) → b ≤ c → max a c < min b d → ⊥
     clash_apart a b c d le shared = grind (arith, nat_tests)
 
-none_clash : (from : ℕ) (cs : List Change) → ChangesAreInOrder from cs → AllPairs (λ c d. Clash c d → ⊥) cs
+none_clash : (from : ℕ) (cs : List Change) → ChangesInOrder from cs → AllPairs (λ c d. Clash c d → ⊥) cs
 none_clash from [] are = λ i j d lt in_list. absurd (omega arith)
 none_clash from (c ∷ cs) are =
     AllPairs-cons (λ c d. Clash c d → ⊥) c cs (behind_all c.end c cs (omega arith) are.2) (none_clash c.end cs are.2)

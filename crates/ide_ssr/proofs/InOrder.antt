@@ -7,16 +7,15 @@ use Rattle.std.proofs.lemmas.List.Kept.{AllPairs-cons}
 use Rattle.std.proofs.lemmas.Option.{unwrap_or-slice_get}
 use Rattle.ssr_syntax_tree.specs.Syntax.{Syntax}
 use Rattle.ssr_syntax_tree.specs.Places.{HasNode, Node, nodes_of, node_of, root_of, start_of, end_of}
-use Rattle.ssr_syntax_tree.proofs.RowLaws.{length-nodes_of}
-use Rattle.ssr_syntax_tree.proofs.Places.{node_of-number}
-use Rattle.ssr_syntax_tree.proofs.Siblings.{drop_one, slice_get-drop}
+use Rattle.ssr_syntax_tree.proofs.Lists.{drop_one, slice_get-drop}
+use Rattle.ssr_syntax_tree.proofs.Shared.{IsOf, length-nodes_of, node_of-number}
 use Rattle.ide_ssr_rules.specs.Patterns.{placeholders_of}
 use Rattle.ide_ssr_rules.specs.Resolving.{ResolvedKind}
 use Rattle.ide_ssr.specs.declared.bindings.Binding.{Binding}
 use Rattle.ide_ssr.specs.Bindings.{bindings_of}
 use Rattle.ide_ssr.specs.Found.{Found, is_permitted, matches_at, found_at, found_in}
 use Rattle.ide_ssr.specs.Order.{Precedes, IsIn, AreInOrder}
-use Rattle.ide_ssr.proofs.Apart.{IsOf, bindings_hold, all_bound, all_apart, placeholders_bound}
+use Rattle.ide_ssr.proofs.Apart.{bindings_hold, all_bound, all_apart, placeholders_bound}
 
 -- a match of one of the rules binds the placeholders of its pattern
 pub record IsOfRule (rules : List ResolvedKind) (m : Found) : Type 0 where

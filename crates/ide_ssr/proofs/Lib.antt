@@ -1,3 +1,4 @@
+pub mod Booleans
 pub mod Fits
 pub mod Nearest
 pub mod Places

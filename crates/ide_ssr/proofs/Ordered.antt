@@ -6,8 +6,8 @@ use Rattle.std.proofs.lemmas.Bool.Decides.{nat_tests}
 use Rattle.std.proofs.lemmas.List.Elements.{All-nil, All-cons}
 use Rattle.ssr_syntax_tree.specs.Syntax.{Syntax}
 use Rattle.ssr_syntax_tree.specs.Places.{node_of, size_of, start_of, end_of, HasNode}
-use Rattle.ssr_syntax_tree.proofs.Ranges.{ranges_apart, start_before_end}
-use Rattle.ssr_base.specs.Changes.{Fits, AreInOrder as ChangesAreInOrder}
+use Rattle.ssr_syntax_tree.proofs.Shared.{ranges_apart, start_before_end}
+use Rattle.ssr_base.specs.Changes.{FitsText, ChangesInOrder}
 use Rattle.ide_ssr_rules.specs.Resolving.{ResolvedKind}
 use Rattle.ide_ssr.specs.declared.holders.Holder.{Holder}
 use Rattle.ide_ssr.specs.Found.{Found}
@@ -19,7 +19,7 @@ use Rattle.ide_ssr.specs.Pending.{Places, is_open}
 use Rattle.ide_ssr.proofs.Tests.{is_over-Over}
 use Rattle.ide_ssr.proofs.Rewrites.{each-reverse}
 use Rattle.ide_ssr.proofs.Waiting.{at_drop, over_after, is_open-own}
-use Rattle.ssr_syntax.proofs.Answers.{both}
+use Rattle.ide_ssr.proofs.Booleans.{both}
 
 -- of two matches of which the first is not over the second, the first ends before the second begins
 pub apart : (code : Syntax) (k m : Found) → HasNode code k.node → HasNode code m.node → Precedes k m → (is_over code k m ≡ true → ⊥)
@@ -58,9 +58,9 @@ listed_apart code ks holders held holder i j d lt in_list first second =
 
 -- a match that is listed or isn't, and what comes behind it
 ordered_step : (from : ℕ) (r : Rewrite) (rs : List Rewrite) (b : Bool)
-    → (b ≡ true → (from ≤ r.change.start) × (r.change.start ≤ r.change.end) × ChangesAreInOrder r.change.end (map (λ r. r.change) rs))
-    → (b ≡ false → ChangesAreInOrder from (map (λ r. r.change) rs))
-    → ChangesAreInOrder from (map (λ r. r.change) (cond b (r ∷ rs) rs))
+    → (b ≡ true → (from ≤ r.change.start) × (r.change.start ≤ r.change.end) × ChangesInOrder r.change.end (map (λ r. r.change) rs))
+    → (b ≡ false → ChangesInOrder from (map (λ r. r.change) rs))
+    → ChangesInOrder from (map (λ r. r.change) (cond b (r ∷ rs) rs))
 ordered_step from r rs true here past = here refl
 ordered_step from r rs false here past = past refl
 
@@ -72,7 +72,7 @@ BeginsFrom code ks holder j from =
 
 listed_from : (code : Syntax) (rules : List ResolvedKind) (ks : List Found) (holders : List (Option Holder)) → AreHeld code ks holders
     → (holder : Option Holder) (from j : ℕ) (ms : List Found) → drop j ks ≡ ms → BeginsFrom code ks holder j from
-    → ChangesAreInOrder from (listed_changes holder (rewrites code rules ks j ms))
+    → ChangesInOrder from (listed_changes holder (rewrites code rules ks j ms))
 listed_from code rules ks holders held holder from j [] is begins = tt
 listed_from code rules ks holders held holder from j (m ∷ ms) is begins =
     let here = at_drop ks j m ms is in
@@ -95,13 +95,13 @@ listed_from code rules ks holders held holder from j (m ∷ ms) is begins =
 
 -- the changes of one list are in order
 pub listed_ordered : (code : Syntax) (rules : List ResolvedKind) (ks : List Found) (holders : List (Option Holder)) → AreHeld code ks holders
-    → (holder : Option Holder) → ChangesAreInOrder 0 (listed_changes holder (rewrites code rules ks 0 ks))
+    → (holder : Option Holder) → ChangesInOrder 0 (listed_changes holder (rewrites code rules ks 0 ks))
 listed_ordered code rules ks holders held holder = listed_from code rules ks holders held holder 0 0 ks refl (λ i d h lt listed. omega arith)
 
 -- changes between places of a text
-all_changes : (source : List ℕ) (rs : List Rewrite) → AllByRecursion (Places source) rs → All (Fits source) (map (λ r. r.change) rs)
-all_changes source [] h = All-nil (Fits source)
-all_changes source (r ∷ rs) h = All-cons (Fits source) r.change (map (λ r. r.change) rs) h.0 (all_changes source rs h.1)
+all_changes : (source : List ℕ) (rs : List Rewrite) → AllByRecursion (Places source) rs → All (FitsText source) (map (λ r. r.change) rs)
+all_changes source [] h = All-nil (FitsText source)
+all_changes source (r ∷ rs) h = All-cons (FitsText source) r.change (map (λ r. r.change) rs) h.0 (all_changes source rs h.1)
 
-pub all_fit : (source : List ℕ) (rs : List Rewrite) → All (Places source) rs → All (Fits source) (map (λ r. r.change) (reverse rs))
+pub all_fit : (source : List ℕ) (rs : List Rewrite) → All (Places source) rs → All (FitsText source) (map (λ r. r.change) (reverse rs))
 all_fit source rs h = all_changes source (reverse rs) (each-reverse (Places source) rs h)

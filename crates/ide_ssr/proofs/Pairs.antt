@@ -10,7 +10,7 @@ use Rattle.ssr_syntax_tree.specs.Syntax.{Token, Forest, nothing, leaf, branch, S
 use Rattle.ssr_syntax_tree.specs.Places.{HasNode, Node, Part, token_part, node_part, parts_in, parts_of, part_of, node_of, token_of, size_of, HasElement}
 use Rattle.ssr_syntax_tree.specs.declared.number.Element.{Element}
 use Rattle.ssr_syntax_tree.specs.declared.number.Element.TheVariants as element
-use Rattle.ssr_syntax_tree.proofs.Places.{node_of-number, smaller}
+use Rattle.ssr_syntax_tree.proofs.Shared.{node_of-number, smaller}
 use Rattle.ide_ssr_rules.specs.Resolving.{placeholder_at}
 use Rattle.ide_ssr.specs.declared.bindings.Binding.{Binding}
 use Rattle.ide_ssr.specs.Elements.{IsBelow}

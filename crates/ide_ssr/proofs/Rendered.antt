@@ -6,10 +6,8 @@ use Rattle.std.proofs.lemmas.Option.{unwrap_or-slice_get}
 use Rattle.std.proofs.lemmas.Bool.Decides.{nat_tests}
 use Rattle.ssr_syntax_tree.specs.Syntax.{Syntax, node_count, tokens_of}
 use Rattle.ssr_syntax_tree.specs.Places.{Node, nodes_of, node_of, token_of, start_of, end_of, IsAbove, HasNode, HasToken}
-use Rattle.ssr_syntax_tree.proofs.Places.{node_of-number}
-use Rattle.ssr_syntax_tree.proofs.Ranges.{start_of-below, end_of-below}
+use Rattle.ssr_syntax_tree.proofs.Shared.{node_of-number, start_of-below, end_of-below, length-nodes_in}
 use Rattle.std.proofs.lemmas.Bool.{cases_lt}
-use Rattle.ssr_syntax_tree.proofs.Siblings.{length-nodes_in}
 use Rattle.ide_ssr_rules.specs.Resolving.{name_at}
 use Rattle.ide_ssr.specs.Rendering.{text_for, plain, is_node, wrapped, wrapped_text}
 use Rattle.ide_ssr.proofs.Tokens.{tokens_from}

@@ -5,7 +5,7 @@ use Rattle.std.proofs.lemmas.List.{get_or_default, drop_all}
 use Rattle.std.proofs.lemmas.Option.{unwrap_or-slice_get}
 use Rattle.ssr_syntax_tree.specs.Syntax.{Token, Syntax, token_count, tokens_of}
 use Rattle.ssr_syntax_tree.specs.Places.{token_of, HasToken}
-use Rattle.ssr_syntax_tree.proofs.Siblings.{length-tokens_in}
+use Rattle.ssr_syntax_tree.proofs.Shared.{length-tokens_in}
 
 token_at : (tree : Syntax) (t : ℕ) (d : Token) → t < length (tokens_of tree) → get_or (tokens_of tree) t d ≡ token_of tree t
 unfolding token_of

@@ -1,7 +1,7 @@
 -- Which rewrites wait for the match that holds them, while the matches are gone through from the last to the first.
 use Rattle.std.specs.Prelude.{ℕ, ◌≡◌, ◌==◌, Bool, true, false, nat_lt, List, Option, Some, None, All, drop, filter, reverse}
 use Rattle.ssr_syntax_tree.specs.Syntax.{Syntax, source_of}
-use Rattle.ssr_base.specs.Changes.{Fits}
+use Rattle.ssr_base.specs.Changes.{FitsText}
 use Rattle.ide_ssr_rules.specs.Resolving.{ResolvedKind}
 use Rattle.ide_ssr.specs.declared.holders.Holder.{Holder}
 use Rattle.ide_ssr.specs.Found.{Found}
@@ -19,7 +19,7 @@ is_open n (Some holder) = nat_lt holder.place n
 
 -- a change is between places of a text
 abbrev pub Places : List ℕ → Rewrite → Type 0
-Places source r = Fits source r.change
+Places source r = FitsText source r.change
 
 -- those from the place n on whose holder stands before it wait; the last one comes first
 pub record IsPending (code : Syntax) (rules : List ResolvedKind) (ks : List Found) (n : ℕ) (pending : List Rewrite) : Type 0 where

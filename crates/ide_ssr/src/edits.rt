@@ -4,7 +4,7 @@ ghost use Rattle.std.specs.Prelude.{◌≡◌, ◌+◌, ◌-◌, ◌<◌, ◌≤
 ghost use Rattle.std.specs.Str.{IsCharBoundary};
 ghost use Rattle.ssr_syntax_tree.specs.Syntax.{source_of};
 ghost use Rattle.ssr_syntax_tree.specs.Places.{HasNode};
-ghost use Rattle.ssr_base.specs.Changes.{AreInOrder, Fits};
+ghost use Rattle.ssr_base.specs.Changes.{ChangesInOrder, FitsText};
 ghost use Rattle.ssr_base.specs.Applied.{changes_of};
 ghost use Rattle.ide_ssr.specs.Lists.{is_holder};
 ghost use Rattle.ide_ssr.specs.Order.{IsIn, AreHeld};
@@ -29,8 +29,8 @@ use thiserror::Error;
 /// Why there are no edits.
 #[derive(Clone, Copy, Debug, PartialEq, Eq, Error)]
 pub enum EditError {
-    /// Two matches that stand in no placeholder of each other share a byte. Not told so far: no two matches of
-    /// expressions in one list do.
+    /// Two matches of one list share a byte, and their ranges or their replacements differ. Not told so far: in a
+    /// file's own tree no two matches of one list share a byte.
     #[error("two matches share a byte")]
     Clash(FileRange, FileRange),
     /// Memory ran out.
@@ -264,7 +264,7 @@ pub(crate) fn changes(
 ) -> Result<Vec<(TextRange, String)>, AllocError>
     requires { AreHeld tree.now kept.now.matches.items kept.now.holders.items }
     ensures edit { IfOk result (λ v. changes_of v.items ≡ edit_from tree.now rules.now kept.now.matches.items) }
-    ensures fits { IfOk result (λ v. All (Fits (source_of tree.now)) (changes_of v.items)) }
+    ensures fits { IfOk result (λ v. All (FitsText (source_of tree.now)) (changes_of v.items)) }
 {
     let mut pending = Vec::new(alloc);
     for place in (0..kept.matches.len()).rev() {
@@ -282,8 +282,8 @@ pub(crate) fn edits(
 ) -> Result<BTreeMap<FileId, TextEdit>, AllocError>
     requires held { AreHeld tree.now kept.now.matches.items kept.now.holders.items }
     ensures edits { IfOk result (λ m. m.entries ≡ file_edits (edit_from tree.now rules.now kept.now.matches.items)) }
-    ensures fits { IfOk result (λ _. All (Fits (source_of tree.now)) (edit_from tree.now rules.now kept.now.matches.items)) }
-    ensures order { IfOk result (λ _. AreInOrder 0 (edit_from tree.now rules.now kept.now.matches.items)) }
+    ensures fits { IfOk result (λ _. All (FitsText (source_of tree.now)) (edit_from tree.now rules.now kept.now.matches.items)) }
+    ensures order { IfOk result (λ _. ChangesInOrder 0 (edit_from tree.now rules.now kept.now.matches.items)) }
 {
     let changes = changes(alloc, tree, rules, kept)?;
     let mut edits = BTreeMap::new(alloc);

@@ -2,7 +2,7 @@
 
 ghost use Rattle.std.specs.Prelude.{◌≡◌, All, IfErr, IfOk, OnErr, []};
 ghost use Rattle.ssr_syntax_tree.specs.Syntax.{source_of};
-ghost use Rattle.ssr_base.specs.Changes.{AreInOrder, Fits};
+ghost use Rattle.ssr_base.specs.Changes.{ChangesInOrder, FitsText};
 ghost use Rattle.ide_ssr_rules.specs.Resolving.{resolved_kinds};
 ghost use Rattle.ide_ssr.specs.Adding.{Adds};
 ghost use Rattle.ide_ssr.specs.BindsOnce.{AreApart, BindOnce};
@@ -72,8 +72,8 @@ impl<'a> MatchFinder<'a> {
     /// becomes its rule's template with what its placeholders hold, in which the matches are rewritten likewise.
     pub fn edits(&self) -> Result<BTreeMap<FileId, TextEdit>, EditError>
         ensures edits { IfOk result (λ m. m.entries ≡ file_edits (edit_of self.now.code self.now.rules)) }
-        ensures fits { IfOk result (λ _. All (Fits (source_of self.now.code)) (edit_of self.now.code self.now.rules)) }
-        ensures order { IfOk result (λ _. AreInOrder 0 (edit_of self.now.code self.now.rules)) }
+        ensures fits { IfOk result (λ _. All (FitsText (source_of self.now.code)) (edit_of self.now.code self.now.rules)) }
+        ensures order { IfOk result (λ _. ChangesInOrder 0 (edit_of self.now.code self.now.rules)) }
         ensures memory { IfErr result (λ e. e ≡ EditError.Memory) }
     {
         let kept = self.kept_matches()?;
@@ -117,7 +117,11 @@ impl<'a> MatchFinder<'a> {
 #[cfg(test)]
 mod tests {
     use super::*;
+    use crate::matches::in_first_file;
+    use ssr_base::NodeId;
     use ssr_syntax::parse_file;
+    use ssr_syntax_lex::TextRange;
+    use ssr_syntax_tree::NodeNo;
     use std::test::Fail;
 
     #[test]
@@ -142,6 +146,85 @@ mod tests {
         assert_eq!(rt;
             edit.apply(alloc, tree.source())?.as_str(),
             "fn f() {3 + (2 + 1)}"
+        );
+        Ok(())
+    }
+
+    #[test]
+    fn a_match_tells_its_parts(rt: HostRuntime) -> Result<(), Fail> {
+        let alloc = rt.alloc();
+        let tree = parse_file(alloc, "fn f() {x /* k */ + 1}")?;
+        let mut finder = MatchFinder::at_first_file(alloc, &tree);
+        finder.add_rule(SsrRule::parse(alloc, "2 ==>> 3")?)?;
+        finder.add_rule(SsrRule::parse(alloc, "$a + 1 ==>> $a")?)?;
+        let found = finder.matches()?;
+        assert_eq!(rt; found.matches.len(), 1);
+        let sum = &found.matches[0];
+        assert_eq!(rt; sum.matched_str(), "x /* k */ + 1");
+        assert_eq!(rt; sum.range(), in_first_file(TextRange::new(8, 21)));
+        // behind the file, the function, its name and parameters, its block and the statements
+        assert_eq!(rt;
+            sum.node(),
+            NodeId {
+                tree: 0,
+                node: NodeNo(6)
+            }
+        );
+        assert_eq!(rt; sum.rule_index(), 1);
+        let comments = sum.comments();
+        assert_eq!(rt; comments.len(), 1);
+        assert_eq!(rt; comments[0], in_first_file(TextRange::new(10, 17)));
+        let placeholders = sum.placeholders();
+        assert_eq!(rt; placeholders.len(), 1);
+        let held = &placeholders[0];
+        assert_eq!(rt; held.var().to_string(alloc)?.as_str(), "$a");
+        assert_eq!(rt; held.range(), in_first_file(TextRange::new(8, 9)));
+        assert_eq!(rt;
+            held.node(),
+            NodeId {
+                tree: 0,
+                node: NodeNo(7)
+            }
+        );
+        assert_eq!(rt; held.inner().len(), 0);
+        Ok(())
+    }
+
+    #[test]
+    fn nothing_matches_without_a_match(rt: HostRuntime) -> Result<(), Fail> {
+        let alloc = rt.alloc();
+        for text in ["", "fn f() {}", "fn f() {1 - 2 /* 1 + 2 */}"] {
+            let tree = parse_file(alloc, text)?;
+            let mut finder = MatchFinder::at_first_file(alloc, &tree);
+            assert_eq!(rt; finder.matches()?.matches.len(), 0, "{text}");
+            assert!(rt; finder.edits()?.get(&FileId(0)).is_none(), "{text}");
+            finder.add_rule(SsrRule::parse(alloc, "$a + $b ==>> $b + $a")?)?;
+            assert_eq!(rt; finder.matches()?.matches.len(), 0, "{text}");
+            assert_eq!(rt; finder.scan_matches()?.matches.len(), 0, "{text}");
+            assert!(rt; finder.edits()?.get(&FileId(0)).is_none(), "{text}");
+        }
+        Ok(())
+    }
+
+    #[test]
+    fn a_refused_rule_leaves_the_others(rt: HostRuntime) -> Result<(), Fail> {
+        let alloc = rt.alloc();
+        let tree = parse_file(alloc, "fn f() {1 + 2}")?;
+        let mut finder = MatchFinder::at_first_file(alloc, &tree);
+        finder.add_rule(SsrRule::parse(alloc, "1 ==>> 3")?)?;
+        let Err(refusal) = finder.add_rule(SsrRule::parse(alloc, "$a + foo ==>> $a")?) else {
+            return Err(Fail::new("a path was resolved"));
+        };
+        assert_eq!(rt;
+            refusal.to_string(alloc)?.as_str(),
+            "Parse error: Failed to resolve path `foo`"
+        );
+        finder.add_rule(SsrRule::parse(alloc, "2 ==>> 4")?)?;
+        let edits = finder.edits()?;
+        let edit = edits.get(&FileId(0)).ok_or("no edit")?;
+        assert_eq!(rt;
+            edit.apply(alloc, tree.source())?.as_str(),
+            "fn f() {3 + 4}"
         );
         Ok(())
     }

@@ -17,10 +17,9 @@ use Rattle.ssr_syntax_tree.specs.Syntax.{Token, Syntax, tokens_of, spelled, same
 use Rattle.ssr_syntax.specs.declared.fragments.Fragment.TheVariants as fragments
 use Rattle.ssr_syntax.specs.declared.syntax_error.SyntaxError.{SyntaxError}
 use Rattle.ssr_syntax.specs.Reading.{pieces, fragment_reading, FitsFragment}
-use Rattle.ssr_syntax.proofs.Answers.{both}
-use Rattle.ssr_syntax.proofs.IdentTexts.{fragment_tokens, fragment_alone}
-use Rattle.ssr_syntax.proofs.Members.{neither}
-use Rattle.ssr_syntax.proofs.Texts.{length-token, tiles_within, spelled-pieces}
+use Rattle.ssr_syntax.specs.Identifiers.{idents}
+use Rattle.ssr_syntax.proofs.IdentTexts.{fragment_idents, fragment_alone}
+use Rattle.ssr_syntax.proofs.Tiles.{length-token, tiles_within, spelled-pieces}
 use Rattle.ssr_syntax.proofs.TextLaws.{fragment_sound}
 use Rattle.ide_ssr_rules.specs.Resolving.{name_at}
 use Rattle.ide_ssr_rules.specs.declared.elements.Element.{Element}
@@ -33,7 +32,8 @@ use Rattle.ide_ssr_rules.specs.Resolving.{ResolvedKind, unresolved, resolved_kin
 use Rattle.ide_ssr_rules.specs.Rules.{kind_of, expr_of, kinds_of, some_kind, check_sides}
 use Rattle.ide_ssr_rules.specs.StandIns.{stand_in_of, read_as, code_of, first_glued, first_name, glued_placeholder, is_stand_in, stand_in_text, spelled_stand_in}
 use Rattle.ide_ssr_rules.specs.Uses.{AreNew}
-use Rattle.ide_ssr_rules.proofs.Patterns.{named, placeholders_named}
+use Rattle.ide_ssr_rules.proofs.Booleans.{both, neither}
+use Rattle.ide_ssr_rules.proofs.Patterns.{named, over_idents, placeholders_named}
 use Rattle.ide_ssr_rules.proofs.Uses.{went}
 
 -- ** The tokens are those that are read for the elements.
@@ -172,16 +172,16 @@ unchanged es utf8 h =
 one_raw : (one other : List RawToken) → ◌≡◌ {A = Option (List RawToken)} (Some one) (Some other) → one ≡ other
 one_raw one other h = cc
 
--- the tokens of the tree are those that are read for the elements
-tree_tokens : (es : List Element) (tree : Syntax) → IsUtf8 (code_of es) → trim (code_of es) ≡ code_of es → glued_placeholder es ≡ None
-    → FitsFragment fragments.Expr (code_of es) tree → tokens_of tree ≡ map read_as es
-tree_tokens es tree utf8 is_trimmed same fits =
+-- the identifiers of the tree are those that are read for the elements
+tree_idents : (es : List Element) (tree : Syntax) → IsUtf8 (code_of es) → trim (code_of es) ≡ code_of es → glued_placeholder es ≡ None
+    → FitsFragment fragments.Expr (code_of es) tree → idents (tokens_of tree) ≡ idents (map read_as es)
+tree_idents es tree utf8 is_trimmed same fits =
     let text = code_of es in
     let t = unchanged es utf8 same in
     let r = lexed_raw text t.0 t.1 in
-    let f = fragment_tokens fragments.Expr text tree fits in
+    let f = fragment_idents fragments.Expr text tree fits in
     let raw : f.0 ≡ r.0 = one_raw f.0 r.0 (sym f.1 ∙ ap tokens is_trimmed ∙ r.1) in
-    f.2 ∙ ap (λ text. pieces text f.0) is_trimmed ∙ ap (pieces text) raw ∙ sym r.2 ∙ t.2
+    f.2 ∙ ap idents (ap (λ text. pieces text f.0) is_trimmed ∙ ap (pieces text) raw ∙ sym r.2 ∙ t.2)
 
 read_ok : (r : Result Syntax SyntaxError) (tree : Syntax) → result_ok r ≡ Some tree → r ≡ Ok tree
 read_ok (Ok other) tree h = cc
@@ -196,7 +196,9 @@ pattern_each es others tree utf8 is_trimmed new same free read =
     record {
       each =
           placeholders_named (names_of es) tree (fragment_alone fragments.Expr text tree sound.fits)
-          ∙ ap (flat_map (named (names_of es))) (tree_tokens es tree utf8 is_trimmed same sound.fits)
+          ∙ over_idents (names_of es) (tokens_of tree)
+          ∙ ap (flat_map (named (names_of es))) (tree_idents es tree utf8 is_trimmed same sound.fits)
+          ∙ sym (over_idents (names_of es) (map read_as es))
           ∙ each_from es [] (names_of es) others refl new free;
       different = new;
     }

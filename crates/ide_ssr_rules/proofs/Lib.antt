@@ -1,3 +1,4 @@
+pub mod Booleans
 pub mod LexedSides
 pub mod Splitting
 pub mod Telling

@@ -6,7 +6,7 @@ use Rattle.std.specs.Option.{option_map}
 use Rattle.std.specs.List.{find}
 use Rattle.ssr_syntax_tree.specs.Places.{Node, Part, node_part, token_part, parts_in, parts_of, elements_of, element_of, nodes_of, node_of, root_of, HasNode, text_of}
 use Rattle.ssr_syntax_tree.specs.Syntax.{Token, Forest, nothing, leaf, branch, Syntax, node_count}
-use Rattle.ssr_syntax_tree.proofs.RowLaws.{length-nodes_of}
+use Rattle.ssr_syntax_tree.proofs.Shared.{length-nodes_of}
 use Rattle.ide_ssr_rules.specs.Resolving.{only_token, placeholder_at, placeholders, is_unresolved, unresolved}
 
 -- ** Nodes by their numbers.

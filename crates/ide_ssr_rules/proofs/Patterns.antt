@@ -1,17 +1,16 @@
 -- The placeholders of a tree in which identifiers stand alone are those of its tokens.
-use Rattle.std.proofs.Common.{◌≡◌, ℕ, true, false, List, [], ◌∷◌, ◌++◌, Option, Some, None, refl, sym, ◌∙◌, ap, append-nil}
+use Rattle.std.proofs.Common.{◌≡◌, ℕ, Bool, true, false, cond, List, [], ◌∷◌, ◌++◌, Option, Some, None, refl, sym, ◌∙◌, ap, append-nil}
 use Rattle.std.specs.List.{flat_map}
 use Rattle.std.specs.Option.{option_and_then}
 use Rattle.std.proofs.lemmas.List.Concat.{flat_map-append}
 use Rattle.ssr_syntax_lex.specs.declared.kinds.SyntaxKind.{SyntaxKind}
 use Rattle.ssr_syntax_lex.specs.declared.kinds.SyntaxKind.TheVariants as k
 use Rattle.ssr_syntax_tree.specs.Syntax.{Token, Forest, nothing, leaf, branch, Syntax, tokens_in, tokens_of}
-use Rattle.ssr_syntax.specs.Identifiers.{is_ident as is_lone, has_ident, stand_alone, IdentsAlone, IdentsAloneIn}
-use Rattle.ssr_syntax.proofs.Answers.{flipped}
-use Rattle.ssr_syntax.proofs.Members.{neither}
+use Rattle.ssr_syntax.specs.Identifiers.{is_ident as is_lone, idents, has_ident, stand_alone, IdentsAlone, IdentsAloneIn}
 use Rattle.ide_ssr_rules.specs.Elements.{is_ident}
 use Rattle.ide_ssr_rules.specs.Resolving.{only_token, name_at}
 use Rattle.ide_ssr_rules.specs.Patterns.{or_below, placeholders_in, placeholders_of}
+use Rattle.ide_ssr_rules.proofs.Booleans.{flipped, neither}
 
 -- an identifier is of the kind that stands alone
 ident_lone : (kind : SyntaxKind) → is_lone kind ≡ false → is_ident kind ≡ false
@@ -25,6 +24,17 @@ named names token = or_below (name_at names token) []
 not_named : (names : List (List ℕ)) (token : Token) → is_lone token.kind ≡ false → named names token ≡ []
 unfolding name_at
 not_named names token h = rw (ident_lone token.kind h) refl
+
+ident_or_not : (names : List (List ℕ)) (token : Token) (found : List Token) (rest : List ℕ) (b : Bool) → is_lone token.kind ≡ b
+    → rest ≡ flat_map (named names) found → named names token ++ rest ≡ flat_map (named names) (cond b (token ∷ found) found)
+ident_or_not names token found rest true e h = ap (λ l. named names token ++ l) h
+ident_or_not names token found rest false e h = ap (λ l. l ++ rest) (not_named names token e) ∙ h
+
+-- only identifiers are placeholders
+pub over_idents : (names : List (List ℕ)) (tokens : List Token) → flat_map (named names) tokens ≡ flat_map (named names) (idents tokens)
+over_idents names [] = refl
+over_idents names (token ∷ tokens) =
+    ident_or_not names token (idents tokens) (flat_map (named names) tokens) (is_lone token.kind) refl (over_idents names tokens)
 
 only_one : (below : Forest) (token : Token) → only_token below ≡ Some token → tokens_in below ≡ token ∷ []
 only_one nothing token h = cc

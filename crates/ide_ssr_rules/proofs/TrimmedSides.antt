@@ -11,8 +11,8 @@ use Rattle.ssr_syntax_lex.specs.Tokens.{token_text, TilesFrom}
 use Rattle.ssr_syntax_lex.proofs.Tiling.{tokens_tile, tiles_spell}
 use Rattle.ssr_syntax_tree.specs.Syntax.{Token, spelled}
 use Rattle.ssr_syntax.specs.Reading.{pieces}
-use Rattle.ssr_syntax.proofs.Answers.{both, flipped}
-use Rattle.ssr_syntax.proofs.Texts.{length-token, tiled_texts, tiles_within, spelled-pieces}
+use Rattle.ssr_syntax.proofs.Tiles.{length-token, tiled_texts, tiles_within, spelled-pieces}
+use Rattle.ide_ssr_rules.proofs.Booleans.{both, flipped}
 use Rattle.ide_ssr_rules.specs.declared.elements.Element.{Element}
 use Rattle.ide_ssr_rules.specs.declared.elements.Element.TheVariants as e
 use Rattle.ide_ssr_rules.specs.Elements.{lexed, is_dollar, is_ident, has, name_in, after, elements, elements_of, side}

@@ -232,6 +232,7 @@ fn check_defined(alloc: Global, names: &[Name<'_>], used: &[Name<'_>]) -> Result
 #[cfg(test)]
 mod tests {
     use super::*;
+    use ssr_syntax_tree::{Element as Part, NodeNo, TokenNo};
     use std::test::Fail;
 
     /// What a user is told of a rule text.
@@ -259,11 +260,6 @@ mod tests {
         assert_eq!(rt;
             told(alloc, "$ ==>> 1")?.as_str(),
             "Parse error: Placeholder ($) with no name"
-        );
-        assert!(rt;
-            told(alloc, "\u{7} ==>> 1")?
-                .as_str()
-                .starts_with("Parse error: Failed to parse pattern: ")
         );
         Ok(())
     }
@@ -317,6 +313,63 @@ mod tests {
             "Parse error: Failed to resolve path `foo`"
         );
         assert_eq!(rt; told(alloc, "$a + $b ==>> $b + $a")?.as_str(), "accepted");
+        Ok(())
+    }
+
+    #[test]
+    fn a_resolved_rule_tells_its_parts(rt: HostRuntime) -> Result<(), Fail> {
+        let alloc = rt.alloc();
+        let rules = SsrRule::parse(alloc, "$x * ($y - $z) ==>> $z * 2 - $x")?.resolve(alloc)?;
+        assert_eq!(rt; rules.len(), 1);
+        let rule = &rules[0];
+        let names = rule.names();
+        assert_eq!(rt; names.len(), 3);
+        assert_eq!(rt; names[0].as_str(), "x");
+        assert_eq!(rt; names[2].as_str(), "z");
+        assert_eq!(rt;
+            rule.pattern().source(),
+            "__placeholder_x * (__placeholder_y - __placeholder_z)"
+        );
+        assert_eq!(rt;
+            rule.template().source(),
+            "__placeholder_z * 2 - __placeholder_x"
+        );
+        for (number, name) in [
+            (0, None),
+            (1, Some(0)),
+            (5, None),
+            (7, Some(1)),
+            (11, Some(2)),
+        ] {
+            let node = NodeNo(number);
+            assert!(rt; rule.pattern().has(Part::Node(node)));
+            assert_eq!(rt; rule.placeholder(node), name, "{number}");
+        }
+        for (number, name) in [(0, Some(2)), (1, None), (4, None), (8, Some(0))] {
+            let token = TokenNo(number);
+            assert!(rt; rule.template().has(Part::Token(token)));
+            assert_eq!(rt; rule.template_placeholder(token), name, "{number}");
+        }
+        Ok(())
+    }
+
+    #[test]
+    fn tells_the_lexers_fault(rt: HostRuntime) -> Result<(), Fail> {
+        let alloc = rt.alloc();
+        for (text, words) in [
+            (
+                "\u{7} ==>> 1",
+                "a character that begins no token, at byte 0",
+            ),
+            ("1 ==>> 2 + \"a", "a string that is not closed, at byte 4"),
+            (
+                "1 /* ==>> 2",
+                "a block comment that is not closed, at byte 2",
+            ),
+        ] {
+            let wanted = format!(in alloc; "Parse error: Failed to parse pattern: {words}")?;
+            assert_eq!(rt; told(alloc, text)?.as_str(), wanted.as_str(), "{text}");
+        }
         Ok(())
     }
 }

@@ -22,7 +22,7 @@ module _ (words : Option (List (List ℕ))) (old new : Given) (rules : List (Lis
   answered_file syntax.NoTree is = answered _ is
   answered_file syntax.TooDeep is = answered _ is
   answered_file syntax.TooLong is = answered _ is
-  answered_file syntax.Memory is = no_memory_for_input rules named read.2
+  answered_file syntax.Memory is = no_memory_for_input rules named read.calm
 
   pub answered_memory : IsFile text → Answers (refused (codes "out of memory"))
   answered_memory is = no_memory rules input named read (subst IsFile same is)

@@ -1,4 +1,5 @@
 pub mod Sending
+pub mod Reading
 pub mod Answering
 pub mod RulesRead
 pub mod Outputs

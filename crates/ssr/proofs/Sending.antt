@@ -1,16 +1,37 @@
 -- Texts that are sent in pieces.
-use Rattle.std.proofs.Common.{◌≡◌, ℕ, ◌+◌, ◌-◌, ◌<◌, ◌≤◌, true, false, List, [], ◌∷◌, ◌++◌, length, take, drop, get_or, add-one, ap, sym, ◌∙◌, arith, append_assoc, length-append, append-nil, subst}
+use Rattle.std.proofs.Common.{◌≡◌, ℕ, ◌+◌, ◌-◌, ◌<◌, ◌≤◌, true, false, List, [], ◌∷◌, ◌++◌, length, take, drop, get_or, add-one, ap, refl, sym, ◌∙◌, arith, append_assoc, length-append, append-nil, subst}
 use Rattle.std.proofs.Math.Seq.{take-add, take-append-add, drop-cons, take-suc}
 use Rattle.std.proofs.lemmas.List.{take-append-le, take-append-drop, length-drop}
 use Rattle.std.specs.Prelude.{◌==◌, if◌then◌else◌}
 use Rattle.std.specs.List.{flat_map}
 use Rattle.std.proofs.lemmas.Grind.{flat_map-append, common_steps}
 use Rattle.std.proofs.lemmas.Bool.Decides.{nat_tests}
+use Rattle.std.specs.Io.KnownBytes.{Appends}
+use Rattle.std.proofs.KnownBytes.{Appends-nil, Appends-trans, Appends-kept}
 use Rattle.ssr.specs.Streams.{Taken, Takes, TakesNothing, Sent, whole, part}
 
 -- what went out so far, without a failure
-abbrev pub HasSent : Taken → Taken → List ℕ → Type 0
-HasSent old mid text = (mid.bytes ≡ old.bytes ++ text) × (mid.failures ≡ old.failures)
+pub record HasSent (old mid : Taken) (text : List ℕ) : Type 0 where
+  pub bytes : mid.bytes ≡ old.bytes ++ text
+  pub known : Appends old.contents mid.contents text
+  pub calm : mid.failures ≡ old.failures
+
+-- nothing, as long as nothing was written
+pub none_sent : (taken : Taken) → HasSent taken taken []
+none_sent taken = record { bytes = sym (append-nil taken.bytes); known = Appends-nil taken.contents; calm = refl }
+
+-- two texts that went out one after the other
+sent_both : (old mid new : Taken) (a b : List ℕ) → HasSent old mid a → HasSent mid new b → HasSent old new (a ++ b)
+sent_both old mid new a b first second = record {
+  bytes = second.bytes ∙ ap (λ s. s ++ b) first.bytes ∙ append_assoc old.bytes a b;
+  known = Appends-trans old.contents mid.contents new.contents a b first.known second.known;
+  calm = second.calm ∙ first.calm;
+}
+
+-- the whole of a text went out
+pub sent_whole : (old new : Taken) (so_far text : List ℕ) → so_far ≡ text → HasSent old new so_far → Sent old new text true
+sent_whole old new so_far text all sent =
+    let P : List ℕ → Type 0 = λ s. Sent old new s true in subst P all (whole sent.bytes sent.known sent.calm)
 
 -- the bytes behind a place, all of them
 all_behind : (at : ℕ) (text : List ℕ) → take (length text - at) (drop at text) ≡ drop at text
@@ -26,40 +47,56 @@ module _ (old mid new : Taken) (text : List ℕ) (at : ℕ) (less : at < length 
 
   -- a write that failed ends in a part
   pub sent_none : TakesNothing mid new → Sent old new text false
-  sent_none failed = part at less (failed.0 ∙ sent.0) (failed.1 ∙ ap (λ n. n + 1) sent.1)
+  sent_none failed =
+      part at less (failed.bytes ∙ sent.bytes) (Appends-kept old.contents mid.contents new.contents _ sent.known failed.known)
+      (failed.failed ∙ ap (λ n. n + 1) sent.calm)
 
   -- so does one that took no byte
   pub sent_no_byte : Takes mid new rest 0 → Sent old new text false
-  sent_no_byte takes = sent_none (takes.1 ∙ append-nil mid.bytes, takes.2)
+  sent_no_byte takes =
+      part at less (takes.bytes ∙ append-nil mid.bytes ∙ sent.bytes)
+      (let P : List ℕ → Type 0 = λ s. Appends old.contents new.contents s in
+      subst P (append-nil (take at text)) (Appends-trans old.contents mid.contents new.contents _ [] sent.known takes.known))
+      (takes.failed ∙ ap (λ n. n + 1) sent.calm)
 
   -- the bytes that a write took end in the text
   pub within : (count : ℕ) → Takes mid new rest count → at + count ≤ length text
   within count takes =
-      let e : count ≤ length (drop at text) = rw (← all_behind at text) takes.0 in
+      let e : count ≤ length (drop at text) = rw (← all_behind at text) takes.within in
       omega (arith, length-drop at text)
+
+  -- what a write took went out
+  its : (count : ℕ) → (count ≡ 0 → ⊥) → Takes mid new rest count → HasSent mid new (take count (drop at text))
+  its count some takes = record {
+    bytes = takes.bytes ∙ ap (λ s. mid.bytes ++ take count s) (all_behind at text);
+    known =
+        let P : List ℕ → Type 0 = λ s. Appends mid.contents new.contents (take count s) in
+        subst P (all_behind at text) takes.known;
+    calm = calm_if_some count mid.failures new.failures some takes.failed;
+  }
 
   -- what went out after a write
   pub sent_more : (count : ℕ) → (count ≡ 0 → ⊥) → Takes mid new rest count → HasSent old new (take (at + count) text)
-  sent_more count some takes = (
-    takes.1 ∙ ap (λ s. mid.bytes ++ take count s) (all_behind at text) ∙ ap (λ s. s ++ take count (drop at text)) sent.0
-        ∙ append_assoc old.bytes (take at text) (take count (drop at text))
-        ∙ ap (λ s. old.bytes ++ s) (sym (take-add at count text)),
-    calm_if_some count mid.failures new.failures some takes.2 ∙ sent.1,
-  )
+  sent_more count some takes =
+      let P : List ℕ → Type 0 = λ s. HasSent old new s in
+      subst P (sym (take-add at count text)) (sent_both old mid new (take at text) (take count (drop at text)) sent (its count some takes))
 
 -- a part of a later piece is a part of the whole
 sent_later : (old mid new : Taken) (before piece behind text : List ℕ)
     → text ≡ before ++ (piece ++ behind) → HasSent old mid before → Sent mid new piece false → Sent old new text false
-sent_later old mid new before piece behind text splits sent (part count less goes more) =
+sent_later old mid new before piece behind text splits sent (part count less goes known more) =
+    let cut : take (length before + count) text ≡ before ++ take count piece =
+    ap (take (length before + count)) splits ∙ take-append-add before (piece ++ behind) count
+    ∙ ap (λ s. before ++ s) (take-append-le count piece behind (omega arith)) in
+    let P : List ℕ → Type 0 = λ s. Appends old.contents new.contents s in
     part (length before + count)
     (let total : length text ≡ length before + (length piece + length behind) =
     ap length splits ∙ length-append before (piece ++ behind) ∙ ap (λ n. length before + n) (length-append piece behind) in
     omega arith)
-    (goes ∙ ap (λ s. s ++ take count piece) sent.0 ∙ append_assoc old.bytes before (take count piece)
-    ∙ ap (λ s. old.bytes ++ s) (sym (ap (take (length before + count)) splits
-    ∙ take-append-add before (piece ++ behind) count
-    ∙ ap (λ s. before ++ s) (take-append-le count piece behind (omega arith)))))
-    (more ∙ ap (λ n. n + 1) sent.1)
+    (goes ∙ ap (λ s. s ++ take count piece) sent.bytes ∙ append_assoc old.bytes before (take count piece)
+    ∙ ap (λ s. old.bytes ++ s) (sym cut))
+    (subst P (sym cut) (Appends-trans old.contents mid.contents new.contents before _ sent.known known))
+    (more ∙ ap (λ n. n + 1) sent.calm)
 
 module _ {A : Type 0} (text : A → List ℕ) (pieces : List A) (i : ℕ) (d : A) (less : i < length pieces) where
   -- a piece, and the pieces behind it
@@ -86,9 +123,8 @@ module _ {A : Type 0} (text : A → List ℕ) (pieces : List A) (i : ℕ) (d : A
 
     -- a piece that was sent whole
     pub piece_whole : Sent mid new piece true → HasSent old new (flat_map text (take (i + 1) pieces))
-    piece_whole (whole goes calm) = (
-      goes ∙ ap (λ s. mid.bytes ++ s) its ∙ ap (λ s. s ++ text (get_or pieces i d)) sent.0
-          ∙ append_assoc old.bytes (flat_map text (take i pieces)) (text (get_or pieces i d))
-          ∙ ap (λ s. old.bytes ++ s) (sym pieces_more),
-      calm ∙ sent.1,
-    )
+    piece_whole (whole goes known calm) =
+        let P : List ℕ → Type 0 = λ s. HasSent old new s in
+        let Q : List ℕ → Type 0 = λ s. HasSent mid new s in
+        let piece_sent : HasSent mid new piece = record { bytes = goes; known = known; calm = calm } in
+        subst P (sym pieces_more) (sent_both old mid new (flat_map text (take i pieces)) (text (get_or pieces i d)) sent (subst Q its piece_sent))

@@ -20,7 +20,7 @@ pub struct CountedSource<R> {
 impl<R: Read> CountedSource<R> {
     /// A reader that gave nothing yet.
     pub fn new(inner: R) -> CountedSource<R>
-        ensures { ⟦<CountedSource<R> as Source>⟧.given result ≡ record { bytes = []; ended = false; failures = 0 } }
+        ensures { ⟦<CountedSource<R> as Source>⟧.given result ≡ record { bytes = []; remaining = R.remaining inner; ended = false; failures = 0 } }
     {
         CountedSource {
             inner,
@@ -32,7 +32,7 @@ impl<R: Read> CountedSource<R> {
 }
 
 impl<R: Read> Source for CountedSource<R> {
-    ghost given = { λ s. record { bytes = bytes_of s.given.items; ended = s.ended; failures = length s.failed.items } };
+    ghost given = { λ s. record { bytes = bytes_of s.given.items; remaining = R.remaining s.inner; ended = s.ended; failures = length s.failed.items } };
 
     fn read(&mut self, buf: &mut [u8]) -> Result<usize, Failed> {
         match self.inner.read(buf) {
@@ -60,7 +60,7 @@ pub struct CountedSink<W> {
 impl<W: Write> CountedSink<W> {
     /// A writer that took nothing yet.
     pub fn new(inner: W) -> CountedSink<W>
-        ensures { ⟦<CountedSink<W> as Sink>⟧.taken result ≡ record { bytes = []; failures = 0 } }
+        ensures { ⟦<CountedSink<W> as Sink>⟧.taken result ≡ record { bytes = []; contents = W.contents inner; failures = 0 } }
     {
         CountedSink {
             inner,
@@ -71,7 +71,7 @@ impl<W: Write> CountedSink<W> {
 }
 
 impl<W: Write> Sink for CountedSink<W> {
-    ghost taken = { λ s. record { bytes = bytes_of s.taken.items; failures = length s.failed.items } };
+    ghost taken = { λ s. record { bytes = bytes_of s.taken.items; contents = W.contents s.inner; failures = length s.failed.items } };
 
     fn write(&mut self, buf: &[u8]) -> Result<usize, Failed> {
         match self.inner.write(buf) {

@@ -29,7 +29,7 @@ pub fn run<R: Source, W: Sink>(
         Err(ReadError::Failed) => return refuse_input(sink, "cannot be read"),
         Err(ReadError::Memory) => return refuse_input(sink, "out of memory"),
     };
-    let Ok(text) = str::from_utf8(input.as_slice()) else {
+    let Ok(text) = String::from_utf8(input) else {
         return refuse_input(sink, "not UTF-8");
     };
     match rewrite(alloc, rules, text) {

@@ -5,11 +5,11 @@ ghost use Rattle.ssr.specs.Rewriting.{Rewrites};
 ghost use Rattle.ide_ssr.specs.Adding.{Adds};
 ghost use Rattle.ide_ssr.specs.Edits.{rewritten_file};
 ghost use Rattle.ssr.specs.declared.rewriting.RewriteError.TheVariants as errors;
-ghost use Rattle.ssr_syntax_tree.specs.Syntax.{source_of};
 
 use ide_ssr::{EditError, MatchFinder, SsrError, SsrRule};
 use ssr_base::{ApplyError, FileId};
-use ssr_syntax::{SyntaxError, parse_file};
+use ssr_syntax::{SyntaxError, parse_file_owned};
+use ssr_syntax_tree::Tree;
 use std::alloc::{AllocError, Global};
 
 /// Why there is no new text.
@@ -58,13 +58,13 @@ impl From<AllocError> for RewriteError {
 }
 
 /// The text with the rules applied.
-pub fn rewrite(alloc: Global, rules: &[String], text: &str) -> Result<String, RewriteError>
-    ensures { Rewrites (map string_bytes rules.now) text.now result }
+pub fn rewrite(alloc: Global, rules: &[String], text: String) -> Result<String, RewriteError>
+    ensures { Rewrites (map string_bytes rules.now) (string_bytes text) result }
 {
-    let tree = parse_file(alloc, text)?;
+    let tree = parse_file_owned(alloc, text)?;
     let mut finder = MatchFinder::at_first_file(alloc, &tree);
     add_rules(alloc, &mut finder, rules)?;
-    new_text(alloc, &finder, text)
+    new_text(alloc, &tree, &finder)
 }
 
 /// Adds the rules, in their order, up to the first refusal.
@@ -85,9 +85,9 @@ fn add_rule(alloc: Global, finder: &mut MatchFinder<'_>, text: &str) -> Result<(
     finder.add_rule(rule)
 }
 
-/// The text of the finder's file with the edits made. Only want of memory is in the way.
-fn new_text(alloc: Global, finder: &MatchFinder<'_>, text: &str) -> Result<String, RewriteError>
-    requires { text.now ≡ source_of finder.now.code }
+/// The text of the tree, in which the finder searches, with the edits made. Only want of memory is in the way.
+fn new_text(alloc: Global, tree: &Tree, finder: &MatchFinder<'_>) -> Result<String, RewriteError>
+    requires { finder.now.code ≡ tree.now }
     ensures text { IfOk result (λ new. string_bytes new ≡ rewritten_file finder.now.code finder.now.rules) }
     ensures memory { IfErr result (λ error. error ≡ errors.Memory) }
 {
@@ -96,6 +96,7 @@ fn new_text(alloc: Global, finder: &MatchFinder<'_>, text: &str) -> Result<Strin
         Err(EditError::Memory) => return Err(RewriteError::Memory),
         Err(EditError::Clash(_, _)) => unreachable!(),
     };
+    let text = tree.source();
     let Some(edit) = edits.get(&FileId(0)) else {
         return Ok(String::from_str(alloc, text)?);
     };

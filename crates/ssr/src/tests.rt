@@ -55,23 +55,41 @@ impl Write for TextOut {
     }
 }
 
-/// What is written for the words of a command and a file, and the status.
-fn output_of(rt: &HostRuntime, words: &[&str], file: &[u8]) -> Result<(String, u8), Fail> {
-    let given = TextIn {
-        rest: file,
+/// Gives the text in small parts, without a failure.
+fn giving(text: &[u8]) -> TextIn<'_> {
+    TextIn {
+        rest: text,
         at_once: 7,
         good_reads: NO_LIMIT,
-    };
-    let mut taken = TextOut {
+    }
+}
+
+/// Takes everything, without a failure.
+fn taking(rt: &HostRuntime) -> TextOut {
+    TextOut {
         bytes: Vec::new(rt.alloc()),
         at_once: NO_LIMIT,
         good_writes: NO_LIMIT,
-    };
-    let status = run_between(rt, words, given, &mut taken)?;
+    }
+}
+
+/// What is written for the words of a command and a file, and the status.
+fn output_of(rt: &HostRuntime, words: &[&str], file: &[u8]) -> Result<(String, u8), Fail> {
+    let mut taken = taking(rt);
+    let status = run_between(rt, words, giving(file), &mut taken)?;
     let Ok(text) = String::from_utf8(taken.bytes) else {
         return Err(Fail::new("the output is not UTF-8"));
     };
     Ok((text, status))
+}
+
+/// What is written with this status, which has to be that of the output.
+fn written(rt: &HostRuntime, wanted: u8, words: &[&str], file: &[u8]) -> Result<String, Fail> {
+    let (text, status) = output_of(rt, words, file)?;
+    if status != wanted {
+        return Err(Fail::new("another status than was wanted"));
+    }
+    Ok(text)
 }
 
 fn run_between(
@@ -117,9 +135,8 @@ fn rewrites_files(rt: HostRuntime) -> Result<(), Fail> {
             "fn  f ( )\n{\n  2-1 }\r\n",
         ),
     ] {
-        let (written, status) = output_of(&rt, &[rule], file.as_bytes())?;
-        assert_eq!(rt; written.as_str(), text, "{rule} on {file}");
-        assert_eq!(rt; status, 0, "{rule} on {file}");
+        let new = written(&rt, 0, &[rule], file.as_bytes())?;
+        assert_eq!(rt; new.as_str(), text, "{rule} on {file}");
     }
     Ok(())
 }
@@ -146,9 +163,8 @@ fn rewrites_literals(rt: HostRuntime) -> Result<(), Fail> {
             "fn f() {1.0 + 0x1 + 1u8 + 2}",
         ),
     ] {
-        let (written, status) = output_of(&rt, &[rule], file.as_bytes())?;
-        assert_eq!(rt; written.as_str(), text, "{rule} on {file}");
-        assert_eq!(rt; status, 0, "{rule} on {file}");
+        let new = written(&rt, 0, &[rule], file.as_bytes())?;
+        assert_eq!(rt; new.as_str(), text, "{rule} on {file}");
     }
     Ok(())
 }
@@ -174,6 +190,14 @@ fn keeps_comments(rt: HostRuntime) -> Result<(), Fail> {
             "fn f() {1 - (2 /* 1 */ - /* 2 */ 3)}",
             "fn f() {(3/* 1 *//* 2 */)}",
         ),
+        // those of a placeholder that the template drops go with it
+        ("$a + $b ==>> $a", "fn f() {x + (/* k */ y)}", "fn f() {x}"),
+        // a text that ends with one is no expression, and gets no parentheses, whatever it means then
+        (
+            "$a - $b ==>> $b - $a",
+            "fn f() {1 /* k */ - 2 - 3}",
+            "fn f() {3 - 2 - 1/* k */}",
+        ),
         // a text of a rule may hold comments as well
         (
             "$a /* k */ + $b ==>> $a /* l */ - $b",
@@ -181,9 +205,8 @@ fn keeps_comments(rt: HostRuntime) -> Result<(), Fail> {
             "fn f() {1 /* l */ - 2}",
         ),
     ] {
-        let (written, status) = output_of(&rt, &[rule], file.as_bytes())?;
-        assert_eq!(rt; written.as_str(), text, "{rule} on {file}");
-        assert_eq!(rt; status, 0, "{rule} on {file}");
+        let new = written(&rt, 0, &[rule], file.as_bytes())?;
+        assert_eq!(rt; new.as_str(), text, "{rule} on {file}");
     }
     Ok(())
 }
@@ -207,9 +230,8 @@ fn earlier_rules_come_first(rt: HostRuntime) -> Result<(), Fail> {
             "fn f() {(3 - 2) * 7}",
         ),
     ] {
-        let (written, status) = output_of(&rt, &rules, file.as_bytes())?;
-        assert_eq!(rt; written.as_str(), text, "{file}");
-        assert_eq!(rt; status, 0, "{file}");
+        let new = written(&rt, 0, &rules, file.as_bytes())?;
+        assert_eq!(rt; new.as_str(), text, "{file}");
     }
     Ok(())
 }
@@ -217,31 +239,25 @@ fn earlier_rules_come_first(rt: HostRuntime) -> Result<(), Fail> {
 #[test]
 fn refuses_wrong_words(rt: HostRuntime) -> Result<(), Fail> {
     let usage = "usage: ssr [--facts FILE] RULE..\n";
-    let (none, status) = output_of(&rt, &[], b"fn f() {}")?;
+    let none = written(&rt, 2, &[], b"fn f() {}")?;
     assert_eq!(rt; none.as_str(), usage);
-    assert_eq!(rt; status, 2);
-    let (facts, status) = output_of(&rt, &["--facts", "f.json", SWAP], b"fn f() {}")?;
+    let facts = written(&rt, 2, &["--facts", "f.json", SWAP], b"fn f() {}")?;
     assert_eq!(rt; facts.as_str(), usage);
-    assert_eq!(rt; status, 2);
+    // words that cannot be read; nor is anything else
     let given = TextIn {
         rest: b"",
         at_once: 7,
         good_reads: 0,
     };
-    let mut taken = TextOut {
-        bytes: Vec::new(rt.alloc()),
-        at_once: NO_LIMIT,
-        good_writes: NO_LIMIT,
-    };
-    assert_eq!(rt;
-        run(
-            rt.alloc(),
-            None,
-            &mut CountedSource::new(given),
-            &mut CountedSink::new(&mut taken)
-        ),
-        2
+    let mut taken = taking(&rt);
+    let mut source = CountedSource::new(given);
+    let status = run(
+        rt.alloc(),
+        None,
+        &mut source,
+        &mut CountedSink::new(&mut taken),
     );
+    assert_eq!(rt; status, 2);
     assert_eq!(rt; taken.bytes.as_slice(), usage.as_bytes());
     Ok(())
 }
@@ -261,15 +277,13 @@ fn refuses_files(rt: HostRuntime) -> Result<(), Fail> {
     ] {
         // a file is told before a rule
         for rule in [SWAP, "no rule"] {
-            let (written, status) = output_of(&rt, &[rule], file.as_bytes())?;
-            assert_eq!(rt; written.as_str(), line, "{file}");
-            assert_eq!(rt; status, 1, "{file}");
+            let told = written(&rt, 1, &[rule], file.as_bytes())?;
+            assert_eq!(rt; told.as_str(), line, "{file}");
         }
     }
     for bytes in [b"fn f() {\xFF}", b"fn f() {\xC3}"] {
-        let (written, status) = output_of(&rt, &["no rule"], bytes)?;
-        assert_eq!(rt; written.as_str(), "error: standard input: not UTF-8\n");
-        assert_eq!(rt; status, 1);
+        let told = written(&rt, 1, &["no rule"], bytes)?;
+        assert_eq!(rt; told.as_str(), "error: standard input: not UTF-8\n");
     }
     Ok(())
 }
@@ -324,9 +338,8 @@ fn refuses_rules(rt: HostRuntime) -> Result<(), Fail> {
             ([SWAP, rule, SWAP].as_slice(), "fn f() {1 + 2}"),
             ([SWAP, rule, "no rule"].as_slice(), "fn f() {1 + 2}"),
         ] {
-            let (written, status) = output_of(&rt, rules, file.as_bytes())?;
-            assert_eq!(rt; written.as_str(), line.as_str(), "{rule}");
-            assert_eq!(rt; status, 1, "{rule}");
+            let told = written(&rt, 1, rules, file.as_bytes())?;
+            assert_eq!(rt; told.as_str(), line.as_str(), "{rule}");
         }
     }
     Ok(())
@@ -336,14 +349,12 @@ fn refuses_rules(rt: HostRuntime) -> Result<(), Fail> {
 fn tells_failed_reads(rt: HostRuntime) -> Result<(), Fail> {
     for good_reads in [0, 1, 2] {
         let given = TextIn {
-            rest: b"fn f() {1 + 2}",
-            at_once: 7,
             good_reads,
+            ..giving(b"fn f() {1 + 2}")
         };
         let mut taken = TextOut {
-            bytes: Vec::new(rt.alloc()),
             at_once: 5,
-            good_writes: NO_LIMIT,
+            ..taking(&rt)
         };
         assert_eq!(rt; run_between(&rt, &[SWAP], given, &mut taken)?, 1);
         assert_eq!(rt;
@@ -363,16 +374,12 @@ fn failed_writes_leave_a_beginning(rt: HostRuntime) -> Result<(), Fail> {
         (NO_LIMIT, 0, 0, 1),
         (0, 9, 0, 1),
     ] {
-        let given = TextIn {
-            rest: b"fn f() {1 + 2}",
-            at_once: 7,
-            good_reads: NO_LIMIT,
-        };
         let mut taken = TextOut {
-            bytes: Vec::new(rt.alloc()),
             at_once,
             good_writes,
+            ..taking(&rt)
         };
+        let given = giving(b"fn f() {1 + 2}");
         assert_eq!(rt; run_between(&rt, &[SWAP], given, &mut taken)?, status);
         assert_eq!(rt; Some(taken.bytes.as_slice()), whole.get(..count));
     }
@@ -421,13 +428,13 @@ fn answers_every_beginning(rt: HostRuntime) -> Result<(), Fail> {
             let Some(beginning) = text.get(..end) else {
                 continue;
             };
-            let (written, status) = output_of(&rt, &[SWAP], beginning.as_bytes())?;
-            assert!(rt; is_answer(written.as_str(), status), "{beginning}");
-            let (written, status) = output_of(&rt, &[beginning], b"fn f() {1 + 2}")?;
-            assert!(rt; is_answer(written.as_str(), status), "{beginning}");
+            let (answer, status) = output_of(&rt, &[SWAP], beginning.as_bytes())?;
+            assert!(rt; is_answer(answer.as_str(), status), "{beginning}");
+            let (answer, status) = output_of(&rt, &[beginning], b"fn f() {1 + 2}")?;
+            assert!(rt; is_answer(answer.as_str(), status), "{beginning}");
         }
-        let (written, _) = output_of(&rt, &[SWAP], text.as_bytes())?;
-        assert_eq!(rt; written.as_str(), new, "{text}");
+        let (answer, _) = output_of(&rt, &[SWAP], text.as_bytes())?;
+        assert_eq!(rt; answer.as_str(), new, "{text}");
     }
     Ok(())
 }
@@ -441,59 +448,67 @@ fn times(rt: &HostRuntime, text: &str, count: usize) -> Result<String, Fail> {
     Ok(all)
 }
 
+/// A function whose tail expression is this.
+fn function(rt: &HostRuntime, body: &str) -> Result<String, Fail> {
+    Ok(format!(in rt.alloc(); "fn f() {{{body}}}")?)
+}
+
+/// `inner` in pairs of parentheses.
+fn in_parentheses(rt: &HostRuntime, pairs: usize, inner: &str) -> Result<String, Fail> {
+    let open = times(rt, "(", pairs)?;
+    let close = times(rt, ")", pairs)?;
+    Ok(format!(in rt.alloc(); "{open}{inner}{close}")?)
+}
+
+/// A sum with this many signs.
+fn sum(rt: &HostRuntime, signs: usize) -> Result<String, Fail> {
+    let front = times(rt, "1 + ", signs)?;
+    Ok(format!(in rt.alloc(); "{front}1")?)
+}
+
 #[test]
-fn reads_to_a_depth_of_1024(rt: HostRuntime) -> Result<(), Fail> {
+fn reads_files_to_a_depth_of_1024(rt: HostRuntime) -> Result<(), Fail> {
     let deep = "error: standard input: nested too deeply\n";
     // a block's tail expression has depth 4
-    for (pairs, fits) in [(1020, true), (1021, false)] {
-        let open = times(&rt, "(", pairs)?;
-        let close = times(&rt, ")", pairs)?;
-        let file = format!(in rt.alloc(); "fn f() {{{open}1{close}}}")?;
-        let (written, status) = output_of(&rt, &["2 ==>> 3"], file.as_bytes())?;
-        assert_eq!(rt;
-            written.as_str(),
-            if fits { file.as_str() } else { deep },
-            "{pairs}"
-        );
-        assert_eq!(rt; status == 0, fits, "{pairs}");
+    for (body, fits) in [
+        (in_parentheses(&rt, 1020, "1")?, true),
+        (in_parentheses(&rt, 1021, "1")?, false),
+        (sum(&rt, 1020)?, true),
+        (sum(&rt, 1021)?, false),
+        (sum(&rt, 100_000)?, false),
+    ] {
+        let file = function(&rt, body.as_str())?;
+        let (answer, status) = output_of(&rt, &["2 ==>> 3"], file.as_bytes())?;
+        assert_eq!(rt; answer.as_str(), if fits { file.as_str() } else { deep });
+        assert_eq!(rt; status, if fits { 0 } else { 1 });
     }
+    Ok(())
+}
+
+#[test]
+fn reads_rules_to_a_depth_of_1024(rt: HostRuntime) -> Result<(), Fail> {
+    let invalid = "error: Parse error: Not a valid Rust expression, type, item, path or pattern\n";
     for (pairs, fits) in [(1024, true), (1025, false)] {
-        let open = times(&rt, "(", pairs)?;
-        let close = times(&rt, ")", pairs)?;
-        let rule = format!(in rt.alloc(); "{open}1{close} ==>> 3")?;
-        let (written, status) = output_of(&rt, &[rule.as_str()], b"fn f() {1}")?;
-        let invalid =
-            "error: Parse error: Not a valid Rust expression, type, item, path or pattern\n";
+        let pattern = in_parentheses(&rt, pairs, "1")?;
+        let rule = format!(in rt.alloc(); "{pattern} ==>> 3")?;
+        let (answer, status) = output_of(&rt, &[rule.as_str()], b"fn f() {1}")?;
         assert_eq!(rt;
-            written.as_str(),
+            answer.as_str(),
             if fits { "fn f() {1}" } else { invalid },
             "{pairs}"
         );
-        assert_eq!(rt; status == 0, fits, "{pairs}");
-    }
-    for (terms, fits) in [(1021, true), (1022, false), (100_000, false)] {
-        let sum = times(&rt, "1 + ", terms - 1)?;
-        let file = format!(in rt.alloc(); "fn f() {{{sum}1}}")?;
-        let (written, status) = output_of(&rt, &["2 ==>> 3"], file.as_bytes())?;
-        assert_eq!(rt;
-            written.as_str(),
-            if fits { file.as_str() } else { deep },
-            "{terms}"
-        );
-        assert_eq!(rt; status == 0, fits, "{terms}");
+        assert_eq!(rt; status, if fits { 0 } else { 1 }, "{pairs}");
     }
     Ok(())
 }
 
 #[test]
 fn matches_to_a_depth_of_1024(rt: HostRuntime) -> Result<(), Fail> {
-    let open = times(&rt, "(", 1020)?;
-    let close = times(&rt, ")", 1020)?;
-    let rule = format!(in rt.alloc(); "{open}$a{close} ==>> $a")?;
-    let file = format!(in rt.alloc(); "fn f() {{{open}1{close}}}")?;
-    let (written, status) = output_of(&rt, &[rule.as_str()], file.as_bytes())?;
-    assert_eq!(rt; written.as_str(), "fn f() {1}");
-    assert_eq!(rt; status, 0);
+    let pattern = in_parentheses(&rt, 1020, "$a")?;
+    let rule = format!(in rt.alloc(); "{pattern} ==>> $a")?;
+    let file = function(&rt, in_parentheses(&rt, 1020, "1")?.as_str())?;
+    let new = written(&rt, 0, &[rule.as_str()], file.as_bytes())?;
+    assert_eq!(rt; new.as_str(), "fn f() {1}");
     Ok(())
 }
 
@@ -501,8 +516,33 @@ fn matches_to_a_depth_of_1024(rt: HostRuntime) -> Result<(), Fail> {
 fn a_million_parentheses_are_refused(rt: HostRuntime) -> Result<(), Fail> {
     let open = times(&rt, "(", 1_000_000)?;
     let file = format!(in rt.alloc(); "fn f() {{{open}")?;
-    let (written, status) = output_of(&rt, &[SWAP], file.as_bytes())?;
-    assert!(rt; written.as_str().starts_with("error: standard input: n"));
-    assert_eq!(rt; status, 1);
+    let told = written(&rt, 1, &[SWAP], file.as_bytes())?;
+    assert!(rt; told.as_str().starts_with("error: standard input: n"));
+    Ok(())
+}
+
+#[test]
+fn rewrites_many_matches(rt: HostRuntime) -> Result<(), Fail> {
+    let file = times(&rt, "fn f() {1 + 2}\n", 20_000)?;
+    let new = times(&rt, "fn f() {2 + 1}\n", 20_000)?;
+    let answer = written(&rt, 0, &[SWAP], file.as_bytes())?;
+    assert!(rt; answer == new);
+    Ok(())
+}
+
+#[test]
+fn rewrites_a_file_of_17_megabytes(rt: HostRuntime) -> Result<(), Fail> {
+    // what a million lines of comments stand around
+    let lines = times(&rt, "// a line of a comment\n", 750_000)?;
+    let file = format!(in rt.alloc(); "{lines}fn f() {{1 + 2}}\n")?;
+    let new = format!(in rt.alloc(); "{lines}fn f() {{2 + 1}}\n")?;
+    assert!(rt; file.len() > 16 * 1024 * 1024);
+    let given = TextIn {
+        at_once: NO_LIMIT,
+        ..giving(file.as_bytes())
+    };
+    let mut taken = taking(&rt);
+    assert_eq!(rt; run_between(&rt, &[SWAP], given, &mut taken)?, 0);
+    assert!(rt; taken.bytes.as_slice() == new.as_bytes());
     Ok(())
 }

@@ -1,12 +1,13 @@
 -- Laws of changes and of the text with them made.
-use Rattle.std.proofs.Common.{◌≡◌, ℕ, suc, ◌+◌, ◌-◌, ◌<◌, ◌≤◌, List, [], ◌∷◌, ◌++◌, length, get_or, drop, sym, ◌∙◌, ap, subst, arith, add-one, String}
+use Rattle.std.proofs.Common.{◌≡◌, ℕ, suc, ◌↔◌, ◌+◌, ◌-◌, ◌<◌, ◌≤◌, List, [], ◌∷◌, ◌++◌, length, get_or, drop, sym, ◌∙◌, ap, subst, arith, add-one, String}
 use Rattle.std.proofs.lemmas.List.{get_or-map, length-map, append_assoc, length-drop, take_all, length-take-le}
+use Rattle.std.proofs.lemmas.List.Elements.{All-map}
 use Rattle.std.proofs.lemmas.List.Folds.{drop_split}
 use Rattle.std.proofs.Math.Seq.{drop-cons}
 use Rattle.std.specs.List.{All, slice_range}
 use Rattle.std.specs.Global.{Global}
 use Rattle.ssr_syntax_lex.specs.declared.range.TextRange.{TextRange}
-use Rattle.ssr_base.specs.Changes.{Change, AreInOrder, Fits, IsReplaced, same, next, replaced}
+use Rattle.ssr_base.specs.Changes.{Change, ChangesInOrder, FitsText, IsReplaced, same, next, replaced}
 use Rattle.ssr_base.specs.Applied.{change_of, changes_of}
 
 -- the change at a place, and those from there on
@@ -33,13 +34,13 @@ length_between : (text : List ℕ) (at start : ℕ) → at ≤ start → start �
 length_between text at start h l = length-take-le (start - at) (drop at text) (omega (arith, length-drop at text))
 
 -- the text with the changes made replaces each of their ranges
-pub IsReplaced-replaced : (text : List ℕ) (at : ℕ) (changes : List Change) → AreInOrder at changes
-    → at ≤ length text → All (Fits text) changes
+pub IsReplaced-replaced : (text : List ℕ) (at : ℕ) (changes : List Change) → ChangesInOrder at changes
+    → at ≤ length text → All (FitsText text) changes
     → IsReplaced at (drop at text) changes (replaced text at (length text) changes)
 IsReplaced-replaced text at [] order h fit =
     rw (take_all (length text - at) (drop at text) (omega (arith, length-drop at text))) (same at (drop at text))
 IsReplaced-replaced text at (c ∷ cs) order h fit =
-    let f : Fits text c = fit 0 c (omega arith) in
+    let f : FitsText text c = fit 0 c (omega arith) in
     let parts : drop at text ≡ slice_range text at c.start ++ (slice_range text c.start c.end ++ drop c.end text) =
     drop_split text at c.start order.0 ∙ ap (λ (o : List ℕ). slice_range text at c.start ++ o) (drop_split text c.start c.end order.1) in
     subst (λ (o : List ℕ). IsReplaced at o (c ∷ cs) (replaced text at (length text) (c ∷ cs))) (sym parts)
@@ -50,10 +51,17 @@ IsReplaced-replaced text at (c ∷ cs) order h fit =
 
 -- a change fits where all do
 pub fits_here : (text : List ℕ) (pairs : List (TextRange × String Global)) (changes : List Change) (i : ℕ) (pair : TextRange × String Global)
-    → i < length pairs → pair ≡ get_or pairs i pair → changes_of pairs ≡ changes → All (Fits text) changes → Fits text (change_of pair)
+    → i < length pairs → pair ≡ get_or pairs i pair → changes_of pairs ≡ changes → All (FitsText text) changes → FitsText text (change_of pair)
 fits_here text pairs changes i pair h e is fit =
-    subst (Fits text) (change_at pairs i pair (change_of pair) h e)
-    (subst (All (Fits text)) (sym is) fit i (change_of pair) (omega (arith, length-map pairs change_of)))
+    subst (FitsText text) (change_at pairs i pair (change_of pair) h e)
+    (subst (All (FitsText text)) (sym is) fit i (change_of pair) (omega (arith, length-map pairs change_of)))
+
+-- all changes fit where those of all pairs do, and the other way round
+pub all_fit : (text : List ℕ) (pairs : List (TextRange × String Global)) → All (λ pair. FitsText text (change_of pair)) pairs ↔ All (FitsText text) (changes_of pairs)
+all_fit text pairs = (
+  All-map (FitsText text) change_of pairs,
+  λ fit k pair h. subst (FitsText text) (get_or-map change_of pairs k pair (change_of pair) h) (fit k (change_of pair) (omega (arith, length-map pairs change_of))),
+)
 
 -- what a borrowed vector of changes shows
 pub shown : {xs ys : List (TextRange × String Global)} {cs : List Change} → xs ≡ ys → changes_of ys ≡ cs → changes_of xs ≡ cs

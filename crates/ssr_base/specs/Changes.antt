@@ -9,13 +9,13 @@ pub record Change : Type 0 where
   pub text : List ℕ
 
 -- in order, sharing no byte, and none begins before `from`
-abbrev pub AreInOrder : ℕ → List Change → Type 0
-AreInOrder from [] = Unit {0}
-AreInOrder from (c ∷ cs) = (from ≤ c.start) × (c.start ≤ c.end) × AreInOrder c.end cs
+abbrev pub ChangesInOrder : ℕ → List Change → Type 0
+ChangesInOrder from [] = Unit {0}
+ChangesInOrder from (c ∷ cs) = (from ≤ c.start) × (c.start ≤ c.end) × ChangesInOrder c.end cs
 
 -- a change begins and ends between two characters of the text
-abbrev pub Fits : List ℕ → Change → Type 0
-Fits text c = IsCharBoundary text c.start × IsCharBoundary text c.end
+abbrev pub FitsText : List ℕ → Change → Type 0
+FitsText text c = IsCharBoundary text c.start × IsCharBoundary text c.end
 
 -- the bytes of a text from one place to another, with the changes between these places made
 abbrev pub replaced : List ℕ → ℕ → ℕ → List Change → List ℕ

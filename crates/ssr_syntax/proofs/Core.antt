@@ -1,52 +1,65 @@
--- Trees of core kinds; forms that none of them fits.
-use Rattle.std.proofs.Common.{◌≡◌, ℕ, zero, suc, true, false, List, ◌∷◌, ◌++◌, inl, inr, subst}
+-- Trees whose nodes are of core kinds; forms that none of them fits.
+use Rattle.std.proofs.Common.{◌≡◌, ℕ, Bool, true, List, [], ◌++◌, inl, inr, subst}
 use Rattle.ssr_syntax_lex.specs.declared.kinds.SyntaxKind.{SyntaxKind}
 use Rattle.ssr_syntax.specs.declared.tokens.Token.{Token}
 use Rattle.ssr_syntax.specs.declared.goals.Goal.{Goal}
-use Rattle.ssr_syntax.specs.Kinds.{mem}
 use Rattle.ssr_syntax.specs.Trees.{Forest, done, leaf, tree, join}
-use Rattle.ssr_syntax.specs.Forms.{Form, one, child, mark, seal, ◌then◌, nothing, choose, many, look, check, FitsBelow, Step, Repeats, Fits}
+use Rattle.ssr_syntax.specs.Forms.{Productions, Form, one, child, mark, seal, ◌then◌, nothing, choose, many, look, check}
+use Rattle.ssr_syntax.proofs.Nested.{FitsBelow, Repeats, Fits, FitsGoal}
 use Rattle.ssr_syntax.proofs.Answers.{both, either, flipped}
-use Rattle.ssr_syntax.proofs.Check.{Tables, dead, meets}
-use Rattle.ssr_syntax.proofs.Members.{apart}
+use Rattle.ssr_syntax.proofs.Check.{Tables, dead}
+use Rattle.ssr_syntax.proofs.Walks.{has_only, any_token, any_node, anything, IsKept, walk, walk_goals}
 
--- all its kinds stand in the list
-abbrev pub IsCore : List SyntaxKind → Forest → Type 0
+-- all its nodes are of core kinds
+abbrev pub IsCore : (SyntaxKind → Bool) → Forest → Type 0
 IsCore core done = Unit {0}
-IsCore core (leaf kind tokens x) = (mem kind core ≡ true) × IsCore core x
-IsCore core (tree kind kids x) = (mem kind core ≡ true) × IsCore core kids × IsCore core x
+IsCore core (leaf kind tokens x) = IsCore core x
+IsCore core (tree kind kids x) = (core kind ≡ true) × IsCore core kids × IsCore core x
 
-pub join_core : (ks : List SyntaxKind) (x y : Forest) → IsCore ks (join x y) → IsCore ks x × IsCore ks y
-join_core ks done y h = (tt, h)
-join_core ks (leaf kind us x) y h = let m = join_core ks x y h.1 in ((h.0, m.0), m.1)
-join_core ks (tree kind kids x) y h = let m = join_core ks x y h.2 in ((h.0, h.1, m.0), m.1)
+pub join_core : (core : SyntaxKind → Bool) (x y : Forest) → IsCore core (join x y) → IsCore core x × IsCore core y
+join_core core done y h = (tt, h)
+join_core core (leaf kind us x) y h = join_core core x y h
+join_core core (tree kind kids x) y h = let m = join_core core x y h.2 in ((h.0, h.1, m.0), m.1)
 
-parts : (ks : List SyntaxKind) (x y z : Forest) → z ≡ join x y → IsCore ks z → IsCore ks x × IsCore ks y
-parts ks x y z e h = join_core ks x y (subst (IsCore ks) e h)
-
-pub repeats_core : (ks : List SyntaxKind) (step : Step)
-    → ((x z : Forest) (us rest : List Token) → step x z us rest → IsCore ks z → IsCore ks x)
-    → (n : ℕ) (x z : Forest) (us rest : List Token) → Repeats n step x z us rest → IsCore ks z → IsCore ks x
-repeats_core ks step back zero x z us rest f h = subst (IsCore ks) f.1 h
-repeats_core ks step back (suc n) x z us rest f h =
-    back x f.0 f.1 (f.2 ++ rest) f.4 (repeats_core ks step back n f.0 z f.2 rest f.5 h)
+core_join : (core : SyntaxKind → Bool) (x y : Forest) → IsCore core x → IsCore core y → IsCore core (join x y)
+core_join core done y g h = h
+core_join core (leaf kind us x) y g h = core_join core x y g h
+core_join core (tree kind kids x) y g h = (g.0, g.1, core_join core x y g.2 h)
 
 -- what was made before is of core kinds too
-pub core_before : (ks : List SyntaxKind) (fits : FitsBelow) (form : Form) (x z : Forest) (us rest : List Token)
-    → Fits fits form x z us rest → IsCore ks z → IsCore ks x
-core_before ks fits (one whole ls) x z us rest f h = (parts ks x _ z f.5 h).0
-core_before ks fits (child goal) x z us rest f h = (parts ks x f.0 z f.2 h).0
-core_before ks fits (mark g) x z us rest f h = (parts ks x f.0 z f.2 h).0
-core_before ks fits (seal kind) x z us rest f h = (subst (IsCore ks) f.1 h).1
-core_before ks fits (g then k) x z us rest f h =
-    core_before ks fits g x f.0 f.1 (f.2 ++ rest) f.4 (core_before ks fits k f.0 z f.2 rest f.5 h)
-core_before ks fits nothing x z us rest f h = subst (IsCore ks) f.1 h
-core_before ks fits (choose test g k) x z us rest (inl f) h = core_before ks fits g x z us rest f h
-core_before ks fits (choose test g k) x z us rest (inr f) h = core_before ks fits k x z us rest f h
-core_before ks fits (many test g) x z us rest f h =
-    repeats_core ks (Fits fits g) (core_before ks fits g) f.0 x z us rest f.1 h
-core_before ks fits (look want test) x z us rest f h = subst (IsCore ks) f.1 h
-core_before ks fits (check holds) x z us rest f h = subst (IsCore ks) f.1 h
+keeps_before : (core : SyntaxKind → Bool) → IsKept any_token any_node (λ x z us rest. IsCore core z → IsCore core x)
+keeps_before core = record {
+  token = λ whole ks t us rest ok is n h. tt;
+  node = λ kind x rest ok h. h.1;
+  beside = λ x y us rest f h. (join_core core x y h).0;
+  stay = λ x rest h. h;
+  over = λ x y z us vs rest f g h. f (g h);
+}
+
+pub core_before : (core : SyntaxKind → Bool) (fits : FitsBelow) (form : Form) (x z : Forest) (us rest : List Token)
+    → Fits fits form x z us rest → IsCore core z → IsCore core x
+core_before core fits form x z us rest f =
+    walk any_token any_node (λ x z us rest. IsCore core z → IsCore core x) (keeps_before core) fits (λ asked y us rest g h. tt)
+    form (anything form) x z us rest f
+
+pub repeats_core : (core : SyntaxKind → Bool) (fits : FitsBelow) (form : Form) (n : ℕ) (x z : Forest) (us rest : List Token)
+    → Repeats n (Fits fits form) x z us rest → IsCore core z → IsCore core x
+repeats_core core fits form n x z us rest f = core_before core fits (many [] form) x z us rest (n, f)
+
+-- where all nodes of a grammar are of core kinds, its trees are
+keeps_core : (core : SyntaxKind → Bool) → IsKept any_token core (λ x z us rest. IsCore core x → IsCore core z)
+keeps_core core = record {
+  token = λ whole ks t us rest ok is n h. tt;
+  node = λ kind x rest ok h. (ok, h, tt);
+  beside = λ x y us rest f h. core_join core x y h (f tt);
+  stay = λ x rest h. h;
+  over = λ x y z us vs rest f g h. g (f h);
+}
+
+pub goals_core : (core : SyntaxKind → Bool) (grammar : Productions) → ((asked : Goal) → has_only any_token core (grammar asked) ≡ true)
+    → (n : ℕ) (asked : Goal) (y : Forest) (us rest : List Token) → FitsGoal grammar n asked y us rest → IsCore core y
+goals_core core grammar all n asked y us rest f =
+    walk_goals any_token core (λ x z us rest. IsCore core x → IsCore core z) (keeps_core core) grammar all n asked y us rest f tt
 
 -- no core tree fits a goal that is told dead
 abbrev pub DeadBelow : Tables → FitsBelow → Type 0
@@ -55,22 +68,18 @@ DeadBelow t fits =
 
 pub none_fits : (t : Tables) (fits : FitsBelow) → DeadBelow t fits → (form : Form) → dead t form ≡ true
     → (x z : Forest) (us rest : List Token) → Fits fits form x z us rest → IsCore t.core z → ⊥
-none_fits t fits below (one true ks) d x z us rest f h =
-    let none = apart f.0.joined ks t.core (flipped (meets ks t.core) d) f.3 in
-    let some = (parts t.core x (leaf f.0.joined (f.0 ∷ f.1) done) z f.5 h).1.0 in
+none_fits t fits below (one whole ks) d x z us rest f h = cc
+none_fits t fits below (child asked) d x z us rest (y, y_fits, z_is) h = below asked d y us rest y_fits (join_core t.core x y (subst (IsCore t.core) z_is h)).1
+none_fits t fits below (mark g) d x z us rest (y, y_fits, z_is) h =
+    none_fits t fits below g d done y us rest y_fits (join_core t.core x y (subst (IsCore t.core) z_is h)).1
+none_fits t fits below (seal kind) d x z us rest (_, z_is) h =
+    let none = flipped (t.core kind) d in
+    let some = (subst (IsCore t.core) z_is h).0 in
     cc
-none_fits t fits below (one false ks) d x z us rest f h = cc
-none_fits t fits below (child goal) d x z us rest f h = below goal d f.0 us rest f.1 (parts t.core x f.0 z f.2 h).1
-none_fits t fits below (mark g) d x z us rest f h =
-    none_fits t fits below g d done f.0 us rest f.1 (parts t.core x f.0 z f.2 h).1
-none_fits t fits below (seal kind) d x z us rest f h =
-    let none = flipped (mem kind t.core) d in
-    let some = (subst (IsCore t.core) f.1 h).0 in
-    cc
-none_fits t fits below (g then k) d x z us rest f h =
+none_fits t fits below (g then k) d x z us rest (mid, taken, left, _, before, after) h =
     elim (either (dead t g) (dead t k) d) [
-      | inl e ↦ none_fits t fits below g e x f.0 f.1 (f.2 ++ rest) f.4 (core_before t.core fits k f.0 z f.2 rest f.5 h)
-      | inr e ↦ none_fits t fits below k e f.0 z f.2 rest f.5 h
+      | inl e ↦ none_fits t fits below g e x mid taken (left ++ rest) before (core_before t.core fits k mid z left rest after h)
+      | inr e ↦ none_fits t fits below k e mid z left rest after h
     ]
 none_fits t fits below nothing d x z us rest f h = cc
 none_fits t fits below (choose test g k) d x z us rest (inl f) h =
@@ -79,4 +88,4 @@ none_fits t fits below (choose test g k) d x z us rest (inr f) h =
     none_fits t fits below k (both (dead t g) (dead t k) d).1 x z us rest f h
 none_fits t fits below (many test g) d x z us rest f h = cc
 none_fits t fits below (look want test) d x z us rest f h = cc
-none_fits t fits below (check holds) d x z us rest f h = cc
+none_fits t fits below (check condition) d x z us rest f h = cc

@@ -5,8 +5,8 @@ use Rattle.ssr_syntax.specs.declared.goals.Goal.{Goal}
 use Rattle.ssr_syntax.specs.declared.goals.Fault.{Fault}
 use Rattle.ssr_syntax.specs.declared.goals.Fault.TheVariants as faults
 use Rattle.ssr_syntax.specs.Trees.{done}
-use Rattle.ssr_syntax.specs.Forms.{Form, one, child, mark, seal, ◌then◌, nothing, choose, many, look, check, Test, passes, SoFar, so_far, ReadsBelow, read, repeat, beside, ◌>>=◌}
-use Rattle.ssr_syntax.specs.Levels.{Productions, read_goal}
+use Rattle.ssr_syntax.specs.Forms.{Productions, Form, one, child, mark, seal, ◌then◌, nothing, choose, many, look, check, Test, passes, SoFar, so_far, ReadsBelow, read, repeat, beside, ◌>>=◌}
+use Rattle.ssr_syntax.specs.Levels.{read_goal}
 use Rattle.ssr_syntax.proofs.Answers.{decide}
 
 abbrev pub IsCut : Result SoFar Fault → Result SoFar Fault → Type 0
@@ -55,7 +55,7 @@ read_cut fewer more h (choose test f g) r =
 read_cut fewer more h (many test f) r =
     repeat_cut test (read fewer f) (read more f) (read_cut fewer more h f) (length r.rest + 1) r
 read_cut fewer more h (look want test) r = inr refl
-read_cut fewer more h (check holds) r = inr refl
+read_cut fewer more h (check condition) r = inr refl
 
 pub cut_goals : (grammar : Productions) (n m : ℕ) → n ≤ m → Cuts (read_goal grammar n) (read_goal grammar m)
 unfolding read_goal

@@ -1,10 +1,12 @@
--- A forest that isn't deep fits its goal with few levels: each level but the first stands below a node.
-use Rattle.std.proofs.Common.{◌≡◌, ℕ, zero, suc, Bool, true, false, ◌||◌, ◌&&◌, if◌then◌else◌, List, ◌++◌, inl, inr, subst}
+-- A forest that isn't deep fits its goal with few levels: each node is worth as many levels as goals may stand in a row.
+use Rattle.std.proofs.Common.{◌≡◌, ℕ, zero, suc, ◌+◌, ◌*◌, ◌<◌, nat_lt, Bool, true, false, ◌||◌, ◌&&◌, if◌then◌else◌, List, [], ◌∷◌, ◌++◌, inl, inr, subst, arith}
+use Rattle.std.proofs.lemmas.Bool.{ltb-true}
 use Rattle.ssr_syntax.specs.declared.tokens.Token.{Token}
 use Rattle.ssr_syntax.specs.declared.goals.Goal.{Goal}
 use Rattle.ssr_syntax.specs.Trees.{Forest, done, leaf, tree, join, IsShallow}
-use Rattle.ssr_syntax.specs.Forms.{Form, one, child, mark, seal, ◌then◌, nothing, choose, many, look, check, FitsBelow, Step, Repeats, Fits}
-use Rattle.ssr_syntax.specs.Levels.{Productions, FitsGoal}
+use Rattle.ssr_syntax.specs.Forms.{Productions, Form, one, child, mark, seal, ◌then◌, nothing, choose, many, look, check, taken_as}
+use Rattle.ssr_syntax.proofs.Nested.{FitsBelow, Step, Repeats, Fits, FitsGoal}
+use Rattle.ssr_syntax.proofs.Walks.{any_token, any_node, anything, IsKept, walk}
 use Rattle.ssr_syntax.proofs.Answers.{both, decide, either}
 
 -- all since the mark is put into a node
@@ -18,20 +20,20 @@ seals nothing = false
 seals (choose test f g) = seals f && seals g
 seals (many test f) = false
 seals (look want test) = false
-seals (check holds) = false
+seals (check condition) = false
 
--- each goal in the form is put into a node: here, or, with `later`, behind the form
-abbrev pub covered : Bool → Form → Bool
-covered later (one whole ks) = true
-covered later (child goal) = later
-covered later (mark f) = covered later f
-covered later (seal kind) = true
-covered later (f then g) = covered (later || seals g) f && covered later g
-covered later nothing = true
-covered later (choose test f g) = covered later f && covered later g
-covered later (many test f) = covered later f
-covered later (look want test) = true
-covered later (check holds) = true
+-- each goal in the form, but those that are free, is put into a node: here, or, with `later`, behind the form
+abbrev pub covered : (Goal → Bool) → Bool → Form → Bool
+covered free later (one whole ks) = true
+covered free later (child asked) = later || free asked
+covered free later (mark f) = covered free later f
+covered free later (seal kind) = true
+covered free later (f then g) = covered free (later || seals g) f && covered free later g
+covered free later nothing = true
+covered free later (choose test f g) = covered free later f && covered free later g
+covered free later (many test f) = covered free later f
+covered free later (look want test) = true
+covered free later (check condition) = true
 
 -- fewer nodes than this stand above one another
 abbrev pub Low : ℕ → Forest → Type 0
@@ -69,27 +71,25 @@ low_before_node (suc n) kind x h = low_more n x (low_node n kind x h)
 parts : (n : ℕ) (x y z : Forest) → z ≡ join x y → Low n z → Low n x × Low n y
 parts n x y z e h = low_join n x y (subst (Low n) e h)
 
-repeats_low : (n : ℕ) (step : Step) → ((x z : Forest) (us rest : List Token) → step x z us rest → Low n z → Low n x)
-    → (m : ℕ) (x z : Forest) (us rest : List Token) → Repeats m step x z us rest → Low n z → Low n x
-repeats_low n step back zero x z us rest f h = subst (Low n) f.1 h
-repeats_low n step back (suc m) x z us rest f h =
-    back x f.0 f.1 (f.2 ++ rest) f.4 (repeats_low n step back m f.0 z f.2 rest f.5 h)
+low_nothing : (n : ℕ) (z : Forest) → Low n z → Low n done
+low_nothing zero z h = absurd h
+low_nothing (suc n) z h = tt
 
 -- what was made before is as low
+keeps_low : (n : ℕ) → IsKept any_token any_node (λ x z us rest. Low n z → Low n x)
+keeps_low n = record {
+  token = λ whole ks t us rest ok is m h. low_nothing n (leaf (taken_as whole t) (t ∷ us) done) h;
+  node = λ kind x rest ok h. low_before_node n kind x h;
+  beside = λ x y us rest f h. (low_join n x y h).0;
+  stay = λ x rest h. h;
+  over = λ x y z us vs rest f g h. f (g h);
+}
+
 low_before : (n : ℕ) (fits : FitsBelow) (form : Form) (x z : Forest) (us rest : List Token)
     → Fits fits form x z us rest → Low n z → Low n x
-low_before n fits (one whole ks) x z us rest f h = (parts n x _ z f.5 h).0
-low_before n fits (child goal) x z us rest f h = (parts n x f.0 z f.2 h).0
-low_before n fits (mark g) x z us rest f h = (parts n x f.0 z f.2 h).0
-low_before n fits (seal kind) x z us rest f h = low_before_node n kind x (subst (Low n) f.1 h)
-low_before n fits (g then k) x z us rest f h =
-    low_before n fits g x f.0 f.1 (f.2 ++ rest) f.4 (low_before n fits k f.0 z f.2 rest f.5 h)
-low_before n fits nothing x z us rest f h = subst (Low n) f.1 h
-low_before n fits (choose test g k) x z us rest (inl f) h = low_before n fits g x z us rest f h
-low_before n fits (choose test g k) x z us rest (inr f) h = low_before n fits k x z us rest f h
-low_before n fits (many test g) x z us rest f h = repeats_low n (Fits fits g) (low_before n fits g) f.0 x z us rest f.1 h
-low_before n fits (look want test) x z us rest f h = subst (Low n) f.1 h
-low_before n fits (check holds) x z us rest f h = subst (Low n) f.1 h
+low_before n fits form x z us rest f =
+    walk any_token any_node (λ x z us rest. Low n z → Low n x) (keeps_low n) fits (λ asked y us rest g. low_nothing n y)
+    form (anything form) x z us rest f
 
 -- what is put into a node is lower than that
 low_inside : (n : ℕ) (fits : FitsBelow) (form : Form) → seals form ≡ true → (x z : Forest) (us rest : List Token)
@@ -97,18 +97,18 @@ low_inside : (n : ℕ) (fits : FitsBelow) (form : Form) → seals form ≡ true 
 low_inside n fits (one whole ks) s x z us rest f h = cc
 low_inside n fits (child goal) s x z us rest f h = cc
 low_inside n fits (mark g) s x z us rest f h = cc
-low_inside n fits (seal kind) s x z us rest f h = low_node n kind x (subst (Low (suc n)) f.1 h)
-low_inside n fits (g then k) s x z us rest f h =
+low_inside n fits (seal kind) s x z us rest (_, z_is) h = low_node n kind x (subst (Low (suc n)) z_is h)
+low_inside n fits (g then k) s x z us rest (mid, taken, left, _, before, after) h =
     elim (either (seals g) (seals k) s) [
-      | inl e ↦ low_inside n fits g e x f.0 f.1 (f.2 ++ rest) f.4 (low_before (suc n) fits k f.0 z f.2 rest f.5 h)
-      | inr e ↦ low_before n fits g x f.0 f.1 (f.2 ++ rest) f.4 (low_inside n fits k e f.0 z f.2 rest f.5 h)
+      | inl e ↦ low_inside n fits g e x mid taken (left ++ rest) before (low_before (suc n) fits k mid z left rest after h)
+      | inr e ↦ low_before n fits g x mid taken (left ++ rest) before (low_inside n fits k e mid z left rest after h)
     ]
 low_inside n fits nothing s x z us rest f h = cc
 low_inside n fits (choose test g k) s x z us rest (inl f) h = low_inside n fits g (both (seals g) (seals k) s).0 x z us rest f h
 low_inside n fits (choose test g k) s x z us rest (inr f) h = low_inside n fits k (both (seals g) (seals k) s).1 x z us rest f h
 low_inside n fits (many test g) s x z us rest f h = cc
 low_inside n fits (look want test) s x z us rest f h = cc
-low_inside n fits (check holds) s x z us rest f h = cc
+low_inside n fits (check condition) s x z us rest f h = cc
 
 -- how low the whole must be, for goals in it to be lower than n
 abbrev room : Bool → ℕ → ℕ
@@ -123,54 +123,90 @@ mid_low n fits false form y z us rest f h =
       | inr not_sealed ↦ rw not_sealed (low_before (suc n) fits form y z us rest f h)
     ]
 
-abbrev Lowers : ℕ → FitsBelow → FitsBelow → Type 0
-Lowers n fits fewer = (goal : Goal) (y : Forest) (us rest : List Token) → fits goal y us rest → Low n y → fewer goal y us rest
+low_room : (later : Bool) (n : ℕ) (z : Forest) → Low (room later n) z → Low (suc n) z
+low_room true n z h = low_more n z h
+low_room false n z h = h
+
+-- lower trees fit the goals with fewer levels; those that are as low fit the free ones
+record Lowers (n : ℕ) (free : Goal → Bool) (fits fewer : FitsBelow) : Type 0 where
+  inside : (asked : Goal) (y : Forest) (us rest : List Token) → fits asked y us rest → Low n y → fewer asked y us rest
+  alone : (asked : Goal) (y : Forest) (us rest : List Token) → free asked ≡ true → fits asked y us rest → Low (suc n) y → fewer asked y us rest
 
 repeats_lower : (n k : ℕ) (fits : FitsBelow) (form : Form) (step : Step)
     → ((x z : Forest) (us rest : List Token) → Fits fits form x z us rest → Low k z → step x z us rest)
     → (m : ℕ) (x z : Forest) (us rest : List Token) → Repeats m (Fits fits form) x z us rest → Low k z → Repeats m step x z us rest
 repeats_lower n k fits form step down zero x z us rest f h = f
-repeats_lower n k fits form step down (suc m) x z us rest f h = (
-  f.0,
-  f.1,
-  f.2,
-  f.3,
-  down x f.0 f.1 (f.2 ++ rest) f.4 (repeats_low k (Fits fits form) (low_before k fits form) m f.0 z f.2 rest f.5 h),
-  repeats_lower n k fits form step down m f.0 z f.2 rest f.5 h,
+repeats_lower n k fits form step down (suc m) x z us rest (mid, taken, left, us_is, one_turn, turns_left) h = (
+  mid,
+  taken,
+  left,
+  us_is,
+  down x mid taken (left ++ rest) one_turn (low_before k fits (many [] form) mid z left rest (m, turns_left) h),
+  repeats_lower n k fits form step down m mid z left rest turns_left h,
 )
 
-pub lower : (n : ℕ) (fits fewer : FitsBelow) → Lowers n fits fewer → (form : Form) (later : Bool) → covered later form ≡ true
+lower : (n : ℕ) (free : Goal → Bool) (fits fewer : FitsBelow) → Lowers n free fits fewer
+    → (form : Form) (later : Bool) → covered free later form ≡ true
     → (x z : Forest) (us rest : List Token) → Fits fits form x z us rest → Low (room later n) z → Fits fewer form x z us rest
-lower n fits fewer b (one whole ks) later c x z us rest f h = f
-lower n fits fewer b (child goal) later c x z us rest f h =
-    let h' : Low n z = subst (λ w. Low (room w n) z) c h in
-    (f.0, b goal f.0 us rest f.1 (parts n x f.0 z f.2 h').1, f.2)
-lower n fits fewer b (mark g) later c x z us rest f h =
-    (f.0, lower n fits fewer b g later c done f.0 us rest f.1 (parts (room later n) x f.0 z f.2 h).1, f.2)
-lower n fits fewer b (seal kind) later c x z us rest f h = f
-lower n fits fewer b (g then k) later c x z us rest f h =
-    let d = both (covered (later || seals k) g) (covered later k) c in (
-      f.0,
-      f.1,
-      f.2,
-      f.3,
-      lower n fits fewer b g (later || seals k) d.0 x f.0 f.1 (f.2 ++ rest) f.4 (mid_low n fits later k f.0 z f.2 rest f.5 h),
-      lower n fits fewer b k later d.1 f.0 z f.2 rest f.5 h,
+lower n free fits fewer b (one whole ks) later c x z us rest f h = f
+lower n free fits fewer b (child asked) later c x z us rest (y, y_fits, z_is) h =
+    elim (either later (free asked) c) [
+      | inl is_later ↦
+          let low : Low n z = subst (λ w. Low (room w n) z) is_later h in
+          (y, b.inside asked y us rest y_fits (parts n x y z z_is low).1, z_is)
+      | inr is_free ↦
+          (y, b.alone asked y us rest is_free y_fits (parts (suc n) x y z z_is (low_room later n z h)).1, z_is)
+    ]
+lower n free fits fewer b (mark g) later c x z us rest (y, y_fits, z_is) h =
+    (y, lower n free fits fewer b g later c done y us rest y_fits (parts (room later n) x y z z_is h).1, z_is)
+lower n free fits fewer b (seal kind) later c x z us rest f h = f
+lower n free fits fewer b (g then k) later c x z us rest (mid, taken, left, us_is, before, after) h =
+    let d = both (covered free (later || seals k) g) (covered free later k) c in (
+      mid,
+      taken,
+      left,
+      us_is,
+      lower n free fits fewer b g (later || seals k) d.0 x mid taken (left ++ rest) before (mid_low n fits later k mid z left rest after h),
+      lower n free fits fewer b k later d.1 mid z left rest after h,
     )
-lower n fits fewer b nothing later c x z us rest f h = f
-lower n fits fewer b (choose test g k) later c x z us rest (inl f) h =
-    inl (lower n fits fewer b g later (both (covered later g) (covered later k) c).0 x z us rest f h)
-lower n fits fewer b (choose test g k) later c x z us rest (inr f) h =
-    inr (lower n fits fewer b k later (both (covered later g) (covered later k) c).1 x z us rest f h)
-lower n fits fewer b (many test g) later c x z us rest f h =
-    (f.0, repeats_lower n (room later n) fits g (Fits fewer g) (lower n fits fewer b g later c) f.0 x z us rest f.1 h)
-lower n fits fewer b (look want test) later c x z us rest f h = f
-lower n fits fewer b (check holds) later c x z us rest f h = f
+lower n free fits fewer b nothing later c x z us rest f h = f
+lower n free fits fewer b (choose test g k) later c x z us rest (inl f) h =
+    inl (lower n free fits fewer b g later (both (covered free later g) (covered free later k) c).0 x z us rest f h)
+lower n free fits fewer b (choose test g k) later c x z us rest (inr f) h =
+    inr (lower n free fits fewer b k later (both (covered free later g) (covered free later k) c).1 x z us rest f h)
+lower n free fits fewer b (many test g) later c x z us rest (count, turns_taken) h =
+    (count, repeats_lower n (room later n) fits g (Fits fewer g) (lower n free fits fewer b g later c) count x z us rest turns_taken h)
+lower n free fits fewer b (look want test) later c x z us rest f h = f
+lower n free fits fewer b (check condition) later c x z us rest f h = f
 
-pub lower_goal : (grammar : Productions) → ((goal : Goal) → covered false (grammar goal) ≡ true) → (n m : ℕ)
-    (goal : Goal) (z : Forest) (us rest : List Token) → FitsGoal grammar n goal z us rest → Low m z → FitsGoal grammar m goal z us rest
+-- the goals that a goal may name as they are
+abbrev pub lower_ranks : (Goal → ℕ) → Goal → Goal → Bool
+lower_ranks rank goal asked = nat_lt (rank asked) (rank goal)
+
+-- A goal that is named as it is has a lower rank, so there are at most `ranks` levels of goals to a node.
+pub lower_ranked : (grammar : Productions) (rank : Goal → ℕ) (ranks : ℕ) → ((goal : Goal) → rank goal < ranks)
+    → ((goal : Goal) → covered (lower_ranks rank goal) false (grammar goal) ≡ true)
+    → (n m high : ℕ) (goal : Goal) (z : Forest) (us rest : List Token) → high * ranks + rank goal < m
+    → FitsGoal grammar n goal z us rest → IsShallow high z → FitsGoal grammar m goal z us rest
 unfolding FitsGoal
-lower_goal grammar all zero m goal z us rest f h = absurd f
-lower_goal grammar all (suc n) zero goal z us rest f h = absurd h
-lower_goal grammar all (suc n) (suc m) goal z us rest f h =
-    lower m (FitsGoal grammar n) (FitsGoal grammar m) (lower_goal grammar all n m) (grammar goal) false (all goal) done z us rest f h
+lower_ranked grammar rank ranks few all zero m high goal z us rest lt f low = absurd f
+lower_ranked grammar rank ranks few all (suc n) zero high goal z us rest lt f low = absurd (omega (arith, lt))
+lower_ranked grammar rank ranks few all (suc n) (suc m) zero goal z us rest lt f low =
+    lower zero (lower_ranks rank goal) (FitsGoal grammar n) (FitsGoal grammar m)
+    (record {
+      inside = λ asked y us rest g h. absurd h;
+      alone = λ asked y us rest is_free g h.
+          lower_ranked grammar rank ranks few all n m zero asked y us rest
+          (omega (arith, lt, ltb-true (rank asked) (rank goal) is_free)) g h;
+    })
+    (grammar goal) false (all goal) done z us rest f low
+lower_ranked grammar rank ranks few all (suc n) (suc m) (suc high) goal z us rest lt f low =
+    lower (suc high) (lower_ranks rank goal) (FitsGoal grammar n) (FitsGoal grammar m)
+    (record {
+      inside = λ asked y us rest g h.
+          lower_ranked grammar rank ranks few all n m high asked y us rest (omega (arith, lt, few asked)) g h;
+      alone = λ asked y us rest is_free g h.
+          lower_ranked grammar rank ranks few all n m (suc high) asked y us rest
+          (omega (arith, lt, ltb-true (rank asked) (rank goal) is_free)) g h;
+    })
+    (grammar goal) false (all goal) done z us rest f low

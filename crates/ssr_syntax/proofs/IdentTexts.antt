@@ -1,11 +1,9 @@
--- Identifiers stand alone in the trees of texts.
-use Rattle.std.proofs.Common.{◌≡◌, ℕ, zero, suc, true, false, not, ◌||◌, ◌&&◌, if◌then◌else◌, List, [], ◌∷◌, ◌++◌, length, Some, inl, inr, refl, sym, ◌∙◌, ap, subst, append_assoc}
+-- Identifiers in the trees of texts: they are the text's, and they stand alone.
+use Rattle.std.proofs.Common.{◌≡◌, ℕ, zero, suc, true, false, not, ◌||◌, ◌&&◌, if◌then◌else◌, List, [], ◌∷◌, ◌++◌, length, Some, refl, sym, ◌∙◌, ap, subst, append_assoc}
 use Rattle.std.specs.Prelude.{⊤, reverse}
 use Rattle.std.proofs.lemmas.List.{append-nil, reverse-append}
 use Rattle.ssr_syntax_lex.specs.declared.kinds.SyntaxKind.{SyntaxKind}
-use Rattle.ssr_syntax_lex.specs.declared.kinds.SyntaxKind.TheVariants.{IDENT}
-use Rattle.ssr_syntax_lex.specs.Kinds.{same_kind, is_trivia}
-use Rattle.ssr_syntax_lex.proofs.SameKinds.{same_kind-equal}
+use Rattle.ssr_syntax_lex.specs.Kinds.{is_trivia}
 use Rattle.ssr_syntax_lex.specs.declared.tokens.RawToken.{RawToken}
 use Rattle.ssr_syntax_lex.specs.Tokens.{tokens, token_text}
 use Rattle.ssr_syntax_tree.specs.Syntax as plain
@@ -16,26 +14,18 @@ use Rattle.ssr_syntax.specs.Trees as solid
 use Rattle.ssr_syntax.specs.Grammar.{grammar}
 use Rattle.ssr_syntax.specs.Solid.{solid_token, solid_tokens}
 use Rattle.ssr_syntax.specs.Lossless.{trivia, behind_trivia, gap, behind_gap, upto, past, before, behind, lossless, whole_tree, begins_with_trivia}
-use Rattle.ssr_syntax.specs.Identifiers.{is_ident, has_ident, stand_alone, IdentsAlone, IdentsAloneIn}
+use Rattle.ssr_syntax.specs.Identifiers.{is_ident, idents, has_ident, stand_alone, IdentsAlone, IdentsAloneIn}
 use Rattle.ssr_syntax.specs.Reading.{pieces, trimmed, goal_of, begins_solid, FitsTokens, FitsFragment}
-use Rattle.ssr_syntax.proofs.Answers.{decide, either, flipped}
+use Rattle.ssr_syntax.proofs.Answers.{flipped}
+use Rattle.ssr_syntax.proofs.Nested.{at_some_level}
 use Rattle.ssr_syntax.proofs.Levels.{goals_spell}
-use Rattle.ssr_syntax.proofs.Single.{goals_single}
-use Rattle.ssr_syntax.proofs.SolidLaws.{all_one, are_solid}
-use Rattle.ssr_syntax.proofs.Laid.{AreOf, IsSingle, by_kind, upto-past}
-use Rattle.ssr_syntax.proofs.Texts.{whole-tokens}
-use Rattle.ssr_syntax.proofs.Trimmed.{trimmed-root}
+use Rattle.ssr_syntax.proofs.Solidity.{AreTaken, goals_taken, AllSolid, leaves_solid}
+use Rattle.ssr_syntax.proofs.SolidLaws.{all_solid}
+use Rattle.ssr_syntax.proofs.Laid.{by_kind, upto-past, trivia-behind}
+use Rattle.ssr_syntax.proofs.Trimmed.{solid_sides}
+use Rattle.ssr_syntax.proofs.Checks.{goal_clean}
 use Rattle.ssr_syntax.proofs.Identifiers.{shows, lone, AllLone, goals_alone}
-
-ident_like : (kind : SyntaxKind) → same_kind kind IDENT ≡ true → is_trivia kind ≡ false
-ident_like kind e = ap is_trivia (same_kind-equal kind IDENT e)
-
-no_ident : (kind : SyntaxKind) → is_trivia kind ≡ true → is_ident kind ≡ false
-no_ident kind h =
-    elim (decide (is_ident kind)) [
-      | inl is ↦ elim (either (same_kind kind IDENT) false is) [ inl e ↦ absurd (cc (h, ident_like kind e)) | inr e ↦ absurd (cc e) ]
-      | inr other ↦ other
-    ]
+use Rattle.ssr_syntax.proofs.IdentTokens.{no_ident, whole_idents}
 
 abbrev AreTrivia : List plain.Token → Type 0
 AreTrivia [] = ⊤
@@ -63,12 +53,6 @@ behind-nothing : (x : plain.Forest) → behind x [] ≡ x
 behind-nothing plain.nothing = refl
 behind-nothing (plain.leaf t x) = ap (plain.leaf t) (behind-nothing x)
 behind-nothing (plain.branch kind below x) = ap (plain.branch kind below) (behind-nothing x)
-
-trivia-behind : (ts : List plain.Token) → trivia (behind_trivia ts) ≡ []
-trivia-behind [] = refl
-trivia-behind (t ∷ ts) =
-    by_kind (λ b. trivia (if b then behind_trivia ts else t ∷ ts) ≡ []) t (λ e. trivia-behind ts)
-    (λ e. ap (λ b. if b then t ∷ trivia ts else []) e)
 
 gap-behind : (n : ℕ) (ts : List plain.Token) → gap n (behind_gap n ts) ≡ []
 gap-behind zero ts = refl
@@ -154,21 +138,22 @@ none_first (suc n) (t ∷ ts) e = ap (λ b. if b then behind_trivia ts else t �
 -- what is known of a tree that fits
 record WholeTree (text : List ℕ) (raw : List RawToken) (kind : SyntaxKind) (kids : solid.Forest) : Type 0 where
   spells : solid.spell kids ≡ solid_tokens raw
-  single : IsSingle kids
-  are : AreOf (solid.spell kids) (pieces text raw)
+  taken : AreTaken kids
   children_alone : lone kids ≡ true
   all_alone : AllLone kids
 
 whole_of : (goal : Goal) (text : List ℕ) (raw : List RawToken) (s : Syntax) (fits : FitsTokens goal text raw s) → WholeTree text raw fits.0 fits.1
-whole_of goal text raw s (kind, kids, n, fits, is) =
+whole_of goal text raw s (kind, kids, ruled, is) =
     let us = solid_tokens raw in
     let z : solid.Forest = solid.tree kind kids solid.done in
+    let level = at_some_level grammar goal z us [] ruled in
+    let n = level.0 in
+    let fits = level.1 in
     let kids_spell : solid.spell kids ≡ us = sym (append-nil (solid.spell kids)) ∙ goals_spell grammar n goal z us [] fits in
-    let alone = goals_alone n goal z us [] fits in
+    let alone = goals_alone goal_clean n goal z us [] fits in
     record {
       spells = kids_spell;
-      single = (goals_single n goal z us [] (all_one raw) fits).0;
-      are = subst (λ l. AreOf l (pieces text raw)) (sym kids_spell) (are_solid text raw);
+      taken = (goals_taken grammar n goal z us [] fits).0;
       children_alone = alone.1.0;
       all_alone = alone.1.1;
     }
@@ -180,14 +165,13 @@ children_are : (text : List ℕ) (raw : List RawToken) (kind : SyntaxKind) (kids
 children_are text raw kind kids whole outside =
     let ts = pieces text raw in
     let n = length (solid.spell kids) in
-    let root = trimmed-root text raw kind kids whole.single whole.are outside in
-    let all : tokens_of (whole_tree kind kids ts) ≡ ts = whole-tokens kind kids ts whole.single whole.are in
+    let sides = solid_sides text raw outside in
     let trivia_past : AreTrivia (past n ts) = subst (λ us. AreTrivia (past (length us) ts)) (sym whole.spells) (past_all text raw) in
     let none : past n ts ≡ [] =
     none_last (upto n ts) (past n ts) trivia_past
-    (ap (λ l. begins_with_trivia (reverse l)) (upto-past n ts) ∙ ap (λ l. begins_with_trivia (reverse l)) (sym all) ∙ root.1) in
+    (ap (λ l. begins_with_trivia (reverse l)) (upto-past n ts) ∙ sides.1) in
     ap (behind (lossless kids ts)) none ∙ behind-nothing (lossless kids ts)
-    ∙ ap (lossless kids) (sym (none_first n ts (ap begins_with_trivia (sym all) ∙ root.0)))
+    ∙ ap (lossless kids) (sym (none_first n ts sides.0))
 
 pub fragment_alone : (fragment : Fragment) (text : List ℕ) (s : Syntax) → FitsFragment fragment text s → IdentsAloneIn s
 fragment_alone fragment text s (raw, e, outside, fits) =
@@ -195,14 +179,15 @@ fragment_alone fragment text s (raw, e, outside, fits) =
     let whole = whole_of (goal_of fragment) inner raw s fits in
     let ts = pieces inner raw in
     let behind_front = behind_gap (length (solid.spell fits.1)) ts in
-    subst IdentsAloneIn (sym fits.4)
+    subst IdentsAloneIn (sym fits.3)
     (subst (λ children. (stand_alone children ≡ true) × IdentsAlone children × ⊤) (sym (children_are inner raw fits.0 fits.1 whole outside))
     (alone_inside fits.1 ts whole.children_alone, alone-lossless fits.1 behind_front whole.all_alone, tt))
 
--- the tokens of a fragment's tree
-pub fragment_tokens : (fragment : Fragment) (text : List ℕ) (s : Syntax) → FitsFragment fragment text s
-    → (raw : List RawToken) × (tokens (trimmed text) ≡ Some raw) × (tokens_of s ≡ pieces (trimmed text) raw)
-fragment_tokens fragment text s (raw, e, outside, fits) =
+-- the identifiers of a fragment's tree
+pub fragment_idents : (fragment : Fragment) (text : List ℕ) (s : Syntax) → FitsFragment fragment text s
+    → (raw : List RawToken) × (tokens (trimmed text) ≡ Some raw) × (idents (tokens_of s) ≡ idents (pieces (trimmed text) raw))
+fragment_idents fragment text s (raw, e, outside, fits) =
     let inner : List ℕ = trimmed text in
     let whole = whole_of (goal_of fragment) inner raw s fits in
-    (raw, e, ap tokens_of fits.4 ∙ whole-tokens fits.0 fits.1 (pieces inner raw) whole.single whole.are)
+    let are = leaves_solid fits.1 whole.taken (subst AllSolid (sym whole.spells) (all_solid raw)) in
+    (raw, e, ap (λ t. idents (tokens_of t)) fits.3 ∙ whole_idents inner raw fits.0 fits.1 are whole.taken whole.spells)

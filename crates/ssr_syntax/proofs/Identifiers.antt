@@ -6,16 +6,11 @@ use Rattle.ssr_syntax_lex.specs.declared.kinds.SyntaxKind.{SyntaxKind}
 use Rattle.ssr_syntax_lex.specs.declared.kinds.SyntaxKind.TheVariants.{IDENT}
 use Rattle.ssr_syntax.specs.declared.tokens.Token.{Token}
 use Rattle.ssr_syntax.specs.declared.goals.Goal.{Goal}
-use Rattle.ssr_syntax.specs.declared.goals.Goal.TheVariants.{File, Expr, Operand}
-use Rattle.ssr_syntax.specs.declared.goals.Rank.TheVariants.{Atom, Product, Sum}
 use Rattle.ssr_syntax.specs.Trees.{Forest, done, leaf, tree, join}
-use Rattle.ssr_syntax.specs.Forms.{Form, one, child, mark, seal, ◌then◌, nothing, choose, many, look, check, FitsBelow, Step, Repeats, Fits}
-use Rattle.ssr_syntax.specs.Levels.{FitsGoal}
+use Rattle.ssr_syntax.specs.Forms.{Form, one, child, mark, seal, ◌then◌, nothing, choose, many, look, check}
 use Rattle.ssr_syntax.specs.Grammar.{grammar}
-use Rattle.ssr_syntax.specs.Paths.{name_ref, path_segment, path}
-use Rattle.ssr_syntax.specs.Expressions.{literal, path_expr, paren_expr, atom, operations, product, sum, stmt_list, block_expr}
-use Rattle.ssr_syntax.specs.Items.{name, param_list, function, items, source_file}
 use Rattle.ssr_syntax.specs.Identifiers.{is_ident}
+use Rattle.ssr_syntax.proofs.Nested.{FitsBelow, Step, Repeats, Fits, FitsGoal}
 use Rattle.ssr_syntax.proofs.Check.{meets}
 use Rattle.ssr_syntax.proofs.Members.{apart, neither}
 
@@ -55,7 +50,7 @@ lone_clean (leaf kind us (tree k kids x)) h = ap not h
 lone_clean (tree kind kids x) h = ap not h
 
 -- what may have been made since the mark: nothing; no identifier; one token, or no identifier
-data Place : Type 0 where
+pub data Place : Type 0 where
   empty : Place
   clean : Place
   either : Place
@@ -92,13 +87,13 @@ wider_of (Some p) (Some q) = Some (wider p q)
 wider_of (Some p) None = None
 wider_of None q = None
 
-abbrev is_clean : Option Place → Bool
+abbrev pub is_clean : Option Place → Bool
 is_clean None = false
 is_clean (Some empty) = true
 is_clean (Some clean) = true
 is_clean (Some either) = false
 
-abbrev place_behind : Form → Place → Option Place
+abbrev pub place_behind : Form → Place → Option Place
 place_behind (one true ks) p = behind_token (meets ks (IDENT ∷ [])) p
 place_behind (one false ks) p = None
 place_behind (child goal) p = behind_node p
@@ -109,7 +104,7 @@ place_behind nothing p = Some p
 place_behind (choose test f g) p = wider_of (place_behind f p) (place_behind g p)
 place_behind (many test f) p = if is_clean (place_behind f clean) then behind_node p else None
 place_behind (look want test) p = Some p
-place_behind (check holds) p = Some p
+place_behind (check condition) p = Some p
 
 one_place : {p q : Place} → ◌≡◌ {A = Option Place} (Some p) (Some q) → p ≡ q
 one_place e = cc
@@ -220,20 +215,15 @@ keeps fits h (many test g) p q e x z us rest f at =
     λ x z us rest f at. (let y = keeps fits h g clean c.0 c.1 x z us rest f at in (c.2 z y.0, y.1)) in
     subst (λ r. IsAt r z) (sym before.0) (repeats_clean (Fits fits g) turn f.0 x z us rest f.1 (before.1, at.1))
 keeps fits h (look want test) p q e x z us rest f at = subst (λ r. IsAt r z) (one_place e) (subst (IsAt p) (sym f.1) at)
-keeps fits h (check holds) p q e x z us rest f at = subst (λ r. IsAt r z) (one_place e) (subst (IsAt p) (sym f.1) at)
+keeps fits h (check condition) p q e x z us rest f at = subst (λ r. IsAt r z) (one_place e) (subst (IsAt p) (sym f.1) at)
 
-all_clean : (goal : Goal) → is_clean (place_behind (grammar goal) empty) ≡ true
-unfolding grammar literal path_expr paren_expr atom operations product sum stmt_list block_expr name param_list function items source_file name_ref path_segment path
-all_clean File = refl
-all_clean Expr = refl
-all_clean (Operand Atom) = refl
-all_clean (Operand Product) = refl
-all_clean (Operand Sum) = refl
+abbrev pub AllClean : Type 0
+AllClean = (goal : Goal) → is_clean (place_behind (grammar goal) empty) ≡ true
 
-pub goals_alone : (n : ℕ) → AloneBelow (FitsGoal grammar n)
+pub goals_alone : AllClean → (n : ℕ) → AloneBelow (FitsGoal grammar n)
 unfolding FitsGoal
-goals_alone zero goal y us rest f = absurd f
-goals_alone (suc n) goal y us rest f =
-    let c = cleaned (place_behind (grammar goal) empty) (all_clean goal) in
-    let z = keeps (FitsGoal grammar n) (goals_alone n) (grammar goal) empty c.0 c.1 done y us rest f (refl, tt) in
+goals_alone all zero goal y us rest f = absurd f
+goals_alone all (suc n) goal y us rest f =
+    let c = cleaned (place_behind (grammar goal) empty) (all goal) in
+    let z = keeps (FitsGoal grammar n) (goals_alone all n) (grammar goal) empty c.0 c.1 done y us rest f (refl, tt) in
     (c.2 y z.0, z.1)

@@ -1,7 +1,7 @@
 -- Forests side by side.
-use Rattle.std.proofs.Common.{◌≡◌, ℕ, ◌+◌, ◌++◌, length, refl, sym, ap, ◌∙◌, append_assoc, map, arith}
-use Rattle.std.proofs.lemmas.List.{length-append, map-append}
-use Rattle.ssr_syntax.specs.Trees.{Forest, done, leaf, tree, join, spell, nodes, kinds, rows}
+use Rattle.std.proofs.Common.{◌≡◌, ℕ, ◌+◌, ◌∷◌, ◌++◌, length, refl, sym, ap, ◌∙◌, append_assoc, arith}
+use Rattle.std.proofs.lemmas.List.{length-append}
+use Rattle.ssr_syntax.specs.Trees.{Forest, done, leaf, tree, join, spell, nodes, rows, leaves}
 
 pub spell-join : (x y : Forest) → spell (join x y) ≡ spell x ++ spell y
 spell-join done y = refl
@@ -16,14 +16,14 @@ rows-join (tree kind kids x) y n =
     omega (arith, ap length (spell-join x y), length-append (spell x) (spell y))
     in rw (e, rows-join x y n) (simp append_assoc)
 
+pub leaves-join : (x y : Forest) → leaves (join x y) ≡ leaves x ++ leaves y
+leaves-join done y = refl
+leaves-join (leaf kind us x) y = ap (λ z. record { kind = kind; size = length us } ∷ z) (leaves-join x y)
+leaves-join (tree kind kids x) y =
+    ap (λ z. leaves kids ++ z) (leaves-join x y) ∙ sym (append_assoc (leaves kids) (leaves x) (leaves y))
+
 pub length-rows : (x : Forest) (n : ℕ) → length (rows x n) ≡ nodes x
 length-rows done n = refl
 length-rows (leaf kind us x) n = length-rows x n
 length-rows (tree kind kids x) n =
     simp (length-append, length-rows kids (length (spell x) + n), length-rows x n) (omega arith)
-
-pub kinds-rows : (x : Forest) (n : ℕ) → map (λ r. r.kind) (rows x n) ≡ kinds x
-kinds-rows done n = refl
-kinds-rows (leaf kind us x) n = kinds-rows x n
-kinds-rows (tree kind kids x) n =
-    simp (map-append, kinds-rows kids (length (spell x) + n), kinds-rows x n)

@@ -1,7 +1,6 @@
--- Laws of the lossless tree: its tokens are the text's, and the rows of its nodes.
+-- Laws of the lossless tree: its tokens are those that were taken, laid over the text's, and the rows of its nodes.
 use Rattle.std.proofs.Common.{◌≡◌, ℕ, zero, suc, ◌+◌, ◌<◌, Bool, true, false, if◌then◌else◌, List, [], ◌∷◌, ◌++◌, length, map, refl, sym, ◌∙◌, ap, subst, arith, append_assoc, length-append}
 use Rattle.std.specs.Prelude.{⊤, max}
-use Rattle.std.specs.Bool.{MatchBool}
 use Rattle.std.proofs.lemmas.List.{append-nil, map-append}
 use Rattle.ssr_syntax_lex.specs.declared.kinds.SyntaxKind.{SyntaxKind}
 use Rattle.ssr_syntax_lex.specs.Kinds.{is_trivia}
@@ -9,7 +8,7 @@ use Rattle.ssr_syntax_tree.specs.declared.rows.NodeRow.{NodeRow}
 use Rattle.ssr_syntax_tree.specs.Syntax as plain
 use Rattle.ssr_syntax_tree.specs.Places.{nodes_in}
 use Rattle.ssr_syntax_tree.specs.Parts.{node_row}
-use Rattle.ssr_syntax.specs.declared.tokens.Token.{Token}
+use Rattle.ssr_syntax.specs.declared.rows.Taken.{Taken}
 use Rattle.ssr_syntax.specs.Trees as solid
 use Rattle.ssr_syntax.specs.Lossless.{trivia, behind_trivia, gap, behind_gap, upto, past, before, behind, lossless}
 use Rattle.ssr_syntax.specs.Preorder.{node_rows, first_at, past_at}
@@ -72,11 +71,11 @@ pub upto-zero : (ts : List plain.Token) → upto zero ts ≡ []
 upto-zero [] = refl
 upto-zero (t ∷ ts) = refl
 
-past-zero : (ts : List plain.Token) → past zero ts ≡ ts
+pub past-zero : (ts : List plain.Token) → past zero ts ≡ ts
 past-zero [] = refl
 past-zero (t ∷ ts) = refl
 
-upto-add : (n k : ℕ) (ts : List plain.Token) → upto (n + k) ts ≡ upto n ts ++ upto k (past n ts)
+pub upto-add : (n k : ℕ) (ts : List plain.Token) → upto (n + k) ts ≡ upto n ts ++ upto k (past n ts)
 upto-add n k [] = refl
 upto-add zero k (t ∷ ts) = ap (λ n. upto n (t ∷ ts)) (omega arith)
 upto-add (suc n) k (t ∷ ts) =
@@ -92,131 +91,186 @@ pub by_kind : (P : Bool → Type 0) (t : plain.Token) → (is_trivia t.kind ≡ 
 by_kind P t yes_case no_case =
     elim (is_trivia t.kind) as (λ b. is_trivia t.kind ≡ b → P b) [ true ↦ yes_case | false ↦ no_case ] refl
 
-upto-behind_trivia : (n : ℕ) (ts : List plain.Token) → upto (suc n) ts ≡ trivia ts ++ upto (suc n) (behind_trivia ts)
+pub upto-behind_trivia : (n : ℕ) (ts : List plain.Token) → upto (suc n) ts ≡ trivia ts ++ upto (suc n) (behind_trivia ts)
 upto-behind_trivia n [] = refl
 upto-behind_trivia n (t ∷ ts) =
     by_kind (λ b. t ∷ upto (if b then suc n else n) ts ≡ (if b then t ∷ trivia ts else []) ++ upto (suc n) (if b then behind_trivia ts else t ∷ ts)) t
     (λ e. ap (λ l. t ∷ l) (upto-behind_trivia n ts))
     (λ e. ap (λ b. t ∷ upto (if b then suc n else n) ts) (sym e))
 
-upto-behind_gap : (n : ℕ) (ts : List plain.Token) → upto n ts ≡ gap n ts ++ upto n (behind_gap n ts)
+pub upto-behind_gap : (n : ℕ) (ts : List plain.Token) → upto n ts ≡ gap n ts ++ upto n (behind_gap n ts)
 upto-behind_gap zero ts = refl
 upto-behind_gap (suc n) ts = upto-behind_trivia n ts
 
--- ** The solid tokens are those of the tokens, as far as they go.
-abbrev pub AreOf : List Token → List plain.Token → Type 0
-AreOf us [] = us ≡ []
-AreOf [] (t ∷ ts) = ⊤
-AreOf (u ∷ us) (t ∷ ts) = MatchBool (is_trivia t.kind) (AreOf (u ∷ us) ts) ((u.kind ≡ t.kind) × AreOf us ts)
+pub past-add : (n k : ℕ) (ts : List plain.Token) → past (n + k) ts ≡ past k (past n ts)
+past-add n k [] = refl
+past-add zero k (t ∷ ts) = ap (λ n. past n (t ∷ ts)) (omega arith)
+past-add (suc n) k (t ∷ ts) =
+    let e : suc n + k ≡ suc (n + k) = omega arith in
+    ap (λ m. past m (t ∷ ts)) e
+    ∙ (elim (is_trivia t.kind)
+    as (λ b. past (if b then suc (n + k) else n + k) ts ≡ past k (past (if b then suc n else n) ts))
+    [ true ↦ ap (λ m. past m ts) (sym e) ∙ past-add (suc n) k ts | false ↦ past-add n k ts ])
 
-none_are : (ts : List plain.Token) → AreOf [] ts
-none_are [] = refl
-none_are (t ∷ ts) = tt
+-- behind white space and comments there are none
+pub trivia-behind : (ts : List plain.Token) → trivia (behind_trivia ts) ≡ []
+trivia-behind [] = refl
+trivia-behind (t ∷ ts) =
+    by_kind (λ b. trivia (if b then behind_trivia ts else t ∷ ts) ≡ []) t (λ e. trivia-behind ts)
+    (λ e. ap (λ b. if b then t ∷ trivia ts else []) e)
 
--- the first of them
-abbrev pub IsNext : Token → List Token → List plain.Token → Type 0
-IsNext u us ts =
-    (t : plain.Token) × (rest : List plain.Token)
-    × (behind_trivia ts ≡ t ∷ rest) × (is_trivia t.kind ≡ false) × (u.kind ≡ t.kind) × AreOf us rest
+behind-behind : (ts : List plain.Token) → behind_trivia (behind_trivia ts) ≡ behind_trivia ts
+behind-behind [] = refl
+behind-behind (t ∷ ts) =
+    by_kind (λ b. behind_trivia (if b then behind_trivia ts else t ∷ ts) ≡ (if b then behind_trivia ts else t ∷ ts)) t
+    (λ e. behind-behind ts)
+    (λ e. ap (λ b. if b then behind_trivia ts else t ∷ ts) e)
 
-pub next_is : (u : Token) (us : List Token) (ts : List plain.Token) → AreOf (u ∷ us) ts → IsNext u us ts
-next_is u us [] h = cc
-next_is u us (t ∷ ts) h =
-    by_kind (λ b. MatchBool b (AreOf (u ∷ us) ts) ((u.kind ≡ t.kind) × AreOf us ts)
-    → (v : plain.Token) × (rest : List plain.Token)
-    × ((if b then behind_trivia ts else t ∷ ts) ≡ v ∷ rest) × (is_trivia v.kind ≡ false) × (u.kind ≡ v.kind) × AreOf us rest) t
-    (λ e k. next_is u us ts k)
-    (λ e k. (t, ts, refl, e, k.0, k.1))
-    h
+past-behind_trivia : (n : ℕ) (ts : List plain.Token) → past (suc n) (behind_trivia ts) ≡ past (suc n) ts
+past-behind_trivia n [] = refl
+past-behind_trivia n (t ∷ ts) =
+    by_kind (λ b. past (suc n) (if b then behind_trivia ts else t ∷ ts) ≡ past (if b then suc n else n) ts) t
+    (λ e. past-behind_trivia n ts)
+    (λ e. ap (λ b. past (if b then suc n else n) ts) e)
 
-pub are_here : (us vs : List Token) (ts : List plain.Token) → AreOf (us ++ vs) ts → AreOf us ts
-are_here [] vs ts h = none_are ts
-are_here (u ∷ us) vs [] h = cc
-are_here (u ∷ us) vs (t ∷ ts) h =
-    by_kind (λ b. MatchBool b (AreOf (u ∷ (us ++ vs)) ts) ((u.kind ≡ t.kind) × AreOf (us ++ vs) ts)
-    → MatchBool b (AreOf (u ∷ us) ts) ((u.kind ≡ t.kind) × AreOf us ts)) t
-    (λ e k. are_here (u ∷ us) vs ts k)
-    (λ e k. (k.0, are_here us vs ts k.1))
-    h
+past-behind_gap : (n : ℕ) (ts : List plain.Token) → past n (behind_gap n ts) ≡ past n ts
+past-behind_gap zero ts = refl
+past-behind_gap (suc n) ts = past-behind_trivia n ts
 
-pub are_past : (us vs : List Token) (ts : List plain.Token) → AreOf (us ++ vs) ts → AreOf vs (past (length us) ts)
-are_past [] vs ts h = subst (AreOf vs) (sym (past-zero ts)) h
-are_past (u ∷ us) vs [] h = cc
-are_past (u ∷ us) vs (t ∷ ts) h =
-    by_kind (λ b. MatchBool b (AreOf (u ∷ (us ++ vs)) ts) ((u.kind ≡ t.kind) × AreOf (us ++ vs) ts)
-    → AreOf vs (past (if b then suc (length us) else length us) ts)) t
-    (λ e k. are_past (u ∷ us) vs ts k)
-    (λ e k. are_past us vs ts k.1)
-    h
+-- ** What is taken of the text's tokens.
 
-are_behind_trivia : (u : Token) (us : List Token) (ts : List plain.Token) → AreOf (u ∷ us) ts → AreOf (u ∷ us) (behind_trivia ts)
-are_behind_trivia u us [] h = h
-are_behind_trivia u us (t ∷ ts) h =
-    by_kind (λ b. MatchBool b (AreOf (u ∷ us) ts) ((u.kind ≡ t.kind) × AreOf us ts) → AreOf (u ∷ us) (if b then behind_trivia ts else t ∷ ts)) t
-    (λ e k. are_behind_trivia u us ts k)
-    (λ e k. h)
-    h
+-- each stands for some solid tokens, and is no white space and no comment
+abbrev pub AreSolid : List Taken → Type 0
+AreSolid [] = ⊤
+AreSolid (u ∷ us) = (0 < u.size) × (is_trivia u.kind ≡ false) × AreSolid us
 
-pub are_behind_gap : (us : List Token) (ts : List plain.Token) → AreOf us ts → AreOf us (behind_gap (length us) ts)
-are_behind_gap [] ts h = h
-are_behind_gap (u ∷ us) ts h = are_behind_trivia u us ts h
+-- how many solid tokens they stand for
+abbrev pub total : List Taken → ℕ
+total [] = 0
+total (u ∷ us) = u.size + total us
 
-upto_one : (t : plain.Token) (rest : List plain.Token) → is_trivia t.kind ≡ false → upto 1 (t ∷ rest) ≡ t ∷ []
-upto_one t rest e = ap (λ b. t ∷ upto (if b then 1 else 0) rest) e ∙ ap (λ l. t ∷ l) (upto-zero rest)
+-- the token of the tree that the first one is
+abbrev pub token_of : Taken → List plain.Token → plain.Token
+token_of u ts = record { kind = u.kind; text = plain.spelled (upto u.size (behind_gap u.size ts)) }
 
--- ** Each token of the grammar is one of the text.
-abbrev pub IsSingle : solid.Forest → Type 0
-IsSingle solid.done = ⊤
-IsSingle (solid.leaf kind tokens next) = ((u : Token) × (tokens ≡ u ∷ []) × (kind ≡ u.kind)) × IsSingle next
-IsSingle (solid.tree kind kids next) = IsSingle kids × IsSingle next
+-- the tokens of the tree up to the last one of them
+abbrev pub laid : List Taken → List plain.Token → List plain.Token
+laid [] ts = []
+laid (u ∷ us) ts = gap u.size ts ++ (token_of u ts ∷ laid us (past u.size ts))
 
-same_token : (kind : SyntaxKind) (text : List ℕ) (t : plain.Token) → kind ≡ t.kind → text ≡ t.text
-    → ◌≡◌ {A = plain.Token} (record { kind = kind; text = text }) t
-same_token kind text t e f =
-    let token : SyntaxKind → List ℕ → plain.Token = λ k l. record { kind = k; text = l } in
-    ap (λ k. token k text) e ∙ ap (token t.kind) f
+-- and all others behind them
+abbrev pub all_laid : List Taken → List plain.Token → List plain.Token
+all_laid us ts = laid us ts ++ past (total us) ts
 
-token_here : (kind : SyntaxKind) (u : Token) (us : List Token) (ts : List plain.Token) → kind ≡ u.kind → IsNext u us ts
-    → trivia ts ++ (record { kind = kind; text = plain.spelled (upto 1 (behind_trivia ts)) } ∷ []) ≡ upto 1 ts
-token_here kind u us ts e (t, rest, at_front, no_trivia, same, are) =
-    let one : upto 1 (behind_trivia ts) ≡ t ∷ [] = ap (upto 1) at_front ∙ upto_one t rest no_trivia in
-    let text : plain.spelled (upto 1 (behind_trivia ts)) ≡ t.text = ap plain.spelled one ∙ append-nil t.text in
-    ap (λ v. trivia ts ++ (v ∷ [])) (same_token kind (plain.spelled (upto 1 (behind_trivia ts))) t (e ∙ same) text)
-    ∙ ap (λ l. trivia ts ++ l) (sym one)
-    ∙ sym (upto-behind_trivia 0 ts)
+pub total-leaves : (f : solid.Forest) → total (solid.leaves f) ≡ length (solid.spell f)
+total-leaves solid.done = refl
+total-leaves (solid.leaf kind tokens x) = omega (arith, total-leaves x, length-append tokens (solid.spell x))
+total-leaves (solid.tree kind kids x) =
+    omega (
+      arith,
+      total-append (solid.leaves kids) (solid.leaves x),
+      total-leaves kids,
+      total-leaves x,
+      length-append (solid.spell kids) (solid.spell x),
+    ) where
+      total-append : (us vs : List Taken) → total (us ++ vs) ≡ total us + total vs
+      total-append [] vs = omega arith
+      total-append (u ∷ us) vs = omega (arith, total-append us vs)
 
-leaf_tokens : (kind : SyntaxKind) (u : Token) (us : List Token) (x : solid.Forest) (ts : List plain.Token) → kind ≡ u.kind → AreOf (u ∷ us) ts
-    → plain.tokens_in (lossless x (past 1 ts)) ≡ upto (length us) (past 1 ts)
-    → plain.tokens_in (lossless (solid.leaf kind (u ∷ []) x) ts) ≡ upto (length (u ∷ us)) ts
-leaf_tokens kind u us x ts e are next =
-    let token : plain.Token = record { kind = kind; text = plain.spelled (upto 1 (behind_trivia ts)) } in
-    tokens-before (trivia ts) (plain.leaf token (lossless x (past 1 ts)))
-    ∙ ap (λ l. trivia ts ++ (token ∷ l)) next
-    ∙ sym (append_assoc (trivia ts) (token ∷ []) (upto (length us) (past 1 ts)))
-    ∙ ap (λ l. l ++ upto (length us) (past 1 ts)) (token_here kind u us ts e (next_is u us ts are))
-    ∙ sym (upto-add 1 (length us) ts)
-    ∙ ap (λ n. upto n ts) (omega arith)
+pub solid-append : (us vs : List Taken) → AreSolid (us ++ vs) → AreSolid us × AreSolid vs
+solid-append [] vs h = (tt, h)
+solid-append (u ∷ us) vs h = let r = solid-append us vs h.2 in ((h.0, h.1, r.0), r.1)
 
-pub tokens-lossless : (f : solid.Forest) (ts : List plain.Token) → IsSingle f → AreOf (solid.spell f) ts
-    → plain.tokens_in (lossless f ts) ≡ upto (length (solid.spell f)) ts
-tokens-lossless solid.done ts single are = sym (upto-zero ts)
-tokens-lossless (solid.leaf kind tokens x) ts ((u, one, same), single) are =
-    let P : List Token → Type 0 =
-    λ us. AreOf (us ++ solid.spell x) ts → plain.tokens_in (lossless (solid.leaf kind us x) ts) ≡ upto (length (us ++ solid.spell x)) ts in
-    subst P (sym one)
-    (λ h. leaf_tokens kind u (solid.spell x) x ts same h (tokens-lossless x (past 1 ts) single (are_past (u ∷ []) (solid.spell x) ts h)))
-    are
-tokens-lossless (solid.tree kind kids x) ts single are =
+pub laid-append : (us vs : List Taken) (ts : List plain.Token) → laid (us ++ vs) ts ≡ laid us ts ++ laid vs (past (total us) ts)
+laid-append [] vs ts = ap (laid vs) (sym (past-zero ts))
+laid-append (u ∷ us) vs ts =
+    ap (λ l. gap u.size ts ++ (token_of u ts ∷ l))
+    (laid-append us vs (past u.size ts)
+    ∙ ap (λ l. laid us (past u.size ts) ++ laid vs l) (sym (past-add u.size (total us) ts)))
+    ∙ sym (append_assoc (gap u.size ts) (token_of u ts ∷ laid us (past u.size ts)) (laid vs (past (u.size + total us) ts)))
+
+-- ** White space and comments in front of what is taken.
+
+gap_some : (n : ℕ) (ts : List plain.Token) → 0 < n → gap n ts ≡ trivia ts
+gap_some zero ts h = absurd (omega arith)
+gap_some (suc n) ts h = refl
+
+behind_some : (n : ℕ) (ts : List plain.Token) → 0 < n → behind_gap n ts ≡ behind_trivia ts
+behind_some zero ts h = absurd (omega arith)
+behind_some (suc n) ts h = refl
+
+-- behind them, what is taken first begins at once
+pub gap-behind : (n m : ℕ) (ts : List plain.Token) → 0 < n → 0 < m → gap n (behind_gap m ts) ≡ []
+gap-behind n m ts lt more = gap_some n (behind_gap m ts) lt ∙ ap trivia (behind_some m ts more) ∙ trivia-behind ts
+
+behind-gap : (n m : ℕ) (ts : List plain.Token) → 0 < n → 0 < m → behind_gap n (behind_gap m ts) ≡ behind_gap n ts
+behind-gap n m ts lt more =
+    behind_some n (behind_gap m ts) lt ∙ ap behind_trivia (behind_some m ts more) ∙ behind-behind ts ∙ sym (behind_some n ts lt)
+
+past-gap : (n m : ℕ) (ts : List plain.Token) → 0 < n → 0 < m → past n (behind_gap m ts) ≡ past n ts
+past-gap n m ts lt more =
+    ap (past n) (behind_some m ts more ∙ sym (behind_some n ts lt)) ∙ past-behind_gap n ts
+
+gap_same : (n m : ℕ) (ts : List plain.Token) → 0 < n → 0 < m → gap n ts ≡ gap m ts
+gap_same n m ts lt more = gap_some n ts lt ∙ sym (gap_some m ts more)
+
+-- the first ones of a node, with as many solid tokens as are below it
+pub laid-gap : (n : ℕ) (us : List Taken) (ts : List plain.Token) → AreSolid us → n ≡ total us
+    → laid us ts ≡ gap n ts ++ laid us (behind_gap n ts)
+laid-gap zero [] ts h e = refl
+laid-gap (suc n) [] ts h e = absurd (omega arith)
+laid-gap n (u ∷ us) ts h e =
+    let lt : 0 < n = omega (arith, h.0) in
+    let here : List plain.Token → List plain.Token → List plain.Token = λ b p.
+    record { kind = u.kind; text = plain.spelled (upto u.size b) } ∷ laid us p in
+    ap (λ g. g ++ here (behind_gap u.size ts) (past u.size ts)) (gap_same u.size n ts h.0 lt)
+    ∙ ap (λ b. gap n ts ++ here b (past u.size ts)) (sym (behind-gap u.size n ts h.0 lt))
+    ∙ ap (λ p. gap n ts ++ here (behind_gap u.size (behind_gap n ts)) p) (sym (past-gap u.size n ts h.0 lt))
+    ∙ ap (λ g. gap n ts ++ (g ++ here (behind_gap u.size (behind_gap n ts)) (past u.size (behind_gap n ts)))) (sym (gap-behind u.size n ts h.0 lt))
+
+pub tokens-lossless : (f : solid.Forest) (ts : List plain.Token) → AreSolid (solid.leaves f)
+    → plain.tokens_in (lossless f ts) ≡ laid (solid.leaves f) ts
+tokens-lossless solid.done ts h = refl
+tokens-lossless (solid.leaf kind tokens x) ts h =
+    let n = length tokens in
+    let token : plain.Token = record { kind = kind; text = plain.spelled (upto n (behind_gap n ts)) } in
+    tokens-before (gap n ts) (plain.leaf token (lossless x (past n ts)))
+    ∙ ap (λ l. gap n ts ++ (token ∷ l)) (tokens-lossless x (past n ts) h.2)
+tokens-lossless (solid.tree kind kids x) ts h =
     let n = length (solid.spell kids) in
+    let us = solid.leaves kids in
+    let parts = solid-append us (solid.leaves x) h in
+    let count : n ≡ total us = sym (total-leaves kids) in
     tokens-before (gap n ts) (plain.branch kind (lossless kids (behind_gap n ts)) (lossless x (past n ts)))
-    ∙ ap (λ l. gap n ts ++ (l ++ plain.tokens_in (lossless x (past n ts))))
-    (tokens-lossless kids (behind_gap n ts) single.0 (are_behind_gap (solid.spell kids) ts (are_here (solid.spell kids) (solid.spell x) ts are)))
-    ∙ ap (λ l. gap n ts ++ (upto n (behind_gap n ts) ++ l))
-    (tokens-lossless x (past n ts) single.1 (are_past (solid.spell kids) (solid.spell x) ts are))
-    ∙ sym (append_assoc (gap n ts) (upto n (behind_gap n ts)) (upto (length (solid.spell x)) (past n ts)))
-    ∙ ap (λ l. l ++ upto (length (solid.spell x)) (past n ts)) (sym (upto-behind_gap n ts))
-    ∙ sym (upto-add n (length (solid.spell x)) ts)
-    ∙ ap (λ m. upto m ts) (sym (length-append (solid.spell kids) (solid.spell x)))
+    ∙ ap (λ l. gap n ts ++ (l ++ plain.tokens_in (lossless x (past n ts)))) (tokens-lossless kids (behind_gap n ts) parts.0)
+    ∙ ap (λ l. gap n ts ++ (laid us (behind_gap n ts) ++ l)) (tokens-lossless x (past n ts) parts.1)
+    ∙ sym (append_assoc (gap n ts) (laid us (behind_gap n ts)) (laid (solid.leaves x) (past n ts)))
+    ∙ ap (λ l. l ++ laid (solid.leaves x) (past n ts)) (sym (laid-gap n us ts parts.0 count))
+    ∙ ap (λ m. laid us ts ++ laid (solid.leaves x) (past m ts)) count
+    ∙ sym (laid-append us (solid.leaves x) ts)
+
+-- what was taken spells what the text's tokens spell
+spelled-append : (ss ts : List plain.Token) → plain.spelled (ss ++ ts) ≡ plain.spelled ss ++ plain.spelled ts
+spelled-append [] ts = refl
+spelled-append (s ∷ ss) ts = ap (λ l. s.text ++ l) (spelled-append ss ts) ∙ sym (append_assoc s.text (plain.spelled ss) (plain.spelled ts))
+
+pub spelled-laid : (us : List Taken) (ts : List plain.Token) → plain.spelled (all_laid us ts) ≡ plain.spelled ts
+spelled-laid [] ts = ap plain.spelled (past-zero ts)
+spelled-laid (u ∷ us) ts =
+    let n = u.size in
+    let text : List ℕ = plain.spelled (upto n (behind_gap n ts)) in
+    let rest = laid us (past n ts) in
+    let rest_same : plain.spelled (rest ++ past (n + total us) ts) ≡ plain.spelled (past n ts) =
+    ap (λ l. plain.spelled (rest ++ l)) (past-add n (total us) ts) ∙ spelled-laid us (past n ts) in
+    let here : plain.spelled (upto n ts) ≡ plain.spelled (gap n ts) ++ text =
+    ap plain.spelled (upto-behind_gap n ts) ∙ spelled-append (gap n ts) (upto n (behind_gap n ts)) in
+    ap plain.spelled (append_assoc (gap n ts) (token_of u ts ∷ rest) (past (n + total us) ts))
+    ∙ spelled-append (gap n ts) (token_of u ts ∷ (rest ++ past (n + total us) ts))
+    ∙ ap (λ l. plain.spelled (gap n ts) ++ (text ++ l)) rest_same
+    ∙ sym (append_assoc (plain.spelled (gap n ts)) text (plain.spelled (past n ts)))
+    ∙ ap (λ l. l ++ plain.spelled (past n ts)) (sym here)
+    ∙ sym (spelled-append (upto n ts) (past n ts))
+    ∙ ap plain.spelled (upto-past n ts)
 
 pub count-lossless : (f : solid.Forest) (ts : List plain.Token) → plain.node_count (lossless f ts) ≡ solid.nodes f
 count-lossless solid.done ts = refl
@@ -236,72 +290,88 @@ height-lossless (solid.tree kind kids x) ts =
     height-before (gap n ts) _
     ∙ omega (arith, height-lossless kids (behind_gap n ts), height-lossless x (past n ts))
 
--- ** Where nodes stand. A forest stands at the token t, behind i solid tokens and below a node that begins at `low`;
--- ts are the tokens from there on, and `at` counts the tokens up to each of its n solid ones.
-pub record StandsAt (at : ℕ → ℕ) (t low i n : ℕ) (ts : List plain.Token) : Type 0 where
-  pub here : t ≡ max (at i) low
-  pub ends : (k : ℕ) → k < n → at (i + suc k) ≡ t + length (upto (suc k) ts)
+-- ** Where nodes stand. `at i` is how many tokens of the tree there are up to the i-th solid one and with the token that
+-- it is of; t of the tree's tokens and i solid ones are to the left of what is taken.
+abbrev pub Counts : (ℕ → ℕ) → ℕ → ℕ → List Taken → List plain.Token → Type 0
+Counts at t i [] ts = ⊤
+Counts at t i (u ∷ us) ts =
+    let next : ℕ = t + length (gap u.size ts) + 1 in
+    (at (i + 1) ≡ next) × (at (i + u.size) ≡ next) × Counts at next (i + u.size) us (past u.size ts)
 
--- behind n of its solid tokens
-stands_past : (at : ℕ → ℕ) (t next low i n more : ℕ) (ts : List plain.Token) → StandsAt at t low i (n + more) ts
-    → next ≡ t + length (upto n ts) → StandsAt at next low (i + n) more (past n ts)
-stands_past at t next low i n more ts h e = record { here = now n h e; ends = ends } where
-  now : (n : ℕ) → StandsAt at t low i (n + more) ts → next ≡ t + length (upto n ts) → next ≡ max (at (i + n)) low
-  now zero h e =
-      let none : length (upto zero ts) ≡ 0 = ap length (upto-zero ts) in
-      let same : at (i + 0) ≡ at i = ap at (omega arith) in
-      let here : t ≡ max (at i) low = h.here in
-      omega arith
-  now (suc n) h e =
-      let last : at (i + suc n) ≡ t + length (upto (suc n) ts) = h.ends n (omega arith) in
-      let here : t ≡ max (at i) low = h.here in
-      omega arith
+pub counts_same : (at : ℕ → ℕ) (t s i j : ℕ) (us : List Taken) (ts ss : List plain.Token) → t ≡ s → i ≡ j → ts ≡ ss
+    → Counts at t i us ts → Counts at s j us ss
+counts_same at t s i j us ts ss e f g h =
+    subst (Counts at s j us) g (subst (λ n. Counts at s n us ts) f (subst (λ n. Counts at n i us ts) e h))
 
-  ends : (k : ℕ) → k < more → at ((i + n) + suc k) ≡ next + length (upto (suc k) (past n ts))
-  ends k lt =
-      let one : at (i + suc (n + k)) ≡ t + length (upto (suc (n + k)) ts) = h.ends (n + k) (omega arith) in
-      let at_same : at ((i + n) + suc k) ≡ at (i + suc (n + k)) = ap at (omega arith) in
-      let upto_same : length (upto (suc (n + k)) ts) ≡ length (upto (n + suc k) ts) = ap (λ m. length (upto m ts)) (omega arith) in
-      let two : length (upto (n + suc k) ts) ≡ length (upto n ts) + length (upto (suc k) (past n ts)) =
-      ap length (upto-add n (suc k) ts) ∙ length-append (upto n ts) (upto (suc k) (past n ts)) in
-      omega arith
+counts-append : (at : ℕ → ℕ) (t i : ℕ) (us vs : List Taken) (ts : List plain.Token) → Counts at t i (us ++ vs) ts
+    → Counts at t i us ts × Counts at (t + length (laid us ts)) (i + total us) vs (past (total us) ts)
+counts-append at t i [] vs ts h =
+    (tt, counts_same at t (t + 0) i (i + 0) vs ts (past 0 ts) (omega arith) (omega arith) (sym (past-zero ts)) h)
+counts-append at t i (u ∷ us) vs ts h =
+    let n = u.size in
+    let next : ℕ = t + length (gap n ts) + 1 in
+    let r = counts-append at next (i + n) us vs (past n ts) h.2 in
+    let longer : length (laid (u ∷ us) ts) ≡ length (gap n ts) + (1 + length (laid us (past n ts))) =
+    omega (arith, length-append (gap n ts) (token_of u ts ∷ laid us (past n ts))) in (
+      (h.0, h.1, r.0),
+      counts_same at (next + length (laid us (past n ts))) (t + length (laid (u ∷ us) ts)) (i + n + total us) (i + (n + total us)) vs
+          (past (total us) (past n ts)) (past (n + total us) ts) (omega arith) (omega arith) (sym (past-add n (total us) ts)) r.1,
+    )
 
-first_length : (u : Token) (us : List Token) (ts : List plain.Token) → AreOf (u ∷ us) ts → length (upto 1 ts) ≡ length (trivia ts) + 1
-first_length u us ts are =
-    ap length (sym (token_here u.kind u us ts refl (next_is u us ts are)))
-    ∙ length-append (trivia ts) (record { kind = u.kind; text = plain.spelled (upto 1 (behind_trivia ts)) } ∷ [])
-
--- What is below a node of the tokens us, which stands there.
-pub record StandsInside (at : ℕ → ℕ) (t low i n : ℕ) (ts : List plain.Token) : Type 0 where
+-- What is below a node with n solid tokens, which stands there.
+record CountsInside (at : ℕ → ℕ) (t low i n : ℕ) (us : List Taken) (ts : List plain.Token) : Type 0 where
   pub first : t + length (gap n ts) ≡ first_at at low i n
-  pub last : t + length (gap n ts) + length (upto n (behind_gap n ts)) ≡ past_at at low i n
-  pub inside : StandsAt at (t + length (gap n ts)) (first_at at low i n) i n (behind_gap n ts)
+  pub last : t + length (gap n ts) + length (laid us (behind_gap n ts)) ≡ past_at at low i n
+  pub here : t + length (gap n ts) ≡ max (at i) (first_at at low i n)
+  pub inside : Counts at (t + length (gap n ts)) i us (behind_gap n ts)
+  pub next : t + length (gap n ts) + length (laid us (behind_gap n ts)) ≡ max (at (i + n)) low
 
-stands_inside : (at : ℕ → ℕ) (t low i more : ℕ) (us : List Token) (ts : List plain.Token) → AreOf us ts
-    → StandsAt at t low i (length us + more) ts → StandsInside at t low i (length us) ts
-stands_inside at t low i more [] ts are h =
-    let here : t ≡ max (at i) low = h.here in
-    let none : length (upto zero ts) ≡ 0 = ap length (upto-zero ts) in
+-- the count up to the last one
+last_count : (at : ℕ → ℕ) (t i : ℕ) (u : Taken) (us : List Taken) (ts : List plain.Token) → Counts at t i (u ∷ us) ts
+    → at (i + total (u ∷ us)) ≡ t + length (laid (u ∷ us) ts)
+last_count at t i u [] ts h =
+    let same : at (i + (u.size + 0)) ≡ at (i + u.size) = ap at (omega arith) in
+    omega (arith, h.1, length-append (gap u.size ts) (token_of u ts ∷ []))
+last_count at t i u (v ∷ us) ts h =
+    let n = u.size in
+    let rest = laid (v ∷ us) (past n ts) in
+    let same : at (i + (n + total (v ∷ us))) ≡ at ((i + n) + total (v ∷ us)) = ap at (omega arith) in
+    omega (
+      arith,
+      last_count at (t + length (gap n ts) + 1) (i + n) v us (past n ts) h.2,
+      length-append (gap n ts) (token_of u ts ∷ rest),
+    )
+
+counts_inside : (at : ℕ → ℕ) (t low i n : ℕ) (us : List Taken) (ts : List plain.Token) → AreSolid us → n ≡ total us → t ≡ max (at i) low
+    → Counts at t i us ts → CountsInside at t low i n us ts
+counts_inside at t low i zero [] ts s e here h =
+    let same : at (i + 0) ≡ at i = ap at (omega arith) in
+    record { first = omega arith; last = omega arith; here = omega arith; inside = tt; next = omega arith }
+counts_inside at t low i (suc n) [] ts s e here h = absurd (omega arith)
+counts_inside at t low i zero (u ∷ us) ts s e here h = absurd (omega (arith, s.0))
+counts_inside at t low i (suc n) (u ∷ us) ts s e here h =
+    let m = u.size in
+    let b = behind_gap (suc n) ts in
+    let lt : 0 < suc n = omega arith in
+    let first : at (i + 1) ≡ t + length (gap m ts) + 1 = h.0 in
+    let gaps : length (gap m ts) ≡ length (gap (suc n) ts) = ap length (gap_same m (suc n) ts s.0 lt) in
+    let none : length (gap m b) ≡ 0 = ap length (gap-behind m (suc n) ts s.0 lt) in
+    let all : length (laid (u ∷ us) ts) ≡ length (gap (suc n) ts) + length (laid (u ∷ us) b) =
+    ap length (laid-gap (suc n) (u ∷ us) ts s e) ∙ length-append (gap (suc n) ts) (laid (u ∷ us) b) in
+    let last : at (i + suc n) ≡ t + length (laid (u ∷ us) ts) = ap (λ k. at (i + k)) e ∙ last_count at t i u us ts h in
+    let some : length (laid (u ∷ us) b) ≡ length (gap m b) + (1 + length (laid us (past m b))) =
+    omega (arith, length-append (gap m b) (token_of u b ∷ laid us (past m b))) in
     record {
       first = omega arith;
       last = omega arith;
-      inside = record { here = omega arith; ends = λ k lt. absurd (omega arith) };
-    }
-stands_inside at t low i more (u ∷ us) ts are h =
-    let here : t ≡ max (at i) low = h.here in
-    let one : at (i + 1) ≡ t + length (upto 1 ts) = h.ends 0 (omega arith) in
-    let first : length (upto 1 ts) ≡ length (trivia ts) + 1 = first_length u us ts are in
-    let inner : (k : ℕ) → k < suc (length us) → at (i + suc k) ≡ (t + length (trivia ts)) + length (upto (suc k) (behind_trivia ts)) =
-    λ k lt.
-    let e : at (i + suc k) ≡ t + length (upto (suc k) ts) = h.ends k (omega arith) in
-    let f : length (upto (suc k) ts) ≡ length (trivia ts) + length (upto (suc k) (behind_trivia ts)) =
-    ap length (upto-behind_trivia k ts) ∙ length-append (trivia ts) (upto (suc k) (behind_trivia ts)) in
-    omega arith in
-    let end = inner (length us) (omega arith) in
-    record {
-      first = omega arith;
-      last = sym end;
-      inside = record { here = omega arith; ends = inner };
+      here = omega arith;
+      inside = (
+        omega arith,
+        omega (arith, h.1),
+        counts_same at (t + length (gap m ts) + 1) ((t + length (gap (suc n) ts)) + length (gap m b) + 1) (i + m) (i + m) us (past m ts) (past m b)
+            (omega arith) refl (sym (past-gap m (suc n) ts s.0 lt)) h.2,
+      );
+      next = omega arith;
     }
 
 the_node_row : (parent m t : ℕ) (kind : SyntaxKind) (below : plain.Forest) (first past below_count : ℕ)
@@ -315,37 +385,31 @@ the_node_row parent m t kind below first past below_count e f g =
     ∙ ap (row first past) g
 
 pub rows-lossless : (at : ℕ → ℕ) (parent m t low i : ℕ) (f : solid.Forest) (ts : List plain.Token)
-    → IsSingle f → AreOf (solid.spell f) ts → StandsAt at t low i (length (solid.spell f)) ts
+    → AreSolid (solid.leaves f) → t ≡ max (at i) low → Counts at t i (solid.leaves f) ts
     → map node_row (nodes_in parent m t (lossless f ts)) ≡ node_rows at parent low m i f
-rows-lossless at parent m t low i solid.done ts single are h = refl
-rows-lossless at parent m t low i (solid.leaf kind tokens x) ts ((u, one, same), single) are h =
-    let P : List Token → Type 0 =
-    λ us. AreOf (us ++ solid.spell x) ts → StandsAt at t low i (length (us ++ solid.spell x)) ts
-    → map node_row (nodes_in parent m t (lossless (solid.leaf kind us x) ts)) ≡ node_rows at parent low m (i + length us) x in
-    subst P (sym one)
-    (λ is stands.
-    let first : length (upto 1 ts) ≡ length (trivia ts) + 1 = first_length u (solid.spell x) ts is in
-    let next : ℕ = 1 + (t + length (trivia ts)) in
-    let stands_one : StandsAt at t low i (1 + length (solid.spell x)) ts = subst (λ n. StandsAt at t low i n ts) (omega arith) stands in
-    ap (map node_row) (nodes-before parent m t (trivia ts)
-    (plain.leaf (record { kind = kind; text = plain.spelled (upto 1 (behind_trivia ts)) }) (lossless x (past 1 ts))))
-    ∙ rows-lossless at parent m next low (i + 1) x (past 1 ts) single (are_past (u ∷ []) (solid.spell x) ts is)
-    (stands_past at t next low i 1 (length (solid.spell x)) ts stands_one (omega arith)))
-    are h
-rows-lossless at parent m t low i (solid.tree kind kids x) ts single are h =
-    let us = solid.spell kids in
-    let n = length us in
+rows-lossless at parent m t low i solid.done ts s here h = refl
+rows-lossless at parent m t low i (solid.leaf kind tokens x) ts s here h =
+    let n = length tokens in
+    let token : plain.Token = record { kind = kind; text = plain.spelled (upto n (behind_gap n ts)) } in
+    let next : ℕ = t + length (gap n ts) + 1 in
+    let last : at (i + n) ≡ next = h.1 in
+    ap (map node_row) (nodes-before parent m t (gap n ts) (plain.leaf token (lossless x (past n ts))))
+    ∙ ap (λ k. map node_row (nodes_in parent m k (lossless x (past n ts)))) (omega arith)
+    ∙ rows-lossless at parent m next low (i + n) x (past n ts) s.2 (omega arith) h.2
+rows-lossless at parent m t low i (solid.tree kind kids x) ts s here h =
+    let us = solid.leaves kids in
+    let n = length (solid.spell kids) in
+    let count : n ≡ total us = sym (total-leaves kids) in
     let inner : ℕ = t + length (gap n ts) in
-    let are_kids = are_here us (solid.spell x) ts are in
-    let stands : StandsAt at t low i (n + length (solid.spell x)) ts =
-    subst (λ k. StandsAt at t low i k ts) (length-append us (solid.spell x)) h in
-    let facts = stands_inside at t low i (length (solid.spell x)) us ts are_kids stands in
+    let are = solid-append us (solid.leaves x) s in
+    let parts = counts-append at t i us (solid.leaves x) ts h in
+    let facts = counts_inside at t low i n us ts are.0 count here parts.0 in
     let below : plain.Forest = lossless kids (behind_gap n ts) in
-    let tokens : plain.token_count below ≡ length (upto n (behind_gap n ts)) =
-    token_count-tokens below ∙ ap length (tokens-lossless kids (behind_gap n ts) single.0 (are_behind_gap us ts are_kids)) in
-    let all : length (upto n ts) ≡ length (gap n ts) + length (upto n (behind_gap n ts)) =
-    ap length (upto-behind_gap n ts) ∙ length-append (gap n ts) (upto n (behind_gap n ts)) in
-    let count : plain.node_count below ≡ solid.nodes kids = count-lossless kids (behind_gap n ts) in
+    let tokens : plain.token_count below ≡ length (laid us (behind_gap n ts)) =
+    token_count-tokens below ∙ ap length (tokens-lossless kids (behind_gap n ts) are.0) in
+    let all : length (laid us ts) ≡ length (gap n ts) + length (laid us (behind_gap n ts)) =
+    ap length (laid-gap n us ts are.0 count) ∙ length-append (gap n ts) (laid us (behind_gap n ts)) in
+    let nodes : plain.node_count below ≡ solid.nodes kids = count-lossless kids (behind_gap n ts) in
     let next : ℕ = inner + plain.token_count below in
     let row : NodeRow = record {
       kind = kind;
@@ -354,19 +418,21 @@ rows-lossless at parent m t low i (solid.tree kind kids x) ts single are h =
       past = past_at at low i n;
       below = solid.nodes kids;
     } in
-    let here : node_row (record { number = m; parent = parent; first = inner; kind = kind; children = below }) ≡ row =
+    let here_row : node_row (record { number = m; parent = parent; first = inner; kind = kind; children = below }) ≡ row =
     the_node_row parent m inner kind below (first_at at low i n) (past_at at low i n) (solid.nodes kids)
-    facts.first (ap (λ c. inner + c) tokens ∙ facts.last) count in
+    facts.first (ap (λ c. inner + c) tokens ∙ facts.last) nodes in
     let kids_rows : map node_row (nodes_in m (1 + m) inner below) ≡ node_rows at m (first_at at low i n) (1 + m) i kids =
-    rows-lossless at m (1 + m) inner (first_at at low i n) i kids (behind_gap n ts) single.0 (are_behind_gap us ts are_kids) facts.inside in
+    rows-lossless at m (1 + m) inner (first_at at low i n) i kids (behind_gap n ts) are.0 facts.here facts.inside in
+    let next_counts : Counts at next (i + n) (solid.leaves x) (past n ts) =
+    counts_same at (t + length (laid us ts)) next (i + total us) (i + n) (solid.leaves x) (past (total us) ts) (past n ts)
+    (omega arith) (omega arith) (ap (λ k. past k ts) (sym count)) parts.1 in
     let next_rows : map node_row (nodes_in parent (1 + m + plain.node_count below) next (lossless x (past n ts)))
     ≡ node_rows at parent low (1 + m + solid.nodes kids) (i + n) x =
-    ap (λ c. map node_row (nodes_in parent (1 + m + c) next (lossless x (past n ts)))) count
-    ∙ rows-lossless at parent (1 + m + solid.nodes kids) next low (i + n) x (past n ts) single.1 (are_past us (solid.spell x) ts are)
-    (stands_past at t next low i n (length (solid.spell x)) ts stands (omega arith)) in
+    ap (λ c. map node_row (nodes_in parent (1 + m + c) next (lossless x (past n ts)))) nodes
+    ∙ rows-lossless at parent (1 + m + solid.nodes kids) next low (i + n) x (past n ts) are.1 (ap (λ c. inner + c) tokens ∙ facts.next) next_counts in
     ap (map node_row) (nodes-before parent m t (gap n ts) (plain.branch kind below (lossless x (past n ts))))
     ∙ ap (λ l. node_row (record { number = m; parent = parent; first = inner; kind = kind; children = below }) ∷ l)
     (map-append node_row (nodes_in m (1 + m) inner below) (nodes_in parent (1 + m + plain.node_count below) next (lossless x (past n ts))))
-    ∙ ap (λ r. r ∷ (map node_row (nodes_in m (1 + m) inner below) ++ map node_row (nodes_in parent (1 + m + plain.node_count below) next (lossless x (past n ts))))) here
+    ∙ ap (λ r. r ∷ (map node_row (nodes_in m (1 + m) inner below) ++ map node_row (nodes_in parent (1 + m + plain.node_count below) next (lossless x (past n ts))))) here_row
     ∙ ap (λ l. row ∷ (l ++ map node_row (nodes_in parent (1 + m + plain.node_count below) next (lossless x (past n ts))))) kids_rows
     ∙ ap (λ l. row ∷ (node_rows at m (first_at at low i n) (1 + m) i kids ++ l)) next_rows

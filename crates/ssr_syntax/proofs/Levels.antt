@@ -1,13 +1,13 @@
 -- The theorems on forms, at every number of levels.
 use Rattle.std.proofs.Common.{◌≡◌, ℕ, zero, suc, length, Result, refl, subst}
-use Rattle.std.proofs.lemmas.List.{append-nil}
 use Rattle.ssr_syntax.specs.Trees.{done}
-use Rattle.ssr_syntax.specs.Forms.{SoFar, so_far, read}
+use Rattle.ssr_syntax.specs.Forms.{Productions, SoFar, so_far, read}
 use Rattle.ssr_syntax.specs.Runs.{state_of, mark_at, run}
-use Rattle.ssr_syntax.specs.Levels.{Productions, FitsGoal, read_goal, run_goal}
+use Rattle.ssr_syntax.specs.Levels.{read_goal, run_goal}
+use Rattle.ssr_syntax.proofs.Nested.{FitsGoal}
 use Rattle.ssr_syntax.proofs.Soundness.{IsSound, sound}
 use Rattle.ssr_syntax.proofs.Spelling.{Spells, spelled, ReadsSpelled, read_spelled}
-use Rattle.ssr_syntax.proofs.Agreement.{RunsAsRead, agree, emit}
+use Rattle.ssr_syntax.proofs.Agreement.{RunsAsRead, agree, emit, plus-none}
 
 pub goals_spell : (grammar : Productions) (n : ℕ) → Spells (FitsGoal grammar n)
 unfolding FitsGoal
@@ -32,7 +32,7 @@ unfolding read_goal run_goal
 goals_agree grammar zero goal out ts = refl
 goals_agree grammar (suc n) goal out ts =
     let red : Result SoFar _ = read (read_goal grammar n) (grammar goal) (so_far done ts) in
-    subst (λ w. run (run_goal grammar n) (grammar goal) (mark_at (length out) ts) (state_of w ts) ≡ emit out red)
-    (append-nil out)
+    subst (λ w. run (run_goal grammar n) (grammar goal) (mark_at (length out.rows) ts) (state_of w ts) ≡ emit out red)
+    (plus-none out (length ts))
     (agree (run_goal grammar n) (read_goal grammar n) (goals_agree grammar n) (goals_read_spelled grammar n)
     (grammar goal) out ts (so_far done ts) refl)

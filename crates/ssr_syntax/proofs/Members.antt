@@ -5,9 +5,9 @@ use Rattle.ssr_syntax_lex.specs.Kinds.{same_kind}
 use Rattle.ssr_syntax_lex.proofs.SameKinds.{same_kind-equal}
 use Rattle.ssr_syntax.specs.declared.tokens.Token.{Token}
 use Rattle.ssr_syntax.specs.Kinds.{mem}
-use Rattle.ssr_syntax.specs.Forms.{Test, passes, agrees}
+use Rattle.ssr_syntax.specs.Forms.{Test, is_one, taken_as, are_next, passes, agrees, at, next, END}
 use Rattle.ssr_syntax.proofs.Answers.{decide, both, either, left_of, right_of, flipped}
-use Rattle.ssr_syntax.proofs.Check.{subset, meets, sift, sifted, decides_on, decides_off, next, END}
+use Rattle.ssr_syntax.proofs.Check.{subset, meets, every, those, must_pass, may_pass, may_be, decides_on, decides_off}
 
 -- a test of a kind passes for equal kinds only
 mem_like : (k l : SyntaxKind) (ks : List SyntaxKind) → same_kind k l ≡ true → mem l ks ≡ true → mem k ks ≡ true
@@ -21,6 +21,23 @@ subset_mem k (l ∷ ks) ls s h =
       | inl e ↦ mem_like k l ls e b.0
       | inr m ↦ subset_mem k ks ls b.1 m
     ]
+
+and_true : (b : Bool) → (b && true) ≡ b
+and_true true = refl
+and_true false = refl
+
+or_false : (b : Bool) → (b || false) ≡ b
+or_false true = refl
+or_false false = refl
+
+-- a token that is taken is of one of the kinds, and so is its leaf
+pub one_joined : (whole : Bool) (ks : List SyntaxKind) (t : Token) → is_one whole ks t ≡ true → mem t.joined ks ≡ true
+one_joined true ks t h = h
+one_joined false ks t h = (both (mem t.joined ks) (mem t.kind ks) h).0
+
+pub one_taken : (whole : Bool) (ks : List SyntaxKind) (t : Token) → is_one whole ks t ≡ true → mem (taken_as whole t) ks ≡ true
+one_taken true ks t h = h
+one_taken false ks t h = (both (mem t.joined ks) (mem t.kind ks) h).1
 
 pub neither : (a b : Bool) → (a || b) ≡ false → (a ≡ false) × (b ≡ false)
 neither true b h = cc
@@ -47,53 +64,82 @@ pub mem_right : (k : SyntaxKind) (ks ls : List SyntaxKind) → mem k ls ≡ true
 mem_right k [] ls h = h
 mem_right k (l ∷ ks) ls h = right_of (same_kind k l) (mem k (ks ++ ls)) (mem_right k ks ls h)
 
-sift_mem : (want : Bool) (k : SyntaxKind) (ls ks : List SyntaxKind) → agrees want (mem k ls) ≡ true → mem k ks ≡ true
-    → mem k (sift want ls ks) ≡ true
-sift_mem want k ls [] a h = cc
-sift_mem want k ls (l ∷ ks) a h =
-    elim (decide (agrees want (mem l ls))) [
+pub every_mem : (p : SyntaxKind → Bool) (k : SyntaxKind) (ks : List SyntaxKind) → every p ks ≡ true → mem k ks ≡ true → p k ≡ true
+every_mem p k [] e h = cc
+every_mem p k (l ∷ ks) e h =
+    let b = both (p l) (every p ks) e in
+    elim (either (same_kind k l) (mem k ks) h) [
+      | inl s ↦ ap p (same_kind-equal k l s) ∙ b.0
+      | inr m ↦ every_mem p k ks b.1 m
+    ]
+
+pub those_mem : (p : SyntaxKind → Bool) (k : SyntaxKind) (ks : List SyntaxKind) → p k ≡ true → mem k ks ≡ true
+    → mem k (those p ks) ≡ true
+those_mem p k [] is h = cc
+those_mem p k (l ∷ ks) is h =
+    elim (decide (p l)) [
       | inl hit ↦ rw hit
           (elim (either (same_kind k l) (mem k ks) h) [
-            | inl e ↦ left_of (same_kind k l) (mem k (sift want ls ks)) e
-            | inr m ↦ right_of (same_kind k l) (mem k (sift want ls ks)) (sift_mem want k ls ks a m)
+            | inl e ↦ left_of (same_kind k l) (mem k (those p ks)) e
+            | inr m ↦ right_of (same_kind k l) (mem k (those p ks)) (those_mem p k ks is m)
           ])
       | inr miss ↦ rw miss
           (elim (either (same_kind k l) (mem k ks) h) [
-            | inl e ↦ absurd (cc (sym miss ∙ ap (λ w. agrees want (mem w ls)) (sym (same_kind-equal k l e)) ∙ a))
-            | inr m ↦ sift_mem want k ls ks a m
+            | inl e ↦ absurd (cc (sym miss ∙ ap p (sym (same_kind-equal k l e)) ∙ is))
+            | inr m ↦ those_mem p k ks is m
           ])
     ]
 
-passes_one : (ls : List SyntaxKind) (t : Token) (ts : List Token) → passes (ls ∷ []) (t ∷ ts) ≡ mem t.joined ls
-passes_one ls t ts = elim (mem t.joined ls) as (λ b. (b && true) ≡ b) [ true ↦ refl | false ↦ refl ]
+-- ** Tests, by the next token.
+next_one : (ks : List SyntaxKind) (ts : List Token) → are_next (ks ∷ []) ts ≡ mem (next ts) ks
+next_one ks [] = and_true (mem END ks)
+next_one ks (t ∷ ts) = and_true (mem t.joined ks)
 
-passes_next : (ls : List SyntaxKind) (ts : List Token) → mem END ls ≡ false → passes (ls ∷ []) ts ≡ mem (next ts) ls
-passes_next ls [] h = sym h
-passes_next ls (t ∷ ts) h = passes_one ls t ts
+next_first : (ks : List SyntaxKind) (string : List (List SyntaxKind)) (ts : List Token) → are_next (ks ∷ string) ts ≡ true
+    → mem (next ts) ks ≡ true
+next_first ks string [] h = (both (mem END ks) (are_next string []) h).0
+next_first ks string (t ∷ ts) h = (both (mem t.joined ks) _ h).0
 
-pub sifted_mem : (want : Bool) (test : Test) (ts : List Token) (ks : List SyntaxKind) → agrees want (passes test ts) ≡ true
-    → mem (next ts) ks ≡ true → mem (next ts) (sifted want test ks) ≡ true
-sifted_mem want [] ts ks a h = h
-sifted_mem want (ls ∷ []) ts ks a h =
-    elim (decide (mem END ls)) [
-      | inl hit ↦ rw hit h
-      | inr miss ↦ rw miss (sift_mem want (next ts) ls ks (ap (agrees want) (sym (passes_next ls ts miss)) ∙ a) h)
+pub at_next : (ks : List SyntaxKind) (ts : List Token) → passes (at ks) ts ≡ mem (next ts) ks
+at_next ks ts = or_false (are_next (ks ∷ []) ts) ∙ next_one ks ts
+
+must : (test : Test) (ts : List Token) → must_pass test (next ts) ≡ true → passes test ts ≡ true
+must [] ts h = cc
+must ([] ∷ test) ts h = refl
+must ((ks ∷ []) ∷ test) ts h =
+    elim (either (mem (next ts) ks) (must_pass test (next ts)) h) [
+      | inl hit ↦ left_of (are_next (ks ∷ []) ts) (passes test ts) (next_one ks ts ∙ hit)
+      | inr m ↦ right_of (are_next (ks ∷ []) ts) (passes test ts) (must test ts m)
     ]
-sifted_mem want (ls ∷ l ∷ test) ts ks a h = h
+must ((ks ∷ ls ∷ string) ∷ test) ts h = right_of (are_next (ks ∷ ls ∷ string) ts) (passes test ts) (must test ts h)
+
+may : (test : Test) (ts : List Token) → passes test ts ≡ true → may_pass test (next ts) ≡ true
+may [] ts h = cc
+may ([] ∷ test) ts h = refl
+may ((ks ∷ string) ∷ test) ts h =
+    elim (either (are_next (ks ∷ string) ts) (passes test ts) h) [
+      | inl hit ↦ left_of (mem (next ts) ks) (may_pass test (next ts)) (next_first ks string ts hit)
+      | inr m ↦ right_of (mem (next ts) ks) (may_pass test (next ts)) (may test ts m)
+    ]
+
+unless : (a b : Bool) → (a ≡ true → b ≡ true) → b ≡ false → a ≡ false
+unless true b h e = cc (h refl)
+unless false b h e = refl
+
+looks : (want : Bool) (test : Test) (ts : List Token) → agrees want (passes test ts) ≡ true → may_be want test (next ts) ≡ true
+looks true test ts a = may test ts a
+looks false test ts a = ap not (unless (must_pass test (next ts)) (passes test ts) (must test ts) (flipped (passes test ts) a))
+
+pub looked_mem : (want : Bool) (test : Test) (ts : List Token) (ks : List SyntaxKind) → agrees want (passes test ts) ≡ true
+    → mem (next ts) ks ≡ true → mem (next ts) (those (may_be want test) ks) ≡ true
+looked_mem want test ts ks a h = those_mem (may_be want test) (next ts) ks (looks want test ts a) h
 
 pub on : (test : Test) (ts : List Token) (ks : List SyntaxKind) → decides_on test ks ≡ true → mem (next ts) ks ≡ true
     → passes test ts ≡ true
-on [] ts ks d h = refl
-on (ls ∷ []) ts ks d h =
-    let b = both (subset ks ls) (not (mem END ls)) d in
-    passes_next ls ts (flipped (mem END ls) b.1) ∙ subset_mem (next ts) ks ls b.0 h
-on (ls ∷ l ∷ test) ts ks d h = cc
-
-not_both : (a b : Bool) → a ≡ false → (a && b) ≡ false
-not_both a b e = rw e refl
+on test ts ks d h = must test ts (every_mem (must_pass test) (next ts) ks d h)
 
 pub off : (test : Test) (ts : List Token) (ks : List SyntaxKind) → decides_off test ks ≡ true → mem (next ts) ks ≡ true
     → passes test ts ≡ false
-off [] ts ks d h = absurd (cc (subset_mem (next ts) ks [] d h))
-off (ls ∷ test) [] ks d h = refl
-off (ls ∷ test) (t ∷ ts) ks d h = not_both (mem t.joined ls) _ (apart t.joined ks ls (flipped (meets ks ls) d) h)
+off test ts ks d h =
+    unless (passes test ts) (may_pass test (next ts)) (may test ts)
+    (flipped (may_pass test (next ts)) (every_mem (λ k. not (may_pass test k)) (next ts) ks d h))

@@ -7,7 +7,6 @@ use Rattle.std.proofs.lemmas.List.{append-nil, reverse-append, reverse-reverse, 
 use Rattle.std.proofs.lemmas.Bool.Decides.{nat_tests}
 use Rattle.std.proofs.lemmas.Bool.{ltb-true, ltb-false, lt-ltb, le-ltb}
 use Rattle.ssr_syntax_tree.specs.declared.rows.NodeRow.{NodeRow}
-use Rattle.ssr_syntax.specs.declared.rows.Row.{Row}
 use Rattle.ssr_syntax.specs.declared.preorder.Open.{Open}
 use Rattle.ssr_syntax.specs.declared.syntax_error.SyntaxError.{SyntaxError}
 use Rattle.ssr_syntax.specs.declared.syntax_error.SyntaxError.TheVariants as errors
@@ -56,14 +55,14 @@ length-rows (tree kind kids x) left =
     let f = length-rows x left in
     rw (length-append (rows kids (length (spell x) + left)), e, f) (omega arith)
 
-length-reversed : (xs more : List Row) → length (reverse xs ++ more) ≡ length xs + length more
+length-reversed : (xs more : List NodeRow) → length (reverse xs ++ more) ≡ length xs + length more
 length-reversed xs more = rw (length-append, length-reverse)
 
-pub length-reversed_rows : (x : Forest) (left : ℕ) (more : List Row) → length (reverse (rows x left) ++ more) ≡ nodes x + length more
+pub length-reversed_rows : (x : Forest) (left : ℕ) (more : List NodeRow) → length (reverse (rows x left) ++ more) ≡ nodes x + length more
 length-reversed_rows x left more = length-reversed (rows x left) more ∙ ap (λ n. n + length more) (length-rows x left)
 
 -- a node that begins where the rest ends is closed first
-closes_first : (at : ℕ → ℕ) (total : ℕ) (inner : Open) (above : List Open) (rest : List Row) → length rest ≤ inner.start
+closes_first : (at : ℕ → ℕ) (total : ℕ) (inner : Open) (above : List Open) (rest : List NodeRow) → length rest ≤ inner.start
     → from_right at total (inner ∷ above) rest ≡ inner.node ∷ from_right at total above rest
 closes_first at total inner above [] h = refl
 closes_first at total inner above (row ∷ rest) h =
@@ -71,14 +70,14 @@ closes_first at total inner above (row ∷ rest) h =
     rw e
 
 -- where all open nodes stay open
-stay : (at : ℕ → ℕ) (total : ℕ) (above : List Open) (row : Row) (rest : List Row) → BeginBy (length rest) above
+stay : (at : ℕ → ℕ) (total : ℕ) (above : List Open) (row : NodeRow) (rest : List NodeRow) → BeginBy (length rest) above
     → from_right at total above (row ∷ rest) ≡ from_right at total (opened at total row (length rest) above ∷ above) rest
 stay at total above row rest h =
     let e = all_open (length rest) (1 + length rest) above (omega arith) h in
     let f = none_closed (length rest) (1 + length rest) above (omega arith) h in
     rw (e, f)
 
-reversed_middle : (k x more : List Row) (r : Row) → reverse (k ++ (r ∷ x)) ++ more ≡ reverse x ++ (r ∷ (reverse k ++ more))
+reversed_middle : (k x more : List NodeRow) (r : NodeRow) → reverse (k ++ (r ∷ x)) ++ more ≡ reverse x ++ (r ∷ (reverse k ++ more))
 reversed_middle k x more r =
     let e : k ++ (r ∷ x) ≡ (k ++ (r ∷ [])) ++ x = sym (append_assoc k (r ∷ []) x) in
     rw (e, reverse-append, reverse-append, append_assoc)
@@ -90,12 +89,12 @@ reversed_node k x rest r =
 
 -- ** One tree's row comes: x and so many tokens stand to the tree's right.
 
-abbrev row_of : SyntaxKind → Forest → Forest → ℕ → Row
+abbrev row_of : SyntaxKind → Forest → Forest → ℕ → NodeRow
 row_of kind kids x left =
-    record { kind = kind; first = length (spell kids) + (length (spell x) + left); end = length (spell x) + left; below = nodes kids }
+    record { kind = kind; parent = 0; first = length (spell kids) + (length (spell x) + left); past = length (spell x) + left; below = nodes kids }
 
 -- what comes then: the rows below it, and more
-abbrev rest_of : Forest → Forest → ℕ → List Row → List Row
+abbrev rest_of : Forest → Forest → ℕ → List NodeRow → List NodeRow
 rest_of kids x left more = reverse (rows kids (length (spell x) + left)) ++ more
 
 -- its open node: `before` rows come behind those below it, and i tokens are to its left
@@ -124,17 +123,17 @@ opened_is at total kind kids x i left before place above h e =
     rw (e1, e2, e3, e4)
 
 -- what is known then
-record TreeFacts (at : ℕ → ℕ) (total : ℕ) (kind : SyntaxKind) (kids x : Forest) (i left : ℕ) (above : List Open) (more : List Row) : Type 0 where
+record TreeFacts (at : ℕ → ℕ) (total : ℕ) (kind : SyntaxKind) (kids x : Forest) (i left : ℕ) (above : List Open) (more : List NodeRow) : Type 0 where
   count : length (rest_of kids x left more) ≡ nodes kids + length more
   sum : i + (length (spell kids) + (length (spell x) + left)) ≡ total
   later : BeginBy (length (rest_of kids x left more)) above
   even_later : BeginBy (suc (length (rest_of kids x left more))) above
   opens_node : opened at total (row_of kind kids x left) (length (rest_of kids x left more)) above ≡ node_of at kind kids i (length more) above
 
-facts_of_tree : (at : ℕ → ℕ) (total : ℕ) (kind : SyntaxKind) (kids x : Forest) (i left : ℕ) (above : List Open) (more : List Row)
+facts_of_tree : (at : ℕ → ℕ) (total : ℕ) (kind : SyntaxKind) (kids x : Forest) (i left : ℕ) (above : List Open) (more : List NodeRow)
     → i + (length (spell (tree kind kids x)) + left) ≡ total → BeginBy (length more) above → TreeFacts at total kind kids x i left above more
 facts_of_tree at total kind kids x i left above more h b =
-    let rest : List Row = rest_of kids x left more in
+    let rest : List NodeRow = rest_of kids x left more in
     let rest_length : length rest ≡ nodes kids + length more = length-reversed_rows kids (length (spell x) + left) more in
     let sum_here : i + (length (spell kids) + (length (spell x) + left)) ≡ total = omega (arith, h, length-append (spell kids) (spell x)) in
     record {
@@ -145,7 +144,7 @@ facts_of_tree at total kind kids x i left above more h b =
       opens_node = opened_is at total kind kids x i left (length more) (length rest) above sum_here rest_length;
     }
 
-pub placed : (at : ℕ → ℕ) (total : ℕ) (f : Forest) (i left : ℕ) (above : List Open) (more : List Row)
+pub placed : (at : ℕ → ℕ) (total : ℕ) (f : Forest) (i left : ℕ) (above : List Open) (more : List NodeRow)
     → i + (length (spell f) + left) ≡ total → BeginBy (length more) above
     → from_right at total above (reverse (rows f left) ++ more)
     ≡ reverse (node_rows at (number_of above) (first_of above) (length more + length above) i f) ++ from_right at total above more
@@ -154,8 +153,8 @@ placed at total (leaf kind tokens x) i left above more h b =
     placed at total x (i + length tokens) left above more (omega (arith, h, length-append tokens (spell x))) b
 placed at total (tree kind kids x) i left above more h b =
     let n : ℕ = length (spell kids) in
-    let row : Row = row_of kind kids x left in
-    let rest : List Row = rest_of kids x left more in
+    let row : NodeRow = row_of kind kids x left in
+    let rest : List NodeRow = rest_of kids x left more in
     let inner : Open = node_of at kind kids i (length more) above in
     let now = facts_of_tree at total kind kids x i left above more h b in
     let xs : List NodeRow = node_rows at (number_of above) (first_of above) (1 + (length more + length above) + nodes kids) (i + n) x in
@@ -177,14 +176,14 @@ placed at total (tree kind kids x) i left above more h b =
 
 -- ** How deep the nodes stand.
 
-closes_unseen : (limit : ℕ) (at : ℕ → ℕ) (total : ℕ) (inner : Open) (above : List Open) (rest : List Row) → length rest ≤ inner.start
+closes_unseen : (limit : ℕ) (at : ℕ → ℕ) (total : ℕ) (inner : Open) (above : List Open) (rest : List NodeRow) → length rest ≤ inner.start
     → is_deeper limit at total (inner ∷ above) rest ≡ is_deeper limit at total above rest
 closes_unseen limit at total inner above [] h = refl
 closes_unseen limit at total inner above (row ∷ rest) h =
     let e : nat_le (1 + length rest) inner.start ≡ true = opens (1 + length rest) inner.start (omega arith) in
     rw e
 
-depth_here : (limit : ℕ) (at : ℕ → ℕ) (total : ℕ) (above : List Open) (row : Row) (rest : List Row) → BeginBy (length rest) above
+depth_here : (limit : ℕ) (at : ℕ → ℕ) (total : ℕ) (above : List Open) (row : NodeRow) (rest : List NodeRow) → BeginBy (length rest) above
     → is_deeper limit at total above (row ∷ rest)
     ≡ (nat_lt limit (length above) || is_deeper limit at total (opened at total row (length rest) above ∷ above) rest)
 depth_here limit at total above row rest h =
@@ -197,7 +196,7 @@ four false true c d = refl
 four false false c d = refl
 
 -- a node of the forest or of what is to its left is too deep
-pub depth_told : (limit : ℕ) (at : ℕ → ℕ) (total : ℕ) (f : Forest) (i left : ℕ) (above : List Open) (more : List Row)
+pub depth_told : (limit : ℕ) (at : ℕ → ℕ) (total : ℕ) (f : Forest) (i left : ℕ) (above : List Open) (more : List NodeRow)
     → i + (length (spell f) + left) ≡ total → BeginBy (length more) above
     → is_deeper limit at total above (reverse (rows f left) ++ more)
     ≡ (deeper_by limit (length above) f || is_deeper limit at total above more)
@@ -206,8 +205,8 @@ depth_told limit at total (leaf kind tokens x) i left above more h b =
     depth_told limit at total x (i + length tokens) left above more (omega (arith, h, length-append tokens (spell x))) b
 depth_told limit at total (tree kind kids x) i left above more h b =
     let n : ℕ = length (spell kids) in
-    let row : Row = row_of kind kids x left in
-    let rest : List Row = rest_of kids x left more in
+    let row : NodeRow = row_of kind kids x left in
+    let rest : List NodeRow = rest_of kids x left more in
     let inner : Open = node_of at kind kids i (length more) above in
     let now = facts_of_tree at total kind kids x i left above more h b in
     let right : is_deeper limit at total above (reverse (rows x left) ++ (row ∷ rest)) ≡ (deeper_by limit (length above) x || is_deeper limit at total above (row ∷ rest)) =
@@ -271,13 +270,13 @@ same_test : (a b : Bool) → (a ≡ true → b ≡ true) → (a ≡ false → b 
 same_test true b yes_case no_case = sym (yes_case refl)
 same_test false b yes_case no_case = sym (no_case refl)
 
-abbrev pub PlacedWhole : (ℕ → ℕ) → ℕ → SyntaxKind → Forest → List Row → Row → Type 0
+abbrev pub PlacedWhole : (ℕ → ℕ) → ℕ → SyntaxKind → Forest → List NodeRow → NodeRow → Type 0
 PlacedWhole at tokens kind kids below root =
     (from_right at (root.first) (root_open root.kind tokens (length below) ∷ []) (reverse below) ≡ reverse (tree_rows at tokens kind kids))
     × (is_deeper most_deep at (root.first) (root_open root.kind tokens (length below) ∷ []) (reverse below) ≡ nat_lt most_deep (height kids))
 
 whole_rows : (at : ℕ → ℕ) (tokens : ℕ) (kind : SyntaxKind) (kids : Forest)
-    → PlacedWhole at tokens kind kids (rows kids 0) (record { kind = kind; first = length (spell kids) + 0; end = 0; below = nodes kids })
+    → PlacedWhole at tokens kind kids (rows kids 0) (record { kind = kind; parent = 0; first = length (spell kids) + 0; past = 0; below = nodes kids })
 whole_rows at tokens kind kids =
     let root : Open = root_open kind tokens (length (rows kids 0)) in
     let total : ℕ = length (spell kids) + 0 in
@@ -296,17 +295,17 @@ whole_rows at tokens kind kids =
           (λ e. le-ltb most_deep (height kids) (omega (arith, not_high most_deep 1 kids (omega arith) e))),
     )
 
-snoc_same : (xs ys : List Row) (x y : Row) → xs ++ (x ∷ []) ≡ ys ++ (y ∷ []) → (xs ≡ ys) × (x ≡ y)
+snoc_same : (xs ys : List NodeRow) (x y : NodeRow) → xs ++ (x ∷ []) ≡ ys ++ (y ∷ []) → (xs ≡ ys) × (x ≡ y)
 snoc_same xs ys x y e =
     let turned : x ∷ reverse xs ≡ y ∷ reverse ys =
     sym (reverse-append xs (x ∷ [])) ∙ ap reverse e ∙ reverse-append ys (y ∷ []) in
     let front : reverse xs ≡ reverse ys = cc in
     (sym (reverse-reverse xs) ∙ ap reverse front ∙ reverse-reverse ys, cc)
 
-pub whole_placed : (at : ℕ → ℕ) (tokens : ℕ) (kind : SyntaxKind) (kids : Forest) (below : List Row) (root : Row)
+pub whole_placed : (at : ℕ → ℕ) (tokens : ℕ) (kind : SyntaxKind) (kids : Forest) (below : List NodeRow) (root : NodeRow)
     → below ++ (root ∷ []) ≡ rows (tree kind kids done) 0 → PlacedWhole at tokens kind kids below root
 whole_placed at tokens kind kids below root e =
-    let last : Row = record { kind = kind; first = length (spell kids) + 0; end = 0; below = nodes kids } in
+    let last : NodeRow = record { kind = kind; parent = 0; first = length (spell kids) + 0; past = 0; below = nodes kids } in
     let same = snoc_same below (rows kids 0) root last e in
     subst (λ r. PlacedWhole at tokens kind kids below r) (sym same.1)
     (subst (λ l. PlacedWhole at tokens kind kids l last) (sym same.0) (whole_rows at tokens kind kids))
@@ -322,28 +321,27 @@ closes_all (inner ∷ above) =
 memory_says_nothing : (deep : Bool) (e : SyntaxError) → e ≡ errors.Memory → IsDepthFault deep e
 memory_says_nothing deep e h = subst (IsDepthFault deep) (sym h) tt
 
-closed_here : {R : Type 0} (at : ℕ → ℕ) (total : ℕ) (rows : List Row) (above old new : List Open) (before written nodes : List NodeRow)
-    (result : Result R SyntaxError)
-    → written ++ from_right at total (reverse old) [] ≡ before ++ from_right at total (reverse above) (reverse rows)
-    → is_deeper most_deep at total (reverse old) [] ≡ is_deeper most_deep at total (reverse above) (reverse rows)
-    → IsClosed 0 old new written nodes result → IsFromRight at total rows above before nodes result
-closed_here at total rows above old new before written nodes (Ok r) e f h =
-    (sym f, h.1 ∙ ap (λ l. written ++ l) (closes_all (reverse old)) ∙ e)
-closed_here at total rows above old new before written nodes (Err x) e f h =
-    memory_says_nothing (is_deeper most_deep at total (reverse above) (reverse rows)) x h
+none_left : (above : List Open) → still_open 0 above ≡ []
+none_left [] = refl
+none_left (inner ∷ above) =
+    let e : nat_le 0 inner.start ≡ true = opens 0 inner.start (omega arith) in
+    rw (e, none_left above)
 
-pub closed_at_end : {R : Type 0} (at : ℕ → ℕ) (total : ℕ) (rest rows : List Row) (above old new : List Open) (before written nodes : List NodeRow)
-    (result : Result R SyntaxError)
-    → length rest ≡ 0
+pub all_closed : (old new : List Open) → reverse new ≡ still_open 0 (reverse old) → length new ≡ 0
+all_closed old new h = sym (length-reverse new) ∙ ap length (h ∙ none_left (reverse old))
+
+pub closed_at_end : {R : Type 0} (at : ℕ → ℕ) (total : ℕ) (rest rows : List NodeRow) (above old new : List Open)
+    (before written nodes : List NodeRow) (r : R)
+    → rest ≡ []
     → written ++ from_right at total (reverse old) (reverse rest) ≡ before ++ from_right at total (reverse above) (reverse rows)
     → is_deeper most_deep at total (reverse old) (reverse rest) ≡ is_deeper most_deep at total (reverse above) (reverse rows)
-    → IsClosed 0 old new written nodes result → IsFromRight at total rows above before nodes result
-closed_at_end at total [] rows above old new before written nodes result none e f h =
-    closed_here at total rows above old new before written nodes result e f h
-closed_at_end at total (row ∷ rest) rows above old new before written nodes result none e f h = absurd (omega arith)
+    → IsClosed 0 old new written nodes → IsFromRight at total rows above before nodes (Ok r)
+closed_at_end at total [] rows above old new before written nodes r none e f h =
+    (sym f, h.1 ∙ ap (λ l. written ++ l) (closes_all (reverse old)) ∙ e)
+closed_at_end at total (row ∷ rest) rows above old new before written nodes r none e f h = absurd (omega (arith, ap length none))
 
 -- ** One row: `mid` are the nodes that stay open before it, `inner` is its node.
-module _ (at : ℕ → ℕ) (total : ℕ) (row : Row) (place : ℕ) (old mid : List Open) (written kept : List NodeRow) (inner : Open)
+module _ (at : ℕ → ℕ) (total : ℕ) (row : NodeRow) (place : ℕ) (old mid : List Open) (written kept : List NodeRow) (inner : Open)
     (open_is : reverse mid ≡ still_open (place + 1) (reverse old))
     (kept_is : kept ≡ written ++ closed (place + 1) (reverse old))
     (few : length mid ≤ most_deep)
@@ -354,12 +352,12 @@ module _ (at : ℕ → ℕ) (total : ℕ) (row : Row) (place : ℕ) (old mid : L
       ap (λ n. length (still_open n (reverse old))) (omega arith) ∙ ap length (sym open_is) ∙ length-reverse mid in
       le-ltb most_deep (length (still_open (1 + place) (reverse old))) (omega arith)
 
-  abbrev Goes : List Open → List NodeRow → List Row → Type 0
+  abbrev Goes : List Open → List NodeRow → List NodeRow → Type 0
   Goes above nodes front =
       (nodes ++ from_right at total above front ≡ written ++ from_right at total (reverse old) (row ∷ front))
       × (is_deeper most_deep at total above front ≡ is_deeper most_deep at total (reverse old) (row ∷ front))
 
-  goes_open : (front : List Row) → length front ≡ place → Goes (inner ∷ reverse mid) kept front
+  goes_open : (front : List NodeRow) → length front ≡ place → Goes (inner ∷ reverse mid) kept front
   goes_open front e =
       let still : List Open = still_open (1 + length front) (reverse old) in
       let same : reverse mid ≡ still = open_is ∙ ap (λ n. still_open n (reverse old)) (omega arith) in
@@ -377,7 +375,7 @@ module _ (at : ℕ → ℕ) (total : ℕ) (row : Row) (place : ℕ) (old mid : L
   abbrev Went : List Open → List NodeRow → Type 0
   Went above nodes =
       (nat_lt most_deep (length (still_open (1 + place) (reverse old))) ≡ false)
-      × ((front : List Row) → length front ≡ place → Goes above nodes front)
+      × ((front : List NodeRow) → length front ≡ place → Goes above nodes front)
 
   -- its node stays open
   pub goes_on : (new : List Open) → new ≡ mid ++ (inner ∷ []) → Went (reverse new) kept
@@ -387,7 +385,7 @@ module _ (at : ℕ → ℕ) (total : ℕ) (row : Row) (place : ℕ) (old mid : L
 
   -- its node is written at once
   goes_written : (nodes : List NodeRow) → inner.start ≡ place → nodes ≡ kept ++ (inner.node ∷ [])
-      → (front : List Row) → length front ≡ place → Goes (reverse mid) nodes front
+      → (front : List NodeRow) → length front ≡ place → Goes (reverse mid) nodes front
   goes_written nodes here nodes_are front e =
       let le : length front ≤ inner.start = omega arith in
       let went = goes_open front e in (
@@ -402,7 +400,7 @@ module _ (at : ℕ → ℕ) (total : ℕ) (row : Row) (place : ℕ) (old mid : L
   goes_on_written nodes here nodes_are = (not_too_many, goes_written nodes here nodes_are)
 
 -- all rows of a tree read
-pub all_placed : (at : ℕ → ℕ) (tokens : ℕ) (kind : SyntaxKind) (kids : Forest) (below : List Row) (root : Row) (nodes : List NodeRow)
+pub all_placed : (at : ℕ → ℕ) (tokens : ℕ) (kind : SyntaxKind) (kids : Forest) (below : List NodeRow) (root : NodeRow) (nodes : List NodeRow)
     → below ++ (root ∷ []) ≡ rows (tree kind kids done) 0
     → is_deeper most_deep at root.first (root_open root.kind tokens (length below) ∷ []) (reverse below) ≡ false
     → nodes ≡ from_right at root.first (root_open root.kind tokens (length below) ∷ []) (reverse below)
@@ -416,7 +414,7 @@ pub carried : {B : Type 0} (deep same_deep : Bool) (Q : B → Type 0) (x : Synta
 carried deep same_deep Q x (Ok b) h same err is = cc
 carried deep same_deep Q x (Err e) h same err is = subst (λ d. IsDepthFault d e) same (subst (IsDepthFault deep) (sym is) h)
 
-module _ (at : ℕ → ℕ) (tokens : ℕ) (kind : SyntaxKind) (kids : Forest) (below rows_now : List Row) (root : Row) (none opened_root : List Open)
+module _ (at : ℕ → ℕ) (tokens : ℕ) (kind : SyntaxKind) (kids : Forest) (below rows_now : List NodeRow) (root : NodeRow) (none opened_root : List Open)
     (split : rows_now ≡ below ++ (root ∷ []))
     (are : rows_now ≡ rows (tree kind kids done) 0)
     (none_is : none ≡ [])

@@ -6,17 +6,17 @@ use Rattle.ssr_syntax_lex.specs.declared.kinds.SyntaxKind.{SyntaxKind}
 use Rattle.ssr_syntax.specs.declared.tokens.Token.{Token}
 use Rattle.ssr_syntax.specs.declared.goals.Goal.{Goal}
 use Rattle.ssr_syntax.specs.declared.goals.Fault.{Fault}
-use Rattle.ssr_syntax.specs.Kinds.{mem}
-use Rattle.ssr_syntax.specs.Trees.{Forest, done, join, spell, kinds}
-use Rattle.ssr_syntax.specs.Forms.{Form, one, child, mark, seal, ◌then◌, nothing, choose, many, look, check, Test, more, passes, agrees, FitsBelow, Step, Repeats, Fits, SoFar, so_far, ReadsBelow, read, past, first_leaf, repeat}
+use Rattle.ssr_syntax.specs.Trees.{Forest, done, join, spell}
+use Rattle.ssr_syntax.specs.Forms.{Form, one, child, mark, seal, ◌then◌, nothing, choose, many, look, check, Test, more, is_one, passes, agrees, holds, SoFar, so_far, ReadsBelow, read, past, first_leaf, repeat}
+use Rattle.ssr_syntax.proofs.Nested.{FitsBelow, Step, Repeats, Fits}
 use Rattle.ssr_syntax.proofs.Answers.{decide, bind_ok, ok_one}
 
 pub past_ok : (whole : Bool) (ks : List SyntaxKind) (ts rest : List Token) → past whole ks ts ≡ Ok rest
-    → (t : Token) × (us : List Token) × (ts ≡ t ∷ us) × (mem t.joined ks ≡ true)
+    → (t : Token) × (us : List Token) × (ts ≡ t ∷ us) × (is_one whole ks t ≡ true)
     × (more whole t ≤ length us) × (rest ≡ drop (more whole t) us)
 past_ok whole ks [] rest e = cc
 past_ok whole ks (t ∷ us) rest e =
-    elim (decide (mem t.joined ks)) [
+    elim (decide (is_one whole ks t)) [
       | inl hit ↦ elim (decide (nat_le (more whole t) (length us))) [
         | inl le ↦ (t, us, refl, hit, leb-true (more whole t) (length us) le, sym (ok_one (rw (hit, le) at e)))
         | inr miss ↦ absurd (cc (rw (hit, miss) at e))
@@ -104,8 +104,8 @@ sound fits below h (look want test) r s e =
       | inl hit ↦ subst (λ z. Takes (Fits fits (look want test)) r z) (ok_one (rw hit at e)) ([], refl, (refl, refl, hit))
       | inr miss ↦ absurd (cc (rw miss at e))
     ]
-sound fits below h (check holds) r s e =
-    elim (decide (holds (kinds r.made) (spell r.made))) [
-      | inl hit ↦ subst (λ z. Takes (Fits fits (check holds)) r z) (ok_one (rw hit at e)) ([], refl, (refl, refl, hit))
+sound fits below h (check condition) r s e =
+    elim (decide (holds condition (spell r.made))) [
+      | inl hit ↦ subst (λ z. Takes (Fits fits (check condition)) r z) (ok_one (rw hit at e)) ([], refl, (refl, refl, hit))
       | inr miss ↦ absurd (cc (rw miss at e))
     ]

@@ -1,8 +1,9 @@
 -- Laws of the reading of texts: its trees fit and spell the text, and what fits is read.
-use Rattle.std.proofs.Common.{◌≡◌, ℕ, zero, suc, ◌^◌, ◌<◌, ◌≤◌, Bool, true, false, ◌&&◌, if◌then◌else◌, List, length, Some, None, ◌⊎◌, inl, inr, refl, sym, ◌∙◌, ap, subst, arith}
+use Rattle.std.proofs.Common.{◌≡◌, ℕ, zero, suc, ◌^◌, ◌<◌, ◌≤◌, Bool, true, false, ◌&&◌, if◌then◌else◌, List, [], length, Some, None, ◌⊎◌, inl, inr, refl, sym, ◌∙◌, ap, subst, arith}
 use Rattle.std.specs.Prelude.{nat_lt, reverse, Option, Result, Ok, Err, IfOk}
+use Rattle.std.specs.Result.{IsErr, IsErrAnd}
 use Rattle.std.specs.Str.{IsUtf8}
-use Rattle.std.proofs.lemmas.Bool.{ltb-true, ltb-false, lt-ltb}
+use Rattle.std.proofs.lemmas.Bool.{ltb-true, ltb-false, lt-ltb, le-ltb}
 use Rattle.ssr_syntax_lex.specs.declared.kinds.SyntaxKind.{SyntaxKind}
 use Rattle.ssr_syntax_lex.specs.declared.tokens.RawToken.{RawToken}
 use Rattle.ssr_syntax_lex.specs.Tokens.{tokens, spell as spelled_by}
@@ -15,13 +16,15 @@ use Rattle.ssr_syntax.specs.declared.goals.Fault.{Fault}
 use Rattle.ssr_syntax.specs.declared.goals.Fault.TheVariants as faults
 use Rattle.ssr_syntax.specs.declared.syntax_error.SyntaxError.{SyntaxError}
 use Rattle.ssr_syntax.specs.declared.syntax_error.SyntaxError.TheVariants as errors
-use Rattle.ssr_syntax.specs.Trees.{Forest, done, leaf, tree, spell, IsShallow, height}
+use Rattle.ssr_syntax.specs.Trees.{Forest, done, leaf, tree, leaves, IsShallow, height}
 use Rattle.ssr_syntax.specs.Lossless.{whole_tree, IsTrimmed}
 use Rattle.ssr_syntax.specs.Preorder.{most_deep}
 use Rattle.ssr_syntax.specs.Solid.{solid_tokens}
-use Rattle.ssr_syntax.specs.Reading.{reading, most_levels, pieces, one_tree, tree_reading, lexed_reading, short_reading, file_reading, fragment_reading, trimmed, goal_of, begins_solid, error_of, Answers, AnswersTrimmed, FitsTokens, FitsFile, FitsFragment, IsTreeOfFile, IsTreeOfFragment, IsThatOrTooDeep}
-use Rattle.ssr_syntax.proofs.Laid.{AreOf, IsSingle}
+use Rattle.ssr_syntax.specs.Reading.{reading, most_levels, pieces, one_tree, tree_reading, lexed_reading, short_reading, file_reading, fragment_reading, trimmed, goal_of, begins_solid, error_of, Answers, AnswersTrimmed, FitsTokens, FitsFile, FitsFragment, IsTreeOfFile, IsTreeOfFragment, IsThatOrTooDeep, IsLexFault, Refuses}
+use Rattle.ssr_syntax.proofs.Laid.{AreSolid}
 use Rattle.ssr_syntax.proofs.Trimmed.{trimmed-whole, trimmed-root}
+use Rattle.ssr_syntax.specs.Grammar.{grammar}
+use Rattle.ssr_syntax.proofs.Nested.{goals_by_rules}
 use Rattle.ssr_syntax.proofs.Whole.{one_fits, reading_fits, reading_complete}
 use Rattle.ssr_syntax.proofs.Texts.{ReadsAs, is_read, read_given, reading_is, read_is, read_ok, read_too_deep, whole-depth, whole-source}
 
@@ -46,7 +49,7 @@ ok_tree w s false e h = (cc, ltb-false most_deep (depth_of w) e)
 
 abbrev IsWhole : List ℕ → List RawToken → Syntax → Type 0
 IsWhole text raw s =
-    (kind : SyntaxKind) × (kids : Forest) × IsSingle kids × AreOf (spell kids) (pieces text raw) × (whole_tree kind kids (pieces text raw) ≡ s)
+    (kind : SyntaxKind) × (kids : Forest) × AreSolid (leaves kids) × (whole_tree kind kids (pieces text raw) ≡ s)
 
 pub tokens_sound : (goal : Goal) (text : List ℕ) (raw : List RawToken) (s : Syntax) → spelled_by text raw ≡ text
     → tree_reading goal text raw ≡ Ok s
@@ -56,10 +59,16 @@ tokens_sound goal text raw s spells e =
     let r = is_read goal text raw was.0 was.1 in
     let w : Syntax = whole_tree r.0 r.1 (pieces text raw) in
     let t = ok_tree w s (nat_lt most_deep (depth_of w)) refl (sym (read_is goal text raw r.0 r.1 r.3) ∙ e) in (
-      (r.0, r.1, most_levels, reading_fits goal (solid_tokens raw) (tree r.0 r.1 done) r.3.reads, sym t.0),
-      ap source_of (sym t.0) ∙ whole-source text raw r.0 r.1 r.3.single r.3.are spells,
+      (
+        r.0,
+        r.1,
+        goals_by_rules grammar most_levels goal (tree r.0 r.1 done) (solid_tokens raw) []
+            (reading_fits goal (solid_tokens raw) (tree r.0 r.1 done) r.3.reads),
+        sym t.0,
+      ),
+      ap source_of (sym t.0) ∙ whole-source text raw r.0 r.1 r.3.are_solid spells,
       subst (λ v. depth_of v ≤ most_deep) t.0 t.1,
-      (r.0, r.1, r.3.single, r.3.are, t.0),
+      (r.0, r.1, r.3.are_solid, t.0),
     )
 
 -- ** What fits is read.
@@ -81,9 +90,9 @@ deeper_than kind kids false e h = absurd (h (shallow most_deep kids (ltb-false m
 
 pub tokens_complete : (goal : Goal) (text : List ℕ) (raw : List RawToken) (s : Syntax) → FitsTokens goal text raw s
     → Told (tree_reading goal text raw) s
-tokens_complete goal text raw s (kind, kids, n, fits, is) =
+tokens_complete goal text raw s (kind, kids, fits, is) =
     subst (Told (tree_reading goal text raw)) (sym is)
-    (elim (reading_complete goal (solid_tokens raw) (tree kind kids done) n fits) [
+    (elim (reading_complete goal (solid_tokens raw) (tree kind kids done) fits) [
       | inl e ↦ told_whole goal text raw kind kids (nat_lt most_deep (height kids)) (read_given goal text raw kind kids e) refl
       | inr e ↦ inr (
         reading_is goal text raw (Err faults.TooDeep) e.0,
@@ -116,6 +125,31 @@ reads_short read inner text raw lt e =
 spells_text : (text : List ℕ) (raw : List RawToken) → IsUtf8 text → tokens text ≡ Some raw → spelled_by text raw ≡ text
 spells_text text raw utf8 e = tiles_spell text raw (tokens_tile text raw utf8 e)
 
+-- why a text isn't lexed is why it isn't read
+fault_refused : (read : List RawToken → Result Syntax SyntaxError) (text : List ℕ) (e : SyntaxError) → IsLexFault text e
+    → Refuses e (short_reading (lexed_reading read text) text) text
+fault_refused read text errors.Lex h = (
+  λ is. h.0,
+  λ no. ap (λ b. if b then lexed_reading read text else Err errors.TooLong) (lt-ltb (length text) (2 ^ 32) h.0)
+      ∙ ap (elim [ None ↦ Err errors.Lex | Some ts ↦ read ts ]) h.1,
+)
+fault_refused read text errors.TooLong h =
+    (λ is. cc, λ no. ap (λ b. if b then lexed_reading read text else Err errors.TooLong) (le-ltb (length text) (2 ^ 32) h))
+fault_refused read text errors.Memory h = (λ is. h, λ no. absurd (no refl))
+fault_refused read text errors.NoTree h = absurd h
+fault_refused read text errors.TooDeep h = absurd h
+
+-- the same of a text that is read as another is, and of one that is too long
+pub as_refused : (e : SyntaxError) (read other : Result Syntax SyntaxError) (inner text : List ℕ) → length text < 2 ^ 32 → other ≡ read
+    → Refuses e read inner → Refuses e other text
+as_refused e read other inner text lt same h = (λ is. lt, λ no. same ∙ h.1 no)
+
+too_long : (read : Result Syntax SyntaxError) (text : List ℕ) (e : SyntaxError) → (e ≡ errors.TooLong) × (2 ^ 32 ≤ length text)
+    → Refuses e (short_reading read text) text
+too_long read text e h =
+    subst (λ x. Refuses x (short_reading read text) text) (sym h.0)
+    (λ is. cc, λ no. ap (λ b. if b then read else Err errors.TooLong) (le-ltb (length text) (2 ^ 32) h.1))
+
 -- ** Files.
 
 pub file_sound : (text : List ℕ) (s : Syntax) → IsUtf8 text → file_reading text ≡ Ok s → IsTreeOfFile text s
@@ -129,12 +163,32 @@ file_sound text s utf8 e =
       fits = (raw, l.1.1, t.0);
       spells = t.1;
       shallow = t.2;
-      trimmed_nodes = subst (λ v. IsTrimmed v.children) t.3.4 (trimmed-whole t.3.0 t.3.1 (pieces text raw) t.3.2 t.3.3);
+      trimmed_nodes = subst (λ v. IsTrimmed v.children) t.3.3 (trimmed-whole t.3.0 t.3.1 (pieces text raw) t.3.2);
     }
 
-pub file_answers : (text : List ℕ) (r : Result Syntax SyntaxError) → IsUtf8 text → Answers r (file_reading text) → IfOk r (IsTreeOfFile text)
+pub file_answers : (text : List ℕ) (r : Result Syntax SyntaxError) → IsUtf8 text → Answers r (file_reading text) text → IfOk r (IsTreeOfFile text)
 file_answers text (Ok s) utf8 h = file_sound text s utf8 h
 file_answers text (Err e) utf8 h = tt
+
+pub file_fault : (text given : List ℕ) (e : SyntaxError) → given ≡ text → IsLexFault given e → Refuses e (file_reading text) text
+unfolding file_reading
+file_fault text given e same h =
+    subst (λ t. Refuses e (short_reading (lexed_reading (tree_reading goals.File t) t) t) t) same
+    (fault_refused (tree_reading goals.File given) given e h)
+
+pub file_too_long : (text : List ℕ) (e : SyntaxError) → (e ≡ errors.TooLong) × (2 ^ 32 ≤ length text) → Refuses e (file_reading text) text
+unfolding file_reading
+file_too_long text e h = too_long (lexed_reading (tree_reading goals.File text) text) text e h
+
+read_alike : (r read other : Result Syntax SyntaxError) (text : List ℕ) → other ≡ read → Answers r read text → Answers r other text
+read_alike r read other text same h = subst (λ w. Answers r w text) (sym same) h
+
+pub file_lexed : (text given : List ℕ) (raw : List RawToken) (r : Result Syntax SyntaxError) → given ≡ text → length given < 2 ^ 32
+    → tokens given ≡ Some raw → Answers r (tree_reading goals.File text raw) text → Answers r (file_reading text) text
+unfolding file_reading
+file_lexed text given raw r same lt e h =
+    read_alike r (tree_reading goals.File text raw) (short_reading (lexed_reading (tree_reading goals.File text) text) text) text
+    (reads_short (tree_reading goals.File text) text text raw (subst (λ t. length t < 2 ^ 32) same lt) (ap tokens (sym same) ∙ e)) h
 
 told_ok : (read : Result Syntax SyntaxError) (s v : Syntax) → Told read s → read ≡ Ok v → v ≡ s
 told_ok read s v (inl k) h = cc (h, k)
@@ -150,9 +204,9 @@ file_told text s lt (raw, e, fits) =
     subst (λ w. Told w s) (sym (reads_short (tree_reading goals.File text) text text raw lt e)) (tokens_complete goals.File text raw s fits)
 
 pub file_complete : (text : List ℕ) (s : Syntax) (r : Result Syntax SyntaxError) → length text < 2 ^ 32 → FitsFile text s
-    → Answers r (file_reading text) → IsThatOrTooDeep (λ v. v) s r
+    → Answers r (file_reading text) text → IsThatOrTooDeep (λ v. v) s r
 file_complete text s (Ok v) lt fits h = told_ok (file_reading text) s v (file_told text s lt fits) h
-file_complete text s (Err x) lt fits h = λ m. told_err (file_reading text) s x (file_told text s lt fits) (h m)
+file_complete text s (Err x) lt fits h = λ m. told_err (file_reading text) s x (file_told text s lt fits) (h.1 m)
 
 -- ** Fragments.
 
@@ -180,7 +234,7 @@ fragment_sound fragment text s utf8 e =
       fits = (raw, l.1.1, was.0, t.0);
       spells = t.1;
       shallow = t.2;
-      trimmed_nodes = subst (λ v. IsTrimmed (branch v.kind v.children nothing)) t.3.4 (trimmed-root inner raw t.3.0 t.3.1 t.3.2 t.3.3 was.0);
+      trimmed_nodes = subst (λ v. IsTrimmed (branch v.kind v.children nothing)) t.3.3 (trimmed-root inner raw t.3.0 t.3.1 t.3.2 was.0);
     }
 
 pub fragment_answers : (fragment : Fragment) (text : List ℕ) (r : Result (Syntax × ℕ) SyntaxError) → IsUtf8 (trimmed text)
@@ -201,7 +255,60 @@ fragment_told fragment text s lt (raw, e, outside, fits) =
 pub fragment_complete : (fragment : Fragment) (text : List ℕ) (s : Syntax) (r : Result (Syntax × ℕ) SyntaxError) → length text < 2 ^ 32
     → FitsFragment fragment text s → AnswersTrimmed r (fragment_reading fragment text) text → IsThatOrTooDeep (λ v. v.0) s r
 fragment_complete fragment text s (Ok v) lt fits h = told_ok (fragment_reading fragment text) s v.0 (fragment_told fragment text s lt fits) h.0
-fragment_complete fragment text s (Err x) lt fits h = λ m. told_err (fragment_reading fragment text) s x (fragment_told fragment text s lt fits) (h m)
+fragment_complete fragment text s (Err x) lt fits h = λ m. told_err (fragment_reading fragment text) s x (fragment_told fragment text s lt fits) (h.1 m)
+
+pub fragment_too_long : (fragment : Fragment) (text : List ℕ) (e : SyntaxError) → (e ≡ errors.TooLong) × (2 ^ 32 ≤ length text)
+    → Refuses e (fragment_reading fragment text) text
+unfolding fragment_reading
+fragment_too_long fragment text e h =
+    too_long (lexed_reading (fragment_reads fragment (trimmed text)) (trimmed text)) text e h
+
+-- a short text is read as its inner one is
+short_is : (read : Result Syntax SyntaxError) (text : List ℕ) → length text < 2 ^ 32 → short_reading read text ≡ read
+short_is read text lt = ap (λ b. if b then read else Err errors.TooLong) (lt-ltb (length text) (2 ^ 32) lt)
+
+pub fragment_fault : (fragment : Fragment) (text inner : List ℕ) (e : SyntaxError) → inner ≡ trimmed text → length text < 2 ^ 32
+    → length inner ≤ length text → IsLexFault inner e → Refuses e (fragment_reading fragment text) text
+unfolding fragment_reading
+fragment_fault fragment text inner e same lt le h =
+    let reads : Result Syntax SyntaxError = lexed_reading (fragment_reads fragment (trimmed text)) (trimmed text) in
+    let shorter : length (trimmed text) < 2 ^ 32 = subst (λ t. length t < 2 ^ 32) same (omega (arith, lt, le)) in
+    as_refused e (short_reading reads (trimmed text)) (short_reading reads text) (trimmed text) text lt
+    (short_is reads text lt ∙ sym (short_is reads (trimmed text) shorter))
+    (fault_refused (fragment_reads fragment (trimmed text)) (trimmed text) e (subst (λ t. IsLexFault t e) same h))
+
+-- what a fragment's tokens are read as
+abbrev outside : List RawToken → Bool
+outside raw = begins_solid raw && begins_solid (reverse raw)
+
+fragment_lexed : (fragment : Fragment) (text inner : List ℕ) (raw : List RawToken) → inner ≡ trimmed text → length text < 2 ^ 32
+    → tokens inner ≡ Some raw → fragment_reading fragment text ≡ fragment_reads fragment (trimmed text) raw
+unfolding fragment_reading
+fragment_lexed fragment text inner raw same lt e =
+    reads_short (fragment_reads fragment (trimmed text)) (trimmed text) text raw lt (ap tokens (sym same) ∙ e)
+
+pub fragment_comment : (fragment : Fragment) (text inner : List ℕ) (raw given : List RawToken) → inner ≡ trimmed text → length text < 2 ^ 32
+    → tokens inner ≡ Some raw → given ≡ raw → false ≡ outside given → Refuses errors.NoTree (fragment_reading fragment text) text
+fragment_comment fragment text inner raw given same lt e f comment =
+    let no_tree : outside raw ≡ false = ap outside (sym f) ∙ sym comment in (
+      λ is. lt,
+      λ other. fragment_lexed fragment text inner raw same lt e
+          ∙ ap (λ b. if b then tree_reading (goal_of fragment) (trimmed text) raw else Err errors.NoTree) no_tree,
+    )
+
+pub fragment_read : (fragment : Fragment) (text inner source : List ℕ) (raw given : List RawToken) → inner ≡ trimmed text → length text < 2 ^ 32
+    → tokens inner ≡ Some raw → given ≡ raw → true ≡ outside given → source ≡ inner
+    → fragment_reading fragment text ≡ tree_reading (goal_of fragment) source raw
+fragment_read fragment text inner source raw given same lt e f sides copy =
+    fragment_lexed fragment text inner raw same lt e
+    ∙ ap (λ b. if b then tree_reading (goal_of fragment) (trimmed text) raw else Err errors.NoTree) (ap outside (sym f) ∙ sym sides)
+    ∙ ap (λ t. tree_reading (goal_of fragment) t raw) (sym (copy ∙ same))
+
+-- a fault is told on
+pub trimmed_told : (x : SyntaxError) (r : Result (Syntax × ℕ) SyntaxError) (read : Result Syntax SyntaxError) (text : List ℕ) → IsErr r
+    → IsErrAnd r (λ e. e ≡ x) → Refuses x read text → AnswersTrimmed r read text
+trimmed_told x (Ok answer) read text err is h = cc
+trimmed_told x (Err e) read text err is h = subst (λ y. Refuses y read text) (sym is) h
 
 -- ** At most one tree fits.
 
@@ -214,8 +321,8 @@ node_parts P kind other kids below e h =
 
 one_tokens : (goal : Goal) (text : List ℕ) (raw : List RawToken) (a b : Syntax)
     → FitsTokens goal text raw a → FitsTokens goal text raw b → a ≡ b
-one_tokens goal text raw a b (kind, kids, n, f, e) (other, below, m, g, d) =
-    let same = one_fits goal (solid_tokens raw) (tree kind kids done) (tree other below done) n m f g in
+one_tokens goal text raw a b (kind, kids, f, e) (other, below, g, d) =
+    let same = one_fits goal (solid_tokens raw) (tree kind kids done) (tree other below done) f g in
     e
     ∙ node_parts (λ k l. whole_tree kind kids (pieces text raw) ≡ whole_tree k l (pieces text raw)) kind other kids below same refl
     ∙ sym d

@@ -1,20 +1,19 @@
 -- No node below the root begins or ends with white space or a comment.
-use Rattle.std.proofs.Common.{◌≡◌, ℕ, suc, true, false, ◌&&◌, if◌then◌else◌, List, [], ◌∷◌, ◌++◌, length, refl, sym, ◌∙◌, ap, subst}
+use Rattle.std.proofs.Common.{◌≡◌, ℕ, zero, suc, ◌+◌, true, false, ◌&&◌, if◌then◌else◌, List, [], ◌∷◌, ◌++◌, length, refl, sym, ◌∙◌, ap, arith}
 use Rattle.std.specs.Prelude.{reverse}
-use Rattle.std.specs.Bool.{MatchBool}
-use Rattle.std.proofs.lemmas.List.{reverse-append, reverse-reverse, map-append}
+use Rattle.std.proofs.lemmas.List.{append-nil, reverse-append, reverse-reverse, map-append}
 use Rattle.ssr_syntax_lex.specs.declared.kinds.SyntaxKind.{SyntaxKind}
 use Rattle.ssr_syntax_lex.specs.Kinds.{is_trivia}
 use Rattle.ssr_syntax_lex.specs.Tokens.{token_text}
 use Rattle.ssr_syntax_lex.specs.declared.tokens.RawToken.{RawToken}
 use Rattle.ssr_syntax_tree.specs.Syntax as plain
-use Rattle.ssr_syntax.specs.declared.tokens.Token.{Token}
+use Rattle.ssr_syntax.specs.declared.rows.Taken.{Taken}
 use Rattle.ssr_syntax.specs.Trees as solid
-use Rattle.ssr_syntax.specs.Lossless.{trivia, behind_trivia, gap, behind_gap, upto, past, before, behind, lossless, whole_tree, begins_with_trivia, IsTrimmed}
+use Rattle.ssr_syntax.specs.Lossless.{trivia, gap, behind_gap, upto, past, before, behind, lossless, whole_tree, begins_with_trivia, IsTrimmed}
 use Rattle.ssr_syntax.specs.Reading.{pieces, begins_solid}
 use Rattle.ssr_syntax.proofs.Answers.{both, flipped}
+use Rattle.ssr_syntax.proofs.Laid.{AreSolid, total, total-leaves, token_of, laid, all_laid, solid-append, gap-behind, past-zero, upto-past, tokens-lossless}
 use Rattle.ssr_syntax.proofs.Texts.{whole-tokens}
-use Rattle.ssr_syntax.proofs.Laid.{AreOf, IsSingle, by_kind, upto-zero, next_is, are_here, are_past, are_behind_gap, tokens-lossless}
 
 trimmed-before : (ts : List plain.Token) (x : plain.Forest) → IsTrimmed x → IsTrimmed (before ts x)
 trimmed-before [] x h = h
@@ -36,51 +35,54 @@ ends_solid : (t : plain.Token) (l : List plain.Token) → begins_with_trivia (re
 ends_solid t l h alone =
     ap begins_with_trivia (reverse-append (t ∷ []) l) ∙ from_right t l (reverse l) refl h alone
 
-some_upto : (u : Token) (us : List Token) (ts : List plain.Token) → AreOf (u ∷ us) ts → upto (suc (length us)) ts ≡ [] → ⊥
-some_upto u us [] are e = cc
-some_upto u us (t ∷ ts) are e = cc
+-- others in front change nothing
+last_behind : (front : List plain.Token) (t : plain.Token) (ts : List plain.Token) → begins_with_trivia (reverse (t ∷ ts)) ≡ false
+    → begins_with_trivia (reverse (front ++ (t ∷ ts))) ≡ false
+last_behind [] t ts h = h
+last_behind (s ∷ front) t ts h = ends_solid s (front ++ (t ∷ ts)) (last_behind front t ts h) (λ none. absurd (some front none)) where
+  some : (front : List plain.Token) → front ++ (t ∷ ts) ≡ [] → ⊥
+  some [] e = cc
+  some (s ∷ front) e = cc
 
-last_solid : (us : List Token) (ts : List plain.Token) → AreOf us ts → begins_with_trivia (reverse (upto (length us) ts)) ≡ false
-last_solid [] ts are = ap (λ l. begins_with_trivia (reverse l)) (upto-zero ts)
-last_solid (u ∷ us) [] are = cc
-last_solid (u ∷ us) (t ∷ ts) are =
-    by_kind (λ b. MatchBool b (AreOf (u ∷ us) ts) ((u.kind ≡ t.kind) × AreOf us ts)
-    → begins_with_trivia (reverse (t ∷ upto (if b then suc (length us) else length us) ts)) ≡ false) t
-    (λ e k. ends_solid t (upto (suc (length us)) ts) (last_solid (u ∷ us) ts k) (λ none. absurd (some_upto u us ts k none)))
-    (λ e k. ends_solid t (upto (length us) ts) (last_solid us ts k.1) (λ none. e))
-    are
+-- the last and the first token that is taken
+last_solid : (us : List Taken) (ts : List plain.Token) → AreSolid us → begins_with_trivia (reverse (laid us ts)) ≡ false
+last_solid [] ts h = refl
+last_solid (u ∷ us) ts h =
+    let rest = laid us (past u.size ts) in
+    last_behind (gap u.size ts) (token_of u ts) rest
+    (ends_solid (token_of u ts) rest (last_solid us (past u.size ts) h.2) (λ none. h.1))
 
-first_solid : (us : List Token) (ts : List plain.Token) → AreOf us ts → begins_with_trivia (upto (length us) (behind_gap (length us) ts)) ≡ false
-first_solid [] ts are = ap begins_with_trivia (upto-zero ts)
-first_solid (u ∷ us) ts are =
-    let next = next_is u us ts are in
-    ap (λ l. begins_with_trivia (upto (suc (length us)) l)) next.2 ∙ next.3
+first_solid : (n : ℕ) (us : List Taken) (ts : List plain.Token) → AreSolid us → n ≡ total us
+    → begins_with_trivia (laid us (behind_gap n ts)) ≡ false
+first_solid n [] ts h e = refl
+first_solid n (u ∷ us) ts h e =
+    let b = behind_gap n ts in
+    ap (λ g. begins_with_trivia (g ++ (token_of u b ∷ laid us (past u.size b)))) (gap-behind u.size n ts h.0 (omega (arith, h.0)))
+    ∙ h.1
 
-pub trimmed-lossless : (f : solid.Forest) (ts : List plain.Token) → IsSingle f → AreOf (solid.spell f) ts → IsTrimmed (lossless f ts)
-trimmed-lossless solid.done ts single are = tt
-trimmed-lossless (solid.leaf kind tokens x) ts ((u, one, same), single) are =
-    let P : List Token → Type 0 = λ us. AreOf (us ++ solid.spell x) ts → IsTrimmed (lossless (solid.leaf kind us x) ts) in
-    subst P (sym one)
-    (λ is. trimmed-before (trivia ts) (plain.leaf (record { kind = kind; text = plain.spelled (upto 1 (behind_trivia ts)) }) (lossless x (past 1 ts)))
-    (trimmed-lossless x (past 1 ts) single (are_past (u ∷ []) (solid.spell x) ts is)))
-    are
-trimmed-lossless (solid.tree kind kids x) ts single are =
-    let us = solid.spell kids in
-    let n = length us in
-    let here = are_here us (solid.spell x) ts are in
-    let inner = are_behind_gap us ts here in
-    let tokens = tokens-lossless kids (behind_gap n ts) single.0 inner in
-    trimmed-before (gap n ts) (plain.branch kind (lossless kids (behind_gap n ts)) (lossless x (past n ts))) (
-      ap begins_with_trivia tokens ∙ first_solid us ts here,
-      ap (λ l. begins_with_trivia (reverse l)) tokens ∙ last_solid us (behind_gap n ts) inner,
-      trimmed-lossless kids (behind_gap n ts) single.0 inner,
-      trimmed-lossless x (past n ts) single.1 (are_past us (solid.spell x) ts are),
+pub trimmed-lossless : (f : solid.Forest) (ts : List plain.Token) → AreSolid (solid.leaves f) → IsTrimmed (lossless f ts)
+trimmed-lossless solid.done ts h = tt
+trimmed-lossless (solid.leaf kind tokens x) ts h =
+    let n = length tokens in
+    let token : plain.Token = record { kind = kind; text = plain.spelled (upto n (behind_gap n ts)) } in
+    trimmed-before (gap n ts) (plain.leaf token (lossless x (past n ts))) (trimmed-lossless x (past n ts) h.2)
+trimmed-lossless (solid.tree kind kids x) ts h =
+    let us = solid.leaves kids in
+    let n = length (solid.spell kids) in
+    let inner = behind_gap n ts in
+    let parts = solid-append us (solid.leaves x) h in
+    let tokens = tokens-lossless kids inner parts.0 in
+    trimmed-before (gap n ts) (plain.branch kind (lossless kids inner) (lossless x (past n ts))) (
+      ap begins_with_trivia tokens ∙ first_solid n us ts parts.0 (sym (total-leaves kids)),
+      ap (λ l. begins_with_trivia (reverse l)) tokens ∙ last_solid us inner parts.0,
+      trimmed-lossless kids inner parts.0,
+      trimmed-lossless x (past n ts) parts.1,
     )
 
-pub trimmed-whole : (kind : SyntaxKind) (kids : solid.Forest) (ts : List plain.Token) → IsSingle kids → AreOf (solid.spell kids) ts
+pub trimmed-whole : (kind : SyntaxKind) (kids : solid.Forest) (ts : List plain.Token) → AreSolid (solid.leaves kids)
     → IsTrimmed (plain.Syntax.children (whole_tree kind kids ts))
-trimmed-whole kind kids ts single are =
-    trimmed-behind (lossless kids ts) (past (length (solid.spell kids)) ts) (trimmed-lossless kids ts single are)
+trimmed-whole kind kids ts are =
+    trimmed-behind (lossless kids ts) (past (length (solid.spell kids)) ts) (trimmed-lossless kids ts are)
 
 -- ** The root of a fragment.
 
@@ -97,14 +99,58 @@ begins : (text : List ℕ) (raw : List RawToken) → begins_solid raw ≡ true �
 begins text [] h = refl
 begins text (t ∷ ts) h = flipped (is_trivia t.kind) h
 
-pub trimmed-root : (text : List ℕ) (raw : List RawToken) (kind : SyntaxKind) (kids : solid.Forest) → IsSingle kids → AreOf (solid.spell kids) (pieces text raw)
+-- the text's tokens begin and end with solid ones
+pub solid_sides : (text : List ℕ) (raw : List RawToken) → (begins_solid raw && begins_solid (reverse raw)) ≡ true
+    → (begins_with_trivia (pieces text raw) ≡ false) × (begins_with_trivia (reverse (pieces text raw)) ≡ false)
+solid_sides text raw outside =
+    let sides = both (begins_solid raw) (begins_solid (reverse raw)) outside in
+    (begins text raw sides.0, ap begins_with_trivia (reversed_pieces text raw) ∙ begins text (reverse raw) sides.1)
+
+no_trivia : (n : ℕ) (ts : List plain.Token) → begins_with_trivia ts ≡ false → gap n ts ≡ []
+no_trivia zero ts h = refl
+no_trivia (suc n) [] h = refl
+no_trivia (suc n) (t ∷ ts) h = ap (λ b. if b then t ∷ trivia ts else []) h
+
+all_begin : (us : List Taken) (ts : List plain.Token) → AreSolid us → begins_with_trivia ts ≡ false → begins_with_trivia (all_laid us ts) ≡ false
+all_begin [] ts h e = ap begins_with_trivia (past-zero ts) ∙ e
+all_begin (u ∷ us) ts h e =
+    ap (λ g. begins_with_trivia ((g ++ (token_of u ts ∷ laid us (past u.size ts))) ++ past (u.size + total us) ts)) (no_trivia u.size ts e)
+    ∙ h.1
+
+-- the last of some tokens is that of those at the end
+last_alike : (front : List plain.Token) (t : plain.Token) (ts : List plain.Token)
+    → begins_with_trivia (reverse (front ++ (t ∷ ts))) ≡ begins_with_trivia (reverse (t ∷ ts))
+last_alike front t ts =
+    let turned : reverse (t ∷ ts) ≡ reverse ts ++ (t ∷ []) = reverse-append (t ∷ []) ts in
+    ap begins_with_trivia (reverse-append front (t ∷ ts) ∙ ap (λ l. l ++ reverse front) turned)
+    ∙ first (reverse ts) (reverse front)
+    ∙ ap begins_with_trivia (sym turned) where
+      first : (l r : List plain.Token) → begins_with_trivia ((l ++ (t ∷ [])) ++ r) ≡ begins_with_trivia (l ++ (t ∷ []))
+      first [] r = refl
+      first (s ∷ l) r = refl
+
+all_end : (us : List Taken) (ts outside : List plain.Token) → AreSolid us → past (total us) ts ≡ outside
+    → begins_with_trivia (reverse ts) ≡ false → begins_with_trivia (reverse (all_laid us ts)) ≡ false
+all_end us ts [] h e end =
+    ap (λ l. begins_with_trivia (reverse (laid us ts ++ l))) e
+    ∙ ap (λ l. begins_with_trivia (reverse l)) (append-nil (laid us ts)) ∙ last_solid us ts h
+all_end us ts (t ∷ outside) h e end =
+    let n = total us in
+    let all : upto n ts ++ (t ∷ outside) ≡ ts = ap (λ l. upto n ts ++ l) (sym e) ∙ upto-past n ts in
+    ap (λ l. begins_with_trivia (reverse (laid us ts ++ l))) e
+    ∙ last_behind (laid us ts) t outside
+    (sym (last_alike (upto n ts) t outside) ∙ ap (λ l. begins_with_trivia (reverse l)) all ∙ end)
+
+pub trimmed-root : (text : List ℕ) (raw : List RawToken) (kind : SyntaxKind) (kids : solid.Forest) → AreSolid (solid.leaves kids)
     → (begins_solid raw && begins_solid (reverse raw)) ≡ true
     → IsTrimmed (plain.branch kind (plain.Syntax.children (whole_tree kind kids (pieces text raw))) plain.nothing)
-trimmed-root text raw kind kids single are outside =
-    let sides = both (begins_solid raw) (begins_solid (reverse raw)) outside in
-    let tokens = whole-tokens kind kids (pieces text raw) single are in (
-      ap begins_with_trivia tokens ∙ begins text raw sides.0,
-      ap (λ l. begins_with_trivia (reverse l)) tokens ∙ ap begins_with_trivia (reversed_pieces text raw) ∙ begins text (reverse raw) sides.1,
-      trimmed-whole kind kids (pieces text raw) single are,
+trimmed-root text raw kind kids are outside =
+    let us = solid.leaves kids in
+    let ts = pieces text raw in
+    let sides = solid_sides text raw outside in
+    let tokens = whole-tokens kind kids ts are in (
+      ap begins_with_trivia tokens ∙ all_begin us ts are sides.0,
+      ap (λ l. begins_with_trivia (reverse l)) tokens ∙ all_end us ts (past (total us) ts) are refl sides.1,
+      trimmed-whole kind kids ts are,
       tt,
     )

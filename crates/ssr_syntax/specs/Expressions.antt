@@ -1,69 +1,76 @@
 -- Forms of expressions.
-use Rattle.std.specs.Prelude.{List, [], ◌∷◌}
+use Rattle.std.specs.Prelude.{ℕ, zero, suc, List, [], ◌∷◌}
 use Rattle.ssr_syntax_lex.specs.declared.kinds.SyntaxKind.{SyntaxKind}
-use Rattle.ssr_syntax_lex.specs.declared.kinds.SyntaxKind.TheVariants.{INT_NUMBER, FLOAT_NUMBER, STRING, BYTE_STRING, C_STRING, BYTE, CHAR, TRUE_KW, FALSE_KW, IDENT, L_PAREN, R_PAREN, L_CURLY, R_CURLY, STAR, SLASH, PERCENT, PLUS, MINUS, LITERAL, PATH_EXPR, PAREN_EXPR, BIN_EXPR, STMT_LIST, BLOCK_EXPR}
-use Rattle.ssr_syntax.specs.declared.goals.Rank.{Rank}
-use Rattle.ssr_syntax.specs.declared.goals.Rank.TheVariants.{Atom, Product, Sum}
+use Rattle.ssr_syntax_lex.specs.declared.kinds.SyntaxKind.TheVariants as k
 use Rattle.ssr_syntax.specs.declared.goals.Goal.TheVariants.{Expr, Operand}
-use Rattle.ssr_syntax.specs.Forms.{Form, child, mark, seal, ◌then◌, choose, many, a, any, at, optional}
+use Rattle.ssr_syntax.specs.Forms.{Form, child, mark, seal, ◌then◌, choose, a, any, at, optional, repeated}
 use Rattle.ssr_syntax.specs.Paths.{path}
 
 -- the tokens that are literals
 abbrev pub literals : List SyntaxKind
 literals =
-    INT_NUMBER ∷ FLOAT_NUMBER ∷ STRING ∷ BYTE_STRING ∷ C_STRING ∷ BYTE ∷ CHAR ∷ TRUE_KW ∷ FALSE_KW ∷ []
+    k.INT_NUMBER ∷ k.FLOAT_NUMBER ∷ k.STRING ∷ k.BYTE_STRING ∷ k.C_STRING ∷ k.BYTE ∷ k.CHAR ∷ k.TRUE_KW ∷ k.FALSE_KW ∷ []
 
 unfoldable pub literal : Form
-literal = any literals then seal LITERAL
+literal = any literals then seal k.LITERAL
 
 unfoldable pub path_expr : Form
-path_expr = mark path then seal PATH_EXPR
+path_expr = mark path then seal k.PATH_EXPR
 
 unfoldable pub paren_expr : Form
-paren_expr = a L_PAREN then child Expr then a R_PAREN then seal PAREN_EXPR
+paren_expr = a k.L_PAREN then child Expr then a k.R_PAREN then seal k.PAREN_EXPR
 
 unfoldable pub atom : Form
 atom =
-    choose (at (IDENT ∷ [])) (mark path_expr)
+    choose (at (k.IDENT ∷ [])) (mark path_expr)
     (choose (at literals) (mark literal)
     (mark paren_expr))
 
--- the operators that bind as tightly as the rank
-abbrev pub operators : Rank → List SyntaxKind
-operators Atom = []
-operators Product = STAR ∷ SLASH ∷ PERCENT ∷ []
-operators Sum = PLUS ∷ MINUS ∷ []
+-- ** Operators.
 
--- the rank of what stands to their right
-abbrev pub tighter : Rank → Rank
-tighter Atom = Atom
-tighter Product = Atom
-tighter Sum = Product
+-- those that bind as tightly as one another in a row, the tightest first
+abbrev pub ranks : List (List SyntaxKind)
+ranks =
+    (k.STAR ∷ k.SLASH ∷ k.PERCENT ∷ [])
+    ∷ (k.PLUS ∷ k.MINUS ∷ [])
+    ∷ (k.EQ2 ∷ k.NEQ ∷ k.L_ANGLE ∷ k.R_ANGLE ∷ k.LTEQ ∷ k.GTEQ ∷ [])
+    ∷ []
 
--- an operator of the rank and its right operand; all since the mark is the left operand
-abbrev pub operation : Rank → Form
-operation rank = any (operators rank) then child (Operand (tighter rank)) then seal BIN_EXPR
+-- the row of that number, if there is one
+abbrev pub row : ℕ → List (List SyntaxKind) → List SyntaxKind
+row r [] = []
+row zero (ks ∷ rows) = ks
+row (suc r) (ks ∷ rows) = row r rows
 
-unfoldable pub operations : Rank → Form
-operations rank = many (at (operators rank)) (operation rank)
+unfoldable pub operators : ℕ → List SyntaxKind
+operators r = row r ranks
 
-unfoldable pub product : Form
-product = atom then operations Product
+-- an operator of the rank and its right operand, which binds tighter; all since the mark is the left operand
+unfoldable pub operation : ℕ → Form
+operation r = any (operators r) then child (Operand r) then seal k.BIN_EXPR
 
-unfoldable pub sum : Form
-sum = product then operations Sum
+unfoldable pub operations : ℕ → Form
+operations r = repeated (operators r) (operation r)
 
-abbrev pub operand : Rank → Form
-operand Atom = atom
-operand Product = product
-operand Sum = sum
+-- an expression whose operators outside parentheses are of so many ranks, the tightest
+unfoldable pub operand : ℕ → Form
+operand zero = atom
+operand (suc r) = operand r then operations r
+
+-- no more ranks than there are rows
+abbrev pub at_most : ℕ → List (List SyntaxKind) → ℕ
+at_most r [] = zero
+at_most zero (ks ∷ rows) = zero
+at_most (suc r) (ks ∷ rows) = suc (at_most r rows)
+
+-- ** Blocks.
 
 -- what an expression begins with
-abbrev pub expr_first : List SyntaxKind
-expr_first = IDENT ∷ L_PAREN ∷ literals
+unfoldable pub expr_first : List SyntaxKind
+expr_first = k.IDENT ∷ k.L_PAREN ∷ literals
 
 unfoldable pub stmt_list : Form
-stmt_list = a L_CURLY then optional expr_first (child Expr) then a R_CURLY then seal STMT_LIST
+stmt_list = a k.L_CURLY then optional expr_first (child Expr) then a k.R_CURLY then seal k.STMT_LIST
 
 unfoldable pub block_expr : Form
-block_expr = mark stmt_list then seal BLOCK_EXPR
+block_expr = mark stmt_list then seal k.BLOCK_EXPR

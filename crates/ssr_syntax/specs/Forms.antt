@@ -1,20 +1,34 @@
--- Forms: the grammar as data. What fits a form, and how a form is read.
-use Rattle.std.specs.Prelude.{◌≡◌, ℕ, zero, suc, ◌+◌, ◌-◌, Bool, true, false, not, ◌&&◌, nat_le, if◌then◌else◌, List, [], ◌∷◌, ◌++◌, length, take, drop, Result, Ok, Err, ◌⊎◌}
+-- Forms: the grammar as data, and how a form is read.
+use Rattle.std.specs.Prelude.{ℕ, zero, suc, ◌+◌, ◌-◌, Bool, true, false, not, ◌&&◌, ◌||◌, nat_le, if◌then◌else◌, List, [], ◌∷◌, length, take, drop, Result, Ok, Err}
 use Rattle.ssr_syntax_lex.specs.declared.kinds.SyntaxKind.{SyntaxKind}
+use Rattle.ssr_syntax_lex.specs.declared.kinds.SyntaxKind.TheVariants.{COMMA, SOURCE_FILE}
 use Rattle.ssr_syntax.specs.declared.tokens.Token.{Token}
 use Rattle.ssr_syntax.specs.declared.goals.Goal.{Goal}
 use Rattle.ssr_syntax.specs.declared.goals.Fault.{Fault}
 use Rattle.ssr_syntax.specs.declared.goals.Fault.TheVariants as faults
 use Rattle.ssr_syntax.specs.Kinds.{mem}
-use Rattle.ssr_syntax.specs.Trees.{Forest, done, leaf, tree, join, spell, kinds}
+use Rattle.ssr_syntax.specs.Trees.{Forest, done, leaf, tree, join, spell}
 
--- The next tokens: the first is of a kind in the first list, the second of one in the second, and so on.
+-- The kind of what follows the last token. No token has it.
+abbrev pub END : SyntaxKind
+END = SOURCE_FILE
+
+-- Some strings of sets of kinds: for one of them, the next token is of a kind in its first set, the one behind that of a
+-- kind in its second, and so on.
 abbrev pub Test : Type 0
-Test = List (List SyntaxKind)
+Test = List (List (List SyntaxKind))
+
+-- What the tokens since the mark are asked for.
+pub data Condition : Type 0 where
+  -- none of them is of these kinds
+  none_is : List SyntaxKind → Condition
+  -- the last of them isn't
+  last_isnt : List SyntaxKind → Condition
 
 infixr 12 ◌then◌
 pub data Form : Type 0 where
-  -- One token of one of these kinds. `true`: as it is joined; `false`: only the first of those that it is joined from.
+  -- One token of one of these kinds. `true`: as it is joined; `false`: only the first of those that it is joined from,
+  -- whose own kind is one of these too.
   one : Bool → List SyntaxKind → Form
   -- another goal
   child : Goal → Form
@@ -31,23 +45,48 @@ pub data Form : Type 0 where
   many : Test → Form → Form
   -- no token; the next tokens pass the test, or, with `false`, don't
   look : Bool → Test → Form
-  -- no token; the kinds of the nodes since the mark, and the tokens since the mark, pass
-  check : (List SyntaxKind → List Token → Bool) → Form
+  -- no token; the tokens since the mark meet the condition
+  check : Condition → Form
 
--- Words to write forms with.
+-- ** Words to write forms with.
 abbrev pub a : SyntaxKind → Form
 a kind = one true (kind ∷ [])
 
 abbrev pub any : List SyntaxKind → Form
 any ks = one true ks
 
+-- only the first of those that a token is joined from
+abbrev pub part : List SyntaxKind → Form
+part ks = one false ks
+
+-- a node, and all that is in it
+abbrev pub node : SyntaxKind → Form → Form
+node kind f = mark (f then seal kind)
+
 abbrev pub at : List SyntaxKind → Test
-at ks = ks ∷ []
+at ks = (ks ∷ []) ∷ []
 
 -- one of these kinds begins it, or nothing does
 abbrev pub optional : List SyntaxKind → Form → Form
 optional first f = choose (at first) f nothing
 
+-- the next tokens tell which of both it is, and not only which is read
+abbrev pub decide : Test → Form → Form → Form
+decide test f g = choose test (look true test then f) (look false test then g)
+
+-- any number of them; each begins with one of these kinds
+abbrev pub repeated : List SyntaxKind → Form → Form
+repeated first f = many (at first) f
+
+-- a comma, or none where no other item begins
+abbrev pub comma : List SyntaxKind → Form
+comma first = choose (at (COMMA ∷ [])) (a COMMA) (look false (at first))
+
+-- items with commas between them, and one behind the last or not; each item begins with one of these kinds
+unfoldable pub comma_list : List SyntaxKind → Form → Form
+comma_list first item = repeated first (item then comma first)
+
+-- ** Tokens.
 -- how many tokens the one in front is joined from, beside itself
 abbrev pub more : Bool → Token → ℕ
 more whole t = if whole then t.size - 1 else 0
@@ -56,46 +95,40 @@ more whole t = if whole then t.size - 1 else 0
 abbrev pub taken_as : Bool → Token → SyntaxKind
 taken_as whole t = if whole then t.joined else t.kind
 
+-- it is one of these, whole or in its first part
+abbrev pub is_one : Bool → List SyntaxKind → Token → Bool
+is_one true ks t = mem t.joined ks
+is_one false ks t = mem t.joined ks && mem t.kind ks
+
+-- the kind of the next token
+abbrev pub next : List Token → SyntaxKind
+next [] = END
+next (t ∷ ts) = t.joined
+
+-- the next tokens are of kinds in these sets, one after another
+abbrev pub are_next : List (List SyntaxKind) → List Token → Bool
+are_next [] ts = true
+are_next (ks ∷ string) [] = mem END ks && are_next string []
+are_next (ks ∷ string) (t ∷ ts) = mem t.joined ks && are_next string (drop (more true t) ts)
+
 abbrev pub passes : Test → List Token → Bool
-passes [] ts = true
-passes (ks ∷ test) [] = false
-passes (ks ∷ test) (t ∷ ts) = mem t.joined ks && passes test (drop (more true t) ts)
+passes [] ts = false
+passes (string ∷ test) ts = are_next string ts || passes test ts
+
+abbrev pub holds : Condition → List Token → Bool
+holds (none_is ks) [] = true
+holds (none_is ks) (t ∷ ts) = not (mem t.kind ks) && holds (none_is ks) ts
+holds (last_isnt ks) [] = true
+holds (last_isnt ks) (t ∷ []) = not (mem t.kind ks)
+holds (last_isnt ks) (t ∷ u ∷ ts) = holds (last_isnt ks) (u ∷ ts)
 
 abbrev pub agrees : Bool → Bool → Bool
 agrees true b = b
 agrees false b = not b
 
--- ** Fitting: no order and no look-ahead but where a form asks for it.
--- `Fits below form x z us rest`: with x made since the mark, the form takes the tokens us, makes x into z, and the
--- tokens behind us are rest. `below goal y us rest` says what fits a goal.
-abbrev pub FitsBelow : Type 1
-FitsBelow = Goal → Forest → List Token → List Token → Type 0
-
-abbrev pub Step : Type 1
-Step = Forest → Forest → List Token → List Token → Type 0
-
-abbrev pub Repeats : ℕ → Step → Step
-Repeats zero step x z us rest = (us ≡ []) × (z ≡ x)
-Repeats (suc n) step x z us rest =
-    (y : Forest) × (vs : List Token) × (ws : List Token)
-    × (us ≡ vs ++ ws) × step x y vs (ws ++ rest) × Repeats n step y z ws rest
-
-abbrev pub Fits : FitsBelow → Form → Step
-Fits below (one whole ks) x z us rest =
-    (t : Token) × (vs : List Token)
-    × (us ≡ t ∷ vs) × (mem t.joined ks ≡ true) × (more whole t ≡ length vs)
-    × (z ≡ join x (leaf (taken_as whole t) (t ∷ vs) done))
-Fits below (child goal) x z us rest = (y : Forest) × below goal y us rest × (z ≡ join x y)
-Fits below (mark f) x z us rest = (y : Forest) × Fits below f done y us rest × (z ≡ join x y)
-Fits below (seal kind) x z us rest = (us ≡ []) × (z ≡ tree kind x done)
-Fits below (f then g) x z us rest =
-    (y : Forest) × (vs : List Token) × (ws : List Token)
-    × (us ≡ vs ++ ws) × Fits below f x y vs (ws ++ rest) × Fits below g y z ws rest
-Fits below nothing x z us rest = (us ≡ []) × (z ≡ x)
-Fits below (choose test f g) x z us rest = Fits below f x z us rest ⊎ Fits below g x z us rest
-Fits below (many test f) x z us rest = (n : ℕ) × Repeats n (Fits below f) x z us rest
-Fits below (look want test) x z us rest = (us ≡ []) × (z ≡ x) × (agrees want (passes test rest) ≡ true)
-Fits below (check holds) x z us rest = (us ≡ []) × (z ≡ x) × (holds (kinds x) (spell x) ≡ true)
+-- The form of each goal.
+abbrev pub Productions : Type 0
+Productions = Goal → Form
 
 -- ** Reading: what is made since the mark, and the tokens that are left.
 pub record SoFar : Type 0 where
@@ -120,7 +153,7 @@ behind n ts = if nat_le n (length ts) then Ok (drop n ts) else Err faults.NoTree
 -- what is left behind one token of these kinds
 abbrev pub past : Bool → List SyntaxKind → List Token → Result (List Token) Fault
 past whole ks [] = Err faults.NoTree
-past whole ks (t ∷ ts) = if mem t.joined ks then behind (more whole t) ts else Err faults.NoTree
+past whole ks (t ∷ ts) = if is_one whole ks t then behind (more whole t) ts else Err faults.NoTree
 
 -- the token in front as a tree
 abbrev pub first_leaf : Bool → List Token → Forest
@@ -146,4 +179,4 @@ read below nothing r = Ok r
 read below (choose test f g) r = if passes test r.rest then read below f r else read below g r
 read below (many test f) r = repeat (λ s. s.rest) (length r.rest + 1) test (read below f) r
 read below (look want test) r = if agrees want (passes test r.rest) then Ok r else Err faults.NoTree
-read below (check holds) r = if holds (kinds r.made) (spell r.made) then Ok r else Err faults.NoTree
+read below (check condition) r = if holds condition (spell r.made) then Ok r else Err faults.NoTree

@@ -1,11 +1,12 @@
 -- The form of each goal.
+use Rattle.std.specs.Prelude.{length}
 use Rattle.ssr_syntax.specs.declared.goals.Goal.{Goal}
 use Rattle.ssr_syntax.specs.declared.goals.Goal.TheVariants.{File, Expr, Operand}
 use Rattle.ssr_syntax.specs.Forms.{Form}
-use Rattle.ssr_syntax.specs.Expressions.{sum, operand}
-use Rattle.ssr_syntax.specs.Items.{source_file}
+use Rattle.ssr_syntax.specs.Expressions as expr
+use Rattle.ssr_syntax.specs.Items as item
 
 unfoldable pub grammar : Goal → Form
-grammar File = source_file
-grammar Expr = sum
-grammar (Operand rank) = operand rank
+grammar File = item.source_file
+grammar Expr = expr.operand (length expr.ranks)
+grammar (Operand r) = expr.operand (expr.at_most r expr.ranks)

@@ -1,12 +1,16 @@
--- Identifiers stand alone: each is the only child of its node.
-use Rattle.std.specs.Prelude.{◌≡◌, ⊤, Bool, true, false, not, ◌||◌, [], ◌∷◌}
+-- Identifiers: those of a list of tokens, and trees in which they stand alone, each as the only child of its node.
+use Rattle.std.specs.Prelude.{◌≡◌, ⊤, Bool, true, false, not, ◌||◌, List, [], ◌∷◌, filter}
 use Rattle.ssr_syntax_lex.specs.declared.kinds.SyntaxKind.{SyntaxKind}
 use Rattle.ssr_syntax_lex.specs.declared.kinds.SyntaxKind.TheVariants.{IDENT}
-use Rattle.ssr_syntax_tree.specs.Syntax.{Forest, nothing, leaf, branch, Syntax}
+use Rattle.ssr_syntax_tree.specs.Syntax.{Token, Forest, nothing, leaf, branch, Syntax}
 use Rattle.ssr_syntax.specs.Kinds.{mem}
 
 abbrev pub is_ident : SyntaxKind → Bool
 is_ident kind = mem kind (IDENT ∷ [])
+
+-- the identifiers among tokens, in order
+abbrev pub idents : List Token → List Token
+idents tokens = filter (λ token. is_ident token.kind) tokens
 
 -- one of the siblings themselves is an identifier
 abbrev pub has_ident : Forest → Bool

@@ -1,12 +1,17 @@
 -- Forms of paths.
-use Rattle.ssr_syntax_lex.specs.declared.kinds.SyntaxKind.TheVariants.{IDENT, NAME_REF, PATH_SEGMENT, PATH}
-use Rattle.ssr_syntax.specs.Forms.{Form, mark, seal, ◌then◌, a}
+use Rattle.std.specs.Prelude.{[], ◌∷◌}
+use Rattle.ssr_syntax_lex.specs.declared.kinds.SyntaxKind.TheVariants as k
+use Rattle.ssr_syntax.specs.Forms.{Form, mark, seal, ◌then◌, a, repeated}
 
 unfoldable pub name_ref : Form
-name_ref = a IDENT then seal NAME_REF
+name_ref = a k.IDENT then seal k.NAME_REF
 
 unfoldable pub path_segment : Form
-path_segment = mark name_ref then seal PATH_SEGMENT
+path_segment = mark name_ref then seal k.PATH_SEGMENT
+
+-- one segment more; all since the mark is the path in front of it
+unfoldable pub longer_path : Form
+longer_path = a k.COLON2 then mark path_segment then seal k.PATH
 
 unfoldable pub path : Form
-path = mark path_segment then seal PATH
+path = mark path_segment then seal k.PATH then repeated (k.COLON2 ∷ []) longer_path

@@ -1,5 +1,5 @@
 -- The reading of a list of tokens, and what its rows are.
-use Rattle.std.specs.Prelude.{◌≡◌, ◌≢◌, ℕ, ◌+◌, ◌-◌, ◌^◌, ◌<◌, ◌≤◌, nat_lt, Bool, true, not, ◌&&◌, if◌then◌else◌, ⊤, List, [], ◌∷◌, length, map, reverse, Some, None, Result, Ok, Err}
+use Rattle.std.specs.Prelude.{◌≡◌, ◌≢◌, ℕ, ◌+◌, ◌-◌, ◌^◌, ◌<◌, ◌≤◌, nat_lt, Bool, true, not, ◌&&◌, if◌then◌else◌, List, [], ◌∷◌, length, map, reverse, Some, None, Result, Ok, Err}
 use Rattle.std.specs.Str.{trim, trim_start}
 use Rattle.ssr_syntax_lex.specs.declared.kinds.SyntaxKind.{SyntaxKind}
 use Rattle.ssr_syntax_lex.specs.declared.tokens.RawToken.{RawToken}
@@ -13,13 +13,13 @@ use Rattle.ssr_syntax.specs.declared.fragments.Fragment.TheVariants as fragments
 use Rattle.ssr_syntax.specs.declared.syntax_error.SyntaxError.{SyntaxError}
 use Rattle.ssr_syntax.specs.declared.syntax_error.SyntaxError.TheVariants as errors
 use Rattle.ssr_syntax.specs.declared.tokens.Token.{Token}
-use Rattle.ssr_syntax.specs.declared.rows.Row.{Row}
 use Rattle.ssr_syntax.specs.declared.goals.Goal.{Goal}
 use Rattle.ssr_syntax.specs.declared.goals.Fault.{Fault}
 use Rattle.ssr_syntax.specs.declared.goals.Fault.TheVariants as faults
-use Rattle.ssr_syntax.specs.Trees.{Forest, done, leaf, tree, spell, rows, IsShallow}
+use Rattle.ssr_syntax.specs.Trees.{Forest, done, leaf, tree, spell, Written, writes, IsShallow}
+use Rattle.ssr_syntax.specs.Fitting.{Fits}
 use Rattle.ssr_syntax.specs.Forms.{SoFar, ◌>>=◌}
-use Rattle.ssr_syntax.specs.Levels.{FitsGoal, read_goal}
+use Rattle.ssr_syntax.specs.Levels.{read_goal}
 use Rattle.ssr_syntax.specs.Grammar.{grammar}
 use Rattle.ssr_syntax.specs.Solid.{solid_tokens}
 use Rattle.ssr_syntax.specs.Lossless.{whole_tree, IsTrimmed}
@@ -40,20 +40,20 @@ whole r = elim r.rest [ [] ↦ Ok r.made | t ∷ ts ↦ Err faults.NoTree ]
 unfoldable pub reading : Goal → List Token → Result Forest Fault
 reading goal tokens = read_goal grammar most_levels goal tokens >>= whole
 
--- The answer is the reading's: its rows, or its fault. Want of memory says nothing.
-abbrev pub IsReading : {R : Type 0} → (R → List Row) → Result R Fault → Result Forest Fault → Type 0
-IsReading now (Ok v) read = (z : Forest) × (read ≡ Ok z) × (now v ≡ rows z 0)
+-- The answer is the reading's: what is written of its forest, or its fault. Want of memory says nothing.
+abbrev pub IsReading : {R : Type 0} → (R → Written) → Result R Fault → Result Forest Fault → Type 0
+IsReading now (Ok v) read = (z : Forest) × (read ≡ Ok z) × (now v ≡ writes z 0)
 IsReading now (Err e) read = e ≢ faults.Memory → read ≡ Err e
 
--- the rows are those of a forest that fits the goal and spells the tokens
-abbrev pub IsTreeOf : Goal → List Token → List Row → Type 0
+-- this is written of a forest that fits the goal and spells the tokens
+abbrev pub IsTreeOf : Goal → List Token → Written → Type 0
 IsTreeOf goal tokens made =
-    (z : Forest) × (n : ℕ) × FitsGoal grammar n goal z tokens [] × (spell z ≡ tokens) × (made ≡ rows z 0)
+    (z : Forest) × Fits grammar (grammar goal) done z tokens [] × (spell z ≡ tokens) × (made ≡ writes z 0)
 
--- The answer is the rows of this forest, or it is told too deep and has more than `high` nodes above one another.
+-- The answer is what is written of this forest, or it is told too deep and has more than `high` nodes above one another.
 -- Want of memory says nothing.
-abbrev pub IsTree : {R : Type 0} → (R → List Row) → ℕ → Forest → Result R Fault → Type 0
-IsTree now high z (Ok v) = now v ≡ rows z 0
+abbrev pub IsTree : {R : Type 0} → (R → Written) → ℕ → Forest → Result R Fault → Type 0
+IsTree now high z (Ok v) = now v ≡ writes z 0
 IsTree now high z (Err e) = (e ≢ faults.NoTree) × (e ≡ faults.TooDeep → ¬ IsShallow high z)
 
 -- ** The reading of a text.
@@ -119,22 +119,26 @@ fragment_of fragment text =
 unfoldable pub fragment_reading : Fragment → List ℕ → Result Syntax SyntaxError
 fragment_reading fragment text = short_reading (fragment_of fragment (trimmed text)) text
 
--- the answer is the reading's; want of memory says nothing
-abbrev pub Answers : Result Syntax SyntaxError → Result Syntax SyntaxError → Type 0
-Answers (Ok syntax) read = read ≡ Ok syntax
-Answers (Err e) read = e ≢ errors.Memory → read ≡ Err e
+-- an error is the reading's; want of memory says that the text isn't too long, and nothing else
+abbrev pub Refuses : SyntaxError → Result Syntax SyntaxError → List ℕ → Type 0
+Refuses e read text = (e ≡ errors.Memory → length text < 2 ^ 32) × (e ≢ errors.Memory → read ≡ Err e)
+
+-- the answer is the reading's
+abbrev pub Answers : Result Syntax SyntaxError → Result Syntax SyntaxError → List ℕ → Type 0
+Answers (Ok syntax) read text = read ≡ Ok syntax
+Answers (Err e) read text = Refuses e read text
 
 abbrev pub AnswersTrimmed : Result (Syntax × ℕ) SyntaxError → Result Syntax SyntaxError → List ℕ → Type 0
 AnswersTrimmed (Ok answer) read text = (read ≡ Ok answer.0) × (answer.1 ≡ trimmed_front text)
-AnswersTrimmed (Err e) read text = e ≢ errors.Memory → read ≡ Err e
+AnswersTrimmed (Err e) read text = Refuses e read text
 
 -- ** What fits a text: no order of reading is in it.
 
 -- the tree has all tokens of the text, and is one of the goal without white space and comments
 abbrev pub FitsTokens : Goal → List ℕ → List RawToken → Syntax → Type 0
 FitsTokens goal text raw syntax =
-    (kind : SyntaxKind) × (kids : Forest) × (n : ℕ)
-    × FitsGoal grammar n goal (tree kind kids done) (solid_tokens raw) []
+    (kind : SyntaxKind) × (kids : Forest)
+    × Fits grammar (grammar goal) done (tree kind kids done) (solid_tokens raw) []
     × (syntax ≡ whole_tree kind kids (pieces text raw))
 
 abbrev pub FitsFile : List ℕ → Syntax → Type 0
@@ -173,7 +177,7 @@ IsThatOrTooDeep now syntax (Err e) = e ≢ errors.Memory → (e ≡ errors.TooDe
 abbrev pub IsLexFault : List ℕ → SyntaxError → Type 0
 IsLexFault text errors.Lex = (length text < 2 ^ 32) × (tokens text ≡ None)
 IsLexFault text errors.TooLong = 2 ^ 32 ≤ length text
-IsLexFault text errors.Memory = ⊤
+IsLexFault text errors.Memory = length text < 2 ^ 32
 IsLexFault text errors.NoTree = ⊥
 IsLexFault text errors.TooDeep = ⊥
 

@@ -1,5 +1,5 @@
 -- Solid tokens: what the grammar reads of a text's tokens.
-use Rattle.std.specs.Prelude.{ℕ, ◌+◌, Bool, true, false, if◌then◌else◌, List, [], ◌∷◌, drop, Option, Some, None}
+use Rattle.std.specs.Prelude.{Bool, true, false, if◌then◌else◌, List, [], ◌∷◌, drop, Option, Some, None}
 use Rattle.ssr_syntax_lex.specs.Kinds.{same_kind, is_trivia}
 use Rattle.ssr_syntax_lex.specs.declared.kinds.SyntaxKind.{SyntaxKind}
 use Rattle.ssr_syntax_lex.specs.declared.kinds.SyntaxKind.TheVariants as k
@@ -76,8 +76,3 @@ solid_token first ts = joined_two first.kind ts (lengthened first.kind first.joi
 abbrev pub solid_tokens : List RawToken → List Token
 solid_tokens [] = []
 solid_tokens (t ∷ ts) = if is_trivia t.kind then solid_tokens ts else solid_token t ts ∷ solid_tokens ts
-
--- how many tokens there are up to each solid one and with it, `before` of them in front
-abbrev pub ends : ℕ → List RawToken → List ℕ
-ends before [] = []
-ends before (t ∷ ts) = if is_trivia t.kind then ends (1 + before) ts else ((1 + before) ∷ ends (1 + before) ts)

@@ -1,263 +1,207 @@
 //! The functions that read expressions.
-ghost use Rattle.std.specs.Prelude.{◌≡◌, true};
-ghost use Rattle.ssr_syntax.specs.Kinds.{mem};
-ghost use Rattle.ssr_syntax.specs.Forms.{at, passes, past};
-ghost use Rattle.ssr_syntax.specs.Expressions.{atom, block_expr, expr_first, literal, literals, operations, operators, paren_expr, path_expr, product, stmt_list, sum, tighter};
-ghost use Rattle.ssr_syntax.specs.Runs.{Gives, Leaves, mark_at, run, run_marked, state_of};
+ghost use Rattle.std.specs.Prelude.{◌≡◌};
+ghost use Rattle.ssr_syntax.specs.Expressions as form;
+ghost use Rattle.ssr_syntax.specs.Ranks.{next_rank, rank_of};
+ghost use Rattle.ssr_syntax.specs.Runs.{Runs, RunsFrom};
 
 use crate::goals::{Fault, Goal, Rank};
-use crate::paths::path;
+use crate::grammar::Grammar;
+use crate::parser::{Mark, Parser};
 use crate::reader::Reader;
-use crate::rows::{Row, close};
-use crate::tokens::{Token, at, behind, expect};
+use crate::tokens::TokenSet;
 use ssr_syntax_lex::SyntaxKind;
+use ssr_syntax_lex::SyntaxKind::*;
 
-/// LITERAL: a number, a string, a byte, a character, `true` or `false`.
-#[tactic(auto, unfolding(crate::specs::Expressions::literal))]
-fn literal<'a, R: Reader<'a>>(
-    reader: &R,
-    tokens: &'a [Token],
-    out: &mut Vec<Row>,
-) -> Result<&'a [Token], Fault>
-    requires { R.can_read reader.now }
-    ensures { Gives (λ r. r.now) out.new.items result (run_marked (R.reads reader.now) literal (state_of out.old.items tokens.now)) }
+/// The tokens that are literals.
+const LITERALS: TokenSet<'static> = &[
+    INT_NUMBER,
+    FLOAT_NUMBER,
+    STRING,
+    BYTE_STRING,
+    C_STRING,
+    BYTE,
+    CHAR,
+    TRUE_KW,
+    FALSE_KW,
+];
+
+/// What an expression begins with.
+#[tactic(auto, unfolding(crate::specs::Expressions::expr_first))]
+fn expr_first() -> TokenSet<'static>
+    ensures { result.now ≡ form.expr_first }
 {
-    let mark = out.len();
-    let rest = literal_token(tokens)?;
-    close(SyntaxKind::LITERAL, mark, tokens, rest, out)
+    &[
+        IDENT,
+        L_PAREN,
+        INT_NUMBER,
+        FLOAT_NUMBER,
+        STRING,
+        BYTE_STRING,
+        C_STRING,
+        BYTE,
+        CHAR,
+        TRUE_KW,
+        FALSE_KW,
+    ]
 }
 
-/// PATH_EXPR: a PATH.
-#[tactic(auto, unfolding(crate::specs::Expressions::path_expr))]
-fn path_expr<'a, R: Reader<'a>>(
-    reader: &R,
-    tokens: &'a [Token],
-    out: &mut Vec<Row>,
-) -> Result<&'a [Token], Fault>
-    requires { R.can_read reader.now }
-    ensures { Gives (λ r. r.now) out.new.items result (run_marked (R.reads reader.now) path_expr (state_of out.old.items tokens.now)) }
-{
-    let mark = out.len();
-    let rest = path(reader, tokens, out)?;
-    close(SyntaxKind::PATH_EXPR, mark, tokens, rest, out)
-}
+/// How many ranks of operators there are.
+pub(crate) const RANKS: Rank = 3;
 
-/// PAREN_EXPR: an expression in parentheses.
-#[tactic(auto, unfolding(crate::specs::Expressions::paren_expr))]
-fn paren_expr<'a, R: Reader<'a>>(
-    reader: &R,
-    tokens: &'a [Token],
-    out: &mut Vec<Row>,
-) -> Result<&'a [Token], Fault>
-    requires { R.can_read reader.now }
-    ensures { Gives (λ r. r.now) out.new.items result (run_marked (R.reads reader.now) paren_expr (state_of out.old.items tokens.now)) }
-{
-    let mark = out.len();
-    let rest = expect(SyntaxKind::L_PAREN, tokens)?;
-    let rest = reader.read(Goal::Expr, rest, out)?;
-    let rest = expect(SyntaxKind::R_PAREN, rest)?;
-    close(SyntaxKind::PAREN_EXPR, mark, tokens, rest, out)
-}
-
-/// An expression without an operator outside parentheses.
-#[tactic(auto, unfolding(crate::specs::Expressions::atom))]
-pub(crate) fn atom<'a, R: Reader<'a>>(
-    reader: &R,
-    tokens: &'a [Token],
-    out: &mut Vec<Row>,
-) -> Result<&'a [Token], Fault>
-    requires { R.can_read reader.now }
-    ensures { Gives (λ r. r.now) out.new.items result (run_marked (R.reads reader.now) atom (state_of out.old.items tokens.now)) }
-{
-    if at(SyntaxKind::IDENT, tokens) {
-        path_expr(reader, tokens, out)
-    } else if at_literal(tokens) {
-        literal(reader, tokens, out)
-    } else {
-        paren_expr(reader, tokens, out)
-    }
-}
-
-/// BIN_EXPR with `*`, `/` or `%`, or an expression that binds tighter.
-#[tactic(auto, unfolding(crate::specs::Expressions::product))]
-pub(crate) fn product<'a, R: Reader<'a>>(
-    reader: &R,
-    tokens: &'a [Token],
-    out: &mut Vec<Row>,
-) -> Result<&'a [Token], Fault>
-    requires { R.can_read reader.now }
-    ensures { Gives (λ r. r.now) out.new.items result (run_marked (R.reads reader.now) product (state_of out.old.items tokens.now)) }
-{
-    let mark = out.len();
-    let rest = atom(reader, tokens, out)?;
-    operations(reader, Rank::Product, mark, tokens, rest, out)
-}
-
-/// BIN_EXPR with `+` or `-`, or an expression that binds tighter.
-#[tactic(auto, unfolding(crate::specs::Expressions::sum))]
-pub(crate) fn sum<'a, R: Reader<'a>>(
-    reader: &R,
-    tokens: &'a [Token],
-    out: &mut Vec<Row>,
-) -> Result<&'a [Token], Fault>
-    requires { R.can_read reader.now }
-    ensures { Gives (λ r. r.now) out.new.items result (run_marked (R.reads reader.now) sum (state_of out.old.items tokens.now)) }
-{
-    let mark = out.len();
-    let rest = product(reader, tokens, out)?;
-    operations(reader, Rank::Sum, mark, tokens, rest, out)
-}
-
-/// Any number of operators of this rank, each with its right operand. All since the mark is the left operand.
-#[tactic(auto, using(crate::proofs::Loops::repeat_step, crate::proofs::Loops::repeat_end), unfolding(crate::specs::Expressions::operations))]
-fn operations<'a, R: Reader<'a>>(
-    reader: &R,
-    rank: Rank,
-    mark: usize,
-    start: &'a [Token],
-    tokens: &'a [Token],
-    out: &mut Vec<Row>,
-) -> Result<&'a [Token], Fault>
-    requires { R.can_read reader.now }
-    ensures { Gives (λ r. r.now) out.new.items result (run (R.reads reader.now) (operations rank) (mark_at mark start.now) (state_of out.old.items tokens.now)) }
-{
-    let mut rest = tokens;
-    'turns: for _turn in 0..tokens.len() + 1 {
-        if !at_operator(rank, rest) {
-            return Ok(rest);
-        }
-        rest = operator(rank, rest)?;
-        rest = reader.read(Goal::Operand(tighter(rank)), rest, out)?;
-        rest = close(SyntaxKind::BIN_EXPR, mark, start, rest, out)?;
-    }
-    Err(Fault::NoTree)
-}
-
-/// Whether a token of this kind is a literal.
-fn is_literal(kind: SyntaxKind) -> bool
-    ensures { result ≡ mem kind literals }
-{
-    matches!(
-        kind,
-        SyntaxKind::INT_NUMBER
-            | SyntaxKind::FLOAT_NUMBER
-            | SyntaxKind::STRING
-            | SyntaxKind::BYTE_STRING
-            | SyntaxKind::C_STRING
-            | SyntaxKind::BYTE
-            | SyntaxKind::CHAR
-            | SyntaxKind::TRUE_KW
-            | SyntaxKind::FALSE_KW
-    )
-}
-
-/// Whether the next token is a literal.
-fn at_literal(tokens: &[Token]) -> bool
-    ensures { result ≡ passes (at literals) tokens.now }
-{
-    tokens.first().is_some_and(|first| is_literal(first.joined))
-}
-
-/// What is left behind a literal.
-fn literal_token(tokens: &[Token]) -> Result<&[Token], Fault>
-    ensures { Leaves (λ r. r.now) result (past true literals tokens.now) }
-{
-    match tokens.split_first() {
-        Some((first, rest)) if is_literal(first.joined) => behind(first.size, rest),
-        _ => Err(Fault::NoTree),
-    }
-}
-
-/// Whether an expression begins with a token of this kind.
-fn begins_expr(kind: SyntaxKind) -> bool
-    ensures { result ≡ mem kind expr_first }
-{
-    kind == SyntaxKind::IDENT || kind == SyntaxKind::L_PAREN || is_literal(kind)
-}
-
-/// Whether the next token begins an expression.
-fn at_expr(tokens: &[Token]) -> bool
-    ensures { result ≡ passes (at expr_first) tokens.now }
-{
-    tokens
-        .first()
-        .is_some_and(|first| begins_expr(first.joined))
-}
-
-/// Whether it is an operator of this rank.
-fn is_operator(rank: Rank, kind: SyntaxKind) -> bool
-    ensures { result ≡ mem kind (operators rank) }
+/// The operators of a rank.
+#[tactic(auto, using(crate::proofs::Ranks::no_operators), unfolding(crate::specs::Expressions::operators))]
+fn operators(rank: Rank) -> TokenSet<'static>
+    ensures { result.now ≡ form.operators rank }
 {
     match rank {
-        Rank::Atom => false,
-        Rank::Product => {
-            kind == SyntaxKind::STAR || kind == SyntaxKind::SLASH || kind == SyntaxKind::PERCENT
+        0 => &[STAR, SLASH, PERCENT],
+        1 => &[PLUS, MINUS],
+        2 => &[EQ2, NEQ, L_ANGLE, R_ANGLE, LTEQ, GTEQ],
+        _ => &[],
+    }
+}
+
+/// The rank of an operator; behind all ranks what is none.
+fn rank_of(kind: SyntaxKind) -> Rank
+    ensures { result ≡ rank_of kind }
+{
+    match kind {
+        STAR | SLASH | PERCENT => 0,
+        PLUS | MINUS => 1,
+        EQ2 | NEQ | L_ANGLE | R_ANGLE | LTEQ | GTEQ => 2,
+        _ => RANKS,
+    }
+}
+
+/// The rank of the next token.
+fn next_rank(p: &Parser<'_>) -> Rank
+    ensures { result ≡ next_rank p.now.rest }
+{
+    rank_of(p.current())
+}
+
+/// No more ranks than there are.
+#[tactic(auto, using(crate::proofs::Ranks::few_ranks, crate::proofs::Ranks::all_ranks))]
+pub(crate) fn at_most_all(rank: Rank) -> Rank
+    ensures { result ≡ form.at_most rank form.ranks }
+{
+    if rank < RANKS { rank } else { RANKS }
+}
+
+impl<R: Reader + Drop> Grammar<R> {
+    /// LITERAL: a number, a string, a byte, a character, `true` or `false`.
+    #[tactic(auto, unfolding(crate::specs::Expressions::literal))]
+    fn literal(&self, p: &mut Parser<'_>) -> Result<(), Fault>
+        requires { R.can_read self.now.below }
+        ensures { Runs (R.reads self.now.below) form.literal p.old p.new result }
+    {
+        let m = p.start();
+        p.expect_any(LITERALS)?;
+        p.complete(&m, LITERAL)
+    }
+
+    /// PATH_EXPR: a PATH.
+    #[tactic(auto, unfolding(crate::specs::Expressions::path_expr))]
+    fn path_expr(&self, p: &mut Parser<'_>) -> Result<(), Fault>
+        requires { R.can_read self.now.below }
+        ensures { Runs (R.reads self.now.below) form.path_expr p.old p.new result }
+    {
+        let m = p.start();
+        self.path(p)?;
+        p.complete(&m, PATH_EXPR)
+    }
+
+    /// PAREN_EXPR: an expression in parentheses.
+    #[tactic(auto, unfolding(crate::specs::Expressions::paren_expr))]
+    fn paren_expr(&self, p: &mut Parser<'_>) -> Result<(), Fault>
+        requires { R.can_read self.now.below }
+        ensures { Runs (R.reads self.now.below) form.paren_expr p.old p.new result }
+    {
+        let m = p.start();
+        p.expect(L_PAREN)?;
+        self.child(p, Goal::Expr)?;
+        p.expect(R_PAREN)?;
+        p.complete(&m, PAREN_EXPR)
+    }
+
+    /// An expression without an operator outside parentheses.
+    #[tactic(auto, unfolding(crate::specs::Expressions::atom))]
+    fn atom(&self, p: &mut Parser<'_>) -> Result<(), Fault>
+        requires { R.can_read self.now.below }
+        ensures { Runs (R.reads self.now.below) form.atom p.old p.new result }
+    {
+        if p.at(IDENT) {
+            self.path_expr(p)
+        } else if p.at_any(LITERALS) {
+            self.literal(p)
+        } else {
+            self.paren_expr(p)
         }
-        Rank::Sum => kind == SyntaxKind::PLUS || kind == SyntaxKind::MINUS,
     }
-}
 
-/// Whether the next token is an operator of this rank.
-fn at_operator(rank: Rank, tokens: &[Token]) -> bool
-    ensures { result ≡ passes (at (operators rank)) tokens.now }
-{
-    tokens
-        .first()
-        .is_some_and(|first| is_operator(rank, first.joined))
-}
-
-/// What is left behind an operator of this rank.
-fn operator(rank: Rank, tokens: &[Token]) -> Result<&[Token], Fault>
-    ensures { Leaves (λ r. r.now) result (past true (operators rank) tokens.now) }
-{
-    match tokens.split_first() {
-        Some((first, rest)) if is_operator(rank, first.joined) => behind(first.size, rest),
-        _ => Err(Fault::NoTree),
+    /// An expression whose operators outside parentheses are of so many ranks, the tightest.
+    #[tactic(auto, using(crate::proofs::Ranks::turn, crate::proofs::Ranks::stop_low, crate::proofs::Ranks::stop_high, crate::proofs::Ranks::stop_end, crate::proofs::Ranks::operand_climbs))]
+    pub(crate) fn operand(&self, p: &mut Parser<'_>, limit: Rank) -> Result<(), Fault>
+        requires { R.can_read self.now.below }
+        ensures { Runs (R.reads self.now.below) (form.operand limit) p.old p.new result }
+    {
+        let m = p.start();
+        self.atom(p)?;
+        let mut rank = 0;
+        'ranks: while rank < limit {
+            let next = next_rank(p);
+            if next < rank || limit <= next {
+                return Ok(());
+            }
+            self.operations(p, &m, next)?;
+            rank = next + 1;
+        }
+        Ok(())
     }
-}
 
-/// The rank of what stands to the right of an operator of this rank.
-fn tighter(rank: Rank) -> Rank
-    ensures { result ≡ tighter rank }
-{
-    match rank {
-        Rank::Atom | Rank::Product => Rank::Atom,
-        Rank::Sum => Rank::Product,
+    /// Any number of operators of this rank, each with its right operand.
+    #[tactic(auto, unfolding(crate::specs::Expressions::operations))]
+    fn operations(&self, p: &mut Parser<'_>, m: &Mark<'_>, rank: Rank) -> Result<(), Fault>
+        requires { R.can_read self.now.below }
+        ensures { RunsFrom (R.reads self.now.below) (form.operations rank) m.now p.old p.new result }
+    {
+        p.repeated(operators(rank), |p| self.operation(p, m, rank))
     }
-}
 
-/// STMT_LIST: braces, with an expression or none.
-#[tactic(auto, unfolding(crate::specs::Expressions::stmt_list))]
-fn stmt_list<'a, R: Reader<'a>>(
-    reader: &R,
-    tokens: &'a [Token],
-    out: &mut Vec<Row>,
-) -> Result<&'a [Token], Fault>
-    requires { R.can_read reader.now }
-    ensures { Gives (λ r. r.now) out.new.items result (run_marked (R.reads reader.now) stmt_list (state_of out.old.items tokens.now)) }
-{
-    let mark = out.len();
-    let rest = expect(SyntaxKind::L_CURLY, tokens)?;
-    let rest = if at_expr(rest) {
-        reader.read(Goal::Expr, rest, out)?
-    } else {
-        rest
-    };
-    let rest = expect(SyntaxKind::R_CURLY, rest)?;
-    close(SyntaxKind::STMT_LIST, mark, tokens, rest, out)
-}
+    /// BIN_EXPR: an operator of this rank and its right operand. All since the mark is the left operand.
+    #[tactic(auto, unfolding(crate::specs::Expressions::operation))]
+    fn operation(&self, p: &mut Parser<'_>, m: &Mark<'_>, rank: Rank) -> Result<(), Fault>
+        requires { R.can_read self.now.below }
+        ensures { RunsFrom (R.reads self.now.below) (form.operation rank) m.now p.old p.new result }
+    {
+        p.expect_any(operators(rank))?;
+        self.child(p, Goal::Operand(rank))?;
+        p.complete(m, BIN_EXPR)
+    }
 
-/// BLOCK_EXPR: a STMT_LIST.
-#[tactic(auto, unfolding(crate::specs::Expressions::block_expr))]
-pub(crate) fn block_expr<'a, R: Reader<'a>>(
-    reader: &R,
-    tokens: &'a [Token],
-    out: &mut Vec<Row>,
-) -> Result<&'a [Token], Fault>
-    requires { R.can_read reader.now }
-    ensures { Gives (λ r. r.now) out.new.items result (run_marked (R.reads reader.now) block_expr (state_of out.old.items tokens.now)) }
-{
-    let mark = out.len();
-    let rest = stmt_list(reader, tokens, out)?;
-    close(SyntaxKind::BLOCK_EXPR, mark, tokens, rest, out)
+    /// STMT_LIST: braces, with an expression or none.
+    #[tactic(auto, unfolding(crate::specs::Expressions::stmt_list))]
+    fn stmt_list(&self, p: &mut Parser<'_>) -> Result<(), Fault>
+        requires { R.can_read self.now.below }
+        ensures { Runs (R.reads self.now.below) form.stmt_list p.old p.new result }
+    {
+        let m = p.start();
+        p.expect(L_CURLY)?;
+        if p.at_any(expr_first()) {
+            self.child(p, Goal::Expr)?;
+        }
+        p.expect(R_CURLY)?;
+        p.complete(&m, STMT_LIST)
+    }
+
+    /// BLOCK_EXPR: a STMT_LIST.
+    #[tactic(auto, unfolding(crate::specs::Expressions::block_expr))]
+    pub(crate) fn block_expr(&self, p: &mut Parser<'_>) -> Result<(), Fault>
+        requires { R.can_read self.now.below }
+        ensures { Runs (R.reads self.now.below) form.block_expr p.old p.new result }
+    {
+        let m = p.start();
+        self.stmt_list(p)?;
+        p.complete(&m, BLOCK_EXPR)
+    }
 }

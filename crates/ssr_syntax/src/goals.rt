@@ -9,20 +9,12 @@ pub(crate) enum Goal {
     File,
     /// Any expression.
     Expr,
-    /// An expression that binds at least as tightly as this rank.
+    /// An expression whose operators outside parentheses are of so many ranks, the tightest.
     Operand(Rank),
 }
 
-/// How tightly an expression binds, the tightest first.
-#[derive(Clone, Copy)]
-pub(crate) enum Rank {
-    /// No operator outside parentheses.
-    Atom,
-    /// `*`, `/` and `%`.
-    Product,
-    /// `+` and `-`.
-    Sum,
-}
+/// How tightly an operator binds, the tightest ones first.
+pub(crate) type Rank = u8;
 
 /// Why there is no tree.
 #[derive(Clone, Copy, Debug, PartialEq, Eq)]

@@ -1,23 +1,45 @@
-//! What holds of the trees of texts, whatever the code: each function here does nothing, and what it
+//! What holds of trees and of the trees of texts, whatever the code: each function here does nothing, and what it
 //! ensures is a law.
-ghost use Rattle.std.specs.Prelude.{◌≡◌, ℕ, List, Some};
+ghost use Rattle.std.specs.Prelude.{◌≡◌, ◌↔◌, ℕ, List, Some, IsTrue};
 ghost use Rattle.ssr_syntax_lex.specs.declared.tokens.RawToken.{RawToken};
 ghost use Rattle.ssr_syntax_lex.specs.Tokens.{tokens};
+ghost use Rattle.ssr_syntax.specs.CoreTrees.{IsCore};
 ghost use Rattle.ssr_syntax_tree.specs.Syntax.{Syntax, tokens_of};
 ghost use Rattle.ssr_syntax.specs.declared.fragments.Fragment.{Fragment};
-ghost use Rattle.ssr_syntax.specs.Identifiers.{IdentsAloneIn};
+ghost use Rattle.ssr_syntax.specs.declared.goals.Goal.{Goal};
+ghost use Rattle.ssr_syntax.specs.Decision.{decide_fits, is_empty, reached};
+ghost use Rattle.ssr_syntax.specs.Fitting.{Fits};
+ghost use Rattle.ssr_syntax.specs.Forms.{SoFar};
+ghost use Rattle.ssr_syntax.specs.Grammar.{grammar};
+ghost use Rattle.ssr_syntax.specs.Identifiers.{IdentsAloneIn, idents};
 ghost use Rattle.ssr_syntax.specs.Reading.{FitsFile, FitsFragment, pieces, trimmed};
+ghost use Rattle.ssr_syntax.specs.Operands.{AreRanked};
+ghost use Rattle.ssr_syntax.specs.Trees.{Forest, done, spell};
+ghost use Rattle.ssr_syntax.specs.declared.tokens.Token.{Token};
 
-/// At most one tree fits a file.
+/// At most one tree of core nodes fits a file.
 pub fn files()
-    ensures one { (text : List ℕ) (a b : Syntax) → FitsFile text a → FitsFile text b → a ≡ b }
+    ensures one { (text : List ℕ) (a b : Syntax) → IsCore a → IsCore b → FitsFile text a → FitsFile text b → a ≡ b }
 {}
 
-/// At most one tree fits a fragment. It has the tokens of the text without the white space around it, and in it an
-/// identifier is the only child of its node.
+/// At most one tree of core nodes fits a fragment. A tree that fits has the identifiers of the text without the white
+/// space around it, in order, and each is the only child of its node.
 pub fn fragments()
-    ensures one { (fragment : Fragment) (text : List ℕ) (a b : Syntax) → FitsFragment fragment text a → FitsFragment fragment text b → a ≡ b }
-    ensures tokens { (fragment : Fragment) (text : List ℕ) (syntax : Syntax) → FitsFragment fragment text syntax
-        → (raw : List RawToken) × (tokens (trimmed text) ≡ Some raw) × (tokens_of syntax ≡ pieces (trimmed text) raw) }
+    ensures one { (fragment : Fragment) (text : List ℕ) (a b : Syntax) → IsCore a → IsCore b → FitsFragment fragment text a → FitsFragment fragment text b → a ≡ b }
+    ensures idents { (fragment : Fragment) (text : List ℕ) (syntax : Syntax) → FitsFragment fragment text syntax
+        → (raw : List RawToken) × (tokens (trimmed text) ≡ Some raw) × (idents (tokens_of syntax) ≡ idents (pieces (trimmed text) raw)) }
     ensures alone { (fragment : Fragment) (text : List ℕ) (syntax : Syntax) → FitsFragment fragment text syntax → IdentsAloneIn syntax }
+{}
+
+/// Whether a forest is one of a goal, before the tokens behind it, is decided: by the way back over the goal's form, with
+/// the same answers for the goals in it.
+pub fn fitting()
+    ensures decided { (goal : Goal) (r : SoFar) → IsTrue (decide_fits goal r) ↔ Fits grammar (grammar goal) done r.made (spell r.made) r.rest }
+    ensures answers { (goal : Goal) (r : SoFar) → decide_fits goal r ≡ reached decide_fits (grammar goal) is_empty r }
+{}
+
+/// The operands of each operator bind as tightly as they must, in whatever fits: the left one at least as tightly as the
+/// operator, the right one tighter.
+pub fn operands()
+    ensures { (goal : Goal) (z : Forest) (us rest : List Token) → Fits grammar (grammar goal) done z us rest → AreRanked z }
 {}

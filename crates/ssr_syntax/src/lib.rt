@@ -4,6 +4,7 @@
 mod expressions;
 mod fragments;
 mod goals;
+mod grammar;
 mod items;
 pub mod laws;
 mod parser;
@@ -15,9 +16,11 @@ mod rows;
 mod solid;
 mod syntax_error;
 mod tokens;
+mod tree_tokens;
+mod turning;
 
 pub use fragments::Fragment;
-pub use reading::{fragment, parse_file};
+pub use reading::{fragment, parse_file, parse_file_owned};
 pub use ssr_syntax_lex::{LexError, LexFault, RawToken, SyntaxKind, TextRange, lex};
 pub use ssr_syntax_tree::{Element, NodeNo, TokenNo, Tree};
 pub use syntax_error::SyntaxError;

@@ -1,225 +1,329 @@
-//! The parser: solid tokens in, the rows of the one tree out.
-ghost use Rattle.std.specs.Prelude.{◌≡◌, ℕ, [], IfOk};
-ghost use Rattle.ssr_syntax.specs.Grammar.{grammar};
-ghost use Rattle.ssr_syntax.specs.Levels.{FitsGoal, run_goal};
-ghost use Rattle.ssr_syntax.specs.Reading.{IsReading, IsTree, IsTreeOf, most_high, reading};
-ghost use Rattle.ssr_syntax.specs.Trees.{Forest};
-ghost use Rattle.ssr_syntax.specs.Runs.{Gives, run_marked, state_of};
+//! The parser's state: the tokens that are left, and what is written of those that were read.
+ghost use Rattle.std.specs.Prelude.{◌≡◌, ◌-◌, true, false, if◌then◌else◌, [], ◌∷◌, Result, Ok, IfOk};
+ghost use Rattle.ssr_syntax.specs.Forms.{at, next, passes};
+ghost use Rattle.ssr_syntax.specs.Runs.{Calls, Finishes, State, Steps, close, comma_separated, listed, mark_of, repeated, separated, state_of, taken, takes};
+ghost use Rattle.ssr_syntax.specs.Trees.{written_of};
+ghost use Rattle.ssr_syntax.specs.declared.goals.Fault.{Fault};
 
-use crate::expressions::{atom, product, sum};
-use crate::goals::{Fault, Goal, Rank};
-use crate::items::source_file;
-use crate::reader::Reader;
-use crate::rows::Row;
-use crate::tokens::Token;
-use std::alloc::Global;
+use crate::goals::Fault;
+use crate::rows::{Output, Taken};
+use crate::tokens::{END, Token, TokenSet, contains};
+use ssr_syntax_lex::SyntaxKind;
+use ssr_syntax_tree::NodeRow;
+use std::alloc::{AllocError, Global};
+use std::marker::Model;
 
-/// Reads goals with the levels that are left.
+/// The most rows and tokens that are counted.
+const MOST: usize = u32::MAX as usize;
+
+/// Reads tokens, and writes the nodes and the tokens of their tree.
 #[derive(Drop)]
-struct Level<F: Drop> {
-    read: F,
-    left: u32,
+pub(crate) struct Parser<'a> {
+    rest: &'a [Token],
+    out: Output,
 }
 
-impl<'a, F: Fn(Goal, &'a [Token], &mut Vec<Row>) -> Result<&'a [Token], Fault> + Drop> Reader<'a>
-    for Level<F> {
-    ghost use Rattle.ssr_syntax.specs.declared.goals.Goal.{Goal};
+impl<'a> Model for Parser<'a> {
+    ghost use Rattle.ssr_syntax.specs.Runs.{State, state_of};
+    ghost use Rattle.ssr_syntax.specs.Trees.{written_in};
 
-    ghost can_read = { λ d. F.IsAlwaysCallable d.read
-        × ((goal : Goal) (tokens : _) (out : _) (r : _) (after : _) → F.post d.read goal tokens out r after
-        → Gives (λ x. x.now) after.now.items r (run_goal grammar d.left goal (state_of out.now.items tokens.now))) };
+    ghost Value = { State };
 
-    ghost reads = { λ d. run_goal grammar d.left };
+    ghost view = { λ p. state_of (written_in p.out) p.rest.now };
+}
 
-    fn read(
-        &self,
-        goal: Goal,
-        tokens: &'a [Token],
-        out: &mut Vec<Row>,
-    ) -> Result<&'a [Token], Fault> {
-        (self.read)(goal, tokens, out)
+/// Where a node begins: how many rows were written there, and which tokens were left.
+#[derive(Drop)]
+pub(crate) struct Mark<'a> {
+    made: usize,
+    start: &'a [Token],
+}
+
+impl<'a> Model for Mark<'a> {
+    ghost use Rattle.ssr_syntax.specs.Runs.{Mark, mark_at};
+
+    ghost Value = { Mark };
+
+    ghost view = { λ m. mark_at m.made m.start.now };
+}
+
+impl<'a> Parser<'a> {
+    /// At the first of some tokens, with nothing written.
+    pub(crate) fn new(alloc: Global, tokens: &'a [Token]) -> Result<Parser<'a>, AllocError>
+        ensures { IfOk result (λ p. p ≡ state_of (written_of [] []) tokens.entry.now) }
+    {
+        let rows = Vec::with_capacity(alloc, tokens.len())?;
+        let taken = Vec::with_capacity(alloc, tokens.len())?;
+        Ok(Parser {
+            rest: tokens,
+            out: Output { rows, taken },
+        })
     }
-}
 
-/// Reads a goal with at most `left` levels of goals.
-#[tactic(auto, unfolding(crate::specs::Levels::run_goal))]
-fn read<'a>(
-    left: u32,
-    goal: Goal,
-    tokens: &'a [Token],
-    out: &mut Vec<Row>,
-) -> Result<&'a [Token], Fault>
-    ensures { Gives (λ r. r.now) out.new.items result (run_goal grammar left goal (state_of out.old.items tokens.now)) }
-{
-    if left == 0 {
-        return Err(Fault::TooDeep);
+    /// What is written, if no token is left.
+    pub(crate) fn finish(self) -> Result<Output, Fault>
+        ensures { Finishes self.entry result }
+    {
+        if self.rest.is_empty() {
+            Ok(self.out)
+        } else {
+            Err(Fault::NoTree)
+        }
     }
-    let less = left - 1;
-    let read_less = |goal: Goal, tokens: _, out: &mut Vec<Row>|
-        ensures { Gives (λ r. r.now) out.new.items result (run_goal grammar less goal (state_of out.old.items tokens.now)) }
-    { read(less, goal, tokens, out) };
-    read_goal(
-        &Level {
-            read: read_less,
-            left: less,
-        },
-        goal,
-        tokens,
-        out,
-    )
-}
 
-/// Reads a goal by the function of its form.
-#[tactic(auto, unfolding(crate::specs::Grammar::grammar))]
-fn read_goal<'a, R: Reader<'a>>(
-    reader: &R,
-    goal: Goal,
-    tokens: &'a [Token],
-    out: &mut Vec<Row>,
-) -> Result<&'a [Token], Fault>
-    requires { R.can_read reader.now }
-    ensures { Gives (λ r. r.now) out.new.items result (run_marked (R.reads reader.now) (grammar goal) (state_of out.old.items tokens.now)) }
-{
-    match goal {
-        Goal::File => source_file(reader, tokens, out),
-        Goal::Expr => sum(reader, tokens, out),
-        Goal::Operand(Rank::Atom) => atom(reader, tokens, out),
-        Goal::Operand(Rank::Product) => product(reader, tokens, out),
-        Goal::Operand(Rank::Sum) => sum(reader, tokens, out),
+    /// A node begins here.
+    pub(crate) fn start(&self) -> Mark<'a>
+        ensures { result ≡ mark_of self.now }
+    {
+        Mark {
+            made: self.out.rows.len(),
+            start: self.rest,
+        }
     }
-}
 
-/// How many levels of goals are read. Each level but the first stands below a node.
-const MOST_LEVELS: u32 = 1026;
+    /// Puts all since the mark into a node. More rows or tokens than are counted are told as want of memory.
+    pub(crate) fn complete(&mut self, mark: &Mark<'_>, kind: SyntaxKind) -> Result<(), Fault>
+        ensures { Steps self.new result (Ok (close kind mark.now self.old)) }
+    {
+        let below = self.out.rows.len().saturating_sub(mark.made);
+        let (first, past) = (mark.start.len(), self.rest.len());
+        if first > MOST || past > MOST || below > MOST {
+            return Err(Fault::Memory);
+        }
+        self.out.rows.push(NodeRow {
+            kind,
+            parent: 0,
+            first: first as u32,
+            past: past as u32,
+            below: below as u32,
+        })?;
+        Ok(())
+    }
 
-/// Reads all tokens as the goal.
-#[tactic(auto, using(crate::proofs::Whole::no_tree))]
-fn read_whole(alloc: Global, goal: Goal, tokens: &[Token]) -> Result<Vec<Row>, Fault>
-    ensures { IsReading (λ v. v.items) result (reading goal tokens.now) }
-{
-    let mut rows = Vec::with_capacity(alloc, tokens.len())?;
-    let rest = read(MOST_LEVELS, goal, tokens, &mut rows)?;
-    if rest.is_empty() {
-        Ok(rows)
-    } else {
+    /// The kind of the next token; `END` behind the last one.
+    pub(crate) fn current(&self) -> SyntaxKind
+        ensures { result ≡ next self.now.rest }
+    {
+        match self.rest.first() {
+            Some(token) => token.joined,
+            None => END,
+        }
+    }
+
+    /// Whether the next token is of this kind.
+    #[tactic(auto, using(crate::proofs::Members::at_next))]
+    pub(crate) fn at(&self, kind: SyntaxKind) -> bool
+        ensures { result ≡ passes (at (kind ∷ [])) self.now.rest }
+    {
+        self.current() == kind
+    }
+
+    /// Whether the next token is of one of these kinds.
+    #[tactic(auto, using(crate::proofs::Members::at_next))]
+    pub(crate) fn at_any(&self, set: TokenSet<'_>) -> bool
+        ensures { result ≡ passes (at set.now) self.now.rest }
+    {
+        contains(set, self.current())
+    }
+
+    /// Takes a token of this kind.
+    pub(crate) fn expect(&mut self, kind: SyntaxKind) -> Result<(), Fault>
+        ensures { Steps self.new result (taken true (kind ∷ []) self.old) }
+    {
+        let tokens = self.rest;
+        match tokens.split_first() {
+            Some((first, rest)) if first.joined == kind => self.take(
+                first.joined,
+                first.size,
+                rest,
+            ),
+            _ => Err(Fault::NoTree),
+        }
+    }
+
+    /// Takes a token of one of these kinds.
+    pub(crate) fn expect_any(&mut self, set: TokenSet<'_>) -> Result<(), Fault>
+        ensures { Steps self.new result (taken true set.now self.old) }
+    {
+        let tokens = self.rest;
+        match tokens.split_first() {
+            Some((first, rest)) if contains(set, first.joined) => {
+                self.take(first.joined, first.size, rest)
+            }
+            _ => Err(Fault::NoTree),
+        }
+    }
+
+    /// Takes the first part of a token of one of these kinds.
+    pub(crate) fn expect_part(&mut self, set: TokenSet<'_>) -> Result<(), Fault>
+        ensures { Steps self.new result (taken false set.now self.old) }
+    {
+        let tokens = self.rest;
+        match tokens.split_first() {
+            Some((first, rest)) if contains(set, first.joined) && contains(set, first.kind) => {
+                self.take(first.kind, 1, rest)
+            }
+            _ => Err(Fault::NoTree),
+        }
+    }
+
+    /// Takes a token of this kind, if it is next.
+    pub(crate) fn eat(&mut self, kind: SyntaxKind) -> Result<(), Fault>
+        ensures { Steps self.new result (if passes (at (kind ∷ [])) self.old.rest then taken true (kind ∷ []) self.old else Ok self.old) }
+    {
+        if self.at(kind) {
+            self.expect(kind)
+        } else {
+            Ok(())
+        }
+    }
+
+    /// Takes a token of this kind, joined from so many: the one in front of `rest`, and the others of `rest`.
+    fn take(&mut self, kind: SyntaxKind, size: u8, rest: &'a [Token]) -> Result<(), Fault>
+        ensures { Steps self.new result (takes kind (size - 1) rest.entry.now self.old.out) }
+    {
+        let more = size.saturating_sub(1);
+        if more as usize > rest.len() {
+            return Err(Fault::NoTree);
+        }
+        self.rest = &rest[more as usize..];
+        self.out.taken.push(Taken {
+            kind,
+            size: 1 + more,
+        })?;
+        Ok(())
+    }
+
+    /// The step again and again, as long as one of these kinds is next.
+    #[tactic(auto, using(crate::proofs::Loops::repeat_step, crate::proofs::Loops::repeat_end), unfolding(crate::specs::Runs::repeated))]
+    pub(crate) fn repeated<F: Fn(&mut Parser<'_>) -> Result<(), Fault>>(
+        &mut self,
+        first: TokenSet<'_>,
+        step: F,
+    ) -> Result<(), Fault>
+        requires { F.IsAlwaysCallable step }
+        ensures { (does : State → Result State Fault) → Calls (F.post step) does
+            → Steps self.new result (repeated (at first.now) does self.old) }
+    {
+        'turns: for _turn in 0..self.rest.len() + 1 {
+            if !self.at_any(first) {
+                return Ok(());
+            }
+            step(self)?;
+        }
         Err(Fault::NoTree)
     }
-}
 
-/// The rows of the one tree that fits the goal and has these tokens; `NoTree` where none fits. A tree with at most
-/// 1,025 nodes above one another is never told too deep.
-pub(crate) fn parse_as(alloc: Global, goal: Goal, tokens: &[Token]) -> Result<Vec<Row>, Fault>
-    ensures reads { IsReading (λ v. v.items) result (reading goal tokens.now) }
-    ensures sound { IfOk result (λ v. IsTreeOf goal tokens.now v.items) }
-    ensures complete { (z : Forest) (n : ℕ) → FitsGoal grammar n goal z tokens.now [] → IsTree (λ v. v.items) most_high z result }
-    ensures unique { (y z : Forest) (n m : ℕ) → FitsGoal grammar n goal y tokens.now [] → FitsGoal grammar m goal z tokens.now [] → y ≡ z }
-{
-    read_whole(alloc, goal, tokens)
+    /// Items with commas between them, and one behind the last or not. Each begins with one of these kinds.
+    #[tactic(auto, unfolding(crate::specs::Runs::comma_separated))]
+    pub(crate) fn comma_list<F: Fn(&mut Parser<'_>) -> Result<(), Fault>>(
+        &mut self,
+        first: TokenSet<'_>,
+        item: F,
+    ) -> Result<(), Fault>
+        requires { F.IsAlwaysCallable item }
+        ensures { (does : State → Result State Fault) → Calls (F.post item) does
+            → Steps self.new result (comma_separated first.now does self.old) }
+    {
+        self.repeated(
+            first,
+            |p: &mut Parser<'_>|
+                requires { F.IsAlwaysCallable item }
+                ensures { (does : State → Result State Fault) → Calls (F.post item) does
+                    → Steps p.new result (listed first.entry.now does p.old) }
+            {
+                item(p)?;
+                p.separated(first)
+            },
+        )
+    }
+
+    /// A comma, or none where no item begins.
+    fn separated(&mut self, first: TokenSet<'_>) -> Result<(), Fault>
+        ensures { Steps self.new result (separated first.now self.old) }
+    {
+        if self.at(SyntaxKind::COMMA) {
+            self.expect(SyntaxKind::COMMA)
+        } else if self.at_any(first) {
+            Err(Fault::NoTree)
+        } else {
+            Ok(())
+        }
+    }
 }
 
 #[cfg(test)]
 mod tests {
     use super::*;
-    use ssr_syntax_lex::SyntaxKind;
+    use ssr_syntax_lex::SyntaxKind::*;
     use std::test::Fail;
 
-    // The rows of tokens that are joined from themselves alone.
-    fn parsed(alloc: Global, goal: Goal, kinds: &[SyntaxKind]) -> Result<Vec<Row>, Fault> {
-        let mut tokens = Vec::new(alloc);
-        for kind in kinds {
-            tokens.push(Token {
-                kind: *kind,
-                joined: *kind,
-                size: 1,
-            })?;
+    fn token(kind: SyntaxKind) -> Token {
+        Token {
+            kind,
+            joined: kind,
+            size: 1,
         }
-        parse_as(alloc, goal, &tokens)
+    }
+
+    // `&&`
+    fn two_ampersands() -> [Token; 2] {
+        let first = Token {
+            kind: AMP,
+            joined: AMP2,
+            size: 2,
+        };
+        [first, token(AMP)]
     }
 
     #[test]
-    fn reads_a_sum(rt: HostRuntime) -> Result<(), Fail> {
-        // 1 + 2 * 3
-        let kinds = [
-            SyntaxKind::INT_NUMBER,
-            SyntaxKind::PLUS,
-            SyntaxKind::INT_NUMBER,
-            SyntaxKind::STAR,
-            SyntaxKind::INT_NUMBER,
-        ];
-        let rows = parsed(rt.alloc(), Goal::Expr, &kinds)?;
-        let want = [(5, 4, 0), (3, 2, 0), (1, 0, 0), (3, 0, 2), (5, 0, 4)];
-        assert_eq!(rt; rows.len(), want.len());
-        for (row, (first, end, below)) in rows.iter().zip(want) {
-            assert_eq!(rt; row.first, first);
-            assert_eq!(rt; row.end, end);
-            assert_eq!(rt; row.below, below);
-        }
+    fn a_joined_token_is_taken_whole_or_by_parts(rt: HostRuntime) -> Result<(), Fail> {
+        let tokens = two_ampersands();
+        let mut p = Parser::new(rt.alloc(), &tokens)?;
+        p.expect(AMP2)?;
+        let taken = p.finish()?.taken;
+        assert_eq!(rt; taken.len(), 1);
+        assert!(rt; taken[0].kind == AMP2 && taken[0].size == 2);
+        let mut p = Parser::new(rt.alloc(), &tokens)?;
+        p.expect_part(&[AMP, AMP2])?;
+        p.expect_part(&[AMP, AMP2])?;
+        let taken = p.finish()?.taken;
+        assert_eq!(rt; taken.len(), 2);
+        assert!(rt; taken[0].kind == AMP && taken[0].size == 1);
+        assert!(rt; taken[1].kind == AMP && taken[1].size == 1);
         Ok(())
     }
 
     #[test]
-    fn reads_each_literal(rt: HostRuntime) -> Result<(), Fail> {
-        let literals = [
-            SyntaxKind::INT_NUMBER,
-            SyntaxKind::FLOAT_NUMBER,
-            SyntaxKind::STRING,
-            SyntaxKind::BYTE_STRING,
-            SyntaxKind::C_STRING,
-            SyntaxKind::BYTE,
-            SyntaxKind::CHAR,
-            SyntaxKind::TRUE_KW,
-            SyntaxKind::FALSE_KW,
-        ];
-        for kind in literals {
-            let rows = parsed(rt.alloc(), Goal::Expr, &[kind])?;
-            assert_eq!(rt; rows.len(), 1);
-            assert!(rt; rows[0].kind.is(SyntaxKind::LITERAL));
-        }
-        for kind in [
-            SyntaxKind::LIFETIME_IDENT,
-            SyntaxKind::UNDERSCORE,
-            SyntaxKind::FN_KW,
+    fn items_of_a_list_stand_apart_by_commas(rt: HostRuntime) -> Result<(), Fail> {
+        for (kinds, fits) in [
+            (&[][..], true),
+            (&[INT_NUMBER][..], true),
+            (&[INT_NUMBER, COMMA][..], true),
+            (&[INT_NUMBER, COMMA, INT_NUMBER][..], true),
+            (&[INT_NUMBER, INT_NUMBER][..], false),
+            (&[COMMA][..], false),
         ] {
-            assert!(rt; matches!(parsed(rt.alloc(), Goal::Expr, &[kind]), Err(Fault::NoTree)));
+            let mut tokens = Vec::new(rt.alloc());
+            for kind in kinds {
+                tokens.push(token(*kind))?;
+            }
+            let mut p = Parser::new(rt.alloc(), &tokens)?;
+            let read = p.comma_list(&[INT_NUMBER], |p| p.expect(INT_NUMBER));
+            let whole = read.is_ok() && p.finish().is_ok();
+            assert_eq!(rt; whole, fits);
         }
         Ok(())
     }
 
     #[test]
-    fn reads_a_file(rt: HostRuntime) -> Result<(), Fail> {
-        // fn f() {}
-        let kinds = [
-            SyntaxKind::FN_KW,
-            SyntaxKind::IDENT,
-            SyntaxKind::L_PAREN,
-            SyntaxKind::R_PAREN,
-            SyntaxKind::L_CURLY,
-            SyntaxKind::R_CURLY,
-        ];
-        let rows = parsed(rt.alloc(), Goal::File, &kinds)?;
-        let want = [
-            SyntaxKind::NAME,
-            SyntaxKind::PARAM_LIST,
-            SyntaxKind::STMT_LIST,
-            SyntaxKind::BLOCK_EXPR,
-            SyntaxKind::FN,
-            SyntaxKind::SOURCE_FILE,
-        ];
-        assert_eq!(rt; rows.len(), want.len());
-        for (row, kind) in rows.iter().zip(want) {
-            assert!(rt; row.kind.is(kind));
-        }
-        Ok(())
-    }
-
-    #[test]
-    fn refuses_deep_nesting(rt: HostRuntime) -> Result<(), Fail> {
-        let mut kinds = Vec::new(rt.alloc());
-        for _ in 0..100_000 {
-            kinds.push(SyntaxKind::L_PAREN)?;
-        }
-        let answer = parsed(rt.alloc(), Goal::Expr, &kinds);
-        assert!(rt; matches!(answer, Err(Fault::TooDeep)));
+    fn what_may_stand_is_taken_if_it_does(rt: HostRuntime) -> Result<(), Fail> {
+        let tokens = [token(MUT_KW), token(IDENT)];
+        let mut p = Parser::new(rt.alloc(), &tokens)?;
+        p.eat(MUT_KW)?;
+        p.eat(MUT_KW)?;
+        p.eat(IDENT)?;
+        assert_eq!(rt; p.finish()?.taken.len(), 2);
         Ok(())
     }
 }

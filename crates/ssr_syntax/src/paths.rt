@@ -1,54 +1,56 @@
 //! The functions that read paths.
-ghost use Rattle.ssr_syntax.specs.Paths.{name_ref, path, path_segment};
-ghost use Rattle.ssr_syntax.specs.Runs.{Gives, run_marked, state_of};
+ghost use Rattle.ssr_syntax.specs.Paths as form;
+ghost use Rattle.ssr_syntax.specs.Runs.{Runs, RunsFrom};
 
 use crate::goals::Fault;
+use crate::grammar::Grammar;
+use crate::parser::{Mark, Parser};
 use crate::reader::Reader;
-use crate::rows::{Row, close};
-use crate::tokens::{Token, expect};
-use ssr_syntax_lex::SyntaxKind;
+use ssr_syntax_lex::SyntaxKind::*;
 
-/// NAME_REF: an identifier.
-#[tactic(auto, unfolding(crate::specs::Paths::name_ref))]
-fn name_ref<'a, R: Reader<'a>>(
-    reader: &R,
-    tokens: &'a [Token],
-    out: &mut Vec<Row>,
-) -> Result<&'a [Token], Fault>
-    requires { R.can_read reader.now }
-    ensures { Gives (λ r. r.now) out.new.items result (run_marked (R.reads reader.now) name_ref (state_of out.old.items tokens.now)) }
-{
-    let mark = out.len();
-    let rest = expect(SyntaxKind::IDENT, tokens)?;
-    close(SyntaxKind::NAME_REF, mark, tokens, rest, out)
-}
+impl<R: Reader + Drop> Grammar<R> {
+    /// NAME_REF: an identifier.
+    #[tactic(auto, unfolding(crate::specs::Paths::name_ref))]
+    fn name_ref(&self, p: &mut Parser<'_>) -> Result<(), Fault>
+        requires { R.can_read self.now.below }
+        ensures { Runs (R.reads self.now.below) form.name_ref p.old p.new result }
+    {
+        let m = p.start();
+        p.expect(IDENT)?;
+        p.complete(&m, NAME_REF)
+    }
 
-/// PATH_SEGMENT: a NAME_REF.
-#[tactic(auto, unfolding(crate::specs::Paths::path_segment))]
-fn path_segment<'a, R: Reader<'a>>(
-    reader: &R,
-    tokens: &'a [Token],
-    out: &mut Vec<Row>,
-) -> Result<&'a [Token], Fault>
-    requires { R.can_read reader.now }
-    ensures { Gives (λ r. r.now) out.new.items result (run_marked (R.reads reader.now) path_segment (state_of out.old.items tokens.now)) }
-{
-    let mark = out.len();
-    let rest = name_ref(reader, tokens, out)?;
-    close(SyntaxKind::PATH_SEGMENT, mark, tokens, rest, out)
-}
+    /// PATH_SEGMENT: a NAME_REF.
+    #[tactic(auto, unfolding(crate::specs::Paths::path_segment))]
+    fn path_segment(&self, p: &mut Parser<'_>) -> Result<(), Fault>
+        requires { R.can_read self.now.below }
+        ensures { Runs (R.reads self.now.below) form.path_segment p.old p.new result }
+    {
+        let m = p.start();
+        self.name_ref(p)?;
+        p.complete(&m, PATH_SEGMENT)
+    }
 
-/// PATH: a PATH_SEGMENT.
-#[tactic(auto, unfolding(crate::specs::Paths::path))]
-pub(crate) fn path<'a, R: Reader<'a>>(
-    reader: &R,
-    tokens: &'a [Token],
-    out: &mut Vec<Row>,
-) -> Result<&'a [Token], Fault>
-    requires { R.can_read reader.now }
-    ensures { Gives (λ r. r.now) out.new.items result (run_marked (R.reads reader.now) path (state_of out.old.items tokens.now)) }
-{
-    let mark = out.len();
-    let rest = path_segment(reader, tokens, out)?;
-    close(SyntaxKind::PATH, mark, tokens, rest, out)
+    /// PATH: `::` and a PATH_SEGMENT behind a PATH, which is all since the mark.
+    #[tactic(auto, unfolding(crate::specs::Paths::longer_path))]
+    fn longer_path(&self, p: &mut Parser<'_>, m: &Mark<'_>) -> Result<(), Fault>
+        requires { R.can_read self.now.below }
+        ensures { RunsFrom (R.reads self.now.below) form.longer_path m.now p.old p.new result }
+    {
+        p.expect(COLON2)?;
+        self.path_segment(p)?;
+        p.complete(m, PATH)
+    }
+
+    /// PATH: any number of PATH_SEGMENTs, but one at least.
+    #[tactic(auto, unfolding(crate::specs::Paths::path))]
+    pub(crate) fn path(&self, p: &mut Parser<'_>) -> Result<(), Fault>
+        requires { R.can_read self.now.below }
+        ensures { Runs (R.reads self.now.below) form.path p.old p.new result }
+    {
+        let m = p.start();
+        self.path_segment(p)?;
+        p.complete(&m, PATH)?;
+        p.repeated(&[COLON2], |p| self.longer_path(p, &m))
+    }
 }

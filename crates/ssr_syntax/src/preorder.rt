@@ -1,12 +1,12 @@
 //! The rows of a tree's nodes in preorder, from the parser's rows.
-ghost use Rattle.std.specs.Prelude.{◌≡◌, ◌+◌, ◌<◌, ◌≤◌, ◌^◌, length, reverse, slice_index, nat_lt};
+ghost use Rattle.std.specs.Prelude.{◌≡◌, ◌+◌, ◌<◌, ◌≤◌, ◌^◌, [], length, reverse, slice_index, nat_lt, IfOk};
 ghost use Rattle.ssr_syntax_lex.specs.declared.kinds.SyntaxKind.{SyntaxKind};
 ghost use Rattle.ssr_syntax.specs.Preorder.{first_at, past_at, OkUnlessDeep, tree_rows, most_deep, most_nodes};
 ghost use Rattle.ssr_syntax.specs.OpenNodes.{opened, IsClosed, IsOpened, IsFromRight};
 ghost use Rattle.ssr_syntax.specs.Trees.{Forest, done, height, tree, rows as rows_of};
 
-use crate::rows::Row;
 use crate::syntax_error::SyntaxError;
+use crate::turning::Turning;
 use ssr_syntax_tree::NodeRow;
 use std::alloc::Global;
 
@@ -27,21 +27,19 @@ struct Open {
 }
 
 /// Closes the open nodes that begin at `place` or behind it.
-fn close_open(
-    place: u32,
-    above: &mut Vec<Open>,
-    nodes: &mut Vec<NodeRow>,
-) -> Result<(), SyntaxError>
-    ensures { IsClosed place above.old.items above.new.items nodes.old.items nodes.new.items result }
+fn close_open(place: u32, above: &mut Vec<Open>, rows: &mut Turning)
+    requires { length above.old.items ≤ rows.old.room }
+    ensures closed { IsClosed place above.old.items above.new.items rows.old.turned rows.new.turned }
+    ensures unread { rows.new.unread ≡ rows.old.unread }
+    ensures room { rows.new.room + length above.old.items ≡ rows.old.room + length above.new.items }
 {
     while let Some(inner) = above.last() {
         if inner.start < place {
             break;
         }
-        nodes.push(inner.node)?;
+        rows.put(inner.node);
         above.pop();
     }
-    Ok(())
 }
 
 /// How many tokens there are up to the solid one of that number.
@@ -75,7 +73,7 @@ fn past_token(ends: &[u32], low: u32, left: u32, count: u32) -> u32
 }
 
 /// The node of a row with `place` rows in front of it, below the open ones.
-fn opened(ends: &[u32], total: u32, row: &Row, place: u32, above: &[Open]) -> Open
+fn opened(ends: &[u32], total: u32, row: &NodeRow, place: u32, above: &[Open]) -> Open
     requires { place + length above.now < 2 ^ 32 }
     ensures { result ≡ opened (λ i. slice_index ends.now i) total row.now place (reverse above.now) }
 {
@@ -84,7 +82,7 @@ fn opened(ends: &[u32], total: u32, row: &Row, place: u32, above: &[Open]) -> Op
         None => (0, 0),
     };
     let left = total.saturating_sub(row.first);
-    let count = row.first.saturating_sub(row.end);
+    let count = row.first.saturating_sub(row.past);
     let start = place.saturating_sub(row.below);
     Open {
         start,
@@ -99,84 +97,88 @@ fn opened(ends: &[u32], total: u32, row: &Row, place: u32, above: &[Open]) -> Op
     }
 }
 
-/// Opens the node of a row with `place` rows in front of it, or writes it at once if no node is below it.
+/// Opens the node of a row with `place` rows in front of it, or turns it at once if no node is below it.
 fn open_row(
     ends: &[u32],
     total: u32,
-    row: &Row,
+    row: &NodeRow,
     place: u32,
     above: &mut Vec<Open>,
-    nodes: &mut Vec<NodeRow>,
+    rows: &mut Turning,
 ) -> Result<(), SyntaxError>
-    requires { place ≤ most_nodes }
-    ensures { IsOpened (λ i. slice_index ends.now i) total row.now place above.old.items above.new.items nodes.old.items nodes.new.items result }
+    requires few { place ≤ most_nodes }
+    requires room { rows.old.room ≡ 1 + length above.old.items }
+    ensures opened { IsOpened (λ i. slice_index ends.now i) total row.now place above.old.items above.new.items rows.old.turned rows.new.turned result }
+    ensures unread { rows.new.unread ≡ rows.old.unread }
+    ensures room { IfOk result (λ _. rows.new.room ≡ length above.new.items) }
 {
-    close_open(place + 1, above, nodes)?;
+    close_open(place + 1, above, rows);
     if above.len() > MOST_DEEP {
         return Err(SyntaxError::TooDeep);
     }
     let inner = opened(ends, total, row, place, above);
     if inner.start == place {
-        nodes.push(inner.node)?;
+        rows.put(inner.node);
     } else {
         above.push(inner)?;
     }
     Ok(())
 }
 
-/// Writes the nodes of the rows, the last one first, and then those above.
+/// Turns the rows, the last one first, and then those above.
 fn from_right(
     ends: &[u32],
     total: u32,
-    rows: &[Row],
     above: &mut Vec<Open>,
-    nodes: &mut Vec<NodeRow>,
+    rows: &mut Turning,
 ) -> Result<(), SyntaxError>
-    requires { length rows.now ≤ most_nodes }
-    ensures { IsFromRight (λ i. slice_index ends.now i) total rows.now above.old.items nodes.old.items nodes.new.items result }
+    requires few { length rows.old.unread ≤ most_nodes }
+    requires room { rows.old.room ≡ length above.old.items }
+    ensures turned { IsFromRight (λ i. slice_index ends.now i) total rows.old.unread above.old.items rows.old.turned rows.new.turned result }
+    ensures read { IfOk result (λ _. rows.new.unread ≡ []) }
+    ensures full { IfOk result (λ _. rows.new.room ≡ 0) }
 {
-    let mut rest = rows;
-    while let Some((row, front)) = rest.split_last() {
-        open_row(ends, total, row, front.len() as u32, above, nodes)?;
-        rest = front;
+    while let Some(row) = rows.read() {
+        let place = rows.unread() as u32;
+        open_row(ends, total, &row, place, above, rows)?;
     }
-    close_open(0, above, nodes)
+    close_open(0, above, rows);
+    Ok(())
 }
 
-/// The rows of a tree's nodes in preorder, from the parser's. `ends` says how many of the `tokens` tokens there are up
-/// to each solid one, from none on.
+/// The rows of a tree's nodes in preorder, from the parser's, in the same vector. `ends` says how many of the `tokens`
+/// tokens there are up to each solid one, from none on.
 pub(crate) fn node_rows(
     alloc: Global,
-    rows: &[Row],
+    rows: Vec<NodeRow>,
     ends: &[u32],
     tokens: u32,
 ) -> Result<Vec<NodeRow>, SyntaxError>
-    ensures { (kind : SyntaxKind) (kids : Forest) → rows.now ≡ rows_of (tree kind kids done) 0
+    ensures { (kind : SyntaxKind) (kids : Forest) → rows.items ≡ rows_of (tree kind kids done) 0
         → OkUnlessDeep (nat_lt most_deep (height kids))
-        (λ v. (v.items ≡ tree_rows (λ i. slice_index ends.now i) tokens kind kids) × (length rows.now ≤ most_nodes))
+        (λ v. (v.items ≡ tree_rows (λ i. slice_index ends.now i) tokens kind kids) × (length rows.items ≤ most_nodes))
         result }
 {
-    let Some((root, below)) = rows.split_last() else {
-        return Err(SyntaxError::NoTree);
-    };
     if rows.len() > MOST_NODES {
         return Err(SyntaxError::Memory);
     }
-    let mut above = Vec::new(alloc);
-    let mut nodes = Vec::with_capacity(alloc, rows.len())?;
+    let mut rows = Turning::new(rows);
+    let Some(root) = rows.read() else {
+        return Err(SyntaxError::NoTree);
+    };
     let node = NodeRow {
         kind: root.kind,
         parent: 0,
         first: 0,
         past: tokens,
-        below: below.len() as u32,
+        below: rows.unread() as u32,
     };
+    let mut above = Vec::new(alloc);
     above.push(Open {
         start: 0,
         number: 0,
         node,
     })?;
-    from_right(ends, root.first, below, &mut above, &mut nodes)?;
-    nodes.reverse();
-    Ok(nodes)
+    from_right(ends, root.first, &mut above, &mut rows)?;
+    Ok(rows.finish())
 }

@@ -1,24 +1,17 @@
 //! What the functions of forms call for a goal one level below.
-ghost use Rattle.ssr_syntax.specs.Runs.{Gives, RunsBelow, state_of};
+ghost use Rattle.ssr_syntax.specs.Runs.{RunsBelow, Steps};
 
 use crate::goals::{Fault, Goal};
-use crate::rows::Row;
-use crate::tokens::Token;
+use crate::parser::Parser;
 
 /// Reads a goal one level below.
-pub(crate) trait Reader<'a> {
+pub(crate) trait Reader {
     /// When it may be called.
     ghost can_read: { Self → Type 0 };
-    /// What it does to the rows and the tokens that are left.
+    /// What it does to the parser's state.
     ghost reads: { Self → RunsBelow };
 
-    /// Writes the rows of the goal's tree, and answers the tokens behind it.
-    fn read(
-        &self,
-        goal: Goal,
-        tokens: &'a [Token],
-        out: &mut Vec<Row>,
-    ) -> Result<&'a [Token], Fault>
+    fn read(&self, p: &mut Parser<'_>, goal: Goal) -> Result<(), Fault>
         requires { can_read self.now }
-        ensures { Gives (λ r. r.now) out.new.items result (reads self.now goal (state_of out.old.items tokens.now)) };
+        ensures { Steps p.new result (reads self.now goal p.old) };
 }

@@ -1,18 +1,32 @@
 //! The syntax trees of texts.
-ghost use Rattle.std.specs.Prelude.{◌≡◌, ◌<◌, ◌≤◌, ◌^◌, length, map, IfOk, reverse, ◌&&◌};
+ghost use Rattle.std.specs.Prelude.{◌≡◌, ◌<◌, ◌≤◌, ◌^◌, length, IfOk, IfErr, reverse, ◌&&◌, string_bytes};
+ghost use Rattle.ssr_syntax.specs.declared.syntax_error.SyntaxError.TheVariants.{TooLong};
 ghost use Rattle.ssr_syntax_lex.specs.Tokens.{Tiles, spell};
 ghost use Rattle.ssr_syntax.specs.Reading.{Answers, AnswersTrimmed, IsLexed, goal_of, begins_solid, tree_reading, file_reading, fragment_reading, trimmed, FitsFile, FitsFragment, IsTreeOfFile, IsTreeOfFragment, IsThatOrTooDeep};
+ghost use Rattle.ssr_syntax.specs.CoreTrees.{IsCore};
 ghost use Rattle.ssr_syntax_tree.specs.Syntax.{Syntax};
 
 use crate::fragments::Fragment;
 use crate::goals::Goal;
-use crate::parser::parse_as;
+use crate::grammar::parse_as;
 use crate::preorder::node_rows;
-use crate::solid::solid;
+use crate::solid::solid_tokens;
 use crate::syntax_error::SyntaxError;
+use crate::tree_tokens::tree_tokens;
 use ssr_syntax_lex::{LexError, RawToken, lex};
-use ssr_syntax_tree::{TokenRow, Tree};
-use std::alloc::{AllocError, Global};
+use ssr_syntax_tree::Tree;
+use std::alloc::Global;
+
+/// Refuses a text that isn't shorter than 2^32 bytes.
+fn check_length(text: &str) -> Result<(), SyntaxError>
+    ensures short { IfOk result (λ _. length text.now < 2 ^ 32) }
+    ensures long { IfErr result (λ e. (e ≡ TooLong) × (2 ^ 32 ≤ length text.now)) }
+{
+    if text.len() > u32::MAX as usize {
+        return Err(SyntaxError::TooLong);
+    }
+    Ok(())
+}
 
 /// The tokens of a text.
 fn raw_tokens(alloc: Global, text: &str) -> Result<Vec<RawToken>, SyntaxError>
@@ -26,60 +40,49 @@ fn raw_tokens(alloc: Global, text: &str) -> Result<Vec<RawToken>, SyntaxError>
     }
 }
 
-/// The tree's rows of these tokens.
-fn token_rows(alloc: Global, tokens: &[RawToken]) -> Result<Vec<TokenRow>, AllocError>
-    ensures { IfOk result (λ v. v.items ≡ map (λ t. record { kind = t.kind; start = t.range.start }) tokens.now) }
-{
-    let mut rows = Vec::with_capacity(alloc, tokens.len())?;
-    for token in tokens {
-        rows.push(TokenRow {
-            kind: token.kind,
-            start: token.range.start,
-        })?;
-    }
-    Ok(rows)
-}
-
 /// The tree that a text's tokens are, read as the goal.
 fn read_tokens(
     alloc: Global,
     goal: Goal,
-    text: &str,
-    tokens: &[RawToken],
+    text: String,
+    raw: Vec<RawToken>,
 ) -> Result<Tree, SyntaxError>
-    requires short { length text.now < 2 ^ 32 }
-    requires few { length tokens.now < 2 ^ 32 }
-    requires tiles { Tiles text.now tokens.now }
-    requires spelled { spell text.now tokens.now ≡ text.now }
-    ensures { Answers result (tree_reading goal text.now tokens.now) }
+    requires short { length (string_bytes text) < 2 ^ 32 }
+    requires tiles { Tiles (string_bytes text) raw.items }
+    requires spelled { spell (string_bytes text) raw.items ≡ string_bytes text }
+    ensures { Answers result (tree_reading goal (string_bytes text) raw.items) (string_bytes text) }
 {
-    let solid_tokens = solid(alloc, tokens)?;
-    let rows = parse_as(alloc, goal, &solid_tokens.tokens)?;
-    // Dropped as soon as they are read, which keeps the most memory in use low.
-    drop(solid_tokens.tokens);
-    let nodes = node_rows(alloc, &rows, &solid_tokens.ends, tokens.len() as u32)?;
-    drop(rows);
-    drop(solid_tokens.ends);
-    let tokens = token_rows(alloc, tokens)?;
-    let source = String::from_str(alloc, text)?;
-    Ok(Tree::from_parts(source, tokens, nodes))
-}
-
-#[tactic(auto, unfolding(crate::specs::Reading::file_reading))]
-fn read_file(alloc: Global, text: &str) -> Result<Tree, SyntaxError>
-    ensures { Answers result (file_reading text.now) }
-{
-    let tokens = raw_tokens(alloc, text)?;
-    read_tokens(alloc, Goal::File, text, &tokens)
+    let solid = solid_tokens(alloc, &raw)?;
+    let count = solid.len();
+    let written = parse_as(alloc, goal, &solid)?;
+    // Each list is dropped as soon as it is read, which keeps the most memory in use low.
+    drop(solid);
+    let tokens = tree_tokens(alloc, &raw, count, &written.taken)?;
+    drop(raw);
+    drop(written.taken);
+    let nodes = node_rows(alloc, written.rows, &tokens.ends, tokens.rows.len() as u32)?;
+    Ok(Tree::from_parts(text, tokens.rows, nodes))
 }
 
 /// The syntax tree of a file. Its leaves are all tokens of the text, white space and comments among them.
 pub fn parse_file(alloc: Global, text: &str) -> Result<Tree, SyntaxError>
-    ensures answers { Answers result (file_reading text.now) }
+    ensures answers { Answers result (file_reading text.now) text.now }
     ensures sound { IfOk result (λ tree. IsTreeOfFile text.now tree) }
-    ensures complete { (syntax : Syntax) → length text.now < 2 ^ 32 → FitsFile text.now syntax → IsThatOrTooDeep (λ tree. tree) syntax result }
+    ensures complete { (syntax : Syntax) → length text.now < 2 ^ 32 → IsCore syntax → FitsFile text.now syntax → IsThatOrTooDeep (λ tree. tree) syntax result }
 {
-    read_file(alloc, text)
+    check_length(text)?;
+    parse_file_owned(alloc, String::from_str(alloc, text)?)
+}
+
+/// The syntax tree of a file, of which the text becomes the source: it isn't copied.
+pub fn parse_file_owned(alloc: Global, text: String) -> Result<Tree, SyntaxError>
+    ensures answers { Answers result (file_reading (string_bytes text)) (string_bytes text) }
+    ensures sound { IfOk result (λ tree. IsTreeOfFile (string_bytes text) tree) }
+    ensures complete { (syntax : Syntax) → length (string_bytes text) < 2 ^ 32 → IsCore syntax → FitsFile (string_bytes text) syntax
+        → IsThatOrTooDeep (λ tree. tree) syntax result }
+{
+    let raw = raw_tokens(alloc, text.as_str())?;
+    read_tokens(alloc, Goal::File, text, raw)
 }
 
 impl Fragment {
@@ -102,40 +105,24 @@ fn is_solid_outside(tokens: &[RawToken]) -> bool
     !first.kind.is_trivia() && !last.kind.is_trivia()
 }
 
-/// The tree of a fragment, whose text without the white space around it is `inner`.
-#[tactic(auto, unfolding(crate::specs::Reading::fragment_reading))]
-fn read_fragment(
-    alloc: Global,
-    fragment: Fragment,
-    text: &str,
-    inner: &str,
-) -> Result<(Tree, u32), SyntaxError>
-    requires inner { inner.now ≡ trimmed text.now }
-    requires bound { length inner.now ≤ length text.now }
-    ensures { AnswersTrimmed result (fragment_reading fragment text.now) text.now }
-{
-    if text.len() > u32::MAX as usize {
-        return Err(SyntaxError::TooLong);
-    }
-    let front = text.len().saturating_sub(text.trim_start().len()) as u32;
-    let tokens = raw_tokens(alloc, inner)?;
-    if !is_solid_outside(&tokens) {
-        return Err(SyntaxError::NoTree);
-    }
-    let tree = read_tokens(alloc, fragment.goal(), inner, &tokens)?;
-    Ok((tree, front))
-}
-
 /// The syntax tree of a text without the white space around it, and how many bytes of that stand in front. The tree's
 /// root is a node of the fragment's kind. A comment in front of it or behind it is no part of a fragment: `NoTree`.
 pub fn fragment(alloc: Global, fragment: Fragment, text: &str) -> Result<(Tree, u32), SyntaxError>
     ensures answers { AnswersTrimmed result (fragment_reading fragment text.now) text.now }
     ensures sound { IfOk result (λ answer. IsTreeOfFragment fragment text.now answer.0) }
-    ensures complete { (syntax : Syntax) → length text.now < 2 ^ 32 → FitsFragment fragment text.now syntax
+    ensures complete { (syntax : Syntax) → length text.now < 2 ^ 32 → IsCore syntax → FitsFragment fragment text.now syntax
         → IsThatOrTooDeep (λ answer. answer.0) syntax result }
 {
+    check_length(text)?;
     let inner = text.trim();
-    read_fragment(alloc, fragment, text, inner)
+    let raw = raw_tokens(alloc, inner)?;
+    if !is_solid_outside(&raw) {
+        return Err(SyntaxError::NoTree);
+    }
+    let front = text.len().saturating_sub(text.trim_start().len()) as u32;
+    let source = String::from_str(alloc, inner)?;
+    let tree = read_tokens(alloc, fragment.goal(), source, raw)?;
+    Ok((tree, front))
 }
 
 #[cfg(test)]
@@ -143,6 +130,7 @@ mod tests {
     use super::*;
     use ssr_syntax_lex::{SyntaxKind, TextRange};
     use ssr_syntax_tree::NodeNo;
+    use std::alloc::AllocError;
     use std::test::Fail;
 
     // Each node's kind and range, in preorder.
@@ -289,7 +277,7 @@ mod tests {
             Some(SyntaxError::NoTree)
         );
         assert_eq!(rt;
-            fragment(alloc, Fragment::Expr, "1 == 2").err(),
+            fragment(alloc, Fragment::Expr, "1 && 2").err(),
             Some(SyntaxError::NoTree)
         );
         assert_eq!(rt;

@@ -1,6 +1,6 @@
 //! The solid tokens of a text: all but white space and comments, joined to the longest ones.
-ghost use Rattle.std.specs.Prelude.{◌≡◌, ◌<◌, ◌^◌, ◌∷◌, length, IfOk, drop};
-ghost use Rattle.ssr_syntax.specs.Solid.{with_eq, with_r_angle, twice, joined, lengthened, is_joint, solid_token, solid_tokens, ends};
+ghost use Rattle.std.specs.Prelude.{◌≡◌, IfOk, drop};
+ghost use Rattle.ssr_syntax.specs.Solid.{with_eq, with_r_angle, twice, joined, lengthened, is_joint, solid_token, solid_tokens};
 
 use crate::tokens::Token;
 use ssr_syntax_lex::{RawToken, SyntaxKind};
@@ -121,34 +121,19 @@ fn solid_token(first: &RawToken, behind: &[RawToken]) -> Token
     }
 }
 
-/// The solid tokens of a text.
-#[derive(Drop)]
-pub(crate) struct SolidTokens {
-    pub(crate) tokens: Vec<Token>,
-    /// How many of all tokens there are up to each solid one and with it, after none for no solid token.
-    pub(crate) ends: Vec<u32>,
-}
-
 /// All tokens but white space and comments.
-pub(crate) fn solid(alloc: Global, raw: &[RawToken]) -> Result<SolidTokens, AllocError>
-    requires { length raw.now < 2 ^ 32 }
-    ensures tokens { IfOk result (λ s. s.tokens.items ≡ solid_tokens raw.now) }
-    ensures ends { IfOk result (λ s. s.ends.items ≡ 0 ∷ ends 0 raw.now) }
+pub(crate) fn solid_tokens(alloc: Global, raw: &[RawToken]) -> Result<Vec<Token>, AllocError>
+    ensures { IfOk result (λ v. v.items ≡ solid_tokens raw.now) }
 {
-    let mut tokens = Vec::new(alloc);
-    let mut ends = Vec::new(alloc);
-    ends.push(0)?;
+    let mut tokens = Vec::with_capacity(alloc, raw.len())?;
     let mut rest = raw;
-    let mut before = 0u32;
     while let Some((first, others)) = rest.split_first() {
-        before += 1;
         if !first.kind.is_trivia() {
             tokens.push(solid_token(first, others))?;
-            ends.push(before)?;
         }
         rest = others;
     }
-    Ok(SolidTokens { tokens, ends })
+    Ok(tokens)
 }
 
 #[cfg(test)]
@@ -178,20 +163,19 @@ mod tests {
             byte(SyntaxKind::COMMENT, 5, false),
             byte(SyntaxKind::IDENT, 6, false),
         ];
-        let solid = solid(rt.alloc(), &raw)?;
+        let solid = solid_tokens(rt.alloc(), &raw)?;
         let want = [
             (SyntaxKind::IDENT, SyntaxKind::IDENT, 1),
             (SyntaxKind::EQ, SyntaxKind::EQ2, 2),
             (SyntaxKind::EQ, SyntaxKind::EQ, 1),
             (SyntaxKind::IDENT, SyntaxKind::IDENT, 1),
         ];
-        assert_eq!(rt; solid.tokens.len(), want.len());
-        for (token, (kind, joined, size)) in solid.tokens.iter().zip(want) {
+        assert_eq!(rt; solid.len(), want.len());
+        for (token, (kind, joined, size)) in solid.iter().zip(want) {
             assert_eq!(rt; token.kind, kind);
             assert_eq!(rt; token.joined, joined);
             assert_eq!(rt; token.size, size);
         }
-        assert_eq!(rt; solid.ends.as_slice(), [0, 1, 4, 5, 7].as_slice());
         Ok(())
     }
 }

@@ -10,7 +10,8 @@ pub enum SyntaxError {
     Lex,
     /// The tokens aren't those of a tree.
     NoTree,
-    /// The tree's deepest node has more than 1,024 nodes above it.
+    /// The tree's deepest node would have more than 1,024 nodes above it, or the text is nested so deeply that it was read
+    /// no further, and may have no tree.
     TooDeep,
     /// The text isn't shorter than 2^32 bytes.
     TooLong,

@@ -1,10 +1,7 @@
-//! The tokens that the parser reads, one by one.
-ghost use Rattle.std.specs.Prelude.{◌≡◌, ◌-◌, true, [], ◌∷◌};
+//! The tokens that the parser reads, and sets of their kinds.
+ghost use Rattle.std.specs.Prelude.{◌≡◌};
 ghost use Rattle.ssr_syntax.specs.Kinds.{mem};
-ghost use Rattle.ssr_syntax.specs.Forms.{at, behind, past, passes};
-ghost use Rattle.ssr_syntax.specs.Runs.{Leaves};
 
-use crate::goals::Fault;
 use ssr_syntax_lex::SyntaxKind;
 
 /// A token that is neither white space nor a comment.
@@ -18,30 +15,22 @@ pub(crate) struct Token {
     pub(crate) size: u8,
 }
 
-/// Whether the next token is of this kind.
-pub(crate) fn at(kind: SyntaxKind, tokens: &[Token]) -> bool
-    ensures { result ≡ passes (at (kind ∷ [])) tokens.now }
-{
-    tokens.first().is_some_and(|first| first.joined == kind)
-}
+/// The kind of what follows the last token. No token has it.
+pub(crate) const END: SyntaxKind = SyntaxKind::SOURCE_FILE;
 
-/// What is left behind one token of this kind.
-pub(crate) fn expect(kind: SyntaxKind, tokens: &[Token]) -> Result<&[Token], Fault>
-    ensures { Leaves (λ r. r.now) result (past true (kind ∷ []) tokens.now) }
-{
-    match tokens.split_first() {
-        Some((first, rest)) if first.joined == kind => behind(first.size, rest),
-        _ => Err(Fault::NoTree),
-    }
-}
+/// Some kinds of tokens.
+pub(crate) type TokenSet<'a> = &'a [SyntaxKind];
 
-/// What is left behind the other tokens that one of this size is joined from.
-pub(crate) fn behind(size: u8, rest: &[Token]) -> Result<&[Token], Fault>
-    ensures { Leaves (λ r. r.now) result (behind (size - 1) rest.now) }
+/// Whether a kind is one of the set.
+pub(crate) fn contains(set: TokenSet<'_>, kind: SyntaxKind) -> bool
+    ensures { result ≡ mem kind set.now }
 {
-    let more = size.saturating_sub(1) as usize;
-    if more > rest.len() {
-        return Err(Fault::NoTree);
+    let mut rest = set;
+    while let Some((member, others)) = rest.split_first() {
+        if kind == *member {
+            return true;
+        }
+        rest = others;
     }
-    Ok(&rest[more..])
+    false
 }

@@ -6,11 +6,14 @@ use Rattle.std.specs.Str.{chars}
 use Rattle.ssr_syntax_lex.specs.Cursor.{Chars}
 use Rattle.ssr_syntax_lex.specs.Words.{is_punctuation}
 use Rattle.ssr_syntax_lex.specs.Raw.{Taken, token, fault_of}
-use Rattle.ssr_syntax_lex.specs.Tokens.{size, range_of, in_front, is_dot, dots_behind, tokens_from, tokens, fault_from, fault, flagged}
+use Rattle.ssr_syntax_lex.specs.Tokens.{size, range_of, in_front, dots_behind, tokens_from, tokens, fault_from, fault}
+use Rattle.ssr_syntax_lex.specs.Steps.{flagged}
+use Rattle.ssr_syntax_lex.specs.Fault.{words_at}
+use Rattle.ssr_syntax_lex.specs.Kinds.{same_kind}
+use Rattle.ssr_syntax_lex.specs.declared.kinds.SyntaxKind.TheVariants as k
 use Rattle.ssr_syntax_lex.specs.declared.kinds.SyntaxKind.{SyntaxKind}
 use Rattle.ssr_syntax_lex.specs.declared.range.TextRange.{TextRange}
 use Rattle.ssr_syntax_lex.specs.declared.tokens.RawToken.{RawToken}
-use Rattle.ssr_syntax_lex.specs.declared.tokens.LexFault.{LexFault}
 use Rattle.ssr_syntax_lex.proofs.Fronts.{token_leaves, shorter}
 use Rattle.ssr_syntax_lex.proofs.Ranges.{TextRange-same}
 
@@ -20,7 +23,7 @@ with_waiting None ts = ts
 with_waiting (Some t) ts = in_front t.kind t.range ts
 
 -- The text is `whole`, with this fault; of it, `done` is finished, and one token waits for its flag.
-pub record Cutting (whole : Option (List RawToken)) (told : Option LexFault) (total : ℕ) (done : List RawToken) (waiting : Option RawToken) (start dots : ℕ) (rest : Chars) : Type 0 where
+pub record Cutting (whole : Option (List RawToken)) (told : Option (List ℕ)) (total : ℕ) (done : List RawToken) (waiting : Option RawToken) (start dots : ℕ) (rest : Chars) : Type 0 where
   pub fuel : ℕ
   pub enough : length rest ≤ fuel
   pub goes_on : option_map (λ ts. done ++ with_waiting waiting ts) (tokens_from fuel start dots rest) ≡ whole
@@ -52,7 +55,7 @@ one_more fuel start dots c cs kind rest e =
 -- the fault is that behind the first token, or where that would begin
 fault_behind : (fuel start dots c : ℕ) (cs : Chars) (kind : SyntaxKind) (rest : Chars) → token dots (c ∷ cs) ≡ Some (kind, rest) → fault_from (suc fuel) start dots (c ∷ cs) ≡ fault_from fuel (start + (size (c ∷ cs) - size rest)) (dots_behind dots kind) rest
 fault_behind fuel start dots c cs kind rest e =
-    let here : Option LexFault = Some (record { kind = fault_of (c ∷ cs); start = start }) in
+    let here : Option (List ℕ) = Some (words_at (fault_of (c ∷ cs)) start) in
     ap (λ o. option_map_or (λ (taken : Taken). let count : ℕ = size (c ∷ cs) - size taken.1 in fault_from fuel (start + count) (dots_behind dots taken.0) taken.1) o here) e
 
 flag_first : (waiting : Option RawToken) (kind : SyntaxKind) (range : TextRange) (ts : List RawToken) → with_waiting waiting (in_front kind range ts) ≡ flagged waiting (is_punctuation kind) ++ in_front kind range ts
@@ -67,10 +70,10 @@ pass_on done waiting kind range (Some ts) =
     (ap (λ us. done ++ us) (flag_first waiting kind range ts) ∙ sym (append_assoc done (flagged waiting (is_punctuation kind)) (in_front kind range ts)))
 
 few_dots : (dots : ℕ) (kind : SyntaxKind) → dots_behind dots kind ≤ dots + 1
-few_dots dots kind = elim (is_dot kind) as (λ b. (if b then dots + 1 else 0) ≤ dots + 1) [ true ↦ omega arith | false ↦ omega arith ]
+few_dots dots kind = elim (same_kind kind k.DOT) as (λ b. (if b then dots + 1 else 0) ≤ dots + 1) [ true ↦ omega arith | false ↦ omega arith ]
 
 -- one token further, with the fuel, the place and the range as variables
-step : (whole : Option (List RawToken)) (told : Option LexFault) (done more : List RawToken) (waiting : Option RawToken) (fuel start dots next c : ℕ) (cs : Chars) (kind : SyntaxKind) (rest : Chars) (range : TextRange) → length rest ≤ length cs → suc (length cs) ≤ fuel → option_map (λ ts. done ++ with_waiting waiting ts) (tokens_from fuel start dots (c ∷ cs)) ≡ whole → fault_from fuel start dots (c ∷ cs) ≡ told → token dots (c ∷ cs) ≡ Some (kind, rest) → more ≡ done ++ flagged waiting (is_punctuation kind) → next ≡ start + (size (c ∷ cs) - size rest) → range ≡ range_of start (size (c ∷ cs) - size rest) → (left : ℕ) × (length rest ≤ left) × (option_map (λ ts. more ++ in_front kind range ts) (tokens_from left next (dots_behind dots kind) rest) ≡ whole) × (fault_from left next (dots_behind dots kind) rest ≡ told)
+step : (whole : Option (List RawToken)) (told : Option (List ℕ)) (done more : List RawToken) (waiting : Option RawToken) (fuel start dots next c : ℕ) (cs : Chars) (kind : SyntaxKind) (rest : Chars) (range : TextRange) → length rest ≤ length cs → suc (length cs) ≤ fuel → option_map (λ ts. done ++ with_waiting waiting ts) (tokens_from fuel start dots (c ∷ cs)) ≡ whole → fault_from fuel start dots (c ∷ cs) ≡ told → token dots (c ∷ cs) ≡ Some (kind, rest) → more ≡ done ++ flagged waiting (is_punctuation kind) → next ≡ start + (size (c ∷ cs) - size rest) → range ≡ range_of start (size (c ∷ cs) - size rest) → (left : ℕ) × (length rest ≤ left) × (option_map (λ ts. more ++ in_front kind range ts) (tokens_from left next (dots_behind dots kind) rest) ≡ whole) × (fault_from left next (dots_behind dots kind) rest ≡ told)
 step whole told done more waiting zero start dots next c cs kind rest range less enough goes tells e pushed place is = absurd (omega arith)
 step whole told done more waiting (suc fuel) start dots next c cs kind rest range less enough goes tells e pushed place is = (
   fuel,
@@ -93,7 +96,7 @@ left_place start here left total h e = omega arith
 few_left : (start here left total dots more : ℕ) → left < here → start + here ≡ total → dots ≤ start → more ≤ dots + 1 → more ≤ total - left
 few_left start here left total dots more h e few m = omega arith
 
-pub gone_on : (whole : Option (List RawToken)) (told : Option LexFault) (total : ℕ) (done : List RawToken) (waiting : Option RawToken) (start dots : ℕ) (cs : Chars) (kind : SyntaxKind) (rest : Chars) (more : List RawToken) (range : TextRange) → Cutting whole told total done waiting start dots cs → (length cs == 0) ≡ false → token dots cs ≡ Some (kind, rest) → more ≡ done ++ flagged waiting (is_punctuation kind) → range.start ≡ start → range.end ≡ total - size rest → Cutting whole told total more (Some (record { kind = kind; range = range; joint = false })) (total - size rest) (dots_behind dots kind) rest
+pub gone_on : (whole : Option (List RawToken)) (told : Option (List ℕ)) (total : ℕ) (done : List RawToken) (waiting : Option RawToken) (start dots : ℕ) (cs : Chars) (kind : SyntaxKind) (rest : Chars) (more : List RawToken) (range : TextRange) → Cutting whole told total done waiting start dots cs → (length cs == 0) ≡ false → token dots cs ≡ Some (kind, rest) → more ≡ done ++ flagged waiting (is_punctuation kind) → range.start ≡ start → range.end ≡ total - size rest → Cutting whole told total more (Some (record { kind = kind; range = range; joint = false })) (total - size rest) (dots_behind dots kind) rest
 gone_on whole told total done waiting start dots [] kind rest more range cutting some e pushed starts ends = absurd (cc)
 gone_on whole told total done waiting start dots (c ∷ cs) kind rest more range cutting some e pushed starts ends =
     let less = shorter c cs rest (token_leaves dots c cs (kind, rest) e) in
@@ -112,7 +115,7 @@ gone_on whole told total done waiting start dots (c ∷ cs) kind rest more range
     }
 
 -- the same, with the numbers as the code has them
-pub gone_to : (whole : Option (List RawToken)) (told : Option LexFault) (total : ℕ) (done : List RawToken) (waiting : Option RawToken) (start dots : ℕ) (cs : Chars) (kind : SyntaxKind) (rest : Chars) (more : List RawToken) (range : TextRange) (next points : ℕ) → Cutting whole told total done waiting start dots cs → (length cs == 0) ≡ false → token dots cs ≡ Some (kind, rest) → more ≡ done ++ flagged waiting (is_punctuation kind) → next ≡ total - size rest → points ≡ dots_behind dots kind → range.start ≡ start → range.end ≡ next → Cutting whole told total more (Some (record { kind = kind; range = range; joint = false })) next points rest
+pub gone_to : (whole : Option (List RawToken)) (told : Option (List ℕ)) (total : ℕ) (done : List RawToken) (waiting : Option RawToken) (start dots : ℕ) (cs : Chars) (kind : SyntaxKind) (rest : Chars) (more : List RawToken) (range : TextRange) (next points : ℕ) → Cutting whole told total done waiting start dots cs → (length cs == 0) ≡ false → token dots cs ≡ Some (kind, rest) → more ≡ done ++ flagged waiting (is_punctuation kind) → next ≡ total - size rest → points ≡ dots_behind dots kind → range.start ≡ start → range.end ≡ next → Cutting whole told total more (Some (record { kind = kind; range = range; joint = false })) next points rest
 gone_to whole told total done waiting start dots cs kind rest more range next points cutting some e pushed n p starts ends =
     let there = gone_on whole told total done waiting start dots cs kind rest more range cutting some e pushed starts (ends ∙ n) in
     subst (λ (x : ℕ). Cutting whole told total more (Some (record { kind = kind; range = range; joint = false })) x points rest) (sym n)
@@ -131,7 +134,7 @@ pub record Ahead (total start dots : ℕ) (cs rest : Chars) : Type 0 where
 ahead_bounds : (total start dots here left : ℕ) → left < here → start + here ≡ total → dots ≤ start → (left ≤ total) × (start ≤ total - left) × (dots + 1 ≤ total)
 ahead_bounds total start dots here left h e few = (omega arith, omega arith, omega arith)
 
-pub looked_ahead : (whole : Option (List RawToken)) (told : Option LexFault) (total : ℕ) (done : List RawToken) (waiting : Option RawToken) (start dots : ℕ) (cs : Chars) (kind : SyntaxKind) (rest : Chars) → Cutting whole told total done waiting start dots cs → (length cs == 0) ≡ false → token dots cs ≡ Some (kind, rest) → Ahead total start dots cs rest
+pub looked_ahead : (whole : Option (List RawToken)) (told : Option (List ℕ)) (total : ℕ) (done : List RawToken) (waiting : Option RawToken) (start dots : ℕ) (cs : Chars) (kind : SyntaxKind) (rest : Chars) → Cutting whole told total done waiting start dots cs → (length cs == 0) ≡ false → token dots cs ≡ Some (kind, rest) → Ahead total start dots cs rest
 looked_ahead whole told total done waiting start dots [] kind rest cutting some e = absurd (cc)
 looked_ahead whole told total done waiting start dots (c ∷ cs) kind rest cutting some e =
     let less = shorter c cs rest (token_leaves dots c cs (kind, rest) e) in

@@ -40,11 +40,14 @@ length-past_char rest behind c step =
 not_zero : (n : ℕ) → 1 ≤ n → (n == 0) ≡ false
 not_zero n h = grind (arith, nat_tests)
 
+pub not_empty : (c : ℕ) (cs : Chars) → (length (c ∷ cs) == 0) ≡ false
+not_empty c cs = not_zero (length (c ∷ cs)) (omega arith)
+
 pub nothing_left : (cs : Chars) → (length (encode_utf8_all cs) == 0) ≡ (length cs == 0)
 nothing_left [] = refl
 nothing_left (c ∷ cs) =
     not_zero (length (encode_utf8_all (c ∷ cs))) (omega (arith, length-append (encode_utf8 c) (encode_utf8_all cs), encode_not_empty c))
-    ∙ sym (not_zero (length (c ∷ cs)) (omega arith))
+    ∙ sym (not_empty c cs)
 
 -- the run and what follows it are the whole
 pub run-past : (test : ℕ → Bool) (cs : Chars) → run test cs ++ past test cs ≡ cs

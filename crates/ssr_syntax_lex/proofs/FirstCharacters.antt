@@ -1,13 +1,14 @@
 -- The rows that are left when the first character is known.
-use Rattle.std.proofs.Common.{◌≡◌, ℕ, ◌==◌, Bool, true, false, if◌then◌else◌, [], ◌∷◌, drop, refl, sym, ap, subst, ◌∙◌, lit<, ne_eqb, eqb-true}
+use Rattle.std.proofs.Common.{◌≡◌, ℕ, Bool, true, false, if◌then◌else◌, [], ◌∷◌, drop, refl, sym, ap, subst, ◌∙◌, lit<, ne_eqb, eqb-true}
 use Rattle.std.specs.Prelude.{Option, Some, None, Result, slice_get}
 use Rattle.unicode_ident.proofs.IdentLemmas.{is_xid_start-ascii}
-use Rattle.ssr_syntax_lex.specs.Cursor.{Chars, is_at, past}
-use Rattle.ssr_syntax_lex.specs.Characters.{is_whitespace, is_digit, starts_word}
+use Rattle.ssr_syntax_lex.specs.Cursor.{Chars, is_at, begins, past}
+use Rattle.ssr_syntax_lex.specs.Characters.{◌∈◌, the_char, is_whitespace, is_digit, starts_word, is_in_line}
 use Rattle.ssr_syntax_lex.specs.Words.{mark_kind}
 use Rattle.ssr_syntax_lex.specs.Numbers.{number}
-use Rattle.ssr_syntax_lex.specs.Scan.{is_in_line, past_comments, past_quoted, past_raw_string, past_char}
-use Rattle.ssr_syntax_lex.specs.Raw.{Taken, begins_raw_string, begins_string, past_string, begins_raw_identifier, begins_lifetime_behind, punctuation, kind_of_word, past_word, closed, IsPlain, token, fault_of, Takes}
+use Rattle.ssr_syntax_lex.specs.Scan.{past_comments, past_quoted, past_raw_string, past_char}
+use Rattle.ssr_syntax_lex.specs.Raw.{Taken, begins_raw_string, begins_string, past_string, begins_raw_identifier, begins_lifetime_behind, punctuation, kind_of_word, past_word, closed, token, fault_of}
+use Rattle.ssr_syntax_lex.specs.Steps.{IsPlain, Takes}
 use Rattle.ssr_syntax_lex.specs.declared.fault.FaultKind.{FaultKind}
 use Rattle.ssr_syntax_lex.specs.declared.fault.FaultKind.TheVariants as faults
 use Rattle.ssr_syntax_lex.specs.declared.kinds.SyntaxKind.{SyntaxKind}
@@ -24,40 +25,40 @@ from_front : (P : Chars → Type 0) (c : ℕ) → ((cs : Chars) → P (c ∷ cs)
 from_front P c holds [] e = absurd (cc)
 from_front P c holds (d ∷ cs) e = subst (λ (x : ℕ). P (x ∷ cs)) (first_is d c cs e) (holds cs)
 
-pub token_slash : (dots : ℕ) (cs : Chars) → slice_get cs 0 ≡ Some 47 → token dots cs ≡ (if is_at 1 47 cs then Some (k.COMMENT, past is_in_line cs) else (if is_at 1 42 cs then closed k.COMMENT (past_comments 1 (drop 2 cs)) else Some (k.SLASH, drop 1 cs)))
+pub token_slash : (dots : ℕ) (cs : Chars) → slice_get cs 0 ≡ Some (the_char "/") → token dots cs ≡ (if is_at 1 "/" cs then Some (k.COMMENT, past is_in_line cs) else (if is_at 1 "*" cs then closed k.COMMENT (past_comments 1 (drop 2 cs)) else Some (k.SLASH, drop 1 cs)))
 unfolding token mark_kind
-token_slash dots = from_front (λ cs. token dots cs ≡ (if is_at 1 47 cs then Some (k.COMMENT, past is_in_line cs) else (if is_at 1 42 cs then closed k.COMMENT (past_comments 1 (drop 2 cs)) else Some (k.SLASH, drop 1 cs)))) 47
-    (λ cs. rw (is_xid_start-ascii 47 (lit< tt)) refl)
+token_slash dots = from_front (λ cs. token dots cs ≡ (if is_at 1 "/" cs then Some (k.COMMENT, past is_in_line cs) else (if is_at 1 "*" cs then closed k.COMMENT (past_comments 1 (drop 2 cs)) else Some (k.SLASH, drop 1 cs)))) (the_char "/")
+    (λ cs. rw (is_xid_start-ascii (the_char "/") (lit< tt)) refl)
 
-pub token_quote : (dots : ℕ) (cs : Chars) → slice_get cs 0 ≡ Some 34 → token dots cs ≡ (closed k.STRING (past_quoted false (drop 1 cs)))
+pub token_quote : (dots : ℕ) (cs : Chars) → slice_get cs 0 ≡ Some (the_char "\"") → token dots cs ≡ (closed k.STRING (past_quoted false (drop 1 cs)))
 unfolding token
-token_quote dots = from_front (λ cs. token dots cs ≡ (closed k.STRING (past_quoted false (drop 1 cs)))) 34
+token_quote dots = from_front (λ cs. token dots cs ≡ (closed k.STRING (past_quoted false (drop 1 cs)))) (the_char "\"")
     (λ cs. refl)
 
-pub token_r : (dots : ℕ) (cs : Chars) → slice_get cs 0 ≡ Some 114 → token dots cs ≡ (if begins_raw_string cs then closed k.STRING (past_raw_string (drop 1 cs)) else (if begins_raw_identifier cs then Some (k.IDENT, past_word (drop 2 cs)) else Some (kind_of_word cs, past_word cs)))
+pub token_r : (dots : ℕ) (cs : Chars) → slice_get cs 0 ≡ Some (the_char "r") → token dots cs ≡ (if begins_raw_string cs then closed k.STRING (past_raw_string (drop 1 cs)) else (if begins_raw_identifier cs then Some (k.IDENT, past_word (drop 2 cs)) else Some (kind_of_word cs, past_word cs)))
 unfolding token
-token_r dots = from_front (λ cs. token dots cs ≡ (if begins_raw_string cs then closed k.STRING (past_raw_string (drop 1 cs)) else (if begins_raw_identifier cs then Some (k.IDENT, past_word (drop 2 cs)) else Some (kind_of_word cs, past_word cs)))) 114
-    (λ cs. rw (is_xid_start-ascii 114 (lit< tt)) refl)
+token_r dots = from_front (λ cs. token dots cs ≡ (if begins_raw_string cs then closed k.STRING (past_raw_string (drop 1 cs)) else (if begins_raw_identifier cs then Some (k.IDENT, past_word (drop 2 cs)) else Some (kind_of_word cs, past_word cs)))) (the_char "r")
+    (λ cs. rw (is_xid_start-ascii (the_char "r") (lit< tt)) refl)
 
-pub token_b : (dots : ℕ) (cs : Chars) → slice_get cs 0 ≡ Some 98 → token dots cs ≡ (if begins_string (drop 1 cs) then closed k.BYTE_STRING (past_string (drop 1 cs)) else (if is_at 1 39 cs then closed k.BYTE (past_char (drop 2 cs)) else Some (kind_of_word cs, past_word cs)))
+pub token_b : (dots : ℕ) (cs : Chars) → slice_get cs 0 ≡ Some (the_char "b") → token dots cs ≡ (if begins_string (drop 1 cs) then closed k.BYTE_STRING (past_string (drop 1 cs)) else (if is_at 1 "'" cs then closed k.BYTE (past_char (drop 2 cs)) else Some (kind_of_word cs, past_word cs)))
 unfolding token
-token_b dots = from_front (λ cs. token dots cs ≡ (if begins_string (drop 1 cs) then closed k.BYTE_STRING (past_string (drop 1 cs)) else (if is_at 1 39 cs then closed k.BYTE (past_char (drop 2 cs)) else Some (kind_of_word cs, past_word cs)))) 98
-    (λ cs. rw (is_xid_start-ascii 98 (lit< tt)) refl)
+token_b dots = from_front (λ cs. token dots cs ≡ (if begins_string (drop 1 cs) then closed k.BYTE_STRING (past_string (drop 1 cs)) else (if is_at 1 "'" cs then closed k.BYTE (past_char (drop 2 cs)) else Some (kind_of_word cs, past_word cs)))) (the_char "b")
+    (λ cs. rw (is_xid_start-ascii (the_char "b") (lit< tt)) refl)
 
-pub token_c : (dots : ℕ) (cs : Chars) → slice_get cs 0 ≡ Some 99 → token dots cs ≡ (if begins_string (drop 1 cs) then closed k.C_STRING (past_string (drop 1 cs)) else Some (kind_of_word cs, past_word cs))
+pub token_c : (dots : ℕ) (cs : Chars) → slice_get cs 0 ≡ Some (the_char "c") → token dots cs ≡ (if begins_string (drop 1 cs) then closed k.C_STRING (past_string (drop 1 cs)) else Some (kind_of_word cs, past_word cs))
 unfolding token
-token_c dots = from_front (λ cs. token dots cs ≡ (if begins_string (drop 1 cs) then closed k.C_STRING (past_string (drop 1 cs)) else Some (kind_of_word cs, past_word cs))) 99
-    (λ cs. rw (is_xid_start-ascii 99 (lit< tt)) refl)
+token_c dots = from_front (λ cs. token dots cs ≡ (if begins_string (drop 1 cs) then closed k.C_STRING (past_string (drop 1 cs)) else Some (kind_of_word cs, past_word cs))) (the_char "c")
+    (λ cs. rw (is_xid_start-ascii (the_char "c") (lit< tt)) refl)
 
-pub token_apostrophe : (dots : ℕ) (cs : Chars) → slice_get cs 0 ≡ Some 39 → token dots cs ≡ (if begins_lifetime_behind cs then Some (k.LIFETIME_IDENT, past_word (drop 1 cs)) else closed k.CHAR (past_char (drop 1 cs)))
+pub token_apostrophe : (dots : ℕ) (cs : Chars) → slice_get cs 0 ≡ Some (the_char "'") → token dots cs ≡ (if begins_lifetime_behind cs then Some (k.LIFETIME_IDENT, past_word (drop 1 cs)) else closed k.CHAR (past_char (drop 1 cs)))
 unfolding token
-token_apostrophe dots = from_front (λ cs. token dots cs ≡ (if begins_lifetime_behind cs then Some (k.LIFETIME_IDENT, past_word (drop 1 cs)) else closed k.CHAR (past_char (drop 1 cs)))) 39
-    (λ cs. rw (is_xid_start-ascii 39 (lit< tt)) refl)
+token_apostrophe dots = from_front (λ cs. token dots cs ≡ (if begins_lifetime_behind cs then Some (k.LIFETIME_IDENT, past_word (drop 1 cs)) else closed k.CHAR (past_char (drop 1 cs)))) (the_char "'")
+    (λ cs. rw (is_xid_start-ascii (the_char "'") (lit< tt)) refl)
 
-other_at : (dots c : ℕ) (cs : Chars) → (c ≡ 47 → ⊥) → (c ≡ 34 → ⊥) → (c ≡ 114 → ⊥) → (c ≡ 98 → ⊥) → (c ≡ 99 → ⊥) → (c ≡ 39 → ⊥) → token dots (c ∷ cs) ≡ (if is_whitespace c then Some (k.WHITESPACE, past is_whitespace (c ∷ cs)) else (if starts_word c then Some (kind_of_word (c ∷ cs), past_word (c ∷ cs)) else (if is_digit c then Some (number dots (c ∷ cs)) else punctuation (c ∷ cs))))
+other_at : (dots c : ℕ) (cs : Chars) → (c ≡ (the_char "/") → ⊥) → (c ≡ (the_char "\"") → ⊥) → (c ≡ (the_char "r") → ⊥) → (c ≡ (the_char "b") → ⊥) → (c ≡ (the_char "c") → ⊥) → (c ≡ (the_char "'") → ⊥) → token dots (c ∷ cs) ≡ (if is_whitespace c then Some (k.WHITESPACE, past is_whitespace (c ∷ cs)) else (if starts_word c then Some (kind_of_word (c ∷ cs), past_word (c ∷ cs)) else (if is_digit c then Some (number dots (c ∷ cs)) else punctuation (c ∷ cs))))
 unfolding token
 other_at dots c cs slash quote r b c_letter apostrophe =
-    rw (ne_eqb c 47 slash, ne_eqb c 34 quote, ne_eqb c 114 r, ne_eqb c 98 b, ne_eqb c 99 c_letter, ne_eqb c 39 apostrophe) refl
+    rw (ne_eqb c (the_char "/") slash, ne_eqb c (the_char "\"") quote, ne_eqb c (the_char "r") r, ne_eqb c (the_char "b") b, ne_eqb c (the_char "c") c_letter, ne_eqb c (the_char "'") apostrophe) refl
 
 token_other : (dots c : ℕ) (cs : Chars) → slice_get cs 0 ≡ Some c → IsPlain c → token dots cs ≡ (if is_whitespace c then Some (k.WHITESPACE, past is_whitespace cs) else (if starts_word c then Some (kind_of_word cs, past_word cs) else (if is_digit c then Some (number dots cs) else punctuation cs)))
 token_other dots c cs first plain = from_front (λ cs. token dots cs ≡ (if is_whitespace c then Some (k.WHITESPACE, past is_whitespace cs) else (if starts_word c then Some (kind_of_word cs, past_word cs) else (if is_digit c then Some (number dots cs) else punctuation cs)))) c (λ cs. other_at dots c cs plain.0 plain.1 plain.2 plain.3 plain.4 plain.5) cs first
@@ -87,40 +88,40 @@ token_nothing dots [] e = refl
 token_nothing dots (c ∷ cs) e = absurd (cc)
 
 -- what a fault is then
-pub fault_slash : (cs : Chars) → slice_get cs 0 ≡ Some 47 → fault_of cs ≡ faults.UnclosedComment
-fault_slash = from_front (λ cs. fault_of cs ≡ faults.UnclosedComment) 47 (λ cs. refl)
+pub fault_slash : (cs : Chars) → slice_get cs 0 ≡ Some (the_char "/") → fault_of cs ≡ faults.UnclosedComment
+fault_slash = from_front (λ cs. fault_of cs ≡ faults.UnclosedComment) (the_char "/") (λ cs. refl)
 
-pub fault_quote : (cs : Chars) → slice_get cs 0 ≡ Some 34 → fault_of cs ≡ faults.UnclosedString
-fault_quote = from_front (λ cs. fault_of cs ≡ faults.UnclosedString) 34 (λ cs. refl)
+pub fault_quote : (cs : Chars) → slice_get cs 0 ≡ Some (the_char "\"") → fault_of cs ≡ faults.UnclosedString
+fault_quote = from_front (λ cs. fault_of cs ≡ faults.UnclosedString) (the_char "\"") (λ cs. refl)
 
-pub fault_r : (cs : Chars) → slice_get cs 0 ≡ Some 114 → fault_of cs ≡ faults.UnclosedString
-fault_r = from_front (λ cs. fault_of cs ≡ faults.UnclosedString) 114 (λ cs. refl)
+pub fault_r : (cs : Chars) → slice_get cs 0 ≡ Some (the_char "r") → fault_of cs ≡ faults.UnclosedString
+fault_r = from_front (λ cs. fault_of cs ≡ faults.UnclosedString) (the_char "r") (λ cs. refl)
 
-pub fault_c : (cs : Chars) → slice_get cs 0 ≡ Some 99 → fault_of cs ≡ faults.UnclosedString
-fault_c = from_front (λ cs. fault_of cs ≡ faults.UnclosedString) 99 (λ cs. refl)
+pub fault_c : (cs : Chars) → slice_get cs 0 ≡ Some (the_char "c") → fault_of cs ≡ faults.UnclosedString
+fault_c = from_front (λ cs. fault_of cs ≡ faults.UnclosedString) (the_char "c") (λ cs. refl)
 
-pub fault_apostrophe : (cs : Chars) → slice_get cs 0 ≡ Some 39 → fault_of cs ≡ faults.UnclosedChar
-fault_apostrophe = from_front (λ cs. fault_of cs ≡ faults.UnclosedChar) 39 (λ cs. refl)
+pub fault_apostrophe : (cs : Chars) → slice_get cs 0 ≡ Some (the_char "'") → fault_of cs ≡ faults.UnclosedChar
+fault_apostrophe = from_front (λ cs. fault_of cs ≡ faults.UnclosedChar) (the_char "'") (λ cs. refl)
 
-string_no_byte : (d : ℕ) (ds : Chars) (b : Bool) → (d == 39) ≡ b → begins_string (d ∷ ds) ≡ true → b ≡ false
+string_no_byte : (d : ℕ) (ds : Chars) (b : Bool) → (d ∈ "'") ≡ b → begins_string (d ∷ ds) ≡ true → b ≡ false
 string_no_byte d ds true e begins =
-    let clash : false ≡ true = ap (λ x. begins_string (x ∷ ds)) (sym (eqb-true d 39 e)) ∙ begins in absurd (cc)
+    let clash : false ≡ true = ap (λ x. begins_string (x ∷ ds)) (sym (eqb-true d (the_char "'") e)) ∙ begins in absurd (cc)
 string_no_byte d ds false e begins = refl
 
-string_at : (cs : Chars) → begins_string cs ≡ true → fault_of (98 ∷ cs) ≡ faults.UnclosedString
+string_at : (cs : Chars) → begins_string cs ≡ true → fault_of ((the_char "b") ∷ cs) ≡ faults.UnclosedString
 string_at [] begins = absurd (cc)
 string_at (d ∷ ds) begins =
-    ap (λ b. if b then faults.UnclosedByte else faults.UnclosedString) (string_no_byte d ds (d == 39) refl begins)
+    ap (λ b. if b then faults.UnclosedByte else faults.UnclosedString) (string_no_byte d ds (d ∈ "'") refl begins)
 
-pub fault_b_string : (cs : Chars) → slice_get cs 0 ≡ Some 98 → begins_string (drop 1 cs) ≡ true → fault_of cs ≡ faults.UnclosedString
-fault_b_string = from_front (λ cs. begins_string (drop 1 cs) ≡ true → fault_of cs ≡ faults.UnclosedString) 98 string_at
+pub fault_b_string : (cs : Chars) → slice_get cs 0 ≡ Some (the_char "b") → begins_string (drop 1 cs) ≡ true → fault_of cs ≡ faults.UnclosedString
+fault_b_string = from_front (λ cs. begins_string (drop 1 cs) ≡ true → fault_of cs ≡ faults.UnclosedString) (the_char "b") string_at
 
-pub fault_b_byte : (cs : Chars) → slice_get cs 0 ≡ Some 98 → is_at 1 39 cs ≡ true → fault_of cs ≡ faults.UnclosedByte
-fault_b_byte = from_front (λ cs. is_at 1 39 cs ≡ true → fault_of cs ≡ faults.UnclosedByte) 98
+pub fault_b_byte : (cs : Chars) → slice_get cs 0 ≡ Some (the_char "b") → is_at 1 "'" cs ≡ true → fault_of cs ≡ faults.UnclosedByte
+fault_b_byte = from_front (λ cs. is_at 1 "'" cs ≡ true → fault_of cs ≡ faults.UnclosedByte) (the_char "b")
     (λ cs byte. ap (λ b. if b then faults.UnclosedByte else faults.UnclosedString) byte)
 
 plain_at : (c : ℕ) (cs : Chars) → IsPlain c → fault_of (c ∷ cs) ≡ faults.NoToken
-plain_at c cs plain = rw (ne_eqb c 47 plain.0, ne_eqb c 39 plain.5, ne_eqb c 98 plain.3, ne_eqb c 34 plain.1, ne_eqb c 114 plain.2, ne_eqb c 99 plain.4) refl
+plain_at c cs plain = rw (ne_eqb c (the_char "/") plain.0, ne_eqb c (the_char "'") plain.5, ne_eqb c (the_char "b") plain.3, ne_eqb c (the_char "\"") plain.1, ne_eqb c (the_char "r") plain.2, ne_eqb c (the_char "c") plain.4) refl
 
 pub fault_plain : (c : ℕ) (cs : Chars) → slice_get cs 0 ≡ Some c → IsPlain c → fault_of cs ≡ faults.NoToken
 fault_plain c cs first plain = from_front (λ cs. fault_of cs ≡ faults.NoToken) c (λ cs. plain_at c cs plain) cs first

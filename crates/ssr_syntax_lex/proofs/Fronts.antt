@@ -5,15 +5,15 @@ use Rattle.std.specs.Option.{option_map, option_map_or}
 use Rattle.std.proofs.lemmas.List.{take-append-drop}
 use Rattle.std.specs.Int.{is_in_range}
 use Rattle.std.proofs.Common.{lit<, leb-true, eqb-true}
-use Rattle.ssr_syntax_lex.proofs.NumberLaws.{both}
+use Rattle.std.proofs.lemmas.Bool.{and_parts}
 use Rattle.std.proofs.lemmas.Str.{encodes-append, length-encode, len_utf8_bounds}
 use Rattle.unicode_ident.specs.Ident.{is_xid_start, is_xid_continue}
 use Rattle.unicode_ident.proofs.IdentLemmas.{is_xid_continue-ascii, is_xid_start-is_xid_continue}
-use Rattle.ssr_syntax_lex.specs.Cursor.{Chars, passes_at, is_at, run, past}
-use Rattle.ssr_syntax_lex.specs.Characters.{is_whitespace, is_hash, is_digit, starts_word, continues_word}
+use Rattle.ssr_syntax_lex.specs.Cursor.{Chars, passes_at, begins, run, past}
+use Rattle.ssr_syntax_lex.specs.Characters.{◌∈◌, the_char, is_whitespace, is_hash, is_digit, starts_word, continues_word, is_in_line, is_in_char}
 use Rattle.ssr_syntax_lex.specs.Words.{mark_kind}
 use Rattle.ssr_syntax_lex.specs.Numbers.{Part, with_run, takes_point, takes_sign, whole_run, with_point, with_sign, number}
-use Rattle.ssr_syntax_lex.specs.Scan.{is_in_line, is_in_char, past_comments, past_quoted, past_raw, past_raw_string, past_apostrophe, past_char, begins_with_hashes}
+use Rattle.ssr_syntax_lex.specs.Scan.{past_comments, past_quoted, past_raw, past_raw_string, past_apostrophe, past_char, begins_with_hashes}
 use Rattle.ssr_syntax_lex.specs.Raw.{Taken, begins_string, past_string, begins_raw_identifier, begins_lifetime, punctuation, closed, token}
 use Rattle.ssr_syntax_lex.specs.declared.kinds.SyntaxKind.{SyntaxKind}
 use Rattle.ssr_syntax_lex.specs.Tokens.{size}
@@ -44,14 +44,14 @@ past_first test c cs passes =
     subst (Follows cs) (sym (ap (λ b. if b then past test cs else (c ∷ cs)) passes)) (follows_past test cs)
 
 -- what begins a word or a number continues a word
-underscore : (c : ℕ) → (c == 95) ≡ true → is_xid_continue c ≡ true
+underscore : (c : ℕ) → (c ∈ "_") ≡ true → is_xid_continue c ≡ true
 underscore c e =
-    let mark : 95 ≡ c = sym (eqb-true c 95 e) in
-    subst (λ d. is_xid_continue d ≡ true) mark (is_xid_continue-ascii 95 (lit< tt))
+    let mark : the_char "_" ≡ c = sym (eqb-true c (the_char "_") e) in
+    subst (λ d. is_xid_continue d ≡ true) mark (is_xid_continue-ascii (the_char "_") (lit< tt))
 
 starts_continues : (c : ℕ) → starts_word c ≡ true → continues_word c ≡ true
 starts_continues c starts =
-    elim (is_xid_start c) as (λ b. is_xid_start c ≡ b → (b || (c == 95)) ≡ true → is_xid_continue c ≡ true) [
+    elim (is_xid_start c) as (λ b. is_xid_start c ≡ b → (b || (c ∈ "_")) ≡ true → is_xid_continue c ≡ true) [
       | true ↦ λ e _. is_xid_start-is_xid_continue c e
       | false ↦ λ _ e. underscore c e
     ] refl starts
@@ -61,9 +61,9 @@ below h = omega arith
 
 digit_continues : (c : ℕ) → is_digit c ≡ true → continues_word c ≡ true
 digit_continues c digit =
-    let small : c ≤ 57 = leb-true c 57 (both _ _ digit).1 in
+    let small : c ≤ 57 = leb-true c 57 (and_parts _ _ digit).1 in
     is_xid_continue-ascii c (below small)
-    ∙ ap (λ b. ((b || is_in_range 65 90 c) || is_in_range 97 122 c) || (c == 95)) digit
+    ∙ ap (λ b. ((b || is_in_range 65 90 c) || is_in_range 97 122 c) || (c ∈ "_")) digit
 
 -- whatever token an option holds leaves an end of these characters
 abbrev pub Leaves : Chars → Option Taken → Type 0
@@ -138,21 +138,21 @@ ends_comments (suc depth) [] = ends_none []
 ends_comments (suc depth) (c ∷ []) = ends_none (c ∷ [])
 ends_comments (suc depth) (c ∷ d ∷ cs) =
     let two : Follows (c ∷ d ∷ cs) cs = (c ∷ d ∷ [], refl) in
-    ends_if (c ∷ d ∷ cs) (c == 47 && d == 42) _ _ (ends_on (c ∷ d ∷ cs) cs _ two (ends_comments (suc (suc depth)) cs))
-    (ends_if (c ∷ d ∷ cs) (c == 42 && d == 47) _ _ (ends_on (c ∷ d ∷ cs) cs _ two (ends_comments depth cs))
+    ends_if (c ∷ d ∷ cs) (begins "/*" (c ∷ d ∷ cs)) _ _ (ends_on (c ∷ d ∷ cs) cs _ two (ends_comments (suc (suc depth)) cs))
+    (ends_if (c ∷ d ∷ cs) (begins "*/" (c ∷ d ∷ cs)) _ _ (ends_on (c ∷ d ∷ cs) cs _ two (ends_comments depth cs))
     (ends_on (c ∷ d ∷ cs) (d ∷ cs) _ (follows_next c (d ∷ cs)) (ends_comments (suc depth) (d ∷ cs))))
 
 ends_quoted : (escaped : Bool) (cs : Chars) → Ends cs (past_quoted escaped cs)
 ends_quoted escaped [] = ends_none []
 ends_quoted escaped (c ∷ cs) =
     ends_if (c ∷ cs) escaped _ _ (ends_on (c ∷ cs) cs _ (follows_next c cs) (ends_quoted false cs))
-    (ends_if (c ∷ cs) (c == 34) _ _ (ends_some (c ∷ cs) cs (follows_next c cs))
-    (ends_on (c ∷ cs) cs _ (follows_next c cs) (ends_quoted (c == 92) cs)))
+    (ends_if (c ∷ cs) (c ∈ "\"") _ _ (ends_some (c ∷ cs) cs (follows_next c cs))
+    (ends_on (c ∷ cs) cs _ (follows_next c cs) (ends_quoted (c ∈ "\\") cs)))
 
 ends_raw : (hashes : ℕ) (cs : Chars) → Ends cs (past_raw hashes cs)
 ends_raw hashes [] = ends_none []
 ends_raw hashes (c ∷ cs) =
-    ends_if (c ∷ cs) (c == 34 && begins_with_hashes hashes cs) _ _
+    ends_if (c ∷ cs) (c ∈ "\"" && begins_with_hashes hashes cs) _ _
     (ends_some (c ∷ cs) (drop hashes cs) (follows_on (c ∷ cs) cs _ (follows_next c cs) (follows_drop hashes cs)))
     (ends_on (c ∷ cs) cs _ (follows_next c cs) (ends_raw hashes cs))
 
@@ -161,19 +161,19 @@ ends_raw_string cs =
     ends_on cs (drop 1 (past is_hash cs)) _ (follows_on cs (past is_hash cs) _ (follows_past is_hash cs) (follows_drop 1 (past is_hash cs)))
     (ends_raw (length (run is_hash cs)) (drop 1 (past is_hash cs)))
 
-slash_in_line : (c : ℕ) → (c == 47) ≡ true → is_in_line c ≡ true
-slash_in_line c slash = ap is_in_line (eqb-true c 47 slash)
+slash_in_line : (c : ℕ) → (c ∈ "/") ≡ true → is_in_line c ≡ true
+slash_in_line c slash = ap is_in_line (eqb-true c (the_char "/") slash)
 
 -- a string takes its first character
 ends_string : (c : ℕ) (cs : Chars) → Ends cs (past_string (c ∷ cs))
-ends_string c cs = ends_if cs (is_at 0 34 (c ∷ cs)) _ _ (ends_quoted false cs) (ends_raw_string cs)
+ends_string c cs = ends_if cs (begins "\"" (c ∷ cs)) _ _ (ends_quoted false cs) (ends_raw_string cs)
 
 ends_apostrophe : (cs : Chars) → Ends cs (past_apostrophe cs)
-ends_apostrophe cs = ends_if cs (is_at 0 39 cs) _ _ (ends_some cs (drop 1 cs) (follows_drop 1 cs)) (ends_none cs)
+ends_apostrophe cs = ends_if cs (begins "'" cs) _ _ (ends_some cs (drop 1 cs) (follows_drop 1 cs)) (ends_none cs)
 
 ends_char : (cs : Chars) → Ends cs (past_char cs)
 ends_char cs =
-    ends_if cs (is_at 0 92 cs) _ _ (ends_on cs (past is_in_char (drop 2 cs)) _ (follows_past_drop is_in_char 2 cs) (ends_apostrophe (past is_in_char (drop 2 cs))))
+    ends_if cs (begins "\\" cs) _ _ (ends_on cs (past is_in_char (drop 2 cs)) _ (follows_past_drop is_in_char 2 cs) (ends_apostrophe (past is_in_char (drop 2 cs))))
     (ends_if cs (passes_at 0 is_in_char cs) _ _ (ends_on cs (drop 1 cs) _ (follows_drop 1 cs) (ends_apostrophe (drop 1 cs)))
     (ends_none cs))
 
@@ -193,16 +193,16 @@ pub token_leaves : (dots c : ℕ) (cs : Chars) → Leaves cs (token dots (c ∷ 
 unfolding token
 token_leaves dots c cs =
     leaves_if cs (passes_at 0 is_whitespace (c ∷ cs)) _ _ (λ white. leaves_some cs _ _ (past_first is_whitespace c cs white))
-    (leaves_if cs (is_at 0 47 (c ∷ cs) && is_at 1 47 (c ∷ cs)) _ _ (λ slashes. leaves_some cs _ _ (past_first is_in_line c cs (slash_in_line c (both _ _ slashes).0)))
-    (leaves_if cs (is_at 0 47 (c ∷ cs) && is_at 1 42 (c ∷ cs)) _ _ (λ _. leaves_closed cs _ _ (ends_behind 1 cs _ (ends_comments 1 (drop 1 cs))))
+    (leaves_if cs (begins "//" (c ∷ cs)) _ _ (λ slashes. leaves_some cs _ _ (past_first is_in_line c cs (slash_in_line c (and_parts _ _ slashes).0)))
+    (leaves_if cs (begins "/*" (c ∷ cs)) _ _ (λ _. leaves_closed cs _ _ (ends_behind 1 cs _ (ends_comments 1 (drop 1 cs))))
     (leaves_if cs (begins_string (c ∷ cs)) _ _ (λ _. leaves_closed cs _ _ (ends_string c cs))
-    (leaves_if cs (is_at 0 98 (c ∷ cs) && begins_string (drop 1 (c ∷ cs))) _ _ (λ _. leaves_closed cs _ _ (prefixed_string cs))
-    (leaves_if cs (is_at 0 99 (c ∷ cs) && begins_string (drop 1 (c ∷ cs))) _ _ (λ _. leaves_closed cs _ _ (prefixed_string cs))
-    (leaves_if cs (is_at 0 98 (c ∷ cs) && is_at 1 39 (c ∷ cs)) _ _ (λ _. leaves_closed cs _ _ (ends_behind 1 cs _ (ends_char (drop 1 cs))))
+    (leaves_if cs (begins "b" (c ∷ cs) && begins_string (drop 1 (c ∷ cs))) _ _ (λ _. leaves_closed cs _ _ (prefixed_string cs))
+    (leaves_if cs (begins "c" (c ∷ cs) && begins_string (drop 1 (c ∷ cs))) _ _ (λ _. leaves_closed cs _ _ (prefixed_string cs))
+    (leaves_if cs (begins "b'" (c ∷ cs)) _ _ (λ _. leaves_closed cs _ _ (ends_behind 1 cs _ (ends_char (drop 1 cs))))
     (leaves_if cs (begins_raw_identifier (c ∷ cs)) _ _ (λ _. leaves_some cs _ _ (follows_past_drop continues_word 1 cs))
     (leaves_if cs (passes_at 0 starts_word (c ∷ cs)) _ _ (λ starts. leaves_some cs _ _ (past_first continues_word c cs (starts_continues c starts)))
     (leaves_if cs (begins_lifetime (c ∷ cs)) _ _ (λ _. leaves_some cs _ _ (follows_past continues_word cs))
-    (leaves_if cs (is_at 0 39 (c ∷ cs)) _ _ (λ _. leaves_closed cs _ _ (ends_char cs))
+    (leaves_if cs (begins "'" (c ∷ cs)) _ _ (λ _. leaves_closed cs _ _ (ends_char cs))
     (leaves_if cs (passes_at 0 is_digit (c ∷ cs)) _ _ (λ digit. leaves_some cs _ _ (leaves_number dots c cs digit))
     (leaves_punctuation c cs))))))))))))
 

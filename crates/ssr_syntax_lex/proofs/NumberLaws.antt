@@ -3,14 +3,11 @@ use Rattle.std.proofs.Common.{◌≡◌, ℕ, suc, ◌+◌, ◌-◌, ◌==◌, B
 use Rattle.std.specs.List.{list_all}
 use Rattle.std.specs.Option.{option_map_or}
 use Rattle.std.specs.Prelude.{slice_get, Some}
-use Rattle.std.proofs.lemmas.Bool.{eqb-true}
-use Rattle.std.proofs.lemmas.Bool.Decides.{nat_tests}
+use Rattle.std.proofs.lemmas.Bool.{eqb-true, and_parts}
 use Rattle.ssr_syntax_lex.specs.Cursor.{Chars, passes_at, past}
-use Rattle.ssr_syntax_lex.specs.Characters.{is_digit_or_underscore}
+use Rattle.ssr_syntax_lex.specs.Characters.{◌∈◌, the_char, is_digit_or_underscore}
 use Rattle.ssr_syntax_lex.specs.Numbers.{has_radix}
-
-not_empty : (c : ℕ) (cs : Chars) → (length (c ∷ cs) == 0) ≡ false
-not_empty c cs = grind (arith, nat_tests)
+use Rattle.ssr_syntax_lex.proofs.Eaten.{not_empty}
 
 -- all characters pass exactly where nothing is left behind those that do
 pub all_passed : (test : ℕ → Bool) (cs : Chars) → list_all test cs ≡ (length (past test cs) == 0)
@@ -21,30 +18,26 @@ all_passed test (c ∷ cs) =
       | false ↦ sym (not_empty c cs)
     ]
 
-pub both : (a b : Bool) → (a && b) ≡ true → (a ≡ true) × (b ≡ true)
-both true b h = (refl, h)
-both false b h = absurd (cc)
-
 -- a character that passes is none that doesn't
 differs : (test : ℕ → Bool) (d c : ℕ) (b : Bool) → (d == c) ≡ b → test d ≡ true → test c ≡ false → b ≡ false
 differs test d c true e passes fails =
     let clash : true ≡ false = sym passes ∙ (ap test (eqb-true d c e) ∙ fails) in absurd (cc)
 differs test d c false e passes fails = refl
 
--- no digit and no `_` is the mark of a radix
-no_mark : (d : ℕ) → is_digit_or_underscore d ≡ true → ((d == 120) || (d == 111) || (d == 98)) ≡ false
-no_mark d plain =
-    ap (λ b. b || (d == 111) || (d == 98)) (differs is_digit_or_underscore d 120 (d == 120) refl plain refl)
-    ∙ (ap (λ b. b || (d == 98)) (differs is_digit_or_underscore d 111 (d == 111) refl plain refl)
-    ∙ differs is_digit_or_underscore d 98 (d == 98) refl plain refl)
+no_mark : (d m : ℕ) → is_digit_or_underscore d ≡ true → is_digit_or_underscore m ≡ false → (d == m) ≡ false
+no_mark d m plain mark = differs is_digit_or_underscore d m (d == m) refl plain mark
+
+unmarked : (zero : Bool) → (zero && false || zero && false || zero && false) ≡ false
+unmarked true = refl
+unmarked false = refl
 
 -- a text of digits and `_` has no radix, nor has one that goes on with a point
-pub plain_no_radix : (text more : Chars) → list_all is_digit_or_underscore text ≡ true → has_radix (text ++ 46 ∷ more) ≡ false
+pub plain_no_radix : (text more : Chars) → list_all is_digit_or_underscore text ≡ true → has_radix (text ++ the_char "." ∷ more) ≡ false
 plain_no_radix [] more plain = refl
-plain_no_radix (c ∷ []) more plain = elim (c == 48) as (λ b. (b && false) ≡ false) [ true ↦ refl | false ↦ refl ]
+plain_no_radix (c ∷ []) more plain = unmarked (c ∈ "0")
 plain_no_radix (c ∷ d ∷ cs) more plain =
-    ap (λ b. (c == 48) && b) (no_mark d (both _ _ (both _ _ plain).1).0)
-    ∙ elim (c == 48) as (λ b. (b && false) ≡ false) [ true ↦ refl | false ↦ refl ]
+    let digit = (and_parts _ _ (and_parts _ _ plain).1).0 in
+    rw (no_mark d (the_char "x") digit refl, no_mark d (the_char "o") digit refl, no_mark d (the_char "b") digit refl) (unmarked (c ∈ "0"))
 
 pub at_append : (xs ys : Chars) (i : ℕ) → slice_get (xs ++ ys) (length xs + i) ≡ slice_get ys i
 at_append [] ys i = ap (slice_get ys) (omega arith)

@@ -2,62 +2,57 @@
 use Rattle.std.proofs.Common.{◌≡◌, ℕ, suc, zero, ◌+◌, ◌-◌, ◌<◌, ◌≤◌, ◌==◌, Bool, true, false, ◌&&◌, if◌then◌else◌, [], ◌∷◌, length, drop, refl, sym, ap, subst, ◌∙◌, arith, add-one, eqb-true, ne_eqb, length-append}
 use Rattle.std.specs.Prelude.{Option, Some, None, Result, nat_le, encode_utf8, encode_utf8_all}
 use Rattle.std.proofs.Common.{lit<}
+use Rattle.std.proofs.lemmas.Bool.{both_ways, and_right}
 use Rattle.std.proofs.lemmas.Bool.Decides.{nat_tests}
 use Rattle.std.proofs.lemmas.Str.{encode_ascii}
-use Rattle.ssr_syntax_lex.specs.Cursor.{Chars, is_at, run, past}
-use Rattle.ssr_syntax_lex.specs.Characters.{is_hash}
-use Rattle.ssr_syntax_lex.specs.Scan.{past_comments, past_quoted, past_raw, past_raw_string, begins_with_hashes, PassesOver}
+use Rattle.ssr_syntax_lex.specs.Cursor.{Chars, stand_at, begins, run, past}
+use Rattle.ssr_syntax_lex.specs.Characters.{◌∈◌, the_char, is_hash}
+use Rattle.ssr_syntax_lex.specs.Scan.{past_comments, past_quoted, past_raw, past_raw_string, begins_with_hashes}
+use Rattle.ssr_syntax_lex.specs.Steps.{PassesOver}
 use Rattle.ssr_syntax_lex.specs.declared.fault.FaultKind.{FaultKind}
-use Rattle.ssr_syntax_lex.proofs.Eaten.{run-past}
+use Rattle.ssr_syntax_lex.proofs.Eaten.{run-past, not_empty}
 
 -- block comments
 pub comments_closed : (depth : ℕ) (cs : Chars) → depth ≤ 0 → past_comments depth cs ≡ Some cs
 comments_closed zero cs none = refl
 comments_closed (suc depth) cs none = absurd (omega arith)
 
-not_empty : (c : ℕ) (cs : Chars) → (length (c ∷ cs) == 0) ≡ false
-not_empty c cs = grind (arith, nat_tests)
-
 pub comment_ends : (depth : ℕ) (cs : Chars) → 0 < depth → (length cs == 0) ≡ true → past_comments depth cs ≡ None
 comment_ends zero cs deep empty = absurd (omega arith)
 comment_ends (suc depth) [] deep empty = refl
 comment_ends (suc depth) (c ∷ cs) deep empty = let some = not_empty c cs in absurd (cc)
 
-no_pair : (b : Bool) → (b && false) ≡ true → ⊥
-no_pair true e = absurd (cc)
-no_pair false e = absurd (cc)
-
 -- what stands before a pair, by the tests in order
-steps : (depth c d : ℕ) (cs : Chars) (b e : Bool) → (c == 47 && d == 42) ≡ b → (c == 42 && d == 47) ≡ e → past_comments (suc depth) (c ∷ d ∷ cs) ≡ (if b then past_comments (suc (suc depth)) cs else (if e then past_comments depth cs else past_comments (suc depth) (d ∷ cs)))
+steps : (depth c d : ℕ) (cs : Chars) (b e : Bool) → begins "/*" (c ∷ d ∷ cs) ≡ b → begins "*/" (c ∷ d ∷ cs) ≡ e → past_comments (suc depth) (c ∷ d ∷ cs) ≡ (if b then past_comments (suc (suc depth)) cs else (if e then past_comments depth cs else past_comments (suc depth) (d ∷ cs)))
 steps depth c d cs b e opens closes =
-    ap (λ x. if x then past_comments (suc (suc depth)) cs else (if c == 42 && d == 47 then past_comments depth cs else past_comments (suc depth) (d ∷ cs))) opens
+    ap (λ x. if x then past_comments (suc (suc depth)) cs else (if begins "*/" (c ∷ d ∷ cs) then past_comments depth cs else past_comments (suc depth) (d ∷ cs))) opens
     ∙ ap (λ x. if b then past_comments (suc (suc depth)) cs else (if x then past_comments depth cs else past_comments (suc depth) (d ∷ cs))) closes
 
-pub comment_opens : (depth : ℕ) (cs : Chars) → 0 < depth → (is_at 0 47 cs && is_at 1 42 cs) ≡ true → past_comments depth cs ≡ past_comments (depth + 1) (drop 2 cs)
+pub comment_opens : (depth : ℕ) (cs : Chars) → 0 < depth → begins "/*" cs ≡ true → past_comments depth cs ≡ past_comments (depth + 1) (drop 2 cs)
 comment_opens zero cs deep here = absurd (omega arith)
 comment_opens (suc depth) [] deep here = absurd (cc)
-comment_opens (suc depth) (c ∷ []) deep here = absurd (no_pair (c == 47) here)
+comment_opens (suc depth) (c ∷ []) deep here = absurd (both_ways _ (and_right (c ∈ "/") false refl) here)
 comment_opens (suc depth) (c ∷ d ∷ cs) deep here =
     steps depth c d cs true _ here refl ∙ ap (λ n. past_comments n cs) (sym (add-one (suc depth)))
 
-pub comment_closes : (depth : ℕ) (cs : Chars) → 0 < depth → (is_at 0 47 cs && is_at 1 42 cs) ≡ false → (is_at 0 42 cs && is_at 1 47 cs) ≡ true → past_comments depth cs ≡ past_comments (depth - 1) (drop 2 cs)
+pub comment_closes : (depth : ℕ) (cs : Chars) → 0 < depth → begins "/*" cs ≡ false → begins "*/" cs ≡ true → past_comments depth cs ≡ past_comments (depth - 1) (drop 2 cs)
 comment_closes zero cs deep opens here = absurd (omega arith)
 comment_closes (suc depth) [] deep opens here = absurd (cc)
-comment_closes (suc depth) (c ∷ []) deep opens here = absurd (no_pair (c == 42) here)
+comment_closes (suc depth) (c ∷ []) deep opens here = absurd (both_ways _ (and_right (c ∈ "*") false refl) here)
 comment_closes (suc depth) (c ∷ d ∷ cs) deep opens here =
     let less : depth ≡ suc depth - 1 = omega arith in
     steps depth c d cs false true opens here ∙ ap (λ n. past_comments n cs) less
 
-pub comment_goes : (depth : ℕ) (cs : Chars) → 0 < depth → (is_at 0 47 cs && is_at 1 42 cs) ≡ false → (is_at 0 42 cs && is_at 1 47 cs) ≡ false → past_comments depth cs ≡ past_comments depth (drop 1 cs)
+pub comment_goes : (depth : ℕ) (cs : Chars) → 0 < depth → begins "/*" cs ≡ false → begins "*/" cs ≡ false → past_comments depth cs ≡ past_comments depth (drop 1 cs)
 comment_goes zero cs deep opens closes = absurd (omega arith)
 comment_goes (suc depth) [] deep opens closes = refl
 comment_goes (suc depth) (c ∷ []) deep opens closes = refl
 comment_goes (suc depth) (c ∷ d ∷ cs) deep opens closes = steps depth c d cs false false opens closes
 
 -- how many characters a pair takes
-pub pair_there : (a b : ℕ) (cs : Chars) → (is_at 0 a cs && is_at 1 b cs) ≡ true → length (drop 2 cs) + 2 ≡ length cs
+pub pair_there : (a b : ℕ) (cs : Chars) → stand_at 0 (a ∷ b ∷ []) cs ≡ true → length (drop 2 cs) + 2 ≡ length cs
 pair_there a b [] here = absurd (cc)
-pair_there a b (c ∷ []) here = absurd (no_pair (c == a) here)
+pair_there a b (c ∷ []) here = absurd (both_ways _ (and_right (c == a) false refl) here)
 pair_there a b (c ∷ d ∷ cs) here = omega arith
 
 pub one_there : (cs : Chars) → (length cs == 0) ≡ false → length (drop 1 cs) + 1 ≡ length cs
@@ -72,31 +67,31 @@ escape_takes_one [] = refl
 escape_takes_one (c ∷ cs) = refl
 
 -- raw strings: a `#` that comes next, and none
-pub hash_next : (cs : Chars) → is_at 0 35 cs ≡ true → (past is_hash cs ≡ past is_hash (drop 1 cs)) × (length (run is_hash cs) ≡ 1 + length (run is_hash (drop 1 cs)))
+pub hash_next : (cs : Chars) → begins "#" cs ≡ true → (past is_hash cs ≡ past is_hash (drop 1 cs)) × (length (run is_hash cs) ≡ 1 + length (run is_hash (drop 1 cs)))
 hash_next [] here = absurd (cc)
 hash_next (c ∷ cs) here = (
   ap (λ b. if b then past is_hash cs else (c ∷ cs)) here,
   ap (λ b. length (if b then c ∷ run is_hash cs else [])) here ∙ omega arith,
 )
 
-pub no_hash_next : (cs : Chars) → is_at 0 35 cs ≡ false → (past is_hash cs ≡ cs) × (length (run is_hash cs) ≡ 0)
+pub no_hash_next : (cs : Chars) → begins "#" cs ≡ false → (past is_hash cs ≡ cs) × (length (run is_hash cs) ≡ 0)
 no_hash_next [] here = (refl, refl)
 no_hash_next (c ∷ cs) here = (
   ap (λ b. if b then past is_hash cs else (c ∷ cs)) here,
   ap (λ b. length (if b then c ∷ run is_hash cs else [])) here,
 )
 
-pub none_in_run : (hashes counter all : ℕ) (cs : Chars) → is_at 0 35 cs ≡ false → counter < hashes → counter + length (run is_hash cs) ≡ all → false ≡ nat_le hashes all
+pub none_in_run : (hashes counter all : ℕ) (cs : Chars) → begins "#" cs ≡ false → counter < hashes → counter + length (run is_hash cs) ≡ all → false ≡ nat_le hashes all
 none_in_run hashes counter all cs here less counted =
     let empty = (no_hash_next cs here).1 in
     let fewer : all < hashes = omega (arith, empty) in
     grind (arith, nat_tests)
 
 -- a `#` is no `"`
-no_quote : (c : ℕ) → is_hash c ≡ true → (c == 34) ≡ false
-no_quote c hash = ap (λ d. d == 34) (eqb-true c 35 hash)
+no_quote : (c : ℕ) → is_hash c ≡ true → (c ∈ "\"") ≡ false
+no_quote c hash = ap (λ d. d ∈ "\"") (eqb-true c (the_char "#") hash)
 
-raw_step : (hashes c : ℕ) (cs : Chars) (b : Bool) → (c == 34 && begins_with_hashes hashes cs) ≡ b → past_raw hashes (c ∷ cs) ≡ (if b then Some (drop hashes cs) else past_raw hashes cs)
+raw_step : (hashes c : ℕ) (cs : Chars) (b : Bool) → (c ∈ "\"" && begins_with_hashes hashes cs) ≡ b → past_raw hashes (c ∷ cs) ≡ (if b then Some (drop hashes cs) else past_raw hashes cs)
 raw_step hashes c cs b e = ap (λ x. if x then Some (drop hashes cs) else past_raw hashes cs) e
 
 skips_hash : (hashes c : ℕ) (cs : Chars) (b : Bool) → is_hash c ≡ b → past_raw hashes (past is_hash cs) ≡ past_raw hashes cs → past_raw hashes (if b then past is_hash cs else (c ∷ cs)) ≡ past_raw hashes (c ∷ cs)
@@ -108,17 +103,14 @@ past_raw-past_hashes : (hashes : ℕ) (cs : Chars) → past_raw hashes (past is_
 past_raw-past_hashes hashes [] = refl
 past_raw-past_hashes hashes (c ∷ cs) = skips_hash hashes c cs (is_hash c) refl (past_raw-past_hashes hashes cs)
 
-no_end : (c : ℕ) (b : Bool) → b ≡ false → (c == 34 && b) ≡ false
-no_end c b e = ap (λ x. c == 34 && x) e ∙ elim (c == 34) as (λ x. (x && false) ≡ false) [ true ↦ refl | false ↦ refl ]
-
 -- a `"` that doesn't close, and any other character
 pub raw_stays : (hashes c : ℕ) (cs rest : Chars) → cs ≡ c ∷ rest → begins_with_hashes hashes rest ≡ false → past_raw hashes cs ≡ past_raw hashes (past is_hash rest)
 raw_stays hashes c cs rest e few =
-    ap (past_raw hashes) e ∙ (raw_step hashes c rest false (no_end c (begins_with_hashes hashes rest) few) ∙ sym (past_raw-past_hashes hashes rest))
+    ap (past_raw hashes) e ∙ (raw_step hashes c rest false (and_right (c ∈ "\"") (begins_with_hashes hashes rest) few) ∙ sym (past_raw-past_hashes hashes rest))
 
-pub raw_goes : (hashes c : ℕ) (cs rest : Chars) → cs ≡ c ∷ rest → (c ≡ 34 → ⊥) → past_raw hashes cs ≡ past_raw hashes rest
+pub raw_goes : (hashes c : ℕ) (cs rest : Chars) → cs ≡ c ∷ rest → (c ≡ the_char "\"" → ⊥) → past_raw hashes cs ≡ past_raw hashes rest
 raw_goes hashes c cs rest e other =
-    ap (past_raw hashes) e ∙ raw_step hashes c rest false (ap (λ b. b && begins_with_hashes hashes rest) (ne_eqb c 34 other))
+    ap (past_raw hashes) e ∙ raw_step hashes c rest false (ap (λ b. b && begins_with_hashes hashes rest) (ne_eqb c (the_char "\"") other))
 
 pub past_shorter : (test : ℕ → Bool) (c : ℕ) (cs rest : Chars) → cs ≡ c ∷ rest → length (past test rest) < length cs
 past_shorter test c cs rest e =
@@ -130,7 +122,7 @@ next_shorter c cs rest e = omega (arith, ap length e)
 -- `#` is one byte
 hash_bytes : (c : ℕ) (cs : Chars) (b : Bool) → is_hash c ≡ b → length (encode_utf8_all (run is_hash cs)) ≡ length (run is_hash cs) → length (encode_utf8_all (if b then c ∷ run is_hash cs else [])) ≡ length (if b then c ∷ run is_hash cs else [])
 hash_bytes c cs true hash rest =
-    let one : length (encode_utf8 c) ≡ 1 = ap (λ d. length (encode_utf8 d)) (eqb-true c 35 hash) ∙ ap length (encode_ascii 35 (lit< tt)) in
+    let one : length (encode_utf8 c) ≡ 1 = ap (λ d. length (encode_utf8 d)) (eqb-true c (the_char "#") hash) ∙ ap length (encode_ascii (the_char "#") (lit< tt)) in
     omega (arith, one, rest, length-append (encode_utf8 c) (encode_utf8_all (run is_hash cs)))
 hash_bytes c cs false hash rest = refl
 

@@ -3,7 +3,7 @@ use Rattle.std.proofs.Common.{◌≡◌, ℕ, suc, zero, ◌+◌, ◌-◌, ◌<�
 use Rattle.std.specs.Prelude.{Option, Some, None, slice_range, encode_utf8_all, IsCharBoundary}
 use Rattle.std.specs.Option.{option_map, option_and_then, option_map_or}
 use Rattle.std.specs.Str.{chars, IsUtf8}
-use Rattle.std.proofs.lemmas.List.{take-append-drop, drop-drop}
+use Rattle.std.proofs.lemmas.List.{take-append-drop, drop-drop, drop_all}
 use Rattle.std.proofs.lemmas.Str.{encodes-append, encodes-chars, IsUtf8-past_char, IsCharBoundary-at_seam}
 use Rattle.ssr_syntax_lex.specs.Cursor.{Chars}
 use Rattle.ssr_syntax_lex.specs.Raw.{Taken, token}
@@ -105,10 +105,6 @@ tokens_tile text ts utf8 e =
       utf8 = subst IsUtf8 (sym (encodes-chars text utf8)) utf8;
     }) e
 
-drop_all : (xs : List ℕ) → drop (length xs) xs ≡ []
-drop_all [] = refl
-drop_all (x ∷ xs) = drop_all xs
-
 -- a range and what follows it
 range_and_rest : (text : List ℕ) (start end : ℕ) → start ≤ end → slice_range text start end ++ drop end text ≡ drop start text
 range_and_rest text start end ordered =
@@ -118,7 +114,7 @@ range_and_rest text start end ordered =
 
 -- so their texts, one after the other, are the text
 spell_from : (text : List ℕ) (start : ℕ) (ts : List RawToken) → TilesFrom text start ts → spell text ts ≡ drop start text
-spell_from text start [] tiles = sym (ap (λ n. drop n text) tiles ∙ drop_all text)
+spell_from text start [] tiles = sym (ap (λ n. drop n text) tiles ∙ drop_all (length text) text (omega arith))
 spell_from text start (t ∷ ts) tiles =
     ap (λ xs. token_text text t ++ xs) (spell_from text t.range.end ts tiles.3)
     ∙ (range_and_rest text t.range.start t.range.end t.range.ordered

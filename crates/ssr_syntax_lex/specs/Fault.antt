@@ -14,9 +14,13 @@ kind_words faults.UnclosedByte = codes "a byte literal that is not closed"
 kind_words faults.UnclosedChar = codes "a character literal that is not closed"
 kind_words faults.NoToken = codes "a character that begins no token"
 
--- the same and its byte
+-- the same and the byte at which it begins
+abbrev pub words_at : FaultKind → ℕ → List ℕ
+words_at kind start = kind_words kind ++ (codes ", at byte " ++ decimal start)
+
+-- the words that a fault is shown in
 abbrev pub fault_words : LexFault → List ℕ
-fault_words fault = kind_words fault.kind ++ (codes ", at byte " ++ decimal fault.start)
+fault_words fault = words_at fault.kind fault.start
 
 abbrev pub error_words : LexError → List ℕ
 error_words errors.TooLong = codes "text too long"

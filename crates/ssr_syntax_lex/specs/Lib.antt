@@ -7,3 +7,4 @@ pub mod Scan
 pub mod Raw
 pub mod Tokens
 pub mod Fault
+pub mod Steps

@@ -1,7 +1,7 @@
 -- Number tokens.
 use Rattle.std.specs.Prelude.{ℕ, ◌-◌, ◌==◌, Bool, not, ◌&&◌, ◌||◌, [], ◌++◌, length, take, drop, if◌then◌else◌}
 use Rattle.std.specs.List.{list_all}
-use Rattle.ssr_syntax_lex.specs.Cursor.{Chars, passes_at, is_at, run, past}
+use Rattle.ssr_syntax_lex.specs.Cursor.{Chars, passes_at, is_at, begins, run, past}
 use Rattle.ssr_syntax_lex.specs.Characters.{is_digit, is_digit_or_underscore, is_exponent_mark, starts_word, continues_word}
 use Rattle.ssr_syntax_lex.specs.declared.kinds.SyntaxKind.{SyntaxKind}
 use Rattle.ssr_syntax_lex.specs.declared.kinds.SyntaxKind.TheVariants as k
@@ -12,26 +12,26 @@ Part = Chars × Chars
 
 -- takes so many characters along, and the run of word characters behind them
 abbrev pub with_run : ℕ → Part → Part
-with_run n part = (part.0 ++ take n part.1 ++ run continues_word (drop n part.1), past continues_word (drop n part.1))
+with_run n (text, rest) = (text ++ take n rest ++ run continues_word (drop n rest), past continues_word (drop n rest))
 
 -- begins with `0x`, `0o` or `0b`
 abbrev pub has_radix : Chars → Bool
-has_radix text = is_at 0 48 text && (is_at 1 120 text || is_at 1 111 text || is_at 1 98 text)
+has_radix text = begins "0x" text || begins "0o" text || begins "0b" text
 
 abbrev pub ends_with_exponent_mark : Chars → Bool
 ends_with_exponent_mark text = passes_at (length text - 1) is_exponent_mark text
 
 -- the run is digits and `_` only, a `.` follows, and behind that neither `.`, `_` nor a character that starts identifiers
 abbrev pub takes_point : Part → Bool
-takes_point part = list_all is_digit_or_underscore part.0 && is_at 0 46 part.1 && not (is_at 1 46 part.1) && not (passes_at 1 starts_word part.1)
+takes_point (text, rest) = list_all is_digit_or_underscore text && begins "." rest && not (is_at 1 "." rest) && not (passes_at 1 starts_word rest)
 
 -- a sign and a digit come next
 abbrev pub is_signed_digit : Chars → Bool
-is_signed_digit cs = (is_at 0 43 cs || is_at 0 45 cs) && passes_at 1 is_digit cs
+is_signed_digit cs = (begins "+" cs || begins "-" cs) && passes_at 1 is_digit cs
 
 -- the token has no radix, ends with `e` or `E`, and a sign and a digit follow
 abbrev pub takes_sign : Part → Bool
-takes_sign part = not (has_radix part.0) && ends_with_exponent_mark part.0 && is_signed_digit part.1
+takes_sign (text, rest) = not (has_radix text) && ends_with_exponent_mark text && is_signed_digit rest
 
 -- the token has no radix, and its first character that is no digit and no `_` is `e` or `E`
 abbrev pub has_exponent : Chars → Bool

@@ -1,12 +1,12 @@
 -- The raw token at the front of a text.
-use Rattle.std.specs.Prelude.{ℕ, Bool, false, not, ◌&&◌, ◌||◌, [], ◌∷◌, Option, Some, None, Result, Ok, Err, ◌≡◌, ◌≢◌, drop, if◌then◌else◌}
+use Rattle.std.specs.Prelude.{ℕ, Bool, false, not, ◌&&◌, ◌||◌, [], ◌∷◌, Option, Some, None, drop, if◌then◌else◌}
 use Rattle.std.specs.Option.{option_map}
 use Rattle.std.specs.Str.{encode_utf8_all}
-use Rattle.ssr_syntax_lex.specs.Cursor.{Chars, passes_at, is_at, run, past}
-use Rattle.ssr_syntax_lex.specs.Characters.{is_whitespace, is_hash, is_digit, starts_word, continues_word}
+use Rattle.ssr_syntax_lex.specs.Cursor.{Chars, passes_at, is_at, begins, run, past}
+use Rattle.ssr_syntax_lex.specs.Characters.{is_whitespace, is_hash, is_digit, starts_word, continues_word, is_in_line}
 use Rattle.ssr_syntax_lex.specs.Words.{word_kind, mark_kind}
 use Rattle.ssr_syntax_lex.specs.Numbers.{number}
-use Rattle.ssr_syntax_lex.specs.Scan.{is_in_line, past_comments, past_quoted, past_raw_string, past_char}
+use Rattle.ssr_syntax_lex.specs.Scan.{past_comments, past_quoted, past_raw_string, past_char}
 use Rattle.ssr_syntax_lex.specs.declared.fault.FaultKind.{FaultKind}
 use Rattle.ssr_syntax_lex.specs.declared.fault.FaultKind.TheVariants as faults
 use Rattle.ssr_syntax_lex.specs.declared.kinds.SyntaxKind.{SyntaxKind}
@@ -26,30 +26,30 @@ past_word cs = past continues_word cs
 
 -- a raw string: `r`, any number of `#` and `"`
 abbrev pub begins_raw_string : Chars → Bool
-begins_raw_string cs = is_at 0 114 cs && is_at 0 34 (past is_hash (drop 1 cs))
+begins_raw_string cs = begins "r" cs && begins "\"" (past is_hash (drop 1 cs))
 
 -- `"`, or a raw string
 abbrev pub begins_string : Chars → Bool
-begins_string cs = is_at 0 34 cs || begins_raw_string cs
+begins_string cs = begins "\"" cs || begins_raw_string cs
 
 -- what follows the string that begins there
 abbrev pub past_string : Chars → Option Chars
 past_string cs =
-    if is_at 0 34 cs then past_quoted false (drop 1 cs)
+    if begins "\"" cs then past_quoted false (drop 1 cs)
     else past_raw_string (drop 1 cs)
 
 -- `r#` and a word other than `_`
 abbrev pub begins_raw_identifier : Chars → Bool
 begins_raw_identifier cs =
-    is_at 0 114 cs && is_at 1 35 cs && passes_at 2 starts_word cs && not (is_at 2 95 cs && not (passes_at 3 continues_word cs))
+    begins "r#" cs && passes_at 2 starts_word cs && not (is_at 2 "_" cs && not (passes_at 3 continues_word cs))
 
 -- behind the next character comes a word whose first character isn't directly followed by `'`
 abbrev pub begins_lifetime_behind : Chars → Bool
-begins_lifetime_behind cs = passes_at 1 starts_word cs && not (is_at 2 39 cs)
+begins_lifetime_behind cs = passes_at 1 starts_word cs && not (is_at 2 "'" cs)
 
 -- `'` and such a word
 abbrev pub begins_lifetime : Chars → Bool
-begins_lifetime cs = is_at 0 39 cs && begins_lifetime_behind cs
+begins_lifetime cs = begins "'" cs && begins_lifetime_behind cs
 
 -- a punctuation character
 abbrev pub punctuation : Chars → Option Taken
@@ -64,33 +64,24 @@ closed kind rest = option_map (λ cs. let taken : Taken = (kind, cs) in taken) r
 unfoldable pub token : ℕ → Chars → Option Taken
 token dots cs =
     if passes_at 0 is_whitespace cs then Some (k.WHITESPACE, past is_whitespace cs)
-    else (if is_at 0 47 cs && is_at 1 47 cs then Some (k.COMMENT, past is_in_line cs)
-    else (if is_at 0 47 cs && is_at 1 42 cs then closed k.COMMENT (past_comments 1 (drop 2 cs))
-    else (if begins_string cs then closed k.STRING (past_string cs)
-    else (if is_at 0 98 cs && begins_string (drop 1 cs) then closed k.BYTE_STRING (past_string (drop 1 cs))
-    else (if is_at 0 99 cs && begins_string (drop 1 cs) then closed k.C_STRING (past_string (drop 1 cs))
-    else (if is_at 0 98 cs && is_at 1 39 cs then closed k.BYTE (past_char (drop 2 cs))
-    else (if begins_raw_identifier cs then Some (k.IDENT, past_word (drop 2 cs))
-    else (if passes_at 0 starts_word cs then Some (kind_of_word cs, past_word cs)
-    else (if begins_lifetime cs then Some (k.LIFETIME_IDENT, past_word (drop 1 cs))
-    else (if is_at 0 39 cs then closed k.CHAR (past_char (drop 1 cs))
-    else (if passes_at 0 is_digit cs then Some (number dots cs)
-    else punctuation cs)))))))))))
-
--- none of `/ " r b c '`, behind which a second character may tell the row
-abbrev pub IsPlain : ℕ → Type 0
-IsPlain c = (c ≢ 47) × (c ≢ 34) × (c ≢ 114) × (c ≢ 98) × (c ≢ 99) × (c ≢ 39)
+    else if begins "//" cs then Some (k.COMMENT, past is_in_line cs)
+    else if begins "/*" cs then closed k.COMMENT (past_comments 1 (drop 2 cs))
+    else if begins_string cs then closed k.STRING (past_string cs)
+    else if begins "b" cs && begins_string (drop 1 cs) then closed k.BYTE_STRING (past_string (drop 1 cs))
+    else if begins "c" cs && begins_string (drop 1 cs) then closed k.C_STRING (past_string (drop 1 cs))
+    else if begins "b'" cs then closed k.BYTE (past_char (drop 2 cs))
+    else if begins_raw_identifier cs then Some (k.IDENT, past_word (drop 2 cs))
+    else if passes_at 0 starts_word cs then Some (kind_of_word cs, past_word cs)
+    else if begins_lifetime cs then Some (k.LIFETIME_IDENT, past_word (drop 1 cs))
+    else if begins "'" cs then closed k.CHAR (past_char (drop 1 cs))
+    else if passes_at 0 is_digit cs then Some (number dots cs)
+    else punctuation cs
 
 -- what the fault is, where there is no token at the front
 abbrev pub fault_of : Chars → FaultKind
 fault_of cs =
-    if is_at 0 47 cs then faults.UnclosedComment
-    else (if is_at 0 39 cs then faults.UnclosedChar
-    else (if is_at 0 98 cs && is_at 1 39 cs then faults.UnclosedByte
-    else (if is_at 0 34 cs || is_at 0 114 cs || is_at 0 98 cs || is_at 0 99 cs then faults.UnclosedString
-    else faults.NoToken)))
-
--- the kind that was given and what is left are the token at the front; where there is none, this fault was told
-abbrev pub Takes : FaultKind → Result SyntaxKind FaultKind → Option Taken → Chars → Type 0
-Takes fault (Ok kind) taken rest = taken ≡ Some (kind, rest)
-Takes fault (Err told) taken rest = (taken ≡ None) × (told ≡ fault)
+    if begins "/" cs then faults.UnclosedComment
+    else if begins "'" cs then faults.UnclosedChar
+    else if begins "b'" cs then faults.UnclosedByte
+    else if begins "\"" cs || begins "r" cs || begins "b" cs || begins "c" cs then faults.UnclosedString
+    else faults.NoToken

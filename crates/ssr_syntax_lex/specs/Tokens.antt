@@ -1,17 +1,18 @@
 -- The raw tokens of a text.
-use Rattle.std.specs.Prelude.{ℕ, zero, suc, ◌≡◌, ◌+◌, ◌-◌, ◌^◌, ◌<◌, ◌≤◌, Bool, true, false, if◌then◌else◌, List, [], ◌∷◌, Option, Some, None, Result, Ok, Err, Vec, length, slice_range, flat_map, IsCharBoundary}
+use Rattle.std.specs.Prelude.{ℕ, zero, suc, ◌≡◌, ◌+◌, ◌-◌, ◌^◌, ◌<◌, ◌≤◌, Bool, false, if◌then◌else◌, List, [], ◌∷◌, Option, Some, None, Result, Ok, Err, Vec, length, slice_range, flat_map, IsCharBoundary}
 use Rattle.std.specs.Option.{option_map, option_map_or, option_and_then}
 use Rattle.std.specs.Str.{chars, encode_utf8_all}
 use Rattle.std.specs.declared.alloc.Global.{Global}
 use Rattle.std.proofs.Math.Nat.{le-add_right}
 use Rattle.ssr_syntax_lex.specs.Cursor.{Chars}
+use Rattle.ssr_syntax_lex.specs.Fault.{words_at, fault_words}
+use Rattle.ssr_syntax_lex.specs.Kinds.{same_kind}
 use Rattle.ssr_syntax_lex.specs.Words.{is_punctuation}
-use Rattle.ssr_syntax_lex.specs.Raw.{Taken, token, fault_of}
+use Rattle.ssr_syntax_lex.specs.Raw.{token, fault_of}
 use Rattle.ssr_syntax_lex.specs.declared.kinds.SyntaxKind.{SyntaxKind}
 use Rattle.ssr_syntax_lex.specs.declared.kinds.SyntaxKind.TheVariants as k
 use Rattle.ssr_syntax_lex.specs.declared.range.TextRange.{TextRange}
 use Rattle.ssr_syntax_lex.specs.declared.tokens.RawToken.{RawToken}
-use Rattle.ssr_syntax_lex.specs.declared.tokens.LexFault.{LexFault}
 use Rattle.ssr_syntax_lex.specs.declared.tokens.LexError.{LexError}
 use Rattle.ssr_syntax_lex.specs.declared.tokens.LexError.TheVariants.{TooLong, Fault, Memory}
 
@@ -31,13 +32,9 @@ begins_with_punctuation (t ∷ ts) = is_punctuation t.kind
 abbrev pub in_front : SyntaxKind → TextRange → List RawToken → List RawToken
 in_front kind range ts = record { kind = kind; range = range; joint = begins_with_punctuation ts } ∷ ts
 
-abbrev pub is_dot : SyntaxKind → Bool
-is_dot k.DOT = true
-is_dot _ = false
-
 -- how many `.` stand directly before what follows a token of this kind
 abbrev pub dots_behind : ℕ → SyntaxKind → ℕ
-dots_behind dots kind = if is_dot kind then dots + 1 else 0
+dots_behind dots kind = if same_kind kind k.DOT then dots + 1 else 0
 
 -- the tokens of the characters that are left from the byte `start` on, with `dots` points directly in front;
 -- there are at most `fuel` of them
@@ -46,39 +43,39 @@ tokens_from fuel start dots [] = Some []
 tokens_from zero start dots (c ∷ cs) = None
 tokens_from (suc fuel) start dots (c ∷ cs) =
     option_and_then
-    (λ (taken : Taken). let count : ℕ = size (c ∷ cs) - size taken.1 in
-    option_map (in_front taken.0 (range_of start count)) (tokens_from fuel (start + count) (dots_behind dots taken.0) taken.1))
+    (λ (kind, rest). let count : ℕ = size (c ∷ cs) - size rest in
+    option_map (in_front kind (range_of start count)) (tokens_from fuel (start + count) (dots_behind dots kind) rest))
     (token dots (c ∷ cs))
 
 -- the tokens of a text, or None where there is a fault
 unfoldable pub tokens : List ℕ → Option (List RawToken)
 tokens text = tokens_from (length (chars text)) 0 0 (chars text)
 
--- what `lex` gives
+-- what `lex` gives; a text that is too long is told as such, also where there is no memory
 abbrev pub Lexes : Result (Vec RawToken Global) LexError → List ℕ → Type 0
 Lexes (Ok v) text = (length text < 2 ^ 32) × (tokens text ≡ Some v.items)
 Lexes (Err (Fault fault)) text = (length text < 2 ^ 32) × (tokens text ≡ None)
 Lexes (Err TooLong) text = 2 ^ 32 ≤ length text
-Lexes (Err Memory) text = Unit {0}
+Lexes (Err Memory) text = length text < 2 ^ 32
 
--- the fault of the characters that are left from the byte `start` on, if there is one
-abbrev pub fault_from : ℕ → ℕ → ℕ → Chars → Option LexFault
+-- the words of the fault of the characters that are left from the byte `start` on, if there is one
+abbrev pub fault_from : ℕ → ℕ → ℕ → Chars → Option (List ℕ)
 fault_from fuel start dots [] = None
 fault_from zero start dots (c ∷ cs) = None
 fault_from (suc fuel) start dots (c ∷ cs) =
     option_map_or
-    (λ (taken : Taken). let count : ℕ = size (c ∷ cs) - size taken.1 in fault_from fuel (start + count) (dots_behind dots taken.0) taken.1)
+    (λ (kind, rest). let count : ℕ = size (c ∷ cs) - size rest in fault_from fuel (start + count) (dots_behind dots kind) rest)
     (token dots (c ∷ cs))
-    (Some (record { kind = fault_of (c ∷ cs); start = start }))
+    (Some (words_at (fault_of (c ∷ cs)) start))
 
--- the first place of a text where there is no token, and what begins there
-unfoldable pub fault : List ℕ → Option LexFault
+-- the words of a text's fault: what begins at the first place where there is no token, and at which byte that is
+unfoldable pub fault : List ℕ → Option (List ℕ)
 fault text = fault_from (length (chars text)) 0 0 (chars text)
 
--- a fault that `lex` tells is the text's
+-- a fault that `lex` tells is shown in the words of the text's
 abbrev pub TellsFault : Result (Vec RawToken Global) LexError → List ℕ → Type 0
 TellsFault (Ok v) text = Unit {0}
-TellsFault (Err (Fault told)) text = fault text ≡ Some told
+TellsFault (Err (Fault told)) text = fault text ≡ Some (fault_words told)
 TellsFault (Err TooLong) text = Unit {0}
 TellsFault (Err Memory) text = Unit {0}
 
@@ -99,8 +96,3 @@ TilesFrom text start (t ∷ ts) =
 -- the ranges are the whole text in order
 abbrev pub Tiles : List ℕ → List RawToken → Type 0
 Tiles text ts = TilesFrom text 0 ts
-
--- the token that waits for its flag, with it
-abbrev pub flagged : Option RawToken → Bool → List RawToken
-flagged None joint = []
-flagged (Some t) joint = record t { joint = joint } ∷ []

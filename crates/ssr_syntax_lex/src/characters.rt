@@ -21,7 +21,7 @@ pub(crate) fn is_hash(c: char) -> bool
 pub(crate) fn is_digit(c: char) -> bool
     ensures { result ≡ spec.is_digit c }
 {
-    matches!(c, '0'..='9')
+    c.is_ascii_digit()
 }
 
 pub(crate) fn is_digit_or_underscore(c: char) -> bool
@@ -33,7 +33,7 @@ pub(crate) fn is_digit_or_underscore(c: char) -> bool
 pub(crate) fn is_exponent_mark(c: char) -> bool
     ensures { result ≡ spec.is_exponent_mark c }
 {
-    c == 'e' || c == 'E'
+    matches!(c, 'e' | 'E')
 }
 
 pub(crate) fn starts_word(c: char) -> bool
@@ -50,4 +50,17 @@ pub(crate) fn continues_word(c: char) -> bool
         return c.is_ascii_alphanumeric() || c == '_';
     }
     unicode_ident::is_xid_continue(c)
+}
+
+pub(crate) fn is_in_line(c: char) -> bool
+    ensures { result ≡ spec.is_in_line c }
+{
+    c != '\n'
+}
+
+/// Whether a character may stand between the first one and the end of `'..'`.
+pub(crate) fn is_in_char(c: char) -> bool
+    ensures { result ≡ spec.is_in_char c }
+{
+    !matches!(c, '\'' | '\n')
 }

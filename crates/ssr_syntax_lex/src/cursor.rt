@@ -1,8 +1,8 @@
 //! A cursor over the characters that are left of a text.
 
-ghost use Rattle.std.specs.Prelude.{◌≡◌, ◌<◌, ◌^◌, ℕ, Bool, [], ◌∷◌, ◌++◌, length, drop, slice_get, MatchOption, ◌&&◌, ◌==◌, encode_utf8, encode_utf8_all};
+ghost use Rattle.std.specs.Prelude.{◌≡◌, ◌<◌, ◌^◌, ℕ, Bool, [], ◌∷◌, ◌++◌, length, drop, slice_get, MatchOption, ◌==◌, encode_utf8, encode_utf8_all};
 ghost use Rattle.std.specs.Str.{chars};
-ghost use Rattle.ssr_syntax_lex.specs.Cursor.{is_at, run, past};
+ghost use Rattle.ssr_syntax_lex.specs.Cursor.{stand_at, run, past};
 
 use std::marker::Model;
 
@@ -107,21 +107,21 @@ impl<'a> Cursor<'a> {
 
     /// Whether this character comes next.
     pub(crate) fn is_at(&self, c: char) -> bool
-        ensures { result ≡ is_at 0 c self.now }
+        ensures { result ≡ stand_at 0 (c ∷ []) self.now }
     {
         self.first().is_some_and(|first| first == c)
     }
 
     /// Whether this character comes behind the next one.
     pub(crate) fn is_second(&self, c: char) -> bool
-        ensures { result ≡ is_at 1 c self.now }
+        ensures { result ≡ stand_at 1 (c ∷ []) self.now }
     {
         self.second().is_some_and(|second| second == c)
     }
 
     /// Whether these two characters come next.
     pub(crate) fn is_pair(&self, first: char, second: char) -> bool
-        ensures { result ≡ (is_at 0 first self.now && is_at 1 second self.now) }
+        ensures { result ≡ stand_at 0 (first ∷ second ∷ []) self.now }
     {
         self.is_at(first) && self.is_second(second)
     }

@@ -30,7 +30,7 @@ fn has_radix(text: &str) -> bool
     ensures { result ≡ spec.has_radix (chars text.now) }
 {
     let text = Cursor::new(text);
-    text.is_at('0') && text.second().is_some_and(|c| matches!(c, 'x' | 'o' | 'b'))
+    text.is_pair('0', 'x') || text.is_pair('0', 'o') || text.is_pair('0', 'b')
 }
 
 fn ends_with_exponent_mark(text: &str) -> bool
@@ -62,7 +62,7 @@ fn takes_point(run: &str, cursor: &Cursor<'_>) -> bool
 {
     is_plain(run)
         && cursor.is_at('.')
-        && !cursor.second().is_some_and(|c| c == '.')
+        && !cursor.is_second('.')
         && !cursor.second().is_some_and(starts_word)
 }
 

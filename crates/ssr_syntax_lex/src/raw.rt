@@ -2,15 +2,18 @@
 
 ghost use Rattle.std.specs.Prelude.{ℕ, ◌≡◌, Some, drop, slice_get};
 ghost use Rattle.ssr_syntax_lex.specs.Raw as spec;
-ghost use Rattle.ssr_syntax_lex.specs.Scan.{PassesOver};
+ghost use Rattle.ssr_syntax_lex.specs.Characters.{the_char};
+ghost use Rattle.ssr_syntax_lex.specs.Steps.{PassesOver, Takes, IsPlain};
 ghost use Rattle.ssr_syntax_lex.specs.declared.fault.FaultKind.TheVariants as faults;
 
-use crate::characters::{continues_word, is_digit, is_hash, is_whitespace, starts_word};
+use crate::characters::{
+    continues_word, is_digit, is_hash, is_in_line, is_whitespace, starts_word,
+};
 use crate::cursor::Cursor;
 use crate::fault::FaultKind;
 use crate::kinds::SyntaxKind;
 use crate::numbers::eat_number;
-use crate::scan::{eat_block_comment, eat_char, eat_quoted, eat_raw_string, is_in_line};
+use crate::scan::{eat_block_comment, eat_char, eat_quoted, eat_raw_string};
 use crate::words::{mark_kind, word_kind};
 
 /// Whether `r`, any number of `#` and `"` come next.
@@ -75,7 +78,7 @@ fn eat_string(cursor: &mut Cursor<'_>) -> Result<(), FaultKind>
 }
 
 fn eat_punctuation(cursor: &mut Cursor<'_>) -> Result<SyntaxKind, FaultKind>
-    ensures { spec.Takes faults.NoToken result (spec.punctuation cursor.old) cursor.new }
+    ensures { Takes faults.NoToken result (spec.punctuation cursor.old) cursor.new }
 {
     let Some(first) = cursor.first() else {
         return Err(FaultKind::NoToken);
@@ -90,8 +93,8 @@ fn eat_punctuation(cursor: &mut Cursor<'_>) -> Result<SyntaxKind, FaultKind>
 /// Passes over a comment or `/`.
 #[tactic(auto, using(crate::proofs::FirstCharacters::slash_rows))]
 fn eat_slash(cursor: &mut Cursor<'_>) -> Result<SyntaxKind, FaultKind>
-    requires { slice_get cursor.old 0 ≡ Some 47 }
-    ensures { (dots : ℕ) → spec.Takes (spec.fault_of cursor.old) result (spec.token dots cursor.old) cursor.new }
+    requires { slice_get cursor.old 0 ≡ Some (the_char "/") }
+    ensures { (dots : ℕ) → Takes (spec.fault_of cursor.old) result (spec.token dots cursor.old) cursor.new }
 {
     if cursor.is_second('/') {
         cursor.eat_while(is_in_line);
@@ -108,8 +111,8 @@ fn eat_slash(cursor: &mut Cursor<'_>) -> Result<SyntaxKind, FaultKind>
 /// Passes over what begins with `"`.
 #[tactic(auto, using(crate::proofs::FirstCharacters::quote_rows))]
 fn eat_quote(cursor: &mut Cursor<'_>) -> Result<SyntaxKind, FaultKind>
-    requires { slice_get cursor.old 0 ≡ Some 34 }
-    ensures { (dots : ℕ) → spec.Takes (spec.fault_of cursor.old) result (spec.token dots cursor.old) cursor.new }
+    requires { slice_get cursor.old 0 ≡ Some (the_char "\"") }
+    ensures { (dots : ℕ) → Takes (spec.fault_of cursor.old) result (spec.token dots cursor.old) cursor.new }
 {
     cursor.bump();
     eat_quoted(cursor)?;
@@ -119,8 +122,8 @@ fn eat_quote(cursor: &mut Cursor<'_>) -> Result<SyntaxKind, FaultKind>
 /// Passes over what begins with `r`: a raw string, a raw identifier or a word.
 #[tactic(auto, using(crate::proofs::FirstCharacters::r_rows))]
 fn eat_r(cursor: &mut Cursor<'_>) -> Result<SyntaxKind, FaultKind>
-    requires { slice_get cursor.old 0 ≡ Some 114 }
-    ensures { (dots : ℕ) → spec.Takes (spec.fault_of cursor.old) result (spec.token dots cursor.old) cursor.new }
+    requires { slice_get cursor.old 0 ≡ Some (the_char "r") }
+    ensures { (dots : ℕ) → Takes (spec.fault_of cursor.old) result (spec.token dots cursor.old) cursor.new }
 {
     if begins_raw_string(cursor) {
         cursor.bump();
@@ -138,8 +141,8 @@ fn eat_r(cursor: &mut Cursor<'_>) -> Result<SyntaxKind, FaultKind>
 /// Passes over what begins with `b`: a string of bytes, a byte or a word.
 #[tactic(auto, using(crate::proofs::FirstCharacters::b_rows))]
 fn eat_b(cursor: &mut Cursor<'_>) -> Result<SyntaxKind, FaultKind>
-    requires { slice_get cursor.old 0 ≡ Some 98 }
-    ensures { (dots : ℕ) → spec.Takes (spec.fault_of cursor.old) result (spec.token dots cursor.old) cursor.new }
+    requires { slice_get cursor.old 0 ≡ Some (the_char "b") }
+    ensures { (dots : ℕ) → Takes (spec.fault_of cursor.old) result (spec.token dots cursor.old) cursor.new }
 {
     if begins_string_behind(cursor) {
         cursor.bump();
@@ -157,8 +160,8 @@ fn eat_b(cursor: &mut Cursor<'_>) -> Result<SyntaxKind, FaultKind>
 /// Passes over what begins with `c`: a C string or a word.
 #[tactic(auto, using(crate::proofs::FirstCharacters::c_rows))]
 fn eat_c(cursor: &mut Cursor<'_>) -> Result<SyntaxKind, FaultKind>
-    requires { slice_get cursor.old 0 ≡ Some 99 }
-    ensures { (dots : ℕ) → spec.Takes (spec.fault_of cursor.old) result (spec.token dots cursor.old) cursor.new }
+    requires { slice_get cursor.old 0 ≡ Some (the_char "c") }
+    ensures { (dots : ℕ) → Takes (spec.fault_of cursor.old) result (spec.token dots cursor.old) cursor.new }
 {
     if begins_string_behind(cursor) {
         cursor.bump();
@@ -171,8 +174,8 @@ fn eat_c(cursor: &mut Cursor<'_>) -> Result<SyntaxKind, FaultKind>
 /// Passes over what begins with `'`: a lifetime or a character.
 #[tactic(auto, using(crate::proofs::FirstCharacters::apostrophe_rows))]
 fn eat_lifetime_or_char(cursor: &mut Cursor<'_>) -> Result<SyntaxKind, FaultKind>
-    requires { slice_get cursor.old 0 ≡ Some 39 }
-    ensures { (dots : ℕ) → spec.Takes (spec.fault_of cursor.old) result (spec.token dots cursor.old) cursor.new }
+    requires { slice_get cursor.old 0 ≡ Some (the_char "'") }
+    ensures { (dots : ℕ) → Takes (spec.fault_of cursor.old) result (spec.token dots cursor.old) cursor.new }
 {
     let is_lifetime = begins_lifetime_behind(cursor);
     cursor.bump();
@@ -188,8 +191,8 @@ fn eat_lifetime_or_char(cursor: &mut Cursor<'_>) -> Result<SyntaxKind, FaultKind
 #[tactic(auto, using(crate::proofs::FirstCharacters::plain_rows))]
 fn eat_other(cursor: &mut Cursor<'_>, first: char, dots: u32) -> Result<SyntaxKind, FaultKind>
     requires comes { slice_get cursor.old 0 ≡ Some first }
-    requires plain { spec.IsPlain first }
-    ensures { spec.Takes (spec.fault_of cursor.old) result (spec.token dots cursor.old) cursor.new }
+    requires plain { IsPlain first }
+    ensures { Takes (spec.fault_of cursor.old) result (spec.token dots cursor.old) cursor.new }
 {
     if is_whitespace(first) {
         cursor.eat_while(is_whitespace);
@@ -207,7 +210,7 @@ fn eat_other(cursor: &mut Cursor<'_>, first: char, dots: u32) -> Result<SyntaxKi
 /// Passes over the token that comes next, and gives its kind. `dots` counts the `.` directly in front of it.
 #[tactic(auto, using(crate::proofs::FirstCharacters::no_rows))]
 pub(crate) fn eat_token(cursor: &mut Cursor<'_>, dots: u32) -> Result<SyntaxKind, FaultKind>
-    ensures { spec.Takes (spec.fault_of cursor.old) result (spec.token dots cursor.old) cursor.new }
+    ensures { Takes (spec.fault_of cursor.old) result (spec.token dots cursor.old) cursor.new }
 {
     let Some(first) = cursor.first() else {
         return Err(FaultKind::NoToken);

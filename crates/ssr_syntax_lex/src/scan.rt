@@ -2,31 +2,19 @@
 
 ghost use Rattle.std.specs.Prelude.{◌≡◌, false, true, drop};
 ghost use Rattle.ssr_syntax_lex.specs.Scan as spec;
+ghost use Rattle.ssr_syntax_lex.specs.Steps.{PassesOver};
 ghost use Rattle.ssr_syntax_lex.specs.declared.fault.FaultKind.TheVariants as faults;
 ghost use Rattle.ssr_syntax_lex.specs.Characters.{is_hash};
 ghost use Rattle.ssr_syntax_lex.specs.Cursor.{past};
 
-use crate::characters::is_hash;
+use crate::characters::{is_hash, is_in_char};
 use crate::cursor::Cursor;
 use crate::fault::FaultKind;
-
-pub(crate) fn is_in_line(c: char) -> bool
-    ensures { result ≡ spec.is_in_line c }
-{
-    c != '\n'
-}
-
-/// Whether a character may stand between the first one and the end of `'..'`.
-fn is_in_char(c: char) -> bool
-    ensures { result ≡ spec.is_in_char c }
-{
-    c != '\'' && c != '\n'
-}
 
 /// Passes over a block comment, with those inside of it.
 #[tactic(auto, using(crate::proofs::ScanSteps::comment_steps))]
 pub(crate) fn eat_block_comment(cursor: &mut Cursor<'_>) -> Result<(), FaultKind>
-    ensures { spec.PassesOver faults.UnclosedComment result (spec.past_comments 1 (drop 2 cursor.old)) cursor.new }
+    ensures { PassesOver faults.UnclosedComment result (spec.past_comments 1 (drop 2 cursor.old)) cursor.new }
 {
     cursor.bump_pair();
     let mut depth = 1u32;
@@ -50,7 +38,7 @@ pub(crate) fn eat_block_comment(cursor: &mut Cursor<'_>) -> Result<(), FaultKind
 /// Passes over a string from behind its `"`.
 #[tactic(auto, using(crate::proofs::ScanSteps::escape_takes_one))]
 pub(crate) fn eat_quoted(cursor: &mut Cursor<'_>) -> Result<(), FaultKind>
-    ensures { spec.PassesOver faults.UnclosedString result (spec.past_quoted false cursor.old) cursor.new }
+    ensures { PassesOver faults.UnclosedString result (spec.past_quoted false cursor.old) cursor.new }
 {
     while let Some(c) = cursor.next() {
         match c {
@@ -64,7 +52,7 @@ pub(crate) fn eat_quoted(cursor: &mut Cursor<'_>) -> Result<(), FaultKind>
 
 /// Passes over a raw string from behind its `r`.
 pub(crate) fn eat_raw_string(cursor: &mut Cursor<'_>) -> Result<(), FaultKind>
-    ensures { spec.PassesOver faults.UnclosedString result (spec.past_raw_string cursor.old) cursor.new }
+    ensures { PassesOver faults.UnclosedString result (spec.past_raw_string cursor.old) cursor.new }
 {
     let hashes = cursor.eat_while(is_hash).len();
     cursor.bump();
@@ -73,7 +61,7 @@ pub(crate) fn eat_raw_string(cursor: &mut Cursor<'_>) -> Result<(), FaultKind>
 
 /// Passes over a raw string from behind its first `"`, which has so many `#` in front.
 fn eat_raw(cursor: &mut Cursor<'_>, hashes: usize) -> Result<(), FaultKind>
-    ensures { spec.PassesOver faults.UnclosedString result (spec.past_raw hashes cursor.old) cursor.new }
+    ensures { PassesOver faults.UnclosedString result (spec.past_raw hashes cursor.old) cursor.new }
 {
     while let Some(c) = cursor.next() {
         if c == '"' && eat_hashes(cursor, hashes) {
@@ -100,7 +88,7 @@ fn eat_hashes(cursor: &mut Cursor<'_>, hashes: usize) -> bool
 
 /// Passes over `'`.
 fn eat_apostrophe(cursor: &mut Cursor<'_>, fault: FaultKind) -> Result<(), FaultKind>
-    ensures { spec.PassesOver fault result (spec.past_apostrophe cursor.old) cursor.new }
+    ensures { PassesOver fault result (spec.past_apostrophe cursor.old) cursor.new }
 {
     if !cursor.is_at('\'') {
         return Err(fault);
@@ -111,7 +99,7 @@ fn eat_apostrophe(cursor: &mut Cursor<'_>, fault: FaultKind) -> Result<(), Fault
 
 /// Passes over a character or a byte from behind its first `'`; `fault` is what it is told as if it isn't closed.
 pub(crate) fn eat_char(cursor: &mut Cursor<'_>, fault: FaultKind) -> Result<(), FaultKind>
-    ensures { spec.PassesOver fault result (spec.past_char cursor.old) cursor.new }
+    ensures { PassesOver fault result (spec.past_char cursor.old) cursor.new }
 {
     if cursor.is_at('\\') {
         cursor.bump_pair();

@@ -2,6 +2,7 @@
 
 ghost use Rattle.std.specs.Prelude.{◌≡◌, ◌+◌, ◌<◌, ◌^◌, ◌++◌, length, IfOk};
 ghost use Rattle.ssr_syntax_lex.specs.Tokens as spec;
+ghost use Rattle.ssr_syntax_lex.specs.Steps.{flagged};
 
 use crate::cursor::Cursor;
 use crate::fault::FaultKind;
@@ -135,7 +136,7 @@ fn push_waiting(
     waiting: Option<RawToken>,
     joint: bool,
 ) -> Result<(), AllocError>
-    ensures { IfOk result (λ _. tokens.new.items ≡ tokens.old.items ++ spec.flagged waiting joint) }
+    ensures { IfOk result (λ _. tokens.new.items ≡ tokens.old.items ++ flagged waiting joint) }
 {
     if let Some(token) = waiting {
         tokens.push(RawToken {
@@ -152,10 +153,7 @@ fn dots_behind(dots: u32, kind: SyntaxKind) -> u32
     requires { dots + 1 < 2 ^ 32 }
     ensures { result ≡ spec.dots_behind dots kind }
 {
-    match kind {
-        SyntaxKind::DOT => dots + 1,
-        _ => 0,
-    }
+    if kind == SyntaxKind::DOT { dots + 1 } else { 0 }
 }
 
 #[cfg(test)]

@@ -2,6 +2,8 @@
 
 ghost use Rattle.std.specs.Prelude.{◌≡◌};
 ghost use Rattle.ssr_syntax_lex.specs.Words as spec;
+ghost use Rattle.ssr_syntax_lex.specs.Steps.{beginning};
+ghost use Rattle.ssr_syntax_lex.specs.Characters.{the_char};
 
 use crate::kinds::SyntaxKind;
 
@@ -26,7 +28,7 @@ pub(crate) fn word_kind(word: &str) -> SyntaxKind
 }
 
 fn kind_before_a(word: &str) -> SyntaxKind
-    ensures { result ≡ spec.kind_in (spec.beginning 0 96 spec.word_kinds) word.now }
+    ensures { result ≡ spec.kind_in (beginning 0 (the_char "`") spec.word_kinds) word.now }
 {
     match word {
         "_" => SyntaxKind::UNDERSCORE,
@@ -36,7 +38,7 @@ fn kind_before_a(word: &str) -> SyntaxKind
 }
 
 fn kind_from_a(word: &str) -> SyntaxKind
-    ensures { result ≡ spec.kind_in (spec.beginning 97 98 spec.word_kinds) word.now }
+    ensures { result ≡ spec.kind_in (beginning (the_char "a") (the_char "b") spec.word_kinds) word.now }
 {
     match word {
         "as" => SyntaxKind::AS_KW,
@@ -51,7 +53,7 @@ fn kind_from_a(word: &str) -> SyntaxKind
 }
 
 fn kind_from_c(word: &str) -> SyntaxKind
-    ensures { result ≡ spec.kind_in (spec.beginning 99 100 spec.word_kinds) word.now }
+    ensures { result ≡ spec.kind_in (beginning (the_char "c") (the_char "d") spec.word_kinds) word.now }
 {
     match word {
         "const" => SyntaxKind::CONST_KW,
@@ -64,7 +66,7 @@ fn kind_from_c(word: &str) -> SyntaxKind
 }
 
 fn kind_from_e(word: &str) -> SyntaxKind
-    ensures { result ≡ spec.kind_in (spec.beginning 101 104 spec.word_kinds) word.now }
+    ensures { result ≡ spec.kind_in (beginning (the_char "e") (the_char "h") spec.word_kinds) word.now }
 {
     match word {
         "else" => SyntaxKind::ELSE_KW,
@@ -79,7 +81,7 @@ fn kind_from_e(word: &str) -> SyntaxKind
 }
 
 fn kind_from_i(word: &str) -> SyntaxKind
-    ensures { result ≡ spec.kind_in (spec.beginning 105 108 spec.word_kinds) word.now }
+    ensures { result ≡ spec.kind_in (beginning (the_char "i") (the_char "l") spec.word_kinds) word.now }
 {
     match word {
         "if" => SyntaxKind::IF_KW,
@@ -92,7 +94,7 @@ fn kind_from_i(word: &str) -> SyntaxKind
 }
 
 fn kind_from_m(word: &str) -> SyntaxKind
-    ensures { result ≡ spec.kind_in (spec.beginning 109 113 spec.word_kinds) word.now }
+    ensures { result ≡ spec.kind_in (beginning (the_char "m") (the_char "q") spec.word_kinds) word.now }
 {
     match word {
         "match" => SyntaxKind::MATCH_KW,
@@ -108,7 +110,7 @@ fn kind_from_m(word: &str) -> SyntaxKind
 }
 
 fn kind_from_r(word: &str) -> SyntaxKind
-    ensures { result ≡ spec.kind_in (spec.beginning 114 115 spec.word_kinds) word.now }
+    ensures { result ≡ spec.kind_in (beginning (the_char "r") (the_char "s") spec.word_kinds) word.now }
 {
     match word {
         "ref" => SyntaxKind::REF_KW,
@@ -122,7 +124,7 @@ fn kind_from_r(word: &str) -> SyntaxKind
 }
 
 fn kind_from_t(word: &str) -> SyntaxKind
-    ensures { result ≡ spec.kind_in (spec.beginning 116 116 spec.word_kinds) word.now }
+    ensures { result ≡ spec.kind_in (beginning (the_char "t") (the_char "t") spec.word_kinds) word.now }
 {
     match word {
         "trait" => SyntaxKind::TRAIT_KW,
@@ -135,7 +137,7 @@ fn kind_from_t(word: &str) -> SyntaxKind
 }
 
 fn kind_from_u(word: &str) -> SyntaxKind
-    ensures { result ≡ spec.kind_in (spec.beginning 117 255 spec.word_kinds) word.now }
+    ensures { result ≡ spec.kind_in (beginning (the_char "u") 255 spec.word_kinds) word.now }
 {
     match word {
         "unsafe" => SyntaxKind::UNSAFE_KW,
@@ -188,37 +190,11 @@ pub(crate) fn mark_kind(c: char) -> Option<SyntaxKind>
 }
 
 /// Whether this is a kind of punctuation.
+#[tactic(auto, using(crate::proofs::WordLaws::mark_places))]
 pub(crate) fn is_punctuation(kind: SyntaxKind) -> bool
     ensures { result ≡ spec.is_punctuation kind }
 {
-    matches!(
-        kind,
-        SyntaxKind::SEMICOLON
-            | SyntaxKind::COMMA
-            | SyntaxKind::L_PAREN
-            | SyntaxKind::R_PAREN
-            | SyntaxKind::L_CURLY
-            | SyntaxKind::R_CURLY
-            | SyntaxKind::L_BRACK
-            | SyntaxKind::R_BRACK
-            | SyntaxKind::L_ANGLE
-            | SyntaxKind::R_ANGLE
-            | SyntaxKind::AT
-            | SyntaxKind::POUND
-            | SyntaxKind::TILDE
-            | SyntaxKind::QUESTION
-            | SyntaxKind::DOLLAR
-            | SyntaxKind::AMP
-            | SyntaxKind::PLUS
-            | SyntaxKind::STAR
-            | SyntaxKind::SLASH
-            | SyntaxKind::CARET
-            | SyntaxKind::PERCENT
-            | SyntaxKind::DOT
-            | SyntaxKind::COLON
-            | SyntaxKind::EQ
-            | SyntaxKind::BANG
-            | SyntaxKind::MINUS
-            | SyntaxKind::PIPE
-    )
+    // These kinds stand side by side.
+    let place = kind as u8;
+    SyntaxKind::SEMICOLON as u8 <= place && place <= SyntaxKind::PIPE as u8
 }

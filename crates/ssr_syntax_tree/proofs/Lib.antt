@@ -1,7 +1,9 @@
-pub mod Siblings
-pub mod ReadBack
-pub mod RowLaws
-pub mod Places
-pub mod Ranges
-pub mod Covering
-pub mod Steps
+pub mod Lists
+pub mod Shared
+mod Siblings
+mod ReadBack
+mod RowLaws
+mod Places
+mod Ranges
+mod Covering
+mod Steps

@@ -9,7 +9,7 @@ use Rattle.ssr_syntax_lex.specs.declared.kinds.SyntaxKind.{SyntaxKind}
 use Rattle.ssr_syntax_tree.specs.declared.number.Element.{Element}
 use Rattle.ssr_syntax_tree.specs.Places.{Node, Part, token_part, node_part, nodes_in, parts_in, nodes_of, root_of, node_of, token_of, parts_of, elements_of, element_of, part_of, size_of, IsAbove, HasNode, HasToken, HasElement, depth_at}
 use Rattle.ssr_syntax_tree.specs.Syntax.{Forest, nothing, leaf, branch, Syntax, token_count, node_count, tokens_in, tokens_of}
-use Rattle.ssr_syntax_tree.specs.Siblings.{At}
+use Rattle.ssr_syntax_tree.specs.Private.Siblings.{At}
 use Rattle.ssr_syntax_tree.proofs.Siblings.{at_top, at_leaf, at_below, at_next, node_of-at, depth_at-at, token_of-at, length-nodes_in, length-tokens_in}
 
 -- a node among siblings or below them: where it stands, and that it and its tokens lie within theirs

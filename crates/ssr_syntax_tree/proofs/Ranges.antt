@@ -1,11 +1,12 @@
 -- Laws of ranges and texts in bytes.
-use Rattle.std.proofs.Common.{◌≡◌, ℕ, ◌+◌, ◌-◌, ◌<◌, ◌≤◌, List, length, take, drop, get_or, slice_range, append-nil, sym, ap, ◌∙◌, arith}
+use Rattle.std.proofs.Common.{◌≡◌, ℕ, ◌+◌, ◌-◌, ◌<◌, ◌≤◌, List, [], ◌∷◌, length, take, drop, get_or, slice_range, append-nil, sym, ap, ◌∙◌, subst, arith}
 use Rattle.std.proofs.lemmas.List.{drop_more, get_or_default}
 use Rattle.std.proofs.lemmas.Option.{unwrap_or-slice_get}
-use Rattle.ssr_syntax_tree.specs.Places.{Node, node_of, token_of, size_of, IsAbove, text_of, offset_of, start_of, end_of, HasNode, HasToken}
-use Rattle.ssr_syntax_tree.specs.Syntax.{Syntax, token_count, tokens_of, spelled, source_of}
-use Rattle.ssr_syntax_tree.proofs.Siblings.{length-tokens_in}
-use Rattle.ssr_syntax_tree.proofs.Places.{below_within, tokens_apart, tokens_in-node}
+use Rattle.ssr_syntax_tree.specs.Places.{Node, Part, token_part, node_part, parts_in, parts_of, node_of, token_of, size_of, IsAbove, text_of, offset_of, start_of, end_of, HasNode, HasToken}
+use Rattle.ssr_syntax_tree.specs.Syntax.{Forest, nothing, leaf, branch, Syntax, node_count, token_count, tokens_of, spelled, source_of}
+use Rattle.ssr_syntax_tree.specs.Private.Siblings.{At}
+use Rattle.ssr_syntax_tree.proofs.Siblings.{at_leaf, at_next, node_of-at, length-tokens_in}
+use Rattle.ssr_syntax_tree.proofs.Places.{known, below_within, tokens_apart, tokens_in-node}
 use Rattle.ssr_syntax_tree.proofs.RowLaws.{offset_grows, slice_spelled}
 
 pub start_before_end : (syntax : Syntax) (node : Node) → start_of syntax node ≤ end_of syntax node
@@ -48,3 +49,46 @@ token_text-slice syntax t h =
 
 pub token_text_read : (syntax : Syntax) (t : ℕ) → HasToken syntax t → (source : List ℕ) (start end : ℕ) → source ≡ source_of syntax → start ≡ offset_of syntax t → end ≡ offset_of syntax (1 + t) → slice_range source start end ≡ (token_of syntax t).text
 token_text_read syntax t h source start end whole first past = rw whole (rw first (rw past (token_text-slice syntax t h)))
+
+-- ** The children of a node, one behind another.
+
+-- a node as a tree has it under its number
+abbrev pub IsOf : Syntax → Node → Type 0
+IsOf syntax node = HasNode syntax node.number × (node_of syntax node.number ≡ node)
+
+-- parts of a tree between two places of its text, of which the nodes lie one behind another
+abbrev pub Spans : Syntax → ℕ → ℕ → List Part → Type 0
+Spans syntax from to [] = from ≤ to
+Spans syntax from to (token_part t token ∷ parts) = Spans syntax from to parts
+Spans syntax from to (node_part node ∷ parts) = IsOf syntax node × (from ≤ start_of syntax node) × Spans syntax (end_of syntax node) to parts
+
+spans_from : (syntax : Syntax) (low from to : ℕ) (parts : List Part) → low ≤ from → Spans syntax from to parts → Spans syntax low to parts
+spans_from syntax low from to [] le s = omega arith
+spans_from syntax low from to (token_part t token ∷ parts) le s = spans_from syntax low from to parts le s
+spans_from syntax low from to (node_part node ∷ parts) le s = let first = s.1 in (s.0, omega arith, s.2)
+
+spans_in : (syntax : Syntax) (parent m t : ℕ) (forest : Forest) → At syntax parent m t forest
+    → Spans syntax (offset_of syntax t) (offset_of syntax (t + token_count forest)) (parts_in parent m t forest)
+spans_in syntax parent m t nothing a = offset_grows syntax t (t + 0) (omega arith)
+spans_in syntax parent m t (leaf token next) a =
+    let to : 1 + t + token_count next ≡ t + (1 + token_count next) = omega arith in
+    let behind = parts_in parent m (1 + t) next in
+    subst (λ n. Spans syntax (offset_of syntax t) (offset_of syntax n) behind) to
+    (spans_from syntax (offset_of syntax t) (offset_of syntax (1 + t)) (offset_of syntax (1 + t + token_count next)) behind
+    (offset_grows syntax t (1 + t) (omega arith))
+    (spans_in syntax parent m (1 + t) next (at_leaf syntax parent m t token next a)))
+spans_in syntax parent m t (branch kind below next) a =
+    let ends = a.nodes_end in
+    let to : t + token_count below + token_count next ≡ t + (token_count below + token_count next) = omega arith in
+    let behind = parts_in parent (1 + m + node_count below) (t + token_count below) next in (
+      (omega arith, node_of-at syntax parent m t kind below next a),
+      omega arith,
+      subst (λ n. Spans syntax (offset_of syntax (t + token_count below)) (offset_of syntax n) behind) to
+          (spans_in syntax parent (1 + m + node_count below) (t + token_count below) next (at_next syntax parent m t kind below next a)),
+    )
+
+-- the children of a node lie so between its ends
+pub spans_children : (syntax : Syntax) (c : Node) → IsOf syntax c → Spans syntax (start_of syntax c) (end_of syntax c) (parts_of c)
+spans_children syntax c is =
+    spans_in syntax c.number (1 + c.number) c.first c.children
+    (subst (λ (node : Node). At syntax c.number (1 + c.number) node.first node.children) is.1 (known syntax c.number is.0).children)

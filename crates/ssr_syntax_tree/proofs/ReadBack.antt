@@ -5,12 +5,13 @@ use Rattle.std.proofs.lemmas.List.{take_at, length-map}
 use Rattle.std.proofs.lemmas.Option.{slice_get-map}
 use Rattle.ssr_syntax_tree.specs.declared.rows.NodeRow.{NodeRow}
 use Rattle.ssr_syntax_tree.specs.declared.rows.TokenRow.{TokenRow}
-use Rattle.ssr_syntax_tree.specs.Flat.{next_start, tokens_from, row_at, token_in, grown, plain_of}
+use Rattle.ssr_syntax_tree.specs.Private.Flat.{next_start, tokens_from, row_at, token_in, grown, plain_of}
 use Rattle.ssr_syntax_tree.specs.Parts.{node_row, token_rows, AreParts}
 use Rattle.ssr_syntax_tree.specs.Places.{Node, nodes_of, root_of}
 use Rattle.ssr_syntax_tree.specs.Syntax.{Token, Forest, nothing, leaf, branch, Syntax, token_count, node_count, tokens_of, spelled}
-use Rattle.ssr_syntax_tree.specs.Siblings.{At}
-use Rattle.ssr_syntax_tree.proofs.Siblings.{at_top, at_leaf, at_below, at_next, slice_get-drop, length-nodes_in, length-tokens_in, drop_part}
+use Rattle.ssr_syntax_tree.specs.Private.Siblings.{At}
+use Rattle.ssr_syntax_tree.proofs.Lists.{slice_get-drop, drop_part}
+use Rattle.ssr_syntax_tree.proofs.Siblings.{at_top, at_leaf, at_below, at_next, length-nodes_in, length-tokens_in}
 
 -- the tokens are read back
 next_start-token_rows : (source : List ℕ) (start : ℕ) (tokens : List Token) → start + length (spelled tokens) ≡ length source → next_start source (token_rows start tokens) ≡ start

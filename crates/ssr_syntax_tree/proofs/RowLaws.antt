@@ -1,6 +1,6 @@
 -- What the rows of a tree tell of it.
-use Rattle.std.proofs.Common.{inl, inr, ◌≡◌, ℕ, vec_len, ◌+◌, ◌-◌, ◌<◌, ◌≤◌, List, [], ◌∷◌, ◌++◌, All, length, take, drop, get_or, refl, sym, ap, ◌∙◌, subst, arith, append_assoc, length-append, take-append-drop}
-use Rattle.std.proofs.lemmas.List.{get_or-map, take-take, length-map, take_all, take_at, drop_at, drop-take}
+use Rattle.std.proofs.Common.{inl, inr, ◌≡◌, ℕ, vec_len, ◌+◌, ◌-◌, ◌^◌, ◌<◌, ◌≤◌, List, [], ◌∷◌, ◌++◌, All, length, take, drop, get_or, refl, sym, ap, ◌∙◌, subst, arith, append_assoc, length-append, take-append-drop}
+use Rattle.std.proofs.lemmas.List.{get_or-map, length-map, take_all, take_at, drop_at}
 use Rattle.std.proofs.lemmas.Bool.{cases_lt}
 use Rattle.std.proofs.lemmas.List.Elements.{All-head, All-tail, All-drop}
 use Rattle.std.proofs.lemmas.Option.{unwrap_or-slice_get}
@@ -11,10 +11,11 @@ use Rattle.std.specs.String.{string_bytes}
 use Rattle.ssr_syntax_tree.specs.declared.rows.NodeRow.{NodeRow}
 use Rattle.ssr_syntax_tree.specs.declared.rows.TokenRow.{TokenRow}
 use Rattle.ssr_syntax_tree.specs.declared.tree.Tree.TheInside.{Inside}
-use Rattle.ssr_syntax_tree.specs.Flat.{syntax_of, IsFlat}
+use Rattle.ssr_syntax_tree.specs.Private.Flat.{syntax_of, IsFlat}
 use Rattle.ssr_syntax_tree.specs.Parts.{node_row, token_rows, AreParts}
 use Rattle.ssr_syntax_tree.specs.Places.{nodes_of, root_of, node_of, token_of, offset_of, HasNode, HasToken}
 use Rattle.ssr_syntax_tree.specs.Syntax.{Token, Syntax, token_count, node_count, tokens_of, spelled, source_of}
+use Rattle.ssr_syntax_tree.proofs.Lists.{take_between}
 use Rattle.ssr_syntax_tree.proofs.Siblings.{length-nodes_in, length-tokens_in}
 
 -- the parts of an opened tree are those of the tree that it is seen as
@@ -55,13 +56,6 @@ offset_boundary syntax t texts =
 -- behind the tokens there is nothing more
 pub offset_past : (syntax : Syntax) (t : ℕ) → token_count syntax.children ≤ t → offset_of syntax t ≡ length (source_of syntax)
 offset_past syntax t h = ap (λ tokens. length (spelled tokens)) (take_all t (tokens_of syntax) (omega (arith, length-tokens_in syntax.children)))
-
-take_between : {A : Type 0} (xs : List A) (a b : ℕ) → a ≤ b → take b xs ≡ take a xs ++ take (b - a) (drop a xs)
-take_between xs a b h =
-    sym (take-append-drop a (take b xs))
-    ∙ ap (λ front. front ++ drop a (take b xs)) (take-take a b xs h)
-    ∙ ap (λ n. take a xs ++ drop a (take n xs)) (omega arith)
-    ∙ ap (λ rest. take a xs ++ rest) (drop-take a (b - a) xs)
 
 -- where there are bytes, there is a token
 pub some_token : (syntax : Syntax) → 0 < length (source_of syntax) → 0 < token_count syntax.children
@@ -131,6 +125,19 @@ node_within tree syntax flat e n h =
 pub node_row-is : (tree : Inside) (syntax : Syntax) → IsFlat tree → syntax_of tree ≡ syntax → (n : ℕ) (row : NodeRow) → HasNode syntax n → row ≡ get_or tree.nodes.items n row → row ≡ node_row (node_of syntax n)
 node_row-is tree syntax flat e n row h read =
     node_row-at (string_bytes tree.source) tree.tokens.items tree.nodes.items syntax (are_parts tree syntax flat e) n row h read
+
+pub at_boundary : (tree : Inside) (syntax : Syntax) → IsFlat tree → syntax_of tree ≡ syntax → (t start : ℕ) → start ≡ offset_of syntax t → IsCharBoundary (source_of syntax) start
+at_boundary tree syntax flat e t start same =
+    subst (IsCharBoundary (source_of syntax)) (sym same) (offset_boundary syntax t (are_parts tree syntax flat e).texts)
+
+pub nodes_few : (tree : Inside) (syntax : Syntax) → IsFlat tree → syntax_of tree ≡ syntax → 1 + node_count syntax.children < 2 ^ 32
+nodes_few tree syntax flat e =
+    let are = are_parts tree syntax flat e in
+    omega (arith, are.few, nodes_counted (string_bytes tree.source) tree.tokens.items tree.nodes.items syntax are)
+
+pub token_row-is : (tree : Inside) (syntax : Syntax) → IsFlat tree → syntax_of tree ≡ syntax → (t : ℕ) (row : TokenRow) → HasToken syntax t → row ≡ get_or tree.tokens.items t row → (row.kind ≡ (token_of syntax t).kind) × (row.start ≡ offset_of syntax t)
+token_row-is tree syntax flat e t row h read =
+    token_row-at (string_bytes tree.source) tree.tokens.items tree.nodes.items syntax (are_parts tree syntax flat e) t row h read
 
 pub token_within : (tree : Inside) (syntax : Syntax) → IsFlat tree → syntax_of tree ≡ syntax → (t : ℕ) → HasToken syntax t → t < vec_len tree.tokens
 token_within tree syntax flat e t h =

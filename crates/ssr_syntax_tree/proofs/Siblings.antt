@@ -1,25 +1,13 @@
 -- How one gets from siblings to those after them and to those below.
-use Rattle.std.proofs.Common.{◌≡◌, ℕ, ◌+◌, ◌≤◌, List, [], ◌∷◌, ◌++◌, length, drop, All, Some, refl, sym, ap, ◌∙◌, arith, append_assoc, append-nil, length-append, drop-drop}
-use Rattle.std.proofs.lemmas.List.{drop_at}
+use Rattle.std.proofs.Common.{◌≡◌, ℕ, ◌+◌, ◌≤◌, List, [], ◌++◌, length, All, refl, sym, ap, ◌∙◌, arith, append_assoc, append-nil, length-append}
 use Rattle.std.proofs.lemmas.List.Elements.{All-nil, All-cons, All-append, All-weaker}
 use Rattle.std.proofs.lemmas.Option.{get_or_from_slice_get}
-use Rattle.std.specs.Prelude.{zero, suc, slice_get, unwrap_or}
+use Rattle.std.specs.Prelude.{unwrap_or}
 use Rattle.ssr_syntax_lex.specs.declared.kinds.SyntaxKind.{SyntaxKind}
 use Rattle.ssr_syntax_tree.specs.Syntax.{Token, Forest, nothing, leaf, branch, Syntax, token_count, node_count, tokens_in, tokens_of}
-use Rattle.ssr_syntax_tree.specs.Siblings.{At}
+use Rattle.ssr_syntax_tree.specs.Private.Siblings.{At}
+use Rattle.ssr_syntax_tree.proofs.Lists.{drop_one, drop_part, slice_get-drop}
 use Rattle.ssr_syntax_tree.specs.Places.{Node, nodes_in, nodes_of, root_of, node_of, token_of, depths_in, depths_of, depth_at}
-
-pub drop_one : {A : Type 0} (xs : List A) (m : ℕ) (y : A) (ys : List A) → drop m xs ≡ y ∷ ys → drop (1 + m) xs ≡ ys
-drop_one xs m y ys e = ap (λ n. drop n xs) (omega arith) ∙ sym (drop-drop 1 m xs) ∙ ap (drop 1) e
-
-pub drop_part : {A : Type 0} (xs : List A) (m k : ℕ) (front ys : List A) → drop m xs ≡ front ++ ys → length front ≡ k → drop (m + k) xs ≡ ys
-drop_part xs m k front ys e l = sym (drop-drop k m xs) ∙ ap (drop k) e ∙ drop_at front ys k l
-
-pub slice_get-drop : {A : Type 0} (xs : List A) (m : ℕ) (y : A) (ys : List A) → drop m xs ≡ y ∷ ys → slice_get xs m ≡ Some y
-slice_get-drop [] zero y ys e = cc
-slice_get-drop [] (suc m) y ys e = cc
-slice_get-drop (x ∷ xs) zero y ys e = cc
-slice_get-drop (x ∷ xs) (suc m) y ys e = slice_get-drop xs m y ys e
 
 pub length-nodes_in : (parent m t : ℕ) (forest : Forest) → length (nodes_in parent m t forest) ≡ node_count forest
 length-nodes_in parent m t nothing = refl

@@ -4,9 +4,10 @@ use Rattle.ssr_syntax_tree.specs.declared.children.Children.TheInside.{Inside}
 use Rattle.ssr_syntax_tree.specs.declared.number.Element.{Element}
 use Rattle.ssr_syntax_tree.specs.declared.number.Element.TheVariants as element
 use Rattle.ssr_syntax_tree.specs.Places.{node_of, parts_in, element_of, elements_of, size_of, HasNode}
-use Rattle.ssr_syntax_tree.specs.Siblings.{At, elements_left, IsStep}
+use Rattle.ssr_syntax_tree.specs.Private.Siblings.{At, elements_left, IsStep}
 use Rattle.ssr_syntax_tree.specs.Syntax.{Forest, nothing, leaf, branch, Syntax, token_count, node_count}
-use Rattle.ssr_syntax_tree.proofs.Siblings.{at_leaf, at_next, node_of-at, drop_one}
+use Rattle.ssr_syntax_tree.proofs.Lists.{drop_one}
+use Rattle.ssr_syntax_tree.proofs.Siblings.{at_leaf, at_next, node_of-at}
 use Rattle.ssr_syntax_tree.proofs.Places.{known}
 
 -- the cursor behind one more child

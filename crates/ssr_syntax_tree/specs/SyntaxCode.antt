@@ -1,4 +1,5 @@
--- How the logic stores a plain tree: as the list of its symbols, a node's before those below it.
+-- For the logic alone: how it stores a plain tree, as the list of its symbols, a node's before those below it. There is
+-- nothing to believe here, since that each tree is read back from its symbols is proved.
 use Rattle.std.specs.Prelude.{ℕ, ◌≡◌, List, [], ◌∷◌, ◌++◌, Option, Some, None, refl}
 use Rattle.std.specs.Coded.{Coded, code_by, coded×, coded_list, coded_ℕ, coded_option}
 use Rattle.std.proofs.Common.{ap, ◌∙◌, sym, append_assoc, append-nil}

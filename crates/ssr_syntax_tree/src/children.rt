@@ -26,7 +26,7 @@ impl<'a> Model for Children<'a> {
 
     ghost Value = { List Element };
 
-    ghost use Rattle.ssr_syntax_tree.specs.Siblings.{elements_left, IsStep};
+    ghost use Rattle.ssr_syntax_tree.specs.Private.Siblings.{elements_left, IsStep};
 
     ghost view = { elements_left };
 

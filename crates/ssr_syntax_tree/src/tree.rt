@@ -26,7 +26,7 @@ impl Model for Tree {
 
     ghost coded = { syntax_code };
 
-    ghost use Rattle.ssr_syntax_tree.specs.Flat.{syntax_of, IsFlat};
+    ghost use Rattle.ssr_syntax_tree.specs.Private.Flat.{syntax_of, IsFlat};
 
     ghost view = { syntax_of };
 
@@ -35,7 +35,7 @@ impl Model for Tree {
 
 impl Tree {
     ghost use Rattle.ssr_syntax_tree.specs.Syntax.{Syntax, node_count, token_count, source_of};
-    ghost use Rattle.ssr_syntax_tree.specs.Parts.{AreParts};
+    ghost use Rattle.ssr_syntax_tree.specs.Parts.{AreParts, node_row};
     ghost use Rattle.ssr_syntax_tree.specs.Places.{node_of, token_of, size_of, parts_of, part_of, elements_of, text_of, offset_of, depth_at, start_of, end_of, HasNode, HasToken, HasElement, HoldsByte, HoldsRange, IsCovering};
 
     /// The tree that the parts stand for. The source is shorter than 2^32 bytes.
@@ -81,12 +81,30 @@ impl Tree {
         }
     }
 
+    /// The row of a node.
+    fn row(&self, node: NodeNo) -> &NodeRow
+        requires { HasNode self.now node.0 }
+        ensures value { result.now ≡ node_row (node_of self.now node.0) }
+        ensures few { 1 + node_count self.now.children < 2 ^ 32 }
+    {
+        &self.nodes[node.0 as usize]
+    }
+
+    /// The row of a token.
+    fn token_row(&self, token: TokenNo) -> &TokenRow
+        requires { HasToken self.now token.0 }
+        ensures kind { result.now.kind ≡ (token_of self.now token.0).kind }
+        ensures start { result.now.start ≡ offset_of self.now token.0 }
+    {
+        &self.tokens[token.0 as usize]
+    }
+
     /// The kind of a node.
     pub fn kind(&self, node: NodeNo) -> SyntaxKind
         requires { HasNode self.now node.0 }
         ensures { result ≡ (node_of self.now node.0).kind }
     {
-        self.nodes[node.0 as usize].kind
+        self.row(node).kind
     }
 
     /// The node above; the root has none.
@@ -99,7 +117,7 @@ impl Tree {
         if node.0 == 0 {
             return None;
         }
-        Some(NodeNo(self.nodes[node.0 as usize].parent))
+        Some(NodeNo(self.row(node).parent))
     }
 
     /// How many nodes are below the node.
@@ -107,7 +125,7 @@ impl Tree {
         requires { HasNode self.now node.0 }
         ensures { result ≡ node_count (node_of self.now node.0).children }
     {
-        self.nodes[node.0 as usize].below
+        self.row(node).below
     }
 
     /// The numbers of the nodes below the node.
@@ -117,7 +135,7 @@ impl Tree {
         ensures end { result.end ≡ node.0 + size_of (node_of self.now node.0) }
         ensures has { result.end ≤ 1 + node_count self.now.children }
     {
-        let row = &self.nodes[node.0 as usize];
+        let row = self.row(node);
         node.0 + 1..node.0 + 1 + row.below
     }
 
@@ -128,7 +146,7 @@ impl Tree {
         ensures end { result.end ≡ (node_of self.now node.0).first + token_count (node_of self.now node.0).children }
         ensures has { result.end ≤ token_count self.now.children }
     {
-        let row = &self.nodes[node.0 as usize];
+        let row = self.row(node);
         row.first..row.past
     }
 
@@ -180,7 +198,7 @@ impl Tree {
         requires { HasToken self.now token.0 }
         ensures { result ≡ (token_of self.now token.0).kind }
     {
-        self.tokens[token.0 as usize].kind
+        self.token_row(token).kind
     }
 
     /// Where a token stands in the source, in bytes, at character boundaries.
@@ -283,7 +301,7 @@ impl Tree {
         requires known { depth ≡ depth_at self.now other.0 }
         ensures { result ≡ depth_at self.now node.0 }
     {
-        if node.0 > 0 && self.nodes[node.0 as usize].parent == other.0 {
+        if node.0 > 0 && self.row(node).parent == other.0 {
             return depth + 1;
         }
         self.depth(node)

@@ -1,5 +1,5 @@
 use Rattle.std.proofs.Common.{arith}
-use Rattle.ssr_syntax_tree.proofs.Places.{below_fits}
+use Rattle.ssr_syntax_tree.proofs.Shared.{below_fits}
 use Rattle.ide_ssr.proofs.rendering.below_unless.Goals as goal
 
 pub returns-else-look-clause-within : goal.returns-else-look-clause-within

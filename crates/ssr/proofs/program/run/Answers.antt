@@ -1,5 +1,4 @@
 use Rattle.std.proofs.Common.{ap, sym, ◌∙◌, append-nil, refl, subst, string_bytes, codes}
-use Rattle.std.specs.Str.{IsUtf8}
 use Rattle.ssr.specs.Output.{usage, input_refused, rule_refused, refused, written, no_text}
 use Rattle.ssr.specs.Running.{wrong_words, told, unread, no_memory_for_input}
 use Rattle.ssr.proofs.Answering.{answered, answered_file, answered_memory, goes_as}
@@ -27,7 +26,7 @@ returns-in_default-from_utf8 g c = record {
   output = input_refused (codes "not UTF-8");
   answered =
       told _ _ _ (sym c.in-Some.ensures) c.in-Ok.ensures
-      (no_text (λ is. c.in_default-from_utf8.ensures.cases.0 (subst IsUtf8 (sym c.as_slice.ensures.value) is)));
+      (no_text (λ is. absurd (cc (c.in_default-from_utf8.ensures.succeeds is))));
   goes = c.refuse_input-in_default-from_utf8.ensures;
 }
 
@@ -36,7 +35,7 @@ returns-in-Ok-rewrite g c = record {
   output = written (string_bytes c.in-Ok-rewrite.new);
   answered =
       answered _ _ _ _ _ _ (sym c.in-Some.ensures) c.in-Ok.ensures
-      (c.in-Ok-from_utf8.ensures.cases.0 ∙ c.as_slice.ensures.value) _ c.in-Ok-rewrite.ensures;
+      (ap (λ v. v.items) c.in-Ok-from_utf8.ensures.ok) _ c.in-Ok-rewrite.ensures;
   goes = goes_as _ _ _ _ _ (ap written (append-nil _ ∙ c.as_str.ensures.value)) c.send-in-Ok-rewrite.ensures;
 }
 
@@ -45,7 +44,7 @@ returns-in-Err-File g c = record {
   output = input_refused _;
   answered =
       answered_file _ _ _ _ _ _ (sym c.in-Some.ensures) c.in-Ok.ensures
-      (c.in-Ok-from_utf8.ensures.cases.0 ∙ c.as_slice.ensures.value) c.in-Err-File.error (rw c.in-Err-File.field-0-is at c.in-Err-File.ensures);
+      (ap (λ v. v.items) c.in-Ok-from_utf8.ensures.ok) c.in-Err-File.error (rw c.in-Err-File.field-0-is at c.in-Err-File.ensures);
   goes = goes_as _ _ _ _ _ (ap input_refused c.words_for.ensures) c.refuse_input-in-Err-File.ensures;
 }
 
@@ -54,15 +53,15 @@ returns-in-Err-Rule g c = record {
   output = rule_refused (string_bytes c.in-Err-Rule.message);
   answered =
       answered _ _ _ _ _ _ (sym c.in-Some.ensures) c.in-Ok.ensures
-      (c.in-Ok-from_utf8.ensures.cases.0 ∙ c.as_slice.ensures.value) _ (rw c.in-Err-Rule.field-0-is at c.in-Err-Rule.ensures);
+      (ap (λ v. v.items) c.in-Ok-from_utf8.ensures.ok) _ (rw c.in-Err-Rule.field-0-is at c.in-Err-Rule.ensures);
   goes = goes_as _ _ _ _ _ (ap rule_refused c.as_str-in-Err-Rule.ensures.value) c.send-in-Err-Rule.ensures;
 }
 
-pub returns : goal.returns
-returns g c = record {
+pub returns-in-Err-Memory-rewrite : goal.returns-in-Err-Memory-rewrite
+returns-in-Err-Memory-rewrite g c = record {
   output = refused (codes "out of memory");
   answered =
       answered_memory _ _ _ _ _ _ (sym c.in-Some.ensures) c.in-Ok.ensures
-      (c.in-Ok-from_utf8.ensures.cases.0 ∙ c.as_slice.ensures.value) (rw c.in-Err-Memory-rewrite.field-0-is at c.in-Err-Memory-rewrite.ensures);
+      (ap (λ v. v.items) c.in-Ok-from_utf8.ensures.ok) (rw c.in-Err-Memory-rewrite.field-0-is at c.in-Err-Memory-rewrite.ensures);
   goes = c.send-in-Err-Memory-rewrite.ensures;
 }

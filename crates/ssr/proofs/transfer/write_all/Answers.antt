@@ -1,7 +1,5 @@
-use Rattle.std.proofs.Common.{◌++◌, ap, ◌∙◌}
 use Rattle.std.proofs.lemmas.List.{take_all}
-use Rattle.ssr.specs.Streams.{whole}
-use Rattle.ssr.proofs.Sending.{sent_none, sent_no_byte, sent_more, within}
+use Rattle.ssr.proofs.Sending.{sent_none, sent_no_byte, sent_more, sent_whole, within}
 use Rattle.ssr.proofs.transfer.write_all.Goals as goal
 
 pub returns-in-Ok-eq0 : goal.returns-in-Ok-eq0
@@ -19,7 +17,4 @@ pub returns-in-Err : goal.returns-in-Err
 returns-in-Err g c = sent_none _ _ _ _ _ c.loop-at-test.true c.loop-at.invariant.1 c.in-Err.ensures.err
 
 pub returns : goal.returns
-returns g c =
-    whole
-    (c.loop-at.invariant.1.0 ∙ ap (λ s. (g.W.Sink.taken c.args.sink.now).bytes ++ s) (take_all _ _ c.loop-at-test.false))
-    c.loop-at.invariant.1.1
+returns g c = sent_whole _ _ _ _ (take_all _ _ c.loop-at-test.false) c.loop-at.invariant.1

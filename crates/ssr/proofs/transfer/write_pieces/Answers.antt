@@ -1,8 +1,7 @@
-use Rattle.std.proofs.Common.{◌++◌, ap, ◌∙◌}
-use Rattle.std.proofs.lemmas.List.{take_all}
+use Rattle.std.proofs.Common.{ap}
 use Rattle.std.specs.List.{flat_map}
-use Rattle.ssr.specs.Streams.{whole}
-use Rattle.ssr.proofs.Sending.{piece_part, piece_whole}
+use Rattle.std.proofs.lemmas.List.{take_all}
+use Rattle.ssr.proofs.Sending.{piece_part, piece_whole, sent_whole}
 use Rattle.ssr.proofs.transfer.write_pieces.Goals as goal
 
 pub returns-then-not-write_all : goal.returns-then-not-write_all
@@ -15,6 +14,4 @@ loop-piece-preserved g c =
 
 pub returns : goal.returns
 returns g c =
-    whole
-    (c.loop-piece.invariant.0 ∙ ap (λ ps. (g.W.Sink.taken c.args.sink.now).bytes ++ flat_map (λ piece. piece.now) ps) (take_all _ _ c.loop-piece-test.false))
-    c.loop-piece.invariant.1
+    sent_whole _ _ _ _ (ap (λ ps. flat_map (λ piece. piece.now) ps) (take_all _ _ c.loop-piece-test.false)) c.loop-piece.invariant

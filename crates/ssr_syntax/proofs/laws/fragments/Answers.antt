@@ -1,6 +1,10 @@
-use Rattle.ssr_syntax.proofs.IdentTexts.{fragment_tokens, fragment_alone}
+use Rattle.ssr_syntax.proofs.IdentTexts.{fragment_idents, fragment_alone}
 use Rattle.ssr_syntax.proofs.TextLaws.{one_fragment}
 use Rattle.ssr_syntax.proofs.laws.fragments.Goals as goal
 
 pub returns : goal.returns
-returns c = record { one = one_fragment; tokens = fragment_tokens; alone = fragment_alone }
+returns c = record {
+  one = λ fragment text a b core_a core_b. one_fragment fragment text a b;
+  idents = fragment_idents;
+  alone = fragment_alone;
+}

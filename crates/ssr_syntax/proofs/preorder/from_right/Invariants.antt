@@ -6,11 +6,12 @@ use Rattle.ssr_syntax.proofs.preorder.from_right.Given as goal
 
 abbrev pub invariant-loop-row : goal.invariant-loop-row
 invariant-loop-row l =
-    (l.nodes.items ++ from_right (λ i. slice_index l.ends i) l.total (reverse l.above.items) (reverse l.rest)
-    ≡ l.fn.nodes.items ++ from_right (λ i. slice_index l.ends i) l.total (reverse l.fn.above.items) (reverse l.rows))
-    × (is_deeper most_deep (λ i. slice_index l.ends i) l.total (reverse l.above.items) (reverse l.rest)
-    ≡ is_deeper most_deep (λ i. slice_index l.ends i) l.total (reverse l.fn.above.items) (reverse l.rows))
-    × (length l.rest ≤ length l.rows)
+    (l.rows.turned ++ from_right (λ i. slice_index l.ends i) l.total (reverse l.above.items) (reverse l.rows.unread)
+    ≡ l.fn.rows.turned ++ from_right (λ i. slice_index l.ends i) l.total (reverse l.fn.above.items) (reverse l.fn.rows.unread))
+    × (is_deeper most_deep (λ i. slice_index l.ends i) l.total (reverse l.above.items) (reverse l.rows.unread)
+    ≡ is_deeper most_deep (λ i. slice_index l.ends i) l.total (reverse l.fn.above.items) (reverse l.fn.rows.unread))
+    × (length l.rows.unread ≤ length l.fn.rows.unread)
+    × (l.rows.room ≡ length l.above.items)
 
 abbrev pub decreases-loop-row : goal.decreases-loop-row
-decreases-loop-row l = length l.rest
+decreases-loop-row l = length l.rows.unread

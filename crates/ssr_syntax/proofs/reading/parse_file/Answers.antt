@@ -1,8 +1,17 @@
-use Rattle.ssr_syntax.proofs.TextLaws.{file_answers, file_complete}
+use Rattle.std.proofs.Common.{subst, length, ◌<◌, ◌^◌}
+use Rattle.ssr_syntax.specs.CoreTrees.{IsCore}
+use Rattle.ssr_syntax.specs.Reading.{file_reading, FitsFile, IsThatOrTooDeep}
+use Rattle.ssr_syntax.proofs.Texts.{told_on}
+use Rattle.ssr_syntax.proofs.TextLaws.{file_too_long}
 use Rattle.ssr_syntax.proofs.reading.parse_file.Goals as goal
 
-pub returns-clause-sound : goal.returns-clause-sound
-returns-clause-sound c = file_answers c.args.text.now c.read_file.result c.utf8.text c.read_file.ensures
+pub returns-in_err-check_length-clause-answers : goal.returns-in_err-check_length-clause-answers
+returns-in_err-check_length-clause-answers c =
+    told_on c.in_err-check_length.field-0.0 c.from_residual.result (file_reading c.args.text.now) c.args.text.now
+    c.from_residual.ensures.0 c.from_residual.ensures.1
+    (file_too_long c.args.text.now c.in_err-check_length.field-0.0 c.in_err-check_length.ensures.long)
 
 pub returns-clause-complete : goal.returns-clause-complete
-returns-clause-complete c syntax short fits = file_complete c.args.text.now syntax c.read_file.result short fits c.read_file.ensures
+returns-clause-complete c syntax =
+    subst (λ t. length t < 2 ^ 32 → IsCore syntax → FitsFile t syntax → IsThatOrTooDeep (λ tree. tree) syntax c.parse_file_owned.result)
+    c.in_ok-from_str.ensures.ok (c.parse_file_owned.ensures.complete syntax)

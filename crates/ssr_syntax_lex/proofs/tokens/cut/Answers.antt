@@ -1,5 +1,6 @@
 use Rattle.std.proofs.Common.{◌-◌, ◌++◌, ap, sym, ◌∙◌, arith}
-use Rattle.ssr_syntax_lex.specs.Tokens.{size, flagged}
+use Rattle.ssr_syntax_lex.specs.Tokens.{size}
+use Rattle.ssr_syntax_lex.specs.Steps.{flagged}
 use Rattle.ssr_syntax_lex.proofs.Cutting.{started, gone_to, looked_ahead}
 use Rattle.ssr_syntax_lex.proofs.tokens.cut.Goals as goal
 

@@ -1,6 +1,6 @@
 use Rattle.std.proofs.Common.{◌≡◌, ℕ, List, All, ◌∙◌, ap, subst}
 use Rattle.ssr_syntax_tree.specs.Syntax.{Syntax, source_of}
-use Rattle.ssr_base.specs.Changes.{AreInOrder, Fits}
+use Rattle.ssr_base.specs.Changes.{ChangesInOrder, FitsText}
 use Rattle.ide_ssr_rules.specs.Resolving.{ResolvedKind}
 use Rattle.ide_ssr.specs.Found.{Found}
 use Rattle.ide_ssr.specs.Kept.{kept_in}
@@ -27,10 +27,10 @@ pub returns-clause-fits : goal.returns-clause-fits
 returns-clause-fits c =
     let e = edit_is _ _ _ _ _ c.self.view_is c.in_ok-kept.ensures.matches c.deref.ensures.value in
     let source = ap (λ (f : Finder). source_of f.code) c.self.view_is in
-    subst (λ (source : List ℕ). All (Fits source) (edit_of c.args.self.now.code c.args.self.now.rules)) source
-    (subst (All (Fits (source_of c.self.inside.tree.now))) e c.in_ok-edits.ensures.fits)
+    subst (λ (source : List ℕ). All (FitsText source) (edit_of c.args.self.now.code c.args.self.now.rules)) source
+    (subst (All (FitsText (source_of c.self.inside.tree.now))) e c.in_ok-edits.ensures.fits)
 
 pub returns-clause-order : goal.returns-clause-order
 returns-clause-order c =
     let e = edit_is _ _ _ _ _ c.self.view_is c.in_ok-kept.ensures.matches c.deref.ensures.value in
-    subst (AreInOrder 0) e c.in_ok-edits.ensures.order
+    subst (ChangesInOrder 0) e c.in_ok-edits.ensures.order

@@ -1,12 +1,12 @@
 use Rattle.std.proofs.Common.{subst, sym, arith, rules}
 use Rattle.std.specs.List.{All}
-use Rattle.ssr_base.specs.Changes.{Fits, IsReplaced}
+use Rattle.ssr_base.specs.Changes.{FitsText, IsReplaced}
 use Rattle.ssr_base.proofs.Changes.{IsReplaced-replaced}
 use Rattle.ssr_base.proofs.edit.TextEdit.apply.Goals as goal
 
 pub returns-clause-answer : goal.returns-clause-answer
 returns-clause-answer c =
-    let fit : All (Fits c.args.text.now) c.args.self.now = c.if-not-fits.ensures.fits.0 (search rules) in (
+    let fit : All (FitsText c.args.text.now) c.args.self.now = c.if-not-fits.ensures.fits.0 (search rules) in (
       fit,
       subst (IsReplaced 0 c.args.text.now c.args.self.now) (sym c.in_ok-written.ensures)
           (IsReplaced-replaced c.args.text.now 0 c.args.self.now c.fits.ensures.order (omega arith) fit),

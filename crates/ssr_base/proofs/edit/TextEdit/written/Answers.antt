@@ -1,6 +1,6 @@
 use Rattle.std.proofs.Common.{refl, subst}
 use Rattle.std.proofs.lemmas.Str.{IsCharBoundary-start}
-use Rattle.ssr_base.specs.Changes.{AreInOrder}
+use Rattle.ssr_base.specs.Changes.{ChangesInOrder}
 use Rattle.ssr_base.specs.Applied.{change_of}
 use Rattle.ssr_base.proofs.Changes.{changes_from, one_more, fits_here, shown}
 use Rattle.ssr_base.proofs.edit.TextEdit.written.Goals as goal
@@ -14,7 +14,7 @@ loop-range-init c = record {
 
 pub range-requires-clause-start_le_end : goal.range-requires-clause-start_le_end
 range-requires-clause-start_le_end c =
-    (subst (AreInOrder c.loop-range.at) (changes_from c.deref-range-items.result.now c.loop-range.range-index c.loop-range-item.result c.loop-range-test.true c.loop-range-item.is) c.loop-range.invariant.order).0
+    (subst (ChangesInOrder c.loop-range.at) (changes_from c.deref-range-items.result.now c.loop-range.range-index c.loop-range-item.result c.loop-range-test.true c.loop-range-item.is) c.loop-range.invariant.order).0
 
 pub range-requires-clause-end_boundary : goal.range-requires-clause-end_boundary
 range-requires-clause-end_boundary c =
@@ -26,6 +26,6 @@ loop-range-preserved c =
     record {
       written = one_more c.args.text.now _ _ _ _ _ _ _ _ (change_of c.loop-range-item.result) _ _ c.loop-range.invariant.written from
           c.in_ok-push_str.ensures.bytes c.in_ok-push_str-2.ensures.bytes c.range.ensures.value c.as_str.ensures.value;
-      order = (subst (AreInOrder c.loop-range.at) from c.loop-range.invariant.order).2;
+      order = (subst (ChangesInOrder c.loop-range.at) from c.loop-range.invariant.order).2;
       place = (fits_here _ _ _ _ _ c.loop-range-test.true c.loop-range-item.is (shown c.deref-range-items.ensures.value c.self.view_is) c.requires).1;
     }

@@ -1,0 +1,130 @@
+-- The check of the whole grammar: each goal keeps what the tables claim of it.
+use Rattle.std.proofs.Common.{◌≡◌, ℕ, zero, suc, ◌<◌, nat_lt, Bool, true, false, ◌&&◌, List, [], ◌∷◌, ◌++◌, refl}
+use Rattle.std.specs.Prelude.{⊤}
+use Rattle.std.proofs.lemmas.Bool.{ltb-true}
+use Rattle.ssr_syntax_lex.specs.declared.kinds.SyntaxKind.{SyntaxKind}
+use Rattle.ssr_syntax_lex.specs.declared.kinds.SyntaxKind.TheVariants.{FN_KW, R_PAREN, R_CURLY, SOURCE_FILE, FN, NAME, PARAM_LIST, BLOCK_EXPR, STMT_LIST, LITERAL, PATH_EXPR, PATH, PATH_SEGMENT, NAME_REF, PAREN_EXPR, BIN_EXPR}
+use Rattle.ssr_syntax.specs.declared.goals.Goal.{Goal}
+use Rattle.ssr_syntax.specs.declared.goals.Goal.TheVariants.{File, Expr, Operand}
+use Rattle.ssr_syntax.specs.Kinds.{mem}
+use Rattle.ssr_syntax.specs.Forms.{Form, END}
+use Rattle.ssr_syntax.specs.Expressions as expr
+use Rattle.ssr_syntax.specs.Expressions.{expr_first, ranks}
+use Rattle.ssr_syntax.specs.Items as item
+use Rattle.ssr_syntax.specs.Paths as path
+use Rattle.ssr_syntax.specs.Grammar.{grammar}
+use Rattle.ssr_syntax.proofs.Answers.{both}
+use Rattle.ssr_syntax.proofs.Check.{Tables, keeps, makes_node, lone_marks, remembers}
+use Rattle.ssr_syntax.proofs.Operands as operands
+use Rattle.ssr_syntax.proofs.Identifiers as idents
+use Rattle.ssr_syntax.proofs.Depth.{covered, lower_ranks}
+use Rattle.ssr_syntax.proofs.Walks.{has_only, any_token, any_node}
+
+-- the nodes of core trees
+abbrev pub core_kinds : List SyntaxKind
+core_kinds =
+    SOURCE_FILE ∷ FN ∷ NAME ∷ PARAM_LIST ∷ BLOCK_EXPR ∷ STMT_LIST
+    ∷ LITERAL ∷ PATH_EXPR ∷ PATH ∷ PATH_SEGMENT ∷ NAME_REF ∷ PAREN_EXPR ∷ BIN_EXPR ∷ []
+
+-- what may stand behind an expression
+abbrev behind_expr : List SyntaxKind
+behind_expr = END ∷ R_PAREN ∷ R_CURLY ∷ []
+
+-- what may stand behind an operand of so many ranks: what binds less tightly
+abbrev behind_operand : ℕ → List (List SyntaxKind) → List SyntaxKind
+behind_operand r [] = behind_expr
+behind_operand zero (ks ∷ rows) = ks ++ behind_operand zero rows
+behind_operand (suc r) (ks ∷ rows) = behind_operand r rows
+
+abbrev pub tables : Tables
+tables = record {
+  core = λ kind. mem kind core_kinds;
+  is_dead = λ goal. false;
+  is_empty = elim [ File ↦ true | _ ↦ false ];
+  first = elim [ File ↦ FN_KW ∷ [] | _ ↦ expr_first ];
+  follow = elim [ File ↦ END ∷ [] | Expr ↦ behind_expr | Operand r ↦ behind_operand r ranks ];
+  rank = λ goal. 0;
+  ranks = 1;
+}
+
+-- the same of all trees: no node is left out
+abbrev pub of_all_kinds : Tables → Tables
+of_all_kinds t = record t { core = any_node; is_dead = λ goal. false }
+
+-- All that is asked of a goal and its form. A new form or goal adds no line.
+abbrev pub checks : Tables → Goal → Form → List Bool
+checks t goal form =
+    keeps t goal form
+    ∷ covered (lower_ranks t.rank goal) false form
+    ∷ nat_lt (t.rank goal) t.ranks
+    ∷ makes_node form
+    ∷ mem END (t.follow goal)
+    ∷ has_only any_token t.core form
+    ∷ remembers (of_all_kinds t) form
+    ∷ lone_marks form
+    ∷ operands.is_bounded (operands.made operands.bound form operands.empty) (operands.bound goal)
+    ∷ idents.is_clean (idents.place_behind form idents.empty)
+    ∷ []
+
+abbrev all_true : List Bool → Bool
+all_true [] = true
+all_true (b ∷ bs) = b && all_true bs
+
+checked : (goal : Goal) → all_true (checks tables goal (grammar goal)) ≡ true
+unfolding grammar expr.literal expr.path_expr expr.paren_expr expr.atom expr.operators expr.operation expr.operations expr.operand expr.expr_first expr.stmt_list expr.block_expr item.name item.param_list item.function item.source_file path.name_ref path.path_segment path.longer_path path.path
+checked (Operand zero) = refl
+checked (Operand (suc zero)) = refl
+checked (Operand (suc (suc zero))) = refl
+checked (Operand (suc (suc (suc n)))) = refl
+checked _ = refl
+
+-- ** Each of them by its name.
+abbrev AreTrue : List Bool → Type 0
+AreTrue [] = ⊤
+AreTrue (b ∷ bs) = (b ≡ true) × AreTrue bs
+
+each : (bs : List Bool) → all_true bs ≡ true → AreTrue bs
+each [] h = tt
+each (b ∷ bs) h = let p = both b (all_true bs) h in (p.0, each bs p.1)
+
+facts : (goal : Goal) → AreTrue (checks tables goal (grammar goal))
+facts goal = each (checks tables goal (grammar goal)) (checked goal)
+
+-- what the tables claim of the goal holds of its form
+pub goal_keeps : (goal : Goal) → keeps tables goal (grammar goal) ≡ true
+goal_keeps goal = (facts goal).0
+
+-- the goals that its form asks for stand in nodes, or are of a lower rank
+pub goal_covered : (goal : Goal) → covered (lower_ranks tables.rank goal) false (grammar goal) ≡ true
+goal_covered goal = (facts goal).1.0
+
+pub goal_ranked : (goal : Goal) → tables.rank goal < tables.ranks
+goal_ranked goal = ltb-true (tables.rank goal) tables.ranks (facts goal).1.1.0
+
+-- it is one node
+pub goal_makes_node : (goal : Goal) → makes_node (grammar goal) ≡ true
+goal_makes_node goal = (facts goal).1.1.1.0
+
+-- it may end the text
+pub goal_may_end : (goal : Goal) → mem END (tables.follow goal) ≡ true
+goal_may_end goal = (facts goal).1.1.1.1.0
+
+-- its nodes are of core kinds
+pub goal_core : (goal : Goal) → has_only any_token tables.core (grammar goal) ≡ true
+goal_core goal = (facts goal).1.1.1.1.1.0
+
+-- its look-ahead forgets no kind
+pub goal_remembers : (goal : Goal) → remembers (of_all_kinds tables) (grammar goal) ≡ true
+goal_remembers goal = (facts goal).1.1.1.1.1.1.0
+
+-- each mark in it makes one node
+pub goal_lone_marks : (goal : Goal) → lone_marks (grammar goal) ≡ true
+goal_lone_marks goal = (facts goal).1.1.1.1.1.1.1.0
+
+-- its operands bind as tightly as they must
+pub goal_bounded : operands.AllBounded
+goal_bounded goal = (facts goal).1.1.1.1.1.1.1.1.0
+
+-- its identifiers stand alone
+pub goal_clean : idents.AllClean
+goal_clean goal = (facts goal).1.1.1.1.1.1.1.1.1.0

@@ -1,0 +1,38 @@
+-- Words of private functions alone: no promise to callers rests on them.
+use Rattle.std.specs.Prelude.{ℕ, Bool, false, ◌&&◌, nat_le, List, [], ◌∷◌, Option, Some, None, Result, Ok, Err, ◌≡◌, ◌≢◌, if◌then◌else◌, codes}
+use Prim.Native.String.{String}
+use Rattle.ssr_syntax_lex.specs.Characters.{the_char}
+use Rattle.ssr_syntax_lex.specs.Cursor.{Chars}
+use Rattle.ssr_syntax_lex.specs.Raw.{Taken}
+use Rattle.ssr_syntax_lex.specs.declared.fault.FaultKind.{FaultKind}
+use Rattle.ssr_syntax_lex.specs.declared.kinds.SyntaxKind.{SyntaxKind}
+use Rattle.ssr_syntax_lex.specs.declared.tokens.RawToken.{RawToken}
+
+-- what is left is what follows; where nothing does, this fault was told
+abbrev pub PassesOver : FaultKind → Result Unit FaultKind → Option Chars → Chars → Type 0
+PassesOver fault (Ok done) follows rest = follows ≡ Some rest
+PassesOver fault (Err told) follows rest = (follows ≡ None) × (told ≡ fault)
+
+-- the kind that was given and what is left are the token at the front; where there is none, this fault was told
+abbrev pub Takes : FaultKind → Result SyntaxKind FaultKind → Option Taken → Chars → Type 0
+Takes fault (Ok kind) taken rest = taken ≡ Some (kind, rest)
+Takes fault (Err told) taken rest = (taken ≡ None) × (told ≡ fault)
+
+-- a character behind which no second one has to be looked at
+abbrev pub IsPlain : ℕ → Type 0
+IsPlain c =
+    (c ≢ the_char "/") × (c ≢ the_char "\"") × (c ≢ the_char "r") × (c ≢ the_char "b") × (c ≢ the_char "c") × (c ≢ the_char "'")
+
+-- the token that waits for its flag, with it
+abbrev pub flagged : Option RawToken → Bool → List RawToken
+flagged None joint = []
+flagged (Some t) joint = record t { joint = joint } ∷ []
+
+abbrev pub begins_between : ℕ → ℕ → List ℕ → Bool
+begins_between low high [] = false
+begins_between low high (c ∷ cs) = nat_le low c && nat_le c high
+
+-- the rows whose word begins with a byte from `low` to `high`
+abbrev pub beginning : ℕ → ℕ → List (String × SyntaxKind) → List (String × SyntaxKind)
+beginning low high [] = []
+beginning low high (row ∷ rows) = if begins_between low high (codes row.0) then row ∷ beginning low high rows else beginning low high rows

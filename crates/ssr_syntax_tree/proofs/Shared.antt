@@ -1,0 +1,12 @@
+-- The laws of trees that the crates above may cite. The other files of lemmas here are this crate's own, but for `Lists`.
+
+-- nodes and their numbers
+pub use Rattle.ssr_syntax_tree.proofs.Places.{node_of-number, below_fits, smaller}
+-- how many nodes and tokens there are
+pub use Rattle.ssr_syntax_tree.proofs.Siblings.{length-nodes_in, length-tokens_in}
+pub use Rattle.ssr_syntax_tree.proofs.RowLaws.{length-nodes_of}
+-- the children of a node
+pub use Rattle.ssr_syntax_tree.proofs.Places.{IsChild, children_known, elements_had, parts_of-elements_of}
+-- ranges
+pub use Rattle.ssr_syntax_tree.proofs.RowLaws.{offset_grows}
+pub use Rattle.ssr_syntax_tree.proofs.Ranges.{start_before_end, start_of-below, end_of-below, ranges_apart, IsOf, Spans, spans_children}
