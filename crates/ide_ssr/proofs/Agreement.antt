@@ -1,12 +1,12 @@
 -- The relation and the function of matching agree.
 use Rattle.std.proofs.Common.{◌≡◌, ℕ, ◌+◌, Bool, true, false, ◌&&◌, cond, List, [], ◌∷◌, ◌++◌, Option, Some, None, refl, sym, ◌∙◌, ap, subst}
 use Rattle.std.specs.Str.{bytes_eq}
+use Rattle.std.proofs.lemmas.Bool.{and_parts}
 use Rattle.std.proofs.lemmas.Slice.Eq.{bytes_eq-Decides}
-use Rattle.ssr_syntax_lex.proofs.SameKinds.{same_kind-equal, equal-same_kind}
+use Rattle.ssr_syntax_lex.proofs.Shared.{same_kind-equal, equal-same_kind}
 use Rattle.ssr_syntax_lex.specs.Kinds.{same_kind}
 use Rattle.ssr_syntax_tree.specs.Syntax.{Token, Forest, nothing, leaf, branch, token_count, node_count}
 use Rattle.ssr_syntax_tree.specs.Places.{Node, Part, token_part, node_part, parts_in, parts_of}
-use Rattle.ide_ssr.proofs.Booleans.{both}
 use Rattle.ide_ssr_rules.specs.Resolving.{placeholder_at}
 use Rattle.ide_ssr.specs.declared.bindings.Binding.{Binding}
 use Rattle.ide_ssr.specs.Matching.{is_left_out, bare, Matches, bound, alike, Pairs, end, tokens, nodes}
@@ -50,7 +50,7 @@ token_agrees names t p ps behind (token_part u c ∷ cs) bs h =
         → joined (cond b (Some []) None) o ≡ Some bs → Pairs names (token_part t p ∷ ps) (token_part u c ∷ cs) bs
     by_test true same None is g = absurd (unlike bs g)
     by_test true same (Some rest) is g =
-        let e = both (same_kind p.kind c.kind) (bytes_eq p.text c.text) same in
+        let e = and_parts (same_kind p.kind c.kind) (bytes_eq p.text c.text) same in
         tokens t u p c ps cs bs (same_kind-equal p.kind c.kind e.0) ((bytes_eq-Decides p.text c.text).0 e.1) (behind cs bs (is ∙ g))
     by_test false same o is g = absurd (unlike bs g)
 

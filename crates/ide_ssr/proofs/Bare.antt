@@ -12,7 +12,7 @@ use Rattle.ssr_syntax_tree.specs.declared.number.TokenNo.{TokenNo}
 use Rattle.ssr_syntax_tree.specs.Syntax.{Syntax}
 use Rattle.ssr_syntax_tree.specs.Places.{HasNode, HasElement, Part, token_part, node_part, element_of, elements_of, node_of, parts_of, part_of, token_of}
 use Rattle.ssr_syntax_tree.proofs.Shared.{IsChild, children_known, elements_had, parts_of-elements_of}
-use Rattle.ide_ssr.specs.Elements.{IsBelow}
+use Rattle.ide_ssr.specs.Private.Elements.{IsBelow}
 use Rattle.ide_ssr.specs.Matching.{closes, leaves_out, bare}
 
 pub left_out-comma : (code : Syntax) (first : Element) (token : TokenNo) (kind : SyntaxKind) (rest : List Part) (trivia comma closing : Bool) → first ≡ element.Token token

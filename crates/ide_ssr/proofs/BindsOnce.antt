@@ -1,5 +1,5 @@
 -- Nested matches bind each placeholder once, and those of one list come one behind another.
-use Rattle.std.proofs.Common.{◌≡◌, ℕ, zero, suc, ◌+◌, Bool, true, false, if◌then◌else◌, List, [], ◌∷◌, ◌++◌, map, filter, length, get_or, All, AllPairs, Option, Some, None, refl, sym, ◌∙◌, ap, subst, arith, append_assoc, length-append}
+use Rattle.std.proofs.Common.{◌≡◌, ℕ, ◌+◌, Bool, true, false, if◌then◌else◌, List, [], ◌∷◌, ◌++◌, map, filter, length, get_or, All, AllPairs, Option, Some, None, refl, sym, ◌∙◌, ap, subst, arith, append_assoc, length-append}
 use Rattle.std.specs.Prelude.{slice_get, Contains}
 use Rattle.std.specs.List.{range_with_len}
 use Rattle.std.proofs.lemmas.List.Elements.{All-nil, All-cons, All-head, All-tail, All-append, All-weaker, All-contains, All-get_or, filter_passes}
@@ -21,7 +21,7 @@ use Rattle.ide_ssr.specs.Lists.{holder_of, outermost, is_listed, listed}
 use Rattle.ide_ssr.specs.Matches.{placeholders_of, name_of, inner_of}
 use Rattle.ide_ssr.specs.Nesting.{placeholder_name, HasParts, HasBinding, Show, Shows, ShowBindings}
 use Rattle.ide_ssr.specs.Nesting as nesting
-use Rattle.ide_ssr.specs.Order.{IsIn, AreHeld}
+use Rattle.ide_ssr.specs.Private.Order.{IsIn, AreHeld}
 use Rattle.ide_ssr.proofs.Apart.{placeholders_bound}
 use Rattle.ide_ssr.proofs.Choices.{pairs_head, pairs_tail}
 use Rattle.ide_ssr.proofs.InOrder.{IsOfRule, found_of_rules}
@@ -109,7 +109,7 @@ shown_once code rules ks _ _ each of_rules are_in (nesting.at n m v is parts bin
           names_shown code rules ks n (slice_get rules m.rule) 0 m.bindings (placeholders_of v) bindings
           ∙ ap (λ (rule : Option ResolvedKind). map (λ (b : Binding). placeholder_name rule b.placeholder) m.bindings) of.is_rule
           ∙ names_bound rule m.bindings
-          ∙ ap (map (λ i. get_or rule.names i [])) (of.each ∙ has.each)
+          ∙ ap (map (λ i. get_or rule.names i [])) (of.each ∙ has.nodes)
           ∙ names_again [] rule.names;
       different = has.different;
       apart =

@@ -9,7 +9,8 @@ use Rattle.std.proofs.lemmas.List.{drop_all}
 use Rattle.std.proofs.lemmas.Option.{unwrap_or-slice_get}
 use Rattle.ide_ssr_rules.specs.Resolving.{ResolvedKind}
 use Rattle.ide_ssr.specs.declared.bindings.Binding.{Binding}
-use Rattle.ide_ssr.specs.Bindings.{bindings_of, Answers, matched, other}
+use Rattle.ide_ssr.specs.Bindings.{bindings_of}
+use Rattle.ide_ssr.specs.Private.Matching.{Answers, matched, other}
 use Rattle.ide_ssr.specs.Found.{Found, match_at, matches_at, found_at, found_in}
 
 node_of-root : (syntax : Syntax) → node_of syntax 0 ≡ root_of syntax

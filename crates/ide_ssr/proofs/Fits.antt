@@ -15,8 +15,9 @@ use Rattle.ide_ssr.specs.declared.holders.Holder.{Holder}
 use Rattle.ide_ssr.specs.Found.{Found}
 use Rattle.ide_ssr.specs.Kept.{is_over, is_within, holds, fits}
 use Rattle.ide_ssr.specs.Lists.{binding_over, as_holder, last_over, holder_of}
-use Rattle.ide_ssr.specs.Nearest.{NoneOver, IsNearest}
-use Rattle.ide_ssr.specs.Order.{Precedes, IsIn, AreHeld}
+use Rattle.ide_ssr.specs.Private.Nearest.{NoneOver, IsNearest}
+use Rattle.ide_ssr.specs.Order.{Precedes}
+use Rattle.ide_ssr.specs.Private.Order.{IsIn, AreHeld}
 use Rattle.ide_ssr.proofs.Nearest.{false_of, holder-none, holder-at, held-binding, not_held-binding, not_over_before, not_over_self, fit_held}
 use Rattle.ide_ssr.proofs.Tests.{Over-is_over, is_over-Over, is_within-from, is_within-trans}
 

@@ -1,23 +1,23 @@
 -- The holders of the kept matches are the nearest matches over them.
-use Rattle.std.proofs.Common.{◌≡◌, ℕ, ◌<◌, ◌≤◌, inl, inr, Bool, true, false, ◌&&◌, cond, List, [], ◌∷◌, length, map, get_or, Option, None, All, AllPairs, refl, sym, ◌∙◌, ap, subst, arith, zero-add}
-use Rattle.std.specs.Prelude.{filter, max, min, option_map}
-use Rattle.std.proofs.lemmas.Bool.{cases_lt}
+use Rattle.std.proofs.Common.{◌≡◌, ℕ, ◌<◌, ◌≤◌, inl, inr, true, List, [], ◌∷◌, length, map, get_or, Option, None, All, AllPairs, refl, sym, ◌∙◌, ap, subst, arith, zero-add}
+use Rattle.std.specs.Prelude.{max, min, option_map}
+use Rattle.std.proofs.lemmas.Bool.{cases_lt, and_parts}
 use Rattle.std.proofs.lemmas.Bool.Decides.{nat_tests}
 use Rattle.std.proofs.lemmas.List.{get_or_default}
-use Rattle.std.proofs.lemmas.List.Elements.{All-nil, All-cons, All-head, All-tail}
+use Rattle.std.proofs.lemmas.List.Elements.{All-nil, All-cons}
 use Rattle.std.proofs.lemmas.List.Kept.{AllPairs-cons, AllPairs-filter}
 use Rattle.std.proofs.lemmas.List.Quantifiers.{position-Some}
 use Rattle.ssr_syntax_tree.specs.Syntax.{Syntax}
 use Rattle.ssr_base.specs.Changes.{Change, ChangesInOrder}
-use Rattle.ide_ssr.proofs.Booleans.{both}
 use Rattle.ide_ssr_rules.specs.Resolving.{ResolvedKind}
 use Rattle.ide_ssr.specs.declared.holders.Holder.{Holder}
 use Rattle.ide_ssr.specs.Found.{Found, found_in}
 use Rattle.ide_ssr.specs.Kept.{is_over, is_within, holds, lets, fits, is_among, kept, kept_in}
 use Rattle.ide_ssr.specs.Lists.{as_holder, holder_of}
-use Rattle.ide_ssr.specs.Order.{Precedes, IsIn, AreInOrder, AreHeld}
+use Rattle.ide_ssr.specs.Order.{Precedes}
+use Rattle.ide_ssr.specs.Private.Order.{IsIn, AreInOrder, AreHeld}
 use Rattle.ide_ssr.specs.Edits.{Clash, listed_changes, rewrites}
-use Rattle.ide_ssr.specs.Nearest.{IsNearest}
+use Rattle.ide_ssr.specs.Private.Nearest.{IsNearest}
 use Rattle.ide_ssr.specs.Holding.{IsHeld, IsHeldBy}
 use Rattle.ide_ssr.proofs.Choices.{All-chosen, All-pass}
 use Rattle.ide_ssr.proofs.InOrder.{found_in_order}
@@ -39,7 +39,7 @@ kept_fit code ms in_order =
 all_let : (code : Syntax) (ks : List Found) (m : Found) → fits code ks m ≡ true → All (λ k. lets code k m ≡ true) ks
 all_let code [] m h = All-nil (λ k. lets code k m ≡ true)
 all_let code (k ∷ ks) m h =
-    let b = both (lets code k m) (fits code ks m) h in
+    let b = and_parts (lets code k m) (fits code ks m) h in
     All-cons (λ k. lets code k m ≡ true) k ks b.0 (all_let code ks m b.1)
 
 -- ** The nearest match over another one.

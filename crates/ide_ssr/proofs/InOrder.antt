@@ -14,7 +14,8 @@ use Rattle.ide_ssr_rules.specs.Resolving.{ResolvedKind}
 use Rattle.ide_ssr.specs.declared.bindings.Binding.{Binding}
 use Rattle.ide_ssr.specs.Bindings.{bindings_of}
 use Rattle.ide_ssr.specs.Found.{Found, is_permitted, matches_at, found_at, found_in}
-use Rattle.ide_ssr.specs.Order.{Precedes, IsIn, AreInOrder}
+use Rattle.ide_ssr.specs.Order.{Precedes}
+use Rattle.ide_ssr.specs.Private.Order.{IsIn, AreInOrder}
 use Rattle.ide_ssr.proofs.Apart.{bindings_hold, all_bound, all_apart, placeholders_bound}
 
 -- a match of one of the rules binds the placeholders of its pattern

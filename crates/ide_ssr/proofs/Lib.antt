@@ -1,4 +1,3 @@
-pub mod Booleans
 pub mod Fits
 pub mod Nearest
 pub mod Places

@@ -10,10 +10,11 @@ use Rattle.ide_ssr.specs.declared.holders.Holder.{Holder}
 use Rattle.ide_ssr.specs.declared.matches.Match.{Match}
 use Rattle.ide_ssr.specs.Found.{Found}
 use Rattle.ide_ssr.specs.Lists.{holder_of, is_holder, is_listed, listed}
-use Rattle.ide_ssr.specs.Made.{IsMade, ListedAreMade, ListedAreThere, AreMade, OthersLeft}
-use Rattle.ide_ssr.specs.Nesting.{NoneListed, NoneListedFrom, Show, Shows}
-use Rattle.ide_ssr.specs.Order.{AreHeld}
-use Rattle.ide_ssr.specs.Pending.{is_at, is_open}
+use Rattle.ide_ssr.specs.Private.Made.{IsMade, ListedAreMade, ListedAreThere, AreMade, OthersLeft}
+use Rattle.ide_ssr.specs.Nesting.{Show, Shows}
+use Rattle.ide_ssr.specs.Private.Nesting.{NoneListed, NoneListedFrom}
+use Rattle.ide_ssr.specs.Private.Order.{AreHeld}
+use Rattle.ide_ssr.specs.Private.Pending.{is_at, is_open}
 use Rattle.ide_ssr.proofs.Rewrites.{not_held}
 use Rattle.ide_ssr.proofs.Showing.{show-starts, show-listed, show-unlisted, show-past, own_holder, none_before}
 

@@ -10,8 +10,9 @@ use Rattle.ide_ssr.specs.declared.holders.Holder.{Holder}
 use Rattle.ide_ssr.specs.Found.{Found}
 use Rattle.ide_ssr.specs.Kept.{is_over, is_within, holds}
 use Rattle.ide_ssr.specs.Lists.{binding_over, as_holder, last_over, holder_of}
-use Rattle.ide_ssr.specs.Nearest.{NoneOver, IsNearest}
-use Rattle.ide_ssr.specs.Order.{Precedes, AreHeld}
+use Rattle.ide_ssr.specs.Private.Nearest.{NoneOver, IsNearest}
+use Rattle.ide_ssr.specs.Order.{Precedes}
+use Rattle.ide_ssr.specs.Private.Order.{AreHeld}
 use Rattle.ide_ssr.proofs.Places.{position-any, position-none}
 use Rattle.ide_ssr.proofs.Tests.{Over, Over-is_over, is_over-Over}
 

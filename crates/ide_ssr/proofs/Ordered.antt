@@ -1,7 +1,7 @@
 -- The matches of one list and their changes are in order and share no byte.
 use Rattle.std.proofs.Common.{◌≡◌, ℕ, suc, ◌+◌, ◌<◌, ◌≤◌, inl, inr, Bool, true, false, ◌==◌, cond, List, [], ◌∷◌, All, length, drop, map, filter, reverse, get_or, Option, Some, None, AllPairs, refl, sym, ◌∙◌, ap, subst, arith}
 use Rattle.std.specs.List.{AllByRecursion}
-use Rattle.std.proofs.lemmas.Bool.{cases_lt}
+use Rattle.std.proofs.lemmas.Bool.{cases_lt, and_parts}
 use Rattle.std.proofs.lemmas.Bool.Decides.{nat_tests}
 use Rattle.std.proofs.lemmas.List.Elements.{All-nil, All-cons}
 use Rattle.ssr_syntax_tree.specs.Syntax.{Syntax}
@@ -13,13 +13,13 @@ use Rattle.ide_ssr.specs.declared.holders.Holder.{Holder}
 use Rattle.ide_ssr.specs.Found.{Found}
 use Rattle.ide_ssr.specs.Kept.{is_over}
 use Rattle.ide_ssr.specs.Lists.{holder_of, is_listed}
-use Rattle.ide_ssr.specs.Order.{Precedes, AreHeld}
+use Rattle.ide_ssr.specs.Order.{Precedes}
+use Rattle.ide_ssr.specs.Private.Order.{AreHeld}
 use Rattle.ide_ssr.specs.Edits.{Rewrite, rewrite_of, rewrites, listed_changes}
-use Rattle.ide_ssr.specs.Pending.{Places, is_open}
+use Rattle.ide_ssr.specs.Private.Pending.{Places, is_open}
 use Rattle.ide_ssr.proofs.Tests.{is_over-Over}
 use Rattle.ide_ssr.proofs.Rewrites.{each-reverse}
 use Rattle.ide_ssr.proofs.Waiting.{at_drop, over_after, is_open-own}
-use Rattle.ide_ssr.proofs.Booleans.{both}
 
 -- of two matches of which the first is not over the second, the first ends before the second begins
 pub apart : (code : Syntax) (k m : Found) → HasNode code k.node → HasNode code m.node → Precedes k m → (is_over code k m ≡ true → ⊥)
@@ -41,8 +41,8 @@ not_behind : (holder one : Option Holder) (n p i : ℕ) → is_listed holder one
 not_behind None one n p i h before g le = absurd (cc g)
 not_behind (Some holder) None n p i h before g le = absurd (cc h)
 not_behind (Some holder) (Some one) n p i h before g le =
-    let a = (both (holder.place == one.place) (holder.binding == one.binding) h).0 in
-    let b = (both (holder.place == p) (holder.binding == i) g).0 in
+    let a = (and_parts (holder.place == one.place) (holder.binding == one.binding) h).0 in
+    let b = (and_parts (holder.place == p) (holder.binding == i) g).0 in
     grind (arith, nat_tests)
 
 pub listed_apart : (code : Syntax) (ks : List Found) (holders : List (Option Holder)) → AreHeld code ks holders → (holder : Option Holder)

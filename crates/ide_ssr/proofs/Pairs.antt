@@ -13,10 +13,11 @@ use Rattle.ssr_syntax_tree.specs.declared.number.Element.TheVariants as element
 use Rattle.ssr_syntax_tree.proofs.Shared.{node_of-number, smaller}
 use Rattle.ide_ssr_rules.specs.Resolving.{placeholder_at}
 use Rattle.ide_ssr.specs.declared.bindings.Binding.{Binding}
-use Rattle.ide_ssr.specs.Elements.{IsBelow}
+use Rattle.ide_ssr.specs.Private.Elements.{IsBelow}
 use Rattle.ide_ssr.proofs.Bare.{below-has}
 use Rattle.ide_ssr.specs.Matching.{is_left_out, bare}
-use Rattle.ide_ssr.specs.Bindings.{joined, token_then, node_then, siblings_by, bindings_of, nothing_then, pair_by, Answers, matched, other}
+use Rattle.ide_ssr.specs.Bindings.{joined, token_then, node_then, siblings_by, bindings_of, nothing_then}
+use Rattle.ide_ssr.specs.Private.Matching.{pair_by, Answers, matched, other}
 
 -- bare children, pair by pair
 abbrev pub pairs_by : List (List ℕ) → List Part → List Part → Option (List Binding)

@@ -7,7 +7,7 @@ use Rattle.std.proofs.lemmas.List.Elements.{All-head, All-tail}
 use Rattle.ide_ssr.specs.declared.holders.Holder.{Holder}
 use Rattle.ide_ssr.specs.Lists.{is_holder}
 use Rattle.ide_ssr.specs.Edits.{Rewrite, listed_changes}
-use Rattle.ide_ssr.specs.Pending.{is_at, is_open}
+use Rattle.ide_ssr.specs.Private.Pending.{is_at, is_open}
 
 -- lists of which some are left out
 

@@ -6,7 +6,8 @@ use Rattle.ssr_syntax_tree.specs.Syntax.{Syntax}
 use Rattle.ide_ssr.specs.declared.holders.Holder.{Holder}
 use Rattle.ide_ssr.specs.Found.{Found}
 use Rattle.ide_ssr.specs.Kept.{fits, kept, kept_behind}
-use Rattle.ide_ssr.specs.Order.{Precedes, AreInOrder, AreHeld}
+use Rattle.ide_ssr.specs.Order.{Precedes}
+use Rattle.ide_ssr.specs.Private.Order.{AreInOrder, AreHeld}
 
 -- the kept ones ks of those before, where `rest` is still to come, and the kept ones of all are `all`
 pub record AreKeptSoFar (code : Syntax) (ks : List Found) (holders : List (Option Holder)) (rest all : List Found) : Type 0 where

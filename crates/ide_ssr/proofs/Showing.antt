@@ -15,12 +15,14 @@ use Rattle.ide_ssr.specs.declared.matches.PlaceholderMatch.{PlaceholderMatch}
 use Rattle.ide_ssr.specs.Found.{Found}
 use Rattle.ide_ssr.specs.Lists.{holder_of, is_holder, is_listed, listed}
 use Rattle.ide_ssr.specs.Matches.{inner_of, placeholders_of}
-use Rattle.ide_ssr.specs.Nesting.{NoneListed, NoneListedFrom, placeholder_name, HasParts, HasBinding, Show, Shows, ShowBindings}
+use Rattle.ide_ssr.specs.Nesting.{placeholder_name, HasParts, HasBinding, Show, Shows, ShowBindings}
+use Rattle.ide_ssr.specs.Private.Nesting.{NoneListed, NoneListedFrom}
 use Rattle.ide_ssr.specs.Nesting as nesting
 use Rattle.std.proofs.lemmas.Bool.{cases_lt}
 use Rattle.ide_ssr.specs.Kept.{is_over}
-use Rattle.ide_ssr.specs.Order.{Precedes, AreHeld}
-use Rattle.ide_ssr.specs.Pending.{is_at, is_open}
+use Rattle.ide_ssr.specs.Order.{Precedes}
+use Rattle.ide_ssr.specs.Private.Order.{AreHeld}
+use Rattle.ide_ssr.specs.Private.Pending.{is_at, is_open}
 use Rattle.ide_ssr.proofs.Nearest.{closed, true_false}
 use Rattle.ide_ssr.proofs.Rewrites.{not_held}
 use Rattle.ide_ssr.proofs.Waiting.{at_over, is_open-own}

@@ -13,11 +13,12 @@ use Rattle.ide_ssr.specs.declared.holders.Holder.{Holder}
 use Rattle.ide_ssr.specs.Found.{Found}
 use Rattle.ide_ssr.specs.Kept.{is_over, holds}
 use Rattle.ide_ssr.specs.Lists.{binding_over, holder_of}
-use Rattle.ide_ssr.specs.Nearest.{IsNearest}
-use Rattle.ide_ssr.specs.Order.{Precedes, AreHeld}
+use Rattle.ide_ssr.specs.Private.Nearest.{IsNearest}
+use Rattle.ide_ssr.specs.Order.{Precedes}
+use Rattle.ide_ssr.specs.Private.Order.{AreHeld}
 use Rattle.ide_ssr.specs.Comments.{kept_comments, comments_text}
 use Rattle.ide_ssr.specs.Edits.{Rewrite, listed_changes, pieces, text_by, replacement, rewrite_of, rewrites}
-use Rattle.ide_ssr.specs.Pending.{is_at, is_open, Places, IsPending}
+use Rattle.ide_ssr.specs.Private.Pending.{is_at, is_open, Places, IsPending}
 use Rattle.ide_ssr.proofs.Nearest.{nothing_over, at, answered, closed, not_over_before, holder-held, true_false}
 use Rattle.ide_ssr.proofs.Tests.{Over-is_over}
 use Rattle.ide_ssr.proofs.Rewrites.{is_after, NoneAt, HeldFirst, Splits, Splits-first, each-reverse}

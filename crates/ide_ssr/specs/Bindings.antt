@@ -1,6 +1,6 @@
 -- The bindings of a match, computed along the pattern: those of the relation of `Matching`, as the law
 -- `laws::matching` says.
-use Rattle.std.specs.Prelude.{ℕ, ◌+◌, ◌≡◌, Bool, true, false, if◌then◌else◌, List, [], ◌∷◌, ◌++◌, Option, Some, None}
+use Rattle.std.specs.Prelude.{ℕ, ◌+◌, if◌then◌else◌, List, [], ◌∷◌, ◌++◌, Option, Some, None}
 use Rattle.ssr_syntax_lex.specs.declared.kinds.SyntaxKind.{SyntaxKind}
 use Rattle.ssr_syntax_lex.specs.Kinds.{same_kind}
 use Rattle.ssr_syntax_tree.specs.Syntax.{Token, same_token, Forest, nothing, leaf, branch, token_count, node_count}
@@ -55,15 +55,3 @@ siblings_by names parent m t (branch kind below next) cs =
 -- what the placeholders of the pattern's node p bind where c matches it
 unfoldable pub bindings_of : List (List ℕ) → Node → Node → Option (List Binding)
 bindings_of names p c = node_by (placeholder_at names p) p.kind (siblings_by names p.number (1 + p.number) p.first p.children) c
-
--- a pair of bare children
-abbrev pub pair_by : List (List ℕ) → Part → Part → Option (List Binding)
-pair_by names (token_part t token) (token_part u c) = if same_token token c then Some [] else None
-pair_by names (token_part t token) (node_part c) = None
-pair_by names (node_part p) (token_part u c) = None
-pair_by names (node_part p) (node_part c) = bindings_of names p c
-
--- how a test of a pattern answers: bindings that are added to those before, or that there is no match
-pub data Answers (bindings : Option (List Binding)) (old new : List Binding) (answer : Bool) : Type 0 where
-  matched : (bs : List Binding) → answer ≡ true → bindings ≡ Some bs → new ≡ old ++ bs → Answers bindings old new answer
-  other : answer ≡ false → bindings ≡ None → Answers bindings old new answer

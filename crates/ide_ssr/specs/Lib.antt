@@ -11,11 +11,8 @@ pub mod Rendering
 pub mod Comments
 pub mod Edits
 pub mod Finder
-pub mod Pending
-pub mod Nearest
-pub mod Elements
 pub mod Adding
 pub mod Matches
 pub mod Nesting
 pub mod BindsOnce
-pub mod Made
+pub mod Private

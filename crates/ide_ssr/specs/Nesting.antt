@@ -1,6 +1,6 @@
 -- How nested matches show the kept ones: those that nothing holds in order, and under each placeholder
 -- those that it holds.
-use Rattle.std.specs.Prelude.{ℕ, ◌≡◌, ◌+◌, ◌<◌, ◌≤◌, false, length, List, [], ◌∷◌, Option, Some, None, map, slice_get, slice_index_or}
+use Rattle.std.specs.Prelude.{ℕ, ◌≡◌, ◌+◌, List, [], ◌∷◌, Option, Some, None, map, slice_get, slice_index_or}
 use Rattle.std.specs.List.{All}
 use Rattle.std.specs.Str.{IsCharBoundary}
 use Rattle.ssr_syntax_lex.specs.declared.range.TextRange.{TextRange}
@@ -8,23 +8,13 @@ use Rattle.ssr_syntax_tree.specs.Syntax.{Syntax, source_of}
 use Rattle.ssr_syntax_tree.specs.Places.{node_of as code_node, text_of as node_text, start_of, end_of}
 use Rattle.ide_ssr_rules.specs.Resolving.{ResolvedKind}
 use Rattle.ide_ssr.specs.declared.bindings.Binding.{Binding}
-use Rattle.ide_ssr.specs.declared.holders.Holder.{Holder}
 use Rattle.ide_ssr.specs.declared.matches.Match.{Match}
 use Rattle.ide_ssr.specs.declared.matches.PlaceholderMatch.{PlaceholderMatch}
 use Rattle.ide_ssr.specs.Found.{Found}
 use Rattle.ide_ssr.specs.Kept.{kept_in}
 use Rattle.ide_ssr.specs.Comments.{kept_comments}
-use Rattle.ide_ssr.specs.Lists.{holder_of, is_listed, listed, outermost}
+use Rattle.ide_ssr.specs.Lists.{listed, outermost}
 use Rattle.ide_ssr.specs.Matches.{text_of, range_of, node_of, rule_of, placeholders_of, name_of, place_of, held_node, inner_of, comments_of, place_of_range, place_of_token}
-
--- none before the place n is listed there
-abbrev pub NoneListed : Syntax → List Found → Option Holder → ℕ → Type 0
-NoneListed code ks holder n = (j : ℕ) (d : Found) → j < n → is_listed holder (holder_of code ks (slice_index_or ks j d)) ≡ false
-
--- none from the place n on is listed there
-abbrev pub NoneListedFrom : Syntax → List Found → Option Holder → ℕ → Type 0
-NoneListedFrom code ks holder n =
-    (j : ℕ) (d : Found) → n ≤ j → j < length ks → is_listed holder (holder_of code ks (slice_index_or ks j d)) ≡ false
 
 -- the name of a placeholder of a rule
 abbrev pub placeholder_name : Option ResolvedKind → ℕ → List ℕ

@@ -3,7 +3,7 @@
 ghost use Rattle.std.specs.Prelude.{◌≡◌, ℕ, IfOk, All, map};
 ghost use Rattle.ssr_syntax_tree.specs.Places.{HasNode, HasElement, node_of, parts_of, part_of, elements_of};
 ghost use Rattle.ide_ssr.specs.Matching.{is_closing, closes, leaves_out, bare};
-ghost use Rattle.ide_ssr.specs.Elements.{IsBelow};
+ghost use Rattle.ide_ssr.specs.Private.Elements.{IsBelow};
 
 use ssr_syntax_lex::SyntaxKind;
 use ssr_syntax_tree::{Element, NodeNo, Tree};

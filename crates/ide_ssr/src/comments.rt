@@ -3,7 +3,7 @@
 ghost use Rattle.std.specs.Prelude.{◌≡◌, ◌++◌, All, IfOk, OnOk, map, string_bytes};
 ghost use Rattle.ssr_syntax_tree.specs.Places.{HasNode, HasToken, node_of};
 ghost use Rattle.ide_ssr.specs.Comments.{is_comment, is_below, is_bound, is_kept_comment, kept_comments, comment_text, comments_text};
-ghost use Rattle.ide_ssr.specs.Order.{IsIn};
+ghost use Rattle.ide_ssr.specs.Private.Order.{IsIn};
 ghost use Rattle.ide_ssr.specs.Matches.{place_of_range, place_of_token};
 ghost use Rattle.ide_ssr.specs.Nesting.{IsBetweenCharacters};
 

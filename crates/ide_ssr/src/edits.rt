@@ -7,9 +7,9 @@ ghost use Rattle.ssr_syntax_tree.specs.Places.{HasNode};
 ghost use Rattle.ssr_base.specs.Changes.{ChangesInOrder, FitsText};
 ghost use Rattle.ssr_base.specs.Applied.{changes_of};
 ghost use Rattle.ide_ssr.specs.Lists.{is_holder};
-ghost use Rattle.ide_ssr.specs.Order.{IsIn, AreHeld};
+ghost use Rattle.ide_ssr.specs.Private.Order.{IsIn, AreHeld};
 ghost use Rattle.ide_ssr.specs.Edits.{Rewrite as RewriteValue, listed_changes, node_replaced, pieces, template_text, replacement, edit_from, file_edits};
-ghost use Rattle.ide_ssr.specs.Pending.{is_at, Places, IsPending};
+ghost use Rattle.ide_ssr.specs.Private.Pending.{is_at, Places, IsPending};
 
 use crate::bindings::Binding;
 use crate::comments::{kept_comments, push_comments};

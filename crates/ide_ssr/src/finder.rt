@@ -9,7 +9,7 @@ ghost use Rattle.ide_ssr.specs.BindsOnce.{AreApart, BindOnce};
 ghost use Rattle.ide_ssr.specs.Edits.{edit_of, file_edits};
 ghost use Rattle.ide_ssr.specs.Kept.{AreKept, kept_in};
 ghost use Rattle.ide_ssr.specs.Nesting.{ShowKept};
-ghost use Rattle.ide_ssr.specs.Order.{AreHeld};
+ghost use Rattle.ide_ssr.specs.Private.Order.{AreHeld};
 
 use crate::edits::{EditError, edits};
 use crate::kept::{KeptMatches, kept};

@@ -4,8 +4,9 @@ ghost use Rattle.std.specs.Prelude.{◌≡◌, ◌++◌, ◌∷◌, [], ◌<◌,
 ghost use Rattle.ssr_syntax_tree.specs.Places.{HasNode};
 ghost use Rattle.ide_ssr.specs.Kept.{is_over, is_within, fits, kept as kept_of};
 ghost use Rattle.ide_ssr.specs.Lists.{binding_over, holder_of};
-ghost use Rattle.ide_ssr.specs.Order.{Precedes, IsIn, AreInOrder, AreHeld};
-ghost use Rattle.ide_ssr.specs.Nearest.{IsNearest, NoneOver};
+ghost use Rattle.ide_ssr.specs.Order.{Precedes};
+ghost use Rattle.ide_ssr.specs.Private.Order.{IsIn, AreInOrder, AreHeld};
+ghost use Rattle.ide_ssr.specs.Private.Nearest.{IsNearest, NoneOver};
 
 use crate::found::Found;
 use crate::holders::Holder;

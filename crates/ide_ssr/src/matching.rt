@@ -3,7 +3,8 @@
 ghost use Rattle.std.specs.Prelude.{◌≡◌, IfOk};
 ghost use Rattle.ssr_syntax_tree.specs.Places.{HasNode, HasToken, HasElement, node_of, token_of, part_of};
 ghost use Rattle.ssr_syntax_tree.specs.Syntax.{same_token};
-ghost use Rattle.ide_ssr.specs.Bindings.{bindings_of, pair_by, Answers};
+ghost use Rattle.ide_ssr.specs.Bindings.{bindings_of};
+ghost use Rattle.ide_ssr.specs.Private.Matching.{pair_by, Answers};
 
 use crate::bindings::Binding;
 use crate::children::bare_children;

@@ -4,12 +4,13 @@ ghost use Rattle.std.specs.Prelude.{◌≡◌, ◌≢◌, ◌<◌, ◌+◌, ℕ,
 ghost use Rattle.ssr_syntax_tree.specs.Places.{HasNode};
 ghost use Rattle.ide_ssr_rules.specs.Resolving.{ResolvedKind};
 ghost use Rattle.ide_ssr.specs.Found.{Found as FoundMatch};
-ghost use Rattle.ide_ssr.specs.Order.{AreHeld};
+ghost use Rattle.ide_ssr.specs.Private.Order.{AreHeld};
 ghost use Rattle.ide_ssr.specs.Matches.{inner_of};
 ghost use Rattle.ide_ssr.specs.Lists.{holder_of, is_listed, listed};
-ghost use Rattle.ide_ssr.specs.Made.{AreMade, ListedAreMade, ListedAreThere, OthersLeft};
-ghost use Rattle.ide_ssr.specs.Pending.{is_at, is_open};
-ghost use Rattle.ide_ssr.specs.Nesting.{NoneListed, NoneListedFrom, placeholder_name, HasBinding, Show, Shows};
+ghost use Rattle.ide_ssr.specs.Private.Made.{AreMade, ListedAreMade, ListedAreThere, OthersLeft};
+ghost use Rattle.ide_ssr.specs.Private.Pending.{is_at, is_open};
+ghost use Rattle.ide_ssr.specs.Nesting.{placeholder_name, HasBinding, Show, Shows};
+ghost use Rattle.ide_ssr.specs.Private.Nesting.{NoneListed, NoneListedFrom};
 
 use crate::bindings::Binding;
 use crate::comments::{comment_ranges, kept_comments};

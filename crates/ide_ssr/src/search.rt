@@ -4,7 +4,7 @@ ghost use Rattle.std.specs.Prelude.{◌≡◌, ◌+◌, ◌++◌, ◌<◌, IfOk,
 ghost use Rattle.ssr_syntax_tree.specs.Places.{HasNode, node_of, root_of};
 ghost use Rattle.ide_ssr.specs.Bindings.{bindings_of};
 ghost use Rattle.ide_ssr.specs.Found.{match_at, matches_at, found_at, found_in};
-ghost use Rattle.ide_ssr.specs.Order.{AreInOrder};
+ghost use Rattle.ide_ssr.specs.Private.Order.{AreInOrder};
 
 use crate::bindings::Binding;
 use crate::found::Found;

@@ -1,49 +1,42 @@
--- A pattern's tokens have each placeholder once.
-use Rattle.std.proofs.Common.{◌≡◌, ℕ, suc, ◌+◌, ◌<◌, ◌^◌, Bool, true, false, ◌&&◌, cond, List, [], ◌∷◌, ◌++◌, map, length, All, nat_lt, Option, Some, None, Result, Ok, Err, refl, sym, ◌∙◌, ap, subst, arith, append_assoc, length-append, bytes_eq}
-use Rattle.std.specs.List.{AllByRecursion, flat_map, list_any, position_from, range_with_len}
+-- The tokens of a side's tree are those that are read for its elements. A pattern has each placeholder once among them.
+use Rattle.std.proofs.Common.{◌≡◌, ℕ, suc, ◌+◌, ◌<◌, ◌^◌, Bool, true, false, ◌&&◌, cond, List, [], ◌∷◌, ◌++◌, map, length, nat_lt, Option, Some, None, Result, Ok, Err, refl, sym, ◌∙◌, ap, subst, arith, append_assoc, length-append, bytes_eq}
+use Rattle.std.specs.List.{AllByRecursion, cons_option, list_any, position_from, range_with_len}
 use Rattle.std.specs.Option.{option_map, option_map_or, option_or}
 use Rattle.std.specs.Result.{result_ok}
 use Rattle.std.specs.Str.{IsUtf8, trim}
-use Rattle.std.proofs.lemmas.List.Elements.{All-nil, All-cons, All-head, All-tail}
+use Rattle.std.proofs.lemmas.Bool.{and_parts, or_parts}
 use Rattle.std.proofs.lemmas.List.Folds.{list_any-append}
 use Rattle.std.proofs.lemmas.Slice.Eq.{bytes_eq-Decides}
 use Rattle.ssr_syntax_lex.specs.declared.kinds.SyntaxKind.{SyntaxKind}
 use Rattle.ssr_syntax_lex.specs.declared.tokens.RawToken.{RawToken}
 use Rattle.ssr_syntax_lex.specs.Tokens.{tokens, TilesFrom}
-use Rattle.ssr_syntax_lex.proofs.Tiling.{tokens_tile, tiles_spell}
+use Rattle.ssr_syntax_lex.proofs.Shared.{tokens_tile, tiles_spell}
 use Rattle.ssr_syntax_lex.specs.Kinds.{same_kind}
-use Rattle.ssr_syntax_lex.proofs.SameKinds.{same_kind-equal}
+use Rattle.ssr_syntax_lex.proofs.Shared.{same_kind-equal}
 use Rattle.ssr_syntax_tree.specs.Syntax.{Token, Syntax, tokens_of, spelled, same_token}
 use Rattle.ssr_syntax.specs.declared.fragments.Fragment.TheVariants as fragments
 use Rattle.ssr_syntax.specs.declared.syntax_error.SyntaxError.{SyntaxError}
 use Rattle.ssr_syntax.specs.Reading.{pieces, fragment_reading, FitsFragment}
 use Rattle.ssr_syntax.specs.Identifiers.{idents}
-use Rattle.ssr_syntax.proofs.IdentTexts.{fragment_idents, fragment_alone}
-use Rattle.ssr_syntax.proofs.Tiles.{length-token, tiles_within, spelled-pieces}
-use Rattle.ssr_syntax.proofs.TextLaws.{fragment_sound}
+use Rattle.ssr_syntax.proofs.Shared.{fragment_sound, fragment_idents, fragment_alone, fragment_unmixed, length-token, tiles_within, spelled-pieces}
 use Rattle.ide_ssr_rules.specs.Resolving.{name_at}
 use Rattle.ide_ssr_rules.specs.declared.elements.Element.{Element}
 use Rattle.ide_ssr_rules.specs.declared.elements.Element.TheVariants as e
-use Rattle.ide_ssr_rules.specs.declared.kinds.ParsedRule.{ParsedRule}
 use Rattle.ide_ssr_rules.specs.Elements.{has, is_ident, lexed, names_of}
-use Rattle.ide_ssr_rules.specs.Patterns.{or_below, HasEachOnce}
-use Rattle.ide_ssr_rules.specs.Refusals.{Refusal, ◌>>=◌, unless, glued, reserved, unresolved_path}
-use Rattle.ide_ssr_rules.specs.Resolving.{ResolvedKind, unresolved, resolved_kind, resolved_kinds}
-use Rattle.ide_ssr_rules.specs.Rules.{kind_of, expr_of, kinds_of, some_kind, check_sides}
+use Rattle.ide_ssr_rules.specs.Patterns.{placeholders_among, HasEachOnce}
+use Rattle.ide_ssr_rules.specs.Rules.{expr_of}
 use Rattle.ide_ssr_rules.specs.StandIns.{stand_in_of, read_as, code_of, first_glued, first_name, glued_placeholder, is_stand_in, stand_in_text, spelled_stand_in}
 use Rattle.ide_ssr_rules.specs.Uses.{AreNew}
-use Rattle.ide_ssr_rules.proofs.Booleans.{both, neither}
-use Rattle.ide_ssr_rules.proofs.Patterns.{named, over_idents, placeholders_named}
-use Rattle.ide_ssr_rules.proofs.Uses.{went}
+use Rattle.ide_ssr_rules.proofs.Patterns.{over_idents, placeholders_named}
 
 -- ** The tokens are those that are read for the elements.
 
-same_bytes : (xs ys : List ℕ) → bytes_eq xs ys ≡ true → xs ≡ ys
+pub same_bytes : (xs ys : List ℕ) → bytes_eq xs ys ≡ true → xs ≡ ys
 same_bytes xs ys h = (bytes_eq-Decides xs ys).0 h
 
 same_tokens : (one other : Token) → same_token one other ≡ true → one ≡ other
 same_tokens one other h =
-    let b = both (same_kind one.kind other.kind) (bytes_eq one.text other.text) h in
+    let b = and_parts (same_kind one.kind other.kind) (bytes_eq one.text other.text) h in
     let kind : one.kind ≡ other.kind = same_kind-equal one.kind other.kind b.0 in
     let text : one.text ≡ other.text = same_bytes one.text other.text b.1 in
     let token : SyntaxKind → List ℕ → Token = λ kind text. record { kind = kind; text = text } in
@@ -74,7 +67,7 @@ read_tokens (e ∷ es) (t ∷ ts) h some long =
 none_passes : (p : List ℕ → Bool) (i : ℕ) (xs : List (List ℕ)) → list_any p xs ≡ false → position_from p i xs ≡ None
 none_passes p i [] h = refl
 none_passes p i (x ∷ xs) h =
-    let n = neither (p x) (list_any p xs) h in
+    let n = or_parts (p x) (list_any p xs) h in
     ap (λ b. cond b (Some i) (position_from p (i + 1) xs)) n.0 ∙ none_passes p (i + 1) xs n.1
 
 first_passes : (p : List ℕ → Bool) (i : ℕ) (xs : List (List ℕ)) (x : List ℕ) (ys : List (List ℕ)) → list_any p xs ≡ false → p x ≡ true
@@ -83,7 +76,7 @@ first_passes p i [] x ys none h =
     let same : i ≡ i + 0 = omega arith in
     ap (λ b. cond b (Some i) (position_from p (i + 1) ys)) h ∙ ap Some same
 first_passes p i (y ∷ xs) x ys none h =
-    let n = neither (p y) (list_any p xs) none in
+    let n = or_parts (p y) (list_any p xs) none in
     let same : i + 1 + length xs ≡ i + suc (length xs) = omega arith in
     ap (λ b. cond b (Some i) (position_from p (i + 1) (xs ++ x ∷ ys))) n.0 ∙ first_passes p (i + 1) xs x ys n.1 h ∙ ap Some same
 
@@ -92,45 +85,44 @@ not_stand_in true true text h is = cc
 not_stand_in true false text h is = refl
 not_stand_in false stands text h is = cc
 
-unnamed_if : (ident : Bool) (o : Option ℕ) → (ident ≡ true → o ≡ None) → or_below (cond ident o None) [] ≡ []
-unnamed_if true o h = ap (λ o. or_below o []) (h refl)
+unnamed_if : (ident : Bool) (o : Option ℕ) → (ident ≡ true → o ≡ None) → cond ident o None ≡ None
+unnamed_if true o h = h refl
 unnamed_if false o h = refl
 
-unnamed : (names others : List (List ℕ)) (t : Token) → stand_in_text (names ++ others) (e.Token t) ≡ None → named names t ≡ []
+pub unnamed : (names others : List (List ℕ)) (t : Token) → stand_in_text (names ++ others) (e.Token t) ≡ None → name_at names t ≡ None
 unfolding name_at
 unnamed names others t h =
     let test : List ℕ → Bool = λ name. bytes_eq t.text (stand_in_of name) in
     unnamed_if (is_ident t.kind) (position_from test 0 names)
     (λ is.
     let any : list_any test (names ++ others) ≡ false = not_stand_in (is_ident t.kind) (is_stand_in (names ++ others) t.text) t.text h is in
-    none_passes test 0 names (neither (list_any test names) (list_any test others) (sym (list_any-append test names others) ∙ any)).0)
+    none_passes test 0 names (or_parts (list_any test names) (list_any test others) (sym (list_any-append test names others) ∙ any)).0)
 
 -- the stand-in of a name that none before it is
 stand_in_named : (before rest : List (List ℕ)) (name : List ℕ) → has before name ≡ false
-    → named (before ++ name ∷ rest) (read_as (e.Placeholder name)) ≡ length before ∷ []
+    → name_at (before ++ name ∷ rest) (read_as (e.Placeholder name)) ≡ Some (length before)
 unfolding name_at
 stand_in_named before rest name new =
     let test : List ℕ → Bool = λ other. bytes_eq (stand_in_of name) (stand_in_of other) in
     let place : 0 + length before ≡ length before = omega arith in
-    ap (λ o. or_below o []) (first_passes test 0 before name rest new ((bytes_eq-Decides (stand_in_of name) (stand_in_of name)).1 refl))
-    ∙ ap (λ i. i ∷ []) place
+    first_passes test 0 before name rest new ((bytes_eq-Decides (stand_in_of name) (stand_in_of name)).1 refl) ∙ ap Some place
 
-neither_of : {X : Type 0} (one other : Option X) → option_or one other ≡ None → (one ≡ None) × (other ≡ None)
+pub neither_of : {X : Type 0} (one other : Option X) → option_or one other ≡ None → (one ≡ None) × (other ≡ None)
 neither_of None other h = (refl, h)
 neither_of (Some x) other h = absurd (let f : Some x ≡ None = h in cc)
 
 each_from : (es : List Element) (before names others : List (List ℕ)) → names ≡ before ++ names_of es → AreNew before (names_of es)
     → spelled_stand_in (names ++ others) es ≡ None
-    → flat_map (named names) (map read_as es) ≡ range_with_len (length before) (length (names_of es))
+    → placeholders_among names (map read_as es) ≡ range_with_len (length before) (length (names_of es))
 each_from [] before names others are new none = refl
 each_from (e.Token t ∷ es) before names others are new none =
     let n = neither_of (stand_in_text (names ++ others) (e.Token t)) (spelled_stand_in (names ++ others) es) none in
-    ap (λ ps. ps ++ flat_map (named names) (map read_as es)) (unnamed names others t n.0) ∙ each_from es before names others are new n.1
+    ap (λ o. cons_option o (placeholders_among names (map read_as es))) (unnamed names others t n.0) ∙ each_from es before names others are new n.1
 each_from (e.Placeholder name ∷ es) before names others are new none =
     let more : length (before ++ name ∷ []) ≡ length before + 1 = length-append before (name ∷ []) in
     let count = length (names_of es) in
-    ap (λ ps. ps ++ flat_map (named names) (map read_as es))
-    (ap (λ ns. named ns (read_as (e.Placeholder name))) are ∙ stand_in_named before (names_of es) name new.0)
+    ap (λ o. cons_option o (placeholders_among names (map read_as es)))
+    (ap (λ ns. name_at ns (read_as (e.Placeholder name))) are ∙ stand_in_named before (names_of es) name new.0)
     ∙ ap (λ ps. length before ∷ ps)
     (each_from es (before ++ name ∷ []) names others (are ∙ sym (append_assoc before (name ∷ []) (names_of es))) new.1 none
     ∙ ap (λ i. range_with_len i count) more)
@@ -183,99 +175,45 @@ tree_idents es tree utf8 is_trimmed same fits =
     let raw : f.0 ≡ r.0 = one_raw f.0 r.0 (sym f.1 ∙ ap tokens is_trimmed ∙ r.1) in
     f.2 ∙ ap idents (ap (λ text. pieces text f.0) is_trimmed ∙ ap (pieces text) raw ∙ sym r.2 ∙ t.2)
 
+-- the placeholders of the tree are those that are read for the elements
+pub tree_among : (es : List Element) (names : List (List ℕ)) (tree : Syntax) → IsUtf8 (code_of es) → trim (code_of es) ≡ code_of es
+    → glued_placeholder es ≡ None → FitsFragment fragments.Expr (code_of es) tree
+    → placeholders_among names (tokens_of tree) ≡ placeholders_among names (map read_as es)
+tree_among es names tree utf8 is_trimmed same fits =
+    over_idents names (tokens_of tree)
+    ∙ ap (placeholders_among names) (tree_idents es tree utf8 is_trimmed same fits)
+    ∙ sym (over_idents names (map read_as es))
+
 read_ok : (r : Result Syntax SyntaxError) (tree : Syntax) → result_ok r ≡ Some tree → r ≡ Ok tree
 read_ok (Ok other) tree h = cc
 read_ok (Err error) tree h = cc
 
-pub pattern_each : (es : List Element) (others : List (List ℕ)) (tree : Syntax) → IsUtf8 (code_of es) → trim (code_of es) ≡ code_of es
-    → AreNew [] (names_of es) → glued_placeholder es ≡ None → spelled_stand_in (names_of es ++ others) es ≡ None
+-- ** Sides whose placeholders are told apart from the other tokens.
+
+-- a side that is read as it is written, with no stand-in of these names but its own
+pub record IsSide (names : List (List ℕ)) (es : List Element) : Type 0 where
+  pub utf8 : IsUtf8 (code_of es)
+  pub is_trimmed : trim (code_of es) ≡ code_of es
+  pub new : AreNew [] (names_of es)
+  pub same : glued_placeholder es ≡ None
+  pub free : spelled_stand_in names es ≡ None
+
+pub side_fits : (names : List (List ℕ)) (es : List Element) (tree : Syntax) → IsSide names es → expr_of (code_of es) ≡ Some tree
+    → FitsFragment fragments.Expr (code_of es) tree
+side_fits names es tree is read =
+    (fragment_sound fragments.Expr (code_of es) tree (subst IsUtf8 (sym is.is_trimmed) is.utf8)
+    (read_ok (fragment_reading fragments.Expr (code_of es)) tree read)).fits
+
+pub pattern_each : (es : List Element) (others : List (List ℕ)) (tree : Syntax) → IsSide (names_of es ++ others) es
     → expr_of (code_of es) ≡ Some tree → HasEachOnce (names_of es) tree
-pattern_each es others tree utf8 is_trimmed new same free read =
+pattern_each es others tree is read =
     let text = code_of es in
-    let sound = fragment_sound fragments.Expr text tree (subst IsUtf8 (sym is_trimmed) utf8) (read_ok (fragment_reading fragments.Expr text) tree read) in
+    let names = names_of es in
+    let fits = side_fits (names ++ others) es tree is read in
+    let each : placeholders_among names (tokens_of tree) ≡ range_with_len 0 (length names) =
+    tree_among es names tree is.utf8 is.is_trimmed is.same fits ∙ each_from es [] names others refl is.new is.free in
     record {
-      each =
-          placeholders_named (names_of es) tree (fragment_alone fragments.Expr text tree sound.fits)
-          ∙ over_idents (names_of es) (tokens_of tree)
-          ∙ ap (flat_map (named (names_of es))) (tree_idents es tree utf8 is_trimmed same sound.fits)
-          ∙ sym (over_idents (names_of es) (map read_as es))
-          ∙ each_from es [] (names_of es) others refl new free;
-      different = new;
+      each = each;
+      nodes = placeholders_named names tree (fragment_alone fragments.Expr text tree fits) (fragment_unmixed fragments.Expr text tree fits) ∙ each;
+      different = is.new;
     }
-
--- ** The kinds of an accepted rule.
-
-kind_of_each : (names : List (List ℕ)) (pattern template : Option Syntax) → ((tree : Syntax) → pattern ≡ Some tree → HasEachOnce names tree)
-    → All (λ kind. HasEachOnce names kind.pattern) (kind_of pattern template)
-kind_of_each names (Some pattern) (Some template) h = All-cons (λ kind. HasEachOnce names kind.pattern) _ [] (h pattern refl) (All-nil _)
-kind_of_each names (Some pattern) None h = All-nil _
-kind_of_each names None template h = All-nil _
-
-some_kinds : (kinds found : List ParsedRule) → some_kind kinds ≡ Ok found → kinds ≡ found
-some_kinds [] found h = cc
-some_kinds (kind ∷ kinds) found h = cc
-
-all_unless : {X : Type 0} (refusal : X → Refusal) (o : Option X) → unless refusal o ≡ Ok tt → o ≡ None
-all_unless refusal None h = refl
-all_unless refusal (Some x) h = cc
-
--- what checked sides are
-record AreChecked (pattern template : List Element) : Type 0 where
-  same : glued_placeholder pattern ≡ None
-  free : spelled_stand_in (names_of pattern ++ names_of template) pattern ≡ None
-
-checked : (pattern template : List Element) → check_sides pattern template ≡ Ok tt → AreChecked pattern template
-unfolding check_sides
-checked pattern template h =
-    let names = names_of pattern ++ names_of template in
-    let stays : List Element → Result (Unit {0}) Refusal = λ side. unless glued (glued_placeholder side) in
-    let free : List Element → Result (Unit {0}) Refusal = λ side. unless reserved (spelled_stand_in names side) in
-    let first = went (stays pattern) (λ _. stays template >>= (λ _. free pattern >>= (λ _. free template))) tt h in
-    let second = went (stays template) (λ _. free pattern >>= (λ _. free template)) tt first.next_is in
-    let third = went (free pattern) (λ _. free template) tt second.next_is in
-    record {
-      same = all_unless glued (glued_placeholder pattern) first.first_is;
-      free = all_unless reserved (spelled_stand_in names pattern) third.first_is;
-    }
-
-pub kinds_each : (pattern template : List Element) (names : List (List ℕ)) (kinds : List ParsedRule) → IsUtf8 (code_of pattern)
-    → trim (code_of pattern) ≡ code_of pattern → AreNew [] (names_of pattern) → check_sides pattern template ≡ Ok tt
-    → some_kind (kinds_of (code_of pattern) (code_of template)) ≡ Ok kinds → names ≡ names_of pattern
-    → All (λ kind. HasEachOnce names kind.pattern) kinds
-unfolding kinds_of
-kinds_each pattern template names kinds utf8 is_trimmed new sides_checked read are =
-    let c = checked pattern template sides_checked in
-    let all : All (λ kind. HasEachOnce (names_of pattern) kind.pattern) (kinds_of (code_of pattern) (code_of template)) =
-    kind_of_each (names_of pattern) (expr_of (code_of pattern)) (expr_of (code_of template))
-    (λ tree is. pattern_each pattern (names_of template) tree utf8 is_trimmed new c.same c.free is) in
-    subst (λ ns. All (λ kind. HasEachOnce ns kind.pattern) kinds) (sym are)
-    (subst (All (λ kind. HasEachOnce (names_of pattern) kind.pattern)) (some_kinds _ kinds read) all)
-
--- ** Resolved kinds.
-
-pub ok_same : {X : Type 0} (one other : X) → ◌≡◌ {A = Result X Refusal} (Ok one) (Ok other) → one ≡ other
-ok_same one other h = cc
-
-resolved_like : (names : List (List ℕ)) (kind : ParsedRule) (found : ResolvedKind) → resolved_kind names kind ≡ Ok found
-    → record { names = names; pattern = kind.pattern; template = kind.template } ≡ found
-unfolding resolved_kind
-resolved_like names kind found h =
-    let made : ResolvedKind = record { names = names; pattern = kind.pattern; template = kind.template } in
-    let paths : Syntax → Result (Unit {0}) Refusal = λ tree. unless unresolved_path (unresolved names tree) in
-    let first = went (paths kind.template) (λ _. paths kind.pattern >>= (λ _. Ok made)) found h in
-    ok_same made found (went (paths kind.pattern) (λ _. Ok made) found first.next_is).next_is
-
-abbrev HasEach : ResolvedKind → Type 0
-HasEach kind = HasEachOnce kind.names kind.pattern
-
-pub resolved_each : (names : List (List ℕ)) (kinds : List ParsedRule) (found : List ResolvedKind) → resolved_kinds names kinds ≡ Ok found
-    → All (λ kind. HasEachOnce names kind.pattern) kinds → All (λ kind. HasEachOnce kind.names kind.pattern) found
-resolved_each names [] found h all = subst (All HasEach) (ok_same [] found h) (All-nil HasEach)
-resolved_each names (kind ∷ kinds) found h all =
-    let in_front : ResolvedKind → List ResolvedKind → Result (List ResolvedKind) Refusal = λ first rest. Ok (first ∷ rest) in
-    let first = went (resolved_kind names kind) (λ first. resolved_kinds names kinds >>= in_front first) found h in
-    let rest = went (resolved_kinds names kinds) (in_front first.found) found first.next_is in
-    subst (All HasEach) (ok_same (first.found ∷ rest.found) found rest.next_is)
-    (All-cons HasEach first.found rest.found
-    (subst HasEach (resolved_like names kind first.found first.first_is) (All-head (λ kind. HasEachOnce names kind.pattern) kind kinds all))
-    (resolved_each names kinds rest.found rest.first_is (All-tail (λ kind. HasEachOnce names kind.pattern) kind kinds all)))

@@ -1,4 +1,3 @@
-pub mod Booleans
 pub mod LexedSides
 pub mod Splitting
 pub mod Telling
@@ -11,4 +10,6 @@ pub mod Resolved
 pub mod Uses
 pub mod Patterns
 pub mod EachOnce
+pub mod AtMostOnce
+pub mod KindUses
 pub mod TrimmedSides

@@ -7,7 +7,8 @@ use Rattle.std.specs.List.{find}
 use Rattle.ssr_syntax_tree.specs.Places.{Node, Part, node_part, token_part, parts_in, parts_of, elements_of, element_of, nodes_of, node_of, root_of, HasNode, text_of}
 use Rattle.ssr_syntax_tree.specs.Syntax.{Token, Forest, nothing, leaf, branch, Syntax, node_count}
 use Rattle.ssr_syntax_tree.proofs.Shared.{length-nodes_of}
-use Rattle.ide_ssr_rules.specs.Resolving.{only_token, placeholder_at, placeholders, is_unresolved, unresolved}
+use Rattle.ide_ssr_rules.specs.Resolving.{only_token, placeholder_at, is_unresolved, unresolved}
+use Rattle.ide_ssr_rules.specs.Private.Placeholders.{placeholders}
 
 -- ** Nodes by their numbers.
 pub node_is : (s : Syntax) (n : ℕ) → HasNode s n → node_of s n ≡ get_or (nodes_of s) n (root_of s)

@@ -4,22 +4,23 @@ use Rattle.std.specs.List.{AllByRecursion, flat_map}
 use Rattle.std.specs.Char.{is_whitespace, is_not_whitespace, encode_utf8}
 use Rattle.std.specs.Str.{IsUtf8, chars, encode_utf8_all, all_scalars, EmptyOrStartsWithPassing, EmptyOrEndsWithPassing, IsTrim, skip_leading_whitespace, drop_trailing_whitespace, trim_start, trim_end, trim}
 use Rattle.std.proofs.lemmas.Str.{IsUtf8-append, IsUtf8-nil, chars-nil, chars-append, chars-encodes, encodes-chars, scalars-chars, chars_past_char, IsUtf8-encode, IsUtf8-take, IsCharBoundary-at_seam}
+use Rattle.std.proofs.lemmas.Bool.{and_parts, not-true}
 use Rattle.std.proofs.lemmas.Bool.Decides.{nat_tests}
 use Rattle.std.proofs.lemmas.List.{take_at}
 use Rattle.ssr_syntax_lex.specs.declared.tokens.RawToken.{RawToken}
 use Rattle.ssr_syntax_lex.specs.Tokens.{token_text, TilesFrom}
-use Rattle.ssr_syntax_lex.proofs.Tiling.{tokens_tile, tiles_spell}
+use Rattle.ssr_syntax_lex.proofs.Shared.{tokens_tile, tiles_spell}
 use Rattle.ssr_syntax_tree.specs.Syntax.{Token, spelled}
 use Rattle.ssr_syntax.specs.Reading.{pieces}
-use Rattle.ssr_syntax.proofs.Tiles.{length-token, tiled_texts, tiles_within, spelled-pieces}
-use Rattle.ide_ssr_rules.proofs.Booleans.{both, flipped}
+use Rattle.ssr_syntax.proofs.Shared.{length-token, tiled_texts, tiles_within, spelled-pieces}
 use Rattle.ide_ssr_rules.specs.declared.elements.Element.{Element}
 use Rattle.ide_ssr_rules.specs.declared.elements.Element.TheVariants as e
 use Rattle.ide_ssr_rules.specs.Elements.{lexed, is_dollar, is_ident, has, name_in, after, elements, elements_of, side}
 use Rattle.ide_ssr_rules.specs.declared.error.SsrError.{SsrError}
 use Rattle.ide_ssr_rules.specs.Refusals.{Refusal, AnswersBy, ◌>>=◌, no_name, no_placeholder, repeated}
 use Rattle.ide_ssr_rules.specs.StandIns.{stand_in_of, read_as, code_of}
-use Rattle.ide_ssr_rules.proofs.EachOnce.{lexed_raw, ok_same}
+use Rattle.ide_ssr_rules.proofs.EachOnce.{lexed_raw}
+use Rattle.ide_ssr_rules.proofs.KindUses.{ok_same}
 use Rattle.ide_ssr_rules.proofs.Uses.{went}
 
 -- ** White space around characters.
@@ -47,7 +48,7 @@ begins_skipped (c ∷ cs) = skip_if c (is_whitespace c) (skip_leading_whitespace
 
 skip_none : (cs : List ℕ) → begins_dark cs ≡ true → skip_leading_whitespace cs ≡ cs
 skip_none [] h = refl
-skip_none (c ∷ cs) h = ap (λ b. cond b (skip_leading_whitespace cs) (c ∷ cs)) (flipped (is_whitespace c) h)
+skip_none (c ∷ cs) h = ap (λ b. cond b (skip_leading_whitespace cs) (c ∷ cs)) (not-true (is_whitespace c) h)
 
 begins_kept : (c : ℕ) (gone : Bool) (cs : List ℕ) → not (is_whitespace c) ≡ true → begins_dark (cond gone [] (c ∷ cs)) ≡ true
 begins_kept c true cs h = refl
@@ -77,7 +78,7 @@ kept_before c false d cs = refl
 
 drop_none : (cs : List ℕ) → ends_dark true cs ≡ true → drop_trailing_whitespace cs ≡ cs
 drop_none [] h = refl
-drop_none (c ∷ []) h = ap (λ b. cond (b && true) [] (c ∷ [])) (flipped (is_whitespace c) h)
+drop_none (c ∷ []) h = ap (λ b. cond (b && true) [] (c ∷ [])) (not-true (is_whitespace c) h)
 drop_none (c ∷ d ∷ cs) h =
     ap (λ l. cond (is_whitespace c && length l == 0) [] (c ∷ l)) (drop_none (d ∷ cs) h) ∙ kept_before c (is_whitespace c) d cs
 
@@ -90,12 +91,12 @@ scalars_if false xs ys h k = k
 scalars_skipped : (cs : List ℕ) → all_scalars cs ≡ true → all_scalars (skip_leading_whitespace cs) ≡ true
 scalars_skipped [] h = refl
 scalars_skipped (c ∷ cs) h =
-    scalars_if (is_whitespace c) (skip_leading_whitespace cs) (c ∷ cs) (scalars_skipped cs (both _ (all_scalars cs) h).1) h
+    scalars_if (is_whitespace c) (skip_leading_whitespace cs) (c ∷ cs) (scalars_skipped cs (and_parts _ (all_scalars cs) h).1) h
 
 scalars_dropped : (cs : List ℕ) → all_scalars cs ≡ true → all_scalars (drop_trailing_whitespace cs) ≡ true
 scalars_dropped [] h = refl
 scalars_dropped (c ∷ cs) h =
-    let b = both _ (all_scalars cs) h in
+    let b = and_parts _ (all_scalars cs) h in
     scalars_if (is_whitespace c && length (drop_trailing_whitespace cs) == 0) [] (c ∷ drop_trailing_whitespace cs) refl
     (rw b.0 (scalars_dropped cs b.1))
 

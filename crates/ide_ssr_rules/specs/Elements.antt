@@ -1,7 +1,5 @@
 -- The elements of a side: its tokens and placeholders.
-use Rattle.std.specs.Prelude.{ℕ, ◌≡◌, Bool, true, false, ◌^◌, nat_lt, List, [], ◌∷◌, ◌++◌, length, Option, Some, None, Result, Ok, Err, bytes_eq, if◌then◌else◌}
-use Rattle.std.specs.declared.alloc.Global.{Global}
-use Rattle.std.specs.declared.vec.Vec.{Vec}
+use Rattle.std.specs.Prelude.{ℕ, Bool, true, false, ◌^◌, nat_lt, List, [], ◌∷◌, ◌++◌, length, Option, Some, None, Result, Ok, Err, bytes_eq, if◌then◌else◌}
 use Rattle.std.specs.List.{list_any, filter_map}
 use Rattle.std.specs.Option.{option_map}
 use Rattle.ssr_syntax_lex.specs.declared.kinds.SyntaxKind.{SyntaxKind}
@@ -11,19 +9,11 @@ use Rattle.ssr_syntax.specs.Reading.{pieces}
 use Rattle.ssr_syntax_tree.specs.Syntax.{Token}
 use Rattle.ide_ssr_rules.specs.declared.elements.Element.{Element}
 use Rattle.ide_ssr_rules.specs.declared.elements.Element.TheVariants as e
-use Rattle.ide_ssr_rules.specs.declared.tokens.Unlexed.{Unlexed}
-use Rattle.ide_ssr_rules.specs.declared.tokens.Unlexed.TheVariants as u
 use Rattle.ide_ssr_rules.specs.Refusals.{Refusal, ◌>>=◌, lexer_fault, no_name, no_placeholder, repeated}
 
 -- the tokens of a text; none where the lexer refuses it, for its length too
 unfoldable pub lexed : List ℕ → Option (List Token)
 lexed text = if nat_lt (length text) (2 ^ 32) then option_map (pieces text) (tokens text) else None
-
--- what lexing answers, seen as tokens with texts
-abbrev pub IsLexed : Result (Vec Token Global) Unlexed → List ℕ → Type 0
-IsLexed (Ok v) text = lexed text ≡ Some v.items
-IsLexed (Err (u.Fault fault)) text = lexed text ≡ None
-IsLexed (Err u.Memory) text = Unit {0}
 
 abbrev pub is_dollar : SyntaxKind → Bool
 is_dollar k.DOLLAR = true

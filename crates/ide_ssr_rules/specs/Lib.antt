@@ -6,3 +6,4 @@ pub mod Resolving
 pub mod Rules
 pub mod Uses
 pub mod Patterns
+pub mod Private

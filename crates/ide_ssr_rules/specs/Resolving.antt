@@ -1,5 +1,5 @@
 -- Where placeholders stand in a tree, and which paths resolve.
-use Rattle.std.specs.Prelude.{ℕ, refl, Bool, true, false, ◌&&◌, List, [], ◌∷◌, map, Option, Some, None, Result, Ok, bytes_eq, if◌then◌else◌}
+use Rattle.std.specs.Prelude.{ℕ, refl, Bool, true, false, ◌&&◌, List, [], ◌∷◌, Option, Some, None, Result, Ok, bytes_eq, if◌then◌else◌}
 use Rattle.std.specs.Coded.{Coded, code_by, coded×, coded_list, coded_ℕ}
 use Rattle.std.specs.List.{find, position_from}
 use Rattle.std.specs.Option.{is_none, option_map, option_and_then}
@@ -40,10 +40,6 @@ name_at names token = if is_ident token.kind then position_from (λ name. bytes_
 -- which name's stand-in a node is: through single children it is only an identifier that spells it
 unfoldable pub placeholder_at : List (List ℕ) → Node → Option ℕ
 placeholder_at names node = option_and_then (name_at names) (only_token node.children)
-
--- for each node of a tree
-abbrev pub placeholders : List (List ℕ) → Syntax → List (Option ℕ)
-placeholders names tree = map (placeholder_at names) (nodes_of tree)
 
 abbrev pub is_path : SyntaxKind → Bool
 is_path k.PATH = true

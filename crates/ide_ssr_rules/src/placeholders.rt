@@ -2,7 +2,8 @@
 ghost use Rattle.std.specs.Prelude.{◌≡◌, ◌<◌, ◌^◌, length, map, string_bytes, IfOk, IfSome};
 ghost use Rattle.std.specs.Option.{option_map};
 ghost use Rattle.ssr_syntax_tree.specs.Places.{HasNode, HasToken, node_of, token_of};
-ghost use Rattle.ide_ssr_rules.specs.Resolving.{only_token, name_at, placeholder_at, placeholders};
+ghost use Rattle.ide_ssr_rules.specs.Resolving.{only_token, name_at, placeholder_at};
+ghost use Rattle.ide_ssr_rules.specs.Private.Placeholders.{placeholders};
 
 use crate::stand_ins::is_stand_in_of;
 use ssr_syntax_lex::SyntaxKind;

@@ -2,7 +2,7 @@
 ghost use Rattle.std.specs.Prelude.{◌≡◌, ◌<◌, ◌^◌, length, map, string_bytes, All, IfOk};
 ghost use Rattle.std.specs.Option.{option_copied};
 ghost use Rattle.ssr_syntax_tree.specs.Places.{HasNode, HasToken, node_of, token_of};
-ghost use Rattle.ide_ssr_rules.specs.Patterns.{HasEachOnce};
+ghost use Rattle.ide_ssr_rules.specs.Patterns.{HasEachOnce, HasEachAtMostOnce};
 ghost use Rattle.ide_ssr_rules.specs.Refusals.{Answers, AnswersBy, unless, unresolved_path};
 ghost use Rattle.ide_ssr_rules.specs.Resolving.{name_at, placeholder_at, is_unresolved, unresolved, resolved_kind, resolved_kinds};
 
@@ -26,7 +26,8 @@ pub struct ResolvedRule {
 
 impl Model for ResolvedRule {
     ghost use Rattle.std.specs.Prelude.{◌≡◌, ◌<◌, ◌^◌, length, map, string_bytes};
-    ghost use Rattle.ide_ssr_rules.specs.Resolving.{ResolvedKind, resolved_code, placeholders};
+    ghost use Rattle.ide_ssr_rules.specs.Resolving.{ResolvedKind, resolved_code};
+    ghost use Rattle.ide_ssr_rules.specs.Private.Placeholders.{placeholders};
 
     ghost Value = { ResolvedKind };
 
@@ -81,10 +82,11 @@ impl ResolvedRule {
 
 impl SsrRule {
     /// The kinds of the rule in their order, or which of its paths doesn't resolve. The pattern of each kind has
-    /// each placeholder once.
+    /// each placeholder once, and the template at most once.
     pub fn resolve(self, alloc: Global) -> Result<Vec<ResolvedRule>, SsrError>
         ensures kinds { AnswersBy (λ v. v.items) result (resolved_kinds self.names self.kinds) }
         ensures each { IfOk result (λ v. All (λ kind. HasEachOnce kind.names kind.pattern) v.items) }
+        ensures at_most_once { IfOk result (λ v. All (λ kind. HasEachAtMostOnce kind.names kind.template) v.items) }
     {
         let SsrRule { names, kinds } = self;
         let mut resolved = Vec::new(alloc);

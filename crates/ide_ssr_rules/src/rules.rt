@@ -35,11 +35,11 @@ impl Model for SsrRule {
 
     ghost view = { λ rule. record { names = map string_bytes rule.names.items; kinds = rule.kinds.items } };
 
-    ghost use Rattle.ide_ssr_rules.specs.Patterns.{HasEachOnce};
+    ghost use Rattle.ide_ssr_rules.specs.Patterns.{HasEachOnce, HasEachAtMostOnce};
 
     ghost invariant = { λ rule. record {
       few : length rule.names.items < 2 ^ 32;
-      each : All (λ kind. HasEachOnce (map string_bytes rule.names.items) kind.pattern) rule.kinds.items;
+      once : All (λ kind. HasEachOnce (map string_bytes rule.names.items) kind.pattern × HasEachAtMostOnce (map string_bytes rule.names.items) kind.template) rule.kinds.items;
     } };
 }
 
@@ -70,8 +70,10 @@ fn rule_of<'a>(
     template: &[Element<'a>],
 ) -> Result<SsrRule, SsrError>
     requires few { length pattern.now < 2 ^ 32 }
-    requires new { AreNew [] (names_of pattern.now) }
-    requires trimmed { trim (code_of pattern.now) ≡ code_of pattern.now }
+    requires pattern_new { AreNew [] (names_of pattern.now) }
+    requires template_new { AreNew [] (names_of template.now) }
+    requires pattern_trimmed { trim (code_of pattern.now) ≡ code_of pattern.now }
+    requires template_trimmed { trim (code_of template.now) ≡ code_of template.now }
     ensures { Answers result (rule_of pattern.now template.now) }
 {
     check_sides(alloc, pattern, template)?;
@@ -189,7 +191,8 @@ fn some_kind(
     template: &[Element<'_>],
 ) -> Result<Vec<ParsedRule>, SsrError>
     ensures kinds { AnswersBy (λ v. v.items) result (some_kind (kinds_of (code_of pattern.now) (code_of template.now))) }
-    ensures text { IfOk result (λ _. IsUtf8 (code_of pattern.now)) }
+    ensures pattern_text { IfOk result (λ _. IsUtf8 (code_of pattern.now)) }
+    ensures template_text { IfOk result (λ _. IsUtf8 (code_of template.now)) }
 {
     let pattern = code_of(alloc, pattern)?;
     let template = code_of(alloc, template)?;

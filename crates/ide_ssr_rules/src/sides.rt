@@ -16,7 +16,8 @@ const DELIMITER: &str = "==>>";
 /// The pattern and the template of a rule text, without the white space around them.
 pub(crate) fn sides(alloc: Global, text: &str) -> Result<(&str, &str), SsrError>
     ensures parts { AnswersBy (λ parts. (parts.0.now, parts.1.now)) result (sides text.now) }
-    ensures trimmed { IfOk result (λ parts. trim parts.0.now ≡ parts.0.now) }
+    ensures pattern_trimmed { IfOk result (λ parts. trim parts.0.now ≡ parts.0.now) }
+    ensures template_trimmed { IfOk result (λ parts. trim parts.1.now ≡ parts.1.now) }
 {
     let Some((pattern, template)) = text.split_once(DELIMITER) else {
         return Err(SsrError::no_delimiter(alloc));

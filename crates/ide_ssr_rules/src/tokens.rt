@@ -1,6 +1,6 @@
 //! The tokens of a side.
 ghost use Rattle.std.specs.Prelude.{◌≡◌, ◌<◌, ◌^◌, length, IfOk};
-ghost use Rattle.ide_ssr_rules.specs.Elements.{IsLexed};
+ghost use Rattle.ide_ssr_rules.specs.Private.Tokens.{IsLexed};
 
 use ssr_syntax_lex::{LexError, SyntaxKind, lex};
 use std::alloc::Global;

@@ -125,6 +125,16 @@ fn rewrites_files(rt: HostRuntime) -> Result<(), Fail> {
         ),
         ("$a + 1 ==>> $a", "fn f() {2 * (x + 1)}", "fn f() {2 * (x)}"),
         (
+            "!($a && $b) ==>> !$a || !$b",
+            "fn f() {!(x.y() && -z[0] < 1)}",
+            "fn f() {!x.y() || !(-z[0] < 1)}",
+        ),
+        (
+            "$a.len() == 0 ==>> $a.is_empty()",
+            "fn f() {&v.len() | (f(1, -g)?.len() == 0)}",
+            "fn f() {&v.len() | (f(1, -g)?.is_empty())}",
+        ),
+        (
             "$a + $b ==>> $a",
             "fn f() {1 + 2} fn g() {3}",
             "fn f() {1} fn g() {3}",

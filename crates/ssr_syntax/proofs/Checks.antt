@@ -1,34 +1,32 @@
 -- The check of the whole grammar: each goal keeps what the tables claim of it.
-use Rattle.std.proofs.Common.{◌≡◌, ℕ, zero, suc, ◌<◌, nat_lt, Bool, true, false, ◌&&◌, List, [], ◌∷◌, ◌++◌, refl}
+use Rattle.std.proofs.Common.{◌≡◌, ℕ, zero, suc, ◌<◌, nat_lt, Bool, true, false, not, ◌||◌, ◌&&◌, List, [], ◌∷◌, ◌++◌, refl}
 use Rattle.std.specs.Prelude.{⊤}
-use Rattle.std.proofs.lemmas.Bool.{ltb-true}
+use Rattle.std.proofs.lemmas.Bool.{ltb-true, and_parts}
 use Rattle.ssr_syntax_lex.specs.declared.kinds.SyntaxKind.{SyntaxKind}
-use Rattle.ssr_syntax_lex.specs.declared.kinds.SyntaxKind.TheVariants.{FN_KW, R_PAREN, R_CURLY, SOURCE_FILE, FN, NAME, PARAM_LIST, BLOCK_EXPR, STMT_LIST, LITERAL, PATH_EXPR, PATH, PATH_SEGMENT, NAME_REF, PAREN_EXPR, BIN_EXPR}
+use Rattle.ssr_syntax_lex.specs.declared.kinds.SyntaxKind.TheVariants.{FN_KW, R_PAREN, R_CURLY, R_BRACK, COMMA, BLOCK_EXPR}
+use Rattle.ssr_syntax_lex.specs.Kinds.{same_kind}
+use Rattle.ssr_syntax.specs.CoreTrees.{core_kinds}
+use Rattle.ssr_syntax.specs.Identifiers.{is_mixing}
 use Rattle.ssr_syntax.specs.declared.goals.Goal.{Goal}
 use Rattle.ssr_syntax.specs.declared.goals.Goal.TheVariants.{File, Expr, Operand}
-use Rattle.ssr_syntax.specs.Kinds.{mem}
-use Rattle.ssr_syntax.specs.Forms.{Form, END}
+use Rattle.ssr_syntax_forms.specs.Kinds.{mem}
+use Rattle.ssr_syntax_forms.specs.Forms.{Form, END, comma_list}
 use Rattle.ssr_syntax.specs.Expressions as expr
 use Rattle.ssr_syntax.specs.Expressions.{expr_first, ranks}
 use Rattle.ssr_syntax.specs.Items as item
 use Rattle.ssr_syntax.specs.Paths as path
 use Rattle.ssr_syntax.specs.Grammar.{grammar}
-use Rattle.ssr_syntax.proofs.Answers.{both}
-use Rattle.ssr_syntax.proofs.Check.{Tables, keeps, makes_node, lone_marks, remembers}
+use Rattle.ssr_syntax_forms.proofs.Shared.{Tables, keeps, makes_node, lone_marks, remembers, covered, lower_ranks, has_only, any_token, any_node}
 use Rattle.ssr_syntax.proofs.Operands as operands
 use Rattle.ssr_syntax.proofs.Identifiers as idents
-use Rattle.ssr_syntax.proofs.Depth.{covered, lower_ranks}
-use Rattle.ssr_syntax.proofs.Walks.{has_only, any_token, any_node}
 
--- the nodes of core trees
-abbrev pub core_kinds : List SyntaxKind
-core_kinds =
-    SOURCE_FILE ∷ FN ∷ NAME ∷ PARAM_LIST ∷ BLOCK_EXPR ∷ STMT_LIST
-    ∷ LITERAL ∷ PATH_EXPR ∷ PATH ∷ PATH_SEGMENT ∷ NAME_REF ∷ PAREN_EXPR ∷ BIN_EXPR ∷ []
+-- the nodes of core trees, of which blocks are core in some places alone
+abbrev pub is_core : SyntaxKind → Bool
+is_core kind = mem kind core_kinds || same_kind kind BLOCK_EXPR
 
 -- what may stand behind an expression
 abbrev behind_expr : List SyntaxKind
-behind_expr = END ∷ R_PAREN ∷ R_CURLY ∷ []
+behind_expr = END ∷ R_PAREN ∷ R_CURLY ∷ R_BRACK ∷ COMMA ∷ []
 
 -- what may stand behind an operand of so many ranks: what binds less tightly
 abbrev behind_operand : ℕ → List (List SyntaxKind) → List SyntaxKind
@@ -36,9 +34,9 @@ behind_operand r [] = behind_expr
 behind_operand zero (ks ∷ rows) = ks ++ behind_operand zero rows
 behind_operand (suc r) (ks ∷ rows) = behind_operand r rows
 
-abbrev pub tables : Tables
+abbrev pub tables : Tables Goal
 tables = record {
-  core = λ kind. mem kind core_kinds;
+  core = is_core;
   is_dead = λ goal. false;
   is_empty = elim [ File ↦ true | _ ↦ false ];
   first = elim [ File ↦ FN_KW ∷ [] | _ ↦ expr_first ];
@@ -48,18 +46,22 @@ tables = record {
 }
 
 -- the same of all trees: no node is left out
-abbrev pub of_all_kinds : Tables → Tables
+abbrev pub of_all_kinds : Tables Goal → Tables Goal
 of_all_kinds t = record t { core = any_node; is_dead = λ goal. false }
 
+-- no node of the kind mixes identifiers with other tokens
+abbrev pub is_unmixed : SyntaxKind → Bool
+is_unmixed kind = not (is_mixing kind)
+
 -- All that is asked of a goal and its form. A new form or goal adds no line.
-abbrev pub checks : Tables → Goal → Form → List Bool
+abbrev pub checks : Tables Goal → Goal → Form Goal → List Bool
 checks t goal form =
     keeps t goal form
     ∷ covered (lower_ranks t.rank goal) false form
     ∷ nat_lt (t.rank goal) t.ranks
     ∷ makes_node form
     ∷ mem END (t.follow goal)
-    ∷ has_only any_token t.core form
+    ∷ has_only any_token is_unmixed form
     ∷ remembers (of_all_kinds t) form
     ∷ lone_marks form
     ∷ operands.is_bounded (operands.made operands.bound form operands.empty) (operands.bound goal)
@@ -71,11 +73,17 @@ all_true [] = true
 all_true (b ∷ bs) = b && all_true bs
 
 checked : (goal : Goal) → all_true (checks tables goal (grammar goal)) ≡ true
-unfolding grammar expr.literal expr.path_expr expr.paren_expr expr.atom expr.operators expr.operation expr.operations expr.operand expr.expr_first expr.stmt_list expr.block_expr item.name item.param_list item.function item.source_file path.name_ref path.path_segment path.longer_path path.path
+unfolding grammar expr.literal expr.path_expr expr.paren_expr expr.atom comma_list expr.arg_list expr.call_expr expr.index_expr expr.try_expr expr.field_expr expr.method_call_expr expr.member expr.turn expr.ref_expr expr.prefix_expr expr.unary expr.operators expr.operation expr.operations expr.operand expr.expr_first expr.stmt_list expr.block_expr item.name item.param_list item.function item.source_file path.name_ref path.path_segment path.longer_path path.path
 checked (Operand zero) = refl
 checked (Operand (suc zero)) = refl
 checked (Operand (suc (suc zero))) = refl
-checked (Operand (suc (suc (suc n)))) = refl
+checked (Operand (suc (suc (suc zero)))) = refl
+checked (Operand (suc (suc (suc (suc zero))))) = refl
+checked (Operand (suc (suc (suc (suc (suc zero)))))) = refl
+checked (Operand (suc (suc (suc (suc (suc (suc zero))))))) = refl
+checked (Operand (suc (suc (suc (suc (suc (suc (suc zero)))))))) = refl
+checked (Operand (suc (suc (suc (suc (suc (suc (suc (suc zero))))))))) = refl
+checked (Operand (suc (suc (suc (suc (suc (suc (suc (suc (suc n)))))))))) = refl
 checked _ = refl
 
 -- ** Each of them by its name.
@@ -85,7 +93,7 @@ AreTrue (b ∷ bs) = (b ≡ true) × AreTrue bs
 
 each : (bs : List Bool) → all_true bs ≡ true → AreTrue bs
 each [] h = tt
-each (b ∷ bs) h = let p = both b (all_true bs) h in (p.0, each bs p.1)
+each (b ∷ bs) h = let p = and_parts b (all_true bs) h in (p.0, each bs p.1)
 
 facts : (goal : Goal) → AreTrue (checks tables goal (grammar goal))
 facts goal = each (checks tables goal (grammar goal)) (checked goal)
@@ -109,9 +117,9 @@ goal_makes_node goal = (facts goal).1.1.1.0
 pub goal_may_end : (goal : Goal) → mem END (tables.follow goal) ≡ true
 goal_may_end goal = (facts goal).1.1.1.1.0
 
--- its nodes are of core kinds
-pub goal_core : (goal : Goal) → has_only any_token tables.core (grammar goal) ≡ true
-goal_core goal = (facts goal).1.1.1.1.1.0
+-- none of its nodes mixes identifiers with other tokens
+pub goal_unmixed : (goal : Goal) → has_only any_token is_unmixed (grammar goal) ≡ true
+goal_unmixed goal = (facts goal).1.1.1.1.1.0
 
 -- its look-ahead forgets no kind
 pub goal_remembers : (goal : Goal) → remembers (of_all_kinds tables) (grammar goal) ≡ true

@@ -1,6 +1,7 @@
--- Identifiers in the trees of texts: they are the text's, and they stand alone.
-use Rattle.std.proofs.Common.{◌≡◌, ℕ, zero, suc, true, false, not, ◌||◌, ◌&&◌, if◌then◌else◌, List, [], ◌∷◌, ◌++◌, length, Some, refl, sym, ◌∙◌, ap, subst, append_assoc}
+-- Identifiers in the trees of texts: they are the text's, and they stand alone but in the nodes that mix them.
+use Rattle.std.proofs.Common.{◌≡◌, ℕ, zero, suc, Bool, true, false, not, ◌||◌, ◌&&◌, if◌then◌else◌, List, [], ◌∷◌, ◌++◌, length, Some, refl, sym, ◌∙◌, ap, subst, append_assoc}
 use Rattle.std.specs.Prelude.{⊤, reverse}
+use Rattle.std.proofs.lemmas.Bool.{not-true}
 use Rattle.std.proofs.lemmas.List.{append-nil, reverse-append}
 use Rattle.ssr_syntax_lex.specs.declared.kinds.SyntaxKind.{SyntaxKind}
 use Rattle.ssr_syntax_lex.specs.Kinds.{is_trivia}
@@ -10,20 +11,19 @@ use Rattle.ssr_syntax_tree.specs.Syntax as plain
 use Rattle.ssr_syntax_tree.specs.Syntax.{Syntax, tokens_of}
 use Rattle.ssr_syntax.specs.declared.fragments.Fragment.{Fragment}
 use Rattle.ssr_syntax.specs.declared.goals.Goal.{Goal}
-use Rattle.ssr_syntax.specs.Trees as solid
+use Rattle.ssr_syntax_forms.specs.Trees as solid
 use Rattle.ssr_syntax.specs.Grammar.{grammar}
 use Rattle.ssr_syntax.specs.Solid.{solid_token, solid_tokens}
 use Rattle.ssr_syntax.specs.Lossless.{trivia, behind_trivia, gap, behind_gap, upto, past, before, behind, lossless, whole_tree, begins_with_trivia}
-use Rattle.ssr_syntax.specs.Identifiers.{is_ident, idents, has_ident, stand_alone, IdentsAlone, IdentsAloneIn}
+use Rattle.ssr_syntax.specs.Identifiers.{is_ident, idents, has_ident, stand_alone, is_mixing, IdentsAlone, IdentsAloneIn}
 use Rattle.ssr_syntax.specs.Reading.{pieces, trimmed, goal_of, begins_solid, FitsTokens, FitsFragment}
-use Rattle.ssr_syntax.proofs.Answers.{flipped}
-use Rattle.ssr_syntax.proofs.Nested.{at_some_level}
-use Rattle.ssr_syntax.proofs.Levels.{goals_spell}
+use Rattle.ssr_syntax_forms.proofs.Shared.{at_some_level, goals_spell}
 use Rattle.ssr_syntax.proofs.Solidity.{AreTaken, goals_taken, AllSolid, leaves_solid}
 use Rattle.ssr_syntax.proofs.SolidLaws.{all_solid}
 use Rattle.ssr_syntax.proofs.Laid.{by_kind, upto-past, trivia-behind}
 use Rattle.ssr_syntax.proofs.Trimmed.{solid_sides}
-use Rattle.ssr_syntax.proofs.Checks.{goal_clean}
+use Rattle.ssr_syntax.proofs.Checks.{is_unmixed, goal_unmixed, goal_clean}
+use Rattle.ssr_syntax_forms.proofs.Shared.{IsCore, goals_core}
 use Rattle.ssr_syntax.proofs.Identifiers.{shows, lone, AllLone, goals_alone}
 use Rattle.ssr_syntax.proofs.IdentTokens.{no_ident, whole_idents}
 
@@ -77,7 +77,7 @@ alone_without (plain.leaf t (plain.branch kind below x)) h = ap not h
 alone_without (plain.branch kind below x) h = ap not h
 
 alone_clean : (f : solid.Forest) (ts : List plain.Token) → not (shows f) ≡ true → stand_alone (lossless f ts) ≡ true
-alone_clean f ts h = alone_without (lossless f ts) (has-lossless f ts ∙ flipped (shows f) h)
+alone_clean f ts h = alone_without (lossless f ts) (has-lossless f ts ∙ not-true (shows f) h)
 
 -- the children of a node
 alone_inside : (f : solid.Forest) (ts : List plain.Token) → lone f ≡ true → stand_alone (lossless f (behind_gap (length (solid.spell f)) ts)) ≡ true
@@ -92,6 +92,12 @@ alone_inside (solid.leaf kind us (solid.leaf k vs x)) ts h = alone_clean (solid.
 alone_inside (solid.leaf kind us (solid.tree k kids x)) ts h = alone_clean (solid.leaf kind us (solid.tree k kids x)) _ h
 alone_inside (solid.tree kind kids x) ts h = alone_clean (solid.tree kind kids x) _ h
 
+-- of a node that mixes or doesn't
+alone_in : (mixing : Bool) (f : solid.Forest) (ts : List plain.Token) → (mixing || lone f) ≡ true
+    → (mixing || stand_alone (lossless f (behind_gap (length (solid.spell f)) ts))) ≡ true
+alone_in true f ts h = refl
+alone_in false f ts h = alone_inside f ts h
+
 alone-lossless : (f : solid.Forest) (ts : List plain.Token) → AllLone f → IdentsAlone (lossless f ts)
 alone-lossless solid.done ts h = tt
 alone-lossless (solid.leaf kind us x) ts h =
@@ -101,7 +107,30 @@ alone-lossless (solid.leaf kind us x) ts h =
 alone-lossless (solid.tree kind kids x) ts h =
     let n = length (solid.spell kids) in
     alone-before (gap n ts) (plain.branch kind (lossless kids (behind_gap n ts)) (lossless x (past n ts)))
-    (alone_inside kids ts h.0, alone-lossless kids (behind_gap n ts) h.1, alone-lossless x (past n ts) h.2)
+    (alone_in (is_mixing kind) kids ts h.0, alone-lossless kids (behind_gap n ts) h.1, alone-lossless x (past n ts) h.2)
+
+-- ** No node mixes, as long as no form makes one that does.
+
+-- no node among the siblings or below them mixes identifiers with other tokens
+abbrev pub NoneMixes : plain.Forest → Type 0
+NoneMixes plain.nothing = ⊤
+NoneMixes (plain.leaf t x) = NoneMixes x
+NoneMixes (plain.branch kind below x) = (is_mixing kind ≡ false) × NoneMixes below × NoneMixes x
+
+none-before : (ts : List plain.Token) (x : plain.Forest) → NoneMixes x → NoneMixes (before ts x)
+none-before [] x h = h
+none-before (t ∷ ts) x h = none-before ts x h
+
+none-lossless : (f : solid.Forest) (ts : List plain.Token) → IsCore is_unmixed f → NoneMixes (lossless f ts)
+none-lossless solid.done ts h = tt
+none-lossless (solid.leaf kind us x) ts h =
+    let n = length us in
+    let token : plain.Token = record { kind = kind; text = plain.spelled (upto n (behind_gap n ts)) } in
+    none-before (gap n ts) (plain.leaf token (lossless x (past n ts))) (none-lossless x (past n ts) h)
+none-lossless (solid.tree kind kids x) ts h =
+    let n = length (solid.spell kids) in
+    none-before (gap n ts) (plain.branch kind (lossless kids (behind_gap n ts)) (lossless x (past n ts)))
+    (not-true (is_mixing kind) h.0, none-lossless kids (behind_gap n ts) h.1, none-lossless x (past n ts) h.2)
 
 -- ** The root of a fragment: nothing stands around its solid tokens.
 
@@ -139,8 +168,9 @@ none_first (suc n) (t ∷ ts) e = ap (λ b. if b then behind_trivia ts else t �
 record WholeTree (text : List ℕ) (raw : List RawToken) (kind : SyntaxKind) (kids : solid.Forest) : Type 0 where
   spells : solid.spell kids ≡ solid_tokens raw
   taken : AreTaken kids
-  children_alone : lone kids ≡ true
+  children_alone : (is_mixing kind || lone kids) ≡ true
   all_alone : AllLone kids
+  unmixed : (is_unmixed kind ≡ true) × IsCore is_unmixed kids
 
 whole_of : (goal : Goal) (text : List ℕ) (raw : List RawToken) (s : Syntax) (fits : FitsTokens goal text raw s) → WholeTree text raw fits.0 fits.1
 whole_of goal text raw s (kind, kids, ruled, is) =
@@ -151,11 +181,13 @@ whole_of goal text raw s (kind, kids, ruled, is) =
     let fits = level.1 in
     let kids_spell : solid.spell kids ≡ us = sym (append-nil (solid.spell kids)) ∙ goals_spell grammar n goal z us [] fits in
     let alone = goals_alone goal_clean n goal z us [] fits in
+    let unmixed = goals_core is_unmixed grammar goal_unmixed n goal z us [] fits in
     record {
       spells = kids_spell;
       taken = (goals_taken grammar n goal z us [] fits).0;
       children_alone = alone.1.0;
       all_alone = alone.1.1;
+      unmixed = (unmixed.0, unmixed.1);
     }
 
 -- the children of the root are those of its solid tokens
@@ -180,8 +212,18 @@ fragment_alone fragment text s (raw, e, outside, fits) =
     let ts = pieces inner raw in
     let behind_front = behind_gap (length (solid.spell fits.1)) ts in
     subst IdentsAloneIn (sym fits.3)
-    (subst (λ children. (stand_alone children ≡ true) × IdentsAlone children × ⊤) (sym (children_are inner raw fits.0 fits.1 whole outside))
-    (alone_inside fits.1 ts whole.children_alone, alone-lossless fits.1 behind_front whole.all_alone, tt))
+    (subst (λ children. ((is_mixing fits.0 || stand_alone children) ≡ true) × IdentsAlone children × ⊤) (sym (children_are inner raw fits.0 fits.1 whole outside))
+    (alone_in (is_mixing fits.0) fits.1 ts whole.children_alone, alone-lossless fits.1 behind_front whole.all_alone, tt))
+
+pub fragment_unmixed : (fragment : Fragment) (text : List ℕ) (s : Syntax) → FitsFragment fragment text s
+    → NoneMixes (plain.branch s.kind s.children plain.nothing)
+fragment_unmixed fragment text s (raw, e, outside, fits) =
+    let inner : List ℕ = trimmed text in
+    let whole = whole_of (goal_of fragment) inner raw s fits in
+    let behind_front = behind_gap (length (solid.spell fits.1)) (pieces inner raw) in
+    subst (λ (v : Syntax). NoneMixes (plain.branch v.kind v.children plain.nothing)) (sym fits.3)
+    (subst (λ children. (is_mixing fits.0 ≡ false) × NoneMixes children × ⊤) (sym (children_are inner raw fits.0 fits.1 whole outside))
+    (not-true (is_mixing fits.0) whole.unmixed.0, none-lossless fits.1 behind_front whole.unmixed.1, tt))
 
 -- the identifiers of a fragment's tree
 pub fragment_idents : (fragment : Fragment) (text : List ℕ) (s : Syntax) → FitsFragment fragment text s

@@ -1,5 +1,6 @@
 -- A tree has the identifiers of its text, in order: no identifier is part of a joined token.
 use Rattle.std.proofs.Common.{◌≡◌, ℕ, zero, suc, ◌-◌, ◌<◌, ◌≤◌, Bool, true, false, cond, if◌then◌else◌, List, [], ◌∷◌, ◌++◌, length, Option, Some, None, inl, inr, refl, sym, ◌∙◌, ap, subst, arith, append_assoc, length-append}
+use Rattle.std.proofs.lemmas.Bool.{cases_Bool, or_cases}
 use Rattle.std.specs.Prelude.{⊤}
 use Rattle.std.specs.Bool.{MatchBool}
 use Rattle.std.proofs.lemmas.List.{append-nil}
@@ -9,17 +10,16 @@ use Rattle.ssr_syntax_lex.specs.declared.kinds.SyntaxKind.TheVariants.{IDENT}
 use Rattle.ssr_syntax_lex.specs.declared.tokens.RawToken.{RawToken}
 use Rattle.ssr_syntax_lex.specs.Kinds.{same_kind, is_trivia}
 use Rattle.ssr_syntax_lex.specs.Tokens.{token_text}
-use Rattle.ssr_syntax_lex.proofs.SameKinds.{same_kind-equal}
+use Rattle.ssr_syntax_lex.proofs.Shared.{same_kind-equal}
 use Rattle.ssr_syntax_tree.specs.Syntax as plain
 use Rattle.ssr_syntax_tree.specs.Syntax.{tokens_of}
-use Rattle.ssr_syntax.specs.declared.tokens.Token.{Token}
-use Rattle.ssr_syntax.specs.Trees as solid
-use Rattle.ssr_syntax.specs.Forms.{more, taken_as}
+use Rattle.ssr_syntax_forms.specs.declared.tokens.Token.{Token}
+use Rattle.ssr_syntax_forms.specs.Trees as solid
+use Rattle.ssr_syntax_forms.specs.Forms.{more, taken_as}
 use Rattle.ssr_syntax.specs.Lossless.{trivia, behind_trivia, gap, behind_gap, upto, past, whole_tree}
 use Rattle.ssr_syntax.specs.Identifiers.{is_ident, idents}
 use Rattle.ssr_syntax.specs.Solid.{lengthened, joined_two, joined_three, solid_token, solid_tokens}
 use Rattle.ssr_syntax.specs.Reading.{pieces}
-use Rattle.ssr_syntax.proofs.Answers.{decide, either}
 use Rattle.ssr_syntax.proofs.Laid.{AreSolid, by_kind, upto-zero, upto-add, upto-past, upto-behind_trivia, past-zero, total-leaves, laid, laid-append}
 use Rattle.ssr_syntax.proofs.Solidity.{IsTaken, AreTaken}
 use Rattle.ssr_syntax.proofs.SolidLaws.{is_mark, mark_solid, mark_no_ident, are_joined, kind_of}
@@ -173,8 +173,8 @@ ident_like kind e = ap is_trivia (same_kind-equal kind IDENT e)
 
 pub no_ident : (kind : SyntaxKind) → is_trivia kind ≡ true → is_ident kind ≡ false
 no_ident kind h =
-    elim (decide (is_ident kind)) [
-      | inl is ↦ elim (either (same_kind kind IDENT) false is) [ inl e ↦ absurd (cc (h, ident_like kind e)) | inr e ↦ absurd (cc e) ]
+    elim (cases_Bool (is_ident kind)) [
+      | inl is ↦ elim (or_cases (same_kind kind IDENT) false is) [ inl e ↦ absurd (cc (h, ident_like kind e)) | inr e ↦ absurd (cc e) ]
       | inr other ↦ other
     ]
 

@@ -1,18 +1,17 @@
--- Identifiers stand alone in what fits a goal.
-use Rattle.std.proofs.Common.{◌≡◌, ℕ, zero, suc, Bool, true, false, not, ◌||◌, if◌then◌else◌, List, [], ◌∷◌, ◌++◌, Option, Some, None, inl, inr, refl, sym, ap, subst, ◌∙◌}
+-- Identifiers stand alone in what fits a goal, but for the nodes that mix them with other tokens.
+use Rattle.std.proofs.Common.{◌≡◌, ℕ, zero, suc, Bool, true, false, not, ◌||◌, ◌&&◌, if◌then◌else◌, List, [], ◌∷◌, ◌++◌, Option, Some, None, inl, inr, refl, sym, ap, subst, ◌∙◌}
 use Rattle.std.specs.Prelude.{⊤}
 use Rattle.std.specs.Option.{option_and_then}
+use Rattle.std.proofs.lemmas.Bool.{cases_Bool, and_parts, or_parts}
 use Rattle.ssr_syntax_lex.specs.declared.kinds.SyntaxKind.{SyntaxKind}
 use Rattle.ssr_syntax_lex.specs.declared.kinds.SyntaxKind.TheVariants.{IDENT}
-use Rattle.ssr_syntax.specs.declared.tokens.Token.{Token}
+use Rattle.ssr_syntax_forms.specs.declared.tokens.Token.{Token}
 use Rattle.ssr_syntax.specs.declared.goals.Goal.{Goal}
-use Rattle.ssr_syntax.specs.Trees.{Forest, done, leaf, tree, join}
-use Rattle.ssr_syntax.specs.Forms.{Form, one, child, mark, seal, ◌then◌, nothing, choose, many, look, check}
+use Rattle.ssr_syntax_forms.specs.Trees.{Forest, done, leaf, tree, join}
+use Rattle.ssr_syntax_forms.specs.Forms.{Form, one, child, mark, seal, ◌then◌, nothing, choose, many, look, check, taken_as}
 use Rattle.ssr_syntax.specs.Grammar.{grammar}
-use Rattle.ssr_syntax.specs.Identifiers.{is_ident}
-use Rattle.ssr_syntax.proofs.Nested.{FitsBelow, Step, Repeats, Fits, FitsGoal}
-use Rattle.ssr_syntax.proofs.Check.{meets}
-use Rattle.ssr_syntax.proofs.Members.{apart, neither}
+use Rattle.ssr_syntax.specs.Identifiers.{is_ident, is_mixing}
+use Rattle.ssr_syntax_forms.proofs.Shared.{FitsBelow, Step, Repeats, Fits, FitsGoal, meets, apart, one_taken}
 
 -- one of the trees is an identifier
 abbrev pub shows : Forest → Bool
@@ -25,16 +24,16 @@ abbrev pub lone : Forest → Bool
 lone (leaf kind us done) = true
 lone x = not (shows x)
 
--- below each node
+-- below each node but the mixing ones
 abbrev pub AllLone : Forest → Type 0
 AllLone done = ⊤
 AllLone (leaf kind us x) = AllLone x
-AllLone (tree kind kids x) = (lone kids ≡ true) × AllLone kids × AllLone x
+AllLone (tree kind kids x) = ((is_mixing kind || lone kids) ≡ true) × AllLone kids × AllLone x
 
 shows_join : (x y : Forest) → shows x ≡ false → shows y ≡ false → shows (join x y) ≡ false
 shows_join done y h k = k
 shows_join (leaf kind us x) y h k =
-    let n = neither (is_ident kind) (shows x) h in ap (λ b. b || shows (join x y)) n.0 ∙ shows_join x y n.1 k
+    let n = or_parts (is_ident kind) (shows x) h in ap (λ b. b || shows (join x y)) n.0 ∙ shows_join x y n.1 k
 shows_join (tree kind kids x) y h k = shows_join x y h k
 
 lone_join : (x y : Forest) → AllLone x → AllLone y → AllLone (join x y)
@@ -49,38 +48,52 @@ lone_clean (leaf kind us (leaf k vs x)) h = ap not h
 lone_clean (leaf kind us (tree k kids x)) h = ap not h
 lone_clean (tree kind kids x) h = ap not h
 
--- what may have been made since the mark: nothing; no identifier; one token, or no identifier
+-- what may have been made since the mark: nothing; no identifier; one token, or no identifier; anything
 pub data Place : Type 0 where
   empty : Place
   clean : Place
   either : Place
+  crowded : Place
 
 abbrev Stands : Place → Forest → Type 0
 Stands empty x = x ≡ done
 Stands clean x = shows x ≡ false
 Stands either x = lone x ≡ true
+Stands crowded x = ⊤
 
 abbrev IsAt : Place → Forest → Type 0
 IsAt p x = Stands p x × AllLone x
 
--- behind a node that is put beside it
-abbrev behind_node : Place → Option Place
-behind_node empty = Some clean
-behind_node clean = Some clean
-behind_node either = None
+-- behind a node, or a token that is no identifier, that is put beside it
+abbrev behind_other : Place → Place
+behind_other empty = clean
+behind_other clean = clean
+behind_other either = crowded
+behind_other crowded = crowded
 
 -- behind a token that may be an identifier or may not
-abbrev behind_token : Bool → Place → Option Place
-behind_token true empty = Some either
-behind_token true clean = None
-behind_token true either = None
-behind_token false p = behind_node p
+abbrev behind_token : Bool → Place → Place
+behind_token true empty = either
+behind_token true clean = crowded
+behind_token true either = crowded
+behind_token true crowded = crowded
+behind_token false p = behind_other p
+
+-- put into a node, which mixes or doesn't
+abbrev sealed : Bool → Place → Option Place
+sealed true p = Some clean
+sealed false empty = Some clean
+sealed false clean = Some clean
+sealed false either = Some clean
+sealed false crowded = None
 
 abbrev wider : Place → Place → Place
 wider empty q = q
-wider clean either = either
-wider clean q = clean
+wider clean empty = clean
+wider clean q = q
+wider either crowded = crowded
 wider either q = either
+wider crowded q = crowded
 
 abbrev wider_of : Option Place → Option Place → Option Place
 wider_of (Some p) (Some q) = Some (wider p q)
@@ -92,53 +105,69 @@ is_clean None = false
 is_clean (Some empty) = true
 is_clean (Some clean) = true
 is_clean (Some either) = false
+is_clean (Some crowded) = false
 
-abbrev pub place_behind : Form → Place → Option Place
-place_behind (one true ks) p = behind_token (meets ks (IDENT ∷ [])) p
-place_behind (one false ks) p = None
-place_behind (child goal) p = behind_node p
-place_behind (mark f) p = if is_clean (place_behind f empty) then behind_node p else None
-place_behind (seal kind) p = Some clean
+-- behind any number of turns: no identifier, if that stays so; else anything, if no turn fails
+abbrev turned : Bool → Option Place → Option Place
+turned true o = Some clean
+turned false None = None
+turned false (Some p) = Some crowded
+
+abbrev pub place_behind : Form Goal → Place → Option Place
+place_behind (one whole ks) p = Some (behind_token (meets ks (IDENT ∷ [])) p)
+place_behind (child goal) p = Some (behind_other p)
+place_behind (mark f) p = if is_clean (place_behind f empty) then Some (behind_other p) else None
+place_behind (seal kind) p = sealed (is_mixing kind) p
 place_behind (f then g) p = option_and_then (place_behind g) (place_behind f p)
 place_behind nothing p = Some p
 place_behind (choose test f g) p = wider_of (place_behind f p) (place_behind g p)
-place_behind (many test f) p = if is_clean (place_behind f clean) then behind_node p else None
+place_behind (many test f) p = turned (is_clean (Some p) && is_clean (place_behind f clean)) (place_behind f crowded)
 place_behind (look want test) p = Some p
 place_behind (check condition) p = Some p
 
 one_place : {p q : Place} → ◌≡◌ {A = Option Place} (Some p) (Some q) → p ≡ q
 one_place e = cc
 
-clean_before : (p q : Place) (x : Forest) → behind_node p ≡ Some q → Stands p x → (q ≡ clean) × (shows x ≡ false)
-clean_before empty q x e s = (sym (one_place e), ap shows s)
-clean_before clean q x e s = (sym (one_place e), s)
-clean_before either q x e s = cc
+at_place : (p q : Place) (x : Forest) → ◌≡◌ {A = Option Place} (Some p) (Some q) → IsAt p x → IsAt q x
+at_place p q x e at = subst (λ r. IsAt r x) (one_place e) at
 
-beside : (p q : Place) (x y z : Forest) → behind_node p ≡ Some q → z ≡ join x y → IsAt p x → shows y ≡ false → AllLone y → IsAt q z
-beside p q x y z e same at none all =
-    let c = clean_before p q x e at.0 in
-    subst (λ r. IsAt r z) (sym c.0) (subst (IsAt clean) (sym same) (shows_join x y c.1 none, lone_join x y at.1 all))
+beside : (p : Place) (x y z : Forest) → z ≡ join x y → IsAt p x → shows y ≡ false → AllLone y → IsAt (behind_other p) z
+beside empty x y z same at none all =
+    subst (IsAt clean) (sym same) (shows_join x y (ap shows at.0) none, lone_join x y at.1 all)
+beside clean x y z same at none all = subst (IsAt clean) (sym same) (shows_join x y at.0 none, lone_join x y at.1 all)
+beside either x y z same at none all = subst (IsAt crowded) (sym same) (tt, lone_join x y at.1 all)
+beside crowded x y z same at none all = subst (IsAt crowded) (sym same) (tt, lone_join x y at.1 all)
 
-token_beside : (b : Bool) (p q : Place) (x z : Forest) (kind : SyntaxKind) (us : List Token) → behind_token b p ≡ Some q
-    → (b ≡ false → is_ident kind ≡ false) → z ≡ join x (leaf kind us done) → IsAt p x → IsAt q z
-token_beside true empty q x z kind us e none same at =
-    subst (λ r. IsAt r z) (one_place e)
-    (subst (IsAt either) (sym (same ∙ ap (λ w. join w (leaf kind us done)) at.0)) (refl, tt))
-token_beside true clean q x z kind us e none same at = cc
-token_beside true either q x z kind us e none same at = cc
-token_beside false p q x z kind us e none same at =
-    beside p q x (leaf kind us done) z e same at (ap (λ b. b || false) (none refl)) tt
+token_beside : (b : Bool) (p : Place) (x z : Forest) (kind : SyntaxKind) (us : List Token) → (b ≡ false → is_ident kind ≡ false)
+    → z ≡ join x (leaf kind us done) → IsAt p x → IsAt (behind_token b p) z
+token_beside true empty x z kind us none same at =
+    subst (IsAt either) (sym (same ∙ ap (λ w. join w (leaf kind us done)) at.0)) (refl, tt)
+token_beside true clean x z kind us none same at = subst (IsAt crowded) (sym same) (tt, lone_join x (leaf kind us done) at.1 tt)
+token_beside true either x z kind us none same at = subst (IsAt crowded) (sym same) (tt, lone_join x (leaf kind us done) at.1 tt)
+token_beside true crowded x z kind us none same at = subst (IsAt crowded) (sym same) (tt, lone_join x (leaf kind us done) at.1 tt)
+token_beside false p x z kind us none same at =
+    beside p x (leaf kind us done) z same at (ap (λ b. b || false) (none refl)) tt
 
-lone_at : (p : Place) (x : Forest) → Stands p x → lone x ≡ true
-lone_at empty x s = ap lone s
-lone_at clean x s = lone_clean x s
-lone_at either x s = s
+-- a node may be made of it
+may_seal : (mixing : Bool) (p q : Place) (x : Forest) → sealed mixing p ≡ Some q → Stands p x → (clean ≡ q) × ((mixing || lone x) ≡ true)
+may_seal true p q x e s = (one_place e, refl)
+may_seal false empty q x e s = (one_place e, ap lone s)
+may_seal false clean q x e s = (one_place e, lone_clean x s)
+may_seal false either q x e s = (one_place e, s)
+may_seal false crowded q x e s = cc
 
 cleaned : (o : Option Place) → is_clean o ≡ true → (p : Place) × (o ≡ Some p) × ((x : Forest) → Stands p x → shows x ≡ false)
 cleaned None e = cc
 cleaned (Some empty) e = (empty, refl, λ x s. ap shows s)
 cleaned (Some clean) e = (clean, refl, λ x s. s)
 cleaned (Some either) e = cc
+cleaned (Some crowded) e = cc
+
+clean_at : (p : Place) (x : Forest) → is_clean (Some p) ≡ true → IsAt p x → IsAt clean x
+clean_at empty x e at = (ap shows at.0, at.1)
+clean_at clean x e at = at
+clean_at either x e at = cc
+clean_at crowded x e at = cc
 
 went : (o : Option Place) (next : Place → Option Place) (q : Place) → option_and_then next o ≡ Some q → (m : Place) × (o ≡ Some m) × (next m ≡ Some q)
 went None next q e = cc
@@ -156,49 +185,75 @@ are_both (Some a) (Some b) q e = (a, b, refl, refl, one_place e)
 are_both (Some a) None q e = cc
 are_both None u q e = cc
 
+from_empty : (b : Place) (x : Forest) → x ≡ done → Stands b x
+from_empty empty x s = s
+from_empty clean x s = ap shows s
+from_empty either x s = ap lone s
+from_empty crowded x s = tt
+
+from_clean : (b : Place) (x : Forest) → shows x ≡ false → Stands (wider clean b) x
+from_clean empty x s = s
+from_clean clean x s = s
+from_clean either x s = lone_clean x s
+from_clean crowded x s = tt
+
 wider_left : (a b : Place) (x : Forest) → Stands a x → Stands (wider a b) x
-wider_left empty empty x s = s
-wider_left empty clean x s = ap shows s
-wider_left empty either x s = ap lone s
-wider_left clean empty x s = s
-wider_left clean clean x s = s
-wider_left clean either x s = lone_clean x s
-wider_left either b x s = s
+wider_left empty b x s = from_empty b x s
+wider_left clean b x s = from_clean b x s
+wider_left either empty x s = s
+wider_left either clean x s = s
+wider_left either either x s = s
+wider_left either crowded x s = tt
+wider_left crowded b x s = tt
 
 wider_right : (a b : Place) (x : Forest) → Stands b x → Stands (wider a b) x
 wider_right empty b x s = s
 wider_right clean empty x s = ap shows s
 wider_right clean clean x s = s
 wider_right clean either x s = s
-wider_right either b x s = lone_at b x s
+wider_right clean crowded x s = tt
+wider_right either empty x s = ap lone s
+wider_right either clean x s = lone_clean x s
+wider_right either either x s = s
+wider_right either crowded x s = tt
+wider_right crowded b x s = tt
 
-repeats_clean : (step : Step) → ((x z : Forest) (us rest : List Token) → step x z us rest → IsAt clean x → IsAt clean z)
-    → (n : ℕ) (x z : Forest) (us rest : List Token) → Repeats n step x z us rest → IsAt clean x → IsAt clean z
-repeats_clean step on zero x z us rest f at = subst (IsAt clean) (sym f.1) at
-repeats_clean step on (suc n) x z us rest f at =
-    repeats_clean step on n f.0 z f.2 rest f.5 (on x f.0 f.1 (f.2 ++ rest) f.4 at)
+repeats_at : (p : Place) (step : Step) → ((x z : Forest) (us rest : List Token) → step x z us rest → IsAt p x → IsAt p z)
+    → (n : ℕ) (x z : Forest) (us rest : List Token) → Repeats n step x z us rest → IsAt p x → IsAt p z
+repeats_at p step on zero x z us rest f at = subst (IsAt p) (sym f.1) at
+repeats_at p step on (suc n) x z us rest f at =
+    repeats_at p step on n f.0 z f.2 rest f.5 (on x f.0 f.1 (f.2 ++ rest) f.4 at)
+
+some_turn : (b : Bool) (o : Option Place) (q : Place) → b ≡ false → turned b o ≡ Some q → (m : Place) × (o ≡ Some m) × (crowded ≡ q)
+some_turn true o q off e = cc
+some_turn false None q off e = cc
+some_turn false (Some m) q off e = (m, refl, one_place e)
 
 -- what fits a goal is no identifier, and has them alone
-abbrev pub AloneBelow : FitsBelow → Type 0
+abbrev pub AloneBelow : FitsBelow Goal → Type 0
 AloneBelow fits = (goal : Goal) (y : Forest) (us rest : List Token) → fits goal y us rest → (shows y ≡ false) × AllLone y
 
-keeps : (fits : FitsBelow) → AloneBelow fits → (form : Form) (p q : Place) → place_behind form p ≡ Some q
+keeps : (fits : FitsBelow Goal) → AloneBelow fits → (form : Form Goal) (p q : Place) → place_behind form p ≡ Some q
     → (x z : Forest) (us rest : List Token) → Fits fits form x z us rest → IsAt p x → IsAt q z
-keeps fits h (one true ks) p q e x z us rest f at =
-    token_beside (meets ks (IDENT ∷ [])) p q x z f.0.joined (f.0 ∷ f.1) e (λ none. apart f.0.joined ks (IDENT ∷ []) none f.3) f.5 at
-keeps fits h (one false ks) p q e x z us rest f at = cc
-keeps fits h (child goal) p q e x z us rest f at = let y = h goal f.0 us rest f.1 in beside p q x f.0 z e f.2 at y.0 y.1
+keeps fits h (one whole ks) p q e x z us rest f at =
+    let b = meets ks (IDENT ∷ []) in
+    let kind = taken_as whole f.0 in
+    at_place (behind_token b p) q z e
+    (token_beside b p x z kind (f.0 ∷ f.1) (λ none. apart kind ks (IDENT ∷ []) none (one_taken whole ks f.0 f.3)) f.5 at)
+keeps fits h (child goal) p q e x z us rest f at =
+    let y = h goal f.0 us rest f.1 in at_place (behind_other p) q z e (beside p x f.0 z f.2 at y.0 y.1)
 keeps fits h (mark g) p q e x z us rest f at =
-    let w = under (is_clean (place_behind g empty)) (behind_node p) q e in
+    let w = under (is_clean (place_behind g empty)) (Some (behind_other p)) q e in
     let c = cleaned (place_behind g empty) w.0 in
     let y = keeps fits h g empty c.0 c.1 done f.0 us rest f.1 (refl, tt) in
-    beside p q x f.0 z w.1 f.2 at (c.2 f.0 y.0) y.1
+    at_place (behind_other p) q z w.1 (beside p x f.0 z f.2 at (c.2 f.0 y.0) y.1)
 keeps fits h (seal kind) p q e x z us rest f at =
-    subst (λ r. IsAt r z) (one_place e) (subst (IsAt clean) (sym f.1) (refl, (lone_at p x at.0, at.1, tt)))
+    let s = may_seal (is_mixing kind) p q x e at.0 in
+    subst (λ r. IsAt r z) s.0 (subst (IsAt clean) (sym f.1) (refl, (s.1, at.1, tt)))
 keeps fits h (g then k) p q e x z us rest f at =
     let w = went (place_behind g p) (place_behind k) q e in
     keeps fits h k w.0 q w.2 f.0 z f.2 rest f.5 (keeps fits h g p w.0 w.1 x f.0 f.1 (f.2 ++ rest) f.4 at)
-keeps fits h nothing p q e x z us rest f at = subst (λ r. IsAt r z) (one_place e) (subst (IsAt p) (sym f.1) at)
+keeps fits h nothing p q e x z us rest f at = at_place p q z e (subst (IsAt p) (sym f.1) at)
 keeps fits h (choose test g k) p q e x z us rest (inl f) at =
     let w = are_both (place_behind g p) (place_behind k p) q e in
     let y = keeps fits h g p w.0 w.2 x z us rest f at in
@@ -208,14 +263,22 @@ keeps fits h (choose test g k) p q e x z us rest (inr f) at =
     let y = keeps fits h k p w.1 w.3 x z us rest f at in
     subst (λ r. IsAt r z) w.4 (wider_right w.0 w.1 z y.0, y.1)
 keeps fits h (many test g) p q e x z us rest f at =
-    let w = under (is_clean (place_behind g clean)) (behind_node p) q e in
-    let c = cleaned (place_behind g clean) w.0 in
-    let before = clean_before p q x w.1 at.0 in
-    let turn : (x z : Forest) (us rest : List Token) → Fits fits g x z us rest → IsAt clean x → IsAt clean z =
-    λ x z us rest f at. (let y = keeps fits h g clean c.0 c.1 x z us rest f at in (c.2 z y.0, y.1)) in
-    subst (λ r. IsAt r z) (sym before.0) (repeats_clean (Fits fits g) turn f.0 x z us rest f.1 (before.1, at.1))
-keeps fits h (look want test) p q e x z us rest f at = subst (λ r. IsAt r z) (one_place e) (subst (IsAt p) (sym f.1) at)
-keeps fits h (check condition) p q e x z us rest f at = subst (λ r. IsAt r z) (one_place e) (subst (IsAt p) (sym f.1) at)
+    elim (cases_Bool (is_clean (Some p) && is_clean (place_behind g clean))) [
+      | inl stays ↦
+          let both = and_parts (is_clean (Some p)) (is_clean (place_behind g clean)) stays in
+          let c = cleaned (place_behind g clean) both.1 in
+          let turn : (x z : Forest) (us rest : List Token) → Fits fits g x z us rest → IsAt clean x → IsAt clean z =
+          λ x z us rest f at. (let y = keeps fits h g clean c.0 c.1 x z us rest f at in (c.2 z y.0, y.1)) in
+          at_place clean q z (sym (ap (λ b. turned b (place_behind g crowded)) stays) ∙ e)
+          (repeats_at clean (Fits fits g) turn f.0 x z us rest f.1 (clean_at p x both.0 at))
+      | inr other ↦
+          let m = some_turn (is_clean (Some p) && is_clean (place_behind g clean)) (place_behind g crowded) q other e in
+          let turn : (x z : Forest) (us rest : List Token) → Fits fits g x z us rest → IsAt crowded x → IsAt crowded z =
+          λ x z us rest f at. (tt, (keeps fits h g crowded m.0 m.1 x z us rest f at).1) in
+          subst (λ r. IsAt r z) m.2 (repeats_at crowded (Fits fits g) turn f.0 x z us rest f.1 (tt, at.1))
+    ]
+keeps fits h (look want test) p q e x z us rest f at = at_place p q z e (subst (IsAt p) (sym f.1) at)
+keeps fits h (check condition) p q e x z us rest f at = at_place p q z e (subst (IsAt p) (sym f.1) at)
 
 abbrev pub AllClean : Type 0
 AllClean = (goal : Goal) → is_clean (place_behind (grammar goal) empty) ≡ true

@@ -8,10 +8,10 @@ use Rattle.ssr_syntax_tree.specs.declared.rows.NodeRow.{NodeRow}
 use Rattle.ssr_syntax_tree.specs.Syntax as plain
 use Rattle.ssr_syntax_tree.specs.Places.{nodes_in}
 use Rattle.ssr_syntax_tree.specs.Parts.{node_row}
-use Rattle.ssr_syntax.specs.declared.rows.Taken.{Taken}
-use Rattle.ssr_syntax.specs.Trees as solid
+use Rattle.ssr_syntax_forms.specs.declared.rows.Taken.{Taken}
+use Rattle.ssr_syntax_forms.specs.Trees as solid
 use Rattle.ssr_syntax.specs.Lossless.{trivia, behind_trivia, gap, behind_gap, upto, past, before, behind, lossless}
-use Rattle.ssr_syntax.specs.Preorder.{node_rows, first_at, past_at}
+use Rattle.ssr_syntax.specs.Private.Preorder.{node_rows, first_at, past_at}
 
 -- ** Tokens beside siblings.
 

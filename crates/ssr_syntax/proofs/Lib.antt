@@ -1,37 +1,22 @@
-pub mod Answers
-pub mod Joins
-pub mod Nested
-pub mod Walks
-pub mod Loops
-pub mod Ranks
-pub mod Soundness
-pub mod Spelling
-pub mod Agreement
-pub mod Levels
-pub mod Finished
-pub mod Check
-pub mod Members
-pub mod Core
-pub mod Starts
-pub mod Completeness
-pub mod Cuts
-pub mod Depth
-pub mod Keeping
-pub mod Checks
-pub mod Whole
-pub mod Operands
-pub mod Placed
-pub mod Laid
-pub mod SolidLaws
-pub mod Tiles
-pub mod TreeTokens
-pub mod Solidity
-pub mod Lone
-pub mod Decision
-pub mod FitsHere
-pub mod Texts
-pub mod Trimmed
-pub mod TextLaws
-pub mod Identifiers
-pub mod IdentTokens
-pub mod IdentTexts
+pub mod Shared
+mod Ranks
+mod Finished
+mod Checks
+mod CoreTrees
+mod Whole
+mod Operands
+mod Placed
+mod Laid
+mod SolidLaws
+mod Tiles
+mod TreeTokens
+mod Solidity
+mod FitsHere
+mod Texts
+mod Trimmed
+mod Lists
+mod TextRows
+mod TextLaws
+mod Identifiers
+mod IdentTokens
+mod IdentTexts

@@ -1,26 +1,23 @@
 -- The operands of each BIN_EXPR bind as tightly as they must, whatever the forms of operands look like: what a form has
 -- made since the mark is computed as far as operands tell.
 use Rattle.std.proofs.Common.{◌≡◌, ℕ, zero, suc, ◌<◌, ◌≤◌, nat_le, nat_lt, nat_eq, Bool, true, false, ◌&&◌, if◌then◌else◌, List, [], ◌∷◌, ◌++◌, length, Option, Some, None, inl, inr, refl, sym, ap, subst, ◌∙◌, arith, eqb-true}
-use Rattle.std.proofs.lemmas.Bool.{leb-true, leb-false, ltb-true}
+use Rattle.std.proofs.lemmas.Bool.{leb-true, leb-false, ltb-true, and_parts, cases_Bool}
 use Rattle.std.specs.Prelude.{⊤}
 use Rattle.std.specs.Option.{option_and_then}
 use Rattle.ssr_syntax_lex.specs.Kinds.{same_kind}
 use Rattle.ssr_syntax_lex.specs.declared.kinds.SyntaxKind.{SyntaxKind}
 use Rattle.ssr_syntax_lex.specs.declared.kinds.SyntaxKind.TheVariants.{BIN_EXPR}
-use Rattle.ssr_syntax.specs.declared.tokens.Token.{Token}
+use Rattle.ssr_syntax_forms.specs.declared.tokens.Token.{Token}
 use Rattle.ssr_syntax.specs.declared.goals.Goal.{Goal}
 use Rattle.ssr_syntax.specs.declared.goals.Goal.TheVariants.{File, Expr, Operand}
-use Rattle.ssr_syntax.specs.Kinds.{mem}
-use Rattle.ssr_syntax.specs.Trees.{Forest, done, leaf, tree, join}
-use Rattle.ssr_syntax.specs.Forms.{Form, one, child, mark, seal, ◌then◌, nothing, choose, many, look, check, taken_as}
-use Rattle.ssr_syntax.specs.Fitting as rules
+use Rattle.ssr_syntax_forms.specs.Kinds.{mem}
+use Rattle.ssr_syntax_forms.specs.Trees.{Forest, done, leaf, tree, join}
+use Rattle.ssr_syntax_forms.specs.Forms.{Form, one, child, mark, seal, ◌then◌, nothing, choose, many, look, check, taken_as}
+use Rattle.ssr_syntax_forms.specs.Fitting as rules
 use Rattle.ssr_syntax.specs.Operands.{looseness_of, operator_looseness, node_looseness, AreOperands, AreRanked}
 use Rattle.ssr_syntax.specs.Expressions.{ranks, at_most}
 use Rattle.ssr_syntax.specs.Grammar.{grammar}
-use Rattle.ssr_syntax.proofs.Answers.{decide, both}
-use Rattle.ssr_syntax.proofs.Check.{every}
-use Rattle.ssr_syntax.proofs.Members.{every_mem, one_taken}
-use Rattle.ssr_syntax.proofs.Nested.{FitsBelow, Step, Repeats, Fits, FitsGoal, at_some_level}
+use Rattle.ssr_syntax_forms.proofs.Shared.{every, every_mem, one_taken, FitsBelow, Step, Repeats, Fits, FitsGoal, at_some_level}
 
 -- What may have been made since the mark: nothing; a node that binds as tightly as the rank; such a node and an
 -- operator of the rank; these and a node that binds tighter; anything.
@@ -116,7 +113,7 @@ settled step w = option_and_then (if_within w) (step w)
 abbrev turns : (Made → Option Made) → Made → Option Made
 turns step p = option_and_then (λ q. settled step (wider p q)) (step p)
 
-abbrev pub made : (Goal → ℕ) → Form → Made → Option Made
+abbrev pub made : (Goal → ℕ) → Form Goal → Made → Option Made
 made bound (one whole ks) p = Some (behind_token ks p)
 made bound (child asked) p = Some (behind_node (bound asked) p)
 made bound (mark f) p = behind_mark (made bound f empty) p
@@ -150,7 +147,7 @@ operator_stands : (b : Bool) (r h : ℕ) (ks : List SyntaxKind) (kind : SyntaxKi
     → Stands (operand r) x → Stands (if b then operator h else other) z
 operator_stands false r h ks kind us x z e is z_is s = tt
 operator_stands true r h ks kind us x z e is z_is (k, xs, x_is, le) =
-    let p = both (nat_le r h) (all_rank h ks) e in (
+    let p = and_parts (nat_le r h) (all_rank h ks) e in (
       k,
       xs,
       kind,
@@ -239,11 +236,11 @@ sealed kind true other q x e is at = cc
 
 larger_left : (a b : ℕ) → a ≤ larger a b
 larger_left a b =
-    elim (decide (nat_le a b)) [ inl hit ↦ rw hit (leb-true a b hit) | inr miss ↦ rw miss (omega arith) ]
+    elim (cases_Bool (nat_le a b)) [ inl hit ↦ rw hit (leb-true a b hit) | inr miss ↦ rw miss (omega arith) ]
 
 larger_right : (a b : ℕ) → b ≤ larger a b
 larger_right a b =
-    elim (decide (nat_le a b)) [ inl hit ↦ rw hit (omega arith) | inr miss ↦ rw miss (omega (arith, leb-false a b miss)) ]
+    elim (cases_Bool (nat_le a b)) [ inl hit ↦ rw hit (omega arith) | inr miss ↦ rw miss (omega (arith, leb-false a b miss)) ]
 
 wider_left : (p q : Made) (x : Forest) → Stands p x → Stands (wider p q) x
 wider_left empty empty x s = s
@@ -269,7 +266,7 @@ within_stands _ _ x e s = cc
 
 was_within : (w m q : Made) → if_within w m ≡ Some q → (within m w ≡ true) × (w ≡ q)
 was_within w m q e =
-    elim (decide (within m w)) [ inl hit ↦ (hit, some_one (rw hit at e)) | inr miss ↦ absurd (cc (rw miss at e)) ]
+    elim (cases_Bool (within m w)) [ inl hit ↦ (hit, some_one (rw hit at e)) | inr miss ↦ absurd (cc (rw miss at e)) ]
 
 repeats_at : (step : Step) (w : Made) → ((x z : Forest) (us rest : List Token) → step x z us rest → IsAt w x → IsAt w z)
     → (n : ℕ) (x z : Forest) (us rest : List Token) → Repeats n step x z us rest → IsAt w x → IsAt w z
@@ -278,10 +275,10 @@ repeats_at step w h (suc n) x z us rest (mid, taken, left, _, one_turn, turns_le
     repeats_at step w h n mid z left rest turns_left (h x mid taken (left ++ rest) one_turn at)
 
 -- a tree of a goal is a node that binds as tightly as is claimed
-abbrev AreBounded : (Goal → ℕ) → FitsBelow → Type 0
+abbrev AreBounded : (Goal → ℕ) → FitsBelow Goal → Type 0
 AreBounded bound fits = (goal : Goal) (y : Forest) (us rest : List Token) → fits goal y us rest → IsAt (operand (bound goal)) y
 
-keeps : (bound : Goal → ℕ) (fits : FitsBelow) → AreBounded bound fits → (form : Form) (p q : Made) → made bound form p ≡ Some q
+keeps : (bound : Goal → ℕ) (fits : FitsBelow Goal) → AreBounded bound fits → (form : Form Goal) (p q : Made) → made bound form p ≡ Some q
     → (x z : Forest) (us rest : List Token) → Fits fits form x z us rest → IsAt p x → IsAt q z
 keeps bound fits h (one whole ks) p q e x z us rest (front, others, _, is, _, z_is) at =
     let kind : SyntaxKind = taken_as whole front in

@@ -10,9 +10,10 @@ use Rattle.ssr_syntax_tree.specs.declared.rows.NodeRow.{NodeRow}
 use Rattle.ssr_syntax.specs.declared.preorder.Open.{Open}
 use Rattle.ssr_syntax.specs.declared.syntax_error.SyntaxError.{SyntaxError}
 use Rattle.ssr_syntax.specs.declared.syntax_error.SyntaxError.TheVariants as errors
-use Rattle.ssr_syntax.specs.Trees.{Forest, done, leaf, tree, spell, nodes, rows, height}
-use Rattle.ssr_syntax.specs.Preorder.{node_rows, first_at, past_at, most_deep, tree_rows, IsDepthFault, OkUnlessDeep}
-use Rattle.ssr_syntax.specs.OpenNodes.{still_open, closed, number_of, first_of, opened, from_right, is_deeper, IsClosed, IsFromRight}
+use Rattle.ssr_syntax_forms.specs.Trees.{Forest, done, leaf, tree, spell, nodes, rows, height}
+use Rattle.ssr_syntax.specs.Private.Preorder.{node_rows, first_at, past_at, tree_rows, IsDepthFault, OkUnlessDeep}
+use Rattle.ssr_syntax.specs.Reading.{most_deep}
+use Rattle.ssr_syntax.specs.Private.OpenNodes.{still_open, closed, number_of, first_of, opened, from_right, is_deeper, IsClosed, IsFromRight}
 
 -- Whether a node of the forest has more than `limit` others above it, where so many stand above the forest.
 abbrev pub deeper_by : ℕ → ℕ → Forest → Bool
@@ -317,9 +318,6 @@ closes_all [] = refl
 closes_all (inner ∷ above) =
     let e : nat_le 0 inner.start ≡ true = opens 0 inner.start (omega arith) in
     rw (e, closes_all above)
-
-memory_says_nothing : (deep : Bool) (e : SyntaxError) → e ≡ errors.Memory → IsDepthFault deep e
-memory_says_nothing deep e h = subst (IsDepthFault deep) (sym h) tt
 
 none_left : (above : List Open) → still_open 0 above ≡ []
 none_left [] = refl

@@ -1,18 +1,18 @@
 -- The ranks of which the next token is not are passed over.
 use Rattle.std.proofs.Common.{◌≡◌, ◌≢◌, ℕ, zero, suc, ◌+◌, ◌-◌, ◌<◌, ◌≤◌, eqb, Bool, true, false, ◌&&◌, List, [], ◌∷◌, length, Result, Ok, Err, inl, inr, refl, sym, ap, ◌∙◌, arith}
-use Rattle.std.proofs.lemmas.Bool.{eqb-true}
+use Rattle.std.proofs.lemmas.Bool.{eqb-true, and_parts, cases_Bool, or_cases}
 use Rattle.ssr_syntax_lex.specs.declared.kinds.SyntaxKind.{SyntaxKind}
 use Rattle.ssr_syntax_lex.specs.Kinds.{same_kind}
-use Rattle.ssr_syntax_lex.proofs.SameKinds.{same_kind-equal}
-use Rattle.ssr_syntax.specs.declared.tokens.Token.{Token}
-use Rattle.ssr_syntax.specs.declared.goals.Fault.{Fault}
-use Rattle.ssr_syntax.specs.Kinds.{mem}
-use Rattle.ssr_syntax.specs.Forms.{at, next, passes, repeat, ◌>>=◌}
-use Rattle.ssr_syntax.specs.Runs.{State, Mark, repeated, RunsBelow, run}
-use Rattle.ssr_syntax.specs.Expressions.{ranks, row, operators, operation, operations, operand, atom, at_most}
+use Rattle.ssr_syntax_lex.proofs.Shared.{same_kind-equal}
+use Rattle.ssr_syntax_forms.specs.declared.tokens.Token.{Token}
+use Rattle.ssr_syntax.specs.declared.goals.Goal.{Goal}
+use Rattle.ssr_syntax_forms.specs.declared.fault.Fault.{Fault}
+use Rattle.ssr_syntax_forms.specs.Kinds.{mem}
+use Rattle.ssr_syntax_forms.specs.Forms.{at, next, passes, repeat, ◌>>=◌}
+use Rattle.ssr_syntax_forms.specs.Runs.{State, Mark, repeated, RunsBelow, run}
+use Rattle.ssr_syntax.specs.Expressions.{ranks, row, operators, operation, operations, operand, unary, at_most}
 use Rattle.ssr_syntax.specs.Ranks.{rank_of, next_rank}
-use Rattle.ssr_syntax.proofs.Answers.{decide, both, either}
-use Rattle.ssr_syntax.proofs.Members.{at_next}
+use Rattle.ssr_syntax_forms.proofs.Shared.{at_next}
 
 -- ** The two tables are one.
 
@@ -27,8 +27,8 @@ in_order r (ks ∷ rows) = all_of_rank r ks && in_order (suc r) rows
 of_rank : (r : ℕ) (kind : SyntaxKind) (ks : List SyntaxKind) → all_of_rank r ks ≡ true → mem kind ks ≡ true → rank_of kind ≡ r
 of_rank r kind [] all h = cc
 of_rank r kind (k ∷ ks) all h =
-    let b = both (eqb (rank_of k) r) (all_of_rank r ks) all in
-    elim (either (same_kind kind k) (mem kind ks) h) [
+    let b = and_parts (eqb (rank_of k) r) (all_of_rank r ks) all in
+    elim (or_cases (same_kind kind k) (mem kind ks) h) [
       | inl e ↦ ap rank_of (same_kind-equal kind k e) ∙ eqb-true (rank_of k) r b.0
       | inr m ↦ of_rank r kind ks b.1 m
     ]
@@ -37,9 +37,9 @@ in_row : (first r : ℕ) (rows : List (List SyntaxKind)) (kind : SyntaxKind) →
     → mem kind (row r rows) ≡ true → rank_of kind ≡ first + r
 in_row first r [] kind all h = cc
 in_row first zero (ks ∷ rows) kind all h =
-    let same = of_rank first kind ks (both (all_of_rank first ks) (in_order (suc first) rows) all).0 h in omega (arith, same)
+    let same = of_rank first kind ks (and_parts (all_of_rank first ks) (in_order (suc first) rows) all).0 h in omega (arith, same)
 in_row first (suc r) (ks ∷ rows) kind all h =
-    let same = in_row (suc first) r rows kind (both (all_of_rank first ks) (in_order (suc first) rows) all).1 h in omega (arith, same)
+    let same = in_row (suc first) r rows kind (and_parts (all_of_rank first ks) (in_order (suc first) rows) all).1 h in omega (arith, same)
 
 of_operator : (r : ℕ) (kind : SyntaxKind) → mem kind (operators r) ≡ true → rank_of kind ≡ r
 unfolding operators
@@ -48,7 +48,7 @@ of_operator r kind h = let same = in_row 0 r ranks kind refl h in omega (arith, 
 -- no operator of another rank is next
 not_next : (r : ℕ) (ts : List Token) → next_rank ts ≢ r → passes (at (operators r)) ts ≡ false
 not_next r ts other =
-    elim (decide (mem (next ts) (operators r))) [
+    elim (cases_Bool (mem (next ts) (operators r))) [
       | inl hit ↦ absurd (other (of_operator r (next ts) hit))
       | inr miss ↦ at_next (operators r) ts ∙ miss
     ]
@@ -56,7 +56,7 @@ not_next r ts other =
 -- ** Ranks from one on, one after another.
 
 -- the operations of so many ranks, from the first on
-abbrev pub climb : RunsBelow → Mark → ℕ → ℕ → State → Result State Fault
+abbrev pub climb : RunsBelow Goal → Mark → ℕ → ℕ → State → Result State Fault
 climb below m first zero s = Ok s
 climb below m first (suc n) s = run below (operations first) m s >>= climb below m (suc first) n
 
@@ -64,29 +64,29 @@ no_turn : (fuel : ℕ) (r n : ℕ) (step : State → Result State Fault) (s : St
     → repeat (λ z. z.rest) fuel (at (operators r)) step s ≡ Ok s
 no_turn fuel r n step s e miss = rw (e, miss) refl
 
-passed_over : (below : RunsBelow) (m : Mark) (r : ℕ) (s : State) → next_rank s.rest ≢ r → run below (operations r) m s ≡ Ok s
+passed_over : (below : RunsBelow Goal) (m : Mark) (r : ℕ) (s : State) → next_rank s.rest ≢ r → run below (operations r) m s ≡ Ok s
 unfolding operations repeated
 passed_over below m r s other =
     no_turn (length s.rest + 1) r (length s.rest) (run below (operation r) m) s (omega arith) (not_next r s.rest other)
 
 -- no rank of so many is next
-all_passed_over : (below : RunsBelow) (m : Mark) (first n : ℕ) (s : State)
+all_passed_over : (below : RunsBelow Goal) (m : Mark) (first n : ℕ) (s : State)
     → ((r : ℕ) → first ≤ r → r < first + n → next_rank s.rest ≢ r) → climb below m first n s ≡ Ok s
 all_passed_over below m first zero s none = refl
 all_passed_over below m first (suc n) s none =
     ap (λ w. w >>= climb below m (suc first) n) (passed_over below m first s (none first (omega arith) (omega arith)))
     ∙ all_passed_over below m (suc first) n s (λ r low high. none r (omega (arith, low)) (omega (arith, high)))
 
-same_climb : (below : RunsBelow) (m : Mark) (first first' n n' : ℕ) (s : State) → first ≡ first' → n ≡ n'
+same_climb : (below : RunsBelow Goal) (m : Mark) (first first' n n' : ℕ) (s : State) → first ≡ first' → n ≡ n'
     → climb below m first n s ≡ climb below m first' n' s
 same_climb below m first first' n n' s e d = rw (e, d) refl
 
-climb_one : (below : RunsBelow) (m : Mark) (first total n : ℕ) (s : State) → total ≡ suc n
+climb_one : (below : RunsBelow Goal) (m : Mark) (first total n : ℕ) (s : State) → total ≡ suc n
     → climb below m first total s ≡ (run below (operations first) m s >>= climb below m (suc first) n)
 climb_one below m first total n s e = rw e refl
 
 -- up to the rank that is next
-climbed_to : (below : RunsBelow) (m : Mark) (first skipped n total : ℕ) (s : State) → total ≡ skipped + n
+climbed_to : (below : RunsBelow Goal) (m : Mark) (first skipped n total : ℕ) (s : State) → total ≡ skipped + n
     → ((r : ℕ) → first ≤ r → r < first + skipped → next_rank s.rest ≢ r)
     → climb below m first total s ≡ climb below m (first + skipped) n s
 climbed_to below m first zero n total s e none = same_climb below m first (first + zero) total n s (omega arith) (omega (arith, e))
@@ -96,7 +96,7 @@ climbed_to below m first (suc skipped) n total s e none =
     ∙ climbed_to below m (suc first) skipped n (skipped + n) s refl (λ r low high. none r (omega (arith, low)) (omega (arith, high)))
     ∙ same_climb below m (suc first + skipped) (first + suc skipped) n n s (omega arith) refl
 
-pub turn : (below : RunsBelow) (m : Mark) (rank limit next : ℕ) (s : State) → next ≡ next_rank s.rest → rank ≤ next → next < limit
+pub turn : (below : RunsBelow Goal) (m : Mark) (rank limit next : ℕ) (s : State) → next ≡ next_rank s.rest → rank ≤ next → next < limit
     → climb below m rank (limit - rank) s ≡ (run below (operations next) m s >>= climb below m (next + 1) (limit - (next + 1)))
 turn below m rank limit next s e low high =
     let here : rank + (next - rank) ≡ next = omega (arith, low) in
@@ -107,17 +107,17 @@ turn below m rank limit next s e low high =
     ∙ climb_one below m next (limit - next) (limit - (next + 1)) s (omega (arith, high))
     ∙ ap (λ k. run below (operations next) m s >>= climb below m k (limit - (next + 1))) step
 
-pub stop_low : (below : RunsBelow) (m : Mark) (rank limit next : ℕ) (s : State) → next ≡ next_rank s.rest → next < rank
+pub stop_low : (below : RunsBelow Goal) (m : Mark) (rank limit next : ℕ) (s : State) → next ≡ next_rank s.rest → next < rank
     → climb below m rank (limit - rank) s ≡ Ok s
 stop_low below m rank limit next s e low =
     all_passed_over below m rank (limit - rank) s (λ r above under same. absurd (omega (arith, e, low, above, under, same)))
 
-pub stop_high : (below : RunsBelow) (m : Mark) (rank limit next : ℕ) (s : State) → next ≡ next_rank s.rest → limit ≤ next
+pub stop_high : (below : RunsBelow Goal) (m : Mark) (rank limit next : ℕ) (s : State) → next ≡ next_rank s.rest → limit ≤ next
     → climb below m rank (limit - rank) s ≡ Ok s
 stop_high below m rank limit next s e high =
     all_passed_over below m rank (limit - rank) s (λ r above under same. absurd (omega (arith, e, high, above, under, same)))
 
-pub stop_end : (below : RunsBelow) (m : Mark) (rank limit : ℕ) (s : State) → limit ≤ rank → climb below m rank (limit - rank) s ≡ Ok s
+pub stop_end : (below : RunsBelow Goal) (m : Mark) (rank limit : ℕ) (s : State) → limit ≤ rank → climb below m rank (limit - rank) s ≡ Ok s
 stop_end below m rank limit s end = same_climb below m rank rank (limit - rank) 0 s refl (omega (arith, end))
 
 -- ** An operand is an atom, and then all ranks of it.
@@ -130,7 +130,7 @@ bind_end : (r : Result State Fault) → (r >>= (λ s. Ok s)) ≡ r
 bind_end (Ok x) = refl
 bind_end (Err x) = refl
 
-climb_last : (below : RunsBelow) (m : Mark) (first n last : ℕ) (s : State) → last ≡ first + n
+climb_last : (below : RunsBelow Goal) (m : Mark) (first n last : ℕ) (s : State) → last ≡ first + n
     → climb below m first (suc n) s ≡ (climb below m first n s >>= run below (operations last) m)
 climb_last below m first zero last s e =
     let same : first ≡ last = omega (arith, e) in
@@ -139,20 +139,20 @@ climb_last below m first (suc n) last s e =
     bind_each (run below (operations first) m s) (climb below m (suc first) (suc n)) (climb below m (suc first) n) (run below (operations last) m)
     (λ x. climb_last below m (suc first) n last x (omega (arith, e)))
 
-climbs : (below : RunsBelow) (n : ℕ) (m : Mark) (s : State) → run below (operand n) m s ≡ (run below atom m s >>= climb below m 0 n)
+climbs : (below : RunsBelow Goal) (n : ℕ) (m : Mark) (s : State) → run below (operand n) m s ≡ (run below unary m s >>= climb below m 0 n)
 unfolding operand
-climbs below zero m s = sym (bind_end (run below atom m s))
+climbs below zero m s = sym (bind_end (run below unary m s))
 climbs below (suc n) m s =
     ap (λ w. w >>= run below (operations n) m) (climbs below n m s)
     ∙ sym
-    (bind_each (run below atom m s) (climb below m 0 (suc n)) (climb below m 0 n) (run below (operations n) m)
+    (bind_each (run below unary m s) (climb below m 0 (suc n)) (climb below m 0 n) (run below (operations n) m)
     (λ x. climb_last below m 0 n n x (omega arith)))
 
-pub operand_climbs : (below : RunsBelow) (n : ℕ) (m : Mark) (s : State)
-    → run below (operand n) m s ≡ (run below atom m s >>= climb below m 0 (n - 0))
+pub operand_climbs : (below : RunsBelow Goal) (n : ℕ) (m : Mark) (s : State)
+    → run below (operand n) m s ≡ (run below unary m s >>= climb below m 0 (n - 0))
 operand_climbs below n m s =
     let same : n ≡ n - 0 = omega arith in
-    climbs below n m s ∙ ap (λ k. run below atom m s >>= climb below m 0 k) same
+    climbs below n m s ∙ ap (λ k. run below unary m s >>= climb below m 0 k) same
 
 -- ** Numbers of ranks.
 

@@ -1,27 +1,17 @@
 -- Laws of solid tokens.
 use Rattle.std.proofs.Common.{◌≡◌, Bool, true, false, not, ◌||◌, ◌&&◌, if◌then◌else◌, List, [], ◌∷◌, drop, Some, None, refl, sym, ◌∙◌, ap}
+use Rattle.std.proofs.lemmas.Bool.{and_parts, not-true, or_parts}
 use Rattle.std.specs.Prelude.{Option}
 use Rattle.ssr_syntax_lex.specs.declared.kinds.SyntaxKind.{SyntaxKind}
 use Rattle.ssr_syntax_lex.specs.declared.kinds.SyntaxKind.TheVariants as k
 use Rattle.ssr_syntax_lex.specs.Kinds.{same_kind, is_trivia}
 use Rattle.ssr_syntax_lex.specs.declared.tokens.RawToken.{RawToken}
-use Rattle.ssr_syntax_lex.proofs.SameKinds.{same_kind-equal}
-use Rattle.ssr_syntax.specs.declared.tokens.Token.{Token}
+use Rattle.ssr_syntax_lex.proofs.Shared.{same_kind-equal}
+use Rattle.ssr_syntax_forms.specs.declared.tokens.Token.{Token}
 use Rattle.ssr_syntax.specs.Solid.{with_eq, with_r_angle, twice, joined, lengthened, is_joint, joined_two, joined_three, solid_token, solid_tokens}
 use Rattle.ssr_syntax.specs.Identifiers.{is_ident}
-use Rattle.ssr_syntax.proofs.Answers.{both, flipped}
-use Rattle.ssr_syntax.proofs.Members.{neither}
 use Rattle.ssr_syntax.proofs.Laid.{by_kind}
 use Rattle.ssr_syntax.proofs.Solidity.{AllSolid}
-
-pub three_joined : (first : RawToken) (ts : List RawToken) (two three : SyntaxKind) (joint : Bool) (others : List RawToken)
-    → Some two ≡ lengthened first.kind first.joint ts → joint ≡ is_joint ts → others ≡ drop 1 ts
-    → Some three ≡ lengthened two joint others
-    → ◌≡◌ {A = Token} (record { kind = first.kind; joined = three; size = 3 }) (solid_token first ts)
-three_joined first ts two three joint others e f g h =
-    let all : lengthened two (is_joint ts) (drop 1 ts) ≡ Some three =
-    ap (λ b. lengthened two b (drop 1 ts)) (sym f) ∙ ap (lengthened two joint) (sym g) ∙ sym h in
-    sym (ap (joined_two first.kind ts) (sym e) ∙ ap (joined_three first.kind two) all)
 
 -- ** Joined kinds.
 
@@ -89,17 +79,17 @@ are_joined kind two false ts e = cc
 are_joined kind two true [] e = cc
 are_joined kind two true (next ∷ ts) e =
     let marks : joins (Some two) next.kind kind ≡ true = ap (λ o. joins o next.kind kind) (sym e) ∙ joined_joins next.kind kind in
-    let first = both (is_mark two) (is_mark kind && is_mark next.kind) marks in
-    let second = both (is_mark kind) (is_mark next.kind) first.1 in
+    let first = and_parts (is_mark two) (is_mark kind && is_mark next.kind) marks in
+    let second = and_parts (is_mark kind) (is_mark next.kind) first.1 in
     record { next = next; others = ts; are = refl; both_mark = first.0; first_mark = second.0; next_mark = second.1 }
 
 -- ** Solid tokens are neither white space nor comments.
 
 pub mark_solid : (kind : SyntaxKind) → is_mark kind ≡ true → is_trivia kind ≡ false
-mark_solid kind h = (neither (is_trivia kind) (is_ident kind) (flipped (is_trivia kind || is_ident kind) h)).0
+mark_solid kind h = (or_parts (is_trivia kind) (is_ident kind) (not-true (is_trivia kind || is_ident kind) h)).0
 
 pub mark_no_ident : (kind : SyntaxKind) → is_mark kind ≡ true → is_ident kind ≡ false
-mark_no_ident kind h = (neither (is_trivia kind) (is_ident kind) (flipped (is_trivia kind || is_ident kind) h)).1
+mark_no_ident kind h = (or_parts (is_trivia kind) (is_ident kind) (not-true (is_trivia kind || is_ident kind) h)).1
 
 abbrev IsSolidToken : Token → Type 0
 IsSolidToken t = (is_trivia t.kind ≡ false) × (is_trivia t.joined ≡ false)

@@ -3,12 +3,11 @@ use Rattle.std.proofs.Common.{◌≡◌, ℕ, Bool, true, false, List, [], ◌�
 use Rattle.std.specs.Prelude.{⊤}
 use Rattle.ssr_syntax_lex.specs.declared.kinds.SyntaxKind.{SyntaxKind}
 use Rattle.ssr_syntax_lex.specs.Kinds.{is_trivia}
-use Rattle.ssr_syntax.specs.declared.tokens.Token.{Token}
+use Rattle.ssr_syntax_forms.specs.declared.tokens.Token.{Token}
 use Rattle.ssr_syntax.specs.declared.goals.Goal.{Goal}
-use Rattle.ssr_syntax.specs.Trees.{Forest, done, leaf, tree, join, spell, leaves}
-use Rattle.ssr_syntax.specs.Forms.{Productions, more, taken_as}
-use Rattle.ssr_syntax.proofs.Nested.{FitsGoal}
-use Rattle.ssr_syntax.proofs.Walks.{IsKept, any_token, any_node, anything, walk_goals}
+use Rattle.ssr_syntax_forms.specs.Trees.{Forest, done, leaf, tree, join, spell, leaves}
+use Rattle.ssr_syntax_forms.specs.Forms.{Productions, more, taken_as}
+use Rattle.ssr_syntax_forms.proofs.Shared.{FitsGoal, IsKept, any_token, any_node, anything, walk_goals}
 use Rattle.ssr_syntax.proofs.Laid.{AreSolid}
 
 -- a token of the grammar is a token, whole or its first part
@@ -36,7 +35,7 @@ keeps_taken = record {
   over = λ x y z us vs rest first second before. second (first before);
 }
 
-pub goals_taken : (grammar : Productions) (n : ℕ) (goal : Goal) (y : Forest) (us rest : List Token) → FitsGoal grammar n goal y us rest → AreTaken y
+pub goals_taken : (grammar : Productions Goal) (n : ℕ) (goal : Goal) (y : Forest) (us rest : List Token) → FitsGoal grammar n goal y us rest → AreTaken y
 goals_taken grammar n goal y us rest f =
     walk_goals any_token any_node (λ x z us rest. AreTaken x → AreTaken z) keeps_taken grammar (λ asked. anything (grammar asked)) n goal y us rest f tt
 

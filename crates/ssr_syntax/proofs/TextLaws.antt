@@ -1,5 +1,5 @@
 -- Laws of the reading of texts: its trees fit and spell the text, and what fits is read.
-use Rattle.std.proofs.Common.{◌≡◌, ℕ, zero, suc, ◌^◌, ◌<◌, ◌≤◌, Bool, true, false, ◌&&◌, if◌then◌else◌, List, [], length, Some, None, ◌⊎◌, inl, inr, refl, sym, ◌∙◌, ap, subst, arith}
+use Rattle.std.proofs.Common.{◌≡◌, ℕ, suc, ◌^◌, ◌<◌, ◌≤◌, Bool, true, false, ◌&&◌, if◌then◌else◌, List, [], length, Some, None, ◌⊎◌, inl, inr, refl, sym, ◌∙◌, ap, subst, arith}
 use Rattle.std.specs.Prelude.{nat_lt, reverse, Option, Result, Ok, Err, IfOk}
 use Rattle.std.specs.Result.{IsErr, IsErrAnd}
 use Rattle.std.specs.Str.{IsUtf8}
@@ -7,32 +7,29 @@ use Rattle.std.proofs.lemmas.Bool.{ltb-true, ltb-false, lt-ltb, le-ltb}
 use Rattle.ssr_syntax_lex.specs.declared.kinds.SyntaxKind.{SyntaxKind}
 use Rattle.ssr_syntax_lex.specs.declared.tokens.RawToken.{RawToken}
 use Rattle.ssr_syntax_lex.specs.Tokens.{tokens, spell as spelled_by}
-use Rattle.ssr_syntax_lex.proofs.Tiling.{tokens_tile, tiles_spell}
+use Rattle.ssr_syntax_lex.proofs.Shared.{tokens_tile, tiles_spell}
 use Rattle.ssr_syntax_tree.specs.Syntax.{Syntax, nothing, branch, depth_of, source_of}
 use Rattle.ssr_syntax.specs.declared.fragments.Fragment.{Fragment}
 use Rattle.ssr_syntax.specs.declared.goals.Goal.{Goal}
 use Rattle.ssr_syntax.specs.declared.goals.Goal.TheVariants as goals
-use Rattle.ssr_syntax.specs.declared.goals.Fault.{Fault}
-use Rattle.ssr_syntax.specs.declared.goals.Fault.TheVariants as faults
+use Rattle.ssr_syntax_forms.specs.declared.fault.Fault.{Fault}
+use Rattle.ssr_syntax_forms.specs.declared.fault.Fault.TheVariants as faults
 use Rattle.ssr_syntax.specs.declared.syntax_error.SyntaxError.{SyntaxError}
 use Rattle.ssr_syntax.specs.declared.syntax_error.SyntaxError.TheVariants as errors
-use Rattle.ssr_syntax.specs.Trees.{Forest, done, leaf, tree, leaves, IsShallow, height}
+use Rattle.ssr_syntax_forms.specs.Trees.{Forest, done, tree, leaves, IsShallow, height}
 use Rattle.ssr_syntax.specs.Lossless.{whole_tree, IsTrimmed}
-use Rattle.ssr_syntax.specs.Preorder.{most_deep}
+use Rattle.ssr_syntax.specs.Reading.{most_deep}
+use Rattle.ssr_syntax.specs.CoreTrees.{IsCore}
 use Rattle.ssr_syntax.specs.Solid.{solid_tokens}
-use Rattle.ssr_syntax.specs.Reading.{reading, most_levels, pieces, one_tree, tree_reading, lexed_reading, short_reading, file_reading, fragment_reading, trimmed, goal_of, begins_solid, error_of, Answers, AnswersTrimmed, FitsTokens, FitsFile, FitsFragment, IsTreeOfFile, IsTreeOfFragment, IsThatOrTooDeep, IsLexFault, Refuses}
+use Rattle.ssr_syntax.specs.Reading.{reading, most_levels, pieces, one_tree, tree_reading, lexed_reading, short_reading, file_reading, fragment_reading, trimmed, goal_of, begins_solid, error_of, Answers, AnswersTrimmed, FitsTokens, FitsFile, FitsFragment, IsTreeOfFile, IsTreeOfFragment, IsThatOrTooDeep, Refuses}
+use Rattle.ssr_syntax.specs.Private.Reading.{IsLexFault}
 use Rattle.ssr_syntax.proofs.Laid.{AreSolid}
 use Rattle.ssr_syntax.proofs.Trimmed.{trimmed-whole, trimmed-root}
 use Rattle.ssr_syntax.specs.Grammar.{grammar}
-use Rattle.ssr_syntax.proofs.Nested.{goals_by_rules}
+use Rattle.ssr_syntax_forms.proofs.Shared.{shallow_of, goals_by_rules}
+use Rattle.ssr_syntax.proofs.CoreTrees.{core_whole}
 use Rattle.ssr_syntax.proofs.Whole.{one_fits, reading_fits, reading_complete}
 use Rattle.ssr_syntax.proofs.Texts.{ReadsAs, is_read, read_given, reading_is, read_is, read_ok, read_too_deep, whole-depth, whole-source}
-
-shallow : (m : ℕ) (f : Forest) → height f ≤ m → IsShallow m f
-shallow m done h = tt
-shallow m (leaf kind us x) h = shallow m x h
-shallow zero (tree kind kids x) h = absurd (omega arith)
-shallow (suc m) (tree kind kids x) h = (shallow m kids (omega arith), shallow (suc m) x (omega arith))
 
 -- ** What is read fits.
 
@@ -86,13 +83,13 @@ told_whole goal text raw kind kids false r e = inl (read_ok goal text raw kind k
 deeper_than : (kind : SyntaxKind) (kids : Forest) (b : Bool) → nat_lt most_deep (height kids) ≡ b
     → (IsShallow (suc most_deep) (tree kind kids done) → ⊥) → most_deep < height kids
 deeper_than kind kids true e h = ltb-true most_deep (height kids) e
-deeper_than kind kids false e h = absurd (h (shallow most_deep kids (ltb-false most_deep (height kids) e), tt))
+deeper_than kind kids false e h = absurd (h (shallow_of kids most_deep (ltb-false most_deep (height kids) e), tt))
 
-pub tokens_complete : (goal : Goal) (text : List ℕ) (raw : List RawToken) (s : Syntax) → FitsTokens goal text raw s
+pub tokens_complete : (goal : Goal) (text : List ℕ) (raw : List RawToken) (s : Syntax) → IsCore s → FitsTokens goal text raw s
     → Told (tree_reading goal text raw) s
-tokens_complete goal text raw s (kind, kids, fits, is) =
+tokens_complete goal text raw s core (kind, kids, fits, is) =
     subst (Told (tree_reading goal text raw)) (sym is)
-    (elim (reading_complete goal (solid_tokens raw) (tree kind kids done) fits) [
+    (elim (reading_complete goal (solid_tokens raw) (tree kind kids done) (core_whole kind kids (pieces text raw) (subst IsCore is core)) fits) [
       | inl e ↦ told_whole goal text raw kind kids (nat_lt most_deep (height kids)) (read_given goal text raw kind kids e) refl
       | inr e ↦ inr (
         reading_is goal text raw (Err faults.TooDeep) e.0,
@@ -198,15 +195,15 @@ told_err : (read : Result Syntax SyntaxError) (s : Syntax) (e : SyntaxError) →
 told_err read s e (inl k) h = absurd (cc (h, k))
 told_err read s e (inr k) h = (cc (h, k.0), k.1)
 
-file_told : (text : List ℕ) (s : Syntax) → length text < 2 ^ 32 → FitsFile text s → Told (file_reading text) s
+file_told : (text : List ℕ) (s : Syntax) → length text < 2 ^ 32 → IsCore s → FitsFile text s → Told (file_reading text) s
 unfolding file_reading
-file_told text s lt (raw, e, fits) =
-    subst (λ w. Told w s) (sym (reads_short (tree_reading goals.File text) text text raw lt e)) (tokens_complete goals.File text raw s fits)
+file_told text s lt core (raw, e, fits) =
+    subst (λ w. Told w s) (sym (reads_short (tree_reading goals.File text) text text raw lt e)) (tokens_complete goals.File text raw s core fits)
 
-pub file_complete : (text : List ℕ) (s : Syntax) (r : Result Syntax SyntaxError) → length text < 2 ^ 32 → FitsFile text s
+pub file_complete : (text : List ℕ) (s : Syntax) (r : Result Syntax SyntaxError) → length text < 2 ^ 32 → IsCore s → FitsFile text s
     → Answers r (file_reading text) text → IsThatOrTooDeep (λ v. v) s r
-file_complete text s (Ok v) lt fits h = told_ok (file_reading text) s v (file_told text s lt fits) h
-file_complete text s (Err x) lt fits h = λ m. told_err (file_reading text) s x (file_told text s lt fits) (h.1 m)
+file_complete text s (Ok v) lt core fits h = told_ok (file_reading text) s v (file_told text s lt core fits) h
+file_complete text s (Err x) lt core fits h = λ m. told_err (file_reading text) s x (file_told text s lt core fits) (h.1 m)
 
 -- ** Fragments.
 
@@ -237,25 +234,20 @@ fragment_sound fragment text s utf8 e =
       trimmed_nodes = subst (λ v. IsTrimmed (branch v.kind v.children nothing)) t.3.3 (trimmed-root inner raw t.3.0 t.3.1 t.3.2 was.0);
     }
 
-pub fragment_answers : (fragment : Fragment) (text : List ℕ) (r : Result (Syntax × ℕ) SyntaxError) → IsUtf8 (trimmed text)
-    → AnswersTrimmed r (fragment_reading fragment text) text → IfOk r (λ v. IsTreeOfFragment fragment text v.0)
-fragment_answers fragment text (Ok v) utf8 h = fragment_sound fragment text v.0 utf8 h.0
-fragment_answers fragment text (Err e) utf8 h = tt
-
-fragment_told : (fragment : Fragment) (text : List ℕ) (s : Syntax) → length text < 2 ^ 32 → FitsFragment fragment text s
+fragment_told : (fragment : Fragment) (text : List ℕ) (s : Syntax) → length text < 2 ^ 32 → IsCore s → FitsFragment fragment text s
     → Told (fragment_reading fragment text) s
 unfolding fragment_reading
-fragment_told fragment text s lt (raw, e, outside, fits) =
+fragment_told fragment text s lt core (raw, e, outside, fits) =
     let inner : List ℕ = trimmed text in
     subst (λ w. Told w s)
     (sym (reads_short (fragment_reads fragment inner) inner text raw lt e
     ∙ ap (λ b. if b then tree_reading (goal_of fragment) inner raw else Err errors.NoTree) outside))
-    (tokens_complete (goal_of fragment) inner raw s fits)
+    (tokens_complete (goal_of fragment) inner raw s core fits)
 
 pub fragment_complete : (fragment : Fragment) (text : List ℕ) (s : Syntax) (r : Result (Syntax × ℕ) SyntaxError) → length text < 2 ^ 32
-    → FitsFragment fragment text s → AnswersTrimmed r (fragment_reading fragment text) text → IsThatOrTooDeep (λ v. v.0) s r
-fragment_complete fragment text s (Ok v) lt fits h = told_ok (fragment_reading fragment text) s v.0 (fragment_told fragment text s lt fits) h.0
-fragment_complete fragment text s (Err x) lt fits h = λ m. told_err (fragment_reading fragment text) s x (fragment_told fragment text s lt fits) (h.1 m)
+    → IsCore s → FitsFragment fragment text s → AnswersTrimmed r (fragment_reading fragment text) text → IsThatOrTooDeep (λ v. v.0) s r
+fragment_complete fragment text s (Ok v) lt core fits h = told_ok (fragment_reading fragment text) s v.0 (fragment_told fragment text s lt core fits) h.0
+fragment_complete fragment text s (Err x) lt core fits h = λ m. told_err (fragment_reading fragment text) s x (fragment_told fragment text s lt core fits) (h.1 m)
 
 pub fragment_too_long : (fragment : Fragment) (text : List ℕ) (e : SyntaxError) → (e ≡ errors.TooLong) × (2 ^ 32 ≤ length text)
     → Refuses e (fragment_reading fragment text) text
@@ -319,20 +311,22 @@ node_parts P kind other kids below e h =
     let same_kids : kids ≡ below = cc in
     subst (λ k. P k below) same_kind (subst (P kind) same_kids h)
 
-one_tokens : (goal : Goal) (text : List ℕ) (raw : List RawToken) (a b : Syntax)
+one_tokens : (goal : Goal) (text : List ℕ) (raw : List RawToken) (a b : Syntax) → IsCore a → IsCore b
     → FitsTokens goal text raw a → FitsTokens goal text raw b → a ≡ b
-one_tokens goal text raw a b (kind, kids, f, e) (other, below, g, d) =
-    let same = one_fits goal (solid_tokens raw) (tree kind kids done) (tree other below done) f g in
+one_tokens goal text raw a b core_a core_b (kind, kids, f, e) (other, below, g, d) =
+    let ts = pieces text raw in
+    let same = one_fits goal (solid_tokens raw) (tree kind kids done) (tree other below done)
+    (core_whole kind kids ts (subst IsCore e core_a)) (core_whole other below ts (subst IsCore d core_b)) f g in
     e
     ∙ node_parts (λ k l. whole_tree kind kids (pieces text raw) ≡ whole_tree k l (pieces text raw)) kind other kids below same refl
     ∙ sym d
 
-pub one_file : (text : List ℕ) (a b : Syntax) → FitsFile text a → FitsFile text b → a ≡ b
-one_file text a b (raw, e, f) (raws, d, g) =
+pub one_file : (text : List ℕ) (a b : Syntax) → IsCore a → IsCore b → FitsFile text a → FitsFile text b → a ≡ b
+one_file text a b core_a core_b (raw, e, f) (raws, d, g) =
     let same : raws ≡ raw = cc (d, e) in
-    one_tokens goals.File text raw a b f (subst (λ ts. FitsTokens goals.File text ts b) same g)
+    one_tokens goals.File text raw a b core_a core_b f (subst (λ ts. FitsTokens goals.File text ts b) same g)
 
-pub one_fragment : (fragment : Fragment) (text : List ℕ) (a b : Syntax) → FitsFragment fragment text a → FitsFragment fragment text b → a ≡ b
-one_fragment fragment text a b (raw, e, out, f) (raws, d, outside, g) =
+pub one_fragment : (fragment : Fragment) (text : List ℕ) (a b : Syntax) → IsCore a → IsCore b → FitsFragment fragment text a → FitsFragment fragment text b → a ≡ b
+one_fragment fragment text a b core_a core_b (raw, e, out, f) (raws, d, outside, g) =
     let same : raws ≡ raw = cc (d, e) in
-    one_tokens (goal_of fragment) (trimmed text) raw a b f (subst (λ ts. FitsTokens (goal_of fragment) (trimmed text) ts b) same g)
+    one_tokens (goal_of fragment) (trimmed text) raw a b core_a core_b f (subst (λ ts. FitsTokens (goal_of fragment) (trimmed text) ts b) same g)

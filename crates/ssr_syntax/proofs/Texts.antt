@@ -1,5 +1,5 @@
 -- The tree of a text: what a flat tree is made of, and its laws.
-use Rattle.std.proofs.Common.{◌≡◌, ℕ, zero, suc, ◌+◌, ◌^◌, ◌<◌, ◌≤◌, true, false, if◌then◌else◌, List, [], ◌∷◌, ◌++◌, length, map, refl, sym, ◌∙◌, ap, subst, arith, length-append}
+use Rattle.std.proofs.Common.{◌≡◌, ◌≢◌, ℕ, zero, suc, ◌+◌, ◌^◌, ◌<◌, ◌≤◌, true, false, if◌then◌else◌, List, [], ◌∷◌, ◌++◌, length, map, refl, sym, ◌∙◌, ap, subst, arith, length-append}
 use Rattle.std.specs.Prelude.{All, slice_index, get_or, nat_lt, Result, Ok, Err}
 use Rattle.std.specs.List.{AllByRecursion}
 use Rattle.std.specs.Result.{IsErr, IsErrAnd}
@@ -9,30 +9,32 @@ use Rattle.std.proofs.lemmas.List.Elements.{All-from_recursion}
 use Rattle.std.proofs.lemmas.Str.{IsUtf8-nil, IsUtf8-append}
 use Rattle.ssr_syntax_lex.specs.declared.kinds.SyntaxKind.{SyntaxKind}
 use Rattle.ssr_syntax_lex.specs.declared.tokens.RawToken.{RawToken}
-use Rattle.ssr_syntax_lex.specs.Tokens.{spell, Tiles}
+use Rattle.ssr_syntax_lex.specs.Tokens.{row_of, spell, Tiles}
 use Rattle.ssr_syntax_tree.specs.Syntax as plain
 use Rattle.ssr_syntax_tree.specs.Syntax.{Syntax, depth_of, source_of, tokens_of}
 use Rattle.ssr_syntax_tree.specs.Places.{nodes_of, nodes_in, root_of}
 use Rattle.ssr_syntax_tree.specs.Parts.{AreParts, node_row, token_rows}
 use Rattle.ssr_syntax_tree.specs.declared.rows.NodeRow.{NodeRow}
-use Rattle.ssr_syntax_tree.specs.declared.rows.TokenRow.{TokenRow}
-use Rattle.ssr_syntax.specs.declared.tokens.Token.{Token}
-use Rattle.ssr_syntax.specs.declared.rows.Taken.{Taken}
+use Rattle.ssr_syntax_lex.specs.declared.token_rows.TokenRow.{TokenRow}
+use Rattle.ssr_syntax_forms.specs.declared.tokens.Token.{Token}
+use Rattle.ssr_syntax_forms.specs.declared.rows.Taken.{Taken}
 use Rattle.ssr_syntax.specs.declared.goals.Goal.{Goal}
-use Rattle.ssr_syntax.specs.declared.goals.Fault.{Fault}
+use Rattle.ssr_syntax_forms.specs.declared.fault.Fault.{Fault}
+use Rattle.ssr_syntax_forms.specs.declared.fault.Fault.TheVariants as faults
 use Rattle.ssr_syntax.specs.declared.syntax_error.SyntaxError.{SyntaxError}
 use Rattle.ssr_syntax.specs.declared.syntax_error.SyntaxError.TheVariants as errors
-use Rattle.ssr_syntax.specs.Trees.{Forest, nodes, height, leaves}
-use Rattle.ssr_syntax.specs.Trees as solid
+use Rattle.ssr_syntax_forms.specs.Trees.{Forest, nodes, height, leaves}
+use Rattle.ssr_syntax_forms.specs.Trees as solid
 use Rattle.ssr_syntax.specs.Grammar.{grammar}
+use Rattle.ssr_syntax.proofs.Checks.{goal_makes_node}
 use Rattle.ssr_syntax.specs.Lossless.{gap, behind_gap, upto, past, lossless, whole_tree}
-use Rattle.ssr_syntax.specs.Preorder.{tree_rows, node_rows, first_at, most_deep, IsDepthFault, most_nodes}
+use Rattle.ssr_syntax.specs.Private.Preorder.{tree_rows, node_rows, first_at, IsDepthFault, most_nodes}
+use Rattle.ssr_syntax.specs.Reading.{most_deep}
 use Rattle.ssr_syntax.specs.Solid.{solid_tokens}
-use Rattle.ssr_syntax.specs.TreeTokens.{taken_rows, ends}
+use Rattle.ssr_syntax.specs.Private.TreeTokens.{taken_rows, ends}
 use Rattle.ssr_syntax.specs.Reading.{pieces, reading, most_levels, tree_reading, one_tree, unless_too_deep, error_of, Refuses, Answers}
 use Rattle.ssr_syntax.proofs.Whole.{reading_fits, reading_spells}
-use Rattle.ssr_syntax.proofs.Lone.{goals_lone}
-use Rattle.ssr_syntax.proofs.Joins.{length-rows}
+use Rattle.ssr_syntax_forms.proofs.Shared.{goals_lone, length-rows}
 use Rattle.ssr_syntax.proofs.Laid.{AreSolid, total, total-leaves, token_of, laid, all_laid, spelled-laid, Counts, counts_same, upto-zero, past-zero, upto-past, upto-behind_gap, tokens-behind, tokens-lossless, token_count-tokens, count-behind, count-lossless, nodes-behind, rows-lossless, height-behind, height-lossless}
 use Rattle.ssr_syntax.proofs.Solidity.{AreTaken, goals_taken, AllSolid, leaves_solid}
 use Rattle.ssr_syntax.proofs.SolidLaws.{all_solid}
@@ -59,18 +61,18 @@ root_row kind below past count e f =
 
 -- the counts of a text's tokens
 abbrev pub at_ends : List Taken → List RawToken → ℕ → ℕ
-at_ends us raw i = slice_index (0 ∷ ends 0 0 us raw) i
+at_ends us raw i = slice_index (0 ∷ ends 0 0 us (map row_of raw)) i
 
 counted : (text : List ℕ) (us : List Taken) (raw : List RawToken) → AreSolid us → total us ≤ length (solid_tokens raw)
     → Counts (at_ends us raw) 0 0 us (pieces text raw)
 counted text us raw are few =
-    let next : (j : ℕ) → j < 0 + total us → at_ends us raw (0 + 1 + j) ≡ get_or (ends 0 0 us raw) j 0 =
+    let next : (j : ℕ) → j < 0 + total us → at_ends us raw (0 + 1 + j) ≡ get_or (ends 0 0 us (map row_of raw)) j 0 =
     λ j lt. (let same : 0 + 1 + j ≡ suc j = omega arith in ap (at_ends us raw) same) in
     counts_same (at_ends us raw) 0 0 (0 + 0) 0 us (past zero (pieces text raw)) (pieces text raw) refl refl (past-zero (pieces text raw))
     (counts_of text (at_ends us raw) 0 0 0 us raw are (omega arith) next)
 
 laid_rows : (text : List ℕ) (us : List Taken) (raw : List RawToken) → Tiles text raw → AreSolid us → total us ≤ length (solid_tokens raw)
-    → taken_rows 0 us raw ≡ token_rows 0 (all_laid us (pieces text raw))
+    → taken_rows 0 us (map row_of raw) ≡ token_rows 0 (all_laid us (pieces text raw))
 laid_rows text us raw tiles are few =
     let none : 0 + length (plain.spelled (upto zero (pieces text raw))) ≡ 0 =
     omega (arith, ap (λ l. length (plain.spelled l)) (upto-zero (pieces text raw))) in
@@ -80,14 +82,14 @@ laid_rows text us raw tiles are few =
 
 pub whole-rows : (text : List ℕ) (raw : List RawToken) (kind : SyntaxKind) (kids : Forest) → Tiles text raw
     → AreSolid (leaves kids) → total (leaves kids) ≤ length (solid_tokens raw)
-    → tree_rows (at_ends (leaves kids) raw) (length (taken_rows 0 (leaves kids) raw)) kind kids
+    → tree_rows (at_ends (leaves kids) raw) (length (taken_rows 0 (leaves kids) (map row_of raw))) kind kids
     ≡ map node_row (nodes_of (whole_tree kind kids (pieces text raw)))
 whole-rows text raw kind kids tiles are few =
     let ts = pieces text raw in
     let us = leaves kids in
     let outside = past (length (solid.spell kids)) ts in
     let below : plain.Forest = plain.Syntax.children (whole_tree kind kids ts) in
-    let many : ℕ = length (taken_rows 0 us raw) in
+    let many : ℕ = length (taken_rows 0 us (map row_of raw)) in
     let tokens : plain.token_count below ≡ many =
     token_count-tokens below ∙ ap length (whole-tokens kind kids ts are) ∙ sym (length-token_rows 0 (all_laid us ts))
     ∙ ap length (sym (laid_rows text us raw tiles are few)) in
@@ -136,8 +138,8 @@ texts_laid (u ∷ us) ts h =
 pub whole_parts : (text : List ℕ) (raw : List RawToken) (kind : SyntaxKind) (kids : Forest) (source : List ℕ) (tokens : List TokenRow) (rows : List NodeRow)
     → IsUtf8 text → length text < 2 ^ 32 → Tiles text raw → spell text raw ≡ text
     → AreSolid (leaves kids) → total (leaves kids) ≤ length (solid_tokens raw)
-    → source ≡ text → tokens ≡ taken_rows 0 (leaves kids) raw
-    → rows ≡ tree_rows (at_ends (leaves kids) raw) (length (taken_rows 0 (leaves kids) raw)) kind kids → length rows < 2 ^ 32
+    → source ≡ text → tokens ≡ taken_rows 0 (leaves kids) (map row_of raw)
+    → rows ≡ tree_rows (at_ends (leaves kids) raw) (length (taken_rows 0 (leaves kids) (map row_of raw))) kind kids → length rows < 2 ^ 32
     → AreParts source tokens rows (whole_tree kind kids (pieces text raw))
 whole_parts text raw kind kids source tokens rows utf8 short tiles spells are few source_is tokens_is rows_is count =
     let ts = pieces text raw in
@@ -200,7 +202,7 @@ read_given goal text raw kind kids e =
 
 pub is_read : (goal : Goal) (text : List ℕ) (raw : List RawToken) (z : Forest) → reading goal (solid_tokens raw) ≡ Ok z → IsRead goal text raw z
 is_read goal text raw z e =
-    let node = goals_lone most_levels goal z (solid_tokens raw) [] (reading_fits goal (solid_tokens raw) z e) in
+    let node = goals_lone grammar goal_makes_node most_levels goal z (solid_tokens raw) [] (reading_fits goal (solid_tokens raw) z e) in
     (node.0, node.1, node.2, read_given goal text raw node.0 node.1 (e ∙ ap Ok node.2))
 
 pub reading_is : (goal : Goal) (text : List ℕ) (raw : List RawToken) (r : Result Forest Fault) → reading goal (solid_tokens raw) ≡ r
@@ -240,6 +242,17 @@ depth_fault goal text raw kind kids errors.Memory lt r h = wants_memory (tree_re
 depth_fault goal text raw kind kids errors.Lex lt r h = absurd h
 depth_fault goal text raw kind kids errors.NoTree lt r h = absurd h
 depth_fault goal text raw kind kids errors.TooLong lt r h = absurd h
+
+-- so is the fault of the parser, which was given the solid tokens
+pub parser_fault : (goal : Goal) (text : List ℕ) (raw : List RawToken) (given : List Token) (f : Fault) → length text < 2 ^ 32
+    → given ≡ solid_tokens raw → (f ≢ faults.Memory → reading goal given ≡ Err f) → Refuses (error_of f) (tree_reading goal text raw) text
+parser_fault goal text raw given faults.NoTree lt same h =
+    refused errors.NoTree (tree_reading goal text raw) text lt
+    (reading_is goal text raw (Err faults.NoTree) (ap (reading goal) (sym same) ∙ h (λ e. cc)))
+parser_fault goal text raw given faults.TooDeep lt same h =
+    refused errors.TooDeep (tree_reading goal text raw) text lt
+    (reading_is goal text raw (Err faults.TooDeep) (ap (reading goal) (sym same) ∙ h (λ e. cc)))
+parser_fault goal text raw given faults.Memory lt same h = wants_memory (tree_reading goal text raw) text lt
 
 -- a fault is told on
 pub told_on : (x : SyntaxError) (r read : Result Syntax SyntaxError) (text : List ℕ) → IsErr r → IsErrAnd r (λ e. e ≡ x) → Refuses x read text

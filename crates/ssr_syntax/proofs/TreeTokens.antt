@@ -1,17 +1,17 @@
 -- Laws of the walk over a text's tokens and those that were taken: the rows and the counts are those of the lossless tree.
-use Rattle.std.proofs.Common.{◌≡◌, ℕ, zero, suc, ◌+◌, ◌-◌, ◌<◌, ◌≤◌, true, false, if◌then◌else◌, List, [], ◌∷◌, ◌++◌, length, refl, sym, ◌∙◌, ap, arith, append_assoc, length-append}
+use Rattle.std.proofs.Common.{◌≡◌, ℕ, zero, suc, ◌+◌, ◌-◌, ◌<◌, ◌≤◌, true, false, if◌then◌else◌, List, [], ◌∷◌, ◌++◌, length, map, refl, sym, ◌∙◌, ap, arith, append_assoc, length-append}
 use Rattle.std.specs.Prelude.{get_or}
 use Rattle.ssr_syntax_lex.specs.declared.kinds.SyntaxKind.{SyntaxKind}
 use Rattle.ssr_syntax_lex.specs.Kinds.{is_trivia}
-use Rattle.ssr_syntax_lex.specs.Tokens.{token_text, TilesFrom}
+use Rattle.ssr_syntax_lex.specs.Tokens.{token_text, row_of, TilesFrom}
 use Rattle.ssr_syntax_lex.specs.declared.tokens.RawToken.{RawToken}
-use Rattle.ssr_syntax_tree.specs.declared.rows.TokenRow.{TokenRow}
+use Rattle.ssr_syntax_lex.specs.declared.token_rows.TokenRow.{TokenRow}
 use Rattle.ssr_syntax_tree.specs.Syntax as plain
 use Rattle.ssr_syntax_tree.specs.Parts.{token_rows}
-use Rattle.ssr_syntax.specs.declared.rows.Taken.{Taken}
+use Rattle.ssr_syntax_forms.specs.declared.rows.Taken.{Taken}
 use Rattle.ssr_syntax.specs.Lossless.{trivia, behind_trivia, gap, behind_gap, upto, past}
 use Rattle.ssr_syntax.specs.Solid.{solid_token, solid_tokens}
-use Rattle.ssr_syntax.specs.TreeTokens.{taken_rows, ends}
+use Rattle.ssr_syntax.specs.Private.TreeTokens.{taken_rows, ends}
 use Rattle.ssr_syntax.specs.Reading.{pieces}
 use Rattle.ssr_syntax.proofs.Laid.{AreSolid, total, token_of, laid, all_laid, Counts, by_kind, upto-zero, past-zero, past-add, counts_same}
 use Rattle.ssr_syntax.proofs.Tiles.{tiles_within, length-token}
@@ -99,7 +99,7 @@ no_spelled ts = ap (λ l. length (plain.spelled l)) (upto-zero ts)
 
 abbrev IsLaid : List ℕ → ℕ → ℕ → List Taken → List RawToken → Type 0
 IsLaid text start left us raw =
-    taken_rows left us raw ≡ token_rows (start + count_spelled left (pieces text raw)) (all_laid us (past left (pieces text raw)))
+    taken_rows left us (map row_of raw) ≡ token_rows (start + count_spelled left (pieces text raw)) (all_laid us (past left (pieces text raw)))
 
 pub rows_laid : (text : List ℕ) (start left : ℕ) (us : List Taken) (raw : List RawToken) → TilesFrom text start raw → AreSolid us
     → left + total us ≤ length (solid_tokens raw) → IsLaid text start left us raw
@@ -110,7 +110,7 @@ rows_laid text start zero [] (t ∷ ts) tiles s le =
     let p : plain.Token = record { kind = t.kind; text = token_text text t } in
     let none : 0 + total [] ≤ length (solid_tokens ts) = omega arith in
     let long : length p.text ≡ t.range.end - start = length-token text t start tiles.0 (tiles_within text t.range.end ts tiles.3) in
-    next_row t.kind t.range.start (start + 0) (t.range.end + count_spelled zero ps) (start + 0 + length p.text) (taken_rows zero [] ts)
+    next_row t.kind t.range.start (start + 0) (t.range.end + count_spelled zero ps) (start + 0 + length p.text) (taken_rows zero [] (map row_of ts))
     (past zero (past zero ps)) ps
     (omega (arith, tiles.0)) (rows_laid text t.range.end zero [] ts tiles.3 tt none) (omega (arith, no_spelled ps, tiles.1))
     (past-zero (past zero ps) ∙ past-zero ps)
@@ -120,10 +120,10 @@ rows_laid text start zero (u ∷ us) (t ∷ ts) tiles s le =
     let p : plain.Token = record { kind = t.kind; text = token_text text t } in
     let long : length p.text ≡ t.range.end - start = length-token text t start tiles.0 (tiles_within text t.range.end ts tiles.3) in
     by_kind (λ b. 0 + total (u ∷ us) ≤ length (if b then solid_tokens ts else solid_token t ts ∷ solid_tokens ts)
-    → (if b then row t.kind t.range.start ∷ taken_rows zero (u ∷ us) ts else (row u.kind t.range.start ∷ taken_rows (n - 1) us ts))
+    → (if b then row t.kind t.range.start ∷ taken_rows zero (u ∷ us) (map row_of ts) else (row u.kind t.range.start ∷ taken_rows (n - 1) us (map row_of ts)))
     ≡ token_rows (start + 0) (all_laid (u ∷ us) (p ∷ ps))) p
     (λ e k.
-    next_row t.kind t.range.start (start + 0) (t.range.end + count_spelled zero ps) (start + 0 + length p.text) (taken_rows zero (u ∷ us) ts)
+    next_row t.kind t.range.start (start + 0) (t.range.end + count_spelled zero ps) (start + 0 + length p.text) (taken_rows zero (u ∷ us) (map row_of ts))
     (all_laid (u ∷ us) (past zero ps)) (all_laid (u ∷ us) ps)
     (omega (arith, tiles.0)) (rows_laid text t.range.end zero (u ∷ us) ts tiles.3 s k) (omega (arith, no_spelled ps, tiles.1))
     (ap (all_laid (u ∷ us)) (past-zero ps))
@@ -134,7 +134,7 @@ rows_laid text start zero (u ∷ us) (t ∷ ts) tiles s le =
     let longer : length (plain.spelled (p ∷ upto (n - 1) ps)) ≡ length p.text + count_spelled (n - 1) ps =
     length-append p.text (plain.spelled (upto (n - 1) ps)) in
     next_row u.kind t.range.start (start + 0) (t.range.end + count_spelled (n - 1) ps)
-    (start + 0 + length (plain.spelled (p ∷ upto (n - 1) ps))) (taken_rows (n - 1) us ts) rest rest
+    (start + 0 + length (plain.spelled (p ∷ upto (n - 1) ps))) (taken_rows (n - 1) us (map row_of ts)) rest rest
     (omega (arith, tiles.0)) (rows_laid text t.range.end (n - 1) us ts tiles.3 s.2 less) (omega (arith, tiles.1)) refl
     ∙ ap (token_rows (start + 0)) (sym (all-first u us p ps (is_first n p ps s.0 e))))
     le
@@ -143,14 +143,14 @@ rows_laid text start (suc n) us (t ∷ ts) tiles s le =
     let p : plain.Token = record { kind = t.kind; text = token_text text t } in
     let long : length p.text ≡ t.range.end - start = length-token text t start tiles.0 (tiles_within text t.range.end ts tiles.3) in
     let step : (left : ℕ) → left + total us ≤ length (solid_tokens ts)
-    → taken_rows left us ts ≡ token_rows (start + length (plain.spelled (p ∷ upto left ps))) (all_laid us (past left ps)) =
+    → taken_rows left us (map row_of ts) ≡ token_rows (start + length (plain.spelled (p ∷ upto left ps))) (all_laid us (past left ps)) =
     λ left k. rows_laid text t.range.end left us ts tiles.3 s k
     ∙ ap (λ m. token_rows m (all_laid us (past left ps)))
     (let longer : length (plain.spelled (p ∷ upto left ps)) ≡ length p.text + count_spelled left ps =
     length-append p.text (plain.spelled (upto left ps)) in
     omega (arith, tiles.1)) in
     by_kind (λ b. suc n + total us ≤ length (if b then solid_tokens ts else solid_token t ts ∷ solid_tokens ts)
-    → taken_rows (if b then suc n else n) us ts
+    → taken_rows (if b then suc n else n) us (map row_of ts)
     ≡ token_rows (start + length (plain.spelled (p ∷ upto (if b then suc n else n) ps))) (all_laid us (past (if b then suc n else n) ps))) p
     (λ e k. step (suc n) k)
     (λ e k. step n (omega arith))
@@ -170,21 +170,21 @@ also_first n counts left (suc j) h lt = h j (omega arith)
 
 -- up to each part that is left of one token
 parts_counted : (before left : ℕ) (us : List Taken) (raw : List RawToken) (j : ℕ) → j < left → left ≤ length (solid_tokens raw)
-    → get_or (ends before left us raw) j 0 ≡ before
+    → get_or (ends before left us (map row_of raw)) j 0 ≡ before
 parts_counted before zero us raw j lt le = absurd (omega arith)
 parts_counted before (suc n) us [] j lt le = absurd (omega arith)
 parts_counted before (suc n) us (t ∷ ts) j lt le =
     by_kind (λ b. suc n ≤ length (if b then solid_tokens ts else solid_token t ts ∷ solid_tokens ts)
-    → get_or (if b then ends before (suc n) us ts else (before ∷ ends before n us ts)) j 0 ≡ before) (record { kind = t.kind; text = [] })
+    → get_or (if b then ends before (suc n) us (map row_of ts) else (before ∷ ends before n us (map row_of ts))) j 0 ≡ before) (record { kind = t.kind; text = [] })
     (λ e k. parts_counted before (suc n) us ts j lt k)
-    (λ e k. also_first before (ends before n us ts) n j (λ i less. parts_counted before n us ts i less (omega arith)) (omega arith))
+    (λ e k. also_first before (ends before n us (map row_of ts)) n j (λ i less. parts_counted before n us ts i less (omega arith)) (omega arith))
     le
 
 -- up to each part of a token
 all_parts_counted : (before left : ℕ) (us : List Taken) (raw : List RawToken) (j : ℕ) → j < 1 + left → left ≤ length (solid_tokens raw)
-    → get_or (before ∷ ends before left us raw) j 0 ≡ before
+    → get_or (before ∷ ends before left us (map row_of raw)) j 0 ≡ before
 all_parts_counted before left us raw j lt le =
-    also_first before (ends before left us raw) left j (λ i less. parts_counted before left us raw i less le) lt
+    also_first before (ends before left us (map row_of raw)) left j (λ i less. parts_counted before left us raw i less le) lt
 
 -- the counts of the next solid ones
 abbrev AreNext : (ℕ → ℕ) → ℕ → ℕ → List ℕ → Type 0
@@ -222,7 +222,7 @@ counts_first at before i u us p ps lt f e d h =
     )
 
 pub counts_of : (text : List ℕ) (at : ℕ → ℕ) (before i left : ℕ) (us : List Taken) (raw : List RawToken) → AreSolid us
-    → left + total us ≤ length (solid_tokens raw) → AreNext at i (left + total us) (ends before left us raw)
+    → left + total us ≤ length (solid_tokens raw) → AreNext at i (left + total us) (ends before left us (map row_of raw))
     → Counts at before (i + left) us (past left (pieces text raw))
 counts_of text at before i left [] raw s le h = tt
 counts_of text at before i left (u ∷ us) [] s le h = absurd (omega (arith, s.0))
@@ -232,13 +232,13 @@ counts_of text at before i zero (u ∷ us) (t ∷ ts) s le h =
     let p : plain.Token = record { kind = t.kind; text = token_text text t } in
     let all : ℕ = total (u ∷ us) in
     by_kind (λ b. 0 + all ≤ length (if b then solid_tokens ts else solid_token t ts ∷ solid_tokens ts)
-    → AreNext at i (0 + all) (if b then ends (1 + before) zero (u ∷ us) ts else ((1 + before) ∷ ends (1 + before) (n - 1) us ts))
+    → AreNext at i (0 + all) (if b then ends (1 + before) zero (u ∷ us) (map row_of ts) else ((1 + before) ∷ ends (1 + before) (n - 1) us (map row_of ts)))
     → Counts at before (i + 0) (u ∷ us) (p ∷ ps)) p
     (λ e k next. counts_in_front at before (i + 0) u us p ps (in_front n p ps s.0 e)
     (counts_same at (1 + before) (1 + before) (i + 0) (i + 0) (u ∷ us) (past zero ps) ps refl refl (past-zero ps)
     (counts_of text at (1 + before) i zero (u ∷ us) ts s k next)))
     (λ e k next.
-    let counts = ends (1 + before) (n - 1) us ts in
+    let counts = ends (1 + before) (n - 1) us (map row_of ts) in
     let fits : n - 1 + total us ≤ length (solid_tokens ts) = omega (arith, s.0) in
     let behind = next_behind at i (n - 1 + total us) (1 + before) counts
     (fewer at i (1 + (n - 1 + total us)) (0 + all) ((1 + before) ∷ counts) (omega (arith, s.0)) next) in
@@ -256,11 +256,11 @@ counts_of text at before i (suc n) (u ∷ us) (t ∷ ts) s le h =
     let p : plain.Token = record { kind = t.kind; text = token_text text t } in
     let all : ℕ = total (u ∷ us) in
     by_kind (λ b. suc n + all ≤ length (if b then solid_tokens ts else solid_token t ts ∷ solid_tokens ts)
-    → AreNext at i (suc n + all) (if b then ends before (suc n) (u ∷ us) ts else (before ∷ ends before n (u ∷ us) ts))
+    → AreNext at i (suc n + all) (if b then ends before (suc n) (u ∷ us) (map row_of ts) else (before ∷ ends before n (u ∷ us) (map row_of ts)))
     → Counts at before (i + suc n) (u ∷ us) (past (if b then suc n else n) ps)) p
     (λ e k next. counts_of text at before i (suc n) (u ∷ us) ts s k next)
     (λ e k next.
-    let counts = ends before n (u ∷ us) ts in
+    let counts = ends before n (u ∷ us) (map row_of ts) in
     let behind = next_behind at i (n + all) before counts
     (fewer at i (1 + (n + all)) (suc n + all) (before ∷ counts) (omega arith) next) in
     counts_same at before before (i + 1 + n) (i + suc n) (u ∷ us) (past n ps) (past n ps) refl (omega arith) refl

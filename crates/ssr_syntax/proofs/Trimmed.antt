@@ -1,5 +1,6 @@
 -- No node below the root begins or ends with white space or a comment.
 use Rattle.std.proofs.Common.{◌≡◌, ℕ, zero, suc, ◌+◌, true, false, ◌&&◌, if◌then◌else◌, List, [], ◌∷◌, ◌++◌, length, refl, sym, ◌∙◌, ap, arith}
+use Rattle.std.proofs.lemmas.Bool.{and_parts, not-true}
 use Rattle.std.specs.Prelude.{reverse}
 use Rattle.std.proofs.lemmas.List.{append-nil, reverse-append, reverse-reverse, map-append}
 use Rattle.ssr_syntax_lex.specs.declared.kinds.SyntaxKind.{SyntaxKind}
@@ -7,11 +8,10 @@ use Rattle.ssr_syntax_lex.specs.Kinds.{is_trivia}
 use Rattle.ssr_syntax_lex.specs.Tokens.{token_text}
 use Rattle.ssr_syntax_lex.specs.declared.tokens.RawToken.{RawToken}
 use Rattle.ssr_syntax_tree.specs.Syntax as plain
-use Rattle.ssr_syntax.specs.declared.rows.Taken.{Taken}
-use Rattle.ssr_syntax.specs.Trees as solid
+use Rattle.ssr_syntax_forms.specs.declared.rows.Taken.{Taken}
+use Rattle.ssr_syntax_forms.specs.Trees as solid
 use Rattle.ssr_syntax.specs.Lossless.{trivia, gap, behind_gap, upto, past, before, behind, lossless, whole_tree, begins_with_trivia, IsTrimmed}
 use Rattle.ssr_syntax.specs.Reading.{pieces, begins_solid}
-use Rattle.ssr_syntax.proofs.Answers.{both, flipped}
 use Rattle.ssr_syntax.proofs.Laid.{AreSolid, total, total-leaves, token_of, laid, all_laid, solid-append, gap-behind, past-zero, upto-past, tokens-lossless}
 use Rattle.ssr_syntax.proofs.Texts.{whole-tokens}
 
@@ -97,13 +97,13 @@ reversed_pieces text (t ∷ ts) =
 
 begins : (text : List ℕ) (raw : List RawToken) → begins_solid raw ≡ true → begins_with_trivia (pieces text raw) ≡ false
 begins text [] h = refl
-begins text (t ∷ ts) h = flipped (is_trivia t.kind) h
+begins text (t ∷ ts) h = not-true (is_trivia t.kind) h
 
 -- the text's tokens begin and end with solid ones
 pub solid_sides : (text : List ℕ) (raw : List RawToken) → (begins_solid raw && begins_solid (reverse raw)) ≡ true
     → (begins_with_trivia (pieces text raw) ≡ false) × (begins_with_trivia (reverse (pieces text raw)) ≡ false)
 solid_sides text raw outside =
-    let sides = both (begins_solid raw) (begins_solid (reverse raw)) outside in
+    let sides = and_parts (begins_solid raw) (begins_solid (reverse raw)) outside in
     (begins text raw sides.0, ap begins_with_trivia (reversed_pieces text raw) ∙ begins text (reverse raw) sides.1)
 
 no_trivia : (n : ℕ) (ts : List plain.Token) → begins_with_trivia ts ≡ false → gap n ts ≡ []

@@ -4,7 +4,7 @@ use Rattle.ssr_syntax_lex.specs.Kinds.{same_kind}
 use Rattle.ssr_syntax_lex.specs.declared.kinds.SyntaxKind.{SyntaxKind}
 use Rattle.ssr_syntax_lex.specs.declared.kinds.SyntaxKind.TheVariants as k
 use Rattle.ssr_syntax_tree.specs.Syntax.{Forest, nothing, leaf, branch, Syntax}
-use Rattle.ssr_syntax.specs.Kinds.{mem}
+use Rattle.ssr_syntax_forms.specs.Kinds.{mem}
 
 -- the nodes that are core wherever they stand
 abbrev pub core_kinds : List SyntaxKind

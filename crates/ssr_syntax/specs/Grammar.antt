@@ -2,11 +2,11 @@
 use Rattle.std.specs.Prelude.{length}
 use Rattle.ssr_syntax.specs.declared.goals.Goal.{Goal}
 use Rattle.ssr_syntax.specs.declared.goals.Goal.TheVariants.{File, Expr, Operand}
-use Rattle.ssr_syntax.specs.Forms.{Form}
+use Rattle.ssr_syntax_forms.specs.Forms.{Form}
 use Rattle.ssr_syntax.specs.Expressions as expr
 use Rattle.ssr_syntax.specs.Items as item
 
-unfoldable pub grammar : Goal → Form
+unfoldable pub grammar : Goal → Form Goal
 grammar File = item.source_file
 grammar Expr = expr.operand (length expr.ranks)
 grammar (Operand r) = expr.operand (expr.at_most r expr.ranks)

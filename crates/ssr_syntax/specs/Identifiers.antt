@@ -1,9 +1,10 @@
--- Identifiers: those of a list of tokens, and trees in which they stand alone, each as the only child of its node.
+-- Identifiers: those of a list of tokens, and trees in which they stand alone, each as the only child of its node, but
+-- for the nodes that are made to mix them with other tokens.
 use Rattle.std.specs.Prelude.{◌≡◌, ⊤, Bool, true, false, not, ◌||◌, List, [], ◌∷◌, filter}
 use Rattle.ssr_syntax_lex.specs.declared.kinds.SyntaxKind.{SyntaxKind}
-use Rattle.ssr_syntax_lex.specs.declared.kinds.SyntaxKind.TheVariants.{IDENT}
+use Rattle.ssr_syntax_lex.specs.declared.kinds.SyntaxKind.TheVariants.{IDENT, TOKEN_TREE, MACRO_RULES}
 use Rattle.ssr_syntax_tree.specs.Syntax.{Token, Forest, nothing, leaf, branch, Syntax}
-use Rattle.ssr_syntax.specs.Kinds.{mem}
+use Rattle.ssr_syntax_forms.specs.Kinds.{mem}
 
 abbrev pub is_ident : SyntaxKind → Bool
 is_ident kind = mem kind (IDENT ∷ [])
@@ -23,11 +24,19 @@ abbrev pub stand_alone : Forest → Bool
 stand_alone (leaf token nothing) = true
 stand_alone children = not (has_ident children)
 
--- no node among the siblings or below them has an identifier beside other children
+-- the nodes in which identifiers stand beside other children: lists of raw tokens, and what begins with the
+-- identifier `macro_rules`
+abbrev pub mixing_kinds : List SyntaxKind
+mixing_kinds = TOKEN_TREE ∷ MACRO_RULES ∷ []
+
+abbrev pub is_mixing : SyntaxKind → Bool
+is_mixing kind = mem kind mixing_kinds
+
+-- no other node among the siblings or below them has an identifier beside other children
 abbrev pub IdentsAlone : Forest → Type 0
 IdentsAlone nothing = ⊤
 IdentsAlone (leaf token next) = IdentsAlone next
-IdentsAlone (branch kind below next) = (stand_alone below ≡ true) × IdentsAlone below × IdentsAlone next
+IdentsAlone (branch kind below next) = ((is_mixing kind || stand_alone below) ≡ true) × IdentsAlone below × IdentsAlone next
 
 -- nor the root
 abbrev pub IdentsAloneIn : Syntax → Type 0

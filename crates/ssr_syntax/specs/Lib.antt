@@ -1,9 +1,3 @@
-pub mod Kinds
-pub mod Trees
-pub mod Forms
-pub mod Fitting
-pub mod Runs
-pub mod Levels
 pub mod Paths
 pub mod Expressions
 pub mod Items
@@ -14,9 +8,6 @@ pub mod Operands
 pub mod Lossless
 pub mod CoreTrees
 pub mod Identifiers
-pub mod Preorder
-pub mod OpenNodes
-pub mod Turning
 pub mod Solid
-pub mod TreeTokens
 pub mod Reading
+pub mod Private

@@ -4,7 +4,7 @@ use Rattle.std.specs.Prelude.{ℕ, zero, suc, if◌then◌else◌, ⊤, ◌≡�
 use Rattle.ssr_syntax_lex.specs.declared.kinds.SyntaxKind.{SyntaxKind}
 use Rattle.ssr_syntax_lex.specs.Kinds.{is_trivia}
 use Rattle.ssr_syntax_tree.specs.Syntax as plain
-use Rattle.ssr_syntax.specs.Trees as solid
+use Rattle.ssr_syntax_forms.specs.Trees as solid
 
 -- the white space and comments in front
 abbrev pub trivia : List plain.Token → List plain.Token

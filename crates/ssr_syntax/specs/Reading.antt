@@ -1,10 +1,10 @@
--- The reading of a list of tokens, and what its rows are.
+-- The reading of a list of tokens and of a text, and what fits a text.
 use Rattle.std.specs.Prelude.{◌≡◌, ◌≢◌, ℕ, ◌+◌, ◌-◌, ◌^◌, ◌<◌, ◌≤◌, nat_lt, Bool, true, not, ◌&&◌, if◌then◌else◌, List, [], ◌∷◌, length, map, reverse, Some, None, Result, Ok, Err}
 use Rattle.std.specs.Str.{trim, trim_start}
 use Rattle.ssr_syntax_lex.specs.declared.kinds.SyntaxKind.{SyntaxKind}
 use Rattle.ssr_syntax_lex.specs.declared.tokens.RawToken.{RawToken}
 use Rattle.ssr_syntax_lex.specs.Kinds.{is_trivia}
-use Rattle.ssr_syntax_lex.specs.Tokens.{tokens, token_text, spell as spelled_by, Tiles}
+use Rattle.ssr_syntax_lex.specs.Tokens.{tokens, token_text}
 use Rattle.ssr_syntax_tree.specs.Syntax as plain
 use Rattle.ssr_syntax_tree.specs.Syntax.{Syntax, depth_of, source_of}
 use Rattle.ssr_syntax.specs.declared.goals.Goal.TheVariants as goals
@@ -12,18 +12,21 @@ use Rattle.ssr_syntax.specs.declared.fragments.Fragment.{Fragment}
 use Rattle.ssr_syntax.specs.declared.fragments.Fragment.TheVariants as fragments
 use Rattle.ssr_syntax.specs.declared.syntax_error.SyntaxError.{SyntaxError}
 use Rattle.ssr_syntax.specs.declared.syntax_error.SyntaxError.TheVariants as errors
-use Rattle.ssr_syntax.specs.declared.tokens.Token.{Token}
+use Rattle.ssr_syntax_forms.specs.declared.tokens.Token.{Token}
 use Rattle.ssr_syntax.specs.declared.goals.Goal.{Goal}
-use Rattle.ssr_syntax.specs.declared.goals.Fault.{Fault}
-use Rattle.ssr_syntax.specs.declared.goals.Fault.TheVariants as faults
-use Rattle.ssr_syntax.specs.Trees.{Forest, done, leaf, tree, spell, Written, writes, IsShallow}
-use Rattle.ssr_syntax.specs.Fitting.{Fits}
-use Rattle.ssr_syntax.specs.Forms.{SoFar, ◌>>=◌}
-use Rattle.ssr_syntax.specs.Levels.{read_goal}
+use Rattle.ssr_syntax_forms.specs.declared.fault.Fault.{Fault}
+use Rattle.ssr_syntax_forms.specs.Trees.{Forest, done, leaf, tree}
+use Rattle.ssr_syntax_forms.specs.Fitting.{Fits}
+use Rattle.ssr_syntax_forms.specs.Forms.{SoFar, ◌>>=◌}
+use Rattle.ssr_syntax_forms.specs.Levels.{read_goal}
+use Rattle.ssr_syntax_forms.specs.declared.fault.Fault.TheVariants as faults
 use Rattle.ssr_syntax.specs.Grammar.{grammar}
 use Rattle.ssr_syntax.specs.Solid.{solid_tokens}
 use Rattle.ssr_syntax.specs.Lossless.{whole_tree, IsTrimmed}
-use Rattle.ssr_syntax.specs.Preorder.{most_deep}
+
+-- how deep a tree may be
+abbrev pub most_deep : ℕ
+most_deep = 1024
 
 -- A tree is read where no more nodes than these stand above one another: the root, and 1,024 below it.
 abbrev pub most_high : ℕ
@@ -39,22 +42,6 @@ whole r = elim r.rest [ [] ↦ Ok r.made | t ∷ ts ↦ Err faults.NoTree ]
 
 unfoldable pub reading : Goal → List Token → Result Forest Fault
 reading goal tokens = read_goal grammar most_levels goal tokens >>= whole
-
--- The answer is the reading's: what is written of its forest, or its fault. Want of memory says nothing.
-abbrev pub IsReading : {R : Type 0} → (R → Written) → Result R Fault → Result Forest Fault → Type 0
-IsReading now (Ok v) read = (z : Forest) × (read ≡ Ok z) × (now v ≡ writes z 0)
-IsReading now (Err e) read = e ≢ faults.Memory → read ≡ Err e
-
--- this is written of a forest that fits the goal and spells the tokens
-abbrev pub IsTreeOf : Goal → List Token → Written → Type 0
-IsTreeOf goal tokens made =
-    (z : Forest) × Fits grammar (grammar goal) done z tokens [] × (spell z ≡ tokens) × (made ≡ writes z 0)
-
--- The answer is what is written of this forest, or it is told too deep and has more than `high` nodes above one another.
--- Want of memory says nothing.
-abbrev pub IsTree : {R : Type 0} → (R → Written) → ℕ → Forest → Result R Fault → Type 0
-IsTree now high z (Ok v) = now v ≡ writes z 0
-IsTree now high z (Err e) = (e ≢ faults.NoTree) × (e ≡ faults.TooDeep → ¬ IsShallow high z)
 
 -- ** The reading of a text.
 
@@ -170,17 +157,3 @@ pub record IsTreeOfFragment (fragment : Fragment) (text : List ℕ) (syntax : Sy
 abbrev pub IsThatOrTooDeep : {R : Type 0} → (R → Syntax) → Syntax → Result R SyntaxError → Type 0
 IsThatOrTooDeep now syntax (Ok v) = now v ≡ syntax
 IsThatOrTooDeep now syntax (Err e) = e ≢ errors.Memory → (e ≡ errors.TooDeep) × (most_deep < depth_of syntax)
-
--- ** What the calls below give.
-
--- the tokens of a text, or why there are none
-abbrev pub IsLexFault : List ℕ → SyntaxError → Type 0
-IsLexFault text errors.Lex = (length text < 2 ^ 32) × (tokens text ≡ None)
-IsLexFault text errors.TooLong = 2 ^ 32 ≤ length text
-IsLexFault text errors.Memory = length text < 2 ^ 32
-IsLexFault text errors.NoTree = ⊥
-IsLexFault text errors.TooDeep = ⊥
-
-abbrev pub IsLexed : {R : Type 0} → (R → List RawToken) → List ℕ → Result R SyntaxError → Type 0
-IsLexed now text (Ok v) = (length text < 2 ^ 32) × (tokens text ≡ Some (now v)) × Tiles text (now v) × (spelled_by text (now v) ≡ text)
-IsLexed now text (Err e) = IsLexFault text e

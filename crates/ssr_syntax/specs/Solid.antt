@@ -4,7 +4,7 @@ use Rattle.ssr_syntax_lex.specs.Kinds.{same_kind, is_trivia}
 use Rattle.ssr_syntax_lex.specs.declared.kinds.SyntaxKind.{SyntaxKind}
 use Rattle.ssr_syntax_lex.specs.declared.kinds.SyntaxKind.TheVariants as k
 use Rattle.ssr_syntax_lex.specs.declared.tokens.RawToken.{RawToken}
-use Rattle.ssr_syntax.specs.declared.tokens.Token.{Token}
+use Rattle.ssr_syntax_forms.specs.declared.tokens.Token.{Token}
 
 -- ** Joined tokens.
 

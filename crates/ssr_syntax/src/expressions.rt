@@ -2,13 +2,12 @@
 ghost use Rattle.std.specs.Prelude.{◌≡◌};
 ghost use Rattle.ssr_syntax.specs.Expressions as form;
 ghost use Rattle.ssr_syntax.specs.Ranks.{next_rank, rank_of};
-ghost use Rattle.ssr_syntax.specs.Runs.{Runs, RunsFrom};
+ghost use Rattle.ssr_syntax_forms.specs.Runs.{Runs, RunsFrom};
 
-use crate::goals::{Fault, Goal, Rank};
+use crate::goals::{Goal, Rank};
 use crate::grammar::Grammar;
-use crate::parser::{Mark, Parser};
 use crate::reader::Reader;
-use crate::tokens::TokenSet;
+use ssr_syntax_forms::{Fault, Mark, Parser, TokenSet};
 use ssr_syntax_lex::SyntaxKind;
 use ssr_syntax_lex::SyntaxKind::*;
 
@@ -33,6 +32,11 @@ fn expr_first() -> TokenSet<'static>
     &[
         IDENT,
         L_PAREN,
+        AMP,
+        AMP2,
+        MINUS,
+        BANG,
+        STAR,
         INT_NUMBER,
         FLOAT_NUMBER,
         STRING,
@@ -45,8 +49,17 @@ fn expr_first() -> TokenSet<'static>
     ]
 }
 
-/// How many ranks of operators there are.
-pub(crate) const RANKS: Rank = 3;
+/// What goes on with the expression in front of it begins with one of these.
+const TURN_FIRST: TokenSet<'static> = &[L_PAREN, L_BRACK, QUESTION, DOT];
+
+/// What a reference begins with.
+const AMPERSANDS: TokenSet<'static> = &[AMP, AMP2];
+
+/// The operators in front of an operand.
+const PREFIX_OPERATORS: TokenSet<'static> = &[MINUS, BANG, STAR];
+
+/// How many ranks of operators between two operands there are.
+pub(crate) const RANKS: Rank = 9;
 
 /// The operators of a rank.
 #[tactic(auto, using(crate::proofs::Ranks::no_operators), unfolding(crate::specs::Expressions::operators))]
@@ -56,7 +69,13 @@ fn operators(rank: Rank) -> TokenSet<'static>
     match rank {
         0 => &[STAR, SLASH, PERCENT],
         1 => &[PLUS, MINUS],
-        2 => &[EQ2, NEQ, L_ANGLE, R_ANGLE, LTEQ, GTEQ],
+        2 => &[SHL, SHR],
+        3 => &[AMP],
+        4 => &[CARET],
+        5 => &[PIPE],
+        6 => &[EQ2, NEQ, L_ANGLE, R_ANGLE, LTEQ, GTEQ],
+        7 => &[AMP2],
+        8 => &[PIPE2],
         _ => &[],
     }
 }
@@ -68,7 +87,13 @@ fn rank_of(kind: SyntaxKind) -> Rank
     match kind {
         STAR | SLASH | PERCENT => 0,
         PLUS | MINUS => 1,
-        EQ2 | NEQ | L_ANGLE | R_ANGLE | LTEQ | GTEQ => 2,
+        SHL | SHR => 2,
+        AMP => 3,
+        CARET => 4,
+        PIPE => 5,
+        EQ2 | NEQ | L_ANGLE | R_ANGLE | LTEQ | GTEQ => 6,
+        AMP2 => 7,
+        PIPE2 => 8,
         _ => RANKS,
     }
 }
@@ -124,7 +149,7 @@ impl<R: Reader + Drop> Grammar<R> {
         p.complete(&m, PAREN_EXPR)
     }
 
-    /// An expression without an operator outside parentheses.
+    /// An expression without an operator outside brackets.
     #[tactic(auto, unfolding(crate::specs::Expressions::atom))]
     fn atom(&self, p: &mut Parser<'_>) -> Result<(), Fault>
         requires { R.can_read self.now.below }
@@ -139,14 +164,153 @@ impl<R: Reader + Drop> Grammar<R> {
         }
     }
 
-    /// An expression whose operators outside parentheses are of so many ranks, the tightest.
+    /// ARG_LIST: expressions in parentheses, with commas between them.
+    #[tactic(auto, using(ssr_syntax_forms::proofs::Shared::run_comma_list), unfolding(crate::specs::Expressions::arg_list))]
+    fn arg_list(&self, p: &mut Parser<'_>) -> Result<(), Fault>
+        requires { R.can_read self.now.below }
+        ensures { Runs (R.reads self.now.below) form.arg_list p.old p.new result }
+    {
+        let m = p.start();
+        p.expect(L_PAREN)?;
+        p.comma_list(expr_first(), |p| self.child(p, Goal::Expr))?;
+        p.expect(R_PAREN)?;
+        p.complete(&m, ARG_LIST)
+    }
+
+    /// CALL_EXPR: an ARG_LIST behind what is called, which is all since the mark.
+    #[tactic(auto, unfolding(crate::specs::Expressions::call_expr))]
+    fn call_expr(&self, p: &mut Parser<'_>, m: &Mark<'_>) -> Result<(), Fault>
+        requires { R.can_read self.now.below }
+        ensures { RunsFrom (R.reads self.now.below) form.call_expr m.now p.old p.new result }
+    {
+        self.arg_list(p)?;
+        p.complete(m, CALL_EXPR)
+    }
+
+    /// INDEX_EXPR: an expression in brackets behind another.
+    #[tactic(auto, unfolding(crate::specs::Expressions::index_expr))]
+    fn index_expr(&self, p: &mut Parser<'_>, m: &Mark<'_>) -> Result<(), Fault>
+        requires { R.can_read self.now.below }
+        ensures { RunsFrom (R.reads self.now.below) form.index_expr m.now p.old p.new result }
+    {
+        p.expect(L_BRACK)?;
+        self.child(p, Goal::Expr)?;
+        p.expect(R_BRACK)?;
+        p.complete(m, INDEX_EXPR)
+    }
+
+    /// TRY_EXPR: `?` behind an expression.
+    #[tactic(auto, unfolding(crate::specs::Expressions::try_expr))]
+    fn try_expr(&self, p: &mut Parser<'_>, m: &Mark<'_>) -> Result<(), Fault>
+        requires { R.can_read self.now.below }
+        ensures { RunsFrom (R.reads self.now.below) form.try_expr m.now p.old p.new result }
+    {
+        p.expect(QUESTION)?;
+        p.complete(m, TRY_EXPR)
+    }
+
+    /// FIELD_EXPR or METHOD_CALL_EXPR: `.`, a NAME_REF, and of a method its ARG_LIST.
+    #[tactic(auto, unfolding(crate::specs::Expressions::member))]
+    fn member(&self, p: &mut Parser<'_>, m: &Mark<'_>) -> Result<(), Fault>
+        requires { R.can_read self.now.below }
+        ensures { RunsFrom (R.reads self.now.below) form.member m.now p.old p.new result }
+    {
+        p.expect(DOT)?;
+        self.name_ref(p)?;
+        if p.at(L_PAREN) {
+            self.method_call_expr(p, m)
+        } else {
+            self.field_expr(p, m)
+        }
+    }
+
+    /// METHOD_CALL_EXPR: an ARG_LIST behind a method's name.
+    #[tactic(auto, unfolding(crate::specs::Expressions::method_call_expr))]
+    fn method_call_expr(&self, p: &mut Parser<'_>, m: &Mark<'_>) -> Result<(), Fault>
+        requires { R.can_read self.now.below }
+        ensures { RunsFrom (R.reads self.now.below) form.method_call_expr m.now p.old p.new result }
+    {
+        self.arg_list(p)?;
+        p.complete(m, METHOD_CALL_EXPR)
+    }
+
+    /// FIELD_EXPR: no ARG_LIST behind a field's name.
+    #[tactic(auto, unfolding(crate::specs::Expressions::field_expr))]
+    fn field_expr(&self, p: &mut Parser<'_>, m: &Mark<'_>) -> Result<(), Fault>
+        requires { R.can_read self.now.below }
+        ensures { RunsFrom (R.reads self.now.below) form.field_expr m.now p.old p.new result }
+    {
+        p.refuse_at(&[L_PAREN])?;
+        p.complete(m, FIELD_EXPR)
+    }
+
+    /// What goes on with the expression that is all since the mark.
+    #[tactic(auto, unfolding(crate::specs::Expressions::turn))]
+    fn turn(&self, p: &mut Parser<'_>, m: &Mark<'_>) -> Result<(), Fault>
+        requires { R.can_read self.now.below }
+        ensures { RunsFrom (R.reads self.now.below) form.turn m.now p.old p.new result }
+    {
+        if p.at(L_PAREN) {
+            self.call_expr(p, m)
+        } else if p.at(L_BRACK) {
+            self.index_expr(p, m)
+        } else if p.at(QUESTION) {
+            self.try_expr(p, m)
+        } else {
+            self.member(p, m)
+        }
+    }
+
+    /// REF_EXPR: `&`, also the first of `&&`, perhaps `mut`, and an operand.
+    #[tactic(auto, unfolding(crate::specs::Expressions::ref_expr))]
+    fn ref_expr(&self, p: &mut Parser<'_>) -> Result<(), Fault>
+        requires { R.can_read self.now.below }
+        ensures { Runs (R.reads self.now.below) form.ref_expr p.old p.new result }
+    {
+        let m = p.start();
+        p.expect_part(AMPERSANDS)?;
+        p.eat(MUT_KW)?;
+        self.child(p, Goal::Operand(0))?;
+        p.complete(&m, REF_EXPR)
+    }
+
+    /// PREFIX_EXPR: an operator and its operand.
+    #[tactic(auto, unfolding(crate::specs::Expressions::prefix_expr))]
+    fn prefix_expr(&self, p: &mut Parser<'_>) -> Result<(), Fault>
+        requires { R.can_read self.now.below }
+        ensures { Runs (R.reads self.now.below) form.prefix_expr p.old p.new result }
+    {
+        let m = p.start();
+        p.expect_any(PREFIX_OPERATORS)?;
+        self.child(p, Goal::Operand(0))?;
+        p.complete(&m, PREFIX_EXPR)
+    }
+
+    /// An expression without an operator between operands, outside brackets.
+    #[tactic(auto, unfolding(crate::specs::Expressions::unary))]
+    fn unary(&self, p: &mut Parser<'_>) -> Result<(), Fault>
+        requires { R.can_read self.now.below }
+        ensures { Runs (R.reads self.now.below) form.unary p.old p.new result }
+    {
+        if p.at_any(AMPERSANDS) {
+            self.ref_expr(p)
+        } else if p.at_any(PREFIX_OPERATORS) {
+            self.prefix_expr(p)
+        } else {
+            let m = p.start();
+            self.atom(p)?;
+            p.repeated(TURN_FIRST, |p| self.turn(p, &m))
+        }
+    }
+
+    /// An expression whose operators between operands, outside brackets, are of so many ranks, the tightest.
     #[tactic(auto, using(crate::proofs::Ranks::turn, crate::proofs::Ranks::stop_low, crate::proofs::Ranks::stop_high, crate::proofs::Ranks::stop_end, crate::proofs::Ranks::operand_climbs))]
     pub(crate) fn operand(&self, p: &mut Parser<'_>, limit: Rank) -> Result<(), Fault>
         requires { R.can_read self.now.below }
         ensures { Runs (R.reads self.now.below) (form.operand limit) p.old p.new result }
     {
         let m = p.start();
-        self.atom(p)?;
+        self.unary(p)?;
         let mut rank = 0;
         'ranks: while rank < limit {
             let next = next_rank(p);

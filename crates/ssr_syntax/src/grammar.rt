@@ -1,18 +1,15 @@
 //! Each goal by the function of its form, and the reading of all tokens.
-ghost use Rattle.std.specs.Prelude.{◌≡◌, [], IfOk};
 ghost use Rattle.ssr_syntax.specs.Grammar.{grammar};
-ghost use Rattle.ssr_syntax.specs.Fitting.{Fits};
-ghost use Rattle.ssr_syntax.specs.Levels.{run_goal};
-ghost use Rattle.ssr_syntax.specs.Reading.{IsReading, IsTree, IsTreeOf, most_high, reading};
-ghost use Rattle.ssr_syntax.specs.Trees.{Forest, done, written_in};
-ghost use Rattle.ssr_syntax.specs.Runs.{Runs, Steps};
+ghost use Rattle.ssr_syntax_forms.specs.Levels.{run_goal};
+ghost use Rattle.ssr_syntax.specs.Private.Reading.{IsReading};
+ghost use Rattle.ssr_syntax.specs.Reading.{reading};
+ghost use Rattle.ssr_syntax_forms.specs.Trees.{written_in};
+ghost use Rattle.ssr_syntax_forms.specs.Runs.{Runs, Steps};
 
 use crate::expressions::{RANKS, at_most_all};
-use crate::goals::{Fault, Goal};
-use crate::parser::Parser;
+use crate::goals::Goal;
 use crate::reader::Reader;
-use crate::rows::Output;
-use crate::tokens::Token;
+use ssr_syntax_forms::{Fault, Output, Parser, Token};
 use std::alloc::Global;
 
 /// The functions of forms, with what reads the goals below.
@@ -66,7 +63,7 @@ impl<F: Fn(&mut Parser<'_>, Goal) -> Result<(), Fault> + Drop> Reader for Level<
 }
 
 /// Reads a goal with at most `left` levels of goals.
-#[tactic(auto, unfolding(crate::specs::Levels::run_goal))]
+#[tactic(auto, unfolding(ssr_syntax_forms::specs::Levels::run_goal))]
 fn read(p: &mut Parser<'_>, goal: Goal, left: u32) -> Result<(), Fault>
     ensures { Steps p.new result (run_goal grammar left goal p.old) }
 {
@@ -87,25 +84,15 @@ fn read(p: &mut Parser<'_>, goal: Goal, left: u32) -> Result<(), Fault>
 /// How many levels of goals are read. Each level but the first stands below a node.
 const MOST_LEVELS: u32 = 1026;
 
-/// Reads all tokens as the goal.
+/// The nodes and the tokens of the tree that is read of all tokens as the goal; `NoTree` where none fits. A core tree that
+/// fits, with at most 1,025 nodes above one another, is read.
 #[tactic(auto, using(crate::proofs::Finished::no_tree, crate::proofs::Finished::finished))]
-fn read_whole(alloc: Global, goal: Goal, tokens: &[Token]) -> Result<Output, Fault>
+pub(crate) fn parse_as(alloc: Global, goal: Goal, tokens: &[Token]) -> Result<Output, Fault>
     ensures { IsReading (λ v. written_in v) result (reading goal tokens.now) }
 {
     let mut parser = Parser::new(alloc, tokens)?;
     read(&mut parser, goal, MOST_LEVELS)?;
     parser.finish()
-}
-
-/// The nodes and the tokens of the one tree that fits the goal and has these tokens; `NoTree` where none fits. A tree
-/// with at most 1,025 nodes above one another is never told too deep.
-pub(crate) fn parse_as(alloc: Global, goal: Goal, tokens: &[Token]) -> Result<Output, Fault>
-    ensures reads { IsReading (λ v. written_in v) result (reading goal tokens.now) }
-    ensures sound { IfOk result (λ v. IsTreeOf goal tokens.now (written_in v)) }
-    ensures complete { (z : Forest) → Fits grammar (grammar goal) done z tokens.now [] → IsTree (λ v. written_in v) most_high z result }
-    ensures unique { (y z : Forest) → Fits grammar (grammar goal) done y tokens.now [] → Fits grammar (grammar goal) done z tokens.now [] → y ≡ z }
-{
-    read_whole(alloc, goal, tokens)
 }
 
 #[cfg(test)]
@@ -161,7 +148,8 @@ mod tests {
     ) -> Result<Vec<(SyntaxKind, u32, u32, u32)>, Fault> {
         let output = parsed(alloc, goal, kinds)?;
         let mut nodes = Vec::new(alloc);
-        for row in &output.rows {
+        for number in 0..output.rows.len() {
+            let row = output.rows.row(number);
             nodes.push((row.kind, row.first, row.past, row.below))?;
         }
         Ok(nodes)
@@ -230,7 +218,7 @@ mod tests {
     #[test]
     fn operators_of_fewer_ranks_end_an_operand(rt: HostRuntime) -> Result<(), Fail> {
         let kinds = [INT_NUMBER, PLUS, INT_NUMBER, EQ2, INT_NUMBER];
-        for (ranks, fits) in [(0, false), (1, false), (2, false), (3, true), (200, true)] {
+        for (ranks, fits) in [(0, false), (1, false), (6, false), (7, true), (200, true)] {
             let answer = parsed(rt.alloc(), Goal::Operand(ranks), &kinds);
             assert_eq!(rt; answer.is_ok(), fits);
         }
@@ -276,8 +264,7 @@ mod tests {
         ];
         for kind in literals {
             let rows = parsed(rt.alloc(), Goal::Expr, &[kind])?.rows;
-            assert_eq!(rt; rows.len(), 1);
-            assert!(rt; rows[0].kind.is(LITERAL));
+            assert_eq!(rt; rows.kinds(), &[LITERAL][..]);
         }
         for kind in [LIFETIME_IDENT, UNDERSCORE, FN_KW] {
             assert!(rt; matches!(parsed(rt.alloc(), Goal::Expr, &[kind]), Err(Fault::NoTree)));
@@ -291,10 +278,7 @@ mod tests {
         let kinds = [FN_KW, IDENT, L_PAREN, R_PAREN, L_CURLY, R_CURLY];
         let rows = parsed(rt.alloc(), Goal::File, &kinds)?.rows;
         let want = [NAME, PARAM_LIST, STMT_LIST, BLOCK_EXPR, FN, SOURCE_FILE];
-        assert_eq!(rt; rows.len(), want.len());
-        for (row, kind) in rows.iter().zip(want) {
-            assert!(rt; row.kind.is(kind));
-        }
+        assert_eq!(rt; rows.kinds(), want.as_slice());
         Ok(())
     }
 

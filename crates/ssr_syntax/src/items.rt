@@ -1,11 +1,10 @@
 //! The functions that read items.
 ghost use Rattle.ssr_syntax.specs.Items as form;
-ghost use Rattle.ssr_syntax.specs.Runs.{Runs};
+ghost use Rattle.ssr_syntax_forms.specs.Runs.{Runs};
 
-use crate::goals::Fault;
 use crate::grammar::Grammar;
-use crate::parser::Parser;
 use crate::reader::Reader;
+use ssr_syntax_forms::{Fault, Parser};
 use ssr_syntax_lex::SyntaxKind::*;
 
 impl<R: Reader + Drop> Grammar<R> {

@@ -7,15 +7,16 @@ ghost use Rattle.ssr_syntax.specs.CoreTrees.{IsCore};
 ghost use Rattle.ssr_syntax_tree.specs.Syntax.{Syntax, tokens_of};
 ghost use Rattle.ssr_syntax.specs.declared.fragments.Fragment.{Fragment};
 ghost use Rattle.ssr_syntax.specs.declared.goals.Goal.{Goal};
-ghost use Rattle.ssr_syntax.specs.Decision.{decide_fits, is_empty, reached};
-ghost use Rattle.ssr_syntax.specs.Fitting.{Fits};
-ghost use Rattle.ssr_syntax.specs.Forms.{SoFar};
+ghost use Rattle.ssr_syntax.specs.Decision.{decide_fits};
+ghost use Rattle.ssr_syntax_forms.specs.Decision.{is_empty, reached};
+ghost use Rattle.ssr_syntax_forms.specs.Fitting.{Fits};
+ghost use Rattle.ssr_syntax_forms.specs.Forms.{SoFar};
 ghost use Rattle.ssr_syntax.specs.Grammar.{grammar};
 ghost use Rattle.ssr_syntax.specs.Identifiers.{IdentsAloneIn, idents};
 ghost use Rattle.ssr_syntax.specs.Reading.{FitsFile, FitsFragment, pieces, trimmed};
 ghost use Rattle.ssr_syntax.specs.Operands.{AreRanked};
-ghost use Rattle.ssr_syntax.specs.Trees.{Forest, done, spell};
-ghost use Rattle.ssr_syntax.specs.declared.tokens.Token.{Token};
+ghost use Rattle.ssr_syntax_forms.specs.Trees.{Forest, done, spell};
+ghost use Rattle.ssr_syntax_forms.specs.declared.tokens.Token.{Token};
 
 /// At most one tree of core nodes fits a file.
 pub fn files()
@@ -23,7 +24,8 @@ pub fn files()
 {}
 
 /// At most one tree of core nodes fits a fragment. A tree that fits has the identifiers of the text without the white
-/// space around it, in order, and each is the only child of its node.
+/// space around it, in order, and each is the only child of its node, but in the nodes that are made to mix
+/// identifiers with other tokens.
 pub fn fragments()
     ensures one { (fragment : Fragment) (text : List ℕ) (a b : Syntax) → IsCore a → IsCore b → FitsFragment fragment text a → FitsFragment fragment text b → a ≡ b }
     ensures idents { (fragment : Fragment) (text : List ℕ) (syntax : Syntax) → FitsFragment fragment text syntax

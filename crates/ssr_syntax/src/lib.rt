@@ -7,15 +7,13 @@ mod goals;
 mod grammar;
 mod items;
 pub mod laws;
-mod parser;
+mod packing;
 mod paths;
 mod preorder;
 mod reader;
 mod reading;
-mod rows;
 mod solid;
 mod syntax_error;
-mod tokens;
 mod tree_tokens;
 mod turning;
 

@@ -1,17 +1,16 @@
 //! The functions that read paths.
 ghost use Rattle.ssr_syntax.specs.Paths as form;
-ghost use Rattle.ssr_syntax.specs.Runs.{Runs, RunsFrom};
+ghost use Rattle.ssr_syntax_forms.specs.Runs.{Runs, RunsFrom};
 
-use crate::goals::Fault;
 use crate::grammar::Grammar;
-use crate::parser::{Mark, Parser};
 use crate::reader::Reader;
+use ssr_syntax_forms::{Fault, Mark, Parser};
 use ssr_syntax_lex::SyntaxKind::*;
 
 impl<R: Reader + Drop> Grammar<R> {
     /// NAME_REF: an identifier.
     #[tactic(auto, unfolding(crate::specs::Paths::name_ref))]
-    fn name_ref(&self, p: &mut Parser<'_>) -> Result<(), Fault>
+    pub(crate) fn name_ref(&self, p: &mut Parser<'_>) -> Result<(), Fault>
         requires { R.can_read self.now.below }
         ensures { Runs (R.reads self.now.below) form.name_ref p.old p.new result }
     {

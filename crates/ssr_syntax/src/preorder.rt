@@ -1,13 +1,14 @@
 //! The rows of a tree's nodes in preorder, from the parser's rows.
 ghost use Rattle.std.specs.Prelude.{◌≡◌, ◌+◌, ◌<◌, ◌≤◌, ◌^◌, [], length, reverse, slice_index, nat_lt, IfOk};
 ghost use Rattle.ssr_syntax_lex.specs.declared.kinds.SyntaxKind.{SyntaxKind};
-ghost use Rattle.ssr_syntax.specs.Preorder.{first_at, past_at, OkUnlessDeep, tree_rows, most_deep, most_nodes};
-ghost use Rattle.ssr_syntax.specs.OpenNodes.{opened, IsClosed, IsOpened, IsFromRight};
-ghost use Rattle.ssr_syntax.specs.Trees.{Forest, done, height, tree, rows as rows_of};
+ghost use Rattle.ssr_syntax.specs.Private.Preorder.{first_at, past_at, OkUnlessDeep, tree_rows, most_nodes};
+ghost use Rattle.ssr_syntax.specs.Reading.{most_deep};
+ghost use Rattle.ssr_syntax.specs.Private.OpenNodes.{opened, IsClosed, IsOpened, IsFromRight};
+ghost use Rattle.ssr_syntax_forms.specs.Trees.{Forest, done, height, tree, rows as rows_of};
 
 use crate::syntax_error::SyntaxError;
 use crate::turning::Turning;
-use ssr_syntax_tree::NodeRow;
+use ssr_syntax_tree::{NodeRow, NodeRows};
 use std::alloc::Global;
 
 /// How deep a tree may be: the depth of its root is 0.
@@ -146,17 +147,17 @@ fn from_right(
     Ok(())
 }
 
-/// The rows of a tree's nodes in preorder, from the parser's, in the same vector. `ends` says how many of the `tokens`
+/// The rows of a tree's nodes in preorder, from the parser's, in the same vectors. `ends` says how many of the `tokens`
 /// tokens there are up to each solid one, from none on.
 pub(crate) fn node_rows(
     alloc: Global,
-    rows: Vec<NodeRow>,
+    rows: NodeRows,
     ends: &[u32],
     tokens: u32,
-) -> Result<Vec<NodeRow>, SyntaxError>
-    ensures { (kind : SyntaxKind) (kids : Forest) → rows.items ≡ rows_of (tree kind kids done) 0
+) -> Result<NodeRows, SyntaxError>
+    ensures { (kind : SyntaxKind) (kids : Forest) → rows ≡ rows_of (tree kind kids done) 0
         → OkUnlessDeep (nat_lt most_deep (height kids))
-        (λ v. (v.items ≡ tree_rows (λ i. slice_index ends.now i) tokens kind kids) × (length rows.items ≤ most_nodes))
+        (λ v. (v ≡ tree_rows (λ i. slice_index ends.now i) tokens kind kids) × (length rows ≤ most_nodes))
         result }
 {
     if rows.len() > MOST_NODES {

@@ -1,8 +1,11 @@
 //! The syntax trees of texts.
-ghost use Rattle.std.specs.Prelude.{◌≡◌, ◌<◌, ◌≤◌, ◌^◌, length, IfOk, IfErr, reverse, ◌&&◌, string_bytes};
+ghost use Rattle.std.specs.Prelude.{◌≡◌, ◌<◌, ◌≤◌, ◌^◌, List, length, Some, IfOk, IfErr, reverse, ◌&&◌, string_bytes};
 ghost use Rattle.ssr_syntax.specs.declared.syntax_error.SyntaxError.TheVariants.{TooLong};
-ghost use Rattle.ssr_syntax_lex.specs.Tokens.{Tiles, spell};
-ghost use Rattle.ssr_syntax.specs.Reading.{Answers, AnswersTrimmed, IsLexed, goal_of, begins_solid, tree_reading, file_reading, fragment_reading, trimmed, FitsFile, FitsFragment, IsTreeOfFile, IsTreeOfFragment, IsThatOrTooDeep};
+ghost use Rattle.ssr_syntax_lex.specs.Tokens.{tokens, rows_in};
+ghost use Rattle.ssr_syntax.specs.Reading.{Answers, AnswersTrimmed, goal_of, tree_reading, file_reading, fragment_reading, trimmed, FitsFile, FitsFragment, IsTreeOfFile, IsTreeOfFragment, IsThatOrTooDeep};
+ghost use Rattle.ssr_syntax.specs.Private.Reading.{IsLexed};
+ghost use Rattle.ssr_syntax_lex.specs.declared.tokens.RawToken.{RawToken};
+ghost use Rattle.ssr_syntax.specs.Private.SolidKinds.{kinds_begin_solid};
 ghost use Rattle.ssr_syntax.specs.CoreTrees.{IsCore};
 ghost use Rattle.ssr_syntax_tree.specs.Syntax.{Syntax};
 
@@ -13,7 +16,7 @@ use crate::preorder::node_rows;
 use crate::solid::solid_tokens;
 use crate::syntax_error::SyntaxError;
 use crate::tree_tokens::tree_tokens;
-use ssr_syntax_lex::{LexError, RawToken, lex};
+use ssr_syntax_lex::{LexError, SyntaxKind, TokenRows, lex_rows};
 use ssr_syntax_tree::Tree;
 use std::alloc::Global;
 
@@ -28,37 +31,36 @@ fn check_length(text: &str) -> Result<(), SyntaxError>
     Ok(())
 }
 
-/// The tokens of a text.
-fn raw_tokens(alloc: Global, text: &str) -> Result<Vec<RawToken>, SyntaxError>
-    ensures { IsLexed (λ v. v.items) text.now result }
+/// The rows of a text's tokens.
+fn token_rows(alloc: Global, text: &str) -> Result<TokenRows, SyntaxError>
+    ensures { IsLexed text.now result }
 {
-    match lex(alloc, text) {
-        Ok(tokens) => Ok(tokens),
+    match lex_rows(alloc, text) {
+        Ok(rows) => Ok(rows),
         Err(LexError::TooLong) => Err(SyntaxError::TooLong),
         Err(LexError::Fault(_)) => Err(SyntaxError::Lex),
         Err(LexError::Memory) => Err(SyntaxError::Memory),
     }
 }
 
-/// The tree that a text's tokens are, read as the goal.
+/// The tree that a text with these rows is, read as the goal.
 fn read_tokens(
     alloc: Global,
     goal: Goal,
     text: String,
-    raw: Vec<RawToken>,
+    rows: TokenRows,
 ) -> Result<Tree, SyntaxError>
     requires short { length (string_bytes text) < 2 ^ 32 }
-    requires tiles { Tiles (string_bytes text) raw.items }
-    requires spelled { spell (string_bytes text) raw.items ≡ string_bytes text }
-    ensures { Answers result (tree_reading goal (string_bytes text) raw.items) (string_bytes text) }
+    requires lexed { rows_in (string_bytes text) ≡ Some rows }
+    ensures { (raw : List RawToken) → tokens (string_bytes text) ≡ Some raw
+        → Answers result (tree_reading goal (string_bytes text) raw) (string_bytes text) }
 {
-    let solid = solid_tokens(alloc, &raw)?;
+    let solid = solid_tokens(alloc, rows.kinds())?;
     let count = solid.len();
     let written = parse_as(alloc, goal, &solid)?;
     // Each list is dropped as soon as it is read, which keeps the most memory in use low.
     drop(solid);
-    let tokens = tree_tokens(alloc, &raw, count, &written.taken)?;
-    drop(raw);
+    let tokens = tree_tokens(alloc, rows, count, &written.taken)?;
     drop(written.taken);
     let nodes = node_rows(alloc, written.rows, &tokens.ends, tokens.rows.len() as u32)?;
     Ok(Tree::from_parts(text, tokens.rows, nodes))
@@ -81,8 +83,8 @@ pub fn parse_file_owned(alloc: Global, text: String) -> Result<Tree, SyntaxError
     ensures complete { (syntax : Syntax) → length (string_bytes text) < 2 ^ 32 → IsCore syntax → FitsFile (string_bytes text) syntax
         → IsThatOrTooDeep (λ tree. tree) syntax result }
 {
-    let raw = raw_tokens(alloc, text.as_str())?;
-    read_tokens(alloc, Goal::File, text, raw)
+    let rows = token_rows(alloc, text.as_str())?;
+    read_tokens(alloc, Goal::File, text, rows)
 }
 
 impl Fragment {
@@ -96,13 +98,13 @@ impl Fragment {
 }
 
 /// Whether the first and the last token are neither white space nor comments.
-fn is_solid_outside(tokens: &[RawToken]) -> bool
-    ensures { result ≡ (begins_solid tokens.now && begins_solid (reverse tokens.now)) }
+fn is_solid_outside(kinds: &[SyntaxKind]) -> bool
+    ensures { result ≡ (kinds_begin_solid kinds.now && kinds_begin_solid (reverse kinds.now)) }
 {
-    let (Some(first), Some(last)) = (tokens.first(), tokens.last()) else {
+    let (Some(first), Some(last)) = (kinds.first(), kinds.last()) else {
         return true;
     };
-    !first.kind.is_trivia() && !last.kind.is_trivia()
+    !first.is_trivia() && !last.is_trivia()
 }
 
 /// The syntax tree of a text without the white space around it, and how many bytes of that stand in front. The tree's
@@ -115,20 +117,19 @@ pub fn fragment(alloc: Global, fragment: Fragment, text: &str) -> Result<(Tree, 
 {
     check_length(text)?;
     let inner = text.trim();
-    let raw = raw_tokens(alloc, inner)?;
-    if !is_solid_outside(&raw) {
+    let rows = token_rows(alloc, inner)?;
+    if !is_solid_outside(rows.kinds()) {
         return Err(SyntaxError::NoTree);
     }
     let front = text.len().saturating_sub(text.trim_start().len()) as u32;
     let source = String::from_str(alloc, inner)?;
-    let tree = read_tokens(alloc, fragment.goal(), source, raw)?;
+    let tree = read_tokens(alloc, fragment.goal(), source, rows)?;
     Ok((tree, front))
 }
 
 #[cfg(test)]
 mod tests {
     use super::*;
-    use ssr_syntax_lex::{SyntaxKind, TextRange};
     use ssr_syntax_tree::NodeNo;
     use std::alloc::AllocError;
     use std::test::Fail;
@@ -185,6 +186,73 @@ mod tests {
     }
 
     #[test]
+    fn a_prefix_holds_all_that_goes_on_behind_its_operand(rt: HostRuntime) -> Result<(), Fail> {
+        let (tree, _) = fragment(rt.alloc(), Fragment::Expr, "-a.b(1)?")?;
+        let want = [
+            (SyntaxKind::PREFIX_EXPR, 0, 8),
+            (SyntaxKind::TRY_EXPR, 1, 8),
+            (SyntaxKind::METHOD_CALL_EXPR, 1, 7),
+            (SyntaxKind::PATH_EXPR, 1, 2),
+            (SyntaxKind::PATH, 1, 2),
+            (SyntaxKind::PATH_SEGMENT, 1, 2),
+            (SyntaxKind::NAME_REF, 1, 2),
+            (SyntaxKind::NAME_REF, 3, 4),
+            (SyntaxKind::ARG_LIST, 4, 7),
+            (SyntaxKind::LITERAL, 5, 6),
+        ];
+        assert_eq!(rt; outline(rt.alloc(), &tree)?.as_slice(), want.as_slice());
+        Ok(())
+    }
+
+    #[test]
+    fn two_ampersands_are_two_references(rt: HostRuntime) -> Result<(), Fail> {
+        let (tree, _) = fragment(rt.alloc(), Fragment::Expr, "&&mut 1")?;
+        let want = [
+            (SyntaxKind::REF_EXPR, 0, 7),
+            (SyntaxKind::REF_EXPR, 1, 7),
+            (SyntaxKind::LITERAL, 6, 7),
+        ];
+        assert_eq!(rt; outline(rt.alloc(), &tree)?.as_slice(), want.as_slice());
+        Ok(())
+    }
+
+    #[test]
+    fn fields_are_called_in_parentheses(rt: HostRuntime) -> Result<(), Fail> {
+        let (tree, _) = fragment(rt.alloc(), Fragment::Expr, "(1.b)(2,)[3]")?;
+        let want = [
+            (SyntaxKind::INDEX_EXPR, 0, 12),
+            (SyntaxKind::CALL_EXPR, 0, 9),
+            (SyntaxKind::PAREN_EXPR, 0, 5),
+            (SyntaxKind::FIELD_EXPR, 1, 4),
+            (SyntaxKind::LITERAL, 1, 2),
+            (SyntaxKind::NAME_REF, 3, 4),
+            (SyntaxKind::ARG_LIST, 5, 9),
+            (SyntaxKind::LITERAL, 6, 7),
+            (SyntaxKind::LITERAL, 10, 11),
+        ];
+        assert_eq!(rt; outline(rt.alloc(), &tree)?.as_slice(), want.as_slice());
+        Ok(())
+    }
+
+    // One operator of each rank, the tightest first.
+    #[test]
+    fn each_rank_binds_tighter_than_those_behind_it(rt: HostRuntime) -> Result<(), Fail> {
+        let operators = ["*", "+", "<<", "&", "^", "|", "==", "&&", "||"];
+        for (tight, one) in operators.iter().enumerate() {
+            for (loose, other) in operators.iter().enumerate() {
+                let text = format!(in rt.alloc(); "1 {one} 2 {other} 3")?;
+                let (tree, _) = fragment(rt.alloc(), Fragment::Expr, text.as_str())?;
+                let nodes = outline(rt.alloc(), &tree)?;
+                let groups_left = nodes
+                    .get(1)
+                    .is_some_and(|node| node.0 == SyntaxKind::BIN_EXPR);
+                assert_eq!(rt; groups_left, tight <= loose, "{text}");
+            }
+        }
+        Ok(())
+    }
+
+    #[test]
     fn truth_values_are_literals(rt: HostRuntime) -> Result<(), Fail> {
         let (tree, _) = fragment(rt.alloc(), Fragment::Expr, "true*(false)")?;
         let want = [
@@ -215,16 +283,7 @@ mod tests {
 
     #[test]
     fn comments_around_are_seen(rt: HostRuntime) -> Result<(), Fail> {
-        let comment = RawToken {
-            kind: SyntaxKind::COMMENT,
-            range: TextRange::new(0, 4),
-            joint: false,
-        };
-        let number = RawToken {
-            kind: SyntaxKind::INT_NUMBER,
-            range: TextRange::new(4, 5),
-            joint: false,
-        };
+        let (comment, number) = (SyntaxKind::COMMENT, SyntaxKind::INT_NUMBER);
         assert!(rt; !is_solid_outside(&[comment, number]));
         assert!(rt; !is_solid_outside(&[number, comment]));
         assert!(rt; is_solid_outside(&[number, comment, number]));
@@ -277,7 +336,7 @@ mod tests {
             Some(SyntaxError::NoTree)
         );
         assert_eq!(rt;
-            fragment(alloc, Fragment::Expr, "1 && 2").err(),
+            fragment(alloc, Fragment::Expr, "1 = 2").err(),
             Some(SyntaxError::NoTree)
         );
         assert_eq!(rt;

@@ -1,9 +1,10 @@
 //! The solid tokens of a text: all but white space and comments, joined to the longest ones.
 ghost use Rattle.std.specs.Prelude.{◌≡◌, IfOk, drop};
-ghost use Rattle.ssr_syntax.specs.Solid.{with_eq, with_r_angle, twice, joined, lengthened, is_joint, solid_token, solid_tokens};
+ghost use Rattle.ssr_syntax.specs.Solid.{with_eq, with_r_angle, twice, joined};
+ghost use Rattle.ssr_syntax.specs.Private.SolidKinds.{with_next, solid_kind, solid_kinds};
 
-use crate::tokens::Token;
-use ssr_syntax_lex::{RawToken, SyntaxKind};
+use ssr_syntax_forms::Token;
+use ssr_syntax_lex::SyntaxKind;
 use std::alloc::{AllocError, Global};
 
 /// The kind of a token of this kind and `=`.
@@ -68,46 +69,36 @@ fn joined(next: SyntaxKind, kind: SyntaxKind) -> Option<SyntaxKind>
     }
 }
 
-/// The kind joined from one that is joint or isn't, and the first of those behind it.
-fn lengthened(kind: SyntaxKind, joint: bool, behind: &[RawToken]) -> Option<SyntaxKind>
-    ensures { result ≡ lengthened kind joint behind.now }
+/// The kind joined from one and the first of those behind it.
+fn lengthened(kind: SyntaxKind, behind: &[SyntaxKind]) -> Option<SyntaxKind>
+    ensures { result ≡ with_next kind behind.now }
 {
-    if !joint {
-        return None;
-    }
     let next = behind.first()?;
-    joined(next.kind, kind)
-}
-
-fn is_joint(tokens: &[RawToken]) -> bool
-    ensures { result ≡ is_joint tokens.now }
-{
-    tokens.first().is_some_and(|token| token.joint)
+    joined(*next, kind)
 }
 
 /// All but the first one.
-fn others(tokens: &[RawToken]) -> &[RawToken]
-    ensures { result.now ≡ drop 1 tokens.now }
+fn others(kinds: &[SyntaxKind]) -> &[SyntaxKind]
+    ensures { result.now ≡ drop 1 kinds.now }
 {
-    match tokens.split_first() {
+    match kinds.split_first() {
         Some((_, others)) => others,
-        None => tokens,
+        None => kinds,
     }
 }
 
 /// The token in front of others, with the longest one that is joined from it and those.
-fn solid_token(first: &RawToken, behind: &[RawToken]) -> Token
-    ensures { result ≡ solid_token first.now behind.now }
+fn solid_token(kind: SyntaxKind, behind: &[SyntaxKind]) -> Token
+    ensures { result ≡ solid_kind kind behind.now }
 {
-    let kind = first.kind;
-    let Some(two) = lengthened(kind, first.joint, behind) else {
+    let Some(two) = lengthened(kind, behind) else {
         return Token {
             kind,
             joined: kind,
             size: 1,
         };
     };
-    match lengthened(two, is_joint(behind), others(behind)) {
+    match lengthened(two, others(behind)) {
         None => Token {
             kind,
             joined: two,
@@ -121,15 +112,16 @@ fn solid_token(first: &RawToken, behind: &[RawToken]) -> Token
     }
 }
 
-/// All tokens but white space and comments.
-pub(crate) fn solid_tokens(alloc: Global, raw: &[RawToken]) -> Result<Vec<Token>, AllocError>
-    ensures { IfOk result (λ v. v.items ≡ solid_tokens raw.now) }
+/// All tokens of a text but white space and comments, from the kinds of all: only punctuation is joined, and whatever
+/// stands directly before that is joint.
+pub(crate) fn solid_tokens(alloc: Global, kinds: &[SyntaxKind]) -> Result<Vec<Token>, AllocError>
+    ensures { IfOk result (λ v. v.items ≡ solid_kinds kinds.now) }
 {
-    let mut tokens = Vec::with_capacity(alloc, raw.len())?;
-    let mut rest = raw;
+    let mut tokens = Vec::with_capacity(alloc, kinds.len())?;
+    let mut rest = kinds;
     while let Some((first, others)) = rest.split_first() {
-        if !first.kind.is_trivia() {
-            tokens.push(solid_token(first, others))?;
+        if !first.is_trivia() {
+            tokens.push(solid_token(*first, others))?;
         }
         rest = others;
     }
@@ -139,31 +131,20 @@ pub(crate) fn solid_tokens(alloc: Global, raw: &[RawToken]) -> Result<Vec<Token>
 #[cfg(test)]
 mod tests {
     use super::*;
-    use ssr_syntax_lex::TextRange;
     use std::test::Fail;
-
-    // A token of one byte.
-    fn byte(kind: SyntaxKind, start: u8, joint: bool) -> RawToken {
-        let start = start as u32;
-        RawToken {
-            kind,
-            range: TextRange::new(start, start + 1),
-            joint,
-        }
-    }
 
     #[test]
     fn white_space_and_comments_are_left_out(rt: HostRuntime) -> Result<(), Fail> {
-        let raw = [
-            byte(SyntaxKind::IDENT, 0, false),
-            byte(SyntaxKind::WHITESPACE, 1, false),
-            byte(SyntaxKind::COMMENT, 2, false),
-            byte(SyntaxKind::EQ, 3, true),
-            byte(SyntaxKind::EQ, 4, false),
-            byte(SyntaxKind::COMMENT, 5, false),
-            byte(SyntaxKind::IDENT, 6, false),
+        let kinds = [
+            SyntaxKind::IDENT,
+            SyntaxKind::WHITESPACE,
+            SyntaxKind::COMMENT,
+            SyntaxKind::EQ,
+            SyntaxKind::EQ,
+            SyntaxKind::COMMENT,
+            SyntaxKind::IDENT,
         ];
-        let solid = solid_tokens(rt.alloc(), &raw)?;
+        let solid = solid_tokens(rt.alloc(), &kinds)?;
         let want = [
             (SyntaxKind::IDENT, SyntaxKind::IDENT, 1),
             (SyntaxKind::EQ, SyntaxKind::EQ2, 2),

@@ -1,6 +1,6 @@
 //! The error of the calls that read a text.
 
-use crate::goals::Fault;
+use ssr_syntax_forms::Fault;
 use std::alloc::{AllocError, AllocFailed};
 
 /// Why a text has no syntax tree.

@@ -1,15 +1,15 @@
-//! Rows on their way from the parser's order to preorder, in one vector, so that no second one is needed.
+//! Rows on their way from the parser's order to preorder, in one place, so that no second one is needed.
 ghost use Rattle.std.specs.Prelude.{◌≡◌, ◌<◌, ◌+◌, ◌-◌, ◌++◌, [], ◌∷◌, suc, length, reverse, IfSome, IfNone};
-ghost use Rattle.ssr_syntax.specs.Turning.{Turned, turned_of};
+ghost use Rattle.ssr_syntax.specs.Private.Turning.{Turned, turned_of};
 
-use ssr_syntax_tree::NodeRow;
+use ssr_syntax_tree::{NodeRow, NodeRows};
 use std::marker::Model;
 
-/// Unread rows at the front of a vector, and turned ones at its end. Between them is room for those that were read
+/// Unread rows at the front, and turned ones at the end. Between them is room for those that were read
 /// and aren't turned yet.
 #[derive(Drop)]
 pub(crate) struct Turning {
-    rows: Vec<NodeRow>,
+    rows: NodeRows,
     /// How many are unread.
     unread: usize,
     /// Where the turned ones begin.
@@ -18,19 +18,19 @@ pub(crate) struct Turning {
 
 impl Model for Turning {
     ghost use Rattle.std.specs.Prelude.{◌≤◌, length};
-    ghost use Rattle.ssr_syntax.specs.Turning.{Turned, turned_of};
+    ghost use Rattle.ssr_syntax.specs.Private.Turning.{Turned, turned_of};
 
     ghost Value = { Turned };
 
-    ghost view = { λ t. turned_of t.rows.items t.unread t.turned };
+    ghost view = { λ t. turned_of t.rows t.unread t.turned };
 
-    ghost invariant = { λ t. (t.unread ≤ t.turned) × (t.turned ≤ length t.rows.items) };
+    ghost invariant = { λ t. (t.unread ≤ t.turned) × (t.turned ≤ length t.rows) };
 }
 
 impl Turning {
     /// With all rows unread.
-    pub(crate) fn new(rows: Vec<NodeRow>) -> Turning
-        ensures { result ≡ record { unread = rows.items; turned = []; room = 0 } }
+    pub(crate) fn new(rows: NodeRows) -> Turning
+        ensures { result ≡ record { unread = rows; turned = []; room = 0 } }
     {
         let count = rows.len();
         Turning {
@@ -58,7 +58,7 @@ impl Turning {
             return None;
         }
         self.unread -= 1;
-        Some(self.rows[self.unread])
+        Some(self.rows.row(self.unread))
     }
 
     /// Puts a row in front of the turned ones.
@@ -69,14 +69,14 @@ impl Turning {
         ensures room { self.new.room + 1 ≡ self.old.room }
     {
         self.turned -= 1;
-        self.rows[self.turned] = row;
+        self.rows.set(self.turned, row);
     }
 
     /// All rows, when they are turned.
-    pub(crate) fn finish(self) -> Vec<NodeRow>
+    pub(crate) fn finish(self) -> NodeRows
         requires read { self.unread ≡ [] }
         requires full { self.room ≡ 0 }
-        ensures { result.items ≡ reverse self.turned }
+        ensures { result ≡ reverse self.turned }
     {
         self.rows
     }

@@ -1,41 +1,33 @@
 -- The loop that cuts a text into tokens: what is known of what it has, and of what is left.
-use Rattle.std.proofs.Common.{◌≡◌, ℕ, suc, zero, ◌+◌, ◌-◌, ◌<◌, ◌≤◌, ◌==◌, true, false, if◌then◌else◌, List, [], ◌∷◌, ◌++◌, length, refl, sym, ap, subst, ◌∙◌, arith, append_assoc}
+use Rattle.std.proofs.Common.{◌≡◌, ℕ, suc, zero, ◌+◌, ◌-◌, ◌<◌, ◌≤◌, ◌==◌, true, false, if◌then◌else◌, List, [], ◌∷◌, ◌++◌, length, map, refl, sym, ap, subst, ◌∙◌, arith, append_assoc}
 use Rattle.std.specs.Prelude.{Option, Some, None}
 use Rattle.std.specs.Option.{option_map, option_map_or, option_and_then}
 use Rattle.std.specs.Str.{chars}
 use Rattle.ssr_syntax_lex.specs.Cursor.{Chars}
-use Rattle.ssr_syntax_lex.specs.Words.{is_punctuation}
 use Rattle.ssr_syntax_lex.specs.Raw.{Taken, token, fault_of}
-use Rattle.ssr_syntax_lex.specs.Tokens.{size, range_of, in_front, dots_behind, tokens_from, tokens, fault_from, fault}
-use Rattle.ssr_syntax_lex.specs.Steps.{flagged}
+use Rattle.ssr_syntax_lex.specs.Tokens.{size, range_of, in_front, dots_behind, tokens_from, tokens, fault_from, fault, row_of, rows_in}
 use Rattle.ssr_syntax_lex.specs.Fault.{words_at}
 use Rattle.ssr_syntax_lex.specs.Kinds.{same_kind}
 use Rattle.ssr_syntax_lex.specs.declared.kinds.SyntaxKind.TheVariants as k
 use Rattle.ssr_syntax_lex.specs.declared.kinds.SyntaxKind.{SyntaxKind}
-use Rattle.ssr_syntax_lex.specs.declared.range.TextRange.{TextRange}
+use Rattle.ssr_syntax_lex.specs.declared.token_rows.TokenRow.{TokenRow}
 use Rattle.ssr_syntax_lex.specs.declared.tokens.RawToken.{RawToken}
 use Rattle.ssr_syntax_lex.proofs.Fronts.{token_leaves, shorter}
-use Rattle.ssr_syntax_lex.proofs.Ranges.{TextRange-same}
 
--- the tokens behind the one that waits, and it
-abbrev pub with_waiting : Option RawToken → List RawToken → List RawToken
-with_waiting None ts = ts
-with_waiting (Some t) ts = in_front t.kind t.range ts
-
--- The text is `whole`, with this fault; of it, `done` is finished, and one token waits for its flag.
-pub record Cutting (whole : Option (List RawToken)) (told : Option (List ℕ)) (total : ℕ) (done : List RawToken) (waiting : Option RawToken) (start dots : ℕ) (rest : Chars) : Type 0 where
+-- The text has the rows `whole` and this fault; of its rows `done` are there.
+pub record Cutting (whole : Option (List TokenRow)) (told : Option (List ℕ)) (total : ℕ) (done : List TokenRow) (start dots : ℕ) (rest : Chars) : Type 0 where
   pub fuel : ℕ
   pub enough : length rest ≤ fuel
-  pub goes_on : option_map (λ ts. done ++ with_waiting waiting ts) (tokens_from fuel start dots rest) ≡ whole
+  pub goes_on : option_map (λ ts. done ++ map row_of ts) (tokens_from fuel start dots rest) ≡ whole
   pub tells : fault_from fuel start dots rest ≡ told
   pub place : start + size rest ≡ total
   pub few : dots ≤ start
 
-nothing_yet : (o : Option (List RawToken)) → option_map (λ ts. let none : List RawToken = [] in none ++ with_waiting None ts) o ≡ o
+nothing_yet : (o : Option (List RawToken)) → option_map (λ ts. let none : List TokenRow = [] in none ++ map row_of ts) o ≡ option_map (map row_of) o
 nothing_yet None = refl
 nothing_yet (Some ts) = refl
 
-pub started : (text : List ℕ) (total : ℕ) → total ≡ size (chars text) → Cutting (tokens text) (fault text) total [] None 0 0 (chars text)
+pub started : (text : List ℕ) (total : ℕ) → total ≡ size (chars text) → Cutting (rows_in text) (fault text) total [] 0 0 (chars text)
 unfolding tokens fault
 started text total e = record {
   fuel = length (chars text);
@@ -58,34 +50,32 @@ fault_behind fuel start dots c cs kind rest e =
     let here : Option (List ℕ) = Some (words_at (fault_of (c ∷ cs)) start) in
     ap (λ o. option_map_or (λ (taken : Taken). let count : ℕ = size (c ∷ cs) - size taken.1 in fault_from fuel (start + count) (dots_behind dots taken.0) taken.1) o here) e
 
-flag_first : (waiting : Option RawToken) (kind : SyntaxKind) (range : TextRange) (ts : List RawToken) → with_waiting waiting (in_front kind range ts) ≡ flagged waiting (is_punctuation kind) ++ in_front kind range ts
-flag_first None kind range ts = refl
-flag_first (Some t) kind range ts = refl
+abbrev row : SyntaxKind → ℕ → TokenRow
+row kind start = record { kind = kind; start = start }
 
--- the token that waited gets its flag, and the next one waits
-pass_on : (done : List RawToken) (waiting : Option RawToken) (kind : SyntaxKind) (range : TextRange) (o : Option (List RawToken)) → option_map (λ ts. done ++ with_waiting waiting ts) (option_map (in_front kind range) o) ≡ option_map (λ ts. (done ++ flagged waiting (is_punctuation kind)) ++ in_front kind range ts) o
-pass_on done waiting kind range None = refl
-pass_on done waiting kind range (Some ts) =
-    ap (λ (ts : List RawToken). let all : Option (List RawToken) = Some ts in all)
-    (ap (λ us. done ++ us) (flag_first waiting kind range ts) ∙ sym (append_assoc done (flagged waiting (is_punctuation kind)) (in_front kind range ts)))
+-- the row of the next token stands behind those that are there
+pass_on : (done : List TokenRow) (kind : SyntaxKind) (start count : ℕ) (o : Option (List RawToken)) → option_map (λ ts. done ++ map row_of ts) (option_map (in_front kind (range_of start count)) o) ≡ option_map (λ ts. (done ++ row kind start ∷ []) ++ map row_of ts) o
+pass_on done kind start count None = refl
+pass_on done kind start count (Some ts) =
+    ap (λ (rows : List TokenRow). let all : Option (List TokenRow) = Some rows in all) (sym (append_assoc done (row kind start ∷ []) (map row_of ts)))
 
 few_dots : (dots : ℕ) (kind : SyntaxKind) → dots_behind dots kind ≤ dots + 1
 few_dots dots kind = elim (same_kind kind k.DOT) as (λ b. (if b then dots + 1 else 0) ≤ dots + 1) [ true ↦ omega arith | false ↦ omega arith ]
 
--- one token further, with the fuel, the place and the range as variables
-step : (whole : Option (List RawToken)) (told : Option (List ℕ)) (done more : List RawToken) (waiting : Option RawToken) (fuel start dots next c : ℕ) (cs : Chars) (kind : SyntaxKind) (rest : Chars) (range : TextRange) → length rest ≤ length cs → suc (length cs) ≤ fuel → option_map (λ ts. done ++ with_waiting waiting ts) (tokens_from fuel start dots (c ∷ cs)) ≡ whole → fault_from fuel start dots (c ∷ cs) ≡ told → token dots (c ∷ cs) ≡ Some (kind, rest) → more ≡ done ++ flagged waiting (is_punctuation kind) → next ≡ start + (size (c ∷ cs) - size rest) → range ≡ range_of start (size (c ∷ cs) - size rest) → (left : ℕ) × (length rest ≤ left) × (option_map (λ ts. more ++ in_front kind range ts) (tokens_from left next (dots_behind dots kind) rest) ≡ whole) × (fault_from left next (dots_behind dots kind) rest ≡ told)
-step whole told done more waiting zero start dots next c cs kind rest range less enough goes tells e pushed place is = absurd (omega arith)
-step whole told done more waiting (suc fuel) start dots next c cs kind rest range less enough goes tells e pushed place is = (
-  fuel,
-  omega arith,
-  ap (λ xs. option_map (λ ts. xs ++ in_front kind range ts) (tokens_from fuel next (dots_behind dots kind) rest)) pushed
-      ∙ (ap (λ r. option_map (λ ts. (done ++ flagged waiting (is_punctuation kind)) ++ in_front kind r ts) (tokens_from fuel next (dots_behind dots kind) rest)) is
-      ∙ (ap (λ n. option_map (λ ts. (done ++ flagged waiting (is_punctuation kind)) ++ in_front kind (range_of start (size (c ∷ cs) - size rest)) ts) (tokens_from fuel n (dots_behind dots kind) rest)) place
-      ∙ (sym (pass_on done waiting kind (range_of start (size (c ∷ cs) - size rest)) (tokens_from fuel (start + (size (c ∷ cs) - size rest)) (dots_behind dots kind) rest))
-      ∙ (sym (ap (option_map (λ ts. done ++ with_waiting waiting ts)) (one_more fuel start dots c cs kind rest e))
-      ∙ goes)))),
-  ap (λ n. fault_from fuel n (dots_behind dots kind) rest) place ∙ (sym (fault_behind fuel start dots c cs kind rest e) ∙ tells),
-)
+-- one token further, with the fuel and the place as variables
+step : (whole : Option (List TokenRow)) (told : Option (List ℕ)) (done more : List TokenRow) (fuel start dots next c : ℕ) (cs : Chars) (kind : SyntaxKind) (rest : Chars) → length rest ≤ length cs → suc (length cs) ≤ fuel → option_map (λ ts. done ++ map row_of ts) (tokens_from fuel start dots (c ∷ cs)) ≡ whole → fault_from fuel start dots (c ∷ cs) ≡ told → token dots (c ∷ cs) ≡ Some (kind, rest) → more ≡ done ++ row kind start ∷ [] → next ≡ start + (size (c ∷ cs) - size rest) → (left : ℕ) × (length rest ≤ left) × (option_map (λ ts. more ++ map row_of ts) (tokens_from left next (dots_behind dots kind) rest) ≡ whole) × (fault_from left next (dots_behind dots kind) rest ≡ told)
+step whole told done more zero start dots next c cs kind rest less enough goes tells e pushed place = absurd (omega arith)
+step whole told done more (suc fuel) start dots next c cs kind rest less enough goes tells e pushed place =
+    let count : ℕ = size (c ∷ cs) - size rest in (
+      fuel,
+      omega arith,
+      ap (λ rows. option_map (λ ts. rows ++ map row_of ts) (tokens_from fuel next (dots_behind dots kind) rest)) pushed
+          ∙ (ap (λ n. option_map (λ ts. (done ++ row kind start ∷ []) ++ map row_of ts) (tokens_from fuel n (dots_behind dots kind) rest)) place
+          ∙ (sym (pass_on done kind start count (tokens_from fuel (start + count) (dots_behind dots kind) rest))
+          ∙ (sym (ap (option_map (λ ts. done ++ map row_of ts)) (one_more fuel start dots c cs kind rest e))
+          ∙ goes))),
+      ap (λ n. fault_from fuel n (dots_behind dots kind) rest) place ∙ (sym (fault_behind fuel start dots c cs kind rest e) ∙ tells),
+    )
 
 places : (start here left total : ℕ) → left < here → start + here ≡ total → total - left ≡ start + (here - left)
 places start here left total h e = omega arith
@@ -96,15 +86,14 @@ left_place start here left total h e = omega arith
 few_left : (start here left total dots more : ℕ) → left < here → start + here ≡ total → dots ≤ start → more ≤ dots + 1 → more ≤ total - left
 few_left start here left total dots more h e few m = omega arith
 
-pub gone_on : (whole : Option (List RawToken)) (told : Option (List ℕ)) (total : ℕ) (done : List RawToken) (waiting : Option RawToken) (start dots : ℕ) (cs : Chars) (kind : SyntaxKind) (rest : Chars) (more : List RawToken) (range : TextRange) → Cutting whole told total done waiting start dots cs → (length cs == 0) ≡ false → token dots cs ≡ Some (kind, rest) → more ≡ done ++ flagged waiting (is_punctuation kind) → range.start ≡ start → range.end ≡ total - size rest → Cutting whole told total more (Some (record { kind = kind; range = range; joint = false })) (total - size rest) (dots_behind dots kind) rest
-gone_on whole told total done waiting start dots [] kind rest more range cutting some e pushed starts ends = absurd (cc)
-gone_on whole told total done waiting start dots (c ∷ cs) kind rest more range cutting some e pushed starts ends =
+gone_on : (whole : Option (List TokenRow)) (told : Option (List ℕ)) (total : ℕ) (done : List TokenRow) (start dots : ℕ) (cs : Chars) (kind : SyntaxKind) (rest : Chars) (more : List TokenRow) → Cutting whole told total done start dots cs → (length cs == 0) ≡ false → token dots cs ≡ Some (kind, rest) → more ≡ done ++ row kind start ∷ [] → Cutting whole told total more (total - size rest) (dots_behind dots kind) rest
+gone_on whole told total done start dots [] kind rest more cutting some e pushed = absurd (cc)
+gone_on whole told total done start dots (c ∷ cs) kind rest more cutting some e pushed =
     let less = shorter c cs rest (token_leaves dots c cs (kind, rest) e) in
     let fewer : size rest < size (c ∷ cs) = less.1 in
     let whole_place : start + size (c ∷ cs) ≡ total = cutting.place in
     let place : total - size rest ≡ start + (size (c ∷ cs) - size rest) = places start (size (c ∷ cs)) (size rest) total fewer whole_place in
-    let stepped = step whole told done more waiting cutting.fuel start dots (total - size rest) c cs kind rest range less.0 cutting.enough cutting.goes_on cutting.tells e pushed place
-    (TextRange-same range (range_of start (size (c ∷ cs) - size rest)) starts (ends ∙ place)) in
+    let stepped = step whole told done more cutting.fuel start dots (total - size rest) c cs kind rest less.0 cutting.enough cutting.goes_on cutting.tells e pushed place in
     record {
       fuel = stepped.0;
       enough = stepped.1;
@@ -115,11 +104,11 @@ gone_on whole told total done waiting start dots (c ∷ cs) kind rest more range
     }
 
 -- the same, with the numbers as the code has them
-pub gone_to : (whole : Option (List RawToken)) (told : Option (List ℕ)) (total : ℕ) (done : List RawToken) (waiting : Option RawToken) (start dots : ℕ) (cs : Chars) (kind : SyntaxKind) (rest : Chars) (more : List RawToken) (range : TextRange) (next points : ℕ) → Cutting whole told total done waiting start dots cs → (length cs == 0) ≡ false → token dots cs ≡ Some (kind, rest) → more ≡ done ++ flagged waiting (is_punctuation kind) → next ≡ total - size rest → points ≡ dots_behind dots kind → range.start ≡ start → range.end ≡ next → Cutting whole told total more (Some (record { kind = kind; range = range; joint = false })) next points rest
-gone_to whole told total done waiting start dots cs kind rest more range next points cutting some e pushed n p starts ends =
-    let there = gone_on whole told total done waiting start dots cs kind rest more range cutting some e pushed starts (ends ∙ n) in
-    subst (λ (x : ℕ). Cutting whole told total more (Some (record { kind = kind; range = range; joint = false })) x points rest) (sym n)
-    (subst (λ (y : ℕ). Cutting whole told total more (Some (record { kind = kind; range = range; joint = false })) (total - size rest) y rest) (sym p) there)
+pub gone_to : (whole : Option (List TokenRow)) (told : Option (List ℕ)) (total : ℕ) (done : List TokenRow) (start dots : ℕ) (cs : Chars) (kind : SyntaxKind) (rest : Chars) (more : List TokenRow) (next points : ℕ) → Cutting whole told total done start dots cs → (length cs == 0) ≡ false → token dots cs ≡ Some (kind, rest) → more ≡ done ++ row kind start ∷ [] → next ≡ total - size rest → points ≡ dots_behind dots kind → Cutting whole told total more next points rest
+gone_to whole told total done start dots cs kind rest more next points cutting some e pushed n p =
+    let there = gone_on whole told total done start dots cs kind rest more cutting some e pushed in
+    subst (λ (x : ℕ). Cutting whole told total more x points rest) (sym n)
+    (subst (λ (y : ℕ). Cutting whole told total more (total - size rest) y rest) (sym p) there)
 
 one_less : (n m : ℕ) → n ≤ m → n < suc m
 one_less n m h = omega arith
@@ -134,9 +123,9 @@ pub record Ahead (total start dots : ℕ) (cs rest : Chars) : Type 0 where
 ahead_bounds : (total start dots here left : ℕ) → left < here → start + here ≡ total → dots ≤ start → (left ≤ total) × (start ≤ total - left) × (dots + 1 ≤ total)
 ahead_bounds total start dots here left h e few = (omega arith, omega arith, omega arith)
 
-pub looked_ahead : (whole : Option (List RawToken)) (told : Option (List ℕ)) (total : ℕ) (done : List RawToken) (waiting : Option RawToken) (start dots : ℕ) (cs : Chars) (kind : SyntaxKind) (rest : Chars) → Cutting whole told total done waiting start dots cs → (length cs == 0) ≡ false → token dots cs ≡ Some (kind, rest) → Ahead total start dots cs rest
-looked_ahead whole told total done waiting start dots [] kind rest cutting some e = absurd (cc)
-looked_ahead whole told total done waiting start dots (c ∷ cs) kind rest cutting some e =
+pub looked_ahead : (whole : Option (List TokenRow)) (told : Option (List ℕ)) (total : ℕ) (done : List TokenRow) (start dots : ℕ) (cs : Chars) (kind : SyntaxKind) (rest : Chars) → Cutting whole told total done start dots cs → (length cs == 0) ≡ false → token dots cs ≡ Some (kind, rest) → Ahead total start dots cs rest
+looked_ahead whole told total done start dots [] kind rest cutting some e = absurd (cc)
+looked_ahead whole told total done start dots (c ∷ cs) kind rest cutting some e =
     let less = shorter c cs rest (token_leaves dots c cs (kind, rest) e) in
     let bounds = ahead_bounds total start dots (size (c ∷ cs)) (size rest) less.1 cutting.place cutting.few in
     record { left = bounds.0; begins = bounds.1; few = bounds.2; less = one_less (length rest) (length cs) less.0 }

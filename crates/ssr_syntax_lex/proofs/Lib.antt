@@ -1,12 +1,17 @@
-pub mod SameKinds
-pub mod Eaten
-pub mod WordLaws
-pub mod ScanSteps
-pub mod FirstCharacters
-pub mod NumberLaws
-pub mod PointLaws
-pub mod NumberCases
-pub mod Fronts
-pub mod Ranges
-pub mod Cutting
-pub mod Tiling
+mod SameKinds
+pub mod Zips
+pub mod Shared
+mod Eaten
+mod WordLaws
+mod ScanSteps
+mod FirstCharacters
+mod NumberLaws
+mod PointLaws
+mod NumberCases
+mod Fronts
+mod Ranges
+mod Cutting
+mod Tiling
+mod RowCounts
+mod Joints
+mod FromRows

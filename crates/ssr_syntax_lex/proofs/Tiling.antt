@@ -55,7 +55,7 @@ ends_further text start c cs rest ends (taken, e) =
       utf8 = ends_utf8 (c ∷ taken) rest (subst (λ xs. IsUtf8 (encode_utf8_all (c ∷ xs))) e ends.utf8);
     }
 
-same_list : (ts us : List RawToken) → ◌≡◌ {A = Option (List RawToken)} (Some ts) (Some us) → ts ≡ us
+pub same_list : (ts us : List RawToken) → ◌≡◌ {A = Option (List RawToken)} (Some ts) (Some us) → ts ≡ us
 same_list ts us e = ap (λ o. option_map_or (λ xs. xs) o ts) e
 
 -- the last token ends where the text does

@@ -1,11 +1,15 @@
 -- Words of private functions alone: no promise to callers rests on them.
-use Rattle.std.specs.Prelude.{ℕ, Bool, false, ◌&&◌, nat_le, List, [], ◌∷◌, Option, Some, None, Result, Ok, Err, ◌≡◌, ◌≢◌, if◌then◌else◌, codes}
+use Rattle.std.specs.Prelude.{ℕ, Bool, false, ◌&&◌, nat_le, List, [], ◌∷◌, Option, Some, None, Result, Ok, Err, ◌≡◌, ◌≢◌, if◌then◌else◌, codes, max}
+use Rattle.std.proofs.Math.Nat.{le-max_left}
 use Prim.Native.String.{String}
 use Rattle.ssr_syntax_lex.specs.Characters.{the_char}
 use Rattle.ssr_syntax_lex.specs.Cursor.{Chars}
 use Rattle.ssr_syntax_lex.specs.Raw.{Taken}
+use Rattle.ssr_syntax_lex.specs.Words.{is_punctuation}
 use Rattle.ssr_syntax_lex.specs.declared.fault.FaultKind.{FaultKind}
 use Rattle.ssr_syntax_lex.specs.declared.kinds.SyntaxKind.{SyntaxKind}
+use Rattle.ssr_syntax_lex.specs.declared.range.TextRange.{TextRange}
+use Rattle.ssr_syntax_lex.specs.declared.token_rows.TokenRow.{TokenRow}
 use Rattle.ssr_syntax_lex.specs.declared.tokens.RawToken.{RawToken}
 
 -- what is left is what follows; where nothing does, this fault was told
@@ -23,10 +27,24 @@ abbrev pub IsPlain : ℕ → Type 0
 IsPlain c =
     (c ≢ the_char "/") × (c ≢ the_char "\"") × (c ≢ the_char "r") × (c ≢ the_char "b") × (c ≢ the_char "c") × (c ≢ the_char "'")
 
--- the token that waits for its flag, with it
-abbrev pub flagged : Option RawToken → Bool → List RawToken
-flagged None joint = []
-flagged (Some t) joint = record t { joint = joint } ∷ []
+-- the bytes from a place up to another, if that isn't before it
+abbrev pub reaching : ℕ → ℕ → TextRange
+reaching start end = record { start = start; end = max start end; ordered = le-max_left start end }
+
+-- the token of a row in front of others, of which the last one ends at the byte `total`
+abbrev pub token_before : ℕ → TokenRow → List TokenRow → RawToken
+token_before total row [] = record { kind = row.kind; range = reaching row.start total; joint = false }
+token_before total row (next ∷ rows) =
+    record {
+      kind = row.kind;
+      range = reaching row.start next.start;
+      joint = is_punctuation next.kind;
+    }
+
+-- the tokens of rows
+abbrev pub tokens_of : ℕ → List TokenRow → List RawToken
+tokens_of total [] = []
+tokens_of total (row ∷ rows) = token_before total row rows ∷ tokens_of total rows
 
 abbrev pub begins_between : ℕ → ℕ → List ℕ → Bool
 begins_between low high [] = false

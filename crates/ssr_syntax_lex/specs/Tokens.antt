@@ -1,5 +1,5 @@
 -- The raw tokens of a text.
-use Rattle.std.specs.Prelude.{ℕ, zero, suc, ◌≡◌, ◌+◌, ◌-◌, ◌^◌, ◌<◌, ◌≤◌, Bool, false, if◌then◌else◌, List, [], ◌∷◌, Option, Some, None, Result, Ok, Err, Vec, length, slice_range, flat_map, IsCharBoundary}
+use Rattle.std.specs.Prelude.{ℕ, zero, suc, ◌≡◌, ◌+◌, ◌-◌, ◌^◌, ◌<◌, ◌≤◌, Bool, false, if◌then◌else◌, List, [], ◌∷◌, Option, Some, None, Result, Ok, Err, Vec, length, map, slice_range, flat_map, IsCharBoundary}
 use Rattle.std.specs.Option.{option_map, option_map_or, option_and_then}
 use Rattle.std.specs.Str.{chars, encode_utf8_all}
 use Rattle.std.specs.declared.alloc.Global.{Global}
@@ -13,6 +13,7 @@ use Rattle.ssr_syntax_lex.specs.declared.kinds.SyntaxKind.{SyntaxKind}
 use Rattle.ssr_syntax_lex.specs.declared.kinds.SyntaxKind.TheVariants as k
 use Rattle.ssr_syntax_lex.specs.declared.range.TextRange.{TextRange}
 use Rattle.ssr_syntax_lex.specs.declared.tokens.RawToken.{RawToken}
+use Rattle.ssr_syntax_lex.specs.declared.token_rows.TokenRow.{TokenRow}
 use Rattle.ssr_syntax_lex.specs.declared.tokens.LexError.{LexError}
 use Rattle.ssr_syntax_lex.specs.declared.tokens.LexError.TheVariants.{TooLong, Fault, Memory}
 
@@ -51,12 +52,29 @@ tokens_from (suc fuel) start dots (c ∷ cs) =
 unfoldable pub tokens : List ℕ → Option (List RawToken)
 tokens text = tokens_from (length (chars text)) 0 0 (chars text)
 
--- what `lex` gives; a text that is too long is told as such, also where there is no memory
+-- why a text has no tokens; a text that is too long is told as such, also where there is no memory
+abbrev pub HasNoTokens : LexError → List ℕ → Type 0
+HasNoTokens (Fault fault) text = (length text < 2 ^ 32) × (tokens text ≡ None)
+HasNoTokens TooLong text = 2 ^ 32 ≤ length text
+HasNoTokens Memory text = length text < 2 ^ 32
+
+-- what `lex` gives
 abbrev pub Lexes : Result (Vec RawToken Global) LexError → List ℕ → Type 0
 Lexes (Ok v) text = (length text < 2 ^ 32) × (tokens text ≡ Some v.items)
-Lexes (Err (Fault fault)) text = (length text < 2 ^ 32) × (tokens text ≡ None)
-Lexes (Err TooLong) text = 2 ^ 32 ≤ length text
-Lexes (Err Memory) text = length text < 2 ^ 32
+Lexes (Err e) text = HasNoTokens e text
+
+-- the row of a token
+abbrev pub row_of : RawToken → TokenRow
+row_of t = record { kind = t.kind; start = t.range.start }
+
+-- the rows of a text's tokens, or None where there is a fault
+abbrev pub rows_in : List ℕ → Option (List TokenRow)
+rows_in text = option_map (map row_of) (tokens text)
+
+-- what `lex_rows` gives
+abbrev pub LexesRows : Result (List TokenRow) LexError → List ℕ → Type 0
+LexesRows (Ok rows) text = (length text < 2 ^ 32) × (rows_in text ≡ Some rows)
+LexesRows (Err e) text = HasNoTokens e text
 
 -- the words of the fault of the characters that are left from the byte `start` on, if there is one
 abbrev pub fault_from : ℕ → ℕ → ℕ → Chars → Option (List ℕ)
@@ -72,8 +90,8 @@ fault_from (suc fuel) start dots (c ∷ cs) =
 unfoldable pub fault : List ℕ → Option (List ℕ)
 fault text = fault_from (length (chars text)) 0 0 (chars text)
 
--- a fault that `lex` tells is shown in the words of the text's
-abbrev pub TellsFault : Result (Vec RawToken Global) LexError → List ℕ → Type 0
+-- a fault that is told is shown in the words of the text's
+abbrev pub TellsFault : {R : Type 0} → Result R LexError → List ℕ → Type 0
 TellsFault (Ok v) text = Unit {0}
 TellsFault (Err (Fault told)) text = fault text ≡ Some (fault_words told)
 TellsFault (Err TooLong) text = Unit {0}

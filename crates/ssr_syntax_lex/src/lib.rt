@@ -9,9 +9,11 @@ mod numbers;
 mod range;
 mod raw;
 mod scan;
+mod token_rows;
 mod tokens;
 mod words;
 
 pub use kinds::SyntaxKind;
 pub use range::TextRange;
-pub use tokens::{LexError, LexFault, RawToken, lex};
+pub use token_rows::{TokenRow, TokenRows};
+pub use tokens::{LexError, LexFault, RawToken, lex, lex_rows};

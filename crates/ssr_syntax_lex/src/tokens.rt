@@ -1,14 +1,15 @@
 //! The raw tokens of a text.
 
-ghost use Rattle.std.specs.Prelude.{◌≡◌, ◌+◌, ◌<◌, ◌^◌, ◌++◌, length, IfOk};
+ghost use Rattle.std.specs.Prelude.{◌≡◌, ◌+◌, ◌<◌, ◌^◌, length, option_to_list, IfOk};
 ghost use Rattle.ssr_syntax_lex.specs.Tokens as spec;
-ghost use Rattle.ssr_syntax_lex.specs.Steps.{flagged};
+ghost use Rattle.ssr_syntax_lex.specs.Steps.{token_before, tokens_of};
 
 use crate::cursor::Cursor;
 use crate::fault::FaultKind;
 use crate::kinds::SyntaxKind;
 use crate::range::TextRange;
 use crate::raw::eat_token;
+use crate::token_rows::{TokenRow, TokenRows};
 use crate::words::is_punctuation;
 use std::alloc::{AllocError, AllocFailed, Global};
 use std::fmt;
@@ -93,6 +94,16 @@ pub fn lex(alloc: Global, text: &str) -> Result<Vec<RawToken>, LexError>
     ensures tiles { IfOk result (λ v. spec.Tiles text.now v.items) }
     ensures spelled { IfOk result (λ v. spec.spell text.now v.items ≡ text.now) }
 {
+    let rows = lex_rows(alloc, text)?;
+    Ok(raw_tokens(alloc, &rows, text.len() as u32)?)
+}
+
+/// The rows of a text's raw tokens, in order. They say all of these: a token ends where the next one begins, and is
+/// joint if that one is punctuation.
+pub fn lex_rows(alloc: Global, text: &str) -> Result<TokenRows, LexError>
+    ensures value { spec.LexesRows result text.now }
+    ensures fault { spec.TellsFault result text.now }
+{
     if text.len() > u32::MAX as usize {
         return Err(LexError::TooLong);
     }
@@ -100,15 +111,14 @@ pub fn lex(alloc: Global, text: &str) -> Result<Vec<RawToken>, LexError>
 }
 
 /// Cuts a text into its tokens, from the front to its end.
-fn cut(alloc: Global, text: &str) -> Result<Vec<RawToken>, LexError>
+fn cut(alloc: Global, text: &str) -> Result<TokenRows, LexError>
     requires { length text.now < 2 ^ 32 }
-    ensures value { spec.Lexes result text.now }
+    ensures value { spec.LexesRows result text.now }
     ensures fault { spec.TellsFault result text.now }
 {
     let mut cursor = Cursor::new(text);
     let total = cursor.len();
-    let mut tokens = Vec::new(alloc);
-    let mut waiting = None;
+    let mut rows = TokenRows::new(alloc);
     let mut start = 0u32;
     let mut dots = 0u32;
     while !cursor.is_empty() {
@@ -116,36 +126,39 @@ fn cut(alloc: Global, text: &str) -> Result<Vec<RawToken>, LexError>
             Ok(kind) => kind,
             Err(kind) => return Err(LexError::Fault(LexFault { kind, start })),
         };
-        let end = (total - cursor.len()) as u32;
-        push_waiting(&mut tokens, waiting, is_punctuation(kind))?;
-        waiting = Some(RawToken {
-            kind,
-            range: TextRange::new(start, end),
-            joint: false,
-        });
+        rows.push(TokenRow { kind, start })?;
         dots = dots_behind(dots, kind);
-        start = end;
+        start = (total - cursor.len()) as u32;
     }
-    push_waiting(&mut tokens, waiting, false)?;
+    Ok(rows)
+}
+
+/// The raw tokens of rows, of which the last one ends at the byte `total`.
+fn raw_tokens(alloc: Global, rows: &TokenRows, total: u32) -> Result<Vec<RawToken>, AllocError>
+    ensures { IfOk result (λ v. v.items ≡ tokens_of total rows.now) }
+{
+    let mut tokens = Vec::with_capacity(alloc, rows.len())?;
+    let mut number = 0;
+    while let Some(row) = rows.get(number) {
+        number += 1;
+        tokens.push(raw_token(row, rows.get(number), total))?;
+    }
     Ok(tokens)
 }
 
-/// Puts the token that waits for its flag behind the others.
-fn push_waiting(
-    tokens: &mut Vec<RawToken>,
-    waiting: Option<RawToken>,
-    joint: bool,
-) -> Result<(), AllocError>
-    ensures { IfOk result (λ _. tokens.new.items ≡ tokens.old.items ++ flagged waiting joint) }
+/// The token of a row in front of the next one, or of the end of the text at the byte `total`.
+fn raw_token(row: TokenRow, next: Option<TokenRow>, total: u32) -> RawToken
+    ensures { result ≡ token_before total row (option_to_list next) }
 {
-    if let Some(token) = waiting {
-        tokens.push(RawToken {
-            kind: token.kind,
-            range: token.range,
-            joint,
-        })?;
+    let (end, joint) = match next {
+        Some(next) => (next.start, is_punctuation(next.kind)),
+        None => (total, false),
+    };
+    RawToken {
+        kind: row.kind,
+        range: TextRange::new(row.start, row.start.max(end)),
+        joint,
     }
-    Ok(())
 }
 
 /// How many `.` stand directly before what follows a token of this kind.

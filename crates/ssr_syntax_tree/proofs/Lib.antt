@@ -1,5 +1,6 @@
 pub mod Lists
 pub mod Shared
+mod RowCounts
 mod Siblings
 mod ReadBack
 mod RowLaws

@@ -2,3 +2,4 @@
 -- those has to believe them.
 pub mod Flat
 pub mod Siblings
+pub mod NodeRows

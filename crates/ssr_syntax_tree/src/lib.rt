@@ -2,11 +2,14 @@
 #![tactic(auto)]
 
 mod children;
+mod node_rows;
 mod number;
 mod rows;
 mod tree;
 
 pub use children::Children;
+pub use node_rows::NodeRows;
 pub use number::{Element, NodeNo, TokenNo};
-pub use rows::{NodeRow, TokenRow};
+pub use rows::NodeRow;
+pub use ssr_syntax_lex::{TokenRow, TokenRows};
 pub use tree::Tree;

@@ -1,13 +1,6 @@
-//! The rows that a tree is stored in: one for each token, and one for each node.
+//! The rows of a tree's nodes.
 
 use ssr_syntax_lex::SyntaxKind;
-
-/// A token of a tree: its kind, and where it begins, in bytes.
-#[derive(Clone, Copy)]
-pub struct TokenRow {
-    pub kind: SyntaxKind,
-    pub start: u32,
-}
 
 /// A node of a tree, in preorder.
 #[derive(Clone, Copy)]

@@ -4,9 +4,10 @@ ghost use Rattle.std.specs.Prelude.{All, ◌≡◌, ◌+◌, ◌^◌, ◌<◌, �
 ghost use Rattle.std.specs.Str.{IsCharBoundary};
 
 use crate::children::Children;
+use crate::node_rows::NodeRows;
 use crate::number::{Element, NodeNo, TokenNo};
-use crate::rows::{NodeRow, TokenRow};
-use ssr_syntax_lex::{SyntaxKind, TextRange};
+use crate::rows::NodeRow;
+use ssr_syntax_lex::{SyntaxKind, TextRange, TokenRows};
 use std::marker::Model;
 use std::ops::Range;
 
@@ -14,8 +15,8 @@ use std::ops::Range;
 #[derive(Drop)]
 pub struct Tree {
     source: String,
-    tokens: Vec<TokenRow>,
-    nodes: Vec<NodeRow>,
+    tokens: TokenRows,
+    nodes: NodeRows,
 }
 
 impl Model for Tree {
@@ -39,9 +40,9 @@ impl Tree {
     ghost use Rattle.ssr_syntax_tree.specs.Places.{node_of, token_of, size_of, parts_of, part_of, elements_of, text_of, offset_of, depth_at, start_of, end_of, HasNode, HasToken, HasElement, HoldsByte, HoldsRange, IsCovering};
 
     /// The tree that the parts stand for. The source is shorter than 2^32 bytes.
-    pub fn from_parts(source: String, tokens: Vec<TokenRow>, nodes: Vec<NodeRow>) -> Tree
-        requires { (syntax : Syntax) × AreParts (string_bytes source) tokens.items nodes.items syntax }
-        ensures { (syntax : Syntax) → AreParts (string_bytes source) tokens.items nodes.items syntax → result ≡ syntax }
+    pub fn from_parts(source: String, tokens: TokenRows, nodes: NodeRows) -> Tree
+        requires { (syntax : Syntax) × AreParts (string_bytes source) tokens nodes syntax }
+        ensures { (syntax : Syntax) → AreParts (string_bytes source) tokens nodes syntax → result ≡ syntax }
     {
         Tree {
             source,
@@ -68,7 +69,7 @@ impl Tree {
     pub fn token_count(&self) -> u32
         ensures { result ≡ token_count self.now.children }
     {
-        self.nodes[0].past
+        self.nodes.row(0).past
     }
 
     /// Whether the number is that of a node or a token of the tree.
@@ -82,21 +83,12 @@ impl Tree {
     }
 
     /// The row of a node.
-    fn row(&self, node: NodeNo) -> &NodeRow
+    fn row(&self, node: NodeNo) -> NodeRow
         requires { HasNode self.now node.0 }
-        ensures value { result.now ≡ node_row (node_of self.now node.0) }
+        ensures value { result ≡ node_row (node_of self.now node.0) }
         ensures few { 1 + node_count self.now.children < 2 ^ 32 }
     {
-        &self.nodes[node.0 as usize]
-    }
-
-    /// The row of a token.
-    fn token_row(&self, token: TokenNo) -> &TokenRow
-        requires { HasToken self.now token.0 }
-        ensures kind { result.now.kind ≡ (token_of self.now token.0).kind }
-        ensures start { result.now.start ≡ offset_of self.now token.0 }
-    {
-        &self.tokens[token.0 as usize]
+        self.nodes.row(node.0 as usize)
     }
 
     /// The kind of a node.
@@ -104,7 +96,7 @@ impl Tree {
         requires { HasNode self.now node.0 }
         ensures { result ≡ (node_of self.now node.0).kind }
     {
-        self.row(node).kind
+        self.nodes.kind(node.0 as usize)
     }
 
     /// The node above; the root has none.
@@ -198,7 +190,7 @@ impl Tree {
         requires { HasToken self.now token.0 }
         ensures { result ≡ (token_of self.now token.0).kind }
     {
-        self.token_row(token).kind
+        self.tokens.kinds()[token.0 as usize]
     }
 
     /// Where a token stands in the source, in bytes, at character boundaries.

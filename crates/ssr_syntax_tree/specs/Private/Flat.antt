@@ -4,7 +4,7 @@ use Rattle.std.specs.Prelude.{ℕ, ◌+◌, ◌-◌, ◌==◌, ◌&&◌, nat_lt,
 use Rattle.std.specs.String.{string_bytes}
 use Rattle.ssr_syntax_lex.specs.declared.kinds.SyntaxKind.TheVariants as k
 use Rattle.ssr_syntax_tree.specs.declared.rows.NodeRow.{NodeRow}
-use Rattle.ssr_syntax_tree.specs.declared.rows.TokenRow.{TokenRow}
+use Rattle.ssr_syntax_lex.specs.declared.token_rows.TokenRow.{TokenRow}
 use Rattle.ssr_syntax_tree.specs.declared.tree.Tree.TheInside.{Inside}
 use Rattle.ssr_syntax_tree.specs.Parts.{AreParts}
 use Rattle.ssr_syntax_tree.specs.Syntax.{Token, Forest, nothing, leaf, branch, Syntax}
@@ -47,7 +47,7 @@ plain_of source tokens nodes =
     }
 
 abbrev pub syntax_of : Inside → Syntax
-syntax_of tree = plain_of (string_bytes tree.source) tree.tokens.items tree.nodes.items
+syntax_of tree = plain_of (string_bytes tree.source) tree.tokens tree.nodes
 
 abbrev pub IsFlat : Inside → Type 0
-IsFlat tree = AreParts (string_bytes tree.source) tree.tokens.items tree.nodes.items (syntax_of tree)
+IsFlat tree = AreParts (string_bytes tree.source) tree.tokens tree.nodes (syntax_of tree)

@@ -1,4 +1,4 @@
-use Rattle.ide_ssr.specs.Pending.{IsPending}
+use Rattle.ide_ssr.specs.Private.Pending.{IsPending}
 use Rattle.ide_ssr.proofs.edits.changes.Given as goal
 
 abbrev pub invariant-loop-place : goal.invariant-loop-place

@@ -1,6 +1,6 @@
 use Rattle.std.proofs.Common.{◌≡◌, true, drop}
 use Rattle.std.specs.List.{All}
-use Rattle.ide_ssr.specs.Pending.{is_at}
+use Rattle.ide_ssr.specs.Private.Pending.{is_at}
 use Rattle.ide_ssr.proofs.edits.held_from.Given as goal
 
 abbrev pub invariant-loop-first : goal.invariant-loop-first

@@ -1,7 +1,7 @@
 use Rattle.std.proofs.Common.{◌≡◌, ℕ, ◌-◌, ◌<◌, ◌≤◌, List, All, true, false, get_or, length, reverse, drop, ◌∙◌, ap, subst}
 use Rattle.ssr_syntax_tree.specs.Places.{node_of, start_of, end_of}
 use Rattle.ide_ssr.specs.Edits.{Rewrite, replacement}
-use Rattle.ide_ssr.specs.Pending.{is_at}
+use Rattle.ide_ssr.specs.Private.Pending.{is_at}
 use Rattle.ide_ssr.proofs.Waiting.{waits, made_of, from_on}
 use Rattle.ide_ssr.proofs.edits.push_rewrite.Goals as goal
 

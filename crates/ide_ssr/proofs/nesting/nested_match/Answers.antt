@@ -6,7 +6,7 @@ use Rattle.std.proofs.Common.{◌∙◌, ℕ, List, Some, All, map, arith, sym, 
 use Rattle.ide_ssr.specs.declared.holders.Holder.{Holder}
 use Rattle.ide_ssr.specs.declared.matches.Match.{Match}
 use Rattle.ide_ssr.specs.declared.matches.Match.TheViews.{out-roll-Match}
-use Rattle.ide_ssr.specs.Made.{ListedAreMade}
+use Rattle.ide_ssr.specs.Private.Made.{ListedAreMade}
 use Rattle.ide_ssr.specs.Matches.{place_of_range, place_of_token}
 use Rattle.ide_ssr.specs.Lists.{listed}
 use Rattle.ide_ssr.specs.Nesting.{IsBetweenCharacters, Show}

@@ -1,7 +1,7 @@
 use Rattle.std.proofs.lemmas.Result.{IfOk-weaker}
 use Rattle.ide_ssr_rules.specs.Resolving.{ResolvedKind}
 use Rattle.std.proofs.Common.{List, None, arith}
-use Rattle.ide_ssr.specs.Made.{ListedAreMade}
+use Rattle.ide_ssr.specs.Private.Made.{ListedAreMade}
 use Rattle.ide_ssr.specs.Lists.{listed}
 use Rattle.ide_ssr.specs.Nesting.{Show}
 use Rattle.ide_ssr.proofs.Made.{made-all}

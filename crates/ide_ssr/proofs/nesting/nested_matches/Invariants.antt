@@ -1,4 +1,4 @@
-use Rattle.ide_ssr.specs.Made.{AreMade}
+use Rattle.ide_ssr.specs.Private.Made.{AreMade}
 use Rattle.ide_ssr.proofs.nesting.nested_matches.Given as goal
 
 abbrev pub invariant-loop-place : goal.invariant-loop-place

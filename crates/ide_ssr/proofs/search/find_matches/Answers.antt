@@ -1,7 +1,7 @@
 use Rattle.std.proofs.Common.{◌≡◌, arith, subst, sym}
 use Rattle.ssr_syntax_tree.specs.Places.{HasNode}
 use Rattle.ide_ssr.specs.Found.{found_in}
-use Rattle.ide_ssr.specs.Order.{AreInOrder}
+use Rattle.ide_ssr.specs.Private.Order.{AreInOrder}
 use Rattle.ide_ssr.proofs.Finding.{nodes-start, nodes-turn, nodes-end}
 use Rattle.ide_ssr.proofs.InOrder.{found_in_order}
 use Rattle.ide_ssr.proofs.search.find_matches.Goals as goal

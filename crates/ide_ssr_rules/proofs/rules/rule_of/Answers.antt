@@ -2,7 +2,7 @@ use Rattle.std.proofs.lemmas.Result.{err_from_is_err_and}
 use Rattle.std.proofs.Common.{sym, ◌∙◌}
 use Rattle.ide_ssr_rules.proofs.Walking.{names_few}
 use Rattle.ide_ssr_rules.proofs.Chains.{sides_refused, kinds_refused, names_refused, rule_made}
-use Rattle.ide_ssr_rules.proofs.EachOnce.{kinds_each}
+use Rattle.ide_ssr_rules.proofs.KindUses.{kinds_once}
 use Rattle.ide_ssr_rules.proofs.rules.rule_of.Goals as goal
 
 pub returns-in_err-check_sides : goal.returns-in_err-check_sides
@@ -30,7 +30,9 @@ pub invariant_of-result : goal.invariant_of-result
 invariant_of-result c =
     let kept = c.as_slice-3.ensures.value ∙ c.in_ok-names.ensures in record {
       few = names_few c.args.pattern.now _ _ c.requires.few c.in_ok-names-2.ensures kept;
-      each =
-          kinds_each c.args.pattern.now c.args.template.now _ _ c.in_ok-kinds.ensures.text c.requires.trimmed c.requires.new c.in_ok-check_sides.ensures
-          c.in_ok-kinds.ensures.kinds (c.in_ok-names-2.ensures ∙ kept);
+      once =
+          kinds_once c.args.pattern.now c.args.template.now _ _
+          (record { utf8 = c.in_ok-kinds.ensures.pattern_text; is_trimmed = c.requires.pattern_trimmed; new = c.requires.pattern_new })
+          (record { utf8 = c.in_ok-kinds.ensures.template_text; is_trimmed = c.requires.template_trimmed; new = c.requires.template_new })
+          c.in_ok-check_sides.ensures c.in_ok-kinds.ensures.kinds (c.in_ok-names-2.ensures ∙ kept);
     }

@@ -22,8 +22,14 @@ pub returns : goal.returns
 returns c =
     rule_read _ _ _ _ _ _ _ c.in_ok-pattern.ensures.parts c.in_ok-pattern-2.ensures.value c.in_ok-template.ensures.value c.as_slice.ensures.value c.as_slice-2.ensures.value c.rule_of.ensures
 
-pub rule_of-requires-clause-new : goal.rule_of-requires-clause-new
-rule_of-requires-clause-new c = rw c.as_slice.ensures.value (side_new _ _ c.in_ok-pattern-2.ensures.value)
+pub rule_of-requires-clause-pattern_new : goal.rule_of-requires-clause-pattern_new
+rule_of-requires-clause-pattern_new c = rw c.as_slice.ensures.value (side_new _ _ c.in_ok-pattern-2.ensures.value)
 
-pub rule_of-requires-clause-trimmed : goal.rule_of-requires-clause-trimmed
-rule_of-requires-clause-trimmed c = rw c.as_slice.ensures.value (c.in_ok-pattern-2.ensures.trimmed c.in_ok-pattern.ensures.trimmed)
+pub rule_of-requires-clause-template_new : goal.rule_of-requires-clause-template_new
+rule_of-requires-clause-template_new c = rw c.as_slice-2.ensures.value (side_new _ _ c.in_ok-template.ensures.value)
+
+pub rule_of-requires-clause-pattern_trimmed : goal.rule_of-requires-clause-pattern_trimmed
+rule_of-requires-clause-pattern_trimmed c = rw c.as_slice.ensures.value (c.in_ok-pattern-2.ensures.trimmed c.in_ok-pattern.ensures.pattern_trimmed)
+
+pub rule_of-requires-clause-template_trimmed : goal.rule_of-requires-clause-template_trimmed
+rule_of-requires-clause-template_trimmed c = rw c.as_slice-2.ensures.value (c.in_ok-template.ensures.trimmed c.in_ok-pattern.ensures.template_trimmed)

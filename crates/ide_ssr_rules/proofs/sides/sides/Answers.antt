@@ -12,5 +12,8 @@ returns-then-contains-clause-parts c = tells_refusal _ _ _ (second_split _ _ _ c
 pub returns-clause-parts : goal.returns-clause-parts
 returns-clause-parts c = let is = one_split _ _ _ c.in-Some.ensures.cases c.if-contains.ensures.cases in cc
 
-pub returns-clause-trimmed : goal.returns-clause-trimmed
-returns-clause-trimmed c = trimmed_stays _ _ c.trim.ensures.value c.trim.utf8
+pub returns-clause-pattern_trimmed : goal.returns-clause-pattern_trimmed
+returns-clause-pattern_trimmed c = trimmed_stays _ _ c.trim.ensures.value c.trim.utf8
+
+pub returns-clause-template_trimmed : goal.returns-clause-template_trimmed
+returns-clause-template_trimmed c = trimmed_stays _ _ c.trim-2.ensures.value c.trim-2.utf8

@@ -1,4 +1,4 @@
-use Rattle.std.proofs.Common.{ap, sym, ◌∙◌, append-nil, refl, subst, string_bytes, codes}
+use Rattle.std.proofs.Common.{ap, sym, ◌∙◌, append-nil, refl, string_bytes, codes}
 use Rattle.ssr.specs.Output.{usage, input_refused, rule_refused, refused, written, no_text}
 use Rattle.ssr.specs.Running.{wrong_words, told, unread, no_memory_for_input}
 use Rattle.ssr.proofs.Answering.{answered, answered_file, answered_memory, goes_as}

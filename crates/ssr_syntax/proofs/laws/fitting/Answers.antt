@@ -1,7 +1,7 @@
 use Rattle.ssr_syntax.specs.Grammar.{grammar}
 use Rattle.ssr_syntax.specs.Decision.{goals_in_a_row}
 use Rattle.ssr_syntax.proofs.Checks.{tables}
-use Rattle.ssr_syntax.proofs.Decision.{decided, answers}
+use Rattle.ssr_syntax_forms.proofs.Shared.{decided, answers}
 use Rattle.ssr_syntax.proofs.FitsHere.{grammar_lone}
 use Rattle.ssr_syntax.proofs.laws.fitting.Goals as goal
 

@@ -4,7 +4,7 @@ use Rattle.ssr_syntax.proofs.laws.fragments.Goals as goal
 
 pub returns : goal.returns
 returns c = record {
-  one = λ fragment text a b core_a core_b. one_fragment fragment text a b;
+  one = one_fragment;
   idents = fragment_idents;
   alone = fragment_alone;
 }

@@ -1,6 +1,6 @@
 use Rattle.std.proofs.Common.{◌≡◌, ◌++◌, ◌+◌, ◌≤◌, vec_len, length}
 use Rattle.std.specs.Prelude.{reverse}
-use Rattle.ssr_syntax.specs.OpenNodes.{still_open, closed}
+use Rattle.ssr_syntax.specs.Private.OpenNodes.{still_open, closed}
 use Rattle.ssr_syntax.proofs.preorder.close_open.Given as goal
 
 abbrev pub invariant-loop-inner : goal.invariant-loop-inner

@@ -1,7 +1,7 @@
 use Rattle.std.proofs.Common.{◌≡◌, ◌++◌, ◌≤◌, length}
 use Rattle.std.specs.Prelude.{reverse, slice_index}
-use Rattle.ssr_syntax.specs.Preorder.{most_deep}
-use Rattle.ssr_syntax.specs.OpenNodes.{from_right, is_deeper}
+use Rattle.ssr_syntax.specs.Reading.{most_deep}
+use Rattle.ssr_syntax.specs.Private.OpenNodes.{from_right, is_deeper}
 use Rattle.ssr_syntax.proofs.preorder.from_right.Given as goal
 
 abbrev pub invariant-loop-row : goal.invariant-loop-row

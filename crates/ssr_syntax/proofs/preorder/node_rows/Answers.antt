@@ -1,26 +1,27 @@
 use Rattle.std.proofs.Common.{arith, ◌≡◌, ◌≤◌, ◌∙◌, ◌++◌, [], ◌∷◌, ap, sym, length}
 use Rattle.std.specs.Prelude.{slice_index, reverse, nat_lt}
-use Rattle.ssr_syntax.specs.Preorder.{tree_rows, most_deep, most_nodes}
-use Rattle.ssr_syntax.specs.OpenNodes.{is_deeper}
-use Rattle.ssr_syntax.specs.Trees.{height}
+use Rattle.ssr_syntax.specs.Private.Preorder.{tree_rows, most_nodes}
+use Rattle.ssr_syntax.specs.Reading.{most_deep}
+use Rattle.ssr_syntax.specs.Private.OpenNodes.{is_deeper}
+use Rattle.ssr_syntax_forms.specs.Trees.{height}
 use Rattle.ssr_syntax.proofs.Placed.{rows_done, rows_too_deep, root_open, carried}
 use Rattle.ssr_syntax.proofs.preorder.node_rows.Goals as goal
 
 pub returns-in_err-from_right : goal.returns-in_err-from_right
 returns-in_err-from_right c kind kids e =
-    let same = rows_too_deep (λ i. slice_index c.args.ends.now i) c.args.tokens kind kids c.read.new.self.unread c.args.rows.items c.in-Some.root
+    let same = rows_too_deep (λ i. slice_index c.args.ends.now i) c.args.tokens kind kids c.read.new.self.unread c.args.rows c.in-Some.root
     c.new-above.result.items c.push.new.self.items (sym (ap (λ t. t.unread) c.new-rows.ensures) ∙ c.in-Some.ensures.row) e c.new-above.ensures.items
     (c.in_ok-push.ensures.items ∙ ap (λ n. c.new-above.result.items ++ (root_open c.in-Some.root.kind c.args.tokens n ∷ [])) c.unread.ensures) in
     carried
     (is_deeper most_deep (λ i. slice_index c.args.ends.now i) c.in-Some.root.first (reverse c.push.new.self.items) (reverse c.read.new.self.unread))
     (nat_lt most_deep (height kids))
-    (λ v. (v.items ≡ tree_rows (λ i. slice_index c.args.ends.now i) c.args.tokens kind kids) × (length c.args.rows.items ≤ most_nodes))
+    (λ v. (v ≡ tree_rows (λ i. slice_index c.args.ends.now i) c.args.tokens kind kids) × (length c.args.rows ≤ most_nodes))
     c.in_err-from_right.field-0.0 c.from_residual-in_err-from_right.result
     c.in_err-from_right.ensures.turned same c.from_residual-in_err-from_right.ensures.0 c.from_residual-in_err-from_right.ensures.1
 
 pub returns : goal.returns
 returns c kind kids e =
-    let r = rows_done (λ i. slice_index c.args.ends.now i) c.args.tokens kind kids c.read.new.self.unread c.args.rows.items c.in-Some.root
+    let r = rows_done (λ i. slice_index c.args.ends.now i) c.args.tokens kind kids c.read.new.self.unread c.args.rows c.in-Some.root
     c.new-above.result.items c.push.new.self.items (sym (ap (λ t. t.unread) c.new-rows.ensures) ∙ c.in-Some.ensures.row) e c.new-above.ensures.items
     (c.in_ok-push.ensures.items ∙ ap (λ n. c.new-above.result.items ++ (root_open c.in-Some.root.kind c.args.tokens n ∷ [])) c.unread.ensures)
     c.read.new.self.turned c.from_right.new.rows.turned (c.read.ensures.turned ∙ ap (λ t. t.turned) c.new-rows.ensures)

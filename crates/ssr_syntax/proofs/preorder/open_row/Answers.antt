@@ -1,6 +1,6 @@
 use Rattle.std.proofs.Common.{arith, ◌∙◌, ap}
 use Rattle.std.specs.Prelude.{reverse, slice_index}
-use Rattle.ssr_syntax.specs.OpenNodes.{opened}
+use Rattle.ssr_syntax.specs.Private.OpenNodes.{opened}
 use Rattle.ssr_syntax.proofs.Placed.{goes_on, goes_on_written}
 use Rattle.ssr_syntax.proofs.preorder.open_row.Goals as goal
 

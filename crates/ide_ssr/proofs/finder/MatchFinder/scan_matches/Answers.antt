@@ -6,7 +6,7 @@ use Rattle.ide_ssr.specs.Found.{found_in}
 use Rattle.ide_ssr.specs.Kept.{kept_in}
 use Rattle.ide_ssr.specs.Lists.{outermost}
 use Rattle.ide_ssr.specs.Nesting.{Show}
-use Rattle.ide_ssr.specs.Order.{AreHeld}
+use Rattle.ide_ssr.specs.Private.Order.{AreHeld}
 use Rattle.ide_ssr.proofs.InOrder.{found_in_order}
 use Rattle.ide_ssr.proofs.OneKept.{kept-IsKept}
 use Rattle.ide_ssr.proofs.BindsOnce.{answer_apart, answer_once}

@@ -7,9 +7,9 @@ use Rattle.ssr_syntax_tree.proofs.tree.Tree.from_parts.Goals as goal
 pub invariant_of-result : goal.invariant_of-result
 invariant_of-result c =
     let source = string_bytes c.args.source in
-    let tokens = c.args.tokens.items in
-    let nodes = c.args.nodes.items in
+    let tokens = c.args.tokens in
+    let nodes = c.args.nodes in
     subst (AreParts source tokens nodes) (sym (read_back source tokens nodes c.requires.0 c.requires.1)) c.requires.1
 
 pub returns : goal.returns
-returns c = λ syntax are. read_back (string_bytes c.args.source) c.args.tokens.items c.args.nodes.items syntax are
+returns c = λ syntax are. read_back (string_bytes c.args.source) c.args.tokens c.args.nodes syntax are

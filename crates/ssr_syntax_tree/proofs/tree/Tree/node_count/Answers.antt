@@ -8,6 +8,5 @@ returns c =
     omega (
       arith,
       c.len.ensures,
-      c.self.inside.nodes.ok,
-      nodes_counted (string_bytes c.self.inside.source) c.self.inside.tokens.items c.self.inside.nodes.items c.args.self.now (are_parts c.self.inside c.args.self.now c.self.invariant c.self.view_is),
+      nodes_counted (string_bytes c.self.inside.source) c.self.inside.tokens c.self.inside.nodes c.args.self.now (are_parts c.self.inside c.args.self.now c.self.invariant c.self.view_is),
     )

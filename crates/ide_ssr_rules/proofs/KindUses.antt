@@ -1,0 +1,117 @@
+-- The kinds of an accepted rule use its placeholders once, and so do those that are resolved.
+use Rattle.std.proofs.Common.{◌≡◌, ℕ, List, [], ◌∷◌, ◌++◌, All, Option, Some, None, Result, Ok, refl, sym, subst}
+use Rattle.std.specs.Str.{IsUtf8, trim}
+use Rattle.std.proofs.lemmas.List.Elements.{All-nil, All-cons, All-head, All-tail}
+use Rattle.ssr_syntax_tree.specs.Syntax.{Syntax}
+use Rattle.ide_ssr_rules.specs.declared.elements.Element.{Element}
+use Rattle.ide_ssr_rules.specs.declared.kinds.ParsedRule.{ParsedRule}
+use Rattle.ide_ssr_rules.specs.Elements.{names_of}
+use Rattle.ide_ssr_rules.specs.Patterns.{HasEachOnce, HasEachAtMostOnce}
+use Rattle.ide_ssr_rules.specs.Refusals.{Refusal, ◌>>=◌, unless, glued, reserved, unresolved_path}
+use Rattle.ide_ssr_rules.specs.Resolving.{ResolvedKind, unresolved, resolved_kind, resolved_kinds}
+use Rattle.ide_ssr_rules.specs.Rules.{kind_of, expr_of, kinds_of, some_kind, check_sides}
+use Rattle.ide_ssr_rules.specs.StandIns.{code_of, glued_placeholder, spelled_stand_in}
+use Rattle.ide_ssr_rules.specs.Uses.{AreNew}
+use Rattle.ide_ssr_rules.proofs.AtMostOnce.{template_at_most}
+use Rattle.ide_ssr_rules.proofs.EachOnce.{IsSide, pattern_each}
+use Rattle.ide_ssr_rules.proofs.Uses.{went}
+
+pub ok_same : {X : Type 0} (one other : X) → ◌≡◌ {A = Result X Refusal} (Ok one) (Ok other) → one ≡ other
+ok_same one other h = cc
+
+-- the pattern has each of the names once, and the template at most once
+abbrev pub UsesOnce : List (List ℕ) → Syntax → Syntax → Type 0
+UsesOnce names pattern template = HasEachOnce names pattern × HasEachAtMostOnce names template
+
+-- ** Accepted kinds.
+
+kind_of_once : (names : List (List ℕ)) (pattern template : Option Syntax) → ((tree : Syntax) → pattern ≡ Some tree → HasEachOnce names tree)
+    → ((tree : Syntax) → template ≡ Some tree → HasEachAtMostOnce names tree)
+    → All (λ kind. UsesOnce names kind.pattern kind.template) (kind_of pattern template)
+kind_of_once names (Some pattern) (Some template) h g =
+    All-cons (λ kind. UsesOnce names kind.pattern kind.template) _ [] (h pattern refl, g template refl) (All-nil _)
+kind_of_once names (Some pattern) None h g = All-nil _
+kind_of_once names None template h g = All-nil _
+
+some_kinds : (kinds found : List ParsedRule) → some_kind kinds ≡ Ok found → kinds ≡ found
+some_kinds [] found h = cc
+some_kinds (kind ∷ kinds) found h = cc
+
+all_unless : {X : Type 0} (refusal : X → Refusal) (o : Option X) → unless refusal o ≡ Ok tt → o ≡ None
+all_unless refusal None h = refl
+all_unless refusal (Some x) h = cc
+
+-- what checked sides are
+record AreChecked (pattern template : List Element) : Type 0 where
+  pattern_same : glued_placeholder pattern ≡ None
+  template_same : glued_placeholder template ≡ None
+  pattern_free : spelled_stand_in (names_of pattern ++ names_of template) pattern ≡ None
+  template_free : spelled_stand_in (names_of pattern ++ names_of template) template ≡ None
+
+checked : (pattern template : List Element) → check_sides pattern template ≡ Ok tt → AreChecked pattern template
+unfolding check_sides
+checked pattern template h =
+    let names = names_of pattern ++ names_of template in
+    let stays : List Element → Result (Unit {0}) Refusal = λ side. unless glued (glued_placeholder side) in
+    let free : List Element → Result (Unit {0}) Refusal = λ side. unless reserved (spelled_stand_in names side) in
+    let first = went (stays pattern) (λ _. stays template >>= (λ _. free pattern >>= (λ _. free template))) tt h in
+    let second = went (stays template) (λ _. free pattern >>= (λ _. free template)) tt first.next_is in
+    let third = went (free pattern) (λ _. free template) tt second.next_is in
+    record {
+      pattern_same = all_unless glued (glued_placeholder pattern) first.first_is;
+      template_same = all_unless glued (glued_placeholder template) second.first_is;
+      pattern_free = all_unless reserved (spelled_stand_in names pattern) third.first_is;
+      template_free = all_unless reserved (spelled_stand_in names template) third.next_is;
+    }
+
+-- what is known of a side before it is checked
+pub record IsRead (es : List Element) : Type 0 where
+  pub utf8 : IsUtf8 (code_of es)
+  pub is_trimmed : trim (code_of es) ≡ code_of es
+  pub new : AreNew [] (names_of es)
+
+side_of : (names : List (List ℕ)) (side : List Element) → IsRead side → glued_placeholder side ≡ None → spelled_stand_in names side ≡ None
+    → IsSide names side
+side_of names side read same free =
+    record { utf8 = read.utf8; is_trimmed = read.is_trimmed; new = read.new; same = same; free = free }
+
+pub kinds_once : (pattern template : List Element) (names : List (List ℕ)) (kinds : List ParsedRule) → IsRead pattern → IsRead template
+    → check_sides pattern template ≡ Ok tt → some_kind (kinds_of (code_of pattern) (code_of template)) ≡ Ok kinds
+    → names ≡ names_of pattern → All (λ kind. UsesOnce names kind.pattern kind.template) kinds
+unfolding kinds_of
+kinds_once pattern template names kinds read_pattern read_template sides_checked read are =
+    let c = checked pattern template sides_checked in
+    let own = names_of pattern in
+    let all = names_of pattern ++ names_of template in
+    let pattern_is = side_of all pattern read_pattern c.pattern_same c.pattern_free in
+    let template_is = side_of all template read_template c.template_same c.template_free in
+    subst (λ ns. All (λ kind. UsesOnce ns kind.pattern kind.template) kinds) (sym are)
+    (subst (All (λ kind. UsesOnce own kind.pattern kind.template)) (some_kinds _ kinds read)
+    (kind_of_once own (expr_of (code_of pattern)) (expr_of (code_of template))
+    (λ tree is. pattern_each pattern (names_of template) tree pattern_is is) (λ tree is. template_at_most template own tree template_is is)))
+
+-- ** Resolved kinds.
+
+resolved_like : (names : List (List ℕ)) (kind : ParsedRule) (found : ResolvedKind) → resolved_kind names kind ≡ Ok found
+    → record { names = names; pattern = kind.pattern; template = kind.template } ≡ found
+unfolding resolved_kind
+resolved_like names kind found h =
+    let made : ResolvedKind = record { names = names; pattern = kind.pattern; template = kind.template } in
+    let paths : Syntax → Result (Unit {0}) Refusal = λ tree. unless unresolved_path (unresolved names tree) in
+    let first = went (paths kind.template) (λ _. paths kind.pattern >>= (λ _. Ok made)) found h in
+    ok_same made found (went (paths kind.pattern) (λ _. Ok made) found first.next_is).next_is
+
+abbrev pub IsUsedOnce : ResolvedKind → Type 0
+IsUsedOnce kind = UsesOnce kind.names kind.pattern kind.template
+
+pub resolved_once : (names : List (List ℕ)) (kinds : List ParsedRule) (found : List ResolvedKind) → resolved_kinds names kinds ≡ Ok found
+    → All (λ kind. UsesOnce names kind.pattern kind.template) kinds → All IsUsedOnce found
+resolved_once names [] found h all = subst (All IsUsedOnce) (ok_same [] found h) (All-nil IsUsedOnce)
+resolved_once names (kind ∷ kinds) found h all =
+    let in_front : ResolvedKind → List ResolvedKind → Result (List ResolvedKind) Refusal = λ first rest. Ok (first ∷ rest) in
+    let first = went (resolved_kind names kind) (λ first. resolved_kinds names kinds >>= in_front first) found h in
+    let rest = went (resolved_kinds names kinds) (in_front first.found) found first.next_is in
+    subst (All IsUsedOnce) (ok_same (first.found ∷ rest.found) found rest.next_is)
+    (All-cons IsUsedOnce first.found rest.found
+    (subst IsUsedOnce (resolved_like names kind first.found first.first_is) (All-head (λ kind. UsesOnce names kind.pattern kind.template) kind kinds all))
+    (resolved_once names kinds rest.found rest.first_is (All-tail (λ kind. UsesOnce names kind.pattern kind.template) kind kinds all)))

@@ -1,0 +1,8 @@
+-- The laws of texts and their trees that the crates above may cite. The other files of lemmas here are this crate's own.
+
+-- a fragment that is read has a tree that fits
+pub use Rattle.ssr_syntax.proofs.TextLaws.{fragment_sound}
+-- identifiers in the tree of a fragment
+pub use Rattle.ssr_syntax.proofs.IdentTexts.{fragment_idents, fragment_alone, NoneMixes, fragment_unmixed}
+-- the tokens of a text, one behind another
+pub use Rattle.ssr_syntax.proofs.Tiles.{length-token, tiled_texts, tiles_within, spelled-pieces}

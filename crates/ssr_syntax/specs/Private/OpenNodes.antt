@@ -1,0 +1,79 @@
+-- Private: the rows of a tree's nodes from the parser's rows, read from the right: a node is open until a row comes that isn't below it.
+-- Open nodes are told from the innermost one on; a row comes before `place` if it isn't below those that begin there.
+use Rattle.std.specs.Prelude.{ℕ, ◌+◌, ◌-◌, nat_le, nat_lt, Bool, false, ◌||◌, if◌then◌else◌, List, [], ◌∷◌, ◌++◌, length, map, reverse, ◌≡◌, Result}
+use Rattle.ssr_syntax_tree.specs.declared.rows.NodeRow.{NodeRow}
+use Rattle.ssr_syntax.specs.declared.preorder.Open.{Open}
+use Rattle.ssr_syntax.specs.declared.syntax_error.SyntaxError.{SyntaxError}
+use Rattle.ssr_syntax.specs.Private.Preorder.{first_at, past_at, OkUnlessDeep}
+use Rattle.ssr_syntax.specs.Reading.{most_deep}
+
+-- those that stay open
+abbrev pub still_open : ℕ → List Open → List Open
+still_open place [] = []
+still_open place (inner ∷ above) = if nat_le place inner.start then still_open place above else inner ∷ above
+
+-- those that don't
+abbrev pub closed : ℕ → List Open → List NodeRow
+closed place [] = []
+closed place (inner ∷ above) = if nat_le place inner.start then inner.node ∷ closed place above else []
+
+abbrev pub number_of : List Open → ℕ
+number_of [] = 0
+number_of (inner ∷ above) = inner.number
+
+abbrev pub first_of : List Open → ℕ
+first_of [] = 0
+first_of (inner ∷ above) = inner.node.first
+
+-- the node of a row that has so many rows to its left
+abbrev pub opened : (ℕ → ℕ) → ℕ → NodeRow → ℕ → List Open → Open
+opened at total row place above =
+    record {
+      start = place - row.below;
+      number = (place - row.below) + length above;
+      node = record {
+        kind = row.kind;
+        parent = number_of above;
+        first = first_at at (first_of above) (total - row.first) (row.first - row.past);
+        past = past_at at (first_of above) (total - row.first) (row.first - row.past);
+        below = place - (place - row.below);
+      };
+    }
+
+-- the nodes' rows, the last one first
+abbrev pub from_right : (ℕ → ℕ) → ℕ → List Open → List NodeRow → List NodeRow
+from_right at total above [] = map (λ inner. inner.node) above
+from_right at total above (row ∷ rows) =
+    closed (1 + length rows) above
+    ++ from_right at total
+    (opened at total row (length rows) (still_open (1 + length rows) above) ∷ still_open (1 + length rows) above) rows
+
+-- a node has more than so many others above it
+abbrev pub is_deeper : ℕ → (ℕ → ℕ) → ℕ → List Open → List NodeRow → Bool
+is_deeper limit at total above [] = false
+is_deeper limit at total above (row ∷ rows) =
+    nat_lt limit (length (still_open (1 + length rows) above))
+    || is_deeper limit at total
+    (opened at total row (length rows) (still_open (1 + length rows) above) ∷ still_open (1 + length rows) above) rows
+
+-- ** What the loops do. A list of open nodes has the innermost one last.
+
+abbrev pub IsClosed : ℕ → List Open → List Open → List NodeRow → List NodeRow → Type 0
+IsClosed place old new written nodes =
+    (reverse new ≡ still_open place (reverse old)) × (nodes ≡ written ++ closed place (reverse old))
+
+-- what is written, with what the rows in front of this one give, and whether those are too deep: as with this one
+abbrev pub IsOpened : {R : Type 0}
+    → (ℕ → ℕ) → ℕ → NodeRow → ℕ → List Open → List Open → List NodeRow → List NodeRow → Result R SyntaxError → Type 0
+IsOpened at total row place old new written nodes result =
+    OkUnlessDeep (nat_lt most_deep (length (still_open (1 + place) (reverse old))))
+    (λ r. (front : List NodeRow) → length front ≡ place
+    → (nodes ++ from_right at total (reverse new) front ≡ written ++ from_right at total (reverse old) (row ∷ front))
+    × (is_deeper most_deep at total (reverse new) front ≡ is_deeper most_deep at total (reverse old) (row ∷ front)))
+    result
+
+abbrev pub IsFromRight : {R : Type 0}
+    → (ℕ → ℕ) → ℕ → List NodeRow → List Open → List NodeRow → List NodeRow → Result R SyntaxError → Type 0
+IsFromRight at total rows above written nodes result =
+    OkUnlessDeep (is_deeper most_deep at total (reverse above) (reverse rows))
+    (λ r. nodes ≡ written ++ from_right at total (reverse above) (reverse rows)) result

@@ -1,0 +1,224 @@
+-- What fits a form is read, where the look-ahead decides.
+use Rattle.std.proofs.Common.{◌≡◌, ℕ, zero, suc, ◌+◌, ◌<◌, Bool, true, false, not, ◌||◌, ◌&&◌, nat_le, List, [], ◌∷◌, ◌++◌, length, take, Result, Ok, inl, inr, refl, sym, ap, subst, ◌∙◌, append_assoc, arith}
+use Rattle.std.proofs.lemmas.Bool.{le-leb, and_parts, not-true, or_cases}
+use Rattle.std.proofs.lemmas.List.{length-append}
+use Rattle.std.proofs.Math.Seq.{drop-append_seam, take-append_seam}
+use Rattle.ssr_syntax_lex.specs.declared.kinds.SyntaxKind.{SyntaxKind}
+use Rattle.ssr_syntax_lex.specs.Kinds.{same_kind}
+use Rattle.ssr_syntax_lex.proofs.Shared.{same_kind-equal}
+use Rattle.ssr_syntax_forms.specs.declared.tokens.Token.{Token}
+use Rattle.ssr_syntax_forms.specs.declared.fault.Fault.{Fault}
+use Rattle.ssr_syntax_forms.specs.Kinds.{mem}
+use Rattle.ssr_syntax_forms.specs.Trees.{Forest, done, leaf}
+use Rattle.ssr_syntax_forms.specs.Forms.{Form, one, child, mark, seal, ◌then◌, nothing, choose, many, look, check, Test, more, taken_as, is_one, next, passes, agrees, SoFar, so_far, ReadsBelow, read, past, first_leaf, repeat}
+use Rattle.ssr_syntax_forms.proofs.Nested.{FitsBelow, Repeats, Fits}
+use Rattle.ssr_syntax_forms.proofs.Check.{Tables, dead, empty, firsts, starts, decides_on, decides_off, settles, decides, subset, same_kinds, same_string, same_test, asks}
+use Rattle.ssr_syntax_forms.proofs.Members.{subset_mem, on, off}
+use Rattle.ssr_syntax_forms.proofs.Core.{IsCore, core_before, repeats_core, join_core, DeadBelow, none_fits}
+use Rattle.ssr_syntax_forms.proofs.Starts.{Claims, no_tokens, first_token, begins, ends}
+
+-- what fits a goal is read
+abbrev pub ReadBelow : {Goal : Type 0} → Tables Goal → FitsBelow Goal → ReadsBelow Goal → Type 0
+ReadBelow {Goal = Goal} t fits below =
+    (goal : Goal) (y : Forest) (us rest : List Token) → fits goal y us rest → IsCore t.core y
+    → mem (next rest) (t.follow goal) ≡ true → below goal (us ++ rest) ≡ Ok (so_far y rest)
+
+-- one token is taken
+past_token : (whole : Bool) (ks : List SyntaxKind) (t : Token) (vs rest : List Token) → is_one whole ks t ≡ true
+    → more whole t ≡ length vs → past whole ks ((t ∷ vs) ++ rest) ≡ Ok rest
+past_token whole ks t vs rest hit n =
+    let fits : nat_le (length vs) (length (vs ++ rest)) ≡ true =
+    le-leb (length vs) (length (vs ++ rest)) (omega (arith, length-append vs rest)) in
+    rw (hit, n, fits, drop-append_seam vs rest) refl
+
+leaf_token : (whole : Bool) (t : Token) (vs rest : List Token) → more whole t ≡ length vs
+    → first_leaf whole ((t ∷ vs) ++ rest) ≡ leaf (taken_as whole t) (t ∷ vs) done
+leaf_token whole t vs rest n = ap (λ w. leaf (taken_as whole t) (t ∷ w) done) (ap (λ k. take k (vs ++ rest)) n ∙ take-append_seam vs rest)
+
+stay : (x z : Forest) (us rest : List Token) → us ≡ [] → z ≡ x → ◌≡◌ {A = SoFar} (so_far x (us ++ rest)) (so_far z rest)
+stay x z us rest n e = ap (λ w. so_far x (w ++ rest)) n ∙ ap (λ w. so_far w rest) (sym e)
+
+split : (us vs ws rest : List Token) → us ≡ vs ++ ws → us ++ rest ≡ vs ++ (ws ++ rest)
+split us vs ws rest e = ap (λ w. w ++ rest) e ∙ append_assoc vs ws rest
+
+-- a loop ends at once
+stops : (test : Test) (step : SoFar → Result SoFar Fault) (fuel : ℕ) (r : SoFar) → 0 < fuel → passes test r.rest ≡ false
+    → repeat (λ s. s.rest) fuel test step r ≡ Ok r
+stops test step zero r lt miss = absurd (omega (arith, lt))
+stops test step (suc fuel) r lt miss = rw miss refl
+
+-- turns of a loop
+abbrev Turn : {Goal : Type 0} → Tables Goal → FitsBelow Goal → ReadsBelow Goal → Form Goal → List SyntaxKind → Type 0
+Turn t fits below form follow =
+    (x z : Forest) (us rest : List Token) → Fits fits form x z us rest → IsCore t.core z → mem (next rest) follow ≡ true
+    → read below form (so_far x (us ++ rest)) ≡ Ok (so_far z rest)
+
+more_turns : {Goal : Type 0} (t : Tables Goal) (fits : FitsBelow Goal) → Claims t fits → (test : Test) (form : Form Goal) (follow : List SyntaxKind)
+    (n : ℕ) (x z : Forest) (us rest : List Token) → Repeats n (Fits fits form) x z us rest → IsCore t.core z
+    → mem (next rest) follow ≡ true → mem (next (us ++ rest)) (firsts t form ++ follow) ≡ true
+more_turns t fits c test form follow n x z us rest f h m =
+    begins t fits c (many test form) follow x z us rest (n, f) h m
+
+turns : {Goal : Type 0} (t : Tables Goal) (fits : FitsBelow Goal) (below : ReadsBelow Goal) → Claims t fits → (test : Test) (form : Form Goal) (follow : List SyntaxKind)
+    → decides_off test follow ≡ true → empty t form ≡ false → decides_on test (firsts t form) ≡ true
+    → Turn t fits below form (firsts t form ++ follow)
+    → (n fuel : ℕ) (x z : Forest) (us rest : List Token) → Repeats n (Fits fits form) x z us rest → IsCore t.core z
+    → mem (next rest) follow ≡ true → length us < fuel
+    → repeat (λ s. s.rest) fuel test (read below form) (so_far x (us ++ rest)) ≡ Ok (so_far z rest)
+turns t fits below c test form follow d e o turn zero zero x z us rest f h m lt = absurd (omega (arith, lt))
+turns t fits below c test form follow d e o turn zero (suc fuel) x z us rest (no_tokens_taken, z_is) h m lt =
+    subst (λ w. repeat (λ s. s.rest) (suc fuel) test (read below form) w ≡ Ok (so_far z rest)) (sym (stay x z us rest no_tokens_taken z_is))
+    (rw (off test rest follow d m) refl)
+turns t fits below c test form follow d e o turn (suc n) zero x z us rest f h m lt = absurd (omega (arith, lt))
+turns t fits below c test form follow d e o turn (suc n) (suc fuel) x z us rest (y, vs, ws, us_is, one_turn, turns_left) h m lt =
+    let h' = repeats_core t.core fits form n y z ws rest turns_left h in
+    elim (ends vs) [
+      | inl none ↦ absurd (cc (e, no_tokens t fits c form x y vs (ws ++ rest) one_turn h' none))
+      | inr some ↦
+          let first : mem some.0.joined (firsts t form) ≡ true =
+          first_token t fits c form x y vs (ws ++ rest) some.0 some.1 one_turn h' some.2 in
+          let passes_here : passes test (vs ++ (ws ++ rest)) ≡ true =
+          rw some.2 (on test ((some.0 ∷ some.1) ++ (ws ++ rest)) (firsts t form) o first) in
+          let one = turn x y vs (ws ++ rest) one_turn h' (more_turns t fits c test form follow n y z ws rest turns_left h m) in
+          let shorter : length ws < fuel =
+          omega (arith, lt, ap length us_is, length-append vs ws, ap length some.2) in
+          rw (split us vs ws rest us_is, passes_here, one)
+          (turns t fits below c test form follow d e o turn n fuel y z ws rest turns_left h m shorter)
+    ]
+
+no_turns : {Goal : Type 0} (t : Tables Goal) (fits : FitsBelow Goal) → DeadBelow t fits → (form : Form Goal) → dead t form ≡ true
+    → (n : ℕ) (x z : Forest) (us rest : List Token) → Repeats n (Fits fits form) x z us rest → IsCore t.core z
+    → Repeats zero (Fits fits form) x z us rest
+no_turns t fits below form is zero x z us rest f h = f
+no_turns t fits below form is (suc n) x z us rest (mid, taken, left, _, one_turn, turns_left) h =
+    absurd (none_fits t fits below form is x mid taken (left ++ rest) one_turn
+    (repeats_core t.core fits form n mid z left rest turns_left h))
+
+-- ** Forms that ask for the test themselves.
+kinds_same : (ks ls : List SyntaxKind) → same_kinds ks ls ≡ true → ks ≡ ls
+kinds_same [] [] e = refl
+kinds_same (k ∷ ks) (l ∷ ls) e =
+    let b = and_parts (same_kind k l) (same_kinds ks ls) e in rw (same_kind-equal k l b.0, kinds_same ks ls b.1) refl
+kinds_same [] (l ∷ ls) e = cc
+kinds_same (k ∷ ks) [] e = cc
+
+strings_same : (s t : List (List SyntaxKind)) → same_string s t ≡ true → s ≡ t
+strings_same [] [] e = refl
+strings_same (ks ∷ s) (ls ∷ t) e =
+    let b = and_parts (same_kinds ks ls) (same_string s t) e in rw (kinds_same ks ls b.0, strings_same s t b.1) refl
+strings_same [] (ls ∷ t) e = cc
+strings_same (ks ∷ s) [] e = cc
+
+tests_same : (test other : Test) → same_test test other ≡ true → test ≡ other
+tests_same [] [] e = refl
+tests_same (s ∷ test) (t ∷ other) e =
+    let b = and_parts (same_string s t) (same_test test other) e in rw (strings_same s t b.0, tests_same test other b.1) refl
+tests_same [] (t ∷ other) e = cc
+tests_same (s ∷ test) [] e = cc
+
+both_agree : (want w p : Bool) → agrees want w ≡ true → agrees w p ≡ true → p ≡ want
+both_agree true true p e f = f
+both_agree false false p e f = not-true p f
+both_agree true false p e f = cc
+both_agree false true p e f = cc
+
+asked : {Goal : Type 0} (fits : FitsBelow Goal) (want : Bool) (test : Test) (form : Form Goal) → asks want test form ≡ true
+    → (x z : Forest) (us rest : List Token) → Fits fits form x z us rest → passes test (us ++ rest) ≡ want
+asked fits want test (look w other) a x z us rest (no_tokens_taken, _, passed) =
+    let b = and_parts (agrees want w) (same_test test other) a in
+    rw (no_tokens_taken, tests_same test other b.1) (both_agree want w (passes other rest) b.0 passed)
+asked fits want test (g then j) a x z us rest (y, vs, ws, us_is, before, _) =
+    rw (split us vs ws rest us_is) (asked fits want test g a x y vs (ws ++ rest) before)
+asked fits want test (one whole ks) a x z us rest f = cc
+asked fits want test (child goal) a x z us rest f = cc
+asked fits want test (mark g) a x z us rest f = cc
+asked fits want test (seal kind) a x z us rest f = cc
+asked fits want test nothing a x z us rest f = cc
+asked fits want test (choose other g j) a x z us rest f = cc
+asked fits want test (many other g) a x z us rest f = cc
+asked fits want test (check condition) a x z us rest f = cc
+
+settled : (wanted : Bool) (test : Test) (ts : List Token) (follow : List SyntaxKind) → settles wanted test follow ≡ true
+    → mem (next ts) follow ≡ true → passes test ts ≡ wanted
+settled true test ts follow d m = on test ts follow d m
+settled false test ts follow d m = off test ts follow d m
+
+-- before what fits the first form the test passes, before the second one it doesn't
+told : {Goal : Type 0} (t : Tables Goal) (fits : FitsBelow Goal) → Claims t fits → (wanted : Bool) (test : Test) (g : Form Goal) (follow : List SyntaxKind)
+    → (asks wanted test g || settles wanted test (starts t g follow)) ≡ true
+    → (x z : Forest) (us rest : List Token) → Fits fits g x z us rest → IsCore t.core z → mem (next rest) follow ≡ true
+    → passes test (us ++ rest) ≡ wanted
+told t fits c wanted test g follow d x z us rest f h m =
+    elim (or_cases (asks wanted test g) (settles wanted test (starts t g follow)) d) [
+      | inl a ↦ asked fits wanted test g a x z us rest f
+      | inr o ↦ settled wanted test (us ++ rest) (starts t g follow) o (begins t fits c g follow x z us rest f h m)
+    ]
+
+pub complete : {Goal : Type 0} (t : Tables Goal) (fits : FitsBelow Goal) (below : ReadsBelow Goal) → Claims t fits → ReadBelow t fits below
+    → (form : Form Goal) (follow : List SyntaxKind) → decides t form follow ≡ true → Turn t fits below form follow
+complete t fits below c k (one whole ks) follow d x z us rest (front, others, us_is, is, size, z_is) h m =
+    rw (ap (λ w. w ++ rest) us_is, past_token whole ks front others rest is size, leaf_token whole front others rest size, z_is) refl
+complete t fits below c k (child goal) follow d x z us rest (y, y_fits, z_is) h m =
+    let h' = (join_core t.core x y (subst (IsCore t.core) z_is h)).1 in
+    elim (or_cases (t.is_dead goal) (subset follow (t.follow goal)) d) [
+      | inl is ↦ absurd (c.dead goal is y us rest y_fits h')
+      | inr sub ↦ rw (k goal y us rest y_fits h' (subset_mem (next rest) follow (t.follow goal) sub m), z_is) refl
+    ]
+complete t fits below c k (mark g) follow d x z us rest (y, y_fits, z_is) h m =
+    let h' = (join_core t.core x y (subst (IsCore t.core) z_is h)).1 in
+    rw (complete t fits below c k g follow d done y us rest y_fits h' m, z_is) refl
+complete t fits below c k (seal kind) follow d x z us rest (no_tokens_taken, z_is) h m = rw (no_tokens_taken, z_is) refl
+complete t fits below c k (g then j) follow d x z us rest (y, vs, ws, us_is, before, after) h m =
+    let h' = core_before t.core fits j y z ws rest after h in
+    elim (or_cases (dead t g || dead t j) (decides t j follow && decides t g (starts t j follow)) d) [
+      | inl is ↦ elim (or_cases (dead t g) (dead t j) is) [
+        | inl is_g ↦ absurd (none_fits t fits c.dead g is_g x y vs (ws ++ rest) before h')
+        | inr is_j ↦ absurd (none_fits t fits c.dead j is_j y z ws rest after h)
+      ]
+      | inr both_decide ↦
+          let b = and_parts (decides t j follow) (decides t g (starts t j follow)) both_decide in
+          rw (
+            split us vs ws rest us_is,
+            complete t fits below c k g (starts t j follow) b.1 x y vs (ws ++ rest) before h' (begins t fits c j follow y z ws rest after h m),
+          )
+          (complete t fits below c k j follow b.0 y z ws rest after h m)
+    ]
+complete t fits below c k nothing follow d x z us rest (no_tokens_taken, z_is) h m = ap Ok (stay x z us rest no_tokens_taken z_is)
+complete t fits below c k (choose test g j) follow d x z us rest (inl f) h m =
+    let b = (and_parts (dead t g || (decides t g follow && (asks true test g || decides_on test (starts t g follow))))
+    (dead t j || (decides t j follow && (asks false test j || decides_off test (starts t j follow)))) d).0 in
+    elim (or_cases (dead t g) (decides t g follow && (asks true test g || decides_on test (starts t g follow))) b) [
+      | inl is ↦ absurd (none_fits t fits c.dead g is x z us rest f h)
+      | inr w ↦
+          let v = and_parts (decides t g follow) (asks true test g || decides_on test (starts t g follow)) w in
+          rw (told t fits c true test g follow v.1 x z us rest f h m) (complete t fits below c k g follow v.0 x z us rest f h m)
+    ]
+complete t fits below c k (choose test g j) follow d x z us rest (inr f) h m =
+    let b = (and_parts (dead t g || (decides t g follow && (asks true test g || decides_on test (starts t g follow))))
+    (dead t j || (decides t j follow && (asks false test j || decides_off test (starts t j follow)))) d).1 in
+    elim (or_cases (dead t j) (decides t j follow && (asks false test j || decides_off test (starts t j follow))) b) [
+      | inl is ↦ absurd (none_fits t fits c.dead j is x z us rest f h)
+      | inr w ↦
+          let v = and_parts (decides t j follow) (asks false test j || decides_off test (starts t j follow)) w in
+          rw (told t fits c false test j follow v.1 x z us rest f h m) (complete t fits below c k j follow v.0 x z us rest f h m)
+    ]
+complete t fits below c k (many test g) follow d x z us rest (count, turns_taken) h m =
+    let b = and_parts (decides_off test follow)
+    (dead t g || ((decides t g (firsts t g ++ follow) && not (empty t g)) && decides_on test (firsts t g))) d in
+    let enough : length us < length (us ++ rest) + 1 = omega (arith, length-append us rest) in
+    elim (or_cases (dead t g) ((decides t g (firsts t g ++ follow) && not (empty t g)) && decides_on test (firsts t g)) b.1) [
+      | inl is ↦
+          let e = no_turns t fits c.dead g is count x z us rest turns_taken h in
+          subst (λ w. read below (many test g) w ≡ Ok (so_far z rest)) (sym (stay x z us rest e.0 e.1))
+          (stops test (read below g) (length rest + 1) (so_far z rest) (omega arith) (off test rest follow b.0 m))
+      | inr w ↦
+          let v = and_parts (decides t g (firsts t g ++ follow) && not (empty t g)) (decides_on test (firsts t g)) w in
+          let u = and_parts (decides t g (firsts t g ++ follow)) (not (empty t g)) v.0 in
+          turns t fits below c test g follow b.0 (not-true (empty t g) u.1) v.1
+          (complete t fits below c k g (firsts t g ++ follow) u.0)
+          count (length (us ++ rest) + 1) x z us rest turns_taken h m enough
+    ]
+complete t fits below c k (look want test) follow d x z us rest (no_tokens_taken, z_is, passed) h m =
+    subst (λ w. read below (look want test) w ≡ Ok (so_far z rest)) (sym (stay x z us rest no_tokens_taken z_is)) (rw passed refl)
+complete t fits below c k (check condition) follow d x z us rest (no_tokens_taken, z_is, passed) h m =
+    rw (passed, no_tokens_taken, z_is) refl

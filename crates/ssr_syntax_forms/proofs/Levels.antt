@@ -1,0 +1,74 @@
+-- The theorems on forms, at every number of levels.
+use Rattle.std.proofs.Common.{◌≡◌, ℕ, zero, suc, List, [], length, Result, Ok, Err, refl, sym, ap, subst, ◌∙◌}
+use Rattle.ssr_syntax_forms.specs.declared.tokens.Token.{Token}
+use Rattle.ssr_syntax_forms.specs.declared.fault.Fault.{Fault}
+use Rattle.ssr_syntax_forms.specs.Trees.{Forest, done, Written, written_of, writes}
+use Rattle.ssr_syntax_forms.specs.Forms.{Productions, SoFar, so_far, read}
+use Rattle.ssr_syntax_forms.specs.Runs.{State, state_of, mark_at, run}
+use Rattle.ssr_syntax_forms.specs.Levels.{read_goal, run_goal}
+use Rattle.ssr_syntax_forms.proofs.Answers.{ok_one}
+use Rattle.ssr_syntax_forms.proofs.Nested.{FitsGoal}
+use Rattle.ssr_syntax_forms.proofs.Soundness.{IsSound, sound}
+use Rattle.ssr_syntax_forms.proofs.Spelling.{Spells, spelled, ReadsSpelled, read_spelled}
+use Rattle.ssr_syntax_forms.proofs.Agreement.{RunsAsRead, agree, emit, plus-none}
+
+pub goals_spell : {Goal : Type 0} (grammar : Productions Goal) (n : ℕ) → Spells (FitsGoal grammar n)
+unfolding FitsGoal
+goals_spell grammar zero goal y us rest f = absurd f
+goals_spell grammar (suc n) goal y us rest f =
+    spelled (FitsGoal grammar n) (goals_spell grammar n) (grammar goal) done y us rest f
+
+pub goals_read_spelled : {Goal : Type 0} (grammar : Productions Goal) (n : ℕ) → ReadsSpelled (read_goal grammar n)
+unfolding read_goal
+goals_read_spelled grammar zero goal ts r e = cc
+goals_read_spelled grammar (suc n) goal ts r e =
+    read_spelled (read_goal grammar n) (goals_read_spelled grammar n) (grammar goal) (so_far done ts) r e
+
+pub goals_sound : {Goal : Type 0} (grammar : Productions Goal) (n : ℕ) → IsSound (FitsGoal grammar n) (read_goal grammar n)
+unfolding FitsGoal read_goal
+goals_sound grammar zero goal ts r e = cc
+goals_sound grammar (suc n) goal ts r e =
+    sound (FitsGoal grammar n) (read_goal grammar n) (goals_sound grammar n) (grammar goal) (so_far done ts) r e
+
+pub goals_agree : {Goal : Type 0} (grammar : Productions Goal) (n : ℕ) → RunsAsRead (run_goal grammar n) (read_goal grammar n)
+unfolding read_goal run_goal
+goals_agree grammar zero goal out ts = refl
+goals_agree grammar (suc n) goal out ts =
+    let red : Result SoFar _ = read (read_goal grammar n) (grammar goal) (so_far done ts) in
+    subst (λ w. run (run_goal grammar n) (grammar goal) (mark_at (length out.rows) ts) (state_of w ts) ≡ emit out red)
+    (plus-none out (length ts))
+    (agree (run_goal grammar n) (read_goal grammar n) (goals_agree grammar n) (goals_read_spelled grammar n)
+    (grammar goal) out ts (so_far done ts) refl)
+
+-- ** What a run tells of what is read, where nothing was written before.
+
+abbrev blank : Written
+blank = written_of [] []
+
+from_written : (red : Result SoFar Fault) (new : State) → emit blank red ≡ Ok new
+    → (z : Forest) × (red ≡ Ok (so_far z new.rest)) × (new.out ≡ writes z (length new.rest))
+from_written (Ok r) new e =
+    let same : state_of (writes r.made (length r.rest)) r.rest ≡ new = ok_one e in
+    let same_rest : r.rest ≡ new.rest = ap (λ w. w.rest) same in
+    let same_out : writes r.made (length r.rest) ≡ new.out = ap (λ w. w.out) same in
+    (r.made, ap (λ w. Ok (so_far r.made w)) same_rest, sym same_out ∙ ap (λ w. writes r.made (length w)) same_rest)
+from_written (Err f) new e = cc
+
+from_fault : (red : Result SoFar Fault) (f : Fault) → emit blank red ≡ Err f → red ≡ Err f
+from_fault (Ok r) f e = cc
+from_fault (Err g) f e = cc
+
+from_run : {Goal : Type 0} (grammar : Productions Goal) (n : ℕ) (goal : Goal) (ts : List Token) (old : State) (ran : Result State Fault)
+    → old ≡ state_of blank ts → run_goal grammar n goal old ≡ ran → emit blank (read_goal grammar n goal ts) ≡ ran
+from_run grammar n goal ts old ran start e = sym (goals_agree grammar n goal blank ts) ∙ ap (run_goal grammar n goal) (sym start) ∙ e
+
+pub read_as_run : {Goal : Type 0} (grammar : Productions Goal) (n : ℕ) (goal : Goal) (ts : List Token) (old new : State)
+    → old ≡ state_of (written_of [] []) ts → run_goal grammar n goal old ≡ Ok new
+    → (z : Forest) × (read_goal grammar n goal ts ≡ Ok (so_far z new.rest)) × (new.out ≡ writes z (length new.rest))
+read_as_run grammar n goal ts old new start e =
+    from_written (read_goal grammar n goal ts) new (from_run grammar n goal ts old (Ok new) start e)
+
+pub refused_as_run : {Goal : Type 0} (grammar : Productions Goal) (n : ℕ) (goal : Goal) (ts : List Token) (old : State) (f : Fault)
+    → old ≡ state_of (written_of [] []) ts → run_goal grammar n goal old ≡ Err f → read_goal grammar n goal ts ≡ Err f
+refused_as_run grammar n goal ts old f start e =
+    from_fault (read_goal grammar n goal ts) f (from_run grammar n goal ts old (Err f) start e)

@@ -1,0 +1,20 @@
+pub mod Shared
+mod Answers
+mod Joins
+mod Nested
+mod Walks
+mod Loops
+mod Soundness
+mod Spelling
+mod Agreement
+mod Levels
+mod Check
+mod Members
+mod Core
+mod Starts
+mod Completeness
+mod Cuts
+mod Depth
+mod Keeping
+mod Lone
+mod Decision

@@ -1,0 +1,30 @@
+-- One turn of a loop, and its end; lists of items.
+use Rattle.std.proofs.Common.{◌≡◌, ℕ, zero, suc, ◌+◌, ◌-◌, ◌<◌, if◌then◌else◌, List, Result, Ok, Err, refl, arith}
+use Rattle.ssr_syntax_lex.specs.declared.kinds.SyntaxKind.{SyntaxKind}
+use Rattle.ssr_syntax_forms.specs.declared.fault.Fault.{Fault}
+use Rattle.ssr_syntax_forms.specs.declared.fault.Fault.TheVariants as faults
+use Rattle.ssr_syntax_forms.specs.Forms.{Form, Test, comma_list, passes, repeat, ◌>>=◌}
+use Rattle.ssr_syntax_forms.specs.Runs.{State, Mark, RunsBelow, run, comma_separated}
+
+repeat_suc : (n : ℕ) (test : Test) (step : State → Result State Fault) (s : State) (m : ℕ) → m ≡ suc n
+    → repeat (λ z. z.rest) m test step s ≡ (if passes test s.rest then step s >>= repeat (λ z. z.rest) n test step else Ok s)
+repeat_suc n test step s m e = rw e refl
+
+repeat_zero : (test : Test) (step : State → Result State Fault) (s : State) (m : ℕ) → m ≡ zero
+    → repeat (λ z. z.rest) m test step s ≡ Err faults.NoTree
+repeat_zero test step s m e = rw e refl
+
+pub repeat_step : (total turn : ℕ) (test : Test) (step : State → Result State Fault) (s : State) → turn < total
+    → repeat (λ z. z.rest) (total - turn) test step s
+    ≡ (if passes test s.rest then step s >>= repeat (λ z. z.rest) (total - (turn + 1)) test step else Ok s)
+repeat_step total turn test step s lt = repeat_suc (total - (turn + 1)) test step s (total - turn) (omega arith)
+
+pub repeat_end : (total : ℕ) (test : Test) (step : State → Result State Fault) (s : State)
+    → repeat (λ z. z.rest) (total - total) test step s ≡ Err faults.NoTree
+repeat_end total test step s = repeat_zero test step s (total - total) (omega arith)
+
+-- a list is what its items and commas do
+pub run_comma_list : {Goal : Type 0} (below : RunsBelow Goal) (first : List SyntaxKind) (item : Form Goal) (m : Mark) (s : State)
+    → run below (comma_list first item) m s ≡ comma_separated first (run below item m) s
+unfolding comma_list comma_separated
+run_comma_list below first item m s = refl

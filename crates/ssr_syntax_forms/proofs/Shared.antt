@@ -1,0 +1,24 @@
+-- What the crates above may cite of the theorems on forms. The other files of lemmas here are this crate's own.
+
+-- answers by cases
+pub use Rattle.ssr_syntax_forms.proofs.Answers.{bind_ok, ok_one}
+-- forests side by side
+pub use Rattle.ssr_syntax_forms.proofs.Joins.{length-rows}
+-- kinds in lists
+pub use Rattle.ssr_syntax_forms.proofs.Check.{every, meets}
+pub use Rattle.ssr_syntax_forms.proofs.Members.{apart, at_next, every_mem, one_taken}
+-- what fits a form, with goals by levels
+unfoldable pub use Rattle.ssr_syntax_forms.proofs.Nested.{FitsGoal}
+pub use Rattle.ssr_syntax_forms.proofs.Nested.{FitsBelow, Step, Repeats, Fits, goals_by_rules, at_some_level}
+pub use Rattle.ssr_syntax_forms.proofs.Walks.{has_only, any_token, any_node, anything, IsKept, walk_goals}
+-- what a grammar has to keep, and what it then has
+pub use Rattle.ssr_syntax_forms.proofs.Check.{Tables, keeps, remembers, makes_node, lone_marks}
+pub use Rattle.ssr_syntax_forms.proofs.Depth.{shallow_of, covered, lower_ranks, lower_ranked}
+pub use Rattle.ssr_syntax_forms.proofs.Core.{IsCore, goals_core}
+pub use Rattle.ssr_syntax_forms.proofs.Keeping.{complete_goal}
+pub use Rattle.ssr_syntax_forms.proofs.Lone.{goals_lone}
+pub use Rattle.ssr_syntax_forms.proofs.Decision.{IsLone, decided, answers}
+-- readings and runs
+pub use Rattle.ssr_syntax_forms.proofs.Levels.{goals_spell, goals_sound, read_as_run, refused_as_run}
+pub use Rattle.ssr_syntax_forms.proofs.Cuts.{cut_goals}
+pub use Rattle.ssr_syntax_forms.proofs.Loops.{run_comma_list}

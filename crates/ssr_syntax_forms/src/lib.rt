@@ -1,0 +1,12 @@
+//! The parser's state, and what a grammar is as data: forms, what fits them, and how they are read.
+#![tactic(auto)]
+
+mod fault;
+mod parser;
+mod rows;
+mod tokens;
+
+pub use fault::Fault;
+pub use parser::{Mark, Parser};
+pub use rows::{Output, Taken};
+pub use tokens::{END, Token, TokenSet, contains};

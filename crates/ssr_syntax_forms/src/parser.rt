@@ -1,0 +1,344 @@
+//! The parser's state: the tokens that are left, and what is written of those that were read.
+ghost use Rattle.std.specs.Prelude.{◌≡◌, ◌-◌, true, false, if◌then◌else◌, [], ◌∷◌, Result, Ok, Err, IfOk};
+ghost use Rattle.ssr_syntax_forms.specs.Forms.{agrees, at, next, passes};
+ghost use Rattle.ssr_syntax_forms.specs.Runs.{Calls, Finishes, State, Steps, close, comma_separated, listed, mark_of, repeated, separated, state_of, taken, takes};
+ghost use Rattle.ssr_syntax_forms.specs.Trees.{written_of};
+ghost use Rattle.ssr_syntax_forms.specs.declared.fault.Fault.{Fault};
+ghost use Rattle.ssr_syntax_forms.specs.declared.fault.Fault.TheVariants as faults;
+
+use crate::fault::Fault;
+use crate::rows::{Output, Taken};
+use crate::tokens::{END, Token, TokenSet, contains};
+use ssr_syntax_lex::SyntaxKind;
+use ssr_syntax_tree::{NodeRow, NodeRows};
+use std::alloc::{AllocError, Global};
+use std::marker::Model;
+
+/// The most rows and tokens that are counted.
+const MOST: usize = u32::MAX as usize;
+
+/// Reads tokens, and writes the nodes and the tokens of their tree. A call that writes may answer want of memory; after an
+/// `Err` nothing is known of the state.
+#[derive(Drop)]
+pub struct Parser<'a> {
+    rest: &'a [Token],
+    out: Output,
+}
+
+impl<'a> Model for Parser<'a> {
+    ghost use Rattle.ssr_syntax_forms.specs.Runs.{State, state_of};
+    ghost use Rattle.ssr_syntax_forms.specs.Trees.{written_in};
+
+    ghost Value = { State };
+
+    ghost view = { λ p. state_of (written_in p.out) p.rest.now };
+}
+
+/// Where a node begins: how many rows were written there, and which tokens were left.
+#[derive(Drop)]
+pub struct Mark<'a> {
+    made: usize,
+    start: &'a [Token],
+}
+
+impl<'a> Model for Mark<'a> {
+    ghost use Rattle.ssr_syntax_forms.specs.Runs.{Mark, mark_at};
+
+    ghost Value = { Mark };
+
+    ghost view = { λ m. mark_at m.made m.start.now };
+}
+
+impl<'a> Parser<'a> {
+    /// At the first of some tokens, with nothing written.
+    pub fn new(alloc: Global, tokens: &'a [Token]) -> Result<Parser<'a>, AllocError>
+        ensures { IfOk result (λ p. p ≡ state_of (written_of [] []) tokens.entry.now) }
+    {
+        let rows = NodeRows::with_capacity(alloc, tokens.len())?;
+        let taken = Vec::with_capacity(alloc, tokens.len())?;
+        Ok(Parser {
+            rest: tokens,
+            out: Output { rows, taken },
+        })
+    }
+
+    /// What is written, if no token is left; else `NoTree`.
+    pub fn finish(self) -> Result<Output, Fault>
+        ensures { Finishes self.entry result }
+    {
+        if self.rest.is_empty() {
+            Ok(self.out)
+        } else {
+            Err(Fault::NoTree)
+        }
+    }
+
+    /// A node begins here.
+    pub fn start(&self) -> Mark<'a>
+        ensures { result ≡ mark_of self.now }
+    {
+        Mark {
+            made: self.out.rows.len(),
+            start: self.rest,
+        }
+    }
+
+    /// Puts all since the mark into a node. More rows or tokens than are counted are told as want of memory.
+    pub fn complete(&mut self, mark: &Mark<'_>, kind: SyntaxKind) -> Result<(), Fault>
+        ensures { Steps self.new result (Ok (close kind mark.now self.old)) }
+    {
+        let below = self.out.rows.len().saturating_sub(mark.made);
+        let (first, past) = (mark.start.len(), self.rest.len());
+        if first > MOST || past > MOST || below > MOST {
+            return Err(Fault::Memory);
+        }
+        self.out.rows.push(NodeRow {
+            kind,
+            parent: 0,
+            first: first as u32,
+            past: past as u32,
+            below: below as u32,
+        })?;
+        Ok(())
+    }
+
+    /// The kind of the next token; `END` behind the last one.
+    pub fn current(&self) -> SyntaxKind
+        ensures { result ≡ next self.now.rest }
+    {
+        match self.rest.first() {
+            Some(token) => token.joined,
+            None => END,
+        }
+    }
+
+    /// Whether the next token is of this kind.
+    #[tactic(auto, using(crate::proofs::Members::at_next))]
+    pub fn at(&self, kind: SyntaxKind) -> bool
+        ensures { result ≡ passes (at (kind ∷ [])) self.now.rest }
+    {
+        self.current() == kind
+    }
+
+    /// Whether the next token is of one of these kinds.
+    #[tactic(auto, using(crate::proofs::Members::at_next))]
+    pub fn at_any(&self, set: TokenSet<'_>) -> bool
+        ensures { result ≡ passes (at set.now) self.now.rest }
+    {
+        contains(set, self.current())
+    }
+
+    /// Takes a token of this kind; `NoTree` where none is next.
+    pub fn expect(&mut self, kind: SyntaxKind) -> Result<(), Fault>
+        ensures { Steps self.new result (taken true (kind ∷ []) self.old) }
+    {
+        let tokens = self.rest;
+        match tokens.split_first() {
+            Some((first, rest)) if first.joined == kind => self.take(
+                first.joined,
+                first.size,
+                rest,
+            ),
+            _ => Err(Fault::NoTree),
+        }
+    }
+
+    /// Takes a token of one of these kinds; `NoTree` where none is next.
+    pub fn expect_any(&mut self, set: TokenSet<'_>) -> Result<(), Fault>
+        ensures { Steps self.new result (taken true set.now self.old) }
+    {
+        let tokens = self.rest;
+        match tokens.split_first() {
+            Some((first, rest)) if contains(set, first.joined) => {
+                self.take(first.joined, first.size, rest)
+            }
+            _ => Err(Fault::NoTree),
+        }
+    }
+
+    /// Takes the first part of a token, where both the token and that part are of these kinds; else `NoTree`.
+    pub fn expect_part(&mut self, set: TokenSet<'_>) -> Result<(), Fault>
+        ensures { Steps self.new result (taken false set.now self.old) }
+    {
+        let tokens = self.rest;
+        match tokens.split_first() {
+            Some((first, rest)) if contains(set, first.joined) && contains(set, first.kind) => {
+                self.take(first.kind, 1, rest)
+            }
+            _ => Err(Fault::NoTree),
+        }
+    }
+
+    /// Takes a token of this kind, if it is next.
+    pub fn eat(&mut self, kind: SyntaxKind) -> Result<(), Fault>
+        ensures { Steps self.new result (if passes (at (kind ∷ [])) self.old.rest then taken true (kind ∷ []) self.old else Ok self.old) }
+    {
+        if self.at(kind) {
+            self.expect(kind)
+        } else {
+            Ok(())
+        }
+    }
+
+    /// Refuses a next token of these kinds.
+    pub fn refuse_at(&self, set: TokenSet<'_>) -> Result<(), Fault>
+        ensures { Steps self.now result (if agrees false (passes (at set.now) self.now.rest) then Ok self.now else Err faults.NoTree) }
+    {
+        if self.at_any(set) {
+            Err(Fault::NoTree)
+        } else {
+            Ok(())
+        }
+    }
+
+    /// Takes a token of this kind, joined from so many: the one in front of `rest`, and the others of `rest`.
+    fn take(&mut self, kind: SyntaxKind, size: u8, rest: &'a [Token]) -> Result<(), Fault>
+        ensures { Steps self.new result (takes kind (size - 1) rest.entry.now self.old.out) }
+    {
+        let more = size.saturating_sub(1);
+        if more as usize > rest.len() {
+            return Err(Fault::NoTree);
+        }
+        self.rest = &rest[more as usize..];
+        self.out.taken.push(Taken {
+            kind,
+            size: 1 + more,
+        })?;
+        Ok(())
+    }
+
+    /// The step again and again, as long as one of these kinds is next. `NoTree` after more turns
+    /// than there are tokens left.
+    #[tactic(auto, using(crate::proofs::Loops::repeat_step, crate::proofs::Loops::repeat_end), unfolding(crate::specs::Runs::repeated))]
+    pub fn repeated<F: Fn(&mut Parser<'_>) -> Result<(), Fault>>(
+        &mut self,
+        first: TokenSet<'_>,
+        step: F,
+    ) -> Result<(), Fault>
+        requires { F.IsAlwaysCallable step }
+        ensures { (does : State → Result State Fault) → Calls (F.post step) does
+            → Steps self.new result (repeated (at first.now) does self.old) }
+    {
+        'turns: for _turn in 0..self.rest.len() + 1 {
+            if !self.at_any(first) {
+                return Ok(());
+            }
+            step(self)?;
+        }
+        Err(Fault::NoTree)
+    }
+
+    /// Items with commas between them, and one behind the last or not. Each begins with one of these kinds; `NoTree` where
+    /// one stands right behind another.
+    #[tactic(auto, unfolding(crate::specs::Runs::comma_separated))]
+    pub fn comma_list<F: Fn(&mut Parser<'_>) -> Result<(), Fault>>(
+        &mut self,
+        first: TokenSet<'_>,
+        item: F,
+    ) -> Result<(), Fault>
+        requires { F.IsAlwaysCallable item }
+        ensures { (does : State → Result State Fault) → Calls (F.post item) does
+            → Steps self.new result (comma_separated first.now does self.old) }
+    {
+        self.repeated(
+            first,
+            |p: &mut Parser<'_>|
+                requires { F.IsAlwaysCallable item }
+                ensures { (does : State → Result State Fault) → Calls (F.post item) does
+                    → Steps p.new result (listed first.entry.now does p.old) }
+            {
+                item(p)?;
+                p.separated(first)
+            },
+        )
+    }
+
+    /// A comma, or none where no item begins.
+    fn separated(&mut self, first: TokenSet<'_>) -> Result<(), Fault>
+        ensures { Steps self.new result (separated first.now self.old) }
+    {
+        if self.at(SyntaxKind::COMMA) {
+            self.expect(SyntaxKind::COMMA)
+        } else if self.at_any(first) {
+            Err(Fault::NoTree)
+        } else {
+            Ok(())
+        }
+    }
+}
+
+#[cfg(test)]
+mod tests {
+    use super::*;
+    use ssr_syntax_lex::SyntaxKind::*;
+    use std::test::Fail;
+
+    fn token(kind: SyntaxKind) -> Token {
+        Token {
+            kind,
+            joined: kind,
+            size: 1,
+        }
+    }
+
+    // `&&`
+    fn two_ampersands() -> [Token; 2] {
+        let first = Token {
+            kind: AMP,
+            joined: AMP2,
+            size: 2,
+        };
+        [first, token(AMP)]
+    }
+
+    #[test]
+    fn a_joined_token_is_taken_whole_or_by_parts(rt: HostRuntime) -> Result<(), Fail> {
+        let tokens = two_ampersands();
+        let mut p = Parser::new(rt.alloc(), &tokens)?;
+        p.expect(AMP2)?;
+        let taken = p.finish()?.taken;
+        assert_eq!(rt; taken.len(), 1);
+        assert!(rt; taken[0].kind == AMP2 && taken[0].size == 2);
+        let mut p = Parser::new(rt.alloc(), &tokens)?;
+        p.expect_part(&[AMP, AMP2])?;
+        p.expect_part(&[AMP, AMP2])?;
+        let taken = p.finish()?.taken;
+        assert_eq!(rt; taken.len(), 2);
+        assert!(rt; taken[0].kind == AMP && taken[0].size == 1);
+        assert!(rt; taken[1].kind == AMP && taken[1].size == 1);
+        Ok(())
+    }
+
+    #[test]
+    fn items_of_a_list_stand_apart_by_commas(rt: HostRuntime) -> Result<(), Fail> {
+        for (kinds, fits) in [
+            (&[][..], true),
+            (&[INT_NUMBER][..], true),
+            (&[INT_NUMBER, COMMA][..], true),
+            (&[INT_NUMBER, COMMA, INT_NUMBER][..], true),
+            (&[INT_NUMBER, INT_NUMBER][..], false),
+            (&[COMMA][..], false),
+        ] {
+            let mut tokens = Vec::new(rt.alloc());
+            for kind in kinds {
+                tokens.push(token(*kind))?;
+            }
+            let mut p = Parser::new(rt.alloc(), &tokens)?;
+            let read = p.comma_list(&[INT_NUMBER], |p| p.expect(INT_NUMBER));
+            let whole = read.is_ok() && p.finish().is_ok();
+            assert_eq!(rt; whole, fits);
+        }
+        Ok(())
+    }
+
+    #[test]
+    fn what_may_stand_is_taken_if_it_does(rt: HostRuntime) -> Result<(), Fail> {
+        let tokens = [token(MUT_KW), token(IDENT)];
+        let mut p = Parser::new(rt.alloc(), &tokens)?;
+        p.eat(MUT_KW)?;
+        p.eat(MUT_KW)?;
+        p.eat(IDENT)?;
+        assert_eq!(rt; p.finish()?.taken.len(), 2);
+        Ok(())
+    }
+}
