@@ -1,7 +1,7 @@
 -- Texts that are read in parts.
-use Rattle.std.proofs.Common.{◌≡◌, ℕ, ◌<◌, List, [], ◌++◌, length, take, refl, sym, ap, subst, ◌∙◌, append_assoc, append-nil}
+use Rattle.std.proofs.Common.{◌≡◌, ℕ, ◌<◌, List, ◌++◌, length, take, refl, ap, subst, ◌∙◌, append_assoc, append-nil}
 use Rattle.std.specs.Io.KnownBytes.{Consumes}
-use Rattle.std.proofs.KnownBytes.{Consumes-nil, Consumes-trans, Consumes-whole}
+use Rattle.std.proofs.KnownBytes.{Consumes-trans, Consumes-whole}
 use Rattle.ssr.specs.Streams.{Given, Gives, IsRead}
 
 -- what came so far, without a failure
@@ -9,10 +9,6 @@ pub record HasRead (old mid : Given) (input : List ℕ) : Type 0 where
   pub bytes : mid.bytes ≡ old.bytes ++ input
   pub known : Consumes old.remaining mid.remaining input
   pub calm : mid.failures ≡ old.failures
-
--- nothing, as long as nothing was read
-pub none_read : (given : Given) → HasRead given given []
-none_read given = record { bytes = sym (append-nil given.bytes); known = Consumes-nil given.remaining; calm = refl }
 
 module _ (old mid new : Given) (input buffer : List ℕ) (read : HasRead old mid input) where
   -- one read more

@@ -1,5 +1,5 @@
 -- Texts that are sent in pieces.
-use Rattle.std.proofs.Common.{◌≡◌, ℕ, ◌+◌, ◌-◌, ◌<◌, ◌≤◌, true, false, List, [], ◌∷◌, ◌++◌, length, take, drop, get_or, add-one, ap, refl, sym, ◌∙◌, arith, append_assoc, length-append, append-nil, subst}
+use Rattle.std.proofs.Common.{◌≡◌, ℕ, ◌+◌, ◌-◌, ◌<◌, ◌≤◌, true, false, List, [], ◌∷◌, ◌++◌, length, take, drop, get_or, add-one, ap, sym, ◌∙◌, arith, append_assoc, length-append, append-nil, subst}
 use Rattle.std.proofs.Math.Seq.{take-add, take-append-add, drop-cons, take-suc}
 use Rattle.std.proofs.lemmas.List.{take-append-le, take-append-drop, length-drop}
 use Rattle.std.specs.Prelude.{◌==◌, if◌then◌else◌}
@@ -7,7 +7,7 @@ use Rattle.std.specs.List.{flat_map}
 use Rattle.std.proofs.lemmas.Grind.{flat_map-append, common_steps}
 use Rattle.std.proofs.lemmas.Bool.Decides.{nat_tests}
 use Rattle.std.specs.Io.KnownBytes.{Appends}
-use Rattle.std.proofs.KnownBytes.{Appends-nil, Appends-trans, Appends-kept}
+use Rattle.std.proofs.KnownBytes.{Appends-trans, Appends-kept}
 use Rattle.ssr.specs.Streams.{Taken, Takes, TakesNothing, Sent, whole, part}
 
 -- what went out so far, without a failure
@@ -15,10 +15,6 @@ pub record HasSent (old mid : Taken) (text : List ℕ) : Type 0 where
   pub bytes : mid.bytes ≡ old.bytes ++ text
   pub known : Appends old.contents mid.contents text
   pub calm : mid.failures ≡ old.failures
-
--- nothing, as long as nothing was written
-pub none_sent : (taken : Taken) → HasSent taken taken []
-none_sent taken = record { bytes = sym (append-nil taken.bytes); known = Appends-nil taken.contents; calm = refl }
 
 -- two texts that went out one after the other
 sent_both : (old mid new : Taken) (a b : List ℕ) → HasSent old mid a → HasSent mid new b → HasSent old new (a ++ b)

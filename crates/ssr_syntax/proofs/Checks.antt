@@ -64,7 +64,7 @@ checks t goal form =
     ∷ has_only any_token is_unmixed form
     ∷ remembers (of_all_kinds t) form
     ∷ lone_marks form
-    ∷ operands.is_bounded (operands.made operands.bound form operands.empty) (operands.bound goal)
+    ∷ operands.is_bounded (operands.made operands.bound form operands.start) (operands.bound goal)
     ∷ idents.is_clean (idents.place_behind form idents.empty)
     ∷ []
 
@@ -73,7 +73,7 @@ all_true [] = true
 all_true (b ∷ bs) = b && all_true bs
 
 checked : (goal : Goal) → all_true (checks tables goal (grammar goal)) ≡ true
-unfolding grammar expr.literal expr.path_expr expr.paren_expr expr.atom comma_list expr.arg_list expr.call_expr expr.index_expr expr.try_expr expr.field_expr expr.method_call_expr expr.member expr.turn expr.ref_expr expr.prefix_expr expr.unary expr.operators expr.operation expr.operations expr.operand expr.expr_first expr.stmt_list expr.block_expr item.name item.param_list item.function item.source_file path.name_ref path.path_segment path.longer_path path.path
+unfolding grammar expr.literal expr.path_expr expr.paren_expr expr.atom comma_list expr.arg_list expr.call_expr expr.index_expr expr.try_expr expr.field_expr expr.method_call_expr expr.member expr.postfix expr.ref_expr expr.prefix_expr expr.unary expr.operators expr.operation expr.operations expr.operand expr.expr_first expr.stmt_list expr.block_expr item.name item.param_list item.function item.source_file path.name_ref path.path_segment path.longer_path path.path
 checked (Operand zero) = refl
 checked (Operand (suc zero)) = refl
 checked (Operand (suc (suc zero))) = refl
@@ -120,10 +120,6 @@ goal_may_end goal = (facts goal).1.1.1.1.0
 -- none of its nodes mixes identifiers with other tokens
 pub goal_unmixed : (goal : Goal) → has_only any_token is_unmixed (grammar goal) ≡ true
 goal_unmixed goal = (facts goal).1.1.1.1.1.0
-
--- its look-ahead forgets no kind
-pub goal_remembers : (goal : Goal) → remembers (of_all_kinds tables) (grammar goal) ≡ true
-goal_remembers goal = (facts goal).1.1.1.1.1.1.0
 
 -- each mark in it makes one node
 pub goal_lone_marks : (goal : Goal) → lone_marks (grammar goal) ≡ true

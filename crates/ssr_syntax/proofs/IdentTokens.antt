@@ -15,6 +15,7 @@ use Rattle.ssr_syntax_tree.specs.Syntax as plain
 use Rattle.ssr_syntax_tree.specs.Syntax.{tokens_of}
 use Rattle.ssr_syntax_forms.specs.declared.tokens.Token.{Token}
 use Rattle.ssr_syntax_forms.specs.Trees as solid
+use Rattle.ssr_syntax_forms.specs.Private.Written as written
 use Rattle.ssr_syntax_forms.specs.Forms.{more, taken_as}
 use Rattle.ssr_syntax.specs.Lossless.{trivia, behind_trivia, gap, behind_gap, upto, past, whole_tree}
 use Rattle.ssr_syntax.specs.Identifiers.{is_ident, idents}
@@ -249,15 +250,15 @@ leaf_alike kind us rest ts (whole, t, vs, is, same, count) h are =
     subst P (sym is) (λ p a. taken_alike kind t vs rest whole ts same count p.0 a) h are
 
 idents_laid : (f : solid.Forest) (ts : List plain.Token) → AreTaken f → ArePlain (solid.spell f) → AreOf (solid.spell f) ts
-    → idents (laid (solid.leaves f) ts) ≡ idents (upto (length (solid.spell f)) ts)
+    → idents (laid (written.leaves f) ts) ≡ idents (upto (length (solid.spell f)) ts)
 idents_laid solid.done ts taken h are = ap idents (sym (upto-zero ts))
 idents_laid (solid.leaf kind us x) ts taken h are =
     let n = length us in
     let m = length (solid.spell x) in
     let token : plain.Token = record { kind = kind; text = plain.spelled (upto n (behind_gap n ts)) } in
-    ap idents (sym (append_assoc (gap n ts) (token ∷ []) (laid (solid.leaves x) (past n ts))))
-    ∙ idents-append (gap n ts ++ (token ∷ [])) (laid (solid.leaves x) (past n ts))
-    ∙ ap (λ l. l ++ idents (laid (solid.leaves x) (past n ts))) (leaf_alike kind us (solid.spell x) ts taken.0 h (are_here us (solid.spell x) ts are))
+    ap idents (sym (append_assoc (gap n ts) (token ∷ []) (laid (written.leaves x) (past n ts))))
+    ∙ idents-append (gap n ts ++ (token ∷ [])) (laid (written.leaves x) (past n ts))
+    ∙ ap (λ l. l ++ idents (laid (written.leaves x) (past n ts))) (leaf_alike kind us (solid.spell x) ts taken.0 h (are_here us (solid.spell x) ts are))
     ∙ ap (λ l. idents (upto n ts) ++ l)
     (idents_laid x (past n ts) taken.1 (plain_here us (solid.spell x) h).1 (are_past us (solid.spell x) ts are))
     ∙ sym (idents-append (upto n ts) (upto m (past n ts)))
@@ -267,20 +268,20 @@ idents_laid (solid.tree kind kids x) ts taken h are =
     let n = length us in
     let m = length (solid.spell x) in
     let parts = plain_here us (solid.spell x) h in
-    ap idents (laid-append (solid.leaves kids) (solid.leaves x) ts
-    ∙ ap (λ k. laid (solid.leaves kids) ts ++ laid (solid.leaves x) (past k ts)) (total-leaves kids))
-    ∙ idents-append (laid (solid.leaves kids) ts) (laid (solid.leaves x) (past n ts))
-    ∙ ap (λ l. l ++ idents (laid (solid.leaves x) (past n ts))) (idents_laid kids ts taken.0 parts.0 (are_here us (solid.spell x) ts are))
+    ap idents (laid-append (written.leaves kids) (written.leaves x) ts
+    ∙ ap (λ k. laid (written.leaves kids) ts ++ laid (written.leaves x) (past k ts)) (total-leaves kids))
+    ∙ idents-append (laid (written.leaves kids) ts) (laid (written.leaves x) (past n ts))
+    ∙ ap (λ l. l ++ idents (laid (written.leaves x) (past n ts))) (idents_laid kids ts taken.0 parts.0 (are_here us (solid.spell x) ts are))
     ∙ ap (λ l. idents (upto n ts) ++ l) (idents_laid x (past n ts) taken.1 parts.1 (are_past us (solid.spell x) ts are))
     ∙ sym (idents-append (upto n ts) (upto m (past n ts)))
     ∙ ap idents (sym (upto-add n m ts) ∙ ap (λ k. upto k ts) (sym (length-append us (solid.spell x))))
 
 -- a tree of all solid tokens has the text's identifiers
-pub whole_idents : (text : List ℕ) (raw : List RawToken) (kind : SyntaxKind) (kids : solid.Forest) → AreSolid (solid.leaves kids) → AreTaken kids
+pub whole_idents : (text : List ℕ) (raw : List RawToken) (kind : SyntaxKind) (kids : solid.Forest) → AreSolid (written.leaves kids) → AreTaken kids
     → solid.spell kids ≡ solid_tokens raw → idents (tokens_of (whole_tree kind kids (pieces text raw))) ≡ idents (pieces text raw)
 whole_idents text raw kind kids are_taken_solid taken spells =
     let ts = pieces text raw in
-    let us = solid.leaves kids in
+    let us = written.leaves kids in
     let n = length (solid.spell kids) in
     ap idents (whole-tokens kind kids ts are_taken_solid)
     ∙ ap (λ k. idents (laid us ts ++ past k ts)) (total-leaves kids)

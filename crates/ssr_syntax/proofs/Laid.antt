@@ -10,6 +10,7 @@ use Rattle.ssr_syntax_tree.specs.Places.{nodes_in}
 use Rattle.ssr_syntax_tree.specs.Parts.{node_row}
 use Rattle.ssr_syntax_forms.specs.declared.rows.Taken.{Taken}
 use Rattle.ssr_syntax_forms.specs.Trees as solid
+use Rattle.ssr_syntax_forms.specs.Private.Written as written
 use Rattle.ssr_syntax.specs.Lossless.{trivia, behind_trivia, gap, behind_gap, upto, past, before, behind, lossless}
 use Rattle.ssr_syntax.specs.Private.Preorder.{node_rows, first_at, past_at}
 
@@ -162,13 +163,13 @@ laid (u ∷ us) ts = gap u.size ts ++ (token_of u ts ∷ laid us (past u.size ts
 abbrev pub all_laid : List Taken → List plain.Token → List plain.Token
 all_laid us ts = laid us ts ++ past (total us) ts
 
-pub total-leaves : (f : solid.Forest) → total (solid.leaves f) ≡ length (solid.spell f)
+pub total-leaves : (f : solid.Forest) → total (written.leaves f) ≡ length (solid.spell f)
 total-leaves solid.done = refl
 total-leaves (solid.leaf kind tokens x) = omega (arith, total-leaves x, length-append tokens (solid.spell x))
 total-leaves (solid.tree kind kids x) =
     omega (
       arith,
-      total-append (solid.leaves kids) (solid.leaves x),
+      total-append (written.leaves kids) (written.leaves x),
       total-leaves kids,
       total-leaves x,
       length-append (solid.spell kids) (solid.spell x),
@@ -228,8 +229,8 @@ laid-gap n (u ∷ us) ts h e =
     ∙ ap (λ p. gap n ts ++ here (behind_gap u.size (behind_gap n ts)) p) (sym (past-gap u.size n ts h.0 lt))
     ∙ ap (λ g. gap n ts ++ (g ++ here (behind_gap u.size (behind_gap n ts)) (past u.size (behind_gap n ts)))) (sym (gap-behind u.size n ts h.0 lt))
 
-pub tokens-lossless : (f : solid.Forest) (ts : List plain.Token) → AreSolid (solid.leaves f)
-    → plain.tokens_in (lossless f ts) ≡ laid (solid.leaves f) ts
+pub tokens-lossless : (f : solid.Forest) (ts : List plain.Token) → AreSolid (written.leaves f)
+    → plain.tokens_in (lossless f ts) ≡ laid (written.leaves f) ts
 tokens-lossless solid.done ts h = refl
 tokens-lossless (solid.leaf kind tokens x) ts h =
     let n = length tokens in
@@ -238,16 +239,16 @@ tokens-lossless (solid.leaf kind tokens x) ts h =
     ∙ ap (λ l. gap n ts ++ (token ∷ l)) (tokens-lossless x (past n ts) h.2)
 tokens-lossless (solid.tree kind kids x) ts h =
     let n = length (solid.spell kids) in
-    let us = solid.leaves kids in
-    let parts = solid-append us (solid.leaves x) h in
+    let us = written.leaves kids in
+    let parts = solid-append us (written.leaves x) h in
     let count : n ≡ total us = sym (total-leaves kids) in
     tokens-before (gap n ts) (plain.branch kind (lossless kids (behind_gap n ts)) (lossless x (past n ts)))
     ∙ ap (λ l. gap n ts ++ (l ++ plain.tokens_in (lossless x (past n ts)))) (tokens-lossless kids (behind_gap n ts) parts.0)
     ∙ ap (λ l. gap n ts ++ (laid us (behind_gap n ts) ++ l)) (tokens-lossless x (past n ts) parts.1)
-    ∙ sym (append_assoc (gap n ts) (laid us (behind_gap n ts)) (laid (solid.leaves x) (past n ts)))
-    ∙ ap (λ l. l ++ laid (solid.leaves x) (past n ts)) (sym (laid-gap n us ts parts.0 count))
-    ∙ ap (λ m. laid us ts ++ laid (solid.leaves x) (past m ts)) count
-    ∙ sym (laid-append us (solid.leaves x) ts)
+    ∙ sym (append_assoc (gap n ts) (laid us (behind_gap n ts)) (laid (written.leaves x) (past n ts)))
+    ∙ ap (λ l. l ++ laid (written.leaves x) (past n ts)) (sym (laid-gap n us ts parts.0 count))
+    ∙ ap (λ m. laid us ts ++ laid (written.leaves x) (past m ts)) count
+    ∙ sym (laid-append us (written.leaves x) ts)
 
 -- what was taken spells what the text's tokens spell
 spelled-append : (ss ts : List plain.Token) → plain.spelled (ss ++ ts) ≡ plain.spelled ss ++ plain.spelled ts
@@ -385,7 +386,7 @@ the_node_row parent m t kind below first past below_count e f g =
     ∙ ap (row first past) g
 
 pub rows-lossless : (at : ℕ → ℕ) (parent m t low i : ℕ) (f : solid.Forest) (ts : List plain.Token)
-    → AreSolid (solid.leaves f) → t ≡ max (at i) low → Counts at t i (solid.leaves f) ts
+    → AreSolid (written.leaves f) → t ≡ max (at i) low → Counts at t i (written.leaves f) ts
     → map node_row (nodes_in parent m t (lossless f ts)) ≡ node_rows at parent low m i f
 rows-lossless at parent m t low i solid.done ts s here h = refl
 rows-lossless at parent m t low i (solid.leaf kind tokens x) ts s here h =
@@ -397,12 +398,12 @@ rows-lossless at parent m t low i (solid.leaf kind tokens x) ts s here h =
     ∙ ap (λ k. map node_row (nodes_in parent m k (lossless x (past n ts)))) (omega arith)
     ∙ rows-lossless at parent m next low (i + n) x (past n ts) s.2 (omega arith) h.2
 rows-lossless at parent m t low i (solid.tree kind kids x) ts s here h =
-    let us = solid.leaves kids in
+    let us = written.leaves kids in
     let n = length (solid.spell kids) in
     let count : n ≡ total us = sym (total-leaves kids) in
     let inner : ℕ = t + length (gap n ts) in
-    let are = solid-append us (solid.leaves x) s in
-    let parts = counts-append at t i us (solid.leaves x) ts h in
+    let are = solid-append us (written.leaves x) s in
+    let parts = counts-append at t i us (written.leaves x) ts h in
     let facts = counts_inside at t low i n us ts are.0 count here parts.0 in
     let below : plain.Forest = lossless kids (behind_gap n ts) in
     let tokens : plain.token_count below ≡ length (laid us (behind_gap n ts)) =
@@ -423,8 +424,8 @@ rows-lossless at parent m t low i (solid.tree kind kids x) ts s here h =
     facts.first (ap (λ c. inner + c) tokens ∙ facts.last) nodes in
     let kids_rows : map node_row (nodes_in m (1 + m) inner below) ≡ node_rows at m (first_at at low i n) (1 + m) i kids =
     rows-lossless at m (1 + m) inner (first_at at low i n) i kids (behind_gap n ts) are.0 facts.here facts.inside in
-    let next_counts : Counts at next (i + n) (solid.leaves x) (past n ts) =
-    counts_same at (t + length (laid us ts)) next (i + total us) (i + n) (solid.leaves x) (past (total us) ts) (past n ts)
+    let next_counts : Counts at next (i + n) (written.leaves x) (past n ts) =
+    counts_same at (t + length (laid us ts)) next (i + total us) (i + n) (written.leaves x) (past (total us) ts) (past n ts)
     (omega arith) (omega arith) (ap (λ k. past k ts) (sym count)) parts.1 in
     let next_rows : map node_row (nodes_in parent (1 + m + plain.node_count below) next (lossless x (past n ts)))
     ≡ node_rows at parent low (1 + m + solid.nodes kids) (i + n) x =

@@ -9,8 +9,8 @@ use Rattle.std.proofs.lemmas.Bool.{ltb-true, ltb-false, lt-ltb, le-ltb}
 use Rattle.ssr_syntax_tree.specs.declared.rows.NodeRow.{NodeRow}
 use Rattle.ssr_syntax.specs.declared.preorder.Open.{Open}
 use Rattle.ssr_syntax.specs.declared.syntax_error.SyntaxError.{SyntaxError}
-use Rattle.ssr_syntax.specs.declared.syntax_error.SyntaxError.TheVariants as errors
-use Rattle.ssr_syntax_forms.specs.Trees.{Forest, done, leaf, tree, spell, nodes, rows, height}
+use Rattle.ssr_syntax_forms.specs.Trees.{Forest, done, leaf, tree, spell, nodes, height}
+use Rattle.ssr_syntax_forms.specs.Private.Written.{rows}
 use Rattle.ssr_syntax.specs.Private.Preorder.{node_rows, first_at, past_at, tree_rows, IsDepthFault, OkUnlessDeep}
 use Rattle.ssr_syntax.specs.Reading.{most_deep}
 use Rattle.ssr_syntax.specs.Private.OpenNodes.{still_open, closed, number_of, first_of, opened, from_right, is_deeper, IsClosed, IsFromRight}

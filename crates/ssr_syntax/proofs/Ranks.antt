@@ -9,9 +9,10 @@ use Rattle.ssr_syntax.specs.declared.goals.Goal.{Goal}
 use Rattle.ssr_syntax_forms.specs.declared.fault.Fault.{Fault}
 use Rattle.ssr_syntax_forms.specs.Kinds.{mem}
 use Rattle.ssr_syntax_forms.specs.Forms.{at, next, passes, repeat, ◌>>=◌}
-use Rattle.ssr_syntax_forms.specs.Runs.{State, Mark, repeated, RunsBelow, run}
+use Rattle.ssr_syntax_forms.specs.Parser.{State, Mark, repeated}
+use Rattle.ssr_syntax_forms.specs.Private.Runs.{RunsBelow, run}
 use Rattle.ssr_syntax.specs.Expressions.{ranks, row, operators, operation, operations, operand, unary, at_most}
-use Rattle.ssr_syntax.specs.Ranks.{rank_of, next_rank}
+use Rattle.ssr_syntax.specs.Private.Ranks.{rank_of, next_rank}
 use Rattle.ssr_syntax_forms.proofs.Shared.{at_next}
 
 -- ** The two tables are one.

@@ -23,7 +23,10 @@ use Rattle.ssr_syntax_forms.specs.declared.fault.Fault.{Fault}
 use Rattle.ssr_syntax_forms.specs.declared.fault.Fault.TheVariants as faults
 use Rattle.ssr_syntax.specs.declared.syntax_error.SyntaxError.{SyntaxError}
 use Rattle.ssr_syntax.specs.declared.syntax_error.SyntaxError.TheVariants as errors
-use Rattle.ssr_syntax_forms.specs.Trees.{Forest, nodes, height, leaves}
+use Rattle.ssr_syntax_forms.specs.Trees.{Forest, nodes, height}
+use Rattle.ssr_syntax_forms.specs.Private.Written.{leaves}
+use Rattle.ssr_syntax_forms.specs.Private.Written as written
+use Rattle.ssr_syntax_forms.specs.Parser.{written_of}
 use Rattle.ssr_syntax_forms.specs.Trees as solid
 use Rattle.ssr_syntax.specs.Grammar.{grammar}
 use Rattle.ssr_syntax.proofs.Checks.{goal_makes_node}
@@ -31,7 +34,7 @@ use Rattle.ssr_syntax.specs.Lossless.{gap, behind_gap, upto, past, lossless, who
 use Rattle.ssr_syntax.specs.Private.Preorder.{tree_rows, node_rows, first_at, IsDepthFault, most_nodes}
 use Rattle.ssr_syntax.specs.Reading.{most_deep}
 use Rattle.ssr_syntax.specs.Solid.{solid_tokens}
-use Rattle.ssr_syntax.specs.Private.TreeTokens.{taken_rows, ends}
+use Rattle.ssr_syntax.specs.Private.TreeTokens.{taken_rows, taken_sizes, ends}
 use Rattle.ssr_syntax.specs.Reading.{pieces, reading, most_levels, tree_reading, one_tree, unless_too_deep, error_of, Refuses, Answers}
 use Rattle.ssr_syntax.proofs.Whole.{reading_fits, reading_spells}
 use Rattle.ssr_syntax_forms.proofs.Shared.{goals_lone, length-rows}
@@ -61,14 +64,14 @@ root_row kind below past count e f =
 
 -- the counts of a text's tokens
 abbrev pub at_ends : List Taken → List RawToken → ℕ → ℕ
-at_ends us raw i = slice_index (0 ∷ ends 0 0 us (map row_of raw)) i
+at_ends us raw i = slice_index (0 ∷ ends 0 (taken_sizes 0 us (map row_of raw))) i
 
 counted : (text : List ℕ) (us : List Taken) (raw : List RawToken) → AreSolid us → total us ≤ length (solid_tokens raw)
     → Counts (at_ends us raw) 0 0 us (pieces text raw)
 counted text us raw are few =
-    let next : (j : ℕ) → j < 0 + total us → at_ends us raw (0 + 1 + j) ≡ get_or (ends 0 0 us (map row_of raw)) j 0 =
+    let next : (j : ℕ) → j < total us → at_ends us raw (0 + 1 + j) ≡ get_or (ends 0 (taken_sizes 0 us (map row_of raw))) j 0 =
     λ j lt. (let same : 0 + 1 + j ≡ suc j = omega arith in ap (at_ends us raw) same) in
-    counts_same (at_ends us raw) 0 0 (0 + 0) 0 us (past zero (pieces text raw)) (pieces text raw) refl refl (past-zero (pieces text raw))
+    counts_same (at_ends us raw) 0 0 0 0 us (past zero (pieces text raw)) (pieces text raw) refl refl (past-zero (pieces text raw))
     (counts_of text (at_ends us raw) 0 0 0 us raw are (omega arith) next)
 
 laid_rows : (text : List ℕ) (us : List Taken) (raw : List RawToken) → Tiles text raw → AreSolid us → total us ≤ length (solid_tokens raw)
@@ -170,7 +173,7 @@ length-node_rows at parent low m i (solid.tree kind kids x) =
     )
 
 pub count_fits : (at : ℕ → ℕ) (tokens : ℕ) (kind : SyntaxKind) (kids : Forest) (rows : List NodeRow) (made : List NodeRow)
-    → rows ≡ solid.rows (solid.tree kind kids solid.done) 0 → length rows ≤ most_nodes → made ≡ tree_rows at tokens kind kids
+    → rows ≡ written.rows (solid.tree kind kids solid.done) 0 → length rows ≤ most_nodes → made ≡ tree_rows at tokens kind kids
     → length made < 2 ^ 32
 count_fits at tokens kind kids rows made e le f =
     omega (arith, ap length e, length-rows (solid.tree kind kids solid.done) 0, ap length f, length-node_rows at 0 0 1 0 kids)
@@ -265,11 +268,11 @@ pub record WrittenOfText (goal : Goal) (text : List ℕ) (raw : List RawToken) (
   pub kind : SyntaxKind
   pub kids : Forest
   pub read : ReadsAs goal text raw kind kids
-  pub rows : given ≡ solid.rows (solid.tree kind kids solid.done) 0
+  pub rows : given ≡ written.rows (solid.tree kind kids solid.done) 0
   pub taken_are : taken ≡ leaves kids
 
 pub written_read : (goal : Goal) (text : List ℕ) (raw : List RawToken) (tokens : List Token) (z : Forest) (made given : List NodeRow) (taken next : List Taken)
-    → tokens ≡ solid_tokens raw → reading goal tokens ≡ Ok z → solid.written_of made taken ≡ solid.writes z 0 → given ≡ made → next ≡ taken
+    → tokens ≡ solid_tokens raw → reading goal tokens ≡ Ok z → written_of made taken ≡ written.writes z 0 → given ≡ made → next ≡ taken
     → WrittenOfText goal text raw given next
 written_read goal text raw tokens z made given taken next same e f g h =
     let r = is_read goal text raw z (ap (reading goal) (sym same) ∙ e) in
@@ -277,6 +280,6 @@ written_read goal text raw tokens z made given taken next same e f g h =
       kind = r.0;
       kids = r.1;
       read = r.3;
-      rows = g ∙ ap (λ w. w.rows) f ∙ ap (λ w. solid.rows w 0) r.2;
+      rows = g ∙ ap (λ w. w.rows) f ∙ ap (λ w. written.rows w 0) r.2;
       taken_are = h ∙ ap (λ w. w.taken) f ∙ ap leaves r.2 ∙ append-nil (leaves r.1);
     }

@@ -1,6 +1,7 @@
 -- Laws of the walk over a text's tokens and those that were taken: the rows and the counts are those of the lossless tree.
 use Rattle.std.proofs.Common.{◌≡◌, ℕ, zero, suc, ◌+◌, ◌-◌, ◌<◌, ◌≤◌, true, false, if◌then◌else◌, List, [], ◌∷◌, ◌++◌, length, map, refl, sym, ◌∙◌, ap, arith, append_assoc, length-append}
-use Rattle.std.specs.Prelude.{get_or}
+use Rattle.std.specs.Prelude.{get_or, replicate}
+use Rattle.std.proofs.lemmas.List.{get_or_append_left, get_or-append_right, get_or-replicate, length-replicate}
 use Rattle.ssr_syntax_lex.specs.declared.kinds.SyntaxKind.{SyntaxKind}
 use Rattle.ssr_syntax_lex.specs.Kinds.{is_trivia}
 use Rattle.ssr_syntax_lex.specs.Tokens.{token_text, row_of, TilesFrom}
@@ -11,7 +12,7 @@ use Rattle.ssr_syntax_tree.specs.Parts.{token_rows}
 use Rattle.ssr_syntax_forms.specs.declared.rows.Taken.{Taken}
 use Rattle.ssr_syntax.specs.Lossless.{trivia, behind_trivia, gap, behind_gap, upto, past}
 use Rattle.ssr_syntax.specs.Solid.{solid_token, solid_tokens}
-use Rattle.ssr_syntax.specs.Private.TreeTokens.{taken_rows, ends}
+use Rattle.ssr_syntax.specs.Private.TreeTokens.{taken_rows, taken_sizes, ends}
 use Rattle.ssr_syntax.specs.Reading.{pieces}
 use Rattle.ssr_syntax.proofs.Laid.{AreSolid, total, token_of, laid, all_laid, Counts, by_kind, upto-zero, past-zero, past-add, counts_same}
 use Rattle.ssr_syntax.proofs.Tiles.{tiles_within, length-token}
@@ -162,41 +163,27 @@ length-token_rows start (t ∷ ts) = omega (arith, length-token_rows (start + le
 
 -- ** The counts.
 
--- one number in front of others that are the same
-also_first : (n : ℕ) (counts : List ℕ) (left j : ℕ) → ((k : ℕ) → k < left → get_or counts k 0 ≡ n) → j < 1 + left
-    → get_or (n ∷ counts) j 0 ≡ n
-also_first n counts left zero h lt = refl
-also_first n counts left (suc j) h lt = h j (omega arith)
-
--- up to each part that is left of one token
-parts_counted : (before left : ℕ) (us : List Taken) (raw : List RawToken) (j : ℕ) → j < left → left ≤ length (solid_tokens raw)
-    → get_or (ends before left us (map row_of raw)) j 0 ≡ before
-parts_counted before zero us raw j lt le = absurd (omega arith)
-parts_counted before (suc n) us [] j lt le = absurd (omega arith)
-parts_counted before (suc n) us (t ∷ ts) j lt le =
-    by_kind (λ b. suc n ≤ length (if b then solid_tokens ts else solid_token t ts ∷ solid_tokens ts)
-    → get_or (if b then ends before (suc n) us (map row_of ts) else (before ∷ ends before n us (map row_of ts))) j 0 ≡ before) (record { kind = t.kind; text = [] })
-    (λ e k. parts_counted before (suc n) us ts j lt k)
-    (λ e k. also_first before (ends before n us (map row_of ts)) n j (λ i less. parts_counted before n us ts i less (omega arith)) (omega arith))
-    le
-
--- up to each part of a token
-all_parts_counted : (before left : ℕ) (us : List Taken) (raw : List RawToken) (j : ℕ) → j < 1 + left → left ≤ length (solid_tokens raw)
-    → get_or (before ∷ ends before left us (map row_of raw)) j 0 ≡ before
-all_parts_counted before left us raw j lt le =
-    also_first before (ends before left us (map row_of raw)) left j (λ i less. parts_counted before left us raw i less le) lt
-
 -- the counts of the next solid ones
 abbrev AreNext : (ℕ → ℕ) → ℕ → ℕ → List ℕ → Type 0
 AreNext at i count counts = (j : ℕ) → j < count → at (i + 1 + j) ≡ get_or counts j 0
 
-next_behind : (at : ℕ → ℕ) (i count first : ℕ) (counts : List ℕ) → AreNext at i (1 + count) (first ∷ counts) → AreNext at (i + 1) count counts
-next_behind at i count first counts h j lt =
-    let same : i + 1 + 1 + j ≡ i + 1 + suc j = omega arith in
-    ap at same ∙ h (suc j) (omega arith)
+-- up to each solid one of a token
+same_counts : (at : ℕ → ℕ) (i count size n : ℕ) (counts : List ℕ) (j : ℕ) → AreNext at i count (replicate size n ++ counts) → j < size → size ≤ count
+    → at (i + 1 + j) ≡ n
+same_counts at i count size n counts j h lt le =
+    h j (omega arith)
+    ∙ get_or_append_left (replicate size n) counts 0 j (omega (arith, length-replicate size n))
+    ∙ get_or-replicate size j n 0 lt
 
-fewer : (at : ℕ → ℕ) (i m n : ℕ) (counts : List ℕ) → m ≤ n → AreNext at i n counts → AreNext at i m counts
-fewer at i m n counts le h j lt = h j (omega arith)
+-- behind those of a token
+behind_counts : (at : ℕ → ℕ) (i size count n : ℕ) (counts : List ℕ) → AreNext at i (size + count) (replicate size n ++ counts)
+    → AreNext at (i + size) count counts
+behind_counts at i size count n counts h j lt =
+    let place : i + size + 1 + j ≡ i + 1 + (size + j) = omega arith in
+    let left : size + j - size ≡ j = omega arith in
+    ap at place ∙ h (size + j) (omega arith)
+    ∙ get_or-append_right (replicate size n) counts size (size + j) 0 (length-replicate size n) (omega arith)
+    ∙ ap (λ m. get_or counts m 0) left
 
 counts_in_front : (at : ℕ → ℕ) (before i : ℕ) (u : Taken) (us : List Taken) (p : plain.Token) (ps : List plain.Token) → InFront u.size p ps
     → Counts at (1 + before) i (u ∷ us) ps → Counts at before i (u ∷ us) (p ∷ ps)
@@ -221,48 +208,43 @@ counts_first at before i u us p ps lt f e d h =
           (omega arith) (omega arith) (sym f.past_is) h,
     )
 
+-- the counts by the sizes of what is taken of a text's tokens
+abbrev counts : ℕ → ℕ → List Taken → List RawToken → List ℕ
+counts before left us raw = ends before (taken_sizes left us (map row_of raw))
+
 pub counts_of : (text : List ℕ) (at : ℕ → ℕ) (before i left : ℕ) (us : List Taken) (raw : List RawToken) → AreSolid us
-    → left + total us ≤ length (solid_tokens raw) → AreNext at i (left + total us) (ends before left us (map row_of raw))
-    → Counts at before (i + left) us (past left (pieces text raw))
+    → left + total us ≤ length (solid_tokens raw) → AreNext at i (total us) (counts before left us raw)
+    → Counts at before i us (past left (pieces text raw))
 counts_of text at before i left [] raw s le h = tt
 counts_of text at before i left (u ∷ us) [] s le h = absurd (omega (arith, s.0))
 counts_of text at before i zero (u ∷ us) (t ∷ ts) s le h =
     let ps = pieces text ts in
     let n = u.size in
     let p : plain.Token = record { kind = t.kind; text = token_text text t } in
-    let all : ℕ = total (u ∷ us) in
-    by_kind (λ b. 0 + all ≤ length (if b then solid_tokens ts else solid_token t ts ∷ solid_tokens ts)
-    → AreNext at i (0 + all) (if b then ends (1 + before) zero (u ∷ us) (map row_of ts) else ((1 + before) ∷ ends (1 + before) (n - 1) us (map row_of ts)))
-    → Counts at before (i + 0) (u ∷ us) (p ∷ ps)) p
-    (λ e k next. counts_in_front at before (i + 0) u us p ps (in_front n p ps s.0 e)
-    (counts_same at (1 + before) (1 + before) (i + 0) (i + 0) (u ∷ us) (past zero ps) ps refl refl (past-zero ps)
+    by_kind (λ b. 0 + total (u ∷ us) ≤ length (if b then solid_tokens ts else solid_token t ts ∷ solid_tokens ts)
+    → AreNext at i (total (u ∷ us))
+    (ends before (if b then 0 ∷ taken_sizes zero (u ∷ us) (map row_of ts) else (n ∷ taken_sizes (n - 1) us (map row_of ts))))
+    → Counts at before i (u ∷ us) (p ∷ ps)) p
+    (λ e k next. counts_in_front at before i u us p ps (in_front n p ps s.0 e)
+    (counts_same at (1 + before) (1 + before) i i (u ∷ us) (past zero ps) ps refl refl (past-zero ps)
     (counts_of text at (1 + before) i zero (u ∷ us) ts s k next)))
     (λ e k next.
-    let counts = ends (1 + before) (n - 1) us (map row_of ts) in
+    let behind = counts (1 + before) (n - 1) us ts in
     let fits : n - 1 + total us ≤ length (solid_tokens ts) = omega (arith, s.0) in
-    let behind = next_behind at i (n - 1 + total us) (1 + before) counts
-    (fewer at i (1 + (n - 1 + total us)) (0 + all) ((1 + before) ∷ counts) (omega (arith, s.0)) next) in
-    let first : at (i + 1 + 0) ≡ 1 + before = next 0 (omega (arith, s.0)) in
-    let last : at (i + 1 + (n - 1)) ≡ 1 + before =
-    next (n - 1) (omega (arith, s.0)) ∙ all_parts_counted (1 + before) (n - 1) us ts (n - 1) (omega arith) (omega arith) in
-    let first_at : at (i + 0 + 1) ≡ at (i + 1 + 0) = ap at (omega arith) in
-    let last_at : at (i + 0 + n) ≡ at (i + 1 + (n - 1)) = ap at (omega (arith, s.0)) in
-    counts_first at before (i + 0) u us p ps s.0 (is_first n p ps s.0 e) (first_at ∙ first) (last_at ∙ last)
-    (counts_same at (1 + before) (1 + before) (i + 1 + (n - 1)) (i + 0 + 1 + (n - 1)) us (past (n - 1) ps) (past (n - 1) ps) refl (omega arith) refl
-    (counts_of text at (1 + before) (i + 1) (n - 1) us ts s.2 fits behind)))
+    let first : at (i + 1 + 0) ≡ 1 + before = same_counts at i (total (u ∷ us)) n (1 + before) behind 0 next s.0 (omega arith) in
+    let last : at (i + 1 + (n - 1)) ≡ 1 + before = same_counts at i (total (u ∷ us)) n (1 + before) behind (n - 1) next (omega (arith, s.0)) (omega arith) in
+    let first_at : at (i + 1) ≡ at (i + 1 + 0) = ap at (omega arith) in
+    let last_at : at (i + n) ≡ at (i + 1 + (n - 1)) = ap at (omega (arith, s.0)) in
+    counts_first at before i u us p ps s.0 (is_first n p ps s.0 e) (first_at ∙ first) (last_at ∙ last)
+    (counts_same at (1 + before) (1 + before) (i + n) (i + 1 + (n - 1)) us (past (n - 1) ps) (past (n - 1) ps) refl (omega (arith, s.0)) refl
+    (counts_of text at (1 + before) (i + n) (n - 1) us ts s.2 fits (behind_counts at i n (total us) (1 + before) behind next))))
     le h
 counts_of text at before i (suc n) (u ∷ us) (t ∷ ts) s le h =
     let ps = pieces text ts in
     let p : plain.Token = record { kind = t.kind; text = token_text text t } in
-    let all : ℕ = total (u ∷ us) in
-    by_kind (λ b. suc n + all ≤ length (if b then solid_tokens ts else solid_token t ts ∷ solid_tokens ts)
-    → AreNext at i (suc n + all) (if b then ends before (suc n) (u ∷ us) (map row_of ts) else (before ∷ ends before n (u ∷ us) (map row_of ts)))
-    → Counts at before (i + suc n) (u ∷ us) (past (if b then suc n else n) ps)) p
+    by_kind (λ b. suc n + total (u ∷ us) ≤ length (if b then solid_tokens ts else solid_token t ts ∷ solid_tokens ts)
+    → AreNext at i (total (u ∷ us)) (counts before (if b then suc n else n) (u ∷ us) ts)
+    → Counts at before i (u ∷ us) (past (if b then suc n else n) ps)) p
     (λ e k next. counts_of text at before i (suc n) (u ∷ us) ts s k next)
-    (λ e k next.
-    let counts = ends before n (u ∷ us) (map row_of ts) in
-    let behind = next_behind at i (n + all) before counts
-    (fewer at i (1 + (n + all)) (suc n + all) (before ∷ counts) (omega arith) next) in
-    counts_same at before before (i + 1 + n) (i + suc n) (u ∷ us) (past n ps) (past n ps) refl (omega arith) refl
-    (counts_of text at before (i + 1) n (u ∷ us) ts s (omega arith) behind))
+    (λ e k next. counts_of text at before i n (u ∷ us) ts s (omega arith) next)
     le h

@@ -10,6 +10,7 @@ use Rattle.ssr_syntax_lex.specs.declared.tokens.RawToken.{RawToken}
 use Rattle.ssr_syntax_tree.specs.Syntax as plain
 use Rattle.ssr_syntax_forms.specs.declared.rows.Taken.{Taken}
 use Rattle.ssr_syntax_forms.specs.Trees as solid
+use Rattle.ssr_syntax_forms.specs.Private.Written as written
 use Rattle.ssr_syntax.specs.Lossless.{trivia, gap, behind_gap, upto, past, before, behind, lossless, whole_tree, begins_with_trivia, IsTrimmed}
 use Rattle.ssr_syntax.specs.Reading.{pieces, begins_solid}
 use Rattle.ssr_syntax.proofs.Laid.{AreSolid, total, total-leaves, token_of, laid, all_laid, solid-append, gap-behind, past-zero, upto-past, tokens-lossless}
@@ -60,17 +61,17 @@ first_solid n (u ∷ us) ts h e =
     ap (λ g. begins_with_trivia (g ++ (token_of u b ∷ laid us (past u.size b)))) (gap-behind u.size n ts h.0 (omega (arith, h.0)))
     ∙ h.1
 
-pub trimmed-lossless : (f : solid.Forest) (ts : List plain.Token) → AreSolid (solid.leaves f) → IsTrimmed (lossless f ts)
+pub trimmed-lossless : (f : solid.Forest) (ts : List plain.Token) → AreSolid (written.leaves f) → IsTrimmed (lossless f ts)
 trimmed-lossless solid.done ts h = tt
 trimmed-lossless (solid.leaf kind tokens x) ts h =
     let n = length tokens in
     let token : plain.Token = record { kind = kind; text = plain.spelled (upto n (behind_gap n ts)) } in
     trimmed-before (gap n ts) (plain.leaf token (lossless x (past n ts))) (trimmed-lossless x (past n ts) h.2)
 trimmed-lossless (solid.tree kind kids x) ts h =
-    let us = solid.leaves kids in
+    let us = written.leaves kids in
     let n = length (solid.spell kids) in
     let inner = behind_gap n ts in
-    let parts = solid-append us (solid.leaves x) h in
+    let parts = solid-append us (written.leaves x) h in
     let tokens = tokens-lossless kids inner parts.0 in
     trimmed-before (gap n ts) (plain.branch kind (lossless kids inner) (lossless x (past n ts))) (
       ap begins_with_trivia tokens ∙ first_solid n us ts parts.0 (sym (total-leaves kids)),
@@ -79,7 +80,7 @@ trimmed-lossless (solid.tree kind kids x) ts h =
       trimmed-lossless x (past n ts) parts.1,
     )
 
-pub trimmed-whole : (kind : SyntaxKind) (kids : solid.Forest) (ts : List plain.Token) → AreSolid (solid.leaves kids)
+pub trimmed-whole : (kind : SyntaxKind) (kids : solid.Forest) (ts : List plain.Token) → AreSolid (written.leaves kids)
     → IsTrimmed (plain.Syntax.children (whole_tree kind kids ts))
 trimmed-whole kind kids ts are =
     trimmed-behind (lossless kids ts) (past (length (solid.spell kids)) ts) (trimmed-lossless kids ts are)
@@ -141,11 +142,11 @@ all_end us ts (t ∷ outside) h e end =
     ∙ last_behind (laid us ts) t outside
     (sym (last_alike (upto n ts) t outside) ∙ ap (λ l. begins_with_trivia (reverse l)) all ∙ end)
 
-pub trimmed-root : (text : List ℕ) (raw : List RawToken) (kind : SyntaxKind) (kids : solid.Forest) → AreSolid (solid.leaves kids)
+pub trimmed-root : (text : List ℕ) (raw : List RawToken) (kind : SyntaxKind) (kids : solid.Forest) → AreSolid (written.leaves kids)
     → (begins_solid raw && begins_solid (reverse raw)) ≡ true
     → IsTrimmed (plain.branch kind (plain.Syntax.children (whole_tree kind kids (pieces text raw))) plain.nothing)
 trimmed-root text raw kind kids are outside =
-    let us = solid.leaves kids in
+    let us = written.leaves kids in
     let ts = pieces text raw in
     let sides = solid_sides text raw outside in
     let tokens = whole-tokens kind kids ts are in (

@@ -4,7 +4,8 @@ use Rattle.std.proofs.lemmas.List.{append-nil}
 use Rattle.ssr_syntax_forms.specs.declared.tokens.Token.{Token}
 use Rattle.ssr_syntax.specs.declared.goals.Goal.{Goal}
 use Rattle.ssr_syntax_forms.specs.declared.fault.Fault.TheVariants as faults
-use Rattle.ssr_syntax_forms.specs.Trees.{Forest, done, spell, IsShallow}
+use Rattle.ssr_syntax_forms.specs.Trees.{Forest, done, spell}
+use Rattle.ssr_syntax_forms.proofs.Shared.{IsShallow}
 use Rattle.ssr_syntax_forms.specs.Fitting.{Fits}
 use Rattle.ssr_syntax_forms.specs.Forms.{SoFar, so_far, ◌>>=◌}
 use Rattle.ssr_syntax_forms.specs.Levels.{read_goal}

@@ -55,16 +55,16 @@ method_call_expr = mark arg_list then seal k.METHOD_CALL_EXPR
 unfoldable pub member : Form Goal
 member = a k.DOT then mark name_ref then choose (at (k.L_PAREN ∷ [])) method_call_expr field_expr
 
-unfoldable pub turn : Form Goal
-turn =
+unfoldable pub postfix : Form Goal
+postfix =
     choose (at (k.L_PAREN ∷ [])) call_expr
     (choose (at (k.L_BRACK ∷ [])) index_expr
     (choose (at (k.QUESTION ∷ [])) try_expr
     member))
 
 -- what it begins with
-abbrev pub turn_first : List SyntaxKind
-turn_first = k.L_PAREN ∷ k.L_BRACK ∷ k.QUESTION ∷ k.DOT ∷ []
+abbrev pub postfix_first : List SyntaxKind
+postfix_first = k.L_PAREN ∷ k.L_BRACK ∷ k.QUESTION ∷ k.DOT ∷ []
 
 -- ** Operators in front.
 
@@ -85,7 +85,7 @@ unfoldable pub unary : Form Goal
 unary =
     choose (at ampersands) (mark ref_expr)
     (choose (at prefix_operators) (mark prefix_expr)
-    (atom then repeated turn_first turn))
+    (atom then repeated postfix_first postfix))
 
 -- ** Operators between two operands.
 

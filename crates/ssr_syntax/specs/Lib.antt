@@ -1,7 +1,6 @@
 pub mod Paths
 pub mod Expressions
 pub mod Items
-pub mod Ranks
 pub mod Grammar
 pub mod Decision
 pub mod Operands

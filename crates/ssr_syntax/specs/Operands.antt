@@ -1,32 +1,46 @@
--- How tightly operators bind: what stands to the left and to the right of each.
-use Rattle.std.specs.Prelude.{◌≡◌, ℕ, suc, ◌<◌, ◌≤◌, true, if◌then◌else◌, ⊤, List, [], ◌∷◌}
+-- Precedence: how tightly each expression binds, and what that asks of its operands.
+use Rattle.std.specs.Prelude.{◌≡◌, ℕ, suc, ◌+◌, ◌<◌, ◌≤◌, true, if◌then◌else◌, ⊤, List, [], ◌∷◌, length}
 use Rattle.ssr_syntax_lex.specs.Kinds.{same_kind}
 use Rattle.ssr_syntax_lex.specs.declared.kinds.SyntaxKind.{SyntaxKind}
-use Rattle.ssr_syntax_lex.specs.declared.kinds.SyntaxKind.TheVariants.{BIN_EXPR}
+use Rattle.ssr_syntax_lex.specs.declared.kinds.SyntaxKind.TheVariants as k
 use Rattle.ssr_syntax_forms.specs.declared.tokens.Token.{Token}
 use Rattle.ssr_syntax_forms.specs.Kinds.{mem}
 use Rattle.ssr_syntax_forms.specs.Trees.{Forest, done, leaf, tree}
 use Rattle.ssr_syntax.specs.Expressions.{ranks}
 
--- how loosely an operator binds: 1 of the tightest rank, and so on; 0 of what is none
-abbrev pub looseness_in : ℕ → List (List SyntaxKind) → SyntaxKind → ℕ
-looseness_in first [] kind = 0
-looseness_in first (ks ∷ rows) kind = if mem kind ks then first else looseness_in (suc first) rows kind
+-- the rank of an operator between two operands: the number of its row; behind all ranks what stands in none
+abbrev pub rank_in : List (List SyntaxKind) → SyntaxKind → ℕ
+rank_in [] kind = 0
+rank_in (ks ∷ rows) kind = if mem kind ks then 0 else suc (rank_in rows kind)
 
-abbrev pub looseness_of : SyntaxKind → ℕ
-looseness_of kind = looseness_in 1 ranks kind
+abbrev pub rank : SyntaxKind → ℕ
+rank kind = rank_in ranks kind
 
 -- of the first token among siblings
-abbrev pub operator_looseness : Forest → ℕ
-operator_looseness done = 0
-operator_looseness (leaf kind us x) = looseness_of kind
-operator_looseness (tree kind kids x) = operator_looseness x
+abbrev pub operator_rank : Forest → ℕ
+operator_rank done = length ranks
+operator_rank (leaf kind us x) = rank kind
+operator_rank (tree kind kids x) = operator_rank x
 
--- how loosely a node binds: as its operator, if it has one
-abbrev pub node_looseness : SyntaxKind → Forest → ℕ
-node_looseness kind kids = if same_kind kind BIN_EXPR then operator_looseness kids else 0
+-- the precedence of operators at a rank: those of the first follow on operators in front, which have 2
+abbrev pub precedence_at : ℕ → ℕ
+precedence_at r = 3 + r
 
--- an operator between two nodes; the left one binds at least as tightly, and the right one tighter
+-- The precedence of a node, a number: the lower it is, the tighter the node binds. What is made of no operands has 0.
+abbrev pub precedence : SyntaxKind → Forest → ℕ
+precedence kind kids =
+    if mem kind (k.CALL_EXPR ∷ k.METHOD_CALL_EXPR ∷ k.FIELD_EXPR ∷ k.INDEX_EXPR ∷ k.TRY_EXPR ∷ []) then 1
+    else if mem kind (k.PREFIX_EXPR ∷ k.REF_EXPR ∷ []) then 2
+    else if same_kind kind k.BIN_EXPR then precedence_at (operator_rank kids)
+    else 0
+
+-- the first node among siblings has at most this precedence
+abbrev pub FirstHasAtMost : ℕ → Forest → Type 0
+FirstHasAtMost limit done = ⊥
+FirstHasAtMost limit (leaf kind us x) = FirstHasAtMost limit x
+FirstHasAtMost limit (tree kind kids x) = precedence kind kids ≤ limit
+
+-- the children of a BIN_EXPR: an operator between two nodes; where it has a rank, the right one binds tighter
 pub record AreOperands (kids : Forest) : Type 0 where
   pub left : SyntaxKind
   pub left_kids : Forest
@@ -35,11 +49,13 @@ pub record AreOperands (kids : Forest) : Type 0 where
   pub right : SyntaxKind
   pub right_kids : Forest
   pub are : kids ≡ tree left left_kids (leaf operator tokens (tree right right_kids done))
-  pub left_binds : node_looseness left left_kids ≤ looseness_of operator
-  pub right_binds : node_looseness right right_kids < looseness_of operator
+  pub right_binds : rank operator < length ranks → precedence right right_kids < precedence k.BIN_EXPR kids
 
--- each BIN_EXPR has such operands
-abbrev pub AreRanked : Forest → Type 0
-AreRanked done = ⊤
-AreRanked (leaf kind us x) = AreRanked x
-AreRanked (tree kind kids x) = (same_kind kind BIN_EXPR ≡ true → AreOperands kids) × AreRanked kids × AreRanked x
+-- In each node that is made of operands the first of them binds at least as tightly as the whole; a BIN_EXPR has two.
+abbrev pub KeepsPrecedence : Forest → Type 0
+KeepsPrecedence done = ⊤
+KeepsPrecedence (leaf kind us x) = KeepsPrecedence x
+KeepsPrecedence (tree kind kids x) =
+    (0 < precedence kind kids → FirstHasAtMost (precedence kind kids) kids)
+    × (same_kind kind k.BIN_EXPR ≡ true → AreOperands kids)
+    × KeepsPrecedence kids × KeepsPrecedence x

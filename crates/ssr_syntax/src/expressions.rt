@@ -1,8 +1,8 @@
 //! The functions that read expressions.
 ghost use Rattle.std.specs.Prelude.{◌≡◌};
 ghost use Rattle.ssr_syntax.specs.Expressions as form;
-ghost use Rattle.ssr_syntax.specs.Ranks.{next_rank, rank_of};
-ghost use Rattle.ssr_syntax_forms.specs.Runs.{Runs, RunsFrom};
+ghost use Rattle.ssr_syntax.specs.Private.Ranks.{next_rank, rank_of};
+ghost use Rattle.ssr_syntax_forms.specs.Private.Runs.{Runs, RunsFrom};
 
 use crate::goals::{Goal, Rank};
 use crate::grammar::Grammar;
@@ -12,71 +12,103 @@ use ssr_syntax_lex::SyntaxKind;
 use ssr_syntax_lex::SyntaxKind::*;
 
 /// The tokens that are literals.
-const LITERALS: TokenSet<'static> = &[
-    INT_NUMBER,
-    FLOAT_NUMBER,
-    STRING,
-    BYTE_STRING,
-    C_STRING,
-    BYTE,
-    CHAR,
-    TRUE_KW,
-    FALSE_KW,
-];
+#[derive(Clone, Copy)]
+struct Literals;
+
+impl TokenSet for Literals {
+    ghost kinds = { λ _. form.literals };
+
+    #[tactic(auto, unfolding(crate::specs::Expressions::literals))]
+    fn contains(self, kind: SyntaxKind) -> bool {
+        matches!(
+            kind,
+            INT_NUMBER
+                | FLOAT_NUMBER
+                | STRING
+                | BYTE_STRING
+                | C_STRING
+                | BYTE
+                | CHAR
+                | TRUE_KW
+                | FALSE_KW
+        )
+    }
+}
 
 /// What an expression begins with.
-#[tactic(auto, unfolding(crate::specs::Expressions::expr_first))]
-fn expr_first() -> TokenSet<'static>
-    ensures { result.now ≡ form.expr_first }
-{
-    &[
-        IDENT,
-        L_PAREN,
-        AMP,
-        AMP2,
-        MINUS,
-        BANG,
-        STAR,
-        INT_NUMBER,
-        FLOAT_NUMBER,
-        STRING,
-        BYTE_STRING,
-        C_STRING,
-        BYTE,
-        CHAR,
-        TRUE_KW,
-        FALSE_KW,
-    ]
+#[derive(Clone, Copy)]
+struct ExprFirst;
+
+impl TokenSet for ExprFirst {
+    ghost kinds = { λ _. form.expr_first };
+
+    #[tactic(auto, unfolding(crate::specs::Expressions::expr_first))]
+    fn contains(self, kind: SyntaxKind) -> bool {
+        matches!(kind, IDENT | L_PAREN | AMP | AMP2 | MINUS | BANG | STAR)
+            || Literals.contains(kind)
+    }
 }
 
 /// What goes on with the expression in front of it begins with one of these.
-const TURN_FIRST: TokenSet<'static> = &[L_PAREN, L_BRACK, QUESTION, DOT];
+#[derive(Clone, Copy)]
+struct PostfixFirst;
+
+impl TokenSet for PostfixFirst {
+    ghost kinds = { λ _. form.postfix_first };
+
+    fn contains(self, kind: SyntaxKind) -> bool {
+        matches!(kind, L_PAREN | L_BRACK | QUESTION | DOT)
+    }
+}
 
 /// What a reference begins with.
-const AMPERSANDS: TokenSet<'static> = &[AMP, AMP2];
+#[derive(Clone, Copy)]
+struct Ampersands;
+
+impl TokenSet for Ampersands {
+    ghost kinds = { λ _. form.ampersands };
+
+    fn contains(self, kind: SyntaxKind) -> bool {
+        matches!(kind, AMP | AMP2)
+    }
+}
 
 /// The operators in front of an operand.
-const PREFIX_OPERATORS: TokenSet<'static> = &[MINUS, BANG, STAR];
+#[derive(Clone, Copy)]
+struct PrefixOperators;
+
+impl TokenSet for PrefixOperators {
+    ghost kinds = { λ _. form.prefix_operators };
+
+    fn contains(self, kind: SyntaxKind) -> bool {
+        matches!(kind, MINUS | BANG | STAR)
+    }
+}
 
 /// How many ranks of operators between two operands there are.
 pub(crate) const RANKS: Rank = 9;
 
 /// The operators of a rank.
-#[tactic(auto, using(crate::proofs::Ranks::no_operators), unfolding(crate::specs::Expressions::operators))]
-fn operators(rank: Rank) -> TokenSet<'static>
-    ensures { result.now ≡ form.operators rank }
-{
-    match rank {
-        0 => &[STAR, SLASH, PERCENT],
-        1 => &[PLUS, MINUS],
-        2 => &[SHL, SHR],
-        3 => &[AMP],
-        4 => &[CARET],
-        5 => &[PIPE],
-        6 => &[EQ2, NEQ, L_ANGLE, R_ANGLE, LTEQ, GTEQ],
-        7 => &[AMP2],
-        8 => &[PIPE2],
-        _ => &[],
+#[derive(Clone, Copy)]
+struct Operators(Rank);
+
+impl TokenSet for Operators {
+    ghost kinds = { λ o. form.operators o.0 };
+
+    #[tactic(auto, using(crate::proofs::Ranks::no_operators), unfolding(crate::specs::Expressions::operators))]
+    fn contains(self, kind: SyntaxKind) -> bool {
+        match self.0 {
+            0 => matches!(kind, STAR | SLASH | PERCENT),
+            1 => matches!(kind, PLUS | MINUS),
+            2 => matches!(kind, SHL | SHR),
+            3 => matches!(kind, AMP),
+            4 => matches!(kind, CARET),
+            5 => matches!(kind, PIPE),
+            6 => matches!(kind, EQ2 | NEQ | L_ANGLE | R_ANGLE | LTEQ | GTEQ),
+            7 => matches!(kind, AMP2),
+            8 => matches!(kind, PIPE2),
+            _ => false,
+        }
     }
 }
 
@@ -121,7 +153,7 @@ impl<R: Reader + Drop> Grammar<R> {
         ensures { Runs (R.reads self.now.below) form.literal p.old p.new result }
     {
         let m = p.start();
-        p.expect_any(LITERALS)?;
+        p.expect_any(Literals)?;
         p.complete(&m, LITERAL)
     }
 
@@ -157,7 +189,7 @@ impl<R: Reader + Drop> Grammar<R> {
     {
         if p.at(IDENT) {
             self.path_expr(p)
-        } else if p.at_any(LITERALS) {
+        } else if p.at_any(Literals) {
             self.literal(p)
         } else {
             self.paren_expr(p)
@@ -172,7 +204,7 @@ impl<R: Reader + Drop> Grammar<R> {
     {
         let m = p.start();
         p.expect(L_PAREN)?;
-        p.comma_list(expr_first(), |p| self.child(p, Goal::Expr))?;
+        p.comma_list(ExprFirst, |p| self.child(p, Goal::Expr))?;
         p.expect(R_PAREN)?;
         p.complete(&m, ARG_LIST)
     }
@@ -240,15 +272,15 @@ impl<R: Reader + Drop> Grammar<R> {
         requires { R.can_read self.now.below }
         ensures { RunsFrom (R.reads self.now.below) form.field_expr m.now p.old p.new result }
     {
-        p.refuse_at(&[L_PAREN])?;
+        p.refuse_at(L_PAREN)?;
         p.complete(m, FIELD_EXPR)
     }
 
     /// What goes on with the expression that is all since the mark.
-    #[tactic(auto, unfolding(crate::specs::Expressions::turn))]
-    fn turn(&self, p: &mut Parser<'_>, m: &Mark<'_>) -> Result<(), Fault>
+    #[tactic(auto, unfolding(crate::specs::Expressions::postfix))]
+    fn postfix(&self, p: &mut Parser<'_>, m: &Mark<'_>) -> Result<(), Fault>
         requires { R.can_read self.now.below }
-        ensures { RunsFrom (R.reads self.now.below) form.turn m.now p.old p.new result }
+        ensures { RunsFrom (R.reads self.now.below) form.postfix m.now p.old p.new result }
     {
         if p.at(L_PAREN) {
             self.call_expr(p, m)
@@ -268,7 +300,7 @@ impl<R: Reader + Drop> Grammar<R> {
         ensures { Runs (R.reads self.now.below) form.ref_expr p.old p.new result }
     {
         let m = p.start();
-        p.expect_part(AMPERSANDS)?;
+        p.expect_part(Ampersands)?;
         p.eat(MUT_KW)?;
         self.child(p, Goal::Operand(0))?;
         p.complete(&m, REF_EXPR)
@@ -281,7 +313,7 @@ impl<R: Reader + Drop> Grammar<R> {
         ensures { Runs (R.reads self.now.below) form.prefix_expr p.old p.new result }
     {
         let m = p.start();
-        p.expect_any(PREFIX_OPERATORS)?;
+        p.expect_any(PrefixOperators)?;
         self.child(p, Goal::Operand(0))?;
         p.complete(&m, PREFIX_EXPR)
     }
@@ -292,14 +324,14 @@ impl<R: Reader + Drop> Grammar<R> {
         requires { R.can_read self.now.below }
         ensures { Runs (R.reads self.now.below) form.unary p.old p.new result }
     {
-        if p.at_any(AMPERSANDS) {
+        if p.at_any(Ampersands) {
             self.ref_expr(p)
-        } else if p.at_any(PREFIX_OPERATORS) {
+        } else if p.at_any(PrefixOperators) {
             self.prefix_expr(p)
         } else {
             let m = p.start();
             self.atom(p)?;
-            p.repeated(TURN_FIRST, |p| self.turn(p, &m))
+            p.repeated(PostfixFirst, |p| self.postfix(p, &m))
         }
     }
 
@@ -329,7 +361,7 @@ impl<R: Reader + Drop> Grammar<R> {
         requires { R.can_read self.now.below }
         ensures { RunsFrom (R.reads self.now.below) (form.operations rank) m.now p.old p.new result }
     {
-        p.repeated(operators(rank), |p| self.operation(p, m, rank))
+        p.repeated(Operators(rank), |p| self.operation(p, m, rank))
     }
 
     /// BIN_EXPR: an operator of this rank and its right operand. All since the mark is the left operand.
@@ -338,7 +370,7 @@ impl<R: Reader + Drop> Grammar<R> {
         requires { R.can_read self.now.below }
         ensures { RunsFrom (R.reads self.now.below) (form.operation rank) m.now p.old p.new result }
     {
-        p.expect_any(operators(rank))?;
+        p.expect_any(Operators(rank))?;
         self.child(p, Goal::Operand(rank))?;
         p.complete(m, BIN_EXPR)
     }
@@ -351,7 +383,7 @@ impl<R: Reader + Drop> Grammar<R> {
     {
         let m = p.start();
         p.expect(L_CURLY)?;
-        if p.at_any(expr_first()) {
+        if p.at_any(ExprFirst) {
             self.child(p, Goal::Expr)?;
         }
         p.expect(R_CURLY)?;

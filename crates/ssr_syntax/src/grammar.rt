@@ -1,10 +1,11 @@
 //! Each goal by the function of its form, and the reading of all tokens.
 ghost use Rattle.ssr_syntax.specs.Grammar.{grammar};
-ghost use Rattle.ssr_syntax_forms.specs.Levels.{run_goal};
+ghost use Rattle.ssr_syntax_forms.specs.Private.Runs.{run_goal};
 ghost use Rattle.ssr_syntax.specs.Private.Reading.{IsReading};
 ghost use Rattle.ssr_syntax.specs.Reading.{reading};
-ghost use Rattle.ssr_syntax_forms.specs.Trees.{written_in};
-ghost use Rattle.ssr_syntax_forms.specs.Runs.{Runs, Steps};
+ghost use Rattle.ssr_syntax_forms.specs.Parser.{written_in};
+ghost use Rattle.ssr_syntax_forms.specs.Parser.{Steps};
+ghost use Rattle.ssr_syntax_forms.specs.Private.Runs.{Runs};
 
 use crate::expressions::{RANKS, at_most_all};
 use crate::goals::Goal;
@@ -63,7 +64,7 @@ impl<F: Fn(&mut Parser<'_>, Goal) -> Result<(), Fault> + Drop> Reader for Level<
 }
 
 /// Reads a goal with at most `left` levels of goals.
-#[tactic(auto, unfolding(ssr_syntax_forms::specs::Levels::run_goal))]
+#[tactic(auto, unfolding(ssr_syntax_forms::specs::Private::Runs::run_goal))]
 fn read(p: &mut Parser<'_>, goal: Goal, left: u32) -> Result<(), Fault>
     ensures { Steps p.new result (run_goal grammar left goal p.old) }
 {

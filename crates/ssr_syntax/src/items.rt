@@ -1,6 +1,6 @@
 //! The functions that read items.
 ghost use Rattle.ssr_syntax.specs.Items as form;
-ghost use Rattle.ssr_syntax_forms.specs.Runs.{Runs};
+ghost use Rattle.ssr_syntax_forms.specs.Private.Runs.{Runs};
 
 use crate::grammar::Grammar;
 use crate::reader::Reader;
@@ -52,7 +52,7 @@ impl<R: Reader + Drop> Grammar<R> {
         ensures { Runs (R.reads self.now.below) form.source_file p.old p.new result }
     {
         let m = p.start();
-        p.repeated(&[FN_KW], |p| self.function(p))?;
+        p.repeated(FN_KW, |p| self.function(p))?;
         p.complete(&m, SOURCE_FILE)
     }
 }

@@ -14,7 +14,7 @@ ghost use Rattle.ssr_syntax_forms.specs.Forms.{SoFar};
 ghost use Rattle.ssr_syntax.specs.Grammar.{grammar};
 ghost use Rattle.ssr_syntax.specs.Identifiers.{IdentsAloneIn, idents};
 ghost use Rattle.ssr_syntax.specs.Reading.{FitsFile, FitsFragment, pieces, trimmed};
-ghost use Rattle.ssr_syntax.specs.Operands.{AreRanked};
+ghost use Rattle.ssr_syntax.specs.Operands.{KeepsPrecedence};
 ghost use Rattle.ssr_syntax_forms.specs.Trees.{Forest, done, spell};
 ghost use Rattle.ssr_syntax_forms.specs.declared.tokens.Token.{Token};
 
@@ -40,8 +40,9 @@ pub fn fitting()
     ensures answers { (goal : Goal) (r : SoFar) → decide_fits goal r ≡ reached decide_fits (grammar goal) is_empty r }
 {}
 
-/// The operands of each operator bind as tightly as they must, in whatever fits: the left one at least as tightly as the
-/// operator, the right one tighter.
+/// Whatever fits keeps precedence: what is called, indexed, asked for a field or a method, or stands before a `?`, the
+/// operand of an operator in front, and the left one of an operator between two bind at least as tightly as the whole,
+/// and the right one of an operator that has a rank binds tighter.
 pub fn operands()
-    ensures { (goal : Goal) (z : Forest) (us rest : List Token) → Fits grammar (grammar goal) done z us rest → AreRanked z }
+    ensures { (goal : Goal) (z : Forest) (us rest : List Token) → Fits grammar (grammar goal) done z us rest → KeepsPrecedence z }
 {}

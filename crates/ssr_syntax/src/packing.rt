@@ -1,11 +1,11 @@
 //! Rows of tokens on their way from a text's to a tree's, in one place, so that no second one is needed.
 ghost use Rattle.std.specs.Prelude.{◌≡◌, ◌<◌, ◌+◌, ◌++◌, [], ◌∷◌, suc, length, IfSome, IfNone};
-ghost use Rattle.ssr_syntax.specs.Private.Packing.{Packed, packed_of};
+ghost use Rattle.ssr_syntax.specs.Private.Packing.{PackingRows, packed_of};
 
 use ssr_syntax_lex::{TokenRow, TokenRows};
 use std::marker::Model;
 
-/// Packed rows at the front, and unread ones at the end. Between them is room for those that were read and aren't packed,
+/// PackingRows rows at the front, and unread ones at the end. Between them is room for those that were read and aren't packed,
 /// since some are joined.
 #[derive(Drop)]
 pub(crate) struct Packing {
@@ -18,9 +18,9 @@ pub(crate) struct Packing {
 
 impl Model for Packing {
     ghost use Rattle.std.specs.Prelude.{◌≤◌, length};
-    ghost use Rattle.ssr_syntax.specs.Private.Packing.{Packed, packed_of};
+    ghost use Rattle.ssr_syntax.specs.Private.Packing.{PackingRows, packed_of};
 
-    ghost Value = { Packed };
+    ghost Value = { PackingRows };
 
     ghost view = { λ p. packed_of p.rows p.packed p.unread };
 
@@ -37,13 +37,6 @@ impl Packing {
             packed: 0,
             unread: 0,
         }
-    }
-
-    /// How many rows are packed.
-    pub(crate) fn count(&self) -> usize
-        ensures { result ≡ length self.now.packed }
-    {
-        self.packed
     }
 
     /// Reads the first one of the unread rows.

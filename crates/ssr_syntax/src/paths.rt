@@ -1,6 +1,6 @@
 //! The functions that read paths.
 ghost use Rattle.ssr_syntax.specs.Paths as form;
-ghost use Rattle.ssr_syntax_forms.specs.Runs.{Runs, RunsFrom};
+ghost use Rattle.ssr_syntax_forms.specs.Private.Runs.{Runs, RunsFrom};
 
 use crate::grammar::Grammar;
 use crate::reader::Reader;
@@ -50,6 +50,6 @@ impl<R: Reader + Drop> Grammar<R> {
         let m = p.start();
         self.path_segment(p)?;
         p.complete(&m, PATH)?;
-        p.repeated(&[COLON2], |p| self.longer_path(p, &m))
+        p.repeated(COLON2, |p| self.longer_path(p, &m))
     }
 }

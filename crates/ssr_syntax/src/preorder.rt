@@ -4,7 +4,8 @@ ghost use Rattle.ssr_syntax_lex.specs.declared.kinds.SyntaxKind.{SyntaxKind};
 ghost use Rattle.ssr_syntax.specs.Private.Preorder.{first_at, past_at, OkUnlessDeep, tree_rows, most_nodes};
 ghost use Rattle.ssr_syntax.specs.Reading.{most_deep};
 ghost use Rattle.ssr_syntax.specs.Private.OpenNodes.{opened, IsClosed, IsOpened, IsFromRight};
-ghost use Rattle.ssr_syntax_forms.specs.Trees.{Forest, done, height, tree, rows as rows_of};
+ghost use Rattle.ssr_syntax_forms.specs.Trees.{Forest, done, height, tree};
+ghost use Rattle.ssr_syntax_forms.specs.Private.Written.{rows as rows_of};
 
 use crate::syntax_error::SyntaxError;
 use crate::turning::Turning;

@@ -1,6 +1,7 @@
 //! What the functions of forms call for a goal one level below.
 ghost use Rattle.ssr_syntax.specs.declared.goals.Goal.{Goal};
-ghost use Rattle.ssr_syntax_forms.specs.Runs.{RunsBelow, Steps};
+ghost use Rattle.ssr_syntax_forms.specs.Parser.{Steps};
+ghost use Rattle.ssr_syntax_forms.specs.Private.Runs.{RunsBelow};
 
 use crate::goals::Goal;
 use ssr_syntax_forms::{Fault, Parser};

@@ -15,7 +15,7 @@ use crate::grammar::parse_as;
 use crate::preorder::node_rows;
 use crate::solid::solid_tokens;
 use crate::syntax_error::SyntaxError;
-use crate::tree_tokens::tree_tokens;
+use crate::tree_tokens::{ends, tree_tokens};
 use ssr_syntax_lex::{LexError, SyntaxKind, TokenRows, lex_rows};
 use ssr_syntax_tree::Tree;
 use std::alloc::Global;
@@ -60,9 +60,11 @@ fn read_tokens(
     let written = parse_as(alloc, goal, &solid)?;
     // Each list is dropped as soon as it is read, which keeps the most memory in use low.
     drop(solid);
-    let tokens = tree_tokens(alloc, rows, count, &written.taken)?;
+    let tokens = tree_tokens(alloc, rows, &written.taken)?;
     drop(written.taken);
-    let nodes = node_rows(alloc, written.rows, &tokens.ends, tokens.rows.len() as u32)?;
+    let ends = ends(alloc, &tokens.sizes, count)?;
+    drop(tokens.sizes);
+    let nodes = node_rows(alloc, written.rows, &ends, tokens.rows.len() as u32)?;
     Ok(Tree::from_parts(text, tokens.rows, nodes))
 }
 
@@ -231,6 +233,17 @@ mod tests {
             (SyntaxKind::LITERAL, 10, 11),
         ];
         assert_eq!(rt; outline(rt.alloc(), &tree)?.as_slice(), want.as_slice());
+        Ok(())
+    }
+
+    #[test]
+    fn what_almost_goes_on_with_an_expression_is_refused(rt: HostRuntime) -> Result<(), Fail> {
+        for text in [
+            "1[]", "1[2", "1[2]]", "1[2, 3]", "?1", "x.?", "1(2 3)", "1.b(2", "&mut", "-",
+        ] {
+            let answer = fragment(rt.alloc(), Fragment::Expr, text);
+            assert_eq!(rt; answer.err(), Some(SyntaxError::NoTree), "{text}");
+        }
         Ok(())
     }
 

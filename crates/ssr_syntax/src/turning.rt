@@ -1,6 +1,6 @@
 //! Rows on their way from the parser's order to preorder, in one place, so that no second one is needed.
 ghost use Rattle.std.specs.Prelude.{◌≡◌, ◌<◌, ◌+◌, ◌-◌, ◌++◌, [], ◌∷◌, suc, length, reverse, IfSome, IfNone};
-ghost use Rattle.ssr_syntax.specs.Private.Turning.{Turned, turned_of};
+ghost use Rattle.ssr_syntax.specs.Private.Turning.{TurningRows, turned_of};
 
 use ssr_syntax_tree::{NodeRow, NodeRows};
 use std::marker::Model;
@@ -18,9 +18,9 @@ pub(crate) struct Turning {
 
 impl Model for Turning {
     ghost use Rattle.std.specs.Prelude.{◌≤◌, length};
-    ghost use Rattle.ssr_syntax.specs.Private.Turning.{Turned, turned_of};
+    ghost use Rattle.ssr_syntax.specs.Private.Turning.{TurningRows, turned_of};
 
-    ghost Value = { Turned };
+    ghost Value = { TurningRows };
 
     ghost view = { λ t. turned_of t.rows t.unread t.turned };
 

@@ -47,9 +47,9 @@ stops : (test : Test) (step : SoFar → Result SoFar Fault) (fuel : ℕ) (r : So
 stops test step zero r lt miss = absurd (omega (arith, lt))
 stops test step (suc fuel) r lt miss = rw miss refl
 
--- turns of a loop
-abbrev Turn : {Goal : Type 0} → Tables Goal → FitsBelow Goal → ReadsBelow Goal → Form Goal → List SyntaxKind → Type 0
-Turn t fits below form follow =
+-- what fits the form is read
+abbrev IsComplete : {Goal : Type 0} → Tables Goal → FitsBelow Goal → ReadsBelow Goal → Form Goal → List SyntaxKind → Type 0
+IsComplete t fits below form follow =
     (x z : Forest) (us rest : List Token) → Fits fits form x z us rest → IsCore t.core z → mem (next rest) follow ≡ true
     → read below form (so_far x (us ++ rest)) ≡ Ok (so_far z rest)
 
@@ -61,7 +61,7 @@ more_turns t fits c test form follow n x z us rest f h m =
 
 turns : {Goal : Type 0} (t : Tables Goal) (fits : FitsBelow Goal) (below : ReadsBelow Goal) → Claims t fits → (test : Test) (form : Form Goal) (follow : List SyntaxKind)
     → decides_off test follow ≡ true → empty t form ≡ false → decides_on test (firsts t form) ≡ true
-    → Turn t fits below form (firsts t form ++ follow)
+    → IsComplete t fits below form (firsts t form ++ follow)
     → (n fuel : ℕ) (x z : Forest) (us rest : List Token) → Repeats n (Fits fits form) x z us rest → IsCore t.core z
     → mem (next rest) follow ≡ true → length us < fuel
     → repeat (λ s. s.rest) fuel test (read below form) (so_far x (us ++ rest)) ≡ Ok (so_far z rest)
@@ -155,7 +155,7 @@ told t fits c wanted test g follow d x z us rest f h m =
     ]
 
 pub complete : {Goal : Type 0} (t : Tables Goal) (fits : FitsBelow Goal) (below : ReadsBelow Goal) → Claims t fits → ReadBelow t fits below
-    → (form : Form Goal) (follow : List SyntaxKind) → decides t form follow ≡ true → Turn t fits below form follow
+    → (form : Form Goal) (follow : List SyntaxKind) → decides t form follow ≡ true → IsComplete t fits below form follow
 complete t fits below c k (one whole ks) follow d x z us rest (front, others, us_is, is, size, z_is) h m =
     rw (ap (λ w. w ++ rest) us_is, past_token whole ks front others rest is size, leaf_token whole front others rest size, z_is) refl
 complete t fits below c k (child goal) follow d x z us rest (y, y_fits, z_is) h m =

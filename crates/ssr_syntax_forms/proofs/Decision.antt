@@ -9,7 +9,7 @@ use Rattle.ssr_syntax_forms.specs.declared.tokens.Token.{Token}
 use Rattle.ssr_syntax_forms.specs.Trees.{Forest, done, leaf, tree, join, spell, height}
 use Rattle.ssr_syntax_forms.specs.Forms.{Productions, Form, one, child, mark, seal, ◌then◌, nothing, choose, many, look, check, is_one, more, taken_as, holds, SoFar, so_far}
 use Rattle.ssr_syntax_forms.specs.Fitting as rules
-use Rattle.ssr_syntax_forms.specs.Decision.{size, behind_first, last_cut, Places, is_empty, is_token, at_cut, cut_off, unsealed, steps, reached, decide_at}
+use Rattle.ssr_syntax_forms.specs.Decision.{size, behind_first, last_cut, Places, is_empty, is_token, at_cut, cut_off, unsealed, steps_back, reached, decide_at}
 use Rattle.ssr_syntax_forms.proofs.Check.{makes_node, lone_marks}
 use Rattle.ssr_syntax_forms.proofs.Depth.{shallow_of, covered, lower_ranks, lower_ranked}
 use Rattle.ssr_syntax_forms.proofs.Levels.{goals_spell}
@@ -125,7 +125,7 @@ nothing_made done ts h = refl
 nothing_made (leaf kind us x) ts h = cc
 nothing_made (tree kind kids x) ts h = cc
 
--- two steps, one after another
+-- two steps_back, one after another
 came_over : (first second both : Step) (start middle : Places) (r : SoFar)
     → ((x y : Forest) (us vs : List Token) → first x y us (vs ++ r.rest) → second y r.made vs r.rest → both x r.made (us ++ vs) r.rest)
     → ((q : SoFar) → middle q ≡ true → CameFrom first start q) → CameFrom second middle r → CameFrom both start r
@@ -179,8 +179,8 @@ keeps_growth = record {
   over = grows_over;
 }
 
-grows : {Goal : Type 0} (fit : FitsBelow Goal) → Spells fit → (form : Form Goal) (x z : Forest) (us rest : List Token) → Fits fit form x z us rest → Grows x z us rest
-grows fit spells form =
+growth : {Goal : Type 0} (fit : FitsBelow Goal) → Spells fit → (form : Form Goal) (x z : Forest) (us rest : List Token) → Fits fit form x z us rest → Grows x z us rest
+growth fit spells form =
     walk any_token any_node Grows keeps_growth fit
     (λ asked y us rest y_fits. grows_from_nothing y us rest (spells asked y us rest y_fits)) form (anything form)
 
@@ -192,19 +192,19 @@ no_turn step start r h = record { from = r.made; taken = []; leads = (zero, (ref
 
 steps_there : (step : Step) (back : Places → Places)
     → ((start : Places) (r : SoFar) → back start r ≡ true → CameFrom step start r)
-    → (n : ℕ) (start : Places) (r : SoFar) → steps back n start r ≡ true → CameFrom (Loops step) start r
+    → (n : ℕ) (start : Places) (r : SoFar) → steps_back back n start r ≡ true → CameFrom (Loops step) start r
 steps_there step back there zero start r h = no_turn step start r h
 steps_there step back there (suc n) start r h =
-    elim (or_cases (start r) (steps back n (back start) r) h) [
+    elim (or_cases (start r) (steps_back back n (back start) r) h) [
       | inl e ↦ no_turn step start r e
       | inr e ↦ came_over step (Loops step) (Loops step) start (back start) r
           (λ x y us vs f turns. (suc turns.0, (y, us, vs, refl, f, turns.1))) (there start)
           (steps_there step back there n (back start) r e)
     ]
 
-no_step : (back : Places → Places) (n : ℕ) (start : Places) (r : SoFar) → start r ≡ true → steps back n start r ≡ true
+no_step : (back : Places → Places) (n : ℕ) (start : Places) (r : SoFar) → start r ≡ true → steps_back back n start r ≡ true
 no_step back zero start r h = h
-no_step back (suc n) start r h = or_left (start r) (steps back n (back start) r) h
+no_step back (suc n) start r h = or_left (start r) (steps_back back n (back start) r) h
 
 -- what leads here from a start is found
 abbrev Finds : Step → (Places → Places) → Type 0
@@ -226,7 +226,7 @@ steps_found : (step : Step) (back : Places → Places) → Finds step back
     → ((x z : Forest) (us rest : List Token) → step x z us rest → Grows x z us rest)
     → ((x z : Forest) (us rest : List Token) → Loops step x z us rest → Grows x z us rest)
     → (m n : ℕ) (start : Places) (x z : Forest) (us rest : List Token) → Repeats m step x z us rest
-    → start (so_far x (us ++ rest)) ≡ true → size z ≤ size x + n → steps back n start (so_far z rest) ≡ true
+    → start (so_far x (us ++ rest)) ≡ true → size z ≤ size x + n → steps_back back n start (so_far z rest) ≡ true
 steps_found step back found one_grows all_grow zero n start x z us rest (none, z_is) s le =
     no_step back n start (so_far z rest) (stays_start start x z us rest none z_is s)
 steps_found step back found one_grows all_grow (suc m) n start x z us rest (y, vs, ws, us_is, f, turns) s le =
@@ -234,7 +234,7 @@ steps_found step back found one_grows all_grow (suc m) n start x z us rest (y, v
     elim (one_grows x y vs (ws ++ rest) f) [
       | inl idle ↦ steps_found step back found one_grows all_grow m n start y z ws rest turns
           (stays_start start x y vs (ws ++ rest) idle.1 (sym idle.0) s') (omega (arith, ap size idle.0))
-      | inr lt ↦ elim n as (λ k. size z ≤ size x + k → steps back k start (so_far z rest) ≡ true) [
+      | inr lt ↦ elim n as (λ k. size z ≤ size x + k → steps_back back k start (so_far z rest) ≡ true) [
         | zero ↦ λ le'. absurd (omega (arith, not_smaller y z ws rest (all_grow y z ws rest (m, turns))))
         | suc k ↦ λ le'. or_right (start (so_far z rest)) _
             (steps_found step back found one_grows all_grow m k (back start) y z ws rest turns
@@ -328,7 +328,7 @@ module _ {Goal : Type 0} (fit : FitsBelow Goal) (below : Goal → Places) (d : I
   is_found (choose test f g) l start x z us rest (inr g_fits) s =
       or_right _ _ (is_found g (and_parts _ _ l).1 start x z us rest g_fits s)
   is_found (many test f) l start x z us rest (count, turns) s =
-      steps_found (Fits fit f) (reached below f) (is_found f l) (grows fit d.spells f) (grows fit d.spells (many test f))
+      steps_found (Fits fit f) (reached below f) (is_found f l) (growth fit d.spells f) (growth fit d.spells (many test f))
       count (size z) start x z us rest turns s (omega arith)
   is_found (look want test) l start x z us rest (none, z_is, looked) s =
       and_from _ _ looked (stays_start start x z us rest none z_is s)

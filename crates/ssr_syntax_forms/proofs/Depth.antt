@@ -1,8 +1,9 @@
 -- A forest that isn't deep fits its goal with few levels: each node is worth as many levels as goals may stand in a row.
 use Rattle.std.proofs.Common.{◌≡◌, ℕ, zero, suc, ◌+◌, ◌*◌, ◌<◌, ◌≤◌, nat_lt, Bool, true, false, ◌||◌, ◌&&◌, if◌then◌else◌, List, [], ◌∷◌, ◌++◌, inl, inr, subst, arith}
+use Rattle.std.specs.Prelude.{⊤}
 use Rattle.std.proofs.lemmas.Bool.{ltb-true, and_parts, cases_Bool, or_cases}
 use Rattle.ssr_syntax_forms.specs.declared.tokens.Token.{Token}
-use Rattle.ssr_syntax_forms.specs.Trees.{Forest, done, leaf, tree, join, height, IsShallow}
+use Rattle.ssr_syntax_forms.specs.Trees.{Forest, done, leaf, tree, join, height}
 use Rattle.ssr_syntax_forms.specs.Forms.{Productions, Form, one, child, mark, seal, ◌then◌, nothing, choose, many, look, check, taken_as}
 use Rattle.ssr_syntax_forms.proofs.Nested.{FitsBelow, Step, Repeats, Fits, FitsGoal}
 use Rattle.ssr_syntax_forms.proofs.Walks.{any_token, any_node, anything, IsKept, walk}
@@ -32,6 +33,13 @@ covered free later (choose test f g) = covered free later f && covered free late
 covered free later (many test f) = covered free later f
 covered free later (look want test) = true
 covered free later (check condition) = true
+
+-- at most `high` nodes stand above one another
+abbrev pub IsShallow : ℕ → Forest → Type 0
+IsShallow high done = ⊤
+IsShallow high (leaf kind tokens x) = IsShallow high x
+IsShallow zero (tree kind kids x) = ⊥
+IsShallow (suc high) (tree kind kids x) = IsShallow high kids × IsShallow (suc high) x
 
 pub shallow_of : (z : Forest) (high : ℕ) → height z ≤ high → IsShallow high z
 shallow_of done high le = tt

@@ -2,10 +2,14 @@
 use Rattle.std.proofs.Common.{◌≡◌, ℕ, zero, suc, List, [], length, Result, Ok, Err, refl, sym, ap, subst, ◌∙◌}
 use Rattle.ssr_syntax_forms.specs.declared.tokens.Token.{Token}
 use Rattle.ssr_syntax_forms.specs.declared.fault.Fault.{Fault}
-use Rattle.ssr_syntax_forms.specs.Trees.{Forest, done, Written, written_of, writes}
+use Rattle.ssr_syntax_forms.specs.Trees.{Forest, done}
+use Rattle.ssr_syntax_forms.specs.Parser.{Written, written_of}
+use Rattle.ssr_syntax_forms.specs.Private.Written.{writes}
 use Rattle.ssr_syntax_forms.specs.Forms.{Productions, SoFar, so_far, read}
-use Rattle.ssr_syntax_forms.specs.Runs.{State, state_of, mark_at, run}
-use Rattle.ssr_syntax_forms.specs.Levels.{read_goal, run_goal}
+use Rattle.ssr_syntax_forms.specs.Parser.{State, state_of, mark_at}
+use Rattle.ssr_syntax_forms.specs.Private.Runs.{run}
+use Rattle.ssr_syntax_forms.specs.Levels.{read_goal}
+use Rattle.ssr_syntax_forms.specs.Private.Runs.{run_goal}
 use Rattle.ssr_syntax_forms.proofs.Answers.{ok_one}
 use Rattle.ssr_syntax_forms.proofs.Nested.{FitsGoal}
 use Rattle.ssr_syntax_forms.proofs.Soundness.{IsSound, sound}

@@ -4,7 +4,8 @@ use Rattle.ssr_syntax_lex.specs.declared.kinds.SyntaxKind.{SyntaxKind}
 use Rattle.ssr_syntax_forms.specs.declared.fault.Fault.{Fault}
 use Rattle.ssr_syntax_forms.specs.declared.fault.Fault.TheVariants as faults
 use Rattle.ssr_syntax_forms.specs.Forms.{Form, Test, comma_list, passes, repeat, ◌>>=◌}
-use Rattle.ssr_syntax_forms.specs.Runs.{State, Mark, RunsBelow, run, comma_separated}
+use Rattle.ssr_syntax_forms.specs.Parser.{State, Mark, comma_separated}
+use Rattle.ssr_syntax_forms.specs.Private.Runs.{RunsBelow, run}
 
 repeat_suc : (n : ℕ) (test : Test) (step : State → Result State Fault) (s : State) (m : ℕ) → m ≡ suc n
     → repeat (λ z. z.rest) m test step s ≡ (if passes test s.rest then step s >>= repeat (λ z. z.rest) n test step else Ok s)

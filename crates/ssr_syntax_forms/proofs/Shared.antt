@@ -13,7 +13,7 @@ pub use Rattle.ssr_syntax_forms.proofs.Nested.{FitsBelow, Step, Repeats, Fits, g
 pub use Rattle.ssr_syntax_forms.proofs.Walks.{has_only, any_token, any_node, anything, IsKept, walk_goals}
 -- what a grammar has to keep, and what it then has
 pub use Rattle.ssr_syntax_forms.proofs.Check.{Tables, keeps, remembers, makes_node, lone_marks}
-pub use Rattle.ssr_syntax_forms.proofs.Depth.{shallow_of, covered, lower_ranks, lower_ranked}
+pub use Rattle.ssr_syntax_forms.proofs.Depth.{IsShallow, shallow_of, covered, lower_ranks, lower_ranked}
 pub use Rattle.ssr_syntax_forms.proofs.Core.{IsCore, goals_core}
 pub use Rattle.ssr_syntax_forms.proofs.Keeping.{complete_goal}
 pub use Rattle.ssr_syntax_forms.proofs.Lone.{goals_lone}

@@ -48,10 +48,10 @@ cut_off test start r = at_cut test start r.rest (last_cut r.made)
 abbrev pub unsealed : SyntaxKind → Places → Places
 unsealed kind start r = elim r.made [ tree k kids done ↦ same_kind k kind && start (so_far kids r.rest) | _ ↦ false ]
 
--- at most so many steps back
-abbrev pub steps : (Places → Places) → ℕ → Places → Places
-steps step zero start r = start r
-steps step (suc n) start r = start r || steps step n (step start) r
+-- at most so many steps_back back
+abbrev pub steps_back : (Places → Places) → ℕ → Places → Places
+steps_back step zero start r = start r
+steps_back step (suc n) start r = start r || steps_back step n (step start) r
 
 -- ** The way back over a form: the form leads to here from a start. `below goal r` decides for the goals in it.
 abbrev pub reached : {Goal : Type 0} → (Goal → Places) → Form Goal → Places → Places
@@ -62,7 +62,7 @@ reached below (seal kind) start r = unsealed kind start r
 reached below (f then g) start r = reached below g (reached below f start) r
 reached below nothing start r = start r
 reached below (choose test f g) start r = reached below f start r || reached below g start r
-reached below (many test f) start r = steps (reached below f) (size r.made) start r
+reached below (many test f) start r = steps_back (reached below f) (size r.made) start r
 reached below (look want test) start r = agrees want (passes test r.rest) && start r
 reached below (check condition) start r = holds condition (spell r.made) && start r
 

@@ -9,4 +9,4 @@ mod tokens;
 pub use fault::Fault;
 pub use parser::{Mark, Parser};
 pub use rows::{Output, Taken};
-pub use tokens::{END, Token, TokenSet, contains};
+pub use tokens::{END, Token, TokenSet};

@@ -1,14 +1,15 @@
 //! The parser's state: the tokens that are left, and what is written of those that were read.
 ghost use Rattle.std.specs.Prelude.{◌≡◌, ◌-◌, true, false, if◌then◌else◌, [], ◌∷◌, Result, Ok, Err, IfOk};
 ghost use Rattle.ssr_syntax_forms.specs.Forms.{agrees, at, next, passes};
-ghost use Rattle.ssr_syntax_forms.specs.Runs.{Calls, Finishes, State, Steps, close, comma_separated, listed, mark_of, repeated, separated, state_of, taken, takes};
-ghost use Rattle.ssr_syntax_forms.specs.Trees.{written_of};
+ghost use Rattle.ssr_syntax_forms.specs.Parser.{Calls, Finishes, State, Steps, close, comma_separated, listed, mark_of, repeated, separated, state_of, taken};
+ghost use Rattle.ssr_syntax_forms.specs.Private.Runs.{taken_with};
+ghost use Rattle.ssr_syntax_forms.specs.Parser.{written_of};
 ghost use Rattle.ssr_syntax_forms.specs.declared.fault.Fault.{Fault};
 ghost use Rattle.ssr_syntax_forms.specs.declared.fault.Fault.TheVariants as faults;
 
 use crate::fault::Fault;
 use crate::rows::{Output, Taken};
-use crate::tokens::{END, Token, TokenSet, contains};
+use crate::tokens::{END, Token, TokenSet};
 use ssr_syntax_lex::SyntaxKind;
 use ssr_syntax_tree::{NodeRow, NodeRows};
 use std::alloc::{AllocError, Global};
@@ -26,8 +27,8 @@ pub struct Parser<'a> {
 }
 
 impl<'a> Model for Parser<'a> {
-    ghost use Rattle.ssr_syntax_forms.specs.Runs.{State, state_of};
-    ghost use Rattle.ssr_syntax_forms.specs.Trees.{written_in};
+    ghost use Rattle.ssr_syntax_forms.specs.Parser.{State, state_of};
+    ghost use Rattle.ssr_syntax_forms.specs.Parser.{written_in};
 
     ghost Value = { State };
 
@@ -42,7 +43,7 @@ pub struct Mark<'a> {
 }
 
 impl<'a> Model for Mark<'a> {
-    ghost use Rattle.ssr_syntax_forms.specs.Runs.{Mark, mark_at};
+    ghost use Rattle.ssr_syntax_forms.specs.Parser.{Mark, mark_at};
 
     ghost Value = { Mark };
 
@@ -122,10 +123,10 @@ impl<'a> Parser<'a> {
 
     /// Whether the next token is of one of these kinds.
     #[tactic(auto, using(crate::proofs::Members::at_next))]
-    pub fn at_any(&self, set: TokenSet<'_>) -> bool
-        ensures { result ≡ passes (at set.now) self.now.rest }
+    pub fn at_any<S: TokenSet>(&self, set: S) -> bool
+        ensures { result ≡ passes (at (S.kinds set)) self.now.rest }
     {
-        contains(set, self.current())
+        set.contains(self.current())
     }
 
     /// Takes a token of this kind; `NoTree` where none is next.
@@ -144,12 +145,12 @@ impl<'a> Parser<'a> {
     }
 
     /// Takes a token of one of these kinds; `NoTree` where none is next.
-    pub fn expect_any(&mut self, set: TokenSet<'_>) -> Result<(), Fault>
-        ensures { Steps self.new result (taken true set.now self.old) }
+    pub fn expect_any<S: TokenSet>(&mut self, set: S) -> Result<(), Fault>
+        ensures { Steps self.new result (taken true (S.kinds set) self.old) }
     {
         let tokens = self.rest;
         match tokens.split_first() {
-            Some((first, rest)) if contains(set, first.joined) => {
+            Some((first, rest)) if set.contains(first.joined) => {
                 self.take(first.joined, first.size, rest)
             }
             _ => Err(Fault::NoTree),
@@ -157,12 +158,12 @@ impl<'a> Parser<'a> {
     }
 
     /// Takes the first part of a token, where both the token and that part are of these kinds; else `NoTree`.
-    pub fn expect_part(&mut self, set: TokenSet<'_>) -> Result<(), Fault>
-        ensures { Steps self.new result (taken false set.now self.old) }
+    pub fn expect_part<S: TokenSet>(&mut self, set: S) -> Result<(), Fault>
+        ensures { Steps self.new result (taken false (S.kinds set) self.old) }
     {
         let tokens = self.rest;
         match tokens.split_first() {
-            Some((first, rest)) if contains(set, first.joined) && contains(set, first.kind) => {
+            Some((first, rest)) if set.contains(first.joined) && set.contains(first.kind) => {
                 self.take(first.kind, 1, rest)
             }
             _ => Err(Fault::NoTree),
@@ -181,8 +182,8 @@ impl<'a> Parser<'a> {
     }
 
     /// Refuses a next token of these kinds.
-    pub fn refuse_at(&self, set: TokenSet<'_>) -> Result<(), Fault>
-        ensures { Steps self.now result (if agrees false (passes (at set.now) self.now.rest) then Ok self.now else Err faults.NoTree) }
+    pub fn refuse_at<S: TokenSet>(&self, set: S) -> Result<(), Fault>
+        ensures { Steps self.now result (if agrees false (passes (at (S.kinds set)) self.now.rest) then Ok self.now else Err faults.NoTree) }
     {
         if self.at_any(set) {
             Err(Fault::NoTree)
@@ -193,7 +194,7 @@ impl<'a> Parser<'a> {
 
     /// Takes a token of this kind, joined from so many: the one in front of `rest`, and the others of `rest`.
     fn take(&mut self, kind: SyntaxKind, size: u8, rest: &'a [Token]) -> Result<(), Fault>
-        ensures { Steps self.new result (takes kind (size - 1) rest.entry.now self.old.out) }
+        ensures { Steps self.new result (taken_with kind (size - 1) rest.entry.now self.old.out) }
     {
         let more = size.saturating_sub(1);
         if more as usize > rest.len() {
@@ -209,15 +210,15 @@ impl<'a> Parser<'a> {
 
     /// The step again and again, as long as one of these kinds is next. `NoTree` after more turns
     /// than there are tokens left.
-    #[tactic(auto, using(crate::proofs::Loops::repeat_step, crate::proofs::Loops::repeat_end), unfolding(crate::specs::Runs::repeated))]
-    pub fn repeated<F: Fn(&mut Parser<'_>) -> Result<(), Fault>>(
+    #[tactic(auto, using(crate::proofs::Loops::repeat_step, crate::proofs::Loops::repeat_end), unfolding(crate::specs::Parser::repeated))]
+    pub fn repeated<S: TokenSet, F: Fn(&mut Parser<'_>) -> Result<(), Fault>>(
         &mut self,
-        first: TokenSet<'_>,
+        first: S,
         step: F,
     ) -> Result<(), Fault>
         requires { F.IsAlwaysCallable step }
         ensures { (does : State → Result State Fault) → Calls (F.post step) does
-            → Steps self.new result (repeated (at first.now) does self.old) }
+            → Steps self.new result (repeated (at (S.kinds first)) does self.old) }
     {
         'turns: for _turn in 0..self.rest.len() + 1 {
             if !self.at_any(first) {
@@ -230,22 +231,22 @@ impl<'a> Parser<'a> {
 
     /// Items with commas between them, and one behind the last or not. Each begins with one of these kinds; `NoTree` where
     /// one stands right behind another.
-    #[tactic(auto, unfolding(crate::specs::Runs::comma_separated))]
-    pub fn comma_list<F: Fn(&mut Parser<'_>) -> Result<(), Fault>>(
+    #[tactic(auto, unfolding(crate::specs::Parser::comma_separated))]
+    pub fn comma_list<S: TokenSet, F: Fn(&mut Parser<'_>) -> Result<(), Fault>>(
         &mut self,
-        first: TokenSet<'_>,
+        first: S,
         item: F,
     ) -> Result<(), Fault>
         requires { F.IsAlwaysCallable item }
         ensures { (does : State → Result State Fault) → Calls (F.post item) does
-            → Steps self.new result (comma_separated first.now does self.old) }
+            → Steps self.new result (comma_separated (S.kinds first) does self.old) }
     {
         self.repeated(
             first,
             |p: &mut Parser<'_>|
                 requires { F.IsAlwaysCallable item }
                 ensures { (does : State → Result State Fault) → Calls (F.post item) does
-                    → Steps p.new result (listed first.entry.now does p.old) }
+                    → Steps p.new result (listed (S.kinds first) does p.old) }
             {
                 item(p)?;
                 p.separated(first)
@@ -254,8 +255,8 @@ impl<'a> Parser<'a> {
     }
 
     /// A comma, or none where no item begins.
-    fn separated(&mut self, first: TokenSet<'_>) -> Result<(), Fault>
-        ensures { Steps self.new result (separated first.now self.old) }
+    fn separated<S: TokenSet>(&mut self, first: S) -> Result<(), Fault>
+        ensures { Steps self.new result (separated (S.kinds first) self.old) }
     {
         if self.at(SyntaxKind::COMMA) {
             self.expect(SyntaxKind::COMMA)
@@ -281,6 +282,19 @@ mod tests {
         }
     }
 
+    #[derive(Clone, Copy)]
+    struct Ampersands;
+
+    impl TokenSet for Ampersands {
+        ghost use Rattle.ssr_syntax_lex.specs.declared.kinds.SyntaxKind.TheVariants as k;
+
+        ghost kinds = { λ _. k.AMP ∷ k.AMP2 ∷ [] };
+
+        fn contains(self, kind: SyntaxKind) -> bool {
+            matches!(kind, AMP | AMP2)
+        }
+    }
+
     // `&&`
     fn two_ampersands() -> [Token; 2] {
         let first = Token {
@@ -300,8 +314,8 @@ mod tests {
         assert_eq!(rt; taken.len(), 1);
         assert!(rt; taken[0].kind == AMP2 && taken[0].size == 2);
         let mut p = Parser::new(rt.alloc(), &tokens)?;
-        p.expect_part(&[AMP, AMP2])?;
-        p.expect_part(&[AMP, AMP2])?;
+        p.expect_part(Ampersands)?;
+        p.expect_part(Ampersands)?;
         let taken = p.finish()?.taken;
         assert_eq!(rt; taken.len(), 2);
         assert!(rt; taken[0].kind == AMP && taken[0].size == 1);
@@ -324,7 +338,7 @@ mod tests {
                 tokens.push(token(*kind))?;
             }
             let mut p = Parser::new(rt.alloc(), &tokens)?;
-            let read = p.comma_list(&[INT_NUMBER], |p| p.expect(INT_NUMBER));
+            let read = p.comma_list(INT_NUMBER, |p| p.expect(INT_NUMBER));
             let whole = read.is_ok() && p.finish().is_ok();
             assert_eq!(rt; whole, fits);
         }

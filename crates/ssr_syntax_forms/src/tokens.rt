@@ -1,5 +1,6 @@
 //! The tokens that the parser reads, and sets of their kinds.
-ghost use Rattle.std.specs.Prelude.{◌≡◌};
+ghost use Rattle.std.specs.Prelude.{◌≡◌, List, [], ◌∷◌};
+ghost use Rattle.ssr_syntax_lex.specs.declared.kinds.SyntaxKind.{SyntaxKind};
 ghost use Rattle.ssr_syntax_forms.specs.Kinds.{mem};
 
 use ssr_syntax_lex::SyntaxKind;
@@ -18,19 +19,21 @@ pub struct Token {
 /// The kind of what follows the last token. No token has it.
 pub const END: SyntaxKind = SyntaxKind::SOURCE_FILE;
 
-/// Some kinds of tokens.
-pub type TokenSet<'a> = &'a [SyntaxKind];
+/// Some kinds of tokens. A look into it takes one step, whatever its size.
+pub trait TokenSet: Copy {
+    /// Its kinds.
+    ghost kinds: { Self → List SyntaxKind };
 
-/// Whether a kind is one of the set.
-pub fn contains(set: TokenSet<'_>, kind: SyntaxKind) -> bool
-    ensures { result ≡ mem kind set.now }
-{
-    let mut rest = set;
-    while let Some((member, others)) = rest.split_first() {
-        if kind == *member {
-            return true;
-        }
-        rest = others;
+    /// Whether a kind is one of the set.
+    fn contains(self, kind: SyntaxKind) -> bool
+        ensures { result ≡ mem kind (kinds self) };
+}
+
+/// A kind is the set of itself alone.
+impl TokenSet for SyntaxKind {
+    ghost kinds = { λ k. k ∷ [] };
+
+    fn contains(self, kind: SyntaxKind) -> bool {
+        kind == self
     }
-    false
 }

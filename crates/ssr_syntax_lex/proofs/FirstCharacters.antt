@@ -8,7 +8,7 @@ use Rattle.ssr_syntax_lex.specs.Words.{mark_kind}
 use Rattle.ssr_syntax_lex.specs.Numbers.{number}
 use Rattle.ssr_syntax_lex.specs.Scan.{past_comments, past_quoted, past_raw_string, past_char}
 use Rattle.ssr_syntax_lex.specs.Raw.{Taken, begins_raw_string, begins_string, past_string, begins_raw_identifier, begins_lifetime_behind, punctuation, kind_of_word, past_word, closed, token, fault_of}
-use Rattle.ssr_syntax_lex.specs.Steps.{IsPlain, Takes}
+use Rattle.ssr_syntax_lex.specs.Private.Steps.{IsPlain, Takes}
 use Rattle.ssr_syntax_lex.specs.declared.fault.FaultKind.{FaultKind}
 use Rattle.ssr_syntax_lex.specs.declared.fault.FaultKind.TheVariants as faults
 use Rattle.ssr_syntax_lex.specs.declared.kinds.SyntaxKind.{SyntaxKind}

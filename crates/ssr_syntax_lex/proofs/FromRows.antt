@@ -5,7 +5,7 @@ use Rattle.std.specs.Prelude.{Option, Some, None, slice_get, option_to_list}
 use Rattle.std.specs.Option.{option_map}
 use Rattle.std.specs.Str.{IsUtf8}
 use Rattle.ssr_syntax_lex.specs.Tokens.{tokens, row_of, rows_in, TilesFrom}
-use Rattle.ssr_syntax_lex.specs.Steps.{token_before, tokens_of}
+use Rattle.ssr_syntax_lex.specs.Private.Steps.{token_before, tokens_of}
 use Rattle.ssr_syntax_lex.specs.declared.kinds.SyntaxKind.{SyntaxKind}
 use Rattle.ssr_syntax_lex.specs.declared.range.TextRange.{TextRange}
 use Rattle.ssr_syntax_lex.specs.declared.token_rows.TokenRow.{TokenRow}

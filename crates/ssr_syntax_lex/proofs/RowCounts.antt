@@ -2,7 +2,7 @@
 use Rattle.std.proofs.Common.{◌≡◌, List, length, vec_len}
 use Rattle.ssr_syntax_lex.specs.declared.token_rows.TokenRow.{TokenRow}
 use Rattle.ssr_syntax_lex.specs.declared.token_rows.TokenRows.TheInside.{Inside}
-use Rattle.ssr_syntax_lex.specs.TokenRows.{row_with, rows_of, AreBeside}
+use Rattle.ssr_syntax_lex.specs.Private.TokenRows.{row_with, rows_of, AreBeside}
 use Rattle.ssr_syntax_lex.proofs.Zips.{vectors_counted}
 
 pub kinds_counted : (inside : Inside) (rows : List TokenRow) → AreBeside inside → rows_of inside ≡ rows → vec_len inside.kinds ≡ length rows

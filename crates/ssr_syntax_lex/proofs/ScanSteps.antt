@@ -8,7 +8,7 @@ use Rattle.std.proofs.lemmas.Str.{encode_ascii}
 use Rattle.ssr_syntax_lex.specs.Cursor.{Chars, stand_at, begins, run, past}
 use Rattle.ssr_syntax_lex.specs.Characters.{◌∈◌, the_char, is_hash}
 use Rattle.ssr_syntax_lex.specs.Scan.{past_comments, past_quoted, past_raw, past_raw_string, begins_with_hashes}
-use Rattle.ssr_syntax_lex.specs.Steps.{PassesOver}
+use Rattle.ssr_syntax_lex.specs.Private.Steps.{PassesOver}
 use Rattle.ssr_syntax_lex.specs.declared.fault.FaultKind.{FaultKind}
 use Rattle.ssr_syntax_lex.proofs.Eaten.{run-past, not_empty}
 

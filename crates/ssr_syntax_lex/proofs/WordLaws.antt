@@ -5,7 +5,7 @@ use Rattle.std.proofs.lemmas.Bool.{and_from, le-leb, lt-leb}
 use Rattle.std.proofs.lemmas.Slice.Eq.{bytes_eq-Decides}
 use Rattle.unicode_ident.proofs.IdentLemmas.{is_xid_continue-ascii}
 use Rattle.ssr_syntax_lex.specs.Words.{kind_in, word_kinds, word_kind, is_punctuation}
-use Rattle.ssr_syntax_lex.specs.Steps.{begins_between, beginning}
+use Rattle.ssr_syntax_lex.specs.Private.Steps.{begins_between, beginning}
 use Prim.Native.String.{String}
 use Rattle.ssr_syntax_lex.specs.declared.kinds.SyntaxKind.{SyntaxKind}
 use Rattle.ssr_syntax_lex.specs.declared.kinds.SyntaxKind.TheVariants as k

@@ -5,7 +5,6 @@ pub mod Words
 pub mod Numbers
 pub mod Scan
 pub mod Raw
-pub mod TokenRows
 pub mod Tokens
 pub mod Fault
-pub mod Steps
+pub mod Private

@@ -3,7 +3,7 @@
 ghost use Rattle.std.specs.Prelude.{ℕ, ◌≡◌, Some, drop, slice_get};
 ghost use Rattle.ssr_syntax_lex.specs.Raw as spec;
 ghost use Rattle.ssr_syntax_lex.specs.Characters.{the_char};
-ghost use Rattle.ssr_syntax_lex.specs.Steps.{PassesOver, Takes, IsPlain};
+ghost use Rattle.ssr_syntax_lex.specs.Private.Steps.{PassesOver, Takes, IsPlain};
 ghost use Rattle.ssr_syntax_lex.specs.declared.fault.FaultKind.TheVariants as faults;
 
 use crate::characters::{

@@ -2,7 +2,7 @@
 
 ghost use Rattle.std.specs.Prelude.{◌≡◌, false, true, drop};
 ghost use Rattle.ssr_syntax_lex.specs.Scan as spec;
-ghost use Rattle.ssr_syntax_lex.specs.Steps.{PassesOver};
+ghost use Rattle.ssr_syntax_lex.specs.Private.Steps.{PassesOver};
 ghost use Rattle.ssr_syntax_lex.specs.declared.fault.FaultKind.TheVariants as faults;
 ghost use Rattle.ssr_syntax_lex.specs.Characters.{is_hash};
 ghost use Rattle.ssr_syntax_lex.specs.Cursor.{past};

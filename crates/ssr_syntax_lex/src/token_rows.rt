@@ -26,7 +26,7 @@ impl Model for TokenRows {
 
     ghost Value = { List TokenRow };
 
-    ghost use Rattle.ssr_syntax_lex.specs.TokenRows.{rows_of, AreBeside};
+    ghost use Rattle.ssr_syntax_lex.specs.Private.TokenRows.{rows_of, AreBeside};
 
     ghost view = { rows_of };
 

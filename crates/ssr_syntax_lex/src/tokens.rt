@@ -2,7 +2,7 @@
 
 ghost use Rattle.std.specs.Prelude.{◌≡◌, ◌+◌, ◌<◌, ◌^◌, length, option_to_list, IfOk};
 ghost use Rattle.ssr_syntax_lex.specs.Tokens as spec;
-ghost use Rattle.ssr_syntax_lex.specs.Steps.{token_before, tokens_of};
+ghost use Rattle.ssr_syntax_lex.specs.Private.Steps.{token_before, tokens_of};
 
 use crate::cursor::Cursor;
 use crate::fault::FaultKind;

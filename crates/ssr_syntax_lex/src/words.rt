@@ -2,7 +2,7 @@
 
 ghost use Rattle.std.specs.Prelude.{◌≡◌};
 ghost use Rattle.ssr_syntax_lex.specs.Words as spec;
-ghost use Rattle.ssr_syntax_lex.specs.Steps.{beginning};
+ghost use Rattle.ssr_syntax_lex.specs.Private.Steps.{beginning};
 ghost use Rattle.ssr_syntax_lex.specs.Characters.{the_char};
 
 use crate::kinds::SyntaxKind;

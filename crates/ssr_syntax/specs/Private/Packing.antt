@@ -3,11 +3,11 @@
 use Rattle.std.specs.Prelude.{ℕ, ◌-◌, List, take, drop}
 use Rattle.ssr_syntax_lex.specs.declared.token_rows.TokenRow.{TokenRow}
 
-pub record Packed : Type 0 where
+pub record PackingRows : Type 0 where
   pub packed : List TokenRow
   pub unread : List TokenRow
   pub room : ℕ
 
 -- of rows whose first ones are packed and whose last ones, from a place on, are unread
-abbrev pub packed_of : List TokenRow → ℕ → ℕ → Packed
+abbrev pub packed_of : List TokenRow → ℕ → ℕ → PackingRows
 packed_of rows packed unread = record { packed = take packed rows; unread = drop unread rows; room = unread - packed }

@@ -3,11 +3,11 @@
 use Rattle.std.specs.Prelude.{ℕ, ◌-◌, List, take, drop, reverse}
 use Rattle.ssr_syntax_tree.specs.declared.rows.NodeRow.{NodeRow}
 
-pub record Turned : Type 0 where
+pub record TurningRows : Type 0 where
   pub unread : List NodeRow
   pub turned : List NodeRow
   pub room : ℕ
 
 -- of rows whose first ones are unread and whose last ones, from a place on, are turned
-abbrev pub turned_of : List NodeRow → ℕ → ℕ → Turned
+abbrev pub turned_of : List NodeRow → ℕ → ℕ → TurningRows
 turned_of rows unread turned = record { unread = take unread rows; turned = reverse (drop turned rows); room = turned - unread }

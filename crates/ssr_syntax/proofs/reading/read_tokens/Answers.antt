@@ -4,10 +4,10 @@ use Rattle.std.proofs.lemmas.Str.{IsUtf8-string_bytes}
 use Rattle.ssr_syntax_lex.specs.declared.tokens.RawToken.{RawToken}
 use Rattle.ssr_syntax_lex.specs.Tokens.{row_of}
 use Rattle.ssr_syntax_tree.specs.Parts.{AreParts}
-use Rattle.ssr_syntax_forms.specs.Trees.{leaves}
+use Rattle.ssr_syntax_forms.specs.Private.Written.{leaves}
 use Rattle.ssr_syntax.specs.Lossless.{whole_tree}
 use Rattle.ssr_syntax.specs.Private.Preorder.{tree_rows}
-use Rattle.ssr_syntax.specs.Private.TreeTokens.{taken_rows, ends}
+use Rattle.ssr_syntax.specs.Private.TreeTokens.{taken_rows, taken_sizes, ends}
 use Rattle.ssr_syntax.specs.Reading.{pieces, tree_reading, error_of}
 use Rattle.ssr_syntax.proofs.Texts.{WrittenOfText, written_read, depth_fault, told_on, whole_parts, count_fits, read_ok, at_ends, parser_fault}
 use Rattle.ssr_syntax.specs.Private.SolidKinds.{solid_kinds}
@@ -15,10 +15,17 @@ use Rattle.ssr_syntax.proofs.TextRows.{AreRowsOf, rows_count, known_rows, these_
 use Rattle.ssr_syntax.proofs.reading.read_tokens.Goals as goal
 use Rattle.ssr_syntax.proofs.reading.read_tokens.Goals.{After-deref-3, In_ok-nodes}
 
-pub tree_tokens-requires : goal.tree_tokens-requires
-tree_tokens-requires c =
+pub ends-requires : goal.ends-requires
+ends-requires c =
     let text = string_bytes c.args.text in
-    omega (arith, rows_count text c.args.rows (IsUtf8-string_bytes c.args.text) c.requires.lexed, c.requires.short)
+    omega (
+      arith,
+      rows_count text c.args.rows (IsUtf8-string_bytes c.args.text) c.requires.lexed,
+      c.requires.short,
+      c.in_ok-tokens.ensures.count,
+      c.in_ok-tokens.ensures.beside,
+      ap length c.deref-3.ensures.value,
+    )
 
 pub overflow_cast-len : goal.overflow_cast-len
 overflow_cast-len c =
@@ -70,16 +77,18 @@ parts_are c raw are w =
     let n = c.in_ok-nodes.ensures w.kind w.kids w.rows in
     let rows_are : c.in_ok-tokens.tokens.rows ≡ taken_rows 0 us (map row_of raw) =
     c.in_ok-tokens.ensures.rows ∙ ap (λ l. taken_rows 0 l c.args.rows) w.taken_are ∙ ap (taken_rows 0 us) are.are in
-    let ends_are : c.deref-3.result.now ≡ 0 ∷ ends 0 0 us (map row_of raw) =
-    c.deref-3.ensures.value ∙ c.in_ok-tokens.ensures.ends ∙ ap (λ l. 0 ∷ ends 0 0 l c.args.rows) w.taken_are
-    ∙ ap (λ l. 0 ∷ ends 0 0 us l) are.are in
+    let sizes_are : c.deref-3.result.now ≡ taken_sizes 0 us (map row_of raw) =
+    c.deref-3.ensures.value ∙ c.in_ok-tokens.ensures.sizes ∙ ap (λ l. taken_sizes 0 l c.args.rows) w.taken_are
+    ∙ ap (taken_sizes 0 us) are.are in
+    let ends_are : c.deref-4.result.now ≡ 0 ∷ ends 0 (taken_sizes 0 us (map row_of raw)) =
+    c.deref-4.ensures.value ∙ c.in_ok-ends.ensures ∙ ap (λ l. 0 ∷ ends 0 l) sizes_are in
     let count : c.len.result ≡ length (taken_rows 0 us (map row_of raw)) = c.len.ensures ∙ ap length rows_are in
     whole_parts text raw w.kind w.kids text c.in_ok-tokens.tokens.rows c.in_ok-nodes.nodes
     (IsUtf8-string_bytes c.args.text) c.requires.short are.tiles are.spelled w.read.are_solid w.read.few
     refl rows_are
     (n.1.0 ∙ ap (λ b. tree_rows (λ i. slice_index b i) c.len.result w.kind w.kids) ends_are
     ∙ ap (λ m. tree_rows (at_ends us raw) m w.kind w.kids) count)
-    (count_fits (λ i. slice_index c.deref-3.result.now i) c.len.result w.kind w.kids c.in_ok-written.written.rows c.in_ok-nodes.nodes w.rows n.1.1 n.1.0)
+    (count_fits (λ i. slice_index c.deref-4.result.now i) c.len.result w.kind w.kids c.in_ok-written.written.rows c.in_ok-nodes.nodes w.rows n.1.1 n.1.0)
 
 pub from_parts-requires : goal.from_parts-requires
 from_parts-requires c =

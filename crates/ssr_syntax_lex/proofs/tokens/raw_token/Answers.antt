@@ -1,6 +1,6 @@
 use Rattle.std.proofs.Common.{ℕ, Bool, [], ◌∷◌, ◌∙◌, ap, refl, max, sym}
 use Rattle.std.specs.Prelude.{option_to_list}
-use Rattle.ssr_syntax_lex.specs.Steps.{token_before}
+use Rattle.ssr_syntax_lex.specs.Private.Steps.{token_before}
 use Rattle.ssr_syntax_lex.proofs.FromRows.{RawToken-same}
 use Rattle.ssr_syntax_lex.proofs.tokens.raw_token.Goals as goal
 use Rattle.ssr_syntax_lex.proofs.tokens.raw_token.Goals.{in-Some, in-None}

@@ -1,5 +1,5 @@
 use Rattle.std.proofs.Common.{◌≡◌, ◌++◌, ◌-◌, drop, length}
-use Rattle.ssr_syntax_lex.specs.Steps.{tokens_of}
+use Rattle.ssr_syntax_lex.specs.Private.Steps.{tokens_of}
 use Rattle.ssr_syntax_lex.proofs.tokens.raw_tokens.Given as goal
 
 abbrev pub invariant-loop-row : goal.invariant-loop-row

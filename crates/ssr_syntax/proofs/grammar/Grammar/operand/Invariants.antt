@@ -1,7 +1,7 @@
 -- The whole operand is the ranks that are left.
 use Rattle.std.proofs.Common.{◌≡◌, ◌-◌}
 use Rattle.ssr_syntax.specs.Expressions.{operand}
-use Rattle.ssr_syntax_forms.specs.Runs.{run_marked}
+use Rattle.ssr_syntax_forms.specs.Private.Runs.{run_marked}
 use Rattle.ssr_syntax.proofs.Ranks.{climb}
 use Rattle.ssr_syntax.proofs.grammar.Grammar.operand.Given as goal
 

@@ -2,11 +2,11 @@
 use Rattle.std.proofs.Common.{◌≡◌, ◌+◌, ◌-◌, length, Result}
 use Rattle.ssr_syntax_forms.specs.declared.fault.Fault.{Fault}
 use Rattle.ssr_syntax_forms.specs.Forms.{at, repeat}
-use Rattle.ssr_syntax_forms.specs.Runs.{State, Calls, repeated}
+use Rattle.ssr_syntax_forms.specs.Parser.{State, Calls, repeated}
 use Rattle.ssr_syntax_forms.proofs.parser.Parser.repeated.Given as goal
 
 abbrev pub invariant-turns : goal.invariant-turns
 invariant-turns g l =
     (does : State → Result State Fault) → Calls (goal.F-post g l.step) does
-    → repeated (at l.first) does l.fn.self
-    ≡ repeat (λ z. z.rest) (length l.fn.self.rest + 1 - l._turn) (at l.first) does l.self
+    → repeated (at (g.S.TokenSet.kinds l.first)) does l.fn.self
+    ≡ repeat (λ z. z.rest) (length l.fn.self.rest + 1 - l._turn) (at (g.S.TokenSet.kinds l.first)) does l.self

@@ -1,5 +1,5 @@
 use Rattle.ssr_syntax_lex.proofs.Zips.{zip2-take}
-use Rattle.ssr_syntax_lex.specs.TokenRows.{row_with}
+use Rattle.ssr_syntax_lex.specs.Private.TokenRows.{row_with}
 use Rattle.ssr_syntax_lex.proofs.token_rows.TokenRows.truncate.Goals as goal
 
 pub returns : goal.returns

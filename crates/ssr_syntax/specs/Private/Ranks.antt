@@ -1,4 +1,4 @@
--- Words of private functions: the rank of the next token.
+-- Private: the rank of the next token.
 use Rattle.std.specs.Prelude.{ℕ, List}
 use Rattle.ssr_syntax_lex.specs.declared.kinds.SyntaxKind.{SyntaxKind}
 use Rattle.ssr_syntax_lex.specs.declared.kinds.SyntaxKind.TheVariants as k

@@ -1,5 +1,5 @@
 -- What the parser's functions do to what is written and to the tokens that are left.
-use Rattle.std.specs.Prelude.{◌≡◌, ◌≢◌, ℕ, ◌+◌, ◌-◌, if◌then◌else◌, Bool, true, false, List, ◌∷◌, [], ◌++◌, length, take, Result, Ok, Err}
+use Rattle.std.specs.Prelude.{◌≡◌, ◌≢◌, ℕ, ◌+◌, ◌-◌, if◌then◌else◌, Bool, true, false, List, ◌∷◌, [], ◌++◌, length, Result, Ok, Err}
 use Rattle.std.specs.Borrow.{MutBor}
 use Rattle.ssr_syntax_lex.specs.declared.kinds.SyntaxKind.{SyntaxKind}
 use Rattle.ssr_syntax_lex.specs.declared.kinds.SyntaxKind.TheVariants.{COMMA}
@@ -7,8 +7,20 @@ use Rattle.ssr_syntax_forms.specs.declared.tokens.Token.{Token}
 use Rattle.ssr_syntax_forms.specs.declared.rows.Output.{Output}
 use Rattle.ssr_syntax_forms.specs.declared.fault.Fault.{Fault}
 use Rattle.ssr_syntax_forms.specs.declared.fault.Fault.TheVariants as faults
-use Rattle.ssr_syntax_forms.specs.Trees.{Written, written_of, written_in}
-use Rattle.ssr_syntax_forms.specs.Forms.{Form, one, child, mark, seal, ◌then◌, nothing, choose, many, look, check, Test, at, more, taken_as, past, behind, passes, agrees, holds, repeat, ◌>>=◌}
+use Rattle.ssr_syntax_tree.specs.declared.rows.NodeRow.{NodeRow}
+use Rattle.ssr_syntax_forms.specs.declared.rows.Taken.{Taken}
+use Rattle.ssr_syntax_forms.specs.Forms.{Test, at, more, taken_as, past, passes, agrees, repeat, ◌>>=◌}
+
+-- the rows of nodes and the tokens that are written
+pub record Written : Type 0 where
+  pub rows : List NodeRow
+  pub taken : List Taken
+
+abbrev pub written_of : List NodeRow → List Taken → Written
+written_of rows taken = record { rows = rows; taken = taken }
+
+abbrev pub written_in : Output → Written
+written_in out = written_of out.rows out.taken.items
 
 -- what is written, and the tokens that are left
 pub record State : Type 0 where
@@ -29,10 +41,6 @@ mark_at made start = record { made = made; start = start }
 abbrev pub mark_of : State → Mark
 mark_of s = mark_at (length s.out.rows) s.rest
 
--- the tokens since a mark
-abbrev pub since : Mark → State → List Token
-since m s = take (length m.start - length s.rest) m.start
-
 -- ** Steps from one state to the next.
 
 -- what is written behind the token in front, which is taken whole or but for its first part
@@ -43,11 +51,6 @@ took whole (t ∷ ts) out = written_of out.rows (out.taken ++ record { kind = ta
 -- a token of one of these kinds is taken
 abbrev pub taken : Bool → List SyntaxKind → State → Result State Fault
 taken whole ks s = past whole ks s.rest >>= λ ts. Ok (state_of (took whole s.rest s.out) ts)
-
--- a token of this kind is taken: the one in front of those that are left, and so many of them
-abbrev pub takes : SyntaxKind → ℕ → List Token → Written → Result State Fault
-takes kind more rest out =
-    behind more rest >>= λ ts. Ok (state_of (written_of out.rows (out.taken ++ record { kind = kind; size = 1 + more } ∷ [])) ts)
 
 -- all since the mark is put into a node
 abbrev pub close : SyntaxKind → Mark → State → State
@@ -76,28 +79,6 @@ listed first item s = item s >>= separated first
 unfoldable pub comma_separated : List SyntaxKind → (State → Result State Fault) → State → Result State Fault
 comma_separated first item s = repeated (at first) (listed first item) s
 
--- ** Runs of forms.
-
-abbrev pub RunsBelow : Type 0 → Type 0
-RunsBelow Goal = Goal → State → Result State Fault
-
-abbrev pub run : {Goal : Type 0} → RunsBelow Goal → Form Goal → Mark → State → Result State Fault
-run below (one whole ks) m s = taken whole ks s
-run below (child goal) m s = below goal s
-run below (mark f) m s = run below f (mark_of s) s
-run below (seal kind) m s = Ok (close kind m s)
-run below (f then g) m s = run below f m s >>= run below g m
-run below nothing m s = Ok s
-run below (choose test f g) m s = if passes test s.rest then run below f m s else run below g m s
-run below (many test f) m s = repeated test (run below f m) s
-run below (look want test) m s = if agrees want (passes test s.rest) then Ok s else Err faults.NoTree
-run below (check condition) m s =
-    if holds condition (since m s) then Ok s else Err faults.NoTree
-
--- where a node begins
-abbrev pub run_marked : {Goal : Type 0} → RunsBelow Goal → Form Goal → State → Result State Fault
-run_marked below f s = run below f (mark_of s) s
-
 -- ** What the functions answer.
 
 -- A function's answer, and the state behind it. Want of memory says nothing.
@@ -109,14 +90,6 @@ Steps new (Err e) ran = e ≢ faults.Memory → ran ≡ Err e
 abbrev pub Finishes : State → Result Output Fault → Type 0
 Finishes s (Ok out) = (s.rest ≡ []) × (written_in out ≡ s.out)
 Finishes s (Err e) = (s.rest ≢ []) × (e ≡ faults.NoTree)
-
--- The function reads the form from one state to the other.
-abbrev pub Runs : {Goal : Type 0} → {R : Type 0} → RunsBelow Goal → Form Goal → State → State → Result R Fault → Type 0
-Runs below form old new r = Steps new r (run_marked below form old)
-
--- The same of a form that goes on with what is made since a mark.
-abbrev pub RunsFrom : {Goal : Type 0} → {R : Type 0} → RunsBelow Goal → Form Goal → Mark → State → State → Result R Fault → Type 0
-RunsFrom below form m old new r = Steps new r (run below form m old)
 
 -- Each call of a closure is the step.
 abbrev pub Calls : (MutBor State → Result Unit Fault → MutBor State → Type 0) → (State → Result State Fault) → Type 0

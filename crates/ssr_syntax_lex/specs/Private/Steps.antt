@@ -1,4 +1,4 @@
--- Words of private functions alone: no promise to callers rests on them.
+-- Private: what the steps of cutting a token answer.
 use Rattle.std.specs.Prelude.{ℕ, Bool, false, ◌&&◌, nat_le, List, [], ◌∷◌, Option, Some, None, Result, Ok, Err, ◌≡◌, ◌≢◌, if◌then◌else◌, codes, max}
 use Rattle.std.proofs.Math.Nat.{le-max_left}
 use Prim.Native.String.{String}

@@ -1,0 +1,52 @@
+-- Private: what the parser does for a form.
+use Rattle.std.specs.Prelude.{◌+◌, ◌-◌, ℕ, zero, suc, if◌then◌else◌, List, ◌∷◌, [], ◌++◌, length, take, Result, Ok, Err}
+use Rattle.ssr_syntax_lex.specs.declared.kinds.SyntaxKind.{SyntaxKind}
+use Rattle.ssr_syntax_forms.specs.declared.tokens.Token.{Token}
+use Rattle.ssr_syntax_forms.specs.declared.fault.Fault.{Fault}
+use Rattle.ssr_syntax_forms.specs.declared.fault.Fault.TheVariants as faults
+use Rattle.ssr_syntax_forms.specs.Forms.{Form, one, child, mark, seal, ◌then◌, nothing, choose, many, look, check, Productions, behind, passes, agrees, holds, ◌>>=◌}
+use Rattle.ssr_syntax_forms.specs.Parser.{Written, written_of, State, state_of, Mark, mark_of, taken, close, repeated, Steps}
+
+-- the tokens since a mark
+abbrev pub since : Mark → State → List Token
+since m s = take (length m.start - length s.rest) m.start
+
+-- a token of this kind is taken: the one in front of those that are left, and so many of them
+abbrev pub taken_with : SyntaxKind → ℕ → List Token → Written → Result State Fault
+taken_with kind more rest out =
+    behind more rest >>= λ ts. Ok (state_of (written_of out.rows (out.taken ++ record { kind = kind; size = 1 + more } ∷ [])) ts)
+
+abbrev pub RunsBelow : Type 0 → Type 0
+RunsBelow Goal = Goal → State → Result State Fault
+
+abbrev pub run : {Goal : Type 0} → RunsBelow Goal → Form Goal → Mark → State → Result State Fault
+run below (one whole ks) m s = taken whole ks s
+run below (child goal) m s = below goal s
+run below (mark f) m s = run below f (mark_of s) s
+run below (seal kind) m s = Ok (close kind m s)
+run below (f then g) m s = run below f m s >>= run below g m
+run below nothing m s = Ok s
+run below (choose test f g) m s = if passes test s.rest then run below f m s else run below g m s
+run below (many test f) m s = repeated test (run below f m) s
+run below (look want test) m s = if agrees want (passes test s.rest) then Ok s else Err faults.NoTree
+run below (check condition) m s =
+    if holds condition (since m s) then Ok s else Err faults.NoTree
+
+-- where a node begins
+abbrev pub run_marked : {Goal : Type 0} → RunsBelow Goal → Form Goal → State → Result State Fault
+run_marked below f s = run below f (mark_of s) s
+
+-- with so many levels of goals
+unfoldable pub run_goal : {Goal : Type 0} → Productions Goal → ℕ → RunsBelow Goal
+run_goal grammar zero goal s = Err faults.TooDeep
+run_goal grammar (suc n) goal s = run (run_goal grammar n) (grammar goal) (mark_of s) s
+
+-- ** What the functions answer.
+
+-- The function reads the form from one state to the other.
+abbrev pub Runs : {Goal : Type 0} → {R : Type 0} → RunsBelow Goal → Form Goal → State → State → Result R Fault → Type 0
+Runs below form old new r = Steps new r (run_marked below form old)
+
+-- The same of a form that goes on with what is made since a mark.
+abbrev pub RunsFrom : {Goal : Type 0} → {R : Type 0} → RunsBelow Goal → Form Goal → Mark → State → State → Result R Fault → Type 0
+RunsFrom below form m old new r = Steps new r (run below form m old)
