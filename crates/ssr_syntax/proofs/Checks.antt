@@ -3,18 +3,21 @@ use Rattle.std.proofs.Common.{◌≡◌, ℕ, zero, suc, ◌<◌, nat_lt, Bool, 
 use Rattle.std.specs.Prelude.{⊤}
 use Rattle.std.proofs.lemmas.Bool.{ltb-true, and_parts}
 use Rattle.ssr_syntax_lex.specs.declared.kinds.SyntaxKind.{SyntaxKind}
-use Rattle.ssr_syntax_lex.specs.declared.kinds.SyntaxKind.TheVariants.{FN_KW, R_PAREN, R_CURLY, R_BRACK, COMMA, BLOCK_EXPR}
+use Rattle.ssr_syntax_lex.specs.declared.kinds.SyntaxKind.TheVariants.{FN_KW, AS_KW, COLON2, R_PAREN, R_CURLY, R_BRACK, COMMA, BLOCK_EXPR}
 use Rattle.ssr_syntax_lex.specs.Kinds.{same_kind}
 use Rattle.ssr_syntax.specs.CoreTrees.{core_kinds}
 use Rattle.ssr_syntax.specs.Identifiers.{is_mixing}
 use Rattle.ssr_syntax.specs.declared.goals.Goal.{Goal}
-use Rattle.ssr_syntax.specs.declared.goals.Goal.TheVariants.{File, Expr, Operand}
+use Rattle.ssr_syntax.specs.declared.goals.Goal.TheVariants.{File, Operand, Unary, Ty, PathType, GenericArgs}
 use Rattle.ssr_syntax_forms.specs.Kinds.{mem}
 use Rattle.ssr_syntax_forms.specs.Forms.{Form, END, comma_list}
 use Rattle.ssr_syntax.specs.Expressions as expr
 use Rattle.ssr_syntax.specs.Expressions.{expr_first, ranks}
 use Rattle.ssr_syntax.specs.Items as item
 use Rattle.ssr_syntax.specs.Paths as path
+use Rattle.ssr_syntax.specs.Paths.{path_first, type_first, open_angle}
+use Rattle.ssr_syntax.specs.Types as types
+use Rattle.ssr_syntax.specs.GenericArgs as args
 use Rattle.ssr_syntax.specs.Grammar.{grammar}
 use Rattle.ssr_syntax_forms.proofs.Shared.{Tables, keeps, makes_node, lone_marks, remembers, covered, lower_ranks, has_only, any_token, any_node}
 use Rattle.ssr_syntax.proofs.Operands as operands
@@ -37,10 +40,21 @@ behind_operand (suc r) (ks ∷ rows) = behind_operand r rows
 abbrev pub tables : Tables Goal
 tables = record {
   core = is_core;
-  is_dead = λ goal. false;
+  is_dead = elim [ Ty ↦ true | PathType ↦ true | GenericArgs ↦ true | _ ↦ false ];
   is_empty = elim [ File ↦ true | _ ↦ false ];
-  first = elim [ File ↦ FN_KW ∷ [] | _ ↦ expr_first ];
-  follow = elim [ File ↦ END ∷ [] | Expr ↦ behind_expr | Operand r ↦ behind_operand r ranks ];
+  first = elim [
+    | File ↦ FN_KW ∷ []
+    | Ty ↦ type_first
+    | PathType ↦ path_first
+    | GenericArgs ↦ COLON2 ∷ open_angle
+    | _ ↦ expr_first
+  ];
+  follow = elim [
+    | File ↦ END ∷ []
+    | Operand r ↦ behind_operand r ranks
+    | Unary ↦ AS_KW ∷ behind_operand zero ranks
+    | _ ↦ behind_expr
+  ];
   rank = λ goal. 0;
   ranks = 1;
 }
@@ -73,7 +87,7 @@ all_true [] = true
 all_true (b ∷ bs) = b && all_true bs
 
 checked : (goal : Goal) → all_true (checks tables goal (grammar goal)) ≡ true
-unfolding grammar expr.literal expr.path_expr expr.paren_expr expr.atom comma_list expr.arg_list expr.call_expr expr.index_expr expr.try_expr expr.field_expr expr.method_call_expr expr.member expr.postfix expr.ref_expr expr.prefix_expr expr.unary expr.operators expr.operation expr.operations expr.operand expr.expr_first expr.stmt_list expr.block_expr item.name item.param_list item.function item.source_file path.name_ref path.path_segment path.longer_path path.path
+unfolding grammar expr.literal expr.path_expr expr.paren_expr expr.atom comma_list expr.arg_list expr.call_expr expr.index_expr expr.try_expr expr.field_expr expr.method_call_expr expr.member expr.generic_method_call_expr expr.generic_method_call_or_field expr.postfix expr.ref_expr expr.prefix_expr expr.unary expr.cast_expr expr.cast_or_unary expr.operators expr.operation expr.operations expr.operand expr.expr_first expr.stmt_list expr.block_expr item.name item.param_list item.function item.source_file path.name_ref path.path_name path.lifetime path.type_first path.expr_generics path.type_arg path.parenthesized_arg_list path.ret_type path.function_generics path.colon_generics path.type_generics path.generics path.path_segment path.first_segment path.anchored_type path.type_anchor path.longer_path path.anchored_path path.plain_path path.shortest_path path.path types.path_type types.ref_type types.ptr_type types.never_type types.infer_type types.unit_type types.paren_type types.tuple_type types.paren_or_tuple_type types.type_in_parentheses types.array_type types.slice_type types.type_in_brackets types.lifetime_bound types.trait_bound types.type_bound types.further_bound types.type_bound_list types.dyn_trait_type types.impl_trait_type types.worded_type types.any_type args.lifetime_arg args.literal_arg args.negative_literal args.negative_arg args.block_arg args.assoc_type_arg args.generic_arg args.generic_arg_first args.generic_arg_list
 checked (Operand zero) = refl
 checked (Operand (suc zero)) = refl
 checked (Operand (suc (suc zero))) = refl

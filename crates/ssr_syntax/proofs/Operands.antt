@@ -10,7 +10,7 @@ use Rattle.ssr_syntax_lex.specs.declared.kinds.SyntaxKind.TheVariants.{BIN_EXPR}
 use Rattle.ssr_syntax_lex.proofs.Shared.{same_kind-equal}
 use Rattle.ssr_syntax_forms.specs.declared.tokens.Token.{Token}
 use Rattle.ssr_syntax.specs.declared.goals.Goal.{Goal}
-use Rattle.ssr_syntax.specs.declared.goals.Goal.TheVariants.{File, Expr, Operand}
+use Rattle.ssr_syntax.specs.declared.goals.Goal.TheVariants.{File, Expr, Operand, Unary, Ty, PathType, GenericArgs}
 use Rattle.ssr_syntax_forms.specs.Kinds.{mem}
 use Rattle.ssr_syntax_forms.specs.Trees.{Forest, done, leaf, tree, join}
 use Rattle.ssr_syntax_forms.specs.Forms.{Form, one, child, mark, seal, ◌then◌, nothing, choose, many, look, check, taken_as}
@@ -439,6 +439,10 @@ abbrev pub bound : Goal → ℕ
 bound File = 0
 bound Expr = precedence_at (length ranks)
 bound (Operand r) = precedence_at (at_most r ranks) - 1
+bound Unary = 2
+bound Ty = 0
+bound PathType = 0
+bound GenericArgs = 0
 
 abbrev pub AllBounded : Type 0
 AllBounded = (goal : Goal) → is_bounded (made bound (grammar goal) start) (bound goal) ≡ true

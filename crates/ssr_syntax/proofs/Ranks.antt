@@ -11,7 +11,7 @@ use Rattle.ssr_syntax_forms.specs.Kinds.{mem}
 use Rattle.ssr_syntax_forms.specs.Forms.{at, next, passes, repeat, ◌>>=◌}
 use Rattle.ssr_syntax_forms.specs.Parser.{State, Mark, repeated}
 use Rattle.ssr_syntax_forms.specs.Private.Runs.{RunsBelow, run}
-use Rattle.ssr_syntax.specs.Expressions.{ranks, row, operators, operation, operations, operand, unary, at_most}
+use Rattle.ssr_syntax.specs.Expressions.{ranks, row, operators, operation, operations, operand, cast_or_unary, at_most}
 use Rattle.ssr_syntax.specs.Private.Ranks.{rank_of, next_rank}
 use Rattle.ssr_syntax_forms.proofs.Shared.{at_next}
 
@@ -140,20 +140,20 @@ climb_last below m first (suc n) last s e =
     bind_each (run below (operations first) m s) (climb below m (suc first) (suc n)) (climb below m (suc first) n) (run below (operations last) m)
     (λ x. climb_last below m (suc first) n last x (omega (arith, e)))
 
-climbs : (below : RunsBelow Goal) (n : ℕ) (m : Mark) (s : State) → run below (operand n) m s ≡ (run below unary m s >>= climb below m 0 n)
+climbs : (below : RunsBelow Goal) (n : ℕ) (m : Mark) (s : State) → run below (operand n) m s ≡ (run below cast_or_unary m s >>= climb below m 0 n)
 unfolding operand
-climbs below zero m s = sym (bind_end (run below unary m s))
+climbs below zero m s = sym (bind_end (run below cast_or_unary m s))
 climbs below (suc n) m s =
     ap (λ w. w >>= run below (operations n) m) (climbs below n m s)
     ∙ sym
-    (bind_each (run below unary m s) (climb below m 0 (suc n)) (climb below m 0 n) (run below (operations n) m)
+    (bind_each (run below cast_or_unary m s) (climb below m 0 (suc n)) (climb below m 0 n) (run below (operations n) m)
     (λ x. climb_last below m 0 n n x (omega arith)))
 
 pub operand_climbs : (below : RunsBelow Goal) (n : ℕ) (m : Mark) (s : State)
-    → run below (operand n) m s ≡ (run below unary m s >>= climb below m 0 (n - 0))
+    → run below (operand n) m s ≡ (run below cast_or_unary m s >>= climb below m 0 (n - 0))
 operand_climbs below n m s =
     let same : n ≡ n - 0 = omega arith in
-    climbs below n m s ∙ ap (λ k. run below unary m s >>= climb below m 0 k) same
+    climbs below n m s ∙ ap (λ k. run below cast_or_unary m s >>= climb below m 0 k) same
 
 -- ** Numbers of ranks.
 

@@ -1,11 +1,13 @@
 -- Forms of expressions.
-use Rattle.std.specs.Prelude.{ℕ, zero, suc, false, List, [], ◌∷◌}
+use Rattle.std.specs.Prelude.{ℕ, zero, suc, false, List, [], ◌∷◌, ◌++◌}
 use Rattle.ssr_syntax_lex.specs.declared.kinds.SyntaxKind.{SyntaxKind}
 use Rattle.ssr_syntax_lex.specs.declared.kinds.SyntaxKind.TheVariants as k
-use Rattle.ssr_syntax.specs.declared.goals.Goal.TheVariants.{Expr, Operand}
+use Rattle.ssr_syntax.specs.declared.goals.Goal.TheVariants.{Expr, Operand, Unary, Ty, GenericArgs}
 use Rattle.ssr_syntax.specs.declared.goals.Goal.{Goal}
-use Rattle.ssr_syntax_forms.specs.Forms.{Form, child, mark, seal, ◌then◌, choose, look, a, any, part, at, optional, repeated, comma_list}
-use Rattle.ssr_syntax.specs.Paths.{name_ref, path}
+use Rattle.ssr_syntax_forms.specs.Forms.{Form, child, mark, seal, ◌then◌, choose, decide, look, a, any, part, at, optional, repeated, comma_list}
+use Rattle.ssr_syntax.specs.declared.goals.PathPlace.TheVariants.{InExpr}
+use Rattle.ssr_syntax.specs.Types.{ampersands}
+use Rattle.ssr_syntax.specs.Paths.{name_ref, colon_angle, path_first, path}
 
 -- the tokens that are literals
 abbrev pub literals : List SyntaxKind
@@ -16,20 +18,20 @@ unfoldable pub literal : Form Goal
 literal = any literals then seal k.LITERAL
 
 unfoldable pub path_expr : Form Goal
-path_expr = mark path then seal k.PATH_EXPR
+path_expr = mark (path InExpr) then seal k.PATH_EXPR
 
 unfoldable pub paren_expr : Form Goal
 paren_expr = a k.L_PAREN then child Expr then a k.R_PAREN then seal k.PAREN_EXPR
 
 unfoldable pub atom : Form Goal
 atom =
-    choose (at (k.IDENT ∷ [])) (mark path_expr)
+    choose (at path_first) (mark path_expr)
     (choose (at literals) (mark literal)
     (mark paren_expr))
 
 -- what an expression begins with
 unfoldable pub expr_first : List SyntaxKind
-expr_first = k.IDENT ∷ k.L_PAREN ∷ k.AMP ∷ k.AMP2 ∷ k.MINUS ∷ k.BANG ∷ k.STAR ∷ literals
+expr_first = k.L_PAREN ∷ k.AMP ∷ k.AMP2 ∷ k.MINUS ∷ k.BANG ∷ k.STAR ∷ path_first ++ literals
 
 -- ** What goes on with an expression, which is all since the mark.
 
@@ -52,8 +54,15 @@ field_expr = look false (at (k.L_PAREN ∷ [])) then seal k.FIELD_EXPR
 unfoldable pub method_call_expr : Form Goal
 method_call_expr = mark arg_list then seal k.METHOD_CALL_EXPR
 
+-- generic arguments begin with `::`
+unfoldable pub generic_method_call_expr : Form Goal
+generic_method_call_expr = child GenericArgs then method_call_expr
+
+unfoldable pub generic_method_call_or_field : Form Goal
+generic_method_call_or_field = decide colon_angle generic_method_call_expr field_expr
+
 unfoldable pub member : Form Goal
-member = a k.DOT then mark name_ref then choose (at (k.L_PAREN ∷ [])) method_call_expr field_expr
+member = a k.DOT then mark name_ref then choose (at (k.L_PAREN ∷ [])) method_call_expr generic_method_call_or_field
 
 unfoldable pub postfix : Form Goal
 postfix =
@@ -68,24 +77,31 @@ postfix_first = k.L_PAREN ∷ k.L_BRACK ∷ k.QUESTION ∷ k.DOT ∷ []
 
 -- ** Operators in front.
 
-abbrev pub ampersands : List SyntaxKind
-ampersands = k.AMP ∷ k.AMP2 ∷ []
-
 abbrev pub prefix_operators : List SyntaxKind
 prefix_operators = k.MINUS ∷ k.BANG ∷ k.STAR ∷ []
 
 -- of `&&`, the first one alone
 unfoldable pub ref_expr : Form Goal
-ref_expr = part ampersands then optional (k.MUT_KW ∷ []) (a k.MUT_KW) then child (Operand 0) then seal k.REF_EXPR
+ref_expr = part ampersands then optional (k.MUT_KW ∷ []) (a k.MUT_KW) then child Unary then seal k.REF_EXPR
 
 unfoldable pub prefix_expr : Form Goal
-prefix_expr = any prefix_operators then child (Operand 0) then seal k.PREFIX_EXPR
+prefix_expr = any prefix_operators then child Unary then seal k.PREFIX_EXPR
 
 unfoldable pub unary : Form Goal
 unary =
     choose (at ampersands) (mark ref_expr)
     (choose (at prefix_operators) (mark prefix_expr)
     (atom then repeated postfix_first postfix))
+
+-- ** Casts.
+
+-- all since the mark is what is cast
+unfoldable pub cast_expr : Form Goal
+cast_expr = a k.AS_KW then child Ty then seal k.CAST_EXPR
+
+-- any number of them behind an expression that binds tighter
+unfoldable pub cast_or_unary : Form Goal
+cast_or_unary = unary then repeated (k.AS_KW ∷ []) cast_expr
 
 -- ** Operators between two operands.
 
@@ -121,7 +137,7 @@ operations r = repeated (operators r) (operation r)
 
 -- an expression whose operators between operands, outside brackets, are of so many ranks, the tightest
 unfoldable pub operand : ℕ → Form Goal
-operand zero = unary
+operand zero = cast_or_unary
 operand (suc r) = operand r then operations r
 
 -- no more ranks than there are rows

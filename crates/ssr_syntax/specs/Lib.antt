@@ -1,5 +1,7 @@
 pub mod Paths
+pub mod Types
 pub mod Expressions
+pub mod GenericArgs
 pub mod Items
 pub mod Grammar
 pub mod Decision

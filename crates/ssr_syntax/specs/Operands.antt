@@ -22,15 +22,16 @@ operator_rank done = length ranks
 operator_rank (leaf kind us x) = rank kind
 operator_rank (tree kind kids x) = operator_rank x
 
--- the precedence of operators at a rank: those of the first follow on operators in front, which have 2
+-- the precedence of operators at a rank: those of the first follow on casts, which have 3
 abbrev pub precedence_at : ℕ → ℕ
-precedence_at r = 3 + r
+precedence_at r = 4 + r
 
 -- The precedence of a node, a number: the lower it is, the tighter the node binds. What is made of no operands has 0.
 abbrev pub precedence : SyntaxKind → Forest → ℕ
 precedence kind kids =
     if mem kind (k.CALL_EXPR ∷ k.METHOD_CALL_EXPR ∷ k.FIELD_EXPR ∷ k.INDEX_EXPR ∷ k.TRY_EXPR ∷ []) then 1
     else if mem kind (k.PREFIX_EXPR ∷ k.REF_EXPR ∷ []) then 2
+    else if same_kind kind k.CAST_EXPR then 3
     else if same_kind kind k.BIN_EXPR then precedence_at (operator_rank kids)
     else 0
 

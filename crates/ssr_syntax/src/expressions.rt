@@ -4,16 +4,18 @@ ghost use Rattle.ssr_syntax.specs.Expressions as form;
 ghost use Rattle.ssr_syntax.specs.Private.Ranks.{next_rank, rank_of};
 ghost use Rattle.ssr_syntax_forms.specs.Private.Runs.{Runs, RunsFrom};
 
-use crate::goals::{Goal, Rank};
+use crate::goals::{Goal, PathPlace, Rank};
 use crate::grammar::Grammar;
+use crate::paths::{OpenAngle, PathFirst};
 use crate::reader::Reader;
+use crate::types::Ampersands;
 use ssr_syntax_forms::{Fault, Mark, Parser, TokenSet};
 use ssr_syntax_lex::SyntaxKind;
 use ssr_syntax_lex::SyntaxKind::*;
 
 /// The tokens that are literals.
 #[derive(Clone, Copy)]
-struct Literals;
+pub(crate) struct Literals;
 
 impl TokenSet for Literals {
     ghost kinds = { λ _. form.literals };
@@ -44,8 +46,13 @@ impl TokenSet for ExprFirst {
 
     #[tactic(auto, unfolding(crate::specs::Expressions::expr_first))]
     fn contains(self, kind: SyntaxKind) -> bool {
-        matches!(kind, IDENT | L_PAREN | AMP | AMP2 | MINUS | BANG | STAR)
-            || Literals.contains(kind)
+        match kind {
+            L_PAREN | AMP | AMP2 | MINUS | BANG | STAR => true,
+            IDENT | SELF_KW | SELF_TYPE_KW | SUPER_KW | CRATE_KW | COLON2 | L_ANGLE | SHL => true,
+            FLOAT_NUMBER | INT_NUMBER | STRING | BYTE_STRING | C_STRING | BYTE | CHAR => true,
+            TRUE_KW | FALSE_KW => true,
+            _ => false,
+        }
     }
 }
 
@@ -58,18 +65,6 @@ impl TokenSet for PostfixFirst {
 
     fn contains(self, kind: SyntaxKind) -> bool {
         matches!(kind, L_PAREN | L_BRACK | QUESTION | DOT)
-    }
-}
-
-/// What a reference begins with.
-#[derive(Clone, Copy)]
-struct Ampersands;
-
-impl TokenSet for Ampersands {
-    ghost kinds = { λ _. form.ampersands };
-
-    fn contains(self, kind: SyntaxKind) -> bool {
-        matches!(kind, AMP | AMP2)
     }
 }
 
@@ -148,7 +143,7 @@ pub(crate) fn at_most_all(rank: Rank) -> Rank
 impl<R: Reader + Drop> Grammar<R> {
     /// LITERAL: a number, a string, a byte, a character, `true` or `false`.
     #[tactic(auto, unfolding(crate::specs::Expressions::literal))]
-    fn literal(&self, p: &mut Parser<'_>) -> Result<(), Fault>
+    pub(crate) fn literal(&self, p: &mut Parser<'_>) -> Result<(), Fault>
         requires { R.can_read self.now.below }
         ensures { Runs (R.reads self.now.below) form.literal p.old p.new result }
     {
@@ -164,7 +159,7 @@ impl<R: Reader + Drop> Grammar<R> {
         ensures { Runs (R.reads self.now.below) form.path_expr p.old p.new result }
     {
         let m = p.start();
-        self.path(p)?;
+        self.path(p, PathPlace::InExpr)?;
         p.complete(&m, PATH_EXPR)
     }
 
@@ -187,7 +182,7 @@ impl<R: Reader + Drop> Grammar<R> {
         requires { R.can_read self.now.below }
         ensures { Runs (R.reads self.now.below) form.atom p.old p.new result }
     {
-        if p.at(IDENT) {
+        if p.at_any(PathFirst) {
             self.path_expr(p)
         } else if p.at_any(Literals) {
             self.literal(p)
@@ -252,8 +247,31 @@ impl<R: Reader + Drop> Grammar<R> {
         if p.at(L_PAREN) {
             self.method_call_expr(p, m)
         } else {
+            self.generic_method_call_or_field(p, m)
+        }
+    }
+
+    /// METHOD_CALL_EXPR with a GENERIC_ARG_LIST, which begins with `::`, or FIELD_EXPR.
+    #[tactic(auto, using(ssr_syntax_forms::proofs::Shared::run_decide), unfolding(crate::specs::Expressions::generic_method_call_or_field))]
+    fn generic_method_call_or_field(&self, p: &mut Parser<'_>, m: &Mark<'_>) -> Result<(), Fault>
+        requires { R.can_read self.now.below }
+        ensures { RunsFrom (R.reads self.now.below) form.generic_method_call_or_field m.now p.old p.new result }
+    {
+        if p.at_two(COLON2, OpenAngle) {
+            self.generic_method_call_expr(p, m)
+        } else {
             self.field_expr(p, m)
         }
+    }
+
+    /// METHOD_CALL_EXPR: a GENERIC_ARG_LIST and an ARG_LIST behind a method's name.
+    #[tactic(auto, unfolding(crate::specs::Expressions::generic_method_call_expr))]
+    fn generic_method_call_expr(&self, p: &mut Parser<'_>, m: &Mark<'_>) -> Result<(), Fault>
+        requires { R.can_read self.now.below }
+        ensures { RunsFrom (R.reads self.now.below) form.generic_method_call_expr m.now p.old p.new result }
+    {
+        self.child(p, Goal::GenericArgs)?;
+        self.method_call_expr(p, m)
     }
 
     /// METHOD_CALL_EXPR: an ARG_LIST behind a method's name.
@@ -302,7 +320,7 @@ impl<R: Reader + Drop> Grammar<R> {
         let m = p.start();
         p.expect_part(Ampersands)?;
         p.eat(MUT_KW)?;
-        self.child(p, Goal::Operand(0))?;
+        self.child(p, Goal::Unary)?;
         p.complete(&m, REF_EXPR)
     }
 
@@ -314,13 +332,13 @@ impl<R: Reader + Drop> Grammar<R> {
     {
         let m = p.start();
         p.expect_any(PrefixOperators)?;
-        self.child(p, Goal::Operand(0))?;
+        self.child(p, Goal::Unary)?;
         p.complete(&m, PREFIX_EXPR)
     }
 
-    /// An expression without an operator between operands, outside brackets.
+    /// An expression without a cast or an operator between operands, outside brackets.
     #[tactic(auto, unfolding(crate::specs::Expressions::unary))]
-    fn unary(&self, p: &mut Parser<'_>) -> Result<(), Fault>
+    pub(crate) fn unary(&self, p: &mut Parser<'_>) -> Result<(), Fault>
         requires { R.can_read self.now.below }
         ensures { Runs (R.reads self.now.below) form.unary p.old p.new result }
     {
@@ -335,6 +353,28 @@ impl<R: Reader + Drop> Grammar<R> {
         }
     }
 
+    /// CAST_EXPR: `as` and a type behind what is cast, which is all since the mark.
+    #[tactic(auto, unfolding(crate::specs::Expressions::cast_expr))]
+    fn cast_expr(&self, p: &mut Parser<'_>, m: &Mark<'_>) -> Result<(), Fault>
+        requires { R.can_read self.now.below }
+        ensures { RunsFrom (R.reads self.now.below) form.cast_expr m.now p.old p.new result }
+    {
+        p.expect(AS_KW)?;
+        self.child(p, Goal::Ty)?;
+        p.complete(m, CAST_EXPR)
+    }
+
+    /// An expression without an operator between operands, outside brackets; casts it may have.
+    #[tactic(auto, unfolding(crate::specs::Expressions::cast_or_unary))]
+    fn cast_or_unary(&self, p: &mut Parser<'_>) -> Result<(), Fault>
+        requires { R.can_read self.now.below }
+        ensures { Runs (R.reads self.now.below) form.cast_or_unary p.old p.new result }
+    {
+        let m = p.start();
+        self.unary(p)?;
+        p.repeated(AS_KW, |p| self.cast_expr(p, &m))
+    }
+
     /// An expression whose operators between operands, outside brackets, are of so many ranks, the tightest.
     #[tactic(auto, using(crate::proofs::Ranks::turn, crate::proofs::Ranks::stop_low, crate::proofs::Ranks::stop_high, crate::proofs::Ranks::stop_end, crate::proofs::Ranks::operand_climbs))]
     pub(crate) fn operand(&self, p: &mut Parser<'_>, limit: Rank) -> Result<(), Fault>
@@ -342,7 +382,7 @@ impl<R: Reader + Drop> Grammar<R> {
         ensures { Runs (R.reads self.now.below) (form.operand limit) p.old p.new result }
     {
         let m = p.start();
-        self.unary(p)?;
+        self.cast_or_unary(p)?;
         let mut rank = 0;
         'ranks: while rank < limit {
             let next = next_rank(p);

@@ -9,6 +9,21 @@ pub(crate) enum Goal {
     Expr,
     /// An expression whose operators between operands, outside brackets, are of so many ranks, the tightest.
     Operand(Rank),
+    /// An expression without a cast or an operator between operands, outside brackets.
+    Unary,
+    /// Any type.
+    Ty,
+    /// A path as a type.
+    PathType,
+    /// Generic arguments in angle brackets.
+    GenericArgs,
+}
+
+/// Where a path stands: what its generic arguments look like hangs on it.
+#[derive(Clone, Copy)]
+pub(crate) enum PathPlace {
+    InExpr,
+    InType,
 }
 
 /// How tightly an operator binds, the tightest ones first.

@@ -38,6 +38,10 @@ impl<R: Reader + Drop> Grammar<R> {
             Goal::File => self.source_file(p),
             Goal::Expr => self.operand(p, RANKS),
             Goal::Operand(rank) => self.operand(p, at_most_all(rank)),
+            Goal::Unary => self.unary(p),
+            Goal::Ty => self.any_type(p),
+            Goal::PathType => self.path_type(p),
+            Goal::GenericArgs => self.generic_arg_list(p),
         }
     }
 }

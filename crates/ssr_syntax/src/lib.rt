@@ -3,6 +3,7 @@
 
 mod expressions;
 mod fragments;
+mod generic_args;
 mod goals;
 mod grammar;
 mod items;
@@ -16,6 +17,7 @@ mod solid;
 mod syntax_error;
 mod tree_tokens;
 mod turning;
+mod types;
 
 pub use fragments::Fragment;
 pub use reading::{fragment, parse_file, parse_file_owned};

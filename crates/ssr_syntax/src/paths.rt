@@ -1,11 +1,92 @@
-//! The functions that read paths.
+//! The functions that read names and paths.
 ghost use Rattle.ssr_syntax.specs.Paths as form;
-ghost use Rattle.ssr_syntax_forms.specs.Private.Runs.{Runs, RunsFrom};
+ghost use Rattle.ssr_syntax_forms.specs.Private.Runs.{Runs, RunsAnywhere, RunsFrom};
 
+use crate::goals::{Goal, PathPlace};
 use crate::grammar::Grammar;
 use crate::reader::Reader;
-use ssr_syntax_forms::{Fault, Mark, Parser};
+use ssr_syntax_forms::{Fault, Mark, Parser, TokenSet};
+use ssr_syntax_lex::SyntaxKind;
 use ssr_syntax_lex::SyntaxKind::*;
+
+/// The words that name something in a path.
+#[derive(Clone, Copy)]
+struct PathNames;
+
+impl TokenSet for PathNames {
+    ghost kinds = { λ _. form.path_names };
+
+    fn contains(self, kind: SyntaxKind) -> bool {
+        matches!(kind, IDENT | SELF_KW | SELF_TYPE_KW | SUPER_KW | CRATE_KW)
+    }
+}
+
+/// What begins with an angle bracket that opens.
+#[derive(Clone, Copy)]
+pub(crate) struct OpenAngle;
+
+impl TokenSet for OpenAngle {
+    ghost kinds = { λ _. form.open_angle };
+
+    fn contains(self, kind: SyntaxKind) -> bool {
+        matches!(kind, L_ANGLE | SHL)
+    }
+}
+
+/// What begins with an angle bracket that closes.
+#[derive(Clone, Copy)]
+pub(crate) struct CloseAngle;
+
+impl TokenSet for CloseAngle {
+    ghost kinds = { λ _. form.close_angle };
+
+    fn contains(self, kind: SyntaxKind) -> bool {
+        matches!(kind, R_ANGLE | SHR | GTEQ | SHREQ)
+    }
+}
+
+/// What a path begins with.
+#[derive(Clone, Copy)]
+pub(crate) struct PathFirst;
+
+impl TokenSet for PathFirst {
+    ghost kinds = { λ _. form.path_first };
+
+    fn contains(self, kind: SyntaxKind) -> bool {
+        matches!(
+            kind,
+            IDENT | SELF_KW | SELF_TYPE_KW | SUPER_KW | CRATE_KW | COLON2 | L_ANGLE | SHL
+        )
+    }
+}
+
+/// What a type begins with.
+#[derive(Clone, Copy)]
+pub(crate) struct TypeFirst;
+
+impl TokenSet for TypeFirst {
+    ghost kinds = { λ _. form.type_first };
+
+    #[tactic(auto, unfolding(crate::specs::Paths::type_first))]
+    fn contains(self, kind: SyntaxKind) -> bool {
+        matches!(
+            kind,
+            AMP | AMP2 | STAR | L_PAREN | L_BRACK | BANG | UNDERSCORE | DYN_KW | IMPL_KW
+        ) || PathFirst.contains(kind)
+    }
+}
+
+/// What generic arguments of a type begin with, without `::`.
+#[derive(Clone, Copy)]
+struct GenericsFirst;
+
+impl TokenSet for GenericsFirst {
+    ghost kinds = { λ _. form.generics_first };
+
+    fn contains(self, kind: SyntaxKind) -> bool {
+        matches!(kind, L_ANGLE | SHL | SHLEQ)
+    }
+}
 
 impl<R: Reader + Drop> Grammar<R> {
     /// NAME_REF: an identifier.
@@ -19,37 +100,237 @@ impl<R: Reader + Drop> Grammar<R> {
         p.complete(&m, NAME_REF)
     }
 
-    /// PATH_SEGMENT: a NAME_REF.
-    #[tactic(auto, unfolding(crate::specs::Paths::path_segment))]
-    fn path_segment(&self, p: &mut Parser<'_>) -> Result<(), Fault>
+    /// NAME_REF in a path: an identifier, `self`, `Self`, `super` or `crate`.
+    #[tactic(auto, unfolding(crate::specs::Paths::path_name))]
+    fn path_name(&self, p: &mut Parser<'_>) -> Result<(), Fault>
         requires { R.can_read self.now.below }
-        ensures { Runs (R.reads self.now.below) form.path_segment p.old p.new result }
+        ensures { Runs (R.reads self.now.below) form.path_name p.old p.new result }
     {
         let m = p.start();
-        self.name_ref(p)?;
+        p.expect_any(PathNames)?;
+        p.complete(&m, NAME_REF)
+    }
+
+    /// LIFETIME: a token.
+    #[tactic(auto, unfolding(crate::specs::Paths::lifetime))]
+    pub(crate) fn lifetime(&self, p: &mut Parser<'_>) -> Result<(), Fault>
+        requires { R.can_read self.now.below }
+        ensures { Runs (R.reads self.now.below) form.lifetime p.old p.new result }
+    {
+        let m = p.start();
+        p.expect(LIFETIME_IDENT)?;
+        p.complete(&m, LIFETIME)
+    }
+
+    /// TYPE_ARG: a type.
+    #[tactic(auto, unfolding(crate::specs::Paths::type_arg))]
+    pub(crate) fn type_arg(&self, p: &mut Parser<'_>) -> Result<(), Fault>
+        requires { R.can_read self.now.below }
+        ensures { Runs (R.reads self.now.below) form.type_arg p.old p.new result }
+    {
+        let m = p.start();
+        self.child(p, Goal::Ty)?;
+        p.complete(&m, TYPE_ARG)
+    }
+
+    /// PARENTHESIZED_ARG_LIST: types in parentheses, with commas between them.
+    #[tactic(auto, using(ssr_syntax_forms::proofs::Shared::run_comma_list), unfolding(crate::specs::Paths::parenthesized_arg_list))]
+    fn parenthesized_arg_list(&self, p: &mut Parser<'_>) -> Result<(), Fault>
+        requires { R.can_read self.now.below }
+        ensures { Runs (R.reads self.now.below) form.parenthesized_arg_list p.old p.new result }
+    {
+        let m = p.start();
+        p.expect(L_PAREN)?;
+        p.comma_list(TypeFirst, |p| self.type_arg(p))?;
+        p.expect(R_PAREN)?;
+        p.complete(&m, PARENTHESIZED_ARG_LIST)
+    }
+
+    /// RET_TYPE: `->` and a type.
+    #[tactic(auto, unfolding(crate::specs::Paths::ret_type))]
+    fn ret_type(&self, p: &mut Parser<'_>) -> Result<(), Fault>
+        requires { R.can_read self.now.below }
+        ensures { Runs (R.reads self.now.below) form.ret_type p.old p.new result }
+    {
+        let m = p.start();
+        p.expect(THIN_ARROW)?;
+        self.child(p, Goal::Ty)?;
+        p.complete(&m, RET_TYPE)
+    }
+
+    /// A PARENTHESIZED_ARG_LIST, and perhaps a RET_TYPE.
+    #[tactic(auto, unfolding(crate::specs::Paths::function_generics))]
+    fn function_generics(&self, p: &mut Parser<'_>) -> Result<(), Fault>
+        requires { R.can_read self.now.below }
+        ensures { RunsAnywhere (R.reads self.now.below) form.function_generics p.old p.new result }
+    {
+        self.parenthesized_arg_list(p)?;
+        if p.at(THIN_ARROW) {
+            self.ret_type(p)
+        } else {
+            Ok(())
+        }
+    }
+
+    /// A GENERIC_ARG_LIST, which begins with `::`, or nothing.
+    #[tactic(auto, using(ssr_syntax_forms::proofs::Shared::run_decide), unfolding(crate::specs::Paths::expr_generics))]
+    fn expr_generics(&self, p: &mut Parser<'_>) -> Result<(), Fault>
+        requires { R.can_read self.now.below }
+        ensures { RunsAnywhere (R.reads self.now.below) form.expr_generics p.old p.new result }
+    {
+        if p.at_two(COLON2, OpenAngle) {
+            self.child(p, Goal::GenericArgs)
+        } else {
+            Ok(())
+        }
+    }
+
+    /// A GENERIC_ARG_LIST, which begins with `::`, or that of a function's type, or nothing.
+    #[tactic(auto, using(ssr_syntax_forms::proofs::Shared::run_decide), unfolding(crate::specs::Paths::colon_generics))]
+    fn colon_generics(&self, p: &mut Parser<'_>) -> Result<(), Fault>
+        requires { R.can_read self.now.below }
+        ensures { RunsAnywhere (R.reads self.now.below) form.colon_generics p.old p.new result }
+    {
+        if p.at_two(COLON2, OpenAngle) {
+            self.child(p, Goal::GenericArgs)
+        } else if p.at(L_PAREN) {
+            self.function_generics(p)
+        } else {
+            Ok(())
+        }
+    }
+
+    /// What generic arguments a type has, if any.
+    #[tactic(auto, using(ssr_syntax_forms::proofs::Shared::run_decide), unfolding(crate::specs::Paths::type_generics))]
+    fn type_generics(&self, p: &mut Parser<'_>) -> Result<(), Fault>
+        requires { R.can_read self.now.below }
+        ensures { RunsAnywhere (R.reads self.now.below) form.type_generics p.old p.new result }
+    {
+        if p.at_any(GenericsFirst) {
+            self.child(p, Goal::GenericArgs)
+        } else {
+            self.colon_generics(p)
+        }
+    }
+
+    /// Generic arguments as a path has them there, or none.
+    #[tactic(auto, unfolding(crate::specs::Paths::generics))]
+    fn generics(&self, p: &mut Parser<'_>, place: PathPlace) -> Result<(), Fault>
+        requires { R.can_read self.now.below }
+        ensures { RunsAnywhere (R.reads self.now.below) (form.generics place) p.old p.new result }
+    {
+        match place {
+            PathPlace::InExpr => self.expr_generics(p),
+            PathPlace::InType => self.type_generics(p),
+        }
+    }
+
+    /// PATH_SEGMENT: a NAME_REF and perhaps generic arguments.
+    #[tactic(auto, unfolding(crate::specs::Paths::path_segment))]
+    fn path_segment(&self, p: &mut Parser<'_>, place: PathPlace) -> Result<(), Fault>
+        requires { R.can_read self.now.below }
+        ensures { Runs (R.reads self.now.below) (form.path_segment place) p.old p.new result }
+    {
+        let m = p.start();
+        self.path_name(p)?;
+        self.generics(p, place)?;
+        p.complete(&m, PATH_SEGMENT)
+    }
+
+    /// PATH_SEGMENT with `::` in front or not.
+    #[tactic(auto, unfolding(crate::specs::Paths::first_segment))]
+    fn first_segment(&self, p: &mut Parser<'_>, place: PathPlace) -> Result<(), Fault>
+        requires { R.can_read self.now.below }
+        ensures { Runs (R.reads self.now.below) (form.first_segment place) p.old p.new result }
+    {
+        let m = p.start();
+        p.eat(COLON2)?;
+        self.path_name(p)?;
+        self.generics(p, place)?;
+        p.complete(&m, PATH_SEGMENT)
+    }
+
+    /// The type of an anchor, and perhaps `as` and a trait.
+    #[tactic(auto, unfolding(crate::specs::Paths::anchored_type))]
+    fn anchored_type(&self, p: &mut Parser<'_>) -> Result<(), Fault>
+        requires { R.can_read self.now.below }
+        ensures { RunsAnywhere (R.reads self.now.below) form.anchored_type p.old p.new result }
+    {
+        self.child(p, Goal::Ty)?;
+        if p.at(AS_KW) {
+            p.expect(AS_KW)?;
+            self.child(p, Goal::PathType)
+        } else {
+            Ok(())
+        }
+    }
+
+    /// PATH_SEGMENT: a type in angle brackets, perhaps with a trait of it.
+    #[tactic(auto, unfolding(crate::specs::Paths::type_anchor))]
+    fn type_anchor(&self, p: &mut Parser<'_>) -> Result<(), Fault>
+        requires { R.can_read self.now.below }
+        ensures { Runs (R.reads self.now.below) form.type_anchor p.old p.new result }
+    {
+        let m = p.start();
+        p.expect_part(OpenAngle)?;
+        self.anchored_type(p)?;
+        p.expect_part(CloseAngle)?;
         p.complete(&m, PATH_SEGMENT)
     }
 
     /// PATH: `::` and a PATH_SEGMENT behind a PATH, which is all since the mark.
     #[tactic(auto, unfolding(crate::specs::Paths::longer_path))]
-    fn longer_path(&self, p: &mut Parser<'_>, m: &Mark<'_>) -> Result<(), Fault>
+    fn longer_path(&self, p: &mut Parser<'_>, m: &Mark<'_>, place: PathPlace) -> Result<(), Fault>
         requires { R.can_read self.now.below }
-        ensures { RunsFrom (R.reads self.now.below) form.longer_path m.now p.old p.new result }
+        ensures { RunsFrom (R.reads self.now.below) (form.longer_path place) m.now p.old p.new result }
     {
         p.expect(COLON2)?;
-        self.path_segment(p)?;
+        self.path_segment(p, place)?;
         p.complete(m, PATH)
+    }
+
+    /// PATH: an anchor and a PATH_SEGMENT behind it.
+    #[tactic(auto, unfolding(crate::specs::Paths::anchored_path))]
+    fn anchored_path(&self, p: &mut Parser<'_>, m: &Mark<'_>, place: PathPlace) -> Result<(), Fault>
+        requires { R.can_read self.now.below }
+        ensures { RunsFrom (R.reads self.now.below) (form.anchored_path place) m.now p.old p.new result }
+    {
+        self.type_anchor(p)?;
+        p.complete(m, PATH)?;
+        self.longer_path(p, m, place)
+    }
+
+    /// PATH: one PATH_SEGMENT.
+    #[tactic(auto, unfolding(crate::specs::Paths::plain_path))]
+    fn plain_path(&self, p: &mut Parser<'_>, m: &Mark<'_>, place: PathPlace) -> Result<(), Fault>
+        requires { R.can_read self.now.below }
+        ensures { RunsFrom (R.reads self.now.below) (form.plain_path place) m.now p.old p.new result }
+    {
+        self.first_segment(p, place)?;
+        p.complete(m, PATH)
+    }
+
+    /// What any longer PATH begins with.
+    #[tactic(auto, unfolding(crate::specs::Paths::shortest_path))]
+    fn shortest_path(&self, p: &mut Parser<'_>, m: &Mark<'_>, place: PathPlace) -> Result<(), Fault>
+        requires { R.can_read self.now.below }
+        ensures { RunsFrom (R.reads self.now.below) (form.shortest_path place) m.now p.old p.new result }
+    {
+        if p.at_any(OpenAngle) {
+            self.anchored_path(p, m, place)
+        } else {
+            self.plain_path(p, m, place)
+        }
     }
 
     /// PATH: any number of PATH_SEGMENTs, but one at least.
     #[tactic(auto, unfolding(crate::specs::Paths::path))]
-    pub(crate) fn path(&self, p: &mut Parser<'_>) -> Result<(), Fault>
+    pub(crate) fn path(&self, p: &mut Parser<'_>, place: PathPlace) -> Result<(), Fault>
         requires { R.can_read self.now.below }
-        ensures { Runs (R.reads self.now.below) form.path p.old p.new result }
+        ensures { Runs (R.reads self.now.below) (form.path place) p.old p.new result }
     {
         let m = p.start();
-        self.path_segment(p)?;
-        p.complete(&m, PATH)?;
-        p.repeated(COLON2, |p| self.longer_path(p, &m))
+        self.shortest_path(p, &m, place)?;
+        p.repeated(COLON2, |p| self.longer_path(p, &m, place))
     }
 }

@@ -247,6 +247,118 @@ mod tests {
         Ok(())
     }
 
+    #[test]
+    fn a_cast_binds_tighter_than_a_product(rt: HostRuntime) -> Result<(), Fail> {
+        let (tree, _) = fragment(rt.alloc(), Fragment::Expr, "-a as u8 * 2")?;
+        let want = [
+            (SyntaxKind::BIN_EXPR, 0, 12),
+            (SyntaxKind::CAST_EXPR, 0, 8),
+            (SyntaxKind::PREFIX_EXPR, 0, 2),
+            (SyntaxKind::PATH_EXPR, 1, 2),
+            (SyntaxKind::PATH, 1, 2),
+            (SyntaxKind::PATH_SEGMENT, 1, 2),
+            (SyntaxKind::NAME_REF, 1, 2),
+            (SyntaxKind::PATH_TYPE, 6, 8),
+            (SyntaxKind::PATH, 6, 8),
+            (SyntaxKind::PATH_SEGMENT, 6, 8),
+            (SyntaxKind::NAME_REF, 6, 8),
+            (SyntaxKind::LITERAL, 11, 12),
+        ];
+        assert_eq!(rt; outline(rt.alloc(), &tree)?.as_slice(), want.as_slice());
+        Ok(())
+    }
+
+    #[test]
+    fn two_angle_brackets_close_two_lists(rt: HostRuntime) -> Result<(), Fail> {
+        let (tree, _) = fragment(rt.alloc(), Fragment::Expr, "F::<G<u8>>::new()")?;
+        let want = [
+            (SyntaxKind::CALL_EXPR, 0, 17),
+            (SyntaxKind::PATH_EXPR, 0, 15),
+            (SyntaxKind::PATH, 0, 15),
+            (SyntaxKind::PATH, 0, 10),
+            (SyntaxKind::PATH_SEGMENT, 0, 10),
+            (SyntaxKind::NAME_REF, 0, 1),
+            (SyntaxKind::GENERIC_ARG_LIST, 1, 10),
+            (SyntaxKind::TYPE_ARG, 4, 9),
+            (SyntaxKind::PATH_TYPE, 4, 9),
+            (SyntaxKind::PATH, 4, 9),
+            (SyntaxKind::PATH_SEGMENT, 4, 9),
+            (SyntaxKind::NAME_REF, 4, 5),
+            (SyntaxKind::GENERIC_ARG_LIST, 5, 9),
+            (SyntaxKind::TYPE_ARG, 6, 8),
+            (SyntaxKind::PATH_TYPE, 6, 8),
+            (SyntaxKind::PATH, 6, 8),
+            (SyntaxKind::PATH_SEGMENT, 6, 8),
+            (SyntaxKind::NAME_REF, 6, 8),
+            (SyntaxKind::PATH_SEGMENT, 12, 15),
+            (SyntaxKind::NAME_REF, 12, 15),
+            (SyntaxKind::ARG_LIST, 15, 17),
+        ];
+        assert_eq!(rt; outline(rt.alloc(), &tree)?.as_slice(), want.as_slice());
+        Ok(())
+    }
+
+    // The kind of a type alone, as it stands behind `1 as`.
+    #[test]
+    fn types_of_each_kind_are_read(rt: HostRuntime) -> Result<(), Fail> {
+        for (text, kind) in [
+            ("T", SyntaxKind::PATH_TYPE),
+            ("::a::T<'a, u8, A = B, 1, -1, {2},>", SyntaxKind::PATH_TYPE),
+            ("<T as A>::B", SyntaxKind::PATH_TYPE),
+            ("<<T>::A>::B", SyntaxKind::PATH_TYPE),
+            ("T<<A>::B>", SyntaxKind::PATH_TYPE),
+            ("F(u8, i8) -> T", SyntaxKind::PATH_TYPE),
+            ("&T", SyntaxKind::REF_TYPE),
+            ("&&'a mut T", SyntaxKind::REF_TYPE),
+            ("*const T", SyntaxKind::PTR_TYPE),
+            ("*mut T", SyntaxKind::PTR_TYPE),
+            ("(T)", SyntaxKind::PAREN_TYPE),
+            ("()", SyntaxKind::TUPLE_TYPE),
+            ("(T,)", SyntaxKind::TUPLE_TYPE),
+            ("(T, !)", SyntaxKind::TUPLE_TYPE),
+            ("[T]", SyntaxKind::SLICE_TYPE),
+            ("[T; 1 + 2]", SyntaxKind::ARRAY_TYPE),
+            ("!", SyntaxKind::NEVER_TYPE),
+            ("_", SyntaxKind::INFER_TYPE),
+            ("dyn A + 'a + ?Sized", SyntaxKind::DYN_TRAIT_TYPE),
+            ("impl A", SyntaxKind::IMPL_TRAIT_TYPE),
+        ] {
+            let cast = format!(in rt.alloc(); "1 as {text}")?;
+            let (tree, _) = fragment(rt.alloc(), Fragment::Expr, cast.as_str())?;
+            let nodes = outline(rt.alloc(), &tree)?;
+            let is_of_kind = nodes.get(2).is_some_and(|node| node.0 == kind);
+            assert!(rt; is_of_kind, "{text}");
+        }
+        Ok(())
+    }
+
+    #[test]
+    fn what_is_almost_a_type_or_a_path_is_refused(rt: HostRuntime) -> Result<(), Fail> {
+        for text in [
+            "1 as",
+            "1 as u8 < 2",
+            "1 as *T",
+            "1 as [T; ]",
+            "1 as (,)",
+            "1 as dyn A +",
+            "1 as impl <T>",
+            "1 as T<",
+            "1 as T<A B>",
+            "1 as 'a",
+            "a::<T",
+            "a(b)::<T>",
+            "a.b::<T>",
+            "<T>",
+            "a::<T>b",
+            "::<T>",
+            "a::",
+        ] {
+            let answer = fragment(rt.alloc(), Fragment::Expr, text);
+            assert_eq!(rt; answer.err(), Some(SyntaxError::NoTree), "{text}");
+        }
+        Ok(())
+    }
+
     // One operator of each rank, the tightest first.
     #[test]
     fn each_rank_binds_tighter_than_those_behind_it(rt: HostRuntime) -> Result<(), Fail> {

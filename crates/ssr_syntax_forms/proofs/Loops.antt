@@ -1,9 +1,10 @@
 -- One turn of a loop, and its end; lists of items.
-use Rattle.std.proofs.Common.{◌≡◌, ℕ, zero, suc, ◌+◌, ◌-◌, ◌<◌, if◌then◌else◌, List, Result, Ok, Err, refl, arith}
+use Rattle.std.proofs.Common.{◌≡◌, ℕ, zero, suc, ◌+◌, ◌-◌, ◌<◌, if◌then◌else◌, List, Result, Ok, Err, inl, inr, refl, arith}
+use Rattle.std.proofs.lemmas.Bool.{cases_Bool}
 use Rattle.ssr_syntax_lex.specs.declared.kinds.SyntaxKind.{SyntaxKind}
 use Rattle.ssr_syntax_forms.specs.declared.fault.Fault.{Fault}
 use Rattle.ssr_syntax_forms.specs.declared.fault.Fault.TheVariants as faults
-use Rattle.ssr_syntax_forms.specs.Forms.{Form, Test, comma_list, passes, repeat, ◌>>=◌}
+use Rattle.ssr_syntax_forms.specs.Forms.{Form, Test, decide, comma_list, passes, repeat, ◌>>=◌}
 use Rattle.ssr_syntax_forms.specs.Parser.{State, Mark, comma_separated}
 use Rattle.ssr_syntax_forms.specs.Private.Runs.{RunsBelow, run}
 
@@ -23,6 +24,12 @@ repeat_step total turn test step s lt = repeat_suc (total - (turn + 1)) test ste
 pub repeat_end : (total : ℕ) (test : Test) (step : State → Result State Fault) (s : State)
     → repeat (λ z. z.rest) (total - total) test step s ≡ Err faults.NoTree
 repeat_end total test step s = repeat_zero test step s (total - total) (omega arith)
+
+-- a choice that is decided is one by its test
+pub run_decide : {Goal : Type 0} (below : RunsBelow Goal) (test : Test) (f g : Form Goal) (m : Mark) (s : State)
+    → run below (decide test f g) m s ≡ (if passes test s.rest then run below f m s else run below g m s)
+run_decide below test f g m s =
+    elim (cases_Bool (passes test s.rest)) [ inl hit ↦ rw hit refl | inr miss ↦ rw miss refl ]
 
 -- a list is what its items and commas do
 pub run_comma_list : {Goal : Type 0} (below : RunsBelow Goal) (first : List SyntaxKind) (item : Form Goal) (m : Mark) (s : State)

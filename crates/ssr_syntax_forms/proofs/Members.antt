@@ -1,5 +1,5 @@
 -- Kinds in lists.
-use Rattle.std.proofs.Common.{◌≡◌, Bool, true, false, not, List, [], ◌∷◌, ◌++◌, inl, inr, refl, sym, ap, subst, ◌∙◌}
+use Rattle.std.proofs.Common.{◌≡◌, ◌-◌, Bool, true, false, not, ◌&&◌, List, [], ◌∷◌, ◌++◌, drop, inl, inr, refl, sym, ap, subst, ◌∙◌}
 use Rattle.std.proofs.lemmas.Bool.{and_parts, cases_Bool, not-true, or_cases, or_left, or_parts, or_right}
 use Rattle.std.proofs.Math.Bool.{and-true, or-false}
 use Rattle.ssr_syntax_lex.specs.declared.kinds.SyntaxKind.{SyntaxKind}
@@ -7,6 +7,7 @@ use Rattle.ssr_syntax_lex.specs.Kinds.{same_kind}
 use Rattle.ssr_syntax_lex.proofs.Shared.{same_kind-equal}
 use Rattle.ssr_syntax_forms.specs.declared.tokens.Token.{Token}
 use Rattle.ssr_syntax_forms.specs.Kinds.{mem}
+use Rattle.ssr_syntax_forms.specs.Private.Runs.{behind_next}
 use Rattle.ssr_syntax_forms.specs.Forms.{Test, is_one, taken_as, are_next, passes, agrees, at, next, END}
 use Rattle.ssr_syntax_forms.proofs.Check.{subset, meets, every, those, must_pass, may_pass, may_be, decides_on, decides_off}
 
@@ -91,6 +92,13 @@ next_first ks string (t ∷ ts) h = (and_parts (mem t.joined ks) _ h).0
 
 pub at_next : (ks : List SyntaxKind) (ts : List Token) → passes (at ks) ts ≡ mem (next ts) ks
 at_next ks ts = or-false (are_next (ks ∷ []) ts) ∙ next_one ks ts
+
+pub two_next : (ks ls : List SyntaxKind) (ts : List Token)
+    → passes ((ks ∷ ls ∷ []) ∷ []) ts ≡ (mem (next ts) ks && mem (behind_next ts) ls)
+two_next ks ls [] = or-false (mem END ks && are_next (ls ∷ []) []) ∙ ap (λ b. mem END ks && b) (next_one ls [])
+two_next ks ls (t ∷ ts) =
+    let us = drop (t.size - 1) ts in
+    or-false (mem t.joined ks && are_next (ls ∷ []) us) ∙ ap (λ b. mem t.joined ks && b) (next_one ls us)
 
 must : (test : Test) (ts : List Token) → must_pass test (next ts) ≡ true → passes test ts ≡ true
 must [] ts h = cc

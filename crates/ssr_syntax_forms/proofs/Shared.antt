@@ -21,4 +21,4 @@ pub use Rattle.ssr_syntax_forms.proofs.Decision.{IsLone, decided, answers}
 -- readings and runs
 pub use Rattle.ssr_syntax_forms.proofs.Levels.{goals_spell, goals_sound, read_as_run, refused_as_run}
 pub use Rattle.ssr_syntax_forms.proofs.Cuts.{cut_goals}
-pub use Rattle.ssr_syntax_forms.proofs.Loops.{run_comma_list}
+pub use Rattle.ssr_syntax_forms.proofs.Loops.{run_comma_list, run_decide}

@@ -2,7 +2,7 @@
 ghost use Rattle.std.specs.Prelude.{◌≡◌, ◌-◌, true, false, if◌then◌else◌, [], ◌∷◌, Result, Ok, Err, IfOk};
 ghost use Rattle.ssr_syntax_forms.specs.Forms.{agrees, at, next, passes};
 ghost use Rattle.ssr_syntax_forms.specs.Parser.{Calls, Finishes, State, Steps, close, comma_separated, listed, mark_of, repeated, separated, state_of, taken};
-ghost use Rattle.ssr_syntax_forms.specs.Private.Runs.{taken_with};
+ghost use Rattle.ssr_syntax_forms.specs.Private.Runs.{behind_next, taken_with};
 ghost use Rattle.ssr_syntax_forms.specs.Parser.{written_of};
 ghost use Rattle.ssr_syntax_forms.specs.declared.fault.Fault.{Fault};
 ghost use Rattle.ssr_syntax_forms.specs.declared.fault.Fault.TheVariants as faults;
@@ -127,6 +127,27 @@ impl<'a> Parser<'a> {
         ensures { result ≡ passes (at (S.kinds set)) self.now.rest }
     {
         set.contains(self.current())
+    }
+
+    /// Whether the next token is of one of the first kinds, and the one behind it of one of the second.
+    #[tactic(auto, using(crate::proofs::Members::two_next))]
+    pub fn at_two<S: TokenSet, T: TokenSet>(&self, first: S, second: T) -> bool
+        ensures { result ≡ passes ((S.kinds first ∷ T.kinds second ∷ []) ∷ []) self.now.rest }
+    {
+        first.contains(self.current()) && second.contains(self.behind_next())
+    }
+
+    /// The kind of the token behind the next one; `END` where there is none.
+    fn behind_next(&self) -> SyntaxKind
+        ensures { result ≡ behind_next self.now.rest }
+    {
+        let Some((token, rest)) = self.rest.split_first() else {
+            return END;
+        };
+        match rest.get(token.size.saturating_sub(1) as usize) {
+            Some(behind) => behind.joined,
+            None => END,
+        }
     }
 
     /// Takes a token of this kind; `NoTree` where none is next.

@@ -1,15 +1,20 @@
 -- Private: what the parser does for a form.
-use Rattle.std.specs.Prelude.{◌+◌, ◌-◌, ℕ, zero, suc, if◌then◌else◌, List, ◌∷◌, [], ◌++◌, length, take, Result, Ok, Err}
+use Rattle.std.specs.Prelude.{◌+◌, ◌-◌, ℕ, zero, suc, if◌then◌else◌, List, ◌∷◌, [], ◌++◌, length, take, drop, Result, Ok, Err}
 use Rattle.ssr_syntax_lex.specs.declared.kinds.SyntaxKind.{SyntaxKind}
 use Rattle.ssr_syntax_forms.specs.declared.tokens.Token.{Token}
 use Rattle.ssr_syntax_forms.specs.declared.fault.Fault.{Fault}
 use Rattle.ssr_syntax_forms.specs.declared.fault.Fault.TheVariants as faults
-use Rattle.ssr_syntax_forms.specs.Forms.{Form, one, child, mark, seal, ◌then◌, nothing, choose, many, look, check, Productions, behind, passes, agrees, holds, ◌>>=◌}
+use Rattle.ssr_syntax_forms.specs.Forms.{Form, one, child, mark, seal, ◌then◌, nothing, choose, many, look, check, Productions, END, behind, next, passes, agrees, holds, ◌>>=◌}
 use Rattle.ssr_syntax_forms.specs.Parser.{Written, written_of, State, state_of, Mark, mark_of, taken, close, repeated, Steps}
 
 -- the tokens since a mark
 abbrev pub since : Mark → State → List Token
 since m s = take (length m.start - length s.rest) m.start
+
+-- the kind of the token behind the next one
+abbrev pub behind_next : List Token → SyntaxKind
+behind_next [] = END
+behind_next (t ∷ ts) = next (drop (t.size - 1) ts)
 
 -- a token of this kind is taken: the one in front of those that are left, and so many of them
 abbrev pub taken_with : SyntaxKind → ℕ → List Token → Written → Result State Fault
@@ -50,3 +55,7 @@ Runs below form old new r = Steps new r (run_marked below form old)
 -- The same of a form that goes on with what is made since a mark.
 abbrev pub RunsFrom : {Goal : Type 0} → {R : Type 0} → RunsBelow Goal → Form Goal → Mark → State → State → Result R Fault → Type 0
 RunsFrom below form m old new r = Steps new r (run below form m old)
+
+-- The same of a form that puts nothing since the mark into a node.
+abbrev pub RunsAnywhere : {Goal : Type 0} → {R : Type 0} → RunsBelow Goal → Form Goal → State → State → Result R Fault → Type 0
+RunsAnywhere below form old new r = (m : Mark) → RunsFrom below form m old new r
