@@ -35,7 +35,7 @@ match-some : (n : ℕ) (rule : ResolvedKind) (node : Node) (bs : List Binding) �
     → match_at n rule node ≡ record { rule = n; node = node.number; bindings = bs } ∷ []
 match-some n rule node bs is = ap (match_of n node) is
 
-split_at : {X : Type 0} (xs : List X) (n : ℕ) (d : X) → n < length xs → drop n xs ≡ get_or xs n d ∷ drop (n + 1) xs
+pub split_at : {X : Type 0} (xs : List X) (n : ℕ) (d : X) → n < length xs → drop n xs ≡ get_or xs n d ∷ drop (n + 1) xs
 split_at xs n d lt = rw (add-one, drop-cons xs n d) refl
 
 pub rules-turn : (rules : List ResolvedKind) (n : ℕ) (rule : ResolvedKind) (node : Node) (so_far new total : List Found) → n < length rules → rule ≡ get_or rules n rule

@@ -13,6 +13,7 @@ pub mod Pairs
 pub mod Finding
 pub mod Apart
 pub mod InOrder
+pub mod UseItems
 pub mod Complete
 pub mod Agreement
 pub mod OneKept

@@ -1,7 +1,10 @@
--- The matches that a search finds, kept or not: every node of the code against every rule.
-use Rattle.std.specs.Prelude.{ℕ, ◌+◌, Bool, nat_lt, if◌then◌else◌, List, [], ◌∷◌, ◌++◌, Some, None, flat_map}
+-- The matches that a search finds, kept or not: every node of the code that is permitted against every rule.
+use Rattle.std.specs.Prelude.{ℕ, ◌+◌, Bool, not, ◌&&◌, nat_lt, nat_le, if◌then◌else◌, List, [], ◌∷◌, ◌++◌, Some, None, flat_map}
+use Rattle.std.specs.List.{list_any}
+use Rattle.ssr_syntax_lex.specs.Kinds.{same_kind}
+use Rattle.ssr_syntax_lex.specs.declared.kinds.SyntaxKind.TheVariants as k
 use Rattle.ssr_syntax_tree.specs.Syntax.{Syntax}
-use Rattle.ssr_syntax_tree.specs.Places.{Node, nodes_of, root_of, start_of, end_of}
+use Rattle.ssr_syntax_tree.specs.Places.{Node, nodes_of, root_of, size_of, start_of, end_of}
 use Rattle.ide_ssr_rules.specs.Resolving.{ResolvedKind}
 use Rattle.ide_ssr.specs.declared.bindings.Binding.{Binding}
 use Rattle.ide_ssr.specs.Bindings.{bindings_of}
@@ -13,9 +16,17 @@ pub record Found : Type 0 where
   pub node : ℕ
   pub bindings : List Binding
 
--- a node is looked at unless its range is empty
+-- whether a node is a `use` item that has the number n or stands above the node with it
+abbrev pub is_use_over : ℕ → Node → Bool
+is_use_over n node = same_kind node.kind k.USE && (nat_le node.number n && nat_lt n (node.number + size_of node))
+
+-- whether the node with the number n is a `use` item or stands in one
+unfoldable pub is_in_use : Syntax → ℕ → Bool
+is_in_use code n = list_any (is_use_over n) (nodes_of code)
+
+-- a node is looked at unless its range is empty, and unless it is or stands in a `use` item
 abbrev pub is_permitted : Syntax → Node → Bool
-is_permitted code node = nat_lt (start_of code node) (end_of code node)
+is_permitted code node = nat_lt (start_of code node) (end_of code node) && not (is_in_use code node.number)
 
 -- the match of one rule at a node, if it does match
 abbrev pub match_at : ℕ → ResolvedKind → Node → List Found

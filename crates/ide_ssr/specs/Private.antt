@@ -7,3 +7,4 @@ pub mod Pending
 pub mod Order
 pub mod Nesting
 pub mod Matching
+pub mod UseItems

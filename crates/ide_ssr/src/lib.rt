@@ -14,6 +14,8 @@ mod matches;
 mod matching;
 mod nesting;
 mod rendering;
+#[cfg(test)]
+mod rule_texts;
 mod search;
 
 pub use edits::EditError;

@@ -18,16 +18,17 @@ use Rattle.ssr_syntax.specs.declared.fragments.Fragment.TheVariants as fragments
 use Rattle.ssr_syntax.specs.declared.syntax_error.SyntaxError.{SyntaxError}
 use Rattle.ssr_syntax.specs.Reading.{pieces, fragment_reading, FitsFragment}
 use Rattle.ssr_syntax.specs.Identifiers.{idents}
-use Rattle.ssr_syntax.proofs.Shared.{fragment_sound, fragment_idents, fragment_alone, fragment_unmixed, length-token, tiles_within, spelled-pieces}
+use Rattle.ssr_syntax.proofs.Shared.{fragment_sound, fragment_idents, fragment_alone, length-token, tiles_within, spelled-pieces}
 use Rattle.ide_ssr_rules.specs.Resolving.{name_at}
 use Rattle.ide_ssr_rules.specs.declared.elements.Element.{Element}
 use Rattle.ide_ssr_rules.specs.declared.elements.Element.TheVariants as e
 use Rattle.ide_ssr_rules.specs.Elements.{has, is_ident, lexed, names_of}
-use Rattle.ide_ssr_rules.specs.Patterns.{placeholders_among, HasEachOnce}
+use Rattle.ide_ssr_rules.specs.Patterns.{placeholders_among}
+use Rattle.ide_ssr_rules.specs.Private.Patterns.{IsReadOnce}
 use Rattle.ide_ssr_rules.specs.Rules.{expr_of}
 use Rattle.ide_ssr_rules.specs.StandIns.{stand_in_of, read_as, code_of, first_glued, first_name, glued_placeholder, is_stand_in, stand_in_text, spelled_stand_in}
 use Rattle.ide_ssr_rules.specs.Uses.{AreNew}
-use Rattle.ide_ssr_rules.proofs.Patterns.{over_idents, placeholders_named}
+use Rattle.ide_ssr_rules.proofs.Patterns.{over_idents}
 
 -- ** The tokens are those that are read for the elements.
 
@@ -205,15 +206,13 @@ side_fits names es tree is read =
     (read_ok (fragment_reading fragments.Expr (code_of es)) tree read)).fits
 
 pub pattern_each : (es : List Element) (others : List (List ℕ)) (tree : Syntax) → IsSide (names_of es ++ others) es
-    → expr_of (code_of es) ≡ Some tree → HasEachOnce (names_of es) tree
+    → expr_of (code_of es) ≡ Some tree → IsReadOnce (names_of es) tree
 pattern_each es others tree is read =
     let text = code_of es in
     let names = names_of es in
     let fits = side_fits (names ++ others) es tree is read in
-    let each : placeholders_among names (tokens_of tree) ≡ range_with_len 0 (length names) =
-    tree_among es names tree is.utf8 is.is_trimmed is.same fits ∙ each_from es [] names others refl is.new is.free in
     record {
-      each = each;
-      nodes = placeholders_named names tree (fragment_alone fragments.Expr text tree fits) (fragment_unmixed fragments.Expr text tree fits) ∙ each;
+      each = tree_among es names tree is.utf8 is.is_trimmed is.same fits ∙ each_from es [] names others refl is.new is.free;
+      alone = fragment_alone fragments.Expr text tree fits;
       different = is.new;
     }

@@ -1,35 +1,39 @@
--- The kinds of an accepted rule use its placeholders once, and so do those that are resolved.
-use Rattle.std.proofs.Common.{◌≡◌, ℕ, List, [], ◌∷◌, ◌++◌, All, Option, Some, None, Result, Ok, refl, sym, subst}
+-- The kinds of an accepted rule have its placeholders once as they are read, and those that are resolved use them once.
+use Rattle.std.proofs.Common.{◌≡◌, ℕ, Bool, true, false, List, [], ◌∷◌, ◌++◌, All, Option, Some, None, Result, Ok, Err, refl, sym, subst}
+use Rattle.std.specs.Prelude.{if◌then◌else◌}
 use Rattle.std.specs.Str.{IsUtf8, trim}
 use Rattle.std.proofs.lemmas.List.Elements.{All-nil, All-cons, All-head, All-tail}
 use Rattle.ssr_syntax_tree.specs.Syntax.{Syntax}
 use Rattle.ide_ssr_rules.specs.declared.elements.Element.{Element}
 use Rattle.ide_ssr_rules.specs.declared.kinds.ParsedRule.{ParsedRule}
 use Rattle.ide_ssr_rules.specs.Elements.{names_of}
+use Rattle.ide_ssr_rules.specs.Mixing.{mixes, check_unmixed}
 use Rattle.ide_ssr_rules.specs.Patterns.{HasEachOnce, HasEachAtMostOnce}
-use Rattle.ide_ssr_rules.specs.Refusals.{Refusal, ◌>>=◌, unless, glued, reserved, unresolved_path}
+use Rattle.ide_ssr_rules.specs.Private.Patterns.{IsReadOnce}
+use Rattle.ide_ssr_rules.specs.Refusals.{Refusal, ◌>>=◌, unless, glued, reserved, unresolved_path, token_tree}
 use Rattle.ide_ssr_rules.specs.Resolving.{ResolvedKind, unresolved, resolved_kind, resolved_kinds}
 use Rattle.ide_ssr_rules.specs.Rules.{kind_of, expr_of, kinds_of, some_kind, check_sides}
 use Rattle.ide_ssr_rules.specs.StandIns.{code_of, glued_placeholder, spelled_stand_in}
 use Rattle.ide_ssr_rules.specs.Uses.{AreNew}
 use Rattle.ide_ssr_rules.proofs.AtMostOnce.{template_at_most}
 use Rattle.ide_ssr_rules.proofs.EachOnce.{IsSide, pattern_each}
+use Rattle.ide_ssr_rules.proofs.Patterns.{each_once}
 use Rattle.ide_ssr_rules.proofs.Uses.{went}
 
 pub ok_same : {X : Type 0} (one other : X) → ◌≡◌ {A = Result X Refusal} (Ok one) (Ok other) → one ≡ other
 ok_same one other h = cc
 
--- the pattern has each of the names once, and the template at most once
-abbrev pub UsesOnce : List (List ℕ) → Syntax → Syntax → Type 0
-UsesOnce names pattern template = HasEachOnce names pattern × HasEachAtMostOnce names template
+-- the pattern is read with each of the names once, and the template has each at most once
+abbrev pub AreReadOnce : List (List ℕ) → ParsedRule → Type 0
+AreReadOnce names kind = IsReadOnce names kind.pattern × HasEachAtMostOnce names kind.template
 
 -- ** Accepted kinds.
 
-kind_of_once : (names : List (List ℕ)) (pattern template : Option Syntax) → ((tree : Syntax) → pattern ≡ Some tree → HasEachOnce names tree)
+kind_of_once : (names : List (List ℕ)) (pattern template : Option Syntax) → ((tree : Syntax) → pattern ≡ Some tree → IsReadOnce names tree)
     → ((tree : Syntax) → template ≡ Some tree → HasEachAtMostOnce names tree)
-    → All (λ kind. UsesOnce names kind.pattern kind.template) (kind_of pattern template)
+    → All (AreReadOnce names) (kind_of pattern template)
 kind_of_once names (Some pattern) (Some template) h g =
-    All-cons (λ kind. UsesOnce names kind.pattern kind.template) _ [] (h pattern refl, g template refl) (All-nil _)
+    All-cons (AreReadOnce names) _ [] (h pattern refl, g template refl) (All-nil _)
 kind_of_once names (Some pattern) None h g = All-nil _
 kind_of_once names None template h g = All-nil _
 
@@ -77,7 +81,7 @@ side_of names side read same free =
 
 pub kinds_once : (pattern template : List Element) (names : List (List ℕ)) (kinds : List ParsedRule) → IsRead pattern → IsRead template
     → check_sides pattern template ≡ Ok tt → some_kind (kinds_of (code_of pattern) (code_of template)) ≡ Ok kinds
-    → names ≡ names_of pattern → All (λ kind. UsesOnce names kind.pattern kind.template) kinds
+    → names ≡ names_of pattern → All (AreReadOnce names) kinds
 unfolding kinds_of
 kinds_once pattern template names kinds read_pattern read_template sides_checked read are =
     let c = checked pattern template sides_checked in
@@ -85,27 +89,51 @@ kinds_once pattern template names kinds read_pattern read_template sides_checked
     let all = names_of pattern ++ names_of template in
     let pattern_is = side_of all pattern read_pattern c.pattern_same c.pattern_free in
     let template_is = side_of all template read_template c.template_same c.template_free in
-    subst (λ ns. All (λ kind. UsesOnce ns kind.pattern kind.template) kinds) (sym are)
-    (subst (All (λ kind. UsesOnce own kind.pattern kind.template)) (some_kinds _ kinds read)
+    subst (λ ns. All (AreReadOnce ns) kinds) (sym are)
+    (subst (All (AreReadOnce own)) (some_kinds _ kinds read)
     (kind_of_once own (expr_of (code_of pattern)) (expr_of (code_of template))
     (λ tree is. pattern_each pattern (names_of template) tree pattern_is is) (λ tree is. template_at_most template own tree template_is is)))
 
 -- ** Resolved kinds.
 
-resolved_like : (names : List (List ℕ)) (kind : ParsedRule) (found : ResolvedKind) → resolved_kind names kind ≡ Ok found
-    → record { names = names; pattern = kind.pattern; template = kind.template } ≡ found
+-- what a resolved kind is: the kind that is resolved, whose pattern doesn't mix
+record IsResolved (names : List (List ℕ)) (kind : ParsedRule) (found : ResolvedKind) : Type 0 where
+  same : record { names = names; pattern = kind.pattern; template = kind.template } ≡ found
+  plain : mixes kind.pattern ≡ false
+
+unmixed : (tree : Syntax) → check_unmixed tree ≡ Ok tt → mixes tree ≡ false
+unfolding check_unmixed
+unmixed tree h = not_mixed (mixes tree) h where
+  not_mixed : (b : Bool) → ◌≡◌ {A = Result (Unit {0}) Refusal} (if b then Err token_tree else Ok tt) (Ok tt) → b ≡ false
+  not_mixed true h = cc
+  not_mixed false h = refl
+
+resolved_like : (names : List (List ℕ)) (kind : ParsedRule) (found : ResolvedKind) → resolved_kind names kind ≡ Ok found → IsResolved names kind found
 unfolding resolved_kind
 resolved_like names kind found h =
     let made : ResolvedKind = record { names = names; pattern = kind.pattern; template = kind.template } in
     let paths : Syntax → Result (Unit {0}) Refusal = λ tree. unless unresolved_path (unresolved names tree) in
-    let first = went (paths kind.template) (λ _. paths kind.pattern >>= (λ _. Ok made)) found h in
-    ok_same made found (went (paths kind.pattern) (λ _. Ok made) found first.next_is).next_is
+    let whole : Unit {0} → Result ResolvedKind Refusal = λ _. Ok made in
+    let unmixed_pattern : Unit {0} → Result ResolvedKind Refusal = λ _. check_unmixed kind.pattern >>= whole in
+    let unmixed_template : Unit {0} → Result ResolvedKind Refusal = λ _. check_unmixed kind.template >>= unmixed_pattern in
+    let first = went (paths kind.template) (λ _. paths kind.pattern >>= unmixed_template) found h in
+    let second = went (paths kind.pattern) unmixed_template found first.next_is in
+    let third = went (check_unmixed kind.template) unmixed_pattern found second.next_is in
+    let last = went (check_unmixed kind.pattern) whole found third.next_is in
+    record { same = ok_same made found last.next_is; plain = unmixed kind.pattern last.first_is }
 
+-- the pattern has each of its names once, and the template at most once
 abbrev pub IsUsedOnce : ResolvedKind → Type 0
-IsUsedOnce kind = UsesOnce kind.names kind.pattern kind.template
+IsUsedOnce kind = HasEachOnce kind.names kind.pattern × HasEachAtMostOnce kind.names kind.template
+
+used_once : (names : List (List ℕ)) (kind : ParsedRule) (found : ResolvedKind) → resolved_kind names kind ≡ Ok found → AreReadOnce names kind
+    → IsUsedOnce found
+used_once names kind found h read =
+    let is = resolved_like names kind found h in
+    subst IsUsedOnce is.same (each_once names kind.pattern read.0 is.plain, read.1)
 
 pub resolved_once : (names : List (List ℕ)) (kinds : List ParsedRule) (found : List ResolvedKind) → resolved_kinds names kinds ≡ Ok found
-    → All (λ kind. UsesOnce names kind.pattern kind.template) kinds → All IsUsedOnce found
+    → All (AreReadOnce names) kinds → All IsUsedOnce found
 resolved_once names [] found h all = subst (All IsUsedOnce) (ok_same [] found h) (All-nil IsUsedOnce)
 resolved_once names (kind ∷ kinds) found h all =
     let in_front : ResolvedKind → List ResolvedKind → Result (List ResolvedKind) Refusal = λ first rest. Ok (first ∷ rest) in
@@ -113,5 +141,5 @@ resolved_once names (kind ∷ kinds) found h all =
     let rest = went (resolved_kinds names kinds) (in_front first.found) found first.next_is in
     subst (All IsUsedOnce) (ok_same (first.found ∷ rest.found) found rest.next_is)
     (All-cons IsUsedOnce first.found rest.found
-    (subst IsUsedOnce (resolved_like names kind first.found first.first_is) (All-head (λ kind. UsesOnce names kind.pattern kind.template) kind kinds all))
-    (resolved_once names kinds rest.found rest.first_is (All-tail (λ kind. UsesOnce names kind.pattern kind.template) kind kinds all)))
+    (used_once names kind first.found first.first_is (All-head (AreReadOnce names) kind kinds all))
+    (resolved_once names kinds rest.found rest.first_is (All-tail (AreReadOnce names) kind kinds all)))

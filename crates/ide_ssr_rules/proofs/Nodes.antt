@@ -1,24 +1,15 @@
 -- The nodes of a tree one by one, and what stands in them alone.
-use Rattle.std.proofs.Common.{◌≡◌, ℕ, ◌+◌, ◌<◌, ◌≤◌, List, [], ◌∷◌, ◌++◌, map, length, take, drop, get_or, Option, Some, None, slice_get, unwrap_or, refl, ap, ◌∙◌, sym, arith, cond, true, false}
-use Rattle.std.proofs.lemmas.List.{drop_more, drop_all, take_all, length-map, get_or-map, map_more}
-use Rattle.std.proofs.lemmas.Option.{slice_get-get_or}
+use Rattle.std.proofs.Common.{◌≡◌, ℕ, ◌+◌, ◌<◌, ◌≤◌, List, [], ◌∷◌, ◌++◌, map, length, take, drop, get_or, Option, Some, None, slice_get, unwrap_or, refl, ap, ◌∙◌, sym, arith, cond, Bool, true, false, ◌||◌}
+use Rattle.std.proofs.lemmas.List.{drop_all, take_all, length-map, get_or-map, map_more}
 use Rattle.std.specs.Option.{option_map}
 use Rattle.std.specs.List.{find}
 use Rattle.ssr_syntax_tree.specs.Places.{Node, Part, node_part, token_part, parts_in, parts_of, elements_of, element_of, nodes_of, node_of, root_of, HasNode, text_of}
 use Rattle.ssr_syntax_tree.specs.Syntax.{Token, Forest, nothing, leaf, branch, Syntax, node_count}
-use Rattle.ssr_syntax_tree.proofs.Shared.{length-nodes_of}
+use Rattle.ssr_syntax_tree.proofs.Shared.{length-nodes_of, node_is, node_left}
 use Rattle.ide_ssr_rules.specs.Resolving.{only_token, placeholder_at, is_unresolved, unresolved}
 use Rattle.ide_ssr_rules.specs.Private.Placeholders.{placeholders}
 
 -- ** Nodes by their numbers.
-pub node_is : (s : Syntax) (n : ℕ) → HasNode s n → node_of s n ≡ get_or (nodes_of s) n (root_of s)
-unfolding node_of
-node_is s n has = ap (λ o. unwrap_or o (root_of s)) (slice_get-get_or (nodes_of s) n (root_of s) (omega (arith, has, length-nodes_of s)))
-
-pub node_left : (s : Syntax) (n : ℕ) → HasNode s n → drop n (nodes_of s) ≡ node_of s n ∷ drop (n + 1) (nodes_of s)
-node_left s n has =
-    drop_more (nodes_of s) n (root_of s) (omega (arith, has, length-nodes_of s)) ∙ ap (λ x. x ∷ drop (n + 1) (nodes_of s)) (sym (node_is s n has))
-
 pub table_next : (names : List (List ℕ)) (s : Syntax) (n : ℕ) (old new : List (Option ℕ)) (found : Option ℕ) → HasNode s n → found ≡ placeholder_at names (node_of s n)
     → old ≡ map (placeholder_at names) (take n (nodes_of s)) → new ≡ old ++ found ∷ [] → new ≡ map (placeholder_at names) (take (n + 1) (nodes_of s))
 table_next names s n old new found has is so_far pushed =

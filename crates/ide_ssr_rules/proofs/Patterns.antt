@@ -1,17 +1,20 @@
--- The placeholders of a tree in which identifiers stand alone are those of its tokens.
-use Rattle.std.proofs.Common.{◌≡◌, ℕ, Bool, true, false, cond, ◌||◌, List, [], ◌∷◌, ◌++◌, Option, Some, None, refl, sym, ◌∙◌, ap, subst, append-nil}
-use Rattle.std.specs.List.{cons_option}
+-- The placeholders of a tree in which identifiers stand alone, and nothing mixes them, are those of its tokens.
+use Rattle.std.proofs.Common.{◌≡◌, ℕ, ◌+◌, Bool, true, false, cond, ◌||◌, List, [], ◌∷◌, ◌++◌, Option, Some, None, refl, sym, ◌∙◌, ap, subst, append-nil}
+use Rattle.std.specs.List.{cons_option, list_any}
 use Rattle.std.specs.Option.{option_and_then}
 use Rattle.std.proofs.lemmas.Bool.{not-true, or_parts}
 use Rattle.std.proofs.lemmas.List.Elements.{filter_map-append}
+use Rattle.std.proofs.lemmas.List.Folds.{list_any-append}
 use Rattle.ssr_syntax_lex.specs.declared.kinds.SyntaxKind.{SyntaxKind}
 use Rattle.ssr_syntax_lex.specs.declared.kinds.SyntaxKind.TheVariants as k
-use Rattle.ssr_syntax_tree.specs.Syntax.{Token, Forest, nothing, leaf, branch, Syntax, tokens_in, tokens_of}
+use Rattle.ssr_syntax_tree.specs.Places.{Node, nodes_in, root_of}
+use Rattle.ssr_syntax_tree.specs.Syntax.{Token, Forest, nothing, leaf, branch, Syntax, tokens_in, tokens_of, token_count, node_count}
 use Rattle.ssr_syntax.specs.Identifiers.{is_ident as is_lone, is_mixing, idents, has_ident, stand_alone, IdentsAlone, IdentsAloneIn}
-use Rattle.ssr_syntax.proofs.Shared.{NoneMixes}
 use Rattle.ide_ssr_rules.specs.Elements.{is_ident}
 use Rattle.ide_ssr_rules.specs.Resolving.{only_token, name_at}
-use Rattle.ide_ssr_rules.specs.Patterns.{placeholders_among, or_below, placeholders_in, placeholders_of}
+use Rattle.ide_ssr_rules.specs.Mixing.{mixes}
+use Rattle.ide_ssr_rules.specs.Patterns.{placeholders_among, or_below, placeholders_in, placeholders_of, HasEachOnce}
+use Rattle.ide_ssr_rules.specs.Private.Patterns.{IsReadOnce}
 
 -- an identifier is of the kind that stands alone
 ident_lone : (kind : SyntaxKind) → is_lone kind ≡ false → is_ident kind ≡ false
@@ -78,21 +81,41 @@ below_named names (branch kind below next) inside alone =
 alone_in : (mixing : Bool) (below : Forest) → mixing ≡ false → (mixing || stand_alone below) ≡ true → stand_alone below ≡ true
 alone_in mixing below none h = subst (λ b. (b || stand_alone below) ≡ true) none h
 
-tokens_named : (names : List (List ℕ)) (forest : Forest) → IdentsAlone forest → NoneMixes forest → has_ident forest ≡ false
+abbrev is_mixed : Node → Bool
+is_mixed node = is_mixing node.kind
+
+-- no node among siblings or below them mixes, where they have these numbers
+abbrev NoneMixes : ℕ → ℕ → ℕ → Forest → Type 0
+NoneMixes parent m t forest = list_any is_mixed (nodes_in parent m t forest) ≡ false
+
+tokens_named : (names : List (List ℕ)) (parent m t : ℕ) (forest : Forest) → IdentsAlone forest → NoneMixes parent m t forest → has_ident forest ≡ false
     → placeholders_in names forest ≡ placeholders_among names (tokens_in forest)
-tokens_named names nothing alone plain none = refl
-tokens_named names (leaf token next) alone plain none =
+tokens_named names parent m t nothing alone plain none = refl
+tokens_named names parent m t (leaf token next) alone plain none =
     let n = or_parts (is_lone token.kind) (has_ident next) none in
-    tokens_named names next alone plain n.1
+    tokens_named names parent m (1 + t) next alone plain n.1
     ∙ ap (λ o. cons_option o (placeholders_among names (tokens_in next))) (sym (not_named names token n.0))
-tokens_named names (branch kind below next) alone plain none =
+tokens_named names parent m t (branch kind below next) alone plain none =
+    let inside = nodes_in m (1 + m) t below in
+    let behind = nodes_in parent (1 + m + node_count below) (t + token_count below) next in
+    let here = or_parts (is_mixing kind) (list_any is_mixed (inside ++ behind)) plain in
+    let rest = or_parts (list_any is_mixed inside) (list_any is_mixed behind) (sym (list_any-append is_mixed inside behind) ∙ here.1) in
     ap (λ ps. ps ++ placeholders_in names next)
-    (below_named names below (tokens_named names below alone.1 plain.1) (alone_in (is_mixing kind) below plain.0 alone.0))
-    ∙ ap (λ ps. placeholders_among names (tokens_in below) ++ ps) (tokens_named names next alone.2 plain.2 none)
+    (below_named names below (tokens_named names m (1 + m) t below alone.1 rest.0) (alone_in (is_mixing kind) below here.0 alone.0))
+    ∙ ap (λ ps. placeholders_among names (tokens_in below) ++ ps)
+    (tokens_named names parent (1 + m + node_count below) (t + token_count below) next alone.2 rest.1 none)
     ∙ sym (filter_map-append (name_at names) (tokens_in below) (tokens_in next))
 
-pub placeholders_named : (names : List (List ℕ)) (tree : Syntax) → IdentsAloneIn tree → NoneMixes (branch tree.kind tree.children nothing)
+placeholders_named : (names : List (List ℕ)) (tree : Syntax) → IdentsAloneIn tree → mixes tree ≡ false
     → placeholders_of names tree ≡ placeholders_among names (tokens_of tree)
+unfolding mixes
 placeholders_named names tree alone plain =
-    tokens_named names (branch tree.kind tree.children nothing) alone plain refl
-    ∙ ap (placeholders_among names) (append-nil (tokens_of tree))
+    let whole : Forest = branch tree.kind tree.children nothing in
+    let nodes = nodes_in 0 1 0 tree.children in
+    let none : NoneMixes 0 0 0 whole = ap (λ ns. list_any is_mixed (root_of tree ∷ ns)) (append-nil nodes) ∙ plain in
+    tokens_named names 0 0 0 whole alone none refl ∙ ap (placeholders_among names) (append-nil (tokens_of tree))
+
+-- so a pattern that is read has each placeholder as a node, if it doesn't mix
+pub each_once : (names : List (List ℕ)) (pattern : Syntax) → IsReadOnce names pattern → mixes pattern ≡ false → HasEachOnce names pattern
+each_once names pattern is plain =
+    record { each = is.each; nodes = placeholders_named names pattern is.alone plain ∙ is.each; different = is.different }

@@ -2,6 +2,7 @@ pub mod Refusals
 pub mod Sides
 pub mod Elements
 pub mod StandIns
+pub mod Mixing
 pub mod Resolving
 pub mod Rules
 pub mod Uses

@@ -2,3 +2,4 @@
 -- those has to believe them.
 pub mod Tokens
 pub mod Placeholders
+pub mod Patterns

@@ -15,6 +15,7 @@ pub data Refusal : Type 0 where
   no_kind : Refusal
   undefined : List (List ℕ) → Refusal
   unresolved_path : List ℕ → Refusal
+  token_tree : Refusal
 
 -- names as a user writes them: `$a, $b`
 abbrev pub mark : ℕ → List ℕ
@@ -40,6 +41,7 @@ words (reserved text) = codes "Name `" ++ (text ++ codes "` is reserved")
 words no_kind = codes "Not a valid Rust expression, type, item, path or pattern"
 words (undefined names) = codes "Replacement contains undefined placeholders: " ++ listed names
 words (unresolved_path path) = codes "Failed to resolve path `" ++ (path ++ codes "`")
+words token_tree = codes "Token trees are not matched yet"
 
 -- whether a message is that of a refusal
 abbrev pub Says : Refusal → List ℕ → Type 0

@@ -1,4 +1,4 @@
--- Where placeholders stand in a tree, and which paths resolve.
+-- Where placeholders stand in a tree, and which rules resolve.
 use Rattle.std.specs.Prelude.{ℕ, refl, Bool, true, false, ◌&&◌, List, [], ◌∷◌, Option, Some, None, Result, Ok, bytes_eq, if◌then◌else◌}
 use Rattle.std.specs.Coded.{Coded, code_by, coded×, coded_list, coded_ℕ}
 use Rattle.std.specs.List.{find, position_from}
@@ -12,10 +12,11 @@ use Rattle.ssr_syntax_tree.specs.Syntax.{Token, Forest, nothing, leaf, branch, S
 use Rattle.ssr_syntax_tree.specs.SyntaxCode.{syntax_code}
 use Rattle.ide_ssr_rules.specs.declared.kinds.ParsedRule.{ParsedRule}
 use Rattle.ide_ssr_rules.specs.Elements.{is_ident}
+use Rattle.ide_ssr_rules.specs.Mixing.{check_unmixed}
 use Rattle.ide_ssr_rules.specs.Refusals.{Refusal, ◌>>=◌, unless, unresolved_path}
 use Rattle.ide_ssr_rules.specs.StandIns.{stand_in_of}
 
--- one kind of a rule whose paths resolve
+-- one kind of a rule that resolves
 pub record ResolvedKind : Type 0 where
   pub names : List (List ℕ)
   pub pattern : Syntax
@@ -53,11 +54,13 @@ is_unresolved names node = is_path node.kind && is_none (placeholder_at names no
 unfoldable pub unresolved : List (List ℕ) → Syntax → Option (List ℕ)
 unresolved names tree = option_map text_of (find (is_unresolved names) (nodes_of tree))
 
--- a kind is resolved with its template first
+-- a kind is resolved with its paths first, and of those with its template's
 unfoldable pub resolved_kind : List (List ℕ) → ParsedRule → Result ResolvedKind Refusal
 resolved_kind names kind = do
   _ ← unless unresolved_path (unresolved names kind.template)
   _ ← unless unresolved_path (unresolved names kind.pattern)
+  _ ← check_unmixed kind.template
+  _ ← check_unmixed kind.pattern
   Ok (record { names = names; pattern = kind.pattern; template = kind.template })
 
 -- kinds are resolved in their order

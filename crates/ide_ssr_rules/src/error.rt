@@ -65,7 +65,7 @@ fn told(message: Result<String, AllocError>) -> SsrError
 
 // The refusals of a rule text, each in its words.
 impl SsrError {
-    ghost use Rattle.ide_ssr_rules.specs.Refusals.{Tells, no_delimiter, second_delimiter, lexer_fault, no_name, no_placeholder, repeated, glued, reserved, no_kind, undefined, unresolved_path};
+    ghost use Rattle.ide_ssr_rules.specs.Refusals.{Tells, no_delimiter, second_delimiter, lexer_fault, no_name, no_placeholder, repeated, glued, reserved, no_kind, undefined, unresolved_path, token_tree};
 
     pub(crate) fn no_delimiter(alloc: Global) -> SsrError
         ensures { Tells result no_delimiter }
@@ -137,6 +137,12 @@ impl SsrError {
         told(format!(in alloc; "Failed to resolve path `{path}`"))
     }
 
+    pub(crate) fn token_tree(alloc: Global) -> SsrError
+        ensures { Tells result token_tree }
+    {
+        told(String::from_str(alloc, "Token trees are not matched yet"))
+    }
+
     pub(crate) fn undefined(alloc: Global, names: &[Name<'_>]) -> SsrError
         ensures { Tells result (undefined names.now) }
     {
@@ -165,17 +171,4 @@ fn mark(place: usize) -> &'static str
     ensures { result.now ≡ mark place }
 {
     if place == 0 { "$" } else { ", $" }
-}
-
-#[cfg(test)]
-mod tests {
-    use super::*;
-    use std::test::Fail;
-
-    #[test]
-    fn want_of_memory_has_its_words(rt: HostRuntime) -> Result<(), Fail> {
-        let told = SsrError::Memory.to_string(rt.alloc())?;
-        assert_eq!(rt; told.as_str(), "out of memory");
-        Ok(())
-    }
 }

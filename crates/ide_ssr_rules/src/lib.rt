@@ -4,6 +4,7 @@
 mod elements;
 mod error;
 mod kinds;
+mod mixing;
 mod placeholders;
 mod resolving;
 mod rules;

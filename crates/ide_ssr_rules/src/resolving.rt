@@ -1,4 +1,4 @@
-//! Rules whose paths resolve, kind by kind.
+//! Rules that resolve, kind by kind.
 ghost use Rattle.std.specs.Prelude.{◌≡◌, ◌<◌, ◌^◌, length, map, string_bytes, All, IfOk};
 ghost use Rattle.std.specs.Option.{option_copied};
 ghost use Rattle.ssr_syntax_tree.specs.Places.{HasNode, HasToken, node_of, token_of};
@@ -8,6 +8,7 @@ ghost use Rattle.ide_ssr_rules.specs.Resolving.{name_at, placeholder_at, is_unre
 
 use crate::error::SsrError;
 use crate::kinds::ParsedRule;
+use crate::mixing::check_unmixed;
 use crate::placeholders::{name_at, placeholder_at, placeholders};
 use crate::rules::SsrRule;
 use ssr_syntax_lex::SyntaxKind;
@@ -81,8 +82,8 @@ impl ResolvedRule {
 }
 
 impl SsrRule {
-    /// The kinds of the rule in their order, or which of its paths doesn't resolve. The pattern of each kind has
-    /// each placeholder once, and the template at most once.
+    /// The kinds of the rule in their order, or why it doesn't resolve: which of its paths doesn't, or that it has
+    /// token trees. The pattern of each kind has each placeholder once, and the template at most once.
     pub fn resolve(self, alloc: Global) -> Result<Vec<ResolvedRule>, SsrError>
         ensures kinds { AnswersBy (λ v. v.items) result (resolved_kinds self.names self.kinds) }
         ensures each { IfOk result (λ v. All (λ kind. HasEachOnce kind.names kind.pattern) v.items) }
@@ -97,7 +98,7 @@ impl SsrRule {
     }
 }
 
-/// A kind of a rule whose paths all resolve.
+/// A kind of a rule that resolves.
 fn resolved_kind(
     alloc: Global,
     names: &[String],
@@ -109,6 +110,8 @@ fn resolved_kind(
     let ParsedRule { pattern, template } = kind;
     check_paths(alloc, names, &template)?;
     check_paths(alloc, names, &pattern)?;
+    check_unmixed(alloc, &template)?;
+    check_unmixed(alloc, &pattern)?;
     let in_pattern = placeholders(alloc, names, &pattern)?;
     let names = copied(alloc, names)?;
     Ok(ResolvedRule {

@@ -5,7 +5,7 @@ use Rattle.std.proofs.lemmas.Str.{IsUtf8-from_is_utf8, is_utf8-from_IsUtf8}
 use Rattle.ssr_syntax_tree.specs.Syntax.{Syntax}
 use Rattle.ssr_syntax.specs.declared.syntax_error.SyntaxError.{SyntaxError}
 use Rattle.ssr_syntax.specs.Reading.{file_reading}
-use Rattle.ide_ssr_rules.specs.Refusals.{Refusal, no_delimiter, second_delimiter, lexer_fault, no_name, no_placeholder, repeated, glued, reserved, no_kind, undefined, unresolved_path, Says, words}
+use Rattle.ide_ssr_rules.specs.Refusals.{Refusal, no_delimiter, second_delimiter, lexer_fault, no_name, no_placeholder, repeated, glued, reserved, no_kind, undefined, unresolved_path, token_tree, Says, words}
 use Rattle.ide_ssr_rules.specs.Resolving.{ResolvedKind}
 use Rattle.ide_ssr.specs.Edits.{rewritten_file}
 use Rattle.ssr.specs.Output.{Output, IsOutput, no_text, no_file, no_rules, rewritten, rule_refused, written, input_refused, words_of, rules_reading}
@@ -23,6 +23,7 @@ said (reserved x) = refl
 said no_kind = refl
 said (undefined x) = refl
 said (unresolved_path x) = refl
+said token_tree = refl
 
 module _ (rules : List (List ℕ)) (bytes : List ℕ) where
   by_rules : (code : Syntax) → IsUtf8 bytes → file_reading bytes ≡ Ok code
@@ -53,6 +54,7 @@ module _ (rules : List (List ℕ)) (bytes : List ℕ) where
   same_words no_kind m n other a b = a ∙ sym b
   same_words (undefined x) m n other a b = a ∙ sym b
   same_words (unresolved_path x) m n other a b = a ∙ sym b
+  same_words token_tree m n other a b = a ∙ sym b
 
   pub output_unique : (a b : Output) → (rules_reading rules ≡ Err lexer_fault → ⊥) → IsOutput rules bytes a → IsOutput rules bytes b → a ≡ b
   output_unique a b sure (no_text _) (no_text _) = refl

@@ -152,6 +152,46 @@ fn rewrites_files(rt: HostRuntime) -> Result<(), Fail> {
 }
 
 #[test]
+fn rewrites_items_and_statements(rt: HostRuntime) -> Result<(), Fail> {
+    for (rule, file, text) in [
+        (
+            SWAP,
+            "use a::{b, c as _};\n#[x(1 + 2)]\npub struct S<T: A + 'static>(T);\n",
+            "use a::{b, c as _};\n#[x(1 + 2)]\npub struct S<T: A + 'static>(T);\n",
+        ),
+        (
+            SWAP,
+            "impl S<u8> {fn f(&self, n: u32) -> u32 {let k = n + 1; m!(1 + 2); k}}",
+            "impl S<u8> {fn f(&self, n: u32) -> u32 {let k = 1 + n; m!(1 + 2); k}}",
+        ),
+        (
+            SWAP,
+            "fn f() {if let Some(x) = g(1 + 2) {return x + 3;} else {loop {}}}",
+            "fn f() {if let Some(x) = g(2 + 1) {return 3 + x;} else {loop {}}}",
+        ),
+        (
+            "match $a {true => $b, false => $c} ==>> if $a {$b} else {$c}",
+            "fn f() {match x {true => 1, false => {2}}}",
+            "fn f() {if x {1} else {{2}}}",
+        ),
+        (
+            "$a.unwrap() ==>> $a?",
+            "fn f() {let y = |z| -x.unwrap()..z;}",
+            "fn f() {let y = |z| -x?..z;}",
+        ),
+        (
+            "$a as u8 ==>> $a",
+            "fn f() {x}",
+            "error: Parse error: Failed to resolve path `u8`\n",
+        ),
+    ] {
+        let (new, _) = output_of(&rt, &[rule], file.as_bytes())?;
+        assert_eq!(rt; new.as_str(), text, "{rule} on {file}");
+    }
+    Ok(())
+}
+
+#[test]
 fn rewrites_literals(rt: HostRuntime) -> Result<(), Fail> {
     for (rule, file, text) in [
         (SWAP, "fn f() {\"é\" + x}", "fn f() {x + \"é\"}"),
@@ -340,6 +380,8 @@ fn refuses_rules(rt: HostRuntime) -> Result<(), Fail> {
         ),
         ("foo ==>> bar", "Failed to resolve path `bar`"),
         ("foo ==>> 1", "Failed to resolve path `foo`"),
+        ("m!($a) ==>> $a", "Failed to resolve path `m`"),
+        ("$m!(1) ==>> 1", "Token trees are not matched yet"),
     ] {
         let line = format!(in rt.alloc(); "error: Parse error: {message}\n")?;
         // alone, or the first refusal of several rules

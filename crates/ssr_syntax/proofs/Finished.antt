@@ -1,17 +1,17 @@
 -- What the parser is left with tells whether there is a tree.
 use Rattle.std.proofs.Common.{◌≡◌, ◌≢◌, List, [], ◌∷◌, length, Result, Ok, Err, refl, sym, ap, ◌∙◌}
-use Rattle.ssr_syntax.specs.declared.goals.Goal.{Goal}
+use Rattle.ssr_syntax_types.specs.declared.goals.Goal.{Goal}
 use Rattle.ssr_syntax_forms.specs.declared.fault.Fault.{Fault}
 use Rattle.ssr_syntax_forms.specs.declared.fault.Fault.TheVariants as faults
 use Rattle.ssr_syntax_forms.specs.declared.rows.Output.{Output}
 use Rattle.ssr_syntax_forms.specs.declared.tokens.Token.{Token}
 use Rattle.ssr_syntax_forms.specs.Trees.{Forest}
 use Rattle.ssr_syntax_forms.specs.Parser.{written_of, written_in}
-use Rattle.ssr_syntax_forms.specs.Private.Written.{writes}
+use Rattle.ssr_syntax_forms.specs.Written.{writes}
 use Rattle.ssr_syntax_forms.specs.Forms.{so_far, ◌>>=◌}
 use Rattle.ssr_syntax_forms.specs.Parser.{State, state_of, Finishes}
 use Rattle.ssr_syntax_forms.specs.Levels.{read_goal}
-use Rattle.ssr_syntax_forms.specs.Private.Runs.{run_goal}
+use Rattle.ssr_syntax_forms.specs.Runs.{run_goal}
 use Rattle.ssr_syntax.specs.Grammar.{grammar}
 use Rattle.ssr_syntax.specs.Reading.{most_levels, whole, reading}
 use Rattle.ssr_syntax.specs.Private.Reading.{IsReading}

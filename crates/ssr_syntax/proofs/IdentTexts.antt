@@ -10,7 +10,7 @@ use Rattle.ssr_syntax_lex.specs.Tokens.{tokens, token_text}
 use Rattle.ssr_syntax_tree.specs.Syntax as plain
 use Rattle.ssr_syntax_tree.specs.Syntax.{Syntax, tokens_of}
 use Rattle.ssr_syntax.specs.declared.fragments.Fragment.{Fragment}
-use Rattle.ssr_syntax.specs.declared.goals.Goal.{Goal}
+use Rattle.ssr_syntax_types.specs.declared.goals.Goal.{Goal}
 use Rattle.ssr_syntax_forms.specs.Trees as solid
 use Rattle.ssr_syntax.specs.Grammar.{grammar}
 use Rattle.ssr_syntax.specs.Solid.{solid_token, solid_tokens}
@@ -22,8 +22,7 @@ use Rattle.ssr_syntax.proofs.Solidity.{AreTaken, goals_taken, AllSolid, leaves_s
 use Rattle.ssr_syntax.proofs.SolidLaws.{all_solid}
 use Rattle.ssr_syntax.proofs.Laid.{by_kind, upto-past, trivia-behind}
 use Rattle.ssr_syntax.proofs.Trimmed.{solid_sides}
-use Rattle.ssr_syntax.proofs.Checks.{is_unmixed, goal_unmixed, goal_clean}
-use Rattle.ssr_syntax_forms.proofs.Shared.{IsCore, goals_core}
+use Rattle.ssr_syntax.proofs.Checks.{goal_clean}
 use Rattle.ssr_syntax.proofs.Identifiers.{shows, lone, AllLone, goals_alone}
 use Rattle.ssr_syntax.proofs.IdentTokens.{no_ident, whole_idents}
 
@@ -109,29 +108,6 @@ alone-lossless (solid.tree kind kids x) ts h =
     alone-before (gap n ts) (plain.branch kind (lossless kids (behind_gap n ts)) (lossless x (past n ts)))
     (alone_in (is_mixing kind) kids ts h.0, alone-lossless kids (behind_gap n ts) h.1, alone-lossless x (past n ts) h.2)
 
--- ** No node mixes, as long as no form makes one that does.
-
--- no node among the siblings or below them mixes identifiers with other tokens
-abbrev pub NoneMixes : plain.Forest → Type 0
-NoneMixes plain.nothing = ⊤
-NoneMixes (plain.leaf t x) = NoneMixes x
-NoneMixes (plain.branch kind below x) = (is_mixing kind ≡ false) × NoneMixes below × NoneMixes x
-
-none-before : (ts : List plain.Token) (x : plain.Forest) → NoneMixes x → NoneMixes (before ts x)
-none-before [] x h = h
-none-before (t ∷ ts) x h = none-before ts x h
-
-none-lossless : (f : solid.Forest) (ts : List plain.Token) → IsCore is_unmixed f → NoneMixes (lossless f ts)
-none-lossless solid.done ts h = tt
-none-lossless (solid.leaf kind us x) ts h =
-    let n = length us in
-    let token : plain.Token = record { kind = kind; text = plain.spelled (upto n (behind_gap n ts)) } in
-    none-before (gap n ts) (plain.leaf token (lossless x (past n ts))) (none-lossless x (past n ts) h)
-none-lossless (solid.tree kind kids x) ts h =
-    let n = length (solid.spell kids) in
-    none-before (gap n ts) (plain.branch kind (lossless kids (behind_gap n ts)) (lossless x (past n ts)))
-    (not-true (is_mixing kind) h.0, none-lossless kids (behind_gap n ts) h.1, none-lossless x (past n ts) h.2)
-
 -- ** The root of a fragment: nothing stands around its solid tokens.
 
 past_trivia : (n : ℕ) (p : plain.Token) (ps : List plain.Token) → is_trivia p.kind ≡ true → AreTrivia (past n ps) → AreTrivia (past n (p ∷ ps))
@@ -170,10 +146,9 @@ record WholeTree (text : List ℕ) (raw : List RawToken) (kind : SyntaxKind) (ki
   taken : AreTaken kids
   children_alone : (is_mixing kind || lone kids) ≡ true
   all_alone : AllLone kids
-  unmixed : (is_unmixed kind ≡ true) × IsCore is_unmixed kids
 
 whole_of : (goal : Goal) (text : List ℕ) (raw : List RawToken) (s : Syntax) (fits : FitsTokens goal text raw s) → WholeTree text raw fits.0 fits.1
-whole_of goal text raw s (kind, kids, ruled, is) =
+whole_of goal text raw s (kind, kids, ruled, is, named) =
     let us = solid_tokens raw in
     let z : solid.Forest = solid.tree kind kids solid.done in
     let level = at_some_level grammar goal z us [] ruled in
@@ -181,13 +156,11 @@ whole_of goal text raw s (kind, kids, ruled, is) =
     let fits = level.1 in
     let kids_spell : solid.spell kids ≡ us = sym (append-nil (solid.spell kids)) ∙ goals_spell grammar n goal z us [] fits in
     let alone = goals_alone goal_clean n goal z us [] fits in
-    let unmixed = goals_core is_unmixed grammar goal_unmixed n goal z us [] fits in
     record {
       spells = kids_spell;
       taken = (goals_taken grammar n goal z us [] fits).0;
       children_alone = alone.1.0;
       all_alone = alone.1.1;
-      unmixed = (unmixed.0, unmixed.1);
     }
 
 -- the children of the root are those of its solid tokens
@@ -214,16 +187,6 @@ fragment_alone fragment text s (raw, e, outside, fits) =
     subst IdentsAloneIn (sym fits.3)
     (subst (λ children. ((is_mixing fits.0 || stand_alone children) ≡ true) × IdentsAlone children × ⊤) (sym (children_are inner raw fits.0 fits.1 whole outside))
     (alone_in (is_mixing fits.0) fits.1 ts whole.children_alone, alone-lossless fits.1 behind_front whole.all_alone, tt))
-
-pub fragment_unmixed : (fragment : Fragment) (text : List ℕ) (s : Syntax) → FitsFragment fragment text s
-    → NoneMixes (plain.branch s.kind s.children plain.nothing)
-fragment_unmixed fragment text s (raw, e, outside, fits) =
-    let inner : List ℕ = trimmed text in
-    let whole = whole_of (goal_of fragment) inner raw s fits in
-    let behind_front = behind_gap (length (solid.spell fits.1)) (pieces inner raw) in
-    subst (λ (v : Syntax). NoneMixes (plain.branch v.kind v.children plain.nothing)) (sym fits.3)
-    (subst (λ children. (is_mixing fits.0 ≡ false) × NoneMixes children × ⊤) (sym (children_are inner raw fits.0 fits.1 whole outside))
-    (not-true (is_mixing fits.0) whole.unmixed.0, none-lossless fits.1 behind_front whole.unmixed.1, tt))
 
 -- the identifiers of a fragment's tree
 pub fragment_idents : (fragment : Fragment) (text : List ℕ) (s : Syntax) → FitsFragment fragment text s

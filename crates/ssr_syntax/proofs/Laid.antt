@@ -10,7 +10,7 @@ use Rattle.ssr_syntax_tree.specs.Places.{nodes_in}
 use Rattle.ssr_syntax_tree.specs.Parts.{node_row}
 use Rattle.ssr_syntax_forms.specs.declared.rows.Taken.{Taken}
 use Rattle.ssr_syntax_forms.specs.Trees as solid
-use Rattle.ssr_syntax_forms.specs.Private.Written as written
+use Rattle.ssr_syntax_forms.specs.Written as written
 use Rattle.ssr_syntax.specs.Lossless.{trivia, behind_trivia, gap, behind_gap, upto, past, before, behind, lossless}
 use Rattle.ssr_syntax.specs.Private.Preorder.{node_rows, first_at, past_at}
 

@@ -1,5 +1,4 @@
 pub mod Shared
-mod Ranks
 mod Finished
 mod Checks
 mod CoreTrees

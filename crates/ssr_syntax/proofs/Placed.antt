@@ -10,7 +10,7 @@ use Rattle.ssr_syntax_tree.specs.declared.rows.NodeRow.{NodeRow}
 use Rattle.ssr_syntax.specs.declared.preorder.Open.{Open}
 use Rattle.ssr_syntax.specs.declared.syntax_error.SyntaxError.{SyntaxError}
 use Rattle.ssr_syntax_forms.specs.Trees.{Forest, done, leaf, tree, spell, nodes, height}
-use Rattle.ssr_syntax_forms.specs.Private.Written.{rows}
+use Rattle.ssr_syntax_forms.specs.Written.{rows}
 use Rattle.ssr_syntax.specs.Private.Preorder.{node_rows, first_at, past_at, tree_rows, IsDepthFault, OkUnlessDeep}
 use Rattle.ssr_syntax.specs.Reading.{most_deep}
 use Rattle.ssr_syntax.specs.Private.OpenNodes.{still_open, closed, number_of, first_of, opened, from_right, is_deeper, IsClosed, IsFromRight}
@@ -120,8 +120,7 @@ opened_is at total kind kids x i left before place above h e =
     let e1 : total - (length (spell kids) + (length (spell x) + left)) ≡ i = omega arith in
     let e2 : (length (spell kids) + (length (spell x) + left)) - (length (spell x) + left) ≡ length (spell kids) = omega arith in
     let e3 : place - nodes kids ≡ before = omega arith in
-    let e4 : place - before ≡ nodes kids = omega arith in
-    rw (e1, e2, e3, e4)
+    rw (e1, e2, e3)
 
 -- what is known then
 record TreeFacts (at : ℕ → ℕ) (total : ℕ) (kind : SyntaxKind) (kids x : Forest) (i left : ℕ) (above : List Open) (more : List NodeRow) : Type 0 where

@@ -3,6 +3,6 @@
 -- a fragment that is read has a tree that fits
 pub use Rattle.ssr_syntax.proofs.TextLaws.{fragment_sound}
 -- identifiers in the tree of a fragment
-pub use Rattle.ssr_syntax.proofs.IdentTexts.{fragment_idents, fragment_alone, NoneMixes, fragment_unmixed}
+pub use Rattle.ssr_syntax.proofs.IdentTexts.{fragment_idents, fragment_alone}
 -- the tokens of a text, one behind another
 pub use Rattle.ssr_syntax.proofs.Tiles.{length-token, tiled_texts, tiles_within, spelled-pieces}

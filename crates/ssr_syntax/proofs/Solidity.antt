@@ -4,9 +4,9 @@ use Rattle.std.specs.Prelude.{⊤}
 use Rattle.ssr_syntax_lex.specs.declared.kinds.SyntaxKind.{SyntaxKind}
 use Rattle.ssr_syntax_lex.specs.Kinds.{is_trivia}
 use Rattle.ssr_syntax_forms.specs.declared.tokens.Token.{Token}
-use Rattle.ssr_syntax.specs.declared.goals.Goal.{Goal}
+use Rattle.ssr_syntax_types.specs.declared.goals.Goal.{Goal}
 use Rattle.ssr_syntax_forms.specs.Trees.{Forest, done, leaf, tree, join, spell}
-use Rattle.ssr_syntax_forms.specs.Private.Written.{leaves}
+use Rattle.ssr_syntax_forms.specs.Written.{leaves}
 use Rattle.ssr_syntax_forms.specs.Forms.{Productions, more, taken_as}
 use Rattle.ssr_syntax_forms.proofs.Shared.{FitsGoal, IsKept, any_token, any_node, anything, walk_goals}
 use Rattle.ssr_syntax.proofs.Laid.{AreSolid}

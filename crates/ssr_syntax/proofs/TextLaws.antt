@@ -10,20 +10,21 @@ use Rattle.ssr_syntax_lex.specs.Tokens.{tokens, spell as spelled_by}
 use Rattle.ssr_syntax_lex.proofs.Shared.{tokens_tile, tiles_spell}
 use Rattle.ssr_syntax_tree.specs.Syntax.{Syntax, nothing, branch, depth_of, source_of}
 use Rattle.ssr_syntax.specs.declared.fragments.Fragment.{Fragment}
-use Rattle.ssr_syntax.specs.declared.goals.Goal.{Goal}
-use Rattle.ssr_syntax.specs.declared.goals.Goal.TheVariants as goals
+use Rattle.ssr_syntax_types.specs.declared.goals.Goal.{Goal}
+use Rattle.ssr_syntax_types.specs.declared.goals.Goal.TheVariants as goals
 use Rattle.ssr_syntax_forms.specs.declared.fault.Fault.{Fault}
 use Rattle.ssr_syntax_forms.specs.declared.fault.Fault.TheVariants as faults
 use Rattle.ssr_syntax.specs.declared.syntax_error.SyntaxError.{SyntaxError}
 use Rattle.ssr_syntax.specs.declared.syntax_error.SyntaxError.TheVariants as errors
 use Rattle.ssr_syntax_forms.specs.Trees.{Forest, done, tree, height}
-use Rattle.ssr_syntax_forms.specs.Private.Written.{leaves}
+use Rattle.ssr_syntax_forms.specs.Written.{leaves}
 use Rattle.ssr_syntax_forms.proofs.Shared.{IsShallow}
 use Rattle.ssr_syntax.specs.Lossless.{whole_tree, IsTrimmed}
 use Rattle.ssr_syntax.specs.Reading.{most_deep}
 use Rattle.ssr_syntax.specs.CoreTrees.{IsCore}
+use Rattle.ssr_syntax.specs.MacroRules.{misnames_macros}
 use Rattle.ssr_syntax.specs.Solid.{solid_tokens}
-use Rattle.ssr_syntax.specs.Reading.{reading, most_levels, pieces, one_tree, tree_reading, lexed_reading, short_reading, file_reading, fragment_reading, trimmed, goal_of, begins_solid, error_of, Answers, AnswersTrimmed, FitsTokens, FitsFile, FitsFragment, IsTreeOfFile, IsTreeOfFragment, IsThatOrTooDeep, Refuses}
+use Rattle.ssr_syntax.specs.Reading.{reading, most_levels, pieces, one_tree, tree_reading, unless_misnamed, lexed_reading, short_reading, file_reading, fragment_reading, trimmed, goal_of, begins_solid, error_of, Answers, AnswersTrimmed, FitsTokens, FitsFile, FitsFragment, IsTreeOfFile, IsTreeOfFragment, IsThatOrTooDeep, Refuses}
 use Rattle.ssr_syntax.specs.Private.Reading.{IsLexFault}
 use Rattle.ssr_syntax.proofs.Laid.{AreSolid}
 use Rattle.ssr_syntax.proofs.Trimmed.{trimmed-whole, trimmed-root}
@@ -41,10 +42,18 @@ ok_of : {r : Result Forest Fault} (goal : Goal) (text : List ℕ) (raw : List Ra
 ok_of {r = Ok z} goal text raw s e h = (z, e)
 ok_of {r = Err x} goal text raw s e h = cc
 
+named_tree : (w s : Syntax) (b : Bool) → misnames_macros w ≡ b
+    → ◌≡◌ {A = Result Syntax SyntaxError} (if b then Err errors.NoTree else Ok w) (Ok s) → (w ≡ s) × (misnames_macros w ≡ false)
+named_tree w s true e h = cc
+named_tree w s false e h = (cc, e)
+
 ok_tree : (w s : Syntax) (b : Bool) → nat_lt most_deep (depth_of w) ≡ b
-    → ◌≡◌ {A = Result Syntax SyntaxError} (if b then Err errors.TooDeep else Ok w) (Ok s) → (w ≡ s) × (depth_of w ≤ most_deep)
+    → ◌≡◌ {A = Result Syntax SyntaxError} (if b then Err errors.TooDeep else unless_misnamed w) (Ok s)
+    → (w ≡ s) × (misnames_macros w ≡ false) × (depth_of w ≤ most_deep)
 ok_tree w s true e h = cc
-ok_tree w s false e h = (cc, ltb-false most_deep (depth_of w) e)
+ok_tree w s false e h =
+    let named = named_tree w s (misnames_macros w) refl h in
+    (named.0, named.1, ltb-false most_deep (depth_of w) e)
 
 abbrev IsWhole : List ℕ → List RawToken → Syntax → Type 0
 IsWhole text raw s =
@@ -64,9 +73,10 @@ tokens_sound goal text raw s spells e =
         goals_by_rules grammar most_levels goal (tree r.0 r.1 done) (solid_tokens raw) []
             (reading_fits goal (solid_tokens raw) (tree r.0 r.1 done) r.3.reads),
         sym t.0,
+        ap misnames_macros (sym t.0) ∙ t.1,
       ),
       ap source_of (sym t.0) ∙ whole-source text raw r.0 r.1 r.3.are_solid spells,
-      subst (λ v. depth_of v ≤ most_deep) t.0 t.1,
+      subst (λ v. depth_of v ≤ most_deep) t.0 t.2,
       (r.0, r.1, r.3.are_solid, t.0),
     )
 
@@ -77,10 +87,11 @@ abbrev Told : Result Syntax SyntaxError → Syntax → Type 0
 Told read s = (read ≡ Ok s) ⊎ ((read ≡ Err errors.TooDeep) × (most_deep < depth_of s))
 
 told_whole : (goal : Goal) (text : List ℕ) (raw : List RawToken) (kind : SyntaxKind) (kids : Forest) (b : Bool) → ReadsAs goal text raw kind kids
-    → nat_lt most_deep (height kids) ≡ b → Told (tree_reading goal text raw) (whole_tree kind kids (pieces text raw))
-told_whole goal text raw kind kids true r e =
+    → misnames_macros (whole_tree kind kids (pieces text raw)) ≡ false → nat_lt most_deep (height kids) ≡ b
+    → Told (tree_reading goal text raw) (whole_tree kind kids (pieces text raw))
+told_whole goal text raw kind kids true r named e =
     inr (read_too_deep goal text raw kind kids r e, omega (arith, ltb-true most_deep (height kids) e, whole-depth kind kids (pieces text raw)))
-told_whole goal text raw kind kids false r e = inl (read_ok goal text raw kind kids r e)
+told_whole goal text raw kind kids false r named e = inl (read_ok goal text raw kind kids r e named)
 
 deeper_than : (kind : SyntaxKind) (kids : Forest) (b : Bool) → nat_lt most_deep (height kids) ≡ b
     → (IsShallow (suc most_deep) (tree kind kids done) → ⊥) → most_deep < height kids
@@ -89,10 +100,11 @@ deeper_than kind kids false e h = absurd (h (shallow_of kids most_deep (ltb-fals
 
 pub tokens_complete : (goal : Goal) (text : List ℕ) (raw : List RawToken) (s : Syntax) → IsCore s → FitsTokens goal text raw s
     → Told (tree_reading goal text raw) s
-tokens_complete goal text raw s core (kind, kids, fits, is) =
+tokens_complete goal text raw s core (kind, kids, fits, is, named) =
     subst (Told (tree_reading goal text raw)) (sym is)
     (elim (reading_complete goal (solid_tokens raw) (tree kind kids done) (core_whole kind kids (pieces text raw) (subst IsCore is core)) fits) [
-      | inl e ↦ told_whole goal text raw kind kids (nat_lt most_deep (height kids)) (read_given goal text raw kind kids e) refl
+      | inl e ↦ told_whole goal text raw kind kids (nat_lt most_deep (height kids)) (read_given goal text raw kind kids e)
+          (ap misnames_macros (sym is) ∙ named) refl
       | inr e ↦ inr (
         reading_is goal text raw (Err faults.TooDeep) e.0,
         omega (arith, deeper_than kind kids (nat_lt most_deep (height kids)) refl e.1, whole-depth kind kids (pieces text raw)),
@@ -315,7 +327,7 @@ node_parts P kind other kids below e h =
 
 one_tokens : (goal : Goal) (text : List ℕ) (raw : List RawToken) (a b : Syntax) → IsCore a → IsCore b
     → FitsTokens goal text raw a → FitsTokens goal text raw b → a ≡ b
-one_tokens goal text raw a b core_a core_b (kind, kids, f, e) (other, below, g, d) =
+one_tokens goal text raw a b core_a core_b (kind, kids, f, e, named) (other, below, g, d, other_named) =
     let ts = pieces text raw in
     let same = one_fits goal (solid_tokens raw) (tree kind kids done) (tree other below done)
     (core_whole kind kids ts (subst IsCore e core_a)) (core_whole other below ts (subst IsCore d core_b)) f g in

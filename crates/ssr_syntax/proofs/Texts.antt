@@ -18,14 +18,14 @@ use Rattle.ssr_syntax_tree.specs.declared.rows.NodeRow.{NodeRow}
 use Rattle.ssr_syntax_lex.specs.declared.token_rows.TokenRow.{TokenRow}
 use Rattle.ssr_syntax_forms.specs.declared.tokens.Token.{Token}
 use Rattle.ssr_syntax_forms.specs.declared.rows.Taken.{Taken}
-use Rattle.ssr_syntax.specs.declared.goals.Goal.{Goal}
+use Rattle.ssr_syntax_types.specs.declared.goals.Goal.{Goal}
 use Rattle.ssr_syntax_forms.specs.declared.fault.Fault.{Fault}
 use Rattle.ssr_syntax_forms.specs.declared.fault.Fault.TheVariants as faults
 use Rattle.ssr_syntax.specs.declared.syntax_error.SyntaxError.{SyntaxError}
 use Rattle.ssr_syntax.specs.declared.syntax_error.SyntaxError.TheVariants as errors
 use Rattle.ssr_syntax_forms.specs.Trees.{Forest, nodes, height}
-use Rattle.ssr_syntax_forms.specs.Private.Written.{leaves}
-use Rattle.ssr_syntax_forms.specs.Private.Written as written
+use Rattle.ssr_syntax_forms.specs.Written.{leaves}
+use Rattle.ssr_syntax_forms.specs.Written as written
 use Rattle.ssr_syntax_forms.specs.Parser.{written_of}
 use Rattle.ssr_syntax_forms.specs.Trees as solid
 use Rattle.ssr_syntax.specs.Grammar.{grammar}
@@ -35,7 +35,8 @@ use Rattle.ssr_syntax.specs.Private.Preorder.{tree_rows, node_rows, first_at, Is
 use Rattle.ssr_syntax.specs.Reading.{most_deep}
 use Rattle.ssr_syntax.specs.Solid.{solid_tokens}
 use Rattle.ssr_syntax.specs.Private.TreeTokens.{taken_rows, taken_sizes, ends}
-use Rattle.ssr_syntax.specs.Reading.{pieces, reading, most_levels, tree_reading, one_tree, unless_too_deep, error_of, Refuses, Answers}
+use Rattle.ssr_syntax.specs.Reading.{pieces, reading, most_levels, tree_reading, one_tree, unless_misnamed, unless_too_deep, error_of, Refuses, Answers}
+use Rattle.ssr_syntax.specs.MacroRules.{misnames_macros}
 use Rattle.ssr_syntax.proofs.Whole.{reading_fits, reading_spells}
 use Rattle.ssr_syntax_forms.proofs.Shared.{goals_lone, length-rows}
 use Rattle.ssr_syntax.proofs.Laid.{AreSolid, total, total-leaves, token_of, laid, all_laid, spelled-laid, Counts, counts_same, upto-zero, past-zero, upto-past, upto-behind_gap, tokens-behind, tokens-lossless, token_count-tokens, count-behind, count-lossless, nodes-behind, rows-lossless, height-behind, height-lossless}
@@ -216,18 +217,32 @@ pub read_is : (goal : Goal) (text : List ℕ) (raw : List RawToken) (kind : Synt
     → tree_reading goal text raw ≡ unless_too_deep (whole_tree kind kids (pieces text raw))
 read_is goal text raw kind kids r = reading_is goal text raw (Ok (solid.tree kind kids solid.done)) r.reads
 
-pub read_ok : (goal : Goal) (text : List ℕ) (raw : List RawToken) (kind : SyntaxKind) (kids : Forest) → ReadsAs goal text raw kind kids
-    → nat_lt most_deep (height kids) ≡ false → tree_reading goal text raw ≡ Ok (whole_tree kind kids (pieces text raw))
-read_ok goal text raw kind kids r shallow =
+pub read_shallow : (goal : Goal) (text : List ℕ) (raw : List RawToken) (kind : SyntaxKind) (kids : Forest) → ReadsAs goal text raw kind kids
+    → nat_lt most_deep (height kids) ≡ false → tree_reading goal text raw ≡ unless_misnamed (whole_tree kind kids (pieces text raw))
+read_shallow goal text raw kind kids r shallow =
     read_is goal text raw kind kids r
-    ∙ ap (λ b. if b then Err errors.TooDeep else Ok (whole_tree kind kids (pieces text raw)))
+    ∙ ap (λ b. if b then Err errors.TooDeep else unless_misnamed (whole_tree kind kids (pieces text raw)))
     (ap (nat_lt most_deep) (whole-depth kind kids (pieces text raw)) ∙ shallow)
+
+pub read_ok : (goal : Goal) (text : List ℕ) (raw : List RawToken) (kind : SyntaxKind) (kids : Forest) → ReadsAs goal text raw kind kids
+    → nat_lt most_deep (height kids) ≡ false → misnames_macros (whole_tree kind kids (pieces text raw)) ≡ false
+    → tree_reading goal text raw ≡ Ok (whole_tree kind kids (pieces text raw))
+read_ok goal text raw kind kids r shallow named =
+    read_shallow goal text raw kind kids r shallow
+    ∙ ap (λ b. if b then Err errors.NoTree else Ok (whole_tree kind kids (pieces text raw))) named
+
+pub read_misnamed : (goal : Goal) (text : List ℕ) (raw : List RawToken) (kind : SyntaxKind) (kids : Forest) → ReadsAs goal text raw kind kids
+    → nat_lt most_deep (height kids) ≡ false → misnames_macros (whole_tree kind kids (pieces text raw)) ≡ true
+    → tree_reading goal text raw ≡ Err errors.NoTree
+read_misnamed goal text raw kind kids r shallow misnamed =
+    read_shallow goal text raw kind kids r shallow
+    ∙ ap (λ b. if b then Err errors.NoTree else Ok (whole_tree kind kids (pieces text raw))) misnamed
 
 pub read_too_deep : (goal : Goal) (text : List ℕ) (raw : List RawToken) (kind : SyntaxKind) (kids : Forest) → ReadsAs goal text raw kind kids
     → nat_lt most_deep (height kids) ≡ true → tree_reading goal text raw ≡ Err errors.TooDeep
 read_too_deep goal text raw kind kids r deep =
     read_is goal text raw kind kids r
-    ∙ ap (λ b. if b then Err errors.TooDeep else Ok (whole_tree kind kids (pieces text raw)))
+    ∙ ap (λ b. if b then Err errors.TooDeep else unless_misnamed (whole_tree kind kids (pieces text raw)))
     (ap (nat_lt most_deep) (whole-depth kind kids (pieces text raw)) ∙ deep)
 
 -- want of memory for the tree of a short text

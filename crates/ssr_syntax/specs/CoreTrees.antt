@@ -5,6 +5,7 @@ use Rattle.ssr_syntax_lex.specs.declared.kinds.SyntaxKind.{SyntaxKind}
 use Rattle.ssr_syntax_lex.specs.declared.kinds.SyntaxKind.TheVariants as k
 use Rattle.ssr_syntax_tree.specs.Syntax.{Forest, nothing, leaf, branch, Syntax}
 use Rattle.ssr_syntax_forms.specs.Kinds.{mem}
+use Rattle.ssr_syntax_exprs.specs.Expressions.{assignments}
 
 -- the nodes that are core wherever they stand
 abbrev pub core_kinds : List SyntaxKind
@@ -16,11 +17,6 @@ core_kinds =
 -- a block is core as a function's body alone
 abbrev pub is_core_node : SyntaxKind → SyntaxKind → Bool
 is_core_node parent kind = mem kind core_kinds || (same_kind parent k.FN && same_kind kind k.BLOCK_EXPR)
-
--- the operators of assignments
-abbrev pub assignments : List SyntaxKind
-assignments =
-    k.EQ ∷ k.PLUSEQ ∷ k.MINUSEQ ∷ k.STAREQ ∷ k.SLASHEQ ∷ k.PERCENTEQ ∷ k.CARETEQ ∷ k.AMPEQ ∷ k.PIPEEQ ∷ k.SHLEQ ∷ k.SHREQ ∷ []
 
 -- no operation is an assignment, and no field is named by a number
 abbrev pub is_core_token : SyntaxKind → SyntaxKind → Bool

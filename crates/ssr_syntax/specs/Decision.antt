@@ -1,6 +1,6 @@
 -- Whether a forest fits a goal of this grammar, by as many levels of goals as it can have.
 use Rattle.std.specs.Prelude.{ℕ, ◌+◌, ◌*◌}
-use Rattle.ssr_syntax.specs.declared.goals.Goal.{Goal}
+use Rattle.ssr_syntax_types.specs.declared.goals.Goal.{Goal}
 use Rattle.ssr_syntax.specs.Grammar.{grammar}
 use Rattle.ssr_syntax_forms.specs.Decision.{Places, decide_at}
 use Rattle.ssr_syntax_forms.specs.Trees.{height}

@@ -1,18 +1,34 @@
 -- The form of each goal.
-use Rattle.std.specs.Prelude.{length}
-use Rattle.ssr_syntax.specs.declared.goals.Goal.{Goal}
-use Rattle.ssr_syntax.specs.declared.goals.Goal.TheVariants.{File, Expr, Operand, Unary, Ty, PathType, GenericArgs}
+use Rattle.ssr_syntax_types.specs.declared.goals.Goal.{Goal}
+use Rattle.ssr_syntax_types.specs.declared.goals.Goal.TheVariants.{File, Expr, Condition, Operand, Unary, Ty, PathType, GenericArgs, TokenTree, Pat, StmtList, Stmt, Arm, If, Item, UseTree, Items, Stmts}
 use Rattle.ssr_syntax_forms.specs.Forms.{Form}
-use Rattle.ssr_syntax.specs.Expressions as expr
-use Rattle.ssr_syntax.specs.Types as types
-use Rattle.ssr_syntax.specs.GenericArgs as args
-use Rattle.ssr_syntax.specs.Items as item
+use Rattle.ssr_syntax_exprs.specs.Blocks as block
+use Rattle.ssr_syntax_exprs.specs.Conditions as cond
+use Rattle.ssr_syntax_exprs.specs.Expressions as expr
+use Rattle.ssr_syntax_exprs.specs.GenericArgs as args
+use Rattle.ssr_syntax_items.specs.Items as items
+use Rattle.ssr_syntax_types.specs.Patterns as pats
+use Rattle.ssr_syntax_items.specs.Statements as stmts
+use Rattle.ssr_syntax_types.specs.TokenTrees as trees
+use Rattle.ssr_syntax_types.specs.Types as types
+use Rattle.ssr_syntax_items.specs.Uses as uses
 
 unfoldable pub grammar : Goal → Form Goal
-grammar File = item.source_file
-grammar Expr = expr.operand (length expr.ranks)
-grammar (Operand r) = expr.operand (expr.at_most r expr.ranks)
-grammar Unary = expr.unary
+grammar File = items.source_file
+grammar (Expr place) = expr.expr place
+grammar (Condition place) = cond.condition place
+grammar (Operand place r) = expr.operand place (expr.at_most r expr.ranks)
+grammar (Unary place) = expr.unary place
 grammar Ty = types.any_type
 grammar PathType = types.path_type
 grammar GenericArgs = args.generic_arg_list
+grammar TokenTree = trees.token_tree
+grammar (Pat place) = pats.pat place
+grammar StmtList = stmts.stmt_list
+grammar Stmt = stmts.lone_stmt
+grammar Arm = stmts.match_arm
+grammar If = block.if_expr
+grammar (Item place) = items.item place
+grammar UseTree = uses.use_tree
+grammar Items = items.macro_items
+grammar Stmts = stmts.macro_stmts

@@ -1,8 +1,3 @@
-pub mod Paths
-pub mod Types
-pub mod Expressions
-pub mod GenericArgs
-pub mod Items
 pub mod Grammar
 pub mod Decision
 pub mod Operands
@@ -10,5 +5,6 @@ pub mod Lossless
 pub mod CoreTrees
 pub mod Identifiers
 pub mod Solid
+pub mod MacroRules
 pub mod Reading
 pub mod Private

@@ -1,62 +1,77 @@
 -- Precedence: how tightly each expression binds, and what that asks of its operands.
-use Rattle.std.specs.Prelude.{◌≡◌, ℕ, suc, ◌+◌, ◌<◌, ◌≤◌, true, if◌then◌else◌, ⊤, List, [], ◌∷◌, length}
+use Rattle.std.specs.Prelude.{◌≡◌, ℕ, suc, ◌+◌, ◌<◌, ◌≤◌, true, if◌then◌else◌, ⊤, ◌⊎◌, List, [], ◌∷◌, length}
 use Rattle.ssr_syntax_lex.specs.Kinds.{same_kind}
 use Rattle.ssr_syntax_lex.specs.declared.kinds.SyntaxKind.{SyntaxKind}
 use Rattle.ssr_syntax_lex.specs.declared.kinds.SyntaxKind.TheVariants as k
-use Rattle.ssr_syntax_forms.specs.declared.tokens.Token.{Token}
 use Rattle.ssr_syntax_forms.specs.Kinds.{mem}
 use Rattle.ssr_syntax_forms.specs.Trees.{Forest, done, leaf, tree}
-use Rattle.ssr_syntax.specs.Expressions.{ranks}
+use Rattle.ssr_syntax_exprs.specs.Expressions.{assignments, ranks}
 
--- the rank of an operator between two operands: the number of its row; behind all ranks what stands in none
-abbrev pub rank_in : List (List SyntaxKind) → SyntaxKind → ℕ
-rank_in [] kind = 0
-rank_in (ks ∷ rows) kind = if mem kind ks then 0 else suc (rank_in rows kind)
+-- Precedence is a number: the lower it is, the tighter a node binds. Operators in the first row of `ranks` follow on casts,
+-- which have 3. Behind those in the last row come ranges, then assignments, and last `return`, `break` and closures.
+abbrev pub of_ranges : ℕ
+of_ranges = 4 + length ranks
 
-abbrev pub rank : SyntaxKind → ℕ
-rank kind = rank_in ranks kind
+-- the number of the row that an operator stands in; behind all rows what stands in none
+abbrev pub row_in : List (List SyntaxKind) → SyntaxKind → ℕ
+row_in [] kind = 0
+row_in (ks ∷ rows) kind = if mem kind ks then 0 else suc (row_in rows kind)
+
+abbrev pub of_operator : SyntaxKind → ℕ
+of_operator kind = if mem kind assignments then 1 + of_ranges else 4 + row_in ranks kind
 
 -- of the first token among siblings
-abbrev pub operator_rank : Forest → ℕ
-operator_rank done = length ranks
-operator_rank (leaf kind us x) = rank kind
-operator_rank (tree kind kids x) = operator_rank x
+abbrev pub of_first_token : Forest → ℕ
+of_first_token done = 0
+of_first_token (leaf kind us x) = of_operator kind
+of_first_token (tree kind kids x) = of_first_token x
 
--- the precedence of operators at a rank: those of the first follow on casts, which have 3
-abbrev pub precedence_at : ℕ → ℕ
-precedence_at r = 4 + r
-
--- The precedence of a node, a number: the lower it is, the tighter the node binds. What is made of no operands has 0.
+-- The precedence of a node. What is not named here has 0.
 abbrev pub precedence : SyntaxKind → Forest → ℕ
 precedence kind kids =
     if mem kind (k.CALL_EXPR ∷ k.METHOD_CALL_EXPR ∷ k.FIELD_EXPR ∷ k.INDEX_EXPR ∷ k.TRY_EXPR ∷ []) then 1
     else if mem kind (k.PREFIX_EXPR ∷ k.REF_EXPR ∷ []) then 2
     else if same_kind kind k.CAST_EXPR then 3
-    else if same_kind kind k.BIN_EXPR then precedence_at (operator_rank kids)
+    else if same_kind kind k.BIN_EXPR then of_first_token kids
+    else if same_kind kind k.RANGE_EXPR then of_ranges
+    else if mem kind (k.RETURN_EXPR ∷ k.BREAK_EXPR ∷ k.CLOSURE_EXPR ∷ []) then 2 + of_ranges
     else 0
 
--- the first node among siblings has at most this precedence
+-- there is a node among siblings, and the first has at most this precedence
 abbrev pub FirstHasAtMost : ℕ → Forest → Type 0
 FirstHasAtMost limit done = ⊥
 FirstHasAtMost limit (leaf kind us x) = FirstHasAtMost limit x
 FirstHasAtMost limit (tree kind kids x) = precedence kind kids ≤ limit
 
--- the children of a BIN_EXPR: an operator between two nodes; where it has a rank, the right one binds tighter
-pub record AreOperands (kids : Forest) : Type 0 where
-  pub left : SyntaxKind
-  pub left_kids : Forest
-  pub operator : SyntaxKind
-  pub tokens : List Token
-  pub right : SyntaxKind
-  pub right_kids : Forest
-  pub are : kids ≡ tree left left_kids (leaf operator tokens (tree right right_kids done))
-  pub right_binds : rank operator < length ranks → precedence right right_kids < precedence k.BIN_EXPR kids
+-- each node among siblings has less
+abbrev pub AllHaveLess : ℕ → Forest → Type 0
+AllHaveLess limit done = ⊤
+AllHaveLess limit (leaf kind us x) = AllHaveLess limit x
+AllHaveLess limit (tree kind kids x) = (precedence kind kids < limit) × AllHaveLess limit x
 
--- In each node that is made of operands the first of them binds at least as tightly as the whole; a BIN_EXPR has two.
+-- An operator in a row has a left operand of at most its own precedence, and a right one of less. An assignment has a left
+-- one of less, and any right one.
+abbrev pub Binds : SyntaxKind → ℕ → ℕ → Type 0
+Binds operator left right =
+    ((row_in ranks operator < length ranks) × (left ≤ of_operator operator) × (right < of_operator operator))
+    ⊎ ((mem operator assignments ≡ true) × (left < of_operator operator))
+
+-- an operator between two nodes
+abbrev pub AreOperands : Forest → Type 0
+AreOperands (tree left xs (leaf operator us (tree right ys done))) = Binds operator (precedence left xs) (precedence right ys)
+AreOperands _ = ⊥
+
+-- what a node asks of its children
+pub record HasOperands (kind : SyntaxKind) (kids : Forest) : Type 0 where
+  -- of what goes on with an operand or stands in front of one, and of a cast
+  pub first : 0 < precedence kind kids → precedence kind kids < 4 → FirstHasAtMost (precedence kind kids) kids
+  pub both : same_kind kind k.BIN_EXPR ≡ true → AreOperands kids
+  -- of a range, which may lack operands
+  pub ends : same_kind kind k.RANGE_EXPR ≡ true → AllHaveLess of_ranges kids
+  -- what `let` compares with binds tighter than `&&`
+  pub value : same_kind kind k.LET_EXPR ≡ true → AllHaveLess (of_operator k.AMP2) kids
+
 abbrev pub KeepsPrecedence : Forest → Type 0
 KeepsPrecedence done = ⊤
 KeepsPrecedence (leaf kind us x) = KeepsPrecedence x
-KeepsPrecedence (tree kind kids x) =
-    (0 < precedence kind kids → FirstHasAtMost (precedence kind kids) kids)
-    × (same_kind kind k.BIN_EXPR ≡ true → AreOperands kids)
-    × KeepsPrecedence kids × KeepsPrecedence x
+KeepsPrecedence (tree kind kids x) = HasOperands kind kids × KeepsPrecedence kids × KeepsPrecedence x

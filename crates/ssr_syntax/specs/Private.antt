@@ -7,4 +7,3 @@ pub mod SolidKinds
 pub mod TreeTokens
 pub mod Preorder
 pub mod Reading
-pub mod Ranks

@@ -1,5 +1,5 @@
 -- The reading of a list of tokens and of a text, and what fits a text.
-use Rattle.std.specs.Prelude.{◌≡◌, ◌≢◌, ℕ, ◌+◌, ◌-◌, ◌^◌, ◌<◌, ◌≤◌, nat_lt, Bool, true, not, ◌&&◌, if◌then◌else◌, List, [], ◌∷◌, length, map, reverse, Some, None, Result, Ok, Err}
+use Rattle.std.specs.Prelude.{◌≡◌, ◌≢◌, ℕ, ◌+◌, ◌-◌, ◌^◌, ◌<◌, ◌≤◌, nat_lt, Bool, true, false, not, ◌&&◌, if◌then◌else◌, List, [], ◌∷◌, length, map, reverse, Some, None, Result, Ok, Err}
 use Rattle.std.specs.Str.{trim, trim_start}
 use Rattle.ssr_syntax_lex.specs.declared.kinds.SyntaxKind.{SyntaxKind}
 use Rattle.ssr_syntax_lex.specs.declared.tokens.RawToken.{RawToken}
@@ -7,13 +7,16 @@ use Rattle.ssr_syntax_lex.specs.Kinds.{is_trivia}
 use Rattle.ssr_syntax_lex.specs.Tokens.{tokens, token_text}
 use Rattle.ssr_syntax_tree.specs.Syntax as plain
 use Rattle.ssr_syntax_tree.specs.Syntax.{Syntax, depth_of, source_of}
-use Rattle.ssr_syntax.specs.declared.goals.Goal.TheVariants as goals
+use Rattle.ssr_syntax_types.specs.declared.goals.Goal.TheVariants as goals
+use Rattle.ssr_syntax_types.specs.declared.goals.ExprPlace.TheVariants.{Anywhere}
+use Rattle.ssr_syntax_types.specs.declared.goals.ItemPlace.TheVariants.{InModule}
+use Rattle.ssr_syntax_types.specs.declared.goals.PatPlace.TheVariants.{TopLevel}
 use Rattle.ssr_syntax.specs.declared.fragments.Fragment.{Fragment}
 use Rattle.ssr_syntax.specs.declared.fragments.Fragment.TheVariants as fragments
 use Rattle.ssr_syntax.specs.declared.syntax_error.SyntaxError.{SyntaxError}
 use Rattle.ssr_syntax.specs.declared.syntax_error.SyntaxError.TheVariants as errors
 use Rattle.ssr_syntax_forms.specs.declared.tokens.Token.{Token}
-use Rattle.ssr_syntax.specs.declared.goals.Goal.{Goal}
+use Rattle.ssr_syntax_types.specs.declared.goals.Goal.{Goal}
 use Rattle.ssr_syntax_forms.specs.declared.fault.Fault.{Fault}
 use Rattle.ssr_syntax_forms.specs.Trees.{Forest, done, leaf, tree}
 use Rattle.ssr_syntax_forms.specs.Fitting.{Fits}
@@ -23,6 +26,7 @@ use Rattle.ssr_syntax_forms.specs.declared.fault.Fault.TheVariants as faults
 use Rattle.ssr_syntax.specs.Grammar.{grammar}
 use Rattle.ssr_syntax.specs.Solid.{solid_tokens}
 use Rattle.ssr_syntax.specs.Lossless.{whole_tree, IsTrimmed}
+use Rattle.ssr_syntax.specs.MacroRules.{misnames_macros}
 
 -- how deep a tree may be
 abbrev pub most_deep : ℕ
@@ -54,8 +58,11 @@ error_of faults.NoTree = errors.NoTree
 error_of faults.TooDeep = errors.TooDeep
 error_of faults.Memory = errors.Memory
 
+abbrev pub unless_misnamed : Syntax → Result Syntax SyntaxError
+unless_misnamed syntax = if misnames_macros syntax then Err errors.NoTree else Ok syntax
+
 abbrev pub unless_too_deep : Syntax → Result Syntax SyntaxError
-unless_too_deep syntax = if nat_lt most_deep (depth_of syntax) then Err errors.TooDeep else Ok syntax
+unless_too_deep syntax = if nat_lt most_deep (depth_of syntax) then Err errors.TooDeep else unless_misnamed syntax
 
 -- one tree, with all tokens of the text
 abbrev pub one_tree : Forest → List plain.Token → Result Syntax SyntaxError
@@ -89,7 +96,11 @@ abbrev pub trimmed_front : List ℕ → ℕ
 trimmed_front text = length text - length (trim_start text)
 
 abbrev pub goal_of : Fragment → Goal
-goal_of fragments.Expr = goals.Expr
+goal_of fragments.Expr = goals.Expr Anywhere
+goal_of fragments.Ty = goals.Ty
+goal_of fragments.Item = goals.Item InModule
+goal_of fragments.Pat = goals.Pat TopLevel
+goal_of fragments.Stmt = goals.Stmt
 
 -- no white space or comment stands in front
 abbrev pub begins_solid : List RawToken → Bool
@@ -121,12 +132,14 @@ AnswersTrimmed (Err e) read text = Refuses e read text
 
 -- ** What fits a text: no order of reading is in it.
 
--- the tree has all tokens of the text, and is one of the goal without white space and comments
+-- the tree has all tokens of the text, and is one of the goal without white space and comments; each MACRO_RULES begins
+-- with its word
 abbrev pub FitsTokens : Goal → List ℕ → List RawToken → Syntax → Type 0
 FitsTokens goal text raw syntax =
     (kind : SyntaxKind) × (kids : Forest)
     × Fits grammar (grammar goal) done (tree kind kids done) (solid_tokens raw) []
     × (syntax ≡ whole_tree kind kids (pieces text raw))
+    × (misnames_macros syntax ≡ false)
 
 abbrev pub FitsFile : List ℕ → Syntax → Type 0
 FitsFile text syntax = (raw : List RawToken) × (tokens text ≡ Some raw) × FitsTokens goals.File text raw syntax

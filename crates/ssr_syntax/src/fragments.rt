@@ -5,4 +5,12 @@
 pub enum Fragment {
     /// An expression.
     Expr,
+    /// A type.
+    Ty,
+    /// An item, as it stands in a file.
+    Item,
+    /// A pattern.
+    Pat,
+    /// A statement, whose `;` may lack.
+    Stmt,
 }

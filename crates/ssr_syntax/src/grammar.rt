@@ -1,48 +1,51 @@
 //! Each goal by the function of its form, and the reading of all tokens.
 ghost use Rattle.ssr_syntax.specs.Grammar.{grammar};
-ghost use Rattle.ssr_syntax_forms.specs.Private.Runs.{run_goal};
 ghost use Rattle.ssr_syntax.specs.Private.Reading.{IsReading};
 ghost use Rattle.ssr_syntax.specs.Reading.{reading};
-ghost use Rattle.ssr_syntax_forms.specs.Parser.{written_in};
-ghost use Rattle.ssr_syntax_forms.specs.Parser.{Steps};
-ghost use Rattle.ssr_syntax_forms.specs.Private.Runs.{Runs};
+ghost use Rattle.ssr_syntax_forms.specs.Parser.{Steps, written_in};
+ghost use Rattle.ssr_syntax_forms.specs.Runs.{Runs, run_goal};
 
-use crate::expressions::{RANKS, at_most_all};
-use crate::goals::Goal;
-use crate::reader::Reader;
+use ssr_syntax_exprs::blocks::if_expr;
+use ssr_syntax_exprs::conditions::condition;
+use ssr_syntax_exprs::expressions::{at_most_all, expr, operand, unary};
+use ssr_syntax_exprs::generic_args::generic_arg_list;
 use ssr_syntax_forms::{Fault, Output, Parser, Token};
+use ssr_syntax_items::items::{item, macro_items, source_file};
+use ssr_syntax_items::statements::{lone_stmt, macro_stmts, match_arm, stmt_list};
+use ssr_syntax_items::uses::use_tree;
+use ssr_syntax_types::goals::Goal;
+use ssr_syntax_types::patterns::pat;
+use ssr_syntax_types::reader::Reader;
+use ssr_syntax_types::token_trees::token_tree;
+use ssr_syntax_types::types::{any_type, path_type};
 use std::alloc::Global;
 
-/// The functions of forms, with what reads the goals below.
-#[derive(Drop)]
-pub(crate) struct Grammar<R: Drop> {
-    below: R,
-}
-
-impl<R: Reader + Drop> Grammar<R> {
-    /// Reads a goal one level below.
-    pub(crate) fn child(&self, p: &mut Parser<'_>, goal: Goal) -> Result<(), Fault>
-        requires { R.can_read self.now.below }
-        ensures { Steps p.new result (R.reads self.now.below goal p.old) }
-    {
-        self.below.read(p, goal)
-    }
-
-    /// Reads a goal by the function of its form.
-    #[tactic(auto, unfolding(crate::specs::Grammar::grammar))]
-    fn goal(&self, p: &mut Parser<'_>, goal: Goal) -> Result<(), Fault>
-        requires { R.can_read self.now.below }
-        ensures { Runs (R.reads self.now.below) (grammar goal) p.old p.new result }
-    {
-        match goal {
-            Goal::File => self.source_file(p),
-            Goal::Expr => self.operand(p, RANKS),
-            Goal::Operand(rank) => self.operand(p, at_most_all(rank)),
-            Goal::Unary => self.unary(p),
-            Goal::Ty => self.any_type(p),
-            Goal::PathType => self.path_type(p),
-            Goal::GenericArgs => self.generic_arg_list(p),
-        }
+/// Reads a goal by the function of its form.
+#[tactic(auto, unfolding(crate::specs::Grammar::grammar))]
+fn read_form<R: Reader>(goals: &R, p: &mut Parser<'_>, goal: Goal) -> Result<(), Fault>
+    requires { R.can_read goals.now }
+    ensures { Runs (R.reads goals.now) (grammar goal) p.old p.new result }
+{
+    let m = p.start();
+    match goal {
+        Goal::File => source_file(goals, p),
+        Goal::Expr(place) => expr(goals, p, place),
+        Goal::Condition(place) => condition(goals, p, place),
+        Goal::Operand(place, rank) => operand(goals, p, &m, place, at_most_all(rank)),
+        Goal::Unary(place) => unary(goals, p, &m, place),
+        Goal::Ty => any_type(goals, p),
+        Goal::PathType => path_type(goals, p),
+        Goal::GenericArgs => generic_arg_list(goals, p),
+        Goal::TokenTree => token_tree(goals, p),
+        Goal::Pat(place) => pat(goals, p, place),
+        Goal::StmtList => stmt_list(goals, p),
+        Goal::Stmt => lone_stmt(goals, p),
+        Goal::Arm => match_arm(goals, p),
+        Goal::If => if_expr(goals, p, &m),
+        Goal::Item(place) => item(goals, p, &m, place),
+        Goal::UseTree => use_tree(goals, p),
+        Goal::Items => macro_items(goals, p),
+        Goal::Stmts => macro_stmts(goals, p),
     }
 }
 
@@ -54,7 +57,7 @@ struct Level<F: Drop> {
 }
 
 impl<F: Fn(&mut Parser<'_>, Goal) -> Result<(), Fault> + Drop> Reader for Level<F> {
-    ghost use Rattle.ssr_syntax.specs.declared.goals.Goal.{Goal};
+    ghost use Rattle.ssr_syntax_types.specs.declared.goals.Goal.{Goal};
 
     ghost can_read = { λ d. F.IsAlwaysCallable d.read
         × ((old : _) (goal : Goal) (r : _) (new : _) → F.post d.read old goal r new
@@ -68,7 +71,7 @@ impl<F: Fn(&mut Parser<'_>, Goal) -> Result<(), Fault> + Drop> Reader for Level<
 }
 
 /// Reads a goal with at most `left` levels of goals.
-#[tactic(auto, unfolding(ssr_syntax_forms::specs::Private::Runs::run_goal))]
+#[tactic(auto, unfolding(ssr_syntax_forms::specs::Runs::run_goal))]
 fn read(p: &mut Parser<'_>, goal: Goal, left: u32) -> Result<(), Fault>
     ensures { Steps p.new result (run_goal grammar left goal p.old) }
 {
@@ -83,7 +86,7 @@ fn read(p: &mut Parser<'_>, goal: Goal, left: u32) -> Result<(), Fault>
         read: read_less,
         left: less,
     };
-    Grammar { below }.goal(p, goal)
+    read_form(&below, p, goal)
 }
 
 /// How many levels of goals are read. Each level but the first stands below a node.
@@ -98,203 +101,4 @@ pub(crate) fn parse_as(alloc: Global, goal: Goal, tokens: &[Token]) -> Result<Ou
     let mut parser = Parser::new(alloc, tokens)?;
     read(&mut parser, goal, MOST_LEVELS)?;
     parser.finish()
-}
-
-#[cfg(test)]
-mod tests {
-    use super::*;
-    use ssr_syntax_lex::SyntaxKind;
-    use ssr_syntax_lex::SyntaxKind::*;
-    use std::alloc::AllocError;
-    use std::test::Fail;
-
-    // The kinds that a joined token is cut into.
-    fn parts(kind: SyntaxKind) -> &'static [SyntaxKind] {
-        match kind {
-            COLON2 => &[COLON, COLON],
-            EQ2 => &[EQ, EQ],
-            LTEQ => &[L_ANGLE, EQ],
-            _ => &[],
-        }
-    }
-
-    fn tokens(alloc: Global, kinds: &[SyntaxKind]) -> Result<Vec<Token>, AllocError> {
-        let mut tokens = Vec::new(alloc);
-        for joined in kinds {
-            let parts = parts(*joined);
-            let kind = parts.first().copied().unwrap_or(*joined);
-            let size = if parts.is_empty() { 1 } else { 2 };
-            tokens.push(Token {
-                kind,
-                joined: *joined,
-                size,
-            })?;
-            if let Some(kind) = parts.get(1) {
-                tokens.push(Token {
-                    kind: *kind,
-                    joined: *kind,
-                    size: 1,
-                })?;
-            }
-        }
-        Ok(tokens)
-    }
-
-    fn parsed(alloc: Global, goal: Goal, kinds: &[SyntaxKind]) -> Result<Output, Fault> {
-        let tokens = tokens(alloc, kinds)?;
-        parse_as(alloc, goal, &tokens)
-    }
-
-    // Each node's kind, how many tokens are left at its first one and behind its last one, and how many nodes are below.
-    fn nodes(
-        alloc: Global,
-        goal: Goal,
-        kinds: &[SyntaxKind],
-    ) -> Result<Vec<(SyntaxKind, u32, u32, u32)>, Fault> {
-        let output = parsed(alloc, goal, kinds)?;
-        let mut nodes = Vec::new(alloc);
-        for number in 0..output.rows.len() {
-            let row = output.rows.row(number);
-            nodes.push((row.kind, row.first, row.past, row.below))?;
-        }
-        Ok(nodes)
-    }
-
-    #[test]
-    fn operators_bind_by_rank(rt: HostRuntime) -> Result<(), Fail> {
-        // 1 + 2 * 3
-        let kinds = [INT_NUMBER, PLUS, INT_NUMBER, STAR, INT_NUMBER];
-        let want = [
-            (LITERAL, 5, 4, 0),
-            (LITERAL, 3, 2, 0),
-            (LITERAL, 1, 0, 0),
-            (BIN_EXPR, 3, 0, 2),
-            (BIN_EXPR, 5, 0, 4),
-        ];
-        let nodes_are = nodes(rt.alloc(), Goal::Expr, &kinds)?;
-        assert_eq!(rt; nodes_are.as_slice(), want.as_slice());
-        // 1 - 2 < 3 / 4
-        let kinds = [
-            INT_NUMBER, MINUS, INT_NUMBER, L_ANGLE, INT_NUMBER, SLASH, INT_NUMBER,
-        ];
-        let want = [
-            (LITERAL, 7, 6, 0),
-            (LITERAL, 5, 4, 0),
-            (BIN_EXPR, 7, 4, 2),
-            (LITERAL, 3, 2, 0),
-            (LITERAL, 1, 0, 0),
-            (BIN_EXPR, 3, 0, 2),
-            (BIN_EXPR, 7, 0, 6),
-        ];
-        let nodes_are = nodes(rt.alloc(), Goal::Expr, &kinds)?;
-        assert_eq!(rt; nodes_are.as_slice(), want.as_slice());
-        Ok(())
-    }
-
-    #[test]
-    fn comparisons_group_to_the_left(rt: HostRuntime) -> Result<(), Fail> {
-        // 1 == 2 <= 3
-        let kinds = [INT_NUMBER, EQ2, INT_NUMBER, LTEQ, INT_NUMBER];
-        let want = [
-            (LITERAL, 7, 6, 0),
-            (LITERAL, 4, 3, 0),
-            (BIN_EXPR, 7, 3, 2),
-            (LITERAL, 1, 0, 0),
-            (BIN_EXPR, 7, 0, 4),
-        ];
-        let nodes_are = nodes(rt.alloc(), Goal::Expr, &kinds)?;
-        assert_eq!(rt; nodes_are.as_slice(), want.as_slice());
-        let output = parsed(rt.alloc(), Goal::Expr, &kinds)?;
-        let want = [
-            (INT_NUMBER, 1),
-            (EQ2, 2),
-            (INT_NUMBER, 1),
-            (LTEQ, 2),
-            (INT_NUMBER, 1),
-        ];
-        assert_eq!(rt; output.taken.len(), want.len());
-        for (taken, (kind, size)) in output.taken.iter().zip(want) {
-            assert_eq!(rt; taken.kind, kind);
-            assert_eq!(rt; taken.size, size);
-        }
-        Ok(())
-    }
-
-    #[test]
-    fn operators_of_fewer_ranks_end_an_operand(rt: HostRuntime) -> Result<(), Fail> {
-        let kinds = [INT_NUMBER, PLUS, INT_NUMBER, EQ2, INT_NUMBER];
-        for (ranks, fits) in [(0, false), (1, false), (6, false), (7, true), (200, true)] {
-            let answer = parsed(rt.alloc(), Goal::Operand(ranks), &kinds);
-            assert_eq!(rt; answer.is_ok(), fits);
-        }
-        Ok(())
-    }
-
-    #[test]
-    fn paths_are_nested_to_the_left(rt: HostRuntime) -> Result<(), Fail> {
-        // a::b::c
-        let kinds = [IDENT, COLON2, IDENT, COLON2, IDENT];
-        let want = [
-            (NAME_REF, 7, 6, 0),
-            (PATH_SEGMENT, 7, 6, 1),
-            (PATH, 7, 6, 2),
-            (NAME_REF, 4, 3, 0),
-            (PATH_SEGMENT, 4, 3, 1),
-            (PATH, 7, 3, 5),
-            (NAME_REF, 1, 0, 0),
-            (PATH_SEGMENT, 1, 0, 1),
-            (PATH, 7, 0, 8),
-            (PATH_EXPR, 7, 0, 9),
-        ];
-        let nodes_are = nodes(rt.alloc(), Goal::Expr, &kinds)?;
-        assert_eq!(rt; nodes_are.as_slice(), want.as_slice());
-        for kinds in [&[IDENT, COLON2][..], &[IDENT, COLON, COLON, IDENT][..]] {
-            assert!(rt; matches!(parsed(rt.alloc(), Goal::Expr, kinds), Err(Fault::NoTree)));
-        }
-        Ok(())
-    }
-
-    #[test]
-    fn reads_each_literal(rt: HostRuntime) -> Result<(), Fail> {
-        let literals = [
-            INT_NUMBER,
-            FLOAT_NUMBER,
-            STRING,
-            BYTE_STRING,
-            C_STRING,
-            BYTE,
-            CHAR,
-            TRUE_KW,
-            FALSE_KW,
-        ];
-        for kind in literals {
-            let rows = parsed(rt.alloc(), Goal::Expr, &[kind])?.rows;
-            assert_eq!(rt; rows.kinds(), &[LITERAL][..]);
-        }
-        for kind in [LIFETIME_IDENT, UNDERSCORE, FN_KW] {
-            assert!(rt; matches!(parsed(rt.alloc(), Goal::Expr, &[kind]), Err(Fault::NoTree)));
-        }
-        Ok(())
-    }
-
-    #[test]
-    fn reads_a_file(rt: HostRuntime) -> Result<(), Fail> {
-        // fn f() {}
-        let kinds = [FN_KW, IDENT, L_PAREN, R_PAREN, L_CURLY, R_CURLY];
-        let rows = parsed(rt.alloc(), Goal::File, &kinds)?.rows;
-        let want = [NAME, PARAM_LIST, STMT_LIST, BLOCK_EXPR, FN, SOURCE_FILE];
-        assert_eq!(rt; rows.kinds(), want.as_slice());
-        Ok(())
-    }
-
-    #[test]
-    fn refuses_deep_nesting(rt: HostRuntime) -> Result<(), Fail> {
-        let mut kinds = Vec::new(rt.alloc());
-        for _ in 0..100_000 {
-            kinds.push(L_PAREN)?;
-        }
-        let answer = parsed(rt.alloc(), Goal::Expr, &kinds);
-        assert!(rt; matches!(answer, Err(Fault::TooDeep)));
-        Ok(())
-    }
 }

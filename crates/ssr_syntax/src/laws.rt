@@ -6,7 +6,7 @@ ghost use Rattle.ssr_syntax_lex.specs.Tokens.{tokens};
 ghost use Rattle.ssr_syntax.specs.CoreTrees.{IsCore};
 ghost use Rattle.ssr_syntax_tree.specs.Syntax.{Syntax, tokens_of};
 ghost use Rattle.ssr_syntax.specs.declared.fragments.Fragment.{Fragment};
-ghost use Rattle.ssr_syntax.specs.declared.goals.Goal.{Goal};
+ghost use Rattle.ssr_syntax_types.specs.declared.goals.Goal.{Goal};
 ghost use Rattle.ssr_syntax.specs.Decision.{decide_fits};
 ghost use Rattle.ssr_syntax_forms.specs.Decision.{is_empty, reached};
 ghost use Rattle.ssr_syntax_forms.specs.Fitting.{Fits};
@@ -40,9 +40,11 @@ pub fn fitting()
     ensures answers { (goal : Goal) (r : SoFar) → decide_fits goal r ≡ reached decide_fits (grammar goal) is_empty r }
 {}
 
-/// Whatever fits keeps precedence: what is called, indexed, asked for a field or a method, or stands before a `?`, the
-/// operand of an operator in front, and the left one of an operator between two bind at least as tightly as the whole,
-/// and the right one of an operator that has a rank binds tighter.
+/// Whatever fits keeps precedence: what is called, indexed, cast, asked for a field or a method, or stands before a `?`,
+/// the operand of an operator in front, and the left one of an operator that has a rank bind at least as tightly as the
+/// whole, and the right one of such an operator tighter. Each operand of a range binds tighter than a range, the left one
+/// of an assignment tighter than an assignment, and what `let` compares with tighter than `&&`. `return`, `break` and
+/// closures bind least.
 pub fn operands()
     ensures { (goal : Goal) (z : Forest) (us rest : List Token) → Fits grammar (grammar goal) done z us rest → KeepsPrecedence z }
 {}

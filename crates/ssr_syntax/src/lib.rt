@@ -1,23 +1,19 @@
 //! The grammar of Rust texts, and the parser.
 #![tactic(auto)]
 
-mod expressions;
 mod fragments;
-mod generic_args;
-mod goals;
 mod grammar;
-mod items;
 pub mod laws;
+mod macro_rules;
 mod packing;
-mod paths;
 mod preorder;
-mod reader;
 mod reading;
 mod solid;
 mod syntax_error;
+#[cfg(test)]
+mod tests;
 mod tree_tokens;
 mod turning;
-mod types;
 
 pub use fragments::Fragment;
 pub use reading::{fragment, parse_file, parse_file_owned};

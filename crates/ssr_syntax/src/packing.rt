@@ -39,6 +39,13 @@ impl Packing {
         }
     }
 
+    /// How many rows are packed.
+    pub(crate) fn packed(&self) -> usize
+        ensures { result ≡ length self.now.packed }
+    {
+        self.packed
+    }
+
     /// Reads the first one of the unread rows.
     pub(crate) fn read(&mut self) -> Option<TokenRow>
         ensures all { IfNone result ((self.old.unread ≡ []) × (self.new ≡ self.old)) }

@@ -5,7 +5,7 @@ ghost use Rattle.ssr_syntax.specs.Private.Preorder.{first_at, past_at, OkUnlessD
 ghost use Rattle.ssr_syntax.specs.Reading.{most_deep};
 ghost use Rattle.ssr_syntax.specs.Private.OpenNodes.{opened, IsClosed, IsOpened, IsFromRight};
 ghost use Rattle.ssr_syntax_forms.specs.Trees.{Forest, done, height, tree};
-ghost use Rattle.ssr_syntax_forms.specs.Private.Written.{rows as rows_of};
+ghost use Rattle.ssr_syntax_forms.specs.Written.{rows as rows_of};
 
 use crate::syntax_error::SyntaxError;
 use crate::turning::Turning;
@@ -23,13 +23,13 @@ const MOST_NODES: usize = 0xffff_f000;
 #[derive(Clone, Copy)]
 struct Open {
     /// How many of the parser's rows are in front of it and of those below it.
-    start: u32,
+    start: usize,
     number: u32,
     node: NodeRow,
 }
 
 /// Closes the open nodes that begin at `place` or behind it.
-fn close_open(place: u32, above: &mut Vec<Open>, rows: &mut Turning)
+fn close_open(place: usize, above: &mut Vec<Open>, rows: &mut Turning)
     requires { length above.old.items ≤ rows.old.room }
     ensures closed { IsClosed place above.old.items above.new.items rows.old.turned rows.new.turned }
     ensures unread { rows.new.unread ≡ rows.old.unread }
@@ -75,7 +75,7 @@ fn past_token(ends: &[u32], low: u32, left: u32, count: u32) -> u32
 }
 
 /// The node of a row with `place` rows in front of it, below the open ones.
-fn opened(ends: &[u32], total: u32, row: &NodeRow, place: u32, above: &[Open]) -> Open
+fn opened(ends: &[u32], total: u32, row: &NodeRow, place: usize, above: &[Open]) -> Open
     requires { place + length above.now < 2 ^ 32 }
     ensures { result ≡ opened (λ i. slice_index ends.now i) total row.now place (reverse above.now) }
 {
@@ -85,16 +85,16 @@ fn opened(ends: &[u32], total: u32, row: &NodeRow, place: u32, above: &[Open]) -
     };
     let left = total.saturating_sub(row.first);
     let count = row.first.saturating_sub(row.past);
-    let start = place.saturating_sub(row.below);
+    let start = place.saturating_sub(row.below as usize);
     Open {
         start,
-        number: start + above.len() as u32,
+        number: (start + above.len()) as u32,
         node: NodeRow {
             kind: row.kind,
             parent,
             first: first_token(ends, low, left, count),
             past: past_token(ends, low, left, count),
-            below: place - start,
+            below: row.below,
         },
     }
 }
@@ -104,7 +104,7 @@ fn open_row(
     ends: &[u32],
     total: u32,
     row: &NodeRow,
-    place: u32,
+    place: usize,
     above: &mut Vec<Open>,
     rows: &mut Turning,
 ) -> Result<(), SyntaxError>
@@ -119,7 +119,7 @@ fn open_row(
         return Err(SyntaxError::TooDeep);
     }
     let inner = opened(ends, total, row, place, above);
-    if inner.start == place {
+    if row.below == 0 {
         rows.put(inner.node);
     } else {
         above.push(inner)?;
@@ -141,8 +141,7 @@ fn from_right(
     ensures full { IfOk result (λ _. rows.new.room ≡ 0) }
 {
     while let Some(row) = rows.read() {
-        let place = rows.unread() as u32;
-        open_row(ends, total, &row, place, above, rows)?;
+        open_row(ends, total, &row, rows.unread(), above, rows)?;
     }
     close_open(0, above, rows);
     Ok(())

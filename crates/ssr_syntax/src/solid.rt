@@ -1,5 +1,5 @@
 //! The solid tokens of a text: all but white space and comments, joined to the longest ones.
-ghost use Rattle.std.specs.Prelude.{◌≡◌, IfOk, drop};
+ghost use Rattle.std.specs.Prelude.{◌≡◌, IfOk, drop, false, None};
 ghost use Rattle.ssr_syntax.specs.Solid.{with_eq, with_r_angle, twice, joined};
 ghost use Rattle.ssr_syntax.specs.Private.SolidKinds.{with_next, solid_kind, solid_kinds};
 
@@ -69,6 +69,17 @@ fn joined(next: SyntaxKind, kind: SyntaxKind) -> Option<SyntaxKind>
     }
 }
 
+/// Whether one may be joined with the first of those behind it. Most tokens stand alone, and this tells it of nearly all.
+fn may_go_on(kind: SyntaxKind, behind: &[SyntaxKind]) -> bool
+    ensures { result ≡ false → with_next kind behind.now ≡ None }
+{
+    match behind.first() {
+        None => false,
+        Some(SyntaxKind::EQ | SyntaxKind::R_ANGLE) => true,
+        Some(next) => kind == *next,
+    }
+}
+
 /// The kind joined from one and the first of those behind it.
 fn lengthened(kind: SyntaxKind, behind: &[SyntaxKind]) -> Option<SyntaxKind>
     ensures { result ≡ with_next kind behind.now }
@@ -87,16 +98,26 @@ fn others(kinds: &[SyntaxKind]) -> &[SyntaxKind]
     }
 }
 
+/// The token of this kind alone.
+fn alone(kind: SyntaxKind) -> Token
+    ensures { result ≡ record { kind = kind; joined = kind; size = 1 } }
+{
+    Token {
+        kind,
+        joined: kind,
+        size: 1,
+    }
+}
+
 /// The token in front of others, with the longest one that is joined from it and those.
 fn solid_token(kind: SyntaxKind, behind: &[SyntaxKind]) -> Token
     ensures { result ≡ solid_kind kind behind.now }
 {
+    if !may_go_on(kind, behind) {
+        return alone(kind);
+    }
     let Some(two) = lengthened(kind, behind) else {
-        return Token {
-            kind,
-            joined: kind,
-            size: 1,
-        };
+        return alone(kind);
     };
     match lengthened(two, others(behind)) {
         None => Token {

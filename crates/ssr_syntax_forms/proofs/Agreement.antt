@@ -10,10 +10,10 @@ use Rattle.ssr_syntax_forms.specs.declared.rows.Taken.{Taken}
 use Rattle.ssr_syntax_forms.specs.declared.fault.Fault.{Fault}
 use Rattle.ssr_syntax_forms.specs.Trees.{Forest, done, tree, join, spell, nodes}
 use Rattle.ssr_syntax_forms.specs.Parser.{Written, written_of}
-use Rattle.ssr_syntax_forms.specs.Private.Written.{rows, leaves, writes}
+use Rattle.ssr_syntax_forms.specs.Written.{rows, leaves, writes}
 use Rattle.ssr_syntax_forms.specs.Forms.{Form, one, child, mark, seal, ◌then◌, nothing, choose, many, look, check, Test, more, taken_as, passes, agrees, holds, SoFar, so_far, ReadsBelow, read, past, first_leaf, repeat, beside, ◌>>=◌}
 use Rattle.ssr_syntax_forms.specs.Parser.{State, state_of, Mark, mark_at, took, close, repeated}
-use Rattle.ssr_syntax_forms.specs.Private.Runs.{RunsBelow, run}
+use Rattle.ssr_syntax_forms.specs.Runs.{RunsBelow, run}
 use Rattle.ssr_syntax_forms.proofs.Joins.{rows-join, leaves-join, length-rows}
 use Rattle.ssr_syntax_forms.proofs.Soundness.{past_ok}
 use Rattle.ssr_syntax_forms.proofs.Spelling.{ReadsSpelled, read_spelled}

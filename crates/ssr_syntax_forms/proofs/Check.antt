@@ -106,7 +106,7 @@ firsts t (seal kind) = []
 firsts t (f then g) = firsts t f ++ passing t f (firsts t g)
 firsts t nothing = []
 firsts t (choose test f g) = (if dead t f then [] else firsts t f) ++ (if dead t g then [] else firsts t g)
-firsts t (many test f) = firsts t f
+firsts t (many test f) = if dead t f then [] else firsts t f
 firsts t (look want test) = []
 firsts t (check condition) = []
 
@@ -162,7 +162,7 @@ decides t (choose test f g) follow =
     && (dead t g || (decides t g follow && (asks false test g || decides_off test (starts t g follow))))
 decides t (many test f) follow =
     decides_off test follow
-    && (dead t f || ((decides t f (firsts t f ++ follow) && not (empty t f)) && decides_on test (firsts t f)))
+    && (dead t f || ((decides t f (firsts t f ++ follow) && not (empty t f)) && (asks true test f || decides_on test (firsts t f))))
 decides t (look want test) follow = true
 decides t (check condition) follow = true
 
@@ -212,13 +212,18 @@ stays_node (many test f) = ends_sealed f
 stays_node (look want test) = true
 stays_node (check condition) = true
 
+-- the form looks at the next tokens, and does nothing
+abbrev pub only_looks : {Goal : Type 0} → Form Goal → Bool
+only_looks (look want test) = true
+only_looks _ = false
+
 -- the form leads from nothing to one node
 abbrev pub makes_node : {Goal : Type 0} → Form Goal → Bool
 makes_node (one whole ks) = false
 makes_node (child goal) = true
 makes_node (mark f) = ends_sealed f || makes_node f
 makes_node (seal kind) = true
-makes_node (f then g) = ends_sealed g || (makes_node f && stays_node g)
+makes_node (f then g) = (ends_sealed g || (makes_node f && stays_node g)) || (only_looks f && makes_node g)
 makes_node nothing = false
 makes_node (choose test f g) = makes_node f && makes_node g
 makes_node (many test f) = false

@@ -1,5 +1,5 @@
 -- What fits a form is read, where the look-ahead decides.
-use Rattle.std.proofs.Common.{◌≡◌, ℕ, zero, suc, ◌+◌, ◌<◌, Bool, true, false, not, ◌||◌, ◌&&◌, nat_le, List, [], ◌∷◌, ◌++◌, length, take, Result, Ok, inl, inr, refl, sym, ap, subst, ◌∙◌, append_assoc, arith}
+use Rattle.std.proofs.Common.{◌≡◌, ℕ, zero, suc, ◌+◌, ◌<◌, Bool, true, false, not, ◌||◌, ◌&&◌, if◌then◌else◌, nat_le, List, [], ◌∷◌, ◌++◌, length, take, Result, Ok, inl, inr, refl, sym, ap, subst, ◌∙◌, append_assoc, arith}
 use Rattle.std.proofs.lemmas.Bool.{le-leb, and_parts, not-true, or_cases}
 use Rattle.std.proofs.lemmas.List.{length-append}
 use Rattle.std.proofs.Math.Seq.{drop-append_seam, take-append_seam}
@@ -13,7 +13,7 @@ use Rattle.ssr_syntax_forms.specs.Trees.{Forest, done, leaf}
 use Rattle.ssr_syntax_forms.specs.Forms.{Form, one, child, mark, seal, ◌then◌, nothing, choose, many, look, check, Test, more, taken_as, is_one, next, passes, agrees, SoFar, so_far, ReadsBelow, read, past, first_leaf, repeat}
 use Rattle.ssr_syntax_forms.proofs.Nested.{FitsBelow, Repeats, Fits}
 use Rattle.ssr_syntax_forms.proofs.Check.{Tables, dead, empty, firsts, starts, decides_on, decides_off, settles, decides, subset, same_kinds, same_string, same_test, asks}
-use Rattle.ssr_syntax_forms.proofs.Members.{subset_mem, on, off}
+use Rattle.ssr_syntax_forms.proofs.Members.{subset_mem, mem_right, on, off}
 use Rattle.ssr_syntax_forms.proofs.Core.{IsCore, core_before, repeats_core, join_core, DeadBelow, none_fits}
 use Rattle.ssr_syntax_forms.proofs.Starts.{Claims, no_tokens, first_token, begins, ends}
 
@@ -53,46 +53,15 @@ IsComplete t fits below form follow =
     (x z : Forest) (us rest : List Token) → Fits fits form x z us rest → IsCore t.core z → mem (next rest) follow ≡ true
     → read below form (so_far x (us ++ rest)) ≡ Ok (so_far z rest)
 
+within_all : (b : Bool) (k : SyntaxKind) (ks ls : List SyntaxKind) → mem k ((if b then [] else ks) ++ ls) ≡ true → mem k (ks ++ ls) ≡ true
+within_all true k ks ls h = mem_right k ks ls h
+within_all false k ks ls h = h
+
 more_turns : {Goal : Type 0} (t : Tables Goal) (fits : FitsBelow Goal) → Claims t fits → (test : Test) (form : Form Goal) (follow : List SyntaxKind)
     (n : ℕ) (x z : Forest) (us rest : List Token) → Repeats n (Fits fits form) x z us rest → IsCore t.core z
     → mem (next rest) follow ≡ true → mem (next (us ++ rest)) (firsts t form ++ follow) ≡ true
 more_turns t fits c test form follow n x z us rest f h m =
-    begins t fits c (many test form) follow x z us rest (n, f) h m
-
-turns : {Goal : Type 0} (t : Tables Goal) (fits : FitsBelow Goal) (below : ReadsBelow Goal) → Claims t fits → (test : Test) (form : Form Goal) (follow : List SyntaxKind)
-    → decides_off test follow ≡ true → empty t form ≡ false → decides_on test (firsts t form) ≡ true
-    → IsComplete t fits below form (firsts t form ++ follow)
-    → (n fuel : ℕ) (x z : Forest) (us rest : List Token) → Repeats n (Fits fits form) x z us rest → IsCore t.core z
-    → mem (next rest) follow ≡ true → length us < fuel
-    → repeat (λ s. s.rest) fuel test (read below form) (so_far x (us ++ rest)) ≡ Ok (so_far z rest)
-turns t fits below c test form follow d e o turn zero zero x z us rest f h m lt = absurd (omega (arith, lt))
-turns t fits below c test form follow d e o turn zero (suc fuel) x z us rest (no_tokens_taken, z_is) h m lt =
-    subst (λ w. repeat (λ s. s.rest) (suc fuel) test (read below form) w ≡ Ok (so_far z rest)) (sym (stay x z us rest no_tokens_taken z_is))
-    (rw (off test rest follow d m) refl)
-turns t fits below c test form follow d e o turn (suc n) zero x z us rest f h m lt = absurd (omega (arith, lt))
-turns t fits below c test form follow d e o turn (suc n) (suc fuel) x z us rest (y, vs, ws, us_is, one_turn, turns_left) h m lt =
-    let h' = repeats_core t.core fits form n y z ws rest turns_left h in
-    elim (ends vs) [
-      | inl none ↦ absurd (cc (e, no_tokens t fits c form x y vs (ws ++ rest) one_turn h' none))
-      | inr some ↦
-          let first : mem some.0.joined (firsts t form) ≡ true =
-          first_token t fits c form x y vs (ws ++ rest) some.0 some.1 one_turn h' some.2 in
-          let passes_here : passes test (vs ++ (ws ++ rest)) ≡ true =
-          rw some.2 (on test ((some.0 ∷ some.1) ++ (ws ++ rest)) (firsts t form) o first) in
-          let one = turn x y vs (ws ++ rest) one_turn h' (more_turns t fits c test form follow n y z ws rest turns_left h m) in
-          let shorter : length ws < fuel =
-          omega (arith, lt, ap length us_is, length-append vs ws, ap length some.2) in
-          rw (split us vs ws rest us_is, passes_here, one)
-          (turns t fits below c test form follow d e o turn n fuel y z ws rest turns_left h m shorter)
-    ]
-
-no_turns : {Goal : Type 0} (t : Tables Goal) (fits : FitsBelow Goal) → DeadBelow t fits → (form : Form Goal) → dead t form ≡ true
-    → (n : ℕ) (x z : Forest) (us rest : List Token) → Repeats n (Fits fits form) x z us rest → IsCore t.core z
-    → Repeats zero (Fits fits form) x z us rest
-no_turns t fits below form is zero x z us rest f h = f
-no_turns t fits below form is (suc n) x z us rest (mid, taken, left, _, one_turn, turns_left) h =
-    absurd (none_fits t fits below form is x mid taken (left ++ rest) one_turn
-    (repeats_core t.core fits form n mid z left rest turns_left h))
+    within_all (dead t form) (next (us ++ rest)) (firsts t form) follow (begins t fits c (many test form) follow x z us rest (n, f) h m)
 
 -- ** Forms that ask for the test themselves.
 kinds_same : (ks ls : List SyntaxKind) → same_kinds ks ls ≡ true → ks ≡ ls
@@ -137,6 +106,44 @@ asked fits want test nothing a x z us rest f = cc
 asked fits want test (choose other g j) a x z us rest f = cc
 asked fits want test (many other g) a x z us rest f = cc
 asked fits want test (check condition) a x z us rest f = cc
+
+turns : {Goal : Type 0} (t : Tables Goal) (fits : FitsBelow Goal) (below : ReadsBelow Goal) → Claims t fits → (test : Test) (form : Form Goal) (follow : List SyntaxKind)
+    → decides_off test follow ≡ true → empty t form ≡ false → (asks true test form || decides_on test (firsts t form)) ≡ true
+    → IsComplete t fits below form (firsts t form ++ follow)
+    → (n fuel : ℕ) (x z : Forest) (us rest : List Token) → Repeats n (Fits fits form) x z us rest → IsCore t.core z
+    → mem (next rest) follow ≡ true → length us < fuel
+    → repeat (λ s. s.rest) fuel test (read below form) (so_far x (us ++ rest)) ≡ Ok (so_far z rest)
+turns t fits below c test form follow d e o turn zero zero x z us rest f h m lt = absurd (omega (arith, lt))
+turns t fits below c test form follow d e o turn zero (suc fuel) x z us rest (no_tokens_taken, z_is) h m lt =
+    subst (λ w. repeat (λ s. s.rest) (suc fuel) test (read below form) w ≡ Ok (so_far z rest)) (sym (stay x z us rest no_tokens_taken z_is))
+    (rw (off test rest follow d m) refl)
+turns t fits below c test form follow d e o turn (suc n) zero x z us rest f h m lt = absurd (omega (arith, lt))
+turns t fits below c test form follow d e o turn (suc n) (suc fuel) x z us rest (y, vs, ws, us_is, one_turn, turns_left) h m lt =
+    let h' = repeats_core t.core fits form n y z ws rest turns_left h in
+    elim (ends vs) [
+      | inl none ↦ absurd (cc (e, no_tokens t fits c form x y vs (ws ++ rest) one_turn h' none))
+      | inr some ↦
+          let first : mem some.0.joined (firsts t form) ≡ true =
+          first_token t fits c form x y vs (ws ++ rest) some.0 some.1 one_turn h' some.2 in
+          let passes_here : passes test (vs ++ (ws ++ rest)) ≡ true =
+          elim (or_cases (asks true test form) (decides_on test (firsts t form)) o) [
+            | inl a ↦ asked fits true test form a x y vs (ws ++ rest) one_turn
+            | inr on_all ↦ rw some.2 (on test ((some.0 ∷ some.1) ++ (ws ++ rest)) (firsts t form) on_all first)
+          ] in
+          let one = turn x y vs (ws ++ rest) one_turn h' (more_turns t fits c test form follow n y z ws rest turns_left h m) in
+          let shorter : length ws < fuel =
+          omega (arith, lt, ap length us_is, length-append vs ws, ap length some.2) in
+          rw (split us vs ws rest us_is, passes_here, one)
+          (turns t fits below c test form follow d e o turn n fuel y z ws rest turns_left h m shorter)
+    ]
+
+no_turns : {Goal : Type 0} (t : Tables Goal) (fits : FitsBelow Goal) → DeadBelow t fits → (form : Form Goal) → dead t form ≡ true
+    → (n : ℕ) (x z : Forest) (us rest : List Token) → Repeats n (Fits fits form) x z us rest → IsCore t.core z
+    → Repeats zero (Fits fits form) x z us rest
+no_turns t fits below form is zero x z us rest f h = f
+no_turns t fits below form is (suc n) x z us rest (mid, taken, left, _, one_turn, turns_left) h =
+    absurd (none_fits t fits below form is x mid taken (left ++ rest) one_turn
+    (repeats_core t.core fits form n mid z left rest turns_left h))
 
 settled : (wanted : Bool) (test : Test) (ts : List Token) (follow : List SyntaxKind) → settles wanted test follow ≡ true
     → mem (next ts) follow ≡ true → passes test ts ≡ wanted
@@ -204,15 +211,15 @@ complete t fits below c k (choose test g j) follow d x z us rest (inr f) h m =
     ]
 complete t fits below c k (many test g) follow d x z us rest (count, turns_taken) h m =
     let b = and_parts (decides_off test follow)
-    (dead t g || ((decides t g (firsts t g ++ follow) && not (empty t g)) && decides_on test (firsts t g))) d in
+    (dead t g || ((decides t g (firsts t g ++ follow) && not (empty t g)) && (asks true test g || decides_on test (firsts t g)))) d in
     let enough : length us < length (us ++ rest) + 1 = omega (arith, length-append us rest) in
-    elim (or_cases (dead t g) ((decides t g (firsts t g ++ follow) && not (empty t g)) && decides_on test (firsts t g)) b.1) [
+    elim (or_cases (dead t g) ((decides t g (firsts t g ++ follow) && not (empty t g)) && (asks true test g || decides_on test (firsts t g))) b.1) [
       | inl is ↦
           let e = no_turns t fits c.dead g is count x z us rest turns_taken h in
           subst (λ w. read below (many test g) w ≡ Ok (so_far z rest)) (sym (stay x z us rest e.0 e.1))
           (stops test (read below g) (length rest + 1) (so_far z rest) (omega arith) (off test rest follow b.0 m))
       | inr w ↦
-          let v = and_parts (decides t g (firsts t g ++ follow) && not (empty t g)) (decides_on test (firsts t g)) w in
+          let v = and_parts (decides t g (firsts t g ++ follow) && not (empty t g)) (asks true test g || decides_on test (firsts t g)) w in
           let u = and_parts (decides t g (firsts t g ++ follow)) (not (empty t g)) v.0 in
           turns t fits below c test g follow b.0 (not-true (empty t g) u.1) v.1
           (complete t fits below c k g (firsts t g ++ follow) u.0)

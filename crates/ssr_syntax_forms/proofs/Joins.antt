@@ -2,7 +2,7 @@
 use Rattle.std.proofs.Common.{◌≡◌, ℕ, ◌+◌, ◌∷◌, ◌++◌, length, refl, sym, ap, ◌∙◌, append_assoc, arith}
 use Rattle.std.proofs.lemmas.List.{length-append}
 use Rattle.ssr_syntax_forms.specs.Trees.{Forest, done, leaf, tree, join, spell, nodes}
-use Rattle.ssr_syntax_forms.specs.Private.Written.{rows, leaves}
+use Rattle.ssr_syntax_forms.specs.Written.{rows, leaves}
 
 pub spell-join : (x y : Forest) → spell (join x y) ≡ spell x ++ spell y
 spell-join done y = refl

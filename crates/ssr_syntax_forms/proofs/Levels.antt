@@ -1,17 +1,18 @@
 -- The theorems on forms, at every number of levels.
-use Rattle.std.proofs.Common.{◌≡◌, ℕ, zero, suc, List, [], length, Result, Ok, Err, refl, sym, ap, subst, ◌∙◌}
+use Rattle.std.proofs.Common.{◌≡◌, ℕ, zero, suc, List, [], ◌++◌, length, Result, Ok, Err, refl, sym, ap, subst, ◌∙◌}
 use Rattle.ssr_syntax_forms.specs.declared.tokens.Token.{Token}
 use Rattle.ssr_syntax_forms.specs.declared.fault.Fault.{Fault}
 use Rattle.ssr_syntax_forms.specs.Trees.{Forest, done}
 use Rattle.ssr_syntax_forms.specs.Parser.{Written, written_of}
-use Rattle.ssr_syntax_forms.specs.Private.Written.{writes}
+use Rattle.ssr_syntax_forms.specs.Written.{writes}
 use Rattle.ssr_syntax_forms.specs.Forms.{Productions, SoFar, so_far, read}
 use Rattle.ssr_syntax_forms.specs.Parser.{State, state_of, mark_at}
-use Rattle.ssr_syntax_forms.specs.Private.Runs.{run}
+use Rattle.ssr_syntax_forms.specs.Runs.{run}
 use Rattle.ssr_syntax_forms.specs.Levels.{read_goal}
-use Rattle.ssr_syntax_forms.specs.Private.Runs.{run_goal}
+use Rattle.ssr_syntax_forms.specs.Runs.{run_goal}
 use Rattle.ssr_syntax_forms.proofs.Answers.{ok_one}
-use Rattle.ssr_syntax_forms.proofs.Nested.{FitsGoal}
+use Rattle.ssr_syntax_forms.specs.Fitting.{Fits}
+use Rattle.ssr_syntax_forms.proofs.Nested.{FitsGoal, goals_by_rules}
 use Rattle.ssr_syntax_forms.proofs.Soundness.{IsSound, sound}
 use Rattle.ssr_syntax_forms.proofs.Spelling.{Spells, spelled, ReadsSpelled, read_spelled}
 use Rattle.ssr_syntax_forms.proofs.Agreement.{RunsAsRead, agree, emit, plus-none}
@@ -76,3 +77,17 @@ pub refused_as_run : {Goal : Type 0} (grammar : Productions Goal) (n : ℕ) (goa
     → old ≡ state_of (written_of [] []) ts → run_goal grammar n goal old ≡ Err f → read_goal grammar n goal ts ≡ Err f
 refused_as_run grammar n goal ts old f start e =
     from_fault (read_goal grammar n goal ts) f (from_run grammar n goal ts old (Err f) start e)
+
+-- ** What a run from the start says of what fits.
+
+pub fits_as_run : {Goal : Type 0} (grammar : Productions Goal) (n : ℕ) (goal : Goal) (ts : List Token) (new : State)
+    → run_goal grammar n goal (state_of (written_of [] []) ts) ≡ Ok new
+    → (z : Forest) × (us : List Token) × Fits grammar (grammar goal) done z us new.rest × (ts ≡ us ++ new.rest) × (new.out ≡ writes z (length new.rest))
+fits_as_run grammar n goal ts new e =
+    let m = read_as_run grammar n goal ts (state_of blank ts) new refl e in
+    let s = goals_sound grammar n goal ts (so_far m.0 new.rest) m.1 in
+    (m.0, s.0, goals_by_rules grammar n goal m.0 s.0 new.rest s.2, s.1, m.2)
+
+pub refused_at_start : {Goal : Type 0} (grammar : Productions Goal) (n : ℕ) (goal : Goal) (ts : List Token) (f : Fault)
+    → run_goal grammar n goal (state_of (written_of [] []) ts) ≡ Err f → read_goal grammar n goal ts ≡ Err f
+refused_at_start grammar n goal ts f e = refused_as_run grammar n goal ts (state_of blank ts) f refl e

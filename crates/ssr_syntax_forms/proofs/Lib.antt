@@ -10,6 +10,8 @@ mod Agreement
 mod Levels
 mod Check
 mod Members
+mod Ahead
+mod Tests
 mod Core
 mod Starts
 mod Completeness

@@ -1,12 +1,12 @@
 -- What fits a goal is one node.
-use Rattle.std.proofs.Common.{◌≡◌, ℕ, zero, suc, true, ◌&&◌, List, ◌++◌, sym, subst, inl, inr}
+use Rattle.std.proofs.Common.{◌≡◌, ℕ, zero, suc, true, ◌&&◌, ◌||◌, List, ◌++◌, sym, subst, inl, inr}
 use Rattle.std.proofs.lemmas.Bool.{and_parts, or_cases}
 use Rattle.ssr_syntax_lex.specs.declared.kinds.SyntaxKind.{SyntaxKind}
 use Rattle.ssr_syntax_forms.specs.declared.tokens.Token.{Token}
 use Rattle.ssr_syntax_forms.specs.Trees.{Forest, done, tree}
 use Rattle.ssr_syntax_forms.specs.Forms.{Productions, Form, one, child, mark, seal, ◌then◌, nothing, choose, many, look, check}
 use Rattle.ssr_syntax_forms.proofs.Nested.{FitsBelow, Step, Repeats, Fits, FitsGoal}
-use Rattle.ssr_syntax_forms.proofs.Check.{ends_sealed, stays_node, makes_node}
+use Rattle.ssr_syntax_forms.proofs.Check.{ends_sealed, stays_node, only_looks, makes_node}
 
 abbrev pub IsNode : Forest → Type 0
 IsNode z = (kind : SyntaxKind) × (kids : Forest) × (z ≡ tree kind kids done)
@@ -51,6 +51,18 @@ stays fits (check condition) e x z us rest node f = subst IsNode (sym f.1) node
 abbrev pub AreNodes : {Goal : Type 0} → FitsBelow Goal → Type 0
 AreNodes {Goal = Goal} fits = (goal : Goal) (y : Forest) (us rest : List Token) → fits goal y us rest → IsNode y
 
+looked : {Goal : Type 0} (fits : FitsBelow Goal) (form : Form Goal) → only_looks form ≡ true → (x z : Forest) (us rest : List Token) → Fits fits form x z us rest → x ≡ z
+looked fits (look want test) e x z us rest f = sym f.1
+looked fits (one whole ks) e x z us rest f = cc
+looked fits (child goal) e x z us rest f = cc
+looked fits (mark form) e x z us rest f = cc
+looked fits (seal kind) e x z us rest f = cc
+looked fits (g then k) e x z us rest f = cc
+looked fits nothing e x z us rest f = cc
+looked fits (choose test g k) e x z us rest f = cc
+looked fits (many test form) e x z us rest f = cc
+looked fits (check condition) e x z us rest f = cc
+
 pub makes : {Goal : Type 0} (fits : FitsBelow Goal) → AreNodes fits → (form : Form Goal) → makes_node form ≡ true → (z : Forest) (us rest : List Token) → Fits fits form done z us rest → IsNode z
 makes fits h (one whole ks) e z us rest f = cc
 makes fits h (child goal) e z us rest f = subst IsNode (sym f.2) (h goal f.0 us rest f.1)
@@ -62,10 +74,14 @@ makes fits h (mark form) e z us rest f =
     ])
 makes fits h (seal kind) e z us rest f = (kind, done, f.1)
 makes fits h (g then k) e z us rest f =
-    elim (or_cases (ends_sealed k) (makes_node g && stays_node k) e) [
-      | inl s ↦ sealed fits k s f.0 z f.2 rest f.5
-      | inr b ↦ let r = and_parts (makes_node g) (stays_node k) b in
-          stays fits k r.1 f.0 z f.2 rest (makes fits h g r.0 f.0 f.1 (f.2 ++ rest) f.4) f.5
+    elim (or_cases (ends_sealed k || (makes_node g && stays_node k)) (only_looks g && makes_node k) e) [
+      | inl d ↦ elim (or_cases (ends_sealed k) (makes_node g && stays_node k) d) [
+        | inl s ↦ sealed fits k s f.0 z f.2 rest f.5
+        | inr b ↦ let r = and_parts (makes_node g) (stays_node k) b in
+            stays fits k r.1 f.0 z f.2 rest (makes fits h g r.0 f.0 f.1 (f.2 ++ rest) f.4) f.5
+      ]
+      | inr b ↦ let r = and_parts (only_looks g) (makes_node k) b in
+          makes fits h k r.1 z f.2 rest (subst (λ x. Fits fits k x z f.2 rest) (sym (looked fits g r.0 done f.0 f.1 (f.2 ++ rest) f.4)) f.5)
     ]
 makes fits h nothing e z us rest f = cc
 makes fits h (choose test g k) e z us rest (inl f) = makes fits h g (and_parts (makes_node g) (makes_node k) e).0 z us rest f

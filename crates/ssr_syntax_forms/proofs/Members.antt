@@ -1,13 +1,12 @@
 -- Kinds in lists.
-use Rattle.std.proofs.Common.{◌≡◌, ◌-◌, Bool, true, false, not, ◌&&◌, List, [], ◌∷◌, ◌++◌, drop, inl, inr, refl, sym, ap, subst, ◌∙◌}
+use Rattle.std.proofs.Common.{◌≡◌, Bool, true, false, not, ◌||◌, List, [], ◌∷◌, ◌++◌, inl, inr, refl, sym, ap, subst, ◌∙◌}
 use Rattle.std.proofs.lemmas.Bool.{and_parts, cases_Bool, not-true, or_cases, or_left, or_parts, or_right}
-use Rattle.std.proofs.Math.Bool.{and-true, or-false}
+use Rattle.std.proofs.Math.Bool.{and-true, or-false, or_assoc}
 use Rattle.ssr_syntax_lex.specs.declared.kinds.SyntaxKind.{SyntaxKind}
 use Rattle.ssr_syntax_lex.specs.Kinds.{same_kind}
 use Rattle.ssr_syntax_lex.proofs.Shared.{same_kind-equal}
 use Rattle.ssr_syntax_forms.specs.declared.tokens.Token.{Token}
 use Rattle.ssr_syntax_forms.specs.Kinds.{mem}
-use Rattle.ssr_syntax_forms.specs.Private.Runs.{behind_next}
 use Rattle.ssr_syntax_forms.specs.Forms.{Test, is_one, taken_as, are_next, passes, agrees, at, next, END}
 use Rattle.ssr_syntax_forms.proofs.Check.{subset, meets, every, those, must_pass, may_pass, may_be, decides_on, decides_off}
 
@@ -80,6 +79,10 @@ those_mem p k (l ∷ ks) is h =
           ])
     ]
 
+pub mem_append : (k : SyntaxKind) (ks ls : List SyntaxKind) → mem k (ks ++ ls) ≡ (mem k ks || mem k ls)
+mem_append k [] ls = refl
+mem_append k (l ∷ ks) ls = ap (λ b. same_kind k l || b) (mem_append k ks ls) ∙ sym (or_assoc (same_kind k l) (mem k ks) (mem k ls))
+
 -- ** Tests, by the next token.
 next_one : (ks : List SyntaxKind) (ts : List Token) → are_next (ks ∷ []) ts ≡ mem (next ts) ks
 next_one ks [] = and-true (mem END ks)
@@ -92,13 +95,6 @@ next_first ks string (t ∷ ts) h = (and_parts (mem t.joined ks) _ h).0
 
 pub at_next : (ks : List SyntaxKind) (ts : List Token) → passes (at ks) ts ≡ mem (next ts) ks
 at_next ks ts = or-false (are_next (ks ∷ []) ts) ∙ next_one ks ts
-
-pub two_next : (ks ls : List SyntaxKind) (ts : List Token)
-    → passes ((ks ∷ ls ∷ []) ∷ []) ts ≡ (mem (next ts) ks && mem (behind_next ts) ls)
-two_next ks ls [] = or-false (mem END ks && are_next (ls ∷ []) []) ∙ ap (λ b. mem END ks && b) (next_one ls [])
-two_next ks ls (t ∷ ts) =
-    let us = drop (t.size - 1) ts in
-    or-false (mem t.joined ks && are_next (ls ∷ []) us) ∙ ap (λ b. mem t.joined ks && b) (next_one ls us)
 
 must : (test : Test) (ts : List Token) → must_pass test (next ts) ≡ true → passes test ts ≡ true
 must [] ts h = cc

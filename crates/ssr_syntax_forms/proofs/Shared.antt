@@ -6,7 +6,9 @@ pub use Rattle.ssr_syntax_forms.proofs.Answers.{bind_ok, ok_one}
 pub use Rattle.ssr_syntax_forms.proofs.Joins.{length-rows}
 -- kinds in lists
 pub use Rattle.ssr_syntax_forms.proofs.Check.{every, meets}
-pub use Rattle.ssr_syntax_forms.proofs.Members.{apart, at_next, every_mem, one_taken}
+pub use Rattle.ssr_syntax_forms.proofs.Members.{apart, at_next, every_mem, mem_append, one_taken}
+-- tests of several strings
+pub use Rattle.ssr_syntax_forms.proofs.Tests.{first_passes, others_pass}
 -- what fits a form, with goals by levels
 unfoldable pub use Rattle.ssr_syntax_forms.proofs.Nested.{FitsGoal}
 pub use Rattle.ssr_syntax_forms.proofs.Nested.{FitsBelow, Step, Repeats, Fits, goals_by_rules, at_some_level}
@@ -21,4 +23,4 @@ pub use Rattle.ssr_syntax_forms.proofs.Decision.{IsLone, decided, answers}
 -- readings and runs
 pub use Rattle.ssr_syntax_forms.proofs.Levels.{goals_spell, goals_sound, read_as_run, refused_as_run}
 pub use Rattle.ssr_syntax_forms.proofs.Cuts.{cut_goals}
-pub use Rattle.ssr_syntax_forms.proofs.Loops.{run_comma_list, run_decide}
+pub use Rattle.ssr_syntax_forms.proofs.Loops.{run_as_long_as, run_comma_list, run_decide}

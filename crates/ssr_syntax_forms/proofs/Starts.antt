@@ -128,6 +128,13 @@ repeats_first t fits c form found (suc m) x z us rest v vs (mid, taken, left, us
           (found x mid taken (left ++ rest) some.0 some.1 one_turn h' some.2)
     ]
 
+no_dead_turn : {Goal : Type 0} (t : Tables Goal) (fits : FitsBelow Goal) → Claims t fits → (form : Form Goal) → dead t form ≡ true
+    → (n : ℕ) (x z : Forest) (us rest : List Token) (v : Token) (vs : List Token) → Repeats n (Fits fits form) x z us rest
+    → IsCore t.core z → us ≡ v ∷ vs → ⊥
+no_dead_turn t fits c form is zero x z us rest v vs (no_tokens_taken, _) h n = cc (no_tokens_taken, n)
+no_dead_turn t fits c form is (suc m) x z us rest v vs (mid, taken, left, us_is, one_turn, turns_left) h n =
+    none_fits t fits c.dead form is x mid taken (left ++ rest) one_turn (repeats_core t.core fits form m mid z left rest turns_left h)
+
 pub first_token : {Goal : Type 0} (t : Tables Goal) (fits : FitsBelow Goal) → Claims t fits → (form : Form Goal) (x z : Forest) (us rest : List Token)
     (v : Token) (vs : List Token) → Fits fits form x z us rest → IsCore t.core z → us ≡ v ∷ vs → mem v.joined (firsts t form) ≡ true
 first_token t fits c (one whole ks) x z us rest v vs (front, _, us_is, is, _, _) h n =
@@ -153,7 +160,10 @@ first_token t fits c (choose test g k) x z us rest v vs (inr f) h n =
     mem_right v.joined (if dead t g then [] else firsts t g) (if dead t k then [] else firsts t k)
     (rw (alive t fits c k (firsts t k) x z us rest f h) (first_token t fits c k x z us rest v vs f h n))
 first_token t fits c (many test g) x z us rest v vs (count, turns_taken) h n =
-    repeats_first t fits c g (first_token t fits c g) count x z us rest v vs turns_taken h n
+    elim (cases_Bool (dead t g)) [
+      | inl is ↦ absurd (no_dead_turn t fits c g is count x z us rest v vs turns_taken h n)
+      | inr not_dead ↦ rw not_dead (repeats_first t fits c g (first_token t fits c g) count x z us rest v vs turns_taken h n)
+    ]
 first_token t fits c (look want test) x z us rest v vs (no_tokens_taken, _, _) h n = cc (no_tokens_taken, n)
 first_token t fits c (check condition) x z us rest v vs (no_tokens_taken, _, _) h n = cc (no_tokens_taken, n)
 

@@ -77,6 +77,10 @@ decide test f g = choose test (look true test then f) (look false test then g)
 abbrev pub repeated : {Goal : Type 0} → List SyntaxKind → Form Goal → Form Goal
 repeated first f = many (at first) f
 
+-- any number of times: as long as the next tokens pass the test, and no longer
+unfoldable pub as_long_as : {Goal : Type 0} → Test → Form Goal → Form Goal
+as_long_as test f = many test (look true test then f)
+
 -- a comma, or none where no other item begins
 abbrev pub comma : {Goal : Type 0} → List SyntaxKind → Form Goal
 comma first = choose (at (COMMA ∷ [])) (a COMMA) (look false (at first))

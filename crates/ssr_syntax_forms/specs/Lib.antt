@@ -4,5 +4,7 @@ pub mod Forms
 pub mod Fitting
 pub mod Parser
 pub mod Levels
+pub mod Written
+pub mod Runs
 pub mod Decision
 pub mod Private

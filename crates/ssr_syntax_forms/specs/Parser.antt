@@ -1,5 +1,5 @@
 -- What the parser's functions do to what is written and to the tokens that are left.
-use Rattle.std.specs.Prelude.{◌≡◌, ◌≢◌, ℕ, ◌+◌, ◌-◌, if◌then◌else◌, Bool, true, false, List, ◌∷◌, [], ◌++◌, length, Result, Ok, Err}
+use Rattle.std.specs.Prelude.{◌≡◌, ◌≢◌, ℕ, ◌+◌, ◌-◌, if◌then◌else◌, Bool, true, false, List, ◌∷◌, [], ◌++◌, length, take, Result, Ok, Err}
 use Rattle.std.specs.Borrow.{MutBor}
 use Rattle.ssr_syntax_lex.specs.declared.kinds.SyntaxKind.{SyntaxKind}
 use Rattle.ssr_syntax_lex.specs.declared.kinds.SyntaxKind.TheVariants.{COMMA}
@@ -41,6 +41,10 @@ mark_at made start = record { made = made; start = start }
 abbrev pub mark_of : State → Mark
 mark_of s = mark_at (length s.out.rows) s.rest
 
+-- the tokens since a mark
+abbrev pub since : Mark → State → List Token
+since m s = take (length m.start - length s.rest) m.start
+
 -- ** Steps from one state to the next.
 
 -- what is written behind the token in front, which is taken whole or but for its first part
@@ -66,14 +70,14 @@ unfoldable pub repeated : Test → (State → Result State Fault) → State → 
 repeated test step s = repeat (λ z. z.rest) (length s.rest + 1) test step s
 
 -- a comma; or none, where no further item begins
-abbrev pub separated : List SyntaxKind → State → Result State Fault
-separated first s =
+abbrev pub comma : List SyntaxKind → State → Result State Fault
+comma first s =
     if passes (at (COMMA ∷ [])) s.rest then taken true (COMMA ∷ []) s
     else (if agrees false (passes (at first) s.rest) then Ok s else Err faults.NoTree)
 
 -- an item, and then its comma
 abbrev pub listed : List SyntaxKind → (State → Result State Fault) → State → Result State Fault
-listed first item s = item s >>= separated first
+listed first item s = item s >>= comma first
 
 -- items with commas between them, as long as one begins
 unfoldable pub comma_separated : List SyntaxKind → (State → Result State Fault) → State → Result State Fault

@@ -1,15 +1,15 @@
 //! The parser's state: the tokens that are left, and what is written of those that were read.
 ghost use Rattle.std.specs.Prelude.{◌≡◌, ◌-◌, true, false, if◌then◌else◌, [], ◌∷◌, Result, Ok, Err, IfOk};
-ghost use Rattle.ssr_syntax_forms.specs.Forms.{agrees, at, next, passes};
-ghost use Rattle.ssr_syntax_forms.specs.Parser.{Calls, Finishes, State, Steps, close, comma_separated, listed, mark_of, repeated, separated, state_of, taken};
-ghost use Rattle.ssr_syntax_forms.specs.Private.Runs.{behind_next, taken_with};
+ghost use Rattle.ssr_syntax_forms.specs.Forms.{Test, agrees, at, holds, last_isnt, next, none_is, passes};
+ghost use Rattle.ssr_syntax_forms.specs.Parser.{Calls, Finishes, State, Steps, close, comma, comma_separated, listed, mark_of, repeated, since, state_of, taken};
+ghost use Rattle.ssr_syntax_forms.specs.Private.Ahead.{Asks, nth, taken_with};
 ghost use Rattle.ssr_syntax_forms.specs.Parser.{written_of};
 ghost use Rattle.ssr_syntax_forms.specs.declared.fault.Fault.{Fault};
 ghost use Rattle.ssr_syntax_forms.specs.declared.fault.Fault.TheVariants as faults;
 
 use crate::fault::Fault;
 use crate::rows::{Output, Taken};
-use crate::tokens::{END, Token, TokenSet};
+use crate::tokens::{Token, TokenSet, last_isnt, next, none_is, nth};
 use ssr_syntax_lex::SyntaxKind;
 use ssr_syntax_tree::{NodeRow, NodeRows};
 use std::alloc::{AllocError, Global};
@@ -107,18 +107,14 @@ impl<'a> Parser<'a> {
     pub fn current(&self) -> SyntaxKind
         ensures { result ≡ next self.now.rest }
     {
-        match self.rest.first() {
-            Some(token) => token.joined,
-            None => END,
-        }
+        next(self.rest)
     }
 
     /// Whether the next token is of this kind.
-    #[tactic(auto, using(crate::proofs::Members::at_next))]
     pub fn at(&self, kind: SyntaxKind) -> bool
         ensures { result ≡ passes (at (kind ∷ [])) self.now.rest }
     {
-        self.current() == kind
+        self.at_any(kind)
     }
 
     /// Whether the next token is of one of these kinds.
@@ -130,39 +126,52 @@ impl<'a> Parser<'a> {
     }
 
     /// Whether the next token is of one of the first kinds, and the one behind it of one of the second.
-    #[tactic(auto, using(crate::proofs::Members::two_next))]
+    #[tactic(auto, using(crate::proofs::Ahead::two_next))]
     pub fn at_two<S: TokenSet, T: TokenSet>(&self, first: S, second: T) -> bool
         ensures { result ≡ passes ((S.kinds first ∷ T.kinds second ∷ []) ∷ []) self.now.rest }
     {
-        first.contains(self.current()) && second.contains(self.behind_next())
+        self.at_any(first) && second.contains(self.nth(1))
     }
 
-    /// The kind of the token behind the next one; `END` where there is none.
-    fn behind_next(&self) -> SyntaxKind
-        ensures { result ≡ behind_next self.now.rest }
+    /// The same of three tokens, one behind another.
+    #[tactic(auto, using(crate::proofs::Ahead::three_next))]
+    pub fn at_three<S: TokenSet, T: TokenSet, U: TokenSet>(
+        &self,
+        first: S,
+        second: T,
+        third: U,
+    ) -> bool
+        ensures { result ≡ passes ((S.kinds first ∷ T.kinds second ∷ U.kinds third ∷ []) ∷ []) self.now.rest }
     {
-        let Some((token, rest)) = self.rest.split_first() else {
-            return END;
-        };
-        match rest.get(token.size.saturating_sub(1) as usize) {
-            Some(behind) => behind.joined,
-            None => END,
-        }
+        self.at_two(first, second) && third.contains(self.nth(2))
+    }
+
+    /// The same of four tokens, one behind another.
+    #[tactic(auto, using(crate::proofs::Ahead::four_next))]
+    pub fn at_four<S: TokenSet, T: TokenSet, U: TokenSet, V: TokenSet>(
+        &self,
+        first: S,
+        second: T,
+        third: U,
+        fourth: V,
+    ) -> bool
+        ensures { result ≡ passes ((S.kinds first ∷ T.kinds second ∷ U.kinds third ∷ V.kinds fourth ∷ []) ∷ []) self.now.rest }
+    {
+        self.at_three(first, second, third) && fourth.contains(self.nth(3))
+    }
+
+    /// The kind of the token that so many stand in front of; `END` where there is none.
+    fn nth(&self, ahead: usize) -> SyntaxKind
+        ensures { result ≡ nth ahead self.now.rest }
+    {
+        nth(self.rest, ahead)
     }
 
     /// Takes a token of this kind; `NoTree` where none is next.
     pub fn expect(&mut self, kind: SyntaxKind) -> Result<(), Fault>
         ensures { Steps self.new result (taken true (kind ∷ []) self.old) }
     {
-        let tokens = self.rest;
-        match tokens.split_first() {
-            Some((first, rest)) if first.joined == kind => self.take(
-                first.joined,
-                first.size,
-                rest,
-            ),
-            _ => Err(Fault::NoTree),
-        }
+        self.expect_any(kind)
     }
 
     /// Takes a token of one of these kinds; `NoTree` where none is next.
@@ -213,6 +222,43 @@ impl<'a> Parser<'a> {
         }
     }
 
+    /// Refuses a next token that is of none of these kinds.
+    pub fn expect_at<S: TokenSet>(&self, set: S) -> Result<(), Fault>
+        ensures { Steps self.now result (if agrees true (passes (at (S.kinds set)) self.now.rest) then Ok self.now else Err faults.NoTree) }
+    {
+        if !self.at_any(set) {
+            return Err(Fault::NoTree);
+        }
+        Ok(())
+    }
+
+    /// Refuses a token of these kinds, as it is cut from the text, among those since the mark.
+    pub fn refuse_since<S: TokenSet>(&self, mark: &Mark<'_>, set: S) -> Result<(), Fault>
+        ensures { Steps self.now result (if holds (none_is (S.kinds set)) (since mark.now self.now) then Ok self.now else Err faults.NoTree) }
+    {
+        if !none_is(self.since(mark), set) {
+            return Err(Fault::NoTree);
+        }
+        Ok(())
+    }
+
+    /// Refuses a last token since the mark of these kinds, as it is cut from the text.
+    pub fn refuse_last<S: TokenSet>(&self, mark: &Mark<'_>, set: S) -> Result<(), Fault>
+        ensures { Steps self.now result (if holds (last_isnt (S.kinds set)) (since mark.now self.now) then Ok self.now else Err faults.NoTree) }
+    {
+        if !last_isnt(self.since(mark), set) {
+            return Err(Fault::NoTree);
+        }
+        Ok(())
+    }
+
+    /// The tokens since the mark.
+    fn since<'m>(&self, mark: &Mark<'m>) -> &'m [Token]
+        ensures { result.now ≡ since mark.now self.now }
+    {
+        &mark.start[..mark.start.len().saturating_sub(self.rest.len())]
+    }
+
     /// Takes a token of this kind, joined from so many: the one in front of `rest`, and the others of `rest`.
     fn take(&mut self, kind: SyntaxKind, size: u8, rest: &'a [Token]) -> Result<(), Fault>
         ensures { Steps self.new result (taken_with kind (size - 1) rest.entry.now self.old.out) }
@@ -231,7 +277,6 @@ impl<'a> Parser<'a> {
 
     /// The step again and again, as long as one of these kinds is next. `NoTree` after more turns
     /// than there are tokens left.
-    #[tactic(auto, using(crate::proofs::Loops::repeat_step, crate::proofs::Loops::repeat_end), unfolding(crate::specs::Parser::repeated))]
     pub fn repeated<S: TokenSet, F: Fn(&mut Parser<'_>) -> Result<(), Fault>>(
         &mut self,
         first: S,
@@ -241,8 +286,47 @@ impl<'a> Parser<'a> {
         ensures { (does : State → Result State Fault) → Calls (F.post step) does
             → Steps self.new result (repeated (at (S.kinds first)) does self.old) }
     {
+        self.repeated_while(
+            |p: &Parser<'_>|
+                ensures { result ≡ passes (at (S.kinds first)) p.now.rest }
+            { p.at_any(first) },
+            step,
+        )
+    }
+
+    /// The same, as long as one of the first kinds is next, and one of the second behind it.
+    pub fn repeated_two<S: TokenSet, T: TokenSet, F: Fn(&mut Parser<'_>) -> Result<(), Fault>>(
+        &mut self,
+        first: S,
+        second: T,
+        step: F,
+    ) -> Result<(), Fault>
+        requires { F.IsAlwaysCallable step }
+        ensures { (does : State → Result State Fault) → Calls (F.post step) does
+            → Steps self.new result (repeated ((S.kinds first ∷ T.kinds second ∷ []) ∷ []) does self.old) }
+    {
+        self.repeated_while(
+            |p: &Parser<'_>|
+                ensures { result ≡ passes ((S.kinds first ∷ T.kinds second ∷ []) ∷ []) p.now.rest }
+            { p.at_two(first, second) },
+            step,
+        )
+    }
+
+    /// The same, as long as the tokens that are left pass.
+    #[tactic(auto, using(crate::proofs::Loops::repeat_step, crate::proofs::Loops::repeat_end), unfolding(crate::specs::Parser::repeated))]
+    fn repeated_while<P: Fn(&Parser<'_>) -> bool, F: Fn(&mut Parser<'_>) -> Result<(), Fault>>(
+        &mut self,
+        goes_on: P,
+        step: F,
+    ) -> Result<(), Fault>
+        requires goes_on { P.IsAlwaysCallable goes_on }
+        requires step { F.IsAlwaysCallable step }
+        ensures { (test : Test) → Asks (P.post goes_on) test → (does : State → Result State Fault) → Calls (F.post step) does
+            → Steps self.new result (repeated test does self.old) }
+    {
         'turns: for _turn in 0..self.rest.len() + 1 {
-            if !self.at_any(first) {
+            if !goes_on(self) {
                 return Ok(());
             }
             step(self)?;
@@ -270,14 +354,14 @@ impl<'a> Parser<'a> {
                     → Steps p.new result (listed (S.kinds first) does p.old) }
             {
                 item(p)?;
-                p.separated(first)
+                p.comma(first)
             },
         )
     }
 
-    /// A comma, or none where no item begins.
-    fn separated<S: TokenSet>(&mut self, first: S) -> Result<(), Fault>
-        ensures { Steps self.new result (separated (S.kinds first) self.old) }
+    /// Takes a comma, if one is next. `NoTree` where none is, and one of these kinds begins a further item.
+    pub fn comma<S: TokenSet>(&mut self, first: S) -> Result<(), Fault>
+        ensures { Steps self.new result (comma (S.kinds first) self.old) }
     {
         if self.at(SyntaxKind::COMMA) {
             self.expect(SyntaxKind::COMMA)
@@ -292,6 +376,7 @@ impl<'a> Parser<'a> {
 #[cfg(test)]
 mod tests {
     use super::*;
+    use crate::tokens::END;
     use ssr_syntax_lex::SyntaxKind::*;
     use std::test::Fail;
 
@@ -344,6 +429,15 @@ mod tests {
         Ok(())
     }
 
+    // Each of them is a token by itself.
+    fn tokens(alloc: Global, kinds: &[SyntaxKind]) -> Result<Vec<Token>, Fail> {
+        let mut tokens = Vec::new(alloc);
+        for kind in kinds {
+            tokens.push(token(*kind))?;
+        }
+        Ok(tokens)
+    }
+
     #[test]
     fn items_of_a_list_stand_apart_by_commas(rt: HostRuntime) -> Result<(), Fail> {
         for (kinds, fits) in [
@@ -354,10 +448,7 @@ mod tests {
             (&[INT_NUMBER, INT_NUMBER][..], false),
             (&[COMMA][..], false),
         ] {
-            let mut tokens = Vec::new(rt.alloc());
-            for kind in kinds {
-                tokens.push(token(*kind))?;
-            }
+            let tokens = tokens(rt.alloc(), kinds)?;
             let mut p = Parser::new(rt.alloc(), &tokens)?;
             let read = p.comma_list(INT_NUMBER, |p| p.expect(INT_NUMBER));
             let whole = read.is_ok() && p.finish().is_ok();
@@ -374,6 +465,80 @@ mod tests {
         p.eat(MUT_KW)?;
         p.eat(IDENT)?;
         assert_eq!(rt; p.finish()?.taken.len(), 2);
+        Ok(())
+    }
+
+    #[test]
+    fn tokens_ahead_are_told_by_their_kinds(rt: HostRuntime) -> Result<(), Fail> {
+        // `&& mut x :`
+        let [first, second] = two_ampersands();
+        let tokens = [first, second, token(MUT_KW), token(IDENT), token(COLON)];
+        let p = Parser::new(rt.alloc(), &tokens)?;
+        assert!(rt; p.at_three(AMP2, MUT_KW, IDENT));
+        assert!(rt; !p.at_three(AMP2, MUT_KW, COLON));
+        assert!(rt; p.at_four(AMP2, MUT_KW, IDENT, COLON));
+        assert!(rt; !p.at_four(AMP2, MUT_KW, IDENT, IDENT));
+        let p = Parser::new(rt.alloc(), &tokens[3..])?;
+        assert!(rt; p.at_three(IDENT, COLON, END));
+        assert!(rt; p.at_four(IDENT, COLON, END, END));
+        Ok(())
+    }
+
+    #[test]
+    fn a_loop_goes_on_while_two_tokens_are_next(rt: HostRuntime) -> Result<(), Fail> {
+        let tokens = tokens(rt.alloc(), &[IDENT, EQ, IDENT, EQ, IDENT])?;
+        let mut p = Parser::new(rt.alloc(), &tokens)?;
+        p.repeated_two(IDENT, EQ, |p| {
+            p.expect(IDENT)?;
+            p.expect(EQ)
+        })?;
+        p.expect(IDENT)?;
+        assert_eq!(rt; p.finish()?.taken.len(), 5);
+        let mut p = Parser::new(rt.alloc(), &tokens)?;
+        let idle = p.repeated_two(IDENT, EQ, |_p| Ok(()));
+        assert_eq!(rt; idle, Err(Fault::NoTree));
+        Ok(())
+    }
+
+    #[test]
+    fn a_comma_is_wanted_before_a_further_item(rt: HostRuntime) -> Result<(), Fail> {
+        let tokens = tokens(rt.alloc(), &[COMMA, IDENT])?;
+        let mut p = Parser::new(rt.alloc(), &tokens)?;
+        p.comma(IDENT)?;
+        p.comma(INT_NUMBER)?;
+        assert_eq!(rt; p.comma(IDENT), Err(Fault::NoTree));
+        Ok(())
+    }
+
+    #[test]
+    fn a_next_token_is_wanted_or_refused(rt: HostRuntime) -> Result<(), Fail> {
+        let tokens = tokens(rt.alloc(), &[IDENT])?;
+        let p = Parser::new(rt.alloc(), &tokens)?;
+        assert_eq!(rt; p.expect_at(IDENT), Ok(()));
+        assert_eq!(rt; p.expect_at(EQ), Err(Fault::NoTree));
+        assert_eq!(rt; p.refuse_at(EQ), Ok(()));
+        assert_eq!(rt; p.refuse_at(IDENT), Err(Fault::NoTree));
+        Ok(())
+    }
+
+    #[test]
+    fn tokens_since_a_mark_are_refused(rt: HostRuntime) -> Result<(), Fail> {
+        let tokens = tokens(rt.alloc(), &[MUT_KW, IDENT, EQ, COMMA])?;
+        let mut p = Parser::new(rt.alloc(), &tokens)?;
+        p.expect(MUT_KW)?;
+        let m = p.start();
+        assert_eq!(rt; p.refuse_last(&m, IDENT), Ok(()));
+        p.expect(IDENT)?;
+        p.expect(EQ)?;
+        for (kind, stands, is_last) in [
+            (MUT_KW, false, false),
+            (IDENT, true, false),
+            (EQ, true, true),
+            (COMMA, false, false),
+        ] {
+            assert_eq!(rt; p.refuse_since(&m, kind).is_err(), stands);
+            assert_eq!(rt; p.refuse_last(&m, kind).is_err(), is_last);
+        }
         Ok(())
     }
 }

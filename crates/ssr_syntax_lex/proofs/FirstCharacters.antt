@@ -1,7 +1,9 @@
 -- The rows that are left when the first character is known.
 use Rattle.std.proofs.Common.{◌≡◌, ℕ, Bool, true, false, if◌then◌else◌, [], ◌∷◌, drop, refl, sym, ap, subst, ◌∙◌, lit<, ne_eqb, eqb-true}
 use Rattle.std.specs.Prelude.{Option, Some, None, Result, slice_get}
+use Rattle.std.specs.Option.{option_map}
 use Rattle.unicode_ident.proofs.IdentLemmas.{is_xid_start-ascii}
+use Rattle.ssr_syntax_lex.proofs.WordLaws.{marks_apart}
 use Rattle.ssr_syntax_lex.specs.Cursor.{Chars, is_at, begins, past}
 use Rattle.ssr_syntax_lex.specs.Characters.{◌∈◌, the_char, is_whitespace, is_digit, starts_word, is_in_line}
 use Rattle.ssr_syntax_lex.specs.Words.{mark_kind}
@@ -79,8 +81,17 @@ token_word dots c cs first plain white word = other_row dots c cs false true (is
 pub token_number : (dots c : ℕ) (cs : Chars) → slice_get cs 0 ≡ Some c → IsPlain c → is_whitespace c ≡ false → starts_word c ≡ false → is_digit c ≡ true → token dots cs ≡ Some (number dots cs)
 token_number dots c cs first plain white word digit = other_row dots c cs false false true first plain white word digit
 
-pub token_mark : (dots c : ℕ) (cs : Chars) → slice_get cs 0 ≡ Some c → IsPlain c → is_whitespace c ≡ false → starts_word c ≡ false → is_digit c ≡ false → token dots cs ≡ punctuation cs
-token_mark dots c cs first plain white word digit = other_row dots c cs false false false first plain white word digit
+marked : (c : ℕ) (mark : Option SyntaxKind) (cs : Chars) → slice_get cs 0 ≡ Some c → mark_kind c ≡ mark → punctuation cs ≡ option_map (λ kind. let taken : Taken = (kind, drop 1 cs) in taken) mark
+marked c mark = from_front (λ cs. mark_kind c ≡ mark → punctuation cs ≡ option_map (λ kind. let taken : Taken = (kind, drop 1 cs) in taken) mark) c
+    (λ cs e. ap (option_map (λ kind. let taken : Taken = (kind, cs) in taken)) e)
+
+pub token_mark : (dots c : ℕ) (cs : Chars) (kind : SyntaxKind) → slice_get cs 0 ≡ Some c → IsPlain c → mark_kind c ≡ Some kind → token dots cs ≡ Some (kind, drop 1 cs)
+token_mark dots c cs kind first plain mark =
+    let apart = marks_apart c kind mark in
+    other_row dots c cs false false false first plain apart.0 apart.1 apart.2 ∙ marked c (Some kind) cs first mark
+
+pub token_unknown : (dots c : ℕ) (cs : Chars) → slice_get cs 0 ≡ Some c → IsPlain c → mark_kind c ≡ None → is_whitespace c ≡ false → starts_word c ≡ false → is_digit c ≡ false → token dots cs ≡ None
+token_unknown dots c cs first plain mark white word digit = other_row dots c cs false false false first plain white word digit ∙ marked c None cs first mark
 
 pub token_nothing : (dots : ℕ) (cs : Chars) → slice_get cs 0 ≡ None → token dots cs ≡ None
 unfolding token
@@ -147,6 +158,6 @@ pub ruleset c_rows = (token_c, fault_c)
 
 pub ruleset apostrophe_rows = (token_apostrophe, fault_apostrophe)
 
-pub ruleset plain_rows = (token_white, token_word, token_number, token_mark)
+pub ruleset plain_rows = (token_white, token_word, token_number)
 
 pub ruleset no_rows = (token_nothing, fault_nothing)

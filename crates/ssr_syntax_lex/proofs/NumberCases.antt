@@ -1,11 +1,15 @@
 -- The number at the front, by the run that it begins with and what the code finds behind it.
-use Rattle.std.proofs.Common.{◌≡◌, ℕ, Bool, true, false, ◌&&◌, ◌||◌, if◌then◌else◌, drop, refl, sym, ap, subst, ◌∙◌}
-use Rattle.ssr_syntax_lex.specs.Cursor.{Chars, run, past}
-use Rattle.ssr_syntax_lex.specs.Characters.{is_digit, continues_word}
-use Rattle.ssr_syntax_lex.specs.Numbers.{Part, with_run, ends_with_exponent_mark, takes_point, is_signed_digit, takes_sign, has_exponent, whole_run, with_point, with_sign, number_kind, number}
+use Rattle.std.proofs.Common.{◌≡◌, ℕ, suc, ◌-◌, ◌==◌, Bool, true, false, not, ◌&&◌, ◌||◌, if◌then◌else◌, [], ◌∷◌, length, drop, refl, sym, ap, subst, ◌∙◌}
+use Rattle.std.specs.List.{list_all}
+use Rattle.std.proofs.lemmas.Bool.{and_parts, eqb-true}
+use Rattle.ssr_syntax_lex.specs.Private.Steps.{comes_point}
+use Rattle.ssr_syntax_lex.specs.Cursor.{Chars, passes_at, begins, is_at, run, past}
+use Rattle.ssr_syntax_lex.specs.Characters.{is_digit, is_digit_or_underscore, is_exponent_mark, starts_word, continues_word}
+use Rattle.ssr_syntax_lex.specs.Numbers.{Part, with_run, has_radix, ends_with_exponent_mark, takes_point, is_signed_digit, takes_sign, has_exponent, whole_run, with_point, with_sign, number_kind, number}
 use Rattle.ssr_syntax_lex.specs.declared.kinds.SyntaxKind.TheVariants as k
 use Rattle.ssr_syntax_lex.proofs.PointLaws.{pointed_sign}
-use Rattle.std.proofs.Common.{ne_eqb}
+use Rattle.ssr_syntax_lex.proofs.NumberLaws.{all_passed, no_mark}
+use Rattle.std.proofs.Common.{arith, ne_eqb}
 
 whole_is : (cs text rest : Chars) → text ≡ run continues_word cs → rest ≡ past continues_word cs → ◌≡◌ {A = Part} (text, rest) (whole_run cs)
 whole_is cs text rest t r =
@@ -70,3 +74,69 @@ pub rest_by_sign : (dots : ℕ) (cs text rest : Chars) → (dots ≡ 1 → ⊥) 
 rest_by_sign dots cs text rest one t r point sign =
     let same = whole_is cs text rest t r in
     sym (ap (λ n. n.1) (number_at dots cs one) ∙ (ap (λ (p : Part). (with_sign (with_point p)).1) (sym same) ∙ rest_sign (text, rest) point sign))
+
+-- ** A run of digits and `_`.
+
+pub point_at : (text rest : Chars) (point : Bool) → list_all is_digit_or_underscore text ≡ true → comes_point rest ≡ point → takes_point (text, rest) ≡ point
+point_at text rest point plain comes =
+    ap (λ b. b && begins "." rest && not (is_at 1 "." rest) && not (passes_at 1 starts_word rest)) plain ∙ comes
+
+pub pointless : (text rest : Chars) → list_all is_digit_or_underscore text ≡ false → takes_point (text, rest) ≡ false
+pointless text rest plain =
+    ap (λ b. b && begins "." rest && not (is_at 1 "." rest) && not (passes_at 1 starts_word rest)) plain
+
+no_exponent_mark : (c : ℕ) → is_digit_or_underscore c ≡ true → is_exponent_mark c ≡ false
+no_exponent_mark c plain = rw (no_mark c 101 plain refl, no_mark c 69 plain refl) refl
+
+-- it doesn't end with `e` or `E`
+plain_end : (text : Chars) → list_all is_digit_or_underscore text ≡ true → ends_with_exponent_mark text ≡ false
+plain_end [] plain = refl
+plain_end (c ∷ []) plain = no_exponent_mark c (and_parts _ _ plain).0
+plain_end (c ∷ d ∷ cs) plain =
+    let place : length (c ∷ d ∷ cs) - 1 ≡ suc (length (d ∷ cs) - 1) = omega arith in
+    ap (λ i. passes_at i is_exponent_mark (c ∷ d ∷ cs)) place ∙ plain_end (d ∷ cs) (and_parts _ _ plain).1
+
+-- nor has it one behind its digits
+nothing_left : (cs : Chars) → (length cs == 0) ≡ true → passes_at 0 is_exponent_mark cs ≡ false
+nothing_left [] e = refl
+nothing_left (c ∷ cs) e = absurd (omega (arith, eqb-true (length (c ∷ cs)) 0 e))
+
+off_between : (a b : Bool) → (a && false && b) ≡ false
+off_between true b = refl
+off_between false b = refl
+
+off_behind : (a : Bool) → (a && false) ≡ false
+off_behind true = refl
+off_behind false = refl
+
+plain_sign : (text rest : Chars) → list_all is_digit_or_underscore text ≡ true → takes_sign (text, rest) ≡ false
+plain_sign text rest plain =
+    ap (λ b. not (has_radix text) && b && is_signed_digit rest) (plain_end text plain) ∙ off_between (not (has_radix text)) (is_signed_digit rest)
+
+plain_exponent : (text : Chars) → list_all is_digit_or_underscore text ≡ true → has_exponent text ≡ false
+plain_exponent text plain =
+    ap (λ b. not (has_radix text) && b) (nothing_left (past is_digit_or_underscore text) (sym (all_passed is_digit_or_underscore text) ∙ plain))
+    ∙ off_behind (not (has_radix text))
+
+int_kind : (w : Part) → takes_point w ≡ false → takes_sign w ≡ false → has_exponent w.0 ≡ false → number_kind w ≡ k.INT_NUMBER
+int_kind w point sign exponent =
+    ap (λ b. if b || takes_sign (with_point w) || has_exponent (with_sign (with_point w)).0 then k.FLOAT_NUMBER else k.INT_NUMBER) point
+    ∙ ap (λ (p : Part). if takes_sign p || has_exponent (with_sign p).0 then k.FLOAT_NUMBER else k.INT_NUMBER) (no_point w point)
+    ∙ ap (λ b. if b || has_exponent (if b then with_run 2 w else w).0 then k.FLOAT_NUMBER else k.INT_NUMBER) sign
+    ∙ ap (λ b. if b then k.FLOAT_NUMBER else k.INT_NUMBER) exponent
+
+int_rest : (w : Part) → takes_point w ≡ false → takes_sign w ≡ false → (with_sign (with_point w)).1 ≡ w.1
+int_rest w point sign =
+    ap (λ p. (with_sign p).1) (no_point w point) ∙ ap (λ b. (if b then with_run 2 w else w).1) sign
+
+pub plain_int : (dots : ℕ) (cs text rest : Chars) → (dots ≡ 1 → ⊥) → text ≡ run continues_word cs → rest ≡ past continues_word cs → list_all is_digit_or_underscore text ≡ true → comes_point rest ≡ false → k.INT_NUMBER ≡ (number dots cs).0
+plain_int dots cs text rest one t r plain point =
+    let same = whole_is cs text rest t r in
+    sym (ap (λ n. n.0) (number_at dots cs one) ∙ (ap number_kind (sym same)
+    ∙ int_kind (text, rest) (point_at text rest false plain point) (plain_sign text rest plain) (plain_exponent text plain)))
+
+pub plain_rest : (dots : ℕ) (cs text rest : Chars) → (dots ≡ 1 → ⊥) → text ≡ run continues_word cs → rest ≡ past continues_word cs → list_all is_digit_or_underscore text ≡ true → comes_point rest ≡ false → rest ≡ (number dots cs).1
+plain_rest dots cs text rest one t r plain point =
+    let same = whole_is cs text rest t r in
+    sym (ap (λ n. n.1) (number_at dots cs one) ∙ (ap (λ (p : Part). (with_sign (with_point p)).1) (sym same)
+    ∙ int_rest (text, rest) (point_at text rest false plain point) (plain_sign text rest plain)))

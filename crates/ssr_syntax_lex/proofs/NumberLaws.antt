@@ -24,7 +24,7 @@ differs test d c true e passes fails =
     let clash : true ≡ false = sym passes ∙ (ap test (eqb-true d c e) ∙ fails) in absurd (cc)
 differs test d c false e passes fails = refl
 
-no_mark : (d m : ℕ) → is_digit_or_underscore d ≡ true → is_digit_or_underscore m ≡ false → (d == m) ≡ false
+pub no_mark : (d m : ℕ) → is_digit_or_underscore d ≡ true → is_digit_or_underscore m ≡ false → (d == m) ≡ false
 no_mark d m plain mark = differs is_digit_or_underscore d m (d == m) refl plain mark
 
 unmarked : (zero : Bool) → (zero && false || zero && false || zero && false) ≡ false

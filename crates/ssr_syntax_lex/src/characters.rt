@@ -36,10 +36,14 @@ pub(crate) fn is_exponent_mark(c: char) -> bool
     matches!(c, 'e' | 'E')
 }
 
+#[tactic(auto, using(crate::proofs::WordLaws::ascii_starts))]
 pub(crate) fn starts_word(c: char) -> bool
     ensures { result ≡ spec.starts_word c }
 {
-    unicode_ident::is_xid_start(c) || c == '_'
+    if c.is_ascii() {
+        return c.is_ascii_alphabetic() || c == '_';
+    }
+    unicode_ident::is_xid_start(c)
 }
 
 #[tactic(auto, using(crate::proofs::WordLaws::ascii_words))]

@@ -512,16 +512,3 @@ impl fmt::Debug for SyntaxKind {
         f.write_str(self.name())
     }
 }
-
-#[cfg(test)]
-mod tests {
-    use super::*;
-    use std::test::Fail;
-
-    #[test]
-    fn writes_its_name(rt: HostRuntime) -> Result<(), Fail> {
-        let kind = SyntaxKind::BIN_EXPR;
-        assert_eq!(rt; format!(in rt.alloc(); "{kind:?}")?.as_str(), "BIN_EXPR");
-        Ok(())
-    }
-}

@@ -6,6 +6,7 @@ ghost use Rattle.std.specs.List.{list_all};
 ghost use Rattle.ssr_syntax_lex.specs.Numbers as spec;
 ghost use Rattle.ssr_syntax_lex.specs.Characters.{is_digit_or_underscore, continues_word};
 ghost use Rattle.ssr_syntax_lex.specs.Cursor.{past};
+ghost use Rattle.ssr_syntax_lex.specs.Private.Steps.{comes_point};
 
 use crate::characters::{
     continues_word, is_digit, is_digit_or_underscore, is_exponent_mark, starts_word,
@@ -55,15 +56,11 @@ fn has_exponent(text: &str) -> bool
     rest.first().is_some_and(is_exponent_mark)
 }
 
-/// Whether a point that comes next belongs to the number that begins with this run.
-fn takes_point(run: &str, cursor: &Cursor<'_>) -> bool
-    requires { length run.now < 2 ^ 32 }
-    ensures { result ≡ spec.takes_point (chars run.now, cursor.now) }
+/// Whether a point comes next that belongs to a number of digits and `_` in front of it.
+fn is_point(cursor: &Cursor<'_>) -> bool
+    ensures { result ≡ comes_point cursor.now }
 {
-    is_plain(run)
-        && cursor.is_at('.')
-        && !cursor.is_second('.')
-        && !cursor.second().is_some_and(starts_word)
+    cursor.is_at('.') && !cursor.is_second('.') && !cursor.second().is_some_and(starts_word)
 }
 
 /// Whether a sign and a digit come next.
@@ -99,7 +96,11 @@ pub(crate) fn eat_number(cursor: &mut Cursor<'_>, dots: u32) -> SyntaxKind
         return SyntaxKind::INT_NUMBER;
     }
     let run = cursor.eat_while(continues_word);
-    if takes_point(run, cursor) {
+    if is_plain(run) {
+        // Digits and `_` have no radix and no exponent, so that a point alone can make them a float.
+        if !is_point(cursor) {
+            return SyntaxKind::INT_NUMBER;
+        }
         cursor.bump();
         let fraction = cursor.eat_while(continues_word);
         if has_signed_exponent(fraction, cursor) {

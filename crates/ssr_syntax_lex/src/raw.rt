@@ -77,19 +77,6 @@ fn eat_string(cursor: &mut Cursor<'_>) -> Result<(), FaultKind>
     }
 }
 
-fn eat_punctuation(cursor: &mut Cursor<'_>) -> Result<SyntaxKind, FaultKind>
-    ensures { Takes faults.NoToken result (spec.punctuation cursor.old) cursor.new }
-{
-    let Some(first) = cursor.first() else {
-        return Err(FaultKind::NoToken);
-    };
-    let Some(kind) = mark_kind(first) else {
-        return Err(FaultKind::NoToken);
-    };
-    cursor.bump();
-    Ok(kind)
-}
-
 /// Passes over a comment or `/`.
 #[tactic(auto, using(crate::proofs::FirstCharacters::slash_rows))]
 fn eat_slash(cursor: &mut Cursor<'_>) -> Result<SyntaxKind, FaultKind>
@@ -187,13 +174,17 @@ fn eat_lifetime_or_char(cursor: &mut Cursor<'_>) -> Result<SyntaxKind, FaultKind
     Ok(SyntaxKind::CHAR)
 }
 
-/// Passes over a token that needs no second look: white space, a word, a number or punctuation.
+/// Passes over a token that needs no second look: punctuation, white space, a word or a number.
 #[tactic(auto, using(crate::proofs::FirstCharacters::plain_rows))]
 fn eat_other(cursor: &mut Cursor<'_>, first: char, dots: u32) -> Result<SyntaxKind, FaultKind>
     requires comes { slice_get cursor.old 0 ≡ Some first }
     requires plain { IsPlain first }
     ensures { Takes (spec.fault_of cursor.old) result (spec.token dots cursor.old) cursor.new }
 {
+    if let Some(kind) = mark_kind(first) {
+        cursor.bump();
+        return Ok(kind);
+    }
     if is_whitespace(first) {
         cursor.eat_while(is_whitespace);
         return Ok(SyntaxKind::WHITESPACE);
@@ -204,7 +195,7 @@ fn eat_other(cursor: &mut Cursor<'_>, first: char, dots: u32) -> Result<SyntaxKi
     if is_digit(first) {
         return Ok(eat_number(cursor, dots));
     }
-    eat_punctuation(cursor)
+    Err(FaultKind::NoToken)
 }
 
 /// Passes over the token that comes next, and gives its kind. `dots` counts the `.` directly in front of it.

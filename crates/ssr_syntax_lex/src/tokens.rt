@@ -168,6 +168,3 @@ fn dots_behind(dots: u32, kind: SyntaxKind) -> u32
 {
     if kind == SyntaxKind::DOT { dots + 1 } else { 0 }
 }
-
-#[cfg(test)]
-mod tests;

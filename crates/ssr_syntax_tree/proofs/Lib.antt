@@ -8,3 +8,4 @@ mod Places
 mod Ranges
 mod Covering
 mod Steps
+mod Nodes

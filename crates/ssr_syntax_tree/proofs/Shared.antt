@@ -2,6 +2,7 @@
 
 -- nodes and their numbers
 pub use Rattle.ssr_syntax_tree.proofs.Places.{node_of-number, below_fits, smaller}
+pub use Rattle.ssr_syntax_tree.proofs.Nodes.{node_is, node_left, node_found, node_passed, none_found}
 -- how many nodes and tokens there are
 pub use Rattle.ssr_syntax_tree.proofs.Siblings.{length-nodes_in, length-tokens_in}
 pub use Rattle.ssr_syntax_tree.proofs.RowLaws.{length-nodes_of}

@@ -36,7 +36,7 @@ opened at total row place above =
         parent = number_of above;
         first = first_at at (first_of above) (total - row.first) (row.first - row.past);
         past = past_at at (first_of above) (total - row.first) (row.first - row.past);
-        below = place - (place - row.below);
+        below = row.below;
       };
     }
 

@@ -8,7 +8,7 @@ use Rattle.ssr_syntax_forms.specs.declared.fault.Fault.{Fault}
 use Rattle.ssr_syntax_forms.specs.declared.fault.Fault.TheVariants as faults
 use Rattle.ssr_syntax_forms.specs.Trees.{Forest}
 use Rattle.ssr_syntax_forms.specs.Parser.{Written}
-use Rattle.ssr_syntax_forms.specs.Private.Written.{writes}
+use Rattle.ssr_syntax_forms.specs.Written.{writes}
 
 -- The answer is the reading's: what is written of its forest, or its fault. Want of memory says nothing.
 abbrev pub IsReading : {R : Type 0} → (R → Written) → Result R Fault → Result Forest Fault → Type 0

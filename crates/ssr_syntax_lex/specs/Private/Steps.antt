@@ -1,9 +1,9 @@
 -- Private: what the steps of cutting a token answer.
-use Rattle.std.specs.Prelude.{ℕ, Bool, false, ◌&&◌, nat_le, List, [], ◌∷◌, Option, Some, None, Result, Ok, Err, ◌≡◌, ◌≢◌, if◌then◌else◌, codes, max}
+use Rattle.std.specs.Prelude.{ℕ, Bool, false, not, ◌&&◌, nat_le, List, [], ◌∷◌, Option, Some, None, Result, Ok, Err, ◌≡◌, ◌≢◌, if◌then◌else◌, codes, max}
 use Rattle.std.proofs.Math.Nat.{le-max_left}
 use Prim.Native.String.{String}
-use Rattle.ssr_syntax_lex.specs.Characters.{the_char}
-use Rattle.ssr_syntax_lex.specs.Cursor.{Chars}
+use Rattle.ssr_syntax_lex.specs.Characters.{the_char, starts_word}
+use Rattle.ssr_syntax_lex.specs.Cursor.{Chars, begins, is_at, passes_at}
 use Rattle.ssr_syntax_lex.specs.Raw.{Taken}
 use Rattle.ssr_syntax_lex.specs.Words.{is_punctuation}
 use Rattle.ssr_syntax_lex.specs.declared.fault.FaultKind.{FaultKind}
@@ -26,6 +26,10 @@ Takes fault (Err told) taken rest = (taken ≡ None) × (told ≡ fault)
 abbrev pub IsPlain : ℕ → Type 0
 IsPlain c =
     (c ≢ the_char "/") × (c ≢ the_char "\"") × (c ≢ the_char "r") × (c ≢ the_char "b") × (c ≢ the_char "c") × (c ≢ the_char "'")
+
+-- a `.` comes, and behind it neither `.`, `_` nor a character that starts identifiers
+abbrev pub comes_point : Chars → Bool
+comes_point cs = begins "." cs && not (is_at 1 "." cs) && not (passes_at 1 starts_word cs)
 
 -- the bytes from a place up to another, if that isn't before it
 abbrev pub reaching : ℕ → ℕ → TextRange

@@ -4,12 +4,14 @@ use Rattle.std.proofs.lemmas.Str.{IsUtf8-string_bytes}
 use Rattle.ssr_syntax_lex.specs.declared.tokens.RawToken.{RawToken}
 use Rattle.ssr_syntax_lex.specs.Tokens.{row_of}
 use Rattle.ssr_syntax_tree.specs.Parts.{AreParts}
-use Rattle.ssr_syntax_forms.specs.Private.Written.{leaves}
+use Rattle.ssr_syntax_forms.specs.Written.{leaves}
 use Rattle.ssr_syntax.specs.Lossless.{whole_tree}
+use Rattle.ssr_syntax.specs.MacroRules.{misnames_macros}
+use Rattle.ssr_syntax.specs.declared.syntax_error.SyntaxError.TheVariants as errors
 use Rattle.ssr_syntax.specs.Private.Preorder.{tree_rows}
 use Rattle.ssr_syntax.specs.Private.TreeTokens.{taken_rows, taken_sizes, ends}
 use Rattle.ssr_syntax.specs.Reading.{pieces, tree_reading, error_of}
-use Rattle.ssr_syntax.proofs.Texts.{WrittenOfText, written_read, depth_fault, told_on, whole_parts, count_fits, read_ok, at_ends, parser_fault}
+use Rattle.ssr_syntax.proofs.Texts.{WrittenOfText, written_read, depth_fault, told_on, whole_parts, count_fits, read_ok, read_misnamed, refused, at_ends, parser_fault}
 use Rattle.ssr_syntax.specs.Private.SolidKinds.{solid_kinds}
 use Rattle.ssr_syntax.proofs.TextRows.{AreRowsOf, rows_count, known_rows, these_rows}
 use Rattle.ssr_syntax.proofs.reading.read_tokens.Goals as goal
@@ -90,17 +92,29 @@ parts_are c raw are w =
     ∙ ap (λ m. tree_rows (at_ends us raw) m w.kind w.kids) count)
     (count_fits (λ i. slice_index c.deref-4.result.now i) c.len.result w.kind w.kids c.in_ok-written.written.rows c.in_ok-nodes.nodes w.rows n.1.1 n.1.0)
 
-pub from_parts-requires : goal.from_parts-requires
-from_parts-requires c =
+pub from_parts-tree-requires : goal.from_parts-tree-requires
+from_parts-tree-requires c =
     let text = string_bytes c.args.text in
     let known = known_rows text c.args.rows (IsUtf8-string_bytes c.args.text) c.requires.lexed in
-    let w = written_is (goal.at.from_parts-requires c).After-deref-3 known.0 known.1 in
-    (whole_tree w.kind w.kids (pieces text known.0), parts_are (goal.at.from_parts-requires c).In_ok-nodes known.0 known.1 w)
+    let w = written_is (goal.at.from_parts-tree-requires c).After-deref-3 known.0 known.1 in
+    (whole_tree w.kind w.kids (pieces text known.0), parts_are (goal.at.from_parts-tree-requires c).In_ok-nodes known.0 known.1 w)
+
+pub returns-then-misnames_macros : goal.returns-then-misnames_macros
+returns-then-misnames_macros c raw e =
+    let text = string_bytes c.args.text in
+    let are = these_rows text c.args.rows raw (IsUtf8-string_bytes c.args.text) c.requires.lexed e in
+    let w = written_is (goal.at.returns-then-misnames_macros c).After-deref-3 raw are in
+    let is = c.from_parts-tree.ensures (whole_tree w.kind w.kids (pieces text raw)) (parts_are (goal.at.returns-then-misnames_macros c).In_ok-nodes raw are w) in
+    refused errors.NoTree (tree_reading c.args.goal text raw) text c.requires.short
+    (read_misnamed c.args.goal text raw w.kind w.kids w.read (c.in_ok-nodes.ensures w.kind w.kids w.rows).0
+    (ap misnames_macros (sym is) ∙ sym c.misnames_macros.ensures ∙ c.if-misnames_macros.true))
 
 pub returns : goal.returns
 returns c raw e =
     let text = string_bytes c.args.text in
     let are = these_rows text c.args.rows raw (IsUtf8-string_bytes c.args.text) c.requires.lexed e in
     let w = written_is (goal.at.returns c).After-deref-3 raw are in
+    let is = c.from_parts-tree.ensures (whole_tree w.kind w.kids (pieces text raw)) (parts_are (goal.at.returns c).In_ok-nodes raw are w) in
     read_ok c.args.goal text raw w.kind w.kids w.read (c.in_ok-nodes.ensures w.kind w.kids w.rows).0
-    ∙ ap Ok (sym (c.from_parts.ensures (whole_tree w.kind w.kids (pieces text raw)) (parts_are (goal.at.returns c).In_ok-nodes raw are w)))
+    (ap misnames_macros (sym is) ∙ sym c.misnames_macros.ensures ∙ c.if-misnames_macros.false)
+    ∙ ap Ok (sym is)

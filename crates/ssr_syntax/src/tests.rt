@@ -1,0 +1,17 @@
+//! Tables of texts and of what is read of them, a file a subject, and what the parser writes of tokens.
+
+mod atoms;
+mod blocks;
+mod conditions;
+mod expressions;
+mod fragments;
+mod grammar;
+mod items;
+mod outlines;
+mod params;
+mod patterns;
+mod reading;
+mod statements;
+mod token_trees;
+mod tokens;
+mod types;

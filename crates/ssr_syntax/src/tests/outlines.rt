@@ -1,0 +1,41 @@
+//! For tests: what is read of a text, in one line.
+
+use crate::fragments::Fragment;
+use crate::reading::fragment;
+use crate::syntax_error::SyntaxError;
+use ssr_syntax_tree::{NodeNo, Tree};
+use std::alloc::{AllocError, Global};
+
+/// The nodes of a tree in preorder, each with a dot for each node above it.
+fn outline_of(alloc: Global, tree: &Tree) -> Result<String, AllocError> {
+    let mut depths: Vec<usize> = Vec::new(alloc);
+    let mut outline = String::new(alloc);
+    for number in 0..tree.node_count() {
+        let node = NodeNo(number);
+        let depth = match tree.parent(node) {
+            Some(parent) => {
+                let above = depths.get(parent.0 as usize).copied().unwrap_or(0);
+                above.saturating_add(1)
+            }
+            None => 0,
+        };
+        depths.push(depth)?;
+        if number > 0 {
+            outline.push_str(" ")?;
+        }
+        for _ in 0..depth {
+            outline.push_str(".")?;
+        }
+        outline.push_str(tree.kind(node).name())?;
+    }
+    Ok(outline)
+}
+
+/// The outline of what is read of a fragment, or its refusal.
+pub(super) fn outline(alloc: Global, kind: Fragment, text: &str) -> Result<String, AllocError> {
+    match fragment(alloc, kind, text) {
+        Ok((tree, _)) => outline_of(alloc, &tree),
+        Err(SyntaxError::NoTree) => String::from_str(alloc, "no tree"),
+        Err(error) => format!(in alloc; "{error:?}"),
+    }
+}

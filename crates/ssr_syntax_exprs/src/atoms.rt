@@ -1,0 +1,544 @@
+//! The functions that read expressions that stand for themselves, and those that leave.
+ghost use Rattle.ssr_syntax_exprs.specs.Atoms as form;
+ghost use Rattle.ssr_syntax_forms.specs.Runs.{Runs, RunsAnywhere, RunsFrom};
+
+use crate::blocks::{BlockWords, block_expr};
+use ssr_syntax_forms::{Fault, Mark, Parser, TokenSet};
+use ssr_syntax_lex::SyntaxKind;
+use ssr_syntax_lex::SyntaxKind::*;
+use ssr_syntax_types::goals::{ExprPlace, Goal, PatPlace, PathPlace};
+use ssr_syntax_types::literals::Literals;
+use ssr_syntax_types::paths::{PathFirst, lifetime, name_ref, number_ref, path, ret_type};
+use ssr_syntax_types::patterns::{Ranges, SinglePatFirst};
+use ssr_syntax_types::reader::Reader;
+
+/// What `return`, `break` and closures begin with.
+#[derive(Clone, Copy)]
+pub(crate) struct LeavingFirst;
+
+impl TokenSet for LeavingFirst {
+    ghost kinds = { λ _. form.leaving_first };
+
+    #[tactic(auto, unfolding(crate::specs::Atoms::leaving_first))]
+    fn contains(self, kind: SyntaxKind) -> bool {
+        matches!(kind, RETURN_KW | BREAK_KW | PIPE | PIPE2 | MOVE_KW)
+    }
+}
+
+/// What the parameters of a closure begin with.
+#[derive(Clone, Copy)]
+struct Bars;
+
+impl TokenSet for Bars {
+    ghost kinds = { λ _. form.bars };
+
+    fn contains(self, kind: SyntaxKind) -> bool {
+        matches!(kind, PIPE | PIPE2)
+    }
+}
+
+/// What other operands begin with.
+#[derive(Clone, Copy)]
+struct OperandMarks;
+
+impl TokenSet for OperandMarks {
+    ghost kinds = { λ _. form.operand_marks };
+
+    #[tactic(auto, unfolding(crate::specs::Atoms::operand_marks))]
+    fn contains(self, kind: SyntaxKind) -> bool {
+        matches!(
+            kind,
+            AMP | AMP2 | L_PAREN | L_BRACK | CONTINUE_KW | MINUS | BANG | STAR
+        )
+    }
+}
+
+/// What an operand begins with, but for `{`.
+#[derive(Clone, Copy)]
+pub(crate) struct BracelessFirst;
+
+impl TokenSet for BracelessFirst {
+    ghost kinds = { λ _. form.braceless_first };
+
+    #[tactic(auto, using(ssr_syntax_forms::proofs::Shared::mem_append), unfolding(crate::specs::Atoms::braceless_first))]
+    fn contains(self, kind: SyntaxKind) -> bool {
+        Literals.contains(kind)
+            || PathFirst.contains(kind)
+            || BlockWords.contains(kind)
+            || OperandMarks.contains(kind)
+    }
+}
+
+/// What an operand begins with.
+#[derive(Clone, Copy)]
+pub(crate) struct OperandFirst;
+
+impl TokenSet for OperandFirst {
+    ghost kinds = { λ _. form.operand_first };
+
+    #[tactic(auto, unfolding(crate::specs::Atoms::operand_first))]
+    fn contains(self, kind: SyntaxKind) -> bool {
+        matches!(kind, L_CURLY) || BracelessFirst.contains(kind)
+    }
+}
+
+/// What an expression begins with.
+#[derive(Clone, Copy)]
+pub struct ExprFirst;
+
+impl TokenSet for ExprFirst {
+    ghost kinds = { λ _. form.expr_first };
+
+    #[tactic(auto, using(ssr_syntax_forms::proofs::Shared::mem_append), unfolding(crate::specs::Atoms::expr_first))]
+    fn contains(self, kind: SyntaxKind) -> bool {
+        OperandFirst.contains(kind) || Ranges.contains(kind) || LeavingFirst.contains(kind)
+    }
+}
+
+/// What a field's value or its name begins with.
+#[derive(Clone, Copy)]
+struct FieldValueFirst;
+
+impl TokenSet for FieldValueFirst {
+    ghost kinds = { λ _. form.field_value_first };
+
+    #[tactic(auto, using(ssr_syntax_forms::proofs::Shared::mem_append), unfolding(crate::specs::Atoms::field_value_first))]
+    fn contains(self, kind: SyntaxKind) -> bool {
+        matches!(kind, DOT2EQ) || OperandFirst.contains(kind) || LeavingFirst.contains(kind)
+    }
+}
+
+/// TUPLE_EXPR of no expression, behind `(`.
+#[tactic(auto, unfolding(crate::specs::Atoms::unit_expr))]
+fn unit_expr<R: Reader>(goals: &R, p: &mut Parser<'_>, m: &Mark<'_>) -> Result<(), Fault>
+    requires { R.can_read goals.now }
+    ensures { RunsFrom (R.reads goals.now) form.unit_expr m.now p.old p.new result }
+{
+    p.expect(R_PAREN)?;
+    p.complete(m, TUPLE_EXPR)
+}
+
+/// PAREN_EXPR, behind `(` and an expression.
+#[tactic(auto, unfolding(crate::specs::Atoms::paren_expr))]
+fn paren_expr<R: Reader>(goals: &R, p: &mut Parser<'_>, m: &Mark<'_>) -> Result<(), Fault>
+    requires { R.can_read goals.now }
+    ensures { RunsFrom (R.reads goals.now) form.paren_expr m.now p.old p.new result }
+{
+    p.expect(R_PAREN)?;
+    p.complete(m, PAREN_EXPR)
+}
+
+/// TUPLE_EXPR, behind `(` and the first expression.
+#[tactic(auto, using(ssr_syntax_forms::proofs::Shared::run_comma_list), unfolding(crate::specs::Atoms::tuple_expr))]
+fn tuple_expr<R: Reader>(goals: &R, p: &mut Parser<'_>, m: &Mark<'_>) -> Result<(), Fault>
+    requires { R.can_read goals.now }
+    ensures { RunsFrom (R.reads goals.now) form.tuple_expr m.now p.old p.new result }
+{
+    p.expect(COMMA)?;
+    p.comma_list(
+        ExprFirst,
+        |p| goals.read(p, Goal::Expr(ExprPlace::Anywhere)),
+    )?;
+    p.expect(R_PAREN)?;
+    p.complete(m, TUPLE_EXPR)
+}
+
+/// PAREN_EXPR or TUPLE_EXPR, behind `(`.
+#[tactic(auto, unfolding(crate::specs::Atoms::paren_or_tuple_expr))]
+fn paren_or_tuple_expr<R: Reader>(goals: &R, p: &mut Parser<'_>, m: &Mark<'_>) -> Result<(), Fault>
+    requires { R.can_read goals.now }
+    ensures { RunsFrom (R.reads goals.now) form.paren_or_tuple_expr m.now p.old p.new result }
+{
+    goals.read(p, Goal::Expr(ExprPlace::Anywhere))?;
+    if p.at(R_PAREN) {
+        paren_expr(goals, p, m)
+    } else {
+        tuple_expr(goals, p, m)
+    }
+}
+
+/// PAREN_EXPR or TUPLE_EXPR.
+#[tactic(auto, unfolding(crate::specs::Atoms::expr_in_parentheses))]
+pub(crate) fn expr_in_parentheses<R: Reader>(goals: &R, p: &mut Parser<'_>) -> Result<(), Fault>
+    requires { R.can_read goals.now }
+    ensures { Runs (R.reads goals.now) form.expr_in_parentheses p.old p.new result }
+{
+    let m = p.start();
+    p.expect(L_PAREN)?;
+    if p.at(R_PAREN) {
+        unit_expr(goals, p, &m)
+    } else {
+        paren_or_tuple_expr(goals, p, &m)
+    }
+}
+
+/// ARRAY_EXPR without items, behind `[`.
+#[tactic(auto, unfolding(crate::specs::Atoms::empty_array))]
+fn empty_array<R: Reader>(goals: &R, p: &mut Parser<'_>, m: &Mark<'_>) -> Result<(), Fault>
+    requires { R.can_read goals.now }
+    ensures { RunsFrom (R.reads goals.now) form.empty_array m.now p.old p.new result }
+{
+    p.expect(R_BRACK)?;
+    p.complete(m, ARRAY_EXPR)
+}
+
+/// ARRAY_EXPR of one item and its count, behind the item.
+#[tactic(auto, unfolding(crate::specs::Atoms::repeated_item))]
+fn repeated_item<R: Reader>(goals: &R, p: &mut Parser<'_>, m: &Mark<'_>) -> Result<(), Fault>
+    requires { R.can_read goals.now }
+    ensures { RunsFrom (R.reads goals.now) form.repeated_item m.now p.old p.new result }
+{
+    p.expect(SEMICOLON)?;
+    goals.read(p, Goal::Expr(ExprPlace::Anywhere))?;
+    p.expect(R_BRACK)?;
+    p.complete(m, ARRAY_EXPR)
+}
+
+/// ARRAY_EXPR of items with commas between them, behind the first.
+#[tactic(auto, using(ssr_syntax_forms::proofs::Shared::run_comma_list), unfolding(crate::specs::Atoms::array_items))]
+fn array_items<R: Reader>(goals: &R, p: &mut Parser<'_>, m: &Mark<'_>) -> Result<(), Fault>
+    requires { R.can_read goals.now }
+    ensures { RunsFrom (R.reads goals.now) form.array_items m.now p.old p.new result }
+{
+    p.comma(ExprFirst)?;
+    p.comma_list(
+        ExprFirst,
+        |p| goals.read(p, Goal::Expr(ExprPlace::Anywhere)),
+    )?;
+    p.expect(R_BRACK)?;
+    p.complete(m, ARRAY_EXPR)
+}
+
+/// ARRAY_EXPR with an item, behind `[`.
+#[tactic(auto, unfolding(crate::specs::Atoms::array_of_items))]
+fn array_of_items<R: Reader>(goals: &R, p: &mut Parser<'_>, m: &Mark<'_>) -> Result<(), Fault>
+    requires { R.can_read goals.now }
+    ensures { RunsFrom (R.reads goals.now) form.array_of_items m.now p.old p.new result }
+{
+    goals.read(p, Goal::Expr(ExprPlace::Anywhere))?;
+    if p.at(SEMICOLON) {
+        repeated_item(goals, p, m)
+    } else {
+        array_items(goals, p, m)
+    }
+}
+
+/// ARRAY_EXPR: items in square brackets.
+#[tactic(auto, unfolding(crate::specs::Atoms::array_expr))]
+pub(crate) fn array_expr<R: Reader>(goals: &R, p: &mut Parser<'_>) -> Result<(), Fault>
+    requires { R.can_read goals.now }
+    ensures { Runs (R.reads goals.now) form.array_expr p.old p.new result }
+{
+    let m = p.start();
+    p.expect(L_BRACK)?;
+    if p.at(R_BRACK) {
+        empty_array(goals, p, &m)
+    } else {
+        array_of_items(goals, p, &m)
+    }
+}
+
+/// RECORD_EXPR_FIELD: a name, `:` and an expression.
+#[tactic(auto, unfolding(crate::specs::Atoms::named_field))]
+fn named_field<R: Reader>(goals: &R, p: &mut Parser<'_>) -> Result<(), Fault>
+    requires { R.can_read goals.now }
+    ensures { Runs (R.reads goals.now) form.named_field p.old p.new result }
+{
+    let m = p.start();
+    name_ref(goals, p)?;
+    p.expect(COLON)?;
+    goals.read(p, Goal::Expr(ExprPlace::Anywhere))?;
+    p.complete(&m, RECORD_EXPR_FIELD)
+}
+
+/// RECORD_EXPR_FIELD: a number, `:` and an expression.
+#[tactic(auto, unfolding(crate::specs::Atoms::numbered_field))]
+fn numbered_field<R: Reader>(goals: &R, p: &mut Parser<'_>) -> Result<(), Fault>
+    requires { R.can_read goals.now }
+    ensures { Runs (R.reads goals.now) form.numbered_field p.old p.new result }
+{
+    let m = p.start();
+    number_ref(goals, p)?;
+    p.expect(COLON)?;
+    goals.read(p, Goal::Expr(ExprPlace::Anywhere))?;
+    p.complete(&m, RECORD_EXPR_FIELD)
+}
+
+/// RECORD_EXPR_FIELD: an expression alone.
+#[tactic(auto, unfolding(crate::specs::Atoms::shorthand_field))]
+fn shorthand_field<R: Reader>(goals: &R, p: &mut Parser<'_>) -> Result<(), Fault>
+    requires { R.can_read goals.now }
+    ensures { Runs (R.reads goals.now) form.shorthand_field p.old p.new result }
+{
+    let m = p.start();
+    p.refuse_at(DOT2)?;
+    goals.read(p, Goal::Expr(ExprPlace::Anywhere))?;
+    p.complete(&m, RECORD_EXPR_FIELD)
+}
+
+/// RECORD_EXPR_FIELD of any form.
+#[tactic(auto, unfolding(crate::specs::Atoms::record_expr_field))]
+fn record_expr_field<R: Reader>(goals: &R, p: &mut Parser<'_>) -> Result<(), Fault>
+    requires { R.can_read goals.now }
+    ensures { RunsAnywhere (R.reads goals.now) form.record_expr_field p.old p.new result }
+{
+    if p.at_two(IDENT, COLON) {
+        named_field(goals, p)
+    } else if p.at_two(INT_NUMBER, COLON) {
+        numbered_field(goals, p)
+    } else {
+        shorthand_field(goals, p)
+    }
+}
+
+/// RECORD_EXPR_FIELD and its comma.
+#[tactic(auto, unfolding(crate::specs::Atoms::record_item))]
+fn record_item<R: Reader>(goals: &R, p: &mut Parser<'_>, m: &Mark<'_>) -> Result<(), Fault>
+    requires { R.can_read goals.now }
+    ensures { RunsFrom (R.reads goals.now) form.record_item m.now p.old p.new result }
+{
+    record_expr_field(goals, p)?;
+    p.comma(ExprFirst)
+}
+
+/// The end of a RECORD_EXPR_FIELD_LIST: perhaps `..` and an expression, and `}`.
+#[tactic(auto, unfolding(crate::specs::Atoms::record_base))]
+fn record_base<R: Reader>(goals: &R, p: &mut Parser<'_>, m: &Mark<'_>) -> Result<(), Fault>
+    requires { R.can_read goals.now }
+    ensures { RunsFrom (R.reads goals.now) form.record_base m.now p.old p.new result }
+{
+    if p.at(DOT2) {
+        p.expect(DOT2)?;
+        goals.read(p, Goal::Expr(ExprPlace::Anywhere))?;
+    }
+    p.expect(R_CURLY)?;
+    p.complete(m, RECORD_EXPR_FIELD_LIST)
+}
+
+/// RECORD_EXPR_FIELD_LIST: fields in braces, with commas between them, and perhaps `..` and an expression at the end.
+#[tactic(auto, unfolding(crate::specs::Atoms::record_expr_field_list))]
+fn record_expr_field_list<R: Reader>(
+    goals: &R,
+    p: &mut Parser<'_>,
+    m: &Mark<'_>,
+) -> Result<(), Fault>
+    requires { R.can_read goals.now }
+    ensures { RunsFrom (R.reads goals.now) form.record_expr_field_list m.now p.old p.new result }
+{
+    p.expect(L_CURLY)?;
+    p.repeated(FieldValueFirst, |p| record_item(goals, p, m))?;
+    record_base(goals, p, m)
+}
+
+/// RECORD_EXPR: fields behind a PATH.
+#[tactic(auto, unfolding(crate::specs::Atoms::record_expr))]
+fn record_expr<R: Reader>(goals: &R, p: &mut Parser<'_>, m: &Mark<'_>) -> Result<(), Fault>
+    requires { R.can_read goals.now }
+    ensures { RunsFrom (R.reads goals.now) form.record_expr m.now p.old p.new result }
+{
+    let n = p.start();
+    record_expr_field_list(goals, p, &n)?;
+    p.complete(m, RECORD_EXPR)
+}
+
+/// PATH_EXPR or RECORD_EXPR, behind a PATH.
+#[tactic(auto, unfolding(crate::specs::Atoms::path_or_record))]
+pub fn path_or_record<R: Reader>(
+    goals: &R,
+    p: &mut Parser<'_>,
+    m: &Mark<'_>,
+    place: ExprPlace,
+) -> Result<(), Fault>
+    requires { R.can_read goals.now }
+    ensures { RunsFrom (R.reads goals.now) (form.path_or_record place) m.now p.old p.new result }
+{
+    match place {
+        ExprPlace::Anywhere => {
+            if p.at(L_CURLY) {
+                record_expr(goals, p, m)
+            } else {
+                p.complete(m, PATH_EXPR)
+            }
+        }
+        ExprPlace::BeforeBlock => p.complete(m, PATH_EXPR),
+    }
+}
+
+/// MACRO_EXPR: a MACRO_CALL, behind its PATH.
+#[tactic(auto, unfolding(crate::specs::Atoms::macro_expr))]
+fn macro_expr<R: Reader>(goals: &R, p: &mut Parser<'_>, m: &Mark<'_>) -> Result<(), Fault>
+    requires { R.can_read goals.now }
+    ensures { RunsFrom (R.reads goals.now) form.macro_expr m.now p.old p.new result }
+{
+    p.refuse_since(m, L_ANGLE)?;
+    p.expect(BANG)?;
+    goals.read(p, Goal::TokenTree)?;
+    p.complete(m, MACRO_CALL)?;
+    p.complete(m, MACRO_EXPR)
+}
+
+/// What begins with a PATH: PATH_EXPR, RECORD_EXPR or MACRO_EXPR.
+#[tactic(auto, unfolding(crate::specs::Atoms::path_expr))]
+pub(crate) fn path_expr<R: Reader>(
+    goals: &R,
+    p: &mut Parser<'_>,
+    place: ExprPlace,
+) -> Result<(), Fault>
+    requires { R.can_read goals.now }
+    ensures { Runs (R.reads goals.now) (form.path_expr place) p.old p.new result }
+{
+    let m = p.start();
+    path(goals, p, PathPlace::InExpr)?;
+    if p.at(BANG) {
+        macro_expr(goals, p, &m)
+    } else {
+        path_or_record(goals, p, &m, place)
+    }
+}
+
+/// CONTINUE_EXPR: `continue` and perhaps a LIFETIME.
+#[tactic(auto, unfolding(crate::specs::Atoms::continue_expr))]
+pub(crate) fn continue_expr<R: Reader>(goals: &R, p: &mut Parser<'_>) -> Result<(), Fault>
+    requires { R.can_read goals.now }
+    ensures { Runs (R.reads goals.now) form.continue_expr p.old p.new result }
+{
+    let m = p.start();
+    p.expect(CONTINUE_KW)?;
+    if p.at(LIFETIME_IDENT) {
+        lifetime(goals, p)?;
+    }
+    p.complete(&m, CONTINUE_EXPR)
+}
+
+/// RETURN_EXPR: `return` and perhaps an expression.
+#[tactic(auto, unfolding(crate::specs::Atoms::return_expr))]
+fn return_expr<R: Reader>(goals: &R, p: &mut Parser<'_>) -> Result<(), Fault>
+    requires { R.can_read goals.now }
+    ensures { Runs (R.reads goals.now) form.return_expr p.old p.new result }
+{
+    let m = p.start();
+    p.expect(RETURN_KW)?;
+    if p.at_any(ExprFirst) {
+        goals.read(p, Goal::Expr(ExprPlace::Anywhere))?;
+    }
+    p.complete(&m, RETURN_EXPR)
+}
+
+/// A LIFETIME that is no LABEL of what follows, or nothing.
+#[tactic(auto, unfolding(crate::specs::Atoms::break_target))]
+fn break_target<R: Reader>(goals: &R, p: &mut Parser<'_>, m: &Mark<'_>) -> Result<(), Fault>
+    requires { R.can_read goals.now }
+    ensures { RunsFrom (R.reads goals.now) form.break_target m.now p.old p.new result }
+{
+    if p.at_two(LIFETIME_IDENT, COLON) {
+        Ok(())
+    } else if p.at(LIFETIME_IDENT) {
+        lifetime(goals, p)
+    } else {
+        Ok(())
+    }
+}
+
+/// BREAK_EXPR: `break`, perhaps a LIFETIME, and perhaps an expression.
+#[tactic(auto, unfolding(crate::specs::Atoms::break_expr))]
+fn break_expr<R: Reader>(goals: &R, p: &mut Parser<'_>, m: &Mark<'_>) -> Result<(), Fault>
+    requires { R.can_read goals.now }
+    ensures { RunsFrom (R.reads goals.now) form.break_expr m.now p.old p.new result }
+{
+    p.expect(BREAK_KW)?;
+    break_target(goals, p, m)?;
+    if p.at_any(ExprFirst) {
+        goals.read(p, Goal::Expr(ExprPlace::Anywhere))?;
+    }
+    p.complete(m, BREAK_EXPR)
+}
+
+/// PARAM: a pattern, and perhaps `:` and a type.
+#[tactic(auto, unfolding(crate::specs::Atoms::closure_param))]
+fn closure_param<R: Reader>(goals: &R, p: &mut Parser<'_>) -> Result<(), Fault>
+    requires { R.can_read goals.now }
+    ensures { Runs (R.reads goals.now) form.closure_param p.old p.new result }
+{
+    let m = p.start();
+    goals.read(p, Goal::Pat(PatPlace::NoBar))?;
+    if p.at(COLON) {
+        p.expect(COLON)?;
+        goals.read(p, Goal::Ty)?;
+    }
+    p.complete(&m, PARAM)
+}
+
+/// PARAM_LIST: parameters between bars, also those of `||`.
+#[tactic(auto, using(ssr_syntax_forms::proofs::Shared::run_comma_list), unfolding(crate::specs::Atoms::closure_param_list))]
+fn closure_param_list<R: Reader>(goals: &R, p: &mut Parser<'_>) -> Result<(), Fault>
+    requires { R.can_read goals.now }
+    ensures { Runs (R.reads goals.now) form.closure_param_list p.old p.new result }
+{
+    let m = p.start();
+    p.expect_part(Bars)?;
+    p.comma_list(SinglePatFirst, |p| closure_param(goals, p))?;
+    p.expect_part(Bars)?;
+    p.complete(&m, PARAM_LIST)
+}
+
+/// CLOSURE_EXPR with a RET_TYPE: a BLOCK_EXPR follows it.
+#[tactic(auto, unfolding(crate::specs::Atoms::typed_closure))]
+fn typed_closure<R: Reader>(goals: &R, p: &mut Parser<'_>, m: &Mark<'_>) -> Result<(), Fault>
+    requires { R.can_read goals.now }
+    ensures { RunsFrom (R.reads goals.now) form.typed_closure m.now p.old p.new result }
+{
+    ret_type(goals, p)?;
+    block_expr(goals, p)?;
+    p.complete(m, CLOSURE_EXPR)
+}
+
+/// CLOSURE_EXPR without a RET_TYPE: any expression.
+#[tactic(auto, unfolding(crate::specs::Atoms::plain_closure))]
+fn plain_closure<R: Reader>(goals: &R, p: &mut Parser<'_>, m: &Mark<'_>) -> Result<(), Fault>
+    requires { R.can_read goals.now }
+    ensures { RunsFrom (R.reads goals.now) form.plain_closure m.now p.old p.new result }
+{
+    goals.read(p, Goal::Expr(ExprPlace::Anywhere))?;
+    p.complete(m, CLOSURE_EXPR)
+}
+
+/// What follows the parameters of a closure.
+#[tactic(auto, unfolding(crate::specs::Atoms::closure_body))]
+fn closure_body<R: Reader>(goals: &R, p: &mut Parser<'_>, m: &Mark<'_>) -> Result<(), Fault>
+    requires { R.can_read goals.now }
+    ensures { RunsFrom (R.reads goals.now) form.closure_body m.now p.old p.new result }
+{
+    if p.at(THIN_ARROW) {
+        typed_closure(goals, p, m)
+    } else {
+        plain_closure(goals, p, m)
+    }
+}
+
+/// CLOSURE_EXPR: perhaps `move`, a PARAM_LIST, and a body.
+#[tactic(auto, unfolding(crate::specs::Atoms::closure_expr))]
+fn closure_expr<R: Reader>(goals: &R, p: &mut Parser<'_>) -> Result<(), Fault>
+    requires { R.can_read goals.now }
+    ensures { Runs (R.reads goals.now) form.closure_expr p.old p.new result }
+{
+    let m = p.start();
+    p.eat(MOVE_KW)?;
+    closure_param_list(goals, p)?;
+    closure_body(goals, p, &m)
+}
+
+/// RETURN_EXPR, BREAK_EXPR or CLOSURE_EXPR.
+#[tactic(auto, unfolding(crate::specs::Atoms::leaving_expr))]
+pub(crate) fn leaving_expr<R: Reader>(goals: &R, p: &mut Parser<'_>) -> Result<(), Fault>
+    requires { R.can_read goals.now }
+    ensures { RunsAnywhere (R.reads goals.now) form.leaving_expr p.old p.new result }
+{
+    if p.at(RETURN_KW) {
+        return_expr(goals, p)
+    } else if p.at(BREAK_KW) {
+        let n = p.start();
+        break_expr(goals, p, &n)
+    } else {
+        closure_expr(goals, p)
+    }
+}

@@ -1,0 +1,239 @@
+-- Forms of items.
+use Rattle.std.specs.Prelude.{List, [], ◌∷◌, ◌++◌}
+use Rattle.ssr_syntax_lex.specs.declared.kinds.SyntaxKind.{SyntaxKind}
+use Rattle.ssr_syntax_lex.specs.declared.kinds.SyntaxKind.TheVariants as k
+use Rattle.ssr_syntax_types.specs.declared.goals.Goal.{Goal}
+use Rattle.ssr_syntax_types.specs.declared.goals.Goal.TheVariants.{Expr, Ty, Item}
+use Rattle.ssr_syntax_types.specs.declared.goals.ExprPlace.TheVariants.{Anywhere}
+use Rattle.ssr_syntax_types.specs.declared.goals.ItemPlace.{ItemPlace}
+use Rattle.ssr_syntax_types.specs.declared.goals.ItemPlace.TheVariants.{InModule, AsStmt, InImpl, InTrait}
+use Rattle.ssr_syntax_forms.specs.Forms.{Form, Test, ◌then◌, child, mark, seal, nothing, choose, decide, many, a, at, optional, repeated}
+use Rattle.ssr_syntax_types.specs.Paths.{name, open_angle, ret_type, simple_path, type_first}
+use Rattle.ssr_syntax_types.specs.Types.{type_bound_list}
+use Rattle.ssr_syntax_types.specs.TokenTrees.{attrs, curly_tree, inner_attr, paren_or_bracket_tree}
+use Rattle.ssr_syntax_exprs.specs.Blocks.{block_expr}
+use Rattle.ssr_syntax_items.specs.Params.{generic_param_list, generic_params, param_list, visibility, wheres}
+use Rattle.ssr_syntax_items.specs.Adts.{enum_item, struct_item}
+use Rattle.ssr_syntax_items.specs.Uses.{macro_path_first, name_or_underscore, use_item}
+
+abbrev pub trait_first : List SyntaxKind
+trait_first = k.UNSAFE_KW ∷ k.TRAIT_KW ∷ []
+
+abbrev pub unsafe_or_fn : List SyntaxKind
+unsafe_or_fn = k.UNSAFE_KW ∷ k.FN_KW ∷ []
+
+abbrev pub unsafe_item_words : List SyntaxKind
+unsafe_item_words = k.FN_KW ∷ k.IMPL_KW ∷ k.TRAIT_KW ∷ []
+
+-- what an item begins with that is no macro call, but for `unsafe`
+unfoldable pub named_item_first : List SyntaxKind
+named_item_first =
+    k.POUND ∷ k.PUB_KW ∷ k.CONST_KW ∷ k.FN_KW ∷ k.STRUCT_KW ∷ k.ENUM_KW ∷ k.TRAIT_KW ∷ k.MOD_KW ∷ k.USE_KW ∷
+    k.STATIC_KW ∷ k.TYPE_KW ∷ k.IMPL_KW ∷ []
+
+-- what an item that is a statement begins with
+unfoldable pub stmt_item_first : List SyntaxKind
+stmt_item_first = k.UNSAFE_KW ∷ named_item_first
+
+-- what an item begins with
+unfoldable pub module_item_first : List SyntaxKind
+module_item_first = stmt_item_first ++ macro_path_first
+
+unfoldable pub trait_item_words : List SyntaxKind
+trait_item_words = k.POUND ∷ k.CONST_KW ∷ k.UNSAFE_KW ∷ k.FN_KW ∷ k.TYPE_KW ∷ []
+
+unfoldable pub impl_item_words : List SyntaxKind
+impl_item_words = k.PUB_KW ∷ trait_item_words
+
+unfoldable pub impl_item_first : List SyntaxKind
+impl_item_first = macro_path_first ++ impl_item_words
+
+unfoldable pub trait_item_first : List SyntaxKind
+trait_item_first = macro_path_first ++ trait_item_words
+
+-- an identifier, `!` and another one: nothing else begins with these
+abbrev pub macro_rules_ahead : Test
+macro_rules_ahead = ((k.IDENT ∷ []) ∷ (k.BANG ∷ []) ∷ (k.IDENT ∷ []) ∷ []) ∷ []
+
+abbrev pub stmt_item_ahead : Test
+stmt_item_ahead = (named_item_first ∷ []) ∷ ((k.UNSAFE_KW ∷ []) ∷ unsafe_item_words ∷ []) ∷ macro_rules_ahead
+
+abbrev pub fn_ahead : Test
+fn_ahead = ((k.FN_KW ∷ []) ∷ []) ∷ ((k.CONST_KW ∷ []) ∷ unsafe_or_fn ∷ []) ∷ ((k.UNSAFE_KW ∷ []) ∷ (k.FN_KW ∷ []) ∷ []) ∷ []
+
+abbrev pub impl_ahead : Test
+impl_ahead = ((k.IMPL_KW ∷ []) ∷ []) ∷ ((k.UNSAFE_KW ∷ []) ∷ (k.IMPL_KW ∷ []) ∷ []) ∷ []
+
+-- ** Functions.
+
+unfoldable pub block_or_none : Form Goal
+block_or_none = choose (at (k.SEMICOLON ∷ [])) (a k.SEMICOLON) (mark block_expr)
+
+-- which may lack in a TRAIT
+unfoldable pub fn_body : ItemPlace → Form Goal
+fn_body InTrait = block_or_none
+fn_body InModule = mark block_expr
+fn_body AsStmt = mark block_expr
+fn_body InImpl = mark block_expr
+
+unfoldable pub function : ItemPlace → Form Goal
+function place =
+    optional (k.CONST_KW ∷ []) (a k.CONST_KW) then optional (k.UNSAFE_KW ∷ []) (a k.UNSAFE_KW) then a k.FN_KW then mark name
+    then generic_params then mark param_list then optional (k.THIN_ARROW ∷ []) (mark ret_type) then wheres
+    then fn_body place then seal k.FN
+
+-- ** What belongs to types.
+
+unfoldable pub impl_item_list : Form Goal
+impl_item_list = a k.L_CURLY then repeated impl_item_first (child (Item InImpl)) then a k.R_CURLY then seal k.ASSOC_ITEM_LIST
+
+unfoldable pub trait_item_list : Form Goal
+trait_item_list = a k.L_CURLY then repeated trait_item_first (child (Item InTrait)) then a k.R_CURLY then seal k.ASSOC_ITEM_LIST
+
+abbrev pub negative_ahead : Test
+negative_ahead = ((k.BANG ∷ []) ∷ type_first ∷ []) ∷ []
+
+unfoldable pub negative_impl : Form Goal
+negative_impl = a k.BANG then child Ty then a k.FOR_KW then child Ty
+
+unfoldable pub positive_impl : Form Goal
+positive_impl = child Ty then optional (k.FOR_KW ∷ []) (a k.FOR_KW then child Ty)
+
+unfoldable pub impl_types : Form Goal
+impl_types = choose negative_ahead negative_impl positive_impl
+
+-- `<` behind `impl` opens parameters
+unfoldable pub impl_params : Form Goal
+impl_params = decide (at open_angle) (mark generic_param_list) nothing
+
+unfoldable pub impl_item : Form Goal
+impl_item =
+    optional (k.UNSAFE_KW ∷ []) (a k.UNSAFE_KW) then a k.IMPL_KW then impl_params then impl_types then wheres
+    then mark impl_item_list then seal k.IMPL
+
+unfoldable pub trait_rest : Form Goal
+trait_rest =
+    optional (k.COLON ∷ []) (a k.COLON then mark type_bound_list) then wheres then mark trait_item_list then seal k.TRAIT
+
+unfoldable pub trait_item : Form Goal
+trait_item = optional (k.UNSAFE_KW ∷ []) (a k.UNSAFE_KW) then a k.TRAIT_KW then mark name then generic_params then trait_rest
+
+unfoldable pub type_alias : Form Goal
+type_alias =
+    a k.TYPE_KW then mark name then generic_params then optional (k.COLON ∷ []) (a k.COLON then mark type_bound_list)
+    then wheres then optional (k.EQ ∷ []) (a k.EQ then child Ty) then a k.SEMICOLON then seal k.TYPE_ALIAS
+
+-- ** Values of their own.
+
+unfoldable pub const_item : Form Goal
+const_item =
+    a k.CONST_KW then name_or_underscore then a k.COLON then child Ty
+    then optional (k.EQ ∷ []) (a k.EQ then child (Expr Anywhere)) then a k.SEMICOLON then seal k.CONST
+
+unfoldable pub static_item : Form Goal
+static_item =
+    a k.STATIC_KW then optional (k.MUT_KW ∷ []) (a k.MUT_KW) then mark name then a k.COLON then child Ty then a k.EQ
+    then child (Expr Anywhere) then a k.SEMICOLON then seal k.STATIC
+
+-- ** Modules.
+
+unfoldable pub item_list : Form Goal
+item_list = a k.L_CURLY then repeated module_item_first (child (Item InModule)) then a k.R_CURLY then seal k.ITEM_LIST
+
+unfoldable pub items_or_none : Form Goal
+items_or_none = choose (at (k.SEMICOLON ∷ [])) (a k.SEMICOLON) (mark item_list)
+
+unfoldable pub mod_item : Form Goal
+mod_item = a k.MOD_KW then mark name then items_or_none then seal k.MODULE
+
+-- ** Macro calls.
+
+unfoldable pub curly_macro_end : Form Goal
+curly_macro_end = mark curly_tree then optional (k.SEMICOLON ∷ []) (a k.SEMICOLON)
+
+unfoldable pub other_macro_end : Form Goal
+other_macro_end = paren_or_bracket_tree then a k.SEMICOLON
+
+unfoldable pub macro_end : Form Goal
+macro_end = choose (at (k.L_CURLY ∷ [])) curly_macro_end other_macro_end
+
+unfoldable pub macro_item : Form Goal
+macro_item = mark simple_path then a k.BANG then macro_end then seal k.MACRO_CALL
+
+unfoldable pub macro_rules_rest : Form Goal
+macro_rules_rest = mark name then macro_end
+
+-- that the identifier in front is `macro_rules` is asked of the tree's text
+unfoldable pub macro_rules : Form Goal
+macro_rules = a k.IDENT then a k.BANG then macro_rules_rest then seal k.MACRO_RULES
+
+-- ** Items. All since the mark is their attributes and what stands in front.
+
+unfoldable pub type_or_value_item : Form Goal
+type_or_value_item =
+    choose (at (k.CONST_KW ∷ [])) const_item
+    (choose (at (k.STRUCT_KW ∷ [])) struct_item
+    (choose (at (k.ENUM_KW ∷ [])) enum_item
+    (choose (at trait_first) trait_item
+    (choose (at (k.MOD_KW ∷ [])) mod_item
+    (choose (at (k.USE_KW ∷ [])) use_item
+    (choose (at (k.STATIC_KW ∷ [])) static_item
+    type_alias))))))
+
+unfoldable pub named_item : Form Goal
+named_item = decide fn_ahead (function InModule) type_or_value_item
+
+unfoldable pub visible_item : Form Goal
+visible_item = optional (k.PUB_KW ∷ []) (mark visibility) then named_item
+
+unfoldable pub assoc_value_or_type : Form Goal
+assoc_value_or_type = choose (at (k.CONST_KW ∷ [])) const_item type_alias
+
+unfoldable pub assoc_item : ItemPlace → Form Goal
+assoc_item place = decide fn_ahead (function place) assoc_value_or_type
+
+unfoldable pub visible_assoc_item : Form Goal
+visible_assoc_item = optional (k.PUB_KW ∷ []) (mark visibility) then assoc_item InImpl
+
+unfoldable pub module_item : Form Goal
+module_item = choose (at macro_path_first) macro_item visible_item
+
+unfoldable pub macro_rules_or_module_item : Form Goal
+macro_rules_or_module_item = decide macro_rules_ahead macro_rules module_item
+
+unfoldable pub item_in_module : Form Goal
+item_in_module = decide impl_ahead impl_item macro_rules_or_module_item
+
+unfoldable pub macro_rules_or_visible_item : Form Goal
+macro_rules_or_visible_item = decide macro_rules_ahead macro_rules visible_item
+
+unfoldable pub item_as_stmt : Form Goal
+item_as_stmt = decide impl_ahead impl_item macro_rules_or_visible_item
+
+unfoldable pub item_in_impl : Form Goal
+item_in_impl = choose (at macro_path_first) macro_item visible_assoc_item
+
+unfoldable pub item_in_trait : Form Goal
+item_in_trait = choose (at macro_path_first) macro_item (assoc_item InTrait)
+
+unfoldable pub item_behind_attrs : ItemPlace → Form Goal
+item_behind_attrs InModule = item_in_module
+item_behind_attrs AsStmt = item_as_stmt
+item_behind_attrs InImpl = item_in_impl
+item_behind_attrs InTrait = item_in_trait
+
+unfoldable pub item : ItemPlace → Form Goal
+item place = attrs then item_behind_attrs place
+
+-- ** Files.
+
+abbrev pub inner_attr_ahead : Test
+inner_attr_ahead = ((k.POUND ∷ []) ∷ (k.BANG ∷ []) ∷ []) ∷ []
+
+unfoldable pub source_file : Form Goal
+source_file =
+    many inner_attr_ahead (mark inner_attr) then repeated module_item_first (child (Item InModule)) then seal k.SOURCE_FILE
+
+-- the items that a macro call stands for
+unfoldable pub macro_items : Form Goal
+macro_items = repeated module_item_first (child (Item InModule)) then seal k.MACRO_ITEMS

@@ -1,0 +1,5 @@
+pub mod Literals
+pub mod Paths
+pub mod Types
+pub mod TokenTrees
+pub mod Patterns
