@@ -5,7 +5,7 @@ use Rattle.ssr_syntax.specs.declared.syntax_error.SyntaxError.TheVariants as syn
 use Rattle.ssr.specs.declared.rewriting.RewriteError.TheVariants as errors
 use Rattle.ssr.specs.Streams.{Given, Taken, IsRead}
 use Rattle.ssr.specs.Output.{Output, refused, input_refused, rules_of, words_of, IsFile, IsOutput}
-use Rattle.ssr.specs.Rewriting.{Rewrites}
+use Rattle.ssr.specs.Private.Rewriting.{Rewrites}
 use Rattle.ssr.specs.Running.{Answered, told, no_memory_for_input, no_memory, Goes}
 
 module _ (words : Option (List (List ℕ))) (old new : Given) (rules : List (List ℕ)) (input text : List ℕ) (named : rules_of words ≡ Some rules) (read : IsRead old new input) (same : text ≡ input) where

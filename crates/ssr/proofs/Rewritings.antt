@@ -14,7 +14,7 @@ use Rattle.ide_ssr_rules.specs.Resolving.{ResolvedKind}
 use Rattle.ide_ssr.specs.Edits.{rewritten_file}
 use Rattle.ide_ssr.specs.Finder.{Finder}
 use Rattle.ssr.specs.Output.{Output, IsOutput, no_file, no_rules, rewritten, written, rules_reading}
-use Rattle.ssr.specs.Rewriting.{Rewrites, refusal_of}
+use Rattle.ssr.specs.Private.Rewriting.{Rewrites, refusal_of}
 
 module _ (rules : List (List ℕ)) (text : List ℕ) (utf8 : IsUtf8 text) where
   pub rewrites_file : (A : Type 0) (error : SyntaxError) → Answers (Err error) (file_reading text) text → Rewrites {A = A} rules text (Err (errors.File error))

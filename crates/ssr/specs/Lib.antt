@@ -1,5 +1,4 @@
 pub mod Streams
-pub mod Noted
 pub mod Output
-pub mod Rewriting
 pub mod Running
+pub mod Private

@@ -1,8 +1,6 @@
 -- What reads, writes and whole texts do to what was given and taken so far.
-use Rattle.std.specs.Prelude.{◌≡◌, ℕ, ◌+◌, ◌<◌, ◌≤◌, ◌==◌, if◌then◌else◌, Bool, true, false, List, ◌++◌, length, take, Option, IfSome, Result, Ok, Err, Vec}
+use Rattle.std.specs.Prelude.{◌≡◌, ℕ, ◌+◌, ◌<◌, ◌≤◌, ◌==◌, if◌then◌else◌, Bool, true, false, List, ◌++◌, length, take, Option, IfSome}
 use Rattle.std.specs.Io.KnownBytes.{Appends, Consumes, IsAtEnd, Keeps}
-use Rattle.ssr.specs.declared.transfer.ReadError.{ReadError}
-use Rattle.ssr.specs.declared.transfer.ReadError.TheVariants.{Failed, Memory}
 
 -- what a source gave so far: its bytes, whether the last read with room for one found the end, and how many
 -- reads failed; and the bytes that it has left, where they are known, as those of a reader over memory are
@@ -54,12 +52,6 @@ pub record IsRead (old new : Given) (input : List ℕ) : Type 0 where
   pub known : IfSome old.remaining (λ bytes. input ≡ bytes)
   pub ended : new.ended ≡ true
   pub calm : new.failures ≡ old.failures
-
--- all bytes that a source had left were read; or there was no memory; or a read failed
-abbrev pub ReadsAll : {A : Type 0} → Given → Given → Result (Vec ℕ A) ReadError → Type 0
-ReadsAll old new (Ok input) = IsRead old new input.items
-ReadsAll old new (Err Memory) = new.failures ≡ old.failures
-ReadsAll old new (Err Failed) = new.failures ≡ old.failures + 1
 
 -- a text was sent whole; or a write failed or took no byte, and only its first `count` bytes went out
 pub data Sent (old new : Taken) (text : List ℕ) : Bool → Type 0 where

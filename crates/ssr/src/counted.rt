@@ -1,7 +1,7 @@
 //! Readers and writers as the program's source and sink. What they gave and took so far is known to proofs alone:
 //! a `Log` has no bytes at run time.
 ghost use Rattle.std.specs.Prelude.{◌≡◌, ◌++◌, [], false, length};
-ghost use Rattle.ssr.specs.Noted.{bytes_of};
+ghost use Rattle.ssr.specs.Private.Noted.{bytes_of};
 
 use crate::streams::{Failed, Sink, Source};
 use http_server::Log;

@@ -1,7 +1,7 @@
 //! From rules and the text of a file to its new text.
 ghost use Rattle.std.specs.Prelude.{◌≡◌, map, string_bytes, Err, IfOk, IfErr};
 ghost use Rattle.ssr.specs.Output.{rule_kinds, rules_reading};
-ghost use Rattle.ssr.specs.Rewriting.{Rewrites};
+ghost use Rattle.ssr.specs.Private.Rewriting.{Rewrites};
 ghost use Rattle.ide_ssr.specs.Adding.{Adds};
 ghost use Rattle.ide_ssr.specs.Edits.{rewritten_file};
 ghost use Rattle.ssr.specs.declared.rewriting.RewriteError.TheVariants as errors;
@@ -35,7 +35,7 @@ impl From<SyntaxError> for RewriteError {
 
 impl From<SsrError> for RewriteError {
     ghost use Rattle.std.specs.Prelude.{◌≡◌};
-    ghost use Rattle.ssr.specs.Rewriting.{refusal_of};
+    ghost use Rattle.ssr.specs.Private.Rewriting.{refusal_of};
 
     ghost from_gives = { λ error result. result ≡ refusal_of error };
 

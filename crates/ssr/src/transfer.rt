@@ -1,7 +1,8 @@
 //! Whole texts in and out.
 ghost use Rattle.std.specs.Prelude.{◌+◌, true, false};
 ghost use Rattle.std.specs.List.{flat_map};
-ghost use Rattle.ssr.specs.Streams.{Sent, ReadsAll};
+ghost use Rattle.ssr.specs.Streams.{Sent};
+ghost use Rattle.ssr.specs.Private.Transfer.{ReadsAll};
 ghost use Rattle.ssr.specs.declared.transfer.ReadError.TheVariants as errors;
 
 use crate::streams::{Failed, Sink, Source};

@@ -3,11 +3,10 @@ use Rattle.std.proofs.Common.{◌≡◌, ℕ, zero, suc, ◌<◌, nat_lt, Bool, 
 use Rattle.std.specs.Prelude.{⊤}
 use Rattle.std.proofs.lemmas.Bool.{ltb-true, and_parts}
 use Rattle.ssr_syntax_lex.specs.declared.kinds.SyntaxKind.{SyntaxKind}
-use Rattle.ssr_syntax_lex.specs.declared.kinds.SyntaxKind.TheVariants.{AS_KW, CONST_KW, FN_KW, UNSAFE_KW, IF_KW, LET_KW, COLON2, L_CURLY, R_PAREN, R_CURLY, R_BRACK, COMMA, BLOCK_EXPR}
-use Rattle.ssr_syntax_lex.specs.Kinds.{same_kind}
-use Rattle.ssr_syntax.specs.CoreTrees.{core_kinds}
+use Rattle.ssr_syntax_lex.specs.declared.kinds.SyntaxKind.TheVariants.{IDENT, AS_KW, ELSE_KW, FOR_KW, IF_KW, IN_KW, LET_KW, WHERE_KW, COLON, COLON2, EQ, FAT_ARROW, L_CURLY, R_PAREN, R_CURLY, R_BRACK, SEMICOLON, COMMA}
 use Rattle.ssr_syntax_types.specs.declared.goals.Goal.{Goal}
 use Rattle.ssr_syntax_types.specs.declared.goals.Goal.TheVariants.{File, Expr, Condition, Operand, Unary, Ty, PathType, GenericArgs, TokenTree, Pat, StmtList, Stmt, Arm, If, Item, UseTree, Items, Stmts}
+use Rattle.ssr_syntax_types.specs.declared.goals.ExprPlace.{ExprPlace}
 use Rattle.ssr_syntax_types.specs.declared.goals.ExprPlace.TheVariants.{Anywhere, BeforeBlock}
 use Rattle.ssr_syntax_types.specs.declared.goals.PatPlace.TheVariants.{TopLevel, NoBar, BehindAmp}
 use Rattle.ssr_syntax_types.specs.declared.goals.ItemPlace.TheVariants.{InModule, AsStmt, InImpl, InTrait}
@@ -18,15 +17,15 @@ use Rattle.ssr_syntax_types.specs.Paths as path
 use Rattle.ssr_syntax_types.specs.Paths.{path_first, type_first, open_angle}
 use Rattle.ssr_syntax_types.specs.Types as types
 use Rattle.ssr_syntax_types.specs.TokenTrees as trees
-use Rattle.ssr_syntax_types.specs.TokenTrees.{opening}
+use Rattle.ssr_syntax_types.specs.TokenTrees.{opening, tree_first}
 use Rattle.ssr_syntax_types.specs.Patterns as pats
-use Rattle.ssr_syntax_types.specs.Patterns.{pat_first, single_pat_first}
+use Rattle.ssr_syntax_types.specs.Patterns.{pat_first, ranges, single_pat_first}
 use Rattle.ssr_syntax_exprs.specs.Blocks as block
 use Rattle.ssr_syntax_exprs.specs.Blocks.{arm_first}
 use Rattle.ssr_syntax_exprs.specs.Atoms as atom
-use Rattle.ssr_syntax_exprs.specs.Atoms.{operand_first, expr_first}
+use Rattle.ssr_syntax_exprs.specs.Atoms.{bars, operand_first, expr_first}
 use Rattle.ssr_syntax_exprs.specs.Expressions as expr
-use Rattle.ssr_syntax_exprs.specs.Expressions.{ranks, postfix_first, assignments}
+use Rattle.ssr_syntax_exprs.specs.Expressions.{ranks, assignments}
 use Rattle.ssr_syntax_exprs.specs.GenericArgs as args
 use Rattle.ssr_syntax_items.specs.Params as params
 use Rattle.ssr_syntax_items.specs.Items as item
@@ -42,23 +41,35 @@ use Rattle.ssr_syntax_forms.proofs.Shared.{Tables, keeps, makes_node, lone_marks
 use Rattle.ssr_syntax.proofs.Operands as operands
 use Rattle.ssr_syntax.proofs.Identifiers as idents
 
--- the nodes of core trees, of which blocks are core in some places alone
-abbrev pub is_core : SyntaxKind → Bool
-is_core kind = mem kind core_kinds || same_kind kind BLOCK_EXPR
+-- what may stand behind an expression, a pattern or what USE names, where no block does
+abbrev ends : List SyntaxKind
+ends = END ∷ SEMICOLON ∷ COMMA ∷ R_PAREN ∷ R_CURLY ∷ R_BRACK ∷ FAT_ARROW ∷ ELSE_KW ∷ []
 
--- what may stand behind an expression
-abbrev behind_expr : List SyntaxKind
-behind_expr = END ∷ R_PAREN ∷ R_CURLY ∷ R_BRACK ∷ COMMA ∷ []
+abbrev behind_expr : ExprPlace → List SyntaxKind
+behind_expr Anywhere = ends
+behind_expr BeforeBlock = L_CURLY ∷ ends
 
 -- what may stand behind an operand of so many ranks: what binds less tightly
 abbrev behind_operand : ℕ → List (List SyntaxKind) → List SyntaxKind
-behind_operand r [] = assignments ++ behind_expr
+behind_operand r [] = ranges ++ assignments
 behind_operand zero (ks ∷ rows) = ks ++ behind_operand zero rows
 behind_operand (suc r) (ks ∷ rows) = behind_operand r rows
 
--- what may stand behind a block
-abbrev behind_block : List SyntaxKind
-behind_block = AS_KW ∷ postfix_first ++ module_item_first ++ stmt_first ++ behind_operand zero ranks
+-- what may stand behind an operand without casts
+abbrev behind_unary : ExprPlace → List SyntaxKind
+behind_unary place = AS_KW ∷ behind_operand zero ranks ++ behind_expr place
+
+-- what may stand behind a type
+abbrev behind_type : List SyntaxKind
+behind_type = COLON ∷ COLON2 ∷ FOR_KW ∷ WHERE_KW ∷ behind_unary BeforeBlock
+
+-- what may stand behind a pattern, but for a bar
+abbrev behind_pat : List SyntaxKind
+behind_pat = COLON ∷ EQ ∷ IF_KW ∷ IN_KW ∷ ends
+
+-- any token, or none
+abbrev anything : List SyntaxKind
+anything = END ∷ R_PAREN ∷ R_CURLY ∷ R_BRACK ∷ tree_first
 
 -- the kinds that begin a tree
 abbrev first_of : Goal → List SyntaxKind
@@ -78,7 +89,7 @@ first_of = elim [
   | Arm ↦ arm_first
   | If ↦ IF_KW ∷ []
   | Item InModule ↦ module_item_first
-  | Item AsStmt ↦ stmt_item_first
+  | Item AsStmt ↦ IDENT ∷ stmt_item_first
   | Item InImpl ↦ impl_item_first
   | Item InTrait ↦ trait_item_first
   | UseTree ↦ use_first
@@ -87,36 +98,33 @@ first_of = elim [
   | _ ↦ expr_first
 ]
 
--- the same of core trees: no attribute stands in front of an item
-abbrev core_first : Goal → List SyntaxKind
-core_first = elim [
-  | File ↦ FN_KW ∷ CONST_KW ∷ UNSAFE_KW ∷ []
-  | Item _ ↦ FN_KW ∷ CONST_KW ∷ UNSAFE_KW ∷ []
-  | goal ↦ first_of goal
-]
-
 abbrev pub tables : Tables Goal
 tables = record {
-  core = is_core;
-  is_dead = elim [ Ty ↦ true | PathType ↦ true | GenericArgs ↦ true | TokenTree ↦ true | Pat _ ↦ true | Arm ↦ true | If ↦ true | UseTree ↦ true | Items ↦ true | Stmts ↦ true | _ ↦ false ];
-  is_empty = elim [ File ↦ true | _ ↦ false ];
-  first = core_first;
+  core = any_node;
+  is_dead = λ goal. false;
+  is_empty = elim [ File ↦ true | Items ↦ true | Stmts ↦ true | _ ↦ false ];
+  first = first_of;
   follow = elim [
-    | File ↦ END ∷ []
-    | Operand _ r ↦ behind_operand r ranks
-    | Unary _ ↦ AS_KW ∷ behind_operand zero ranks
-    | StmtList ↦ behind_block
-    | Stmt ↦ END ∷ []
+    | Expr place ↦ behind_expr place
+    | Condition place ↦ behind_expr place
+    | Operand place r ↦ behind_operand r ranks ++ behind_expr place
+    | Unary place ↦ behind_unary place
+    | Ty ↦ behind_type
+    | PathType ↦ behind_type
+    | Pat TopLevel ↦ behind_pat
+    | Pat _ ↦ bars ++ behind_pat
+    | UseTree ↦ ends
+    | Arm ↦ END ∷ R_CURLY ∷ arm_first
     | Item _ ↦ END ∷ R_CURLY ∷ module_item_first ++ stmt_first
-    | _ ↦ behind_expr
+    | GenericArgs ↦ anything
+    | TokenTree ↦ anything
+    | StmtList ↦ anything
+    | If ↦ anything
+    | _ ↦ END ∷ []
   ];
   rank = λ goal. 0;
   ranks = 1;
 }
-
--- the same of all trees: no node is left out
-abbrev pub of_all_kinds : Tables Goal → Tables Goal
-of_all_kinds t = record t { core = any_node; is_dead = λ goal. false; first = first_of }
 
 -- All that is asked of a goal and its form. A new form or goal adds no line.
 abbrev pub checks : Tables Goal → Goal → Form Goal → List Bool
@@ -126,7 +134,7 @@ checks t goal form =
     ∷ nat_lt (t.rank goal) t.ranks
     ∷ makes_node form
     ∷ mem END (t.follow goal)
-    ∷ remembers (of_all_kinds t) form
+    ∷ remembers t form
     ∷ lone_marks form
     ∷ operands.is_bounded (operands.made operands.bound form operands.start) (operands.bound goal)
     ∷ idents.is_clean (idents.place_behind form idents.empty)

@@ -9,6 +9,7 @@ use Rattle.ssr_syntax_forms.specs.declared.tokens.Token.{Token}
 use Rattle.ssr_syntax_types.specs.declared.goals.Goal.{Goal}
 use Rattle.ssr_syntax_forms.specs.Trees.{Forest, done, leaf, tree, join}
 use Rattle.ssr_syntax_forms.specs.Forms.{Form, one, child, mark, seal, ◌then◌, nothing, choose, many, look, check, taken_as}
+use Rattle.ssr_syntax.proofs.Operands.{went}
 use Rattle.ssr_syntax.specs.Grammar.{grammar}
 use Rattle.ssr_syntax.specs.Identifiers.{is_ident, is_mixing}
 use Rattle.ssr_syntax_forms.proofs.Shared.{FitsBelow, Step, Repeats, Fits, FitsGoal, meets, apart, one_taken}
@@ -168,10 +169,6 @@ clean_at empty x e at = (ap shows at.0, at.1)
 clean_at clean x e at = at
 clean_at either x e at = cc
 clean_at crowded x e at = cc
-
-went : (o : Option Place) (next : Place → Option Place) (q : Place) → option_and_then next o ≡ Some q → (m : Place) × (o ≡ Some m) × (next m ≡ Some q)
-went None next q e = cc
-went (Some m) next q e = (m, refl, e)
 
 under : (b : Bool) (o : Option Place) (q : Place) → (if b then o else None) ≡ Some q → (b ≡ true) × (o ≡ Some q)
 under true o q e = (refl, e)

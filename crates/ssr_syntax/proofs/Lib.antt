@@ -1,7 +1,6 @@
 pub mod Shared
 mod Finished
 mod Checks
-mod CoreTrees
 mod Whole
 mod Operands
 mod Placed
@@ -16,6 +15,8 @@ mod Trimmed
 mod Lists
 mod TextRows
 mod TextLaws
+mod ExpansionTokens
+mod ExpansionLaws
 mod Identifiers
 mod IdentTokens
 mod IdentTexts

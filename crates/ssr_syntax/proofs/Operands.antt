@@ -1,7 +1,7 @@
 -- Whatever fits keeps precedence, however the forms of expressions are written: a sketch of what a form has made since
 -- the mark, computed over the form, knows as much of it as precedence asks.
 use Rattle.std.proofs.Common.{◌≡◌, ℕ, zero, suc, ◌+◌, max, ◌<◌, ◌≤◌, nat_le, nat_lt, nat_eq, Bool, true, false, not, ◌&&◌, ◌||◌, if◌then◌else◌, List, [], ◌∷◌, ◌++◌, length, Option, Some, None, inl, inr, refl, sym, ap, subst, ◌∙◌, arith, eqb-true}
-use Rattle.std.proofs.lemmas.Bool.{leb-true, ltb-true, lt-ltb, and_parts, cases_Bool}
+use Rattle.std.proofs.lemmas.Bool.{leb-true, ltb-true, lt-ltb, and_from, and_parts, cases_Bool}
 use Rattle.std.specs.Prelude.{⊤}
 use Rattle.std.specs.Option.{option_and_then}
 use Rattle.ssr_syntax_lex.specs.Kinds.{same_kind}
@@ -194,7 +194,7 @@ made bound (check condition) p = Some p
 some_one : {p q : Sketch} → ◌≡◌ {A = Option Sketch} (Some p) (Some q) → p ≡ q
 some_one e = cc
 
-went : {A : Type 0} (o : Option A) (next : A → Option Sketch) (q : Sketch) → option_and_then next o ≡ Some q
+pub went : {A B : Type 0} (o : Option A) (next : A → Option B) (q : B) → option_and_then next o ≡ Some q
     → (m : A) × (o ≡ Some m) × (next m ≡ Some q)
 went None next q e = cc
 went (Some m) next q e = (m, refl, e)
@@ -322,10 +322,6 @@ unless : (c d : Bool) → (not c || d) ≡ true → c ≡ true → d ≡ true
 unless true d e is = e
 unless false d e is = cc
 
-both_true : (c d : Bool) → c ≡ true → d ≡ true → (c && d) ≡ true
-both_true true d c_is d_is = d_is
-both_true false d c_is d_is = cc
-
 was_node : (c : Bool) (m n : ℕ) → node_if c m ≡ Some n → (c ≡ true) × (m ≡ n)
 was_node true m n e = (refl, cc)
 was_node false m n e = cc
@@ -360,7 +356,7 @@ other_sealed kind f b x e h is_first all =
     let first : 0 < n → n < 4 → FirstHasAtMost n x =
     λ some few.
     first_covered f n x
-    (unless (nat_lt 0 n && nat_lt n 4) (covers f n) parts.0 (both_true (nat_lt 0 n) (nat_lt n 4) (lt-ltb 0 n some) (lt-ltb n 4 few)))
+    (unless (nat_lt 0 n && nat_lt n 4) (covers f n) parts.0 (and_from (nat_lt 0 n) (nat_lt n 4) (lt-ltb 0 n some) (lt-ltb n 4 few)))
     is_first in
     record {
       first = subst (λ m. 0 < m → m < 4 → FirstHasAtMost m x) n_is first;

@@ -1,14 +1,15 @@
 -- The rows of a forest, read from the right, give its nodes' rows in preorder.
-use Rattle.std.proofs.Common.{◌≡◌, ℕ, suc, ◌+◌, ◌-◌, ◌<◌, ◌≤◌, Bool, true, false, ◌||◌, ◌⊎◌, inl, inr, List, [], ◌∷◌, ◌++◌, length, map, refl, sym, ◌∙◌, ap, subst, arith, append_assoc, length-append}
+use Rattle.std.proofs.Common.{◌≡◌, ℕ, suc, ◌+◌, ◌-◌, ◌<◌, ◌≤◌, Bool, true, false, ◌||◌, inl, inr, List, [], ◌∷◌, ◌++◌, length, map, refl, sym, ◌∙◌, ap, subst, arith, append_assoc, length-append}
 use Rattle.ssr_syntax_lex.specs.declared.kinds.SyntaxKind.{SyntaxKind}
 use Rattle.std.specs.Prelude.{⊤, nat_le, nat_lt, reverse, Result, Ok, Err}
 use Rattle.std.specs.Result.{IsErr, IsErrAnd}
 use Rattle.std.proofs.lemmas.List.{append-nil, reverse-append, reverse-reverse, length-reverse}
 use Rattle.std.proofs.lemmas.Bool.Decides.{nat_tests}
-use Rattle.std.proofs.lemmas.Bool.{ltb-true, ltb-false, lt-ltb, le-ltb}
+use Rattle.std.proofs.lemmas.Bool.{ltb-true, ltb-false, lt-ltb, le-ltb, or_cases, or_parts}
 use Rattle.ssr_syntax_tree.specs.declared.rows.NodeRow.{NodeRow}
 use Rattle.ssr_syntax.specs.declared.preorder.Open.{Open}
 use Rattle.ssr_syntax.specs.declared.syntax_error.SyntaxError.{SyntaxError}
+use Rattle.ssr_syntax_forms.proofs.Shared.{length-rows}
 use Rattle.ssr_syntax_forms.specs.Trees.{Forest, done, leaf, tree, spell, nodes, height}
 use Rattle.ssr_syntax_forms.specs.Written.{rows}
 use Rattle.ssr_syntax.specs.Private.Preorder.{node_rows, first_at, past_at, tree_rows, IsDepthFault, OkUnlessDeep}
@@ -47,14 +48,6 @@ none_closed place later [] lt h = refl
 none_closed place later (inner ∷ above) lt h =
     let e : nat_le later inner.start ≡ false = shut later inner.start (omega (arith, h.0)) in
     rw e
-
-pub length-rows : (x : Forest) (left : ℕ) → length (rows x left) ≡ nodes x
-length-rows done left = refl
-length-rows (leaf kind tokens x) left = length-rows x left
-length-rows (tree kind kids x) left =
-    let e = length-rows kids (length (spell x) + left) in
-    let f = length-rows x left in
-    rw (length-append (rows kids (length (spell x) + left)), e, f) (omega arith)
 
 length-reversed : (xs more : List NodeRow) → length (reverse xs ++ more) ≡ length xs + length more
 length-reversed xs more = rw (length-append, length-reverse)
@@ -226,21 +219,13 @@ depth_told limit at total (tree kind kids x) i left above more h b =
     (here ∙ ap (λ l. nat_lt limit (length above) || l) (below ∙ ap (λ l. l || is_deeper limit at total (inner ∷ above) more) same ∙ ap (λ l. deep || l) last))
     ∙ four (deeper_by limit (length above) x) (nat_lt limit (length above)) deep (is_deeper limit at total above more)
 
-or_true : (a b : Bool) → (a || b) ≡ true → (a ≡ true) ⊎ (b ≡ true)
-or_true true b h = inl refl
-or_true false b h = inr h
-
-or_false : (a b : Bool) → (a || b) ≡ false → (a ≡ false) × (b ≡ false)
-or_false true b h = absurd (cc)
-or_false false b h = (refl, h)
-
 pub too_high : (limit above : ℕ) (f : Forest) → deeper_by limit above f ≡ true → 1 + limit < above + height f
 too_high limit above done h = absurd (cc)
 too_high limit above (leaf kind tokens x) h = too_high limit above x h
 too_high limit above (tree kind kids x) h =
-    elim (or_true (deeper_by limit above x) (nat_lt limit above || deeper_by limit (1 + above) kids) h) [
+    elim (or_cases (deeper_by limit above x) (nat_lt limit above || deeper_by limit (1 + above) kids) h) [
       | inl e ↦ omega (arith, too_high limit above x e)
-      | inr e ↦ elim (or_true (nat_lt limit above) (deeper_by limit (1 + above) kids) e) [
+      | inr e ↦ elim (or_cases (nat_lt limit above) (deeper_by limit (1 + above) kids) e) [
         | inl lt ↦ omega (arith, ltb-true limit above lt)
         | inr deep ↦ omega (arith, too_high limit (1 + above) kids deep)
       ]
@@ -250,8 +235,8 @@ pub not_high : (limit above : ℕ) (f : Forest) → above ≤ 1 + limit → deep
 not_high limit above done le h = omega arith
 not_high limit above (leaf kind tokens x) le h = not_high limit above x le h
 not_high limit above (tree kind kids x) le h =
-    let e = or_false (deeper_by limit above x) (nat_lt limit above || deeper_by limit (1 + above) kids) h in
-    let f = or_false (nat_lt limit above) (deeper_by limit (1 + above) kids) e.1 in
+    let e = or_parts (deeper_by limit above x) (nat_lt limit above || deeper_by limit (1 + above) kids) h in
+    let f = or_parts (nat_lt limit above) (deeper_by limit (1 + above) kids) e.1 in
     let here : above ≤ limit = ltb-false limit above f.0 in
     omega (arith, not_high limit above x le e.0, not_high limit (1 + above) kids (omega arith) f.1)
 

@@ -21,7 +21,6 @@ use Rattle.ssr_syntax_forms.specs.Written.{leaves}
 use Rattle.ssr_syntax_forms.proofs.Shared.{IsShallow}
 use Rattle.ssr_syntax.specs.Lossless.{whole_tree, IsTrimmed}
 use Rattle.ssr_syntax.specs.Reading.{most_deep}
-use Rattle.ssr_syntax.specs.CoreTrees.{IsCore}
 use Rattle.ssr_syntax.specs.MacroRules.{misnames_macros}
 use Rattle.ssr_syntax.specs.Solid.{solid_tokens}
 use Rattle.ssr_syntax.specs.Reading.{reading, most_levels, pieces, one_tree, tree_reading, unless_misnamed, lexed_reading, short_reading, file_reading, fragment_reading, trimmed, goal_of, begins_solid, error_of, Answers, AnswersTrimmed, FitsTokens, FitsFile, FitsFragment, IsTreeOfFile, IsTreeOfFragment, IsThatOrTooDeep, Refuses}
@@ -30,7 +29,6 @@ use Rattle.ssr_syntax.proofs.Laid.{AreSolid}
 use Rattle.ssr_syntax.proofs.Trimmed.{trimmed-whole, trimmed-root}
 use Rattle.ssr_syntax.specs.Grammar.{grammar}
 use Rattle.ssr_syntax_forms.proofs.Shared.{shallow_of, goals_by_rules}
-use Rattle.ssr_syntax.proofs.CoreTrees.{core_whole}
 use Rattle.ssr_syntax.proofs.Whole.{one_fits, reading_fits, reading_complete}
 use Rattle.ssr_syntax.proofs.Texts.{ReadsAs, is_read, read_given, reading_is, read_is, read_ok, read_too_deep, whole-depth, whole-source}
 
@@ -83,7 +81,7 @@ tokens_sound goal text raw s spells e =
 -- ** What fits is read.
 
 -- what a reading says of a tree
-abbrev Told : Result Syntax SyntaxError → Syntax → Type 0
+abbrev pub Told : Result Syntax SyntaxError → Syntax → Type 0
 Told read s = (read ≡ Ok s) ⊎ ((read ≡ Err errors.TooDeep) × (most_deep < depth_of s))
 
 told_whole : (goal : Goal) (text : List ℕ) (raw : List RawToken) (kind : SyntaxKind) (kids : Forest) (b : Bool) → ReadsAs goal text raw kind kids
@@ -98,11 +96,11 @@ deeper_than : (kind : SyntaxKind) (kids : Forest) (b : Bool) → nat_lt most_dee
 deeper_than kind kids true e h = ltb-true most_deep (height kids) e
 deeper_than kind kids false e h = absurd (h (shallow_of kids most_deep (ltb-false most_deep (height kids) e), tt))
 
-pub tokens_complete : (goal : Goal) (text : List ℕ) (raw : List RawToken) (s : Syntax) → IsCore s → FitsTokens goal text raw s
+pub tokens_complete : (goal : Goal) (text : List ℕ) (raw : List RawToken) (s : Syntax) → FitsTokens goal text raw s
     → Told (tree_reading goal text raw) s
-tokens_complete goal text raw s core (kind, kids, fits, is, named) =
+tokens_complete goal text raw s (kind, kids, fits, is, named) =
     subst (Told (tree_reading goal text raw)) (sym is)
-    (elim (reading_complete goal (solid_tokens raw) (tree kind kids done) (core_whole kind kids (pieces text raw) (subst IsCore is core)) fits) [
+    (elim (reading_complete goal (solid_tokens raw) (tree kind kids done) fits) [
       | inl e ↦ told_whole goal text raw kind kids (nat_lt most_deep (height kids)) (read_given goal text raw kind kids e)
           (ap misnames_macros (sym is) ∙ named) refl
       | inr e ↦ inr (
@@ -155,7 +153,7 @@ pub as_refused : (e : SyntaxError) (read other : Result Syntax SyntaxError) (inn
     → Refuses e read inner → Refuses e other text
 as_refused e read other inner text lt same h = (λ is. lt, λ no. same ∙ h.1 no)
 
-too_long : (read : Result Syntax SyntaxError) (text : List ℕ) (e : SyntaxError) → (e ≡ errors.TooLong) × (2 ^ 32 ≤ length text)
+pub too_long : (read : Result Syntax SyntaxError) (text : List ℕ) (e : SyntaxError) → (e ≡ errors.TooLong) × (2 ^ 32 ≤ length text)
     → Refuses e (short_reading read text) text
 too_long read text e h =
     subst (λ x. Refuses x (short_reading read text) text) (sym h.0)
@@ -201,23 +199,23 @@ file_lexed text given raw r same lt e h =
     read_alike r (tree_reading goals.File text raw) (short_reading (lexed_reading (tree_reading goals.File text) text) text) text
     (reads_short (tree_reading goals.File text) text text raw (subst (λ t. length t < 2 ^ 32) same lt) (ap tokens (sym same) ∙ e)) h
 
-told_ok : (read : Result Syntax SyntaxError) (s v : Syntax) → Told read s → read ≡ Ok v → v ≡ s
+pub told_ok : (read : Result Syntax SyntaxError) (s v : Syntax) → Told read s → read ≡ Ok v → v ≡ s
 told_ok read s v (inl k) h = cc (h, k)
 told_ok read s v (inr k) h = absurd (cc (h, k.0))
 
-told_err : (read : Result Syntax SyntaxError) (s : Syntax) (e : SyntaxError) → Told read s → read ≡ Err e → (e ≡ errors.TooDeep) × (most_deep < depth_of s)
+pub told_err : (read : Result Syntax SyntaxError) (s : Syntax) (e : SyntaxError) → Told read s → read ≡ Err e → (e ≡ errors.TooDeep) × (most_deep < depth_of s)
 told_err read s e (inl k) h = absurd (cc (h, k))
 told_err read s e (inr k) h = (cc (h, k.0), k.1)
 
-file_told : (text : List ℕ) (s : Syntax) → length text < 2 ^ 32 → IsCore s → FitsFile text s → Told (file_reading text) s
+file_told : (text : List ℕ) (s : Syntax) → length text < 2 ^ 32 → FitsFile text s → Told (file_reading text) s
 unfolding file_reading
-file_told text s lt core (raw, e, fits) =
-    subst (λ w. Told w s) (sym (reads_short (tree_reading goals.File text) text text raw lt e)) (tokens_complete goals.File text raw s core fits)
+file_told text s lt (raw, e, fits) =
+    subst (λ w. Told w s) (sym (reads_short (tree_reading goals.File text) text text raw lt e)) (tokens_complete goals.File text raw s fits)
 
-pub file_complete : (text : List ℕ) (s : Syntax) (r : Result Syntax SyntaxError) → length text < 2 ^ 32 → IsCore s → FitsFile text s
+pub file_complete : (text : List ℕ) (s : Syntax) (r : Result Syntax SyntaxError) → length text < 2 ^ 32 → FitsFile text s
     → Answers r (file_reading text) text → IsThatOrTooDeep (λ v. v) s r
-file_complete text s (Ok v) lt core fits h = told_ok (file_reading text) s v (file_told text s lt core fits) h
-file_complete text s (Err x) lt core fits h = λ m. told_err (file_reading text) s x (file_told text s lt core fits) (h.1 m)
+file_complete text s (Ok v) lt fits h = told_ok (file_reading text) s v (file_told text s lt fits) h
+file_complete text s (Err x) lt fits h = λ m. told_err (file_reading text) s x (file_told text s lt fits) (h.1 m)
 
 -- ** Fragments.
 
@@ -248,20 +246,20 @@ fragment_sound fragment text s utf8 e =
       trimmed_nodes = subst (λ v. IsTrimmed (branch v.kind v.children nothing)) t.3.3 (trimmed-root inner raw t.3.0 t.3.1 t.3.2 was.0);
     }
 
-fragment_told : (fragment : Fragment) (text : List ℕ) (s : Syntax) → length text < 2 ^ 32 → IsCore s → FitsFragment fragment text s
+fragment_told : (fragment : Fragment) (text : List ℕ) (s : Syntax) → length text < 2 ^ 32 → FitsFragment fragment text s
     → Told (fragment_reading fragment text) s
 unfolding fragment_reading
-fragment_told fragment text s lt core (raw, e, outside, fits) =
+fragment_told fragment text s lt (raw, e, outside, fits) =
     let inner : List ℕ = trimmed text in
     subst (λ w. Told w s)
     (sym (reads_short (fragment_reads fragment inner) inner text raw lt e
     ∙ ap (λ b. if b then tree_reading (goal_of fragment) inner raw else Err errors.NoTree) outside))
-    (tokens_complete (goal_of fragment) inner raw s core fits)
+    (tokens_complete (goal_of fragment) inner raw s fits)
 
 pub fragment_complete : (fragment : Fragment) (text : List ℕ) (s : Syntax) (r : Result (Syntax × ℕ) SyntaxError) → length text < 2 ^ 32
-    → IsCore s → FitsFragment fragment text s → AnswersTrimmed r (fragment_reading fragment text) text → IsThatOrTooDeep (λ v. v.0) s r
-fragment_complete fragment text s (Ok v) lt core fits h = told_ok (fragment_reading fragment text) s v.0 (fragment_told fragment text s lt core fits) h.0
-fragment_complete fragment text s (Err x) lt core fits h = λ m. told_err (fragment_reading fragment text) s x (fragment_told fragment text s lt core fits) (h.1 m)
+    → FitsFragment fragment text s → AnswersTrimmed r (fragment_reading fragment text) text → IsThatOrTooDeep (λ v. v.0) s r
+fragment_complete fragment text s (Ok v) lt fits h = told_ok (fragment_reading fragment text) s v.0 (fragment_told fragment text s lt fits) h.0
+fragment_complete fragment text s (Err x) lt fits h = λ m. told_err (fragment_reading fragment text) s x (fragment_told fragment text s lt fits) (h.1 m)
 
 pub fragment_too_long : (fragment : Fragment) (text : List ℕ) (e : SyntaxError) → (e ≡ errors.TooLong) × (2 ^ 32 ≤ length text)
     → Refuses e (fragment_reading fragment text) text
@@ -270,7 +268,7 @@ fragment_too_long fragment text e h =
     too_long (lexed_reading (fragment_reads fragment (trimmed text)) (trimmed text)) text e h
 
 -- a short text is read as its inner one is
-short_is : (read : Result Syntax SyntaxError) (text : List ℕ) → length text < 2 ^ 32 → short_reading read text ≡ read
+pub short_is : (read : Result Syntax SyntaxError) (text : List ℕ) → length text < 2 ^ 32 → short_reading read text ≡ read
 short_is read text lt = ap (λ b. if b then read else Err errors.TooLong) (lt-ltb (length text) (2 ^ 32) lt)
 
 pub fragment_fault : (fragment : Fragment) (text inner : List ℕ) (e : SyntaxError) → inner ≡ trimmed text → length text < 2 ^ 32
@@ -325,22 +323,22 @@ node_parts P kind other kids below e h =
     let same_kids : kids ≡ below = cc in
     subst (λ k. P k below) same_kind (subst (P kind) same_kids h)
 
-one_tokens : (goal : Goal) (text : List ℕ) (raw : List RawToken) (a b : Syntax) → IsCore a → IsCore b
+pub one_tokens : (goal : Goal) (text : List ℕ) (raw : List RawToken) (a b : Syntax)
     → FitsTokens goal text raw a → FitsTokens goal text raw b → a ≡ b
-one_tokens goal text raw a b core_a core_b (kind, kids, f, e, named) (other, below, g, d, other_named) =
+one_tokens goal text raw a b (kind, kids, f, e, named) (other, below, g, d, other_named) =
     let ts = pieces text raw in
     let same = one_fits goal (solid_tokens raw) (tree kind kids done) (tree other below done)
-    (core_whole kind kids ts (subst IsCore e core_a)) (core_whole other below ts (subst IsCore d core_b)) f g in
+    f g in
     e
     ∙ node_parts (λ k l. whole_tree kind kids (pieces text raw) ≡ whole_tree k l (pieces text raw)) kind other kids below same refl
     ∙ sym d
 
-pub one_file : (text : List ℕ) (a b : Syntax) → IsCore a → IsCore b → FitsFile text a → FitsFile text b → a ≡ b
-one_file text a b core_a core_b (raw, e, f) (raws, d, g) =
+pub one_file : (text : List ℕ) (a b : Syntax) → FitsFile text a → FitsFile text b → a ≡ b
+one_file text a b (raw, e, f) (raws, d, g) =
     let same : raws ≡ raw = cc (d, e) in
-    one_tokens goals.File text raw a b core_a core_b f (subst (λ ts. FitsTokens goals.File text ts b) same g)
+    one_tokens goals.File text raw a b f (subst (λ ts. FitsTokens goals.File text ts b) same g)
 
-pub one_fragment : (fragment : Fragment) (text : List ℕ) (a b : Syntax) → IsCore a → IsCore b → FitsFragment fragment text a → FitsFragment fragment text b → a ≡ b
-one_fragment fragment text a b core_a core_b (raw, e, out, f) (raws, d, outside, g) =
+pub one_fragment : (fragment : Fragment) (text : List ℕ) (a b : Syntax) → FitsFragment fragment text a → FitsFragment fragment text b → a ≡ b
+one_fragment fragment text a b (raw, e, out, f) (raws, d, outside, g) =
     let same : raws ≡ raw = cc (d, e) in
-    one_tokens (goal_of fragment) (trimmed text) raw a b core_a core_b f (subst (λ ts. FitsTokens (goal_of fragment) (trimmed text) ts b) same g)
+    one_tokens (goal_of fragment) (trimmed text) raw a b f (subst (λ ts. FitsTokens (goal_of fragment) (trimmed text) ts b) same g)

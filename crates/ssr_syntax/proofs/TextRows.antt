@@ -14,6 +14,8 @@ use Rattle.ssr_syntax_lex.proofs.Shared.{same_kind-equal, tokens_tile, tiles_spe
 use Rattle.ssr_syntax.specs.Solid.{twice, joined, lengthened, is_joint, joined_two, joined_three, solid_token, solid_tokens}
 use Rattle.ssr_syntax.specs.Private.SolidKinds.{with_next, two_of, solid_kind, solid_kinds, kinds_begin_solid}
 use Rattle.ssr_syntax.specs.Reading.{begins_solid}
+use Rattle.ssr_syntax.specs.Private.Reading.{IsCut}
+use Rattle.ssr_syntax_forms.specs.declared.tokens.Token.{Token}
 use Rattle.ssr_syntax.proofs.Lists.{map-reverse}
 use Rattle.ssr_syntax.proofs.Tiles.{tiles_count}
 
@@ -25,7 +27,7 @@ kinds raw = kinds_of (map row_of raw)
 
 -- ** Only punctuation is joined to what is in front of it.
 
-abbrev joins_mark : Option SyntaxKind → SyntaxKind → Bool
+abbrev pub joins_mark : Option SyntaxKind → SyntaxKind → Bool
 joins_mark None next = true
 joins_mark (Some both) next = is_punctuation next
 
@@ -45,12 +47,12 @@ perhaps_mark : (b : Bool) (next kind : SyntaxKind) → same_kind kind next ≡ b
 perhaps_mark true next kind e = ap (λ other. joins_mark (twice kind) other) (sym (same_kind-equal kind next e)) ∙ twice_mark kind
 perhaps_mark false next kind e = refl
 
-joined_mark : (next kind : SyntaxKind) → joins_mark (joined next kind) next ≡ true
+pub joined_mark : (next kind : SyntaxKind) → joins_mark (joined next kind) next ≡ true
 joined_mark k.EQ kind = any_mark (joined k.EQ kind) k.EQ refl
 joined_mark k.R_ANGLE kind = any_mark (joined k.R_ANGLE kind) k.R_ANGLE refl
 joined_mark next kind = perhaps_mark (same_kind kind next) next kind refl
 
-not_joined : (o : Option SyntaxKind) (next : SyntaxKind) → joins_mark o next ≡ true → is_punctuation next ≡ false → o ≡ None
+pub not_joined : (o : Option SyntaxKind) (next : SyntaxKind) → joins_mark o next ≡ true → is_punctuation next ≡ false → o ≡ None
 not_joined None next h e = refl
 not_joined (Some both) next h e = absurd (cc (h, e))
 
@@ -133,8 +135,12 @@ these_rows text rows raw utf8 e lexed =
     let same : known.0 ≡ raw = cc (known.1, lexed) in
     are_rows text rows raw utf8 lexed (known.2 ∙ ap (map row_of) same)
 
+-- so it is cut into these
+pub cut_of_rows : (text : List ℕ) (rows : List TokenRow) (solid : List Token) (raw : List RawToken) → AreRowsOf text rows raw
+    → solid ≡ solid_kinds (kinds_of rows) → IsCut text rows solid raw
+cut_of_rows text rows solid raw are e = record { are = are.are; tiles = are.tiles; spelled = are.spelled; solid_are = e ∙ are.solid }
+
 -- 32 bits count the rows of a short text
-pub rows_count : (text : List ℕ) (rows : List TokenRow) → IsUtf8 text → rows_in text ≡ Some rows → length rows ≤ length text
-rows_count text rows utf8 e =
-    let known = known_rows text rows utf8 e in
-    omega (arith, tiles_count text 0 known.0 known.1.tiles, ap length known.1.are, length-map known.0 row_of)
+pub cut_count : (text : List ℕ) (rows : List TokenRow) (solid : List Token) (raw : List RawToken) → IsCut text rows solid raw
+    → length rows ≤ length text
+cut_count text rows solid raw cut = omega (arith, tiles_count text 0 raw cut.tiles, ap length cut.are, length-map raw row_of)

@@ -4,14 +4,14 @@ use Rattle.std.proofs.lemmas.List.{append-nil}
 use Rattle.ssr_syntax_forms.specs.declared.tokens.Token.{Token}
 use Rattle.ssr_syntax_types.specs.declared.goals.Goal.{Goal}
 use Rattle.ssr_syntax_forms.specs.declared.fault.Fault.TheVariants as faults
-use Rattle.ssr_syntax_forms.specs.Trees.{Forest, done, spell}
+use Rattle.ssr_syntax_forms.specs.Trees.{Forest, done, leaf, tree, spell}
 use Rattle.ssr_syntax_forms.proofs.Shared.{IsShallow}
 use Rattle.ssr_syntax_forms.specs.Fitting.{Fits}
 use Rattle.ssr_syntax_forms.specs.Forms.{SoFar, so_far, ◌>>=◌}
 use Rattle.ssr_syntax_forms.specs.Levels.{read_goal}
 use Rattle.ssr_syntax.specs.Grammar.{grammar}
 use Rattle.ssr_syntax.specs.Reading.{most_high, most_levels, whole, reading}
-use Rattle.ssr_syntax_forms.proofs.Shared.{FitsGoal, at_some_level, bind_ok, ok_one, IsCore, cut_goals, lower_ranked, complete_goal, goals_spell, goals_sound}
+use Rattle.ssr_syntax_forms.proofs.Shared.{any_node, FitsGoal, at_some_level, bind_ok, ok_one, IsCore, cut_goals, lower_ranked, complete_goal, goals_spell, goals_sound}
 use Rattle.ssr_syntax.proofs.Checks.{tables, goal_keeps, goal_covered, goal_ranked, goal_may_end}
 
 whole_ok : (r : SoFar) (rest : List Token) (z : Forest) → r.rest ≡ rest → whole (so_far r.made rest) ≡ Ok z → (rest ≡ []) × (r.made ≡ z)
@@ -34,29 +34,36 @@ pub reading_spells : (goal : Goal) (ts : List Token) (z : Forest) → reading go
 reading_spells goal ts z e = goals_spell grammar most_levels goal z ts [] (reading_fits goal ts z e)
 
 -- ** What fits is read.
-at_level : (n : ℕ) (goal : Goal) (ts : List Token) (z : Forest) → FitsGoal grammar n goal z ts [] → IsCore tables.core z
+
+-- the check's claims are meant of all kinds
+all_core : (z : Forest) → IsCore any_node z
+all_core done = tt
+all_core (leaf kind us x) = all_core x
+all_core (tree kind kids x) = (refl, all_core kids, all_core x)
+
+at_level : (n : ℕ) (goal : Goal) (ts : List Token) (z : Forest) → FitsGoal grammar n goal z ts []
     → read_goal grammar n goal ts ≡ Ok (so_far z [])
-at_level n goal ts z f core =
+at_level n goal ts z f =
     subst (λ w. read_goal grammar n goal w ≡ Ok (so_far z [])) (append-nil ts)
-    (complete_goal tables grammar goal_keeps n goal z ts [] f core (goal_may_end goal))
+    (complete_goal tables grammar goal_keeps n goal z ts [] f (all_core z) (goal_may_end goal))
 
 -- what is read at a number of levels is read at each greater one
-above : (n m : ℕ) (goal : Goal) (ts : List Token) (z : Forest) → n ≤ m → FitsGoal grammar n goal z ts [] → IsCore tables.core z
+above : (n m : ℕ) (goal : Goal) (ts : List Token) (z : Forest) → n ≤ m → FitsGoal grammar n goal z ts []
     → read_goal grammar m goal ts ≡ Ok (so_far z [])
-above n m goal ts z le f core =
+above n m goal ts z le f =
     elim (cut_goals grammar n m le goal ts) [
-      | inl e ↦ absurd (cc (at_level n goal ts z f core, e))
-      | inr e ↦ sym e ∙ at_level n goal ts z f core
+      | inl e ↦ absurd (cc (at_level n goal ts z f, e))
+      | inr e ↦ sym e ∙ at_level n goal ts z f
     ]
 
--- at most one core forest fits
-pub one_fits : (goal : Goal) (ts : List Token) (y z : Forest) → IsCore tables.core y → IsCore tables.core z
-    → Fits grammar (grammar goal) done y ts [] → Fits grammar (grammar goal) done z ts [] → y ≡ z
-one_fits goal ts y z core_y core_z f g =
+-- at most one forest fits
+pub one_fits : (goal : Goal) (ts : List Token) (y z : Forest) → Fits grammar (grammar goal) done y ts []
+    → Fits grammar (grammar goal) done z ts [] → y ≡ z
+one_fits goal ts y z f g =
     let a = at_some_level grammar goal y ts [] f in
     let b = at_some_level grammar goal z ts [] g in
     ap (λ r. r.made)
-    (ok_one (sym (above a.0 (a.0 + b.0) goal ts y (omega arith) a.1 core_y) ∙ above b.0 (a.0 + b.0) goal ts z (omega arith) b.1 core_z))
+    (ok_one (sym (above a.0 (a.0 + b.0) goal ts y (omega arith) a.1) ∙ above b.0 (a.0 + b.0) goal ts z (omega arith) b.1))
 
 -- the levels that are read are enough for trees that aren't too deep
 enough : (goal : Goal) (ts : List Token) (z : Forest) (n : ℕ) → FitsGoal grammar n goal z ts [] → IsShallow most_high z
@@ -65,19 +72,19 @@ enough goal ts z n f low =
     lower_ranked grammar tables.rank tables.ranks goal_ranked goal_covered n most_levels most_high goal z ts []
     (omega (arith, goal_ranked goal)) f low
 
-complete_at : (goal : Goal) (ts : List Token) (z : Forest) (n : ℕ) → FitsGoal grammar n goal z ts [] → IsCore tables.core z
+complete_at : (goal : Goal) (ts : List Token) (z : Forest) (n : ℕ) → FitsGoal grammar n goal z ts []
     → (reading goal ts ≡ Ok z) ⊎ ((reading goal ts ≡ Err faults.TooDeep) × (IsShallow most_high z → ⊥))
 unfolding reading
-complete_at goal ts z n f core =
+complete_at goal ts z n f =
     elim (cut_goals grammar most_levels (n + most_levels) (omega arith) goal ts) [
       | inl e ↦ inr (
         ap (λ w. w >>= whole) e,
-        λ low. cc (at_level most_levels goal ts z (enough goal ts z n f low) core, e),
+        λ low. cc (at_level most_levels goal ts z (enough goal ts z n f low), e),
       )
-      | inr e ↦ inl (ap (λ w. w >>= whole) (e ∙ above n (n + most_levels) goal ts z (omega arith) f core))
+      | inr e ↦ inl (ap (λ w. w >>= whole) (e ∙ above n (n + most_levels) goal ts z (omega arith) f))
     ]
 
--- a core forest that fits is read, unless it is too deep
-pub reading_complete : (goal : Goal) (ts : List Token) (z : Forest) → IsCore tables.core z → Fits grammar (grammar goal) done z ts []
+-- a forest that fits is read, unless it is too deep
+pub reading_complete : (goal : Goal) (ts : List Token) (z : Forest) → Fits grammar (grammar goal) done z ts []
     → (reading goal ts ≡ Ok z) ⊎ ((reading goal ts ≡ Err faults.TooDeep) × (IsShallow most_high z → ⊥))
-reading_complete goal ts z core f = let a = at_some_level grammar goal z ts [] f in complete_at goal ts z a.0 a.1 core
+reading_complete goal ts z f = let a = at_some_level grammar goal z ts [] f in complete_at goal ts z a.0 a.1

@@ -7,3 +7,4 @@ pub mod SolidKinds
 pub mod TreeTokens
 pub mod Preorder
 pub mod Reading
+pub mod Gathering

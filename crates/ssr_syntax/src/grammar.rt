@@ -92,8 +92,8 @@ fn read(p: &mut Parser<'_>, goal: Goal, left: u32) -> Result<(), Fault>
 /// How many levels of goals are read. Each level but the first stands below a node.
 const MOST_LEVELS: u32 = 1026;
 
-/// The nodes and the tokens of the tree that is read of all tokens as the goal; `NoTree` where none fits. A core tree that
-/// fits, with at most 1,025 nodes above one another, is read.
+/// The nodes and the tokens of the tree that is read of all tokens as the goal; `NoTree` where none fits. A tree that fits,
+/// with at most 1,025 nodes above one another, is read.
 #[tactic(auto, using(crate::proofs::Finished::no_tree, crate::proofs::Finished::finished))]
 pub(crate) fn parse_as(alloc: Global, goal: Goal, tokens: &[Token]) -> Result<Output, Fault>
     ensures { IsReading (λ v. written_in v) result (reading goal tokens.now) }

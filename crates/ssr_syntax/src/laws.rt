@@ -3,8 +3,9 @@
 ghost use Rattle.std.specs.Prelude.{◌≡◌, ◌↔◌, ℕ, List, Some, IsTrue};
 ghost use Rattle.ssr_syntax_lex.specs.declared.tokens.RawToken.{RawToken};
 ghost use Rattle.ssr_syntax_lex.specs.Tokens.{tokens};
-ghost use Rattle.ssr_syntax.specs.CoreTrees.{IsCore};
 ghost use Rattle.ssr_syntax_tree.specs.Syntax.{Syntax, tokens_of};
+ghost use Rattle.ssr_syntax.specs.declared.expansions.ExpToken.{ExpToken};
+ghost use Rattle.ssr_syntax.specs.declared.expansions.ExpansionKind.{ExpansionKind};
 ghost use Rattle.ssr_syntax.specs.declared.fragments.Fragment.{Fragment};
 ghost use Rattle.ssr_syntax_types.specs.declared.goals.Goal.{Goal};
 ghost use Rattle.ssr_syntax.specs.Decision.{decide_fits};
@@ -13,24 +14,30 @@ ghost use Rattle.ssr_syntax_forms.specs.Fitting.{Fits};
 ghost use Rattle.ssr_syntax_forms.specs.Forms.{SoFar};
 ghost use Rattle.ssr_syntax.specs.Grammar.{grammar};
 ghost use Rattle.ssr_syntax.specs.Identifiers.{IdentsAloneIn, idents};
+ghost use Rattle.ssr_syntax.specs.Expansions.{FitsExpansion};
 ghost use Rattle.ssr_syntax.specs.Reading.{FitsFile, FitsFragment, pieces, trimmed};
 ghost use Rattle.ssr_syntax.specs.Operands.{KeepsPrecedence};
 ghost use Rattle.ssr_syntax_forms.specs.Trees.{Forest, done, spell};
 ghost use Rattle.ssr_syntax_forms.specs.declared.tokens.Token.{Token};
 
-/// At most one tree of core nodes fits a file.
+/// At most one tree fits a file.
 pub fn files()
-    ensures one { (text : List ℕ) (a b : Syntax) → IsCore a → IsCore b → FitsFile text a → FitsFile text b → a ≡ b }
+    ensures one { (text : List ℕ) (a b : Syntax) → FitsFile text a → FitsFile text b → a ≡ b }
 {}
 
-/// At most one tree of core nodes fits a fragment. A tree that fits has the identifiers of the text without the white
+/// At most one tree fits a fragment. A tree that fits has the identifiers of the text without the white
 /// space around it, in order, and each is the only child of its node, but in the nodes that are made to mix
 /// identifiers with other tokens.
 pub fn fragments()
-    ensures one { (fragment : Fragment) (text : List ℕ) (a b : Syntax) → IsCore a → IsCore b → FitsFragment fragment text a → FitsFragment fragment text b → a ≡ b }
+    ensures one { (fragment : Fragment) (text : List ℕ) (a b : Syntax) → FitsFragment fragment text a → FitsFragment fragment text b → a ≡ b }
     ensures idents { (fragment : Fragment) (text : List ℕ) (syntax : Syntax) → FitsFragment fragment text syntax
         → (raw : List RawToken) × (tokens (trimmed text) ≡ Some raw) × (idents (tokens_of syntax) ≡ idents (pieces (trimmed text) raw)) }
     ensures alone { (fragment : Fragment) (text : List ℕ) (syntax : Syntax) → FitsFragment fragment text syntax → IdentsAloneIn syntax }
+{}
+
+/// At most one tree fits what a macro call stands for.
+pub fn expansions()
+    ensures one { (kind : ExpansionKind) (tokens : List ExpToken) (a b : Syntax) → FitsExpansion kind tokens a → FitsExpansion kind tokens b → a ≡ b }
 {}
 
 /// Whether a forest is one of a goal, before the tokens behind it, is decided: by the way back over the goal's form, with

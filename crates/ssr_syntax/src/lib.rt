@@ -1,6 +1,7 @@
 //! The grammar of Rust texts, and the parser.
 #![tactic(auto)]
 
+mod expansions;
 mod fragments;
 mod grammar;
 pub mod laws;
@@ -15,6 +16,7 @@ mod tests;
 mod tree_tokens;
 mod turning;
 
+pub use expansions::{ExpToken, ExpansionKind, parse_tokens};
 pub use fragments::Fragment;
 pub use reading::{fragment, parse_file, parse_file_owned};
 pub use ssr_syntax_lex::{LexError, LexFault, RawToken, SyntaxKind, TextRange, lex};

@@ -3,10 +3,9 @@ ghost use Rattle.std.specs.Prelude.{◌≡◌, ◌<◌, ◌≤◌, ◌^◌, List
 ghost use Rattle.ssr_syntax.specs.declared.syntax_error.SyntaxError.TheVariants.{TooLong};
 ghost use Rattle.ssr_syntax_lex.specs.Tokens.{tokens, rows_in};
 ghost use Rattle.ssr_syntax.specs.Reading.{Answers, AnswersTrimmed, goal_of, tree_reading, file_reading, fragment_reading, FitsFile, FitsFragment, IsTreeOfFile, IsTreeOfFragment, IsThatOrTooDeep};
-ghost use Rattle.ssr_syntax.specs.Private.Reading.{IsLexed};
+ghost use Rattle.ssr_syntax.specs.Private.Reading.{IsLexed, IsCut};
 ghost use Rattle.ssr_syntax_lex.specs.declared.tokens.RawToken.{RawToken};
 ghost use Rattle.ssr_syntax.specs.Private.SolidKinds.{kinds_begin_solid};
-ghost use Rattle.ssr_syntax.specs.CoreTrees.{IsCore};
 ghost use Rattle.ssr_syntax_tree.specs.Syntax.{Syntax};
 
 use crate::fragments::Fragment;
@@ -16,6 +15,7 @@ use crate::preorder::node_rows;
 use crate::solid::solid_tokens;
 use crate::syntax_error::SyntaxError;
 use crate::tree_tokens::{ends, tree_tokens};
+use ssr_syntax_forms::Token;
 use ssr_syntax_lex::{LexError, SyntaxKind, TokenRows, lex_rows};
 use ssr_syntax_tree::Tree;
 use ssr_syntax_types::goals::{ExprPlace, Goal, ItemPlace, PatPlace};
@@ -33,7 +33,7 @@ fn check_length(text: &str) -> Result<(), SyntaxError>
 }
 
 /// The rows of a text's tokens.
-fn token_rows(alloc: Global, text: &str) -> Result<TokenRows, SyntaxError>
+pub(crate) fn token_rows(alloc: Global, text: &str) -> Result<TokenRows, SyntaxError>
     ensures { IsLexed text.now result }
 {
     match lex_rows(alloc, text) {
@@ -57,6 +57,22 @@ fn read_tokens(
         → Answers result (tree_reading goal (string_bytes text) raw) (string_bytes text) }
 {
     let solid = solid_tokens(alloc, rows.kinds())?;
+    read_solid(alloc, goal, text, rows, solid)
+}
+
+/// The tree that a text is, read as the goal, of which these are the rows and the solid tokens.
+pub(crate) fn read_solid(
+    alloc: Global,
+    goal: Goal,
+    text: String,
+    rows: TokenRows,
+    solid: Vec<Token>,
+) -> Result<Tree, SyntaxError>
+    requires short { length (string_bytes text) < 2 ^ 32 }
+    requires cut { (raw : List RawToken) × IsCut (string_bytes text) rows solid.items raw }
+    ensures { (raw : List RawToken) → IsCut (string_bytes text) rows solid.items raw
+        → Answers result (tree_reading goal (string_bytes text) raw) (string_bytes text) }
+{
     let count = solid.len();
     let written = parse_as(alloc, goal, &solid)?;
     // Each list is dropped as soon as it is read, which keeps the most memory in use low.
@@ -77,7 +93,7 @@ fn read_tokens(
 pub fn parse_file(alloc: Global, text: &str) -> Result<Tree, SyntaxError>
     ensures answers { Answers result (file_reading text.now) text.now }
     ensures sound { IfOk result (λ tree. IsTreeOfFile text.now tree) }
-    ensures complete { (syntax : Syntax) → length text.now < 2 ^ 32 → IsCore syntax → FitsFile text.now syntax → IsThatOrTooDeep (λ tree. tree) syntax result }
+    ensures complete { (syntax : Syntax) → length text.now < 2 ^ 32 → FitsFile text.now syntax → IsThatOrTooDeep (λ tree. tree) syntax result }
 {
     check_length(text)?;
     parse_file_owned(alloc, String::from_str(alloc, text)?)
@@ -87,7 +103,7 @@ pub fn parse_file(alloc: Global, text: &str) -> Result<Tree, SyntaxError>
 pub fn parse_file_owned(alloc: Global, text: String) -> Result<Tree, SyntaxError>
     ensures answers { Answers result (file_reading (string_bytes text)) (string_bytes text) }
     ensures sound { IfOk result (λ tree. IsTreeOfFile (string_bytes text) tree) }
-    ensures complete { (syntax : Syntax) → length (string_bytes text) < 2 ^ 32 → IsCore syntax → FitsFile (string_bytes text) syntax
+    ensures complete { (syntax : Syntax) → length (string_bytes text) < 2 ^ 32 → FitsFile (string_bytes text) syntax
         → IsThatOrTooDeep (λ tree. tree) syntax result }
 {
     let rows = token_rows(alloc, text.as_str())?;
@@ -123,7 +139,7 @@ fn is_solid_outside(kinds: &[SyntaxKind]) -> bool
 pub fn fragment(alloc: Global, fragment: Fragment, text: &str) -> Result<(Tree, u32), SyntaxError>
     ensures answers { AnswersTrimmed result (fragment_reading fragment text.now) text.now }
     ensures sound { IfOk result (λ answer. IsTreeOfFragment fragment text.now answer.0) }
-    ensures complete { (syntax : Syntax) → length text.now < 2 ^ 32 → IsCore syntax → FitsFragment fragment text.now syntax
+    ensures complete { (syntax : Syntax) → length text.now < 2 ^ 32 → FitsFragment fragment text.now syntax
         → IsThatOrTooDeep (λ answer. answer.0) syntax result }
 {
     check_length(text)?;

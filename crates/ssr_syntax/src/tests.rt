@@ -3,6 +3,7 @@
 mod atoms;
 mod blocks;
 mod conditions;
+mod expansions;
 mod expressions;
 mod fragments;
 mod grammar;

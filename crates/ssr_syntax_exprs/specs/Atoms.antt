@@ -8,7 +8,7 @@ use Rattle.ssr_syntax_types.specs.declared.goals.ExprPlace.{ExprPlace}
 use Rattle.ssr_syntax_types.specs.declared.goals.ExprPlace.TheVariants.{Anywhere, BeforeBlock}
 use Rattle.ssr_syntax_types.specs.declared.goals.PatPlace.TheVariants.{NoBar}
 use Rattle.ssr_syntax_types.specs.declared.goals.PathPlace.TheVariants.{InExpr}
-use Rattle.ssr_syntax_forms.specs.Forms.{Form, Test, ◌then◌, child, mark, seal, nothing, choose, look, check, none_is, a, part, at, optional, repeated, comma, comma_list}
+use Rattle.ssr_syntax_forms.specs.Forms.{Form, Test, ◌then◌, child, mark, seal, nothing, choose, decide, look, check, none_is, a, part, at, optional, repeated, comma, comma_list}
 use Rattle.ssr_syntax_types.specs.Literals.{literals}
 use Rattle.ssr_syntax_types.specs.Paths.{lifetime, name_ref, number_ref, path, path_first, ret_type}
 use Rattle.ssr_syntax_types.specs.Patterns.{name_colon, ranges, single_pat_first}
@@ -93,8 +93,8 @@ shorthand_field = look false (at (k.DOT2 ∷ [])) then child (Expr Anywhere) the
 
 unfoldable pub record_expr_field : Form Goal
 record_expr_field =
-    choose name_colon (mark named_field)
-    (choose number_colon (mark numbered_field)
+    decide name_colon (mark named_field)
+    (decide number_colon (mark numbered_field)
     (mark shorthand_field))
 
 -- a comma stands before `..` too
@@ -131,7 +131,7 @@ unfoldable pub return_expr : Form Goal
 return_expr = a k.RETURN_KW then optional expr_first (child (Expr Anywhere)) then seal k.RETURN_EXPR
 
 unfoldable pub break_target : Form Goal
-break_target = choose label_ahead nothing (optional (k.LIFETIME_IDENT ∷ []) (mark lifetime))
+break_target = decide label_ahead nothing (decide (at (k.LIFETIME_IDENT ∷ [])) (mark lifetime) nothing)
 
 unfoldable pub break_expr : Form Goal
 break_expr = a k.BREAK_KW then break_target then optional expr_first (child (Expr Anywhere)) then seal k.BREAK_EXPR

@@ -6,7 +6,7 @@ use Rattle.ssr_syntax_types.specs.declared.goals.Goal.{Goal}
 use Rattle.ssr_syntax_types.specs.declared.goals.Goal.TheVariants.{Expr, Condition, Pat, StmtList, If, Arm}
 use Rattle.ssr_syntax_types.specs.declared.goals.ExprPlace.TheVariants.{BeforeBlock}
 use Rattle.ssr_syntax_types.specs.declared.goals.PatPlace.TheVariants.{TopLevel}
-use Rattle.ssr_syntax_forms.specs.Forms.{Form, ◌then◌, child, mark, seal, choose, a, at, optional, repeated}
+use Rattle.ssr_syntax_forms.specs.Forms.{Form, ◌then◌, child, mark, seal, nothing, choose, decide, a, at, optional, repeated}
 use Rattle.ssr_syntax_types.specs.Paths.{lifetime}
 use Rattle.ssr_syntax_types.specs.Patterns.{pat_first}
 
@@ -65,7 +65,7 @@ else_branch = a k.ELSE_KW then if_or_block
 
 unfoldable pub if_expr : Form Goal
 if_expr =
-    a k.IF_KW then child (Condition BeforeBlock) then mark block_expr then optional (k.ELSE_KW ∷ []) else_branch
+    a k.IF_KW then child (Condition BeforeBlock) then mark block_expr then decide (at (k.ELSE_KW ∷ [])) else_branch nothing
     then seal k.IF_EXPR
 
 unfoldable pub match_arm_list : Form Goal

@@ -4,7 +4,7 @@ use Rattle.ssr_syntax_lex.specs.declared.kinds.SyntaxKind.{SyntaxKind}
 use Rattle.ssr_syntax_lex.specs.declared.kinds.SyntaxKind.TheVariants as k
 use Rattle.ssr_syntax_types.specs.declared.goals.Goal.{Goal}
 use Rattle.ssr_syntax_types.specs.declared.goals.Goal.TheVariants.{Ty}
-use Rattle.ssr_syntax_forms.specs.Forms.{Form, Test, child, mark, seal, ◌then◌, choose, a, part, at, optional, comma_list}
+use Rattle.ssr_syntax_forms.specs.Forms.{Form, Test, child, mark, seal, ◌then◌, choose, decide, a, part, at, optional, comma_list}
 use Rattle.ssr_syntax_types.specs.Paths.{name_ref, lifetime, open_angle, close_angle, type_first, type_arg}
 use Rattle.ssr_syntax_types.specs.Literals.{literals, literal}
 use Rattle.ssr_syntax_exprs.specs.Blocks.{block_expr}
@@ -37,7 +37,7 @@ generic_arg =
     (choose (at literals) (mark literal_arg)
     (choose (at (k.MINUS ∷ [])) (mark negative_arg)
     (choose (at (k.L_CURLY ∷ [])) (mark block_arg)
-    (choose name_equals (mark assoc_type_arg)
+    (decide name_equals (mark assoc_type_arg)
     (mark type_arg)))))
 
 -- what a generic argument begins with that is neither a literal nor a type

@@ -277,7 +277,7 @@ fn shorthand_field<R: Reader>(goals: &R, p: &mut Parser<'_>) -> Result<(), Fault
 }
 
 /// RECORD_EXPR_FIELD of any form.
-#[tactic(auto, unfolding(crate::specs::Atoms::record_expr_field))]
+#[tactic(auto, using(ssr_syntax_forms::proofs::Shared::run_decide), unfolding(crate::specs::Atoms::record_expr_field))]
 fn record_expr_field<R: Reader>(goals: &R, p: &mut Parser<'_>) -> Result<(), Fault>
     requires { R.can_read goals.now }
     ensures { RunsAnywhere (R.reads goals.now) form.record_expr_field p.old p.new result }
@@ -425,7 +425,7 @@ fn return_expr<R: Reader>(goals: &R, p: &mut Parser<'_>) -> Result<(), Fault>
 }
 
 /// A LIFETIME that is no LABEL of what follows, or nothing.
-#[tactic(auto, unfolding(crate::specs::Atoms::break_target))]
+#[tactic(auto, using(ssr_syntax_forms::proofs::Shared::run_decide), unfolding(crate::specs::Atoms::break_target))]
 fn break_target<R: Reader>(goals: &R, p: &mut Parser<'_>, m: &Mark<'_>) -> Result<(), Fault>
     requires { R.can_read goals.now }
     ensures { RunsFrom (R.reads goals.now) form.break_target m.now p.old p.new result }

@@ -181,7 +181,7 @@ fn else_branch<R: Reader>(goals: &R, p: &mut Parser<'_>, m: &Mark<'_>) -> Result
 }
 
 /// IF_EXPR: `if`, a condition, a BLOCK_EXPR, and perhaps `else` and an IF_EXPR or a BLOCK_EXPR.
-#[tactic(auto, unfolding(crate::specs::Blocks::if_expr))]
+#[tactic(auto, using(ssr_syntax_forms::proofs::Shared::run_decide), unfolding(crate::specs::Blocks::if_expr))]
 pub fn if_expr<R: Reader>(goals: &R, p: &mut Parser<'_>, m: &Mark<'_>) -> Result<(), Fault>
     requires { R.can_read goals.now }
     ensures { RunsFrom (R.reads goals.now) form.if_expr m.now p.old p.new result }

@@ -107,7 +107,7 @@ fn assoc_type_arg<R: Reader>(goals: &R, p: &mut Parser<'_>) -> Result<(), Fault>
 }
 
 /// Any generic argument.
-#[tactic(auto, unfolding(crate::specs::GenericArgs::generic_arg))]
+#[tactic(auto, using(ssr_syntax_forms::proofs::Shared::run_decide), unfolding(crate::specs::GenericArgs::generic_arg))]
 fn generic_arg<R: Reader>(goals: &R, p: &mut Parser<'_>) -> Result<(), Fault>
     requires { R.can_read goals.now }
     ensures { RunsAnywhere (R.reads goals.now) form.generic_arg p.old p.new result }

@@ -148,23 +148,29 @@ asks want test (look w other) = agrees want w && same_test test other
 asks want test (f then g) = asks want test f
 asks want test _ = false
 
--- The look-ahead decides, where one of these kinds stands behind the form.
+-- The look-ahead decides, where one of these kinds stands behind the form, and what stands there fails each test that
+-- `stops` holds of: so what follows a loop may ask itself that the loop's test fails.
+abbrev pub decides_before : {Goal : Type 0} → Tables Goal → (Test → Bool) → Form Goal → List SyntaxKind → Bool
+decides_before t stops (one whole ks) follow = true
+decides_before t stops (child goal) follow = t.is_dead goal || subset follow (t.follow goal)
+decides_before t stops (mark f) follow = decides_before t stops f follow
+decides_before t stops (seal kind) follow = true
+decides_before t stops (f then g) follow =
+    (dead t f || dead t g)
+    || (decides_before t stops g follow && decides_before t (λ test. asks false test g) f (starts t g follow))
+decides_before t stops nothing follow = true
+decides_before t stops (choose test f g) follow =
+    (dead t f || (decides_before t stops f follow && (asks true test f || decides_on test (starts t f follow))))
+    && (dead t g || (decides_before t stops g follow && (asks false test g || decides_off test (starts t g follow))))
+decides_before t stops (many test f) follow =
+    (stops test || decides_off test follow)
+    && (dead t f
+    || ((decides_before t (λ other. false) f (firsts t f ++ follow) && not (empty t f)) && (asks true test f || decides_on test (firsts t f))))
+decides_before t stops (look want test) follow = true
+decides_before t stops (check condition) follow = true
+
 abbrev pub decides : {Goal : Type 0} → Tables Goal → Form Goal → List SyntaxKind → Bool
-decides t (one whole ks) follow = true
-decides t (child goal) follow = t.is_dead goal || subset follow (t.follow goal)
-decides t (mark f) follow = decides t f follow
-decides t (seal kind) follow = true
-decides t (f then g) follow =
-    (dead t f || dead t g) || (decides t g follow && decides t f (starts t g follow))
-decides t nothing follow = true
-decides t (choose test f g) follow =
-    (dead t f || (decides t f follow && (asks true test f || decides_on test (starts t f follow))))
-    && (dead t g || (decides t g follow && (asks false test g || decides_off test (starts t g follow))))
-decides t (many test f) follow =
-    decides_off test follow
-    && (dead t f || ((decides t f (firsts t f ++ follow) && not (empty t f)) && (asks true test f || decides_on test (firsts t f))))
-decides t (look want test) follow = true
-decides t (check condition) follow = true
+decides t form follow = decides_before t (λ test. false) form follow
 
 -- the claims on a goal hold of its form, if those on the goals below it do
 abbrev pub keeps : {Goal : Type 0} → Tables Goal → Goal → Form Goal → Bool

@@ -73,5 +73,5 @@ complete_goal t grammar k (suc n) goal y us rest f h m =
       | inl d ↦ absurd (none_fits t (FitsGoal grammar n) (claims_hold t grammar k n).dead (grammar goal)
           (kept_dead t grammar goal (k goal) d) done y us rest f h)
       | inr d ↦ complete t (FitsGoal grammar n) (read_goal grammar n) (claims_hold t grammar k n) (complete_goal t grammar k n)
-          (grammar goal) (t.follow goal) (kept_live t grammar goal (k goal) d).0 done y us rest f h m
+          (λ test. false) (grammar goal) (t.follow goal) (kept_live t grammar goal (k goal) d).0 done y us rest f h m (λ test no. absurd cc)
     ]

@@ -1,10 +1,10 @@
 -- One turn of a loop, and its end; lists of items.
-use Rattle.std.proofs.Common.{◌≡◌, true, length, ℕ, zero, suc, ◌+◌, ◌-◌, ◌<◌, if◌then◌else◌, List, Result, Ok, Err, inl, inr, refl, arith}
+use Rattle.std.proofs.Common.{◌≡◌, true, length, ℕ, zero, suc, ◌+◌, ◌-◌, ◌<◌, if◌then◌else◌, List, Result, Ok, Err, inl, inr, refl, ap, ◌∙◌, false, arith}
 use Rattle.std.proofs.lemmas.Bool.{cases_Bool}
 use Rattle.ssr_syntax_lex.specs.declared.kinds.SyntaxKind.{SyntaxKind}
 use Rattle.ssr_syntax_forms.specs.declared.fault.Fault.{Fault}
 use Rattle.ssr_syntax_forms.specs.declared.fault.Fault.TheVariants as faults
-use Rattle.ssr_syntax_forms.specs.Forms.{Form, Test, ◌then◌, look, decide, as_long_as, comma_list, passes, repeat, ◌>>=◌}
+use Rattle.ssr_syntax_forms.specs.Forms.{Form, Test, ◌then◌, look, decide, as_long_as, comma_list, passes, agrees, repeat, ◌>>=◌}
 use Rattle.ssr_syntax_forms.specs.Parser.{State, Mark, repeated, comma_separated}
 use Rattle.ssr_syntax_forms.specs.Runs.{RunsBelow, run}
 
@@ -47,10 +47,29 @@ asked_turns below test f m (suc n) s =
       | inr miss ↦ rw miss refl
     ]
 
+-- behind a loop the test fails
+bind_ends : (r : Result State Fault) (f g : State → Result State Fault) → ((s : State) → (f s >>= g) ≡ f s) → ((r >>= f) >>= g) ≡ (r >>= f)
+bind_ends (Ok s) f g same = same s
+bind_ends (Err e) f g same = refl
+
+abbrev unless_passes : Test → State → Result State Fault
+unless_passes test s = if agrees false (passes test s.rest) then Ok s else Err faults.NoTree
+
+loop_ends : (test : Test) (step : State → Result State Fault) (n : ℕ) (s : State)
+    → (repeat (λ z. z.rest) n test step s >>= unless_passes test) ≡ repeat (λ z. z.rest) n test step s
+loop_ends test step zero s = refl
+loop_ends test step (suc n) s =
+    elim (cases_Bool (passes test s.rest)) [
+      | inl hit ↦ rw hit (bind_ends (step s) (repeat (λ z. z.rest) n test step) (unless_passes test) (loop_ends test step n))
+      | inr miss ↦ rw (miss, miss) refl
+    ]
+
 pub run_as_long_as : {Goal : Type 0} (below : RunsBelow Goal) (test : Test) (f : Form Goal) (m : Mark) (s : State)
     → run below (as_long_as test f) m s ≡ repeated test (run below f m) s
 unfolding as_long_as repeated
-run_as_long_as below test f m s = asked_turns below test f m (length s.rest + 1) s
+run_as_long_as below test f m s =
+    ap (λ r. r >>= unless_passes test) (asked_turns below test f m (length s.rest + 1) s)
+    ∙ loop_ends test (run below f m) (length s.rest + 1) s
 
 -- a list is what its items and commas do
 pub run_comma_list : {Goal : Type 0} (below : RunsBelow Goal) (first : List SyntaxKind) (item : Form Goal) (m : Mark) (s : State)

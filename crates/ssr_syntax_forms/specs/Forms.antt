@@ -79,7 +79,7 @@ repeated first f = many (at first) f
 
 -- any number of times: as long as the next tokens pass the test, and no longer
 unfoldable pub as_long_as : {Goal : Type 0} → Test → Form Goal → Form Goal
-as_long_as test f = many test (look true test then f)
+as_long_as test f = many test (look true test then f) then look false test
 
 -- a comma, or none where no other item begins
 abbrev pub comma : {Goal : Type 0} → List SyntaxKind → Form Goal

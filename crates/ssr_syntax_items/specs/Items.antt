@@ -7,7 +7,7 @@ use Rattle.ssr_syntax_types.specs.declared.goals.Goal.TheVariants.{Expr, Ty, Ite
 use Rattle.ssr_syntax_types.specs.declared.goals.ExprPlace.TheVariants.{Anywhere}
 use Rattle.ssr_syntax_types.specs.declared.goals.ItemPlace.{ItemPlace}
 use Rattle.ssr_syntax_types.specs.declared.goals.ItemPlace.TheVariants.{InModule, AsStmt, InImpl, InTrait}
-use Rattle.ssr_syntax_forms.specs.Forms.{Form, Test, ◌then◌, child, mark, seal, nothing, choose, decide, many, a, at, optional, repeated}
+use Rattle.ssr_syntax_forms.specs.Forms.{Form, Test, ◌then◌, child, mark, seal, nothing, choose, decide, a, at, optional, repeated, as_long_as}
 use Rattle.ssr_syntax_types.specs.Paths.{name, open_angle, ret_type, simple_path, type_first}
 use Rattle.ssr_syntax_types.specs.Types.{type_bound_list}
 use Rattle.ssr_syntax_types.specs.TokenTrees.{attrs, curly_tree, inner_attr, paren_or_bracket_tree}
@@ -100,7 +100,7 @@ unfoldable pub positive_impl : Form Goal
 positive_impl = child Ty then optional (k.FOR_KW ∷ []) (a k.FOR_KW then child Ty)
 
 unfoldable pub impl_types : Form Goal
-impl_types = choose negative_ahead negative_impl positive_impl
+impl_types = decide negative_ahead negative_impl positive_impl
 
 -- `<` behind `impl` opens parameters
 unfoldable pub impl_params : Form Goal
@@ -232,7 +232,7 @@ inner_attr_ahead = ((k.POUND ∷ []) ∷ (k.BANG ∷ []) ∷ []) ∷ []
 
 unfoldable pub source_file : Form Goal
 source_file =
-    many inner_attr_ahead (mark inner_attr) then repeated module_item_first (child (Item InModule)) then seal k.SOURCE_FILE
+    as_long_as inner_attr_ahead (mark inner_attr) then repeated module_item_first (child (Item InModule)) then seal k.SOURCE_FILE
 
 -- the items that a macro call stands for
 unfoldable pub macro_items : Form Goal

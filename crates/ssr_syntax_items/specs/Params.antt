@@ -139,7 +139,7 @@ visibility = a k.PUB_KW then optional (k.L_PAREN ∷ []) restriction then seal k
 
 -- `pub (crate)` restricts where a type follows
 unfoldable pub field_restriction : Form Goal
-field_restriction = choose type_ahead nothing (choose in_ahead restriction nothing)
+field_restriction = decide type_ahead nothing (decide in_ahead restriction nothing)
 
 unfoldable pub field_visibility : Form Goal
 field_visibility = a k.PUB_KW then field_restriction then seal k.VISIBILITY

@@ -105,7 +105,7 @@ curly_macro_ahead = ((k.BANG ∷ []) ∷ (k.L_CURLY ∷ []) ∷ []) ∷ []
 unfoldable pub path_leading : StmtPlace → Form Goal
 path_leading place =
     mark (path InExpr)
-    then (choose curly_macro_ahead (curly_macro place) (choose (at (k.BANG ∷ [])) (other_macro place) (leading_path place)))
+    then (decide curly_macro_ahead (curly_macro place) (choose (at (k.BANG ∷ [])) (other_macro place) (leading_path place)))
 
 unfoldable pub other_leading : StmtPlace → Form Goal
 other_leading place = look false (at leading_first) then child (Expr Anywhere) then ending place

@@ -4,7 +4,7 @@ use Rattle.ssr_syntax_lex.specs.declared.kinds.SyntaxKind.{SyntaxKind}
 use Rattle.ssr_syntax_lex.specs.declared.kinds.SyntaxKind.TheVariants as k
 use Rattle.ssr_syntax_types.specs.declared.goals.Goal.{Goal}
 use Rattle.ssr_syntax_types.specs.declared.goals.Goal.TheVariants.{UseTree}
-use Rattle.ssr_syntax_forms.specs.Forms.{Form, Test, ◌then◌, child, mark, seal, choose, a, at, optional, comma_list}
+use Rattle.ssr_syntax_forms.specs.Forms.{Form, Test, ◌then◌, child, mark, seal, choose, decide, a, at, optional, comma_list}
 use Rattle.ssr_syntax_types.specs.Paths.{name, path_names, simple_path}
 
 -- what a path without an anchor begins with
@@ -42,7 +42,7 @@ unfoldable pub use_tree_of_all : Form Goal
 use_tree_of_all = optional (k.COLON2 ∷ []) (a k.COLON2) then star_or_list then seal k.USE_TREE
 
 unfoldable pub use_tree : Form Goal
-use_tree = choose path_or_colon_name (mark use_tree_of_path) (mark use_tree_of_all)
+use_tree = decide path_or_colon_name (mark use_tree_of_path) (mark use_tree_of_all)
 
 unfoldable pub use_item : Form Goal
 use_item = a k.USE_KW then child UseTree then a k.SEMICOLON then seal k.USE

@@ -301,7 +301,7 @@ fn positive_impl<R: Reader>(goals: &R, p: &mut Parser<'_>) -> Result<(), Fault>
 }
 
 /// What an IMPL is of.
-#[tactic(auto, unfolding(crate::specs::Items::impl_types))]
+#[tactic(auto, using(ssr_syntax_forms::proofs::Shared::run_decide), unfolding(crate::specs::Items::impl_types))]
 fn impl_types<R: Reader>(goals: &R, p: &mut Parser<'_>, m: &Mark<'_>) -> Result<(), Fault>
     requires { R.can_read goals.now }
     ensures { RunsFrom (R.reads goals.now) form.impl_types m.now p.old p.new result }
@@ -762,7 +762,7 @@ pub fn item<R: Reader>(
 }
 
 /// SOURCE_FILE: ATTRs of the file and items.
-#[tactic(auto, unfolding(crate::specs::Items::source_file))]
+#[tactic(auto, using(ssr_syntax_forms::proofs::Shared::run_as_long_as), unfolding(crate::specs::Items::source_file))]
 pub fn source_file<R: Reader>(goals: &R, p: &mut Parser<'_>) -> Result<(), Fault>
     requires { R.can_read goals.now }
     ensures { Runs (R.reads goals.now) form.source_file p.old p.new result }

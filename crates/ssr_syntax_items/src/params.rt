@@ -455,7 +455,7 @@ pub(crate) fn visibility<R: Reader>(goals: &R, p: &mut Parser<'_>) -> Result<(),
 }
 
 /// A path in parentheses, or nothing where these are the type of the field.
-#[tactic(auto, unfolding(crate::specs::Params::field_restriction))]
+#[tactic(auto, using(ssr_syntax_forms::proofs::Shared::run_decide), unfolding(crate::specs::Params::field_restriction))]
 fn field_restriction<R: Reader>(goals: &R, p: &mut Parser<'_>) -> Result<(), Fault>
     requires { R.can_read goals.now }
     ensures { RunsAnywhere (R.reads goals.now) form.field_restriction p.old p.new result }

@@ -318,7 +318,7 @@ fn leading_path<R: Reader>(
 }
 
 /// A statement or a body that begins with a PATH.
-#[tactic(auto, unfolding(crate::specs::Statements::path_leading))]
+#[tactic(auto, using(ssr_syntax_forms::proofs::Shared::run_decide), unfolding(crate::specs::Statements::path_leading))]
 fn path_leading<R: Reader>(
     goals: &R,
     p: &mut Parser<'_>,

@@ -146,7 +146,7 @@ fn use_tree_of_all<R: Reader>(goals: &R, p: &mut Parser<'_>) -> Result<(), Fault
 }
 
 /// USE_TREE: a PATH, perhaps renamed, or `*` or a list, perhaps behind a PATH.
-#[tactic(auto, unfolding(crate::specs::Uses::use_tree))]
+#[tactic(auto, using(ssr_syntax_forms::proofs::Shared::run_decide), unfolding(crate::specs::Uses::use_tree))]
 pub fn use_tree<R: Reader>(goals: &R, p: &mut Parser<'_>) -> Result<(), Fault>
     requires { R.can_read goals.now }
     ensures { RunsAnywhere (R.reads goals.now) form.use_tree p.old p.new result }

@@ -6,7 +6,7 @@ use Rattle.ssr_syntax_types.specs.declared.goals.Goal.{Goal}
 use Rattle.ssr_syntax_types.specs.declared.goals.Goal.TheVariants.{Ty, PathType, GenericArgs}
 use Rattle.ssr_syntax_types.specs.declared.goals.PathPlace.{PathPlace}
 use Rattle.ssr_syntax_types.specs.declared.goals.PathPlace.TheVariants.{InExpr, InType, NamesAlone}
-use Rattle.ssr_syntax_forms.specs.Forms.{Form, Test, child, mark, seal, ◌then◌, nothing, choose, decide, many, a, any, part, at, optional, repeated, comma_list}
+use Rattle.ssr_syntax_forms.specs.Forms.{Form, Test, child, mark, seal, ◌then◌, nothing, choose, decide, a, any, part, at, optional, as_long_as, comma_list}
 
 -- ** Names.
 
@@ -117,7 +117,7 @@ unfoldable pub shortest_path : PathPlace → Form Goal
 shortest_path place = choose (at open_angle) (anchored_path place) (plain_path place)
 
 unfoldable pub path : PathPlace → Form Goal
-path place = shortest_path place then repeated (k.COLON2 ∷ []) (longer_path place)
+path place = shortest_path place then as_long_as (at (k.COLON2 ∷ [])) (longer_path place)
 
 -- ** Paths of names alone.
 
@@ -126,4 +126,4 @@ abbrev pub colon_name : Test
 colon_name = ((k.COLON2 ∷ []) ∷ path_names ∷ []) ∷ []
 
 unfoldable pub simple_path : Form Goal
-simple_path = plain_path NamesAlone then many colon_name (longer_path NamesAlone)
+simple_path = plain_path NamesAlone then as_long_as colon_name (longer_path NamesAlone)

@@ -154,7 +154,7 @@ shorthand_pat_field = mark ident_pat then seal k.RECORD_PAT_FIELD
 
 unfoldable pub record_pat_field : Form Goal
 record_pat_field =
-    choose name_colon (mark named_pat_field)
+    decide name_colon (mark named_pat_field)
     (choose (at (k.INT_NUMBER ∷ [])) (mark numbered_pat_field)
     (mark shorthand_pat_field))
 

@@ -366,7 +366,7 @@ fn shortest_path<R: Reader>(
 }
 
 /// PATH: any number of PATH_SEGMENTs, but one at least.
-#[tactic(auto, unfolding(crate::specs::Paths::path))]
+#[tactic(auto, using(ssr_syntax_forms::proofs::Shared::run_as_long_as), unfolding(crate::specs::Paths::path))]
 pub fn path<R: Reader>(goals: &R, p: &mut Parser<'_>, place: PathPlace) -> Result<(), Fault>
     requires { R.can_read goals.now }
     ensures { Runs (R.reads goals.now) (form.path place) p.old p.new result }
@@ -377,7 +377,7 @@ pub fn path<R: Reader>(goals: &R, p: &mut Parser<'_>, place: PathPlace) -> Resul
 }
 
 /// PATH of names alone.
-#[tactic(auto, unfolding(crate::specs::Paths::simple_path))]
+#[tactic(auto, using(ssr_syntax_forms::proofs::Shared::run_as_long_as), unfolding(crate::specs::Paths::simple_path))]
 pub fn simple_path<R: Reader>(goals: &R, p: &mut Parser<'_>) -> Result<(), Fault>
     requires { R.can_read goals.now }
     ensures { Runs (R.reads goals.now) form.simple_path p.old p.new result }

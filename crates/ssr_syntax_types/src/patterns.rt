@@ -510,7 +510,7 @@ fn shorthand_pat_field<R: Reader>(goals: &R, p: &mut Parser<'_>) -> Result<(), F
 }
 
 /// RECORD_PAT_FIELD of any form.
-#[tactic(auto, unfolding(crate::specs::Patterns::record_pat_field))]
+#[tactic(auto, using(ssr_syntax_forms::proofs::Shared::run_decide), unfolding(crate::specs::Patterns::record_pat_field))]
 fn record_pat_field<R: Reader>(goals: &R, p: &mut Parser<'_>) -> Result<(), Fault>
     requires { R.can_read goals.now }
     ensures { RunsAnywhere (R.reads goals.now) form.record_pat_field p.old p.new result }

@@ -12,7 +12,7 @@ abbrev pub still_open : ℕ → List Open → List Open
 still_open place [] = []
 still_open place (inner ∷ above) = if nat_le place inner.start then still_open place above else inner ∷ above
 
--- those that don't
+-- those that are closed
 abbrev pub closed : ℕ → List Open → List NodeRow
 closed place [] = []
 closed place (inner ∷ above) = if nat_le place inner.start then inner.node ∷ closed place above else []

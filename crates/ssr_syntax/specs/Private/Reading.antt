@@ -1,7 +1,10 @@
 -- Private: what the calls below give.
-use Rattle.std.specs.Prelude.{◌≡◌, ◌≢◌, ℕ, ◌^◌, ◌<◌, ◌≤◌, List, length, Some, None, Result, Ok, Err}
+use Rattle.std.specs.Prelude.{◌≡◌, ◌≢◌, ℕ, ◌^◌, ◌<◌, ◌≤◌, List, length, map, Some, None, Result, Ok, Err}
 use Rattle.ssr_syntax_lex.specs.declared.token_rows.TokenRow.{TokenRow}
-use Rattle.ssr_syntax_lex.specs.Tokens.{tokens, rows_in}
+use Rattle.ssr_syntax_lex.specs.Tokens.{tokens, row_of, rows_in, spell, Tiles}
+use Rattle.ssr_syntax_lex.specs.declared.tokens.RawToken.{RawToken}
+use Rattle.ssr_syntax_forms.specs.declared.tokens.Token.{Token}
+use Rattle.ssr_syntax.specs.Solid.{solid_tokens}
 use Rattle.ssr_syntax.specs.declared.syntax_error.SyntaxError.{SyntaxError}
 use Rattle.ssr_syntax.specs.declared.syntax_error.SyntaxError.TheVariants as errors
 use Rattle.ssr_syntax_forms.specs.declared.fault.Fault.{Fault}
@@ -27,3 +30,10 @@ IsLexFault text errors.TooDeep = ⊥
 abbrev pub IsLexed : List ℕ → Result (List TokenRow) SyntaxError → Type 0
 IsLexed text (Ok rows) = (length text < 2 ^ 32) × (rows_in text ≡ Some rows)
 IsLexed text (Err e) = IsLexFault text e
+
+-- a text is cut into these tokens: their rows, and the solid ones of them
+pub record IsCut (text : List ℕ) (rows : List TokenRow) (solid : List Token) (raw : List RawToken) : Type 0 where
+  pub are : rows ≡ map row_of raw
+  pub tiles : Tiles text raw
+  pub spelled : spell text raw ≡ text
+  pub solid_are : solid ≡ solid_tokens raw

@@ -31,11 +31,16 @@ fn outline_of(alloc: Global, tree: &Tree) -> Result<String, AllocError> {
     Ok(outline)
 }
 
-/// The outline of what is read of a fragment, or its refusal.
-pub(super) fn outline(alloc: Global, kind: Fragment, text: &str) -> Result<String, AllocError> {
-    match fragment(alloc, kind, text) {
-        Ok((tree, _)) => outline_of(alloc, &tree),
+/// The outline of a tree that was read, or the refusal.
+pub(super) fn told(alloc: Global, answer: Result<Tree, SyntaxError>) -> Result<String, AllocError> {
+    match answer {
+        Ok(tree) => outline_of(alloc, &tree),
         Err(SyntaxError::NoTree) => String::from_str(alloc, "no tree"),
         Err(error) => format!(in alloc; "{error:?}"),
     }
+}
+
+/// The outline of what is read of a fragment, or its refusal.
+pub(super) fn outline(alloc: Global, kind: Fragment, text: &str) -> Result<String, AllocError> {
+    told(alloc, fragment(alloc, kind, text).map(|(tree, _)| tree))
 }

@@ -1,5 +1,5 @@
 use Rattle.std.proofs.Common.{◌≡◌, ◌++◌, take}
-use Rattle.ssr.specs.Noted.{bytes_of}
+use Rattle.ssr.specs.Private.Noted.{bytes_of}
 use Rattle.ssr.proofs.counted.noted.Given as goal
 
 abbrev pub invariant-loop-byte : goal.invariant-loop-byte

@@ -31,8 +31,8 @@ returns-then-not-is_solid_outside-clause-answers c =
     (c.if-not-is_solid_outside.ensures ∙ outside_same known.0 c.kinds.result.now (c.kinds.ensures ∙ ap kinds_of known.1.are))
 
 pub returns-then-not-is_solid_outside-clause-complete : goal.returns-then-not-is_solid_outside-clause-complete
-returns-then-not-is_solid_outside-clause-complete c syntax short core fits =
-    fragment_complete c.args.fragment c.args.text.now syntax (Err errors.NoTree) short core fits (returns-then-not-is_solid_outside-clause-answers c)
+returns-then-not-is_solid_outside-clause-complete c syntax short fits =
+    fragment_complete c.args.fragment c.args.text.now syntax (Err errors.NoTree) short fits (returns-then-not-is_solid_outside-clause-answers c)
 
 -- the fragment is read as its tokens are
 record ReadAs (c : After-goal) : Type 0 where
@@ -65,8 +65,8 @@ returns-in_err-tree-clause-answers c =
     is.read (c.in_err-tree.ensures is.raw is.lexed))
 
 pub returns-in_err-tree-clause-complete : goal.returns-in_err-tree-clause-complete
-returns-in_err-tree-clause-complete c syntax short core fits =
-    fragment_complete c.args.fragment c.args.text.now syntax c.from_residual-in_err-tree.result short core fits (returns-in_err-tree-clause-answers c)
+returns-in_err-tree-clause-complete c syntax short fits =
+    fragment_complete c.args.fragment c.args.text.now syntax c.from_residual-in_err-tree.result short fits (returns-in_err-tree-clause-answers c)
 
 pub returns-clause-answers : goal.returns-clause-answers
 returns-clause-answers c =
@@ -79,6 +79,6 @@ returns-clause-sound c =
     (returns-clause-answers c).0
 
 pub returns-clause-complete : goal.returns-clause-complete
-returns-clause-complete c syntax short core fits =
-    fragment_complete c.args.fragment c.args.text.now syntax (Ok (c.in_ok-tree.tree, c.saturating_sub-front.result)) short core fits
+returns-clause-complete c syntax short fits =
+    fragment_complete c.args.fragment c.args.text.now syntax (Ok (c.in_ok-tree.tree, c.saturating_sub-front.result)) short fits
     (returns-clause-answers c)

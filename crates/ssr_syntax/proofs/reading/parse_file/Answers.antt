@@ -1,5 +1,4 @@
 use Rattle.std.proofs.Common.{subst, length, ◌<◌, ◌^◌}
-use Rattle.ssr_syntax.specs.CoreTrees.{IsCore}
 use Rattle.ssr_syntax.specs.Reading.{file_reading, FitsFile, IsThatOrTooDeep}
 use Rattle.ssr_syntax.proofs.Texts.{told_on}
 use Rattle.ssr_syntax.proofs.TextLaws.{file_too_long}
@@ -13,5 +12,5 @@ returns-in_err-check_length-clause-answers c =
 
 pub returns-clause-complete : goal.returns-clause-complete
 returns-clause-complete c syntax =
-    subst (λ t. length t < 2 ^ 32 → IsCore syntax → FitsFile t syntax → IsThatOrTooDeep (λ tree. tree) syntax c.parse_file_owned.result)
+    subst (λ t. length t < 2 ^ 32 → FitsFile t syntax → IsThatOrTooDeep (λ tree. tree) syntax c.parse_file_owned.result)
     c.in_ok-from_str.ensures.ok (c.parse_file_owned.ensures.complete syntax)

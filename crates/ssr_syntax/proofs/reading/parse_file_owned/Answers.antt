@@ -37,5 +37,5 @@ returns-clause-sound c =
     file_answers (string_bytes c.args.text) c.read_tokens.result (IsUtf8-string_bytes c.args.text) (reads (goal.at.returns-clause-sound c).After-read_tokens)
 
 pub returns-clause-complete : goal.returns-clause-complete
-returns-clause-complete c syntax short core fits =
-    file_complete (string_bytes c.args.text) syntax c.read_tokens.result short core fits (reads (goal.at.returns-clause-complete c).After-read_tokens)
+returns-clause-complete c syntax short fits =
+    file_complete (string_bytes c.args.text) syntax c.read_tokens.result short fits (reads (goal.at.returns-clause-complete c).After-read_tokens)

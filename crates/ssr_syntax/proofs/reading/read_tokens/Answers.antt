@@ -1,120 +1,27 @@
-use Rattle.std.proofs.Common.{◌∷◌, List, arith, length, map, refl, ap, sym, ◌≡◌, ◌∙◌}
-use Rattle.std.specs.Prelude.{slice_index, string_bytes, Ok}
+use Rattle.std.proofs.Common.{◌≡◌, ◌∙◌, ap, List, Some}
+use Rattle.std.specs.Prelude.{string_bytes}
 use Rattle.std.proofs.lemmas.Str.{IsUtf8-string_bytes}
 use Rattle.ssr_syntax_lex.specs.declared.tokens.RawToken.{RawToken}
-use Rattle.ssr_syntax_lex.specs.Tokens.{row_of}
-use Rattle.ssr_syntax_tree.specs.Parts.{AreParts}
-use Rattle.ssr_syntax_forms.specs.Written.{leaves}
-use Rattle.ssr_syntax.specs.Lossless.{whole_tree}
-use Rattle.ssr_syntax.specs.MacroRules.{misnames_macros}
-use Rattle.ssr_syntax.specs.declared.syntax_error.SyntaxError.TheVariants as errors
-use Rattle.ssr_syntax.specs.Private.Preorder.{tree_rows}
-use Rattle.ssr_syntax.specs.Private.TreeTokens.{taken_rows, taken_sizes, ends}
-use Rattle.ssr_syntax.specs.Reading.{pieces, tree_reading, error_of}
-use Rattle.ssr_syntax.proofs.Texts.{WrittenOfText, written_read, depth_fault, told_on, whole_parts, count_fits, read_ok, read_misnamed, refused, at_ends, parser_fault}
+use Rattle.ssr_syntax_lex.specs.Tokens.{tokens}
+use Rattle.ssr_syntax.specs.Private.Reading.{IsCut}
 use Rattle.ssr_syntax.specs.Private.SolidKinds.{solid_kinds}
-use Rattle.ssr_syntax.proofs.TextRows.{AreRowsOf, rows_count, known_rows, these_rows}
+use Rattle.ssr_syntax.proofs.TextRows.{known_rows, these_rows, cut_of_rows}
 use Rattle.ssr_syntax.proofs.reading.read_tokens.Goals as goal
-use Rattle.ssr_syntax.proofs.reading.read_tokens.Goals.{After-deref-3, In_ok-nodes}
+use Rattle.ssr_syntax.proofs.reading.read_tokens.Goals.{In_ok-solid}
 
-pub ends-requires : goal.ends-requires
-ends-requires c =
+-- the text is cut into its tokens
+cut_is : (c : In_ok-solid) (raw : List RawToken) → tokens (string_bytes c.args.text) ≡ Some raw
+    → IsCut (string_bytes c.args.text) c.args.rows c.in_ok-solid.solid.items raw
+cut_is c raw e =
     let text = string_bytes c.args.text in
-    omega (
-      arith,
-      rows_count text c.args.rows (IsUtf8-string_bytes c.args.text) c.requires.lexed,
-      c.requires.short,
-      c.in_ok-tokens.ensures.count,
-      c.in_ok-tokens.ensures.beside,
-      ap length c.deref-3.ensures.value,
-    )
+    cut_of_rows text c.args.rows c.in_ok-solid.solid.items raw
+    (these_rows text c.args.rows raw (IsUtf8-string_bytes c.args.text) c.requires.lexed e)
+    (c.in_ok-solid.ensures ∙ ap solid_kinds c.kinds.ensures)
 
-pub overflow_cast-len : goal.overflow_cast-len
-overflow_cast-len c =
-    let text = string_bytes c.args.text in
-    omega (
-      arith,
-      rows_count text c.args.rows (IsUtf8-string_bytes c.args.text) c.requires.lexed,
-      c.requires.short,
-      c.in_ok-tokens.ensures.count,
-      c.len.ensures,
-    )
-
-pub returns-in_err-written : goal.returns-in_err-written
-returns-in_err-written c raw e =
-    let text = string_bytes c.args.text in
-    let are = these_rows text c.args.rows raw (IsUtf8-string_bytes c.args.text) c.requires.lexed e in
-    told_on (error_of c.in_err-written.field-0.0) c.from_residual-in_err-written.result (tree_reading c.args.goal text raw) text
-    c.from_residual-in_err-written.ensures.0 c.from_residual-in_err-written.ensures.1
-    (parser_fault c.args.goal text raw c.deref.result.now c.in_err-written.field-0.0 c.requires.short
-    (c.deref.ensures.value ∙ c.in_ok-solid.ensures ∙ ap solid_kinds c.kinds.ensures ∙ are.solid) c.in_err-written.ensures)
-
--- what was written
-written_is : (c : After-deref-3) (raw : List RawToken) → AreRowsOf (string_bytes c.args.text) c.args.rows raw
-    → WrittenOfText c.args.goal (string_bytes c.args.text) raw c.in_ok-written.written.rows c.deref-2.result.now
-written_is c raw are =
-    let reads = c.in_ok-written.ensures in
-    written_read c.args.goal (string_bytes c.args.text) raw c.deref.result.now reads.0 c.in_ok-written.written.rows c.in_ok-written.written.rows
-    c.in_ok-written.written.taken.items c.deref-2.result.now
-    (c.deref.ensures.value ∙ c.in_ok-solid.ensures ∙ ap solid_kinds c.kinds.ensures ∙ are.solid) reads.1 reads.2 refl c.deref-2.ensures.value
-
-pub returns-in_err-nodes : goal.returns-in_err-nodes
-returns-in_err-nodes c raw e =
-    let text = string_bytes c.args.text in
-    let are = these_rows text c.args.rows raw (IsUtf8-string_bytes c.args.text) c.requires.lexed e in
-    let w = written_is (goal.at.returns-in_err-nodes c).After-deref-3 raw are in
-    told_on c.in_err-nodes.field-0.0 c.from_residual-in_err-nodes.result (tree_reading c.args.goal text raw) text
-    c.from_residual-in_err-nodes.ensures.0 c.from_residual-in_err-nodes.ensures.1
-    (depth_fault c.args.goal text raw w.kind w.kids c.in_err-nodes.field-0.0 c.requires.short w.read
-    (c.in_err-nodes.ensures w.kind w.kids w.rows))
-
--- the parts of the flat tree
-parts_are : (c : In_ok-nodes) (raw : List RawToken) (are : AreRowsOf (string_bytes c.args.text) c.args.rows raw)
-    (w : WrittenOfText c.args.goal (string_bytes c.args.text) raw c.in_ok-written.written.rows c.deref-2.result.now)
-    → AreParts (string_bytes c.args.text) c.in_ok-tokens.tokens.rows c.in_ok-nodes.nodes
-    (whole_tree w.kind w.kids (pieces (string_bytes c.args.text) raw))
-parts_are c raw are w =
-    let text = string_bytes c.args.text in
-    let us = leaves w.kids in
-    let n = c.in_ok-nodes.ensures w.kind w.kids w.rows in
-    let rows_are : c.in_ok-tokens.tokens.rows ≡ taken_rows 0 us (map row_of raw) =
-    c.in_ok-tokens.ensures.rows ∙ ap (λ l. taken_rows 0 l c.args.rows) w.taken_are ∙ ap (taken_rows 0 us) are.are in
-    let sizes_are : c.deref-3.result.now ≡ taken_sizes 0 us (map row_of raw) =
-    c.deref-3.ensures.value ∙ c.in_ok-tokens.ensures.sizes ∙ ap (λ l. taken_sizes 0 l c.args.rows) w.taken_are
-    ∙ ap (taken_sizes 0 us) are.are in
-    let ends_are : c.deref-4.result.now ≡ 0 ∷ ends 0 (taken_sizes 0 us (map row_of raw)) =
-    c.deref-4.ensures.value ∙ c.in_ok-ends.ensures ∙ ap (λ l. 0 ∷ ends 0 l) sizes_are in
-    let count : c.len.result ≡ length (taken_rows 0 us (map row_of raw)) = c.len.ensures ∙ ap length rows_are in
-    whole_parts text raw w.kind w.kids text c.in_ok-tokens.tokens.rows c.in_ok-nodes.nodes
-    (IsUtf8-string_bytes c.args.text) c.requires.short are.tiles are.spelled w.read.are_solid w.read.few
-    refl rows_are
-    (n.1.0 ∙ ap (λ b. tree_rows (λ i. slice_index b i) c.len.result w.kind w.kids) ends_are
-    ∙ ap (λ m. tree_rows (at_ends us raw) m w.kind w.kids) count)
-    (count_fits (λ i. slice_index c.deref-4.result.now i) c.len.result w.kind w.kids c.in_ok-written.written.rows c.in_ok-nodes.nodes w.rows n.1.1 n.1.0)
-
-pub from_parts-tree-requires : goal.from_parts-tree-requires
-from_parts-tree-requires c =
-    let text = string_bytes c.args.text in
-    let known = known_rows text c.args.rows (IsUtf8-string_bytes c.args.text) c.requires.lexed in
-    let w = written_is (goal.at.from_parts-tree-requires c).After-deref-3 known.0 known.1 in
-    (whole_tree w.kind w.kids (pieces text known.0), parts_are (goal.at.from_parts-tree-requires c).In_ok-nodes known.0 known.1 w)
-
-pub returns-then-misnames_macros : goal.returns-then-misnames_macros
-returns-then-misnames_macros c raw e =
-    let text = string_bytes c.args.text in
-    let are = these_rows text c.args.rows raw (IsUtf8-string_bytes c.args.text) c.requires.lexed e in
-    let w = written_is (goal.at.returns-then-misnames_macros c).After-deref-3 raw are in
-    let is = c.from_parts-tree.ensures (whole_tree w.kind w.kids (pieces text raw)) (parts_are (goal.at.returns-then-misnames_macros c).In_ok-nodes raw are w) in
-    refused errors.NoTree (tree_reading c.args.goal text raw) text c.requires.short
-    (read_misnamed c.args.goal text raw w.kind w.kids w.read (c.in_ok-nodes.ensures w.kind w.kids w.rows).0
-    (ap misnames_macros (sym is) ∙ sym c.misnames_macros.ensures ∙ c.if-misnames_macros.true))
+pub read_solid-requires : goal.read_solid-requires
+read_solid-requires c =
+    let known = known_rows (string_bytes c.args.text) c.args.rows (IsUtf8-string_bytes c.args.text) c.requires.lexed in
+    record { short = c.requires.short; cut = (known.0, cut_is (goal.at.read_solid-requires c).In_ok-solid known.0 known.1.lexed) }
 
 pub returns : goal.returns
-returns c raw e =
-    let text = string_bytes c.args.text in
-    let are = these_rows text c.args.rows raw (IsUtf8-string_bytes c.args.text) c.requires.lexed e in
-    let w = written_is (goal.at.returns c).After-deref-3 raw are in
-    let is = c.from_parts-tree.ensures (whole_tree w.kind w.kids (pieces text raw)) (parts_are (goal.at.returns c).In_ok-nodes raw are w) in
-    read_ok c.args.goal text raw w.kind w.kids w.read (c.in_ok-nodes.ensures w.kind w.kids w.rows).0
-    (ap misnames_macros (sym is) ∙ sym c.misnames_macros.ensures ∙ c.if-misnames_macros.false)
-    ∙ ap Ok (sym is)
+returns c raw e = c.read_solid.ensures raw (cut_is (goal.at.returns c).In_ok-solid raw e)

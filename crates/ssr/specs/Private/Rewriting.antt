@@ -1,4 +1,4 @@
--- What the middle of the program answers.
+-- Private: what the middle of the program answers.
 use Rattle.std.specs.Prelude.{ℕ, List, Result, Ok, Err, String, string_bytes}
 use Rattle.ssr_syntax.specs.declared.syntax_error.SyntaxError.TheVariants as syntax
 use Rattle.ssr.specs.declared.rewriting.RewriteError.{RewriteError}

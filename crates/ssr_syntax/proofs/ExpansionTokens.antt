@@ -1,0 +1,207 @@
+-- The tokens of what a macro call stands for: they tile the text that they spell, and their solid tokens are known by
+-- their kinds, with white space behind those that aren't joint.
+use Rattle.std.proofs.Common.{◌≡◌, ℕ, ◌+◌, ◌<◌, Bool, true, false, ◌&&◌, if◌then◌else◌, List, [], ◌∷◌, ◌++◌, length, map, drop, Some, None, refl, sym, ◌∙◌, ap, subst, arith, append_assoc, length-append, reverse}
+use Rattle.std.specs.Prelude.{Option, string_bytes}
+use Rattle.std.specs.Option.{option_map, option_and_then}
+use Rattle.std.specs.Str.{IsUtf8, IsCharBoundary}
+use Rattle.std.proofs.lemmas.List.{append-nil, map-append, reverse-append}
+use Rattle.std.proofs.lemmas.Str.{IsUtf8-nil, IsUtf8-append, IsUtf8-string_bytes, IsCharBoundary-at_seam}
+use Rattle.ssr_syntax_lex.specs.declared.kinds.SyntaxKind.{SyntaxKind}
+use Rattle.ssr_syntax_lex.specs.declared.kinds.SyntaxKind.TheVariants as k
+use Rattle.ssr_syntax_lex.specs.declared.token_rows.TokenRow.{TokenRow}
+use Rattle.ssr_syntax_lex.specs.declared.tokens.RawToken.{RawToken}
+use Rattle.ssr_syntax_lex.specs.Kinds.{is_trivia}
+use Rattle.ssr_syntax_lex.specs.Tokens.{tokens as tokens_in, row_of, spell, Tiles, TilesFrom}
+use Rattle.ssr_syntax_lex.proofs.Shared.{tokens_tile, tiles_spell}
+use Rattle.ssr_syntax_forms.specs.declared.tokens.Token.{Token}
+use Rattle.ssr_syntax.specs.declared.expansions.ExpToken.{ExpToken}
+use Rattle.ssr_syntax.specs.Solid.{joined, lengthened, is_joint, joined_two, joined_three, solid_token, solid_tokens}
+use Rattle.ssr_syntax.specs.Reading.{begins_solid}
+use Rattle.ssr_syntax.specs.Expansions.{expansion_text, kind_of_one, lone_kind, raw_token, raw_from}
+use Rattle.ssr_syntax.specs.Private.SolidKinds.{with_next, two_of, solid_kind, solid_kinds}
+use Rattle.ssr_syntax.specs.Private.Reading.{IsCut}
+use Rattle.ssr_syntax.specs.Private.Gathering.{behind, spaced, IsFront}
+use Rattle.ssr_syntax.proofs.TextRows.{joined_mark, not_joined}
+
+-- ** The kinds tell which tokens are joined.
+
+with_next_same : (kind : SyntaxKind) (joint : Bool) (ts : List RawToken) → with_next kind (behind joint (spaced ts)) ≡ lengthened kind joint ts
+with_next_same kind false ts = not_joined (joined k.WHITESPACE kind) k.WHITESPACE (joined_mark k.WHITESPACE kind) refl
+with_next_same kind true [] = refl
+with_next_same kind true (t ∷ ts) = refl
+
+-- what two make is lengthened only if they are joint
+three_same : (kind : SyntaxKind) (joint : Bool) (ts : List RawToken) (two : SyntaxKind) → lengthened kind joint ts ≡ Some two
+    → with_next two (drop 1 (behind joint (spaced ts))) ≡ lengthened two (is_joint ts) (drop 1 ts)
+three_same kind false ts two e = cc
+three_same kind true [] two e = cc
+three_same kind true (t ∷ ts) two e = with_next_same two t.joint ts
+
+two_same : (kind : SyntaxKind) (joint : Bool) (ts : List RawToken) (o : Option SyntaxKind) → lengthened kind joint ts ≡ o
+    → two_of kind (behind joint (spaced ts)) o ≡ joined_two kind ts o
+two_same kind joint ts None e = refl
+two_same kind joint ts (Some two) e = ap (joined_three kind two) (three_same kind joint ts two e)
+
+token_same : (t : RawToken) (ts : List RawToken) → solid_kind t.kind (behind t.joint (spaced ts)) ≡ solid_token t ts
+token_same t ts =
+    ap (two_of t.kind (behind t.joint (spaced ts))) (with_next_same t.kind t.joint ts)
+    ∙ two_same t.kind t.joint ts (lengthened t.kind t.joint ts) refl
+
+behind_same : (joint : Bool) (kinds : List SyntaxKind) → solid_kinds (behind joint kinds) ≡ solid_kinds kinds
+behind_same true kinds = refl
+behind_same false kinds = refl
+
+pub spaced_same : (raw : List RawToken) → solid_kinds (spaced raw) ≡ solid_tokens raw
+spaced_same [] = refl
+spaced_same (t ∷ ts) =
+    ap (λ us. if is_trivia t.kind then us else solid_kind t.kind (behind t.joint (spaced ts)) ∷ us)
+    (behind_same t.joint (spaced ts) ∙ spaced_same ts)
+    ∙ ap (λ u. if is_trivia t.kind then solid_tokens ts else u ∷ solid_tokens ts) (token_same t ts)
+
+behind-append : (joint : Bool) (xs ys : List SyntaxKind) → behind joint (xs ++ ys) ≡ behind joint xs ++ ys
+behind-append true xs ys = refl
+behind-append false xs ys = refl
+
+spaced-append : (xs ys : List RawToken) → spaced (xs ++ ys) ≡ spaced xs ++ spaced ys
+spaced-append [] ys = refl
+spaced-append (t ∷ xs) ys =
+    ap (λ l. t.kind ∷ behind t.joint l) (spaced-append xs ys)
+    ∙ ap (λ l. t.kind ∷ l) (behind-append t.joint (spaced xs) (spaced ys))
+
+-- ** One token more is put behind the others.
+
+appended : (raw : List RawToken) (t : RawToken) (o : Option (List RawToken))
+    → option_map (λ more. raw ++ more) (option_map (λ more. t ∷ more) o) ≡ option_map (λ more. (raw ++ (t ∷ [])) ++ more) o
+appended raw t None = refl
+appended raw t (Some more) = ap Some (sym (append_assoc raw (t ∷ []) more))
+
+-- the raw tokens of tokens, of which the first one's kind is known
+raw_next : (start : ℕ) (t : ExpToken) (ts : List ExpToken) (kind : SyntaxKind) → lone_kind (string_bytes t.text) ≡ Some kind
+    → raw_from start (t ∷ ts) ≡ option_map (λ more. raw_token start t kind ∷ more) (raw_from (start + length (string_bytes t.text)) ts)
+raw_next start t ts kind e =
+    ap
+    (option_and_then (λ k. option_map (λ more. raw_token start t k ∷ more) (raw_from (start + length (string_bytes t.text)) ts)))
+    e
+
+pub front_more : (tokens rest others : List ExpToken) (t : ExpToken) (text : List ℕ) (rows : List TokenRow) (kinds : List SyntaxKind) (raw : List RawToken) (kind : SyntaxKind)
+    (next : List ℕ) (next_rows : List TokenRow) (next_kinds : List SyntaxKind)
+    → IsFront tokens rest text rows kinds raw → rest ≡ t ∷ others → lone_kind (string_bytes t.text) ≡ Some kind
+    → next ≡ text ++ string_bytes t.text → next_rows ≡ rows ++ record { kind = kind; start = length text } ∷ []
+    → next_kinds ≡ kinds ++ kind ∷ behind t.joint []
+    → (raws : List RawToken) × IsFront tokens others next next_rows next_kinds raws
+front_more tokens rest others t text rows kinds raw kind next next_rows next_kinds front is lone e f g =
+    let one : RawToken = raw_token (length text) t kind in
+    let bytes : List ℕ = string_bytes t.text in
+    let size : length text + length bytes ≡ length next = sym (length-append text bytes) ∙ ap length (sym e) in (
+      raw ++ (one ∷ []),
+      record {
+        texts = ap (λ l. l ++ expansion_text others) e ∙ append_assoc text bytes (expansion_text others)
+            ∙ ap (λ l. text ++ expansion_text l) (sym is) ∙ front.texts;
+        rows_are = f ∙ ap (λ l. l ++ record { kind = kind; start = length text } ∷ []) front.rows_are ∙ sym (map-append row_of raw (one ∷ []));
+        kinds_are = g ∙ ap (λ l. l ++ kind ∷ behind t.joint []) front.kinds_are ∙ sym (spaced-append raw (one ∷ []));
+        going_on = front.going_on
+            ∙ ap (λ l. option_map (λ more. raw ++ more) (raw_from (length text) l)) is
+            ∙ ap (option_map (λ more. raw ++ more)) (raw_next (length text) t others kind lone)
+            ∙ appended raw one (raw_from (length text + length bytes) others)
+            ∙ ap (λ n. option_map (λ more. (raw ++ (one ∷ [])) ++ more) (raw_from n others)) size;
+      },
+    )
+
+-- ** The raw tokens tile the text.
+
+-- what the parts of tokens are
+known_parts : (make : SyntaxKind → RawToken) (o : Option SyntaxKind) (more : Option (List RawToken)) (raw : List RawToken)
+    → option_and_then (λ kind. option_map (λ ts. make kind ∷ ts) more) o ≡ Some raw
+    → (kind : SyntaxKind) × (ts : List RawToken) × (o ≡ Some kind) × (more ≡ Some ts) × (make kind ∷ ts ≡ raw)
+known_parts make None more raw e = cc
+known_parts make (Some kind) None raw e = cc
+known_parts make (Some kind) (Some ts) raw e = (kind, ts, refl, refl, cc)
+
+solid_one : (b : Bool) (kind other : SyntaxKind) → is_trivia kind ≡ b → ◌≡◌ {A = Option SyntaxKind} (if b then None else Some kind) (Some other)
+    → is_trivia other ≡ false
+solid_one true kind other e h = cc
+solid_one false kind other e h = let same : kind ≡ other = cc in ap is_trivia (sym same) ∙ e
+
+lone_parts : (o : Option (List RawToken)) (kind : SyntaxKind) → option_and_then kind_of_one o ≡ Some kind
+    → (t : RawToken) × (o ≡ Some (t ∷ [])) × (is_trivia kind ≡ false)
+lone_parts None kind e = cc
+lone_parts (Some []) kind e = cc
+lone_parts (Some (t ∷ [])) kind e = (t, refl, solid_one (is_trivia t.kind) t.kind kind refl e)
+lone_parts (Some (t ∷ (u ∷ ts))) kind e = cc
+
+-- a token isn't empty
+some_bytes : (text : List ℕ) (kind : SyntaxKind) → IsUtf8 text → lone_kind text ≡ Some kind → 0 < length text
+some_bytes text kind utf8 e =
+    let one = lone_parts (tokens_in text) kind e in
+    let tiles : Tiles text (one.0 ∷ []) = tokens_tile text (one.0 ∷ []) utf8 one.1 in
+    omega (arith, tiles.1, tiles.3)
+
+texts_utf8 : (ts : List ExpToken) → IsUtf8 (expansion_text ts)
+texts_utf8 [] = IsUtf8-nil
+texts_utf8 (t ∷ ts) = IsUtf8-append (string_bytes t.text) (expansion_text ts) (IsUtf8-string_bytes t.text) (texts_utf8 ts)
+
+raw_tiles : (text front : List ℕ) (start : ℕ) (ts : List ExpToken) (raw : List RawToken) → text ≡ front ++ expansion_text ts → length front ≡ start
+    → raw_from start ts ≡ Some raw → TilesFrom text start raw
+raw_tiles text front start [] raw e f g =
+    let none : [] ≡ raw = cc in
+    subst (TilesFrom text start) none (sym f ∙ ap length (sym (append-nil front)) ∙ ap length (sym e))
+raw_tiles text front start (t ∷ ts) raw e f g =
+    let bytes : List ℕ = string_bytes t.text in
+    let p = known_parts (raw_token start t) (lone_kind bytes) (raw_from (start + length bytes) ts) raw g in
+    let some : 0 < length bytes = some_bytes bytes p.0 (IsUtf8-string_bytes t.text) p.2 in
+    let place : start < start + length bytes = omega arith in
+    subst (TilesFrom text start) p.4 (
+      refl,
+      place,
+      subst (IsCharBoundary text) f (IsCharBoundary-at_seam text front (expansion_text (t ∷ ts)) e (texts_utf8 (t ∷ ts))),
+      raw_tiles text (front ++ bytes) (start + length bytes) ts p.1 (e ∙ sym (append_assoc front bytes (expansion_text ts)))
+          (length-append front bytes ∙ ap (λ n. n + length bytes) f) p.3,
+    )
+
+pub expansion_tiles : (ts : List ExpToken) (raw : List RawToken) → raw_from 0 ts ≡ Some raw → Tiles (expansion_text ts) raw
+expansion_tiles ts raw e = raw_tiles (expansion_text ts) [] 0 ts raw refl refl e
+
+pub expansion_spells : (ts : List ExpToken) (raw : List RawToken) → raw_from 0 ts ≡ Some raw → spell (expansion_text ts) raw ≡ expansion_text ts
+expansion_spells ts raw e = tiles_spell (expansion_text ts) raw (expansion_tiles ts raw e)
+
+-- so the text is cut into them
+pub expansion_cut : (ts : List ExpToken) (text : List ℕ) (rows : List TokenRow) (kinds : List SyntaxKind) (solid : List Token) (raw : List RawToken)
+    → raw_from 0 ts ≡ Some raw → text ≡ expansion_text ts → rows ≡ map row_of raw → kinds ≡ spaced raw → solid ≡ solid_kinds kinds
+    → IsCut text rows solid raw
+expansion_cut ts text rows kinds solid raw e is f g h = record {
+  are = f;
+  tiles = subst (λ l. Tiles l raw) (sym is) (expansion_tiles ts raw e);
+  spelled = subst (λ l. spell l raw ≡ l) (sym is) (expansion_spells ts raw e);
+  solid_are = h ∙ ap solid_kinds g ∙ spaced_same raw;
+}
+
+-- ** No white space and no comment is among them.
+
+abbrev AllSolid : List RawToken → Type 0
+AllSolid [] = Unit {0}
+AllSolid (t ∷ ts) = (is_trivia t.kind ≡ false) × AllSolid ts
+
+all_solid : (start : ℕ) (ts : List ExpToken) (raw : List RawToken) → raw_from start ts ≡ Some raw → AllSolid raw
+all_solid start [] raw e = let none : [] ≡ raw = cc in subst AllSolid none tt
+all_solid start (t ∷ ts) raw e =
+    let bytes : List ℕ = string_bytes t.text in
+    let p = known_parts (raw_token start t) (lone_kind bytes) (raw_from (start + length bytes) ts) raw e in
+    subst AllSolid p.4 ((lone_parts (tokens_in bytes) p.0 p.2).2, all_solid (start + length bytes) ts p.1 p.3)
+
+solid-append : (xs ys : List RawToken) → AllSolid xs → AllSolid ys → AllSolid (xs ++ ys)
+solid-append [] ys h k = k
+solid-append (x ∷ xs) ys h k = (h.0, solid-append xs ys h.1 k)
+
+solid-reverse : (xs : List RawToken) → AllSolid xs → AllSolid (reverse xs)
+solid-reverse [] h = tt
+solid-reverse (x ∷ xs) h =
+    subst AllSolid (sym (reverse-append (x ∷ []) xs)) (solid-append (reverse xs) (x ∷ []) (solid-reverse xs h.1) (h.0, tt))
+
+first_solid : (xs : List RawToken) → AllSolid xs → begins_solid xs ≡ true
+first_solid [] h = refl
+first_solid (x ∷ xs) h = simp h.0
+
+pub expansion_outside : (ts : List ExpToken) (raw : List RawToken) → raw_from 0 ts ≡ Some raw → (begins_solid raw && begins_solid (reverse raw)) ≡ true
+expansion_outside ts raw e =
+    let all : AllSolid raw = all_solid 0 ts raw e in
+    ap (λ b. b && begins_solid (reverse raw)) (first_solid raw all) ∙ first_solid (reverse raw) (solid-reverse raw all)

@@ -1,0 +1,5 @@
+use Rattle.ssr_syntax.proofs.ExpansionLaws.{one_expansion}
+use Rattle.ssr_syntax.proofs.laws.expansions.Goals as goal
+
+pub returns : goal.returns
+returns c = record { one = one_expansion }

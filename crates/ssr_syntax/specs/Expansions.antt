@@ -1,0 +1,75 @@
+-- The reading of what a macro call stands for: tokens that are handed in, each with its text and whether it is joint.
+use Rattle.std.specs.Prelude.{◌≡◌, ℕ, ◌+◌, ◌^◌, ◌<◌, ◌≤◌, if◌then◌else◌, List, [], ◌∷◌, length, flat_map, string_bytes, Option, Some, None, Result, Ok, Err}
+use Rattle.std.specs.Option.{option_map, option_and_then}
+use Rattle.ssr_syntax_lex.specs.declared.kinds.SyntaxKind.{SyntaxKind}
+use Rattle.ssr_syntax_lex.specs.declared.tokens.RawToken.{RawToken}
+use Rattle.ssr_syntax_lex.specs.Kinds.{is_trivia}
+use Rattle.ssr_syntax_lex.specs.Tokens.{tokens as tokens_in, range_of}
+use Rattle.ssr_syntax_tree.specs.Syntax as plain
+use Rattle.ssr_syntax_tree.specs.Syntax.{Syntax, depth_of, source_of}
+use Rattle.ssr_syntax_types.specs.declared.goals.Goal.{Goal}
+use Rattle.ssr_syntax_types.specs.declared.goals.Goal.TheVariants as goals
+use Rattle.ssr_syntax_types.specs.declared.goals.ExprPlace.TheVariants.{Anywhere}
+use Rattle.ssr_syntax.specs.declared.expansions.ExpToken.{ExpToken}
+use Rattle.ssr_syntax.specs.declared.expansions.ExpansionKind.{ExpansionKind}
+use Rattle.ssr_syntax.specs.declared.expansions.ExpansionKind.TheVariants as expansions
+use Rattle.ssr_syntax.specs.declared.syntax_error.SyntaxError.{SyntaxError}
+use Rattle.ssr_syntax.specs.declared.syntax_error.SyntaxError.TheVariants as errors
+use Rattle.ssr_syntax.specs.Lossless.{IsTrimmed}
+use Rattle.ssr_syntax.specs.Reading.{most_deep, tree_reading, short_reading, FitsTokens}
+
+-- the text that tokens spell
+abbrev pub expansion_text : List ExpToken → List ℕ
+expansion_text tokens = flat_map (λ t. string_bytes t.text) tokens
+
+-- the kind of one token that is neither white space nor a comment; none where there are several or none
+abbrev pub kind_of_one : List RawToken → Option SyntaxKind
+kind_of_one [] = None
+kind_of_one (t ∷ []) = if is_trivia t.kind then None else Some t.kind
+kind_of_one (t ∷ (u ∷ ts)) = None
+
+-- the kind of the one token that a text is
+abbrev pub lone_kind : List ℕ → Option SyntaxKind
+lone_kind text = option_and_then kind_of_one (tokens_in text)
+
+-- a token of this kind that begins at the byte `start`
+abbrev pub raw_token : ℕ → ExpToken → SyntaxKind → RawToken
+raw_token start t kind = record { kind = kind; range = range_of start (length (string_bytes t.text)); joint = t.joint }
+
+-- the raw tokens, of which the first begins at the byte `start`; none where one of the texts is no token
+abbrev pub raw_from : ℕ → List ExpToken → Option (List RawToken)
+raw_from start [] = Some []
+raw_from start (t ∷ ts) =
+    option_and_then
+    (λ kind. option_map (λ raw. raw_token start t kind ∷ raw) (raw_from (start + length (string_bytes t.text)) ts))
+    (lone_kind (string_bytes t.text))
+
+abbrev pub goal_of_expansion : ExpansionKind → Goal
+goal_of_expansion expansions.Expr = goals.Expr Anywhere
+goal_of_expansion expansions.Items = goals.Items
+goal_of_expansion expansions.Stmts = goals.Stmts
+
+-- what is read of tokens, where each of the texts is one
+abbrev pub raw_reading : (List RawToken → Result Syntax SyntaxError) → Option (List RawToken) → Result Syntax SyntaxError
+raw_reading read None = Err errors.Lex
+raw_reading read (Some raw) = read raw
+
+unfoldable pub expansion_reading : ExpansionKind → List ExpToken → Result Syntax SyntaxError
+expansion_reading kind tokens =
+    short_reading
+    (raw_reading (tree_reading (goal_of_expansion kind) (expansion_text tokens)) (raw_from 0 tokens))
+    (expansion_text tokens)
+
+-- ** What fits tokens: no order of reading is in it.
+
+abbrev pub FitsExpansion : ExpansionKind → List ExpToken → Syntax → Type 0
+FitsExpansion kind tokens syntax =
+    (raw : List RawToken) × (raw_from 0 tokens ≡ Some raw) × FitsTokens (goal_of_expansion kind) (expansion_text tokens) raw syntax
+
+-- what is known of the trees of tokens
+pub record IsTreeOfExpansion (kind : ExpansionKind) (tokens : List ExpToken) (syntax : Syntax) : Type 0 where
+  pub short : length (expansion_text tokens) < 2 ^ 32
+  pub fits : FitsExpansion kind tokens syntax
+  pub spells : source_of syntax ≡ expansion_text tokens
+  pub shallow : depth_of syntax ≤ most_deep
+  pub trimmed_nodes : IsTrimmed (plain.branch syntax.kind syntax.children plain.nothing)
