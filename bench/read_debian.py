@@ -27,7 +27,6 @@ SOLID = re.compile(
     r"//[^\n]*|/\*.*?\*/|b?r(#*)\".*?\"\1|b?\"(?:\\.|[^\"\\])*\"|b?'(?:\\.[^']*|[^\\'\n])'", re.S)
 ATTRIBUTE = r"#\[(?:[^\[\]]|\[[^\[\]]*\])*\]\s*"
 LEFT_OUT = [(name, re.compile(pattern)) for name, pattern in [
-    ("macro_rules", r"\bmacro_rules\s*!\s*\w"),
     ("async, await", r"\basync\b|\bawait\b"),
     ("extern", r"\bextern\b"),
     ("union", r"\bunion\s+\w+\s*[<{]"),
@@ -40,7 +39,7 @@ LEFT_OUT = [(name, re.compile(pattern)) for name, pattern in [
     ("default, auto", r"\b(?:default|auto)\s+(?:fn|impl|unsafe|trait|const|type|async)\b"),
     ("const block", r"\bconst\s*\{"),
     ("bound in parentheses", r"\b(?:dyn|impl)\s*\(|\+\s*\(|\?\s*\("),
-    ("macro call as a type or a pattern", r"(?:->|<)\s*[\w:]+!\s*[\[({]|\btype\s[^;]*=\s*[\w:]+!"),
+    ("macro call as a type or a pattern", r"(?:->|<)\s*[\w:]+!\s*[\[({]|\btype\s[^;]*=\s*[\w:]+!|\w!\s*\[[^\]]*\]\s*>"),
     ("a lone semicolon", r";\s*;|\}\s*;\s*fn\b"),
     ("...", r"\.\.\."),
     ("macro", r"\bmacro\s+\w"),

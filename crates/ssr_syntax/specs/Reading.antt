@@ -132,8 +132,8 @@ AnswersTrimmed (Err e) read text = Refuses e read text
 
 -- ** What fits a text: no order of reading is in it.
 
--- the tree has all tokens of the text, and is one of the goal without white space and comments; each MACRO_RULES begins
--- with its word
+-- the tree has all tokens of the text, and is one of the goal without white space and comments; the word of each
+-- MACRO_RULES is right
 abbrev pub FitsTokens : Goal → List ℕ → List RawToken → Syntax → Type 0
 FitsTokens goal text raw syntax =
     (kind : SyntaxKind) × (kids : Forest)

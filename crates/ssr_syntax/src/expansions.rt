@@ -21,7 +21,7 @@ pub enum ExpansionKind {
     Expr,
     /// Items, as they stand in a file.
     Items,
-    /// Statements, of which the last one may be an expression, and its `;` may lack.
+    /// Statements, then perhaps an expression; a last `let` may lack its `;`.
     Stmts,
 }
 
@@ -30,7 +30,7 @@ pub enum ExpansionKind {
 pub struct ExpToken {
     /// What it is in a text: neither white space nor a comment.
     pub text: String,
-    /// Whether the next one is directly behind it, so that punctuation may be joined of both.
+    /// Whether punctuation follows directly, with which it may be joined.
     pub joint: bool,
     /// Where it comes from. The tree doesn't depend on it.
     pub origin: Option<TextRange>,

@@ -6,7 +6,7 @@ use std::alloc::{AllocError, AllocFailed};
 /// Why a text has no syntax tree.
 #[derive(Debug, Clone, Copy, PartialEq, Eq, Drop)]
 pub enum SyntaxError {
-    /// Some of the text is no token.
+    /// Some of the text is no token, or a text that is handed in as one isn't exactly one.
     Lex,
     /// The tokens aren't those of a tree.
     NoTree,
