@@ -20,3 +20,4 @@ mod ExpansionLaws
 mod Identifiers
 mod IdentTokens
 mod IdentTexts
+mod Decided

@@ -2,6 +2,7 @@
 #![tactic(auto)]
 
 mod expansions;
+mod fitting;
 mod fragments;
 mod grammar;
 pub mod laws;
@@ -17,6 +18,7 @@ mod tree_tokens;
 mod turning;
 
 pub use expansions::{ExpToken, ExpansionKind, parse_tokens};
+pub use fitting::{fits_file, fits_fragment, fits_tokens};
 pub use fragments::Fragment;
 pub use reading::{fragment, parse_file, parse_file_owned};
 pub use ssr_syntax_lex::{LexError, LexFault, RawToken, SyntaxKind, TextRange, lex};

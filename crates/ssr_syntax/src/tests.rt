@@ -5,6 +5,7 @@ mod blocks;
 mod conditions;
 mod expansions;
 mod expressions;
+mod fitting;
 mod fragments;
 mod grammar;
 mod items;

@@ -9,3 +9,4 @@ mod Ranges
 mod Covering
 mod Steps
 mod Nodes
+mod Agreeing

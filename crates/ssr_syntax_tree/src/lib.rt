@@ -5,6 +5,7 @@ mod children;
 mod node_rows;
 mod number;
 mod rows;
+mod same;
 mod tree;
 
 pub use children::Children;

@@ -7,6 +7,7 @@ use crate::children::Children;
 use crate::node_rows::NodeRows;
 use crate::number::{Element, NodeNo, TokenNo};
 use crate::rows::NodeRow;
+use crate::same::{are_same_nodes, are_same_tokens};
 use ssr_syntax_lex::{SyntaxKind, TextRange, TokenRows};
 use std::marker::Model;
 use std::ops::Range;
@@ -56,6 +57,15 @@ impl Tree {
         ensures { result.now ≡ source_of self.now }
     {
         self.source.as_str()
+    }
+
+    /// Whether both are the same tree, of the same text.
+    pub fn is_same(&self, other: &Tree) -> bool
+        ensures { IsTrue result ↔ (self.now ≡ other.now) }
+    {
+        self.source() == other.source()
+            && are_same_tokens(&self.tokens, &other.tokens)
+            && are_same_nodes(&self.nodes, &other.nodes)
     }
 
     /// How many nodes there are, the root among them.

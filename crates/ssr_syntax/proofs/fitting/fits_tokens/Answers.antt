@@ -1,0 +1,13 @@
+use Rattle.std.proofs.Common.{subst, ◌≡◌}
+use Rattle.std.specs.Prelude.{Ok, IfOk}
+use Rattle.ssr_syntax.specs.Expansions.{IsTreeOfExpansion}
+use Rattle.ssr_syntax.proofs.Decided.{decided}
+use Rattle.ssr_syntax.proofs.fitting.fits_tokens.Goals as goal
+
+pub returns : goal.returns
+returns c =
+    let tree = c.args.tree.now in
+    decided c.parse_tokens.result tree (IsTreeOfExpansion c.args.kind c.args.tokens.now tree) c.is_answer.result c.is_answer.ensures
+    (λ read. subst (λ answer. IfOk answer (λ tree. IsTreeOfExpansion c.args.kind c.args.tokens.now tree)) read c.parse_tokens.ensures.sound)
+    (λ is. c.parse_tokens.ensures.complete tree is.short is.fits)
+    (λ is. is.shallow)

@@ -1,0 +1,56 @@
+//! Whether a tree fits its text.
+ghost use Rattle.std.specs.Prelude.{◌≡◌, ◌≢◌, ◌↔◌, Ok, Err, IsTrue, IfOk};
+ghost use Rattle.ssr_syntax.specs.declared.syntax_error.SyntaxError.TheVariants.{Memory};
+ghost use Rattle.ssr_syntax.specs.Reading.{IsTreeOfFile, IsTreeOfFragment};
+ghost use Rattle.ssr_syntax.specs.Expansions.{IsTreeOfExpansion};
+ghost use Rattle.ssr_syntax_tree.specs.Syntax.{source_of};
+
+use crate::expansions::{ExpToken, ExpansionKind, parse_tokens};
+use crate::fragments::Fragment;
+use crate::reading::{fragment, parse_file};
+use crate::syntax_error::SyntaxError;
+use ssr_syntax_tree::Tree;
+use std::alloc::{AllocError, Global};
+
+/// Whether what was read is the tree. Want of memory is `AllocError`, and any other refusal is no tree.
+fn is_answer(read: Result<Tree, SyntaxError>, tree: &Tree) -> Result<bool, AllocError>
+    ensures { IfOk result (λ same. (IsTrue same ↔ (read ≡ Ok tree.now)) × (read ≢ Err Memory)) }
+{
+    match read {
+        Ok(read) => Ok(read.is_same(tree)),
+        Err(SyntaxError::Memory) => Err(AllocError),
+        Err(_) => Ok(false),
+    }
+}
+
+/// Whether the tree is that of its text as a file: it fits, and is no deeper than a tree may be. The text is read again,
+/// which decides it, since no other tree fits. The error is want of memory.
+pub fn fits_file(alloc: Global, tree: &Tree) -> Result<bool, AllocError>
+    ensures { IfOk result (λ fits. IsTrue fits ↔ IsTreeOfFile (source_of tree.now) tree.now) }
+{
+    is_answer(parse_file(alloc, tree.source()), tree)
+}
+
+/// Whether the tree is that of its text as a fragment of this kind, in which no white space stands around it: it fits, and
+/// is no deeper than a tree may be. The text is read again, which decides it. The error is want of memory.
+pub fn fits_fragment(alloc: Global, kind: Fragment, tree: &Tree) -> Result<bool, AllocError>
+    ensures { IfOk result (λ fits. IsTrue fits ↔ IsTreeOfFragment kind (source_of tree.now) tree.now) }
+{
+    match fragment(alloc, kind, tree.source()) {
+        Ok((read, _)) => is_answer(Ok(read), tree),
+        Err(error) => is_answer(Err(error), tree),
+    }
+}
+
+/// Whether the tree is that of tokens that are handed in, as what a macro call of this kind stands for: it fits, and is no
+/// deeper than a tree may be. The tokens are read again, which decides it. The error is want of memory.
+pub fn fits_tokens(
+    alloc: Global,
+    kind: ExpansionKind,
+    tokens: &[ExpToken],
+    tree: &Tree,
+) -> Result<bool, AllocError>
+    ensures { IfOk result (λ fits. IsTrue fits ↔ IsTreeOfExpansion kind tokens.now tree.now) }
+{
+    is_answer(parse_tokens(alloc, kind, tokens), tree)
+}

@@ -1,0 +1,5 @@
+use Rattle.ssr_syntax_tree.proofs.Agreeing.{token_tested}
+use Rattle.ssr_syntax_tree.proofs.same.is_same_token.Goals as goal
+
+pub returns : goal.returns
+returns c = token_tested c.args.one c.args.other c.is.result c.is.ensures.decides.0 c.is.ensures.decides.1
