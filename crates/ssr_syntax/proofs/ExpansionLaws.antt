@@ -1,6 +1,6 @@
 -- Laws of the reading of what a macro call stands for: its trees fit and spell the tokens, and what fits is read.
-use Rattle.std.proofs.Common.{◌≡◌, ◌≢◌, ℕ, ◌^◌, ◌<◌, ◌≤◌, Bool, true, false, if◌then◌else◌, List, length, Some, None, refl, sym, ◌∙◌, ap, subst}
-use Rattle.std.specs.Prelude.{nat_lt, Option, Result, Ok, Err, IfOk}
+use Rattle.std.proofs.Common.{◌≡◌, ◌≢◌, ℕ, ◌^◌, ◌<◌, ◌≤◌, Bool, true, false, if◌then◌else◌, List, length, refl, sym, ◌∙◌, ap, subst}
+use Rattle.std.specs.Prelude.{nat_lt, Result, Ok, Err, IfOk}
 use Rattle.std.proofs.lemmas.Bool.{ltb-true}
 use Rattle.ssr_syntax_lex.specs.declared.tokens.RawToken.{RawToken}
 use Rattle.ssr_syntax_tree.specs.Syntax.{Syntax, nothing, branch}
@@ -11,15 +11,15 @@ use Rattle.ssr_syntax.specs.declared.syntax_error.SyntaxError.{SyntaxError}
 use Rattle.ssr_syntax.specs.declared.syntax_error.SyntaxError.TheVariants as errors
 use Rattle.ssr_syntax.specs.Lossless.{IsTrimmed}
 use Rattle.ssr_syntax.specs.Reading.{tree_reading, Answers, Refuses, FitsTokens, IsThatOrTooDeep}
-use Rattle.ssr_syntax.specs.Expansions.{expansion_text, raw_from, goal_of_expansion, raw_reading, expansion_reading, FitsExpansion, IsTreeOfExpansion}
+use Rattle.ssr_syntax.specs.Expansions.{expansion_text, raw_from, goal_of_expansion, unless_refused, expansion_reading, FitsExpansion, IsTreeOfExpansion}
 use Rattle.ssr_syntax.proofs.ExpansionTokens.{expansion_spells, expansion_outside}
 use Rattle.ssr_syntax.proofs.TextLaws.{Told, tokens_sound, tokens_complete, told_ok, told_err, too_long, short_is, one_tokens}
 use Rattle.ssr_syntax.proofs.Trimmed.{trimmed-root}
 
-raw_ok : (read : List RawToken → Result Syntax SyntaxError) (o : Option (List RawToken)) (s : Syntax) → raw_reading read o ≡ Ok s
-    → (raw : List RawToken) × (o ≡ Some raw) × (read raw ≡ Ok s)
-raw_ok read None s e = cc
-raw_ok read (Some raw) s e = (raw, refl, e)
+raw_ok : (read : List RawToken → Result Syntax SyntaxError) (r : Result (List RawToken) SyntaxError) (s : Syntax) → unless_refused read r ≡ Ok s
+    → (raw : List RawToken) × (r ≡ Ok raw) × (read raw ≡ Ok s)
+raw_ok read (Err e) s h = cc
+raw_ok read (Ok raw) s h = (raw, refl, h)
 
 short_was : (read : Result Syntax SyntaxError) (text : List ℕ) (s : Syntax) (b : Bool) → nat_lt (length text) (2 ^ 32) ≡ b
     → ◌≡◌ {A = Result Syntax SyntaxError} (if b then read else Err errors.TooLong) (Ok s) → (length text < 2 ^ 32) × (read ≡ Ok s)
@@ -31,7 +31,7 @@ unfolding expansion_reading
 expansion_sound kind tokens s e =
     let text : List ℕ = expansion_text tokens in
     let read : List RawToken → Result Syntax SyntaxError = tree_reading (goal_of_expansion kind) text in
-    let was = short_was (raw_reading read (raw_from 0 tokens)) text s (nat_lt (length text) (2 ^ 32)) refl e in
+    let was = short_was (unless_refused read (raw_from 0 tokens)) text s (nat_lt (length text) (2 ^ 32)) refl e in
     let r = raw_ok read (raw_from 0 tokens) s was.1 in
     let raw : List RawToken = r.0 in
     let t = tokens_sound (goal_of_expansion kind) text raw s (expansion_spells tokens raw r.1) r.2 in
@@ -50,18 +50,18 @@ expansion_answers kind tokens (Ok s) h = expansion_sound kind tokens s h
 expansion_answers kind tokens (Err e) h = tt
 
 -- short tokens are read as their raw ones are
-expansion_read : (kind : ExpansionKind) (tokens : List ExpToken) (o : Option (List RawToken)) → length (expansion_text tokens) < 2 ^ 32
-    → raw_from 0 tokens ≡ o
-    → expansion_reading kind tokens ≡ raw_reading (tree_reading (goal_of_expansion kind) (expansion_text tokens)) o
+expansion_read : (kind : ExpansionKind) (tokens : List ExpToken) (r : Result (List RawToken) SyntaxError) → length (expansion_text tokens) < 2 ^ 32
+    → raw_from 0 tokens ≡ r
+    → expansion_reading kind tokens ≡ unless_refused (tree_reading (goal_of_expansion kind) (expansion_text tokens)) r
 unfolding expansion_reading
-expansion_read kind tokens o lt e =
+expansion_read kind tokens r lt e =
     let read : List RawToken → Result Syntax SyntaxError = tree_reading (goal_of_expansion kind) (expansion_text tokens) in
-    short_is (raw_reading read (raw_from 0 tokens)) (expansion_text tokens) lt ∙ ap (raw_reading read) e
+    short_is (unless_refused read (raw_from 0 tokens)) (expansion_text tokens) lt ∙ ap (unless_refused read) e
 
 expansion_told : (kind : ExpansionKind) (tokens : List ExpToken) (s : Syntax) → length (expansion_text tokens) < 2 ^ 32
     → FitsExpansion kind tokens s → Told (expansion_reading kind tokens) s
 expansion_told kind tokens s lt (raw, e, fits) =
-    subst (λ w. Told w s) (sym (expansion_read kind tokens (Some raw) lt e))
+    subst (λ w. Told w s) (sym (expansion_read kind tokens (Ok raw) lt e))
     (tokens_complete (goal_of_expansion kind) (expansion_text tokens) raw s fits)
 
 pub expansion_complete : (kind : ExpansionKind) (tokens : List ExpToken) (s : Syntax) (r : Result Syntax SyntaxError)
@@ -76,21 +76,21 @@ pub expansion_too_long : (kind : ExpansionKind) (tokens : List ExpToken) (e : Sy
     → (e ≡ errors.TooLong) × (2 ^ 32 ≤ length (expansion_text tokens)) → Refuses e (expansion_reading kind tokens) (expansion_text tokens)
 unfolding expansion_reading
 expansion_too_long kind tokens e h =
-    too_long (raw_reading (tree_reading (goal_of_expansion kind) (expansion_text tokens)) (raw_from 0 tokens)) (expansion_text tokens) e h
+    too_long (unless_refused (tree_reading (goal_of_expansion kind) (expansion_text tokens)) (raw_from 0 tokens)) (expansion_text tokens) e h
 
--- one of the texts is no token
+-- one of the texts is refused
 pub expansion_fault : (kind : ExpansionKind) (tokens : List ExpToken) (e : SyntaxError) → length (expansion_text tokens) < 2 ^ 32
-    → (e ≢ errors.Memory → (e ≡ errors.Lex) × (raw_from 0 tokens ≡ None))
+    → (e ≢ errors.Memory → raw_from 0 tokens ≡ Err e)
     → Refuses e (expansion_reading kind tokens) (expansion_text tokens)
 expansion_fault kind tokens e lt h =
-    (λ is. lt, λ no. (let why = h no in expansion_read kind tokens None lt why.1 ∙ ap Err (sym why.0)))
+    (λ is. lt, λ no. expansion_read kind tokens (Err e) lt (h no))
 
 -- what was read of the text that they spell
 pub expansion_given : (kind : ExpansionKind) (tokens : List ExpToken) (goal : Goal) (text : List ℕ) (raw : List RawToken) (r : Result Syntax SyntaxError)
-    → length (expansion_text tokens) < 2 ^ 32 → raw_from 0 tokens ≡ Some raw → goal ≡ goal_of_expansion kind → text ≡ expansion_text tokens
+    → length (expansion_text tokens) < 2 ^ 32 → raw_from 0 tokens ≡ Ok raw → goal ≡ goal_of_expansion kind → text ≡ expansion_text tokens
     → Answers r (tree_reading goal text raw) text → Answers r (expansion_reading kind tokens) (expansion_text tokens)
 expansion_given kind tokens goal text raw r lt e f g h =
-    subst (λ w. Answers r w (expansion_text tokens)) (sym (expansion_read kind tokens (Some raw) lt e))
+    subst (λ w. Answers r w (expansion_text tokens)) (sym (expansion_read kind tokens (Ok raw) lt e))
     (subst (λ l. Answers r (tree_reading (goal_of_expansion kind) l raw) l) g (subst (λ x. Answers r (tree_reading x text raw) text) f h))
 
 -- ** At most one tree fits.

@@ -1,8 +1,7 @@
 -- The tokens of what a macro call stands for: they tile the text that they spell, and their solid tokens are known by
 -- their kinds, with white space behind those that aren't joint.
-use Rattle.std.proofs.Common.{◌≡◌, ℕ, ◌+◌, ◌<◌, Bool, true, false, ◌&&◌, if◌then◌else◌, List, [], ◌∷◌, ◌++◌, length, map, drop, Some, None, refl, sym, ◌∙◌, ap, subst, arith, append_assoc, length-append, reverse}
-use Rattle.std.specs.Prelude.{Option, string_bytes}
-use Rattle.std.specs.Option.{option_map, option_and_then}
+use Rattle.std.proofs.Common.{◌≡◌, ℕ, ◌+◌, ◌<◌, Bool, true, false, ◌&&◌, if◌then◌else◌, List, [], ◌∷◌, ◌++◌, length, map, drop, Some, None, Ok, Err, refl, sym, ◌∙◌, ap, subst, arith, append_assoc, length-append, reverse}
+use Rattle.std.specs.Prelude.{Option, Result, string_bytes}
 use Rattle.std.specs.Str.{IsUtf8, IsCharBoundary}
 use Rattle.std.proofs.lemmas.List.{append-nil, map-append, reverse-append}
 use Rattle.std.proofs.lemmas.Str.{IsUtf8-nil, IsUtf8-append, IsUtf8-string_bytes, IsCharBoundary-at_seam}
@@ -17,7 +16,9 @@ use Rattle.ssr_syntax_forms.specs.declared.tokens.Token.{Token}
 use Rattle.ssr_syntax.specs.declared.expansions.ExpToken.{ExpToken}
 use Rattle.ssr_syntax.specs.Solid.{joined, lengthened, is_joint, joined_two, joined_three, solid_token, solid_tokens}
 use Rattle.ssr_syntax.specs.Reading.{begins_solid}
-use Rattle.ssr_syntax.specs.Expansions.{expansion_text, kind_of_one, lone_kind, raw_token, raw_from}
+use Rattle.ssr_syntax.specs.declared.syntax_error.SyntaxError.{SyntaxError}
+use Rattle.ssr_syntax.specs.declared.syntax_error.SyntaxError.TheVariants as errors
+use Rattle.ssr_syntax.specs.Expansions.{expansion_text, unless_refused, kind_of_one, lone_kind, raw_token, raw_from}
 use Rattle.ssr_syntax.specs.Private.SolidKinds.{with_next, two_of, solid_kind, solid_kinds}
 use Rattle.ssr_syntax.specs.Private.Reading.{IsCut}
 use Rattle.ssr_syntax.specs.Private.Gathering.{behind, spaced, IsFront}
@@ -70,22 +71,24 @@ spaced-append (t ∷ xs) ys =
 
 -- ** One token more is put behind the others.
 
-appended : (raw : List RawToken) (t : RawToken) (o : Option (List RawToken))
-    → option_map (λ more. raw ++ more) (option_map (λ more. t ∷ more) o) ≡ option_map (λ more. (raw ++ (t ∷ [])) ++ more) o
-appended raw t None = refl
-appended raw t (Some more) = ap Some (sym (append_assoc raw (t ∷ []) more))
+-- refused, or read with these in front
+abbrev with_front : List RawToken → Result (List RawToken) SyntaxError → Result (List RawToken) SyntaxError
+with_front raw r = unless_refused (λ more. Ok (raw ++ more)) r
+
+appended : (raw : List RawToken) (t : RawToken) (r : Result (List RawToken) SyntaxError)
+    → with_front raw (with_front (t ∷ []) r) ≡ with_front (raw ++ (t ∷ [])) r
+appended raw t (Err e) = refl
+appended raw t (Ok more) = ap Ok (sym (append_assoc raw (t ∷ []) more))
 
 -- the raw tokens of tokens, of which the first one's kind is known
-raw_next : (start : ℕ) (t : ExpToken) (ts : List ExpToken) (kind : SyntaxKind) → lone_kind (string_bytes t.text) ≡ Some kind
-    → raw_from start (t ∷ ts) ≡ option_map (λ more. raw_token start t kind ∷ more) (raw_from (start + length (string_bytes t.text)) ts)
+raw_next : (start : ℕ) (t : ExpToken) (ts : List ExpToken) (kind : SyntaxKind) → lone_kind (string_bytes t.text) ≡ Ok kind
+    → raw_from start (t ∷ ts) ≡ with_front (raw_token start t kind ∷ []) (raw_from (start + length (string_bytes t.text)) ts)
 raw_next start t ts kind e =
-    ap
-    (option_and_then (λ k. option_map (λ more. raw_token start t k ∷ more) (raw_from (start + length (string_bytes t.text)) ts)))
-    e
+    ap (unless_refused (λ k. with_front (raw_token start t k ∷ []) (raw_from (start + length (string_bytes t.text)) ts))) e
 
 pub front_more : (tokens rest others : List ExpToken) (t : ExpToken) (text : List ℕ) (rows : List TokenRow) (kinds : List SyntaxKind) (raw : List RawToken) (kind : SyntaxKind)
     (next : List ℕ) (next_rows : List TokenRow) (next_kinds : List SyntaxKind)
-    → IsFront tokens rest text rows kinds raw → rest ≡ t ∷ others → lone_kind (string_bytes t.text) ≡ Some kind
+    → IsFront tokens rest text rows kinds raw → rest ≡ t ∷ others → lone_kind (string_bytes t.text) ≡ Ok kind
     → next ≡ text ++ string_bytes t.text → next_rows ≡ rows ++ record { kind = kind; start = length text } ∷ []
     → next_kinds ≡ kinds ++ kind ∷ behind t.joint []
     → (raws : List RawToken) × IsFront tokens others next next_rows next_kinds raws
@@ -100,29 +103,30 @@ front_more tokens rest others t text rows kinds raw kind next next_rows next_kin
         rows_are = f ∙ ap (λ l. l ++ record { kind = kind; start = length text } ∷ []) front.rows_are ∙ sym (map-append row_of raw (one ∷ []));
         kinds_are = g ∙ ap (λ l. l ++ kind ∷ behind t.joint []) front.kinds_are ∙ sym (spaced-append raw (one ∷ []));
         going_on = front.going_on
-            ∙ ap (λ l. option_map (λ more. raw ++ more) (raw_from (length text) l)) is
-            ∙ ap (option_map (λ more. raw ++ more)) (raw_next (length text) t others kind lone)
+            ∙ ap (λ l. with_front raw (raw_from (length text) l)) is
+            ∙ ap (with_front raw) (raw_next (length text) t others kind lone)
             ∙ appended raw one (raw_from (length text + length bytes) others)
-            ∙ ap (λ n. option_map (λ more. (raw ++ (one ∷ [])) ++ more) (raw_from n others)) size;
+            ∙ ap (λ n. with_front (raw ++ (one ∷ [])) (raw_from n others)) size;
       },
     )
 
 -- ** The raw tokens tile the text.
 
 -- what the parts of tokens are
-known_parts : (make : SyntaxKind → RawToken) (o : Option SyntaxKind) (more : Option (List RawToken)) (raw : List RawToken)
-    → option_and_then (λ kind. option_map (λ ts. make kind ∷ ts) more) o ≡ Some raw
-    → (kind : SyntaxKind) × (ts : List RawToken) × (o ≡ Some kind) × (more ≡ Some ts) × (make kind ∷ ts ≡ raw)
-known_parts make None more raw e = cc
-known_parts make (Some kind) None raw e = cc
-known_parts make (Some kind) (Some ts) raw e = (kind, ts, refl, refl, cc)
+known_parts : (make : SyntaxKind → RawToken) (o : Result SyntaxKind SyntaxError) (more : Result (List RawToken) SyntaxError) (raw : List RawToken)
+    → unless_refused (λ kind. unless_refused (λ ts. Ok (make kind ∷ ts)) more) o ≡ Ok raw
+    → (kind : SyntaxKind) × (ts : List RawToken) × (o ≡ Ok kind) × (more ≡ Ok ts) × (make kind ∷ ts ≡ raw)
+known_parts make (Err e) more raw h = cc
+known_parts make (Ok kind) (Err e) raw h = cc
+known_parts make (Ok kind) (Ok ts) raw h = (kind, ts, refl, refl, cc)
 
-solid_one : (b : Bool) (kind other : SyntaxKind) → is_trivia kind ≡ b → ◌≡◌ {A = Option SyntaxKind} (if b then None else Some kind) (Some other)
-    → is_trivia other ≡ false
+solid_one : (b : Bool) (kind other : SyntaxKind) → is_trivia kind ≡ b
+    → ◌≡◌ {A = Result SyntaxKind SyntaxError} (if b then Err errors.NoTree else Ok kind) (Ok other) → is_trivia other ≡ false
 solid_one true kind other e h = cc
 solid_one false kind other e h = let same : kind ≡ other = cc in ap is_trivia (sym same) ∙ e
 
-lone_parts : (o : Option (List RawToken)) (kind : SyntaxKind) → option_and_then kind_of_one o ≡ Some kind
+lone_parts : (o : Option (List RawToken)) (kind : SyntaxKind)
+    → ◌≡◌ {A = Result SyntaxKind SyntaxError} (elim o [ None ↦ Err errors.Lex | Some raw ↦ kind_of_one raw ]) (Ok kind)
     → (t : RawToken) × (o ≡ Some (t ∷ [])) × (is_trivia kind ≡ false)
 lone_parts None kind e = cc
 lone_parts (Some []) kind e = cc
@@ -130,7 +134,7 @@ lone_parts (Some (t ∷ [])) kind e = (t, refl, solid_one (is_trivia t.kind) t.k
 lone_parts (Some (t ∷ (u ∷ ts))) kind e = cc
 
 -- a token isn't empty
-some_bytes : (text : List ℕ) (kind : SyntaxKind) → IsUtf8 text → lone_kind text ≡ Some kind → 0 < length text
+some_bytes : (text : List ℕ) (kind : SyntaxKind) → IsUtf8 text → lone_kind text ≡ Ok kind → 0 < length text
 some_bytes text kind utf8 e =
     let one = lone_parts (tokens_in text) kind e in
     let tiles : Tiles text (one.0 ∷ []) = tokens_tile text (one.0 ∷ []) utf8 one.1 in
@@ -141,7 +145,7 @@ texts_utf8 [] = IsUtf8-nil
 texts_utf8 (t ∷ ts) = IsUtf8-append (string_bytes t.text) (expansion_text ts) (IsUtf8-string_bytes t.text) (texts_utf8 ts)
 
 raw_tiles : (text front : List ℕ) (start : ℕ) (ts : List ExpToken) (raw : List RawToken) → text ≡ front ++ expansion_text ts → length front ≡ start
-    → raw_from start ts ≡ Some raw → TilesFrom text start raw
+    → raw_from start ts ≡ Ok raw → TilesFrom text start raw
 raw_tiles text front start [] raw e f g =
     let none : [] ≡ raw = cc in
     subst (TilesFrom text start) none (sym f ∙ ap length (sym (append-nil front)) ∙ ap length (sym e))
@@ -158,15 +162,15 @@ raw_tiles text front start (t ∷ ts) raw e f g =
           (length-append front bytes ∙ ap (λ n. n + length bytes) f) p.3,
     )
 
-pub expansion_tiles : (ts : List ExpToken) (raw : List RawToken) → raw_from 0 ts ≡ Some raw → Tiles (expansion_text ts) raw
+pub expansion_tiles : (ts : List ExpToken) (raw : List RawToken) → raw_from 0 ts ≡ Ok raw → Tiles (expansion_text ts) raw
 expansion_tiles ts raw e = raw_tiles (expansion_text ts) [] 0 ts raw refl refl e
 
-pub expansion_spells : (ts : List ExpToken) (raw : List RawToken) → raw_from 0 ts ≡ Some raw → spell (expansion_text ts) raw ≡ expansion_text ts
+pub expansion_spells : (ts : List ExpToken) (raw : List RawToken) → raw_from 0 ts ≡ Ok raw → spell (expansion_text ts) raw ≡ expansion_text ts
 expansion_spells ts raw e = tiles_spell (expansion_text ts) raw (expansion_tiles ts raw e)
 
 -- so the text is cut into them
 pub expansion_cut : (ts : List ExpToken) (text : List ℕ) (rows : List TokenRow) (kinds : List SyntaxKind) (solid : List Token) (raw : List RawToken)
-    → raw_from 0 ts ≡ Some raw → text ≡ expansion_text ts → rows ≡ map row_of raw → kinds ≡ spaced raw → solid ≡ solid_kinds kinds
+    → raw_from 0 ts ≡ Ok raw → text ≡ expansion_text ts → rows ≡ map row_of raw → kinds ≡ spaced raw → solid ≡ solid_kinds kinds
     → IsCut text rows solid raw
 expansion_cut ts text rows kinds solid raw e is f g h = record {
   are = f;
@@ -181,7 +185,7 @@ abbrev AllSolid : List RawToken → Type 0
 AllSolid [] = Unit {0}
 AllSolid (t ∷ ts) = (is_trivia t.kind ≡ false) × AllSolid ts
 
-all_solid : (start : ℕ) (ts : List ExpToken) (raw : List RawToken) → raw_from start ts ≡ Some raw → AllSolid raw
+all_solid : (start : ℕ) (ts : List ExpToken) (raw : List RawToken) → raw_from start ts ≡ Ok raw → AllSolid raw
 all_solid start [] raw e = let none : [] ≡ raw = cc in subst AllSolid none tt
 all_solid start (t ∷ ts) raw e =
     let bytes : List ℕ = string_bytes t.text in
@@ -201,7 +205,7 @@ first_solid : (xs : List RawToken) → AllSolid xs → begins_solid xs ≡ true
 first_solid [] h = refl
 first_solid (x ∷ xs) h = simp h.0
 
-pub expansion_outside : (ts : List ExpToken) (raw : List RawToken) → raw_from 0 ts ≡ Some raw → (begins_solid raw && begins_solid (reverse raw)) ≡ true
+pub expansion_outside : (ts : List ExpToken) (raw : List RawToken) → raw_from 0 ts ≡ Ok raw → (begins_solid raw && begins_solid (reverse raw)) ≡ true
 expansion_outside ts raw e =
     let all : AllSolid raw = all_solid 0 ts raw e in
     ap (λ b. b && begins_solid (reverse raw)) (first_solid raw all) ∙ first_solid (reverse raw) (solid-reverse raw all)

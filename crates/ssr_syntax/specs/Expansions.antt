@@ -1,10 +1,9 @@
 -- The reading of what a macro call stands for: tokens that are handed in, each with its text and whether it is joint.
-use Rattle.std.specs.Prelude.{◌≡◌, ℕ, ◌+◌, ◌^◌, ◌<◌, ◌≤◌, if◌then◌else◌, List, [], ◌∷◌, length, flat_map, string_bytes, Option, Some, None, Result, Ok, Err}
-use Rattle.std.specs.Option.{option_map, option_and_then}
+use Rattle.std.specs.Prelude.{◌≡◌, ℕ, ◌+◌, ◌^◌, ◌<◌, ◌≤◌, if◌then◌else◌, List, [], ◌∷◌, length, flat_map, string_bytes, Result, Ok, Err}
 use Rattle.ssr_syntax_lex.specs.declared.kinds.SyntaxKind.{SyntaxKind}
 use Rattle.ssr_syntax_lex.specs.declared.tokens.RawToken.{RawToken}
 use Rattle.ssr_syntax_lex.specs.Kinds.{is_trivia}
-use Rattle.ssr_syntax_lex.specs.Tokens.{tokens as tokens_in, range_of}
+use Rattle.ssr_syntax_lex.specs.Tokens.{range_of}
 use Rattle.ssr_syntax_tree.specs.Syntax as plain
 use Rattle.ssr_syntax_tree.specs.Syntax.{Syntax, depth_of, source_of}
 use Rattle.ssr_syntax_types.specs.declared.goals.Goal.{Goal}
@@ -16,32 +15,37 @@ use Rattle.ssr_syntax.specs.declared.expansions.ExpansionKind.TheVariants as exp
 use Rattle.ssr_syntax.specs.declared.syntax_error.SyntaxError.{SyntaxError}
 use Rattle.ssr_syntax.specs.declared.syntax_error.SyntaxError.TheVariants as errors
 use Rattle.ssr_syntax.specs.Lossless.{IsTrimmed}
-use Rattle.ssr_syntax.specs.Reading.{most_deep, tree_reading, short_reading, FitsTokens}
+use Rattle.ssr_syntax.specs.Reading.{most_deep, tree_reading, lexed_reading, short_reading, FitsTokens}
 
 -- the text that tokens spell
 abbrev pub expansion_text : List ExpToken → List ℕ
 expansion_text tokens = flat_map (λ t. string_bytes t.text) tokens
 
--- the kind of one token that is neither white space nor a comment; none where there are several or none
-abbrev pub kind_of_one : List RawToken → Option SyntaxKind
-kind_of_one [] = None
-kind_of_one (t ∷ []) = if is_trivia t.kind then None else Some t.kind
-kind_of_one (t ∷ (u ∷ ts)) = None
+-- what is done with an answer; a refusal stays
+abbrev pub unless_refused : {A B : Type 0} → (A → Result B SyntaxError) → Result A SyntaxError → Result B SyntaxError
+unless_refused go_on (Ok answer) = go_on answer
+unless_refused go_on (Err e) = Err e
+
+-- the kind of one token; several, none, white space and a comment are refused
+abbrev pub kind_of_one : List RawToken → Result SyntaxKind SyntaxError
+kind_of_one [] = Err errors.NoTree
+kind_of_one (t ∷ []) = if is_trivia t.kind then Err errors.NoTree else Ok t.kind
+kind_of_one (t ∷ (u ∷ ts)) = Err errors.NoTree
 
 -- the kind of the one token that a text is
-abbrev pub lone_kind : List ℕ → Option SyntaxKind
-lone_kind text = option_and_then kind_of_one (tokens_in text)
+abbrev pub lone_kind : List ℕ → Result SyntaxKind SyntaxError
+lone_kind text = lexed_reading kind_of_one text
 
 -- a token of this kind that begins at the byte `start`
 abbrev pub raw_token : ℕ → ExpToken → SyntaxKind → RawToken
 raw_token start t kind = record { kind = kind; range = range_of start (length (string_bytes t.text)); joint = t.joint }
 
--- the raw tokens, of which the first begins at the byte `start`; none where one of the texts is no token
-abbrev pub raw_from : ℕ → List ExpToken → Option (List RawToken)
-raw_from start [] = Some []
+-- the raw tokens, of which the first begins at the byte `start`, or why the first text that is none is refused
+abbrev pub raw_from : ℕ → List ExpToken → Result (List RawToken) SyntaxError
+raw_from start [] = Ok []
 raw_from start (t ∷ ts) =
-    option_and_then
-    (λ kind. option_map (λ raw. raw_token start t kind ∷ raw) (raw_from (start + length (string_bytes t.text)) ts))
+    unless_refused
+    (λ kind. unless_refused (λ raw. Ok (raw_token start t kind ∷ raw)) (raw_from (start + length (string_bytes t.text)) ts))
     (lone_kind (string_bytes t.text))
 
 abbrev pub goal_of_expansion : ExpansionKind → Goal
@@ -49,22 +53,17 @@ goal_of_expansion expansions.Expr = goals.Expr Anywhere
 goal_of_expansion expansions.Items = goals.Items
 goal_of_expansion expansions.Stmts = goals.Stmts
 
--- what is read of tokens, where each of the texts is one
-abbrev pub raw_reading : (List RawToken → Result Syntax SyntaxError) → Option (List RawToken) → Result Syntax SyntaxError
-raw_reading read None = Err errors.Lex
-raw_reading read (Some raw) = read raw
-
 unfoldable pub expansion_reading : ExpansionKind → List ExpToken → Result Syntax SyntaxError
 expansion_reading kind tokens =
     short_reading
-    (raw_reading (tree_reading (goal_of_expansion kind) (expansion_text tokens)) (raw_from 0 tokens))
+    (unless_refused (tree_reading (goal_of_expansion kind) (expansion_text tokens)) (raw_from 0 tokens))
     (expansion_text tokens)
 
 -- ** What fits tokens: no order of reading is in it.
 
 abbrev pub FitsExpansion : ExpansionKind → List ExpToken → Syntax → Type 0
 FitsExpansion kind tokens syntax =
-    (raw : List RawToken) × (raw_from 0 tokens ≡ Some raw) × FitsTokens (goal_of_expansion kind) (expansion_text tokens) raw syntax
+    (raw : List RawToken) × (raw_from 0 tokens ≡ Ok raw) × FitsTokens (goal_of_expansion kind) (expansion_text tokens) raw syntax
 
 -- what is known of the trees of tokens
 pub record IsTreeOfExpansion (kind : ExpansionKind) (tokens : List ExpToken) (syntax : Syntax) : Type 0 where

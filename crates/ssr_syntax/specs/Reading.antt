@@ -77,7 +77,7 @@ tree_reading goal text raw =
     elim (reading goal (solid_tokens raw)) [ Ok z ↦ one_tree z (pieces text raw) | Err e ↦ Err (error_of e) ]
 
 -- what is read of a text by its tokens; nothing where it has none
-abbrev pub lexed_reading : (List RawToken → Result Syntax SyntaxError) → List ℕ → Result Syntax SyntaxError
+abbrev pub lexed_reading : {A : Type 0} → (List RawToken → Result A SyntaxError) → List ℕ → Result A SyntaxError
 lexed_reading read text = elim (tokens text) [ None ↦ Err errors.Lex | Some raw ↦ read raw ]
 
 -- of a text shorter than 2^32 bytes

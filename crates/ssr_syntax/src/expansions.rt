@@ -65,7 +65,7 @@ fn check_length(tokens: &[ExpToken]) -> Result<(), SyntaxError>
     Ok(())
 }
 
-/// The kind of the one token that a text is. A text of several or of none, and white space or a comment, is `Lex`.
+/// The kind of the one token that a text is. A text of several or of none, and white space or a comment, is `NoTree`.
 fn lone_kind(alloc: Global, text: &str) -> Result<SyntaxKind, SyntaxError>
     requires { length text.now < 2 ^ 32 }
     ensures { IsLoneKind text.now result }
@@ -73,7 +73,7 @@ fn lone_kind(alloc: Global, text: &str) -> Result<SyntaxKind, SyntaxError>
     let rows = token_rows(alloc, text)?;
     match rows.kinds() {
         [kind] if !kind.is_trivia() => Ok(*kind),
-        _ => Err(SyntaxError::Lex),
+        _ => Err(SyntaxError::NoTree),
     }
 }
 
@@ -98,7 +98,7 @@ fn push_kind(kinds: &mut Vec<SyntaxKind>, kind: SyntaxKind, joint: bool) -> Resu
     Ok(())
 }
 
-/// Puts tokens together whose texts are shorter than 2^32 bytes. `Lex` where one of the texts is no token.
+/// Puts tokens together whose texts are shorter than 2^32 bytes, or tells why the first text that is no token is refused.
 fn gather(alloc: Global, tokens: &[ExpToken]) -> Result<Gathered, SyntaxError>
     requires { length (expansion_text tokens.now) < 2 ^ 32 }
     ensures { AreGathered tokens.now result }
@@ -119,8 +119,9 @@ fn gather(alloc: Global, tokens: &[ExpToken]) -> Result<Gathered, SyntaxError>
 }
 
 /// The syntax tree of tokens that are handed in. Its source is their texts, one after another with nothing between, and
-/// its root is a MACRO_ITEMS for items, a MACRO_STMTS for statements, and otherwise the expression. A text that isn't one
-/// token, and one of white space or of a comment, is `Lex`.
+/// its root is a MACRO_ITEMS for items, a MACRO_STMTS for statements, and otherwise the expression. The first text that is
+/// no token is refused before the tree is looked for: `Lex` where it begins none, `NoTree` where it is several or none, white
+/// space or a comment.
 pub fn parse_tokens(
     alloc: Global,
     kind: ExpansionKind,

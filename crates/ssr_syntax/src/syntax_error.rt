@@ -6,9 +6,9 @@ use std::alloc::{AllocError, AllocFailed};
 /// Why a text has no syntax tree.
 #[derive(Debug, Clone, Copy, PartialEq, Eq, Drop)]
 pub enum SyntaxError {
-    /// Some of the text is no token, or a text that is handed in as one isn't exactly one.
+    /// Some of the text is no token.
     Lex,
-    /// The tokens aren't those of a tree.
+    /// The tokens aren't those of a tree, or a text that is handed in as one token is several or none.
     NoTree,
     /// The tree's deepest node would have more than 1,024 nodes above it, or the text is nested so deeply that it was read
     /// no further, and may have no tree.

@@ -176,9 +176,23 @@ fn two_angle_brackets_close_two_lists(rt: HostRuntime) -> Result<(), Fail> {
 #[test]
 fn each_text_is_one_token(rt: HostRuntime) -> Result<(), Fail> {
     let alloc = rt.alloc();
-    for text in [
-        "", " ", "\n", "// c", "/* c */", "1 ", " 1", "a b", "==", "::", "-1", "\"", "'", "\\",
-        "1/**/",
+    for (text, want) in [
+        ("", SyntaxError::NoTree),
+        (" ", SyntaxError::NoTree),
+        ("\n", SyntaxError::NoTree),
+        ("// c", SyntaxError::NoTree),
+        ("/* c */", SyntaxError::NoTree),
+        ("1 ", SyntaxError::NoTree),
+        (" 1", SyntaxError::NoTree),
+        ("a b", SyntaxError::NoTree),
+        ("==", SyntaxError::NoTree),
+        ("::", SyntaxError::NoTree),
+        ("-1", SyntaxError::NoTree),
+        ("1/**/", SyntaxError::NoTree),
+        ("\"", SyntaxError::Lex),
+        ("'", SyntaxError::Lex),
+        ("\\", SyntaxError::Lex),
+        ("a \"", SyntaxError::Lex),
     ] {
         for texts in [[(text, false), ("1", false)], [("1", false), (text, false)]] {
             let tokens = tokens_from(alloc, &texts)?;
@@ -188,9 +202,25 @@ fn each_text_is_one_token(rt: HostRuntime) -> Result<(), Fail> {
                 ExpansionKind::Stmts,
             ] {
                 let answer = parse_tokens(alloc, kind, &tokens);
-                assert_eq!(rt; answer.err(), Some(SyntaxError::Lex), "{text}");
+                assert_eq!(rt; answer.err(), Some(want), "{text}");
             }
         }
+    }
+    Ok(())
+}
+
+#[test]
+fn the_first_text_that_is_no_token_is_told(rt: HostRuntime) -> Result<(), Fail> {
+    let alloc = rt.alloc();
+    for (first, second, want) in [
+        ("a b", "'", SyntaxError::NoTree),
+        ("'", "a b", SyntaxError::Lex),
+        // No tree would have the closing bracket.
+        (")", "'", SyntaxError::Lex),
+    ] {
+        let tokens = tokens_from(alloc, &[(first, false), (second, false)])?;
+        let answer = parse_tokens(alloc, ExpansionKind::Expr, &tokens);
+        assert_eq!(rt; answer.err(), Some(want), "{first} {second}");
     }
     Ok(())
 }

@@ -1,4 +1,4 @@
-use Rattle.std.proofs.Common.{◌≡◌, ◌+◌, ◌^◌, ◌-◌, length}
+use Rattle.std.proofs.Common.{◌≡◌, ◌+◌, ◌^◌, length}
 use Rattle.ssr_syntax.specs.Expansions.{expansion_text}
 use Rattle.ssr_syntax.proofs.expansions.check_length.Given as goal
 

@@ -1,7 +1,6 @@
-use Rattle.std.proofs.Common.{◌≡◌, ◌++◌, List, length, map}
+use Rattle.std.proofs.Common.{List, length}
 use Rattle.std.specs.Prelude.{string_bytes}
 use Rattle.ssr_syntax_lex.specs.declared.tokens.RawToken.{RawToken}
-use Rattle.ssr_syntax_lex.specs.Tokens.{row_of}
 use Rattle.ssr_syntax.specs.Private.Gathering.{IsFront}
 use Rattle.ssr_syntax.proofs.expansions.gather.Given as goal
 

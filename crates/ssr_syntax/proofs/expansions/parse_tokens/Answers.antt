@@ -1,4 +1,4 @@
-use Rattle.std.proofs.Common.{◌≡◌, ◌∙◌, ap}
+use Rattle.std.proofs.Common.{◌∙◌, ap}
 use Rattle.std.specs.Prelude.{string_bytes}
 use Rattle.ssr_syntax.specs.Expansions.{expansion_text, expansion_reading}
 use Rattle.ssr_syntax.specs.Reading.{Answers}

@@ -1,4 +1,4 @@
-use Rattle.std.proofs.Common.{subst, sym, ◌≡◌, ◌<◌, ◌^◌, length}
+use Rattle.std.proofs.Common.{subst, sym, ◌<◌, ◌^◌, length}
 use Rattle.std.specs.Prelude.{IfOk, Ok, Err}
 use Rattle.ssr_syntax_tree.specs.Syntax.{source_of}
 use Rattle.ssr_syntax.specs.Reading.{IsTreeOfFragment, FitsFragment}

@@ -1,5 +1,5 @@
-use Rattle.std.proofs.Common.{subst, ◌≡◌}
-use Rattle.std.specs.Prelude.{Ok, IfOk}
+use Rattle.std.proofs.Common.{subst}
+use Rattle.std.specs.Prelude.{IfOk}
 use Rattle.ssr_syntax.specs.Expansions.{IsTreeOfExpansion}
 use Rattle.ssr_syntax.proofs.Decided.{decided}
 use Rattle.ssr_syntax.proofs.fitting.fits_tokens.Goals as goal

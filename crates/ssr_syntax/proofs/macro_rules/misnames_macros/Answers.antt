@@ -1,4 +1,4 @@
-use Rattle.std.proofs.Common.{arith, ap, sym, ◌∙◌}
+use Rattle.std.proofs.Common.{arith, sym, ◌∙◌}
 use Rattle.ssr_syntax_tree.proofs.Shared.{node_found, node_passed, none_found}
 use Rattle.ssr_syntax.specs.MacroRules.{is_misnamed, misnames_macros}
 use Rattle.ssr_syntax.proofs.macro_rules.misnames_macros.Goals as goal
