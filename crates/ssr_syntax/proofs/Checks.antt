@@ -37,7 +37,7 @@ use Rattle.ssr_syntax_exprs.specs.Conditions as cond
 use Rattle.ssr_syntax_items.specs.Statements as stmts
 use Rattle.ssr_syntax_items.specs.Statements.{stmt_first}
 use Rattle.ssr_syntax.specs.Grammar.{grammar}
-use Rattle.ssr_syntax_forms.proofs.Shared.{Tables, keeps, makes_node, lone_marks, remembers, covered, lower_ranks, any_node}
+use Rattle.ssr_syntax_forms.proofs.Shared.{Tables, keeps, makes_node, lone_marks, remembers, covered, lower_ranks}
 use Rattle.ssr_syntax.proofs.Operands as operands
 use Rattle.ssr_syntax.proofs.Identifiers as idents
 
@@ -100,8 +100,6 @@ first_of = elim [
 
 abbrev pub tables : Tables Goal
 tables = record {
-  core = any_node;
-  is_dead = λ goal. false;
   is_empty = elim [ File ↦ true | Items ↦ true | Stmts ↦ true | _ ↦ false ];
   first = first_of;
   follow = elim [
@@ -137,7 +135,7 @@ checks t goal form =
     ∷ remembers t form
     ∷ lone_marks form
     ∷ operands.is_bounded (operands.made operands.bound form operands.start) (operands.bound goal)
-    ∷ idents.is_clean (idents.place_behind form idents.empty)
+    ∷ idents.is_clean (idents.sketch_behind form idents.empty)
     ∷ []
 
 abbrev all_true : List Bool → Bool

@@ -18,7 +18,7 @@ use Rattle.ssr_syntax_forms.specs.Fitting as rules
 use Rattle.ssr_syntax.specs.Operands.{row_in, of_ranges, of_operator, of_first_token, precedence, FirstHasAtMost, AllHaveLess, Binds, AreOperands, HasOperands, KeepsPrecedence}
 use Rattle.ssr_syntax_exprs.specs.Expressions.{assignments, ranks, at_most}
 use Rattle.ssr_syntax.specs.Grammar.{grammar}
-use Rattle.ssr_syntax_forms.proofs.Shared.{every, every_mem, one_taken, FitsBelow, Step, Repeats, Fits, FitsGoal, at_some_level}
+use Rattle.ssr_syntax_forms.proofs.Shared.{every, every_mem, one_taken, FitsBelow, Step, Repeats, FitsForm, FitsGoal, at_some_level}
 
 -- ** Sketches of what is made since the mark.
 
@@ -463,7 +463,7 @@ abbrev AreBounded : (Goal → ℕ) → FitsBelow Goal → Type 0
 AreBounded bound fits = (goal : Goal) (y : Forest) (us rest : List Token) → fits goal y us rest → IsAt (of_node (bound goal)) y
 
 keeps : (bound : Goal → ℕ) (fits : FitsBelow Goal) → AreBounded bound fits → (form : Form Goal) (p q : Sketch) → made bound form p ≡ Some q
-    → (x z : Forest) (us rest : List Token) → Fits fits form x z us rest → IsAt p x → IsAt q z
+    → (x z : Forest) (us rest : List Token) → FitsForm fits form x z us rest → IsAt p x → IsAt q z
 keeps bound fits h (one whole ks) p q e x z us rest (front, others, _, is, _, z_is) at =
     let kind : SyntaxKind = taken_as whole front in
     let l : Forest = leaf kind (front ∷ others) done in
@@ -491,9 +491,9 @@ keeps bound fits h (many test g) p q e x z us rest (count, turns_taken) at =
     let w : Sketch = wider p a.0 in
     let b = went (made bound g w) (if_within w) q a.2 in
     let c = was_within w b.0 q b.2 in
-    let turn : (x z : Forest) (us rest : List Token) → Fits fits g x z us rest → IsAt w x → IsAt w z =
+    let turn : (x z : Forest) (us rest : List Token) → FitsForm fits g x z us rest → IsAt w x → IsAt w z =
     λ x z us rest f at. within_stands b.0 w z c.0 (keeps bound fits h g w b.0 b.1 x z us rest f at) in
-    subst (λ m. IsAt m z) c.1 (repeats_at (Fits fits g) w turn count x z us rest turns_taken (wider_left p a.0 x at))
+    subst (λ m. IsAt m z) c.1 (repeats_at (FitsForm fits g) w turn count x z us rest turns_taken (wider_left p a.0 x at))
 keeps bound fits h (look want test) p q e x z us rest (_, z_is, _) at = subst (λ m. IsAt m z) (some_one e) (subst (IsAt p) (sym z_is) at)
 keeps bound fits h (check condition) p q e x z us rest (_, z_is, _) at = subst (λ m. IsAt m z) (some_one e) (subst (IsAt p) (sym z_is) at)
 

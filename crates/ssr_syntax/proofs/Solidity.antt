@@ -8,7 +8,7 @@ use Rattle.ssr_syntax_types.specs.declared.goals.Goal.{Goal}
 use Rattle.ssr_syntax_forms.specs.Trees.{Forest, done, leaf, tree, join, spell}
 use Rattle.ssr_syntax_forms.specs.Written.{leaves}
 use Rattle.ssr_syntax_forms.specs.Forms.{Productions, more, taken_as}
-use Rattle.ssr_syntax_forms.proofs.Shared.{FitsGoal, IsKept, any_token, any_node, anything, walk_goals}
+use Rattle.ssr_syntax_forms.proofs.Shared.{FitsGoal, IsKept, walk_goals}
 use Rattle.ssr_syntax.proofs.Laid.{AreSolid}
 
 -- a token of the grammar is a token, whole or its first part
@@ -27,10 +27,10 @@ join_taken (leaf kind us x) y h k = (h.0, join_taken x y h.1 k)
 join_taken (tree kind kids x) y h k = (h.0, join_taken x y h.1 k)
 
 -- in what fits a form each token is taken so, if it is in what was made before
-abbrev keeps_taken : IsKept any_token any_node (λ x z us rest. AreTaken x → AreTaken z)
+abbrev keeps_taken : IsKept (λ x z us rest. AreTaken x → AreTaken z)
 keeps_taken = record {
-  token = λ whole ks t us rest ok is size before. ((whole, t, us, refl, refl, size), tt);
-  node = λ kind x rest ok before. (before, tt);
+  token = λ whole ks t us rest is size before. ((whole, t, us, refl, refl, size), tt);
+  node = λ kind x rest before. (before, tt);
   beside = λ x y us rest here before. join_taken x y before (here tt);
   stay = λ x rest before. before;
   over = λ x y z us vs rest first second before. second (first before);
@@ -38,7 +38,7 @@ keeps_taken = record {
 
 pub goals_taken : (grammar : Productions Goal) (n : ℕ) (goal : Goal) (y : Forest) (us rest : List Token) → FitsGoal grammar n goal y us rest → AreTaken y
 goals_taken grammar n goal y us rest f =
-    walk_goals any_token any_node (λ x z us rest. AreTaken x → AreTaken z) keeps_taken grammar (λ asked. anything (grammar asked)) n goal y us rest f tt
+    walk_goals (λ x z us rest. AreTaken x → AreTaken z) keeps_taken grammar n goal y us rest f tt
 
 -- ** Solid tokens.
 

@@ -4,14 +4,14 @@ use Rattle.std.proofs.lemmas.List.{append-nil}
 use Rattle.ssr_syntax_forms.specs.declared.tokens.Token.{Token}
 use Rattle.ssr_syntax_types.specs.declared.goals.Goal.{Goal}
 use Rattle.ssr_syntax_forms.specs.declared.fault.Fault.TheVariants as faults
-use Rattle.ssr_syntax_forms.specs.Trees.{Forest, done, leaf, tree, spell}
+use Rattle.ssr_syntax_forms.specs.Trees.{Forest, done, spell}
 use Rattle.ssr_syntax_forms.proofs.Shared.{IsShallow}
 use Rattle.ssr_syntax_forms.specs.Fitting.{Fits}
 use Rattle.ssr_syntax_forms.specs.Forms.{SoFar, so_far, ◌>>=◌}
 use Rattle.ssr_syntax_forms.specs.Levels.{read_goal}
 use Rattle.ssr_syntax.specs.Grammar.{grammar}
 use Rattle.ssr_syntax.specs.Reading.{most_high, most_levels, whole, reading}
-use Rattle.ssr_syntax_forms.proofs.Shared.{any_node, FitsGoal, at_some_level, bind_ok, ok_one, IsCore, cut_goals, lower_ranked, complete_goal, goals_spell, goals_sound}
+use Rattle.ssr_syntax_forms.proofs.Shared.{FitsGoal, at_some_level, bind_ok, ok_one, cut_goals, lower_ranked, complete_goal, goals_spell, goals_sound}
 use Rattle.ssr_syntax.proofs.Checks.{tables, goal_keeps, goal_covered, goal_ranked, goal_may_end}
 
 whole_ok : (r : SoFar) (rest : List Token) (z : Forest) → r.rest ≡ rest → whole (so_far r.made rest) ≡ Ok z → (rest ≡ []) × (r.made ≡ z)
@@ -35,17 +35,11 @@ reading_spells goal ts z e = goals_spell grammar most_levels goal z ts [] (readi
 
 -- ** What fits is read.
 
--- the check's claims are meant of all kinds
-all_core : (z : Forest) → IsCore any_node z
-all_core done = tt
-all_core (leaf kind us x) = all_core x
-all_core (tree kind kids x) = (refl, all_core kids, all_core x)
-
 at_level : (n : ℕ) (goal : Goal) (ts : List Token) (z : Forest) → FitsGoal grammar n goal z ts []
     → read_goal grammar n goal ts ≡ Ok (so_far z [])
 at_level n goal ts z f =
     subst (λ w. read_goal grammar n goal w ≡ Ok (so_far z [])) (append-nil ts)
-    (complete_goal tables grammar goal_keeps n goal z ts [] f (all_core z) (goal_may_end goal))
+    (complete_goal tables grammar goal_keeps n goal z ts [] f (goal_may_end goal))
 
 -- what is read at a number of levels is read at each greater one
 above : (n m : ℕ) (goal : Goal) (ts : List Token) (z : Forest) → n ≤ m → FitsGoal grammar n goal z ts []

@@ -2,7 +2,7 @@
 use Rattle.std.specs.Prelude.{ℕ, ◌+◌, ◌*◌}
 use Rattle.ssr_syntax_types.specs.declared.goals.Goal.{Goal}
 use Rattle.ssr_syntax.specs.Grammar.{grammar}
-use Rattle.ssr_syntax_forms.specs.Decision.{Places, decide_at}
+use Rattle.ssr_syntax_forms.specs.Decision.{Stages, decide_at}
 use Rattle.ssr_syntax_forms.specs.Trees.{height}
 
 -- how many goals stand in a row at most, with no node between them
@@ -10,5 +10,5 @@ abbrev pub goals_in_a_row : ℕ
 goals_in_a_row = 1
 
 -- what is made is one of the goal
-abbrev pub decide_fits : Goal → Places
+abbrev pub decide_fits : Goal → Stages
 decide_fits goal r = decide_at grammar (height r.made * goals_in_a_row + goals_in_a_row) goal r

@@ -1,4 +1,8 @@
 //! Texts that are no whole file.
+ghost use Rattle.std.specs.Prelude.{◌≡◌};
+ghost use Rattle.ssr_syntax.specs.Reading.{goal_of};
+
+use ssr_syntax_types::goals::{ExprPlace, Goal, ItemPlace, PatPlace};
 
 /// What a text is read as.
 #[derive(Debug, Clone, Copy, PartialEq, Eq)]
@@ -13,4 +17,19 @@ pub enum Fragment {
     Pat,
     /// A statement, whose `;` may lack.
     Stmt,
+}
+
+impl Fragment {
+    /// The goal that such a text is read as.
+    pub(crate) fn goal(self) -> Goal
+        ensures { result ≡ goal_of self }
+    {
+        match self {
+            Fragment::Expr => Goal::Expr(ExprPlace::Anywhere),
+            Fragment::Ty => Goal::Ty,
+            Fragment::Item => Goal::Item(ItemPlace::InModule),
+            Fragment::Pat => Goal::Pat(PatPlace::TopLevel),
+            Fragment::Stmt => Goal::Stmt,
+        }
+    }
 }

@@ -2,7 +2,7 @@
 ghost use Rattle.std.specs.Prelude.{◌≡◌, ◌<◌, ◌≤◌, ◌^◌, List, length, Some, IfOk, IfErr, reverse, ◌&&◌, string_bytes};
 ghost use Rattle.ssr_syntax.specs.declared.syntax_error.SyntaxError.TheVariants.{TooLong};
 ghost use Rattle.ssr_syntax_lex.specs.Tokens.{tokens, rows_in};
-ghost use Rattle.ssr_syntax.specs.Reading.{Answers, AnswersTrimmed, goal_of, tree_reading, file_reading, fragment_reading, FitsFile, FitsFragment, IsTreeOfFile, IsTreeOfFragment, IsThatOrTooDeep};
+ghost use Rattle.ssr_syntax.specs.Reading.{Answers, AnswersTrimmed, tree_reading, file_reading, fragment_reading, FitsFile, FitsFragment, IsTreeOfFile, IsTreeOfFragment, IsThatOrTooDeep};
 ghost use Rattle.ssr_syntax.specs.Private.Reading.{IsLexed, IsCut};
 ghost use Rattle.ssr_syntax_lex.specs.declared.tokens.RawToken.{RawToken};
 ghost use Rattle.ssr_syntax.specs.Private.SolidKinds.{kinds_begin_solid};
@@ -18,7 +18,7 @@ use crate::tree_tokens::{ends, tree_tokens};
 use ssr_syntax_forms::Token;
 use ssr_syntax_lex::{LexError, SyntaxKind, TokenRows, lex_rows};
 use ssr_syntax_tree::Tree;
-use ssr_syntax_types::goals::{ExprPlace, Goal, ItemPlace, PatPlace};
+use ssr_syntax_types::goals::Goal;
 use std::alloc::Global;
 
 /// Refuses a text that isn't shorter than 2^32 bytes.
@@ -108,20 +108,6 @@ pub fn parse_file_owned(alloc: Global, text: String) -> Result<Tree, SyntaxError
 {
     let rows = token_rows(alloc, text.as_str())?;
     read_tokens(alloc, Goal::File, text, rows)
-}
-
-impl Fragment {
-    fn goal(self) -> Goal
-        ensures { result ≡ goal_of self }
-    {
-        match self {
-            Fragment::Expr => Goal::Expr(ExprPlace::Anywhere),
-            Fragment::Ty => Goal::Ty,
-            Fragment::Item => Goal::Item(ItemPlace::InModule),
-            Fragment::Pat => Goal::Pat(PatPlace::TopLevel),
-            Fragment::Stmt => Goal::Stmt,
-        }
-    }
 }
 
 /// Whether the first and the last token are neither white space nor comments.

@@ -43,11 +43,8 @@ abbrev pub may_be : Bool → Test → SyntaxKind → Bool
 may_be true test k = may_pass test k
 may_be false test k = not (must_pass test k)
 
--- ** What is claimed of each goal. Only trees whose nodes are of core kinds are meant.
+-- ** What is claimed of each goal.
 pub record Tables (Goal : Type 0) : Type 0 where
-  pub core : SyntaxKind → Bool
-  -- no tree fits
-  pub is_dead : Goal → Bool
   -- a tree without a token may fit: nullable
   pub is_empty : Goal → Bool
   -- the kinds that begin a tree: FIRST
@@ -58,19 +55,6 @@ pub record Tables (Goal : Type 0) : Type 0 where
   pub rank : Goal → ℕ
   pub ranks : ℕ
 
--- no tree fits
-abbrev pub dead : {Goal : Type 0} → Tables Goal → Form Goal → Bool
-dead t (one whole ks) = false
-dead t (child asked) = t.is_dead asked
-dead t (mark f) = dead t f
-dead t (seal kind) = not (t.core kind)
-dead t (f then g) = dead t f || dead t g
-dead t nothing = false
-dead t (choose test f g) = dead t f && dead t g
-dead t (many test f) = false
-dead t (look want test) = false
-dead t (check condition) = false
-
 -- no token may be taken
 abbrev pub empty : {Goal : Type 0} → Tables Goal → Form Goal → Bool
 empty t (one whole ks) = false
@@ -79,7 +63,7 @@ empty t (mark f) = empty t f
 empty t (seal kind) = true
 empty t (f then g) = empty t f && empty t g
 empty t nothing = true
-empty t (choose test f g) = (not (dead t f) && empty t f) || (not (dead t g) && empty t g)
+empty t (choose test f g) = empty t f || empty t g
 empty t (many test f) = true
 empty t (look want test) = true
 empty t (check condition) = true
@@ -92,7 +76,7 @@ passing t (mark f) follow = passing t f follow
 passing t (seal kind) follow = follow
 passing t (f then g) follow = passing t f (passing t g follow)
 passing t nothing follow = follow
-passing t (choose test f g) follow = (if dead t f then [] else passing t f follow) ++ (if dead t g then [] else passing t g follow)
+passing t (choose test f g) follow = passing t f follow ++ passing t g follow
 passing t (many test f) follow = follow
 passing t (look want test) follow = those (may_be want test) follow
 passing t (check condition) follow = follow
@@ -105,8 +89,8 @@ firsts t (mark f) = firsts t f
 firsts t (seal kind) = []
 firsts t (f then g) = firsts t f ++ passing t f (firsts t g)
 firsts t nothing = []
-firsts t (choose test f g) = (if dead t f then [] else firsts t f) ++ (if dead t g then [] else firsts t g)
-firsts t (many test f) = if dead t f then [] else firsts t f
+firsts t (choose test f g) = firsts t f ++ firsts t g
+firsts t (many test f) = firsts t f
 firsts t (look want test) = []
 firsts t (check condition) = []
 
@@ -152,20 +136,18 @@ asks want test _ = false
 -- `stops` holds of: so what follows a loop may ask itself that the loop's test fails.
 abbrev pub decides_before : {Goal : Type 0} → Tables Goal → (Test → Bool) → Form Goal → List SyntaxKind → Bool
 decides_before t stops (one whole ks) follow = true
-decides_before t stops (child goal) follow = t.is_dead goal || subset follow (t.follow goal)
+decides_before t stops (child goal) follow = subset follow (t.follow goal)
 decides_before t stops (mark f) follow = decides_before t stops f follow
 decides_before t stops (seal kind) follow = true
 decides_before t stops (f then g) follow =
-    (dead t f || dead t g)
-    || (decides_before t stops g follow && decides_before t (λ test. asks false test g) f (starts t g follow))
+    decides_before t stops g follow && decides_before t (λ test. asks false test g) f (starts t g follow)
 decides_before t stops nothing follow = true
 decides_before t stops (choose test f g) follow =
-    (dead t f || (decides_before t stops f follow && (asks true test f || decides_on test (starts t f follow))))
-    && (dead t g || (decides_before t stops g follow && (asks false test g || decides_off test (starts t g follow))))
+    (decides_before t stops f follow && (asks true test f || decides_on test (starts t f follow)))
+    && (decides_before t stops g follow && (asks false test g || decides_off test (starts t g follow)))
 decides_before t stops (many test f) follow =
     (stops test || decides_off test follow)
-    && (dead t f
-    || ((decides_before t (λ other. false) f (firsts t f ++ follow) && not (empty t f)) && (asks true test f || decides_on test (firsts t f))))
+    && ((decides_before t (λ other. false) f (firsts t f ++ follow) && not (empty t f)) && (asks true test f || decides_on test (firsts t f)))
 decides_before t stops (look want test) follow = true
 decides_before t stops (check condition) follow = true
 
@@ -175,8 +157,7 @@ decides t form follow = decides_before t (λ test. false) form follow
 -- the claims on a goal hold of its form, if those on the goals below it do
 abbrev pub keeps : {Goal : Type 0} → Tables Goal → Goal → Form Goal → Bool
 keeps t goal form =
-    if t.is_dead goal then dead t form
-    else (decides t form (t.follow goal) && ((t.is_empty goal || not (empty t form)) && subset (firsts t form) (t.first goal)))
+    decides t form (t.follow goal) && ((t.is_empty goal || not (empty t form)) && subset (firsts t form) (t.first goal))
 
 -- Where a test comes before a form, it may pass before each kind that begins the form: nothing is forgotten.
 abbrev pub remembers : {Goal : Type 0} → Tables Goal → Form Goal → Bool

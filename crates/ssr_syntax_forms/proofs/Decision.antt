@@ -9,14 +9,14 @@ use Rattle.ssr_syntax_forms.specs.declared.tokens.Token.{Token}
 use Rattle.ssr_syntax_forms.specs.Trees.{Forest, done, leaf, tree, join, spell, height}
 use Rattle.ssr_syntax_forms.specs.Forms.{Productions, Form, one, child, mark, seal, ◌then◌, nothing, choose, many, look, check, is_one, more, taken_as, holds, SoFar, so_far}
 use Rattle.ssr_syntax_forms.specs.Fitting as rules
-use Rattle.ssr_syntax_forms.specs.Decision.{size, behind_first, last_cut, Places, is_empty, is_token, at_cut, cut_off, unsealed, steps_back, reached, decide_at}
+use Rattle.ssr_syntax_forms.specs.Decision.{size, behind_first, last_cut, Stages, is_empty, is_token, at_cut, cut_off, unsealed, steps_back, reached, decide_at}
 use Rattle.ssr_syntax_forms.proofs.Check.{makes_node, lone_marks}
 use Rattle.ssr_syntax_forms.proofs.Depth.{shallow_of, covered, lower_ranks, lower_ranked}
 use Rattle.ssr_syntax_forms.proofs.Levels.{goals_spell}
 use Rattle.ssr_syntax_forms.proofs.Lone.{IsNode, AreNodes, makes, goals_lone}
-use Rattle.ssr_syntax_forms.proofs.Nested.{FitsBelow, Step, Repeats, Fits, FitsGoal, by_rules, goals_by_rules, widen, at_some_level}
+use Rattle.ssr_syntax_forms.proofs.Nested.{FitsBelow, Step, Repeats, FitsForm, FitsGoal, by_rules, goals_by_rules, widen, at_some_level}
 use Rattle.ssr_syntax_forms.proofs.Spelling.{Spells, spelled}
-use Rattle.ssr_syntax_forms.proofs.Walks.{any_token, any_node, anything, IsKept, walk}
+use Rattle.ssr_syntax_forms.proofs.Walks.{IsKept, walk}
 
 -- ** The last tree of a forest.
 abbrev IsCut : Forest → Option (Forest × Forest) → Type 0
@@ -51,29 +51,29 @@ node_alone y (kind, kids, y_is) = subst IsAlone (sym y_is) refl
 
 -- ** One step back.
 -- the step leads here from a start
-record CameFrom (step : Step) (start : Places) (r : SoFar) : Type 0 where
+record CameFrom (step : Step) (start : Stages) (r : SoFar) : Type 0 where
   from : Forest
   taken : List Token
   leads : step from r.made taken r.rest
   starts : start (so_far from (taken ++ r.rest)) ≡ true
 
-record CutThere (test : Forest → Bool) (start : Places) (z : Forest) (rest : List Token) : Type 0 where
+record CutThere (test : Forest → Bool) (start : Stages) (z : Forest) (rest : List Token) : Type 0 where
   front : Forest
   last : Forest
   joined : z ≡ join front last
   passed : test last ≡ true
   starts : start (so_far front (spell last ++ rest)) ≡ true
 
-at_cut_there : (test : Forest → Bool) (start : Places) (z : Forest) (rest : List Token) (o : Option (Forest × Forest)) → IsCut z o
+at_cut_there : (test : Forest → Bool) (start : Stages) (z : Forest) (rest : List Token) (o : Option (Forest × Forest)) → IsCut z o
     → at_cut test start rest o ≡ true → CutThere test start z rest
 at_cut_there test start z rest None e h = cc
 at_cut_there test start z rest (Some c) e h =
     let b = and_parts _ _ h in record { front = c.0; last = c.1; joined = e; passed = b.0; starts = b.1 }
 
-cut_there : (test : Forest → Bool) (start : Places) (r : SoFar) → cut_off test start r ≡ true → CutThere test start r.made r.rest
+cut_there : (test : Forest → Bool) (start : Stages) (r : SoFar) → cut_off test start r ≡ true → CutThere test start r.made r.rest
 cut_there test start r h = at_cut_there test start r.made r.rest (last_cut r.made) (is_cut r.made) h
 
-cut_found : (test : Forest → Bool) (start : Places) (x y z : Forest) (us rest : List Token)
+cut_found : (test : Forest → Bool) (start : Stages) (x y z : Forest) (us rest : List Token)
     → z ≡ join x y → IsAlone y → spell y ≡ us → test y ≡ true → start (so_far x (us ++ rest)) ≡ true
     → cut_off test start (so_far z rest) ≡ true
 cut_found test start x y z us rest z_is alone spells passed starts =
@@ -110,8 +110,8 @@ token_found whole ks t us is size =
     and_from _ _ is
     (and_from _ _ (eq-eqb (more whole t) (length us) size) (equal-same_kind (taken_as whole t) (taken_as whole t) refl))
 
-unsealed_there : {Goal : Type 0} (fit : FitsBelow Goal) (kind : SyntaxKind) (start : Places) (z : Forest) (rest : List Token)
-    → unsealed kind start (so_far z rest) ≡ true → CameFrom (Fits fit (seal kind)) start (so_far z rest)
+unsealed_there : {Goal : Type 0} (fit : FitsBelow Goal) (kind : SyntaxKind) (start : Stages) (z : Forest) (rest : List Token)
+    → unsealed kind start (so_far z rest) ≡ true → CameFrom (FitsForm fit (seal kind)) start (so_far z rest)
 unsealed_there fit kind start done rest h = cc
 unsealed_there fit kind start (leaf k us x) rest h = cc
 unsealed_there fit kind start (tree k kids done) rest h =
@@ -125,8 +125,8 @@ nothing_made done ts h = refl
 nothing_made (leaf kind us x) ts h = cc
 nothing_made (tree kind kids x) ts h = cc
 
--- two steps_back, one after another
-came_over : (first second both : Step) (start middle : Places) (r : SoFar)
+-- two steps, one after another
+came_over : (first second both : Step) (start middle : Stages) (r : SoFar)
     → ((x y : Forest) (us vs : List Token) → first x y us (vs ++ r.rest) → second y r.made vs r.rest → both x r.made (us ++ vs) r.rest)
     → ((q : SoFar) → middle q ≡ true → CameFrom first start q) → CameFrom second middle r → CameFrom both start r
 came_over first second both start middle r over there late =
@@ -170,29 +170,28 @@ grows_from_nothing done us rest e = inl (refl, sym e)
 grows_from_nothing (leaf kind ts x) us rest e = inr (omega arith)
 grows_from_nothing (tree kind kids x) us rest e = inr (omega arith)
 
-keeps_growth : IsKept any_token any_node Grows
+keeps_growth : IsKept Grows
 keeps_growth = record {
-  token = λ whole ks t us rest ok is m. inr (omega arith);
-  node = λ kind x rest ok. inr (omega arith);
+  token = λ whole ks t us rest is m. inr (omega arith);
+  node = λ kind x rest. inr (omega arith);
   beside = grows_beside;
   stay = λ x rest. inl (refl, refl);
   over = grows_over;
 }
 
-growth : {Goal : Type 0} (fit : FitsBelow Goal) → Spells fit → (form : Form Goal) (x z : Forest) (us rest : List Token) → Fits fit form x z us rest → Grows x z us rest
+growth : {Goal : Type 0} (fit : FitsBelow Goal) → Spells fit → (form : Form Goal) (x z : Forest) (us rest : List Token) → FitsForm fit form x z us rest → Grows x z us rest
 growth fit spells form =
-    walk any_token any_node Grows keeps_growth fit
-    (λ asked y us rest y_fits. grows_from_nothing y us rest (spells asked y us rest y_fits)) form (anything form)
+    walk Grows keeps_growth fit (λ asked y us rest y_fits. grows_from_nothing y us rest (spells asked y us rest y_fits)) form
 
 abbrev Loops : Step → Step
 Loops step x z us rest = (n : ℕ) × Repeats n step x z us rest
 
-no_turn : (step : Step) (start : Places) (r : SoFar) → start r ≡ true → CameFrom (Loops step) start r
+no_turn : (step : Step) (start : Stages) (r : SoFar) → start r ≡ true → CameFrom (Loops step) start r
 no_turn step start r h = record { from = r.made; taken = []; leads = (zero, (refl, refl)); starts = h }
 
-steps_there : (step : Step) (back : Places → Places)
-    → ((start : Places) (r : SoFar) → back start r ≡ true → CameFrom step start r)
-    → (n : ℕ) (start : Places) (r : SoFar) → steps_back back n start r ≡ true → CameFrom (Loops step) start r
+steps_there : (step : Step) (back : Stages → Stages)
+    → ((start : Stages) (r : SoFar) → back start r ≡ true → CameFrom step start r)
+    → (n : ℕ) (start : Stages) (r : SoFar) → steps_back back n start r ≡ true → CameFrom (Loops step) start r
 steps_there step back there zero start r h = no_turn step start r h
 steps_there step back there (suc n) start r h =
     elim (or_cases (start r) (steps_back back n (back start) r) h) [
@@ -202,30 +201,30 @@ steps_there step back there (suc n) start r h =
           (steps_there step back there n (back start) r e)
     ]
 
-no_step : (back : Places → Places) (n : ℕ) (start : Places) (r : SoFar) → start r ≡ true → steps_back back n start r ≡ true
+no_step : (back : Stages → Stages) (n : ℕ) (start : Stages) (r : SoFar) → start r ≡ true → steps_back back n start r ≡ true
 no_step back zero start r h = h
 no_step back (suc n) start r h = or_left (start r) (steps_back back n (back start) r) h
 
 -- what leads here from a start is found
-abbrev Finds : Step → (Places → Places) → Type 0
+abbrev Finds : Step → (Stages → Stages) → Type 0
 Finds step back =
-    (start : Places) (x z : Forest) (us rest : List Token) → step x z us rest → start (so_far x (us ++ rest)) ≡ true
+    (start : Stages) (x z : Forest) (us rest : List Token) → step x z us rest → start (so_far x (us ++ rest)) ≡ true
     → back start (so_far z rest) ≡ true
 
-stays_start : (start : Places) (x z : Forest) (us rest : List Token) → us ≡ [] → z ≡ x → start (so_far x (us ++ rest)) ≡ true
+stays_start : (start : Stages) (x z : Forest) (us rest : List Token) → us ≡ [] → z ≡ x → start (so_far x (us ++ rest)) ≡ true
     → start (so_far z rest) ≡ true
 stays_start start x z us rest none z_is s =
     subst (λ w. start (so_far w rest) ≡ true) (sym z_is) (subst (λ w. start (so_far x (w ++ rest)) ≡ true) none s)
 
-parted : (start : Places) (x : Forest) (us vs ws rest : List Token) → us ≡ vs ++ ws → start (so_far x (us ++ rest)) ≡ true
+parted : (start : Stages) (x : Forest) (us vs ws rest : List Token) → us ≡ vs ++ ws → start (so_far x (us ++ rest)) ≡ true
     → start (so_far x (vs ++ (ws ++ rest))) ≡ true
 parted start x us vs ws rest e s =
     subst (λ w. start (so_far x w) ≡ true) (ap (λ w. w ++ rest) e ∙ append_assoc vs ws rest) s
 
-steps_found : (step : Step) (back : Places → Places) → Finds step back
+steps_found : (step : Step) (back : Stages → Stages) → Finds step back
     → ((x z : Forest) (us rest : List Token) → step x z us rest → Grows x z us rest)
     → ((x z : Forest) (us rest : List Token) → Loops step x z us rest → Grows x z us rest)
-    → (m n : ℕ) (start : Places) (x z : Forest) (us rest : List Token) → Repeats m step x z us rest
+    → (m n : ℕ) (start : Stages) (x z : Forest) (us rest : List Token) → Repeats m step x z us rest
     → start (so_far x (us ++ rest)) ≡ true → size z ≤ size x + n → steps_back back n start (so_far z rest) ≡ true
 steps_found step back found one_grows all_grow zero n start x z us rest (none, z_is) s le =
     no_step back n start (so_far z rest) (stays_start start x z us rest none z_is s)
@@ -243,21 +242,21 @@ steps_found step back found one_grows all_grow (suc m) n start x z us rest (y, v
     ]
 
 -- what fits a goal is decided
-record IsDecided {Goal : Type 0} (fit : FitsBelow Goal) (below : Goal → Places) : Type 0 where
+record IsDecided {Goal : Type 0} (fit : FitsBelow Goal) (below : Goal → Stages) : Type 0 where
   right : (asked : Goal) (y : Forest) (rest : List Token) → below asked (so_far y rest) ≡ true → fit asked y (spell y) rest
   whole : (asked : Goal) (y : Forest) (us rest : List Token) → fit asked y us rest → below asked (so_far y rest) ≡ true
   spells : Spells fit
   nodes : AreNodes fit
 
-module _ {Goal : Type 0} (fit : FitsBelow Goal) (below : Goal → Places) (d : IsDecided fit below) where
+module _ {Goal : Type 0} (fit : FitsBelow Goal) (below : Goal → Stages) (d : IsDecided fit below) where
   -- what fits, by what it spells
-  all_spelled : (f : Form Goal) (r : SoFar) → CameFrom (Fits fit f) is_empty r → Fits fit f done r.made (spell r.made) r.rest
+  all_spelled : (f : Form Goal) (r : SoFar) → CameFrom (FitsForm fit f) is_empty r → FitsForm fit f done r.made (spell r.made) r.rest
   all_spelled f r c =
-      let f_fits : Fits fit f done r.made c.taken r.rest =
-      subst (λ x. Fits fit f x r.made c.taken r.rest) (nothing_made c.from (c.taken ++ r.rest) c.starts) c.leads in
-      subst (λ us. Fits fit f done r.made us r.rest) (sym (spelled fit d.spells f done r.made c.taken r.rest f_fits)) f_fits
+      let f_fits : FitsForm fit f done r.made c.taken r.rest =
+      subst (λ x. FitsForm fit f x r.made c.taken r.rest) (nothing_made c.from (c.taken ++ r.rest) c.starts) c.leads in
+      subst (λ us. FitsForm fit f done r.made us r.rest) (sym (spelled fit d.spells f done r.made c.taken r.rest f_fits)) f_fits
 
-  was_there : (form : Form Goal) (start : Places) (r : SoFar) → reached below form start r ≡ true → CameFrom (Fits fit form) start r
+  was_there : (form : Form Goal) (start : Stages) (r : SoFar) → reached below form start r ≡ true → CameFrom (FitsForm fit form) start r
   was_there (one whole ks) start r h =
       let c = cut_there (is_token whole ks) start r h in
       let t = token_there whole ks c.last c.passed in
@@ -286,7 +285,7 @@ module _ {Goal : Type 0} (fit : FitsBelow Goal) (below : Goal → Places) (d : I
       }
   was_there (seal kind) start r h = unsealed_there fit kind start r.made r.rest h
   was_there (f then g) start r h =
-      came_over (Fits fit f) (Fits fit g) (Fits fit (f then g)) start (reached below f start) r
+      came_over (FitsForm fit f) (FitsForm fit g) (FitsForm fit (f then g)) start (reached below f start) r
       (λ x y us vs early late. (y, us, vs, refl, early, late)) (was_there f start) (was_there g (reached below f start) r h)
   was_there nothing start r h = record { from = r.made; taken = []; leads = (refl, refl); starts = h }
   was_there (choose test f g) start r h =
@@ -295,16 +294,16 @@ module _ {Goal : Type 0} (fit : FitsBelow Goal) (below : Goal → Places) (d : I
         | inr e ↦ let c = was_there g start r e in record { from = c.from; taken = c.taken; leads = inr c.leads; starts = c.starts }
       ]
   was_there (many test f) start r h =
-      steps_there (Fits fit f) (reached below f) (was_there f) (size r.made) start r h
+      steps_there (FitsForm fit f) (reached below f) (was_there f) (size r.made) start r h
   was_there (look want test) start r h =
       let b = and_parts _ _ h in record { from = r.made; taken = []; leads = (refl, refl, b.0); starts = b.1 }
   was_there (check condition) start r h =
       let b = and_parts _ _ h in record { from = r.made; taken = []; leads = (refl, refl, b.0); starts = b.1 }
 
-  mark_alone : (f : Form Goal) → makes_node (mark f) ≡ true → (y : Forest) (us rest : List Token) → Fits fit f done y us rest → IsAlone y
+  mark_alone : (f : Form Goal) → makes_node (mark f) ≡ true → (y : Forest) (us rest : List Token) → FitsForm fit f done y us rest → IsAlone y
   mark_alone f m y us rest y_fits = node_alone y (makes fit d.nodes (mark f) m y us rest (y, y_fits, refl))
 
-  is_found : (form : Form Goal) → lone_marks form ≡ true → Finds (Fits fit form) (reached below form)
+  is_found : (form : Form Goal) → lone_marks form ≡ true → Finds (FitsForm fit form) (reached below form)
   is_found (one whole ks) l start x z us rest (t, others, us_is, is, size, z_is) s =
       cut_found (is_token whole ks) start x (leaf (taken_as whole t) (t ∷ others) done) z us rest z_is refl
       (append-nil (t ∷ others) ∙ sym us_is) (token_found whole ks t others is size) s
@@ -328,7 +327,7 @@ module _ {Goal : Type 0} (fit : FitsBelow Goal) (below : Goal → Places) (d : I
   is_found (choose test f g) l start x z us rest (inr g_fits) s =
       or_right _ _ (is_found g (and_parts _ _ l).1 start x z us rest g_fits s)
   is_found (many test f) l start x z us rest (count, turns) s =
-      steps_found (Fits fit f) (reached below f) (is_found f l) (growth fit d.spells f) (growth fit d.spells (many test f))
+      steps_found (FitsForm fit f) (reached below f) (is_found f l) (growth fit d.spells f) (growth fit d.spells (many test f))
       count (size z) start x z us rest turns s (omega arith)
   is_found (look want test) l start x z us rest (none, z_is, looked) s =
       and_from _ _ looked (stays_start start x z us rest none z_is s)
@@ -336,10 +335,10 @@ module _ {Goal : Type 0} (fit : FitsBelow Goal) (below : Goal → Places) (d : I
       and_from _ _ (subst (λ w. holds condition (spell w) ≡ true) (sym z_is) checked) (stays_start start x z us rest none z_is s)
 
   -- a goal's form is decided
-  form_right : (form : Form Goal) (r : SoFar) → reached below form is_empty r ≡ true → Fits fit form done r.made (spell r.made) r.rest
+  form_right : (form : Form Goal) (r : SoFar) → reached below form is_empty r ≡ true → FitsForm fit form done r.made (spell r.made) r.rest
   form_right form r h = all_spelled form r (was_there form is_empty r h)
 
-  form_whole : (form : Form Goal) → lone_marks form ≡ true → (z : Forest) (us rest : List Token) → Fits fit form done z us rest
+  form_whole : (form : Form Goal) → lone_marks form ≡ true → (z : Forest) (us rest : List Token) → FitsForm fit form done z us rest
       → reached below form is_empty (so_far z rest) ≡ true
   form_whole form l z us rest f = is_found form l is_empty done z us rest f refl
 
@@ -385,7 +384,7 @@ module _ {Goal : Type 0} (grammar : Productions Goal) (rank : Goal → ℕ) (ran
   fits_whole n asked y us rest f = (decided_at n).whole asked y us rest f
 
   -- ** At as many levels as a forest has: these are enough.
-  abbrev decide_here : Goal → Places
+  abbrev decide_here : Goal → Stages
   decide_here asked r = decide_at grammar (height r.made * ranks + ranks) asked r
 
   enough : (asked : Goal) (z : Forest) (us rest : List Token) → ByRules grammar asked z us rest
@@ -409,7 +408,7 @@ module _ {Goal : Type 0} (grammar : Productions Goal) (rank : Goal → ℕ) (ran
   decided asked r = (decided_here.right asked r.made r.rest, decided_here.whole asked r.made (spell r.made) r.rest)
 
   one_form : (n : ℕ) (asked : Goal) (z : Forest) (us rest : List Token) → FitsGoal grammar n asked z us rest
-      → Fits (ByRules grammar) (grammar asked) done z us rest
+      → FitsForm (ByRules grammar) (grammar asked) done z us rest
   unfolding FitsGoal
   one_form zero asked z us rest f = absurd f
   one_form (suc n) asked z us rest f = widen (FitsGoal grammar n) (ByRules grammar) (goals_by_rules grammar n) (grammar asked) done z us rest f

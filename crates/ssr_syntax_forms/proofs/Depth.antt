@@ -5,8 +5,8 @@ use Rattle.std.proofs.lemmas.Bool.{ltb-true, and_parts, cases_Bool, or_cases}
 use Rattle.ssr_syntax_forms.specs.declared.tokens.Token.{Token}
 use Rattle.ssr_syntax_forms.specs.Trees.{Forest, done, leaf, tree, join, height}
 use Rattle.ssr_syntax_forms.specs.Forms.{Productions, Form, one, child, mark, seal, ◌then◌, nothing, choose, many, look, check, taken_as}
-use Rattle.ssr_syntax_forms.proofs.Nested.{FitsBelow, Step, Repeats, Fits, FitsGoal}
-use Rattle.ssr_syntax_forms.proofs.Walks.{any_token, any_node, anything, IsKept, walk}
+use Rattle.ssr_syntax_forms.proofs.Nested.{FitsBelow, Step, Repeats, FitsForm, FitsGoal}
+use Rattle.ssr_syntax_forms.proofs.Walks.{IsKept, walk}
 
 -- all since the mark is put into a node
 abbrev pub seals : {Goal : Type 0} → Form Goal → Bool
@@ -88,24 +88,23 @@ low_nothing zero z h = absurd h
 low_nothing (suc n) z h = tt
 
 -- what was made before is as low
-keeps_low : (n : ℕ) → IsKept any_token any_node (λ x z us rest. Low n z → Low n x)
+keeps_low : (n : ℕ) → IsKept (λ x z us rest. Low n z → Low n x)
 keeps_low n = record {
-  token = λ whole ks t us rest ok is m h. low_nothing n (leaf (taken_as whole t) (t ∷ us) done) h;
-  node = λ kind x rest ok h. low_before_node n kind x h;
+  token = λ whole ks t us rest is m h. low_nothing n (leaf (taken_as whole t) (t ∷ us) done) h;
+  node = λ kind x rest h. low_before_node n kind x h;
   beside = λ x y us rest f h. (low_join n x y h).0;
   stay = λ x rest h. h;
   over = λ x y z us vs rest f g h. f (g h);
 }
 
 low_before : {Goal : Type 0} (n : ℕ) (fits : FitsBelow Goal) (form : Form Goal) (x z : Forest) (us rest : List Token)
-    → Fits fits form x z us rest → Low n z → Low n x
+    → FitsForm fits form x z us rest → Low n z → Low n x
 low_before n fits form x z us rest f =
-    walk any_token any_node (λ x z us rest. Low n z → Low n x) (keeps_low n) fits (λ asked y us rest g. low_nothing n y)
-    form (anything form) x z us rest f
+    walk (λ x z us rest. Low n z → Low n x) (keeps_low n) fits (λ asked y us rest g. low_nothing n y) form x z us rest f
 
 -- what is put into a node is lower than that
 low_inside : {Goal : Type 0} (n : ℕ) (fits : FitsBelow Goal) (form : Form Goal) → seals form ≡ true → (x z : Forest) (us rest : List Token)
-    → Fits fits form x z us rest → Low (suc n) z → Low n x
+    → FitsForm fits form x z us rest → Low (suc n) z → Low n x
 low_inside n fits (one whole ks) s x z us rest f h = cc
 low_inside n fits (child goal) s x z us rest f h = cc
 low_inside n fits (mark g) s x z us rest f h = cc
@@ -127,7 +126,7 @@ abbrev room : Bool → ℕ → ℕ
 room later n = if later then n else suc n
 
 mid_low : {Goal : Type 0} (n : ℕ) (fits : FitsBelow Goal) (later : Bool) (form : Form Goal) (y z : Forest) (us rest : List Token)
-    → Fits fits form y z us rest → Low (room later n) z → Low (room (later || seals form) n) y
+    → FitsForm fits form y z us rest → Low (room later n) z → Low (room (later || seals form) n) y
 mid_low n fits true form y z us rest f h = low_before n fits form y z us rest f h
 mid_low n fits false form y z us rest f h =
     elim (cases_Bool (seals form)) [
@@ -145,8 +144,8 @@ record Lowers {Goal : Type 0} (n : ℕ) (free : Goal → Bool) (fits fewer : Fit
   alone : (asked : Goal) (y : Forest) (us rest : List Token) → free asked ≡ true → fits asked y us rest → Low (suc n) y → fewer asked y us rest
 
 repeats_lower : {Goal : Type 0} (n k : ℕ) (fits : FitsBelow Goal) (form : Form Goal) (step : Step)
-    → ((x z : Forest) (us rest : List Token) → Fits fits form x z us rest → Low k z → step x z us rest)
-    → (m : ℕ) (x z : Forest) (us rest : List Token) → Repeats m (Fits fits form) x z us rest → Low k z → Repeats m step x z us rest
+    → ((x z : Forest) (us rest : List Token) → FitsForm fits form x z us rest → Low k z → step x z us rest)
+    → (m : ℕ) (x z : Forest) (us rest : List Token) → Repeats m (FitsForm fits form) x z us rest → Low k z → Repeats m step x z us rest
 repeats_lower n k fits form step down zero x z us rest f h = f
 repeats_lower n k fits form step down (suc m) x z us rest (mid, taken, left, us_is, one_turn, turns_left) h = (
   mid,
@@ -159,7 +158,7 @@ repeats_lower n k fits form step down (suc m) x z us rest (mid, taken, left, us_
 
 lower : {Goal : Type 0} (n : ℕ) (free : Goal → Bool) (fits fewer : FitsBelow Goal) → Lowers n free fits fewer
     → (form : Form Goal) (later : Bool) → covered free later form ≡ true
-    → (x z : Forest) (us rest : List Token) → Fits fits form x z us rest → Low (room later n) z → Fits fewer form x z us rest
+    → (x z : Forest) (us rest : List Token) → FitsForm fits form x z us rest → Low (room later n) z → FitsForm fewer form x z us rest
 lower n free fits fewer b (one whole ks) later c x z us rest f h = f
 lower n free fits fewer b (child asked) later c x z us rest (y, y_fits, z_is) h =
     elim (or_cases later (free asked) c) [
@@ -187,7 +186,7 @@ lower n free fits fewer b (choose test g k) later c x z us rest (inl f) h =
 lower n free fits fewer b (choose test g k) later c x z us rest (inr f) h =
     inr (lower n free fits fewer b k later (and_parts (covered free later g) (covered free later k) c).1 x z us rest f h)
 lower n free fits fewer b (many test g) later c x z us rest (count, turns_taken) h =
-    (count, repeats_lower n (room later n) fits g (Fits fewer g) (lower n free fits fewer b g later c) count x z us rest turns_taken h)
+    (count, repeats_lower n (room later n) fits g (FitsForm fewer g) (lower n free fits fewer b g later c) count x z us rest turns_taken h)
 lower n free fits fewer b (look want test) later c x z us rest f h = f
 lower n free fits fewer b (check condition) later c x z us rest f h = f
 

@@ -12,7 +12,6 @@ mod Check
 mod Members
 mod Ahead
 mod Tests
-mod Core
 mod Starts
 mod Completeness
 mod Cuts

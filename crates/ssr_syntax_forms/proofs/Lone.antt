@@ -5,13 +5,13 @@ use Rattle.ssr_syntax_lex.specs.declared.kinds.SyntaxKind.{SyntaxKind}
 use Rattle.ssr_syntax_forms.specs.declared.tokens.Token.{Token}
 use Rattle.ssr_syntax_forms.specs.Trees.{Forest, done, tree}
 use Rattle.ssr_syntax_forms.specs.Forms.{Productions, Form, one, child, mark, seal, ◌then◌, nothing, choose, many, look, check}
-use Rattle.ssr_syntax_forms.proofs.Nested.{FitsBelow, Step, Repeats, Fits, FitsGoal}
+use Rattle.ssr_syntax_forms.proofs.Nested.{FitsBelow, Step, Repeats, FitsForm, FitsGoal}
 use Rattle.ssr_syntax_forms.proofs.Check.{ends_sealed, stays_node, only_looks, makes_node}
 
 abbrev pub IsNode : Forest → Type 0
 IsNode z = (kind : SyntaxKind) × (kids : Forest) × (z ≡ tree kind kids done)
 
-sealed : {Goal : Type 0} (fits : FitsBelow Goal) (form : Form Goal) → ends_sealed form ≡ true → (x z : Forest) (us rest : List Token) → Fits fits form x z us rest → IsNode z
+sealed : {Goal : Type 0} (fits : FitsBelow Goal) (form : Form Goal) → ends_sealed form ≡ true → (x z : Forest) (us rest : List Token) → FitsForm fits form x z us rest → IsNode z
 sealed fits (one whole ks) e x z us rest f = cc
 sealed fits (child goal) e x z us rest f = cc
 sealed fits (mark form) e x z us rest f = cc
@@ -29,7 +29,7 @@ repeats_node : (step : Step) → ((x z : Forest) (us rest : List Token) → step
 repeats_node step h zero x z us rest node f = subst IsNode (sym f.1) node
 repeats_node step h (suc n) x z us rest node f = repeats_node step h n f.0 z f.2 rest (h x f.0 f.1 (f.2 ++ rest) f.4) f.5
 
-stays : {Goal : Type 0} (fits : FitsBelow Goal) (form : Form Goal) → stays_node form ≡ true → (x z : Forest) (us rest : List Token) → IsNode x → Fits fits form x z us rest → IsNode z
+stays : {Goal : Type 0} (fits : FitsBelow Goal) (form : Form Goal) → stays_node form ≡ true → (x z : Forest) (us rest : List Token) → IsNode x → FitsForm fits form x z us rest → IsNode z
 stays fits (one whole ks) e x z us rest node f = cc
 stays fits (child goal) e x z us rest node f = cc
 stays fits (mark form) e x z us rest node f = cc
@@ -43,7 +43,7 @@ stays fits (g then k) e x z us rest node f =
 stays fits nothing e x z us rest node f = subst IsNode (sym f.1) node
 stays fits (choose test g k) e x z us rest node (inl f) = stays fits g (and_parts (stays_node g) (stays_node k) e).0 x z us rest node f
 stays fits (choose test g k) e x z us rest node (inr f) = stays fits k (and_parts (stays_node g) (stays_node k) e).1 x z us rest node f
-stays fits (many test form) e x z us rest node f = repeats_node (Fits fits form) (sealed fits form e) f.0 x z us rest node f.1
+stays fits (many test form) e x z us rest node f = repeats_node (FitsForm fits form) (sealed fits form e) f.0 x z us rest node f.1
 stays fits (look want test) e x z us rest node f = subst IsNode (sym f.1) node
 stays fits (check condition) e x z us rest node f = subst IsNode (sym f.1) node
 
@@ -51,7 +51,7 @@ stays fits (check condition) e x z us rest node f = subst IsNode (sym f.1) node
 abbrev pub AreNodes : {Goal : Type 0} → FitsBelow Goal → Type 0
 AreNodes {Goal = Goal} fits = (goal : Goal) (y : Forest) (us rest : List Token) → fits goal y us rest → IsNode y
 
-looked : {Goal : Type 0} (fits : FitsBelow Goal) (form : Form Goal) → only_looks form ≡ true → (x z : Forest) (us rest : List Token) → Fits fits form x z us rest → x ≡ z
+looked : {Goal : Type 0} (fits : FitsBelow Goal) (form : Form Goal) → only_looks form ≡ true → (x z : Forest) (us rest : List Token) → FitsForm fits form x z us rest → x ≡ z
 looked fits (look want test) e x z us rest f = sym f.1
 looked fits (one whole ks) e x z us rest f = cc
 looked fits (child goal) e x z us rest f = cc
@@ -63,7 +63,7 @@ looked fits (choose test g k) e x z us rest f = cc
 looked fits (many test form) e x z us rest f = cc
 looked fits (check condition) e x z us rest f = cc
 
-pub makes : {Goal : Type 0} (fits : FitsBelow Goal) → AreNodes fits → (form : Form Goal) → makes_node form ≡ true → (z : Forest) (us rest : List Token) → Fits fits form done z us rest → IsNode z
+pub makes : {Goal : Type 0} (fits : FitsBelow Goal) → AreNodes fits → (form : Form Goal) → makes_node form ≡ true → (z : Forest) (us rest : List Token) → FitsForm fits form done z us rest → IsNode z
 makes fits h (one whole ks) e z us rest f = cc
 makes fits h (child goal) e z us rest f = subst IsNode (sym f.2) (h goal f.0 us rest f.1)
 makes fits h (mark form) e z us rest f =
@@ -81,7 +81,7 @@ makes fits h (g then k) e z us rest f =
             stays fits k r.1 f.0 z f.2 rest (makes fits h g r.0 f.0 f.1 (f.2 ++ rest) f.4) f.5
       ]
       | inr b ↦ let r = and_parts (only_looks g) (makes_node k) b in
-          makes fits h k r.1 z f.2 rest (subst (λ x. Fits fits k x z f.2 rest) (sym (looked fits g r.0 done f.0 f.1 (f.2 ++ rest) f.4)) f.5)
+          makes fits h k r.1 z f.2 rest (subst (λ x. FitsForm fits k x z f.2 rest) (sym (looked fits g r.0 done f.0 f.1 (f.2 ++ rest) f.4)) f.5)
     ]
 makes fits h nothing e z us rest f = cc
 makes fits h (choose test g k) e z us rest (inl f) = makes fits h g (and_parts (makes_node g) (makes_node k) e).0 z us rest f

@@ -18,27 +18,28 @@ Repeats (suc n) step x z us rest =
     (y : Forest) × (vs : List Token) × (ws : List Token)
     × (us ≡ vs ++ ws) × step x y vs (ws ++ rest) × Repeats n step y z ws rest
 
-abbrev pub Fits : {Goal : Type 0} → FitsBelow Goal → Form Goal → Step
-Fits below (one whole ks) x z us rest =
+-- what fits the form, where `below` tells what fits the goals in it
+abbrev pub FitsForm : {Goal : Type 0} → FitsBelow Goal → Form Goal → Step
+FitsForm below (one whole ks) x z us rest =
     (t : Token) × (vs : List Token)
     × (us ≡ t ∷ vs) × (is_one whole ks t ≡ true) × (more whole t ≡ length vs)
     × (z ≡ join x (leaf (taken_as whole t) (t ∷ vs) done))
-Fits below (child asked) x z us rest = (y : Forest) × below asked y us rest × (z ≡ join x y)
-Fits below (mark f) x z us rest = (y : Forest) × Fits below f done y us rest × (z ≡ join x y)
-Fits below (seal kind) x z us rest = (us ≡ []) × (z ≡ tree kind x done)
-Fits below (f then g) x z us rest =
+FitsForm below (child asked) x z us rest = (y : Forest) × below asked y us rest × (z ≡ join x y)
+FitsForm below (mark f) x z us rest = (y : Forest) × FitsForm below f done y us rest × (z ≡ join x y)
+FitsForm below (seal kind) x z us rest = (us ≡ []) × (z ≡ tree kind x done)
+FitsForm below (f then g) x z us rest =
     (y : Forest) × (vs : List Token) × (ws : List Token)
-    × (us ≡ vs ++ ws) × Fits below f x y vs (ws ++ rest) × Fits below g y z ws rest
-Fits below nothing x z us rest = (us ≡ []) × (z ≡ x)
-Fits below (choose test f g) x z us rest = Fits below f x z us rest ⊎ Fits below g x z us rest
-Fits below (many test f) x z us rest = (n : ℕ) × Repeats n (Fits below f) x z us rest
-Fits below (look want test) x z us rest = (us ≡ []) × (z ≡ x) × (agrees want (passes test rest) ≡ true)
-Fits below (check condition) x z us rest = (us ≡ []) × (z ≡ x) × (holds condition (spell x) ≡ true)
+    × (us ≡ vs ++ ws) × FitsForm below f x y vs (ws ++ rest) × FitsForm below g y z ws rest
+FitsForm below nothing x z us rest = (us ≡ []) × (z ≡ x)
+FitsForm below (choose test f g) x z us rest = FitsForm below f x z us rest ⊎ FitsForm below g x z us rest
+FitsForm below (many test f) x z us rest = (n : ℕ) × Repeats n (FitsForm below f) x z us rest
+FitsForm below (look want test) x z us rest = (us ≡ []) × (z ≡ x) × (agrees want (passes test rest) ≡ true)
+FitsForm below (check condition) x z us rest = (us ≡ []) × (z ≡ x) × (holds condition (spell x) ≡ true)
 
 -- the forest is one of the goal, with at most so many levels of goals
 unfoldable pub FitsGoal : {Goal : Type 0} → Productions Goal → ℕ → FitsBelow Goal
 FitsGoal grammar zero asked z us rest = ⊥
-FitsGoal grammar (suc n) asked z us rest = Fits (FitsGoal grammar n) (grammar asked) done z us rest
+FitsGoal grammar (suc n) asked z us rest = FitsForm (FitsGoal grammar n) (grammar asked) done z us rest
 
 -- ** What fits with some levels fits by the rules.
 abbrev Ruled : {Goal : Type 0} → Productions Goal → Form Goal → Step
@@ -58,7 +59,7 @@ repeats_ruled grammar test form step h (suc n) x z us rest (mid, taken, left, us
 
 pub by_rules : {Goal : Type 0} (grammar : Productions Goal) (fits : FitsBelow Goal)
     → ((asked : Goal) (y : Forest) (us rest : List Token) → fits asked y us rest → Ruled grammar (grammar asked) done y us rest)
-    → (form : Form Goal) (x z : Forest) (us rest : List Token) → Fits fits form x z us rest → Ruled grammar form x z us rest
+    → (form : Form Goal) (x z : Forest) (us rest : List Token) → FitsForm fits form x z us rest → Ruled grammar form x z us rest
 by_rules grammar fits h (one whole ks) x z us rest (front, others, us_is, is, size, z_is) =
     ends_at (Ruled grammar (one whole ks)) x z (join x (leaf (taken_as whole front) (front ∷ others) done)) us (front ∷ others) rest us_is z_is (token is size)
 by_rules grammar fits h (child asked) x z us rest (y, y_fits, z_is) =
@@ -72,7 +73,7 @@ by_rules grammar fits h (g then k) x z us rest (mid, taken, left, us_is, before,
 by_rules grammar fits h nothing x z us rest (no_tokens_taken, z_is) = ends_at (Ruled grammar nothing) x z x us [] rest no_tokens_taken z_is none
 by_rules grammar fits h (choose test g k) x z us rest (inl f) = first (by_rules grammar fits h g x z us rest f)
 by_rules grammar fits h (choose test g k) x z us rest (inr f) = second (by_rules grammar fits h k x z us rest f)
-by_rules grammar fits h (many test g) x z us rest (count, turns_taken) = repeats_ruled grammar test g (Fits fits g) (by_rules grammar fits h g) count x z us rest turns_taken
+by_rules grammar fits h (many test g) x z us rest (count, turns_taken) = repeats_ruled grammar test g (FitsForm fits g) (by_rules grammar fits h g) count x z us rest turns_taken
 by_rules grammar fits h (look want test) x z us rest (no_tokens_taken, z_is, passed) = ends_at (Ruled grammar (look want test)) x z x us [] rest no_tokens_taken z_is (looked passed)
 by_rules grammar fits h (check condition) x z us rest (no_tokens_taken, z_is, passed) = ends_at (Ruled grammar (check condition)) x z x us [] rest no_tokens_taken z_is (checked passed)
 
@@ -94,7 +95,7 @@ repeats_widen step wider h (suc n) x z us rest (mid, taken, left, us_is, one_tur
     (mid, taken, left, us_is, h x mid taken (left ++ rest) one_turn, repeats_widen step wider h n mid z left rest turns_left)
 
 pub widen : {Goal : Type 0} (fits wider : FitsBelow Goal) → IsWider fits wider → (form : Form Goal) (x z : Forest) (us rest : List Token)
-    → Fits fits form x z us rest → Fits wider form x z us rest
+    → FitsForm fits form x z us rest → FitsForm wider form x z us rest
 widen fits wider h (one whole ks) x z us rest f = f
 widen fits wider h (child asked) x z us rest (y, y_fits, z_is) = (y, h asked y us rest y_fits, z_is)
 widen fits wider h (mark g) x z us rest (y, y_fits, z_is) = (y, widen fits wider h g done y us rest y_fits, z_is)
@@ -104,7 +105,7 @@ widen fits wider h (g then k) x z us rest (mid, taken, left, us_is, before, afte
 widen fits wider h nothing x z us rest f = f
 widen fits wider h (choose test g k) x z us rest (inl f) = inl (widen fits wider h g x z us rest f)
 widen fits wider h (choose test g k) x z us rest (inr f) = inr (widen fits wider h k x z us rest f)
-widen fits wider h (many test g) x z us rest (count, turns_taken) = (count, repeats_widen (Fits fits g) (Fits wider g) (widen fits wider h g) count x z us rest turns_taken)
+widen fits wider h (many test g) x z us rest (count, turns_taken) = (count, repeats_widen (FitsForm fits g) (FitsForm wider g) (widen fits wider h g) count x z us rest turns_taken)
 widen fits wider h (look want test) x z us rest f = f
 widen fits wider h (check condition) x z us rest f = f
 
@@ -116,15 +117,15 @@ more_levels grammar (suc n) (suc m) le asked y us rest f =
     widen (FitsGoal grammar n) (FitsGoal grammar m) (more_levels grammar n m (omega (arith, le))) (grammar asked) done y us rest f
 
 abbrev pub AtSomeLevel : {Goal : Type 0} → Productions Goal → Form Goal → Step
-AtSomeLevel grammar form x z us rest = (n : ℕ) × Fits (FitsGoal grammar n) form x z us rest
+AtSomeLevel grammar form x z us rest = (n : ℕ) × FitsForm (FitsGoal grammar n) form x z us rest
 
 higher : {Goal : Type 0} (grammar : Productions Goal) (n m : ℕ) → n ≤ m → (form : Form Goal) (x z : Forest) (us rest : List Token)
-    → Fits (FitsGoal grammar n) form x z us rest → Fits (FitsGoal grammar m) form x z us rest
+    → FitsForm (FitsGoal grammar n) form x z us rest → FitsForm (FitsGoal grammar m) form x z us rest
 higher grammar n m le form = widen (FitsGoal grammar n) (FitsGoal grammar m) (more_levels grammar n m le) form
 
 -- the goal that a form asks for is one level below
 one_below : {Goal : Type 0} (grammar : Productions Goal) (n : ℕ) (asked : Goal) (y : Forest) (us rest : List Token)
-    → Fits (FitsGoal grammar n) (grammar asked) done y us rest → FitsGoal grammar (suc n) asked y us rest
+    → FitsForm (FitsGoal grammar n) (grammar asked) done y us rest → FitsGoal grammar (suc n) asked y us rest
 unfolding FitsGoal
 one_below grammar n asked y us rest f = f
 

@@ -11,12 +11,11 @@ pub use Rattle.ssr_syntax_forms.proofs.Members.{apart, at_next, every_mem, mem_a
 pub use Rattle.ssr_syntax_forms.proofs.Tests.{first_passes, others_pass}
 -- what fits a form, with goals by levels
 unfoldable pub use Rattle.ssr_syntax_forms.proofs.Nested.{FitsGoal}
-pub use Rattle.ssr_syntax_forms.proofs.Nested.{FitsBelow, Step, Repeats, Fits, goals_by_rules, at_some_level}
-pub use Rattle.ssr_syntax_forms.proofs.Walks.{has_only, any_token, any_node, anything, IsKept, walk_goals}
+pub use Rattle.ssr_syntax_forms.proofs.Nested.{FitsBelow, Step, Repeats, FitsForm, goals_by_rules, at_some_level}
+pub use Rattle.ssr_syntax_forms.proofs.Walks.{IsKept, walk_goals}
 -- what a grammar has to keep, and what it then has
 pub use Rattle.ssr_syntax_forms.proofs.Check.{Tables, keeps, remembers, makes_node, lone_marks}
 pub use Rattle.ssr_syntax_forms.proofs.Depth.{IsShallow, shallow_of, covered, lower_ranks, lower_ranked}
-pub use Rattle.ssr_syntax_forms.proofs.Core.{IsCore, goals_core}
 pub use Rattle.ssr_syntax_forms.proofs.Keeping.{complete_goal}
 pub use Rattle.ssr_syntax_forms.proofs.Lone.{goals_lone}
 pub use Rattle.ssr_syntax_forms.proofs.Decision.{IsLone, decided, answers}

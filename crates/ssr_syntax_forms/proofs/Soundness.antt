@@ -7,7 +7,7 @@ use Rattle.ssr_syntax_forms.specs.declared.tokens.Token.{Token}
 use Rattle.ssr_syntax_forms.specs.declared.fault.Fault.{Fault}
 use Rattle.ssr_syntax_forms.specs.Trees.{Forest, done, join, spell}
 use Rattle.ssr_syntax_forms.specs.Forms.{Form, one, child, mark, seal, ◌then◌, nothing, choose, many, look, check, Test, more, is_one, passes, agrees, holds, SoFar, so_far, ReadsBelow, read, past, first_leaf, repeat}
-use Rattle.ssr_syntax_forms.proofs.Nested.{FitsBelow, Step, Repeats, Fits}
+use Rattle.ssr_syntax_forms.proofs.Nested.{FitsBelow, Step, Repeats, FitsForm}
 use Rattle.ssr_syntax_forms.proofs.Answers.{bind_ok, ok_one}
 
 pub past_ok : (whole : Bool) (ks : List SyntaxKind) (ts rest : List Token) → past whole ks ts ≡ Ok rest
@@ -62,13 +62,13 @@ repeat_fits step test f found (suc n) r s e =
     ]
 
 pub sound : {Goal : Type 0} (fits : FitsBelow Goal) (below : ReadsBelow Goal) → IsSound fits below
-    → (form : Form Goal) (r s : SoFar) → read below form r ≡ Ok s → Takes (Fits fits form) r s
+    → (form : Form Goal) (r s : SoFar) → read below form r ≡ Ok s → Takes (FitsForm fits form) r s
 sound fits below h (one whole ks) r s e =
     let m = bind_ok (past whole ks r.rest) (λ ts. Ok (so_far (join r.made (first_leaf whole r.rest)) ts)) s e in
     let p = past_ok whole ks r.rest m.0 m.1 in
     let t = p.0 in let us = p.1 in
     let vs : List Token = take (more whole t) us in
-    subst (λ z. Takes (Fits fits (one whole ks)) r z) (ok_one m.2) (
+    subst (λ z. Takes (FitsForm fits (one whole ks)) r z) (ok_one m.2) (
       t ∷ vs,
       p.2 ∙ ap (λ w. t ∷ w) (sym (take-append-drop (more whole t) us) ∙ ap (λ w. vs ++ w) (sym p.5)),
       (t, vs, refl, p.3, sym (length-take-le (more whole t) us p.4), ap (λ w. join r.made (first_leaf whole w)) p.2),
@@ -76,11 +76,11 @@ sound fits below h (one whole ks) r s e =
 sound fits below h (child goal) r s e =
     let m = bind_ok (below goal r.rest) (λ y. Ok (so_far (join r.made y.made) y.rest)) s e in
     let k = h goal r.rest m.0 m.1 in
-    subst (λ z. Takes (Fits fits (child goal)) r z) (ok_one m.2) (k.0, k.1, (m.0.made, k.2, refl))
+    subst (λ z. Takes (FitsForm fits (child goal)) r z) (ok_one m.2) (k.0, k.1, (m.0.made, k.2, refl))
 sound fits below h (mark f) r s e =
     let m = bind_ok (read below f (so_far done r.rest)) (λ y. Ok (so_far (join r.made y.made) y.rest)) s e in
     let k = sound fits below h f (so_far done r.rest) m.0 m.1 in
-    subst (λ z. Takes (Fits fits (mark f)) r z) (ok_one m.2) (k.0, k.1, (m.0.made, k.2, refl))
+    subst (λ z. Takes (FitsForm fits (mark f)) r z) (ok_one m.2) (k.0, k.1, (m.0.made, k.2, refl))
 sound fits below h (seal kind) r s e = ([], ap (λ z. z.rest) (ok_one e), (refl, ap (λ z. z.made) (sym (ok_one e))))
 sound fits below h (f then g) r s e =
     let m = bind_ok (read below f r) (read below g) s e in
@@ -88,7 +88,7 @@ sound fits below h (f then g) r s e =
     let l = sound fits below h g m.0 s m.2 in (
       k.0 ++ l.0,
       over r m.0 s k.0 l.0 k.1 l.1,
-      (m.0.made, k.0, l.0, refl, subst (λ w. Fits fits f r.made m.0.made k.0 w) l.1 k.2, l.2),
+      (m.0.made, k.0, l.0, refl, subst (λ w. FitsForm fits f r.made m.0.made k.0 w) l.1 k.2, l.2),
     )
 sound fits below h nothing r s e = ([], ap (λ z. z.rest) (ok_one e), (refl, ap (λ z. z.made) (sym (ok_one e))))
 sound fits below h (choose test f g) r s e =
@@ -97,14 +97,14 @@ sound fits below h (choose test f g) r s e =
       | inr miss ↦ let k = sound fits below h g r s (rw miss at e) in (k.0, k.1, inr k.2)
     ]
 sound fits below h (many test f) r s e =
-    repeat_fits (Fits fits f) test (read below f) (sound fits below h f) (length r.rest + 1) r s e
+    repeat_fits (FitsForm fits f) test (read below f) (sound fits below h f) (length r.rest + 1) r s e
 sound fits below h (look want test) r s e =
     elim (cases_Bool (agrees want (passes test r.rest))) [
-      | inl hit ↦ subst (λ z. Takes (Fits fits (look want test)) r z) (ok_one (rw hit at e)) ([], refl, (refl, refl, hit))
+      | inl hit ↦ subst (λ z. Takes (FitsForm fits (look want test)) r z) (ok_one (rw hit at e)) ([], refl, (refl, refl, hit))
       | inr miss ↦ absurd (cc (rw miss at e))
     ]
 sound fits below h (check condition) r s e =
     elim (cases_Bool (holds condition (spell r.made))) [
-      | inl hit ↦ subst (λ z. Takes (Fits fits (check condition)) r z) (ok_one (rw hit at e)) ([], refl, (refl, refl, hit))
+      | inl hit ↦ subst (λ z. Takes (FitsForm fits (check condition)) r z) (ok_one (rw hit at e)) ([], refl, (refl, refl, hit))
       | inr miss ↦ absurd (cc (rw miss at e))
     ]

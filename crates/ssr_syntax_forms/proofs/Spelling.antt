@@ -4,27 +4,27 @@ use Rattle.std.proofs.lemmas.List.{append-nil}
 use Rattle.ssr_syntax_forms.specs.declared.tokens.Token.{Token}
 use Rattle.ssr_syntax_forms.specs.Trees.{Forest, spell}
 use Rattle.ssr_syntax_forms.specs.Forms.{Form, SoFar, ReadsBelow, read}
-use Rattle.ssr_syntax_forms.proofs.Nested.{FitsBelow, Fits}
+use Rattle.ssr_syntax_forms.proofs.Nested.{FitsBelow, FitsForm}
 use Rattle.ssr_syntax_forms.proofs.Joins.{spell-join}
 use Rattle.ssr_syntax_forms.proofs.Soundness.{sound}
-use Rattle.ssr_syntax_forms.proofs.Walks.{any_token, any_node, anything, IsKept, walk}
+use Rattle.ssr_syntax_forms.proofs.Walks.{IsKept, walk}
 
 abbrev pub Spells : {Goal : Type 0} → FitsBelow Goal → Type 0
 Spells {Goal = Goal} fits = (goal : Goal) (y : Forest) (us rest : List Token) → fits goal y us rest → spell y ≡ us
 
-keeps_spelled : IsKept any_token any_node (λ x z us rest. spell z ≡ spell x ++ us)
+keeps_spelled : IsKept (λ x z us rest. spell z ≡ spell x ++ us)
 keeps_spelled = record {
-  token = λ whole ks t us rest ok is n. append-nil (t ∷ us);
-  node = λ kind x rest ok. refl;
+  token = λ whole ks t us rest is n. append-nil (t ∷ us);
+  node = λ kind x rest. refl;
   beside = λ x y us rest h. spell-join x y ∙ ap (λ w. spell x ++ w) h;
   stay = λ x rest. sym (append-nil (spell x));
   over = λ x y z us vs rest h k. k ∙ ap (λ w. w ++ vs) h ∙ append_assoc (spell x) us vs;
 }
 
 pub spelled : {Goal : Type 0} (fits : FitsBelow Goal) → Spells fits
-    → (form : Form Goal) (x z : Forest) (us rest : List Token) → Fits fits form x z us rest → spell z ≡ spell x ++ us
+    → (form : Form Goal) (x z : Forest) (us rest : List Token) → FitsForm fits form x z us rest → spell z ≡ spell x ++ us
 spelled fits h form x z us rest f =
-    walk any_token any_node (λ x z us rest. spell z ≡ spell x ++ us) keeps_spelled fits h form (anything form) x z us rest f
+    walk (λ x z us rest. spell z ≡ spell x ++ us) keeps_spelled fits h form x z us rest f
 
 -- what a goal's reading makes is spelled by the tokens that it takes
 abbrev pub ReadsSpelled : {Goal : Type 0} → ReadsBelow Goal → Type 0

@@ -22,12 +22,12 @@ last_cut done = None
 last_cut (leaf kind tokens x) = Some (behind_first (leaf kind tokens done) (last_cut x))
 last_cut (tree kind kids x) = Some (behind_first (tree kind kids done) (last_cut x))
 
--- ** One step back. `start` tells where the way back may end.
-abbrev pub Places : Type 0
-Places = SoFar → Bool
+-- ** One step back. `start` tells at which stages of a reading the way back may end.
+abbrev pub Stages : Type 0
+Stages = SoFar → Bool
 
 -- nothing is made
-abbrev pub is_empty : Places
+abbrev pub is_empty : Stages
 is_empty r = elim r.made [ done ↦ true | _ ↦ false ]
 
 -- the forest is one token of these kinds, whole or in its first part
@@ -37,24 +37,24 @@ is_token whole ks (leaf kind (t ∷ us) done) =
 is_token whole ks _ = false
 
 -- the last tree passes, and in front of it is a start
-abbrev pub at_cut : (Forest → Bool) → Places → List Token → Option (Forest × Forest) → Bool
+abbrev pub at_cut : (Forest → Bool) → Stages → List Token → Option (Forest × Forest) → Bool
 at_cut test start rest None = false
 at_cut test start rest (Some c) = test c.1 && start (so_far c.0 (spell c.1 ++ rest))
 
-abbrev pub cut_off : (Forest → Bool) → Places → Places
+abbrev pub cut_off : (Forest → Bool) → Stages → Stages
 cut_off test start r = at_cut test start r.rest (last_cut r.made)
 
 -- a node of the kind stands alone, and what is below it is a start
-abbrev pub unsealed : SyntaxKind → Places → Places
+abbrev pub unsealed : SyntaxKind → Stages → Stages
 unsealed kind start r = elim r.made [ tree k kids done ↦ same_kind k kind && start (so_far kids r.rest) | _ ↦ false ]
 
--- at most so many steps_back back
-abbrev pub steps_back : (Places → Places) → ℕ → Places → Places
+-- at most so many steps back
+abbrev pub steps_back : (Stages → Stages) → ℕ → Stages → Stages
 steps_back step zero start r = start r
 steps_back step (suc n) start r = start r || steps_back step n (step start) r
 
 -- ** The way back over a form: the form leads to here from a start. `below goal r` decides for the goals in it.
-abbrev pub reached : {Goal : Type 0} → (Goal → Places) → Form Goal → Places → Places
+abbrev pub reached : {Goal : Type 0} → (Goal → Stages) → Form Goal → Stages → Stages
 reached below (one whole ks) start r = cut_off (is_token whole ks) start r
 reached below (child goal) start r = cut_off (λ y. below goal (so_far y r.rest)) start r
 reached below (mark f) start r = cut_off (λ y. reached below f is_empty (so_far y r.rest)) start r
@@ -67,6 +67,6 @@ reached below (look want test) start r = agrees want (passes test r.rest) && sta
 reached below (check condition) start r = holds condition (spell r.made) && start r
 
 -- what is made is one of the goal, with at most so many levels of goals
-abbrev pub decide_at : {Goal : Type 0} → Productions Goal → ℕ → Goal → Places
+abbrev pub decide_at : {Goal : Type 0} → Productions Goal → ℕ → Goal → Stages
 decide_at grammar zero goal r = false
 decide_at grammar (suc n) goal r = reached (decide_at grammar n) (grammar goal) is_empty r

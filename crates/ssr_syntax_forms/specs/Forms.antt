@@ -58,10 +58,6 @@ any ks = one true ks
 abbrev pub part : {Goal : Type 0} → List SyntaxKind → Form Goal
 part ks = one false ks
 
--- a node, and all that is in it
-abbrev pub node : {Goal : Type 0} → SyntaxKind → Form Goal → Form Goal
-node kind f = mark (f then seal kind)
-
 abbrev pub at : List SyntaxKind → Test
 at ks = (ks ∷ []) ∷ []
 
