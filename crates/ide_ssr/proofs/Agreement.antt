@@ -1,7 +1,8 @@
 -- The relation and the function of matching agree.
 use Rattle.std.proofs.Common.{◌≡◌, ℕ, ◌+◌, Bool, true, false, ◌&&◌, cond, List, [], ◌∷◌, ◌++◌, Option, Some, None, refl, sym, ◌∙◌, ap, subst}
 use Rattle.std.specs.Str.{bytes_eq}
-use Rattle.std.proofs.lemmas.Bool.{and_parts}
+use Rattle.std.proofs.lemmas.Bool.{and_from, and_parts}
+use Rattle.std.proofs.lemmas.Option.{none-some, same_Some}
 use Rattle.std.proofs.lemmas.Slice.Eq.{bytes_eq-Decides}
 use Rattle.ssr_syntax_lex.proofs.Shared.{same_kind-equal, equal-same_kind}
 use Rattle.ssr_syntax_lex.specs.Kinds.{same_kind}
@@ -13,15 +14,6 @@ use Rattle.ide_ssr.specs.Matching.{is_left_out, bare, Matches, bound, alike, Pai
 use Rattle.ide_ssr.specs.Bindings.{joined, bindings_of}
 use Rattle.ide_ssr.proofs.Pairs.{pairs_by, bindings-placeholder, bindings-other_kind, bindings-children}
 
-both_true : (a b : Bool) → a ≡ true → b ≡ true → (a && b) ≡ true
-both_true a b p q = rw (p, q) refl
-
-unlike : (bs : List Binding) → None ≡ Some bs → ⊥
-unlike bs h = cc
-
-inner : (bs rest : List Binding) → Some bs ≡ Some rest → bs ≡ rest
-inner bs rest h = cc
-
 abbrev SiblingsAgree : List (List ℕ) → List Part → Type 0
 SiblingsAgree names ps = (cs : List Part) (bs : List Binding) → pairs_by names ps cs ≡ Some bs → Pairs names ps cs bs
 
@@ -32,46 +24,46 @@ node_agrees names p c bs below h = by_placeholder (placeholder_at names p) refl
     by_kind : (b : Bool) → same_kind p.kind c.kind ≡ b → placeholder_at names p ≡ None → Matches names p c bs
     by_kind true same none =
         alike p c bs none (same_kind-equal p.kind c.kind same) (below (bare (parts_of c)) bs (sym (bindings-children names p c none same) ∙ h))
-    by_kind false differs none = absurd (unlike bs (sym (bindings-other_kind names p c none differs) ∙ h))
+    by_kind false differs none = absurd (none-some bs (sym (bindings-other_kind names p c none differs) ∙ h))
 
     by_placeholder : (o : Option ℕ) → placeholder_at names p ≡ o → Matches names p c bs
     by_placeholder (Some i) is =
-        subst (Matches names p c) (inner (record { placeholder = i; node = record { 0 = c.number } } ∷ []) bs (sym (bindings-placeholder names p c i is) ∙ h)) (bound p c i is)
+        subst (Matches names p c) (same_Some (record { placeholder = i; node = record { 0 = c.number } } ∷ []) bs (sym (bindings-placeholder names p c i is) ∙ h)) (bound p c i is)
     by_placeholder None is = by_kind (same_kind p.kind c.kind) refl is
 
 -- a token of the pattern before siblings that agree
 token_agrees : (names : List (List ℕ)) (t : ℕ) (p : Token) (ps : List Part) → SiblingsAgree names ps → SiblingsAgree names (token_part t p ∷ ps)
-token_agrees names t p ps behind [] bs h = absurd (unlike bs h)
-token_agrees names t p ps behind (node_part c ∷ cs) bs h = absurd (unlike bs h)
+token_agrees names t p ps behind [] bs h = absurd (none-some bs h)
+token_agrees names t p ps behind (node_part c ∷ cs) bs h = absurd (none-some bs h)
 token_agrees names t p ps behind (token_part u c ∷ cs) bs h =
     by_test (same_kind p.kind c.kind && bytes_eq p.text c.text) refl (pairs_by names ps cs) refl h
   where
     by_test : (b : Bool) → (same_kind p.kind c.kind && bytes_eq p.text c.text) ≡ b → (o : Option (List Binding)) → pairs_by names ps cs ≡ o
         → joined (cond b (Some []) None) o ≡ Some bs → Pairs names (token_part t p ∷ ps) (token_part u c ∷ cs) bs
-    by_test true same None is g = absurd (unlike bs g)
+    by_test true same None is g = absurd (none-some bs g)
     by_test true same (Some rest) is g =
         let e = and_parts (same_kind p.kind c.kind) (bytes_eq p.text c.text) same in
         tokens t u p c ps cs bs (same_kind-equal p.kind c.kind e.0) ((bytes_eq-Decides p.text c.text).0 e.1) (behind cs bs (is ∙ g))
-    by_test false same o is g = absurd (unlike bs g)
+    by_test false same o is g = absurd (none-some bs g)
 
 -- likewise a node of the pattern
 node_before_agrees : (names : List (List ℕ)) (p : Node) (ps : List Part) → SiblingsAgree names (bare (parts_of p)) → SiblingsAgree names ps → SiblingsAgree names (node_part p ∷ ps)
-node_before_agrees names p ps below behind [] bs h = absurd (unlike bs h)
-node_before_agrees names p ps below behind (token_part u c ∷ cs) bs h = absurd (unlike bs h)
+node_before_agrees names p ps below behind [] bs h = absurd (none-some bs h)
+node_before_agrees names p ps below behind (token_part u c ∷ cs) bs h = absurd (none-some bs h)
 node_before_agrees names p ps below behind (node_part c ∷ cs) bs h =
     by_both (bindings_of names p c) refl (pairs_by names ps cs) refl h
   where
     by_both : (o : Option (List Binding)) → bindings_of names p c ≡ o → (r : Option (List Binding)) → pairs_by names ps cs ≡ r
         → joined o r ≡ Some bs → Pairs names (node_part p ∷ ps) (node_part c ∷ cs) bs
-    by_both None is r are g = absurd (unlike bs g)
-    by_both (Some found) is None are g = absurd (unlike bs g)
+    by_both None is r are g = absurd (none-some bs g)
+    by_both (Some found) is None are g = absurd (none-some bs g)
     by_both (Some found) is (Some rest) are g =
-        subst (Pairs names (node_part p ∷ ps) (node_part c ∷ cs)) (inner (found ++ rest) bs g)
+        subst (Pairs names (node_part p ∷ ps) (node_part c ∷ cs)) (same_Some (found ++ rest) bs g)
         (nodes p c ps cs found rest (node_agrees names p c found below is) (behind cs rest are))
 
 end_agrees : (names : List (List ℕ)) → SiblingsAgree names []
-end_agrees names [] bs h = subst (Pairs names [] []) (inner [] bs h) end
-end_agrees names (c ∷ cs) bs h = absurd (unlike bs h)
+end_agrees names [] bs h = subst (Pairs names [] []) (same_Some [] bs h) end
+end_agrees names (c ∷ cs) bs h = absurd (none-some bs h)
 
 left_or_kept : (names : List (List ℕ)) (b : Bool) (ps qs : List Part) → SiblingsAgree names ps → SiblingsAgree names qs → SiblingsAgree names (cond b ps qs)
 left_or_kept names true ps qs f g = f
@@ -99,7 +91,7 @@ same_tokens : (names : List (List ℕ)) (t u : ℕ) (p c : Token) (ps cs : List 
     → pairs_by names ps cs ≡ Some bs → pairs_by names (token_part t p ∷ ps) (token_part u c ∷ cs) ≡ Some bs
 same_tokens names t u p c ps cs bs kinds texts behind =
     ap (λ b. joined (cond b (Some []) None) (pairs_by names ps cs))
-    (both_true (same_kind p.kind c.kind) (bytes_eq p.text c.text) (equal-same_kind p.kind c.kind kinds) ((bytes_eq-Decides p.text c.text).1 texts))
+    (and_from (same_kind p.kind c.kind) (bytes_eq p.text c.text) (equal-same_kind p.kind c.kind kinds) ((bytes_eq-Decides p.text c.text).1 texts))
     ∙ ap (joined (Some [])) behind
 
 mutual

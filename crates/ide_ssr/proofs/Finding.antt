@@ -1,11 +1,10 @@
 -- All matches of rules in a tree, found node by node.
-use Rattle.std.proofs.Common.{◌≡◌, ℕ, ◌+◌, ◌<◌, Bool, true, false, List, [], ◌∷◌, ◌++◌, length, get_or, drop, drop-cons, add-one, Option, Some, None, refl, sym, ◌∙◌, ap, arith, append_assoc, append-nil, ◌≤◌, nat_lt}
+use Rattle.std.proofs.Common.{◌≡◌, ℕ, ◌+◌, ◌<◌, Bool, true, false, List, [], ◌∷◌, ◌++◌, length, get_or, drop, Option, Some, None, refl, sym, ◌∙◌, ap, arith, append_assoc, append-nil, ◌≤◌}
 use Rattle.std.specs.Prelude.{option_map, flat_map}
 use Rattle.ssr_syntax_tree.specs.Syntax.{Syntax, node_count}
 use Rattle.ssr_syntax_tree.specs.Places.{HasNode, Node, node_of, nodes_of, root_of}
 use Rattle.ssr_syntax_tree.proofs.Shared.{length-nodes_of, node_of-number}
-use Rattle.std.proofs.lemmas.Bool.Decides.{nat_tests}
-use Rattle.std.proofs.lemmas.List.{drop_all}
+use Rattle.std.proofs.lemmas.List.{drop_all, drop_more}
 use Rattle.std.proofs.lemmas.Option.{unwrap_or-slice_get}
 use Rattle.ide_ssr_rules.specs.Resolving.{ResolvedKind}
 use Rattle.ide_ssr.specs.declared.bindings.Binding.{Binding}
@@ -35,9 +34,6 @@ match-some : (n : ℕ) (rule : ResolvedKind) (node : Node) (bs : List Binding) �
     → match_at n rule node ≡ record { rule = n; node = node.number; bindings = bs } ∷ []
 match-some n rule node bs is = ap (match_of n node) is
 
-pub split_at : {X : Type 0} (xs : List X) (n : ℕ) (d : X) → n < length xs → drop n xs ≡ get_or xs n d ∷ drop (n + 1) xs
-split_at xs n d lt = rw (add-one, drop-cons xs n d) refl
-
 pub rules-turn : (rules : List ResolvedKind) (n : ℕ) (rule : ResolvedKind) (node : Node) (so_far new total : List Found) → n < length rules → rule ≡ get_or rules n rule
     → so_far ++ matches_at n (drop n rules) node ≡ total → new ≡ so_far ++ match_at n rule node → new ++ matches_at (n + 1) (drop (n + 1) rules) node ≡ total
 rules-turn rules n rule node so_far new total lt read sum new_is =
@@ -45,7 +41,7 @@ rules-turn rules n rule node so_far new total lt read sum new_is =
     ∙ append_assoc so_far (match_at n rule node) (matches_at (n + 1) (drop (n + 1) rules) node)
     ∙ ap (λ k. so_far ++ (match_at n rule node ++ matches_at k (drop (n + 1) rules) node)) (let e : n + 1 ≡ 1 + n = omega arith in e)
     ∙ ap (λ r. so_far ++ (match_at n r node ++ matches_at (1 + n) (drop (n + 1) rules) node)) read
-    ∙ ap (λ rest. so_far ++ matches_at n rest node) (sym (split_at rules n rule lt))
+    ∙ ap (λ rest. so_far ++ matches_at n rest node) (sym (drop_more rules n rule lt))
     ∙ sum
 
 pub added-some : (code : Syntax) (rule : ResolvedKind) (n m : ℕ) (so_far new : List Found) (bs : List Binding) → HasNode code m
@@ -56,9 +52,6 @@ added-some code rule n m so_far new bs has is new_is =
     ∙ ap (λ m. so_far ++ record { rule = n; node = m; bindings = bs } ∷ []) (sym (node_of-number code m has))
     ∙ ap (λ ms. so_far ++ ms) (sym (match-some n rule (node_of code m) bs (sym is)))
 
-less : (a b : ℕ) → a < b → nat_lt a b ≡ true
-less a b lt = grind (arith, nat_tests)
-
 pub nodes-turn : (rules : List ResolvedKind) (code : Syntax) (n : ℕ) (so_far new : List Found) (total : List Found) → HasNode code n
     → so_far ++ flat_map (found_at rules code) (drop n (nodes_of code)) ≡ total → new ≡ so_far ++ found_at rules code (node_of code n)
     → new ++ flat_map (found_at rules code) (drop (n + 1) (nodes_of code)) ≡ total
@@ -67,7 +60,7 @@ nodes-turn rules code n so_far new total has sum new_is =
     ap (λ new. new ++ flat_map (found_at rules code) (drop (n + 1) (nodes_of code))) new_is
     ∙ append_assoc so_far (found_at rules code (node_of code n)) (flat_map (found_at rules code) (drop (n + 1) (nodes_of code)))
     ∙ ap (λ node. so_far ++ (found_at rules code node ++ flat_map (found_at rules code) (drop (n + 1) (nodes_of code)))) (unwrap_or-slice_get (nodes_of code) n (root_of code))
-    ∙ ap (λ rest. so_far ++ flat_map (found_at rules code) rest) (sym (split_at (nodes_of code) n (root_of code) (let e = length-nodes_of code in omega arith)))
+    ∙ ap (λ rest. so_far ++ flat_map (found_at rules code) rest) (sym (drop_more (nodes_of code) n (root_of code) (let e = length-nodes_of code in omega arith)))
     ∙ sum
 
 pub nodes-start : (rules : List ResolvedKind) (code : Syntax) (none_yet : List Found) → none_yet ≡ [] → none_yet ++ flat_map (found_at rules code) (nodes_of code) ≡ found_in rules code

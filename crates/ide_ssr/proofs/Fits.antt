@@ -2,7 +2,7 @@
 use Rattle.std.proofs.Common.{◌≡◌, ℕ, ◌+◌, ◌<◌, ◌⊎◌, inl, inr, Bool, true, false, ◌||◌, not, cond, refl, sym, ◌∙◌, ap, arith, List, [], ◌∷◌, ◌++◌, length, get_or, zero, suc, Option, Some, None, All}
 use Rattle.std.specs.Prelude.{map, if◌then◌else◌}
 use Rattle.std.specs.List.{list_any}
-use Rattle.std.proofs.lemmas.Bool.{cases_lt}
+use Rattle.std.proofs.lemmas.Bool.{cases_lt, false_from_ne_true}
 use Rattle.std.proofs.lemmas.List.{get_or_default, map-append}
 use Rattle.std.proofs.lemmas.List.Elements.{All-append}
 use Rattle.std.proofs.lemmas.List.Folds.{list_all_at}
@@ -18,7 +18,7 @@ use Rattle.ide_ssr.specs.Lists.{binding_over, as_holder, last_over, holder_of}
 use Rattle.ide_ssr.specs.Private.Nearest.{NoneOver, IsNearest}
 use Rattle.ide_ssr.specs.Order.{Precedes}
 use Rattle.ide_ssr.specs.Private.Order.{IsIn, AreHeld}
-use Rattle.ide_ssr.proofs.Nearest.{false_of, holder-none, holder-at, held-binding, not_held-binding, not_over_before, not_over_self, fit_held}
+use Rattle.ide_ssr.proofs.Nearest.{holder-none, holder-at, held-binding, not_held-binding, not_over_before, not_over_self, fit_held}
 use Rattle.ide_ssr.proofs.Tests.{Over-is_over, is_over-Over, is_within-from, is_within-trans}
 
 -- a match over another one holds its range
@@ -130,7 +130,7 @@ AreHeld-push code ks holders m held behind is_in fit holder is =
           (AllPass-from_list_all (λ k. not (is_over code k m) || holds code k m) ks fit);
       holders_are =
           ap (λ hs. hs ++ holder ∷ []) held.holders_are
-          ∙ ap (λ h. map (holder_of code ks) ks ++ h ∷ []) (is ∙ sym (holder_of-push code ks m m (false_of (is_over code m m) (not_over_self code m))))
+          ∙ ap (λ h. map (holder_of code ks) ks ++ h ∷ []) (is ∙ sym (holder_of-push code ks m m (false_from_ne_true (is_over code m m) (not_over_self code m))))
           ∙ ap (λ hs. hs ++ holder_of code (ks ++ m ∷ []) m ∷ []) (sym (map_same (holder_of code (ks ++ m ∷ [])) (holder_of code ks) ks (λ n d lt. holder_of-push code ks m (get_or ks n d) (not_over_before code m (get_or ks n d) (behind n d lt)))))
           ∙ sym (map-append (holder_of code (ks ++ m ∷ [])) ks (m ∷ []));
     }

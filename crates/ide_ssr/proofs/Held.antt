@@ -1,10 +1,10 @@
 -- The holders of the kept matches are the nearest matches over them.
 use Rattle.std.proofs.Common.{◌≡◌, ℕ, ◌<◌, ◌≤◌, inl, inr, true, List, [], ◌∷◌, length, map, get_or, Option, None, All, AllPairs, refl, sym, ◌∙◌, ap, subst, arith, zero-add}
 use Rattle.std.specs.Prelude.{max, min, option_map}
-use Rattle.std.proofs.lemmas.Bool.{cases_lt, and_parts}
+use Rattle.std.proofs.lemmas.Bool.{cases_lt, and_parts, true_from_ne_false}
 use Rattle.std.proofs.lemmas.Bool.Decides.{nat_tests}
 use Rattle.std.proofs.lemmas.List.{get_or_default}
-use Rattle.std.proofs.lemmas.List.Elements.{All-nil, All-cons}
+use Rattle.std.proofs.lemmas.List.Elements.{All-nil, All-cons, All-filter}
 use Rattle.std.proofs.lemmas.List.Kept.{AllPairs-cons, AllPairs-filter}
 use Rattle.std.proofs.lemmas.List.Quantifiers.{position-Some}
 use Rattle.ssr_syntax_tree.specs.Syntax.{Syntax}
@@ -19,9 +19,9 @@ use Rattle.ide_ssr.specs.Private.Order.{IsIn, AreInOrder, AreHeld}
 use Rattle.ide_ssr.specs.Edits.{Clash, listed_changes, rewrites}
 use Rattle.ide_ssr.specs.Private.Nearest.{IsNearest}
 use Rattle.ide_ssr.specs.Holding.{IsHeld, IsHeldBy}
-use Rattle.ide_ssr.proofs.Choices.{All-chosen, All-pass}
+use Rattle.ide_ssr.proofs.Choices.{All-pass}
 use Rattle.ide_ssr.proofs.InOrder.{found_in_order}
-use Rattle.ide_ssr.proofs.Nearest.{Answer, nothing_over, at, answered, closed, nearest_earlier, binding-held, fit_held, true_of}
+use Rattle.ide_ssr.proofs.Nearest.{Answer, nothing_over, at, answered, closed, nearest_earlier, binding-held, fit_held}
 use Rattle.ide_ssr.proofs.OneKept.{kept-gives}
 use Rattle.ide_ssr.proofs.Ordered.{listed_ordered}
 
@@ -65,7 +65,7 @@ held_at code ks p m in_order is_place is fit _ (at q near e) =
       others = λ j d lt other.
           elim (cases_lt j q) [
             | inl less ↦
-                inr (true_of (is_over code (get_or ks j d) k) (λ none.
+                inr (true_from_ne_false (is_over code (get_or ks j d) k) (λ none.
                 let first : Precedes (get_or ks j d) k = subst (Precedes (get_or ks j d)) (get_or_default ks q d m near.is_place) (in_order j q d less near.is_place) in
                 let clear = closed code (get_or ks j d) k m first before none in cc))
             | inr more ↦ elim (cases_lt q j) [
@@ -92,7 +92,7 @@ kept_held rules code p d lt =
 kept_are_in : (code : Syntax) (ms : List Found) → AreInOrder code ms → AreInOrder code (kept code ms)
 kept_are_in code ms are = record {
   in_order = kept_in_order code ms are.in_order;
-  are_in = subst (All (IsIn code)) (kept-gives code ms are.in_order).1 (All-chosen (IsIn code) (is_among (kept code ms)) ms are.are_in);
+  are_in = subst (All (IsIn code)) (kept-gives code ms are.in_order).1 (All-filter (is_among (kept code ms)) (IsIn code) ms are.are_in);
 }
 
 kept_are_held : (rules : List ResolvedKind) (code : Syntax) → let ks = kept_in rules code in AreHeld code ks (map (holder_of code ks) ks)

@@ -2,7 +2,7 @@
 use Rattle.std.proofs.Common.{◌≡◌, ℕ, zero, suc, ◌+◌, ◌<◌, ◌⊎◌, inl, inr, Bool, true, false, ◌||◌, not, cond, refl, sym, ◌∙◌, ap, zero-add, arith, List, [], ◌∷◌, length, get_or, Option, Some, None, All, AllPairs}
 use Rattle.std.specs.Prelude.{option_map}
 use Rattle.std.specs.Option.{option_map_or}
-use Rattle.std.proofs.lemmas.Bool.{cases_lt}
+use Rattle.std.proofs.lemmas.Bool.{cases_lt, false_from_ne_true, true_from_ne_false}
 use Rattle.std.proofs.lemmas.List.{get_or_default, get_or-map}
 use Rattle.ssr_syntax_tree.specs.Syntax.{Syntax}
 use Rattle.ssr_syntax_tree.specs.Places.{node_of, size_of}
@@ -38,14 +38,6 @@ not_over_by k kr m mr s (inr a) (inr o) = omega arith
 not_over_self_by : (k kr s : ℕ) → ((k < k) × (k < k + s)) ⊎ ((k ≡ k) × (kr < kr)) → ⊥
 not_over_self_by k kr s (inl a) = omega arith
 not_over_self_by k kr s (inr a) = omega arith
-
-pub false_of : (b : Bool) → (b ≡ true → ⊥) → b ≡ false
-false_of true h = absurd (h refl)
-false_of false h = refl
-
-pub true_of : (b : Bool) → (b ≡ false → ⊥) → b ≡ true
-true_of true h = refl
-true_of false h = absurd (h refl)
 
 pub true_false : (b : Bool) → (b ≡ true → b ≡ false) → b ≡ false
 true_false true h = h refl
@@ -145,11 +137,11 @@ unfolding holds
 binding-not_held code k m other = position-none (λ binding. is_within code m.node binding.node.0) k.bindings other
 
 pub held-binding : (code : Syntax) (k m : Found) (i : ℕ) → binding_over code k m ≡ Some i → holds code k m ≡ true
-held-binding code k m i is = true_of (holds code k m) (λ other. let e : Some i ≡ None = sym is ∙ binding-not_held code k m other in cc)
+held-binding code k m i is = true_from_ne_false (holds code k m) (λ other. let e : Some i ≡ None = sym is ∙ binding-not_held code k m other in cc)
 
 pub not_held-binding : (code : Syntax) (k m : Found) → binding_over code k m ≡ None → holds code k m ≡ false
 not_held-binding code k m is =
-    false_of (holds code k m) (λ held. let found = binding-held code k m held in let e : Some (found.0) ≡ None = sym found.1 ∙ is in cc)
+    false_from_ne_true (holds code k m) (λ held. let found = binding-held code k m held in let e : Some (found.0) ≡ None = sym found.1 ∙ is in cc)
 
 -- a match that lies in a placeholder of each one over it has the nearest one as its holder
 pub holder-held : (code : Syntax) (ks : List Found) (m : Found) (p : ℕ) → IsNearest code ks m p → holds code (get_or ks p m) m ≡ true
@@ -183,10 +175,6 @@ not_over_from code ks m p q order behind is_place past other clear n d ge lt =
             | inr same ↦ rw (get_or_default ks n d m lt) (let e : n ≡ p = omega arith in rw e other)
           ]
     ]
-
--- what is said of the match at a place, whatever stands for it past the end
-at_place : (ks : List Found) (m d : Found) (p : ℕ) → p < length ks → get_or ks p d ≡ get_or ks p m
-at_place ks m d p lt = get_or_default ks p d m lt
 
 pub nearest_earlier : (code : Syntax) (ks : List Found) (p q : ℕ) (m : Found) → AllPairs Precedes ks → p < length ks → IsNearest code ks (get_or ks p m) q → q < p
 nearest_earlier code ks p q m order is_place near =

@@ -2,30 +2,21 @@
 use Rattle.std.proofs.Common.{◌≡◌, ℕ, ◌<◌, ◌⊎◌, inl, inr, Bool, true, false, ◌&&◌, ◌||◌, ◌==◌, not, cond, List, [], ◌∷◌, ◌++◌, get_or, All, AllPairs, refl, sym, ◌∙◌, ap, subst, arith, append_assoc, append-nil}
 use Rattle.std.specs.Prelude.{filter}
 use Rattle.std.specs.List.{list_any}
+use Rattle.std.proofs.Math.Bool.{and-true}
+use Rattle.std.proofs.lemmas.Bool.{cond_both, false_from_ne_true, or_left, or_right}
 use Rattle.std.proofs.lemmas.Bool.Decides.{nat_tests}
 use Rattle.std.proofs.lemmas.List.Folds.{list_all-append, list_any-append, list_any_none}
-use Rattle.std.proofs.lemmas.List.Elements.{All-append, All-cons, All-tail}
+use Rattle.std.proofs.lemmas.List.Elements.{All-append, All-cons, All-filter, All-tail}
 use Rattle.ssr_syntax_tree.specs.Syntax.{Syntax}
 use Rattle.ide_ssr.specs.Found.{Found}
 use Rattle.ide_ssr.specs.Kept.{is_over, holds, fits, is_among, IsKept, kept, kept_behind}
 use Rattle.ide_ssr.specs.Order.{Precedes}
-use Rattle.ide_ssr.proofs.Choices.{All-chosen, pairs_head, pairs_tail}
-use Rattle.ide_ssr.proofs.Nearest.{not_over_before, not_over_self, false_of}
-
--- Of matches none of which is over m, any choice lets m fit.
-not_over_passes : (over held : Bool) → over ≡ false → (not over || held) ≡ true
-not_over_passes over held e = rw e refl
-
-fits_one : (code : Syntax) (k : Found) (ks : List Found) (m : Found) → is_over code k m ≡ false → fits code ks m ≡ true → fits code (k ∷ ks) m ≡ true
-fits_one code k ks m other rest = rw (not_over_passes (is_over code k m) (holds code k m) other, rest) refl
-
-fits_none : (code : Syntax) (ms : List Found) (m : Found) → All (λ k. is_over code k m ≡ false) ms → fits code ms m ≡ true
-fits_none code [] m none = refl
-fits_none code (k ∷ ms) m none =
-    fits_one code k ms m (none 0 k (omega arith)) (fits_none code ms m (All-tail (λ k. is_over code k m ≡ false) k ms none))
+use Rattle.ide_ssr.proofs.Choices.{pairs_head, pairs_tail}
+use Rattle.ide_ssr.proofs.Fits.{fits-none}
+use Rattle.ide_ssr.proofs.Nearest.{not_over_before, not_over_self}
 
 self_clear : (code : Syntax) (m : Found) → is_over code m m ≡ false
-self_clear code m = false_of (is_over code m m) (not_over_self code m)
+self_clear code m = false_from_ne_true (is_over code m m) (not_over_self code m)
 
 -- none of a match and those behind it is over it
 clear_behind : (code : Syntax) (m : Found) (ms : List Found) → All (Precedes m) ms → All (λ k. is_over code k m ≡ false) (m ∷ ms)
@@ -33,15 +24,11 @@ clear_behind code m ms behind =
     All-cons (λ k. is_over code k m ≡ false) m ms (self_clear code m) (λ n d lt. not_over_before code (get_or ms n d) m (behind n d lt))
 
 -- so whether a match fits is told by those before it
-and_true : (b : Bool) → (b && true) ≡ b
-and_true true = refl
-and_true false = refl
-
 fits_before : (code : Syntax) (ks xs : List Found) (m : Found) → All (λ k. is_over code k m ≡ false) xs → fits code (ks ++ xs) m ≡ fits code ks m
 fits_before code ks xs m clear =
     list_all-append (λ k. not (is_over code k m) || holds code k m) ks xs
-    ∙ ap (λ b. fits code ks m && b) (fits_none code xs m clear)
-    ∙ and_true (fits code ks m)
+    ∙ ap (λ b. fits code ks m && b) (fits-none code xs m (λ n d ge lt. clear n d lt))
+    ∙ and-true (fits code ks m)
 
 -- A choice that is the kept ones chooses, after ks, what a run keeps after ks.
 abbrev ChoosesAfter : Syntax → (Found → Bool) → List Found → List Found → List Found → Type 0
@@ -64,7 +51,7 @@ kept_after code chosen ks (m ∷ ms) in_order is =
     (sym
     (is 0 m (omega arith)
     ∙ fits_before code ks (filter chosen (m ∷ ms)) m
-    (All-chosen (λ k. is_over code k m ≡ false) chosen (m ∷ ms) (clear_behind code m ms (pairs_head Precedes m ms in_order)))))
+    (All-filter chosen (λ k. is_over code k m ≡ false) (m ∷ ms) (clear_behind code m ms (pairs_head Precedes m ms in_order)))))
     ∙ kept_step code chosen ks m ms (chosen m)
     (λ ks is. kept_after code chosen ks ms (pairs_tail Precedes m ms in_order) is)
     (All-tail (λ n. chosen n ≡ fits code (ks ++ filter chosen (m ∷ ms)) n) m ms is)
@@ -89,16 +76,12 @@ kept-split code ks [] = sym (append-nil ks)
 kept-split code ks (m ∷ ms) =
     split_step code ks m ms (chosen_after code (ks ++ m ∷ []) ms) (chosen_after code ks ms) (fits code ks m) (kept-split code (ks ++ m ∷ []) ms) (kept-split code ks ms)
 
-All_either : {X : Type 0} (P : X → Type 0) (b : Bool) (xs ys : List X) → All P xs → All P ys → All P (cond b xs ys)
-All_either P true xs ys f g = f
-All_either P false xs ys f g = g
-
 All-chosen_after : (P : Found → Type 0) (code : Syntax) (ks ms : List Found) → All P ms → All P (chosen_after code ks ms)
 All-chosen_after P code ks [] h = h
 All-chosen_after P code ks (m ∷ ms) h =
-    All_either P (fits code ks m) (m ∷ chosen_after code (ks ++ m ∷ []) ms) (chosen_after code ks ms)
-    (All-cons P m (chosen_after code (ks ++ m ∷ []) ms) (h 0 m (omega arith)) (All-chosen_after P code (ks ++ m ∷ []) ms (All-tail P m ms h)))
-    (All-chosen_after P code ks ms (All-tail P m ms h))
+    cond_both (fits code ks m) (m ∷ chosen_after code (ks ++ m ∷ []) ms) (chosen_after code ks ms) (All P)
+    (λ yes. All-cons P m (chosen_after code (ks ++ m ∷ []) ms) (h 0 m (omega arith)) (All-chosen_after P code (ks ++ m ∷ []) ms (All-tail P m ms h)))
+    (λ no. All-chosen_after P code ks ms (All-tail P m ms h))
 
 -- a match is told by its node and its rule
 abbrev is_same : Found → Found → Bool
@@ -115,14 +98,11 @@ other_numbers_back : (a r b q : ℕ) → (b < a) ⊎ ((b ≡ a) × (q < r)) → 
 other_numbers_back a r b q (inl h) = grind (arith, nat_tests)
 other_numbers_back a r b q (inr h) = grind (arith, nat_tests)
 
-or_middle : (a b c : Bool) → b ≡ true → (a || (b || c)) ≡ true
-or_middle true b c h = refl
-or_middle false b c h = rw h refl
-
 among : (ks xs : List Found) (m : Found) → is_among (ks ++ m ∷ xs) m ≡ true
 among ks xs m =
     list_any-append (is_same m) ks (m ∷ xs)
-    ∙ or_middle (list_any (is_same m) ks) (is_same m m) (list_any (is_same m) xs) (same_numbers m.node m.rule)
+    ∙ or_right (list_any (is_same m) ks) (is_same m m || list_any (is_same m) xs)
+    (or_left (is_same m m) (list_any (is_same m) xs) (same_numbers m.node m.rule))
 
 not_among : (ks xs : List Found) (m : Found) → All (λ k. Precedes k m) ks → All (Precedes m) xs → is_among (ks ++ xs) m ≡ false
 not_among ks xs m before behind =

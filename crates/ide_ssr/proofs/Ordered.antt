@@ -1,5 +1,5 @@
 -- The matches of one list and their changes are in order and share no byte.
-use Rattle.std.proofs.Common.{◌≡◌, ℕ, suc, ◌+◌, ◌<◌, ◌≤◌, inl, inr, Bool, true, false, ◌==◌, cond, List, [], ◌∷◌, All, length, drop, map, filter, reverse, get_or, Option, Some, None, AllPairs, refl, sym, ◌∙◌, ap, subst, arith}
+use Rattle.std.proofs.Common.{◌≡◌, ℕ, ◌+◌, ◌<◌, ◌≤◌, inl, inr, Bool, true, false, ◌==◌, cond, List, [], ◌∷◌, All, length, drop, map, filter, reverse, get_or, Option, Some, None, AllPairs, refl, sym, ◌∙◌, ap, subst, arith}
 use Rattle.std.specs.List.{AllByRecursion}
 use Rattle.std.proofs.lemmas.Bool.{cases_lt, and_parts}
 use Rattle.std.proofs.lemmas.Bool.Decides.{nat_tests}
@@ -76,22 +76,20 @@ listed_from : (code : Syntax) (rules : List ResolvedKind) (ks : List Found) (hol
 listed_from code rules ks holders held holder from j [] is begins = tt
 listed_from code rules ks holders held holder from j (m ∷ ms) is begins =
     let here = at_drop ks j m ms is in
-    let one : 1 + j ≡ suc j = omega arith in
-    let next : drop (1 + j) ks ≡ ms = ap (λ (i : ℕ). drop i ks) one ∙ here.2 in
-    let at : get_or ks j m ≡ m = here.1 m in
+    let at : get_or ks j m ≡ m = here.it m in
     let is_here : (b : Bool) → is_listed holder (holder_of code ks m) ≡ b → (d : Found) → is_listed holder (holder_of code ks (get_or ks j d)) ≡ b =
-    λ b e d. ap (λ (m : Found). is_listed holder (holder_of code ks m)) (here.1 d) ∙ e in
+    λ b e d. ap (λ (m : Found). is_listed holder (holder_of code ks m)) (here.it d) ∙ e in
     ordered_step from (rewrite_of code rules ks (rewrites code rules ks (1 + j) ms) j m)
     (filter (λ r. is_listed holder r.holder) (rewrites code rules ks (1 + j) ms)) (is_listed holder (holder_of code ks m))
     (λ yes. (
-      subst (λ (x : Found). from ≤ start_of code (node_of code x.node)) at (begins j m (omega arith) here.0 (is_here true yes m)),
+      subst (λ (x : Found). from ≤ start_of code (node_of code x.node)) at (begins j m (omega arith) here.within (is_here true yes m)),
       start_before_end code (node_of code m.node),
-      listed_from code rules ks holders held holder (end_of code (node_of code m.node)) (1 + j) ms next
+      listed_from code rules ks holders held holder (end_of code (node_of code m.node)) (1 + j) ms here.behind
           (λ i d h lt listed.
-          subst (λ (x : Found). EndsBeforeIn code x (get_or ks i d)) (here.1 d)
+          subst (λ (x : Found). EndsBeforeIn code x (get_or ks i d)) (here.it d)
           (listed_apart code ks holders held holder j i d (omega arith) lt (is_here true yes d) listed)),
     ))
-    (λ no. listed_from code rules ks holders held holder from (1 + j) ms next (λ i d h lt listed. begins i d (omega arith) lt listed))
+    (λ no. listed_from code rules ks holders held holder from (1 + j) ms here.behind (λ i d h lt listed. begins i d (omega arith) lt listed))
 
 -- the changes of one list are in order
 pub listed_ordered : (code : Syntax) (rules : List ResolvedKind) (ks : List Found) (holders : List (Option Holder)) → AreHeld code ks holders

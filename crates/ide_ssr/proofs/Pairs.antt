@@ -2,7 +2,7 @@
 use Rattle.std.proofs.Common.{◌≡◌, ℕ, ◌+◌, ◌<◌, Bool, true, false, ◌&&◌, cond, List, [], ◌∷◌, ◌++◌, length, All, Option, Some, None, refl, sym, ◌∙◌, ap, subst, arith, append_assoc, append-nil, suc, ◌*◌, ◌==◌}
 use Rattle.std.specs.Prelude.{map}
 use Rattle.std.specs.Str.{bytes_eq}
-use Rattle.std.proofs.lemmas.Bool.Decides.{nat_tests}
+use Rattle.std.proofs.lemmas.Bool.{ne_eqb}
 use Rattle.ssr_syntax_lex.specs.declared.kinds.SyntaxKind.{SyntaxKind}
 use Rattle.ssr_syntax_lex.specs.Kinds.{same_kind}
 use Rattle.ssr_syntax_tree.specs.declared.number.TokenNo.{TokenNo}
@@ -147,15 +147,12 @@ paired-turns names pattern code n m p c all ps others cs old out new b so_far al
 paired-turns names pattern code n m p c all ps others cs old out new b so_far all_is others_are (other is none) yes_matched =
     let e : true ≡ false = sym yes_matched ∙ is in cc
 
-not_empty : (n : ℕ) → 0 < n → (n == 0) ≡ false
-not_empty n lt = grind (arith, nat_tests)
-
 pub paired-ends : (names : List (List ℕ)) (pattern code : Syntax) (n m : ℕ) (all others : List Element) (old out : List Binding)
     → PairedSoFar names pattern code n m all others old out → length all ≡ 0 → (b : Bool) → b ≡ (length others == 0)
     → Answers (bindings_of names (node_of pattern n) (node_of code m)) old out b
 paired-ends names pattern code n m [] [] old out so_far none b is =
     matched so_far.bound is (so_far.comes_to ∙ ap Some (append-nil so_far.bound)) so_far.out_is
-paired-ends names pattern code n m [] (c ∷ cs) old out so_far none b is = other (is ∙ not_empty (length (c ∷ cs)) (omega arith)) so_far.comes_to
+paired-ends names pattern code n m [] (c ∷ cs) old out so_far none b is = other (is ∙ ne_eqb (length (c ∷ cs)) 0 (λ e. omega (arith, e))) so_far.comes_to
 paired-ends names pattern code n m (p ∷ ps) others old out so_far none b is = absurd (omega arith)
 
 -- how far a recursion on a pattern's elements still goes

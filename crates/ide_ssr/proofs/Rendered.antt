@@ -6,7 +6,7 @@ use Rattle.std.proofs.lemmas.Option.{unwrap_or-slice_get}
 use Rattle.std.proofs.lemmas.Bool.Decides.{nat_tests}
 use Rattle.ssr_syntax_tree.specs.Syntax.{Syntax, node_count, tokens_of}
 use Rattle.ssr_syntax_tree.specs.Places.{Node, nodes_of, node_of, token_of, start_of, end_of, IsAbove, HasNode, HasToken}
-use Rattle.ssr_syntax_tree.proofs.Shared.{node_of-number, start_of-below, end_of-below, length-nodes_in}
+use Rattle.ssr_syntax_tree.proofs.Shared.{node_of-number, start_of-below, end_of-below, length-nodes_of}
 use Rattle.std.proofs.lemmas.Bool.{cases_lt}
 use Rattle.ide_ssr_rules.specs.Resolving.{name_at}
 use Rattle.ide_ssr.specs.Rendering.{text_for, plain, is_node, wrapped, wrapped_text}
@@ -27,9 +27,6 @@ pub wrapped_from : (read : Syntax) (front : ℕ) (names : List (List ℕ)) (piec
 wrapped_from read front names piece at tree t h = ap (wrapped read front names piece at) (tokens_from tree t h)
 
 -- the node of a number, in the list of nodes
-length-nodes_of : (tree : Syntax) → length (nodes_of tree) ≡ 1 + node_count tree.children
-length-nodes_of tree = omega (arith, length-nodes_in 0 1 0 tree.children)
-
 pub node_at : (tree : Syntax) (n : ℕ) (d : Node) → HasNode tree n → get_or (nodes_of tree) n d ≡ node_of tree n
 unfolding node_of
 node_at tree n d h = get_or_default (nodes_of tree) n d _ (omega (arith, length-nodes_of tree)) ∙ sym (unwrap_or-slice_get (nodes_of tree) n _)

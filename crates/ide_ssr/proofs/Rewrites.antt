@@ -1,9 +1,10 @@
 -- Laws of the kept matches with their replacements: what a match holds comes first among those that wait.
 use Rattle.std.proofs.Common.{◌≡◌, ℕ, ◌+◌, ◌==◌, ◌&&◌, not, nat_lt, nat_le, Bool, true, false, cond, List, [], ◌∷◌, ◌++◌, All, map, filter, reverse, Option, Some, None, refl, sym, ◌∙◌, ap, subst, arith, append-nil}
 use Rattle.std.specs.List.{AllByRecursion}
+use Rattle.std.proofs.lemmas.Bool.{not_from_false, not_from_true}
 use Rattle.std.proofs.lemmas.Bool.Decides.{nat_tests}
 use Rattle.std.proofs.lemmas.List.{reverse-append}
-use Rattle.std.proofs.lemmas.List.Elements.{All-head, All-tail}
+use Rattle.std.proofs.lemmas.List.Elements.{All-head, All-tail, filter-append, filter_agree}
 use Rattle.ide_ssr.specs.declared.holders.Holder.{Holder}
 use Rattle.ide_ssr.specs.Lists.{is_holder}
 use Rattle.ide_ssr.specs.Edits.{Rewrite, listed_changes}
@@ -16,16 +17,6 @@ filter_and p q [] = refl
 filter_and {X} p q (x ∷ xs) =
     elim (p x) as (λ b. cond (b && q x) (x ∷ filter (λ x. p x && q x) xs) (filter (λ x. p x && q x) xs) ≡ filter q (cond b (x ∷ filter p xs) (filter p xs)))
     [ true ↦ ap (λ (r : List X). cond (q x) (x ∷ r) r) (filter_and p q xs) | false ↦ filter_and p q xs ]
-
-filter_same : {X : Type 0} (p q : X → Bool) → ((x : X) → p x ≡ q x) → (xs : List X) → filter p xs ≡ filter q xs
-filter_same p q h [] = refl
-filter_same {X} p q h (x ∷ xs) = rw (h x) (ap (λ (r : List X). cond (q x) (x ∷ r) r) (filter_same p q h xs))
-
-filter-append : {X : Type 0} (p : X → Bool) (xs ys : List X) → filter p (xs ++ ys) ≡ filter p xs ++ filter p ys
-filter-append p [] ys = refl
-filter-append {X} p (x ∷ xs) ys =
-    elim (p x) as (λ b. cond b (x ∷ filter p (xs ++ ys)) (filter p (xs ++ ys)) ≡ cond b (x ∷ filter p xs) (filter p xs) ++ filter p ys)
-    [ true ↦ ap (λ (r : List X). x ∷ r) (filter-append p xs ys) | false ↦ filter-append p xs ys ]
 
 filter_all : {X : Type 0} (p : X → Bool) (xs : List X) → AllByRecursion (λ x. p x ≡ true) xs → filter p xs ≡ xs
 filter_all p [] h = refl
@@ -83,14 +74,6 @@ not_after : (n : ℕ) (h : Option Holder) → is_open (1 + n) h ≡ true → is_
 not_after n None e f = refl
 not_after n (Some h) e f = after_tests h.place n e f
 
-not_true : (b : Bool) → b ≡ true → not b ≡ false
-not_true true e = refl
-not_true false e = sym e
-
-not_false : (b : Bool) → b ≡ false → not b ≡ true
-not_false true e = sym e
-not_false false e = refl
-
 -- what the match of the place n holds comes first
 
 abbrev pub NoneAt : ℕ → List Rewrite → Type 0
@@ -141,17 +124,17 @@ Splits-first n later front back is first held other =
     let none : NoneAt n back = none_at-back n back (at_first-back n front back (subst (AtFirst n) is (at_first n later first))) other in
     record {
       waiting =
-          filter_same (λ r. is_open n r.holder) (λ r. is_open (1 + n) r.holder && not (is_at n r.holder)) (λ r. open_and n r.holder) later
+          filter_agree (λ r. is_open n r.holder) (λ r. is_open (1 + n) r.holder && not (is_at n r.holder)) (λ r. open_and n r.holder) later
           ∙ (filter_and (λ r. is_open (1 + n) r.holder) (λ r. not (is_at n r.holder)) later
           ∙ (ap (filter (λ r. not (is_at n r.holder))) is
           ∙ (filter-append (λ r. not (is_at n r.holder)) front back
           ∙ (ap (λ (rs : List Rewrite). rs ++ filter (λ r. not (is_at n r.holder)) back)
-          (filter_none (λ r. not (is_at n r.holder)) front (each_weaker (λ r. is_at n r.holder ≡ true) (λ r. not (is_at n r.holder) ≡ false) (λ r e. not_true (is_at n r.holder) e) front held))
-          ∙ filter_all (λ r. not (is_at n r.holder)) back (each_weaker (λ r. is_at n r.holder ≡ false) (λ r. not (is_at n r.holder) ≡ true) (λ r e. not_false (is_at n r.holder) e) back none)))));
+          (filter_none (λ r. not (is_at n r.holder)) front (each_weaker (λ r. is_at n r.holder ≡ true) (λ r. not (is_at n r.holder) ≡ false) (λ r e. not_from_true (is_at n r.holder) e) front held))
+          ∙ filter_all (λ r. not (is_at n r.holder)) back (each_weaker (λ r. is_at n r.holder ≡ false) (λ r. not (is_at n r.holder) ≡ true) (λ r e. not_from_false (is_at n r.holder) e) back none)))));
       held = λ i.
           let p : Rewrite → Bool = λ r. is_holder (record { place = n; binding = i }) r.holder in
           ap (λ (rs : List Rewrite). map (λ r. r.change) rs)
-          (filter_same p (λ r. is_open (1 + n) r.holder && p r) (λ r. holder_and n i r.holder) later
+          (filter_agree p (λ r. is_open (1 + n) r.holder && p r) (λ r. holder_and n i r.holder) later
           ∙ (filter_and (λ r. is_open (1 + n) r.holder) p later
           ∙ (ap (filter p) is
           ∙ (filter-append p front back

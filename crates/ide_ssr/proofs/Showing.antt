@@ -1,10 +1,10 @@
 -- Nested matches show kept ones, one more at a time.
 use Rattle.std.proofs.Common.{◌≡◌, ℕ, zero, suc, ◌+◌, ◌<◌, ◌≤◌, Bool, true, false, not, cond, List, [], ◌∷◌, ◌++◌, AllPairs, inl, inr, length, take, filter, get_or, map, Option, Some, None, refl, sym, ◌∙◌, ap, subst, arith}
 use Rattle.std.specs.Prelude.{slice_get}
-use Rattle.std.proofs.Math.Seq.{take-suc, take_all}
-use Rattle.std.proofs.lemmas.List.{append-nil, get_or_default, get_or_past, get_or-map, length-map, length-take}
+use Rattle.std.proofs.Math.Seq.{take_all}
+use Rattle.std.proofs.lemmas.List.{take_more, append-nil, get_or_default, get_or_past, get_or-map, length-map, length-take}
 use Rattle.std.proofs.lemmas.Option.{slice_get-get_or, get_or_from_slice_get}
-use Rattle.std.proofs.lemmas.List.Elements.{filter-append}
+use Rattle.std.proofs.lemmas.List.Elements.{filter_more}
 use Rattle.std.proofs.lemmas.Bool.Decides.{nat_tests}
 use Rattle.ssr_syntax_tree.specs.Syntax.{Syntax}
 use Rattle.ide_ssr_rules.specs.Resolving.{ResolvedKind}
@@ -18,7 +18,7 @@ use Rattle.ide_ssr.specs.Matches.{inner_of, placeholders_of}
 use Rattle.ide_ssr.specs.Nesting.{placeholder_name, HasParts, HasBinding, Show, Shows, ShowBindings}
 use Rattle.ide_ssr.specs.Private.Nesting.{NoneListed, NoneListedFrom}
 use Rattle.ide_ssr.specs.Nesting as nesting
-use Rattle.std.proofs.lemmas.Bool.{cases_lt}
+use Rattle.std.proofs.lemmas.Bool.{cases_lt, not-true}
 use Rattle.ide_ssr.specs.Kept.{is_over}
 use Rattle.ide_ssr.specs.Order.{Precedes}
 use Rattle.ide_ssr.specs.Private.Order.{AreHeld}
@@ -93,16 +93,12 @@ none_from code ks order holder n before lt clear j d le within =
 open_before : (holder : Holder) (n : ℕ) → is_open n (Some holder) ≡ true → holder.place < n
 open_before holder n e = grind (arith, nat_tests)
 
-no_over : (b : Bool) → not b ≡ true → b ≡ false
-no_over true e = sym e
-no_over false e = refl
-
 pub none_from_test : (code : Syntax) (ks : List Found) → AllPairs Precedes ks → (own : Option Holder) (holder : Holder) → own ≡ Some holder
     → (n : ℕ) → is_open n own ≡ true → n < length ks → (k m : Found) → k ≡ get_or ks holder.place k → m ≡ get_or ks n m
     → (b : Bool) → b ≡ is_over code k m → not b ≡ true → NoneListedFrom code ks own n
 none_from_test code ks order own holder is n opened lt k m k_at m_at b tested e =
     let before : holder.place < n = open_before holder n (subst (λ (own : Option Holder). is_open n own ≡ true) is opened) in
-    let over : is_over code k m ≡ false = sym tested ∙ no_over b e in
+    let over : is_over code k m ≡ false = sym tested ∙ not-true b e in
     let clear : (d : Found) → is_over code (get_or ks holder.place d) (get_or ks n d) ≡ false =
     λ d.
     let left : get_or ks holder.place d ≡ k = get_or_default ks holder.place d k (omega arith) ∙ sym k_at in
@@ -120,9 +116,7 @@ show-starts code rules ks holder n vs empty h =
 taken : (t : Found → Bool) (ks : List Found) (n : ℕ) (m : Found) → n < length ks → get_or ks n m ≡ m
     → filter t (take (n + 1) ks) ≡ filter t (take n ks) ++ cond (t m) (m ∷ []) []
 taken t ks n m lt is =
-    ap (λ (i : ℕ). filter t (take i ks)) (let h : n + 1 ≡ suc n = omega arith in h)
-    ∙ (ap (filter t) (take-suc ks n m lt ∙ ap (λ (k : Found). take n ks ++ k ∷ []) is)
-    ∙ filter-append t (take n ks) (m ∷ []))
+    filter_more t ks n m lt ∙ ap (λ (k : Found). filter t (take n ks) ++ cond (t k) (k ∷ []) []) is
 
 -- how the match of a place is listed is read from the list of holders
 pub own_holder : (code : Syntax) (ks : List Found) (holders : List (Option Holder)) → AreHeld code ks holders → (n : ℕ) (m : Found) → n < length ks
@@ -192,7 +186,7 @@ pub bindings-step : (code : Syntax) (rules : List ResolvedKind) (ks : List Found
 bindings-step code rules ks n rule other i bs d old ps p so_far lt same has inner more =
     subst (λ (ps : List PlaceholderMatch). ShowBindings code rules ks n rule 0 (take (i + 1) bs) ps) (sym more)
     (subst (λ (bs : List Binding). ShowBindings code rules ks n rule 0 bs (old ++ p ∷ []))
-    (sym (ap (λ (i : ℕ). take i bs) (let h : i + 1 ≡ suc i = omega arith in h) ∙ take-suc bs i d lt))
+    (sym (take_more bs i d lt))
     (bindings-push code rules ks n rule 0 (take i bs) old (get_or bs i d) p i so_far
     (omega (arith, length-take i bs))
     (subst (λ (rule : Option ResolvedKind). HasBinding code rule (get_or bs i d) p) same has) inner))

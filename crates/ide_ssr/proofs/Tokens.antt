@@ -1,7 +1,6 @@
 -- A tree's tokens from one on.
-use Rattle.std.proofs.Common.{◌≡◌, ℕ, suc, ◌+◌, ◌<◌, ◌≤◌, [], ◌∷◌, length, drop, get_or, sym, ◌∙◌, ap, arith}
-use Rattle.std.proofs.Math.Seq.{drop-cons}
-use Rattle.std.proofs.lemmas.List.{get_or_default, drop_all}
+use Rattle.std.proofs.Common.{◌≡◌, ℕ, ◌+◌, ◌<◌, ◌≤◌, [], ◌∷◌, length, drop, get_or, sym, ◌∙◌, ap, arith}
+use Rattle.std.proofs.lemmas.List.{drop_more, get_or_default, drop_all}
 use Rattle.std.proofs.lemmas.Option.{unwrap_or-slice_get}
 use Rattle.ssr_syntax_tree.specs.Syntax.{Token, Syntax, token_count, tokens_of}
 use Rattle.ssr_syntax_tree.specs.Places.{token_of, HasToken}
@@ -14,10 +13,8 @@ token_at tree t d h = get_or_default (tokens_of tree) t d _ h ∙ sym (unwrap_or
 pub tokens_from : (tree : Syntax) (t : ℕ) → HasToken tree t → drop t (tokens_of tree) ≡ token_of tree t ∷ drop (t + 1) (tokens_of tree)
 tokens_from tree t h =
     let within : t < length (tokens_of tree) = omega (arith, length-tokens_in tree.children) in
-    let rest : suc t ≡ t + 1 = omega arith in
-    drop-cons (tokens_of tree) t (token_of tree t) within
-    ∙ (ap (λ (token : Token). token ∷ drop (suc t) (tokens_of tree)) (token_at tree t (token_of tree t) within)
-    ∙ ap (λ (n : ℕ). token_of tree t ∷ drop n (tokens_of tree)) rest)
+    drop_more (tokens_of tree) t (token_of tree t) within
+    ∙ ap (λ (token : Token). token ∷ drop (t + 1) (tokens_of tree)) (token_at tree t (token_of tree t) within)
 
 pub no_tokens : (tree : Syntax) (t : ℕ) → token_count tree.children ≤ t → drop t (tokens_of tree) ≡ []
 no_tokens tree t h = drop_all t (tokens_of tree) (omega (arith, length-tokens_in tree.children))

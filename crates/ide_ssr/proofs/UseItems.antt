@@ -4,7 +4,7 @@ use Rattle.std.specs.Prelude.{if◌then◌else◌}
 use Rattle.std.specs.List.{list_any}
 use Rattle.std.proofs.Math.Bool.{or_assoc, or_comm}
 use Rattle.std.proofs.lemmas.Bool.{cases_lt, lt-ltb, le-ltb, le-leb, lt-leb}
-use Rattle.std.proofs.lemmas.List.{get_or-drop, length-drop}
+use Rattle.std.proofs.lemmas.List.{drop_more, get_or-drop, length-drop}
 use Rattle.std.proofs.lemmas.List.Folds.{list_any_none}
 use Rattle.ssr_syntax_lex.specs.Kinds.{same_kind}
 use Rattle.ssr_syntax_lex.specs.declared.kinds.SyntaxKind.TheVariants as k
@@ -13,7 +13,6 @@ use Rattle.ssr_syntax_tree.specs.Places.{HasNode, Node, nodes_of, node_of, root_
 use Rattle.ssr_syntax_tree.proofs.Shared.{length-nodes_of, node_of-number}
 use Rattle.ide_ssr.specs.Found.{is_use_over, is_in_use, is_permitted}
 use Rattle.ide_ssr.specs.Private.UseItems.{past_use}
-use Rattle.ide_ssr.proofs.Finding.{split_at}
 use Rattle.ide_ssr.proofs.InOrder.{node_of-read, nodes-numbered}
 
 -- ** Tests of numbers.
@@ -66,7 +65,7 @@ past-turn code n past new has so_far is =
           let number : node.number ≤ m = omega (arith, low, node_of-number code n has) in
           let here = over-one (same_kind node.kind k.USE) node.number (node.number + size_of node) m number in
           so_far.known m low
-          ∙ ap (λ ns. nat_lt m past || list_any (is_use_over m) ns) (split_at (nodes_of code) n (root_of code) within)
+          ∙ ap (λ ns. nat_lt m past || list_any (is_use_over m) ns) (drop_more (nodes_of code) n (root_of code) within)
           ∙ ap (λ x. nat_lt m past || (is_use_over m x || rest)) (sym (node_of-read code n (root_of code) within))
           ∙ sym (or_assoc (nat_lt m past) (is_use_over m node) rest)
           ∙ ap (λ b. b || rest) (or_comm (nat_lt m past) (is_use_over m node) ∙ ap (λ b. b || nat_lt m past) here ∙ sym (lt-max m (past_use node) past))

@@ -1,10 +1,12 @@
 -- The kept matches and what waits for them: one step, from a place to the one before.
-use Rattle.std.proofs.Common.{◌≡◌, ℕ, zero, suc, ◌+◌, ◌-◌, ◌<◌, ◌≤◌, inl, inr, ◌||◌, not, Bool, true, false, cond, List, [], ◌∷◌, ◌++◌, All, AllPairs, length, take, drop, filter, reverse, get_or, Option, Some, None, refl, sym, ◌∙◌, ap, subst, arith}
+use Rattle.std.proofs.Common.{◌≡◌, ℕ, zero, suc, ◌+◌, ◌-◌, ◌<◌, ◌≤◌, inl, inr, Bool, true, false, cond, List, [], ◌∷◌, ◌++◌, All, AllPairs, length, take, drop, filter, reverse, get_or, Option, Some, None, refl, sym, ◌∙◌, ap, subst, arith}
 use Rattle.std.specs.Prelude.{option_map, slice_get}
 use Rattle.std.proofs.lemmas.Bool.{cases_lt}
 use Rattle.std.proofs.lemmas.Bool.Decides.{nat_tests}
-use Rattle.std.proofs.lemmas.List.{reverse-append, take-append-drop, get_or_default, get_or-map, take_all, length-drop}
+use Rattle.std.proofs.lemmas.List.{reverse-append, take-append-drop, drop_more, get_or_default, get_or-map}
 use Rattle.std.proofs.lemmas.List.Elements.{All-push, All-take}
+use Rattle.std.proofs.lemmas.Option.{get_or_from_slice_get, slice_get_within}
+use Rattle.ssr_syntax_tree.proofs.Lists.{drop_one, slice_get-drop}
 use Rattle.ssr_syntax_tree.specs.Syntax.{Syntax, source_of}
 use Rattle.ssr_syntax_tree.specs.Places.{node_of, start_of, end_of}
 use Rattle.ide_ssr_rules.specs.Resolving.{ResolvedKind}
@@ -13,60 +15,28 @@ use Rattle.ide_ssr.specs.declared.holders.Holder.{Holder}
 use Rattle.ide_ssr.specs.Found.{Found}
 use Rattle.ide_ssr.specs.Kept.{is_over, holds}
 use Rattle.ide_ssr.specs.Lists.{binding_over, holder_of}
-use Rattle.ide_ssr.specs.Private.Nearest.{IsNearest}
 use Rattle.ide_ssr.specs.Order.{Precedes}
 use Rattle.ide_ssr.specs.Private.Order.{AreHeld}
 use Rattle.ide_ssr.specs.Comments.{kept_comments, comments_text}
 use Rattle.ide_ssr.specs.Edits.{Rewrite, listed_changes, pieces, text_by, replacement, rewrite_of, rewrites}
 use Rattle.ide_ssr.specs.Private.Pending.{is_at, is_open, Places, IsPending}
-use Rattle.ide_ssr.proofs.Nearest.{nothing_over, at, answered, closed, not_over_before, holder-held, true_false}
-use Rattle.ide_ssr.proofs.Tests.{Over-is_over}
+use Rattle.ide_ssr.proofs.Nearest.{nothing_over, at, answered, closed, nearest_earlier, fit_held, holder-held, true_false}
 use Rattle.ide_ssr.proofs.Rewrites.{is_after, NoneAt, HeldFirst, Splits, Splits-first, each-reverse}
-use Rattle.std.proofs.Math.Seq.{drop-cons, take-add}
+use Rattle.std.proofs.Math.Seq.{take-suc}
 
--- the element of a place, in the list from there on
-pub at_drop : {X : Type 0} (ks : List X) (j : ℕ) (x : X) (xs : List X) → drop j ks ≡ x ∷ xs
-    → (j < length ks) × ((d : X) → get_or ks j d ≡ x) × (drop (suc j) ks ≡ xs)
-at_drop [] zero x xs e = (cc)
-at_drop [] (suc j) x xs e = (cc)
-at_drop {X} (k ∷ ks) zero x xs e = (omega arith, λ d. ap (head_or k) e, ap tail_of e)
-  where
-    head_or : X → List X → X
-    head_or d [] = d
-    head_or d (y ∷ ys) = y
+-- an element stands at a place, and these behind it
+pub record StandsAt {X : Type 0} (ks : List X) (j : ℕ) (x : X) (xs : List X) : Type 0 where
+  pub within : j < length ks
+  pub it : (d : X) → get_or ks j d ≡ x
+  pub behind : drop (1 + j) ks ≡ xs
 
-    tail_of : List X → List X
-    tail_of [] = []
-    tail_of (y ∷ ys) = ys
-at_drop (k ∷ ks) (suc j) x xs e =
-    let r = at_drop ks j x xs e in
-    (let lt : j < length ks = r.0 in omega arith, r.1, r.2)
-
--- nothing is over itself
-not_over_self : (code : Syntax) (k : Found) → is_over code k k ≡ true → ⊥
-not_over_self code k over = elim (Over-is_over code k k over) [ inl a ↦ omega arith | inr a ↦ omega arith ]
-
-nearest_before : (code : Syntax) (ks : List Found) (j p : ℕ) (d : Found) → AllPairs Precedes ks → j < length ks
-    → IsNearest code ks (get_or ks j d) p → p < j
-nearest_before code ks j p d order lt near =
-    elim (cases_lt p j) [
-      | inl before ↦ before
-      | inr behind ↦
-          elim (cases_lt j p) [
-            | inl after ↦
-                let other : is_over code (get_or ks p d) (get_or ks j d) ≡ false = not_over_before code (get_or ks p d) (get_or ks j d) (order j p d after near.is_place) in
-                let over : is_over code (get_or ks p d) (get_or ks j d) ≡ true = near.over d in
-                cc
-            | inr same ↦
-                let at : p ≡ j = omega arith in
-                let over : is_over code (get_or ks p d) (get_or ks j d) ≡ true = near.over d in
-                absurd (not_over_self code (get_or ks j d) (subst (λ (p : ℕ). is_over code (get_or ks p d) (get_or ks j d) ≡ true) at over))
-          ]
-    ]
-
-fit_holds : (over held : Bool) → (not over || held) ≡ true → over ≡ true → held ≡ true
-fit_holds true held fit over = fit
-fit_holds false held fit over = (cc)
+pub at_drop : {X : Type 0} (ks : List X) (j : ℕ) (x : X) (xs : List X) → drop j ks ≡ x ∷ xs → StandsAt ks j x xs
+at_drop ks j x xs e =
+    let there : slice_get ks j ≡ Some x = slice_get-drop ks j x xs e in record {
+      within = slice_get_within ks j x there;
+      it = λ d. get_or_from_slice_get ks j x d there;
+      behind = drop_one ks j x xs e;
+    }
 
 -- a match that has one over it has a holder, from that one's place on
 pub over_after : (code : Syntax) (ks : List Found) (holders : List (Option Holder)) → AreHeld code ks holders → (n j : ℕ) (d : Found)
@@ -79,8 +49,8 @@ over_after code ks holders held n j d is_n lt over =
           let other : is_over code (get_or ks n d) (get_or ks j d) ≡ false = none n d (omega arith) is_n in cc
       | at p near is ↦
           let from : n ≤ p = elim (cases_lt p n) [ inl before ↦ (let other : is_over code (get_or ks n d) (get_or ks j d) ≡ false = near.last n d (omega arith) is_n in cc) | inr behind ↦ behind ] in
-          let before : p < j = nearest_before code ks j p d held.ordered.in_order lt near in
-          let h : holds code (get_or ks p d) (get_or ks j d) ≡ true = fit_holds (is_over code (get_or ks p d) (get_or ks j d)) (holds code (get_or ks p d) (get_or ks j d)) (held.fit p j d before lt) (near.over d) in
+          let before : p < j = nearest_earlier code ks j p d held.ordered.in_order lt near in
+          let h : holds code (get_or ks p d) (get_or ks j d) ≡ true = fit_held (is_over code (get_or ks p d) (get_or ks j d)) (holds code (get_or ks p d) (get_or ks j d)) (held.fit p j d before lt) (near.over d) in
           let found = holder-held code ks (get_or ks j d) p near (rw (get_or_default ks p (get_or ks j d) d near.is_place) h) in
           (p, found.0, from, found.2)
     ]
@@ -111,7 +81,7 @@ unfolding holder_of
 is_open-own code ks n d order lt =
     elim (answered code None 0 ks (get_or ks n d)) [
       | nothing_over none is ↦ rw is refl
-      | at p near is ↦ rw is (open_of n (0 + p) (binding_over code (get_or ks p (get_or ks n d)) (get_or ks n d)) (let before = nearest_before code ks n p d order lt near in omega arith))
+      | at p near is ↦ rw is (open_of n (0 + p) (binding_over code (get_or ks p (get_or ks n d)) (get_or ks n d)) (let before = nearest_earlier code ks n p d order lt near in omega arith))
     ]
 
 none_at : (code : Syntax) (rules : List ResolvedKind) (ks : List Found) (n j : ℕ) (ms : List Found) → drop j ks ≡ ms
@@ -120,11 +90,9 @@ none_at : (code : Syntax) (rules : List ResolvedKind) (ks : List Found) (n j : �
 none_at code rules ks n j [] is clear = tt
 none_at code rules ks n j (m ∷ ms) is clear =
     let here = at_drop ks j m ms is in
-    let one : 1 + j ≡ suc j = omega arith in
-    let next : drop (1 + j) ks ≡ ms = ap (λ (i : ℕ). drop i ks) one ∙ here.2 in
-    let other : is_over code (get_or ks n m) m ≡ false = ap (is_over code (get_or ks n m)) (sym (here.1 m)) ∙ clear j m (omega arith) here.0 in (
+    let other : is_over code (get_or ks n m) m ≡ false = ap (is_over code (get_or ks n m)) (sym (here.it m)) ∙ clear j m (omega arith) here.within in (
       true_false (is_at n (holder_of code ks m)) (λ e. let over = at_over code ks n m m e in cc),
-      none_at code rules ks n (1 + j) ms next (λ i d h lt. clear i d (omega arith) lt),
+      none_at code rules ks n (1 + j) ms here.behind (λ i d h lt. clear i d (omega arith) lt),
     )
 
 after_place : (n p i : ℕ) → n ≤ p → is_after n (Some (record { place = p; binding = i })) ≡ true
@@ -134,20 +102,18 @@ pub held_first : (code : Syntax) (rules : List ResolvedKind) (ks : List Found) (
     → (n : ℕ) → n < length ks → (j : ℕ) (ms : List Found) → n < j → drop j ks ≡ ms → HeldFirst n (rewrites code rules ks j ms)
 held_first code rules ks holders held n is_n j [] lt is = tt
 held_first code rules ks holders held n is_n j (m ∷ ms) lt is =
-    let here = at_drop ks j m ms is in
-    let one : 1 + j ≡ suc j = omega arith in
-    let next : drop (1 + j) ks ≡ ms = ap (λ (i : ℕ). drop i ks) one ∙ here.2 in (
+    let here = at_drop ks j m ms is in (
       λ e.
           let other : (d : Found) → is_over code (get_or ks n d) (get_or ks j d) ≡ false = λ d.
           true_false (is_over code (get_or ks n d) (get_or ks j d))
           (λ over.
-          let a = over_after code ks holders held n j d is_n here.0 over in
-          let f : is_after n (holder_of code ks m) ≡ true = ap (λ (m : Found). is_after n (holder_of code ks m)) (sym (here.1 d)) ∙ (ap (is_after n) a.3 ∙ after_place n a.0 a.1 a.2) in
+          let a = over_after code ks holders held n j d is_n here.within over in
+          let f : is_after n (holder_of code ks m) ≡ true = ap (λ (m : Found). is_after n (holder_of code ks m)) (sym (here.it d)) ∙ (ap (is_after n) a.3 ∙ after_place n a.0 a.1 a.2) in
           cc) in
-          none_at code rules ks n (1 + j) ms next (λ i d h within.
+          none_at code rules ks n (1 + j) ms here.behind (λ i d h within.
           closed code (get_or ks n d) (get_or ks j d) (get_or ks i d)
-          (held.ordered.in_order n j d lt here.0) (held.ordered.in_order j i d (omega arith) within) (other d)),
-      held_first code rules ks holders held n is_n (1 + j) ms (omega arith) next,
+          (held.ordered.in_order n j d lt here.within) (held.ordered.in_order j i d (omega arith) within) (other d)),
+      held_first code rules ks holders held n is_n (1 + j) ms (omega arith) here.behind,
     )
 
 -- the replacement depends on what the match holds alone
@@ -169,9 +135,7 @@ last_of : {X : Type 0} (xs : List X) (f : ℕ) (r : X) (rest : List X) → f ≤
     → (0 < f) × (get_or xs (f - 1) r ≡ r)
 last_of xs zero r rest h e = (cc)
 last_of {X} xs (suc g) r rest h e =
-    let parts : take (suc g) xs ≡ take g xs ++ (get_or xs g r ∷ []) =
-    ap (λ (n : ℕ). take n xs) (let k : suc g ≡ g + 1 = omega arith in k)
-    ∙ (take-add g 1 xs ∙ ap (λ (ys : List X). take g xs ++ take 1 ys) (drop-cons xs g r (omega arith))) in
+    let parts : take (suc g) xs ≡ take g xs ++ get_or xs g r ∷ [] = take-suc xs g r (omega arith) in
     let turned : reverse (take (suc g) xs) ≡ get_or xs g r ∷ reverse (take g xs) = ap reverse parts ∙ reverse-append (take g xs) (get_or xs g r ∷ []) in
     let both : get_or xs g r ∷ reverse (take g xs) ≡ r ∷ rest = sym turned ∙ e in
     let one : g ≡ suc g - 1 = omega arith in
@@ -198,8 +162,7 @@ waits code rules ks holders held n lt m is old wait first within at_end before n
     (each-reverse (λ r. is_at n r.holder ≡ true) (drop first old) at_end)
     (λ r rest e. let l = last_of old first r rest within e in subst (λ (q : Rewrite). is_at n q.holder ≡ false) l.1 (before r l.0)) in
     let here : drop n ks ≡ m ∷ drop (1 + n) ks =
-    drop-cons ks n m lt
-    ∙ (ap (λ (x : Found). x ∷ drop (suc n) ks) (sym is) ∙ ap (λ (i : ℕ). m ∷ drop i ks) (let h : suc n ≡ 1 + n = omega arith in h)) in
+    drop_more ks n m lt ∙ (ap (λ (x : Found). x ∷ drop (n + 1) ks) (sym is) ∙ ap (λ (i : ℕ). m ∷ drop i ks) one) in
     let waiting : is_open n (holder_of code ks m) ≡ true =
     subst (λ (x : Found). is_open n (holder_of code ks x) ≡ true) (sym is) (is_open-own code ks n m held.ordered.in_order lt) in
     let with_text : List ℕ → Rewrite = λ text. record {
@@ -232,7 +195,3 @@ made_of code rules ks holders are n lt m is held holder start end text h s e t =
     h ∙ (ap (λ (hs : List (Option Holder)). get_or hs n holder) are.holders_are
     ∙ (get_or-map (holder_of code ks) ks n m holder lt ∙ ap (holder_of code ks) (sym is))) in
     cc
-
--- a list from a place on, up to its end
-pub from_on : {X : Type 0} (xs ys : List X) (i : ℕ) → xs ≡ ys → take (length xs - i) (drop i xs) ≡ drop i ys
-from_on {X} xs ys i same = take_all (length xs - i) (drop i xs) (omega (arith, length-drop i xs)) ∙ ap (drop {A = X} i) same

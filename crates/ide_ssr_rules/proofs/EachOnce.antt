@@ -17,12 +17,12 @@ use Rattle.ssr_syntax_tree.specs.Syntax.{Token, Syntax, tokens_of, spelled, same
 use Rattle.ssr_syntax.specs.declared.fragments.Fragment.TheVariants as fragments
 use Rattle.ssr_syntax.specs.declared.syntax_error.SyntaxError.{SyntaxError}
 use Rattle.ssr_syntax.specs.Reading.{pieces, fragment_reading, FitsFragment}
-use Rattle.ssr_syntax.specs.Identifiers.{idents}
+use Rattle.ssr_syntax.specs.Identifiers.{is_ident, idents}
 use Rattle.ssr_syntax.proofs.Shared.{fragment_sound, fragment_idents, fragment_alone, length-token, tiles_within, spelled-pieces}
 use Rattle.ide_ssr_rules.specs.Resolving.{name_at}
 use Rattle.ide_ssr_rules.specs.declared.elements.Element.{Element}
 use Rattle.ide_ssr_rules.specs.declared.elements.Element.TheVariants as e
-use Rattle.ide_ssr_rules.specs.Elements.{has, is_ident, lexed, names_of}
+use Rattle.ide_ssr_rules.specs.Elements.{has, lexed, names_of}
 use Rattle.ide_ssr_rules.specs.Patterns.{placeholders_among}
 use Rattle.ide_ssr_rules.specs.Private.Patterns.{IsReadOnce}
 use Rattle.ide_ssr_rules.specs.Rules.{expr_of}

@@ -1,5 +1,5 @@
 -- The nodes of a tree one by one, and what stands in them alone.
-use Rattle.std.proofs.Common.{◌≡◌, ℕ, ◌+◌, ◌<◌, ◌≤◌, List, [], ◌∷◌, ◌++◌, map, length, take, drop, get_or, Option, Some, None, slice_get, unwrap_or, refl, ap, ◌∙◌, sym, arith, cond, Bool, true, false, ◌||◌}
+use Rattle.std.proofs.Common.{◌≡◌, ℕ, ◌+◌, ◌<◌, ◌≤◌, List, [], ◌∷◌, ◌++◌, map, length, take, drop, get_or, Option, Some, None, slice_get, refl, ap, ◌∙◌, sym, arith, cond, true, false}
 use Rattle.std.proofs.lemmas.List.{drop_all, take_all, length-map, get_or-map, map_more}
 use Rattle.std.specs.Option.{option_map}
 use Rattle.std.specs.List.{find}

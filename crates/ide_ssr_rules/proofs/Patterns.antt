@@ -5,27 +5,19 @@ use Rattle.std.specs.Option.{option_and_then}
 use Rattle.std.proofs.lemmas.Bool.{not-true, or_parts}
 use Rattle.std.proofs.lemmas.List.Elements.{filter_map-append}
 use Rattle.std.proofs.lemmas.List.Folds.{list_any-append}
-use Rattle.ssr_syntax_lex.specs.declared.kinds.SyntaxKind.{SyntaxKind}
-use Rattle.ssr_syntax_lex.specs.declared.kinds.SyntaxKind.TheVariants as k
 use Rattle.ssr_syntax_tree.specs.Places.{Node, nodes_in, root_of}
 use Rattle.ssr_syntax_tree.specs.Syntax.{Token, Forest, nothing, leaf, branch, Syntax, tokens_in, tokens_of, token_count, node_count}
-use Rattle.ssr_syntax.specs.Identifiers.{is_ident as is_lone, is_mixing, idents, has_ident, stand_alone, IdentsAlone, IdentsAloneIn}
-use Rattle.ide_ssr_rules.specs.Elements.{is_ident}
+use Rattle.ssr_syntax.specs.Identifiers.{is_ident, is_mixing, idents, has_ident, stand_alone, IdentsAlone, IdentsAloneIn}
 use Rattle.ide_ssr_rules.specs.Resolving.{only_token, name_at}
 use Rattle.ide_ssr_rules.specs.Mixing.{mixes}
 use Rattle.ide_ssr_rules.specs.Patterns.{placeholders_among, or_below, placeholders_in, placeholders_of, HasEachOnce}
 use Rattle.ide_ssr_rules.specs.Private.Patterns.{IsReadOnce}
 
--- an identifier is of the kind that stands alone
-ident_lone : (kind : SyntaxKind) → is_lone kind ≡ false → is_ident kind ≡ false
-ident_lone k.IDENT h = cc
-ident_lone _ h = refl
-
-not_named : (names : List (List ℕ)) (token : Token) → is_lone token.kind ≡ false → name_at names token ≡ None
+not_named : (names : List (List ℕ)) (token : Token) → is_ident token.kind ≡ false → name_at names token ≡ None
 unfolding name_at
-not_named names token h = rw (ident_lone token.kind h) refl
+not_named names token h = rw h refl
 
-ident_or_not : (names : List (List ℕ)) (token : Token) (found : List Token) (rest : List ℕ) (b : Bool) → is_lone token.kind ≡ b
+ident_or_not : (names : List (List ℕ)) (token : Token) (found : List Token) (rest : List ℕ) (b : Bool) → is_ident token.kind ≡ b
     → rest ≡ placeholders_among names found → cons_option (name_at names token) rest ≡ placeholders_among names (cond b (token ∷ found) found)
 ident_or_not names token found rest true e h = ap (cons_option (name_at names token)) h
 ident_or_not names token found rest false e h = ap (λ o. cons_option o rest) (not_named names token e) ∙ h
@@ -34,7 +26,7 @@ ident_or_not names token found rest false e h = ap (λ o. cons_option o rest) (n
 pub over_idents : (names : List (List ℕ)) (tokens : List Token) → placeholders_among names tokens ≡ placeholders_among names (idents tokens)
 over_idents names [] = refl
 over_idents names (token ∷ tokens) =
-    ident_or_not names token (idents tokens) (placeholders_among names tokens) (is_lone token.kind) refl (over_idents names tokens)
+    ident_or_not names token (idents tokens) (placeholders_among names tokens) (is_ident token.kind) refl (over_idents names tokens)
 
 only_one : (below : Forest) (token : Token) → only_token below ≡ Some token → tokens_in below ≡ token ∷ []
 only_one nothing token h = cc
@@ -92,7 +84,7 @@ tokens_named : (names : List (List ℕ)) (parent m t : ℕ) (forest : Forest) �
     → placeholders_in names forest ≡ placeholders_among names (tokens_in forest)
 tokens_named names parent m t nothing alone plain none = refl
 tokens_named names parent m t (leaf token next) alone plain none =
-    let n = or_parts (is_lone token.kind) (has_ident next) none in
+    let n = or_parts (is_ident token.kind) (has_ident next) none in
     tokens_named names parent m (1 + t) next alone plain n.1
     ∙ ap (λ o. cons_option o (placeholders_among names (tokens_in next))) (sym (not_named names token n.0))
 tokens_named names parent m t (branch kind below next) alone plain none =

@@ -11,11 +11,12 @@ use Rattle.ssr_syntax_lex.specs.declared.tokens.RawToken.{RawToken}
 use Rattle.ssr_syntax_lex.specs.Tokens.{token_text, TilesFrom}
 use Rattle.ssr_syntax_lex.proofs.Shared.{tokens_tile, tiles_spell}
 use Rattle.ssr_syntax_tree.specs.Syntax.{Token, spelled}
+use Rattle.ssr_syntax.specs.Identifiers.{is_ident}
 use Rattle.ssr_syntax.specs.Reading.{pieces}
 use Rattle.ssr_syntax.proofs.Shared.{length-token, tiled_texts, tiles_within, spelled-pieces}
 use Rattle.ide_ssr_rules.specs.declared.elements.Element.{Element}
 use Rattle.ide_ssr_rules.specs.declared.elements.Element.TheVariants as e
-use Rattle.ide_ssr_rules.specs.Elements.{lexed, is_dollar, is_ident, has, name_in, after, elements, elements_of, side}
+use Rattle.ide_ssr_rules.specs.Elements.{lexed, is_dollar, has, name_in, after, elements, elements_of, side}
 use Rattle.ide_ssr_rules.specs.declared.error.SsrError.{SsrError}
 use Rattle.ide_ssr_rules.specs.Refusals.{Refusal, AnswersBy, ◌>>=◌, no_name, no_placeholder, repeated}
 use Rattle.ide_ssr_rules.specs.StandIns.{stand_in_of, read_as, code_of}

@@ -1,10 +1,11 @@
 -- That an accepted rule uses each placeholder once.
 use Rattle.std.proofs.Common.{◌≡◌, ℕ, IfOk, List, [], ◌∷◌, ◌++◌, Bool, true, false, cond, Option, Some, None, Result, Ok, Err, refl, ap, sym, subst}
 use Rattle.ssr_syntax_tree.specs.Syntax.{Token}
+use Rattle.ssr_syntax.specs.Identifiers.{is_ident}
 use Rattle.ide_ssr_rules.specs.declared.elements.Element.{Element}
 use Rattle.ide_ssr_rules.specs.declared.elements.Element.TheVariants as e
 use Rattle.ide_ssr_rules.specs.declared.kinds.ParsedRule.{ParsedRule}
-use Rattle.ide_ssr_rules.specs.Elements.{is_dollar, is_ident, has, after, elements, elements_of, lexed, side, names_of}
+use Rattle.ide_ssr_rules.specs.Elements.{is_dollar, has, after, elements, elements_of, lexed, side, names_of}
 use Rattle.ide_ssr_rules.specs.Refusals.{Refusal, Answers, ◌>>=◌, no_name, no_placeholder, repeated}
 use Rattle.ide_ssr_rules.specs.Rules.{Rule, rule_of, rule_reading, check_sides, check_defined, none_of, lacking, some_kind, kinds_of}
 use Rattle.ide_ssr_rules.specs.Sides.{sides}

@@ -5,6 +5,7 @@ use Rattle.std.specs.Option.{option_map}
 use Rattle.ssr_syntax_lex.specs.declared.kinds.SyntaxKind.{SyntaxKind}
 use Rattle.ssr_syntax_lex.specs.declared.kinds.SyntaxKind.TheVariants as k
 use Rattle.ssr_syntax_lex.specs.Tokens.{tokens}
+use Rattle.ssr_syntax.specs.Identifiers.{is_ident}
 use Rattle.ssr_syntax.specs.Reading.{pieces}
 use Rattle.ssr_syntax_tree.specs.Syntax.{Token}
 use Rattle.ide_ssr_rules.specs.declared.elements.Element.{Element}
@@ -18,10 +19,6 @@ lexed text = if nat_lt (length text) (2 ^ 32) then option_map (pieces text) (tok
 abbrev pub is_dollar : SyntaxKind → Bool
 is_dollar k.DOLLAR = true
 is_dollar _ = false
-
-abbrev pub is_ident : SyntaxKind → Bool
-is_ident k.IDENT = true
-is_ident _ = false
 
 abbrev pub has : List (List ℕ) → List ℕ → Bool
 has names name = list_any (bytes_eq name) names

@@ -7,11 +7,11 @@ use Rattle.ssr_syntax_lex.specs.declared.kinds.SyntaxKind.{SyntaxKind}
 use Rattle.ssr_syntax_lex.specs.declared.kinds.SyntaxKind.TheVariants as k
 use Rattle.ssr_syntax.specs.declared.fragments.Fragment.{Fragment}
 use Rattle.ssr_syntax.specs.declared.fragments.Fragment.TheVariants as fragments
+use Rattle.ssr_syntax.specs.Identifiers.{is_ident}
 use Rattle.ssr_syntax_tree.specs.Places.{Node, nodes_of, text_of}
 use Rattle.ssr_syntax_tree.specs.Syntax.{Token, Forest, nothing, leaf, branch, Syntax}
 use Rattle.ssr_syntax_tree.specs.SyntaxCode.{syntax_code}
 use Rattle.ide_ssr_rules.specs.declared.kinds.ParsedRule.{ParsedRule}
-use Rattle.ide_ssr_rules.specs.Elements.{is_ident}
 use Rattle.ide_ssr_rules.specs.Mixing.{check_unmixed}
 use Rattle.ide_ssr_rules.specs.Refusals.{Refusal, ◌>>=◌, unless, unresolved_path}
 use Rattle.ide_ssr_rules.specs.StandIns.{stand_in_of}

@@ -4,9 +4,10 @@ use Rattle.std.specs.List.{list_any, flat_map}
 use Rattle.std.specs.Option.{option_map_or, option_or}
 use Rattle.ssr_syntax_lex.specs.declared.kinds.SyntaxKind.TheVariants as k
 use Rattle.ssr_syntax_tree.specs.Syntax.{Token, same_token}
+use Rattle.ssr_syntax.specs.Identifiers.{is_ident}
 use Rattle.ide_ssr_rules.specs.declared.elements.Element.{Element}
 use Rattle.ide_ssr_rules.specs.declared.elements.Element.TheVariants as e
-use Rattle.ide_ssr_rules.specs.Elements.{lexed, is_ident, name_of}
+use Rattle.ide_ssr_rules.specs.Elements.{lexed, name_of}
 
 abbrev pub stand_in_of : List ℕ → List ℕ
 stand_in_of name = codes "__placeholder_" ++ name

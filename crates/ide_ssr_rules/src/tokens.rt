@@ -22,7 +22,8 @@ impl<'a> Model for Token<'a> {
 }
 
 impl<'a> Token<'a> {
-    ghost use Rattle.ide_ssr_rules.specs.Elements.{is_dollar, is_ident};
+    ghost use Rattle.ssr_syntax.specs.Identifiers.{is_ident};
+    ghost use Rattle.ide_ssr_rules.specs.Elements.{is_dollar};
 
     pub(crate) fn is_dollar(&self) -> bool
         ensures { result ≡ is_dollar self.now.kind }

@@ -5,6 +5,7 @@ use Rattle.std.proofs.lemmas.Str.{IsUtf8-from_is_utf8, is_utf8-from_IsUtf8}
 use Rattle.ssr_syntax_tree.specs.Syntax.{Syntax}
 use Rattle.ssr_syntax.specs.declared.syntax_error.SyntaxError.{SyntaxError}
 use Rattle.ssr_syntax.specs.Reading.{file_reading}
+use Rattle.ssr_syntax.proofs.Shared.{file_needs_none}
 use Rattle.ide_ssr_rules.specs.Refusals.{Refusal, no_delimiter, second_delimiter, lexer_fault, no_name, no_placeholder, repeated, glued, reserved, no_kind, undefined, unresolved_path, token_tree, Says, words}
 use Rattle.ide_ssr_rules.specs.Resolving.{ResolvedKind}
 use Rattle.ide_ssr.specs.Edits.{rewritten_file}
@@ -33,7 +34,7 @@ module _ (rules : List (List ℕ)) (bytes : List ℕ) where
 
   by_file : IsUtf8 bytes → (reading : Result Syntax SyntaxError) → file_reading bytes ≡ reading → (output : Output) × IsOutput rules bytes output
   by_file text (Ok code) is = by_rules code text is (rules_reading rules) refl
-  by_file text (Err error) is = (_, no_file error text is)
+  by_file text (Err error) is = (_, no_file error (file_needs_none bytes error is) text is)
 
   by_text : (text : Bool) → is_utf8 bytes ≡ text → (output : Output) × IsOutput rules bytes output
   by_text true is = by_file (IsUtf8-from_is_utf8 bytes is) (file_reading bytes) refl
@@ -58,17 +59,17 @@ module _ (rules : List (List ℕ)) (bytes : List ℕ) where
 
   pub output_unique : (a b : Output) → (rules_reading rules ≡ Err lexer_fault → ⊥) → IsOutput rules bytes a → IsOutput rules bytes b → a ≡ b
   output_unique a b sure (no_text _) (no_text _) = refl
-  output_unique a b sure (no_text f) (no_file _ text _) = absurd (f text)
+  output_unique a b sure (no_text f) (no_file _ _ text _) = absurd (f text)
   output_unique a b sure (no_text f) (no_rules _ _ _ text _ _ _) = absurd (f text)
   output_unique a b sure (no_text f) (rewritten _ _ text _ _) = absurd (f text)
-  output_unique a b sure (no_file _ text _) (no_text f) = absurd (f text)
+  output_unique a b sure (no_file _ _ text _) (no_text f) = absurd (f text)
   output_unique a b sure (no_rules _ _ _ text _ _ _) (no_text f) = absurd (f text)
   output_unique a b sure (rewritten _ _ text _ _) (no_text f) = absurd (f text)
-  output_unique a b sure (no_file e _ f) (no_file e' _ f') = let same : e ≡ e' = cc in ap (λ x. input_refused (words_of x)) same
-  output_unique a b sure (no_file e _ f) (no_rules c _ _ _ f' _ _) = let h : Err e ≡ Ok c = sym f ∙ f' in cc
-  output_unique a b sure (no_file e _ f) (rewritten c _ _ f' _) = let h : Err e ≡ Ok c = sym f ∙ f' in cc
-  output_unique a b sure (no_rules c _ _ _ f' _ _) (no_file e _ f) = let h : Err e ≡ Ok c = sym f ∙ f' in cc
-  output_unique a b sure (rewritten c _ _ f' _) (no_file e _ f) = let h : Err e ≡ Ok c = sym f ∙ f' in cc
+  output_unique a b sure (no_file e _ _ f) (no_file e' _ _ f') = let same : e ≡ e' = cc in ap (λ x. input_refused (words_of x)) same
+  output_unique a b sure (no_file e _ _ f) (no_rules c _ _ _ f' _ _) = let h : Err e ≡ Ok c = sym f ∙ f' in cc
+  output_unique a b sure (no_file e _ _ f) (rewritten c _ _ f' _) = let h : Err e ≡ Ok c = sym f ∙ f' in cc
+  output_unique a b sure (no_rules c _ _ _ f' _ _) (no_file e _ _ f) = let h : Err e ≡ Ok c = sym f ∙ f' in cc
+  output_unique a b sure (rewritten c _ _ f' _) (no_file e _ _ f) = let h : Err e ≡ Ok c = sym f ∙ f' in cc
   output_unique a b sure (no_rules c r m _ f g s) (no_rules c' r' m' _ f' g' s') =
       let same : r ≡ r' = cc in
       let P : Refusal → Type 0 = λ x. Says x m' in

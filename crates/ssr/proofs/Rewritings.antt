@@ -18,10 +18,10 @@ use Rattle.ssr.specs.Private.Rewriting.{Rewrites, refusal_of}
 
 module _ (rules : List (List ℕ)) (text : List ℕ) (utf8 : IsUtf8 text) where
   pub rewrites_file : (A : Type 0) (error : SyntaxError) → Answers (Err error) (file_reading text) text → Rewrites {A = A} rules text (Err (errors.File error))
-  rewrites_file A syntax.Lex is = no_file _ utf8 (is.1 (λ same. cc))
-  rewrites_file A syntax.NoTree is = no_file _ utf8 (is.1 (λ same. cc))
-  rewrites_file A syntax.TooDeep is = no_file _ utf8 (is.1 (λ same. cc))
-  rewrites_file A syntax.TooLong is = no_file _ utf8 (is.1 (λ same. cc))
+  rewrites_file A syntax.Lex is = no_file _ (λ same. cc) utf8 (is.1 (λ same. cc))
+  rewrites_file A syntax.NoTree is = no_file _ (λ same. cc) utf8 (is.1 (λ same. cc))
+  rewrites_file A syntax.TooDeep is = no_file _ (λ same. cc) utf8 (is.1 (λ same. cc))
+  rewrites_file A syntax.TooLong is = no_file _ (λ same. cc) utf8 (is.1 (λ same. cc))
   rewrites_file A syntax.Memory is = tt
 
   rewrites_message : (A : Type 0) (code : Syntax) (message : String Global) (reading : Result (List ResolvedKind) Refusal)

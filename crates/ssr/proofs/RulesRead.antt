@@ -1,7 +1,6 @@
 -- Rules that are read one after the other.
 use Rattle.std.proofs.Common.{◌≡◌, ℕ, ◌+◌, ◌<◌, List, [], ◌∷◌, ◌++◌, Result, Ok, Err, length, take, drop, get_or, refl, ap, sym, ◌∙◌, append_assoc, append-nil, add-one, suc}
-use Rattle.std.proofs.Math.Seq.{take-suc, drop-cons}
-use Rattle.std.proofs.lemmas.List.{take-append-drop}
+use Rattle.std.proofs.lemmas.List.{drop_more, take-append-drop, take_more}
 use Rattle.ssr.specs.Output.{both, rule_kinds, rules_reading}
 use Rattle.ide_ssr_rules.specs.Refusals.{Refusal}
 use Rattle.ide_ssr_rules.specs.Resolving.{ResolvedKind}
@@ -32,7 +31,7 @@ module _ (rules : List (List ℕ)) (i : ℕ) (less : i < length rules) (kinds : 
   -- one rule more
   pub read_more : (more : List ResolvedKind) → rule_kinds (get_or rules i []) ≡ Ok more → rules_reading (take (i + 1) rules) ≡ Ok (kinds ++ more)
   read_more more is =
-      ap rules_reading (ap (λ n. take n rules) (add-one i) ∙ take-suc rules i [] less)
+      ap rules_reading (take_more rules i [] less)
       ∙ rules_reading-append (take i rules) (get_or rules i [] ∷ [])
       ∙ ap (λ r. both r (both (rule_kinds (get_or rules i [])) (Ok []))) before
       ∙ ap (λ r. both (Ok kinds) r) (both-nil (rule_kinds (get_or rules i [])) ∙ is)
@@ -43,5 +42,5 @@ module _ (rules : List (List ℕ)) (i : ℕ) (less : i < length rules) (kinds : 
       ap rules_reading (sym (take-append-drop i rules))
       ∙ rules_reading-append (take i rules) (drop i rules)
       ∙ ap (λ r. both r (rules_reading (drop i rules))) before
-      ∙ ap (λ rs. both (Ok kinds) (rules_reading rs)) (drop-cons rules i [] less)
-      ∙ ap (λ r. both (Ok kinds) (both r (rules_reading (drop (suc i) rules)))) is
+      ∙ ap (λ rs. both (Ok kinds) (rules_reading rs)) (drop_more rules i [] less)
+      ∙ ap (λ r. both (Ok kinds) (both r (rules_reading (drop (i + 1) rules)))) is

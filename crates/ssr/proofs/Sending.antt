@@ -1,7 +1,7 @@
 -- Texts that are sent in pieces.
 use Rattle.std.proofs.Common.{◌≡◌, ℕ, ◌+◌, ◌-◌, ◌<◌, ◌≤◌, true, false, List, [], ◌∷◌, ◌++◌, length, take, drop, get_or, add-one, ap, sym, ◌∙◌, arith, append_assoc, length-append, append-nil, subst}
-use Rattle.std.proofs.Math.Seq.{take-add, take-append-add, drop-cons, take-suc}
-use Rattle.std.proofs.lemmas.List.{take-append-le, take-append-drop, length-drop}
+use Rattle.std.proofs.Math.Seq.{take-add, take-append-add}
+use Rattle.std.proofs.lemmas.List.{drop_more, take-append-le, take-append-drop, take_more, length-drop}
 use Rattle.std.specs.Prelude.{◌==◌, if◌then◌else◌}
 use Rattle.std.specs.List.{flat_map}
 use Rattle.std.proofs.lemmas.Grind.{flat_map-append, common_steps}
@@ -97,7 +97,7 @@ sent_later old mid new before piece behind text splits sent (part count less goe
 module _ {A : Type 0} (text : A → List ℕ) (pieces : List A) (i : ℕ) (d : A) (less : i < length pieces) where
   -- a piece, and the pieces behind it
   from_piece : flat_map text (drop i pieces) ≡ text (get_or pieces i d) ++ flat_map text (drop (i + 1) pieces)
-  from_piece = rw (add-one, drop-cons pieces i d)
+  from_piece = ap (flat_map text) (drop_more pieces i d less)
 
   -- the pieces in front of one, the piece, and those behind it
   pieces_at : flat_map text pieces ≡ flat_map text (take i pieces) ++ (text (get_or pieces i d) ++ flat_map text (drop (i + 1) pieces))
@@ -108,7 +108,10 @@ module _ {A : Type 0} (text : A → List ℕ) (pieces : List A) (i : ℕ) (d : A
 
   -- one piece more
   pieces_more : flat_map text (take (i + 1) pieces) ≡ flat_map text (take i pieces) ++ text (get_or pieces i d)
-  pieces_more = rw (add-one, take-suc pieces i d) (flat_map-append text (take i pieces) (get_or pieces i d ∷ []) ∙ ap (λ s. flat_map text (take i pieces) ++ s) (append-nil _))
+  pieces_more =
+      ap (flat_map text) (take_more pieces i d less)
+      ∙ flat_map-append text (take i pieces) (get_or pieces i d ∷ [])
+      ∙ ap (λ s. flat_map text (take i pieces) ++ s) (append-nil _)
 
   module _ (old mid new : Taken) (piece : List ℕ) (its : piece ≡ text (get_or pieces i d)) (sent : HasSent old mid (flat_map text (take i pieces))) where
     -- a piece that broke off

@@ -1,6 +1,6 @@
 -- The program's output: a text for standard output and a status, from the words of the command and the bytes of
 -- standard input.
-use Rattle.std.specs.Prelude.{ℕ, ◌≡◌, List, [], ◌∷◌, ◌++◌, Option, Some, None, Result, Ok, Err, IsUtf8, bytes_eq, codes, if◌then◌else◌}
+use Rattle.std.specs.Prelude.{ℕ, ◌≡◌, ◌≢◌, List, [], ◌∷◌, ◌++◌, Option, Some, None, Result, Ok, Err, IsUtf8, bytes_eq, codes, if◌then◌else◌}
 use Rattle.ssr_syntax_tree.specs.Syntax.{Syntax}
 use Rattle.ssr_syntax.specs.Reading.{file_reading}
 use Rattle.ide_ssr_rules.specs.Refusals.{Refusal, Says, ◌>>=◌}
@@ -75,7 +75,7 @@ IsFile bytes = (code : Syntax) × (file_reading bytes ≡ Ok code)
 -- what is written for rules and the bytes of a file. The words of a lexer's fault in a rule are left open.
 pub data IsOutput (rules : List (List ℕ)) (bytes : List ℕ) : Output → Type 0 where
   no_text : (IsUtf8 bytes → ⊥) → IsOutput rules bytes (input_refused (codes "not UTF-8"))
-  no_file : (error : SyntaxError) → IsUtf8 bytes → file_reading bytes ≡ Err error
+  no_file : (error : SyntaxError) → error ≢ errors.Memory → IsUtf8 bytes → file_reading bytes ≡ Err error
       → IsOutput rules bytes (input_refused (words_of error))
   no_rules : (code : Syntax) (refusal : Refusal) (message : List ℕ) → IsUtf8 bytes → file_reading bytes ≡ Ok code
       → rules_reading rules ≡ Err refusal → Says refusal message

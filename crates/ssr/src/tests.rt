@@ -107,9 +107,20 @@ fn run_between(
     Ok(run(rt.alloc(), Some(owned.as_slice()), &mut source, &mut sink))
 }
 
+/// The rule of each row, alone, makes the row's text of its file.
+fn rewrites(rt: &HostRuntime, rows: &[(&str, &str, &str)]) -> Result<(), Fail> {
+    for &(rule, file, text) in rows {
+        let new = written(rt, 0, &[rule], file.as_bytes())?;
+        if new.as_str() != text {
+            return Err(Fail::new(format_args!("{rule} on {file} makes {new}")));
+        }
+    }
+    Ok(())
+}
+
 #[test]
 fn rewrites_files(rt: HostRuntime) -> Result<(), Fail> {
-    for (rule, file, text) in [
+    let rows = [
         (SWAP, "fn f() {1 + 2 + 3 + 4}", "fn f() {4 + (3 + (2 + 1))}"),
         (SWAP, "", ""),
         (SWAP, "fn f() {x}", "fn f() {x}"),
@@ -144,16 +155,13 @@ fn rewrites_files(rt: HostRuntime) -> Result<(), Fail> {
             "fn  f ( )\n{\n  1\t+ 2 }\r\n",
             "fn  f ( )\n{\n  2-1 }\r\n",
         ),
-    ] {
-        let new = written(&rt, 0, &[rule], file.as_bytes())?;
-        assert_eq!(rt; new.as_str(), text, "{rule} on {file}");
-    }
-    Ok(())
+    ];
+    rewrites(&rt, &rows)
 }
 
 #[test]
 fn rewrites_items_and_statements(rt: HostRuntime) -> Result<(), Fail> {
-    for (rule, file, text) in [
+    let rows = [
         (
             SWAP,
             "use a::{b, c as _};\n#[x(1 + 2)]\npub struct S<T: A + 'static>(T);\n",
@@ -179,21 +187,13 @@ fn rewrites_items_and_statements(rt: HostRuntime) -> Result<(), Fail> {
             "fn f() {let y = |z| -x.unwrap()..z;}",
             "fn f() {let y = |z| -x?..z;}",
         ),
-        (
-            "$a as u8 ==>> $a",
-            "fn f() {x}",
-            "error: Parse error: Failed to resolve path `u8`\n",
-        ),
-    ] {
-        let (new, _) = output_of(&rt, &[rule], file.as_bytes())?;
-        assert_eq!(rt; new.as_str(), text, "{rule} on {file}");
-    }
-    Ok(())
+    ];
+    rewrites(&rt, &rows)
 }
 
 #[test]
 fn rewrites_literals(rt: HostRuntime) -> Result<(), Fail> {
-    for (rule, file, text) in [
+    let rows = [
         (SWAP, "fn f() {\"é\" + x}", "fn f() {x + \"é\"}"),
         ("true ==>> false", "fn f() {true}", "fn f() {false}"),
         (
@@ -212,16 +212,13 @@ fn rewrites_literals(rt: HostRuntime) -> Result<(), Fail> {
             "fn f() {1.0 + 0x1 + 1u8 + 1}",
             "fn f() {1.0 + 0x1 + 1u8 + 2}",
         ),
-    ] {
-        let new = written(&rt, 0, &[rule], file.as_bytes())?;
-        assert_eq!(rt; new.as_str(), text, "{rule} on {file}");
-    }
-    Ok(())
+    ];
+    rewrites(&rt, &rows)
 }
 
 #[test]
 fn keeps_comments(rt: HostRuntime) -> Result<(), Fail> {
-    for (rule, file, text) in [
+    let rows = [
         (
             "$a + 1 ==>> $a",
             "fn f() {x /* k */ + 1}",
@@ -254,11 +251,8 @@ fn keeps_comments(rt: HostRuntime) -> Result<(), Fail> {
             "fn f() {1 + 2}",
             "fn f() {1 /* l */ - 2}",
         ),
-    ] {
-        let new = written(&rt, 0, &[rule], file.as_bytes())?;
-        assert_eq!(rt; new.as_str(), text, "{rule} on {file}");
-    }
-    Ok(())
+    ];
+    rewrites(&rt, &rows)
 }
 
 #[test]
@@ -381,6 +375,7 @@ fn refuses_rules(rt: HostRuntime) -> Result<(), Fail> {
         ("foo ==>> bar", "Failed to resolve path `bar`"),
         ("foo ==>> 1", "Failed to resolve path `foo`"),
         ("m!($a) ==>> $a", "Failed to resolve path `m`"),
+        ("$a as u8 ==>> $a", "Failed to resolve path `u8`"),
         ("$m!(1) ==>> 1", "Token trees are not matched yet"),
     ] {
         let line = format!(in rt.alloc(); "error: Parse error: {message}\n")?;

@@ -1,9 +1,8 @@
 -- Laws of changes and of the text with them made.
-use Rattle.std.proofs.Common.{◌≡◌, ℕ, suc, ◌↔◌, ◌+◌, ◌-◌, ◌<◌, ◌≤◌, List, [], ◌∷◌, ◌++◌, length, get_or, drop, sym, ◌∙◌, ap, subst, arith, add-one, String}
-use Rattle.std.proofs.lemmas.List.{get_or-map, length-map, append_assoc, length-drop, take_all, length-take-le}
+use Rattle.std.proofs.Common.{◌≡◌, ℕ, suc, ◌↔◌, ◌+◌, ◌-◌, ◌<◌, ◌≤◌, List, [], ◌∷◌, ◌++◌, length, get_or, drop, sym, ◌∙◌, ap, subst, arith, String}
+use Rattle.std.proofs.lemmas.List.{get_or-map, length-map, append_assoc, drop_more, length-drop, take_all, length-take-le}
 use Rattle.std.proofs.lemmas.List.Elements.{All-map}
 use Rattle.std.proofs.lemmas.List.Folds.{drop_split}
-use Rattle.std.proofs.Math.Seq.{drop-cons}
 use Rattle.std.specs.List.{All, slice_range}
 use Rattle.std.specs.Global.{Global}
 use Rattle.ssr_syntax_lex.specs.declared.range.TextRange.{TextRange}
@@ -19,9 +18,8 @@ pub changes_from : (pairs : List (TextRange × String Global)) (i : ℕ) (pair :
     → i < length pairs → pair ≡ get_or pairs i pair
     → drop i (changes_of pairs) ≡ change_of pair ∷ drop (i + 1) (changes_of pairs)
 changes_from pairs i pair h e =
-    let k : i < length (changes_of pairs) = omega (arith, length-map pairs change_of) in
-    rw (add-one, drop-cons (changes_of pairs) i (change_of pair) k)
-    (ap (λ c. c ∷ drop (suc i) (changes_of pairs)) (change_at pairs i pair (change_of pair) h e))
+    drop_more (changes_of pairs) i (change_of pair) (omega (arith, length-map pairs change_of))
+    ∙ ap (λ c. c ∷ drop (i + 1) (changes_of pairs)) (change_at pairs i pair (change_of pair) h e)
 
 -- the text so far, with one change more
 pub one_more : (text new mid out kept old whole : List ℕ) (at to : ℕ) (c : Change) (cs left : List Change)

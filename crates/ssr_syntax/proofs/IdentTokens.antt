@@ -1,6 +1,5 @@
 -- A tree has the identifiers of its text, in order: no identifier is part of a joined token.
-use Rattle.std.proofs.Common.{◌≡◌, ℕ, zero, suc, ◌-◌, ◌<◌, ◌≤◌, Bool, true, false, cond, if◌then◌else◌, List, [], ◌∷◌, ◌++◌, length, Option, Some, None, inl, inr, refl, sym, ◌∙◌, ap, subst, arith, append_assoc, length-append}
-use Rattle.std.proofs.lemmas.Bool.{cases_Bool, or_cases}
+use Rattle.std.proofs.Common.{◌≡◌, ℕ, zero, suc, ◌-◌, ◌<◌, ◌≤◌, Bool, true, false, cond, if◌then◌else◌, List, [], ◌∷◌, ◌++◌, length, Option, Some, None, refl, sym, ◌∙◌, ap, subst, arith, append_assoc, length-append}
 use Rattle.std.specs.Prelude.{⊤}
 use Rattle.std.specs.Bool.{MatchBool}
 use Rattle.std.proofs.lemmas.List.{append-nil}
@@ -8,9 +7,8 @@ use Rattle.std.proofs.lemmas.List.Elements.{filter-append}
 use Rattle.ssr_syntax_lex.specs.declared.kinds.SyntaxKind.{SyntaxKind}
 use Rattle.ssr_syntax_lex.specs.declared.kinds.SyntaxKind.TheVariants.{IDENT}
 use Rattle.ssr_syntax_lex.specs.declared.tokens.RawToken.{RawToken}
-use Rattle.ssr_syntax_lex.specs.Kinds.{same_kind, is_trivia}
+use Rattle.ssr_syntax_lex.specs.Kinds.{is_trivia}
 use Rattle.ssr_syntax_lex.specs.Tokens.{token_text}
-use Rattle.ssr_syntax_lex.proofs.Shared.{same_kind-equal}
 use Rattle.ssr_syntax_tree.specs.Syntax as plain
 use Rattle.ssr_syntax_tree.specs.Syntax.{tokens_of}
 use Rattle.ssr_syntax_forms.specs.declared.tokens.Token.{Token}
@@ -169,15 +167,9 @@ all_plain (t ∷ ts) =
 
 -- ** White space and comments are no identifiers.
 
-ident_like : (kind : SyntaxKind) → same_kind kind IDENT ≡ true → is_trivia kind ≡ false
-ident_like kind e = ap is_trivia (same_kind-equal kind IDENT e)
-
 pub no_ident : (kind : SyntaxKind) → is_trivia kind ≡ true → is_ident kind ≡ false
-no_ident kind h =
-    elim (cases_Bool (is_ident kind)) [
-      | inl is ↦ elim (or_cases (same_kind kind IDENT) false is) [ inl e ↦ absurd (cc (h, ident_like kind e)) | inr e ↦ absurd (cc e) ]
-      | inr other ↦ other
-    ]
+no_ident IDENT h = cc
+no_ident _ h = refl
 
 -- a token that is none in front
 without : (t : plain.Token) (ts : List plain.Token) → is_ident t.kind ≡ false → idents (t ∷ ts) ≡ idents ts

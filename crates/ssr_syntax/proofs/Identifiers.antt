@@ -5,6 +5,7 @@ use Rattle.std.specs.Option.{option_and_then}
 use Rattle.std.proofs.lemmas.Bool.{cases_Bool, and_parts, or_parts}
 use Rattle.ssr_syntax_lex.specs.declared.kinds.SyntaxKind.{SyntaxKind}
 use Rattle.ssr_syntax_lex.specs.declared.kinds.SyntaxKind.TheVariants.{IDENT}
+use Rattle.ssr_syntax_forms.specs.Kinds.{mem}
 use Rattle.ssr_syntax_forms.specs.declared.tokens.Token.{Token}
 use Rattle.ssr_syntax_types.specs.declared.goals.Goal.{Goal}
 use Rattle.ssr_syntax_forms.specs.Trees.{Forest, done, leaf, tree, join}
@@ -139,6 +140,10 @@ beside clean x y z same at none all = subst (IsAt clean) (sym same) (shows_join 
 beside either x y z same at none all = subst (IsAt crowded) (sym same) (tt, lone_join x y at.1 all)
 beside crowded x y z same at none all = subst (IsAt crowded) (sym same) (tt, lone_join x y at.1 all)
 
+not_ident : (kind : SyntaxKind) → mem kind (IDENT ∷ []) ≡ false → is_ident kind ≡ false
+not_ident IDENT h = cc
+not_ident _ h = refl
+
 token_beside : (b : Bool) (p : Sketch) (x z : Forest) (kind : SyntaxKind) (us : List Token) → (b ≡ false → is_ident kind ≡ false)
     → z ≡ join x (leaf kind us done) → IsAt p x → IsAt (behind_token b p) z
 token_beside true empty x z kind us none same at =
@@ -236,7 +241,7 @@ keeps fits h (one whole ks) p q e x z us rest f at =
     let b = meets ks (IDENT ∷ []) in
     let kind = taken_as whole f.0 in
     at_sketch (behind_token b p) q z e
-    (token_beside b p x z kind (f.0 ∷ f.1) (λ none. apart kind ks (IDENT ∷ []) none (one_taken whole ks f.0 f.3)) f.5 at)
+    (token_beside b p x z kind (f.0 ∷ f.1) (λ none. not_ident kind (apart kind ks (IDENT ∷ []) none (one_taken whole ks f.0 f.3))) f.5 at)
 keeps fits h (child goal) p q e x z us rest f at =
     let y = h goal f.0 us rest f.1 in at_sketch (behind_other p) q z e (beside p x f.0 z f.2 at y.0 y.1)
 keeps fits h (mark g) p q e x z us rest f at =

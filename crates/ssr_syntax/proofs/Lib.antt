@@ -12,9 +12,9 @@ mod Solidity
 mod FitsHere
 mod Texts
 mod Trimmed
-mod Lists
 mod TextRows
 mod TextLaws
+mod MemoryFree
 mod ExpansionTokens
 mod ExpansionLaws
 mod Identifiers

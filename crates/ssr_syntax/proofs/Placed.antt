@@ -4,8 +4,8 @@ use Rattle.ssr_syntax_lex.specs.declared.kinds.SyntaxKind.{SyntaxKind}
 use Rattle.std.specs.Prelude.{⊤, nat_le, nat_lt, reverse, Result, Ok, Err}
 use Rattle.std.specs.Result.{IsErr, IsErrAnd}
 use Rattle.std.proofs.lemmas.List.{append-nil, reverse-append, reverse-reverse, length-reverse}
-use Rattle.std.proofs.lemmas.Bool.Decides.{nat_tests}
-use Rattle.std.proofs.lemmas.Bool.{ltb-true, ltb-false, lt-ltb, le-ltb, or_cases, or_parts}
+use Rattle.std.proofs.lemmas.Bool.{ltb-true, ltb-false, lt-ltb, le-ltb, lt-leb, le-leb, or_cases, or_parts}
+use Rattle.std.proofs.Math.Bool.{or-false}
 use Rattle.ssr_syntax_tree.specs.declared.rows.NodeRow.{NodeRow}
 use Rattle.ssr_syntax.specs.declared.preorder.Open.{Open}
 use Rattle.ssr_syntax.specs.declared.syntax_error.SyntaxError.{SyntaxError}
@@ -31,22 +31,16 @@ begins_later : (place later : ℕ) (above : List Open) → place ≤ later → B
 begins_later place later [] le h = tt
 begins_later place later (inner ∷ above) le h = (omega (arith, h.0), begins_later place later above le h.1)
 
-shut : (n m : ℕ) → m < n → nat_le n m ≡ false
-shut n m h = grind (arith, nat_tests)
-
-opens : (n m : ℕ) → n ≤ m → nat_le n m ≡ true
-opens n m h = grind (arith, nat_tests)
-
 all_open : (place later : ℕ) (above : List Open) → place < later → BeginBy place above → still_open later above ≡ above
 all_open place later [] lt h = refl
 all_open place later (inner ∷ above) lt h =
-    let e : nat_le later inner.start ≡ false = shut later inner.start (omega (arith, h.0)) in
+    let e : nat_le later inner.start ≡ false = lt-leb later inner.start (omega (arith, h.0)) in
     rw e
 
 none_closed : (place later : ℕ) (above : List Open) → place < later → BeginBy place above → closed later above ≡ []
 none_closed place later [] lt h = refl
 none_closed place later (inner ∷ above) lt h =
-    let e : nat_le later inner.start ≡ false = shut later inner.start (omega (arith, h.0)) in
+    let e : nat_le later inner.start ≡ false = lt-leb later inner.start (omega (arith, h.0)) in
     rw e
 
 length-reversed : (xs more : List NodeRow) → length (reverse xs ++ more) ≡ length xs + length more
@@ -60,7 +54,7 @@ closes_first : (at : ℕ → ℕ) (total : ℕ) (inner : Open) (above : List Ope
     → from_right at total (inner ∷ above) rest ≡ inner.node ∷ from_right at total above rest
 closes_first at total inner above [] h = refl
 closes_first at total inner above (row ∷ rest) h =
-    let e : nat_le (1 + length rest) inner.start ≡ true = opens (1 + length rest) inner.start (omega arith) in
+    let e : nat_le (1 + length rest) inner.start ≡ true = le-leb (1 + length rest) inner.start (omega arith) in
     rw e
 
 -- where all open nodes stay open
@@ -173,7 +167,7 @@ closes_unseen : (limit : ℕ) (at : ℕ → ℕ) (total : ℕ) (inner : Open) (a
     → is_deeper limit at total (inner ∷ above) rest ≡ is_deeper limit at total above rest
 closes_unseen limit at total inner above [] h = refl
 closes_unseen limit at total inner above (row ∷ rest) h =
-    let e : nat_le (1 + length rest) inner.start ≡ true = opens (1 + length rest) inner.start (omega arith) in
+    let e : nat_le (1 + length rest) inner.start ≡ true = le-leb (1 + length rest) inner.start (omega arith) in
     rw e
 
 depth_here : (limit : ℕ) (at : ℕ → ℕ) (total : ℕ) (above : List Open) (row : NodeRow) (rest : List NodeRow) → BeginBy (length rest) above
@@ -247,10 +241,6 @@ abbrev pub root_open : SyntaxKind → ℕ → ℕ → Open
 root_open kind tokens below =
     record { start = 0; number = 0; node = record { kind = kind; parent = 0; first = 0; past = tokens; below = below } }
 
-or_nothing : (a : Bool) → (a || false) ≡ a
-or_nothing true = refl
-or_nothing false = refl
-
 same_test : (a b : Bool) → (a ≡ true → b ≡ true) → (a ≡ false → b ≡ false) → a ≡ b
 same_test true b yes_case no_case = sym (yes_case refl)
 same_test false b yes_case no_case = sym (no_case refl)
@@ -274,7 +264,7 @@ whole_rows at tokens kind kids =
           ∙ ap (λ n. reverse (node n ∷ node_rows at 0 0 1 0 kids)) count,
       ap (is_deeper most_deep at total (root ∷ [])) (sym none)
           ∙ depth_told most_deep at total kids 0 0 (root ∷ []) [] (omega arith) (omega arith, tt)
-          ∙ or_nothing (deeper_by most_deep 1 kids)
+          ∙ or-false (deeper_by most_deep 1 kids)
           ∙ same_test (deeper_by most_deep 1 kids) (nat_lt most_deep (height kids))
           (λ e. lt-ltb most_deep (height kids) (omega (arith, too_high most_deep 1 kids e)))
           (λ e. le-ltb most_deep (height kids) (omega (arith, not_high most_deep 1 kids (omega arith) e))),
@@ -300,13 +290,13 @@ whole_placed at tokens kind kids below root e =
 closes_all : (above : List Open) → closed 0 above ≡ map (λ inner. inner.node) above
 closes_all [] = refl
 closes_all (inner ∷ above) =
-    let e : nat_le 0 inner.start ≡ true = opens 0 inner.start (omega arith) in
+    let e : nat_le 0 inner.start ≡ true = le-leb 0 inner.start (omega arith) in
     rw (e, closes_all above)
 
 none_left : (above : List Open) → still_open 0 above ≡ []
 none_left [] = refl
 none_left (inner ∷ above) =
-    let e : nat_le 0 inner.start ≡ true = opens 0 inner.start (omega arith) in
+    let e : nat_le 0 inner.start ≡ true = le-leb 0 inner.start (omega arith) in
     rw (e, none_left above)
 
 pub all_closed : (old new : List Open) → reverse new ≡ still_open 0 (reverse old) → length new ≡ 0

@@ -2,6 +2,8 @@
 
 -- a fragment that is read has a tree that fits
 pub use Rattle.ssr_syntax.proofs.TextLaws.{fragment_sound}
+-- why a file isn't read
+pub use Rattle.ssr_syntax.proofs.MemoryFree.{file_needs_none}
 -- identifiers in the tree of a fragment
 pub use Rattle.ssr_syntax.proofs.IdentTexts.{fragment_idents, fragment_alone}
 -- the tokens of a text, one behind another

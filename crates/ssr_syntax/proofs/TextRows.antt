@@ -10,13 +10,13 @@ use Rattle.ssr_syntax_lex.specs.declared.tokens.RawToken.{RawToken}
 use Rattle.ssr_syntax_lex.specs.Kinds.{same_kind, is_trivia}
 use Rattle.ssr_syntax_lex.specs.Words.{is_punctuation}
 use Rattle.ssr_syntax_lex.specs.Tokens.{tokens, row_of, rows_in, begins_with_punctuation, spell, Tiles}
+use Rattle.ssr_syntax_tree.proofs.Lists.{map-reverse}
 use Rattle.ssr_syntax_lex.proofs.Shared.{same_kind-equal, tokens_tile, tiles_spell, AreJoint, tokens_joint, rows_known}
 use Rattle.ssr_syntax.specs.Solid.{twice, joined, lengthened, is_joint, joined_two, joined_three, solid_token, solid_tokens}
 use Rattle.ssr_syntax.specs.Private.SolidKinds.{with_next, two_of, solid_kind, solid_kinds, kinds_begin_solid}
 use Rattle.ssr_syntax.specs.Reading.{begins_solid}
 use Rattle.ssr_syntax.specs.Private.Reading.{IsCut}
 use Rattle.ssr_syntax_forms.specs.declared.tokens.Token.{Token}
-use Rattle.ssr_syntax.proofs.Lists.{map-reverse}
 use Rattle.ssr_syntax.proofs.Tiles.{tiles_count}
 
 abbrev pub kinds_of : List TokenRow → List SyntaxKind

@@ -7,7 +7,8 @@ use Rattle.ssr_syntax_tree.specs.Syntax.{Token, Forest, nothing, leaf, branch, S
 use Rattle.ssr_syntax_forms.specs.Kinds.{mem}
 
 abbrev pub is_ident : SyntaxKind → Bool
-is_ident kind = mem kind (IDENT ∷ [])
+is_ident IDENT = true
+is_ident _ = false
 
 -- the identifiers among tokens, in order
 abbrev pub idents : List Token → List Token

@@ -1,6 +1,6 @@
 -- The rows that are left when the first character is known.
 use Rattle.std.proofs.Common.{◌≡◌, ℕ, Bool, true, false, if◌then◌else◌, [], ◌∷◌, drop, refl, sym, ap, subst, ◌∙◌, lit<, ne_eqb, eqb-true}
-use Rattle.std.specs.Prelude.{Option, Some, None, Result, slice_get}
+use Rattle.std.specs.Prelude.{Option, Some, None, slice_get}
 use Rattle.std.specs.Option.{option_map}
 use Rattle.unicode_ident.proofs.IdentLemmas.{is_xid_start-ascii}
 use Rattle.ssr_syntax_lex.proofs.WordLaws.{marks_apart}
@@ -10,8 +10,7 @@ use Rattle.ssr_syntax_lex.specs.Words.{mark_kind}
 use Rattle.ssr_syntax_lex.specs.Numbers.{number}
 use Rattle.ssr_syntax_lex.specs.Scan.{past_comments, past_quoted, past_raw_string, past_char}
 use Rattle.ssr_syntax_lex.specs.Raw.{Taken, begins_raw_string, begins_string, past_string, begins_raw_identifier, begins_lifetime_behind, punctuation, kind_of_word, past_word, closed, token, fault_of}
-use Rattle.ssr_syntax_lex.specs.Private.Steps.{IsPlain, Takes}
-use Rattle.ssr_syntax_lex.specs.declared.fault.FaultKind.{FaultKind}
+use Rattle.ssr_syntax_lex.specs.Private.Steps.{IsPlain}
 use Rattle.ssr_syntax_lex.specs.declared.fault.FaultKind.TheVariants as faults
 use Rattle.ssr_syntax_lex.specs.declared.kinds.SyntaxKind.{SyntaxKind}
 use Rattle.ssr_syntax_lex.specs.declared.kinds.SyntaxKind.TheVariants as k
@@ -140,10 +139,6 @@ fault_plain c cs first plain = from_front (λ cs. fault_of cs ≡ faults.NoToken
 pub fault_nothing : (cs : Chars) → slice_get cs 0 ≡ None → fault_of cs ≡ faults.NoToken
 fault_nothing [] e = refl
 fault_nothing (c ∷ cs) e = absurd (cc)
-
-pub takes_same : (told wanted : FaultKind) (r : Result SyntaxKind FaultKind) (o p : Option Taken) (rest : Chars) → told ≡ wanted → o ≡ p → Takes told r o rest → Takes wanted r p rest
-takes_same told wanted r o p rest e f takes =
-    subst (λ (x : FaultKind). Takes x r p rest) e (subst (λ (x : Option Taken). Takes told r x rest) f takes)
 
 -- what the functions that know the first character need
 pub ruleset slash_rows = (token_slash, fault_slash)

@@ -9,7 +9,7 @@ use Rattle.ssr_syntax_lex.specs.Tokens.{size, range_of, begins_with_punctuation,
 use Rattle.ssr_syntax_lex.specs.declared.kinds.SyntaxKind.{SyntaxKind}
 use Rattle.ssr_syntax_lex.specs.declared.range.TextRange.{TextRange}
 use Rattle.ssr_syntax_lex.specs.declared.tokens.RawToken.{RawToken}
-use Rattle.ssr_syntax_lex.proofs.Tiling.{same_list}
+use Rattle.std.proofs.lemmas.Option.{same_Some}
 
 -- each token is joint just where the next one is punctuation
 abbrev pub AreJoint : List RawToken → Type 0
@@ -21,7 +21,7 @@ JointRest fuel = (start dots : ℕ) (cs : Chars) (ts : List RawToken) → tokens
 
 rest_joint : (fuel start dots : ℕ) (rest : Chars) (kind : SyntaxKind) (range : TextRange) (ts : List RawToken) (o : Option (List RawToken)) → JointRest fuel → tokens_from fuel start dots rest ≡ o → option_map (in_front kind range) o ≡ Some ts → AreJoint ts
 rest_joint fuel start dots rest kind range ts None others is e = absurd (cc)
-rest_joint fuel start dots rest kind range ts (Some us) others is e = subst AreJoint (same_list _ _ e) (refl, others start dots rest us is)
+rest_joint fuel start dots rest kind range ts (Some us) others is e = subst AreJoint (same_Some _ _ e) (refl, others start dots rest us is)
 
 token_joint : (fuel start dots here : ℕ) (ts : List RawToken) (o : Option Taken) → JointRest fuel → option_and_then (λ (taken : Taken). let count : ℕ = here - size taken.1 in option_map (in_front taken.0 (range_of start count)) (tokens_from fuel (start + count) (dots_behind dots taken.0) taken.1)) o ≡ Some ts → AreJoint ts
 token_joint fuel start dots here ts None others e = absurd (cc)
@@ -31,7 +31,7 @@ token_joint fuel start dots here ts (Some taken) others e =
     (tokens_from fuel (start + count) (dots_behind dots taken.0) taken.1) others refl e
 
 all_joint : (fuel : ℕ) → JointRest fuel
-all_joint fuel start dots [] ts e = subst AreJoint (same_list _ _ e) tt
+all_joint fuel start dots [] ts e = subst AreJoint (same_Some _ _ e) tt
 all_joint zero start dots (c ∷ cs) ts e = absurd (cc)
 all_joint (suc fuel) start dots (c ∷ cs) ts e = token_joint fuel start dots (size (c ∷ cs)) ts (token dots (c ∷ cs)) (all_joint fuel) e
 

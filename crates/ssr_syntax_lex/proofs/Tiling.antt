@@ -1,9 +1,10 @@
 -- The tokens' ranges are the whole text in order.
 use Rattle.std.proofs.Common.{◌≡◌, ℕ, suc, zero, ◌+◌, ◌-◌, ◌<◌, ◌≤◌, List, [], ◌∷◌, ◌++◌, length, drop, refl, sym, ap, subst, ◌∙◌, arith, append_assoc, length-append}
 use Rattle.std.specs.Prelude.{Option, Some, None, slice_range, encode_utf8_all, IsCharBoundary}
-use Rattle.std.specs.Option.{option_map, option_and_then, option_map_or}
+use Rattle.std.specs.Option.{option_map, option_and_then}
 use Rattle.std.specs.Str.{chars, IsUtf8}
 use Rattle.std.proofs.lemmas.List.{take-append-drop, drop-drop, drop_all}
+use Rattle.std.proofs.lemmas.Option.{same_Some}
 use Rattle.std.proofs.lemmas.Str.{encodes-append, encodes-chars, IsUtf8-past_char, IsCharBoundary-at_seam}
 use Rattle.ssr_syntax_lex.specs.Cursor.{Chars}
 use Rattle.ssr_syntax_lex.specs.Raw.{Taken, token}
@@ -55,9 +56,6 @@ ends_further text start c cs rest ends (taken, e) =
       utf8 = ends_utf8 (c ∷ taken) rest (subst (λ xs. IsUtf8 (encode_utf8_all (c ∷ xs))) e ends.utf8);
     }
 
-pub same_list : (ts us : List RawToken) → ◌≡◌ {A = Option (List RawToken)} (Some ts) (Some us) → ts ≡ us
-same_list ts us e = ap (λ o. option_map_or (λ xs. xs) o ts) e
-
 -- the last token ends where the text does
 end_tiles : (text : List ℕ) (start : ℕ) (ts : List RawToken) → EndsAt text start [] → ts ≡ [] → TilesFrom text start ts
 end_tiles text start ts ends e =
@@ -79,7 +77,7 @@ TilesRest text fuel = (start dots : ℕ) (cs : Chars) (ts : List RawToken) → E
 rest_case : (text : List ℕ) (fuel start dots c : ℕ) (cs rest : Chars) (kind : SyntaxKind) (ts : List RawToken) (o : Option (List RawToken)) → TilesRest text fuel → EndsAt text start (c ∷ cs) → Follows cs rest → tokens_from fuel (start + (size (c ∷ cs) - size rest)) dots rest ≡ o → option_map (in_front kind (range_of start (size (c ∷ cs) - size rest))) o ≡ Some ts → TilesFrom text start ts
 rest_case text fuel start dots c cs rest kind ts None others ends follows is e = absurd (cc)
 rest_case text fuel start dots c cs rest kind ts (Some us) others ends follows is e =
-    front_tiles text start c cs rest kind ts us ends follows (sym (same_list _ _ e))
+    front_tiles text start c cs rest kind ts us ends follows (sym (same_Some _ _ e))
     (others (start + (size (c ∷ cs) - size rest)) dots rest us (ends_further text start c cs rest ends follows) is)
 
 token_case : (text : List ℕ) (fuel start dots c : ℕ) (cs : Chars) (ts : List RawToken) (o : Option Taken) → TilesRest text fuel → EndsAt text start (c ∷ cs) → token dots (c ∷ cs) ≡ o → option_and_then (λ (taken : Taken). let count : ℕ = size (c ∷ cs) - size taken.1 in option_map (in_front taken.0 (range_of start count)) (tokens_from fuel (start + count) (dots_behind dots taken.0) taken.1)) o ≡ Some ts → TilesFrom text start ts
@@ -88,7 +86,7 @@ token_case text fuel start dots c cs ts (Some taken) others ends is e =
     rest_case text fuel start (dots_behind dots taken.0) c cs taken.1 taken.0 ts (tokens_from fuel (start + (size (c ∷ cs) - size taken.1)) (dots_behind dots taken.0) taken.1) others ends (token_leaves dots c cs taken is) refl e
 
 all_tile : (text : List ℕ) (fuel : ℕ) → TilesRest text fuel
-all_tile text fuel start dots [] ts ends e = end_tiles text start ts ends (sym (same_list _ _ e))
+all_tile text fuel start dots [] ts ends e = end_tiles text start ts ends (sym (same_Some _ _ e))
 all_tile text zero start dots (c ∷ cs) ts ends e = absurd (cc)
 all_tile text (suc fuel) start dots (c ∷ cs) ts ends e =
     token_case text fuel start dots c cs ts (token dots (c ∷ cs)) (all_tile text fuel) ends refl e

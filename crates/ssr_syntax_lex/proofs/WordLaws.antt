@@ -5,6 +5,7 @@ use Rattle.std.specs.List.{list_all}
 use Rattle.std.specs.Char.{is_ascii_alphabetic}
 use Rattle.std.proofs.lemmas.Bool.{and_from, and_parts, eqb-true, ltb-true, le-leb, lt-leb}
 use Rattle.std.proofs.lemmas.Slice.Eq.{bytes_eq-Decides}
+use Rattle.std.proofs.Math.Bool.{or-false}
 use Rattle.unicode_ident.proofs.IdentLemmas.{is_xid_continue-ascii, is_xid_start-ascii}
 use Rattle.unicode_ident.specs.Ident.{is_xid_start}
 use Rattle.ssr_syntax_lex.specs.Characters.{◌∈◌, is_among, is_whitespace, is_digit, starts_word}
@@ -15,10 +16,6 @@ use Rattle.ssr_syntax_lex.specs.declared.kinds.SyntaxKind.{SyntaxKind}
 use Rattle.ssr_syntax_lex.specs.declared.kinds.SyntaxKind.TheVariants as k
 use Rattle.ssr_syntax_lex.specs.contracts.kinds.SyntaxKind.{the_type}
 use denote.Enum.Declared.{tag_of}
-
-or_off : (b : Bool) → (b || false) ≡ b
-or_off true = refl
-or_off false = refl
 
 begins_so : (low high c : ℕ) (word : List ℕ) → slice_get word 0 ≡ Some c → low ≤ c → c ≤ high → begins_between low high word ≡ true
 begins_so low high c [] e above below = absurd (cc)
@@ -51,7 +48,7 @@ pub ruleset ascii_words = (is_xid_continue-ascii)
 
 -- beyond ASCII `_` doesn't stand
 pub no_underscore : (c : ℕ) → 128 ≤ c → is_xid_start c ≡ starts_word c
-no_underscore c beyond = sym (ap (λ b. is_xid_start c || b) (ne_eqb c 95 (λ e. omega (arith, e))) ∙ or_off (is_xid_start c))
+no_underscore c beyond = sym (ap (λ b. is_xid_start c || b) (ne_eqb c 95 (λ e. omega (arith, e))) ∙ or-false (is_xid_start c))
 
 pub ruleset ascii_starts = (is_xid_start-ascii, no_underscore)
 

@@ -1,8 +1,9 @@
 -- Lists that agree up to a place, and rows that agree.
-use Rattle.std.proofs.Common.{◌≡◌, ◌↔◌, IsTrue, ℕ, ◌+◌, ◌≤◌, ◌&&◌, Bool, true, List, [], ◌∷◌, ◌++◌, length, map, take, Some, refl, sym, ap, ◌∙◌, arith, add-one, eq-eqb, eqb-true}
+use Rattle.std.proofs.Common.{◌≡◌, ◌↔◌, IsTrue, ℕ, ◌+◌, ◌≤◌, ◌&&◌, Bool, true, List, length, map, take, Some, refl, sym, ap, ◌∙◌, arith, eq-eqb, eqb-true}
 use Rattle.std.proofs.lemmas.Bool.{and_parts}
-use Rattle.std.proofs.lemmas.List.{take_all}
-use Rattle.std.specs.Prelude.{◌==◌, zero, suc, slice_get, string_bytes}
+use Rattle.std.proofs.lemmas.List.{take_all, take_more_same}
+use Rattle.std.proofs.lemmas.Option.{get_or_from_slice_get, slice_get_within}
+use Rattle.std.specs.Prelude.{◌==◌, slice_get, string_bytes}
 use Rattle.ssr_syntax_lex.specs.declared.token_rows.TokenRow.{TokenRow}
 use Rattle.ssr_syntax_tree.specs.declared.rows.NodeRow.{NodeRow}
 use Rattle.ssr_syntax_tree.specs.declared.tree.Tree.TheInside.{Inside}
@@ -12,28 +13,15 @@ use Rattle.ssr_syntax_tree.specs.Places.{nodes_of}
 use Rattle.ssr_syntax_tree.specs.Syntax.{Syntax, tokens_of, source_of}
 use Rattle.ssr_syntax_tree.proofs.RowLaws.{are_parts}
 
-take_one : {A : Type 0} (xs : List A) (n : ℕ) (x : A) → slice_get xs n ≡ Some x → take (suc n) xs ≡ take n xs ++ x ∷ []
-take_one [] n x e = cc
-take_one (y ∷ ys) zero x e = cc
-take_one (y ∷ ys) (suc n) x e = ap (λ rest. y ∷ rest) (take_one ys n x e)
-
 -- with one element more at which they agree
 pub agree_more : {A : Type 0} (xs ys : List A) (n : ℕ) (x y : A) → slice_get xs n ≡ Some x → slice_get ys n ≡ Some y → x ≡ y → take n xs ≡ take n ys → take (n + 1) xs ≡ take (n + 1) ys
 agree_more xs ys n x y e f same h =
-    ap (λ m. take m xs) (add-one n)
-    ∙ take_one xs n x e
-    ∙ ap (λ front. front ++ x ∷ []) h
-    ∙ ap (λ last. take n ys ++ last ∷ []) same
-    ∙ sym (take_one ys n y f)
-    ∙ ap (λ m. take m ys) (sym (add-one n))
+    take_more_same xs ys n x (slice_get_within xs n x e) (slice_get_within ys n y f) h
+    (get_or_from_slice_get xs n x x e ∙ same ∙ sym (get_or_from_slice_get ys n y x f))
 
 -- lists that agree as far as they are long
 pub agree_all : {A : Type 0} (xs ys : List A) (n : ℕ) → length xs ≤ n → length xs ≡ length ys → take n xs ≡ take n ys → xs ≡ ys
 agree_all xs ys n h e same = sym (take_all n xs h) ∙ same ∙ take_all n ys (omega arith)
-
--- the elements at a place of one list are one
-pub agree_at : {A : Type 0} (xs ys : List A) (n : ℕ) (x y : A) → slice_get xs n ≡ Some x → slice_get ys n ≡ Some y → xs ≡ ys → x ≡ y
-agree_at xs ys n x y e f same = let g : slice_get xs n ≡ slice_get ys n = ap (λ l. slice_get l n) same in cc
 
 token_same : (one other : TokenRow) → one.kind ≡ other.kind → one.start ≡ other.start → one ≡ other
 token_same one other kinds starts =

@@ -1,6 +1,6 @@
 -- Laws of lists that the standard library lacks, of use to each crate.
-use Rattle.std.proofs.Common.{◌≡◌, ℕ, ◌+◌, ◌-◌, ◌≤◌, List, [], ◌∷◌, ◌++◌, length, take, drop, Some, sym, ap, ◌∙◌, arith, drop-drop, take-append-drop}
-use Rattle.std.proofs.lemmas.List.{take-take, drop_at, drop-take}
+use Rattle.std.proofs.Common.{◌≡◌, ℕ, ◌+◌, ◌-◌, ◌≤◌, List, [], ◌∷◌, ◌++◌, length, map, reverse, take, drop, Some, refl, sym, ap, ◌∙◌, arith, drop-drop, take-append-drop}
+use Rattle.std.proofs.lemmas.List.{take-take, drop_at, drop-take, map-append, reverse-append}
 use Rattle.std.specs.Prelude.{zero, suc, slice_get}
 
 -- the elements behind a place
@@ -23,3 +23,11 @@ take_between xs a b h =
     ∙ ap (λ front. front ++ drop a (take b xs)) (take-take a b xs h)
     ∙ ap (λ n. take a xs ++ drop a (take n xs)) (omega arith)
     ∙ ap (λ rest. take a xs ++ rest) (drop-take a (b - a) xs)
+
+pub map-reverse : {A B : Type 0} (f : A → B) (xs : List A) → map f (reverse xs) ≡ reverse (map f xs)
+map-reverse f [] = refl
+map-reverse f (x ∷ xs) =
+    ap (map f) (reverse-append (x ∷ []) xs)
+    ∙ map-append f (reverse xs) (x ∷ [])
+    ∙ ap (λ ys. ys ++ f x ∷ []) (map-reverse f xs)
+    ∙ sym (reverse-append (f x ∷ []) (map f xs))

@@ -1,8 +1,9 @@
 use Rattle.std.proofs.Common.{◌≡◌, ℕ, ◌-◌, ◌<◌, ◌≤◌, List, All, true, false, get_or, length, reverse, drop, ◌∙◌, ap, subst}
+use Rattle.std.proofs.lemmas.List.{take_rest}
 use Rattle.ssr_syntax_tree.specs.Places.{node_of, start_of, end_of}
 use Rattle.ide_ssr.specs.Edits.{Rewrite, replacement}
 use Rattle.ide_ssr.specs.Private.Pending.{is_at}
-use Rattle.ide_ssr.proofs.Waiting.{waits, made_of, from_on}
+use Rattle.ide_ssr.proofs.Waiting.{waits, made_of}
 use Rattle.ide_ssr.proofs.edits.push_rewrite.Goals as goal
 
 pub returns : goal.returns
@@ -21,6 +22,7 @@ returns c =
     (c.range.ensures.start ∙ ap (λ (i : ℕ). start_of code (node_of code i)) c.node.ensures)
     (c.range.ensures.end ∙ ap (λ (i : ℕ). end_of code (node_of code i)) c.node.ensures)
     (c.in_ok-text.ensures
-    ∙ ap (λ (held : List Rewrite). replacement code c.args.rules.now (reverse held) n c.index-m.result.now) (from_on c.deref-2.result.now c.args.pending.now.items first c.deref-2.ensures.value)))
+    ∙ ap (λ (held : List Rewrite). replacement code c.args.rules.now (reverse held) n c.index-m.result.now)
+    (take_rest c.deref-2.result.now first ∙ ap (drop first) c.deref-2.ensures.value)))
     (c.range.ensures.start_boundary, c.range.ensures.end_boundary)
     _ _ c.truncate.ensures.items c.in_ok-push.ensures.items

@@ -1,12 +1,13 @@
-use Rattle.std.proofs.Common.{◌≡◌, ◌+◌, ◌∷◌, ap, arith, suc, sym, drop, ◌∙◌}
-use Rattle.ssr_syntax.proofs.Lists.{drop_row}
+use Rattle.std.proofs.Common.{◌+◌, ◌∷◌, ap, sym, drop, ◌∙◌}
+use Rattle.std.proofs.lemmas.List.{drop_more}
+use Rattle.std.proofs.lemmas.Option.{get_or_from_slice_get, slice_get_within}
 use Rattle.ssr_syntax.proofs.packing.Packing.read.Goals as goal
 
 pub returns-clause-row : goal.returns-clause-row
 returns-clause-row c =
     let rows = c.self.inside.rows in
     let first = c.self.inside.unread in
-    let next : suc first ≡ first + 1 = omega arith in
+    let row = c.row-row.result in
     sym (ap (λ packing. packing.unread) c.self.view_is)
-    ∙ drop_row rows first c.row-row.result c.row-row.ensures
-    ∙ ap (λ n. c.row-row.result ∷ drop n rows) next
+    ∙ drop_more rows first row (slice_get_within rows first row c.row-row.ensures)
+    ∙ ap (λ r. r ∷ drop (first + 1) rows) (get_or_from_slice_get rows first row row c.row-row.ensures)
