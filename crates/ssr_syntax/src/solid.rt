@@ -76,7 +76,7 @@ fn may_go_on(kind: SyntaxKind, behind: &[SyntaxKind]) -> bool
     match behind.first() {
         None => false,
         Some(SyntaxKind::EQ | SyntaxKind::R_ANGLE) => true,
-        Some(next) => kind == *next,
+        Some(next) => kind == *next && twice(kind).is_some(),
     }
 }
 
