@@ -9,6 +9,7 @@ mod fitting;
 mod fragments;
 mod grammar;
 mod items;
+mod leaves;
 mod outlines;
 mod params;
 mod patterns;

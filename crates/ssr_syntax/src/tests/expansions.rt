@@ -1,4 +1,4 @@
-use super::outlines::told;
+use super::outlines::{row, told};
 use crate::expansions::{ExpToken, ExpansionKind, parse_tokens};
 use crate::syntax_error::SyntaxError;
 use ssr_syntax_lex::lex;
@@ -42,27 +42,20 @@ fn outline(alloc: Global, kind: ExpansionKind, text: &str) -> Result<String, Fai
 
 #[test]
 fn items(rt: HostRuntime) -> Result<(), Fail> {
-    for (text, want) in [
-        ("", "MACRO_ITEMS"),
-        (
-            "fn f() {} struct S;",
-            "MACRO_ITEMS .FN ..NAME ..PARAM_LIST ..BLOCK_EXPR ...STMT_LIST .STRUCT ..NAME",
-        ),
-        (
-            "m! {} m!();",
-            "MACRO_ITEMS .MACRO_CALL ..PATH ...PATH_SEGMENT ....NAME_REF ..TOKEN_TREE .MACRO_CALL ..PATH ...PATH_SEGMENT ....NAME_REF ..TOKEN_TREE",
-        ),
-        (
-            "macro_rules! m {}",
-            "MACRO_ITEMS .MACRO_RULES ..NAME ..TOKEN_TREE",
-        ),
-        ("other! m {}", "no tree"),
-        ("#![a] struct S;", "no tree"),
-        ("struct S; 1", "no tree"),
-        ("let _ = 1;", "no tree"),
-        ("m!()", "no tree"),
-        ("}", "no tree"),
-    ] {
+    for line in "\
+fn f() {} struct S; ==> MACRO_ITEMS .FN ..NAME ..PARAM_LIST ..BLOCK_EXPR ...STMT_LIST .STRUCT ..NAME
+ ==> MACRO_ITEMS
+m! {} m!(); ==> MACRO_ITEMS .MACRO_CALL ..PATH ...PATH_SEGMENT ....NAME_REF ..TOKEN_TREE .MACRO_CALL ..PATH ...PATH_SEGMENT ....NAME_REF ..TOKEN_TREE
+macro_rules! m {} ==> MACRO_ITEMS .MACRO_RULES ..NAME ..TOKEN_TREE
+other! m {}
+#![a] struct S;
+struct S; 1
+let _ = 1;
+m!()
+}"
+        .lines()
+    {
+        let (text, want) = row(line);
         let outline = outline(rt.alloc(), ExpansionKind::Items, text)?;
         assert_eq!(rt; outline.as_str(), want, "{text}");
     }
@@ -71,36 +64,31 @@ fn items(rt: HostRuntime) -> Result<(), Fail> {
 
 #[test]
 fn statements(rt: HostRuntime) -> Result<(), Fail> {
-    for (text, want) in [
-        ("", "MACRO_STMTS"),
-        ("1", "MACRO_STMTS .LITERAL"),
-        ("1;", "MACRO_STMTS .EXPR_STMT ..LITERAL"),
-        ("1; 2", "MACRO_STMTS .EXPR_STMT ..LITERAL .LITERAL"),
-        (
-            "let _ = 1",
-            "MACRO_STMTS .LET_STMT ..WILDCARD_PAT ..LITERAL",
-        ),
-        (
-            "let _ = 1; let _ = 2",
-            "MACRO_STMTS .LET_STMT ..WILDCARD_PAT ..LITERAL .LET_STMT ..WILDCARD_PAT ..LITERAL",
-        ),
-        ("{}", "MACRO_STMTS .BLOCK_EXPR ..STMT_LIST"),
-        (
-            "{} 1",
-            "MACRO_STMTS .EXPR_STMT ..BLOCK_EXPR ...STMT_LIST .LITERAL",
-        ),
-        ("struct S; 1", "MACRO_STMTS .STRUCT ..NAME .LITERAL"),
-        (
-            "macro_rules! m {} m! {} 1",
-            "MACRO_STMTS .MACRO_RULES ..NAME ..TOKEN_TREE .EXPR_STMT ..MACRO_EXPR ...MACRO_CALL ....PATH .....PATH_SEGMENT ......NAME_REF ....TOKEN_TREE .LITERAL",
-        ),
-        ("let _ = 1 let _ = 2;", "no tree"),
-        ("{let _ = 1}", "no tree"),
-        ("1 2", "no tree"),
-        ("1 }", "no tree"),
-        (";", "no tree"),
-        ("other! m {} 1", "no tree"),
-    ] {
+    for line in "\
+1 ==> MACRO_STMTS .LITERAL
+ ==> MACRO_STMTS
+1; ==> MACRO_STMTS .EXPR_STMT ..LITERAL
+1; 2 ==> MACRO_STMTS .EXPR_STMT ..LITERAL .LITERAL
+let _ = 1 ==> MACRO_STMTS .LET_STMT ..WILDCARD_PAT ..LITERAL
+let _ = 1; let _ = 2 ==> MACRO_STMTS .LET_STMT ..WILDCARD_PAT ..LITERAL .LET_STMT ..WILDCARD_PAT ..LITERAL
+{} ==> MACRO_STMTS .BLOCK_EXPR ..STMT_LIST
+{} 1 ==> MACRO_STMTS .EXPR_STMT ..BLOCK_EXPR ...STMT_LIST .LITERAL
+struct S; 1 ==> MACRO_STMTS .STRUCT ..NAME .LITERAL
+macro_rules! m {} m! {} 1 ==> MACRO_STMTS .MACRO_RULES ..NAME ..TOKEN_TREE .EXPR_STMT ..MACRO_EXPR ...MACRO_CALL ....PATH .....PATH_SEGMENT ......NAME_REF ....TOKEN_TREE .LITERAL
+let _ = 1 let _ = 2;
+{let _ = 1}
+1 2
+1 }
+;
+other! m {} 1
+m!{} ==> MACRO_STMTS .MACRO_EXPR ..MACRO_CALL ...PATH ....PATH_SEGMENT .....NAME_REF ...TOKEN_TREE
+{}; ==> MACRO_STMTS .EXPR_STMT ..BLOCK_EXPR ...STMT_LIST
+{}.b + 1 ==> MACRO_STMTS .BIN_EXPR ..FIELD_EXPR ...BLOCK_EXPR ....STMT_LIST ...NAME_REF ..LITERAL
+{} + 1
+let _ = 1 2"
+        .lines()
+    {
+        let (text, want) = row(line);
         let outline = outline(rt.alloc(), ExpansionKind::Stmts, text)?;
         assert_eq!(rt; outline.as_str(), want, "{text}");
     }
@@ -109,18 +97,17 @@ fn statements(rt: HostRuntime) -> Result<(), Fail> {
 
 #[test]
 fn expressions(rt: HostRuntime) -> Result<(), Fail> {
-    for (text, want) in [
-        ("1 + 2", "BIN_EXPR .LITERAL .LITERAL"),
-        (
-            "{let _ = 1; 2}",
-            "BLOCK_EXPR .STMT_LIST ..LET_STMT ...WILDCARD_PAT ...LITERAL ..LITERAL",
-        ),
-        ("", "no tree"),
-        ("1;", "no tree"),
-        ("1 2", "no tree"),
-        ("let _ = 1", "no tree"),
-        ("struct S;", "no tree"),
-    ] {
+    for line in "\
+1 + 2 ==> BIN_EXPR .LITERAL .LITERAL
+{let _ = 1; 2} ==> BLOCK_EXPR .STMT_LIST ..LET_STMT ...WILDCARD_PAT ...LITERAL ..LITERAL
+
+1;
+1 2
+let _ = 1
+struct S;"
+        .lines()
+    {
+        let (text, want) = row(line);
         let outline = outline(rt.alloc(), ExpansionKind::Expr, text)?;
         assert_eq!(rt; outline.as_str(), want, "{text}");
     }

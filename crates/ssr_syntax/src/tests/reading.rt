@@ -60,6 +60,15 @@ fn reads_an_expression(rt: HostRuntime) -> Result<(), Fail> {
 }
 
 #[test]
+fn white_space_in_front_of_a_fragment_is_counted(rt: HostRuntime) -> Result<(), Fail> {
+    for (text, want) in [(" 1 + 2 ", 1), ("1 ", 0), ("\n\t1", 2)] {
+        let (_, front) = fragment(rt.alloc(), Fragment::Expr, text)?;
+        assert_eq!(rt; front, want, "{text}");
+    }
+    Ok(())
+}
+
+#[test]
 fn a_prefix_holds_all_that_goes_on_behind_its_operand(rt: HostRuntime) -> Result<(), Fail> {
     let (tree, _) = fragment(rt.alloc(), Fragment::Expr, "-a.b(1)?")?;
     let want = [
@@ -85,6 +94,18 @@ fn two_ampersands_are_two_references(rt: HostRuntime) -> Result<(), Fail> {
         (SyntaxKind::REF_EXPR, 0, 7),
         (SyntaxKind::REF_EXPR, 1, 7),
         (SyntaxKind::LITERAL, 6, 7),
+    ];
+    assert_eq!(rt; node_ranges(rt.alloc(), &tree)?.as_slice(), want.as_slice());
+    Ok(())
+}
+
+#[test]
+fn mut_behind_an_ampersand_is_the_reference_s(rt: HostRuntime) -> Result<(), Fail> {
+    let (tree, _) = fragment(rt.alloc(), Fragment::Pat, "&mut x")?;
+    let want = [
+        (SyntaxKind::REF_PAT, 0, 6),
+        (SyntaxKind::IDENT_PAT, 5, 6),
+        (SyntaxKind::NAME, 5, 6),
     ];
     assert_eq!(rt; node_ranges(rt.alloc(), &tree)?.as_slice(), want.as_slice());
     Ok(())
@@ -231,12 +252,31 @@ fn what_is_almost_a_type_or_a_path_is_refused(rt: HostRuntime) -> Result<(), Fai
     Ok(())
 }
 
-// One operator of each rank, the tightest first.
+// Each operator with its rank, the tightest first.
 #[test]
 fn each_rank_binds_tighter_than_those_behind_it(rt: HostRuntime) -> Result<(), Fail> {
-    let operators = ["*", "+", "<<", "&", "^", "|", "==", "&&", "||"];
-    for (tight, one) in operators.iter().enumerate() {
-        for (loose, other) in operators.iter().enumerate() {
+    let operators = [
+        ("*", 0),
+        ("/", 0),
+        ("%", 0),
+        ("+", 1),
+        ("-", 1),
+        ("<<", 2),
+        (">>", 2),
+        ("&", 3),
+        ("^", 4),
+        ("|", 5),
+        ("==", 6),
+        ("!=", 6),
+        ("<", 6),
+        (">", 6),
+        ("<=", 6),
+        (">=", 6),
+        ("&&", 7),
+        ("||", 8),
+    ];
+    for (one, tight) in operators {
+        for (other, loose) in operators {
             let text = format!(in rt.alloc(); "1 {one} 2 {other} 3")?;
             let (tree, _) = fragment(rt.alloc(), Fragment::Expr, text.as_str())?;
             let nodes = node_ranges(rt.alloc(), &tree)?;
