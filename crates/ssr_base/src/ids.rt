@@ -1,4 +1,4 @@
-//! Files, ranges of files, and nodes of their trees.
+//! Files, ranges and positions of files, nodes of trees, and the numbers that a provider of names and types gives.
 
 use ssr_syntax_lex::TextRange;
 use ssr_syntax_tree::NodeNo;
@@ -14,9 +14,28 @@ pub struct FileRange {
     pub range: TextRange,
 }
 
+/// A place in a file: in front of the byte `offset`, or at the end.
+#[derive(Clone, Copy, Debug, PartialEq, Eq)]
+pub struct FilePosition {
+    pub file_id: FileId,
+    pub offset: u32,
+}
+
 /// A node of the tree with the number `tree`.
 #[derive(Clone, Copy, Debug, PartialEq, Eq, PartialOrd, Ord)]
 pub struct NodeId {
     pub tree: u32,
     pub node: NodeNo,
 }
+
+/// The number of a scope, in which names are looked up.
+#[derive(Clone, Copy, Debug, PartialEq, Eq)]
+pub struct ScopeId(pub u32);
+
+/// The number of a definition.
+#[derive(Clone, Copy, Debug, PartialEq, Eq)]
+pub struct DefId(pub u32);
+
+/// The number of a type.
+#[derive(Clone, Copy, Debug, PartialEq, Eq)]
+pub struct TypeId(pub u32);

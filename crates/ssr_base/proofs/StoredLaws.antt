@@ -1,0 +1,93 @@
+-- Laws of what a workspace stores of its expansions.
+use Rattle.std.proofs.Common.{◌≡◌, ℕ, zero, suc, ◌+◌, ◌<◌, ◌≤◌, Bool, true, false, if◌then◌else◌, cond, List, [], ◌∷◌, length, slice_get, Option, Some, None, sym, ap, ◌∙◌, arith, inl, inr, lt-ltb, le-ltb}
+use Rattle.std.proofs.lemmas.Bool.{cases_lt, cases_Bool}
+use Rattle.std.proofs.lemmas.Option.{slice_get_within, same_Some}
+use Rattle.std.specs.List.{position_from}
+use Rattle.std.specs.Option.{option_map, option_and_then}
+use Rattle.ssr_syntax_tree.specs.Syntax.{Syntax, node_count}
+use Rattle.ssr_syntax_tree.specs.Places.{node_of}
+use Rattle.ssr_base.specs.declared.ids.NodeId.{NodeId}
+use Rattle.ssr_base.specs.declared.covers.Cover.{Cover as StoredCover}
+use Rattle.ssr_base.specs.declared.workspace.Expanded.{Expanded as Stored}
+use Rattle.ssr_base.specs.Origins.{covered}
+use Rattle.ssr_base.specs.Private.Covers.{plain_cover}
+use Rattle.ssr_base.specs.Private.Stored.{expanded_of, IsStoredAt}
+use Rattle.ssr_base.specs.Workspace.{Workspace, Planted, of_file, of_expansion, trees, planted, tree_of, has_node, told_of, own_span, original_in, original}
+use Rattle.ssr_base.proofs.Trees.{planted_at, planted-file, planted_past}
+
+pub stored_planted : (w : Workspace) (t : ℕ) (e : Stored) → IsStoredAt w t e → planted (trees w) t ≡ Some (of_expansion (expanded_of e))
+stored_planted w t e is = planted_at w t (expanded_of e) is.behind is.is
+
+pub stored_tree : (w : Workspace) (t : ℕ) (e : Stored) → IsStoredAt w t e → Some e.tree ≡ tree_of w t
+stored_tree w t e is = sym (ap (option_map (λ p. p.syntax)) (stored_planted w t e is))
+
+pub stored_call : (w : Workspace) (t : ℕ) (e : Stored) → IsStoredAt w t e → Some e.call ≡ option_and_then (λ p. p.call) (planted (trees w) t)
+stored_call w t e is = sym (ap (option_and_then (λ p. p.call)) (stored_planted w t e is))
+
+-- a place that is found lies in the list
+pub position_within : {A : Type 0} (test : A → Bool) (i n : ℕ) (xs : List A) → position_from test i xs ≡ Some n → n < i + length xs
+position_within test i n [] is = cc
+position_within test i n (x ∷ xs) is =
+    elim (cases_Bool (test x)) [
+      | inl here ↦
+          let at : Some i ≡ Some n = ap (λ b. cond b (Some i) (position_from test (i + 1) xs)) (sym here) ∙ is in
+          omega (arith, same_Some i n at)
+      | inr other ↦
+          let later : position_from test (i + 1) xs ≡ Some n = ap (λ b. cond b (Some i) (position_from test (i + 1) xs)) (sym other) ∙ is in
+          omega (arith, position_within test (i + 1) n xs later)
+    ]
+
+-- ** Where a node comes from, before it is told in which file.
+
+told_in : {A : Type 0} (tell : Planted → Option A) (w : Workspace) (x : NodeId) (p : Planted) → planted (trees w) x.tree ≡ Some p
+    → told_of tell (trees w) x ≡ (if has_node p.syntax x.node.0 then tell p else None)
+told_in tell w x p is = ap (option_and_then (λ q. if has_node q.syntax x.node.0 then tell q else None)) is
+
+if_true : {A : Type 0} (b : Bool) (x y : A) → b ≡ true → (if b then x else y) ≡ x
+if_true b x y is = ap (λ c. if c then x else y) is
+
+if_false : {A : Type 0} (b : Bool) (x y : A) → b ≡ false → (if b then x else y) ≡ y
+if_false b x y is = ap (λ c. if c then x else y) is
+
+pub original_covered : (w : Workspace) (x : NodeId) (e : Stored) (cover : StoredCover) → IsStoredAt w x.tree e
+    → slice_get e.covers.items x.node.0 ≡ Some cover → original (trees w) x ≡ covered (plain_cover cover)
+original_covered w x e cover is at =
+    let n = x.node.0 in
+    let within : n < 1 + node_count e.tree.children = omega (arith, slice_get_within e.covers.items n cover at, is.covers.counted) in
+    told_in (λ p. original_in p (node_of p.syntax n)) w x (of_expansion (expanded_of e)) (stored_planted w x.tree e is)
+    ∙ if_true (has_node e.tree n) (original_in (of_expansion (expanded_of e)) (node_of e.tree n)) None (lt-ltb n (1 + node_count e.tree.children) within)
+    ∙ ap covered (sym (is.covers.each n cover (omega arith) at))
+
+pub original_past : (w : Workspace) (x : NodeId) (e : Stored) → IsStoredAt w x.tree e → slice_get e.covers.items x.node.0 ≡ None → original (trees w) x ≡ None
+original_past w x e is at =
+    let n = x.node.0 in
+    let past : 1 + node_count e.tree.children ≤ n = omega (arith, is.covers.counted, get_past e.covers.items n at) in
+    told_in (λ p. original_in p (node_of p.syntax n)) w x (of_expansion (expanded_of e)) (stored_planted w x.tree e is)
+    ∙ if_false (has_node e.tree n) (original_in (of_expansion (expanded_of e)) (node_of e.tree n)) None (le-ltb n (1 + node_count e.tree.children) past)
+  where
+    get_past : {A : Type 0} (xs : List A) (n : ℕ) → slice_get xs n ≡ None → length xs ≤ n
+    get_past xs n none =
+        elim (cases_lt n (length xs)) [
+          | inl within ↦ absurd (some_element xs n within none)
+          | inr past ↦ past
+        ]
+      where
+        some_element : {A : Type 0} (xs : List A) (n : ℕ) → n < length xs → slice_get xs n ≡ None → ⊥
+        some_element [] n h e = omega arith
+        some_element (x ∷ xs) zero h e = cc
+        some_element (x ∷ xs) (suc n) h e = some_element xs n (omega arith) e
+
+pub original_of_file : (w : Workspace) (x : NodeId) (s : Syntax) → slice_get w.files x.tree ≡ Some s
+    → original (trees w) x ≡ (if has_node s x.node.0 then Some (own_span s (node_of s x.node.0)) else None)
+original_of_file w x s at =
+    let within = slice_get_within w.files x.tree s at in
+    told_in (λ p. original_in p (node_of p.syntax x.node.0)) w x (of_file s) (planted-file w x.tree within ∙ ap (option_map of_file) at)
+
+pub original_absent : (w : Workspace) (x : NodeId) → (length w.files ≤ x.tree → length w.files + length w.expansions ≤ x.tree)
+    → slice_get w.files x.tree ≡ None → original (trees w) x ≡ None
+original_absent w x free at =
+    ap (option_and_then (λ q. if has_node q.syntax x.node.0 then original_in q (node_of q.syntax x.node.0) else None))
+    (elim (cases_lt x.tree (length w.files)) [
+      | inl file ↦ planted-file w x.tree file ∙ ap (option_map of_file) at
+      | inr behind ↦ planted_past w x.tree (free behind)
+    ])
