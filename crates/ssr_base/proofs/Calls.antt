@@ -1,22 +1,22 @@
 -- How the call of an expansion is checked.
-use Rattle.std.proofs.Common.{◌≡◌, ℕ, ◌+◌, ◌<◌, Bool, true, false, List, map, length, Option, Some, None, Result, Ok, Err, refl, sym, ap, ◌∙◌, inl, inr, arith, ltb-false}
-use Rattle.std.proofs.lemmas.Bool.{cases_lt}
-use Rattle.std.proofs.lemmas.Option.{option_and_then_some, none-some, same_Some}
+use Rattle.std.proofs.Common.{◌≡◌, ℕ, ◌+◌, Bool, true, false, List, map, length, Option, Some, None, Result, Ok, Err, refl, sym, ap, ◌∙◌, arith, ltb-false}
 use Rattle.std.specs.Prelude.{nat_lt, not, is_some, if◌then◌else◌}
 use Rattle.std.specs.List.{list_all}
 use Rattle.std.specs.Option.{option_map, option_and_then, ok_or}
 use Rattle.ssr_syntax_lex.specs.declared.range.TextRange.{TextRange}
 use Rattle.ssr_syntax_tree.specs.Syntax.{Syntax}
-use Rattle.ssr_syntax_tree.specs.Places.{Node}
+use Rattle.ssr_syntax_tree.specs.Places.{Node, HasNode}
 use Rattle.ssr_syntax.specs.declared.expansions.ExpToken.{ExpToken}
 use Rattle.ssr_base.specs.declared.ids.NodeId.{NodeId}
 use Rattle.ssr_base.specs.declared.building.Expansion.{Expansion}
 use Rattle.ssr_base.specs.declared.workspace_error.WorkspaceError.{WorkspaceError}
 use Rattle.ssr_base.specs.declared.workspace_error.WorkspaceError.TheVariants as errors
-use Rattle.ssr_base.specs.Workspace.{Workspace, trees, tree_of, text_at_top, nesting, node_id, expansion_of}
-use Rattle.ssr_base.specs.Building.{most_nested, ◌>>=◌, unless, first_call, if_free, call_at, free_call, fits_origin, origin_of, checked_call}
+use Rattle.ssr_base.specs.Workspace.{Workspace, trees, planted, tree_of, text_at_top, nesting, node_id, expansion_of}
+use Rattle.ssr_base.specs.Building.{most_nested, ◌>>=◌, unless, first_call, if_free, free_call, fits_origin, origin_of, checked_call}
 use Rattle.ssr_base.specs.Private.Built.{IsFree}
-use Rattle.ssr_base.proofs.Trees.{tree_of_past}
+use Rattle.ssr_base.proofs.Trees.{length-trees}
+use Rattle.ssr_base.proofs.Planting.{some_and, planted_within}
+use Rattle.ssr_base.proofs.Chosen.{chosen_free}
 
 no_tree_no_call : (w : Workspace) (t : ℕ) (range : TextRange) → None ≡ tree_of w t → free_call w t range ≡ None
 unfolding free_call
@@ -102,60 +102,30 @@ module _ (w : Workspace) (x : Expansion) where
       ∙ ap (λ text. list_all (fits_origin text) (map origin_of tokens)) top
       ∙ ap (λ tokens. list_all (fits_origin (text_at_top (trees w) call.tree)) (map origin_of tokens)) all
 
-  -- an accepted call may be expanded
-  parts : (c call : NodeId) (b f : Bool) → (unless b (errors.Nested number) >>= (λ _. unless (not f) (errors.Origin number) >>= (λ _. Ok c))) ≡ Ok call → (b ≡ false) × (c ≡ call)
+  -- what is known of an accepted call
+  parts : (c call : NodeId) (b f : Bool) → (unless b (errors.Nested number) >>= (λ _. unless (not f) (errors.Origin number) >>= (λ _. Ok c))) ≡ Ok call
+      → (b ≡ false) × (f ≡ true) × (c ≡ call)
   parts c call true f e = cc
-  parts c call false true e = (refl, cc)
+  parts c call false true e = (refl, refl, cc)
   parts c call false false e = cc
 
-  checked_from : (call : NodeId) (found : Option NodeId) → checked found ≡ Ok call → (found ≡ Some call) × (deep call ≡ false)
-  checked_from call None e = cc
-  checked_from call (Some c) e =
+  accepted_from : (call : NodeId) (found : Option NodeId) → checked found ≡ Ok call → (found ≡ Some call) × (deep call ≡ false) × (fit call ≡ true)
+  accepted_from call None e = cc
+  accepted_from call (Some c) e =
       let told = parts c call (deep c) (fit c) e in
-      (ap Some told.1, sym (ap deep told.1) ∙ told.0)
+      (ap Some told.2, sym (ap deep told.2) ∙ told.0, sym (ap fit told.2) ∙ told.1)
 
-if_free_from : (w : Workspace) (c call : NodeId) → if_free w c ≡ Some call → (expansion_of w call ≡ None) × (c ≡ call)
-if_free_from w c call e = step (expansion_of w c) refl e
-  where
-    step : (o : Option NodeId) → expansion_of w c ≡ o → (if is_some o then None else Some c) ≡ Some call → (expansion_of w call ≡ None) × (c ≡ call)
-    step None is e = let same : c ≡ call = same_Some c call e in (ap (expansion_of w) (sym same) ∙ is, same)
-    step (Some root) is e = cc
-
-call_at_from : (w : Workspace) (t : ℕ) (range : TextRange) (c : NodeId) → call_at w t range ≡ Some c → (c.tree ≡ t) × (t < length w.files + length w.expansions)
-call_at_from w t range c e = step (tree_of w t) refl e
-  where
-    named : (o : Option Node) → option_map (λ node. node_id t node.number) o ≡ Some c → c.tree ≡ t
-    named None e = cc
-    named (Some node) e = ap (λ (x : NodeId). x.tree) (sym (same_Some (node_id t node.number) c e))
-
-    step : (o : Option Syntax) → tree_of w t ≡ o → option_and_then (λ tree. option_map (λ node. node_id t node.number) (first_call tree range)) o ≡ Some c
-        → (c.tree ≡ t) × (t < length w.files + length w.expansions)
-    step None is e = cc
-    step (Some tree) is e = (
-      named (first_call tree range) e,
-      elim (cases_lt t (length w.files + length w.expansions)) [
-        | inl within ↦ within
-        | inr past ↦ absurd (none-some tree (sym (tree_of_past w t past) ∙ is))
-      ],
-    )
-
-free_from : (w : Workspace) (t : ℕ) (range : TextRange) (call : NodeId) → free_call w t range ≡ Some call
-    → (expansion_of w call ≡ None) × (call.tree < length w.files + length w.expansions)
-unfolding free_call
-free_from w t range call e =
-    option_and_then_some (if_free w) (call_at w t range) call e
-    (λ c at free.
-    let told = if_free_from w c call free in
-    let place = call_at_from w t range c at in
-    (told.0, omega (arith, place.0, place.1, ap (λ (x : NodeId). x.tree) told.1)))
+  pub accepted : (call : NodeId) → checked_call w x ≡ Ok call → (free_call w x.call.0 x.call.1 ≡ Some call) × (deep call ≡ false) × (fit call ≡ true)
+  unfolding checked_call
+  accepted call e = accepted_from call (free_call w x.call.0 x.call.1) e
 
 pub checked_free : (w : Workspace) (x : Expansion) (call : NodeId) → Ok call ≡ checked_call w x → IsFree w call
-unfolding checked_call
 checked_free w x call e =
-    let told = checked_from w x call (free_call w x.call.0 x.call.1) (sym e) in
-    let known = free_from w x.call.0 x.call.1 call told.0 in
+    let told = accepted w x call (sym e) in
+    let chosen = chosen_free w x.call.0 x.call.1 call told.0 in
+    let tree = some_and (planted (trees w) call.tree) (λ p. HasNode p.syntax call.node.0) chosen.0.node in
     record {
-      earlier = known.1;
+      earlier = omega (arith, planted_within (trees w) call.tree tree.0 tree.1, length-trees w);
       nested = omega (arith, ltb-false most_nested (1 + nesting (trees w) call.tree) told.1);
-      free = known.0;
+      free = chosen.1;
     }

@@ -51,7 +51,7 @@ cover_of_parts origins [] = no_token
 cover_of_parts origins (part ∷ parts) = join (cover_of_part origins part) (cover_of_parts origins parts)
 
 -- the tokens of siblings, those of the first one in front
-two_runs : (origins : List (Option Span)) (t a b : ℕ) → cover_of (take (a + b) (drop t origins)) ≡ join (cover_of (take a (drop t origins))) (cover_of (take b (drop (t + a) origins)))
+pub two_runs : (origins : List (Option Span)) (t a b : ℕ) → cover_of (take (a + b) (drop t origins)) ≡ join (cover_of (take a (drop t origins))) (cover_of (take b (drop (t + a) origins)))
 two_runs origins t a b =
     ap cover_of (take-add a b (drop t origins))
     ∙ cover_of-append (take a (drop t origins)) (take b (drop a (drop t origins)))

@@ -1,6 +1,6 @@
 -- What is stored stays right where one expansion more is stored.
-use Rattle.std.proofs.Common.{◌≡◌, ℕ, suc, ◌+◌, ◌-◌, ◌<◌, ◌≤◌, ◌==◌, ◌&&◌, Bool, true, false, cond, List, [], ◌∷◌, ◌++◌, length, map, slice_get, Option, Some, None, refl, sym, ap, ◌∙◌, subst, inl, inr, arith, eq-eqb, ne_eqb, eqb-true, le-ltb, lt-ltb}
-use Rattle.std.proofs.lemmas.Bool.{cases_lt, cases_order, cases_Bool, and_parts}
+use Rattle.std.proofs.Common.{◌≡◌, ℕ, suc, ◌+◌, ◌-◌, ◌<◌, ◌≤◌, ◌==◌, ◌&&◌, Bool, true, false, cond, List, [], ◌∷◌, ◌++◌, length, map, slice_get, Option, Some, None, refl, sym, ap, ◌∙◌, subst, inl, inr, arith, eq-eqb, ne_eqb, le-ltb, lt-ltb}
+use Rattle.std.proofs.lemmas.Bool.{cases_lt, cases_order, cases_Bool}
 use Rattle.std.proofs.lemmas.List.{map-append, length-map, length-append}
 use Rattle.std.proofs.lemmas.Option.{slice_get-map, slice_get_within, same_Some}
 use Rattle.std.specs.BTreeMap.{BTreeMap, get, is_at}
@@ -18,7 +18,7 @@ use Rattle.ssr_base.specs.Private.Covers.{plain_origin, AreCovers}
 use Rattle.ssr_base.specs.Building.{most_trees}
 use Rattle.ssr_base.specs.declared.workspace.Workspace.TheInside.{Inside}
 use Rattle.ssr_base.specs.Private.Stored.{expanded_of, workspace_of, IsStoredAt, IsStored}
-use Rattle.ssr_base.proofs.Trees.{slice_get-append_left, slice_get_push, length-trees, trees_more, file_of-earlier, nesting-earlier}
+use Rattle.ssr_base.proofs.Trees.{same_nodes, slice_get-append_left, slice_get_push, length-trees, trees_more, file_of-earlier, nesting-earlier}
 
 -- what the stored expansions show
 abbrev pub shown : List Syntax → List Stored → Workspace
@@ -128,11 +128,6 @@ same_by_order a b =
     is_eq-then (nat_cmp a.tree b.tree) (nat_cmp a.node.0 b.node.0)
     ∙ ap (λ c. c && is_eq (nat_cmp a.node.0 b.node.0)) (is_eq-nat_cmp a.tree b.tree)
     ∙ ap (λ c. (b.tree == a.tree) && c) (is_eq-nat_cmp a.node.0 b.node.0)
-
-same_nodes : (a b : NodeId) → same_id a b ≡ true → a ≡ b
-same_nodes a b is =
-    let parts = and_parts (a.tree == b.tree) (a.node.0 == b.node.0) is in
-    ap (λ t. node_id t a.node.0) (eqb-true a.tree b.tree parts.0) ∙ ap (node_id b.tree) (eqb-true a.node.0 b.node.0 parts.1)
 
 -- the place of a node's expansion among those that are stored
 abbrev pub place_of : NodeId → List Stored → Option ℕ

@@ -1,13 +1,14 @@
 -- Laws of the trees of a workspace: which they are by their numbers, and that they stay as they are while further ones come.
-use Rattle.std.proofs.Common.{◌≡◌, ◌≢◌, ℕ, zero, suc, ◌+◌, ◌-◌, ◌<◌, ◌≤◌, List, [], ◌∷◌, ◌++◌, length, map, reverse, slice_get, Option, Some, None, Bor, refl, sym, ap, ◌∙◌, inl, inr, arith, eq-eqb, ne_eqb}
-use Rattle.std.proofs.lemmas.Bool.{cases_lt, cases_eq}
+use Rattle.std.proofs.Common.{◌≡◌, ◌≢◌, ℕ, zero, suc, ◌+◌, ◌-◌, ◌<◌, ◌≤◌, ◌==◌, true, List, [], ◌∷◌, ◌++◌, length, map, reverse, slice_get, Option, Some, None, Bor, refl, sym, ap, ◌∙◌, inl, inr, arith, eq-eqb, ne_eqb, eqb-true}
+use Rattle.std.proofs.lemmas.Bool.{cases_lt, cases_eq, and_parts, and_from}
 use Rattle.std.proofs.lemmas.Grind.{reverse_onto}
 use Rattle.std.proofs.lemmas.List.{reverse-append, reverse-reverse, length-reverse, length-append, length-map, map-append, append_assoc}
 use Rattle.std.proofs.lemmas.Option.{slice_get_past, slice_get-map, slice_get-get_or, none-some, same_Some}
 use Rattle.std.specs.Slice.{IsItemAt}
 use Rattle.std.specs.Option.{option_copied, option_map, option_and_then, option_map_or}
 use Rattle.ssr_syntax_tree.specs.Syntax.{Syntax}
-use Rattle.ssr_base.specs.Workspace.{Expanded, Workspace, Planted, of_file, of_expansion, trees, planted, tree_of, file_of, nesting}
+use Rattle.ssr_base.specs.declared.ids.NodeId.{NodeId}
+use Rattle.ssr_base.specs.Workspace.{Expanded, Workspace, Planted, of_file, of_expansion, trees, planted, tree_of, file_of, nesting, node_id, same_id}
 
 -- ** Elements of lists by their numbers.
 
@@ -185,3 +186,13 @@ pub got : {A : Type 0} (xs ys : List A) (i : ℕ) (r : Option (Bor A)) → ys �
 got xs ys i None e at = sym (slice_get_past xs i (omega (arith, at.3, ap length e)))
 got xs ys i (Some x) e at =
     ap Some (at.3.1 x.now) ∙ sym (slice_get-get_or ys i x.now at.3.0) ∙ ap (λ l. slice_get l i) e
+
+-- ** Nodes by their ids.
+
+pub same_nodes : (a b : NodeId) → same_id a b ≡ true → a ≡ b
+same_nodes a b is =
+    let parts = and_parts (a.tree == b.tree) (a.node.0 == b.node.0) is in
+    ap (λ t. node_id t a.node.0) (eqb-true a.tree b.tree parts.0) ∙ ap (node_id b.tree) (eqb-true a.node.0 b.node.0 parts.1)
+
+pub same_id-itself : (a : NodeId) → same_id a a ≡ true
+same_id-itself a = and_from (a.tree == a.tree) (a.node.0 == a.node.0) (eq-eqb a.tree a.tree refl) (eq-eqb a.node.0 a.node.0 refl)

@@ -5,4 +5,6 @@ pub mod Texts
 pub mod Workspace
 pub mod WorkspaceCode
 pub mod Building
+pub mod Built
+pub mod Laws
 pub mod Private

@@ -5,6 +5,7 @@ mod building;
 mod covers;
 mod edit;
 mod ids;
+pub mod laws;
 #[cfg(test)]
 mod tests;
 mod workspace;
