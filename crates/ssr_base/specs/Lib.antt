@@ -7,4 +7,5 @@ pub mod WorkspaceCode
 pub mod Building
 pub mod Built
 pub mod Laws
+pub mod Meanings
 pub mod Private

@@ -29,11 +29,11 @@ pub struct NodeId {
 }
 
 /// The number of a scope, in which names are looked up.
-#[derive(Clone, Copy, Debug, PartialEq, Eq)]
+#[derive(Clone, Copy, Debug, PartialEq, Eq, PartialOrd, Ord)]
 pub struct ScopeId(pub u32);
 
 /// The number of a definition.
-#[derive(Clone, Copy, Debug, PartialEq, Eq)]
+#[derive(Clone, Copy, Debug, PartialEq, Eq, PartialOrd, Ord)]
 pub struct DefId(pub u32);
 
 /// The number of a type.

@@ -1,4 +1,5 @@
-//! Plain values that the crates of search and replace share, edits of a text, and the workspace of a search.
+//! Plain values that the crates of search and replace share, edits of a text, the workspace of a search, and what a
+//! provider tells of its names and types.
 #![tactic(auto)]
 
 mod building;
@@ -6,6 +7,7 @@ mod covers;
 mod edit;
 mod ids;
 pub mod laws;
+mod semantics;
 #[cfg(test)]
 mod tests;
 mod workspace;
@@ -14,5 +16,6 @@ mod workspace_error;
 pub use building::Expansion;
 pub use edit::{ApplyError, TextEdit};
 pub use ids::{DefId, FileId, FilePosition, FileRange, NodeId, ScopeId, TypeId};
+pub use semantics::{DefInfo, DefKind, Res, SelfKind, Semantics};
 pub use workspace::Workspace;
 pub use workspace_error::WorkspaceError;

@@ -1,0 +1,37 @@
+-- What names, types and scopes of a workspace mean: for each question to a provider a function from what is asked to the answer.
+use Rattle.std.specs.Prelude.{ℕ, ◌<◌, ◌≡◌, ◌≢◌, ◌^◌, List, Option, Some, Contains}
+use Rattle.ssr_base.specs.declared.ids.NodeId.{NodeId}
+use Rattle.ssr_base.specs.declared.ids.ScopeId.{ScopeId}
+use Rattle.ssr_base.specs.declared.ids.DefId.{DefId}
+use Rattle.ssr_base.specs.declared.ids.TypeId.{TypeId}
+use Rattle.ssr_base.specs.declared.semantics.Res.{Res}
+use Rattle.ssr_base.specs.declared.semantics.Res.TheVariants as res
+use Rattle.ssr_base.specs.declared.semantics.DefKind.TheVariants as kinds
+use Rattle.ssr_base.specs.declared.semantics.DefInfo.{DefInfo}
+use Rattle.ssr_base.specs.declared.semantics.SelfKind.{SelfKind}
+
+-- texts are lists of bytes
+pub record Meanings : Type 0 where
+  pub scope : NodeId → Option ScopeId
+  pub lookup : ScopeId → List (List ℕ) → Option Res
+  pub member : ScopeId → DefId → List ℕ → Option DefId
+  pub info : DefId → DefInfo
+  pub adt_type : DefId → TypeId
+  pub path : NodeId → Option Res
+  pub method : NodeId → Option DefId
+  pub types : NodeId → Option (List TypeId)
+  pub self_kind : NodeId → SelfKind
+  pub path_from : ScopeId → DefId → Option (List ℕ)
+  pub usages : Res → List NodeId
+
+-- a node that a program can name
+abbrev pub IsNamed : NodeId → Type 0
+IsNamed node = (node.tree < 2 ^ 32) × (node.node.0 < 2 ^ 32)
+
+abbrev pub IsNoBuiltin : Meanings → Res → Type 0
+IsNoBuiltin m r = (d : DefId) → r ≡ res.Def d → (m.info d).kind ≢ kinds.BuiltinType
+
+-- Whatever uses a thing that is no builtin type is among its usages; others may be there too, and each of them more than once.
+pub record IsComplete (m : Meanings) : Type 0 where
+  pub paths : (r : Res) (node : NodeId) → IsNoBuiltin m r → IsNamed node → m.path node ≡ Some r → Contains (m.usages r) node
+  pub methods : (d : DefId) (node : NodeId) → IsNoBuiltin m (res.Def d) → IsNamed node → m.method node ≡ Some d → Contains (m.usages (res.Def d)) node
