@@ -1,0 +1,4 @@
+mod Rows
+mod Keys
+mod Uses
+mod Same

@@ -1,0 +1,12 @@
+use Rattle.std.proofs.Common.{◌≡◌, ◌++◌}
+use Rattle.std.specs.Prelude.{filter}
+use Rattle.std.specs.Map.{lookup}
+use Rattle.ssr_base.specs.declared.semantics.Res.{Res}
+use Rattle.ssr_base.specs.Workspace.{same_id}
+use Rattle.ssr_facts.specs.Tables.{callee, stands_for}
+use Rattle.ssr_facts.specs.Private.Usages.{uses_of}
+use Rattle.ssr_facts.proofs.maps.add_calls.Given as goal
+
+abbrev pub invariant-loop-node : goal.invariant-loop-node
+invariant-loop-node l =
+    (r : Res) → uses_of l.usages r ≡ uses_of l.fn.usages r ++ filter (λ node. stands_for r (callee (lookup (same_id node) l.fn.methods.entries))) l.yielded

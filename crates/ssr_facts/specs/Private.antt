@@ -1,0 +1,4 @@
+pub mod Groups
+pub mod Usages
+pub mod Maps
+pub mod Complete

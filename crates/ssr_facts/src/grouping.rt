@@ -1,0 +1,47 @@
+//! Maps that are made of rows.
+
+ghost use Rattle.std.specs.Prelude.{◌≡◌, ◌++◌, ◌∷◌, [], IfOk, OnOk, map, if◌then◌else◌};
+ghost use Rattle.std.specs.BTreeMap.{get, is_at};
+ghost use Rattle.std.specs.Map.{lookup, keys_of};
+ghost use Rattle.ssr_facts.specs.Private.Groups.{group_at};
+
+use std::alloc::{AllocError, Global};
+use std::collections::BTreeMap;
+
+/// What rows say: of those with one key the first.
+pub(crate) fn first_rows<K: Ord + Drop, V: Drop>(
+    alloc: Global,
+    rows: Vec<(K, V)>,
+) -> Result<BTreeMap<K, V>, AllocError>
+    ensures { IfOk result (λ map. (key : K) → get K.cmp map key ≡ lookup (is_at (K.cmp key)) rows.items) }
+{
+    let mut map = BTreeMap::new(alloc);
+    for (key, value) in rows {
+        if !map.contains_key(&key) {
+            map.insert(key, value)?;
+        }
+    }
+    Ok(map)
+}
+
+/// The keys of rows.
+pub(crate) fn keys<K: Copy, V>(alloc: Global, rows: &[(K, V)]) -> Result<Vec<K>, AllocError>
+    ensures { IfOk result (λ keys. keys.items ≡ keys_of rows.now) }
+{
+    rows.iter().map(|row| row.0).collect(alloc)
+}
+
+/// Adds a value to those of a key.
+pub(crate) fn add<K: Ord + Drop, V: Drop>(
+    alloc: Global,
+    groups: &mut BTreeMap<K, Vec<V>>,
+    key: K,
+    value: V,
+) -> Result<(), AllocError>
+    ensures { OnOk result ((other : K) → group_at K.cmp groups.new other ≡ (if is_at (K.cmp key) other then group_at K.cmp groups.old other ++ value ∷ [] else group_at K.cmp groups.old other)) }
+{
+    let mut group = groups.remove(&key).unwrap_or(Vec::new(alloc));
+    group.push(value)?;
+    groups.insert(key, group)?;
+    Ok(())
+}
