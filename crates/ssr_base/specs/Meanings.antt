@@ -12,16 +12,26 @@ use Rattle.ssr_base.specs.declared.semantics.SelfKind.{SelfKind}
 
 -- texts are lists of bytes
 pub record Meanings : Type 0 where
+  -- the scope that a node stands in
   pub scope : NodeId → Option ScopeId
+  -- what the path with these segments stands for that is written in a scope
   pub lookup : ScopeId → List (List ℕ) → Option Res
+  -- the member with this name of a type, as a scope sees it
   pub member : ScopeId → DefId → List ℕ → Option DefId
   pub info : DefId → DefInfo
+  -- the type that a definition declares
   pub adt_type : DefId → TypeId
+  -- what a path of the workspace stands for
   pub path : NodeId → Option Res
+  -- the function that a method call of the workspace calls
   pub method : NodeId → Option DefId
+  -- the type of an expression, and then that after each dereference
   pub types : NodeId → Option (List TypeId)
+  -- how the function of a method call takes the value that it is called on
   pub self_kind : NodeId → SelfKind
+  -- the path by which a scope reaches a definition
   pub path_from : ScopeId → DefId → Option (List ℕ)
+  -- nodes that may stand for a thing
   pub usages : Res → List NodeId
 
 -- a node that a program can name

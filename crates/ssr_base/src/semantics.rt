@@ -89,7 +89,7 @@ pub trait Semantics {
     fn resolve_method(&self, alloc: Global, call: NodeId) -> Result<Option<DefId>, AllocError>
         ensures { IfOk result (λ def. def ≡ (meanings self.now).method call) };
 
-    /// The types that an expression has: its own, and those that it is adjusted to.
+    /// The types of an expression: its own, and then that after each dereference.
     fn types(&self, alloc: Global, expr: NodeId) -> Result<Option<Vec<TypeId>>, AllocError>
         ensures { IfOk result (λ types. option_map (λ v. v.items) types ≡ (meanings self.now).types expr) };
 

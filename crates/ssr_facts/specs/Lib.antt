@@ -1,3 +1,3 @@
 pub mod Tables
-pub mod Provided
+pub mod Provider
 pub mod Private

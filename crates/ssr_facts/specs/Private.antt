@@ -1,4 +1,4 @@
-pub mod Groups
+pub mod Grouping
 pub mod Usages
 pub mod Maps
 pub mod Complete

@@ -20,7 +20,7 @@ use Rattle.ssr_facts.specs.declared.tables.Tables.{Tables}
 use Rattle.ssr_base.specs.Meanings.{Meanings}
 use Rattle.ssr_base.specs.Workspace.{same_id}
 
--- ** Keys.
+-- ** Keys: which of them are asked for.
 
 abbrev pub is_name : ScopeId → List (List ℕ) → NameKey → Bool
 is_name scope path key = (scope.0 == key.scope.0) && pointwise bytes_eq path (map string_bytes key.path.items)
@@ -42,7 +42,7 @@ same_res a b = false
 
 -- ** Meanings.
 
--- a number that no definition has is that of a module, with type 0
+-- the definition of a number; where there is none, a module that declares type 0
 abbrev pub definition_at : List Definition → DefId → Definition
 definition_at definitions def =
     unwrap_or (slice_get definitions def.0)
@@ -54,13 +54,15 @@ path_of t node = lookup (same_id node) t.paths.items
 abbrev pub method_of : Tables → NodeId → Option Method
 method_of t node = lookup (same_id node) t.methods.items
 
+-- what a method call stands for
 abbrev pub callee : Option Method → Option Res
 callee method = option_map (λ m. res.Def m.def) method
 
+-- whether something stands for `r`
 abbrev pub stands_for : Res → Option Res → Bool
 stands_for r meaning = option_map_or (λ s. same_res s r) meaning false
 
--- the nodes that rows name and that stand for `r`, in the order of the rows
+-- the nodes that rows name and that stand for `r`, in the order of the rows, once for each row
 abbrev pub nodes_for : {A : Type 0} → Res → (NodeId → Option Res) → List (NodeId × A) → List NodeId
 nodes_for r meaning rows = filter (λ node. stands_for r (meaning node)) (keys_of rows)
 

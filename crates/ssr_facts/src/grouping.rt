@@ -3,7 +3,7 @@
 ghost use Rattle.std.specs.Prelude.{◌≡◌, ◌++◌, ◌∷◌, [], IfOk, OnOk, map, if◌then◌else◌};
 ghost use Rattle.std.specs.BTreeMap.{get, is_at};
 ghost use Rattle.std.specs.Map.{lookup, keys_of};
-ghost use Rattle.ssr_facts.specs.Private.Groups.{group_at};
+ghost use Rattle.ssr_facts.specs.Private.Grouping.{group_at};
 
 use std::alloc::{AllocError, Global};
 use std::collections::BTreeMap;

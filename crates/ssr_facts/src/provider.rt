@@ -28,7 +28,7 @@ fn copied(alloc: Global, texts: &[String]) -> Result<Vec<String>, AllocError>
 
 impl TableSemantics {
     ghost use Rattle.ssr_facts.specs.Tables.{definition_at, meanings_of};
-    ghost use Rattle.ssr_facts.specs.Provided.{provided};
+    ghost use Rattle.ssr_facts.specs.Provider.{provided};
 
     /// A provider that answers what tables say; of the rows of a table with one key the first one counts.
     pub fn new(alloc: Global, tables: Tables) -> Result<TableSemantics, AllocError>
