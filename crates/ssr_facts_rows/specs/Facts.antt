@@ -1,0 +1,100 @@
+-- What the bytes of a facts file say, or why they are refused.
+use Rattle.std.specs.Prelude.{◌≡◌, ℕ, if◌then◌else◌, List, [], ◌∷◌, map, Option, Some, None, Result, Ok, Err, codes}
+use Rattle.std.specs.Option.{ok_or}
+use Rattle.std.specs.Result.{and_then}
+use Rattle.std.specs.Str.{is_utf8}
+use Rattle.serde_json.specs.Data.{Data}
+use Rattle.serde_json.specs.Read.{read}
+use Rattle.ssr_facts_rows.specs.Fields.{◌>>=◌, has_only, optional, rows_at}
+use Rattle.ssr_facts_rows.specs.Places.{place_row, range_row, position_row}
+use Rattle.ssr_facts_rows.specs.Sources.{PlainFile, plain_file, file_row, PlainExpansion, plain_expansion, expansion_row}
+use Rattle.ssr_facts_rows.specs.Meanings.{definition_row, PlainName, plain_name, name_row, PlainMember, plain_member, member_row, path_row, method_row, PlainType, plain_type, type_row, PlainPrinted, plain_printed, printed_row}
+use Rattle.ssr_facts_rows.specs.declared.places.PlaceRow.{PlaceRow}
+use Rattle.ssr_facts_rows.specs.declared.places.RangeRow.{RangeRow}
+use Rattle.ssr_facts_rows.specs.declared.places.PositionRow.{PositionRow}
+use Rattle.ssr_facts_rows.specs.declared.meanings.DefinitionRow.{DefinitionRow}
+use Rattle.ssr_facts_rows.specs.declared.meanings.PathRow.{PathRow}
+use Rattle.ssr_facts_rows.specs.declared.meanings.MethodRow.{MethodRow}
+use Rattle.ssr_facts_rows.specs.declared.facts.FactRows.{FactRows}
+use Rattle.ssr_facts_rows.specs.declared.rows_error.RowsError.{RowsError}
+use Rattle.ssr_facts_rows.specs.declared.rows_error.RowsError.TheVariants.{NotJson, Shape, Memory}
+
+pub record PlainFacts : Type 0 where
+  pub files : List PlainFile
+  pub expansions : List PlainExpansion
+  pub definitions : List DefinitionRow
+  pub scopes : List PlaceRow
+  pub names : List PlainName
+  pub members : List PlainMember
+  pub paths : List PathRow
+  pub methods : List MethodRow
+  pub types : List PlainType
+  pub printed : List PlainPrinted
+  pub position : Option PositionRow
+  pub ranges : List RangeRow
+
+abbrev pub plain_facts : FactRows → PlainFacts
+plain_facts rows = record {
+  files = map plain_file rows.files.items;
+  expansions = map plain_expansion rows.expansions.items;
+  definitions = rows.definitions.items;
+  scopes = rows.scopes.items;
+  names = map plain_name rows.names.items;
+  members = map plain_member rows.members.items;
+  paths = rows.paths.items;
+  methods = rows.methods.items;
+  types = map plain_type rows.types.items;
+  printed = map plain_printed rows.printed.items;
+  position = rows.position;
+  ranges = rows.ranges.items
+}
+
+abbrev pub fact_keys : List (List ℕ)
+fact_keys =
+    codes "files" ∷ codes "expansions" ∷ codes "defs" ∷ codes "scopes" ∷ codes "names" ∷ codes "members" ∷
+    codes "paths" ∷ codes "methods" ∷ codes "types" ∷ codes "printed" ∷ codes "position" ∷ codes "ranges" ∷ []
+
+-- what an object says
+abbrev pub rows_of : Data → Option PlainFacts
+rows_of d = do
+  _ ← has_only fact_keys d
+  files ← rows_at (codes "files") file_row d
+  expansions ← rows_at (codes "expansions") expansion_row d
+  definitions ← rows_at (codes "defs") definition_row d
+  scopes ← rows_at (codes "scopes") place_row d
+  names ← rows_at (codes "names") name_row d
+  members ← rows_at (codes "members") member_row d
+  paths ← rows_at (codes "paths") path_row d
+  methods ← rows_at (codes "methods") method_row d
+  types ← rows_at (codes "types") type_row d
+  printed ← rows_at (codes "printed") printed_row d
+  position ← optional (codes "position") position_row d
+  ranges ← rows_at (codes "ranges") range_row d
+  Some (record {
+    files = files;
+    expansions = expansions;
+    definitions = definitions;
+    scopes = scopes;
+    names = names;
+    members = members;
+    paths = paths;
+    methods = methods;
+    types = types;
+    printed = printed;
+    position = position;
+    ranges = ranges
+  })
+
+-- the JSON of bytes, which have to be text
+abbrev pub json_of : List ℕ → Option Data
+json_of bytes = if is_utf8 bytes then read bytes else None
+
+-- what the bytes of a facts file say
+abbrev pub facts_of : List ℕ → Result PlainFacts RowsError
+facts_of bytes = and_then (ok_or (json_of bytes) NotJson) (λ d. ok_or (rows_of d) Shape)
+
+-- An answer is what is due, as it is seen. Want of memory says nothing.
+abbrev pub Tells : Result PlainFacts RowsError → Result FactRows RowsError → Type 0
+Tells due (Ok rows) = due ≡ Ok (plain_facts rows)
+Tells due (Err Memory) = Unit {0}
+Tells due (Err e) = due ≡ Err e

@@ -1,0 +1,87 @@
+//! All rows of a facts file.
+
+ghost use Rattle.ssr_facts_rows.specs.Facts.{facts_of, Tells};
+
+use crate::fields::has_only;
+use crate::meanings::{
+    DefinitionRow, MemberRow, MethodRow, NameRow, PathRow, PrintedRow, TypeRow,
+};
+use crate::places::{PlaceRow, PositionRow, RangeRow};
+use crate::row::{Row, optional, rows_at};
+use crate::rows_error::RowsError;
+use crate::sources::{ExpansionRow, FileRow};
+use serde_json::Value;
+use std::alloc::Global;
+
+/// All rows of a facts file.
+#[derive(Debug, PartialEq, Eq, Drop)]
+pub struct FactRows {
+    pub files: Vec<FileRow>,
+    pub expansions: Vec<ExpansionRow>,
+    pub definitions: Vec<DefinitionRow>,
+    pub scopes: Vec<PlaceRow>,
+    pub names: Vec<NameRow>,
+    pub members: Vec<MemberRow>,
+    pub paths: Vec<PathRow>,
+    pub methods: Vec<MethodRow>,
+    pub types: Vec<TypeRow>,
+    pub printed: Vec<PrintedRow>,
+    pub position: Option<PositionRow>,
+    pub ranges: Vec<RangeRow>,
+}
+
+/// The keys of a facts file.
+const KEYS: [&str; 12] = [
+    "files",
+    "expansions",
+    "defs",
+    "scopes",
+    "names",
+    "members",
+    "paths",
+    "methods",
+    "types",
+    "printed",
+    "position",
+    "ranges",
+];
+
+impl Row for FactRows {
+    ghost use Rattle.ssr_facts_rows.specs.Facts.{PlainFacts, plain_facts, rows_of};
+
+    ghost Plain = { PlainFacts };
+
+    ghost plain = { plain_facts };
+
+    ghost row_of = { rows_of };
+
+    fn read(alloc: Global, value: &Value) -> Result<FactRows, RowsError> {
+        has_only(&KEYS, value)?;
+        Ok(FactRows {
+            files: rows_at(alloc, value, "files")?,
+            expansions: rows_at(alloc, value, "expansions")?,
+            definitions: rows_at(alloc, value, "defs")?,
+            scopes: rows_at(alloc, value, "scopes")?,
+            names: rows_at(alloc, value, "names")?,
+            members: rows_at(alloc, value, "members")?,
+            paths: rows_at(alloc, value, "paths")?,
+            methods: rows_at(alloc, value, "methods")?,
+            types: rows_at(alloc, value, "types")?,
+            printed: rows_at(alloc, value, "printed")?,
+            position: optional(alloc, value, "position")?,
+            ranges: rows_at(alloc, value, "ranges")?,
+        })
+    }
+}
+
+/// The rows that the bytes of a facts file say. Bytes that are no JSON are refused as such, and JSON of another form
+/// otherwise.
+pub fn read_rows(alloc: Global, bytes: &[u8]) -> Result<FactRows, RowsError>
+    ensures { Tells (facts_of bytes.now) result }
+{
+    match Value::from_slice(alloc, bytes) {
+        Ok(value) => FactRows::read(alloc, &value),
+        Err(error) if error.is_memory() => Err(RowsError::Memory),
+        Err(_) => Err(RowsError::NotJson),
+    }
+}

@@ -1,0 +1,309 @@
+//! What names mean, and which types expressions have.
+
+use crate::fields::{five, four, has_only, three, two};
+use crate::places::{PlaceRow, place};
+use crate::row::{Row, defaulted, required};
+use crate::rows_error::RowsError;
+use serde_json::Value;
+use std::alloc::Global;
+
+/// What a definition is.
+#[derive(Clone, Copy, Debug, PartialEq, Eq)]
+pub enum DefinitionKind {
+    Module,
+    Function,
+    Adt,
+    Variant,
+    Const,
+    Static,
+    Trait,
+    TypeAlias,
+    Builtin,
+    Macro,
+}
+
+/// A definition.
+#[derive(Clone, Copy, Debug, PartialEq, Eq)]
+pub struct DefinitionRow {
+    pub kind: DefinitionKind,
+    /// Whether it is an associated item.
+    pub associated: bool,
+    /// Whether it takes `self`.
+    pub takes_self: bool,
+    /// The number of its type.
+    pub type_number: u32,
+}
+
+/// What a name means.
+#[derive(Clone, Copy, Debug, PartialEq, Eq)]
+pub enum ResolutionRow {
+    Definition(u32),
+    Local(u32),
+    TypeParameter(u32),
+    ConstParameter(u32),
+    SelfType(u32),
+    Other(u32),
+}
+
+/// What a path means in a scope.
+#[derive(Debug, PartialEq, Eq, Drop)]
+pub struct NameRow {
+    pub scope: u32,
+    pub path: Vec<String>,
+    pub resolution: ResolutionRow,
+}
+
+/// The member of a name that a definition has, seen from a scope.
+#[derive(Debug, PartialEq, Eq, Drop)]
+pub struct MemberRow {
+    pub scope: u32,
+    pub definition: u32,
+    pub name: String,
+    pub member: u32,
+}
+
+/// What the path at a place means.
+#[derive(Clone, Copy, Debug, PartialEq, Eq)]
+pub struct PathRow {
+    pub place: PlaceRow,
+    pub resolution: ResolutionRow,
+}
+
+/// How a method takes `self`: as a value, by `&` or by `&mut`.
+#[derive(Clone, Copy, Debug, PartialEq, Eq)]
+pub enum SelfKindRow {
+    Owned,
+    Shared,
+    Exclusive,
+}
+
+/// Which method the call at a place calls.
+#[derive(Clone, Copy, Debug, PartialEq, Eq)]
+pub struct MethodRow {
+    pub place: PlaceRow,
+    pub definition: u32,
+    pub self_kind: SelfKindRow,
+}
+
+/// The numbers of the types of the expression at a place.
+#[derive(Debug, PartialEq, Eq, Drop)]
+pub struct TypeRow {
+    pub place: PlaceRow,
+    pub types: Vec<u32>,
+}
+
+/// The path by which a scope names a definition.
+#[derive(Debug, PartialEq, Eq, Drop)]
+pub struct PrintedRow {
+    pub scope: u32,
+    pub definition: u32,
+    pub text: String,
+}
+
+impl Row for DefinitionKind {
+    ghost use Rattle.ssr_facts_rows.specs.declared.meanings.DefinitionKind.{DefinitionKind};
+    ghost use Rattle.ssr_facts_rows.specs.Meanings.{definition_kind};
+
+    ghost Plain = { DefinitionKind };
+
+    ghost plain = { λ kind. kind };
+
+    ghost row_of = { definition_kind };
+
+    fn read(_alloc: Global, value: &Value) -> Result<DefinitionKind, RowsError> {
+        match value.as_str() {
+            Some("module") => Ok(DefinitionKind::Module),
+            Some("function") => Ok(DefinitionKind::Function),
+            Some("adt") => Ok(DefinitionKind::Adt),
+            Some("variant") => Ok(DefinitionKind::Variant),
+            Some("const") => Ok(DefinitionKind::Const),
+            Some("static") => Ok(DefinitionKind::Static),
+            Some("trait") => Ok(DefinitionKind::Trait),
+            Some("type_alias") => Ok(DefinitionKind::TypeAlias),
+            Some("builtin") => Ok(DefinitionKind::Builtin),
+            Some("macro") => Ok(DefinitionKind::Macro),
+            _ => Err(RowsError::Shape),
+        }
+    }
+}
+
+impl Row for DefinitionRow {
+    ghost use Rattle.ssr_facts_rows.specs.declared.meanings.DefinitionRow.{DefinitionRow};
+    ghost use Rattle.ssr_facts_rows.specs.Meanings.{definition_row};
+
+    ghost Plain = { DefinitionRow };
+
+    ghost plain = { λ row. row };
+
+    ghost row_of = { definition_row };
+
+    fn read(alloc: Global, value: &Value) -> Result<DefinitionRow, RowsError> {
+        has_only(&["kind", "assoc", "self", "type"], value)?;
+        Ok(DefinitionRow {
+            kind: required(alloc, value, "kind")?,
+            associated: defaulted(alloc, value, "assoc", false)?,
+            takes_self: defaulted(alloc, value, "self", false)?,
+            type_number: defaulted(alloc, value, "type", 0)?,
+        })
+    }
+}
+
+impl Row for ResolutionRow {
+    ghost use Rattle.ssr_facts_rows.specs.declared.meanings.ResolutionRow.{ResolutionRow};
+    ghost use Rattle.ssr_facts_rows.specs.Meanings.{resolution_row};
+
+    ghost Plain = { ResolutionRow };
+
+    ghost plain = { λ resolution. resolution };
+
+    ghost row_of = { resolution_row };
+
+    fn read(alloc: Global, value: &Value) -> Result<ResolutionRow, RowsError> {
+        let (kind, number) = two(value)?;
+        let number = u32::read(alloc, number)?;
+        match kind.as_str() {
+            Some("def") => Ok(ResolutionRow::Definition(number)),
+            Some("local") => Ok(ResolutionRow::Local(number)),
+            Some("typeparam") => Ok(ResolutionRow::TypeParameter(number)),
+            Some("constparam") => Ok(ResolutionRow::ConstParameter(number)),
+            Some("selftype") => Ok(ResolutionRow::SelfType(number)),
+            Some("other") => Ok(ResolutionRow::Other(number)),
+            _ => Err(RowsError::Shape),
+        }
+    }
+}
+
+impl Row for NameRow {
+    ghost use Rattle.ssr_facts_rows.specs.Meanings.{PlainName, plain_name, name_row};
+
+    ghost Plain = { PlainName };
+
+    ghost plain = { plain_name };
+
+    ghost row_of = { name_row };
+
+    fn read(alloc: Global, value: &Value) -> Result<NameRow, RowsError> {
+        let (scope, path, resolution) = three(value)?;
+        Ok(NameRow {
+            scope: u32::read(alloc, scope)?,
+            path: Vec::read(alloc, path)?,
+            resolution: ResolutionRow::read(alloc, resolution)?,
+        })
+    }
+}
+
+impl Row for MemberRow {
+    ghost use Rattle.ssr_facts_rows.specs.Meanings.{PlainMember, plain_member, member_row};
+
+    ghost Plain = { PlainMember };
+
+    ghost plain = { plain_member };
+
+    ghost row_of = { member_row };
+
+    fn read(alloc: Global, value: &Value) -> Result<MemberRow, RowsError> {
+        let (scope, definition, name, member) = four(value)?;
+        Ok(MemberRow {
+            scope: u32::read(alloc, scope)?,
+            definition: u32::read(alloc, definition)?,
+            name: String::read(alloc, name)?,
+            member: u32::read(alloc, member)?,
+        })
+    }
+}
+
+impl Row for PathRow {
+    ghost use Rattle.ssr_facts_rows.specs.declared.meanings.PathRow.{PathRow};
+    ghost use Rattle.ssr_facts_rows.specs.Meanings.{path_row};
+
+    ghost Plain = { PathRow };
+
+    ghost plain = { λ row. row };
+
+    ghost row_of = { path_row };
+
+    fn read(alloc: Global, value: &Value) -> Result<PathRow, RowsError> {
+        let (tree, start, end, resolution) = four(value)?;
+        Ok(PathRow {
+            place: place(alloc, tree, start, end)?,
+            resolution: ResolutionRow::read(alloc, resolution)?,
+        })
+    }
+}
+
+impl Row for SelfKindRow {
+    ghost use Rattle.ssr_facts_rows.specs.declared.meanings.SelfKindRow.{SelfKindRow};
+    ghost use Rattle.ssr_facts_rows.specs.Meanings.{self_kind};
+
+    ghost Plain = { SelfKindRow };
+
+    ghost plain = { λ kind. kind };
+
+    ghost row_of = { self_kind };
+
+    fn read(_alloc: Global, value: &Value) -> Result<SelfKindRow, RowsError> {
+        match value.as_str() {
+            Some("owned") => Ok(SelfKindRow::Owned),
+            Some("ref") => Ok(SelfKindRow::Shared),
+            Some("mut") => Ok(SelfKindRow::Exclusive),
+            _ => Err(RowsError::Shape),
+        }
+    }
+}
+
+impl Row for MethodRow {
+    ghost use Rattle.ssr_facts_rows.specs.declared.meanings.MethodRow.{MethodRow};
+    ghost use Rattle.ssr_facts_rows.specs.Meanings.{method_row};
+
+    ghost Plain = { MethodRow };
+
+    ghost plain = { λ row. row };
+
+    ghost row_of = { method_row };
+
+    fn read(alloc: Global, value: &Value) -> Result<MethodRow, RowsError> {
+        let (tree, start, end, definition, self_kind) = five(value)?;
+        Ok(MethodRow {
+            place: place(alloc, tree, start, end)?,
+            definition: u32::read(alloc, definition)?,
+            self_kind: SelfKindRow::read(alloc, self_kind)?,
+        })
+    }
+}
+
+impl Row for TypeRow {
+    ghost use Rattle.ssr_facts_rows.specs.Meanings.{PlainType, plain_type, type_row};
+
+    ghost Plain = { PlainType };
+
+    ghost plain = { plain_type };
+
+    ghost row_of = { type_row };
+
+    fn read(alloc: Global, value: &Value) -> Result<TypeRow, RowsError> {
+        let (tree, start, end, types) = four(value)?;
+        Ok(TypeRow {
+            place: place(alloc, tree, start, end)?,
+            types: Vec::read(alloc, types)?,
+        })
+    }
+}
+
+impl Row for PrintedRow {
+    ghost use Rattle.ssr_facts_rows.specs.Meanings.{PlainPrinted, plain_printed, printed_row};
+
+    ghost Plain = { PlainPrinted };
+
+    ghost plain = { plain_printed };
+
+    ghost row_of = { printed_row };
+
+    fn read(alloc: Global, value: &Value) -> Result<PrintedRow, RowsError> {
+        let (scope, definition, text) = three(value)?;
+        Ok(PrintedRow {
+            scope: u32::read(alloc, scope)?,
+            definition: u32::read(alloc, definition)?,
+            text: String::read(alloc, text)?,
+        })
+    }
+}

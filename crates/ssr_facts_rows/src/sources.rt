@@ -1,0 +1,139 @@
+//! Files, and what macro calls in them stand for.
+
+ghost use Rattle.std.specs.Prelude.{Option};
+ghost use Rattle.serde_json.specs.View.{view};
+ghost use Rattle.ssr_facts_rows.specs.Answers.{Gives};
+ghost use Rattle.ssr_facts_rows.specs.Sources.{plain_token, token};
+
+use crate::fields::{has_only, items};
+use crate::places::{PlaceRow, SpanRow, span};
+use crate::row::{Row, required};
+use crate::rows_error::RowsError;
+use serde_json::Value;
+use std::alloc::Global;
+
+/// A file.
+#[derive(Debug, PartialEq, Eq, Drop)]
+pub struct FileRow {
+    pub name: String,
+    pub text: String,
+}
+
+/// A token of an expansion, and whence in the file at the top it comes, if from there.
+#[derive(Debug, PartialEq, Eq, Drop)]
+pub struct TokenRow {
+    pub text: String,
+    /// Whether the next token follows with nothing in between.
+    pub joint: bool,
+    pub origin: Option<SpanRow>,
+}
+
+/// What a macro call stands for.
+#[derive(Clone, Copy, Debug, PartialEq, Eq)]
+pub enum ExpansionKindRow {
+    Expr,
+    Items,
+    Stmts,
+}
+
+/// A macro call, and the tokens that it stands for.
+#[derive(Debug, PartialEq, Eq, Drop)]
+pub struct ExpansionRow {
+    pub call: PlaceRow,
+    pub kind: ExpansionKindRow,
+    pub tokens: Vec<TokenRow>,
+}
+
+impl Row for FileRow {
+    ghost use Rattle.ssr_facts_rows.specs.Sources.{PlainFile, plain_file, file_row};
+
+    ghost Plain = { PlainFile };
+
+    ghost plain = { plain_file };
+
+    ghost row_of = { file_row };
+
+    fn read(alloc: Global, value: &Value) -> Result<FileRow, RowsError> {
+        has_only(&["name", "text"], value)?;
+        Ok(FileRow {
+            name: required(alloc, value, "name")?,
+            text: required(alloc, value, "text")?,
+        })
+    }
+}
+
+/// A token of its parts.
+fn token(
+    alloc: Global,
+    text: &Value,
+    joint: &Value,
+    origin: Option<SpanRow>,
+) -> Result<TokenRow, RowsError>
+    ensures { Gives plain_token (token (view text.now) (view joint.now) origin) result }
+{
+    Ok(TokenRow {
+        text: String::read(alloc, text)?,
+        joint: bool::read(alloc, joint)?,
+        origin,
+    })
+}
+
+impl Row for TokenRow {
+    ghost use Rattle.ssr_facts_rows.specs.Sources.{PlainToken, plain_token, token_row};
+
+    ghost Plain = { PlainToken };
+
+    ghost plain = { plain_token };
+
+    ghost row_of = { token_row };
+
+    fn read(alloc: Global, value: &Value) -> Result<TokenRow, RowsError> {
+        match items(value)? {
+            [text, joint] => token(alloc, text, joint, None),
+            [text, joint, start, end] => {
+                let origin = span(alloc, start, end)?;
+                token(alloc, text, joint, Some(origin))
+            }
+            _ => Err(RowsError::Shape),
+        }
+    }
+}
+
+impl Row for ExpansionKindRow {
+    ghost use Rattle.ssr_facts_rows.specs.declared.sources.ExpansionKindRow.{ExpansionKindRow};
+    ghost use Rattle.ssr_facts_rows.specs.Sources.{expansion_kind};
+
+    ghost Plain = { ExpansionKindRow };
+
+    ghost plain = { λ kind. kind };
+
+    ghost row_of = { expansion_kind };
+
+    fn read(_alloc: Global, value: &Value) -> Result<ExpansionKindRow, RowsError> {
+        match value.as_str() {
+            Some("expr") => Ok(ExpansionKindRow::Expr),
+            Some("items") => Ok(ExpansionKindRow::Items),
+            Some("stmts") => Ok(ExpansionKindRow::Stmts),
+            _ => Err(RowsError::Shape),
+        }
+    }
+}
+
+impl Row for ExpansionRow {
+    ghost use Rattle.ssr_facts_rows.specs.Sources.{PlainExpansion, plain_expansion, expansion_row};
+
+    ghost Plain = { PlainExpansion };
+
+    ghost plain = { plain_expansion };
+
+    ghost row_of = { expansion_row };
+
+    fn read(alloc: Global, value: &Value) -> Result<ExpansionRow, RowsError> {
+        has_only(&["call", "kind", "tokens"], value)?;
+        Ok(ExpansionRow {
+            call: required(alloc, value, "call")?,
+            kind: required(alloc, value, "kind")?,
+            tokens: required(alloc, value, "tokens")?,
+        })
+    }
+}
