@@ -1,7 +1,6 @@
 -- What the bytes of a facts file say, or why they are refused.
 use Rattle.std.specs.Prelude.{◌≡◌, ℕ, if◌then◌else◌, List, [], ◌∷◌, map, Option, Some, None, Result, Ok, Err, codes}
 use Rattle.std.specs.Option.{ok_or}
-use Rattle.std.specs.Result.{and_then}
 use Rattle.std.specs.Str.{is_utf8}
 use Rattle.serde_json.specs.Data.{Data}
 use Rattle.serde_json.specs.Read.{read}
@@ -89,9 +88,13 @@ rows_of d = do
 abbrev pub json_of : List ℕ → Option Data
 json_of bytes = if is_utf8 bytes then read bytes else None
 
+abbrev pub facts_in : Option Data → Result PlainFacts RowsError
+facts_in None = Err NotJson
+facts_in (Some d) = ok_or (rows_of d) Shape
+
 -- what the bytes of a facts file say
 abbrev pub facts_of : List ℕ → Result PlainFacts RowsError
-facts_of bytes = and_then (ok_or (json_of bytes) NotJson) (λ d. ok_or (rows_of d) Shape)
+facts_of bytes = facts_in (json_of bytes)
 
 -- An answer is what is due, as it is seen. Want of memory says nothing.
 abbrev pub Tells : Result PlainFacts RowsError → Result FactRows RowsError → Type 0
