@@ -31,9 +31,9 @@ continued-refused row done d ds e = rw e refl
 pub continued-start : {A : Type 0} (row : Data → Option A) (ds : List Data) → each row ds ≡ continued row [] ds
 continued-start row ds = start (each row ds)
   where
-  start : {A : Type 0} (later : Option (List A)) → later ≡ (later >>= λ others. Some ([] ++ others))
-  start None = refl
-  start (Some others) = refl
+    start : {A : Type 0} (later : Option (List A)) → later ≡ (later >>= λ others. Some ([] ++ others))
+    start None = refl
+    start (Some others) = refl
 
 pub any_of_map : {A B : Type 0} (test : B → Bool) (f : A → B) (xs : List A) → list_any test (map f xs) ≡ list_any (λ x. test (f x)) xs
 any_of_map test f [] = refl

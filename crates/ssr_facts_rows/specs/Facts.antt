@@ -45,7 +45,7 @@ plain_facts rows = record {
   types = map plain_type rows.types.items;
   printed = map plain_printed rows.printed.items;
   position = rows.position;
-  ranges = rows.ranges.items
+  ranges = rows.ranges.items;
 }
 
 abbrev pub fact_keys : List (List ℕ)
@@ -81,7 +81,7 @@ rows_of d = do
     types = types;
     printed = printed;
     position = position;
-    ranges = ranges
+    ranges = ranges;
   })
 
 -- the JSON of bytes, which have to be text
@@ -93,7 +93,7 @@ facts_in None = Err NotJson
 facts_in (Some d) = ok_or (rows_of d) Shape
 
 -- what the bytes of a facts file say
-abbrev pub facts_of : List ℕ → Result PlainFacts RowsError
+unfoldable pub facts_of : List ℕ → Result PlainFacts RowsError
 facts_of bytes = facts_in (json_of bytes)
 
 -- An answer is what is due, as it is seen. Want of memory says nothing.

@@ -1,6 +1,6 @@
-pub mod Answers
 pub mod Fields
 pub mod Places
 pub mod Sources
 pub mod Meanings
 pub mod Facts
+pub mod Private

@@ -1,5 +1,5 @@
 -- What names mean, and which types expressions have.
-use Rattle.std.specs.Prelude.{ℕ, Bool, false, List, [], ◌∷◌, map, Option, Some, None, codes, string_bytes}
+use Rattle.std.specs.Prelude.{ℕ, false, List, [], ◌∷◌, map, Option, Some, codes, string_bytes}
 use Rattle.serde_json.specs.Data.{Data}
 use Rattle.serde_json.specs.Find.{as_str, as_bool}
 use Rattle.ssr_facts_rows.specs.Fields.{◌>>=◌, number, meaning, two, three, four, five, rows, has_only, required, defaulted}
@@ -114,7 +114,7 @@ path_row d = do
   Some (record { place = p; resolution = r })
 
 abbrev pub self_kind : Data → Option SelfKindRow
-self_kind = meaning (("owned", self_kinds.Owned) ∷ ("ref", self_kinds.Shared) ∷ ("mut", self_kinds.Exclusive) ∷ [])
+self_kind = meaning (("owned", self_kinds.Owned) ∷ ("ref", self_kinds.Ref) ∷ ("mut", self_kinds.Mut) ∷ [])
 
 -- [tree, start, end, definition, self]
 abbrev pub method_row : Data → Option MethodRow

@@ -1,5 +1,5 @@
 -- Places in trees and in files.
-use Rattle.std.specs.Prelude.{ℕ, nat_le, Option, Some, None}
+use Rattle.std.specs.Prelude.{nat_le, Option, Some}
 use Rattle.serde_json.specs.Data.{Data}
 use Rattle.ssr_facts_rows.specs.Fields.{◌>>=◌, when, number, two, three}
 use Rattle.ssr_facts_rows.specs.declared.places.SpanRow.{SpanRow}

@@ -1,6 +1,5 @@
 -- Files, and what macro calls in them stand for.
-use Rattle.std.specs.Prelude.{ℕ, Bool, List, [], ◌∷◌, map, Option, Some, None, codes, String, string_bytes}
-use Rattle.std.specs.Global.{Global}
+use Rattle.std.specs.Prelude.{ℕ, Bool, List, [], ◌∷◌, map, Option, Some, None, codes, string_bytes}
 use Rattle.serde_json.specs.Data.{Data}
 use Rattle.serde_json.specs.Find.{as_str, as_bool}
 use Rattle.ssr_facts_rows.specs.Fields.{◌>>=◌, meaning, items, rows, has_only, required}

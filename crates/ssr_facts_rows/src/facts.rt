@@ -3,9 +3,7 @@
 ghost use Rattle.ssr_facts_rows.specs.Facts.{facts_of, Tells};
 
 use crate::fields::has_only;
-use crate::meanings::{
-    DefinitionRow, MemberRow, MethodRow, NameRow, PathRow, PrintedRow, TypeRow,
-};
+use crate::meanings::{DefinitionRow, MemberRow, MethodRow, NameRow, PathRow, PrintedRow, TypeRow};
 use crate::places::{PlaceRow, PositionRow, RangeRow};
 use crate::row::{Row, optional, rows_at};
 use crate::rows_error::RowsError;

@@ -4,7 +4,7 @@ ghost use Rattle.std.specs.Prelude.{◌≡◌, map, string_bytes};
 ghost use Rattle.std.specs.List.{list_all};
 ghost use Rattle.std.specs.Map.{keys_of};
 ghost use Rattle.serde_json.specs.View.{view};
-ghost use Rattle.ssr_facts_rows.specs.Answers.{Gives};
+ghost use Rattle.ssr_facts_rows.specs.Private.Answers.{Gives};
 ghost use Rattle.ssr_facts_rows.specs.Fields.{items, two, three, four, five, is_among, has_only};
 
 use crate::rows_error::RowsError;
@@ -26,7 +26,7 @@ pub(crate) fn two(value: &Value) -> Result<(&Value, &Value), RowsError>
     ensures { Gives (λ p. (view p.0.now, view p.1.now)) (two (view value.now)) result }
 {
     match items(value)? {
-        [a, b] => Ok((a, b)),
+        [first, second] => Ok((first, second)),
         _ => Err(RowsError::Shape),
     }
 }
@@ -36,7 +36,7 @@ pub(crate) fn three(value: &Value) -> Result<(&Value, &Value, &Value), RowsError
     ensures { Gives (λ p. (view p.0.now, view p.1.now, view p.2.now)) (three (view value.now)) result }
 {
     match items(value)? {
-        [a, b, c] => Ok((a, b, c)),
+        [first, second, third] => Ok((first, second, third)),
         _ => Err(RowsError::Shape),
     }
 }
@@ -46,7 +46,7 @@ pub(crate) fn four(value: &Value) -> Result<(&Value, &Value, &Value, &Value), Ro
     ensures { Gives (λ p. (view p.0.now, view p.1.now, view p.2.now, view p.3.now)) (four (view value.now)) result }
 {
     match items(value)? {
-        [a, b, c, d] => Ok((a, b, c, d)),
+        [first, second, third, fourth] => Ok((first, second, third, fourth)),
         _ => Err(RowsError::Shape),
     }
 }
@@ -56,7 +56,7 @@ pub(crate) fn five(value: &Value) -> Result<(&Value, &Value, &Value, &Value, &Va
     ensures { Gives (λ p. (view p.0.now, view p.1.now, view p.2.now, view p.3.now, view p.4.now)) (five (view value.now)) result }
 {
     match items(value)? {
-        [a, b, c, d, e] => Ok((a, b, c, d, e)),
+        [first, second, third, fourth, fifth] => Ok((first, second, third, fourth, fifth)),
         _ => Err(RowsError::Shape),
     }
 }

@@ -30,7 +30,7 @@ pub struct DefinitionRow {
     pub associated: bool,
     /// Whether it takes `self`.
     pub takes_self: bool,
-    /// The number of its type.
+    /// The number of the type that goes with it.
     pub type_number: u32,
 }
 
@@ -73,8 +73,8 @@ pub struct PathRow {
 #[derive(Clone, Copy, Debug, PartialEq, Eq)]
 pub enum SelfKindRow {
     Owned,
-    Shared,
-    Exclusive,
+    Ref,
+    Mut,
 }
 
 /// Which method the call at a place calls.
@@ -244,8 +244,8 @@ impl Row for SelfKindRow {
     fn read(_alloc: Global, value: &Value) -> Result<SelfKindRow, RowsError> {
         match value.as_str() {
             Some("owned") => Ok(SelfKindRow::Owned),
-            Some("ref") => Ok(SelfKindRow::Shared),
-            Some("mut") => Ok(SelfKindRow::Exclusive),
+            Some("ref") => Ok(SelfKindRow::Ref),
+            Some("mut") => Ok(SelfKindRow::Mut),
             _ => Err(RowsError::Shape),
         }
     }

@@ -1,7 +1,7 @@
 //! Places in trees and in files.
 
 ghost use Rattle.serde_json.specs.View.{view};
-ghost use Rattle.ssr_facts_rows.specs.Answers.{Gives};
+ghost use Rattle.ssr_facts_rows.specs.Private.Answers.{Gives};
 ghost use Rattle.ssr_facts_rows.specs.Places.{span, place};
 
 use crate::fields::{three, two};

@@ -2,7 +2,7 @@
 
 ghost use Rattle.std.specs.Prelude.{Option};
 ghost use Rattle.serde_json.specs.View.{view};
-ghost use Rattle.ssr_facts_rows.specs.Answers.{Gives};
+ghost use Rattle.ssr_facts_rows.specs.Private.Answers.{Gives};
 ghost use Rattle.ssr_facts_rows.specs.Sources.{plain_token, token};
 
 use crate::fields::{has_only, items};

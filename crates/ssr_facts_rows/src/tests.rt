@@ -135,7 +135,7 @@ fn reads_nodes(rt: HostRuntime) -> Result<(), Fail> {
     let method = MethodRow {
         place: place(1, 2),
         definition: 7,
-        self_kind: SelfKindRow::Exclusive,
+        self_kind: SelfKindRow::Mut,
     };
     let types = TypeRow {
         place: place(3, 3),
@@ -178,7 +178,10 @@ fn reads_an_empty_object(rt: HostRuntime) -> Result<(), Fail> {
 /// Of a key that stands twice the last value counts, also where the first one has another form.
 #[test]
 fn takes_the_last_value_of_a_key(rt: HostRuntime) -> Result<(), Fail> {
-    let rows = read(rt.alloc(), r#"{"position": "none", "position": [1, 2], "ranges": [[0, 1, 2]], "ranges": []}"#)?;
+    let rows = read(
+        rt.alloc(),
+        r#"{"position": "none", "position": [1, 2], "ranges": [[0, 1, 2]], "ranges": []}"#,
+    )?;
     let position = PositionRow { file: 1, offset: 2 };
     assert_eq!(rt; rows.position, Some(position));
     assert!(rt; rows.ranges.is_empty());
@@ -318,7 +321,11 @@ const MISSHAPEN: &[&str] = &[
 #[test]
 fn refuses_another_form(rt: HostRuntime) -> Result<(), Fail> {
     for text in MISSHAPEN {
-        assert_eq!(rt; read(rt.alloc(), text).err(), Some(RowsError::Shape), "{text}");
+        assert_eq!(rt;
+            read(rt.alloc(), text).err(),
+            Some(RowsError::Shape),
+            "{text}"
+        );
     }
     Ok(())
 }
@@ -341,7 +348,11 @@ const NO_JSON: &[&str] = &[
 #[test]
 fn refuses_what_is_no_json(rt: HostRuntime) -> Result<(), Fail> {
     for text in NO_JSON {
-        assert_eq!(rt; read(rt.alloc(), text).err(), Some(RowsError::NotJson), "{text}");
+        assert_eq!(rt;
+            read(rt.alloc(), text).err(),
+            Some(RowsError::NotJson),
+            "{text}"
+        );
     }
     Ok(())
 }
@@ -381,7 +392,10 @@ fn refuses_what_nests_too_deep(rt: HostRuntime) -> Result<(), Fail> {
 fn refuses_each_front(rt: HostRuntime) -> Result<(), Fail> {
     let bytes = WHOLE.as_bytes();
     for end in 0..bytes.len() {
-        assert_eq!(rt; read_rows(rt.alloc(), &bytes[..end]).err(), Some(RowsError::NotJson));
+        assert_eq!(rt;
+            read_rows(rt.alloc(), &bytes[..end]).err(),
+            Some(RowsError::NotJson)
+        );
     }
     assert!(rt; read_rows(rt.alloc(), bytes).is_ok());
     Ok(())
