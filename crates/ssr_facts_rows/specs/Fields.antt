@@ -66,15 +66,15 @@ five d = items d >>= if_five
 
 -- each of a list, in their order, unless one of them is refused
 abbrev pub each : {A : Type 0} → (Data → Option A) → List Data → Option (List A)
-each row [] = Some []
-each row (d ∷ ds) = do
-  first ← row d
-  others ← each row ds
+each reading [] = Some []
+each reading (d ∷ ds) = do
+  first ← reading d
+  others ← each reading ds
   Some (first ∷ others)
 
--- the rows of an array
+-- what the values of an array stand for
 abbrev pub rows : {A : Type 0} → (Data → Option A) → Data → Option (List A)
-rows row d = items d >>= each row
+rows reading d = items d >>= each reading
 
 -- ** Objects.
 
@@ -91,20 +91,20 @@ has_only keys d = as_object d >>= λ ms. when (list_all (is_among keys) (member_
 
 -- what stands at a key that has to be there
 abbrev pub required : {A : Type 0} → List ℕ → (Data → Option A) → Data → Option A
-required key row d = get key d >>= row
+required key reading d = get key d >>= reading
 
 abbrev pub if_found : {A : Type 0} → (Data → Option A) → Option Data → Option (Option A)
-if_found row None = Some None
-if_found row (Some d) = option_map Some (row d)
+if_found reading None = Some None
+if_found reading (Some d) = option_map Some (reading d)
 
 -- what stands at a key, if it is there
 abbrev pub optional : {A : Type 0} → List ℕ → (Data → Option A) → Data → Option (Option A)
-optional key row d = if_found row (get key d)
+optional key reading d = if_found reading (get key d)
 
 -- what stands at a key, and this where it isn't there
 abbrev pub defaulted : {A : Type 0} → List ℕ → (Data → Option A) → A → Data → Option A
-defaulted key row default d = option_map (λ found. unwrap_or found default) (optional key row d)
+defaulted key reading default d = option_map (λ found. unwrap_or found default) (optional key reading d)
 
 -- the rows at a key, and none where it isn't there
 abbrev pub rows_at : {A : Type 0} → List ℕ → (Data → Option A) → Data → Option (List A)
-rows_at key row = defaulted key (rows row) []
+rows_at key reading = defaulted key (rows reading) []

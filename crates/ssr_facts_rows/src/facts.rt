@@ -3,9 +3,9 @@
 ghost use Rattle.ssr_facts_rows.specs.Facts.{facts_of, Tells};
 
 use crate::fields::has_only;
+use crate::from_json::{FromJson, optional, rows_at};
 use crate::meanings::{DefinitionRow, MemberRow, MethodRow, NameRow, PathRow, PrintedRow, TypeRow};
 use crate::places::{PlaceRow, PositionRow, RangeRow};
-use crate::row::{Row, optional, rows_at};
 use crate::rows_error::RowsError;
 use crate::sources::{ExpansionRow, FileRow};
 use serde_json::Value;
@@ -44,16 +44,16 @@ const KEYS: [&str; 12] = [
     "ranges",
 ];
 
-impl Row for FactRows {
+impl FromJson for FactRows {
     ghost use Rattle.ssr_facts_rows.specs.Facts.{PlainFacts, plain_facts, rows_of};
 
     ghost Plain = { PlainFacts };
 
     ghost plain = { plain_facts };
 
-    ghost row_of = { rows_of };
+    ghost reading = { rows_of };
 
-    fn read(alloc: Global, value: &Value) -> Result<FactRows, RowsError> {
+    fn from_json(alloc: Global, value: &Value) -> Result<FactRows, RowsError> {
         has_only(&KEYS, value)?;
         Ok(FactRows {
             files: rows_at(alloc, value, "files")?,
@@ -72,13 +72,13 @@ impl Row for FactRows {
     }
 }
 
-/// The rows that the bytes of a facts file say. Bytes that are no JSON are refused as such, and JSON of another form
-/// otherwise.
+/// The rows that the bytes of a facts file say. It tells `NotJson` exactly where the bytes are no JSON, and `Shape` exactly
+/// where they are JSON of another form. Want of memory says nothing of the bytes.
 pub fn read_rows(alloc: Global, bytes: &[u8]) -> Result<FactRows, RowsError>
     ensures { Tells (facts_of bytes.now) result }
 {
     match Value::from_slice(alloc, bytes) {
-        Ok(value) => FactRows::read(alloc, &value),
+        Ok(value) => FactRows::from_json(alloc, &value),
         Err(error) if error.is_memory() => Err(RowsError::Memory),
         Err(_) => Err(RowsError::NotJson),
     }

@@ -28,9 +28,9 @@
 
 mod facts;
 mod fields;
+mod from_json;
 mod meanings;
 mod places;
-mod row;
 mod rows_error;
 mod sources;
 #[cfg(test)]

@@ -1,8 +1,8 @@
 //! What names mean, and which types expressions have.
 
 use crate::fields::{five, four, has_only, three, two};
+use crate::from_json::{FromJson, defaulted, required};
 use crate::places::{PlaceRow, place};
-use crate::row::{Row, defaulted, required};
 use crate::rows_error::RowsError;
 use serde_json::Value;
 use std::alloc::Global;
@@ -100,7 +100,7 @@ pub struct PrintedRow {
     pub text: String,
 }
 
-impl Row for DefinitionKind {
+impl FromJson for DefinitionKind {
     ghost use Rattle.ssr_facts_rows.specs.declared.meanings.DefinitionKind.{DefinitionKind};
     ghost use Rattle.ssr_facts_rows.specs.Meanings.{definition_kind};
 
@@ -108,9 +108,9 @@ impl Row for DefinitionKind {
 
     ghost plain = { λ kind. kind };
 
-    ghost row_of = { definition_kind };
+    ghost reading = { definition_kind };
 
-    fn read(_alloc: Global, value: &Value) -> Result<DefinitionKind, RowsError> {
+    fn from_json(_alloc: Global, value: &Value) -> Result<DefinitionKind, RowsError> {
         match value.as_str() {
             Some("module") => Ok(DefinitionKind::Module),
             Some("function") => Ok(DefinitionKind::Function),
@@ -127,7 +127,7 @@ impl Row for DefinitionKind {
     }
 }
 
-impl Row for DefinitionRow {
+impl FromJson for DefinitionRow {
     ghost use Rattle.ssr_facts_rows.specs.declared.meanings.DefinitionRow.{DefinitionRow};
     ghost use Rattle.ssr_facts_rows.specs.Meanings.{definition_row};
 
@@ -135,9 +135,9 @@ impl Row for DefinitionRow {
 
     ghost plain = { λ row. row };
 
-    ghost row_of = { definition_row };
+    ghost reading = { definition_row };
 
-    fn read(alloc: Global, value: &Value) -> Result<DefinitionRow, RowsError> {
+    fn from_json(alloc: Global, value: &Value) -> Result<DefinitionRow, RowsError> {
         has_only(&["kind", "assoc", "self", "type"], value)?;
         Ok(DefinitionRow {
             kind: required(alloc, value, "kind")?,
@@ -148,7 +148,7 @@ impl Row for DefinitionRow {
     }
 }
 
-impl Row for ResolutionRow {
+impl FromJson for ResolutionRow {
     ghost use Rattle.ssr_facts_rows.specs.declared.meanings.ResolutionRow.{ResolutionRow};
     ghost use Rattle.ssr_facts_rows.specs.Meanings.{resolution_row};
 
@@ -156,11 +156,11 @@ impl Row for ResolutionRow {
 
     ghost plain = { λ resolution. resolution };
 
-    ghost row_of = { resolution_row };
+    ghost reading = { resolution_row };
 
-    fn read(alloc: Global, value: &Value) -> Result<ResolutionRow, RowsError> {
+    fn from_json(alloc: Global, value: &Value) -> Result<ResolutionRow, RowsError> {
         let (kind, number) = two(value)?;
-        let number = u32::read(alloc, number)?;
+        let number = u32::from_json(alloc, number)?;
         match kind.as_str() {
             Some("def") => Ok(ResolutionRow::Definition(number)),
             Some("local") => Ok(ResolutionRow::Local(number)),
@@ -173,46 +173,46 @@ impl Row for ResolutionRow {
     }
 }
 
-impl Row for NameRow {
+impl FromJson for NameRow {
     ghost use Rattle.ssr_facts_rows.specs.Meanings.{PlainName, plain_name, name_row};
 
     ghost Plain = { PlainName };
 
     ghost plain = { plain_name };
 
-    ghost row_of = { name_row };
+    ghost reading = { name_row };
 
-    fn read(alloc: Global, value: &Value) -> Result<NameRow, RowsError> {
+    fn from_json(alloc: Global, value: &Value) -> Result<NameRow, RowsError> {
         let (scope, path, resolution) = three(value)?;
         Ok(NameRow {
-            scope: u32::read(alloc, scope)?,
-            path: Vec::read(alloc, path)?,
-            resolution: ResolutionRow::read(alloc, resolution)?,
+            scope: u32::from_json(alloc, scope)?,
+            path: Vec::from_json(alloc, path)?,
+            resolution: ResolutionRow::from_json(alloc, resolution)?,
         })
     }
 }
 
-impl Row for MemberRow {
+impl FromJson for MemberRow {
     ghost use Rattle.ssr_facts_rows.specs.Meanings.{PlainMember, plain_member, member_row};
 
     ghost Plain = { PlainMember };
 
     ghost plain = { plain_member };
 
-    ghost row_of = { member_row };
+    ghost reading = { member_row };
 
-    fn read(alloc: Global, value: &Value) -> Result<MemberRow, RowsError> {
+    fn from_json(alloc: Global, value: &Value) -> Result<MemberRow, RowsError> {
         let (scope, definition, name, member) = four(value)?;
         Ok(MemberRow {
-            scope: u32::read(alloc, scope)?,
-            definition: u32::read(alloc, definition)?,
-            name: String::read(alloc, name)?,
-            member: u32::read(alloc, member)?,
+            scope: u32::from_json(alloc, scope)?,
+            definition: u32::from_json(alloc, definition)?,
+            name: String::from_json(alloc, name)?,
+            member: u32::from_json(alloc, member)?,
         })
     }
 }
 
-impl Row for PathRow {
+impl FromJson for PathRow {
     ghost use Rattle.ssr_facts_rows.specs.declared.meanings.PathRow.{PathRow};
     ghost use Rattle.ssr_facts_rows.specs.Meanings.{path_row};
 
@@ -220,18 +220,18 @@ impl Row for PathRow {
 
     ghost plain = { λ row. row };
 
-    ghost row_of = { path_row };
+    ghost reading = { path_row };
 
-    fn read(alloc: Global, value: &Value) -> Result<PathRow, RowsError> {
+    fn from_json(alloc: Global, value: &Value) -> Result<PathRow, RowsError> {
         let (tree, start, end, resolution) = four(value)?;
         Ok(PathRow {
             place: place(alloc, tree, start, end)?,
-            resolution: ResolutionRow::read(alloc, resolution)?,
+            resolution: ResolutionRow::from_json(alloc, resolution)?,
         })
     }
 }
 
-impl Row for SelfKindRow {
+impl FromJson for SelfKindRow {
     ghost use Rattle.ssr_facts_rows.specs.declared.meanings.SelfKindRow.{SelfKindRow};
     ghost use Rattle.ssr_facts_rows.specs.Meanings.{self_kind};
 
@@ -239,9 +239,9 @@ impl Row for SelfKindRow {
 
     ghost plain = { λ kind. kind };
 
-    ghost row_of = { self_kind };
+    ghost reading = { self_kind };
 
-    fn read(_alloc: Global, value: &Value) -> Result<SelfKindRow, RowsError> {
+    fn from_json(_alloc: Global, value: &Value) -> Result<SelfKindRow, RowsError> {
         match value.as_str() {
             Some("owned") => Ok(SelfKindRow::Owned),
             Some("ref") => Ok(SelfKindRow::Ref),
@@ -251,7 +251,7 @@ impl Row for SelfKindRow {
     }
 }
 
-impl Row for MethodRow {
+impl FromJson for MethodRow {
     ghost use Rattle.ssr_facts_rows.specs.declared.meanings.MethodRow.{MethodRow};
     ghost use Rattle.ssr_facts_rows.specs.Meanings.{method_row};
 
@@ -259,51 +259,51 @@ impl Row for MethodRow {
 
     ghost plain = { λ row. row };
 
-    ghost row_of = { method_row };
+    ghost reading = { method_row };
 
-    fn read(alloc: Global, value: &Value) -> Result<MethodRow, RowsError> {
+    fn from_json(alloc: Global, value: &Value) -> Result<MethodRow, RowsError> {
         let (tree, start, end, definition, self_kind) = five(value)?;
         Ok(MethodRow {
             place: place(alloc, tree, start, end)?,
-            definition: u32::read(alloc, definition)?,
-            self_kind: SelfKindRow::read(alloc, self_kind)?,
+            definition: u32::from_json(alloc, definition)?,
+            self_kind: SelfKindRow::from_json(alloc, self_kind)?,
         })
     }
 }
 
-impl Row for TypeRow {
+impl FromJson for TypeRow {
     ghost use Rattle.ssr_facts_rows.specs.Meanings.{PlainType, plain_type, type_row};
 
     ghost Plain = { PlainType };
 
     ghost plain = { plain_type };
 
-    ghost row_of = { type_row };
+    ghost reading = { type_row };
 
-    fn read(alloc: Global, value: &Value) -> Result<TypeRow, RowsError> {
+    fn from_json(alloc: Global, value: &Value) -> Result<TypeRow, RowsError> {
         let (tree, start, end, types) = four(value)?;
         Ok(TypeRow {
             place: place(alloc, tree, start, end)?,
-            types: Vec::read(alloc, types)?,
+            types: Vec::from_json(alloc, types)?,
         })
     }
 }
 
-impl Row for PrintedRow {
+impl FromJson for PrintedRow {
     ghost use Rattle.ssr_facts_rows.specs.Meanings.{PlainPrinted, plain_printed, printed_row};
 
     ghost Plain = { PlainPrinted };
 
     ghost plain = { plain_printed };
 
-    ghost row_of = { printed_row };
+    ghost reading = { printed_row };
 
-    fn read(alloc: Global, value: &Value) -> Result<PrintedRow, RowsError> {
+    fn from_json(alloc: Global, value: &Value) -> Result<PrintedRow, RowsError> {
         let (scope, definition, text) = three(value)?;
         Ok(PrintedRow {
-            scope: u32::read(alloc, scope)?,
-            definition: u32::read(alloc, definition)?,
-            text: String::read(alloc, text)?,
+            scope: u32::from_json(alloc, scope)?,
+            definition: u32::from_json(alloc, definition)?,
+            text: String::from_json(alloc, text)?,
         })
     }
 }

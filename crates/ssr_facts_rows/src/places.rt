@@ -5,7 +5,7 @@ ghost use Rattle.ssr_facts_rows.specs.Private.Answers.{Gives};
 ghost use Rattle.ssr_facts_rows.specs.Places.{span, place};
 
 use crate::fields::{three, two};
-use crate::row::Row;
+use crate::from_json::FromJson;
 use crate::rows_error::RowsError;
 use serde_json::Value;
 use std::alloc::Global;
@@ -44,8 +44,8 @@ pub struct PositionRow {
 pub(crate) fn span(alloc: Global, start: &Value, end: &Value) -> Result<SpanRow, RowsError>
     ensures { Gives (λ row. row) (span (view start.now) (view end.now)) result }
 {
-    let start = u32::read(alloc, start)?;
-    let end = u32::read(alloc, end)?;
+    let start = u32::from_json(alloc, start)?;
+    let end = u32::from_json(alloc, end)?;
     if start > end {
         return Err(RowsError::Shape);
     }
@@ -61,12 +61,12 @@ pub(crate) fn place(
 ) -> Result<PlaceRow, RowsError>
     ensures { Gives (λ row. row) (place (view tree.now) (view start.now) (view end.now)) result }
 {
-    let tree = u32::read(alloc, tree)?;
+    let tree = u32::from_json(alloc, tree)?;
     let SpanRow { start, end } = span(alloc, start, end)?;
     Ok(PlaceRow { tree, start, end })
 }
 
-impl Row for PlaceRow {
+impl FromJson for PlaceRow {
     ghost use Rattle.ssr_facts_rows.specs.declared.places.PlaceRow.{PlaceRow};
     ghost use Rattle.ssr_facts_rows.specs.Places.{place_row};
 
@@ -74,15 +74,15 @@ impl Row for PlaceRow {
 
     ghost plain = { λ row. row };
 
-    ghost row_of = { place_row };
+    ghost reading = { place_row };
 
-    fn read(alloc: Global, value: &Value) -> Result<PlaceRow, RowsError> {
+    fn from_json(alloc: Global, value: &Value) -> Result<PlaceRow, RowsError> {
         let (tree, start, end) = three(value)?;
         place(alloc, tree, start, end)
     }
 }
 
-impl Row for RangeRow {
+impl FromJson for RangeRow {
     ghost use Rattle.ssr_facts_rows.specs.declared.places.RangeRow.{RangeRow};
     ghost use Rattle.ssr_facts_rows.specs.Places.{range_row};
 
@@ -90,17 +90,17 @@ impl Row for RangeRow {
 
     ghost plain = { λ row. row };
 
-    ghost row_of = { range_row };
+    ghost reading = { range_row };
 
-    fn read(alloc: Global, value: &Value) -> Result<RangeRow, RowsError> {
+    fn from_json(alloc: Global, value: &Value) -> Result<RangeRow, RowsError> {
         let (file, start, end) = three(value)?;
-        let file = u32::read(alloc, file)?;
+        let file = u32::from_json(alloc, file)?;
         let SpanRow { start, end } = span(alloc, start, end)?;
         Ok(RangeRow { file, start, end })
     }
 }
 
-impl Row for PositionRow {
+impl FromJson for PositionRow {
     ghost use Rattle.ssr_facts_rows.specs.declared.places.PositionRow.{PositionRow};
     ghost use Rattle.ssr_facts_rows.specs.Places.{position_row};
 
@@ -108,13 +108,13 @@ impl Row for PositionRow {
 
     ghost plain = { λ row. row };
 
-    ghost row_of = { position_row };
+    ghost reading = { position_row };
 
-    fn read(alloc: Global, value: &Value) -> Result<PositionRow, RowsError> {
+    fn from_json(alloc: Global, value: &Value) -> Result<PositionRow, RowsError> {
         let (file, offset) = two(value)?;
         Ok(PositionRow {
-            file: u32::read(alloc, file)?,
-            offset: u32::read(alloc, offset)?,
+            file: u32::from_json(alloc, file)?,
+            offset: u32::from_json(alloc, offset)?,
         })
     }
 }

@@ -6,8 +6,8 @@ ghost use Rattle.ssr_facts_rows.specs.Private.Answers.{Gives};
 ghost use Rattle.ssr_facts_rows.specs.Sources.{plain_token, token};
 
 use crate::fields::{has_only, items};
+use crate::from_json::{FromJson, required};
 use crate::places::{PlaceRow, SpanRow, span};
-use crate::row::{Row, required};
 use crate::rows_error::RowsError;
 use serde_json::Value;
 use std::alloc::Global;
@@ -44,16 +44,16 @@ pub struct ExpansionRow {
     pub tokens: Vec<TokenRow>,
 }
 
-impl Row for FileRow {
+impl FromJson for FileRow {
     ghost use Rattle.ssr_facts_rows.specs.Sources.{PlainFile, plain_file, file_row};
 
     ghost Plain = { PlainFile };
 
     ghost plain = { plain_file };
 
-    ghost row_of = { file_row };
+    ghost reading = { file_row };
 
-    fn read(alloc: Global, value: &Value) -> Result<FileRow, RowsError> {
+    fn from_json(alloc: Global, value: &Value) -> Result<FileRow, RowsError> {
         has_only(&["name", "text"], value)?;
         Ok(FileRow {
             name: required(alloc, value, "name")?,
@@ -72,22 +72,22 @@ fn token(
     ensures { Gives plain_token (token (view text.now) (view joint.now) origin) result }
 {
     Ok(TokenRow {
-        text: String::read(alloc, text)?,
-        joint: bool::read(alloc, joint)?,
+        text: String::from_json(alloc, text)?,
+        joint: bool::from_json(alloc, joint)?,
         origin,
     })
 }
 
-impl Row for TokenRow {
+impl FromJson for TokenRow {
     ghost use Rattle.ssr_facts_rows.specs.Sources.{PlainToken, plain_token, token_row};
 
     ghost Plain = { PlainToken };
 
     ghost plain = { plain_token };
 
-    ghost row_of = { token_row };
+    ghost reading = { token_row };
 
-    fn read(alloc: Global, value: &Value) -> Result<TokenRow, RowsError> {
+    fn from_json(alloc: Global, value: &Value) -> Result<TokenRow, RowsError> {
         match items(value)? {
             [text, joint] => token(alloc, text, joint, None),
             [text, joint, start, end] => {
@@ -99,7 +99,7 @@ impl Row for TokenRow {
     }
 }
 
-impl Row for ExpansionKindRow {
+impl FromJson for ExpansionKindRow {
     ghost use Rattle.ssr_facts_rows.specs.declared.sources.ExpansionKindRow.{ExpansionKindRow};
     ghost use Rattle.ssr_facts_rows.specs.Sources.{expansion_kind};
 
@@ -107,9 +107,9 @@ impl Row for ExpansionKindRow {
 
     ghost plain = { λ kind. kind };
 
-    ghost row_of = { expansion_kind };
+    ghost reading = { expansion_kind };
 
-    fn read(_alloc: Global, value: &Value) -> Result<ExpansionKindRow, RowsError> {
+    fn from_json(_alloc: Global, value: &Value) -> Result<ExpansionKindRow, RowsError> {
         match value.as_str() {
             Some("expr") => Ok(ExpansionKindRow::Expr),
             Some("items") => Ok(ExpansionKindRow::Items),
@@ -119,16 +119,16 @@ impl Row for ExpansionKindRow {
     }
 }
 
-impl Row for ExpansionRow {
+impl FromJson for ExpansionRow {
     ghost use Rattle.ssr_facts_rows.specs.Sources.{PlainExpansion, plain_expansion, expansion_row};
 
     ghost Plain = { PlainExpansion };
 
     ghost plain = { plain_expansion };
 
-    ghost row_of = { expansion_row };
+    ghost reading = { expansion_row };
 
-    fn read(alloc: Global, value: &Value) -> Result<ExpansionRow, RowsError> {
+    fn from_json(alloc: Global, value: &Value) -> Result<ExpansionRow, RowsError> {
         has_only(&["call", "kind", "tokens"], value)?;
         Ok(ExpansionRow {
             call: required(alloc, value, "call")?,

@@ -188,9 +188,8 @@ fn takes_the_last_value_of_a_key(rt: HostRuntime) -> Result<(), Fail> {
     Ok(())
 }
 
-/// Each word, beside what it stands for.
 #[test]
-fn reads_each_word(rt: HostRuntime) -> Result<(), Fail> {
+fn reads_each_kind_of_definition(rt: HostRuntime) -> Result<(), Fail> {
     let rows = read(
         rt.alloc(),
         r#"{"defs": [{"kind": "module"}, {"kind": "function"}, {"kind": "adt"}, {"kind": "variant"}, {"kind": "const"},
@@ -212,6 +211,11 @@ fn reads_each_word(rt: HostRuntime) -> Result<(), Fail> {
     for (definition, kind) in rows.definitions.iter().zip(kinds) {
         assert_eq!(rt; definition.kind, kind);
     }
+    Ok(())
+}
+
+#[test]
+fn reads_each_resolution(rt: HostRuntime) -> Result<(), Fail> {
     let rows = read(
         rt.alloc(),
         r#"{"paths": [[0, 0, 0, ["def", 0]], [0, 0, 0, ["local", 1]], [0, 0, 0, ["typeparam", 2]],
@@ -228,6 +232,26 @@ fn reads_each_word(rt: HostRuntime) -> Result<(), Fail> {
     assert_eq!(rt; rows.paths.len(), resolutions.len());
     for (path, resolution) in rows.paths.iter().zip(resolutions) {
         assert_eq!(rt; path.resolution, resolution);
+    }
+    Ok(())
+}
+
+#[test]
+fn reads_each_other_word(rt: HostRuntime) -> Result<(), Fail> {
+    let rows = read(
+        rt.alloc(),
+        r#"{"expansions": [{"call": [0, 0, 1], "kind": "items", "tokens": []}, {"call": [0, 1, 2], "kind": "stmts", "tokens": []}],
+            "methods": [[0, 0, 1, 0, "owned"], [0, 0, 1, 0, "ref"]]}"#,
+    )?;
+    let expansions = [ExpansionKindRow::Items, ExpansionKindRow::Stmts];
+    assert_eq!(rt; rows.expansions.len(), expansions.len());
+    for (expansion, kind) in rows.expansions.iter().zip(expansions) {
+        assert_eq!(rt; expansion.kind, kind);
+    }
+    let methods = [SelfKindRow::Owned, SelfKindRow::Ref];
+    assert_eq!(rt; rows.methods.len(), methods.len());
+    for (method, kind) in rows.methods.iter().zip(methods) {
+        assert_eq!(rt; method.self_kind, kind);
     }
     Ok(())
 }
