@@ -1,20 +1,19 @@
 -- Siblings of a pattern against bare children, pair by pair.
-use Rattle.std.proofs.Common.{◌≡◌, ℕ, ◌+◌, ◌<◌, Bool, true, false, ◌&&◌, cond, List, [], ◌∷◌, ◌++◌, length, All, Option, Some, None, refl, sym, ◌∙◌, ap, subst, arith, append_assoc, append-nil, suc, ◌*◌, ◌==◌}
+use Rattle.std.proofs.Common.{◌≡◌, ℕ, ◌+◌, ◌<◌, Bool, true, false, ◌&&◌, cond, List, [], ◌∷◌, ◌++◌, All, Option, Some, None, refl, sym, ◌∙◌, ap, subst, arith, append_assoc, append-nil, ◌*◌, option_to_list, is_some, not, IfNone}
 use Rattle.std.specs.Prelude.{map}
 use Rattle.std.specs.Str.{bytes_eq}
-use Rattle.std.proofs.lemmas.Bool.{ne_eqb}
 use Rattle.ssr_syntax_lex.specs.declared.kinds.SyntaxKind.{SyntaxKind}
 use Rattle.ssr_syntax_lex.specs.Kinds.{same_kind}
 use Rattle.ssr_syntax_tree.specs.declared.number.TokenNo.{TokenNo}
 use Rattle.ssr_syntax_tree.specs.Syntax.{Token, Forest, nothing, leaf, branch, Syntax, token_count, node_count}
-use Rattle.ssr_syntax_tree.specs.Places.{HasNode, Node, Part, token_part, node_part, parts_in, parts_of, part_of, node_of, token_of, size_of, HasElement}
+use Rattle.ssr_syntax_tree.specs.Places.{HasNode, Node, Part, token_part, node_part, parts_in, parts_of, part_of, node_of, token_of, size_of, elements_of, HasElement}
 use Rattle.ssr_syntax_tree.specs.declared.number.Element.{Element}
 use Rattle.ssr_syntax_tree.specs.declared.number.Element.TheVariants as element
-use Rattle.ssr_syntax_tree.proofs.Shared.{node_of-number, smaller}
+use Rattle.ssr_syntax_tree.proofs.Shared.{node_of-number, parts_of-elements_of, smaller}
 use Rattle.ide_ssr_rules.specs.Resolving.{placeholder_at}
 use Rattle.ide_ssr.specs.declared.bindings.Binding.{Binding}
-use Rattle.ide_ssr.specs.Private.Elements.{IsBelow}
-use Rattle.ide_ssr.proofs.Bare.{below-has}
+use Rattle.ide_ssr.specs.Private.Children.{IsBelow, AreKept}
+use Rattle.ide_ssr.proofs.Bare.{below-has, elements_below, tail_has}
 use Rattle.ide_ssr.specs.Matching.{is_left_out, bare}
 use Rattle.ide_ssr.specs.Bindings.{joined, token_then, node_then, siblings_by, bindings_of, nothing_then}
 use Rattle.ide_ssr.specs.Private.Matching.{pair_by, Answers, matched, other}
@@ -92,7 +91,8 @@ joined-some found bs (Some rest) = ap Some (sym (append_assoc found bs rest))
 pub record PairedSoFar (names : List (List ℕ)) (pattern code : Syntax) (n m : ℕ) (ps cs : List Element) (old out : List Binding) : Type 0 where
   pub bound : List Binding
   pub comes_to :
-      bindings_of names (node_of pattern n) (node_of code m) ≡ joined (Some bound) (pairs_by names (map (part_of pattern) ps) (map (part_of code) cs))
+      bindings_of names (node_of pattern n) (node_of code m)
+      ≡ joined (Some bound) (pairs_by names (bare (map (part_of pattern) ps)) (bare (map (part_of code) cs)))
   pub out_is : out ≡ old ++ bound
   pub below : All (IsBelow pattern n) ps
   pub beside : All (IsBelow code m) cs
@@ -101,92 +101,169 @@ none_else : (o : Option ℕ) → ((i : ℕ) → o ≡ Some i → ⊥) → o ≡ 
 none_else None h = refl
 none_else (Some i) h = absurd (h i refl)
 
-pub paired-starts : (names : List (List ℕ)) (pattern code : Syntax) (n m : ℕ) (ps cs : List Element) (old out : List Binding) (placeholder : Option ℕ) (pk ck : SyntaxKind) (b : Bool)
+bare_children : (code : Syntax) (n : ℕ) (xs : List Element) → HasNode code n → xs ≡ elements_of (node_of code n)
+    → bare (map (part_of code) xs) ≡ bare (parts_of (node_of code n))
+bare_children code n xs has is = ap (λ xs. bare (map (part_of code) xs)) is ∙ ap bare (parts_of-elements_of code n has)
+
+children_below : (code : Syntax) (n : ℕ) (xs : List Element) → HasNode code n → xs ≡ elements_of (node_of code n) → All (IsBelow code n) xs
+children_below code n xs has is = subst (All (IsBelow code n)) (sym is) (elements_below code n has)
+
+starts_at : (names : List (List ℕ)) (pattern code : Syntax) (n m : ℕ) (ps cs : List Element) (old : List Binding) (placeholder : Option ℕ) (pk ck : SyntaxKind) (b : Bool)
+    → HasNode pattern n → HasNode code m
     → placeholder ≡ placeholder_at names (node_of pattern n) → ((i : ℕ) → placeholder ≡ Some i → ⊥)
     → pk ≡ (node_of pattern n).kind → ck ≡ (node_of code m).kind → b ≡ same_kind pk ck → b ≡ true
-    → map (part_of pattern) ps ≡ bare (parts_of (node_of pattern n)) → All (IsBelow pattern n) ps
-    → map (part_of code) cs ≡ bare (parts_of (node_of code m)) → All (IsBelow code m) cs
-    → out ≡ old → PairedSoFar names pattern code n m ps cs old out
-paired-starts names pattern code n m ps cs old out placeholder pk ck b at none pk_is ck_is b_is same ps_are below cs_are beside out_is =
+    → ps ≡ elements_of (node_of pattern n) → cs ≡ elements_of (node_of code m)
+    → PairedSoFar names pattern code n m ps cs old old
+starts_at names pattern code n m ps cs old placeholder pk ck b p_in c_in at none pk_is ck_is b_is same ps_are cs_are =
     record {
       bound = [];
       comes_to =
           bindings-children names (node_of pattern n) (node_of code m) (sym at ∙ none_else placeholder none) (ap (λ k. same_kind k (node_of code m).kind) (sym pk_is) ∙ ap (same_kind pk) (sym ck_is) ∙ sym b_is ∙ same)
-          ∙ ap (λ ps. pairs_by names ps (bare (parts_of (node_of code m)))) (sym ps_are)
-          ∙ ap (pairs_by names (map (part_of pattern) ps)) (sym cs_are)
-          ∙ sym (joined-none (pairs_by names (map (part_of pattern) ps) (map (part_of code) cs)));
-      out_is = out_is ∙ sym (append-nil old);
-      below = below;
-      beside = beside;
+          ∙ ap (λ ps. pairs_by names ps (bare (parts_of (node_of code m)))) (sym (bare_children pattern n ps p_in ps_are))
+          ∙ ap (pairs_by names (bare (map (part_of pattern) ps))) (sym (bare_children code m cs c_in cs_are))
+          ∙ sym (joined-none (pairs_by names (bare (map (part_of pattern) ps)) (bare (map (part_of code) cs))));
+      out_is = sym (append-nil old);
+      below = children_below pattern n ps p_in ps_are;
+      beside = children_below code m cs c_in cs_are;
     }
 
-turn_at : (names : List (List ℕ)) (pattern code : Syntax) (n m : ℕ) (p c : Element) (ps cs : List Element) (old out new : List Binding) (bs : List Binding)
-    → PairedSoFar names pattern code n m (p ∷ ps) (c ∷ cs) old out → pair_by names (part_of pattern p) (part_of code c) ≡ Some bs → new ≡ out ++ bs
+-- The code goes over the pattern that the rule lends.
+pub paired-starts : (names : List (List ℕ)) (lent pattern code : Syntax) (n m : ℕ) (ps cs : List Element) (old : List Binding) (placeholder : Option ℕ) (pk ck : SyntaxKind) (b : Bool)
+    → lent ≡ pattern → HasNode pattern n → HasNode code m
+    → placeholder ≡ placeholder_at names (node_of pattern n) → ((i : ℕ) → placeholder ≡ Some i → ⊥)
+    → pk ≡ (node_of lent n).kind → ck ≡ (node_of code m).kind → b ≡ same_kind pk ck → b ≡ true
+    → ps ≡ elements_of (node_of lent n) → cs ≡ elements_of (node_of code m)
+    → PairedSoFar names pattern code n m ps cs old old
+paired-starts names lent pattern code n m ps cs old placeholder pk ck b lent_is p_in c_in at none pk_is ck_is b_is same ps_are cs_are =
+    starts_at names pattern code n m ps cs old placeholder pk ck b p_in c_in at none
+    (pk_is ∙ ap (λ tree. (node_of tree n).kind) lent_is)
+    ck_is
+    b_is
+    same
+    (ps_are ∙ ap (λ tree. elements_of (node_of tree n)) lent_is)
+    cs_are
+
+pub lent_next : (lent pattern : Syntax) (p : Element) (before ps : List Element) → lent ≡ pattern
+    → bare (map (part_of lent) before) ≡ part_of lent p ∷ bare (map (part_of lent) ps)
+    → bare (map (part_of pattern) before) ≡ part_of pattern p ∷ bare (map (part_of pattern) ps)
+lent_next lent pattern p before ps lent_is come =
+    subst (λ tree. bare (map (part_of tree) before) ≡ part_of tree p ∷ bare (map (part_of tree) ps)) lent_is come
+
+-- no child is left
+pub none_left : (code : Syntax) (before left : List Element) → bare (map (part_of code) before) ≡ bare (map (part_of code) left) → left ≡ [] → bare (map (part_of code) before) ≡ []
+none_left code before left come none = come ∙ ap (λ xs. bare (map (part_of code) xs)) none
+
+pub lent_none : (lent pattern : Syntax) (before left : List Element) → lent ≡ pattern → bare (map (part_of lent) before) ≡ bare (map (part_of lent) left) → left ≡ []
+    → bare (map (part_of pattern) before) ≡ []
+lent_none lent pattern before left lent_is come none =
+    subst (λ tree. bare (map (part_of tree) before) ≡ []) lent_is (none_left lent before left come none)
+
+-- what is to come where the next of both sides have come
+next_pair : (names : List (List ℕ)) (pattern code : Syntax) (n m : ℕ) (p c : Element) (ps cs before beside : List Element) (old out : List Binding)
+    → (so_far : PairedSoFar names pattern code n m before beside old out)
+    → bare (map (part_of pattern) before) ≡ part_of pattern p ∷ bare (map (part_of pattern) ps)
+    → bare (map (part_of code) beside) ≡ part_of code c ∷ bare (map (part_of code) cs)
+    → bindings_of names (node_of pattern n) (node_of code m)
+    ≡ joined (Some so_far.bound) (joined (pair_by names (part_of pattern p) (part_of code c)) (pairs_by names (bare (map (part_of pattern) ps)) (bare (map (part_of code) cs))))
+next_pair names pattern code n m p c ps cs before beside old out so_far ps_come cs_come =
+    so_far.comes_to
+    ∙ ap (λ ps. joined (Some so_far.bound) (pairs_by names ps (bare (map (part_of code) beside)))) ps_come
+    ∙ ap (λ cs. joined (Some so_far.bound) (pairs_by names (part_of pattern p ∷ bare (map (part_of pattern) ps)) cs)) cs_come
+
+turn_at : (names : List (List ℕ)) (pattern code : Syntax) (n m : ℕ) (p c : Element) (ps cs before beside : List Element) (old out new bs : List Binding)
+    → PairedSoFar names pattern code n m before beside old out
+    → bare (map (part_of pattern) before) ≡ part_of pattern p ∷ bare (map (part_of pattern) ps) → AreKept before (p ∷ ps)
+    → bare (map (part_of code) beside) ≡ part_of code c ∷ bare (map (part_of code) cs) → AreKept beside (c ∷ cs)
+    → pair_by names (part_of pattern p) (part_of code c) ≡ Some bs → new ≡ out ++ bs
     → PairedSoFar names pattern code n m ps cs old new
-turn_at names pattern code n m p c ps cs old out new bs so_far is new_is =
+turn_at names pattern code n m p c ps cs before beside old out new bs so_far ps_come ps_kept cs_come cs_kept is new_is =
     record {
       bound = so_far.bound ++ bs;
       comes_to =
-          so_far.comes_to
-          ∙ ap (λ o. joined (Some so_far.bound) (joined o (pairs_by names (map (part_of pattern) ps) (map (part_of code) cs)))) is
-          ∙ joined-some so_far.bound bs (pairs_by names (map (part_of pattern) ps) (map (part_of code) cs));
+          next_pair names pattern code n m p c ps cs before beside old out so_far ps_come cs_come
+          ∙ ap (λ o. joined (Some so_far.bound) (joined o (pairs_by names (bare (map (part_of pattern) ps)) (bare (map (part_of code) cs))))) is
+          ∙ joined-some so_far.bound bs (pairs_by names (bare (map (part_of pattern) ps)) (bare (map (part_of code) cs)));
       out_is = new_is ∙ ap (λ out. out ++ bs) so_far.out_is ∙ append_assoc old so_far.bound bs;
-      below = λ i d lt. so_far.below (suc i) d (omega arith);
-      beside = λ i d lt. so_far.beside (suc i) d (omega arith);
+      below = tail_has (IsBelow pattern n) p ps (ps_kept.below pattern n so_far.below);
+      beside = tail_has (IsBelow code m) c cs (cs_kept.below code m so_far.beside);
     }
 
-pub paired-turns : (names : List (List ℕ)) (pattern code : Syntax) (n m : ℕ) (p c : Element) (all ps others cs : List Element) (old out new : List Binding) (b : Bool)
-    → PairedSoFar names pattern code n m all others old out → all ≡ p ∷ ps → others ≡ c ∷ cs
+pub paired-turns : (names : List (List ℕ)) (pattern code : Syntax) (n m : ℕ) (p c : Element) (ps cs before beside : List Element) (old out new : List Binding) (b : Bool)
+    → PairedSoFar names pattern code n m before beside old out
+    → bare (map (part_of pattern) before) ≡ part_of pattern p ∷ bare (map (part_of pattern) ps) → AreKept before (p ∷ ps)
+    → bare (map (part_of code) beside) ≡ part_of code c ∷ bare (map (part_of code) cs) → AreKept beside (c ∷ cs)
     → Answers (pair_by names (part_of pattern p) (part_of code c)) out new b → b ≡ true
     → PairedSoFar names pattern code n m ps cs old new
-paired-turns names pattern code n m p c all ps others cs old out new b so_far all_is others_are (matched bs is found new_is) yes_matched =
-    turn_at names pattern code n m p c ps cs old out new bs
-    (subst (λ cs. PairedSoFar names pattern code n m (p ∷ ps) cs old out) others_are (subst (λ ps. PairedSoFar names pattern code n m ps others old out) all_is so_far))
-    found
-    new_is
-paired-turns names pattern code n m p c all ps others cs old out new b so_far all_is others_are (other is none) yes_matched =
+paired-turns names pattern code n m p c ps cs before beside old out new b so_far ps_come ps_kept cs_come cs_kept (matched bs is found new_is) yes_matched =
+    turn_at names pattern code n m p c ps cs before beside old out new bs so_far ps_come ps_kept cs_come cs_kept found new_is
+paired-turns names pattern code n m p c ps cs before beside old out new b so_far ps_come ps_kept cs_come cs_kept (other is none) yes_matched =
     let e : true ≡ false = sym yes_matched ∙ is in cc
 
-pub paired-ends : (names : List (List ℕ)) (pattern code : Syntax) (n m : ℕ) (all others : List Element) (old out : List Binding)
-    → PairedSoFar names pattern code n m all others old out → length all ≡ 0 → (b : Bool) → b ≡ (length others == 0)
+joined-lacking : (bound : List Binding) (o : Option (List Binding)) → joined (Some bound) (joined None o) ≡ None
+joined-lacking bound o = refl
+
+-- a pair that doesn't match
+pub paired-differs : (names : List (List ℕ)) (pattern code : Syntax) (n m : ℕ) (p c : Element) (ps cs before beside : List Element) (old out new : List Binding) (b : Bool)
+    → PairedSoFar names pattern code n m before beside old out
+    → bare (map (part_of pattern) before) ≡ part_of pattern p ∷ bare (map (part_of pattern) ps)
+    → bare (map (part_of code) beside) ≡ part_of code c ∷ bare (map (part_of code) cs)
+    → Answers (pair_by names (part_of pattern p) (part_of code c)) out new b → b ≡ false
+    → Answers (bindings_of names (node_of pattern n) (node_of code m)) old new false
+paired-differs names pattern code n m p c ps cs before beside old out new b so_far ps_come cs_come (matched bs is found new_is) not_matched =
+    let e : true ≡ false = sym is ∙ not_matched in cc
+paired-differs names pattern code n m p c ps cs before beside old out new b so_far ps_come cs_come (other is none) not_matched =
+    other refl
+    (next_pair names pattern code n m p c ps cs before beside old out so_far ps_come cs_come
+    ∙ ap (λ o. joined (Some so_far.bound) (joined o (pairs_by names (bare (map (part_of pattern) ps)) (bare (map (part_of code) cs))))) none)
+
+-- the code has no child more
+pub paired-short : (names : List (List ℕ)) (pattern code : Syntax) (n m : ℕ) (p : Element) (ps before beside : List Element) (old out : List Binding)
+    → PairedSoFar names pattern code n m before beside old out
+    → bare (map (part_of pattern) before) ≡ part_of pattern p ∷ bare (map (part_of pattern) ps) → bare (map (part_of code) beside) ≡ []
+    → Answers (bindings_of names (node_of pattern n) (node_of code m)) old out false
+paired-short names pattern code n m p ps before beside old out so_far ps_come none =
+    other refl
+    (so_far.comes_to
+    ∙ ap (λ ps. joined (Some so_far.bound) (pairs_by names ps (bare (map (part_of code) beside)))) ps_come
+    ∙ ap (λ cs. joined (Some so_far.bound) (pairs_by names (part_of pattern p ∷ bare (map (part_of pattern) ps)) cs)) none)
+
+negated : (b c : Bool) → c ≡ not b → b ≡ not c
+negated true c is = ap not (sym is)
+negated false c is = ap not (sym is)
+
+-- the pattern has no child more
+pub paired-ends : (names : List (List ℕ)) (pattern code : Syntax) (n m : ℕ) (came : Option Element) (before beside cs : List Element) (old out : List Binding) (b : Bool)
+    → PairedSoFar names pattern code n m before beside old out → bare (map (part_of pattern) before) ≡ []
+    → bare (map (part_of code) beside) ≡ map (part_of code) (option_to_list came) ++ bare (map (part_of code) cs) → IfNone came (cs ≡ []) → is_some came ≡ not b
     → Answers (bindings_of names (node_of pattern n) (node_of code m)) old out b
-paired-ends names pattern code n m [] [] old out so_far none b is =
-    matched so_far.bound is (so_far.comes_to ∙ ap Some (append-nil so_far.bound)) so_far.out_is
-paired-ends names pattern code n m [] (c ∷ cs) old out so_far none b is = other (is ∙ ne_eqb (length (c ∷ cs)) 0 (λ e. omega (arith, e))) so_far.comes_to
-paired-ends names pattern code n m (p ∷ ps) others old out so_far none b is = absurd (omega arith)
+paired-ends names pattern code n m None before beside cs old out b so_far none cs_come last b_is =
+    matched so_far.bound (negated b false b_is)
+    (so_far.comes_to
+    ∙ ap (λ ps. joined (Some so_far.bound) (pairs_by names ps (bare (map (part_of code) beside)))) none
+    ∙ ap (λ cs. joined (Some so_far.bound) (pairs_by names [] cs)) (cs_come ∙ ap (λ cs. bare (map (part_of code) cs)) last)
+    ∙ ap Some (append-nil so_far.bound))
+    so_far.out_is
+paired-ends names pattern code n m (Some c) before beside cs old out b so_far none cs_come last b_is =
+    other (negated b true b_is)
+    (so_far.comes_to
+    ∙ ap (λ ps. joined (Some so_far.bound) (pairs_by names ps (bare (map (part_of code) beside)))) none
+    ∙ ap (λ cs. joined (Some so_far.bound) (pairs_by names [] cs)) cs_come)
 
 -- how far a recursion on a pattern's elements still goes
 abbrev pub element_size : Syntax → Element → ℕ
 element_size code (element.Node n) = 1 + 2 * size_of (node_of code n.0)
 element_size code (element.Token t) = 0
 
-pub element-smaller : (code : Syntax) (n : ℕ) (all ps : List Element) (p : Element) → HasNode code n → All (IsBelow code n) all → all ≡ p ∷ ps
+smaller_below : (code : Syntax) (n : ℕ) (p : Element) → HasNode code n → IsBelow code n p → element_size code p < 2 * size_of (node_of code n)
+smaller_below code n (element.Node m) has b = let lt = smaller code n m.0 has b.1 in omega arith
+smaller_below code n (element.Token t) has b = omega arith
+
+pub element-smaller : (code : Syntax) (n : ℕ) (before ps : List Element) (p : Element) → HasNode code n → All (IsBelow code n) before → AreKept before (p ∷ ps)
     → element_size code p < 2 * size_of (node_of code n)
-element-smaller code n all ps p has below is = by_kind p (subst (All (IsBelow code n)) is below 0 p (omega arith))
-  where
-    by_kind : (p : Element) → IsBelow code n p → element_size code p < 2 * size_of (node_of code n)
-    by_kind (element.Node m) b = let lt = smaller code n m.0 has b.1 in omega arith
-    by_kind (element.Token t) b = omega arith
+element-smaller code n before ps p has below kept = smaller_below code n p has (kept.below code n below 0 p (omega arith))
 
-pub first-below : (code : Syntax) (n : ℕ) (all ps : List Element) (p : Element) → All (IsBelow code n) all → all ≡ p ∷ ps → HasElement code p
-first-below code n all ps p below is = below-has code n p (subst (All (IsBelow code n)) is below 0 p (omega arith))
-
--- the same with what the code holds: the pattern that it was lent, and the texts of its lists
-pub paired-starts_from : (names : List (List ℕ)) (pattern lent code : Syntax) (n m : ℕ) (ps ps_items cs cs_items : List Element) (old : List Binding) (placeholder : Option ℕ) (pk ck : SyntaxKind) (b : Bool)
-    → lent ≡ pattern → placeholder ≡ placeholder_at names (node_of pattern n) → ((i : ℕ) → placeholder ≡ Some i → ⊥)
-    → pk ≡ (node_of lent n).kind → ck ≡ (node_of code m).kind → b ≡ same_kind pk ck → b ≡ true
-    → ps ≡ ps_items → map (part_of lent) ps_items ≡ bare (parts_of (node_of lent n)) → All (IsBelow lent n) ps_items
-    → cs ≡ cs_items → map (part_of code) cs_items ≡ bare (parts_of (node_of code m)) → All (IsBelow code m) cs_items
-    → PairedSoFar names pattern code n m ps cs old old
-paired-starts_from names pattern lent code n m ps ps_items cs cs_items old placeholder pk ck b lent_is at none pk_is ck_is b_is same ps_is ps_are below cs_is cs_are beside =
-    subst (λ p. placeholder ≡ placeholder_at names (node_of p n) → PairedSoFar names p code n m ps cs old old) lent_is
-    (λ at. paired-starts names lent code n m ps cs old old placeholder pk ck b at none pk_is ck_is b_is same
-    (ap (map (part_of lent)) ps_is ∙ ps_are)
-    (subst (All (IsBelow lent n)) (sym ps_is) below)
-    (ap (map (part_of code)) cs_is ∙ cs_are)
-    (subst (All (IsBelow code m)) (sym cs_is) beside)
-    refl)
-    at
+pub first-below : (code : Syntax) (n : ℕ) (before ps : List Element) (p : Element) → All (IsBelow code n) before → AreKept before (p ∷ ps) → HasElement code p
+first-below code n before ps p below kept = below-has code n p (kept.below code n below 0 p (omega arith))
 
 pub other_kind-from : (names : List (List ℕ)) (pattern lent code : Syntax) (n m : ℕ) (old : List Binding) (placeholder : Option ℕ) (pk ck : SyntaxKind) (b : Bool)
     → lent ≡ pattern → placeholder ≡ placeholder_at names (node_of pattern n) → ((i : ℕ) → placeholder ≡ Some i → ⊥)

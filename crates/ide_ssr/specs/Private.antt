@@ -1,6 +1,6 @@
 -- Words of private functions and of the invariants of private fields. No public clause cites them, and no reader of
 -- those has to believe them.
-pub mod Elements
+pub mod Children
 pub mod Made
 pub mod Nearest
 pub mod Pending

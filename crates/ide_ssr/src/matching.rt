@@ -7,7 +7,7 @@ ghost use Rattle.ide_ssr.specs.Bindings.{bindings_of};
 ghost use Rattle.ide_ssr.specs.Private.Matching.{pair_by, Answers};
 
 use crate::bindings::Binding;
-use crate::children::bare_children;
+use crate::children::Siblings;
 use ide_ssr_rules::ResolvedRule;
 use ssr_syntax_tree::{Element, NodeNo, TokenNo, Tree};
 use std::alloc::{AllocError, Global};
@@ -38,21 +38,17 @@ pub(crate) fn node_matches(
     if !pattern.kind(p).is(code.kind(c)) {
         return Ok(false);
     }
-    let pattern_children = bare_children(alloc, pattern, p)?;
-    let code_children = bare_children(alloc, code, c)?;
-    let mut ps: &[Element] = &pattern_children;
-    let mut cs: &[Element] = &code_children;
-    while let Some((first, ps_behind)) = ps.split_first() {
-        let Some((other, cs_behind)) = cs.split_first() else {
+    let mut ps = Siblings::of(pattern, p);
+    let mut cs = Siblings::of(code, c);
+    while let Some(first) = ps.next_bare(pattern) {
+        let Some(other) = cs.next_bare(code) else {
             return Ok(false);
         };
-        if !pair_matches(alloc, rule, code, *first, *other, out)? {
+        if !pair_matches(alloc, rule, code, first, other, out)? {
             return Ok(false);
         }
-        ps = ps_behind;
-        cs = cs_behind;
     }
-    Ok(cs.is_empty())
+    Ok(cs.next_bare(code).is_none())
 }
 
 /// The same for a child of a node of the pattern and one of the code.

@@ -1,5 +1,6 @@
 use Rattle.std.proofs.Common.{◌*◌, length}
 use Rattle.ssr_syntax_tree.specs.Places.{node_of, size_of}
+use Rattle.ide_ssr.specs.Private.Children.{siblings_left}
 use Rattle.ide_ssr.proofs.Pairs.{PairedSoFar, element_size}
 use Rattle.ide_ssr.proofs.matching.+matching.Given as goal
 
@@ -11,7 +12,7 @@ decreases-pair_matches l = element_size l.rule.now.pattern l.p
 
 abbrev pub invariant-node_matches-loop-first : goal.invariant-node_matches-loop-first
 invariant-node_matches-loop-first l =
-    PairedSoFar l.rule.names l.rule.pattern l.code l.fn.p.0 l.fn.c.0 l.ps l.cs l.fn.out.items l.out.items
+    PairedSoFar l.rule.names l.rule.pattern l.code l.fn.p.0 l.fn.c.0 (siblings_left l.ps) (siblings_left l.cs) l.fn.out.items l.out.items
 
 abbrev pub decreases-node_matches-loop-first : goal.decreases-node_matches-loop-first
-decreases-node_matches-loop-first l = length l.ps
+decreases-node_matches-loop-first l = length (siblings_left l.ps)
