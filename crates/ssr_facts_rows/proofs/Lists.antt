@@ -1,5 +1,5 @@
 -- Lists of values, and of the rows that they are read to.
-use Rattle.std.proofs.Common.{◌≡◌, List, [], ◌∷◌, ◌++◌, map, ℕ, Bool, ◌&&◌, ◌||◌, String, Global, string_bytes, Option, Some, None, refl, ap, sym, append_assoc}
+use Rattle.std.proofs.Common.{◌≡◌, List, [], ◌∷◌, ◌++◌, map, ℕ, Bool, ◌&&◌, ◌||◌, String, Global, string_bytes, Option, Some, refl, ap}
 use Rattle.std.specs.List.{list_all, list_any}
 use Rattle.std.specs.Map.{keys_of}
 use Rattle.serde_json.specs.Data.{Data}
@@ -13,27 +13,7 @@ list_of_of_view (v ∷ vs) = ap (λ ds. view v ∷ ds) (list_of_of_view vs)
 
 -- the rows that are read so far, and those of the other values
 abbrev pub continued : {A : Type 0} → (Data → Option A) → List A → List Data → Option (List A)
-continued row done ds = each row ds >>= λ later. Some (done ++ later)
-
-continued_later : {A : Type 0} (done : List A) (first : A) (later : Option (List A))
-    → (later >>= (λ others. Some (first ∷ others)) >>= λ all. Some (done ++ all)) ≡ (later >>= λ others. Some ((done ++ first ∷ []) ++ others))
-continued_later done first None = refl
-continued_later done first (Some others) = ap Some (sym (append_assoc done (first ∷ []) others))
-
-pub continued-cons : {A : Type 0} (row : Data → Option A) (done : List A) (first : A) (d : Data) (ds : List Data)
-    → row d ≡ Some first → continued row done (d ∷ ds) ≡ continued row (done ++ first ∷ []) ds
-continued-cons row done first d ds e = rw e (continued_later done first (each row ds))
-
-pub continued-refused : {A : Type 0} (row : Data → Option A) (done : List A) (d : Data) (ds : List Data)
-    → row d ≡ None → continued row done (d ∷ ds) ≡ None
-continued-refused row done d ds e = rw e refl
-
-pub continued-start : {A : Type 0} (row : Data → Option A) (ds : List Data) → each row ds ≡ continued row [] ds
-continued-start row ds = start (each row ds)
-  where
-    start : {A : Type 0} (later : Option (List A)) → later ≡ (later >>= λ others. Some ([] ++ others))
-    start None = refl
-    start (Some others) = refl
+continued reading done ds = each reading ds >>= λ later. Some (done ++ later)
 
 pub any_of_map : {A B : Type 0} (test : B → Bool) (f : A → B) (xs : List A) → list_any test (map f xs) ≡ list_any (λ x. test (f x)) xs
 any_of_map test f [] = refl
