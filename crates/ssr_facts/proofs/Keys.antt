@@ -28,6 +28,8 @@ use Rattle.ssr_base.specs.Workspace.{same_id}
 use Rattle.ssr_facts.specs.Tables.{is_name, is_member, is_printed, same_res}
 use Rattle.ssr_facts.proofs.Rows.{lookup_alike}
 
+-- ** Plain tests say what the orders say.
+
 pub id_ties : (a b : NodeId) → same_id a b ≡ is_at ((id_order.ghosts).cmp a) b
 id_ties a b = both_tied _ _ _ _ (unsigned_ties a.tree b.tree) (unsigned_ties a.node.0 b.node.0)
 

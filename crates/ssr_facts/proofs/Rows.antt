@@ -36,6 +36,7 @@ option_or-none : {V : Type 0} (o : Option V) → option_or o None ≡ o
 option_or-none None = refl
 option_or-none (Some v) = refl
 
+-- where no key passes nothing is found
 lookup_key-none : {K V : Type 0} (test : K → Bool) (rows : List (K × V)) → lookup_key test rows ≡ None → lookup test rows ≡ None
 lookup_key-none test [] e = refl
 lookup_key-none test (row ∷ rows) e = step (test row.0) e (lookup_key-none test rows)
@@ -45,6 +46,7 @@ lookup_key-none test (row ∷ rows) e = step (test row.0) e (lookup_key-none tes
     step true e later = cc
     step false e later = later e
 
+-- not being told apart goes both ways
 flipped : {K : Type 0} {R : K → K → Ordering} → IsTotalOrder R → (a b : K) → is_at (R a) b ≡ is_at (R b) a
 flipped total a b = (eq_by_cmp_equiv total).symm a b
 

@@ -13,6 +13,7 @@ module _ (meaning : NodeId → Option Res) (r : Res) where
   abbrev pub stands : NodeId → Bool
   stands node = stands_for r (meaning node)
 
+  -- whether or not a node stands for it
   one_more : (start done : List NodeId) (node : NodeId) (b : Bool) → stands node ≡ b
       → (if b then start ++ filter stands done ++ node ∷ [] else start ++ filter stands done) ≡ start ++ filter stands (done ++ node ∷ [])
   one_more start done node true is =
