@@ -58,10 +58,10 @@ impl TableSemantics {
 }
 
 impl Semantics for TableSemantics {
-    ghost use Rattle.ssr_facts.specs.Private.Maps.{meanings_in};
+    ghost use Rattle.ssr_facts.specs.Provider.{provided};
     ghost use Rattle.ssr_facts.specs.Private.Complete.{is_complete};
 
-    ghost meanings = { λ s. meanings_in s.maps };
+    ghost meanings = { provided };
 
     ghost complete = { λ s. is_complete s.maps s.indexed };
 
