@@ -8,11 +8,11 @@ use Rattle.std.proofs.lemmas.Option.{get_or_from_slice_get, slice_get_within}
 use Rattle.ssr_syntax_tree.specs.Syntax.{Syntax}
 use Rattle.ide_ssr_rules.specs.Patterns.{HasEachOnce}
 use Rattle.ide_ssr_rules.specs.Resolving.{ResolvedKind}
-use Rattle.ide_ssr.specs.declared.bindings.Binding.{Binding}
+use Rattle.ide_ssr_matching.specs.declared.bindings.Binding.{Binding}
 use Rattle.ide_ssr.specs.declared.holders.Holder.{Holder}
 use Rattle.ide_ssr.specs.declared.matches.Match.{Match}
 use Rattle.ide_ssr.specs.declared.matches.PlaceholderMatch.{PlaceholderMatch}
-use Rattle.ide_ssr.specs.Apart.{ComesBefore}
+use Rattle.ide_ssr_matching.specs.Apart.{ComesBefore}
 use Rattle.ide_ssr.specs.BindsOnce.{EndsBefore, HoldsBefore, BindsOnce, IsListIn, AreApart, BindOnce}
 use Rattle.ide_ssr.specs.BindsOnce as once
 use Rattle.ide_ssr.specs.Found.{Found, found_in}
@@ -22,7 +22,7 @@ use Rattle.ide_ssr.specs.Matches.{placeholders_of, name_of, inner_of}
 use Rattle.ide_ssr.specs.Nesting.{placeholder_name, HasParts, HasBinding, Show, Shows, ShowBindings}
 use Rattle.ide_ssr.specs.Nesting as nesting
 use Rattle.ide_ssr.specs.Private.Order.{IsIn, AreHeld}
-use Rattle.ide_ssr.proofs.Apart.{placeholders_bound}
+use Rattle.ide_ssr_matching.proofs.Shared.{placeholders_bound}
 use Rattle.ide_ssr.proofs.Choices.{pairs_head, pairs_tail}
 use Rattle.ide_ssr.proofs.InOrder.{IsOfRule, found_of_rules}
 use Rattle.ide_ssr.proofs.Ordered.{EndsBeforeIn, listed_apart}

@@ -7,12 +7,12 @@ use Rattle.ssr_syntax_tree.specs.Places.{Node, nodes_of, node_of, root_of, start
 use Rattle.ssr_syntax_tree.proofs.Lists.{drop_one, slice_get-drop}
 use Rattle.ssr_syntax_tree.proofs.Shared.{IsOf, length-nodes_of}
 use Rattle.ide_ssr_rules.specs.Resolving.{ResolvedKind}
-use Rattle.ide_ssr.specs.declared.bindings.Binding.{Binding}
-use Rattle.ide_ssr.specs.Bindings.{bindings_of}
+use Rattle.ide_ssr_matching.specs.declared.bindings.Binding.{Binding}
+use Rattle.ide_ssr_matching.specs.Bindings.{bindings_of}
 use Rattle.ide_ssr.specs.Found.{Found, is_permitted, matches_at, found_at, found_in}
 use Rattle.ide_ssr.specs.WholeMatches.{IsFound}
-use Rattle.ide_ssr.proofs.Agreement.{bindings_of-Matches, Matches-bindings_of}
-use Rattle.ide_ssr.proofs.Apart.{bindings_hold, all_apart}
+use Rattle.ide_ssr_matching.proofs.Shared.{bindings_of-Matches, Matches-bindings_of}
+use Rattle.ide_ssr_matching.proofs.Shared.{bindings_hold, all_apart}
 use Rattle.ide_ssr.proofs.InOrder.{match_of, node_of-read, numbered, nodes-numbered}
 
 -- ** What is found is a whole match.

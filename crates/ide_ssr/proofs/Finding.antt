@@ -7,25 +7,10 @@ use Rattle.ssr_syntax_tree.proofs.Shared.{length-nodes_of, node_of-number}
 use Rattle.std.proofs.lemmas.List.{drop_all, drop_more}
 use Rattle.std.proofs.lemmas.Option.{unwrap_or-slice_get}
 use Rattle.ide_ssr_rules.specs.Resolving.{ResolvedKind}
-use Rattle.ide_ssr.specs.declared.bindings.Binding.{Binding}
-use Rattle.ide_ssr.specs.Bindings.{bindings_of}
-use Rattle.ide_ssr.specs.Private.Matching.{Answers, matched, other}
+use Rattle.ide_ssr_matching.specs.declared.bindings.Binding.{Binding}
+use Rattle.ide_ssr_matching.specs.Bindings.{bindings_of}
+use Rattle.ide_ssr_matching.specs.Private.Matching.{Answers, matched, other}
 use Rattle.ide_ssr.specs.Found.{Found, match_at, matches_at, found_at, found_in}
-
-node_of-root : (syntax : Syntax) → node_of syntax 0 ≡ root_of syntax
-unfolding node_of
-node_of-root syntax = refl
-
-pub bindings-found : (names : List (List ℕ)) (pattern : Syntax) (c : Node) (old new : List Binding) (b : Bool)
-    → old ≡ [] → Answers (bindings_of names (node_of pattern 0) c) old new b → b ≡ true → Some new ≡ bindings_of names (root_of pattern) c
-bindings-found names pattern c old new b none (matched bs is found new_is) found_is =
-    ap Some (new_is ∙ ap (λ old. old ++ bs) none) ∙ sym found ∙ ap (λ p. bindings_of names p c) (node_of-root pattern)
-bindings-found names pattern c old new b none (other is found) found_is = let e : true ≡ false = sym found_is ∙ is in cc
-
-pub bindings-not_found : (names : List (List ℕ)) (pattern : Syntax) (c : Node) (old new : List Binding) (b : Bool)
-    → Answers (bindings_of names (node_of pattern 0) c) old new b → b ≡ false → None ≡ bindings_of names (root_of pattern) c
-bindings-not_found names pattern c old new b (matched bs is found new_is) not_found = let e : true ≡ false = sym is ∙ not_found in cc
-bindings-not_found names pattern c old new b (other is found) not_found = sym found ∙ ap (λ p. bindings_of names p c) (node_of-root pattern)
 
 abbrev match_of : ℕ → Node → Option (List Binding) → List Found
 match_of n node o = elim o [ Some bs ↦ record { rule = n; node = node.number; bindings = bs } ∷ [] | None ↦ [] ]

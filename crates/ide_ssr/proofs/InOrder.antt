@@ -11,12 +11,12 @@ use Rattle.ssr_syntax_tree.proofs.Lists.{drop_one, slice_get-drop}
 use Rattle.ssr_syntax_tree.proofs.Shared.{IsOf, length-nodes_of, node_of-number}
 use Rattle.ide_ssr_rules.specs.Patterns.{placeholders_of}
 use Rattle.ide_ssr_rules.specs.Resolving.{ResolvedKind}
-use Rattle.ide_ssr.specs.declared.bindings.Binding.{Binding}
-use Rattle.ide_ssr.specs.Bindings.{bindings_of}
+use Rattle.ide_ssr_matching.specs.declared.bindings.Binding.{Binding}
+use Rattle.ide_ssr_matching.specs.Bindings.{bindings_of}
 use Rattle.ide_ssr.specs.Found.{Found, is_permitted, matches_at, found_at, found_in}
 use Rattle.ide_ssr.specs.Order.{Precedes}
 use Rattle.ide_ssr.specs.Private.Order.{IsIn, AreInOrder}
-use Rattle.ide_ssr.proofs.Apart.{bindings_hold, all_bound, all_apart, placeholders_bound}
+use Rattle.ide_ssr_matching.proofs.Shared.{bindings_hold, all_bound, all_apart, placeholders_bound}
 
 -- a match of one of the rules binds the placeholders of its pattern
 pub record IsOfRule (rules : List ResolvedKind) (m : Found) : Type 0 where

@@ -8,14 +8,10 @@ pub mod Tests
 pub mod Tokens
 pub mod Waiting
 pub mod Ordered
-pub mod Bare
-pub mod Pairs
 pub mod Finding
-pub mod Apart
 pub mod InOrder
 pub mod UseItems
 pub mod Complete
-pub mod Agreement
 pub mod OneKept
 pub mod Showing
 pub mod Passed

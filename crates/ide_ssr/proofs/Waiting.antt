@@ -10,7 +10,7 @@ use Rattle.ssr_syntax_tree.proofs.Lists.{drop_one, slice_get-drop}
 use Rattle.ssr_syntax_tree.specs.Syntax.{Syntax, source_of}
 use Rattle.ssr_syntax_tree.specs.Places.{node_of, start_of, end_of}
 use Rattle.ide_ssr_rules.specs.Resolving.{ResolvedKind}
-use Rattle.ide_ssr.specs.declared.bindings.Binding.{Binding}
+use Rattle.ide_ssr_matching.specs.declared.bindings.Binding.{Binding}
 use Rattle.ide_ssr.specs.declared.holders.Holder.{Holder}
 use Rattle.ide_ssr.specs.Found.{Found}
 use Rattle.ide_ssr.specs.Kept.{is_over, holds}

@@ -5,7 +5,7 @@ use Rattle.ssr_syntax_tree.specs.Places.{node_of, start_of, end_of}
 use Rattle.ssr_base.specs.declared.ids.FileId.{FileId}
 use Rattle.ssr_base.specs.Changes.{Change, replaced}
 use Rattle.ide_ssr_rules.specs.Resolving.{ResolvedKind}
-use Rattle.ide_ssr.specs.declared.bindings.Binding.{Binding}
+use Rattle.ide_ssr_matching.specs.declared.bindings.Binding.{Binding}
 use Rattle.ide_ssr.specs.declared.holders.Holder.{Holder}
 use Rattle.ide_ssr.specs.Found.{Found}
 use Rattle.ide_ssr.specs.Kept.{kept_in}

@@ -1,7 +1,7 @@
 -- What holds a kept match, told without a walk over a list: that `holder_of` is this says the law `laws::listing`.
 use Rattle.std.specs.Prelude.{◌≡◌, ◌<◌, ◌⊎◌, true, false, List, length, slice_index_or, Option, Some, None, All}
 use Rattle.ssr_syntax_tree.specs.Syntax.{Syntax}
-use Rattle.ide_ssr.specs.declared.bindings.Binding.{Binding}
+use Rattle.ide_ssr_matching.specs.declared.bindings.Binding.{Binding}
 use Rattle.ide_ssr.specs.declared.holders.Holder.{Holder}
 use Rattle.ide_ssr.specs.Found.{Found}
 use Rattle.ide_ssr.specs.Kept.{is_over, is_within}

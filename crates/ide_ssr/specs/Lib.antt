@@ -1,6 +1,3 @@
-pub mod Matching
-pub mod Bindings
-pub mod Apart
 pub mod Found
 pub mod WholeMatches
 pub mod Kept

@@ -7,7 +7,7 @@ use Rattle.ssr_syntax_lex.specs.declared.range.TextRange.{TextRange}
 use Rattle.ssr_syntax_tree.specs.Syntax.{Syntax, source_of}
 use Rattle.ssr_syntax_tree.specs.Places.{node_of as code_node, text_of as node_text, start_of, end_of}
 use Rattle.ide_ssr_rules.specs.Resolving.{ResolvedKind}
-use Rattle.ide_ssr.specs.declared.bindings.Binding.{Binding}
+use Rattle.ide_ssr_matching.specs.declared.bindings.Binding.{Binding}
 use Rattle.ide_ssr.specs.declared.matches.Match.{Match}
 use Rattle.ide_ssr.specs.declared.matches.PlaceholderMatch.{PlaceholderMatch}
 use Rattle.ide_ssr.specs.Found.{Found}

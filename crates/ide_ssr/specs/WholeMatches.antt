@@ -4,10 +4,10 @@ use Rattle.std.specs.Prelude.{◌≡◌, true, List, Some, slice_get, AllPairs}
 use Rattle.ssr_syntax_tree.specs.Syntax.{Syntax}
 use Rattle.ssr_syntax_tree.specs.Places.{HasNode, Node, node_of, root_of}
 use Rattle.ide_ssr_rules.specs.Resolving.{ResolvedKind}
-use Rattle.ide_ssr.specs.declared.bindings.Binding.{Binding}
-use Rattle.ide_ssr.specs.Apart.{ComesBefore}
+use Rattle.ide_ssr_matching.specs.declared.bindings.Binding.{Binding}
+use Rattle.ide_ssr_matching.specs.Apart.{ComesBefore}
 use Rattle.ide_ssr.specs.Found.{Found, is_permitted}
-use Rattle.ide_ssr.specs.Matching.{Matches}
+use Rattle.ide_ssr_matching.specs.Matching.{Matches}
 
 -- a rule matches as a whole at a node: its pattern's root matches there, and the ranges of its placeholders share no byte
 pub record IsWholeMatch (code : Syntax) (rule : ResolvedKind) (node : Node) (bindings : List Binding) : Type 0 where

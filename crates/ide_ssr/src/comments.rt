@@ -7,7 +7,7 @@ ghost use Rattle.ide_ssr.specs.Private.Order.{IsIn};
 ghost use Rattle.ide_ssr.specs.Matches.{place_of_range, place_of_token};
 ghost use Rattle.ide_ssr.specs.Nesting.{IsBetweenCharacters};
 
-use crate::bindings::Binding;
+use ide_ssr_matching::Binding;
 use crate::found::Found;
 use crate::matches::in_first_file;
 use ssr_base::FileRange;

@@ -11,7 +11,7 @@ ghost use Rattle.ide_ssr.specs.Private.Order.{IsIn, AreHeld};
 ghost use Rattle.ide_ssr.specs.Edits.{Rewrite as RewriteValue, listed_changes, node_replaced, pieces, template_text, replacement, edit_from, file_edits};
 ghost use Rattle.ide_ssr.specs.Private.Pending.{is_at, Places, IsPending};
 
-use crate::bindings::Binding;
+use ide_ssr_matching::Binding;
 use crate::comments::{kept_comments, push_comments};
 use crate::found::Found;
 use crate::holders::Holder;

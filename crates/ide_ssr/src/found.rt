@@ -2,7 +2,7 @@
 
 ghost use Rattle.std.specs.Prelude.{◌≡◌};
 
-use crate::bindings::Binding;
+use ide_ssr_matching::Binding;
 use ssr_syntax_tree::NodeNo;
 use std::marker::Model;
 

@@ -1,11 +1,7 @@
 //! What holds of the words of the contracts, whatever the code: each function here does nothing, and what
 //! it ensures is a law.
-ghost use Rattle.std.specs.Prelude.{◌≡◌, ℕ, Bool, List, Option, Some, All, AllPairs, Contains, filter};
+ghost use Rattle.std.specs.Prelude.{◌≡◌, Bool, List, Option, All, AllPairs, Contains, filter};
 ghost use Rattle.ssr_syntax_tree.specs.Syntax.{Syntax};
-ghost use Rattle.ssr_syntax_tree.specs.Places.{Node};
-ghost use Rattle.ide_ssr.specs.declared.bindings.Binding.{Binding};
-ghost use Rattle.ide_ssr.specs.Matching.{Matches};
-ghost use Rattle.ide_ssr.specs.Bindings.{bindings_of};
 ghost use Rattle.ide_ssr_rules.specs.Resolving.{ResolvedKind};
 ghost use Rattle.ide_ssr.specs.Found.{Found, found_in};
 ghost use Rattle.ide_ssr.specs.Kept.{IsKept, kept, kept_in, is_among};
@@ -15,13 +11,6 @@ ghost use Rattle.ide_ssr.specs.Holding.{IsHeld};
 ghost use Rattle.ide_ssr.specs.Lists.{holder_of};
 ghost use Rattle.ide_ssr.specs.Order.{Precedes};
 ghost use Rattle.ide_ssr.specs.WholeMatches.{IsFound};
-
-/// The bindings that are computed for a match are those with which the node matches, and the other way
-/// round.
-pub fn matching()
-    ensures found { (names : List (List ℕ)) (p c : Node) (bs : List Binding) → bindings_of names p c ≡ Some bs → Matches names p c bs }
-    ensures complete { (names : List (List ℕ)) (p c : Node) (bs : List Binding) → Matches names p c bs → bindings_of names p c ≡ Some bs }
-{}
 
 /// The matches that a search lists are exactly the whole matches of the rules at the nodes that are permitted.
 pub fn finding()

@@ -1,8 +1,6 @@
 //! Structural search and replace.
 #![tactic(auto)]
 
-mod bindings;
-mod children;
 mod comments;
 mod edits;
 mod finder;
@@ -11,7 +9,6 @@ mod holders;
 mod kept;
 pub mod laws;
 mod matches;
-mod matching;
 mod nesting;
 mod rendering;
 #[cfg(test)]

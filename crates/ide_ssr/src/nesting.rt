@@ -12,7 +12,7 @@ ghost use Rattle.ide_ssr.specs.Private.Pending.{is_at, is_open};
 ghost use Rattle.ide_ssr.specs.Nesting.{placeholder_name, HasBinding, Show, Shows};
 ghost use Rattle.ide_ssr.specs.Private.Nesting.{NoneListed, NoneListedFrom};
 
-use crate::bindings::Binding;
+use ide_ssr_matching::Binding;
 use crate::comments::{comment_ranges, kept_comments};
 use crate::holders::Holder;
 use crate::kept::{KeptMatches, is_over};

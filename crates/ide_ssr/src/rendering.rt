@@ -6,7 +6,7 @@ ghost use Rattle.ssr_syntax_tree.specs.Syntax.{node_count, tokens_of};
 ghost use Rattle.ssr_syntax_tree.specs.Places.{HasNode, HasToken, node_of, token_of};
 ghost use Rattle.ide_ssr.specs.Rendering.{piece_of, text_for, plain, is_node, wrapped_text, wrapped, rendered};
 
-use crate::bindings::Binding;
+use ide_ssr_matching::Binding;
 use ide_ssr_rules::ResolvedRule;
 use ssr_syntax::{Fragment, SyntaxError, fragment};
 use ssr_syntax_lex::TextRange;

@@ -2,36 +2,17 @@
 
 ghost use Rattle.std.specs.Prelude.{◌≡◌, ◌+◌, ◌++◌, ◌<◌, IfOk, option_map};
 ghost use Rattle.ssr_syntax_tree.specs.Places.{HasNode, node_of, root_of};
-ghost use Rattle.ide_ssr.specs.Bindings.{bindings_of};
+ghost use Rattle.ide_ssr_matching.specs.Bindings.{bindings_of};
 ghost use Rattle.ide_ssr.specs.Found.{match_at, matches_at, found_at, found_in, is_in_use, is_permitted};
 ghost use Rattle.ide_ssr.specs.Private.Order.{AreInOrder};
 ghost use Rattle.ide_ssr.specs.Private.UseItems.{past_use};
 
-use crate::bindings::Binding;
 use crate::found::Found;
-use crate::matching::node_matches;
+use ide_ssr_matching::bindings;
 use ide_ssr_rules::ResolvedRule;
 use ssr_syntax_lex::SyntaxKind;
 use ssr_syntax_tree::{NodeNo, Tree};
 use std::alloc::{AllocError, Global};
-
-/// What the placeholders of the rule's pattern bind where the node matches it.
-fn bindings(
-    alloc: Global,
-    rule: &ResolvedRule,
-    tree: &Tree,
-    node: NodeNo,
-) -> Result<Option<Vec<Binding>>, AllocError>
-    requires { HasNode tree.now node.0 }
-    ensures { IfOk result (λ bindings. option_map (λ bindings. bindings.items) bindings ≡ bindings_of rule.now.names (root_of rule.now.pattern) (node_of tree.now node.0)) }
-{
-    let mut bindings = Vec::new(alloc);
-    if node_matches(alloc, rule, tree, NodeNo(0), node, &mut bindings)? {
-        Ok(Some(bindings))
-    } else {
-        Ok(None)
-    }
-}
 
 /// Adds the match of a rule, which has this place among the rules, at a node.
 fn add_match(

@@ -3,7 +3,7 @@ use Rattle.std.specs.Prelude.{◌≡◌, true, List, Option, map, All, AllPairs}
 use Rattle.ssr_syntax_tree.specs.Syntax.{Syntax}
 use Rattle.ssr_syntax_tree.specs.Places.{HasNode}
 use Rattle.ide_ssr.specs.declared.holders.Holder.{Holder}
-use Rattle.ide_ssr.specs.Apart.{ComesBefore}
+use Rattle.ide_ssr_matching.specs.Apart.{ComesBefore}
 use Rattle.ide_ssr.specs.Found.{Found}
 use Rattle.ide_ssr.specs.Kept.{lets}
 use Rattle.ide_ssr.specs.Lists.{holder_of}

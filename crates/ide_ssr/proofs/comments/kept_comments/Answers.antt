@@ -4,7 +4,7 @@ use Rattle.std.proofs.lemmas.List.Elements.{All-push}
 use Rattle.ssr_syntax_tree.specs.declared.number.TokenNo.{TokenNo}
 use Rattle.ssr_syntax_tree.specs.Syntax.{token_count}
 use Rattle.ssr_syntax_tree.specs.Places.{HasToken, node_of}
-use Rattle.ide_ssr.specs.declared.bindings.Binding.{Binding}
+use Rattle.ide_ssr_matching.specs.declared.bindings.Binding.{Binding}
 use Rattle.ide_ssr.specs.Comments.{is_kept_comment, kept_comments}
 use Rattle.ide_ssr.proofs.Passed.{passed-taken, passed-left}
 use Rattle.ide_ssr.proofs.comments.kept_comments.Goals as goal

@@ -1,0 +1,6 @@
+pub mod Shared
+mod Bare
+mod Pairs
+mod Agreement
+mod Apart
+mod Roots

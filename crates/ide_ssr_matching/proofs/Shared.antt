@@ -1,0 +1,6 @@
+-- The lemmas that the crates above may cite. The other files of lemmas here are this crate's own.
+
+-- the relation and what is computed along the pattern
+pub use Rattle.ide_ssr_matching.proofs.Agreement.{bindings_of-Matches, Matches-bindings_of}
+-- what a match binds
+pub use Rattle.ide_ssr_matching.proofs.Apart.{HoldNodes, placeholders_bound, bindings_hold, all_bound, all_apart}

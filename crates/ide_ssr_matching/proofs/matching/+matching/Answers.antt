@@ -1,0 +1,65 @@
+use Rattle.std.proofs.Common.{rules, arith, ◌<◌, ◌*◌}
+use Rattle.ssr_syntax_tree.specs.Places.{HasElement, node_of, size_of}
+use Rattle.ide_ssr_matching.proofs.Pairs.{placeholder-from, other_kind-from, paired-starts, paired-turns, paired-differs, paired-short, paired-ends, lent_next, lent_none, none_left, tokens-answer, element-smaller, first-below, element_size}
+use Rattle.ide_ssr_matching.proofs.matching.+matching.Goals as goal
+
+pub node_matches-returns-in-Some : goal.node_matches-returns-in-Some
+node_matches-returns-in-Some t c =
+    placeholder-from _ _ _ _ _ _ _ _ c.requires.c_in c.in-Some.ensures c.in_ok-push.ensures.items
+
+pub node_matches-returns-then-not-is : goal.node_matches-returns-then-not-is
+node_matches-returns-then-not-is t c =
+    other_kind-from _ _ _ _ _ _ _ _ _ _ _ c.pattern-pattern.ensures c.placeholder.ensures c.in_default.not-Some c.kind.ensures c.kind-2.ensures c.is.ensures.same c.if-not-is.true
+
+pub node_matches-loop-first-init : goal.node_matches-loop-first-init
+node_matches-loop-first-init t c =
+    paired-starts _ _ _ _ _ _ _ _ _ _ _ _ _ c.pattern-pattern.ensures c.requires.p_in c.requires.c_in c.placeholder.ensures c.in_default.not-Some c.kind.ensures c.kind-2.ensures c.is.ensures.same c.if-not-is.false c.of-ps.ensures c.of-cs.ensures
+
+pub node_matches-returns-in_default-next_bare-2 : goal.node_matches-returns-in_default-next_bare-2
+node_matches-returns-in_default-next_bare-2 t c =
+    paired-short _ _ _ _ _ c.in-Some-next_bare.first _ _ _ _ _ c.loop-first.invariant
+    (lent_next _ _ c.in-Some-next_bare.first _ _ c.pattern-pattern.ensures c.in-Some-next_bare.ensures.gives)
+    (none_left _ _ _ c.in_default-next_bare-2.ensures.gives c.in_default-next_bare-2.ensures.none)
+
+pub node_matches-pair_matches-requires : goal.node_matches-pair_matches-requires
+node_matches-pair_matches-requires t c =
+    let lt : element_size c.args.rule.now.pattern c.in-Some-next_bare.first < 2 * size_of (node_of c.args.rule.now.pattern c.args.p.0) =
+    element-smaller _ _ _ _ _ c.requires.p_in c.loop-first.invariant.below c.in-Some-next_bare.ensures.kept
+    in
+    let has_p : HasElement c.args.rule.now.pattern c.in-Some-next_bare.first =
+    first-below c.args.rule.now.pattern c.args.p.0 _ _ _ c.loop-first.invariant.below c.in-Some-next_bare.ensures.kept
+    in
+    let has_c : HasElement c.args.code.now c.in-Some-next_bare-2.other =
+    first-below c.args.code.now c.args.c.0 _ _ _ c.loop-first.invariant.beside c.in-Some-next_bare-2.ensures.kept
+    in
+    (omega arith, search (rules, has_p, has_c))
+
+pub node_matches-returns-then-not-branch : goal.node_matches-returns-then-not-branch
+node_matches-returns-then-not-branch t c =
+    paired-differs _ _ _ _ _ c.in-Some-next_bare.first c.in-Some-next_bare-2.other _ _ _ _ _ _ _ _ c.loop-first.invariant
+    (lent_next _ _ c.in-Some-next_bare.first _ _ c.pattern-pattern.ensures c.in-Some-next_bare.ensures.gives)
+    c.in-Some-next_bare-2.ensures.gives
+    c.in_ok-pair_matches.ensures
+    c.if-not-branch.true
+
+pub node_matches-loop-first-preserved : goal.node_matches-loop-first-preserved
+node_matches-loop-first-preserved t c =
+    paired-turns _ _ _ _ _ c.in-Some-next_bare.first c.in-Some-next_bare-2.other _ _ _ _ _ _ _ _ c.loop-first.invariant
+    (lent_next _ _ c.in-Some-next_bare.first _ _ c.pattern-pattern.ensures c.in-Some-next_bare.ensures.gives)
+    c.in-Some-next_bare.ensures.kept
+    c.in-Some-next_bare-2.ensures.gives
+    c.in-Some-next_bare-2.ensures.kept
+    c.in_ok-pair_matches.ensures
+    c.if-not-branch.false
+
+pub node_matches-returns : goal.node_matches-returns
+node_matches-returns t c =
+    paired-ends _ _ _ _ _ c.next_bare-2.result _ _ _ _ _ _ c.loop-first.invariant
+    (lent_none _ _ _ _ c.pattern-pattern.ensures c.in_default-next_bare.ensures.gives c.in_default-next_bare.ensures.none)
+    c.next_bare-2.ensures.gives
+    c.next_bare-2.ensures.none
+    c.is_none.ensures
+
+pub pair_matches-returns-in-Token-Token : goal.pair_matches-returns-in-Token-Token
+pair_matches-returns-in-Token-Token t c =
+    tokens-answer _ _ _ _ _ _ _ _ _ _ c.in-Token-Token.is-0 c.in-Token-Token.is-1 c.pattern.ensures c.tokens_match.ensures

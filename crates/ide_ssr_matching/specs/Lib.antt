@@ -1,0 +1,5 @@
+pub mod Matching
+pub mod Bindings
+pub mod Apart
+pub mod Found
+pub mod Private

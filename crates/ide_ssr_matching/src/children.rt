@@ -1,0 +1,135 @@
+//! A node's children, without those that do not count for a match.
+
+ghost use Rattle.std.specs.Prelude.{◌≡◌, ◌∷◌, ◌++◌, [], true, false, All, IfNone, None, map, option_to_list};
+ghost use Rattle.ssr_syntax_tree.specs.Places.{HasNode, HasElement, node_of, part_of, elements_of};
+ghost use Rattle.ide_ssr_matching.specs.Matching.{is_closing, bare};
+ghost use Rattle.ide_ssr_matching.specs.Private.Children.{has_kind, closes_part, is_trivia_part, solid, siblings_left, AreKept};
+
+use ssr_syntax_lex::SyntaxKind;
+use ssr_syntax_tree::{Children, Element, NodeNo, Tree};
+
+/// The children of a node that are left, while they are gone over.
+#[derive(Drop)]
+pub(crate) struct Siblings<'a> {
+    /// One that was looked at, in front of the others.
+    held: Option<Element>,
+    left: Children<'a>,
+}
+
+/// Whether a closing bracket is of this kind.
+#[tactic(auto, unfolding(crate::specs::Matching::is_closing))]
+fn is_closing(kind: SyntaxKind) -> bool
+    ensures { result ≡ is_closing kind }
+{
+    matches!(
+        kind,
+        SyntaxKind::R_PAREN | SyntaxKind::R_CURLY | SyntaxKind::R_BRACK
+    )
+}
+
+/// Whether a child is trivia.
+fn is_trivia(tree: &Tree, child: Element) -> bool
+    requires { HasElement tree.now child }
+    ensures { result ≡ is_trivia_part (part_of tree.now child) }
+{
+    match child {
+        Element::Token(token) => tree.token_kind(token).is_trivia(),
+        Element::Node(_) => false,
+    }
+}
+
+/// Whether a child is a comma.
+fn is_comma(tree: &Tree, child: Element) -> bool
+    requires { HasElement tree.now child }
+    ensures { result ≡ has_kind SyntaxKind.COMMA (part_of tree.now child) }
+{
+    match child {
+        Element::Token(token) => tree.token_kind(token).is(SyntaxKind::COMMA),
+        Element::Node(_) => false,
+    }
+}
+
+/// Whether a child is a bracket directly before which a comma may stand or not.
+fn closes(tree: &Tree, child: Element) -> bool
+    requires { HasElement tree.now child }
+    ensures { result ≡ closes_part (part_of tree.now child) }
+{
+    match child {
+        Element::Token(token) => is_closing(tree.token_kind(token)),
+        Element::Node(_) => false,
+    }
+}
+
+impl<'a> Siblings<'a> {
+    /// The children of a node.
+    pub(crate) fn of(tree: &'a Tree, node: NodeNo) -> Siblings<'a>
+        requires { HasNode tree.now node.0 }
+        ensures { siblings_left result ≡ elements_of (node_of tree.now node.0) }
+    {
+        Siblings {
+            held: None,
+            left: tree.children(node),
+        }
+    }
+
+    /// The next one.
+    fn advance(&mut self) -> Option<Element>
+        ensures gives { siblings_left self.old ≡ option_to_list result ++ siblings_left self.new }
+        ensures none { IfNone result (siblings_left self.new ≡ []) }
+        ensures held { self.new.held ≡ None }
+    {
+        match self.held.take() {
+            Some(held) => Some(held),
+            None => self.left.next(),
+        }
+    }
+
+    /// The next one that is no trivia.
+    fn next_solid(&mut self, tree: &Tree) -> Option<Element>
+        requires { All (HasElement tree.now) (siblings_left self.old) }
+        ensures gives { solid (map (part_of tree.now) (siblings_left self.old)) ≡ map (part_of tree.now) (option_to_list result ++ siblings_left self.new) }
+        ensures kept { AreKept (siblings_left self.old) (option_to_list result ++ siblings_left self.new) }
+        ensures none { IfNone result (siblings_left self.new ≡ []) }
+        ensures held { self.new.held ≡ None }
+    {
+        while let Some(child) = self.advance() {
+            if !is_trivia(tree, child) {
+                return Some(child);
+            }
+        }
+        None
+    }
+
+    /// What counts next for a match where a comma has come: the comma, but directly, trivia aside, before a closing
+    /// bracket that bracket.
+    fn behind_comma(&mut self, tree: &Tree, comma: Element) -> Element
+        requires has { All (HasElement tree.now) (siblings_left self.old) }
+        requires comma { has_kind SyntaxKind.COMMA (part_of tree.now comma) ≡ true }
+        requires no_trivia { is_trivia_part (part_of tree.now comma) ≡ false }
+        ensures gives { bare (part_of tree.now comma ∷ map (part_of tree.now) (siblings_left self.old)) ≡ part_of tree.now result ∷ bare (map (part_of tree.now) (siblings_left self.new)) }
+        ensures kept { AreKept (comma ∷ siblings_left self.old) (result ∷ siblings_left self.new) }
+    {
+        let Some(behind) = self.next_solid(tree) else {
+            return comma;
+        };
+        if closes(tree, behind) {
+            return behind;
+        }
+        self.held = Some(behind);
+        comma
+    }
+
+    /// The next one that counts for a match: no trivia, and no comma directly, trivia aside, before a closing bracket.
+    pub(crate) fn next_bare(&mut self, tree: &Tree) -> Option<Element>
+        requires { All (HasElement tree.now) (siblings_left self.old) }
+        ensures gives { bare (map (part_of tree.now) (siblings_left self.old)) ≡ (map (part_of tree.now) (option_to_list result) ++ bare (map (part_of tree.now) (siblings_left self.new))) }
+        ensures none { IfNone result (siblings_left self.new ≡ []) }
+        ensures kept { AreKept (siblings_left self.old) (option_to_list result ++ siblings_left self.new) }
+    {
+        let first = self.next_solid(tree)?;
+        if !is_comma(tree, first) {
+            return Some(first);
+        }
+        Some(self.behind_comma(tree, first))
+    }
+}

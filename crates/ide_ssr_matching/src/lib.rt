@@ -1,0 +1,12 @@
+//! Matching: whether a node of code has the shape of a rule's pattern, and what the placeholders hold then.
+#![tactic(auto)]
+
+mod bindings;
+mod children;
+mod found;
+pub mod laws;
+mod matching;
+
+pub use bindings::Binding;
+pub use found::Found;
+pub use matching::bindings;
