@@ -8,7 +8,7 @@ ghost use Rattle.ide_ssr.specs.Private.Order.{AreInOrder};
 ghost use Rattle.ide_ssr.specs.Private.UseItems.{past_use};
 
 use crate::found::Found;
-use ide_ssr_matching::bindings;
+use ide_ssr_matching::match_node;
 use ide_ssr_rules::ResolvedRule;
 use ssr_syntax_lex::SyntaxKind;
 use ssr_syntax_tree::{NodeNo, Tree};
@@ -26,7 +26,7 @@ fn add_match(
     requires { HasNode tree.now node.0 }
     ensures { IfOk result (λ _. found.new.items ≡ found.old.items ++ match_at place rule.now (node_of tree.now node.0)) }
 {
-    let Some(bindings) = bindings(alloc, rule, tree, node)? else {
+    let Some(bindings) = match_node(alloc, rule, tree, node)? else {
         return Ok(());
     };
     found.push(Found::new(place, node, bindings))?;

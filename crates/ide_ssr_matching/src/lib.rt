@@ -9,4 +9,4 @@ mod matching;
 
 pub use bindings::Binding;
 pub use found::Found;
-pub use matching::bindings;
+pub use matching::match_node;

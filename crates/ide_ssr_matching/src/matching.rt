@@ -82,7 +82,7 @@ fn tokens_match(pattern: &Tree, p: TokenNo, code: &Tree, c: TokenNo) -> bool
 }
 
 /// What the placeholders of the rule's pattern bind where the node matches it.
-pub fn bindings(
+pub fn match_node(
     alloc: Global,
     rule: &ResolvedRule,
     tree: &Tree,

@@ -1,5 +1,5 @@
 use Rattle.ide_ssr_matching.proofs.Roots.{bindings-found, bindings-not_found}
-use Rattle.ide_ssr_matching.proofs.matching.bindings.Goals as goal
+use Rattle.ide_ssr_matching.proofs.matching.match_node.Goals as goal
 
 pub returns-then-branch : goal.returns-then-branch
 returns-then-branch c = bindings-found _ _ _ _ _ _ c.new-bindings.ensures.items c.in_ok-node_matches.ensures c.if-branch.true
