@@ -23,7 +23,7 @@ and_then (Ok x) next value is = (x, refl, is)
 and_then (Err e) next value is = cc
 
 -- a tree that is answered was read
-was_read : (why : SyntaxError → WorkspaceError) (r : Result Syntax SyntaxError) (tree : Syntax) → read_as why r ≡ Ok tree → r ≡ Ok tree
+pub was_read : (why : SyntaxError → WorkspaceError) (r : Result Syntax SyntaxError) (tree : Syntax) → read_as why r ≡ Ok tree → r ≡ Ok tree
 was_read why (Ok s) tree is = cc
 was_read why (Err syntax.Lex) tree is = cc
 was_read why (Err syntax.NoTree) tree is = cc

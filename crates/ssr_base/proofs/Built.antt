@@ -9,30 +9,36 @@ use Rattle.std.proofs.lemmas.List.Sums.{AllPass-from_list_all}
 use Rattle.std.proofs.lemmas.Str.{IsUtf8-string_bytes}
 use Rattle.std.specs.Prelude.{nat_lt}
 use Rattle.std.specs.Global.{Global}
-use Rattle.std.specs.List.{AllPass, position_from}
+use Rattle.std.specs.List.{AllPass, list_all, position_from}
 use Rattle.std.specs.Option.{option_map}
+use Rattle.std.specs.Str.{IsUtf8}
 use Rattle.ssr_syntax_tree.specs.Syntax.{Syntax, tokens_of, depth_of}
 use Rattle.ssr_syntax_tree.specs.Places.{node_of}
 use Rattle.ssr_syntax_tree.proofs.Shared.{length-tokens_in}
 use Rattle.ssr_syntax_lex.specs.declared.kinds.SyntaxKind.TheVariants as k
-use Rattle.ssr_syntax.specs.Reading.{most_deep}
+use Rattle.ssr_syntax.specs.declared.expansions.ExpToken.{ExpToken}
+use Rattle.ssr_syntax.specs.Reading.{file_reading, most_deep}
+use Rattle.ssr_syntax.specs.Expansions.{expansion_reading}
 use Rattle.ssr_base.specs.declared.ids.NodeId.{NodeId}
 use Rattle.ssr_base.specs.declared.building.Expansion.{Expansion}
 use Rattle.ssr_base.specs.declared.workspace_error.WorkspaceError.{WorkspaceError}
 use Rattle.ssr_base.specs.declared.workspace_error.WorkspaceError.TheVariants as errors
 use Rattle.ssr_base.specs.Workspace.{Expanded, Workspace, Planted, of_file, of_expansion, trees, planted, nesting, text_at_top, same_id, node_id, expansion_of}
-use Rattle.ssr_base.specs.Building.{most_trees, most_nested, ◌>>=◌, unless, in_turn, fits_origin, origin_of, joined_origins, with_file, with_expansion, no_tree, built}
-use Rattle.ssr_base.specs.Built.{IsNodeOf, IsMacroCall, CallsAreEarlier, HasOrigins, HasTexts, IsBuilt}
+use Rattle.ssr_base.specs.Building.{most_trees, most_nested, ◌>>=◌, unless, in_turn, read_as, checked_call, fits_origin, origin_of, joined_origins, with_file, with_expansion, no_tree, built}
+use Rattle.ssr_base.specs.Built.{IsMacroCall, CallsAreEarlier, HasOrigins, HasTexts, IsBuilt}
+use Rattle.ssr_base.specs.Private.Built.{IsOfCall}
 use Rattle.ssr_base.proofs.Trees.{trees_more, same_id-itself}
 use Rattle.ssr_base.proofs.Joining.{length-joined_origins}
 use Rattle.ssr_base.proofs.CoverSpans.{fit_joined}
 use Rattle.ssr_base.proofs.Planting.{some_and, known_more, text_more, nesting_more}
 use Rattle.ssr_base.proofs.Readings.{file_shallow, expansion_shallow, file_texts}
-use Rattle.ssr_base.proofs.Added.{and_then, adds_file, AddsExpansion, adds_expansion}
+use Rattle.ssr_base.proofs.Chosen.{IsChosen, chosen_free}
+use Rattle.ssr_base.proofs.Calls.{accepted}
+use Rattle.ssr_base.proofs.Added.{and_then, was_read, adds_file, adds_expansion}
 
 -- ** Files.
 
-abbrev only_files : List Syntax → Workspace
+abbrev pub only_files : List Syntax → Workspace
 only_files files = record { files = files; expansions = [] }
 
 trees_file : (files : List Syntax) (tree : Syntax) → trees (only_files (files ++ tree ∷ [])) ≡ of_file tree ∷ trees (only_files files)
@@ -47,7 +53,7 @@ no_trees : trees no_tree ≡ []
 unfolding trees
 no_trees = refl
 
-built_none : IsBuilt no_tree
+pub built_none : IsBuilt no_tree
 built_none = record {
   few = omega arith;
   grown = subst CallsAreEarlier (sym no_trees) tt;
@@ -77,6 +83,11 @@ built_file files tree room b shallow text =
       texts = All-push HasTexts files tree b.texts text;
     }
 
+-- one file more that is read
+pub built_read : (files : List Syntax) (text : List ℕ) (tree : Syntax) → length files + 1 ≤ most_trees → IsUtf8 text → file_reading text ≡ Ok tree
+    → IsBuilt (only_files files) → IsBuilt (only_files (files ++ tree ∷ []))
+built_read files text tree room utf8 read b = built_file files tree room b (file_shallow text tree read) (file_texts text tree utf8 read)
+
 -- the workspace of the files that are read
 record OfFiles (count : ℕ) (w : Workspace) : Type 0 where
   is_built : IsBuilt w
@@ -92,20 +103,11 @@ of_files files (text ∷ texts) w few b is =
     let adds = adds_file (only_files files) step.0 text step.1 in
     let tree = adds.tree in
     let count = length-append files (tree ∷ []) in
-    let next = built_file files tree (omega arith) b (file_shallow (string_bytes text) tree adds.read) (file_texts (string_bytes text) tree (IsUtf8-string_bytes text) adds.read) in
+    let next = built_read files (string_bytes text) tree (omega arith) (IsUtf8-string_bytes text) adds.read b in
     subst (λ n. OfFiles n w) (let same : length (files ++ tree ∷ []) + length texts ≡ length files + length (text ∷ texts) = omega arith in same)
     (of_files (files ++ tree ∷ []) texts w (omega arith) next (ap (λ grown. in_turn with_file grown texts) adds.is ∙ step.2))
 
 -- ** Expansions.
-
--- an expansion that is added to a workspace
-record IsAdded (w : Workspace) (e : Expanded) : Type 0 where
-  node : IsNodeOf (trees w) e.call
-  macro_call : IsMacroCall (trees w) e.call
-  free : expansion_of w e.call ≡ None
-  nested : 1 + nesting (trees w) e.call.tree ≤ most_nested
-  has : HasOrigins (trees w) e
-  shallow : depth_of e.syntax ≤ most_deep
 
 -- none of the calls is one that has no expansion yet
 not_found : {A : Type 0} (test : A → Bool) (i : ℕ) (xs : List A) → position_from test i xs ≡ None → All (λ x. test x ≡ false) xs
@@ -139,9 +141,10 @@ has_more q earlier e grown call has =
           subst (λ text. AllPass (fits_origin text) e.origins) (sym (text_more q earlier e.call.tree at.0 grown at.1)) has.fitting;
     }
 
-built_expansion : (w : Workspace) (e : Expanded) → length w.files + length w.expansions + 1 ≤ most_trees → IsBuilt w → IsAdded w e
+pub built_expansion : (w : Workspace) (e : Expanded) → length w.files + length w.expansions + 1 ≤ most_trees → IsBuilt w → IsOfCall w e
+    → expansion_of w e.call ≡ None → 1 + nesting (trees w) e.call.tree ≤ most_nested
     → IsBuilt (record { files = w.files; expansions = w.expansions ++ e ∷ [] })
-built_expansion w e room b added =
+built_expansion w e room b added free deep =
     let earlier = trees w in
     let q = of_expansion e in
     let more = trees_more w.files w.expansions e in
@@ -157,41 +160,48 @@ built_expansion w e room b added =
           (All-push (λ x. IsMacroCall (q ∷ earlier) x.call) w.expansions e
           (All-weaker (λ x. IsMacroCall earlier x.call) (λ x. IsMacroCall (q ∷ earlier) x.call) call_more w.expansions b.calls)
           (call_more e added.macro_call));
-      once = all_pairs_push (λ (a b : Expanded). a.call ≢ b.call) w.expansions e b.once (λ i d within. other_calls w e.call added.free i d within);
-      nested = λ t. subst (λ ts. nesting ts t ≤ most_nested) (sym more) (nesting_more q earlier most_nested b.nested added.nested t);
+      once = all_pairs_push (λ (a b : Expanded). a.call ≢ b.call) w.expansions e b.once (λ i d within. other_calls w e.call free i d within);
+      nested = λ t. subst (λ ts. nesting ts t ≤ most_nested) (sym more) (nesting_more q earlier most_nested b.nested deep t);
       origins =
           subst Origins (sym more)
           (All-push (HasOrigins (q ∷ earlier)) w.expansions e
           (All-weaker (λ x. IsMacroCall earlier x.call × HasOrigins earlier x) (HasOrigins (q ∷ earlier))
           (λ x known. has_more q earlier x b.grown known.0 known.1) w.expansions
           (λ i d within. (b.calls i d within, b.origins i d within)))
-          (has_more q earlier e b.grown added.macro_call added.has));
+          (has_more q earlier e b.grown added.macro_call added.origins));
       shallow =
           subst (All (λ p. depth_of p.syntax ≤ most_deep)) (sym more)
           (All-cons (λ p. depth_of p.syntax ≤ most_deep) q earlier added.shallow b.shallow);
       texts = b.texts;
     }
 
-abbrev expanded_by : {w next : Workspace} {x : Expansion} → AddsExpansion w next x → Expanded
-expanded_by {x} adds = record { call = adds.call; syntax = adds.tree; origins = joined_origins (tokens_of adds.tree) x.tokens.items }
-
-is_added : (w next : Workspace) (x : Expansion) (adds : AddsExpansion w next x) → IsAdded w (expanded_by adds)
-is_added w next x adds =
-    let text = text_at_top (trees w) adds.call.tree in
+-- what is known of an expansion whose call may be expanded and whose tokens are read
+pub is_of_call : (w : Workspace) (x : Expansion) (call : NodeId) (tree : Syntax) → IsChosen w call
+    → list_all (fits_origin (text_at_top (trees w) call.tree)) (map origin_of x.tokens.items) ≡ true
+    → expansion_reading x.kind x.tokens.items ≡ Ok tree
+    → IsOfCall w (record { call = call; syntax = tree; origins = joined_origins (tokens_of tree) x.tokens.items })
+is_of_call w x call tree chosen fitting read =
+    let text = text_at_top (trees w) call.tree in
     let tokens = x.tokens.items in
     record {
-      node = adds.chosen.node;
-      macro_call = adds.chosen.macro_call;
-      free = adds.free;
-      nested = adds.nested;
-      has = record {
-        counted = length-joined_origins (tokens_of adds.tree) tokens ∙ length-tokens_in adds.tree.children;
+      node = chosen.node;
+      macro_call = chosen.macro_call;
+      origins = record {
+        counted = length-joined_origins (tokens_of tree) tokens ∙ length-tokens_in tree.children;
         fitting =
-            fit_joined text (tokens_of adds.tree) tokens
-            (AllPass-from_list_all (λ token. fits_origin text (origin_of token)) tokens (sym (list_all-map (fits_origin text) origin_of tokens) ∙ adds.fitting));
+            fit_joined text (tokens_of tree) tokens
+            (AllPass-from_list_all (λ token. fits_origin text (origin_of token)) tokens (sym (list_all-map (fits_origin text) origin_of tokens) ∙ fitting));
       };
-      shallow = expansion_shallow x.kind tokens adds.tree adds.read;
+      shallow = expansion_shallow x.kind tokens tree read;
     }
+
+pub read_of_call : (w : Workspace) (x : Expansion) (call : NodeId) (tree : Syntax) (number : ℕ) (tokens : List ExpToken) → checked_call w x ≡ Ok call
+    → tokens ≡ x.tokens.items → read_as (errors.Expansion number) (expansion_reading x.kind tokens) ≡ Ok tree
+    → IsOfCall w (record { call = call; syntax = tree; origins = joined_origins (tokens_of tree) x.tokens.items })
+read_of_call w x call tree number tokens checked same read =
+    let known = accepted w x call checked in
+    is_of_call w x call tree (chosen_free w x.call.0 x.call.1 call known.0).0 known.2
+    (ap (expansion_reading x.kind) (sym same) ∙ was_read (errors.Expansion number) (expansion_reading x.kind tokens) tree read)
 
 of_expansions : (w : Workspace) (xs : List Expansion) (last : Workspace) → length w.files + length w.expansions + length xs ≤ most_trees → IsBuilt w
     → in_turn with_expansion w xs ≡ Ok last → IsBuilt last
@@ -199,10 +209,10 @@ of_expansions w [] last few b is = let same : w ≡ last = cc in subst IsBuilt s
 of_expansions w (x ∷ xs) last few b is =
     let step = and_then (with_expansion w x) (λ grown. in_turn with_expansion grown xs) last is in
     let adds = adds_expansion w step.0 x step.1 in
-    let e = expanded_by adds in
+    let e : Expanded = record { call = adds.call; syntax = adds.tree; origins = joined_origins (tokens_of adds.tree) x.tokens.items } in
     let count = length-append w.expansions (e ∷ []) in
     of_expansions (record { files = w.files; expansions = w.expansions ++ e ∷ [] }) xs last (omega arith)
-    (built_expansion w e (omega arith) b (is_added w step.0 x adds))
+    (built_expansion w e (omega arith) b (is_of_call w x adds.call adds.tree adds.chosen adds.fitting adds.read) adds.free adds.nested)
     (ap (λ grown. in_turn with_expansion grown xs) adds.is ∙ step.2)
 
 -- ** All.

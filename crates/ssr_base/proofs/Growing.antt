@@ -15,9 +15,12 @@ use Rattle.ssr_base.specs.contracts.ids.NodeIdOrd.TheImpl as id_order
 use Rattle.ssr_base.specs.declared.workspace.Expanded.{Expanded as Stored}
 use Rattle.ssr_base.specs.Workspace.{Expanded, Workspace, of_expansion, trees, file_of, nesting, same_id, node_id, expansion_of}
 use Rattle.ssr_base.specs.Private.Covers.{plain_origin, AreCovers}
-use Rattle.ssr_base.specs.Building.{most_trees}
+use Rattle.ssr_base.specs.Building.{most_trees, most_nested}
+use Rattle.ssr_base.specs.Built.{IsBuilt}
+use Rattle.ssr_base.specs.Private.Built.{IsOfCall}
 use Rattle.ssr_base.specs.declared.workspace.Workspace.TheInside.{Inside}
 use Rattle.ssr_base.specs.Private.Stored.{expanded_of, workspace_of, IsStoredAt, IsStored}
+use Rattle.ssr_base.proofs.Built.{built_expansion}
 use Rattle.ssr_base.proofs.Trees.{same_nodes, slice_get-append_left, slice_get_push, length-trees, trees_more, file_of-earlier, nesting-earlier}
 
 -- what the stored expansions show
@@ -184,10 +187,11 @@ no_place files es call none = placed (place_of call es) none
 pub stored_more : (a b : Inside) (w : Workspace) (new : Stored) (number : ℕ) → IsStored a → workspace_of a ≡ w
     → b.files.items ≡ a.files.items → b.expansions.items ≡ a.expansions.items ++ new ∷ []
     → ((q : NodeId) → get ((id_order.ghosts).cmp) b.calls q ≡ cond (is_at ((id_order.ghosts).cmp new.call) q) (Some number) (get ((id_order.ghosts).cmp) a.calls q))
-    → length w.files + length w.expansions < most_trees → expansion_of w new.call ≡ None
+    → length w.files + length w.expansions < most_trees → expansion_of w new.call ≡ None → nesting (trees w) new.call.tree < most_nested → IsOfCall w (expanded_of new)
     → AreCovers new.tree (map plain_origin new.origins.items) new.covers.items
     → new.file ≡ file_of (trees w) new.call.tree → new.nesting ≡ nesting (trees w) new.call.tree + 1 → number ≡ length w.expansions → IsStored b
-stored_more a b w new number stored view files expansions updates room free covers file nested is = record {
+stored_more a b w new number stored view files expansions updates room free deep of_call covers file nested is = record {
+  built = subst IsBuilt (sym grown) (built_expansion w (expanded_of new) (omega arith) (subst IsBuilt view stored.built) of_call free (omega arith));
   few = omega (arith, ap length files, ap length expansions, length-append es (new ∷ []), count, ap (λ w. length w.files) view, room);
   each =
       subst (λ (fs : List Syntax). Each fs b.expansions.items) (sym files)
@@ -202,6 +206,14 @@ stored_more a b w new number stored view files expansions updates room free cove
   where
     es : List Stored
     es = a.expansions.items
+
+    -- what is stored then is the workspace with the expansion
+    grown : workspace_of b ≡ record { files = w.files; expansions = w.expansions ++ expanded_of new ∷ [] }
+    grown =
+        ap (λ (fs : List Syntax). shown fs b.expansions.items) files
+        ∙ ap (shown a.files.items) expansions
+        ∙ ap (λ (xs : List Expanded). record { files = a.files.items; expansions = xs }) (map-append expanded_of es (new ∷ []))
+        ∙ ap (λ (old : Workspace). record { files = old.files; expansions = old.expansions ++ expanded_of new ∷ [] }) view
 
     count : length es ≡ length w.expansions
     count = sym (length-map es expanded_of) ∙ ap (λ w. length w.expansions) view

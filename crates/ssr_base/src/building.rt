@@ -11,7 +11,7 @@ ghost use Rattle.ssr_syntax.specs.Expansions.{expansion_reading};
 ghost use Rattle.ssr_base.specs.Origins.{covered};
 ghost use Rattle.ssr_base.specs.Building.{most_trees, read_as, with_file, with_expansion, with_tree, in_turn, no_tree, is_call, first_call, free_call, checked_call, fits_origin, origin_of, count_in, cover_of_tokens, joined_origins, Gives, Answers};
 ghost use Rattle.ssr_base.specs.Private.Covers.{plain_origin};
-ghost use Rattle.ssr_base.specs.Private.Built.{NodesBefore, NodesFrom, IsFree};
+ghost use Rattle.ssr_base.specs.Private.Built.{NodesBefore, NodesFrom, IsFree, IsOfCall};
 
 use crate::covers::{Cover, covers};
 use crate::ids::NodeId;
@@ -293,6 +293,7 @@ impl Workspace {
     ) -> Result<Workspace, AllocError>
         requires room { length self.files + length self.expansions < most_trees }
         requires free { IsFree self call }
+        requires of_call { IsOfCall self (record { call = call; syntax = tree; origins = map plain_origin origins.items }) }
         requires counted { length origins.items ≡ token_count tree.children }
         ensures { IfOk result (λ w. w ≡ with_tree self call tree (map plain_origin origins.items)) }
     {

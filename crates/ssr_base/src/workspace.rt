@@ -7,6 +7,7 @@ ghost use Rattle.std.specs.Option.{option_copied, option_map, option_and_then};
 ghost use Rattle.ssr_syntax_tree.specs.Syntax.{source_of};
 ghost use Rattle.ssr_base.specs.Texts.{text_between};
 ghost use Rattle.ssr_base.specs.Workspace.{trees, planted, tree_of, file_of, nesting, text_at_top, text_of, above, expansion_of, has_node, own_span, original, original_range, file_span_of};
+ghost use Rattle.ssr_base.specs.Built.{IsBuilt};
 ghost use Rattle.ssr_base.specs.Private.Stored.{IsStoredAt};
 
 use crate::covers::Cover;
@@ -82,7 +83,8 @@ fn own_range(tree: &Tree, node: NodeNo) -> Option<TextRange>
 impl Workspace {
     /// How many files there are.
     pub fn file_count(&self) -> u32
-        ensures { result ≡ length self.now.files }
+        ensures count { result ≡ length self.now.files }
+        ensures built { IsBuilt self.now }
     {
         self.files.len() as u32
     }

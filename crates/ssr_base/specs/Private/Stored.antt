@@ -8,6 +8,7 @@ use Rattle.ssr_base.specs.declared.workspace.Expanded.{Expanded as Stored}
 use Rattle.ssr_base.specs.declared.workspace.Workspace.TheInside.{Inside}
 use Rattle.ssr_base.specs.Private.Covers.{plain_origin, AreCovers}
 use Rattle.ssr_base.specs.Building.{most_trees}
+use Rattle.ssr_base.specs.Built.{IsBuilt}
 use Rattle.ssr_base.specs.Workspace.{Expanded, Workspace, trees, file_of, nesting, same_id}
 
 abbrev pub expanded_of : Stored → Expanded
@@ -25,6 +26,7 @@ pub record IsStoredAt (w : Workspace) (tree : ℕ) (e : Stored) : Type 0 where
   pub nesting : e.nesting ≡ nesting (trees w) tree
 
 pub record IsStored (w : Inside) : Type 0 where
+  pub built : IsBuilt (workspace_of w)
   pub few : length w.files.items + length w.expansions.items ≤ most_trees
   pub each : (tree : ℕ) (e : Stored) → length w.files.items ≤ tree → slice_get w.expansions.items (tree - length w.files.items) ≡ Some e → IsStoredAt (workspace_of w) tree e
   pub calls : (call : NodeId) → get ((id_order.ghosts).cmp) w.calls call ≡ position_from (λ e. same_id call e.call) 0 (map expanded_of w.expansions.items)

@@ -19,4 +19,4 @@ invariant_of-result c =
     subst (λ os. AreCovers c.args.tree (map plain_origin os) c.in_ok-covers.covers.items) c.deref.ensures.value c.in_ok-covers.ensures in
     stored_more c.self.inside (record { files = c.self.inside.files; expansions = c.push.new.self; calls = c.insert.new.self }) c.args.self new
     c.expansion_count-number.result c.self.invariant c.self.view_is refl c.in_ok-push.ensures.items c.in_ok-insert.ensures.updates.0 c.requires.room
-    c.requires.free.free covers c.file_of-file.ensures (ap (λ n. n + 1) c.nesting-nesting.ensures) c.expansion_count-number.ensures
+    c.requires.free.free c.requires.free.nested c.requires.of_call covers c.file_of-file.ensures (ap (λ n. n + 1) c.nesting-nesting.ensures) c.expansion_count-number.ensures
