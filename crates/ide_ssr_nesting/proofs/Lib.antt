@@ -1,0 +1,7 @@
+mod Parents
+mod Nodes
+mod Moved
+mod Put
+mod Laid
+mod Above
+mod Compared

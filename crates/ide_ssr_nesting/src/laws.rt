@@ -1,0 +1,12 @@
+//! What holds of the words of the contracts, whatever the code: each function here does nothing, and what it ensures is a law.
+ghost use Rattle.ssr_base.specs.Workspace.{Workspace as WorkspaceValue, trees};
+ghost use Rattle.ssr_base.specs.Built.{IsBuilt};
+ghost use Rattle.ide_ssr_nesting.specs.Laws.{BelowIsBetween, OnePlaceEach, OneWayUp};
+
+/// What stands below a node are the nodes between its place and its end, and no two nodes have one place. Of two nodes above a
+/// third one, one stands above the other, or they are the same.
+pub fn ordering()
+    ensures below { (w : WorkspaceValue) → IsBuilt w → BelowIsBetween (trees w) }
+    ensures one { (w : WorkspaceValue) → IsBuilt w → OnePlaceEach (trees w) }
+    ensures one_way { (w : WorkspaceValue) → IsBuilt w → OneWayUp (trees w) }
+{}
