@@ -5,3 +5,11 @@ mod Put
 mod Laid
 mod Above
 mod Compared
+mod Elements
+mod Over
+mod Under
+mod Nearest
+mod Keeping
+mod Ahead
+mod Sorted
+mod OneKept

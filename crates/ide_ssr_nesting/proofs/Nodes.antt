@@ -35,14 +35,6 @@ node_within [] x node = absurd node
 node_within (p ∷ earlier) x node =
     elim (first_or_earlier p earlier x node) [ inl here ↦ omega (arith, here.0) | inr other ↦ omega (arith, node_within earlier x other.1) ]
 
-pub node_more : (p : Planted) (earlier : List Planted) (x : NodeId) → IsNodeOf earlier x → IsNodeOf (p ∷ earlier) x
-node_more p earlier x node =
-    let within = node_within earlier x node in
-    subst (λ o. IsSomeAnd o (HasNumber x)) (sym (planted_earlier p earlier x.tree (λ e. omega arith))) node
-
-pub node_first : (p : Planted) (earlier : List Planted) (x : NodeId) → x.tree ≡ length earlier → HasNode p.syntax x.node.0 → IsNodeOf (p ∷ earlier) x
-node_first p earlier x here has = subst (λ o. IsSomeAnd o (HasNumber x)) (sym (planted_first p earlier x.tree here)) has
-
 -- ** What stands above.
 
 -- what is told is told of a node

@@ -1,7 +1,7 @@
 //! What holds of the words of the contracts, whatever the code: each function here does nothing, and what it ensures is a law.
 ghost use Rattle.ssr_base.specs.Workspace.{Workspace as WorkspaceValue, trees};
 ghost use Rattle.ssr_base.specs.Built.{IsBuilt};
-ghost use Rattle.ide_ssr_nesting.specs.Laws.{BelowIsBetween, OnePlaceEach, OneWayUp};
+ghost use Rattle.ide_ssr_nesting.specs.Laws.{BelowIsBetween, OnePlaceEach, OneWayUp, OneKept, LiesInOnePlaceholder};
 
 /// What stands below a node are the nodes between its place and its end, and no two nodes have one place. Of two nodes above a
 /// third one, one stands above the other, or they are the same.
@@ -9,4 +9,11 @@ pub fn ordering()
     ensures below { (w : WorkspaceValue) → IsBuilt w → BelowIsBetween (trees w) }
     ensures one { (w : WorkspaceValue) → IsBuilt w → OnePlaceEach (trees w) }
     ensures one_way { (w : WorkspaceValue) → IsBuilt w → OneWayUp (trees w) }
+{}
+
+/// Which matches are kept doesn't depend on the order in which they are found, nor on finding one twice. A kept match lies in
+/// exactly one placeholder of each kept match over it.
+pub fn keeping()
+    ensures one_kept { (w : WorkspaceValue) → IsBuilt w → OneKept (trees w) }
+    ensures one_placeholder { (w : WorkspaceValue) → IsBuilt w → LiesInOnePlaceholder (trees w) }
 {}

@@ -1,0 +1,9 @@
+use Rattle.ssr_base.specs.Workspace.{trees}
+use Rattle.ide_ssr_nesting.proofs.OneKept.{one_kept, lies_in_one}
+use Rattle.ide_ssr_nesting.proofs.laws.keeping.Goals as goal
+
+pub returns-clause-one_kept : goal.returns-clause-one_kept
+returns-clause-one_kept c w built = one_kept (trees w) built.grown
+
+pub returns-clause-one_placeholder : goal.returns-clause-one_placeholder
+returns-clause-one_placeholder c w built = lies_in_one (trees w) built.grown

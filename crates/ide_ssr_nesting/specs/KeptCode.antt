@@ -1,0 +1,29 @@
+-- For the logic alone: how it stores kept matches. There is nothing to believe here.
+use Rattle.std.specs.Prelude.{ℕ, List, Option, refl}
+use Rattle.std.specs.Coded.{Coded, code_by, coded×, coded_list, coded_option, coded_ℕ}
+use Rattle.ssr_base.specs.declared.ids.NodeId.{NodeId}
+use Rattle.ssr_base.specs.Workspace.{Workspace}
+use Rattle.ssr_base.specs.WorkspaceCode.{id_code, workspace_code}
+use Rattle.ide_ssr_matching.specs.declared.bindings.Binding.{Binding}
+use Rattle.ide_ssr_matching.specs.Found.{Found}
+use Rattle.ide_ssr_nesting.specs.declared.holders.Holder.{Holder}
+use Rattle.ide_ssr_nesting.specs.Holding.{Kept}
+
+abbrev pub binding_code : Coded Binding
+binding_code =
+    code_by (ℕ × ℕ) (coded× coded_ℕ coded_ℕ) (λ b. (b.placeholder, b.node.0))
+    (λ c. record { placeholder = c.0; node = record { 0 = c.1 } }) (λ _. refl)
+
+abbrev pub found_code : Coded Found
+found_code =
+    code_by (ℕ × (NodeId × List Binding)) (coded× coded_ℕ (coded× id_code (coded_list binding_code)))
+    (λ m. (m.rule, (m.node, m.bindings))) (λ c. record { rule = c.0; node = c.1.0; bindings = c.1.1 }) (λ _. refl)
+
+abbrev pub holder_code : Coded Holder
+holder_code =
+    code_by (ℕ × ℕ) (coded× coded_ℕ coded_ℕ) (λ h. (h.place, h.binding)) (λ c. record { place = c.0; binding = c.1 }) (λ _. refl)
+
+abbrev pub kept_code : Coded Kept
+kept_code =
+    code_by (Workspace × (List Found × List (Option Holder))) (coded× workspace_code (coded× (coded_list found_code) (coded_list (coded_option holder_code))))
+    (λ k. (k.workspace, (k.matches, k.holders))) (λ c. record { workspace = c.0; matches = c.1.0; holders = c.1.1 }) (λ _. refl)
