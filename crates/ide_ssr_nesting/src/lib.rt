@@ -8,6 +8,8 @@ mod kept_matches;
 pub mod laws;
 mod order;
 mod sorting;
+#[cfg(test)]
+mod tests;
 
 pub use holders::Holder;
 pub use kept_matches::{KeptMatches, keep};

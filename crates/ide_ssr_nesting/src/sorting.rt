@@ -15,7 +15,7 @@ use ssr_syntax_tree::Element;
 use std::cmp::Ordering;
 
 /// Whether the workspace has a node.
-fn is_node(workspace: &Workspace, node: NodeId) -> bool
+pub(crate) fn is_node(workspace: &Workspace, node: NodeId) -> bool
     ensures { result ≡ is_node (trees workspace.now) node }
 {
     match workspace.tree(node.tree) {
