@@ -13,3 +13,4 @@ mod Keeping
 mod Ahead
 mod Sorted
 mod OneKept
+mod Listing

@@ -31,7 +31,7 @@ module _ (trees : List Planted) (grown : CallsAreEarlier trees) where
         )
   ]
 
-  not_before_same : (k m : Found) → IsSame k m → ComesBefore trees k m → ⊥
+  pub not_before_same : (k m : Found) → IsSame k m → ComesBefore trees k m → ⊥
   not_before_same k m same (inl less) = omega (arith, ap (place trees) same.0)
   not_before_same k m same (inr less) = let rule = same.1 in omega arith
 

@@ -8,6 +8,7 @@ use Rattle.ide_ssr_matching.specs.declared.bindings.Binding.{Binding}
 use Rattle.ide_ssr_matching.specs.Found.{Found}
 use Rattle.ide_ssr_nesting.specs.declared.holders.Holder.{Holder}
 use Rattle.ide_ssr_nesting.specs.Holding.{Kept}
+use Rattle.ide_ssr_nesting.specs.Lists.{Listing}
 
 abbrev pub binding_code : Coded Binding
 binding_code =
@@ -27,3 +28,8 @@ abbrev pub kept_code : Coded Kept
 kept_code =
     code_by (Workspace × (List Found × List (Option Holder))) (coded× workspace_code (coded× (coded_list found_code) (coded_list (coded_option holder_code))))
     (λ k. (k.workspace, (k.matches, k.holders))) (λ c. record { workspace = c.0; matches = c.1.0; holders = c.1.1 }) (λ _. refl)
+
+abbrev pub listing_code : Coded Listing
+listing_code =
+    code_by (List ℕ × List (Option Holder)) (coded× (coded_list coded_ℕ) (coded_list (coded_option holder_code)))
+    (λ l. (l.places, l.holders)) (λ c. record { places = c.0; holders = c.1 }) (λ _. refl)

@@ -2,3 +2,4 @@
 -- to believe them.
 pub mod Nearest
 pub mod Sorting
+pub mod Rows

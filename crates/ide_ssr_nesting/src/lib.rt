@@ -5,6 +5,7 @@
 mod holders;
 mod kept;
 mod kept_matches;
+mod lists;
 pub mod laws;
 mod order;
 mod sorting;
@@ -13,4 +14,5 @@ mod tests;
 
 pub use holders::Holder;
 pub use kept_matches::{KeptMatches, keep};
+pub use lists::Lists;
 pub use order::{is_above, precedes};

@@ -4,6 +4,7 @@ ghost use Rattle.std.specs.Prelude.{IfOk};
 ghost use Rattle.ssr_base.specs.Built.{IsBuilt};
 
 use crate::kept_matches::keep;
+use crate::lists::Lists;
 use crate::order::{is_above, precedes};
 use crate::sorting::is_node;
 use ssr_base::{Expansion, NodeId, Workspace};
@@ -85,5 +86,8 @@ fn keeps_nothing_of_nothing(rt: HostRuntime) -> Result<(), Fail> {
     let workspace = workspace(alloc)?;
     let kept = keep(alloc, &workspace, Vec::new(alloc))?;
     assert_eq!(rt; kept.len(), 0);
+    let lists = Lists::new(alloc, &kept)?;
+    assert!(rt; lists.places().is_empty());
+    assert!(rt; lists.holders().is_empty());
     Ok(())
 }
