@@ -1,0 +1,96 @@
+-- The arguments of macro calls, and where they come from.
+use Rattle.std.proofs.Common.{◌≡◌, ℕ, Bool, true, false, List, [], ◌∷◌, Option, Some, None, refl, sym, ap, ◌∙◌, subst, inl, inr}
+use Rattle.std.proofs.lemmas.Option.{none-some}
+use Rattle.std.specs.Prelude.{◌↔◌, not, is_some, IsTrue, if◌then◌else◌}
+use Rattle.std.specs.Option.{option_map, option_and_then}
+use Rattle.ssr_syntax_lex.specs.declared.kinds.SyntaxKind.TheVariants as k
+use Rattle.ssr_syntax_lex.specs.Kinds.{same_kind}
+use Rattle.ssr_syntax_tree.specs.Syntax.{Syntax}
+use Rattle.ssr_syntax_tree.specs.declared.number.Element.{Element}
+use Rattle.ssr_syntax_tree.specs.declared.number.Element.TheVariants as element
+use Rattle.ssr_syntax_tree.specs.declared.number.NodeNo.{NodeNo}
+use Rattle.ssr_syntax_tree.specs.Places.{Part, token_part, node_part, HasElement, node_of, part_of, parts_of}
+use Rattle.ssr_syntax_tree.proofs.Shared.{node_of-number}
+use Rattle.ssr_base.specs.declared.ids.FileRange.{FileRange}
+use Rattle.ssr_base.specs.declared.ids.NodeId.{NodeId}
+use Rattle.ssr_base.specs.Workspace.{Workspace, Planted, FileSpan, trees, planted, tree_of, node_id, original_range, file_span_of}
+use Rattle.ide_ssr_search.specs.Permitted.{first_token_tree, arguments_of, arguments_range}
+use Rattle.ide_ssr_search.specs.Private.Shut.{Shuts}
+use Rattle.ide_ssr_search.proofs.Trees.{is_tree, of_tree, in_tree}
+
+-- ** The first token tree.
+
+-- a child that is one
+pub token_tree_is : (s : Syntax) (child : Element) (n : NodeNo) → HasElement s child → child ≡ element.Node n → same_kind (node_of s n.0).kind k.TOKEN_TREE ≡ true
+    → Some n.0 ≡ first_token_tree (part_of s child ∷ [])
+token_tree_is s child n has is kind =
+    let number : (node_of s n.0).number ≡ n.0 = node_of-number s n.0 (subst (HasElement s) is has) in
+    ap Some (sym number)
+    ∙ sym (ap (λ b. if b then Some (node_of s n.0).number else None) kind)
+    ∙ ap (λ e. first_token_tree (part_of s e ∷ [])) (sym is)
+
+pub first-some : (part : Part) (rest : List Part) (n : ℕ) → Some n ≡ first_token_tree (part ∷ []) → Some n ≡ first_token_tree (part ∷ rest)
+first-some (token_part t token) rest n is = absurd (none-some n (sym is))
+first-some (node_part node) rest n is = here (same_kind node.kind k.TOKEN_TREE) is
+  where
+    here : (b : Bool) → Some n ≡ (if b then Some node.number else None) → Some n ≡ (if b then Some node.number else first_token_tree rest)
+    here true is = is
+    here false is = absurd (none-some n (sym is))
+
+pub first-none : (part : Part) (rest : List Part) → None ≡ first_token_tree (part ∷ []) → first_token_tree (part ∷ rest) ≡ first_token_tree rest
+first-none (token_part t token) rest is = refl
+first-none (node_part node) rest is = here (same_kind node.kind k.TOKEN_TREE) is
+  where
+    here : (b : Bool) → None ≡ (if b then Some node.number else None) → (if b then Some node.number else first_token_tree rest) ≡ first_token_tree rest
+    here true is = absurd (none-some node.number is)
+    here false is = refl
+
+-- ** Where arguments come from.
+
+arguments_are : (w : Workspace) (call : NodeId) (tree : Syntax) → tree_of w call.tree ≡ Some tree
+    → arguments_of (trees w) call ≡ option_map (node_id call.tree) (first_token_tree (parts_of (node_of tree call.node.0)))
+arguments_are w call tree is =
+    let at = is_tree w call.tree tree is in
+    ap (option_and_then (λ (p : Planted). option_map (node_id call.tree) (first_token_tree (parts_of (node_of p.syntax call.node.0))))) at.is
+    ∙ ap (λ s. option_map (node_id call.tree) (first_token_tree (parts_of (node_of s call.node.0)))) at.same
+
+pub arguments_none : (w : Workspace) (call : NodeId) (tree : Syntax) → tree_of w call.tree ≡ Some tree
+    → None ≡ first_token_tree (parts_of (node_of tree call.node.0)) → None ≡ arguments_range (trees w) call
+arguments_none w call tree is none =
+    sym (ap (option_and_then (original_range (trees w))) (arguments_are w call tree is ∙ ap (option_map (node_id call.tree)) (sym none)))
+
+pub arguments_some : (w : Workspace) (call : NodeId) (tree : Syntax) (n : ℕ) → tree_of w call.tree ≡ Some tree
+    → Some n ≡ first_token_tree (parts_of (node_of tree call.node.0)) → original_range (trees w) (node_id call.tree n) ≡ arguments_range (trees w) call
+arguments_some w call tree n is some =
+    sym (ap (option_and_then (original_range (trees w))) (arguments_are w call tree is ∙ ap (option_map (node_id call.tree)) (sym some)))
+
+pub no_tree_no_arguments : (w : Workspace) (call : NodeId) → None ≡ tree_of w call.tree → arguments_range (trees w) call ≡ None
+no_tree_no_arguments w call none = gone (planted (trees w) call.tree) none
+  where
+    gone : (o : Option Planted) → None ≡ option_map (λ (p : Planted). p.syntax) o
+        → option_and_then (original_range (trees w)) (option_and_then (λ (p : Planted). option_map (node_id call.tree) (first_token_tree (parts_of (node_of p.syntax call.node.0)))) o) ≡ None
+    gone None none = refl
+    gone (Some p) none = absurd (none-some p.syntax none)
+
+-- ** What shuts in.
+
+pub shuts_use : (w : Workspace) (t n : ℕ) (s : Syntax) → tree_of w t ≡ Some s → (node_of s n).kind ≡ k.USE → Shuts (trees w) (node_id t n)
+shuts_use w t n s is is_use = inl (of_tree (trees w) t s (λ s. (node_of s n).kind ≡ k.USE) (is_tree w t s is) is_use)
+
+pub shuts_call : (w : Workspace) (t n : ℕ) (s : Syntax) → tree_of w t ≡ Some s → (node_of s n).kind ≡ k.MACRO_CALL → arguments_range (trees w) (node_id t n) ≡ None
+    → Shuts (trees w) (node_id t n)
+shuts_call w t n s is call none = inr (of_tree (trees w) t s (λ s. (node_of s n).kind ≡ k.MACRO_CALL) (is_tree w t s is) call, none)
+
+-- a node that is neither doesn't
+pub shuts_not : (w : Workspace) (t n : ℕ) (s : Syntax) → tree_of w t ≡ Some s → ((node_of s n).kind ≡ k.USE → ⊥)
+    → ((node_of s n).kind ≡ k.MACRO_CALL → arguments_range (trees w) (node_id t n) ≡ None → ⊥) → Shuts (trees w) (node_id t n) → ⊥
+shuts_not w t n s is no_use no_call (inl is_use) = no_use (in_tree (trees w) t s (λ s. (node_of s n).kind ≡ k.USE) (is_tree w t s is) is_use)
+shuts_not w t n s is no_use no_call (inr call) =
+    no_call (in_tree (trees w) t s (λ s. (node_of s n).kind ≡ k.MACRO_CALL) (is_tree w t s is) call.0) call.1
+
+-- whether there is none
+pub none_told : (o : Option FileRange) (r : Option FileSpan) (b : Bool) → option_map file_span_of o ≡ r → is_some o ≡ not b → IsTrue b ↔ (r ≡ None)
+none_told None r true is e = (λ _. sym is, λ _. refl)
+none_told None r false is e = let f : false ≡ true = e in cc
+none_told (Some x) r true is e = let f : true ≡ false = e in cc
+none_told (Some x) r false is e = (λ h. let f : false ≡ true = h in cc, λ none. absurd (none-some (file_span_of x) (sym (is ∙ none))))

@@ -1,0 +1,209 @@
+-- What a search has found, step by step.
+use Rattle.std.proofs.Common.{◌≡◌, ℕ, ◌+◌, ◌<◌, ◌≤◌, List, [], ◌∷◌, ◌++◌, length, get_or, Option, Some, None, refl, sym, ap, ◌∙◌, subst, inl, inr, ◌⊎◌, arith, append-nil}
+use Rattle.std.specs.Prelude.{slice_get, Contains}
+use Rattle.std.specs.Option.{option_map}
+use Rattle.std.proofs.lemmas.Bool.{cases_lt}
+use Rattle.std.proofs.lemmas.List.Elements.{All-nil, All-push, All-weaker, All-contains, Contains-append_left, Contains-push}
+use Rattle.std.proofs.lemmas.List.Quantifiers.{all_pairs_push}
+use Rattle.std.proofs.lemmas.Option.{none-some, same_Some, slice_get_within, slice_get-get_or}
+use Rattle.ssr_syntax_tree.specs.Syntax.{Syntax, node_count}
+use Rattle.ssr_syntax_tree.specs.Places.{HasNode}
+use Rattle.ssr_base.specs.declared.ids.NodeId.{NodeId}
+use Rattle.ssr_base.specs.Workspace.{Workspace, Planted, trees, planted, tree_of, node_id}
+use Rattle.ide_ssr_rules.specs.Resolving.{ResolvedKind}
+use Rattle.ide_ssr_matching.specs.declared.bindings.Binding.{Binding}
+use Rattle.ide_ssr_matching.specs.Found.{Found}
+use Rattle.ide_ssr_search.specs.Context.{Context}
+use Rattle.ide_ssr_search.specs.Permitted.{IsOpen, IsPermitted}
+use Rattle.ide_ssr_search.specs.WholeMatches.{IsWholeMatch}
+use Rattle.ide_ssr_search.specs.Found.{IsFound, Precedes, AreFound}
+use Rattle.ide_ssr_search.specs.Private.Scan.{IsBefore, AreFoundBefore, TellsMatch, found_of, Adds}
+use Rattle.ide_ssr_search.proofs.Apart.{all_pairs_none}
+use Rattle.ide_ssr_search.proofs.Placed.{whole_binds}
+use Rattle.ide_ssr_search.proofs.Trees.{is_tree, in_tree, some_and, planted_within, planted_there}
+
+-- ** Order.
+
+before_rule : (t n r : ℕ) (m : Found) → IsBefore t n r m → IsBefore t n (r + 1) m
+before_rule t n r m (inl tree) = inl tree
+before_rule t n r m (inr same) = inr (same.0, elim same.1 [ inl node ↦ inl node | inr here ↦ let low = here.1 in inr (here.0, omega arith) ])
+
+before_node : (t n r : ℕ) (m : Found) → IsBefore t n r m → IsBefore t (n + 1) 0 m
+before_node t n r m (inl tree) = inl tree
+before_node t n r m (inr same) = inr (same.0, inl (elim same.1 [ inl node ↦ omega arith | inr here ↦ let e = here.0 in omega arith ]))
+
+before_tree : (t n r : ℕ) (m : Found) → IsBefore t n r m → IsBefore (t + 1) 0 0 m
+before_tree t n r m (inl tree) = inl (omega arith)
+before_tree t n r m (inr same) = let e = same.0 in inl (omega arith)
+
+-- a match before the next rule at a node comes before the rule, or is one of it there
+rule_cases : (t n r : ℕ) (m : Found) → IsBefore t n (r + 1) m → IsBefore t n r m ⊎ ((m.node.tree ≡ t) × (m.node.node.0 ≡ n) × (m.rule ≡ r))
+rule_cases t n r m (inl tree) = inl (inl tree)
+rule_cases t n r m (inr same) =
+    elim same.1 [
+      | inl node ↦ inl (inr (same.0, inl node))
+      | inr here ↦
+          elim (cases_lt m.rule r) [
+            | inl low ↦ inl (inr (same.0, inr (here.0, low)))
+            | inr high ↦ inr (same.0, here.0, let less = here.1 in omega arith)
+          ]
+    ]
+
+node_cases : (t n : ℕ) (m : Found) → IsBefore t (n + 1) 0 m → IsBefore t n 0 m ⊎ ((m.node.tree ≡ t) × (m.node.node.0 ≡ n))
+node_cases t n m (inl tree) = inl (inl tree)
+node_cases t n m (inr same) =
+    elim same.1 [
+      | inl node ↦
+          elim (cases_lt m.node.node.0 n) [
+            | inl low ↦ inl (inr (same.0, inl low))
+            | inr high ↦ inr (same.0, omega arith)
+          ]
+      | inr none ↦ absurd (omega (arith, none.1))
+    ]
+
+tree_cases : (t : ℕ) (m : Found) → IsBefore (t + 1) 0 0 m → (m.node.tree < t) ⊎ (m.node.tree ≡ t)
+tree_cases t m (inl tree) = elim (cases_lt m.node.tree t) [ inl low ↦ inl low | inr high ↦ inr (omega arith) ]
+tree_cases t m (inr same) = elim same.1 [ inl none ↦ absurd (omega arith) | inr none ↦ absurd (omega (arith, none.1)) ]
+
+at_id : (t n : ℕ) (x : NodeId) → x.tree ≡ t → x.node.0 ≡ n → x ≡ node_id t n
+at_id t n x tree node = ap (λ t. node_id t x.node.0) tree ∙ ap (node_id t) node
+
+module _ (w : Workspace) (context : Context) (rules : List ResolvedKind) where
+  -- what is found stays while no further match is passed
+  passed : (t n r u m q : ℕ) (ms : List Found) → AreFoundBefore w context rules t n r ms → ((f : Found) → IsBefore t n r f → IsBefore u m q f)
+      → ((f : Found) → IsFound w context rules f → IsBefore u m q f → IsBefore t n r f) → AreFoundBefore w context rules u m q ms
+  passed t n r u m q ms so_far on back = record {
+    in_order = so_far.in_order;
+    before = All-weaker (IsBefore t n r) (IsBefore u m q) on ms so_far.before;
+    are = so_far.are;
+    complete = λ f is before. so_far.complete f is (back f is before);
+  }
+
+  pub found_none : AreFoundBefore w context rules 0 0 0 []
+  found_none = record {
+    in_order = all_pairs_none Precedes;
+    before = All-nil (IsBefore 0 0 0);
+    are = All-nil (IsFound w context rules);
+    complete = λ f is before.
+        elim before [
+          | inl tree ↦ absurd (omega arith)
+          | inr same ↦ elim same.1 [ inl none ↦ absurd (omega arith) | inr none ↦ absurd (omega (arith, none.1)) ]
+        ];
+  }
+
+  -- ** At a node.
+
+  here_rule : (place : ℕ) (rule : ResolvedKind) (f : Found) (is : IsFound w context rules f) → slice_get rules place ≡ Some rule → f.rule ≡ place → is.rule ≡ rule
+  here_rule place rule f is at same = same_Some is.rule rule (sym is.is_rule ∙ ap (slice_get rules) same ∙ at)
+
+  -- the match of a rule at a node
+  here_found : (t n place : ℕ) (rule : ResolvedKind) (f : Found) → slice_get rules place ≡ Some rule → IsFound w context rules f
+      → f.node.tree ≡ t → f.node.node.0 ≡ n → f.rule ≡ place → IsPermitted w context rule (node_id t n) × IsWholeMatch (trees w) rule (node_id t n) f.bindings
+  here_found t n place rule f at is tree node same =
+      let x = at_id t n f.node tree node in
+      let by = here_rule place rule f is at same in (
+        subst (λ rule. IsPermitted w context rule (node_id t n)) by (subst (IsPermitted w context is.rule) x is.permitted),
+        subst (λ rule. IsWholeMatch (trees w) rule (node_id t n) f.bindings) by (subst (λ x. IsWholeMatch (trees w) is.rule x f.bindings) x is.whole),
+      )
+
+  added_by : (t n place : ℕ) (s : Syntax) (rule : ResolvedKind) (ms : List Found) (bindings : Option (List Binding)) → tree_of w t ≡ Some s → slice_get rules place ≡ Some rule
+      → AreFoundBefore w context rules t n place ms → TellsMatch w context rule (node_id t n) bindings
+      → AreFoundBefore w context rules t n (place + 1) (ms ++ found_of place (node_id t n) bindings)
+  added_by t n place s rule ms None tree at so_far tells =
+      subst (AreFoundBefore w context rules t n (place + 1)) (sym (append-nil ms))
+      (passed t n place t n (place + 1) ms so_far (before_rule t n place)
+      (λ f is before.
+      elim (rule_cases t n place f before) [
+        | inl earlier ↦ earlier
+        | inr here ↦
+            let known = here_found t n place rule f at is here.0 here.1 here.2 in
+            absurd (tells f.bindings known.0 known.1)
+      ]))
+  added_by t n place s rule ms (Some bindings) tree at so_far tells =
+      let new : Found = record { rule = place; node = node_id t n; bindings = bindings } in
+      let found : IsFound w context rules new = record { rule = rule; is_rule = at; permitted = tells.0; whole = tells.1 } in
+      let itself : IsBefore t n (place + 1) new = inr (refl, inr (refl, omega arith)) in
+      record {
+        in_order = all_pairs_push Precedes ms new so_far.in_order (λ k d low. so_far.before k d low);
+        before = All-push (IsBefore t n (place + 1)) ms new (All-weaker (IsBefore t n place) (IsBefore t n (place + 1)) (before_rule t n place) ms so_far.before) itself;
+        are = All-push (IsFound w context rules) ms new so_far.are found;
+        complete = λ f is before.
+            elim (rule_cases t n place f before) [
+              | inl earlier ↦ Contains-append_left ms (new ∷ []) f (so_far.complete f is earlier)
+              | inr here ↦
+                  let known = here_found t n place rule f at is here.0 here.1 here.2 in
+                  let same : f.bindings ≡ bindings =
+                  same_Some f.bindings bindings
+                  (sym (whole_binds w s rule (node_id t n) f.bindings tree known.1) ∙ whole_binds w s rule (node_id t n) bindings tree tells.1) in
+                  let made : ℕ → NodeId → List Binding → Found = λ rule node bindings. record { rule = rule; node = node; bindings = bindings } in
+                  let is_new : new ≡ f =
+                  ap (λ b. made place (node_id t n) b) (sym same)
+                  ∙ ap (λ x. made place x f.bindings) (sym (at_id t n f.node here.0 here.1))
+                  ∙ ap (λ r. made r f.node f.bindings) (sym here.2) in
+                  subst (Contains (ms ++ new ∷ [])) is_new (Contains-push ms new)
+            ];
+      }
+
+  pub found_more : (t n place : ℕ) (s : Syntax) (rule : ResolvedKind) (old new : List Found) → tree_of w t ≡ Some s → place < length rules → rule ≡ get_or rules place rule
+      → AreFoundBefore w context rules t n place old → Adds w context rule place (node_id t n) old new → AreFoundBefore w context rules t n (place + 1) new
+  found_more t n place s rule old new tree within read so_far adds =
+      subst (AreFoundBefore w context rules t n (place + 1)) (sym adds.added)
+      (added_by t n place s rule old adds.bindings tree (slice_get-get_or rules place rule within ∙ ap Some (sym read)) so_far adds.tells)
+
+  -- all rules are tried
+  pub found_at : (t n place : ℕ) (ms : List Found) → length rules ≤ place → AreFoundBefore w context rules t n place ms → AreFoundBefore w context rules t (n + 1) 0 ms
+  found_at t n place ms all so_far =
+      passed t n place t (n + 1) 0 ms so_far (before_node t n place)
+      (λ f is before.
+      elim (node_cases t n f before) [
+        | inl earlier ↦
+            elim earlier [
+              | inl tree ↦ inl tree
+              | inr same ↦ inr (same.0, elim same.1 [ inl node ↦ inl node | inr none ↦ absurd (omega (arith, none.1)) ])
+            ]
+        | inr here ↦ inr (here.0, inr (here.1, omega (arith, slice_get_within rules f.rule is.rule is.is_rule)))
+      ])
+
+  -- nothing is found at a node that isn't open
+  pub found_nothing : (t n : ℕ) (ms : List Found) → (IsOpen w context.restrictions (node_id t n) → ⊥) → AreFoundBefore w context rules t n 0 ms → AreFoundBefore w context rules t (n + 1) 0 ms
+  found_nothing t n ms shut so_far =
+      passed t n 0 t (n + 1) 0 ms so_far (before_node t n 0)
+      (λ f is before.
+      elim (node_cases t n f before) [
+        | inl earlier ↦ earlier
+        | inr here ↦ absurd (shut (subst (IsOpen w context.restrictions) (at_id t n f.node here.0 here.1) is.permitted.open_to_all))
+      ])
+
+  -- ** At a tree.
+
+  pub found_in : (t n : ℕ) (s : Syntax) (ms : List Found) → tree_of w t ≡ Some s → 1 + node_count s.children ≤ n → AreFoundBefore w context rules t n 0 ms
+      → AreFoundBefore w context rules (t + 1) 0 0 ms
+  found_in t n s ms tree all so_far =
+      passed t n 0 (t + 1) 0 0 ms so_far (before_tree t n 0)
+      (λ f is before.
+      elim (tree_cases t f before) [
+        | inl earlier ↦ inl earlier
+        | inr here ↦
+            let at = is_tree w f.node.tree s (ap (tree_of w) here ∙ tree) in
+            let has = in_tree (trees w) f.node.tree s (λ s. HasNode s f.node.node.0) at is.permitted.open_to_all.node in
+            inr (here, inl (omega arith))
+      ])
+
+  -- ** At the end.
+
+  pub found_all : (t : ℕ) (ms : List Found) → None ≡ tree_of w t → AreFoundBefore w context rules t 0 0 ms → AreFound w context rules ms
+  found_all t ms none so_far = record {
+    in_order = so_far.in_order;
+    are = λ f. (
+      λ had. All-contains (IsFound w context rules) ms f so_far.are had,
+      λ is.
+          let at = some_and (planted (trees w) f.node.tree) (λ p. HasNode p.syntax f.node.node.0) is.permitted.open_to_all.node in
+          let within = planted_within (trees w) f.node.tree at.0 at.1 in
+          so_far.complete f is (inl (elim (cases_lt f.node.tree t) [
+            | inl before ↦ before
+            | inr behind ↦
+                let there = planted_there (trees w) t (omega arith) in
+                absurd (none-some there.0.syntax (none ∙ ap (option_map (λ (p : Planted). p.syntax)) there.1))
+          ])),
+    );
+  }

@@ -1,0 +1,14 @@
+mod Parents
+mod Trees
+mod Arguments
+mod Selves
+mod Searched
+mod Shutting
+mod Opening
+mod Inside
+mod Calls
+mod Apart
+mod Placed
+mod Finding
+mod PositionNodes
+mod FirstFile

@@ -1,0 +1,69 @@
+-- How a token `self` is found that isn't followed by `::`.
+use Rattle.std.proofs.Common.{◌≡◌, ℕ, ◌+◌, ◌<◌, ◌≤◌, ◌&&◌, ◌||◌, not, Bool, true, false, List, [], ◌∷◌, length, drop, refl, sym, ap, ◌∙◌, arith}
+use Rattle.std.specs.Prelude.{if◌then◌else◌}
+use Rattle.std.proofs.lemmas.List.{drop_more, drop_all}
+use Rattle.std.proofs.lemmas.Option.{unwrap_or-slice_get}
+use Rattle.ssr_syntax_lex.specs.declared.kinds.SyntaxKind.TheVariants as k
+use Rattle.ssr_syntax_lex.specs.Kinds.{same_kind, is_trivia}
+use Rattle.ssr_syntax_tree.specs.Syntax.{Token, Syntax, token_count, tokens_of}
+use Rattle.ssr_syntax_tree.specs.Places.{HasToken, token_of}
+use Rattle.ssr_syntax_tree.proofs.Shared.{length-tokens_in}
+use Rattle.ide_ssr_search.specs.Permitted.{goes_on, names_self}
+
+-- the answer, where `begun` says whether a `self` has come that trivia alone have followed so far
+abbrev pub answer : Bool → List Token → Bool
+answer begun tokens = (begun && not (goes_on tokens)) || names_self tokens
+
+open_turn : (begun trivia colon own goes rest : Bool) → (begun && (not trivia && not colon)) ≡ false
+    → ((begun && not (if trivia then goes else colon)) || ((own && not goes) || rest)) ≡ (((own || (begun && trivia)) && not goes) || rest)
+open_turn false trivia colon true goes rest e = refl
+open_turn false trivia colon false goes rest e = refl
+open_turn true true colon true true rest e = refl
+open_turn true true colon true false rest e = refl
+open_turn true true colon false goes rest e = refl
+open_turn true false true true goes rest e = refl
+open_turn true false true false goes rest e = refl
+open_turn true false false own goes rest e = let f : true ≡ false = e in cc
+
+open_ends : (begun trivia colon goes rest : Bool) → (begun && (not trivia && not colon)) ≡ true → ((begun && not (if trivia then goes else colon)) || rest) ≡ true
+open_ends false trivia colon goes rest e = let f : false ≡ true = e in cc
+open_ends true true colon goes rest e = let f : false ≡ true = e in cc
+open_ends true false true goes rest e = let f : false ≡ true = e in cc
+open_ends true false false goes rest e = refl
+
+-- the tokens from a number on
+tokens_left : (s : Syntax) (n : ℕ) → HasToken s n → drop n (tokens_of s) ≡ token_of s n ∷ drop (n + 1) (tokens_of s)
+unfolding token_of
+tokens_left s n has =
+    let within : n < length (tokens_of s) = omega (arith, length-tokens_in s.children) in
+    let none : Token = record { kind = k.WHITESPACE; text = [] } in
+    drop_more (tokens_of s) n none within ∙ ap (λ token. token ∷ drop (n + 1) (tokens_of s)) (sym (unwrap_or-slice_get (tokens_of s) n none))
+
+pub self_turn : (s : Syntax) (n : ℕ) (begun next : Bool) → HasToken s n
+    → (begun && (not (is_trivia (token_of s n).kind) && not (same_kind (token_of s n).kind k.COLON2))) ≡ false
+    → next ≡ (same_kind (token_of s n).kind k.SELF_KW || (begun && is_trivia (token_of s n).kind))
+    → answer begun (drop n (tokens_of s)) ≡ names_self (tokens_of s) → answer next (drop (n + 1) (tokens_of s)) ≡ names_self (tokens_of s)
+self_turn s n begun next has on is so_far =
+    let kind = (token_of s n).kind in
+    let rest = drop (n + 1) (tokens_of s) in
+    ap (λ b. answer b rest) is
+    ∙ sym (open_turn begun (is_trivia kind) (same_kind kind k.COLON2) (same_kind kind k.SELF_KW) (goes_on rest) (names_self rest) on)
+    ∙ ap (answer begun) (sym (tokens_left s n has)) ∙ so_far
+
+pub self_found : (s : Syntax) (n : ℕ) (begun : Bool) → HasToken s n
+    → (begun && (not (is_trivia (token_of s n).kind) && not (same_kind (token_of s n).kind k.COLON2))) ≡ true
+    → answer begun (drop n (tokens_of s)) ≡ names_self (tokens_of s) → true ≡ names_self (tokens_of s)
+self_found s n begun has ends so_far =
+    let kind = (token_of s n).kind in
+    let rest = drop (n + 1) (tokens_of s) in
+    sym (open_ends begun (is_trivia kind) (same_kind kind k.COLON2) (goes_on rest) ((same_kind kind k.SELF_KW && not (goes_on rest)) || names_self rest) ends)
+    ∙ ap (answer begun) (sym (tokens_left s n has)) ∙ so_far
+
+at_end : (begun : Bool) → ((begun && true) || false) ≡ begun
+at_end true = refl
+at_end false = refl
+
+pub self_end : (s : Syntax) (n : ℕ) (begun : Bool) → token_count s.children ≤ n → answer begun (drop n (tokens_of s)) ≡ names_self (tokens_of s) → begun ≡ names_self (tokens_of s)
+self_end s n begun all so_far =
+    sym (at_end begun)
+    ∙ ap (answer begun) (sym (drop_all n (tokens_of s) (omega (arith, length-tokens_in s.children)))) ∙ so_far

@@ -1,0 +1,7 @@
+use Rattle.std.proofs.Common.{sym}
+use Rattle.ssr_base.specs.Workspace.{trees, node_id}
+use Rattle.ssr_base.proofs.Shared.{is_up}
+use Rattle.ide_ssr_search.proofs.bounds.Bounds.of.Goals as goal
+
+pub of_call-requires : goal.of_call-requires
+of_call-requires c = (is_up (trees c.args.workspace.now) (node_id c.args.tree 0) c.in-Some.call c.requires.built.grown (sym c.in-Some.ensures)).node

@@ -1,0 +1,42 @@
+use Rattle.std.proofs.Common.{◌+◌, sym, subst, arith}
+use Rattle.std.specs.Prelude.{◌↔◌, IsTrue}
+use Rattle.std.specs.Option.{IsSomeAnd}
+use Rattle.ssr_base.specs.Workspace.{trees, node_id}
+use Rattle.ssr_base.specs.Laws.{IsBelow}
+use Rattle.ide_ssr_search.specs.Private.Scan.{AreFoundBefore, KnowsShut, KnowsInside}
+use Rattle.ide_ssr_search.proofs.Trees.{tree_within}
+use Rattle.ide_ssr_search.proofs.Calls.{inside_more}
+use Rattle.ide_ssr_search.proofs.Finding.{found_all}
+use Rattle.ide_ssr_search.proofs.scan.find_matches.Goals as goal
+
+pub loop-tree-smaller : goal.loop-tree-smaller
+loop-tree-smaller c = omega (arith, tree_within c.args.workspace.now c.loop-tree.number c.in-Some.tree.now c.in-Some.ensures)
+
+pub loop-tree-preserved : goal.loop-tree-preserved
+loop-tree-preserved c =
+    let w = c.args.workspace.now in
+    let context = c.args.context.now in
+    let rules = c.args.rules.now in
+    let t = c.loop-tree.number in
+    let g = c.new-ground.result in
+    let known = c.new-ground.ensures in
+    let ms = c.add_found.new.found.items in
+    record {
+      within = omega (arith, tree_within w t c.in-Some.tree.now c.in-Some.ensures);
+      found =
+          subst (λ w. AreFoundBefore w context rules (t + 1) 0 0 ms) known.workspace
+          (subst (λ x. AreFoundBefore g.workspace.now x rules (t + 1) 0 0 ms) known.context
+          (subst (λ n. AreFoundBefore g.workspace.now g.context.now rules (n + 1) 0 0 ms) known.number c.in_ok-add_found.ensures.found));
+      shut =
+          subst (λ w. KnowsShut w (t + 1) 0 c.add_found.new.shut) known.workspace
+          (subst (λ n. KnowsShut g.workspace.now (n + 1) 0 c.add_found.new.shut) known.number c.in_ok-add_found.ensures.shut);
+      inside =
+          subst (KnowsInside w context (t + 1)) (sym c.in_ok-push.ensures.items)
+          (inside_more w context t c.loop-tree.inside.items g.inside c.loop-tree.invariant.inside
+          (subst (λ w. IsTrue g.inside ↔ IsSomeAnd context.function (IsBelow (trees w) (node_id t 0))) known.workspace
+          (subst (λ x. IsTrue g.inside ↔ IsSomeAnd x.function (IsBelow (trees g.workspace.now) (node_id t 0))) known.context
+          (subst (λ n. IsTrue g.inside ↔ IsSomeAnd g.context.now.function (IsBelow (trees g.workspace.now) (node_id n 0))) known.number known.ground.inside))));
+    }
+
+pub returns : goal.returns
+returns c = found_all c.args.workspace.now c.args.context.now c.args.rules.now c.loop-tree.number c.loop-tree.found.items c.in_default.ensures c.loop-tree.invariant.found

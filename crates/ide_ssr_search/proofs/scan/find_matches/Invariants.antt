@@ -1,0 +1,14 @@
+use Rattle.std.proofs.Common.{◌+◌, ◌-◌, ◌≤◌, length}
+use Rattle.ide_ssr_search.specs.Private.Scan.{AreFoundBefore, KnowsShut, KnowsInside}
+use Rattle.ide_ssr_search.proofs.scan.find_matches.Given as goal
+
+abbrev pub invariant-loop-tree : goal.invariant-loop-tree
+invariant-loop-tree l = record {
+  within : l.number ≤ length l.workspace.files + length l.workspace.expansions;
+  found : AreFoundBefore l.workspace l.context l.rules l.number 0 0 l.found.items;
+  shut : KnowsShut l.workspace l.number 0 l.shut;
+  inside : KnowsInside l.workspace l.context l.number l.inside.items;
+}
+
+abbrev pub decreases-loop-tree : goal.decreases-loop-tree
+decreases-loop-tree l = length l.workspace.files + length l.workspace.expansions - l.number

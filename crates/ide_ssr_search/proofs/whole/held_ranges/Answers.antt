@@ -1,0 +1,23 @@
+use Rattle.std.proofs.Common.{◌++◌, ◌∷◌, [], get_or, take, sym, subst}
+use Rattle.std.proofs.lemmas.List.{take_more}
+use Rattle.ssr_base.specs.Workspace.{trees}
+use Rattle.ide_ssr_matching.specs.declared.bindings.Binding.{Binding}
+use Rattle.ide_ssr_search.specs.Private.Whole.{AreRanges}
+use Rattle.ide_ssr_search.proofs.Apart.{ranges_push}
+use Rattle.ide_ssr_search.proofs.whole.held_ranges.Goals as goal
+
+abbrev none : Binding
+none = record { placeholder = 0; node = record { 0 = 0 } }
+
+pub returns-in_default : goal.returns-in_default
+returns-in_default c = λ all. c.in_default.ensures.none (all c.loop-binding.binding-index none c.loop-binding-test.true)
+
+pub loop-binding-preserved : goal.loop-binding-preserved
+loop-binding-preserved c =
+    let ts = trees c.args.workspace.now in
+    let bindings = c.args.bindings.now in
+    let n = c.loop-binding.binding-index in
+    let now = ranges_push ts c.args.tree (take n bindings) c.loop-binding.ranges.items (get_or bindings n none) c.in-Some.range
+    c.loop-binding.invariant c.in-Some.ensures.placed c.in-Some.ensures.range in
+    subst (λ bs. AreRanges ts c.args.tree bs c.push.new.self.items) (sym (take_more bindings n none c.loop-binding-test.true))
+    (subst (AreRanges ts c.args.tree (take n bindings ++ get_or bindings n none ∷ [])) (sym c.in_ok-push.ensures.items) now)

@@ -1,0 +1,27 @@
+-- What a search finds.
+use Rattle.std.specs.Prelude.{◌≡◌, ◌<◌, ◌⊎◌, ◌↔◌, List, Some, slice_get, AllPairs, Contains}
+use Rattle.ssr_base.specs.Workspace.{Workspace, trees}
+use Rattle.ide_ssr_rules.specs.Resolving.{ResolvedKind}
+use Rattle.ide_ssr_matching.specs.Found.{Found}
+use Rattle.ide_ssr_search.specs.Context.{Context}
+use Rattle.ide_ssr_search.specs.Permitted.{IsPermitted}
+use Rattle.ide_ssr_search.specs.WholeMatches.{IsWholeMatch}
+
+-- one of the rules matches as a whole at a node that is permitted for it
+pub record IsFound (w : Workspace) (context : Context) (rules : List ResolvedKind) (m : Found) : Type 0 where
+  pub rule : ResolvedKind
+  pub is_rule : slice_get rules m.rule ≡ Some rule
+  pub permitted : IsPermitted w context rule m.node
+  pub whole : IsWholeMatch (trees w) rule m.node m.bindings
+
+-- trees by their numbers, in a tree nodes by theirs, at a node rules in order
+abbrev pub Precedes : Found → Found → Type 0
+Precedes k m =
+    (k.node.tree < m.node.tree)
+    ⊎ ((k.node.tree ≡ m.node.tree)
+    × ((k.node.node.0 < m.node.node.0) ⊎ ((k.node.node.0 ≡ m.node.node.0) × (k.rule < m.rule))))
+
+-- in that order, so each once, and exactly what is found
+pub record AreFound (w : Workspace) (context : Context) (rules : List ResolvedKind) (ms : List Found) : Type 0 where
+  pub in_order : AllPairs Precedes ms
+  pub are : (m : Found) → Contains ms m ↔ IsFound w context rules m

@@ -1,0 +1,7 @@
+pub mod Context
+pub mod Positions
+pub mod Making
+pub mod Permitted
+pub mod WholeMatches
+pub mod Found
+pub mod Private

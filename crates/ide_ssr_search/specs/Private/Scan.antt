@@ -1,0 +1,88 @@
+-- Private: what a search has found, and what it knows, as it goes over trees and nodes.
+use Rattle.std.specs.Prelude.{ℕ, ◌≡◌, ◌≢◌, ◌+◌, ◌<◌, ◌≤◌, ◌⊎◌, ◌↔◌, Bool, false, IsTrue, List, [], ◌∷◌, ◌++◌, length, slice_index_or, Option, Some, None, All, AllPairs, Contains}
+use Rattle.std.specs.BTreeSet.{BTreeSet, contains}
+use Rattle.std.specs.Option.{IsSomeAnd}
+use Rattle.ssr_syntax_tree.specs.Syntax.{Syntax}
+use Rattle.ssr_syntax_tree.specs.Places.{HasNode, node_of, size_of}
+use Rattle.ssr_base.specs.declared.ids.NodeId.{NodeId}
+use Rattle.ssr_base.specs.contracts.ids.NodeIdOrd.TheImpl as id_order
+use Rattle.ssr_base.specs.Workspace.{Workspace, trees, tree_of, node_id}
+use Rattle.ssr_base.specs.Built.{IsNodeOf, IsMacroCall, IsBuilt}
+use Rattle.ssr_base.specs.Laws.{IsEarlier, IsBelow}
+use Rattle.ide_ssr_rules.specs.Resolving.{ResolvedKind}
+use Rattle.ide_ssr_matching.specs.declared.bindings.Binding.{Binding}
+use Rattle.ide_ssr_matching.specs.Found.{Found}
+use Rattle.ide_ssr_search.specs.declared.scan.Ground.{Ground}
+use Rattle.ide_ssr_search.specs.Context.{Context}
+use Rattle.ide_ssr_search.specs.Permitted.{IsPermitted}
+use Rattle.ide_ssr_search.specs.WholeMatches.{IsWholeMatch}
+use Rattle.ide_ssr_search.specs.Found.{IsFound, Precedes}
+use Rattle.ide_ssr_search.specs.Private.Shut.{IsShutIn, IsShut}
+use Rattle.ide_ssr_search.specs.Private.Bounds.{AreBounds}
+
+-- ** What is found.
+
+-- a match comes before those of the rule r at the node n of the tree t
+abbrev pub IsBefore : ℕ → ℕ → ℕ → Found → Type 0
+IsBefore t n r m = Precedes m (record { rule = r; node = node_id t n; bindings = [] })
+
+-- what is found up to before those
+pub record AreFoundBefore (w : Workspace) (context : Context) (rules : List ResolvedKind) (t n r : ℕ) (ms : List Found) : Type 0 where
+  pub in_order : AllPairs Precedes ms
+  pub before : All (IsBefore t n r) ms
+  pub are : All (IsFound w context rules) ms
+  pub complete : (m : Found) → IsFound w context rules m → IsBefore t n r m → Contains ms m
+
+-- what the placeholders of a rule hold, where it is permitted at a node and matches there as a whole
+abbrev pub TellsMatch : Workspace → Context → ResolvedKind → NodeId → Option (List Binding) → Type 0
+TellsMatch w context rule x None = (bindings : List Binding) → IsPermitted w context rule x → ¬ IsWholeMatch (trees w) rule x bindings
+TellsMatch w context rule x (Some bindings) = IsPermitted w context rule x × IsWholeMatch (trees w) rule x bindings
+
+abbrev pub found_of : ℕ → NodeId → Option (List Binding) → List Found
+found_of place x None = []
+found_of place x (Some bindings) = record { rule = place; node = x; bindings = bindings } ∷ []
+
+-- that match is added
+pub record Adds (w : Workspace) (context : Context) (rule : ResolvedKind) (place : ℕ) (x : NodeId) (old new : List Found) : Type 0 where
+  pub bindings : Option (List Binding)
+  pub tells : TellsMatch w context rule x bindings
+  pub added : new ≡ old ++ found_of place x bindings
+
+-- ** What is known of trees.
+
+-- what is known of a tree before its nodes are tried
+pub record IsGround (ground : Ground) : Type 0 where
+  pub built : IsBuilt ground.workspace.now
+  pub tree : tree_of ground.workspace.now ground.number ≡ Some ground.tree.now
+  pub bounds : AreBounds (trees ground.workspace.now) ground.number ground.bounds
+  pub shut : IsTrue ground.shut ↔ IsShutIn (trees ground.workspace.now) (node_id ground.number 0)
+  pub inside : IsTrue ground.inside ↔ IsSomeAnd ground.context.now.function (IsBelow (trees ground.workspace.now) (node_id ground.number 0))
+
+-- a call before the node n of the tree t shuts in what it stands for
+pub record IsShutCall (w : Workspace) (t n : ℕ) (call : NodeId) : Type 0 where
+  pub earlier : IsEarlier call (node_id t n)
+  pub node : IsNodeOf (trees w) call
+  pub is_call : IsMacroCall (trees w) call
+  pub shut : IsShut (trees w) call
+
+-- these are all such calls
+abbrev pub KnowsShut : Workspace → ℕ → ℕ → BTreeSet NodeId → Type 0
+KnowsShut w t n shut = (call : NodeId) → IsTrue (contains ((id_order.ghosts).cmp) shut call) ↔ IsShutCall w t n call
+
+-- which of the trees before t stand below the function
+pub record KnowsInside (w : Workspace) (context : Context) (t : ℕ) (inside : List Bool) : Type 0 where
+  pub counted : length inside ≡ t
+  pub known : (s : ℕ) → s < t → IsTrue (slice_index_or inside s false) ↔ IsSomeAnd context.function (IsBelow (trees w) (node_id s 0))
+
+-- the call of a tree
+pub record IsEarlierCall (w : Workspace) (t : ℕ) (call : NodeId) : Type 0 where
+  pub earlier : call.tree < t
+  pub node : IsNodeOf (trees w) call
+  pub is_call : IsMacroCall (trees w) call
+
+-- a node of a tree stands in the function, where it is known whether the tree stands below it
+abbrev pub StandsIn : Option NodeId → Syntax → ℕ → Bool → ℕ → Type 0
+StandsIn None syntax t inside n = ⊥
+StandsIn (Some f) syntax t inside n =
+    ((f.tree ≢ t) × IsTrue inside)
+    ⊎ ((f.tree ≡ t) × HasNode syntax f.node.0 × (f.node.0 ≤ n) × (n < f.node.0 + size_of (node_of syntax f.node.0)))

@@ -1,0 +1,34 @@
+-- Private: nodes below which nothing is tried.
+use Rattle.std.specs.Prelude.{ℕ, ◌≡◌, ◌+◌, ◌<◌, ◌≤◌, ◌⊎◌, ◌↔◌, List, None}
+use Rattle.ssr_syntax_tree.specs.Syntax.{Syntax}
+use Rattle.ssr_syntax_tree.specs.Places.{HasNode, node_of, size_of}
+use Rattle.ssr_base.specs.declared.ids.NodeId.{NodeId}
+use Rattle.ssr_base.specs.Workspace.{Planted, node_id}
+use Rattle.ssr_base.specs.Built.{IsMacroCall}
+use Rattle.ssr_base.specs.Laws.{IsBelow}
+use Rattle.ide_ssr_search.specs.Permitted.{IsAtOrBelow, IsUse, arguments_range}
+
+-- a USE, and a macro call whose arguments have no original range
+abbrev pub Shuts : List Planted → NodeId → Type 0
+Shuts trees a = IsUse trees a ⊎ (IsMacroCall trees a × (arguments_range trees a ≡ None))
+
+-- such a node stands above
+abbrev pub IsShutIn : List Planted → NodeId → Type 0
+IsShutIn trees x = (a : NodeId) × IsBelow trees x a × Shuts trees a
+
+-- the same of the nodes directly below
+abbrev pub IsShut : List Planted → NodeId → Type 0
+IsShut trees x = (a : NodeId) × IsAtOrBelow trees x a × Shuts trees a
+
+-- of the nodes of a tree up to before the number n, one that has the number m among those below it
+abbrev pub ShutsBefore : List Planted → ℕ → Syntax → ℕ → ℕ → Type 0
+ShutsBefore trees t syntax n m = (a : ℕ) × (a < n) × Shuts trees (node_id t a) × (m < a + size_of (node_of syntax a))
+
+-- of the nodes from n on, those before `past` are shut in by what stands above the tree, or by a node before n
+pub record IsPast (trees : List Planted) (t : ℕ) (syntax : Syntax) (n past : ℕ) : Type 0 where
+  pub known : (m : ℕ) → n ≤ m → HasNode syntax m → (m < past) ↔ (IsShutIn trees (node_id t 0) ⊎ ShutsBefore trees t syntax n m)
+
+-- the number behind a node that shuts in what is below it; of any other node 0
+abbrev pub TellsPast : List Planted → ℕ → Syntax → ℕ → ℕ → Type 0
+TellsPast trees t syntax n past =
+    ((past ≡ 0) × ¬ Shuts trees (node_id t n)) ⊎ ((past ≡ n + size_of (node_of syntax n)) × Shuts trees (node_id t n))

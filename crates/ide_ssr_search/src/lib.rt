@@ -1,0 +1,16 @@
+//! Search: where rules are tried, when they match as a whole, and all matches of a workspace, found by trying every node.
+#![tactic(auto)]
+
+mod bounds;
+mod context;
+mod context_error;
+mod permitted;
+mod positions;
+mod scan;
+#[cfg(test)]
+mod tests;
+mod whole;
+
+pub use context::Context;
+pub use context_error::ContextError;
+pub use scan::find_matches;

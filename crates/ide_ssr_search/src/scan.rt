@@ -1,0 +1,339 @@
+//! All matches of rules, found by trying every node.
+ghost use Rattle.std.specs.Prelude.{◌≡◌, ◌+◌, ◌↔◌, IsTrue, IfOk, IfSome, Some, option_map};
+ghost use Rattle.std.specs.Option.{IsSomeAnd};
+ghost use Rattle.ssr_syntax_tree.specs.Places.{HasNode};
+ghost use Rattle.ssr_base.specs.Workspace.{trees, tree_of, node_id};
+ghost use Rattle.ssr_base.specs.Built.{IsBuilt};
+ghost use Rattle.ide_ssr_search.specs.Permitted.{IsOpen, IsInFunction};
+ghost use Rattle.ide_ssr_search.specs.Found.{AreFound};
+ghost use Rattle.ide_ssr_search.specs.Private.Shut.{IsShutIn, IsShut, TellsPast};
+ghost use Rattle.ide_ssr_search.specs.Private.Scan.{AreFoundBefore, IsGround, TellsMatch, Adds, KnowsShut, KnowsInside, IsEarlierCall, StandsIn};
+
+use crate::bounds::Bounds;
+use crate::context::Context;
+use crate::permitted::{is_at_or_below, is_searched, names_self, shuts};
+use crate::whole::whole_match;
+use ide_ssr_matching::{Binding, Found};
+use ide_ssr_rules::ResolvedRule;
+use ssr_base::{NodeId, Workspace};
+use ssr_syntax_lex::SyntaxKind;
+use ssr_syntax_tree::{NodeNo, Tree};
+use std::alloc::{AllocError, Global};
+use std::collections::BTreeSet;
+
+/// A tree that is searched, and what is known before its nodes are tried.
+#[derive(Clone, Copy)]
+struct Ground<'a> {
+    workspace: &'a Workspace,
+    context: &'a Context,
+    tree: &'a Tree,
+    number: u32,
+    bounds: Bounds,
+    /// Whether what stands above the tree shuts it in.
+    shut: bool,
+    /// Whether the tree stands below the function around the position.
+    inside: bool,
+}
+
+impl<'a> Ground<'a> {
+    /// What is known of a tree, where `shut` are the calls of earlier trees that shut in what they stand for, and `inside`
+    /// says which of those trees stand below the function.
+    fn new(
+        workspace: &'a Workspace,
+        context: &'a Context,
+        tree: &'a Tree,
+        number: u32,
+        shut: &BTreeSet<NodeId>,
+        inside: &[bool],
+    ) -> Ground<'a>
+        requires built { IsBuilt workspace.now }
+        requires tree { tree_of workspace.now number ≡ Some tree.now }
+        requires shut { KnowsShut workspace.now number 0 shut.now }
+        requires inside { KnowsInside workspace.now context.now number inside.now }
+        ensures ground { IsGround result }
+        ensures workspace { result.workspace.now ≡ workspace.now }
+        ensures context { result.context.now ≡ context.now }
+        ensures number { result.number ≡ number }
+    {
+        let root = NodeId {
+            tree: number,
+            node: NodeNo(0),
+        };
+        let call = workspace.above(root);
+        Ground {
+            workspace,
+            context,
+            tree,
+            number,
+            bounds: Bounds::of(workspace, number),
+            shut: is_shut(workspace, number, call, shut),
+            inside: is_inside(workspace, context, number, call, inside),
+        }
+    }
+
+    /// The node of a number.
+    fn id(&self, node: NodeNo) -> NodeId
+        ensures { result ≡ node_id self.now.number node.0 }
+    {
+        NodeId {
+            tree: self.number,
+            node,
+        }
+    }
+
+    /// Whether a node that nothing above it shuts in is open to all rules.
+    fn is_open(&self, node: NodeNo) -> bool
+        requires ground { IsGround self.now }
+        requires has { HasNode self.now.tree.now node.0 }
+        requires free { ¬ IsShutIn (trees self.now.workspace.now) (node_id self.now.number node.0) }
+        ensures { IsTrue result ↔ IsOpen self.now.workspace.now self.now.context.now.restrictions (node_id self.now.number node.0) }
+    {
+        if self.tree.kind(node).is(SyntaxKind::USE) {
+            return false;
+        }
+        match self.workspace.original_range(self.id(node)) {
+            Some(range) => {
+                !range.range.is_empty() && is_searched(self.context.restrictions(), range)
+            }
+            None => false,
+        }
+    }
+
+    /// Whether a node stands at the function around the position or below it.
+    fn is_in_function(&self, node: NodeNo) -> bool
+        requires ground { IsGround self.now }
+        requires has { HasNode self.now.tree.now node.0 }
+        ensures { IsTrue result ↔ IsInFunction (trees self.now.workspace.now) self.now.context.now.function (node_id self.now.number node.0) }
+    {
+        stands_in(
+            self.context.function(),
+            self.tree,
+            self.number,
+            self.inside,
+            node,
+        )
+    }
+
+    /// What the placeholders of a rule hold at a node that is open to all rules, if the rule is tried there and matches as
+    /// a whole.
+    fn match_of(
+        &self,
+        alloc: Global,
+        rule: &ResolvedRule,
+        node: NodeNo,
+    ) -> Result<Option<Vec<Binding>>, AllocError>
+        requires ground { IsGround self.now }
+        requires has { HasNode self.now.tree.now node.0 }
+        requires is_open { IsOpen self.now.workspace.now self.now.context.now.restrictions (node_id self.now.number node.0) }
+        ensures { IfOk result (λ found. TellsMatch self.now.workspace.now self.now.context.now rule.now (node_id self.now.number node.0) (option_map (λ v. v.items) found)) }
+    {
+        let found = whole_match(
+            alloc,
+            self.workspace,
+            self.tree,
+            self.bounds,
+            rule,
+            self.id(node),
+        )?;
+        if found.is_some() && names_self(rule.pattern()) && !self.is_in_function(node) {
+            return Ok(None);
+        }
+        Ok(found)
+    }
+
+    /// Adds the match of a rule, which has this place among the rules, at such a node.
+    fn add_match(
+        &self,
+        alloc: Global,
+        place: usize,
+        rule: &ResolvedRule,
+        node: NodeNo,
+        found: &mut Vec<Found>,
+    ) -> Result<(), AllocError>
+        requires ground { IsGround self.now }
+        requires has { HasNode self.now.tree.now node.0 }
+        requires is_open { IsOpen self.now.workspace.now self.now.context.now.restrictions (node_id self.now.number node.0) }
+        ensures { IfOk result (λ _. Adds self.now.workspace.now self.now.context.now rule.now place (node_id self.now.number node.0) found.old.items found.new.items) }
+    {
+        if let Some(bindings) = self.match_of(alloc, rule, node)? {
+            found.push(Found::new(place, self.id(node), bindings))?;
+        }
+        Ok(())
+    }
+
+    /// Adds the matches of all rules at such a node.
+    fn add_matches(
+        &self,
+        alloc: Global,
+        rules: &[ResolvedRule],
+        node: NodeNo,
+        found: &mut Vec<Found>,
+    ) -> Result<(), AllocError>
+        requires ground { IsGround self.now }
+        requires has { HasNode self.now.tree.now node.0 }
+        requires is_open { IsOpen self.now.workspace.now self.now.context.now.restrictions (node_id self.now.number node.0) }
+        requires found { AreFoundBefore self.now.workspace.now self.now.context.now rules.now self.now.number node.0 0 found.old.items }
+        ensures { IfOk result (λ _. AreFoundBefore self.now.workspace.now self.now.context.now rules.now self.now.number (node.0 + 1) 0 found.new.items) }
+    {
+        for (place, rule) in rules.iter().enumerate() {
+            self.add_match(alloc, place, rule, node, found)?;
+        }
+        Ok(())
+    }
+
+    /// Adds the matches at a node, where it is known whether something above shuts it in.
+    fn add_at(
+        &self,
+        alloc: Global,
+        rules: &[ResolvedRule],
+        node: NodeNo,
+        shut: bool,
+        found: &mut Vec<Found>,
+    ) -> Result<(), AllocError>
+        requires ground { IsGround self.now }
+        requires has { HasNode self.now.tree.now node.0 }
+        requires shut { IsTrue shut ↔ IsShutIn (trees self.now.workspace.now) (node_id self.now.number node.0) }
+        requires found { AreFoundBefore self.now.workspace.now self.now.context.now rules.now self.now.number node.0 0 found.old.items }
+        ensures { IfOk result (λ _. AreFoundBefore self.now.workspace.now self.now.context.now rules.now self.now.number (node.0 + 1) 0 found.new.items) }
+    {
+        if shut || !self.is_open(node) {
+            return Ok(());
+        }
+        self.add_matches(alloc, rules, node, found)
+    }
+
+    /// The number behind a node that shuts in what is below it; of any other node 0.
+    fn past(&self, node: NodeNo) -> u32
+        requires ground { IsGround self.now }
+        requires has { HasNode self.now.tree.now node.0 }
+        ensures { TellsPast (trees self.now.workspace.now) self.now.number self.now.tree.now node.0 result }
+    {
+        if shuts(self.workspace, self.tree, self.id(node)) {
+            self.tree.nodes_below(node).end
+        } else {
+            0
+        }
+    }
+
+    /// Adds a macro call to those that shut in what they stand for, if it does so.
+    fn add_shut(
+        &self,
+        node: NodeNo,
+        shuts: bool,
+        shut: &mut BTreeSet<NodeId>,
+    ) -> Result<(), AllocError>
+        requires ground { IsGround self.now }
+        requires has { HasNode self.now.tree.now node.0 }
+        requires shuts { IsTrue shuts ↔ IsShut (trees self.now.workspace.now) (node_id self.now.number node.0) }
+        requires shut { KnowsShut self.now.workspace.now self.now.number node.0 shut.old }
+        ensures { IfOk result (λ _. KnowsShut self.now.workspace.now self.now.number (node.0 + 1) shut.new) }
+    {
+        if shuts && self.tree.kind(node).is(SyntaxKind::MACRO_CALL) {
+            shut.insert(self.id(node))?;
+        }
+        Ok(())
+    }
+
+    /// Adds the matches in the tree, and its macro calls that shut in what they stand for.
+    fn add_found(
+        &self,
+        alloc: Global,
+        rules: &[ResolvedRule],
+        shut: &mut BTreeSet<NodeId>,
+        found: &mut Vec<Found>,
+    ) -> Result<(), AllocError>
+        requires ground { IsGround self.now }
+        requires shut { KnowsShut self.now.workspace.now self.now.number 0 shut.old }
+        requires found { AreFoundBefore self.now.workspace.now self.now.context.now rules.now self.now.number 0 0 found.old.items }
+        ensures shut { IfOk result (λ _. KnowsShut self.now.workspace.now (self.now.number + 1) 0 shut.new) }
+        ensures found { IfOk result (λ _. AreFoundBefore self.now.workspace.now self.now.context.now rules.now (self.now.number + 1) 0 0 found.new.items) }
+    {
+        let count = self.tree.node_count();
+        // The first number behind all nodes so far that shut in what is below them: a node before it is shut in.
+        let mut past = if self.shut { count } else { 0 };
+        for number in 0..count {
+            let node = NodeNo(number);
+            self.add_at(alloc, rules, node, number < past, found)?;
+            past = self.past(node).max(past);
+            self.add_shut(node, number < past, shut)?;
+        }
+        Ok(())
+    }
+}
+
+/// Whether the call of a tree, if it has one, shuts in what it stands for.
+fn is_shut(
+    workspace: &Workspace,
+    number: u32,
+    call: Option<NodeId>,
+    shut: &BTreeSet<NodeId>,
+) -> bool
+    requires call { IfSome call (IsEarlierCall workspace.now number) }
+    requires shut { KnowsShut workspace.now number 0 shut.now }
+    ensures { IsTrue result ↔ IsSomeAnd call (IsShut (trees workspace.now)) }
+{
+    match call {
+        Some(call) => shut.contains(&call),
+        None => false,
+    }
+}
+
+/// Whether the call of a tree, if it has one, stands in the function around the position.
+fn is_inside(
+    workspace: &Workspace,
+    context: &Context,
+    number: u32,
+    call: Option<NodeId>,
+    inside: &[bool],
+) -> bool
+    requires built { IsBuilt workspace.now }
+    requires call { IfSome call (IsEarlierCall workspace.now number) }
+    requires inside { KnowsInside workspace.now context.now number inside.now }
+    ensures { IsTrue result ↔ IsSomeAnd call (IsInFunction (trees workspace.now) context.now.function) }
+{
+    let Some(call) = call else {
+        return false;
+    };
+    let Some(tree) = workspace.tree(call.tree) else {
+        return false;
+    };
+    let above = inside[call.tree as usize];
+    stands_in(context.function(), tree, call.tree, above, call.node)
+}
+
+/// Whether a node of a tree stands in the function, where it is known whether the tree stands below it.
+fn stands_in(function: Option<NodeId>, tree: &Tree, number: u32, inside: bool, node: NodeNo) -> bool
+    ensures { IsTrue result ↔ StandsIn function tree.now number inside node.0 }
+{
+    let Some(function) = function else {
+        return false;
+    };
+    if function.tree != number {
+        return inside;
+    }
+    is_at_or_below(tree, node, function.node)
+}
+
+/// All matches of the rules in a workspace: each node of each tree is tried at which a rule is permitted. They come by the
+/// numbers of their trees, in a tree by those of their nodes, and at a node by the places of their rules.
+pub fn find_matches(
+    alloc: Global,
+    workspace: &Workspace,
+    context: &Context,
+    rules: &[ResolvedRule],
+) -> Result<Vec<Found>, AllocError>
+    requires built { IsBuilt workspace.now }
+    ensures { IfOk result (λ found. AreFound workspace.now context.now rules.now found.items) }
+{
+    let mut found = Vec::new(alloc);
+    let mut shut = BTreeSet::new(alloc);
+    let mut inside = Vec::new(alloc);
+    let mut number = 0;
+    while let Some(tree) = workspace.tree(number) {
+        let ground = Ground::new(workspace, context, tree, number, &shut, &inside);
+        ground.add_found(alloc, rules, &mut shut, &mut found)?;
+        inside.push(ground.inside)?;
+        number += 1;
+    }
+    Ok(found)
+}

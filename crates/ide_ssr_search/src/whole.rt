@@ -1,0 +1,148 @@
+//! Whether a rule matches as a whole at a node.
+ghost use Rattle.std.specs.Prelude.{◌≡◌, ◌↔◌, IsTrue, IfOk, IfSome, IfNone, MatchOption, Some, All, Any, AllPairs, option_map};
+ghost use Rattle.ssr_syntax_tree.specs.Places.{HasNode};
+ghost use Rattle.ssr_base.specs.Workspace.{trees, tree_of, file_span_of, original_range};
+ghost use Rattle.ide_ssr_search.specs.WholeMatches.{IsPlaced, ShareByte, held_node};
+ghost use Rattle.ide_ssr_search.specs.Private.Bounds.{AreBounds};
+ghost use Rattle.ide_ssr_search.specs.Private.Whole.{AreRanges, IsMatched, IsPlacedMatch, TellsWhole};
+
+use crate::bounds::Bounds;
+use ide_ssr_matching::{Binding, match_node};
+use ide_ssr_rules::ResolvedRule;
+use ssr_base::{FileRange, NodeId, Workspace};
+use ssr_syntax_tree::Tree;
+use std::alloc::{AllocError, Global};
+
+/// Where a node comes from, if that lies within the bounds of its tree.
+fn placed(workspace: &Workspace, bounds: Bounds, node: NodeId) -> Option<FileRange>
+    requires { AreBounds (trees workspace.now) node.tree bounds }
+    ensures range { IfSome result (λ range. original_range (trees workspace.now) node ≡ Some (file_span_of range)) }
+    ensures placed { IfSome result (λ _. IsPlaced (trees workspace.now) node) }
+    ensures none { IfNone result (¬ IsPlaced (trees workspace.now) node) }
+{
+    let range = workspace.original_range(node)?;
+    if bounds.hold(range) {
+        Some(range)
+    } else {
+        None
+    }
+}
+
+/// Where what the placeholders hold comes from, if all of that lies within the bounds of the tree.
+fn held_ranges(
+    alloc: Global,
+    workspace: &Workspace,
+    bounds: Bounds,
+    tree: u32,
+    bindings: &[Binding],
+) -> Result<Option<Vec<FileRange>>, AllocError>
+    requires { AreBounds (trees workspace.now) tree bounds }
+    ensures { IfOk result (λ found. MatchOption found (¬ All (λ b. IsPlaced (trees workspace.now) (held_node tree b)) bindings.now) (λ ranges. AreRanges (trees workspace.now) tree bindings.now ranges.items)) }
+{
+    let mut ranges = Vec::new(alloc);
+    for binding in bindings {
+        let node = NodeId {
+            tree,
+            node: binding.node,
+        };
+        let Some(range) = placed(workspace, bounds, node) else {
+            return Ok(None);
+        };
+        ranges.push(range)?;
+    }
+    Ok(Some(ranges))
+}
+
+/// Whether two ranges share a byte.
+fn share_byte(a: FileRange, b: FileRange) -> bool
+    ensures { IsTrue result ↔ ShareByte (file_span_of a) (file_span_of b) }
+{
+    a.file_id.0 == b.file_id.0 && a.range.overlaps(b.range)
+}
+
+/// Whether a range shares a byte with one of some others.
+fn shares_byte(range: FileRange, others: &[FileRange]) -> bool
+    ensures { IsTrue result ↔ Any (λ other. ShareByte (file_span_of other) (file_span_of range)) others.now }
+{
+    for other in others {
+        if share_byte(*other, range) {
+            return true;
+        }
+    }
+    false
+}
+
+/// Whether no two ranges share a byte.
+fn are_apart(ranges: &[FileRange]) -> bool
+    ensures { IsTrue result ↔ AllPairs (λ a b. ¬ ShareByte (file_span_of a) (file_span_of b)) ranges.now }
+{
+    for (place, range) in ranges.iter().enumerate() {
+        if shares_byte(*range, &ranges[..place]) {
+            return false;
+        }
+    }
+    true
+}
+
+/// Whether a match in an expansion, with what its placeholders hold, lies within the bounds of its tree, and no two
+/// placeholders share a byte.
+fn is_placed_match(
+    alloc: Global,
+    workspace: &Workspace,
+    bounds: Bounds,
+    node: NodeId,
+    bindings: &[Binding],
+) -> Result<bool, AllocError>
+    requires { AreBounds (trees workspace.now) node.tree bounds }
+    ensures { IfOk result (λ is. IsTrue is ↔ IsPlacedMatch (trees workspace.now) node bindings.now) }
+{
+    if placed(workspace, bounds, node).is_none() {
+        return Ok(false);
+    }
+    match held_ranges(alloc, workspace, bounds, node.tree, bindings)? {
+        Some(ranges) => Ok(are_apart(&ranges)),
+        None => Ok(false),
+    }
+}
+
+/// Whether a match is a whole match. In a file each is: what its placeholders hold stands in the match, one behind another.
+fn is_whole(
+    alloc: Global,
+    workspace: &Workspace,
+    bounds: Bounds,
+    node: NodeId,
+    bindings: &[Binding],
+) -> Result<bool, AllocError>
+    requires bounds { AreBounds (trees workspace.now) node.tree bounds }
+    requires matched { IsMatched (trees workspace.now) node bindings.now }
+    ensures { IfOk result (λ is. IsTrue is ↔ IsPlacedMatch (trees workspace.now) node bindings.now) }
+{
+    if let Bounds::Everywhere = bounds {
+        return Ok(true);
+    }
+    is_placed_match(alloc, workspace, bounds, node, bindings)
+}
+
+/// What the placeholders of a rule hold where it matches as a whole at a node of a tree with these bounds.
+pub(crate) fn whole_match(
+    alloc: Global,
+    workspace: &Workspace,
+    tree: &Tree,
+    bounds: Bounds,
+    rule: &ResolvedRule,
+    node: NodeId,
+) -> Result<Option<Vec<Binding>>, AllocError>
+    requires tree { tree_of workspace.now node.tree ≡ Some tree.now }
+    requires has { HasNode tree.now node.node.0 }
+    requires bounds { AreBounds (trees workspace.now) node.tree bounds }
+    ensures { IfOk result (λ found. TellsWhole (trees workspace.now) rule.now node (option_map (λ v. v.items) found)) }
+{
+    let Some(bindings) = match_node(alloc, rule, tree, node.node)? else {
+        return Ok(None);
+    };
+    if is_whole(alloc, workspace, bounds, node, &bindings)? {
+        Ok(Some(bindings))
+    } else {
+        Ok(None)
+    }
+}
