@@ -1,11 +1,9 @@
 pub mod Fits
 pub mod Nearest
 pub mod Places
-pub mod Rendered
 pub mod Rewrites
 pub mod Runs
 pub mod Tests
-pub mod Tokens
 pub mod Waiting
 pub mod Ordered
 pub mod Finding
@@ -14,7 +12,6 @@ pub mod UseItems
 pub mod Complete
 pub mod OneKept
 pub mod Showing
-pub mod Passed
 pub mod BindsOnce
 pub mod Made
 pub mod Held

@@ -17,7 +17,7 @@ use Rattle.ide_ssr.specs.Kept.{is_over, holds}
 use Rattle.ide_ssr.specs.Lists.{binding_over, holder_of}
 use Rattle.ide_ssr.specs.Order.{Precedes}
 use Rattle.ide_ssr.specs.Private.Order.{AreHeld}
-use Rattle.ide_ssr.specs.Comments.{kept_comments, comments_text}
+use Rattle.ide_ssr_rewriting.specs.Comments.{kept_comments, comments_text}
 use Rattle.ide_ssr.specs.Edits.{Rewrite, listed_changes, pieces, text_by, replacement, rewrite_of, rewrites}
 use Rattle.ide_ssr.specs.Private.Pending.{is_at, is_open, Places, IsPending}
 use Rattle.ide_ssr.proofs.Nearest.{nothing_over, at, answered, closed, nearest_earlier, fit_held, holder-held, true_false}
@@ -127,7 +127,7 @@ pub replacement_same : (code : Syntax) (rules : List ResolvedKind) (xs ys : List
     → ((i : ℕ) → listed_changes (Some (record { place = n; binding = i })) xs ≡ listed_changes (Some (record { place = n; binding = i })) ys)
     → replacement code rules xs n m ≡ replacement code rules ys n m
 replacement_same code rules xs ys n m same =
-    ap (λ (pieces : List (List ℕ)). text_by (slice_get rules m.rule) m.bindings pieces ++ comments_text code (kept_comments code m))
+    ap (λ (pieces : List (List ℕ)). text_by (slice_get rules m.rule) m.bindings pieces ++ comments_text code (kept_comments code m.node m.bindings))
     (pieces_same code xs ys n 0 m.bindings same)
 
 -- the last one of the first ones

@@ -10,8 +10,8 @@ use Rattle.ide_ssr.specs.declared.holders.Holder.{Holder}
 use Rattle.ide_ssr.specs.Found.{Found}
 use Rattle.ide_ssr.specs.Kept.{kept_in}
 use Rattle.ide_ssr.specs.Lists.{holder_of, is_listed}
-use Rattle.ide_ssr.specs.Rendering.{piece_of, rendered}
-use Rattle.ide_ssr.specs.Comments.{kept_comments, comments_text}
+use Rattle.ide_ssr_rewriting.specs.Rendering.{piece_of, rendered}
+use Rattle.ide_ssr_rewriting.specs.Comments.{kept_comments, comments_text}
 
 -- a kept match with its replacement: what holds it, and the change of the source
 pub record Rewrite : Type 0 where
@@ -45,7 +45,7 @@ template_text code rules later n m = text_by (slice_get rules m.rule) m.bindings
 
 -- its replacement: the same, and then the comments that it keeps
 abbrev pub replacement : Syntax → List ResolvedKind → List Rewrite → ℕ → Found → List ℕ
-replacement code rules later n m = template_text code rules later n m ++ comments_text code (kept_comments code m)
+replacement code rules later n m = template_text code rules later n m ++ comments_text code (kept_comments code m.node m.bindings)
 
 -- likewise with what holds it, among the kept matches ks
 abbrev pub rewrite_of : Syntax → List ResolvedKind → List Found → List Rewrite → ℕ → Found → Rewrite

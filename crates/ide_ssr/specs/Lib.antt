@@ -4,8 +4,6 @@ pub mod Kept
 pub mod Lists
 pub mod Holding
 pub mod Order
-pub mod Rendering
-pub mod Comments
 pub mod Edits
 pub mod Finder
 pub mod Adding

@@ -12,7 +12,7 @@ use Rattle.ide_ssr.specs.declared.matches.Match.{Match}
 use Rattle.ide_ssr.specs.declared.matches.PlaceholderMatch.{PlaceholderMatch}
 use Rattle.ide_ssr.specs.Found.{Found}
 use Rattle.ide_ssr.specs.Kept.{kept_in}
-use Rattle.ide_ssr.specs.Comments.{kept_comments}
+use Rattle.ide_ssr_rewriting.specs.Comments.{kept_comments}
 use Rattle.ide_ssr.specs.Lists.{listed, outermost}
 use Rattle.ide_ssr.specs.Matches.{text_of, range_of, node_of, rule_of, placeholders_of, name_of, place_of, held_node, inner_of, comments_of, place_of_range, place_of_token}
 
@@ -33,7 +33,7 @@ pub record HasParts (code : Syntax) (m : Found) (v : Match) : Type 0 where
   pub end : (range_of v).end ≡ end_of code (code_node code m.node)
   pub text : text_of v ≡ node_text (code_node code m.node)
   pub place : IsBetweenCharacters code (range_of v)
-  pub comments : map place_of_range (comments_of v) ≡ map (place_of_token code) (kept_comments code m)
+  pub comments : map place_of_range (comments_of v) ≡ map (place_of_token code) (kept_comments code m.node m.bindings)
   pub comment_places : All (λ range. IsBetweenCharacters code range.range) (comments_of v)
 
 -- a placeholder has the name, the node and its range

@@ -11,12 +11,11 @@ ghost use Rattle.ide_ssr.specs.Private.Order.{IsIn, AreHeld};
 ghost use Rattle.ide_ssr.specs.Edits.{Rewrite as RewriteValue, listed_changes, node_replaced, pieces, template_text, replacement, edit_from, file_edits};
 ghost use Rattle.ide_ssr.specs.Private.Pending.{is_at, Places, IsPending};
 
-use ide_ssr_matching::Binding;
-use crate::comments::{kept_comments, push_comments};
 use crate::found::Found;
 use crate::holders::Holder;
 use crate::kept::KeptMatches;
-use crate::rendering::rendered;
+use ide_ssr_matching::Binding;
+use ide_ssr_rewriting::{kept_comments, push_comments, rendered};
 use ide_ssr_rules::ResolvedRule;
 use ssr_base::{FileId, FileRange, TextEdit};
 use ssr_syntax_lex::TextRange;
@@ -205,7 +204,7 @@ fn replacement(
     ensures { IfOk result (λ text. string_bytes text ≡ replacement tree.now rules.now (reverse held.now) place m.now) }
 {
     let mut text = template_text(alloc, tree, rules, m, place, held)?;
-    let comments = kept_comments(alloc, tree, m)?;
+    let comments = kept_comments(alloc, tree, m.node(), m.bindings())?;
     push_comments(&mut text, tree, &comments)?;
     Ok(text)
 }

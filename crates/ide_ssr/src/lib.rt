@@ -10,7 +10,6 @@ mod kept;
 pub mod laws;
 mod matches;
 mod nesting;
-mod rendering;
 #[cfg(test)]
 mod rule_texts;
 mod search;

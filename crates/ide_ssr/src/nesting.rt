@@ -12,11 +12,12 @@ ghost use Rattle.ide_ssr.specs.Private.Pending.{is_at, is_open};
 ghost use Rattle.ide_ssr.specs.Nesting.{placeholder_name, HasBinding, Show, Shows};
 ghost use Rattle.ide_ssr.specs.Private.Nesting.{NoneListed, NoneListedFrom};
 
-use ide_ssr_matching::Binding;
-use crate::comments::{comment_ranges, kept_comments};
+use crate::comments::comment_ranges;
 use crate::holders::Holder;
 use crate::kept::{KeptMatches, is_over};
 use crate::matches::{Match, PlaceholderMatch};
+use ide_ssr_matching::Binding;
+use ide_ssr_rewriting::kept_comments;
 use ide_ssr_rules::{ResolvedRule, Var};
 use ssr_syntax_tree::Tree;
 use std::alloc::{AllocError, Global};
@@ -165,7 +166,7 @@ fn nested_match<'a>(
         let inner = take_listed(alloc, tree, kept, place + 1, holder, made)?;
         placeholders.push(nested_placeholder(alloc, tree, rules, m.rule(), *bound, inner)?)?;
     }
-    let comments = kept_comments(alloc, tree, m)?;
+    let comments = kept_comments(alloc, tree, m.node(), m.bindings())?;
     Ok(Match {
         text: tree.text(m.node()),
         range: tree.range(m.node()),

@@ -9,8 +9,8 @@ use Rattle.ssr_syntax_tree.specs.Places.{Node, nodes_of, node_of, token_of, star
 use Rattle.ssr_syntax_tree.proofs.Shared.{node_of-number, start_of-below, end_of-below, length-nodes_of}
 use Rattle.std.proofs.lemmas.Bool.{cases_lt}
 use Rattle.ide_ssr_rules.specs.Resolving.{name_at}
-use Rattle.ide_ssr.specs.Rendering.{text_for, plain, is_node, wrapped, wrapped_text}
-use Rattle.ide_ssr.proofs.Tokens.{tokens_from}
+use Rattle.ide_ssr_rewriting.specs.Rendering.{text_for, plain, is_node, wrapped, wrapped_text}
+use Rattle.ide_ssr_rewriting.proofs.Tokens.{tokens_from}
 
 -- a token's text is pushed: the rest comes behind it
 pub pushed : (old new text left rest whole : List ℕ) → old ++ left ≡ whole → left ≡ text ++ rest → new ≡ old ++ text → new ++ rest ≡ whole

@@ -7,7 +7,6 @@ use Rattle.ssr_syntax_tree.specs.declared.number.TokenNo.{TokenNo}
 use Rattle.ssr_syntax_tree.specs.Syntax.{Syntax, token_count}
 use Rattle.ssr_syntax_tree.specs.Places.{Node, node_of, token_of}
 use Rattle.ide_ssr_matching.specs.declared.bindings.Binding.{Binding}
-use Rattle.ide_ssr.specs.Found.{Found}
 
 unfoldable pub is_comment : SyntaxKind → Bool
 is_comment k.COMMENT = true
@@ -28,9 +27,9 @@ is_bound code bindings token = list_any (λ binding. is_below (node_of code bind
 abbrev pub is_kept_comment : Syntax → List Binding → TokenNo → Bool
 is_kept_comment code bindings token = is_comment (token_of code token.0).kind && not (is_bound code bindings token)
 
--- all comments below the match's node that none of its placeholders holds
-unfoldable pub kept_comments : Syntax → Found → List TokenNo
-kept_comments code m = filter (is_kept_comment code m.bindings) (tokens_below (node_of code m.node))
+-- all comments below a match's node that none of its placeholders holds
+unfoldable pub kept_comments : Syntax → ℕ → List Binding → List TokenNo
+kept_comments code node bindings = filter (is_kept_comment code bindings) (tokens_below (node_of code node))
 
 -- a comment that goes to the end of its line is followed by a line break
 abbrev pub comment_text : List ℕ → List ℕ

@@ -1,6 +1,6 @@
 use Rattle.std.proofs.Common.{arith, sym}
-use Rattle.ide_ssr.proofs.Rendered.{is_node-found, is_node-missing, none_up_to}
-use Rattle.ide_ssr.proofs.rendering.is_node.Goals as goal
+use Rattle.ide_ssr_rewriting.proofs.Templates.{is_node-found, is_node-missing, none_up_to}
+use Rattle.ide_ssr_rewriting.proofs.rendering.is_node.Goals as goal
 
 pub returns-then-is_range : goal.returns-then-is_range
 returns-then-is_range c =

@@ -1,7 +1,7 @@
 use Rattle.std.proofs.Common.{◌≡◌, ◌++◌, ◌+◌, length, drop, map, string_bytes}
 use Rattle.ssr_syntax_tree.specs.Syntax.{tokens_of}
-use Rattle.ide_ssr.specs.Rendering.{piece_of, plain, wrapped}
-use Rattle.ide_ssr.proofs.rendering.wrapped.Given as goal
+use Rattle.ide_ssr_rewriting.specs.Rendering.{piece_of, plain, wrapped}
+use Rattle.ide_ssr_rewriting.proofs.rendering.wrapped.Given as goal
 
 abbrev pub invariant-loop-token : goal.invariant-loop-token
 invariant-loop-token l = record {

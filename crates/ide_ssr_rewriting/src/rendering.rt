@@ -4,7 +4,7 @@ ghost use Rattle.std.specs.Prelude.{◌≡◌, ◌+◌, ◌++◌, ◌^◌, ◌<�
 ghost use Rattle.std.specs.List.{position_or_len};
 ghost use Rattle.ssr_syntax_tree.specs.Syntax.{node_count, tokens_of};
 ghost use Rattle.ssr_syntax_tree.specs.Places.{HasNode, HasToken, node_of, token_of};
-ghost use Rattle.ide_ssr.specs.Rendering.{piece_of, text_for, plain, is_node, wrapped_text, wrapped, rendered};
+ghost use Rattle.ide_ssr_rewriting.specs.Rendering.{piece_of, text_for, plain, is_node, wrapped_text, wrapped, rendered};
 
 use ide_ssr_matching::Binding;
 use ide_ssr_rules::ResolvedRule;
@@ -14,7 +14,7 @@ use ssr_syntax_tree::{NodeNo, TokenNo, Tree};
 use std::alloc::{AllocError, Global};
 
 /// The text that the rule's template gives for a match with these bindings, each of which has its piece.
-pub(crate) fn rendered(
+pub fn rendered(
     alloc: Global,
     rule: &ResolvedRule,
     bindings: &[Binding],

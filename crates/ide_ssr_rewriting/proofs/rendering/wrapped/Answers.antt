@@ -2,10 +2,10 @@ use Rattle.std.proofs.Common.{◌≡◌, ◌++◌, ◌+◌, ◌<◌, ◌^◌, []
 use Rattle.ssr_syntax_tree.specs.Syntax.{Token, Syntax, token_count, tokens_of}
 use Rattle.ssr_syntax_tree.specs.Places.{HasToken, token_of}
 use Rattle.ide_ssr_rules.specs.Resolving.{name_at}
-use Rattle.ide_ssr.specs.Rendering.{piece_of, text_for, wrapped, wrapped_text}
-use Rattle.ide_ssr.proofs.Tokens.{no_tokens}
-use Rattle.ide_ssr.proofs.Rendered.{pushed, plain_from, wrapped_from}
-use Rattle.ide_ssr.proofs.rendering.wrapped.Goals as goal
+use Rattle.ide_ssr_rewriting.specs.Rendering.{piece_of, text_for, wrapped, wrapped_text}
+use Rattle.ide_ssr_rewriting.proofs.Tokens.{no_tokens}
+use Rattle.ide_ssr_rewriting.proofs.Templates.{pushed, plain_from, wrapped_from}
+use Rattle.ide_ssr_rewriting.proofs.rendering.wrapped.Goals as goal
 
 -- what is left of the template without the token is as much shorter
 still_within : (at n : ℕ) (left text rest : List ℕ) → at + length left ≡ n → left ≡ text ++ rest → (at + length text) + length rest ≡ n

@@ -1,7 +1,7 @@
 use Rattle.std.proofs.Common.{◌≡◌, ℕ, ◌<◌, ◌+◌, ◌-◌, ◌==◌, ◌&&◌, false}
 use Rattle.ssr_syntax_tree.specs.Syntax.{node_count}
 use Rattle.ssr_syntax_tree.specs.Places.{node_of, start_of, end_of}
-use Rattle.ide_ssr.proofs.rendering.is_node.Given as goal
+use Rattle.ide_ssr_rewriting.proofs.rendering.is_node.Given as goal
 
 abbrev pub invariant-loop-node : goal.invariant-loop-node
 invariant-loop-node l = (n : ℕ) → n < l.node

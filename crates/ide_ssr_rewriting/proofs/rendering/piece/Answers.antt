@@ -2,8 +2,8 @@ use Rattle.std.proofs.Common.{◌<◌, ◌≤◌, [], length, map, arith, sym, �
 use Rattle.std.proofs.lemmas.List.{get_or-map, length-map, get_or_past}
 use Rattle.std.proofs.lemmas.Bool.Decides.{nat_tests}
 use Rattle.std.specs.Global.{Global}
-use Rattle.ide_ssr.specs.Rendering.{piece_of}
-use Rattle.ide_ssr.proofs.rendering.piece.Goals as goal
+use Rattle.ide_ssr_rewriting.specs.Rendering.{piece_of}
+use Rattle.ide_ssr_rewriting.proofs.rendering.piece.Goals as goal
 
 pub returns-in-Some : goal.returns-in-Some
 unfolding piece_of

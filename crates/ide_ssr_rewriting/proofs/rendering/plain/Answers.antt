@@ -1,9 +1,9 @@
 use Rattle.std.proofs.Common.{◌≡◌, ◌++◌, [], List, ℕ, drop, map, string_bytes, ap, sym, ◌∙◌, arith, append-nil}
 use Rattle.ssr_syntax_tree.specs.Syntax.{Token, Syntax, token_count, tokens_of}
-use Rattle.ide_ssr.specs.Rendering.{piece_of, plain}
-use Rattle.ide_ssr.proofs.Tokens.{no_tokens}
-use Rattle.ide_ssr.proofs.Rendered.{pushed, plain_from}
-use Rattle.ide_ssr.proofs.rendering.plain.Goals as goal
+use Rattle.ide_ssr_rewriting.specs.Rendering.{piece_of, plain}
+use Rattle.ide_ssr_rewriting.proofs.Tokens.{no_tokens}
+use Rattle.ide_ssr_rewriting.proofs.Templates.{pushed, plain_from}
+use Rattle.ide_ssr_rewriting.proofs.rendering.plain.Goals as goal
 
 pub loop-token-preserved : goal.loop-token-preserved
 loop-token-preserved c =

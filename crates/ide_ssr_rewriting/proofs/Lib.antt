@@ -1,0 +1,3 @@
+mod Templates
+mod Tokens
+mod Passed
