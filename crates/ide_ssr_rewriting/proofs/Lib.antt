@@ -1,3 +1,11 @@
 mod Templates
 mod Tokens
 mod Passed
+mod FirstClashes
+mod ChangesMade
+mod Written
+mod Texts
+mod Taken
+mod Pieces
+mod Fits
+mod Runs

@@ -1,8 +1,15 @@
-//! Rewriting: what is written for a match.
+//! Rewriting: what is written for matches, and the edits of the files.
 #![tactic(auto)]
 
+mod clashes;
 mod comments;
+mod edits;
+pub mod laws;
+mod listed;
 mod rendering;
+mod replacements;
 
 pub use comments::{kept_comments, push_comments};
+pub use edits::EditError;
+pub use listed::Nest;
 pub use rendering::rendered;

@@ -1,0 +1,19 @@
+use Rattle.std.proofs.Common.{◌∙◌, ap, option_map}
+use Rattle.ide_ssr_rewriting.specs.Edits.{list_under}
+use Rattle.ide_ssr_rewriting.specs.Replacements.{text_of_match}
+use Rattle.ide_ssr_rewriting.specs.Private.Edits.{text_in}
+use Rattle.ide_ssr_rewriting.proofs.Runs.{run-more}
+use Rattle.ide_ssr_rewriting.proofs.Pieces.{text_of_pieces}
+use Rattle.ide_ssr_rewriting.proofs.edits.Pending.rewrite_at.Goals as goal
+
+pub returns : goal.returns
+returns c =
+    let w = c.args.workspace.now in
+    let rules = c.args.rules.now in
+    let m = c.get-m.result.now in
+    run-more w rules c.args.nest.now c.requires.nest c.args.place m _ c.take_pieces.new.self.texts.items c.in_ok-text.text _ _
+    c.get-m.ensures c.requires.run c.in_ok-pieces.ensures.counted c.in_ok-pieces.ensures.left
+    (c.in_ok-text.ensures
+    ∙ (ap (option_map (text_of_match w rules m)) c.in_ok-pieces.ensures.pieces
+    ∙ text_of_pieces w rules m (list_under w c.args.nest.now (text_in c.args.self.now.texts.items) c.args.place)))
+    c.in_ok-pieces.ensures.clash

@@ -1,0 +1,9 @@
+use Rattle.std.proofs.Common.{map, option_map, string_bytes}
+use Rattle.ide_ssr_rewriting.specs.Clashes.{clash_of}
+use Rattle.ide_ssr_rewriting.specs.Private.Pieces.{AreTaken}
+use Rattle.ide_ssr_rewriting.proofs.edits.Pending.take_pieces.Given as goal
+
+abbrev pub invariant-loop-index : goal.invariant-loop-index
+invariant-loop-index l =
+    AreTaken l.workspace l.nest l.m l.place l.index l.initial.self.texts.items l.self.texts.items l.is_clean (map string_bytes l.pieces.items)
+    (option_map clash_of l.initial.self.clash) (option_map clash_of l.self.clash)

@@ -1,0 +1,25 @@
+-- Private: how a list is gone through for its first clash, and for its changes.
+use Rattle.std.specs.Prelude.{◌&&◌, Bool, if◌then◌else◌, List, [], ◌∷◌, Option, Some, None, is_some}
+use Rattle.ssr_base.specs.Workspace.{FileSpan}
+use Rattle.ide_ssr_rewriting.specs.Clashes.{Rewrite, Clash, clash_le, same_range, is_clash}
+
+-- whether what another one clashes with, which has the same range and doesn't clash with this one, clashes with this one too
+unfoldable pub stands_for : Rewrite → Rewrite → Bool
+stands_for r s = same_range r.range s.range && is_some r.text
+
+-- the first clash of those behind one, which stands for those of its range before them
+abbrev pub first_behind : Rewrite → List Rewrite → Option Clash
+first_behind r [] = None
+first_behind r (s ∷ rs) =
+    if is_clash r s then Some (record { earlier = r.range; later = s.range }) else first_behind (if stands_for r s then r else s) rs
+
+-- those behind one of the range that begin another range
+abbrev pub fresh_behind : FileSpan → List Rewrite → List Rewrite
+fresh_behind range [] = []
+fresh_behind range (r ∷ rs) = if same_range r.range range then fresh_behind range rs else r ∷ fresh_behind r.range rs
+
+-- the earlier one of two
+abbrev pub lesser : Option Clash → Option Clash → Option Clash
+lesser None other = other
+lesser (Some c) None = Some c
+lesser (Some c) (Some d) = if clash_le c d then Some c else Some d

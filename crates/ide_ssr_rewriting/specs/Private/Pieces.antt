@@ -1,0 +1,44 @@
+-- Private: what of the placeholders of a match is done, one after another.
+use Rattle.std.specs.Prelude.{ℕ, ◌≡◌, ◌<◌, ◌&&◌, Bool, true, if◌then◌else◌, List, ◌++◌, drop, length, map, flat_map, Option, Some, None, Contains, String}
+use Rattle.std.specs.Global.{Global}
+use Rattle.std.specs.List.{enumerate_from, list_all}
+use Rattle.ssr_base.specs.Workspace.{Workspace, node_id}
+use Rattle.ide_ssr_matching.specs.declared.bindings.Binding.{Binding}
+use Rattle.ide_ssr_matching.specs.Found.{Found}
+use Rattle.ide_ssr_rewriting.specs.Clashes.{Rewrite, Clash, IsFirst, clashes, is_clean}
+use Rattle.ide_ssr_rewriting.specs.Nest.{Nest, under}
+use Rattle.ide_ssr_rewriting.specs.Replacements.{piece}
+use Rattle.ide_ssr_rewriting.specs.Edits.{list_under}
+use Rattle.ide_ssr_rewriting.specs.Private.Edits.{text_in}
+
+-- whether all of these lists can be made
+abbrev pub all_clean : (ℕ → List Rewrite) → List (ℕ × Binding) → Bool
+all_clean lists bound = list_all (λ p. is_clean (lists p.0)) bound
+
+-- what placeholders hold, with the changes of their lists made
+abbrev pub pieces_of : Workspace → Found → (ℕ → List Rewrite) → List (ℕ × Binding) → List (List ℕ)
+pieces_of w m lists bound = map (λ p. piece w (node_id m.node.tree p.1.node.0) (lists p.0)) bound
+
+-- likewise, if all lists can be made
+abbrev pub pieces_by : Workspace → Found → (ℕ → List Rewrite) → Option (List (List ℕ))
+pieces_by w m lists =
+    let bound = enumerate_from 0 m.bindings in
+    if all_clean lists bound then Some (pieces_of w m lists bound) else None
+
+-- the clashes of these lists
+abbrev pub clashes_in : (ℕ → List Rewrite) → List (ℕ × Binding) → List Clash
+clashes_in lists bound = flat_map (λ p. clashes (lists p.0)) bound
+
+-- the first i placeholders of the match m of the place n are done: which pieces there are, whether all their lists can be made,
+-- the first clash, and which texts are left
+pub record AreTaken (w : Workspace) (nest : Nest) (m : Found) (n i : ℕ) (old cur : List (Option (String Global))) (clean : Bool) (pieces : List (List ℕ)) (was now : Option Clash) : Type 0 where
+  pub counted : length cur ≡ length old
+  pub left : (j : ℕ) → ((k : ℕ) → k < i → Contains (under nest n k) j → ⊥) → text_in cur j ≡ text_in old j
+  pub lists : all_clean (list_under w nest (text_in old) n) (enumerate_from 0 m.bindings)
+      ≡ (clean && all_clean (list_under w nest (text_in old) n) (enumerate_from i (drop i m.bindings)))
+  pub written : clean ≡ true → pieces ++ pieces_of w m (list_under w nest (text_in old) n) (enumerate_from i (drop i m.bindings))
+      ≡ pieces_of w m (list_under w nest (text_in old) n) (enumerate_from 0 m.bindings)
+  pub before : List Clash
+  pub split : before ++ clashes_in (list_under w nest (text_in old) n) (enumerate_from i (drop i m.bindings))
+      ≡ clashes_in (list_under w nest (text_in old) n) (enumerate_from 0 m.bindings)
+  pub first : (others : List Clash) → IsFirst others was → IsFirst (before ++ others) now

@@ -1,0 +1,22 @@
+-- Private: what is asked of matches and of their lists so that they can be written.
+use Rattle.std.specs.Prelude.{ℕ, ◌≡◌, true, List, All}
+use Rattle.ssr_base.specs.Changes.{Change}
+use Rattle.ssr_base.specs.Texts.{is_boundary}
+use Rattle.ssr_base.specs.Workspace.{FileSpan, Workspace}
+use Rattle.ide_ssr_rewriting.specs.Clashes.{Rewrite}
+use Rattle.ide_ssr_rewriting.specs.Replacements.{file_text}
+
+-- a change is one between characters of a text
+pub record FitsFile (text : List ℕ) (change : Change) : Type 0 where
+  pub begins : is_boundary text change.start ≡ true
+  pub ends : is_boundary text change.end ≡ true
+
+-- a range lies between characters of its file
+pub record FitsItsFile (w : Workspace) (range : FileSpan) : Type 0 where
+  pub begins : is_boundary (file_text w range.file) range.span.start ≡ true
+  pub ends : is_boundary (file_text w range.file) range.span.end ≡ true
+
+-- a range and those of a list lie in one file, between characters
+pub record IsOf (w : Workspace) (range : FileSpan) (list : List Rewrite) : Type 0 where
+  pub fits : FitsItsFile w range
+  pub each : All (λ r. (r.range.file ≡ range.file) × FitsItsFile w r.range) list

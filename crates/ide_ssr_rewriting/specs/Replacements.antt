@@ -1,0 +1,36 @@
+-- What is written for a match whose placeholders' lists can be made.
+use Rattle.std.specs.Prelude.{ℕ, List, [], ◌++◌, slice_get}
+use Rattle.std.specs.Option.{option_map_or}
+use Rattle.ssr_syntax_tree.specs.Syntax.{source_of}
+use Rattle.ssr_base.specs.declared.ids.NodeId.{NodeId}
+use Rattle.ssr_base.specs.Changes.{replaced}
+use Rattle.ssr_base.specs.Workspace.{FileSpan, Workspace, original_range, tree_of, trees}
+use Rattle.ide_ssr_rules.specs.Resolving.{ResolvedKind}
+use Rattle.ide_ssr_matching.specs.Found.{Found}
+use Rattle.ide_ssr_rewriting.specs.Clashes.{Rewrite, changes_made}
+use Rattle.ide_ssr_rewriting.specs.Comments.{comments_text, kept_comments}
+use Rattle.ide_ssr_rewriting.specs.Rendering.{piece_of, rendered}
+
+-- the text of a file
+abbrev pub file_text : Workspace → ℕ → List ℕ
+file_text w file = option_map_or source_of (slice_get w.files file) []
+
+-- the text of a range with the changes of a list made
+abbrev pub rewritten : Workspace → FileSpan → List Rewrite → List ℕ
+rewritten w range list = replaced (file_text w range.file) range.span.start range.span.end (changes_made list)
+
+-- what a node comes from, with the changes of a list made
+abbrev pub piece : Workspace → NodeId → List Rewrite → List ℕ
+piece w node list = option_map_or (λ range. rewritten w range list) (original_range (trees w) node) []
+
+-- what the template of a match's rule gives, where its placeholders have these pieces
+abbrev pub template_text : List ResolvedKind → Found → List (List ℕ) → List ℕ
+template_text rules m pieces = option_map_or (λ rule. rendered rule (piece_of m.bindings pieces)) (slice_get rules m.rule) []
+
+-- the comments that a match keeps; among the tokens of an expansion there are none
+abbrev pub comments_kept : Workspace → Found → List ℕ
+comments_kept w m = option_map_or (λ tree. comments_text tree (kept_comments tree m.node.node.0 m.bindings)) (tree_of w m.node.tree) []
+
+-- what stands for the match: what the template gives, and then the comments
+unfoldable pub text_of_match : Workspace → List ResolvedKind → Found → List (List ℕ) → List ℕ
+text_of_match w rules m pieces = template_text rules m pieces ++ comments_kept w m

@@ -1,0 +1,149 @@
+//! What stands for the matches of one list, its first clash, and the changes that it makes.
+
+ghost use Rattle.std.specs.Prelude.{◌≡◌, IfOk, false, is_some, option_map, string_bytes};
+ghost use Rattle.std.specs.Option.{option_map_or};
+ghost use Rattle.ssr_base.specs.Applied.{changes_of};
+ghost use Rattle.ssr_base.specs.Workspace.{file_span_of};
+ghost use Rattle.ide_ssr_rewriting.specs.Clashes.{AreInOrder, IsFirst, changes_made, clash_of, clashes, differ, is_clash, same_range, share_byte};
+ghost use Rattle.ide_ssr_rewriting.specs.Private.Clashes.{first_behind, stands_for};
+
+use ssr_base::FileRange;
+use ssr_syntax_lex::TextRange;
+use std::alloc::{AllocError, Global};
+use std::marker::Model;
+
+/// What stands for the bytes of a range: a text, or none where something below it clashes.
+#[derive(Drop)]
+pub(crate) struct Rewrite {
+    range: FileRange,
+    text: Option<String>,
+}
+
+impl Model for Rewrite {
+    ghost use Rattle.std.specs.Prelude.{option_map, string_bytes};
+    ghost use Rattle.ssr_base.specs.Workspace.{file_span_of};
+    ghost use Rattle.ide_ssr_rewriting.specs.Clashes.{Rewrite as RewriteValue};
+
+    ghost Value = { RewriteValue };
+
+    ghost view = { λ r. record { range = file_span_of r.range; text = option_map string_bytes r.text } };
+}
+
+/// Whether two ranges are one.
+fn same_range(a: FileRange, b: FileRange) -> bool
+    ensures { result ≡ same_range (file_span_of a) (file_span_of b) }
+{
+    a.file_id.0 == b.file_id.0 && a.range.start == b.range.start && a.range.end == b.range.end
+}
+
+/// Whether two ranges are of one file and have a byte in common.
+fn share_byte(a: FileRange, b: FileRange) -> bool
+    ensures { result ≡ share_byte (file_span_of a) (file_span_of b) }
+{
+    a.file_id.0 == b.file_id.0 && a.range.start.max(b.range.start) < a.range.end.min(b.range.end)
+}
+
+impl Rewrite {
+    pub(crate) fn new(range: FileRange, text: Option<String>) -> Rewrite
+        ensures range { result.range ≡ file_span_of range }
+        ensures text { result.text ≡ option_map string_bytes text }
+    {
+        Rewrite { range, text }
+    }
+
+    fn range(&self) -> FileRange
+        ensures { file_span_of result ≡ self.now.range }
+    {
+        self.range
+    }
+
+    /// Whether a text is known.
+    pub(crate) fn is_known(&self) -> bool
+        ensures { result ≡ is_some self.now.text }
+    {
+        self.text.is_some()
+    }
+
+    /// Whether the texts of both are known and differ.
+    fn differs(&self, other: &Rewrite) -> bool
+        ensures { result ≡ differ self.now.text other.now.text }
+    {
+        match (&self.text, &other.text) {
+            (Some(text), Some(other)) => text.as_str() != other.as_str(),
+            _ => false,
+        }
+    }
+
+    /// Whether this one and one behind it clash.
+    #[tactic(auto, unfolding(crate::specs::Clashes::is_clash))]
+    fn clashes_with(&self, other: &Rewrite) -> bool
+        ensures { result ≡ is_clash self.now other.now }
+    {
+        share_byte(self.range(), other.range())
+            && (!same_range(self.range(), other.range()) || self.differs(other))
+    }
+
+    /// Whether this one clashes with all that the other one, which has its range and doesn't clash with it, clashes
+    /// with.
+    #[tactic(auto, unfolding(crate::specs::Private::Clashes::stands_for))]
+    fn stands_for(&self, other: &Rewrite) -> bool
+        ensures { result ≡ stands_for self.now other.now }
+    {
+        same_range(self.range(), other.range()) && self.is_known()
+    }
+}
+
+/// The first clash of those behind `first`, which stands for those of its range before them.
+fn first_behind(first: &Rewrite, behind: &[Rewrite]) -> Option<(FileRange, FileRange)>
+    ensures { option_map clash_of result ≡ first_behind first.now behind.now }
+{
+    let mut known = first;
+    for next in behind {
+        if known.clashes_with(next) {
+            return Some((known.range(), next.range()));
+        }
+        if !known.stands_for(next) {
+            known = next;
+        }
+    }
+    None
+}
+
+/// The first clash of a list.
+pub(crate) fn first_clash(list: &[Rewrite]) -> Option<(FileRange, FileRange)>
+    requires { AreInOrder list.now }
+    ensures { IsFirst (clashes list.now) (option_map clash_of result) }
+{
+    let (first, behind) = list.split_first()?;
+    first_behind(first, behind)
+}
+
+/// Whether there is a last range, which is this one.
+fn is_last(last: Option<FileRange>, range: FileRange) -> bool
+    ensures { result ≡ option_map_or (λ last. same_range (file_span_of range) (file_span_of last)) last false }
+{
+    match last {
+        Some(last) => same_range(range, last),
+        None => false,
+    }
+}
+
+/// The changes that a list makes; those of one range count once.
+pub(crate) fn changes_made(
+    alloc: Global,
+    list: Vec<Rewrite>,
+) -> Result<Vec<(TextRange, String)>, AllocError>
+    ensures { IfOk result (λ v. changes_of v.items ≡ changes_made list.items) }
+{
+    let mut changes = Vec::new(alloc);
+    let mut last = None;
+    for rewrite in list {
+        let Rewrite { range, text } = rewrite;
+        if is_last(last, range) {
+            continue;
+        }
+        changes.push((range.range, text.unwrap_or(String::new(alloc))))?;
+        last = Some(range);
+    }
+    Ok(changes)
+}

@@ -1,0 +1,296 @@
+//! The texts of the kept matches, the first clash of all their lists, and the edits of the files.
+
+ghost use Rattle.std.specs.Prelude.{◌≡◌, ◌≢◌, ◌+◌, ◌<◌, ℕ, All, AllPairs, IfOk, IfSome, OnOk, Contains, List, None, Some, ◌++◌, is_some, length, map, option_map, option_to_list, slice_get, string_bytes, if◌then◌else◌};
+ghost use Rattle.std.specs.List.{list_all};
+ghost use Rattle.std.specs.Ordering.{nat_cmp, ordering_then};
+ghost use Rattle.ssr_base.specs.Workspace.{file_span_of, original_range, trees};
+ghost use Rattle.ide_ssr_rewriting.specs.Clashes.{AreInOrder, Clash, IsFirst, clash_le, clash_of, clashes, is_clean};
+ghost use Rattle.ide_ssr_rewriting.specs.Edits.{clashes_under, list_at, list_under};
+ghost use Rattle.ide_ssr_rewriting.specs.Nest.{IsMatchIn, IsNest, range_at, under};
+ghost use Rattle.ide_ssr_rewriting.specs.Private.Clashes.{lesser};
+ghost use Rattle.ide_ssr_rewriting.specs.Private.Edits.{IsRun, text_in};
+ghost use Rattle.ide_ssr_rewriting.specs.Private.Pieces.{pieces_by};
+ghost use Rattle.ide_ssr_rewriting.specs.Private.Replacements.{IsOf};
+ghost use Rattle.ide_ssr_rewriting.specs.Replacements.{piece, text_of_match};
+
+use crate::clashes::{Rewrite, changes_made, first_clash};
+use crate::listed::Nest;
+use crate::replacements::{piece, text_of_match};
+use ide_ssr_matching::Found;
+use ide_ssr_rules::ResolvedRule;
+use ssr_base::{FileId, FileRange, NodeId, TextEdit, Workspace};
+use ssr_syntax_lex::TextRange;
+use std::alloc::{AllocError, Global};
+use std::cmp::Ordering;
+use std::collections::BTreeMap;
+use thiserror::Error;
+
+/// Why there are no edits.
+#[derive(Clone, Copy, Debug, PartialEq, Eq, Error)]
+pub enum EditError {
+    /// Two matches of one list share a byte, and their ranges or their replacements differ: the ranges of the first two.
+    #[error("two matches share a byte")]
+    Clash(FileRange, FileRange),
+    /// Memory ran out.
+    #[error("out of memory")]
+    Memory,
+}
+
+impl From<AllocError> for EditError {
+    ghost use Rattle.std.specs.Prelude.{◌≡◌};
+    ghost use Rattle.ide_ssr_rewriting.specs.declared.edits.EditError.TheVariants as errors;
+
+    ghost from_gives = { λ _ error. error ≡ errors.Memory };
+
+    fn from(_: AllocError) -> EditError {
+        EditError::Memory
+    }
+}
+
+/// Compares ranges by file, start and end, and where they are one, as is said.
+fn compared(a: FileRange, b: FileRange, behind: Ordering) -> Ordering
+    ensures { result ≡ ordering_then (nat_cmp a.file_id.0 b.file_id.0) (ordering_then (nat_cmp a.range.start b.range.start) (ordering_then (nat_cmp a.range.end b.range.end) behind)) }
+{
+    let ends = a.range.end.cmp(&b.range.end).then(behind);
+    let starts = a.range.start.cmp(&b.range.start).then(ends);
+    a.file_id.0.cmp(&b.file_id.0).then(starts)
+}
+
+/// Whether a clash comes no later than another one.
+#[tactic(auto, unfolding(crate::specs::Clashes::clash_le))]
+fn is_first(a: (FileRange, FileRange), b: (FileRange, FileRange)) -> bool
+    ensures { result ≡ clash_le (clash_of a) (clash_of b) }
+{
+    compared(a.0, b.0, compared(a.1, b.1, Ordering::Equal)).is_le()
+}
+
+/// The first one of two clashes, where there are some.
+fn lesser(
+    a: Option<(FileRange, FileRange)>,
+    b: Option<(FileRange, FileRange)>,
+) -> Option<(FileRange, FileRange)>
+    ensures { option_map clash_of result ≡ lesser (option_map clash_of a) (option_map clash_of b) }
+{
+    match (a, b) {
+        (Some(a), Some(b)) => Some(if is_first(a, b) { a } else { b }),
+        (Some(a), None) => Some(a),
+        (None, b) => b,
+    }
+}
+
+/// The texts that are known of the matches that were gone through, from the last one on, and the first clash of their
+/// lists.
+#[derive(Drop)]
+struct Pending {
+    texts: Vec<Option<String>>,
+    clash: Option<(FileRange, FileRange)>,
+}
+
+/// No text for each of so many matches.
+fn none_known(alloc: Global, count: usize) -> Result<Vec<Option<String>>, AllocError>
+    ensures { IfOk result (λ texts. length texts.items ≡ count) }
+{
+    let mut texts = Vec::new(alloc);
+    for _ in 0..count {
+        texts.push(None)?;
+    }
+    Ok(texts)
+}
+
+/// Where the match of a place comes from.
+fn range_at(workspace: &Workspace, nest: &Nest, place: usize) -> FileRange
+    requires { place < length nest.now.matches }
+    ensures { file_span_of result ≡ range_at workspace.now nest.now place }
+{
+    match workspace.original_range(nest.get(place).node()) {
+        Some(range) => range,
+        None => FileRange {
+            file_id: FileId(0),
+            range: TextRange::new(0, 0),
+        },
+    }
+}
+
+/// What stands for the matches of these places, whose texts are taken.
+fn take_list(
+    alloc: Global,
+    workspace: &Workspace,
+    nest: &Nest,
+    places: &[usize],
+    texts: &mut Vec<Option<String>>,
+) -> Result<Vec<Rewrite>, AllocError>
+    requires counted { length texts.old.items ≡ length nest.now.matches }
+    requires within { All (λ n. n < length nest.now.matches) places.now }
+    requires once { AllPairs ◌≢◌ places.now }
+    ensures list { IfOk result (λ list. list.items ≡ list_at workspace.now nest.now (text_in texts.old.items) places.now) }
+    ensures others { OnOk result ((n : ℕ) → (Contains places.now n → ⊥) → text_in texts.new.items n ≡ text_in texts.old.items n) }
+    ensures counted { OnOk result (length texts.new.items ≡ length texts.old.items) }
+{
+    let mut list = Vec::new(alloc);
+    for place in places {
+        let text = texts[*place].take();
+        list.push(Rewrite::new(range_at(workspace, nest, *place), text))?;
+    }
+    Ok(list)
+}
+
+/// Whether all texts of a list are known.
+fn all_known(list: &[Rewrite]) -> bool
+    ensures { result ≡ list_all (λ r. is_some r.text) list.now }
+{
+    for rewrite in list {
+        if !rewrite.is_known() {
+            return false;
+        }
+    }
+    true
+}
+
+/// What a node comes from with the changes of a list made, if it can be made: there is no clash in it, and all texts are
+/// known.
+fn piece_if_clean(
+    alloc: Global,
+    workspace: &Workspace,
+    node: NodeId,
+    list: Vec<Rewrite>,
+    clash: Option<(FileRange, FileRange)>,
+) -> Result<Option<String>, AllocError>
+    requires clash { IsFirst (clashes list.items) (option_map clash_of clash) }
+    requires list { IfSome (original_range (trees workspace.now) node) (λ range. IsOf workspace.now range list.items) }
+    ensures { IfOk result (λ text. option_map string_bytes text ≡ (if is_clean list.items then Some (piece workspace.now node list.items) else None)) }
+{
+    if clash.is_some() || !all_known(&list) {
+        return Ok(None);
+    }
+    Ok(Some(piece(alloc, workspace, node, list)?))
+}
+
+/// Pushes a piece, if there is one; answers whether there was.
+fn push_piece(pieces: &mut Vec<String>, piece: Option<String>) -> Result<bool, AllocError>
+    ensures there { IfOk result (λ there. there ≡ is_some (option_map string_bytes piece)) }
+    ensures pieces { OnOk result (map string_bytes pieces.new.items ≡ map string_bytes pieces.old.items ++ option_to_list (option_map string_bytes piece)) }
+{
+    match piece {
+        Some(piece) => {
+            pieces.push(piece)?;
+            Ok(true)
+        }
+        None => Ok(false),
+    }
+}
+
+/// What stands for a match with these pieces, if there are some.
+fn text_of_pieces(
+    alloc: Global,
+    workspace: &Workspace,
+    rules: &[ResolvedRule],
+    m: &Found,
+    pieces: Option<Vec<String>>,
+) -> Result<Option<String>, AllocError>
+    requires { IsMatchIn workspace.now m.now }
+    ensures { IfOk result (λ text. option_map string_bytes text ≡ option_map (text_of_match workspace.now rules.now m.now) (option_map (λ v. map string_bytes v.items) pieces)) }
+{
+    match pieces {
+        Some(pieces) => Ok(Some(text_of_match(alloc, workspace, rules, m, &pieces)?)),
+        None => Ok(None),
+    }
+}
+
+impl Pending {
+    /// Takes what stands for the matches of these places, and notes the first clash of it.
+    fn take_list(
+        &mut self,
+        alloc: Global,
+        workspace: &Workspace,
+        nest: &Nest,
+        places: &[usize],
+    ) -> Result<(Vec<Rewrite>, Option<(FileRange, FileRange)>), AllocError>
+        requires counted { length self.old.texts.items ≡ length nest.now.matches }
+        requires within { All (λ n. n < length nest.now.matches) places.now }
+        requires once { AllPairs ◌≢◌ places.now }
+        requires order { AreInOrder (list_at workspace.now nest.now (text_in self.old.texts.items) places.now) }
+        ensures list { IfOk result (λ taken. taken.0.items ≡ list_at workspace.now nest.now (text_in self.old.texts.items) places.now) }
+        ensures first { IfOk result (λ taken. IsFirst (clashes taken.0.items) (option_map clash_of taken.1)) }
+        ensures clash { IfOk result (λ taken. option_map clash_of self.new.clash ≡ lesser (option_map clash_of taken.1) (option_map clash_of self.old.clash)) }
+        ensures others { OnOk result ((n : ℕ) → (Contains places.now n → ⊥) → text_in self.new.texts.items n ≡ text_in self.old.texts.items n) }
+        ensures counted { OnOk result (length self.new.texts.items ≡ length self.old.texts.items) }
+    {
+        let list = take_list(alloc, workspace, nest, places, &mut self.texts)?;
+        let first = first_clash(&list);
+        self.clash = lesser(first, self.clash);
+        Ok((list, first))
+    }
+
+    /// The pieces of the placeholders of the match of a place, if all lists under them can be made; these are taken, and
+    /// their first clash is noted.
+    fn take_pieces(
+        &mut self,
+        alloc: Global,
+        workspace: &Workspace,
+        nest: &Nest,
+        m: &Found,
+        place: usize,
+    ) -> Result<Option<Vec<String>>, AllocError>
+        requires nest { IsNest workspace.now nest.now }
+        requires m { slice_get nest.now.matches place ≡ Some m.now }
+        requires counted { length self.old.texts.items ≡ length nest.now.matches }
+        ensures pieces { IfOk result (λ pieces. option_map (λ v. map string_bytes v.items) pieces ≡ pieces_by workspace.now m.now (list_under workspace.now nest.now (text_in self.old.texts.items) place)) }
+        ensures clash { OnOk result ((others : List Clash) → IsFirst others (option_map clash_of self.old.clash) → IsFirst (clashes_under m.now (list_under workspace.now nest.now (text_in self.old.texts.items) place) ++ others) (option_map clash_of self.new.clash)) }
+        ensures left { OnOk result ((j : ℕ) → ((i : ℕ) → Contains (under nest.now place i) j → ⊥) → text_in self.new.texts.items j ≡ text_in self.old.texts.items j) }
+        ensures counted { OnOk result (length self.new.texts.items ≡ length self.old.texts.items) }
+    {
+        let mut pieces = Vec::new(alloc);
+        let mut is_clean = true;
+        for (index, binding) in m.bindings().iter().enumerate() {
+            let node = NodeId {
+                tree: m.node().tree,
+                node: binding.node,
+            };
+            let (list, first) = self.take_list(alloc, workspace, nest, nest.under(place, index))?;
+            let piece = piece_if_clean(alloc, workspace, node, list, first)?;
+            is_clean = push_piece(&mut pieces, piece)? && is_clean;
+        }
+        if is_clean { Ok(Some(pieces)) } else { Ok(None) }
+    }
+
+    /// Rewrites the match of a place, where those behind it are gone through.
+    fn rewrite_at(
+        &mut self,
+        alloc: Global,
+        workspace: &Workspace,
+        rules: &[ResolvedRule],
+        nest: &Nest,
+        place: usize,
+    ) -> Result<(), AllocError>
+        requires nest { IsNest workspace.now nest.now }
+        requires place { place < length nest.now.matches }
+        requires run { IsRun workspace.now rules.now nest.now (place + 1) self.old.texts.items (option_map clash_of self.old.clash) }
+        ensures { OnOk result (IsRun workspace.now rules.now nest.now place self.new.texts.items (option_map clash_of self.new.clash)) }
+    {
+        let m = nest.get(place);
+        let pieces = self.take_pieces(alloc, workspace, nest, m, place)?;
+        let text = text_of_pieces(alloc, workspace, rules, m, pieces)?;
+        self.texts[place] = text;
+        Ok(())
+    }
+}
+
+/// Goes through all matches, from the last one to the first.
+fn run(
+    alloc: Global,
+    workspace: &Workspace,
+    rules: &[ResolvedRule],
+    nest: &Nest,
+) -> Result<Pending, AllocError>
+    requires { IsNest workspace.now nest.now }
+    ensures { IfOk result (λ pending. IsRun workspace.now rules.now nest.now 0 pending.texts.items (option_map clash_of pending.clash)) }
+{
+    let mut pending = Pending {
+        texts: none_known(alloc, nest.len())?,
+        clash: None,
+    };
+    for place in (0..nest.len()).rev() {
+        pending.rewrite_at(alloc, workspace, rules, nest, place)?;
+    }
+    Ok(pending)
+}

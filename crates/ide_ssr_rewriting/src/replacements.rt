@@ -1,0 +1,127 @@
+//! What is written for a match whose placeholders' lists can be made.
+
+ghost use Rattle.std.specs.Prelude.{◌≡◌, ◌++◌, All, IfOk, IfSome, OnOk, map, slice_range, string_bytes, true};
+ghost use Rattle.ssr_base.specs.Applied.{changes_of};
+ghost use Rattle.ssr_base.specs.Changes.{replaced};
+ghost use Rattle.ssr_base.specs.Texts.{is_boundary};
+ghost use Rattle.ssr_base.specs.Workspace.{original_range, trees};
+ghost use Rattle.ide_ssr_rewriting.specs.Nest.{IsMatchIn};
+ghost use Rattle.ide_ssr_rewriting.specs.Replacements.{comments_kept, file_text, piece, template_text, text_of_match};
+ghost use Rattle.ide_ssr_rewriting.specs.Private.Replacements.{FitsFile, IsOf};
+
+use crate::clashes::{Rewrite, changes_made};
+use crate::comments::{kept_comments, push_comments};
+use crate::rendering::rendered;
+use ide_ssr_matching::Found;
+use ide_ssr_rules::ResolvedRule;
+use ssr_base::{FileId, FileRange, NodeId, Workspace};
+use ssr_syntax_lex::TextRange;
+use std::alloc::{AllocError, Global};
+
+/// The bytes of a file from one place to another; none if these places are the other way round.
+fn between(workspace: &Workspace, file: FileId, from: u32, to: u32) -> &str
+    requires from { is_boundary (file_text workspace.now file.0) from ≡ true }
+    requires to { is_boundary (file_text workspace.now file.0) to ≡ true }
+    ensures { result.now ≡ slice_range (file_text workspace.now file.0) from to }
+{
+    if to < from {
+        return "";
+    }
+    let range = FileRange {
+        file_id: file,
+        range: TextRange::new(from, to),
+    };
+    match workspace.text(range) {
+        Some(text) => text,
+        None => "",
+    }
+}
+
+/// The text of a range with changes of its file made.
+fn replaced(
+    alloc: Global,
+    workspace: &Workspace,
+    range: FileRange,
+    changes: &[(TextRange, String)],
+) -> Result<String, AllocError>
+    requires start { is_boundary (file_text workspace.now range.file_id.0) range.range.start ≡ true }
+    requires end { is_boundary (file_text workspace.now range.file_id.0) range.range.end ≡ true }
+    requires changes { All (FitsFile (file_text workspace.now range.file_id.0)) (changes_of changes.now) }
+    ensures { IfOk result (λ text. string_bytes text ≡ replaced (file_text workspace.now range.file_id.0) range.range.start range.range.end (changes_of changes.now)) }
+{
+    let mut text = String::new(alloc);
+    let mut at = range.range.start;
+    for (change, new) in changes {
+        text.push_str(between(workspace, range.file_id, at, change.start))?;
+        text.push_str(new.as_str())?;
+        at = change.end;
+    }
+    text.push_str(between(workspace, range.file_id, at, range.range.end))?;
+    Ok(text)
+}
+
+/// What a node comes from, with the changes of a list made.
+pub(crate) fn piece(
+    alloc: Global,
+    workspace: &Workspace,
+    node: NodeId,
+    list: Vec<Rewrite>,
+) -> Result<String, AllocError>
+    requires { IfSome (original_range (trees workspace.now) node) (λ range. IsOf workspace.now range list.items) }
+    ensures { IfOk result (λ text. string_bytes text ≡ piece workspace.now node list.items) }
+{
+    let Some(range) = workspace.original_range(node) else {
+        return Ok(String::new(alloc));
+    };
+    let changes = changes_made(alloc, list)?;
+    replaced(alloc, workspace, range, &changes)
+}
+
+/// What the template of the match's rule gives with these pieces.
+fn template_text(
+    alloc: Global,
+    rules: &[ResolvedRule],
+    m: &Found,
+    pieces: &[String],
+) -> Result<String, AllocError>
+    ensures { IfOk result (λ text. string_bytes text ≡ template_text rules.now m.now (map string_bytes pieces.now)) }
+{
+    match rules.get(m.rule()) {
+        Some(rule) => rendered(alloc, rule, m.bindings(), pieces),
+        None => Ok(String::new(alloc)),
+    }
+}
+
+/// Adds the comments that a match keeps.
+fn push_kept(
+    alloc: Global,
+    workspace: &Workspace,
+    m: &Found,
+    text: &mut String,
+) -> Result<(), AllocError>
+    requires { IsMatchIn workspace.now m.now }
+    ensures { OnOk result (string_bytes text.new ≡ string_bytes text.old ++ comments_kept workspace.now m.now) }
+{
+    let Some(tree) = workspace.tree(m.node().tree) else {
+        return Ok(());
+    };
+    let comments = kept_comments(alloc, tree, m.node().node, m.bindings())?;
+    push_comments(text, tree, &comments)
+}
+
+/// What stands for a match whose placeholders have these pieces.
+#[tactic(auto, unfolding(crate::specs::Replacements::text_of_match))]
+pub(crate) fn text_of_match(
+    alloc: Global,
+    workspace: &Workspace,
+    rules: &[ResolvedRule],
+    m: &Found,
+    pieces: &[String],
+) -> Result<String, AllocError>
+    requires { IsMatchIn workspace.now m.now }
+    ensures { IfOk result (λ text. string_bytes text ≡ text_of_match workspace.now rules.now m.now (map string_bytes pieces.now)) }
+{
+    let mut text = template_text(alloc, rules, m, pieces)?;
+    push_kept(alloc, workspace, m, &mut text)?;
+    Ok(text)
+}
