@@ -171,7 +171,7 @@ Contains-here : (c d : Clash) (cs : List Clash) → c ≡ d → Contains (c ∷ 
 Contains-here c d cs e = (0, omega arith, e)
 
 -- pairs of a range with those of a list
-abbrev pairs : FileSpan → List Rewrite → List Clash
+abbrev pub pairs : FileSpan → List Rewrite → List Clash
 pairs range zs = map (λ z. record { earlier = range; later = z.range }) zs
 
 -- where one of two tests passes the other passes too, for an element of a list more

@@ -9,3 +9,4 @@ mod Taken
 mod Pieces
 mod Fits
 mod Runs
+mod Groups

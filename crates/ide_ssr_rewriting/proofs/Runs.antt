@@ -1,18 +1,26 @@
 -- The matches are gone through, one more at a time.
-use Rattle.std.proofs.Common.{◌≡◌, ℕ, ◌+◌, ◌<◌, inl, inr, List, ◌∷◌, ◌++◌, set, drop, length, Option, Some, None, sym, ◌∙◌, ap, subst, arith, String, string_bytes}
+use Rattle.std.proofs.Common.{◌≡◌, ℕ, ◌+◌, ◌<◌, inl, inr, List, [], ◌∷◌, ◌++◌, set, drop, length, Option, Some, None, refl, sym, ◌∙◌, ap, subst, arith, String, string_bytes}
 use Rattle.std.specs.Global.{Global}
-use Rattle.std.specs.Prelude.{Contains, flat_map, option_map, slice_get}
+use Rattle.std.specs.Prelude.{Contains, flat_map, option_map, slice_get, Result, Ok, Err}
+use Rattle.std.specs.BTreeMap.{BTreeMap, get}
 use Rattle.std.specs.List.{enumerate_from}
 use Rattle.std.proofs.lemmas.Bool.{cases_eq}
 use Rattle.std.proofs.lemmas.List.{drop_more, drop_all, get_or-set_same, get_or-set_other, length-set}
 use Rattle.std.proofs.lemmas.List.Elements.{All-contains}
 use Rattle.std.proofs.lemmas.Option.{get_or_from_slice_get, slice_get_within, some_pair_parts}
+use Rattle.ssr_base.specs.declared.ids.FileId.{FileId}
+use Rattle.ssr_base.specs.declared.ids.FileRange.{FileRange}
+use Rattle.ssr_base.specs.Changes.{Change}
 use Rattle.ssr_base.specs.Workspace.{Workspace}
 use Rattle.ide_ssr_rules.specs.Resolving.{ResolvedKind}
 use Rattle.ide_ssr_matching.specs.Found.{Found}
-use Rattle.ide_ssr_rewriting.specs.Clashes.{Rewrite, Clash, IsFirst}
+use Rattle.ide_ssr_rewriting.specs.declared.editing.EditError.{EditError}
+use Rattle.ide_ssr_rewriting.specs.declared.editing.EditError.TheVariants as errors
+use Rattle.ide_ssr_rewriting.specs.Clashes.{Rewrite, Clash, IsFirst, clash_of, clashes}
+use Rattle.ide_ssr_rewriting.specs.Private.Clashes.{lesser}
+use Rattle.ide_ssr_rewriting.proofs.FirstClashes.{IsFirst-append}
 use Rattle.ide_ssr_rewriting.specs.Nest.{Nest, IsNest, under}
-use Rattle.ide_ssr_rewriting.specs.Edits.{Texts, clashes_under, list_at, list_under, outermost_list, text_by}
+use Rattle.ide_ssr_rewriting.specs.Edits.{Answers, Texts, all_clashes, clashes_under, edit_of, file_cmp, list_at, list_under, outermost_list, text_by}
 use Rattle.ide_ssr_rewriting.specs.Private.Edits.{IsRun, clashes_from, text_in, texts_of}
 use Rattle.ide_ssr_rewriting.proofs.Texts.{are_texts, list_same, lists_same}
 
@@ -89,3 +97,46 @@ pub outermost_known : (w : Workspace) (rules : List ResolvedKind) (nest : Nest) 
 outermost_known w rules nest is stored clash run =
     list_same w nest (text_in stored) (texts_of w rules nest) nest.outermost (λ j h.
     run.known j (omega arith) (All-contains (λ n. n < length nest.matches) nest.outermost j is.outermost.within h) (λ k i _ g. not_outermost w nest is k i j g h))
+
+-- ** The answer.
+
+pub first_of_all : (w : Workspace) (rules : List ResolvedKind) (nest : Nest) → IsNest w nest → (stored : List (Option (String Global))) (was first now : Option Clash) (list : List Rewrite)
+    → IsRun w rules nest 0 stored was → list ≡ list_at w nest (text_in stored) nest.outermost → IsFirst (clashes list) first → now ≡ lesser first was
+    → IsFirst (all_clashes w nest (texts_of w rules nest)) now
+first_of_all w rules nest is stored was first now list run taken told noted =
+    let here : list ≡ outermost_list w nest (texts_of w rules nest) = taken ∙ outermost_known w rules nest is stored was run in
+    subst (IsFirst (all_clashes w nest (texts_of w rules nest))) (sym noted)
+    (IsFirst-append (clashes (outermost_list w nest (texts_of w rules nest))) (clashes_from w nest (texts_of w rules nest) 0) first was
+    (subst (λ (list : List Rewrite). IsFirst (clashes list) first) here told) run.first)
+
+front_none : (xs ys : List Clash) → xs ++ ys ≡ [] → xs ≡ []
+front_none [] ys e = refl
+front_none (x ∷ xs) ys e = absurd (cc e)
+
+-- without a clash the outermost list has none
+pub outermost_clean : (w : Workspace) (rules : List ResolvedKind) (nest : Nest) → IsNest w nest → (stored : List (Option (String Global))) (was now : Option Clash) (list : List Rewrite)
+    → IsRun w rules nest 0 stored was → list ≡ list_at w nest (text_in stored) nest.outermost → IsFirst (all_clashes w nest (texts_of w rules nest)) now → now ≡ None → clashes list ≡ []
+outermost_clean w rules nest is stored was now list run taken first none =
+    let all : all_clashes w nest (texts_of w rules nest) ≡ [] = subst (IsFirst (all_clashes w nest (texts_of w rules nest))) none first in
+    ap clashes (taken ∙ outermost_known w rules nest is stored was run)
+    ∙ front_none (clashes (outermost_list w nest (texts_of w rules nest))) (clashes_from w nest (texts_of w rules nest) 0) all
+
+pub edited : (w : Workspace) (rules : List ResolvedKind) (nest : Nest) → IsNest w nest → (stored : List (Option (String Global))) (was now : Option Clash) (list : List Rewrite) (edits : BTreeMap FileId (List Change))
+    → IsRun w rules nest 0 stored was → list ≡ list_at w nest (text_in stored) nest.outermost → IsFirst (all_clashes w nest (texts_of w rules nest)) now → now ≡ None
+    → ((file : FileId) → get file_cmp edits file ≡ edit_of file.0 list) → Answers w rules nest (Ok edits)
+edited w rules nest is stored was now list edits run taken first none each = (
+  texts_of w rules nest,
+  are_texts w rules nest is,
+  (
+    subst (IsFirst (all_clashes w nest (texts_of w rules nest))) none first,
+    λ file. each file ∙ ap (edit_of file.0) (taken ∙ outermost_known w rules nest is stored was run),
+  ),
+)
+
+pub clashed : (w : Workspace) (rules : List ResolvedKind) (nest : Nest) → IsNest w nest → (earlier later : FileRange) (now : Option Clash)
+    → IsFirst (all_clashes w nest (texts_of w rules nest)) now → now ≡ Some (clash_of (earlier, later)) → Answers w rules nest (Err (errors.Clash earlier later))
+clashed w rules nest is earlier later now first e =
+    (texts_of w rules nest, are_texts w rules nest is, subst (IsFirst (all_clashes w nest (texts_of w rules nest))) e first)
+
+pub no_memory : (w : Workspace) (rules : List ResolvedKind) (nest : Nest) → IsNest w nest → (result : Result (BTreeMap FileId (List Change)) EditError) → result ≡ Err errors.Memory → Answers w rules nest result
+no_memory w rules nest is result e = subst (Answers w rules nest) (sym e) (texts_of w rules nest, are_texts w rules nest is, tt)

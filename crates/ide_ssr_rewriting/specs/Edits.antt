@@ -1,11 +1,17 @@
 -- The one text of each kept match, the first clash of all lists, and the edits of the files.
-use Rattle.std.specs.Prelude.{ℕ, ◌≡◌, ◌==◌, if◌then◌else◌, List, [], ◌∷◌, ◌++◌, map, filter, flat_map, slice_get, Option, Some, None}
+use Rattle.std.specs.Prelude.{ℕ, ◌≡◌, ◌==◌, if◌then◌else◌, List, [], ◌∷◌, ◌++◌, map, filter, flat_map, slice_get, Option, Some, None, Result, Ok, Err, ⊤}
+use Rattle.std.specs.BTreeMap.{BTreeMap, get}
 use Rattle.std.specs.List.{enumerate_from, list_all}
+use Rattle.std.specs.Ordering.{nat_cmp}
+use Rattle.std.specs.declared.cmp.Ordering.{Ordering}
+use Rattle.ssr_base.specs.declared.ids.FileId.{FileId}
 use Rattle.ssr_base.specs.Changes.{Change}
 use Rattle.ssr_base.specs.Workspace.{Workspace, node_id}
 use Rattle.ide_ssr_rules.specs.Resolving.{ResolvedKind}
 use Rattle.ide_ssr_matching.specs.Found.{Found}
-use Rattle.ide_ssr_rewriting.specs.Clashes.{Rewrite, Clash, changes_made, clashes, is_clean}
+use Rattle.ide_ssr_rewriting.specs.declared.editing.EditError.{EditError}
+use Rattle.ide_ssr_rewriting.specs.declared.editing.EditError.TheVariants as errors
+use Rattle.ide_ssr_rewriting.specs.Clashes.{Rewrite, Clash, IsFirst, changes_made, clash_of, clashes, is_clean}
 use Rattle.ide_ssr_rewriting.specs.Nest.{Nest, range_at, under}
 use Rattle.ide_ssr_rewriting.specs.Replacements.{piece, text_of_match}
 
@@ -62,3 +68,18 @@ some_changes (c ∷ cs) = Some (c ∷ cs)
 -- the edit of a file, which makes the changes of those of a list that lie in it; without them there is none
 abbrev pub edit_of : ℕ → List Rewrite → Option (List Change)
 edit_of file list = some_changes (changes_made (filter (λ r. r.range.file == file) list))
+
+-- files are told apart by their numbers
+abbrev pub file_cmp : FileId → FileId → Ordering
+file_cmp a b = nat_cmp a.0 b.0
+
+-- The answer where these are the texts: each file has its edit if there is no clash, and else the first clash is told. Want of
+-- memory may be told in place of both.
+abbrev pub IsAnswer : Workspace → Nest → Texts → Result (BTreeMap FileId (List Change)) EditError → Type 0
+IsAnswer w nest texts (Ok edits) =
+    (all_clashes w nest texts ≡ []) × ((file : FileId) → get file_cmp edits file ≡ edit_of file.0 (outermost_list w nest texts))
+IsAnswer w nest texts (Err (errors.Clash earlier later)) = IsFirst (all_clashes w nest texts) (Some (clash_of (earlier, later)))
+IsAnswer w nest texts (Err errors.Memory) = ⊤
+
+abbrev pub Answers : Workspace → List ResolvedKind → Nest → Result (BTreeMap FileId (List Change)) EditError → Type 0
+Answers w rules nest result = (texts : Texts) × AreTexts w rules nest texts × IsAnswer w nest texts result

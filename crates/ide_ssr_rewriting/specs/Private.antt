@@ -3,3 +3,4 @@ pub mod Clashes
 pub mod Replacements
 pub mod Edits
 pub mod Pieces
+pub mod Groups

@@ -51,7 +51,7 @@ impl Rewrite {
         Rewrite { range, text }
     }
 
-    fn range(&self) -> FileRange
+    pub(crate) fn range(&self) -> FileRange
         ensures { file_span_of result ≡ self.now.range }
     {
         self.range

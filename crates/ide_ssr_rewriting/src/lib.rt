@@ -3,13 +3,13 @@
 
 mod clashes;
 mod comments;
-mod edits;
+mod editing;
 pub mod laws;
 mod listed;
 mod rendering;
 mod replacements;
 
 pub use comments::{kept_comments, push_comments};
-pub use edits::EditError;
+pub use editing::{EditError, edits};
 pub use listed::Nest;
 pub use rendering::rendered;

@@ -12,8 +12,8 @@ use Rattle.ide_ssr_rewriting.specs.Nest.{under}
 use Rattle.ide_ssr_rewriting.specs.Private.Edits.{text_in}
 use Rattle.ide_ssr_rewriting.proofs.Fits.{list_fits}
 use Rattle.ide_ssr_rewriting.proofs.Pieces.{list_in_order, taking-more, taken_clashes}
-use Rattle.ide_ssr_rewriting.proofs.edits.Pending.take_pieces.Goals as goal
-use Rattle.ide_ssr_rewriting.proofs.edits.Pending.take_pieces.Goals.{then-branch, else-branch}
+use Rattle.ide_ssr_rewriting.proofs.editing.Pending.take_pieces.Goals as goal
+use Rattle.ide_ssr_rewriting.proofs.editing.Pending.take_pieces.Goals.{then-branch, else-branch}
 
 abbrev nobody : Binding
 nobody = record { placeholder = 0; node = record { 0 = 0 } }

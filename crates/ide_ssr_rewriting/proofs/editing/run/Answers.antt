@@ -2,7 +2,7 @@ use Rattle.std.proofs.Common.{◌≡◌, ℕ, option_map, refl, sym, ◌∙◌, 
 use Rattle.ide_ssr_rewriting.specs.Clashes.{clash_of}
 use Rattle.ide_ssr_rewriting.specs.Private.Edits.{IsRun}
 use Rattle.ide_ssr_rewriting.proofs.Runs.{run-starts}
-use Rattle.ide_ssr_rewriting.proofs.edits.run.Goals as goal
+use Rattle.ide_ssr_rewriting.proofs.editing.run.Goals as goal
 
 pub loop-place-init : goal.loop-place-init
 loop-place-init c =

@@ -4,7 +4,7 @@ use Rattle.ide_ssr_rewriting.specs.Replacements.{text_of_match}
 use Rattle.ide_ssr_rewriting.specs.Private.Edits.{text_in}
 use Rattle.ide_ssr_rewriting.proofs.Runs.{run-more}
 use Rattle.ide_ssr_rewriting.proofs.Pieces.{text_of_pieces}
-use Rattle.ide_ssr_rewriting.proofs.edits.Pending.rewrite_at.Goals as goal
+use Rattle.ide_ssr_rewriting.proofs.editing.Pending.rewrite_at.Goals as goal
 
 pub returns : goal.returns
 returns c =

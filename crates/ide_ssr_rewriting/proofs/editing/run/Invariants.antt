@@ -1,7 +1,7 @@
 use Rattle.std.proofs.Common.{option_map}
 use Rattle.ide_ssr_rewriting.specs.Clashes.{clash_of}
 use Rattle.ide_ssr_rewriting.specs.Private.Edits.{IsRun}
-use Rattle.ide_ssr_rewriting.proofs.edits.run.Given as goal
+use Rattle.ide_ssr_rewriting.proofs.editing.run.Given as goal
 
 abbrev pub invariant-loop-place : goal.invariant-loop-place
 invariant-loop-place l = IsRun l.workspace l.rules l.nest l.place l.pending.texts.items (option_map clash_of l.pending.clash)

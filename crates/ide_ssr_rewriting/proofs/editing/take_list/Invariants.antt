@@ -2,7 +2,7 @@ use Rattle.std.proofs.Common.{◌≡◌, ℕ, length, take}
 use Rattle.std.specs.Prelude.{Contains}
 use Rattle.ide_ssr_rewriting.specs.Edits.{list_at}
 use Rattle.ide_ssr_rewriting.specs.Private.Edits.{text_in}
-use Rattle.ide_ssr_rewriting.proofs.edits.take_list.Given as goal
+use Rattle.ide_ssr_rewriting.proofs.editing.take_list.Given as goal
 
 abbrev pub invariant-loop-place : goal.invariant-loop-place
 invariant-loop-place l = record {

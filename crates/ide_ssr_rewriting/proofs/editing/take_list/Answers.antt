@@ -1,7 +1,7 @@
 use Rattle.std.proofs.Common.{◌≡◌, ◌<◌, ◌∙◌, get_or, length, refl, sym, None, arith}
 use Rattle.std.proofs.lemmas.List.{get_or_default, length-set}
 use Rattle.ide_ssr_rewriting.proofs.Taken.{list-more, others-more}
-use Rattle.ide_ssr_rewriting.proofs.edits.take_list.Goals as goal
+use Rattle.ide_ssr_rewriting.proofs.editing.take_list.Goals as goal
 
 pub loop-place-preserved : goal.loop-place-preserved
 loop-place-preserved c =

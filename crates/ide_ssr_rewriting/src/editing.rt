@@ -1,14 +1,17 @@
 //! The texts of the kept matches, the first clash of all their lists, and the edits of the files.
 
-ghost use Rattle.std.specs.Prelude.{◌≡◌, ◌≢◌, ◌+◌, ◌<◌, ℕ, All, AllPairs, IfOk, IfSome, OnOk, Contains, List, None, Some, ◌++◌, is_some, length, map, option_map, option_to_list, slice_get, string_bytes, if◌then◌else◌};
+ghost use Rattle.std.specs.Prelude.{◌≡◌, ◌≢◌, ◌+◌, ◌-◌, ◌<◌, [], ℕ, All, AllPairs, IfNone, IfOk, IfSome, OnOk, Contains, List, None, Some, ◌++◌, is_some, length, map, option_map, option_to_list, slice_get, slice_index_or, string_bytes, if◌then◌else◌};
 ghost use Rattle.std.specs.List.{list_all};
 ghost use Rattle.std.specs.Ordering.{nat_cmp, ordering_then};
+ghost use Rattle.std.specs.BTreeMap.{get};
+ghost use Rattle.ssr_base.specs.declared.ids.FileId.{FileId as FileIdValue};
 ghost use Rattle.ssr_base.specs.Workspace.{file_span_of, original_range, trees};
-ghost use Rattle.ide_ssr_rewriting.specs.Clashes.{AreInOrder, Clash, IsFirst, clash_le, clash_of, clashes, is_clean};
-ghost use Rattle.ide_ssr_rewriting.specs.Edits.{clashes_under, list_at, list_under};
+ghost use Rattle.ide_ssr_rewriting.specs.Clashes.{AreInOrder, Clash, IsFirst, Rewrite as RewriteValue, clash_le, clash_of, clashes, is_clean};
+ghost use Rattle.ide_ssr_rewriting.specs.Edits.{Answers, clashes_under, edit_of, file_cmp, list_at, list_under};
 ghost use Rattle.ide_ssr_rewriting.specs.Nest.{IsMatchIn, IsNest, range_at, under};
 ghost use Rattle.ide_ssr_rewriting.specs.Private.Clashes.{lesser};
 ghost use Rattle.ide_ssr_rewriting.specs.Private.Edits.{IsRun, text_in};
+ghost use Rattle.ide_ssr_rewriting.specs.Private.Groups.{IsGroup, LastElsewhere};
 ghost use Rattle.ide_ssr_rewriting.specs.Private.Pieces.{pieces_by};
 ghost use Rattle.ide_ssr_rewriting.specs.Private.Replacements.{IsOf};
 ghost use Rattle.ide_ssr_rewriting.specs.Replacements.{piece, text_of_match};
@@ -38,7 +41,7 @@ pub enum EditError {
 
 impl From<AllocError> for EditError {
     ghost use Rattle.std.specs.Prelude.{◌≡◌};
-    ghost use Rattle.ide_ssr_rewriting.specs.declared.edits.EditError.TheVariants as errors;
+    ghost use Rattle.ide_ssr_rewriting.specs.declared.editing.EditError.TheVariants as errors;
 
     ghost from_gives = { λ _ error. error ≡ errors.Memory };
 
@@ -293,4 +296,80 @@ fn run(
         pending.rewrite_at(alloc, workspace, rules, nest, place)?;
     }
     Ok(pending)
+}
+
+/// The file in which the last one of a list lies.
+fn last_file(list: &[Rewrite]) -> Option<FileId>
+    ensures found { IfSome result (λ file. (0 < length list.now) × ((d : RewriteValue) → (slice_index_or list.now (length list.now - 1) d).range.file ≡ file.0)) }
+    ensures none { IfNone result (list.now ≡ []) }
+{
+    let last = list.last()?;
+    Some(last.range().file_id)
+}
+
+/// Takes the last one off a list, if it lies in the file.
+fn pop_of_file(list: &mut Vec<Rewrite>, file: FileId) -> Option<Rewrite>
+    ensures gives { list.old.items ≡ list.new.items ++ option_to_list result }
+    ensures file { IfSome result (λ r. r.range.file ≡ file.0) }
+    ensures elsewhere { IfNone result (LastElsewhere file.0 list.new.items) }
+{
+    let last = last_file(list)?;
+    if last.0 != file.0 {
+        return None;
+    }
+    list.pop()
+}
+
+/// Takes those off the end of a list that lie in the file.
+fn take_group(
+    alloc: Global,
+    list: &mut Vec<Rewrite>,
+    file: FileId,
+) -> Result<Vec<Rewrite>, AllocError>
+    ensures { IfOk result (λ group. IsGroup file.0 list.old.items list.new.items group.items) }
+{
+    let mut group = Vec::new(alloc);
+    while let Some(rewrite) = pop_of_file(list, file) {
+        group.push(rewrite)?;
+    }
+    group.reverse();
+    Ok(group)
+}
+
+/// The edits of the files that a list changes.
+fn file_edits(
+    alloc: Global,
+    mut list: Vec<Rewrite>,
+) -> Result<BTreeMap<FileId, TextEdit>, AllocError>
+    requires order { AreInOrder list.items }
+    requires clean { clashes list.items ≡ [] }
+    ensures { IfOk result (λ edits. (file : FileIdValue) → get file_cmp edits file ≡ edit_of file.0 list.items) }
+{
+    let mut edits = BTreeMap::new(alloc);
+    while let Some(file) = last_file(&list) {
+        let group = take_group(alloc, &mut list, file)?;
+        let changes = changes_made(alloc, group)?;
+        edits.insert(file, TextEdit::new(changes))?;
+    }
+    Ok(edits)
+}
+
+/// The edits of the files in which kept matches lie: each outermost one becomes its rule's template with what its
+/// placeholders hold, in which the matches are rewritten likewise. `Clash` where two matches of one list share a byte, and
+/// their ranges or what stands for them differ: the first two.
+pub fn edits(
+    alloc: Global,
+    workspace: &Workspace,
+    rules: &[ResolvedRule],
+    nest: &Nest,
+) -> Result<BTreeMap<FileId, TextEdit>, EditError>
+    requires { IsNest workspace.now nest.now }
+    ensures { Answers workspace.now rules.now nest.now result }
+{
+    let mut pending = run(alloc, workspace, rules, nest)?;
+    let (outermost, _) = pending.take_list(alloc, workspace, nest, nest.outermost())?;
+    if let Some((earlier, later)) = pending.clash {
+        return Err(EditError::Clash(earlier, later));
+    }
+    Ok(file_edits(alloc, outermost)?)
 }
