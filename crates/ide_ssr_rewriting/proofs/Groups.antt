@@ -239,12 +239,12 @@ group_ordered all old left done f group split is order none =
 
 -- ** One group more.
 
-record IsSome-group (group : List Rewrite) : Type 0 where
+record HasFirst (group : List Rewrite) : Type 0 where
   first : Rewrite
   rest : List Rewrite
   is : group ≡ first ∷ rest
 
-some_group : (f : ℕ) (old left group : List Rewrite) (d : Rewrite) → IsGroup f old left group → 0 < length old → (get_or old (length old - 1) d).range.file ≡ f → IsSome-group group
+some_group : (f : ℕ) (old left group : List Rewrite) (d : Rewrite) → IsGroup f old left group → 0 < length old → (get_or old (length old - 1) d).range.file ≡ f → HasFirst group
 some_group f old left [] d is lt last =
     let same : old ≡ left = is.is ∙ append-nil left in
     absurd (is.last d (subst (λ (rs : List Rewrite). 0 < length rs) same lt) (subst (λ (rs : List Rewrite). (get_or rs (length rs - 1) d).range.file ≡ f) same last))

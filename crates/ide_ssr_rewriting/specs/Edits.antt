@@ -81,5 +81,6 @@ IsAnswer w nest texts (Ok edits) =
 IsAnswer w nest texts (Err (errors.Clash earlier later)) = IsFirst (all_clashes w nest texts) (Some (clash_of (earlier, later)))
 IsAnswer w nest texts (Err errors.Memory) = ⊤
 
+-- the answer to rules and kept matches
 abbrev pub Answers : Workspace → List ResolvedKind → Nest → Result (BTreeMap FileId (List Change)) EditError → Type 0
 Answers w rules nest result = (texts : Texts) × AreTexts w rules nest texts × IsAnswer w nest texts result

@@ -39,8 +39,8 @@ pub record IsList (w : Workspace) (nest : Nest) (holder : ℕ → Option (ℕ ×
   pub once : AllPairs ◌≢◌ places
   pub ordered : AllPairs (λ a b. range_le (range_at w nest a) (range_at w nest b) ≡ true) places
 
--- What is asked of all of it. A match is in one list, which is that of an earlier match or of the outermost ones, and lies in
--- what its placeholder holds.
+-- What is asked of all of it. No match is in two lists. One in the list of a placeholder comes behind the match that has the
+-- placeholder, and lies in what this holds.
 pub record IsNest (w : Workspace) (nest : Nest) : Type 0 where
   pub built : IsBuilt w
   pub matches : All (IsMatchIn w) nest.matches
