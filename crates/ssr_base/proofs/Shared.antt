@@ -6,3 +6,5 @@ pub use Rattle.ssr_base.proofs.Built.{is_built}
 pub use Rattle.ssr_base.proofs.Ranges.{lies_in_file, has_text, ranges_nest}
 -- what stands above nodes
 pub use Rattle.ssr_base.proofs.Above.{IsUp, is_up, reaches_its_file, call_above, root_found}
+-- nodes begin in their order
+pub use Rattle.ssr_base.proofs.Finding.{starts_sorted}
