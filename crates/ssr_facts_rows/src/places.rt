@@ -18,7 +18,7 @@ pub struct SpanRow {
 }
 
 /// Bytes of a tree.
-#[derive(Clone, Copy, Debug, PartialEq, Eq)]
+#[derive(Clone, Copy, Debug, PartialEq, Eq, PartialOrd, Ord)]
 pub struct PlaceRow {
     pub tree: u32,
     pub start: u32,
