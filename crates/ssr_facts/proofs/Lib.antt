@@ -1,4 +1,13 @@
+mod Lists
 mod Rows
 mod Keys
 mod Uses
 mod Same
+mod ByTree
+mod Places
+mod Best
+mod Shortest
+mod Sweep
+mod Told
+mod Ordered
+mod Answered

@@ -50,60 +50,57 @@ lookup_key-none test (row ∷ rows) e = step (test row.0) e (lookup_key-none tes
 flipped : {K : Type 0} {R : K → K → Ordering} → IsTotalOrder R → (a b : K) → is_at (R a) b ≡ is_at (R b) a
 flipped total a b = (eq_by_cmp_equiv total).symm a b
 
+-- one row more: it counts where no row before it has its key
+pub lookup_push : {K V : Type 0} (test : K → Bool) (rows : List (K × V)) (row : K × V)
+    → lookup test (rows ++ row ∷ []) ≡ option_or (lookup test rows) (cond (test row.0) (Some row.1) None)
+lookup_push test [] row = refl
+lookup_push test (first ∷ rows) row =
+    elim (test first.0) as (λ b. cond b (Some first.1) (lookup test (rows ++ row ∷ [])) ≡ option_or (cond b (Some first.1) (lookup test rows)) (cond (test row.0) (Some row.1) None)) [
+      | true ↦ refl
+      | false ↦ lookup_push test rows row
+    ]
+
 module _ {K V : Type 0} {R : K → K → Ordering} (total : IsTotalOrder R) where
   -- keys that aren't told apart have the same value
   pub get_alike : (map : BTreeMap K V) (key other : K) → is_at (R key) other ≡ true → get R map other ≡ get R map key
   get_alike map key other same =
       lookup_alike (is_at (R other)) (is_at (R key)) (λ x. ap is_eq (sym (total.congr key other x (is_eq-true (R key other) same)))) map.entries
 
-  -- one row more: it counts where no row before it has its key
-  pub lookup_push : (rows : List (K × V)) (row : K × V) (q : K)
-      → lookup (is_at (R q)) (rows ++ row ∷ []) ≡ option_or (lookup (is_at (R q)) rows) (cond (is_at (R q) row.0) (Some row.1) None)
-  lookup_push [] row q = refl
-  lookup_push (first ∷ rows) row q =
-      elim (is_at (R q) first.0) as (λ b. cond b (Some first.1) (lookup (is_at (R q)) (rows ++ row ∷ []))
-      ≡ option_or (cond b (Some first.1) (lookup (is_at (R q)) rows)) (cond (is_at (R q) row.0) (Some row.1) None)) [
-        | true ↦ refl
-        | false ↦ lookup_push rows row q
-      ]
-
-  -- what a map has goes on being what the rows say: where it has the key of the next row that row doesn't count
-  pub has_old_row : (map : BTreeMap K V) (rows : List (K × V)) (key : K) (value : V) → ((q : K) → get R map q ≡ lookup (is_at (R q)) rows)
-      → is_some (get R map key) ≡ true → (q : K) → get R map q ≡ lookup (is_at (R q)) (rows ++ (key, value) ∷ [])
-  has_old_row map rows key value says has q =
-      elim (cases_Bool (is_at (R q) key)) [
+  -- a key that a map has goes on having what it has
+  pub keeps_first : (map : BTreeMap K V) (key : K) (value : V) → is_some (get R map key) ≡ true
+      → (q : K) → get R map q ≡ option_or (get R map q) (cond (is_at (R key) q) (Some value) None)
+  keeps_first map key value has q =
+      elim (cases_Bool (is_at (R key) q)) [
         | inl same ↦
-            let alike = get_alike map key q (flipped total key q ∙ same) in
-            says q ∙ sym (option_or-some (lookup (is_at (R q)) rows) last (sym (ap is_some (says q)) ∙ ap is_some alike ∙ has)) ∙ push
+            sym (option_or-some (get R map q) (cond (is_at (R key) q) (Some value) None) (ap is_some (get_alike map key q same) ∙ has))
         | inr other ↦
-            says q ∙ sym (option_or-none (lookup (is_at (R q)) rows))
-            ∙ ap (λ b. option_or (lookup (is_at (R q)) rows) (cond b (Some value) None)) (sym other) ∙ push
+            sym (option_or-none (get R map q)) ∙ ap (λ b. option_or (get R map q) (cond b (Some value) None)) (sym other)
       ]
-    where
-      last : Option V
-      last = cond (is_at (R q) key) (Some value) None
 
-      push : option_or (lookup (is_at (R q)) rows) last ≡ lookup (is_at (R q)) (rows ++ (key, value) ∷ [])
-      push = sym (lookup_push rows (key, value) q)
-
-  -- and else it is put in
-  pub has_new_row : (map more : BTreeMap K V) (rows : List (K × V)) (key : K) (value : V) → ((q : K) → get R map q ≡ lookup (is_at (R q)) rows)
-      → is_some (get R map key) ≡ false → ((q : K) → get R more q ≡ cond (is_at (R key) q) (Some value) (get R map q))
-      → (q : K) → get R more q ≡ lookup (is_at (R q)) (rows ++ (key, value) ∷ [])
-  has_new_row map more rows key value says free puts q =
-      puts q ∙ ap (λ b. cond b (Some value) (get R map q)) (flipped total key q)
-      ∙ elim (cases_Bool (is_at (R q) key)) [
+  -- and one that it has not is put in
+  pub adds_first : (map more : BTreeMap K V) (key : K) (value : V) → is_some (get R map key) ≡ false
+      → ((q : K) → get R more q ≡ cond (is_at (R key) q) (Some value) (get R map q))
+      → (q : K) → get R more q ≡ option_or (get R map q) (cond (is_at (R key) q) (Some value) None)
+  adds_first map more key value free puts q =
+      puts q
+      ∙ elim (cases_Bool (is_at (R key) q)) [
         | inl same ↦
-            let alike = get_alike map key q (flipped total key q ∙ same) in
-            let none : lookup (is_at (R q)) rows ≡ None = sym (says q) ∙ alike ∙ is_some-false (get R map key) free in
             ap (λ b. cond b (Some value) (get R map q)) same
             ∙ ap (λ b. cond b (Some value) None) (sym same)
-            ∙ ap (λ o. option_or o (cond (is_at (R q) key) (Some value) None)) (sym none)
+            ∙ ap (λ o. option_or o (cond (is_at (R key) q) (Some value) None)) (sym (get_alike map key q same ∙ is_some-false (get R map key) free))
         | inr other ↦
-            ap (λ b. cond b (Some value) (get R map q)) other ∙ says q ∙ sym (option_or-none (lookup (is_at (R q)) rows))
-            ∙ ap (λ b. option_or (lookup (is_at (R q)) rows) (cond b (Some value) None)) (sym other)
+            ap (λ b. cond b (Some value) (get R map q)) other ∙ sym (option_or-none (get R map q))
+            ∙ ap (λ b. option_or (get R map q) (cond b (Some value) None)) (sym other)
       ]
-      ∙ sym (lookup_push rows (key, value) q)
+
+  -- what a map has goes on being what the rows say
+  pub has_next_row : (map more : BTreeMap K V) (rows : List (K × V)) (key : K) (value : V) → ((q : K) → get R map q ≡ lookup (is_at (R q)) rows)
+      → ((q : K) → get R more q ≡ option_or (get R map q) (cond (is_at (R key) q) (Some value) None))
+      → (q : K) → get R more q ≡ lookup (is_at (R q)) (rows ++ (key, value) ∷ [])
+  has_next_row map more rows key value says adds q =
+      adds q ∙ ap (λ o. option_or o (cond (is_at (R key) q) (Some value) None)) (says q)
+      ∙ ap (λ b. option_or (lookup (is_at (R q)) rows) (cond b (Some value) None)) (flipped total key q)
+      ∙ sym (lookup_push (is_at (R q)) rows (key, value))
 
 -- the list that a map has of each key, after the list of one key was taken out and put in again
 pub group_more : {K V : Type 0} {R : K → K → Ordering} → IsTotalOrder R → (old without new : BTreeMap K (Vec V Global)) (key : K) (group : Vec V Global) (value : V)

@@ -1,3 +1,9 @@
 pub mod Tables
 pub mod Provider
+pub mod Sources
+pub mod Nodes
+pub mod Scopes
+pub mod Naming
+pub mod Told
+pub mod Reading
 pub mod Private

@@ -1,12 +1,27 @@
 //! Maps that are made of rows.
 
-ghost use Rattle.std.specs.Prelude.{◌≡◌, ◌++◌, ◌∷◌, [], IfOk, OnOk, map, if◌then◌else◌};
+ghost use Rattle.std.specs.Prelude.{◌≡◌, ◌++◌, ◌∷◌, [], IfOk, OnOk, map, if◌then◌else◌, Some, None};
 ghost use Rattle.std.specs.BTreeMap.{get, is_at};
 ghost use Rattle.std.specs.Map.{lookup, keys_of};
+ghost use Rattle.std.specs.Option.{option_or};
 ghost use Rattle.ssr_facts.specs.Private.Grouping.{group_at};
 
 use std::alloc::{AllocError, Global};
 use std::collections::BTreeMap;
+
+/// Adds what a key has, unless it has something.
+pub(crate) fn add_first<K: Ord + Drop, V: Drop>(
+    map: &mut BTreeMap<K, V>,
+    key: K,
+    value: V,
+) -> Result<(), AllocError>
+    ensures { OnOk result ((other : K) → get K.cmp map.new other ≡ option_or (get K.cmp map.old other) (if is_at (K.cmp key) other then Some value else None)) }
+{
+    if !map.contains_key(&key) {
+        map.insert(key, value)?;
+    }
+    Ok(())
+}
 
 /// What rows say: of those with one key the first.
 pub(crate) fn first_rows<K: Ord + Drop, V: Drop>(
@@ -17,9 +32,7 @@ pub(crate) fn first_rows<K: Ord + Drop, V: Drop>(
 {
     let mut map = BTreeMap::new(alloc);
     for (key, value) in rows {
-        if !map.contains_key(&key) {
-            map.insert(key, value)?;
-        }
+        add_first(&mut map, key, value)?;
     }
     Ok(map)
 }

@@ -1,12 +1,24 @@
-//! Facts about the names, types and scopes of a workspace: a provider that is told by tables.
+//! Facts about the names, types and scopes of a workspace: a provider that is told by tables, and facts files that are read to
+//! a workspace and its provider.
 #![tactic(auto)]
 
+mod facts;
+mod facts_error;
 mod grouping;
+mod kept;
 mod maps;
+mod naming;
+mod nodes;
 mod provider;
+mod scopes;
+mod sources;
+mod table_rows;
 mod tables;
 #[cfg(test)]
 mod tests;
+mod types;
 
+pub use facts::{Facts, read};
+pub use facts_error::FactsError;
 pub use provider::TableSemantics;
 pub use tables::{Definition, MemberKey, Method, NameKey, PrintedKey, Tables};

@@ -1,0 +1,53 @@
+-- Whether each number of a facts file names something, and each row of a path or of a method call such a node.
+use Rattle.std.specs.Prelude.{ℕ, ◌&&◌, nat_lt, Bool, true, length, is_some}
+use Rattle.std.specs.List.{list_all}
+use Rattle.ssr_syntax_lex.specs.declared.kinds.SyntaxKind.TheVariants as k
+use Rattle.ssr_base.specs.Workspace.{Workspace, tree_of}
+use Rattle.ssr_facts_rows.specs.declared.meanings.ResolutionRow.{ResolutionRow}
+use Rattle.ssr_facts_rows.specs.declared.meanings.ResolutionRow.TheVariants as resolutions
+use Rattle.ssr_facts_rows.specs.Facts.{PlainFacts}
+use Rattle.ssr_facts.specs.Nodes.{node_at}
+
+abbrev pub is_tree : Workspace → ℕ → Bool
+is_tree w tree = is_some (tree_of w tree)
+
+abbrev pub is_scope : PlainFacts → ℕ → Bool
+is_scope facts scope = nat_lt scope (length facts.scopes)
+
+abbrev pub is_definition : PlainFacts → ℕ → Bool
+is_definition facts definition = nat_lt definition (length facts.definitions)
+
+-- what is no definition has a number of its own
+abbrev pub is_resolution : PlainFacts → ResolutionRow → Bool
+is_resolution facts (resolutions.Definition definition) = is_definition facts definition
+is_resolution facts _ = true
+
+-- ** Row by row.
+
+abbrev pub scopes_named : Workspace → PlainFacts → Bool
+scopes_named w facts = list_all (λ row. is_tree w row.tree) facts.scopes
+
+abbrev pub names_named : PlainFacts → Bool
+names_named facts = list_all (λ row. is_scope facts row.scope && is_resolution facts row.resolution) facts.names
+
+abbrev pub members_named : PlainFacts → Bool
+members_named facts =
+    list_all (λ row. is_scope facts row.scope && (is_definition facts row.definition && is_definition facts row.member)) facts.members
+
+abbrev pub paths_named : Workspace → PlainFacts → Bool
+paths_named w facts = list_all (λ row. is_some (node_at w k.PATH row.place) && is_resolution facts row.resolution) facts.paths
+
+abbrev pub methods_named : Workspace → PlainFacts → Bool
+methods_named w facts =
+    list_all (λ row. is_some (node_at w k.METHOD_CALL_EXPR row.place) && is_definition facts row.definition) facts.methods
+
+abbrev pub types_named : Workspace → PlainFacts → Bool
+types_named w facts = list_all (λ row. is_tree w row.place.tree) facts.types
+
+abbrev pub printed_named : PlainFacts → Bool
+printed_named facts = list_all (λ row. is_scope facts row.scope && is_definition facts row.definition) facts.printed
+
+abbrev pub all_named : Workspace → PlainFacts → Bool
+all_named w facts =
+    scopes_named w facts && (names_named facts && (members_named facts && (paths_named w facts
+    && (methods_named w facts && (types_named w facts && printed_named facts)))))
