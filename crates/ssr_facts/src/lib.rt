@@ -10,6 +10,8 @@ mod maps;
 mod naming;
 mod nodes;
 mod provider;
+#[cfg(test)]
+mod read_tests;
 mod scopes;
 mod sources;
 mod table_rows;
