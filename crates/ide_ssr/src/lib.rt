@@ -10,8 +10,6 @@ mod kept;
 pub mod laws;
 mod matches;
 mod nesting;
-#[cfg(test)]
-mod rule_texts;
 mod search;
 
 pub use edits::EditError;

@@ -177,36 +177,3 @@ impl<'a> PlaceholderMatch<'a> {
         &self.inner
     }
 }
-
-#[cfg(test)]
-mod tests {
-    use super::*;
-    use std::test::Fail;
-
-    #[test]
-    fn drops_deep_matches(rt: HostRuntime) -> Result<(), Fail> {
-        let alloc = rt.alloc();
-        let mut matches = Vec::new(alloc);
-        for _ in 0..300_000 {
-            let placeholder = PlaceholderMatch {
-                var: Var(String::from_str(alloc, "a")?),
-                range: TextRange { start: 0, end: 1 },
-                node: NodeNo(0),
-                inner: matches,
-            };
-            matches = vec![in alloc;
-                Match {
-                    text: "1",
-                    range: TextRange { start: 0, end: 1 },
-                    node: NodeNo(0),
-                    rule_index: 0,
-                    placeholders: vec![in alloc; placeholder]?,
-                    comments: Vec::new(alloc),
-                },
-            ]?;
-        }
-        let found = SsrMatches { matches };
-        assert_eq!(rt; found.matches.len(), 1);
-        Ok(())
-    }
-}

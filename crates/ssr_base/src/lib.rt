@@ -8,8 +8,6 @@ mod edit;
 mod ids;
 pub mod laws;
 mod semantics;
-#[cfg(test)]
-mod tests;
 mod workspace;
 mod workspace_error;
 

@@ -12,8 +12,6 @@ mod preorder;
 mod reading;
 mod solid;
 mod syntax_error;
-#[cfg(test)]
-mod tests;
 mod tree_tokens;
 mod turning;
 

@@ -148,36 +148,3 @@ pub(crate) fn solid_tokens(alloc: Global, kinds: &[SyntaxKind]) -> Result<Vec<To
     }
     Ok(tokens)
 }
-
-#[cfg(test)]
-mod tests {
-    use super::*;
-    use std::test::Fail;
-
-    #[test]
-    fn white_space_and_comments_are_left_out(rt: HostRuntime) -> Result<(), Fail> {
-        let kinds = [
-            SyntaxKind::IDENT,
-            SyntaxKind::WHITESPACE,
-            SyntaxKind::COMMENT,
-            SyntaxKind::EQ,
-            SyntaxKind::EQ,
-            SyntaxKind::COMMENT,
-            SyntaxKind::IDENT,
-        ];
-        let solid = solid_tokens(rt.alloc(), &kinds)?;
-        let want = [
-            (SyntaxKind::IDENT, SyntaxKind::IDENT, 1),
-            (SyntaxKind::EQ, SyntaxKind::EQ2, 2),
-            (SyntaxKind::EQ, SyntaxKind::EQ, 1),
-            (SyntaxKind::IDENT, SyntaxKind::IDENT, 1),
-        ];
-        assert_eq!(rt; solid.len(), want.len());
-        for (token, (kind, joined, size)) in solid.iter().zip(want) {
-            assert_eq!(rt; token.kind, kind);
-            assert_eq!(rt; token.joined, joined);
-            assert_eq!(rt; token.size, size);
-        }
-        Ok(())
-    }
-}

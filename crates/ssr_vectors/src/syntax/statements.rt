@@ -1,5 +1,5 @@
 use super::outlines::{outline, row};
-use crate::fragments::Fragment;
+use ssr_syntax::Fragment;
 use std::test::Fail;
 
 #[test]

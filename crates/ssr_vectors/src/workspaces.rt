@@ -1,9 +1,6 @@
 //! Workspaces, what they refuse, and what they tell of their nodes.
 
-use crate::building::Expansion;
-use crate::ids::{FileId, FileRange, NodeId};
-use crate::workspace::Workspace;
-use crate::workspace_error::WorkspaceError;
+use ssr_base::{Expansion, FileId, FileRange, NodeId, Workspace, WorkspaceError};
 use ssr_syntax::{ExpToken, ExpansionKind, SyntaxError};
 use ssr_syntax_lex::TextRange;
 use ssr_syntax_tree::NodeNo;

@@ -1,8 +1,6 @@
 //! What is read of texts: the nodes with their ranges, the faults, and how deep and how long a text may be.
 
-use crate::fragments::Fragment;
-use crate::reading::{fragment, parse_file};
-use crate::syntax_error::SyntaxError;
+use ssr_syntax::{Fragment, SyntaxError, fragment, parse_file};
 use ssr_syntax_lex::SyntaxKind;
 use ssr_syntax_tree::{NodeNo, Tree};
 use std::alloc::{AllocError, Global};

@@ -1,8 +1,6 @@
 //! For tests: what is read of a text, in one line.
 
-use crate::fragments::Fragment;
-use crate::reading::fragment;
-use crate::syntax_error::SyntaxError;
+use ssr_syntax::{Fragment, SyntaxError, fragment};
 use ssr_syntax_tree::{NodeNo, TokenNo, Tree};
 use std::alloc::{AllocError, Global};
 

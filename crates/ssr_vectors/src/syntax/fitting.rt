@@ -1,9 +1,9 @@
 //! Whether trees fit that were read as this and that.
 
-use crate::expansions::{ExpToken, ExpansionKind, parse_tokens};
-use crate::fitting::{fits_file, fits_fragment, fits_tokens};
-use crate::fragments::Fragment;
-use crate::reading::{fragment, parse_file};
+use ssr_syntax::{
+    ExpToken, ExpansionKind, Fragment, fits_file, fits_fragment, fits_tokens, fragment, parse_file,
+    parse_tokens,
+};
 use std::alloc::{AllocError, Global};
 use std::test::Fail;
 

@@ -1,4 +1,4 @@
-//! Tables of texts and of what is read of them, a file a subject, and what the parser writes of tokens.
+//! Tables of texts and of what is read of them, a file a subject.
 
 mod atoms;
 mod blocks;
@@ -7,7 +7,6 @@ mod expansions;
 mod expressions;
 mod fitting;
 mod fragments;
-mod grammar;
 mod items;
 mod leaves;
 mod outlines;

@@ -1,7 +1,7 @@
 //! The tokens of trees: which of a text's are joined, and that white space and comments are among them.
 
 use super::outlines::{leaves, row};
-use crate::fragments::Fragment;
+use ssr_syntax::Fragment;
 use std::test::Fail;
 
 #[test]

@@ -1,6 +1,5 @@
 use super::outlines::{outline, row, told};
-use crate::fragments::Fragment;
-use crate::reading::parse_file;
+use ssr_syntax::{Fragment, parse_file};
 use std::test::Fail;
 
 #[test]

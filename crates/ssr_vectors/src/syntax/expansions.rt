@@ -1,6 +1,5 @@
 use super::outlines::{row, told};
-use crate::expansions::{ExpToken, ExpansionKind, parse_tokens};
-use crate::syntax_error::SyntaxError;
+use ssr_syntax::{ExpToken, ExpansionKind, SyntaxError, parse_tokens};
 use ssr_syntax_lex::lex;
 use std::alloc::{AllocError, Global};
 use std::test::Fail;

@@ -1,0 +1,16 @@
+//! Worked examples of what the libraries have in public, and that their calls succeed. They stand in a crate of their own,
+//! above what they try: a crate with tests is proved twice.
+#![tactic(auto)]
+
+#[cfg(test)]
+mod edits;
+#[cfg(test)]
+mod finder;
+#[cfg(test)]
+mod parser;
+#[cfg(test)]
+mod rule_texts;
+#[cfg(test)]
+mod syntax;
+#[cfg(test)]
+mod workspaces;

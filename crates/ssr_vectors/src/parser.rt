@@ -1,0 +1,171 @@
+//! The parser: what it takes of tokens, and what it refuses.
+
+ghost use Rattle.std.specs.Prelude.{◌∷◌, []};
+
+use ssr_syntax_forms::{END, Fault, Parser, Token, TokenSet};
+use ssr_syntax_lex::SyntaxKind;
+use ssr_syntax_lex::SyntaxKind::*;
+use std::alloc::Global;
+use std::test::Fail;
+
+fn token(kind: SyntaxKind) -> Token {
+    Token {
+        kind,
+        joined: kind,
+        size: 1,
+    }
+}
+
+#[derive(Clone, Copy)]
+struct Ampersands;
+
+impl TokenSet for Ampersands {
+    ghost use Rattle.ssr_syntax_lex.specs.declared.kinds.SyntaxKind.TheVariants as k;
+
+    ghost kinds = { λ _. k.AMP ∷ k.AMP2 ∷ [] };
+
+    fn contains(self, kind: SyntaxKind) -> bool {
+        matches!(kind, AMP | AMP2)
+    }
+}
+
+// `&&`
+fn two_ampersands() -> [Token; 2] {
+    let first = Token {
+        kind: AMP,
+        joined: AMP2,
+        size: 2,
+    };
+    [first, token(AMP)]
+}
+
+#[test]
+fn a_joined_token_is_taken_whole_or_by_parts(rt: HostRuntime) -> Result<(), Fail> {
+    let tokens = two_ampersands();
+    let mut p = Parser::new(rt.alloc(), &tokens)?;
+    p.expect(AMP2)?;
+    let taken = p.finish()?.taken;
+    assert_eq!(rt; taken.len(), 1);
+    assert!(rt; taken[0].kind == AMP2 && taken[0].size == 2);
+    let mut p = Parser::new(rt.alloc(), &tokens)?;
+    p.expect_part(Ampersands)?;
+    p.expect_part(Ampersands)?;
+    let taken = p.finish()?.taken;
+    assert_eq!(rt; taken.len(), 2);
+    assert!(rt; taken[0].kind == AMP && taken[0].size == 1);
+    assert!(rt; taken[1].kind == AMP && taken[1].size == 1);
+    Ok(())
+}
+
+// Each of them is a token by itself.
+fn tokens(alloc: Global, kinds: &[SyntaxKind]) -> Result<Vec<Token>, Fail> {
+    let mut tokens = Vec::new(alloc);
+    for kind in kinds {
+        tokens.push(token(*kind))?;
+    }
+    Ok(tokens)
+}
+
+#[test]
+fn items_of_a_list_stand_apart_by_commas(rt: HostRuntime) -> Result<(), Fail> {
+    for (kinds, fits) in [
+        (&[][..], true),
+        (&[INT_NUMBER][..], true),
+        (&[INT_NUMBER, COMMA][..], true),
+        (&[INT_NUMBER, COMMA, INT_NUMBER][..], true),
+        (&[INT_NUMBER, INT_NUMBER][..], false),
+        (&[COMMA][..], false),
+    ] {
+        let tokens = tokens(rt.alloc(), kinds)?;
+        let mut p = Parser::new(rt.alloc(), &tokens)?;
+        let read = p.comma_list(INT_NUMBER, |p| p.expect(INT_NUMBER));
+        let whole = read.is_ok() && p.finish().is_ok();
+        assert_eq!(rt; whole, fits);
+    }
+    Ok(())
+}
+
+#[test]
+fn what_may_stand_is_taken_if_it_does(rt: HostRuntime) -> Result<(), Fail> {
+    let tokens = [token(MUT_KW), token(IDENT)];
+    let mut p = Parser::new(rt.alloc(), &tokens)?;
+    p.eat(MUT_KW)?;
+    p.eat(MUT_KW)?;
+    p.eat(IDENT)?;
+    assert_eq!(rt; p.finish()?.taken.len(), 2);
+    Ok(())
+}
+
+#[test]
+fn tokens_ahead_are_told_by_their_kinds(rt: HostRuntime) -> Result<(), Fail> {
+    // `&& mut x :`
+    let [first, second] = two_ampersands();
+    let tokens = [first, second, token(MUT_KW), token(IDENT), token(COLON)];
+    let p = Parser::new(rt.alloc(), &tokens)?;
+    assert!(rt; p.at_three(AMP2, MUT_KW, IDENT));
+    assert!(rt; !p.at_three(AMP2, MUT_KW, COLON));
+    assert!(rt; p.at_four(AMP2, MUT_KW, IDENT, COLON));
+    assert!(rt; !p.at_four(AMP2, MUT_KW, IDENT, IDENT));
+    let p = Parser::new(rt.alloc(), &tokens[3..])?;
+    assert!(rt; p.at_three(IDENT, COLON, END));
+    assert!(rt; p.at_four(IDENT, COLON, END, END));
+    Ok(())
+}
+
+#[test]
+fn a_loop_goes_on_while_two_tokens_are_next(rt: HostRuntime) -> Result<(), Fail> {
+    let tokens = tokens(rt.alloc(), &[IDENT, EQ, IDENT, EQ, IDENT])?;
+    let mut p = Parser::new(rt.alloc(), &tokens)?;
+    p.repeated_two(IDENT, EQ, |p| {
+        p.expect(IDENT)?;
+        p.expect(EQ)
+    })?;
+    p.expect(IDENT)?;
+    assert_eq!(rt; p.finish()?.taken.len(), 5);
+    let mut p = Parser::new(rt.alloc(), &tokens)?;
+    let idle = p.repeated_two(IDENT, EQ, |_p| Ok(()));
+    assert_eq!(rt; idle, Err(Fault::NoTree));
+    Ok(())
+}
+
+#[test]
+fn a_comma_is_wanted_before_a_further_item(rt: HostRuntime) -> Result<(), Fail> {
+    let tokens = tokens(rt.alloc(), &[COMMA, IDENT])?;
+    let mut p = Parser::new(rt.alloc(), &tokens)?;
+    p.comma(IDENT)?;
+    p.comma(INT_NUMBER)?;
+    assert_eq!(rt; p.comma(IDENT), Err(Fault::NoTree));
+    Ok(())
+}
+
+#[test]
+fn a_next_token_is_wanted_or_refused(rt: HostRuntime) -> Result<(), Fail> {
+    let tokens = tokens(rt.alloc(), &[IDENT])?;
+    let p = Parser::new(rt.alloc(), &tokens)?;
+    assert_eq!(rt; p.expect_at(IDENT), Ok(()));
+    assert_eq!(rt; p.expect_at(EQ), Err(Fault::NoTree));
+    assert_eq!(rt; p.refuse_at(EQ), Ok(()));
+    assert_eq!(rt; p.refuse_at(IDENT), Err(Fault::NoTree));
+    Ok(())
+}
+
+#[test]
+fn tokens_since_a_mark_are_refused(rt: HostRuntime) -> Result<(), Fail> {
+    let tokens = tokens(rt.alloc(), &[MUT_KW, IDENT, EQ, COMMA])?;
+    let mut p = Parser::new(rt.alloc(), &tokens)?;
+    p.expect(MUT_KW)?;
+    let m = p.start();
+    assert_eq!(rt; p.refuse_last(&m, IDENT), Ok(()));
+    p.expect(IDENT)?;
+    p.expect(EQ)?;
+    for (kind, stands, is_last) in [
+        (MUT_KW, false, false),
+        (IDENT, true, false),
+        (EQ, true, true),
+        (COMMA, false, false),
+    ] {
+        assert_eq!(rt; p.refuse_since(&m, kind).is_err(), stands);
+        assert_eq!(rt; p.refuse_last(&m, kind).is_err(), is_last);
+    }
+    Ok(())
+}
