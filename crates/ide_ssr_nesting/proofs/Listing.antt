@@ -78,12 +78,12 @@ in_range n m = (
       let count = length-range_with_len 0 n in
       let is = get_or-range_with_len 0 n at.0 m (omega arith) in
       let same = at.2 in omega arith
-    )),
+      )),
   (λ less. (
-      m,
-      (let count = length-range_with_len 0 n in omega arith),
-      get_or-range_with_len 0 n m m less ∙ (let same : 0 + m ≡ m = omega arith in same),
-    )),
+    m,
+    (let count = length-range_with_len 0 n in omega arith),
+    get_or-range_with_len 0 n m m less ∙ (let same : 0 + m ≡ m = omega arith in same),
+  )),
 )
 
 range_distinct : (n : ℕ) → AllPairs (λ x y. x ≢ y) (range_with_len 0 n)

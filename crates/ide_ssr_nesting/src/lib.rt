@@ -5,8 +5,8 @@
 mod holders;
 mod kept;
 mod kept_matches;
-mod lists;
 pub mod laws;
+mod lists;
 mod order;
 mod sorting;
 #[cfg(test)]
