@@ -99,7 +99,6 @@ impl Context {
         position: FilePosition,
         restrictions: Vec<FileRange>,
     ) -> Result<Context, ContextError>
-        requires built { IsBuilt workspace.now }
         ensures { Makes workspace.now (S.meanings semantics.now) position restrictions.items result }
     {
         let tree = file_at(workspace, position)?;
@@ -127,7 +126,6 @@ impl Context {
         workspace: &Workspace,
         semantics: &S,
     ) -> Result<Context, ContextError>
-        requires built { IsBuilt workspace.now }
         ensures { MakesFirst workspace.now (S.meanings semantics.now) result }
     {
         if workspace.file_count() == 0 {

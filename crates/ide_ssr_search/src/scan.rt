@@ -322,12 +322,11 @@ pub fn find_matches(
     context: &Context,
     rules: &[ResolvedRule],
 ) -> Result<Vec<Found>, AllocError>
-    requires built { IsBuilt workspace.now }
     ensures { IfOk result (λ found. AreFound workspace.now context.now rules.now found.items) }
 {
     let mut found = Vec::new(alloc);
     let mut shut = BTreeSet::new(alloc);
-    let mut inside = Vec::new(alloc);
+    let mut inside = Vec::with_capacity(alloc, workspace.file_count() as usize)?;
     let mut number = 0;
     while let Some(tree) = workspace.tree(number) {
         let ground = Ground::new(workspace, context, tree, number, &shut, &inside);
