@@ -3,4 +3,5 @@ mod Bare
 mod Pairs
 mod Agreement
 mod Apart
+mod Held
 mod Roots

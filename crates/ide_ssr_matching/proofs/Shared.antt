@@ -4,3 +4,5 @@
 pub use Rattle.ide_ssr_matching.proofs.Agreement.{bindings_of-Matches, Matches-bindings_of}
 -- what a match binds
 pub use Rattle.ide_ssr_matching.proofs.Apart.{HoldNodes, placeholders_bound, bindings_hold, all_bound, all_apart}
+-- where that stands
+pub use Rattle.ide_ssr_matching.proofs.Held.{held_in, held_apart}

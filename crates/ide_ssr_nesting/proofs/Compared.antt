@@ -11,7 +11,8 @@ use Rattle.ssr_base.specs.Workspace.{Planted, planted, node_id, same_id, above}
 use Rattle.ssr_base.specs.Built.{IsNodeOf, CallsAreEarlier}
 use Rattle.ssr_base.specs.Laws.{IsBelow}
 use Rattle.ssr_base.proofs.Shared.{is_up}
-use Rattle.ide_ssr_nesting.specs.Order.{place, end_place, Precedes, IsAtOrBelow}
+use Rattle.ide_ssr_matching.specs.Found.{IsAtOrBelow}
+use Rattle.ide_ssr_nesting.specs.Order.{place, end_place, Precedes}
 use Rattle.ide_ssr_nesting.proofs.Nodes.{first_or_earlier, node_within, planted_first, planted_earlier, above_root, above_earlier, same_nodes}
 use Rattle.ide_ssr_nesting.proofs.Put.{put}
 use Rattle.ide_ssr_nesting.proofs.Laid.{laid, put_least, apart}

@@ -1,3 +1,4 @@
+pub mod Shared
 mod Parents
 mod Nodes
 mod Moved
@@ -14,3 +15,6 @@ mod Ahead
 mod Sorted
 mod OneKept
 mod Listing
+mod Listed
+mod OneHolding
+mod InLists

@@ -9,9 +9,9 @@ use Rattle.std.proofs.lemmas.List.Quantifiers.{all_pairs_push}
 use Rattle.ssr_base.specs.Workspace.{Planted}
 use Rattle.ssr_base.specs.Built.{CallsAreEarlier}
 use Rattle.ssr_base.specs.Laws.{RangesNest}
-use Rattle.ide_ssr_matching.specs.Found.{Found}
+use Rattle.ide_ssr_matching.specs.Found.{Found, IsMatch}
 use Rattle.ide_ssr_nesting.specs.declared.holders.Holder.{Holder}
-use Rattle.ide_ssr_nesting.specs.Kept.{IsMatch, IsOver, LiesUnder, Fits, ComesBefore}
+use Rattle.ide_ssr_nesting.specs.Kept.{IsOver, LiesUnder, Fits, ComesBefore}
 use Rattle.ide_ssr_nesting.specs.Holding.{IsOutermost, IsNearest, IsHeld, AreHeld}
 use Rattle.ide_ssr_nesting.specs.Private.Nearest.{IsNearestAt}
 use Rattle.ide_ssr_nesting.proofs.Elements.{all_at, pairs_at, contains_at, place_in, pushed_at, slice_get-left}

@@ -4,9 +4,9 @@ use Rattle.std.proofs.lemmas.Bool.{cases_order}
 use Rattle.std.proofs.lemmas.List.Elements.{All-contains, Contains-append_left, Contains-append_right, Contains-append_cases}
 use Rattle.ssr_base.specs.Workspace.{Planted}
 use Rattle.ssr_base.specs.Built.{IsNodeOf, CallsAreEarlier}
-use Rattle.ide_ssr_matching.specs.Found.{Found}
+use Rattle.ide_ssr_matching.specs.Found.{Found, IsMatch, AreMatches}
 use Rattle.ide_ssr_nesting.specs.Order.{place}
-use Rattle.ide_ssr_nesting.specs.Kept.{IsMatch, AreMatches, IsOver, Fits, ComesBefore, AreKept}
+use Rattle.ide_ssr_nesting.specs.Kept.{IsOver, Fits, ComesBefore, AreKept}
 use Rattle.ide_ssr_nesting.specs.Laws.{OneKept, LiesInOnePlaceholder}
 use Rattle.ide_ssr_nesting.proofs.Elements.{at_front, front_or_back, pairs_head, pairs_right, pairs_across}
 use Rattle.ide_ssr_nesting.proofs.Above.{one_place_each}

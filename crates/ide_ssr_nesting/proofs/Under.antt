@@ -8,9 +8,8 @@ use Rattle.ssr_base.specs.declared.ids.NodeId.{NodeId}
 use Rattle.ssr_base.specs.Workspace.{Planted, FileSpan, node_id, original_range}
 use Rattle.ssr_base.specs.Laws.{LiesIn, RangesNest}
 use Rattle.ide_ssr_matching.specs.declared.bindings.Binding.{Binding}
-use Rattle.ide_ssr_matching.specs.Found.{Found}
-use Rattle.ide_ssr_nesting.specs.Order.{IsAtOrBelow}
-use Rattle.ide_ssr_nesting.specs.Kept.{held_node, HasByte, LiesWithin, ShareNoByte, IsMatch, LiesUnder}
+use Rattle.ide_ssr_matching.specs.Found.{Found, IsAtOrBelow, held_node, HasByte, ShareNoByte, IsMatch}
+use Rattle.ide_ssr_nesting.specs.Kept.{LiesWithin, LiesUnder}
 use Rattle.ide_ssr_nesting.proofs.Elements.{all_at, pairs_at}
 
 -- the two ranges, one of which lies in the other
@@ -47,25 +46,25 @@ lies_trans a b c d x same y =
 
 module _ (trees : List Planted) (nest : RangesNest trees) where
   -- what a placeholder holds lies in the match
-  held_within : (k : Found) (binding : Binding) (small large : FileSpan) → IsAtOrBelow trees (held_node k binding) k.node
-      → original_range trees (held_node k binding) ≡ Some small → original_range trees k.node ≡ Some large → LiesIn small large
+  held_within : (k : Found) (binding : Binding) (small large : FileSpan) → IsAtOrBelow trees (held_node k.node.tree binding) k.node
+      → original_range trees (held_node k.node.tree binding) ≡ Some small → original_range trees k.node ≡ Some large → LiesIn small large
   held_within k binding small large (inl same) is_small is_large =
       let e : small ≡ large = same_Some small large (sym is_small ∙ ap (original_range trees) same ∙ is_large) in
       subst (LiesIn small) e (record { file = refl; begins = omega arith; ends = omega arith })
-  held_within k binding small large (inr below) is_small is_large = nest k.node (held_node k binding) large small below refl is_large is_small
+  held_within k binding small large (inr below) is_small is_large = nest k.node (held_node k.node.tree binding) large small below refl is_large is_small
 
   -- what lies in a placeholder of a match lies in whatever that match lies in
   pub under_outer : (j k m : Found) (i n : ℕ) → IsMatch trees k → LiesUnder trees k m i → LiesUnder trees j k n → LiesUnder trees j m n
   under_outer j k m i n match inner outer =
-      let small = ranges_of trees m.node (held_node k inner.binding) inner.within in
-      let large = ranges_of trees k.node (held_node j outer.binding) outer.within in
-      let held = all_at (λ b. IsAtOrBelow trees (held_node k b) k.node) k.bindings i inner.binding match.held inner.is in
+      let small = ranges_of trees m.node (held_node k.node.tree inner.binding) inner.within in
+      let large = ranges_of trees k.node (held_node j.node.tree outer.binding) outer.within in
+      let held = all_at (λ b. IsAtOrBelow trees (held_node k.node.tree b) k.node) k.bindings i inner.binding match.held inner.is in
       let middle = held_within k inner.binding small.large large.small held small.is_large large.is_small in
       record {
         binding = outer.binding;
         is = outer.is;
         within =
-            within_of trees m.node (held_node j outer.binding)
+            within_of trees m.node (held_node j.node.tree outer.binding)
             (record {
               small = small.small;
               large = large.large;
@@ -81,10 +80,10 @@ module _ (trees : List Planted) (nest : RangesNest trees) where
 -- a match lies in one placeholder of another at most
 not_under_both : (trees : List Planted) (k m : Found) (i n : ℕ) → i < n → IsMatch trees k → IsMatch trees m → LiesUnder trees k m i → LiesUnder trees k m n → ⊥
 not_under_both trees k m i n less match inner a b =
-    let first = ranges_of trees m.node (held_node k a.binding) a.within in
-    let next = ranges_of trees m.node (held_node k b.binding) b.within in
+    let first = ranges_of trees m.node (held_node k.node.tree a.binding) a.within in
+    let next = ranges_of trees m.node (held_node k.node.tree b.binding) b.within in
     let apart =
-    pairs_at (λ b c. ShareNoByte trees (held_node k b) (held_node k c)) k.bindings i n a.binding b.binding match.apart less a.is b.is
+    pairs_at (λ b c. ShareNoByte trees (held_node k.node.tree b) (held_node k.node.tree c)) k.bindings i n a.binding b.binding match.apart less a.is b.is
     first.large next.large first.is_large next.is_large in
     let same = same_Some first.small next.small (sym first.is_small ∙ next.is_small) in
     let start = ap (λ (r : FileSpan). r.span.start) same in
@@ -108,19 +107,19 @@ abbrev none_bound : Binding
 none_bound = record { placeholder = 0; node = record { 0 = 0 } }
 
 binding_tested : (trees : List Planted) (k m : Found) (i : ℕ) (range : FileSpan) (r : Bool) → Some range ≡ original_range trees m.node → i < length k.bindings
-    → IsTrue r ↔ IsSomeAnd (original_range trees (held_node k (get_or k.bindings i none_bound))) (λ outer. LiesIn range outer)
+    → IsTrue r ↔ IsSomeAnd (original_range trees (held_node k.node.tree (get_or k.bindings i none_bound))) (λ outer. LiesIn range outer)
     → IsTrue r ↔ LiesUnder trees k m i
 binding_tested trees k m i range r is within told =
     let binding = get_or k.bindings i none_bound in (
       (λ yes. record {
         binding = binding;
         is = slice_get-get_or k.bindings i none_bound within;
-        within = subst (λ o. IsSomeAnd o (λ inner. IsSomeAnd (original_range trees (held_node k binding)) (λ outer. LiesIn inner outer))) is (told.0 yes);
+        within = subst (λ o. IsSomeAnd o (λ inner. IsSomeAnd (original_range trees (held_node k.node.tree binding)) (λ outer. LiesIn inner outer))) is (told.0 yes);
       }),
       (λ under. told.1
-          (subst (λ (b : Binding). IsSomeAnd (original_range trees (held_node k b)) (λ outer. LiesIn range outer))
+          (subst (λ (b : Binding). IsSomeAnd (original_range trees (held_node k.node.tree b)) (λ outer. LiesIn range outer))
           (sym (get_or_from_slice_get k.bindings i under.binding none_bound under.is))
-          (subst (λ o. IsSomeAnd o (λ inner. IsSomeAnd (original_range trees (held_node k under.binding)) (λ outer. LiesIn inner outer))) (sym is) under.within))),
+          (subst (λ o. IsSomeAnd o (λ inner. IsSomeAnd (original_range trees (held_node k.node.tree under.binding)) (λ outer. LiesIn inner outer))) (sym is) under.within))),
     )
 
 pub binding_read : (trees : List Planted) (k m : Found) (bs : List Binding) (i : ℕ) (at_m at_k : NodeId) (range : FileSpan) (r : Bool)

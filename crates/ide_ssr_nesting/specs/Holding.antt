@@ -3,9 +3,9 @@
 use Rattle.std.specs.Prelude.{ℕ, ◌≡◌, ◌⊎◌, List, length, slice_get, Option, Some, None, All, AllPairs, Contains}
 use Rattle.ssr_base.specs.Workspace.{Workspace, Planted, trees}
 use Rattle.ssr_base.specs.Built.{IsBuilt}
-use Rattle.ide_ssr_matching.specs.Found.{Found}
+use Rattle.ide_ssr_matching.specs.Found.{Found, IsMatch}
 use Rattle.ide_ssr_nesting.specs.declared.holders.Holder.{Holder}
-use Rattle.ide_ssr_nesting.specs.Kept.{IsMatch, IsOver, LiesUnder, Fits, ComesBefore}
+use Rattle.ide_ssr_nesting.specs.Kept.{IsOver, LiesUnder, Fits, ComesBefore}
 
 abbrev pub IsOutermost : List Planted → List Found → Found → Type 0
 IsOutermost trees kept m = (k : Found) → Contains kept k → IsOver trees k m → ⊥

@@ -1,12 +1,18 @@
 -- What holds of the order of nodes, and of kept matches: the words of their laws.
-use Rattle.std.specs.Prelude.{ℕ, ◌≡◌, ◌<◌, ◌↔◌, ◌⊎◌, List, Contains}
+use Rattle.std.specs.Prelude.{ℕ, ◌≡◌, ◌≢◌, ◌<◌, ◌↔◌, ◌⊎◌, List, length, slice_get, Option, Some, AllPairs, Contains}
+use Rattle.std.specs.Cmp.Lexicographic.{slice_cmp}
+use Rattle.std.specs.Ordering.{nat_cmp}
+use Rattle.std.specs.declared.cmp.Ordering.TheVariants.{Less}
 use Rattle.ssr_base.specs.declared.ids.NodeId.{NodeId}
-use Rattle.ssr_base.specs.Workspace.{Planted}
+use Rattle.ssr_base.specs.Workspace.{Planted, trees}
 use Rattle.ssr_base.specs.Built.{IsNodeOf}
 use Rattle.ssr_base.specs.Laws.{IsBelow}
-use Rattle.ide_ssr_matching.specs.Found.{Found}
+use Rattle.ide_ssr_matching.specs.Found.{Found, AreMatches}
+use Rattle.ide_ssr_nesting.specs.declared.holders.Holder.{Holder}
 use Rattle.ide_ssr_nesting.specs.Order.{place, end_place}
-use Rattle.ide_ssr_nesting.specs.Kept.{AreMatches, AreKept, IsOver, LiesUnder}
+use Rattle.ide_ssr_nesting.specs.Kept.{AreKept, IsOver, LiesUnder}
+use Rattle.ide_ssr_nesting.specs.Holding.{Kept, IsKept}
+use Rattle.ide_ssr_nesting.specs.Lists.{listing_key, Listing, listed, AreLists}
 
 -- the nodes below a node are those between its place and its end
 abbrev pub BelowIsBetween : List Planted → Type 0
@@ -36,3 +42,37 @@ LiesInOnePlaceholder trees =
     (found kept : List Found) (k m : Found)
     → AreMatches trees found → AreKept trees found kept → Contains kept k → Contains kept m → IsOver trees k m
     → (place : ℕ) × LiesUnder trees k m place × ((other : ℕ) → LiesUnder trees k m other → other ≡ place)
+
+-- the match at a place is ahead of that at the other place, in the order of a list
+abbrev pub IsListedBefore : Kept → ℕ → ℕ → Type 0
+IsListedBefore kept i j =
+    (k m : Found) → slice_get kept.matches i ≡ Some k → slice_get kept.matches j ≡ Some m
+    → slice_cmp nat_cmp (listing_key (trees kept.workspace) k) (listing_key (trees kept.workspace) m) ≡ Less
+
+-- the list of a holder has the places of what it holds, and no others
+abbrev pub ListsWhatIsHeld : Kept → Type 0
+ListsWhatIsHeld kept =
+    (lists : Listing) (holder : Option Holder) (n : ℕ)
+    → AreLists kept lists → Contains (listed lists holder) n ↔ (slice_get kept.holders n ≡ Some holder)
+
+-- the places of a list stand in its order, each once
+abbrev pub ListsInOrder : Kept → Type 0
+ListsInOrder kept =
+    (lists : Listing) (holder : Option Holder) → AreLists kept lists → AllPairs (IsListedBefore kept) (listed lists holder)
+
+abbrev pub ListsEachOnce : Kept → Type 0
+ListsEachOnce kept =
+    (lists : Listing) (holder : Option Holder) → AreLists kept lists → AllPairs (λ i j. i ≢ j) (listed lists holder)
+
+-- kept matches have one way to list them
+abbrev pub OneListing : Kept → Type 0
+OneListing kept = (lists other : Listing) → AreLists kept lists → AreLists kept other → lists ≡ other
+
+-- what a placeholder holds comes behind its match
+abbrev pub HeldBehind : Kept → Type 0
+HeldBehind kept =
+    (n : ℕ) (holder : Holder) → slice_get kept.holders n ≡ Some (Some holder) → (holder.place < n) × (n < length kept.matches)
+
+-- what holds the matches is told by the matches
+abbrev pub OneHolding : Type 0
+OneHolding = (a b : Kept) → IsKept a → IsKept b → a.workspace ≡ b.workspace → a.matches ≡ b.matches → a ≡ b

@@ -1,6 +1,6 @@
 -- The lists of kept matches: those that one placeholder holds, and the outermost ones. A list is in the order of file, start
 -- and end of the original range, rule, tree and node.
-use Rattle.std.specs.Prelude.{ℕ, ◌≡◌, ◌<◌, ◌↔◌, List, [], ◌∷◌, length, map, slice_get, unwrap_or, Option, Some, AllPairs, Contains}
+use Rattle.std.specs.Prelude.{ℕ, ◌≡◌, ◌==◌, ◌&&◌, ◌<◌, ◌↔◌, Bool, List, [], ◌∷◌, ◌++◌, length, map, filter, zip, slice_get, unwrap_or, Option, Some, AllPairs, Contains}
 use Rattle.std.specs.Cmp.Lexicographic.{slice_cmp}
 use Rattle.std.specs.Option.{option_map_or}
 use Rattle.std.specs.Ordering.{nat_cmp}
@@ -29,13 +29,25 @@ held_place holder = option_map_or (λ h. h.place) holder 0
 abbrev pub held_binding : Option Holder → ℕ
 held_binding holder = option_map_or (λ h. h.binding) holder 0
 
+abbrev pub holder_key : Option Holder → List ℕ
+holder_key holder = held holder ∷ (held_place holder ∷ (held_binding holder ∷ []))
+
 abbrev pub lists_key : List Planted → Found → Option Holder → List ℕ
-lists_key trees m holder = held holder ∷ (held_place holder ∷ (held_binding holder ∷ listing_key trees m))
+lists_key trees m holder = holder_key holder ++ listing_key trees m
 
 -- places of kept matches, and beside each of them what holds the match
 pub record Listing : Type 0 where
   pub places : List ℕ
   pub holders : List (Option Holder)
+
+-- whether two holders are one
+abbrev pub same_holder : Option Holder → Option Holder → Bool
+same_holder g h = held g == held h && held_place g == held_place h && held_binding g == held_binding h
+
+-- the places that have this holder beside them, in order: those under its placeholder; without a holder, those of the
+-- outermost matches
+abbrev pub listed : Listing → Option Holder → List ℕ
+listed lists holder = map (λ row. row.0) (filter (λ row. same_holder row.1 holder) (zip lists.places lists.holders))
 
 -- all kept matches, each once, list by list
 pub record AreLists (kept : Kept) (lists : Listing) : Type 0 where

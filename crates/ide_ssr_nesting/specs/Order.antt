@@ -1,11 +1,10 @@
 -- The order of all nodes of a workspace: files in order, the nodes of a tree in preorder, and those of an expansion directly
 -- behind its call, before what stands below the call. Places are numbers of these definitions alone.
-use Rattle.std.specs.Prelude.{ℕ, ◌+◌, ◌≡◌, ◌==◌, ◌<◌, ◌⊎◌, nat_le, if◌then◌else◌, List, [], ◌∷◌, length, Option}
+use Rattle.std.specs.Prelude.{ℕ, ◌+◌, ◌==◌, ◌<◌, nat_le, if◌then◌else◌, List, [], ◌∷◌, length, Option}
 use Rattle.std.specs.Option.{option_map_or}
 use Rattle.ssr_syntax_tree.specs.Places.{node_of, root_of, size_of}
 use Rattle.ssr_base.specs.declared.ids.NodeId.{NodeId}
 use Rattle.ssr_base.specs.Workspace.{Planted}
-use Rattle.ssr_base.specs.Laws.{IsBelow}
 
 -- how many nodes a tree has
 abbrev pub count_in : Planted → ℕ
@@ -46,7 +45,3 @@ end_place (p ∷ earlier) x =
 
 abbrev pub Precedes : List Planted → NodeId → NodeId → Type 0
 Precedes trees a b = place trees a < place trees b
-
--- a node that is another one or stands below it
-abbrev pub IsAtOrBelow : List Planted → NodeId → NodeId → Type 0
-IsAtOrBelow trees x a = (x ≡ a) ⊎ IsBelow trees x a

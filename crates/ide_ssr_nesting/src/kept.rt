@@ -5,8 +5,8 @@ ghost use Rattle.std.specs.Option.{IsSomeAnd};
 ghost use Rattle.ssr_base.specs.Workspace.{trees, original_range, file_span_of};
 ghost use Rattle.ssr_base.specs.Built.{IsNodeOf, IsBuilt};
 ghost use Rattle.ssr_base.specs.Laws.{LiesIn};
-ghost use Rattle.ide_ssr_matching.specs.Found.{Found as FoundMatch};
-ghost use Rattle.ide_ssr_nesting.specs.Kept.{IsMatch, IsOver, LiesUnder, Fits, ComesBefore, AreMatches, AreKept};
+ghost use Rattle.ide_ssr_matching.specs.Found.{Found as FoundMatch, IsMatch, AreMatches};
+ghost use Rattle.ide_ssr_nesting.specs.Kept.{IsOver, LiesUnder, Fits, ComesBefore, AreKept};
 ghost use Rattle.ide_ssr_nesting.specs.Holding.{IsOutermost, IsHeld, AreHeld};
 ghost use Rattle.ide_ssr_nesting.specs.Private.Nearest.{IsNearestAt, IsKeptIfFits};
 

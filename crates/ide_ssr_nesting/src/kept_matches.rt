@@ -2,12 +2,13 @@
 
 ghost use Rattle.std.specs.Prelude.{◌≡◌, ◌<◌, IfOk, Some, length, slice_get};
 ghost use Rattle.ssr_base.specs.Workspace.{trees};
-ghost use Rattle.ssr_base.specs.Built.{IsBuilt};
-ghost use Rattle.ide_ssr_nesting.specs.Kept.{AreMatches, AreKept};
+ghost use Rattle.ide_ssr_matching.specs.Found.{AreMatches};
+ghost use Rattle.ide_ssr_nesting.specs.Kept.{AreKept};
 ghost use Rattle.ide_ssr_nesting.specs.Holding.{IsKept};
 
 use crate::holders::Holder;
 use crate::kept::keep_in_order;
+use crate::order::is_built;
 use crate::sorting::put_in_order;
 use ide_ssr_matching::Found;
 use ssr_base::Workspace;
@@ -41,11 +42,11 @@ pub fn keep<'a>(
     workspace: &'a Workspace,
     mut found: Vec<Found>,
 ) -> Result<KeptMatches<'a>, AllocError>
-    requires built { IsBuilt workspace.now }
     requires matches { AreMatches (trees workspace.now) found.items }
     ensures workspace { IfOk result (λ kept. kept.workspace ≡ workspace.now) }
     ensures kept { IfOk result (λ kept. AreKept (trees workspace.now) found.items kept.matches) }
 {
+    is_built(workspace);
     put_in_order(workspace, &mut found);
     let nest = keep_in_order(alloc, workspace, found)?;
     Ok(KeptMatches {

@@ -1,7 +1,8 @@
 //! What holds of the words of the contracts, whatever the code: each function here does nothing, and what it ensures is a law.
 ghost use Rattle.ssr_base.specs.Workspace.{Workspace as WorkspaceValue, trees};
 ghost use Rattle.ssr_base.specs.Built.{IsBuilt};
-ghost use Rattle.ide_ssr_nesting.specs.Laws.{BelowIsBetween, OnePlaceEach, OneWayUp, OneKept, LiesInOnePlaceholder};
+ghost use Rattle.ide_ssr_nesting.specs.Holding.{Kept, IsKept};
+ghost use Rattle.ide_ssr_nesting.specs.Laws.{BelowIsBetween, OnePlaceEach, OneWayUp, OneKept, LiesInOnePlaceholder, ListsWhatIsHeld, ListsInOrder, ListsEachOnce, OneListing, HeldBehind, OneHolding};
 
 /// What stands below a node are the nodes between its place and its end, and no two nodes have one place. Of two nodes above a
 /// third one, one stands above the other, or they are the same.
@@ -16,4 +17,19 @@ pub fn ordering()
 pub fn keeping()
     ensures one_kept { (w : WorkspaceValue) → IsBuilt w → OneKept (trees w) }
     ensures one_placeholder { (w : WorkspaceValue) → IsBuilt w → LiesInOnePlaceholder (trees w) }
+{}
+
+/// What a placeholder holds comes behind its match, and the kept matches alone tell what holds each of them.
+pub fn holding()
+    ensures behind { (kept : Kept) → IsKept kept → HeldBehind kept }
+    ensures one { OneHolding }
+{}
+
+/// The list of a placeholder has the places of what it holds, in order, each once, and so has that of the outermost matches.
+/// There is one way to list kept matches.
+pub fn listing()
+    ensures held { (kept : Kept) → IsKept kept → ListsWhatIsHeld kept }
+    ensures in_order { (kept : Kept) → ListsInOrder kept }
+    ensures once { (kept : Kept) → ListsEachOnce kept }
+    ensures one { (kept : Kept) → OneListing kept }
 {}

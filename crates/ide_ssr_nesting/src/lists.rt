@@ -1,12 +1,13 @@
 //! The lists of kept matches: those that one placeholder holds, and the outermost ones.
 
-ghost use Rattle.std.specs.Prelude.{◌≡◌, ◌<◌, All, IfOk, Some, length, map, slice_get};
+ghost use Rattle.std.specs.Prelude.{◌≡◌, ◌<◌, ◌≤◌, All, IfOk, IsSortedByKey, None, Some, false, length, map, not, slice_get, true};
 ghost use Rattle.std.specs.Cmp.Lexicographic.{slice_cmp};
 ghost use Rattle.std.specs.List.{range_with_len};
+ghost use Rattle.std.specs.List.Sorted.{IsPartitionPoint};
 ghost use Rattle.std.specs.Ordering.{nat_cmp};
 ghost use Rattle.ide_ssr_nesting.specs.Holding.{IsKept};
-ghost use Rattle.ide_ssr_nesting.specs.Lists.{AreLists};
-ghost use Rattle.ide_ssr_nesting.specs.Private.Rows.{IsRowOf};
+ghost use Rattle.ide_ssr_nesting.specs.Lists.{AreLists, holder_key, listed};
+ghost use Rattle.ide_ssr_nesting.specs.Private.Rows.{IsRowOf, comes_before};
 
 use crate::holders::Holder;
 use crate::kept_matches::KeptMatches;
@@ -34,12 +35,33 @@ pub struct Lists {
 impl Model for Lists {
     ghost use Rattle.ide_ssr_nesting.specs.Lists.{Listing};
     ghost use Rattle.ide_ssr_nesting.specs.KeptCode.{listing_code};
+    ghost use Rattle.ide_ssr_nesting.specs.Private.Rows.{AreSorted};
 
     ghost Value = { Listing };
 
     ghost coded = { listing_code };
 
     ghost view = { λ lists. record { places = lists.places.items; holders = lists.holders.items } };
+
+    ghost invariant = { λ lists. AreSorted (record { places = lists.places.items; holders = lists.holders.items }) };
+}
+
+/// The numbers by which the lists are sorted: the outermost matches come first, then those that a match holds, by its place
+/// and that of the binding.
+fn holder_key(holder: Option<Holder>) -> [usize; 3]
+    ensures { result ≡ holder_key holder }
+{
+    match holder {
+        Some(holder) => [1, holder.place, holder.binding],
+        None => [0, 0, 0],
+    }
+}
+
+/// Whether the list of one holder comes before that of the other.
+fn comes_before(one: Option<Holder>, other: Option<Holder>) -> bool
+    ensures { result ≡ comes_before one other }
+{
+    holder_key(one).cmp(&holder_key(other)).is_lt()
 }
 
 /// How two rows stand in order: number by number.
@@ -57,10 +79,7 @@ fn row_at(kept: &KeptMatches<'_>, place: usize) -> Row
 {
     let found = kept.get(place);
     let node = found.node();
-    let (held, by, binding) = match kept.holder(place) {
-        Some(holder) => (1, holder.place, holder.binding),
-        None => (0, 0, 0),
-    };
+    let [held, by, binding] = holder_key(kept.holder(place));
     let none = FileRange {
         file_id: FileId(0),
         range: TextRange::new(0, 0),
@@ -98,7 +117,8 @@ fn rows(alloc: Global, kept: &KeptMatches<'_>) -> Result<Vec<Row>, AllocError>
 impl Lists {
     /// The lists of rows that are sorted.
     fn of_rows(alloc: Global, kept: &KeptMatches<'_>, rows: &[Row]) -> Result<Lists, AllocError>
-        requires { All (IsRowOf kept.now) rows.now }
+        requires rows { All (IsRowOf kept.now) rows.now }
+        requires in_order { IsSortedByKey (λ row. row.key) (slice_cmp nat_cmp) rows.now }
         ensures places { IfOk result (λ lists. lists.places ≡ map (λ row. row.place) rows.now) }
         ensures beside { IfOk result (λ lists. map Some lists.holders ≡ map (slice_get kept.now.holders) lists.places) }
     {
@@ -121,18 +141,44 @@ impl Lists {
         Ok(lists)
     }
 
-    /// The places of all kept matches, list by list; in a list by file, start and end of the original range, rule, tree and
-    /// node.
-    pub fn places(&self) -> &[usize]
-        ensures { result.now ≡ self.now.places }
+    /// The places of the outermost matches: by file, start and end of the original range, rule, tree and node.
+    pub fn outermost(&self) -> &[usize]
+        ensures { result.now ≡ listed self.now None }
     {
-        &self.places
+        self.list(None)
     }
 
-    /// Beside each of these places what holds the match: those of one list stand side by side.
-    pub fn holders(&self) -> &[Option<Holder>]
-        ensures { result.now ≡ self.now.holders }
+    /// The places of the matches that a match holds by one of its bindings, in the same order.
+    pub fn under(&self, place: usize, binding: usize) -> &[usize]
+        ensures { result.now ≡ listed self.now (Some (record { place = place; binding = binding })) }
     {
-        &self.holders
+        self.list(Some(Holder { place, binding }))
+    }
+
+    /// The list of a holder: the lists stand one behind another, in the order of their holders.
+    fn list(&self, holder: Option<Holder>) -> &[usize]
+        ensures { result.now ≡ listed self.now holder }
+    {
+        let start = self.start_of(holder);
+        let end = self.end_of(holder);
+        &self.places[start..end]
+    }
+
+    /// How many places stand in lists before that of a holder.
+    fn start_of(&self, holder: Option<Holder>) -> usize
+        ensures bound { result ≤ length self.now.holders }
+        ensures point { IsPartitionPoint (λ other. comes_before other holder ≡ true) (λ other. comes_before other holder ≡ false) self.now.holders result }
+    {
+        self.holders
+            .partition_point(|other| comes_before(*other, holder))
+    }
+
+    /// How many places stand in the list of a holder and in those before it.
+    fn end_of(&self, holder: Option<Holder>) -> usize
+        ensures bound { result ≤ length self.now.holders }
+        ensures point { IsPartitionPoint (λ other. not (comes_before holder other) ≡ true) (λ other. not (comes_before holder other) ≡ false) self.now.holders result }
+    {
+        self.holders
+            .partition_point(|other| !comes_before(holder, *other))
     }
 }

@@ -4,10 +4,18 @@ ghost use Rattle.std.specs.Prelude.{◌≡◌, ◌+◌, ◌<◌, ◌↔◌, IsTr
 ghost use Rattle.ssr_base.specs.Workspace.{trees, node_id, above};
 ghost use Rattle.ssr_base.specs.Built.{IsNodeOf, IsBuilt};
 ghost use Rattle.ssr_base.specs.Laws.{IsBelow};
-ghost use Rattle.ide_ssr_nesting.specs.Order.{Precedes, IsAtOrBelow};
+ghost use Rattle.ide_ssr_matching.specs.Found.{IsAtOrBelow};
+ghost use Rattle.ide_ssr_nesting.specs.Order.{Precedes};
 
 use ssr_base::{NodeId, Workspace};
 use ssr_syntax_tree::NodeNo;
+
+/// That each workspace is built as it has to be stands in the contract of its methods: this calls one for that alone.
+pub(crate) fn is_built(workspace: &Workspace)
+    ensures { IsBuilt workspace.now }
+{
+    workspace.file_count();
+}
 
 /// The call that the tree of a number stands for. A file has none.
 fn call_of(workspace: &Workspace, tree: u32) -> Option<NodeId>
@@ -22,11 +30,11 @@ fn call_of(workspace: &Workspace, tree: u32) -> Option<NodeId>
 /// Whether a node comes before another one: files in order, the nodes of a tree in preorder, and those of an expansion
 /// directly behind its call. Nothing is numbered: two nodes are compared in one tree, else by the call of the later tree.
 pub fn precedes(workspace: &Workspace, a: NodeId, b: NodeId) -> bool
-    requires built { IsBuilt workspace.now }
     requires a_in { IsNodeOf (trees workspace.now) a }
     requires b_in { IsNodeOf (trees workspace.now) b }
     ensures { IsTrue result ↔ Precedes (trees workspace.now) a b }
 {
+    is_built(workspace);
     if a.tree == b.tree {
         return a.node.0 < b.node.0;
     }
@@ -79,11 +87,11 @@ fn is_at_or_above(workspace: &Workspace, a: NodeId, b: NodeId) -> bool
 /// Whether a node stands above another one: what stands directly above a node is its parent, or, above the root of an
 /// expansion, the call.
 pub fn is_above(workspace: &Workspace, a: NodeId, b: NodeId) -> bool
-    requires built { IsBuilt workspace.now }
     requires a_in { IsNodeOf (trees workspace.now) a }
     requires b_in { IsNodeOf (trees workspace.now) b }
     ensures { IsTrue result ↔ IsBelow (trees workspace.now) b a }
 {
+    is_built(workspace);
     if a == b {
         return false;
     }

@@ -4,8 +4,8 @@ ghost use Rattle.std.specs.Prelude.{◌≡◌, ◌↔◌, All, AllPairs, Contain
 ghost use Rattle.std.specs.Ordering.{is_lt};
 ghost use Rattle.ssr_base.specs.Workspace.{trees};
 ghost use Rattle.ssr_base.specs.Built.{IsNodeOf, IsBuilt};
-ghost use Rattle.ide_ssr_matching.specs.Found.{Found as FoundMatch};
-ghost use Rattle.ide_ssr_nesting.specs.Kept.{IsMatch, ComesBefore, AreMatches};
+ghost use Rattle.ide_ssr_matching.specs.Found.{Found as FoundMatch, IsMatch, AreMatches};
+ghost use Rattle.ide_ssr_nesting.specs.Kept.{ComesBefore};
 ghost use Rattle.ide_ssr_nesting.specs.Private.Sorting.{is_node, is_ahead, is_same};
 
 use crate::order::precedes;

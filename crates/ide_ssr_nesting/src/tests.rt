@@ -1,8 +1,5 @@
 //! The order of nodes with an expansion, and that matches are kept.
 
-ghost use Rattle.std.specs.Prelude.{IfOk};
-ghost use Rattle.ssr_base.specs.Built.{IsBuilt};
-
 use crate::kept_matches::keep;
 use crate::lists::Lists;
 use crate::order::{is_above, precedes};
@@ -37,9 +34,7 @@ fn expansion(alloc: Global) -> Result<Expansion, AllocError> {
 }
 
 // Two files, and what the call in the first one stands for: tree 2.
-fn workspace(alloc: Global) -> Result<Workspace, Fail>
-    ensures { IfOk result (λ workspace. IsBuilt workspace) }
-{
+fn workspace(alloc: Global) -> Result<Workspace, Fail> {
     let mut files = Vec::new(alloc);
     files.push(String::from_str(alloc, "fn f() { m!(1) }")?)?;
     files.push(String::from_str(alloc, "struct S;")?)?;
@@ -50,9 +45,7 @@ fn workspace(alloc: Global) -> Result<Workspace, Fail>
 }
 
 // Whether the first node comes before the second, and whether it stands above it, where there are both.
-fn compared(workspace: &Workspace, a: NodeId, b: NodeId) -> Option<(bool, bool)>
-    requires { IsBuilt workspace.now }
-{
+fn compared(workspace: &Workspace, a: NodeId, b: NodeId) -> Option<(bool, bool)> {
     if !is_node(workspace, a) || !is_node(workspace, b) {
         return None;
     }
@@ -87,7 +80,7 @@ fn keeps_nothing_of_nothing(rt: HostRuntime) -> Result<(), Fail> {
     let kept = keep(alloc, &workspace, Vec::new(alloc))?;
     assert_eq!(rt; kept.len(), 0);
     let lists = Lists::new(alloc, &kept)?;
-    assert!(rt; lists.places().is_empty());
-    assert!(rt; lists.holders().is_empty());
+    assert!(rt; lists.outermost().is_empty());
+    assert!(rt; lists.under(0, 0).is_empty());
     Ok(())
 }

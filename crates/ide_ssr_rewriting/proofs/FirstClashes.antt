@@ -30,7 +30,7 @@ one_range a b same =
 abbrev pub ComesFirst : FileSpan → FileSpan → Type 0
 ComesFirst a b = (a.file < b.file) ⊎ ((a.file ≡ b.file) × (a.span.start ≤ b.span.start))
 
-then_le : (o rest other : Ordering) → (is_le rest ≡ true → is_le other ≡ true) → is_le (ordering_then o rest) ≡ true → is_le (ordering_then o other) ≡ true
+pub then_le : (o rest other : Ordering) → (is_le rest ≡ true → is_le other ≡ true) → is_le (ordering_then o rest) ≡ true → is_le (ordering_then o other) ≡ true
 then_le Less rest other f h = refl
 then_le Equal rest other f h = f h
 then_le Greater rest other f h = h

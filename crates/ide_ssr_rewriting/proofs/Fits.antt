@@ -1,20 +1,22 @@
 -- What a list is made of lies in the file of what its placeholder holds, between characters.
 use Rattle.std.proofs.Common.{◌≡◌, ℕ, ◌<◌, true, List, [], length, Option, Some, None, refl, sym, subst, arith}
 use Rattle.std.specs.Prelude.{Contains, IfSome, slice_get, unwrap_or}
-use Rattle.std.specs.Option.{IsSomeAnd, option_and_then, option_map_or}
+use Rattle.std.specs.Option.{IsSomeAnd, option_map_or}
 use Rattle.std.proofs.lemmas.List.Elements.{All-contains, All-contains_itself, All-map, All-weaker}
 use Rattle.std.proofs.lemmas.Option.{get_or_from_slice_get}
 use Rattle.ssr_syntax_tree.specs.Syntax.{Syntax, source_of}
-use Rattle.ssr_base.specs.Laws.{IsSpanOf}
+use Rattle.ssr_base.specs.Laws.{IsSpanOf, LiesInFile}
 use Rattle.ssr_base.specs.Texts.{is_boundary}
 use Rattle.ssr_base.specs.Workspace.{FileSpan, Workspace, node_id, original_range, trees}
 use Rattle.ssr_base.specs.declared.ids.NodeId.{NodeId}
 use Rattle.ssr_base.proofs.Shared.{lies_in_file}
 use Rattle.ide_ssr_matching.specs.declared.bindings.Binding.{Binding}
-use Rattle.ide_ssr_matching.specs.Found.{Found}
+use Rattle.ide_ssr_matching.specs.Found.{Found, HasByte}
+use Rattle.ide_ssr_nesting.specs.Holding.{Kept}
+use Rattle.ide_ssr_nesting.specs.Lists.{Listing, range_of}
 use Rattle.ide_ssr_rewriting.specs.Clashes.{Rewrite}
-use Rattle.ide_ssr_rewriting.specs.Nest.{Nest, IsMatchIn, IsNest, nowhere, range_at, under}
-use Rattle.ide_ssr_rewriting.specs.Edits.{Texts, list_at}
+use Rattle.ide_ssr_rewriting.specs.Private.Nest.{IsMatchIn, IsNest, under}
+use Rattle.ide_ssr_rewriting.specs.Edits.{nowhere, range_at, Texts, list_at}
 use Rattle.ide_ssr_rewriting.specs.Private.Replacements.{FitsItsFile, IsOf}
 use Rattle.ide_ssr_rewriting.proofs.Pieces.{none_past}
 
@@ -23,47 +25,54 @@ fits_in : (o : Option Syntax) (start end : ℕ) → IsSomeAnd o (λ tree. IsSpan
 fits_in None start end h = absurd h
 fits_in (Some tree) start end h = (h.begins, h.ends)
 
-fits_file : (w : Workspace) (nest : Nest) → IsNest w nest → (x : NodeId) (range : FileSpan) → original_range (trees w) x ≡ Some range → FitsItsFile w range
-fits_file w nest is x range e =
-    let lies = lies_in_file w x range is.built e in
+in_file : (w : Workspace) (range : FileSpan) → LiesInFile w range → FitsItsFile w range
+in_file w range lies =
     let both = fits_in (slice_get w.files range.file) range.span.start range.span.end lies in
     record { begins = both.0; ends = both.1 }
 
+fits_file : (kept : Kept) (listing : Listing) → IsNest kept listing → (x : NodeId) (range : FileSpan) → original_range (trees kept.workspace) x ≡ Some range → FitsItsFile kept.workspace range
+fits_file kept listing is x range e = in_file kept.workspace range (lies_in_file kept.workspace x range is.built e)
+
 -- where a match comes from
-range_fits : (w : Workspace) (nest : Nest) → IsNest w nest → (n : ℕ) → n < length nest.matches → FitsItsFile w (range_at w nest n)
-range_fits w nest is n lt = at (slice_get nest.matches n) refl
+pub range_in_file : (kept : Kept) (listing : Listing) → IsNest kept listing → (n : ℕ) → n < length kept.matches → LiesInFile kept.workspace (range_at kept n)
+range_in_file kept listing is n lt = at (slice_get kept.matches n) refl
   where
-    ranged : (m : Found) (r : Option FileSpan) → original_range (trees w) m.node ≡ r → IsSomeAnd r (λ range. range.span.start < range.span.end) → FitsItsFile w (unwrap_or r nowhere)
+    ranged : (m : Found) (r : Option FileSpan) → original_range (trees kept.workspace) m.node ≡ r → IsSomeAnd r HasByte → LiesInFile kept.workspace (unwrap_or r nowhere)
     ranged m None e h = absurd h
-    ranged m (Some range) e h = fits_file w nest is m.node range e
+    ranged m (Some range) e h = lies_in_file kept.workspace m.node range is.built e
 
-    at : (o : Option Found) → slice_get nest.matches n ≡ o → FitsItsFile w (unwrap_or (option_and_then (λ m. original_range (trees w) m.node) o) nowhere)
-    at None e = absurd (let past = none_past nest.matches n e in omega arith)
-    at (Some m) e = ranged m (original_range (trees w) m.node) refl (subst (λ (m : Found). IsMatchIn w m) (get_or_from_slice_get nest.matches n m m e) (is.matches n m lt)).range
+    at : (o : Option Found) → slice_get kept.matches n ≡ o → LiesInFile kept.workspace (option_map_or (range_of (trees kept.workspace)) o nowhere)
+    at None e = absurd (let past = none_past kept.matches n e in omega arith)
+    at (Some m) e =
+        ranged m (original_range (trees kept.workspace) m.node) refl
+        (subst (λ (m : Found). IsMatchIn kept.workspace m) (get_or_from_slice_get kept.matches n m m e) (is.matches n m lt)).range
 
-pub list_fits : (w : Workspace) (nest : Nest) → IsNest w nest → (n i : ℕ) (m : Found) (binding : Binding) (texts : Texts) (list : List Rewrite) (node : NodeId)
-    → slice_get nest.matches n ≡ Some m → slice_get m.bindings i ≡ Some binding → list ≡ list_at w nest texts (under nest n i) → node ≡ node_id m.node.tree binding.node.0
-    → IfSome (original_range (trees w) node) (λ range. IsOf w range list)
-list_fits w nest is n i m binding texts list node at bound taken e =
-    subst (λ (node : NodeId). IfSome (original_range (trees w) node) (λ range. IsOf w range list)) (sym e)
-    (subst (λ (list : List Rewrite). IfSome (original_range (trees w) held) (λ range. IsOf w range list)) (sym taken) (of (original_range (trees w) held) refl))
+range_fits : (kept : Kept) (listing : Listing) → IsNest kept listing → (n : ℕ) → n < length kept.matches → FitsItsFile kept.workspace (range_at kept n)
+range_fits kept listing is n lt = in_file kept.workspace (range_at kept n) (range_in_file kept listing is n lt)
+
+pub list_fits : (kept : Kept) (listing : Listing) → IsNest kept listing → (n i : ℕ) (m : Found) (binding : Binding) (texts : Texts) (list : List Rewrite) (node : NodeId)
+    → slice_get kept.matches n ≡ Some m → slice_get m.bindings i ≡ Some binding → list ≡ list_at kept texts (under listing n i) → node ≡ node_id m.node.tree binding.node.0
+    → IfSome (original_range (trees kept.workspace) node) (λ range. IsOf kept.workspace range list)
+list_fits kept listing is n i m binding texts list node at bound taken e =
+    subst (λ (node : NodeId). IfSome (original_range (trees kept.workspace) node) (λ range. IsOf kept.workspace range list)) (sym e)
+    (subst (λ (list : List Rewrite). IfSome (original_range (trees kept.workspace) held) (λ range. IsOf kept.workspace range list)) (sym taken) (of (original_range (trees kept.workspace) held) refl))
   where
     held : NodeId
     held = node_id m.node.tree binding.node.0
 
     stands : ℕ → Rewrite
-    stands j = record { range = range_at w nest j; text = texts j }
+    stands j = record { range = range_at kept j; text = texts j }
 
-    one : (range : FileSpan) → original_range (trees w) held ≡ Some range → (j : ℕ) → Contains (under nest n i) j → ((stands j).range.file ≡ range.file) × FitsItsFile w (stands j).range
+    one : (range : FileSpan) → original_range (trees kept.workspace) held ≡ Some range → (j : ℕ) → Contains (under listing n i) j → ((stands j).range.file ≡ range.file) × FitsItsFile kept.workspace (stands j).range
     one range e j h = (
       (is.within n i j m binding range at bound h e).file,
-      range_fits w nest is j (All-contains (λ j. j < length nest.matches) (under nest n i) j (is.lists n i).within h),
+      range_fits kept listing is j (All-contains (λ j. j < length kept.matches) (under listing n i) j (is.lists (Some (record { place = n; binding = i }))).within h),
     )
 
-    of : (o : Option FileSpan) → original_range (trees w) held ≡ o → IfSome o (λ range. IsOf w range (list_at w nest texts (under nest n i)))
+    of : (o : Option FileSpan) → original_range (trees kept.workspace) held ≡ o → IfSome o (λ range. IsOf kept.workspace range (list_at kept texts (under listing n i)))
     of None e = tt
     of (Some range) e = record {
-      fits = fits_file w nest is held range e;
-      each = All-map (λ r. (r.range.file ≡ range.file) × FitsItsFile w r.range) stands (under nest n i)
-          (All-weaker (Contains (under nest n i)) (λ j. ((stands j).range.file ≡ range.file) × FitsItsFile w (stands j).range) (one range e) (under nest n i) (All-contains_itself (under nest n i)));
+      fits = fits_file kept listing is held range e;
+      each = All-map (λ r. (r.range.file ≡ range.file) × FitsItsFile kept.workspace r.range) stands (under listing n i)
+          (All-weaker (Contains (under listing n i)) (λ j. ((stands j).range.file ≡ range.file) × FitsItsFile kept.workspace (stands j).range) (one range e) (under listing n i) (All-contains_itself (under listing n i)));
     }

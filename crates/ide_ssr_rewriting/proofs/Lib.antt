@@ -10,3 +10,7 @@ mod Pieces
 mod Fits
 mod Runs
 mod Groups
+mod Nests
+mod Answering
+mod Clashless
+pub mod Shared

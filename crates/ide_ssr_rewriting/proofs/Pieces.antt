@@ -3,73 +3,79 @@ use Rattle.std.proofs.Common.{◌≡◌, ℕ, zero, suc, ◌+◌, ◌<◌, ◌�
 use Rattle.std.specs.Global.{Global}
 use Rattle.std.specs.Prelude.{Contains, if◌then◌else◌, is_some, option_map, option_to_list, slice_get, unwrap_or}
 use Rattle.std.specs.List.{enumerate_from}
-use Rattle.std.specs.Option.{IsSomeAnd, option_and_then}
+use Rattle.std.specs.Option.{IsSomeAnd, option_map_or}
 use Rattle.std.proofs.lemmas.List.{drop_more, drop_all, get_or-map, length-map}
-use Rattle.std.proofs.lemmas.List.Elements.{All-append, All-contains, All-contains_itself, All-map, All-weaker, Contains-append_left, Contains-append_right}
-use Rattle.std.proofs.lemmas.Option.{some_pair_parts, get_or_from_slice_get}
+use Rattle.std.proofs.lemmas.List.Elements.{All-append, All-contains_itself, All-map, All-weaker, Contains-append_left, Contains-append_right}
+use Rattle.std.proofs.lemmas.Option.{same_Some, get_or_from_slice_get}
 use Rattle.ssr_base.specs.Workspace.{FileSpan, Workspace, node_id, original_range, trees}
 use Rattle.ide_ssr_rules.specs.Resolving.{ResolvedKind}
 use Rattle.ide_ssr_matching.specs.declared.bindings.Binding.{Binding}
-use Rattle.ide_ssr_matching.specs.Found.{Found}
+use Rattle.ide_ssr_matching.specs.Found.{Found, HasByte}
+use Rattle.ide_ssr_nesting.specs.declared.holders.Holder.{Holder}
+use Rattle.ide_ssr_nesting.specs.Holding.{Kept}
+use Rattle.ide_ssr_nesting.specs.Lists.{Listing, listed, range_of}
 use Rattle.ide_ssr_rewriting.specs.Clashes.{Rewrite, Clash, AreInOrder, IsFirst, clashes, is_clean}
-use Rattle.ide_ssr_rewriting.specs.Nest.{Nest, IsList, IsMatchIn, IsNest, nowhere, range_at, under}
+use Rattle.ide_ssr_rewriting.specs.Private.Nest.{IsMatchIn, IsNest, under}
+use Rattle.ide_ssr_rewriting.specs.Edits.{nowhere, range_at, Texts, list_at, list_under, text_by}
 use Rattle.ide_ssr_rewriting.specs.Replacements.{piece, text_of_match}
-use Rattle.ide_ssr_rewriting.specs.Edits.{Texts, list_at, list_under, text_by}
 use Rattle.ide_ssr_rewriting.specs.Private.Clashes.{lesser}
 use Rattle.ide_ssr_rewriting.specs.Private.Edits.{text_in}
 use Rattle.ide_ssr_rewriting.specs.Private.Pieces.{AreTaken, all_clean, clashes_in, pieces_by, pieces_of}
 use Rattle.ide_ssr_rewriting.proofs.FirstClashes.{IsFirst-append, IsFirst-same}
-use Rattle.ide_ssr_rewriting.proofs.Texts.{list_same}
+use Rattle.ide_ssr_rewriting.proofs.Texts.{list_same, one_list}
 
 -- ** Lists are in order.
-
-has_byte : (o : Option FileSpan) → IsSomeAnd o (λ range. range.span.start < range.span.end) → (unwrap_or o nowhere).span.start < (unwrap_or o nowhere).span.end
-has_byte None h = absurd h
-has_byte (Some range) h = h
 
 pub none_past : {X : Type 0} (xs : List X) (n : ℕ) → slice_get xs n ≡ None → length xs ≤ n
 none_past [] n e = omega arith
 none_past (x ∷ xs) zero e = absurd (cc e)
 none_past (x ∷ xs) (suc n) e = let h = none_past xs n e in omega arith
 
-range_byte : (w : Workspace) (nest : Nest) → IsNest w nest → (n : ℕ) → n < length nest.matches → (range_at w nest n).span.start < (range_at w nest n).span.end
-range_byte w nest is n lt = at (slice_get nest.matches n) refl
-  where
-    at : (o : Option Found) → slice_get nest.matches n ≡ o
-        → (unwrap_or (option_and_then (λ m. original_range (trees w) m.node) o) nowhere).span.start < (unwrap_or (option_and_then (λ m. original_range (trees w) m.node) o) nowhere).span.end
-    at None e = absurd (let past = none_past nest.matches n e in omega arith)
-    at (Some m) e = has_byte (original_range (trees w) m.node) (subst (λ (m : Found). IsMatchIn w m) (get_or_from_slice_get nest.matches n m m e) (is.matches n m lt)).range
+has_byte : (o : Option FileSpan) → IsSomeAnd o HasByte → HasByte (unwrap_or o nowhere)
+has_byte None h = absurd h
+has_byte (Some range) h = h
 
-pub list_in_order : (w : Workspace) (nest : Nest) → IsNest w nest → (holder : ℕ → Option (ℕ × ℕ)) (own : Option (ℕ × ℕ)) (texts : Texts) (places : List ℕ) → IsList w nest holder own places
-    → AreInOrder (list_at w nest texts places)
-list_in_order w nest is holder own texts places list = record {
+range_byte : (kept : Kept) (listing : Listing) → IsNest kept listing → (n : ℕ) → n < length kept.matches → HasByte (range_at kept n)
+range_byte kept listing is n lt = at (slice_get kept.matches n) refl
+  where
+    at : (o : Option Found) → slice_get kept.matches n ≡ o → HasByte (option_map_or (range_of (trees kept.workspace)) o nowhere)
+    at None e = absurd (let past = none_past kept.matches n e in omega arith)
+    at (Some m) e =
+        has_byte (original_range (trees kept.workspace) m.node)
+        (subst (λ (m : Found). IsMatchIn kept.workspace m) (get_or_from_slice_get kept.matches n m m e) (is.matches n m lt)).range
+
+pub list_in_order : (kept : Kept) (listing : Listing) → IsNest kept listing → (holder : Option Holder) (texts : Texts) → AreInOrder (list_at kept texts (listed listing holder))
+list_in_order kept listing is holder texts = record {
   ordered = λ i j d lt within.
-      let more : length (list_at w nest texts places) ≡ length places = length-map places (λ n. stands n) in
+      let more : length (list_at kept texts places) ≡ length places = length-map places (λ n. stands n) in
       let second : j < length places = omega arith in
-      rw (get_or-map stands places i 0 d (omega arith), get_or-map stands places j 0 d second) (list.ordered i j 0 lt second);
-  bytes = All-map (λ r. r.range.span.start < r.range.span.end) stands places
-      (All-weaker (λ n. n < length nest.matches) (λ n. (range_at w nest n).span.start < (range_at w nest n).span.end) (λ n h. range_byte w nest is n h) places list.within);
+      rw (get_or-map stands places i 0 d (omega arith), get_or-map stands places j 0 d second) ((is.lists holder).ordered i j 0 lt second);
+  bytes = All-map (λ r. HasByte r.range) stands places
+      (All-weaker (λ n. n < length kept.matches) (λ n. HasByte (range_at kept n)) (λ n h. range_byte kept listing is n h) places (is.lists holder).within);
 }
   where
+    places : List ℕ
+    places = listed listing holder
+
     stands : ℕ → Rewrite
-    stands n = record { range = range_at w nest n; text = texts n }
+    stands n = record { range = range_at kept n; text = texts n }
 
 -- ** One placeholder more.
 
 -- lists of one match have no place in common
-apart : (w : Workspace) (nest : Nest) → IsNest w nest → (n i k j : ℕ) → Contains (under nest n i) j → Contains (under nest n k) j → k < i → ⊥
-apart w nest is n i k j first second lt =
-    let one : is.holder j ≡ Some (n, i) = All-contains (λ j. is.holder j ≡ Some (n, i)) (under nest n i) j (is.lists n i).held first in
-    let other : is.holder j ≡ Some (n, k) = All-contains (λ j. is.holder j ≡ Some (n, k)) (under nest n k) j (is.lists n k).held second in
-    let same : i ≡ k = (some_pair_parts n n i k (sym one ∙ other)).1 in
+apart : (kept : Kept) (listing : Listing) → IsNest kept listing → (n i k j : ℕ) → Contains (under listing n i) j → Contains (under listing n k) j → k < i → ⊥
+apart kept listing is n i k j first second lt =
+    let one : Holder = record { place = n; binding = i } in
+    let other : Holder = record { place = n; binding = k } in
+    let same : i ≡ k = ap (λ (h : Holder). h.binding) (same_Some one other (one_list kept listing is (Some one) (Some other) j first second)) in
     omega arith
 
 -- what is left of the list of the placeholder that comes next is all of it
-pub list_left : (w : Workspace) (nest : Nest) → IsNest w nest → (n i : ℕ) (old cur : List (Option (String Global)))
-    → ((j : ℕ) → ((k : ℕ) → k < i → Contains (under nest n k) j → ⊥) → text_in cur j ≡ text_in old j)
-    → list_at w nest (text_in cur) (under nest n i) ≡ list_under w nest (text_in old) n i
-list_left w nest is n i old cur left =
-    list_same w nest (text_in cur) (text_in old) (under nest n i) (λ j here. left j (λ k lt there. apart w nest is n i k j here there lt))
+pub list_left : (kept : Kept) (listing : Listing) → IsNest kept listing → (n i : ℕ) (old cur : List (Option (String Global)))
+    → ((j : ℕ) → ((k : ℕ) → k < i → Contains (under listing n k) j → ⊥) → text_in cur j ≡ text_in old j)
+    → list_at kept (text_in cur) (under listing n i) ≡ list_under kept listing (text_in old) n i
+list_left kept listing is n i old cur left =
+    list_same kept (text_in cur) (text_in old) (under listing n i) (λ j here. left j (λ k lt there. apart kept listing is n i k j here there lt))
 
 bound_from : (bs : List Binding) (i : ℕ) (b : Binding) → i < length bs → b ≡ get_or bs i b
     → enumerate_from i (drop i bs) ≡ (i, b) ∷ enumerate_from (i + 1) (drop (i + 1) bs)
@@ -113,39 +119,39 @@ pieces_more all rest old new false o text clean made so_far e m n sure =
     let wrong : false ≡ true = sym (m ∙ ap (λ (o : Option (List ℕ)). is_some o && clean) e) ∙ sure in
     absurd (cc wrong)
 
-pub taking-starts : (w : Workspace) (nest : Nest) (m : Found) (n : ℕ) (old : List (Option (String Global))) (pieces : List (List ℕ)) (was : Option Clash) → pieces ≡ []
-    → AreTaken w nest m n 0 old old true pieces was was
-taking-starts w nest m n old pieces was none = record {
+pub taking-starts : (kept : Kept) (listing : Listing) (m : Found) (n : ℕ) (old : List (Option (String Global))) (pieces : List (List ℕ)) (was : Option Clash) → pieces ≡ []
+    → AreTaken kept listing m n 0 old old true pieces was was
+taking-starts kept listing m n old pieces was none = record {
   counted = refl;
   left = λ j _. refl;
   lists = refl;
-  written = λ _. ap (λ (xs : List (List ℕ)). xs ++ pieces_of w m (list_under w nest (text_in old) n) (enumerate_from 0 m.bindings)) none;
+  written = λ _. ap (λ (xs : List (List ℕ)). xs ++ pieces_of kept.workspace m (list_under kept listing (text_in old) n) (enumerate_from 0 m.bindings)) none;
   before = [];
   split = refl;
   first = λ others h. h;
 }
 
-pub taking-more : (w : Workspace) (nest : Nest) → IsNest w nest → (m : Found) (n i : ℕ) (old cur new : List (Option (String Global))) (clean made : Bool) (pieces more : List (List ℕ)) (was now next : Option Clash)
-    → AreTaken w nest m n i old cur clean pieces was now → (b : Binding) → i < length m.bindings → b ≡ get_or m.bindings i b
-    → (list : List Rewrite) (c : Option Clash) (o : Option (List ℕ)) → list ≡ list_at w nest (text_in cur) (under nest n i) → IsFirst (clashes list) c → next ≡ lesser c now
-    → o ≡ (if is_clean list then Some (piece w (node_id m.node.tree b.node.0) list) else None)
+pub taking-more : (kept : Kept) (listing : Listing) → IsNest kept listing → (m : Found) (n i : ℕ) (old cur new : List (Option (String Global))) (clean made : Bool) (pieces more : List (List ℕ)) (was now next : Option Clash)
+    → AreTaken kept listing m n i old cur clean pieces was now → (b : Binding) → i < length m.bindings → b ≡ get_or m.bindings i b
+    → (list : List Rewrite) (c : Option Clash) (o : Option (List ℕ)) → list ≡ list_at kept (text_in cur) (under listing n i) → IsFirst (clashes list) c → next ≡ lesser c now
+    → o ≡ (if is_clean list then Some (piece kept.workspace (node_id m.node.tree b.node.0) list) else None)
     → made ≡ (is_some o && clean) → more ≡ pieces ++ option_to_list o
-    → length new ≡ length cur → ((j : ℕ) → (Contains (under nest n i) j → ⊥) → text_in new j ≡ text_in cur j)
-    → AreTaken w nest m n (i + 1) old new made more was next
-taking-more w nest is m n i old cur new clean made pieces more was now next so_far b lt at list c o taken first noted text made_is more_is counted others =
-    let lists : ℕ → List Rewrite = list_under w nest (text_in old) n in
-    let here : list ≡ lists i = taken ∙ list_left w nest is n i old cur so_far.left in
+    → length new ≡ length cur → ((j : ℕ) → (Contains (under listing n i) j → ⊥) → text_in new j ≡ text_in cur j)
+    → AreTaken kept listing m n (i + 1) old new made more was next
+taking-more kept listing is m n i old cur new clean made pieces more was now next so_far b lt at list c o taken first noted text made_is more_is counted others =
+    let lists : ℕ → List Rewrite = list_under kept listing (text_in old) n in
+    let here : list ≡ lists i = taken ∙ list_left kept listing is n i old cur so_far.left in
     let from = bound_from m.bindings i b lt at in
     let rest : List (ℕ × Binding) = enumerate_from (i + 1) (drop (i + 1) m.bindings) in
-    let it : List ℕ = piece w (node_id m.node.tree b.node.0) (lists i) in
-    let told : o ≡ (if is_clean (lists i) then Some it else None) = text ∙ ap (λ (list : List Rewrite). if is_clean list then Some (piece w (node_id m.node.tree b.node.0) list) else None) here in
+    let it : List ℕ = piece kept.workspace (node_id m.node.tree b.node.0) (lists i) in
+    let told : o ≡ (if is_clean (lists i) then Some it else None) = text ∙ ap (λ (list : List Rewrite). if is_clean list then Some (piece kept.workspace (node_id m.node.tree b.node.0) list) else None) here in
     record {
       counted = counted ∙ so_far.counted;
       left = λ j none. others j (λ h. none i (omega arith) h) ∙ so_far.left j (λ k lt h. none k (omega arith) h);
       lists = clean_more (all_clean lists (enumerate_from 0 m.bindings)) clean (is_clean (lists i)) (all_clean lists rest) made o it
           (so_far.lists ∙ ap (λ (bound : List (ℕ × Binding)). clean && all_clean lists bound) from) told made_is;
-      written = pieces_more (pieces_of w m lists (enumerate_from 0 m.bindings)) (pieces_of w m lists rest) pieces more (is_clean (lists i)) o it clean made
-          (λ sure. ap (λ (bound : List (ℕ × Binding)). pieces ++ pieces_of w m lists bound) (sym from) ∙ so_far.written sure) told made_is more_is;
+      written = pieces_more (pieces_of kept.workspace m lists (enumerate_from 0 m.bindings)) (pieces_of kept.workspace m lists rest) pieces more (is_clean (lists i)) o it clean made
+          (λ sure. ap (λ (bound : List (ℕ × Binding)). pieces ++ pieces_of kept.workspace m lists bound) (sym from) ∙ so_far.written sure) told made_is more_is;
       before = so_far.before ++ clashes (lists i);
       split = append_assoc so_far.before (clashes (lists i)) (clashes_in lists rest)
           ∙ (ap (λ (bound : List (ℕ × Binding)). so_far.before ++ clashes_in lists bound) (sym from) ∙ so_far.split);
@@ -169,21 +175,21 @@ and_true : (b : Bool) → (b && true) ≡ b
 and_true true = refl
 and_true false = refl
 
-pub taken_pieces : (w : Workspace) (nest : Nest) (m : Found) (n i : ℕ) (old cur : List (Option (String Global))) (clean : Bool) (pieces : List (List ℕ)) (was now : Option Clash)
-    → AreTaken w nest m n i old cur clean pieces was now → length m.bindings ≤ i
-    → (if clean then Some pieces else None) ≡ pieces_by w m (list_under w nest (text_in old) n)
-taken_pieces w nest m n i old cur clean pieces was now all le =
-    let lists : ℕ → List Rewrite = list_under w nest (text_in old) n in
+pub taken_pieces : (kept : Kept) (listing : Listing) (m : Found) (n i : ℕ) (old cur : List (Option (String Global))) (clean : Bool) (pieces : List (List ℕ)) (was now : Option Clash)
+    → AreTaken kept listing m n i old cur clean pieces was now → length m.bindings ≤ i
+    → (if clean then Some pieces else None) ≡ pieces_by kept.workspace m (list_under kept listing (text_in old) n)
+taken_pieces kept listing m n i old cur clean pieces was now all le =
+    let lists : ℕ → List Rewrite = list_under kept listing (text_in old) n in
     let none = bound_none m.bindings i le in
-    by_clean (all_clean lists (enumerate_from 0 m.bindings)) clean pieces (pieces_of w m lists (enumerate_from 0 m.bindings))
+    by_clean (all_clean lists (enumerate_from 0 m.bindings)) clean pieces (pieces_of kept.workspace m lists (enumerate_from 0 m.bindings))
     (all.lists ∙ (ap (λ (bound : List (ℕ × Binding)). clean && all_clean lists bound) none ∙ and_true clean))
-    (λ sure. sym (append-nil pieces) ∙ (ap (λ (bound : List (ℕ × Binding)). pieces ++ pieces_of w m lists bound) (sym none) ∙ all.written sure))
+    (λ sure. sym (append-nil pieces) ∙ (ap (λ (bound : List (ℕ × Binding)). pieces ++ pieces_of kept.workspace m lists bound) (sym none) ∙ all.written sure))
 
-pub taken_clashes : (w : Workspace) (nest : Nest) (m : Found) (n i : ℕ) (old cur : List (Option (String Global))) (clean : Bool) (pieces : List (List ℕ)) (was now : Option Clash)
-    → AreTaken w nest m n i old cur clean pieces was now → length m.bindings ≤ i
-    → (others : List Clash) → IsFirst others was → IsFirst (clashes_in (list_under w nest (text_in old) n) (enumerate_from 0 m.bindings) ++ others) now
-taken_clashes w nest m n i old cur clean pieces was now all le others h =
-    let lists : ℕ → List Rewrite = list_under w nest (text_in old) n in
+pub taken_clashes : (kept : Kept) (listing : Listing) (m : Found) (n i : ℕ) (old cur : List (Option (String Global))) (clean : Bool) (pieces : List (List ℕ)) (was now : Option Clash)
+    → AreTaken kept listing m n i old cur clean pieces was now → length m.bindings ≤ i
+    → (others : List Clash) → IsFirst others was → IsFirst (clashes_in (list_under kept listing (text_in old) n) (enumerate_from 0 m.bindings) ++ others) now
+taken_clashes kept listing m n i old cur clean pieces was now all le others h =
+    let lists : ℕ → List Rewrite = list_under kept listing (text_in old) n in
     let none = bound_none m.bindings i le in
     subst (λ (cs : List Clash). IsFirst (cs ++ others) now)
     (sym (append-nil all.before) ∙ (ap (λ (bound : List (ℕ × Binding)). all.before ++ clashes_in lists bound) (sym none) ∙ all.split))

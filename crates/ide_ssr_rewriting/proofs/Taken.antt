@@ -4,10 +4,9 @@ use Rattle.std.specs.Global.{Global}
 use Rattle.std.specs.Prelude.{AllPairs, Contains, option_map}
 use Rattle.std.proofs.lemmas.List.{get_or-set_other, get_or-take, get_or_default, length-take, map-append, take_more}
 use Rattle.std.proofs.lemmas.List.Elements.{Contains-append_left, Contains-push}
-use Rattle.ssr_base.specs.Workspace.{Workspace}
+use Rattle.ide_ssr_nesting.specs.Holding.{Kept}
 use Rattle.ide_ssr_rewriting.specs.Clashes.{Rewrite}
-use Rattle.ide_ssr_rewriting.specs.Nest.{Nest, range_at}
-use Rattle.ide_ssr_rewriting.specs.Edits.{list_at}
+use Rattle.ide_ssr_rewriting.specs.Edits.{range_at, list_at}
 use Rattle.ide_ssr_rewriting.specs.Private.Edits.{text_in}
 
 -- a place doesn't stand before itself
@@ -17,18 +16,18 @@ not_before places i p lt is once before =
     let first : k < i = omega (arith, before.1, length-take i places) in
     once k i p first lt (sym (get_or-take i places k p first) ∙ (before.2 ∙ (is ∙ get_or_default places i 0 p lt)))
 
-pub list-more : (w : Workspace) (nest : Nest) (places : List ℕ) (i p : ℕ) (old cur : List (Option (String Global))) (list new : List Rewrite) (r : Rewrite) (text : Option (String Global))
-    → i < length places → p ≡ get_or places i 0 → AllPairs ◌≢◌ places → list ≡ list_at w nest (text_in old) (take i places)
+pub list-more : (kept : Kept) (places : List ℕ) (i p : ℕ) (old cur : List (Option (String Global))) (list new : List Rewrite) (r : Rewrite) (text : Option (String Global))
+    → i < length places → p ≡ get_or places i 0 → AllPairs ◌≢◌ places → list ≡ list_at kept (text_in old) (take i places)
     → ((n : ℕ) → (Contains (take i places) n → ⊥) → text_in cur n ≡ text_in old n)
-    → get_or cur p None ≡ text → r.range ≡ range_at w nest p → r.text ≡ option_map string_bytes text → new ≡ list ++ r ∷ []
-    → new ≡ list_at w nest (text_in old) (take (i + 1) places)
-list-more w nest places i p old cur list new r text lt is once so_far others taken range known made =
-    let stands : ℕ → Rewrite = λ n. record { range = range_at w nest n; text = text_in old n } in
+    → get_or cur p None ≡ text → r.range ≡ range_at kept p → r.text ≡ option_map string_bytes text → new ≡ list ++ r ∷ []
+    → new ≡ list_at kept (text_in old) (take (i + 1) places)
+list-more kept places i p old cur list new r text lt is once so_far others taken range known made =
+    let stands : ℕ → Rewrite = λ n. record { range = range_at kept n; text = text_in old n } in
     let here : r.text ≡ text_in old p = known ∙ (ap (option_map string_bytes) (sym taken) ∙ others p (not_before places i p lt is once)) in
     let one : r ≡ stands p = ap (λ (text : Option (List ℕ)). record { range = r.range; text = text }) here ∙ ap (λ range. record { range = range; text = text_in old p }) range in
     made
     ∙ (ap (λ (list : List Rewrite). list ++ r ∷ []) so_far
-    ∙ (ap (λ (r : Rewrite). list_at w nest (text_in old) (take i places) ++ r ∷ []) (one ∙ ap stands is)
+    ∙ (ap (λ (r : Rewrite). list_at kept (text_in old) (take i places) ++ r ∷ []) (one ∙ ap stands is)
     ∙ (sym (map-append stands (take i places) (get_or places i 0 ∷ []))
     ∙ ap (map stands) (sym (take_more places i 0 lt)))))
 

@@ -1,18 +1,21 @@
 -- The one text of each kept match, the first clash of all lists, and the edits of the files.
-use Rattle.std.specs.Prelude.{ℕ, ◌≡◌, ◌==◌, if◌then◌else◌, List, [], ◌∷◌, ◌++◌, map, filter, flat_map, slice_get, Option, Some, None, Result, Ok, Err, ⊤}
+use Rattle.std.specs.Prelude.{ℕ, ◌≡◌, ◌==◌, if◌then◌else◌, List, [], ◌∷◌, ◌++◌, map, filter, flat_map, slice_get, Option, Some, None, Result, Ok, Err, All, ⊤}
 use Rattle.std.specs.BTreeMap.{BTreeMap, get}
 use Rattle.std.specs.List.{enumerate_from, list_all}
+use Rattle.std.specs.Option.{IsSomeAnd, option_map_or}
 use Rattle.std.specs.Ordering.{nat_cmp}
 use Rattle.std.specs.declared.cmp.Ordering.{Ordering}
+use Rattle.ssr_syntax_tree.specs.Syntax.{source_of}
 use Rattle.ssr_base.specs.declared.ids.FileId.{FileId}
-use Rattle.ssr_base.specs.Changes.{Change}
-use Rattle.ssr_base.specs.Workspace.{Workspace, node_id}
+use Rattle.ssr_base.specs.Changes.{Change, FitsText}
+use Rattle.ssr_base.specs.Workspace.{FileSpan, Workspace, trees}
 use Rattle.ide_ssr_rules.specs.Resolving.{ResolvedKind}
-use Rattle.ide_ssr_matching.specs.Found.{Found}
+use Rattle.ide_ssr_matching.specs.Found.{Found, held_node}
+use Rattle.ide_ssr_nesting.specs.Holding.{Kept}
+use Rattle.ide_ssr_nesting.specs.Lists.{Listing, listed, range_of}
 use Rattle.ide_ssr_rewriting.specs.declared.editing.EditError.{EditError}
 use Rattle.ide_ssr_rewriting.specs.declared.editing.EditError.TheVariants as errors
 use Rattle.ide_ssr_rewriting.specs.Clashes.{Rewrite, Clash, IsFirst, changes_made, clash_of, clashes, is_clean}
-use Rattle.ide_ssr_rewriting.specs.Nest.{Nest, range_at, under}
 use Rattle.ide_ssr_rewriting.specs.Replacements.{piece, text_of_match}
 
 -- texts for the matches by their places, some of which may be missing
@@ -21,17 +24,24 @@ Texts = ℕ → Option (List ℕ)
 
 -- ** The lists.
 
--- what stands for the matches of these places
-abbrev pub list_at : Workspace → Nest → Texts → List ℕ → List Rewrite
-list_at w nest texts places = map (λ n. record { range = range_at w nest n; text = texts n }) places
+abbrev pub nowhere : FileSpan
+nowhere = record { file = 0; span = record { start = 0; end = 0 } }
 
--- likewise for those under a placeholder
-abbrev pub list_under : Workspace → Nest → Texts → ℕ → ℕ → List Rewrite
-list_under w nest texts n i = list_at w nest texts (under nest n i)
+-- where the match of a place comes from
+abbrev pub range_at : Kept → ℕ → FileSpan
+range_at kept n = option_map_or (range_of (trees kept.workspace)) (slice_get kept.matches n) nowhere
+
+-- what stands for the matches of these places
+abbrev pub list_at : Kept → Texts → List ℕ → List Rewrite
+list_at kept texts places = map (λ n. record { range = range_at kept n; text = texts n }) places
+
+-- likewise for those under the placeholder whose binding has the place i, of the match of the place n
+abbrev pub list_under : Kept → Listing → Texts → ℕ → ℕ → List Rewrite
+list_under kept lists texts n i = list_at kept texts (listed lists (Some (record { place = n; binding = i })))
 
 -- likewise for the outermost ones
-abbrev pub outermost_list : Workspace → Nest → Texts → List Rewrite
-outermost_list w nest texts = list_at w nest texts nest.outermost
+abbrev pub outermost_list : Kept → Listing → Texts → List Rewrite
+outermost_list kept lists texts = list_at kept texts (listed lists None)
 
 -- ** The texts.
 
@@ -41,12 +51,12 @@ abbrev pub text_by : Workspace → List ResolvedKind → Found → (ℕ → List
 text_by w rules m lists =
     let bound = enumerate_from 0 m.bindings in
     if list_all (λ p. is_clean (lists p.0)) bound
-    then Some (text_of_match w rules m (map (λ p. piece w (node_id m.node.tree p.1.node.0) (lists p.0)) bound))
+    then Some (text_of_match w rules m (map (λ p. piece w (held_node m.node.tree p.1) (lists p.0)) bound))
     else None
 
 -- The texts are those that stand for the matches. There are such ones, and no others, as the law `laws::rewriting` says.
-abbrev pub AreTexts : Workspace → List ResolvedKind → Nest → Texts → Type 0
-AreTexts w rules nest texts = (n : ℕ) (m : Found) → slice_get nest.matches n ≡ Some m → texts n ≡ text_by w rules m (list_under w nest texts n)
+abbrev pub AreTexts : Kept → Listing → List ResolvedKind → Texts → Type 0
+AreTexts kept lists rules texts = (n : ℕ) (m : Found) → slice_get kept.matches n ≡ Some m → texts n ≡ text_by kept.workspace rules m (list_under kept lists texts n)
 
 -- ** The clashes.
 
@@ -55,9 +65,9 @@ abbrev pub clashes_under : Found → (ℕ → List Rewrite) → List Clash
 clashes_under m lists = flat_map (λ p. clashes (lists p.0)) (enumerate_from 0 m.bindings)
 
 -- those of all lists
-abbrev pub all_clashes : Workspace → Nest → Texts → List Clash
-all_clashes w nest texts =
-    clashes (outermost_list w nest texts) ++ flat_map (λ p. clashes_under p.1 (list_under w nest texts p.0)) (enumerate_from 0 nest.matches)
+abbrev pub all_clashes : Kept → Listing → Texts → List Clash
+all_clashes kept lists texts =
+    clashes (outermost_list kept lists texts) ++ flat_map (λ p. clashes_under p.1 (list_under kept lists texts p.0)) (enumerate_from 0 kept.matches)
 
 -- ** The edits.
 
@@ -74,13 +84,20 @@ abbrev pub file_cmp : FileId → FileId → Ordering
 file_cmp a b = nat_cmp a.0 b.0
 
 -- The answer where these are the texts: each file has its edit if there is no clash, and else the first clash is told. Want of
--- memory may be told in place of both.
-abbrev pub IsAnswer : Workspace → Nest → Texts → Result (BTreeMap FileId (List Change)) EditError → Type 0
-IsAnswer w nest texts (Ok edits) =
-    (all_clashes w nest texts ≡ []) × ((file : FileId) → get file_cmp edits file ≡ edit_of file.0 (outermost_list w nest texts))
-IsAnswer w nest texts (Err (errors.Clash earlier later)) = IsFirst (all_clashes w nest texts) (Some (clash_of (earlier, later)))
-IsAnswer w nest texts (Err errors.Memory) = ⊤
+-- memory may be told in place of both. That a rule lacks a template is told before.
+abbrev pub IsAnswer : Kept → Listing → Texts → Result (BTreeMap FileId (List Change)) EditError → Type 0
+IsAnswer kept lists texts (Ok edits) =
+    (all_clashes kept lists texts ≡ []) × ((file : FileId) → get file_cmp edits file ≡ edit_of file.0 (outermost_list kept lists texts))
+IsAnswer kept lists texts (Err (errors.Clash earlier later)) = IsFirst (all_clashes kept lists texts) (Some (clash_of (earlier, later)))
+IsAnswer kept lists texts (Err errors.NoTemplate) = ⊥
+IsAnswer kept lists texts (Err errors.Memory) = ⊤
 
--- the answer to rules and kept matches
-abbrev pub Answers : Workspace → List ResolvedKind → Nest → Result (BTreeMap FileId (List Change)) EditError → Type 0
-Answers w rules nest result = (texts : Texts) × AreTexts w rules nest texts × IsAnswer w nest texts result
+-- the answer to kept matches, their lists and the rules
+abbrev pub Answers : Kept → Listing → List ResolvedKind → Result (BTreeMap FileId (List Change)) EditError → Type 0
+Answers kept lists rules result = (texts : Texts) × AreTexts kept lists rules texts × IsAnswer kept lists texts result
+
+-- each file with an edit is one of the workspace, and each change of it begins and ends between two characters of its text
+abbrev pub EditsFit : Workspace → BTreeMap FileId (List Change) → Type 0
+EditsFit w edits =
+    (file : FileId) (changes : List Change) → get file_cmp edits file ≡ Some changes
+    → IsSomeAnd (slice_get w.files file.0) (λ tree. All (FitsText (source_of tree)) changes)

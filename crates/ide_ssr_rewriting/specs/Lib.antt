@@ -1,7 +1,7 @@
 pub mod Rendering
 pub mod Comments
 pub mod Clashes
-pub mod Nest
 pub mod Replacements
 pub mod Edits
+pub mod Laws
 pub mod Private

@@ -1,6 +1,7 @@
 -- The text that a rule's template gives for a match.
 use Rattle.std.specs.Prelude.{ℕ, ◌+◌, ◌==◌, ◌&&◌, not, Bool, if◌then◌else◌, codes, is_some, slice_index_or, length, List, [], ◌∷◌, ◌++◌, flat_map, Some, None, Result, Ok, Err}
 use Rattle.std.specs.List.{list_any, position_or_len}
+use Rattle.std.specs.Option.{option_map_or}
 use Rattle.ssr_syntax_tree.specs.Syntax.{Token, Syntax, tokens_of}
 use Rattle.ssr_syntax_tree.specs.Places.{nodes_of, start_of, end_of}
 use Rattle.ssr_syntax.specs.declared.syntax_error.SyntaxError.{SyntaxError}
@@ -44,8 +45,12 @@ abbrev pub rendered_as : Result Syntax SyntaxError → List (List ℕ) → (ℕ 
 rendered_as (Ok tree) names piece tokens = wrapped tree (trimmed_front (plain names piece tokens)) names piece 0 tokens
 rendered_as (Err error) names piece tokens = plain names piece tokens
 
--- a rule's template with its pieces
-abbrev pub rendered : ResolvedKind → (ℕ → List ℕ) → List ℕ
-rendered rule piece =
-    let tokens = tokens_of rule.template in
+-- a template with its pieces
+abbrev pub rendered_by : ResolvedKind → (ℕ → List ℕ) → Syntax → List ℕ
+rendered_by rule piece template =
+    let tokens = tokens_of template in
     rendered_as (fragment_reading (category rule) (plain rule.names piece tokens)) rule.names piece tokens
+
+-- that of a rule, which gives nothing where it has no template
+abbrev pub rendered : ResolvedKind → (ℕ → List ℕ) → List ℕ
+rendered rule piece = option_map_or (rendered_by rule piece) rule.template []

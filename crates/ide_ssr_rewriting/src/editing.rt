@@ -7,8 +7,9 @@ ghost use Rattle.std.specs.BTreeMap.{get};
 ghost use Rattle.ssr_base.specs.declared.ids.FileId.{FileId as FileIdValue};
 ghost use Rattle.ssr_base.specs.Workspace.{file_span_of, original_range, trees};
 ghost use Rattle.ide_ssr_rewriting.specs.Clashes.{AreInOrder, Clash, IsFirst, Rewrite as RewriteValue, clash_le, clash_of, clashes, is_clean};
-ghost use Rattle.ide_ssr_rewriting.specs.Edits.{Answers, clashes_under, edit_of, file_cmp, list_at, list_under};
-ghost use Rattle.ide_ssr_rewriting.specs.Nest.{IsMatchIn, IsNest, range_at, under};
+ghost use Rattle.ide_ssr_nesting.specs.Lists.{AreLists};
+ghost use Rattle.ide_ssr_rewriting.specs.Edits.{Answers, EditsFit, clashes_under, edit_of, file_cmp, list_at, list_under, range_at};
+ghost use Rattle.ide_ssr_rewriting.specs.Private.Nest.{IsMatchIn, IsNest, under};
 ghost use Rattle.ide_ssr_rewriting.specs.Private.Clashes.{lesser};
 ghost use Rattle.ide_ssr_rewriting.specs.Private.Edits.{IsRun, text_in};
 ghost use Rattle.ide_ssr_rewriting.specs.Private.Groups.{IsGroup, LastElsewhere};
@@ -17,9 +18,9 @@ ghost use Rattle.ide_ssr_rewriting.specs.Private.Replacements.{IsOf};
 ghost use Rattle.ide_ssr_rewriting.specs.Replacements.{piece, text_of_match};
 
 use crate::clashes::{Rewrite, changes_made, first_clash};
-use crate::listed::Nest;
 use crate::replacements::{piece, text_of_match};
 use ide_ssr_matching::Found;
+use ide_ssr_nesting::{KeptMatches, Lists};
 use ide_ssr_rules::ResolvedRule;
 use ssr_base::{FileId, FileRange, NodeId, TextEdit, Workspace};
 use ssr_syntax_lex::TextRange;
@@ -34,6 +35,9 @@ pub enum EditError {
     /// Two matches of one list share a byte, and their ranges or their replacements differ: the ranges of the first two.
     #[error("two matches share a byte")]
     Clash(FileRange, FileRange),
+    /// A held rule has no template.
+    #[error("a rule has no template")]
+    NoTemplate,
     /// Memory ran out.
     #[error("out of memory")]
     Memory,
@@ -101,11 +105,11 @@ fn none_known(alloc: Global, count: usize) -> Result<Vec<Option<String>>, AllocE
 }
 
 /// Where the match of a place comes from.
-fn range_at(workspace: &Workspace, nest: &Nest, place: usize) -> FileRange
-    requires { place < length nest.now.matches }
-    ensures { file_span_of result ≡ range_at workspace.now nest.now place }
+fn range_at(kept: &KeptMatches<'_>, place: usize) -> FileRange
+    requires { place < length kept.now.matches }
+    ensures { file_span_of result ≡ range_at kept.now place }
 {
-    match workspace.original_range(nest.get(place).node()) {
+    match kept.workspace().original_range(kept.get(place).node()) {
         Some(range) => range,
         None => FileRange {
             file_id: FileId(0),
@@ -117,22 +121,21 @@ fn range_at(workspace: &Workspace, nest: &Nest, place: usize) -> FileRange
 /// What stands for the matches of these places, whose texts are taken.
 fn take_list(
     alloc: Global,
-    workspace: &Workspace,
-    nest: &Nest,
+    kept: &KeptMatches<'_>,
     places: &[usize],
     texts: &mut Vec<Option<String>>,
 ) -> Result<Vec<Rewrite>, AllocError>
-    requires counted { length texts.old.items ≡ length nest.now.matches }
-    requires within { All (λ n. n < length nest.now.matches) places.now }
+    requires counted { length texts.old.items ≡ length kept.now.matches }
+    requires within { All (λ n. n < length kept.now.matches) places.now }
     requires once { AllPairs ◌≢◌ places.now }
-    ensures list { IfOk result (λ list. list.items ≡ list_at workspace.now nest.now (text_in texts.old.items) places.now) }
+    ensures list { IfOk result (λ list. list.items ≡ list_at kept.now (text_in texts.old.items) places.now) }
     ensures others { OnOk result ((n : ℕ) → (Contains places.now n → ⊥) → text_in texts.new.items n ≡ text_in texts.old.items n) }
     ensures counted { OnOk result (length texts.new.items ≡ length texts.old.items) }
 {
     let mut list = Vec::new(alloc);
     for place in places {
         let text = texts[*place].take();
-        list.push(Rewrite::new(range_at(workspace, nest, *place), text))?;
+        list.push(Rewrite::new(range_at(kept, *place), text))?;
     }
     Ok(list)
 }
@@ -204,21 +207,20 @@ impl Pending {
     fn take_list(
         &mut self,
         alloc: Global,
-        workspace: &Workspace,
-        nest: &Nest,
+        kept: &KeptMatches<'_>,
         places: &[usize],
     ) -> Result<(Vec<Rewrite>, Option<(FileRange, FileRange)>), AllocError>
-        requires counted { length self.old.texts.items ≡ length nest.now.matches }
-        requires within { All (λ n. n < length nest.now.matches) places.now }
+        requires counted { length self.old.texts.items ≡ length kept.now.matches }
+        requires within { All (λ n. n < length kept.now.matches) places.now }
         requires once { AllPairs ◌≢◌ places.now }
-        requires order { AreInOrder (list_at workspace.now nest.now (text_in self.old.texts.items) places.now) }
-        ensures list { IfOk result (λ taken. taken.0.items ≡ list_at workspace.now nest.now (text_in self.old.texts.items) places.now) }
+        requires order { AreInOrder (list_at kept.now (text_in self.old.texts.items) places.now) }
+        ensures list { IfOk result (λ taken. taken.0.items ≡ list_at kept.now (text_in self.old.texts.items) places.now) }
         ensures first { IfOk result (λ taken. IsFirst (clashes taken.0.items) (option_map clash_of taken.1)) }
         ensures clash { IfOk result (λ taken. option_map clash_of self.new.clash ≡ lesser (option_map clash_of taken.1) (option_map clash_of self.old.clash)) }
         ensures others { OnOk result ((n : ℕ) → (Contains places.now n → ⊥) → text_in self.new.texts.items n ≡ text_in self.old.texts.items n) }
         ensures counted { OnOk result (length self.new.texts.items ≡ length self.old.texts.items) }
     {
-        let list = take_list(alloc, workspace, nest, places, &mut self.texts)?;
+        let list = take_list(alloc, kept, places, &mut self.texts)?;
         let first = first_clash(&list);
         self.clash = lesser(first, self.clash);
         Ok((list, first))
@@ -229,17 +231,17 @@ impl Pending {
     fn take_pieces(
         &mut self,
         alloc: Global,
-        workspace: &Workspace,
-        nest: &Nest,
+        kept: &KeptMatches<'_>,
+        lists: &Lists,
         m: &Found,
         place: usize,
     ) -> Result<Option<Vec<String>>, AllocError>
-        requires nest { IsNest workspace.now nest.now }
-        requires m { slice_get nest.now.matches place ≡ Some m.now }
-        requires counted { length self.old.texts.items ≡ length nest.now.matches }
-        ensures pieces { IfOk result (λ pieces. option_map (λ v. map string_bytes v.items) pieces ≡ pieces_by workspace.now m.now (list_under workspace.now nest.now (text_in self.old.texts.items) place)) }
-        ensures clash { OnOk result ((others : List Clash) → IsFirst others (option_map clash_of self.old.clash) → IsFirst (clashes_under m.now (list_under workspace.now nest.now (text_in self.old.texts.items) place) ++ others) (option_map clash_of self.new.clash)) }
-        ensures left { OnOk result ((j : ℕ) → ((i : ℕ) → Contains (under nest.now place i) j → ⊥) → text_in self.new.texts.items j ≡ text_in self.old.texts.items j) }
+        requires nest { IsNest kept.now lists.now }
+        requires m { slice_get kept.now.matches place ≡ Some m.now }
+        requires counted { length self.old.texts.items ≡ length kept.now.matches }
+        ensures pieces { IfOk result (λ pieces. option_map (λ v. map string_bytes v.items) pieces ≡ pieces_by kept.now.workspace m.now (list_under kept.now lists.now (text_in self.old.texts.items) place)) }
+        ensures clash { OnOk result ((others : List Clash) → IsFirst others (option_map clash_of self.old.clash) → IsFirst (clashes_under m.now (list_under kept.now lists.now (text_in self.old.texts.items) place) ++ others) (option_map clash_of self.new.clash)) }
+        ensures left { OnOk result ((j : ℕ) → ((i : ℕ) → Contains (under lists.now place i) j → ⊥) → text_in self.new.texts.items j ≡ text_in self.old.texts.items j) }
         ensures counted { OnOk result (length self.new.texts.items ≡ length self.old.texts.items) }
     {
         let mut pieces = Vec::new(alloc);
@@ -249,8 +251,8 @@ impl Pending {
                 tree: m.node().tree,
                 node: binding.node,
             };
-            let (list, first) = self.take_list(alloc, workspace, nest, nest.under(place, index))?;
-            let piece = piece_if_clean(alloc, workspace, node, list, first)?;
+            let (list, first) = self.take_list(alloc, kept, lists.under(place, index))?;
+            let piece = piece_if_clean(alloc, kept.workspace(), node, list, first)?;
             is_clean = push_piece(&mut pieces, piece)? && is_clean;
         }
         if is_clean { Ok(Some(pieces)) } else { Ok(None) }
@@ -260,40 +262,39 @@ impl Pending {
     fn rewrite_at(
         &mut self,
         alloc: Global,
-        workspace: &Workspace,
+        kept: &KeptMatches<'_>,
+        lists: &Lists,
         rules: &[ResolvedRule],
-        nest: &Nest,
         place: usize,
     ) -> Result<(), AllocError>
-        requires nest { IsNest workspace.now nest.now }
-        requires place { place < length nest.now.matches }
-        requires run { IsRun workspace.now rules.now nest.now (place + 1) self.old.texts.items (option_map clash_of self.old.clash) }
-        ensures { OnOk result (IsRun workspace.now rules.now nest.now place self.new.texts.items (option_map clash_of self.new.clash)) }
+        requires nest { IsNest kept.now lists.now }
+        requires place { place < length kept.now.matches }
+        requires run { IsRun kept.now lists.now rules.now (place + 1) self.old.texts.items (option_map clash_of self.old.clash) }
+        ensures { OnOk result (IsRun kept.now lists.now rules.now place self.new.texts.items (option_map clash_of self.new.clash)) }
     {
-        let m = nest.get(place);
-        let pieces = self.take_pieces(alloc, workspace, nest, m, place)?;
-        let text = text_of_pieces(alloc, workspace, rules, m, pieces)?;
+        let m = kept.get(place);
+        let pieces = self.take_pieces(alloc, kept, lists, m, place)?;
+        let text = text_of_pieces(alloc, kept.workspace(), rules, m, pieces)?;
         self.texts[place] = text;
         Ok(())
     }
 }
 
-/// Goes through all matches, from the last one to the first.
+/// Goes through all matches, from the last one to the first, where no text is known yet.
 fn run(
     alloc: Global,
-    workspace: &Workspace,
+    kept: &KeptMatches<'_>,
+    lists: &Lists,
     rules: &[ResolvedRule],
-    nest: &Nest,
+    texts: Vec<Option<String>>,
 ) -> Result<Pending, AllocError>
-    requires { IsNest workspace.now nest.now }
-    ensures { IfOk result (λ pending. IsRun workspace.now rules.now nest.now 0 pending.texts.items (option_map clash_of pending.clash)) }
+    requires nest { IsNest kept.now lists.now }
+    requires counted { length texts.items ≡ length kept.now.matches }
+    ensures { IfOk result (λ pending. IsRun kept.now lists.now rules.now 0 pending.texts.items (option_map clash_of pending.clash)) }
 {
-    let mut pending = Pending {
-        texts: none_known(alloc, nest.len())?,
-        clash: None,
-    };
-    for place in (0..nest.len()).rev() {
-        pending.rewrite_at(alloc, workspace, rules, nest, place)?;
+    let mut pending = Pending { texts, clash: None };
+    for place in (0..kept.len()).rev() {
+        pending.rewrite_at(alloc, kept, lists, rules, place)?;
     }
     Ok(pending)
 }
@@ -359,15 +360,17 @@ fn file_edits(
 /// their ranges or what stands for them differ: the first two.
 pub fn edits(
     alloc: Global,
-    workspace: &Workspace,
+    kept: &KeptMatches<'_>,
+    lists: &Lists,
     rules: &[ResolvedRule],
-    nest: &Nest,
 ) -> Result<BTreeMap<FileId, TextEdit>, EditError>
-    requires { IsNest workspace.now nest.now }
-    ensures { Answers workspace.now rules.now nest.now result }
+    requires lists { AreLists kept.now lists.now }
+    ensures answer { Answers kept.now lists.now rules.now result }
+    ensures fits { IfOk result (λ edits. EditsFit kept.now.workspace edits) }
 {
-    let mut pending = run(alloc, workspace, rules, nest)?;
-    let (outermost, _) = pending.take_list(alloc, workspace, nest, nest.outermost())?;
+    let texts = none_known(alloc, kept.len())?;
+    let mut pending = run(alloc, kept, lists, rules, texts)?;
+    let (outermost, _) = pending.take_list(alloc, kept, lists.outermost())?;
     if let Some((earlier, later)) = pending.clash {
         return Err(EditError::Clash(earlier, later));
     }

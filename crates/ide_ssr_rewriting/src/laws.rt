@@ -1,15 +1,24 @@
 //! What holds of the words of the contracts, whatever the code: each function here does nothing, and what
 //! it ensures is a law.
-ghost use Rattle.std.specs.Prelude.{◌≡◌, ℕ, List, Some, slice_get};
-ghost use Rattle.ssr_base.specs.Workspace.{Workspace};
+ghost use Rattle.std.specs.Prelude.{◌≡◌, [], List};
 ghost use Rattle.ide_ssr_rules.specs.Resolving.{ResolvedKind};
-ghost use Rattle.ide_ssr_matching.specs.Found.{Found};
-ghost use Rattle.ide_ssr_rewriting.specs.Nest.{Nest, IsNest};
-ghost use Rattle.ide_ssr_rewriting.specs.Edits.{Texts, AreTexts};
+ghost use Rattle.ide_ssr_nesting.specs.Holding.{Kept, IsKept};
+ghost use Rattle.ide_ssr_nesting.specs.Lists.{Listing, AreLists};
+ghost use Rattle.ide_ssr_rewriting.specs.Laws.{EditsOrClash, NoClash, OneEdit, OneText, TextsExist};
 
 /// There are texts that stand for kept matches, and no others.
 pub fn rewriting()
-    ensures exist { (w : Workspace) (rules : List ResolvedKind) (nest : Nest) → IsNest w nest → (texts : Texts) × AreTexts w rules nest texts }
-    ensures one { (w : Workspace) (rules : List ResolvedKind) (nest : Nest) (f g : Texts) → IsNest w nest → AreTexts w rules nest f → AreTexts w rules nest g
-        → (n : ℕ) (m : Found) → slice_get nest.matches n ≡ Some m → f n ≡ g n }
+    ensures exist { (kept : Kept) (lists : Listing) (rules : List ResolvedKind) → IsKept kept → AreLists kept lists → TextsExist kept lists rules }
+    ensures one { (kept : Kept) (lists : Listing) (rules : List ResolvedKind) → IsKept kept → AreLists kept lists → OneText kept lists rules }
+{}
+
+/// There is one answer: all edits that are answered are the same, and they aren't answered where a clash is.
+pub fn answering()
+    ensures one { (kept : Kept) (lists : Listing) (rules : List ResolvedKind) → IsKept kept → AreLists kept lists → OneEdit kept lists rules }
+    ensures edits_or_clash { (kept : Kept) (lists : Listing) (rules : List ResolvedKind) → IsKept kept → AreLists kept lists → EditsOrClash kept lists rules }
+{}
+
+/// Without expansions no two kept matches clash.
+pub fn clashing()
+    ensures { (kept : Kept) (lists : Listing) → IsKept kept → AreLists kept lists → kept.workspace.expansions ≡ [] → NoClash kept lists }
 {}

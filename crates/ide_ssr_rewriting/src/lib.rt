@@ -5,11 +5,9 @@ mod clashes;
 mod comments;
 mod editing;
 pub mod laws;
-mod listed;
 mod rendering;
 mod replacements;
 
 pub use comments::{kept_comments, push_comments};
 pub use editing::{EditError, edits};
-pub use listed::Nest;
 pub use rendering::rendered;

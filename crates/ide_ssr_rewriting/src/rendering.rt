@@ -1,9 +1,10 @@
 //! The text that a template gives for a match.
 
-ghost use Rattle.std.specs.Prelude.{◌≡◌, ◌+◌, ◌++◌, ◌^◌, ◌<◌, ◌≤◌, ◌==◌, ◌&&◌, ℕ, if◌then◌else◌, nat_le, IfOk, length, map, string_bytes};
+ghost use Rattle.std.specs.Prelude.{◌≡◌, ◌+◌, ◌++◌, ◌^◌, ◌<◌, ◌≤◌, ◌==◌, ◌&&◌, ℕ, if◌then◌else◌, nat_le, IfOk, Some, length, map, string_bytes};
 ghost use Rattle.std.specs.List.{position_or_len};
 ghost use Rattle.ssr_syntax_tree.specs.Syntax.{node_count, tokens_of};
 ghost use Rattle.ssr_syntax_tree.specs.Places.{HasNode, HasToken, node_of, token_of};
+ghost use Rattle.ide_ssr_rules.specs.Resolving.{name_at};
 ghost use Rattle.ide_ssr_rewriting.specs.Rendering.{piece_of, text_for, plain, is_node, wrapped_text, wrapped, rendered};
 
 use ide_ssr_matching::Binding;
@@ -22,9 +23,12 @@ pub fn rendered(
 ) -> Result<String, AllocError>
     ensures { IfOk result (λ text. string_bytes text ≡ rendered rule.now (piece_of bindings.now (map string_bytes pieces.now))) }
 {
-    let plain = plain(alloc, rule, bindings, pieces)?;
+    let Some(template) = rule.template() else {
+        return Ok(String::new(alloc));
+    };
+    let plain = plain(alloc, rule, template, bindings, pieces)?;
     match fragment(alloc, Fragment::Expr, plain.as_str()) {
-        Ok((tree, front)) => wrapped(alloc, rule, bindings, pieces, &tree, front),
+        Ok((tree, front)) => wrapped(alloc, rule, template, bindings, pieces, &tree, front),
         Err(SyntaxError::Memory) => Err(AllocError),
         Err(_) => Ok(plain),
     }
@@ -52,19 +56,30 @@ fn piece<'a>(bindings: &[Binding], pieces: &'a [String], placeholder: u32) -> &'
     }
 }
 
+/// Which placeholder a token of the rule's template is.
+fn placeholder(rule: &ResolvedRule, template: &Tree, token: TokenNo) -> Option<u32>
+    requires template { rule.now.template ≡ Some template.now }
+    requires has { HasToken template.now token.0 }
+    ensures { result ≡ name_at rule.now.names (token_of template.now token.0) }
+{
+    rule.template_placeholder(token)
+}
+
 /// What stands for the token of the template.
 fn text_for<'a>(
-    rule: &'a ResolvedRule,
+    rule: &ResolvedRule,
+    template: &'a Tree,
     bindings: &[Binding],
     pieces: &'a [String],
     token: TokenNo,
 ) -> &'a str
-    requires { HasToken rule.now.template token.0 }
-    ensures { result.now ≡ text_for rule.now.names (piece_of bindings.now (map string_bytes pieces.now)) (token_of rule.now.template token.0) }
+    requires template { rule.now.template ≡ Some template.now }
+    requires has { HasToken template.now token.0 }
+    ensures { result.now ≡ text_for rule.now.names (piece_of bindings.now (map string_bytes pieces.now)) (token_of template.now token.0) }
 {
-    match rule.template_placeholder(token) {
+    match placeholder(rule, template, token) {
         Some(place) => piece(bindings, pieces, place),
-        None => rule.template().token_text(token),
+        None => template.token_text(token),
     }
 }
 
@@ -72,14 +87,16 @@ fn text_for<'a>(
 fn plain(
     alloc: Global,
     rule: &ResolvedRule,
+    template: &Tree,
     bindings: &[Binding],
     pieces: &[String],
 ) -> Result<String, AllocError>
-    ensures { IfOk result (λ text. string_bytes text ≡ plain rule.now.names (piece_of bindings.now (map string_bytes pieces.now)) (tokens_of rule.now.template)) }
+    requires { rule.now.template ≡ Some template.now }
+    ensures { IfOk result (λ text. string_bytes text ≡ plain rule.now.names (piece_of bindings.now (map string_bytes pieces.now)) (tokens_of template.now)) }
 {
     let mut text = String::new(alloc);
-    for token in 0..rule.template().token_count() {
-        text.push_str(text_for(rule, bindings, pieces, TokenNo(token)))?;
+    for token in 0..template.token_count() {
+        text.push_str(text_for(rule, template, bindings, pieces, TokenNo(token)))?;
     }
     Ok(text)
 }
@@ -89,19 +106,21 @@ fn plain(
 fn wrapped(
     alloc: Global,
     rule: &ResolvedRule,
+    template: &Tree,
     bindings: &[Binding],
     pieces: &[String],
     tree: &Tree,
     front: u32,
 ) -> Result<String, AllocError>
-    requires { length (plain rule.now.names (piece_of bindings.now (map string_bytes pieces.now)) (tokens_of rule.now.template)) < 2 ^ 64 }
-    ensures { IfOk result (λ text. string_bytes text ≡ wrapped tree.now front rule.now.names (piece_of bindings.now (map string_bytes pieces.now)) 0 (tokens_of rule.now.template)) }
+    requires template { rule.now.template ≡ Some template.now }
+    requires length { length (plain rule.now.names (piece_of bindings.now (map string_bytes pieces.now)) (tokens_of template.now)) < 2 ^ 64 }
+    ensures { IfOk result (λ text. string_bytes text ≡ wrapped tree.now front rule.now.names (piece_of bindings.now (map string_bytes pieces.now)) 0 (tokens_of template.now)) }
 {
     let mut wrapped = String::new(alloc);
     let mut at = 0;
-    for token in 0..rule.template().token_count() {
-        let text = text_for(rule, bindings, pieces, TokenNo(token));
-        let is_piece = rule.template_placeholder(TokenNo(token)).is_some();
+    for token in 0..template.token_count() {
+        let text = text_for(rule, template, bindings, pieces, TokenNo(token));
+        let is_piece = placeholder(rule, template, TokenNo(token)).is_some();
         push_wrapped(&mut wrapped, tree, front, is_piece, at, text)?;
         at += text.len();
     }

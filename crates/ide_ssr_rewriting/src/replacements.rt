@@ -5,7 +5,7 @@ ghost use Rattle.ssr_base.specs.Applied.{changes_of};
 ghost use Rattle.ssr_base.specs.Changes.{replaced};
 ghost use Rattle.ssr_base.specs.Texts.{is_boundary};
 ghost use Rattle.ssr_base.specs.Workspace.{original_range, trees};
-ghost use Rattle.ide_ssr_rewriting.specs.Nest.{IsMatchIn};
+ghost use Rattle.ide_ssr_rewriting.specs.Private.Nest.{IsMatchIn};
 ghost use Rattle.ide_ssr_rewriting.specs.Replacements.{comments_kept, file_text, piece, template_text, text_of_match};
 ghost use Rattle.ide_ssr_rewriting.specs.Private.Replacements.{FitsFile, IsOf};
 

@@ -103,7 +103,7 @@ at_most_from (e.Placeholder name ∷ es) seen names others new none =
     (at_most_from es (seen ++ name ∷ []) names others new.1 none)
 
 pub template_at_most : (es : List Element) (names : List (List ℕ)) (tree : Syntax) → IsSide (names ++ names_of es) es
-    → expr_of (code_of es) ≡ Some tree → HasEachAtMostOnce names tree
+    → expr_of (code_of es) ≡ Some tree → HasEachAtMostOnce names (Some tree)
 template_at_most es names tree is read =
     let fits = side_fits (names ++ names_of es) es tree is read in
     subst (AllPairs (λ one other. one ≢ other)) (sym (tree_among es names tree is.utf8 is.is_trimmed is.same fits))

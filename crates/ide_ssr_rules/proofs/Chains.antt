@@ -1,11 +1,13 @@
 -- The steps of reading a rule, each after those that accepted.
-use Rattle.std.proofs.Common.{◌≡◌, ℕ, List, ◌++◌, Result, Ok, ap, ◌∙◌, sym, subst}
+use Rattle.std.proofs.Common.{◌≡◌, ℕ, List, ◌++◌, Option, Some, None, Result, Ok, ap, ◌∙◌, sym, subst}
+use Rattle.std.specs.Option.{option_map}
+use Rattle.std.specs.Str.{trim}
 use Rattle.ide_ssr_rules.specs.declared.elements.Element.{Element}
 use Rattle.ide_ssr_rules.specs.declared.error.SsrError.{SsrError}
 use Rattle.ide_ssr_rules.specs.declared.kinds.ParsedRule.{ParsedRule}
 use Rattle.ide_ssr_rules.specs.Elements.{names_of, side}
 use Rattle.ide_ssr_rules.specs.Refusals.{Refusal, TellsOf, Answers, ◌>>=◌, unless, glued, reserved}
-use Rattle.ide_ssr_rules.specs.Rules.{Rule, check_sides, check_defined, kinds_of, some_kind, rule_of, rule_reading}
+use Rattle.ide_ssr_rules.specs.Rules.{Rule, check_sides, check_defined, kinds_of, some_kind, written, rule_of, rule_reading, pattern_reading}
 use Rattle.ide_ssr_rules.specs.Sides.{sides}
 use Rattle.ide_ssr_rules.specs.StandIns.{glued_placeholder, code_of, spelled_stand_in}
 use Rattle.ide_ssr_rules.proofs.Telling.{tells_first, after_ok}
@@ -52,52 +54,53 @@ module _ (pattern template : List Element) where
       (after_ok (λ r. Answers result r) (names_free all_names pattern) (λ _. names_free all_names template) tt (ap (λ ns. names_free ns pattern) (sym are) ∙ free)
       (subst (λ ns. Answers result (names_free ns template)) (keeps ∙ are) answers)))
 
+module _ (pattern : List Element) (template : Option (List Element)) where
   abbrev kinds_read : Result (List ParsedRule) Refusal
-  kinds_read = some_kind (kinds_of (code_of pattern) (code_of template))
+  kinds_read = some_kind (kinds_of (code_of pattern) (option_map code_of template))
 
   abbrev rule_with : List ParsedRule → Unit {0} → Result Rule Refusal
   rule_with kinds _ = Ok (record { names = names_of pattern; kinds = kinds })
 
   abbrev after_kinds : List ParsedRule → Result Rule Refusal
-  after_kinds kinds = check_defined (names_of pattern) (names_of template) >>= rule_with kinds
+  after_kinds kinds = check_defined (names_of pattern) (names_of (written template)) >>= rule_with kinds
 
   abbrev after_sides : Unit {0} → Result Rule Refusal
   after_sides _ = kinds_read >>= after_kinds
 
-  pub sides_refused : (error : SsrError) → TellsOf error (check_sides pattern template) → TellsOf error (rule_of pattern template)
+  pub sides_refused : (error : SsrError) → TellsOf error (check_sides pattern (written template)) → TellsOf error (rule_of pattern template)
   unfolding rule_of
-  sides_refused error tells = tells_first (check_sides pattern template) after_sides error tells
+  sides_refused error tells = tells_first (check_sides pattern (written template)) after_sides error tells
 
-  pub kinds_refused : (error : SsrError) → check_sides pattern template ≡ Ok tt → TellsOf error (some_kind (kinds_of (code_of pattern) (code_of template)))
+  pub kinds_refused : (error : SsrError) → check_sides pattern (written template) ≡ Ok tt → TellsOf error (some_kind (kinds_of (code_of pattern) (option_map code_of template)))
       → TellsOf error (rule_of pattern template)
   unfolding rule_of
   kinds_refused error checked tells =
-      after_ok (λ r. TellsOf error r) (check_sides pattern template) after_sides tt checked (tells_first kinds_read after_kinds error tells)
+      after_ok (λ r. TellsOf error r) (check_sides pattern (written template)) after_sides tt checked (tells_first kinds_read after_kinds error tells)
 
-  pub names_refused : (error : SsrError) (kinds : List ParsedRule) (names used : List (List ℕ)) → check_sides pattern template ≡ Ok tt
-      → some_kind (kinds_of (code_of pattern) (code_of template)) ≡ Ok kinds → names ≡ names_of pattern → used ≡ names_of template
+  pub names_refused : (error : SsrError) (kinds : List ParsedRule) (names used : List (List ℕ)) → check_sides pattern (written template) ≡ Ok tt
+      → some_kind (kinds_of (code_of pattern) (option_map code_of template)) ≡ Ok kinds → names ≡ names_of pattern → used ≡ names_of (written template)
       → TellsOf error (check_defined names used) → TellsOf error (rule_of pattern template)
   unfolding rule_of
   names_refused error kinds names used checked read are uses tells =
-      after_ok (λ r. TellsOf error r) (check_sides pattern template) after_sides tt checked
+      after_ok (λ r. TellsOf error r) (check_sides pattern (written template)) after_sides tt checked
       (after_ok (λ r. TellsOf error r) kinds_read after_kinds kinds read
-      (tells_first (check_defined (names_of pattern) (names_of template)) (rule_with kinds) error
+      (tells_first (check_defined (names_of pattern) (names_of (written template))) (rule_with kinds) error
       (subst (λ us. TellsOf error (check_defined (names_of pattern) us)) uses (subst (λ ns. TellsOf error (check_defined ns used)) are tells))))
 
-  pub rule_made : (kinds : List ParsedRule) (names used kept : List (List ℕ)) → check_sides pattern template ≡ Ok tt
-      → some_kind (kinds_of (code_of pattern) (code_of template)) ≡ Ok kinds → names ≡ names_of pattern → used ≡ names_of template
+  pub rule_made : (kinds : List ParsedRule) (names used kept : List (List ℕ)) → check_sides pattern (written template) ≡ Ok tt
+      → some_kind (kinds_of (code_of pattern) (option_map code_of template)) ≡ Ok kinds → names ≡ names_of pattern → used ≡ names_of (written template)
       → check_defined names used ≡ Ok tt → kept ≡ names → rule_of pattern template ≡ Ok (record { names = kept; kinds = kinds })
   unfolding rule_of
   rule_made kinds names used kept checked read are uses defined keeps =
-      after_ok (λ r. r ≡ Ok (record { names = kept; kinds = kinds })) (check_sides pattern template) after_sides tt checked
+      after_ok (λ r. r ≡ Ok (record { names = kept; kinds = kinds })) (check_sides pattern (written template)) after_sides tt checked
       (after_ok (λ r. r ≡ Ok (record { names = kept; kinds = kinds })) kinds_read after_kinds kinds read
-      (after_ok (λ r. r ≡ Ok (record { names = kept; kinds = kinds })) (check_defined (names_of pattern) (names_of template)) (rule_with kinds) tt
-      (ap (λ ns. check_defined ns (names_of template)) (sym are) ∙ ap (check_defined names) (sym uses) ∙ defined)
+      (after_ok (λ r. r ≡ Ok (record { names = kept; kinds = kinds })) (check_defined (names_of pattern) (names_of (written template))) (rule_with kinds) tt
+      (ap (λ ns. check_defined ns (names_of (written template))) (sym are) ∙ ap (check_defined names) (sym uses) ∙ defined)
       (ap (λ ns. Ok (record { names = ns; kinds = kinds })) (sym (keeps ∙ are)))))
 
 module _ (text : List ℕ) where
   abbrev after_side : List ℕ × List ℕ → List Element → Result Rule Refusal
-  after_side texts pattern = side texts.1 >>= (λ template. rule_of pattern template)
+  after_side texts pattern = side texts.1 >>= (λ template. rule_of pattern (Some template))
 
   abbrev after_split : List ℕ × List ℕ → Result Rule Refusal
   after_split texts = side texts.0 >>= after_side texts
@@ -116,13 +119,25 @@ module _ (text : List ℕ) where
   unfolding rule_reading
   template_refused error texts pattern split read tells =
       after_ok (λ r. TellsOf error r) (sides text) after_split texts split
-      (after_ok (λ r. TellsOf error r) (side texts.0) (after_side texts) pattern read (tells_first (side texts.1) (λ template. rule_of pattern template) error tells))
+      (after_ok (λ r. TellsOf error r) (side texts.0) (after_side texts) pattern read (tells_first (side texts.1) (λ template. rule_of pattern (Some template)) error tells))
 
   pub rule_read : (result : Result Rule SsrError) (texts : List ℕ × List ℕ) (pattern template kept stayed : List Element) → sides text ≡ Ok texts → side texts.0 ≡ Ok pattern
-      → side texts.1 ≡ Ok template → kept ≡ pattern → stayed ≡ template → Answers result (rule_of kept stayed) → Answers result (rule_reading text)
+      → side texts.1 ≡ Ok template → kept ≡ pattern → stayed ≡ template → Answers result (rule_of kept (Some stayed)) → Answers result (rule_reading text)
   unfolding rule_reading
   rule_read result texts pattern template kept stayed split read too keeps stays answers =
       after_ok (λ r. Answers result r) (sides text) after_split texts split
       (after_ok (λ r. Answers result r) (side texts.0) (after_side texts) pattern read
-      (after_ok (λ r. Answers result r) (side texts.1) (λ template. rule_of pattern template) template too
-      (subst (λ es. Answers result (rule_of pattern es)) stays (subst (λ es. Answers result (rule_of es stayed)) keeps answers))))
+      (after_ok (λ r. Answers result r) (side texts.1) (λ template. rule_of pattern (Some template)) template too
+      (subst (λ es. Answers result (rule_of pattern (Some es))) stays (subst (λ es. Answers result (rule_of es (Some stayed))) keeps answers))))
+
+  pub alone_refused : (error : SsrError) (trimmed : List ℕ) → trimmed ≡ trim text → TellsOf error (side trimmed) → TellsOf error (pattern_reading text)
+  unfolding pattern_reading
+  alone_refused error trimmed is tells =
+      tells_first (side (trim text)) (λ pattern. rule_of pattern None) error (subst (λ t. TellsOf error (side t)) is tells)
+
+  pub alone_read : (result : Result Rule SsrError) (trimmed : List ℕ) (pattern kept : List Element) → trimmed ≡ trim text → side trimmed ≡ Ok pattern
+      → kept ≡ pattern → Answers result (rule_of kept None) → Answers result (pattern_reading text)
+  unfolding pattern_reading
+  alone_read result trimmed pattern kept is read keeps answers =
+      after_ok (λ r. Answers result r) (side (trim text)) (λ pattern. rule_of pattern None) pattern (ap side (sym is) ∙ read)
+      (subst (λ es. Answers result (rule_of es None)) keeps answers)

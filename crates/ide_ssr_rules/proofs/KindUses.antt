@@ -1,6 +1,7 @@
 -- The kinds of an accepted rule have its placeholders once as they are read, and those that are resolved use them once.
 use Rattle.std.proofs.Common.{◌≡◌, ℕ, Bool, true, false, List, [], ◌∷◌, ◌++◌, All, Option, Some, None, Result, Ok, Err, refl, sym, subst}
 use Rattle.std.specs.Prelude.{if◌then◌else◌}
+use Rattle.std.specs.Option.{IfSome, option_map}
 use Rattle.std.specs.Str.{IsUtf8, trim}
 use Rattle.std.proofs.lemmas.List.Elements.{All-nil, All-cons, All-head, All-tail}
 use Rattle.ssr_syntax_tree.specs.Syntax.{Syntax}
@@ -10,9 +11,9 @@ use Rattle.ide_ssr_rules.specs.Elements.{names_of}
 use Rattle.ide_ssr_rules.specs.Mixing.{mixes, check_unmixed}
 use Rattle.ide_ssr_rules.specs.Patterns.{HasEachOnce, HasEachAtMostOnce}
 use Rattle.ide_ssr_rules.specs.Private.Patterns.{IsReadOnce}
-use Rattle.ide_ssr_rules.specs.Refusals.{Refusal, ◌>>=◌, unless, glued, reserved, unresolved_path, token_tree}
-use Rattle.ide_ssr_rules.specs.Resolving.{ResolvedKind, unresolved, resolved_kind, resolved_kinds}
-use Rattle.ide_ssr_rules.specs.Rules.{kind_of, expr_of, kinds_of, some_kind, check_sides}
+use Rattle.ide_ssr_rules.specs.Refusals.{Refusal, ◌>>=◌, unless, glued, reserved, token_tree}
+use Rattle.ide_ssr_rules.specs.Resolving.{ResolvedKind, check_paths, check_template, resolved_kind, resolved_kinds}
+use Rattle.ide_ssr_rules.specs.Rules.{kind_of, expr_of, kinds_of, some_kind, check_sides, written}
 use Rattle.ide_ssr_rules.specs.StandIns.{code_of, glued_placeholder, spelled_stand_in}
 use Rattle.ide_ssr_rules.specs.Uses.{AreNew}
 use Rattle.ide_ssr_rules.proofs.AtMostOnce.{template_at_most}
@@ -29,12 +30,14 @@ AreReadOnce names kind = IsReadOnce names kind.pattern × HasEachAtMostOnce name
 
 -- ** Accepted kinds.
 
-kind_of_once : (names : List (List ℕ)) (pattern template : Option Syntax) → ((tree : Syntax) → pattern ≡ Some tree → IsReadOnce names tree)
-    → ((tree : Syntax) → template ≡ Some tree → HasEachAtMostOnce names tree)
+kind_of_once : (names : List (List ℕ)) (pattern : Option Syntax) (template : Option (Option Syntax))
+    → ((tree : Syntax) → pattern ≡ Some tree → IsReadOnce names tree)
+    → ((tree : Syntax) → template ≡ Some (Some tree) → HasEachAtMostOnce names (Some tree))
     → All (AreReadOnce names) (kind_of pattern template)
-kind_of_once names (Some pattern) (Some template) h g =
+kind_of_once names (Some pattern) None h g = All-cons (AreReadOnce names) _ [] (h pattern refl, tt) (All-nil _)
+kind_of_once names (Some pattern) (Some None) h g = All-nil _
+kind_of_once names (Some pattern) (Some (Some template)) h g =
     All-cons (AreReadOnce names) _ [] (h pattern refl, g template refl) (All-nil _)
-kind_of_once names (Some pattern) None h g = All-nil _
 kind_of_once names None template h g = All-nil _
 
 some_kinds : (kinds found : List ParsedRule) → some_kind kinds ≡ Ok found → kinds ≡ found
@@ -74,25 +77,40 @@ pub record IsRead (es : List Element) : Type 0 where
   pub is_trimmed : trim (code_of es) ≡ code_of es
   pub new : AreNew [] (names_of es)
 
+pub are_read : (side : Option (List Element)) → IfSome side (λ es. IsUtf8 (code_of es)) → IfSome side (λ es. trim (code_of es) ≡ code_of es)
+    → IfSome side (λ es. AreNew [] (names_of es)) → IfSome side IsRead
+are_read None utf8 is_trimmed new = tt
+are_read (Some es) utf8 is_trimmed new = record { utf8 = utf8; is_trimmed = is_trimmed; new = new }
+
 side_of : (names : List (List ℕ)) (side : List Element) → IsRead side → glued_placeholder side ≡ None → spelled_stand_in names side ≡ None
     → IsSide names side
 side_of names side read same free =
     record { utf8 = read.utf8; is_trimmed = read.is_trimmed; new = read.new; same = same; free = free }
 
-pub kinds_once : (pattern template : List Element) (names : List (List ℕ)) (kinds : List ParsedRule) → IsRead pattern → IsRead template
-    → check_sides pattern template ≡ Ok tt → some_kind (kinds_of (code_of pattern) (code_of template)) ≡ Ok kinds
-    → names ≡ names_of pattern → All (AreReadOnce names) kinds
+some_same : {X : Type 0} (one other : X) → Some one ≡ Some other → one ≡ other
+some_same one other h = cc
+
+template_once : (pattern : List Element) (template : Option (List Element)) → IfSome template IsRead → AreChecked pattern (written template)
+    → (tree : Syntax) → option_map expr_of (option_map code_of template) ≡ Some (Some tree) → HasEachAtMostOnce (names_of pattern) (Some tree)
+template_once pattern None read c tree is = cc
+template_once pattern (Some template) read c tree is =
+    let all = names_of pattern ++ names_of template in
+    template_at_most template (names_of pattern) tree (side_of all template read c.template_same c.template_free)
+    (some_same (expr_of (code_of template)) (Some tree) is)
+
+pub kinds_once : (pattern : List Element) (template : Option (List Element)) (names : List (List ℕ)) (kinds : List ParsedRule) → IsRead pattern
+    → IfSome template IsRead → check_sides pattern (written template) ≡ Ok tt
+    → some_kind (kinds_of (code_of pattern) (option_map code_of template)) ≡ Ok kinds → names ≡ names_of pattern → All (AreReadOnce names) kinds
 unfolding kinds_of
 kinds_once pattern template names kinds read_pattern read_template sides_checked read are =
-    let c = checked pattern template sides_checked in
+    let c = checked pattern (written template) sides_checked in
     let own = names_of pattern in
-    let all = names_of pattern ++ names_of template in
-    let pattern_is = side_of all pattern read_pattern c.pattern_same c.pattern_free in
-    let template_is = side_of all template read_template c.template_same c.template_free in
+    let others = names_of (written template) in
+    let pattern_is = side_of (own ++ others) pattern read_pattern c.pattern_same c.pattern_free in
     subst (λ ns. All (AreReadOnce ns) kinds) (sym are)
     (subst (All (AreReadOnce own)) (some_kinds _ kinds read)
-    (kind_of_once own (expr_of (code_of pattern)) (expr_of (code_of template))
-    (λ tree is. pattern_each pattern (names_of template) tree pattern_is is) (λ tree is. template_at_most template own tree template_is is)))
+    (kind_of_once own (expr_of (code_of pattern)) (option_map expr_of (option_map code_of template))
+    (λ tree is. pattern_each pattern others tree pattern_is is) (template_once pattern template read_template c)))
 
 -- ** Resolved kinds.
 
@@ -112,13 +130,14 @@ resolved_like : (names : List (List ℕ)) (kind : ParsedRule) (found : ResolvedK
 unfolding resolved_kind
 resolved_like names kind found h =
     let made : ResolvedKind = record { names = names; pattern = kind.pattern; template = kind.template } in
-    let paths : Syntax → Result (Unit {0}) Refusal = λ tree. unless unresolved_path (unresolved names tree) in
+    let paths = check_template (check_paths names) kind.template in
+    let plain = check_template check_unmixed kind.template in
     let whole : Unit {0} → Result ResolvedKind Refusal = λ _. Ok made in
     let unmixed_pattern : Unit {0} → Result ResolvedKind Refusal = λ _. check_unmixed kind.pattern >>= whole in
-    let unmixed_template : Unit {0} → Result ResolvedKind Refusal = λ _. check_unmixed kind.template >>= unmixed_pattern in
-    let first = went (paths kind.template) (λ _. paths kind.pattern >>= unmixed_template) found h in
-    let second = went (paths kind.pattern) unmixed_template found first.next_is in
-    let third = went (check_unmixed kind.template) unmixed_pattern found second.next_is in
+    let unmixed_template : Unit {0} → Result ResolvedKind Refusal = λ _. plain >>= unmixed_pattern in
+    let first = went paths (λ _. check_paths names kind.pattern >>= unmixed_template) found h in
+    let second = went (check_paths names kind.pattern) unmixed_template found first.next_is in
+    let third = went plain unmixed_pattern found second.next_is in
     let last = went (check_unmixed kind.pattern) whole found third.next_is in
     record { same = ok_same made found last.next_is; plain = unmixed kind.pattern last.first_is }
 

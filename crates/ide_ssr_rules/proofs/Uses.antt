@@ -1,17 +1,17 @@
 -- That an accepted rule uses each placeholder once.
-use Rattle.std.proofs.Common.{◌≡◌, ℕ, IfOk, List, [], ◌∷◌, ◌++◌, Bool, true, false, cond, Option, Some, None, Result, Ok, Err, refl, ap, sym, subst}
+use Rattle.std.proofs.Common.{◌≡◌, ℕ, List, [], ◌∷◌, ◌++◌, Bool, true, false, cond, Option, Some, None, Result, Ok, Err, refl, ap, sym, subst}
+use Rattle.std.specs.Option.{option_map}
 use Rattle.ssr_syntax_tree.specs.Syntax.{Token}
 use Rattle.ssr_syntax.specs.Identifiers.{is_ident}
 use Rattle.ide_ssr_rules.specs.declared.elements.Element.{Element}
 use Rattle.ide_ssr_rules.specs.declared.elements.Element.TheVariants as e
 use Rattle.ide_ssr_rules.specs.declared.kinds.ParsedRule.{ParsedRule}
 use Rattle.ide_ssr_rules.specs.Elements.{is_dollar, has, after, elements, elements_of, lexed, side, names_of}
-use Rattle.ide_ssr_rules.specs.Refusals.{Refusal, Answers, ◌>>=◌, no_name, no_placeholder, repeated}
-use Rattle.ide_ssr_rules.specs.Rules.{Rule, rule_of, rule_reading, check_sides, check_defined, none_of, lacking, some_kind, kinds_of}
+use Rattle.ide_ssr_rules.specs.Refusals.{Refusal, ◌>>=◌, no_name, no_placeholder, repeated}
+use Rattle.ide_ssr_rules.specs.Rules.{Rule, rule_of, rule_reading, check_sides, check_defined, none_of, lacking, some_kind, kinds_of, written}
 use Rattle.ide_ssr_rules.specs.Sides.{sides}
 use Rattle.ide_ssr_rules.specs.StandIns.{code_of}
 use Rattle.ide_ssr_rules.specs.Uses.{AreNew, UsesPlaceholdersOnce}
-use Rattle.ide_ssr_rules.specs.declared.error.SsrError.{SsrError}
 
 abbrev Fresh : List (List ℕ) → Result (List Element) Refusal → Type 0
 Fresh names (Ok es) = AreNew names (names_of es)
@@ -74,39 +74,39 @@ none_lack : (names : List (List ℕ)) (value : Unit {0}) → none_of names ≡ O
 none_lack [] value is = refl
 none_lack (name ∷ names) value is = absurd cc
 
-module _ (pattern template : List Element) where
+module _ (pattern : List Element) (template : Option (List Element)) where
   abbrev rule_with : List ParsedRule → Unit {0} → Result Rule Refusal
   rule_with kinds _ = Ok (record { names = names_of pattern; kinds = kinds })
 
   abbrev after_kinds : List ParsedRule → Result Rule Refusal
-  after_kinds kinds = check_defined (names_of pattern) (names_of template) >>= rule_with kinds
+  after_kinds kinds = check_defined (names_of pattern) (names_of (written template)) >>= rule_with kinds
 
   abbrev after_sides : Unit {0} → Result Rule Refusal
-  after_sides _ = some_kind (kinds_of (code_of pattern) (code_of template)) >>= after_kinds
+  after_sides _ = some_kind (kinds_of (code_of pattern) (option_map code_of template)) >>= after_kinds
 
   pub record Uses (rule : Rule) : Type 0 where
     pub names : rule.names ≡ names_of pattern
-    pub defined : lacking (names_of pattern) (names_of template) ≡ []
+    pub defined : lacking (names_of pattern) (names_of (written template)) ≡ []
 
   pub rule_uses : (rule : Rule) → rule_of pattern template ≡ Ok rule → Uses rule
   unfolding rule_of
   rule_uses rule is =
-      let kinds = went (check_sides pattern template) after_sides rule is in
-      let names = went (some_kind (kinds_of (code_of pattern) (code_of template))) after_kinds rule kinds.next_is in
-      let made = went (check_defined (names_of pattern) (names_of template)) (rule_with names.found) rule names.next_is in
+      let kinds = went (check_sides pattern (written template)) after_sides rule is in
+      let names = went (some_kind (kinds_of (code_of pattern) (option_map code_of template))) after_kinds rule kinds.next_is in
+      let made = went (check_defined (names_of pattern) (names_of (written template))) (rule_with names.found) rule names.next_is in
       let same : record { names = names_of pattern; kinds = names.found } ≡ rule = cc in
       record {
         names = ap (λ (r : Rule). r.names) (sym same);
-        defined = none_lack (lacking (names_of pattern) (names_of template)) made.found made.first_is;
+        defined = none_lack (lacking (names_of pattern) (names_of (written template))) made.found made.first_is;
       }
 
 pub accepted_uses : (text : List ℕ) (rule : Rule) → rule_reading text ≡ Ok rule → UsesPlaceholdersOnce text rule
 unfolding rule_reading
 accepted_uses text rule is =
-    let split = went (sides text) (λ texts. side texts.0 >>= (λ pattern. side texts.1 >>= (λ template. rule_of pattern template))) rule is in
-    let pattern = went (side split.found.0) (λ pattern. side split.found.1 >>= (λ template. rule_of pattern template)) rule split.next_is in
-    let template = went (side split.found.1) (λ template. rule_of pattern.found template) rule pattern.next_is in
-    let uses = rule_uses pattern.found template.found rule template.next_is in
+    let split = went (sides text) (λ texts. side texts.0 >>= (λ pattern. side texts.1 >>= (λ template. rule_of pattern (Some template)))) rule is in
+    let pattern = went (side split.found.0) (λ pattern. side split.found.1 >>= (λ template. rule_of pattern (Some template))) rule split.next_is in
+    let template = went (side split.found.1) (λ template. rule_of pattern.found (Some template)) rule pattern.next_is in
+    let uses = rule_uses pattern.found (Some template.found) rule template.next_is in
     record {
       texts = split.found;
       pattern = pattern.found;
@@ -119,7 +119,3 @@ accepted_uses text rule is =
       names = uses.names;
       defined = uses.defined;
     }
-
-pub answered_uses : (text : List ℕ) (result : Result Rule SsrError) → Answers result (rule_reading text) → IfOk result (UsesPlaceholdersOnce text)
-answered_uses text (Ok rule) is = accepted_uses text rule is
-answered_uses text (Err error) tells = tt

@@ -1,7 +1,7 @@
 -- Which placeholders stand in a tree, as its tokens and as its nodes: each once in a pattern, at most once in a template.
 use Rattle.std.specs.Prelude.{ℕ, ◌≡◌, ◌≢◌, List, [], ◌∷◌, ◌++◌, length, AllPairs, Option, Some, None}
 use Rattle.std.specs.List.{filter_map, range_with_len}
-use Rattle.std.specs.Option.{option_and_then}
+use Rattle.std.specs.Option.{IfSome, option_and_then}
 use Rattle.ssr_syntax_tree.specs.Syntax.{Token, Forest, nothing, leaf, branch, Syntax, tokens_of}
 use Rattle.ide_ssr_rules.specs.Resolving.{only_token, name_at}
 use Rattle.ide_ssr_rules.specs.Uses.{AreNew}
@@ -32,6 +32,6 @@ pub record HasEachOnce (names : List (List ℕ)) (pattern : Syntax) : Type 0 whe
   pub nodes : placeholders_of names pattern ≡ range_with_len 0 (length names)
   pub different : AreNew [] names
 
--- a template has no placeholder twice
-abbrev pub HasEachAtMostOnce : List (List ℕ) → Syntax → Type 0
-HasEachAtMostOnce names template = AllPairs (λ one other. one ≢ other) (placeholders_among names (tokens_of template))
+-- a template, if there is one, has no placeholder twice
+abbrev pub HasEachAtMostOnce : List (List ℕ) → Option Syntax → Type 0
+HasEachAtMostOnce names template = IfSome template (λ tree. AllPairs (λ one other. one ≢ other) (placeholders_among names (tokens_of tree)))

@@ -2,9 +2,9 @@
 
 use ssr_syntax_tree::Tree;
 
-/// A pattern and a template of one kind.
+/// A pattern of one kind and its template, which that of a search pattern lacks.
 #[derive(Drop)]
 pub(crate) struct ParsedRule {
     pub(crate) pattern: Tree,
-    pub(crate) template: Tree,
+    pub(crate) template: Option<Tree>,
 }

@@ -15,5 +15,5 @@ mod var;
 
 pub use error::SsrError;
 pub use resolving::ResolvedRule;
-pub use rules::SsrRule;
+pub use rules::{SsrPattern, SsrRule};
 pub use var::Var;

@@ -1,16 +1,17 @@
 //! Rules that resolve, kind by kind.
 ghost use Rattle.std.specs.Prelude.{◌≡◌, ◌<◌, ◌^◌, length, map, string_bytes, All, IfOk};
-ghost use Rattle.std.specs.Option.{option_copied};
+ghost use Rattle.std.specs.Option.{IfSome, IsSomeAnd, option_copied};
 ghost use Rattle.ssr_syntax_tree.specs.Places.{HasNode, HasToken, node_of, token_of};
 ghost use Rattle.ide_ssr_rules.specs.Patterns.{HasEachOnce, HasEachAtMostOnce};
-ghost use Rattle.ide_ssr_rules.specs.Refusals.{Answers, AnswersBy, unless, unresolved_path};
-ghost use Rattle.ide_ssr_rules.specs.Resolving.{name_at, placeholder_at, is_unresolved, unresolved, resolved_kind, resolved_kinds};
+ghost use Rattle.ide_ssr_rules.specs.Mixing.{check_unmixed};
+ghost use Rattle.ide_ssr_rules.specs.Refusals.{Answers, AnswersBy};
+ghost use Rattle.ide_ssr_rules.specs.Resolving.{name_at, placeholder_at, is_unresolved, unresolved, check_paths, check_template, resolved_kind, resolved_kinds};
 
 use crate::error::SsrError;
 use crate::kinds::ParsedRule;
 use crate::mixing::check_unmixed;
 use crate::placeholders::{name_at, placeholder_at, placeholders};
-use crate::rules::SsrRule;
+use crate::rules::{ParsedKinds, SsrPattern, SsrRule};
 use ssr_syntax_lex::SyntaxKind;
 use ssr_syntax_tree::{NodeNo, TokenNo, Tree};
 use std::alloc::{AllocError, Global};
@@ -21,7 +22,7 @@ use std::marker::Model;
 pub struct ResolvedRule {
     names: Vec<String>,
     pattern: Tree,
-    template: Tree,
+    template: Option<Tree>,
     in_pattern: Vec<Option<u32>>,
 }
 
@@ -57,11 +58,11 @@ impl ResolvedRule {
         &self.pattern
     }
 
-    /// What takes a match's place, with stand-ins for placeholders.
-    pub fn template(&self) -> &Tree
-        ensures { result.now ≡ self.now.template }
+    /// What takes a match's place, with stand-ins for placeholders; a search pattern has none.
+    pub fn template(&self) -> Option<&Tree>
+        ensures { option_copied result ≡ self.now.template }
     {
-        &self.template
+        self.template.as_ref()
     }
 
     /// Which placeholder a node of the pattern is: the place of its name among the names.
@@ -74,10 +75,13 @@ impl ResolvedRule {
 
     /// Which placeholder a token of the template is: the place of its name among the names.
     pub fn template_placeholder(&self, token: TokenNo) -> Option<u32>
-        requires { HasToken self.now.template token.0 }
-        ensures { result ≡ name_at self.now.names (token_of self.now.template token.0) }
+        requires { IsSomeAnd self.now.template (λ template. HasToken template token.0) }
+        ensures { IfSome self.now.template (λ template. result ≡ name_at self.now.names (token_of template token.0)) }
     {
-        name_at(self.names.as_slice(), &self.template, token)
+        match &self.template {
+            Some(template) => name_at(self.names.as_slice(), template, token),
+            None => None,
+        }
     }
 }
 
@@ -89,7 +93,30 @@ impl SsrRule {
         ensures each { IfOk result (λ v. All (λ kind. HasEachOnce kind.names kind.pattern) v.items) }
         ensures at_most_once { IfOk result (λ v. All (λ kind. HasEachAtMostOnce kind.names kind.template) v.items) }
     {
-        let SsrRule { names, kinds } = self;
+        self.parsed.resolve(alloc)
+    }
+}
+
+impl SsrPattern {
+    /// The kinds of the search pattern in their order, or why it doesn't resolve: which of its paths doesn't, or that it
+    /// has token trees. Each kind has each placeholder once.
+    pub fn resolve(self, alloc: Global) -> Result<Vec<ResolvedRule>, SsrError>
+        ensures kinds { AnswersBy (λ v. v.items) result (resolved_kinds self.names self.kinds) }
+        ensures each { IfOk result (λ v. All (λ kind. HasEachOnce kind.names kind.pattern) v.items) }
+    {
+        let SsrPattern { parsed } = self;
+        parsed.resolve(alloc)
+    }
+}
+
+impl ParsedKinds {
+    /// The kinds that resolve, in their order.
+    fn resolve(self, alloc: Global) -> Result<Vec<ResolvedRule>, SsrError>
+        ensures kinds { AnswersBy (λ v. v.items) result (resolved_kinds self.names self.kinds) }
+        ensures each { IfOk result (λ v. All (λ kind. HasEachOnce kind.names kind.pattern) v.items) }
+        ensures at_most_once { IfOk result (λ v. All (λ kind. HasEachAtMostOnce kind.names kind.template) v.items) }
+    {
+        let ParsedKinds { names, kinds } = self;
         let mut resolved = Vec::new(alloc);
         for kind in kinds {
             resolved.push(resolved_kind(alloc, names.as_slice(), kind)?)?;
@@ -108,9 +135,9 @@ fn resolved_kind(
     ensures { Answers result (resolved_kind (map string_bytes names.now) kind) }
 {
     let ParsedRule { pattern, template } = kind;
-    check_paths(alloc, names, &template)?;
+    check_template_paths(alloc, names, template.as_ref())?;
     check_paths(alloc, names, &pattern)?;
-    check_unmixed(alloc, &template)?;
+    check_template_unmixed(alloc, template.as_ref())?;
     check_unmixed(alloc, &pattern)?;
     let in_pattern = placeholders(alloc, names, &pattern)?;
     let names = copied(alloc, names)?;
@@ -136,10 +163,35 @@ fn copied(alloc: Global, names: &[String]) -> Result<Vec<String>, AllocError>
 /// Refuses the first path that has to resolve and doesn't.
 fn check_paths(alloc: Global, names: &[String], tree: &Tree) -> Result<(), SsrError>
     requires { length names.now < 2 ^ 32 }
-    ensures { Answers result (unless unresolved_path (unresolved (map string_bytes names.now) tree.now)) }
+    ensures { Answers result (check_paths (map string_bytes names.now) tree.now) }
 {
     match unresolved(names, tree) {
         Some(path) => Err(SsrError::unresolved_path(alloc, path)),
+        None => Ok(()),
+    }
+}
+
+/// The same of a template, if there is one.
+fn check_template_paths(
+    alloc: Global,
+    names: &[String],
+    template: Option<&Tree>,
+) -> Result<(), SsrError>
+    requires { length names.now < 2 ^ 32 }
+    ensures { Answers result (check_template (check_paths (map string_bytes names.now)) (option_copied template.entry)) }
+{
+    match template {
+        Some(tree) => check_paths(alloc, names, tree),
+        None => Ok(()),
+    }
+}
+
+/// Refuses a template that mixes identifiers with other tokens, if there is one.
+fn check_template_unmixed(alloc: Global, template: Option<&Tree>) -> Result<(), SsrError>
+    ensures { Answers result (check_template check_unmixed (option_copied template.entry)) }
+{
+    match template {
+        Some(tree) => check_unmixed(alloc, tree),
         None => Ok(()),
     }
 }

@@ -1,9 +1,10 @@
-//! Rules, read from their texts.
-ghost use Rattle.std.specs.Prelude.{◌≡◌, ◌<◌, ◌^◌, ◌++◌, [], length, map, string_bytes, IfOk};
+//! Rules and search patterns, read from their texts.
+ghost use Rattle.std.specs.Prelude.{◌≡◌, ◌<◌, ◌^◌, ◌++◌, [], length, map, string_bytes, IfOk, IfSome};
+ghost use Rattle.std.specs.Option.{option_copied, option_map};
 ghost use Rattle.std.specs.Str.{IsUtf8, trim};
 ghost use Rattle.ide_ssr_rules.specs.Elements.{names_of};
 ghost use Rattle.ide_ssr_rules.specs.Refusals.{Answers, AnswersBy, unless, glued, reserved};
-ghost use Rattle.ide_ssr_rules.specs.Rules.{expr_of, kinds_of, some_kind, lacking, check_sides, check_defined, rule_of, rule_reading};
+ghost use Rattle.ide_ssr_rules.specs.Rules.{expr_of, kinds_of, some_kind, lacking, check_sides, check_defined, rule_of, rule_reading, pattern_reading};
 ghost use Rattle.ide_ssr_rules.specs.Uses.{AreNew, UsesPlaceholdersOnce};
 ghost use Rattle.ide_ssr_rules.specs.StandIns.{code_of, glued_placeholder, spelled_stand_in};
 
@@ -18,14 +19,14 @@ use ssr_syntax_tree::Tree;
 use std::alloc::{AllocError, Global};
 use std::marker::Model;
 
-/// A rule: a pattern and a template for each kind that both can be read as.
+/// What a text is read as: the names of its placeholders, and its kinds.
 #[derive(Drop)]
-pub struct SsrRule {
+pub(crate) struct ParsedKinds {
     pub(crate) names: Vec<String>,
     pub(crate) kinds: Vec<ParsedRule>,
 }
 
-impl Model for SsrRule {
+impl Model for ParsedKinds {
     ghost use Rattle.std.specs.Prelude.{◌<◌, ◌^◌, All, length, map, string_bytes};
     ghost use Rattle.ide_ssr_rules.specs.Rules.{Rule, rule_code};
 
@@ -33,15 +34,31 @@ impl Model for SsrRule {
 
     ghost coded = { rule_code };
 
-    ghost view = { λ rule. record { names = map string_bytes rule.names.items; kinds = rule.kinds.items } };
+    ghost view = { λ parsed. record { names = map string_bytes parsed.names.items; kinds = parsed.kinds.items } };
 
     ghost use Rattle.ide_ssr_rules.specs.Patterns.{HasEachAtMostOnce};
     ghost use Rattle.ide_ssr_rules.specs.Private.Patterns.{IsReadOnce};
 
-    ghost invariant = { λ rule. record {
-      few : length rule.names.items < 2 ^ 32;
-      once : All (λ kind. IsReadOnce (map string_bytes rule.names.items) kind.pattern × HasEachAtMostOnce (map string_bytes rule.names.items) kind.template) rule.kinds.items;
+    ghost invariant = { λ parsed. record {
+      few : length parsed.names.items < 2 ^ 32;
+      once : All (λ kind. IsReadOnce (map string_bytes parsed.names.items) kind.pattern × HasEachAtMostOnce (map string_bytes parsed.names.items) kind.template) parsed.kinds.items;
     } };
+}
+
+/// A rule: a pattern and a template for each kind that both can be read as.
+#[derive(Drop)]
+pub struct SsrRule {
+    pub(crate) parsed: ParsedKinds,
+}
+
+impl Model for SsrRule {
+    ghost use Rattle.ide_ssr_rules.specs.Rules.{Rule, rule_code};
+
+    ghost Value = { Rule };
+
+    ghost coded = { rule_code };
+
+    ghost view = { λ rule. rule.parsed };
 }
 
 impl SsrRule {
@@ -50,40 +67,76 @@ impl SsrRule {
         ensures reads { Answers result (rule_reading text.now) }
         ensures uses { IfOk result (UsesPlaceholdersOnce text.now) }
     {
-        rule_of_text(alloc, text)
+        let parsed = rule_of_text(alloc, text)?;
+        Ok(SsrRule { parsed })
+    }
+}
+
+/// A search pattern, which is searched for and never replaced: one side of a rule, for each kind that it can be read as.
+#[derive(Drop)]
+pub struct SsrPattern {
+    pub(crate) parsed: ParsedKinds,
+}
+
+impl Model for SsrPattern {
+    ghost use Rattle.ide_ssr_rules.specs.Rules.{Rule, rule_code};
+
+    ghost Value = { Rule };
+
+    ghost coded = { rule_code };
+
+    ghost view = { λ pattern. pattern.parsed };
+}
+
+impl SsrPattern {
+    /// The search pattern that a text says.
+    pub fn parse(alloc: Global, text: &str) -> Result<SsrPattern, SsrError>
+        ensures { Answers result (pattern_reading text.now) }
+    {
+        let parsed = pattern_of_text(alloc, text)?;
+        Ok(SsrPattern { parsed })
     }
 }
 
 /// The rule that a text says.
-fn rule_of_text(alloc: Global, text: &str) -> Result<SsrRule, SsrError>
+fn rule_of_text(alloc: Global, text: &str) -> Result<ParsedKinds, SsrError>
     ensures { Answers result (rule_reading text.now) }
 {
     let (pattern, template) = sides(alloc, text)?;
     let pattern = side(alloc, pattern)?;
     let template = side(alloc, template)?;
-    rule_of(alloc, pattern.as_slice(), template.as_slice())
+    rule_of(alloc, pattern.as_slice(), Some(template.as_slice()))
 }
 
-/// The rule of two sides.
+/// The search pattern that a text says.
+fn pattern_of_text(alloc: Global, text: &str) -> Result<ParsedKinds, SsrError>
+    ensures { Answers result (pattern_reading text.now) }
+{
+    let pattern = side(alloc, text.trim())?;
+    rule_of(alloc, pattern.as_slice(), None)
+}
+
+/// The rule of a pattern and its template, if it has one.
 fn rule_of<'a>(
     alloc: Global,
     pattern: &[Element<'a>],
-    template: &[Element<'a>],
-) -> Result<SsrRule, SsrError>
+    template: Option<&[Element<'a>]>,
+) -> Result<ParsedKinds, SsrError>
     requires few { length pattern.now < 2 ^ 32 }
     requires pattern_new { AreNew [] (names_of pattern.now) }
-    requires template_new { AreNew [] (names_of template.now) }
+    requires template_new { IfSome (option_copied template) (λ side. AreNew [] (names_of side)) }
     requires pattern_trimmed { trim (code_of pattern.now) ≡ code_of pattern.now }
-    requires template_trimmed { trim (code_of template.now) ≡ code_of template.now }
-    ensures { Answers result (rule_of pattern.now template.now) }
+    requires template_trimmed { IfSome (option_copied template) (λ side. trim (code_of side) ≡ code_of side) }
+    ensures { Answers result (rule_of pattern.now (option_copied template.entry)) }
 {
-    check_sides(alloc, pattern, template)?;
+    let written = template.unwrap_or(&[]);
+    check_sides(alloc, pattern, written)?;
     let kinds = some_kind(alloc, pattern, template)?;
     let names = names_of(alloc, pattern)?;
-    let used = names_of(alloc, template)?;
+    let used = names_of(alloc, written)?;
     check_defined(alloc, names.as_slice(), used.as_slice())?;
     let names = owned(alloc, names.as_slice())?;
-    Ok(SsrRule { names, kinds })
+    Ok(ParsedKinds { names, kinds })
 }
 
 /// Whether placeholders and the identifiers beside them are told apart where a side is read with stand-ins.
@@ -169,35 +222,59 @@ fn expr_of(alloc: Global, text: &str) -> Result<Option<Tree>, AllocError>
     }
 }
 
-/// The kinds of a rule, from both sides' texts with stand-ins.
+/// The kinds of a rule, from its sides' texts with stand-ins.
 #[tactic(auto, unfolding(crate::specs::Rules::kinds_of))]
-fn kinds_of(alloc: Global, pattern: &str, template: &str) -> Result<Vec<ParsedRule>, AllocError>
-    ensures { IfOk result (λ v. v.items ≡ kinds_of pattern.now template.now) }
+fn kinds_of(
+    alloc: Global,
+    pattern: &str,
+    template: Option<&str>,
+) -> Result<Vec<ParsedRule>, AllocError>
+    ensures { IfOk result (λ v. v.items ≡ kinds_of pattern.now (option_copied template.entry)) }
 {
     let mut kinds = Vec::new(alloc);
     let Some(pattern) = expr_of(alloc, pattern)? else {
         return Ok(kinds);
     };
-    let Some(template) = expr_of(alloc, template)? else {
+    let Some(template) = template else {
+        kinds.push(ParsedRule {
+            pattern,
+            template: None,
+        })?;
         return Ok(kinds);
     };
-    kinds.push(ParsedRule { pattern, template })?;
+    let template = expr_of(alloc, template)?;
+    if template.is_some() {
+        kinds.push(ParsedRule { pattern, template })?;
+    }
     Ok(kinds)
+}
+
+/// A template's text with stand-ins.
+fn template_code(
+    alloc: Global,
+    template: Option<&[Element<'_>]>,
+) -> Result<Option<String>, AllocError>
+    ensures { IfOk result (λ code. option_map string_bytes code ≡ option_map code_of (option_copied template.entry)) }
+{
+    match template {
+        Some(elements) => Ok(Some(code_of(alloc, elements)?)),
+        None => Ok(None),
+    }
 }
 
 /// The kinds of a rule, of which there is at least one.
 fn some_kind(
     alloc: Global,
     pattern: &[Element<'_>],
-    template: &[Element<'_>],
+    template: Option<&[Element<'_>]>,
 ) -> Result<Vec<ParsedRule>, SsrError>
-    ensures kinds { AnswersBy (λ v. v.items) result (some_kind (kinds_of (code_of pattern.now) (code_of template.now))) }
+    ensures kinds { AnswersBy (λ v. v.items) result (some_kind (kinds_of (code_of pattern.now) (option_map code_of (option_copied template.entry)))) }
     ensures pattern_text { IfOk result (λ _. IsUtf8 (code_of pattern.now)) }
-    ensures template_text { IfOk result (λ _. IsUtf8 (code_of template.now)) }
+    ensures template_text { IfOk result (λ _. IfSome (option_copied template.entry) (λ side. IsUtf8 (code_of side))) }
 {
     let pattern = code_of(alloc, pattern)?;
-    let template = code_of(alloc, template)?;
-    let kinds = kinds_of(alloc, pattern.as_str(), template.as_str())?;
+    let template = template_code(alloc, template)?;
+    let kinds = kinds_of(alloc, pattern.as_str(), template.as_deref())?;
     if kinds.is_empty() {
         return Err(SsrError::no_kind(alloc));
     }

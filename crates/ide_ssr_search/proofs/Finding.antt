@@ -18,7 +18,7 @@ use Rattle.ide_ssr_search.specs.Permitted.{IsOpen, IsPermitted}
 use Rattle.ide_ssr_search.specs.WholeMatches.{IsWholeMatch}
 use Rattle.ide_ssr_search.specs.Found.{IsFound, Precedes, AreFound}
 use Rattle.ide_ssr_search.specs.Private.Scan.{IsBefore, AreFoundBefore, TellsMatch, found_of, Adds}
-use Rattle.ide_ssr_search.proofs.Apart.{all_pairs_none}
+use Rattle.ide_ssr_search.proofs.Lists.{all_pairs_none}
 use Rattle.ide_ssr_search.proofs.Placed.{whole_binds}
 use Rattle.ide_ssr_search.proofs.Trees.{is_tree, in_tree, some_and, planted_within, planted_there}
 
@@ -106,6 +106,20 @@ module _ (w : Workspace) (context : Context) (rules : List ResolvedKind) where
         subst (λ rule. IsWholeMatch (trees w) rule (node_id t n) f.bindings) by (subst (λ x. IsWholeMatch (trees w) is.rule x f.bindings) x is.whole),
       )
 
+  -- a rule has one match at a node
+  pub one_match : (f g : Found) → IsFound w context rules f → IsFound w context rules g → f.node ≡ g.node → f.rule ≡ g.rule → f ≡ g
+  one_match f g is other node rule =
+      let x = g.node in
+      let at = some_and (planted (trees w) x.tree) (λ p. HasNode p.syntax x.node.0) other.permitted.open_to_all.node in
+      let s = at.0.syntax in
+      let tree : tree_of w x.tree ≡ Some s = ap (option_map (λ (p : Planted). p.syntax)) at.1 in
+      let known = here_found x.tree x.node.0 g.rule other.rule f other.is_rule is (ap (λ (x : NodeId). x.tree) node) (ap (λ (x : NodeId). x.node.0) node) rule in
+      let bindings : f.bindings ≡ g.bindings =
+      same_Some f.bindings g.bindings
+      (sym (whole_binds w s other.rule x f.bindings tree known.1) ∙ whole_binds w s other.rule x g.bindings tree other.whole) in
+      let made : ℕ → NodeId → List Binding → Found = λ rule node bindings. record { rule = rule; node = node; bindings = bindings } in
+      ap (λ r. made r f.node f.bindings) rule ∙ ap (λ x. made g.rule x f.bindings) node ∙ ap (made g.rule x) bindings
+
   added_by : (t n place : ℕ) (s : Syntax) (rule : ResolvedKind) (ms : List Found) (bindings : Option (List Binding)) → tree_of w t ≡ Some s → slice_get rules place ≡ Some rule
       → AreFoundBefore w context rules t n place ms → TellsMatch w context rule (node_id t n) bindings
       → AreFoundBefore w context rules t n (place + 1) (ms ++ found_of place (node_id t n) bindings)
@@ -131,16 +145,7 @@ module _ (w : Workspace) (context : Context) (rules : List ResolvedKind) where
             elim (rule_cases t n place f before) [
               | inl earlier ↦ Contains-append_left ms (new ∷ []) f (so_far.complete f is earlier)
               | inr here ↦
-                  let known = here_found t n place rule f at is here.0 here.1 here.2 in
-                  let same : f.bindings ≡ bindings =
-                  same_Some f.bindings bindings
-                  (sym (whole_binds w s rule (node_id t n) f.bindings tree known.1) ∙ whole_binds w s rule (node_id t n) bindings tree tells.1) in
-                  let made : ℕ → NodeId → List Binding → Found = λ rule node bindings. record { rule = rule; node = node; bindings = bindings } in
-                  let is_new : new ≡ f =
-                  ap (λ b. made place (node_id t n) b) (sym same)
-                  ∙ ap (λ x. made place x f.bindings) (sym (at_id t n f.node here.0 here.1))
-                  ∙ ap (λ r. made r f.node f.bindings) (sym here.2) in
-                  subst (Contains (ms ++ new ∷ [])) is_new (Contains-push ms new)
+                  subst (Contains (ms ++ new ∷ [])) (one_match new f found is (sym (at_id t n f.node here.0 here.1)) (sym here.2)) (Contains-push ms new)
             ];
       }
 

@@ -1,5 +1,5 @@
 -- Which nodes stand in the function around the position.
-use Rattle.std.proofs.Common.{◌≡◌, ℕ, zero, suc, ◌<◌, ◌≤◌, Bool, List, Option, Some, None, sym, ap, ◌∙◌, subst, inl, inr, arith}
+use Rattle.std.proofs.Common.{◌≡◌, ℕ, zero, suc, ◌<◌, ◌≤◌, Bool, List, Option, Some, None, refl, sym, ap, ◌∙◌, subst, inl, inr, arith}
 use Rattle.std.proofs.lemmas.Bool.{cases_eq}
 use Rattle.std.proofs.lemmas.Option.{none-some, same_Some}
 use Rattle.std.specs.Prelude.{◌↔◌, IsTrue}
@@ -11,9 +11,10 @@ use Rattle.ssr_base.specs.Workspace.{Workspace, Planted, trees, node_id, above}
 use Rattle.ssr_base.specs.Laws.{IsBelow, climbed}
 use Rattle.ssr_base.specs.Built.{IsBuilt}
 use Rattle.ssr_base.proofs.Shared.{is_up}
-use Rattle.ide_ssr_search.specs.Permitted.{IsAtOrBelow, IsInFunction}
+use Rattle.ide_ssr_matching.specs.Found.{IsAtOrBelow}
+use Rattle.ide_ssr_search.specs.Permitted.{IsInFunction}
 use Rattle.ide_ssr_search.specs.Private.Scan.{StandsIn}
-use Rattle.ide_ssr_search.proofs.Trees.{IsTree, then_some, split, over_below, root_below, at_cases, at_itself, at_below, up_below, below_up}
+use Rattle.ide_ssr_search.proofs.Trees.{IsTree, then_some, split, over_below, root_below, up_below, below_up}
 
 -- what stands above the root of a tree is no node of it
 climbed_earlier : (w : Workspace) (b : IsBuilt w) (n : ℕ) (x a : NodeId) → climbed (trees w) n x ≡ Some a → a.tree ≤ x.tree
@@ -41,17 +42,17 @@ module _ (w : Workspace) (b : IsBuilt w) (t : ℕ) (s : Syntax) (at : IsTree (tr
   stands_in None inside n has known = (λ no. no, λ no. no)
   stands_in (Some f) inside n has known = (
     λ stands. elim stands [
-      | inl above ↦ at_below (trees w) (node_id t n) f (root_below (trees w) t s at n has f (known.0 above.1))
+      | inl above ↦ inr (root_below (trees w) t s at n has f (known.0 above.1))
       | inr here ↦
           elim (cases_eq f.node.0 n) [
             | inl same ↦
-                subst (IsAtOrBelow (trees w) (node_id t n)) (ap (λ m. node_id t m) (sym same) ∙ ap (λ tree. node_id tree f.node.0) (sym here.0)) (at_itself (trees w) (node_id t n))
+                subst (IsAtOrBelow (trees w) (node_id t n)) (ap (λ m. node_id t m) (sym same) ∙ ap (λ tree. node_id tree f.node.0) (sym here.0)) (inl refl)
             | inr other ↦
                 subst (IsAtOrBelow (trees w) (node_id t n)) (ap (λ tree. node_id tree f.node.0) (sym here.0))
-                (at_below (trees w) (node_id t n) (node_id t f.node.0) (over_below (trees w) t s at f.node.0 n has (omega (arith, here.2), here.3)))
+                (inr (over_below (trees w) t s at f.node.0 n has (omega (arith, here.2), here.3)))
           ]
     ],
-    λ up. elim (at_cases (trees w) (node_id t n) f up) [
+    λ up. elim up [
       | inl same ↦
           let number : n ≡ f.node.0 = ap (λ (x : NodeId). x.node.0) same in
           inr (ap (λ (x : NodeId). x.tree) (sym same), subst (HasNode s) number has, omega arith, omega arith)

@@ -1,3 +1,5 @@
+pub mod Shared
+mod Lists
 mod Parents
 mod Trees
 mod Arguments
@@ -10,5 +12,8 @@ mod Calls
 mod Apart
 mod Placed
 mod Finding
+mod Matched
 mod PositionNodes
+mod TokenParents
+mod Contexts
 mod FirstFile

@@ -7,9 +7,10 @@ use Rattle.ssr_syntax_tree.specs.Syntax.{Syntax}
 use Rattle.ssr_syntax_tree.specs.Places.{HasNode, node_of}
 use Rattle.ssr_base.specs.declared.ids.NodeId.{NodeId}
 use Rattle.ssr_base.specs.Workspace.{Workspace, Planted, FileSpan, trees, node_id, original_range}
-use Rattle.ide_ssr_search.specs.Permitted.{IsUse, arguments_range, HasByte, IsSearched, IsOpen}
+use Rattle.ide_ssr_matching.specs.Found.{HasByte}
+use Rattle.ide_ssr_search.specs.Permitted.{IsUse, arguments_range, IsSearched, IsOpen}
 use Rattle.ide_ssr_search.specs.Private.Shut.{IsShutIn}
-use Rattle.ide_ssr_search.proofs.Trees.{IsTree, of_tree, in_tree, and_some, some_and, at_cases, at_itself, at_below}
+use Rattle.ide_ssr_search.proofs.Trees.{IsTree, of_tree, in_tree, and_some, some_and}
 
 some_range : (ts : List Planted) (a : NodeId) (o : Option FileSpan) → arguments_range ts a ≡ o → (arguments_range ts a ≡ None → ⊥) → IsSome (arguments_range ts a)
 some_range ts a None is some = absurd (some is)
@@ -27,7 +28,7 @@ opened w restrictions t n s range at has no_use free is byte searched =
       has_byte = and_some (original_range ts x) HasByte range is byte;
       searched = and_some (original_range ts x) (IsSearched restrictions) range is searched;
       outside_use = λ a up is_use.
-          elim (at_cases ts x a up) [
+          elim up [
             | inl same ↦
                 no_use (in_tree ts t s (λ s. (node_of s n).kind ≡ k.USE) at (subst (IsUse ts) (sym same) is_use))
             | inr below ↦ free (a, below, inl is_use)
@@ -40,7 +41,7 @@ opened w restrictions t n s range at has no_use free is byte searched =
 pub not_shut : (w : Workspace) (restrictions : List FileSpan) (x : NodeId) → IsOpen w restrictions x → IsShutIn (trees w) x → ⊥
 not_shut w restrictions x is shut =
     elim shut.2 [
-      | inl is_use ↦ is.outside_use shut.0 (at_below (trees w) x shut.0 shut.1) is_use
+      | inl is_use ↦ is.outside_use shut.0 (inr shut.1) is_use
       | inr call ↦
           let e : false ≡ true = sym (ap is_some call.1) ∙ is.calls_have_arguments shut.0 shut.1 call.0 in
           cc
@@ -49,7 +50,7 @@ not_shut w restrictions x is shut =
 -- nor is a USE
 pub not_use : (w : Workspace) (restrictions : List FileSpan) (t n : ℕ) (s : Syntax) → IsTree (trees w) t s → (node_of s n).kind ≡ k.USE → IsOpen w restrictions (node_id t n) → ⊥
 not_use w restrictions t n s at is_use is =
-    is.outside_use (node_id t n) (at_itself (trees w) (node_id t n)) (of_tree (trees w) t s (λ s. (node_of s n).kind ≡ k.USE) at is_use)
+    is.outside_use (node_id t n) (inl refl) (of_tree (trees w) t s (λ s. (node_of s n).kind ≡ k.USE) at is_use)
 
 -- the range of an open node has a byte and is searched
 pub open_range : (w : Workspace) (restrictions : List FileSpan) (x : NodeId) (range : FileSpan) → original_range (trees w) x ≡ Some range → IsOpen w restrictions x

@@ -1,13 +1,10 @@
 -- Nodes above one another in a tree, told by numbers: the numbers behind a node's own, as many as there are nodes below it.
-use Rattle.std.proofs.Common.{◌≡◌, ℕ, zero, suc, ◌+◌, ◌<◌, ◌≤◌, List, ◌∷◌, All, slice_get, Some, refl, sym, ap, ◌∙◌, subst, inl, inr, arith}
+use Rattle.std.proofs.Common.{◌≡◌, ℕ, zero, suc, ◌+◌, ◌<◌, ◌≤◌, List, ◌∷◌, slice_get, Some, refl, sym, ap, ◌∙◌, subst, inl, inr, arith}
 use Rattle.std.proofs.lemmas.Bool.{cases_eq, cases_lt}
-use Rattle.std.proofs.lemmas.Option.{slice_get_within, get_or_from_slice_get}
 use Rattle.ssr_syntax_tree.specs.Syntax.{Forest, nothing, leaf, branch, Syntax, node_count, token_count}
 use Rattle.ssr_syntax_tree.specs.Places.{Node, Part, node_part, HasNode, node_of, parts_in, parts_of, size_of}
 use Rattle.ssr_syntax_tree.proofs.Shared.{node_of-number, below_fits, smaller, IsChild, children_known}
-
-pub all_at : {A : Type 0} (P : A → Type 0) (xs : List A) (i : ℕ) (x : A) → All P xs → slice_get xs i ≡ Some x → P x
-all_at P xs i x all is = subst P (get_or_from_slice_get xs i x x is) (all i x (slice_get_within xs i x is))
+use Rattle.ide_ssr_search.proofs.Lists.{all_at}
 
 -- the sibling that is the node n or has it below
 record Holding (parts : List Part) (n past : ℕ) : Type 0 where

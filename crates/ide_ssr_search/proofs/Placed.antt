@@ -15,12 +15,13 @@ use Rattle.ssr_base.specs.Laws.{LiesIn}
 use Rattle.ide_ssr_rules.specs.Resolving.{ResolvedKind}
 use Rattle.ide_ssr_matching.specs.declared.bindings.Binding.{Binding}
 use Rattle.ide_ssr_matching.specs.Bindings.{bindings_of}
+use Rattle.ide_ssr_matching.specs.Found.{held_node, ShareNoByte}
 use Rattle.ide_ssr_matching.specs.Matching.{Matches}
 use Rattle.ide_ssr_matching.proofs.Shared.{bindings_of-Matches, Matches-bindings_of, bindings_hold, all_bound, all_apart}
 use Rattle.ide_ssr_search.specs.declared.bounds.Bounds.{Bounds}
 use Rattle.ide_ssr_search.specs.declared.bounds.Bounds.TheVariants as limits
 use Rattle.ide_ssr_search.specs.Permitted.{arguments_range}
-use Rattle.ide_ssr_search.specs.WholeMatches.{LiesInArguments, IsPlaced, AreApart, IsWholeMatch, held_node}
+use Rattle.ide_ssr_search.specs.WholeMatches.{LiesInArguments, IsPlaced, IsWholeMatch}
 use Rattle.ide_ssr_search.specs.Private.Bounds.{AreBoundsOf, AreBounds, LiesInBounds}
 use Rattle.ide_ssr_search.specs.Private.Whole.{AreRanges, IsPlacedMatch, IsMatched, TellsWhole}
 use Rattle.ide_ssr_search.proofs.Apart.{Disjoint, ranges_placed, ranges_apart, ranges_disjoint}
@@ -105,13 +106,13 @@ placed_in_file ts t n p is uncalled has =
     (subst (λ call. IfSome call (λ call. IsSomeAnd (arguments_range ts call) (LiesIn range))) (sym uncalled) tt))
 
 apart_in_file : (ts : List Planted) (t m n : ℕ) (p : Planted) → planted ts t ≡ Some p → p.call ≡ None → HasNode p.syntax m → HasNode p.syntax n
-    → end_of p.syntax (node_of p.syntax m) ≤ start_of p.syntax (node_of p.syntax n) → AreApart ts (node_id t m) (node_id t n)
-apart_in_file ts t m n p is uncalled has_m has_n before a b first second share =
+    → end_of p.syntax (node_of p.syntax m) ≤ start_of p.syntax (node_of p.syntax n) → ShareNoByte ts (node_id t m) (node_id t n)
+apart_in_file ts t m n p is uncalled has_m has_n before a b first second =
     let one : end_of p.syntax (node_of p.syntax m) ≡ a.span.end =
     ap (λ (r : FileSpan). r.span.end) (same_Some _ a (sym (own_range ts t m p is uncalled has_m) ∙ first)) in
     let other : start_of p.syntax (node_of p.syntax n) ≡ b.span.start =
     ap (λ (r : FileSpan). r.span.start) (same_Some _ b (sym (own_range ts t n p is uncalled has_n) ∙ second)) in
-    omega (arith, share.1)
+    omega arith
 
 -- so what placeholders hold there is placed, and no two share a byte
 pub file_placed : (ts : List Planted) (x : NodeId) (bindings : List Binding) → AreBounds ts x.tree limits.Everywhere → IsMatched ts x bindings → IsPlacedMatch ts x bindings

@@ -12,7 +12,8 @@ use Rattle.ssr_syntax_tree.specs.Syntax.{Forest, nothing, leaf, branch, Syntax, 
 use Rattle.ssr_syntax_tree.specs.Places.{Node, Part, token_part, node_part, HasNode, HasToken, HoldsByte, node_of, size_of, offset_of, parts_in, parts_of, element_of}
 use Rattle.ssr_syntax_tree.proofs.Shared.{node_of-number, below_fits, offset_grows, IsChild, children_known}
 use Rattle.ide_ssr_search.specs.Positions.{EndsAt, IsNear, IsFirst, IsNextSibling, IsLeftFor, Leads, goes_on}
-use Rattle.ide_ssr_search.proofs.Parents.{all_at, IsOver, inside, below_root, root_size}
+use Rattle.ide_ssr_search.proofs.Lists.{all_at}
+use Rattle.ide_ssr_search.proofs.Parents.{IsOver, inside, below_root, root_size}
 
 -- ** Tokens by their bytes.
 
@@ -56,7 +57,7 @@ record Spanning (parts : List Part) (u : ℕ) : Type 0 where
   low : child.first ≤ u
   high : u < child.first + token_count child.children
 
-abbrev token_at : ℕ → Element
+abbrev pub token_at : ℕ → Element
 token_at u = element.Token (record { 0 = u })
 
 later : (part : Part) (parts : List Part) (u : ℕ) → Contains (map element_of parts) (token_at u) ⊎ Spanning parts u

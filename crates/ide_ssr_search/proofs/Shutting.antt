@@ -7,7 +7,7 @@ use Rattle.ssr_syntax_tree.specs.Places.{HasNode, node_of, size_of}
 use Rattle.ssr_base.specs.declared.ids.NodeId.{NodeId}
 use Rattle.ssr_base.specs.Workspace.{Planted, node_id, above}
 use Rattle.ide_ssr_search.specs.Private.Shut.{Shuts, IsShutIn, IsShut, ShutsBefore, IsPast, TellsPast}
-use Rattle.ide_ssr_search.proofs.Trees.{IsTree, split, over_below, root_below, at_cases, at_itself, at_below, up_below, below_up}
+use Rattle.ide_ssr_search.proofs.Trees.{IsTree, split, over_below, root_below, up_below, below_up}
 
 module _ (ts : List Planted) (t : ℕ) (s : Syntax) (at : IsTree ts t s) where
   -- a node is shut in by what stands above its tree, or by a node of the tree before it
@@ -86,10 +86,10 @@ module _ (ts : List Planted) (t : ℕ) (s : Syntax) (at : IsTree ts t s) where
   past_call n own past new has so_far tells is =
       let now = past_now n past has so_far in (
         λ before. elim (here_before n own past new n tells is before) [
-          | inl early ↦ let shut = now.0 early in (shut.0, at_below ts (node_id t n) shut.0 shut.1, shut.2)
-          | inr here ↦ (node_id t n, at_itself ts (node_id t n), here.0)
+          | inl early ↦ let shut = now.0 early in (shut.0, inr shut.1, shut.2)
+          | inr here ↦ (node_id t n, inl refl, here.0)
         ],
-        λ shut. elim (at_cases ts (node_id t n) shut.0 shut.1) [
+        λ shut. elim shut.1 [
           | inl same ↦
               let reach = here_reaches n own tells (subst (Shuts ts) (sym same) shut.2) in
               omega arith

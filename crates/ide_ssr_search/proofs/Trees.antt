@@ -10,7 +10,7 @@ use Rattle.ssr_syntax_tree.specs.Places.{HasNode, node_of}
 use Rattle.ssr_base.specs.declared.ids.NodeId.{NodeId}
 use Rattle.ssr_base.specs.Workspace.{Workspace, Planted, of_file, of_expansion, trees, planted, tree_of, node_id, has_node, told_of, above_in, above}
 use Rattle.ssr_base.specs.Laws.{climbed, IsBelow}
-use Rattle.ide_ssr_search.specs.Permitted.{IsAtOrBelow}
+use Rattle.ide_ssr_matching.specs.Found.{IsAtOrBelow}
 use Rattle.ide_ssr_search.proofs.Parents.{IsOver, inside, below_root}
 
 -- ** Options.
@@ -113,21 +113,15 @@ climb ts k x y a up is = ap (option_and_then (climbed ts k)) up ∙ is
 pub below_up : (ts : List Planted) (x y a : NodeId) → above ts x ≡ Some y → IsBelow ts x a → IsAtOrBelow ts y a
 below_up ts x y a up below =
     let first = then_some (climbed ts below.0) (above ts x) a below.1 in
-    (below.0, subst (λ y. climbed ts below.0 y ≡ Some a) (same_Some first.0 y (sym first.1 ∙ up)) first.2)
+    from below.0 (subst (λ y. climbed ts below.0 y ≡ Some a) (same_Some first.0 y (sym first.1 ∙ up)) first.2)
+  where
+    from : (n : ℕ) → climbed ts n y ≡ Some a → IsAtOrBelow ts y a
+    from zero is = inl (same_Some y a is)
+    from (suc n) is = inr (n, is)
 
 pub up_below : (ts : List Planted) (x y a : NodeId) → above ts x ≡ Some y → IsAtOrBelow ts y a → IsBelow ts x a
-up_below ts x y a up at = (at.0, climb ts at.0 x y a up at.1)
-
--- a node is at another one if it is it, or below it
-pub at_cases : (ts : List Planted) (x a : NodeId) → IsAtOrBelow ts x a → (x ≡ a) ⊎ IsBelow ts x a
-at_cases ts x a (zero, is) = inl (same_Some x a is)
-at_cases ts x a (suc n, is) = inr (n, is)
-
-pub at_itself : (ts : List Planted) (x : NodeId) → IsAtOrBelow ts x x
-at_itself ts x = (0, refl)
-
-pub at_below : (ts : List Planted) (x a : NodeId) → IsBelow ts x a → IsAtOrBelow ts x a
-at_below ts x a below = (suc below.0, below.1)
+up_below ts x y a up (inl same) = (0, climb ts 0 x y a up (ap Some same))
+up_below ts x y a up (inr below) = (suc below.0, climb ts (suc below.0) x y a up below.1)
 
 -- ** In a tree, by numbers.
 
@@ -143,7 +137,7 @@ module _ (ts : List Planted) (t : ℕ) (s : Syntax) (at : IsTree ts t s) where
       let p = (node_of s (suc n)).parent in
       let before = known.parent in
       let here : HasNode s p = omega (arith, before.0) in
-      elim (at_cases ts (node_id t p) a (below_up ts (node_id t (suc n)) (node_id t p) a (above_inner ts t (suc n) s at has (omega arith)) below)) [
+      elim (below_up ts (node_id t (suc n)) (node_id t p) a (above_inner ts t (suc n) s at has (omega arith)) below) [
         | inl same ↦
             inl (ap (λ (x : NodeId). x.tree) (sym same), subst (λ (x : NodeId). IsOver s x.node.0 (suc n)) same before)
         | inr further ↦
@@ -169,9 +163,9 @@ module _ (ts : List Planted) (t : ℕ) (s : Syntax) (at : IsTree ts t s) where
       let least = known.low in
       up_below ts (node_id t n) (node_id t p) (node_id t a) (above_inner ts t n s at has (omega (arith, over.0)))
       (elim (cases_eq a p) [
-        | inl same ↦ subst (λ p. IsAtOrBelow ts (node_id t p) (node_id t a)) same (at_itself ts (node_id t a))
+        | inl same ↦ subst (λ p. IsAtOrBelow ts (node_id t p) (node_id t a)) same (inl refl)
         | inr other ↦
-            at_below ts (node_id t p) (node_id t a)
+            inr
             (over_below_to bound a p (omega (arith, before.0)) (omega (arith, before.0)) (omega arith, omega (arith, before.0, over.1)))
       ])
 
@@ -185,7 +179,7 @@ module _ (ts : List Planted) (t : ℕ) (s : Syntax) (at : IsTree ts t s) where
       let before = (inside s 0 (suc n) (omega arith) (below_root s (suc n) has (omega arith))).parent in
       let p = (node_of s (suc n)).parent in
       up_below ts (node_id t (suc n)) (node_id t p) a (above_inner ts t (suc n) s at has (omega arith))
-      (at_below ts (node_id t p) a (root_below_to bound p (omega (arith, before.0)) (omega (arith, before.0)) a below))
+      (inr (root_below_to bound p (omega (arith, before.0)) (omega (arith, before.0)) a below))
 
   pub root_below : (n : ℕ) → HasNode s n → (a : NodeId) → IsBelow ts (node_id t 0) a → IsBelow ts (node_id t n) a
   root_below n has a below = root_below_to n n (omega arith) has a below

@@ -1,5 +1,5 @@
 -- At which nodes a search tries a rule.
-use Rattle.std.specs.Prelude.{ℕ, ◌≡◌, ◌<◌, ◌⊎◌, ◌&&◌, ◌||◌, not, Bool, false, IsTrue, IsSome, if◌then◌else◌, List, [], ◌∷◌, Option, Some, None, Contains}
+use Rattle.std.specs.Prelude.{ℕ, ◌≡◌, ◌⊎◌, ◌&&◌, ◌||◌, not, Bool, false, IsTrue, IsSome, if◌then◌else◌, List, [], ◌∷◌, Option, Some, None, Contains}
 use Rattle.std.specs.Option.{IsSomeAnd, option_map, option_and_then}
 use Rattle.ssr_syntax_lex.specs.declared.kinds.SyntaxKind.TheVariants as k
 use Rattle.ssr_syntax_lex.specs.Kinds.{same_kind, is_trivia}
@@ -8,13 +8,10 @@ use Rattle.ssr_syntax_tree.specs.Places.{Part, token_part, node_part, node_of, p
 use Rattle.ssr_base.specs.declared.ids.NodeId.{NodeId}
 use Rattle.ssr_base.specs.Workspace.{Workspace, Planted, FileSpan, trees, planted, node_id, original_range}
 use Rattle.ssr_base.specs.Built.{IsNodeOf, IsMacroCall}
-use Rattle.ssr_base.specs.Laws.{climbed, IsBelow, LiesIn}
+use Rattle.ssr_base.specs.Laws.{IsBelow, LiesIn}
 use Rattle.ide_ssr_rules.specs.Resolving.{ResolvedKind}
+use Rattle.ide_ssr_matching.specs.Found.{IsAtOrBelow, HasByte}
 use Rattle.ide_ssr_search.specs.Context.{Context}
-
--- a node is another one or stands below it
-abbrev pub IsAtOrBelow : List Planted → NodeId → NodeId → Type 0
-IsAtOrBelow trees x a = (n : ℕ) × (climbed trees n x ≡ Some a)
 
 abbrev pub IsUse : List Planted → NodeId → Type 0
 IsUse trees x = IsSomeAnd (planted trees x.tree) (λ p. (node_of p.syntax x.node.0).kind ≡ k.USE)
@@ -40,9 +37,6 @@ abbrev pub arguments_range : List Planted → NodeId → Option FileSpan
 arguments_range trees call = option_and_then (original_range trees) (arguments_of trees call)
 
 -- ** What is asked of a node, whatever the rule.
-
-abbrev pub HasByte : FileSpan → Type 0
-HasByte range = range.span.start < range.span.end
 
 -- without restrictions all files are searched, else what lies in one of them
 abbrev pub IsSearched : List FileSpan → FileSpan → Type 0

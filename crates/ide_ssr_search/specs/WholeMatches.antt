@@ -1,5 +1,5 @@
 -- When a rule matches as a whole at a node.
-use Rattle.std.specs.Prelude.{ℕ, ◌≡◌, ◌<◌, min, max, List, Some, All, AllPairs, IfSome}
+use Rattle.std.specs.Prelude.{ℕ, List, All, AllPairs, IfSome}
 use Rattle.std.specs.Option.{IsSomeAnd}
 use Rattle.ssr_syntax_tree.specs.Places.{node_of, root_of}
 use Rattle.ssr_base.specs.declared.ids.NodeId.{NodeId}
@@ -7,6 +7,7 @@ use Rattle.ssr_base.specs.Workspace.{Planted, FileSpan, planted, original_range}
 use Rattle.ssr_base.specs.Laws.{LiesIn}
 use Rattle.ide_ssr_rules.specs.Resolving.{ResolvedKind}
 use Rattle.ide_ssr_matching.specs.declared.bindings.Binding.{Binding}
+use Rattle.ide_ssr_matching.specs.Found.{held_node, ShareNoByte}
 use Rattle.ide_ssr_matching.specs.Matching.{Matches}
 use Rattle.ide_ssr_search.specs.Permitted.{arguments_range}
 
@@ -19,20 +20,9 @@ LiesInArguments trees t range =
 abbrev pub IsPlaced : List Planted → NodeId → Type 0
 IsPlaced trees x = IsSomeAnd (original_range trees x) (LiesInArguments trees x.tree)
 
--- what a placeholder holds is a node of the match's tree
-abbrev pub held_node : ℕ → Binding → NodeId
-held_node tree binding = record { tree = tree; node = binding.node }
-
-abbrev pub ShareByte : FileSpan → FileSpan → Type 0
-ShareByte a b = (a.file ≡ b.file) × (max a.span.start b.span.start < min a.span.end b.span.end)
-
--- the original ranges of two nodes share no byte
-abbrev pub AreApart : List Planted → NodeId → NodeId → Type 0
-AreApart trees x y = (a b : FileSpan) → original_range trees x ≡ Some a → original_range trees y ≡ Some b → ¬ ShareByte a b
-
 -- The node matches the root of the pattern, it and what the placeholders hold are placed, and no two placeholders share a byte.
 pub record IsWholeMatch (trees : List Planted) (rule : ResolvedKind) (x : NodeId) (bindings : List Binding) : Type 0 where
   pub matches : IsSomeAnd (planted trees x.tree) (λ p. Matches rule.names (root_of rule.pattern) (node_of p.syntax x.node.0) bindings)
   pub placed : IsPlaced trees x
   pub bindings_placed : All (λ b. IsPlaced trees (held_node x.tree b)) bindings
-  pub apart : AllPairs (λ b c. AreApart trees (held_node x.tree b) (held_node x.tree c)) bindings
+  pub apart : AllPairs (λ b c. ShareNoByte trees (held_node x.tree b) (held_node x.tree c)) bindings

@@ -4,6 +4,7 @@
 mod bounds;
 mod context;
 mod context_error;
+pub mod laws;
 mod permitted;
 mod positions;
 mod scan;

@@ -4,6 +4,7 @@ ghost use Rattle.std.specs.Option.{IsSomeAnd};
 ghost use Rattle.ssr_syntax_tree.specs.Places.{HasNode};
 ghost use Rattle.ssr_base.specs.Workspace.{trees, tree_of, node_id};
 ghost use Rattle.ssr_base.specs.Built.{IsBuilt};
+ghost use Rattle.ide_ssr_matching.specs.Found.{AreMatches};
 ghost use Rattle.ide_ssr_search.specs.Permitted.{IsOpen, IsInFunction};
 ghost use Rattle.ide_ssr_search.specs.Found.{AreFound};
 ghost use Rattle.ide_ssr_search.specs.Private.Shut.{IsShutIn, IsShut, TellsPast};
@@ -322,7 +323,8 @@ pub fn find_matches(
     context: &Context,
     rules: &[ResolvedRule],
 ) -> Result<Vec<Found>, AllocError>
-    ensures { IfOk result (λ found. AreFound workspace.now context.now rules.now found.items) }
+    ensures found { IfOk result (λ found. AreFound workspace.now context.now rules.now found.items) }
+    ensures matches { IfOk result (λ found. AreMatches (trees workspace.now) found.items) }
 {
     let mut found = Vec::new(alloc);
     let mut shut = BTreeSet::new(alloc);

@@ -1,10 +1,11 @@
 //! Whether a rule matches as a whole at a node.
-ghost use Rattle.std.specs.Prelude.{◌≡◌, ◌↔◌, IsTrue, IfOk, IfSome, IfNone, MatchOption, Some, All, Any, AllPairs, option_map};
+ghost use Rattle.std.specs.Prelude.{◌≡◌, ◌↔◌, IsTrue, IfOk, IfSome, IfNone, MatchOption, Some, All, AllPairs, option_map};
 ghost use Rattle.ssr_syntax_tree.specs.Places.{HasNode};
 ghost use Rattle.ssr_base.specs.Workspace.{trees, tree_of, file_span_of, original_range};
-ghost use Rattle.ide_ssr_search.specs.WholeMatches.{IsPlaced, ShareByte, held_node};
+ghost use Rattle.ide_ssr_matching.specs.Found.{held_node};
+ghost use Rattle.ide_ssr_search.specs.WholeMatches.{IsPlaced};
 ghost use Rattle.ide_ssr_search.specs.Private.Bounds.{AreBounds};
-ghost use Rattle.ide_ssr_search.specs.Private.Whole.{AreRanges, IsMatched, IsPlacedMatch, TellsWhole};
+ghost use Rattle.ide_ssr_search.specs.Private.Whole.{AreRanges, AreDisjoint, IsMatched, IsPlacedMatch, TellsWhole};
 
 use crate::bounds::Bounds;
 use ide_ssr_matching::{Binding, match_node};
@@ -53,31 +54,24 @@ fn held_ranges(
     Ok(Some(ranges))
 }
 
-/// Whether two ranges share a byte.
-fn share_byte(a: FileRange, b: FileRange) -> bool
-    ensures { IsTrue result ↔ ShareByte (file_span_of a) (file_span_of b) }
-{
-    a.file_id.0 == b.file_id.0 && a.range.overlaps(b.range)
-}
-
-/// Whether a range shares a byte with one of some others.
-fn shares_byte(range: FileRange, others: &[FileRange]) -> bool
-    ensures { IsTrue result ↔ Any (λ other. ShareByte (file_span_of other) (file_span_of range)) others.now }
+/// Whether a range has no byte in common with others of its file.
+fn is_apart(range: FileRange, others: &[FileRange]) -> bool
+    ensures { IsTrue result ↔ All (λ other. AreDisjoint (file_span_of other) (file_span_of range)) others.now }
 {
     for other in others {
-        if share_byte(*other, range) {
-            return true;
+        if other.range.overlaps(range.range) {
+            return false;
         }
     }
-    false
+    true
 }
 
-/// Whether no two ranges share a byte.
+/// Whether no two ranges of one file have a byte in common.
 fn are_apart(ranges: &[FileRange]) -> bool
-    ensures { IsTrue result ↔ AllPairs (λ a b. ¬ ShareByte (file_span_of a) (file_span_of b)) ranges.now }
+    ensures { IsTrue result ↔ AllPairs (λ a b. AreDisjoint (file_span_of a) (file_span_of b)) ranges.now }
 {
     for (place, range) in ranges.iter().enumerate() {
-        if shares_byte(*range, &ranges[..place]) {
+        if !is_apart(*range, &ranges[..place]) {
             return false;
         }
     }

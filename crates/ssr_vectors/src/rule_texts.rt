@@ -1,6 +1,6 @@
 //! Rule texts: what a user is told of them, and the parts of a rule.
 
-use ide_ssr_rules::{SsrError, SsrRule};
+use ide_ssr_rules::{SsrError, SsrPattern, SsrRule};
 use ssr_syntax_tree::{Element, NodeNo, TokenNo};
 use std::alloc::{AllocError, Global};
 use std::test::Fail;
@@ -9,6 +9,17 @@ use std::test::Fail;
 fn told(alloc: Global, text: &str) -> Result<String, AllocError> {
     match SsrRule::parse(alloc, text) {
         Ok(rule) => match rule.resolve(alloc) {
+            Ok(_) => String::from_str(alloc, "accepted"),
+            Err(error) => error.to_string(alloc),
+        },
+        Err(error) => error.to_string(alloc),
+    }
+}
+
+/// What a user is told of a search pattern's text.
+fn told_of_pattern(alloc: Global, text: &str) -> Result<String, AllocError> {
+    match SsrPattern::parse(alloc, text) {
+        Ok(pattern) => match pattern.resolve(alloc) {
             Ok(_) => String::from_str(alloc, "accepted"),
             Err(error) => error.to_string(alloc),
         },
@@ -114,10 +125,10 @@ fn a_resolved_rule_tells_its_parts(rt: HostRuntime) -> Result<(), Fail> {
         rule.pattern().source(),
         "__placeholder_x * (__placeholder_y - __placeholder_z)"
     );
-    assert_eq!(rt;
-        rule.template().source(),
-        "__placeholder_z * 2 - __placeholder_x"
-    );
+    let Some(template) = rule.template() else {
+        return Err(Fail::new("a rule without a template"));
+    };
+    assert_eq!(rt; template.source(), "__placeholder_z * 2 - __placeholder_x");
     for (number, name) in [
         (0, None),
         (1, Some(0)),
@@ -131,9 +142,58 @@ fn a_resolved_rule_tells_its_parts(rt: HostRuntime) -> Result<(), Fail> {
     }
     for (number, name) in [(0, Some(2)), (1, None), (4, None), (8, Some(0))] {
         let token = TokenNo(number);
-        assert!(rt; rule.template().has(Element::Token(token)));
+        assert!(rt; template.has(Element::Token(token)));
         assert_eq!(rt; rule.template_placeholder(token), name, "{number}");
     }
+    Ok(())
+}
+
+#[test]
+fn refuses_search_patterns(rt: HostRuntime) -> Result<(), Fail> {
+    let alloc = rt.alloc();
+    for (text, words) in [
+        (
+            "1 + \"a",
+            "Failed to parse pattern: a string that is not closed, at byte 4",
+        ),
+        ("$", "Placeholder ($) with no name"),
+        (
+            "$1",
+            "Placeholders should either be $name or ${name:constraints}",
+        ),
+        ("$a + $a", "Placeholder `$a` repeats more than once"),
+        ("foo$a", "Placeholder `$a` isn't a token of its own"),
+        ("__placeholder_a + $a", "Name `__placeholder_a` is reserved"),
+        (
+            "$a ==>> $b",
+            "Not a valid Rust expression, type, item, path or pattern",
+        ),
+        ("$a + foo", "Failed to resolve path `foo`"),
+        ("$m!(1)", "Token trees are not matched yet"),
+    ] {
+        let wanted = format!(in alloc; "Parse error: {words}")?;
+        assert_eq!(rt;
+            told_of_pattern(alloc, text)?.as_str(),
+            wanted.as_str(),
+            "{text}"
+        );
+    }
+    Ok(())
+}
+
+#[test]
+fn a_search_pattern_is_one_side(rt: HostRuntime) -> Result<(), Fail> {
+    let alloc = rt.alloc();
+    assert_eq!(rt; told_of_pattern(alloc, "\"==>>\"")?.as_str(), "accepted");
+    let kinds = SsrPattern::parse(alloc, " $x * ($y - 1)\n")?.resolve(alloc)?;
+    assert_eq!(rt; kinds.len(), 1);
+    let kind = &kinds[0];
+    assert_eq!(rt; kind.names().len(), 2);
+    assert_eq!(rt;
+        kind.pattern().source(),
+        "__placeholder_x * (__placeholder_y - 1)"
+    );
+    assert!(rt; kind.template().is_none());
     Ok(())
 }
 

@@ -3,10 +3,11 @@ use Rattle.std.specs.Prelude.{ℕ, Contains, ◌+◌, ◌≡◌, ◌<◌, ◌≤
 use Rattle.std.specs.Global.{Global}
 use Rattle.std.specs.List.{enumerate_from}
 use Rattle.std.specs.Option.{option_and_then}
-use Rattle.ssr_base.specs.Workspace.{Workspace}
 use Rattle.ide_ssr_rules.specs.Resolving.{ResolvedKind}
+use Rattle.ide_ssr_nesting.specs.Holding.{Kept}
+use Rattle.ide_ssr_nesting.specs.Lists.{Listing}
 use Rattle.ide_ssr_rewriting.specs.Clashes.{Clash, IsFirst}
-use Rattle.ide_ssr_rewriting.specs.Nest.{Nest, under}
+use Rattle.ide_ssr_rewriting.specs.Private.Nest.{under}
 use Rattle.ide_ssr_rewriting.specs.Edits.{Texts, text_by, list_under, clashes_under}
 
 -- the text that is stored for a place
@@ -14,22 +15,22 @@ abbrev pub text_in : List (Option (String Global)) → Texts
 text_in stored n = option_map string_bytes (slice_index_or stored n None)
 
 -- the texts of so many matches from a place on, from the last one to the first
-abbrev pub texts_from : Workspace → List ResolvedKind → Nest → ℕ → ℕ → Texts
-texts_from w rules nest zero from n = None
-texts_from w rules nest (suc left) from n =
-    let later = texts_from w rules nest left (1 + from) in
-    if n == from then option_and_then (λ m. text_by w rules m (list_under w nest later from)) (slice_get nest.matches from) else later n
+abbrev pub texts_from : Kept → Listing → List ResolvedKind → ℕ → ℕ → Texts
+texts_from kept listing rules zero from n = None
+texts_from kept listing rules (suc left) from n =
+    let later = texts_from kept listing rules left (1 + from) in
+    if n == from then option_and_then (λ m. text_by kept.workspace rules m (list_under kept listing later from)) (slice_get kept.matches from) else later n
 
-unfoldable pub texts_of : Workspace → List ResolvedKind → Nest → Texts
-texts_of w rules nest = texts_from w rules nest (length nest.matches) 0
+unfoldable pub texts_of : Kept → Listing → List ResolvedKind → Texts
+texts_of kept listing rules = texts_from kept listing rules (length kept.matches) 0
 
 -- the clashes of the lists under the placeholders of the matches from a place on
-abbrev pub clashes_from : Workspace → Nest → Texts → ℕ → List Clash
-clashes_from w nest texts n = flat_map (λ p. clashes_under p.1 (list_under w nest texts p.0)) (enumerate_from n (drop n nest.matches))
+abbrev pub clashes_from : Kept → Listing → Texts → ℕ → List Clash
+clashes_from kept listing texts n = flat_map (λ p. clashes_under p.1 (list_under kept listing texts p.0)) (enumerate_from n (drop n kept.matches))
 
 -- the matches from the place n on are gone through: what stands for those in no list of these is known, and the first clash
 -- of these lists
-pub record IsRun (w : Workspace) (rules : List ResolvedKind) (nest : Nest) (n : ℕ) (stored : List (Option (String Global))) (clash : Option Clash) : Type 0 where
-  pub counted : length stored ≡ length nest.matches
-  pub known : (j : ℕ) → n ≤ j → j < length nest.matches → ((k i : ℕ) → n ≤ k → Contains (under nest k i) j → ⊥) → text_in stored j ≡ texts_of w rules nest j
-  pub first : IsFirst (clashes_from w nest (texts_of w rules nest) n) clash
+pub record IsRun (kept : Kept) (listing : Listing) (rules : List ResolvedKind) (n : ℕ) (stored : List (Option (String Global))) (clash : Option Clash) : Type 0 where
+  pub counted : length stored ≡ length kept.matches
+  pub known : (j : ℕ) → n ≤ j → j < length kept.matches → ((k i : ℕ) → n ≤ k → Contains (under listing k i) j → ⊥) → text_in stored j ≡ texts_of kept listing rules j
+  pub first : IsFirst (clashes_from kept listing (texts_of kept listing rules) n) clash

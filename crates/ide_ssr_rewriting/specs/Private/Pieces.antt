@@ -5,8 +5,10 @@ use Rattle.std.specs.List.{enumerate_from, list_all}
 use Rattle.ssr_base.specs.Workspace.{Workspace, node_id}
 use Rattle.ide_ssr_matching.specs.declared.bindings.Binding.{Binding}
 use Rattle.ide_ssr_matching.specs.Found.{Found}
+use Rattle.ide_ssr_nesting.specs.Holding.{Kept}
+use Rattle.ide_ssr_nesting.specs.Lists.{Listing}
 use Rattle.ide_ssr_rewriting.specs.Clashes.{Rewrite, Clash, IsFirst, clashes, is_clean}
-use Rattle.ide_ssr_rewriting.specs.Nest.{Nest, under}
+use Rattle.ide_ssr_rewriting.specs.Private.Nest.{under}
 use Rattle.ide_ssr_rewriting.specs.Replacements.{piece}
 use Rattle.ide_ssr_rewriting.specs.Edits.{list_under}
 use Rattle.ide_ssr_rewriting.specs.Private.Edits.{text_in}
@@ -31,14 +33,14 @@ clashes_in lists bound = flat_map (λ p. clashes (lists p.0)) bound
 
 -- the first i placeholders of the match m of the place n are done: which pieces there are, whether all their lists can be made,
 -- the first clash, and which texts are left
-pub record AreTaken (w : Workspace) (nest : Nest) (m : Found) (n i : ℕ) (old cur : List (Option (String Global))) (clean : Bool) (pieces : List (List ℕ)) (was now : Option Clash) : Type 0 where
+pub record AreTaken (kept : Kept) (listing : Listing) (m : Found) (n i : ℕ) (old cur : List (Option (String Global))) (clean : Bool) (pieces : List (List ℕ)) (was now : Option Clash) : Type 0 where
   pub counted : length cur ≡ length old
-  pub left : (j : ℕ) → ((k : ℕ) → k < i → Contains (under nest n k) j → ⊥) → text_in cur j ≡ text_in old j
-  pub lists : all_clean (list_under w nest (text_in old) n) (enumerate_from 0 m.bindings)
-      ≡ (clean && all_clean (list_under w nest (text_in old) n) (enumerate_from i (drop i m.bindings)))
-  pub written : clean ≡ true → pieces ++ pieces_of w m (list_under w nest (text_in old) n) (enumerate_from i (drop i m.bindings))
-      ≡ pieces_of w m (list_under w nest (text_in old) n) (enumerate_from 0 m.bindings)
+  pub left : (j : ℕ) → ((k : ℕ) → k < i → Contains (under listing n k) j → ⊥) → text_in cur j ≡ text_in old j
+  pub lists : all_clean (list_under kept listing (text_in old) n) (enumerate_from 0 m.bindings)
+      ≡ (clean && all_clean (list_under kept listing (text_in old) n) (enumerate_from i (drop i m.bindings)))
+  pub written : clean ≡ true → pieces ++ pieces_of kept.workspace m (list_under kept listing (text_in old) n) (enumerate_from i (drop i m.bindings))
+      ≡ pieces_of kept.workspace m (list_under kept listing (text_in old) n) (enumerate_from 0 m.bindings)
   pub before : List Clash
-  pub split : before ++ clashes_in (list_under w nest (text_in old) n) (enumerate_from i (drop i m.bindings))
-      ≡ clashes_in (list_under w nest (text_in old) n) (enumerate_from 0 m.bindings)
+  pub split : before ++ clashes_in (list_under kept listing (text_in old) n) (enumerate_from i (drop i m.bindings))
+      ≡ clashes_in (list_under kept listing (text_in old) n) (enumerate_from 0 m.bindings)
   pub first : (others : List Clash) → IsFirst others was → IsFirst (before ++ others) now

@@ -6,10 +6,10 @@ use Rattle.ide_ssr_rewriting.proofs.editing.run.Goals as goal
 
 pub loop-place-init : goal.loop-place-init
 loop-place-init c =
-    run-starts c.args.workspace.now c.args.rules.now c.args.nest.now c.len-place.result c.in_ok-none_known.field-0.items _ c.len-place.ensures
-    (c.in_ok-none_known.ensures ∙ (c.len.ensures ∙ sym c.len-place.ensures)) refl
+    run-starts c.args.kept.now c.args.lists.now c.args.rules.now c.len-place.result c.args.texts.items _ c.len-place.ensures.count
+    (c.requires.counted ∙ sym c.len-place.ensures.count) refl
 
 pub returns : goal.returns
 returns c =
     let all : c.loop-place.place ≡ 0 = omega arith in
-    subst (λ (n : ℕ). IsRun c.args.workspace.now c.args.rules.now c.args.nest.now n c.loop-place.pending.texts.items (option_map clash_of c.loop-place.pending.clash)) all c.loop-place.invariant
+    subst (λ (n : ℕ). IsRun c.args.kept.now c.args.lists.now c.args.rules.now n c.loop-place.pending.texts.items (option_map clash_of c.loop-place.pending.clash)) all c.loop-place.invariant

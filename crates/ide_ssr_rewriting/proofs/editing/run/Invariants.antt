@@ -4,4 +4,4 @@ use Rattle.ide_ssr_rewriting.specs.Private.Edits.{IsRun}
 use Rattle.ide_ssr_rewriting.proofs.editing.run.Given as goal
 
 abbrev pub invariant-loop-place : goal.invariant-loop-place
-invariant-loop-place l = IsRun l.workspace l.rules l.nest l.place l.pending.texts.items (option_map clash_of l.pending.clash)
+invariant-loop-place l = IsRun l.kept l.lists l.rules l.place l.pending.texts.items (option_map clash_of l.pending.clash)

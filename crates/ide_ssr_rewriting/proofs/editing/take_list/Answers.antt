@@ -14,7 +14,7 @@ loop-place-preserved c =
     let at : c.index_mut.result.now ≡ get_or cur p c.index_mut.result.now = c.index_mut.ensures.value in
     let taken : c.take-text.result ≡ c.index_mut.result.now = c.take-text.ensures.value in
     record {
-      list = list-more c.args.workspace.now c.args.nest.now places i p c.args.texts.now.items cur c.loop-place.list.items c.push.new.self.items c.new.result c.take-text.result
+      list = list-more c.args.kept.now places i p c.args.texts.now.items cur c.loop-place.list.items c.push.new.self.items c.new.result c.take-text.result
           lt refl c.requires.once c.loop-place.invariant.list c.loop-place.invariant.others
           (get_or_default cur p None c.index_mut.result.now within ∙ (sym at ∙ sym taken))
           (c.new.ensures.range ∙ c.range_at.ensures) c.new.ensures.text c.in_ok-push.ensures.items;

@@ -5,5 +5,5 @@ use Rattle.ide_ssr_rewriting.proofs.rendering.plain.Given as goal
 
 abbrev pub invariant-loop-token : goal.invariant-loop-token
 invariant-loop-token l =
-    string_bytes l.text ++ plain l.rule.names (piece_of l.bindings (map string_bytes l.pieces)) (drop l.token (tokens_of l.rule.template))
-    ≡ plain l.rule.names (piece_of l.bindings (map string_bytes l.pieces)) (tokens_of l.rule.template)
+    string_bytes l.text ++ plain l.rule.names (piece_of l.bindings (map string_bytes l.pieces)) (drop l.token (tokens_of l.template))
+    ≡ plain l.rule.names (piece_of l.bindings (map string_bytes l.pieces)) (tokens_of l.template)

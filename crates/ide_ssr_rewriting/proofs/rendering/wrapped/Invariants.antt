@@ -5,8 +5,8 @@ use Rattle.ide_ssr_rewriting.proofs.rendering.wrapped.Given as goal
 
 abbrev pub invariant-loop-token : goal.invariant-loop-token
 invariant-loop-token l = record {
-  spelled : string_bytes l.wrapped ++ wrapped l.tree l.front l.rule.names (piece_of l.bindings (map string_bytes l.pieces)) l.at (drop l.token (tokens_of l.rule.template))
-      ≡ wrapped l.tree l.front l.rule.names (piece_of l.bindings (map string_bytes l.pieces)) 0 (tokens_of l.rule.template);
-  within : l.at + length (plain l.rule.names (piece_of l.bindings (map string_bytes l.pieces)) (drop l.token (tokens_of l.rule.template)))
-      ≡ length (plain l.rule.names (piece_of l.bindings (map string_bytes l.pieces)) (tokens_of l.rule.template));
+  spelled : string_bytes l.wrapped ++ wrapped l.tree l.front l.rule.names (piece_of l.bindings (map string_bytes l.pieces)) l.at (drop l.token (tokens_of l.template))
+      ≡ wrapped l.tree l.front l.rule.names (piece_of l.bindings (map string_bytes l.pieces)) 0 (tokens_of l.template);
+  within : l.at + length (plain l.rule.names (piece_of l.bindings (map string_bytes l.pieces)) (drop l.token (tokens_of l.template)))
+      ≡ length (plain l.rule.names (piece_of l.bindings (map string_bytes l.pieces)) (tokens_of l.template));
 }

@@ -7,6 +7,7 @@ use Rattle.ide_ssr_search.specs.Private.Scan.{AreFoundBefore, KnowsShut, KnowsIn
 use Rattle.ide_ssr_search.proofs.Trees.{tree_within}
 use Rattle.ide_ssr_search.proofs.Calls.{inside_more}
 use Rattle.ide_ssr_search.proofs.Finding.{found_all}
+use Rattle.ide_ssr_search.proofs.Matched.{are_matches}
 use Rattle.ide_ssr_search.proofs.scan.find_matches.Goals as goal
 
 pub loop-tree-smaller : goal.loop-tree-smaller
@@ -38,5 +39,18 @@ loop-tree-preserved c =
           (subst (λ n. IsTrue g.inside ↔ IsSomeAnd g.context.now.function (IsBelow (trees g.workspace.now) (node_id n 0))) known.number known.ground.inside))));
     }
 
-pub returns : goal.returns
-returns c = found_all c.args.workspace.now c.args.context.now c.args.rules.now c.loop-tree.number c.loop-tree.found.items c.in_default.ensures c.loop-tree.invariant.found
+pub returns-clause-found : goal.returns-clause-found
+returns-clause-found c =
+    found_all c.args.workspace.now c.args.context.now c.args.rules.now c.loop-tree.number c.loop-tree.found.items c.in_default.ensures c.loop-tree.invariant.found
+
+pub returns-clause-matches : goal.returns-clause-matches
+returns-clause-matches c =
+    are_matches c.args.workspace.now c.args.context.now c.args.rules.now c.loop-tree.found.items
+    (found_all c.args.workspace.now c.args.context.now c.args.rules.now c.loop-tree.number c.loop-tree.found.items c.in_default.ensures c.loop-tree.invariant.found)
+
+pub add_found-requires-clause-shut : goal.add_found-requires-clause-shut
+add_found-requires-clause-shut c =
+    let w = c.args.workspace.now in
+    let known = c.new-ground.ensures in
+    subst (λ w. KnowsShut w c.new-ground.result.number 0 c.loop-tree.shut) (sym known.workspace)
+    (subst (λ n. KnowsShut w n 0 c.loop-tree.shut) (sym known.number) c.loop-tree.invariant.shut)

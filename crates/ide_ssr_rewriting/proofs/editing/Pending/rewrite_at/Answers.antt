@@ -1,4 +1,5 @@
-use Rattle.std.proofs.Common.{◌∙◌, ap, option_map}
+use Rattle.std.proofs.Common.{◌∙◌, ap, map, option_map, string_bytes}
+use Rattle.ssr_base.specs.Workspace.{Workspace}
 use Rattle.ide_ssr_rewriting.specs.Edits.{list_under}
 use Rattle.ide_ssr_rewriting.specs.Replacements.{text_of_match}
 use Rattle.ide_ssr_rewriting.specs.Private.Edits.{text_in}
@@ -8,12 +9,13 @@ use Rattle.ide_ssr_rewriting.proofs.editing.Pending.rewrite_at.Goals as goal
 
 pub returns : goal.returns
 returns c =
-    let w = c.args.workspace.now in
+    let kept = c.args.kept.now in
     let rules = c.args.rules.now in
     let m = c.get-m.result.now in
-    run-more w rules c.args.nest.now c.requires.nest c.args.place m _ c.take_pieces.new.self.texts.items c.in_ok-text.text _ _
+    run-more kept c.args.lists.now rules c.requires.nest c.args.place m _ c.take_pieces.new.self.texts.items c.in_ok-text.text _ _
     c.get-m.ensures c.requires.run c.in_ok-pieces.ensures.counted c.in_ok-pieces.ensures.left
     (c.in_ok-text.ensures
-    ∙ (ap (option_map (text_of_match w rules m)) c.in_ok-pieces.ensures.pieces
-    ∙ text_of_pieces w rules m (list_under w c.args.nest.now (text_in c.args.self.now.texts.items) c.args.place)))
+    ∙ (ap (λ (w : Workspace). option_map (text_of_match w rules m) (option_map (λ v. map string_bytes v.items) c.in_ok-pieces.pieces)) c.workspace.ensures
+    ∙ (ap (option_map (text_of_match kept.workspace rules m)) c.in_ok-pieces.ensures.pieces
+    ∙ text_of_pieces kept.workspace rules m (list_under kept c.args.lists.now (text_in c.args.self.now.texts.items) c.args.place))))
     c.in_ok-pieces.ensures.clash

@@ -3,12 +3,11 @@ use Rattle.std.specs.Prelude.{AllPairs, Contains, None, Some, if◌then◌else�
 use Rattle.std.proofs.lemmas.List.{get_or_default}
 use Rattle.std.proofs.lemmas.Option.{slice_get-get_or}
 use Rattle.ssr_base.specs.declared.ids.NodeId.{NodeId}
-use Rattle.ssr_base.specs.Workspace.{node_id}
+use Rattle.ssr_base.specs.Workspace.{Workspace, node_id}
 use Rattle.ide_ssr_matching.specs.declared.bindings.Binding.{Binding}
 use Rattle.ide_ssr_rewriting.specs.Clashes.{AreInOrder, clash_of, is_clean}
 use Rattle.ide_ssr_rewriting.specs.Replacements.{piece}
 use Rattle.ide_ssr_rewriting.specs.Edits.{list_at}
-use Rattle.ide_ssr_rewriting.specs.Nest.{under}
 use Rattle.ide_ssr_rewriting.specs.Private.Edits.{text_in}
 use Rattle.ide_ssr_rewriting.proofs.Fits.{list_fits}
 use Rattle.ide_ssr_rewriting.proofs.Pieces.{list_in_order, taking-more, taken_clashes}
@@ -20,16 +19,15 @@ nobody = record { placeholder = 0; node = record { 0 = 0 } }
 
 pub take_list-requires-clause-within : goal.take_list-requires-clause-within
 take_list-requires-clause-within c =
-    subst (All (λ n. n < length c.args.nest.now.matches)) (sym c.under.ensures) (c.requires.nest.lists c.args.place c.loop-index.index).within
+    subst (All (λ n. n < length c.args.kept.now.matches)) (sym c.under.ensures) (c.requires.nest.lists (Some (record { place = c.args.place; binding = c.loop-index.index }))).within
 
 pub take_list-requires-clause-once : goal.take_list-requires-clause-once
-take_list-requires-clause-once c = subst (λ (xs : List ℕ). AllPairs ◌≢◌ xs) (sym c.under.ensures) (c.requires.nest.lists c.args.place c.loop-index.index).once
+take_list-requires-clause-once c = subst (λ (xs : List ℕ). AllPairs ◌≢◌ xs) (sym c.under.ensures) (c.requires.nest.lists (Some (record { place = c.args.place; binding = c.loop-index.index }))).once
 
 pub take_list-requires-clause-order : goal.take_list-requires-clause-order
 take_list-requires-clause-order c =
-    subst (λ (xs : List ℕ). AreInOrder (list_at c.args.workspace.now c.args.nest.now (text_in c.loop-index.self.texts.items) xs)) (sym c.under.ensures)
-    (list_in_order c.args.workspace.now c.args.nest.now c.requires.nest c.requires.nest.holder (Some (c.args.place, c.loop-index.index)) (text_in c.loop-index.self.texts.items)
-    (under c.args.nest.now c.args.place c.loop-index.index) (c.requires.nest.lists c.args.place c.loop-index.index))
+    subst (λ (xs : List ℕ). AreInOrder (list_at c.args.kept.now (text_in c.loop-index.self.texts.items) xs)) (sym c.under.ensures)
+    (list_in_order c.args.kept.now c.args.lists.now c.requires.nest (Some (record { place = c.args.place; binding = c.loop-index.index })) (text_in c.loop-index.self.texts.items))
 
 pub piece_if_clean-requires-clause-list : goal.piece_if_clean-requires-clause-list
 piece_if_clean-requires-clause-list c =
@@ -37,15 +35,16 @@ piece_if_clean-requires-clause-list c =
     let i = c.loop-index.index in
     let b = get_or m.bindings i nobody in
     let lt : i < length m.bindings = omega (arith, ap (λ (bs : List Binding). length bs) c.bindings-binding-items.ensures) in
-    list_fits c.args.workspace.now c.args.nest.now c.requires.nest c.args.place i m b (text_in c.loop-index.self.texts.items) c.in_ok-list.list.items _
+    rw c.workspace.ensures
+    (list_fits c.args.kept.now c.args.lists.now c.requires.nest c.args.place i m b (text_in c.loop-index.self.texts.items) c.in_ok-list.list.items _
     c.requires.m (slice_get-get_or m.bindings i nobody lt)
-    (c.in_ok-list.ensures.list ∙ ap (list_at c.args.workspace.now c.args.nest.now (text_in c.loop-index.self.texts.items)) c.under.ensures)
+    (c.in_ok-list.ensures.list ∙ ap (list_at c.args.kept.now (text_in c.loop-index.self.texts.items)) c.under.ensures)
     (ap (λ (bs : List Binding). node_id c.node.result.tree (get_or bs i nobody).node.0) c.bindings-binding-items.ensures
-    ∙ ap (λ x. node_id x.tree b.node.0) c.node.ensures)
+    ∙ ap (λ x. node_id x.tree b.node.0) c.node.ensures))
 
 pub loop-index-preserved : goal.loop-index-preserved
 loop-index-preserved c =
-    let w = c.args.workspace.now in
+    let kept = c.args.kept.now in
     let m = c.args.m.now in
     let i = c.loop-index.index in
     let b = get_or m.bindings i nobody in
@@ -59,11 +58,13 @@ loop-index-preserved c =
       | then-branch w ↦ w.is_clean-is ∙ ap (λ (t : Bool). t && c.loop-index.is_clean) (sym (sym c.in_ok-is_clean.ensures.there ∙ w.if-branch.true))
       | else-branch w ↦ w.is_clean-is ∙ (w.if-branch.false ∙ ap (λ (t : Bool). t && c.loop-index.is_clean) (sym (sym c.in_ok-is_clean.ensures.there ∙ w.if-branch.false)))
     ] in
-    taking-more w c.args.nest.now c.requires.nest m c.args.place i _ _ _ _ _ _ _ _ _ _ c.loop-index.invariant b lt (get_or_default m.bindings i nobody b lt)
+    taking-more kept c.args.lists.now c.requires.nest m c.args.place i _ _ _ _ _ _ _ _ _ _ c.loop-index.invariant b lt (get_or_default m.bindings i nobody b lt)
     list (option_map clash_of c.in_ok-list.first) (option_map string_bytes c.in_ok-piece.piece)
-    (c.in_ok-list.ensures.list ∙ ap (list_at w c.args.nest.now (text_in c.loop-index.self.texts.items)) c.under.ensures)
+    (c.in_ok-list.ensures.list ∙ ap (list_at kept (text_in c.loop-index.self.texts.items)) c.under.ensures)
     c.in_ok-list.ensures.first c.in_ok-list.ensures.clash
-    (c.in_ok-piece.ensures ∙ ap (λ (node : NodeId). if is_clean list then Some (piece w node list) else None) held)
+    (c.in_ok-piece.ensures
+    ∙ (ap (λ (w : Workspace). if is_clean list then Some (piece w (node_id c.node.result.tree (get_or c.bindings-binding-items.result.now i nobody).node.0) list) else None) c.workspace.ensures
+    ∙ ap (λ (node : NodeId). if is_clean list then Some (piece kept.workspace node list) else None) held))
     made c.in_ok-is_clean.ensures.pieces c.in_ok-list.ensures.counted
     (λ j none. c.in_ok-list.ensures.others j (λ h. none (subst (λ (xs : List ℕ). Contains xs j) c.under.ensures h)))
 

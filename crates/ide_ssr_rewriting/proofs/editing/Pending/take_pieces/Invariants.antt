@@ -5,5 +5,5 @@ use Rattle.ide_ssr_rewriting.proofs.editing.Pending.take_pieces.Given as goal
 
 abbrev pub invariant-loop-index : goal.invariant-loop-index
 invariant-loop-index l =
-    AreTaken l.workspace l.nest l.m l.place l.index l.initial.self.texts.items l.self.texts.items l.is_clean (map string_bytes l.pieces.items)
+    AreTaken l.kept l.lists l.m l.place l.index l.initial.self.texts.items l.self.texts.items l.is_clean (map string_bytes l.pieces.items)
     (option_map clash_of l.initial.self.clash) (option_map clash_of l.self.clash)

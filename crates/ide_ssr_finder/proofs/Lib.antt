@@ -1,0 +1,10 @@
+mod ByStart
+mod Files
+mod Holders
+mod Nodes
+mod Showing
+mod Taking
+mod BindsOnce
+mod Outcome
+mod OneEach
+mod Edited

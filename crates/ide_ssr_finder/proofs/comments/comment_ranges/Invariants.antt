@@ -1,0 +1,11 @@
+use Rattle.std.proofs.Common.{◌≡◌, All, map, take}
+use Rattle.ssr_base.specs.Laws.{LiesInFile}
+use Rattle.ssr_base.specs.Workspace.{file_span_of}
+use Rattle.ide_ssr_finder.specs.Comments.{token_span}
+use Rattle.ide_ssr_finder.proofs.comments.comment_ranges.Given as goal
+
+abbrev pub invariant-loop-comment : goal.invariant-loop-comment
+invariant-loop-comment l = record {
+  ranges : map file_span_of l.ranges.items ≡ map (token_span l.file l.tree) (take l.comment-index l.comment-items);
+  in_file : All (λ range. LiesInFile l.workspace (file_span_of range)) l.ranges.items;
+}

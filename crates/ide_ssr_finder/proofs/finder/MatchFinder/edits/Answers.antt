@@ -1,0 +1,21 @@
+use Rattle.std.proofs.Common.{◌≡◌, ◌∙◌, sym, ap, subst}
+use Rattle.std.proofs.lemmas.Result.{IfOk-weaker}
+use Rattle.ssr_base.specs.Workspace.{Workspace}
+use Rattle.ide_ssr_rewriting.specs.Edits.{EditsFit}
+use Rattle.ide_ssr_finder.specs.Edits.{HaveTemplates}
+use Rattle.ide_ssr_finder.specs.Finder.{Finder}
+use Rattle.ide_ssr_finder.proofs.Edited.{edits_told}
+use Rattle.ide_ssr_finder.proofs.finder.MatchFinder.edits.Goals as goal
+
+pub returns-clause-answer : goal.returns-clause-answer
+returns-clause-answer g c =
+    let finder = c.args.self.now in
+    let same : c.deref-2.result.now ≡ finder.rules = c.deref-2.ensures.value ∙ ap (λ (f : Finder). f.rules) c.self.view_is in
+    edits_told finder c.in_ok-kept.kept c.in_ok-kept.lists c.deref-2.result.now c.edits.result same
+    (subst HaveTemplates (c.deref.ensures.value ∙ sym c.deref-2.ensures.value) (c.have_templates.ensures.0 c.if-not-have_templates.false))
+    c.in_ok-kept.ensures c.edits.ensures.answer
+
+pub returns-clause-fits : goal.returns-clause-fits
+returns-clause-fits g c =
+    IfOk-weaker c.edits.result (λ edits. EditsFit c.in_ok-kept.kept.workspace edits) (λ edits. EditsFit c.args.self.now.workspace edits)
+    (λ edits fit. subst (λ (w : Workspace). EditsFit w edits) c.in_ok-kept.ensures.workspace fit) c.edits.ensures.fits

@@ -1,0 +1,14 @@
+pub mod Finder
+pub mod FinderCode
+pub mod Making
+pub mod Adding
+pub mod Searching
+pub mod Edits
+pub mod Matches
+pub mod Comments
+pub mod Starts
+pub mod Parts
+pub mod Nesting
+pub mod BindsOnce
+pub mod Laws
+pub mod Private

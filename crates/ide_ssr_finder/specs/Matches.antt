@@ -1,0 +1,47 @@
+-- What the calls of nested matches answer.
+use Rattle.std.specs.Prelude.{ℕ, List, string_bytes}
+use Rattle.ssr_base.specs.declared.ids.FileRange.{FileRange}
+use Rattle.ssr_base.specs.declared.ids.NodeId.{NodeId}
+use Rattle.ssr_base.specs.Workspace.{FileSpan, file_span_of}
+use Rattle.ide_ssr_finder.specs.declared.matches.Match.{Match, out-Match}
+use Rattle.ide_ssr_finder.specs.declared.matches.PlaceholderMatch.{PlaceholderMatch, out-PlaceholderMatch}
+
+-- the text of a match
+abbrev pub text_of : Match → List ℕ
+text_of m = (out-Match m).text.now
+
+-- where it comes from
+abbrev pub range_of : Match → FileRange
+range_of m = (out-Match m).range
+
+-- its node
+abbrev pub node_of : Match → NodeId
+node_of m = (out-Match m).node
+
+-- the place of its rule
+abbrev pub rule_of : Match → ℕ
+rule_of m = (out-Match m).rule_index
+
+-- its placeholders
+abbrev pub placeholders_of : Match → List PlaceholderMatch
+placeholders_of m = (out-Match m).placeholders.items
+
+-- the name of a placeholder
+abbrev pub name_of : PlaceholderMatch → List ℕ
+name_of p = string_bytes (out-PlaceholderMatch p).var.0
+
+-- where what it holds comes from
+abbrev pub place_of : PlaceholderMatch → FileRange
+place_of p = (out-PlaceholderMatch p).range
+
+-- the same, as bytes of a file
+abbrev pub span_of : PlaceholderMatch → FileSpan
+span_of p = file_span_of (place_of p)
+
+-- the matches in it
+abbrev pub inner_of : PlaceholderMatch → List Match
+inner_of p = (out-PlaceholderMatch p).inner.items
+
+-- where its comments stand
+abbrev pub comments_of : Match → List FileRange
+comments_of m = (out-Match m).comments.items

@@ -1,0 +1,39 @@
+//! Where the comments stand that a match keeps.
+
+ghost use Rattle.std.specs.Prelude.{◌≡◌, All, IfOk, map};
+ghost use Rattle.ssr_base.specs.Laws.{LiesInFile};
+ghost use Rattle.ssr_base.specs.Workspace.{file_span_of, trees};
+ghost use Rattle.ide_ssr_matching.specs.Found.{IsMatch};
+ghost use Rattle.ide_ssr_finder.specs.Comments.{comment_spans};
+
+use ide_ssr_matching::Found;
+use ide_ssr_rewriting::kept_comments;
+use ssr_base::{FileId, FileRange, NodeId, Workspace};
+use std::alloc::{AllocError, Global};
+
+/// Where the comments stand that a match keeps: in its file, if it is none in what a macro call stands for.
+pub(crate) fn comment_ranges(
+    alloc: Global,
+    workspace: &Workspace,
+    m: &Found,
+) -> Result<Vec<FileRange>, AllocError>
+    requires { IsMatch (trees workspace.now) m.now }
+    ensures ranges { IfOk result (λ ranges. map file_span_of ranges.items ≡ comment_spans workspace.now m.now) }
+    ensures in_file { IfOk result (λ ranges. All (λ range. LiesInFile workspace.now (file_span_of range)) ranges.items) }
+{
+    let mut ranges = Vec::new(alloc);
+    let NodeId { tree: file, node } = m.node();
+    if file >= workspace.file_count() {
+        return Ok(ranges);
+    }
+    let Some(tree) = workspace.tree(file) else {
+        return Ok(ranges);
+    };
+    for comment in &kept_comments(alloc, tree, node, m.bindings())? {
+        ranges.push(FileRange {
+            file_id: FileId(file),
+            range: tree.token_range(*comment),
+        })?;
+    }
+    Ok(ranges)
+}

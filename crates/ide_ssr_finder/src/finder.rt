@@ -1,0 +1,213 @@
+//! The finder: a workspace, rules, and what the search for them is made for.
+
+ghost use Rattle.std.specs.Prelude.{◌≡◌, ◌↔◌, [], IfOk, IsTrue, OnErr};
+ghost use Rattle.ide_ssr_rules.specs.Resolving.{resolved_kinds};
+ghost use Rattle.ide_ssr_rewriting.specs.Edits.{EditsFit};
+ghost use Rattle.ide_ssr_nesting.specs.Holding.{IsKept};
+ghost use Rattle.ide_ssr_search.specs.Making.{Makes, MakesFirst};
+ghost use Rattle.ide_ssr_finder.specs.Adding.{Adds};
+ghost use Rattle.ide_ssr_finder.specs.BindsOnce.{BindOnce};
+ghost use Rattle.ide_ssr_finder.specs.Edits.{Edits, HaveTemplates};
+ghost use Rattle.ide_ssr_finder.specs.Making.{MakesFinder, TellsRefusal, words_of};
+ghost use Rattle.ide_ssr_finder.specs.Nesting.{ShowKept};
+ghost use Rattle.ide_ssr_finder.specs.Searching.{IsOutcome};
+
+use crate::matches::SsrMatches;
+use crate::nesting::nested_matches;
+use ide_ssr_nesting::{KeptMatches, Lists, keep};
+use ide_ssr_rewriting::{EditError, edits};
+use ide_ssr_rules::{ResolvedRule, SsrError, SsrPattern, SsrRule};
+use ide_ssr_search::{Context, ContextError, find_matches};
+use ssr_base::{FileId, FilePosition, FileRange, Semantics, TextEdit, Workspace};
+use std::alloc::{AllocError, Global};
+use std::collections::BTreeMap;
+use std::marker::Model;
+
+/// Finds what matches rules in a workspace, and rewrites it.
+#[derive(Drop)]
+pub struct MatchFinder<'a, S: Semantics> {
+    alloc: Global,
+    workspace: &'a Workspace,
+    semantics: &'a S,
+    context: Context,
+    rules: Vec<ResolvedRule>,
+}
+
+impl<'a, S: Semantics> Model for MatchFinder<'a, S> {
+    ghost use Rattle.std.specs.Prelude.{All};
+    ghost use Rattle.ide_ssr_rules.specs.Patterns.{HasEachOnce};
+    ghost use Rattle.ide_ssr_finder.specs.Finder.{Finder};
+    ghost use Rattle.ide_ssr_finder.specs.FinderCode.{finder_code};
+
+    ghost Value = { Finder };
+
+    ghost coded = { finder_code };
+
+    ghost view = { λ finder. record { workspace = finder.workspace.now; context = finder.context; rules = finder.rules.items } };
+
+    ghost invariant = { λ finder. All (λ rule. HasEachOnce rule.names rule.pattern) finder.rules.items };
+}
+
+/// The words that tell why there is nothing to make a search for.
+fn words(refusal: ContextError) -> &'static str
+    ensures { result.now ≡ words_of refusal }
+{
+    match refusal {
+        ContextError::NoSuchFile => "No such file",
+        ContextError::NoSuchPosition => "No such position",
+        ContextError::NoScope => "no resolution scope for file",
+        ContextError::NoFiles => "No files to search",
+        ContextError::Memory => "out of memory",
+    }
+}
+
+/// The error that tells it.
+fn told(alloc: Global, refusal: ContextError) -> SsrError
+    ensures { TellsRefusal result refusal }
+{
+    if let ContextError::Memory = refusal {
+        return SsrError::Memory;
+    }
+    match String::from_str(alloc, words(refusal)) {
+        Ok(message) => SsrError::Message(message),
+        Err(AllocError) => SsrError::Memory,
+    }
+}
+
+/// Whether each rule has a template.
+fn have_templates(rules: &[ResolvedRule]) -> bool
+    ensures { IsTrue result ↔ HaveTemplates rules.now }
+{
+    for rule in rules {
+        if rule.template().is_none() {
+            return false;
+        }
+    }
+    true
+}
+
+/// That kept matches are held as they have to be stands in the contract of their methods: this calls one for that alone.
+fn are_held(kept: &KeptMatches<'_>)
+    ensures { IsKept kept.now }
+{
+    kept.len();
+}
+
+impl<'a, S: Semantics> MatchFinder<'a, S> {
+    /// A finder without rules. The names of its rules are looked up where the node of a position stands; without
+    /// restrictions that have a byte it searches all files, else what lies in one of them. Refused, by the first of these
+    /// that holds: `No such file` of the position, `No such position`, which is past the end of the file, `No such file` of a
+    /// restriction that has a byte, and `no resolution scope for file`, where the position's node stands in no scope.
+    pub fn in_context(
+        alloc: Global,
+        workspace: &'a Workspace,
+        semantics: &'a S,
+        position: FilePosition,
+        restrictions: Vec<FileRange>,
+    ) -> Result<MatchFinder<'a, S>, SsrError>
+        ensures { MakesFinder workspace.now (Makes workspace.now (S.meanings semantics.now) position restrictions.items) result }
+    {
+        match Context::at(alloc, workspace, semantics, position, restrictions) {
+            Ok(context) => Ok(MatchFinder::with(alloc, workspace, semantics, context)),
+            Err(refusal) => Err(told(alloc, refusal)),
+        }
+    }
+
+    /// The same in front of the first file, without restrictions. Where there is no file: `No files to search`.
+    pub fn at_first_file(
+        alloc: Global,
+        workspace: &'a Workspace,
+        semantics: &'a S,
+    ) -> Result<MatchFinder<'a, S>, SsrError>
+        ensures { MakesFinder workspace.now (MakesFirst workspace.now (S.meanings semantics.now)) result }
+    {
+        match Context::at_first_file(alloc, workspace, semantics) {
+            Ok(context) => Ok(MatchFinder::with(alloc, workspace, semantics, context)),
+            Err(refusal) => Err(told(alloc, refusal)),
+        }
+    }
+
+    /// A finder without rules.
+    fn with(
+        alloc: Global,
+        workspace: &'a Workspace,
+        semantics: &'a S,
+        context: Context,
+    ) -> MatchFinder<'a, S>
+        ensures { result ≡ record { workspace = workspace.now; context = context; rules = [] } }
+    {
+        MatchFinder {
+            alloc,
+            workspace,
+            semantics,
+            context,
+            rules: Vec::new(alloc),
+        }
+    }
+
+    /// Adds all kinds of a rule, in their order. A refused rule, or one that there is no memory for, leaves the
+    /// finder as it was.
+    pub fn add_rule(&mut self, rule: SsrRule) -> Result<(), SsrError>
+        ensures answer { Adds self.old self.new (resolved_kinds rule.names rule.kinds) result }
+        ensures unchanged { OnErr result (self.new ≡ self.old) }
+    {
+        let mut kinds = rule.resolve(self.alloc)?;
+        self.rules.append(&mut kinds)?;
+        Ok(())
+    }
+
+    /// Adds all kinds of a search pattern likewise. They have no template: a finder that has one has no edits.
+    pub fn add_search_pattern(&mut self, pattern: SsrPattern) -> Result<(), SsrError>
+        ensures answer { Adds self.old self.new (resolved_kinds pattern.names pattern.kinds) result }
+        ensures unchanged { OnErr result (self.new ≡ self.old) }
+    {
+        let mut kinds = pattern.resolve(self.alloc)?;
+        self.rules.append(&mut kinds)?;
+        Ok(())
+    }
+
+    /// The edits of the files by their numbers, of those in which something matches: each outermost kept match becomes its
+    /// rule's template with what its placeholders hold, in which the matches are rewritten likewise. `NoTemplate` where a
+    /// rule has none, whether it matches or not; else `Clash` where two matches of one list share a byte, and their ranges
+    /// or what stands for them differ: the first two.
+    pub fn edits(&self) -> Result<BTreeMap<FileId, TextEdit>, EditError>
+        ensures answer { Edits self.now result }
+        ensures fits { IfOk result (λ edits. EditsFit self.now.workspace edits) }
+    {
+        if !have_templates(&self.rules) {
+            return Err(EditError::NoTemplate);
+        }
+        let (kept, lists) = self.outcome()?;
+        edits(self.alloc, &kept, &lists, &self.rules)
+    }
+
+    /// The kept matches as `edits` replaces them: the outermost ones, each with what its placeholders hold. A match has each
+    /// placeholder of its rule once, and their ranges share no byte.
+    pub fn matches(&self) -> Result<SsrMatches<'a>, AllocError>
+        ensures shows { IfOk result (λ found. ShowKept self.now found.matches.items) }
+        ensures binds { IfOk result (λ found. BindOnce self.now.rules found.matches.items) }
+    {
+        self.scan_matches()
+    }
+
+    /// The same list, always found by trying every node at which a rule is permitted.
+    pub fn scan_matches(&self) -> Result<SsrMatches<'a>, AllocError>
+        ensures shows { IfOk result (λ found. ShowKept self.now found.matches.items) }
+        ensures binds { IfOk result (λ found. BindOnce self.now.rules found.matches.items) }
+    {
+        let (kept, lists) = self.outcome()?;
+        let matches = nested_matches(self.alloc, &kept, &lists, &self.rules)?;
+        Ok(SsrMatches { matches })
+    }
+
+    /// The kept ones among the matches of all rules, and their lists.
+    fn outcome(&self) -> Result<(KeptMatches<'a>, Lists), AllocError>
+        ensures { IfOk result (λ outcome. IsOutcome self.now outcome.0 outcome.1) }
+    {
+        let found = find_matches(self.alloc, self.workspace, &self.context, &self.rules)?;
+        let kept = keep(self.alloc, self.workspace, found)?;
+        are_held(&kept);
+        let lists = Lists::new(self.alloc, &kept)?;
+        Ok((kept, lists))
+    }
+}

@@ -1,0 +1,16 @@
+//! Structural search and replace.
+#![tactic(auto)]
+
+mod comments;
+mod finder;
+pub mod laws;
+mod made;
+mod matches;
+mod nesting;
+mod parts;
+mod starts;
+
+pub use finder::MatchFinder;
+pub use ide_ssr_rewriting::EditError;
+pub use ide_ssr_rules::{SsrError, SsrPattern, SsrRule, Var};
+pub use matches::{Match, PlaceholderMatch, SsrMatches};

@@ -1,0 +1,152 @@
+//! What a caller sees of kept matches: those in no other one, with the others nested in their placeholders.
+
+ghost use Rattle.std.specs.Prelude.{◌≡◌, IfOk, string_bytes};
+ghost use Rattle.ide_ssr_finder.specs.Matches.{text_of, range_of, node_of, rule_of, placeholders_of, name_of, place_of, inner_of, comments_of};
+
+use ide_ssr_rules::Var;
+use ssr_base::{FileRange, NodeId};
+use std::alloc::{AllocError, Global};
+
+/// The matches of a search: those that stand in no placeholder of another one, by file, start and end, rule, tree and node. The
+/// others stand below them.
+pub struct SsrMatches<'a> {
+    pub matches: Vec<Match<'a>>,
+}
+
+/// Moves the matches in the placeholders to those that are left.
+fn leave_inner<'a>(placeholders: Vec<PlaceholderMatch<'a>>, left: &mut Vec<Match<'a>>) {
+    for placeholder in placeholders {
+        let PlaceholderMatch {
+            var: _,
+            range: _,
+            mut inner,
+        } = placeholder;
+        // Where there is no memory for them they are dropped here, level by level on the stack. One alone always
+        // has the place of the match that held it.
+        let _ = left.append(&mut inner);
+    }
+}
+
+/// Drops the matches one by one, and those in them.
+fn drop_nested(matches: Vec<Match<'_>>) {
+    let mut left = matches;
+    // There are no more than memory holds.
+    for _ in 0..u64::MAX {
+        let Some(m) = left.pop() else {
+            return;
+        };
+        let Match {
+            text: _,
+            range: _,
+            node: _,
+            rule_index: _,
+            placeholders,
+            comments: _,
+        } = m;
+        leave_inner(placeholders, &mut left);
+    }
+}
+
+impl Drop for SsrMatches<'_> {
+    /// A loop: matches nest as deep as the tree times the number of rules, which can be more than the stack holds.
+    fn drop(self) {
+        let SsrMatches { matches } = self;
+        drop_nested(matches);
+    }
+}
+
+/// A match of a rule.
+#[cycle(nested)]
+#[derive(Drop)]
+pub struct Match<'a> {
+    pub(crate) text: &'a str,
+    pub(crate) range: FileRange,
+    pub(crate) node: NodeId,
+    pub(crate) rule_index: usize,
+    pub(crate) placeholders: Vec<PlaceholderMatch<'a>>,
+    pub(crate) comments: Vec<FileRange>,
+}
+
+/// What a placeholder holds, and the matches in it.
+#[cycle(nested)]
+#[derive(Drop)]
+pub struct PlaceholderMatch<'a> {
+    pub(crate) var: Var,
+    pub(crate) range: FileRange,
+    pub(crate) inner: Vec<Match<'a>>,
+}
+
+impl<'a> Match<'a> {
+    /// The text of the node that matches, as a string of its own.
+    pub fn matched_text(&self, alloc: Global) -> Result<String, AllocError>
+        ensures { IfOk result (λ text. string_bytes text ≡ text_of self.now) }
+    {
+        String::from_str(alloc, self.text)
+    }
+
+    /// The text of the node that matches, in the source of its tree.
+    pub fn matched_str(&self) -> &'a str
+        ensures { result.now ≡ text_of self.now }
+    {
+        self.text
+    }
+
+    /// The bytes of a file that match: of a match in what a macro call stands for, those that its tokens come from, and what
+    /// lies between them.
+    pub fn range(&self) -> FileRange
+        ensures { result ≡ range_of self.now }
+    {
+        self.range
+    }
+
+    /// The node that matches.
+    pub fn node(&self) -> NodeId
+        ensures { result ≡ node_of self.now }
+    {
+        self.node
+    }
+
+    /// The place of the rule among the rules of the search.
+    pub fn rule_index(&self) -> usize
+        ensures { result ≡ rule_of self.now }
+    {
+        self.rule_index
+    }
+
+    /// What the placeholders hold, by where it begins in its file.
+    pub fn placeholders(&self) -> &[PlaceholderMatch<'a>]
+        ensures { result.now ≡ placeholders_of self.now }
+    {
+        &self.placeholders
+    }
+
+    /// Where the comments stand that the match keeps: those below its node that no placeholder holds, in order.
+    pub fn comments(&self) -> &[FileRange]
+        ensures { result.now ≡ comments_of self.now }
+    {
+        &self.comments
+    }
+}
+
+impl<'a> PlaceholderMatch<'a> {
+    /// The placeholder.
+    pub fn var(&self) -> &Var
+        ensures { string_bytes result.now.0 ≡ name_of self.now }
+    {
+        &self.var
+    }
+
+    /// The bytes of a file that what it holds comes from.
+    pub fn range(&self) -> FileRange
+        ensures { result ≡ place_of self.now }
+    {
+        self.range
+    }
+
+    /// The matches in it that stand in no placeholder of another one in it, in the same order.
+    pub fn inner(&self) -> &[Match<'a>]
+        ensures { result.now ≡ inner_of self.now }
+    {
+        &self.inner
+    }
+}

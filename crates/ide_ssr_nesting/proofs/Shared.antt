@@ -1,0 +1,13 @@
+-- The lemmas that the crates above may cite. The other files of lemmas here are this crate's own.
+
+-- the order of nodes, and of matches over one another
+pub use Rattle.ide_ssr_nesting.proofs.Above.{below_is_between}
+pub use Rattle.ide_ssr_nesting.proofs.Compared.{LieInOneTree, in_one_tree}
+pub use Rattle.ide_ssr_nesting.proofs.Over.{one_way, over_before, not_over_itself}
+-- the kept matches, and what holds them
+pub use Rattle.ide_ssr_nesting.proofs.OneKept.{one_kept, lies_in_one}
+pub use Rattle.ide_ssr_nesting.proofs.OneHolding.{held_behind, one_holding}
+-- their lists
+pub use Rattle.ide_ssr_nesting.proofs.InLists.{lists_what_is_held, lists_in_order, lists_each_once, one_listing}
+-- elements by their places
+pub use Rattle.ide_ssr_nesting.proofs.Elements.{pairs_at, contains_at, pairs_head, pairs_tail}

@@ -1,0 +1,6 @@
+-- The lemmas that the crates above may cite. The other files of lemmas here are this crate's own.
+
+-- what is found are matches, and it is one list
+pub use Rattle.ide_ssr_search.proofs.Matched.{are_matches, one_list}
+-- what a search is made for is one
+pub use Rattle.ide_ssr_search.proofs.Contexts.{one_context}

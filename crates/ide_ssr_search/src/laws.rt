@@ -1,0 +1,21 @@
+//! What holds of searches, whatever the code: each function here does nothing, and what it ensures is a law.
+ghost use Rattle.std.specs.Prelude.{◌≡◌, List};
+ghost use Rattle.ssr_base.specs.declared.ids.FilePosition.{FilePosition};
+ghost use Rattle.ssr_base.specs.declared.ids.FileRange.{FileRange};
+ghost use Rattle.ssr_base.specs.Meanings.{Meanings};
+ghost use Rattle.ssr_base.specs.Workspace.{Workspace as WorkspaceValue};
+ghost use Rattle.ide_ssr_rules.specs.Resolving.{ResolvedKind};
+ghost use Rattle.ide_ssr_matching.specs.Found.{Found as FoundMatch};
+ghost use Rattle.ide_ssr_search.specs.Context.{Context as ContextValue};
+ghost use Rattle.ide_ssr_search.specs.Making.{IsContext};
+ghost use Rattle.ide_ssr_search.specs.Found.{AreFound};
+
+/// What is found in a workspace is one list.
+pub fn searching()
+    ensures one { (w : WorkspaceValue) (context : ContextValue) (rules : List ResolvedKind) (found again : List FoundMatch) → AreFound w context rules found → AreFound w context rules again → found ≡ again }
+{}
+
+/// At a position, and for the same restrictions, a search is made for one thing.
+pub fn making()
+    ensures one { (w : WorkspaceValue) (m : Meanings) (position : FilePosition) (restrictions : List FileRange) (c d : ContextValue) → IsContext w m position restrictions c → IsContext w m position restrictions d → c ≡ d }
+{}
