@@ -1,192 +1,251 @@
--- Nested matches bind each placeholder once, and those of one list come one behind another.
-use Rattle.std.proofs.Common.{◌≡◌, ℕ, ◌+◌, Bool, true, false, if◌then◌else◌, List, [], ◌∷◌, ◌++◌, map, filter, length, get_or, All, AllPairs, Option, Some, None, refl, sym, ◌∙◌, ap, subst, arith, append_assoc, length-append}
-use Rattle.std.specs.Prelude.{slice_get, Contains}
-use Rattle.std.specs.List.{range_with_len}
-use Rattle.std.proofs.lemmas.List.Elements.{All-nil, All-cons, All-head, All-tail, All-append, All-weaker, All-contains, All-get_or, filter_passes}
-use Rattle.std.proofs.lemmas.List.Kept.{AllPairs-cons, AllPairs-filter}
-use Rattle.std.proofs.lemmas.Option.{get_or_from_slice_get, slice_get_within}
-use Rattle.ssr_syntax_tree.specs.Syntax.{Syntax}
-use Rattle.ide_ssr_rules.specs.Patterns.{HasEachOnce}
+-- Nested matches bind each placeholder once, to ranges that share no byte.
+use Rattle.std.proofs.Common.{◌≡◌, ◌≢◌, ℕ, zero, suc, ◌+◌, ◌<◌, true, List, [], ◌∷◌, ◌++◌, inl, inr, map, length, get_or, slice_get, All, AllPairs, Contains, Option, Some, refl, sym, ◌∙◌, ap, subst, arith}
+use Rattle.std.specs.Prelude.{bytes_eq}
+use Rattle.std.specs.List.{range_with_len, list_any}
+use Rattle.std.specs.Option.{option_map_or}
+use Rattle.std.proofs.lemmas.Bool.{cases_order, false≢true, or_left, or_right}
+use Rattle.std.proofs.lemmas.List.{get_or-map, length-map, get_or_default}
+use Rattle.std.proofs.lemmas.List.Elements.{All-nil, All-cons, All-weaker, All-contains, Contains-get_or, Contains-push, Contains-append_left}
+use Rattle.std.proofs.lemmas.List.FromFn.{length-range_with_len, get_or-range_with_len}
+use Rattle.std.proofs.lemmas.List.Kept.{AllPairs-cons}
+use Rattle.std.proofs.lemmas.Option.{slice_get-get_or}
+use Rattle.std.proofs.lemmas.Slice.Eq.{bytes_eq-Decides}
+use Rattle.ssr_syntax_tree.proofs.Lists.{all_at, pairs_at}
+use Rattle.ssr_base.specs.Workspace.{Workspace, trees}
+use Rattle.ide_ssr_rules.specs.Elements.{has}
 use Rattle.ide_ssr_rules.specs.Resolving.{ResolvedKind}
+use Rattle.ide_ssr_rules.specs.Uses.{AreNew}
 use Rattle.ide_ssr_matching.specs.declared.bindings.Binding.{Binding}
-use Rattle.ide_ssr.specs.declared.holders.Holder.{Holder}
+use Rattle.ide_ssr_matching.specs.Found.{Found, AreDisjoint, ShareNoByte, IsMatch, held_node}
+use Rattle.ide_ssr_matching.proofs.Shared.{placeholders_bound}
+use Rattle.ide_ssr_nesting.specs.Holding.{Kept, IsKept}
+use Rattle.ide_ssr_nesting.specs.Lists.{Listing, listed}
 use Rattle.ide_ssr.specs.declared.matches.Match.{Match}
 use Rattle.ide_ssr.specs.declared.matches.PlaceholderMatch.{PlaceholderMatch}
-use Rattle.ide_ssr_matching.specs.Apart.{ComesBefore}
-use Rattle.ide_ssr.specs.BindsOnce.{EndsBefore, HoldsBefore, BindsOnce, IsListIn, AreApart, BindOnce}
-use Rattle.ide_ssr.specs.BindsOnce as once
-use Rattle.ide_ssr.specs.Found.{Found, found_in}
-use Rattle.ide_ssr.specs.Kept.{fits, kept_behind, kept}
-use Rattle.ide_ssr.specs.Lists.{holder_of, outermost, is_listed, listed}
-use Rattle.ide_ssr.specs.Matches.{placeholders_of, name_of, inner_of}
-use Rattle.ide_ssr.specs.Nesting.{placeholder_name, HasParts, HasBinding, Show, Shows, ShowBindings}
+use Rattle.ide_ssr.specs.BindsOnce.{BindsOnce, IsListIn, BindOnce}
+use Rattle.ide_ssr.specs.BindsOnce as bound
+use Rattle.ide_ssr.specs.Matches.{placeholders_of, name_of, span_of, inner_of}
+use Rattle.ide_ssr.specs.Nesting.{Show, Shows, ShowBindings}
 use Rattle.ide_ssr.specs.Nesting as nesting
-use Rattle.ide_ssr.specs.Private.Order.{IsIn, AreHeld}
-use Rattle.ide_ssr_matching.proofs.Shared.{placeholders_bound}
-use Rattle.ide_ssr.proofs.Choices.{pairs_head, pairs_tail}
-use Rattle.ide_ssr.proofs.InOrder.{IsOfRule, found_of_rules}
-use Rattle.ide_ssr.proofs.Ordered.{EndsBeforeIn, listed_apart}
+use Rattle.ide_ssr.specs.Parts.{ComesFrom, placeholder_name}
+use Rattle.ide_ssr.specs.Starts.{AreByStart}
+use Rattle.ide_ssr.proofs.Showing.{order_differ, match_at}
 
--- ** The kept ones are among those that were found.
+-- ** Names that are told apart.
 
-kept_if : (P : Found → Type 0) (b : Bool) (ks : List Found) (m : Found) → All P ks → P m → All P (if b then ks ++ m ∷ [] else ks)
-kept_if P true ks m all h = All-append P ks (m ∷ []) all (All-cons P m [] h (All-nil P))
-kept_if P false ks m all h = all
+has_name : (names : List (List ℕ)) (name : List ℕ) → Contains names name → has names name ≡ true
+has_name [] name at = absurd (let less = at.1 in omega arith)
+has_name (x ∷ names) name (zero, less, is) =
+    or_left (bytes_eq name x) (list_any (bytes_eq name) names) ((bytes_eq-Decides name x).1 (sym is))
+has_name (x ∷ names) name (suc k, less, is) =
+    or_right (bytes_eq name x) (list_any (bytes_eq name) names) (has_name names name (k, omega arith, is))
 
-all_behind : (P : Found → Type 0) (code : Syntax) (ks ms : List Found) → All P ks → All P ms → All P (kept_behind code ks ms)
-all_behind P code ks [] all more = all
-all_behind P code ks (m ∷ ms) all more =
-    all_behind P code (if fits code ks m then ks ++ m ∷ [] else ks) ms
-    (kept_if P (fits code ks m) ks m all (All-head P m ms more)) (All-tail P m ms more)
+new_apart : (before names : List (List ℕ)) → AreNew before names → (name : List ℕ) → Contains before name → Contains names name → ⊥
+new_apart before [] new name old at = let less = at.1 in omega arith
+new_apart before (x ∷ names) new name old (zero, less, is) =
+    false≢true (sym new.0 ∙ has_name before x (subst (Contains before) (sym is) old))
+new_apart before (x ∷ names) new name old (suc k, less, is) =
+    new_apart (before ++ x ∷ []) names new.1 name (Contains-append_left before (x ∷ []) name old) (k, omega arith, is)
 
-kept_of_rules : (rules : List ResolvedKind) (code : Syntax) → All (IsOfRule rules) (kept code (found_in rules code))
-unfolding kept
-kept_of_rules rules code = all_behind (IsOfRule rules) code [] (found_in rules code) (All-nil (IsOfRule rules)) (found_of_rules rules code)
+new_differ : (before names : List (List ℕ)) → AreNew before names → AllPairs (λ one other. one ≢ other) names
+new_differ before [] new = λ i j d less within. absurd (omega arith)
+new_differ before (x ∷ names) new =
+    AllPairs-cons (λ one other. one ≢ other) x names
+    (λ k d less same. new_apart (before ++ x ∷ []) names new.1 x (Contains-push before x) (subst (Contains names) (sym same) (Contains-get_or names k d less)))
+    (new_differ (before ++ x ∷ []) names new.1)
 
--- ** The names of placeholders.
+-- ** Matches of rules.
 
-names_again : (front names : List (List ℕ)) → map (λ i. get_or (front ++ names) i []) (range_with_len (length front) (length names)) ≡ names
-names_again front [] = refl
-names_again front (name ∷ names) =
-    let at : get_or (front ++ name ∷ names) (length front) [] ≡ name = at_end front in
-    let more : length (front ++ name ∷ []) ≡ length front + 1 = length-append front (name ∷ []) in
-    let count = length names in
-    ap (λ n. n ∷ map (λ i. get_or (front ++ name ∷ names) i []) (range_with_len (length front + 1) count)) at
-    ∙ ap (λ ns. name ∷ ns)
-    (ap (λ from. map (λ i. get_or (front ++ name ∷ names) i []) (range_with_len from count)) (sym more)
-    ∙ ap (λ (all : List (List ℕ)). map (λ i. get_or all i []) (range_with_len (length (front ++ name ∷ [])) count)) (sym (append_assoc front (name ∷ []) names))
-    ∙ names_again (front ++ name ∷ []) names)
-  where
-    at_end : (front : List (List ℕ)) → get_or (front ++ name ∷ names) (length front) [] ≡ name
-    at_end [] = refl
-    at_end (x ∷ front) = at_end front
+-- a match binds the placeholders of its rule, in the order of their names
+pub record IsOfRule (rules : List ResolvedKind) (m : Found) : Type 0 where
+  pub rule : ResolvedKind
+  pub is_rule : slice_get rules m.rule ≡ Some rule
+  pub numbered : placeholders_bound m.bindings ≡ range_with_len 0 (length rule.names)
+  pub different : AreNew [] rule.names
 
-names_bound : (rule : ResolvedKind) (bs : List Binding) → map (λ (b : Binding). placeholder_name (Some rule) b.placeholder) bs
-    ≡ map (λ i. get_or rule.names i []) (placeholders_bound bs)
-names_bound rule [] = refl
-names_bound rule (b ∷ bs) = ap (λ ns. get_or rule.names b.placeholder [] ∷ ns) (names_bound rule bs)
+nothing : Binding
+nothing = record { placeholder = 0; node = record { 0 = 0 } }
 
-names_shown : (code : Syntax) (rules : List ResolvedKind) (ks : List Found) (n : ℕ) (rule : Option ResolvedKind) (i : ℕ) (bs : List Binding) (ps : List PlaceholderMatch)
-    → ShowBindings code rules ks n rule i bs ps → map name_of ps ≡ map (λ (b : Binding). placeholder_name rule b.placeholder) bs
-names_shown code rules ks _ _ _ _ _ (nesting.end n rule i) = refl
-names_shown code rules ks _ _ _ _ _ (nesting.bound n rule i b bs p ps has inner rest) =
-    ap (λ name. name ∷ map name_of ps) has.name
-    ∙ ap (λ names. placeholder_name rule b.placeholder ∷ names) (names_shown code rules ks n rule (1 + i) bs ps rest)
+name_of_binding : List ResolvedKind → Found → ℕ → List ℕ
+name_of_binding rules m i =
+    option_map_or (λ (b : Binding). placeholder_name (slice_get rules m.rule) b.placeholder) (slice_get m.bindings i) []
 
--- ** What placeholders hold, one behind another.
+named : (rules : List ResolvedKind) (m : Found) (i : ℕ) (b : Binding) → slice_get m.bindings i ≡ Some b
+    → name_of_binding rules m i ≡ placeholder_name (slice_get rules m.rule) b.placeholder
+unfolding name_of_binding
+named rules m i b is = ap (λ o. option_map_or (λ (b : Binding). placeholder_name (slice_get rules m.rule) b.placeholder) o []) is
 
-behind_shown : (code : Syntax) (rules : List ResolvedKind) (ks : List Found) (n : ℕ) (rule : Option ResolvedKind) (i : ℕ) (bs : List Binding) (ps : List PlaceholderMatch)
-    (first : Binding) (p : PlaceholderMatch) → HasBinding code rule first p → ShowBindings code rules ks n rule i bs ps → All (ComesBefore code first) bs → All (HoldsBefore p) ps
-behind_shown code rules ks _ _ _ _ _ first p is (nesting.end n rule i) all = All-nil (HoldsBefore p)
-behind_shown code rules ks _ _ _ _ _ first p is (nesting.bound n rule i b bs q ps has inner rest) all =
-    All-cons (HoldsBefore p) q ps (omega (arith, is.end, has.start, All-head (ComesBefore code first) b bs all))
-    (behind_shown code rules ks n rule (1 + i) bs ps first p is rest (All-tail (ComesBefore code first) b bs all))
+bindings_counted : (rules : List ResolvedKind) (m : Found) (of : IsOfRule rules m) → length m.bindings ≡ length of.rule.names
+bindings_counted rules m of =
+    sym (length-map m.bindings (λ (b : Binding). b.placeholder)) ∙ ap length of.numbered ∙ length-range_with_len 0 (length of.rule.names)
 
-apart_shown : (code : Syntax) (rules : List ResolvedKind) (ks : List Found) (n : ℕ) (rule : Option ResolvedKind) (i : ℕ) (bs : List Binding) (ps : List PlaceholderMatch)
-    → ShowBindings code rules ks n rule i bs ps → AllPairs (ComesBefore code) bs → AllPairs HoldsBefore ps
-apart_shown code rules ks _ _ _ _ _ (nesting.end n rule i) all = λ i j d lt in_list. absurd (omega arith)
-apart_shown code rules ks _ _ _ _ _ (nesting.bound n rule i b bs p ps has inner rest) all =
-    AllPairs-cons HoldsBefore p ps
-    (behind_shown code rules ks n rule (1 + i) bs ps b p has rest (pairs_head (ComesBefore code) b bs all))
-    (apart_shown code rules ks n rule (1 + i) bs ps rest (pairs_tail (ComesBefore code) b bs all))
+name_is : (rules : List ResolvedKind) (m : Found) (of : IsOfRule rules m) (i : ℕ) → i < length m.bindings → name_of_binding rules m i ≡ get_or of.rule.names i []
+name_is rules m of i less =
+    let b = get_or m.bindings i nothing in
+    let count = bindings_counted rules m of in
+    let number : b.placeholder ≡ i =
+    sym (get_or-map (λ (b : Binding). b.placeholder) m.bindings i nothing 0 less)
+    ∙ ap (λ ns. get_or ns i 0) of.numbered
+    ∙ get_or-range_with_len 0 (length of.rule.names) i 0 (omega arith)
+    ∙ (let same : 0 + i ≡ i = omega arith in same) in
+    named rules m i b (slice_get-get_or m.bindings i nothing less)
+    ∙ ap (λ (rule : Option ResolvedKind). placeholder_name rule b.placeholder) of.is_rule
+    ∙ ap (λ i. get_or of.rule.names i []) number
+
+-- ** The names that are shown.
+
+names_shown : (rules : List ResolvedKind) (kept : Kept) (lists : Listing) (n : ℕ) (m : Found) (order : List ℕ) (ps : List PlaceholderMatch)
+    → ShowBindings rules kept lists n m order ps → map name_of ps ≡ map (name_of_binding rules m) order
+names_shown rules kept lists _ _ _ _ (nesting.end n m) = refl
+names_shown rules kept lists _ _ _ _ (nesting.bound n m i b order p ps is has inner rest) =
+    ap (λ name. name ∷ map name_of ps) (has.name ∙ sym (named rules m i b is))
+    ∙ ap (λ names. name_of_binding rules m i ∷ names) (names_shown rules kept lists n m order ps rest)
+
+module _ (rules : List ResolvedKind) (kept : Kept) (m : Found) (of : IsOfRule rules m) (is_match : IsMatch (trees kept.workspace) m) (order : List ℕ)
+    (by_start : AreByStart kept.workspace m order) where
+  abbrev names : List (List ℕ)
+  names = map (name_of_binding rules m) order
+
+  name_at : (k : ℕ) (d : List ℕ) → k < length order → get_or names k d ≡ get_or of.rule.names (get_or order k 0) []
+  name_at k d less =
+      get_or-map (name_of_binding rules m) order k 0 d less
+      ∙ name_is rules m of (get_or order k 0) ((by_start.each (get_or order k 0)).0 (Contains-get_or order k 0 less))
+
+  in_rule : (k : ℕ) → k < length order → get_or order k 0 < length of.rule.names
+  in_rule k less =
+      let within = (by_start.each (get_or order k 0)).0 (Contains-get_or order k 0 less) in
+      let count = bindings_counted rules m of in
+      omega arith
+
+  shown_in_rule : (name : List ℕ) → Contains names name → Contains of.rule.names name
+  shown_in_rule name at =
+      let less : at.0 < length order = omega (arith, length-map order (name_of_binding rules m), at.1) in
+      let i = get_or order at.0 0 in
+      (i, in_rule at.0 less, get_or_default of.rule.names i name [] (in_rule at.0 less) ∙ sym (name_at at.0 name less) ∙ at.2)
+
+  rule_in_shown : (name : List ℕ) → Contains of.rule.names name → Contains names name
+  rule_in_shown name at =
+      let i = at.0 in
+      let count = bindings_counted rules m of in
+      let place = (by_start.each i).1 (omega (arith, at.1)) in (
+        place.0,
+        omega (arith, length-map order (name_of_binding rules m), place.1),
+        name_at place.0 name place.1
+            ∙ ap (λ i. get_or of.rule.names i []) (get_or_default order place.0 0 i place.1 ∙ place.2)
+            ∙ get_or_default of.rule.names i [] name at.1
+            ∙ at.2,
+      )
+
+  names_differ : AllPairs (λ one other. one ≢ other) names
+  names_differ p q d less within same =
+      let last : q < length order = omega (arith, length-map order (name_of_binding rules m)) in
+      let first : p < length order = omega arith in
+      let i = get_or order p 0 in
+      let j = get_or order q 0 in
+      let apart = new_differ [] of.rule.names of.different in
+      let equal : get_or of.rule.names i [] ≡ get_or of.rule.names j [] = sym (name_at p d first) ∙ same ∙ name_at q d last in
+      elim (cases_order i j) [
+        | inl one ↦ order_differ kept m order is_match by_start p q 0 less last one
+        | inr (inl before) ↦ apart i j [] before (in_rule q last) equal
+        | inr (inr behind) ↦ apart j i [] behind (in_rule p first) (sym equal)
+      ]
+
+-- ** What is shown at each place.
+
+record IsShownAt (w : Workspace) (m : Found) (i : ℕ) (p : PlaceholderMatch) : Type 0 where
+  binding : Binding
+  is : slice_get m.bindings i ≡ Some binding
+  from : ComesFrom w (held_node m.node.tree binding) (span_of p)
+
+shown_at : (rules : List ResolvedKind) (kept : Kept) (lists : Listing) (n : ℕ) (m : Found) (order : List ℕ) (ps : List PlaceholderMatch)
+    → ShowBindings rules kept lists n m order ps → (k : ℕ) (d : PlaceholderMatch) → k < length ps → IsShownAt kept.workspace m (get_or order k 0) (get_or ps k d)
+shown_at rules kept lists _ _ _ _ (nesting.end n m) k d less = absurd (omega arith)
+shown_at rules kept lists _ _ _ _ (nesting.bound n m i b order p ps is has inner rest) zero d less = record { binding = b; is = is; from = has.range }
+shown_at rules kept lists _ _ _ _ (nesting.bound n m i b order p ps is has inner rest) (suc k) d less =
+    shown_at rules kept lists n m order ps rest k d (omega arith)
+
+shown_counted : (rules : List ResolvedKind) (kept : Kept) (lists : Listing) (n : ℕ) (m : Found) (order : List ℕ) (ps : List PlaceholderMatch)
+    → ShowBindings rules kept lists n m order ps → length ps ≡ length order
+shown_counted rules kept lists _ _ _ _ (nesting.end n m) = refl
+shown_counted rules kept lists _ _ _ _ (nesting.bound n m i b order p ps is has inner rest) =
+    let count = shown_counted rules kept lists n m order ps rest in omega arith
+
+apart_in_order : (w : Workspace) (m : Found) → IsMatch (trees w) m → (i j : ℕ) (p q : PlaceholderMatch) → IsShownAt w m i p → IsShownAt w m j q → i < j → AreDisjoint (span_of p) (span_of q)
+apart_in_order w m is_match i j p q one other less =
+    pairs_at (λ b c. ShareNoByte (trees w) (held_node m.node.tree b) (held_node m.node.tree c)) m.bindings i j one.binding other.binding is_match.apart less
+    one.is other.is (span_of p) (span_of q) one.from.original other.from.original
+
+apart_shown : (rules : List ResolvedKind) (kept : Kept) (lists : Listing) (n : ℕ) (m : Found) (order : List ℕ) (ps : List PlaceholderMatch)
+    → IsMatch (trees kept.workspace) m → AreByStart kept.workspace m order → ShowBindings rules kept lists n m order ps → AllPairs (λ p q. AreDisjoint (span_of p) (span_of q)) ps
+apart_shown rules kept lists n m order ps is_match by_start shown p q d less within =
+    let count = shown_counted rules kept lists n m order ps shown in
+    let one = shown_at rules kept lists n m order ps shown p d (omega arith) in
+    let other = shown_at rules kept lists n m order ps shown q d within in
+    elim (cases_order (get_or order p 0) (get_or order q 0)) [
+      | inl same ↦ absurd (order_differ kept m order is_match by_start p q 0 less (omega arith) same)
+      | inr (inl before) ↦ apart_in_order kept.workspace m is_match (get_or order p 0) (get_or order q 0) (get_or ps p d) (get_or ps q d) one other before
+      | inr (inr behind) ↦
+          let h = apart_in_order kept.workspace m is_match (get_or order q 0) (get_or order p 0) (get_or ps q d) (get_or ps p d) other one behind in
+          omega arith
+    ]
 
 -- ** One match.
 
-at_place : {X : Type 0} (P : X → Type 0) (xs : List X) (n : ℕ) (x : X) → All P xs → slice_get xs n ≡ Some x → P x
-at_place P xs n x all is =
-    subst P (get_or_from_slice_get xs n x x is) (All-get_or P xs n x (slice_get_within xs n x is) all)
-
-shown_once : (code : Syntax) (rules : List ResolvedKind) (ks : List Found) (m : Found) (v : Match) → All (λ rule. HasEachOnce rule.names rule.pattern) rules
-    → All (IsOfRule rules) ks → All (IsIn code) ks → Shows code rules ks m v → BindsOnce rules v
-shown_once code rules ks _ _ each of_rules are_in (nesting.at n m v is parts bindings) =
-    let of = at_place (IsOfRule rules) ks n m of_rules is in
-    let rule = of.rule in
-    let has = at_place (λ rule. HasEachOnce rule.names rule.pattern) rules m.rule rule each of.is_rule in
+shown_once : (rules : List ResolvedKind) (kept : Kept) (lists : Listing) (n : ℕ) (v : Match) → All (IsOfRule rules) kept.matches → IsKept kept
+    → Shows rules kept lists n v → BindsOnce rules v
+shown_once rules kept lists _ _ of_rules known (nesting.at n m order v is parts by_start bindings) =
+    let of = all_at (IsOfRule rules) kept.matches n m of_rules is in
+    let is_match = match_at kept n m known is in
+    let shown = names_shown rules kept lists n m order (placeholders_of v) bindings in
     record {
-      rule = rule;
+      rule = of.rule;
       is_rule = ap (slice_get rules) parts.rule ∙ of.is_rule;
-      each =
-          names_shown code rules ks n (slice_get rules m.rule) 0 m.bindings (placeholders_of v) bindings
-          ∙ ap (λ (rule : Option ResolvedKind). map (λ (b : Binding). placeholder_name rule b.placeholder) m.bindings) of.is_rule
-          ∙ names_bound rule m.bindings
-          ∙ ap (map (λ i. get_or rule.names i [])) (of.each ∙ has.nodes)
-          ∙ names_again [] rule.names;
-      different = has.different;
-      apart =
-          apart_shown code rules ks n (slice_get rules m.rule) 0 m.bindings (placeholders_of v) bindings
-          (at_place (IsIn code) ks n m are_in is).apart;
+      each = λ name. (
+        (λ at. shown_in_rule rules kept m of is_match order by_start name (subst (λ names. Contains names name) shown at)),
+        (λ at. subst (λ names. Contains names name) (sym shown) (rule_in_shown rules kept m of is_match order by_start name at)),
+      );
+      different = subst (AllPairs (λ one other. one ≢ other)) (sym shown) (names_differ rules kept m of is_match order by_start);
+      apart = apart_shown rules kept lists n m order (placeholders_of v) is_match by_start bindings;
     }
 
 -- ** The lists of an answer.
 
-show_all : (code : Syntax) (rules : List ResolvedKind) (ks ms : List Found) (vs : List Match) → Show code rules ks ms vs
-    → All (λ v. (m : Found) × Shows code rules ks m v) vs
-show_all code rules ks _ _ nesting.none = All-nil (λ v. (m : Found) × Shows code rules ks m v)
-show_all code rules ks _ _ (nesting.next m ms v vs first rest) =
-    All-cons (λ v. (m : Found) × Shows code rules ks m v) v vs (m, first) (show_all code rules ks ms vs rest)
+abbrev IsOne : List ResolvedKind → Kept → Listing → Match → Type 0
+IsOne rules kept lists v = (n : ℕ) × Shows rules kept lists n v
 
--- the kept ones that are listed somewhere
-abbrev IsShown : Syntax → List ResolvedKind → List Found → List Match → Type 0
-IsShown code rules ks vs = (holder : Option Holder) × Show code rules ks (listed code ks holder) vs
+show_all : (rules : List ResolvedKind) (kept : Kept) (lists : Listing) (ns : List ℕ) (vs : List Match) → Show rules kept lists ns vs → All (IsOne rules kept lists) vs
+show_all rules kept lists _ _ nesting.none = All-nil (IsOne rules kept lists)
+show_all rules kept lists _ _ (nesting.next n ns v vs first rest) =
+    All-cons (IsOne rules kept lists) v vs (n, first) (show_all rules kept lists ns vs rest)
 
-inner_all : (code : Syntax) (rules : List ResolvedKind) (ks : List Found) (n : ℕ) (rule : Option ResolvedKind) (i : ℕ) (bs : List Binding) (ps : List PlaceholderMatch)
-    → ShowBindings code rules ks n rule i bs ps → All (λ p. IsShown code rules ks (inner_of p)) ps
-inner_all code rules ks _ _ _ _ _ (nesting.end n rule i) = All-nil (λ p. IsShown code rules ks (inner_of p))
-inner_all code rules ks _ _ _ _ _ (nesting.bound n rule i b bs p ps has inner rest) =
-    All-cons (λ p. IsShown code rules ks (inner_of p)) p ps (Some (record { place = n; binding = i }), inner)
-    (inner_all code rules ks n rule (1 + i) bs ps rest)
+-- kept ones that are listed somewhere
+abbrev IsShown : List ResolvedKind → Kept → Listing → List Match → Type 0
+IsShown rules kept lists vs = (ns : List ℕ) × Show rules kept lists ns vs
 
-inner_shown : (code : Syntax) (rules : List ResolvedKind) (ks : List Found) (m : Found) (v : Match) (p : PlaceholderMatch) → Shows code rules ks m v
-    → Contains (placeholders_of v) p → IsShown code rules ks (inner_of p)
-inner_shown code rules ks _ _ p (nesting.at n m v is parts bindings) has =
-    All-contains (λ p. IsShown code rules ks (inner_of p)) (placeholders_of v) p
-    (inner_all code rules ks n (slice_get rules m.rule) 0 m.bindings (placeholders_of v) bindings) has
+inner_all : (rules : List ResolvedKind) (kept : Kept) (lists : Listing) (n : ℕ) (m : Found) (order : List ℕ) (ps : List PlaceholderMatch)
+    → ShowBindings rules kept lists n m order ps → All (λ p. IsShown rules kept lists (inner_of p)) ps
+inner_all rules kept lists _ _ _ _ (nesting.end n m) = All-nil (λ p. IsShown rules kept lists (inner_of p))
+inner_all rules kept lists _ _ _ _ (nesting.bound n m i b order p ps is has inner rest) =
+    All-cons (λ p. IsShown rules kept lists (inner_of p)) p ps (listed lists (Some (record { place = n; binding = i })), inner)
+    (inner_all rules kept lists n m order ps rest)
 
-list_shown : (code : Syntax) (rules : List ResolvedKind) (ks : List Found) (answer vs : List Match) → Show code rules ks (outermost code ks) answer
-    → IsListIn answer vs → IsShown code rules ks vs
-list_shown code rules ks answer _ show once.own = (None, show)
-list_shown code rules ks answer _ show (once.inner vs v p is has held) =
-    let list = list_shown code rules ks answer vs show is in
-    let one = All-contains (λ v. (m : Found) × Shows code rules ks m v) vs v (show_all code rules ks (listed code ks list.0) vs list.1) has in
-    inner_shown code rules ks one.0 v p one.1 held
+inner_shown : (rules : List ResolvedKind) (kept : Kept) (lists : Listing) (n : ℕ) (v : Match) (p : PlaceholderMatch) → Shows rules kept lists n v
+    → Contains (placeholders_of v) p → IsShown rules kept lists (inner_of p)
+inner_shown rules kept lists _ _ p (nesting.at n m order v is parts by_start bindings) at =
+    All-contains (λ p. IsShown rules kept lists (inner_of p)) (placeholders_of v) p
+    (inner_all rules kept lists n m order (placeholders_of v) bindings) at
 
--- ** The matches of one list.
+list_shown : (rules : List ResolvedKind) (kept : Kept) (lists : Listing) (ns : List ℕ) (answer vs : List Match) → Show rules kept lists ns answer
+    → IsListIn answer vs → IsShown rules kept lists vs
+list_shown rules kept lists ns answer _ show bound.own = (ns, show)
+list_shown rules kept lists ns answer _ show (bound.inner vs v p is at held) =
+    let list = list_shown rules kept lists ns answer vs show is in
+    let one = All-contains (IsOne rules kept lists) vs v (show_all rules kept lists list.0 vs list.1) at in
+    inner_shown rules kept lists one.0 v p one.1 held
 
-passing : {X : Type 0} (R : X → X → Type 0) (P : X → Type 0) (xs : List X) → All P xs → AllPairs (λ x y. P x → P y → R x y) xs → AllPairs R xs
-passing R P xs all pairs = λ i j d lt in_list. pairs i j d lt in_list (all i d (omega arith)) (all j d in_list)
-
-ends_shown : (code : Syntax) (rules : List ResolvedKind) (ks ms : List Found) (vs : List Match) (k : Found) (v : Match) → HasParts code k v
-    → Show code rules ks ms vs → All (EndsBeforeIn code k) ms → All (EndsBefore v) vs
-ends_shown code rules ks _ _ k v is nesting.none all = All-nil (EndsBefore v)
-ends_shown code rules ks _ _ k v is (nesting.next m ms w ws (nesting.at n _ _ at parts bindings) rest) all =
-    All-cons (EndsBefore v) w ws (omega (arith, is.end, parts.start, All-head (EndsBeforeIn code k) m ms all))
-    (ends_shown code rules ks ms ws k v is rest (All-tail (EndsBeforeIn code k) m ms all))
-
-pairs_shown : (code : Syntax) (rules : List ResolvedKind) (ks ms : List Found) (vs : List Match) → Show code rules ks ms vs
-    → AllPairs (EndsBeforeIn code) ms → AllPairs EndsBefore vs
-pairs_shown code rules ks _ _ nesting.none all = λ i j d lt in_list. absurd (omega arith)
-pairs_shown code rules ks _ _ (nesting.next m ms v vs (nesting.at n _ _ at parts bindings) rest) all =
-    AllPairs-cons EndsBefore v vs
-    (ends_shown code rules ks ms vs m v parts rest (pairs_head (EndsBeforeIn code) m ms all))
-    (pairs_shown code rules ks ms vs rest (pairs_tail (EndsBeforeIn code) m ms all))
-
--- ** Answers.
-
-pub answer_apart : (code : Syntax) (rules : List ResolvedKind) (ks : List Found) (holders : List (Option Holder)) (answer : List Match) → AreHeld code ks holders
-    → Show code rules ks (outermost code ks) answer → AreApart answer
-answer_apart code rules ks holders answer held show vs is =
-    let list = list_shown code rules ks answer vs show is in
-    let test : Found → Bool = λ m. is_listed list.0 (holder_of code ks m) in
-    pairs_shown code rules ks (listed code ks list.0) vs list.1
-    (passing (EndsBeforeIn code) (λ m. test m ≡ true) (filter test ks) (filter_passes test ks)
-    (AllPairs-filter (λ k m. test k ≡ true → test m ≡ true → EndsBeforeIn code k m) test ks (listed_apart code ks holders held list.0)))
-
-pub answer_once : (code : Syntax) (rules : List ResolvedKind) (ks : List Found) (holders : List (Option Holder)) (answer : List Match)
-    → All (λ rule. HasEachOnce rule.names rule.pattern) rules → ks ≡ kept code (found_in rules code) → AreHeld code ks holders
-    → Show code rules ks (outermost code ks) answer → BindOnce rules answer
-answer_once code rules ks holders answer each are held show vs is =
-    let list = list_shown code rules ks answer vs show is in
-    let of_rules : All (IsOfRule rules) ks = subst (All (IsOfRule rules)) (sym are) (kept_of_rules rules code) in
-    All-weaker (λ v. (m : Found) × Shows code rules ks m v) (BindsOnce rules)
-    (λ v shown. shown_once code rules ks shown.0 v each of_rules held.ordered.are_in shown.1)
-    vs (show_all code rules ks (listed code ks list.0) vs list.1)
+pub answer_once : (rules : List ResolvedKind) (kept : Kept) (lists : Listing) (ns : List ℕ) (answer : List Match) → All (IsOfRule rules) kept.matches → IsKept kept
+    → Show rules kept lists ns answer → BindOnce rules answer
+answer_once rules kept lists ns answer of_rules known show vs is =
+    let list = list_shown rules kept lists ns answer vs show is in
+    All-weaker (IsOne rules kept lists) (BindsOnce rules) (λ v one. shown_once rules kept lists one.0 v of_rules known one.1)
+    vs (show_all rules kept lists list.0 vs list.1)

@@ -1,18 +1,11 @@
-pub mod Fits
-pub mod Nearest
-pub mod Places
-pub mod Rewrites
-pub mod Runs
-pub mod Tests
-pub mod Waiting
-pub mod Ordered
-pub mod Finding
-pub mod InOrder
-pub mod UseItems
-pub mod Complete
-pub mod OneKept
-pub mod Showing
-pub mod BindsOnce
-pub mod Made
-pub mod Held
-pub mod Choices
+mod ByStart
+mod Files
+mod Holders
+mod Showing
+mod Taking
+mod BindsOnce
+mod Outcome
+mod OneEach
+mod SomeOutcome
+mod Edited
+pub mod Shared

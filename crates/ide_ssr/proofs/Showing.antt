@@ -1,215 +1,259 @@
--- Nested matches show kept ones, one more at a time.
-use Rattle.std.proofs.Common.{◌≡◌, ℕ, zero, suc, ◌+◌, ◌<◌, ◌≤◌, Bool, true, false, not, cond, List, [], ◌∷◌, ◌++◌, AllPairs, inl, inr, length, take, filter, get_or, map, Option, Some, None, refl, sym, ◌∙◌, ap, subst, arith}
-use Rattle.std.specs.Prelude.{slice_get}
+-- Nested matches show kept ones: they are made one by one, from the last to the first, and taken by those that hold them.
+use Rattle.std.proofs.Common.{◌≡◌, ◌≢◌, ℕ, ◌+◌, ◌<◌, ◌≤◌, List, [], ◌∷◌, ◌++◌, inl, inr, length, map, take, get_or, set, slice_get, Option, Some, None, All, AllPairs, Contains, refl, sym, ◌∙◌, ap, subst, arith}
+use Rattle.std.specs.Prelude.{is_some, IsSome}
+use Rattle.std.specs.Option.{option_map, option_and_then}
 use Rattle.std.proofs.Math.Seq.{take_all}
-use Rattle.std.proofs.lemmas.List.{take_more, append-nil, get_or_default, get_or_past, get_or-map, length-map, length-take}
-use Rattle.std.proofs.lemmas.Option.{slice_get-get_or, get_or_from_slice_get}
-use Rattle.std.proofs.lemmas.List.Elements.{filter_more}
-use Rattle.std.proofs.lemmas.Bool.Decides.{nat_tests}
-use Rattle.ssr_syntax_tree.specs.Syntax.{Syntax}
+use Rattle.std.proofs.lemmas.Bool.{cases_lt, false≢true}
+use Rattle.std.proofs.lemmas.List.{take_more, get_or-set_same, get_or-set_other, length-set}
+use Rattle.std.proofs.lemmas.List.Elements.{All-head, All-tail, Contains-append_left, Contains-push, Contains-get_or}
+use Rattle.std.proofs.lemmas.Option.{slice_get-get_or, slice_get_within, same_Some, none-some}
+use Rattle.ssr_syntax_tree.proofs.Lists.{all_at}
+use Rattle.ssr_base.specs.declared.ids.NodeId.{NodeId}
+use Rattle.ssr_base.specs.Workspace.{Workspace, FileSpan, trees, original_range}
 use Rattle.ide_ssr_rules.specs.Resolving.{ResolvedKind}
 use Rattle.ide_ssr_matching.specs.declared.bindings.Binding.{Binding}
-use Rattle.ide_ssr.specs.declared.holders.Holder.{Holder}
+use Rattle.ide_ssr_matching.specs.Found.{Found, IsMatch, held_node}
+use Rattle.ide_ssr_nesting.specs.declared.holders.Holder.{Holder}
+use Rattle.ide_ssr_nesting.specs.Holding.{Kept, IsKept}
+use Rattle.ide_ssr_nesting.specs.Lists.{Listing, AreLists, listed}
+use Rattle.ide_ssr_rewriting.proofs.Shared.{not_before}
 use Rattle.ide_ssr.specs.declared.matches.Match.{Match}
 use Rattle.ide_ssr.specs.declared.matches.PlaceholderMatch.{PlaceholderMatch}
-use Rattle.ide_ssr.specs.Found.{Found}
-use Rattle.ide_ssr.specs.Lists.{holder_of, is_holder, is_listed, listed}
-use Rattle.ide_ssr.specs.Matches.{inner_of, placeholders_of}
-use Rattle.ide_ssr.specs.Nesting.{placeholder_name, HasParts, HasBinding, Show, Shows, ShowBindings}
-use Rattle.ide_ssr.specs.Private.Nesting.{NoneListed, NoneListedFrom}
+use Rattle.ide_ssr.specs.Matches.{placeholders_of, name_of, span_of, inner_of}
+use Rattle.ide_ssr.specs.Nesting.{Show, Shows, ShowBindings}
 use Rattle.ide_ssr.specs.Nesting as nesting
-use Rattle.std.proofs.lemmas.Bool.{cases_lt, not-true}
-use Rattle.ide_ssr.specs.Kept.{is_over}
-use Rattle.ide_ssr.specs.Order.{Precedes}
-use Rattle.ide_ssr.specs.Private.Order.{AreHeld}
-use Rattle.ide_ssr.specs.Private.Pending.{is_at, is_open}
-use Rattle.ide_ssr.proofs.Nearest.{closed, true_false}
-use Rattle.ide_ssr.proofs.Rewrites.{not_held}
-use Rattle.ide_ssr.proofs.Waiting.{at_over, is_open-own}
+use Rattle.ide_ssr.specs.Parts.{ComesFrom, HasParts, HasBinding, placeholder_name}
+use Rattle.ide_ssr.specs.Starts.{start_at, ComesFirst, AreByStart}
+use Rattle.ide_ssr.specs.Private.Made.{IsMade, Waits, AreMade, IsNotHeldBy, ShowPlaceholders}
+use Rattle.ide_ssr.proofs.Holders.{of_holder, before}
 
--- one match more
-pub show-push : (code : Syntax) (rules : List ResolvedKind) (ks ms : List Found) (vs : List Match) (m : Found) (v : Match)
-    → Show code rules ks ms vs → Shows code rules ks m v → Show code rules ks (ms ++ m ∷ []) (vs ++ v ∷ [])
-show-push code rules ks _ _ m v nesting.none one = nesting.next m [] v [] one nesting.none
-show-push code rules ks _ _ m v (nesting.next k ms u vs first rest) one =
-    nesting.next k (ms ++ m ∷ []) u (vs ++ v ∷ []) first (show-push code rules ks ms vs m v rest one)
+abbrev pub under : ℕ → ℕ → Option Holder
+under n i = Some (record { place = n; binding = i })
 
--- one binding more
-pub bindings-push : (code : Syntax) (rules : List ResolvedKind) (ks : List Found) (n : ℕ) (rule : Option ResolvedKind) (i : ℕ)
-    (bs : List Binding) (ps : List PlaceholderMatch) (b : Binding) (p : PlaceholderMatch) (at : ℕ)
-    → ShowBindings code rules ks n rule i bs ps → at ≡ i + length bs
-    → HasBinding code rule b p → Show code rules ks (listed code ks (Some (record { place = n; binding = at }))) (inner_of p)
-    → ShowBindings code rules ks n rule i (bs ++ b ∷ []) (ps ++ p ∷ [])
-bindings-push code rules ks _ _ _ _ _ b p at (nesting.end n rule i) is has inner =
-    nesting.bound n rule i b [] p [] has
-    (subst (λ (j : ℕ). Show code rules ks (listed code ks (Some (record { place = n; binding = j }))) (inner_of p)) (let h : at ≡ i = omega arith in h) inner)
-    (nesting.end n rule (1 + i))
-bindings-push code rules ks _ _ _ _ _ b p at (nesting.bound n rule i c bs q ps first below rest) is has inner =
-    nesting.bound n rule i c (bs ++ b ∷ []) q (ps ++ p ∷ []) first below
-    (bindings-push code rules ks n rule (1 + i) bs ps b p at rest (let h : at ≡ 1 + i + length bs = omega arith in h) has inner)
+-- ** What is taken.
 
--- the first elements, of which none passes the test
-none_taken : (t : Found → Bool) (ks : List Found) (n : ℕ) → ((j : ℕ) (d : Found) → j < n → t (get_or ks j d) ≡ false) → filter t (take n ks) ≡ []
-none_taken t [] zero h = refl
-none_taken t [] (suc n) h = refl
-none_taken t (k ∷ ks) zero h = refl
-none_taken t (k ∷ ks) (suc n) h =
-    ap (λ (b : Bool). cond b (k ∷ filter t (take n ks)) (filter t (take n ks))) (h 0 k (omega arith))
-    ∙ none_taken t ks n (λ j d lt. h (suc j) d (omega arith))
+pub show_taken : (rules : List ResolvedKind) (kept : Kept) (lists : Listing) (made : List (Option Match)) (places : List ℕ) (vs : List Match)
+    → All (IsMade rules kept lists made) places → map Some vs ≡ map (λ n. get_or made n None) places → Show rules kept lists places vs
+show_taken rules kept lists made [] [] all taken = nesting.none
+show_taken rules kept lists made [] (v ∷ vs) all taken = absurd (let e : Some v ∷ map Some vs ≡ [] = taken in cc)
+show_taken rules kept lists made (n ∷ ns) [] all taken = absurd (let e : [] ≡ get_or made n None ∷ map (λ n. get_or made n None) ns = taken in cc)
+show_taken rules kept lists made (n ∷ ns) (v ∷ vs) all taken =
+    let one = All-head (IsMade rules kept lists made) n ns all in
+    let both : Some v ∷ map Some vs ≡ get_or made n None ∷ map (λ n. get_or made n None) ns = taken in
+    let first : Some v ≡ get_or made n None = cc in
+    let rest : map Some vs ≡ map (λ n. get_or made n None) ns = cc in
+    nesting.next n ns v vs (subst (Shows rules kept lists n) (sym (same_Some v one.0 (first ∙ one.1))) one.2)
+    (show_taken rules kept lists made ns vs (All-tail (IsMade rules kept lists made) n ns all) rest)
 
--- all elements that pass stand in front
-none_left : (t : Found → Bool) (ks : List Found) (n : ℕ) → ((j : ℕ) (d : Found) → n ≤ j → j < length ks → t (get_or ks j d) ≡ false) → filter t (take n ks) ≡ filter t ks
-none_left t [] zero h = refl
-none_left t [] (suc n) h = refl
-none_left t (k ∷ ks) zero h =
-    none_left t ks zero (λ j d le lt. h (suc j) d (omega arith) (omega arith))
-    ∙ sym (ap (λ (b : Bool). cond b (k ∷ filter t ks) (filter t ks)) (h 0 k (omega arith) (omega arith)))
-none_left t (k ∷ ks) (suc n) h =
-    ap (λ (r : List Found). cond (t k) (k ∷ r) r) (none_left t ks n (λ j d le lt. h (suc j) d (omega arith) (omega arith)))
+pub bindings_push : (rules : List ResolvedKind) (kept : Kept) (lists : Listing) (n : ℕ) (m : Found) (order : List ℕ) (ps : List PlaceholderMatch)
+    (i : ℕ) (b : Binding) (p : PlaceholderMatch) → ShowBindings rules kept lists n m order ps → slice_get m.bindings i ≡ Some b
+    → HasBinding kept.workspace (slice_get rules m.rule) m.node.tree b p → Show rules kept lists (listed lists (under n i)) (inner_of p)
+    → ShowBindings rules kept lists n m (order ++ i ∷ []) (ps ++ p ∷ [])
+bindings_push rules kept lists _ _ _ _ i b p (nesting.end n m) is has inner = nesting.bound n m i b [] p [] is has inner (nesting.end n m)
+bindings_push rules kept lists _ _ _ _ i b p (nesting.bound n m j c order q ps at first below rest) is has inner =
+    nesting.bound n m j c (order ++ i ∷ []) q (ps ++ p ∷ []) at first below (bindings_push rules kept lists n m order ps i b p rest is has inner)
 
-pub show-past : (code : Syntax) (rules : List ResolvedKind) (ks : List Found) (holder : Option Holder) (n : ℕ) (vs : List Match)
-    → Show code rules ks (filter (λ m. is_listed holder (holder_of code ks m)) (take n ks)) vs
-    → NoneListedFrom code ks holder n → Show code rules ks (listed code ks holder) vs
-show-past code rules ks holder n vs so_far none =
-    subst (λ (ms : List Found). Show code rules ks ms vs) (none_left (λ m. is_listed holder (holder_of code ks m)) ks n none) so_far
+-- ** Which are made.
 
--- behind a match that the holder's isn't over it holds none
-pub none_from : (code : Syntax) (ks : List Found) → AllPairs Precedes ks → (holder : Holder) (n : ℕ) → holder.place < n → n < length ks
-    → ((d : Found) → is_over code (get_or ks holder.place d) (get_or ks n d) ≡ false) → NoneListedFrom code ks (Some holder) n
-none_from code ks order holder n before lt clear j d le within =
-    let h = holder_of code ks (get_or ks j d) in
-    let off : is_over code (get_or ks holder.place d) (get_or ks j d) ≡ false =
-    elim (cases_lt n j) [
-      | inl behind ↦
-          closed code (get_or ks holder.place d) (get_or ks n d) (get_or ks j d)
-          (order holder.place n d before lt) (order n j d behind within) (clear d)
-      | inr same ↦ let at : n ≡ j = omega arith in subst (λ (i : ℕ). is_over code (get_or ks holder.place d) (get_or ks i d) ≡ false) at (clear d)
+there : (rules : List ResolvedKind) (kept : Kept) (lists : Listing) (made : List (Option Match)) (n : ℕ) → IsMade rules kept lists made n → IsSome (get_or made n None)
+there rules kept lists made n one = ap is_some one.1
+
+pub all_there : (rules : List ResolvedKind) (kept : Kept) (lists : Listing) (made : List (Option Match)) (places : List ℕ)
+    → All (IsMade rules kept lists made) places → All (λ n. IsSome (get_or made n None)) places
+all_there rules kept lists made places all = λ k d less. there rules kept lists made (get_or places k d) (all k d less)
+
+made_there : (rules : List ResolvedKind) (kept : Kept) (lists : Listing) (old new : List (Option Match)) (j : ℕ)
+    → IsMade rules kept lists old j → get_or new j None ≡ get_or old j None → IsMade rules kept lists new j
+made_there rules kept lists old new j one same = (one.0, same ∙ one.1, one.2)
+
+pub none_made : (rules : List ResolvedKind) (kept : Kept) (lists : Listing) (n : ℕ) (made : List (Option Match)) → IsKept kept → n ≡ length kept.matches
+    → length made ≡ n → AreMade rules kept lists n made
+none_made rules kept lists n made known all counted = record {
+  counted = counted ∙ all;
+  waiting = λ j holder behind is waits.
+      let less = slice_get_within kept.holders j holder is in
+      absurd (omega (arith, known.held.counted));
+}
+
+still_waits : (n : ℕ) (holder : Option Holder) → Waits n holder → Waits (n + 1) holder
+still_waits n None waits = tt
+still_waits n (Some h) waits = let less : h.place < n = waits in let more : h.place < n + 1 = omega arith in more
+
+other_holder : (n : ℕ) (h : Holder) (holder : Option Holder) → holder ≡ Some h → Waits n holder → h.place ≢ n
+other_holder n h None is waits same = none-some h is
+other_holder n h (Some g) is waits same =
+    let one : g.place ≡ h.place = ap (λ (h : Holder). h.place) (same_Some g h is) in
+    let less : g.place < n = waits in
+    omega arith
+
+-- one match more is made
+pub made_more : (rules : List ResolvedKind) (kept : Kept) (lists : Listing) (n : ℕ) → n < length kept.matches
+    → (old made new : List (Option Match)) (v : Match) → AreMade rules kept lists (n + 1) old → Shows rules kept lists n v
+    → ((j : ℕ) → IsNotHeldBy kept n j → get_or made j None ≡ get_or old j None) → length made ≡ length old → new ≡ set made n (Some v)
+    → AreMade rules kept lists n new
+made_more rules kept lists n less old made new v are shown left counted more = record {
+  counted = ap length more ∙ (length-set made n (Some v) ∙ (counted ∙ are.counted));
+  waiting = λ j holder behind is waits.
+      elim (cases_lt n j) [
+        | inl later ↦
+            made_there rules kept lists old new j (are.waiting j holder (omega arith) is (still_waits n holder waits))
+            (ap (λ (xs : List (Option Match)). get_or xs j None) more
+            ∙ (get_or-set_other made n j (Some v) None (λ same. omega arith)
+            ∙ left j (λ h held. other_holder n h holder (same_Some holder (Some h) (sym is ∙ held)) waits)))
+        | inr not_later ↦
+            let same : n ≡ j = omega arith in
+            let at : n < length made = omega (arith, are.counted, counted) in
+            subst (IsMade rules kept lists new) same
+            (v, ap (λ (xs : List (Option Match)). get_or xs n None) more ∙ get_or-set_same made n (Some v) None at, shown)
+      ];
+}
+
+-- at the end all of a list are made
+pub outermost_made : (rules : List ResolvedKind) (kept : Kept) (lists : Listing) (n : ℕ) (made : List (Option Match)) → IsKept kept → AreLists kept lists → n ≡ 0
+    → AreMade rules kept lists n made → All (IsMade rules kept lists made) (listed lists None)
+outermost_made rules kept lists n made known are_lists first are k d less =
+    let j = get_or (listed lists None) k d in
+    are.waiting j None (omega arith) (of_holder kept lists known are_lists None j (Contains-get_or (listed lists None) k d less)) tt
+
+-- ** The placeholders of a match.
+
+-- what the first p placeholders of a match in order hold is taken
+pub record IsHolding (rules : List ResolvedKind) (kept : Kept) (lists : Listing) (n : ℕ) (m : Found) (order : List ℕ) (p : ℕ) (old made : List (Option Match))
+    (placeholders : List PlaceholderMatch) : Type 0 where
+  pub is_match : IsMatch (trees kept.workspace) m
+  pub by_start : AreByStart kept.workspace m order
+  pub shown : ShowBindings rules kept lists n m (take p order) placeholders
+  pub others : (j : ℕ) → ((i : ℕ) → Contains (take p order) i → slice_get kept.holders j ≢ Some (under n i)) → get_or made j None ≡ get_or old j None
+  pub counted : length made ≡ length old
+
+pub holding_none : (rules : List ResolvedKind) (kept : Kept) (lists : Listing) (n : ℕ) (m : Found) (order : List ℕ) (made : List (Option Match)) (placeholders : List PlaceholderMatch)
+    → IsMatch (trees kept.workspace) m → AreByStart kept.workspace m order → placeholders ≡ [] → IsHolding rules kept lists n m order 0 made made placeholders
+holding_none rules kept lists n m order made placeholders is_match by_start none =
+    subst (IsHolding rules kept lists n m order 0 made made) (sym none)
+    (record { is_match = is_match; by_start = by_start; shown = nesting.end n m; others = λ j out. refl; counted = refl })
+
+-- the places of bindings come once each in order
+told : (o : Option FileSpan) → IsSome o → (a : ℕ) × (option_map (λ (range : FileSpan). range.span.start) o ≡ Some a)
+told None is = absurd (false≢true is)
+told (Some range) is = (range.span.start, refl)
+
+start_there : (kept : Kept) (m : Found) (i : ℕ) → IsMatch (trees kept.workspace) m → i < length m.bindings → (a : ℕ) × (start_at kept.workspace m i ≡ Some a)
+start_there kept m i is_match less =
+    let nothing : Binding = record { placeholder = 0; node = record { 0 = 0 } } in
+    let b = get_or m.bindings i nothing in
+    let start = told (original_range (trees kept.workspace) (held_node m.node.tree b)) (is_match.ranges i nothing less) in (
+      start.0,
+      ap (option_and_then (λ (b : Binding). option_map (λ (range : FileSpan). range.span.start) (original_range (trees kept.workspace) (held_node m.node.tree b))))
+          (slice_get-get_or m.bindings i nothing less)
+          ∙ start.1,
+    )
+
+not_first_itself : (kept : Kept) (m : Found) (i j : ℕ) → IsMatch (trees kept.workspace) m → j < length m.bindings → ComesFirst kept.workspace m i j → i ≢ j
+not_first_itself kept m i j is_match less first same =
+    let start = start_there kept m j is_match less in
+    let twice : ComesFirst kept.workspace m j j = subst (λ i. ComesFirst kept.workspace m i j) same first in
+    elim (twice start.0 start.0 start.1 start.1) [
+      | inl before ↦ omega arith
+      | inr equal ↦ omega (arith, equal.1)
     ]
-    in
-    not_held holder.place holder.binding h
-    (true_false (is_at holder.place h) (λ e. let over = at_over code ks holder.place (get_or ks j d) d e in cc))
 
--- the same of a test of the two matches
-open_before : (holder : Holder) (n : ℕ) → is_open n (Some holder) ≡ true → holder.place < n
-open_before holder n e = grind (arith, nat_tests)
+pub order_differ : (kept : Kept) (m : Found) (order : List ℕ) → IsMatch (trees kept.workspace) m → AreByStart kept.workspace m order
+    → AllPairs (λ i j. i ≢ j) order
+order_differ kept m order is_match by_start p q d less within =
+    not_first_itself kept m (get_or order p d) (get_or order q d) is_match ((by_start.each (get_or order q d)).0 (Contains-get_or order q d within))
+    (by_start.in_order p q d less within)
 
-pub none_from_test : (code : Syntax) (ks : List Found) → AllPairs Precedes ks → (own : Option Holder) (holder : Holder) → own ≡ Some holder
-    → (n : ℕ) → is_open n own ≡ true → n < length ks → (k m : Found) → k ≡ get_or ks holder.place k → m ≡ get_or ks n m
-    → (b : Bool) → b ≡ is_over code k m → not b ≡ true → NoneListedFrom code ks own n
-none_from_test code ks order own holder is n opened lt k m k_at m_at b tested e =
-    let before : holder.place < n = open_before holder n (subst (λ (own : Option Holder). is_open n own ≡ true) is opened) in
-    let over : is_over code k m ≡ false = sym tested ∙ not-true b e in
-    let clear : (d : Found) → is_over code (get_or ks holder.place d) (get_or ks n d) ≡ false =
-    λ d.
-    let left : get_or ks holder.place d ≡ k = get_or_default ks holder.place d k (omega arith) ∙ sym k_at in
-    let right : get_or ks n d ≡ m = get_or_default ks n d m lt ∙ sym m_at in
-    rw (left, right) over
-    in
-    subst (λ (own : Option Holder). NoneListedFrom code ks own n) (sym is) (none_from code ks order holder n before lt clear)
+-- what the next placeholder holds is made still
+pub held_made : (rules : List ResolvedKind) (kept : Kept) (lists : Listing) (n : ℕ) (m : Found) (order : List ℕ) (p : ℕ) (old made : List (Option Match))
+    (placeholders : List PlaceholderMatch) → IsKept kept → AreLists kept lists → AreMade rules kept lists (n + 1) old
+    → IsHolding rules kept lists n m order p old made placeholders → p < length order
+    → All (IsMade rules kept lists made) (listed lists (under n (get_or order p 0)))
+held_made rules kept lists n m order p old made placeholders known are_lists are so_far less k d within =
+    let i = get_or order p 0 in
+    let j = get_or (listed lists (under n i)) k d in
+    let is : slice_get kept.holders j ≡ Some (under n i) = of_holder kept lists known are_lists (under n i) j (Contains-get_or (listed lists (under n i)) k d within) in
+    let later : n < j = before kept known j (record { place = n; binding = i }) is in
+    let near : n < n + 1 = omega arith in
+    made_there rules kept lists old made j (are.waiting j (under n i) (omega arith) is near)
+    (so_far.others j
+    (λ other at held.
+    let one : under n i ≡ under n other = same_Some (under n i) (under n other) (sym is ∙ held) in
+    let same : i ≡ other = ap (λ (h : Holder). h.binding) (same_Some (record { place = n; binding = i }) (record { place = n; binding = other }) one) in
+    not_before order p i less refl (order_differ kept m order so_far.is_match so_far.by_start) (subst (Contains (take p order)) (sym same) at)))
 
-pub show-starts : (code : Syntax) (rules : List ResolvedKind) (ks : List Found) (holder : Option Holder) (n : ℕ) (vs : List Match) → vs ≡ []
-    → NoneListed code ks holder n → Show code rules ks (filter (λ m. is_listed holder (holder_of code ks m)) (take n ks)) vs
-show-starts code rules ks holder n vs empty h =
-    subst (λ (vs : List Match). Show code rules ks (filter (λ m. is_listed holder (holder_of code ks m)) (take n ks)) vs) (sym empty)
-    (subst (λ (ms : List Found). Show code rules ks ms []) (sym (none_taken (λ m. is_listed holder (holder_of code ks m)) ks n h)) nesting.none)
+pub holding_more : (rules : List ResolvedKind) (kept : Kept) (lists : Listing) (n : ℕ) (m : Found) (order : List ℕ) (p : ℕ) (old made new : List (Option Match))
+    (placeholders longer : List PlaceholderMatch) (b : Binding) (placeholder : PlaceholderMatch) → IsKept kept → AreLists kept lists
+    → IsHolding rules kept lists n m order p old made placeholders → p < length order → slice_get m.bindings (get_or order p 0) ≡ Some b
+    → HasBinding kept.workspace (slice_get rules m.rule) m.node.tree b placeholder → Show rules kept lists (listed lists (under n (get_or order p 0))) (inner_of placeholder)
+    → ((j : ℕ) → (Contains (listed lists (under n (get_or order p 0))) j → ⊥) → get_or new j None ≡ get_or made j None) → length new ≡ length made
+    → longer ≡ placeholders ++ placeholder ∷ []
+    → IsHolding rules kept lists n m order (p + 1) old new longer
+holding_more rules kept lists n m order p old made new placeholders longer b placeholder known are_lists so_far less is has inner left counted more =
+    let i = get_or order p 0 in
+    let longer_order : take (p + 1) order ≡ take p order ++ i ∷ [] = take_more order p 0 less in
+    record {
+      is_match = so_far.is_match;
+      by_start = so_far.by_start;
+      shown =
+          subst (ShowBindings rules kept lists n m (take (p + 1) order)) (sym more)
+          (subst (λ order. ShowBindings rules kept lists n m order (placeholders ++ placeholder ∷ [])) (sym longer_order)
+          (bindings_push rules kept lists n m (take p order) placeholders i b placeholder so_far.shown is has inner));
+      others = λ j out.
+          let away : (i : ℕ) → Contains (take p order ++ get_or order p 0 ∷ []) i → slice_get kept.holders j ≢ Some (under n i) =
+          subst (λ ps. (i : ℕ) → Contains ps i → slice_get kept.holders j ≢ Some (under n i)) longer_order out in
+          left j (λ at. away i (Contains-push (take p order) i) (of_holder kept lists known are_lists (under n i) j at))
+          ∙ so_far.others j (λ i at. away i (Contains-append_left (take p order) (get_or order p 0 ∷ []) i at));
+      counted = counted ∙ so_far.counted;
+    }
 
-taken : (t : Found → Bool) (ks : List Found) (n : ℕ) (m : Found) → n < length ks → get_or ks n m ≡ m
-    → filter t (take (n + 1) ks) ≡ filter t (take n ks) ++ cond (t m) (m ∷ []) []
-taken t ks n m lt is =
-    filter_more t ks n m lt ∙ ap (λ (k : Found). filter t (take n ks) ++ cond (t k) (k ∷ []) []) is
+pub holding_all : (rules : List ResolvedKind) (kept : Kept) (lists : Listing) (n : ℕ) (m : Found) (order : List ℕ) (p : ℕ) (old made : List (Option Match))
+    (placeholders : List PlaceholderMatch) → IsHolding rules kept lists n m order p old made placeholders → length order ≤ p
+    → ShowPlaceholders rules kept lists n m placeholders
+holding_all rules kept lists n m order p old made placeholders so_far past = record {
+  order = order;
+  by_start = so_far.by_start;
+  shown = subst (λ order. ShowBindings rules kept lists n m order placeholders) (take_all p order past) so_far.shown;
+}
 
--- how the match of a place is listed is read from the list of holders
-pub own_holder : (code : Syntax) (ks : List Found) (holders : List (Option Holder)) → AreHeld code ks holders → (n : ℕ) (m : Found) → n < length ks
-    → (other : Option Holder) → other ≡ get_or holders n other → other ≡ holder_of code ks (get_or ks n m)
-own_holder code ks holders held n m lt other is =
-    is ∙ (ap (λ (hs : List (Option Holder)). get_or hs n other) held.holders_are ∙ get_or-map (holder_of code ks) ks n m other lt)
+pub holding_others : (rules : List ResolvedKind) (kept : Kept) (lists : Listing) (n : ℕ) (m : Found) (order : List ℕ) (p : ℕ) (old made : List (Option Match))
+    (placeholders : List PlaceholderMatch) → IsHolding rules kept lists n m order p old made placeholders
+    → (j : ℕ) → IsNotHeldBy kept n j → get_or made j None ≡ get_or old j None
+holding_others rules kept lists n m order p old made placeholders so_far j out =
+    so_far.others j (λ i at held. out (record { place = n; binding = i }) held refl)
 
-turned : (code : Syntax) (ks : List Found) (holders : List (Option Holder)) → AreHeld code ks holders → (holder : Option Holder) (n : ℕ) (m : Found) → n < length ks
-    → get_or ks n m ≡ m → (other : Option Holder) → other ≡ get_or holders n other → (b : Bool) → is_listed holder other ≡ b
-    → filter (λ m. is_listed holder (holder_of code ks m)) (take (n + 1) ks)
-    ≡ filter (λ m. is_listed holder (holder_of code ks m)) (take n ks) ++ cond b (m ∷ []) []
-turned code ks holders held holder n m lt at other is b e =
-    let own : other ≡ holder_of code ks m = own_holder code ks holders held n m lt other is ∙ ap (holder_of code ks) at in
-    taken (λ m. is_listed holder (holder_of code ks m)) ks n m lt at
-    ∙ ap (λ (b : Bool). filter (λ m. is_listed holder (holder_of code ks m)) (take n ks) ++ cond b (m ∷ []) []) (ap (is_listed holder) (sym own) ∙ e)
+-- ** The match of a place.
 
--- the match of the place n is listed, and shown
-pub show-listed : (code : Syntax) (rules : List ResolvedKind) (ks : List Found) (holders : List (Option Holder)) → AreHeld code ks holders
-    → (holder : Option Holder) (n : ℕ) → n < length ks → (old vs : List Match) (v : Match) (other : Option Holder)
-    → Show code rules ks (filter (λ m. is_listed holder (holder_of code ks m)) (take n ks)) old
-    → other ≡ get_or holders n other → is_listed holder other ≡ true
-    → ((m : Found) → slice_get ks n ≡ Some m → Shows code rules ks m v) → vs ≡ old ++ v ∷ []
-    → Show code rules ks (filter (λ m. is_listed holder (holder_of code ks m)) (take (n + 1) ks)) vs
-show-listed code rules ks holders held holder n lt old vs v other so_far is e shown more =
-    let m : Found = get_or ks n (record { rule = 0; node = 0; bindings = [] }) in
-    let at : get_or ks n m ≡ m = get_or_default ks n m (record { rule = 0; node = 0; bindings = [] }) lt in
-    subst (λ (vs : List Match). Show code rules ks (filter (λ m. is_listed holder (holder_of code ks m)) (take (n + 1) ks)) vs) (sym more)
-    (subst (λ (ms : List Found). Show code rules ks ms (old ++ v ∷ [])) (sym (turned code ks holders held holder n m lt at other is true e))
-    (show-push code rules ks (filter (λ m. is_listed holder (holder_of code ks m)) (take n ks)) old m v so_far
-    (shown m (slice_get-get_or ks n (record { rule = 0; node = 0; bindings = [] }) lt))))
+pub match_at : (kept : Kept) (n : ℕ) (m : Found) → IsKept kept → slice_get kept.matches n ≡ Some m → IsMatch (trees kept.workspace) m
+match_at kept n m known is = all_at (IsMatch (trees kept.workspace)) kept.matches n m known.held.each is
 
--- it isn't listed
-pub show-unlisted : (code : Syntax) (rules : List ResolvedKind) (ks : List Found) (holders : List (Option Holder)) → AreHeld code ks holders
-    → (holder : Option Holder) (n : ℕ) → n < length ks → (old vs : List Match) (other : Option Holder)
-    → Show code rules ks (filter (λ m. is_listed holder (holder_of code ks m)) (take n ks)) old
-    → other ≡ get_or holders n other → is_listed holder other ≡ false → vs ≡ old
-    → Show code rules ks (filter (λ m. is_listed holder (holder_of code ks m)) (take (n + 1) ks)) vs
-show-unlisted code rules ks holders held holder n lt old vs other so_far is e same =
-    let m : Found = get_or ks n (record { rule = 0; node = 0; bindings = [] }) in
-    let at : get_or ks n m ≡ m = get_or_default ks n m (record { rule = 0; node = 0; bindings = [] }) lt in
-    let ms : List Found = filter (λ m. is_listed holder (holder_of code ks m)) (take n ks) in
-    subst (λ (vs : List Match). Show code rules ks (filter (λ m. is_listed holder (holder_of code ks m)) (take (n + 1) ks)) vs) (sym same)
-    (subst (λ (ms : List Found). Show code rules ks ms old)
-    (sym (turned code ks holders held holder n m lt at other is false e ∙ append-nil ms)) so_far)
+pub order_within : (kept : Kept) (w : Workspace) (m : Found) (order items : List ℕ) → w ≡ kept.workspace → AreByStart w m order → items ≡ order
+    → AreByStart kept.workspace m items
+order_within kept w m order items same by_start is =
+    subst (AreByStart kept.workspace m) (sym is) (subst (λ (w : Workspace). AreByStart w m order) same by_start)
 
--- a match holds none but later ones
-later_by : (n p i j : ℕ) (h : Option Holder) → j ≤ n → is_open j h ≡ true → is_holder (record { place = n; binding = i }) h ≡ false
-later_by n p i j None le open_one = refl
-later_by n p i j (Some h) le open_one = grind (arith, nat_tests)
+pub index_within : (w : Workspace) (m : Found) (order : List ℕ) (p : ℕ) → AreByStart w m order → p < length order → get_or order p 0 < length m.bindings
+index_within w m order p by_start less = (by_start.each (get_or order p 0)).0 (Contains-get_or order p 0 less)
 
-pub opened : (holder : Holder) → is_open (holder.place + 1) (Some holder) ≡ true
-opened holder = grind (arith, nat_tests)
+pub range_there : (kept : Kept) (w : Workspace) (m : Found) (node : NodeId) (b : Binding) (i : ℕ) → IsMatch (trees kept.workspace) m → w ≡ kept.workspace
+    → node ≡ held_node m.node.tree b → slice_get m.bindings i ≡ Some b → IsSome (original_range (trees w) node)
+range_there kept w m node b i is_match same_w same_node is =
+    let ranged : IsSome (original_range (trees kept.workspace) (held_node m.node.tree b)) =
+    all_at (λ b. IsSome (original_range (trees kept.workspace) (held_node m.node.tree b))) m.bindings i b is_match.ranges is in
+    subst (λ (w : Workspace). IsSome (original_range (trees w) node)) (sym same_w)
+    (subst (λ (x : NodeId). IsSome (original_range (trees kept.workspace) x)) (sym same_node) ranged)
 
-pub none_before : (code : Syntax) (ks : List Found) (holders : List (Option Holder)) → AreHeld code ks holders → (holder : Holder)
-    → holder.place < length ks → NoneListed code ks (Some holder) (holder.place + 1)
-none_before code ks holders held holder lt j d before =
-    later_by holder.place 0 holder.binding j (holder_of code ks (get_or ks j d)) (omega arith)
-    (is_open-own code ks j d held.ordered.in_order (omega arith))
+pub binding_shown : (kept : Kept) (w : Workspace) (rules : List ResolvedKind) (m : Found) (node : NodeId) (rule : ℕ) (b : Binding) (p : PlaceholderMatch) (name : List ℕ)
+    → w ≡ kept.workspace → node ≡ held_node m.node.tree b → rule ≡ m.rule → name_of p ≡ name → name ≡ placeholder_name (slice_get rules rule) b.placeholder
+    → ComesFrom w node (span_of p) → HasBinding kept.workspace (slice_get rules m.rule) m.node.tree b p
+binding_shown kept w rules m node rule b p name same_w same_node same_rule named is from = record {
+  name = named ∙ is ∙ ap (λ rule. placeholder_name (slice_get rules rule) b.placeholder) same_rule;
+  range =
+      subst (λ (x : NodeId). ComesFrom kept.workspace x (span_of p)) same_node
+      (subst (λ (w : Workspace). ComesFrom w node (span_of p)) same_w from);
+}
 
--- bindings, one more at a time
-pub bindings-step : (code : Syntax) (rules : List ResolvedKind) (ks : List Found) (n : ℕ) (rule other : Option ResolvedKind) (i : ℕ) (bs : List Binding) (d : Binding)
-    (old ps : List PlaceholderMatch) (p : PlaceholderMatch)
-    → ShowBindings code rules ks n rule 0 (take i bs) old → i < length bs → other ≡ rule
-    → HasBinding code other (get_or bs i d) p → Show code rules ks (listed code ks (Some (record { place = n; binding = i }))) (inner_of p)
-    → ps ≡ old ++ p ∷ []
-    → ShowBindings code rules ks n rule 0 (take (i + 1) bs) ps
-bindings-step code rules ks n rule other i bs d old ps p so_far lt same has inner more =
-    subst (λ (ps : List PlaceholderMatch). ShowBindings code rules ks n rule 0 (take (i + 1) bs) ps) (sym more)
-    (subst (λ (bs : List Binding). ShowBindings code rules ks n rule 0 bs (old ++ p ∷ []))
-    (sym (take_more bs i d lt))
-    (bindings-push code rules ks n rule 0 (take i bs) old (get_or bs i d) p i so_far
-    (omega (arith, length-take i bs))
-    (subst (λ (rule : Option ResolvedKind). HasBinding code rule (get_or bs i d) p) same has) inner))
-
-pub bindings-start : (code : Syntax) (rules : List ResolvedKind) (ks : List Found) (n : ℕ) (rule : Option ResolvedKind) (ps : List PlaceholderMatch) → ps ≡ []
-    → (bs : List Binding) → ShowBindings code rules ks n rule 0 (take 0 bs) ps
-bindings-start code rules ks n rule ps empty bs =
-    subst (λ (ps : List PlaceholderMatch). ShowBindings code rules ks n rule 0 [] ps) (sym empty) (nesting.end n rule 0)
-
--- a match of its parts
-pub show-match : (code : Syntax) (rules : List ResolvedKind) (ks : List Found) (n : ℕ) (m k : Found) (bs : List Binding) (i : ℕ) (ps : List PlaceholderMatch) (v : Match)
-    → slice_get ks n ≡ Some m → k ≡ get_or ks n k → bs ≡ k.bindings → length bs ≤ i
-    → ShowBindings code rules ks n (slice_get rules k.rule) 0 (take i bs) ps → placeholders_of v ≡ ps
-    → HasParts code k v
-    → Shows code rules ks m v
-show-match code rules ks n m k bs i ps v is at own past so_far shown parts =
-    let same : k ≡ m = at ∙ get_or_from_slice_get ks n m k is in
-    let all : take i bs ≡ k.bindings = take_all i bs past ∙ own in
-    subst (λ (m : Found). Shows code rules ks m v) same
-    (nesting.at n k v (is ∙ ap (λ (m : Found). Some m) (sym same)) parts
-    (subst (λ (ps : List PlaceholderMatch). ShowBindings code rules ks n (slice_get rules k.rule) 0 k.bindings ps) (sym shown)
-    (subst (λ (bs : List Binding). ShowBindings code rules ks n (slice_get rules k.rule) 0 bs ps) all so_far)))
-
--- no name at a place past the names
-pub no_name : {X : Type 0} (f : X → List ℕ) (names : List X) (i : ℕ) → length names ≤ i → [] ≡ get_or (map f names) i []
-no_name f names i past = sym (get_or_past (map f names) i [] (omega (arith, length-map names f)))
+pub show_match : (rules : List ResolvedKind) (kept : Kept) (lists : Listing) (n : ℕ) (m : Found) (v : Match) (placeholders : List PlaceholderMatch)
+    → slice_get kept.matches n ≡ Some m → HasParts kept.workspace m v → ShowPlaceholders rules kept lists n m placeholders → placeholders_of v ≡ placeholders
+    → Shows rules kept lists n v
+show_match rules kept lists n m v placeholders is parts show same =
+    nesting.at n m show.order v is parts show.by_start (subst (ShowBindings rules kept lists n m show.order) (sym same) show.shown)

@@ -1,15 +1,10 @@
--- What contracts see of a finder: the tree of the file, and the rules in their order.
-use Rattle.std.specs.Prelude.{List, refl}
-use Rattle.std.specs.Coded.{Coded, code_by, coded×, coded_list}
-use Rattle.ssr_syntax_tree.specs.Syntax.{Syntax}
-use Rattle.ssr_syntax_tree.specs.SyntaxCode.{syntax_code}
-use Rattle.ide_ssr_rules.specs.Resolving.{ResolvedKind, resolved_code}
+-- What contracts see of a finder: the workspace, what the search is made for, and the rules in their order.
+use Rattle.std.specs.Prelude.{List}
+use Rattle.ssr_base.specs.Workspace.{Workspace}
+use Rattle.ide_ssr_rules.specs.Resolving.{ResolvedKind}
+use Rattle.ide_ssr_search.specs.Context.{Context}
 
 pub record Finder : Type 0 where
-  pub code : Syntax
+  pub workspace : Workspace
+  pub context : Context
   pub rules : List ResolvedKind
-
-abbrev pub finder_code : Coded Finder
-finder_code =
-    code_by (Syntax × List ResolvedKind) (coded× syntax_code (coded_list resolved_code))
-    (λ finder. (finder.code, finder.rules)) (λ p. record { code = p.0; rules = p.1 }) (λ _. refl)

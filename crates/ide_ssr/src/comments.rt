@@ -1,28 +1,39 @@
 //! Where the comments stand that a match keeps.
 
 ghost use Rattle.std.specs.Prelude.{◌≡◌, All, IfOk, map};
-ghost use Rattle.ssr_syntax_tree.specs.Places.{HasToken};
-ghost use Rattle.ide_ssr.specs.Matches.{place_of_range, place_of_token};
-ghost use Rattle.ide_ssr.specs.Nesting.{IsBetweenCharacters};
+ghost use Rattle.ssr_base.specs.Laws.{LiesInFile};
+ghost use Rattle.ssr_base.specs.Workspace.{file_span_of, trees};
+ghost use Rattle.ide_ssr_matching.specs.Found.{IsMatch};
+ghost use Rattle.ide_ssr.specs.Comments.{comment_spans};
 
-use crate::matches::in_first_file;
-use ssr_base::FileRange;
-use ssr_syntax_tree::{TokenNo, Tree};
+use ide_ssr_matching::Found;
+use ide_ssr_rewriting::kept_comments;
+use ssr_base::{FileId, FileRange, NodeId, Workspace};
 use std::alloc::{AllocError, Global};
 
-/// Where the comments stand.
+/// Where the comments stand that a match keeps: in its file, if it is none in what a macro call stands for.
 pub(crate) fn comment_ranges(
     alloc: Global,
-    tree: &Tree,
-    comments: &[TokenNo],
+    workspace: &Workspace,
+    m: &Found,
 ) -> Result<Vec<FileRange>, AllocError>
-    requires { All (λ token. HasToken tree.now token.0) comments.now }
-    ensures places { IfOk result (λ ranges. map place_of_range ranges.items ≡ map (place_of_token tree.now) comments.now) }
-    ensures between { IfOk result (λ ranges. All (λ range. IsBetweenCharacters tree.now range.range) ranges.items) }
+    requires { IsMatch (trees workspace.now) m.now }
+    ensures ranges { IfOk result (λ ranges. map file_span_of ranges.items ≡ comment_spans workspace.now m.now) }
+    ensures in_file { IfOk result (λ ranges. All (λ range. LiesInFile workspace.now (file_span_of range)) ranges.items) }
 {
     let mut ranges = Vec::new(alloc);
-    for comment in comments {
-        ranges.push(in_first_file(tree.token_range(*comment)))?;
+    let NodeId { tree: file, node } = m.node();
+    if file >= workspace.file_count() {
+        return Ok(ranges);
+    }
+    let Some(tree) = workspace.tree(file) else {
+        return Ok(ranges);
+    };
+    for comment in &kept_comments(alloc, tree, node, m.bindings())? {
+        ranges.push(FileRange {
+            file_id: FileId(file),
+            range: tree.token_range(*comment),
+        })?;
     }
     Ok(ranges)
 }

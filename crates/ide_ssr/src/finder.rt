@@ -1,58 +1,126 @@
-//! The finder: rules, and a file in which they are matched and rewritten.
+//! The finder: a workspace, rules, and what the search for them is made for.
 
-ghost use Rattle.std.specs.Prelude.{◌≡◌, All, IfErr, IfOk, OnErr, []};
-ghost use Rattle.ssr_syntax_tree.specs.Syntax.{source_of};
-ghost use Rattle.ssr_base.specs.Changes.{ChangesInOrder, FitsText};
+ghost use Rattle.std.specs.Prelude.{◌≡◌, ◌↔◌, ◌++◌, [], All, IfOk, IsTrue, OnErr};
+ghost use Rattle.ide_ssr_rules.specs.Patterns.{HasEachOnce};
 ghost use Rattle.ide_ssr_rules.specs.Resolving.{resolved_kinds};
+ghost use Rattle.ide_ssr_rewriting.specs.Edits.{EditsFit};
+ghost use Rattle.ide_ssr_search.specs.Making.{Makes, MakesFirst};
 ghost use Rattle.ide_ssr.specs.Adding.{Adds};
-ghost use Rattle.ide_ssr.specs.BindsOnce.{AreApart, BindOnce};
-ghost use Rattle.ide_ssr.specs.Edits.{edit_of, file_edits};
-ghost use Rattle.ide_ssr.specs.Kept.{AreKept, kept_in};
+ghost use Rattle.ide_ssr.specs.BindsOnce.{BindOnce};
+ghost use Rattle.ide_ssr.specs.Edits.{Edits, HaveTemplates};
+ghost use Rattle.ide_ssr.specs.Making.{MakesFinder, TellsRefusal};
 ghost use Rattle.ide_ssr.specs.Nesting.{ShowKept};
-ghost use Rattle.ide_ssr.specs.Private.Order.{AreHeld};
+ghost use Rattle.ide_ssr.specs.Searching.{IsOutcome};
 
-use crate::edits::{EditError, edits};
-use crate::kept::{KeptMatches, kept};
 use crate::matches::SsrMatches;
 use crate::nesting::nested_matches;
-use crate::search::find_matches;
-use ide_ssr_rules::{ResolvedRule, SsrError, SsrRule};
-use ssr_base::{FileId, TextEdit};
-use ssr_syntax_tree::Tree;
+use ide_ssr_nesting::{KeptMatches, Lists, keep};
+use ide_ssr_rewriting::{EditError, edits};
+use ide_ssr_rules::{ResolvedRule, SsrError, SsrPattern, SsrRule};
+use ide_ssr_search::{Context, ContextError, find_matches};
+use ssr_base::{FileId, FilePosition, FileRange, Semantics, TextEdit, Workspace};
 use std::alloc::{AllocError, Global};
 use std::collections::BTreeMap;
 use std::marker::Model;
 
-/// Finds what matches rules in a file, and rewrites it.
+/// Finds what matches rules in a workspace, and rewrites it.
 #[derive(Drop)]
-pub struct MatchFinder<'a> {
+pub struct MatchFinder<'a, S: Semantics> {
     alloc: Global,
-    tree: &'a Tree,
+    workspace: &'a Workspace,
+    semantics: &'a S,
+    context: Context,
     rules: Vec<ResolvedRule>,
 }
 
-impl<'a> Model for MatchFinder<'a> {
+impl<'a, S: Semantics> Model for MatchFinder<'a, S> {
     ghost use Rattle.std.specs.Prelude.{All};
     ghost use Rattle.ide_ssr_rules.specs.Patterns.{HasEachOnce};
-    ghost use Rattle.ide_ssr.specs.Finder.{Finder, finder_code};
+    ghost use Rattle.ide_ssr.specs.Finder.{Finder};
+    ghost use Rattle.ide_ssr.specs.FinderCode.{finder_code};
 
     ghost Value = { Finder };
 
     ghost coded = { finder_code };
 
-    ghost view = { λ finder. record { code = finder.tree.now; rules = finder.rules.items } };
+    ghost view = { λ finder. record { workspace = finder.workspace.now; context = finder.context; rules = finder.rules.items } };
 
     ghost invariant = { λ finder. All (λ rule. HasEachOnce rule.names rule.pattern) finder.rules.items };
 }
 
-impl<'a> MatchFinder<'a> {
-    /// A finder in the first file, without rules.
-    pub fn at_first_file(alloc: Global, tree: &'a Tree) -> MatchFinder<'a>
-        ensures { result ≡ record { code = tree.now; rules = [] } }
+/// The error that tells why there is nothing to make a search for.
+fn told(alloc: Global, refusal: ContextError) -> SsrError
+    ensures { TellsRefusal result refusal }
+{
+    if let ContextError::Memory = refusal {
+        return SsrError::Memory;
+    }
+    match refusal.to_string(alloc) {
+        Ok(message) => SsrError::Message(message),
+        Err(AllocError) => SsrError::Memory,
+    }
+}
+
+/// Whether each rule has a template.
+fn have_templates(rules: &[ResolvedRule]) -> bool
+    ensures { IsTrue result ↔ HaveTemplates rules.now }
+{
+    for rule in rules {
+        if rule.template().is_none() {
+            return false;
+        }
+    }
+    true
+}
+
+impl<'a, S: Semantics> MatchFinder<'a, S> {
+    /// A finder without rules. The names of its rules are looked up where the node of a position stands; without
+    /// restrictions that have a byte it searches all files, else what lies in one of them. Refused, by the first of these
+    /// that holds: `No such file` of the position, `No such position`, which is past the end of the file, `No such file` of a
+    /// restriction that has a byte, and `no resolution scope for file`, where the position's node stands in no scope.
+    pub fn in_context(
+        alloc: Global,
+        workspace: &'a Workspace,
+        semantics: &'a S,
+        position: FilePosition,
+        restrictions: Vec<FileRange>,
+    ) -> Result<MatchFinder<'a, S>, SsrError>
+        ensures { MakesFinder workspace.now (Makes workspace.now (S.meanings semantics.now) position restrictions.items) result }
+    {
+        match Context::at(alloc, workspace, semantics, position, restrictions) {
+            Ok(context) => Ok(MatchFinder::with(alloc, workspace, semantics, context)),
+            Err(refusal) => Err(told(alloc, refusal)),
+        }
+    }
+
+    /// The same in front of the first file, without restrictions. Where there is no file: `No files to search`.
+    pub fn at_first_file(
+        alloc: Global,
+        workspace: &'a Workspace,
+        semantics: &'a S,
+    ) -> Result<MatchFinder<'a, S>, SsrError>
+        ensures { MakesFinder workspace.now (MakesFirst workspace.now (S.meanings semantics.now)) result }
+    {
+        match Context::at_first_file(alloc, workspace, semantics) {
+            Ok(context) => Ok(MatchFinder::with(alloc, workspace, semantics, context)),
+            Err(refusal) => Err(told(alloc, refusal)),
+        }
+    }
+
+    /// A finder without rules.
+    fn with(
+        alloc: Global,
+        workspace: &'a Workspace,
+        semantics: &'a S,
+        context: Context,
+    ) -> MatchFinder<'a, S>
+        ensures { result ≡ record { workspace = workspace.now; context = context; rules = [] } }
     {
         MatchFinder {
             alloc,
-            tree,
+            workspace,
+            semantics,
+            context,
             rules: Vec::new(alloc),
         }
     }
@@ -63,53 +131,69 @@ impl<'a> MatchFinder<'a> {
         ensures answer { Adds self.old self.new (resolved_kinds rule.names rule.kinds) result }
         ensures unchanged { OnErr result (self.new ≡ self.old) }
     {
-        let mut kinds = rule.resolve(self.alloc)?;
-        self.rules.append(&mut kinds)?;
-        Ok(())
+        let kinds = rule.resolve(self.alloc)?;
+        Ok(self.add_kinds(kinds)?)
     }
 
-    /// The edits of the files by their numbers: the file 0 has one if something matches. Each outermost match
-    /// becomes its rule's template with what its placeholders hold, in which the matches are rewritten likewise.
-    pub fn edits(&self) -> Result<BTreeMap<FileId, TextEdit>, EditError>
-        ensures edits { IfOk result (λ m. m.entries ≡ file_edits (edit_of self.now.code self.now.rules)) }
-        ensures fits { IfOk result (λ _. All (FitsText (source_of self.now.code)) (edit_of self.now.code self.now.rules)) }
-        ensures order { IfOk result (λ _. ChangesInOrder 0 (edit_of self.now.code self.now.rules)) }
-        ensures memory { IfErr result (λ e. e ≡ EditError.Memory) }
+    /// Adds all kinds of a search pattern likewise. They have no template: a finder that has one has no edits.
+    pub fn add_search_pattern(&mut self, pattern: SsrPattern) -> Result<(), SsrError>
+        ensures answer { Adds self.old self.new (resolved_kinds pattern.names pattern.kinds) result }
+        ensures unchanged { OnErr result (self.new ≡ self.old) }
     {
-        let kept = self.kept_matches()?;
-        Ok(edits(self.alloc, self.tree, &self.rules, &kept)?)
+        let kinds = pattern.resolve(self.alloc)?;
+        Ok(self.add_kinds(kinds)?)
     }
 
-    /// The kept matches as `edits` replaces them: the outermost ones, each with what its placeholders hold. Every
-    /// node of the file is tried. A match has each placeholder of its rule once, and their ranges share no byte; nor
-    /// do those of the matches of one list.
+    /// Adds what a rule or a pattern resolves to, behind the others.
+    fn add_kinds(&mut self, mut kinds: Vec<ResolvedRule>) -> Result<(), AllocError>
+        requires { All (λ kind. HasEachOnce kind.names kind.pattern) kinds.items }
+        ensures added { IfOk result (λ _. self.new ≡ record self.old { rules = self.old.rules ++ kinds.items }) }
+        ensures unchanged { OnErr result (self.new ≡ self.old) }
+    {
+        self.rules.append(&mut kinds)
+    }
+
+    /// The edits of the files by their numbers, of those in which something matches: each outermost kept match becomes its
+    /// rule's template with what its placeholders hold, in which the matches are rewritten likewise. `NoTemplate` where a
+    /// rule has none, whether it matches or not; else `Clash` where two matches of one list share a byte, and their ranges
+    /// or what stands for them differ: the first two.
+    pub fn edits(&self) -> Result<BTreeMap<FileId, TextEdit>, EditError>
+        ensures answer { Edits self.now result }
+        ensures fits { IfOk result (λ edits. EditsFit self.now.workspace edits) }
+    {
+        if !have_templates(&self.rules) {
+            return Err(EditError::NoTemplate);
+        }
+        let (kept, lists) = self.outcome()?;
+        edits(self.alloc, &kept, &lists, &self.rules)
+    }
+
+    /// The kept matches as `edits` replaces them: the outermost ones, each with what its placeholders hold. A match has each
+    /// placeholder of its rule once, and their ranges share no byte.
     pub fn matches(&self) -> Result<SsrMatches<'a>, AllocError>
-        ensures shows { IfOk result (λ found. ShowKept self.now.code self.now.rules found.matches.items) }
-        ensures kept { IfOk result (λ _. AreKept self.now.rules self.now.code) }
+        ensures shows { IfOk result (λ found. ShowKept self.now found.matches.items) }
         ensures binds { IfOk result (λ found. BindOnce self.now.rules found.matches.items) }
-        ensures apart { IfOk result (λ found. AreApart found.matches.items) }
     {
         self.scan_matches()
     }
 
-    /// The same list, always found by trying every node.
+    /// The same list, always found by trying every node at which a rule is permitted.
     pub fn scan_matches(&self) -> Result<SsrMatches<'a>, AllocError>
-        ensures shows { IfOk result (λ found. ShowKept self.now.code self.now.rules found.matches.items) }
-        ensures kept { IfOk result (λ _. AreKept self.now.rules self.now.code) }
+        ensures shows { IfOk result (λ found. ShowKept self.now found.matches.items) }
         ensures binds { IfOk result (λ found. BindOnce self.now.rules found.matches.items) }
-        ensures apart { IfOk result (λ found. AreApart found.matches.items) }
     {
-        let kept = self.kept_matches()?;
-        let matches = nested_matches(self.alloc, self.tree, &self.rules, &kept)?;
+        let (kept, lists) = self.outcome()?;
+        let matches = nested_matches(self.alloc, &kept, &lists, &self.rules)?;
         Ok(SsrMatches { matches })
     }
 
-    /// The kept ones among the matches of all rules, with what holds them.
-    fn kept_matches(&self) -> Result<KeptMatches, AllocError>
-        ensures matches { IfOk result (λ kept. kept.matches.items ≡ kept_in self.now.rules self.now.code) }
-        ensures held { IfOk result (λ kept. AreHeld self.now.code kept.matches.items kept.holders.items) }
+    /// The kept ones among the matches of all rules, and their lists.
+    fn outcome(&self) -> Result<(KeptMatches<'a>, Lists), AllocError>
+        ensures { IfOk result (λ outcome. IsOutcome self.now outcome.0 outcome.1) }
     {
-        let found = find_matches(self.alloc, &self.rules, self.tree)?;
-        kept(self.alloc, self.tree, found)
+        let found = find_matches(self.alloc, self.workspace, &self.context, &self.rules)?;
+        let kept = keep(self.alloc, self.workspace, found)?;
+        let lists = Lists::new(self.alloc, &kept)?;
+        Ok((kept, lists))
     }
 }

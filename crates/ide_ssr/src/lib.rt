@@ -2,17 +2,15 @@
 #![tactic(auto)]
 
 mod comments;
-mod edits;
 mod finder;
-mod found;
-mod holders;
-mod kept;
 pub mod laws;
+mod made;
 mod matches;
 mod nesting;
-mod search;
+mod parts;
+mod starts;
 
-pub use edits::EditError;
 pub use finder::MatchFinder;
-pub use ide_ssr_rules::{SsrError, SsrRule, Var};
+pub use ide_ssr_rewriting::EditError;
+pub use ide_ssr_rules::{SsrError, SsrPattern, SsrRule, Var};
 pub use matches::{Match, PlaceholderMatch, SsrMatches};

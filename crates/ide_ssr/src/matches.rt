@@ -1,16 +1,14 @@
 //! What a caller sees of kept matches: those in no other one, with the others nested in their placeholders.
 
 ghost use Rattle.std.specs.Prelude.{◌≡◌, IfOk, string_bytes};
-ghost use Rattle.ide_ssr.specs.Matches.{text_of, range_of, node_of, rule_of, placeholders_of, name_of, place_of, held_node, inner_of, comments_of};
+ghost use Rattle.ide_ssr.specs.Matches.{text_of, range_of, node_of, rule_of, placeholders_of, name_of, place_of, inner_of, comments_of};
 
 use ide_ssr_rules::Var;
-use ssr_base::{FileId, FileRange, NodeId};
-use ssr_syntax_lex::TextRange;
-use ssr_syntax_tree::NodeNo;
+use ssr_base::{FileRange, NodeId};
 use std::alloc::{AllocError, Global};
 
-/// The matches of a search: those that stand in no placeholder of another one, in order. The others stand
-/// below them.
+/// The matches of a search: those that stand in no placeholder of another one, by file, start and end, rule, tree and node. The
+/// others stand below them.
 pub struct SsrMatches<'a> {
     pub matches: Vec<Match<'a>>,
 }
@@ -21,7 +19,6 @@ fn leave_inner<'a>(placeholders: Vec<PlaceholderMatch<'a>>, left: &mut Vec<Match
         let PlaceholderMatch {
             var: _,
             range: _,
-            node: _,
             mut inner,
         } = placeholder;
         // Where there is no memory for them they are dropped here, level by level on the stack. One alone always
@@ -63,8 +60,8 @@ impl Drop for SsrMatches<'_> {
 #[derive(Drop)]
 pub struct Match<'a> {
     pub(crate) text: &'a str,
-    pub(crate) range: TextRange,
-    pub(crate) node: NodeNo,
+    pub(crate) range: FileRange,
+    pub(crate) node: NodeId,
     pub(crate) rule_index: usize,
     pub(crate) placeholders: Vec<PlaceholderMatch<'a>>,
     pub(crate) comments: Vec<FileRange>,
@@ -75,55 +72,38 @@ pub struct Match<'a> {
 #[derive(Drop)]
 pub struct PlaceholderMatch<'a> {
     pub(crate) var: Var,
-    pub(crate) range: TextRange,
-    pub(crate) node: NodeNo,
+    pub(crate) range: FileRange,
     pub(crate) inner: Vec<Match<'a>>,
 }
 
-/// The range, of the file 0: a search is over this one alone.
-pub(crate) fn in_first_file(range: TextRange) -> FileRange
-    ensures { result ≡ record { file_id = record { 0 = 0 }; range = range } }
-{
-    FileRange {
-        file_id: FileId(0),
-        range,
-    }
-}
-
-/// The node, of the tree 0, which is that file's.
-fn in_first_tree(node: NodeNo) -> NodeId
-    ensures { result ≡ record { tree = 0; node = node } }
-{
-    NodeId { tree: 0, node }
-}
-
 impl<'a> Match<'a> {
-    /// The text that matches, as a string of its own.
+    /// The text of the node that matches, as a string of its own.
     pub fn matched_text(&self, alloc: Global) -> Result<String, AllocError>
         ensures { IfOk result (λ text. string_bytes text ≡ text_of self.now) }
     {
         String::from_str(alloc, self.text)
     }
 
-    /// The text that matches, in the source.
+    /// The text of the node that matches, in the source of its tree.
     pub fn matched_str(&self) -> &'a str
         ensures { result.now ≡ text_of self.now }
     {
         self.text
     }
 
-    /// The bytes that match.
+    /// The bytes of a file that match: of a match in what a macro call stands for, those that its tokens come from, and what
+    /// lies between them.
     pub fn range(&self) -> FileRange
-        ensures { result ≡ record { file_id = record { 0 = 0 }; range = range_of self.now } }
+        ensures { result ≡ range_of self.now }
     {
-        in_first_file(self.range)
+        self.range
     }
 
     /// The node that matches.
     pub fn node(&self) -> NodeId
-        ensures { result ≡ record { tree = 0; node = node_of self.now } }
+        ensures { result ≡ node_of self.now }
     {
-        in_first_tree(self.node)
+        self.node
     }
 
     /// The place of the rule among the rules of the search.
@@ -133,7 +113,7 @@ impl<'a> Match<'a> {
         self.rule_index
     }
 
-    /// What the placeholders hold, in the order in which they stand in the pattern.
+    /// What the placeholders hold, by where it begins in its file.
     pub fn placeholders(&self) -> &[PlaceholderMatch<'a>]
         ensures { result.now ≡ placeholders_of self.now }
     {
@@ -156,21 +136,14 @@ impl<'a> PlaceholderMatch<'a> {
         &self.var
     }
 
-    /// The bytes that it holds.
+    /// The bytes of a file that what it holds comes from.
     pub fn range(&self) -> FileRange
-        ensures { result ≡ record { file_id = record { 0 = 0 }; range = place_of self.now } }
+        ensures { result ≡ place_of self.now }
     {
-        in_first_file(self.range)
+        self.range
     }
 
-    /// The node that it holds.
-    pub fn node(&self) -> NodeId
-        ensures { result ≡ record { tree = 0; node = held_node self.now } }
-    {
-        in_first_tree(self.node)
-    }
-
-    /// The matches in it that stand in no placeholder of another one in it, in order.
+    /// The matches in it that stand in no placeholder of another one in it, in the same order.
     pub fn inner(&self) -> &[Match<'a>]
         ensures { result.now ≡ inner_of self.now }
     {

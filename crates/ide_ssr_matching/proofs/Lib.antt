@@ -5,3 +5,5 @@ mod Agreement
 mod Apart
 mod Held
 mod Roots
+mod Nodes
+pub mod Deciding

@@ -1,4 +1,4 @@
--- The lemmas that the crates above may cite. The other files of lemmas here are this crate's own.
+-- The lemmas that the crates above may cite. The other files of lemmas here are this crate's own, but for `Deciding`.
 
 -- the relation and what is computed along the pattern
 pub use Rattle.ide_ssr_matching.proofs.Agreement.{bindings_of-Matches, Matches-bindings_of}
@@ -6,3 +6,5 @@ pub use Rattle.ide_ssr_matching.proofs.Agreement.{bindings_of-Matches, Matches-b
 pub use Rattle.ide_ssr_matching.proofs.Apart.{HoldNodes, placeholders_bound, bindings_hold, all_bound, all_apart}
 -- where that stands
 pub use Rattle.ide_ssr_matching.proofs.Held.{held_in, held_apart}
+-- trees and nodes of a workspace, and those that a match holds
+pub use Rattle.ide_ssr_matching.proofs.Nodes.{IsTree, is_tree, of_tree, in_tree, told_node, ranged_node, has_node, has_held}

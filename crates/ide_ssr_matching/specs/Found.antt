@@ -25,11 +25,14 @@ IsAtOrBelow trees x a = (x ≡ a) ⊎ IsBelow trees x a
 abbrev pub HasByte : FileSpan → Type 0
 HasByte range = range.span.start < range.span.end
 
+-- two ranges of one file have no byte in common
+abbrev pub AreDisjoint : FileSpan → FileSpan → Type 0
+AreDisjoint r s = min r.span.end s.span.end ≤ max r.span.start s.span.start
+
 -- the original ranges of two nodes of one tree, where they have some, have no byte in common
 abbrev pub ShareNoByte : List Planted → NodeId → NodeId → Type 0
 ShareNoByte trees a b =
-    (r s : FileSpan) → original_range trees a ≡ Some r → original_range trees b ≡ Some s
-    → min r.span.end s.span.end ≤ max r.span.start s.span.start
+    (r s : FileSpan) → original_range trees a ≡ Some r → original_range trees b ≡ Some s → AreDisjoint r s
 
 -- what is asked of a match
 pub record IsMatch (trees : List Planted) (m : Found) : Type 0 where

@@ -1,6 +1,6 @@
 -- How two nodes lie to each other: in one tree by their numbers, in two trees by the call of the later one.
 use Rattle.std.proofs.Common.{◌≡◌, ◌≢◌, ℕ, ◌+◌, ◌-◌, ◌<◌, ◌≤◌, ◌==◌, ◌↔◌, inl, inr, Bool, true, false, not, List, [], ◌∷◌, length, Option, Some, None, refl, sym, ap, ◌∙◌, subst, arith}
-use Rattle.std.proofs.lemmas.Bool.{cases_lt, cases_order, iff_false, not_from_false, false_from_ne_true, not-true, ltb-true, lt-ltb, leb-true, le-leb, eq-eqb, eqb-true, and_parts, and_from, false≢true}
+use Rattle.std.proofs.lemmas.Bool.{cases_lt, cases_order, iff_false, not_from_false, false_from_ne_true, not-true, ltb-true, lt-ltb, leb-true, le-leb, eq-eqb, and_from, false≢true}
 use Rattle.std.proofs.lemmas.Option.{same_Some}
 use Rattle.std.specs.Prelude.{IsTrue, nat_lt, nat_le}
 use Rattle.std.specs.Option.{IsSomeAnd, option_map}
@@ -10,10 +10,10 @@ use Rattle.ssr_base.specs.declared.ids.NodeId.{NodeId}
 use Rattle.ssr_base.specs.Workspace.{Planted, planted, node_id, same_id, above}
 use Rattle.ssr_base.specs.Built.{IsNodeOf, CallsAreEarlier}
 use Rattle.ssr_base.specs.Laws.{IsBelow}
-use Rattle.ssr_base.proofs.Shared.{is_up}
+use Rattle.ssr_base.proofs.Shared.{is_up, planted_first, planted_earlier, same_nodes}
 use Rattle.ide_ssr_matching.specs.Found.{IsAtOrBelow}
 use Rattle.ide_ssr_nesting.specs.Order.{place, end_place, Precedes}
-use Rattle.ide_ssr_nesting.proofs.Nodes.{first_or_earlier, node_within, planted_first, planted_earlier, above_root, above_earlier, same_nodes}
+use Rattle.ide_ssr_nesting.proofs.Nodes.{first_or_earlier, node_within, above_root, above_earlier, same_numbers}
 use Rattle.ide_ssr_nesting.proofs.Put.{put}
 use Rattle.ide_ssr_nesting.proofs.Laid.{laid, put_least, apart}
 use Rattle.ide_ssr_nesting.proofs.Above.{below_over, below_is_between, one_place_each}
@@ -234,7 +234,7 @@ module _ (trees : List Planted) (grown : CallsAreEarlier trees) (a b : NodeId) (
       let lie = in_one_tree trees syntax a b grown (sym is) same a_in b_in in
       elim (cases_lt a.node.0 b.node.0) [
         | inl less ↦ inr ((below_is_between trees grown a b a_in b_in).1 (lie.before less, lie.within high))
-        | inr least ↦ inl (same_nodes b a (sym same) (omega arith))
+        | inr least ↦ inl (same_numbers b a (sym same) (omega arith))
       ]
 
   pub held_in_tree : (syntax : Syntax) → Some syntax ≡ option_map (λ (p : Planted). p.syntax) (planted trees a.tree) → a.tree ≡ b.tree
@@ -312,11 +312,6 @@ not_below_itself trees x grown below = let before = (below_over trees grown x x 
 
 -- ** Two nodes, as they are compared.
 
-pub same_read : (a b : NodeId) → true ≡ same_id a b → a ≡ b
-same_read a b is =
-    let parts = and_parts (a.tree == b.tree) (a.node.0 == b.node.0) (sym is) in
-    same_nodes a b (eqb-true a.tree b.tree parts.0) (eqb-true a.node.0 b.node.0 parts.1)
-
 pub other_read : (a b : NodeId) → false ≡ same_id a b → a ≡ b → ⊥
 other_read a b other same =
     false≢true (other ∙ and_from (a.tree == b.tree) (a.node.0 == b.node.0) (eq-eqb a.tree b.tree (ap (λ (x : NodeId). x.tree) same))
@@ -324,7 +319,7 @@ other_read a b other same =
 
 pub above_itself : (trees : List Planted) (a b : NodeId) → CallsAreEarlier trees → true ≡ same_id a b → IsTrue false ↔ IsBelow trees b a
 above_itself trees a b grown is =
-    told_not (λ below. not_below_itself trees a grown (subst (λ x. IsBelow trees x a) (sym (same_read a b is)) below))
+    told_not (λ below. not_below_itself trees a grown (subst (λ x. IsBelow trees x a) (sym (same_nodes a b (sym is))) below))
 
 pub above_other : (trees : List Planted) (a b : NodeId) (r : Bool) → false ≡ same_id a b → IsTrue r ↔ IsAtOrBelow trees b a → IsTrue r ↔ IsBelow trees b a
 above_other trees a b r other told = (

@@ -8,7 +8,7 @@ use Rattle.ide_ssr_nesting.specs.declared.holders.Holder.{Holder}
 use Rattle.ide_ssr_nesting.specs.Kept.{IsOver, Fits, ComesBefore, AreKept}
 use Rattle.ide_ssr_nesting.specs.Holding.{AreHeld}
 use Rattle.ide_ssr_nesting.specs.Private.Nearest.{IsKeptIfFits}
-use Rattle.ide_ssr_nesting.proofs.Elements.{pairs_head, pairs_tail}
+use Rattle.ssr_syntax_tree.proofs.Lists.{pairs_head, pairs_tail}
 use Rattle.ide_ssr_nesting.proofs.Over.{not_over, not_over_itself}
 
 -- the kept ones of those that came, where `rest` is still to come

@@ -4,14 +4,14 @@ use Rattle.std.proofs.lemmas.Bool.{cases_lt, cases_eq}
 use Rattle.std.proofs.lemmas.Option.{same_Some}
 use Rattle.std.specs.Prelude.{IfSome}
 use Rattle.ssr_syntax_tree.specs.Places.{HasNode, node_of, size_of}
-use Rattle.ssr_syntax_tree.proofs.Shared.{below_fits}
+use Rattle.ssr_syntax_tree.proofs.Shared.{below_fits, root_size}
 use Rattle.ssr_base.specs.declared.ids.NodeId.{NodeId}
 use Rattle.ssr_base.specs.Workspace.{Planted, node_id, above}
 use Rattle.ssr_base.specs.Built.{IsNodeOf, CallsAreEarlier}
 use Rattle.ssr_base.proofs.Shared.{is_up}
 use Rattle.ide_ssr_nesting.specs.Order.{count_in, count_of, place, end_place}
-use Rattle.ide_ssr_nesting.proofs.Parents.{has_parent, root_size}
-use Rattle.ide_ssr_nesting.proofs.Nodes.{first_or_earlier, node_within, above_root, above_inner, above_earlier, same_nodes}
+use Rattle.ide_ssr_nesting.proofs.Parents.{has_parent}
+use Rattle.ide_ssr_nesting.proofs.Nodes.{first_or_earlier, node_within, above_root, above_inner, above_earlier, same_numbers}
 use Rattle.ide_ssr_nesting.proofs.Put.{IsLaid, IsPut, put}
 
 -- ** What moves keeps its order.
@@ -83,7 +83,7 @@ module _ (p : Planted) (earlier : List Planted) (laid : IsLaid earlier) (grown :
   one_more a b a_in b_in same =
       elim (first_or_earlier p earlier a a_in) [
         | inl new_a ↦ elim (first_or_earlier p earlier b b_in) [
-          | inl new_b ↦ same_nodes a b (new_a.0 ∙ sym new_b.0) (omega (arith, h.new_place a new_a.0, h.new_place b new_b.0))
+          | inl new_b ↦ same_numbers a b (new_a.0 ∙ sym new_b.0) (omega (arith, h.new_place a new_a.0, h.new_place b new_b.0))
           | inr old_b ↦ absurd (mixed a b new_a old_b same)
         ]
         | inr old_a ↦ elim (first_or_earlier p earlier b b_in) [

@@ -6,7 +6,6 @@ mod Put
 mod Laid
 mod Above
 mod Compared
-mod Elements
 mod Over
 mod Under
 mod Nearest
@@ -18,3 +17,6 @@ mod Listing
 mod Listed
 mod OneHolding
 mod InLists
+mod Arranged
+mod SomeKept
+mod SomeListing

@@ -25,8 +25,8 @@ use Rattle.ide_ssr_nesting.specs.Kept.{ComesBefore}
 use Rattle.ide_ssr_nesting.specs.Holding.{Kept, IsKept}
 use Rattle.ide_ssr_nesting.specs.Lists.{lists_key, Listing, AreLists}
 use Rattle.ide_ssr_nesting.specs.Private.Rows.{IsRowOf}
-use Rattle.ide_ssr_nesting.proofs.Elements.{pairs_at}
-use Rattle.ide_ssr_nesting.proofs.Nodes.{same_nodes}
+use Rattle.ssr_syntax_tree.proofs.Lists.{pairs_at}
+use Rattle.ide_ssr_nesting.proofs.Nodes.{same_numbers}
 use Rattle.ide_ssr_nesting.proofs.OneKept.{not_before_same}
 
 -- ** The rows, one after another.
@@ -71,7 +71,7 @@ beside_more held places new_places holders new place holder so_far is places_is 
 
 -- ** All places, each once.
 
-in_range : (n m : ℕ) → Contains (range_with_len 0 n) m ↔ (m < n)
+pub in_range : (n m : ℕ) → Contains (range_with_len 0 n) m ↔ (m < n)
 in_range n m = (
   (λ at. (
       let within = at.1 in
@@ -118,17 +118,17 @@ abbrev pub row_none : Row
 row_none = record { key = []; place = 0 }
 
 -- keys that compare as equal are the same
-same_keys : (xs ys : List ℕ) → slice_cmp nat_cmp xs ys ≡ Equal → xs ≡ ys
+pub same_keys : (xs ys : List ℕ) → slice_cmp nat_cmp xs ys ≡ Equal → xs ≡ ys
 same_keys xs ys is = (bytes_eq-Decides xs ys).0 (sym (is_eq-slice_cmp xs ys) ∙ ap is_eq is)
 
 module _ (kept : Kept) (known : IsKept kept) where
   -- rows of two places have two keys
-  keys_differ : (r s : Row) → IsRowOf kept r → IsRowOf kept s → r.key ≡ s.key → r.place ≡ s.place
+  pub keys_differ : (r s : Row) → IsRowOf kept r → IsRowOf kept s → r.key ≡ s.key → r.place ≡ s.place
   keys_differ r s one other same =
       let ts = trees kept.workspace in
       let e = sym one.key ∙ same ∙ other.key in
       let rule : one.match.rule ≡ other.match.rule = ap (λ l. get_or l 6 0) e in
-      let node = same_nodes one.match.node other.match.node (ap (λ l. get_or l 7 0) e) (ap (λ l. get_or l 8 0) e) in
+      let node = same_numbers one.match.node other.match.node (ap (λ l. get_or l 7 0) e) (ap (λ l. get_or l 8 0) e) in
       elim (cases_order r.place s.place) [
         | inl at ↦ at
         | inr (inl less) ↦ absurd (not_before_same ts known.built.grown one.match other.match (node, rule)

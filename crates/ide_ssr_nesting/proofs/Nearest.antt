@@ -14,7 +14,7 @@ use Rattle.ide_ssr_nesting.specs.declared.holders.Holder.{Holder}
 use Rattle.ide_ssr_nesting.specs.Kept.{IsOver, LiesUnder, Fits, ComesBefore}
 use Rattle.ide_ssr_nesting.specs.Holding.{IsOutermost, IsNearest, IsHeld, AreHeld}
 use Rattle.ide_ssr_nesting.specs.Private.Nearest.{IsNearestAt}
-use Rattle.ide_ssr_nesting.proofs.Elements.{all_at, pairs_at, contains_at, place_in, pushed_at, slice_get-left}
+use Rattle.ssr_syntax_tree.proofs.Lists.{all_at, pairs_at, contains_at, place_in, pushed_at, slice_get-left}
 use Rattle.ide_ssr_nesting.proofs.Over.{not_before_itself, not_over, not_over_itself, closed}
 use Rattle.ide_ssr_nesting.proofs.Under.{under_outer}
 

@@ -10,7 +10,7 @@ use Rattle.ide_ssr_nesting.specs.declared.holders.Holder.{Holder}
 use Rattle.ide_ssr_nesting.specs.Kept.{IsOver, ComesBefore, LiesUnder}
 use Rattle.ide_ssr_nesting.specs.Holding.{IsOutermost, IsNearest, IsHeldBy, IsHeld, AreHeld, Kept, IsKept}
 use Rattle.ide_ssr_nesting.specs.Laws.{HeldBehind, OneHolding}
-use Rattle.ide_ssr_nesting.proofs.Elements.{all_at, pairs_at, contains_at, stands_at}
+use Rattle.ssr_syntax_tree.proofs.Lists.{all_at, pairs_at, contains_at, stands_at}
 use Rattle.ide_ssr_nesting.proofs.Over.{not_before_itself, not_over, not_over_itself, over_before, one_way}
 use Rattle.ide_ssr_nesting.proofs.Under.{one_placeholder}
 

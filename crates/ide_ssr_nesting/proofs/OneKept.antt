@@ -8,7 +8,7 @@ use Rattle.ide_ssr_matching.specs.Found.{Found, IsMatch, AreMatches}
 use Rattle.ide_ssr_nesting.specs.Order.{place}
 use Rattle.ide_ssr_nesting.specs.Kept.{IsOver, Fits, ComesBefore, AreKept}
 use Rattle.ide_ssr_nesting.specs.Laws.{OneKept, LiesInOnePlaceholder}
-use Rattle.ide_ssr_nesting.proofs.Elements.{at_front, front_or_back, pairs_head, pairs_right, pairs_across}
+use Rattle.ssr_syntax_tree.proofs.Lists.{at_front, front_or_back, pairs_head, pairs_right, pairs_across}
 use Rattle.ide_ssr_nesting.proofs.Above.{one_place_each}
 use Rattle.ide_ssr_nesting.proofs.Over.{before_trans, not_before_itself, not_over, over_before}
 use Rattle.ide_ssr_nesting.proofs.Under.{one_placeholder}
@@ -17,7 +17,7 @@ abbrev IsSame : Found → Found → Type 0
 IsSame k m = (k.node ≡ m.node) × (k.rule ≡ m.rule)
 
 module _ (trees : List Planted) (grown : CallsAreEarlier trees) where
-  compared : (k m : Found) → IsNodeOf trees k.node → IsNodeOf trees m.node → ComesBefore trees k m ⊎ (ComesBefore trees m k ⊎ IsSame k m)
+  pub compared : (k m : Found) → IsNodeOf trees k.node → IsNodeOf trees m.node → ComesBefore trees k m ⊎ (ComesBefore trees m k ⊎ IsSame k m)
   compared k m k_in m_in = elim (cases_order (place trees k.node) (place trees m.node)) [
     | inr (inl less) ↦ inl (inl less)
     | inr (inr more) ↦ inr (inl (inl more))

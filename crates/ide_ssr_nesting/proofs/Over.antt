@@ -6,11 +6,12 @@ use Rattle.ssr_base.specs.declared.ids.NodeId.{NodeId}
 use Rattle.ssr_base.specs.Workspace.{Planted, same_id}
 use Rattle.ssr_base.specs.Built.{IsNodeOf, CallsAreEarlier}
 use Rattle.ssr_base.specs.Laws.{IsBelow}
+use Rattle.ssr_base.proofs.Shared.{same_nodes}
 use Rattle.ide_ssr_matching.specs.Found.{Found}
 use Rattle.ide_ssr_nesting.specs.Order.{place}
 use Rattle.ide_ssr_nesting.specs.Kept.{IsOver, ComesBefore}
 use Rattle.ide_ssr_nesting.proofs.Above.{below_over, below_is_between}
-use Rattle.ide_ssr_nesting.proofs.Compared.{same_read, not_below_itself}
+use Rattle.ide_ssr_nesting.proofs.Compared.{not_below_itself}
 
 pub before_trans : (trees : List Planted) (j k m : Found) → ComesBefore trees j k → ComesBefore trees k m → ComesBefore trees j m
 before_trans trees j k m (inl x) (inl y) = inl (omega arith)
@@ -54,7 +55,7 @@ module _ (trees : List Planted) (grown : CallsAreEarlier trees) where
 pub over_same : (trees : List Planted) (k m : Found) (a b : NodeId) (r q : ℕ) → CallsAreEarlier trees → a ≡ k.node → b ≡ m.node → true ≡ same_id a b → r ≡ k.rule → q ≡ m.rule
     → IsTrue (nat_lt r q) ↔ IsOver trees k m
 over_same trees k m a b r q grown at_k at_m is rule_k rule_m =
-    let node : k.node ≡ m.node = sym at_k ∙ same_read a b is ∙ at_m in (
+    let node : k.node ≡ m.node = sym at_k ∙ same_nodes a b (sym is) ∙ at_m in (
       (λ test. inr (node, let less = ltb-true r q test in omega arith)),
       (λ over. elim over [
         | inl below ↦ absurd (not_below_itself trees k.node grown (subst (λ x. IsBelow trees x k.node) (sym node) below))

@@ -6,8 +6,8 @@ pub use Rattle.ide_ssr_nesting.proofs.Compared.{LieInOneTree, in_one_tree}
 pub use Rattle.ide_ssr_nesting.proofs.Over.{one_way, over_before, not_over_itself}
 -- the kept matches, and what holds them
 pub use Rattle.ide_ssr_nesting.proofs.OneKept.{one_kept, lies_in_one}
+pub use Rattle.ide_ssr_nesting.proofs.SomeKept.{kept_exist}
 pub use Rattle.ide_ssr_nesting.proofs.OneHolding.{held_behind, one_holding}
 -- their lists
+pub use Rattle.ide_ssr_nesting.proofs.SomeListing.{lists_exist}
 pub use Rattle.ide_ssr_nesting.proofs.InLists.{lists_what_is_held, lists_in_order, lists_each_once, one_listing}
--- elements by their places
-pub use Rattle.ide_ssr_nesting.proofs.Elements.{pairs_at, contains_at, pairs_head, pairs_tail}

@@ -13,8 +13,8 @@ use Rattle.ide_ssr_matching.specs.Found.{Found, IsMatch, AreMatches}
 use Rattle.ide_ssr_nesting.specs.Order.{place}
 use Rattle.ide_ssr_nesting.specs.Kept.{ComesBefore}
 use Rattle.ide_ssr_nesting.specs.Private.Sorting.{is_ahead, is_same}
-use Rattle.ide_ssr_nesting.proofs.Elements.{at_front, at_back, front_or_back}
-use Rattle.ide_ssr_nesting.proofs.Nodes.{same_nodes}
+use Rattle.ssr_syntax_tree.proofs.Lists.{at_front, at_back, front_or_back}
+use Rattle.ssr_base.proofs.Shared.{same_nodes}
 use Rattle.ide_ssr_nesting.proofs.Laid.{laid}
 use Rattle.ide_ssr_nesting.proofs.Over.{before_trans}
 use Rattle.ide_ssr_nesting.proofs.Ahead.{before_ahead}
@@ -24,8 +24,7 @@ use Rattle.ide_ssr_nesting.proofs.Ahead.{before_ahead}
 pub same_parts : (k m : Found) → is_same k m ≡ true → (k.node ≡ m.node) × (k.rule ≡ m.rule)
 same_parts k m is =
     let parts = and_parts ((k.node.tree == m.node.tree) && (k.node.node.0 == m.node.node.0)) (k.rule == m.rule) is in
-    let node = and_parts (k.node.tree == m.node.tree) (k.node.node.0 == m.node.node.0) parts.0 in
-    (same_nodes k.node m.node (eqb-true k.node.tree m.node.tree node.0) (eqb-true k.node.node.0 m.node.node.0 node.1), eqb-true k.rule m.rule parts.1)
+    (same_nodes k.node m.node parts.0, eqb-true k.rule m.rule parts.1)
 
 parts_same : (k m : Found) → k.node ≡ m.node → k.rule ≡ m.rule → is_same k m ≡ true
 parts_same k m node rule =

@@ -5,12 +5,12 @@ use Rattle.std.proofs.lemmas.Option.{same_Some, slice_get_within, slice_get-get_
 use Rattle.std.specs.Prelude.{IsTrue}
 use Rattle.std.specs.Option.{IsSomeAnd}
 use Rattle.ssr_base.specs.declared.ids.NodeId.{NodeId}
-use Rattle.ssr_base.specs.Workspace.{Planted, FileSpan, node_id, original_range}
+use Rattle.ssr_base.specs.Workspace.{Planted, FileSpan, original_range}
 use Rattle.ssr_base.specs.Laws.{LiesIn, RangesNest}
 use Rattle.ide_ssr_matching.specs.declared.bindings.Binding.{Binding}
 use Rattle.ide_ssr_matching.specs.Found.{Found, IsAtOrBelow, held_node, HasByte, ShareNoByte, IsMatch}
 use Rattle.ide_ssr_nesting.specs.Kept.{LiesWithin, LiesUnder}
-use Rattle.ide_ssr_nesting.proofs.Elements.{all_at, pairs_at}
+use Rattle.ssr_syntax_tree.proofs.Lists.{all_at, pairs_at}
 
 -- the two ranges, one of which lies in the other
 pub record Ranges (trees : List Planted) (inner outer : NodeId) : Type 0 where
@@ -122,14 +122,16 @@ binding_tested trees k m i range r is within told =
           (subst (λ o. IsSomeAnd o (λ inner. IsSomeAnd (original_range trees (held_node k.node.tree under.binding)) (λ outer. LiesIn inner outer))) (sym is) under.within))),
     )
 
-pub binding_read : (trees : List Planted) (k m : Found) (bs : List Binding) (i : ℕ) (at_m at_k : NodeId) (range : FileSpan) (r : Bool)
-    → bs ≡ k.bindings → at_m ≡ m.node → at_k ≡ k.node → Some range ≡ original_range trees at_m → i < length bs
-    → IsTrue r ↔ IsSomeAnd (original_range trees (node_id at_k.tree (get_or bs i none_bound).node.0)) (λ outer. LiesIn range outer)
-    → IsTrue r ↔ LiesUnder trees k m i
-binding_read trees k m bs i at_m at_k range r bs_is m_is k_is range_is within told =
+pub binding_read : (trees : List Planted) (k m : Found) (bs : List Binding) (i : ℕ) (at_m at_k held : NodeId) (range : FileSpan) (r : Bool)
+    → bs ≡ k.bindings → at_m ≡ m.node → at_k ≡ k.node → held ≡ held_node at_k.tree (get_or bs i none_bound) → Some range ≡ original_range trees at_m → i < length bs
+    → IsTrue r ↔ IsSomeAnd (original_range trees held) (λ outer. LiesIn range outer) → IsTrue r ↔ LiesUnder trees k m i
+binding_read trees k m bs i at_m at_k held range r bs_is m_is k_is held_is range_is within told =
+    let same : held ≡ held_node k.node.tree (get_or k.bindings i none_bound) =
+    held_is
+    ∙ ap (λ bs. held_node at_k.tree (get_or bs i none_bound)) bs_is
+    ∙ ap (λ (x : NodeId). held_node x.tree (get_or k.bindings i none_bound)) k_is in
     binding_tested trees k m i range r (range_is ∙ ap (original_range trees) m_is) (subst (λ bs. i < length bs) bs_is within)
-    (subst (λ (x : NodeId). IsTrue r ↔ IsSomeAnd (original_range trees (node_id x.tree (get_or k.bindings i none_bound).node.0)) (λ outer. LiesIn range outer)) k_is
-    (subst (λ (bs : List Binding). IsTrue r ↔ IsSomeAnd (original_range trees (node_id at_k.tree (get_or bs i none_bound).node.0)) (λ outer. LiesIn range outer)) bs_is told))
+    (subst (λ x. IsTrue r ↔ IsSomeAnd (original_range trees x) (λ outer. LiesIn range outer)) same told)
 
 pub none_so_far : (trees : List Planted) (k m : Found) (i : ℕ) → ((n : ℕ) → n < i → LiesUnder trees k m n → ⊥) → (LiesUnder trees k m i → ⊥)
     → (n : ℕ) → n < i + 1 → LiesUnder trees k m n → ⊥

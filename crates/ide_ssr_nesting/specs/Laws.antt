@@ -4,7 +4,7 @@ use Rattle.std.specs.Cmp.Lexicographic.{slice_cmp}
 use Rattle.std.specs.Ordering.{nat_cmp}
 use Rattle.std.specs.declared.cmp.Ordering.TheVariants.{Less}
 use Rattle.ssr_base.specs.declared.ids.NodeId.{NodeId}
-use Rattle.ssr_base.specs.Workspace.{Planted, trees}
+use Rattle.ssr_base.specs.Workspace.{Workspace, Planted, trees}
 use Rattle.ssr_base.specs.Built.{IsNodeOf}
 use Rattle.ssr_base.specs.Laws.{IsBelow}
 use Rattle.ide_ssr_matching.specs.Found.{Found, AreMatches}
@@ -28,6 +28,12 @@ abbrev pub OneWayUp : List Planted → Type 0
 OneWayUp trees =
     (a b c : NodeId) → IsNodeOf trees c → IsBelow trees c a → IsBelow trees c b
     → (a ≡ b) ⊎ (IsBelow trees a b ⊎ IsBelow trees b a)
+
+-- some of the matches that are found are kept
+abbrev pub KeptExist : Workspace → Type 0
+KeptExist w =
+    (found : List Found) → AreMatches (trees w) found
+    → (kept : Kept) × (kept.workspace ≡ w) × AreKept (trees w) found kept.matches × IsKept kept
 
 -- which matches are kept doesn't depend on the order in which they are found, nor on finding one twice
 abbrev pub OneKept : List Planted → Type 0
@@ -64,7 +70,11 @@ abbrev pub ListsEachOnce : Kept → Type 0
 ListsEachOnce kept =
     (lists : Listing) (holder : Option Holder) → AreLists kept lists → AllPairs (λ i j. i ≢ j) (listed lists holder)
 
--- kept matches have one way to list them
+-- kept matches have a way to list them
+abbrev pub ListsExist : Kept → Type 0
+ListsExist kept = (lists : Listing) × AreLists kept lists
+
+-- and no other
 abbrev pub OneListing : Kept → Type 0
 OneListing kept = (lists other : Listing) → AreLists kept lists → AreLists kept other → lists ≡ other
 

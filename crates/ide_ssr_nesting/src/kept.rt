@@ -58,11 +58,7 @@ fn binding_over(workspace: &Workspace, k: &Found, m: &Found) -> Option<usize>
     let range = workspace.original_range(m.node())?;
     let tree = k.node().tree;
     for (i, binding) in k.bindings().iter().enumerate() {
-        let node = NodeId {
-            tree,
-            node: binding.node,
-        };
-        if lies_in(workspace, range, node) {
+        if lies_in(workspace, range, binding.held_node(tree)) {
             return Some(i);
         }
     }

@@ -45,6 +45,7 @@ pub fn keep<'a>(
     requires matches { AreMatches (trees workspace.now) found.items }
     ensures workspace { IfOk result (λ kept. kept.workspace ≡ workspace.now) }
     ensures kept { IfOk result (λ kept. AreKept (trees workspace.now) found.items kept.matches) }
+    ensures held { IfOk result (λ kept. IsKept kept) }
 {
     is_built(workspace);
     put_in_order(workspace, &mut found);

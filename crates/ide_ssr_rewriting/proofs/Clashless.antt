@@ -1,27 +1,29 @@
 -- Without expansions no two matches of one list clash: neither is over the other, so they stand in two files, or one behind the
 -- other.
-use Rattle.std.proofs.Common.{◌≡◌, ◌≢◌, ℕ, ◌+◌, ◌<◌, ◌≤◌, ◌==◌, ◌||◌, ◌⊎◌, inl, inr, Bool, true, false, not, List, [], ◌∷◌, ◌++◌, length, map, reverse, get_or, Option, Some, None, All, AllPairs, refl, sym, ◌∙◌, ap, subst, arith, lt-ltb}
+use Rattle.std.proofs.Common.{◌≡◌, ◌≢◌, ℕ, ◌+◌, ◌<◌, ◌≤◌, ◌==◌, ◌||◌, ◌⊎◌, inl, inr, Bool, true, false, not, List, [], ◌∷◌, ◌++◌, length, map, reverse, get_or, Option, Some, None, All, AllPairs, refl, sym, ◌∙◌, ap, subst, arith}
 use Rattle.std.specs.Prelude.{Contains, flat_map, if◌then◌else◌, max, min, nat_lt, slice_get, unwrap_or}
 use Rattle.std.specs.List.{AllByRecursion, enumerate_from}
-use Rattle.std.specs.Option.{IsSomeAnd, option_and_then, option_map, option_map_or}
+use Rattle.std.specs.Option.{IsSomeAnd, option_map, option_map_or}
 use Rattle.std.proofs.lemmas.Bool.{and_parts, cases_eq, cases_lt, cases_order, eqb-true, false_from_ne_true, ltb-true}
 use Rattle.std.proofs.lemmas.Bool.Decides.{nat_tests}
 use Rattle.std.proofs.lemmas.List.Elements.{All-append, All-contains, All-map, recursion_from_All}
 use Rattle.std.proofs.lemmas.List.Sorted.{All-permutation, IsPermutation-reverse}
 use Rattle.std.proofs.lemmas.Option.{same_Some, slice_get-get_or}
-use Rattle.ssr_syntax_tree.specs.Syntax.{Syntax, node_count}
+use Rattle.ssr_syntax_tree.specs.Syntax.{Syntax}
 use Rattle.ssr_syntax_tree.specs.Places.{HasNode, Node, end_of, node_of, size_of, start_of}
 use Rattle.ssr_syntax_tree.proofs.Shared.{ranges_apart}
 use Rattle.ssr_base.specs.declared.ids.NodeId.{NodeId}
 use Rattle.ssr_base.specs.Origins.{Span, covered}
 use Rattle.ssr_base.specs.Built.{CallsAreEarlier, IsNodeOf}
-use Rattle.ssr_base.specs.Workspace.{Expanded, FileSpan, Planted, Workspace, cover_below, file_of, has_node, of_expansion, of_file, original_in, original_range, own_span, planted, trees}
+use Rattle.ssr_base.specs.Workspace.{Expanded, FileSpan, Planted, Workspace, cover_below, file_of, of_expansion, of_file, original, original_in, original_range, own_span, planted, trees}
+use Rattle.ssr_base.proofs.Shared.{told_is}
 use Rattle.ide_ssr_matching.specs.Found.{Found, IsMatch}
 use Rattle.ide_ssr_nesting.specs.declared.holders.Holder.{Holder}
 use Rattle.ide_ssr_nesting.specs.Kept.{ComesBefore, IsOver}
 use Rattle.ide_ssr_nesting.specs.Holding.{IsHeld, IsKept, Kept}
 use Rattle.ide_ssr_nesting.specs.Lists.{AreLists, Listing, listed, range_of}
-use Rattle.ide_ssr_nesting.proofs.Shared.{below_is_between, contains_at, in_one_tree, not_over_itself, one_way, over_before, pairs_at, pairs_head, pairs_tail}
+use Rattle.ssr_syntax_tree.proofs.Lists.{contains_at, pairs_at, pairs_head, pairs_tail}
+use Rattle.ide_ssr_nesting.proofs.Shared.{below_is_between, in_one_tree, not_over_itself, one_way, over_before}
 use Rattle.ide_ssr_rewriting.specs.Clashes.{Clash, Rewrite, clashes, is_clash, same_range, differ, share_byte}
 use Rattle.ide_ssr_rewriting.specs.Edits.{Texts, clashes_under, list_at, list_under, nowhere, range_at}
 use Rattle.ide_ssr_rewriting.specs.Laws.{NoClash}
@@ -77,17 +79,12 @@ of_a_file ts files x node = at (planted ts x.tree) refl node
     own p node file =
         ap (λ (call : Option NodeId). option_map_or (λ call. covered (cover_below p.origins node)) call (Some (own_span p.syntax node))) file
 
-    told : Option Planted → Option Span
-    told o = option_and_then (λ p. if has_node p.syntax x.node.0 then original_in p (node_of p.syntax x.node.0) else None) o
-
     at : (o : Option Planted) → planted ts x.tree ≡ o → IsSomeAnd o (λ p. HasNode p.syntax x.node.0) → IsOfFile ts x
     at None is has = absurd has
     at (Some p) is has =
         let inner : Node = node_of p.syntax x.node.0 in
-        let span : told (planted ts x.tree) ≡ Some (own_span p.syntax inner) =
-        ap told is
-        ∙ (ap (λ (b : Bool). if b then original_in p inner else None) (lt-ltb x.node.0 (1 + node_count p.syntax.children) has)
-        ∙ own p inner (planted_file ts files x.tree p is)) in
+        let span : original ts x ≡ Some (own_span p.syntax inner) =
+        told_is (λ p. original_in p (node_of p.syntax x.node.0)) ts x p is has ∙ own p inner (planted_file ts files x.tree p is) in
         record {
           syntax = p.syntax;
           is = ap (option_map (λ (p : Planted). p.syntax)) is;

@@ -3,19 +3,19 @@ use Rattle.std.proofs.Common.{◌≡◌, ℕ, ◌<◌, true, List, [], length, O
 use Rattle.std.specs.Prelude.{Contains, IfSome, slice_get, unwrap_or}
 use Rattle.std.specs.Option.{IsSomeAnd, option_map_or}
 use Rattle.std.proofs.lemmas.List.Elements.{All-contains, All-contains_itself, All-map, All-weaker}
-use Rattle.std.proofs.lemmas.Option.{get_or_from_slice_get}
 use Rattle.ssr_syntax_tree.specs.Syntax.{Syntax, source_of}
+use Rattle.ssr_syntax_tree.proofs.Lists.{all_at}
 use Rattle.ssr_base.specs.Laws.{IsSpanOf, LiesInFile}
 use Rattle.ssr_base.specs.Texts.{is_boundary}
 use Rattle.ssr_base.specs.Workspace.{FileSpan, Workspace, node_id, original_range, trees}
 use Rattle.ssr_base.specs.declared.ids.NodeId.{NodeId}
 use Rattle.ssr_base.proofs.Shared.{lies_in_file}
 use Rattle.ide_ssr_matching.specs.declared.bindings.Binding.{Binding}
-use Rattle.ide_ssr_matching.specs.Found.{Found, HasByte}
+use Rattle.ide_ssr_matching.specs.Found.{Found, HasByte, IsMatch}
 use Rattle.ide_ssr_nesting.specs.Holding.{Kept}
 use Rattle.ide_ssr_nesting.specs.Lists.{Listing, range_of}
 use Rattle.ide_ssr_rewriting.specs.Clashes.{Rewrite}
-use Rattle.ide_ssr_rewriting.specs.Private.Nest.{IsMatchIn, IsNest, under}
+use Rattle.ide_ssr_rewriting.specs.Private.Nest.{IsNest, under}
 use Rattle.ide_ssr_rewriting.specs.Edits.{nowhere, range_at, Texts, list_at}
 use Rattle.ide_ssr_rewriting.specs.Private.Replacements.{FitsItsFile, IsOf}
 use Rattle.ide_ssr_rewriting.proofs.Pieces.{none_past}
@@ -45,7 +45,7 @@ range_in_file kept listing is n lt = at (slice_get kept.matches n) refl
     at None e = absurd (let past = none_past kept.matches n e in omega arith)
     at (Some m) e =
         ranged m (original_range (trees kept.workspace) m.node) refl
-        (subst (λ (m : Found). IsMatchIn kept.workspace m) (get_or_from_slice_get kept.matches n m m e) (is.matches n m lt)).range
+        (all_at (IsMatch (trees kept.workspace)) kept.matches n m is.matches e).range
 
 range_fits : (kept : Kept) (listing : Listing) → IsNest kept listing → (n : ℕ) → n < length kept.matches → FitsItsFile kept.workspace (range_at kept n)
 range_fits kept listing is n lt = in_file kept.workspace (range_at kept n) (range_in_file kept listing is n lt)

@@ -210,7 +210,7 @@ split-more all old left done f g gs split group order = record {
   ];
 }
 
-some_of : (cs ds : List Change) (c : Change) → cs ≡ c ∷ ds → some_changes cs ≡ Some cs
+pub some_of : (cs ds : List Change) (c : Change) → cs ≡ c ∷ ds → some_changes cs ≡ Some cs
 some_of cs ds c e = ap some_changes e ∙ ap (λ (cs : List Change). Some cs) (sym e)
 
 pub edit-here : (all old left done : List Rewrite) (f : ℕ) (g : Rewrite) (gs : List Rewrite) → AreSplit all old done → IsGroup f old left (g ∷ gs) → InOrder all
@@ -263,7 +263,7 @@ done-starts all left edits is none = record {
   each = λ q. ap (λ (es : List (FileId × List Change)). lookup (is_at (file_cmp q)) es) none;
 }
 
-same_file : (a b : FileId) → is_at (file_cmp a) b ≡ (b.0 == a.0)
+pub same_file : (a b : FileId) → is_at (file_cmp a) b ≡ (b.0 == a.0)
 same_file a b = grind (arith, nat_tests)
 
 pub done-more : (all old left group : List Rewrite) (edits more : BTreeMap FileId (List Change)) (f : FileId) (d : Rewrite) (changes : List Change) → AreDone all old edits → IsGroup f.0 old left group

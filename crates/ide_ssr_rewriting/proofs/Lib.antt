@@ -12,5 +12,6 @@ mod Runs
 mod Groups
 mod Nests
 mod Answering
+mod SomeAnswer
 mod Clashless
 pub mod Shared

@@ -1,23 +1,16 @@
 -- What kept matches and their lists are for what is written for them.
-use Rattle.std.proofs.Common.{◌≡◌, ℕ, ◌+◌, ◌<◌, Bool, true, false, List, [], ◌∷◌, All, get_or, length, Option, Some, None, Ordering, Less, Equal, refl, sym, ◌∙◌, ap, subst, arith}
-use Rattle.std.specs.Prelude.{Contains, IsSome, if◌then◌else◌, slice_get, unwrap_or}
+use Rattle.std.proofs.Common.{◌≡◌, ℕ, ◌<◌, true, List, [], ◌∷◌, All, get_or, length, Option, Some, None, Ordering, Less, Equal, refl, sym, ◌∙◌, ap, subst, arith}
+use Rattle.std.specs.Prelude.{Contains, slice_get, unwrap_or}
 use Rattle.std.specs.Cmp.Lexicographic.{slice_cmp}
-use Rattle.std.specs.Option.{IsSomeAnd, option_and_then, option_map, option_map_or}
+use Rattle.std.specs.Option.{IsSomeAnd, option_map_or}
 use Rattle.std.specs.Ordering.{is_le, nat_cmp, ordering_then}
-use Rattle.std.proofs.lemmas.Bool.{ltb-true}
 use Rattle.std.proofs.lemmas.Cmp.{nat_list_cmp_total, tied_itself}
 use Rattle.std.proofs.lemmas.List.Elements.{All-contains_itself, All-weaker}
 use Rattle.std.proofs.lemmas.Option.{same_Some, slice_get-get_or, slice_get_within}
-use Rattle.ssr_syntax_tree.specs.Syntax.{node_count}
-use Rattle.ssr_syntax_tree.specs.Places.{HasNode}
-use Rattle.ssr_base.specs.declared.ids.NodeId.{NodeId}
 use Rattle.ssr_base.specs.Laws.{LiesIn}
-use Rattle.ssr_base.specs.Built.{IsNodeOf}
-use Rattle.ssr_base.specs.Origins.{Span}
-use Rattle.ssr_base.specs.Workspace.{FileSpan, Planted, file_of, has_node, node_id, original_in, original_range, planted, trees}
-use Rattle.ssr_syntax_tree.specs.Places.{node_of}
+use Rattle.ssr_base.specs.Workspace.{FileSpan, Planted, node_id, original_range, trees}
 use Rattle.ide_ssr_matching.specs.declared.bindings.Binding.{Binding}
-use Rattle.ide_ssr_matching.specs.Found.{Found, IsMatch, held_node}
+use Rattle.ide_ssr_matching.specs.Found.{Found, held_node}
 use Rattle.ide_ssr_nesting.specs.declared.holders.Holder.{Holder}
 use Rattle.ide_ssr_nesting.specs.Kept.{LiesUnder}
 use Rattle.ide_ssr_nesting.specs.Holding.{IsHeldBy, IsKept, Kept}
@@ -25,34 +18,8 @@ use Rattle.ide_ssr_nesting.specs.Lists.{AreLists, Listing, listed, listing_key, 
 use Rattle.ide_ssr_nesting.proofs.Shared.{held_behind, lists_in_order, lists_what_is_held}
 use Rattle.ide_ssr_rewriting.specs.Clashes.{range_le}
 use Rattle.ide_ssr_rewriting.specs.Edits.{nowhere, range_at}
-use Rattle.ide_ssr_rewriting.specs.Private.Nest.{IsList, IsMatchIn, IsNest, under}
+use Rattle.ide_ssr_rewriting.specs.Private.Nest.{IsList, IsNest, under}
 use Rattle.ide_ssr_rewriting.proofs.FirstClashes.{then_le}
-
--- ** Matches.
-
--- what has an original range is a node
-pub ranged_node : (ts : List Planted) (x : NodeId) → IsSome (original_range ts x) → IsNodeOf ts x
-ranged_node ts x = at (planted ts x.tree)
-  where
-    range : Span → FileSpan
-    range span = record { file = file_of ts x.tree; span = span }
-
-    told : (p : Planted) (b : Bool) → has_node p.syntax x.node.0 ≡ b → IsSome (option_map range (if b then original_in p (node_of p.syntax x.node.0) else None)) → HasNode p.syntax x.node.0
-    told p true e h = ltb-true x.node.0 (1 + node_count p.syntax.children) e
-    told p false e h = absurd (cc h)
-
-    at : (o : Option Planted) → IsSome (option_map range (option_and_then (λ p. if has_node p.syntax x.node.0 then original_in p (node_of p.syntax x.node.0) else None) o))
-        → IsSomeAnd o (λ p. HasNode p.syntax x.node.0)
-    at None h = absurd (cc h)
-    at (Some p) h = told p (has_node p.syntax x.node.0) refl h
-
-match_in : (kept : Kept) (m : Found) → IsMatch (trees kept.workspace) m → IsMatchIn kept.workspace m
-match_in kept m is = record {
-  node = is.node;
-  bindings = All-weaker (λ b. IsSome (original_range (trees kept.workspace) (held_node m.node.tree b))) (λ b. IsNodeOf (trees kept.workspace) (held_node m.node.tree b))
-      (λ b h. ranged_node (trees kept.workspace) (held_node m.node.tree b) h) m.bindings is.ranges;
-  range = is.range;
-}
 
 -- ** Lists.
 
@@ -148,7 +115,7 @@ held_in kept lists is are n i j m binding range at bound here ranged =
 pub is_nest : (kept : Kept) (lists : Listing) → IsKept kept → AreLists kept lists → IsNest kept lists
 is_nest kept lists is are = record {
   built = is.built;
-  matches = All-weaker (IsMatch (trees kept.workspace)) (IsMatchIn kept.workspace) (match_in kept) kept.matches is.held.each;
+  matches = is.held.each;
   lists = is_list kept lists is are;
   before = λ n i j h. (held_behind kept is j (record { place = n; binding = i }) ((lists_what_is_held kept is lists (Some (record { place = n; binding = i })) j are).0 h)).0;
   within = held_in kept lists is are;

@@ -6,16 +6,17 @@ use Rattle.std.specs.List.{enumerate_from}
 use Rattle.std.specs.Option.{IsSomeAnd, option_map_or}
 use Rattle.std.proofs.lemmas.List.{drop_more, drop_all, get_or-map, length-map}
 use Rattle.std.proofs.lemmas.List.Elements.{All-append, All-contains_itself, All-map, All-weaker, Contains-append_left, Contains-append_right}
-use Rattle.std.proofs.lemmas.Option.{same_Some, get_or_from_slice_get}
+use Rattle.std.proofs.lemmas.Option.{same_Some}
+use Rattle.ssr_syntax_tree.proofs.Lists.{all_at}
 use Rattle.ssr_base.specs.Workspace.{FileSpan, Workspace, node_id, original_range, trees}
 use Rattle.ide_ssr_rules.specs.Resolving.{ResolvedKind}
 use Rattle.ide_ssr_matching.specs.declared.bindings.Binding.{Binding}
-use Rattle.ide_ssr_matching.specs.Found.{Found, HasByte}
+use Rattle.ide_ssr_matching.specs.Found.{Found, HasByte, IsMatch}
 use Rattle.ide_ssr_nesting.specs.declared.holders.Holder.{Holder}
 use Rattle.ide_ssr_nesting.specs.Holding.{Kept}
 use Rattle.ide_ssr_nesting.specs.Lists.{Listing, listed, range_of}
 use Rattle.ide_ssr_rewriting.specs.Clashes.{Rewrite, Clash, AreInOrder, IsFirst, clashes, is_clean}
-use Rattle.ide_ssr_rewriting.specs.Private.Nest.{IsMatchIn, IsNest, under}
+use Rattle.ide_ssr_rewriting.specs.Private.Nest.{IsNest, under}
 use Rattle.ide_ssr_rewriting.specs.Edits.{nowhere, range_at, Texts, list_at, list_under, text_by}
 use Rattle.ide_ssr_rewriting.specs.Replacements.{piece, text_of_match}
 use Rattle.ide_ssr_rewriting.specs.Private.Clashes.{lesser}
@@ -42,7 +43,7 @@ range_byte kept listing is n lt = at (slice_get kept.matches n) refl
     at None e = absurd (let past = none_past kept.matches n e in omega arith)
     at (Some m) e =
         has_byte (original_range (trees kept.workspace) m.node)
-        (subst (λ (m : Found). IsMatchIn kept.workspace m) (get_or_from_slice_get kept.matches n m m e) (is.matches n m lt)).range
+        (all_at (IsMatch (trees kept.workspace)) kept.matches n m is.matches e).range
 
 pub list_in_order : (kept : Kept) (listing : Listing) → IsNest kept listing → (holder : Option Holder) (texts : Texts) → AreInOrder (list_at kept texts (listed listing holder))
 list_in_order kept listing is holder texts = record {

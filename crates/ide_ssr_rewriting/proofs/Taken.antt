@@ -10,7 +10,7 @@ use Rattle.ide_ssr_rewriting.specs.Edits.{range_at, list_at}
 use Rattle.ide_ssr_rewriting.specs.Private.Edits.{text_in}
 
 -- a place doesn't stand before itself
-not_before : (places : List ℕ) (i p : ℕ) → i < length places → p ≡ get_or places i 0 → AllPairs ◌≢◌ places → Contains (take i places) p → ⊥
+pub not_before : (places : List ℕ) (i p : ℕ) → i < length places → p ≡ get_or places i 0 → AllPairs ◌≢◌ places → Contains (take i places) p → ⊥
 not_before places i p lt is once before =
     let k : ℕ = before.0 in
     let first : k < i = omega (arith, before.1, length-take i places) in

@@ -1,41 +1,19 @@
--- What is written: nodes of trees, and changes between characters.
-use Rattle.std.proofs.Common.{◌≡◌, ℕ, ◌<◌, List, All, get_or, length, Option, Some, None, sym, subst, arith, String}
-use Rattle.std.specs.Prelude.{IfSome, option_map}
+-- What is written: changes between characters.
+use Rattle.std.proofs.Common.{◌≡◌, ℕ, ◌<◌, List, All, get_or, length, Option, Some, sym, subst, arith, String}
+use Rattle.std.specs.Prelude.{IfSome}
 use Rattle.std.specs.Global.{Global}
 use Rattle.std.specs.List.{dedup}
-use Rattle.std.specs.Option.{IsSomeAnd}
 use Rattle.std.proofs.lemmas.List.{length-map}
 use Rattle.std.proofs.lemmas.List.Elements.{All-map, All-weaker}
 use Rattle.std.proofs.lemmas.List.Filters.{All-dedup}
-use Rattle.std.proofs.lemmas.Option.{same_Some}
 use Rattle.ssr_syntax_lex.specs.declared.range.TextRange.{TextRange}
-use Rattle.ssr_syntax_tree.specs.Syntax.{Syntax}
-use Rattle.ssr_syntax_tree.specs.Places.{HasNode}
 use Rattle.ssr_base.specs.Applied.{change_of as pair_change, changes_of}
-use Rattle.ssr_base.specs.Built.{IsNodeOf}
 use Rattle.ssr_base.specs.Changes.{Change}
-use Rattle.ssr_base.specs.Workspace.{FileSpan, Planted, Workspace, node_id, trees, tree_of}
+use Rattle.ssr_base.specs.Workspace.{FileSpan, Workspace}
 use Rattle.ssr_base.proofs.Changes.{change_at}
-use Rattle.ide_ssr_matching.specs.declared.bindings.Binding.{Binding}
 use Rattle.ide_ssr_rewriting.specs.Clashes.{Rewrite, change_of, changes_made, same_range}
 use Rattle.ide_ssr_rewriting.specs.Replacements.{file_text}
 use Rattle.ide_ssr_rewriting.specs.Private.Replacements.{FitsFile, FitsItsFile, IsOf}
-
--- ** Nodes.
-
-has_in : (o : Option Planted) (tree : Syntax) (n : ℕ) → option_map (λ p. p.syntax) o ≡ Some tree → IsSomeAnd o (λ p. HasNode p.syntax n) → HasNode tree n
-has_in None tree n is h = absurd (cc is)
-has_in (Some p) tree n is h = subst (λ (tree : Syntax). HasNode tree n) (same_Some p.syntax tree is) h
-
-pub has_node : (w : Workspace) (t : ℕ) (tree : Syntax) (n : ℕ) → tree_of w t ≡ Some tree → IsNodeOf (trees w) (node_id t n) → HasNode tree n
-has_node w t tree n is h = has_in _ tree n is h
-
-pub has_nodes : (w : Workspace) (t : ℕ) (tree : Syntax) (bindings : List Binding) → tree_of w t ≡ Some tree → All (λ b. IsNodeOf (trees w) (node_id t b.node.0)) bindings
-    → All (λ b. HasNode tree b.node.0) bindings
-has_nodes w t tree bindings is h =
-    All-weaker (λ b. IsNodeOf (trees w) (node_id t b.node.0)) (λ b. HasNode tree b.node.0) (λ b has. has_node w t tree b.node.0 is has) bindings h
-
--- ** Changes.
 
 pub fits_here : (text : List ℕ) (pairs : List (TextRange × String Global)) (i : ℕ) (pair : TextRange × String Global) → i < length pairs
     → pair ≡ get_or pairs i pair → All (FitsFile text) (changes_of pairs) → FitsFile text (pair_change pair)

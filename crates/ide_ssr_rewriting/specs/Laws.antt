@@ -1,5 +1,5 @@
 -- What holds of the edits of kept matches: the words of their laws.
-use Rattle.std.specs.Prelude.{ℕ, ◌≡◌, List, [], Some, slice_get, Ok, Err}
+use Rattle.std.specs.Prelude.{ℕ, ◌≡◌, ◌⊎◌, List, [], Some, slice_get, Ok, Err}
 use Rattle.std.specs.BTreeMap.{BTreeMap, get}
 use Rattle.ssr_base.specs.declared.ids.FileId.{FileId}
 use Rattle.ssr_base.specs.declared.ids.FileRange.{FileRange}
@@ -19,6 +19,12 @@ TextsExist kept lists rules = (texts : Texts) × AreTexts kept lists rules texts
 abbrev pub OneText : Kept → Listing → List ResolvedKind → Type 0
 OneText kept lists rules =
     (f g : Texts) → AreTexts kept lists rules f → AreTexts kept lists rules g → (n : ℕ) (m : Found) → slice_get kept.matches n ≡ Some m → f n ≡ g n
+
+-- there are edits, or a clash is told
+abbrev pub AnswerExists : Kept → Listing → List ResolvedKind → Type 0
+AnswerExists kept lists rules =
+    ((edits : BTreeMap FileId (List Change)) × Answers kept lists rules (Ok edits))
+    ⊎ ((earlier : FileRange) × (later : FileRange) × Answers kept lists rules (Err (errors.Clash earlier later)))
 
 -- all edits that are answered are the same
 abbrev pub OneEdit : Kept → Listing → List ResolvedKind → Type 0

@@ -6,10 +6,11 @@ ghost use Rattle.std.specs.Ordering.{nat_cmp, ordering_then};
 ghost use Rattle.std.specs.BTreeMap.{get};
 ghost use Rattle.ssr_base.specs.declared.ids.FileId.{FileId as FileIdValue};
 ghost use Rattle.ssr_base.specs.Workspace.{file_span_of, original_range, trees};
+ghost use Rattle.ide_ssr_matching.specs.Found.{IsMatch};
 ghost use Rattle.ide_ssr_rewriting.specs.Clashes.{AreInOrder, Clash, IsFirst, Rewrite as RewriteValue, clash_le, clash_of, clashes, is_clean};
 ghost use Rattle.ide_ssr_nesting.specs.Lists.{AreLists};
 ghost use Rattle.ide_ssr_rewriting.specs.Edits.{Answers, EditsFit, clashes_under, edit_of, file_cmp, list_at, list_under, range_at};
-ghost use Rattle.ide_ssr_rewriting.specs.Private.Nest.{IsMatchIn, IsNest, under};
+ghost use Rattle.ide_ssr_rewriting.specs.Private.Nest.{IsNest, under};
 ghost use Rattle.ide_ssr_rewriting.specs.Private.Clashes.{lesser};
 ghost use Rattle.ide_ssr_rewriting.specs.Private.Edits.{IsRun, text_in};
 ghost use Rattle.ide_ssr_rewriting.specs.Private.Groups.{IsGroup, LastElsewhere};
@@ -193,7 +194,7 @@ fn text_of_pieces(
     m: &Found,
     pieces: Option<Vec<String>>,
 ) -> Result<Option<String>, AllocError>
-    requires { IsMatchIn workspace.now m.now }
+    requires { IsMatch (trees workspace.now) m.now }
     ensures { IfOk result (λ text. option_map string_bytes text ≡ option_map (text_of_match workspace.now rules.now m.now) (option_map (λ v. map string_bytes v.items) pieces)) }
 {
     match pieces {
@@ -247,10 +248,7 @@ impl Pending {
         let mut pieces = Vec::new(alloc);
         let mut is_clean = true;
         for (index, binding) in m.bindings().iter().enumerate() {
-            let node = NodeId {
-                tree: m.node().tree,
-                node: binding.node,
-            };
+            let node = binding.held_node(m.node().tree);
             let (list, first) = self.take_list(alloc, kept, lists.under(place, index))?;
             let piece = piece_if_clean(alloc, kept.workspace(), node, list, first)?;
             is_clean = push_piece(&mut pieces, piece)? && is_clean;
@@ -280,20 +278,21 @@ impl Pending {
     }
 }
 
-/// Goes through all matches, from the last one to the first, where no text is known yet.
+/// Goes through all matches, from the last one to the first.
 fn run(
     alloc: Global,
     kept: &KeptMatches<'_>,
     lists: &Lists,
     rules: &[ResolvedRule],
-    texts: Vec<Option<String>>,
 ) -> Result<Pending, AllocError>
-    requires nest { IsNest kept.now lists.now }
-    requires counted { length texts.items ≡ length kept.now.matches }
-    ensures { IfOk result (λ pending. IsRun kept.now lists.now rules.now 0 pending.texts.items (option_map clash_of pending.clash)) }
+    requires { AreLists kept.now lists.now }
+    ensures nest { IsNest kept.now lists.now }
+    ensures run { IfOk result (λ pending. IsRun kept.now lists.now rules.now 0 pending.texts.items (option_map clash_of pending.clash)) }
 {
+    let count = kept.len();
+    let texts = none_known(alloc, count)?;
     let mut pending = Pending { texts, clash: None };
-    for place in (0..kept.len()).rev() {
+    for place in (0..count).rev() {
         pending.rewrite_at(alloc, kept, lists, rules, place)?;
     }
     Ok(pending)
@@ -368,8 +367,7 @@ pub fn edits(
     ensures answer { Answers kept.now lists.now rules.now result }
     ensures fits { IfOk result (λ edits. EditsFit kept.now.workspace edits) }
 {
-    let texts = none_known(alloc, kept.len())?;
-    let mut pending = run(alloc, kept, lists, rules, texts)?;
+    let mut pending = run(alloc, kept, lists, rules)?;
     let (outermost, _) = pending.take_list(alloc, kept, lists.outermost())?;
     if let Some((earlier, later)) = pending.clash {
         return Err(EditError::Clash(earlier, later));

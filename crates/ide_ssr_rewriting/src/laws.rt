@@ -4,7 +4,7 @@ ghost use Rattle.std.specs.Prelude.{◌≡◌, [], List};
 ghost use Rattle.ide_ssr_rules.specs.Resolving.{ResolvedKind};
 ghost use Rattle.ide_ssr_nesting.specs.Holding.{Kept, IsKept};
 ghost use Rattle.ide_ssr_nesting.specs.Lists.{Listing, AreLists};
-ghost use Rattle.ide_ssr_rewriting.specs.Laws.{EditsOrClash, NoClash, OneEdit, OneText, TextsExist};
+ghost use Rattle.ide_ssr_rewriting.specs.Laws.{AnswerExists, EditsOrClash, NoClash, OneEdit, OneText, TextsExist};
 
 /// There are texts that stand for kept matches, and no others.
 pub fn rewriting()
@@ -12,8 +12,10 @@ pub fn rewriting()
     ensures one { (kept : Kept) (lists : Listing) (rules : List ResolvedKind) → IsKept kept → AreLists kept lists → OneText kept lists rules }
 {}
 
-/// There is one answer: all edits that are answered are the same, and they aren't answered where a clash is.
+/// There is an answer, edits or a clash, and it is one: all edits that are answered are the same, and they aren't answered where
+/// a clash is.
 pub fn answering()
+    ensures exist { (kept : Kept) (lists : Listing) (rules : List ResolvedKind) → IsKept kept → AreLists kept lists → AnswerExists kept lists rules }
     ensures one { (kept : Kept) (lists : Listing) (rules : List ResolvedKind) → IsKept kept → AreLists kept lists → OneEdit kept lists rules }
     ensures edits_or_clash { (kept : Kept) (lists : Listing) (rules : List ResolvedKind) → IsKept kept → AreLists kept lists → EditsOrClash kept lists rules }
 {}

@@ -5,7 +5,7 @@ ghost use Rattle.ssr_base.specs.Applied.{changes_of};
 ghost use Rattle.ssr_base.specs.Changes.{replaced};
 ghost use Rattle.ssr_base.specs.Texts.{is_boundary};
 ghost use Rattle.ssr_base.specs.Workspace.{original_range, trees};
-ghost use Rattle.ide_ssr_rewriting.specs.Private.Nest.{IsMatchIn};
+ghost use Rattle.ide_ssr_matching.specs.Found.{IsMatch};
 ghost use Rattle.ide_ssr_rewriting.specs.Replacements.{comments_kept, file_text, piece, template_text, text_of_match};
 ghost use Rattle.ide_ssr_rewriting.specs.Private.Replacements.{FitsFile, IsOf};
 
@@ -99,7 +99,7 @@ fn push_kept(
     m: &Found,
     text: &mut String,
 ) -> Result<(), AllocError>
-    requires { IsMatchIn workspace.now m.now }
+    requires { IsMatch (trees workspace.now) m.now }
     ensures { OnOk result (string_bytes text.new ≡ string_bytes text.old ++ comments_kept workspace.now m.now) }
 {
     let Some(tree) = workspace.tree(m.node().tree) else {
@@ -118,7 +118,7 @@ pub(crate) fn text_of_match(
     m: &Found,
     pieces: &[String],
 ) -> Result<String, AllocError>
-    requires { IsMatchIn workspace.now m.now }
+    requires { IsMatch (trees workspace.now) m.now }
     ensures { IfOk result (λ text. string_bytes text ≡ text_of_match workspace.now rules.now m.now (map string_bytes pieces.now)) }
 {
     let mut text = template_text(alloc, rules, m, pieces)?;

@@ -40,7 +40,7 @@ kind_of_once names (Some pattern) (Some (Some template)) h g =
     All-cons (AreReadOnce names) _ [] (h pattern refl, g template refl) (All-nil _)
 kind_of_once names None template h g = All-nil _
 
-some_kinds : (kinds found : List ParsedRule) → some_kind kinds ≡ Ok found → kinds ≡ found
+pub some_kinds : (kinds found : List ParsedRule) → some_kind kinds ≡ Ok found → kinds ≡ found
 some_kinds [] found h = cc
 some_kinds (kind ∷ kinds) found h = cc
 
@@ -115,9 +115,9 @@ kinds_once pattern template names kinds read_pattern read_template sides_checked
 -- ** Resolved kinds.
 
 -- what a resolved kind is: the kind that is resolved, whose pattern doesn't mix
-record IsResolved (names : List (List ℕ)) (kind : ParsedRule) (found : ResolvedKind) : Type 0 where
-  same : record { names = names; pattern = kind.pattern; template = kind.template } ≡ found
-  plain : mixes kind.pattern ≡ false
+pub record IsResolved (names : List (List ℕ)) (kind : ParsedRule) (found : ResolvedKind) : Type 0 where
+  pub same : record { names = names; pattern = kind.pattern; template = kind.template } ≡ found
+  pub plain : mixes kind.pattern ≡ false
 
 unmixed : (tree : Syntax) → check_unmixed tree ≡ Ok tt → mixes tree ≡ false
 unfolding check_unmixed
@@ -126,7 +126,7 @@ unmixed tree h = not_mixed (mixes tree) h where
   not_mixed true h = cc
   not_mixed false h = refl
 
-resolved_like : (names : List (List ℕ)) (kind : ParsedRule) (found : ResolvedKind) → resolved_kind names kind ≡ Ok found → IsResolved names kind found
+pub resolved_like : (names : List (List ℕ)) (kind : ParsedRule) (found : ResolvedKind) → resolved_kind names kind ≡ Ok found → IsResolved names kind found
 unfolding resolved_kind
 resolved_like names kind found h =
     let made : ResolvedKind = record { names = names; pattern = kind.pattern; template = kind.template } in
@@ -151,14 +151,20 @@ used_once names kind found h read =
     let is = resolved_like names kind found h in
     subst IsUsedOnce is.same (each_once names kind.pattern read.0 is.plain, read.1)
 
-pub resolved_once : (names : List (List ℕ)) (kinds : List ParsedRule) (found : List ResolvedKind) → resolved_kinds names kinds ≡ Ok found
-    → All (AreReadOnce names) kinds → All IsUsedOnce found
-resolved_once names [] found h all = subst (All IsUsedOnce) (ok_same [] found h) (All-nil IsUsedOnce)
-resolved_once names (kind ∷ kinds) found h all =
+-- what holds of each kind that a kind with some property resolves to holds of all that are resolved
+pub resolved_all : (P : ParsedRule → Type 0) (Q : ResolvedKind → Type 0) (names : List (List ℕ)) (kinds : List ParsedRule) (found : List ResolvedKind)
+    → ((kind : ParsedRule) (one : ResolvedKind) → resolved_kind names kind ≡ Ok one → P kind → Q one)
+    → resolved_kinds names kinds ≡ Ok found → All P kinds → All Q found
+resolved_all P Q names [] found each h all = subst (All Q) (ok_same [] found h) (All-nil Q)
+resolved_all P Q names (kind ∷ kinds) found each h all =
     let in_front : ResolvedKind → List ResolvedKind → Result (List ResolvedKind) Refusal = λ first rest. Ok (first ∷ rest) in
     let first = went (resolved_kind names kind) (λ first. resolved_kinds names kinds >>= in_front first) found h in
     let rest = went (resolved_kinds names kinds) (in_front first.found) found first.next_is in
-    subst (All IsUsedOnce) (ok_same (first.found ∷ rest.found) found rest.next_is)
-    (All-cons IsUsedOnce first.found rest.found
-    (used_once names kind first.found first.first_is (All-head (AreReadOnce names) kind kinds all))
-    (resolved_once names kinds rest.found rest.first_is (All-tail (AreReadOnce names) kind kinds all)))
+    subst (All Q) (ok_same (first.found ∷ rest.found) found rest.next_is)
+    (All-cons Q first.found rest.found
+    (each kind first.found first.first_is (All-head P kind kinds all))
+    (resolved_all P Q names kinds rest.found each rest.first_is (All-tail P kind kinds all)))
+
+pub resolved_once : (names : List (List ℕ)) (kinds : List ParsedRule) (found : List ResolvedKind) → resolved_kinds names kinds ≡ Ok found
+    → All (AreReadOnce names) kinds → All IsUsedOnce found
+resolved_once names kinds found h all = resolved_all (AreReadOnce names) IsUsedOnce names kinds found (used_once names) h all

@@ -13,3 +13,5 @@ pub mod EachOnce
 pub mod AtMostOnce
 pub mod KindUses
 pub mod TrimmedSides
+pub mod Templates
+pub mod Shared

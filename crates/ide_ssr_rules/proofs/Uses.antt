@@ -1,5 +1,5 @@
 -- That an accepted rule uses each placeholder once.
-use Rattle.std.proofs.Common.{◌≡◌, ℕ, List, [], ◌∷◌, ◌++◌, Bool, true, false, cond, Option, Some, None, Result, Ok, Err, refl, ap, sym, subst}
+use Rattle.std.proofs.Common.{◌≡◌, ℕ, List, [], ◌∷◌, ◌++◌, Bool, true, false, cond, Option, Some, None, Result, Ok, Err, refl, ap, sym, subst, ◌∙◌}
 use Rattle.std.specs.Option.{option_map}
 use Rattle.ssr_syntax_tree.specs.Syntax.{Token}
 use Rattle.ssr_syntax.specs.Identifiers.{is_ident}
@@ -86,6 +86,7 @@ module _ (pattern : List Element) (template : Option (List Element)) where
 
   pub record Uses (rule : Rule) : Type 0 where
     pub names : rule.names ≡ names_of pattern
+    pub kinds : some_kind (kinds_of (code_of pattern) (option_map code_of template)) ≡ Ok rule.kinds
     pub defined : lacking (names_of pattern) (names_of (written template)) ≡ []
 
   pub rule_uses : (rule : Rule) → rule_of pattern template ≡ Ok rule → Uses rule
@@ -95,18 +96,29 @@ module _ (pattern : List Element) (template : Option (List Element)) where
       let names = went (some_kind (kinds_of (code_of pattern) (option_map code_of template))) after_kinds rule kinds.next_is in
       let made = went (check_defined (names_of pattern) (names_of (written template))) (rule_with names.found) rule names.next_is in
       let same : record { names = names_of pattern; kinds = names.found } ≡ rule = cc in
+      let kinds_are : names.found ≡ rule.kinds = ap (λ (r : Rule). r.kinds) same in
       record {
         names = ap (λ (r : Rule). r.names) (sym same);
+        kinds = names.first_is ∙ ap Ok kinds_are;
         defined = none_lack (lacking (names_of pattern) (names_of (written template))) made.found made.first_is;
       }
 
-pub accepted_uses : (text : List ℕ) (rule : Rule) → rule_reading text ≡ Ok rule → UsesPlaceholdersOnce text rule
+-- the sides of an accepted rule
+pub record Accepted (text : List ℕ) (rule : Rule) : Type 0 where
+  pub texts : List ℕ × List ℕ
+  pub pattern : List Element
+  pub template : List Element
+  pub split : sides text ≡ Ok texts
+  pub pattern_read : side texts.0 ≡ Ok pattern
+  pub template_read : side texts.1 ≡ Ok template
+  pub rule_is : rule_of pattern (Some template) ≡ Ok rule
+
+pub accepted : (text : List ℕ) (rule : Rule) → rule_reading text ≡ Ok rule → Accepted text rule
 unfolding rule_reading
-accepted_uses text rule is =
+accepted text rule is =
     let split = went (sides text) (λ texts. side texts.0 >>= (λ pattern. side texts.1 >>= (λ template. rule_of pattern (Some template)))) rule is in
     let pattern = went (side split.found.0) (λ pattern. side split.found.1 >>= (λ template. rule_of pattern (Some template))) rule split.next_is in
     let template = went (side split.found.1) (λ template. rule_of pattern.found (Some template)) rule pattern.next_is in
-    let uses = rule_uses pattern.found (Some template.found) rule template.next_is in
     record {
       texts = split.found;
       pattern = pattern.found;
@@ -114,8 +126,22 @@ accepted_uses text rule is =
       split = split.first_is;
       pattern_read = pattern.first_is;
       template_read = template.first_is;
-      once = side_new split.found.0 pattern.found pattern.first_is;
-      at_most_once = side_new split.found.1 template.found template.first_is;
+      rule_is = template.next_is;
+    }
+
+pub accepted_uses : (text : List ℕ) (rule : Rule) → rule_reading text ≡ Ok rule → UsesPlaceholdersOnce text rule
+accepted_uses text rule is =
+    let a = accepted text rule is in
+    let uses = rule_uses a.pattern (Some a.template) rule a.rule_is in
+    record {
+      texts = a.texts;
+      pattern = a.pattern;
+      template = a.template;
+      split = a.split;
+      pattern_read = a.pattern_read;
+      template_read = a.template_read;
       names = uses.names;
+      once = side_new a.texts.0 a.pattern a.pattern_read;
+      at_most_once = side_new a.texts.1 a.template a.template_read;
       defined = uses.defined;
     }

@@ -8,10 +8,10 @@ use Rattle.std.proofs.lemmas.Option.{same_Some}
 use Rattle.ssr_base.specs.declared.ids.FileRange.{FileRange}
 use Rattle.ssr_base.specs.Workspace.{Planted, original_range, file_span_of}
 use Rattle.ide_ssr_matching.specs.declared.bindings.Binding.{Binding}
-use Rattle.ide_ssr_matching.specs.Found.{held_node, ShareNoByte}
+use Rattle.ide_ssr_matching.specs.Found.{held_node, AreDisjoint, ShareNoByte}
 use Rattle.ide_ssr_search.specs.WholeMatches.{IsPlaced}
-use Rattle.ide_ssr_search.specs.Private.Whole.{AreRanges, AreDisjoint}
-use Rattle.ide_ssr_search.proofs.Lists.{all_pairs_none, all_pairs_head, all_pairs_tail}
+use Rattle.ide_ssr_search.specs.Private.Whole.{AreRanges}
+use Rattle.ssr_syntax_tree.proofs.Lists.{pairs_none, pairs_head, pairs_tail}
 
 -- ** Ranges of what placeholders hold.
 
@@ -47,12 +47,12 @@ module _ (ts : List Planted) (t : ℕ) where
       All-cons (HeldApart b) c bs here (one_apart b r bs rs is are.2 (All-tail (Disjoint r) q rs all))
 
   pub ranges_apart : (bs : List Binding) (rs : List FileRange) → AreRanges ts t bs rs → AllPairs Disjoint rs → AllPairs HeldApart bs
-  ranges_apart [] [] are pairs = all_pairs_none HeldApart
+  ranges_apart [] [] are pairs = pairs_none HeldApart
   ranges_apart [] (r ∷ rs) are pairs = absurd are
   ranges_apart (b ∷ bs) [] are pairs = absurd are
   ranges_apart (b ∷ bs) (r ∷ rs) are pairs =
-      AllPairs-cons HeldApart b bs (one_apart b r bs rs are.1 are.2 (all_pairs_head Disjoint r rs pairs))
-      (ranges_apart bs rs are.2 (all_pairs_tail Disjoint r rs pairs))
+      AllPairs-cons HeldApart b bs (one_apart b r bs rs are.1 are.2 (pairs_head Disjoint r rs pairs))
+      (ranges_apart bs rs are.2 (pairs_tail Disjoint r rs pairs))
 
   one_disjoint : (b : Binding) (r : FileRange) (bs : List Binding) (rs : List FileRange) → original_range ts (held_node t b) ≡ Some (file_span_of r)
       → AreRanges ts t bs rs → All (HeldApart b) bs → All (Disjoint r) rs
@@ -64,12 +64,12 @@ module _ (ts : List Planted) (t : ℕ) where
       (one_disjoint b r bs rs is are.2 (All-tail (HeldApart b) c bs all))
 
   pub ranges_disjoint : (bs : List Binding) (rs : List FileRange) → AreRanges ts t bs rs → AllPairs HeldApart bs → AllPairs Disjoint rs
-  ranges_disjoint [] [] are pairs = all_pairs_none Disjoint
+  ranges_disjoint [] [] are pairs = pairs_none Disjoint
   ranges_disjoint [] (r ∷ rs) are pairs = absurd are
   ranges_disjoint (b ∷ bs) [] are pairs = absurd are
   ranges_disjoint (b ∷ bs) (r ∷ rs) are pairs =
-      AllPairs-cons Disjoint r rs (one_disjoint b r bs rs are.1 are.2 (all_pairs_head HeldApart b bs pairs))
-      (ranges_disjoint bs rs are.2 (all_pairs_tail HeldApart b bs pairs))
+      AllPairs-cons Disjoint r rs (one_disjoint b r bs rs are.1 are.2 (pairs_head HeldApart b bs pairs))
+      (ranges_disjoint bs rs are.2 (pairs_tail HeldApart b bs pairs))
 
 -- ** The test.
 

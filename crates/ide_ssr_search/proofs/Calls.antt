@@ -1,12 +1,12 @@
 -- Calls that shut in what they stand for, and trees that stand in the function: what is known of them while trees are gone over.
-use Rattle.std.proofs.Common.{◌≡◌, ℕ, ◌+◌, ◌≤◌, ◌==◌, Bool, true, false, cond, List, [], ◌∷◌, ◌++◌, length, get_or, All, Option, Some, None, refl, sym, ap, ◌∙◌, subst, inl, inr, ◌⊎◌, arith, eqb-true, eq-eqb, length-append}
+use Rattle.std.proofs.Common.{◌≡◌, ℕ, ◌+◌, ◌≤◌, ◌==◌, Bool, true, false, cond, List, [], ◌∷◌, ◌++◌, length, get_or, All, Option, Some, None, refl, sym, ap, ◌∙◌, subst, inl, inr, ◌⊎◌, arith, eq-eqb, length-append}
 use Rattle.std.specs.Prelude.{◌↔◌, IsTrue, IfSome}
 use Rattle.std.specs.BTreeMap.{is_at}
 use Rattle.std.specs.BTreeSet.{BTreeSet, contains}
 use Rattle.std.specs.Cmp.{unsigned_ties, both_tied}
 use Rattle.std.specs.List.{list_any, position_from}
 use Rattle.std.specs.Option.{IsSomeAnd}
-use Rattle.std.proofs.lemmas.Bool.{cases_lt, cases_Bool, and_parts, and_from, cond-true, cond-false}
+use Rattle.std.proofs.lemmas.Bool.{cases_lt, cases_Bool, and_from, cond-true, cond-false}
 use Rattle.std.proofs.lemmas.List.Elements.{All-head, All-tail}
 use Rattle.std.proofs.lemmas.List.{get_or_push}
 use Rattle.std.proofs.Math.ListN.{get_or-append}
@@ -18,21 +18,17 @@ use Rattle.ssr_base.specs.contracts.ids.NodeIdOrd.TheImpl as id_order
 use Rattle.ssr_base.specs.Workspace.{Expanded, Workspace, Planted, trees, tree_of, node_id, same_id, above}
 use Rattle.ssr_base.specs.Built.{IsNodeOf, IsMacroCall, IsBuilt}
 use Rattle.ssr_base.specs.Laws.{IsEarlier, IsBelow, climbed}
-use Rattle.ssr_base.proofs.Shared.{is_up, root_found}
+use Rattle.ssr_base.proofs.Shared.{is_up, root_found, same_nodes, mapped}
 use Rattle.ide_ssr_search.specs.Context.{Context}
 use Rattle.ide_ssr_search.specs.Permitted.{IsInFunction}
 use Rattle.ide_ssr_search.specs.Private.Shut.{IsShutIn, IsShut}
 use Rattle.ide_ssr_search.specs.Private.Scan.{IsShutCall, KnowsShut, KnowsInside, IsEarlierCall}
-use Rattle.ide_ssr_search.proofs.Trees.{mapped, then_some, is_tree, in_tree}
+use Rattle.ide_ssr_matching.proofs.Shared.{is_tree, in_tree}
+use Rattle.ide_ssr_search.proofs.Trees.{then_some}
 use Rattle.ide_ssr_search.proofs.Shutting.{root_shut}
 use Rattle.ide_ssr_search.proofs.Inside.{root_inside, file_outside}
 
 -- ** Nodes by their ids.
-
-same_nodes : (a b : NodeId) → same_id a b ≡ true → a ≡ b
-same_nodes a b is =
-    let parts = and_parts (a.tree == b.tree) (a.node.0 == b.node.0) is in
-    ap (λ t. node_id t a.node.0) (eqb-true a.tree b.tree parts.0) ∙ ap (node_id b.tree) (eqb-true a.node.0 b.node.0 parts.1)
 
 id_ties : (a b : NodeId) → same_id a b ≡ is_at ((id_order.ghosts).cmp a) b
 id_ties a b = both_tied _ _ _ _ (unsigned_ties a.tree b.tree) (unsigned_ties a.node.0 b.node.0)

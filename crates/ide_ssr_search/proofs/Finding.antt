@@ -18,9 +18,11 @@ use Rattle.ide_ssr_search.specs.Permitted.{IsOpen, IsPermitted}
 use Rattle.ide_ssr_search.specs.WholeMatches.{IsWholeMatch}
 use Rattle.ide_ssr_search.specs.Found.{IsFound, Precedes, AreFound}
 use Rattle.ide_ssr_search.specs.Private.Scan.{IsBefore, AreFoundBefore, TellsMatch, found_of, Adds}
-use Rattle.ide_ssr_search.proofs.Lists.{all_pairs_none}
+use Rattle.ssr_syntax_tree.proofs.Lists.{pairs_none}
 use Rattle.ide_ssr_search.proofs.Placed.{whole_binds}
-use Rattle.ide_ssr_search.proofs.Trees.{is_tree, in_tree, some_and, planted_within, planted_there}
+use Rattle.ssr_base.proofs.Shared.{some_and, planted_within}
+use Rattle.ide_ssr_matching.proofs.Shared.{is_tree, in_tree}
+use Rattle.ide_ssr_search.proofs.Trees.{planted_there}
 
 -- ** Order.
 
@@ -65,7 +67,7 @@ tree_cases : (t : ℕ) (m : Found) → IsBefore (t + 1) 0 0 m → (m.node.tree <
 tree_cases t m (inl tree) = elim (cases_lt m.node.tree t) [ inl low ↦ inl low | inr high ↦ inr (omega arith) ]
 tree_cases t m (inr same) = elim same.1 [ inl none ↦ absurd (omega arith) | inr none ↦ absurd (omega (arith, none.1)) ]
 
-at_id : (t n : ℕ) (x : NodeId) → x.tree ≡ t → x.node.0 ≡ n → x ≡ node_id t n
+pub at_id : (t n : ℕ) (x : NodeId) → x.tree ≡ t → x.node.0 ≡ n → x ≡ node_id t n
 at_id t n x tree node = ap (λ t. node_id t x.node.0) tree ∙ ap (node_id t) node
 
 module _ (w : Workspace) (context : Context) (rules : List ResolvedKind) where
@@ -81,7 +83,7 @@ module _ (w : Workspace) (context : Context) (rules : List ResolvedKind) where
 
   pub found_none : AreFoundBefore w context rules 0 0 0 []
   found_none = record {
-    in_order = all_pairs_none Precedes;
+    in_order = pairs_none Precedes;
     before = All-nil (IsBefore 0 0 0);
     are = All-nil (IsFound w context rules);
     complete = λ f is before.
@@ -120,7 +122,7 @@ module _ (w : Workspace) (context : Context) (rules : List ResolvedKind) where
       let made : ℕ → NodeId → List Binding → Found = λ rule node bindings. record { rule = rule; node = node; bindings = bindings } in
       ap (λ r. made r f.node f.bindings) rule ∙ ap (λ x. made g.rule x f.bindings) node ∙ ap (made g.rule x) bindings
 
-  added_by : (t n place : ℕ) (s : Syntax) (rule : ResolvedKind) (ms : List Found) (bindings : Option (List Binding)) → tree_of w t ≡ Some s → slice_get rules place ≡ Some rule
+  pub added_by : (t n place : ℕ) (s : Syntax) (rule : ResolvedKind) (ms : List Found) (bindings : Option (List Binding)) → tree_of w t ≡ Some s → slice_get rules place ≡ Some rule
       → AreFoundBefore w context rules t n place ms → TellsMatch w context rule (node_id t n) bindings
       → AreFoundBefore w context rules t n (place + 1) (ms ++ found_of place (node_id t n) bindings)
   added_by t n place s rule ms None tree at so_far tells =

@@ -11,7 +11,8 @@ use Rattle.ide_ssr_search.specs.declared.context_error.ContextError.{ContextErro
 use Rattle.ide_ssr_search.specs.declared.context_error.ContextError.TheVariants as errors
 use Rattle.ide_ssr_search.specs.Context.{Context}
 use Rattle.ide_ssr_search.specs.Making.{HasFile, LiesInText, AreOfFiles, IsContext, Makes, MakesFirst, first_position}
-use Rattle.ide_ssr_search.proofs.Trees.{and_some, planted_there, length-trees}
+use Rattle.ssr_base.proofs.Shared.{and_some, length-trees}
+use Rattle.ide_ssr_search.proofs.Trees.{planted_there}
 
 -- a file has a tree
 pub file_there : (w : Workspace) (file : ℕ) → None ≡ tree_of w file → HasFile w file → ⊥

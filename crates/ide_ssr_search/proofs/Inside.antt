@@ -14,7 +14,8 @@ use Rattle.ssr_base.proofs.Shared.{is_up}
 use Rattle.ide_ssr_matching.specs.Found.{IsAtOrBelow}
 use Rattle.ide_ssr_search.specs.Permitted.{IsInFunction}
 use Rattle.ide_ssr_search.specs.Private.Scan.{StandsIn}
-use Rattle.ide_ssr_search.proofs.Trees.{IsTree, then_some, split, over_below, root_below, up_below, below_up}
+use Rattle.ide_ssr_matching.proofs.Shared.{IsTree}
+use Rattle.ide_ssr_search.proofs.Trees.{then_some, split, over_below, root_below, up_below, below_up}
 
 -- what stands above the root of a tree is no node of it
 climbed_earlier : (w : Workspace) (b : IsBuilt w) (n : ℕ) (x a : NodeId) → climbed (trees w) n x ≡ Some a → a.tree ≤ x.tree

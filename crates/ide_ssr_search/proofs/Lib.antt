@@ -1,6 +1,4 @@
 pub mod Shared
-mod Lists
-mod Parents
 mod Trees
 mod Arguments
 mod Selves
@@ -13,7 +11,10 @@ mod Apart
 mod Placed
 mod Finding
 mod Matched
+mod Deciding
+mod SomeFound
 mod PositionNodes
 mod TokenParents
 mod Contexts
+mod SomeContext
 mod FirstFile

@@ -4,20 +4,20 @@ use Rattle.std.specs.Prelude.{Contains, IsSome, is_some}
 use Rattle.std.proofs.lemmas.List.Elements.{All-weaker, All-contains_itself}
 use Rattle.ssr_syntax_tree.specs.Syntax.{Syntax}
 use Rattle.ssr_syntax_tree.specs.Places.{HasNode, node_of, root_of}
-use Rattle.ssr_syntax_tree.proofs.Shared.{node_of-number}
+use Rattle.ssr_syntax_tree.proofs.Lists.{same_rising}
+use Rattle.ssr_syntax_tree.proofs.Shared.{node_of-number, over_within}
 use Rattle.ssr_base.specs.Workspace.{Workspace, Planted, trees, planted, node_id, original_range}
 use Rattle.ide_ssr_rules.specs.Resolving.{ResolvedKind}
 use Rattle.ide_ssr_matching.specs.declared.bindings.Binding.{Binding}
 use Rattle.ide_ssr_matching.specs.Apart.{IsHeldIn}
 use Rattle.ide_ssr_matching.specs.Found.{Found, held_node, IsAtOrBelow, IsMatch, AreMatches}
 use Rattle.ide_ssr_matching.specs.Matching.{Matches}
-use Rattle.ide_ssr_matching.proofs.Shared.{held_in}
+use Rattle.ide_ssr_matching.proofs.Shared.{held_in, IsTree, in_tree}
 use Rattle.ide_ssr_search.specs.Context.{Context}
 use Rattle.ide_ssr_search.specs.WholeMatches.{LiesInArguments, IsPlaced}
 use Rattle.ide_ssr_search.specs.Found.{IsFound, Precedes, AreFound}
-use Rattle.ide_ssr_search.proofs.Lists.{same_rising}
-use Rattle.ide_ssr_search.proofs.Parents.{over_within}
-use Rattle.ide_ssr_search.proofs.Trees.{IsTree, some_and, in_tree, over_below}
+use Rattle.ssr_base.proofs.Shared.{some_and}
+use Rattle.ide_ssr_search.proofs.Trees.{over_below}
 use Rattle.ide_ssr_search.proofs.Finding.{one_match}
 
 -- a node of a tree or one below it, by numbers, stands at or below it in the workspace

@@ -17,7 +17,7 @@ use Rattle.ide_ssr_matching.specs.declared.bindings.Binding.{Binding}
 use Rattle.ide_ssr_matching.specs.Bindings.{bindings_of}
 use Rattle.ide_ssr_matching.specs.Found.{held_node, ShareNoByte}
 use Rattle.ide_ssr_matching.specs.Matching.{Matches}
-use Rattle.ide_ssr_matching.proofs.Shared.{bindings_of-Matches, Matches-bindings_of, bindings_hold, all_bound, all_apart}
+use Rattle.ide_ssr_matching.proofs.Shared.{bindings_of-Matches, Matches-bindings_of, bindings_hold, all_bound, all_apart, is_tree, of_tree, in_tree}
 use Rattle.ide_ssr_search.specs.declared.bounds.Bounds.{Bounds}
 use Rattle.ide_ssr_search.specs.declared.bounds.Bounds.TheVariants as limits
 use Rattle.ide_ssr_search.specs.Permitted.{arguments_range}
@@ -25,7 +25,7 @@ use Rattle.ide_ssr_search.specs.WholeMatches.{LiesInArguments, IsPlaced, IsWhole
 use Rattle.ide_ssr_search.specs.Private.Bounds.{AreBoundsOf, AreBounds, LiesInBounds}
 use Rattle.ide_ssr_search.specs.Private.Whole.{AreRanges, IsPlacedMatch, IsMatched, TellsWhole}
 use Rattle.ide_ssr_search.proofs.Apart.{Disjoint, ranges_placed, ranges_apart, ranges_disjoint}
-use Rattle.ide_ssr_search.proofs.Trees.{is_tree, of_tree, in_tree, some_and, and_some, told_is}
+use Rattle.ssr_base.proofs.Shared.{some_and, and_some, told_is}
 
 -- ** Bounds.
 

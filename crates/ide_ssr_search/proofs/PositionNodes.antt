@@ -10,10 +10,9 @@ use Rattle.ssr_syntax_tree.specs.declared.number.Element.TheVariants as element
 use Rattle.ssr_syntax_tree.specs.declared.number.TokenNo.{TokenNo}
 use Rattle.ssr_syntax_tree.specs.Syntax.{Forest, nothing, leaf, branch, Syntax, node_count, token_count, tokens_of, spelled, source_of}
 use Rattle.ssr_syntax_tree.specs.Places.{Node, Part, token_part, node_part, HasNode, HasToken, HoldsByte, node_of, size_of, offset_of, parts_in, parts_of, element_of}
-use Rattle.ssr_syntax_tree.proofs.Shared.{node_of-number, below_fits, offset_grows, IsChild, children_known}
+use Rattle.ssr_syntax_tree.proofs.Lists.{all_at}
+use Rattle.ssr_syntax_tree.proofs.Shared.{node_of-number, below_fits, offset_grows, IsChild, children_known, IsOver, inside, below_root, root_size}
 use Rattle.ide_ssr_search.specs.Positions.{EndsAt, IsNear, IsFirst, IsNextSibling, IsLeftFor, Leads, goes_on}
-use Rattle.ide_ssr_search.proofs.Lists.{all_at}
-use Rattle.ide_ssr_search.proofs.Parents.{IsOver, inside, below_root, root_size}
 
 -- ** Tokens by their bytes.
 

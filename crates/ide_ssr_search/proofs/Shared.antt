@@ -2,5 +2,7 @@
 
 -- what is found are matches, and it is one list
 pub use Rattle.ide_ssr_search.proofs.Matched.{are_matches, one_list}
--- what a search is made for is one
+pub use Rattle.ide_ssr_search.proofs.SomeFound.{some_found}
+-- a search is made for something, and for one thing
 pub use Rattle.ide_ssr_search.proofs.Contexts.{one_context}
+pub use Rattle.ide_ssr_search.proofs.SomeContext.{context_exists}

@@ -10,7 +10,7 @@ use Rattle.ssr_syntax_tree.specs.Syntax.{Token, Forest, nothing, leaf, branch, S
 use Rattle.ssr_syntax_tree.specs.Places.{Node, node_part, node_of, nodes_of, nodes_in, root_of, parts_in, elements_of, element_of}
 use Rattle.ssr_syntax_tree.proofs.Shared.{node_of-number, node_is, length-nodes_of}
 use Rattle.ide_ssr_search.specs.Positions.{IsFirst}
-use Rattle.ide_ssr_search.proofs.Lists.{front_or_back}
+use Rattle.ssr_syntax_tree.proofs.Lists.{front_or_back}
 use Rattle.ide_ssr_search.proofs.PositionNodes.{token_at}
 
 abbrev number_of : Element → ℕ

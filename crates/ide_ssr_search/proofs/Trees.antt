@@ -1,30 +1,17 @@
 -- What stands above a node of a workspace: nodes of its tree, or what stands above the tree's root.
-use Rattle.std.proofs.Common.{◌≡◌, ℕ, zero, suc, ◌+◌, ◌<◌, ◌≤◌, ◌==◌, List, [], ◌∷◌, length, map, ◌++◌, Option, Some, None, refl, sym, ap, ◌∙◌, subst, inl, inr, ◌⊎◌, arith, ne_eqb, eq-eqb, lt-ltb}
-use Rattle.std.proofs.lemmas.Bool.{cases_eq, cond-false, cond-true}
-use Rattle.std.proofs.lemmas.List.{length-reverse, length-append, length-map}
+use Rattle.std.proofs.Common.{◌≡◌, ℕ, zero, suc, ◌+◌, ◌<◌, ◌≤◌, ◌==◌, List, [], ◌∷◌, length, Option, Some, None, refl, sym, ap, ◌∙◌, subst, inl, inr, ◌⊎◌, arith, ne_eqb}
+use Rattle.std.proofs.lemmas.Bool.{cases_eq, cond-false}
 use Rattle.std.proofs.lemmas.Option.{none-some, same_Some}
-use Rattle.std.specs.Prelude.{if◌then◌else◌}
-use Rattle.std.specs.Option.{IsSomeAnd, option_map, option_and_then}
-use Rattle.ssr_syntax_tree.specs.Syntax.{Syntax, node_count}
+use Rattle.std.specs.Option.{option_and_then}
+use Rattle.ssr_syntax_tree.specs.Syntax.{Syntax}
 use Rattle.ssr_syntax_tree.specs.Places.{HasNode, node_of}
 use Rattle.ssr_base.specs.declared.ids.NodeId.{NodeId}
-use Rattle.ssr_base.specs.Workspace.{Workspace, Planted, of_file, of_expansion, trees, planted, tree_of, node_id, has_node, told_of, above_in, above}
+use Rattle.ssr_base.specs.Workspace.{Workspace, Planted, trees, planted, tree_of, node_id, above_in, above}
 use Rattle.ssr_base.specs.Laws.{climbed, IsBelow}
+use Rattle.ssr_base.proofs.Shared.{planted_first, planted_earlier, planted_within, length-trees, told_is, climbed_next}
 use Rattle.ide_ssr_matching.specs.Found.{IsAtOrBelow}
-use Rattle.ide_ssr_search.proofs.Parents.{IsOver, inside, below_root}
-
--- ** Options.
-
-pub some_and : {A : Type 0} (o : Option A) (P : A → Type 0) → IsSomeAnd o P → (x : A) × (o ≡ Some x) × P x
-some_and None P known = absurd known
-some_and (Some x) P known = (x, refl, known)
-
-pub and_some : {A : Type 0} (o : Option A) (P : A → Type 0) (x : A) → o ≡ Some x → P x → IsSomeAnd o P
-and_some o P x is known = subst (λ o. IsSomeAnd o P) (sym is) known
-
-pub mapped : {A B : Type 0} (f : A → B) (o : Option A) (y : B) → option_map f o ≡ Some y → (x : A) × (o ≡ Some x) × (f x ≡ y)
-mapped f None y is = absurd (none-some y is)
-mapped f (Some x) y is = (x, refl, same_Some (f x) y is)
+use Rattle.ide_ssr_matching.proofs.Shared.{IsTree, is_tree}
+use Rattle.ssr_syntax_tree.proofs.Shared.{IsOver, inside, below_root}
 
 pub then_some : {A B : Type 0} (f : A → Option B) (o : Option A) (y : B) → option_and_then f o ≡ Some y → (x : A) × (o ≡ Some x) × (f x ≡ Some y)
 then_some f None y is = absurd (none-some y is)
@@ -32,52 +19,15 @@ then_some f (Some x) y is = (x, refl, is)
 
 -- ** Trees.
 
--- a tree of the number t
-pub record IsTree (ts : List Planted) (t : ℕ) (s : Syntax) : Type 0 where
-  pub tree : Planted
-  pub is : planted ts t ≡ Some tree
-  pub same : tree.syntax ≡ s
-
-pub is_tree : (w : Workspace) (t : ℕ) (s : Syntax) → tree_of w t ≡ Some s → IsTree (trees w) t s
-is_tree w t s is =
-    let had = mapped (λ (p : Planted). p.syntax) (planted (trees w) t) s is in
-    record { tree = had.0; is = had.1; same = had.2 }
-
--- what is said of a tree that is there
-pub of_tree : (ts : List Planted) (t : ℕ) (s : Syntax) (P : Syntax → Type 0) → IsTree ts t s → P s → IsSomeAnd (planted ts t) (λ p. P p.syntax)
-of_tree ts t s P at known = and_some (planted ts t) (λ p. P p.syntax) at.tree at.is (subst P (sym at.same) known)
-
-pub in_tree : (ts : List Planted) (t : ℕ) (s : Syntax) (P : Syntax → Type 0) → IsTree ts t s → IsSomeAnd (planted ts t) (λ p. P p.syntax) → P s
-in_tree ts t s P at known =
-    let had = some_and (planted ts t) (λ p. P p.syntax) known in
-    subst P (ap (λ (p : Planted). p.syntax) (same_Some had.0 at.tree (sym had.1 ∙ at.is)) ∙ at.same) had.2
-
-pub planted_within : (ts : List Planted) (t : ℕ) (p : Planted) → planted ts t ≡ Some p → t < length ts
-planted_within [] t p is = absurd (none-some p is)
-planted_within (q ∷ earlier) t p is =
-    elim (cases_eq t (length earlier)) [
-      | inl here ↦ omega arith
-      | inr other ↦
-          omega (arith, planted_within earlier t p (sym (cond-false (t == length earlier) (Some q) (planted earlier t) (ne_eqb t (length earlier) other)) ∙ is))
-    ]
-
 pub planted_there : (ts : List Planted) (t : ℕ) → t < length ts → (p : Planted) × (planted ts t ≡ Some p)
 planted_there [] t within = absurd (omega arith)
 planted_there (q ∷ earlier) t within =
     elim (cases_eq t (length earlier)) [
-      | inl here ↦ (q, cond-true (t == length earlier) (Some q) (planted earlier t) (eq-eqb t (length earlier) here))
+      | inl here ↦ (q, planted_first q earlier t here)
       | inr other ↦
           let before = planted_there earlier t (omega arith) in
-          (before.0, cond-false (t == length earlier) (Some q) (planted earlier t) (ne_eqb t (length earlier) other) ∙ before.1)
+          (before.0, planted_earlier q earlier t other ∙ before.1)
     ]
-
-pub length-trees : (w : Workspace) → length (trees w) ≡ length w.files + length w.expansions
-unfolding trees
-length-trees w =
-    length-reverse (map of_file w.files ++ map of_expansion w.expansions)
-    ∙ length-append (map of_file w.files) (map of_expansion w.expansions)
-    ∙ ap (λ n. n + length (map of_expansion w.expansions)) (length-map w.files of_file)
-    ∙ ap (λ n. length w.files + n) (length-map w.expansions of_expansion)
 
 -- a tree that is there has one of their numbers
 pub tree_within : (w : Workspace) (t : ℕ) (s : Syntax) → Some s ≡ tree_of w t → t < length w.files + length w.expansions
@@ -85,30 +35,14 @@ tree_within w t s is = let at = is_tree w t s (sym is) in omega (arith, planted_
 
 -- ** One step up.
 
--- what a tree tells of a node
-pub told_is : {A : Type 0} (tell : Planted → Option A) (ts : List Planted) (x : NodeId) (p : Planted) → planted ts x.tree ≡ Some p → HasNode p.syntax x.node.0
-    → told_of tell ts x ≡ tell p
-told_is tell ts x p is has =
-    ap (λ o. option_and_then (λ p. if has_node p.syntax x.node.0 then tell p else None) o) is
-    ∙ ap (λ b. if b then tell p else None) (lt-ltb x.node.0 (1 + node_count p.syntax.children) has)
-
-above_is : (ts : List Planted) (t n : ℕ) (p : Planted) → planted ts t ≡ Some p → HasNode p.syntax n → above ts (node_id t n) ≡ above_in (node_id t n) p
-above_is ts t n p is has = told_is (above_in (node_id t n)) ts (node_id t n) p is has
-
-pub above_root : (ts : List Planted) (t : ℕ) (p : Planted) → planted ts t ≡ Some p → above ts (node_id t 0) ≡ p.call
-above_root ts t p is = above_is ts t 0 p is (omega arith)
-
 pub above_inner : (ts : List Planted) (t n : ℕ) (s : Syntax) → IsTree ts t s → HasNode s n → 0 < n → above ts (node_id t n) ≡ Some (node_id t (node_of s n).parent)
 above_inner ts t n s at has inner =
     let had : HasNode at.tree.syntax n = subst (λ s. HasNode s n) (sym at.same) has in
-    above_is ts t n at.tree at.is had
+    told_is (above_in (node_id t n)) ts (node_id t n) at.tree at.is had
     ∙ cond-false (n == 0) at.tree.call (Some (node_id t (node_of at.tree.syntax n).parent)) (ne_eqb n 0 (λ e. omega arith))
     ∙ ap (λ s. Some (node_id t (node_of s n).parent)) at.same
 
 -- ** Further up.
-
-pub climb : (ts : List Planted) (k : ℕ) (x y a : NodeId) → above ts x ≡ Some y → climbed ts k y ≡ Some a → climbed ts (suc k) x ≡ Some a
-climb ts k x y a up is = ap (option_and_then (climbed ts k)) up ∙ is
 
 pub below_up : (ts : List Planted) (x y a : NodeId) → above ts x ≡ Some y → IsBelow ts x a → IsAtOrBelow ts y a
 below_up ts x y a up below =
@@ -120,8 +54,8 @@ below_up ts x y a up below =
     from (suc n) is = inr (n, is)
 
 pub up_below : (ts : List Planted) (x y a : NodeId) → above ts x ≡ Some y → IsAtOrBelow ts y a → IsBelow ts x a
-up_below ts x y a up (inl same) = (0, climb ts 0 x y a up (ap Some same))
-up_below ts x y a up (inr below) = (suc below.0, climb ts (suc below.0) x y a up below.1)
+up_below ts x y a up (inl same) = (0, climbed_next ts 0 x y up ∙ ap Some same)
+up_below ts x y a up (inr below) = (suc below.0, climbed_next ts (suc below.0) x y up ∙ below.1)
 
 -- ** In a tree, by numbers.
 

@@ -4,4 +4,5 @@ pub mod Making
 pub mod Permitted
 pub mod WholeMatches
 pub mod Found
+pub mod Laws
 pub mod Private

@@ -1,5 +1,5 @@
 -- For what a search is made, or why there is none.
-use Rattle.std.specs.Prelude.{ℕ, ◌≡◌, ◌<◌, ◌≤◌, ◌⊎◌, List, [], length, map, Option, Some, None, All, Result, Ok, Err}
+use Rattle.std.specs.Prelude.{ℕ, ◌≡◌, ◌<◌, ◌≤◌, ◌⊎◌, List, [], length, map, Option, Some, None, All, Result, Ok, Err, codes}
 use Rattle.std.specs.List.{filter}
 use Rattle.std.specs.Option.{IsSomeAnd, option_map}
 use Rattle.std.specs.Prelude.{nat_lt, Bool}
@@ -71,3 +71,11 @@ MakesFirst w m (Err errors.NoScope) = (0 < length w.files) × Makes w m first_po
 MakesFirst w m (Err errors.NoSuchFile) = ⊥
 MakesFirst w m (Err errors.NoSuchPosition) = ⊥
 MakesFirst w m (Err errors.Memory) = Unit {0}
+
+-- the words that an error is shown in
+abbrev pub error_words : ContextError → List ℕ
+error_words errors.NoSuchFile = codes "No such file"
+error_words errors.NoSuchPosition = codes "No such position"
+error_words errors.NoScope = codes "no resolution scope for file"
+error_words errors.NoFiles = codes "No files to search"
+error_words errors.Memory = codes "out of memory"

@@ -1,27 +1,42 @@
 //! Why there is nothing to make a search for.
 
 use std::alloc::{AllocError, AllocFailed};
-use thiserror::Error;
+use std::error::Error;
+use std::fmt;
 
 /// Why a search can't be made at a position.
-#[derive(Clone, Copy, Debug, PartialEq, Eq, Error)]
+#[derive(Clone, Copy, Debug, PartialEq, Eq)]
 pub enum ContextError {
     /// There is no file of the position's or a restriction's number.
-    #[error("No such file")]
     NoSuchFile,
     /// The position is past the end of its file.
-    #[error("No such position")]
     NoSuchPosition,
     /// The node of the position stands in no scope.
-    #[error("no resolution scope for file")]
     NoScope,
     /// There is no first file.
-    #[error("No files to search")]
     NoFiles,
     /// Memory ran out.
-    #[error("out of memory")]
     Memory,
 }
+
+impl fmt::Display for ContextError {
+    ghost use Rattle.std.specs.Prelude.{Some};
+    ghost use Rattle.ide_ssr_search.specs.Making.{error_words};
+
+    ghost output = { λ error. Some (error_words error) };
+
+    fn fmt<W: fmt::Write>(&self, f: &mut fmt::Formatter<W>) -> fmt::Result {
+        f.write_str(match self {
+            ContextError::NoSuchFile => "No such file",
+            ContextError::NoSuchPosition => "No such position",
+            ContextError::NoScope => "no resolution scope for file",
+            ContextError::NoFiles => "No files to search",
+            ContextError::Memory => "out of memory",
+        })
+    }
+}
+
+impl Error for ContextError {}
 
 impl From<AllocError> for ContextError {
     ghost use Rattle.std.specs.Prelude.{◌≡◌};

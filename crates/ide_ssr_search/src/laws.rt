@@ -4,18 +4,23 @@ ghost use Rattle.ssr_base.specs.declared.ids.FilePosition.{FilePosition};
 ghost use Rattle.ssr_base.specs.declared.ids.FileRange.{FileRange};
 ghost use Rattle.ssr_base.specs.Meanings.{Meanings};
 ghost use Rattle.ssr_base.specs.Workspace.{Workspace as WorkspaceValue};
+ghost use Rattle.ssr_base.specs.Built.{IsBuilt};
 ghost use Rattle.ide_ssr_rules.specs.Resolving.{ResolvedKind};
 ghost use Rattle.ide_ssr_matching.specs.Found.{Found as FoundMatch};
 ghost use Rattle.ide_ssr_search.specs.Context.{Context as ContextValue};
 ghost use Rattle.ide_ssr_search.specs.Making.{IsContext};
 ghost use Rattle.ide_ssr_search.specs.Found.{AreFound};
+ghost use Rattle.ide_ssr_search.specs.Laws.{ContextExists};
 
-/// What is found in a workspace is one list.
+/// What is found in a workspace that is built is some list, and it is one list.
 pub fn searching()
+    ensures exist { (w : WorkspaceValue) (context : ContextValue) (rules : List ResolvedKind) → IsBuilt w → (found : List FoundMatch) × AreFound w context rules found }
     ensures one { (w : WorkspaceValue) (context : ContextValue) (rules : List ResolvedKind) (found again : List FoundMatch) → AreFound w context rules found → AreFound w context rules again → found ≡ again }
 {}
 
-/// At a position, and for the same restrictions, a search is made for one thing.
+/// At a position in a file whose nodes stand in scopes, and for restrictions of files, a search is made for something, and for
+/// one thing.
 pub fn making()
+    ensures exist { (w : WorkspaceValue) (m : Meanings) (position : FilePosition) (restrictions : List FileRange) → ContextExists w m position restrictions }
     ensures one { (w : WorkspaceValue) (m : Meanings) (position : FilePosition) (restrictions : List FileRange) (c d : ContextValue) → IsContext w m position restrictions c → IsContext w m position restrictions d → c ≡ d }
 {}

@@ -5,7 +5,7 @@ ghost use Rattle.ssr_syntax_tree.specs.Places.{HasNode};
 ghost use Rattle.ssr_base.specs.Workspace.{trees, tree_of, node_id};
 ghost use Rattle.ssr_base.specs.Built.{IsBuilt};
 ghost use Rattle.ide_ssr_matching.specs.Found.{AreMatches};
-ghost use Rattle.ide_ssr_search.specs.Permitted.{IsOpen, IsInFunction};
+ghost use Rattle.ide_ssr_search.specs.Permitted.{IsOpen, IsInFunction, IsPermitted};
 ghost use Rattle.ide_ssr_search.specs.Found.{AreFound};
 ghost use Rattle.ide_ssr_search.specs.Private.Shut.{IsShutIn, IsShut, TellsPast};
 ghost use Rattle.ide_ssr_search.specs.Private.Scan.{AreFoundBefore, IsGround, TellsMatch, Adds, KnowsShut, KnowsInside, IsEarlierCall, StandsIn};
@@ -115,8 +115,18 @@ impl<'a> Ground<'a> {
         )
     }
 
-    /// What the placeholders of a rule hold at a node that is open to all rules, if the rule is tried there and matches as
-    /// a whole.
+    /// Whether a rule is permitted at a node that nothing above it shuts in.
+    fn is_permitted(&self, rule: &ResolvedRule, node: NodeNo) -> bool
+        requires ground { IsGround self.now }
+        requires has { HasNode self.now.tree.now node.0 }
+        requires free { ¬ IsShutIn (trees self.now.workspace.now) (node_id self.now.number node.0) }
+        ensures { IsTrue result ↔ IsPermitted self.now.workspace.now self.now.context.now rule.now (node_id self.now.number node.0) }
+    {
+        self.is_open(node) && (!names_self(rule.pattern()) || self.is_in_function(node))
+    }
+
+    /// What the placeholders of a rule hold at such a node, if the rule is permitted there and matches as a whole. Whether
+    /// it matches is asked first: most nodes match no rule.
     fn match_of(
         &self,
         alloc: Global,
@@ -125,7 +135,7 @@ impl<'a> Ground<'a> {
     ) -> Result<Option<Vec<Binding>>, AllocError>
         requires ground { IsGround self.now }
         requires has { HasNode self.now.tree.now node.0 }
-        requires is_open { IsOpen self.now.workspace.now self.now.context.now.restrictions (node_id self.now.number node.0) }
+        requires free { ¬ IsShutIn (trees self.now.workspace.now) (node_id self.now.number node.0) }
         ensures { IfOk result (λ found. TellsMatch self.now.workspace.now self.now.context.now rule.now (node_id self.now.number node.0) (option_map (λ v. v.items) found)) }
     {
         let found = whole_match(
@@ -136,7 +146,7 @@ impl<'a> Ground<'a> {
             rule,
             self.id(node),
         )?;
-        if found.is_some() && names_self(rule.pattern()) && !self.is_in_function(node) {
+        if found.is_some() && !self.is_permitted(rule, node) {
             return Ok(None);
         }
         Ok(found)
@@ -153,7 +163,7 @@ impl<'a> Ground<'a> {
     ) -> Result<(), AllocError>
         requires ground { IsGround self.now }
         requires has { HasNode self.now.tree.now node.0 }
-        requires is_open { IsOpen self.now.workspace.now self.now.context.now.restrictions (node_id self.now.number node.0) }
+        requires free { ¬ IsShutIn (trees self.now.workspace.now) (node_id self.now.number node.0) }
         ensures { IfOk result (λ _. Adds self.now.workspace.now self.now.context.now rule.now place (node_id self.now.number node.0) found.old.items found.new.items) }
     {
         if let Some(bindings) = self.match_of(alloc, rule, node)? {
@@ -172,7 +182,7 @@ impl<'a> Ground<'a> {
     ) -> Result<(), AllocError>
         requires ground { IsGround self.now }
         requires has { HasNode self.now.tree.now node.0 }
-        requires is_open { IsOpen self.now.workspace.now self.now.context.now.restrictions (node_id self.now.number node.0) }
+        requires free { ¬ IsShutIn (trees self.now.workspace.now) (node_id self.now.number node.0) }
         requires found { AreFoundBefore self.now.workspace.now self.now.context.now rules.now self.now.number node.0 0 found.old.items }
         ensures { IfOk result (λ _. AreFoundBefore self.now.workspace.now self.now.context.now rules.now self.now.number (node.0 + 1) 0 found.new.items) }
     {
@@ -197,7 +207,7 @@ impl<'a> Ground<'a> {
         requires found { AreFoundBefore self.now.workspace.now self.now.context.now rules.now self.now.number node.0 0 found.old.items }
         ensures { IfOk result (λ _. AreFoundBefore self.now.workspace.now self.now.context.now rules.now self.now.number (node.0 + 1) 0 found.new.items) }
     {
-        if shut || !self.is_open(node) {
+        if shut {
             return Ok(());
         }
         self.add_matches(alloc, rules, node, found)

@@ -2,10 +2,10 @@
 ghost use Rattle.std.specs.Prelude.{◌≡◌, ◌↔◌, IsTrue, IfOk, IfSome, IfNone, MatchOption, Some, All, AllPairs, option_map};
 ghost use Rattle.ssr_syntax_tree.specs.Places.{HasNode};
 ghost use Rattle.ssr_base.specs.Workspace.{trees, tree_of, file_span_of, original_range};
-ghost use Rattle.ide_ssr_matching.specs.Found.{held_node};
+ghost use Rattle.ide_ssr_matching.specs.Found.{AreDisjoint, held_node};
 ghost use Rattle.ide_ssr_search.specs.WholeMatches.{IsPlaced};
 ghost use Rattle.ide_ssr_search.specs.Private.Bounds.{AreBounds};
-ghost use Rattle.ide_ssr_search.specs.Private.Whole.{AreRanges, AreDisjoint, IsMatched, IsPlacedMatch, TellsWhole};
+ghost use Rattle.ide_ssr_search.specs.Private.Whole.{AreRanges, IsMatched, IsPlacedMatch, TellsWhole};
 
 use crate::bounds::Bounds;
 use ide_ssr_matching::{Binding, match_node};
@@ -42,11 +42,7 @@ fn held_ranges(
 {
     let mut ranges = Vec::new(alloc);
     for binding in bindings {
-        let node = NodeId {
-            tree,
-            node: binding.node,
-        };
-        let Some(range) = placed(workspace, bounds, node) else {
+        let Some(range) = placed(workspace, bounds, binding.held_node(tree)) else {
             return Ok(None);
         };
         ranges.push(range)?;

@@ -5,4 +5,8 @@ pub mod RulesRead
 pub mod Outputs
 pub mod Telling
 pub mod Rewritings
-pub mod FirstEdit
+pub mod OneFile
+pub mod NewFinder
+pub mod Replacing
+pub mod OneText
+pub mod SomeText

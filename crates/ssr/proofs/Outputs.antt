@@ -8,7 +8,10 @@ use Rattle.ssr_syntax.specs.Reading.{file_reading}
 use Rattle.ssr_syntax.proofs.Shared.{file_needs_none}
 use Rattle.ide_ssr_rules.specs.Refusals.{Refusal, no_delimiter, second_delimiter, lexer_fault, no_name, no_placeholder, repeated, glued, reserved, no_kind, undefined, unresolved_path, token_tree, Says, words}
 use Rattle.ide_ssr_rules.specs.Resolving.{ResolvedKind}
-use Rattle.ide_ssr.specs.Edits.{rewritten_file}
+use Rattle.ssr.specs.Rewritten.{IsRewritten}
+use Rattle.ssr.proofs.OneText.{one_text}
+use Rattle.ssr.proofs.Replacing.{all_replace}
+use Rattle.ssr.proofs.SomeText.{text_exists}
 use Rattle.ssr.specs.Output.{Output, IsOutput, no_text, no_file, no_rules, rewritten, rule_refused, written, input_refused, words_of, rules_reading}
 
 -- a refusal has words
@@ -29,7 +32,8 @@ said token_tree = refl
 module _ (rules : List (List ℕ)) (bytes : List ℕ) where
   by_rules : (code : Syntax) → IsUtf8 bytes → file_reading bytes ≡ Ok code
       → (reading : Result (List ResolvedKind) Refusal) → rules_reading rules ≡ reading → (output : Output) × IsOutput rules bytes output
-  by_rules code text file (Ok kinds) is = (_, rewritten code kinds text file is)
+  by_rules code text file (Ok kinds) is =
+      let new = text_exists bytes code kinds text file (all_replace rules kinds is) in (_, rewritten code kinds new.0 text file is new.1)
   by_rules code text file (Err refusal) is = (_, no_rules code refusal (words refusal) text file is (said refusal))
 
   by_file : IsUtf8 bytes → (reading : Result Syntax SyntaxError) → file_reading bytes ≡ reading → (output : Output) × IsOutput rules bytes output
@@ -61,20 +65,22 @@ module _ (rules : List (List ℕ)) (bytes : List ℕ) where
   output_unique a b sure (no_text _) (no_text _) = refl
   output_unique a b sure (no_text f) (no_file _ _ text _) = absurd (f text)
   output_unique a b sure (no_text f) (no_rules _ _ _ text _ _ _) = absurd (f text)
-  output_unique a b sure (no_text f) (rewritten _ _ text _ _) = absurd (f text)
+  output_unique a b sure (no_text f) (rewritten _ _ _ text _ _ _) = absurd (f text)
   output_unique a b sure (no_file _ _ text _) (no_text f) = absurd (f text)
   output_unique a b sure (no_rules _ _ _ text _ _ _) (no_text f) = absurd (f text)
-  output_unique a b sure (rewritten _ _ text _ _) (no_text f) = absurd (f text)
+  output_unique a b sure (rewritten _ _ _ text _ _ _) (no_text f) = absurd (f text)
   output_unique a b sure (no_file e _ _ f) (no_file e' _ _ f') = let same : e ≡ e' = cc in ap (λ x. input_refused (words_of x)) same
   output_unique a b sure (no_file e _ _ f) (no_rules c _ _ _ f' _ _) = let h : Err e ≡ Ok c = sym f ∙ f' in cc
-  output_unique a b sure (no_file e _ _ f) (rewritten c _ _ f' _) = let h : Err e ≡ Ok c = sym f ∙ f' in cc
+  output_unique a b sure (no_file e _ _ f) (rewritten c _ _ _ f' _ _) = let h : Err e ≡ Ok c = sym f ∙ f' in cc
   output_unique a b sure (no_rules c _ _ _ f' _ _) (no_file e _ _ f) = let h : Err e ≡ Ok c = sym f ∙ f' in cc
-  output_unique a b sure (rewritten c _ _ f' _) (no_file e _ _ f) = let h : Err e ≡ Ok c = sym f ∙ f' in cc
+  output_unique a b sure (rewritten c _ _ _ f' _ _) (no_file e _ _ f) = let h : Err e ≡ Ok c = sym f ∙ f' in cc
   output_unique a b sure (no_rules c r m _ f g s) (no_rules c' r' m' _ f' g' s') =
       let same : r ≡ r' = cc in
       let P : Refusal → Type 0 = λ x. Says x m' in
       ap rule_refused (same_words r m m' (λ is. sure (g ∙ ap Err is)) s (subst P (sym same) s'))
-  output_unique a b sure (no_rules c r m _ f g s) (rewritten c' ks _ f' g') = let h : Err r ≡ Ok ks = sym g ∙ g' in cc
-  output_unique a b sure (rewritten c' ks _ f' g') (no_rules c r m _ f g s) = let h : Err r ≡ Ok ks = sym g ∙ g' in cc
-  output_unique a b sure (rewritten c ks _ f g) (rewritten c' ks' _ f' g') =
-      let same : c ≡ c' = cc in let alike : ks ≡ ks' = cc in ap (λ x. written (rewritten_file x ks)) same ∙ ap (λ x. written (rewritten_file c' x)) alike
+  output_unique a b sure (no_rules c r m _ f g s) (rewritten c' ks _ _ f' g' _) = let h : Err r ≡ Ok ks = sym g ∙ g' in cc
+  output_unique a b sure (rewritten c' ks _ _ f' g' _) (no_rules c r m _ f g s) = let h : Err r ≡ Ok ks = sym g ∙ g' in cc
+  output_unique a b sure (rewritten c ks t _ f g is) (rewritten c' ks' t' _ f' g' is') =
+      let same : c ≡ c' = cc in
+      let alike : ks ≡ ks' = cc in
+      ap written (one_text c' ks' t t' (subst (λ code. IsRewritten code ks' t) same (subst (λ kinds. IsRewritten c kinds t) alike is)) is')

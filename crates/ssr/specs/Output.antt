@@ -6,7 +6,7 @@ use Rattle.ssr_syntax.specs.Reading.{file_reading}
 use Rattle.ide_ssr_rules.specs.Refusals.{Refusal, Says, ◌>>=◌}
 use Rattle.ide_ssr_rules.specs.Resolving.{ResolvedKind, resolved_kinds}
 use Rattle.ide_ssr_rules.specs.Rules.{Rule, rule_reading}
-use Rattle.ide_ssr.specs.Edits.{rewritten_file}
+use Rattle.ssr.specs.Rewritten.{IsRewritten}
 use Rattle.ssr_syntax.specs.declared.syntax_error.SyntaxError.{SyntaxError}
 use Rattle.ssr_syntax.specs.declared.syntax_error.SyntaxError.TheVariants as errors
 
@@ -80,6 +80,6 @@ pub data IsOutput (rules : List (List ℕ)) (bytes : List ℕ) : Output → Type
   no_rules : (code : Syntax) (refusal : Refusal) (message : List ℕ) → IsUtf8 bytes → file_reading bytes ≡ Ok code
       → rules_reading rules ≡ Err refusal → Says refusal message
       → IsOutput rules bytes (rule_refused message)
-  rewritten : (code : Syntax) (kinds : List ResolvedKind) → IsUtf8 bytes → file_reading bytes ≡ Ok code
-      → rules_reading rules ≡ Ok kinds
-      → IsOutput rules bytes (written (rewritten_file code kinds))
+  rewritten : (code : Syntax) (kinds : List ResolvedKind) (text : List ℕ) → IsUtf8 bytes → file_reading bytes ≡ Ok code
+      → rules_reading rules ≡ Ok kinds → IsRewritten code kinds text
+      → IsOutput rules bytes (written text)

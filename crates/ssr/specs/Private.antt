@@ -2,3 +2,4 @@
 pub mod Noted
 pub mod Rewriting
 pub mod Transfer
+pub mod Unresolved

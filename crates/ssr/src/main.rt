@@ -10,6 +10,7 @@ mod streams;
 #[cfg(test)]
 mod tests;
 mod transfer;
+mod unresolved;
 
 use counted::{CountedSink, CountedSource};
 use program::run;

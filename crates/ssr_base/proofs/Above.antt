@@ -89,7 +89,7 @@ above_root ts t p is = told_is (above_in (node_id t 0)) ts (node_id t 0) p is (o
 
 -- ** The way up.
 
-climbed_next : (ts : List Planted) (n : ℕ) (x y : NodeId) → above ts x ≡ Some y → climbed ts (suc n) x ≡ climbed ts n y
+pub climbed_next : (ts : List Planted) (n : ℕ) (x y : NodeId) → above ts x ≡ Some y → climbed ts (suc n) x ≡ climbed ts n y
 climbed_next ts n x y is = ap (option_and_then (climbed ts n)) is
 
 climbed_on : (ts : List Planted) (n m : ℕ) (x y z : NodeId) → climbed ts n x ≡ Some y → climbed ts m y ≡ Some z → climbed ts (n + m) x ≡ Some z

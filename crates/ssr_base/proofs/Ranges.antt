@@ -1,10 +1,10 @@
 -- Original ranges: they lie in their file, between characters, and in one tree that of a node below another one lies in that one's.
-use Rattle.std.proofs.Common.{◌≡◌, ℕ, zero, suc, ◌+◌, ◌-◌, ◌≤◌, ◌||◌, true, List, [], All, length, take, drop, slice_get, Option, Some, None, sym, ap, ◌∙◌, subst, inl, inr, arith, take-append-drop}
+use Rattle.std.proofs.Common.{◌≡◌, ℕ, zero, suc, ◌+◌, ◌-◌, ◌≤◌, ◌||◌, true, List, [], length, take, drop, slice_get, Option, Some, None, sym, ap, ◌∙◌, subst, inl, inr, arith, take-append-drop}
 use Rattle.std.proofs.lemmas.Bool.{cases_lt, and_from, or_left, or_right, and_parts, lt-ltb, le-leb, leb-true}
 use Rattle.std.proofs.lemmas.List.{get_or_past}
 use Rattle.std.proofs.lemmas.List.Elements.{recursion_from_All, All-take, All-drop}
 use Rattle.std.proofs.lemmas.Grind.{flat_map-append}
-use Rattle.std.proofs.lemmas.Option.{option_and_then_some, slice_get_within, get_or_from_slice_get, same_Some}
+use Rattle.std.proofs.lemmas.Option.{option_and_then_some, same_Some}
 use Rattle.std.proofs.lemmas.Str.{IsCharBoundary-at_seam}
 use Rattle.std.specs.Prelude.{IsSome, is_some, nat_lt, nat_le, slice_index, slice_range, if◌then◌else◌, IsCharBoundary}
 use Rattle.std.specs.List.{AllPass}
@@ -12,6 +12,7 @@ use Rattle.std.specs.Option.{option_and_then, option_map_or}
 use Rattle.std.specs.Str.{IsUtf8}
 use Rattle.ssr_syntax_tree.specs.Syntax.{Syntax, token_count, tokens_of, spelled, source_of}
 use Rattle.ssr_syntax_tree.specs.Places.{Node, HasNode, node_of, offset_of}
+use Rattle.ssr_syntax_tree.proofs.Lists.{all_at}
 use Rattle.ssr_syntax_tree.proofs.Shared.{offset_grows, start_before_end}
 use Rattle.ssr_base.specs.declared.ids.FileRange.{FileRange}
 use Rattle.ssr_base.specs.declared.ids.NodeId.{NodeId}
@@ -120,7 +121,7 @@ ranges_nest w b a x outer inner below one first second =
 
 -- ** Places between characters.
 
-boundary_passes : (text : List ℕ) (i : ℕ) → IsCharBoundary text i → is_boundary text i ≡ true
+pub boundary_passes : (text : List ℕ) (i : ℕ) → IsCharBoundary text i → is_boundary text i ≡ true
 boundary_passes text i boundary =
     let byte = slice_index text i in
     and_from (nat_le i (length text)) (nat_lt byte 128 || nat_le 192 byte) (le-leb i (length text) boundary.0)
@@ -147,13 +148,10 @@ token_boundary tree t all =
 within_text : (text : List ℕ) (i : ℕ) → is_boundary text i ≡ true → i ≤ length text
 within_text text i is = leb-true i (length text) (and_parts (nat_le i (length text)) (nat_lt (slice_index text i) 128 || nat_le 192 (slice_index text i)) is).0
 
-span_of_text : (text : List ℕ) (span : Span) → span.start ≤ span.end → is_boundary text span.start ≡ true → is_boundary text span.end ≡ true → IsSpanOf text span
+pub span_of_text : (text : List ℕ) (span : Span) → span.start ≤ span.end → is_boundary text span.start ≡ true → is_boundary text span.end ≡ true → IsSpanOf text span
 span_of_text text span ordered begins ends = record { ordered = ordered; within = within_text text span.end ends; begins = begins; ends = ends }
 
 -- ** Ranges in their files.
-
-all_at : {A : Type 0} (P : A → Type 0) (xs : List A) (i : ℕ) (x : A) → All P xs → slice_get xs i ≡ Some x → P x
-all_at P xs i x all is = subst P (get_or_from_slice_get xs i x x is) (all i x (slice_get_within xs i x is))
 
 -- the span of a file's node
 in_own_file : (tree : Syntax) (node : Node) (span : Span) → HasTexts tree → own_span tree node ≡ span → IsSpanOf (source_of tree) span

@@ -1,10 +1,15 @@
 -- The laws of workspaces that the crates above may cite. The other files of lemmas here are this crate's own, but for `Changes`.
 
 -- what each workspace keeps that is built
-pub use Rattle.ssr_base.proofs.Built.{is_built}
+pub use Rattle.ssr_base.proofs.Built.{is_built, built_none, built_read}
 -- original ranges
-pub use Rattle.ssr_base.proofs.Ranges.{lies_in_file, has_text, ranges_nest}
+pub use Rattle.ssr_base.proofs.Ranges.{lies_in_file, has_text, ranges_nest, boundary_passes, span_of_text}
+-- trees and nodes by their numbers
+pub use Rattle.ssr_base.proofs.Trees.{planted_first, planted_earlier, length-trees, planted-file, tree_of_file, same_nodes}
+pub use Rattle.ssr_base.proofs.Planting.{planted_within}
 -- what stands above nodes
-pub use Rattle.ssr_base.proofs.Above.{IsUp, is_up, reaches_its_file, call_above, root_found}
+pub use Rattle.ssr_base.proofs.Above.{IsUp, is_up, reaches_its_file, call_above, root_found, told_is, above_root, climbed_next}
 -- nodes begin in their order
 pub use Rattle.ssr_base.proofs.Finding.{starts_sorted}
+-- what options hold
+pub use Rattle.ssr_base.proofs.Planting.{some_and, and_some, mapped}

@@ -10,14 +10,10 @@ mod maps;
 mod naming;
 mod nodes;
 mod provider;
-#[cfg(test)]
-mod read_tests;
 mod scopes;
 mod sources;
 mod table_rows;
 mod tables;
-#[cfg(test)]
-mod tests;
 mod types;
 
 pub use facts::{Facts, read};

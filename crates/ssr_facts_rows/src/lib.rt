@@ -33,8 +33,6 @@ mod meanings;
 mod places;
 mod rows_error;
 mod sources;
-#[cfg(test)]
-mod tests;
 
 pub use facts::{FactRows, read_rows};
 pub use meanings::{

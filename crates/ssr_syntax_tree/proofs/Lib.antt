@@ -5,6 +5,7 @@ mod Siblings
 mod ReadBack
 mod RowLaws
 mod Places
+mod Above
 mod Ranges
 mod Covering
 mod Steps

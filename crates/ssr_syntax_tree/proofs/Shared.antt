@@ -6,6 +6,8 @@ pub use Rattle.ssr_syntax_tree.proofs.Nodes.{node_is, node_left, node_found, nod
 -- how many nodes and tokens there are
 pub use Rattle.ssr_syntax_tree.proofs.Siblings.{length-nodes_in, length-tokens_in}
 pub use Rattle.ssr_syntax_tree.proofs.RowLaws.{length-nodes_of}
+-- nodes above one another
+pub use Rattle.ssr_syntax_tree.proofs.Above.{IsOver, IsInside, inside, root_size, below_root, over_within}
 -- the children of a node
 pub use Rattle.ssr_syntax_tree.proofs.Places.{IsChild, children_known, elements_had, parts_of-elements_of}
 -- ranges

@@ -1,11 +1,11 @@
-//! Worked examples of what the libraries have in public, and that their calls succeed. They stand in a crate of their own,
-//! above what they try: a crate with tests is proved twice.
+//! Worked examples of what the libraries below the finder have in public, and that their calls succeed. They stand in a crate
+//! of their own, above what they try: a crate with tests is proved twice.
 #![tactic(auto)]
 
 #[cfg(test)]
 mod edits;
 #[cfg(test)]
-mod finder;
+mod facts;
 #[cfg(test)]
 mod parser;
 #[cfg(test)]

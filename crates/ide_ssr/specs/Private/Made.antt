@@ -1,35 +1,34 @@
 -- Private: which nested matches are made, while the kept ones are gone through from the last to the first.
-use Rattle.std.specs.Prelude.{ℕ, ◌≡◌, ◌<◌, ◌≤◌, true, false, length, List, Option, Some, None, IsSome, slice_get, slice_index_or}
-use Rattle.ssr_syntax_tree.specs.Syntax.{Syntax}
+use Rattle.std.specs.Prelude.{ℕ, ◌≡◌, ◌≢◌, ◌<◌, ◌≤◌, List, length, Option, Some, None, IfSome, slice_get, slice_index_or}
 use Rattle.ide_ssr_rules.specs.Resolving.{ResolvedKind}
-use Rattle.ide_ssr.specs.declared.holders.Holder.{Holder}
+use Rattle.ide_ssr_matching.specs.Found.{Found}
+use Rattle.ide_ssr_nesting.specs.declared.holders.Holder.{Holder}
+use Rattle.ide_ssr_nesting.specs.Holding.{Kept}
+use Rattle.ide_ssr_nesting.specs.Lists.{Listing}
 use Rattle.ide_ssr.specs.declared.matches.Match.{Match}
-use Rattle.ide_ssr.specs.Found.{Found}
-use Rattle.ide_ssr.specs.Lists.{holder_of, is_listed}
-use Rattle.ide_ssr.specs.Nesting.{Shows}
-use Rattle.ide_ssr.specs.Private.Pending.{is_open}
+use Rattle.ide_ssr.specs.declared.matches.PlaceholderMatch.{PlaceholderMatch}
+use Rattle.ide_ssr.specs.Nesting.{Shows, ShowBindings}
+use Rattle.ide_ssr.specs.Starts.{AreByStart}
 
 -- the match of the place n is made
-abbrev pub IsMade : Syntax → List ResolvedKind → List Found → List (Option Match) → ℕ → Type 0
-IsMade code rules ks made n =
-    (v : Match) × (slice_index_or made n None ≡ Some v) × ((m : Found) → slice_get ks n ≡ Some m → Shows code rules ks m v)
+abbrev pub IsMade : List ResolvedKind → Kept → Listing → List (Option Match) → ℕ → Type 0
+IsMade rules kept lists made n = (v : Match) × (slice_index_or made n None ≡ Some v) × Shows rules kept lists n v
 
--- there is a match for each one that is listed under the holder, or among the outermost ones
-abbrev pub ListedAreThere : Syntax → List Found → Option Holder → List (Option Match) → Type 0
-ListedAreThere code ks holder made =
-    (j : ℕ) (d : Found) → j < length ks → is_listed holder (holder_of code ks (slice_index_or ks j d)) ≡ true → IsSome (slice_index_or made j None)
-
--- these are made
-abbrev pub ListedAreMade : Syntax → List ResolvedKind → List Found → Option Holder → List (Option Match) → Type 0
-ListedAreMade code rules ks holder made =
-    (j : ℕ) (d : Found) → j < length ks → is_listed holder (holder_of code ks (slice_index_or ks j d)) ≡ true → IsMade code rules ks made j
+-- what has this holder waits for a match before the place n, or for none
+abbrev pub Waits : ℕ → Option Holder → Type 0
+Waits n holder = IfSome holder (λ h. h.place < n)
 
 -- those from the place n on are made that wait for a match before it, or for none
-pub record AreMade (code : Syntax) (rules : List ResolvedKind) (ks : List Found) (n : ℕ) (made : List (Option Match)) : Type 0 where
-  pub len : length made ≡ length ks
-  pub open_ones : (j : ℕ) (d : Found) → n ≤ j → j < length ks → is_open n (holder_of code ks (slice_index_or ks j d)) ≡ true → IsMade code rules ks made j
+pub record AreMade (rules : List ResolvedKind) (kept : Kept) (lists : Listing) (n : ℕ) (made : List (Option Match)) : Type 0 where
+  pub counted : length made ≡ length kept.matches
+  pub waiting : (j : ℕ) (holder : Option Holder) → n ≤ j → slice_get kept.holders j ≡ Some holder → Waits n holder → IsMade rules kept lists made j
 
--- a match of the place that isn't listed under the holder is left
-abbrev pub OthersLeft : Syntax → List Found → Option Holder → List (Option Match) → List (Option Match) → Type 0
-OthersLeft code ks holder old new =
-    (j : ℕ) (d : Found) → is_listed holder (holder_of code ks (slice_index_or ks j d)) ≡ false → slice_index_or new j None ≡ slice_index_or old j None
+-- the match of the place n doesn't hold that of the place j
+abbrev pub IsNotHeldBy : Kept → ℕ → ℕ → Type 0
+IsNotHeldBy kept n j = (h : Holder) → slice_get kept.holders j ≡ Some (Some h) → h.place ≢ n
+
+-- placeholders show all bindings of the match m, which has the place n, by where they begin
+pub record ShowPlaceholders (rules : List ResolvedKind) (kept : Kept) (lists : Listing) (n : ℕ) (m : Found) (placeholders : List PlaceholderMatch) : Type 0 where
+  pub order : List ℕ
+  pub by_start : AreByStart kept.workspace m order
+  pub shown : ShowBindings rules kept lists n m order placeholders

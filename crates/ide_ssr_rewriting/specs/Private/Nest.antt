@@ -1,11 +1,10 @@
 -- Private: what is needed of kept matches and their lists so that they can be rewritten.
 use Rattle.std.specs.Prelude.{ℕ, ◌≡◌, ◌<◌, ◌≢◌, true, List, length, slice_get, Option, Some, All, AllPairs, Contains}
-use Rattle.std.specs.Option.{IsSomeAnd}
-use Rattle.ssr_base.specs.Built.{IsBuilt, IsNodeOf}
+use Rattle.ssr_base.specs.Built.{IsBuilt}
 use Rattle.ssr_base.specs.Laws.{LiesIn}
-use Rattle.ssr_base.specs.Workspace.{FileSpan, Workspace, original_range, trees}
+use Rattle.ssr_base.specs.Workspace.{FileSpan, original_range, trees}
 use Rattle.ide_ssr_matching.specs.declared.bindings.Binding.{Binding}
-use Rattle.ide_ssr_matching.specs.Found.{Found, HasByte, held_node}
+use Rattle.ide_ssr_matching.specs.Found.{Found, IsMatch, held_node}
 use Rattle.ide_ssr_nesting.specs.declared.holders.Holder.{Holder}
 use Rattle.ide_ssr_nesting.specs.Holding.{Kept}
 use Rattle.ide_ssr_nesting.specs.Lists.{Listing, listed}
@@ -15,12 +14,6 @@ use Rattle.ide_ssr_rewriting.specs.Edits.{range_at}
 -- the places of those under the placeholder whose binding has the place i, of the match of the place n
 abbrev pub under : Listing → ℕ → ℕ → List ℕ
 under listing n i = listed listing (Some (record { place = n; binding = i }))
-
--- a match has nodes of the workspace, and it comes from somewhere
-pub record IsMatchIn (w : Workspace) (m : Found) : Type 0 where
-  pub node : IsNodeOf (trees w) m.node
-  pub bindings : All (λ binding. IsNodeOf (trees w) (held_node m.node.tree binding)) m.bindings
-  pub range : IsSomeAnd (original_range (trees w) m.node) HasByte
 
 -- a list has the places of matches with this holder, each once, in the order of ranges
 pub record IsList (kept : Kept) (holder : Option Holder) (places : List ℕ) : Type 0 where
@@ -32,7 +25,7 @@ pub record IsList (kept : Kept) (holder : Option Holder) (places : List ℕ) : T
 -- All of them. What is in the list of a placeholder comes behind the match that has the placeholder, and lies in what this holds.
 pub record IsNest (kept : Kept) (listing : Listing) : Type 0 where
   pub built : IsBuilt kept.workspace
-  pub matches : All (IsMatchIn kept.workspace) kept.matches
+  pub matches : All (IsMatch (trees kept.workspace)) kept.matches
   pub lists : (holder : Option Holder) → IsList kept holder (listed listing holder)
   pub before : (n i j : ℕ) → Contains (under listing n i) j → n < j
   pub within : (n i j : ℕ) (m : Found) (binding : Binding) (range : FileSpan)

@@ -1,10 +1,10 @@
 -- Private: what the steps of a whole match tell.
-use Rattle.std.specs.Prelude.{ℕ, ◌≡◌, ◌≤◌, min, max, List, [], ◌∷◌, Option, Some, None, All, AllPairs}
+use Rattle.std.specs.Prelude.{ℕ, ◌≡◌, List, [], ◌∷◌, Option, Some, None, All, AllPairs}
 use Rattle.ssr_syntax_tree.specs.Syntax.{Syntax}
 use Rattle.ssr_syntax_tree.specs.Places.{HasNode, node_of, root_of}
 use Rattle.ssr_base.specs.declared.ids.FileRange.{FileRange}
 use Rattle.ssr_base.specs.declared.ids.NodeId.{NodeId}
-use Rattle.ssr_base.specs.Workspace.{Planted, FileSpan, planted, original_range, file_span_of}
+use Rattle.ssr_base.specs.Workspace.{Planted, planted, original_range, file_span_of}
 use Rattle.ide_ssr_rules.specs.Resolving.{ResolvedKind}
 use Rattle.ide_ssr_matching.specs.declared.bindings.Binding.{Binding}
 use Rattle.ide_ssr_matching.specs.Bindings.{bindings_of}
@@ -18,10 +18,6 @@ AreRanges trees tree [] (range ∷ ranges) = ⊥
 AreRanges trees tree (b ∷ bindings) [] = ⊥
 AreRanges trees tree (b ∷ bindings) (range ∷ ranges) =
     IsPlaced trees (held_node tree b) × (original_range trees (held_node tree b) ≡ Some (file_span_of range)) × AreRanges trees tree bindings ranges
-
--- two ranges of one file have no byte in common
-abbrev pub AreDisjoint : FileSpan → FileSpan → Type 0
-AreDisjoint a b = min a.span.end b.span.end ≤ max a.span.start b.span.start
 
 -- what is asked of a match beside that the node matches
 pub record IsPlacedMatch (trees : List Planted) (x : NodeId) (bindings : List Binding) : Type 0 where

@@ -1,10 +1,11 @@
 use Rattle.std.proofs.Common.{◌≡◌, All, map, take}
-use Rattle.ide_ssr.specs.Matches.{place_of_range, place_of_token}
-use Rattle.ide_ssr.specs.Nesting.{IsBetweenCharacters}
+use Rattle.ssr_base.specs.Laws.{LiesInFile}
+use Rattle.ssr_base.specs.Workspace.{file_span_of}
+use Rattle.ide_ssr.specs.Comments.{token_span}
 use Rattle.ide_ssr.proofs.comments.comment_ranges.Given as goal
 
 abbrev pub invariant-loop-comment : goal.invariant-loop-comment
 invariant-loop-comment l = record {
-  places : map place_of_range l.ranges.items ≡ map (place_of_token l.tree) (take l.comment-index l.comments);
-  between : All (λ range. IsBetweenCharacters l.tree range.range) l.ranges.items;
+  ranges : map file_span_of l.ranges.items ≡ map (token_span l.file l.tree) (take l.comment-index l.comment-items);
+  in_file : All (λ range. LiesInFile l.workspace (file_span_of range)) l.ranges.items;
 }

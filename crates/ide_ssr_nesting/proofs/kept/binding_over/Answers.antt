@@ -6,8 +6,8 @@ use Rattle.ide_ssr_nesting.proofs.kept.binding_over.Goals as goal
 pub returns-then-lies_in : goal.returns-then-lies_in
 returns-then-lies_in c =
     (binding_read (trees c.args.workspace.now) c.args.k.now c.args.m.now c.bindings-binding-items.result.now c.loop-i.i c.node.result c.node-tree.result
-    (file_span_of c.in_ok-range.range) c.lies_in.result c.bindings-binding-items.ensures c.node.ensures c.node-tree.ensures c.in_ok-range.ensures
-    c.loop-i-test.true c.lies_in.ensures).0
+    c.held_node.result (file_span_of c.in_ok-range.range) c.lies_in.result c.bindings-binding-items.ensures c.node.ensures c.node-tree.ensures c.held_node.ensures
+    c.in_ok-range.ensures c.loop-i-test.true c.lies_in.ensures).0
     c.if-lies_in.true
 
 pub loop-i-preserved : goal.loop-i-preserved
@@ -15,8 +15,8 @@ loop-i-preserved c =
     none_so_far (trees c.args.workspace.now) c.args.k.now c.args.m.now c.loop-i.i c.loop-i.invariant
     (iff_false
     (binding_read (trees c.args.workspace.now) c.args.k.now c.args.m.now c.bindings-binding-items.result.now c.loop-i.i c.node.result c.node-tree.result
-    (file_span_of c.in_ok-range.range) c.lies_in.result c.bindings-binding-items.ensures c.node.ensures c.node-tree.ensures c.in_ok-range.ensures
-    c.loop-i-test.true c.lies_in.ensures)
+    c.held_node.result (file_span_of c.in_ok-range.range) c.lies_in.result c.bindings-binding-items.ensures c.node.ensures c.node-tree.ensures c.held_node.ensures
+    c.in_ok-range.ensures c.loop-i-test.true c.lies_in.ensures)
     c.if-lies_in.false)
 
 pub returns : goal.returns

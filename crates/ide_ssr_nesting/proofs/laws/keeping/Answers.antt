@@ -1,6 +1,10 @@
 use Rattle.ssr_base.specs.Workspace.{trees}
 use Rattle.ide_ssr_nesting.proofs.OneKept.{one_kept, lies_in_one}
+use Rattle.ide_ssr_nesting.proofs.SomeKept.{kept_exist}
 use Rattle.ide_ssr_nesting.proofs.laws.keeping.Goals as goal
+
+pub returns-clause-exist : goal.returns-clause-exist
+returns-clause-exist c = kept_exist
 
 pub returns-clause-one_kept : goal.returns-clause-one_kept
 returns-clause-one_kept c w built = one_kept (trees w) built.grown

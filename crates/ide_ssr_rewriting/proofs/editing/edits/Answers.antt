@@ -4,66 +4,57 @@ use Rattle.std.proofs.lemmas.Result.{err_from_is_err_and}
 use Rattle.ide_ssr_rewriting.specs.Clashes.{AreInOrder, clash_of}
 use Rattle.ide_ssr_rewriting.specs.Edits.{list_at}
 use Rattle.ide_ssr_rewriting.specs.Private.Edits.{text_in}
-use Rattle.ide_ssr_rewriting.proofs.Nests.{is_nest}
 use Rattle.ide_ssr_rewriting.proofs.Pieces.{list_in_order}
 use Rattle.ide_ssr_rewriting.proofs.Runs.{first_of_all, edited, clashed, no_memory}
 use Rattle.ide_ssr_rewriting.proofs.Answering.{edits_fit}
 use Rattle.ide_ssr_rewriting.proofs.editing.edits.Goals as goal
 
-pub returns-in_err-texts-clause-answer : goal.returns-in_err-texts-clause-answer
-returns-in_err-texts-clause-answer c =
-    let p = err_from_is_err_and c.from_residual.result c.from_residual.ensures.1 in
-    no_memory c.args.kept.now c.args.lists.now c.args.rules.now (is_nest c.args.kept.now c.args.lists.now c.len.ensures.kept c.requires.lists) c.from_residual.result (p.1 ∙ ap Err p.2)
-
 pub returns-in_err-pending-clause-answer : goal.returns-in_err-pending-clause-answer
 returns-in_err-pending-clause-answer c =
-    let p = err_from_is_err_and c.from_residual-in_err-pending.result c.from_residual-in_err-pending.ensures.1 in
-    no_memory c.args.kept.now c.args.lists.now c.args.rules.now (is_nest c.args.kept.now c.args.lists.now c.len.ensures.kept c.requires.lists) c.from_residual-in_err-pending.result (p.1 ∙ ap Err p.2)
-
-pub run-requires-clause-nest : goal.run-requires-clause-nest
-run-requires-clause-nest c = (is_nest c.args.kept.now c.args.lists.now c.len.ensures.kept c.requires.lists)
+    let p = err_from_is_err_and c.from_residual.result c.from_residual.ensures.1 in
+    no_memory c.args.kept.now c.args.lists.now c.args.rules.now c.run.ensures.nest c.from_residual.result (p.1 ∙ ap Err p.2)
 
 pub take_list-requires-clause-within : goal.take_list-requires-clause-within
-take_list-requires-clause-within c = subst (All (λ n. n < length c.args.kept.now.matches)) (sym c.outermost.ensures) ((is_nest c.args.kept.now c.args.lists.now c.len.ensures.kept c.requires.lists).lists None).within
+take_list-requires-clause-within c = subst (All (λ n. n < length c.args.kept.now.matches)) (sym c.outermost.ensures) (c.run.ensures.nest.lists None).within
 
 pub take_list-requires-clause-once : goal.take_list-requires-clause-once
-take_list-requires-clause-once c = subst (λ (xs : List ℕ). AllPairs ◌≢◌ xs) (sym c.outermost.ensures) ((is_nest c.args.kept.now c.args.lists.now c.len.ensures.kept c.requires.lists).lists None).once
+take_list-requires-clause-once c = subst (λ (xs : List ℕ). AllPairs ◌≢◌ xs) (sym c.outermost.ensures) (c.run.ensures.nest.lists None).once
 
 pub take_list-requires-clause-order : goal.take_list-requires-clause-order
 take_list-requires-clause-order c =
     subst (λ (xs : List ℕ). AreInOrder (list_at c.args.kept.now (text_in c.in_ok-pending.pending.texts.items) xs)) (sym c.outermost.ensures)
-    (list_in_order c.args.kept.now c.args.lists.now (is_nest c.args.kept.now c.args.lists.now c.len.ensures.kept c.requires.lists) None (text_in c.in_ok-pending.pending.texts.items))
+    (list_in_order c.args.kept.now c.args.lists.now c.run.ensures.nest None (text_in c.in_ok-pending.pending.texts.items))
 
 pub returns-in_err-outermost-clause-answer : goal.returns-in_err-outermost-clause-answer
 returns-in_err-outermost-clause-answer c =
     let p = err_from_is_err_and c.from_residual-in_err-outermost.result c.from_residual-in_err-outermost.ensures.1 in
-    no_memory c.args.kept.now c.args.lists.now c.args.rules.now (is_nest c.args.kept.now c.args.lists.now c.len.ensures.kept c.requires.lists) c.from_residual-in_err-outermost.result (p.1 ∙ ap Err p.2)
+    no_memory c.args.kept.now c.args.lists.now c.args.rules.now c.run.ensures.nest c.from_residual-in_err-outermost.result (p.1 ∙ ap Err p.2)
 
 pub returns-in-Some-clause-answer : goal.returns-in-Some-clause-answer
 returns-in-Some-clause-answer c =
-    clashed c.args.kept.now c.args.lists.now c.args.rules.now (is_nest c.args.kept.now c.args.lists.now c.len.ensures.kept c.requires.lists) c.in-Some.earlier c.in-Some.later (option_map clash_of c.take_list.new.self.clash)
-    (first_of_all c.args.kept.now c.args.lists.now c.args.rules.now (is_nest c.args.kept.now c.args.lists.now c.len.ensures.kept c.requires.lists) c.in_ok-pending.pending.texts.items (option_map clash_of c.in_ok-pending.pending.clash) (option_map clash_of c.in_ok-outermost.field-0-1)
-    (option_map clash_of c.take_list.new.self.clash) c.in_ok-outermost.outermost.items c.in_ok-pending.ensures (c.in_ok-outermost.ensures.list ∙ ap (list_at c.args.kept.now (text_in c.in_ok-pending.pending.texts.items)) c.outermost.ensures) c.in_ok-outermost.ensures.first c.in_ok-outermost.ensures.clash)
+    clashed c.args.kept.now c.args.lists.now c.args.rules.now c.run.ensures.nest c.in-Some.earlier c.in-Some.later (option_map clash_of c.take_list.new.self.clash)
+    (first_of_all c.args.kept.now c.args.lists.now c.args.rules.now c.run.ensures.nest c.in_ok-pending.pending.texts.items (option_map clash_of c.in_ok-pending.pending.clash) (option_map clash_of c.in_ok-outermost.field-0-1)
+    (option_map clash_of c.take_list.new.self.clash) c.in_ok-outermost.outermost.items c.in_ok-pending.ensures.run (c.in_ok-outermost.ensures.list ∙ ap (list_at c.args.kept.now (text_in c.in_ok-pending.pending.texts.items)) c.outermost.ensures) c.in_ok-outermost.ensures.first c.in_ok-outermost.ensures.clash)
     (ap (option_map clash_of) c.in-Some.is)
 
 pub file_edits-requires-clause-order : goal.file_edits-requires-clause-order
 file_edits-requires-clause-order c =
     subst AreInOrder (sym (c.in_ok-outermost.ensures.list ∙ ap (list_at c.args.kept.now (text_in c.in_ok-pending.pending.texts.items)) c.outermost.ensures))
-    (list_in_order c.args.kept.now c.args.lists.now (is_nest c.args.kept.now c.args.lists.now c.len.ensures.kept c.requires.lists) None (text_in c.in_ok-pending.pending.texts.items))
+    (list_in_order c.args.kept.now c.args.lists.now c.run.ensures.nest None (text_in c.in_ok-pending.pending.texts.items))
 
 pub returns-in_err-file_edits-clause-answer : goal.returns-in_err-file_edits-clause-answer
 returns-in_err-file_edits-clause-answer c =
     let p = err_from_is_err_and c.from_residual-in_err-file_edits.result c.from_residual-in_err-file_edits.ensures.1 in
-    no_memory c.args.kept.now c.args.lists.now c.args.rules.now (is_nest c.args.kept.now c.args.lists.now c.len.ensures.kept c.requires.lists) c.from_residual-in_err-file_edits.result (p.1 ∙ ap Err p.2)
+    no_memory c.args.kept.now c.args.lists.now c.args.rules.now c.run.ensures.nest c.from_residual-in_err-file_edits.result (p.1 ∙ ap Err p.2)
 
 pub returns-clause-answer : goal.returns-clause-answer
 returns-clause-answer c =
-    edited c.args.kept.now c.args.lists.now c.args.rules.now (is_nest c.args.kept.now c.args.lists.now c.len.ensures.kept c.requires.lists) c.in_ok-pending.pending.texts.items (option_map clash_of c.in_ok-pending.pending.clash) (option_map clash_of c.take_list.new.self.clash)
-    c.in_ok-outermost.outermost.items c.in_ok-file_edits.field-0 c.in_ok-pending.ensures (c.in_ok-outermost.ensures.list ∙ ap (list_at c.args.kept.now (text_in c.in_ok-pending.pending.texts.items)) c.outermost.ensures)
-    (first_of_all c.args.kept.now c.args.lists.now c.args.rules.now (is_nest c.args.kept.now c.args.lists.now c.len.ensures.kept c.requires.lists) c.in_ok-pending.pending.texts.items (option_map clash_of c.in_ok-pending.pending.clash) (option_map clash_of c.in_ok-outermost.field-0-1)
-    (option_map clash_of c.take_list.new.self.clash) c.in_ok-outermost.outermost.items c.in_ok-pending.ensures (c.in_ok-outermost.ensures.list ∙ ap (list_at c.args.kept.now (text_in c.in_ok-pending.pending.texts.items)) c.outermost.ensures) c.in_ok-outermost.ensures.first c.in_ok-outermost.ensures.clash)
+    edited c.args.kept.now c.args.lists.now c.args.rules.now c.run.ensures.nest c.in_ok-pending.pending.texts.items (option_map clash_of c.in_ok-pending.pending.clash) (option_map clash_of c.take_list.new.self.clash)
+    c.in_ok-outermost.outermost.items c.in_ok-file_edits.field-0 c.in_ok-pending.ensures.run (c.in_ok-outermost.ensures.list ∙ ap (list_at c.args.kept.now (text_in c.in_ok-pending.pending.texts.items)) c.outermost.ensures)
+    (first_of_all c.args.kept.now c.args.lists.now c.args.rules.now c.run.ensures.nest c.in_ok-pending.pending.texts.items (option_map clash_of c.in_ok-pending.pending.clash) (option_map clash_of c.in_ok-outermost.field-0-1)
+    (option_map clash_of c.take_list.new.self.clash) c.in_ok-outermost.outermost.items c.in_ok-pending.ensures.run (c.in_ok-outermost.ensures.list ∙ ap (list_at c.args.kept.now (text_in c.in_ok-pending.pending.texts.items)) c.outermost.ensures) c.in_ok-outermost.ensures.first c.in_ok-outermost.ensures.clash)
     (ap (option_map clash_of) c.in_default.is)
     c.in_ok-file_edits.ensures
 
 pub returns-clause-fits : goal.returns-clause-fits
-returns-clause-fits c = edits_fit c.args.kept.now c.args.lists.now c.args.rules.now (is_nest c.args.kept.now c.args.lists.now c.len.ensures.kept c.requires.lists) c.in_ok-file_edits.field-0 (returns-clause-answer c)
+returns-clause-fits c = edits_fit c.args.kept.now c.args.lists.now c.args.rules.now c.run.ensures.nest c.in_ok-file_edits.field-0 (returns-clause-answer c)

@@ -1,5 +1,6 @@
 use Rattle.ide_ssr_search.proofs.Matched.{one_list}
+use Rattle.ide_ssr_search.proofs.SomeFound.{some_found}
 use Rattle.ide_ssr_search.proofs.laws.searching.Goals as goal
 
 pub returns : goal.returns
-returns c = record { one = one_list }
+returns c = record { exist = λ w context rules built. some_found w built context rules; one = one_list }

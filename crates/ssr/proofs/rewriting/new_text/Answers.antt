@@ -1,26 +1,61 @@
-use Rattle.std.proofs.Common.{◌≡◌, ℕ, List, [], length, sym, ap, subst, ◌∙◌}
-use Rattle.std.specs.List.{All}
-use Rattle.std.specs.Map.{lookup}
-use Rattle.ssr_base.specs.Changes.{Change, FitsText, replaced}
+use Rattle.std.proofs.Common.{◌≡◌, ℕ, List, All, length, sym, ap, subst, ◌∙◌}
+use Rattle.std.specs.Prelude.{slice_get}
+use Rattle.std.specs.Option.{IsSomeAnd}
+use Rattle.std.proofs.lemmas.Option.{none-some, same_Some}
+use Rattle.ssr_base.specs.Changes.{FitsText, replaced}
+use Rattle.ssr_base.specs.Workspace.{Workspace}
 use Rattle.ssr_syntax_tree.specs.Syntax.{source_of}
-use Rattle.ide_ssr.specs.Edits.{edit_of}
-use Rattle.ssr.proofs.FirstEdit.{is_first, no_edit, some_edit, unchanged}
+use Rattle.ide_ssr.proofs.Shared.{none_clash}
+use Rattle.ssr.specs.Rewritten.{edited, first_file}
+use Rattle.ssr.proofs.OneText.{tree_is}
 use Rattle.ssr.proofs.rewriting.new_text.Goals as goal
 
-pub returns-in_default-clause-text : goal.returns-in_default-clause-text
-returns-in_default-clause-text c =
-    let is : edit_of c.args.finder.now.code c.args.finder.now.rules ≡ [] = no_edit _ (c.in_default.ensures.value ∙ ap (lookup is_first) c.in-Ok.ensures.edits) in
-    c.in_ok-from_str.ensures.ok ∙ (c.source-text.ensures ∙ ap source_of (sym c.requires)) ∙ unchanged _ _ is
+pub unreachable-requires : goal.unreachable-requires
+unreachable-requires c = (rw c.in-Err-NoTemplate.field-0-is at c.in-Err-NoTemplate.ensures).answer c.requires.templates
+
+pub unreachable-requires-in-Err-Clash : goal.unreachable-requires-in-Err-Clash
+unreachable-requires-in-Err-Clash c =
+    none_clash c.args.finder.now (ap (λ (w : Workspace). w.expansions) (c.requires.same ∙ c.requires.one.1)) c.in-Err-Clash.field-0-0 c.in-Err-Clash.field-0-1
+    (rw c.in-Err-Clash.field-0-is at c.in-Err-Clash.ensures).answer
+
+pub unreachable-requires-in_default : goal.unreachable-requires-in_default
+unreachable-requires-in_default c = none-some _ (c.in_default.ensures ∙ tree_is _ _ c.requires.one.1)
+
+pub returns-in_default-get-clause-text : goal.returns-in_default-get-clause-text
+returns-in_default-get-clause-text c =
+    let code = c.requires.one.0 in
+    let tree : c.in-Some.tree.now ≡ code = same_Some _ _ (c.in-Some.ensures ∙ tree_is _ _ c.requires.one.1) in
+    record {
+      code = code;
+      workspace = c.requires.same ∙ c.requires.one.1;
+      edits = c.in-Ok.edits;
+      are_edits = c.in-Ok.ensures.answer;
+      is = c.in_ok-from_str.ensures.ok ∙ (c.source-text.ensures ∙ ap source_of tree) ∙ ap (edited code) c.in_default-get.ensures.value;
+    }
 
 pub returns-in-Ok-apply-clause-text : goal.returns-in-Ok-apply-clause-text
 returns-in-Ok-apply-clause-text c =
-    let is : edit_of c.args.finder.now.code c.args.finder.now.rules ≡ c.in-Some.edit.now = some_edit _ _ (c.in-Some.ensures.value ∙ ap (lookup is_first) c.in-Ok.ensures.edits) in
-    c.in-Ok-apply.ensures.text ∙ ap (λ text. replaced text 0 (length text) c.in-Some.edit.now) (c.source-text.ensures ∙ ap source_of (sym c.requires))
-    ∙ ap (replaced (source_of c.args.finder.now.code) 0 (length (source_of c.args.finder.now.code))) (sym is)
+    let code = c.requires.one.0 in
+    let changes = c.in-Some-get.edit.now in
+    let tree : c.in-Some.tree.now ≡ code = same_Some _ _ (c.in-Some.ensures ∙ tree_is _ _ c.requires.one.1) in
+    record {
+      code = code;
+      workspace = c.requires.same ∙ c.requires.one.1;
+      edits = c.in-Ok.edits;
+      are_edits = c.in-Ok.ensures.answer;
+      is =
+          c.in-Ok-apply.ensures.text
+          ∙ ap (λ (text : List ℕ). replaced text 0 (length text) changes) (c.source-text.ensures ∙ ap source_of tree)
+          ∙ ap (edited code) c.in-Some-get.ensures.value;
+    }
 
 pub unreachable-requires-in-Err-Range : goal.unreachable-requires-in-Err-Range
 unreachable-requires-in-Err-Range c =
-    let is : edit_of c.args.finder.now.code c.args.finder.now.rules ≡ c.in-Some.edit.now = some_edit _ _ (c.in-Some.ensures.value ∙ ap (lookup is_first) c.in-Ok.ensures.edits) in
-    let P : List ℕ → Type 0 = λ text. All (FitsText text) c.in-Some.edit.now in
-    let Q : List Change → Type 0 = λ changes. All (FitsText (source_of c.args.finder.now.code)) changes in
-    (rw c.in-Err-Range.field-0-is at c.in-Err-Range.ensures).answer (subst P (sym (c.source-text.ensures ∙ ap source_of (sym c.requires))) (subst Q is c.in-Ok.ensures.fits))
+    let code = c.requires.one.0 in
+    let changes = c.in-Some-get.edit.now in
+    let tree : c.in-Some.tree.now ≡ code = same_Some _ _ (c.in-Some.ensures ∙ tree_is _ _ c.requires.one.1) in
+    let fit : All (FitsText (source_of code)) changes =
+    subst (λ (w : Workspace). IsSomeAnd (slice_get w.files 0) (λ tree. All (FitsText (source_of tree)) changes)) (c.requires.same ∙ c.requires.one.1)
+    (c.in-Ok.ensures.fits first_file changes (sym c.in-Some-get.ensures.value)) in
+    (rw c.in-Err-Range.field-0-is at c.in-Err-Range.ensures).answer
+    (subst (λ (text : List ℕ). All (FitsText text) changes) (sym (c.source-text.ensures ∙ ap source_of tree)) fit)

@@ -3,8 +3,9 @@ use Rattle.std.specs.Prelude.{AllPairs, Contains, None, Some, if◌then◌else�
 use Rattle.std.proofs.lemmas.List.{get_or_default}
 use Rattle.std.proofs.lemmas.Option.{slice_get-get_or}
 use Rattle.ssr_base.specs.declared.ids.NodeId.{NodeId}
-use Rattle.ssr_base.specs.Workspace.{Workspace, node_id}
+use Rattle.ssr_base.specs.Workspace.{Workspace}
 use Rattle.ide_ssr_matching.specs.declared.bindings.Binding.{Binding}
+use Rattle.ide_ssr_matching.specs.Found.{held_node}
 use Rattle.ide_ssr_rewriting.specs.Clashes.{AreInOrder, clash_of, is_clean}
 use Rattle.ide_ssr_rewriting.specs.Replacements.{piece}
 use Rattle.ide_ssr_rewriting.specs.Edits.{list_at}
@@ -39,8 +40,9 @@ piece_if_clean-requires-clause-list c =
     (list_fits c.args.kept.now c.args.lists.now c.requires.nest c.args.place i m b (text_in c.loop-index.self.texts.items) c.in_ok-list.list.items _
     c.requires.m (slice_get-get_or m.bindings i nobody lt)
     (c.in_ok-list.ensures.list ∙ ap (list_at c.args.kept.now (text_in c.loop-index.self.texts.items)) c.under.ensures)
-    (ap (λ (bs : List Binding). node_id c.node.result.tree (get_or bs i nobody).node.0) c.bindings-binding-items.ensures
-    ∙ ap (λ x. node_id x.tree b.node.0) c.node.ensures))
+    (c.held_node-node.ensures
+    ∙ ap (λ (bs : List Binding). held_node c.node.result.tree (get_or bs i nobody)) c.bindings-binding-items.ensures
+    ∙ ap (λ x. held_node x.tree b) c.node.ensures))
 
 pub loop-index-preserved : goal.loop-index-preserved
 loop-index-preserved c =
@@ -50,9 +52,10 @@ loop-index-preserved c =
     let b = get_or m.bindings i nobody in
     let list = c.in_ok-list.list.items in
     let lt : i < length m.bindings = omega (arith, ap (λ (bs : List Binding). length bs) c.bindings-binding-items.ensures) in
-    let held : node_id c.node.result.tree (get_or c.bindings-binding-items.result.now i nobody).node.0 ≡ node_id m.node.tree b.node.0 =
-    ap (λ (bs : List Binding). node_id c.node.result.tree (get_or bs i nobody).node.0) c.bindings-binding-items.ensures
-    ∙ ap (λ x. node_id x.tree b.node.0) c.node.ensures in
+    let held : c.held_node-node.result ≡ held_node m.node.tree b =
+    c.held_node-node.ensures
+    ∙ ap (λ (bs : List Binding). held_node c.node.result.tree (get_or bs i nobody)) c.bindings-binding-items.ensures
+    ∙ ap (λ x. held_node x.tree b) c.node.ensures in
     let made : c.if-branch.is_clean ≡ (is_some (option_map string_bytes c.in_ok-piece.piece) && c.loop-index.is_clean) =
     elim c.if-branch.branch [
       | then-branch w ↦ w.is_clean-is ∙ ap (λ (t : Bool). t && c.loop-index.is_clean) (sym (sym c.in_ok-is_clean.ensures.there ∙ w.if-branch.true))
@@ -63,7 +66,7 @@ loop-index-preserved c =
     (c.in_ok-list.ensures.list ∙ ap (list_at kept (text_in c.loop-index.self.texts.items)) c.under.ensures)
     c.in_ok-list.ensures.first c.in_ok-list.ensures.clash
     (c.in_ok-piece.ensures
-    ∙ (ap (λ (w : Workspace). if is_clean list then Some (piece w (node_id c.node.result.tree (get_or c.bindings-binding-items.result.now i nobody).node.0) list) else None) c.workspace.ensures
+    ∙ (ap (λ (w : Workspace). if is_clean list then Some (piece w c.held_node-node.result list) else None) c.workspace.ensures
     ∙ ap (λ (node : NodeId). if is_clean list then Some (piece kept.workspace node list) else None) held))
     made c.in_ok-is_clean.ensures.pieces c.in_ok-list.ensures.counted
     (λ j none. c.in_ok-list.ensures.others j (λ h. none (subst (λ (xs : List ℕ). Contains xs j) c.under.ensures h)))

@@ -2,7 +2,7 @@ use Rattle.std.proofs.Common.{arith}
 use Rattle.ssr_syntax_tree.specs.Places.{HasNode}
 use Rattle.ssr_base.specs.Workspace.{trees, node_id}
 use Rattle.ide_ssr_search.specs.Private.Shut.{IsShutIn, IsShut}
-use Rattle.ide_ssr_search.proofs.Trees.{is_tree}
+use Rattle.ide_ssr_matching.proofs.Shared.{is_tree}
 use Rattle.ide_ssr_search.proofs.Shutting.{past_now, past_turn, past_call, tested}
 use Rattle.ide_ssr_search.proofs.scan.Ground.add_found.Goals as goal
 

@@ -4,7 +4,7 @@ use Rattle.std.specs.Prelude.{◌↔◌, IsTrue}
 use Rattle.ssr_base.specs.Workspace.{trees, node_id, file_span_of, original_range}
 use Rattle.ide_ssr_matching.specs.Found.{HasByte}
 use Rattle.ide_ssr_search.specs.Permitted.{IsSearched}
-use Rattle.ide_ssr_search.proofs.Trees.{is_tree}
+use Rattle.ide_ssr_matching.proofs.Shared.{is_tree}
 use Rattle.ide_ssr_search.proofs.Opening.{opened, not_use, open_range}
 use Rattle.ide_ssr_search.proofs.scan.Ground.is_open.Goals as goal
 

@@ -1,0 +1,48 @@
+-- A finder's search comes to one outcome, so it has one edit for each file.
+use Rattle.std.proofs.Common.{◌≡◌, List, Contains, Ok, sym, ap, ◌∙◌, subst, arith}
+use Rattle.ssr_base.specs.Built.{IsBuilt}
+use Rattle.ssr_base.specs.Workspace.{Workspace, trees}
+use Rattle.ide_ssr_matching.specs.Found.{Found}
+use Rattle.ide_ssr_nesting.specs.Holding.{Kept}
+use Rattle.ide_ssr_nesting.specs.Lists.{Listing, AreLists}
+use Rattle.ide_ssr_rewriting.specs.Clashes.{clash_of}
+use Rattle.ide_ssr_rewriting.specs.Edits.{Answers}
+use Rattle.ide_ssr_rewriting.proofs.Shared.{one_edit, no_clash}
+use Rattle.ide_ssr_search.proofs.Shared.{are_matches, one_list}
+use Rattle.ide_ssr.specs.Finder.{Finder}
+use Rattle.ide_ssr.specs.Laws.{OneOutcome, OneEdit, NoClashWithoutExpansions}
+use Rattle.ide_ssr.specs.Searching.{IsOutcome}
+use Rattle.ide_ssr_nesting.proofs.Shared.{one_kept, one_holding, one_listing}
+
+pub one_outcome : (finder : Finder) → OneOutcome finder
+one_outcome finder a b s t one other =
+    let w = finder.workspace in
+    let same : one.found ≡ other.found = one_list w finder.context finder.rules one.found other.found one.are_found other.are_found in
+    let workspaces : a.workspace ≡ b.workspace = one.workspace ∙ sym other.workspace in
+    let matches : a.matches ≡ b.matches =
+    one_kept (trees w) (subst IsBuilt one.workspace one.is_kept.built).grown one.found other.found a.matches b.matches (are_matches w finder.context finder.rules one.found one.are_found)
+    (λ m. (subst (λ (ms : List Found). Contains ms m) same, subst (λ (ms : List Found). Contains ms m) (sym same))) one.are_kept other.are_kept in
+    let kept : a ≡ b = one_holding a b one.is_kept other.is_kept workspaces matches in
+    (kept, one_listing b s t (subst (λ (kept : Kept). AreLists kept s) kept one.are_lists) other.are_lists)
+
+-- the answer to one outcome is that to the other
+answers_again : (finder : Finder) (a b : Kept) (s t : Listing) → IsOutcome finder a s → IsOutcome finder b t
+    → (P : Kept → Listing → Type 0) → P b t → P a s
+answers_again finder a b s t one other P known =
+    let same = one_outcome finder a b s t one other in
+    subst (λ (kept : Kept). P kept s) (sym same.0) (subst (P b) (sym same.1) known)
+
+pub one_edit_each : (finder : Finder) → OneEdit finder
+one_edit_each finder a b first again =
+    let one = first.1 in
+    let other = again.1 in
+    one_edit one.0 one.1 finder.rules one.2.is_kept one.2.are_lists a b one.3
+    (answers_again finder one.0 other.0 one.1 other.1 one.2 other.2 (λ kept lists. Answers kept lists finder.rules (Ok b)) other.3)
+
+pub none_clash : (finder : Finder) → NoClashWithoutExpansions finder
+none_clash finder without earlier later told =
+    let one = told.1 in
+    let answers = one.3 in
+    let none = no_clash one.0 one.1 one.2.is_kept one.2.are_lists (ap (λ (w : Workspace). w.expansions) one.2.workspace ∙ without) answers.0 in
+    let at = subst (λ cs. Contains cs (clash_of (earlier, later))) none answers.2.0 in
+    omega (arith, at.1)

@@ -1,0 +1,58 @@
+-- What a finder's search comes to: each kept match is one of a rule.
+use Rattle.std.proofs.Common.{◌≡◌, ℕ, List, All, Option, Some, None, sym, ◌∙◌, ap, subst}
+use Rattle.std.specs.Option.{IsSomeAnd}
+use Rattle.std.specs.Prelude.{slice_get}
+use Rattle.std.proofs.lemmas.List.Elements.{Contains-get_or}
+use Rattle.std.proofs.lemmas.Option.{get_or_from_slice_get, slice_get_within}
+use Rattle.ssr_syntax_tree.specs.Syntax.{Syntax}
+use Rattle.ssr_syntax_tree.specs.Places.{HasNode, node_of, root_of}
+use Rattle.ssr_syntax_tree.proofs.Shared.{IsOf, node_of-number}
+use Rattle.ssr_base.specs.Workspace.{Workspace, Planted, planted, trees}
+use Rattle.ide_ssr_rules.specs.Patterns.{HasEachOnce, placeholders_of}
+use Rattle.ide_ssr_rules.specs.Resolving.{ResolvedKind}
+use Rattle.ide_ssr_matching.specs.declared.bindings.Binding.{Binding}
+use Rattle.ide_ssr_matching.specs.Found.{Found}
+use Rattle.ide_ssr_matching.specs.Matching.{Matches}
+use Rattle.ide_ssr_matching.proofs.Shared.{Matches-bindings_of, placeholders_bound, bindings_hold}
+use Rattle.ide_ssr_nesting.specs.Holding.{Kept}
+use Rattle.ide_ssr_nesting.specs.Lists.{Listing}
+use Rattle.ide_ssr_search.specs.Context.{Context}
+use Rattle.ide_ssr_search.specs.Found.{IsFound}
+use Rattle.ide_ssr.specs.Finder.{Finder}
+use Rattle.ide_ssr.specs.Searching.{IsOutcome}
+use Rattle.ide_ssr.proofs.BindsOnce.{IsOfRule}
+
+is_of : (s : Syntax) (n : ℕ) → HasNode s n → IsOf s (node_of s n)
+is_of s n has = let number = node_of-number s n has in (subst (HasNode s) (sym number) has, ap (node_of s) number)
+
+-- a match at a node binds the placeholders of the pattern
+bound_at : (names : List (List ℕ)) (pattern : Syntax) (o : Option Planted) (n : ℕ) (bs : List Binding)
+    → IsSomeAnd o (λ p. Matches names (root_of pattern) (node_of p.syntax n) bs) → IsSomeAnd o (λ p. HasNode p.syntax n)
+    → placeholders_bound bs ≡ placeholders_of names pattern
+bound_at names pattern None n bs matches has = absurd has
+bound_at names pattern (Some p) n bs matches has =
+    (bindings_hold p.syntax names pattern (node_of p.syntax n) (is_of p.syntax n has) bs
+    (Matches-bindings_of names (root_of pattern) (node_of p.syntax n) bs matches)).1
+
+at_place : {X : Type 0} (P : X → Type 0) (xs : List X) (n : ℕ) (x : X) → All P xs → slice_get xs n ≡ Some x → P x
+at_place P xs n x all is = subst P (get_or_from_slice_get xs n x x is) (all n x (slice_get_within xs n x is))
+
+found_of_rule : (w : Workspace) (context : Context) (rules : List ResolvedKind) (m : Found) → All (λ rule. HasEachOnce rule.names rule.pattern) rules
+    → IsFound w context rules m → IsOfRule rules m
+found_of_rule w context rules m each found =
+    let rule = found.rule in
+    let has = at_place (λ rule. HasEachOnce rule.names rule.pattern) rules m.rule rule each found.is_rule in
+    record {
+      rule = rule;
+      is_rule = found.is_rule;
+      numbered =
+          bound_at rule.names rule.pattern (planted (trees w) m.node.tree) m.node.node.0 m.bindings found.whole.matches found.permitted.open_to_all.node
+          ∙ has.nodes;
+      different = has.different;
+    }
+
+pub kept_of_rules : (finder : Finder) (kept : Kept) (lists : Listing) → All (λ rule. HasEachOnce rule.names rule.pattern) finder.rules
+    → IsOutcome finder kept lists → All (IsOfRule finder.rules) kept.matches
+kept_of_rules finder kept lists each is k d less =
+    found_of_rule finder.workspace finder.context finder.rules _ each
+    ((is.are_found.are _).0 ((is.are_kept.are _).0 (Contains-get_or kept.matches k d less)).0)

@@ -1,0 +1,26 @@
+use Rattle.std.proofs.Common.{All, get_or, sym, subst}
+use Rattle.std.specs.Prelude.{IsSome}
+use Rattle.ssr_base.specs.declared.ids.NodeId.{NodeId}
+use Rattle.ssr_base.specs.Workspace.{trees, original_range}
+use Rattle.ide_ssr_matching.specs.declared.bindings.Binding.{Binding}
+use Rattle.ide_ssr_matching.specs.Found.{held_node}
+use Rattle.ide_ssr.proofs.ByStart.{start_is, starts_more}
+use Rattle.ide_ssr.proofs.starts.starts.Goals as goal
+
+no_binding : Binding
+no_binding = record { placeholder = 0; node = record { 0 = 0 } }
+
+pub start_of-at-requires : goal.start_of-at-requires
+unfolding no_binding
+start_of-at-requires c =
+    let ranged = subst (All (λ b. IsSome (original_range (trees c.args.workspace.now) (held_node c.args.m.now.node.tree b)))) (sym c.bindings-binding-items.ensures) c.requires in
+    subst (λ (x : NodeId). IsSome (original_range (trees c.args.workspace.now) (held_node x.tree (get_or c.bindings-binding-items.result.now c.loop-place.place no_binding)))) (sym c.node.ensures)
+    (ranged c.loop-place.place no_binding c.loop-place-test.true)
+
+pub loop-place-preserved : goal.loop-place-preserved
+unfolding no_binding
+loop-place-preserved c =
+    starts_more c.args.workspace.now c.args.m.now c.loop-place.place c.loop-place.starts.items c.push.new.self.items c.start_of-at.result c.loop-place.invariant
+    (start_is c.args.workspace.now c.args.m.now c.loop-place.place c.start_of-at.result c.node.result c.bindings-binding-items.result.now no_binding c.node.ensures
+    c.bindings-binding-items.ensures c.loop-place-test.true c.start_of-at.ensures)
+    c.in_ok-push.ensures.items

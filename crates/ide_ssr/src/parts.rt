@@ -1,0 +1,82 @@
+//! What a nested match shows of itself, and its placeholders of themselves.
+
+ghost use Rattle.std.specs.Prelude.{◌≡◌, [], IfOk, IsSome, map, slice_get, slice_index_or, string_bytes};
+ghost use Rattle.std.specs.Option.{IsSomeAnd};
+ghost use Rattle.ssr_syntax_tree.specs.Places.{node_of, text_of};
+ghost use Rattle.ssr_base.specs.Built.{IsBuilt, IsNodeOf};
+ghost use Rattle.ssr_base.specs.Workspace.{file_span_of, original_range, tree_of, trees};
+ghost use Rattle.ide_ssr.specs.Matches.{inner_of, name_of, span_of};
+ghost use Rattle.ide_ssr.specs.Parts.{ComesFrom, placeholder_name};
+
+use crate::matches::{Match, PlaceholderMatch};
+use ide_ssr_rules::{ResolvedRule, Var};
+use ssr_base::{FileId, FileRange, NodeId, Workspace};
+use ssr_syntax_lex::TextRange;
+use std::alloc::{AllocError, Global};
+
+/// The name of the place.
+fn name_at(names: &[String], place: u32) -> &str
+    ensures { result.now ≡ slice_index_or (map string_bytes names.now) place [] }
+{
+    match names.get(place as usize) {
+        Some(name) => name.as_str(),
+        None => "",
+    }
+}
+
+/// The name of the placeholder of a rule of which the place is given.
+pub(crate) fn placeholder_name(rules: &[ResolvedRule], rule: usize, placeholder: u32) -> &str
+    ensures { result.now ≡ placeholder_name (slice_get rules.now rule) placeholder }
+{
+    let Some(rule) = rules.get(rule) else {
+        return "";
+    };
+    name_at(rule.names(), placeholder)
+}
+
+/// The text of a node in its tree.
+pub(crate) fn text_at(workspace: &Workspace, node: NodeId) -> &str
+    requires { IsNodeOf (trees workspace.now) node }
+    ensures { IsSomeAnd (tree_of workspace.now node.tree) (λ syntax. result.now ≡ text_of (node_of syntax node.node.0)) }
+{
+    match workspace.tree(node.tree) {
+        Some(tree) => tree.text(node.node),
+        None => "",
+    }
+}
+
+/// Where a node comes from.
+pub(crate) fn range_at(workspace: &Workspace, node: NodeId) -> FileRange
+    requires built { IsBuilt workspace.now }
+    requires range { IsSome (original_range (trees workspace.now) node) }
+    ensures { ComesFrom workspace.now node (file_span_of result) }
+{
+    match workspace.original_range(node) {
+        Some(range) => range,
+        None => FileRange {
+            file_id: FileId(0),
+            range: TextRange::new(0, 0),
+        },
+    }
+}
+
+/// What a placeholder of a match holds, with the matches in it.
+pub(crate) fn nested_placeholder<'a>(
+    alloc: Global,
+    workspace: &Workspace,
+    name: &str,
+    node: NodeId,
+    inner: Vec<Match<'a>>,
+) -> Result<PlaceholderMatch<'a>, AllocError>
+    requires built { IsBuilt workspace.now }
+    requires range { IsSome (original_range (trees workspace.now) node) }
+    ensures name { IfOk result (λ p. name_of p ≡ name.now) }
+    ensures range { IfOk result (λ p. ComesFrom workspace.now node (span_of p)) }
+    ensures inner { IfOk result (λ p. inner_of p ≡ inner.entry.items) }
+{
+    Ok(PlaceholderMatch {
+        var: Var(String::from_str(alloc, name)?),
+        range: range_at(workspace, node),
+        inner,
+    })
+}

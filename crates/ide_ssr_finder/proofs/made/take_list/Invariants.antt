@@ -1,5 +1,0 @@
-use Rattle.ide_ssr_finder.proofs.Taking.{IsTaking}
-use Rattle.ide_ssr_finder.proofs.made.take_list.Given as goal
-
-abbrev pub invariant-loop-place : goal.invariant-loop-place
-invariant-loop-place l = IsTaking l.places l.place-index l.fn.made.items l.made.items l.list.items

@@ -1,0 +1,18 @@
+//! Worked examples of searches over workspaces that facts files tell, and that the calls of a search succeed. They stand in a
+//! crate of their own, above what they try: a crate with tests is proved twice.
+#![tactic(auto)]
+
+#[cfg(test)]
+mod contexts;
+#[cfg(test)]
+mod expansions;
+#[cfg(test)]
+mod files;
+#[cfg(test)]
+mod given;
+#[cfg(test)]
+mod one_file;
+#[cfg(test)]
+mod search_patterns;
+#[cfg(test)]
+mod steps;

@@ -1,0 +1,33 @@
+-- A finder for a file is refused for want of memory alone.
+use Rattle.std.proofs.Common.{◌≡◌, ℕ, ◌<◌, [], length, Some, None, Result, Ok, Err, String, Global, refl, sym, ap, ◌∙◌, subst, arith}
+use Rattle.std.proofs.lemmas.Option.{none-some}
+use Rattle.ssr_base.specs.Workspace.{Workspace}
+use Rattle.ide_ssr_rules.specs.declared.error.SsrError.{SsrError}
+use Rattle.ide_ssr_rules.specs.declared.error.SsrError.TheVariants as rules
+use Rattle.ide_ssr_search.specs.declared.context_error.ContextError.{ContextError}
+use Rattle.ide_ssr_search.specs.declared.context_error.ContextError.TheVariants as refusals
+use Rattle.ide_ssr_search.specs.Making.{MakesFirst}
+use Rattle.ide_ssr.specs.Finder.{Finder}
+use Rattle.ide_ssr.specs.Making.{MakesFinder}
+use Rattle.ssr.specs.Rewritten.{one_file}
+use Rattle.ssr.specs.Unresolved.{nothing_resolves}
+use Rattle.ssr.specs.Private.Rewriting.{IsNewFinder, IsOneFile}
+
+pub is_new : (w : Workspace) (finder : Finder) → MakesFinder w (MakesFirst w nothing_resolves) (Ok finder) → IsNewFinder w finder
+is_new w finder (context, made, is) = record {
+  workspace = ap (λ (f : Finder). f.workspace) is;
+  context = subst (λ (f : Finder). MakesFirst w nothing_resolves (Ok f.context)) (sym is) made;
+  rules = ap (λ (f : Finder). f.rules) is;
+}
+
+only_memory : (w : Workspace) → IsOneFile w → (refusal : ContextError) → MakesFirst w nothing_resolves (Err refusal) → refusal ≡ refusals.Memory
+only_memory w one refusals.NoSuchFile made = absurd made
+only_memory w one refusals.NoSuchPosition made = absurd made
+only_memory w one refusals.NoScope made = absurd (none-some _ (sym made.1.3))
+only_memory w one refusals.NoFiles made = absurd (let some = ap (λ (w : Workspace). length w.files) one.1 in omega arith)
+only_memory w one refusals.Memory made = refl
+
+pub no_message : (w : Workspace) (error : SsrError) (message : String Global) → IsOneFile w → MakesFinder w (MakesFirst w nothing_resolves) (Err error)
+    → error ≡ rules.Message message → ⊥
+no_message w rules.Memory message one made is = cc
+no_message w (rules.Message other) message one made is = made.2.0 (only_memory w one made.0 made.1)

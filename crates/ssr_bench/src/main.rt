@@ -1,0 +1,106 @@
+//! A program for measuring alone: it builds a workspace of files and searches it.
+//!
+//! Standard input names the files, one a line, and the words of the command are rules. It tells how many files, bytes and
+//! outermost matches there are, and behind a first word `--times`, which is no rule, also the processor time that building
+//! and searching took, in nanoseconds.
+#![tactic(auto)]
+
+use anyhow::Result;
+use ide_ssr::{MatchFinder, SsrRule};
+use ssr_base::{NodeId, ScopeId, Workspace};
+use ssr_facts::{TableSemantics, Tables};
+use ssr_syntax_tree::NodeNo;
+use std::alloc::{AllocError, Global};
+use std::time::{CpuClock, Duration};
+use std::{env, fs, io};
+
+fn main(rt: HostRuntime) -> Result<()> {
+    let alloc = rt.alloc();
+    let words: Vec<String> = env::args(&rt)?.skip(1).collect(alloc)?;
+    let rules = rules(&words);
+    let texts = texts(&rt)?;
+    let bytes = total(&texts);
+    let start = rt.process_cpu_time()?;
+    let workspace = Workspace::build(alloc, texts, Vec::new(alloc))?;
+    let built = rt.process_cpu_time()?;
+    let semantics = semantics(alloc, &workspace)?;
+    let before = rt.process_cpu_time()?;
+    let count = matches(alloc, &workspace, &semantics, rules)?;
+    let searched = rt.process_cpu_time()?;
+    let files = workspace.file_count();
+    println!(rt; "{files} files, {bytes} bytes, {count} matches")?;
+    if rules.len() < words.len() {
+        let (building, searching) = (between(start, built), between(before, searched));
+        println!(rt; "built in {building} ns, searched in {searching} ns")?;
+    }
+    Ok(())
+}
+
+/// The rules among the words: all but a first word `--times`.
+fn rules(words: &[String]) -> &[String] {
+    match words.split_first() {
+        Some((first, rest)) if first.as_str() == "--times" => rest,
+        _ => words,
+    }
+}
+
+/// How many bytes texts have.
+fn total(texts: &[String]) -> u64 {
+    let mut bytes: u64 = 0;
+    for text in texts {
+        bytes = bytes.saturating_add(text.len() as u64);
+    }
+    bytes
+}
+
+/// The nanoseconds from one time to a later one.
+fn between(earlier: Duration, later: Duration) -> u128 {
+    later.saturating_sub(earlier).as_nanos()
+}
+
+/// The texts of the files that standard input names.
+fn texts(rt: &HostRuntime) -> io::Result<Vec<String>> {
+    let mut texts = Vec::new(rt.alloc());
+    for path in rt.lines(rt.alloc()) {
+        texts.push(fs::read_to_string(rt, path?.as_str())?)?;
+    }
+    Ok(texts)
+}
+
+/// A provider by which the first file is one scope.
+fn semantics(alloc: Global, workspace: &Workspace) -> Result<TableSemantics, AllocError> {
+    let mut scopes = Vec::new(alloc);
+    let count = workspace.tree(0).map_or(0, |tree| tree.node_count());
+    for number in 0..count {
+        let node = NodeId {
+            tree: 0,
+            node: NodeNo(number),
+        };
+        scopes.push((node, ScopeId(0)))?;
+    }
+    let tables = Tables {
+        definitions: Vec::new(alloc),
+        scopes,
+        names: Vec::new(alloc),
+        members: Vec::new(alloc),
+        paths: Vec::new(alloc),
+        methods: Vec::new(alloc),
+        types: Vec::new(alloc),
+        printed: Vec::new(alloc),
+    };
+    TableSemantics::new(alloc, tables)
+}
+
+/// How many outermost matches rules have.
+fn matches(
+    alloc: Global,
+    workspace: &Workspace,
+    semantics: &TableSemantics,
+    rules: &[String],
+) -> Result<usize> {
+    let mut finder = MatchFinder::at_first_file(alloc, workspace, semantics)?;
+    for rule in rules {
+        finder.add_rule(SsrRule::parse(alloc, rule.as_str())?)?;
+    }
+    Ok(finder.matches()?.matches.len())
+}
