@@ -1,5 +1,5 @@
 -- A finder for a file is refused for want of memory alone.
-use Rattle.std.proofs.Common.{◌≡◌, ℕ, ◌<◌, [], length, Some, None, Result, Ok, Err, String, Global, refl, sym, ap, ◌∙◌, subst, arith}
+use Rattle.std.proofs.Common.{◌≡◌, length, Ok, Err, String, Global, refl, sym, ap, subst, arith}
 use Rattle.std.proofs.lemmas.Option.{none-some}
 use Rattle.ssr_base.specs.Workspace.{Workspace}
 use Rattle.ide_ssr_rules.specs.declared.error.SsrError.{SsrError}
@@ -9,7 +9,6 @@ use Rattle.ide_ssr_search.specs.declared.context_error.ContextError.TheVariants 
 use Rattle.ide_ssr_search.specs.Making.{MakesFirst}
 use Rattle.ide_ssr.specs.Finder.{Finder}
 use Rattle.ide_ssr.specs.Making.{MakesFinder}
-use Rattle.ssr.specs.Rewritten.{one_file}
 use Rattle.ssr.specs.Unresolved.{nothing_resolves}
 use Rattle.ssr.specs.Private.Rewriting.{IsNewFinder, IsOneFile}
 

@@ -1,17 +1,13 @@
 -- There is one new text of a file for the kinds of rules, and one tree of the file.
 use Rattle.std.proofs.Common.{◌≡◌, ℕ, List, [], ap, sym, ◌∙◌, subst, arith}
-use Rattle.std.specs.BTreeMap.{BTreeMap, get}
 use Rattle.std.specs.Prelude.{Some, Ok}
 use Rattle.ssr_syntax_tree.specs.Syntax.{Syntax}
-use Rattle.ssr_base.specs.declared.ids.FileId.{FileId}
-use Rattle.ssr_base.specs.Changes.{Change}
 use Rattle.ssr_base.specs.Workspace.{Workspace, tree_of}
 use Rattle.ssr_base.proofs.Shared.{tree_of_file}
 use Rattle.ide_ssr_rules.specs.Resolving.{ResolvedKind}
 use Rattle.ide_ssr_search.specs.Context.{Context}
-use Rattle.ide_ssr_search.specs.Making.{IsContext, first_position}
+use Rattle.ide_ssr_search.specs.Making.{first_position}
 use Rattle.ide_ssr_search.proofs.Shared.{one_context}
-use Rattle.ide_ssr_rewriting.specs.Edits.{file_cmp}
 use Rattle.ide_ssr.specs.Edits.{Edits}
 use Rattle.ide_ssr.specs.Finder.{Finder}
 use Rattle.ide_ssr.proofs.Shared.{one_edit_each}

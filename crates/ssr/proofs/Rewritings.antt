@@ -14,7 +14,7 @@ use Rattle.ide_ssr_rules.specs.Resolving.{ResolvedKind}
 use Rattle.ssr_base.specs.Workspace.{Workspace}
 use Rattle.ide_ssr_search.specs.Making.{IsContext, first_position}
 use Rattle.ide_ssr.specs.Finder.{Finder}
-use Rattle.ssr.specs.Output.{IsOutput, no_file, no_rules, rewritten, rules_reading}
+use Rattle.ssr.specs.Output.{no_file, no_rules, rewritten, rules_reading}
 use Rattle.std.specs.BTreeMap.{get}
 use Rattle.ide_ssr_rewriting.specs.Edits.{file_cmp}
 use Rattle.ssr.specs.Rewritten.{SearchesFile, edited, first_file, one_file}

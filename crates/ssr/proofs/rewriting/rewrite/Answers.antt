@@ -1,4 +1,4 @@
-use Rattle.std.proofs.Common.{◌++◌, Global, ap, subst, sym, ◌∙◌}
+use Rattle.std.proofs.Common.{Global, ap, subst, sym, ◌∙◌}
 use Rattle.std.proofs.lemmas.Str.{IsUtf8-string_bytes}
 use Rattle.std.proofs.lemmas.Result.{err_from_is_err_and}
 use Rattle.ide_ssr.specs.Edits.{HaveTemplates}
