@@ -11,7 +11,7 @@ ghost use Rattle.ide_ssr.specs.Parts.{ComesFrom, placeholder_name};
 use crate::matches::{Match, PlaceholderMatch};
 use ide_ssr_rules::{ResolvedRule, Var};
 use ssr_base::{FileId, FileRange, NodeId, Workspace};
-use ssr_syntax_lex::TextRange;
+use ssr_syntax_kinds::TextRange;
 use std::alloc::{AllocError, Global};
 
 /// The name of the place.

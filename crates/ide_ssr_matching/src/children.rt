@@ -5,7 +5,7 @@ ghost use Rattle.ssr_syntax_tree.specs.Places.{HasNode, HasElement, node_of, par
 ghost use Rattle.ide_ssr_matching.specs.Matching.{is_closing, bare};
 ghost use Rattle.ide_ssr_matching.specs.Private.Children.{has_kind, closes_part, is_trivia_part, solid, siblings_left, AreKept};
 
-use ssr_syntax_lex::SyntaxKind;
+use ssr_syntax_kinds::SyntaxKind;
 use ssr_syntax_tree::{Children, Element, NodeNo, Tree};
 
 /// The children of a node that are left, while they are gone over.

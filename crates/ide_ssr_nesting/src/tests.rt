@@ -6,7 +6,7 @@ use crate::order::{is_above, precedes};
 use crate::sorting::is_node;
 use ssr_base::{Expansion, NodeId, Workspace};
 use ssr_syntax::{ExpToken, ExpansionKind};
-use ssr_syntax_lex::TextRange;
+use ssr_syntax_kinds::TextRange;
 use ssr_syntax_tree::NodeNo;
 use std::alloc::{AllocError, Global};
 use std::test::Fail;

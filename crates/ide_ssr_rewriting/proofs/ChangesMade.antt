@@ -5,7 +5,7 @@ use Rattle.std.specs.Global.{Global}
 use Rattle.std.specs.Option.{option_map_or}
 use Rattle.std.specs.List.{dedup, dedup_from}
 use Rattle.std.proofs.lemmas.List.{map-append}
-use Rattle.ssr_syntax_lex.specs.declared.range.TextRange.{TextRange}
+use Rattle.ssr_syntax_kinds.specs.declared.range.TextRange.{TextRange}
 use Rattle.ssr_base.specs.declared.ids.FileRange.{FileRange}
 use Rattle.ssr_base.specs.Applied.{change_of as pair_change, changes_of}
 use Rattle.ssr_base.specs.Changes.{Change}

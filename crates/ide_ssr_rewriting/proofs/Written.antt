@@ -6,7 +6,7 @@ use Rattle.std.specs.List.{dedup}
 use Rattle.std.proofs.lemmas.List.{length-map}
 use Rattle.std.proofs.lemmas.List.Elements.{All-map, All-weaker}
 use Rattle.std.proofs.lemmas.List.Filters.{All-dedup}
-use Rattle.ssr_syntax_lex.specs.declared.range.TextRange.{TextRange}
+use Rattle.ssr_syntax_kinds.specs.declared.range.TextRange.{TextRange}
 use Rattle.ssr_base.specs.Applied.{change_of as pair_change, changes_of}
 use Rattle.ssr_base.specs.Changes.{Change}
 use Rattle.ssr_base.specs.Workspace.{FileSpan, Workspace}

@@ -8,7 +8,7 @@ ghost use Rattle.ide_ssr_rewriting.specs.Clashes.{AreInOrder, IsFirst, changes_m
 ghost use Rattle.ide_ssr_rewriting.specs.Private.Clashes.{first_behind, stands_for};
 
 use ssr_base::FileRange;
-use ssr_syntax_lex::TextRange;
+use ssr_syntax_kinds::TextRange;
 use std::alloc::{AllocError, Global};
 use std::marker::Model;
 

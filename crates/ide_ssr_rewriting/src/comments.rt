@@ -5,7 +5,7 @@ ghost use Rattle.ssr_syntax_tree.specs.Places.{HasNode, HasToken, node_of};
 ghost use Rattle.ide_ssr_rewriting.specs.Comments.{is_comment, is_below, is_bound, is_kept_comment, kept_comments, comment_text, comments_text};
 
 use ide_ssr_matching::Binding;
-use ssr_syntax_lex::SyntaxKind;
+use ssr_syntax_kinds::SyntaxKind;
 use ssr_syntax_tree::{NodeNo, TokenNo, Tree};
 use std::alloc::{AllocError, Global};
 

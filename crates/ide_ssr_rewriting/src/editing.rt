@@ -24,7 +24,7 @@ use ide_ssr_matching::Found;
 use ide_ssr_nesting::{KeptMatches, Lists};
 use ide_ssr_rules::ResolvedRule;
 use ssr_base::{FileId, FileRange, NodeId, TextEdit, Workspace};
-use ssr_syntax_lex::TextRange;
+use ssr_syntax_kinds::TextRange;
 use std::alloc::{AllocError, Global};
 use std::cmp::Ordering;
 use std::collections::BTreeMap;

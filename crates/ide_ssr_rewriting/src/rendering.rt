@@ -10,7 +10,7 @@ ghost use Rattle.ide_ssr_rewriting.specs.Rendering.{piece_of, text_for, plain, i
 use ide_ssr_matching::Binding;
 use ide_ssr_rules::ResolvedRule;
 use ssr_syntax::{Fragment, SyntaxError, fragment};
-use ssr_syntax_lex::TextRange;
+use ssr_syntax_kinds::TextRange;
 use ssr_syntax_tree::{NodeNo, TokenNo, Tree};
 use std::alloc::{AllocError, Global};
 

@@ -15,7 +15,7 @@ use crate::rendering::rendered;
 use ide_ssr_matching::Found;
 use ide_ssr_rules::ResolvedRule;
 use ssr_base::{FileId, FileRange, NodeId, Workspace};
-use ssr_syntax_lex::TextRange;
+use ssr_syntax_kinds::TextRange;
 use std::alloc::{AllocError, Global};
 
 /// The bytes of a file from one place to another; none if these places are the other way round.

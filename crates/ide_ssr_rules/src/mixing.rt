@@ -5,7 +5,7 @@ ghost use Rattle.ide_ssr_rules.specs.Mixing.{mixes, check_unmixed};
 ghost use Rattle.ide_ssr_rules.specs.Refusals.{Answers};
 
 use crate::error::SsrError;
-use ssr_syntax_lex::SyntaxKind;
+use ssr_syntax_kinds::SyntaxKind;
 use ssr_syntax_tree::{NodeNo, Tree};
 use std::alloc::Global;
 

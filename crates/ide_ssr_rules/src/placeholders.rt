@@ -6,7 +6,7 @@ ghost use Rattle.ide_ssr_rules.specs.Resolving.{only_token, name_at, placeholder
 ghost use Rattle.ide_ssr_rules.specs.Private.Placeholders.{placeholders};
 
 use crate::stand_ins::is_stand_in_of;
-use ssr_syntax_lex::SyntaxKind;
+use ssr_syntax_kinds::SyntaxKind;
 use ssr_syntax_tree::{Element, NodeNo, TokenNo, Tree};
 use std::alloc::{AllocError, Global};
 

@@ -12,7 +12,7 @@ use crate::kinds::ParsedRule;
 use crate::mixing::check_unmixed;
 use crate::placeholders::{name_at, placeholder_at, placeholders};
 use crate::rules::{ParsedKinds, SsrPattern, SsrRule};
-use ssr_syntax_lex::SyntaxKind;
+use ssr_syntax_kinds::SyntaxKind;
 use ssr_syntax_tree::{NodeNo, TokenNo, Tree};
 use std::alloc::{AllocError, Global};
 use std::marker::Model;

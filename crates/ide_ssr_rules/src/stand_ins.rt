@@ -6,7 +6,7 @@ ghost use Rattle.ide_ssr_rules.specs.StandIns.{stand_in_of, read_as, code_of, fi
 
 use crate::elements::Element;
 use crate::tokens::{Name, Token, Unlexed, lexed};
-use ssr_syntax_lex::SyntaxKind;
+use ssr_syntax_kinds::SyntaxKind;
 use std::alloc::{AllocError, Global};
 
 /// What stands before a placeholder's name in the identifier that is read in its place.

@@ -2,7 +2,8 @@
 ghost use Rattle.std.specs.Prelude.{◌≡◌, ◌<◌, ◌^◌, length, IfOk};
 ghost use Rattle.ide_ssr_rules.specs.Private.Tokens.{IsLexed};
 
-use ssr_syntax_lex::{LexError, SyntaxKind, lex};
+use ssr_syntax_kinds::SyntaxKind;
+use ssr_syntax_lex::{LexError, lex};
 use std::alloc::Global;
 use std::marker::Model;
 

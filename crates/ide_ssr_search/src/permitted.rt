@@ -1,6 +1,6 @@
 //! At which nodes a rule is tried.
 ghost use Rattle.std.specs.Prelude.{◌≡◌, ◌+◌, ◌<◌, ◌≤◌, ◌↔◌, ◌&&◌, ◌||◌, not, IsTrue, Some, [], ◌∷◌, map, option_map};
-ghost use Rattle.ssr_syntax_lex.specs.Kinds.{same_kind, is_trivia};
+ghost use Rattle.ssr_syntax_kinds.specs.Kinds.{same_kind, is_trivia};
 ghost use Rattle.ssr_syntax_tree.specs.Syntax.{tokens_of};
 ghost use Rattle.ssr_syntax_tree.specs.Places.{HasNode, HasElement, node_of, part_of, parts_of, size_of};
 ghost use Rattle.ssr_base.specs.Workspace.{trees, tree_of, file_span_of};
@@ -9,7 +9,7 @@ ghost use Rattle.ide_ssr_search.specs.Permitted.{IsSearched, first_token_tree, a
 ghost use Rattle.ide_ssr_search.specs.Private.Shut.{Shuts};
 
 use ssr_base::{FileRange, NodeId, Workspace};
-use ssr_syntax_lex::SyntaxKind;
+use ssr_syntax_kinds::SyntaxKind;
 use ssr_syntax_tree::{Element, NodeNo, TokenNo, Tree};
 
 /// A child that is a token tree.

@@ -4,7 +4,7 @@ ghost use Rattle.ssr_syntax_tree.specs.Syntax.{token_count};
 ghost use Rattle.ssr_syntax_tree.specs.Places.{HasNode, HasToken, node_of, size_of};
 ghost use Rattle.ide_ssr_search.specs.Positions.{EndsAt, IsNear, IsFirst, IsNextSibling, IsLeftFor, Leads, Settles, IsNodeAt, IsInnermost};
 
-use ssr_syntax_lex::SyntaxKind;
+use ssr_syntax_kinds::SyntaxKind;
 use ssr_syntax_tree::{NodeNo, TokenNo, Tree};
 
 /// The token that has a byte in front of an offset, and ends there.

@@ -17,7 +17,7 @@ use crate::whole::whole_match;
 use ide_ssr_matching::{Binding, Found};
 use ide_ssr_rules::ResolvedRule;
 use ssr_base::{NodeId, Workspace};
-use ssr_syntax_lex::SyntaxKind;
+use ssr_syntax_kinds::SyntaxKind;
 use ssr_syntax_tree::{NodeNo, Tree};
 use std::alloc::{AllocError, Global};
 use std::collections::BTreeSet;

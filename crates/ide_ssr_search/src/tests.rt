@@ -5,7 +5,7 @@ use crate::scan::find_matches;
 use ide_ssr_rules::{ResolvedRule, SsrRule};
 use ssr_base::{Expansion, FileId, FileRange, NodeId, ScopeId, Workspace};
 use ssr_syntax::{ExpToken, ExpansionKind};
-use ssr_syntax_lex::TextRange;
+use ssr_syntax_kinds::TextRange;
 use ssr_syntax_tree::NodeNo;
 use std::alloc::{AllocError, Global};
 use std::test::Fail;

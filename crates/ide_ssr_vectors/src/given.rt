@@ -3,7 +3,7 @@
 use ide_ssr::SsrMatches;
 use ssr_base::{FileId, FileRange, TextEdit, Workspace};
 use ssr_facts::{Facts, read};
-use ssr_syntax_lex::TextRange;
+use ssr_syntax_kinds::TextRange;
 use std::alloc::{AllocError, Global};
 use std::collections::BTreeMap;
 use std::test::Fail;

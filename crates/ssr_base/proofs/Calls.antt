@@ -3,7 +3,7 @@ use Rattle.std.proofs.Common.{◌≡◌, ℕ, ◌+◌, Bool, true, false, List, 
 use Rattle.std.specs.Prelude.{nat_lt, not, is_some, if◌then◌else◌}
 use Rattle.std.specs.List.{list_all}
 use Rattle.std.specs.Option.{option_map, option_and_then, ok_or}
-use Rattle.ssr_syntax_lex.specs.declared.range.TextRange.{TextRange}
+use Rattle.ssr_syntax_kinds.specs.declared.range.TextRange.{TextRange}
 use Rattle.ssr_syntax_tree.specs.Syntax.{Syntax}
 use Rattle.ssr_syntax_tree.specs.Places.{Node, HasNode}
 use Rattle.ssr_syntax.specs.declared.expansions.ExpToken.{ExpToken}

@@ -5,7 +5,7 @@ use Rattle.std.proofs.lemmas.List.Elements.{All-map}
 use Rattle.std.proofs.lemmas.List.Folds.{drop_split}
 use Rattle.std.specs.List.{All, slice_range}
 use Rattle.std.specs.Global.{Global}
-use Rattle.ssr_syntax_lex.specs.declared.range.TextRange.{TextRange}
+use Rattle.ssr_syntax_kinds.specs.declared.range.TextRange.{TextRange}
 use Rattle.ssr_base.specs.Changes.{Change, ChangesInOrder, FitsText, IsReplaced, same, next, replaced}
 use Rattle.ssr_base.specs.Applied.{change_of, changes_of}
 

@@ -3,9 +3,9 @@ use Rattle.std.proofs.Common.{◌≡◌, ℕ, zero, suc, ◌+◌, ◌-◌, ◌<�
 use Rattle.std.proofs.lemmas.Bool.{cases_lt, cases_eq}
 use Rattle.std.proofs.lemmas.List.{drop_all}
 use Rattle.std.specs.List.{find}
-use Rattle.ssr_syntax_lex.specs.Kinds.{same_kind}
-use Rattle.ssr_syntax_lex.specs.declared.kinds.SyntaxKind.TheVariants as k
-use Rattle.ssr_syntax_lex.specs.declared.range.TextRange.{TextRange}
+use Rattle.ssr_syntax_kinds.specs.Kinds.{same_kind}
+use Rattle.ssr_syntax_kinds.specs.declared.kinds.SyntaxKind.TheVariants as k
+use Rattle.ssr_syntax_kinds.specs.declared.range.TextRange.{TextRange}
 use Rattle.ssr_syntax_tree.specs.Syntax.{Syntax, node_count}
 use Rattle.ssr_syntax_tree.specs.Places.{Node, HasNode, node_of, nodes_of, size_of, start_of, end_of}
 use Rattle.ssr_syntax_tree.proofs.Shared.{node_of-number, node_left, length-nodes_of, start_before_end, start_of-below, ranges_apart}

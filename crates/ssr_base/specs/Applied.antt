@@ -2,7 +2,7 @@
 use Rattle.std.specs.Prelude.{ℕ, List, map, Result, Ok, Err, String, string_bytes, codes}
 use Rattle.std.specs.Global.{Global}
 use Rattle.std.specs.List.{All}
-use Rattle.ssr_syntax_lex.specs.declared.range.TextRange.{TextRange}
+use Rattle.ssr_syntax_kinds.specs.declared.range.TextRange.{TextRange}
 use Rattle.ssr_base.specs.declared.edit.ApplyError.{ApplyError}
 use Rattle.ssr_base.specs.declared.edit.ApplyError.TheVariants as errors
 use Rattle.ssr_base.specs.Changes.{Change, FitsText, IsReplaced}

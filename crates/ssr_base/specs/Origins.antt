@@ -1,6 +1,6 @@
 -- Where the tokens of a tree come from: each from a span of bytes of a file, or from nowhere.
 use Rattle.std.specs.Prelude.{ℕ, List, [], ◌∷◌, min, max, Option, Some, None}
-use Rattle.ssr_syntax_lex.specs.declared.range.TextRange.{TextRange}
+use Rattle.ssr_syntax_kinds.specs.declared.range.TextRange.{TextRange}
 
 -- the bytes from `start` up to before `end`
 pub record Span : Type 0 where

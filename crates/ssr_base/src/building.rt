@@ -20,7 +20,7 @@ use crate::workspace_error::WorkspaceError;
 use ssr_syntax::{
     ExpToken, ExpansionKind, SyntaxError, SyntaxKind, parse_file_owned, parse_tokens,
 };
-use ssr_syntax_lex::TextRange;
+use ssr_syntax_kinds::TextRange;
 use ssr_syntax_tree::{NodeNo, TokenNo, Tree};
 use std::alloc::{AllocError, Global};
 use std::collections::BTreeMap;

@@ -8,7 +8,7 @@ ghost use Rattle.ssr_base.specs.Origins.{span_of, join, covered, cover_of_one};
 ghost use Rattle.ssr_base.specs.Workspace.{cover_below};
 ghost use Rattle.ssr_base.specs.Private.Covers.{plain_cover, plain_origin, CoversFrom, AreCovers};
 
-use ssr_syntax_lex::TextRange;
+use ssr_syntax_kinds::TextRange;
 use ssr_syntax_tree::{Element, NodeNo, Tree};
 use std::alloc::{AllocError, Global};
 

@@ -6,7 +6,7 @@ ghost use Rattle.ssr_base.specs.Changes.{ChangesInOrder, FitsText, replaced};
 ghost use Rattle.ssr_base.specs.Applied.{changes_of, Applies};
 ghost use Rattle.ssr_base.specs.declared.edit.ApplyError.TheVariants as errors;
 
-use ssr_syntax_lex::TextRange;
+use ssr_syntax_kinds::TextRange;
 use std::alloc::{AllocError, Global};
 use std::error::Error;
 use std::marker::Model;

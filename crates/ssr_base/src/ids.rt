@@ -1,6 +1,6 @@
 //! Files, ranges and positions of files, nodes of trees, and the numbers that a provider of names and types gives.
 
-use ssr_syntax_lex::TextRange;
+use ssr_syntax_kinds::TextRange;
 use ssr_syntax_tree::NodeNo;
 
 /// The number of a file.

@@ -12,7 +12,7 @@ ghost use Rattle.ssr_base.specs.Private.Stored.{IsStoredAt};
 
 use crate::covers::Cover;
 use crate::ids::{FileId, FileRange, NodeId};
-use ssr_syntax_lex::TextRange;
+use ssr_syntax_kinds::TextRange;
 use ssr_syntax_tree::{Element, NodeNo, Tree};
 use std::collections::BTreeMap;
 use std::marker::Model;

@@ -8,8 +8,8 @@ use Rattle.std.specs.BTreeMap.{is_at}
 use Rattle.std.specs.Cmp.{unsigned_ties, both_tied}
 use Rattle.std.specs.List.{find}
 use Rattle.std.specs.Option.{option_map, option_and_then, option_or}
-use Rattle.ssr_syntax_lex.specs.Kinds.{same_kind}
-use Rattle.ssr_syntax_lex.specs.declared.kinds.SyntaxKind.{SyntaxKind}
+use Rattle.ssr_syntax_kinds.specs.Kinds.{same_kind}
+use Rattle.ssr_syntax_kinds.specs.declared.kinds.SyntaxKind.{SyntaxKind}
 use Rattle.ssr_syntax_tree.specs.Syntax.{Syntax, node_count}
 use Rattle.ssr_syntax_tree.specs.Places.{Node, HasNode, node_of, nodes_of}
 use Rattle.ssr_syntax_tree.proofs.Lists.{take_between}

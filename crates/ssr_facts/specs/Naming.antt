@@ -1,7 +1,7 @@
 -- Whether each number of a facts file names something, and each row of a path or of a method call such a node.
 use Rattle.std.specs.Prelude.{ℕ, ◌&&◌, nat_lt, Bool, true, length, is_some}
 use Rattle.std.specs.List.{list_all}
-use Rattle.ssr_syntax_lex.specs.declared.kinds.SyntaxKind.TheVariants as k
+use Rattle.ssr_syntax_kinds.specs.declared.kinds.SyntaxKind.TheVariants as k
 use Rattle.ssr_base.specs.Workspace.{Workspace, tree_of}
 use Rattle.ssr_facts_rows.specs.declared.meanings.ResolutionRow.{ResolutionRow}
 use Rattle.ssr_facts_rows.specs.declared.meanings.ResolutionRow.TheVariants as resolutions

@@ -1,7 +1,7 @@
 -- Files and expansions as a workspace is built of them, and as a facts file tells them.
 use Rattle.std.specs.Prelude.{◌≡◌, List, map, option_map, String, string_bytes}
 use Rattle.std.specs.Global.{Global}
-use Rattle.ssr_syntax_lex.specs.declared.range.TextRange.{TextRange}
+use Rattle.ssr_syntax_kinds.specs.declared.range.TextRange.{TextRange}
 use Rattle.ssr_syntax.specs.declared.expansions.ExpToken.{ExpToken}
 use Rattle.ssr_syntax.specs.declared.expansions.ExpansionKind.{ExpansionKind}
 use Rattle.ssr_syntax.specs.declared.expansions.ExpansionKind.TheVariants as kinds

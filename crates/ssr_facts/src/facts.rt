@@ -2,7 +2,7 @@
 
 ghost use Rattle.std.specs.Prelude.{◌≡◌, ◌+◌, ◌≤◌, length, IfOk, Ok};
 ghost use Rattle.std.specs.Option.{option_map};
-ghost use Rattle.ssr_syntax_lex.specs.declared.kinds.SyntaxKind.TheVariants as kinds;
+ghost use Rattle.ssr_syntax_kinds.specs.declared.kinds.SyntaxKind.TheVariants as kinds;
 ghost use Rattle.ssr_base.specs.Building.{most_trees};
 ghost use Rattle.ssr_facts_rows.specs.Facts.{plain_facts, facts_of};
 ghost use Rattle.ssr_facts_rows.specs.declared.places.PlaceRow.{PlaceRow as Place};
@@ -26,7 +26,7 @@ use crate::tables::Tables;
 use crate::types::types_of_nodes;
 use ssr_base::{Expansion, FileId, FilePosition, FileRange, NodeId, Workspace, WorkspaceError};
 use ssr_facts_rows::{FactRows, PlaceRow, PositionRow, read_rows};
-use ssr_syntax_lex::SyntaxKind;
+use ssr_syntax_kinds::SyntaxKind;
 use std::alloc::{AllocError, Global};
 use std::collections::BTreeMap;
 use std::mem;

@@ -13,7 +13,7 @@ ghost use Rattle.ssr_facts.specs.Private.Nodes.{place_at, found_in, at_place};
 use crate::grouping::add_first;
 use ssr_base::{NodeId, Workspace};
 use ssr_facts_rows::PlaceRow;
-use ssr_syntax_lex::SyntaxKind;
+use ssr_syntax_kinds::SyntaxKind;
 use ssr_syntax_tree::{NodeNo, Tree};
 use std::alloc::{AllocError, Global};
 use std::collections::BTreeMap;

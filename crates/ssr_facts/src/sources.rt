@@ -7,7 +7,7 @@ ghost use Rattle.ssr_facts.specs.Private.Sources.{token_told, expansion_told, ra
 use ssr_base::{Expansion, FileId, FileRange};
 use ssr_facts_rows::{ExpansionKindRow, ExpansionRow, FileRow, RangeRow, SpanRow, TokenRow};
 use ssr_syntax::{ExpToken, ExpansionKind};
-use ssr_syntax_lex::TextRange;
+use ssr_syntax_kinds::TextRange;
 use std::alloc::{AllocError, Global};
 
 /// The bytes from a start up to an end. No row that is read has a start above its end.

@@ -2,8 +2,8 @@
 use Rattle.std.proofs.Common.{◌≡◌, ℕ, zero, suc, ◌<◌, nat_lt, Bool, true, false, ◌&&◌, List, [], ◌∷◌, ◌++◌, refl}
 use Rattle.std.specs.Prelude.{⊤}
 use Rattle.std.proofs.lemmas.Bool.{ltb-true, and_parts}
-use Rattle.ssr_syntax_lex.specs.declared.kinds.SyntaxKind.{SyntaxKind}
-use Rattle.ssr_syntax_lex.specs.declared.kinds.SyntaxKind.TheVariants.{IDENT, AS_KW, ELSE_KW, FOR_KW, IF_KW, IN_KW, LET_KW, WHERE_KW, COLON, COLON2, EQ, FAT_ARROW, L_CURLY, R_PAREN, R_CURLY, R_BRACK, SEMICOLON, COMMA}
+use Rattle.ssr_syntax_kinds.specs.declared.kinds.SyntaxKind.{SyntaxKind}
+use Rattle.ssr_syntax_kinds.specs.declared.kinds.SyntaxKind.TheVariants.{IDENT, AS_KW, ELSE_KW, FOR_KW, IF_KW, IN_KW, LET_KW, WHERE_KW, COLON, COLON2, EQ, FAT_ARROW, L_CURLY, R_PAREN, R_CURLY, R_BRACK, SEMICOLON, COMMA}
 use Rattle.ssr_syntax_types.specs.declared.goals.Goal.{Goal}
 use Rattle.ssr_syntax_types.specs.declared.goals.Goal.TheVariants.{File, Expr, Condition, Operand, Unary, Ty, PathType, GenericArgs, TokenTree, Pat, StmtList, Stmt, Arm, If, Item, UseTree, Items, Stmts}
 use Rattle.ssr_syntax_types.specs.declared.goals.ExprPlace.{ExprPlace}

@@ -2,11 +2,11 @@
 use Rattle.std.proofs.Common.{◌≡◌, Bool, true, false, not, ◌||◌, ◌&&◌, if◌then◌else◌, List, [], ◌∷◌, drop, Some, None, refl, sym, ◌∙◌, ap}
 use Rattle.std.proofs.lemmas.Bool.{and_parts, not-true, or_parts}
 use Rattle.std.specs.Prelude.{Option}
-use Rattle.ssr_syntax_lex.specs.declared.kinds.SyntaxKind.{SyntaxKind}
-use Rattle.ssr_syntax_lex.specs.declared.kinds.SyntaxKind.TheVariants as k
-use Rattle.ssr_syntax_lex.specs.Kinds.{same_kind, is_trivia}
+use Rattle.ssr_syntax_kinds.specs.declared.kinds.SyntaxKind.{SyntaxKind}
+use Rattle.ssr_syntax_kinds.specs.declared.kinds.SyntaxKind.TheVariants as k
+use Rattle.ssr_syntax_kinds.specs.Kinds.{same_kind, is_trivia}
 use Rattle.ssr_syntax_lex.specs.declared.tokens.RawToken.{RawToken}
-use Rattle.ssr_syntax_lex.proofs.Shared.{same_kind-equal}
+use Rattle.ssr_syntax_kinds.proofs.Shared.{same_kind-equal}
 use Rattle.ssr_syntax_forms.specs.declared.tokens.Token.{Token}
 use Rattle.ssr_syntax.specs.Solid.{with_eq, with_r_angle, twice, joined, lengthened, is_joint, joined_two, joined_three, solid_token, solid_tokens}
 use Rattle.ssr_syntax.specs.Identifiers.{is_ident}

@@ -3,15 +3,16 @@ use Rattle.std.proofs.Common.{◌≡◌, ℕ, ◌∷◌, ◌≤◌, Bool, true, 
 use Rattle.std.specs.Prelude.{Option}
 use Rattle.std.specs.Str.{IsUtf8}
 use Rattle.std.proofs.lemmas.List.{length-map}
-use Rattle.ssr_syntax_lex.specs.declared.kinds.SyntaxKind.{SyntaxKind}
-use Rattle.ssr_syntax_lex.specs.declared.kinds.SyntaxKind.TheVariants as k
-use Rattle.ssr_syntax_lex.specs.declared.token_rows.TokenRow.{TokenRow}
+use Rattle.ssr_syntax_kinds.specs.declared.kinds.SyntaxKind.{SyntaxKind}
+use Rattle.ssr_syntax_kinds.specs.declared.kinds.SyntaxKind.TheVariants as k
+use Rattle.ssr_syntax_kinds.specs.declared.token_rows.TokenRow.{TokenRow}
 use Rattle.ssr_syntax_lex.specs.declared.tokens.RawToken.{RawToken}
-use Rattle.ssr_syntax_lex.specs.Kinds.{same_kind, is_trivia}
+use Rattle.ssr_syntax_kinds.specs.Kinds.{same_kind, is_trivia}
 use Rattle.ssr_syntax_lex.specs.Words.{is_punctuation}
 use Rattle.ssr_syntax_lex.specs.Tokens.{tokens, row_of, rows_in, begins_with_punctuation, spell, Tiles}
 use Rattle.ssr_syntax_tree.proofs.Lists.{map-reverse}
-use Rattle.ssr_syntax_lex.proofs.Shared.{same_kind-equal, tokens_tile, tiles_spell, AreJoint, tokens_joint, rows_known}
+use Rattle.ssr_syntax_kinds.proofs.Shared.{same_kind-equal}
+use Rattle.ssr_syntax_lex.proofs.Shared.{tokens_tile, tiles_spell, AreJoint, tokens_joint, rows_known}
 use Rattle.ssr_syntax.specs.Solid.{twice, joined, lengthened, is_joint, joined_two, joined_three, solid_token, solid_tokens}
 use Rattle.ssr_syntax.specs.Private.SolidKinds.{with_next, two_of, solid_kind, solid_kinds, kinds_begin_solid}
 use Rattle.ssr_syntax.specs.Reading.{begins_solid}

@@ -7,7 +7,7 @@ use Rattle.std.specs.Str.{IsUtf8}
 use Rattle.std.proofs.lemmas.List.{append-nil}
 use Rattle.std.proofs.lemmas.List.Elements.{All-from_recursion}
 use Rattle.std.proofs.lemmas.Str.{IsUtf8-nil, IsUtf8-append}
-use Rattle.ssr_syntax_lex.specs.declared.kinds.SyntaxKind.{SyntaxKind}
+use Rattle.ssr_syntax_kinds.specs.declared.kinds.SyntaxKind.{SyntaxKind}
 use Rattle.ssr_syntax_lex.specs.declared.tokens.RawToken.{RawToken}
 use Rattle.ssr_syntax_lex.specs.Tokens.{row_of, spell, Tiles}
 use Rattle.ssr_syntax_tree.specs.Syntax as plain
@@ -15,7 +15,7 @@ use Rattle.ssr_syntax_tree.specs.Syntax.{Syntax, depth_of, source_of, tokens_of}
 use Rattle.ssr_syntax_tree.specs.Places.{nodes_of, nodes_in, root_of}
 use Rattle.ssr_syntax_tree.specs.Parts.{AreParts, node_row, token_rows}
 use Rattle.ssr_syntax_tree.specs.declared.rows.NodeRow.{NodeRow}
-use Rattle.ssr_syntax_lex.specs.declared.token_rows.TokenRow.{TokenRow}
+use Rattle.ssr_syntax_kinds.specs.declared.token_rows.TokenRow.{TokenRow}
 use Rattle.ssr_syntax_forms.specs.declared.tokens.Token.{Token}
 use Rattle.ssr_syntax_forms.specs.declared.rows.Taken.{Taken}
 use Rattle.ssr_syntax_types.specs.declared.goals.Goal.{Goal}

@@ -2,11 +2,11 @@
 use Rattle.std.proofs.Common.{◌≡◌, ℕ, zero, suc, ◌+◌, ◌-◌, ◌<◌, ◌≤◌, true, false, if◌then◌else◌, List, [], ◌∷◌, ◌++◌, length, map, refl, sym, ◌∙◌, ap, arith, append_assoc, length-append}
 use Rattle.std.specs.Prelude.{get_or, replicate}
 use Rattle.std.proofs.lemmas.List.{get_or_append_left, get_or-append_right, get_or-replicate, length-replicate}
-use Rattle.ssr_syntax_lex.specs.declared.kinds.SyntaxKind.{SyntaxKind}
-use Rattle.ssr_syntax_lex.specs.Kinds.{is_trivia}
+use Rattle.ssr_syntax_kinds.specs.declared.kinds.SyntaxKind.{SyntaxKind}
+use Rattle.ssr_syntax_kinds.specs.Kinds.{is_trivia}
 use Rattle.ssr_syntax_lex.specs.Tokens.{token_text, row_of, TilesFrom}
 use Rattle.ssr_syntax_lex.specs.declared.tokens.RawToken.{RawToken}
-use Rattle.ssr_syntax_lex.specs.declared.token_rows.TokenRow.{TokenRow}
+use Rattle.ssr_syntax_kinds.specs.declared.token_rows.TokenRow.{TokenRow}
 use Rattle.ssr_syntax_tree.specs.Syntax as plain
 use Rattle.ssr_syntax_tree.specs.Parts.{token_rows}
 use Rattle.ssr_syntax_forms.specs.declared.rows.Taken.{Taken}

@@ -1,8 +1,8 @@
 -- The tree of a text with all of the text's tokens. White space and comments are children of the innermost node that
 -- spans them, so a node begins and ends with a token that is neither; those around all other tokens are the root's.
 use Rattle.std.specs.Prelude.{ℕ, zero, suc, if◌then◌else◌, ⊤, ◌≡◌, Bool, false, reverse, List, [], ◌∷◌, length}
-use Rattle.ssr_syntax_lex.specs.declared.kinds.SyntaxKind.{SyntaxKind}
-use Rattle.ssr_syntax_lex.specs.Kinds.{is_trivia}
+use Rattle.ssr_syntax_kinds.specs.declared.kinds.SyntaxKind.{SyntaxKind}
+use Rattle.ssr_syntax_kinds.specs.Kinds.{is_trivia}
 use Rattle.ssr_syntax_tree.specs.Syntax as plain
 use Rattle.ssr_syntax_forms.specs.Trees as solid
 

@@ -2,8 +2,8 @@
 -- MACRO_RULES.
 use Rattle.std.specs.Prelude.{Bool, false, not, ◌&&◌, bytes_eq, codes}
 use Rattle.std.specs.List.{list_any}
-use Rattle.ssr_syntax_lex.specs.Kinds.{same_kind}
-use Rattle.ssr_syntax_lex.specs.declared.kinds.SyntaxKind.TheVariants.{IDENT, MACRO_RULES}
+use Rattle.ssr_syntax_kinds.specs.Kinds.{same_kind}
+use Rattle.ssr_syntax_kinds.specs.declared.kinds.SyntaxKind.TheVariants.{IDENT, MACRO_RULES}
 use Rattle.ssr_syntax_tree.specs.Places.{Part, token_part, node_part, Node, nodes_of, parts_of}
 use Rattle.ssr_syntax_tree.specs.Syntax.{Syntax}
 

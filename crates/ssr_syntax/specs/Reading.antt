@@ -1,9 +1,9 @@
 -- The reading of a list of tokens and of a text, and what fits a text.
 use Rattle.std.specs.Prelude.{◌≡◌, ◌≢◌, ℕ, ◌+◌, ◌-◌, ◌^◌, ◌<◌, ◌≤◌, nat_lt, Bool, true, false, not, ◌&&◌, if◌then◌else◌, List, [], ◌∷◌, length, map, reverse, Some, None, Result, Ok, Err}
 use Rattle.std.specs.Str.{trim, trim_start}
-use Rattle.ssr_syntax_lex.specs.declared.kinds.SyntaxKind.{SyntaxKind}
+use Rattle.ssr_syntax_kinds.specs.declared.kinds.SyntaxKind.{SyntaxKind}
 use Rattle.ssr_syntax_lex.specs.declared.tokens.RawToken.{RawToken}
-use Rattle.ssr_syntax_lex.specs.Kinds.{is_trivia}
+use Rattle.ssr_syntax_kinds.specs.Kinds.{is_trivia}
 use Rattle.ssr_syntax_lex.specs.Tokens.{tokens, token_text}
 use Rattle.ssr_syntax_tree.specs.Syntax as plain
 use Rattle.ssr_syntax_tree.specs.Syntax.{Syntax, depth_of, source_of}

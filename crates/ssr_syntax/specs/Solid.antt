@@ -1,8 +1,8 @@
 -- Solid tokens: what the grammar reads of a text's tokens.
 use Rattle.std.specs.Prelude.{Bool, true, false, if◌then◌else◌, List, [], ◌∷◌, drop, Option, Some, None}
-use Rattle.ssr_syntax_lex.specs.Kinds.{same_kind, is_trivia}
-use Rattle.ssr_syntax_lex.specs.declared.kinds.SyntaxKind.{SyntaxKind}
-use Rattle.ssr_syntax_lex.specs.declared.kinds.SyntaxKind.TheVariants as k
+use Rattle.ssr_syntax_kinds.specs.Kinds.{same_kind, is_trivia}
+use Rattle.ssr_syntax_kinds.specs.declared.kinds.SyntaxKind.{SyntaxKind}
+use Rattle.ssr_syntax_kinds.specs.declared.kinds.SyntaxKind.TheVariants as k
 use Rattle.ssr_syntax_lex.specs.declared.tokens.RawToken.{RawToken}
 use Rattle.ssr_syntax_forms.specs.declared.tokens.Token.{Token}
 

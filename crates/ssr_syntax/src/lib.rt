@@ -19,6 +19,7 @@ pub use expansions::{ExpToken, ExpansionKind, parse_tokens};
 pub use fitting::{fits_file, fits_fragment, fits_tokens};
 pub use fragments::Fragment;
 pub use reading::{fragment, parse_file, parse_file_owned};
-pub use ssr_syntax_lex::{LexError, LexFault, RawToken, SyntaxKind, TextRange, lex};
+pub use ssr_syntax_kinds::{SyntaxKind, TextRange};
+pub use ssr_syntax_lex::{LexError, LexFault, RawToken, lex};
 pub use ssr_syntax_tree::{Element, NodeNo, TokenNo, Tree};
 pub use syntax_error::SyntaxError;

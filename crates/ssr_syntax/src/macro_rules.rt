@@ -4,7 +4,7 @@ ghost use Rattle.std.specs.List.{list_any};
 ghost use Rattle.ssr_syntax.specs.MacroRules.{is_other_word, is_misnamed, misnames_macros};
 ghost use Rattle.ssr_syntax_tree.specs.Places.{node_of, part_of, parts_of, HasElement, HasNode};
 
-use ssr_syntax_lex::SyntaxKind;
+use ssr_syntax_kinds::SyntaxKind;
 use ssr_syntax_tree::{Element, NodeNo, Tree};
 
 /// Whether a child of MACRO_RULES is an identifier other than `macro_rules`.

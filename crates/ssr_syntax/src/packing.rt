@@ -2,7 +2,7 @@
 ghost use Rattle.std.specs.Prelude.{◌≡◌, ◌<◌, ◌+◌, ◌++◌, [], ◌∷◌, suc, length, IfSome, IfNone};
 ghost use Rattle.ssr_syntax.specs.Private.Packing.{PackingRows, packed_of};
 
-use ssr_syntax_lex::{TokenRow, TokenRows};
+use ssr_syntax_kinds::{TokenRow, TokenRows};
 use std::marker::Model;
 
 /// PackingRows rows at the front, and unread ones at the end. Between them is room for those that were read and aren't packed,

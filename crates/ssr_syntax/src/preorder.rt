@@ -1,6 +1,6 @@
 //! The rows of a tree's nodes in preorder, from the parser's rows.
 ghost use Rattle.std.specs.Prelude.{◌≡◌, ◌+◌, ◌<◌, ◌≤◌, ◌^◌, [], length, reverse, slice_index, nat_lt, IfOk};
-ghost use Rattle.ssr_syntax_lex.specs.declared.kinds.SyntaxKind.{SyntaxKind};
+ghost use Rattle.ssr_syntax_kinds.specs.declared.kinds.SyntaxKind.{SyntaxKind};
 ghost use Rattle.ssr_syntax.specs.Private.Preorder.{first_at, past_at, OkUnlessDeep, tree_rows, most_nodes};
 ghost use Rattle.ssr_syntax.specs.Reading.{most_deep};
 ghost use Rattle.ssr_syntax.specs.Private.OpenNodes.{opened, IsClosed, IsOpened, IsFromRight};

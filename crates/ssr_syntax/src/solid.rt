@@ -4,7 +4,7 @@ ghost use Rattle.ssr_syntax.specs.Solid.{with_eq, with_r_angle, twice, joined};
 ghost use Rattle.ssr_syntax.specs.Private.SolidKinds.{with_next, solid_kind, solid_kinds};
 
 use ssr_syntax_forms::Token;
-use ssr_syntax_lex::SyntaxKind;
+use ssr_syntax_kinds::SyntaxKind;
 use std::alloc::{AllocError, Global};
 
 /// The kind of a token of this kind and `=`.

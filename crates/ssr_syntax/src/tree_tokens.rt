@@ -1,11 +1,11 @@
 //! The rows of a tree's tokens, from those of the text's tokens and the tokens that the parser took.
 ghost use Rattle.std.specs.Prelude.{ℕ, ◌≡◌, ◌+◌, ◌-◌, ◌<◌, ◌≤◌, ◌^◌, ◌∷◌, ◌++◌, List, length, replicate, IfOk};
 ghost use Rattle.ssr_syntax.specs.Private.TreeTokens.{taken_rows, taken_sizes, ends as ends_of};
-ghost use Rattle.ssr_syntax_lex.specs.declared.token_rows.TokenRow.{TokenRow};
+ghost use Rattle.ssr_syntax_kinds.specs.declared.token_rows.TokenRow.{TokenRow};
 
 use crate::packing::Packing;
 use ssr_syntax_forms::Taken;
-use ssr_syntax_lex::{TokenRow, TokenRows};
+use ssr_syntax_kinds::{TokenRow, TokenRows};
 use std::alloc::{AllocError, Global};
 
 /// The tokens of a tree.

@@ -1,7 +1,7 @@
 -- Forms of blocks, loops and choices.
 use Rattle.std.specs.Prelude.{List, [], ◌∷◌}
-use Rattle.ssr_syntax_lex.specs.declared.kinds.SyntaxKind.{SyntaxKind}
-use Rattle.ssr_syntax_lex.specs.declared.kinds.SyntaxKind.TheVariants as k
+use Rattle.ssr_syntax_kinds.specs.declared.kinds.SyntaxKind.{SyntaxKind}
+use Rattle.ssr_syntax_kinds.specs.declared.kinds.SyntaxKind.TheVariants as k
 use Rattle.ssr_syntax_types.specs.declared.goals.Goal.{Goal}
 use Rattle.ssr_syntax_types.specs.declared.goals.Goal.TheVariants.{Expr, Condition, Pat, StmtList, If, Arm}
 use Rattle.ssr_syntax_types.specs.declared.goals.ExprPlace.TheVariants.{BeforeBlock}

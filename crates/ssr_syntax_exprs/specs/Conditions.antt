@@ -1,6 +1,6 @@
 -- Forms of conditions, which may begin with LET_EXPR, or have it behind `&&`.
 use Rattle.std.specs.Prelude.{[], ◌∷◌}
-use Rattle.ssr_syntax_lex.specs.declared.kinds.SyntaxKind.TheVariants as k
+use Rattle.ssr_syntax_kinds.specs.declared.kinds.SyntaxKind.TheVariants as k
 use Rattle.ssr_syntax_types.specs.declared.goals.Goal.{Goal}
 use Rattle.ssr_syntax_types.specs.declared.goals.Goal.TheVariants.{Operand, Pat}
 use Rattle.ssr_syntax_types.specs.declared.goals.ExprPlace.{ExprPlace}

@@ -1,7 +1,7 @@
 -- Forms of expressions by how tightly they bind.
 use Rattle.std.specs.Prelude.{ℕ, zero, suc, true, false, List, [], ◌∷◌, length}
-use Rattle.ssr_syntax_lex.specs.declared.kinds.SyntaxKind.{SyntaxKind}
-use Rattle.ssr_syntax_lex.specs.declared.kinds.SyntaxKind.TheVariants as k
+use Rattle.ssr_syntax_kinds.specs.declared.kinds.SyntaxKind.{SyntaxKind}
+use Rattle.ssr_syntax_kinds.specs.declared.kinds.SyntaxKind.TheVariants as k
 use Rattle.ssr_syntax_types.specs.declared.goals.Goal.{Goal}
 use Rattle.ssr_syntax_types.specs.declared.goals.Goal.TheVariants.{Expr, Operand, Unary, Ty, GenericArgs}
 use Rattle.ssr_syntax_types.specs.declared.goals.ExprPlace.{ExprPlace}

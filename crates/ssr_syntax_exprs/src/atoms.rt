@@ -4,8 +4,8 @@ ghost use Rattle.ssr_syntax_forms.specs.Runs.{Runs, RunsAnywhere, RunsFrom};
 
 use crate::blocks::{BlockWords, block_expr};
 use ssr_syntax_forms::{Fault, Mark, Parser, TokenSet};
-use ssr_syntax_lex::SyntaxKind;
-use ssr_syntax_lex::SyntaxKind::*;
+use ssr_syntax_kinds::SyntaxKind;
+use ssr_syntax_kinds::SyntaxKind::*;
 use ssr_syntax_types::goals::{ExprPlace, Goal, PatPlace, PathPlace};
 use ssr_syntax_types::literals::Literals;
 use ssr_syntax_types::paths::{PathFirst, lifetime, name_ref, number_ref, path, ret_type};

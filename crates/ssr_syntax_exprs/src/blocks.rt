@@ -3,8 +3,8 @@ ghost use Rattle.ssr_syntax_exprs.specs.Blocks as form;
 ghost use Rattle.ssr_syntax_forms.specs.Runs.{Runs, RunsAnywhere, RunsFrom};
 
 use ssr_syntax_forms::{Fault, Mark, Parser, TokenSet};
-use ssr_syntax_lex::SyntaxKind;
-use ssr_syntax_lex::SyntaxKind::*;
+use ssr_syntax_kinds::SyntaxKind;
+use ssr_syntax_kinds::SyntaxKind::*;
 use ssr_syntax_types::goals::{ExprPlace, Goal, PatPlace};
 use ssr_syntax_types::paths::lifetime;
 use ssr_syntax_types::patterns::PatFirst;

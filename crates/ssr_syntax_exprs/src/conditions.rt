@@ -7,7 +7,7 @@ use crate::expressions::{
     AND_RANK, OR_RANK, leading_range, operand, operation, operations, range_or_assignment,
 };
 use ssr_syntax_forms::{Fault, Mark, Parser};
-use ssr_syntax_lex::SyntaxKind::*;
+use ssr_syntax_kinds::SyntaxKind::*;
 use ssr_syntax_types::goals::{ExprPlace, Goal, PatPlace};
 use ssr_syntax_types::patterns::Ranges;
 use ssr_syntax_types::reader::Reader;

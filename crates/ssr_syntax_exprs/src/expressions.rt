@@ -10,8 +10,8 @@ use crate::atoms::{
 };
 use crate::blocks::block_like;
 use ssr_syntax_forms::{Fault, Mark, Parser, TokenSet};
-use ssr_syntax_lex::SyntaxKind;
-use ssr_syntax_lex::SyntaxKind::*;
+use ssr_syntax_kinds::SyntaxKind;
+use ssr_syntax_kinds::SyntaxKind::*;
 use ssr_syntax_types::goals::{ExprPlace, Goal, Rank};
 use ssr_syntax_types::literals::{Literals, literal};
 use ssr_syntax_types::paths::{OpenAngle, PathFirst, name_ref, number_ref};

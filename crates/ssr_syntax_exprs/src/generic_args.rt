@@ -4,8 +4,8 @@ ghost use Rattle.ssr_syntax_forms.specs.Runs.{Runs, RunsAnywhere};
 
 use crate::blocks::block_expr;
 use ssr_syntax_forms::{Fault, Parser, TokenSet};
-use ssr_syntax_lex::SyntaxKind;
-use ssr_syntax_lex::SyntaxKind::*;
+use ssr_syntax_kinds::SyntaxKind;
+use ssr_syntax_kinds::SyntaxKind::*;
 use ssr_syntax_types::goals::Goal;
 use ssr_syntax_types::literals::{Literals, literal};
 use ssr_syntax_types::paths::{CloseAngle, OpenAngle, TypeFirst, lifetime, name_ref, type_arg};

@@ -1,7 +1,7 @@
 -- One turn of a loop, and its end; lists of items.
 use Rattle.std.proofs.Common.{◌≡◌, true, length, ℕ, zero, suc, ◌+◌, ◌-◌, ◌<◌, if◌then◌else◌, List, Result, Ok, Err, inl, inr, refl, ap, ◌∙◌, false, arith}
 use Rattle.std.proofs.lemmas.Bool.{cases_Bool}
-use Rattle.ssr_syntax_lex.specs.declared.kinds.SyntaxKind.{SyntaxKind}
+use Rattle.ssr_syntax_kinds.specs.declared.kinds.SyntaxKind.{SyntaxKind}
 use Rattle.ssr_syntax_forms.specs.declared.fault.Fault.{Fault}
 use Rattle.ssr_syntax_forms.specs.declared.fault.Fault.TheVariants as faults
 use Rattle.ssr_syntax_forms.specs.Forms.{Form, Test, ◌then◌, look, decide, as_long_as, comma_list, passes, agrees, repeat, ◌>>=◌}

@@ -1,7 +1,7 @@
 -- Whether a forest fits a goal is decided: by the way back over the goal's form, from what is made to nothing.
 use Rattle.std.specs.Prelude.{ℕ, zero, suc, ◌+◌, nat_eq, Bool, true, false, ◌||◌, ◌&&◌, List, ◌∷◌, ◌++◌, length, Option, Some, None}
-use Rattle.ssr_syntax_lex.specs.declared.kinds.SyntaxKind.{SyntaxKind}
-use Rattle.ssr_syntax_lex.specs.Kinds.{same_kind}
+use Rattle.ssr_syntax_kinds.specs.declared.kinds.SyntaxKind.{SyntaxKind}
+use Rattle.ssr_syntax_kinds.specs.Kinds.{same_kind}
 use Rattle.ssr_syntax_forms.specs.declared.tokens.Token.{Token}
 use Rattle.ssr_syntax_forms.specs.Trees.{Forest, done, leaf, tree, join, spell}
 use Rattle.ssr_syntax_forms.specs.Forms.{Productions, Form, one, child, mark, seal, ◌then◌, nothing, choose, many, look, check, is_one, more, taken_as, passes, agrees, holds, SoFar, so_far}

@@ -1,8 +1,8 @@
 -- What the parser's functions do to what is written and to the tokens that are left.
 use Rattle.std.specs.Prelude.{◌≡◌, ◌≢◌, ℕ, ◌+◌, ◌-◌, if◌then◌else◌, Bool, true, false, List, ◌∷◌, [], ◌++◌, length, take, Result, Ok, Err}
 use Rattle.std.specs.Borrow.{MutBor}
-use Rattle.ssr_syntax_lex.specs.declared.kinds.SyntaxKind.{SyntaxKind}
-use Rattle.ssr_syntax_lex.specs.declared.kinds.SyntaxKind.TheVariants.{COMMA}
+use Rattle.ssr_syntax_kinds.specs.declared.kinds.SyntaxKind.{SyntaxKind}
+use Rattle.ssr_syntax_kinds.specs.declared.kinds.SyntaxKind.TheVariants.{COMMA}
 use Rattle.ssr_syntax_forms.specs.declared.tokens.Token.{Token}
 use Rattle.ssr_syntax_forms.specs.declared.rows.Output.{Output}
 use Rattle.ssr_syntax_forms.specs.declared.fault.Fault.{Fault}

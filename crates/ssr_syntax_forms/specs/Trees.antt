@@ -1,6 +1,6 @@
 -- The plain tree that a text is read to.
 use Rattle.std.specs.Prelude.{ℕ, ◌+◌, max, List, [], ◌++◌}
-use Rattle.ssr_syntax_lex.specs.declared.kinds.SyntaxKind.{SyntaxKind}
+use Rattle.ssr_syntax_kinds.specs.declared.kinds.SyntaxKind.{SyntaxKind}
 use Rattle.ssr_syntax_forms.specs.declared.tokens.Token.{Token}
 
 -- Some trees side by side. The last argument of `leaf` and `tree` is what stands beside them to the right.

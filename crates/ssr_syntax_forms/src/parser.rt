@@ -10,7 +10,7 @@ ghost use Rattle.ssr_syntax_forms.specs.declared.fault.Fault.TheVariants as faul
 use crate::fault::Fault;
 use crate::rows::{Output, Taken};
 use crate::tokens::{Token, TokenSet, last_isnt, next, none_is, nth};
-use ssr_syntax_lex::SyntaxKind;
+use ssr_syntax_kinds::SyntaxKind;
 use ssr_syntax_tree::{NodeRow, NodeRows};
 use std::alloc::{AllocError, Global};
 use std::marker::Model;

@@ -1,6 +1,6 @@
 //! What the parser writes: the nodes of a tree, each behind those below it, and its tokens.
 
-use ssr_syntax_lex::SyntaxKind;
+use ssr_syntax_kinds::SyntaxKind;
 use ssr_syntax_tree::NodeRows;
 
 /// A token that the parser took, whole or a part of a longer one.

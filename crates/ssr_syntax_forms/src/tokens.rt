@@ -1,11 +1,11 @@
 //! The tokens that the parser reads, and sets of their kinds.
 ghost use Rattle.std.specs.Prelude.{◌≡◌, List, [], ◌∷◌};
-ghost use Rattle.ssr_syntax_lex.specs.declared.kinds.SyntaxKind.{SyntaxKind};
+ghost use Rattle.ssr_syntax_kinds.specs.declared.kinds.SyntaxKind.{SyntaxKind};
 ghost use Rattle.ssr_syntax_forms.specs.Kinds.{mem};
 ghost use Rattle.ssr_syntax_forms.specs.Forms.{holds, last_isnt, next, none_is};
 ghost use Rattle.ssr_syntax_forms.specs.Private.Ahead.{behind_next, nth};
 
-use ssr_syntax_lex::SyntaxKind;
+use ssr_syntax_kinds::SyntaxKind;
 
 /// A token that is neither white space nor a comment.
 #[derive(Clone, Copy)]

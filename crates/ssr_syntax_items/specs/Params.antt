@@ -1,7 +1,7 @@
 -- Forms of parameters, of `where` and of visibility.
 use Rattle.std.specs.Prelude.{List, [], ◌∷◌}
-use Rattle.ssr_syntax_lex.specs.declared.kinds.SyntaxKind.{SyntaxKind}
-use Rattle.ssr_syntax_lex.specs.declared.kinds.SyntaxKind.TheVariants as k
+use Rattle.ssr_syntax_kinds.specs.declared.kinds.SyntaxKind.{SyntaxKind}
+use Rattle.ssr_syntax_kinds.specs.declared.kinds.SyntaxKind.TheVariants as k
 use Rattle.ssr_syntax_types.specs.declared.goals.Goal.{Goal}
 use Rattle.ssr_syntax_types.specs.declared.goals.Goal.TheVariants.{Ty, Pat}
 use Rattle.ssr_syntax_types.specs.declared.goals.PatPlace.TheVariants.{NoBar}

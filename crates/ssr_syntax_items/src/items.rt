@@ -9,8 +9,8 @@ use crate::params::{generic_param_list, generic_params, param_list, visibility, 
 use crate::uses::{MacroPathFirst, name_or_underscore, use_item};
 use ssr_syntax_exprs::blocks::block_expr;
 use ssr_syntax_forms::{Fault, Mark, Parser, TokenSet};
-use ssr_syntax_lex::SyntaxKind;
-use ssr_syntax_lex::SyntaxKind::*;
+use ssr_syntax_kinds::SyntaxKind;
+use ssr_syntax_kinds::SyntaxKind::*;
 use ssr_syntax_types::goals::{ExprPlace, Goal, ItemPlace};
 use ssr_syntax_types::paths::{OpenAngle, TypeFirst, name, ret_type, simple_path};
 use ssr_syntax_types::reader::Reader;

@@ -12,8 +12,8 @@ use Rattle.ssr_syntax_lex.specs.Scan.{past_comments, past_quoted, past_raw_strin
 use Rattle.ssr_syntax_lex.specs.Raw.{Taken, begins_raw_string, begins_string, past_string, begins_raw_identifier, begins_lifetime_behind, punctuation, kind_of_word, past_word, closed, token, fault_of}
 use Rattle.ssr_syntax_lex.specs.Private.Steps.{IsPlain}
 use Rattle.ssr_syntax_lex.specs.declared.fault.FaultKind.TheVariants as faults
-use Rattle.ssr_syntax_lex.specs.declared.kinds.SyntaxKind.{SyntaxKind}
-use Rattle.ssr_syntax_lex.specs.declared.kinds.SyntaxKind.TheVariants as k
+use Rattle.ssr_syntax_kinds.specs.declared.kinds.SyntaxKind.{SyntaxKind}
+use Rattle.ssr_syntax_kinds.specs.declared.kinds.SyntaxKind.TheVariants as k
 
 first_is : (d c : ℕ) (cs : Chars) → slice_get (d ∷ cs) 0 ≡ Some c → c ≡ d
 first_is d c cs e = cc

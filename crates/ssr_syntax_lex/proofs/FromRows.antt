@@ -6,9 +6,9 @@ use Rattle.std.specs.Option.{option_map}
 use Rattle.std.specs.Str.{IsUtf8}
 use Rattle.ssr_syntax_lex.specs.Tokens.{tokens, row_of, rows_in, TilesFrom}
 use Rattle.ssr_syntax_lex.specs.Private.Steps.{token_before, tokens_of}
-use Rattle.ssr_syntax_lex.specs.declared.kinds.SyntaxKind.{SyntaxKind}
-use Rattle.ssr_syntax_lex.specs.declared.range.TextRange.{TextRange}
-use Rattle.ssr_syntax_lex.specs.declared.token_rows.TokenRow.{TokenRow}
+use Rattle.ssr_syntax_kinds.specs.declared.kinds.SyntaxKind.{SyntaxKind}
+use Rattle.ssr_syntax_kinds.specs.declared.range.TextRange.{TextRange}
+use Rattle.ssr_syntax_kinds.specs.declared.token_rows.TokenRow.{TokenRow}
 use Rattle.ssr_syntax_lex.specs.declared.tokens.RawToken.{RawToken}
 use Rattle.ssr_syntax_lex.proofs.Ranges.{TextRange-same}
 use Rattle.ssr_syntax_lex.proofs.Tiling.{tokens_tile}

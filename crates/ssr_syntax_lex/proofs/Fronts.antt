@@ -15,7 +15,7 @@ use Rattle.ssr_syntax_lex.specs.Words.{mark_kind}
 use Rattle.ssr_syntax_lex.specs.Numbers.{Part, with_run, takes_point, takes_sign, whole_run, with_point, with_sign, number}
 use Rattle.ssr_syntax_lex.specs.Scan.{past_comments, past_quoted, past_raw, past_raw_string, past_apostrophe, past_char, begins_with_hashes}
 use Rattle.ssr_syntax_lex.specs.Raw.{Taken, begins_string, past_string, begins_raw_identifier, begins_lifetime, punctuation, closed, token}
-use Rattle.ssr_syntax_lex.specs.declared.kinds.SyntaxKind.{SyntaxKind}
+use Rattle.ssr_syntax_kinds.specs.declared.kinds.SyntaxKind.{SyntaxKind}
 use Rattle.ssr_syntax_lex.specs.Tokens.{size}
 use Rattle.ssr_syntax_lex.proofs.Eaten.{run-past}
 

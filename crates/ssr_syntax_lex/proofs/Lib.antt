@@ -1,5 +1,3 @@
-mod SameKinds
-pub mod Zips
 pub mod Shared
 mod Eaten
 mod WordLaws
@@ -12,6 +10,5 @@ mod Fronts
 mod Ranges
 mod Cutting
 mod Tiling
-mod RowCounts
 mod Joints
 mod FromRows

@@ -6,7 +6,7 @@ use Rattle.ssr_syntax_lex.specs.Private.Steps.{comes_point}
 use Rattle.ssr_syntax_lex.specs.Cursor.{Chars, passes_at, begins, is_at, run, past}
 use Rattle.ssr_syntax_lex.specs.Characters.{is_digit, is_digit_or_underscore, is_exponent_mark, starts_word, continues_word}
 use Rattle.ssr_syntax_lex.specs.Numbers.{Part, with_run, has_radix, ends_with_exponent_mark, takes_point, is_signed_digit, takes_sign, has_exponent, whole_run, with_point, with_sign, number_kind, number}
-use Rattle.ssr_syntax_lex.specs.declared.kinds.SyntaxKind.TheVariants as k
+use Rattle.ssr_syntax_kinds.specs.declared.kinds.SyntaxKind.TheVariants as k
 use Rattle.ssr_syntax_lex.proofs.PointLaws.{pointed_sign}
 use Rattle.ssr_syntax_lex.proofs.NumberLaws.{all_passed, no_mark}
 use Rattle.std.proofs.Common.{arith, ne_eqb}

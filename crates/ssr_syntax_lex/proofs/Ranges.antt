@@ -1,7 +1,7 @@
 -- Ranges with the same ends are the same.
 use Rattle.std.proofs.Common.{◌≡◌, ℕ, ◌≤◌, ap, subst}
 use Rattle.std.specs.Coded.{le_prop}
-use Rattle.ssr_syntax_lex.specs.declared.range.TextRange.{TextRange}
+use Rattle.ssr_syntax_kinds.specs.declared.range.TextRange.{TextRange}
 
 made : (start end : ℕ) → start ≤ end → TextRange
 made start end ordered = record { start = start; end = end; ordered = ordered }

@@ -1,7 +1,5 @@
--- The laws of tokens that the crates above may cite. The other files of lemmas here are this crate's own, but for `Zips`.
+-- The laws of tokens that the crates above may cite. The other files of lemmas here are this crate's own.
 
--- kinds
-pub use Rattle.ssr_syntax_lex.proofs.SameKinds.{same_kind-equal, equal-same_kind}
 -- the tokens of a text are the whole text in order
 pub use Rattle.ssr_syntax_lex.proofs.Tiling.{tokens_tile, tiles_spell}
 -- they are joint before punctuation, and known by their rows

@@ -9,7 +9,7 @@ use Rattle.std.proofs.lemmas.Str.{encodes-append, encodes-chars, IsUtf8-past_cha
 use Rattle.ssr_syntax_lex.specs.Cursor.{Chars}
 use Rattle.ssr_syntax_lex.specs.Raw.{Taken, token}
 use Rattle.ssr_syntax_lex.specs.Tokens.{size, range_of, in_front, dots_behind, tokens_from, tokens, token_text, spell, TilesFrom, Tiles}
-use Rattle.ssr_syntax_lex.specs.declared.kinds.SyntaxKind.{SyntaxKind}
+use Rattle.ssr_syntax_kinds.specs.declared.kinds.SyntaxKind.{SyntaxKind}
 use Rattle.ssr_syntax_lex.specs.declared.tokens.RawToken.{RawToken}
 use Rattle.ssr_syntax_lex.proofs.Fronts.{Follows, token_leaves, shorter}
 use Rattle.std.specs.Prelude.{Result, Ok, Err, Vec, IfOk}

@@ -12,9 +12,9 @@ use Rattle.ssr_syntax_lex.specs.Characters.{◌∈◌, is_among, is_whitespace, 
 use Rattle.ssr_syntax_lex.specs.Words.{kind_in, word_kinds, word_kind, is_punctuation, marks, mark_in, mark_kind}
 use Rattle.ssr_syntax_lex.specs.Private.Steps.{begins_between, beginning}
 use Prim.Native.String.{String}
-use Rattle.ssr_syntax_lex.specs.declared.kinds.SyntaxKind.{SyntaxKind}
-use Rattle.ssr_syntax_lex.specs.declared.kinds.SyntaxKind.TheVariants as k
-use Rattle.ssr_syntax_lex.specs.contracts.kinds.SyntaxKind.{the_type}
+use Rattle.ssr_syntax_kinds.specs.declared.kinds.SyntaxKind.{SyntaxKind}
+use Rattle.ssr_syntax_kinds.specs.declared.kinds.SyntaxKind.TheVariants as k
+use Rattle.ssr_syntax_kinds.specs.contracts.kinds.SyntaxKind.{the_type}
 use denote.Enum.Declared.{tag_of}
 
 begins_so : (low high c : ℕ) (word : List ℕ) → slice_get word 0 ≡ Some c → low ≤ c → c ≤ high → begins_between low high word ≡ true

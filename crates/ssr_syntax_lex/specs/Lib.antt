@@ -1,4 +1,3 @@
-pub mod Kinds
 pub mod Cursor
 pub mod Characters
 pub mod Words

@@ -9,8 +9,8 @@ use Rattle.ssr_syntax_lex.specs.Numbers.{number}
 use Rattle.ssr_syntax_lex.specs.Scan.{past_comments, past_quoted, past_raw_string, past_char}
 use Rattle.ssr_syntax_lex.specs.declared.fault.FaultKind.{FaultKind}
 use Rattle.ssr_syntax_lex.specs.declared.fault.FaultKind.TheVariants as faults
-use Rattle.ssr_syntax_lex.specs.declared.kinds.SyntaxKind.{SyntaxKind}
-use Rattle.ssr_syntax_lex.specs.declared.kinds.SyntaxKind.TheVariants as k
+use Rattle.ssr_syntax_kinds.specs.declared.kinds.SyntaxKind.{SyntaxKind}
+use Rattle.ssr_syntax_kinds.specs.declared.kinds.SyntaxKind.TheVariants as k
 
 -- a token's kind, and what follows the token
 abbrev pub Taken : Type 0

@@ -12,7 +12,7 @@ use crate::characters::{
     continues_word, is_digit, is_digit_or_underscore, is_exponent_mark, starts_word,
 };
 use crate::cursor::{Cursor, split_last_char};
-use crate::kinds::SyntaxKind;
+use ssr_syntax_kinds::SyntaxKind;
 
 /// Whether a text is digits and `_` only.
 #[tactic(auto, using(crate::proofs::NumberLaws::all_passed))]

@@ -11,10 +11,10 @@ use crate::characters::{
 };
 use crate::cursor::Cursor;
 use crate::fault::FaultKind;
-use crate::kinds::SyntaxKind;
 use crate::numbers::eat_number;
 use crate::scan::{eat_block_comment, eat_char, eat_quoted, eat_raw_string};
 use crate::words::{mark_kind, word_kind};
+use ssr_syntax_kinds::SyntaxKind;
 
 /// Whether `r`, any number of `#` and `"` come next.
 fn begins_raw_string(cursor: &Cursor<'_>) -> bool

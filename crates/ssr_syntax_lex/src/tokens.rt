@@ -6,11 +6,9 @@ ghost use Rattle.ssr_syntax_lex.specs.Private.Steps.{token_before, tokens_of};
 
 use crate::cursor::Cursor;
 use crate::fault::FaultKind;
-use crate::kinds::SyntaxKind;
-use crate::range::TextRange;
 use crate::raw::eat_token;
-use crate::token_rows::{TokenRow, TokenRows};
 use crate::words::is_punctuation;
+use ssr_syntax_kinds::{SyntaxKind, TextRange, TokenRow, TokenRows};
 use std::alloc::{AllocError, AllocFailed, Global};
 use std::fmt;
 

@@ -5,7 +5,7 @@ ghost use Rattle.ssr_syntax_lex.specs.Words as spec;
 ghost use Rattle.ssr_syntax_lex.specs.Private.Steps.{beginning};
 ghost use Rattle.ssr_syntax_lex.specs.Characters.{the_char};
 
-use crate::kinds::SyntaxKind;
+use ssr_syntax_kinds::SyntaxKind;
 
 /// The kind of a word: a keyword's, that of `_`, or an identifier's. The first letter decides which few words it is
 /// compared with.

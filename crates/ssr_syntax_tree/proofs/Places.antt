@@ -5,7 +5,7 @@ use Rattle.std.proofs.lemmas.List.{take_at, length-map, get_or-drop, get_or-appe
 use Rattle.std.proofs.lemmas.Option.{unwrap_or-slice_get, slice_get_within, slice_get-map, get_or_from_slice_get}
 use Rattle.std.proofs.lemmas.List.Elements.{All-nil, All-cons, All-head, All-tail, All-weaker, All-map, All-get_or}
 use Rattle.std.specs.Prelude.{zero, suc, option_map, slice_get, Some}
-use Rattle.ssr_syntax_lex.specs.declared.kinds.SyntaxKind.{SyntaxKind}
+use Rattle.ssr_syntax_kinds.specs.declared.kinds.SyntaxKind.{SyntaxKind}
 use Rattle.ssr_syntax_tree.specs.declared.number.Element.{Element}
 use Rattle.ssr_syntax_tree.specs.Places.{Node, Part, token_part, node_part, nodes_in, parts_in, nodes_of, root_of, node_of, token_of, parts_of, elements_of, element_of, part_of, size_of, IsAbove, HasNode, HasToken, HasElement, depth_at}
 use Rattle.ssr_syntax_tree.specs.Syntax.{Forest, nothing, leaf, branch, Syntax, token_count, node_count, tokens_in, tokens_of}

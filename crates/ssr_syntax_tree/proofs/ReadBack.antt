@@ -4,7 +4,7 @@ use Rattle.std.specs.Prelude.{◌==◌, zero, suc, slice_get}
 use Rattle.std.proofs.lemmas.List.{take_at, length-map}
 use Rattle.std.proofs.lemmas.Option.{slice_get-map}
 use Rattle.ssr_syntax_tree.specs.declared.rows.NodeRow.{NodeRow}
-use Rattle.ssr_syntax_lex.specs.declared.token_rows.TokenRow.{TokenRow}
+use Rattle.ssr_syntax_kinds.specs.declared.token_rows.TokenRow.{TokenRow}
 use Rattle.ssr_syntax_tree.specs.Private.Flat.{next_start, tokens_from, row_at, token_in, grown, plain_of}
 use Rattle.ssr_syntax_tree.specs.Parts.{node_row, token_rows, AreParts}
 use Rattle.ssr_syntax_tree.specs.Places.{Node, nodes_of, root_of}

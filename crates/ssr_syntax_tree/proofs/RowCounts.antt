@@ -1,6 +1,6 @@
 -- How many rows `NodeRows` has: as many as kinds, and as many as places.
 use Rattle.std.proofs.Common.{◌≡◌, List, length, vec_len}
-use Rattle.ssr_syntax_lex.proofs.Zips.{vectors_counted}
+use Rattle.ssr_syntax_kinds.proofs.Zips.{vectors_counted}
 use Rattle.ssr_syntax_tree.specs.declared.rows.NodeRow.{NodeRow}
 use Rattle.ssr_syntax_tree.specs.declared.node_rows.NodeRows.TheInside.{Inside}
 use Rattle.ssr_syntax_tree.specs.Private.NodeRows.{row_with, rows_of, AreBeside}

@@ -10,8 +10,8 @@ use Rattle.std.specs.Option.{option_map}
 use Rattle.std.specs.Str.{IsUtf8, IsCharBoundary}
 use Rattle.std.specs.String.{string_bytes}
 use Rattle.ssr_syntax_tree.specs.declared.rows.NodeRow.{NodeRow}
-use Rattle.ssr_syntax_lex.specs.declared.kinds.SyntaxKind.{SyntaxKind}
-use Rattle.ssr_syntax_lex.specs.declared.token_rows.TokenRow.{TokenRow}
+use Rattle.ssr_syntax_kinds.specs.declared.kinds.SyntaxKind.{SyntaxKind}
+use Rattle.ssr_syntax_kinds.specs.declared.token_rows.TokenRow.{TokenRow}
 use Rattle.ssr_syntax_tree.specs.declared.tree.Tree.TheInside.{Inside}
 use Rattle.ssr_syntax_tree.specs.Private.Flat.{syntax_of, IsFlat}
 use Rattle.ssr_syntax_tree.specs.Parts.{node_row, token_rows, AreParts}

@@ -2,7 +2,7 @@
 use Rattle.std.specs.Prelude.{ℕ, ◌+◌, ◌^◌, ◌≡◌, ◌<◌, List, [], ◌∷◌, All, length, map}
 use Rattle.std.specs.Str.{IsUtf8}
 use Rattle.ssr_syntax_tree.specs.declared.rows.NodeRow.{NodeRow}
-use Rattle.ssr_syntax_lex.specs.declared.token_rows.TokenRow.{TokenRow}
+use Rattle.ssr_syntax_kinds.specs.declared.token_rows.TokenRow.{TokenRow}
 use Rattle.ssr_syntax_tree.specs.Places.{Node, nodes_of}
 use Rattle.ssr_syntax_tree.specs.Syntax.{Token, Syntax, token_count, node_count, tokens_of, source_of}
 

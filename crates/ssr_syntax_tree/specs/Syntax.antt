@@ -1,8 +1,8 @@
 -- A plain syntax tree: what contracts see of a `Tree`. Trivia are leaves like the other tokens.
 use Rattle.std.specs.Prelude.{ℕ, ◌+◌, Bool, ◌&&◌, bytes_eq, List, [], ◌∷◌, ◌++◌, max}
 use Rattle.std.specs.List.{flat_map}
-use Rattle.ssr_syntax_lex.specs.Kinds.{same_kind}
-use Rattle.ssr_syntax_lex.specs.declared.kinds.SyntaxKind.{SyntaxKind}
+use Rattle.ssr_syntax_kinds.specs.Kinds.{same_kind}
+use Rattle.ssr_syntax_kinds.specs.declared.kinds.SyntaxKind.{SyntaxKind}
 
 -- a token of a tree: its kind and its bytes
 pub record Token : Type 0 where

@@ -12,5 +12,5 @@ pub use children::Children;
 pub use node_rows::NodeRows;
 pub use number::{Element, NodeNo, TokenNo};
 pub use rows::NodeRow;
-pub use ssr_syntax_lex::{TokenRow, TokenRows};
+pub use ssr_syntax_kinds::{TokenRow, TokenRows};
 pub use tree::Tree;

@@ -2,7 +2,7 @@
 ghost use Rattle.std.specs.Prelude.{◌≡◌, ◌<◌, ◌++◌, [], ◌∷◌, Some, length, map, slice_get, slice_set, IfOk, MatchResult};
 
 use crate::rows::NodeRow;
-use ssr_syntax_lex::SyntaxKind;
+use ssr_syntax_kinds::SyntaxKind;
 use std::alloc::{AllocError, Global};
 use std::marker::Model;
 

@@ -1,6 +1,6 @@
 //! The rows of a tree's nodes.
 
-use ssr_syntax_lex::SyntaxKind;
+use ssr_syntax_kinds::SyntaxKind;
 
 /// A node of a tree, in preorder.
 #[derive(Clone, Copy)]

@@ -5,7 +5,7 @@ ghost use Rattle.std.specs.Prelude.{◌≡◌, ◌↔◌, IsTrue};
 
 use crate::node_rows::NodeRows;
 use crate::rows::NodeRow;
-use ssr_syntax_lex::{TokenRow, TokenRows};
+use ssr_syntax_kinds::{TokenRow, TokenRows};
 
 /// Whether both are the same row of a token.
 fn is_same_token(one: TokenRow, other: TokenRow) -> bool

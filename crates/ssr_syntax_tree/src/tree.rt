@@ -8,7 +8,7 @@ use crate::node_rows::NodeRows;
 use crate::number::{Element, NodeNo, TokenNo};
 use crate::rows::NodeRow;
 use crate::same::{are_same_nodes, are_same_tokens};
-use ssr_syntax_lex::{SyntaxKind, TextRange, TokenRows};
+use ssr_syntax_kinds::{SyntaxKind, TextRange, TokenRows};
 use std::marker::Model;
 use std::ops::Range;
 

@@ -1,7 +1,7 @@
 -- Forms of patterns.
 use Rattle.std.specs.Prelude.{false, List, [], ◌∷◌, ◌++◌}
-use Rattle.ssr_syntax_lex.specs.declared.kinds.SyntaxKind.{SyntaxKind}
-use Rattle.ssr_syntax_lex.specs.declared.kinds.SyntaxKind.TheVariants as k
+use Rattle.ssr_syntax_kinds.specs.declared.kinds.SyntaxKind.{SyntaxKind}
+use Rattle.ssr_syntax_kinds.specs.declared.kinds.SyntaxKind.TheVariants as k
 use Rattle.ssr_syntax_types.specs.declared.goals.Goal.{Goal}
 use Rattle.ssr_syntax_types.specs.declared.goals.Goal.TheVariants.{Pat}
 use Rattle.ssr_syntax_types.specs.declared.goals.PatPlace.{PatPlace}

@@ -4,8 +4,8 @@ ghost use Rattle.ssr_syntax_forms.specs.Runs.{Runs};
 
 use crate::reader::Reader;
 use ssr_syntax_forms::{Fault, Parser, TokenSet};
-use ssr_syntax_lex::SyntaxKind;
-use ssr_syntax_lex::SyntaxKind::*;
+use ssr_syntax_kinds::SyntaxKind;
+use ssr_syntax_kinds::SyntaxKind::*;
 
 /// The tokens that are literals.
 #[derive(Clone, Copy)]

@@ -5,8 +5,8 @@ ghost use Rattle.ssr_syntax_forms.specs.Runs.{Runs, RunsAnywhere, RunsFrom};
 use crate::goals::{Goal, PathPlace};
 use crate::reader::Reader;
 use ssr_syntax_forms::{Fault, Mark, Parser, TokenSet};
-use ssr_syntax_lex::SyntaxKind;
-use ssr_syntax_lex::SyntaxKind::*;
+use ssr_syntax_kinds::SyntaxKind;
+use ssr_syntax_kinds::SyntaxKind::*;
 
 /// The words that name something in a path.
 #[derive(Clone, Copy)]

@@ -8,8 +8,8 @@ use crate::paths::{PathFirst, name, name_ref, number_ref, path};
 use crate::reader::Reader;
 use crate::types::Ampersands;
 use ssr_syntax_forms::{Fault, Mark, Parser, TokenSet};
-use ssr_syntax_lex::SyntaxKind;
-use ssr_syntax_lex::SyntaxKind::*;
+use ssr_syntax_kinds::SyntaxKind;
+use ssr_syntax_kinds::SyntaxKind::*;
 
 /// The operators of ranges.
 #[derive(Clone, Copy)]

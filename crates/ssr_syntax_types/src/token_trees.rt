@@ -6,8 +6,8 @@ use crate::goals::Goal;
 use crate::literals::Literals;
 use crate::reader::Reader;
 use ssr_syntax_forms::{Fault, Parser, TokenSet};
-use ssr_syntax_lex::SyntaxKind;
-use ssr_syntax_lex::SyntaxKind::*;
+use ssr_syntax_kinds::SyntaxKind;
+use ssr_syntax_kinds::SyntaxKind::*;
 
 /// The brackets that open.
 #[derive(Clone, Copy)]

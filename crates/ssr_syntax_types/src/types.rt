@@ -6,8 +6,8 @@ use crate::goals::{ExprPlace, Goal, PathPlace};
 use crate::paths::{OpenAngle, TypeFirst, lifetime, path};
 use crate::reader::Reader;
 use ssr_syntax_forms::{Fault, Mark, Parser, TokenSet};
-use ssr_syntax_lex::SyntaxKind;
-use ssr_syntax_lex::SyntaxKind::*;
+use ssr_syntax_kinds::SyntaxKind;
+use ssr_syntax_kinds::SyntaxKind::*;
 
 /// What a reference begins with.
 #[derive(Clone, Copy)]

@@ -1,7 +1,7 @@
 //! Edits of a text.
 
 use ssr_base::{ApplyError, TextEdit};
-use ssr_syntax_lex::TextRange;
+use ssr_syntax_kinds::TextRange;
 use std::test::Fail;
 
 #[test]

@@ -3,8 +3,8 @@
 ghost use Rattle.std.specs.Prelude.{◌∷◌, []};
 
 use ssr_syntax_forms::{END, Fault, Parser, Token, TokenSet};
-use ssr_syntax_lex::SyntaxKind;
-use ssr_syntax_lex::SyntaxKind::*;
+use ssr_syntax_kinds::SyntaxKind;
+use ssr_syntax_kinds::SyntaxKind::*;
 use std::alloc::Global;
 use std::test::Fail;
 
@@ -20,7 +20,7 @@ fn token(kind: SyntaxKind) -> Token {
 struct Ampersands;
 
 impl TokenSet for Ampersands {
-    ghost use Rattle.ssr_syntax_lex.specs.declared.kinds.SyntaxKind.TheVariants as k;
+    ghost use Rattle.ssr_syntax_kinds.specs.declared.kinds.SyntaxKind.TheVariants as k;
 
     ghost kinds = { λ _. k.AMP ∷ k.AMP2 ∷ [] };
 

@@ -2,7 +2,7 @@
 
 use ssr_base::{Expansion, FileId, FileRange, NodeId, Workspace, WorkspaceError};
 use ssr_syntax::{ExpToken, ExpansionKind, SyntaxError};
-use ssr_syntax_lex::TextRange;
+use ssr_syntax_kinds::TextRange;
 use ssr_syntax_tree::NodeNo;
 use std::alloc::{AllocError, Global};
 use std::test::Fail;

@@ -1,7 +1,7 @@
 -- Private: what covers the origins of tokens, as it is stored for each node of a tree.
 use Rattle.std.specs.Prelude.{ℕ, ◌+◌, ◌≡◌, ◌≤◌, List, length, slice_get, Option, Some}
 use Rattle.std.specs.Option.{option_map}
-use Rattle.ssr_syntax_lex.specs.declared.range.TextRange.{TextRange}
+use Rattle.ssr_syntax_kinds.specs.declared.range.TextRange.{TextRange}
 use Rattle.ssr_syntax_tree.specs.Syntax.{Syntax, node_count}
 use Rattle.ssr_syntax_tree.specs.Places.{node_of}
 use Rattle.ssr_base.specs.declared.covers.Cover.{Cover as Stored}

@@ -1,9 +1,9 @@
 -- Private: how tokens that are handed in are put together.
 use Rattle.std.specs.Prelude.{◌≡◌, ◌≢◌, if◌then◌else◌, Bool, List, [], ◌∷◌, ◌++◌, length, map, ℕ, string_bytes, Result, Ok, Err}
-use Rattle.ssr_syntax_lex.specs.declared.kinds.SyntaxKind.{SyntaxKind}
-use Rattle.ssr_syntax_lex.specs.declared.kinds.SyntaxKind.TheVariants.{WHITESPACE}
+use Rattle.ssr_syntax_kinds.specs.declared.kinds.SyntaxKind.{SyntaxKind}
+use Rattle.ssr_syntax_kinds.specs.declared.kinds.SyntaxKind.TheVariants.{WHITESPACE}
 use Rattle.ssr_syntax_lex.specs.declared.tokens.RawToken.{RawToken}
-use Rattle.ssr_syntax_lex.specs.declared.token_rows.TokenRow.{TokenRow}
+use Rattle.ssr_syntax_kinds.specs.declared.token_rows.TokenRow.{TokenRow}
 use Rattle.ssr_syntax_lex.specs.Tokens.{row_of}
 use Rattle.ssr_syntax.specs.declared.expansions.ExpToken.{ExpToken}
 use Rattle.ssr_syntax.specs.declared.expansions.Gathered.{Gathered}

@@ -1,7 +1,7 @@
 -- Private: rows on their way to a tree's: those that are packed, those that are unread, and how many were read and aren't
 -- packed.
 use Rattle.std.specs.Prelude.{ℕ, ◌-◌, List, take, drop}
-use Rattle.ssr_syntax_lex.specs.declared.token_rows.TokenRow.{TokenRow}
+use Rattle.ssr_syntax_kinds.specs.declared.token_rows.TokenRow.{TokenRow}
 
 pub record PackingRows : Type 0 where
   pub packed : List TokenRow

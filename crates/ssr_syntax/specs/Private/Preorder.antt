@@ -3,7 +3,7 @@ use Rattle.std.specs.Prelude.{ℕ, zero, suc, ◌+◌, ◌-◌, max, Bool, false
 use Rattle.ssr_syntax_tree.specs.declared.rows.NodeRow.{NodeRow}
 use Rattle.ssr_syntax.specs.declared.syntax_error.SyntaxError.{SyntaxError}
 use Rattle.ssr_syntax.specs.declared.syntax_error.SyntaxError.TheVariants as errors
-use Rattle.ssr_syntax_lex.specs.declared.kinds.SyntaxKind.{SyntaxKind}
+use Rattle.ssr_syntax_kinds.specs.declared.kinds.SyntaxKind.{SyntaxKind}
 use Rattle.ssr_syntax_forms.specs.Trees.{Forest, done, leaf, tree, spell, nodes}
 
 -- ** Where a node's tokens are. `at i` is how many of all tokens there are up to the i-th solid one.

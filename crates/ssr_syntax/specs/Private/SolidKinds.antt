@@ -1,8 +1,8 @@
 -- Private: the solid tokens of a text, from the kinds of its tokens alone. A text's token is joint if the next one is
 -- punctuation, and nothing else is joined, so whether it is joint needn't be asked.
 use Rattle.std.specs.Prelude.{Bool, true, not, if◌then◌else◌, List, [], ◌∷◌, drop, Option, Some, None}
-use Rattle.ssr_syntax_lex.specs.Kinds.{is_trivia}
-use Rattle.ssr_syntax_lex.specs.declared.kinds.SyntaxKind.{SyntaxKind}
+use Rattle.ssr_syntax_kinds.specs.Kinds.{is_trivia}
+use Rattle.ssr_syntax_kinds.specs.declared.kinds.SyntaxKind.{SyntaxKind}
 use Rattle.ssr_syntax_forms.specs.declared.tokens.Token.{Token}
 use Rattle.ssr_syntax.specs.Solid.{joined, joined_three}
 

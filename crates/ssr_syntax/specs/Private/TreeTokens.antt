@@ -1,8 +1,8 @@
 -- Private: the rows of a tree's tokens, from those of the text's tokens and from those that were taken, and how many of them
 -- there are up to each solid token of the text.
 use Rattle.std.specs.Prelude.{ℕ, zero, suc, ◌+◌, ◌-◌, if◌then◌else◌, List, [], ◌∷◌, ◌++◌, replicate}
-use Rattle.ssr_syntax_lex.specs.Kinds.{is_trivia}
-use Rattle.ssr_syntax_lex.specs.declared.token_rows.TokenRow.{TokenRow}
+use Rattle.ssr_syntax_kinds.specs.Kinds.{is_trivia}
+use Rattle.ssr_syntax_kinds.specs.declared.token_rows.TokenRow.{TokenRow}
 use Rattle.ssr_syntax_forms.specs.declared.rows.Taken.{Taken}
 
 -- the rows; the token that was taken last has `left` solid ones more

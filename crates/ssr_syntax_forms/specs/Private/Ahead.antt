@@ -1,7 +1,7 @@
 -- Private: the tokens ahead, and what closures ask and take.
 use Rattle.std.specs.Prelude.{◌≡◌, ◌+◌, ◌-◌, ℕ, zero, suc, Bool, List, ◌∷◌, [], ◌++◌, drop, Result, Ok}
 use Rattle.std.specs.Borrow.{Bor}
-use Rattle.ssr_syntax_lex.specs.declared.kinds.SyntaxKind.{SyntaxKind}
+use Rattle.ssr_syntax_kinds.specs.declared.kinds.SyntaxKind.{SyntaxKind}
 use Rattle.ssr_syntax_forms.specs.declared.tokens.Token.{Token}
 use Rattle.ssr_syntax_forms.specs.declared.fault.Fault.{Fault}
 use Rattle.ssr_syntax_forms.specs.Forms.{Test, behind, next, passes, ◌>>=◌}

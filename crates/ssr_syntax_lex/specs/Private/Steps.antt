@@ -7,9 +7,9 @@ use Rattle.ssr_syntax_lex.specs.Cursor.{Chars, begins, is_at, passes_at}
 use Rattle.ssr_syntax_lex.specs.Raw.{Taken}
 use Rattle.ssr_syntax_lex.specs.Words.{is_punctuation}
 use Rattle.ssr_syntax_lex.specs.declared.fault.FaultKind.{FaultKind}
-use Rattle.ssr_syntax_lex.specs.declared.kinds.SyntaxKind.{SyntaxKind}
-use Rattle.ssr_syntax_lex.specs.declared.range.TextRange.{TextRange}
-use Rattle.ssr_syntax_lex.specs.declared.token_rows.TokenRow.{TokenRow}
+use Rattle.ssr_syntax_kinds.specs.declared.kinds.SyntaxKind.{SyntaxKind}
+use Rattle.ssr_syntax_kinds.specs.declared.range.TextRange.{TextRange}
+use Rattle.ssr_syntax_kinds.specs.declared.token_rows.TokenRow.{TokenRow}
 use Rattle.ssr_syntax_lex.specs.declared.tokens.RawToken.{RawToken}
 
 -- what is left is what follows; where nothing does, this fault was told

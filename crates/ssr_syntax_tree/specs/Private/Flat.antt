@@ -2,9 +2,9 @@
 -- `from_parts` says without these words which tree it is.
 use Rattle.std.specs.Prelude.{ℕ, ◌+◌, ◌-◌, ◌==◌, ◌&&◌, nat_lt, cond, List, [], ◌∷◌, length, take, drop, slice_get, unwrap_or, zero, suc}
 use Rattle.std.specs.String.{string_bytes}
-use Rattle.ssr_syntax_lex.specs.declared.kinds.SyntaxKind.TheVariants as k
+use Rattle.ssr_syntax_kinds.specs.declared.kinds.SyntaxKind.TheVariants as k
 use Rattle.ssr_syntax_tree.specs.declared.rows.NodeRow.{NodeRow}
-use Rattle.ssr_syntax_lex.specs.declared.token_rows.TokenRow.{TokenRow}
+use Rattle.ssr_syntax_kinds.specs.declared.token_rows.TokenRow.{TokenRow}
 use Rattle.ssr_syntax_tree.specs.declared.tree.Tree.TheInside.{Inside}
 use Rattle.ssr_syntax_tree.specs.Parts.{AreParts}
 use Rattle.ssr_syntax_tree.specs.Syntax.{Token, Forest, nothing, leaf, branch, Syntax}

@@ -1,7 +1,7 @@
 -- Private: how the two vectors of `NodeRows` are seen as one list of rows.
 use Rattle.std.specs.Prelude.{◌≡◌, List, length}
 use Rattle.std.specs.Simd.Lanes.{zip2}
-use Rattle.ssr_syntax_lex.specs.declared.kinds.SyntaxKind.{SyntaxKind}
+use Rattle.ssr_syntax_kinds.specs.declared.kinds.SyntaxKind.{SyntaxKind}
 use Rattle.ssr_syntax_tree.specs.declared.node_rows.NodePlace.{NodePlace}
 use Rattle.ssr_syntax_tree.specs.declared.rows.NodeRow.{NodeRow}
 use Rattle.ssr_syntax_tree.specs.declared.node_rows.NodeRows.TheInside.{Inside}

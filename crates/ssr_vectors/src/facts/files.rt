@@ -5,7 +5,7 @@ ghost use Rattle.std.specs.Prelude.{◌≤◌};
 use ssr_base::{DefId, FileId, FilePosition, FileRange, Res, ScopeId, Semantics, WorkspaceError};
 use ssr_facts::{Facts, FactsError, read};
 use ssr_syntax::SyntaxError;
-use ssr_syntax_lex::TextRange;
+use ssr_syntax_kinds::TextRange;
 use std::alloc::Global;
 use std::test::Fail;
 

@@ -1,7 +1,7 @@
 //! What is read of texts: the nodes with their ranges, the faults, and how deep and how long a text may be.
 
 use ssr_syntax::{Fragment, SyntaxError, fragment, parse_file};
-use ssr_syntax_lex::SyntaxKind;
+use ssr_syntax_kinds::SyntaxKind;
 use ssr_syntax_tree::{NodeNo, Tree};
 use std::alloc::{AllocError, Global};
 use std::test::Fail;

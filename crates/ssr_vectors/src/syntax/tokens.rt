@@ -1,6 +1,7 @@
 //! Texts, with the kinds and texts of their tokens, or with their fault.
 
-use ssr_syntax_lex::{LexError, SyntaxKind, TextRange, lex};
+use ssr_syntax_kinds::{SyntaxKind, TextRange};
+use ssr_syntax_lex::{LexError, lex};
 use std::alloc::{AllocError, Global};
 use std::process::Abort;
 use std::test::Fail;

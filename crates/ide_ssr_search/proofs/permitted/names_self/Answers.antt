@@ -1,6 +1,6 @@
 use Rattle.std.proofs.Common.{◌&&◌, ◌||◌, not, sym, ap, ◌∙◌, arith}
-use Rattle.ssr_syntax_lex.specs.declared.kinds.SyntaxKind.TheVariants as k
-use Rattle.ssr_syntax_lex.specs.Kinds.{same_kind, is_trivia}
+use Rattle.ssr_syntax_kinds.specs.declared.kinds.SyntaxKind.TheVariants as k
+use Rattle.ssr_syntax_kinds.specs.Kinds.{same_kind, is_trivia}
 use Rattle.ssr_syntax_tree.specs.Places.{HasToken}
 use Rattle.ide_ssr_search.proofs.Selves.{self_turn, self_found, self_end}
 use Rattle.ide_ssr_search.proofs.permitted.names_self.Goals as goal

@@ -1,6 +1,6 @@
 use Rattle.std.proofs.Common.{sym, ap, ◌∙◌}
-use Rattle.ssr_syntax_lex.specs.declared.kinds.SyntaxKind.TheVariants as k
-use Rattle.ssr_syntax_lex.specs.Kinds.{same_kind}
+use Rattle.ssr_syntax_kinds.specs.declared.kinds.SyntaxKind.TheVariants as k
+use Rattle.ssr_syntax_kinds.specs.Kinds.{same_kind}
 use Rattle.ide_ssr_search.proofs.Arguments.{token_tree_is}
 use Rattle.ide_ssr_search.proofs.permitted.token_tree.Goals as goal
 

@@ -1,7 +1,7 @@
 use Rattle.std.proofs.Common.{sym, ap, ◌∙◌, arith}
 use Rattle.std.proofs.lemmas.List.{take_all}
 use Rattle.std.specs.Option.{option_or}
-use Rattle.ssr_syntax_lex.specs.Kinds.{same_kind}
+use Rattle.ssr_syntax_kinds.specs.Kinds.{same_kind}
 use Rattle.ssr_syntax_tree.specs.Places.{HasNode, nodes_of}
 use Rattle.ssr_syntax_tree.proofs.Shared.{length-nodes_of}
 use Rattle.ssr_facts.specs.Private.Nodes.{at_place, found_among}

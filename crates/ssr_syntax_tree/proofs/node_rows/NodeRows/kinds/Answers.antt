@@ -1,5 +1,5 @@
 use Rattle.std.proofs.Common.{◌∙◌, map, sym, ap, refl}
-use Rattle.ssr_syntax_lex.proofs.Zips.{map-zip2}
+use Rattle.ssr_syntax_kinds.proofs.Zips.{map-zip2}
 use Rattle.ssr_syntax_tree.specs.Private.NodeRows.{row_with}
 use Rattle.ssr_syntax_tree.proofs.node_rows.NodeRows.kinds.Goals as goal
 

@@ -1,4 +1,4 @@
-use Rattle.ssr_syntax_lex.proofs.Zips.{zip2-push}
+use Rattle.ssr_syntax_kinds.proofs.Zips.{zip2-push}
 use Rattle.ssr_syntax_tree.specs.Private.NodeRows.{row_with}
 use Rattle.ssr_syntax_tree.proofs.node_rows.NodeRows.push.Goals as goal
 

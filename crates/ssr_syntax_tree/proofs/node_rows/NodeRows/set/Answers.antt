@@ -1,5 +1,5 @@
 use Rattle.std.proofs.Common.{arith}
-use Rattle.ssr_syntax_lex.proofs.Zips.{zip2-set}
+use Rattle.ssr_syntax_kinds.proofs.Zips.{zip2-set}
 use Rattle.ssr_syntax_tree.specs.Private.NodeRows.{row_with}
 use Rattle.ssr_syntax_tree.proofs.RowCounts.{kinds_counted, places_counted}
 use Rattle.ssr_syntax_tree.proofs.node_rows.NodeRows.set.Goals as goal

@@ -1,0 +1,4 @@
+mod SameKinds
+pub mod Zips
+pub mod Shared
+mod RowCounts

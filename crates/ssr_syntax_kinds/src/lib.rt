@@ -1,0 +1,10 @@
+//! The kinds of tokens and nodes, ranges of bytes, and the rows of a text's tokens.
+#![tactic(auto)]
+
+mod kinds;
+mod range;
+mod token_rows;
+
+pub use kinds::SyntaxKind;
+pub use range::TextRange;
+pub use token_rows::{TokenRow, TokenRows};
