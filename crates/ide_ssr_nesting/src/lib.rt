@@ -9,8 +9,6 @@ pub mod laws;
 mod lists;
 mod order;
 mod sorting;
-#[cfg(test)]
-mod tests;
 
 pub use holders::Holder;
 pub use kept_matches::{KeptMatches, keep};

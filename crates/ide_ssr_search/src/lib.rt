@@ -8,8 +8,6 @@ pub mod laws;
 mod permitted;
 mod positions;
 mod scan;
-#[cfg(test)]
-mod tests;
 mod whole;
 
 pub use context::Context;

@@ -97,6 +97,28 @@ fn tokens_from_nowhere_are_not_edited(rt: HostRuntime) -> Result<(), Fail> {
 }
 
 #[test]
+fn placeholders_come_from_places_of_their_own_in_the_arguments(
+    rt: HostRuntime,
+) -> Result<(), Fail> {
+    let alloc = rt.alloc();
+    for (first, second, count) in [
+        ("12,13", "16,17", 1),
+        ("16,17", "12,13", 1),
+        ("3,4", "16,17", 0),
+        ("12,13", "12,13", 0),
+    ] {
+        let tokens = format!(in alloc;
+            "[\"1\",false,{first}],[\"+\",false,14,15],[\"2\",false,{second}]"
+        )?;
+        let facts = expanded(alloc, "fn f() { m!(1 + 2) }", "9,18", tokens.as_str())?;
+        let mut finder = MatchFinder::at_first_file(alloc, &facts.workspace, &facts.semantics)?;
+        finder.add_rule(SsrRule::parse(alloc, SWAP)?)?;
+        assert_eq!(rt; finder.matches()?.matches.len(), count, "{first} {second}");
+    }
+    Ok(())
+}
+
+#[test]
 fn the_text_of_the_file_is_kept(rt: HostRuntime) -> Result<(), Fail> {
     let alloc = rt.alloc();
     let file = "fn f() { m!(1   *   2 + 3 + 4) }";

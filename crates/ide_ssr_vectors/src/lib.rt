@@ -13,6 +13,8 @@ mod given;
 #[cfg(test)]
 mod one_file;
 #[cfg(test)]
+mod order;
+#[cfg(test)]
 mod search_patterns;
 #[cfg(test)]
 mod steps;

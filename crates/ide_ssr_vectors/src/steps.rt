@@ -92,6 +92,37 @@ fn a_search_goes_from_its_context_to_edits(rt: HostRuntime) -> Result<(), Fail> 
 }
 
 #[test]
+fn nothing_is_tried_in_use_items(rt: HostRuntime) -> Result<(), Fail> {
+    let alloc = rt.alloc();
+    let rules = SsrRule::parse(alloc, "$a ==>> $a")?.resolve(alloc)?;
+    for text in ["fn f() {}", "use a::b; fn f() {}", "fn f() { use a::b; }"] {
+        let facts = facts(alloc, &[text], "")?;
+        let context = Context::at_first_file(alloc, &facts.workspace, &facts.semantics)?;
+        let found = find_matches(alloc, &facts.workspace, &context, &rules)?;
+        // SOURCE_FILE, FN, NAME, PARAM_LIST, BLOCK_EXPR, STMT_LIST
+        let nodes = found.iter().filter(|m| m.rule() == 0).count();
+        assert_eq!(rt; nodes, 6, "{text}");
+    }
+    Ok(())
+}
+
+#[test]
+fn rules_come_in_their_order_at_a_node(rt: HostRuntime) -> Result<(), Fail> {
+    let alloc = rt.alloc();
+    let facts = facts(alloc, &["fn f() { 1 + 2 + 3 }"], "")?;
+    let context = Context::at_first_file(alloc, &facts.workspace, &facts.semantics)?;
+    let mut rules = SsrRule::parse(alloc, "$a + 3 ==>> $a")?.resolve(alloc)?;
+    rules.append(&mut SsrRule::parse(alloc, SWAP)?.resolve(alloc)?)?;
+    let found = find_matches(alloc, &facts.workspace, &context, &rules)?;
+    assert_eq!(rt; found.len(), 3);
+    assert!(rt; found[0].rule() < found[1].rule());
+    assert!(rt; found[0].node() == found[1].node());
+    assert!(rt; found[1].node() < found[2].node());
+    assert_eq!(rt; found[2].bindings().len(), 2);
+    Ok(())
+}
+
+#[test]
 fn a_node_is_matched_and_rendered(rt: HostRuntime) -> Result<(), Fail> {
     let alloc = rt.alloc();
     let tree = parse_file(alloc, "fn f() {x /* k */ + 1}")?;

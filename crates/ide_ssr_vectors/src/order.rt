@@ -1,0 +1,47 @@
+//! The order of the nodes of a workspace with an expansion.
+
+use crate::given::facts;
+use ide_ssr_nesting::{is_above, precedes};
+use ssr_base::{NodeId, Workspace};
+use ssr_syntax_tree::{Element, NodeNo};
+use std::test::Fail;
+
+fn node(tree: u32, node: u32) -> NodeId {
+    NodeId {
+        tree,
+        node: NodeNo(node),
+    }
+}
+
+/// Whether the first node comes before the second, and whether it stands above it, where there are both.
+fn compared(workspace: &Workspace, a: NodeId, b: NodeId) -> Option<(bool, bool)> {
+    let one = workspace.tree(a.tree)?;
+    let other = workspace.tree(b.tree)?;
+    if !one.has(Element::Node(a.node)) || !other.has(Element::Node(b.node)) {
+        return None;
+    }
+    Some((precedes(workspace, a, b), is_above(workspace, a, b)))
+}
+
+#[test]
+fn an_expansion_comes_behind_its_call_and_before_its_arguments(
+    rt: HostRuntime,
+) -> Result<(), Fail> {
+    let keys =
+        ",\"expansions\":[{\"call\":[0,9,14],\"kind\":\"expr\",\"tokens\":[[\"1\",false,12,13]]}]";
+    let facts = facts(rt.alloc(), &["fn f() { m!(1) }", "struct S;"], keys)?;
+    let workspace = &facts.workspace;
+    // SOURCE_FILE, FN, NAME, PARAM_LIST, BLOCK_EXPR, STMT_LIST, MACRO_EXPR, MACRO_CALL, and below that PATH and TOKEN_TREE.
+    let call = node(0, 7);
+    let arguments = node(0, 8);
+    let root = node(2, 0);
+    assert_eq!(rt; compared(workspace, call, root), Some((true, true)));
+    assert_eq!(rt; compared(workspace, root, arguments), Some((true, false)));
+    assert_eq!(rt; compared(workspace, arguments, root), Some((false, false)));
+    assert_eq!(rt; compared(workspace, node(0, 0), root), Some((true, true)));
+    assert_eq!(rt; compared(workspace, root, node(1, 0)), Some((true, false)));
+    assert_eq!(rt; compared(workspace, node(1, 0), root), Some((false, false)));
+    assert_eq!(rt; compared(workspace, root, root), Some((false, false)));
+    assert_eq!(rt; compared(workspace, node(3, 0), root), None);
+    Ok(())
+}
