@@ -134,8 +134,11 @@ def seconds_of_both(programs, rule, text, wanted):
 
 
 def peak(program, rule, text):
+    return peak_of(start(program, rule, text))
+
+
+def peak_of(process):
     """The most memory that was in use, in bytes, as far as a look at each millisecond saw it."""
-    process = start(program, rule, text)
     most = 0
     while process.poll() is None:
         try:

@@ -1,8 +1,9 @@
 -- Laws of two lists of one length that are zipped by a function, of use to each type whose rows stand in two vectors.
-use Rattle.std.proofs.Common.{◌≡◌, ℕ, ◌<◌, List, [], ◌∷◌, ◌++◌, length, vec_len, get_or, map, take, Some, refl, ap, ◌∙◌, sym, arith}
+use Rattle.std.proofs.Common.{◌≡◌, ℕ, ◌<◌, List, [], ◌∷◌, ◌++◌, length, vec_len, get_or, map, take, Some, refl, ap, ◌∙◌, sym, arith, length-append, ◌-◌}
 use Rattle.std.proofs.lemmas.Option.{slice_get-get_or}
 use Rattle.std.proofs.lemmas.Simd.{get_or-zip2, length-zip2}
 use Rattle.std.proofs.Math.ListN.{set}
+use Rattle.std.proofs.Math.Seq.{take-append_seam}
 use Rattle.std.specs.Prelude.{zero, suc, slice_get}
 use Rattle.std.specs.Simd.Lanes.{zip2}
 use Rattle.std.specs.declared.vec.Vec.{Vec}
@@ -53,3 +54,10 @@ vectors_counted f first second rows beside seen =
       omega (arith, first.ok, ap length seen, counted),
       omega (arith, second.ok, beside, ap length seen, counted),
     )
+
+-- what was pushed last is taken off again
+pub popped : {A Z : Type 0} (before pushed after : Vec A Z) (x : A) → pushed.items ≡ before.items ++ x ∷ [] → after.items ≡ take (vec_len pushed - 1) pushed.items
+    → after.items ≡ before.items
+popped before pushed after x one_more rest =
+    let count : vec_len pushed - 1 ≡ length before.items = omega (arith, pushed.ok, ap length one_more, length-append before.items (x ∷ [])) in
+    rest ∙ ap (take (vec_len pushed - 1)) one_more ∙ ap (λ n. take n (before.items ++ x ∷ [])) count ∙ take-append_seam before.items (x ∷ [])

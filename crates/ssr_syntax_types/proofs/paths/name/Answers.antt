@@ -1,0 +1,7 @@
+use Rattle.std.proofs.Common.{rules}
+use Rattle.ssr_syntax_types.specs.Paths.{name}
+use Rattle.ssr_syntax_types.proofs.paths.name.Goals as goal
+
+pub returns : goal.returns
+unfolding name
+returns g c = search rules

@@ -1,0 +1,15 @@
+use Rattle.std.proofs.Common.{rules}
+use Rattle.ssr_syntax_types.specs.Paths.{ret_type}
+use Rattle.ssr_syntax_types.proofs.paths.ret_type.Goals as goal
+
+pub returns-in_err-expect : goal.returns-in_err-expect
+unfolding ret_type
+returns-in_err-expect g c = search rules
+
+pub returns-in_err-read : goal.returns-in_err-read
+unfolding ret_type
+returns-in_err-read g c = search rules
+
+pub returns : goal.returns
+unfolding ret_type
+returns g c = search rules
