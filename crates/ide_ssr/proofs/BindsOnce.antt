@@ -13,7 +13,7 @@ use Rattle.std.proofs.lemmas.Slice.Eq.{bytes_eq-Decides}
 use Rattle.ssr_syntax_tree.proofs.Lists.{all_at, pairs_at}
 use Rattle.ssr_base.specs.Workspace.{Workspace, trees}
 use Rattle.ide_ssr_rules.specs.Elements.{has}
-use Rattle.ide_ssr_rules.specs.Resolving.{ResolvedKind}
+use Rattle.ide_ssr_resolving.specs.Resolved.{ResolvedKind}
 use Rattle.ide_ssr_rules.specs.Uses.{AreNew}
 use Rattle.ide_ssr_matching.specs.declared.bindings.Binding.{Binding}
 use Rattle.ide_ssr_matching.specs.Found.{Found, AreDisjoint, ShareNoByte, IsMatch, held_node}

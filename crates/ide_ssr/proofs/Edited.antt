@@ -1,16 +1,16 @@
 -- The edits of a finder are those of what its search comes to.
-use Rattle.std.proofs.Common.{◌≡◌, List, Result, Ok, Err, subst}
+use Rattle.std.proofs.Common.{◌≡◌, List, Result, Ok, Err, ap, subst}
 use Rattle.std.specs.BTreeMap.{BTreeMap}
 use Rattle.ssr_base.specs.declared.ids.FileId.{FileId}
 use Rattle.ssr_base.specs.Changes.{Change}
-use Rattle.ide_ssr_rules.specs.Resolving.{ResolvedKind}
+use Rattle.ide_ssr_resolving.specs.Resolved.{ResolvedKind}
 use Rattle.ide_ssr_nesting.specs.Holding.{Kept}
 use Rattle.ide_ssr_nesting.specs.Lists.{Listing}
 use Rattle.ide_ssr_rewriting.specs.declared.editing.EditError.{EditError}
 use Rattle.ide_ssr_rewriting.specs.declared.editing.EditError.TheVariants as errors
 use Rattle.ide_ssr_rewriting.specs.Edits.{Answers}
 use Rattle.ide_ssr.specs.Edits.{HaveTemplates, Edits}
-use Rattle.ide_ssr.specs.Finder.{Finder}
+use Rattle.ide_ssr.specs.Finder.{Finder, FinderWith}
 use Rattle.ide_ssr.specs.Searching.{IsOutcome}
 
 told : (finder : Finder) (kept : Kept) (lists : Listing) (result : Result (BTreeMap FileId (List Change)) EditError) → HaveTemplates finder.rules
@@ -24,3 +24,7 @@ pub edits_told : (finder : Finder) (kept : Kept) (lists : Listing) (rules : List
     → rules ≡ finder.rules → HaveTemplates rules → IsOutcome finder kept lists → Answers kept lists rules result → Edits finder result
 edits_told finder kept lists rules result same have outcome answers =
     told finder kept lists result (subst HaveTemplates same have) outcome (subst (λ (rules : List ResolvedKind). Answers kept lists rules result) same answers)
+
+-- equal finders have the same rules
+pub rules_are : {S : Type 0} (one other : FinderWith S) → one ≡ other → one.rules ≡ other.rules
+rules_are {S = S} one other is = ap (λ (f : FinderWith S). f.rules) is

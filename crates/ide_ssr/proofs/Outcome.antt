@@ -8,8 +8,8 @@ use Rattle.ssr_syntax_tree.specs.Syntax.{Syntax}
 use Rattle.ssr_syntax_tree.specs.Places.{HasNode, node_of, root_of}
 use Rattle.ssr_syntax_tree.proofs.Shared.{IsOf, node_of-number}
 use Rattle.ssr_base.specs.Workspace.{Workspace, Planted, planted, trees}
-use Rattle.ide_ssr_rules.specs.Patterns.{HasEachOnce, placeholders_of}
-use Rattle.ide_ssr_rules.specs.Resolving.{ResolvedKind}
+use Rattle.ide_ssr_resolving.specs.Patterns.{HasEachOnce, placeholders_of}
+use Rattle.ide_ssr_resolving.specs.Resolved.{ResolvedKind}
 use Rattle.ide_ssr_matching.specs.declared.bindings.Binding.{Binding}
 use Rattle.ide_ssr_matching.specs.Found.{Found}
 use Rattle.ide_ssr_matching.specs.Matching.{Matches}
@@ -26,13 +26,13 @@ is_of : (s : Syntax) (n : ℕ) → HasNode s n → IsOf s (node_of s n)
 is_of s n has = let number = node_of-number s n has in (subst (HasNode s) (sym number) has, ap (node_of s) number)
 
 -- a match at a node binds the placeholders of the pattern
-bound_at : (names : List (List ℕ)) (pattern : Syntax) (o : Option Planted) (n : ℕ) (bs : List Binding)
-    → IsSomeAnd o (λ p. Matches names (root_of pattern) (node_of p.syntax n) bs) → IsSomeAnd o (λ p. HasNode p.syntax n)
-    → placeholders_bound bs ≡ placeholders_of names pattern
-bound_at names pattern None n bs matches has = absurd has
-bound_at names pattern (Some p) n bs matches has =
-    (bindings_hold p.syntax names pattern (node_of p.syntax n) (is_of p.syntax n has) bs
-    (Matches-bindings_of names (root_of pattern) (node_of p.syntax n) bs matches)).1
+bound_at : (rule : ResolvedKind) (o : Option Planted) (n : ℕ) (bs : List Binding)
+    → IsSomeAnd o (λ p. Matches rule (root_of rule.pattern) (node_of p.syntax n) bs) → IsSomeAnd o (λ p. HasNode p.syntax n)
+    → placeholders_bound bs ≡ placeholders_of rule.names rule.pattern
+bound_at rule None n bs matches has = absurd has
+bound_at rule (Some p) n bs matches has =
+    (bindings_hold p.syntax rule (node_of p.syntax n) (is_of p.syntax n has) bs
+    (Matches-bindings_of rule (root_of rule.pattern) (node_of p.syntax n) bs matches)).1
 
 at_place : {X : Type 0} (P : X → Type 0) (xs : List X) (n : ℕ) (x : X) → All P xs → slice_get xs n ≡ Some x → P x
 at_place P xs n x all is = subst P (get_or_from_slice_get xs n x x is) (all n x (slice_get_within xs n x is))
@@ -46,7 +46,7 @@ found_of_rule w context rules m each found =
       rule = rule;
       is_rule = found.is_rule;
       numbered =
-          bound_at rule.names rule.pattern (planted (trees w) m.node.tree) m.node.node.0 m.bindings found.whole.matches found.permitted.open_to_all.node
+          bound_at rule (planted (trees w) m.node.tree) m.node.node.0 m.bindings found.whole.matches found.permitted.open_to_all.node
           ∙ has.nodes;
       different = has.different;
     }

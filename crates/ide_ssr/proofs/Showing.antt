@@ -10,7 +10,7 @@ use Rattle.std.proofs.lemmas.Option.{slice_get-get_or, slice_get_within, same_So
 use Rattle.ssr_syntax_tree.proofs.Lists.{all_at}
 use Rattle.ssr_base.specs.declared.ids.NodeId.{NodeId}
 use Rattle.ssr_base.specs.Workspace.{Workspace, FileSpan, trees, original_range}
-use Rattle.ide_ssr_rules.specs.Resolving.{ResolvedKind}
+use Rattle.ide_ssr_resolving.specs.Resolved.{ResolvedKind}
 use Rattle.ide_ssr_matching.specs.declared.bindings.Binding.{Binding}
 use Rattle.ide_ssr_matching.specs.Found.{Found, IsMatch, held_node}
 use Rattle.ide_ssr_nesting.specs.declared.holders.Holder.{Holder}

@@ -5,9 +5,9 @@ use Rattle.ssr_base.specs.declared.ids.NodeId.{NodeId}
 use Rattle.ssr_base.specs.Origins.{Span}
 use Rattle.ssr_base.specs.Workspace.{Workspace, FileSpan}
 use Rattle.ssr_base.specs.WorkspaceCode.{span_code, id_code, workspace_code}
-use Rattle.ide_ssr_rules.specs.Resolving.{ResolvedKind, resolved_code}
+use Rattle.ide_ssr_resolving.specs.Resolved.{ResolvedKind, resolved_code}
 use Rattle.ide_ssr_search.specs.Context.{Context}
-use Rattle.ide_ssr.specs.Finder.{Finder}
+use Rattle.ide_ssr.specs.Finder.{FinderWith}
 
 abbrev pub file_span_code : Coded FileSpan
 file_span_code = code_by (ℕ × Span) (coded× coded_ℕ span_code) (λ r. (r.file, r.span)) (λ c. record { file = c.0; span = c.1 }) (λ _. refl)
@@ -17,7 +17,8 @@ context_code =
     code_by (ℕ × (List FileSpan × Option NodeId)) (coded× coded_ℕ (coded× (coded_list file_span_code) (coded_option id_code)))
     (λ x. (x.scope.0, (x.restrictions, x.function))) (λ c. record { scope = record { 0 = c.0 }; restrictions = c.1.0; function = c.1.1 }) (λ _. refl)
 
-abbrev pub finder_code : Coded Finder
-finder_code =
-    code_by (Workspace × (Context × List ResolvedKind)) (coded× workspace_code (coded× context_code (coded_list resolved_code)))
-    (λ f. (f.workspace, (f.context, f.rules))) (λ c. record { workspace = c.0; context = c.1.0; rules = c.1.1 }) (λ _. refl)
+abbrev pub finder_code : {S : Type 0} → Coded S → Coded (FinderWith S)
+finder_code {S} semantics =
+    code_by (Workspace × (S × (Context × List ResolvedKind))) (coded× workspace_code (coded× semantics (coded× context_code (coded_list resolved_code))))
+    (λ f. (f.workspace, (f.semantics, (f.context, f.rules))))
+    (λ c. record { workspace = c.0; semantics = c.1.0; context = c.1.1.0; rules = c.1.1.1 }) (λ _. refl)

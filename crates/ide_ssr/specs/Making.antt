@@ -7,16 +7,17 @@ use Rattle.ide_ssr_search.specs.declared.context_error.ContextError.{ContextErro
 use Rattle.ide_ssr_search.specs.declared.context_error.ContextError.TheVariants as refusals
 use Rattle.ide_ssr_search.specs.Context.{Context}
 use Rattle.ide_ssr_search.specs.Making.{error_words}
-use Rattle.ide_ssr.specs.Finder.{Finder}
+use Rattle.ide_ssr.specs.Finder.{FinderWith}
 
 -- an error tells a refusal in its words; want of memory tells nothing
 abbrev pub TellsRefusal : SsrError → ContextError → Type 0
 TellsRefusal errors.Memory refusal = Unit {0}
 TellsRefusal (errors.Message message) refusal = (refusal ≢ refusals.Memory) × (string_bytes message ≡ error_words refusal)
 
--- the finder has what the search is made for, and no rules yet; or the refusal is told. `IsMade` says what that is.
-abbrev pub MakesFinder : Workspace → (Result Context ContextError → Type 0) → Result Finder SsrError → Type 0
-MakesFinder w IsMade (Ok finder) =
+-- the finder has this provider, what the search is made for, and no rules yet; or the refusal is told. `IsMade` says what that
+-- is.
+abbrev pub MakesFinder : {S : Type 0} → Workspace → S → (Result Context ContextError → Type 0) → Result (FinderWith S) SsrError → Type 0
+MakesFinder w semantics IsMade (Ok finder) =
     (context : Context) × IsMade (Ok context)
-    × (finder ≡ record { workspace = w; context = context; rules = [] })
-MakesFinder w IsMade (Err error) = (refusal : ContextError) × IsMade (Err refusal) × TellsRefusal error refusal
+    × (finder ≡ record { workspace = w; semantics = semantics; context = context; rules = [] })
+MakesFinder w semantics IsMade (Err error) = (refusal : ContextError) × IsMade (Err refusal) × TellsRefusal error refusal

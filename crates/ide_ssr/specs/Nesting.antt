@@ -1,7 +1,7 @@
 -- How nested matches show the kept ones: the outermost ones in the order of their list, and under each placeholder those that
 -- it holds.
 use Rattle.std.specs.Prelude.{ℕ, ◌≡◌, List, [], ◌∷◌, Some, None, slice_get}
-use Rattle.ide_ssr_rules.specs.Resolving.{ResolvedKind}
+use Rattle.ide_ssr_resolving.specs.Resolved.{ResolvedKind}
 use Rattle.ide_ssr_matching.specs.declared.bindings.Binding.{Binding}
 use Rattle.ide_ssr_matching.specs.Found.{Found}
 use Rattle.ide_ssr_nesting.specs.Holding.{Kept}

@@ -5,7 +5,7 @@ use Rattle.ssr_syntax_tree.specs.Places.{node_of as code_node, text_of as node_t
 use Rattle.ssr_base.specs.declared.ids.NodeId.{NodeId}
 use Rattle.ssr_base.specs.Laws.{LiesInFile}
 use Rattle.ssr_base.specs.Workspace.{Workspace, FileSpan, trees, tree_of, file_span_of, original_range}
-use Rattle.ide_ssr_rules.specs.Resolving.{ResolvedKind}
+use Rattle.ide_ssr_resolving.specs.Resolved.{ResolvedKind}
 use Rattle.ide_ssr_matching.specs.declared.bindings.Binding.{Binding}
 use Rattle.ide_ssr_matching.specs.Found.{Found, held_node}
 use Rattle.ide_ssr.specs.declared.matches.Match.{Match}

@@ -1,13 +1,14 @@
 //! The finder: a workspace, rules, and what the search for them is made for.
 
 ghost use Rattle.std.specs.Prelude.{◌≡◌, ◌↔◌, ◌++◌, [], All, IfOk, IsTrue, OnErr};
-ghost use Rattle.ide_ssr_rules.specs.Patterns.{HasEachOnce};
-ghost use Rattle.ide_ssr_rules.specs.Resolving.{resolved_kinds};
+ghost use Rattle.ide_ssr_resolving.specs.Patterns.{HasEachOnce};
+ghost use Rattle.ide_ssr_resolving.specs.Resolved.{resolved_kinds};
 ghost use Rattle.ide_ssr_rewriting.specs.Edits.{EditsFit};
 ghost use Rattle.ide_ssr_search.specs.Making.{Makes, MakesFirst};
 ghost use Rattle.ide_ssr.specs.Adding.{Adds};
 ghost use Rattle.ide_ssr.specs.BindsOnce.{BindOnce};
 ghost use Rattle.ide_ssr.specs.Edits.{Edits, HaveTemplates};
+ghost use Rattle.ide_ssr.specs.Finder.{finder_of};
 ghost use Rattle.ide_ssr.specs.Making.{MakesFinder, TellsRefusal};
 ghost use Rattle.ide_ssr.specs.Nesting.{ShowKept};
 ghost use Rattle.ide_ssr.specs.Searching.{IsOutcome};
@@ -15,8 +16,9 @@ ghost use Rattle.ide_ssr.specs.Searching.{IsOutcome};
 use crate::matches::SsrMatches;
 use crate::nesting::nested_matches;
 use ide_ssr_nesting::{KeptMatches, Lists, keep};
+use ide_ssr_resolving::{ResolvedRule, resolve_pattern, resolve_rule};
 use ide_ssr_rewriting::{EditError, edits};
-use ide_ssr_rules::{ResolvedRule, SsrError, SsrPattern, SsrRule};
+use ide_ssr_rules::{SsrError, SsrPattern, SsrRule};
 use ide_ssr_search::{Context, ContextError, find_matches};
 use ssr_base::{FileId, FilePosition, FileRange, Semantics, TextEdit, Workspace};
 use std::alloc::{AllocError, Global};
@@ -35,15 +37,15 @@ pub struct MatchFinder<'a, S: Semantics> {
 
 impl<'a, S: Semantics> Model for MatchFinder<'a, S> {
     ghost use Rattle.std.specs.Prelude.{All};
-    ghost use Rattle.ide_ssr_rules.specs.Patterns.{HasEachOnce};
-    ghost use Rattle.ide_ssr.specs.Finder.{Finder};
+    ghost use Rattle.ide_ssr_resolving.specs.Patterns.{HasEachOnce};
+    ghost use Rattle.ide_ssr.specs.Finder.{FinderWith};
     ghost use Rattle.ide_ssr.specs.FinderCode.{finder_code};
 
-    ghost Value = { Finder };
+    ghost Value = { FinderWith S };
 
-    ghost coded = { finder_code };
+    ghost coded = { finder_code S.code };
 
-    ghost view = { λ finder. record { workspace = finder.workspace.now; context = finder.context; rules = finder.rules.items } };
+    ghost view = { λ finder. record { workspace = finder.workspace.now; semantics = finder.semantics.now; context = finder.context; rules = finder.rules.items } };
 
     ghost invariant = { λ finder. All (λ rule. HasEachOnce rule.names rule.pattern) finder.rules.items };
 }
@@ -85,7 +87,7 @@ impl<'a, S: Semantics> MatchFinder<'a, S> {
         position: FilePosition,
         restrictions: Vec<FileRange>,
     ) -> Result<MatchFinder<'a, S>, SsrError>
-        ensures { MakesFinder workspace.now (Makes workspace.now (S.meanings semantics.now) position restrictions.items) result }
+        ensures { MakesFinder workspace.now semantics.now (Makes workspace.now (S.meanings semantics.now) position restrictions.items) result }
     {
         match Context::at(alloc, workspace, semantics, position, restrictions) {
             Ok(context) => Ok(MatchFinder::with(alloc, workspace, semantics, context)),
@@ -99,7 +101,7 @@ impl<'a, S: Semantics> MatchFinder<'a, S> {
         workspace: &'a Workspace,
         semantics: &'a S,
     ) -> Result<MatchFinder<'a, S>, SsrError>
-        ensures { MakesFinder workspace.now (MakesFirst workspace.now (S.meanings semantics.now)) result }
+        ensures { MakesFinder workspace.now semantics.now (MakesFirst workspace.now (S.meanings semantics.now)) result }
     {
         match Context::at_first_file(alloc, workspace, semantics) {
             Ok(context) => Ok(MatchFinder::with(alloc, workspace, semantics, context)),
@@ -114,7 +116,7 @@ impl<'a, S: Semantics> MatchFinder<'a, S> {
         semantics: &'a S,
         context: Context,
     ) -> MatchFinder<'a, S>
-        ensures { result ≡ record { workspace = workspace.now; context = context; rules = [] } }
+        ensures { result ≡ record { workspace = workspace.now; semantics = semantics.now; context = context; rules = [] } }
     {
         MatchFinder {
             alloc,
@@ -125,22 +127,23 @@ impl<'a, S: Semantics> MatchFinder<'a, S> {
         }
     }
 
-    /// Adds all kinds of a rule, in their order. A refused rule, or one that there is no memory for, leaves the
-    /// finder as it was.
+    /// Adds all kinds of a rule, in their order, with what their paths stand for where the finder's position stands. It is
+    /// refused for the first path that has to resolve and doesn't. A refused rule, or one that there is no memory for, leaves
+    /// the finder as it was.
     pub fn add_rule(&mut self, rule: SsrRule) -> Result<(), SsrError>
-        ensures answer { Adds self.old self.new (resolved_kinds rule.names rule.kinds) result }
+        ensures answer { Adds self.old self.new (resolved_kinds (S.meanings self.old.semantics) self.old.context.scope rule.names rule.constraints rule.kinds) result }
         ensures unchanged { OnErr result (self.new ≡ self.old) }
     {
-        let kinds = rule.resolve(self.alloc)?;
+        let kinds = resolve_rule(self.alloc, self.semantics, self.context.scope(), rule)?;
         Ok(self.add_kinds(kinds)?)
     }
 
     /// Adds all kinds of a search pattern likewise. They have no template: a finder that has one has no edits.
     pub fn add_search_pattern(&mut self, pattern: SsrPattern) -> Result<(), SsrError>
-        ensures answer { Adds self.old self.new (resolved_kinds pattern.names pattern.kinds) result }
+        ensures answer { Adds self.old self.new (resolved_kinds (S.meanings self.old.semantics) self.old.context.scope pattern.names pattern.constraints pattern.kinds) result }
         ensures unchanged { OnErr result (self.new ≡ self.old) }
     {
-        let kinds = pattern.resolve(self.alloc)?;
+        let kinds = resolve_pattern(self.alloc, self.semantics, self.context.scope(), pattern)?;
         Ok(self.add_kinds(kinds)?)
     }
 
@@ -158,7 +161,7 @@ impl<'a, S: Semantics> MatchFinder<'a, S> {
     /// rule has none, whether it matches or not; else `Clash` where two matches of one list share a byte, and their ranges
     /// or what stands for them differ: the first two.
     pub fn edits(&self) -> Result<BTreeMap<FileId, TextEdit>, EditError>
-        ensures answer { Edits self.now result }
+        ensures answer { Edits (finder_of S.meanings self.now) result }
         ensures fits { IfOk result (λ edits. EditsFit self.now.workspace edits) }
     {
         if !have_templates(&self.rules) {
@@ -171,7 +174,7 @@ impl<'a, S: Semantics> MatchFinder<'a, S> {
     /// The kept matches as `edits` replaces them: the outermost ones, each with what its placeholders hold. A match has each
     /// placeholder of its rule once, and their ranges share no byte.
     pub fn matches(&self) -> Result<SsrMatches<'a>, AllocError>
-        ensures shows { IfOk result (λ found. ShowKept self.now found.matches.items) }
+        ensures shows { IfOk result (λ found. ShowKept (finder_of S.meanings self.now) found.matches.items) }
         ensures binds { IfOk result (λ found. BindOnce self.now.rules found.matches.items) }
     {
         self.scan_matches()
@@ -179,7 +182,7 @@ impl<'a, S: Semantics> MatchFinder<'a, S> {
 
     /// The same list, always found by trying every node at which a rule is permitted.
     pub fn scan_matches(&self) -> Result<SsrMatches<'a>, AllocError>
-        ensures shows { IfOk result (λ found. ShowKept self.now found.matches.items) }
+        ensures shows { IfOk result (λ found. ShowKept (finder_of S.meanings self.now) found.matches.items) }
         ensures binds { IfOk result (λ found. BindOnce self.now.rules found.matches.items) }
     {
         let (kept, lists) = self.outcome()?;
@@ -189,7 +192,7 @@ impl<'a, S: Semantics> MatchFinder<'a, S> {
 
     /// The kept ones among the matches of all rules, and their lists.
     fn outcome(&self) -> Result<(KeptMatches<'a>, Lists), AllocError>
-        ensures { IfOk result (λ outcome. IsOutcome self.now outcome.0 outcome.1) }
+        ensures { IfOk result (λ outcome. IsOutcome (finder_of S.meanings self.now) outcome.0 outcome.1) }
     {
         let found = find_matches(self.alloc, self.workspace, &self.context, &self.rules)?;
         let kept = keep(self.alloc, self.workspace, found)?;

@@ -8,9 +8,11 @@ mod made;
 mod matches;
 mod nesting;
 mod parts;
+mod shown;
 mod starts;
 
 pub use finder::MatchFinder;
+pub use ide_ssr_matching::PatternIterator;
 pub use ide_ssr_rewriting::EditError;
 pub use ide_ssr_rules::{SsrError, SsrPattern, SsrRule, Var};
 pub use matches::{Match, PlaceholderMatch, SsrMatches};

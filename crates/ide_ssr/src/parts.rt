@@ -9,7 +9,8 @@ ghost use Rattle.ide_ssr.specs.Matches.{inner_of, name_of, span_of};
 ghost use Rattle.ide_ssr.specs.Parts.{ComesFrom, placeholder_name};
 
 use crate::matches::{Match, PlaceholderMatch};
-use ide_ssr_rules::{ResolvedRule, Var};
+use ide_ssr_resolving::ResolvedRule;
+use ide_ssr_rules::Var;
 use ssr_base::{FileId, FileRange, NodeId, Workspace};
 use ssr_syntax_kinds::TextRange;
 use std::alloc::{AllocError, Global};

@@ -8,38 +8,45 @@ use Rattle.ssr_syntax_kinds.proofs.Shared.{same_kind-equal, equal-same_kind}
 use Rattle.ssr_syntax_kinds.specs.Kinds.{same_kind}
 use Rattle.ssr_syntax_tree.specs.Syntax.{Token, Forest, nothing, leaf, branch, token_count, node_count}
 use Rattle.ssr_syntax_tree.specs.Places.{Node, Part, token_part, node_part, parts_in, parts_of}
-use Rattle.ide_ssr_rules.specs.Resolving.{placeholder_at}
+use Rattle.ide_ssr_resolving.specs.Placeholders.{placeholder_at}
+use Rattle.ide_ssr_resolving.specs.Resolved.{ResolvedKind, meets}
 use Rattle.ide_ssr_matching.specs.declared.bindings.Binding.{Binding}
 use Rattle.ide_ssr_matching.specs.Matching.{is_left_out, bare, Matches, bound, alike, Pairs, end, tokens, nodes}
 use Rattle.ide_ssr_matching.specs.Bindings.{joined, bindings_of}
-use Rattle.ide_ssr_matching.proofs.Pairs.{pairs_by, bindings-placeholder, bindings-other_kind, bindings-children}
+use Rattle.ide_ssr_matching.proofs.Pairs.{pairs_by, bindings-placeholder, placeholder-met, placeholder-unmet, bindings-other_kind, bindings-children}
 
-abbrev SiblingsAgree : List (List ℕ) → List Part → Type 0
-SiblingsAgree names ps = (cs : List Part) (bs : List Binding) → pairs_by names ps cs ≡ Some bs → Pairs names ps cs bs
+abbrev SiblingsAgree : ResolvedKind → List Part → Type 0
+SiblingsAgree rule ps = (cs : List Part) (bs : List Binding) → pairs_by rule ps cs ≡ Some bs → Pairs rule ps cs bs
 
 -- a node, where its children are known to agree
-node_agrees : (names : List (List ℕ)) (p c : Node) (bs : List Binding) → SiblingsAgree names (bare (parts_of p)) → bindings_of names p c ≡ Some bs → Matches names p c bs
-node_agrees names p c bs below h = by_placeholder (placeholder_at names p) refl
+node_agrees : (rule : ResolvedKind) (p c : Node) (bs : List Binding) → SiblingsAgree rule (bare (parts_of p)) → bindings_of rule p c ≡ Some bs → Matches rule p c bs
+node_agrees rule p c bs below h = by_placeholder (placeholder_at rule.names p) refl
   where
-    by_kind : (b : Bool) → same_kind p.kind c.kind ≡ b → placeholder_at names p ≡ None → Matches names p c bs
+    by_kind : (b : Bool) → same_kind p.kind c.kind ≡ b → placeholder_at rule.names p ≡ None → Matches rule p c bs
     by_kind true same none =
-        alike p c bs none (same_kind-equal p.kind c.kind same) (below (bare (parts_of c)) bs (sym (bindings-children names p c none same) ∙ h))
-    by_kind false differs none = absurd (none-some bs (sym (bindings-other_kind names p c none differs) ∙ h))
+        alike p c bs none (same_kind-equal p.kind c.kind same) (below (bare (parts_of c)) bs (sym (bindings-children rule p c none same) ∙ h))
+    by_kind false differs none = absurd (none-some bs (sym (bindings-other_kind rule p c none differs) ∙ h))
 
-    by_placeholder : (o : Option ℕ) → placeholder_at names p ≡ o → Matches names p c bs
-    by_placeholder (Some i) is =
-        subst (Matches names p c) (same_Some (record { placeholder = i; node = record { 0 = c.number } } ∷ []) bs (sym (bindings-placeholder names p c i is) ∙ h)) (bound p c i is)
+    by_constraints : (i : ℕ) (b : Bool) → meets rule i c.kind ≡ b → placeholder_at rule.names p ≡ Some i → Matches rule p c bs
+    by_constraints i true met is =
+        let binds = bindings-placeholder rule p c i is ∙ placeholder-met rule i c met in
+        subst (Matches rule p c) (same_Some (record { placeholder = i; node = record { 0 = c.number } } ∷ []) bs (sym binds ∙ h)) (bound p c i is met)
+    by_constraints i false unmet is =
+        absurd (none-some bs (sym (bindings-placeholder rule p c i is ∙ placeholder-unmet rule i c unmet) ∙ h))
+
+    by_placeholder : (o : Option ℕ) → placeholder_at rule.names p ≡ o → Matches rule p c bs
+    by_placeholder (Some i) is = by_constraints i (meets rule i c.kind) refl is
     by_placeholder None is = by_kind (same_kind p.kind c.kind) refl is
 
 -- a token of the pattern before siblings that agree
-token_agrees : (names : List (List ℕ)) (t : ℕ) (p : Token) (ps : List Part) → SiblingsAgree names ps → SiblingsAgree names (token_part t p ∷ ps)
-token_agrees names t p ps behind [] bs h = absurd (none-some bs h)
-token_agrees names t p ps behind (node_part c ∷ cs) bs h = absurd (none-some bs h)
-token_agrees names t p ps behind (token_part u c ∷ cs) bs h =
-    by_test (same_kind p.kind c.kind && bytes_eq p.text c.text) refl (pairs_by names ps cs) refl h
+token_agrees : (rule : ResolvedKind) (t : ℕ) (p : Token) (ps : List Part) → SiblingsAgree rule ps → SiblingsAgree rule (token_part t p ∷ ps)
+token_agrees rule t p ps behind [] bs h = absurd (none-some bs h)
+token_agrees rule t p ps behind (node_part c ∷ cs) bs h = absurd (none-some bs h)
+token_agrees rule t p ps behind (token_part u c ∷ cs) bs h =
+    by_test (same_kind p.kind c.kind && bytes_eq p.text c.text) refl (pairs_by rule ps cs) refl h
   where
-    by_test : (b : Bool) → (same_kind p.kind c.kind && bytes_eq p.text c.text) ≡ b → (o : Option (List Binding)) → pairs_by names ps cs ≡ o
-        → joined (cond b (Some []) None) o ≡ Some bs → Pairs names (token_part t p ∷ ps) (token_part u c ∷ cs) bs
+    by_test : (b : Bool) → (same_kind p.kind c.kind && bytes_eq p.text c.text) ≡ b → (o : Option (List Binding)) → pairs_by rule ps cs ≡ o
+        → joined (cond b (Some []) None) o ≡ Some bs → Pairs rule (token_part t p ∷ ps) (token_part u c ∷ cs) bs
     by_test true same None is g = absurd (none-some bs g)
     by_test true same (Some rest) is g =
         let e = and_parts (same_kind p.kind c.kind) (bytes_eq p.text c.text) same in
@@ -47,64 +54,64 @@ token_agrees names t p ps behind (token_part u c ∷ cs) bs h =
     by_test false same o is g = absurd (none-some bs g)
 
 -- likewise a node of the pattern
-node_before_agrees : (names : List (List ℕ)) (p : Node) (ps : List Part) → SiblingsAgree names (bare (parts_of p)) → SiblingsAgree names ps → SiblingsAgree names (node_part p ∷ ps)
-node_before_agrees names p ps below behind [] bs h = absurd (none-some bs h)
-node_before_agrees names p ps below behind (token_part u c ∷ cs) bs h = absurd (none-some bs h)
-node_before_agrees names p ps below behind (node_part c ∷ cs) bs h =
-    by_both (bindings_of names p c) refl (pairs_by names ps cs) refl h
+node_before_agrees : (rule : ResolvedKind) (p : Node) (ps : List Part) → SiblingsAgree rule (bare (parts_of p)) → SiblingsAgree rule ps → SiblingsAgree rule (node_part p ∷ ps)
+node_before_agrees rule p ps below behind [] bs h = absurd (none-some bs h)
+node_before_agrees rule p ps below behind (token_part u c ∷ cs) bs h = absurd (none-some bs h)
+node_before_agrees rule p ps below behind (node_part c ∷ cs) bs h =
+    by_both (bindings_of rule p c) refl (pairs_by rule ps cs) refl h
   where
-    by_both : (o : Option (List Binding)) → bindings_of names p c ≡ o → (r : Option (List Binding)) → pairs_by names ps cs ≡ r
-        → joined o r ≡ Some bs → Pairs names (node_part p ∷ ps) (node_part c ∷ cs) bs
+    by_both : (o : Option (List Binding)) → bindings_of rule p c ≡ o → (r : Option (List Binding)) → pairs_by rule ps cs ≡ r
+        → joined o r ≡ Some bs → Pairs rule (node_part p ∷ ps) (node_part c ∷ cs) bs
     by_both None is r are g = absurd (none-some bs g)
     by_both (Some found) is None are g = absurd (none-some bs g)
     by_both (Some found) is (Some rest) are g =
-        subst (Pairs names (node_part p ∷ ps) (node_part c ∷ cs)) (same_Some (found ++ rest) bs g)
-        (nodes p c ps cs found rest (node_agrees names p c found below is) (behind cs rest are))
+        subst (Pairs rule (node_part p ∷ ps) (node_part c ∷ cs)) (same_Some (found ++ rest) bs g)
+        (nodes p c ps cs found rest (node_agrees rule p c found below is) (behind cs rest are))
 
-end_agrees : (names : List (List ℕ)) → SiblingsAgree names []
-end_agrees names [] bs h = subst (Pairs names [] []) (same_Some [] bs h) end
-end_agrees names (c ∷ cs) bs h = absurd (none-some bs h)
+end_agrees : (rule : ResolvedKind) → SiblingsAgree rule []
+end_agrees rule [] bs h = subst (Pairs rule [] []) (same_Some [] bs h) end
+end_agrees rule (c ∷ cs) bs h = absurd (none-some bs h)
 
-left_or_kept : (names : List (List ℕ)) (b : Bool) (ps qs : List Part) → SiblingsAgree names ps → SiblingsAgree names qs → SiblingsAgree names (cond b ps qs)
-left_or_kept names true ps qs f g = f
-left_or_kept names false ps qs f g = g
+left_or_kept : (rule : ResolvedKind) (b : Bool) (ps qs : List Part) → SiblingsAgree rule ps → SiblingsAgree rule qs → SiblingsAgree rule (cond b ps qs)
+left_or_kept rule true ps qs f g = f
+left_or_kept rule false ps qs f g = g
 
-siblings_agree : (names : List (List ℕ)) (parent m t : ℕ) (forest : Forest) → SiblingsAgree names (bare (parts_in parent m t forest))
-siblings_agree names parent m t nothing = end_agrees names
-siblings_agree names parent m t (leaf token next) =
-    let behind = siblings_agree names parent m (1 + t) next in
-    left_or_kept names (is_left_out token.kind (parts_in parent m (1 + t) next))
+siblings_agree : (rule : ResolvedKind) (parent m t : ℕ) (forest : Forest) → SiblingsAgree rule (bare (parts_in parent m t forest))
+siblings_agree rule parent m t nothing = end_agrees rule
+siblings_agree rule parent m t (leaf token next) =
+    let behind = siblings_agree rule parent m (1 + t) next in
+    left_or_kept rule (is_left_out token.kind (parts_in parent m (1 + t) next))
     (bare (parts_in parent m (1 + t) next))
     (token_part t token ∷ bare (parts_in parent m (1 + t) next))
     behind
-    (token_agrees names t token (bare (parts_in parent m (1 + t) next)) behind)
-siblings_agree names parent m t (branch kind below next) =
-    node_before_agrees names (record { number = m; parent = parent; first = t; kind = kind; children = below })
+    (token_agrees rule t token (bare (parts_in parent m (1 + t) next)) behind)
+siblings_agree rule parent m t (branch kind below next) =
+    node_before_agrees rule (record { number = m; parent = parent; first = t; kind = kind; children = below })
     (bare (parts_in parent (1 + m + node_count below) (t + token_count below) next))
-    (siblings_agree names m (1 + m) t below)
-    (siblings_agree names parent (1 + m + node_count below) (t + token_count below) next)
+    (siblings_agree rule m (1 + m) t below)
+    (siblings_agree rule parent (1 + m + node_count below) (t + token_count below) next)
 
-pub bindings_of-Matches : (names : List (List ℕ)) (p c : Node) (bs : List Binding) → bindings_of names p c ≡ Some bs → Matches names p c bs
-bindings_of-Matches names p c bs h = node_agrees names p c bs (siblings_agree names p.number (1 + p.number) p.first p.children) h
+pub bindings_of-Matches : (rule : ResolvedKind) (p c : Node) (bs : List Binding) → bindings_of rule p c ≡ Some bs → Matches rule p c bs
+bindings_of-Matches rule p c bs h = node_agrees rule p c bs (siblings_agree rule p.number (1 + p.number) p.first p.children) h
 
-same_tokens : (names : List (List ℕ)) (t u : ℕ) (p c : Token) (ps cs : List Part) (bs : List Binding) → p.kind ≡ c.kind → p.text ≡ c.text
-    → pairs_by names ps cs ≡ Some bs → pairs_by names (token_part t p ∷ ps) (token_part u c ∷ cs) ≡ Some bs
-same_tokens names t u p c ps cs bs kinds texts behind =
-    ap (λ b. joined (cond b (Some []) None) (pairs_by names ps cs))
+same_tokens : (rule : ResolvedKind) (t u : ℕ) (p c : Token) (ps cs : List Part) (bs : List Binding) → p.kind ≡ c.kind → p.text ≡ c.text
+    → pairs_by rule ps cs ≡ Some bs → pairs_by rule (token_part t p ∷ ps) (token_part u c ∷ cs) ≡ Some bs
+same_tokens rule t u p c ps cs bs kinds texts behind =
+    ap (λ b. joined (cond b (Some []) None) (pairs_by rule ps cs))
     (and_from (same_kind p.kind c.kind) (bytes_eq p.text c.text) (equal-same_kind p.kind c.kind kinds) ((bytes_eq-Decides p.text c.text).1 texts))
     ∙ ap (joined (Some [])) behind
 
 mutual
-  pub Matches-bindings_of : (names : List (List ℕ)) (p c : Node) (bs : List Binding) → Matches names p c bs → bindings_of names p c ≡ Some bs
-  Matches-bindings_of names _ _ _ (bound p c i is) = bindings-placeholder names p c i is
-  Matches-bindings_of names _ _ _ (alike p c bs none kinds children) =
-      bindings-children names p c none (equal-same_kind p.kind c.kind kinds)
-      ∙ Pairs-pairs_by names (bare (parts_of p)) (bare (parts_of c)) bs children
+  pub Matches-bindings_of : (rule : ResolvedKind) (p c : Node) (bs : List Binding) → Matches rule p c bs → bindings_of rule p c ≡ Some bs
+  Matches-bindings_of rule _ _ _ (bound p c i is met) = bindings-placeholder rule p c i is ∙ placeholder-met rule i c met
+  Matches-bindings_of rule _ _ _ (alike p c bs none kinds children) =
+      bindings-children rule p c none (equal-same_kind p.kind c.kind kinds)
+      ∙ Pairs-pairs_by rule (bare (parts_of p)) (bare (parts_of c)) bs children
 
-  Pairs-pairs_by : (names : List (List ℕ)) (ps cs : List Part) (bs : List Binding) → Pairs names ps cs bs → pairs_by names ps cs ≡ Some bs
-  Pairs-pairs_by names _ _ _ end = refl
-  Pairs-pairs_by names _ _ _ (tokens t u p c ps cs bs kinds texts behind) =
-      same_tokens names t u p c ps cs bs kinds texts (Pairs-pairs_by names ps cs bs behind)
-  Pairs-pairs_by names _ _ _ (nodes p c ps cs found rest here behind) =
-      ap (λ o. joined o (pairs_by names ps cs)) (Matches-bindings_of names p c found here)
-      ∙ ap (joined (Some found)) (Pairs-pairs_by names ps cs rest behind)
+  Pairs-pairs_by : (rule : ResolvedKind) (ps cs : List Part) (bs : List Binding) → Pairs rule ps cs bs → pairs_by rule ps cs ≡ Some bs
+  Pairs-pairs_by rule _ _ _ end = refl
+  Pairs-pairs_by rule _ _ _ (tokens t u p c ps cs bs kinds texts behind) =
+      same_tokens rule t u p c ps cs bs kinds texts (Pairs-pairs_by rule ps cs bs behind)
+  Pairs-pairs_by rule _ _ _ (nodes p c ps cs found rest here behind) =
+      ap (λ o. joined o (pairs_by rule ps cs)) (Matches-bindings_of rule p c found here)
+      ∙ ap (joined (Some found)) (Pairs-pairs_by rule ps cs rest behind)

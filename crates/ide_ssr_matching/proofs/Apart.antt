@@ -9,8 +9,9 @@ use Rattle.ssr_syntax_kinds.specs.Kinds.{same_kind}
 use Rattle.ssr_syntax_tree.specs.Syntax.{Token, Forest, nothing, leaf, branch, Syntax, token_count, node_count}
 use Rattle.ssr_syntax_tree.specs.Places.{HasNode, Node, Part, token_part, node_part, node_of, parts_in, parts_of, root_of, start_of, end_of}
 use Rattle.ssr_syntax_tree.proofs.Shared.{IsOf, Spans, spans_children, start_before_end}
-use Rattle.ide_ssr_rules.specs.Patterns.{or_below, placeholders_in, placeholders_of}
-use Rattle.ide_ssr_rules.specs.Resolving.{placeholder_at}
+use Rattle.ide_ssr_resolving.specs.Patterns.{or_below, placeholders_in, placeholders_of}
+use Rattle.ide_ssr_resolving.specs.Placeholders.{placeholder_at}
+use Rattle.ide_ssr_resolving.specs.Resolved.{ResolvedKind, meets}
 use Rattle.ide_ssr_matching.specs.declared.bindings.Binding.{Binding}
 use Rattle.ide_ssr_matching.specs.Matching.{is_left_out, bare}
 use Rattle.ide_ssr_matching.specs.Bindings.{joined, token_then, node_then, nothing_then, node_by, siblings_by, bindings_of}
@@ -103,52 +104,53 @@ node-binds code ps qs matched behind m h from to (node_part c ∷ cs) s =
     (λ bs e. let one = m c s.0 bs e in (holds_from code from (start_of code c) (end_of code c) bs s.1 one.0, one.1))
     (h (end_of code c) to cs s.2)
 
-by-binds : (code : Syntax) (o : Option ℕ) (ps : List ℕ) (kind : SyntaxKind) (children : List Part → Option (List Binding)) → Binds code ps children
-    → BindsIn code (or_below o ps) (node_by o kind children)
-by-binds code (Some i) ps kind children h c is =
-    bound-some code (start_of code c) (end_of code c) (i ∷ []) (record { placeholder = i; node = record { 0 = c.number } } ∷ [])
+by-binds : (code : Syntax) (rule : ResolvedKind) (o : Option ℕ) (ps : List ℕ) (kind : SyntaxKind) (children : List Part → Option (List Binding)) → Binds code ps children
+    → BindsIn code (or_below o ps) (node_by rule o kind children)
+by-binds code rule (Some i) ps kind children h c is =
+    bound-if code (start_of code c) (end_of code c) (i ∷ []) (meets rule i c.kind) (Some (record { placeholder = i; node = record { 0 = c.number } } ∷ []))
+    (bound-some code (start_of code c) (end_of code c) (i ∷ []) (record { placeholder = i; node = record { 0 = c.number } } ∷ [])
     (let here : (start_of code c ≤ start_of code (node_of code c.number)) × (end_of code (node_of code c.number) ≤ end_of code c) =
     subst (λ (node : Node). (start_of code c ≤ start_of code node) × (end_of code node ≤ end_of code c)) (sym is.1) (omega arith, omega arith) in
     (is.0, here.0, here.1))
-    refl
-by-binds code None ps kind children h c is =
+    refl)
+by-binds code rule None ps kind children h c is =
     bound-if code (start_of code c) (end_of code c) ps (same_kind kind c.kind) (children (bare (parts_of c)))
     (h (start_of code c) (end_of code c) (bare (parts_of c)) (spans_bare code (start_of code c) (end_of code c) (parts_of c) (spans_children code c is)))
 
-siblings-bind : (code : Syntax) (names : List (List ℕ)) (parent m t : ℕ) (forest : Forest)
-    → Binds code (placeholders_in names forest) (siblings_by names parent m t forest)
+siblings-bind : (code : Syntax) (rule : ResolvedKind) (parent m t : ℕ) (forest : Forest)
+    → Binds code (placeholders_in rule.names forest) (siblings_by rule parent m t forest)
 unfolding placeholder_at
-siblings-bind code names parent m t nothing from to cs s = nothing-binds code from to cs s
-siblings-bind code names parent m t (leaf token next) from to cs s =
+siblings-bind code rule parent m t nothing from to cs s = nothing-binds code from to cs s
+siblings-bind code rule parent m t (leaf token next) from to cs s =
     either (is_left_out token.kind (parts_in parent m (1 + t) next))
-    (siblings-bind code names parent m (1 + t) next from to cs s)
-    (token-binds code token (placeholders_in names next) (siblings_by names parent m (1 + t) next) (siblings-bind code names parent m (1 + t) next) from to cs s)
+    (siblings-bind code rule parent m (1 + t) next from to cs s)
+    (token-binds code token (placeholders_in rule.names next) (siblings_by rule parent m (1 + t) next) (siblings-bind code rule parent m (1 + t) next) from to cs s)
   where
-    either : (b : Bool) {x y : Option (List Binding)} → Bound code from to (placeholders_in names next) x
-        → Bound code from to (placeholders_in names next) y → Bound code from to (placeholders_in names next) (if b then x else y)
+    either : (b : Bool) {x y : Option (List Binding)} → Bound code from to (placeholders_in rule.names next) x
+        → Bound code from to (placeholders_in rule.names next) y → Bound code from to (placeholders_in rule.names next) (if b then x else y)
     either true g h = g
     either false g h = h
-siblings-bind code names parent m t (branch kind below next) from to cs s =
+siblings-bind code rule parent m t (branch kind below next) from to cs s =
     let node : Node = record { number = m; parent = parent; first = t; kind = kind; children = below } in
-    let inside = placeholders_in names below in
-    node-binds code (or_below (placeholder_at names node) inside) (placeholders_in names next)
-    (node_by (placeholder_at names node) kind (siblings_by names m (1 + m) t below))
-    (siblings_by names parent (1 + m + node_count below) (t + token_count below) next)
-    (by-binds code (placeholder_at names node) inside kind (siblings_by names m (1 + m) t below) (siblings-bind code names m (1 + m) t below))
-    (siblings-bind code names parent (1 + m + node_count below) (t + token_count below) next)
+    let inside = placeholders_in rule.names below in
+    node-binds code (or_below (placeholder_at rule.names node) inside) (placeholders_in rule.names next)
+    (node_by rule (placeholder_at rule.names node) kind (siblings_by rule m (1 + m) t below))
+    (siblings_by rule parent (1 + m + node_count below) (t + token_count below) next)
+    (by-binds code rule (placeholder_at rule.names node) inside kind (siblings_by rule m (1 + m) t below) (siblings-bind code rule m (1 + m) t below))
+    (siblings-bind code rule parent (1 + m + node_count below) (t + token_count below) next)
     from to cs s
 
 -- what a match binds lies in its node, and it binds the placeholders of the pattern
-pub bindings_hold : (code : Syntax) (names : List (List ℕ)) (pattern : Syntax) (c : Node) → IsOf code c → (bs : List Binding)
-    → bindings_of names (root_of pattern) c ≡ Some bs
-    → HoldNodes code (start_of code c) (end_of code c) bs × (placeholders_bound bs ≡ placeholders_of names pattern)
+pub bindings_hold : (code : Syntax) (rule : ResolvedKind) (c : Node) → IsOf code c → (bs : List Binding)
+    → bindings_of rule (root_of rule.pattern) c ≡ Some bs
+    → HoldNodes code (start_of code c) (end_of code c) bs × (placeholders_bound bs ≡ placeholders_of rule.names rule.pattern)
 unfolding bindings_of placeholder_at
-bindings_hold code names pattern c is bs e =
-    let p = root_of pattern in
-    let inside = placeholders_in names pattern.children in
-    let hold = by-binds code (placeholder_at names p) inside p.kind (siblings_by names p.number (1 + p.number) p.first p.children)
-    (siblings-bind code names p.number (1 + p.number) p.first p.children) c is bs e in
-    (hold.0, hold.1 ∙ sym (append-nil (or_below (placeholder_at names p) inside)))
+bindings_hold code rule c is bs e =
+    let p = root_of rule.pattern in
+    let inside = placeholders_in rule.names rule.pattern.children in
+    let hold = by-binds code rule (placeholder_at rule.names p) inside p.kind (siblings_by rule p.number (1 + p.number) p.first p.children)
+    (siblings-bind code rule p.number (1 + p.number) p.first p.children) c is bs e in
+    (hold.0, hold.1 ∙ sym (append-nil (or_below (placeholder_at rule.names p) inside)))
 
 pub all_bound : (code : Syntax) (from to : ℕ) (bs : List Binding) → HoldNodes code from to bs → All (λ b. HasNode code b.node.0) bs
 all_bound code from to [] h = All-nil (λ b. HasNode code b.node.0)

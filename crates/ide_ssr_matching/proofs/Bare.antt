@@ -13,7 +13,8 @@ use Rattle.ssr_syntax_tree.specs.Places.{HasNode, HasElement, Part, token_part, 
 use Rattle.ssr_syntax_tree.proofs.Shared.{IsChild, children_known}
 use Rattle.ide_ssr_matching.specs.declared.children.Siblings.{Siblings}
 use Rattle.ide_ssr_matching.specs.Matching.{closes, is_closing, leaves_out, bare}
-use Rattle.ide_ssr_matching.specs.Private.Children.{has_kind, is_trivia_part, closes_part, solid, siblings_left, IsBelow, AreKept}
+use Rattle.ide_ssr_matching.specs.PatternIterator.{is_trivia_part}
+use Rattle.ide_ssr_matching.specs.Private.Children.{has_kind, closes_part, solid, siblings_left, IsBelow, AreKept}
 
 -- what trivia are left out of
 or_true : (a b : Bool) → a ≡ true → (a || b) ≡ true

@@ -5,6 +5,7 @@ use Rattle.std.proofs.lemmas.List.Elements.{All-nil, All-cons, All-head, All-tai
 use Rattle.ssr_syntax_tree.specs.Syntax.{Forest, nothing, leaf, branch, Syntax, token_count, node_count}
 use Rattle.ssr_syntax_tree.specs.Places.{HasNode, Node, Part, token_part, node_part, node_of, parts_in, parts_of, root_of, size_of, start_of, end_of}
 use Rattle.ssr_syntax_tree.proofs.Shared.{node_of-number}
+use Rattle.ide_ssr_resolving.specs.Resolved.{ResolvedKind}
 use Rattle.ide_ssr_matching.specs.declared.bindings.Binding.{Binding}
 use Rattle.ide_ssr_matching.specs.Matching.{leaves_out, bare, Matches, bound, alike, Pairs, end, tokens, nodes}
 use Rattle.ide_ssr_matching.specs.Apart.{IsHeldIn, ComesBefore}
@@ -37,36 +38,36 @@ bare_all P (part ∷ rest) all = kept (leaves_out part rest) (bare_all P rest (A
     kept false behind = All-cons P part (bare rest) (All-head P part rest all) behind
 
 mutual
-  held_among : (names : List (List ℕ)) (low high : ℕ) (p c : Node) (bs : List Binding) → Matches names p c bs → low ≤ c.number → c.number + size_of c ≤ high
+  held_among : (rule : ResolvedKind) (low high : ℕ) (p c : Node) (bs : List Binding) → Matches rule p c bs → low ≤ c.number → c.number + size_of c ≤ high
       → All (HoldsAmong low high) bs
-  held_among names low high _ _ _ (bound p c i is) from to =
+  held_among rule low high _ _ _ (bound p c i is met) from to =
       All-cons (HoldsAmong low high) (record { placeholder = i; node = record { 0 = c.number } }) [] (from, omega arith) (All-nil (HoldsAmong low high))
-  held_among names low high _ _ _ (alike p c bs none kinds children) from to =
-      pairs_among names low high (bare (parts_of p)) (bare (parts_of c)) bs children
+  held_among rule low high _ _ _ (alike p c bs none kinds children) from to =
+      pairs_among rule low high (bare (parts_of p)) (bare (parts_of c)) bs children
       (bare_all (StandsAmong low high) (parts_of c) (parts_among low high c.number (1 + c.number) c.first c.children (omega arith) (omega arith)))
 
-  pairs_among : (names : List (List ℕ)) (low high : ℕ) (ps cs : List Part) (bs : List Binding) → Pairs names ps cs bs → All (StandsAmong low high) cs
+  pairs_among : (rule : ResolvedKind) (low high : ℕ) (ps cs : List Part) (bs : List Binding) → Pairs rule ps cs bs → All (StandsAmong low high) cs
       → All (HoldsAmong low high) bs
-  pairs_among names low high _ _ _ end all = All-nil (HoldsAmong low high)
-  pairs_among names low high _ _ _ (tokens t u p c ps cs bs kinds texts behind) all =
-      pairs_among names low high ps cs bs behind (All-tail (StandsAmong low high) (token_part u c) cs all)
-  pairs_among names low high _ _ _ (nodes p c ps cs found rest here behind) all =
+  pairs_among rule low high _ _ _ end all = All-nil (HoldsAmong low high)
+  pairs_among rule low high _ _ _ (tokens t u p c ps cs bs kinds texts behind) all =
+      pairs_among rule low high ps cs bs behind (All-tail (StandsAmong low high) (token_part u c) cs all)
+  pairs_among rule low high _ _ _ (nodes p c ps cs found rest here behind) all =
       let range = All-head (StandsAmong low high) (node_part c) cs all in
       All-append (HoldsAmong low high) found rest
-      (held_among names low high p c found here range.0 range.1)
-      (pairs_among names low high ps cs rest behind (All-tail (StandsAmong low high) (node_part c) cs all))
+      (held_among rule low high p c found here range.0 range.1)
+      (pairs_among rule low high ps cs rest behind (All-tail (StandsAmong low high) (node_part c) cs all))
 
-pub held_in : (names : List (List ℕ)) (p c : Node) (bs : List Binding) → Matches names p c bs → All (IsHeldIn c) bs
-held_in names p c bs matches =
+pub held_in : (rule : ResolvedKind) (p c : Node) (bs : List Binding) → Matches rule p c bs → All (IsHeldIn c) bs
+held_in rule p c bs matches =
     All-weaker (HoldsAmong c.number (c.number + size_of c)) (IsHeldIn c)
     (λ b range. elim (cases_eq b.node.0 c.number) [ inl same ↦ inl same | inr other ↦ inr (omega (arith, range.0), range.1) ])
-    bs (held_among names c.number (c.number + size_of c) p c bs matches (omega arith) (omega arith))
+    bs (held_among rule c.number (c.number + size_of c) p c bs matches (omega arith) (omega arith))
 
 -- in the text, one comes behind another
-pub held_apart : (names : List (List ℕ)) (pattern code : Syntax) (n : ℕ) (bs : List Binding) → HasNode code n → Matches names (root_of pattern) (node_of code n) bs
+pub held_apart : (rule : ResolvedKind) (code : Syntax) (n : ℕ) (bs : List Binding) → HasNode code n → Matches rule (root_of rule.pattern) (node_of code n) bs
     → AllPairs (ComesBefore code) bs
-held_apart names pattern code n bs has matches =
+held_apart rule code n bs has matches =
     let c = node_of code n in
     let number = node_of-number code n has in
-    let hold = bindings_hold code names pattern c (subst (HasNode code) (sym number) has, ap (node_of code) number) bs (Matches-bindings_of names (root_of pattern) c bs matches) in
+    let hold = bindings_hold code rule c (subst (HasNode code) (sym number) has, ap (node_of code) number) bs (Matches-bindings_of rule (root_of rule.pattern) c bs matches) in
     all_apart code (start_of code c) (end_of code c) bs hold.0

@@ -1,4 +1,5 @@
 pub mod Shared
+mod Solid
 mod Bare
 mod Pairs
 mod Agreement

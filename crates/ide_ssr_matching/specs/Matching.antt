@@ -6,7 +6,8 @@ use Rattle.ssr_syntax_kinds.specs.declared.kinds.SyntaxKind.TheVariants as k
 use Rattle.ssr_syntax_kinds.specs.Kinds.{same_kind, is_trivia}
 use Rattle.ssr_syntax_tree.specs.Syntax.{Token}
 use Rattle.ssr_syntax_tree.specs.Places.{Node, Part, token_part, node_part, parts_of}
-use Rattle.ide_ssr_rules.specs.Resolving.{placeholder_at}
+use Rattle.ide_ssr_resolving.specs.Placeholders.{placeholder_at}
+use Rattle.ide_ssr_resolving.specs.Resolved.{ResolvedKind, meets}
 use Rattle.ide_ssr_matching.specs.declared.bindings.Binding.{Binding}
 
 -- the brackets directly before which a comma may stand or not
@@ -35,18 +36,18 @@ abbrev pub bare : List Part → List Part
 bare [] = []
 bare (part ∷ rest) = if leaves_out part rest then bare rest else part ∷ bare rest
 
--- A placeholder of the pattern matches any node, and binds it. Any other node of the pattern matches the
--- nodes of its kind whose bare children pair with its own, one by one. `names` are the placeholders' names.
+-- A placeholder of the pattern matches each node that meets its constraints, and binds it. Any other node of
+-- the pattern matches the nodes of its kind whose bare children pair with its own, one by one.
 mutual
-  pub data Matches (names : List (List ℕ)) : Node → Node → List Binding → Type 0 where
-    bound : (p c : Node) (i : ℕ) → placeholder_at names p ≡ Some i
-        → Matches names p c (record { placeholder = i; node = record { 0 = c.number } } ∷ [])
-    alike : (p c : Node) (bs : List Binding) → placeholder_at names p ≡ None → p.kind ≡ c.kind
-        → Pairs names (bare (parts_of p)) (bare (parts_of c)) bs → Matches names p c bs
+  pub data Matches (rule : ResolvedKind) : Node → Node → List Binding → Type 0 where
+    bound : (p c : Node) (i : ℕ) → placeholder_at rule.names p ≡ Some i → meets rule i c.kind ≡ true
+        → Matches rule p c (record { placeholder = i; node = record { 0 = c.number } } ∷ [])
+    alike : (p c : Node) (bs : List Binding) → placeholder_at rule.names p ≡ None → p.kind ≡ c.kind
+        → Pairs rule (bare (parts_of p)) (bare (parts_of c)) bs → Matches rule p c bs
 
-  pub data Pairs (names : List (List ℕ)) : List Part → List Part → List Binding → Type 0 where
-    end : Pairs names [] [] []
+  pub data Pairs (rule : ResolvedKind) : List Part → List Part → List Binding → Type 0 where
+    end : Pairs rule [] [] []
     tokens : (t u : ℕ) (p c : Token) (ps cs : List Part) (bs : List Binding) → p.kind ≡ c.kind → p.text ≡ c.text
-        → Pairs names ps cs bs → Pairs names (token_part t p ∷ ps) (token_part u c ∷ cs) bs
-    nodes : (p c : Node) (ps cs : List Part) (bs rest : List Binding) → Matches names p c bs
-        → Pairs names ps cs rest → Pairs names (node_part p ∷ ps) (node_part c ∷ cs) (bs ++ rest)
+        → Pairs rule ps cs bs → Pairs rule (token_part t p ∷ ps) (token_part u c ∷ cs) bs
+    nodes : (p c : Node) (ps cs : List Part) (bs rest : List Binding) → Matches rule p c bs
+        → Pairs rule ps cs rest → Pairs rule (node_part p ∷ ps) (node_part c ∷ cs) (bs ++ rest)

@@ -3,7 +3,8 @@
 ghost use Rattle.std.specs.Prelude.{◌≡◌, ◌∷◌, ◌++◌, [], true, false, All, IfNone, None, map, option_to_list};
 ghost use Rattle.ssr_syntax_tree.specs.Places.{HasNode, HasElement, node_of, part_of, elements_of};
 ghost use Rattle.ide_ssr_matching.specs.Matching.{is_closing, bare};
-ghost use Rattle.ide_ssr_matching.specs.Private.Children.{has_kind, closes_part, is_trivia_part, solid, siblings_left, AreKept};
+ghost use Rattle.ide_ssr_matching.specs.PatternIterator.{is_trivia_part};
+ghost use Rattle.ide_ssr_matching.specs.Private.Children.{has_kind, closes_part, solid, siblings_left, AreKept};
 
 use ssr_syntax_kinds::SyntaxKind;
 use ssr_syntax_tree::{Children, Element, NodeNo, Tree};
@@ -28,7 +29,7 @@ fn is_closing(kind: SyntaxKind) -> bool
 }
 
 /// Whether a child is trivia.
-fn is_trivia(tree: &Tree, child: Element) -> bool
+pub(crate) fn is_trivia(tree: &Tree, child: Element) -> bool
     requires { HasElement tree.now child }
     ensures { result ≡ is_trivia_part (part_of tree.now child) }
 {

@@ -6,7 +6,9 @@ mod children;
 mod found;
 pub mod laws;
 mod matching;
+mod pattern_iterator;
 
 pub use bindings::Binding;
 pub use found::Found;
 pub use matching::match_node;
+pub use pattern_iterator::PatternIterator;

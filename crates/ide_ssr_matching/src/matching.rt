@@ -3,14 +3,35 @@
 ghost use Rattle.std.specs.Prelude.{◌≡◌, IfOk, option_map};
 ghost use Rattle.ssr_syntax_tree.specs.Places.{HasNode, HasToken, HasElement, node_of, root_of, token_of, part_of};
 ghost use Rattle.ssr_syntax_tree.specs.Syntax.{same_token};
-ghost use Rattle.ide_ssr_matching.specs.Bindings.{bindings_of};
+ghost use Rattle.ide_ssr_matching.specs.Bindings.{placeholder_by, bindings_of};
 ghost use Rattle.ide_ssr_matching.specs.Private.Matching.{pair_by, Answers};
 
 use crate::bindings::Binding;
 use crate::children::Siblings;
-use ide_ssr_rules::ResolvedRule;
+use ide_ssr_resolving::ResolvedRule;
 use ssr_syntax_tree::{Element, NodeNo, TokenNo, Tree};
 use std::alloc::{AllocError, Global};
+
+/// Whether a placeholder of the rule matches the node `c` of the code; if so, `out` gets that it binds it.
+fn placeholder_matches(
+    rule: &ResolvedRule,
+    code: &Tree,
+    placeholder: u32,
+    c: NodeNo,
+    out: &mut Vec<Binding>,
+) -> Result<bool, AllocError>
+    requires { HasNode code.now c.0 }
+    ensures { IfOk result (λ answer. Answers (placeholder_by rule.now placeholder (node_of code.now c.0)) out.old.items out.new.items answer) }
+{
+    if !rule.meets(placeholder, code.kind(c)) {
+        return Ok(false);
+    }
+    out.push(Binding {
+        placeholder,
+        node: c,
+    })?;
+    Ok(true)
+}
 
 /// Whether the node `c` of the code matches the node `p` of the rule's pattern; if so, `out` gets what the
 /// placeholders bind.
@@ -25,14 +46,10 @@ fn node_matches(
 ) -> Result<bool, AllocError>
     requires p_in { HasNode rule.now.pattern p.0 }
     requires c_in { HasNode code.now c.0 }
-    ensures { IfOk result (λ answer. Answers (bindings_of rule.now.names (node_of rule.now.pattern p.0) (node_of code.now c.0)) out.old.items out.new.items answer) }
+    ensures { IfOk result (λ answer. Answers (bindings_of rule.now (node_of rule.now.pattern p.0) (node_of code.now c.0)) out.old.items out.new.items answer) }
 {
     if let Some(placeholder) = rule.placeholder(p) {
-        out.push(Binding {
-            placeholder,
-            node: c,
-        })?;
-        return Ok(true);
+        return placeholder_matches(rule, code, placeholder, c, out);
     }
     let pattern = rule.pattern();
     if !pattern.kind(p).is(code.kind(c)) {
@@ -63,7 +80,7 @@ fn pair_matches(
 ) -> Result<bool, AllocError>
     requires p_in { HasElement rule.now.pattern p }
     requires c_in { HasElement code.now c }
-    ensures { IfOk result (λ answer. Answers (pair_by rule.now.names (part_of rule.now.pattern p) (part_of code.now c)) out.old.items out.new.items answer) }
+    ensures { IfOk result (λ answer. Answers (pair_by rule.now (part_of rule.now.pattern p) (part_of code.now c)) out.old.items out.new.items answer) }
 {
     match (p, c) {
         (Element::Node(p), Element::Node(c)) => node_matches(alloc, rule, code, p, c, out),
@@ -89,7 +106,7 @@ pub fn match_node(
     node: NodeNo,
 ) -> Result<Option<Vec<Binding>>, AllocError>
     requires { HasNode tree.now node.0 }
-    ensures { IfOk result (λ bindings. option_map (λ bindings. bindings.items) bindings ≡ bindings_of rule.now.names (root_of rule.now.pattern) (node_of tree.now node.0)) }
+    ensures { IfOk result (λ bindings. option_map (λ bindings. bindings.items) bindings ≡ bindings_of rule.now (root_of rule.now.pattern) (node_of tree.now node.0)) }
 {
     let mut bindings = Vec::new(alloc);
     if node_matches(alloc, rule, tree, NodeNo(0), node, &mut bindings)? {

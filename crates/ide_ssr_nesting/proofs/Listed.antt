@@ -1,5 +1,5 @@
 -- The list of one holder is what stands between two places.
-use Rattle.std.proofs.Common.{◌≡◌, ℕ, zero, suc, ◌+◌, ◌-◌, ◌<◌, ◌≤◌, ◌==◌, ◌&&◌, Bool, true, false, not, List, [], ◌∷◌, ◌++◌, length, map, take, drop, get_or, slice_get, filter, zip, Option, Some, None, All, refl, sym, ap, ◌∙◌, arith, inl, inr}
+use Rattle.std.proofs.Common.{◌≡◌, ℕ, zero, suc, ◌+◌, ◌-◌, ◌<◌, ◌≤◌, ◌==◌, ◌&&◌, Bool, true, false, not, List, [], ◌∷◌, ◌++◌, length, map, take, drop, get_or, slice_get, filter, zip, Option, Some, None, All, refl, sym, ap, ◌∙◌, subst, arith, inl, inr}
 use Rattle.std.specs.Cmp.Lexicographic.{slice_cmp}
 use Rattle.std.specs.List.Sorted.{IsSortedByKey, IsPartitionedBy, IsPartitionPoint}
 use Rattle.std.specs.Ordering.{nat_cmp, is_lt, is_eq, ordering_reverse, ordering_then}
@@ -7,7 +7,7 @@ use Rattle.std.specs.declared.cmp.Ordering.{Ordering}
 use Rattle.std.specs.declared.cmp.Ordering.TheVariants.{Less, Equal, Greater}
 use Rattle.std.proofs.lemmas.Bool.{cases_lt, false≢true}
 use Rattle.std.proofs.lemmas.Cmp.{nat_list_cmp_total}
-use Rattle.std.proofs.lemmas.List.{get_or-map, length-map}
+use Rattle.std.proofs.lemmas.List.{get_or-map, get_or_default, length-map}
 use Rattle.std.proofs.lemmas.List.Sorted.{ranks_by, sorted_far}
 use Rattle.std.proofs.lemmas.Map.Text.{is_eq-slice_cmp}
 use Rattle.std.proofs.lemmas.Option.{same_Some}
@@ -111,6 +111,14 @@ module _ (holders : List (Option Holder)) (up : IsSortedByKey holder_key (slice_
       decide true here = here
       decide false here =
           absurd (false≢true (sym ((ranks_by nat_list_cmp_total holder_key).chain (get_or holders j d) (get_or holders i d) h (far i j d low within) here) ∙ is))
+
+  -- where the last one comes before it, it has no list
+  pub not_listed : (places : List ℕ) (last : ℕ) (g : Option Holder) → 1 + last ≡ length holders → g ≡ get_or holders last g → comes_before g h ≡ true
+      → listed (record { places = places; holders = holders }) h ≡ []
+  not_listed places last g counted read before =
+      rows_none (λ g. same_holder g h) places holders
+      (λ k d less. before_not_same (get_or holders k d) h
+      (before_parts k last d (omega (arith, counted)) (omega (arith, counted)) (subst (λ g. comes_before g h ≡ true) (read ∙ get_or_default holders last g d (omega (arith, counted))) before)))
 
   pub behind_parts : IsPartitionedBy (λ g. not (comes_before h g)) holders
   behind_parts i j d low within is =

@@ -1,6 +1,6 @@
 //! The lists of kept matches: those that one placeholder holds, and the outermost ones.
 
-ghost use Rattle.std.specs.Prelude.{◌≡◌, ◌<◌, ◌≤◌, All, IfOk, IsSortedByKey, None, Some, false, length, map, not, slice_get, true};
+ghost use Rattle.std.specs.Prelude.{[], ◌≡◌, ◌<◌, ◌≤◌, All, IfOk, IsSortedByKey, None, Some, false, length, map, not, slice_get, true};
 ghost use Rattle.std.specs.Cmp.Lexicographic.{slice_cmp};
 ghost use Rattle.std.specs.List.{range_with_len};
 ghost use Rattle.std.specs.List.Sorted.{IsPartitionPoint};
@@ -155,10 +155,24 @@ impl Lists {
         self.list(Some(Holder { place, binding }))
     }
 
+    /// Whether all lists that have a place come before that of a holder, as those of outermost matches do.
+    fn are_before(&self, holder: Option<Holder>) -> bool
+        ensures { result ≡ true → listed self.now holder ≡ [] }
+    {
+        if self.holders.is_empty() {
+            return false;
+        }
+        let last = self.holders.len() - 1;
+        comes_before(self.holders[last], holder)
+    }
+
     /// The list of a holder: the lists stand one behind another, in the order of their holders.
     fn list(&self, holder: Option<Holder>) -> &[usize]
         ensures { result.now ≡ listed self.now holder }
     {
+        if self.are_before(holder) {
+            return &[];
+        }
         let start = self.start_of(holder);
         let end = self.end_of(holder);
         &self.places[start..end]

@@ -8,7 +8,7 @@ use Rattle.ssr_syntax_tree.specs.Syntax.{Syntax, node_count, tokens_of}
 use Rattle.ssr_syntax_tree.specs.Places.{Node, nodes_of, node_of, token_of, start_of, end_of, IsAbove, HasNode, HasToken}
 use Rattle.ssr_syntax_tree.proofs.Shared.{node_of-number, start_of-below, end_of-below, length-nodes_of}
 use Rattle.std.proofs.lemmas.Bool.{cases_lt}
-use Rattle.ide_ssr_rules.specs.Resolving.{name_at}
+use Rattle.ide_ssr_rules.specs.StandIns.{name_at}
 use Rattle.ide_ssr_rewriting.specs.Rendering.{text_for, plain, is_node, wrapped, wrapped_text}
 use Rattle.ide_ssr_rewriting.proofs.Tokens.{tokens_from}
 

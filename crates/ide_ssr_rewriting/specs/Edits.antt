@@ -9,7 +9,7 @@ use Rattle.ssr_syntax_tree.specs.Syntax.{source_of}
 use Rattle.ssr_base.specs.declared.ids.FileId.{FileId}
 use Rattle.ssr_base.specs.Changes.{Change, FitsText}
 use Rattle.ssr_base.specs.Workspace.{FileSpan, Workspace, trees}
-use Rattle.ide_ssr_rules.specs.Resolving.{ResolvedKind}
+use Rattle.ide_ssr_resolving.specs.Resolved.{ResolvedKind}
 use Rattle.ide_ssr_matching.specs.Found.{Found, held_node}
 use Rattle.ide_ssr_nesting.specs.Holding.{Kept}
 use Rattle.ide_ssr_nesting.specs.Lists.{Listing, listed, range_of}

@@ -1,12 +1,15 @@
 -- The text that a rule's template gives for a match.
-use Rattle.std.specs.Prelude.{ℕ, ◌+◌, ◌==◌, ◌&&◌, not, Bool, if◌then◌else◌, codes, is_some, slice_index_or, length, List, [], ◌∷◌, ◌++◌, flat_map, Some, None, Result, Ok, Err}
+use Rattle.std.specs.Prelude.{ℕ, ◌+◌, ◌==◌, ◌&&◌, not, Bool, true, false, if◌then◌else◌, codes, is_some, slice_index_or, length, List, [], ◌∷◌, ◌++◌, flat_map, Some, None, Result, Ok, Err}
 use Rattle.std.specs.List.{list_any, position_or_len}
 use Rattle.std.specs.Option.{option_map_or}
 use Rattle.ssr_syntax_tree.specs.Syntax.{Token, Syntax, tokens_of}
 use Rattle.ssr_syntax_tree.specs.Places.{nodes_of, start_of, end_of}
+use Rattle.ssr_syntax.specs.declared.fragments.Fragment.{Fragment}
+use Rattle.ssr_syntax.specs.declared.fragments.Fragment.TheVariants as fragments
 use Rattle.ssr_syntax.specs.declared.syntax_error.SyntaxError.{SyntaxError}
 use Rattle.ssr_syntax.specs.Reading.{fragment_reading, trimmed_front}
-use Rattle.ide_ssr_rules.specs.Resolving.{ResolvedKind, category, name_at}
+use Rattle.ide_ssr_resolving.specs.Resolved.{ResolvedKind}
+use Rattle.ide_ssr_rules.specs.StandIns.{name_at}
 use Rattle.ide_ssr_matching.specs.declared.bindings.Binding.{Binding}
 
 -- the piece of the placeholder whose name has the place i, where the bindings have these pieces
@@ -45,11 +48,20 @@ abbrev pub rendered_as : Result Syntax SyntaxError → List (List ℕ) → (ℕ 
 rendered_as (Ok tree) names piece tokens = wrapped tree (trimmed_front (plain names piece tokens)) names piece 0 tokens
 rendered_as (Err error) names piece tokens = plain names piece tokens
 
+-- A template in one of these categories gets parentheses: in a type or in a pattern they would mean nothing, or another
+-- thing.
+abbrev pub takes_parentheses : Fragment → Bool
+takes_parentheses fragments.Ty = false
+takes_parentheses fragments.Pat = false
+takes_parentheses category = true
+
 -- a template with its pieces
 abbrev pub rendered_by : ResolvedKind → (ℕ → List ℕ) → Syntax → List ℕ
 rendered_by rule piece template =
     let tokens = tokens_of template in
-    rendered_as (fragment_reading (category rule) (plain rule.names piece tokens)) rule.names piece tokens
+    let text = plain rule.names piece tokens in
+    if takes_parentheses rule.category then rendered_as (fragment_reading rule.category text) rule.names piece tokens
+    else text
 
 -- that of a rule, which gives nothing where it has no template
 abbrev pub rendered : ResolvedKind → (ℕ → List ℕ) → List ℕ

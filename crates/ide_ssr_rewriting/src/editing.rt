@@ -22,7 +22,7 @@ use crate::clashes::{Rewrite, changes_made, first_clash};
 use crate::replacements::{piece, text_of_match};
 use ide_ssr_matching::Found;
 use ide_ssr_nesting::{KeptMatches, Lists};
-use ide_ssr_rules::ResolvedRule;
+use ide_ssr_resolving::ResolvedRule;
 use ssr_base::{FileId, FileRange, NodeId, TextEdit, Workspace};
 use ssr_syntax_kinds::TextRange;
 use std::alloc::{AllocError, Global};

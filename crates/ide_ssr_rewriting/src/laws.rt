@@ -1,7 +1,7 @@
 //! What holds of the words of the contracts, whatever the code: each function here does nothing, and what
 //! it ensures is a law.
 ghost use Rattle.std.specs.Prelude.{◌≡◌, [], List};
-ghost use Rattle.ide_ssr_rules.specs.Resolving.{ResolvedKind};
+ghost use Rattle.ide_ssr_resolving.specs.Resolved.{ResolvedKind};
 ghost use Rattle.ide_ssr_nesting.specs.Holding.{Kept, IsKept};
 ghost use Rattle.ide_ssr_nesting.specs.Lists.{Listing, AreLists};
 ghost use Rattle.ide_ssr_rewriting.specs.Laws.{AnswerExists, EditsOrClash, NoClash, OneEdit, OneText, TextsExist};

@@ -4,11 +4,11 @@ ghost use Rattle.std.specs.Prelude.{◌≡◌, ◌+◌, ◌++◌, ◌^◌, ◌<�
 ghost use Rattle.std.specs.List.{position_or_len};
 ghost use Rattle.ssr_syntax_tree.specs.Syntax.{node_count, tokens_of};
 ghost use Rattle.ssr_syntax_tree.specs.Places.{HasNode, HasToken, node_of, token_of};
-ghost use Rattle.ide_ssr_rules.specs.Resolving.{name_at};
-ghost use Rattle.ide_ssr_rewriting.specs.Rendering.{piece_of, text_for, plain, is_node, wrapped_text, wrapped, rendered};
+ghost use Rattle.ide_ssr_rules.specs.StandIns.{name_at};
+ghost use Rattle.ide_ssr_rewriting.specs.Rendering.{piece_of, text_for, plain, is_node, wrapped_text, wrapped, takes_parentheses, rendered};
 
 use ide_ssr_matching::Binding;
-use ide_ssr_rules::ResolvedRule;
+use ide_ssr_resolving::ResolvedRule;
 use ssr_syntax::{Fragment, SyntaxError, fragment};
 use ssr_syntax_kinds::TextRange;
 use ssr_syntax_tree::{NodeNo, TokenNo, Tree};
@@ -27,11 +27,21 @@ pub fn rendered(
         return Ok(String::new(alloc));
     };
     let plain = plain(alloc, rule, template, bindings, pieces)?;
-    match fragment(alloc, Fragment::Expr, plain.as_str()) {
+    if !takes_parentheses(rule.category()) {
+        return Ok(plain);
+    }
+    match fragment(alloc, rule.category(), plain.as_str()) {
         Ok((tree, front)) => wrapped(alloc, rule, template, bindings, pieces, &tree, front),
         Err(SyntaxError::Memory) => Err(AllocError),
         Err(_) => Ok(plain),
     }
+}
+
+/// Whether a template in this category gets parentheses.
+fn takes_parentheses(category: Fragment) -> bool
+    ensures { result ≡ takes_parentheses category }
+{
+    !matches!(category, Fragment::Ty | Fragment::Pat)
 }
 
 /// The place of the placeholder's binding, or the count of bindings.

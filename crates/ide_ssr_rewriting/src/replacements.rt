@@ -13,7 +13,7 @@ use crate::clashes::{Rewrite, changes_made};
 use crate::comments::{kept_comments, push_comments};
 use crate::rendering::rendered;
 use ide_ssr_matching::Found;
-use ide_ssr_rules::ResolvedRule;
+use ide_ssr_resolving::ResolvedRule;
 use ssr_base::{FileId, FileRange, NodeId, Workspace};
 use ssr_syntax_kinds::TextRange;
 use std::alloc::{AllocError, Global};

@@ -1,22 +1,23 @@
 -- A template's tokens have each placeholder at most once: none is the stand-in of another one's name.
-use Rattle.std.proofs.Common.{◌≡◌, ◌≢◌, ℕ, ◌+◌, ◌<◌, ◌≤◌, Bool, true, false, cond, ◌⊎◌, inl, inr, List, [], ◌∷◌, ◌++◌, map, All, AllPairs, Option, Some, None, refl, sym, ◌∙◌, ap, subst, arith, bytes_eq, codes}
+use Rattle.std.proofs.Common.{◌≡◌, ◌≢◌, ℕ, ◌+◌, ◌<◌, ◌≤◌, Bool, true, false, cond, ◌⊎◌, inl, inr, List, [], ◌∷◌, ◌++◌, map, All, AllPairs, Option, Some, None, Ok, refl, sym, ◌∙◌, ap, subst, arith, bytes_eq, codes}
 use Rattle.std.specs.List.{cons_option, position_from}
 use Rattle.std.proofs.lemmas.Bool.{or_left, or_right}
 use Rattle.std.proofs.lemmas.List.{append_cancel_left}
-use Rattle.std.proofs.lemmas.List.Elements.{All-nil, All-cons}
+use Rattle.std.proofs.lemmas.List.Elements.{All-nil}
 use Rattle.std.proofs.lemmas.List.Folds.{list_any-append}
 use Rattle.std.proofs.lemmas.List.Kept.{AllPairs-cons}
 use Rattle.std.proofs.lemmas.Slice.Eq.{bytes_eq-Decides}
+use Rattle.ssr_syntax.specs.declared.fragments.Fragment.{Fragment}
+use Rattle.ssr_syntax.specs.Reading.{fragment_reading}
 use Rattle.ssr_syntax_tree.specs.Syntax.{Syntax}
 use Rattle.ide_ssr_rules.specs.declared.elements.Element.{Element}
 use Rattle.ide_ssr_rules.specs.declared.elements.Element.TheVariants as e
 use Rattle.ide_ssr_rules.specs.Elements.{has, names_of}
 use Rattle.ide_ssr_rules.specs.Patterns.{placeholders_among, HasEachAtMostOnce}
-use Rattle.ide_ssr_rules.specs.Resolving.{name_at}
-use Rattle.ide_ssr_rules.specs.Rules.{expr_of}
-use Rattle.ide_ssr_rules.specs.StandIns.{stand_in_of, read_as, code_of, stand_in_text, spelled_stand_in}
+use Rattle.ide_ssr_rules.specs.StandIns.{stand_in_of, read_as, code_of, name_at, stand_in_text, spelled_stand_in}
 use Rattle.ide_ssr_rules.specs.Uses.{AreNew}
-use Rattle.ide_ssr_rules.proofs.EachOnce.{same_bytes, unnamed, neither_of, tree_among, IsSide, side_fits}
+use Rattle.ide_ssr_rules.proofs.Lists.{all_with}
+use Rattle.ide_ssr_rules.proofs.EachOnce.{same_bytes, unnamed, stand_in, neither_of, tree_among, IsSide, side_fits}
 
 later : (b : Bool) (i j : ℕ) (o : Option ℕ) → cond b (Some i) o ≡ Some j → (o ≡ Some j → i < j) → i ≤ j
 later true i j o h g = let same : i ≡ j = cc in omega (arith, same)
@@ -46,8 +47,8 @@ both_pass p q i (x ∷ xs) j h g =
       | inr rest ↦ both_pass p q (i + 1) xs j rest.0 rest.1
     ]
 
-one_name : (names : List (List ℕ)) (one other : List ℕ) (j : ℕ) → name_at names (read_as (e.Placeholder one)) ≡ Some j
-    → name_at names (read_as (e.Placeholder other)) ≡ Some j → one ≡ other
+one_name : (names : List (List ℕ)) (one other : List ℕ) (j : ℕ) → name_at names (stand_in one) ≡ Some j
+    → name_at names (stand_in other) ≡ Some j → one ≡ other
 unfolding name_at
 one_name names one other j h g =
     let test : List ℕ → List ℕ → Bool = λ name known. bytes_eq (stand_in_of name) (stand_in_of known) in
@@ -67,21 +68,18 @@ has_last names name =
 other_names : (seen : List (List ℕ)) (one other : List ℕ) → has seen one ≡ true → has seen other ≡ false → one ≢ other
 other_names seen one other h g = λ same. let hit : has seen other ≡ true = ap (has seen) (sym same) ∙ h in cc
 
-all_with : (P : ℕ → Type 0) (o : Option ℕ) (rest : List ℕ) → ((i : ℕ) → o ≡ Some i → P i) → All P rest → All P (cons_option o rest)
-all_with P None rest h all = all
-all_with P (Some i) rest h all = All-cons P i rest (h i refl) all
-
 -- the place of a name that was seen is none of those behind
 not_again : (es : List Element) (seen names others : List (List ℕ)) (name : List ℕ) (j : ℕ) → AreNew seen (names_of es)
-    → spelled_stand_in (names ++ others) es ≡ None → has seen name ≡ true → name_at names (read_as (e.Placeholder name)) ≡ Some j
+    → spelled_stand_in (names ++ others) es ≡ None → has seen name ≡ true → name_at names (stand_in name) ≡ Some j
     → All (λ i. j ≢ i) (placeholders_among names (map read_as es))
 not_again [] seen names others name j new none known at = All-nil (λ i. j ≢ i)
 not_again (e.Token t ∷ es) seen names others name j new none known at =
     let n = neither_of (stand_in_text (names ++ others) (e.Token t)) (spelled_stand_in (names ++ others) es) none in
     subst (λ o. All (λ i. j ≢ i) (cons_option o (placeholders_among names (map read_as es)))) (sym (unnamed names others t n.0))
     (not_again es seen names others name j new n.1 known at)
-not_again (e.Placeholder more ∷ es) seen names others name j new none known at =
-    all_with (λ i. j ≢ i) (name_at names (read_as (e.Placeholder more))) (placeholders_among names (map read_as es))
+not_again (e.Placeholder placeholder ∷ es) seen names others name j new none known at =
+    let more = placeholder.name in
+    all_with (λ i. j ≢ i) (name_at names (stand_in more)) (placeholders_among names (map read_as es))
     (λ i is same. other_names seen name more known new.0 (one_name names name more j at (is ∙ ap Some (sym same))))
     (not_again es (seen ++ more ∷ []) names others name j new.1 none (has_more seen more name known) at)
 
@@ -97,14 +95,15 @@ at_most_from (e.Token t ∷ es) seen names others new none =
     let n = neither_of (stand_in_text (names ++ others) (e.Token t)) (spelled_stand_in (names ++ others) es) none in
     subst (λ o. AllPairs (λ one other. one ≢ other) (cons_option o (placeholders_among names (map read_as es)))) (sym (unnamed names others t n.0))
     (at_most_from es seen names others new n.1)
-at_most_from (e.Placeholder name ∷ es) seen names others new none =
-    pairs_with (name_at names (read_as (e.Placeholder name))) (placeholders_among names (map read_as es))
+at_most_from (e.Placeholder placeholder ∷ es) seen names others new none =
+    let name = placeholder.name in
+    pairs_with (name_at names (stand_in name)) (placeholders_among names (map read_as es))
     (λ j at. not_again es (seen ++ name ∷ []) names others name j new.1 none (has_last seen name) at)
     (at_most_from es (seen ++ name ∷ []) names others new.1 none)
 
-pub template_at_most : (es : List Element) (names : List (List ℕ)) (tree : Syntax) → IsSide (names ++ names_of es) es
-    → expr_of (code_of es) ≡ Some tree → HasEachAtMostOnce names (Some tree)
-template_at_most es names tree is read =
-    let fits = side_fits (names ++ names_of es) es tree is read in
-    subst (AllPairs (λ one other. one ≢ other)) (sym (tree_among es names tree is.utf8 is.is_trimmed is.same fits))
+pub template_at_most : (category : Fragment) (es : List Element) (names : List (List ℕ)) (tree : Syntax) → IsSide (names ++ names_of es) es
+    → fragment_reading category (code_of es) ≡ Ok tree → HasEachAtMostOnce names (Some tree)
+template_at_most category es names tree is read =
+    let fits = side_fits category (names ++ names_of es) es tree is read in
+    subst (AllPairs (λ one other. one ≢ other)) (sym (tree_among category es names tree is.utf8 is.is_trimmed is.same fits))
     (at_most_from es [] names (names_of es) is.new is.free)

@@ -2,22 +2,26 @@
 use Rattle.std.proofs.Common.{◌≡◌, ℕ, List, ◌++◌, Option, Some, None, Result, Ok, ap, ◌∙◌, sym, subst}
 use Rattle.std.specs.Option.{option_map}
 use Rattle.std.specs.Str.{trim}
+use Rattle.ide_ssr_rules.specs.declared.constraints.Constraint.{Constraint}
 use Rattle.ide_ssr_rules.specs.declared.elements.Element.{Element}
 use Rattle.ide_ssr_rules.specs.declared.error.SsrError.{SsrError}
 use Rattle.ide_ssr_rules.specs.declared.kinds.ParsedRule.{ParsedRule}
-use Rattle.ide_ssr_rules.specs.Elements.{names_of, side}
-use Rattle.ide_ssr_rules.specs.Refusals.{Refusal, TellsOf, Answers, ◌>>=◌, unless, glued, reserved}
-use Rattle.ide_ssr_rules.specs.Rules.{Rule, check_sides, check_defined, kinds_of, some_kind, written, rule_of, rule_reading, pattern_reading}
+use Rattle.ide_ssr_rules.specs.Elements.{names_of, constraints_of, side}
+use Rattle.ide_ssr_rules.specs.declared.refusals.Refusal.TheVariants as r
+use Rattle.ide_ssr_rules.specs.Kinds.{kinds_of, some_kind}
+use Rattle.ide_ssr_rules.specs.MacroCalls.{untested}
+use Rattle.ide_ssr_rules.specs.Refusals.{Refusal, TellsOf, Answers, ◌>>=◌, unless}
+use Rattle.ide_ssr_rules.specs.Rules.{Rule, check_sides, check_uses, check_defined, unconstrained, written, rule_of, rule_reading, pattern_reading}
 use Rattle.ide_ssr_rules.specs.Sides.{sides}
 use Rattle.ide_ssr_rules.specs.StandIns.{glued_placeholder, code_of, spelled_stand_in}
 use Rattle.ide_ssr_rules.proofs.Telling.{tells_first, after_ok}
 
 module _ (pattern template : List Element) where
   abbrev tokens_stay : List Element → Result (Unit {0}) Refusal
-  tokens_stay elements = unless glued (glued_placeholder elements)
+  tokens_stay elements = unless r.Glued (glued_placeholder elements)
 
   abbrev names_free : List (List ℕ) → List Element → Result (Unit {0}) Refusal
-  names_free names elements = unless reserved (spelled_stand_in names elements)
+  names_free names elements = unless r.Reserved (spelled_stand_in names elements)
 
   abbrev all_names : List (List ℕ)
   all_names = names_of pattern ++ names_of template
@@ -25,18 +29,18 @@ module _ (pattern template : List Element) where
   abbrev after_pattern : Unit {0} → Result (Unit {0}) Refusal
   after_pattern _ = tokens_stay template >>= (λ _. names_free all_names pattern >>= (λ _. names_free all_names template))
 
-  pub pattern_glued : (error : SsrError) → TellsOf error (unless glued (glued_placeholder pattern)) → TellsOf error (check_sides pattern template)
+  pub pattern_glued : (error : SsrError) → TellsOf error (unless r.Glued (glued_placeholder pattern)) → TellsOf error (check_sides pattern template)
   unfolding check_sides
   pattern_glued error tells = tells_first (tokens_stay pattern) after_pattern error tells
 
-  pub template_glued : (error : SsrError) → unless glued (glued_placeholder pattern) ≡ Ok tt → TellsOf error (unless glued (glued_placeholder template)) → TellsOf error (check_sides pattern template)
+  pub template_glued : (error : SsrError) → unless r.Glued (glued_placeholder pattern) ≡ Ok tt → TellsOf error (unless r.Glued (glued_placeholder template)) → TellsOf error (check_sides pattern template)
   unfolding check_sides
   template_glued error stays tells =
       after_ok (λ r. TellsOf error r) (tokens_stay pattern) after_pattern tt stays
       (tells_first (tokens_stay template) (λ _. names_free all_names pattern >>= (λ _. names_free all_names template)) error tells)
 
-  pub pattern_reserved : (error : SsrError) (names : List (List ℕ)) → unless glued (glued_placeholder pattern) ≡ Ok tt → unless glued (glued_placeholder template) ≡ Ok tt → names ≡ names_of pattern ++ names_of template
-      → TellsOf error (unless reserved (spelled_stand_in names pattern)) → TellsOf error (check_sides pattern template)
+  pub pattern_reserved : (error : SsrError) (names : List (List ℕ)) → unless r.Glued (glued_placeholder pattern) ≡ Ok tt → unless r.Glued (glued_placeholder template) ≡ Ok tt → names ≡ names_of pattern ++ names_of template
+      → TellsOf error (unless r.Reserved (spelled_stand_in names pattern)) → TellsOf error (check_sides pattern template)
   unfolding check_sides
   pattern_reserved error names stays too are tells =
       after_ok (λ r. TellsOf error r) (tokens_stay pattern) after_pattern tt stays
@@ -44,9 +48,9 @@ module _ (pattern template : List Element) where
       (tells_first (names_free all_names pattern) (λ _. names_free all_names template) error
       (subst (λ ns. TellsOf error (names_free ns pattern)) are tells)))
 
-  pub sides_checked : (result : Result (Unit {0}) SsrError) (names kept : List (List ℕ)) → unless glued (glued_placeholder pattern) ≡ Ok tt → unless glued (glued_placeholder template) ≡ Ok tt
-      → names ≡ names_of pattern ++ names_of template → unless reserved (spelled_stand_in names pattern) ≡ Ok tt → kept ≡ names
-      → Answers result (unless reserved (spelled_stand_in kept template)) → Answers result (check_sides pattern template)
+  pub sides_checked : (result : Result (Unit {0}) SsrError) (names kept : List (List ℕ)) → unless r.Glued (glued_placeholder pattern) ≡ Ok tt → unless r.Glued (glued_placeholder template) ≡ Ok tt
+      → names ≡ names_of pattern ++ names_of template → unless r.Reserved (spelled_stand_in names pattern) ≡ Ok tt → kept ≡ names
+      → Answers result (unless r.Reserved (spelled_stand_in kept template)) → Answers result (check_sides pattern template)
   unfolding check_sides
   sides_checked result names kept stays too are free keeps answers =
       after_ok (λ r. Answers result r) (tokens_stay pattern) after_pattern tt stays
@@ -59,10 +63,10 @@ module _ (pattern : List Element) (template : Option (List Element)) where
   kinds_read = some_kind (kinds_of (code_of pattern) (option_map code_of template))
 
   abbrev rule_with : List ParsedRule → Unit {0} → Result Rule Refusal
-  rule_with kinds _ = Ok (record { names = names_of pattern; kinds = kinds })
+  rule_with kinds _ = Ok (record { names = names_of pattern; constraints = constraints_of pattern; kinds = kinds })
 
   abbrev after_kinds : List ParsedRule → Result Rule Refusal
-  after_kinds kinds = check_defined (names_of pattern) (names_of (written template)) >>= rule_with kinds
+  after_kinds kinds = check_uses pattern (written template) kinds >>= rule_with kinds
 
   abbrev after_sides : Unit {0} → Result Rule Refusal
   after_sides _ = kinds_read >>= after_kinds
@@ -77,26 +81,61 @@ module _ (pattern : List Element) (template : Option (List Element)) where
   kinds_refused error checked tells =
       after_ok (λ r. TellsOf error r) (check_sides pattern (written template)) after_sides tt checked (tells_first kinds_read after_kinds error tells)
 
-  pub names_refused : (error : SsrError) (kinds : List ParsedRule) (names used : List (List ℕ)) → check_sides pattern (written template) ≡ Ok tt
-      → some_kind (kinds_of (code_of pattern) (option_map code_of template)) ≡ Ok kinds → names ≡ names_of pattern → used ≡ names_of (written template)
-      → TellsOf error (check_defined names used) → TellsOf error (rule_of pattern template)
+  pub uses_refused : (error : SsrError) (kinds kept : List ParsedRule) → check_sides pattern (written template) ≡ Ok tt
+      → some_kind (kinds_of (code_of pattern) (option_map code_of template)) ≡ Ok kinds → kept ≡ kinds
+      → TellsOf error (check_uses pattern (written template) kept) → TellsOf error (rule_of pattern template)
   unfolding rule_of
-  names_refused error kinds names used checked read are uses tells =
+  uses_refused error kinds kept checked read same tells =
       after_ok (λ r. TellsOf error r) (check_sides pattern (written template)) after_sides tt checked
       (after_ok (λ r. TellsOf error r) kinds_read after_kinds kinds read
-      (tells_first (check_defined (names_of pattern) (names_of (written template))) (rule_with kinds) error
-      (subst (λ us. TellsOf error (check_defined (names_of pattern) us)) uses (subst (λ ns. TellsOf error (check_defined ns used)) are tells))))
+      (tells_first (check_uses pattern (written template) kinds) (rule_with kinds) error
+      (subst (λ ks. TellsOf error (check_uses pattern (written template) ks)) same tells)))
 
-  pub rule_made : (kinds : List ParsedRule) (names used kept : List (List ℕ)) → check_sides pattern (written template) ≡ Ok tt
-      → some_kind (kinds_of (code_of pattern) (option_map code_of template)) ≡ Ok kinds → names ≡ names_of pattern → used ≡ names_of (written template)
-      → check_defined names used ≡ Ok tt → kept ≡ names → rule_of pattern template ≡ Ok (record { names = kept; kinds = kinds })
+  pub rule_made : (kinds used : List ParsedRule) (names kept : List (List ℕ)) (asked : List (List Constraint)) → check_sides pattern (written template) ≡ Ok tt
+      → some_kind (kinds_of (code_of pattern) (option_map code_of template)) ≡ Ok kinds → used ≡ kinds → check_uses pattern (written template) used ≡ Ok tt
+      → names ≡ names_of pattern → kept ≡ names → asked ≡ constraints_of pattern
+      → rule_of pattern template ≡ Ok (record { names = kept; constraints = asked; kinds = kinds })
   unfolding rule_of
-  rule_made kinds names used kept checked read are uses defined keeps =
-      after_ok (λ r. r ≡ Ok (record { names = kept; kinds = kinds })) (check_sides pattern (written template)) after_sides tt checked
-      (after_ok (λ r. r ≡ Ok (record { names = kept; kinds = kinds })) kinds_read after_kinds kinds read
-      (after_ok (λ r. r ≡ Ok (record { names = kept; kinds = kinds })) (check_defined (names_of pattern) (names_of (written template))) (rule_with kinds) tt
-      (ap (λ ns. check_defined ns (names_of (written template))) (sym are) ∙ ap (check_defined names) (sym uses) ∙ defined)
-      (ap (λ ns. Ok (record { names = ns; kinds = kinds })) (sym (keeps ∙ are)))))
+  rule_made kinds used names kept asked checked read same uses are keeps asks =
+      let P : Result Rule Refusal → Type 0 = λ r. r ≡ Ok (record { names = kept; constraints = asked; kinds = kinds }) in
+      after_ok P (check_sides pattern (written template)) after_sides tt checked
+      (after_ok P kinds_read after_kinds kinds read
+      (after_ok P (check_uses pattern (written template) kinds) (rule_with kinds) tt (ap (check_uses pattern (written template)) (sym same) ∙ uses)
+      (ap (λ ns. Ok (record { names = ns; constraints = constraints_of pattern; kinds = kinds })) (sym (keeps ∙ are))
+      ∙ ap (λ asks. Ok (record { names = kept; constraints = asks; kinds = kinds })) (sym asks))))
+
+-- the uses of placeholders
+module _ (pattern template : List Element) (kinds : List ParsedRule) where
+  abbrev tested : Result (Unit {0}) Refusal
+  tested = unless r.ConstraintInMacroCall (untested kinds pattern)
+
+  abbrev template_plain : Result (Unit {0}) Refusal
+  template_plain = unconstrained template
+
+  abbrev after_plain : Unit {0} → Result (Unit {0}) Refusal
+  after_plain _ = check_defined (names_of pattern) (names_of template)
+
+  abbrev after_tested : Unit {0} → Result (Unit {0}) Refusal
+  after_tested _ = template_plain >>= after_plain
+
+  pub constraints_untested : (error : SsrError) → TellsOf error (unless r.ConstraintInMacroCall (untested kinds pattern)) → TellsOf error (check_uses pattern template kinds)
+  unfolding check_uses
+  constraints_untested error tells = tells_first tested after_tested error tells
+
+  pub template_constrained : (error : SsrError) → unless r.ConstraintInMacroCall (untested kinds pattern) ≡ Ok tt → TellsOf error (unconstrained template)
+      → TellsOf error (check_uses pattern template kinds)
+  unfolding check_uses
+  template_constrained error tests tells =
+      after_ok (λ r. TellsOf error r) tested after_tested tt tests (tells_first template_plain after_plain error tells)
+
+  pub uses_checked : (result : Result (Unit {0}) SsrError) (names used : List (List ℕ)) → unless r.ConstraintInMacroCall (untested kinds pattern) ≡ Ok tt
+      → unconstrained template ≡ Ok tt → names ≡ names_of pattern → used ≡ names_of template
+      → Answers result (check_defined names used) → Answers result (check_uses pattern template kinds)
+  unfolding check_uses
+  uses_checked result names used tests plain are uses answers =
+      after_ok (λ r. Answers result r) tested after_tested tt tests
+      (after_ok (λ r. Answers result r) template_plain after_plain tt plain
+      (subst (λ us. Answers result (check_defined (names_of pattern) us)) uses (subst (λ ns. Answers result (check_defined ns used)) are answers)))
 
 module _ (text : List ℕ) where
   abbrev after_side : List ℕ × List ℕ → List Element → Result Rule Refusal

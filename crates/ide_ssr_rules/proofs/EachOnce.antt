@@ -1,34 +1,31 @@
 -- The tokens of a side's tree are those that are read for its elements. A pattern has each placeholder once among them.
-use Rattle.std.proofs.Common.{◌≡◌, ℕ, suc, ◌+◌, ◌<◌, ◌^◌, Bool, true, false, ◌&&◌, cond, List, [], ◌∷◌, ◌++◌, map, length, nat_lt, Option, Some, None, Result, Ok, Err, refl, sym, ◌∙◌, ap, subst, arith, append_assoc, length-append, bytes_eq}
+use Rattle.std.proofs.Common.{◌≡◌, ℕ, suc, ◌+◌, ◌<◌, ◌≤◌, ◌^◌, Bool, true, false, ◌&&◌, cond, List, [], ◌∷◌, ◌++◌, map, length, nat_lt, Option, Some, None, Ok, refl, sym, ◌∙◌, ap, subst, arith, append_assoc, length-append, bytes_eq}
 use Rattle.std.specs.List.{AllByRecursion, cons_option, list_any, position_from, range_with_len}
 use Rattle.std.specs.Option.{option_map, option_map_or, option_or}
-use Rattle.std.specs.Result.{result_ok}
 use Rattle.std.specs.Str.{IsUtf8, trim}
 use Rattle.std.proofs.lemmas.Bool.{and_parts, or_parts}
 use Rattle.std.proofs.lemmas.List.Folds.{list_any-append}
 use Rattle.std.proofs.lemmas.Slice.Eq.{bytes_eq-Decides}
 use Rattle.ssr_syntax_kinds.specs.declared.kinds.SyntaxKind.{SyntaxKind}
+use Rattle.ssr_syntax_kinds.specs.declared.kinds.SyntaxKind.TheVariants as k
 use Rattle.ssr_syntax_lex.specs.declared.tokens.RawToken.{RawToken}
 use Rattle.ssr_syntax_lex.specs.Tokens.{tokens, TilesFrom}
 use Rattle.ssr_syntax_lex.proofs.Shared.{tokens_tile, tiles_spell}
 use Rattle.ssr_syntax_kinds.specs.Kinds.{same_kind}
 use Rattle.ssr_syntax_kinds.proofs.Shared.{same_kind-equal}
 use Rattle.ssr_syntax_tree.specs.Syntax.{Token, Syntax, tokens_of, spelled, same_token}
-use Rattle.ssr_syntax.specs.declared.fragments.Fragment.TheVariants as fragments
-use Rattle.ssr_syntax.specs.declared.syntax_error.SyntaxError.{SyntaxError}
+use Rattle.ssr_syntax.specs.declared.fragments.Fragment.{Fragment}
 use Rattle.ssr_syntax.specs.Reading.{pieces, fragment_reading, FitsFragment}
 use Rattle.ssr_syntax.specs.Identifiers.{is_ident, idents}
 use Rattle.ssr_syntax.proofs.Shared.{fragment_sound, fragment_idents, fragment_alone, length-token, tiles_within, spelled-pieces}
-use Rattle.ide_ssr_rules.specs.Resolving.{name_at}
 use Rattle.ide_ssr_rules.specs.declared.elements.Element.{Element}
 use Rattle.ide_ssr_rules.specs.declared.elements.Element.TheVariants as e
 use Rattle.ide_ssr_rules.specs.Elements.{has, lexed, names_of}
-use Rattle.ide_ssr_rules.specs.Patterns.{placeholders_among}
-use Rattle.ide_ssr_rules.specs.Private.Patterns.{IsReadOnce}
-use Rattle.ide_ssr_rules.specs.Rules.{expr_of}
-use Rattle.ide_ssr_rules.specs.StandIns.{stand_in_of, read_as, code_of, first_glued, first_name, glued_placeholder, is_stand_in, stand_in_text, spelled_stand_in}
+use Rattle.ide_ssr_rules.specs.Patterns.{placeholders_among, IsReadOnce}
+use Rattle.ide_ssr_rules.specs.StandIns.{stand_in_of, read_as, code_of, first_glued, first_name, glued_placeholder, is_stand_in, name_at, stand_in_text, spelled_stand_in}
 use Rattle.ide_ssr_rules.specs.Uses.{AreNew}
-use Rattle.ide_ssr_rules.proofs.Patterns.{over_idents}
+use Rattle.ide_ssr_rules.proofs.Named.{over_idents}
+use Rattle.ide_ssr_rules.proofs.Trimming.{IsUtf8-trim, trim_shorter}
 
 -- ** The tokens are those that are read for the elements.
 
@@ -52,14 +49,14 @@ HasBytes token = 0 < length token.text
 
 -- no token is left over, since each has a byte
 read_tokens : (es : List Element) (ts : List Token) → first_glued es ts ≡ None → AllByRecursion HasBytes ts
-    → length (spelled ts) ≡ length (code_of es) → ts ≡ map read_as es
+    → length (spelled ts) ≤ length (code_of es) → ts ≡ map read_as es
 read_tokens [] [] h some long = refl
 read_tokens [] (t ∷ ts) h some long = absurd (omega (arith, long, some.0, length-append t.text (spelled ts)))
 read_tokens (e ∷ es) [] h some long = cc
 read_tokens (e ∷ es) (t ∷ ts) h some long =
     let g = goes_on (same_token (read_as e) t) (first_glued es ts) (first_name (e ∷ es)) h in
     let same : read_as e ≡ t = same_tokens (read_as e) t g.0 in
-    let rest : length (spelled ts) ≡ length (code_of es) =
+    let rest : length (spelled ts) ≤ length (code_of es) =
     omega (arith, long, length-append t.text (spelled ts), length-append (read_as e).text (code_of es), ap (λ (u : Token). length u.text) same) in
     ap (λ u. u ∷ ts) (sym same) ∙ ap (λ us. read_as e ∷ us) (read_tokens es ts g.1 some.1 rest)
 
@@ -99,9 +96,13 @@ unnamed names others t h =
     let any : list_any test (names ++ others) ≡ false = not_stand_in (is_ident t.kind) (is_stand_in (names ++ others) t.text) t.text h is in
     none_passes test 0 names (or_parts (list_any test names) (list_any test others) (sym (list_any-append test names others) ∙ any)).0)
 
+-- the token that is read for a placeholder of this name
+abbrev pub stand_in : List ℕ → Token
+stand_in name = record { kind = k.IDENT; text = stand_in_of name }
+
 -- the stand-in of a name that none before it is
 stand_in_named : (before rest : List (List ℕ)) (name : List ℕ) → has before name ≡ false
-    → name_at (before ++ name ∷ rest) (read_as (e.Placeholder name)) ≡ Some (length before)
+    → name_at (before ++ name ∷ rest) (stand_in name) ≡ Some (length before)
 unfolding name_at
 stand_in_named before rest name new =
     let test : List ℕ → Bool = λ other. bytes_eq (stand_in_of name) (stand_in_of other) in
@@ -119,11 +120,12 @@ each_from [] before names others are new none = refl
 each_from (e.Token t ∷ es) before names others are new none =
     let n = neither_of (stand_in_text (names ++ others) (e.Token t)) (spelled_stand_in (names ++ others) es) none in
     ap (λ o. cons_option o (placeholders_among names (map read_as es))) (unnamed names others t n.0) ∙ each_from es before names others are new n.1
-each_from (e.Placeholder name ∷ es) before names others are new none =
+each_from (e.Placeholder placeholder ∷ es) before names others are new none =
+    let name = placeholder.name in
     let more : length (before ++ name ∷ []) ≡ length before + 1 = length-append before (name ∷ []) in
     let count = length (names_of es) in
     ap (λ o. cons_option o (placeholders_among names (map read_as es)))
-    (ap (λ ns. name_at ns (read_as (e.Placeholder name))) are ∙ stand_in_named before (names_of es) name new.0)
+    (ap (λ ns. name_at ns (stand_in name)) are ∙ stand_in_named before (names_of es) name new.0)
     ∙ ap (λ ps. length before ∷ ps)
     (each_from es (before ++ name ∷ []) names others (are ∙ sym (append_assoc before (name ∷ []) (names_of es))) new.1 none
     ∙ ap (λ i. range_with_len i count) more)
@@ -151,43 +153,56 @@ have_bytes text start (t ∷ raw) tiles =
     let long = length-token text t start tiles.0 (tiles_within text t.range.end raw tiles.3) in
     (omega (arith, long, tiles.1), have_bytes text t.range.end raw tiles.3)
 
-unchanged : (es : List Element) → IsUtf8 (code_of es) → glued_placeholder es ≡ None
-    → (ts : List Token) × (lexed (code_of es) ≡ Some ts) × (ts ≡ map read_as es)
+code-read : (es : List Element) → code_of es ≡ spelled (map read_as es)
+code-read [] = refl
+code-read (e ∷ es) = ap (λ bs. (read_as e).text ++ bs) (code-read es)
+
+-- the tokens of the text as it is read, which there is no white space around
+record IsUnchanged (es : List Element) : Type 0 where
+  found : List Token
+  lexes : lexed (trim (code_of es)) ≡ Some found
+  are_read : found ≡ map read_as es
+  is_trimmed : trim (code_of es) ≡ code_of es
+
+unchanged : (es : List Element) → IsUtf8 (code_of es) → glued_placeholder es ≡ None → IsUnchanged es
 unfolding glued_placeholder
 unchanged es utf8 h =
-    let text = code_of es in
+    let text = trim (code_of es) in
     let same = lexed_same es (lexed text) h in
     let r = lexed_raw text same.0 same.1 in
-    let tiles = tokens_tile text r.0 utf8 r.1 in
+    let tiles = tokens_tile text r.0 (IsUtf8-trim (code_of es) utf8) r.1 in
     let spells : spelled same.0 ≡ text = ap spelled r.2 ∙ spelled-pieces text r.0 ∙ tiles_spell text r.0 tiles in
-    (same.0, same.1, read_tokens es same.0 same.2 (subst (AllByRecursion HasBytes) (sym r.2) (have_bytes text 0 r.0 tiles)) (ap length spells))
+    let read : same.0 ≡ map read_as es =
+    read_tokens es same.0 same.2 (subst (AllByRecursion HasBytes) (sym r.2) (have_bytes text 0 r.0 tiles))
+    (omega (arith, ap length spells, trim_shorter (code_of es) utf8)) in
+    record { found = same.0; lexes = same.1; are_read = read; is_trimmed = sym spells ∙ ap spelled read ∙ sym (code-read es) }
+
+-- a side whose tokens stay has no white space around its text with stand-ins
+pub stays_trimmed : (es : List Element) → IsUtf8 (code_of es) → glued_placeholder es ≡ None → trim (code_of es) ≡ code_of es
+stays_trimmed es utf8 h = (unchanged es utf8 h).is_trimmed
 
 one_raw : (one other : List RawToken) → ◌≡◌ {A = Option (List RawToken)} (Some one) (Some other) → one ≡ other
 one_raw one other h = cc
 
 -- the identifiers of the tree are those that are read for the elements
-tree_idents : (es : List Element) (tree : Syntax) → IsUtf8 (code_of es) → trim (code_of es) ≡ code_of es → glued_placeholder es ≡ None
-    → FitsFragment fragments.Expr (code_of es) tree → idents (tokens_of tree) ≡ idents (map read_as es)
-tree_idents es tree utf8 is_trimmed same fits =
-    let text = code_of es in
+tree_idents : (category : Fragment) (es : List Element) (tree : Syntax) → IsUtf8 (code_of es) → glued_placeholder es ≡ None
+    → FitsFragment category (code_of es) tree → idents (tokens_of tree) ≡ idents (map read_as es)
+tree_idents category es tree utf8 same fits =
+    let text = trim (code_of es) in
     let t = unchanged es utf8 same in
-    let r = lexed_raw text t.0 t.1 in
-    let f = fragment_idents fragments.Expr text tree fits in
-    let raw : f.0 ≡ r.0 = one_raw f.0 r.0 (sym f.1 ∙ ap tokens is_trimmed ∙ r.1) in
-    f.2 ∙ ap idents (ap (λ text. pieces text f.0) is_trimmed ∙ ap (pieces text) raw ∙ sym r.2 ∙ t.2)
+    let r = lexed_raw text t.found t.lexes in
+    let f = fragment_idents category (code_of es) tree fits in
+    let raw : f.0 ≡ r.0 = one_raw f.0 r.0 (sym f.1 ∙ r.1) in
+    f.2 ∙ ap idents (ap (pieces text) raw ∙ sym r.2 ∙ t.are_read)
 
 -- the placeholders of the tree are those that are read for the elements
-pub tree_among : (es : List Element) (names : List (List ℕ)) (tree : Syntax) → IsUtf8 (code_of es) → trim (code_of es) ≡ code_of es
-    → glued_placeholder es ≡ None → FitsFragment fragments.Expr (code_of es) tree
+pub tree_among : (category : Fragment) (es : List Element) (names : List (List ℕ)) (tree : Syntax) → IsUtf8 (code_of es) → trim (code_of es) ≡ code_of es
+    → glued_placeholder es ≡ None → FitsFragment category (code_of es) tree
     → placeholders_among names (tokens_of tree) ≡ placeholders_among names (map read_as es)
-tree_among es names tree utf8 is_trimmed same fits =
+tree_among category es names tree utf8 is_trimmed same fits =
     over_idents names (tokens_of tree)
-    ∙ ap (placeholders_among names) (tree_idents es tree utf8 is_trimmed same fits)
+    ∙ ap (placeholders_among names) (tree_idents category es tree utf8 same fits)
     ∙ sym (over_idents names (map read_as es))
-
-read_ok : (r : Result Syntax SyntaxError) (tree : Syntax) → result_ok r ≡ Some tree → r ≡ Ok tree
-read_ok (Ok other) tree h = cc
-read_ok (Err error) tree h = cc
 
 -- ** Sides whose placeholders are told apart from the other tokens.
 
@@ -199,20 +214,19 @@ pub record IsSide (names : List (List ℕ)) (es : List Element) : Type 0 where
   pub same : glued_placeholder es ≡ None
   pub free : spelled_stand_in names es ≡ None
 
-pub side_fits : (names : List (List ℕ)) (es : List Element) (tree : Syntax) → IsSide names es → expr_of (code_of es) ≡ Some tree
-    → FitsFragment fragments.Expr (code_of es) tree
-side_fits names es tree is read =
-    (fragment_sound fragments.Expr (code_of es) tree (subst IsUtf8 (sym is.is_trimmed) is.utf8)
-    (read_ok (fragment_reading fragments.Expr (code_of es)) tree read)).fits
+pub side_fits : (category : Fragment) (names : List (List ℕ)) (es : List Element) (tree : Syntax) → IsSide names es
+    → fragment_reading category (code_of es) ≡ Ok tree → FitsFragment category (code_of es) tree
+side_fits category names es tree is read =
+    (fragment_sound category (code_of es) tree (subst IsUtf8 (sym is.is_trimmed) is.utf8) read).fits
 
-pub pattern_each : (es : List Element) (others : List (List ℕ)) (tree : Syntax) → IsSide (names_of es ++ others) es
-    → expr_of (code_of es) ≡ Some tree → IsReadOnce (names_of es) tree
-pattern_each es others tree is read =
+pub pattern_each : (category : Fragment) (es : List Element) (others : List (List ℕ)) (tree : Syntax) → IsSide (names_of es ++ others) es
+    → fragment_reading category (code_of es) ≡ Ok tree → IsReadOnce (names_of es) tree
+pattern_each category es others tree is read =
     let text = code_of es in
     let names = names_of es in
-    let fits = side_fits (names ++ others) es tree is read in
+    let fits = side_fits category (names ++ others) es tree is read in
     record {
-      each = tree_among es names tree is.utf8 is.is_trimmed is.same fits ∙ each_from es [] names others refl is.new is.free;
-      alone = fragment_alone fragments.Expr text tree fits;
+      each = tree_among category es names tree is.utf8 is.is_trimmed is.same fits ∙ each_from es [] names others refl is.new is.free;
+      alone = fragment_alone category text tree fits;
       different = is.new;
     }

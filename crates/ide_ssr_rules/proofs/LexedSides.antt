@@ -9,12 +9,15 @@ use Rattle.std.specs.List.{All, AllByRecursion}
 use Rattle.std.specs.Str.{IsCharBoundary}
 use Rattle.std.proofs.lemmas.Bool.Decides.{nat_tests}
 use Rattle.ssr_syntax_lex.specs.declared.tokens.RawToken.{RawToken}
-use Rattle.ssr_syntax_lex.specs.Tokens.{tokens, TilesFrom, Tiles}
+use Rattle.ssr_syntax_lex.specs.Tokens.{tokens, fault, TilesFrom, Tiles}
 use Rattle.ssr_syntax.specs.Reading.{pieces}
 use Rattle.ssr_syntax_tree.specs.Syntax.{Token}
-use Rattle.ide_ssr_rules.specs.Elements.{lexed, side, elements, elements_of}
-use Rattle.ide_ssr_rules.specs.Refusals.{lexer_fault}
-use Rattle.std.specs.Option.{option_map}
+use Rattle.ide_ssr_rules.specs.Elements.{lexed, fault_in, side, elements}
+use Rattle.ide_ssr_rules.specs.declared.refusals.Refusal.TheVariants as r
+use Rattle.std.specs.Option.{option_map, option_map_or}
+use Rattle.std.specs.Prelude.{unwrap_or}
+use Rattle.ssr_syntax_lex.specs.declared.tokens.LexError.TheVariants as errors
+use Rattle.ssr_syntax_lex.specs.Fault.{error_words}
 
 pub lexed-tokens : (text : List ℕ) (raw : List RawToken) → length text < 2 ^ 32 → tokens text ≡ Some raw → lexed text ≡ Some (pieces text raw)
 unfolding lexed
@@ -22,17 +25,25 @@ lexed-tokens text raw short is =
     ap (λ b. cond b (option_map (pieces text) (tokens text)) None) (lt-ltb (length text) (2 ^ 32) short)
     ∙ ap (option_map (pieces text)) is
 
-pub lexed-fault : (text : List ℕ) → length text < 2 ^ 32 → tokens text ≡ None → lexed text ≡ None
-unfolding lexed
-lexed-fault text short is =
-    ap (λ b. cond b (option_map (pieces text) (tokens text)) None) (lt-ltb (length text) (2 ^ 32) short)
-    ∙ ap (option_map (pieces text)) is
+-- what the lexer refuses has no tokens, and is told in these words
+abbrev pub IsFault : List ℕ → List ℕ → Type 0
+IsFault text words = (lexed text ≡ None) × (words ≡ fault_in text)
 
-pub lexed-long : (text : List ℕ) → 2 ^ 32 ≤ length text → lexed text ≡ None
-unfolding lexed
+pub lexed-fault : (text words : List ℕ) → length text < 2 ^ 32 → tokens text ≡ None → fault text ≡ Some words → IsFault text words
+unfolding lexed fault_in
+lexed-fault text words short is told =
+    let shorter = lt-ltb (length text) (2 ^ 32) short in (
+      ap (λ b. cond b (option_map (pieces text) (tokens text)) None) shorter ∙ ap (option_map (pieces text)) is,
+      sym (ap (λ b. cond b (unwrap_or (fault text) []) (error_words errors.TooLong)) shorter ∙ ap (λ o. unwrap_or o []) told),
+    )
+
+pub lexed-long : (text : List ℕ) → 2 ^ 32 ≤ length text → IsFault text (error_words errors.TooLong)
+unfolding lexed fault_in
 lexed-long text long =
-    let not_short : nat_lt (length text) (2 ^ 32) ≡ false = grind (arith, nat_tests) in
-    ap (λ b. cond b (option_map (pieces text) (tokens text)) None) not_short
+    let not_short : nat_lt (length text) (2 ^ 32) ≡ false = grind (arith, nat_tests) in (
+      ap (λ b. cond b (option_map (pieces text) (tokens text)) None) not_short,
+      sym (ap (λ b. cond b (unwrap_or (fault text) []) (error_words errors.TooLong)) not_short),
+    )
 
 pub lexed-all : (text : List ℕ) (raw items : List RawToken) (found : List Token) (n : ℕ)
     → length text < 2 ^ 32 → tokens text ≡ Some raw → items ≡ raw → found ≡ pieces text (take n items) → length items ≤ n
@@ -42,11 +53,12 @@ lexed-all text raw items found n short is same made all =
 
 pub side-tokens : (text : List ℕ) (found : List Token) → lexed text ≡ Some found → side text ≡ elements [] found
 unfolding side
-side-tokens text found is = ap elements_of is
+side-tokens text found is = ap (λ o. option_map_or (elements []) o (Err (r.LexerFault (fault_in text)))) is
 
-pub side-fault : (text : List ℕ) → lexed text ≡ None → side text ≡ Err lexer_fault
+pub side-fault : (text words : List ℕ) → IsFault text words → side text ≡ Err (r.LexerFault words)
 unfolding side
-side-fault text is = ap elements_of is
+side-fault text words is =
+    ap (λ o. option_map_or (elements []) o (Err (r.LexerFault (fault_in text)))) is.0 ∙ ap (λ told. Err (r.LexerFault told)) (sym is.1)
 
 -- where a token's text may be cut out of the text
 pub record IsPlace (text : List ℕ) (raw : RawToken) : Type 0 where

@@ -1,17 +1,18 @@
-pub mod LexedSides
-pub mod Splitting
-pub mod Telling
-pub mod ReadingElements
-pub mod Walking
-pub mod StandIns
-pub mod Chains
-pub mod Nodes
-pub mod Resolved
-pub mod Uses
-pub mod Patterns
-pub mod EachOnce
-pub mod AtMostOnce
-pub mod KindUses
-pub mod TrimmedSides
-pub mod Templates
+mod LexedSides
+mod Splitting
+mod Telling
+mod ReadingConstraints
+mod ReadingElements
+mod Walking
+mod StandIns
+mod Chains
+mod Uses
+mod Named
+mod EachOnce
+mod AtMostOnce
+mod Lists
+mod KindsRead
+mod KindUses
+mod Trimming
+mod Templates
 pub mod Shared

@@ -6,7 +6,7 @@ use Rattle.std.specs.List.{starts_with}
 use Rattle.std.specs.Option.{option_map}
 use Rattle.std.specs.Str.{trim}
 use Rattle.std.specs.Str.Pattern.{LacksTextAt, FindsText, HasMatch, SplitsAroundMatch}
-use Rattle.ide_ssr_rules.specs.Refusals.{no_delimiter, second_delimiter}
+use Rattle.ide_ssr_rules.specs.declared.refusals.Refusal.TheVariants as r
 use Rattle.ide_ssr_rules.specs.Sides.{delimiter, split_at_delimiter, only, only_split, sides}
 
 no_start : (s : List ℕ) → LacksTextAt delimiter s 0 → starts_with eqb s delimiter ≡ false
@@ -45,12 +45,12 @@ split_around s front back (i, j, found, is_front, is_back, before, long, short) 
 pub split_some : (s : List ℕ) → HasMatch (FindsText delimiter) s → (parts : List ℕ × List ℕ) × (split_at_delimiter s ≡ Some parts)
 split_some s (i, j, found, before, within) = ((take i s, drop j s), around s i j (omega arith) found)
 
-pub no_split : (text : List ℕ) → FindsText delimiter text None → sides text ≡ Err no_delimiter
+pub no_split : (text : List ℕ) → FindsText delimiter text None → sides text ≡ Err r.NoDelimiter
 unfolding sides
 no_split text lacks = ap only_split (split_none text lacks)
 
 pub second_split : (text front back : List ℕ) → SplitsAroundMatch (FindsText delimiter) text front back → HasMatch (FindsText delimiter) back
-    → sides text ≡ Err second_delimiter
+    → sides text ≡ Err r.SecondDelimiter
 unfolding sides
 second_split text front back first second =
     ap only_split (split_around text front back first) ∙ ap (only (front, back)) (split_some back second).1

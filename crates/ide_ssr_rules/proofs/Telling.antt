@@ -19,3 +19,16 @@ tells_first (Err refusal) next error tells = tells
 -- what holds of the reading that follows an accepted one holds of both together
 pub after_ok : {A B : Type 0} (P : Result B Refusal → Type 0) (first : Result A Refusal) (next : A → Result B Refusal) (value : A) → first ≡ Ok value → P (next value) → P (first >>= next)
 after_ok P first next value is holds = subst P (sym (ap (λ r. r >>= next) is)) holds
+
+-- an accepted reading's first part was accepted too
+pub record BothAccepted {A B : Type 0} (first : Result A Refusal) (next : A → Result B Refusal) (value : B) : Type 0 where
+  pub found : A
+  pub first_is : first ≡ Ok found
+  pub next_is : next found ≡ Ok value
+
+pub went : {A B : Type 0} (first : Result A Refusal) (next : A → Result B Refusal) (value : B) → (first >>= next) ≡ Ok value → BothAccepted first next value
+went (Ok found) next value is = record { found = found; first_is = refl; next_is = is }
+went (Err refusal) next value is = absurd cc
+
+pub ok_same : {X : Type 0} (one other : X) → ◌≡◌ {A = Result X Refusal} (Ok one) (Ok other) → one ≡ other
+ok_same one other h = cc

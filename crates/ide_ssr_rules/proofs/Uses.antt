@@ -1,17 +1,22 @@
 -- That an accepted rule uses each placeholder once.
-use Rattle.std.proofs.Common.{◌≡◌, ℕ, List, [], ◌∷◌, ◌++◌, Bool, true, false, cond, Option, Some, None, Result, Ok, Err, refl, ap, sym, subst, ◌∙◌}
-use Rattle.std.specs.Option.{option_map}
+use Rattle.std.proofs.Common.{◌≡◌, ℕ, zero, suc, length, List, [], ◌∷◌, ◌++◌, Bool, true, false, cond, Option, Some, None, Result, Ok, Err, refl, ap, sym, subst, ◌∙◌}
+use Rattle.std.specs.Option.{option_map, option_map_or}
 use Rattle.ssr_syntax_tree.specs.Syntax.{Token}
-use Rattle.ssr_syntax.specs.Identifiers.{is_ident}
 use Rattle.ide_ssr_rules.specs.declared.elements.Element.{Element}
 use Rattle.ide_ssr_rules.specs.declared.elements.Element.TheVariants as e
 use Rattle.ide_ssr_rules.specs.declared.kinds.ParsedRule.{ParsedRule}
-use Rattle.ide_ssr_rules.specs.Elements.{is_dollar, has, after, elements, elements_of, lexed, side, names_of}
-use Rattle.ide_ssr_rules.specs.Refusals.{Refusal, ◌>>=◌, no_name, no_placeholder, repeated}
-use Rattle.ide_ssr_rules.specs.Rules.{Rule, rule_of, rule_reading, check_sides, check_defined, none_of, lacking, some_kind, kinds_of, written}
+use Rattle.ide_ssr_rules.specs.declared.refusals.Refusal.TheVariants as r
+use Rattle.ide_ssr_rules.specs.Constraints.{Placeholder, Taken, placeholder}
+use Rattle.ide_ssr_rules.specs.Elements.{is_dollar, has, after, with_new_name, new_placeholder, elements_within, elements, lexed, fault_in, side, names_of, constraints_of}
+use Rattle.ide_ssr_rules.specs.Kinds.{kinds_of, some_kind}
+use Rattle.ide_ssr_rules.specs.MacroCalls.{untested}
+use Rattle.ide_ssr_rules.specs.Refusals.{Refusal, ◌>>=◌, unless}
+use Rattle.ide_ssr_rules.specs.Rules.{Rule, rule_of, rule_reading, check_sides, check_uses, check_defined, unconstrained, none_of, lacking, written}
 use Rattle.ide_ssr_rules.specs.Sides.{sides}
 use Rattle.ide_ssr_rules.specs.StandIns.{code_of}
 use Rattle.ide_ssr_rules.specs.Uses.{AreNew, UsesPlaceholdersOnce}
+use Rattle.ide_ssr_rules.proofs.ReadingElements.{behind_dollar}
+use Rattle.ide_ssr_rules.proofs.Telling.{went}
 
 abbrev Fresh : List (List ℕ) → Result (List Element) Refusal → Type 0
 Fresh names (Ok es) = AreNew names (names_of es)
@@ -21,65 +26,66 @@ fresh_token : (names : List (List ℕ)) (token : Token) (rest : Result (List Ele
 fresh_token names token (Ok es) fresh = fresh
 fresh_token names token (Err refusal) fresh = tt
 
-fresh_name : (names : List (List ℕ)) (name : List ℕ) (rest : Result (List Element) Refusal) → has names name ≡ false → Fresh (names ++ name ∷ []) rest → Fresh names (after (e.Placeholder name) rest)
-fresh_name names name (Ok es) new fresh = (new, fresh)
-fresh_name names name (Err refusal) new fresh = tt
+fresh_name : (names : List (List ℕ)) (one : Placeholder) (rest : Result (List Element) Refusal) → has names one.name ≡ false → Fresh (names ++ one.name ∷ []) rest → Fresh names (after (e.Placeholder one) rest)
+fresh_name names one (Ok es) new fresh = (new, fresh)
+fresh_name names one (Err refusal) new fresh = tt
 
-abbrev named : Bool → Bool → List ℕ → Result (List ℕ) Refusal
-named ident known text = cond ident (cond known (Err (repeated text)) (Ok text)) (Err no_placeholder)
+fresh_known : (fuel : ℕ) (names : List (List ℕ)) (known : Bool) (one : Placeholder) (rest : List Token) → has names one.name ≡ known
+    → Fresh (names ++ one.name ∷ []) (elements_within fuel (names ++ one.name ∷ []) rest)
+    → Fresh names (cond known (Err (r.Repeated one.name)) (Ok (one, rest)) >>= behind_dollar fuel names)
+fresh_known fuel names true one rest is fresh = tt
+fresh_known fuel names false one rest is fresh = fresh_name names one (elements_within fuel (names ++ one.name ∷ []) rest) is fresh
 
-abbrev behind : List (List ℕ) → List Token → List ℕ → Result (List Element) Refusal
-behind names rest name = after (e.Placeholder name) (elements (names ++ name ∷ []) rest)
-
-fresh_behind : (names : List (List ℕ)) (rest : List Token) (ident known : Bool) (text : List ℕ) → has names text ≡ known → Fresh (names ++ text ∷ []) (elements (names ++ text ∷ []) rest)
-    → Fresh names (named ident known text >>= behind names rest)
-fresh_behind names rest true true text is fresh = tt
-fresh_behind names rest true false text is fresh = fresh_name names text (elements (names ++ text ∷ []) rest) is fresh
-fresh_behind names rest false known text is fresh = tt
+fresh_behind : (fuel : ℕ) (names : List (List ℕ)) (read : Taken Placeholder)
+    → ((ns : List (List ℕ)) (rest : List Token) → Fresh ns (elements_within fuel ns rest))
+    → Fresh names ((read >>= (λ taken. with_new_name names taken)) >>= behind_dollar fuel names)
+fresh_behind fuel names (Ok taken) fresh =
+    fresh_known fuel names (has names taken.0.name) taken.0 taken.1 refl (fresh (names ++ taken.0.name ∷ []) taken.1)
+fresh_behind fuel names (Err refusal) fresh = tt
 
 fresh_step : (names : List (List ℕ)) (dollar : Bool) (one other : Result (List Element) Refusal) → Fresh names one → Fresh names other → Fresh names (cond dollar one other)
 fresh_step names true one other first second = first
 fresh_step names false one other first second = second
 
-fresh_elements : (names : List (List ℕ)) (tokens : List Token) → Fresh names (elements names tokens)
-fresh_elements names [] = tt
-fresh_elements names (token ∷ []) = fresh_step names (is_dollar token.kind) (Err no_name) (Ok (e.Token token ∷ [])) tt tt
-fresh_elements names (token ∷ next ∷ tokens) =
-    fresh_step names (is_dollar token.kind) (named (is_ident next.kind) (has names next.text) next.text >>= behind names tokens) (after (e.Token token) (elements names (next ∷ tokens)))
-    (fresh_behind names tokens (is_ident next.kind) (has names next.text) next.text refl (fresh_elements (names ++ next.text ∷ []) tokens))
-    (fresh_token names token (elements names (next ∷ tokens)) (fresh_elements names (next ∷ tokens)))
+fresh_within : (fuel : ℕ) (names : List (List ℕ)) (tokens : List Token) → Fresh names (elements_within fuel names tokens)
+fresh_within zero names tokens = tt
+fresh_within (suc fuel) names [] = tt
+fresh_within (suc fuel) names (token ∷ tokens) =
+    fresh_step names (is_dollar token.kind) (new_placeholder names tokens >>= behind_dollar fuel names) (after (e.Token token) (elements_within fuel names tokens))
+    (fresh_behind fuel names (placeholder tokens) (fresh_within fuel))
+    (fresh_token names token (elements_within fuel names tokens) (fresh_within fuel names tokens))
 
-fresh_lexed : (tokens : Option (List Token)) → Fresh [] (elements_of tokens)
-fresh_lexed None = tt
-fresh_lexed (Some tokens) = fresh_elements [] tokens
+fresh_lexed : (text : List ℕ) (tokens : Option (List Token)) → Fresh [] (option_map_or (elements []) tokens (Err (r.LexerFault (fault_in text))))
+unfolding elements
+fresh_lexed text None = tt
+fresh_lexed text (Some tokens) = fresh_within (length tokens) [] tokens
 
 fresh_side : (text : List ℕ) → Fresh [] (side text)
 unfolding side
-fresh_side text = fresh_lexed (lexed text)
+fresh_side text = fresh_lexed text (lexed text)
 
 pub side_new : (text : List ℕ) (es : List Element) → side text ≡ Ok es → AreNew [] (names_of es)
 side_new text es is = subst (Fresh []) is (fresh_side text)
-
--- an accepted reading's first part was accepted too
-pub record BothAccepted {A B : Type 0} (first : Result A Refusal) (next : A → Result B Refusal) (value : B) : Type 0 where
-  pub found : A
-  pub first_is : first ≡ Ok found
-  pub next_is : next found ≡ Ok value
-
-pub went : {A B : Type 0} (first : Result A Refusal) (next : A → Result B Refusal) (value : B) → (first >>= next) ≡ Ok value → BothAccepted first next value
-went (Ok found) next value is = record { found = found; first_is = refl; next_is = is }
-went (Err refusal) next value is = absurd cc
 
 none_lack : (names : List (List ℕ)) (value : Unit {0}) → none_of names ≡ Ok value → names ≡ []
 none_lack [] value is = refl
 none_lack (name ∷ names) value is = absurd cc
 
+uses_defined : (pattern template : List Element) (kinds : List ParsedRule) → check_uses pattern template kinds ≡ Ok tt
+    → lacking (names_of pattern) (names_of template) ≡ []
+unfolding check_uses
+uses_defined pattern template kinds is =
+    let defined : Unit {0} → Result (Unit {0}) Refusal = λ _. check_defined (names_of pattern) (names_of template) in
+    let tested = went (unless r.ConstraintInMacroCall (untested kinds pattern)) (λ _. unconstrained template >>= defined) tt is in
+    let plain = went (unconstrained template) defined tt tested.next_is in
+    none_lack (lacking (names_of pattern) (names_of template)) tt plain.next_is
+
 module _ (pattern : List Element) (template : Option (List Element)) where
   abbrev rule_with : List ParsedRule → Unit {0} → Result Rule Refusal
-  rule_with kinds _ = Ok (record { names = names_of pattern; kinds = kinds })
+  rule_with kinds _ = Ok (record { names = names_of pattern; constraints = constraints_of pattern; kinds = kinds })
 
   abbrev after_kinds : List ParsedRule → Result Rule Refusal
-  after_kinds kinds = check_defined (names_of pattern) (names_of (written template)) >>= rule_with kinds
+  after_kinds kinds = check_uses pattern (written template) kinds >>= rule_with kinds
 
   abbrev after_sides : Unit {0} → Result Rule Refusal
   after_sides _ = some_kind (kinds_of (code_of pattern) (option_map code_of template)) >>= after_kinds
@@ -94,13 +100,13 @@ module _ (pattern : List Element) (template : Option (List Element)) where
   rule_uses rule is =
       let kinds = went (check_sides pattern (written template)) after_sides rule is in
       let names = went (some_kind (kinds_of (code_of pattern) (option_map code_of template))) after_kinds rule kinds.next_is in
-      let made = went (check_defined (names_of pattern) (names_of (written template))) (rule_with names.found) rule names.next_is in
-      let same : record { names = names_of pattern; kinds = names.found } ≡ rule = cc in
+      let made = went (check_uses pattern (written template) names.found) (rule_with names.found) rule names.next_is in
+      let same : record { names = names_of pattern; constraints = constraints_of pattern; kinds = names.found } ≡ rule = cc in
       let kinds_are : names.found ≡ rule.kinds = ap (λ (r : Rule). r.kinds) same in
       record {
         names = ap (λ (r : Rule). r.names) (sym same);
         kinds = names.first_is ∙ ap Ok kinds_are;
-        defined = none_lack (lacking (names_of pattern) (names_of (written template))) made.found made.first_is;
+        defined = uses_defined pattern (written template) names.found made.first_is;
       }
 
 -- the sides of an accepted rule

@@ -1,20 +1,28 @@
 -- The elements of a side: its tokens and placeholders.
-use Rattle.std.specs.Prelude.{ℕ, Bool, true, false, ◌^◌, nat_lt, List, [], ◌∷◌, ◌++◌, length, Option, Some, None, Result, Ok, Err, bytes_eq, if◌then◌else◌}
+use Rattle.std.specs.Prelude.{ℕ, zero, suc, Bool, true, false, ◌^◌, nat_lt, List, [], ◌∷◌, ◌++◌, length, Option, Some, None, Result, Ok, Err, bytes_eq, unwrap_or, if◌then◌else◌}
 use Rattle.std.specs.List.{list_any, filter_map}
-use Rattle.std.specs.Option.{option_map}
+use Rattle.std.specs.Option.{option_map, option_map_or}
 use Rattle.ssr_syntax_kinds.specs.declared.kinds.SyntaxKind.{SyntaxKind}
 use Rattle.ssr_syntax_kinds.specs.declared.kinds.SyntaxKind.TheVariants as k
-use Rattle.ssr_syntax_lex.specs.Tokens.{tokens}
-use Rattle.ssr_syntax.specs.Identifiers.{is_ident}
+use Rattle.ssr_syntax_lex.specs.declared.tokens.LexError.TheVariants as errors
+use Rattle.ssr_syntax_lex.specs.Fault.{error_words}
+use Rattle.ssr_syntax_lex.specs.Tokens.{tokens, fault}
 use Rattle.ssr_syntax.specs.Reading.{pieces}
 use Rattle.ssr_syntax_tree.specs.Syntax.{Token}
+use Rattle.ide_ssr_rules.specs.declared.constraints.Constraint.{Constraint}
 use Rattle.ide_ssr_rules.specs.declared.elements.Element.{Element}
 use Rattle.ide_ssr_rules.specs.declared.elements.Element.TheVariants as e
-use Rattle.ide_ssr_rules.specs.Refusals.{Refusal, ◌>>=◌, lexer_fault, no_name, no_placeholder, repeated}
+use Rattle.ide_ssr_rules.specs.declared.refusals.Refusal.TheVariants as r
+use Rattle.ide_ssr_rules.specs.Constraints.{Placeholder, Taken, placeholder}
+use Rattle.ide_ssr_rules.specs.Refusals.{Refusal, ◌>>=◌}
 
 -- the tokens of a text; none where the lexer refuses it, for its length too
 unfoldable pub lexed : List ℕ → Option (List Token)
 lexed text = if nat_lt (length text) (2 ^ 32) then option_map (pieces text) (tokens text) else None
+
+-- the lexer's words for a text without tokens
+unfoldable pub fault_in : List ℕ → List ℕ
+fault_in text = if nat_lt (length text) (2 ^ 32) then unwrap_or (fault text) [] else error_words errors.TooLong
 
 abbrev pub is_dollar : SyntaxKind → Bool
 is_dollar k.DOLLAR = true
@@ -27,33 +35,53 @@ abbrev pub after : Element → Result (List Element) Refusal → Result (List El
 after element (Ok elements) = Ok (element ∷ elements)
 after element (Err refusal) = Err refusal
 
--- the name that a token behind `$` gives; `names` are those that came before
-abbrev pub name_in : List (List ℕ) → Token → Result (List ℕ) Refusal
-name_in names token =
-    if is_ident token.kind then (if has names token.text then Err (repeated token.text) else Ok token.text)
-    else Err no_placeholder
+-- a placeholder whose name is none of those before
+abbrev pub with_new_name : List (List ℕ) → Placeholder × List Token → Taken Placeholder
+with_new_name names (placeholder, rest) =
+    if has names placeholder.name then Err (r.Repeated placeholder.name) else Ok (placeholder, rest)
 
--- the elements that tokens are: `$` and an identifier are a placeholder of that name, any other token is itself
-abbrev pub elements : List (List ℕ) → List Token → Result (List Element) Refusal
-elements names [] = Ok []
-elements names (token ∷ []) = if is_dollar token.kind then Err no_name else Ok (e.Token token ∷ [])
-elements names (token ∷ next ∷ tokens) =
+abbrev pub new_placeholder : List (List ℕ) → List Token → Taken Placeholder
+new_placeholder names tokens = placeholder tokens >>= (λ read. with_new_name names read)
+
+-- the elements that tokens are, of which there are at most `fuel`: a placeholder begins with `$`, any other token is
+-- itself; `names` are those of the placeholders before
+abbrev pub elements_within : ℕ → List (List ℕ) → List Token → Result (List Element) Refusal
+elements_within zero names tokens = Ok []
+elements_within (suc fuel) names [] = Ok []
+elements_within (suc fuel) names (token ∷ tokens) =
     if is_dollar token.kind
-    then name_in names next >>= (λ name. after (e.Placeholder name) (elements (names ++ name ∷ []) tokens))
-    else after (e.Token token) (elements names (next ∷ tokens))
+    then new_placeholder names tokens
+    >>= (λ (placeholder, rest). after (e.Placeholder placeholder) (elements_within fuel (names ++ placeholder.name ∷ []) rest))
+    else after (e.Token token) (elements_within fuel names tokens)
 
-abbrev pub elements_of : Option (List Token) → Result (List Element) Refusal
-elements_of None = Err lexer_fault
-elements_of (Some tokens) = elements [] tokens
+unfoldable pub elements : List (List ℕ) → List Token → Result (List Element) Refusal
+elements names tokens = elements_within (length tokens) names tokens
 
 -- the elements of a side
 unfoldable pub side : List ℕ → Result (List Element) Refusal
-side text = elements_of (lexed text)
+side text = option_map_or (elements []) (lexed text) (Err (r.LexerFault (fault_in text)))
 
 abbrev pub name_of : Element → Option (List ℕ)
 name_of (e.Token token) = None
-name_of (e.Placeholder name) = Some name
+name_of (e.Placeholder placeholder) = Some placeholder.name
 
 -- the names of a side's placeholders, in order
 abbrev pub names_of : List Element → List (List ℕ)
 names_of elements = filter_map name_of elements
+
+abbrev pub constraints_at : Element → Option (List Constraint)
+constraints_at (e.Token token) = None
+constraints_at (e.Placeholder placeholder) = Some placeholder.constraints
+
+-- what each of a side's placeholders asks, in the order of their names
+abbrev pub constraints_of : List Element → List (List Constraint)
+constraints_of elements = filter_map constraints_at elements
+
+abbrev pub asks : List Constraint → Bool
+asks [] = false
+asks (constraint ∷ constraints) = true
+
+-- whether an element is a placeholder with constraints
+abbrev pub is_constrained : Element → Bool
+is_constrained (e.Token token) = false
+is_constrained (e.Placeholder placeholder) = asks placeholder.constraints

@@ -1,9 +1,11 @@
 pub mod Refusals
 pub mod Sides
+pub mod Constraints
+pub mod Meeting
 pub mod Elements
 pub mod StandIns
-pub mod Mixing
-pub mod Resolving
+pub mod MacroCalls
+pub mod Kinds
 pub mod Rules
 pub mod Uses
 pub mod Patterns

@@ -1,37 +1,28 @@
--- Which placeholders stand in a tree, as its tokens and as its nodes: each once in a pattern, at most once in a template.
-use Rattle.std.specs.Prelude.{ℕ, ◌≡◌, ◌≢◌, List, [], ◌∷◌, ◌++◌, length, AllPairs, Option, Some, None}
+-- Which placeholders stand among the tokens of a kind's trees: each once in the pattern, at most once in the template.
+use Rattle.std.specs.Prelude.{ℕ, ◌≡◌, ◌≢◌, List, [], length, AllPairs, Option}
 use Rattle.std.specs.List.{filter_map, range_with_len}
-use Rattle.std.specs.Option.{IfSome, option_and_then}
-use Rattle.ssr_syntax_tree.specs.Syntax.{Token, Forest, nothing, leaf, branch, Syntax, tokens_of}
-use Rattle.ide_ssr_rules.specs.Resolving.{only_token, name_at}
+use Rattle.std.specs.Option.{IfSome}
+use Rattle.ssr_syntax.specs.Identifiers.{IdentsAloneIn}
+use Rattle.ssr_syntax_tree.specs.Syntax.{Token, Syntax, tokens_of}
+use Rattle.ide_ssr_rules.specs.declared.kinds.ParsedRule.{ParsedRule}
+use Rattle.ide_ssr_rules.specs.StandIns.{name_at}
 use Rattle.ide_ssr_rules.specs.Uses.{AreNew}
 
 -- the placeholders among tokens, in order: the places of their names
 abbrev pub placeholders_among : List (List ℕ) → List Token → List ℕ
 placeholders_among names tokens = filter_map (name_at names) tokens
 
--- a placeholder, or else those below it
-abbrev pub or_below : Option ℕ → List ℕ → List ℕ
-or_below (Some i) below = i ∷ []
-or_below None below = below
-
--- The nodes that are placeholders among siblings and below them, from the left. What stands below a placeholder is the
--- placeholder itself.
-abbrev pub placeholders_in : List (List ℕ) → Forest → List ℕ
-placeholders_in names nothing = []
-placeholders_in names (leaf token next) = placeholders_in names next
-placeholders_in names (branch kind below next) =
-    or_below (option_and_then (name_at names) (only_token below)) (placeholders_in names below) ++ placeholders_in names next
-
-abbrev pub placeholders_of : List (List ℕ) → Syntax → List ℕ
-placeholders_of names tree = placeholders_in names (branch tree.kind tree.children nothing)
-
--- A pattern has each placeholder once, as a token and as a node, in the order of their names, and no two have one name.
-pub record HasEachOnce (names : List (List ℕ)) (pattern : Syntax) : Type 0 where
+-- A pattern's tokens have each placeholder once, in the order of their names, and no two have one name. Each of them is a
+-- node as well, unless the tree mixes identifiers with other tokens.
+pub record IsReadOnce (names : List (List ℕ)) (pattern : Syntax) : Type 0 where
   pub each : placeholders_among names (tokens_of pattern) ≡ range_with_len 0 (length names)
-  pub nodes : placeholders_of names pattern ≡ range_with_len 0 (length names)
+  pub alone : IdentsAloneIn pattern
   pub different : AreNew [] names
 
 -- a template, if there is one, has no placeholder twice
 abbrev pub HasEachAtMostOnce : List (List ℕ) → Option Syntax → Type 0
 HasEachAtMostOnce names template = IfSome template (λ tree. AllPairs (λ one other. one ≢ other) (placeholders_among names (tokens_of tree)))
+
+-- a kind's pattern is read with each of the names once, and its template has each at most once
+abbrev pub AreReadOnce : List (List ℕ) → ParsedRule → Type 0
+AreReadOnce names kind = IsReadOnce names kind.pattern × HasEachAtMostOnce names kind.template

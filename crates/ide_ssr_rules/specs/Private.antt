@@ -1,5 +1,3 @@
 -- Words of private functions and of the invariants of private fields. No public clause cites them, and no reader of
 -- those has to believe them.
 pub mod Tokens
-pub mod Placeholders
-pub mod Patterns

@@ -1,21 +1,10 @@
 -- Why a rule is refused, and with which words.
 use Rattle.std.specs.Prelude.{ℕ, ◌≡◌, ◌+◌, ◌==◌, if◌then◌else◌, List, [], ◌∷◌, ◌++◌, Option, Some, None, Result, Ok, Err, codes, string_bytes}
+use Rattle.ssr_syntax_kinds.specs.Kinds.{name}
 use Rattle.ide_ssr_rules.specs.declared.error.SsrError.{SsrError}
 use Rattle.ide_ssr_rules.specs.declared.error.SsrError.TheVariants as errors
-
-pub data Refusal : Type 0 where
-  no_delimiter : Refusal
-  second_delimiter : Refusal
-  lexer_fault : Refusal
-  no_name : Refusal
-  no_placeholder : Refusal
-  repeated : List ℕ → Refusal
-  glued : List ℕ → Refusal
-  reserved : List ℕ → Refusal
-  no_kind : Refusal
-  undefined : List (List ℕ) → Refusal
-  unresolved_path : List ℕ → Refusal
-  token_tree : Refusal
+use Rattle.ide_ssr_rules.specs.declared.refusals.Refusal.TheVariants as r
+pub use Rattle.ide_ssr_rules.specs.declared.refusals.Refusal.{Refusal}
 
 -- names as a user writes them: `$a, $b`
 abbrev pub mark : ℕ → List ℕ
@@ -28,30 +17,38 @@ listed_from place (name ∷ names) = mark place ++ (name ++ listed_from (place +
 abbrev pub listed : List (List ℕ) → List ℕ
 listed names = listed_from 0 names
 
--- the message; of a lexer's fault the beginning alone
+-- the message
 abbrev pub words : Refusal → List ℕ
-words no_delimiter = codes "Cannot find delimiter `==>>`"
-words second_delimiter = codes "More than one delimiter found"
-words lexer_fault = codes "Failed to parse pattern: "
-words no_name = codes "Placeholder ($) with no name"
-words no_placeholder = codes "Placeholders should either be $name or ${name:constraints}"
-words (repeated name) = codes "Placeholder `$" ++ (name ++ codes "` repeats more than once")
-words (glued name) = codes "Placeholder `$" ++ (name ++ codes "` isn't a token of its own")
-words (reserved text) = codes "Name `" ++ (text ++ codes "` is reserved")
-words no_kind = codes "Not a valid Rust expression, type, item, path or pattern"
-words (undefined names) = codes "Replacement contains undefined placeholders: " ++ listed names
-words (unresolved_path path) = codes "Failed to resolve path `" ++ (path ++ codes "`")
-words token_tree = codes "Token trees are not matched yet"
-
--- whether a message is that of a refusal
-abbrev pub Says : Refusal → List ℕ → Type 0
-Says lexer_fault message = (fault : List ℕ) × (message ≡ words lexer_fault ++ fault)
-Says refusal message = message ≡ words refusal
+words r.NoDelimiter = codes "Cannot find delimiter `==>>`"
+words r.SecondDelimiter = codes "More than one delimiter found"
+words (r.LexerFault fault) = codes "Failed to parse pattern: " ++ fault
+words r.NoName = codes "Placeholder ($) with no name"
+words r.NoPlaceholder = codes "Placeholders should either be $name or ${name:constraints}"
+words r.EndOfPlaceholder = codes "Unexpected end of placeholder"
+words r.NoClosingBrace = codes "Placeholder is missing closing brace '}'"
+words (r.UnexpectedToken text) = codes "Unexpected token while parsing placeholder: '" ++ (text ++ codes "'")
+words r.NoConstraint = codes "Found end of placeholder while looking for a constraint"
+words r.EndOfKind = codes "Unexpected end of constraint while looking for kind"
+words (r.NoKindName kind) = codes "Expected ident, found " ++ (name kind ++ codes " while parsing kind constraint")
+words (r.OtherBracket wanted text) = codes "Expected " ++ (wanted ++ (codes " found " ++ text))
+words (r.NoBracket wanted) = codes "Expected " ++ (wanted ++ codes " found end of stream")
+words (r.UnknownKind text) = codes "Unknown node kind '" ++ (text ++ codes "'")
+words (r.UnknownConstraint text) = codes "Unsupported constraint type '" ++ (text ++ codes "'")
+words r.DeepConstraint = codes "Constraint nested too deeply"
+words (r.Repeated name) = codes "Placeholder `$" ++ (name ++ codes "` repeats more than once")
+words (r.Glued name) = codes "Placeholder `$" ++ (name ++ codes "` isn't a token of its own")
+words (r.Reserved text) = codes "Name `" ++ (text ++ codes "` is reserved")
+words r.NoKind = codes "Not a valid Rust expression, type, item, path or pattern"
+words (r.ConstraintInMacroCall name) = codes "Placeholder `$" ++ (name ++ codes "` in a macro call cannot have constraints")
+words r.ConstraintInTemplate = codes "Replacement placeholders cannot have constraints"
+words (r.Undefined names) = codes "Replacement contains undefined placeholders: " ++ names
+words (r.UnresolvedPath path) = codes "Failed to resolve path `" ++ (path ++ codes "`")
+words r.TokenTree = codes "Token trees are not matched yet"
 
 -- an error tells a refusal; want of memory tells nothing
 abbrev pub Tells : SsrError → Refusal → Type 0
 Tells errors.Memory refusal = Unit {0}
-Tells (errors.Message message) refusal = Says refusal (string_bytes message)
+Tells (errors.Message message) refusal = string_bytes message ≡ words refusal
 
 -- an error tells why a reading refuses
 abbrev pub TellsOf : {A : Type 0} → SsrError → Result A Refusal → Type 0

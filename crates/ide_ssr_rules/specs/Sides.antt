@@ -3,7 +3,8 @@ use Rattle.std.specs.Prelude.{ℕ, List, [], ◌∷◌, Option, Some, None, Resu
 use Rattle.std.specs.List.{starts_with}
 use Rattle.std.specs.Option.{option_map}
 use Rattle.std.specs.Str.{trim}
-use Rattle.ide_ssr_rules.specs.Refusals.{Refusal, no_delimiter, second_delimiter}
+use Rattle.ide_ssr_rules.specs.declared.refusals.Refusal.TheVariants as r
+use Rattle.ide_ssr_rules.specs.Refusals.{Refusal}
 
 abbrev pub delimiter : List ℕ
 delimiter = codes "==>>"
@@ -18,10 +19,10 @@ split_at_delimiter (b ∷ bs) =
 -- both sides, trimmed, unless there is another split behind the first
 abbrev pub only : List ℕ × List ℕ → Option (List ℕ × List ℕ) → Result (List ℕ × List ℕ) Refusal
 only parts None = Ok (trim parts.0, trim parts.1)
-only parts (Some more) = Err second_delimiter
+only parts (Some more) = Err r.SecondDelimiter
 
 abbrev pub only_split : Option (List ℕ × List ℕ) → Result (List ℕ × List ℕ) Refusal
-only_split None = Err no_delimiter
+only_split None = Err r.NoDelimiter
 only_split (Some parts) = only parts (split_at_delimiter parts.1)
 
 -- the pattern and the template of a rule text, which has exactly one delimiter

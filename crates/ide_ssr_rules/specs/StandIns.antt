@@ -1,7 +1,8 @@
 -- Stand-ins: what is read in a placeholder's place.
 use Rattle.std.specs.Prelude.{ℕ, Bool, ◌&&◌, List, [], ◌∷◌, ◌++◌, Option, Some, None, bytes_eq, codes, unwrap_or, if◌then◌else◌}
-use Rattle.std.specs.List.{list_any, flat_map}
+use Rattle.std.specs.List.{list_any, flat_map, position_from}
 use Rattle.std.specs.Option.{option_map_or, option_or}
+use Rattle.std.specs.Str.{trim}
 use Rattle.ssr_syntax_kinds.specs.declared.kinds.SyntaxKind.TheVariants as k
 use Rattle.ssr_syntax_tree.specs.Syntax.{Token, same_token}
 use Rattle.ssr_syntax.specs.Identifiers.{is_ident}
@@ -15,7 +16,7 @@ stand_in_of name = codes "__placeholder_" ++ name
 -- the token that is read for an element
 abbrev pub read_as : Element → Token
 read_as (e.Token token) = token
-read_as (e.Placeholder name) = record { kind = k.IDENT; text = stand_in_of name }
+read_as (e.Placeholder placeholder) = record { kind = k.IDENT; text = stand_in_of placeholder.name }
 
 -- a side's text with stand-ins
 abbrev pub code_of : List Element → List ℕ
@@ -39,17 +40,22 @@ first_glued (element ∷ elements) [] = Some (first_name (element ∷ elements))
 first_glued (element ∷ elements) (token ∷ tokens) =
     if same_token (read_as element) token then first_glued elements tokens else Some (first_name (element ∷ elements))
 
--- the same of a side: its first placeholder, if the text with stand-ins doesn't lex
+-- The same of a side: its first placeholder, if the text with stand-ins doesn't lex. The text is taken without white
+-- space around it, as its kinds are read.
 unfoldable pub glued_placeholder : List Element → Option (List ℕ)
-glued_placeholder elements = option_map_or (first_glued elements) (lexed (code_of elements)) (Some (first_name elements))
+glued_placeholder elements = option_map_or (first_glued elements) (lexed (trim (code_of elements))) (Some (first_name elements))
 
 abbrev pub is_stand_in : List (List ℕ) → List ℕ → Bool
 is_stand_in names text = list_any (λ name. bytes_eq text (stand_in_of name)) names
 
+-- which name's stand-in a token is
+unfoldable pub name_at : List (List ℕ) → Token → Option ℕ
+name_at names token = if is_ident token.kind then position_from (λ name. bytes_eq token.text (stand_in_of name)) 0 names else None
+
 -- an identifier's text, where it is spelled as a stand-in of one of the names
 abbrev pub stand_in_text : List (List ℕ) → Element → Option (List ℕ)
 stand_in_text names (e.Token token) = if is_ident token.kind && is_stand_in names token.text then Some token.text else None
-stand_in_text names (e.Placeholder name) = None
+stand_in_text names (e.Placeholder placeholder) = None
 
 -- the first such identifier of a side
 abbrev pub spelled_stand_in : List (List ℕ) → List Element → Option (List ℕ)

@@ -1,19 +1,24 @@
-//! Rules of structural search and replace: rule texts, the kinds of a rule, resolving.
+//! Rules of structural search and replace: rule texts, and the kinds of a rule.
 #![tactic(auto)]
 
+mod constraints;
 mod elements;
 mod error;
 mod kinds;
-mod mixing;
-mod placeholders;
-mod resolving;
+mod macro_calls;
+mod meeting;
+mod refusals;
 mod rules;
 mod sides;
 mod stand_ins;
 mod tokens;
 mod var;
 
+pub use constraints::Constraint;
 pub use error::SsrError;
-pub use resolving::ResolvedRule;
-pub use rules::{SsrPattern, SsrRule};
+pub use kinds::ParsedRule;
+pub use meeting::ConstraintSet;
+pub use refusals::{Fault, Refusal, Text};
+pub use rules::{ParsedKinds, SsrPattern, SsrRule, pattern_kinds, rule_kinds};
+pub use stand_ins::is_stand_in_of;
 pub use var::Var;

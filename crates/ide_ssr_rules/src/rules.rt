@@ -1,29 +1,35 @@
 //! Rules and search patterns, read from their texts.
-ghost use Rattle.std.specs.Prelude.{◌≡◌, ◌<◌, ◌^◌, ◌++◌, [], length, map, string_bytes, IfOk, IfSome};
+ghost use Rattle.std.specs.Prelude.{◌≡◌, ◌<◌, ◌^◌, ◌++◌, [], length, map, string_bytes, All, IfOk, IfSome};
+ghost use Rattle.std.specs.List.{list_any};
 ghost use Rattle.std.specs.Option.{option_copied, option_map};
-ghost use Rattle.std.specs.Str.{IsUtf8, trim};
-ghost use Rattle.ide_ssr_rules.specs.Elements.{names_of};
-ghost use Rattle.ide_ssr_rules.specs.Refusals.{Answers, AnswersBy, unless, glued, reserved};
-ghost use Rattle.ide_ssr_rules.specs.Rules.{expr_of, kinds_of, some_kind, lacking, check_sides, check_defined, rule_of, rule_reading, pattern_reading};
+ghost use Rattle.std.specs.Str.{IsUtf8};
+ghost use Rattle.ide_ssr_rules.specs.Elements.{names_of, constraints_of, is_constrained};
+ghost use Rattle.ide_ssr_rules.specs.declared.refusals.Refusal.TheVariants as r;
+ghost use Rattle.ide_ssr_rules.specs.MacroCalls.{untested};
+ghost use Rattle.ide_ssr_rules.specs.Refusals.{Answers, AnswersBy, unless};
+ghost use Rattle.ide_ssr_rules.specs.Rules.{lacking, check_sides, check_uses, check_defined, unconstrained, rule_of, rule_reading, pattern_reading};
 ghost use Rattle.ide_ssr_rules.specs.Uses.{AreNew, UsesPlaceholdersOnce};
 ghost use Rattle.ide_ssr_rules.specs.StandIns.{code_of, glued_placeholder, spelled_stand_in};
 
 use crate::elements::Element;
 use crate::error::SsrError;
-use crate::kinds::ParsedRule;
+use crate::kinds::{ParsedRule, some_kind};
+use crate::macro_calls::untested;
+use crate::meeting::ConstraintSet;
+use crate::refusals::{Refusal, Text, listed};
 use crate::sides::{has, push_names, side, sides};
-use crate::stand_ins::{code_of, glued_placeholder, spelled_stand_in};
+use crate::stand_ins::{glued_placeholder, spelled_stand_in};
 use crate::tokens::Name;
-use ssr_syntax::{Fragment, SyntaxError, fragment};
-use ssr_syntax_tree::Tree;
 use std::alloc::{AllocError, Global};
 use std::marker::Model;
 
-/// What a text is read as: the names of its placeholders, and its kinds.
+/// What a text is read as: the names of its placeholders, what each of these asks, and its kinds.
 #[derive(Drop)]
-pub(crate) struct ParsedKinds {
-    pub(crate) names: Vec<String>,
-    pub(crate) kinds: Vec<ParsedRule>,
+pub struct ParsedKinds {
+    names: Vec<String>,
+    /// What each of the placeholders asks, in the order of their names.
+    constraints: Vec<ConstraintSet>,
+    kinds: Vec<ParsedRule>,
 }
 
 impl Model for ParsedKinds {
@@ -34,21 +40,35 @@ impl Model for ParsedKinds {
 
     ghost coded = { rule_code };
 
-    ghost view = { λ parsed. record { names = map string_bytes parsed.names.items; kinds = parsed.kinds.items } };
+    ghost view = { λ parsed. record { names = map string_bytes parsed.names.items; constraints = parsed.constraints.items; kinds = parsed.kinds.items } };
 
-    ghost use Rattle.ide_ssr_rules.specs.Patterns.{HasEachAtMostOnce};
-    ghost use Rattle.ide_ssr_rules.specs.Private.Patterns.{IsReadOnce};
+    ghost use Rattle.ide_ssr_rules.specs.Patterns.{AreReadOnce};
 
     ghost invariant = { λ parsed. record {
       few : length parsed.names.items < 2 ^ 32;
-      once : All (λ kind. IsReadOnce (map string_bytes parsed.names.items) kind.pattern × HasEachAtMostOnce (map string_bytes parsed.names.items) kind.template) parsed.kinds.items;
+      once : All (AreReadOnce (map string_bytes parsed.names.items)) parsed.kinds.items;
     } };
+}
+
+impl ParsedKinds {
+    ghost use Rattle.ide_ssr_rules.specs.Patterns.{AreReadOnce};
+
+    /// The names, what each placeholder asks, and the kinds. The pattern of each kind has each name once among its tokens, and the template at most once.
+    pub fn into_parts(self) -> (Vec<String>, Vec<ConstraintSet>, Vec<ParsedRule>)
+        ensures names { map string_bytes result.0.items ≡ self.names }
+        ensures constraints { result.1.items ≡ self.constraints }
+        ensures kinds { result.2.items ≡ self.kinds }
+        ensures few { length result.0.items < 2 ^ 32 }
+        ensures once { All (AreReadOnce self.names) self.kinds }
+    {
+        (self.names, self.constraints, self.kinds)
+    }
 }
 
 /// A rule: a pattern and a template for each kind that both can be read as.
 #[derive(Drop)]
 pub struct SsrRule {
-    pub(crate) parsed: ParsedKinds,
+    parsed: ParsedKinds,
 }
 
 impl Model for SsrRule {
@@ -75,7 +95,7 @@ impl SsrRule {
 /// A search pattern, which is searched for and never replaced: one side of a rule, for each kind that it can be read as.
 #[derive(Drop)]
 pub struct SsrPattern {
-    pub(crate) parsed: ParsedKinds,
+    parsed: ParsedKinds,
 }
 
 impl Model for SsrPattern {
@@ -96,6 +116,20 @@ impl SsrPattern {
         let parsed = pattern_of_text(alloc, text)?;
         Ok(SsrPattern { parsed })
     }
+}
+
+/// What a rule was read as.
+pub fn rule_kinds(rule: SsrRule) -> ParsedKinds
+    ensures { result ≡ rule }
+{
+    rule.parsed
+}
+
+/// What a search pattern was read as.
+pub fn pattern_kinds(pattern: SsrPattern) -> ParsedKinds
+    ensures { result ≡ pattern }
+{
+    pattern.parsed
 }
 
 /// The rule that a text says.
@@ -125,18 +159,20 @@ fn rule_of<'a>(
     requires few { length pattern.now < 2 ^ 32 }
     requires pattern_new { AreNew [] (names_of pattern.now) }
     requires template_new { IfSome (option_copied template) (λ side. AreNew [] (names_of side)) }
-    requires pattern_trimmed { trim (code_of pattern.now) ≡ code_of pattern.now }
-    requires template_trimmed { IfSome (option_copied template) (λ side. trim (code_of side) ≡ code_of side) }
     ensures { Answers result (rule_of pattern.now (option_copied template.entry)) }
 {
     let written = template.unwrap_or(&[]);
     check_sides(alloc, pattern, written)?;
     let kinds = some_kind(alloc, pattern, template)?;
+    check_uses(alloc, pattern, written, kinds.as_slice())?;
     let names = names_of(alloc, pattern)?;
-    let used = names_of(alloc, written)?;
-    check_defined(alloc, names.as_slice(), used.as_slice())?;
     let names = owned(alloc, names.as_slice())?;
-    Ok(ParsedKinds { names, kinds })
+    let constraints = constraints_of(alloc, pattern)?;
+    Ok(ParsedKinds {
+        names,
+        constraints,
+        kinds,
+    })
 }
 
 /// Whether placeholders and the identifiers beside them are told apart where a side is read with stand-ins.
@@ -152,6 +188,53 @@ fn check_sides<'a>(
     let names = all_names(alloc, pattern, template)?;
     check_reserved(alloc, names.as_slice(), pattern)?;
     check_reserved(alloc, names.as_slice(), template)
+}
+
+/// Whether what both sides' placeholders ask for can be given.
+fn check_uses(
+    alloc: Global,
+    pattern: &[Element<'_>],
+    template: &[Element<'_>],
+    kinds: &[ParsedRule],
+) -> Result<(), SsrError>
+    ensures { Answers result (check_uses pattern.now template.now kinds.now) }
+{
+    check_tested(alloc, kinds, pattern)?;
+    check_unconstrained(alloc, template)?;
+    let names = names_of(alloc, pattern)?;
+    let used = names_of(alloc, template)?;
+    check_defined(alloc, names.as_slice(), used.as_slice())
+}
+
+/// Refuses a placeholder whose constraints nothing tests.
+fn check_tested(
+    alloc: Global,
+    kinds: &[ParsedRule],
+    pattern: &[Element<'_>],
+) -> Result<(), SsrError>
+    ensures { Answers result (unless r.ConstraintInMacroCall (untested kinds.now pattern.now)) }
+{
+    match untested(kinds, pattern) {
+        Some(name) => Err(Refusal::ConstraintInMacroCall(Text(name)).told(alloc)),
+        None => Ok(()),
+    }
+}
+
+/// Whether one of them is a placeholder with constraints.
+fn is_any_constrained(elements: &[Element<'_>]) -> bool
+    ensures { result ≡ list_any is_constrained elements.now }
+{
+    elements.iter().any(|element| element.is_constrained())
+}
+
+/// Refuses placeholders of a template that have constraints.
+fn check_unconstrained(alloc: Global, template: &[Element<'_>]) -> Result<(), SsrError>
+    ensures { Answers result (unconstrained template.now) }
+{
+    if is_any_constrained(template) {
+        return Err(Refusal::ConstraintInTemplate.told(alloc));
+    }
+    Ok(())
 }
 
 /// The names of both sides' placeholders.
@@ -176,6 +259,19 @@ fn names_of<'a>(alloc: Global, elements: &[Element<'a>]) -> Result<Vec<Name<'a>>
     Ok(names)
 }
 
+/// What each of a side's placeholders asks.
+fn constraints_of(alloc: Global, elements: &[Element<'_>]) -> Result<Vec<ConstraintSet>, AllocError>
+    ensures { IfOk result (λ v. v.items ≡ constraints_of elements.now) }
+{
+    let mut sets = Vec::new(alloc);
+    for element in elements {
+        if let Element::Placeholder(placeholder) = element {
+            sets.push(placeholder.constraints(alloc)?)?;
+        }
+    }
+    Ok(sets)
+}
+
 /// The names as texts of their own.
 fn owned(alloc: Global, names: &[Name<'_>]) -> Result<Vec<String>, AllocError>
     ensures { IfOk result (λ v. map string_bytes v.items ≡ names.now) }
@@ -189,10 +285,10 @@ fn owned(alloc: Global, names: &[Name<'_>]) -> Result<Vec<String>, AllocError>
 
 /// Refuses a placeholder that isn't a token of its own.
 fn check_tokens(alloc: Global, elements: &[Element<'_>]) -> Result<(), SsrError>
-    ensures { Answers result (unless glued (glued_placeholder elements.now)) }
+    ensures { Answers result (unless r.Glued (glued_placeholder elements.now)) }
 {
     match glued_placeholder(alloc, elements)? {
-        Some(name) => Err(SsrError::glued(alloc, name)),
+        Some(name) => Err(Refusal::Glued(Text(name)).told(alloc)),
         None => Ok(()),
     }
 }
@@ -203,82 +299,12 @@ fn check_reserved(
     names: &[Name<'_>],
     elements: &[Element<'_>],
 ) -> Result<(), SsrError>
-    ensures { Answers result (unless reserved (spelled_stand_in names.now elements.now)) }
+    ensures { Answers result (unless r.Reserved (spelled_stand_in names.now elements.now)) }
 {
     match spelled_stand_in(names, elements) {
-        Some(text) => Err(SsrError::reserved(alloc, text)),
+        Some(text) => Err(Refusal::Reserved(Text(text)).told(alloc)),
         None => Ok(()),
     }
-}
-
-/// The tree of a text, if it is an expression.
-fn expr_of(alloc: Global, text: &str) -> Result<Option<Tree>, AllocError>
-    ensures { IfOk result (λ tree. tree ≡ expr_of text.now) }
-{
-    match fragment(alloc, Fragment::Expr, text) {
-        Ok((tree, _)) => Ok(Some(tree)),
-        Err(SyntaxError::Memory) => Err(AllocError),
-        Err(_) => Ok(None),
-    }
-}
-
-/// The kinds of a rule, from its sides' texts with stand-ins.
-#[tactic(auto, unfolding(crate::specs::Rules::kinds_of))]
-fn kinds_of(
-    alloc: Global,
-    pattern: &str,
-    template: Option<&str>,
-) -> Result<Vec<ParsedRule>, AllocError>
-    ensures { IfOk result (λ v. v.items ≡ kinds_of pattern.now (option_copied template.entry)) }
-{
-    let mut kinds = Vec::new(alloc);
-    let Some(pattern) = expr_of(alloc, pattern)? else {
-        return Ok(kinds);
-    };
-    let Some(template) = template else {
-        kinds.push(ParsedRule {
-            pattern,
-            template: None,
-        })?;
-        return Ok(kinds);
-    };
-    let template = expr_of(alloc, template)?;
-    if template.is_some() {
-        kinds.push(ParsedRule { pattern, template })?;
-    }
-    Ok(kinds)
-}
-
-/// A template's text with stand-ins.
-fn template_code(
-    alloc: Global,
-    template: Option<&[Element<'_>]>,
-) -> Result<Option<String>, AllocError>
-    ensures { IfOk result (λ code. option_map string_bytes code ≡ option_map code_of (option_copied template.entry)) }
-{
-    match template {
-        Some(elements) => Ok(Some(code_of(alloc, elements)?)),
-        None => Ok(None),
-    }
-}
-
-/// The kinds of a rule, of which there is at least one.
-fn some_kind(
-    alloc: Global,
-    pattern: &[Element<'_>],
-    template: Option<&[Element<'_>]>,
-) -> Result<Vec<ParsedRule>, SsrError>
-    ensures kinds { AnswersBy (λ v. v.items) result (some_kind (kinds_of (code_of pattern.now) (option_map code_of (option_copied template.entry)))) }
-    ensures pattern_text { IfOk result (λ _. IsUtf8 (code_of pattern.now)) }
-    ensures template_text { IfOk result (λ _. IfSome (option_copied template.entry) (λ side. IsUtf8 (code_of side))) }
-{
-    let pattern = code_of(alloc, pattern)?;
-    let template = template_code(alloc, template)?;
-    let kinds = kinds_of(alloc, pattern.as_str(), template.as_deref())?;
-    if kinds.is_empty() {
-        return Err(SsrError::no_kind(alloc));
-    }
-    Ok(kinds)
 }
 
 /// The used names that are not among the names.
@@ -307,5 +333,6 @@ fn check_defined(alloc: Global, names: &[Name<'_>], used: &[Name<'_>]) -> Result
     if lacking.is_empty() {
         return Ok(());
     }
-    Err(SsrError::undefined(alloc, lacking.as_slice()))
+    let names = listed(alloc, lacking.as_slice())?;
+    Err(Refusal::Undefined(Text(names.as_str())).told(alloc))
 }

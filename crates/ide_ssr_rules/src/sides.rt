@@ -1,29 +1,27 @@
 //! The two sides of a rule text, and the elements of a side.
 ghost use Rattle.std.specs.Prelude.{◌≡◌, ◌<◌, ◌≤◌, ◌^◌, ◌++◌, [], length, IfOk, OnOk};
-ghost use Rattle.std.specs.Str.{trim};
-ghost use Rattle.ide_ssr_rules.specs.Elements.{has, name_in, elements, side, names_of};
+ghost use Rattle.ide_ssr_rules.specs.Elements.{has, new_placeholder, elements, side, names_of};
 ghost use Rattle.ide_ssr_rules.specs.Refusals.{AnswersBy};
 ghost use Rattle.ide_ssr_rules.specs.Sides.{sides};
-ghost use Rattle.ide_ssr_rules.specs.StandIns.{code_of};
 
+use crate::constraints::{Placeholder, read_placeholder};
 use crate::elements::Element;
 use crate::error::SsrError;
-use crate::tokens::{Name, Token, Unlexed, lexed};
+use crate::refusals::{Fault, Refusal, Text};
+use crate::tokens::{Name, Token, Tokens, Unlexed, lexed};
 use std::alloc::{AllocError, Global};
 
 const DELIMITER: &str = "==>>";
 
 /// The pattern and the template of a rule text, without the white space around them.
 pub(crate) fn sides(alloc: Global, text: &str) -> Result<(&str, &str), SsrError>
-    ensures parts { AnswersBy (λ parts. (parts.0.now, parts.1.now)) result (sides text.now) }
-    ensures pattern_trimmed { IfOk result (λ parts. trim parts.0.now ≡ parts.0.now) }
-    ensures template_trimmed { IfOk result (λ parts. trim parts.1.now ≡ parts.1.now) }
+    ensures { AnswersBy (λ parts. (parts.0.now, parts.1.now)) result (sides text.now) }
 {
     let Some((pattern, template)) = text.split_once(DELIMITER) else {
-        return Err(SsrError::no_delimiter(alloc));
+        return Err(Refusal::NoDelimiter.told(alloc));
     };
     if template.contains(DELIMITER) {
-        return Err(SsrError::second_delimiter(alloc));
+        return Err(Refusal::SecondDelimiter.told(alloc));
     }
     Ok((pattern.trim(), template.trim()))
 }
@@ -35,18 +33,20 @@ pub(crate) fn has(names: &[Name<'_>], name: &str) -> bool
     names.iter().any(|known| name == known.text)
 }
 
-/// The name that the token behind `$` gives, which none of the names before it may be.
-fn name_in<'a>(alloc: Global, names: &[Name<'_>], token: &Token<'a>) -> Result<&'a str, SsrError>
-    ensures { AnswersBy (λ name. name.now) result (name_in names.now token.now) }
+/// The placeholder behind a `$`, whose name may be none of the names before it.
+fn new_placeholder<'a>(
+    alloc: Global,
+    names: &[Name<'_>],
+    tokens: &mut Tokens<'a>,
+) -> Result<Placeholder<'a>, SsrError>
+    ensures { AnswersBy (λ placeholder. (placeholder, tokens.new)) result (new_placeholder names.now tokens.old) }
 {
-    if !token.is_ident() {
-        return Err(SsrError::no_placeholder(alloc));
-    }
-    let name = token.text();
+    let placeholder = read_placeholder(alloc, tokens)?;
+    let name = placeholder.name();
     if has(names, name) {
-        return Err(SsrError::repeated(alloc, name));
+        return Err(Refusal::Repeated(Text(name)).told(alloc));
     }
-    Ok(name)
+    Ok(placeholder)
 }
 
 /// The tokens and placeholders that tokens are.
@@ -56,18 +56,16 @@ fn elements<'a>(alloc: Global, tokens: Vec<Token<'a>>) -> Result<Vec<Element<'a>
 {
     let mut elements = Vec::new(alloc);
     let mut names = Vec::new(alloc);
-    let mut tokens = tokens.into_iter();
+    let mut tokens = Tokens::new(tokens);
     while let Some(token) = tokens.next() {
         if !token.is_dollar() {
             elements.push(Element::Token(token))?;
             continue;
         }
-        let Some(next) = tokens.next() else {
-            return Err(SsrError::no_name(alloc));
-        };
-        let name = name_in(alloc, names.as_slice(), &next)?;
-        names.push(Name { text: name })?;
-        elements.push(Element::Placeholder(Name { text: name }))?;
+        let placeholder = new_placeholder(alloc, names.as_slice(), &mut tokens)?;
+        let text = placeholder.name();
+        names.push(Name { text })?;
+        elements.push(Element::Placeholder(placeholder))?;
     }
     Ok(elements)
 }
@@ -76,11 +74,10 @@ fn elements<'a>(alloc: Global, tokens: Vec<Token<'a>>) -> Result<Vec<Element<'a>
 pub(crate) fn side<'a>(alloc: Global, text: &'a str) -> Result<Vec<Element<'a>>, SsrError>
     ensures value { AnswersBy (λ v. v.items) result (side text.now) }
     ensures few { IfOk result (λ v. length v.items < 2 ^ 32) }
-    ensures trimmed { IfOk result (λ v. trim text.now ≡ text.now → trim (code_of v.items) ≡ code_of v.items) }
 {
     match lexed(alloc, text) {
         Ok(tokens) => elements(alloc, tokens),
-        Err(Unlexed::Fault(fault)) => Err(SsrError::lexer_fault(alloc, fault)),
+        Err(Unlexed::Fault(fault)) => Err(Refusal::LexerFault(Fault(fault)).told(alloc)),
         Err(Unlexed::Memory) => Err(SsrError::Memory),
     }
 }
@@ -93,8 +90,9 @@ pub(crate) fn push_names<'a>(
     ensures { OnOk result (names.new.items ≡ names.old.items ++ names_of elements.now) }
 {
     for element in elements {
-        if let Element::Placeholder(name) = element {
-            names.push(Name { text: name.text })?;
+        if let Element::Placeholder(placeholder) = element {
+            let text = placeholder.name();
+            names.push(Name { text })?;
         }
     }
     Ok(())

@@ -13,7 +13,7 @@ use std::alloc::{AllocError, Global};
 const PREFIX: &str = "__placeholder_";
 
 /// Whether the text is the stand-in of a name.
-pub(crate) fn is_stand_in_of(text: &str, name: &str) -> bool
+pub fn is_stand_in_of(text: &str, name: &str) -> bool
     ensures { result ≡ bytes_eq text.now (stand_in_of name.now) }
 {
     match text.strip_prefix(PREFIX) {
@@ -36,9 +36,9 @@ impl<'a> Element<'a> {
     {
         match self {
             Element::Token(token) => code.push_str(token.text),
-            Element::Placeholder(name) => {
+            Element::Placeholder(placeholder) => {
                 code.push_str(PREFIX)?;
-                code.push_str(name.text)
+                code.push_str(placeholder.name())
             }
         }
     }
@@ -49,8 +49,8 @@ impl<'a> Element<'a> {
     {
         match self {
             Element::Token(own) => own.kind.is(token.kind) && own.text == token.text,
-            Element::Placeholder(name) => {
-                token.is_ident() && is_stand_in_of(token.text, name.text)
+            Element::Placeholder(placeholder) => {
+                token.is_ident() && is_stand_in_of(token.text, placeholder.name())
             }
         }
     }
@@ -86,10 +86,10 @@ fn first_name<'a>(elements: &[Element<'a>]) -> &'a str
     ensures { result.now ≡ first_name elements.now }
 {
     for element in elements {
-        let Element::Placeholder(name) = element else {
+        let Element::Placeholder(placeholder) = element else {
             continue;
         };
-        return name.text;
+        return placeholder.name();
     }
     ""
 }
@@ -114,7 +114,7 @@ pub(crate) fn glued_placeholder<'a>(
     ensures { IfOk result (λ name. option_copied name ≡ glued_placeholder elements.now) }
 {
     let code = code_of(alloc, elements)?;
-    match lexed(alloc, code.as_str()) {
+    match lexed(alloc, code.as_str().trim()) {
         Ok(tokens) => Ok(first_glued(elements, tokens.as_slice())),
         Err(Unlexed::Fault(_)) => Ok(Some(first_name(elements))),
         Err(Unlexed::Memory) => Err(AllocError),

@@ -6,6 +6,7 @@ use ssr_syntax_kinds::SyntaxKind;
 use ssr_syntax_lex::{LexError, lex};
 use std::alloc::Global;
 use std::marker::Model;
+use std::vec::IntoIter;
 
 /// A token of a side: its kind and its text.
 #[derive(Drop)]
@@ -24,6 +25,7 @@ impl<'a> Model for Token<'a> {
 
 impl<'a> Token<'a> {
     ghost use Rattle.ssr_syntax.specs.Identifiers.{is_ident};
+    ghost use Rattle.ide_ssr_rules.specs.Constraints.{is_colon, opens, closes};
     ghost use Rattle.ide_ssr_rules.specs.Elements.{is_dollar};
 
     pub(crate) fn is_dollar(&self) -> bool
@@ -38,10 +40,65 @@ impl<'a> Token<'a> {
         matches!(self.kind, SyntaxKind::IDENT)
     }
 
+    pub(crate) fn is_colon(&self) -> bool
+        ensures { result ≡ is_colon self.now.kind }
+    {
+        matches!(self.kind, SyntaxKind::COLON)
+    }
+
+    /// Whether it opens the braces of a placeholder.
+    pub(crate) fn opens(&self) -> bool
+        ensures { result ≡ opens self.now.kind }
+    {
+        matches!(self.kind, SyntaxKind::L_CURLY)
+    }
+
+    /// Whether it closes them.
+    pub(crate) fn closes(&self) -> bool
+        ensures { result ≡ closes self.now.kind }
+    {
+        matches!(self.kind, SyntaxKind::R_CURLY)
+    }
+
     pub(crate) fn text(&self) -> &'a str
         ensures { result.now ≡ self.now.text }
     {
         self.text
+    }
+}
+
+/// The tokens of a side that are still to be read.
+#[derive(Drop)]
+pub(crate) struct Tokens<'a> {
+    left: IntoIter<Token<'a>>,
+}
+
+impl<'a> Model for Tokens<'a> {
+    ghost use Rattle.std.specs.Prelude.{List};
+    ghost use Rattle.std.specs.Vec.Iter.{into_iter_items};
+    ghost use Rattle.ssr_syntax_tree.specs.Syntax.{Token};
+
+    ghost Value = { List Token };
+
+    ghost view = { λ tokens. into_iter_items tokens.left };
+}
+
+impl<'a> Tokens<'a> {
+    ghost use Rattle.std.specs.Prelude.{[], ◌∷◌, MatchOption};
+
+    pub(crate) fn new(tokens: Vec<Token<'a>>) -> Tokens<'a>
+        ensures { result ≡ tokens.entry.items }
+    {
+        Tokens {
+            left: tokens.into_iter(),
+        }
+    }
+
+    /// Takes the first one.
+    pub(crate) fn next(&mut self) -> Option<Token<'a>>
+        ensures { MatchOption result (self.old ≡ []) (λ token. self.old ≡ token ∷ self.new) }
+    {
+        self.left.next()
     }
 }
 

@@ -10,7 +10,7 @@ use Rattle.ssr_syntax_tree.specs.Syntax.{Syntax, node_count}
 use Rattle.ssr_syntax_tree.specs.Places.{HasNode}
 use Rattle.ssr_base.specs.declared.ids.NodeId.{NodeId}
 use Rattle.ssr_base.specs.Workspace.{Workspace, Planted, trees, planted, tree_of, node_id}
-use Rattle.ide_ssr_rules.specs.Resolving.{ResolvedKind}
+use Rattle.ide_ssr_resolving.specs.Resolved.{ResolvedKind}
 use Rattle.ide_ssr_matching.specs.declared.bindings.Binding.{Binding}
 use Rattle.ide_ssr_matching.specs.Found.{Found}
 use Rattle.ide_ssr_search.specs.Context.{Context}
@@ -179,6 +179,20 @@ module _ (w : Workspace) (context : Context) (rules : List ResolvedKind) where
       elim (node_cases t n f before) [
         | inl earlier ↦ earlier
         | inr here ↦ absurd (shut (subst (IsOpen w context.restrictions) (at_id t n f.node here.0 here.1) is.permitted.open_to_all))
+      ])
+
+  -- nor at one that no rule matches
+  pub found_unmatched : (t n : ℕ) (ms : List Found)
+      → ((place : ℕ) (rule : ResolvedKind) (bindings : List Binding) → slice_get rules place ≡ Some rule → IsWholeMatch (trees w) rule (node_id t n) bindings → ⊥)
+      → AreFoundBefore w context rules t n 0 ms → AreFoundBefore w context rules t (n + 1) 0 ms
+  found_unmatched t n ms none so_far =
+      passed t n 0 t (n + 1) 0 ms so_far (before_node t n 0)
+      (λ f is before.
+      elim (node_cases t n f before) [
+        | inl earlier ↦ earlier
+        | inr here ↦
+            absurd (none f.rule is.rule f.bindings is.is_rule
+            (subst (λ x. IsWholeMatch (trees w) is.rule x f.bindings) (at_id t n f.node here.0 here.1) is.whole))
       ])
 
   -- ** At a tree.

@@ -9,6 +9,7 @@ mod Inside
 mod Calls
 mod Apart
 mod Placed
+mod Asked
 mod Finding
 mod Matched
 mod Deciding

@@ -7,7 +7,7 @@ use Rattle.ssr_syntax_tree.specs.Places.{HasNode, node_of, root_of}
 use Rattle.ssr_syntax_tree.proofs.Lists.{same_rising}
 use Rattle.ssr_syntax_tree.proofs.Shared.{node_of-number, over_within}
 use Rattle.ssr_base.specs.Workspace.{Workspace, Planted, trees, planted, node_id, original_range}
-use Rattle.ide_ssr_rules.specs.Resolving.{ResolvedKind}
+use Rattle.ide_ssr_resolving.specs.Resolved.{ResolvedKind}
 use Rattle.ide_ssr_matching.specs.declared.bindings.Binding.{Binding}
 use Rattle.ide_ssr_matching.specs.Apart.{IsHeldIn}
 use Rattle.ide_ssr_matching.specs.Found.{Found, held_node, IsAtOrBelow, IsMatch, AreMatches}
@@ -36,7 +36,7 @@ module _ (w : Workspace) (context : Context) (rules : List ResolvedKind) where
       let t = m.node.tree in
       let n = m.node.node.0 in
       let rule = is.rule in
-      let matched = some_and (planted ts t) (λ p. Matches rule.names (root_of rule.pattern) (node_of p.syntax n) m.bindings) is.whole.matches in
+      let matched = some_and (planted ts t) (λ p. Matches rule (root_of rule.pattern) (node_of p.syntax n) m.bindings) is.whole.matches in
       let s = matched.0.syntax in
       let at : IsTree ts t s = record { tree = matched.0; is = matched.1; same = refl } in
       let has = in_tree ts t s (λ s. HasNode s n) at is.permitted.open_to_all.node in
@@ -45,7 +45,7 @@ module _ (w : Workspace) (context : Context) (rules : List ResolvedKind) where
         range = is.permitted.open_to_all.has_byte;
         held =
             All-weaker (IsHeldIn (node_of s n)) (λ b. IsAtOrBelow ts (held_node t b) m.node) (at_or_below ts t n s at has) m.bindings
-            (held_in rule.names (root_of rule.pattern) (node_of s n) m.bindings matched.2);
+            (held_in rule (root_of rule.pattern) (node_of s n) m.bindings matched.2);
         ranges =
             All-weaker (λ b. IsPlaced ts (held_node t b)) (λ b. IsSome (original_range ts (held_node t b)))
             (λ b placed. ap is_some (some_and (original_range ts (held_node t b)) (LiesInArguments ts t) placed).1)

@@ -12,7 +12,7 @@ use Rattle.ssr_base.specs.declared.ids.NodeId.{NodeId}
 use Rattle.ssr_base.specs.Origins.{covered}
 use Rattle.ssr_base.specs.Workspace.{Workspace, Planted, FileSpan, trees, planted, tree_of, node_id, file_of, original_in, own_span, original_range, file_span_of, cover_below}
 use Rattle.ssr_base.specs.Laws.{LiesIn}
-use Rattle.ide_ssr_rules.specs.Resolving.{ResolvedKind}
+use Rattle.ide_ssr_resolving.specs.Resolved.{ResolvedKind}
 use Rattle.ide_ssr_matching.specs.declared.bindings.Binding.{Binding}
 use Rattle.ide_ssr_matching.specs.Bindings.{bindings_of}
 use Rattle.ide_ssr_matching.specs.Found.{held_node, ShareNoByte}
@@ -124,7 +124,7 @@ file_placed ts x bindings are m =
     let uncalled : p.call ≡ None = no_call had.0.call p.call (ap (λ (p : Planted). p.call) (same_Some had.0 p (sym had.1 ∙ m.is))) had.2 in
     let node = node_of p.syntax n in
     let number = node_of-number p.syntax n m.has in
-    let hold = bindings_hold p.syntax m.names m.pattern node (subst (HasNode p.syntax) (sym number) m.has, ap (node_of p.syntax) number) bindings m.matches in
+    let hold = bindings_hold p.syntax m.rule node (subst (HasNode p.syntax) (sym number) m.has, ap (node_of p.syntax) number) bindings m.matches in
     let bound = all_bound p.syntax (start_of p.syntax node) (end_of p.syntax node) bindings hold.0 in
     let apart = all_apart p.syntax (start_of p.syntax node) (end_of p.syntax node) bindings hold.0 in
     record {
@@ -142,26 +142,25 @@ file_placed ts x bindings are m =
 -- ** Whole matches.
 
 pub matched : (w : Workspace) (tree : Syntax) (rule : ResolvedKind) (x : NodeId) (bindings : List Binding) → tree_of w x.tree ≡ Some tree → HasNode tree x.node.0
-    → Some bindings ≡ bindings_of rule.names (root_of rule.pattern) (node_of tree x.node.0) → IsMatched (trees w) x bindings
+    → Some bindings ≡ bindings_of rule (root_of rule.pattern) (node_of tree x.node.0) → IsMatched (trees w) x bindings
 matched w tree rule x bindings is has found =
     let at = is_tree w x.tree tree is in
     record {
-      names = rule.names;
-      pattern = rule.pattern;
+      rule = rule;
       tree = at.tree;
       is = at.is;
       has = subst (λ s. HasNode s x.node.0) (sym at.same) has;
-      matches = subst (λ s. bindings_of rule.names (root_of rule.pattern) (node_of s x.node.0) ≡ Some bindings) (sym at.same) (sym found);
+      matches = subst (λ s. bindings_of rule (root_of rule.pattern) (node_of s x.node.0) ≡ Some bindings) (sym at.same) (sym found);
     }
 
 pub whole : (w : Workspace) (tree : Syntax) (rule : ResolvedKind) (x : NodeId) (bindings : List Binding) → tree_of w x.tree ≡ Some tree
-    → Some bindings ≡ bindings_of rule.names (root_of rule.pattern) (node_of tree x.node.0) → IsPlacedMatch (trees w) x bindings → IsWholeMatch (trees w) rule x bindings
+    → Some bindings ≡ bindings_of rule (root_of rule.pattern) (node_of tree x.node.0) → IsPlacedMatch (trees w) x bindings → IsWholeMatch (trees w) rule x bindings
 whole w tree rule x bindings is found placed =
     let at = is_tree w x.tree tree is in
     record {
       matches =
-          of_tree (trees w) x.tree tree (λ s. Matches rule.names (root_of rule.pattern) (node_of s x.node.0) bindings) at
-          (bindings_of-Matches rule.names (root_of rule.pattern) (node_of tree x.node.0) bindings (sym found));
+          of_tree (trees w) x.tree tree (λ s. Matches rule (root_of rule.pattern) (node_of s x.node.0) bindings) at
+          (bindings_of-Matches rule (root_of rule.pattern) (node_of tree x.node.0) bindings (sym found));
       placed = placed.placed;
       bindings_placed = placed.bindings_placed;
       apart = placed.apart;
@@ -169,17 +168,17 @@ whole w tree rule x bindings is found placed =
 
 -- a whole match binds what is computed
 pub whole_binds : (w : Workspace) (tree : Syntax) (rule : ResolvedKind) (x : NodeId) (bindings : List Binding) → tree_of w x.tree ≡ Some tree
-    → IsWholeMatch (trees w) rule x bindings → bindings_of rule.names (root_of rule.pattern) (node_of tree x.node.0) ≡ Some bindings
+    → IsWholeMatch (trees w) rule x bindings → bindings_of rule (root_of rule.pattern) (node_of tree x.node.0) ≡ Some bindings
 whole_binds w tree rule x bindings is whole =
-    Matches-bindings_of rule.names (root_of rule.pattern) (node_of tree x.node.0) bindings
-    (in_tree (trees w) x.tree tree (λ s. Matches rule.names (root_of rule.pattern) (node_of s x.node.0) bindings) (is_tree w x.tree tree is) whole.matches)
+    Matches-bindings_of rule (root_of rule.pattern) (node_of tree x.node.0) bindings
+    (in_tree (trees w) x.tree tree (λ s. Matches rule (root_of rule.pattern) (node_of s x.node.0) bindings) (is_tree w x.tree tree is) whole.matches)
 
 pub not_matched : (w : Workspace) (tree : Syntax) (rule : ResolvedKind) (x : NodeId) → tree_of w x.tree ≡ Some tree
-    → None ≡ bindings_of rule.names (root_of rule.pattern) (node_of tree x.node.0) → TellsWhole (trees w) rule x None
+    → None ≡ bindings_of rule (root_of rule.pattern) (node_of tree x.node.0) → TellsWhole (trees w) rule x None
 not_matched w tree rule x is none bindings whole = none-some bindings (none ∙ whole_binds w tree rule x bindings is whole)
 
 pub not_placed : (w : Workspace) (tree : Syntax) (rule : ResolvedKind) (x : NodeId) (found : List Binding) → tree_of w x.tree ≡ Some tree
-    → Some found ≡ bindings_of rule.names (root_of rule.pattern) (node_of tree x.node.0) → (IsPlacedMatch (trees w) x found → ⊥) → TellsWhole (trees w) rule x None
+    → Some found ≡ bindings_of rule (root_of rule.pattern) (node_of tree x.node.0) → (IsPlacedMatch (trees w) x found → ⊥) → TellsWhole (trees w) rule x None
 not_placed w tree rule x found is matches out bindings whole =
     let same : bindings ≡ found = same_Some bindings found (sym (whole_binds w tree rule x bindings is whole) ∙ sym matches) in
     out (subst (IsPlacedMatch (trees w) x) same (record { placed = whole.placed; bindings_placed = whole.bindings_placed; apart = whole.apart }))

@@ -7,7 +7,7 @@ use Rattle.ssr_syntax_tree.proofs.Lists.{stands_at}
 use Rattle.ssr_base.specs.Workspace.{Workspace, Planted, trees, planted, tree_of, node_id}
 use Rattle.ssr_base.specs.Built.{IsBuilt}
 use Rattle.ssr_base.proofs.Shared.{planted_within}
-use Rattle.ide_ssr_rules.specs.Resolving.{ResolvedKind}
+use Rattle.ide_ssr_resolving.specs.Resolved.{ResolvedKind}
 use Rattle.ide_ssr_matching.specs.declared.bindings.Binding.{Binding}
 use Rattle.ide_ssr_matching.specs.Bindings.{bindings_of}
 use Rattle.ide_ssr_matching.specs.Found.{Found}
@@ -27,9 +27,9 @@ module _ (w : Workspace) (b : IsBuilt w) (context : Context) (rules : List Resol
     Told = (bindings : Option (List Binding)) × TellsMatch w context rule (node_id t n) bindings
 
     told : Told
-    told = by (bindings_of rule.names (root_of rule.pattern) (node_of s n)) refl
+    told = by (bindings_of rule (root_of rule.pattern) (node_of s n)) refl
       where
-        by : (o : Option (List Binding)) → bindings_of rule.names (root_of rule.pattern) (node_of s n) ≡ o → Told
+        by : (o : Option (List Binding)) → bindings_of rule (root_of rule.pattern) (node_of s n) ≡ o → Told
         by None none = (None, λ bindings permitted. not_matched w s rule (node_id t n) tree (sym none) bindings)
         by (Some bindings) is =
             elim (is_permitted w b (node_id t n) (of_tree (trees w) t s (λ s. HasNode s n) (is_tree w t s tree) has) context rule) [

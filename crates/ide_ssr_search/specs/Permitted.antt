@@ -9,7 +9,7 @@ use Rattle.ssr_base.specs.declared.ids.NodeId.{NodeId}
 use Rattle.ssr_base.specs.Workspace.{Workspace, Planted, FileSpan, trees, planted, node_id, original_range}
 use Rattle.ssr_base.specs.Built.{IsNodeOf, IsMacroCall}
 use Rattle.ssr_base.specs.Laws.{IsBelow, LiesIn}
-use Rattle.ide_ssr_rules.specs.Resolving.{ResolvedKind}
+use Rattle.ide_ssr_resolving.specs.Resolved.{ResolvedKind}
 use Rattle.ide_ssr_matching.specs.Found.{IsAtOrBelow, HasByte}
 use Rattle.ide_ssr_search.specs.Context.{Context}
 

@@ -3,5 +3,6 @@
 pub mod Shut
 pub mod Bounds
 pub mod Whole
+pub mod Roots
 pub mod Scan
 pub mod Files

@@ -5,7 +5,7 @@ use Rattle.ssr_syntax_tree.specs.Places.{node_of, root_of}
 use Rattle.ssr_base.specs.declared.ids.NodeId.{NodeId}
 use Rattle.ssr_base.specs.Workspace.{Planted, FileSpan, planted, original_range}
 use Rattle.ssr_base.specs.Laws.{LiesIn}
-use Rattle.ide_ssr_rules.specs.Resolving.{ResolvedKind}
+use Rattle.ide_ssr_resolving.specs.Resolved.{ResolvedKind}
 use Rattle.ide_ssr_matching.specs.declared.bindings.Binding.{Binding}
 use Rattle.ide_ssr_matching.specs.Found.{held_node, ShareNoByte}
 use Rattle.ide_ssr_matching.specs.Matching.{Matches}
@@ -22,7 +22,7 @@ IsPlaced trees x = IsSomeAnd (original_range trees x) (LiesInArguments trees x.t
 
 -- The node matches the root of the pattern, it and what the placeholders hold are placed, and no two placeholders share a byte.
 pub record IsWholeMatch (trees : List Planted) (rule : ResolvedKind) (x : NodeId) (bindings : List Binding) : Type 0 where
-  pub matches : IsSomeAnd (planted trees x.tree) (λ p. Matches rule.names (root_of rule.pattern) (node_of p.syntax x.node.0) bindings)
+  pub matches : IsSomeAnd (planted trees x.tree) (λ p. Matches rule (root_of rule.pattern) (node_of p.syntax x.node.0) bindings)
   pub placed : IsPlaced trees x
   pub bindings_placed : All (λ b. IsPlaced trees (held_node x.tree b)) bindings
   pub apart : AllPairs (λ b c. ShareNoByte trees (held_node x.tree b) (held_node x.tree c)) bindings

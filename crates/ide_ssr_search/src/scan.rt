@@ -7,15 +7,17 @@ ghost use Rattle.ssr_base.specs.Built.{IsBuilt};
 ghost use Rattle.ide_ssr_matching.specs.Found.{AreMatches};
 ghost use Rattle.ide_ssr_search.specs.Permitted.{IsOpen, IsInFunction, IsPermitted};
 ghost use Rattle.ide_ssr_search.specs.Found.{AreFound};
+ghost use Rattle.ide_ssr_search.specs.Private.Roots.{IsRootOf, AreRules};
 ghost use Rattle.ide_ssr_search.specs.Private.Shut.{IsShutIn, IsShut, TellsPast};
 ghost use Rattle.ide_ssr_search.specs.Private.Scan.{AreFoundBefore, IsGround, TellsMatch, Adds, KnowsShut, KnowsInside, IsEarlierCall, StandsIn};
 
 use crate::bounds::Bounds;
 use crate::context::Context;
 use crate::permitted::{is_at_or_below, is_searched, names_self, shuts};
+use crate::roots::{Root, Rules};
 use crate::whole::whole_match;
 use ide_ssr_matching::{Binding, Found};
-use ide_ssr_rules::ResolvedRule;
+use ide_ssr_resolving::ResolvedRule;
 use ssr_base::{NodeId, Workspace};
 use ssr_syntax_kinds::SyntaxKind;
 use ssr_syntax_tree::{NodeNo, Tree};
@@ -131,13 +133,18 @@ impl<'a> Ground<'a> {
         &self,
         alloc: Global,
         rule: &ResolvedRule,
+        root: Root,
         node: NodeNo,
     ) -> Result<Option<Vec<Binding>>, AllocError>
         requires ground { IsGround self.now }
+        requires root { IsRootOf rule.now root }
         requires has { HasNode self.now.tree.now node.0 }
         requires free { ¬ IsShutIn (trees self.now.workspace.now) (node_id self.now.number node.0) }
         ensures { IfOk result (λ found. TellsMatch self.now.workspace.now self.now.context.now rule.now (node_id self.now.number node.0) (option_map (λ v. v.items) found)) }
     {
+        if !root.is_met(self.tree, node) {
+            return Ok(None);
+        }
         let found = whole_match(
             alloc,
             self.workspace,
@@ -158,15 +165,17 @@ impl<'a> Ground<'a> {
         alloc: Global,
         place: usize,
         rule: &ResolvedRule,
+        root: Root,
         node: NodeNo,
         found: &mut Vec<Found>,
     ) -> Result<(), AllocError>
         requires ground { IsGround self.now }
+        requires root { IsRootOf rule.now root }
         requires has { HasNode self.now.tree.now node.0 }
         requires free { ¬ IsShutIn (trees self.now.workspace.now) (node_id self.now.number node.0) }
         ensures { IfOk result (λ _. Adds self.now.workspace.now self.now.context.now rule.now place (node_id self.now.number node.0) found.old.items found.new.items) }
     {
-        if let Some(bindings) = self.match_of(alloc, rule, node)? {
+        if let Some(bindings) = self.match_of(alloc, rule, root, node)? {
             found.push(Found::new(place, self.id(node), bindings))?;
         }
         Ok(())
@@ -176,18 +185,19 @@ impl<'a> Ground<'a> {
     fn add_matches(
         &self,
         alloc: Global,
-        rules: &[ResolvedRule],
+        rules: &Rules<'_>,
         node: NodeNo,
         found: &mut Vec<Found>,
     ) -> Result<(), AllocError>
         requires ground { IsGround self.now }
+        requires rules { AreRules rules.now }
         requires has { HasNode self.now.tree.now node.0 }
         requires free { ¬ IsShutIn (trees self.now.workspace.now) (node_id self.now.number node.0) }
-        requires found { AreFoundBefore self.now.workspace.now self.now.context.now rules.now self.now.number node.0 0 found.old.items }
-        ensures { IfOk result (λ _. AreFoundBefore self.now.workspace.now self.now.context.now rules.now self.now.number (node.0 + 1) 0 found.new.items) }
+        requires found { AreFoundBefore self.now.workspace.now self.now.context.now rules.now.rules.now self.now.number node.0 0 found.old.items }
+        ensures { IfOk result (λ _. AreFoundBefore self.now.workspace.now self.now.context.now rules.now.rules.now self.now.number (node.0 + 1) 0 found.new.items) }
     {
-        for (place, rule) in rules.iter().enumerate() {
-            self.add_match(alloc, place, rule, node, found)?;
+        for (place, rule) in rules.rules.iter().enumerate() {
+            self.add_match(alloc, place, rule, rules.roots[place], node, found)?;
         }
         Ok(())
     }
@@ -196,16 +206,17 @@ impl<'a> Ground<'a> {
     fn add_at(
         &self,
         alloc: Global,
-        rules: &[ResolvedRule],
+        rules: &Rules<'_>,
         node: NodeNo,
         shut: bool,
         found: &mut Vec<Found>,
     ) -> Result<(), AllocError>
         requires ground { IsGround self.now }
+        requires rules { AreRules rules.now }
         requires has { HasNode self.now.tree.now node.0 }
         requires shut { IsTrue shut ↔ IsShutIn (trees self.now.workspace.now) (node_id self.now.number node.0) }
-        requires found { AreFoundBefore self.now.workspace.now self.now.context.now rules.now self.now.number node.0 0 found.old.items }
-        ensures { IfOk result (λ _. AreFoundBefore self.now.workspace.now self.now.context.now rules.now self.now.number (node.0 + 1) 0 found.new.items) }
+        requires found { AreFoundBefore self.now.workspace.now self.now.context.now rules.now.rules.now self.now.number node.0 0 found.old.items }
+        ensures { IfOk result (λ _. AreFoundBefore self.now.workspace.now self.now.context.now rules.now.rules.now self.now.number (node.0 + 1) 0 found.new.items) }
     {
         if shut {
             return Ok(());
@@ -249,21 +260,25 @@ impl<'a> Ground<'a> {
     fn add_found(
         &self,
         alloc: Global,
-        rules: &[ResolvedRule],
+        rules: &Rules<'_>,
         shut: &mut BTreeSet<NodeId>,
         found: &mut Vec<Found>,
     ) -> Result<(), AllocError>
         requires ground { IsGround self.now }
+        requires rules { AreRules rules.now }
         requires shut { KnowsShut self.now.workspace.now self.now.number 0 shut.old }
-        requires found { AreFoundBefore self.now.workspace.now self.now.context.now rules.now self.now.number 0 0 found.old.items }
+        requires found { AreFoundBefore self.now.workspace.now self.now.context.now rules.now.rules.now self.now.number 0 0 found.old.items }
         ensures shut { IfOk result (λ _. KnowsShut self.now.workspace.now (self.now.number + 1) 0 shut.new) }
-        ensures found { IfOk result (λ _. AreFoundBefore self.now.workspace.now self.now.context.now rules.now (self.now.number + 1) 0 0 found.new.items) }
+        ensures found { IfOk result (λ _. AreFoundBefore self.now.workspace.now self.now.context.now rules.now.rules.now (self.now.number + 1) 0 0 found.new.items) }
     {
         let count = self.tree.node_count();
         // The first number behind all nodes so far that shut in what is below them: a node before it is shut in.
         let mut past = if self.shut { count } else { 0 };
         for number in 0..count {
             let node = NodeNo(number);
+            if !rules.concern(self.tree.kind(node)) {
+                continue;
+            }
             self.add_at(alloc, rules, node, number < past, found)?;
             past = self.past(node).max(past);
             self.add_shut(node, number < past, shut)?;
@@ -336,13 +351,14 @@ pub fn find_matches(
     ensures found { IfOk result (λ found. AreFound workspace.now context.now rules.now found.items) }
     ensures matches { IfOk result (λ found. AreMatches (trees workspace.now) found.items) }
 {
+    let tried = Rules::new(alloc, rules)?;
     let mut found = Vec::new(alloc);
     let mut shut = BTreeSet::new(alloc);
     let mut inside = Vec::with_capacity(alloc, workspace.file_count() as usize)?;
     let mut number = 0;
     while let Some(tree) = workspace.tree(number) {
         let ground = Ground::new(workspace, context, tree, number, &shut, &inside);
-        ground.add_found(alloc, rules, &mut shut, &mut found)?;
+        ground.add_found(alloc, &tried, &mut shut, &mut found)?;
         inside.push(ground.inside)?;
         number += 1;
     }

@@ -9,7 +9,7 @@ ghost use Rattle.ide_ssr_search.specs.Private.Whole.{AreRanges, IsMatched, IsPla
 
 use crate::bounds::Bounds;
 use ide_ssr_matching::{Binding, match_node};
-use ide_ssr_rules::ResolvedRule;
+use ide_ssr_resolving::ResolvedRule;
 use ssr_base::{FileRange, NodeId, Workspace};
 use ssr_syntax_tree::Tree;
 use std::alloc::{AllocError, Global};

@@ -44,7 +44,8 @@ fn matches_come_by_file_and_place(rt: HostRuntime) -> Result<(), Fail> {
         texts(alloc, &found)?.as_str(),
         "1 - 2 | 3 + 4 | 6 + 7 | 8 - 9"
     );
-    let wanted = [(0, 8, 1), (0, 15, 0), (2, 8, 0), (2, 15, 1)];
+    // each rule has two kinds, an expression and a statement
+    let wanted = [(0, 8, 2), (0, 15, 0), (2, 8, 0), (2, 15, 2)];
     for (m, (file, start, rule)) in found.matches.iter().zip(wanted) {
         assert_eq!(rt; m.range(), bytes(file, start, 5));
         assert_eq!(rt; m.node().tree, file);

@@ -1,8 +1,10 @@
 //! What is searched, and what comes of it.
 
 use ide_ssr::SsrMatches;
-use ssr_base::{FileId, FileRange, TextEdit, Workspace};
-use ssr_facts::{Facts, read};
+use ide_ssr_resolving::{ResolvedRule, resolve_rule};
+use ide_ssr_rules::{SsrError, SsrRule};
+use ssr_base::{FileId, FileRange, ScopeId, TextEdit, Workspace};
+use ssr_facts::{Facts, TableSemantics, read};
 use ssr_syntax_kinds::TextRange;
 use std::alloc::{AllocError, Global};
 use std::collections::BTreeMap;
@@ -26,6 +28,15 @@ pub(crate) fn facts(alloc: Global, texts: &[&str], keys: &str) -> Result<Facts, 
     }
     let bytes = format!(in alloc; "{{\"files\":[{files}],\"scopes\":[{scopes}]{keys}}}")?;
     Ok(read(alloc, bytes.as_str().as_bytes())?)
+}
+
+/// The kinds of a rule, with what facts tell of its paths in the first scope.
+pub(crate) fn resolved(
+    alloc: Global,
+    semantics: &TableSemantics,
+    rule: &str,
+) -> Result<Vec<ResolvedRule>, SsrError> {
+    resolve_rule(alloc, semantics, ScopeId(0), SsrRule::parse(alloc, rule)?)
 }
 
 /// The text of a file with its edit made.

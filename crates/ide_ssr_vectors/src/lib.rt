@@ -11,9 +11,15 @@ mod files;
 #[cfg(test)]
 mod given;
 #[cfg(test)]
+mod kinds;
+#[cfg(test)]
 mod one_file;
 #[cfg(test)]
 mod order;
+#[cfg(test)]
+mod paths;
+#[cfg(test)]
+mod resolving;
 #[cfg(test)]
 mod search_patterns;
 #[cfg(test)]

@@ -51,7 +51,8 @@ fn a_match_tells_its_parts(rt: HostRuntime) -> Result<(), Fail> {
             node: NodeNo(6)
         }
     );
-    assert_eq!(rt; sum.rule_index(), 1);
+    // behind the three kinds of the first rule: an expression, a pattern and a statement
+    assert_eq!(rt; sum.rule_index(), 3);
     let comments = sum.comments();
     assert_eq!(rt; comments.len(), 1);
     assert_eq!(rt; comments[0], bytes(0, 10, 7));
@@ -105,7 +106,7 @@ fn a_refused_rule_leaves_the_others(rt: HostRuntime) -> Result<(), Fail> {
 #[test]
 fn makes_and_drops_deep_matches(rt: HostRuntime) -> Result<(), Fail> {
     let alloc = rt.alloc();
-    // each rule matches at each node, so that matches nest more than 60,000 deep
+    // each of the three kinds of each rule matches at each node, so that matches nest more than 60,000 deep
     let mut text = String::from_str(alloc, "fn f() {")?;
     for _ in 0..1_000 {
         text.push('(')?;
@@ -117,7 +118,7 @@ fn makes_and_drops_deep_matches(rt: HostRuntime) -> Result<(), Fail> {
     text.push('}')?;
     let facts = facts(alloc, &[text.as_str()], "")?;
     let mut finder = MatchFinder::at_first_file(alloc, &facts.workspace, &facts.semantics)?;
-    for _ in 0..100 {
+    for _ in 0..34 {
         finder.add_rule(SsrRule::parse(alloc, "$a ==>> $a")?)?;
     }
     let found = finder.matches()?;

@@ -1,10 +1,9 @@
 //! The steps of a search, one call after the other.
 
-use crate::given::{SWAP, bytes, edited, facts};
+use crate::given::{SWAP, bytes, edited, facts, resolved};
 use ide_ssr_matching::match_node;
 use ide_ssr_nesting::{Holder, Lists, keep};
 use ide_ssr_rewriting::{edits, kept_comments, push_comments, rendered};
-use ide_ssr_rules::SsrRule;
 use ide_ssr_search::{Context, find_matches};
 use ssr_base::{FileId, FilePosition, NodeId, ScopeId};
 use ssr_facts::Facts;
@@ -63,7 +62,7 @@ fn a_search_goes_from_its_context_to_edits(rt: HostRuntime) -> Result<(), Fail> 
     };
     let everywhere = Vec::new(alloc);
     let context = Context::at(alloc, &workspace, &semantics, position, everywhere)?;
-    let rules = SsrRule::parse(alloc, SWAP)?.resolve(alloc)?;
+    let rules = resolved(alloc, &semantics, SWAP)?;
     let found = find_matches(alloc, &workspace, &context, &rules)?;
     assert_eq!(rt; found.len(), 3);
     let kept = keep(alloc, &workspace, found)?;
@@ -94,9 +93,9 @@ fn a_search_goes_from_its_context_to_edits(rt: HostRuntime) -> Result<(), Fail> 
 #[test]
 fn nothing_is_tried_in_use_items(rt: HostRuntime) -> Result<(), Fail> {
     let alloc = rt.alloc();
-    let rules = SsrRule::parse(alloc, "$a ==>> $a")?.resolve(alloc)?;
     for text in ["fn f() {}", "use a::b; fn f() {}", "fn f() { use a::b; }"] {
         let facts = facts(alloc, &[text], "")?;
+        let rules = resolved(alloc, &facts.semantics, "$a ==>> $a")?;
         let context = Context::at_first_file(alloc, &facts.workspace, &facts.semantics)?;
         let found = find_matches(alloc, &facts.workspace, &context, &rules)?;
         // SOURCE_FILE, FN, NAME, PARAM_LIST, BLOCK_EXPR, STMT_LIST
@@ -111,8 +110,8 @@ fn rules_come_in_their_order_at_a_node(rt: HostRuntime) -> Result<(), Fail> {
     let alloc = rt.alloc();
     let facts = facts(alloc, &["fn f() { 1 + 2 + 3 }"], "")?;
     let context = Context::at_first_file(alloc, &facts.workspace, &facts.semantics)?;
-    let mut rules = SsrRule::parse(alloc, "$a + 3 ==>> $a")?.resolve(alloc)?;
-    rules.append(&mut SsrRule::parse(alloc, SWAP)?.resolve(alloc)?)?;
+    let mut rules = resolved(alloc, &facts.semantics, "$a + 3 ==>> $a")?;
+    rules.append(&mut resolved(alloc, &facts.semantics, SWAP)?)?;
     let found = find_matches(alloc, &facts.workspace, &context, &rules)?;
     assert_eq!(rt; found.len(), 3);
     assert!(rt; found[0].rule() < found[1].rule());
@@ -129,7 +128,8 @@ fn a_node_is_matched_and_rendered(rt: HostRuntime) -> Result<(), Fail> {
     // behind the file, the function, its name and parameters, its block and the statements
     let sum = NodeNo(6);
     assert!(rt; tree.has(Element::Node(sum)));
-    let rules = SsrRule::parse(alloc, SWAP)?.resolve(alloc)?;
+    let facts = facts(alloc, &[""], "")?;
+    let rules = resolved(alloc, &facts.semantics, SWAP)?;
     let Some(rule) = rules.first() else {
         return Err(Fail::new("no rule"));
     };

@@ -2,9 +2,10 @@
 use Rattle.std.proofs.Common.{◌≡◌, ℕ, List, [], ap, sym, ◌∙◌, subst, arith}
 use Rattle.std.specs.Prelude.{Some, Ok}
 use Rattle.ssr_syntax_tree.specs.Syntax.{Syntax}
+use Rattle.ssr_base.specs.Meanings.{Meanings}
 use Rattle.ssr_base.specs.Workspace.{Workspace, tree_of}
 use Rattle.ssr_base.proofs.Shared.{tree_of_file}
-use Rattle.ide_ssr_rules.specs.Resolving.{ResolvedKind}
+use Rattle.ide_ssr_resolving.specs.Resolved.{ResolvedKind}
 use Rattle.ide_ssr_search.specs.Context.{Context}
 use Rattle.ide_ssr_search.specs.Making.{first_position}
 use Rattle.ide_ssr_search.proofs.Shared.{one_context}
@@ -16,11 +17,13 @@ use Rattle.ssr.specs.Unresolved.{nothing_resolves}
 
 one_finder : (code : Syntax) (kinds : List ResolvedKind) (f g : Finder) → SearchesFile code kinds f → SearchesFile code kinds g → f ≡ g
 one_finder code kinds f g one other =
-    let made : Workspace → Context → List ResolvedKind → Finder = λ w context rules. record { workspace = w; context = context; rules = rules } in
-    ap (λ w. made w f.context f.rules) (one.workspace ∙ sym other.workspace)
-    ∙ ap (λ context. made g.workspace context f.rules)
+    let made : Workspace → Meanings → Context → List ResolvedKind → Finder =
+    λ w m context rules. record { workspace = w; meanings = m; context = context; rules = rules } in
+    ap (λ w. made w f.meanings f.context f.rules) (one.workspace ∙ sym other.workspace)
+    ∙ ap (λ m. made g.workspace m f.context f.rules) (one.meanings ∙ sym other.meanings)
+    ∙ ap (λ context. made g.workspace g.meanings context f.rules)
     (one_context (one_file code) nothing_resolves first_position [] f.context g.context one.context other.context)
-    ∙ ap (made g.workspace g.context) (one.rules ∙ sym other.rules)
+    ∙ ap (made g.workspace g.meanings g.context) (one.rules ∙ sym other.rules)
 
 pub one_text : (code : Syntax) (kinds : List ResolvedKind) (text again : List ℕ) → IsRewritten code kinds text → IsRewritten code kinds again → text ≡ again
 one_text code kinds text again one other =

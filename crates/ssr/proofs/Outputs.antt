@@ -1,40 +1,26 @@
--- There is one output for rules and the bytes of a file, a lexer's words in a rule aside.
-use Rattle.std.proofs.Common.{◌≡◌, ℕ, Bool, true, false, List, [], Result, Ok, Err, refl, ap, subst, sym, ◌∙◌, append-nil}
+-- There is one output for rules and the bytes of a file.
+use Rattle.std.proofs.Common.{◌≡◌, ℕ, Bool, true, false, List, Result, Ok, Err, refl, ap, subst, sym, ◌∙◌}
 use Rattle.std.specs.Str.{IsUtf8, is_utf8}
 use Rattle.std.proofs.lemmas.Str.{IsUtf8-from_is_utf8, is_utf8-from_IsUtf8}
 use Rattle.ssr_syntax_tree.specs.Syntax.{Syntax}
 use Rattle.ssr_syntax.specs.declared.syntax_error.SyntaxError.{SyntaxError}
 use Rattle.ssr_syntax.specs.Reading.{file_reading}
 use Rattle.ssr_syntax.proofs.Shared.{file_needs_none}
-use Rattle.ide_ssr_rules.specs.Refusals.{Refusal, no_delimiter, second_delimiter, lexer_fault, no_name, no_placeholder, repeated, glued, reserved, no_kind, undefined, unresolved_path, token_tree, Says, words}
-use Rattle.ide_ssr_rules.specs.Resolving.{ResolvedKind}
+use Rattle.ide_ssr_rules.specs.declared.refusals.Refusal.{Refusal}
+use Rattle.ide_ssr_rules.specs.Refusals.{words}
+use Rattle.ide_ssr_resolving.specs.Resolved.{ResolvedKind}
 use Rattle.ssr.specs.Rewritten.{IsRewritten}
 use Rattle.ssr.proofs.OneText.{one_text}
 use Rattle.ssr.proofs.Replacing.{all_replace}
 use Rattle.ssr.proofs.SomeText.{text_exists}
 use Rattle.ssr.specs.Output.{Output, IsOutput, no_text, no_file, no_rules, rewritten, rule_refused, written, input_refused, words_of, rules_reading}
 
--- a refusal has words
-said : (refusal : Refusal) → Says refusal (words refusal)
-said lexer_fault = ([], sym (append-nil _))
-said no_delimiter = refl
-said second_delimiter = refl
-said no_name = refl
-said no_placeholder = refl
-said (repeated x) = refl
-said (glued x) = refl
-said (reserved x) = refl
-said no_kind = refl
-said (undefined x) = refl
-said (unresolved_path x) = refl
-said token_tree = refl
-
 module _ (rules : List (List ℕ)) (bytes : List ℕ) where
   by_rules : (code : Syntax) → IsUtf8 bytes → file_reading bytes ≡ Ok code
       → (reading : Result (List ResolvedKind) Refusal) → rules_reading rules ≡ reading → (output : Output) × IsOutput rules bytes output
   by_rules code text file (Ok kinds) is =
       let new = text_exists bytes code kinds text file (all_replace rules kinds is) in (_, rewritten code kinds new.0 text file is new.1)
-  by_rules code text file (Err refusal) is = (_, no_rules code refusal (words refusal) text file is (said refusal))
+  by_rules code text file (Err refusal) is = (_, no_rules code refusal text file is)
 
   by_file : IsUtf8 bytes → (reading : Result Syntax SyntaxError) → file_reading bytes ≡ reading → (output : Output) × IsOutput rules bytes output
   by_file text (Ok code) is = by_rules code text is (rules_reading rules) refl
@@ -47,40 +33,24 @@ module _ (rules : List (List ℕ)) (bytes : List ℕ) where
   pub output_exists : (output : Output) × IsOutput rules bytes output
   output_exists = by_text (is_utf8 bytes) refl
 
-  same_words : (refusal : Refusal) (m n : List ℕ) → (refusal ≡ lexer_fault → ⊥) → Says refusal m → Says refusal n → m ≡ n
-  same_words lexer_fault m n other a b = absurd (other refl)
-  same_words no_delimiter m n other a b = a ∙ sym b
-  same_words second_delimiter m n other a b = a ∙ sym b
-  same_words no_name m n other a b = a ∙ sym b
-  same_words no_placeholder m n other a b = a ∙ sym b
-  same_words (repeated x) m n other a b = a ∙ sym b
-  same_words (glued x) m n other a b = a ∙ sym b
-  same_words (reserved x) m n other a b = a ∙ sym b
-  same_words no_kind m n other a b = a ∙ sym b
-  same_words (undefined x) m n other a b = a ∙ sym b
-  same_words (unresolved_path x) m n other a b = a ∙ sym b
-  same_words token_tree m n other a b = a ∙ sym b
-
-  pub output_unique : (a b : Output) → (rules_reading rules ≡ Err lexer_fault → ⊥) → IsOutput rules bytes a → IsOutput rules bytes b → a ≡ b
-  output_unique a b sure (no_text _) (no_text _) = refl
-  output_unique a b sure (no_text f) (no_file _ _ text _) = absurd (f text)
-  output_unique a b sure (no_text f) (no_rules _ _ _ text _ _ _) = absurd (f text)
-  output_unique a b sure (no_text f) (rewritten _ _ _ text _ _ _) = absurd (f text)
-  output_unique a b sure (no_file _ _ text _) (no_text f) = absurd (f text)
-  output_unique a b sure (no_rules _ _ _ text _ _ _) (no_text f) = absurd (f text)
-  output_unique a b sure (rewritten _ _ _ text _ _ _) (no_text f) = absurd (f text)
-  output_unique a b sure (no_file e _ _ f) (no_file e' _ _ f') = let same : e ≡ e' = cc in ap (λ x. input_refused (words_of x)) same
-  output_unique a b sure (no_file e _ _ f) (no_rules c _ _ _ f' _ _) = let h : Err e ≡ Ok c = sym f ∙ f' in cc
-  output_unique a b sure (no_file e _ _ f) (rewritten c _ _ _ f' _ _) = let h : Err e ≡ Ok c = sym f ∙ f' in cc
-  output_unique a b sure (no_rules c _ _ _ f' _ _) (no_file e _ _ f) = let h : Err e ≡ Ok c = sym f ∙ f' in cc
-  output_unique a b sure (rewritten c _ _ _ f' _ _) (no_file e _ _ f) = let h : Err e ≡ Ok c = sym f ∙ f' in cc
-  output_unique a b sure (no_rules c r m _ f g s) (no_rules c' r' m' _ f' g' s') =
-      let same : r ≡ r' = cc in
-      let P : Refusal → Type 0 = λ x. Says x m' in
-      ap rule_refused (same_words r m m' (λ is. sure (g ∙ ap Err is)) s (subst P (sym same) s'))
-  output_unique a b sure (no_rules c r m _ f g s) (rewritten c' ks _ _ f' g' _) = let h : Err r ≡ Ok ks = sym g ∙ g' in cc
-  output_unique a b sure (rewritten c' ks _ _ f' g' _) (no_rules c r m _ f g s) = let h : Err r ≡ Ok ks = sym g ∙ g' in cc
-  output_unique a b sure (rewritten c ks t _ f g is) (rewritten c' ks' t' _ f' g' is') =
+  pub output_unique : (a b : Output) → IsOutput rules bytes a → IsOutput rules bytes b → a ≡ b
+  output_unique a b (no_text _) (no_text _) = refl
+  output_unique a b (no_text f) (no_file _ _ text _) = absurd (f text)
+  output_unique a b (no_text f) (no_rules _ _ text _ _) = absurd (f text)
+  output_unique a b (no_text f) (rewritten _ _ _ text _ _ _) = absurd (f text)
+  output_unique a b (no_file _ _ text _) (no_text f) = absurd (f text)
+  output_unique a b (no_rules _ _ text _ _) (no_text f) = absurd (f text)
+  output_unique a b (rewritten _ _ _ text _ _ _) (no_text f) = absurd (f text)
+  output_unique a b (no_file e _ _ f) (no_file e' _ _ f') = let same : e ≡ e' = cc in ap (λ x. input_refused (words_of x)) same
+  output_unique a b (no_file e _ _ f) (no_rules c _ _ f' _) = let h : Err e ≡ Ok c = sym f ∙ f' in cc
+  output_unique a b (no_file e _ _ f) (rewritten c _ _ _ f' _ _) = let h : Err e ≡ Ok c = sym f ∙ f' in cc
+  output_unique a b (no_rules c _ _ f' _) (no_file e _ _ f) = let h : Err e ≡ Ok c = sym f ∙ f' in cc
+  output_unique a b (rewritten c _ _ _ f' _ _) (no_file e _ _ f) = let h : Err e ≡ Ok c = sym f ∙ f' in cc
+  output_unique a b (no_rules c r _ f g) (no_rules c' r' _ f' g') =
+      let same : r ≡ r' = cc in ap (λ x. rule_refused (words x)) same
+  output_unique a b (no_rules c r _ f g) (rewritten c' ks _ _ f' g' _) = let h : Err r ≡ Ok ks = sym g ∙ g' in cc
+  output_unique a b (rewritten c' ks _ _ f' g' _) (no_rules c r _ f g) = let h : Err r ≡ Ok ks = sym g ∙ g' in cc
+  output_unique a b (rewritten c ks t _ f g is) (rewritten c' ks' t' _ f' g' is') =
       let same : c ≡ c' = cc in
       let alike : ks ≡ ks' = cc in
       ap written (one_text c' ks' t t' (subst (λ code. IsRewritten code ks' t) same (subst (λ kinds. IsRewritten c kinds t) alike is)) is')

@@ -2,11 +2,13 @@
 use Rattle.std.proofs.Common.{◌≡◌, ℕ, List, [], ◌∷◌, All, Result, Ok, Err, refl, subst}
 use Rattle.std.specs.Prelude.{IsSome}
 use Rattle.std.proofs.lemmas.List.Elements.{All-nil, All-append}
-use Rattle.ide_ssr_rules.specs.Refusals.{Refusal, ◌>>=◌}
-use Rattle.ide_ssr_rules.specs.Resolving.{ResolvedKind}
+use Rattle.ide_ssr_rules.specs.declared.refusals.Refusal.{Refusal}
+use Rattle.ide_ssr_rules.specs.Refusals.{◌>>=◌}
+use Rattle.ide_ssr_resolving.specs.Resolved.{ResolvedKind}
 use Rattle.ide_ssr_rules.specs.Rules.{Rule, rule_reading}
-use Rattle.ide_ssr_rules.proofs.Shared.{have_templates}
+use Rattle.ide_ssr_resolving.proofs.Shared.{have_templates}
 use Rattle.ssr.specs.Output.{both, resolved, rule_kinds, rules_reading}
+use Rattle.ssr.specs.Unresolved.{nothing_resolves, one_scope}
 
 abbrev Replace : Result (List ResolvedKind) Refusal → Type 0
 Replace (Ok kinds) = All (λ kind. IsSome kind.template) kinds
@@ -19,7 +21,7 @@ both_replace (Ok first) (Ok second) one other = All-append (λ kind. IsSome kind
 
 resolved_replace : (text : List ℕ) (rule : Rule) → rule_reading text ≡ Ok rule → (kinds : Result (List ResolvedKind) Refusal) → resolved rule ≡ kinds → Replace kinds
 resolved_replace text rule is (Err refusal) read = tt
-resolved_replace text rule is (Ok kinds) read = have_templates text rule kinds is read
+resolved_replace text rule is (Ok kinds) read = have_templates nothing_resolves one_scope text rule kinds is read
 
 rule_replaces : (text : List ℕ) (reading : Result Rule Refusal) → rule_reading text ≡ reading → Replace (reading >>= resolved)
 rule_replaces text (Err refusal) is = tt

@@ -9,31 +9,34 @@ use Rattle.ide_ssr_rules.specs.declared.error.SsrError.TheVariants as rule
 use Rattle.ssr.specs.declared.rewriting.RewriteError.{RewriteError}
 use Rattle.ssr.specs.declared.rewriting.RewriteError.TheVariants as errors
 use Rattle.ssr_syntax.specs.Reading.{file_reading}
-use Rattle.ide_ssr_rules.specs.Refusals.{Refusal, TellsOf}
-use Rattle.ide_ssr_rules.specs.Resolving.{ResolvedKind}
+use Rattle.ide_ssr_rules.specs.declared.refusals.Refusal.{Refusal}
+use Rattle.ide_ssr_rules.specs.Refusals.{TellsOf}
+use Rattle.ide_ssr_resolving.specs.Resolved.{ResolvedKind}
 use Rattle.ssr_base.specs.Workspace.{Workspace}
 use Rattle.ide_ssr_search.specs.Making.{IsContext, first_position}
-use Rattle.ide_ssr.specs.Finder.{Finder}
-use Rattle.ssr.specs.Output.{no_file, no_rules, rewritten, rules_reading}
+use Rattle.ide_ssr.specs.Finder.{Finder, FinderWith}
+use Rattle.ssr.specs.declared.unresolved.Unresolved.{Unresolved}
+use Rattle.ssr.specs.Output.{IsOutput, rule_refused, no_file, no_rules, rewritten, rules_reading}
 use Rattle.std.specs.BTreeMap.{get}
 use Rattle.ide_ssr_rewriting.specs.Edits.{file_cmp}
 use Rattle.ssr.specs.Rewritten.{SearchesFile, edited, first_file, one_file}
 use Rattle.ssr.specs.Unresolved.{nothing_resolves}
-use Rattle.ssr.specs.Private.Rewriting.{AnswersFile, IsEdited, IsNewFinder, Rewrites, refusal_of}
+use Rattle.ssr.specs.Private.Rewriting.{AnswersFile, IsEdited, IsNewFinder, Rewrites, refusal_of, untold}
 
 -- a workspace of one file has one tree
 one_code : (code other : Syntax) → one_file code ≡ one_file other → code ≡ other
 one_code code other is = ap (λ (w : Workspace). get_or w.files 0 code) is
 
 -- a finder that is made for a file and gets the kinds of rules searches the file for these
-pub searches : (code : Syntax) (kinds : List ResolvedKind) (w : Workspace) (made finder : Finder) → w ≡ one_file code → IsNewFinder w made
-    → finder ≡ record made { rules = made.rules ++ kinds } → SearchesFile code kinds finder
+pub searches : (code : Syntax) (kinds : List ResolvedKind) (w : Workspace) (made finder : FinderWith Unresolved) → w ≡ one_file code → IsNewFinder w made
+    → finder ≡ record made { rules = made.rules ++ kinds } → SearchesFile code kinds (untold finder)
 searches code kinds w made finder one new is = record {
-  workspace = ap (λ (f : Finder). f.workspace) is ∙ new.workspace ∙ one;
+  workspace = ap (λ (f : FinderWith Unresolved). f.workspace) is ∙ new.workspace ∙ one;
+  meanings = refl;
   context =
-      subst (IsContext (one_file code) nothing_resolves first_position []) (sym (ap (λ (f : Finder). f.context) is))
+      subst (IsContext (one_file code) nothing_resolves first_position []) (sym (ap (λ (f : FinderWith Unresolved). f.context) is))
       (subst (λ (w : Workspace). IsContext w nothing_resolves first_position [] made.context) one new.context);
-  rules = ap (λ (f : Finder). f.rules) is ∙ ap (λ (rules : List ResolvedKind). rules ++ kinds) new.rules;
+  rules = ap (λ (f : FinderWith Unresolved). f.rules) is ∙ ap (λ (rules : List ResolvedKind). rules ++ kinds) new.rules;
 }
 
 module _ (rules : List (List ℕ)) (text : List ℕ) (utf8 : IsUtf8 text) where
@@ -48,7 +51,8 @@ module _ (rules : List (List ℕ)) (text : List ℕ) (utf8 : IsUtf8 text) where
       → rules_reading rules ≡ reading → file_reading text ≡ Ok code → TellsOf (rule.Message message) reading
       → Rewrites {A = A} rules text (Err (errors.Rule message))
   rewrites_message A code message (Ok kinds) is file told = elim told [ ]
-  rewrites_message A code message (Err refusal) is file told = no_rules code refusal (string_bytes message) utf8 file is told
+  rewrites_message A code message (Err refusal) is file told =
+      let P : List ℕ → Type 0 = λ told. IsOutput rules text (rule_refused told) in subst P (sym told) (no_rules code refusal utf8 file is)
 
   pub rewrites_rules : (A : Type 0) (code : Syntax) (error : SsrError) → file_reading text ≡ Ok code → TellsOf error (rules_reading rules)
       → Rewrites {A = A} rules text (Err (refusal_of error))

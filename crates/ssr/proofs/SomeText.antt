@@ -10,7 +10,7 @@ use Rattle.ssr_base.specs.Built.{IsBuilt}
 use Rattle.ssr_base.specs.Workspace.{tree_of}
 use Rattle.ssr_base.specs.declared.ids.FileRange.{FileRange}
 use Rattle.ssr_base.proofs.Shared.{and_some, built_none, built_read}
-use Rattle.ide_ssr_rules.specs.Resolving.{ResolvedKind}
+use Rattle.ide_ssr_resolving.specs.Resolved.{ResolvedKind}
 use Rattle.ide_ssr_search.specs.Making.{HasFile, LiesInText, first_position}
 use Rattle.ide_ssr_search.proofs.Shared.{context_exists}
 use Rattle.ide_ssr_rewriting.specs.Edits.{file_cmp}
@@ -35,12 +35,12 @@ text_exists bytes code kinds utf8 read templates =
     let context =
     context_exists (one_file code) nothing_resolves first_position [] (begins code) (All-nil (λ (range : FileRange). HasFile (one_file code) range.file_id.0))
     (λ n. refl) in
-    let finder : Finder = record { workspace = one_file code; context = context.0; rules = kinds } in
+    let finder : Finder = record { workspace = one_file code; meanings = nothing_resolves; context = context.0; rules = kinds } in
     let edits = edits_exist finder (one_built bytes code utf8 read) templates refl in (
       edited code (get file_cmp edits.0 first_file),
       record {
         finder = finder;
-        searches = record { workspace = refl; context = context.1; rules = refl };
+        searches = record { workspace = refl; meanings = refl; context = context.1; rules = refl };
         edits = edits.0;
         are_edits = edits.1;
         is = refl;

@@ -2,11 +2,15 @@
 use Rattle.std.proofs.Common.{◌≡◌, List, [], ℕ, ◌+◌, ◌<◌, ◌++◌, length, take, get_or, Result, Ok, Err, refl, ap, subst, sym, ◌∙◌, append_assoc}
 use Rattle.ide_ssr_rules.specs.declared.error.SsrError.{SsrError}
 use Rattle.ide_ssr_rules.specs.declared.error.SsrError.TheVariants as errors
-use Rattle.ide_ssr_rules.specs.Refusals.{Refusal, TellsOf, ◌>>=◌}
-use Rattle.ide_ssr_rules.specs.Resolving.{ResolvedKind}
+use Rattle.ide_ssr_rules.specs.declared.refusals.Refusal.{Refusal}
+use Rattle.ide_ssr_rules.specs.Refusals.{TellsOf, ◌>>=◌}
+use Rattle.ide_ssr_resolving.specs.Resolved.{ResolvedKind, resolved_kinds}
+use Rattle.ssr_base.specs.declared.ids.ScopeId.{ScopeId}
+use Rattle.ssr.specs.Unresolved.{nothing_resolves, one_scope}
 use Rattle.ide_ssr_rules.specs.Rules.{Rule, rule_reading}
 use Rattle.ssr.specs.Output.{resolved}
-use Rattle.ide_ssr.specs.Finder.{Finder}
+use Rattle.ide_ssr.specs.Finder.{FinderWith}
+use Rattle.ssr.specs.declared.unresolved.Unresolved.{Unresolved}
 use Rattle.ssr.specs.Output.{rule_kinds, rules_reading}
 use Rattle.ide_ssr.specs.Adding.{Adds}
 use Rattle.ssr.proofs.RulesRead.{read_more, read_refused}
@@ -34,17 +38,19 @@ tells_as error (Err refusal) b same told =
 tells_as errors.Memory (Ok kinds) b same told = memory_tells b
 tells_as (errors.Message _) (Ok kinds) b same told = elim told [ ]
 
-pub adds_rule : (old new : Finder) (rule : Rule) (text : List ℕ) (result : Result (Unit {0}) SsrError)
-    → rule_reading text ≡ Ok rule → Adds old new (resolved rule) result → Adds old new (rule_kinds text) result
-adds_rule old new rule text result is added =
-    let P : Result Rule Refusal → Type 0 = λ r. Adds old new (r >>= resolved) result in subst P (sym is) added
+pub adds_rule : (old new : FinderWith Unresolved) (scope : ScopeId) (rule : Rule) (text : List ℕ) (result : Result (Unit {0}) SsrError)
+    → scope ≡ one_scope → rule_reading text ≡ Ok rule
+    → Adds old new (resolved_kinds nothing_resolves scope rule.names rule.constraints rule.kinds) result → Adds old new (rule_kinds text) result
+adds_rule old new scope rule text result here is added =
+    let In : ScopeId → Type 0 = λ s. Adds old new (resolved_kinds nothing_resolves s rule.names rule.constraints rule.kinds) result in
+    let Read : Result Rule Refusal → Type 0 = λ r. Adds old new (r >>= resolved) result in subst Read (sym is) (subst In here added)
 
-module _ (old mid : Finder) (rules : List (List ℕ)) (i : ℕ) (less : i < length rules) (kinds : List ResolvedKind) (before : rules_reading (take i rules) ≡ Ok kinds) (so_far : mid ≡ record old { rules = old.rules ++ kinds }) (text : List ℕ) (its : text ≡ get_or rules i []) where
+module _ (old mid : FinderWith Unresolved) (rules : List (List ℕ)) (i : ℕ) (less : i < length rules) (kinds : List ResolvedKind) (before : rules_reading (take i rules) ≡ Ok kinds) (so_far : mid ≡ record old { rules = old.rules ++ kinds }) (text : List ℕ) (its : text ≡ get_or rules i []) where
   -- one rule more
-  pub adds_more : (new : Finder) → Adds mid new (rule_kinds text) (Ok tt) → Adds old new (rules_reading (take (i + 1) rules)) (Ok tt)
+  pub adds_more : (new : FinderWith Unresolved) → Adds mid new (rule_kinds text) (Ok tt) → Adds old new (rules_reading (take (i + 1) rules)) (Ok tt)
   adds_more new (more, is, added) =
-      let with_more : Finder → Finder = λ f. record f { rules = f.rules ++ more } in
-      let with_rules : List ResolvedKind → Finder = λ all. record old { rules = all } in (
+      let with_more : FinderWith Unresolved → FinderWith Unresolved = λ f. record f { rules = f.rules ++ more } in
+      let with_rules : List ResolvedKind → FinderWith Unresolved = λ all. record old { rules = all } in (
         kinds ++ more,
         read_more rules i less kinds before more (ap rule_kinds (sym its) ∙ is),
         added ∙ ap with_more so_far ∙ ap with_rules (append_assoc old.rules kinds more),

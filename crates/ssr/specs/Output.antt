@@ -3,10 +3,12 @@
 use Rattle.std.specs.Prelude.{ℕ, ◌≡◌, ◌≢◌, List, [], ◌∷◌, ◌++◌, Option, Some, None, Result, Ok, Err, IsUtf8, bytes_eq, codes, if◌then◌else◌}
 use Rattle.ssr_syntax_tree.specs.Syntax.{Syntax}
 use Rattle.ssr_syntax.specs.Reading.{file_reading}
-use Rattle.ide_ssr_rules.specs.Refusals.{Refusal, Says, ◌>>=◌}
-use Rattle.ide_ssr_rules.specs.Resolving.{ResolvedKind, resolved_kinds}
+use Rattle.ide_ssr_rules.specs.declared.refusals.Refusal.{Refusal}
+use Rattle.ide_ssr_rules.specs.Refusals.{words, ◌>>=◌}
+use Rattle.ide_ssr_resolving.specs.Resolved.{ResolvedKind, resolved_kinds}
 use Rattle.ide_ssr_rules.specs.Rules.{Rule, rule_reading}
 use Rattle.ssr.specs.Rewritten.{IsRewritten}
+use Rattle.ssr.specs.Unresolved.{nothing_resolves, one_scope}
 use Rattle.ssr_syntax.specs.declared.syntax_error.SyntaxError.{SyntaxError}
 use Rattle.ssr_syntax.specs.declared.syntax_error.SyntaxError.TheVariants as errors
 
@@ -56,9 +58,9 @@ both (Err refusal) second = Err refusal
 both (Ok first) (Err refusal) = Err refusal
 both (Ok first) (Ok second) = Ok (first ++ second)
 
--- the kinds of a rule, resolved
+-- the kinds of a rule, resolved where nothing is known
 abbrev pub resolved : Rule → Result (List ResolvedKind) Refusal
-resolved rule = resolved_kinds rule.names rule.kinds
+resolved rule = resolved_kinds nothing_resolves one_scope rule.names rule.constraints rule.kinds
 
 -- what a rule says, parsed and resolved
 abbrev pub rule_kinds : List ℕ → Result (List ResolvedKind) Refusal
@@ -72,14 +74,13 @@ rules_reading (rule ∷ rules) = both (rule_kinds rule) (rules_reading rules)
 abbrev pub IsFile : List ℕ → Type 0
 IsFile bytes = (code : Syntax) × (file_reading bytes ≡ Ok code)
 
--- what is written for rules and the bytes of a file. The words of a lexer's fault in a rule are left open.
+-- what is written for rules and the bytes of a file
 pub data IsOutput (rules : List (List ℕ)) (bytes : List ℕ) : Output → Type 0 where
   no_text : (IsUtf8 bytes → ⊥) → IsOutput rules bytes (input_refused (codes "not UTF-8"))
   no_file : (error : SyntaxError) → error ≢ errors.Memory → IsUtf8 bytes → file_reading bytes ≡ Err error
       → IsOutput rules bytes (input_refused (words_of error))
-  no_rules : (code : Syntax) (refusal : Refusal) (message : List ℕ) → IsUtf8 bytes → file_reading bytes ≡ Ok code
-      → rules_reading rules ≡ Err refusal → Says refusal message
-      → IsOutput rules bytes (rule_refused message)
+  no_rules : (code : Syntax) (refusal : Refusal) → IsUtf8 bytes → file_reading bytes ≡ Ok code
+      → rules_reading rules ≡ Err refusal → IsOutput rules bytes (rule_refused (words refusal))
   rewritten : (code : Syntax) (kinds : List ResolvedKind) (text : List ℕ) → IsUtf8 bytes → file_reading bytes ≡ Ok code
       → rules_reading rules ≡ Ok kinds → IsRewritten code kinds text
       → IsOutput rules bytes (written text)

@@ -5,7 +5,7 @@ use Rattle.ssr_syntax_tree.specs.Syntax.{Syntax, source_of}
 use Rattle.ssr_base.specs.declared.ids.FileId.{FileId}
 use Rattle.ssr_base.specs.Changes.{Change, replaced}
 use Rattle.ssr_base.specs.Workspace.{Workspace}
-use Rattle.ide_ssr_rules.specs.Resolving.{ResolvedKind}
+use Rattle.ide_ssr_resolving.specs.Resolved.{ResolvedKind}
 use Rattle.ide_ssr_search.specs.Making.{IsContext, first_position}
 use Rattle.ide_ssr_rewriting.specs.Edits.{file_cmp}
 use Rattle.ide_ssr.specs.Edits.{Edits}
@@ -22,6 +22,7 @@ first_file = record { 0 = 0 }
 -- the search of a whole file for these kinds
 pub record SearchesFile (code : Syntax) (kinds : List ResolvedKind) (finder : Finder) : Type 0 where
   pub workspace : finder.workspace ≡ one_file code
+  pub meanings : finder.meanings ≡ nothing_resolves
   pub context : IsContext (one_file code) nothing_resolves first_position [] finder.context
   pub rules : finder.rules ≡ kinds
 

@@ -1,12 +1,16 @@
 -- What the program's provider tells: all code stands in one scope, in which nothing is known.
 use Rattle.std.specs.Prelude.{[], Some, None, false}
+use Rattle.ssr_base.specs.declared.ids.ScopeId.{ScopeId}
 use Rattle.ssr_base.specs.Meanings.{Meanings}
 use Rattle.ssr_base.specs.declared.semantics.DefKind.TheVariants as kinds
 use Rattle.ssr_base.specs.declared.semantics.SelfKind.TheVariants as takes
 
+abbrev pub one_scope : ScopeId
+one_scope = record { 0 = 0 }
+
 abbrev pub nothing_resolves : Meanings
 nothing_resolves = record {
-  scope = λ node. Some (record { 0 = 0 });
+  scope = λ node. Some one_scope;
   lookup = λ scope path. None;
   member = λ scope type name. None;
   info = λ def. record { kind = kinds.Module; assoc = false; takes_self = false };

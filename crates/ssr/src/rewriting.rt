@@ -2,7 +2,8 @@
 ghost use Rattle.std.specs.Prelude.{◌≡◌, map, string_bytes, Err, IfOk, IfErr};
 ghost use Rattle.ssr_syntax.specs.Reading.{file_reading};
 ghost use Rattle.ssr.specs.Output.{rule_kinds, rules_reading};
-ghost use Rattle.ssr.specs.Private.Rewriting.{AnswersFile, IsEdited, IsNewFinder, IsOneFile, Rewrites};
+ghost use Rattle.ssr.specs.Private.Rewriting.{AnswersFile, IsEdited, IsNewFinder, IsOneFile, Rewrites, untold};
+ghost use Rattle.ssr.specs.Unresolved.{one_scope};
 ghost use Rattle.ide_ssr.specs.Adding.{Adds};
 ghost use Rattle.ide_ssr.specs.Edits.{HaveTemplates};
 ghost use Rattle.ssr.specs.declared.rewriting.RewriteError.TheVariants as errors;
@@ -113,6 +114,7 @@ fn add_rules(
     finder: &mut MatchFinder<'_, Unresolved>,
     rules: &[String],
 ) -> Result<(), SsrError>
+    requires { finder.old.context.scope ≡ one_scope }
     ensures { Adds finder.old finder.new (rules_reading (map string_bytes rules.now)) result }
 {
     for rule in rules {
@@ -127,6 +129,7 @@ fn add_rule(
     finder: &mut MatchFinder<'_, Unresolved>,
     text: &str,
 ) -> Result<(), SsrError>
+    requires { finder.old.context.scope ≡ one_scope }
     ensures { Adds finder.old finder.new (rule_kinds text.now) result }
 {
     let rule = SsrRule::parse(alloc, text)?;
@@ -142,7 +145,7 @@ fn new_text(
     requires same { finder.now.workspace ≡ workspace.now }
     requires one { IsOneFile workspace.now }
     requires templates { HaveTemplates finder.now.rules }
-    ensures text { IfOk result (λ new. IsEdited finder.now (string_bytes new)) }
+    ensures text { IfOk result (λ new. IsEdited (untold finder.now) (string_bytes new)) }
     ensures memory { IfErr result (λ error. error ≡ errors.Memory) }
 {
     let edits = match finder.edits() {

@@ -217,6 +217,28 @@ fn rewrites_literals(rt: HostRuntime) -> Result<(), Fail> {
 }
 
 #[test]
+fn rewrites_what_constraints_allow(rt: HostRuntime) -> Result<(), Fail> {
+    let rows = [
+        (
+            "${a:kind(literal)} + $b ==>> $b + $a",
+            "fn f() {1 + x + 2}",
+            "fn f() {x + 1 + 2}",
+        ),
+        (
+            "${a:not(kind(literal))} + $b ==>> $b + $a",
+            "fn f() {1 + x + 2}",
+            "fn f() {2 + (1 + x)}",
+        ),
+        (
+            "${a:not(not(kind(literal)))} ==>> 7",
+            "fn f() {g(1, (-2), x)}",
+            "fn f() {g(7, (-7), x)}",
+        ),
+    ];
+    rewrites(&rt, &rows)
+}
+
+#[test]
 fn keeps_comments(rt: HostRuntime) -> Result<(), Fail> {
     let rows = [
         (
@@ -350,9 +372,10 @@ fn refuses_rules(rt: HostRuntime) -> Result<(), Fail> {
             "$ a ==>> 1",
             "Placeholders should either be $name or ${name:constraints}",
         ),
+        ("${a ==>> 1", "Placeholder is missing closing brace '}'"),
         (
-            "${a} ==>> 1",
-            "Placeholders should either be $name or ${name:constraints}",
+            "$a ==>> ${a:kind(literal)}",
+            "Replacement placeholders cannot have constraints",
         ),
         ("$a + $a ==>> $a", "Placeholder `$a` repeats more than once"),
         ("foo$a ==>> 1", "Placeholder `$a` isn't a token of its own"),

@@ -1,8 +1,11 @@
-//! A program for measuring alone: it builds a workspace of files and searches it.
+//! A program for measuring alone: it builds a workspace of files and searches it, or reads a facts file.
 //!
 //! Standard input names the files, one a line, and the words of the command are rules. It tells how many files, bytes and
 //! outermost matches there are, and behind a first word `--times`, which is no rule, also the processor time that building
 //! and searching took, in nanoseconds.
+//!
+//! With the words `--facts` and a path it reads that facts file, and tells how many files and bytes it has and what
+//! processor time reading it took.
 #![tactic(auto)]
 
 use anyhow::Result;
@@ -17,8 +20,29 @@ use std::{env, fs, io};
 fn main(rt: HostRuntime) -> Result<()> {
     let alloc = rt.alloc();
     let words: Vec<String> = env::args(&rt)?.skip(1).collect(alloc)?;
-    let rules = rules(&words);
-    let texts = texts(&rt)?;
+    match words.as_slice() {
+        [first, path] if first.as_str() == "--facts" => time_facts(&rt, path.as_str()),
+        words => time_search(&rt, words),
+    }
+}
+
+/// Reads a facts file.
+fn time_facts(rt: &HostRuntime, path: &str) -> Result<()> {
+    let bytes = fs::read(rt, path)?;
+    let start = rt.process_cpu_time()?;
+    let facts = ssr_facts::read(rt.alloc(), &bytes)?;
+    let reading = between(start, rt.process_cpu_time()?);
+    let (files, size) = (facts.workspace.file_count(), bytes.len());
+    println!(rt; "{files} files, {size} bytes of facts")?;
+    println!(rt; "read in {reading} ns")?;
+    Ok(())
+}
+
+/// Builds a workspace and searches it.
+fn time_search(rt: &HostRuntime, words: &[String]) -> Result<()> {
+    let alloc = rt.alloc();
+    let rules = rules(words);
+    let texts = texts(rt)?;
     let bytes = total(&texts);
     let start = rt.process_cpu_time()?;
     let workspace = Workspace::build(alloc, texts, Vec::new(alloc))?;

@@ -9,8 +9,12 @@ mod facts;
 #[cfg(test)]
 mod parser;
 #[cfg(test)]
+mod rule_kinds;
+#[cfg(test)]
 mod rule_texts;
 #[cfg(test)]
 mod syntax;
+#[cfg(test)]
+mod untold;
 #[cfg(test)]
 mod workspaces;

@@ -1,22 +1,19 @@
 -- Private: the children of a node that are left while they are gone over.
 use Rattle.std.specs.Prelude.{ℕ, ◌≤◌, Bool, false, if◌then◌else◌, List, [], ◌∷◌, ◌++◌, All, length, option_to_list}
 use Rattle.ssr_syntax_kinds.specs.declared.kinds.SyntaxKind.{SyntaxKind}
-use Rattle.ssr_syntax_kinds.specs.Kinds.{same_kind, is_trivia}
+use Rattle.ssr_syntax_kinds.specs.Kinds.{same_kind}
 use Rattle.ssr_syntax_tree.specs.declared.number.Element.{Element}
 use Rattle.ssr_syntax_tree.specs.declared.number.Element.TheVariants as element
 use Rattle.ssr_syntax_tree.specs.Syntax.{Syntax}
 use Rattle.ssr_syntax_tree.specs.Places.{Part, token_part, node_part, node_of, HasNode, HasToken, HasElement, IsAbove}
 use Rattle.ide_ssr_matching.specs.declared.children.Siblings.{Siblings}
 use Rattle.ide_ssr_matching.specs.Matching.{is_closing}
+use Rattle.ide_ssr_matching.specs.PatternIterator.{is_trivia_part}
 
 -- whether a sibling is a token of a kind
 abbrev pub has_kind : SyntaxKind → Part → Bool
 has_kind kind (token_part t token) = same_kind token.kind kind
 has_kind kind (node_part node) = false
-
-abbrev pub is_trivia_part : Part → Bool
-is_trivia_part (token_part t token) = is_trivia token.kind
-is_trivia_part (node_part node) = false
 
 -- whether a sibling, if there is one, is a bracket directly before which a comma may stand or not
 abbrev pub closes_part : Part → Bool

@@ -3,7 +3,7 @@ use Rattle.std.specs.Prelude.{ℕ, Contains, ◌+◌, ◌≡◌, ◌<◌, ◌≤
 use Rattle.std.specs.Global.{Global}
 use Rattle.std.specs.List.{enumerate_from}
 use Rattle.std.specs.Option.{option_and_then}
-use Rattle.ide_ssr_rules.specs.Resolving.{ResolvedKind}
+use Rattle.ide_ssr_resolving.specs.Resolved.{ResolvedKind}
 use Rattle.ide_ssr_nesting.specs.Holding.{Kept}
 use Rattle.ide_ssr_nesting.specs.Lists.{Listing}
 use Rattle.ide_ssr_rewriting.specs.Clashes.{Clash, IsFirst}

@@ -1,11 +1,10 @@
 -- Private: what the steps of a whole match tell.
 use Rattle.std.specs.Prelude.{ℕ, ◌≡◌, List, [], ◌∷◌, Option, Some, None, All, AllPairs}
-use Rattle.ssr_syntax_tree.specs.Syntax.{Syntax}
 use Rattle.ssr_syntax_tree.specs.Places.{HasNode, node_of, root_of}
 use Rattle.ssr_base.specs.declared.ids.FileRange.{FileRange}
 use Rattle.ssr_base.specs.declared.ids.NodeId.{NodeId}
 use Rattle.ssr_base.specs.Workspace.{Planted, planted, original_range, file_span_of}
-use Rattle.ide_ssr_rules.specs.Resolving.{ResolvedKind}
+use Rattle.ide_ssr_resolving.specs.Resolved.{ResolvedKind}
 use Rattle.ide_ssr_matching.specs.declared.bindings.Binding.{Binding}
 use Rattle.ide_ssr_matching.specs.Bindings.{bindings_of}
 use Rattle.ide_ssr_matching.specs.Found.{held_node, ShareNoByte}
@@ -25,14 +24,13 @@ pub record IsPlacedMatch (trees : List Planted) (x : NodeId) (bindings : List Bi
   pub bindings_placed : All (λ b. IsPlaced trees (held_node x.tree b)) bindings
   pub apart : AllPairs (λ b c. ShareNoByte trees (held_node x.tree b) (held_node x.tree c)) bindings
 
--- this is what the placeholders of a pattern hold where it matches at the node
+-- this is what the placeholders of a rule hold where it matches at the node
 pub record IsMatched (trees : List Planted) (x : NodeId) (bindings : List Binding) : Type 0 where
-  pub names : List (List ℕ)
-  pub pattern : Syntax
+  pub rule : ResolvedKind
   pub tree : Planted
   pub is : planted trees x.tree ≡ Some tree
   pub has : HasNode tree.syntax x.node.0
-  pub matches : bindings_of names (root_of pattern) (node_of tree.syntax x.node.0) ≡ Some bindings
+  pub matches : bindings_of rule (root_of rule.pattern) (node_of tree.syntax x.node.0) ≡ Some bindings
 
 -- what the placeholders hold in a whole match, or that there is none
 abbrev pub TellsWhole : List Planted → ResolvedKind → NodeId → Option (List Binding) → Type 0

@@ -14,7 +14,8 @@ use Rattle.ssr_base.specs.Workspace.{Workspace}
 use Rattle.ide_ssr_search.specs.Making.{IsContext, first_position}
 use Rattle.ide_ssr_rewriting.specs.Edits.{file_cmp}
 use Rattle.ide_ssr.specs.Edits.{Edits}
-use Rattle.ide_ssr.specs.Finder.{Finder}
+use Rattle.ide_ssr.specs.Finder.{Finder, FinderWith, finder_of}
+use Rattle.ssr.specs.declared.unresolved.Unresolved.{Unresolved}
 use Rattle.ssr.specs.Unresolved.{nothing_resolves}
 use Rattle.ssr.specs.Rewritten.{edited, first_file, one_file}
 use Rattle.ssr.specs.Output.{written, rule_refused, input_refused, words_of, IsFile, IsOutput}
@@ -42,8 +43,12 @@ AnswersFile reading (Err error) = reading ≡ Err error
 abbrev pub IsOneFile : Workspace → Type 0
 IsOneFile w = (code : Syntax) × (w ≡ one_file code)
 
+-- the program's finder, which is told nothing
+abbrev pub untold : FinderWith Unresolved → Finder
+untold finder = finder_of (λ _. nothing_resolves) finder
+
 -- a finder for a workspace, at its first byte, without rules
-pub record IsNewFinder (w : Workspace) (finder : Finder) : Type 0 where
+pub record IsNewFinder (w : Workspace) (finder : FinderWith Unresolved) : Type 0 where
   pub workspace : finder.workspace ≡ w
   pub context : IsContext w nothing_resolves first_position [] finder.context
   pub rules : finder.rules ≡ []

@@ -5,7 +5,8 @@ use Rattle.ide_ssr_matching.proofs.matching.+matching.Goals as goal
 
 pub node_matches-returns-in-Some : goal.node_matches-returns-in-Some
 node_matches-returns-in-Some t c =
-    placeholder-from _ _ _ _ _ _ _ _ c.requires.c_in c.in-Some.ensures c.in_ok-push.ensures.items
+    placeholder-from c.placeholder_matches.result c.args.rule.now c.args.rule.now.pattern c.args.code.now c.args.p.0 c.args.c.0 c.args.out.now.items c.placeholder_matches.new.out.items
+    c.in-Some.placeholder c.in-Some.ensures c.placeholder_matches.ensures
 
 pub node_matches-returns-then-not-is : goal.node_matches-returns-then-not-is
 node_matches-returns-then-not-is t c =

@@ -12,7 +12,7 @@ decreases-pair_matches l = element_size l.rule.now.pattern l.p
 
 abbrev pub invariant-node_matches-loop-first : goal.invariant-node_matches-loop-first
 invariant-node_matches-loop-first l =
-    PairedSoFar l.rule.names l.rule.pattern l.code l.fn.p.0 l.fn.c.0 (siblings_left l.ps) (siblings_left l.cs) l.fn.out.items l.out.items
+    PairedSoFar l.rule l.rule.pattern l.code l.fn.p.0 l.fn.c.0 (siblings_left l.ps) (siblings_left l.cs) l.fn.out.items l.out.items
 
 abbrev pub decreases-node_matches-loop-first : goal.decreases-node_matches-loop-first
 decreases-node_matches-loop-first l = length (siblings_left l.ps)

@@ -1,7 +1,7 @@
 use Rattle.std.proofs.Common.{◌≡◌, ◌++◌, ◌+◌, ◌<◌, ◌^◌, [], List, Bool, ℕ, drop, length, map, string_bytes, ap, sym, ◌∙◌, arith, append-nil, length-append, rules, is_some}
 use Rattle.ssr_syntax_tree.specs.Syntax.{Token, tokens_of}
 use Rattle.ssr_syntax_tree.specs.Places.{HasToken, token_of}
-use Rattle.ide_ssr_rules.specs.Resolving.{name_at}
+use Rattle.ide_ssr_rules.specs.StandIns.{name_at}
 use Rattle.ide_ssr_rewriting.specs.Rendering.{piece_of, text_for, wrapped, wrapped_text}
 use Rattle.ide_ssr_rewriting.proofs.Tokens.{no_tokens}
 use Rattle.ide_ssr_rewriting.proofs.Templates.{pushed, plain_from, wrapped_from}

@@ -1,6 +1,5 @@
 use Rattle.std.proofs.lemmas.Result.{err_from_is_err_and}
 use Rattle.ide_ssr_rules.proofs.Chains.{alone_refused, alone_read}
-use Rattle.ide_ssr_rules.proofs.TrimmedSides.{trimmed_stays}
 use Rattle.ide_ssr_rules.proofs.Uses.{side_new}
 use Rattle.ide_ssr_rules.proofs.rules.pattern_of_text.Goals as goal
 
@@ -14,7 +13,3 @@ returns c = alone_read _ _ _ _ _ c.trim.ensures.trim c.in_ok-pattern.ensures.val
 
 pub rule_of-requires-clause-pattern_new : goal.rule_of-requires-clause-pattern_new
 rule_of-requires-clause-pattern_new c = rw c.as_slice.ensures.value (side_new _ _ c.in_ok-pattern.ensures.value)
-
-pub rule_of-requires-clause-pattern_trimmed : goal.rule_of-requires-clause-pattern_trimmed
-rule_of-requires-clause-pattern_trimmed c =
-    rw c.as_slice.ensures.value (c.in_ok-pattern.ensures.trimmed (trimmed_stays _ _ c.trim.ensures.value c.trim.utf8))

@@ -1,13 +1,12 @@
 use Rattle.std.proofs.lemmas.Result.{err_from_is_err_and}
-use Rattle.std.proofs.Common.{◌≡◌, List, [], Option, Some, None, refl, ap, sym, ◌∙◌}
+use Rattle.std.proofs.Common.{◌≡◌, List, [], Option, Some, None, refl, ap, ◌∙◌}
 use Rattle.std.specs.Prelude.{unwrap_or}
 use Rattle.std.specs.Borrow.{Bor}
 use Rattle.std.specs.Option.{option_copied}
 use Rattle.ide_ssr_rules.specs.declared.elements.Element.{Element}
-use Rattle.ide_ssr_rules.specs.Elements.{names_of}
 use Rattle.ide_ssr_rules.specs.Rules.{written}
 use Rattle.ide_ssr_rules.proofs.Walking.{names_few}
-use Rattle.ide_ssr_rules.proofs.Chains.{sides_refused, kinds_refused, names_refused, rule_made}
+use Rattle.ide_ssr_rules.proofs.Chains.{sides_refused, kinds_refused, uses_refused, rule_made}
 use Rattle.ide_ssr_rules.proofs.KindUses.{are_read, kinds_once}
 use Rattle.ide_ssr_rules.proofs.rules.rule_of.Goals as goal
 
@@ -28,29 +27,30 @@ returns-in_err-kinds c =
     let checked = rw (ap (λ r. r.now) c.unwrap_or-written.ensures ∙ written_is c.args.template _ refl) at c.in_ok-check_sides.ensures in
     rw (p.1, p.2) (kinds_refused _ (option_copied c.args.template) _ checked c.in_err-kinds.ensures.kinds)
 
-pub returns-in_err-check_defined : goal.returns-in_err-check_defined
-returns-in_err-check_defined c =
-    let p = err_from_is_err_and c.from_residual-in_err-check_defined.result c.from_residual-in_err-check_defined.ensures.1 in
-    let checked = rw (ap (λ r. r.now) c.unwrap_or-written.ensures ∙ written_is c.args.template _ refl) at c.in_ok-check_sides.ensures in
-    rw (p.1, p.2) (names_refused _ (option_copied c.args.template) _ _ _ _ checked c.in_ok-kinds.ensures.kinds
-    (c.as_slice.ensures.value ∙ c.in_ok-names.ensures) (c.as_slice-2.ensures.value ∙ c.in_ok-used.ensures ∙ ap names_of (ap (λ r. r.now) c.unwrap_or-written.ensures ∙ written_is c.args.template _ refl))
-    c.in_err-check_defined.ensures)
+pub returns-in_err-check_uses : goal.returns-in_err-check_uses
+returns-in_err-check_uses c =
+    let p = err_from_is_err_and c.from_residual-in_err-check_uses.result c.from_residual-in_err-check_uses.ensures.1 in
+    let is = ap (λ r. r.now) c.unwrap_or-written.ensures ∙ written_is c.args.template _ refl in
+    let checked = rw is at c.in_ok-check_sides.ensures in
+    let refused = rw is at c.in_err-check_uses.ensures in
+    rw (p.1, p.2) (uses_refused _ (option_copied c.args.template) _ _ _ checked c.in_ok-kinds.ensures.kinds c.as_slice.ensures.value refused)
 
 pub returns : goal.returns
 returns c =
-    let checked = rw (ap (λ r. r.now) c.unwrap_or-written.ensures ∙ written_is c.args.template _ refl) at c.in_ok-check_sides.ensures in
-    rule_made _ (option_copied c.args.template) _ _ _ _ checked c.in_ok-kinds.ensures.kinds (c.as_slice.ensures.value ∙ c.in_ok-names.ensures)
-    (c.as_slice-2.ensures.value ∙ c.in_ok-used.ensures ∙ ap names_of (ap (λ r. r.now) c.unwrap_or-written.ensures ∙ written_is c.args.template _ refl)) c.in_ok-check_defined.ensures
-    (c.in_ok-names-2.ensures ∙ c.as_slice-3.ensures.value ∙ sym c.as_slice.ensures.value)
+    let is = ap (λ r. r.now) c.unwrap_or-written.ensures ∙ written_is c.args.template _ refl in
+    let checked = rw is at c.in_ok-check_sides.ensures in
+    let uses = rw is at c.in_ok-check_uses.ensures in
+    rule_made _ (option_copied c.args.template) _ _ _ _ _ checked c.in_ok-kinds.ensures.kinds c.as_slice.ensures.value uses c.in_ok-names.ensures
+    (c.in_ok-names-2.ensures ∙ c.as_slice-2.ensures.value) c.in_ok-constraints.ensures
 
 pub invariant_of-result : goal.invariant_of-result
 invariant_of-result c =
     let checked = rw (ap (λ r. r.now) c.unwrap_or-written.ensures ∙ written_is c.args.template _ refl) at c.in_ok-check_sides.ensures in
-    let kept = c.as_slice-3.ensures.value ∙ c.in_ok-names.ensures in record {
+    let kept = c.as_slice-2.ensures.value ∙ c.in_ok-names.ensures in record {
       few = names_few c.args.pattern.now _ _ c.requires.few c.in_ok-names-2.ensures kept;
       once =
           kinds_once c.args.pattern.now (option_copied c.args.template) _ _
-          (record { utf8 = c.in_ok-kinds.ensures.pattern_text; is_trimmed = c.requires.pattern_trimmed; new = c.requires.pattern_new })
-          (are_read (option_copied c.args.template) c.in_ok-kinds.ensures.template_text c.requires.template_trimmed c.requires.template_new)
+          (record { utf8 = c.in_ok-kinds.ensures.pattern_text; new = c.requires.pattern_new })
+          (are_read (option_copied c.args.template) c.in_ok-kinds.ensures.template_text c.requires.template_new)
           checked c.in_ok-kinds.ensures.kinds (c.in_ok-names-2.ensures ∙ kept);
     }

@@ -2,22 +2,16 @@ use Rattle.std.proofs.Common.{arith, length, ◌≤◌, ◌<◌, ◌^◌}
 use Rattle.std.proofs.lemmas.Result.{IfOk-weaker}
 use Rattle.ide_ssr_rules.proofs.LexedSides.{side-tokens, side-fault}
 use Rattle.ide_ssr_rules.proofs.Telling.{tells_refusal}
-use Rattle.ide_ssr_rules.proofs.TrimmedSides.{answer_trimmed}
-use Rattle.ide_ssr_rules.specs.Elements.{side}
-use Rattle.ide_ssr_rules.specs.Refusals.{AnswersBy}
 use Rattle.ide_ssr_rules.proofs.sides.side.Goals as goal
 
 pub returns-in-Ok : goal.returns-in-Ok
-returns-in-Ok c =
-    let value : AnswersBy (λ v. v.items) c.elements.result (side c.args.text.now) = rw (side-tokens _ _ c.in-Ok.ensures.value) c.elements.ensures.value in record {
-      value = value;
-      trimmed = answer_trimmed (λ v. v.items) c.args.text.now c.elements.result c.utf8.text value;
-      few = IfOk-weaker c.elements.result (λ v. length v.items ≤ length c.in-Ok.tokens.items) (λ v. length v.items < 2 ^ 32) (λ v fewer. omega (arith, fewer, c.in-Ok.ensures.few)) c.elements.ensures.few;
-    }
+returns-in-Ok c = record {
+  value = rw (side-tokens _ _ c.in-Ok.ensures.value) c.elements.ensures.value;
+  few = IfOk-weaker c.elements.result (λ v. length v.items ≤ length c.in-Ok.tokens.items) (λ v. length v.items < 2 ^ 32) (λ v fewer. omega (arith, fewer, c.in-Ok.ensures.few)) c.elements.ensures.few;
+}
 
 pub returns-in-Err-Fault : goal.returns-in-Err-Fault
 returns-in-Err-Fault c = record {
-  value = (let h = rw c.in-Err-Fault.field-0-is at c.in-Err-Fault.ensures in tells_refusal _ _ _ (side-fault _ h.value) c.lexer_fault.ensures);
+  value = (let h = rw c.in-Err-Fault.field-0-is at c.in-Err-Fault.ensures in tells_refusal _ _ _ (side-fault _ _ h.value) c.told.ensures);
   few = tt;
-  trimmed = tt;
 }

@@ -6,7 +6,9 @@ pub returns-in-Err-TooLong : goal.returns-in-Err-TooLong
 returns-in-Err-TooLong c = record { value = lexed-long _ (rw c.in-Err-TooLong.field-0-is at c.in-Err-TooLong.ensures.value); few = tt }
 
 pub returns-in-Err-Fault : goal.returns-in-Err-Fault
-returns-in-Err-Fault c = let h = rw c.in-Err-Fault.field-0-is at c.in-Err-Fault.ensures.value in record { value = lexed-fault _ h.0 h.1; few = tt }
+returns-in-Err-Fault c =
+    let h = rw c.in-Err-Fault.field-0-is at c.in-Err-Fault.ensures in
+    rw c.in-Err-Fault.field-0-is (record { value = lexed-fault _ _ h.value.0 h.value.1 h.fault; few = tt })
 
 pub range-text-requires-clause-start_boundary : goal.range-text-requires-clause-start_boundary
 range-text-requires-clause-start_boundary c = λ _.

@@ -27,7 +27,8 @@ loop-tree-preserved c =
       found =
           subst (λ w. AreFoundBefore w context rules (t + 1) 0 0 ms) known.workspace
           (subst (λ x. AreFoundBefore g.workspace.now x rules (t + 1) 0 0 ms) known.context
-          (subst (λ n. AreFoundBefore g.workspace.now g.context.now rules (n + 1) 0 0 ms) known.number c.in_ok-add_found.ensures.found));
+          (subst (λ n. AreFoundBefore g.workspace.now g.context.now rules (n + 1) 0 0 ms) known.number
+          (subst (λ rs. AreFoundBefore g.workspace.now g.context.now rs (g.number + 1) 0 0 ms) c.in_ok-tried.ensures.rules c.in_ok-add_found.ensures.found)));
       shut =
           subst (λ w. KnowsShut w (t + 1) 0 c.add_found.new.shut) known.workspace
           (subst (λ n. KnowsShut g.workspace.now (n + 1) 0 c.add_found.new.shut) known.number c.in_ok-add_found.ensures.shut);

@@ -8,4 +8,4 @@ returns-in_err-rule c =
     rw (p.1, p.2) (tells_rule c.in_err-rule.field-0.0 c.args.text.now c.in_err-rule.ensures.reads)
 
 pub returns : goal.returns
-returns c = adds_rule _ _ _ _ _ c.in_ok-rule.ensures.reads c.add_rule.ensures.answer
+returns c = adds_rule _ _ _ _ _ _ c.requires c.in_ok-rule.ensures.reads c.add_rule.ensures.answer

@@ -1,6 +1,8 @@
 use Rattle.std.proofs.Common.{◌<◌, [], length, map, string_bytes, sym, ap, ◌∙◌}
 use Rattle.std.proofs.lemmas.Result.{err_from_is_err_and}
 use Rattle.std.proofs.lemmas.List.{get_or-map, length-map}
+use Rattle.ide_ssr.specs.Finder.{FinderWith}
+use Rattle.ssr.specs.declared.unresolved.Unresolved.{Unresolved}
 use Rattle.ssr.proofs.Telling.{adds_more, refuses_more}
 use Rattle.ssr.proofs.rewriting.add_rules.Goals as goal
 
@@ -18,3 +20,7 @@ loop-rule-preserved c =
     adds_more _ _ _ _ less _ c.loop-rule.invariant.1 c.loop-rule.invariant.2 c.as_str.result.now
     (c.as_str.ensures.value ∙ ap string_bytes c.rule-item.is ∙ sym (get_or-map string_bytes c.args.rules.now c.loop-rule.rule-index c.rule-item.result [] c.loop-rule-test.true))
     _ c.in_ok-add_rule.ensures
+
+-- rules that are added leave the scope as it was
+pub add_rule-requires : goal.add_rule-requires
+add_rule-requires c = ap (λ (f : FinderWith Unresolved). f.context.scope) c.loop-rule.invariant.2 ∙ c.requires

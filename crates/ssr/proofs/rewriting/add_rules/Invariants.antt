@@ -1,6 +1,6 @@
 use Rattle.std.proofs.Common.{◌≡◌, ◌++◌, List, Ok, map, string_bytes, take}
 use Rattle.ssr.specs.Output.{rules_reading}
-use Rattle.ide_ssr_rules.specs.Resolving.{ResolvedKind}
+use Rattle.ide_ssr_resolving.specs.Resolved.{ResolvedKind}
 use Rattle.ssr.proofs.rewriting.add_rules.Given as goal
 
 abbrev pub invariant-loop-rule : goal.invariant-loop-rule

@@ -6,6 +6,7 @@ use Rattle.ssr_base.specs.Changes.{FitsText, replaced}
 use Rattle.ssr_base.specs.Workspace.{Workspace}
 use Rattle.ssr_syntax_tree.specs.Syntax.{source_of}
 use Rattle.ide_ssr.proofs.Shared.{none_clash}
+use Rattle.ssr.specs.Private.Rewriting.{untold}
 use Rattle.ssr.specs.Rewritten.{edited, first_file}
 use Rattle.ssr.proofs.OneText.{tree_is}
 use Rattle.ssr.proofs.rewriting.new_text.Goals as goal
@@ -15,7 +16,7 @@ unreachable-requires c = (rw c.in-Err-NoTemplate.field-0-is at c.in-Err-NoTempla
 
 pub unreachable-requires-in-Err-Clash : goal.unreachable-requires-in-Err-Clash
 unreachable-requires-in-Err-Clash c =
-    none_clash c.args.finder.now (ap (λ (w : Workspace). w.expansions) (c.requires.same ∙ c.requires.one.1)) c.in-Err-Clash.field-0-0 c.in-Err-Clash.field-0-1
+    none_clash (untold c.args.finder.now) (ap (λ (w : Workspace). w.expansions) (c.requires.same ∙ c.requires.one.1)) c.in-Err-Clash.field-0-0 c.in-Err-Clash.field-0-1
     (rw c.in-Err-Clash.field-0-is at c.in-Err-Clash.ensures).answer
 
 pub unreachable-requires-in_default : goal.unreachable-requires-in_default

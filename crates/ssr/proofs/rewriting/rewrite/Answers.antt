@@ -2,6 +2,7 @@ use Rattle.std.proofs.Common.{Global, ap, subst, sym, ◌∙◌}
 use Rattle.std.proofs.lemmas.Str.{IsUtf8-string_bytes}
 use Rattle.std.proofs.lemmas.Result.{err_from_is_err_and}
 use Rattle.ide_ssr.specs.Edits.{HaveTemplates}
+use Rattle.ssr.proofs.NewFinder.{new_scope}
 use Rattle.ssr.proofs.Replacing.{all_replace}
 use Rattle.ssr.proofs.Rewritings.{rewrites_file, rewrites_rules, rewrites_text, searches}
 use Rattle.ssr.proofs.rewriting.rewrite.Goals as goal
@@ -41,3 +42,6 @@ returns c =
     rewrites_text _ _ (IsUtf8-string_bytes c.args.text) _ c.in_ok-workspace.ensures.0 c.in_ok-add_rules.ensures.0 _ _ c.in_ok-workspace.ensures.1
     c.in_ok-add_rules.ensures.1 (searches _ _ _ _ _ c.in_ok-workspace.ensures.2 c.in_ok-finder.ensures c.in_ok-add_rules.ensures.2)
     c.new_text.ensures.text c.new_text.ensures.memory
+
+pub add_rules-requires : goal.add_rules-requires
+add_rules-requires c = new_scope _ _ c.in_ok-finder.ensures

@@ -7,5 +7,5 @@ pub returns-then-shut : goal.returns-then-shut
 returns-then-shut c =
     let g = c.args.self.now in
     let w = g.workspace.now in
-    found_nothing w g.context.now c.args.rules.now g.number c.args.node.0 c.args.found.now.items
+    found_nothing w g.context.now c.args.rules.now.rules.now g.number c.args.node.0 c.args.found.now.items
     (λ is. not_shut w g.context.now.restrictions (node_id g.number c.args.node.0) is (c.requires.shut.0 c.if-shut.true)) c.requires.found

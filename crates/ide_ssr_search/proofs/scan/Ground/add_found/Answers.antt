@@ -1,8 +1,12 @@
-use Rattle.std.proofs.Common.{arith}
+use Rattle.std.proofs.Common.{◌≡◌, max, sym, ap, ◌∙◌, refl, inl, arith}
 use Rattle.ssr_syntax_tree.specs.Places.{HasNode}
 use Rattle.ssr_base.specs.Workspace.{trees, node_id}
 use Rattle.ide_ssr_search.specs.Private.Shut.{IsShutIn, IsShut}
 use Rattle.ide_ssr_matching.proofs.Shared.{is_tree}
+use Rattle.ide_ssr_search.specs.Private.Roots.{has_kind}
+use Rattle.ide_ssr_search.proofs.Asked.{unmatched_kind, unshutting_kind, no_call_of_kind}
+use Rattle.ide_ssr_search.proofs.Calls.{shut_kept}
+use Rattle.ide_ssr_search.proofs.Finding.{found_unmatched}
 use Rattle.ide_ssr_search.proofs.Shutting.{past_now, past_turn, past_call, tested}
 use Rattle.ide_ssr_search.proofs.scan.Ground.add_found.Goals as goal
 
@@ -37,4 +41,26 @@ loop-number-preserved c =
       past =
           past_turn (trees w) g.number g.tree.now (is_tree w g.number g.tree.now c.requires.ground.tree) n c.past.result c.loop-number.past c.max-past.result has
           c.loop-number.invariant.past c.past.ensures c.max-past.ensures;
+    }
+
+pub loop-number-preserved-then-not-concern : goal.loop-number-preserved-then-not-concern
+loop-number-preserved-then-not-concern c =
+    let g = c.args.self.now in
+    let w = g.workspace.now in
+    let n = c.loop-number.number in
+    let has : HasNode g.tree.now n = omega arith in
+    let at = is_tree w g.number g.tree.now c.requires.ground.tree in
+    let rules = c.args.rules.now in
+    let same : c.loop-number.past ≡ max 0 c.loop-number.past = omega arith in
+    let lacks = ap (has_kind rules.kinds) (sym c.kind.ensures) ∙ sym c.concern.ensures ∙ c.if-not-concern.true in
+    record {
+      found =
+          found_unmatched w g.context.now rules.rules.now g.number n c.loop-number.found.items
+          (unmatched_kind w g.number n g.tree.now at rules c.requires.rules lacks) c.loop-number.invariant.found;
+      shut =
+          shut_kept w g.number n c.loop-number.shut (λ call _. no_call_of_kind w g.number n g.tree.now at rules c.requires.rules lacks call)
+          c.loop-number.invariant.shut;
+      past =
+          past_turn (trees w) g.number g.tree.now at n 0 c.loop-number.past c.loop-number.past has c.loop-number.invariant.past
+          (inl (refl, unshutting_kind w g.number n g.tree.now at rules c.requires.rules lacks)) same;
     }

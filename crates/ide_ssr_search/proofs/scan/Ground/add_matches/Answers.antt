@@ -1,13 +1,23 @@
+use Rattle.std.proofs.Common.{length, refl, sym}
+use Rattle.std.proofs.lemmas.Option.{slice_get_read}
 use Rattle.ide_ssr_search.proofs.Finding.{found_more, found_at}
 use Rattle.ide_ssr_search.proofs.scan.Ground.add_matches.Goals as goal
 
 pub loop-place-preserved : goal.loop-place-preserved
 loop-place-preserved c =
     let g = c.args.self.now in
-    found_more g.workspace.now g.context.now c.args.rules.now g.number c.args.node.0 c.loop-place.place g.tree.now c.index-rules-place.result
-    c.loop-place.found.items c.add_match.new.found.items c.requires.ground.tree c.loop-place-test.true c.index-rules-place.is c.loop-place.invariant c.in_ok-add_match.ensures
+    found_more g.workspace.now g.context.now c.args.rules.now.rules.now g.number c.args.node.0 c.loop-place.place g.tree.now c.rule-item.result
+    c.loop-place.found.items c.add_match.new.found.items c.requires.ground.tree c.loop-place-test.true c.rule-item.is c.loop-place.invariant c.in_ok-add_match.ensures
 
 pub returns : goal.returns
 returns c =
     let g = c.args.self.now in
-    found_at g.workspace.now g.context.now c.args.rules.now g.number c.args.node.0 c.loop-place.place c.loop-place.found.items c.loop-place-test.false c.loop-place.invariant
+    found_at g.workspace.now g.context.now c.args.rules.now.rules.now g.number c.args.node.0 c.loop-place.place c.loop-place.found.items c.loop-place-test.false c.loop-place.invariant
+
+pub add_match-requires-clause-root : goal.add_match-requires-clause-root
+add_match-requires-clause-root c =
+    let rules = c.args.rules.now in
+    let p = c.loop-place.place in
+    c.requires.rules.each p c.rule-item.result c.index.result.now
+    (slice_get_read rules.rules.now (length rules.rules.now) p c.rule-item.result refl c.loop-place-test.true c.rule-item.is)
+    (slice_get_read rules.roots.items (length rules.rules.now) p c.index.result.now (sym c.requires.rules.counted) c.loop-place-test.true c.index.ensures)

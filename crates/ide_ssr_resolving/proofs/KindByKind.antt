@@ -1,0 +1,116 @@
+-- Kinds resolved one by one, and the steps of each.
+use Rattle.std.proofs.Common.{◌≡◌, ℕ, List, [], ◌∷◌, ◌++◌, Result, Ok, Err, refl, ap, ◌∙◌, sym, append-nil, append_assoc}
+use Rattle.ssr_base.specs.declared.ids.ScopeId.{ScopeId}
+use Rattle.ssr_base.specs.Meanings.{Meanings}
+use Rattle.ide_ssr_rules.specs.declared.constraints.Constraint.{Constraint}
+use Rattle.ide_ssr_rules.specs.declared.error.SsrError.{SsrError}
+use Rattle.ide_ssr_rules.specs.declared.kinds.ParsedRule.{ParsedRule}
+use Rattle.ide_ssr_rules.specs.declared.refusals.Refusal.{Refusal}
+use Rattle.ide_ssr_rules.specs.Refusals.{TellsOf, ◌>>=◌}
+use Rattle.ide_ssr_rules.proofs.Shared.{tells_first, after_ok}
+use Rattle.ide_ssr_resolving.specs.declared.used.UsedPath.{UsedPath}
+use Rattle.ide_ssr_resolving.specs.Mixing.{check_unmixed}
+use Rattle.ide_ssr_resolving.specs.Resolved.{ResolvedKind, check_template, paths_in, paths_in_template, resolved_kind, resolved_kinds}
+
+-- a kind with its names, what they ask, and the used paths of its template and its pattern
+abbrev pub kind_with : ParsedRule → List (List ℕ) → List (List Constraint) → List UsedPath → List UsedPath → ResolvedKind
+kind_with kind kept asks in_template in_pattern = record {
+  names = kept;
+  constraints = asks;
+  category = kind.category;
+  pattern = kind.pattern;
+  template = kind.template;
+  pattern_paths = in_pattern;
+  template_paths = in_template;
+}
+
+module _ (m : Meanings) (scope : ScopeId) (names : List (List ℕ)) (asked : List (List Constraint)) (kind : ParsedRule) where
+  abbrev whole : List UsedPath → List UsedPath → Unit {0} → Result ResolvedKind Refusal
+  whole in_template in_pattern _ = Ok (kind_with kind names asked in_template in_pattern)
+
+  abbrev after_unmixed : List UsedPath → List UsedPath → Unit {0} → Result ResolvedKind Refusal
+  after_unmixed in_template in_pattern _ = check_unmixed kind.pattern >>= whole in_template in_pattern
+
+  abbrev after_pattern : List UsedPath → List UsedPath → Result ResolvedKind Refusal
+  after_pattern in_template in_pattern = check_template check_unmixed kind.template >>= after_unmixed in_template in_pattern
+
+  abbrev after_template : List UsedPath → Result ResolvedKind Refusal
+  after_template in_template = paths_in m scope names kind.pattern >>= after_pattern in_template
+
+  pub template_unresolved : (error : SsrError) → TellsOf error (paths_in_template m scope names kind.template) → TellsOf error (resolved_kind m scope names asked kind)
+  unfolding resolved_kind
+  template_unresolved error tells = tells_first (paths_in_template m scope names kind.template) after_template error tells
+
+  -- where the template's paths resolve
+  past_template : (P : Result ResolvedKind Refusal → Type 0) (in_template : List UsedPath) → paths_in_template m scope names kind.template ≡ Ok in_template
+      → P (after_template in_template) → P (resolved_kind m scope names asked kind)
+  unfolding resolved_kind
+  past_template P in_template is h = after_ok P (paths_in_template m scope names kind.template) after_template in_template is h
+
+  pub pattern_unresolved : (error : SsrError) (in_template : List UsedPath) → paths_in_template m scope names kind.template ≡ Ok in_template
+      → TellsOf error (paths_in m scope names kind.pattern) → TellsOf error (resolved_kind m scope names asked kind)
+  pattern_unresolved error in_template template tells =
+      past_template (λ r. TellsOf error r) in_template template (tells_first (paths_in m scope names kind.pattern) (after_pattern in_template) error tells)
+
+  -- where all paths resolve
+  past_paths : (P : Result ResolvedKind Refusal → Type 0) (in_template in_pattern : List UsedPath) → paths_in_template m scope names kind.template ≡ Ok in_template
+      → paths_in m scope names kind.pattern ≡ Ok in_pattern → P (after_pattern in_template in_pattern) → P (resolved_kind m scope names asked kind)
+  past_paths P in_template in_pattern template pattern h =
+      past_template P in_template template (after_ok P (paths_in m scope names kind.pattern) (after_pattern in_template) in_pattern pattern h)
+
+  pub template_mixes : (error : SsrError) (in_template in_pattern : List UsedPath) → paths_in_template m scope names kind.template ≡ Ok in_template
+      → paths_in m scope names kind.pattern ≡ Ok in_pattern → TellsOf error (check_template check_unmixed kind.template)
+      → TellsOf error (resolved_kind m scope names asked kind)
+  template_mixes error in_template in_pattern template pattern tells =
+      past_paths (λ r. TellsOf error r) in_template in_pattern template pattern
+      (tells_first (check_template check_unmixed kind.template) (after_unmixed in_template in_pattern) error tells)
+
+  pub pattern_mixes : (error : SsrError) (in_template in_pattern : List UsedPath) → paths_in_template m scope names kind.template ≡ Ok in_template
+      → paths_in m scope names kind.pattern ≡ Ok in_pattern → check_template check_unmixed kind.template ≡ Ok tt → TellsOf error (check_unmixed kind.pattern)
+      → TellsOf error (resolved_kind m scope names asked kind)
+  pattern_mixes error in_template in_pattern template pattern plain tells =
+      past_paths (λ r. TellsOf error r) in_template in_pattern template pattern
+      (after_ok (λ r. TellsOf error r) (check_template check_unmixed kind.template) (after_unmixed in_template in_pattern) tt plain
+      (tells_first (check_unmixed kind.pattern) (whole in_template in_pattern) error tells))
+
+  pub kind_resolved : (kept : List (List ℕ)) (asks : List (List Constraint)) (in_template in_pattern : List UsedPath)
+      → paths_in_template m scope names kind.template ≡ Ok in_template → paths_in m scope names kind.pattern ≡ Ok in_pattern
+      → check_template check_unmixed kind.template ≡ Ok tt → check_unmixed kind.pattern ≡ Ok tt → kept ≡ names → asks ≡ asked
+      → resolved_kind m scope names asked kind ≡ Ok (kind_with kind kept asks in_template in_pattern)
+  kind_resolved kept asks in_template in_pattern template pattern plain too keeps are =
+      let IsIt : Result ResolvedKind Refusal → Type 0 = λ r. r ≡ Ok (kind_with kind kept asks in_template in_pattern) in
+      past_paths IsIt in_template in_pattern template pattern
+      (after_ok IsIt (check_template check_unmixed kind.template) (after_unmixed in_template in_pattern) tt plain
+      (after_ok IsIt (check_unmixed kind.pattern) (whole in_template in_pattern) tt too
+      (ap (λ ns. Ok (kind_with kind ns asked in_template in_pattern)) (sym keeps)
+      ∙ ap (λ cs. Ok (kind_with kind kept cs in_template in_pattern)) (sym are))))
+
+-- kinds resolved so far, and what the rest gives
+abbrev pub joined : List ResolvedKind → Result (List ResolvedKind) Refusal → Result (List ResolvedKind) Refusal
+joined before (Ok rest) = Ok (before ++ rest)
+joined before (Err refusal) = Err refusal
+
+joined_next : (found : List ResolvedKind) (one : ResolvedKind) (rest : Result (List ResolvedKind) Refusal)
+    → joined (found ++ one ∷ []) rest ≡ joined found (rest >>= (λ later. Ok (one ∷ later)))
+joined_next found one (Ok later) = ap Ok (append_assoc found (one ∷ []) later)
+joined_next found one (Err refusal) = refl
+
+module _ (m : Meanings) (scope : ScopeId) (names : List (List ℕ)) (asked : List (List Constraint)) (all : List ParsedRule) where
+  -- what the loop over the kinds keeps
+  pub record Resolves (found : List ResolvedKind) (left : List ParsedRule) : Type 0 where
+    pub resolves : joined found (resolved_kinds m scope names asked left) ≡ resolved_kinds m scope names asked all
+
+  pub resolves_all : (left : List ParsedRule) (found : List ResolvedKind) → Resolves found left → left ≡ [] → resolved_kinds m scope names asked all ≡ Ok found
+  resolves_all left found so_far is =
+      sym so_far.resolves ∙ ap (λ ks. joined found (resolved_kinds m scope names asked ks)) is ∙ ap Ok (append-nil found)
+
+  pub resolves_next : (left behind : List ParsedRule) (found new : List ResolvedKind) (kind : ParsedRule) (one : ResolvedKind)
+      → Resolves found left → left ≡ kind ∷ behind → resolved_kind m scope names asked kind ≡ Ok one → new ≡ found ++ one ∷ [] → Resolves new behind
+  resolves_next left behind found new kind one so_far is resolved pushed =
+      let rest = resolved_kinds m scope names asked behind in
+      record {
+        resolves =
+            ap (λ ks. joined ks rest) pushed ∙ joined_next found one rest
+            ∙ ap (λ r. joined found (r >>= (λ first. rest >>= (λ later. Ok (first ∷ later))))) (sym resolved)
+            ∙ ap (λ ks. joined found (resolved_kinds m scope names asked ks)) (sym is) ∙ so_far.resolves;
+      }

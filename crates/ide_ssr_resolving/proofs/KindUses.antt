@@ -1,0 +1,81 @@
+-- Kinds that are resolved use their placeholders once, as those that are read do.
+use Rattle.std.proofs.Common.{◌≡◌, ℕ, Bool, true, false, List, [], ◌∷◌, All, Result, Ok, Err, refl, subst}
+use Rattle.std.specs.Prelude.{if◌then◌else◌}
+use Rattle.std.proofs.lemmas.List.Elements.{All-nil, All-cons, All-head, All-tail}
+use Rattle.ssr_syntax_tree.specs.Syntax.{Syntax}
+use Rattle.ssr_base.specs.declared.ids.ScopeId.{ScopeId}
+use Rattle.ssr_base.specs.Meanings.{Meanings}
+use Rattle.ide_ssr_rules.specs.declared.constraints.Constraint.{Constraint}
+use Rattle.ide_ssr_rules.specs.declared.kinds.ParsedRule.{ParsedRule}
+use Rattle.ide_ssr_rules.specs.declared.refusals.Refusal.TheVariants as r
+use Rattle.ide_ssr_rules.specs.Patterns.{HasEachAtMostOnce, AreReadOnce}
+use Rattle.ide_ssr_rules.specs.declared.refusals.Refusal.{Refusal}
+use Rattle.ide_ssr_rules.specs.Refusals.{◌>>=◌}
+use Rattle.ide_ssr_rules.proofs.Shared.{went, ok_same}
+use Rattle.ide_ssr_resolving.specs.declared.used.UsedPath.{UsedPath}
+use Rattle.ide_ssr_resolving.specs.Mixing.{mixes, check_unmixed}
+use Rattle.ide_ssr_resolving.specs.Patterns.{HasEachOnce}
+use Rattle.ide_ssr_resolving.specs.Resolved.{ResolvedKind, check_template, paths_in, paths_in_template, resolved_kind, resolved_kinds}
+use Rattle.ide_ssr_resolving.proofs.Patterns.{each_once}
+use Rattle.ide_ssr_resolving.proofs.KindByKind.{kind_with}
+
+unmixed : (tree : Syntax) → check_unmixed tree ≡ Ok tt → mixes tree ≡ false
+unfolding check_unmixed
+unmixed tree h = not_mixed (mixes tree) h where
+  not_mixed : (b : Bool) → ◌≡◌ {A = Result (Unit {0}) Refusal} (if b then Err r.TokenTree else Ok tt) (Ok tt) → b ≡ false
+  not_mixed true h = cc
+  not_mixed false h = refl
+
+-- the pattern has each of its names once, and the template at most once
+abbrev pub IsUsedOnce : ResolvedKind → Type 0
+IsUsedOnce kind = HasEachOnce kind.names kind.pattern × HasEachAtMostOnce kind.names kind.template
+
+module _ (m : Meanings) (scope : ScopeId) (names : List (List ℕ)) (asked : List (List Constraint)) where
+  -- what a resolved kind is: the kind that is resolved with its used paths, whose pattern doesn't mix
+  pub record IsResolved (kind : ParsedRule) (found : ResolvedKind) : Type 0 where
+    pub in_template : List UsedPath
+    pub in_pattern : List UsedPath
+    pub same : kind_with kind names asked in_template in_pattern ≡ found
+    pub plain : mixes kind.pattern ≡ false
+
+  pub resolved_like : (kind : ParsedRule) (found : ResolvedKind) → resolved_kind m scope names asked kind ≡ Ok found → IsResolved kind found
+  unfolding resolved_kind
+  resolved_like kind found h =
+      let made : List UsedPath → List UsedPath → ResolvedKind = kind_with kind names asked in
+      let plain = check_template check_unmixed kind.template in
+      let whole : List UsedPath → List UsedPath → Unit {0} → Result ResolvedKind Refusal = λ t p _. Ok (made t p) in
+      let unmixed_pattern : List UsedPath → List UsedPath → Unit {0} → Result ResolvedKind Refusal = λ t p _. check_unmixed kind.pattern >>= whole t p in
+      let unmixed_template : List UsedPath → List UsedPath → Result ResolvedKind Refusal = λ t p. plain >>= unmixed_pattern t p in
+      let first = went (paths_in_template m scope names kind.template) (λ t. paths_in m scope names kind.pattern >>= unmixed_template t) found h in
+      let second = went (paths_in m scope names kind.pattern) (unmixed_template first.found) found first.next_is in
+      let third = went plain (unmixed_pattern first.found second.found) found second.next_is in
+      let last = went (check_unmixed kind.pattern) (whole first.found second.found) found third.next_is in
+      record {
+        in_template = first.found;
+        in_pattern = second.found;
+        same = ok_same (made first.found second.found) found last.next_is;
+        plain = unmixed kind.pattern last.first_is;
+      }
+
+  used_once : (kind : ParsedRule) (found : ResolvedKind) → resolved_kind m scope names asked kind ≡ Ok found → AreReadOnce names kind → IsUsedOnce found
+  used_once kind found h read =
+      let is = resolved_like kind found h in
+      subst IsUsedOnce is.same (each_once names kind.pattern read.0 is.plain, read.1)
+
+  -- what holds of each kind that a kind with some property resolves to holds of all that are resolved
+  pub resolved_all : (P : ParsedRule → Type 0) (Q : ResolvedKind → Type 0) (kinds : List ParsedRule) (found : List ResolvedKind)
+      → ((kind : ParsedRule) (one : ResolvedKind) → resolved_kind m scope names asked kind ≡ Ok one → P kind → Q one)
+      → resolved_kinds m scope names asked kinds ≡ Ok found → All P kinds → All Q found
+  resolved_all P Q [] found each h all = subst (All Q) (ok_same [] found h) (All-nil Q)
+  resolved_all P Q (kind ∷ kinds) found each h all =
+      let in_front : ResolvedKind → List ResolvedKind → Result (List ResolvedKind) Refusal = λ first rest. Ok (first ∷ rest) in
+      let first = went (resolved_kind m scope names asked kind) (λ first. resolved_kinds m scope names asked kinds >>= in_front first) found h in
+      let rest = went (resolved_kinds m scope names asked kinds) (in_front first.found) found first.next_is in
+      subst (All Q) (ok_same (first.found ∷ rest.found) found rest.next_is)
+      (All-cons Q first.found rest.found
+      (each kind first.found first.first_is (All-head P kind kinds all))
+      (resolved_all P Q kinds rest.found each rest.first_is (All-tail P kind kinds all)))
+
+  pub resolved_once : (kinds : List ParsedRule) (found : List ResolvedKind) → resolved_kinds m scope names asked kinds ≡ Ok found
+      → All (AreReadOnce names) kinds → All IsUsedOnce found
+  resolved_once kinds found h all = resolved_all (AreReadOnce names) IsUsedOnce kinds found used_once h all

@@ -1,0 +1,13 @@
+mod Children
+mod Tokens
+mod Pieces
+mod Names
+mod StandIns
+mod Steps
+mod Walk
+mod Nodes
+mod Patterns
+mod KindByKind
+mod KindUses
+mod Templates
+pub mod Shared

@@ -1,0 +1,4 @@
+-- The lemmas that the crates above may cite. The other files of lemmas here are this crate's own.
+
+-- what a rule resolves to has a template in each kind
+pub use Rattle.ide_ssr_resolving.proofs.Templates.{have_templates}

@@ -1,0 +1,139 @@
+-- The tokens of a tree by their numbers, and what a segment is cut to.
+use Rattle.std.proofs.Common.{◌≡◌, ℕ, suc, ◌+◌, ◌-◌, ◌<◌, ◌≤◌, true, false, List, [], ◌∷◌, ◌++◌, All, length, map, take, drop, refl, sym, ap, ◌∙◌, subst, arith, inl, inr}
+use Rattle.std.proofs.lemmas.List.{drop_more, drop-drop, take_at, take-take}
+use Rattle.std.proofs.lemmas.List.Elements.{All-head, All-tail}
+use Rattle.std.proofs.lemmas.Option.{unwrap_or-slice_get}
+use Rattle.std.proofs.lemmas.Bool.{cases_Bool, cases_lt, ltb-true}
+use Rattle.std.specs.Prelude.{if◌then◌else◌, nat_lt}
+use Rattle.std.specs.List.{flat_map, join_by}
+use Rattle.ssr_syntax_kinds.specs.declared.kinds.SyntaxKind.TheVariants as k
+use Rattle.ssr_syntax_kinds.specs.Kinds.{same_kind}
+use Rattle.ssr_syntax_tree.specs.Places.{Node, HasNode, HasToken, node_of, token_of, parts_in, parts_of}
+use Rattle.ssr_syntax_tree.specs.Syntax.{Token, Forest, nothing, leaf, branch, Syntax, node_count, token_count, tokens_in, tokens_of}
+use Rattle.ssr_syntax_tree.proofs.Lists.{take_between}
+use Rattle.ssr_syntax_tree.proofs.Shared.{IsChild, children_known, length-tokens_in}
+use Rattle.ide_ssr_resolving.specs.Keys.{begins_with_colons, pieces}
+use Rattle.ide_ssr_resolving.specs.Paths.{before_arguments}
+use Rattle.ide_ssr_resolving.specs.Private.Pieces.{tokens_between}
+use Rattle.ide_ssr_resolving.proofs.Children.{before_tokens, before_fewer}
+
+take_one : (x : Token) (xs : List Token) (n m : ℕ) → m ≡ suc n → take m (x ∷ xs) ≡ x ∷ take n xs
+take_one x xs n m is = ap (λ k. take k (x ∷ xs)) is
+
+-- ** The tokens of a node.
+
+module _ (s : Syntax) where
+  -- the tokens from a number on
+  pub tokens_left : (n : ℕ) → HasToken s n → drop n (tokens_of s) ≡ token_of s n ∷ drop (n + 1) (tokens_of s)
+  unfolding token_of
+  tokens_left n has =
+      let within : n < length (tokens_of s) = omega (arith, length-tokens_in s.children) in
+      let none : Token = record { kind = k.WHITESPACE; text = [] } in
+      drop_more (tokens_of s) n none within ∙ ap (λ token. token ∷ drop (n + 1) (tokens_of s)) (sym (unwrap_or-slice_get (tokens_of s) n none))
+
+  take_two : (xs : List Token) (a b : ℕ) → take (a + b) xs ≡ take a xs ++ take b (drop a xs)
+  take_two xs a b = take_between xs a (a + b) (omega arith) ∙ ap (λ n. take a xs ++ take n (drop a xs)) (omega arith)
+
+  tokens_known : (q p m t : ℕ) (forest : Forest) → All (IsChild s q) (parts_in p m t forest) → take (token_count forest) (drop t (tokens_of s)) ≡ tokens_in forest
+  tokens_known q p m t nothing known = refl
+  tokens_known q p m t (leaf token next) known =
+      let first = All-head (IsChild s q) _ (parts_in p m (1 + t) next) known in
+      let behind : t + 1 ≡ 1 + t = omega arith in
+      ap (take (1 + token_count next)) (tokens_left t first.0)
+      ∙ take_one (token_of s t) (drop (t + 1) (tokens_of s)) (token_count next) (1 + token_count next) (omega arith)
+      ∙ ap (λ n. token_of s t ∷ take (token_count next) (drop n (tokens_of s))) behind
+      ∙ ap (λ x. x ∷ take (token_count next) (drop (1 + t) (tokens_of s))) first.1
+      ∙ ap (λ rest. token ∷ rest) (tokens_known q p m (1 + t) next (All-tail (IsChild s q) _ (parts_in p m (1 + t) next) known))
+  tokens_known q p m t (branch kind inner next) known =
+      let behind = parts_in p (1 + m + node_count inner) (t + token_count inner) next in
+      let first = All-head (IsChild s q) _ behind known in
+      let own = subst (λ (node : Node). All (IsChild s m) (parts_of node)) first.1 (children_known s m first.0) in
+      take_two (drop t (tokens_of s)) (token_count inner) (token_count next)
+      ∙ ap (λ front. front ++ take (token_count next) (drop (token_count inner) (drop t (tokens_of s)))) (tokens_known m m (1 + m) t inner own)
+      ∙ ap (λ rest. tokens_in inner ++ take (token_count next) rest) (drop-drop (token_count inner) t (tokens_of s))
+      ∙ ap (λ rest. tokens_in inner ++ rest) (tokens_known q p (1 + m + node_count inner) (t + token_count inner) next (All-tail (IsChild s q) _ behind known))
+
+  pub tokens_of_node : (n : ℕ) → HasNode s n → take (token_count (node_of s n).children) (drop (node_of s n).first (tokens_of s)) ≡ tokens_in (node_of s n).children
+  tokens_of_node n has =
+      let node = node_of s n in tokens_known n node.number (1 + node.number) node.first node.children (children_known s n has)
+
+  -- a whole segment
+  pub segment_tokens : (n past : ℕ) → HasNode s n → past ≡ (node_of s n).first + token_count (node_of s n).children
+      → tokens_between s (node_of s n).first past ≡ tokens_in (node_of s n).children
+  segment_tokens n past has is =
+      let node = node_of s n in
+      let count : past - node.first ≡ token_count node.children = omega (arith, is) in
+      ap (λ k. take k (drop node.first (tokens_of s))) count ∙ tokens_of_node n has
+
+  -- what of it stands before its arguments
+  pub name_tokens : (n past : ℕ) → HasNode s n → past ≡ (node_of s n).first + token_count (before_arguments (node_of s n).children)
+      → tokens_between s (node_of s n).first past ≡ tokens_in (before_arguments (node_of s n).children)
+  name_tokens n past has is =
+      let node = node_of s n in
+      let front = before_arguments node.children in
+      let count : past - node.first ≡ token_count front = omega (arith, is) in
+      let split = before_tokens node.children in
+      ap (λ k. take k (drop node.first (tokens_of s))) count
+      ∙ sym (take-take (token_count front) (token_count node.children) (drop node.first (tokens_of s)) (before_fewer node.children))
+      ∙ ap (take (token_count front)) (tokens_of_node n has ∙ split.1)
+      ∙ take_at (tokens_in front) split.0 (token_count front) (length-tokens_in front)
+
+  -- ** Tokens between two numbers.
+
+  pub between_none : (a b : ℕ) → b ≤ a → tokens_between s a b ≡ []
+  between_none a b none = ap (λ k. take k (drop a (tokens_of s))) (let zero : b - a ≡ 0 = omega arith in zero)
+
+  pub between_next : (a b : ℕ) → HasToken s a → a < b → tokens_between s a b ≡ token_of s a ∷ tokens_between s (a + 1) b
+  between_next a b has some =
+      ap (take (b - a)) (tokens_left a has)
+      ∙ take_one (token_of s a) (drop (a + 1) (tokens_of s)) (b - (a + 1)) (b - a) (omega arith)
+
+  pub between_last : (a b : ℕ) → HasToken s b → a ≤ b → tokens_between s a (b + 1) ≡ tokens_between s a b ++ token_of s b ∷ []
+  between_last a b has le =
+      let count : b + 1 - a ≡ (b - a) + 1 = omega arith in
+      ap (λ k. take k (drop a (tokens_of s))) count
+      ∙ take_two (drop a (tokens_of s)) (b - a) 1
+      ∙ ap (λ rest. tokens_between s a b ++ take 1 rest) (drop-drop (b - a) a (tokens_of s))
+      ∙ ap (λ n. tokens_between s a b ++ take 1 (drop n (tokens_of s))) (let n : a + (b - a) ≡ b = omega arith in n)
+      ∙ ap (λ rest. tokens_between s a b ++ take 1 rest) (tokens_left b has)
+
+  -- ** `::` in front.
+
+  pub colons_at : (a b : ℕ) → HasToken s a → a < b → begins_with_colons (tokens_between s a b) ≡ same_kind (token_of s a).kind k.COLON2
+  colons_at a b has some = ap begins_with_colons (between_next a b has some)
+
+  pub colons_some : (a b : ℕ) → begins_with_colons (tokens_between s a b) ≡ true → a < b
+  colons_some a b colons =
+      elim (cases_lt a b) [
+        | inl some ↦ some
+        | inr none ↦ absurd (let never : false ≡ true = ap begins_with_colons (sym (between_none a b none)) ∙ colons in cc)
+      ]
+
+  pub pieces_plain : (a b : ℕ) → begins_with_colons (tokens_between s a b) ≡ false → pieces (tokens_between s a b) ≡ tokens_between s a b ∷ []
+  pieces_plain a b plain =
+      let tokens = tokens_between s a b in ap (λ c. if c then [] ∷ drop 1 tokens ∷ [] else tokens ∷ []) plain
+
+  pub pieces_colons : (a b : ℕ) → HasToken s a → begins_with_colons (tokens_between s a b) ≡ true
+      → pieces (tokens_between s a b) ≡ tokens_between s a a ∷ tokens_between s (a + 1) b ∷ []
+  pieces_colons a b has colons =
+      let tokens = tokens_between s a b in
+      ap (λ c. if c then [] ∷ drop 1 tokens ∷ [] else tokens ∷ []) colons
+      ∙ ap (λ rest. [] ∷ drop 1 rest ∷ []) (between_next a b has (colons_some a b colons))
+      ∙ ap (λ none. none ∷ tokens_between s (a + 1) b ∷ []) (sym (between_none a a (omega arith)))
+
+pub nat_lt-false : (a b : ℕ) → b ≤ a → nat_lt a b ≡ false
+nat_lt-false a b le =
+    elim (cases_Bool (nat_lt a b)) [
+      | inl less ↦ absurd (let lt = ltb-true a b less in omega arith)
+      | inr other ↦ other
+    ]
+
+-- ** Texts.
+
+flat_mapped : {X : Type 0} (f : X → List ℕ) (sep : List ℕ) (xs : List X) → flat_map (λ x. sep ++ f x) xs ≡ flat_map (λ text. sep ++ text) (map f xs)
+flat_mapped f sep [] = refl
+flat_mapped f sep (x ∷ xs) = ap (λ rest. (sep ++ f x) ++ rest) (flat_mapped f sep xs)
+
+pub joined : {X : Type 0} (f : X → List ℕ) (sep : List ℕ) (xs : List X) → join_by f sep xs ≡ join_by (λ text. text) sep (map f xs)
+joined f sep [] = refl
+joined f sep (x ∷ xs) = ap (λ rest. f x ++ rest) (flat_mapped f sep xs)

@@ -1,0 +1,12 @@
+use Rattle.std.proofs.Common.{◌≡◌, map}
+use Rattle.std.specs.Prelude.{All}
+use Rattle.ssr_syntax_tree.specs.Places.{node_of, part_of, HasElement}
+use Rattle.ide_ssr_resolving.specs.Paths.{below_first}
+use Rattle.ide_ssr_resolving.specs.Private.Parts.{first_among}
+use Rattle.ide_ssr_resolving.proofs.paths.first_child.Given as goal
+
+abbrev pub invariant-loop-child : goal.invariant-loop-child
+invariant-loop-child l = record {
+  so_far : first_among l.fn.kind (map (part_of l.tree) l.child-iterator) ≡ below_first l.fn.kind (node_of l.tree l.fn.node.0).children;
+  had : All (HasElement l.tree) l.child-iterator;
+}

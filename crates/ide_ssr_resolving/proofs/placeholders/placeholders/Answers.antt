@@ -1,0 +1,10 @@
+use Rattle.std.proofs.Common.{arith, map, string_bytes}
+use Rattle.ide_ssr_resolving.proofs.Nodes.{table_next, table_all}
+use Rattle.ide_ssr_resolving.proofs.placeholders.placeholders.Goals as goal
+
+pub loop-node-preserved : goal.loop-node-preserved
+loop-node-preserved c =
+    table_next (map string_bytes c.args.names.now) c.args.tree.now c.loop-node.node _ _ _ (omega arith) c.placeholder_at.ensures c.loop-node.invariant c.in_ok-push.ensures.items
+
+pub returns : goal.returns
+returns c = table_all (map string_bytes c.args.names.now) c.args.tree.now c.loop-node.node _ (omega arith) c.loop-node.invariant

@@ -1,0 +1,13 @@
+use Rattle.std.proofs.Common.{◌≤◌, [], length, sym, ap, ◌∙◌, arith}
+use Rattle.std.proofs.lemmas.Bool.Decides.{nat_tests}
+use Rattle.std.proofs.lemmas.List.{get_or_past}
+use Rattle.ide_ssr_rules.specs.Meeting.{are_met}
+use Rattle.ide_ssr_resolving.specs.Resolved.{ResolvedKind, meets}
+use Rattle.ide_ssr_resolving.proofs.resolved.ResolvedRule.meets.Goals as goal
+
+pub returns-in-None : goal.returns-in-None
+unfolding meets
+returns-in-None c =
+    let past : length c.self.inside.constraints.items ≤ c.args.placeholder = grind (arith, nat_tests) in
+    ap (λ constraints. are_met constraints c.args.kind) (sym (get_or_past c.self.inside.constraints.items c.args.placeholder [] past))
+    ∙ ap (λ (rule : ResolvedKind). meets rule c.args.placeholder c.args.kind) c.self.view_is

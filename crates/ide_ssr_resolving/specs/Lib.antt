@@ -1,0 +1,9 @@
+pub mod Paths
+pub mod Keys
+pub mod Resolving
+pub mod Used
+pub mod Placeholders
+pub mod Mixing
+pub mod Resolved
+pub mod Patterns
+pub mod Private

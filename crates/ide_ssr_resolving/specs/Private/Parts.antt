@@ -1,0 +1,40 @@
+-- Private: words on paths over the children of a node as a tree lends them.
+use Rattle.std.specs.Prelude.{ℕ, List, [], ◌∷◌, ◌++◌, Option, Some, None, if◌then◌else◌}
+use Rattle.std.specs.Option.{option_map_or}
+use Rattle.ssr_syntax_kinds.specs.declared.kinds.SyntaxKind.{SyntaxKind}
+use Rattle.ssr_syntax_kinds.specs.declared.kinds.SyntaxKind.TheVariants as k
+use Rattle.ssr_syntax_kinds.specs.Kinds.{same_kind}
+use Rattle.ssr_syntax_tree.specs.declared.number.NodeNo.{NodeNo}
+use Rattle.ssr_syntax_tree.specs.Places.{Part, token_part, node_part, node_of}
+use Rattle.ssr_syntax_tree.specs.Syntax.{Forest, Syntax}
+use Rattle.ide_ssr_resolving.specs.Paths.{segments, is_arguments}
+
+-- what stands below the node of a number
+abbrev pub below : Syntax → NodeNo → Forest
+below tree node = (node_of tree node.0).children
+
+-- what is below the first node of a kind
+abbrev pub first_among : SyntaxKind → List Part → Option Forest
+first_among kind [] = None
+first_among kind (token_part t token ∷ rest) = first_among kind rest
+first_among kind (node_part node ∷ rest) = if same_kind node.kind kind then Some node.children else first_among kind rest
+
+-- the segments at a child of a path
+abbrev pub segments_at : Part → List Forest
+segments_at (token_part t token) = []
+segments_at (node_part node) =
+    if same_kind node.kind k.PATH then segments node.children else if same_kind node.kind k.PATH_SEGMENT then node.children ∷ [] else []
+
+abbrev pub segments_among : List Part → List Forest
+segments_among [] = []
+segments_among (part ∷ rest) = segments_at part ++ segments_among rest
+
+-- where the arguments begin that a child of a segment is
+abbrev pub start_at : Part → Option ℕ
+start_at (token_part t token) = None
+start_at (node_part node) = if is_arguments node.kind then Some node.first else None
+
+-- where arguments begin; `past`, where there are none
+abbrev pub start_among : ℕ → List Part → ℕ
+start_among past [] = past
+start_among past (part ∷ rest) = option_map_or (λ start. start) (start_at part) (start_among past rest)

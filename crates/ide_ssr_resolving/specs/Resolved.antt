@@ -1,0 +1,102 @@
+-- Which rules resolve, and what of a rule is used then.
+use Rattle.std.specs.Prelude.{ℕ, refl, Bool, List, [], ◌∷◌, Option, Result, Ok, Err, slice_index_or}
+use Rattle.std.specs.Coded.{Coded, code_by, coded×, coded_list, coded_option, coded_ℕ}
+use Rattle.std.specs.Option.{option_map_or}
+use Rattle.ssr_syntax_kinds.specs.declared.kinds.SyntaxKind.{SyntaxKind}
+use Rattle.ssr_syntax.specs.contracts.fragments.Fragment as fragment
+use Rattle.ssr_syntax.specs.declared.fragments.Fragment.{Fragment}
+use Rattle.ssr_syntax_tree.specs.declared.number.NodeNo.{NodeNo}
+use Rattle.ssr_syntax_tree.specs.Places.{node_of, text_of}
+use Rattle.ssr_syntax_tree.specs.Syntax.{Syntax}
+use Rattle.ssr_syntax_tree.specs.SyntaxCode.{syntax_code}
+use Rattle.ssr_base.specs.declared.ids.ScopeId.{ScopeId}
+use Rattle.ssr_base.specs.Meanings.{Meanings}
+use Rattle.ide_ssr_rules.specs.contracts.constraints.Constraint as constraint
+use Rattle.ide_ssr_rules.specs.declared.constraints.Constraint.{Constraint}
+use Rattle.ide_ssr_rules.specs.declared.kinds.ParsedRule.{ParsedRule}
+use Rattle.ide_ssr_rules.specs.Meeting.{are_met}
+use Rattle.ide_ssr_rules.specs.declared.refusals.Refusal.TheVariants as r
+use Rattle.ide_ssr_rules.specs.declared.refusals.Refusal.{Refusal}
+use Rattle.ide_ssr_rules.specs.Refusals.{◌>>=◌}
+use Rattle.ide_ssr_resolving.specs.contracts.used.UsedPath as path
+use Rattle.ide_ssr_resolving.specs.declared.used.UsedPath.{UsedPath}
+use Rattle.ide_ssr_resolving.specs.Mixing.{check_unmixed}
+use Rattle.ide_ssr_resolving.specs.Used.{used_paths}
+
+-- One kind of a rule that resolves; that of a search pattern has no template. The category is what the template was read
+-- as, or the pattern, where there is none. With each tree goes which of its paths are used, in order.
+pub record ResolvedKind : Type 0 where
+  pub names : List (List ℕ)
+  pub constraints : List (List Constraint)
+  pub category : Fragment
+  pub pattern : Syntax
+  pub template : Option Syntax
+  pub pattern_paths : List UsedPath
+  pub template_paths : List UsedPath
+
+-- whether a node of a kind meets all constraints of the placeholder with this place among the names
+unfoldable pub meets : ResolvedKind → ℕ → SyntaxKind → Bool
+meets rule placeholder kind = are_met (slice_index_or rule.constraints placeholder []) kind
+
+-- the used paths of a tree, or the refusal of the one that doesn't resolve, with its text
+abbrev pub or_refusal : Syntax → Result (List UsedPath) NodeNo → Result (List UsedPath) Refusal
+or_refusal tree (Ok paths) = Ok paths
+or_refusal tree (Err node) = Err (r.UnresolvedPath (text_of (node_of tree node.0)))
+
+-- checks a template, if there is one
+abbrev pub check_template : (Syntax → Result (Unit {0}) Refusal) → Option Syntax → Result (Unit {0}) Refusal
+check_template check template = option_map_or check template (Ok tt)
+
+module _ (m : Meanings) (scope : ScopeId) (names : List (List ℕ)) where
+  -- the used paths of a tree of which all resolve that have to
+  unfoldable pub paths_in : Syntax → Result (List UsedPath) Refusal
+  paths_in tree = or_refusal tree (used_paths m scope names tree)
+
+  -- those of a template; without one there are none
+  abbrev pub paths_in_template : Option Syntax → Result (List UsedPath) Refusal
+  paths_in_template template = option_map_or paths_in template (Ok [])
+
+module _ (m : Meanings) (scope : ScopeId) (names : List (List ℕ)) (constraints : List (List Constraint)) where
+  -- a kind is resolved with its paths first, and of those with its template's
+  unfoldable pub resolved_kind : ParsedRule → Result ResolvedKind Refusal
+  resolved_kind kind = do
+    in_template ← paths_in_template m scope names kind.template
+    in_pattern ← paths_in m scope names kind.pattern
+    _ ← check_template check_unmixed kind.template
+    _ ← check_unmixed kind.pattern
+    Ok (record {
+      names = names;
+      constraints = constraints;
+      category = kind.category;
+      pattern = kind.pattern;
+      template = kind.template;
+      pattern_paths = in_pattern;
+      template_paths = in_template;
+    })
+
+  -- kinds are resolved in their order
+  abbrev pub resolved_kinds : List ParsedRule → Result (List ResolvedKind) Refusal
+  resolved_kinds [] = Ok []
+  resolved_kinds (kind ∷ kinds) = do
+    first ← resolved_kind kind
+    rest ← resolved_kinds kinds
+    Ok (first ∷ rest)
+
+-- how the logic stores a resolved kind
+abbrev pub resolved_code : Coded ResolvedKind
+resolved_code =
+    code_by (List (List ℕ) × (List (List Constraint) × (Fragment × (Syntax × (Option Syntax × (List UsedPath × List UsedPath))))))
+    (coded× (coded_list (coded_list coded_ℕ))
+    (coded× (coded_list (coded_list constraint.the_row.coded))
+    (coded× fragment.the_row.coded
+    (coded× syntax_code (coded× (coded_option syntax_code) (coded× (coded_list path.the_row.coded) (coded_list path.the_row.coded)))))))
+    (λ kind. (kind.names, (kind.constraints, (kind.category, (kind.pattern, (kind.template, (kind.pattern_paths, kind.template_paths)))))))
+    (λ p. record {
+      names = p.0;
+      constraints = p.1.0;
+      category = p.1.1.0;
+      pattern = p.1.1.1.0;
+      template = p.1.1.1.1.0;
+      pattern_paths = p.1.1.1.1.1.0;
+      template_paths = p.1.1.1.1.1.1;
+    }) (λ _. refl)

@@ -1,0 +1,16 @@
+//! Rules that resolve: what their paths stand for, as a provider tells it, and where their placeholders stand.
+#![tactic(auto)]
+
+mod keys;
+mod mixing;
+mod paths;
+mod placeholders;
+mod resolved;
+mod resolving;
+mod stand_ins;
+mod used;
+
+pub use keys::key_of;
+pub use resolved::{ResolvedRule, resolve_pattern, resolve_rule};
+pub use resolving::resolution;
+pub use used::{Unresolved, UsedPath, used_paths};

@@ -1,0 +1,74 @@
+//! Where placeholders stand in a tree.
+ghost use Rattle.std.specs.Prelude.{◌≡◌, ◌<◌, ◌^◌, length, map, string_bytes, IfOk, IfSome};
+ghost use Rattle.std.specs.Option.{option_map};
+ghost use Rattle.ssr_syntax_tree.specs.Places.{HasNode, HasToken, node_of, token_of};
+ghost use Rattle.ide_ssr_rules.specs.StandIns.{name_at};
+ghost use Rattle.ide_ssr_resolving.specs.Placeholders.{only_token, placeholder_at};
+ghost use Rattle.ide_ssr_resolving.specs.Private.Placeholders.{placeholders};
+
+use ide_ssr_rules::is_stand_in_of;
+use ssr_syntax_kinds::SyntaxKind;
+use ssr_syntax_tree::{Element, NodeNo, TokenNo, Tree};
+use std::alloc::{AllocError, Global};
+
+/// The only token of a node, reached through single children.
+fn only_token(tree: &Tree, node: NodeNo) -> Option<TokenNo>
+    requires { HasNode tree.now node.0 }
+    ensures token { option_map (λ token. token_of tree.now token.0) result ≡ only_token (node_of tree.now node.0).children }
+    ensures has { IfSome result (λ token. HasToken tree.now token.0) }
+{
+    if tree.child_count(node) != 1 {
+        return None;
+    }
+    match tree.child(node, 0) {
+        Element::Token(token) => Some(token),
+        Element::Node(below) => only_token(tree, below),
+    }
+}
+
+/// Which name's stand-in a token is.
+#[tactic(auto, unfolding(ide_ssr_rules::specs::StandIns::name_at))]
+pub(crate) fn name_at(names: &[String], tree: &Tree, token: TokenNo) -> Option<u32>
+    requires few { length names.now < 2 ^ 32 }
+    requires has { HasToken tree.now token.0 }
+    ensures { result ≡ name_at (map string_bytes names.now) (token_of tree.now token.0) }
+{
+    if !matches!(tree.token_kind(token), SyntaxKind::IDENT) {
+        return None;
+    }
+    let text = tree.token_text(token);
+    for (place, name) in names.iter().enumerate() {
+        if is_stand_in_of(text, name.as_str()) {
+            return Some(place as u32);
+        }
+    }
+    None
+}
+
+/// Which name's stand-in a node is.
+pub(crate) fn placeholder_at(names: &[String], tree: &Tree, node: NodeNo) -> Option<u32>
+    requires few { length names.now < 2 ^ 32 }
+    requires has { HasNode tree.now node.0 }
+    ensures { result ≡ placeholder_at (map string_bytes names.now) (node_of tree.now node.0) }
+{
+    match only_token(tree, node) {
+        Some(token) => name_at(names, tree, token),
+        None => None,
+    }
+}
+
+/// Which name's stand-in each node of a tree is.
+pub(crate) fn placeholders(
+    alloc: Global,
+    names: &[String],
+    tree: &Tree,
+) -> Result<Vec<Option<u32>>, AllocError>
+    requires { length names.now < 2 ^ 32 }
+    ensures { IfOk result (λ v. v.items ≡ placeholders (map string_bytes names.now) tree.now) }
+{
+    let mut table = Vec::new(alloc);
+    for node in 0..tree.node_count() {
+        table.push(placeholder_at(names, tree, NodeNo(node)))?;
+    }
+    Ok(table)
+}

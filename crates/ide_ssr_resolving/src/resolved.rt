@@ -1,0 +1,315 @@
+//! Rules that resolve, kind by kind.
+ghost use Rattle.std.specs.Prelude.{◌≡◌, ◌<◌, ◌^◌, length, map, string_bytes, All, IfOk};
+ghost use Rattle.std.specs.Option.{IfSome, IsSomeAnd, option_copied};
+ghost use Rattle.ssr_syntax_tree.specs.Places.{HasNode, HasToken, node_of, token_of};
+ghost use Rattle.ide_ssr_rules.specs.Patterns.{HasEachAtMostOnce};
+ghost use Rattle.ide_ssr_rules.specs.Refusals.{Answers, AnswersBy};
+ghost use Rattle.ide_ssr_rules.specs.StandIns.{name_at};
+ghost use Rattle.ide_ssr_resolving.specs.Mixing.{check_unmixed};
+ghost use Rattle.ide_ssr_resolving.specs.Patterns.{HasEachOnce};
+ghost use Rattle.ide_ssr_resolving.specs.Placeholders.{placeholder_at};
+ghost use Rattle.ide_ssr_resolving.specs.Resolved.{check_template, meets, paths_in, paths_in_template, resolved_kind, resolved_kinds};
+ghost use Rattle.ide_ssr_resolving.specs.Used.{HasPaths, res_at};
+
+use crate::mixing::check_unmixed;
+use crate::placeholders::{name_at, placeholder_at, placeholders};
+use crate::used::{Unresolved, UsedPath, res_at, used_paths};
+use ide_ssr_rules::{
+    ConstraintSet, ParsedKinds, ParsedRule, Refusal, SsrError, SsrPattern, SsrRule, Text,
+    pattern_kinds, rule_kinds,
+};
+use ssr_base::{Res, ScopeId, Semantics};
+use ssr_syntax::Fragment;
+use ssr_syntax_kinds::SyntaxKind;
+use ssr_syntax_tree::{NodeNo, TokenNo, Tree};
+use std::alloc::{AllocError, Global};
+use std::marker::Model;
+
+/// One kind of a rule, ready for a search.
+#[derive(Drop)]
+pub struct ResolvedRule {
+    names: Vec<String>,
+    constraints: Vec<ConstraintSet>,
+    category: Fragment,
+    pattern: Tree,
+    template: Option<Tree>,
+    in_pattern: Vec<Option<u32>>,
+    pattern_paths: Vec<UsedPath>,
+    template_paths: Vec<UsedPath>,
+}
+
+impl Model for ResolvedRule {
+    ghost use Rattle.std.specs.Prelude.{◌≡◌, ◌<◌, ◌^◌, length, map, string_bytes};
+    ghost use Rattle.std.specs.Option.{IfSome};
+    ghost use Rattle.ide_ssr_resolving.specs.Resolved.{ResolvedKind, resolved_code};
+    ghost use Rattle.ide_ssr_resolving.specs.Private.Placeholders.{placeholders};
+    ghost use Rattle.ide_ssr_resolving.specs.Used.{HasPaths};
+
+    ghost Value = { ResolvedKind };
+
+    ghost coded = { resolved_code };
+
+    ghost view = { λ rule. record {
+      names = map string_bytes rule.names.items;
+      constraints = rule.constraints.items;
+      category = rule.category;
+      pattern = rule.pattern;
+      template = rule.template;
+      pattern_paths = rule.pattern_paths.items;
+      template_paths = rule.template_paths.items;
+    } };
+
+    ghost invariant = { λ rule. record {
+      in_pattern : rule.in_pattern.items ≡ placeholders (map string_bytes rule.names.items) rule.pattern;
+      few : length rule.names.items < 2 ^ 32;
+      has_pattern : HasPaths rule.pattern rule.pattern_paths.items;
+      has_template : IfSome rule.template (λ template. HasPaths template rule.template_paths.items);
+    } };
+}
+
+impl ResolvedRule {
+    /// The names of the rule's placeholders, without `$`, in the order of the pattern.
+    pub fn names(&self) -> &[String]
+        ensures { map string_bytes result.now ≡ self.now.names }
+    {
+        self.names.as_slice()
+    }
+
+    /// What the template was read as, or the pattern, where there is no template.
+    pub fn category(&self) -> Fragment
+        ensures { result ≡ self.now.category }
+    {
+        self.category
+    }
+
+    /// What matches have to look like, with stand-ins for placeholders.
+    pub fn pattern(&self) -> &Tree
+        ensures { result.now ≡ self.now.pattern }
+    {
+        &self.pattern
+    }
+
+    /// What takes a match's place, with stand-ins for placeholders; a search pattern has none.
+    pub fn template(&self) -> Option<&Tree>
+        ensures { option_copied result ≡ self.now.template }
+    {
+        self.template.as_ref()
+    }
+
+    /// Which placeholder a node of the pattern is: the place of its name among the names.
+    pub fn placeholder(&self, node: NodeNo) -> Option<u32>
+        requires { HasNode self.now.pattern node.0 }
+        ensures { result ≡ placeholder_at self.now.names (node_of self.now.pattern node.0) }
+    {
+        self.in_pattern[node.0 as usize]
+    }
+
+    /// Whether a node of a kind meets all constraints of a placeholder: the one with this place among the names.
+    #[tactic(auto, unfolding(crate::specs::Resolved::meets))]
+    pub fn meets(&self, placeholder: u32, kind: SyntaxKind) -> bool
+        ensures { result ≡ meets self.now placeholder kind }
+    {
+        match self.constraints.get(placeholder as usize) {
+            Some(constraints) => constraints.are_met(kind),
+            None => true,
+        }
+    }
+
+    /// Which placeholder a token of the template is: the place of its name among the names.
+    pub fn template_placeholder(&self, token: TokenNo) -> Option<u32>
+        requires { IsSomeAnd self.now.template (λ template. HasToken template token.0) }
+        ensures { IfSome self.now.template (λ template. result ≡ name_at self.now.names (token_of template token.0)) }
+    {
+        match &self.template {
+            Some(template) => name_at(self.names.as_slice(), template, token),
+            None => None,
+        }
+    }
+
+    /// The paths of the pattern that are used, in order, each with what it resolves to.
+    pub fn pattern_paths(&self) -> &[UsedPath]
+        ensures paths { result.now ≡ self.now.pattern_paths }
+        ensures has { HasPaths self.now.pattern self.now.pattern_paths }
+    {
+        self.pattern_paths.as_slice()
+    }
+
+    /// What a node of the pattern stands for, if it is a path that is used.
+    pub fn pattern_res(&self, node: NodeNo) -> Option<Res>
+        ensures { result ≡ res_at self.now.pattern_paths node }
+    {
+        res_at(self.pattern_paths.as_slice(), node)
+    }
+
+    /// The paths of the template that are used, likewise.
+    pub fn template_paths(&self) -> &[UsedPath]
+        ensures paths { result.now ≡ self.now.template_paths }
+        ensures has { IfSome self.now.template (λ template. HasPaths template self.now.template_paths) }
+    {
+        self.template_paths.as_slice()
+    }
+}
+
+/// The kinds of a rule in their order, with what their paths stand for that are written in the scope; or why it doesn't
+/// resolve: which of its paths doesn't, or that it has token trees. The pattern of each kind has each placeholder once, and
+/// the template at most once.
+pub fn resolve_rule<S: Semantics>(
+    alloc: Global,
+    semantics: &S,
+    scope: ScopeId,
+    rule: SsrRule,
+) -> Result<Vec<ResolvedRule>, SsrError>
+    ensures kinds { AnswersBy (λ v. v.items) result (resolved_kinds (S.meanings semantics.now) scope rule.names rule.constraints rule.kinds) }
+    ensures each { IfOk result (λ v. All (λ kind. HasEachOnce kind.names kind.pattern) v.items) }
+    ensures at_most_once { IfOk result (λ v. All (λ kind. HasEachAtMostOnce kind.names kind.template) v.items) }
+{
+    resolve(alloc, semantics, scope, rule_kinds(rule))
+}
+
+/// The kinds of a search pattern likewise.
+pub fn resolve_pattern<S: Semantics>(
+    alloc: Global,
+    semantics: &S,
+    scope: ScopeId,
+    pattern: SsrPattern,
+) -> Result<Vec<ResolvedRule>, SsrError>
+    ensures kinds { AnswersBy (λ v. v.items) result (resolved_kinds (S.meanings semantics.now) scope pattern.names pattern.constraints pattern.kinds) }
+    ensures each { IfOk result (λ v. All (λ kind. HasEachOnce kind.names kind.pattern) v.items) }
+{
+    resolve(alloc, semantics, scope, pattern_kinds(pattern))
+}
+
+/// The kinds that resolve, in their order.
+fn resolve<S: Semantics>(
+    alloc: Global,
+    semantics: &S,
+    scope: ScopeId,
+    parsed: ParsedKinds,
+) -> Result<Vec<ResolvedRule>, SsrError>
+    ensures kinds { AnswersBy (λ v. v.items) result (resolved_kinds (S.meanings semantics.now) scope parsed.names parsed.constraints parsed.kinds) }
+    ensures each { IfOk result (λ v. All (λ kind. HasEachOnce kind.names kind.pattern) v.items) }
+    ensures at_most_once { IfOk result (λ v. All (λ kind. HasEachAtMostOnce kind.names kind.template) v.items) }
+{
+    let (names, constraints, kinds) = parsed.into_parts();
+    let mut resolved = Vec::new(alloc);
+    for kind in kinds {
+        resolved.push(resolved_kind(
+            alloc,
+            semantics,
+            scope,
+            names.as_slice(),
+            constraints.as_slice(),
+            kind,
+        )?)?;
+    }
+    Ok(resolved)
+}
+
+/// A kind of a rule that resolves.
+fn resolved_kind<S: Semantics>(
+    alloc: Global,
+    semantics: &S,
+    scope: ScopeId,
+    names: &[String],
+    constraints: &[ConstraintSet],
+    kind: ParsedRule,
+) -> Result<ResolvedRule, SsrError>
+    requires { length names.now < 2 ^ 32 }
+    ensures { Answers result (resolved_kind (S.meanings semantics.now) scope (map string_bytes names.now) constraints.now kind) }
+{
+    let ParsedRule {
+        category,
+        pattern,
+        template,
+    } = kind;
+    let template_paths = paths_in_template(alloc, semantics, scope, names, template.as_ref())?;
+    let pattern_paths = paths_in(alloc, semantics, scope, names, &pattern)?;
+    check_template_unmixed(alloc, template.as_ref())?;
+    check_unmixed(alloc, &pattern)?;
+    let in_pattern = placeholders(alloc, names, &pattern)?;
+    let names = copied(alloc, names)?;
+    let constraints = copied_constraints(alloc, constraints)?;
+    Ok(ResolvedRule {
+        names,
+        constraints,
+        category,
+        pattern,
+        template,
+        in_pattern,
+        pattern_paths,
+        template_paths,
+    })
+}
+
+/// The texts once more.
+fn copied(alloc: Global, names: &[String]) -> Result<Vec<String>, AllocError>
+    ensures { IfOk result (λ v. map string_bytes v.items ≡ map string_bytes names.now) }
+{
+    let mut copies = Vec::new(alloc);
+    for name in names {
+        copies.push(String::from_str(alloc, name.as_str())?)?;
+    }
+    Ok(copies)
+}
+
+/// The constraints once more.
+fn copied_constraints(
+    alloc: Global,
+    constraints: &[ConstraintSet],
+) -> Result<Vec<ConstraintSet>, AllocError>
+    ensures { IfOk result (λ v. v.items ≡ constraints.now) }
+{
+    let mut copies = Vec::new(alloc);
+    for set in constraints {
+        copies.push(set.copied(alloc)?)?;
+    }
+    Ok(copies)
+}
+
+/// The used paths of a tree. Refuses the first one that has to resolve and doesn't.
+#[tactic(auto, unfolding(crate::specs::Resolved::paths_in))]
+fn paths_in<S: Semantics>(
+    alloc: Global,
+    semantics: &S,
+    scope: ScopeId,
+    names: &[String],
+    tree: &Tree,
+) -> Result<Vec<UsedPath>, SsrError>
+    ensures paths { AnswersBy (λ v. v.items) result (paths_in (S.meanings semantics.now) scope (map string_bytes names.now) tree.now) }
+    ensures has { IfOk result (λ v. HasPaths tree.now v.items) }
+{
+    match used_paths(alloc, semantics, scope, names, tree) {
+        Ok(paths) => Ok(paths),
+        Err(Unresolved::Path(path)) => {
+            Err(Refusal::UnresolvedPath(Text(tree.text(path))).told(alloc))
+        }
+        Err(Unresolved::Memory) => Err(SsrError::Memory),
+    }
+}
+
+/// The same of a template; without one there are none.
+fn paths_in_template<S: Semantics>(
+    alloc: Global,
+    semantics: &S,
+    scope: ScopeId,
+    names: &[String],
+    template: Option<&Tree>,
+) -> Result<Vec<UsedPath>, SsrError>
+    ensures paths { AnswersBy (λ v. v.items) result (paths_in_template (S.meanings semantics.now) scope (map string_bytes names.now) (option_copied template.entry)) }
+    ensures has { IfOk result (λ v. IfSome (option_copied template.entry) (λ tree. HasPaths tree v.items)) }
+{
+    match template {
+        Some(tree) => paths_in(alloc, semantics, scope, names, tree),
+        None => Ok(Vec::new(alloc)),
+    }
+}
+
+/// Refuses a template that mixes identifiers with other tokens, if there is one.
+fn check_template_unmixed(alloc: Global, template: Option<&Tree>) -> Result<(), SsrError>
+    ensures { Answers result (check_template check_unmixed (option_copied template.entry)) }
+{
+    match template {
+        Some(tree) => check_unmixed(alloc, tree),
+        None => Ok(()),
+    }
+}

@@ -1,0 +1,185 @@
+//! The refusals of rules, each in its words.
+ghost use Rattle.std.specs.Prelude.{◌≡◌, IfOk, string_bytes};
+ghost use Rattle.ide_ssr_rules.specs.Refusals.{Tells, mark, listed};
+
+use crate::error::SsrError;
+use crate::tokens::Name;
+use ssr_syntax_kinds::SyntaxKind;
+use ssr_syntax_lex::LexError;
+use std::alloc::{AllocError, Global};
+use std::fmt;
+use std::marker::Model;
+
+/// A text that the words of a refusal name.
+#[derive(Drop)]
+pub struct Text<'a>(pub &'a str);
+
+impl<'a> Model for Text<'a> {
+    ghost use Rattle.std.specs.Prelude.{List, ℕ};
+
+    ghost Value = { List ℕ };
+
+    ghost view = { λ text. text.0.now };
+}
+
+/// A fault of the lexer, which is told in its own words.
+#[derive(Drop)]
+pub struct Fault(pub LexError);
+
+impl Model for Fault {
+    ghost use Rattle.std.specs.Prelude.{List, ℕ};
+    ghost use Rattle.ssr_syntax_lex.specs.Fault.{error_words};
+
+    ghost Value = { List ℕ };
+
+    ghost view = { λ fault. error_words fault.0 };
+}
+
+/// Names as a user writes them: `$a, $b`.
+pub(crate) fn listed(alloc: Global, names: &[Name<'_>]) -> Result<String, AllocError>
+    ensures { IfOk result (λ text. string_bytes text ≡ listed names.now) }
+{
+    let mut text = String::new(alloc);
+    for (place, name) in names.iter().enumerate() {
+        text.push_str(mark(place))?;
+        text.push_str(name.text)?;
+    }
+    Ok(text)
+}
+
+/// What stands before the name at this place of a list.
+fn mark(place: usize) -> &'static str
+    ensures { result.now ≡ mark place }
+{
+    if place == 0 { "$" } else { ", $" }
+}
+
+/// Why a rule is refused, with what its words name.
+#[derive(Drop)]
+pub enum Refusal<'a> {
+    NoDelimiter,
+    SecondDelimiter,
+    LexerFault(Fault),
+    /// `$` has no identifier in the name's place.
+    NoName,
+    /// Behind `$` stands neither an identifier nor `{`.
+    NoPlaceholder,
+    /// The side ends behind `${`.
+    EndOfPlaceholder,
+    NoClosingBrace,
+    /// A token behind the name that is neither `:` nor `}`.
+    UnexpectedToken(Text<'a>),
+    /// The side ends where a constraint begins.
+    NoConstraint,
+    /// The side ends behind `kind(`.
+    EndOfKind,
+    /// What stands behind `kind(` is no identifier, but of this kind.
+    NoKindName(SyntaxKind),
+    /// A bracket of a constraint, and what stands in its place.
+    OtherBracket(Text<'a>, Text<'a>),
+    /// The side ends before this bracket of a constraint.
+    NoBracket(Text<'a>),
+    UnknownKind(Text<'a>),
+    UnknownConstraint(Text<'a>),
+    DeepConstraint,
+    Repeated(Text<'a>),
+    /// The stand-in of this name is no token of its own.
+    Glued(Text<'a>),
+    /// An identifier is spelled as a stand-in.
+    Reserved(Text<'a>),
+    NoKind,
+    ConstraintInMacroCall(Text<'a>),
+    ConstraintInTemplate,
+    /// These names, listed.
+    Undefined(Text<'a>),
+    UnresolvedPath(Text<'a>),
+    TokenTree,
+}
+
+impl fmt::Display for Refusal<'_> {
+    ghost use Rattle.std.specs.Prelude.{Some};
+    ghost use Rattle.ide_ssr_rules.specs.Refusals.{words};
+
+    ghost output = { λ refusal. Some (words refusal) };
+
+    fn fmt<W: fmt::Write>(&self, f: &mut fmt::Formatter<W>) -> fmt::Result {
+        match self {
+            Refusal::NoDelimiter => f.write_str("Cannot find delimiter `==>>`"),
+            Refusal::SecondDelimiter => f.write_str("More than one delimiter found"),
+            Refusal::LexerFault(fault) => write!(f, "Failed to parse pattern: {}", fault.0),
+            Refusal::NoName => f.write_str("Placeholder ($) with no name"),
+            Refusal::NoPlaceholder => {
+                f.write_str("Placeholders should either be $name or ${name:constraints}")
+            }
+            Refusal::EndOfPlaceholder => f.write_str("Unexpected end of placeholder"),
+            Refusal::NoClosingBrace => f.write_str("Placeholder is missing closing brace '}'"),
+            Refusal::UnexpectedToken(text) => {
+                write!(
+                    f,
+                    "Unexpected token while parsing placeholder: '{}'",
+                    text.0
+                )
+            }
+            Refusal::NoConstraint => {
+                f.write_str("Found end of placeholder while looking for a constraint")
+            }
+            Refusal::EndOfKind => f.write_str(
+                "Unexpected end of constraint while looking for kind",
+            ),
+            Refusal::NoKindName(kind) => {
+                write!(
+                    f,
+                    "Expected ident, found {kind:?} while parsing kind constraint"
+                )
+            }
+            Refusal::OtherBracket(wanted, text) => {
+                write!(f, "Expected {} found {}", wanted.0, text.0)
+            }
+            Refusal::NoBracket(wanted) => write!(f, "Expected {} found end of stream", wanted.0),
+            Refusal::UnknownKind(text) => write!(f, "Unknown node kind '{}'", text.0),
+            Refusal::UnknownConstraint(text) => {
+                write!(f, "Unsupported constraint type '{}'", text.0)
+            }
+            Refusal::DeepConstraint => f.write_str("Constraint nested too deeply"),
+            Refusal::Repeated(name) => {
+                write!(f, "Placeholder `${}` repeats more than once", name.0)
+            }
+            Refusal::Glued(name) => write!(f, "Placeholder `${}` isn't a token of its own", name.0),
+            Refusal::Reserved(text) => write!(f, "Name `{}` is reserved", text.0),
+            Refusal::NoKind => {
+                f.write_str("Not a valid Rust expression, type, item, path or pattern")
+            }
+            Refusal::ConstraintInMacroCall(name) => {
+                write!(
+                    f,
+                    "Placeholder `${}` in a macro call cannot have constraints",
+                    name.0
+                )
+            }
+            Refusal::ConstraintInTemplate => {
+                f.write_str("Replacement placeholders cannot have constraints")
+            }
+            Refusal::Undefined(names) => {
+                write!(
+                    f,
+                    "Replacement contains undefined placeholders: {}",
+                    names.0
+                )
+            }
+            Refusal::UnresolvedPath(path) => write!(f, "Failed to resolve path `{}`", path.0),
+            Refusal::TokenTree => f.write_str("Token trees are not matched yet"),
+        }
+    }
+}
+
+impl Refusal<'_> {
+    /// The error that tells the refusal, unless there is no memory for its words.
+    pub fn told(&self, alloc: Global) -> SsrError
+        ensures { Tells result self.now }
+    {
+        match self.to_string(alloc) {
+            Ok(message) => SsrError::Message(message),
+            Err(AllocError) => SsrError::Memory,
+        }
+    }
+}

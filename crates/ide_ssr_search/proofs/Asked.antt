@@ -1,0 +1,201 @@
+-- What the root of a rule's pattern asks of a node has each node that matches.
+use Rattle.std.proofs.Common.{◌≡◌, ℕ, ◌≤◌, Bool, true, false, ◌||◌, ◌&&◌, not, List, [], ◌∷◌, Option, Some, None, refl, sym, ap, ◌∙◌, subst, inl, inr, get_or, length}
+use Rattle.std.specs.Prelude.{if◌then◌else◌, is_some, slice_get, slice_index_or, slice_set}
+use Rattle.std.proofs.lemmas.Grind.{get_or-set_at}
+use Rattle.std.proofs.lemmas.List.{get_or_past, get_or-set_other}
+use Rattle.std.specs.Option.{option_map_or}
+use Rattle.std.proofs.lemmas.Bool.{or_left, or_right, and_from, and_parts, cases_Bool, cases_eq, cases_lt, both_ways}
+use Rattle.std.proofs.lemmas.Option.{none-some, same_Some}
+use Rattle.ssr_syntax_kinds.specs.declared.kinds.SyntaxKind.{SyntaxKind}
+use Rattle.ssr_syntax_kinds.specs.declared.kinds.SyntaxKind.TheVariants as k
+use Rattle.ssr_syntax_kinds.specs.Kinds.{same_kind, is_trivia}
+use Rattle.ssr_syntax_kinds.proofs.Shared.{same_kind-equal, equal-same_kind}
+use Rattle.ssr_syntax_tree.specs.Syntax.{Syntax, Token}
+use Rattle.ssr_syntax_tree.specs.Places.{Node, Part, token_part, node_part, parts_of, node_of, root_of}
+use Rattle.ssr_base.specs.Workspace.{Workspace, trees, node_id}
+use Rattle.ide_ssr_resolving.specs.Resolved.{ResolvedKind}
+use Rattle.ide_ssr_resolving.specs.Placeholders.{placeholder_at}
+use Rattle.ide_ssr_matching.specs.declared.bindings.Binding.{Binding}
+use Rattle.ide_ssr_matching.specs.Matching.{closes, is_left_out, bare, Matches, bound, alike, Pairs, end, tokens, nodes}
+use Rattle.ide_ssr_search.specs.declared.roots.Root.{Root}
+use Rattle.ide_ssr_search.specs.declared.roots.Root.TheVariants as roots
+use Rattle.ide_ssr_search.specs.declared.roots.Rules.{Rules}
+use Rattle.ssr_base.specs.Built.{IsMacroCall}
+use Rattle.ide_ssr_search.specs.WholeMatches.{IsWholeMatch}
+use Rattle.ide_ssr_search.specs.Private.Shut.{Shuts}
+use Rattle.ide_ssr_matching.proofs.Shared.{IsTree, in_tree}
+use Rattle.ide_ssr_search.specs.Private.Roots.{counts, first_counted, has_token_of, has_asked, has_kind, IsRootOf, AreRules}
+
+-- ** Sibling by sibling.
+
+pub counted_here : (part : Part) (rest : List Part) (kind : SyntaxKind) → Some kind ≡ first_counted (part ∷ []) → Some kind ≡ first_counted (part ∷ rest)
+counted_here (token_part t token) rest kind is = here (counts token.kind) is
+  where
+    here : (b : Bool) → Some kind ≡ (if b then Some token.kind else None) → Some kind ≡ (if b then Some token.kind else first_counted rest)
+    here true is = is
+    here false is = absurd (none-some kind (sym is))
+counted_here (node_part node) rest kind is = absurd (none-some kind (sym is))
+
+pub counted_behind : (part : Part) (rest : List Part) → None ≡ first_counted (part ∷ []) → first_counted (part ∷ rest) ≡ first_counted rest
+counted_behind (token_part t token) rest is = here (counts token.kind) is
+  where
+    here : (b : Bool) → None ≡ (if b then Some token.kind else None) → (if b then Some token.kind else first_counted rest) ≡ first_counted rest
+    here true is = absurd (none-some token.kind is)
+    here false is = refl
+counted_behind (node_part node) rest is = refl
+
+pub token_here : (part : Part) (rest : List Part) (kind : SyntaxKind) → has_token_of kind (part ∷ []) ≡ true → has_token_of kind (part ∷ rest) ≡ true
+token_here (token_part t token) rest kind is = here (same_kind token.kind kind) is
+  where
+    here : (b : Bool) → (b || false) ≡ true → (b || has_token_of kind rest) ≡ true
+    here true is = refl
+    here false is = let e : false ≡ true = is in cc
+token_here (node_part node) rest kind is = let e : false ≡ true = is in cc
+
+pub token_behind : (part : Part) (rest : List Part) (kind : SyntaxKind) → has_token_of kind (part ∷ []) ≡ false → has_token_of kind (part ∷ rest) ≡ has_token_of kind rest
+token_behind (token_part t token) rest kind is = here (same_kind token.kind kind) is
+  where
+    here : (b : Bool) → (b || false) ≡ false → (b || has_token_of kind rest) ≡ has_token_of kind rest
+    here true is = let e : true ≡ false = is in cc
+    here false is = refl
+token_behind (node_part node) rest kind is = refl
+
+-- ** Tokens that count are among those that a match compares.
+
+-- the token is among them, whether what comes before it is left out or not
+at_or_behind : (b : Bool) (part : Part) (parts : List Part) (kind : SyntaxKind) → has_token_of kind parts ≡ true → has_token_of kind (if b then parts else part ∷ parts) ≡ true
+at_or_behind true part parts kind has = has
+at_or_behind false (token_part t token) parts kind has = or_right (same_kind token.kind kind) (has_token_of kind parts) has
+at_or_behind false (node_part node) parts kind has = has
+
+counted_kept : (kind : SyntaxKind) (rest : List Part) → counts kind ≡ true → is_left_out kind rest ≡ false
+counted_kept kind rest counted = by_parts (is_trivia kind) (same_kind kind k.COMMA) counted
+  where
+    by_parts : (a b : Bool) → (not a && not b) ≡ true → (a || (b && closes rest)) ≡ false
+    by_parts true b is = let e : false ≡ true = is in cc
+    by_parts false true is = let e : false ≡ true = is in cc
+    by_parts false false is = refl
+
+counted_bare : (parts : List Part) (kind : SyntaxKind) → first_counted parts ≡ Some kind → has_token_of kind (bare parts) ≡ true
+counted_bare [] kind is = absurd (none-some kind is)
+counted_bare (token_part t token ∷ rest) kind is =
+    elim (cases_Bool (counts token.kind)) [
+      | inl counted ↦
+          let same : token.kind ≡ kind = same_Some token.kind kind (sym (ap (λ b. if b then Some token.kind else first_counted rest) counted) ∙ is) in
+          subst (λ b. has_token_of kind (if b then bare rest else token_part t token ∷ bare rest) ≡ true) (sym (counted_kept token.kind rest counted))
+          (or_left (same_kind token.kind kind) (has_token_of kind (bare rest)) (equal-same_kind token.kind kind same))
+      | inr other ↦
+          at_or_behind (is_left_out token.kind rest) (token_part t token) (bare rest) kind
+          (counted_bare rest kind (sym (ap (λ b. if b then Some token.kind else first_counted rest) other) ∙ is))
+    ]
+counted_bare (node_part node ∷ rest) kind is = counted_bare rest kind is
+
+-- what is compared is among the siblings
+was_there : (left_out : Bool) (t : ℕ) (token : Token) (kind : SyntaxKind) (has : Bool) (parts : List Part) → (has_token_of kind parts ≡ true → has ≡ true)
+    → has_token_of kind (if left_out then parts else token_part t token ∷ parts) ≡ true → (same_kind token.kind kind || has) ≡ true
+was_there true t token kind has parts within h = or_right (same_kind token.kind kind) has (within h)
+was_there false t token kind has parts within h = by_kind (same_kind token.kind kind) refl h
+  where
+    by_kind : (b : Bool) → same_kind token.kind kind ≡ b → (b || has_token_of kind parts) ≡ true → (same_kind token.kind kind || has) ≡ true
+    by_kind true same h = or_left (same_kind token.kind kind) has same
+    by_kind false same h = or_right (same_kind token.kind kind) has (within h)
+
+bare_token : (parts : List Part) (kind : SyntaxKind) → has_token_of kind (bare parts) ≡ true → has_token_of kind parts ≡ true
+bare_token [] kind has = has
+bare_token (token_part t token ∷ rest) kind has =
+    was_there (is_left_out token.kind rest) t token kind (has_token_of kind rest) (bare rest) (bare_token rest kind) has
+bare_token (node_part node ∷ rest) kind has = bare_token rest kind has
+
+-- of two rows that pair, the second has each token of the first
+token_paired : (a b kind : SyntaxKind) (had has : Bool) → a ≡ b → (had ≡ true → has ≡ true) → (same_kind a kind || had) ≡ true → (same_kind b kind || has) ≡ true
+token_paired a b kind had has same behind h = by_kind (same_kind a kind) refl h
+  where
+    by_kind : (test : Bool) → same_kind a kind ≡ test → (test || had) ≡ true → (same_kind b kind || has) ≡ true
+    by_kind true is h = or_left (same_kind b kind) has (ap (λ x. same_kind x kind) (sym same) ∙ is)
+    by_kind false is h = or_right (same_kind b kind) has (behind h)
+
+paired_token : (rule : ResolvedKind) (ps cs : List Part) (bs : List Binding) (kind : SyntaxKind) → Pairs rule ps cs bs → has_token_of kind ps ≡ true → has_token_of kind cs ≡ true
+paired_token rule _ _ _ kind end has = has
+paired_token rule _ _ _ kind (tokens t u p c ps cs bs same text rest) has =
+    token_paired p.kind c.kind kind (has_token_of kind ps) (has_token_of kind cs) same (paired_token rule ps cs bs kind rest) has
+paired_token rule _ _ _ kind (nodes p c ps cs bs rest here behind) has = paired_token rule ps cs rest kind behind has
+
+-- ** What is asked.
+
+pub root_of_placeholder : (rule : ResolvedKind) → IsRootOf rule roots.Placeholder
+root_of_placeholder rule c bindings matches = refl
+
+matched_alike : (rule : ResolvedKind) (p c : Node) (bs : List Binding) → placeholder_at rule.names p ≡ None → Matches rule p c bs
+    → (p.kind ≡ c.kind) × Pairs rule (bare (parts_of p)) (bare (parts_of c)) bs
+matched_alike rule _ _ _ none (bound p c i is met) = absurd (none-some i (sym none ∙ is))
+matched_alike rule _ _ _ none (alike p c bs other same pairs) = (same, pairs)
+
+pub root_of_node : (rule : ResolvedKind) (kind : SyntaxKind) (token : Option SyntaxKind) → placeholder_at rule.names (root_of rule.pattern) ≡ None
+    → kind ≡ (root_of rule.pattern).kind → token ≡ first_counted (parts_of (root_of rule.pattern)) → IsRootOf rule (roots.Node kind token)
+root_of_node rule kind token none kind_is token_is c bindings matches =
+    let p = root_of rule.pattern in
+    let likewise = matched_alike rule p c bindings none matches in
+    and_from _ _ (equal-same_kind c.kind kind (sym likewise.0 ∙ sym kind_is)) (by_token token (sym token_is) likewise.1)
+  where
+    by_token : (o : Option SyntaxKind) → first_counted (parts_of (root_of rule.pattern)) ≡ o
+        → Pairs rule (bare (parts_of (root_of rule.pattern))) (bare (parts_of c)) bindings → option_map_or (λ kind. has_token_of kind (parts_of c)) o true ≡ true
+    by_token None is pairs = refl
+    by_token (Some kind) is pairs =
+        bare_token (parts_of c) kind (paired_token rule (bare (parts_of (root_of rule.pattern))) (bare (parts_of c)) bindings kind pairs (counted_bare (parts_of (root_of rule.pattern)) kind is))
+
+pub root_node : (syntax : Syntax) → node_of syntax 0 ≡ root_of syntax
+unfolding node_of
+root_node syntax = refl
+
+pub not_some : {A : Type 0} (o : Option A) → is_some o ≡ false → o ≡ None
+not_some None is = refl
+not_some (Some x) is = let e : true ≡ false = is in cc
+
+pub asked_kind : (root : Root) (kind : SyntaxKind) (token : Option SyntaxKind) (c : Node) → root ≡ roots.Node kind token → has_asked root c ≡ true → c.kind ≡ kind
+asked_kind root kind token c is asked = same_kind-equal c.kind kind (and_parts _ _ (subst (λ r. has_asked r c ≡ true) is asked)).0
+
+-- ** Sets of kinds.
+
+pub set_kept : (every : Bool) (listed : List Bool) (i j : ℕ) → (every || slice_index_or listed j false) ≡ true → (every || slice_index_or (slice_set listed i true) j false) ≡ true
+set_kept true listed i j has = refl
+set_kept false listed i j has =
+    elim (cases_eq j i) [
+      | inl same ↦
+          elim (cases_lt i (length listed)) [
+            | inl within ↦ get_or-set_at listed i j true false same within
+            | inr past ↦ absurd (both_ways (get_or listed j false) (get_or_past listed j false (subst (λ n. length listed ≤ n) (sym same) past)) has)
+          ]
+      | inr differ ↦ get_or-set_other listed i j true false differ ∙ has
+    ]
+
+-- ** Nodes that lack it.
+
+module _ (w : Workspace) (t n : ℕ) (s : Syntax) (at : IsTree (trees w) t s) where
+  -- what a whole match at a node says of the node
+  matched_there : (rule : ResolvedKind) (bindings : List Binding) → IsWholeMatch (trees w) rule (node_id t n) bindings
+      → Matches rule (root_of rule.pattern) (node_of s n) bindings
+  matched_there rule bindings whole = in_tree (trees w) t s (λ s. Matches rule (root_of rule.pattern) (node_of s n) bindings) at whole.matches
+
+  pub unmatched_root : (rule : ResolvedKind) (root : Root) → IsRootOf rule root → has_asked root (node_of s n) ≡ false
+      → (bindings : List Binding) → IsWholeMatch (trees w) rule (node_id t n) bindings → ⊥
+  unmatched_root rule root is lacks bindings whole =
+      both_ways (has_asked root (node_of s n)) lacks (is (node_of s n) bindings (matched_there rule bindings whole))
+
+  pub unmatched_kind : (rules : Rules) → AreRules rules → has_kind rules.kinds (node_of s n).kind ≡ false
+      → (place : ℕ) (rule : ResolvedKind) (bindings : List Binding) → slice_get rules.rules.now place ≡ Some rule → IsWholeMatch (trees w) rule (node_id t n) bindings → ⊥
+  unmatched_kind rules are lacks place rule bindings is whole =
+      both_ways (has_kind rules.kinds (node_of s n).kind) lacks (are.kinds place rule is (node_of s n) bindings (matched_there rule bindings whole))
+
+  -- a node of a kind that concerns nothing shuts in nothing
+  pub unshutting_kind : (rules : Rules) → AreRules rules → has_kind rules.kinds (node_of s n).kind ≡ false → Shuts (trees w) (node_id t n) → ⊥
+  unshutting_kind rules are lacks (inl is_use) =
+      both_ways (has_kind rules.kinds (node_of s n).kind) lacks
+      (ap (has_kind rules.kinds) (in_tree (trees w) t s (λ s. (node_of s n).kind ≡ k.USE) at is_use) ∙ are.uses)
+  unshutting_kind rules are lacks (inr call) =
+      both_ways (has_kind rules.kinds (node_of s n).kind) lacks
+      (ap (has_kind rules.kinds) (in_tree (trees w) t s (λ s. (node_of s n).kind ≡ k.MACRO_CALL) at call.0) ∙ are.calls)
+
+  pub no_call_of_kind : (rules : Rules) → AreRules rules → has_kind rules.kinds (node_of s n).kind ≡ false → IsMacroCall (trees w) (node_id t n) → ⊥
+  no_call_of_kind rules are lacks call =
+      both_ways (has_kind rules.kinds (node_of s n).kind) lacks
+      (ap (has_kind rules.kinds) (in_tree (trees w) t s (λ s. (node_of s n).kind ≡ k.MACRO_CALL) at call) ∙ are.calls)

@@ -1,0 +1,59 @@
+-- Private: what the roots of rules' patterns ask of a node, so that it need not be asked whether each node matches.
+use Rattle.std.specs.Prelude.{ℕ, ◌≡◌, ◌&&◌, ◌||◌, not, Bool, true, false, if◌then◌else◌, List, [], ◌∷◌, length, slice_get, slice_index_or, Option, Some, None}
+use Rattle.std.specs.Option.{option_map_or}
+use denote.Enum.Declared.{tag_of}
+use Rattle.ssr_syntax_kinds.specs.contracts.kinds.SyntaxKind.{the_type}
+use Rattle.ssr_syntax_kinds.specs.declared.kinds.SyntaxKind.{SyntaxKind}
+use Rattle.ssr_syntax_kinds.specs.declared.kinds.SyntaxKind.TheVariants as k
+use Rattle.ssr_syntax_kinds.specs.Kinds.{same_kind, is_trivia}
+use Rattle.ssr_syntax_tree.specs.Places.{Node, Part, token_part, node_part, parts_of, root_of}
+use Rattle.ide_ssr_resolving.specs.Resolved.{ResolvedKind}
+use Rattle.ide_ssr_matching.specs.declared.bindings.Binding.{Binding}
+use Rattle.ide_ssr_matching.specs.Matching.{Matches}
+use Rattle.ide_ssr_search.specs.declared.roots.Root.{Root}
+use Rattle.ide_ssr_search.specs.declared.roots.Root.TheVariants as roots
+use Rattle.ide_ssr_search.specs.declared.roots.KindSet.{KindSet}
+use Rattle.ide_ssr_search.specs.declared.roots.Rules.{Rules}
+
+-- ** Tokens among siblings.
+
+-- a token of this kind counts for a match whatever stands behind it: it is no trivia, and no comma
+abbrev pub counts : SyntaxKind → Bool
+counts kind = not (is_trivia kind) && not (same_kind kind k.COMMA)
+
+-- the kind of the first one that counts
+abbrev pub first_counted : List Part → Option SyntaxKind
+first_counted [] = None
+first_counted (token_part t token ∷ rest) = if counts token.kind then Some token.kind else first_counted rest
+first_counted (node_part node ∷ rest) = first_counted rest
+
+-- whether one has this kind
+abbrev pub has_token_of : SyntaxKind → List Part → Bool
+has_token_of kind [] = false
+has_token_of kind (token_part t token ∷ rest) = same_kind token.kind kind || has_token_of kind rest
+has_token_of kind (node_part node ∷ rest) = has_token_of kind rest
+
+-- ** What is asked.
+
+-- whether a node has what a root asks for
+abbrev pub has_asked : Root → Node → Bool
+has_asked roots.Placeholder c = true
+has_asked (roots.Node kind token) c = same_kind c.kind kind && option_map_or (λ token. has_token_of token (parts_of c)) token true
+
+-- each node that matches the rule's pattern has it
+abbrev pub IsRootOf : ResolvedKind → Root → Type 0
+IsRootOf rule root = (c : Node) (bindings : List Binding) → Matches rule (root_of rule.pattern) c bindings → has_asked root c ≡ true
+
+-- ** By kinds.
+
+abbrev pub has_kind : KindSet → SyntaxKind → Bool
+has_kind kinds kind = kinds.every || slice_index_or kinds.listed (tag_of the_type kind) false
+
+-- what is known of the rules of a search
+pub record AreRules (rules : Rules) : Type 0 where
+  pub counted : length rules.roots.items ≡ length rules.rules.now
+  pub each : (n : ℕ) (rule : ResolvedKind) (root : Root) → slice_get rules.rules.now n ≡ Some rule → slice_get rules.roots.items n ≡ Some root → IsRootOf rule root
+  pub kinds : (n : ℕ) (rule : ResolvedKind) → slice_get rules.rules.now n ≡ Some rule → (c : Node) (bindings : List Binding)
+      → Matches rule (root_of rule.pattern) c bindings → has_kind rules.kinds c.kind ≡ true
+  pub uses : has_kind rules.kinds k.USE ≡ true
+  pub calls : has_kind rules.kinds k.MACRO_CALL ≡ true

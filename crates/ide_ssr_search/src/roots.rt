@@ -1,0 +1,199 @@
+//! What the roots of rules' patterns ask of a node: most nodes lack it, and need not be asked whether they match.
+ghost use Rattle.std.specs.Prelude.{◌≡◌, ◌&&◌, ◌∷◌, [], not, true, is_some, IfOk, IfSome};
+ghost use Rattle.std.specs.Option.{option_map_or};
+ghost use Rattle.ssr_syntax_kinds.specs.declared.kinds.SyntaxKind.{SyntaxKind as Kind};
+ghost use Rattle.ssr_syntax_tree.specs.Places.{Node, HasNode, HasElement, node_of, root_of, part_of, parts_of};
+ghost use Rattle.ide_ssr_search.specs.Private.Roots.{first_counted, has_token_of, has_asked, has_kind, IsRootOf, AreRules};
+
+use ide_ssr_resolving::ResolvedRule;
+use ssr_syntax_kinds::SyntaxKind;
+use ssr_syntax_tree::{Element, NodeNo, Tree};
+use std::alloc::{AllocError, Global};
+
+/// What the root of a rule's pattern asks of each node that matches it.
+#[derive(Clone, Copy)]
+pub(crate) enum Root {
+    /// A placeholder asks for nothing.
+    Placeholder,
+    /// Any other node asks for its kind, and for a token directly below of the kind of its own first one that counts for each
+    /// match, if it has such a token.
+    Node(SyntaxKind, Option<SyntaxKind>),
+}
+
+/// The kind of a child, if it is a token that counts for each match: no trivia, and no comma.
+fn counted_token(tree: &Tree, child: Element) -> Option<SyntaxKind>
+    requires { HasElement tree.now child }
+    ensures { result ≡ first_counted (part_of tree.now child ∷ []) }
+{
+    let Element::Token(token) = child else {
+        return None;
+    };
+    let kind = tree.token_kind(token);
+    if kind.is_trivia() || kind.is(SyntaxKind::COMMA) {
+        None
+    } else {
+        Some(kind)
+    }
+}
+
+/// The kind of the first child of a node that is such a token.
+fn first_counted(tree: &Tree, node: NodeNo) -> Option<SyntaxKind>
+    requires { HasNode tree.now node.0 }
+    ensures { result ≡ first_counted (parts_of (node_of tree.now node.0)) }
+{
+    for child in tree.children(node) {
+        if let Some(kind) = counted_token(tree, child) {
+            return Some(kind);
+        }
+    }
+    None
+}
+
+/// Whether a child is a token of a kind.
+fn is_token_of(tree: &Tree, kind: SyntaxKind, child: Element) -> bool
+    requires { HasElement tree.now child }
+    ensures { result ≡ has_token_of kind (part_of tree.now child ∷ []) }
+{
+    match child {
+        Element::Token(token) => tree.token_kind(token).is(kind),
+        Element::Node(_) => false,
+    }
+}
+
+/// Whether a node has a child that is a token of a kind.
+fn has_token_of(tree: &Tree, kind: SyntaxKind, node: NodeNo) -> bool
+    requires { HasNode tree.now node.0 }
+    ensures { result ≡ has_token_of kind (parts_of (node_of tree.now node.0)) }
+{
+    for child in tree.children(node) {
+        if is_token_of(tree, kind, child) {
+            return true;
+        }
+    }
+    false
+}
+
+/// The same where a kind is asked for.
+fn has_token_if(tree: &Tree, kind: Option<SyntaxKind>, node: NodeNo) -> bool
+    requires { HasNode tree.now node.0 }
+    ensures { result ≡ option_map_or (λ kind. has_token_of kind (parts_of (node_of tree.now node.0))) kind true }
+{
+    match kind {
+        Some(kind) => has_token_of(tree, kind, node),
+        None => true,
+    }
+}
+
+impl Root {
+    /// What the root of a rule's pattern asks.
+    fn of(rule: &ResolvedRule) -> Root
+        ensures { IsRootOf rule.now result }
+    {
+        let root = NodeNo(0);
+        if rule.placeholder(root).is_some() {
+            return Root::Placeholder;
+        }
+        let pattern = rule.pattern();
+        Root::Node(pattern.kind(root), first_counted(pattern, root))
+    }
+
+    /// Whether a node has what is asked.
+    pub(crate) fn is_met(self, tree: &Tree, node: NodeNo) -> bool
+        requires { HasNode tree.now node.0 }
+        ensures { result ≡ has_asked self (node_of tree.now node.0) }
+    {
+        match self {
+            Root::Placeholder => true,
+            Root::Node(kind, token) => {
+                tree.kind(node).is(kind) && has_token_if(tree, token, node)
+            }
+        }
+    }
+}
+
+/// A set of kinds.
+#[derive(Clone, Copy)]
+pub(crate) struct KindSet {
+    every: bool,
+    /// By the number of a kind whether it is one of them.
+    listed: [bool; 256],
+}
+
+impl KindSet {
+    /// The kinds of nodes that may shut in what is below them.
+    fn shutting() -> KindSet
+        ensures uses { has_kind result SyntaxKind.USE ≡ true }
+        ensures calls { has_kind result SyntaxKind.MACRO_CALL ≡ true }
+    {
+        let mut kinds = KindSet {
+            every: false,
+            listed: [false; 256],
+        };
+        kinds.add(SyntaxKind::USE);
+        kinds.add(SyntaxKind::MACRO_CALL);
+        kinds
+    }
+
+    /// Adds a kind.
+    fn add(&mut self, kind: SyntaxKind)
+        ensures added { has_kind self.new kind ≡ true }
+        ensures kept { (other : Kind) → has_kind self.old other ≡ true → has_kind self.new other ≡ true }
+    {
+        self.listed[kind as usize] = true;
+    }
+
+    /// Adds the kinds of all nodes that have what a root asks for.
+    fn add_asked(&mut self, root: Root)
+        ensures added { (c : Node) → has_asked root c ≡ true → has_kind self.new c.kind ≡ true }
+        ensures kept { (kind : Kind) → has_kind self.old kind ≡ true → has_kind self.new kind ≡ true }
+    {
+        match root {
+            Root::Placeholder => self.every = true,
+            Root::Node(kind, _) => self.add(kind),
+        }
+    }
+
+    fn has(&self, kind: SyntaxKind) -> bool
+        ensures { result ≡ has_kind self.now kind }
+    {
+        self.every || self.listed[kind as usize]
+    }
+}
+
+/// The rules of a search, and what the roots of their patterns ask.
+#[derive(Drop)]
+pub(crate) struct Rules<'a> {
+    pub(crate) rules: &'a [ResolvedRule],
+    /// What each of them asks.
+    pub(crate) roots: Vec<Root>,
+    /// The kinds of the nodes that one of them may match, and of those that may shut in what is below them.
+    kinds: KindSet,
+}
+
+impl<'a> Rules<'a> {
+    /// What the roots of the rules' patterns ask.
+    pub(crate) fn new(alloc: Global, rules: &'a [ResolvedRule]) -> Result<Rules<'a>, AllocError>
+        ensures rules { IfOk result (λ made. made.rules.now ≡ rules.now) }
+        ensures are { IfOk result AreRules }
+    {
+        let mut roots = Vec::new(alloc);
+        let mut kinds = KindSet::shutting();
+        for rule in rules {
+            let root = Root::of(rule);
+            roots.push(root)?;
+            kinds.add_asked(root);
+        }
+        Ok(Rules {
+            rules,
+            roots,
+            kinds,
+        })
+    }
+
+    /// Whether one of them may match a node of a kind, or such a node may shut in what is below it.
+    pub(crate) fn concern(&self, kind: SyntaxKind) -> bool
+        ensures { result ≡ has_kind self.now.kinds kind }
+    {
+        self.kinds.has(kind)
+    }
+}
