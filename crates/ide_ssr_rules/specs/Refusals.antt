@@ -64,6 +64,11 @@ AnswersBy seen (Err error) reading = TellsOf error reading
 abbrev pub Answers : {A : Type 0} → Result A SsrError → Result A Refusal → Type 0
 Answers result reading = AnswersBy (λ value. value) result reading
 
+-- the message of an error; want of memory has none
+abbrev pub message_of : SsrError → Option (List ℕ)
+message_of errors.Memory = None
+message_of (errors.Message message) = Some (string_bytes message)
+
 -- the bytes that a user is shown
 abbrev pub shown : SsrError → List ℕ
 shown errors.Memory = codes "out of memory"

@@ -5,6 +5,7 @@ mod constraints;
 mod elements;
 mod error;
 mod kinds;
+pub mod laws;
 mod macro_calls;
 mod meeting;
 mod refusals;

@@ -21,6 +21,7 @@ use crate::sides::{has, push_names, side, sides};
 use crate::stand_ins::{glued_placeholder, spelled_stand_in};
 use crate::tokens::Name;
 use std::alloc::{AllocError, Global};
+use std::fmt;
 use std::marker::Model;
 
 /// What a text is read as: the names of its placeholders, what each of these asks, and its kinds.
@@ -65,8 +66,18 @@ impl ParsedKinds {
     }
 }
 
+/// Tells the names and how many kinds there are, a text without a promise.
+impl fmt::Debug for ParsedKinds {
+    fn fmt<W: fmt::Write>(&self, f: &mut fmt::Formatter<W>) -> fmt::Result {
+        f.debug_struct("ParsedKinds")
+            .field("names", &self.names)
+            .field("kinds", &self.kinds.len())
+            .finish()
+    }
+}
+
 /// A rule: a pattern and a template for each kind that both can be read as.
-#[derive(Drop)]
+#[derive(Debug, Drop)]
 pub struct SsrRule {
     parsed: ParsedKinds,
 }
@@ -93,7 +104,7 @@ impl SsrRule {
 }
 
 /// A search pattern, which is searched for and never replaced: one side of a rule, for each kind that it can be read as.
-#[derive(Drop)]
+#[derive(Debug, Drop)]
 pub struct SsrPattern {
     parsed: ParsedKinds,
 }
