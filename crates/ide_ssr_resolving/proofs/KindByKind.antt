@@ -8,13 +8,15 @@ use Rattle.ide_ssr_rules.specs.declared.kinds.ParsedRule.{ParsedRule}
 use Rattle.ide_ssr_rules.specs.declared.refusals.Refusal.{Refusal}
 use Rattle.ide_ssr_rules.specs.Refusals.{TellsOf, ◌>>=◌}
 use Rattle.ide_ssr_rules.proofs.Shared.{tells_first, after_ok}
+use Rattle.ide_ssr_resolving.specs.declared.qualified_calls.QualifiedCall.{QualifiedCall}
 use Rattle.ide_ssr_resolving.specs.declared.used.UsedPath.{UsedPath}
+use Rattle.ide_ssr_resolving.specs.QualifiedCalls.{qualified_calls_of}
 use Rattle.ide_ssr_resolving.specs.Mixing.{check_unmixed}
 use Rattle.ide_ssr_resolving.specs.Resolved.{ResolvedKind, check_template, paths_in, paths_in_template, resolved_kind, resolved_kinds}
 
--- a kind with its names, what they ask, and the used paths of its template and its pattern
-abbrev pub kind_with : ParsedRule → List (List ℕ) → List (List Constraint) → List UsedPath → List UsedPath → ResolvedKind
-kind_with kind kept asks in_template in_pattern = record {
+-- a kind with its names, what they ask, the used paths of its template and its pattern, and its qualified calls
+abbrev pub kind_with : ParsedRule → List (List ℕ) → List (List Constraint) → List UsedPath → List UsedPath → List QualifiedCall → ResolvedKind
+kind_with kind kept asks in_template in_pattern calls = record {
   names = kept;
   constraints = asks;
   category = kind.category;
@@ -22,11 +24,12 @@ kind_with kind kept asks in_template in_pattern = record {
   template = kind.template;
   pattern_paths = in_pattern;
   template_paths = in_template;
+  qualified_calls = calls;
 }
 
 module _ (m : Meanings) (scope : ScopeId) (names : List (List ℕ)) (asked : List (List Constraint)) (kind : ParsedRule) where
   abbrev whole : List UsedPath → List UsedPath → Unit {0} → Result ResolvedKind Refusal
-  whole in_template in_pattern _ = Ok (kind_with kind names asked in_template in_pattern)
+  whole in_template in_pattern _ = Ok (kind_with kind names asked in_template in_pattern (qualified_calls_of m scope kind.pattern in_pattern))
 
   abbrev after_unmixed : List UsedPath → List UsedPath → Unit {0} → Result ResolvedKind Refusal
   after_unmixed in_template in_pattern _ = check_unmixed kind.pattern >>= whole in_template in_pattern
@@ -73,17 +76,19 @@ module _ (m : Meanings) (scope : ScopeId) (names : List (List ℕ)) (asked : Lis
       (after_ok (λ r. TellsOf error r) (check_template check_unmixed kind.template) (after_unmixed in_template in_pattern) tt plain
       (tells_first (check_unmixed kind.pattern) (whole in_template in_pattern) error tells))
 
-  pub kind_resolved : (kept : List (List ℕ)) (asks : List (List Constraint)) (in_template in_pattern : List UsedPath)
+  pub kind_resolved : (kept : List (List ℕ)) (asks : List (List Constraint)) (in_template in_pattern : List UsedPath) (calls : List QualifiedCall)
       → paths_in_template m scope names kind.template ≡ Ok in_template → paths_in m scope names kind.pattern ≡ Ok in_pattern
       → check_template check_unmixed kind.template ≡ Ok tt → check_unmixed kind.pattern ≡ Ok tt → kept ≡ names → asks ≡ asked
-      → resolved_kind m scope names asked kind ≡ Ok (kind_with kind kept asks in_template in_pattern)
-  kind_resolved kept asks in_template in_pattern template pattern plain too keeps are =
-      let IsIt : Result ResolvedKind Refusal → Type 0 = λ r. r ≡ Ok (kind_with kind kept asks in_template in_pattern) in
+      → calls ≡ qualified_calls_of m scope kind.pattern in_pattern
+      → resolved_kind m scope names asked kind ≡ Ok (kind_with kind kept asks in_template in_pattern calls)
+  kind_resolved kept asks in_template in_pattern calls template pattern plain too keeps are called =
+      let IsIt : Result ResolvedKind Refusal → Type 0 = λ r. r ≡ Ok (kind_with kind kept asks in_template in_pattern calls) in
       past_paths IsIt in_template in_pattern template pattern
       (after_ok IsIt (check_template check_unmixed kind.template) (after_unmixed in_template in_pattern) tt plain
       (after_ok IsIt (check_unmixed kind.pattern) (whole in_template in_pattern) tt too
-      (ap (λ ns. Ok (kind_with kind ns asked in_template in_pattern)) (sym keeps)
-      ∙ ap (λ cs. Ok (kind_with kind kept cs in_template in_pattern)) (sym are))))
+      (ap (λ ns. Ok (kind_with kind ns asked in_template in_pattern (qualified_calls_of m scope kind.pattern in_pattern))) (sym keeps)
+      ∙ ap (λ cs. Ok (kind_with kind kept cs in_template in_pattern (qualified_calls_of m scope kind.pattern in_pattern))) (sym are)
+      ∙ ap (λ cs. Ok (kind_with kind kept asks in_template in_pattern cs)) (sym called))))
 
 -- kinds resolved so far, and what the rest gives
 abbrev pub joined : List ResolvedKind → Result (List ResolvedKind) Refusal → Result (List ResolvedKind) Refusal

@@ -13,6 +13,7 @@ use Rattle.ide_ssr_rules.specs.declared.refusals.Refusal.{Refusal}
 use Rattle.ide_ssr_rules.specs.Refusals.{◌>>=◌}
 use Rattle.ide_ssr_rules.proofs.Shared.{went, ok_same}
 use Rattle.ide_ssr_resolving.specs.declared.used.UsedPath.{UsedPath}
+use Rattle.ide_ssr_resolving.specs.QualifiedCalls.{qualified_calls_of}
 use Rattle.ide_ssr_resolving.specs.Mixing.{mixes, check_unmixed}
 use Rattle.ide_ssr_resolving.specs.Patterns.{HasEachOnce}
 use Rattle.ide_ssr_resolving.specs.Resolved.{ResolvedKind, check_template, paths_in, paths_in_template, resolved_kind, resolved_kinds}
@@ -35,13 +36,13 @@ module _ (m : Meanings) (scope : ScopeId) (names : List (List ℕ)) (asked : Lis
   pub record IsResolved (kind : ParsedRule) (found : ResolvedKind) : Type 0 where
     pub in_template : List UsedPath
     pub in_pattern : List UsedPath
-    pub same : kind_with kind names asked in_template in_pattern ≡ found
+    pub same : kind_with kind names asked in_template in_pattern (qualified_calls_of m scope kind.pattern in_pattern) ≡ found
     pub plain : mixes kind.pattern ≡ false
 
   pub resolved_like : (kind : ParsedRule) (found : ResolvedKind) → resolved_kind m scope names asked kind ≡ Ok found → IsResolved kind found
   unfolding resolved_kind
   resolved_like kind found h =
-      let made : List UsedPath → List UsedPath → ResolvedKind = kind_with kind names asked in
+      let made : List UsedPath → List UsedPath → ResolvedKind = λ t p. kind_with kind names asked t p (qualified_calls_of m scope kind.pattern p) in
       let plain = check_template check_unmixed kind.template in
       let whole : List UsedPath → List UsedPath → Unit {0} → Result ResolvedKind Refusal = λ t p _. Ok (made t p) in
       let unmixed_pattern : List UsedPath → List UsedPath → Unit {0} → Result ResolvedKind Refusal = λ t p _. check_unmixed kind.pattern >>= whole t p in

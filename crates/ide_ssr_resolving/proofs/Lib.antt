@@ -5,6 +5,7 @@ mod Names
 mod StandIns
 mod Steps
 mod Walk
+mod QualifiedCalls
 mod Nodes
 mod Patterns
 mod KindByKind

@@ -2,6 +2,7 @@ pub mod Paths
 pub mod Keys
 pub mod Resolving
 pub mod Used
+pub mod QualifiedCalls
 pub mod Placeholders
 pub mod Mixing
 pub mod Resolved

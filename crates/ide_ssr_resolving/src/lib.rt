@@ -5,12 +5,14 @@ mod keys;
 mod mixing;
 mod paths;
 mod placeholders;
+mod qualified_calls;
 mod resolved;
 mod resolving;
 mod stand_ins;
 mod used;
 
 pub use keys::key_of;
+pub use qualified_calls::QualifiedCall;
 pub use resolved::{ResolvedRule, resolve_pattern, resolve_rule};
 pub use resolving::resolution;
 pub use used::{Unresolved, UsedPath, used_paths};

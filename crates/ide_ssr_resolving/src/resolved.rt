@@ -13,6 +13,7 @@ ghost use Rattle.ide_ssr_resolving.specs.Used.{HasPaths, res_at};
 
 use crate::mixing::check_unmixed;
 use crate::placeholders::{name_at, placeholder_at, placeholders};
+use crate::qualified_calls::{QualifiedCall, qualified_calls};
 use crate::used::{Unresolved, UsedPath, res_at, used_paths};
 use ide_ssr_rules::{
     ConstraintSet, ParsedKinds, ParsedRule, Refusal, SsrError, SsrPattern, SsrRule, Text,
@@ -36,6 +37,7 @@ pub struct ResolvedRule {
     in_pattern: Vec<Option<u32>>,
     pattern_paths: Vec<UsedPath>,
     template_paths: Vec<UsedPath>,
+    qualified_calls: Vec<QualifiedCall>,
 }
 
 impl Model for ResolvedRule {
@@ -57,6 +59,7 @@ impl Model for ResolvedRule {
       template = rule.template;
       pattern_paths = rule.pattern_paths.items;
       template_paths = rule.template_paths.items;
+      qualified_calls = rule.qualified_calls.items;
     } };
 
     ghost invariant = { λ rule. record {
@@ -148,6 +151,13 @@ impl ResolvedRule {
     {
         self.template_paths.as_slice()
     }
+
+    /// The calls of the pattern whose callee names an associated function that takes `self`, in order.
+    pub fn qualified_calls(&self) -> &[QualifiedCall]
+        ensures { result.now ≡ self.now.qualified_calls }
+    {
+        self.qualified_calls.as_slice()
+    }
 }
 
 /// The kinds of a rule in their order, with what their paths stand for that are written in the scope; or why it doesn't
@@ -226,6 +236,13 @@ fn resolved_kind<S: Semantics>(
     let pattern_paths = paths_in(alloc, semantics, scope, names, &pattern)?;
     check_template_unmixed(alloc, template.as_ref())?;
     check_unmixed(alloc, &pattern)?;
+    let qualified_calls = qualified_calls(
+        alloc,
+        semantics,
+        scope,
+        &pattern,
+        pattern_paths.as_slice(),
+    )?;
     let in_pattern = placeholders(alloc, names, &pattern)?;
     let names = copied(alloc, names)?;
     let constraints = copied_constraints(alloc, constraints)?;
@@ -238,6 +255,7 @@ fn resolved_kind<S: Semantics>(
         in_pattern,
         pattern_paths,
         template_paths,
+        qualified_calls,
     })
 }
 

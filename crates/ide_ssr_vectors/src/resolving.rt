@@ -3,9 +3,11 @@
 use crate::given::{edited, resolved, texts};
 use crate::paths::listed;
 use ide_ssr::{MatchFinder, SsrPattern, SsrRule};
+use ide_ssr_resolving::QualifiedCall;
 use ssr_facts::{Facts, read};
-use ssr_syntax_tree::NodeNo;
+use ssr_syntax_tree::{Element, NodeNo, Tree};
 use std::alloc::Global;
+use std::fmt::Write;
 use std::test::Fail;
 
 /// Definitions: 0 and 1 functions, 2 a module, 3 a struct, 4 a function of it that takes `self`.
@@ -110,5 +112,67 @@ fn a_refused_rule_leaves_the_others(rt: HostRuntime) -> Result<(), Fail> {
     );
     finder.add_search_pattern(SsrPattern::parse(alloc, "x")?)?;
     assert_eq!(rt; texts(alloc, &finder.matches()?)?.as_str(), "foo(1)");
+    Ok(())
+}
+
+/// Definitions: a function; a struct of type 9 with a function that takes `self` and one that doesn't; a trait with a
+/// function that takes `self`; a module with a function.
+const CALLED: &str = r#"{"files":[{"name":"a.rs","text":"fn f() {}"}],"scopes":[[0,0,9]],
+"defs":[{"kind":"function"},{"kind":"adt","type":9},{"kind":"function","assoc":true,"self":true},{"kind":"function","assoc":true},
+{"kind":"trait"},{"kind":"function","assoc":true,"self":true},{"kind":"module"},{"kind":"function"}],
+"names":[[0,["foo"],["def",0]],[0,["S"],["def",1]],[0,["T"],["def",4]],[0,["T","m"],["def",5]],[0,["m"],["def",6]],[0,["m","f"],["def",7]],
+[0,["get"],["def",2]],[0,["x"],["local",0]]],
+"members":[[0,1,"get",2],[0,1,"new",3]]}"#;
+
+/// Qualified calls of a pattern, each with its function and the type of its qualifier.
+fn calls_listed(alloc: Global, pattern: &Tree, calls: &[QualifiedCall]) -> Result<String, Fail> {
+    if calls.is_empty() {
+        return Ok(String::from_str(alloc, "nothing")?);
+    }
+    let mut all = String::new(alloc);
+    for (number, call) in calls.iter().enumerate() {
+        if number > 0 {
+            all.push_str(", ")?;
+        }
+        if !pattern.has(Element::Node(call.node)) {
+            return Err(Fail::new("no such node"));
+        }
+        write!(all, "{} def {}", pattern.text(call.node), call.function.0)?;
+        if let Some(ty) = call.qualifier_type {
+            write!(all, " type {}", ty.0)?;
+        }
+    }
+    Ok(all)
+}
+
+#[test]
+fn a_resolved_rule_tells_its_qualified_calls(rt: HostRuntime) -> Result<(), Fail> {
+    let alloc = rt.alloc();
+    let facts = read(alloc, CALLED.as_bytes())?;
+    for line in "\
+S::get(x) ==>> 1 -> S::get(x) def 2 type 9
+S::get() ==>> 1 -> S::get() def 2 type 9
+T::m(x, 1) ==>> 1 -> T::m(x, 1) def 5
+get(x) ==>> 1 -> get(x) def 2
+S::get::<S>(x) ==>> 1 -> S::get::<S>(x) def 2 type 9
+S::get(S::get(x)) ==>> 1 -> S::get(S::get(x)) def 2 type 9, S::get(x) def 2 type 9
+S::get(x)(1) ==>> 1 -> S::get(x) def 2 type 9
+S::new(x) ==>> 1 -> nothing
+foo(S::get) ==>> 1 -> nothing
+m::f(x) ==>> 1 -> nothing
+(S::get)(x) ==>> 1 -> nothing
+x.get(1) ==>> 1 -> nothing"
+        .lines()
+    {
+        let Some((rule, want)) = line.split_once(" -> ") else {
+            return Err(Fail::new("a line without an arrow"));
+        };
+        let kinds = resolved(alloc, &facts.semantics, rule)?;
+        let Some(kind) = kinds.first() else {
+            return Err(Fail::new("no kinds"));
+        };
+        let calls = calls_listed(alloc, kind.pattern(), kind.qualified_calls())?;
+        assert_eq!(rt; calls.as_str(), want, "{rule}");
+    }
     Ok(())
 }

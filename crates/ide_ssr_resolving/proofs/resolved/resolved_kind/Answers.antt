@@ -36,5 +36,6 @@ pub returns : goal.returns
 returns g c =
     let template = rw c.as_ref.ensures.value at c.in_ok-template_paths.ensures.paths in
     let plain = rw c.as_ref-2.ensures.value at c.in_ok-check_template_unmixed.ensures in
-    kind_resolved (g.S.Semantics.meanings c.args.semantics.now) c.args.scope _ _ c.args.kind _ _ _ _ template c.in_ok-pattern_paths.ensures.paths plain
-    c.in_ok-check_unmixed.ensures c.in_ok-names.ensures c.in_ok-constraints.ensures
+    let called = rw c.as_slice.ensures.value at c.in_ok-qualified_calls.ensures in
+    kind_resolved (g.S.Semantics.meanings c.args.semantics.now) c.args.scope _ _ c.args.kind _ _ _ _ _ template c.in_ok-pattern_paths.ensures.paths plain
+    c.in_ok-check_unmixed.ensures c.in_ok-names.ensures c.in_ok-constraints.ensures called
