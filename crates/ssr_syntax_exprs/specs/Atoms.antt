@@ -10,8 +10,8 @@ use Rattle.ssr_syntax_types.specs.declared.goals.PatPlace.TheVariants.{NoBar}
 use Rattle.ssr_syntax_types.specs.declared.goals.PathPlace.TheVariants.{InExpr}
 use Rattle.ssr_syntax_forms.specs.Forms.{Form, Test, ◌then◌, child, mark, seal, nothing, choose, decide, look, check, none_is, a, part, at, optional, repeated, comma, comma_list}
 use Rattle.ssr_syntax_types.specs.Literals.{literals}
-use Rattle.ssr_syntax_types.specs.Paths.{lifetime, name_ref, number_ref, path, path_first, ret_type}
-use Rattle.ssr_syntax_types.specs.Patterns.{name_colon, ranges, single_pat_first}
+use Rattle.ssr_syntax_types.specs.Paths.{lifetime, name_colon, name_ref, number_ref, path, path_first, ret_type}
+use Rattle.ssr_syntax_types.specs.PatternSets.{ranges, single_pat_first}
 use Rattle.ssr_syntax_exprs.specs.Blocks.{block_expr, block_words}
 
 -- what `return`, `break` and closures begin with

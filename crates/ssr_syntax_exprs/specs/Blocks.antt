@@ -8,7 +8,7 @@ use Rattle.ssr_syntax_types.specs.declared.goals.ExprPlace.TheVariants.{BeforeBl
 use Rattle.ssr_syntax_types.specs.declared.goals.PatPlace.TheVariants.{TopLevel}
 use Rattle.ssr_syntax_forms.specs.Forms.{Form, ◌then◌, child, mark, seal, nothing, choose, decide, a, at, optional, repeated}
 use Rattle.ssr_syntax_types.specs.Paths.{lifetime}
-use Rattle.ssr_syntax_types.specs.Patterns.{pat_first}
+use Rattle.ssr_syntax_types.specs.PatternSets.{pat_first}
 
 -- what a block-like expression begins with, but for a brace
 unfoldable pub block_words : List SyntaxKind

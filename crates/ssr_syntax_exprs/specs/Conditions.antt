@@ -7,7 +7,7 @@ use Rattle.ssr_syntax_types.specs.declared.goals.ExprPlace.{ExprPlace}
 use Rattle.ssr_syntax_types.specs.declared.goals.ExprPlace.TheVariants.{Anywhere, BeforeBlock}
 use Rattle.ssr_syntax_types.specs.declared.goals.PatPlace.TheVariants.{TopLevel}
 use Rattle.ssr_syntax_forms.specs.Forms.{Form, Test, ◌then◌, child, mark, seal, choose, decide, a, at, repeated, as_long_as}
-use Rattle.ssr_syntax_types.specs.Patterns.{ranges}
+use Rattle.ssr_syntax_types.specs.PatternSets.{ranges}
 use Rattle.ssr_syntax_exprs.specs.Atoms.{leaving_expr, leaving_first, operand_first}
 use Rattle.ssr_syntax_exprs.specs.Expressions.{and_rank, leading_range, operand, operation, operations, or_rank, range_or_assignment}
 

@@ -10,7 +10,7 @@ use Rattle.ssr_syntax_forms.specs.Forms.{Form, ◌then◌, child, mark, seal, ch
 use Rattle.ssr_syntax_types.specs.Literals.{literal, literals}
 use Rattle.ssr_syntax_types.specs.Paths.{colon_angle, name_ref, number_ref, path_first}
 use Rattle.ssr_syntax_types.specs.Types.{ampersands}
-use Rattle.ssr_syntax_types.specs.Patterns.{ranges}
+use Rattle.ssr_syntax_types.specs.PatternSets.{ranges}
 use Rattle.ssr_syntax_exprs.specs.Blocks.{block_like}
 use Rattle.ssr_syntax_exprs.specs.Atoms.{array_expr, braceless_first, continue_expr, expr_first, expr_in_parentheses, leaving_expr, leaving_first, operand_first, path_expr}
 

@@ -9,7 +9,7 @@ use ssr_syntax_kinds::SyntaxKind::*;
 use ssr_syntax_types::goals::{ExprPlace, Goal, PatPlace, PathPlace};
 use ssr_syntax_types::literals::Literals;
 use ssr_syntax_types::paths::{PathFirst, lifetime, name_ref, number_ref, path, ret_type};
-use ssr_syntax_types::patterns::{Ranges, SinglePatFirst};
+use ssr_syntax_types::pattern_sets::{Ranges, SinglePatFirst};
 use ssr_syntax_types::reader::Reader;
 
 /// What `return`, `break` and closures begin with.

@@ -7,7 +7,7 @@ use ssr_syntax_kinds::SyntaxKind;
 use ssr_syntax_kinds::SyntaxKind::*;
 use ssr_syntax_types::goals::{ExprPlace, Goal, PatPlace};
 use ssr_syntax_types::paths::lifetime;
-use ssr_syntax_types::patterns::PatFirst;
+use ssr_syntax_types::pattern_sets::PatFirst;
 use ssr_syntax_types::reader::Reader;
 
 /// What a block-like expression begins with, but for `{`.

@@ -9,7 +9,7 @@ use crate::expressions::{
 use ssr_syntax_forms::{Fault, Mark, Parser};
 use ssr_syntax_kinds::SyntaxKind::*;
 use ssr_syntax_types::goals::{ExprPlace, Goal, PatPlace};
-use ssr_syntax_types::patterns::Ranges;
+use ssr_syntax_types::pattern_sets::Ranges;
 use ssr_syntax_types::reader::Reader;
 
 /// LET_EXPR: `let`, a pattern, `=` and an operand that binds tighter than `&&`.

@@ -15,7 +15,7 @@ use ssr_syntax_kinds::SyntaxKind::*;
 use ssr_syntax_types::goals::{ExprPlace, Goal, Rank};
 use ssr_syntax_types::literals::{Literals, literal};
 use ssr_syntax_types::paths::{OpenAngle, PathFirst, name_ref, number_ref};
-use ssr_syntax_types::patterns::Ranges;
+use ssr_syntax_types::pattern_sets::Ranges;
 use ssr_syntax_types::reader::Reader;
 use ssr_syntax_types::types::Ampersands;
 

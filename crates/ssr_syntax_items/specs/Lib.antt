@@ -1,5 +1,2 @@
-pub mod Params
-pub mod Adts
-pub mod Uses
 pub mod Items
 pub mod Statements

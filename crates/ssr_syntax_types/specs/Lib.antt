@@ -2,4 +2,4 @@ pub mod Literals
 pub mod Paths
 pub mod Types
 pub mod TokenTrees
-pub mod Patterns
+pub mod PatternSets

@@ -22,6 +22,10 @@ name_ref = a k.IDENT then seal k.NAME_REF
 unfoldable pub number_ref : Form Goal
 number_ref = a k.INT_NUMBER then seal k.NAME_REF
 
+-- the name of a field, and the colon behind it
+abbrev pub name_colon : Test
+name_colon = ((k.IDENT ∷ []) ∷ (k.COLON ∷ []) ∷ []) ∷ []
+
 abbrev pub path_names : List SyntaxKind
 path_names = k.IDENT ∷ k.SELF_KW ∷ k.SELF_TYPE_KW ∷ k.SUPER_KW ∷ k.CRATE_KW ∷ []
 

@@ -1,10 +1,10 @@
-//! The grammar's goals, and the functions that read literals, paths, types, token trees and patterns.
+//! The grammar's goals, the functions that read literals, paths, types and token trees, and what patterns begin with.
 #![tactic(auto)]
 
 pub mod goals;
 pub mod literals;
 pub mod paths;
-pub mod patterns;
+pub mod pattern_sets;
 pub mod reader;
 pub mod token_trees;
 pub mod types;

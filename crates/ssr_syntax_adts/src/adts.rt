@@ -1,5 +1,5 @@
 //! The functions that read structures and enumerations.
-ghost use Rattle.ssr_syntax_items.specs.Adts as form;
+ghost use Rattle.ssr_syntax_adts.specs.Adts as form;
 ghost use Rattle.ssr_syntax_forms.specs.Runs.{Runs, RunsAnywhere, RunsFrom};
 
 use crate::params::{field_visibility, generic_params, visibility, wheres};
@@ -155,7 +155,7 @@ fn struct_rest<R: Reader>(goals: &R, p: &mut Parser<'_>, m: &Mark<'_>) -> Result
 
 /// STRUCT: `struct`, a NAME, parameters, and fields or none.
 #[tactic(auto, unfolding(crate::specs::Adts::struct_item))]
-pub(crate) fn struct_item<R: Reader>(
+pub fn struct_item<R: Reader>(
     goals: &R,
     p: &mut Parser<'_>,
     m: &Mark<'_>,
@@ -217,7 +217,7 @@ fn variant_list<R: Reader>(goals: &R, p: &mut Parser<'_>) -> Result<(), Fault>
 
 /// ENUM: `enum`, a NAME, parameters, perhaps a WHERE_CLAUSE, and a VARIANT_LIST.
 #[tactic(auto, unfolding(crate::specs::Adts::enum_item))]
-pub(crate) fn enum_item<R: Reader>(goals: &R, p: &mut Parser<'_>, m: &Mark<'_>) -> Result<(), Fault>
+pub fn enum_item<R: Reader>(goals: &R, p: &mut Parser<'_>, m: &Mark<'_>) -> Result<(), Fault>
     requires { R.can_read goals.now }
     ensures { RunsFrom (R.reads goals.now) form.enum_item m.now p.old p.new result }
 {

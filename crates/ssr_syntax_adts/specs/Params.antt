@@ -8,7 +8,7 @@ use Rattle.ssr_syntax_types.specs.declared.goals.PatPlace.TheVariants.{NoBar}
 use Rattle.ssr_syntax_forms.specs.Forms.{Form, Test, ◌then◌, child, mark, seal, nothing, choose, decide, a, any, part, at, optional, comma_list}
 use Rattle.ssr_syntax_types.specs.Paths.{close_angle, lifetime, name, open_angle, path_first, simple_path, type_first}
 use Rattle.ssr_syntax_types.specs.Types.{type_bound_list}
-use Rattle.ssr_syntax_types.specs.Patterns.{single_pat_first}
+use Rattle.ssr_syntax_types.specs.PatternSets.{single_pat_first}
 
 abbrev pub generic_param_first : List SyntaxKind
 generic_param_first = k.IDENT ∷ k.LIFETIME_IDENT ∷ k.CONST_KW ∷ []

@@ -1,6 +1,6 @@
 //! The functions that read what is used, and by which names.
 ghost use Rattle.std.specs.Prelude.{◌≡◌};
-ghost use Rattle.ssr_syntax_items.specs.Uses as form;
+ghost use Rattle.ssr_syntax_adts.specs.Uses as form;
 ghost use Rattle.ssr_syntax_forms.specs.Forms.{passes};
 ghost use Rattle.ssr_syntax_forms.specs.Runs.{Runs, RunsAnywhere, RunsFrom};
 
@@ -13,7 +13,7 @@ use ssr_syntax_types::reader::Reader;
 
 /// What a path without an anchor begins with.
 #[derive(Clone, Copy)]
-pub(crate) struct MacroPathFirst;
+pub struct MacroPathFirst;
 
 impl TokenSet for MacroPathFirst {
     ghost kinds = { λ _. form.macro_path_first };
@@ -47,7 +47,7 @@ fn at_simple_path(p: &Parser<'_>) -> bool
 
 /// A NAME or `_`.
 #[tactic(auto, unfolding(crate::specs::Uses::name_or_underscore))]
-pub(crate) fn name_or_underscore<R: Reader>(goals: &R, p: &mut Parser<'_>) -> Result<(), Fault>
+pub fn name_or_underscore<R: Reader>(goals: &R, p: &mut Parser<'_>) -> Result<(), Fault>
     requires { R.can_read goals.now }
     ensures { RunsAnywhere (R.reads goals.now) form.name_or_underscore p.old p.new result }
 {
@@ -160,7 +160,7 @@ pub fn use_tree<R: Reader>(goals: &R, p: &mut Parser<'_>) -> Result<(), Fault>
 
 /// USE: `use`, a USE_TREE and `;`.
 #[tactic(auto, unfolding(crate::specs::Uses::use_item))]
-pub(crate) fn use_item<R: Reader>(goals: &R, p: &mut Parser<'_>, m: &Mark<'_>) -> Result<(), Fault>
+pub fn use_item<R: Reader>(goals: &R, p: &mut Parser<'_>, m: &Mark<'_>) -> Result<(), Fault>
     requires { R.can_read goals.now }
     ensures { RunsFrom (R.reads goals.now) form.use_item m.now p.old p.new result }
 {

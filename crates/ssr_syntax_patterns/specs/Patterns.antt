@@ -1,5 +1,5 @@
 -- Forms of patterns.
-use Rattle.std.specs.Prelude.{false, List, [], ◌∷◌, ◌++◌}
+use Rattle.std.specs.Prelude.{false, List, [], ◌∷◌}
 use Rattle.ssr_syntax_kinds.specs.declared.kinds.SyntaxKind.{SyntaxKind}
 use Rattle.ssr_syntax_kinds.specs.declared.kinds.SyntaxKind.TheVariants as k
 use Rattle.ssr_syntax_types.specs.declared.goals.Goal.{Goal}
@@ -8,30 +8,10 @@ use Rattle.ssr_syntax_types.specs.declared.goals.PatPlace.{PatPlace}
 use Rattle.ssr_syntax_types.specs.declared.goals.PatPlace.TheVariants.{TopLevel, NoBar, BehindAmp}
 use Rattle.ssr_syntax_types.specs.declared.goals.PathPlace.TheVariants.{InExpr}
 use Rattle.ssr_syntax_forms.specs.Forms.{Form, Test, ◌then◌, child, mark, seal, nothing, choose, decide, look, a, part, at, optional, repeated, comma, comma_list}
-use Rattle.ssr_syntax_types.specs.Literals.{literal, literals}
-use Rattle.ssr_syntax_types.specs.Paths.{name, name_ref, number_ref, path, path_first}
+use Rattle.ssr_syntax_types.specs.Literals.{literal}
+use Rattle.ssr_syntax_types.specs.Paths.{name, name_colon, name_ref, number_ref, path}
+use Rattle.ssr_syntax_types.specs.PatternSets.{bound_first, literal_pat_first, pat_first, ranges}
 use Rattle.ssr_syntax_types.specs.Types.{ampersands}
-
--- the operators of ranges
-unfoldable pub ranges : List SyntaxKind
-ranges = k.DOT2 ∷ k.DOT2EQ ∷ []
-
-unfoldable pub literal_pat_first : List SyntaxKind
-literal_pat_first = k.MINUS ∷ literals
-
--- what a bound of a range begins with
-unfoldable pub bound_first : List SyntaxKind
-bound_first = literal_pat_first ++ path_first
-
-unfoldable pub pat_marks : List SyntaxKind
-pat_marks = k.AMP ∷ k.AMP2 ∷ k.DOT2 ∷ k.DOT2EQ ∷ k.UNDERSCORE ∷ k.L_PAREN ∷ k.L_BRACK ∷ k.REF_KW ∷ k.MUT_KW ∷ []
-
--- what a pattern begins with, but for a bar
-unfoldable pub single_pat_first : List SyntaxKind
-single_pat_first = bound_first ++ pat_marks
-
-unfoldable pub pat_first : List SyntaxKind
-pat_first = k.PIPE ∷ single_pat_first
 
 abbrev pub ident_pat_first : List SyntaxKind
 ident_pat_first = k.IDENT ∷ k.REF_KW ∷ k.MUT_KW ∷ []
@@ -48,9 +28,6 @@ path_pat_next = k.COLON2 ∷ k.L_PAREN ∷ k.L_CURLY ∷ k.DOT2 ∷ k.DOT2EQ ∷
 
 abbrev pub path_ahead : Test
 path_ahead = ((k.IDENT ∷ []) ∷ path_pat_next ∷ []) ∷ []
-
-abbrev pub name_colon : Test
-name_colon = ((k.IDENT ∷ []) ∷ (k.COLON ∷ []) ∷ []) ∷ []
 
 -- ** In parentheses: none, one, or some with commas.
 

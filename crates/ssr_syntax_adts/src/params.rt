@@ -1,6 +1,6 @@
 //! The functions that read parameters, `where` and visibility.
 ghost use Rattle.std.specs.Prelude.{◌≡◌};
-ghost use Rattle.ssr_syntax_items.specs.Params as form;
+ghost use Rattle.ssr_syntax_adts.specs.Params as form;
 ghost use Rattle.ssr_syntax_forms.specs.Forms.{passes};
 ghost use Rattle.ssr_syntax_forms.specs.Runs.{Runs, RunsAnywhere, RunsFrom};
 
@@ -11,7 +11,7 @@ use ssr_syntax_types::goals::{Goal, PatPlace};
 use ssr_syntax_types::paths::{
     CloseAngle, OpenAngle, PathFirst, TypeFirst, lifetime, name, simple_path,
 };
-use ssr_syntax_types::patterns::SinglePatFirst;
+use ssr_syntax_types::pattern_sets::SinglePatFirst;
 use ssr_syntax_types::reader::Reader;
 use ssr_syntax_types::types::type_bound_list;
 
@@ -187,7 +187,7 @@ fn generic_param<R: Reader>(goals: &R, p: &mut Parser<'_>) -> Result<(), Fault>
 
 /// GENERIC_PARAM_LIST: parameters in angle brackets, with commas between them.
 #[tactic(auto, using(ssr_syntax_forms::proofs::Shared::run_comma_list), unfolding(crate::specs::Params::generic_param_list))]
-pub(crate) fn generic_param_list<R: Reader>(goals: &R, p: &mut Parser<'_>) -> Result<(), Fault>
+pub fn generic_param_list<R: Reader>(goals: &R, p: &mut Parser<'_>) -> Result<(), Fault>
     requires { R.can_read goals.now }
     ensures { Runs (R.reads goals.now) form.generic_param_list p.old p.new result }
 {
@@ -200,7 +200,7 @@ pub(crate) fn generic_param_list<R: Reader>(goals: &R, p: &mut Parser<'_>) -> Re
 
 /// A GENERIC_PARAM_LIST, or nothing.
 #[tactic(auto, unfolding(crate::specs::Params::generic_params))]
-pub(crate) fn generic_params<R: Reader>(
+pub fn generic_params<R: Reader>(
     goals: &R,
     p: &mut Parser<'_>,
     m: &Mark<'_>,
@@ -255,7 +255,7 @@ fn where_clause<R: Reader>(goals: &R, p: &mut Parser<'_>) -> Result<(), Fault>
 
 /// A WHERE_CLAUSE, or nothing.
 #[tactic(auto, unfolding(crate::specs::Params::wheres))]
-pub(crate) fn wheres<R: Reader>(goals: &R, p: &mut Parser<'_>, m: &Mark<'_>) -> Result<(), Fault>
+pub fn wheres<R: Reader>(goals: &R, p: &mut Parser<'_>, m: &Mark<'_>) -> Result<(), Fault>
     requires { R.can_read goals.now }
     ensures { RunsFrom (R.reads goals.now) form.wheres m.now p.old p.new result }
 {
@@ -362,7 +362,7 @@ fn any_params<R: Reader>(goals: &R, p: &mut Parser<'_>) -> Result<(), Fault>
 
 /// PARAM_LIST: parameters in parentheses.
 #[tactic(auto, unfolding(crate::specs::Params::param_list))]
-pub(crate) fn param_list<R: Reader>(goals: &R, p: &mut Parser<'_>) -> Result<(), Fault>
+pub fn param_list<R: Reader>(goals: &R, p: &mut Parser<'_>) -> Result<(), Fault>
     requires { R.can_read goals.now }
     ensures { Runs (R.reads goals.now) form.param_list p.old p.new result }
 {
@@ -442,7 +442,7 @@ fn restriction<R: Reader>(goals: &R, p: &mut Parser<'_>) -> Result<(), Fault>
 
 /// VISIBILITY: `pub`, and perhaps a path in parentheses.
 #[tactic(auto, unfolding(crate::specs::Params::visibility))]
-pub(crate) fn visibility<R: Reader>(goals: &R, p: &mut Parser<'_>) -> Result<(), Fault>
+pub fn visibility<R: Reader>(goals: &R, p: &mut Parser<'_>) -> Result<(), Fault>
     requires { R.can_read goals.now }
     ensures { Runs (R.reads goals.now) form.visibility p.old p.new result }
 {

@@ -1,96 +1,16 @@
 //! The functions that read patterns.
-ghost use Rattle.ssr_syntax_types.specs.Patterns as form;
+ghost use Rattle.ssr_syntax_patterns.specs.Patterns as form;
 ghost use Rattle.ssr_syntax_forms.specs.Runs.{Runs, RunsAnywhere, RunsFrom};
 
-use crate::goals::{Goal, PatPlace, PathPlace};
-use crate::literals::{Literals, literal};
-use crate::paths::{PathFirst, name, name_ref, number_ref, path};
-use crate::reader::Reader;
-use crate::types::Ampersands;
 use ssr_syntax_forms::{Fault, Mark, Parser, TokenSet};
 use ssr_syntax_kinds::SyntaxKind;
 use ssr_syntax_kinds::SyntaxKind::*;
-
-/// The operators of ranges.
-#[derive(Clone, Copy)]
-pub struct Ranges;
-
-impl TokenSet for Ranges {
-    ghost kinds = { λ _. form.ranges };
-
-    #[tactic(auto, unfolding(crate::specs::Patterns::ranges))]
-    fn contains(self, kind: SyntaxKind) -> bool {
-        matches!(kind, DOT2 | DOT2EQ)
-    }
-}
-
-/// What a literal in a pattern begins with.
-#[derive(Clone, Copy)]
-struct LiteralPatFirst;
-
-impl TokenSet for LiteralPatFirst {
-    ghost kinds = { λ _. form.literal_pat_first };
-
-    #[tactic(auto, unfolding(crate::specs::Patterns::literal_pat_first))]
-    fn contains(self, kind: SyntaxKind) -> bool {
-        matches!(kind, MINUS) || Literals.contains(kind)
-    }
-}
-
-/// What a bound of a range begins with.
-#[derive(Clone, Copy)]
-struct BoundFirst;
-
-impl TokenSet for BoundFirst {
-    ghost kinds = { λ _. form.bound_first };
-
-    #[tactic(auto, using(ssr_syntax_forms::proofs::Shared::mem_append), unfolding(crate::specs::Patterns::bound_first))]
-    fn contains(self, kind: SyntaxKind) -> bool {
-        LiteralPatFirst.contains(kind) || PathFirst.contains(kind)
-    }
-}
-
-/// What other patterns without `|` in front begin with.
-#[derive(Clone, Copy)]
-struct PatMarks;
-
-impl TokenSet for PatMarks {
-    ghost kinds = { λ _. form.pat_marks };
-
-    #[tactic(auto, unfolding(crate::specs::Patterns::pat_marks))]
-    fn contains(self, kind: SyntaxKind) -> bool {
-        matches!(
-            kind,
-            AMP | AMP2 | DOT2 | DOT2EQ | UNDERSCORE | L_PAREN | L_BRACK | REF_KW | MUT_KW
-        )
-    }
-}
-
-/// What a pattern without `|` in front begins with.
-#[derive(Clone, Copy)]
-pub struct SinglePatFirst;
-
-impl TokenSet for SinglePatFirst {
-    ghost kinds = { λ _. form.single_pat_first };
-
-    #[tactic(auto, using(ssr_syntax_forms::proofs::Shared::mem_append), unfolding(crate::specs::Patterns::single_pat_first))]
-    fn contains(self, kind: SyntaxKind) -> bool {
-        BoundFirst.contains(kind) || PatMarks.contains(kind)
-    }
-}
-
-/// What a pattern begins with.
-#[derive(Clone, Copy)]
-pub struct PatFirst;
-
-impl TokenSet for PatFirst {
-    ghost kinds = { λ _. form.pat_first };
-
-    #[tactic(auto, unfolding(crate::specs::Patterns::pat_first))]
-    fn contains(self, kind: SyntaxKind) -> bool {
-        matches!(kind, PIPE) || SinglePatFirst.contains(kind)
-    }
-}
+use ssr_syntax_types::goals::{Goal, PatPlace, PathPlace};
+use ssr_syntax_types::literals::literal;
+use ssr_syntax_types::paths::{name, name_ref, number_ref, path};
+use ssr_syntax_types::pattern_sets::{BoundFirst, LiteralPatFirst, PatFirst, Ranges};
+use ssr_syntax_types::reader::Reader;
+use ssr_syntax_types::types::Ampersands;
 
 /// What an IDENT_PAT begins with.
 #[derive(Clone, Copy)]

@@ -1,6 +1,6 @@
 use Rattle.std.proofs.Common.{rules}
-use Rattle.ssr_syntax_types.specs.Patterns.{pat}
-use Rattle.ssr_syntax_types.proofs.patterns.pat.Goals as goal
+use Rattle.ssr_syntax_patterns.specs.Patterns.{pat}
+use Rattle.ssr_syntax_patterns.proofs.patterns.pat.Goals as goal
 
 pub returns-in-TopLevel : goal.returns-in-TopLevel
 unfolding pat

@@ -1,0 +1,3 @@
+pub mod Params
+pub mod Adts
+pub mod Uses

@@ -1,0 +1,4 @@
+//! The functions that read patterns.
+#![tactic(auto)]
+
+pub mod patterns;
