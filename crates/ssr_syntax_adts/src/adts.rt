@@ -155,11 +155,7 @@ fn struct_rest<R: Reader>(goals: &R, p: &mut Parser<'_>, m: &Mark<'_>) -> Result
 
 /// STRUCT: `struct`, a NAME, parameters, and fields or none.
 #[tactic(auto, unfolding(crate::specs::Adts::struct_item))]
-pub fn struct_item<R: Reader>(
-    goals: &R,
-    p: &mut Parser<'_>,
-    m: &Mark<'_>,
-) -> Result<(), Fault>
+pub fn struct_item<R: Reader>(goals: &R, p: &mut Parser<'_>, m: &Mark<'_>) -> Result<(), Fault>
     requires { R.can_read goals.now }
     ensures { RunsFrom (R.reads goals.now) form.struct_item m.now p.old p.new result }
 {

@@ -200,11 +200,7 @@ pub fn generic_param_list<R: Reader>(goals: &R, p: &mut Parser<'_>) -> Result<()
 
 /// A GENERIC_PARAM_LIST, or nothing.
 #[tactic(auto, unfolding(crate::specs::Params::generic_params))]
-pub fn generic_params<R: Reader>(
-    goals: &R,
-    p: &mut Parser<'_>,
-    m: &Mark<'_>,
-) -> Result<(), Fault>
+pub fn generic_params<R: Reader>(goals: &R, p: &mut Parser<'_>, m: &Mark<'_>) -> Result<(), Fault>
     requires { R.can_read goals.now }
     ensures { RunsFrom (R.reads goals.now) form.generic_params m.now p.old p.new result }
 {
