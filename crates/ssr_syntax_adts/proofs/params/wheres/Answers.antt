@@ -1,0 +1,7 @@
+use Rattle.std.proofs.Common.{rules}
+use Rattle.ssr_syntax_adts.specs.Params.{wheres}
+use Rattle.ssr_syntax_adts.proofs.params.wheres.Goals as goal
+
+pub returns-then-at : goal.returns-then-at
+unfolding wheres
+returns-then-at g c = search rules
