@@ -1,0 +1,8 @@
+use Rattle.std.proofs.Common.{rules}
+use Rattle.ssr_syntax_forms.proofs.parser.Parser.refuse_at.Goals as goal
+
+pub returns-then-at_any : goal.returns-then-at_any
+returns-then-at_any g c = search rules
+
+pub returns-else-at_any : goal.returns-else-at_any
+returns-else-at_any g c = search rules

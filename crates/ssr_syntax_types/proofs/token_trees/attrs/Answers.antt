@@ -1,0 +1,7 @@
+use Rattle.std.proofs.Common.{rules}
+use Rattle.ssr_syntax_types.specs.TokenTrees.{attrs}
+use Rattle.ssr_syntax_types.proofs.token_trees.attrs.Goals as goal
+
+pub returns : goal.returns
+unfolding attrs
+returns g c = search rules
