@@ -11,12 +11,13 @@ use Rattle.ide_ssr_rules.proofs.Shared.{tells_first, after_ok}
 use Rattle.ide_ssr_resolving.specs.declared.qualified_calls.QualifiedCall.{QualifiedCall}
 use Rattle.ide_ssr_resolving.specs.declared.used.UsedPath.{UsedPath}
 use Rattle.ide_ssr_resolving.specs.QualifiedCalls.{qualified_calls_of}
+use Rattle.ide_ssr_resolving.specs.Eligible.{eligible_paths_of}
 use Rattle.ide_ssr_resolving.specs.Mixing.{check_unmixed}
 use Rattle.ide_ssr_resolving.specs.Resolved.{ResolvedKind, check_template, paths_in, paths_in_template, resolved_kind, resolved_kinds}
 
--- a kind with its names, what they ask, the used paths of its template and its pattern, and its qualified calls
-abbrev pub kind_with : ParsedRule → List (List ℕ) → List (List Constraint) → List UsedPath → List UsedPath → List QualifiedCall → ResolvedKind
-kind_with kind kept asks in_template in_pattern calls = record {
+-- a kind with its names, what they ask, the used paths of its template and its pattern, its qualified calls and its eligible paths
+abbrev pub kind_with : ParsedRule → List (List ℕ) → List (List Constraint) → List UsedPath → List UsedPath → List QualifiedCall → List UsedPath → ResolvedKind
+kind_with kind kept asks in_template in_pattern calls eligible = record {
   names = kept;
   constraints = asks;
   category = kind.category;
@@ -25,11 +26,18 @@ kind_with kind kept asks in_template in_pattern calls = record {
   pattern_paths = in_pattern;
   template_paths = in_template;
   qualified_calls = calls;
+  eligible_paths = eligible;
 }
 
 module _ (m : Meanings) (scope : ScopeId) (names : List (List ℕ)) (asked : List (List Constraint)) (kind : ParsedRule) where
+  -- what it resolves to with these used paths
+  abbrev pub made : List UsedPath → List UsedPath → ResolvedKind
+  made in_template in_pattern =
+      kind_with kind names asked in_template in_pattern (qualified_calls_of m scope kind.pattern in_pattern)
+      (eligible_paths_of m kind.pattern (qualified_calls_of m scope kind.pattern in_pattern) in_pattern)
+
   abbrev whole : List UsedPath → List UsedPath → Unit {0} → Result ResolvedKind Refusal
-  whole in_template in_pattern _ = Ok (kind_with kind names asked in_template in_pattern (qualified_calls_of m scope kind.pattern in_pattern))
+  whole in_template in_pattern _ = Ok (made in_template in_pattern)
 
   abbrev after_unmixed : List UsedPath → List UsedPath → Unit {0} → Result ResolvedKind Refusal
   after_unmixed in_template in_pattern _ = check_unmixed kind.pattern >>= whole in_template in_pattern
@@ -76,19 +84,22 @@ module _ (m : Meanings) (scope : ScopeId) (names : List (List ℕ)) (asked : Lis
       (after_ok (λ r. TellsOf error r) (check_template check_unmixed kind.template) (after_unmixed in_template in_pattern) tt plain
       (tells_first (check_unmixed kind.pattern) (whole in_template in_pattern) error tells))
 
-  pub kind_resolved : (kept : List (List ℕ)) (asks : List (List Constraint)) (in_template in_pattern : List UsedPath) (calls : List QualifiedCall)
+  pub kind_resolved : (kept : List (List ℕ)) (asks : List (List Constraint)) (in_template in_pattern : List UsedPath) (calls : List QualifiedCall) (eligible : List UsedPath)
       → paths_in_template m scope names kind.template ≡ Ok in_template → paths_in m scope names kind.pattern ≡ Ok in_pattern
       → check_template check_unmixed kind.template ≡ Ok tt → check_unmixed kind.pattern ≡ Ok tt → kept ≡ names → asks ≡ asked
-      → calls ≡ qualified_calls_of m scope kind.pattern in_pattern
-      → resolved_kind m scope names asked kind ≡ Ok (kind_with kind kept asks in_template in_pattern calls)
-  kind_resolved kept asks in_template in_pattern calls template pattern plain too keeps are called =
-      let IsIt : Result ResolvedKind Refusal → Type 0 = λ r. r ≡ Ok (kind_with kind kept asks in_template in_pattern calls) in
+      → calls ≡ qualified_calls_of m scope kind.pattern in_pattern → eligible ≡ eligible_paths_of m kind.pattern calls in_pattern
+      → resolved_kind m scope names asked kind ≡ Ok (kind_with kind kept asks in_template in_pattern calls eligible)
+  kind_resolved kept asks in_template in_pattern calls eligible template pattern plain too keeps are called leads =
+      let IsIt : Result ResolvedKind Refusal → Type 0 = λ r. r ≡ Ok (kind_with kind kept asks in_template in_pattern calls eligible) in
+      let its_calls = qualified_calls_of m scope kind.pattern in_pattern in
+      let leading : List QualifiedCall → List UsedPath = λ cs. eligible_paths_of m kind.pattern cs in_pattern in
       past_paths IsIt in_template in_pattern template pattern
       (after_ok IsIt (check_template check_unmixed kind.template) (after_unmixed in_template in_pattern) tt plain
       (after_ok IsIt (check_unmixed kind.pattern) (whole in_template in_pattern) tt too
-      (ap (λ ns. Ok (kind_with kind ns asked in_template in_pattern (qualified_calls_of m scope kind.pattern in_pattern))) (sym keeps)
-      ∙ ap (λ cs. Ok (kind_with kind kept cs in_template in_pattern (qualified_calls_of m scope kind.pattern in_pattern))) (sym are)
-      ∙ ap (λ cs. Ok (kind_with kind kept asks in_template in_pattern cs)) (sym called))))
+      (ap (λ ns. Ok (kind_with kind ns asked in_template in_pattern its_calls (leading its_calls))) (sym keeps)
+      ∙ ap (λ cs. Ok (kind_with kind kept cs in_template in_pattern its_calls (leading its_calls))) (sym are)
+      ∙ ap (λ cs. Ok (kind_with kind kept asks in_template in_pattern cs (leading cs))) (sym called)
+      ∙ ap (λ ps. Ok (kind_with kind kept asks in_template in_pattern calls ps)) (sym leads))))
 
 -- kinds resolved so far, and what the rest gives
 abbrev pub joined : List ResolvedKind → Result (List ResolvedKind) Refusal → Result (List ResolvedKind) Refusal

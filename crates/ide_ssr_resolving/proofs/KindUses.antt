@@ -13,12 +13,11 @@ use Rattle.ide_ssr_rules.specs.declared.refusals.Refusal.{Refusal}
 use Rattle.ide_ssr_rules.specs.Refusals.{◌>>=◌}
 use Rattle.ide_ssr_rules.proofs.Shared.{went, ok_same}
 use Rattle.ide_ssr_resolving.specs.declared.used.UsedPath.{UsedPath}
-use Rattle.ide_ssr_resolving.specs.QualifiedCalls.{qualified_calls_of}
 use Rattle.ide_ssr_resolving.specs.Mixing.{mixes, check_unmixed}
 use Rattle.ide_ssr_resolving.specs.Patterns.{HasEachOnce}
 use Rattle.ide_ssr_resolving.specs.Resolved.{ResolvedKind, check_template, paths_in, paths_in_template, resolved_kind, resolved_kinds}
 use Rattle.ide_ssr_resolving.proofs.Patterns.{each_once}
-use Rattle.ide_ssr_resolving.proofs.KindByKind.{kind_with}
+use Rattle.ide_ssr_resolving.proofs.KindByKind.{made}
 
 unmixed : (tree : Syntax) → check_unmixed tree ≡ Ok tt → mixes tree ≡ false
 unfolding check_unmixed
@@ -36,15 +35,14 @@ module _ (m : Meanings) (scope : ScopeId) (names : List (List ℕ)) (asked : Lis
   pub record IsResolved (kind : ParsedRule) (found : ResolvedKind) : Type 0 where
     pub in_template : List UsedPath
     pub in_pattern : List UsedPath
-    pub same : kind_with kind names asked in_template in_pattern (qualified_calls_of m scope kind.pattern in_pattern) ≡ found
+    pub same : made m scope names asked kind in_template in_pattern ≡ found
     pub plain : mixes kind.pattern ≡ false
 
   pub resolved_like : (kind : ParsedRule) (found : ResolvedKind) → resolved_kind m scope names asked kind ≡ Ok found → IsResolved kind found
   unfolding resolved_kind
   resolved_like kind found h =
-      let made : List UsedPath → List UsedPath → ResolvedKind = λ t p. kind_with kind names asked t p (qualified_calls_of m scope kind.pattern p) in
       let plain = check_template check_unmixed kind.template in
-      let whole : List UsedPath → List UsedPath → Unit {0} → Result ResolvedKind Refusal = λ t p _. Ok (made t p) in
+      let whole : List UsedPath → List UsedPath → Unit {0} → Result ResolvedKind Refusal = λ t p _. Ok (made m scope names asked kind t p) in
       let unmixed_pattern : List UsedPath → List UsedPath → Unit {0} → Result ResolvedKind Refusal = λ t p _. check_unmixed kind.pattern >>= whole t p in
       let unmixed_template : List UsedPath → List UsedPath → Result ResolvedKind Refusal = λ t p. plain >>= unmixed_pattern t p in
       let first = went (paths_in_template m scope names kind.template) (λ t. paths_in m scope names kind.pattern >>= unmixed_template t) found h in
@@ -54,7 +52,7 @@ module _ (m : Meanings) (scope : ScopeId) (names : List (List ℕ)) (asked : Lis
       record {
         in_template = first.found;
         in_pattern = second.found;
-        same = ok_same (made first.found second.found) found last.next_is;
+        same = ok_same (made m scope names asked kind first.found second.found) found last.next_is;
         plain = unmixed kind.pattern last.first_is;
       }
 

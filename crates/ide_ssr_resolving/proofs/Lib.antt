@@ -6,6 +6,8 @@ mod StandIns
 mod Steps
 mod Walk
 mod QualifiedCalls
+mod Marks
+mod FirstArguments
 mod Nodes
 mod Patterns
 mod KindByKind

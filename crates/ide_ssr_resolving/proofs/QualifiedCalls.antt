@@ -1,21 +1,21 @@
 -- Qualified calls: what their definitions say, one case after the other.
-use Rattle.std.proofs.Common.{◌≡◌, ◌<◌, ℕ, ◌+◌, List, [], ◌∷◌, ◌++◌, length, take, get_or, Option, Some, None, ap, sym, ◌∙◌}
+use Rattle.std.proofs.Common.{◌≡◌, ◌<◌, ℕ, ◌+◌, List, [], ◌∷◌, ◌++◌, length, take, get_or, Option, Some, None, ap, subst, sym, ◌∙◌, append-nil}
 use Rattle.std.proofs.lemmas.List.{take_more}
-use Rattle.std.proofs.lemmas.List.Elements.{filter_map-append}
-use Rattle.std.specs.List.{filter_map, cons_option}
-use Rattle.std.specs.Option.{option_map, option_and_then}
+use Rattle.std.proofs.lemmas.List.Elements.{All-append, All-cons, All-nil, filter_map-append}
+use Rattle.std.specs.List.{cons_option}
+use Rattle.std.specs.Option.{option_map, option_and_then, IfSome}
 use Rattle.ssr_base.specs.declared.ids.DefId.{DefId}
 use Rattle.ssr_base.specs.declared.ids.ScopeId.{ScopeId}
-use Rattle.ssr_base.specs.declared.ids.TypeId.{TypeId}
 use Rattle.ssr_base.specs.declared.semantics.Res.{Res}
 use Rattle.ssr_base.specs.Meanings.{Meanings}
 use Rattle.ssr_syntax_kinds.specs.declared.kinds.SyntaxKind.TheVariants as k
+use Rattle.ssr_syntax_tree.specs.Places.{HasNode}
 use Rattle.ssr_syntax_tree.specs.Syntax.{Forest, Syntax}
 use Rattle.ide_ssr_resolving.specs.declared.qualified_calls.QualifiedCall.{QualifiedCall}
 use Rattle.ide_ssr_resolving.specs.declared.used.UsedPath.{UsedPath}
 use Rattle.ide_ssr_resolving.specs.Paths.{qualifier}
 use Rattle.ide_ssr_resolving.specs.Resolving.{adt_of, resolution}
-use Rattle.ide_ssr_resolving.specs.QualifiedCalls.{first_in, called_by, method_of, qualifier_type, call_of, qualified_call, qualified_calls_of}
+use Rattle.ide_ssr_resolving.specs.QualifiedCalls.{first_in, called_by, method_of, qualifier_type, call_of, qualified_call, qualified_calls_of, HasCalls}
 
 pub callee_called : (s : Syntax) (path : ℕ) (callee call : Option ℕ) → callee ≡ first_in s k.PATH_EXPR path
     → call ≡ option_and_then (first_in s k.CALL_EXPR) callee → call ≡ called_by s path
@@ -50,3 +50,10 @@ module _ (m : Meanings) (scope : ScopeId) where
       ∙ ap (λ c. qualified_calls_of m scope s (take i paths) ++ cons_option c []) is
       ∙ sym (filter_map-append (qualified_call m scope s) (take i paths) (get_or paths i d ∷ []))
       ∙ ap (qualified_calls_of m scope s) (sym (take_more paths i d low))
+
+pub has_next : (s : Syntax) (calls new : List QualifiedCall) (call : Option QualifiedCall) → HasCalls s calls → IfSome call (λ call. HasNode s call.node.0)
+    → new ≡ calls ++ cons_option call [] → HasCalls s new
+has_next s calls new None had has more = subst (HasCalls s) (sym (more ∙ append-nil calls)) had
+has_next s calls new (Some call) had has more =
+    let HasIt : QualifiedCall → Type 0 = λ call. HasNode s call.node.0 in
+    subst (HasCalls s) (sym more) (All-append HasIt calls (call ∷ []) had (All-cons HasIt call [] has (All-nil HasIt)))

@@ -3,6 +3,7 @@ pub mod Keys
 pub mod Resolving
 pub mod Used
 pub mod QualifiedCalls
+pub mod Eligible
 pub mod Placeholders
 pub mod Mixing
 pub mod Resolved

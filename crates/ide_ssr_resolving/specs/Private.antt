@@ -3,3 +3,4 @@ pub mod Parts
 pub mod Pieces
 pub mod Steps
 pub mod Placeholders
+pub mod Marks

@@ -23,12 +23,13 @@ use Rattle.ide_ssr_resolving.specs.declared.used.UsedPath.{UsedPath}
 use Rattle.ide_ssr_resolving.specs.contracts.qualified_calls.QualifiedCall as call
 use Rattle.ide_ssr_resolving.specs.declared.qualified_calls.QualifiedCall.{QualifiedCall}
 use Rattle.ide_ssr_resolving.specs.QualifiedCalls.{qualified_calls_of}
+use Rattle.ide_ssr_resolving.specs.Eligible.{eligible_paths_of}
 use Rattle.ide_ssr_resolving.specs.Mixing.{check_unmixed}
 use Rattle.ide_ssr_resolving.specs.Used.{used_paths}
 
 -- One kind of a rule that resolves; that of a search pattern has no template. The category is what the template was read
 -- as, or the pattern, where there is none. With each tree goes which of its paths are used, in order, and with
--- the pattern its qualified calls.
+-- the pattern its qualified calls, and which of its used paths are eligible.
 pub record ResolvedKind : Type 0 where
   pub names : List (List ℕ)
   pub constraints : List (List Constraint)
@@ -38,6 +39,7 @@ pub record ResolvedKind : Type 0 where
   pub pattern_paths : List UsedPath
   pub template_paths : List UsedPath
   pub qualified_calls : List QualifiedCall
+  pub eligible_paths : List UsedPath
 
 -- whether a node of a kind meets all constraints of the placeholder with this place among the names
 unfoldable pub meets : ResolvedKind → ℕ → SyntaxKind → Bool
@@ -78,6 +80,7 @@ module _ (m : Meanings) (scope : ScopeId) (names : List (List ℕ)) (constraints
       pattern_paths = in_pattern;
       template_paths = in_template;
       qualified_calls = qualified_calls_of m scope kind.pattern in_pattern;
+      eligible_paths = eligible_paths_of m kind.pattern (qualified_calls_of m scope kind.pattern in_pattern) in_pattern;
     })
 
   -- kinds are resolved in their order
@@ -91,13 +94,14 @@ module _ (m : Meanings) (scope : ScopeId) (names : List (List ℕ)) (constraints
 -- how the logic stores a resolved kind
 abbrev pub resolved_code : Coded ResolvedKind
 resolved_code =
-    code_by (List (List ℕ) × (List (List Constraint) × (Fragment × (Syntax × (Option Syntax × (List UsedPath × (List UsedPath × List QualifiedCall)))))))
+    code_by (List (List ℕ) × (List (List Constraint) × (Fragment × (Syntax × (Option Syntax × (List UsedPath × (List UsedPath × (List QualifiedCall × List UsedPath))))))))
     (coded× (coded_list (coded_list coded_ℕ))
     (coded× (coded_list (coded_list constraint.the_row.coded))
     (coded× fragment.the_row.coded
     (coded× syntax_code (coded× (coded_option syntax_code) (coded× (coded_list path.the_row.coded)
-    (coded× (coded_list path.the_row.coded) (coded_list call.the_row.coded))))))))
-    (λ kind. (kind.names, (kind.constraints, (kind.category, (kind.pattern, (kind.template, (kind.pattern_paths, (kind.template_paths, kind.qualified_calls))))))))
+    (coded× (coded_list path.the_row.coded)
+    (coded× (coded_list call.the_row.coded) (coded_list path.the_row.coded)))))))))
+    (λ kind. (kind.names, (kind.constraints, (kind.category, (kind.pattern, (kind.template, (kind.pattern_paths, (kind.template_paths, (kind.qualified_calls, kind.eligible_paths)))))))))
     (λ p. record {
       names = p.0;
       constraints = p.1.0;
@@ -106,5 +110,6 @@ resolved_code =
       template = p.1.1.1.1.0;
       pattern_paths = p.1.1.1.1.1.0;
       template_paths = p.1.1.1.1.1.1.0;
-      qualified_calls = p.1.1.1.1.1.1.1;
+      qualified_calls = p.1.1.1.1.1.1.1.0;
+      eligible_paths = p.1.1.1.1.1.1.1.1;
     }) (λ _. refl)

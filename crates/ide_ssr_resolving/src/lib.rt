@@ -1,6 +1,7 @@
 //! Rules that resolve: what their paths stand for, as a provider tells it, and where their placeholders stand.
 #![tactic(auto)]
 
+mod eligible;
 mod keys;
 mod mixing;
 mod paths;

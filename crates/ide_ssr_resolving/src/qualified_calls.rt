@@ -2,7 +2,7 @@
 ghost use Rattle.std.specs.Prelude.{◌≡◌, IfOk, IfSome};
 ghost use Rattle.std.specs.Option.{option_map};
 ghost use Rattle.ssr_syntax_tree.specs.Places.{HasNode, node_of};
-ghost use Rattle.ide_ssr_resolving.specs.QualifiedCalls.{first_in, called_by, is_method, method_of, qualifier_type, qualified_call, qualified_calls_of};
+ghost use Rattle.ide_ssr_resolving.specs.QualifiedCalls.{first_in, called_by, is_method, method_of, qualifier_type, qualified_call, qualified_calls_of, HasCalls};
 ghost use Rattle.ide_ssr_resolving.specs.Used.{HasPaths};
 
 use crate::paths::qualifier;
@@ -22,7 +22,7 @@ pub struct QualifiedCall {
 }
 
 /// The node of this kind in which a node is the first one.
-fn first_in(tree: &Tree, kind: SyntaxKind, node: NodeNo) -> Option<NodeNo>
+pub(crate) fn first_in(tree: &Tree, kind: SyntaxKind, node: NodeNo) -> Option<NodeNo>
     requires { HasNode tree.now node.0 }
     ensures first { option_map (λ parent. parent.0) result ≡ first_in tree.now kind node.0 }
     ensures has { IfSome result (λ parent. HasNode tree.now parent.0) }
@@ -98,7 +98,8 @@ fn qualified_call<S: Semantics>(
     path: UsedPath,
 ) -> Result<Option<QualifiedCall>, AllocError>
     requires { HasNode tree.now path.node.0 }
-    ensures { IfOk result (λ call. call ≡ qualified_call (S.meanings semantics.now) scope tree.now path) }
+    ensures call { IfOk result (λ call. call ≡ qualified_call (S.meanings semantics.now) scope tree.now path) }
+    ensures has { IfOk result (λ call. IfSome call (λ call. HasNode tree.now call.node.0)) }
 {
     let Some(function) = method_of(semantics, path.res) else {
         return Ok(None);
@@ -123,7 +124,8 @@ pub(crate) fn qualified_calls<S: Semantics>(
     paths: &[UsedPath],
 ) -> Result<Vec<QualifiedCall>, AllocError>
     requires { HasPaths tree.now paths.now }
-    ensures { IfOk result (λ v. v.items ≡ qualified_calls_of (S.meanings semantics.now) scope tree.now paths.now) }
+    ensures calls { IfOk result (λ v. v.items ≡ qualified_calls_of (S.meanings semantics.now) scope tree.now paths.now) }
+    ensures has { IfOk result (λ v. HasCalls tree.now v.items) }
 {
     let mut calls = Vec::new(alloc);
     for path in paths {

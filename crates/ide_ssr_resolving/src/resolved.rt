@@ -8,13 +8,15 @@ ghost use Rattle.ide_ssr_rules.specs.StandIns.{name_at};
 ghost use Rattle.ide_ssr_resolving.specs.Mixing.{check_unmixed};
 ghost use Rattle.ide_ssr_resolving.specs.Patterns.{HasEachOnce};
 ghost use Rattle.ide_ssr_resolving.specs.Placeholders.{placeholder_at};
+ghost use Rattle.ide_ssr_resolving.specs.QualifiedCalls.{HasCalls};
 ghost use Rattle.ide_ssr_resolving.specs.Resolved.{check_template, meets, paths_in, paths_in_template, resolved_kind, resolved_kinds};
 ghost use Rattle.ide_ssr_resolving.specs.Used.{HasPaths, res_at};
 
+use crate::eligible::eligible_paths;
 use crate::mixing::check_unmixed;
 use crate::placeholders::{name_at, placeholder_at, placeholders};
 use crate::qualified_calls::{QualifiedCall, qualified_calls};
-use crate::used::{Unresolved, UsedPath, res_at, used_paths};
+use crate::used::{Unresolved, UsedPath, res_by_node, used_paths};
 use ide_ssr_rules::{
     ConstraintSet, ParsedKinds, ParsedRule, Refusal, SsrError, SsrPattern, SsrRule, Text,
     pattern_kinds, rule_kinds,
@@ -37,14 +39,18 @@ pub struct ResolvedRule {
     in_pattern: Vec<Option<u32>>,
     pattern_paths: Vec<UsedPath>,
     template_paths: Vec<UsedPath>,
+    res_by_node: Vec<Option<Res>>,
     qualified_calls: Vec<QualifiedCall>,
+    eligible_paths: Vec<UsedPath>,
 }
 
 impl Model for ResolvedRule {
     ghost use Rattle.std.specs.Prelude.{◌≡◌, ◌<◌, ◌^◌, length, map, string_bytes};
     ghost use Rattle.std.specs.Option.{IfSome};
     ghost use Rattle.ide_ssr_resolving.specs.Resolved.{ResolvedKind, resolved_code};
+    ghost use Rattle.ide_ssr_resolving.specs.Private.Marks.{TellsRes};
     ghost use Rattle.ide_ssr_resolving.specs.Private.Placeholders.{placeholders};
+    ghost use Rattle.ide_ssr_resolving.specs.QualifiedCalls.{HasCalls};
     ghost use Rattle.ide_ssr_resolving.specs.Used.{HasPaths};
 
     ghost Value = { ResolvedKind };
@@ -60,13 +66,17 @@ impl Model for ResolvedRule {
       pattern_paths = rule.pattern_paths.items;
       template_paths = rule.template_paths.items;
       qualified_calls = rule.qualified_calls.items;
+      eligible_paths = rule.eligible_paths.items;
     } };
 
     ghost invariant = { λ rule. record {
       in_pattern : rule.in_pattern.items ≡ placeholders (map string_bytes rule.names.items) rule.pattern;
       few : length rule.names.items < 2 ^ 32;
       has_pattern : HasPaths rule.pattern rule.pattern_paths.items;
+      res_by_node : TellsRes rule.pattern_paths.items rule.res_by_node.items;
       has_template : IfSome rule.template (λ template. HasPaths template rule.template_paths.items);
+      has_calls : HasCalls rule.pattern rule.qualified_calls.items;
+      has_eligible : HasPaths rule.pattern rule.eligible_paths.items;
     } };
 }
 
@@ -141,7 +151,10 @@ impl ResolvedRule {
     pub fn pattern_res(&self, node: NodeNo) -> Option<Res>
         ensures { result ≡ res_at self.now.pattern_paths node }
     {
-        res_at(self.pattern_paths.as_slice(), node)
+        match self.res_by_node.get(node.0 as usize) {
+            Some(res) => *res,
+            None => None,
+        }
     }
 
     /// The paths of the template that are used, likewise.
@@ -154,9 +167,19 @@ impl ResolvedRule {
 
     /// The calls of the pattern whose callee names an associated function that takes `self`, in order.
     pub fn qualified_calls(&self) -> &[QualifiedCall]
-        ensures { result.now ≡ self.now.qualified_calls }
+        ensures calls { result.now ≡ self.now.qualified_calls }
+        ensures has { HasCalls self.now.pattern self.now.qualified_calls }
     {
         self.qualified_calls.as_slice()
+    }
+
+    /// Those of the pattern's used paths whose usages can lead to its matches, in order: they are no builtin types, and stand
+    /// in no first argument of a qualified call.
+    pub fn eligible_paths(&self) -> &[UsedPath]
+        ensures paths { result.now ≡ self.now.eligible_paths }
+        ensures has { HasPaths self.now.pattern self.now.eligible_paths }
+    {
+        self.eligible_paths.as_slice()
     }
 }
 
@@ -243,6 +266,14 @@ fn resolved_kind<S: Semantics>(
         &pattern,
         pattern_paths.as_slice(),
     )?;
+    let eligible_paths = eligible_paths(
+        alloc,
+        semantics,
+        &pattern,
+        qualified_calls.as_slice(),
+        pattern_paths.as_slice(),
+    )?;
+    let res_by_node = res_by_node(alloc, &pattern, pattern_paths.as_slice())?;
     let in_pattern = placeholders(alloc, names, &pattern)?;
     let names = copied(alloc, names)?;
     let constraints = copied_constraints(alloc, constraints)?;
@@ -255,7 +286,9 @@ fn resolved_kind<S: Semantics>(
         in_pattern,
         pattern_paths,
         template_paths,
+        res_by_node,
         qualified_calls,
+        eligible_paths,
     })
 }
 

@@ -3,7 +3,8 @@ ghost use Rattle.std.specs.Prelude.{◌≡◌, All, IfErr, IfOk, map, string_byt
 ghost use Rattle.std.specs.List.{list_any};
 ghost use Rattle.ssr_syntax_tree.specs.Places.{HasNode, node_of};
 ghost use Rattle.ide_ssr_resolving.specs.Paths.{qualifying};
-ghost use Rattle.ide_ssr_resolving.specs.Used.{ends_in_self, has_generics, is_whole, is_usable_def, is_usable, used_paths, res_at, Answers, HasPaths, HasRefused};
+ghost use Rattle.ide_ssr_resolving.specs.Used.{ends_in_self, has_generics, is_whole, is_usable_def, is_usable, used_paths, Answers, HasPaths, HasRefused};
+ghost use Rattle.ide_ssr_resolving.specs.Private.Marks.{TellsRes};
 ghost use Rattle.ide_ssr_resolving.specs.Private.Steps.{path_step, step_of};
 
 use crate::keys::pieces_of;
@@ -213,14 +214,21 @@ pub fn used_paths<S: Semantics>(
     Ok(used)
 }
 
-/// What a node stands for, if it is one of the used paths.
-pub(crate) fn res_at(paths: &[UsedPath], node: NodeNo) -> Option<Res>
-    ensures { result ≡ res_at paths.now node }
+/// For each node of a tree what it stands for, if it is one of the used paths.
+pub(crate) fn res_by_node(
+    alloc: Global,
+    tree: &Tree,
+    paths: &[UsedPath],
+) -> Result<Vec<Option<Res>>, AllocError>
+    requires { HasPaths tree.now paths.now }
+    ensures { IfOk result (λ table. TellsRes paths.now table.items) }
 {
+    let mut table = vec![in alloc; None; tree.node_count() as usize]?;
     for path in paths {
-        if path.node.0 == node.0 {
-            return Some(path.res);
+        let place = path.node.0 as usize;
+        if table[place].is_none() {
+            table[place] = Some(path.res);
         }
     }
-    None
+    Ok(table)
 }

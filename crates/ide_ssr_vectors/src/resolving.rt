@@ -116,12 +116,12 @@ fn a_refused_rule_leaves_the_others(rt: HostRuntime) -> Result<(), Fail> {
 }
 
 /// Definitions: a function; a struct of type 9 with a function that takes `self` and one that doesn't; a trait with a
-/// function that takes `self`; a module with a function.
+/// function that takes `self`; a module with a function; a builtin type.
 const CALLED: &str = r#"{"files":[{"name":"a.rs","text":"fn f() {}"}],"scopes":[[0,0,9]],
 "defs":[{"kind":"function"},{"kind":"adt","type":9},{"kind":"function","assoc":true,"self":true},{"kind":"function","assoc":true},
-{"kind":"trait"},{"kind":"function","assoc":true,"self":true},{"kind":"module"},{"kind":"function"}],
+{"kind":"trait"},{"kind":"function","assoc":true,"self":true},{"kind":"module"},{"kind":"function"},{"kind":"builtin"}],
 "names":[[0,["foo"],["def",0]],[0,["S"],["def",1]],[0,["T"],["def",4]],[0,["T","m"],["def",5]],[0,["m"],["def",6]],[0,["m","f"],["def",7]],
-[0,["get"],["def",2]],[0,["x"],["local",0]]],
+[0,["get"],["def",2]],[0,["u8"],["def",8]],[0,["x"],["local",0]]],
 "members":[[0,1,"get",2],[0,1,"new",3]]}"#;
 
 /// Qualified calls of a pattern, each with its function and the type of its qualifier.
@@ -173,6 +173,37 @@ x.get(1) ==>> 1 -> nothing"
         };
         let calls = calls_listed(alloc, kind.pattern(), kind.qualified_calls())?;
         assert_eq!(rt; calls.as_str(), want, "{rule}");
+    }
+    Ok(())
+}
+
+#[test]
+fn a_resolved_rule_tells_its_eligible_paths(rt: HostRuntime) -> Result<(), Fail> {
+    let alloc = rt.alloc();
+    let facts = read(alloc, CALLED.as_bytes())?;
+    for line in "\
+S::get(foo($a)) ==>> 1 -> S::get def 2
+S::get(foo(x), m::f(1)) ==>> 1 -> S::get def 2, m::f def 7
+S::get(1, foo(x)) ==>> 1 -> S::get def 2, foo def 0, x local 0
+S::get(S::get(foo), x) ==>> 1 -> S::get def 2, x local 0
+S::get(foo(1, x).m(x), x) ==>> 1 -> S::get def 2, x local 0
+foo(S::get(x)) ==>> 1 -> foo def 0, S::get def 2
+S::get(x)(foo) ==>> 1 -> S::get def 2, foo def 0
+m::f(foo, x) ==>> 1 -> m::f def 7, foo def 0, x local 0
+x.get(foo) ==>> 1 -> x local 0, foo def 0
+foo(u8, u8::$a) ==>> 1 -> foo def 0
+$a(1) ==>> 1 -> nothing"
+        .lines()
+    {
+        let Some((rule, want)) = line.split_once(" -> ") else {
+            return Err(Fail::new("a line without an arrow"));
+        };
+        let kinds = resolved(alloc, &facts.semantics, rule)?;
+        let Some(kind) = kinds.first() else {
+            return Err(Fail::new("no kinds"));
+        };
+        let paths = listed(alloc, kind.pattern(), kind.eligible_paths())?;
+        assert_eq!(rt; paths.as_str(), want, "{rule}");
     }
     Ok(())
 }

@@ -1,4 +1,8 @@
-use Rattle.std.proofs.Common.{map, string_bytes}
+use Rattle.std.proofs.Common.{List, ℕ, length, ap, sym, ◌∙◌, arith}
+use Rattle.std.proofs.lemmas.List.{length-map}
+use Rattle.std.specs.declared.alloc.Global.{Global}
+use Rattle.std.specs.declared.string.String.{String}
+use Rattle.ide_ssr_resolving.specs.Private.Placeholders.{placeholders}
 use Rattle.std.proofs.lemmas.Result.{err_from_is_err_and}
 use Rattle.ide_ssr_resolving.proofs.KindByKind.{template_unresolved, pattern_unresolved, template_mixes, pattern_mixes, kind_resolved}
 use Rattle.ide_ssr_resolving.proofs.resolved.resolved_kind.Goals as goal
@@ -36,6 +40,18 @@ pub returns : goal.returns
 returns g c =
     let template = rw c.as_ref.ensures.value at c.in_ok-template_paths.ensures.paths in
     let plain = rw c.as_ref-2.ensures.value at c.in_ok-check_template_unmixed.ensures in
-    let called = rw c.as_slice.ensures.value at c.in_ok-qualified_calls.ensures in
-    kind_resolved (g.S.Semantics.meanings c.args.semantics.now) c.args.scope _ _ c.args.kind _ _ _ _ _ template c.in_ok-pattern_paths.ensures.paths plain
-    c.in_ok-check_unmixed.ensures c.in_ok-names.ensures c.in_ok-constraints.ensures called
+    let called = rw c.as_slice.ensures.value at c.in_ok-qualified_calls.ensures.calls in
+    let leads = rw (c.as_slice-2.ensures.value, c.as_slice-3.ensures.value) at c.in_ok-eligible_paths.ensures.paths in
+    kind_resolved (g.S.Semantics.meanings c.args.semantics.now) c.args.scope _ _ c.args.kind _ _ _ _ _ _ template c.in_ok-pattern_paths.ensures.paths plain
+    c.in_ok-check_unmixed.ensures c.in_ok-names.ensures c.in_ok-constraints.ensures called leads
+
+pub invariant_of-result : goal.invariant_of-result
+invariant_of-result g c = record {
+  in_pattern = c.in_ok-in_pattern.ensures ∙ ap (λ names. placeholders names c.args.kind.pattern) (sym c.in_ok-names.ensures);
+  few = (let few = c.requires in omega (arith, few, ap length c.in_ok-names.ensures, length-map {A = String Global} {B = List ℕ}));
+  has_pattern = c.in_ok-pattern_paths.ensures.has;
+  res_by_node = rw c.as_slice-4.ensures.value at c.in_ok-res_by_node.ensures;
+  has_template = rw c.as_ref.ensures.value at c.in_ok-template_paths.ensures.has;
+  has_calls = c.in_ok-qualified_calls.ensures.has;
+  has_eligible = c.in_ok-eligible_paths.ensures.has;
+}
