@@ -1,7 +1,8 @@
 -- Kinds that are resolved use their placeholders once, as those that are read do.
-use Rattle.std.proofs.Common.{◌≡◌, ℕ, Bool, true, false, List, [], ◌∷◌, All, Result, Ok, Err, refl, subst}
+use Rattle.std.proofs.Common.{◌≡◌, ℕ, Bool, true, false, List, [], ◌∷◌, All, Result, Ok, Err, refl, ap, subst}
 use Rattle.std.specs.Prelude.{if◌then◌else◌}
 use Rattle.std.proofs.lemmas.List.Elements.{All-nil, All-cons, All-head, All-tail}
+use Rattle.ssr_syntax_tree.specs.declared.number.NodeNo.{NodeNo}
 use Rattle.ssr_syntax_tree.specs.Syntax.{Syntax}
 use Rattle.ssr_base.specs.declared.ids.ScopeId.{ScopeId}
 use Rattle.ssr_base.specs.Meanings.{Meanings}
@@ -14,8 +15,10 @@ use Rattle.ide_ssr_rules.specs.Refusals.{◌>>=◌}
 use Rattle.ide_ssr_rules.proofs.Shared.{went, ok_same}
 use Rattle.ide_ssr_resolving.specs.declared.used.UsedPath.{UsedPath}
 use Rattle.ide_ssr_resolving.specs.Mixing.{mixes, check_unmixed}
-use Rattle.ide_ssr_resolving.specs.Patterns.{HasEachOnce}
-use Rattle.ide_ssr_resolving.specs.Resolved.{ResolvedKind, check_template, paths_in, paths_in_template, resolved_kind, resolved_kinds}
+use Rattle.ide_ssr_resolving.specs.Patterns.{HasEachOnce, AreInArguments}
+use Rattle.ide_ssr_resolving.specs.Used.{used_paths}
+use Rattle.ide_ssr_resolving.specs.Resolved.{ResolvedKind, or_refusal, check_template, paths_in, paths_in_template, resolved_kind, resolved_kinds}
+use Rattle.ide_ssr_resolving.proofs.InArguments.{are_in_arguments}
 use Rattle.ide_ssr_resolving.proofs.Patterns.{each_once}
 use Rattle.ide_ssr_resolving.proofs.KindByKind.{made}
 
@@ -26,9 +29,15 @@ unmixed tree h = not_mixed (mixes tree) h where
   not_mixed true h = cc
   not_mixed false h = refl
 
--- the pattern has each of its names once, and the template at most once
+-- the pattern has each of its names once, in the arguments of its used paths or outside of them, and the template at most once
 abbrev pub IsUsedOnce : ResolvedKind → Type 0
-IsUsedOnce kind = HasEachOnce kind.names kind.pattern × HasEachAtMostOnce kind.names kind.template
+IsUsedOnce kind =
+    HasEachOnce kind.names kind.pattern × HasEachAtMostOnce kind.names kind.template × AreInArguments kind.names kind.pattern kind.pattern_paths
+
+-- the used paths of a tree that are told
+paths_used : (tree : Syntax) (o : Result (List UsedPath) NodeNo) (paths : List UsedPath) → or_refusal tree o ≡ Ok paths → o ≡ Ok paths
+paths_used tree (Ok found) paths is = ap Ok (ok_same found paths is)
+paths_used tree (Err node) paths is = cc
 
 module _ (m : Meanings) (scope : ScopeId) (names : List (List ℕ)) (asked : List (List Constraint)) where
   -- what a resolved kind is: the kind that is resolved with its used paths, whose pattern doesn't mix
@@ -36,10 +45,11 @@ module _ (m : Meanings) (scope : ScopeId) (names : List (List ℕ)) (asked : Lis
     pub in_template : List UsedPath
     pub in_pattern : List UsedPath
     pub same : made m scope names asked kind in_template in_pattern ≡ found
+    pub told : used_paths m scope names kind.pattern ≡ Ok in_pattern
     pub plain : mixes kind.pattern ≡ false
 
   pub resolved_like : (kind : ParsedRule) (found : ResolvedKind) → resolved_kind m scope names asked kind ≡ Ok found → IsResolved kind found
-  unfolding resolved_kind
+  unfolding resolved_kind paths_in
   resolved_like kind found h =
       let plain = check_template check_unmixed kind.template in
       let whole : List UsedPath → List UsedPath → Unit {0} → Result ResolvedKind Refusal = λ t p _. Ok (made m scope names asked kind t p) in
@@ -53,13 +63,14 @@ module _ (m : Meanings) (scope : ScopeId) (names : List (List ℕ)) (asked : Lis
         in_template = first.found;
         in_pattern = second.found;
         same = ok_same (made m scope names asked kind first.found second.found) found last.next_is;
+        told = paths_used kind.pattern (used_paths m scope names kind.pattern) second.found second.first_is;
         plain = unmixed kind.pattern last.first_is;
       }
 
   used_once : (kind : ParsedRule) (found : ResolvedKind) → resolved_kind m scope names asked kind ≡ Ok found → AreReadOnce names kind → IsUsedOnce found
   used_once kind found h read =
       let is = resolved_like kind found h in
-      subst IsUsedOnce is.same (each_once names kind.pattern read.0 is.plain, read.1)
+      subst IsUsedOnce is.same (each_once names kind.pattern read.0 is.plain, read.1, are_in_arguments m scope names kind.pattern is.in_pattern is.told)
 
   -- what holds of each kind that a kind with some property resolves to holds of all that are resolved
   pub resolved_all : (P : ParsedRule → Type 0) (Q : ResolvedKind → Type 0) (kinds : List ParsedRule) (found : List ResolvedKind)

@@ -10,6 +10,7 @@ mod Marks
 mod FirstArguments
 mod Nodes
 mod Patterns
+mod InArguments
 mod KindByKind
 mod KindUses
 mod Templates

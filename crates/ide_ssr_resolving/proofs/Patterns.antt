@@ -15,7 +15,7 @@ use Rattle.ide_ssr_resolving.specs.Mixing.{mixes}
 use Rattle.ide_ssr_resolving.specs.Patterns.{or_below, placeholders_in, placeholders_of, HasEachOnce}
 use Rattle.ide_ssr_resolving.specs.Placeholders.{only_token}
 
-only_one : (below : Forest) (token : Token) → only_token below ≡ Some token → tokens_in below ≡ token ∷ []
+pub only_one : (below : Forest) (token : Token) → only_token below ≡ Some token → tokens_in below ≡ token ∷ []
 only_one nothing token h = cc
 only_one (leaf t nothing) token h = cc
 only_one (leaf t (leaf u next)) token h = cc

@@ -7,14 +7,13 @@ use Rattle.ssr_base.specs.declared.ids.ScopeId.{ScopeId}
 use Rattle.ssr_base.specs.declared.semantics.Res.{Res}
 use Rattle.ssr_base.specs.Meanings.{Meanings}
 use Rattle.ssr_syntax_tree.specs.Places.{Node}
-use Rattle.ssr_syntax_tree.specs.Syntax.{Token, Forest}
+use Rattle.ssr_syntax_tree.specs.Syntax.{Forest}
 use Rattle.ide_ssr_resolving.specs.declared.used.Step.{Step}
 use Rattle.ide_ssr_resolving.specs.declared.used.Step.TheVariants as steps
 use Rattle.ide_ssr_resolving.specs.Private.Steps.{step_by, path_step, step_of}
-use Rattle.ide_ssr_resolving.specs.Keys.{pieces_of}
 use Rattle.ide_ssr_resolving.specs.Paths.{qualifying}
 use Rattle.ide_ssr_resolving.specs.Resolving.{resolution}
-use Rattle.ide_ssr_resolving.specs.Used.{is_path, ends_in_self, has_generics, names_placeholder, holds_stand_in, is_whole, is_usable, used, use_of, stops, is_unresolved}
+use Rattle.ide_ssr_resolving.specs.Used.{is_path, ends_in_self, has_generics, holds_stand_in, is_whole, is_usable, used, use_of, stops, is_unresolved}
 
 -- a step, and whether its node is used, ends the walk down, and is refused
 abbrev pub Says : Step → Option Res → Bool → Bool → Type 0
@@ -57,10 +56,6 @@ module _ (names : List (List ℕ)) (path : Forest) where
   pub whole_by : (held : Bool) → false ≡ list_any has_generics (qualifying path) → held ≡ holds_stand_in names path → not held ≡ is_whole names path
   whole_by held none is =
       ap not is ∙ ap (λ b. not b && not (holds_stand_in names path)) none
-
-  pub held_in : (found : List (List Token)) (held : Bool) → found ≡ pieces_of path → held ≡ list_any (list_any (names_placeholder names)) found → held ≡ holds_stand_in names path
-  unfolding holds_stand_in
-  held_in found held are is = is ∙ ap (list_any (list_any (names_placeholder names))) are
 
 module _ (m : Meanings) (scope : ScopeId) (names : List (List ℕ)) where
   abbrev at_whole : Bool → Option Res → Step

@@ -1,19 +1,19 @@
 -- The tokens of a tree by their numbers, and what a segment is cut to.
-use Rattle.std.proofs.Common.{◌≡◌, ℕ, suc, ◌+◌, ◌-◌, ◌<◌, ◌≤◌, true, false, List, [], ◌∷◌, ◌++◌, All, length, map, take, drop, refl, sym, ap, ◌∙◌, subst, arith, inl, inr}
+use Rattle.std.proofs.Common.{◌≡◌, ℕ, suc, ◌+◌, ◌-◌, ◌<◌, ◌≤◌, true, false, List, [], ◌∷◌, ◌++◌, All, Bool, Some, append_assoc, length, map, take, drop, None, refl, sym, ap, ◌∙◌, subst, arith, inl, inr}
 use Rattle.std.proofs.lemmas.List.{drop_more, drop-drop, take_at, take-take}
-use Rattle.std.proofs.lemmas.List.Elements.{All-head, All-tail}
-use Rattle.std.proofs.lemmas.Option.{unwrap_or-slice_get}
+use Rattle.std.proofs.lemmas.List.Elements.{All-nil, All-cons, All-head, All-tail}
+use Rattle.std.proofs.lemmas.Option.{none-some, same_Some, unwrap_or-slice_get}
 use Rattle.std.proofs.lemmas.Bool.{cases_Bool, cases_lt, ltb-true}
 use Rattle.std.specs.Prelude.{if◌then◌else◌, nat_lt}
 use Rattle.std.specs.List.{flat_map, join_by}
 use Rattle.ssr_syntax_kinds.specs.declared.kinds.SyntaxKind.TheVariants as k
 use Rattle.ssr_syntax_kinds.specs.Kinds.{same_kind}
-use Rattle.ssr_syntax_tree.specs.Places.{Node, HasNode, HasToken, node_of, token_of, parts_in, parts_of}
+use Rattle.ssr_syntax_tree.specs.Places.{Node, token_part, node_part, HasNode, HasToken, node_of, token_of, parts_in, parts_of}
 use Rattle.ssr_syntax_tree.specs.Syntax.{Token, Forest, nothing, leaf, branch, Syntax, node_count, token_count, tokens_in, tokens_of}
 use Rattle.ssr_syntax_tree.proofs.Lists.{take_between}
 use Rattle.ssr_syntax_tree.proofs.Shared.{IsChild, children_known, length-tokens_in}
 use Rattle.ide_ssr_resolving.specs.Keys.{begins_with_colons, pieces}
-use Rattle.ide_ssr_resolving.specs.Paths.{before_arguments}
+use Rattle.ide_ssr_resolving.specs.Paths.{first_of_kind, before_arguments, without_arguments}
 use Rattle.ide_ssr_resolving.specs.Private.Pieces.{tokens_between}
 use Rattle.ide_ssr_resolving.proofs.Children.{before_tokens, before_fewer}
 
@@ -96,6 +96,131 @@ module _ (s : Syntax) where
       ∙ ap (λ rest. tokens_between s a b ++ take 1 rest) (drop-drop (b - a) a (tokens_of s))
       ∙ ap (λ n. tokens_between s a b ++ take 1 (drop n (tokens_of s))) (let n : a + (b - a) ≡ b = omega arith in n)
       ∙ ap (λ rest. tokens_between s a b ++ take 1 rest) (tokens_left b has)
+
+  between_both : (a b c : ℕ) → a ≤ b → b ≤ c → tokens_between s a c ≡ tokens_between s a b ++ tokens_between s b c
+  between_both a b c le more =
+      let count : c - a ≡ (b - a) + (c - b) = omega arith in
+      let from : a + (b - a) ≡ b = omega arith in
+      ap (λ k. take k (drop a (tokens_of s))) count
+      ∙ take_two (drop a (tokens_of s)) (b - a) (c - b)
+      ∙ ap (λ rest. tokens_between s a b ++ take (c - b) rest) (drop-drop (b - a) a (tokens_of s))
+      ∙ ap (λ n. tokens_between s a b ++ take (c - b) (drop n (tokens_of s))) from
+
+  -- those of siblings
+  between_known : (q p m t past : ℕ) (forest : Forest) → All (IsChild s q) (parts_in p m t forest) → past ≡ t + token_count forest
+      → tokens_between s t past ≡ tokens_in forest
+  between_known q p m t past forest known is =
+      let count : past - t ≡ token_count forest = omega (arith, is) in
+      ap (λ k. take k (drop t (tokens_of s))) count ∙ tokens_known q p m t forest known
+
+  -- ** Around the arguments of a path.
+
+  -- where the first segment among siblings is, which end before the number `to`, and their tokens without those of its arguments
+  pub record IsAround (t to : ℕ) (without : List Token) (last : Node) : Type 0 where
+    pub low : t ≤ last.first
+    pub high : last.first + token_count last.children ≤ to
+    pub tokens : without
+        ≡ tokens_between s t (last.first + token_count (before_arguments last.children)) ++ tokens_between s (last.first + token_count last.children) to
+
+  -- siblings more in front
+  in_front : (t u past from to : ℕ) (front rest : List Token) → t ≤ u → u ≤ past → tokens_between s t u ≡ front
+      → rest ≡ tokens_between s u past ++ tokens_between s from to → front ++ rest ≡ tokens_between s t past ++ tokens_between s from to
+  in_front t u past from to front rest le more front_is rest_is =
+      ap (λ front. front ++ rest) (sym front_is)
+      ∙ ap (λ rest. tokens_between s t u ++ rest) rest_is
+      ∙ sym (append_assoc (tokens_between s t u) (tokens_between s u past) (tokens_between s from to))
+      ∙ ap (λ front. front ++ tokens_between s from to) (sym (between_both t u past le more))
+
+  pub around : (q p m t to : ℕ) (forest : Forest) (last : Node) → All (IsChild s q) (parts_in p m t forest) → to ≡ t + token_count forest
+      → first_of_kind k.PATH_SEGMENT (parts_in p m t forest) ≡ Some last → IsAround t to (tokens_in (without_arguments forest)) last
+  around q p m t to nothing last known to_is is = absurd (none-some last is)
+  around q p m t to (leaf token next) last known to_is is =
+      let behind = parts_in p m (1 + t) next in
+      let on = around q p m (1 + t) to next last (All-tail (IsChild s q) (token_part t token) behind known) (omega (arith, to_is)) is in
+      let low = on.low in
+      let high = on.high in
+      record {
+        low = omega arith;
+        high = high;
+        tokens =
+            in_front t (1 + t) (last.first + token_count (before_arguments last.children)) (last.first + token_count last.children) to
+            (token ∷ []) (tokens_in (without_arguments next)) (omega arith) (omega arith)
+            (between_known q p m t (1 + t) (leaf token nothing)
+            (All-cons (IsChild s q) (token_part t token) [] (All-head (IsChild s q) (token_part t token) behind known) (All-nil (IsChild s q))) (omega arith))
+            on.tokens;
+      }
+  around q p m t to (branch kind inner next) last known to_is is =
+      by (same_kind kind k.PATH_SEGMENT) (λ is. around q p (1 + m + node_count inner) (t + token_count inner) to next last rest (omega (arith, to_is)) is) is
+    where
+      child : IsChild s q (node_part (record { number = m; parent = p; first = t; kind = kind; children = inner }))
+      child = All-head (IsChild s q) _ (parts_in p (1 + m + node_count inner) (t + token_count inner) next) known
+
+      rest : All (IsChild s q) (parts_in p (1 + m + node_count inner) (t + token_count inner) next)
+      rest = All-tail (IsChild s q) _ (parts_in p (1 + m + node_count inner) (t + token_count inner) next) known
+
+      own : All (IsChild s m) (parts_in m (1 + m) t inner)
+      own = subst (λ (node : Node). All (IsChild s m) (parts_of node)) child.1 (children_known s m child.0)
+
+      here : IsAround t to (tokens_in (before_arguments inner) ++ tokens_in next) (record { number = m; parent = p; first = t; kind = kind; children = inner })
+      here = record {
+        low = omega arith;
+        high = omega (arith, to_is);
+        tokens =
+            ap (λ front. front ++ tokens_in next)
+            (sym (subst (λ (node : Node). tokens_between s node.first (node.first + token_count (before_arguments node.children)) ≡ tokens_in (before_arguments node.children))
+            child.1 (name_tokens m ((node_of s m).first + token_count (before_arguments (node_of s m).children)) child.0 refl)))
+            ∙ ap (λ tokens. tokens_between s t (t + token_count (before_arguments inner)) ++ tokens)
+            (sym (between_known q p (1 + m + node_count inner) (t + token_count inner) to next rest (omega (arith, to_is))));
+      }
+
+      further : IsAround (t + token_count inner) to (tokens_in (without_arguments next)) last → IsAround t to (tokens_in inner ++ tokens_in (without_arguments next)) last
+      further on =
+          let low = on.low in
+          record {
+            low = omega arith;
+            high = on.high;
+            tokens =
+                in_front t (t + token_count inner) (last.first + token_count (before_arguments last.children)) (last.first + token_count last.children) to
+                (tokens_in inner) (tokens_in (without_arguments next)) (omega arith) (omega arith)
+                (between_known m m (1 + m) t (t + token_count inner) inner own refl)
+                on.tokens;
+          }
+
+      by : (b : Bool)
+          → (first_of_kind k.PATH_SEGMENT (parts_in p (1 + m + node_count inner) (t + token_count inner) next) ≡ Some last
+            → IsAround (t + token_count inner) to (tokens_in (without_arguments next)) last)
+          → (if b then Some (record { number = m; parent = p; first = t; kind = kind; children = inner })
+            else first_of_kind k.PATH_SEGMENT (parts_in p (1 + m + node_count inner) (t + token_count inner) next)) ≡ Some last
+          → IsAround t to (tokens_in (if b then branch kind (before_arguments inner) next else branch kind inner (without_arguments next))) last
+      by true behind is =
+          subst (IsAround t to (tokens_in (before_arguments inner) ++ tokens_in next))
+          (same_Some (record { number = m; parent = p; first = t; kind = kind; children = inner }) last is) here
+      by false behind is = further (behind is)
+
+  -- where there is no segment
+  without_none : (p m t : ℕ) (forest : Forest) → first_of_kind k.PATH_SEGMENT (parts_in p m t forest) ≡ None → without_arguments forest ≡ forest
+  without_none p m t nothing none = refl
+  without_none p m t (leaf token next) none = ap (λ next. leaf token next) (without_none p m (1 + t) next none)
+  without_none p m t (branch kind inner next) none =
+      by (same_kind kind k.PATH_SEGMENT) (without_none p (1 + m + node_count inner) (t + token_count inner) next) none
+    where
+      by : (b : Bool)
+          → (first_of_kind k.PATH_SEGMENT (parts_in p (1 + m + node_count inner) (t + token_count inner) next) ≡ None → without_arguments next ≡ next)
+          → (if b then Some (record { number = m; parent = p; first = t; kind = kind; children = inner })
+            else first_of_kind k.PATH_SEGMENT (parts_in p (1 + m + node_count inner) (t + token_count inner) next)) ≡ None
+          → (if b then branch kind (before_arguments inner) next else branch kind inner (without_arguments next)) ≡ branch kind inner next
+      by true behind none = absurd (none-some (record { number = m; parent = p; first = t; kind = kind; children = inner }) (sym none))
+      by false behind none = ap (λ next. branch kind inner next) (behind none)
+
+  -- the tokens of a path without those of its arguments
+  pub around_arguments : (n : ℕ) (last : Node) → HasNode s n → first_of_kind k.PATH_SEGMENT (parts_of (node_of s n)) ≡ Some last
+      → IsAround (node_of s n).first ((node_of s n).first + token_count (node_of s n).children) (tokens_in (without_arguments (node_of s n).children)) last
+  around_arguments n last has is =
+      let node = node_of s n in
+      around n node.number (1 + node.number) node.first (node.first + token_count node.children) node.children last (children_known s n has) refl is
+
+  pub no_arguments : (n : ℕ) → first_of_kind k.PATH_SEGMENT (parts_of (node_of s n)) ≡ None → without_arguments (node_of s n).children ≡ (node_of s n).children
+  no_arguments n none = let node = node_of s n in without_none node.number (1 + node.number) node.first node.children none
 
   -- ** `::` in front.
 

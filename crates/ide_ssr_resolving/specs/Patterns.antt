@@ -1,11 +1,14 @@
 -- Which placeholders stand in a tree as its nodes: each once in a pattern.
-use Rattle.std.specs.Prelude.{ℕ, ◌≡◌, List, [], ◌∷◌, ◌++◌, length, Option, Some, None}
+use Rattle.std.specs.Prelude.{ℕ, ◌≡◌, All, List, [], ◌∷◌, ◌++◌, length, Option, Some, None}
 use Rattle.std.specs.List.{range_with_len}
 use Rattle.std.specs.Option.{option_and_then}
+use Rattle.ssr_syntax_tree.specs.Places.{node_of}
 use Rattle.ssr_syntax_tree.specs.Syntax.{Forest, nothing, leaf, branch, Syntax, tokens_of}
 use Rattle.ide_ssr_rules.specs.Patterns.{placeholders_among}
 use Rattle.ide_ssr_rules.specs.StandIns.{name_at}
 use Rattle.ide_ssr_rules.specs.Uses.{AreNew}
+use Rattle.ide_ssr_resolving.specs.declared.used.UsedPath.{UsedPath}
+use Rattle.ide_ssr_resolving.specs.Paths.{path_arguments}
 use Rattle.ide_ssr_resolving.specs.Placeholders.{only_token}
 
 -- a placeholder, or else those below it
@@ -29,3 +32,11 @@ pub record HasEachOnce (names : List (List ℕ)) (pattern : Syntax) : Type 0 whe
   pub each : placeholders_among names (tokens_of pattern) ≡ range_with_len 0 (length names)
   pub nodes : placeholders_of names pattern ≡ range_with_len 0 (length names)
   pub different : AreNew [] names
+
+-- what placeholders a path has stand in its arguments
+abbrev pub HasThemInArguments : List (List ℕ) → Forest → Type 0
+HasThemInArguments names path = placeholders_in names path ≡ placeholders_in names (path_arguments path)
+
+-- so it is with the used paths of a pattern
+abbrev pub AreInArguments : List (List ℕ) → Syntax → List UsedPath → Type 0
+AreInArguments names pattern paths = All (λ path. HasThemInArguments names (node_of pattern path.node.0).children) paths

@@ -6,7 +6,7 @@ use Rattle.ssr_syntax_kinds.specs.declared.kinds.SyntaxKind.TheVariants as k
 use Rattle.ssr_syntax_kinds.specs.Kinds.{same_kind}
 use Rattle.ssr_syntax_tree.specs.declared.number.NodeNo.{NodeNo}
 use Rattle.ssr_syntax_tree.specs.Places.{Node, HasNode, nodes_of, size_of}
-use Rattle.ssr_syntax_tree.specs.Syntax.{Token, Forest, Syntax}
+use Rattle.ssr_syntax_tree.specs.Syntax.{Token, Forest, Syntax, tokens_in}
 use Rattle.ssr_syntax.specs.Identifiers.{is_ident}
 use Rattle.ssr_base.specs.declared.ids.ScopeId.{ScopeId}
 use Rattle.ssr_base.specs.declared.semantics.Res.{Res}
@@ -19,8 +19,7 @@ use Rattle.ide_ssr_rules.specs.StandIns.{is_stand_in}
 use Rattle.ide_ssr_resolving.specs.declared.used.UsedPath.{UsedPath}
 use Rattle.ide_ssr_resolving.specs.declared.used.Unresolved.{Unresolved}
 use Rattle.ide_ssr_resolving.specs.declared.used.Unresolved.TheVariants as errors
-use Rattle.ide_ssr_resolving.specs.Paths.{below_first, qualifying, last_name}
-use Rattle.ide_ssr_resolving.specs.Keys.{pieces_of}
+use Rattle.ide_ssr_resolving.specs.Paths.{below_first, qualifying, last_name, without_arguments}
 use Rattle.ide_ssr_resolving.specs.Resolving.{resolution}
 
 -- ** Which paths have to resolve.
@@ -34,10 +33,10 @@ has_generics segment = is_some (below_first k.GENERIC_ARG_LIST segment)
 abbrev pub names_placeholder : List (List ℕ) → Token → Bool
 names_placeholder names token = is_ident token.kind && is_stand_in names token.text
 
--- whether a stand-in is among the tokens that a path's key is made of. So it stands as the name of a segment, in a type in
--- angle brackets that the path begins with, or in what a segment in front of the last one has in parentheses or returns.
+-- whether a stand-in is among the tokens of a path, but for the arguments of its last segment. So it stands as the name of a
+-- segment, in a type in angle brackets that the path begins with, or in the arguments of a segment in front of the last one.
 unfoldable pub holds_stand_in : List (List ℕ) → Forest → Bool
-holds_stand_in names path = list_any (list_any (names_placeholder names)) (pieces_of path)
+holds_stand_in names path = list_any (names_placeholder names) (tokens_in (without_arguments path))
 
 -- a path that has none of both resolves as a whole
 abbrev pub is_whole : List (List ℕ) → Forest → Bool

@@ -1,10 +1,10 @@
 //! How a path is put together: its qualifier, its segments, the name of the last one.
 ghost use Rattle.std.specs.Prelude.{◌≡◌, ◌+◌, [], ◌∷◌, ◌++◌, All, IfOk, IfSome, OnOk, map};
 ghost use Rattle.std.specs.Option.{option_map};
-ghost use Rattle.ssr_syntax_tree.specs.Places.{HasElement, HasNode, node_of, part_of};
+ghost use Rattle.ssr_syntax_tree.specs.Places.{HasElement, HasNode, node_of, part_of, parts_of};
 ghost use Rattle.ssr_syntax_tree.specs.Syntax.{token_count};
-ghost use Rattle.ide_ssr_resolving.specs.Paths.{below_first, segments, qualifying, last_name, is_arguments, before_arguments};
-ghost use Rattle.ide_ssr_resolving.specs.Private.Parts.{below, first_among, segments_at, start_at};
+ghost use Rattle.ide_ssr_resolving.specs.Paths.{below_first, first_of_kind, last_segment, segments, qualifying, last_name, is_arguments, before_arguments};
+ghost use Rattle.ide_ssr_resolving.specs.Private.Parts.{below, segments_at, start_at};
 
 use ssr_syntax_kinds::SyntaxKind;
 use ssr_syntax_tree::{Element, NodeNo, Tree};
@@ -13,7 +13,7 @@ use std::alloc::{AllocError, Global};
 /// A child that is a node of this kind.
 fn node_of_kind(tree: &Tree, child: Element, kind: SyntaxKind) -> Option<NodeNo>
     requires { HasElement tree.now child }
-    ensures below { option_map (below tree.now) result ≡ first_among kind (part_of tree.now child ∷ []) }
+    ensures node { option_map (λ node. node_of tree.now node.0) result ≡ first_of_kind kind (part_of tree.now child ∷ []) }
     ensures has { IfSome result (λ node. HasNode tree.now node.0) }
 {
     let Element::Node(node) = child else {
@@ -29,6 +29,7 @@ fn node_of_kind(tree: &Tree, child: Element, kind: SyntaxKind) -> Option<NodeNo>
 /// The first child of a node that is a node of this kind.
 pub(crate) fn first_child(tree: &Tree, node: NodeNo, kind: SyntaxKind) -> Option<NodeNo>
     requires { HasNode tree.now node.0 }
+    ensures node { option_map (λ child. node_of tree.now child.0) result ≡ first_of_kind kind (parts_of (node_of tree.now node.0)) }
     ensures below { option_map (below tree.now) result ≡ below_first kind (node_of tree.now node.0).children }
     ensures has { IfSome result (λ child. HasNode tree.now child.0) }
 {
@@ -50,9 +51,10 @@ pub(crate) fn qualifier(tree: &Tree, path: NodeNo) -> Option<NodeNo>
 }
 
 /// The last segment of a path.
-pub(crate) fn last_segment(tree: &Tree, path: NodeNo) -> Option<NodeNo>
+pub fn last_segment(tree: &Tree, path: NodeNo) -> Option<NodeNo>
     requires { HasNode tree.now path.0 }
-    ensures below { option_map (below tree.now) result ≡ below_first SyntaxKind.PATH_SEGMENT (node_of tree.now path.0).children }
+    ensures node { option_map (λ segment. node_of tree.now segment.0) result ≡ first_of_kind SyntaxKind.PATH_SEGMENT (parts_of (node_of tree.now path.0)) }
+    ensures below { option_map (λ segment. (node_of tree.now segment.0).children) result ≡ last_segment (node_of tree.now path.0).children }
     ensures has { IfSome result (λ segment. HasNode tree.now segment.0) }
 {
     first_child(tree, path, SyntaxKind::PATH_SEGMENT)
@@ -125,7 +127,7 @@ pub(crate) fn last_name(tree: &Tree, path: NodeNo) -> Option<&str>
 }
 
 /// Whether a node of this kind holds arguments of a segment, or the return type behind them.
-pub(crate) fn is_arguments(kind: SyntaxKind) -> bool
+pub fn is_arguments(kind: SyntaxKind) -> bool
     ensures { result ≡ is_arguments kind }
 {
     matches!(

@@ -6,7 +6,7 @@ ghost use Rattle.ide_ssr_rules.specs.Patterns.{HasEachAtMostOnce};
 ghost use Rattle.ide_ssr_rules.specs.Refusals.{Answers, AnswersBy};
 ghost use Rattle.ide_ssr_rules.specs.StandIns.{name_at};
 ghost use Rattle.ide_ssr_resolving.specs.Mixing.{check_unmixed};
-ghost use Rattle.ide_ssr_resolving.specs.Patterns.{HasEachOnce};
+ghost use Rattle.ide_ssr_resolving.specs.Patterns.{HasEachOnce, AreInArguments};
 ghost use Rattle.ide_ssr_resolving.specs.Placeholders.{placeholder_at};
 ghost use Rattle.ide_ssr_resolving.specs.QualifiedCalls.{HasCalls};
 ghost use Rattle.ide_ssr_resolving.specs.Resolved.{check_template, meets, paths_in, paths_in_template, resolved_kind, resolved_kinds};
@@ -184,8 +184,8 @@ impl ResolvedRule {
 }
 
 /// The kinds of a rule in their order, with what their paths stand for that are written in the scope; or why it doesn't
-/// resolve: which of its paths doesn't, or that it has token trees. The pattern of each kind has each placeholder once, and
-/// the template at most once.
+/// resolve: which of its paths doesn't, or that it has token trees. The pattern of each kind has each placeholder once, in a
+/// used path only among its arguments, and the template at most once.
 pub fn resolve_rule<S: Semantics>(
     alloc: Global,
     semantics: &S,
@@ -194,6 +194,7 @@ pub fn resolve_rule<S: Semantics>(
 ) -> Result<Vec<ResolvedRule>, SsrError>
     ensures kinds { AnswersBy (λ v. v.items) result (resolved_kinds (S.meanings semantics.now) scope rule.names rule.constraints rule.kinds) }
     ensures each { IfOk result (λ v. All (λ kind. HasEachOnce kind.names kind.pattern) v.items) }
+    ensures in_arguments { IfOk result (λ v. All (λ kind. AreInArguments kind.names kind.pattern kind.pattern_paths) v.items) }
     ensures at_most_once { IfOk result (λ v. All (λ kind. HasEachAtMostOnce kind.names kind.template) v.items) }
 {
     resolve(alloc, semantics, scope, rule_kinds(rule))
@@ -208,6 +209,7 @@ pub fn resolve_pattern<S: Semantics>(
 ) -> Result<Vec<ResolvedRule>, SsrError>
     ensures kinds { AnswersBy (λ v. v.items) result (resolved_kinds (S.meanings semantics.now) scope pattern.names pattern.constraints pattern.kinds) }
     ensures each { IfOk result (λ v. All (λ kind. HasEachOnce kind.names kind.pattern) v.items) }
+    ensures in_arguments { IfOk result (λ v. All (λ kind. AreInArguments kind.names kind.pattern kind.pattern_paths) v.items) }
 {
     resolve(alloc, semantics, scope, pattern_kinds(pattern))
 }
@@ -221,6 +223,7 @@ fn resolve<S: Semantics>(
 ) -> Result<Vec<ResolvedRule>, SsrError>
     ensures kinds { AnswersBy (λ v. v.items) result (resolved_kinds (S.meanings semantics.now) scope parsed.names parsed.constraints parsed.kinds) }
     ensures each { IfOk result (λ v. All (λ kind. HasEachOnce kind.names kind.pattern) v.items) }
+    ensures in_arguments { IfOk result (λ v. All (λ kind. AreInArguments kind.names kind.pattern kind.pattern_paths) v.items) }
     ensures at_most_once { IfOk result (λ v. All (λ kind. HasEachAtMostOnce kind.names kind.template) v.items) }
 {
     let (names, constraints, kinds) = parsed.into_parts();

@@ -1,15 +1,16 @@
-//! Whether a stand-in of a placeholder is among the tokens of a path's key.
-ghost use Rattle.std.specs.Prelude.{◌≡◌, map, string_bytes, All};
+//! Whether a stand-in of a placeholder is among the tokens of a path.
+ghost use Rattle.std.specs.Prelude.{◌≡◌, map, string_bytes};
 ghost use Rattle.std.specs.List.{list_any};
-ghost use Rattle.ssr_syntax_tree.specs.Places.{HasToken, token_of};
+ghost use Rattle.ssr_syntax_tree.specs.Places.{HasNode, HasToken, node_of, token_of};
 ghost use Rattle.ide_ssr_rules.specs.StandIns.{is_stand_in};
-ghost use Rattle.ide_ssr_resolving.specs.Used.{names_placeholder};
+ghost use Rattle.ide_ssr_resolving.specs.Used.{names_placeholder, holds_stand_in};
 ghost use Rattle.ide_ssr_resolving.specs.Private.Pieces.{tokens_at, HasPiece};
 
 use crate::keys::Piece;
+use crate::paths::{last_segment, name_end};
 use ide_ssr_rules::is_stand_in_of;
 use ssr_syntax_kinds::SyntaxKind;
-use ssr_syntax_tree::{TokenNo, Tree};
+use ssr_syntax_tree::{NodeNo, TokenNo, Tree};
 
 /// Whether the text is the stand-in of one of the names.
 fn is_stand_in(names: &[String], text: &str) -> bool
@@ -45,15 +46,26 @@ fn has_stand_in(names: &[String], tree: &Tree, piece: Piece) -> bool
     false
 }
 
-/// Whether one of the tokens of one of the pieces is.
-pub(crate) fn holds_stand_in(names: &[String], tree: &Tree, pieces: &[Piece]) -> bool
-    requires { All (HasPiece tree.now) pieces.now }
-    ensures { result ≡ list_any (list_any (names_placeholder (map string_bytes names.now))) (map (tokens_at tree.now) pieces.now) }
+/// Whether one of the tokens of a path is, but for the arguments of its last segment.
+pub(crate) fn holds_stand_in(names: &[String], tree: &Tree, path: NodeNo) -> bool
+    requires { HasNode tree.now path.0 }
+    ensures { result ≡ holds_stand_in (map string_bytes names.now) (node_of tree.now path.0).children }
 {
-    for piece in pieces {
-        if has_stand_in(names, tree, *piece) {
-            return true;
-        }
-    }
-    false
+    let tokens = tree.tokens_below(path);
+    let Some(last) = last_segment(tree, path) else {
+        let whole = Piece {
+            first: tokens.start,
+            past: tokens.end,
+        };
+        return has_stand_in(names, tree, whole);
+    };
+    let front = Piece {
+        first: tokens.start,
+        past: name_end(tree, last),
+    };
+    let behind = Piece {
+        first: tree.tokens_below(last).end,
+        past: tokens.end,
+    };
+    has_stand_in(names, tree, front) || has_stand_in(names, tree, behind)
 }

@@ -7,7 +7,6 @@ ghost use Rattle.ide_ssr_resolving.specs.Used.{ends_in_self, has_generics, is_wh
 ghost use Rattle.ide_ssr_resolving.specs.Private.Marks.{TellsRes};
 ghost use Rattle.ide_ssr_resolving.specs.Private.Steps.{path_step, step_of};
 
-use crate::keys::pieces_of;
 use crate::paths::{first_child, last_name, qualifying};
 use crate::resolving::resolution;
 use crate::stand_ins::holds_stand_in;
@@ -107,8 +106,7 @@ fn is_whole(alloc: Global, names: &[String], tree: &Tree, path: NodeNo) -> Resul
     if has_generic_qualifier(alloc, tree, path)? {
         return Ok(false);
     }
-    let pieces = pieces_of(alloc, tree, path)?;
-    Ok(!holds_stand_in(names, tree, &pieces))
+    Ok(!holds_stand_in(names, tree, path))
 }
 
 /// Whether a definition is none of an associated constant, an associated type, and an associated function that doesn't

@@ -1,7 +1,6 @@
 -- Private: words on paths over the children of a node as a tree lends them.
 use Rattle.std.specs.Prelude.{ℕ, List, [], ◌∷◌, ◌++◌, Option, Some, None, if◌then◌else◌}
 use Rattle.std.specs.Option.{option_map_or}
-use Rattle.ssr_syntax_kinds.specs.declared.kinds.SyntaxKind.{SyntaxKind}
 use Rattle.ssr_syntax_kinds.specs.declared.kinds.SyntaxKind.TheVariants as k
 use Rattle.ssr_syntax_kinds.specs.Kinds.{same_kind}
 use Rattle.ssr_syntax_tree.specs.declared.number.NodeNo.{NodeNo}
@@ -12,12 +11,6 @@ use Rattle.ide_ssr_resolving.specs.Paths.{segments, is_arguments}
 -- what stands below the node of a number
 abbrev pub below : Syntax → NodeNo → Forest
 below tree node = (node_of tree node.0).children
-
--- what is below the first node of a kind
-abbrev pub first_among : SyntaxKind → List Part → Option Forest
-first_among kind [] = None
-first_among kind (token_part t token ∷ rest) = first_among kind rest
-first_among kind (node_part node ∷ rest) = if same_kind node.kind kind then Some node.children else first_among kind rest
 
 -- the segments at a child of a path
 abbrev pub segments_at : Part → List Forest

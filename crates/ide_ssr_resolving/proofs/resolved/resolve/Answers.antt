@@ -7,7 +7,7 @@ use Rattle.ssr_base.specs.Meanings.{Meanings}
 use Rattle.ide_ssr_rules.specs.declared.kinds.ParsedRule.{ParsedRule}
 use Rattle.ide_ssr_rules.specs.Patterns.{HasEachAtMostOnce, AreReadOnce}
 use Rattle.ide_ssr_rules.specs.Rules.{Rule}
-use Rattle.ide_ssr_resolving.specs.Patterns.{HasEachOnce}
+use Rattle.ide_ssr_resolving.specs.Patterns.{HasEachOnce, AreInArguments}
 use Rattle.ide_ssr_resolving.specs.Resolved.{ResolvedKind, resolved_kind}
 use Rattle.ide_ssr_resolving.proofs.KindUses.{IsUsedOnce, resolved_once}
 use Rattle.ide_ssr_resolving.proofs.KindByKind.{Resolves, resolves_all, resolves_next}
@@ -45,5 +45,11 @@ returns-clause-each g c =
 pub returns-clause-at_most_once : goal.returns-clause-at_most_once
 returns-clause-at_most_once g c =
     All-weaker IsUsedOnce (λ kind. HasEachAtMostOnce kind.names kind.template) (λ kind is. is.1) c.loop-kind.resolved.items
+    (all_once (g.S.Semantics.meanings c.args.semantics.now) c.args.scope c.args.parsed (into_iter_items c.loop-kind.kind-iterator) c.loop-kind.resolved.items
+    c.loop-kind.invariant (sym c.loop-kind.kind-iterator.rest.ok.0 ∙ c.in-None.ensures.steps.0) c.into_parts-names.ensures.once)
+
+pub returns-clause-in_arguments : goal.returns-clause-in_arguments
+returns-clause-in_arguments g c =
+    All-weaker IsUsedOnce (λ kind. AreInArguments kind.names kind.pattern kind.pattern_paths) (λ kind is. is.2) c.loop-kind.resolved.items
     (all_once (g.S.Semantics.meanings c.args.semantics.now) c.args.scope c.args.parsed (into_iter_items c.loop-kind.kind-iterator) c.loop-kind.resolved.items
     c.loop-kind.invariant (sym c.loop-kind.kind-iterator.rest.ok.0 ∙ c.in-None.ensures.steps.0) c.into_parts-names.ensures.once)
