@@ -1,11 +1,14 @@
 //! A node's children, without those that do not count for a match.
 
 ghost use Rattle.std.specs.Prelude.{◌≡◌, ◌∷◌, ◌++◌, [], true, false, All, IfNone, None, map, option_to_list};
-ghost use Rattle.ssr_syntax_tree.specs.Places.{HasNode, HasElement, node_of, part_of, elements_of};
-ghost use Rattle.ide_ssr_matching.specs.Matching.{is_closing, bare};
+ghost use Rattle.ssr_syntax_tree.specs.Places.{HasNode, HasElement, node_of, part_of, parts_of, elements_of};
+ghost use Rattle.ide_ssr_matching.specs.Bindings.{counted};
+ghost use Rattle.ide_ssr_matching.specs.Matching.{is_closing, bare, holds_arguments, from_arguments, arguments_of};
 ghost use Rattle.ide_ssr_matching.specs.PatternIterator.{is_trivia_part};
-ghost use Rattle.ide_ssr_matching.specs.Private.Children.{has_kind, closes_part, solid, siblings_left, AreKept};
+ghost use Rattle.ide_ssr_matching.specs.Private.Children.{has_kind, closes_part, solid, siblings_left, IsBelow, AreKept};
 
+use ide_ssr_resolving::{is_arguments, last_segment};
+use ssr_base::Res;
 use ssr_syntax_kinds::SyntaxKind;
 use ssr_syntax_tree::{Children, Element, NodeNo, Tree};
 
@@ -61,9 +64,20 @@ fn closes(tree: &Tree, child: Element) -> bool
     }
 }
 
+/// Whether a child of a segment is generic arguments, arguments in parentheses or a return type.
+fn holds_arguments(tree: &Tree, child: Element) -> bool
+    requires { HasElement tree.now child }
+    ensures { result ≡ holds_arguments (part_of tree.now child) }
+{
+    match child {
+        Element::Token(_) => false,
+        Element::Node(node) => is_arguments(tree.kind(node)),
+    }
+}
+
 impl<'a> Siblings<'a> {
     /// The children of a node.
-    pub(crate) fn of(tree: &'a Tree, node: NodeNo) -> Siblings<'a>
+    fn of(tree: &'a Tree, node: NodeNo) -> Siblings<'a>
         requires { HasNode tree.now node.0 }
         ensures { siblings_left result ≡ elements_of (node_of tree.now node.0) }
     {
@@ -82,6 +96,55 @@ impl<'a> Siblings<'a> {
         match self.held.take() {
             Some(held) => Some(held),
             None => self.left.next(),
+        }
+    }
+
+    /// Passes all of them.
+    fn pass_all(&mut self)
+        ensures { siblings_left self.new ≡ [] }
+    {
+        while let Some(_child) = self.advance() {}
+    }
+
+    /// Passes those in front of the first one that holds arguments.
+    fn pass_to_arguments(&mut self, tree: &Tree)
+        requires { All (HasElement tree.now) (siblings_left self.old) }
+        ensures gives { map (part_of tree.now) (siblings_left self.new) ≡ from_arguments (map (part_of tree.now) (siblings_left self.old)) }
+        ensures kept { AreKept (siblings_left self.old) (siblings_left self.new) }
+    {
+        while let Some(child) = self.advance() {
+            if holds_arguments(tree, child) {
+                self.held = Some(child);
+                return;
+            }
+        }
+    }
+
+    /// The arguments of a path's last segment.
+    fn arguments(tree: &'a Tree, path: NodeNo) -> Siblings<'a>
+        requires { HasNode tree.now path.0 }
+        ensures gives { map (part_of tree.now) (siblings_left result) ≡ arguments_of (node_of tree.now path.0) }
+        ensures below { All (IsBelow tree.now path.0) (siblings_left result) }
+    {
+        let Some(segment) = last_segment(tree, path) else {
+            let mut none = Siblings::of(tree, path);
+            none.pass_all();
+            return none;
+        };
+        let mut siblings = Siblings::of(tree, segment);
+        siblings.pass_to_arguments(tree);
+        siblings
+    }
+
+    /// What counts of a node: of a used path the arguments of its last segment, else the children.
+    pub(crate) fn counted(tree: &'a Tree, node: NodeNo, used: Option<Res>) -> Siblings<'a>
+        requires { HasNode tree.now node.0 }
+        ensures gives { map (part_of tree.now) (siblings_left result) ≡ counted used (arguments_of (node_of tree.now node.0)) (parts_of (node_of tree.now node.0)) }
+        ensures below { All (IsBelow tree.now node.0) (siblings_left result) }
+    {
+        match used {
+            Some(_) => Siblings::arguments(tree, node),
+            None => Siblings::of(tree, node),
         }
     }
 

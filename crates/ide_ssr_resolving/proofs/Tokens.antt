@@ -188,9 +188,9 @@ module _ (s : Syntax) where
 
       by : (b : Bool)
           → (first_of_kind k.PATH_SEGMENT (parts_in p (1 + m + node_count inner) (t + token_count inner) next) ≡ Some last
-            → IsAround (t + token_count inner) to (tokens_in (without_arguments next)) last)
+          → IsAround (t + token_count inner) to (tokens_in (without_arguments next)) last)
           → (if b then Some (record { number = m; parent = p; first = t; kind = kind; children = inner })
-            else first_of_kind k.PATH_SEGMENT (parts_in p (1 + m + node_count inner) (t + token_count inner) next)) ≡ Some last
+          else first_of_kind k.PATH_SEGMENT (parts_in p (1 + m + node_count inner) (t + token_count inner) next)) ≡ Some last
           → IsAround t to (tokens_in (if b then branch kind (before_arguments inner) next else branch kind inner (without_arguments next))) last
       by true behind is =
           subst (IsAround t to (tokens_in (before_arguments inner) ++ tokens_in next))
@@ -207,7 +207,7 @@ module _ (s : Syntax) where
       by : (b : Bool)
           → (first_of_kind k.PATH_SEGMENT (parts_in p (1 + m + node_count inner) (t + token_count inner) next) ≡ None → without_arguments next ≡ next)
           → (if b then Some (record { number = m; parent = p; first = t; kind = kind; children = inner })
-            else first_of_kind k.PATH_SEGMENT (parts_in p (1 + m + node_count inner) (t + token_count inner) next)) ≡ None
+          else first_of_kind k.PATH_SEGMENT (parts_in p (1 + m + node_count inner) (t + token_count inner) next)) ≡ None
           → (if b then branch kind (before_arguments inner) next else branch kind inner (without_arguments next)) ≡ branch kind inner next
       by true behind none = absurd (none-some (record { number = m; parent = p; first = t; kind = kind; children = inner }) (sym none))
       by false behind none = ap (λ next. branch kind inner next) (behind none)

@@ -1,0 +1,68 @@
+-- What counts of a node: its children, or the arguments of a path's last segment. They are among the children, or among those
+-- of a child.
+use Rattle.std.proofs.Common.{◌≡◌, ℕ, ◌+◌, Bool, true, false, cond, List, [], ◌∷◌, All, Option, Some, None, refl}
+use Rattle.std.proofs.lemmas.List.Elements.{All-nil, All-cons, All-head, All-tail}
+use Rattle.std.proofs.lemmas.Option.{none-some, same_Some}
+use Rattle.std.proofs.Common.{subst}
+use Rattle.std.specs.Option.{option_map_or}
+use Rattle.ssr_syntax_kinds.specs.declared.kinds.SyntaxKind.{SyntaxKind}
+use Rattle.ssr_syntax_kinds.specs.declared.kinds.SyntaxKind.TheVariants as k
+use Rattle.ssr_syntax_kinds.specs.Kinds.{same_kind}
+use Rattle.ssr_syntax_tree.specs.Syntax.{Token, Forest, nothing, leaf, branch, token_count, node_count}
+use Rattle.ssr_syntax_tree.specs.Places.{Node, Part, token_part, node_part, parts_in, parts_of}
+use Rattle.ssr_base.specs.declared.semantics.Res.{Res}
+use Rattle.ide_ssr_resolving.specs.Paths.{first_of_kind}
+use Rattle.ide_ssr_matching.specs.Bindings.{counted}
+use Rattle.ide_ssr_matching.specs.Matching.{leaves_out, bare, holds_arguments, from_arguments, arguments_of}
+
+module _ (P : Part → Type 0) where
+  -- what is true of each node if it is of its children is true of all
+  pub each_part : ((t : ℕ) (token : Token) → P (token_part t token)) → ((node : Node) → All P (parts_of node) → P (node_part node))
+      → (parent n t : ℕ) (forest : Forest) → All P (parts_in parent n t forest)
+  each_part on_token step parent n t nothing = All-nil P
+  each_part on_token step parent n t (leaf token next) =
+      All-cons P (token_part t token) (parts_in parent n (1 + t) next) (on_token t token) (each_part on_token step parent n (1 + t) next)
+  each_part on_token step parent n t (branch kind below next) =
+      let node : Node = record { number = n; parent = parent; first = t; kind = kind; children = below } in
+      All-cons P (node_part node) (parts_in parent (1 + n + node_count below) (t + token_count below) next)
+      (step node (each_part on_token step n (1 + n) t below))
+      (each_part on_token step parent (1 + n + node_count below) (t + token_count below) next)
+
+  pub bare_all : (parts : List Part) → All P parts → All P (bare parts)
+  bare_all [] all = all
+  bare_all (part ∷ rest) all = kept (leaves_out part rest) (bare_all rest (All-tail P part rest all))
+    where
+      kept : (b : Bool) → All P (bare rest) → All P (cond b (bare rest) (part ∷ bare rest))
+      kept true behind = behind
+      kept false behind = All-cons P part (bare rest) (All-head P part rest all) behind
+
+  arguments_all : (parts : List Part) → All P parts → All P (from_arguments parts)
+  arguments_all [] all = all
+  arguments_all (part ∷ rest) all = kept (holds_arguments part) (arguments_all rest (All-tail P part rest all))
+    where
+      kept : (b : Bool) → All P (from_arguments rest) → All P (cond b (part ∷ rest) (from_arguments rest))
+      kept true behind = all
+      kept false behind = behind
+
+  pub first_has : (kind : SyntaxKind) (parts : List Part) (node : Node) → first_of_kind kind parts ≡ Some node → All P parts → P (node_part node)
+  first_has kind [] node is all = absurd (none-some node is)
+  first_has kind (token_part t token ∷ rest) node is all = first_has kind rest node is (All-tail P (token_part t token) rest all)
+  first_has kind (node_part own ∷ rest) node is all =
+      here (same_kind own.kind kind) (λ is. first_has kind rest node is (All-tail P (node_part own) rest all)) is
+    where
+      here : (b : Bool) → (first_of_kind kind rest ≡ Some node → P (node_part node)) → cond b (Some own) (first_of_kind kind rest) ≡ Some node
+          → P (node_part node)
+      here true behind is = subst (λ node. P (node_part node)) (same_Some own node is) (All-head P (node_part own) rest all)
+      here false behind is = behind is
+
+  segment_all : (o : Option Node) → ((segment : Node) → o ≡ Some segment → All P (parts_of segment))
+      → All P (option_map_or (λ segment. from_arguments (parts_of segment)) o [])
+  segment_all None below = All-nil P
+  segment_all (Some segment) below = arguments_all (parts_of segment) (below segment refl)
+
+  -- what is true of the children, and of those of the last segment, is of what counts
+  pub counted_all : (used : Option Res) (node : Node) → All P (parts_of node)
+      → ((segment : Node) → first_of_kind k.PATH_SEGMENT (parts_of node) ≡ Some segment → All P (parts_of segment))
+      → All P (counted used (arguments_of node) (parts_of node))
+  counted_all (Some r) node children below = segment_all (first_of_kind k.PATH_SEGMENT (parts_of node)) below
+  counted_all None node children below = children

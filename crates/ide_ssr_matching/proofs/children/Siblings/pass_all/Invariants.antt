@@ -1,0 +1,9 @@
+use Rattle.std.proofs.Common.{length}
+use Rattle.ide_ssr_matching.specs.Private.Children.{siblings_left}
+use Rattle.ide_ssr_matching.proofs.children.Siblings.pass_all.Given as goal
+
+abbrev pub invariant-loop-child : goal.invariant-loop-child
+invariant-loop-child l = Unit {0}
+
+abbrev pub decreases-loop-child : goal.decreases-loop-child
+decreases-loop-child l = length (siblings_left l.self)
