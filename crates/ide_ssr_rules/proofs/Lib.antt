@@ -8,6 +8,7 @@ mod StandIns
 mod Chains
 mod Uses
 mod Named
+mod NamePlaces
 mod EachOnce
 mod AtMostOnce
 mod Lists

@@ -16,8 +16,9 @@ use crate::error::SsrError;
 use crate::kinds::{ParsedRule, some_kind};
 use crate::macro_calls::untested;
 use crate::meeting::ConstraintSet;
+use crate::names::Names;
 use crate::refusals::{Refusal, Text, listed};
-use crate::sides::{has, push_names, side, sides};
+use crate::sides::{side, sides, with_names};
 use crate::stand_ins::{glued_placeholder, spelled_stand_in};
 use crate::tokens::Name;
 use std::alloc::{AllocError, Global};
@@ -177,7 +178,7 @@ fn rule_of<'a>(
     let kinds = some_kind(alloc, pattern, template)?;
     check_uses(alloc, pattern, written, kinds.as_slice())?;
     let names = names_of(alloc, pattern)?;
-    let names = owned(alloc, names.as_slice())?;
+    let names = names.owned(alloc)?;
     let constraints = constraints_of(alloc, pattern)?;
     Ok(ParsedKinds {
         names,
@@ -197,8 +198,8 @@ fn check_sides<'a>(
     check_tokens(alloc, pattern)?;
     check_tokens(alloc, template)?;
     let names = all_names(alloc, pattern, template)?;
-    check_reserved(alloc, names.as_slice(), pattern)?;
-    check_reserved(alloc, names.as_slice(), template)
+    check_reserved(alloc, &names, pattern)?;
+    check_reserved(alloc, &names, template)
 }
 
 /// Whether what both sides' placeholders ask for can be given.
@@ -214,7 +215,7 @@ fn check_uses(
     check_unconstrained(alloc, template)?;
     let names = names_of(alloc, pattern)?;
     let used = names_of(alloc, template)?;
-    check_defined(alloc, names.as_slice(), used.as_slice())
+    check_defined(alloc, &names, used.as_slice())
 }
 
 /// Refuses a placeholder whose constraints nothing tests.
@@ -253,21 +254,17 @@ fn all_names<'a>(
     alloc: Global,
     pattern: &[Element<'a>],
     template: &[Element<'a>],
-) -> Result<Vec<Name<'a>>, AllocError>
-    ensures { IfOk result (λ v. v.items ≡ names_of pattern.now ++ names_of template.now) }
+) -> Result<Names<'a>, AllocError>
+    ensures { IfOk result (λ names. names ≡ names_of pattern.now ++ names_of template.now) }
 {
-    let mut names = names_of(alloc, pattern)?;
-    push_names(&mut names, template)?;
-    Ok(names)
+    with_names(names_of(alloc, pattern)?, template)
 }
 
 /// The names of a side's placeholders.
-fn names_of<'a>(alloc: Global, elements: &[Element<'a>]) -> Result<Vec<Name<'a>>, AllocError>
-    ensures { IfOk result (λ v. v.items ≡ names_of elements.now) }
+fn names_of<'a>(alloc: Global, elements: &[Element<'a>]) -> Result<Names<'a>, AllocError>
+    ensures { IfOk result (λ names. names ≡ names_of elements.now) }
 {
-    let mut names = Vec::new(alloc);
-    push_names(&mut names, elements)?;
-    Ok(names)
+    with_names(Names::new(alloc), elements)
 }
 
 /// What each of a side's placeholders asks.
@@ -283,17 +280,6 @@ fn constraints_of(alloc: Global, elements: &[Element<'_>]) -> Result<Vec<Constra
     Ok(sets)
 }
 
-/// The names as texts of their own.
-fn owned(alloc: Global, names: &[Name<'_>]) -> Result<Vec<String>, AllocError>
-    ensures { IfOk result (λ v. map string_bytes v.items ≡ names.now) }
-{
-    let mut texts = Vec::new(alloc);
-    for name in names {
-        texts.push(String::from_str(alloc, name.text)?)?;
-    }
-    Ok(texts)
-}
-
 /// Refuses a placeholder that isn't a token of its own.
 fn check_tokens(alloc: Global, elements: &[Element<'_>]) -> Result<(), SsrError>
     ensures { Answers result (unless r.Glued (glued_placeholder elements.now)) }
@@ -307,7 +293,7 @@ fn check_tokens(alloc: Global, elements: &[Element<'_>]) -> Result<(), SsrError>
 /// Refuses an identifier that is spelled as a stand-in of one of the names.
 fn check_reserved(
     alloc: Global,
-    names: &[Name<'_>],
+    names: &Names<'_>,
     elements: &[Element<'_>],
 ) -> Result<(), SsrError>
     ensures { Answers result (unless r.Reserved (spelled_stand_in names.now elements.now)) }
@@ -321,7 +307,7 @@ fn check_reserved(
 /// The used names that are not among the names.
 fn lacking<'a>(
     alloc: Global,
-    names: &[Name<'_>],
+    names: &Names<'_>,
     used: &[Name<'a>],
 ) -> Result<Vec<Name<'a>>, AllocError>
     ensures { IfOk result (λ v. v.items ≡ lacking names.now used.now) }
@@ -329,7 +315,7 @@ fn lacking<'a>(
     let mut lacking = Vec::new(alloc);
     for name in used {
         let text = name.text;
-        if !has(names, text) {
+        if !names.has(text) {
             lacking.push(Name { text })?;
         }
     }
@@ -337,7 +323,7 @@ fn lacking<'a>(
 }
 
 /// Refuses used names that are not among the names.
-fn check_defined(alloc: Global, names: &[Name<'_>], used: &[Name<'_>]) -> Result<(), SsrError>
+fn check_defined(alloc: Global, names: &Names<'_>, used: &[Name<'_>]) -> Result<(), SsrError>
     ensures { Answers result (check_defined names.now used.now) }
 {
     let lacking = lacking(alloc, names, used)?;

@@ -1,14 +1,15 @@
 //! The two sides of a rule text, and the elements of a side.
-ghost use Rattle.std.specs.Prelude.{◌≡◌, ◌<◌, ◌≤◌, ◌^◌, ◌++◌, [], length, IfOk, OnOk};
-ghost use Rattle.ide_ssr_rules.specs.Elements.{has, new_placeholder, elements, side, names_of};
+ghost use Rattle.std.specs.Prelude.{◌≡◌, ◌<◌, ◌≤◌, ◌^◌, ◌++◌, [], length, IfOk};
+ghost use Rattle.ide_ssr_rules.specs.Elements.{new_placeholder, elements, side, names_of};
 ghost use Rattle.ide_ssr_rules.specs.Refusals.{AnswersBy};
 ghost use Rattle.ide_ssr_rules.specs.Sides.{sides};
 
 use crate::constraints::{Placeholder, read_placeholder};
 use crate::elements::Element;
 use crate::error::SsrError;
+use crate::names::Names;
 use crate::refusals::{Fault, Refusal, Text};
-use crate::tokens::{Name, Token, Tokens, Unlexed, lexed};
+use crate::tokens::{Token, Tokens, Unlexed, lexed};
 use std::alloc::{AllocError, Global};
 
 const DELIMITER: &str = "==>>";
@@ -26,24 +27,17 @@ pub(crate) fn sides(alloc: Global, text: &str) -> Result<(&str, &str), SsrError>
     Ok((pattern.trim(), template.trim()))
 }
 
-/// Whether one of the names is this one.
-pub(crate) fn has(names: &[Name<'_>], name: &str) -> bool
-    ensures { result ≡ has names.now name.now }
-{
-    names.iter().any(|known| name == known.text)
-}
-
 /// The placeholder behind a `$`, whose name may be none of the names before it.
 fn new_placeholder<'a>(
     alloc: Global,
-    names: &[Name<'_>],
+    names: &Names<'_>,
     tokens: &mut Tokens<'a>,
 ) -> Result<Placeholder<'a>, SsrError>
     ensures { AnswersBy (λ placeholder. (placeholder, tokens.new)) result (new_placeholder names.now tokens.old) }
 {
     let placeholder = read_placeholder(alloc, tokens)?;
     let name = placeholder.name();
-    if has(names, name) {
+    if names.has(name) {
         return Err(Refusal::Repeated(Text(name)).told(alloc));
     }
     Ok(placeholder)
@@ -55,16 +49,15 @@ fn elements<'a>(alloc: Global, tokens: Vec<Token<'a>>) -> Result<Vec<Element<'a>
     ensures few { IfOk result (λ v. length v.items ≤ length tokens.entry.items) }
 {
     let mut elements = Vec::new(alloc);
-    let mut names = Vec::new(alloc);
+    let mut names = Names::new(alloc);
     let mut tokens = Tokens::new(tokens);
     while let Some(token) = tokens.next() {
         if !token.is_dollar() {
             elements.push(Element::Token(token))?;
             continue;
         }
-        let placeholder = new_placeholder(alloc, names.as_slice(), &mut tokens)?;
-        let text = placeholder.name();
-        names.push(Name { text })?;
+        let placeholder = new_placeholder(alloc, &names, &mut tokens)?;
+        names = names.with(placeholder.name())?;
         elements.push(Element::Placeholder(placeholder))?;
     }
     Ok(elements)
@@ -82,18 +75,18 @@ pub(crate) fn side<'a>(alloc: Global, text: &'a str) -> Result<Vec<Element<'a>>,
     }
 }
 
-/// Adds the names of a side's placeholders.
-pub(crate) fn push_names<'a>(
-    names: &mut Vec<Name<'a>>,
+/// These names and those of a side's placeholders behind them.
+pub(crate) fn with_names<'a>(
+    names: Names<'a>,
     elements: &[Element<'a>],
-) -> Result<(), AllocError>
-    ensures { OnOk result (names.new.items ≡ names.old.items ++ names_of elements.now) }
+) -> Result<Names<'a>, AllocError>
+    ensures { IfOk result (λ all. all ≡ names.entry ++ names_of elements.now) }
 {
+    let mut names = names;
     for element in elements {
         if let Element::Placeholder(placeholder) = element {
-            let text = placeholder.name();
-            names.push(Name { text })?;
+            names = names.with(placeholder.name())?;
         }
     }
-    Ok(())
+    Ok(names)
 }

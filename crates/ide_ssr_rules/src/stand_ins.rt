@@ -1,32 +1,36 @@
 //! Stand-ins: the identifiers that are read in the place of placeholders.
-ghost use Rattle.std.specs.Prelude.{◌≡◌, ◌++◌, IfOk, OnOk, bytes_eq, string_bytes};
-ghost use Rattle.std.specs.Option.{option_copied};
+ghost use Rattle.std.specs.Prelude.{◌≡◌, ℕ, List, ◌++◌, false, IfOk, OnOk, bytes_eq, string_bytes};
+ghost use Rattle.std.specs.Option.{option_copied, option_map_or};
 ghost use Rattle.ssr_syntax_tree.specs.Syntax.{same_token};
-ghost use Rattle.ide_ssr_rules.specs.StandIns.{stand_in_of, read_as, code_of, first_name, first_glued, glued_placeholder, is_stand_in, stand_in_text, spelled_stand_in};
+ghost use Rattle.ide_ssr_rules.specs.StandIns.{stand_in_of, read_as, code_of, first_name, first_glued, glued_placeholder, stand_in_text, spelled_stand_in};
 
 use crate::elements::Element;
-use crate::tokens::{Name, Token, Unlexed, lexed};
+use crate::names::Names;
+use crate::tokens::{Token, Unlexed, lexed};
 use ssr_syntax_kinds::SyntaxKind;
 use std::alloc::{AllocError, Global};
 
 /// What stands before a placeholder's name in the identifier that is read in its place.
 const PREFIX: &str = "__placeholder_";
 
+/// The name whose stand-in a text is.
+pub(crate) fn stand_in_name(text: &str) -> Option<&str>
+    ensures { (name : List ℕ) → bytes_eq text.now (stand_in_of name) ≡ option_map_or (λ rest. bytes_eq rest.now name) result false }
+{
+    match text.strip_prefix(PREFIX) {
+        Some(rest) => Some(rest),
+        None => None,
+    }
+}
+
 /// Whether the text is the stand-in of a name.
 pub fn is_stand_in_of(text: &str, name: &str) -> bool
     ensures { result ≡ bytes_eq text.now (stand_in_of name.now) }
 {
-    match text.strip_prefix(PREFIX) {
+    match stand_in_name(text) {
         Some(rest) => rest == name,
         None => false,
     }
-}
-
-/// Whether the text is the stand-in of one of the names.
-fn is_stand_in(names: &[Name<'_>], text: &str) -> bool
-    ensures { result ≡ is_stand_in names.now text.now }
-{
-    names.iter().any(|name| is_stand_in_of(text, name.text))
 }
 
 impl<'a> Element<'a> {
@@ -56,13 +60,13 @@ impl<'a> Element<'a> {
     }
 
     /// The text of an identifier that is spelled as a stand-in of one of the names.
-    fn stand_in_text(&self, names: &[Name<'_>]) -> Option<&'a str>
+    fn stand_in_text(&self, names: &Names<'_>) -> Option<&'a str>
         ensures { option_copied result ≡ stand_in_text names.now self.now }
     {
         let Element::Token(token) = self else {
             return None;
         };
-        if token.is_ident() && is_stand_in(names, token.text) {
+        if token.is_ident() && names.has_stand_in(token.text) {
             Some(token.text)
         } else {
             None
@@ -122,7 +126,7 @@ pub(crate) fn glued_placeholder<'a>(
 }
 
 /// The first identifier that is spelled as a stand-in of one of the names.
-pub(crate) fn spelled_stand_in<'a>(names: &[Name<'_>], elements: &[Element<'a>]) -> Option<&'a str>
+pub(crate) fn spelled_stand_in<'a>(names: &Names<'_>, elements: &[Element<'a>]) -> Option<&'a str>
     ensures { option_copied result ≡ spelled_stand_in names.now elements.now }
 {
     for element in elements {

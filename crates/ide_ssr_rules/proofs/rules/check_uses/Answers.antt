@@ -15,5 +15,5 @@ returns-in_err-check_unconstrained c =
 
 pub returns : goal.returns
 returns c =
-    uses_checked _ _ _ _ _ _ c.in_ok-check_tested.ensures c.in_ok-check_unconstrained.ensures (c.as_slice.ensures.value ∙ c.in_ok-names.ensures)
-    (c.as_slice-2.ensures.value ∙ c.in_ok-used.ensures) c.check_defined.ensures
+    uses_checked _ _ _ _ _ _ c.in_ok-check_tested.ensures c.in_ok-check_unconstrained.ensures c.in_ok-names.ensures
+    (c.as_slice.ensures ∙ c.in_ok-used.ensures) c.check_defined.ensures

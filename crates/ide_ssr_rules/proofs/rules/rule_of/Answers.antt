@@ -41,12 +41,12 @@ returns c =
     let checked = rw is at c.in_ok-check_sides.ensures in
     let uses = rw is at c.in_ok-check_uses.ensures in
     rule_made _ (option_copied c.args.template) _ _ _ _ _ checked c.in_ok-kinds.ensures.kinds c.as_slice.ensures.value uses c.in_ok-names.ensures
-    (c.in_ok-names-2.ensures ∙ c.as_slice-2.ensures.value) c.in_ok-constraints.ensures
+    c.in_ok-names-2.ensures c.in_ok-constraints.ensures
 
 pub invariant_of-result : goal.invariant_of-result
 invariant_of-result c =
     let checked = rw (ap (λ r. r.now) c.unwrap_or-written.ensures ∙ written_is c.args.template _ refl) at c.in_ok-check_sides.ensures in
-    let kept = c.as_slice-2.ensures.value ∙ c.in_ok-names.ensures in record {
+    let kept = c.in_ok-names.ensures in record {
       few = names_few c.args.pattern.now _ _ c.requires.few c.in_ok-names-2.ensures kept;
       once =
           kinds_once c.args.pattern.now (option_copied c.args.template) _ _
