@@ -1,6 +1,6 @@
 -- The bindings of a match, computed along the pattern: those of the relation of `Matching`, as the law
 -- `laws::matching` says.
-use Rattle.std.specs.Prelude.{ℕ, ◌+◌, ◌==◌, ◌&&◌, Bool, true, false, if◌then◌else◌, List, [], ◌∷◌, ◌++◌, Option, Some, None}
+use Rattle.std.specs.Prelude.{ℕ, ◌+◌, ◌&&◌, Bool, true, false, if◌then◌else◌, List, [], ◌∷◌, ◌++◌, Option, Some, None}
 use Rattle.std.specs.Option.{option_map_or}
 use Rattle.ssr_syntax_kinds.specs.declared.kinds.SyntaxKind.{SyntaxKind}
 use Rattle.ssr_syntax_kinds.specs.declared.kinds.SyntaxKind.TheVariants as k
@@ -8,8 +8,7 @@ use Rattle.ssr_syntax_kinds.specs.Kinds.{same_kind}
 use Rattle.ssr_syntax_tree.specs.Syntax.{Token, same_token, Forest, nothing, leaf, branch, token_count, node_count}
 use Rattle.ssr_syntax_tree.specs.Places.{Node, Part, token_part, node_part, parts_in, parts_of}
 use Rattle.ssr_base.specs.declared.semantics.Res.{Res}
-use Rattle.ssr_base.specs.declared.semantics.Res.TheVariants as res
-use Rattle.ssr_base.specs.Meanings.{Meanings}
+use Rattle.ssr_base.specs.Meanings.{Meanings, same_res}
 use Rattle.ide_ssr_resolving.specs.Paths.{is_arguments}
 use Rattle.ide_ssr_resolving.specs.Placeholders.{placeholder_at}
 use Rattle.ide_ssr_resolving.specs.Resolved.{ResolvedKind, meets}
@@ -43,16 +42,6 @@ nothing_then (c ∷ cs) = None
 -- a placeholder against a node, which has to meet its constraints
 abbrev pub placeholder_by : ResolvedKind → ℕ → Node → Option (List Binding)
 placeholder_by rule i c = if meets rule i c.kind then Some (record { placeholder = i; node = record { 0 = c.number } } ∷ []) else None
-
--- whether two things are the same
-abbrev pub same_res : Res → Res → Bool
-same_res (res.Def a) (res.Def b) = a.0 == b.0
-same_res (res.Local a) (res.Local b) = a == b
-same_res (res.TypeParam a) (res.TypeParam b) = a == b
-same_res (res.ConstParam a) (res.ConstParam b) = a == b
-same_res (res.SelfType a) (res.SelfType b) = a == b
-same_res (res.Other a) (res.Other b) = a == b
-same_res a b = false
 
 -- whether what is told of a node of the code is what a path of the pattern stands for, if that is used
 abbrev pub stands_for : Option Res → Option Res → Bool

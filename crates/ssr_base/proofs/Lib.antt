@@ -17,3 +17,4 @@ mod Added
 mod Built
 mod Above
 mod Ranges
+mod SameRes

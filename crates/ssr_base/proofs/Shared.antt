@@ -11,5 +11,7 @@ pub use Rattle.ssr_base.proofs.Planting.{planted_within}
 pub use Rattle.ssr_base.proofs.Above.{IsUp, is_up, reaches_its_file, call_above, root_found, told_is, above_root, climbed_next}
 -- nodes begin in their order
 pub use Rattle.ssr_base.proofs.Finding.{starts_sorted}
+-- what a path stands for
+pub use Rattle.ssr_base.proofs.SameRes.{same_res-equal, same_res-itself}
 -- what options hold
 pub use Rattle.ssr_base.proofs.Planting.{some_and, and_some, mapped}

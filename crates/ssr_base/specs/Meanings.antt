@@ -1,5 +1,5 @@
 -- What names, types and scopes of a workspace mean: for each question to a provider a function from what is asked to the answer.
-use Rattle.std.specs.Prelude.{ℕ, ◌<◌, ◌≡◌, ◌≢◌, ◌^◌, List, Option, Some, Contains}
+use Rattle.std.specs.Prelude.{ℕ, ◌<◌, ◌≡◌, ◌≢◌, ◌==◌, ◌^◌, Bool, false, List, Option, Some, Contains}
 use Rattle.ssr_base.specs.declared.ids.NodeId.{NodeId}
 use Rattle.ssr_base.specs.declared.ids.ScopeId.{ScopeId}
 use Rattle.ssr_base.specs.declared.ids.DefId.{DefId}
@@ -9,6 +9,16 @@ use Rattle.ssr_base.specs.declared.semantics.Res.TheVariants as res
 use Rattle.ssr_base.specs.declared.semantics.DefKind.TheVariants as kinds
 use Rattle.ssr_base.specs.declared.semantics.DefInfo.{DefInfo}
 use Rattle.ssr_base.specs.declared.semantics.SelfKind.{SelfKind}
+
+-- whether two things are the same
+abbrev pub same_res : Res → Res → Bool
+same_res (res.Def a) (res.Def b) = a.0 == b.0
+same_res (res.Local a) (res.Local b) = a == b
+same_res (res.TypeParam a) (res.TypeParam b) = a == b
+same_res (res.ConstParam a) (res.ConstParam b) = a == b
+same_res (res.SelfType a) (res.SelfType b) = a == b
+same_res (res.Other a) (res.Other b) = a == b
+same_res a b = false
 
 -- texts are lists of bytes
 pub record Meanings : Type 0 where

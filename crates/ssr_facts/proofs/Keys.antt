@@ -25,7 +25,8 @@ use Rattle.ssr_facts.specs.contracts.tables.NameKeyOrd.TheImpl as name_order
 use Rattle.ssr_facts.specs.contracts.tables.MemberKeyOrd.TheImpl as member_order
 use Rattle.ssr_facts.specs.contracts.tables.PrintedKeyOrd.TheImpl as printed_order
 use Rattle.ssr_base.specs.Workspace.{same_id}
-use Rattle.ssr_facts.specs.Tables.{is_name, is_member, is_printed, same_res}
+use Rattle.ssr_base.specs.Meanings.{same_res}
+use Rattle.ssr_facts.specs.Tables.{is_name, is_member, is_printed}
 use Rattle.ssr_facts.proofs.Rows.{lookup_alike}
 
 -- ** Plain tests say what the orders say.

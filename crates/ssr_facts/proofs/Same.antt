@@ -1,5 +1,5 @@
 -- Maps that are made of the rows of tables mean what these mean.
-use Rattle.std.proofs.Common.{◌≡◌, List, [], ◌++◌, ◌||◌, Bool, true, false, Option, Some, string_bytes, refl, sym, ap, ◌∙◌, eq-eqb}
+use Rattle.std.proofs.Common.{◌≡◌, List, [], ◌++◌, ◌||◌, Bool, true, false, Option, Some, string_bytes, refl, sym, ap, ◌∙◌}
 use Rattle.std.proofs.lemmas.List.Folds.{list_any-append}
 use Rattle.std.proofs.lemmas.Map.Made.{is_some-lookup}
 use Rattle.std.proofs.lemmas.Map.Views.{any-filter_same}
@@ -24,7 +24,8 @@ use Rattle.ssr_facts.specs.contracts.tables.NameKeyOrd.TheImpl as name_order
 use Rattle.ssr_facts.specs.contracts.tables.MemberKeyOrd.TheImpl as member_order
 use Rattle.ssr_facts.specs.contracts.tables.PrintedKeyOrd.TheImpl as printed_order
 use Rattle.ssr_base.specs.Workspace.{same_id}
-use Rattle.ssr_facts.specs.Tables.{is_name, is_member, is_printed, same_res, definition_at, path_of, method_of, callee, stands_for, nodes_for, meanings_of}
+use Rattle.ssr_base.proofs.Shared.{same_res-itself}
+use Rattle.ssr_facts.specs.Tables.{is_name, is_member, is_printed, definition_at, path_of, method_of, callee, stands_for, nodes_for, meanings_of}
 use Rattle.ssr_facts.specs.Private.Usages.{uses_of}
 use Rattle.ssr_facts.specs.Private.Maps.{path_in, method_in, meanings_in, IsIndexed, AreMade}
 use Rattle.ssr_facts.specs.Private.Complete.{same_nodes}
@@ -88,14 +89,6 @@ index_made none some all path call named called t empty paths calls are_named ar
   where
     nothing : uses_of none r ≡ []
     nothing = ap (λ es. option_map_or (λ (group : Vec NodeId Global). group.items) (lookup (is_at ((res_order.ghosts).cmp r)) es) []) empty
-
-same_res-itself : (r : Res) → same_res r r ≡ true
-same_res-itself (res.Def d) = eq-eqb d.0 d.0 refl
-same_res-itself (res.Local n) = eq-eqb n n refl
-same_res-itself (res.TypeParam n) = eq-eqb n n refl
-same_res-itself (res.ConstParam n) = eq-eqb n n refl
-same_res-itself (res.SelfType n) = eq-eqb n n refl
-same_res-itself (res.Other n) = eq-eqb n n refl
 
 -- a node that stands for something by a row is among those that stand for it
 among_nodes : {V : Type 0} (rows : List (NodeId × V)) (meaning : NodeId → Option Res) (r : Res) (node : NodeId)

@@ -6,7 +6,8 @@ use Rattle.std.specs.BTreeMap.{is_at}
 use Rattle.ssr_base.specs.declared.ids.NodeId.{NodeId}
 use Rattle.ssr_base.specs.declared.semantics.Res.{Res}
 use Rattle.ssr_base.specs.contracts.semantics.ResOrd.TheImpl as res_order
-use Rattle.ssr_facts.specs.Tables.{same_res, stands_for}
+use Rattle.ssr_base.specs.Meanings.{same_res}
+use Rattle.ssr_facts.specs.Tables.{stands_for}
 use Rattle.ssr_facts.proofs.Keys.{res_ties}
 
 module _ (meaning : NodeId → Option Res) (r : Res) where

@@ -17,7 +17,7 @@ use Rattle.ssr_facts.specs.declared.tables.MemberKey.{MemberKey}
 use Rattle.ssr_facts.specs.declared.tables.PrintedKey.{PrintedKey}
 use Rattle.ssr_facts.specs.declared.tables.Method.{Method}
 use Rattle.ssr_facts.specs.declared.tables.Tables.{Tables}
-use Rattle.ssr_base.specs.Meanings.{Meanings}
+use Rattle.ssr_base.specs.Meanings.{Meanings, same_res}
 use Rattle.ssr_base.specs.Workspace.{same_id}
 
 -- ** Keys: which of them are asked for.
@@ -30,15 +30,6 @@ is_member scope adt name key = (scope.0 == key.scope.0) && ((adt.0 == key.adt.0)
 
 abbrev pub is_printed : ScopeId → DefId → PrintedKey → Bool
 is_printed scope def key = (scope.0 == key.scope.0) && (def.0 == key.def.0)
-
-abbrev pub same_res : Res → Res → Bool
-same_res (res.Def a) (res.Def b) = a.0 == b.0
-same_res (res.Local a) (res.Local b) = a == b
-same_res (res.TypeParam a) (res.TypeParam b) = a == b
-same_res (res.ConstParam a) (res.ConstParam b) = a == b
-same_res (res.SelfType a) (res.SelfType b) = a == b
-same_res (res.Other a) (res.Other b) = a == b
-same_res a b = false
 
 -- ** Meanings.
 
