@@ -1,0 +1,7 @@
+use Rattle.std.proofs.Common.{rules}
+use Rattle.ide_ssr_rewriting.specs.Clashes.{is_clash}
+use Rattle.ide_ssr_rewriting.proofs.clashes.Rewrite.clashes_with.Goals as goal
+
+pub returns-else-share_byte : goal.returns-else-share_byte
+unfolding is_clash
+returns-else-share_byte c = search rules
