@@ -1,11 +1,15 @@
 -- The nodes of a tree one by one, and what stands in them alone.
 use Rattle.std.proofs.Common.{◌≡◌, ℕ, ◌+◌, ◌<◌, ◌≤◌, List, [], ◌∷◌, ◌++◌, map, length, take, get_or, Option, Some, None, slice_get, refl, ap, ◌∙◌, sym, arith}
+use Rattle.std.proofs.lemmas.Option.{unwrap_or-slice_get}
+use Rattle.std.specs.Option.{IfSome, IsSomeAnd}
 use Rattle.std.proofs.lemmas.List.{take_all, length-map, get_or-map, map_more}
-use Rattle.ssr_syntax_tree.specs.Places.{Node, Part, node_part, token_part, parts_in, parts_of, elements_of, element_of, nodes_of, node_of, root_of, HasNode}
-use Rattle.ssr_syntax_tree.specs.Syntax.{Token, Forest, nothing, leaf, branch, Syntax, node_count}
-use Rattle.ssr_syntax_tree.proofs.Shared.{length-nodes_of, node_is}
+use Rattle.ssr_syntax_kinds.specs.declared.kinds.SyntaxKind.TheVariants as k
+use Rattle.ide_ssr_rules.specs.StandIns.{name_at}
+use Rattle.ssr_syntax_tree.specs.Places.{Node, Part, node_part, token_part, parts_in, parts_of, elements_of, element_of, nodes_of, node_of, root_of, HasNode, HasToken, token_of}
+use Rattle.ssr_syntax_tree.specs.Syntax.{Token, Forest, nothing, leaf, branch, Syntax, node_count, token_count, tokens_of}
+use Rattle.ssr_syntax_tree.proofs.Shared.{length-nodes_of, length-tokens_in, node_is}
 use Rattle.ide_ssr_resolving.specs.Placeholders.{only_token, placeholder_at}
-use Rattle.ide_ssr_resolving.specs.Private.Placeholders.{placeholders}
+use Rattle.ide_ssr_resolving.specs.Private.Placeholders.{placeholders, token_placeholders}
 
 -- ** Nodes by their numbers.
 pub table_next : (names : List (List ℕ)) (s : Syntax) (n : ℕ) (old new : List (Option ℕ)) (found : Option ℕ) → HasNode s n → found ≡ placeholder_at names (node_of s n)
@@ -28,6 +32,39 @@ table_at names s table n found is has at =
     at ∙ ap (λ t. get_or t n found) is
     ∙ get_or-map (placeholder_at names) (nodes_of s) n (root_of s) found (omega (arith, has, length-nodes_of s))
     ∙ ap (placeholder_at names) (sym (node_is s n has))
+
+-- ** Tokens by their numbers.
+
+token_is : (s : Syntax) (n : ℕ) → token_of s n ≡ get_or (tokens_of s) n (record { kind = k.WHITESPACE; text = [] })
+unfolding token_of
+token_is s n = unwrap_or-slice_get (tokens_of s) n (record { kind = k.WHITESPACE; text = [] })
+
+pub tokens_next : (names : List (List ℕ)) (s : Syntax) (n : ℕ) (old new : List (Option ℕ)) (found : Option ℕ) → HasToken s n → found ≡ name_at names (token_of s n)
+    → old ≡ map (name_at names) (take n (tokens_of s)) → new ≡ old ++ found ∷ [] → new ≡ map (name_at names) (take (n + 1) (tokens_of s))
+tokens_next names s n old new found has is so_far pushed =
+    pushed ∙ ap (λ t. t ++ found ∷ []) so_far
+    ∙ ap (λ o. map (name_at names) (take n (tokens_of s)) ++ o ∷ []) (is ∙ ap (name_at names) (token_is s n))
+    ∙ sym (map_more (name_at names) (tokens_of s) n (record { kind = k.WHITESPACE; text = [] }) (omega (arith, has, length-tokens_in s.children)))
+
+pub tokens_all : (names : List (List ℕ)) (s : Syntax) (n : ℕ) (table : List (Option ℕ)) → token_count s.children ≤ n
+    → table ≡ map (name_at names) (take n (tokens_of s)) → table ≡ token_placeholders names s
+tokens_all names s n table all so_far = so_far ∙ ap (map (name_at names)) (take_all n (tokens_of s) (omega (arith, all, length-tokens_in s.children)))
+
+-- a template's table, where there is a template
+module _ (names : List (List ℕ)) (table : List (Option ℕ)) (n : ℕ) where
+  pub in_table : (template : Option Syntax) → IfSome template (λ tree. table ≡ token_placeholders names tree) → IsSomeAnd template (λ tree. HasToken tree n)
+      → n < length table
+  in_table None is has = absurd has
+  in_table (Some tree) is has = omega (arith, has, ap length is, length-map (tokens_of tree) (name_at names), length-tokens_in tree.children)
+
+  pub at_table : (template : Option Syntax) (found : Option ℕ) → IfSome template (λ tree. table ≡ token_placeholders names tree) → IsSomeAnd template (λ tree. HasToken tree n)
+      → found ≡ get_or table n found → IfSome template (λ tree. found ≡ name_at names (token_of tree n))
+  at_table None found is has at = tt
+  at_table (Some tree) found is has at =
+      let none : Token = record { kind = k.WHITESPACE; text = [] } in
+      at ∙ ap (λ t. get_or t n found) is
+      ∙ get_or-map (name_at names) (tokens_of tree) n none found (omega (arith, has, length-tokens_in tree.children))
+      ∙ ap (name_at names) (sym (token_is tree n))
 
 -- ** Single children.
 pub record IsOnly (forest : Forest) (node : Node) : Type 0 where

@@ -1,12 +1,12 @@
 //! Where placeholders stand in a tree.
-ghost use Rattle.std.specs.Prelude.{◌≡◌, ◌<◌, ◌^◌, length, map, string_bytes, IfOk, IfSome};
+ghost use Rattle.std.specs.Prelude.{◌≡◌, ◌<◌, ◌^◌, length, map, IfOk, IfSome};
 ghost use Rattle.std.specs.Option.{option_map};
 ghost use Rattle.ssr_syntax_tree.specs.Places.{HasNode, HasToken, node_of, token_of};
 ghost use Rattle.ide_ssr_rules.specs.StandIns.{name_at};
 ghost use Rattle.ide_ssr_resolving.specs.Placeholders.{only_token, placeholder_at};
-ghost use Rattle.ide_ssr_resolving.specs.Private.Placeholders.{placeholders};
+ghost use Rattle.ide_ssr_resolving.specs.Private.Placeholders.{placeholders, token_placeholders};
 
-use ide_ssr_rules::is_stand_in_of;
+use ide_ssr_rules::Names;
 use ssr_syntax_kinds::SyntaxKind;
 use ssr_syntax_tree::{Element, NodeNo, TokenNo, Tree};
 use std::alloc::{AllocError, Global};
@@ -28,28 +28,25 @@ fn only_token(tree: &Tree, node: NodeNo) -> Option<TokenNo>
 
 /// Which name's stand-in a token is.
 #[tactic(auto, unfolding(ide_ssr_rules::specs::StandIns::name_at))]
-pub(crate) fn name_at(names: &[String], tree: &Tree, token: TokenNo) -> Option<u32>
+fn name_at(names: &Names<'_>, tree: &Tree, token: TokenNo) -> Option<u32>
     requires few { length names.now < 2 ^ 32 }
     requires has { HasToken tree.now token.0 }
-    ensures { result ≡ name_at (map string_bytes names.now) (token_of tree.now token.0) }
+    ensures { result ≡ name_at names.now (token_of tree.now token.0) }
 {
     if !matches!(tree.token_kind(token), SyntaxKind::IDENT) {
         return None;
     }
-    let text = tree.token_text(token);
-    for (place, name) in names.iter().enumerate() {
-        if is_stand_in_of(text, name.as_str()) {
-            return Some(place as u32);
-        }
+    match names.place_of_stand_in(tree.token_text(token)) {
+        Some(place) => Some(place as u32),
+        None => None,
     }
-    None
 }
 
 /// Which name's stand-in a node is.
-pub(crate) fn placeholder_at(names: &[String], tree: &Tree, node: NodeNo) -> Option<u32>
+fn placeholder_at(names: &Names<'_>, tree: &Tree, node: NodeNo) -> Option<u32>
     requires few { length names.now < 2 ^ 32 }
     requires has { HasNode tree.now node.0 }
-    ensures { result ≡ placeholder_at (map string_bytes names.now) (node_of tree.now node.0) }
+    ensures { result ≡ placeholder_at names.now (node_of tree.now node.0) }
 {
     match only_token(tree, node) {
         Some(token) => name_at(names, tree, token),
@@ -60,15 +57,31 @@ pub(crate) fn placeholder_at(names: &[String], tree: &Tree, node: NodeNo) -> Opt
 /// Which name's stand-in each node of a tree is.
 pub(crate) fn placeholders(
     alloc: Global,
-    names: &[String],
+    names: &Names<'_>,
     tree: &Tree,
 ) -> Result<Vec<Option<u32>>, AllocError>
     requires { length names.now < 2 ^ 32 }
-    ensures { IfOk result (λ v. v.items ≡ placeholders (map string_bytes names.now) tree.now) }
+    ensures { IfOk result (λ v. v.items ≡ placeholders names.now tree.now) }
 {
     let mut table = Vec::new(alloc);
     for node in 0..tree.node_count() {
         table.push(placeholder_at(names, tree, NodeNo(node)))?;
+    }
+    Ok(table)
+}
+
+/// Which name's stand-in each token of a tree is.
+pub(crate) fn token_placeholders(
+    alloc: Global,
+    names: &Names<'_>,
+    tree: &Tree,
+) -> Result<Vec<Option<u32>>, AllocError>
+    requires { length names.now < 2 ^ 32 }
+    ensures { IfOk result (λ v. v.items ≡ token_placeholders names.now tree.now) }
+{
+    let mut table = Vec::new(alloc);
+    for token in 0..tree.token_count() {
+        table.push(name_at(names, tree, TokenNo(token)))?;
     }
     Ok(table)
 }

@@ -8,17 +8,18 @@ ghost use Rattle.ide_ssr_rules.specs.StandIns.{name_at};
 ghost use Rattle.ide_ssr_resolving.specs.Mixing.{check_unmixed};
 ghost use Rattle.ide_ssr_resolving.specs.Patterns.{HasEachOnce, AreInArguments};
 ghost use Rattle.ide_ssr_resolving.specs.Placeholders.{placeholder_at};
+ghost use Rattle.ide_ssr_resolving.specs.Private.Placeholders.{token_placeholders};
 ghost use Rattle.ide_ssr_resolving.specs.QualifiedCalls.{HasCalls};
 ghost use Rattle.ide_ssr_resolving.specs.Resolved.{check_template, meets, paths_in, paths_in_template, resolved_kind, resolved_kinds};
 ghost use Rattle.ide_ssr_resolving.specs.Used.{HasPaths, res_at};
 
 use crate::eligible::eligible_paths;
 use crate::mixing::check_unmixed;
-use crate::placeholders::{name_at, placeholder_at, placeholders};
+use crate::placeholders::{placeholders, token_placeholders};
 use crate::qualified_calls::{QualifiedCall, qualified_calls};
-use crate::used::{Unresolved, UsedPath, res_by_node, used_paths};
+use crate::used::{Unresolved, UsedPath, res_by_node, walked};
 use ide_ssr_rules::{
-    ConstraintSet, ParsedKinds, ParsedRule, Refusal, SsrError, SsrPattern, SsrRule, Text,
+    ConstraintSet, Names, ParsedKinds, ParsedRule, Refusal, SsrError, SsrPattern, SsrRule, Text,
     pattern_kinds, rule_kinds,
 };
 use ssr_base::{Res, ScopeId, Semantics};
@@ -37,6 +38,7 @@ pub struct ResolvedRule {
     pattern: Tree,
     template: Option<Tree>,
     in_pattern: Vec<Option<u32>>,
+    in_template: Vec<Option<u32>>,
     pattern_paths: Vec<UsedPath>,
     template_paths: Vec<UsedPath>,
     res_by_node: Vec<Option<Res>>,
@@ -49,7 +51,7 @@ impl Model for ResolvedRule {
     ghost use Rattle.std.specs.Option.{IfSome};
     ghost use Rattle.ide_ssr_resolving.specs.Resolved.{ResolvedKind, resolved_code};
     ghost use Rattle.ide_ssr_resolving.specs.Private.Marks.{TellsRes};
-    ghost use Rattle.ide_ssr_resolving.specs.Private.Placeholders.{placeholders};
+    ghost use Rattle.ide_ssr_resolving.specs.Private.Placeholders.{placeholders, token_placeholders};
     ghost use Rattle.ide_ssr_resolving.specs.QualifiedCalls.{HasCalls};
     ghost use Rattle.ide_ssr_resolving.specs.Used.{HasPaths};
 
@@ -71,7 +73,7 @@ impl Model for ResolvedRule {
 
     ghost invariant = { λ rule. record {
       in_pattern : rule.in_pattern.items ≡ placeholders (map string_bytes rule.names.items) rule.pattern;
-      few : length rule.names.items < 2 ^ 32;
+      in_template : IfSome rule.template (λ template. rule.in_template.items ≡ token_placeholders (map string_bytes rule.names.items) template);
       has_pattern : HasPaths rule.pattern rule.pattern_paths.items;
       res_by_node : TellsRes rule.pattern_paths.items rule.res_by_node.items;
       has_template : IfSome rule.template (λ template. HasPaths template rule.template_paths.items);
@@ -133,10 +135,7 @@ impl ResolvedRule {
         requires { IsSomeAnd self.now.template (λ template. HasToken template token.0) }
         ensures { IfSome self.now.template (λ template. result ≡ name_at self.now.names (token_of template token.0)) }
     {
-        match &self.template {
-            Some(template) => name_at(self.names.as_slice(), template, token),
-            None => None,
-        }
+        self.in_template[token.0 as usize]
     }
 
     /// The paths of the pattern that are used, in order, each with what it resolves to.
@@ -227,13 +226,14 @@ fn resolve<S: Semantics>(
     ensures at_most_once { IfOk result (λ v. All (λ kind. HasEachAtMostOnce kind.names kind.template) v.items) }
 {
     let (names, constraints, kinds) = parsed.into_parts();
+    let known = Names::of(alloc, names.as_slice())?;
     let mut resolved = Vec::new(alloc);
     for kind in kinds {
         resolved.push(resolved_kind(
             alloc,
             semantics,
             scope,
-            names.as_slice(),
+            &known,
             constraints.as_slice(),
             kind,
         )?)?;
@@ -246,12 +246,12 @@ fn resolved_kind<S: Semantics>(
     alloc: Global,
     semantics: &S,
     scope: ScopeId,
-    names: &[String],
+    names: &Names<'_>,
     constraints: &[ConstraintSet],
     kind: ParsedRule,
 ) -> Result<ResolvedRule, SsrError>
     requires { length names.now < 2 ^ 32 }
-    ensures { Answers result (resolved_kind (S.meanings semantics.now) scope (map string_bytes names.now) constraints.now kind) }
+    ensures { Answers result (resolved_kind (S.meanings semantics.now) scope names.now constraints.now kind) }
 {
     let ParsedRule {
         category,
@@ -278,7 +278,8 @@ fn resolved_kind<S: Semantics>(
     )?;
     let res_by_node = res_by_node(alloc, &pattern, pattern_paths.as_slice())?;
     let in_pattern = placeholders(alloc, names, &pattern)?;
-    let names = copied(alloc, names)?;
+    let in_template = template_placeholders(alloc, names, template.as_ref())?;
+    let names = names.owned(alloc)?;
     let constraints = copied_constraints(alloc, constraints)?;
     Ok(ResolvedRule {
         names,
@@ -287,6 +288,7 @@ fn resolved_kind<S: Semantics>(
         pattern,
         template,
         in_pattern,
+        in_template,
         pattern_paths,
         template_paths,
         res_by_node,
@@ -295,15 +297,19 @@ fn resolved_kind<S: Semantics>(
     })
 }
 
-/// The texts once more.
-fn copied(alloc: Global, names: &[String]) -> Result<Vec<String>, AllocError>
-    ensures { IfOk result (λ v. map string_bytes v.items ≡ map string_bytes names.now) }
+/// Which placeholder each token of a template is; without one there are none.
+fn template_placeholders(
+    alloc: Global,
+    names: &Names<'_>,
+    template: Option<&Tree>,
+) -> Result<Vec<Option<u32>>, AllocError>
+    requires { length names.now < 2 ^ 32 }
+    ensures { IfOk result (λ v. IfSome (option_copied template.entry) (λ tree. v.items ≡ token_placeholders names.now tree)) }
 {
-    let mut copies = Vec::new(alloc);
-    for name in names {
-        copies.push(String::from_str(alloc, name.as_str())?)?;
+    match template {
+        Some(tree) => token_placeholders(alloc, names, tree),
+        None => Ok(Vec::new(alloc)),
     }
-    Ok(copies)
 }
 
 /// The constraints once more.
@@ -326,13 +332,13 @@ fn paths_in<S: Semantics>(
     alloc: Global,
     semantics: &S,
     scope: ScopeId,
-    names: &[String],
+    names: &Names<'_>,
     tree: &Tree,
 ) -> Result<Vec<UsedPath>, SsrError>
-    ensures paths { AnswersBy (λ v. v.items) result (paths_in (S.meanings semantics.now) scope (map string_bytes names.now) tree.now) }
+    ensures paths { AnswersBy (λ v. v.items) result (paths_in (S.meanings semantics.now) scope names.now tree.now) }
     ensures has { IfOk result (λ v. HasPaths tree.now v.items) }
 {
-    match used_paths(alloc, semantics, scope, names, tree) {
+    match walked(alloc, semantics, scope, names, tree) {
         Ok(paths) => Ok(paths),
         Err(Unresolved::Path(path)) => {
             Err(Refusal::UnresolvedPath(Text(tree.text(path))).told(alloc))
@@ -346,10 +352,10 @@ fn paths_in_template<S: Semantics>(
     alloc: Global,
     semantics: &S,
     scope: ScopeId,
-    names: &[String],
+    names: &Names<'_>,
     template: Option<&Tree>,
 ) -> Result<Vec<UsedPath>, SsrError>
-    ensures paths { AnswersBy (λ v. v.items) result (paths_in_template (S.meanings semantics.now) scope (map string_bytes names.now) (option_copied template.entry)) }
+    ensures paths { AnswersBy (λ v. v.items) result (paths_in_template (S.meanings semantics.now) scope names.now (option_copied template.entry)) }
     ensures has { IfOk result (λ v. IfSome (option_copied template.entry) (λ tree. HasPaths tree v.items)) }
 {
     match template {

@@ -1,42 +1,29 @@
 //! Whether a stand-in of a placeholder is among the tokens of a path.
-ghost use Rattle.std.specs.Prelude.{◌≡◌, map, string_bytes};
+ghost use Rattle.std.specs.Prelude.{◌≡◌};
 ghost use Rattle.std.specs.List.{list_any};
 ghost use Rattle.ssr_syntax_tree.specs.Places.{HasNode, HasToken, node_of, token_of};
-ghost use Rattle.ide_ssr_rules.specs.StandIns.{is_stand_in};
 ghost use Rattle.ide_ssr_resolving.specs.Used.{names_placeholder, holds_stand_in};
 ghost use Rattle.ide_ssr_resolving.specs.Private.Pieces.{tokens_at, HasPiece};
 
 use crate::keys::Piece;
 use crate::paths::{last_segment, name_end};
-use ide_ssr_rules::is_stand_in_of;
+use ide_ssr_rules::Names;
 use ssr_syntax_kinds::SyntaxKind;
 use ssr_syntax_tree::{NodeNo, TokenNo, Tree};
 
-/// Whether the text is the stand-in of one of the names.
-fn is_stand_in(names: &[String], text: &str) -> bool
-    ensures { result ≡ is_stand_in (map string_bytes names.now) text.now }
-{
-    for name in names {
-        if is_stand_in_of(text, name.as_str()) {
-            return true;
-        }
-    }
-    false
-}
-
-/// Whether a token is one.
-fn names_placeholder(names: &[String], tree: &Tree, token: TokenNo) -> bool
+/// Whether a token is the stand-in of one of the names.
+fn names_placeholder(names: &Names<'_>, tree: &Tree, token: TokenNo) -> bool
     requires { HasToken tree.now token.0 }
-    ensures { result ≡ names_placeholder (map string_bytes names.now) (token_of tree.now token.0) }
+    ensures { result ≡ names_placeholder names.now (token_of tree.now token.0) }
 {
     matches!(tree.token_kind(token), SyntaxKind::IDENT)
-        && is_stand_in(names, tree.token_text(token))
+        && names.has_stand_in(tree.token_text(token))
 }
 
 /// Whether one of the tokens of a piece is.
-fn has_stand_in(names: &[String], tree: &Tree, piece: Piece) -> bool
+fn has_stand_in(names: &Names<'_>, tree: &Tree, piece: Piece) -> bool
     requires { HasPiece tree.now piece }
-    ensures { result ≡ list_any (names_placeholder (map string_bytes names.now)) (tokens_at tree.now piece) }
+    ensures { result ≡ list_any (names_placeholder names.now) (tokens_at tree.now piece) }
 {
     for number in piece.first..piece.past {
         if names_placeholder(names, tree, TokenNo(number)) {
@@ -47,9 +34,9 @@ fn has_stand_in(names: &[String], tree: &Tree, piece: Piece) -> bool
 }
 
 /// Whether one of the tokens of a path is, but for the arguments of its last segment.
-pub(crate) fn holds_stand_in(names: &[String], tree: &Tree, path: NodeNo) -> bool
+pub(crate) fn holds_stand_in(names: &Names<'_>, tree: &Tree, path: NodeNo) -> bool
     requires { HasNode tree.now path.0 }
-    ensures { result ≡ holds_stand_in (map string_bytes names.now) (node_of tree.now path.0).children }
+    ensures { result ≡ holds_stand_in names.now (node_of tree.now path.0).children }
 {
     let tokens = tree.tokens_below(path);
     let Some(last) = last_segment(tree, path) else {

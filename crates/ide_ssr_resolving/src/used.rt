@@ -10,6 +10,7 @@ ghost use Rattle.ide_ssr_resolving.specs.Private.Steps.{path_step, step_of};
 use crate::paths::{first_child, last_name, qualifying};
 use crate::resolving::resolution;
 use crate::stand_ins::holds_stand_in;
+use ide_ssr_rules::Names;
 use ssr_base::{DefInfo, DefKind, Res, ScopeId, Semantics};
 use ssr_syntax_kinds::SyntaxKind;
 use ssr_syntax_tree::{NodeNo, Tree};
@@ -99,9 +100,9 @@ fn has_generic_qualifier(alloc: Global, tree: &Tree, path: NodeNo) -> Result<boo
 }
 
 /// Whether a path resolves as a whole.
-fn is_whole(alloc: Global, names: &[String], tree: &Tree, path: NodeNo) -> Result<bool, AllocError>
+fn is_whole(alloc: Global, names: &Names<'_>, tree: &Tree, path: NodeNo) -> Result<bool, AllocError>
     requires { HasNode tree.now path.0 }
-    ensures { IfOk result (λ whole. whole ≡ is_whole (map string_bytes names.now) (node_of tree.now path.0).children) }
+    ensures { IfOk result (λ whole. whole ≡ is_whole names.now (node_of tree.now path.0).children) }
 {
     if has_generic_qualifier(alloc, tree, path)? {
         return Ok(false);
@@ -139,12 +140,12 @@ fn path_step<S: Semantics>(
     alloc: Global,
     semantics: &S,
     scope: ScopeId,
-    names: &[String],
+    names: &Names<'_>,
     tree: &Tree,
     path: NodeNo,
 ) -> Result<Step, AllocError>
     requires { HasNode tree.now path.0 }
-    ensures { IfOk result (λ step. step ≡ path_step (S.meanings semantics.now) scope (map string_bytes names.now) (node_of tree.now path.0).children) }
+    ensures { IfOk result (λ step. step ≡ path_step (S.meanings semantics.now) scope names.now (node_of tree.now path.0).children) }
 {
     if !is_whole(alloc, names, tree, path)? {
         return Ok(Step::Enter);
@@ -164,12 +165,12 @@ fn node_step<S: Semantics>(
     alloc: Global,
     semantics: &S,
     scope: ScopeId,
-    names: &[String],
+    names: &Names<'_>,
     tree: &Tree,
     node: NodeNo,
 ) -> Result<Step, AllocError>
     requires { HasNode tree.now node.0 }
-    ensures { IfOk result (λ step. step ≡ step_of (S.meanings semantics.now) scope (map string_bytes names.now) (node_of tree.now node.0)) }
+    ensures { IfOk result (λ step. step ≡ step_of (S.meanings semantics.now) scope names.now (node_of tree.now node.0)) }
 {
     if !tree.kind(node).is(SyntaxKind::PATH) {
         return Ok(Step::Enter);
@@ -194,6 +195,22 @@ pub fn used_paths<S: Semantics>(
     ensures has { IfOk result (λ v. HasPaths tree.now v.items) }
     ensures has_refused { IfErr result (HasRefused tree.now) }
     ensures answers { Answers (λ v. v.items) result (used_paths (S.meanings semantics.now) scope (map string_bytes names.now) tree.now) }
+{
+    let known = Names::of(alloc, names)?;
+    walked(alloc, semantics, scope, &known, tree)
+}
+
+/// The same for names that are looked up.
+pub(crate) fn walked<S: Semantics>(
+    alloc: Global,
+    semantics: &S,
+    scope: ScopeId,
+    names: &Names<'_>,
+    tree: &Tree,
+) -> Result<Vec<UsedPath>, Unresolved>
+    ensures has { IfOk result (λ v. HasPaths tree.now v.items) }
+    ensures has_refused { IfErr result (HasRefused tree.now) }
+    ensures answers { Answers (λ v. v.items) result (used_paths (S.meanings semantics.now) scope names.now tree.now) }
 {
     let mut used = Vec::new(alloc);
     let mut next = 0;

@@ -4,7 +4,7 @@ use Rattle.ide_ssr_resolving.proofs.placeholders.placeholders.Goals as goal
 
 pub loop-node-preserved : goal.loop-node-preserved
 loop-node-preserved c =
-    table_next (map string_bytes c.args.names.now) c.args.tree.now c.loop-node.node _ _ _ (omega arith) c.placeholder_at.ensures c.loop-node.invariant c.in_ok-push.ensures.items
+    table_next c.args.names.now c.args.tree.now c.loop-node.node _ _ _ (omega arith) c.placeholder_at.ensures c.loop-node.invariant c.in_ok-push.ensures.items
 
 pub returns : goal.returns
-returns c = table_all (map string_bytes c.args.names.now) c.args.tree.now c.loop-node.node _ (omega arith) c.loop-node.invariant
+returns c = table_all c.args.names.now c.args.tree.now c.loop-node.node _ (omega arith) c.loop-node.invariant

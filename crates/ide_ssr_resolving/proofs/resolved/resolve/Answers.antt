@@ -1,6 +1,8 @@
-use Rattle.std.proofs.Common.{◌≡◌, List, length, map, string_bytes, All, Ok, ap, sym, ◌∙◌}
+use Rattle.std.proofs.Common.{◌≡◌, ℕ, arith, List, length, map, string_bytes, All, Ok, ap, sym, ◌∙◌}
 use Rattle.std.proofs.lemmas.List.Elements.{All-weaker}
-use Rattle.std.proofs.lemmas.List.{nil_from_length}
+use Rattle.std.proofs.lemmas.List.{length-map, nil_from_length}
+use Rattle.std.specs.declared.alloc.Global.{Global}
+use Rattle.std.specs.declared.string.String.{String}
 use Rattle.std.specs.Vec.Iter.{into_iter_items}
 use Rattle.ssr_base.specs.declared.ids.ScopeId.{ScopeId}
 use Rattle.ssr_base.specs.Meanings.{Meanings}
@@ -26,11 +28,12 @@ loop-kind-preserved g c =
     let m = g.S.Semantics.meanings c.args.semantics.now in
     let kind = c.in-Some.kind in
     let asked = c.args.parsed.constraints in
+    let known = c.in_ok-known.known in
+    let named : known ≡ c.args.parsed.names =
+    c.in_ok-known.ensures ∙ ap (map string_bytes) c.as_slice.ensures.value ∙ c.into_parts-names.ensures.names in
     let resolved : resolved_kind m c.args.scope c.args.parsed.names asked kind ≡ Ok c.in_ok-resolved_kind.field-0 =
-    ap (λ ns. resolved_kind m c.args.scope ns asked kind) (sym c.into_parts-names.ensures.names)
-    ∙ ap (λ ns. resolved_kind m c.args.scope (map string_bytes ns) asked kind) (sym c.as_slice.ensures.value)
-    ∙ ap (λ asks. resolved_kind m c.args.scope (map string_bytes c.as_slice.result.now) asks kind)
-    (sym (c.as_slice-in-loop-kind.ensures.value ∙ c.into_parts-names.ensures.constraints))
+    ap (λ ns. resolved_kind m c.args.scope ns asked kind) (sym named)
+    ∙ ap (λ asks. resolved_kind m c.args.scope known asks kind) (sym (c.as_slice-in-loop-kind.ensures.value ∙ c.into_parts-names.ensures.constraints))
     ∙ c.in_ok-resolved_kind.ensures in
     resolves_next m c.args.scope c.args.parsed.names asked c.args.parsed.kinds (into_iter_items c.loop-kind.kind-iterator) (into_iter_items c.next.new.self)
     c.loop-kind.resolved.items c.push.new.self.items kind c.in_ok-resolved_kind.field-0 c.loop-kind.invariant c.in-Some.ensures.steps.0
@@ -53,3 +56,8 @@ returns-clause-in_arguments g c =
     All-weaker IsUsedOnce (λ kind. AreInArguments kind.names kind.pattern kind.pattern_paths) (λ kind is. is.2) c.loop-kind.resolved.items
     (all_once (g.S.Semantics.meanings c.args.semantics.now) c.args.scope c.args.parsed (into_iter_items c.loop-kind.kind-iterator) c.loop-kind.resolved.items
     c.loop-kind.invariant (sym c.loop-kind.kind-iterator.rest.ok.0 ∙ c.in-None.ensures.steps.0) c.into_parts-names.ensures.once)
+
+pub resolved_kind-requires : goal.resolved_kind-requires
+resolved_kind-requires g c =
+    let few = c.into_parts-names.ensures.few in
+    omega (arith, few, ap length (c.in_ok-known.ensures ∙ ap (map string_bytes) c.as_slice.ensures.value), length-map {A = String Global} {B = List ℕ})

@@ -1,8 +1,6 @@
-use Rattle.std.proofs.Common.{List, ℕ, length, ap, sym, ◌∙◌, arith}
-use Rattle.std.proofs.lemmas.List.{length-map}
-use Rattle.std.specs.declared.alloc.Global.{Global}
-use Rattle.std.specs.declared.string.String.{String}
-use Rattle.ide_ssr_resolving.specs.Private.Placeholders.{placeholders}
+use Rattle.std.proofs.Common.{◌≡◌, ap, subst, sym, ◌∙◌}
+use Rattle.std.specs.Option.{IfSome, option_copied}
+use Rattle.ide_ssr_resolving.specs.Private.Placeholders.{placeholders, token_placeholders}
 use Rattle.std.proofs.lemmas.Result.{err_from_is_err_and}
 use Rattle.ide_ssr_resolving.proofs.KindByKind.{template_unresolved, pattern_unresolved, template_mixes, pattern_mixes, kind_resolved}
 use Rattle.ide_ssr_resolving.proofs.resolved.resolved_kind.Goals as goal
@@ -48,7 +46,10 @@ returns g c =
 pub invariant_of-result : goal.invariant_of-result
 invariant_of-result g c = record {
   in_pattern = c.in_ok-in_pattern.ensures ∙ ap (λ names. placeholders names c.args.kind.pattern) (sym c.in_ok-names.ensures);
-  few = (let few = c.requires in omega (arith, few, ap length c.in_ok-names.ensures, length-map {A = String Global} {B = List ℕ}));
+  in_template =
+      rw c.as_ref-3.ensures.value at
+      (subst (λ names. IfSome (option_copied c.as_ref-3.result) (λ tree. c.in_ok-in_template.in_template.items ≡ token_placeholders names tree)) (sym c.in_ok-names.ensures)
+      c.in_ok-in_template.ensures);
   has_pattern = c.in_ok-pattern_paths.ensures.has;
   res_by_node = rw c.as_slice-4.ensures.value at c.in_ok-res_by_node.ensures;
   has_template = rw c.as_ref.ensures.value at c.in_ok-template_paths.ensures.has;

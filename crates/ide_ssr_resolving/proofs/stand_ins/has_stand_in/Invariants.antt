@@ -6,5 +6,5 @@ use Rattle.ide_ssr_resolving.proofs.stand_ins.has_stand_in.Given as goal
 
 abbrev pub invariant-loop-number : goal.invariant-loop-number
 invariant-loop-number l =
-    list_any (names_placeholder (map string_bytes l.names)) (tokens_between l.tree l.number l.fn.piece.past)
-    ≡ list_any (names_placeholder (map string_bytes l.names)) (tokens_between l.tree l.fn.piece.first l.fn.piece.past)
+    list_any (names_placeholder l.names) (tokens_between l.tree l.number l.fn.piece.past)
+    ≡ list_any (names_placeholder l.names) (tokens_between l.tree l.fn.piece.first l.fn.piece.past)

@@ -1,4 +1,4 @@
-use Rattle.std.proofs.Common.{arith, map, sym, string_bytes}
+use Rattle.std.proofs.Common.{arith, sym}
 use Rattle.ssr_syntax_tree.specs.Places.{node_of}
 use Rattle.ide_ssr_resolving.proofs.Children.{before_fewer}
 use Rattle.ide_ssr_resolving.proofs.Tokens.{around_arguments}
@@ -7,7 +7,7 @@ use Rattle.ide_ssr_resolving.proofs.stand_ins.holds_stand_in.Goals as goal
 
 pub returns-in_default : goal.returns-in_default
 returns-in_default c =
-    whole_holds (map string_bytes c.args.names.now) c.args.tree.now c.args.path.0 _ _ _ c.requires c.tokens_below-tokens.ensures.start c.tokens_below-tokens.ensures.end
+    whole_holds c.args.names.now c.args.tree.now c.args.path.0 _ _ _ c.requires c.tokens_below-tokens.ensures.start c.tokens_below-tokens.ensures.end
     c.in_default.ensures.node c.has_stand_in.ensures
 
 pub has_stand_in-requires-2 : goal.has_stand_in-requires-2
@@ -33,11 +33,11 @@ has_stand_in-requires-else-has_stand_in c =
 
 pub returns-then-has_stand_in : goal.returns-then-has_stand_in
 returns-then-has_stand_in c =
-    front_holds (map string_bytes c.args.names.now) c.args.tree.now c.args.path.0 (node_of c.args.tree.now c.in-Some.last.0) _ _ _ c.requires (sym c.in-Some.ensures.node)
+    front_holds c.args.names.now c.args.tree.now c.args.path.0 (node_of c.args.tree.now c.in-Some.last.0) _ _ _ c.requires (sym c.in-Some.ensures.node)
     c.tokens_below-tokens.ensures.start c.name_end.ensures c.has_stand_in-2.ensures c.if-has_stand_in.true
 
 pub returns-else-has_stand_in : goal.returns-else-has_stand_in
 returns-else-has_stand_in c =
-    behind_holds (map string_bytes c.args.names.now) c.args.tree.now c.args.path.0 (node_of c.args.tree.now c.in-Some.last.0) _ _ _ _ _ _ c.requires (sym c.in-Some.ensures.node)
+    behind_holds c.args.names.now c.args.tree.now c.args.path.0 (node_of c.args.tree.now c.in-Some.last.0) _ _ _ _ _ _ c.requires (sym c.in-Some.ensures.node)
     c.tokens_below-tokens.ensures.start c.name_end.ensures c.tokens_below.ensures.end c.tokens_below-tokens.ensures.end
     c.has_stand_in-2.ensures c.if-has_stand_in.false c.has_stand_in-else-has_stand_in.ensures

@@ -7,6 +7,6 @@ use Rattle.ide_ssr_resolving.proofs.used.node_step.Goals as goal
 
 pub returns : goal.returns
 returns g c =
-    steps_at_path (g.S.Semantics.meanings c.args.semantics.now) c.args.scope (map string_bytes c.args.names.now) (node_of c.args.tree.now c.args.node.0)
+    steps_at_path (g.S.Semantics.meanings c.args.semantics.now) c.args.scope c.args.names.now (node_of c.args.tree.now c.args.node.0)
     c.in_ok-step.step (sym c.if-not-is.false ∙ c.is.ensures.same ∙ ap (λ kind. same_kind kind k.PATH) c.kind.ensures)
     (sym c.if-ends_in_self.false ∙ c.ends_in_self.ensures) c.in_ok-step.ensures
