@@ -1,4 +1,4 @@
-use Rattle.std.proofs.Common.{ap, ◌∙◌, map, string_bytes}
+use Rattle.std.proofs.Common.{ap, ◌∙◌}
 use Rattle.std.specs.Option.{option_and_then}
 use Rattle.ide_ssr_rules.specs.StandIns.{name_at}
 use Rattle.ide_ssr_resolving.specs.Placeholders.{placeholder_at}

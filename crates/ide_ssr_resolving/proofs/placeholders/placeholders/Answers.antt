@@ -1,4 +1,4 @@
-use Rattle.std.proofs.Common.{arith, map, string_bytes}
+use Rattle.std.proofs.Common.{arith}
 use Rattle.ide_ssr_resolving.proofs.Nodes.{table_next, table_all}
 use Rattle.ide_ssr_resolving.proofs.placeholders.placeholders.Goals as goal
 

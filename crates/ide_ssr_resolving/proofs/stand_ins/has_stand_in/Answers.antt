@@ -1,4 +1,4 @@
-use Rattle.std.proofs.Common.{arith, map, string_bytes, sym, ◌∙◌}
+use Rattle.std.proofs.Common.{arith, sym, ◌∙◌}
 use Rattle.ide_ssr_resolving.specs.Used.{names_placeholder}
 use Rattle.ide_ssr_resolving.proofs.StandIns.{token_passed, token_found, no_token}
 use Rattle.ide_ssr_resolving.proofs.stand_ins.has_stand_in.Goals as goal

@@ -1,4 +1,4 @@
-use Rattle.std.proofs.Common.{◌≡◌, map, string_bytes}
+use Rattle.std.proofs.Common.{◌≡◌}
 use Rattle.std.specs.List.{list_any}
 use Rattle.ide_ssr_resolving.specs.Used.{names_placeholder}
 use Rattle.ide_ssr_resolving.specs.Private.Pieces.{tokens_between}

@@ -1,4 +1,4 @@
-use Rattle.std.proofs.Common.{map, sym, string_bytes, ◌∙◌, true}
+use Rattle.std.proofs.Common.{sym, ◌∙◌, true}
 use Rattle.ssr_syntax_tree.specs.Places.{node_of}
 use Rattle.ide_ssr_resolving.proofs.Steps.{resolved_step}
 use Rattle.ide_ssr_resolving.proofs.used.path_step.Goals as goal

@@ -1,5 +1,4 @@
-use Rattle.std.proofs.Common.{map, subst, string_bytes}
-use Rattle.std.specs.declared.alloc.Global.{Global}
+use Rattle.std.proofs.Common.{subst}
 use Rattle.ide_ssr_resolving.specs.Used.{Answers, used_paths}
 use Rattle.ide_ssr_resolving.proofs.used.used_paths.Goals as goal
 

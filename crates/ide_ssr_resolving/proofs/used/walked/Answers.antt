@@ -1,4 +1,4 @@
-use Rattle.std.proofs.Common.{map, string_bytes, sym, ◌∙◌, arith}
+use Rattle.std.proofs.Common.{sym, ◌∙◌, arith}
 use Rattle.ide_ssr_resolving.proofs.Walk.{walked_enter, walked_pass, walked_use, walked_refuse, walked_all}
 use Rattle.ide_ssr_resolving.proofs.used.walked.Goals as goal
 

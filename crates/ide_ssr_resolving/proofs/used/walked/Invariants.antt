@@ -1,4 +1,4 @@
-use Rattle.std.proofs.Common.{map, string_bytes, ◌-◌, ◌+◌}
+use Rattle.std.proofs.Common.{◌-◌, ◌+◌}
 use Rattle.ssr_syntax_tree.specs.Syntax.{node_count}
 use Rattle.ide_ssr_resolving.proofs.Walk.{Walked}
 use Rattle.ide_ssr_resolving.proofs.used.walked.Given as goal
