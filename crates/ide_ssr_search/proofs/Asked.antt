@@ -12,6 +12,7 @@ use Rattle.ssr_syntax_kinds.specs.Kinds.{same_kind, is_trivia}
 use Rattle.ssr_syntax_kinds.proofs.Shared.{same_kind-equal, equal-same_kind}
 use Rattle.ssr_syntax_tree.specs.Syntax.{Syntax, Token}
 use Rattle.ssr_syntax_tree.specs.Places.{Node, Part, token_part, node_part, parts_of, node_of, root_of}
+use Rattle.ssr_base.specs.Meanings.{Meanings}
 use Rattle.ssr_base.specs.Workspace.{Workspace, trees, node_id}
 use Rattle.ide_ssr_resolving.specs.Resolved.{ResolvedKind}
 use Rattle.ide_ssr_resolving.specs.Placeholders.{placeholder_at}
@@ -24,7 +25,7 @@ use Rattle.ssr_base.specs.Built.{IsMacroCall}
 use Rattle.ide_ssr_search.specs.WholeMatches.{IsWholeMatch}
 use Rattle.ide_ssr_search.specs.Private.Shut.{Shuts}
 use Rattle.ide_ssr_matching.proofs.Shared.{IsTree, in_tree}
-use Rattle.ide_ssr_search.specs.Private.Roots.{counts, first_counted, has_token_of, has_asked, has_kind, IsRootOf, AreRules}
+use Rattle.ide_ssr_search.specs.Private.Roots.{counts, first_counted, has_token_of, has_asked, has_kind, pattern_res, IsRootOf, AreRules}
 
 -- ** Sibling by sibling.
 
@@ -114,34 +115,47 @@ token_paired a b kind had has same behind h = by_kind (same_kind a kind) refl h
     by_kind true is h = or_left (same_kind b kind) has (ap (λ x. same_kind x kind) (sym same) ∙ is)
     by_kind false is h = or_right (same_kind b kind) has (behind h)
 
-paired_token : (rule : ResolvedKind) (ps cs : List Part) (bs : List Binding) (kind : SyntaxKind) → Pairs rule ps cs bs → has_token_of kind ps ≡ true → has_token_of kind cs ≡ true
-paired_token rule _ _ _ kind end has = has
-paired_token rule _ _ _ kind (tokens t u p c ps cs bs same text rest) has =
-    token_paired p.kind c.kind kind (has_token_of kind ps) (has_token_of kind cs) same (paired_token rule ps cs bs kind rest) has
-paired_token rule _ _ _ kind (nodes p c ps cs bs rest here behind) has = paired_token rule ps cs rest kind behind has
+paired_token : (m : Meanings) (tree : ℕ) (rule : ResolvedKind) (ps cs : List Part) (bs : List Binding) (kind : SyntaxKind) → Pairs m tree rule ps cs bs
+    → has_token_of kind ps ≡ true → has_token_of kind cs ≡ true
+paired_token m tree rule _ _ _ kind end has = has
+paired_token m tree rule _ _ _ kind (tokens t u p c ps cs bs same text rest) has =
+    token_paired p.kind c.kind kind (has_token_of kind ps) (has_token_of kind cs) same (paired_token m tree rule ps cs bs kind rest) has
+paired_token m tree rule _ _ _ kind (nodes p c ps cs bs rest here behind) has = paired_token m tree rule ps cs rest kind behind has
 
 -- ** What is asked.
 
 pub root_of_placeholder : (rule : ResolvedKind) → IsRootOf rule roots.Placeholder
-root_of_placeholder rule c bindings matches = refl
+root_of_placeholder rule m tree c bindings matches = refl
 
-matched_alike : (rule : ResolvedKind) (p c : Node) (bs : List Binding) → placeholder_at rule.names p ≡ None → Matches rule p c bs
-    → (p.kind ≡ c.kind) × Pairs rule (bare (parts_of p)) (bare (parts_of c)) bs
-matched_alike rule _ _ _ none (bound p c i is met) = absurd (none-some i (sym none ∙ is))
-matched_alike rule _ _ _ none (alike p c bs other same pairs) = (same, pairs)
+matched_kind : (m : Meanings) (tree : ℕ) (rule : ResolvedKind) (p c : Node) (bs : List Binding) → placeholder_at rule.names p ≡ None → Matches m tree rule p c bs → p.kind ≡ c.kind
+matched_kind m tree rule _ _ _ none (bound p c i is met) = absurd (none-some i (sym none ∙ is))
+matched_kind m tree rule _ _ _ none (alike p c bs other same pairs) = same
+
+matched_alike : (m : Meanings) (tree : ℕ) (rule : ResolvedKind) (p c : Node) (bs : List Binding) → placeholder_at rule.names p ≡ None → pattern_res rule p ≡ None
+    → Matches m tree rule p c bs → Pairs m tree rule (bare (parts_of p)) (bare (parts_of c)) bs
+matched_alike m tree rule _ _ _ none unused (bound p c i is met) = absurd (none-some i (sym none ∙ is))
+matched_alike m tree rule _ _ _ none unused (alike p c bs other same pairs) = pairs
+
+-- a root that is a used path asks for its kind alone
+pub root_of_path : (rule : ResolvedKind) (kind : SyntaxKind) → placeholder_at rule.names (root_of rule.pattern) ≡ None → kind ≡ (root_of rule.pattern).kind
+    → IsRootOf rule (roots.Node kind None)
+root_of_path rule kind none kind_is m tree c bindings matches =
+    and_from _ _ (equal-same_kind c.kind kind (sym (matched_kind m tree rule (root_of rule.pattern) c bindings none matches) ∙ sym kind_is)) refl
 
 pub root_of_node : (rule : ResolvedKind) (kind : SyntaxKind) (token : Option SyntaxKind) → placeholder_at rule.names (root_of rule.pattern) ≡ None
-    → kind ≡ (root_of rule.pattern).kind → token ≡ first_counted (parts_of (root_of rule.pattern)) → IsRootOf rule (roots.Node kind token)
-root_of_node rule kind token none kind_is token_is c bindings matches =
+    → pattern_res rule (root_of rule.pattern) ≡ None → kind ≡ (root_of rule.pattern).kind → token ≡ first_counted (parts_of (root_of rule.pattern))
+    → IsRootOf rule (roots.Node kind token)
+root_of_node rule kind token none unused kind_is token_is m tree c bindings matches =
     let p = root_of rule.pattern in
-    let likewise = matched_alike rule p c bindings none matches in
-    and_from _ _ (equal-same_kind c.kind kind (sym likewise.0 ∙ sym kind_is)) (by_token token (sym token_is) likewise.1)
+    and_from _ _ (equal-same_kind c.kind kind (sym (matched_kind m tree rule p c bindings none matches) ∙ sym kind_is))
+    (by_token token (sym token_is) (matched_alike m tree rule p c bindings none unused matches))
   where
     by_token : (o : Option SyntaxKind) → first_counted (parts_of (root_of rule.pattern)) ≡ o
-        → Pairs rule (bare (parts_of (root_of rule.pattern))) (bare (parts_of c)) bindings → option_map_or (λ kind. has_token_of kind (parts_of c)) o true ≡ true
+        → Pairs m tree rule (bare (parts_of (root_of rule.pattern))) (bare (parts_of c)) bindings → option_map_or (λ kind. has_token_of kind (parts_of c)) o true ≡ true
     by_token None is pairs = refl
     by_token (Some kind) is pairs =
-        bare_token (parts_of c) kind (paired_token rule (bare (parts_of (root_of rule.pattern))) (bare (parts_of c)) bindings kind pairs (counted_bare (parts_of (root_of rule.pattern)) kind is))
+        bare_token (parts_of c) kind
+        (paired_token m tree rule (bare (parts_of (root_of rule.pattern))) (bare (parts_of c)) bindings kind pairs (counted_bare (parts_of (root_of rule.pattern)) kind is))
 
 pub root_node : (syntax : Syntax) → node_of syntax 0 ≡ root_of syntax
 unfolding node_of
@@ -170,22 +184,23 @@ set_kept false listed i j has =
 
 -- ** Nodes that lack it.
 
-module _ (w : Workspace) (t n : ℕ) (s : Syntax) (at : IsTree (trees w) t s) where
+module _ (w : Workspace) (meanings : Meanings) (t n : ℕ) (s : Syntax) (at : IsTree (trees w) t s) where
   -- what a whole match at a node says of the node
-  matched_there : (rule : ResolvedKind) (bindings : List Binding) → IsWholeMatch (trees w) rule (node_id t n) bindings
-      → Matches rule (root_of rule.pattern) (node_of s n) bindings
-  matched_there rule bindings whole = in_tree (trees w) t s (λ s. Matches rule (root_of rule.pattern) (node_of s n) bindings) at whole.matches
+  matched_there : (rule : ResolvedKind) (bindings : List Binding) → IsWholeMatch (trees w) meanings rule (node_id t n) bindings
+      → Matches meanings t rule (root_of rule.pattern) (node_of s n) bindings
+  matched_there rule bindings whole = in_tree (trees w) t s (λ s. Matches meanings t rule (root_of rule.pattern) (node_of s n) bindings) at whole.matches
 
   pub unmatched_root : (rule : ResolvedKind) (root : Root) → IsRootOf rule root → has_asked root (node_of s n) ≡ false
-      → (bindings : List Binding) → IsWholeMatch (trees w) rule (node_id t n) bindings → ⊥
+      → (bindings : List Binding) → IsWholeMatch (trees w) meanings rule (node_id t n) bindings → ⊥
   unmatched_root rule root is lacks bindings whole =
-      both_ways (has_asked root (node_of s n)) lacks (is (node_of s n) bindings (matched_there rule bindings whole))
+      both_ways (has_asked root (node_of s n)) lacks (is meanings t (node_of s n) bindings (matched_there rule bindings whole))
 
   pub unmatched_kind : (rules : Rules) → AreRules rules → has_kind rules.kinds (node_of s n).kind ≡ false
-      → (place : ℕ) (rule : ResolvedKind) (bindings : List Binding) → slice_get rules.rules.now place ≡ Some rule → IsWholeMatch (trees w) rule (node_id t n) bindings → ⊥
+      → (place : ℕ) (rule : ResolvedKind) (bindings : List Binding) → slice_get rules.rules.now place ≡ Some rule → IsWholeMatch (trees w) meanings rule (node_id t n) bindings → ⊥
   unmatched_kind rules are lacks place rule bindings is whole =
-      both_ways (has_kind rules.kinds (node_of s n).kind) lacks (are.kinds place rule is (node_of s n) bindings (matched_there rule bindings whole))
+      both_ways (has_kind rules.kinds (node_of s n).kind) lacks (are.kinds place rule is meanings t (node_of s n) bindings (matched_there rule bindings whole))
 
+module _ (w : Workspace) (t n : ℕ) (s : Syntax) (at : IsTree (trees w) t s) where
   -- a node of a kind that concerns nothing shuts in nothing
   pub unshutting_kind : (rules : Rules) → AreRules rules → has_kind rules.kinds (node_of s n).kind ≡ false → Shuts (trees w) (node_id t n) → ⊥
   unshutting_kind rules are lacks (inl is_use) =

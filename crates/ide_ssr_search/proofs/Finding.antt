@@ -9,6 +9,7 @@ use Rattle.std.proofs.lemmas.Option.{none-some, same_Some, slice_get_within, sli
 use Rattle.ssr_syntax_tree.specs.Syntax.{Syntax, node_count}
 use Rattle.ssr_syntax_tree.specs.Places.{HasNode}
 use Rattle.ssr_base.specs.declared.ids.NodeId.{NodeId}
+use Rattle.ssr_base.specs.Meanings.{Meanings}
 use Rattle.ssr_base.specs.Workspace.{Workspace, Planted, trees, planted, tree_of, node_id}
 use Rattle.ide_ssr_resolving.specs.Resolved.{ResolvedKind}
 use Rattle.ide_ssr_matching.specs.declared.bindings.Binding.{Binding}
@@ -70,10 +71,10 @@ tree_cases t m (inr same) = elim same.1 [ inl none ↦ absurd (omega arith) | in
 pub at_id : (t n : ℕ) (x : NodeId) → x.tree ≡ t → x.node.0 ≡ n → x ≡ node_id t n
 at_id t n x tree node = ap (λ t. node_id t x.node.0) tree ∙ ap (node_id t) node
 
-module _ (w : Workspace) (context : Context) (rules : List ResolvedKind) where
+module _ (w : Workspace) (meanings : Meanings) (context : Context) (rules : List ResolvedKind) where
   -- what is found stays while no further match is passed
-  passed : (t n r u m q : ℕ) (ms : List Found) → AreFoundBefore w context rules t n r ms → ((f : Found) → IsBefore t n r f → IsBefore u m q f)
-      → ((f : Found) → IsFound w context rules f → IsBefore u m q f → IsBefore t n r f) → AreFoundBefore w context rules u m q ms
+  passed : (t n r u m q : ℕ) (ms : List Found) → AreFoundBefore w meanings context rules t n r ms → ((f : Found) → IsBefore t n r f → IsBefore u m q f)
+      → ((f : Found) → IsFound w meanings context rules f → IsBefore u m q f → IsBefore t n r f) → AreFoundBefore w meanings context rules u m q ms
   passed t n r u m q ms so_far on back = record {
     in_order = so_far.in_order;
     before = All-weaker (IsBefore t n r) (IsBefore u m q) on ms so_far.before;
@@ -81,11 +82,11 @@ module _ (w : Workspace) (context : Context) (rules : List ResolvedKind) where
     complete = λ f is before. so_far.complete f is (back f is before);
   }
 
-  pub found_none : AreFoundBefore w context rules 0 0 0 []
+  pub found_none : AreFoundBefore w meanings context rules 0 0 0 []
   found_none = record {
     in_order = pairs_none Precedes;
     before = All-nil (IsBefore 0 0 0);
-    are = All-nil (IsFound w context rules);
+    are = All-nil (IsFound w meanings context rules);
     complete = λ f is before.
         elim before [
           | inl tree ↦ absurd (omega arith)
@@ -95,21 +96,21 @@ module _ (w : Workspace) (context : Context) (rules : List ResolvedKind) where
 
   -- ** At a node.
 
-  here_rule : (place : ℕ) (rule : ResolvedKind) (f : Found) (is : IsFound w context rules f) → slice_get rules place ≡ Some rule → f.rule ≡ place → is.rule ≡ rule
+  here_rule : (place : ℕ) (rule : ResolvedKind) (f : Found) (is : IsFound w meanings context rules f) → slice_get rules place ≡ Some rule → f.rule ≡ place → is.rule ≡ rule
   here_rule place rule f is at same = same_Some is.rule rule (sym is.is_rule ∙ ap (slice_get rules) same ∙ at)
 
   -- the match of a rule at a node
-  here_found : (t n place : ℕ) (rule : ResolvedKind) (f : Found) → slice_get rules place ≡ Some rule → IsFound w context rules f
-      → f.node.tree ≡ t → f.node.node.0 ≡ n → f.rule ≡ place → IsPermitted w context rule (node_id t n) × IsWholeMatch (trees w) rule (node_id t n) f.bindings
+  here_found : (t n place : ℕ) (rule : ResolvedKind) (f : Found) → slice_get rules place ≡ Some rule → IsFound w meanings context rules f
+      → f.node.tree ≡ t → f.node.node.0 ≡ n → f.rule ≡ place → IsPermitted w context rule (node_id t n) × IsWholeMatch (trees w) meanings rule (node_id t n) f.bindings
   here_found t n place rule f at is tree node same =
       let x = at_id t n f.node tree node in
       let by = here_rule place rule f is at same in (
         subst (λ rule. IsPermitted w context rule (node_id t n)) by (subst (IsPermitted w context is.rule) x is.permitted),
-        subst (λ rule. IsWholeMatch (trees w) rule (node_id t n) f.bindings) by (subst (λ x. IsWholeMatch (trees w) is.rule x f.bindings) x is.whole),
+        subst (λ rule. IsWholeMatch (trees w) meanings rule (node_id t n) f.bindings) by (subst (λ x. IsWholeMatch (trees w) meanings is.rule x f.bindings) x is.whole),
       )
 
   -- a rule has one match at a node
-  pub one_match : (f g : Found) → IsFound w context rules f → IsFound w context rules g → f.node ≡ g.node → f.rule ≡ g.rule → f ≡ g
+  pub one_match : (f g : Found) → IsFound w meanings context rules f → IsFound w meanings context rules g → f.node ≡ g.node → f.rule ≡ g.rule → f ≡ g
   one_match f g is other node rule =
       let x = g.node in
       let at = some_and (planted (trees w) x.tree) (λ p. HasNode p.syntax x.node.0) other.permitted.open_to_all.node in
@@ -118,15 +119,15 @@ module _ (w : Workspace) (context : Context) (rules : List ResolvedKind) where
       let known = here_found x.tree x.node.0 g.rule other.rule f other.is_rule is (ap (λ (x : NodeId). x.tree) node) (ap (λ (x : NodeId). x.node.0) node) rule in
       let bindings : f.bindings ≡ g.bindings =
       same_Some f.bindings g.bindings
-      (sym (whole_binds w s other.rule x f.bindings tree known.1) ∙ whole_binds w s other.rule x g.bindings tree other.whole) in
+      (sym (whole_binds w meanings s other.rule x f.bindings tree known.1) ∙ whole_binds w meanings s other.rule x g.bindings tree other.whole) in
       let made : ℕ → NodeId → List Binding → Found = λ rule node bindings. record { rule = rule; node = node; bindings = bindings } in
       ap (λ r. made r f.node f.bindings) rule ∙ ap (λ x. made g.rule x f.bindings) node ∙ ap (made g.rule x) bindings
 
   pub added_by : (t n place : ℕ) (s : Syntax) (rule : ResolvedKind) (ms : List Found) (bindings : Option (List Binding)) → tree_of w t ≡ Some s → slice_get rules place ≡ Some rule
-      → AreFoundBefore w context rules t n place ms → TellsMatch w context rule (node_id t n) bindings
-      → AreFoundBefore w context rules t n (place + 1) (ms ++ found_of place (node_id t n) bindings)
+      → AreFoundBefore w meanings context rules t n place ms → TellsMatch w meanings context rule (node_id t n) bindings
+      → AreFoundBefore w meanings context rules t n (place + 1) (ms ++ found_of place (node_id t n) bindings)
   added_by t n place s rule ms None tree at so_far tells =
-      subst (AreFoundBefore w context rules t n (place + 1)) (sym (append-nil ms))
+      subst (AreFoundBefore w meanings context rules t n (place + 1)) (sym (append-nil ms))
       (passed t n place t n (place + 1) ms so_far (before_rule t n place)
       (λ f is before.
       elim (rule_cases t n place f before) [
@@ -137,12 +138,12 @@ module _ (w : Workspace) (context : Context) (rules : List ResolvedKind) where
       ]))
   added_by t n place s rule ms (Some bindings) tree at so_far tells =
       let new : Found = record { rule = place; node = node_id t n; bindings = bindings } in
-      let found : IsFound w context rules new = record { rule = rule; is_rule = at; permitted = tells.0; whole = tells.1 } in
+      let found : IsFound w meanings context rules new = record { rule = rule; is_rule = at; permitted = tells.0; whole = tells.1 } in
       let itself : IsBefore t n (place + 1) new = inr (refl, inr (refl, omega arith)) in
       record {
         in_order = all_pairs_push Precedes ms new so_far.in_order (λ k d low. so_far.before k d low);
         before = All-push (IsBefore t n (place + 1)) ms new (All-weaker (IsBefore t n place) (IsBefore t n (place + 1)) (before_rule t n place) ms so_far.before) itself;
-        are = All-push (IsFound w context rules) ms new so_far.are found;
+        are = All-push (IsFound w meanings context rules) ms new so_far.are found;
         complete = λ f is before.
             elim (rule_cases t n place f before) [
               | inl earlier ↦ Contains-append_left ms (new ∷ []) f (so_far.complete f is earlier)
@@ -152,13 +153,13 @@ module _ (w : Workspace) (context : Context) (rules : List ResolvedKind) where
       }
 
   pub found_more : (t n place : ℕ) (s : Syntax) (rule : ResolvedKind) (old new : List Found) → tree_of w t ≡ Some s → place < length rules → rule ≡ get_or rules place rule
-      → AreFoundBefore w context rules t n place old → Adds w context rule place (node_id t n) old new → AreFoundBefore w context rules t n (place + 1) new
+      → AreFoundBefore w meanings context rules t n place old → Adds w meanings context rule place (node_id t n) old new → AreFoundBefore w meanings context rules t n (place + 1) new
   found_more t n place s rule old new tree within read so_far adds =
-      subst (AreFoundBefore w context rules t n (place + 1)) (sym adds.added)
+      subst (AreFoundBefore w meanings context rules t n (place + 1)) (sym adds.added)
       (added_by t n place s rule old adds.bindings tree (slice_get-get_or rules place rule within ∙ ap Some (sym read)) so_far adds.tells)
 
   -- all rules are tried
-  pub found_at : (t n place : ℕ) (ms : List Found) → length rules ≤ place → AreFoundBefore w context rules t n place ms → AreFoundBefore w context rules t (n + 1) 0 ms
+  pub found_at : (t n place : ℕ) (ms : List Found) → length rules ≤ place → AreFoundBefore w meanings context rules t n place ms → AreFoundBefore w meanings context rules t (n + 1) 0 ms
   found_at t n place ms all so_far =
       passed t n place t (n + 1) 0 ms so_far (before_node t n place)
       (λ f is before.
@@ -172,7 +173,7 @@ module _ (w : Workspace) (context : Context) (rules : List ResolvedKind) where
       ])
 
   -- nothing is found at a node that isn't open
-  pub found_nothing : (t n : ℕ) (ms : List Found) → (IsOpen w context.restrictions (node_id t n) → ⊥) → AreFoundBefore w context rules t n 0 ms → AreFoundBefore w context rules t (n + 1) 0 ms
+  pub found_nothing : (t n : ℕ) (ms : List Found) → (IsOpen w context.restrictions (node_id t n) → ⊥) → AreFoundBefore w meanings context rules t n 0 ms → AreFoundBefore w meanings context rules t (n + 1) 0 ms
   found_nothing t n ms shut so_far =
       passed t n 0 t (n + 1) 0 ms so_far (before_node t n 0)
       (λ f is before.
@@ -183,8 +184,8 @@ module _ (w : Workspace) (context : Context) (rules : List ResolvedKind) where
 
   -- nor at one that no rule matches
   pub found_unmatched : (t n : ℕ) (ms : List Found)
-      → ((place : ℕ) (rule : ResolvedKind) (bindings : List Binding) → slice_get rules place ≡ Some rule → IsWholeMatch (trees w) rule (node_id t n) bindings → ⊥)
-      → AreFoundBefore w context rules t n 0 ms → AreFoundBefore w context rules t (n + 1) 0 ms
+      → ((place : ℕ) (rule : ResolvedKind) (bindings : List Binding) → slice_get rules place ≡ Some rule → IsWholeMatch (trees w) meanings rule (node_id t n) bindings → ⊥)
+      → AreFoundBefore w meanings context rules t n 0 ms → AreFoundBefore w meanings context rules t (n + 1) 0 ms
   found_unmatched t n ms none so_far =
       passed t n 0 t (n + 1) 0 ms so_far (before_node t n 0)
       (λ f is before.
@@ -192,13 +193,13 @@ module _ (w : Workspace) (context : Context) (rules : List ResolvedKind) where
         | inl earlier ↦ earlier
         | inr here ↦
             absurd (none f.rule is.rule f.bindings is.is_rule
-            (subst (λ x. IsWholeMatch (trees w) is.rule x f.bindings) (at_id t n f.node here.0 here.1) is.whole))
+            (subst (λ x. IsWholeMatch (trees w) meanings is.rule x f.bindings) (at_id t n f.node here.0 here.1) is.whole))
       ])
 
   -- ** At a tree.
 
-  pub found_in : (t n : ℕ) (s : Syntax) (ms : List Found) → tree_of w t ≡ Some s → 1 + node_count s.children ≤ n → AreFoundBefore w context rules t n 0 ms
-      → AreFoundBefore w context rules (t + 1) 0 0 ms
+  pub found_in : (t n : ℕ) (s : Syntax) (ms : List Found) → tree_of w t ≡ Some s → 1 + node_count s.children ≤ n → AreFoundBefore w meanings context rules t n 0 ms
+      → AreFoundBefore w meanings context rules (t + 1) 0 0 ms
   found_in t n s ms tree all so_far =
       passed t n 0 (t + 1) 0 0 ms so_far (before_tree t n 0)
       (λ f is before.
@@ -212,11 +213,11 @@ module _ (w : Workspace) (context : Context) (rules : List ResolvedKind) where
 
   -- ** At the end.
 
-  pub found_all : (t : ℕ) (ms : List Found) → None ≡ tree_of w t → AreFoundBefore w context rules t 0 0 ms → AreFound w context rules ms
+  pub found_all : (t : ℕ) (ms : List Found) → None ≡ tree_of w t → AreFoundBefore w meanings context rules t 0 0 ms → AreFound w meanings context rules ms
   found_all t ms none so_far = record {
     in_order = so_far.in_order;
     are = λ f. (
-      λ had. All-contains (IsFound w context rules) ms f so_far.are had,
+      λ had. All-contains (IsFound w meanings context rules) ms f so_far.are had,
       λ is.
           let at = some_and (planted (trees w) f.node.tree) (λ p. HasNode p.syntax f.node.node.0) is.permitted.open_to_all.node in
           let within = planted_within (trees w) f.node.tree at.0 at.1 in

@@ -6,6 +6,7 @@ use Rattle.ssr_syntax_tree.specs.Syntax.{Syntax}
 use Rattle.ssr_syntax_tree.specs.Places.{HasNode, node_of, root_of}
 use Rattle.ssr_syntax_tree.proofs.Lists.{same_rising}
 use Rattle.ssr_syntax_tree.proofs.Shared.{node_of-number, over_within}
+use Rattle.ssr_base.specs.Meanings.{Meanings}
 use Rattle.ssr_base.specs.Workspace.{Workspace, Planted, trees, planted, node_id, original_range}
 use Rattle.ide_ssr_resolving.specs.Resolved.{ResolvedKind}
 use Rattle.ide_ssr_matching.specs.declared.bindings.Binding.{Binding}
@@ -29,14 +30,14 @@ at_or_below ts t n s at has b (inr above) =
     let inside = over_within s n b.node.0 has (low, omega (arith, above.1)) in
     inr (over_below ts t s at n b.node.0 inside (low, omega (arith, above.1)))
 
-module _ (w : Workspace) (context : Context) (rules : List ResolvedKind) where
-  is_match : (m : Found) → IsFound w context rules m → IsMatch (trees w) m
+module _ (w : Workspace) (meanings : Meanings) (context : Context) (rules : List ResolvedKind) where
+  is_match : (m : Found) → IsFound w meanings context rules m → IsMatch (trees w) m
   is_match m is =
       let ts = trees w in
       let t = m.node.tree in
       let n = m.node.node.0 in
       let rule = is.rule in
-      let matched = some_and (planted ts t) (λ p. Matches rule (root_of rule.pattern) (node_of p.syntax n) m.bindings) is.whole.matches in
+      let matched = some_and (planted ts t) (λ p. Matches meanings t rule (root_of rule.pattern) (node_of p.syntax n) m.bindings) is.whole.matches in
       let s = matched.0.syntax in
       let at : IsTree ts t s = record { tree = matched.0; is = matched.1; same = refl } in
       let has = in_tree ts t s (λ s. HasNode s n) at is.permitted.open_to_all.node in
@@ -45,7 +46,7 @@ module _ (w : Workspace) (context : Context) (rules : List ResolvedKind) where
         range = is.permitted.open_to_all.has_byte;
         held =
             All-weaker (IsHeldIn (node_of s n)) (λ b. IsAtOrBelow ts (held_node t b) m.node) (at_or_below ts t n s at has) m.bindings
-            (held_in rule (root_of rule.pattern) (node_of s n) m.bindings matched.2);
+            (held_in meanings t rule (root_of rule.pattern) (node_of s n) m.bindings matched.2);
         ranges =
             All-weaker (λ b. IsPlaced ts (held_node t b)) (λ b. IsSome (original_range ts (held_node t b)))
             (λ b placed. ap is_some (some_and (original_range ts (held_node t b)) (LiesInArguments ts t) placed).1)
@@ -53,10 +54,10 @@ module _ (w : Workspace) (context : Context) (rules : List ResolvedKind) where
         apart = is.whole.apart;
       }
 
-  pub are_matches : (ms : List Found) → AreFound w context rules ms → AreMatches (trees w) ms
+  pub are_matches : (ms : List Found) → AreFound w meanings context rules ms → AreMatches (trees w) ms
   are_matches ms found = record {
     each = All-weaker (Contains ms) (IsMatch (trees w)) (λ m at. is_match m ((found.are m).0 at)) ms (All-contains_itself ms);
-    one = λ k m at_k at_m. one_match w context rules k m ((found.are k).0 at_k) ((found.are m).0 at_m);
+    one = λ k m at_k at_m. one_match w meanings context rules k m ((found.are k).0 at_k) ((found.are m).0 at_m);
   }
 
   -- ** One list.
@@ -71,7 +72,7 @@ module _ (w : Workspace) (context : Context) (rules : List ResolvedKind) where
         | inr here ↦ elim back.1 [ inl more ↦ omega (arith, here.0) | inr there ↦ omega (arith, here.1, there.1) ]
       ]
 
-  pub one_list : (ms ns : List Found) → AreFound w context rules ms → AreFound w context rules ns → ms ≡ ns
+  pub one_list : (ms ns : List Found) → AreFound w meanings context rules ms → AreFound w meanings context rules ns → ms ≡ ns
   one_list ms ns found again =
       same_rising Precedes one_way ms ns found.in_order again.in_order
       (λ m at. (again.are m).1 ((found.are m).0 at))

@@ -9,6 +9,7 @@ use Rattle.ssr_syntax_tree.specs.Places.{HasNode, node_of, root_of, start_of, en
 use Rattle.ssr_syntax_tree.proofs.Shared.{node_of-number}
 use Rattle.ssr_base.specs.declared.ids.FileRange.{FileRange}
 use Rattle.ssr_base.specs.declared.ids.NodeId.{NodeId}
+use Rattle.ssr_base.specs.Meanings.{Meanings}
 use Rattle.ssr_base.specs.Origins.{covered}
 use Rattle.ssr_base.specs.Workspace.{Workspace, Planted, FileSpan, trees, planted, tree_of, node_id, file_of, original_in, own_span, original_range, file_span_of, cover_below}
 use Rattle.ssr_base.specs.Laws.{LiesIn}
@@ -124,7 +125,7 @@ file_placed ts x bindings are m =
     let uncalled : p.call ≡ None = no_call had.0.call p.call (ap (λ (p : Planted). p.call) (same_Some had.0 p (sym had.1 ∙ m.is))) had.2 in
     let node = node_of p.syntax n in
     let number = node_of-number p.syntax n m.has in
-    let hold = bindings_hold p.syntax m.rule node (subst (HasNode p.syntax) (sym number) m.has, ap (node_of p.syntax) number) bindings m.matches in
+    let hold = bindings_hold p.syntax m.meanings t m.rule node (subst (HasNode p.syntax) (sym number) m.has, ap (node_of p.syntax) number) bindings m.matches in
     let bound = all_bound p.syntax (start_of p.syntax node) (end_of p.syntax node) bindings hold.0 in
     let apart = all_apart p.syntax (start_of p.syntax node) (end_of p.syntax node) bindings hold.0 in
     record {
@@ -141,44 +142,45 @@ file_placed ts x bindings are m =
 
 -- ** Whole matches.
 
-pub matched : (w : Workspace) (tree : Syntax) (rule : ResolvedKind) (x : NodeId) (bindings : List Binding) → tree_of w x.tree ≡ Some tree → HasNode tree x.node.0
-    → Some bindings ≡ bindings_of rule (root_of rule.pattern) (node_of tree x.node.0) → IsMatched (trees w) x bindings
-matched w tree rule x bindings is has found =
+pub matched : (w : Workspace) (meanings : Meanings) (tree : Syntax) (rule : ResolvedKind) (x : NodeId) (bindings : List Binding) → tree_of w x.tree ≡ Some tree → HasNode tree x.node.0
+    → Some bindings ≡ bindings_of meanings x.tree rule (root_of rule.pattern) (node_of tree x.node.0) → IsMatched (trees w) x bindings
+matched w meanings tree rule x bindings is has found =
     let at = is_tree w x.tree tree is in
     record {
+      meanings = meanings;
       rule = rule;
       tree = at.tree;
       is = at.is;
       has = subst (λ s. HasNode s x.node.0) (sym at.same) has;
-      matches = subst (λ s. bindings_of rule (root_of rule.pattern) (node_of s x.node.0) ≡ Some bindings) (sym at.same) (sym found);
+      matches = subst (λ s. bindings_of meanings x.tree rule (root_of rule.pattern) (node_of s x.node.0) ≡ Some bindings) (sym at.same) (sym found);
     }
 
-pub whole : (w : Workspace) (tree : Syntax) (rule : ResolvedKind) (x : NodeId) (bindings : List Binding) → tree_of w x.tree ≡ Some tree
-    → Some bindings ≡ bindings_of rule (root_of rule.pattern) (node_of tree x.node.0) → IsPlacedMatch (trees w) x bindings → IsWholeMatch (trees w) rule x bindings
-whole w tree rule x bindings is found placed =
+pub whole : (w : Workspace) (meanings : Meanings) (tree : Syntax) (rule : ResolvedKind) (x : NodeId) (bindings : List Binding) → tree_of w x.tree ≡ Some tree
+    → Some bindings ≡ bindings_of meanings x.tree rule (root_of rule.pattern) (node_of tree x.node.0) → IsPlacedMatch (trees w) x bindings → IsWholeMatch (trees w) meanings rule x bindings
+whole w meanings tree rule x bindings is found placed =
     let at = is_tree w x.tree tree is in
     record {
       matches =
-          of_tree (trees w) x.tree tree (λ s. Matches rule (root_of rule.pattern) (node_of s x.node.0) bindings) at
-          (bindings_of-Matches rule (root_of rule.pattern) (node_of tree x.node.0) bindings (sym found));
+          of_tree (trees w) x.tree tree (λ s. Matches meanings x.tree rule (root_of rule.pattern) (node_of s x.node.0) bindings) at
+          (bindings_of-Matches meanings x.tree rule (root_of rule.pattern) (node_of tree x.node.0) bindings (sym found));
       placed = placed.placed;
       bindings_placed = placed.bindings_placed;
       apart = placed.apart;
     }
 
 -- a whole match binds what is computed
-pub whole_binds : (w : Workspace) (tree : Syntax) (rule : ResolvedKind) (x : NodeId) (bindings : List Binding) → tree_of w x.tree ≡ Some tree
-    → IsWholeMatch (trees w) rule x bindings → bindings_of rule (root_of rule.pattern) (node_of tree x.node.0) ≡ Some bindings
-whole_binds w tree rule x bindings is whole =
-    Matches-bindings_of rule (root_of rule.pattern) (node_of tree x.node.0) bindings
-    (in_tree (trees w) x.tree tree (λ s. Matches rule (root_of rule.pattern) (node_of s x.node.0) bindings) (is_tree w x.tree tree is) whole.matches)
+pub whole_binds : (w : Workspace) (meanings : Meanings) (tree : Syntax) (rule : ResolvedKind) (x : NodeId) (bindings : List Binding) → tree_of w x.tree ≡ Some tree
+    → IsWholeMatch (trees w) meanings rule x bindings → bindings_of meanings x.tree rule (root_of rule.pattern) (node_of tree x.node.0) ≡ Some bindings
+whole_binds w meanings tree rule x bindings is whole =
+    Matches-bindings_of meanings x.tree rule (root_of rule.pattern) (node_of tree x.node.0) bindings
+    (in_tree (trees w) x.tree tree (λ s. Matches meanings x.tree rule (root_of rule.pattern) (node_of s x.node.0) bindings) (is_tree w x.tree tree is) whole.matches)
 
-pub not_matched : (w : Workspace) (tree : Syntax) (rule : ResolvedKind) (x : NodeId) → tree_of w x.tree ≡ Some tree
-    → None ≡ bindings_of rule (root_of rule.pattern) (node_of tree x.node.0) → TellsWhole (trees w) rule x None
-not_matched w tree rule x is none bindings whole = none-some bindings (none ∙ whole_binds w tree rule x bindings is whole)
+pub not_matched : (w : Workspace) (meanings : Meanings) (tree : Syntax) (rule : ResolvedKind) (x : NodeId) → tree_of w x.tree ≡ Some tree
+    → None ≡ bindings_of meanings x.tree rule (root_of rule.pattern) (node_of tree x.node.0) → TellsWhole (trees w) meanings rule x None
+not_matched w meanings tree rule x is none bindings whole = none-some bindings (none ∙ whole_binds w meanings tree rule x bindings is whole)
 
-pub not_placed : (w : Workspace) (tree : Syntax) (rule : ResolvedKind) (x : NodeId) (found : List Binding) → tree_of w x.tree ≡ Some tree
-    → Some found ≡ bindings_of rule (root_of rule.pattern) (node_of tree x.node.0) → (IsPlacedMatch (trees w) x found → ⊥) → TellsWhole (trees w) rule x None
-not_placed w tree rule x found is matches out bindings whole =
-    let same : bindings ≡ found = same_Some bindings found (sym (whole_binds w tree rule x bindings is whole) ∙ sym matches) in
+pub not_placed : (w : Workspace) (meanings : Meanings) (tree : Syntax) (rule : ResolvedKind) (x : NodeId) (found : List Binding) → tree_of w x.tree ≡ Some tree
+    → Some found ≡ bindings_of meanings x.tree rule (root_of rule.pattern) (node_of tree x.node.0) → (IsPlacedMatch (trees w) x found → ⊥) → TellsWhole (trees w) meanings rule x None
+not_placed w meanings tree rule x found is matches out bindings whole =
+    let same : bindings ≡ found = same_Some bindings found (sym (whole_binds w meanings tree rule x bindings is whole) ∙ sym matches) in
     out (subst (IsPlacedMatch (trees w) x) same (record { placed = whole.placed; bindings_placed = whole.bindings_placed; apart = whole.apart }))

@@ -1,5 +1,6 @@
 -- What a search finds.
 use Rattle.std.specs.Prelude.{◌≡◌, ◌<◌, ◌⊎◌, ◌↔◌, List, Some, slice_get, AllPairs, Contains}
+use Rattle.ssr_base.specs.Meanings.{Meanings}
 use Rattle.ssr_base.specs.Workspace.{Workspace, trees}
 use Rattle.ide_ssr_resolving.specs.Resolved.{ResolvedKind}
 use Rattle.ide_ssr_matching.specs.Found.{Found}
@@ -8,11 +9,11 @@ use Rattle.ide_ssr_search.specs.Permitted.{IsPermitted}
 use Rattle.ide_ssr_search.specs.WholeMatches.{IsWholeMatch}
 
 -- one of the rules matches as a whole at a node that is permitted for it
-pub record IsFound (w : Workspace) (context : Context) (rules : List ResolvedKind) (m : Found) : Type 0 where
+pub record IsFound (w : Workspace) (m : Meanings) (context : Context) (rules : List ResolvedKind) (found : Found) : Type 0 where
   pub rule : ResolvedKind
-  pub is_rule : slice_get rules m.rule ≡ Some rule
-  pub permitted : IsPermitted w context rule m.node
-  pub whole : IsWholeMatch (trees w) rule m.node m.bindings
+  pub is_rule : slice_get rules found.rule ≡ Some rule
+  pub permitted : IsPermitted w context rule found.node
+  pub whole : IsWholeMatch (trees w) m rule found.node found.bindings
 
 -- trees by their numbers, in a tree nodes by theirs, at a node rules in order
 abbrev pub Precedes : Found → Found → Type 0
@@ -22,6 +23,6 @@ Precedes k m =
     × ((k.node.node.0 < m.node.node.0) ⊎ ((k.node.node.0 ≡ m.node.node.0) × (k.rule < m.rule))))
 
 -- in that order, so each once, and exactly what is found
-pub record AreFound (w : Workspace) (context : Context) (rules : List ResolvedKind) (ms : List Found) : Type 0 where
+pub record AreFound (w : Workspace) (m : Meanings) (context : Context) (rules : List ResolvedKind) (ms : List Found) : Type 0 where
   pub in_order : AllPairs Precedes ms
-  pub are : (m : Found) → Contains ms m ↔ IsFound w context rules m
+  pub are : (found : Found) → Contains ms found ↔ IsFound w m context rules found

@@ -3,6 +3,7 @@ use Rattle.std.specs.Prelude.{ℕ, List, All, AllPairs, IfSome}
 use Rattle.std.specs.Option.{IsSomeAnd}
 use Rattle.ssr_syntax_tree.specs.Places.{node_of, root_of}
 use Rattle.ssr_base.specs.declared.ids.NodeId.{NodeId}
+use Rattle.ssr_base.specs.Meanings.{Meanings}
 use Rattle.ssr_base.specs.Workspace.{Planted, FileSpan, planted, original_range}
 use Rattle.ssr_base.specs.Laws.{LiesIn}
 use Rattle.ide_ssr_resolving.specs.Resolved.{ResolvedKind}
@@ -20,9 +21,10 @@ LiesInArguments trees t range =
 abbrev pub IsPlaced : List Planted → NodeId → Type 0
 IsPlaced trees x = IsSomeAnd (original_range trees x) (LiesInArguments trees x.tree)
 
--- The node matches the root of the pattern, it and what the placeholders hold are placed, and no two placeholders share a byte.
-pub record IsWholeMatch (trees : List Planted) (rule : ResolvedKind) (x : NodeId) (bindings : List Binding) : Type 0 where
-  pub matches : IsSomeAnd (planted trees x.tree) (λ p. Matches rule (root_of rule.pattern) (node_of p.syntax x.node.0) bindings)
+-- The node matches the root of the pattern by what names mean, it and what the placeholders hold are placed, and no two
+-- placeholders share a byte.
+pub record IsWholeMatch (trees : List Planted) (m : Meanings) (rule : ResolvedKind) (x : NodeId) (bindings : List Binding) : Type 0 where
+  pub matches : IsSomeAnd (planted trees x.tree) (λ p. Matches m x.tree rule (root_of rule.pattern) (node_of p.syntax x.node.0) bindings)
   pub placed : IsPlaced trees x
   pub bindings_placed : All (λ b. IsPlaced trees (held_node x.tree b)) bindings
   pub apart : AllPairs (λ b c. ShareNoByte trees (held_node x.tree b) (held_node x.tree c)) bindings

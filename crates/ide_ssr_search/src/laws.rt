@@ -12,10 +12,10 @@ ghost use Rattle.ide_ssr_search.specs.Making.{IsContext};
 ghost use Rattle.ide_ssr_search.specs.Found.{AreFound};
 ghost use Rattle.ide_ssr_search.specs.Laws.{ContextExists};
 
-/// What is found in a workspace that is built is some list, and it is one list.
+/// What is found in a workspace that is built is some list, and it is one list, whatever names mean.
 pub fn searching()
-    ensures exist { (w : WorkspaceValue) (context : ContextValue) (rules : List ResolvedKind) → IsBuilt w → (found : List FoundMatch) × AreFound w context rules found }
-    ensures one { (w : WorkspaceValue) (context : ContextValue) (rules : List ResolvedKind) (found again : List FoundMatch) → AreFound w context rules found → AreFound w context rules again → found ≡ again }
+    ensures exist { (w : WorkspaceValue) (m : Meanings) (context : ContextValue) (rules : List ResolvedKind) → IsBuilt w → (found : List FoundMatch) × AreFound w m context rules found }
+    ensures one { (w : WorkspaceValue) (m : Meanings) (context : ContextValue) (rules : List ResolvedKind) (found again : List FoundMatch) → AreFound w m context rules found → AreFound w m context rules again → found ≡ again }
 {}
 
 /// At a position in a file whose nodes stand in scopes, and for restrictions of files, a search is made for something, and for

@@ -16,7 +16,7 @@ pub(crate) enum Root {
     /// A placeholder asks for nothing.
     Placeholder,
     /// Any other node asks for its kind, and for a token directly below of the kind of its own first one that counts for each
-    /// match, if it has such a token.
+    /// match, if it has such a token. Of a used path none counts.
     Node(SyntaxKind, Option<SyntaxKind>),
 }
 
@@ -94,7 +94,11 @@ impl Root {
             return Root::Placeholder;
         }
         let pattern = rule.pattern();
-        Root::Node(pattern.kind(root), first_counted(pattern, root))
+        let kind = pattern.kind(root);
+        if rule.pattern_res(root).is_some() {
+            return Root::Node(kind, None);
+        }
+        Root::Node(kind, first_counted(pattern, root))
     }
 
     /// Whether a node has what is asked.

@@ -18,7 +18,7 @@ use crate::roots::{Root, Rules};
 use crate::whole::whole_match;
 use ide_ssr_matching::{Binding, Found};
 use ide_ssr_resolving::ResolvedRule;
-use ssr_base::{NodeId, Workspace};
+use ssr_base::{NodeId, Semantics, Workspace};
 use ssr_syntax_kinds::SyntaxKind;
 use ssr_syntax_tree::{NodeNo, Tree};
 use std::alloc::{AllocError, Global};
@@ -129,9 +129,10 @@ impl<'a> Ground<'a> {
 
     /// What the placeholders of a rule hold at such a node, if the rule is permitted there and matches as a whole. Whether
     /// it matches is asked first: most nodes match no rule.
-    fn match_of(
+    fn match_of<S: Semantics>(
         &self,
         alloc: Global,
+        semantics: &S,
         rule: &ResolvedRule,
         root: Root,
         node: NodeNo,
@@ -140,13 +141,14 @@ impl<'a> Ground<'a> {
         requires root { IsRootOf rule.now root }
         requires has { HasNode self.now.tree.now node.0 }
         requires free { ¬ IsShutIn (trees self.now.workspace.now) (node_id self.now.number node.0) }
-        ensures { IfOk result (λ found. TellsMatch self.now.workspace.now self.now.context.now rule.now (node_id self.now.number node.0) (option_map (λ v. v.items) found)) }
+        ensures { IfOk result (λ found. TellsMatch self.now.workspace.now (S.meanings semantics.now) self.now.context.now rule.now (node_id self.now.number node.0) (option_map (λ v. v.items) found)) }
     {
         if !root.is_met(self.tree, node) {
             return Ok(None);
         }
         let found = whole_match(
             alloc,
+            semantics,
             self.workspace,
             self.tree,
             self.bounds,
@@ -160,9 +162,10 @@ impl<'a> Ground<'a> {
     }
 
     /// Adds the match of a rule, which has this place among the rules, at such a node.
-    fn add_match(
+    fn add_match<S: Semantics>(
         &self,
         alloc: Global,
+        semantics: &S,
         place: usize,
         rule: &ResolvedRule,
         root: Root,
@@ -173,18 +176,19 @@ impl<'a> Ground<'a> {
         requires root { IsRootOf rule.now root }
         requires has { HasNode self.now.tree.now node.0 }
         requires free { ¬ IsShutIn (trees self.now.workspace.now) (node_id self.now.number node.0) }
-        ensures { IfOk result (λ _. Adds self.now.workspace.now self.now.context.now rule.now place (node_id self.now.number node.0) found.old.items found.new.items) }
+        ensures { IfOk result (λ _. Adds self.now.workspace.now (S.meanings semantics.now) self.now.context.now rule.now place (node_id self.now.number node.0) found.old.items found.new.items) }
     {
-        if let Some(bindings) = self.match_of(alloc, rule, root, node)? {
+        if let Some(bindings) = self.match_of(alloc, semantics, rule, root, node)? {
             found.push(Found::new(place, self.id(node), bindings))?;
         }
         Ok(())
     }
 
     /// Adds the matches of all rules at such a node.
-    fn add_matches(
+    fn add_matches<S: Semantics>(
         &self,
         alloc: Global,
+        semantics: &S,
         rules: &Rules<'_>,
         node: NodeNo,
         found: &mut Vec<Found>,
@@ -193,19 +197,28 @@ impl<'a> Ground<'a> {
         requires rules { AreRules rules.now }
         requires has { HasNode self.now.tree.now node.0 }
         requires free { ¬ IsShutIn (trees self.now.workspace.now) (node_id self.now.number node.0) }
-        requires found { AreFoundBefore self.now.workspace.now self.now.context.now rules.now.rules.now self.now.number node.0 0 found.old.items }
-        ensures { IfOk result (λ _. AreFoundBefore self.now.workspace.now self.now.context.now rules.now.rules.now self.now.number (node.0 + 1) 0 found.new.items) }
+        requires found { AreFoundBefore self.now.workspace.now (S.meanings semantics.now) self.now.context.now rules.now.rules.now self.now.number node.0 0 found.old.items }
+        ensures { IfOk result (λ _. AreFoundBefore self.now.workspace.now (S.meanings semantics.now) self.now.context.now rules.now.rules.now self.now.number (node.0 + 1) 0 found.new.items) }
     {
         for (place, rule) in rules.rules.iter().enumerate() {
-            self.add_match(alloc, place, rule, rules.roots[place], node, found)?;
+            self.add_match(
+                alloc,
+                semantics,
+                place,
+                rule,
+                rules.roots[place],
+                node,
+                found,
+            )?;
         }
         Ok(())
     }
 
     /// Adds the matches at a node, where it is known whether something above shuts it in.
-    fn add_at(
+    fn add_at<S: Semantics>(
         &self,
         alloc: Global,
+        semantics: &S,
         rules: &Rules<'_>,
         node: NodeNo,
         shut: bool,
@@ -215,13 +228,13 @@ impl<'a> Ground<'a> {
         requires rules { AreRules rules.now }
         requires has { HasNode self.now.tree.now node.0 }
         requires shut { IsTrue shut ↔ IsShutIn (trees self.now.workspace.now) (node_id self.now.number node.0) }
-        requires found { AreFoundBefore self.now.workspace.now self.now.context.now rules.now.rules.now self.now.number node.0 0 found.old.items }
-        ensures { IfOk result (λ _. AreFoundBefore self.now.workspace.now self.now.context.now rules.now.rules.now self.now.number (node.0 + 1) 0 found.new.items) }
+        requires found { AreFoundBefore self.now.workspace.now (S.meanings semantics.now) self.now.context.now rules.now.rules.now self.now.number node.0 0 found.old.items }
+        ensures { IfOk result (λ _. AreFoundBefore self.now.workspace.now (S.meanings semantics.now) self.now.context.now rules.now.rules.now self.now.number (node.0 + 1) 0 found.new.items) }
     {
         if shut {
             return Ok(());
         }
-        self.add_matches(alloc, rules, node, found)
+        self.add_matches(alloc, semantics, rules, node, found)
     }
 
     /// The number behind a node that shuts in what is below it; of any other node 0.
@@ -257,9 +270,10 @@ impl<'a> Ground<'a> {
     }
 
     /// Adds the matches in the tree, and its macro calls that shut in what they stand for.
-    fn add_found(
+    fn add_found<S: Semantics>(
         &self,
         alloc: Global,
+        semantics: &S,
         rules: &Rules<'_>,
         shut: &mut BTreeSet<NodeId>,
         found: &mut Vec<Found>,
@@ -267,9 +281,9 @@ impl<'a> Ground<'a> {
         requires ground { IsGround self.now }
         requires rules { AreRules rules.now }
         requires shut { KnowsShut self.now.workspace.now self.now.number 0 shut.old }
-        requires found { AreFoundBefore self.now.workspace.now self.now.context.now rules.now.rules.now self.now.number 0 0 found.old.items }
+        requires found { AreFoundBefore self.now.workspace.now (S.meanings semantics.now) self.now.context.now rules.now.rules.now self.now.number 0 0 found.old.items }
         ensures shut { IfOk result (λ _. KnowsShut self.now.workspace.now (self.now.number + 1) 0 shut.new) }
-        ensures found { IfOk result (λ _. AreFoundBefore self.now.workspace.now self.now.context.now rules.now.rules.now (self.now.number + 1) 0 0 found.new.items) }
+        ensures found { IfOk result (λ _. AreFoundBefore self.now.workspace.now (S.meanings semantics.now) self.now.context.now rules.now.rules.now (self.now.number + 1) 0 0 found.new.items) }
     {
         let count = self.tree.node_count();
         // The first number behind all nodes so far that shut in what is below them: a node before it is shut in.
@@ -279,7 +293,7 @@ impl<'a> Ground<'a> {
             if !rules.concern(self.tree.kind(node)) {
                 continue;
             }
-            self.add_at(alloc, rules, node, number < past, found)?;
+            self.add_at(alloc, semantics, rules, node, number < past, found)?;
             past = self.past(node).max(past);
             self.add_shut(node, number < past, shut)?;
         }
@@ -340,15 +354,17 @@ fn stands_in(function: Option<NodeId>, tree: &Tree, number: u32, inside: bool, n
     is_at_or_below(tree, node, function.node)
 }
 
-/// All matches of the rules in a workspace: each node of each tree is tried at which a rule is permitted. They come by the
-/// numbers of their trees, in a tree by those of their nodes, and at a node by the places of their rules.
-pub fn find_matches(
+/// All matches of the rules in a workspace, whose paths stand for what the provider tells: each node of each tree is tried at
+/// which a rule is permitted. They come by the numbers of their trees, in a tree by those of their nodes, and at a node by the
+/// places of their rules.
+pub fn find_matches<S: Semantics>(
     alloc: Global,
     workspace: &Workspace,
+    semantics: &S,
     context: &Context,
     rules: &[ResolvedRule],
 ) -> Result<Vec<Found>, AllocError>
-    ensures found { IfOk result (λ found. AreFound workspace.now context.now rules.now found.items) }
+    ensures found { IfOk result (λ found. AreFound workspace.now (S.meanings semantics.now) context.now rules.now found.items) }
     ensures matches { IfOk result (λ found. AreMatches (trees workspace.now) found.items) }
 {
     let tried = Rules::new(alloc, rules)?;
@@ -358,7 +374,7 @@ pub fn find_matches(
     let mut number = 0;
     while let Some(tree) = workspace.tree(number) {
         let ground = Ground::new(workspace, context, tree, number, &shut, &inside);
-        ground.add_found(alloc, &tried, &mut shut, &mut found)?;
+        ground.add_found(alloc, semantics, &tried, &mut shut, &mut found)?;
         inside.push(ground.inside)?;
         number += 1;
     }

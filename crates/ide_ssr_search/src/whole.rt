@@ -10,7 +10,7 @@ ghost use Rattle.ide_ssr_search.specs.Private.Whole.{AreRanges, IsMatched, IsPla
 use crate::bounds::Bounds;
 use ide_ssr_matching::{Binding, match_node};
 use ide_ssr_resolving::ResolvedRule;
-use ssr_base::{FileRange, NodeId, Workspace};
+use ssr_base::{FileRange, NodeId, Semantics, Workspace};
 use ssr_syntax_tree::Tree;
 use std::alloc::{AllocError, Global};
 
@@ -114,8 +114,9 @@ fn is_whole(
 }
 
 /// What the placeholders of a rule hold where it matches as a whole at a node of a tree with these bounds.
-pub(crate) fn whole_match(
+pub(crate) fn whole_match<S: Semantics>(
     alloc: Global,
+    semantics: &S,
     workspace: &Workspace,
     tree: &Tree,
     bounds: Bounds,
@@ -125,9 +126,9 @@ pub(crate) fn whole_match(
     requires tree { tree_of workspace.now node.tree ≡ Some tree.now }
     requires has { HasNode tree.now node.node.0 }
     requires bounds { AreBounds (trees workspace.now) node.tree bounds }
-    ensures { IfOk result (λ found. TellsWhole (trees workspace.now) rule.now node (option_map (λ v. v.items) found)) }
+    ensures { IfOk result (λ found. TellsWhole (trees workspace.now) (S.meanings semantics.now) rule.now node (option_map (λ v. v.items) found)) }
 {
-    let Some(bindings) = match_node(alloc, rule, tree, node.node)? else {
+    let Some(bindings) = match_node(alloc, semantics, rule, tree, node)? else {
         return Ok(None);
     };
     if is_whole(alloc, workspace, bounds, node, &bindings)? {

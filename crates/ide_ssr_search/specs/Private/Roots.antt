@@ -7,7 +7,10 @@ use Rattle.ssr_syntax_kinds.specs.declared.kinds.SyntaxKind.{SyntaxKind}
 use Rattle.ssr_syntax_kinds.specs.declared.kinds.SyntaxKind.TheVariants as k
 use Rattle.ssr_syntax_kinds.specs.Kinds.{same_kind, is_trivia}
 use Rattle.ssr_syntax_tree.specs.Places.{Node, Part, token_part, node_part, parts_of, root_of}
+use Rattle.ssr_base.specs.declared.semantics.Res.{Res}
+use Rattle.ssr_base.specs.Meanings.{Meanings}
 use Rattle.ide_ssr_resolving.specs.Resolved.{ResolvedKind}
+use Rattle.ide_ssr_resolving.specs.Used.{res_at}
 use Rattle.ide_ssr_matching.specs.declared.bindings.Binding.{Binding}
 use Rattle.ide_ssr_matching.specs.Matching.{Matches}
 use Rattle.ide_ssr_search.specs.declared.roots.Root.{Root}
@@ -40,9 +43,14 @@ abbrev pub has_asked : Root → Node → Bool
 has_asked roots.Placeholder c = true
 has_asked (roots.Node kind token) c = same_kind c.kind kind && option_map_or (λ token. has_token_of token (parts_of c)) token true
 
--- each node that matches the rule's pattern has it
+-- what a node of the pattern resolves to, if it is a used path
+abbrev pub pattern_res : ResolvedKind → Node → Option Res
+pattern_res rule p = res_at rule.pattern_paths (record { 0 = p.number })
+
+-- each node of a tree that matches the rule's pattern has it, whatever names mean
 abbrev pub IsRootOf : ResolvedKind → Root → Type 0
-IsRootOf rule root = (c : Node) (bindings : List Binding) → Matches rule (root_of rule.pattern) c bindings → has_asked root c ≡ true
+IsRootOf rule root =
+    (m : Meanings) (tree : ℕ) (c : Node) (bindings : List Binding) → Matches m tree rule (root_of rule.pattern) c bindings → has_asked root c ≡ true
 
 -- ** By kinds.
 
@@ -53,7 +61,7 @@ has_kind kinds kind = kinds.every || slice_index_or kinds.listed (tag_of the_typ
 pub record AreRules (rules : Rules) : Type 0 where
   pub counted : length rules.roots.items ≡ length rules.rules.now
   pub each : (n : ℕ) (rule : ResolvedKind) (root : Root) → slice_get rules.rules.now n ≡ Some rule → slice_get rules.roots.items n ≡ Some root → IsRootOf rule root
-  pub kinds : (n : ℕ) (rule : ResolvedKind) → slice_get rules.rules.now n ≡ Some rule → (c : Node) (bindings : List Binding)
-      → Matches rule (root_of rule.pattern) c bindings → has_kind rules.kinds c.kind ≡ true
+  pub kinds : (n : ℕ) (rule : ResolvedKind) → slice_get rules.rules.now n ≡ Some rule → (m : Meanings) (tree : ℕ) (c : Node)
+      (bindings : List Binding) → Matches m tree rule (root_of rule.pattern) c bindings → has_kind rules.kinds c.kind ≡ true
   pub uses : has_kind rules.kinds k.USE ≡ true
   pub calls : has_kind rules.kinds k.MACRO_CALL ≡ true

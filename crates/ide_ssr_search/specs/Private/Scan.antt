@@ -6,6 +6,7 @@ use Rattle.ssr_syntax_tree.specs.Syntax.{Syntax}
 use Rattle.ssr_syntax_tree.specs.Places.{HasNode, node_of, size_of}
 use Rattle.ssr_base.specs.declared.ids.NodeId.{NodeId}
 use Rattle.ssr_base.specs.contracts.ids.NodeIdOrd.TheImpl as id_order
+use Rattle.ssr_base.specs.Meanings.{Meanings}
 use Rattle.ssr_base.specs.Workspace.{Workspace, trees, tree_of, node_id}
 use Rattle.ssr_base.specs.Built.{IsNodeOf, IsMacroCall, IsBuilt}
 use Rattle.ssr_base.specs.Laws.{IsEarlier, IsBelow}
@@ -27,25 +28,25 @@ abbrev pub IsBefore : ℕ → ℕ → ℕ → Found → Type 0
 IsBefore t n r m = Precedes m (record { rule = r; node = node_id t n; bindings = [] })
 
 -- what is found up to before those
-pub record AreFoundBefore (w : Workspace) (context : Context) (rules : List ResolvedKind) (t n r : ℕ) (ms : List Found) : Type 0 where
+pub record AreFoundBefore (w : Workspace) (m : Meanings) (context : Context) (rules : List ResolvedKind) (t n r : ℕ) (ms : List Found) : Type 0 where
   pub in_order : AllPairs Precedes ms
   pub before : All (IsBefore t n r) ms
-  pub are : All (IsFound w context rules) ms
-  pub complete : (m : Found) → IsFound w context rules m → IsBefore t n r m → Contains ms m
+  pub are : All (IsFound w m context rules) ms
+  pub complete : (found : Found) → IsFound w m context rules found → IsBefore t n r found → Contains ms found
 
 -- what the placeholders of a rule hold, where it is permitted at a node and matches there as a whole
-abbrev pub TellsMatch : Workspace → Context → ResolvedKind → NodeId → Option (List Binding) → Type 0
-TellsMatch w context rule x None = (bindings : List Binding) → IsPermitted w context rule x → ¬ IsWholeMatch (trees w) rule x bindings
-TellsMatch w context rule x (Some bindings) = IsPermitted w context rule x × IsWholeMatch (trees w) rule x bindings
+abbrev pub TellsMatch : Workspace → Meanings → Context → ResolvedKind → NodeId → Option (List Binding) → Type 0
+TellsMatch w m context rule x None = (bindings : List Binding) → IsPermitted w context rule x → ¬ IsWholeMatch (trees w) m rule x bindings
+TellsMatch w m context rule x (Some bindings) = IsPermitted w context rule x × IsWholeMatch (trees w) m rule x bindings
 
 abbrev pub found_of : ℕ → NodeId → Option (List Binding) → List Found
 found_of place x None = []
 found_of place x (Some bindings) = record { rule = place; node = x; bindings = bindings } ∷ []
 
 -- that match is added
-pub record Adds (w : Workspace) (context : Context) (rule : ResolvedKind) (place : ℕ) (x : NodeId) (old new : List Found) : Type 0 where
+pub record Adds (w : Workspace) (m : Meanings) (context : Context) (rule : ResolvedKind) (place : ℕ) (x : NodeId) (old new : List Found) : Type 0 where
   pub bindings : Option (List Binding)
-  pub tells : TellsMatch w context rule x bindings
+  pub tells : TellsMatch w m context rule x bindings
   pub added : new ≡ old ++ found_of place x bindings
 
 -- ** What is known of trees.

@@ -3,6 +3,7 @@ use Rattle.std.specs.Prelude.{ℕ, ◌≡◌, List, [], ◌∷◌, Option, Some,
 use Rattle.ssr_syntax_tree.specs.Places.{HasNode, node_of, root_of}
 use Rattle.ssr_base.specs.declared.ids.FileRange.{FileRange}
 use Rattle.ssr_base.specs.declared.ids.NodeId.{NodeId}
+use Rattle.ssr_base.specs.Meanings.{Meanings}
 use Rattle.ssr_base.specs.Workspace.{Planted, planted, original_range, file_span_of}
 use Rattle.ide_ssr_resolving.specs.Resolved.{ResolvedKind}
 use Rattle.ide_ssr_matching.specs.declared.bindings.Binding.{Binding}
@@ -26,13 +27,14 @@ pub record IsPlacedMatch (trees : List Planted) (x : NodeId) (bindings : List Bi
 
 -- this is what the placeholders of a rule hold where it matches at the node
 pub record IsMatched (trees : List Planted) (x : NodeId) (bindings : List Binding) : Type 0 where
+  pub meanings : Meanings
   pub rule : ResolvedKind
   pub tree : Planted
   pub is : planted trees x.tree ≡ Some tree
   pub has : HasNode tree.syntax x.node.0
-  pub matches : bindings_of rule (root_of rule.pattern) (node_of tree.syntax x.node.0) ≡ Some bindings
+  pub matches : bindings_of meanings x.tree rule (root_of rule.pattern) (node_of tree.syntax x.node.0) ≡ Some bindings
 
 -- what the placeholders hold in a whole match, or that there is none
-abbrev pub TellsWhole : List Planted → ResolvedKind → NodeId → Option (List Binding) → Type 0
-TellsWhole trees rule x None = (bindings : List Binding) → ¬ IsWholeMatch trees rule x bindings
-TellsWhole trees rule x (Some bindings) = IsWholeMatch trees rule x bindings
+abbrev pub TellsWhole : List Planted → Meanings → ResolvedKind → NodeId → Option (List Binding) → Type 0
+TellsWhole trees m rule x None = (bindings : List Binding) → ¬ IsWholeMatch trees m rule x bindings
+TellsWhole trees m rule x (Some bindings) = IsWholeMatch trees m rule x bindings

@@ -3,4 +3,4 @@ use Rattle.ide_ssr_search.proofs.SomeFound.{some_found}
 use Rattle.ide_ssr_search.proofs.laws.searching.Goals as goal
 
 pub returns : goal.returns
-returns c = record { exist = λ w context rules built. some_found w built context rules; one = one_list }
+returns c = record { exist = λ w m context rules built. some_found w built m context rules; one = one_list }

@@ -11,46 +11,47 @@ use Rattle.ide_ssr_search.proofs.Matched.{are_matches}
 use Rattle.ide_ssr_search.proofs.scan.find_matches.Goals as goal
 
 pub loop-tree-smaller : goal.loop-tree-smaller
-loop-tree-smaller c = omega (arith, tree_within c.args.workspace.now c.loop-tree.number c.in-Some.tree.now c.in-Some.ensures)
+loop-tree-smaller g c = omega (arith, tree_within c.args.workspace.now c.loop-tree.number c.in-Some.tree.now c.in-Some.ensures)
 
 pub loop-tree-preserved : goal.loop-tree-preserved
-loop-tree-preserved c =
+loop-tree-preserved g c =
     let w = c.args.workspace.now in
     let context = c.args.context.now in
     let rules = c.args.rules.now in
+    let m = g.S.Semantics.meanings c.args.semantics.now in
     let t = c.loop-tree.number in
-    let g = c.new-ground.result in
+    let ground = c.new-ground.result in
     let known = c.new-ground.ensures in
     let ms = c.add_found.new.found.items in
     record {
       within = omega (arith, tree_within w t c.in-Some.tree.now c.in-Some.ensures);
       found =
-          subst (λ w. AreFoundBefore w context rules (t + 1) 0 0 ms) known.workspace
-          (subst (λ x. AreFoundBefore g.workspace.now x rules (t + 1) 0 0 ms) known.context
-          (subst (λ n. AreFoundBefore g.workspace.now g.context.now rules (n + 1) 0 0 ms) known.number
-          (subst (λ rs. AreFoundBefore g.workspace.now g.context.now rs (g.number + 1) 0 0 ms) c.in_ok-tried.ensures.rules c.in_ok-add_found.ensures.found)));
+          subst (λ w. AreFoundBefore w m context rules (t + 1) 0 0 ms) known.workspace
+          (subst (λ x. AreFoundBefore ground.workspace.now m x rules (t + 1) 0 0 ms) known.context
+          (subst (λ n. AreFoundBefore ground.workspace.now m ground.context.now rules (n + 1) 0 0 ms) known.number
+          (subst (λ rs. AreFoundBefore ground.workspace.now m ground.context.now rs (ground.number + 1) 0 0 ms) c.in_ok-tried.ensures.rules c.in_ok-add_found.ensures.found)));
       shut =
           subst (λ w. KnowsShut w (t + 1) 0 c.add_found.new.shut) known.workspace
-          (subst (λ n. KnowsShut g.workspace.now (n + 1) 0 c.add_found.new.shut) known.number c.in_ok-add_found.ensures.shut);
+          (subst (λ n. KnowsShut ground.workspace.now (n + 1) 0 c.add_found.new.shut) known.number c.in_ok-add_found.ensures.shut);
       inside =
           subst (KnowsInside w context (t + 1)) (sym c.in_ok-push.ensures.items)
-          (inside_more w context t c.loop-tree.inside.items g.inside c.loop-tree.invariant.inside
-          (subst (λ w. IsTrue g.inside ↔ IsSomeAnd context.function (IsBelow (trees w) (node_id t 0))) known.workspace
-          (subst (λ x. IsTrue g.inside ↔ IsSomeAnd x.function (IsBelow (trees g.workspace.now) (node_id t 0))) known.context
-          (subst (λ n. IsTrue g.inside ↔ IsSomeAnd g.context.now.function (IsBelow (trees g.workspace.now) (node_id n 0))) known.number known.ground.inside))));
+          (inside_more w context t c.loop-tree.inside.items ground.inside c.loop-tree.invariant.inside
+          (subst (λ w. IsTrue ground.inside ↔ IsSomeAnd context.function (IsBelow (trees w) (node_id t 0))) known.workspace
+          (subst (λ x. IsTrue ground.inside ↔ IsSomeAnd x.function (IsBelow (trees ground.workspace.now) (node_id t 0))) known.context
+          (subst (λ n. IsTrue ground.inside ↔ IsSomeAnd ground.context.now.function (IsBelow (trees ground.workspace.now) (node_id n 0))) known.number known.ground.inside))));
     }
 
 pub returns-clause-found : goal.returns-clause-found
-returns-clause-found c =
-    found_all c.args.workspace.now c.args.context.now c.args.rules.now c.loop-tree.number c.loop-tree.found.items c.in_default.ensures c.loop-tree.invariant.found
+returns-clause-found g c =
+    found_all c.args.workspace.now (g.S.Semantics.meanings c.args.semantics.now) c.args.context.now c.args.rules.now c.loop-tree.number c.loop-tree.found.items c.in_default.ensures c.loop-tree.invariant.found
 
 pub returns-clause-matches : goal.returns-clause-matches
-returns-clause-matches c =
-    are_matches c.args.workspace.now c.args.context.now c.args.rules.now c.loop-tree.found.items
-    (found_all c.args.workspace.now c.args.context.now c.args.rules.now c.loop-tree.number c.loop-tree.found.items c.in_default.ensures c.loop-tree.invariant.found)
+returns-clause-matches g c =
+    are_matches c.args.workspace.now (g.S.Semantics.meanings c.args.semantics.now) c.args.context.now c.args.rules.now c.loop-tree.found.items
+    (found_all c.args.workspace.now (g.S.Semantics.meanings c.args.semantics.now) c.args.context.now c.args.rules.now c.loop-tree.number c.loop-tree.found.items c.in_default.ensures c.loop-tree.invariant.found)
 
 pub add_found-requires-clause-shut : goal.add_found-requires-clause-shut
-add_found-requires-clause-shut c =
+add_found-requires-clause-shut g c =
     let w = c.args.workspace.now in
     let known = c.new-ground.ensures in
     subst (λ w. KnowsShut w c.new-ground.result.number 0 c.loop-tree.shut) (sym known.workspace)

@@ -3,12 +3,12 @@ use Rattle.ide_ssr_search.specs.Private.Scan.{AreFoundBefore, KnowsShut, KnowsIn
 use Rattle.ide_ssr_search.proofs.scan.find_matches.Given as goal
 
 abbrev pub invariant-loop-tree : goal.invariant-loop-tree
-invariant-loop-tree l = record {
+invariant-loop-tree g l = record {
   within : l.number ≤ length l.workspace.files + length l.workspace.expansions;
-  found : AreFoundBefore l.workspace l.context l.rules l.number 0 0 l.found.items;
+  found : AreFoundBefore l.workspace (g.S.Semantics.meanings l.semantics) l.context l.rules l.number 0 0 l.found.items;
   shut : KnowsShut l.workspace l.number 0 l.shut;
   inside : KnowsInside l.workspace l.context l.number l.inside.items;
 }
 
 abbrev pub decreases-loop-tree : goal.decreases-loop-tree
-decreases-loop-tree l = length l.workspace.files + length l.workspace.expansions - l.number
+decreases-loop-tree g l = length l.workspace.files + length l.workspace.expansions - l.number

@@ -7,19 +7,19 @@ use Rattle.ide_ssr_search.proofs.Placed.{whole, not_matched, not_placed}
 use Rattle.ide_ssr_search.proofs.whole.whole_match.Goals as goal
 
 pub returns-in_default : goal.returns-in_default
-returns-in_default c =
-    not_matched c.args.workspace.now c.args.tree.now c.args.rule.now c.args.node c.requires.tree
+returns-in_default g c =
+    not_matched c.args.workspace.now (g.S.Semantics.meanings c.args.semantics.now) c.args.tree.now c.args.rule.now c.args.node c.requires.tree
     (sym (ap (option_map (λ v. v.items)) c.in_default.is) ∙ c.in_ok-bindings.ensures)
 
 pub returns-then-branch : goal.returns-then-branch
-returns-then-branch c =
-    whole c.args.workspace.now c.args.tree.now c.args.rule.now c.args.node c.in-Some.bindings.items c.requires.tree
+returns-then-branch g c =
+    whole c.args.workspace.now (g.S.Semantics.meanings c.args.semantics.now) c.args.tree.now c.args.rule.now c.args.node c.in-Some.bindings.items c.requires.tree
     (sym (ap (option_map (λ v. v.items)) c.in-Some.is) ∙ c.in_ok-bindings.ensures)
     (subst (IsPlacedMatch (trees c.args.workspace.now) c.args.node) c.deref.ensures.value (c.in_ok-is_whole.ensures.0 c.if-branch.true))
 
 pub returns-else-branch : goal.returns-else-branch
-returns-else-branch c =
-    not_placed c.args.workspace.now c.args.tree.now c.args.rule.now c.args.node c.in-Some.bindings.items c.requires.tree
+returns-else-branch g c =
+    not_placed c.args.workspace.now (g.S.Semantics.meanings c.args.semantics.now) c.args.tree.now c.args.rule.now c.args.node c.in-Some.bindings.items c.requires.tree
     (sym (ap (option_map (λ v. v.items)) c.in-Some.is) ∙ c.in_ok-bindings.ensures)
     (λ placed. both_ways c.in_ok-is_whole.field-0 c.if-branch.false
     (c.in_ok-is_whole.ensures.1 (subst (IsPlacedMatch (trees c.args.workspace.now) c.args.node) (sym c.deref.ensures.value) placed)))

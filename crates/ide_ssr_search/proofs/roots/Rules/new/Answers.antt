@@ -25,12 +25,12 @@ loop-rule-preserved c =
             | inl there ↦ known.each n rule other rule_is there
             | inr last ↦ subst (IsRootOf rule) last.1 (here rule (subst (λ n. slice_get rules n ≡ Some rule) (last.0 ∙ known.counted) rule_is))
           ];
-      kinds = λ n rule less rule_is node bindings matches.
+      kinds = λ n rule less rule_is m tree node bindings matches.
           elim (cases_lt n i) [
-            | inl early ↦ c.add_asked.ensures.kept node.kind (known.kinds n rule early rule_is node bindings matches)
+            | inl early ↦ c.add_asked.ensures.kept node.kind (known.kinds n rule early rule_is m tree node bindings matches)
             | inr late ↦
                 let same : n ≡ i = omega arith in
-                c.add_asked.ensures.added node (here rule (subst (λ n. slice_get rules n ≡ Some rule) same rule_is) node bindings matches)
+                c.add_asked.ensures.added node (here rule (subst (λ n. slice_get rules n ≡ Some rule) same rule_is) m tree node bindings matches)
           ];
       uses = c.add_asked.ensures.kept k.USE known.uses;
       calls = c.add_asked.ensures.kept k.MACRO_CALL known.calls;

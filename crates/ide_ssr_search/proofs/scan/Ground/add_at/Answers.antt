@@ -4,8 +4,8 @@ use Rattle.ide_ssr_search.proofs.Finding.{found_nothing}
 use Rattle.ide_ssr_search.proofs.scan.Ground.add_at.Goals as goal
 
 pub returns-then-shut : goal.returns-then-shut
-returns-then-shut c =
-    let g = c.args.self.now in
-    let w = g.workspace.now in
-    found_nothing w g.context.now c.args.rules.now.rules.now g.number c.args.node.0 c.args.found.now.items
-    (λ is. not_shut w g.context.now.restrictions (node_id g.number c.args.node.0) is (c.requires.shut.0 c.if-shut.true)) c.requires.found
+returns-then-shut g c =
+    let ground = c.args.self.now in
+    let w = ground.workspace.now in
+    found_nothing w (g.S.Semantics.meanings c.args.semantics.now) ground.context.now c.args.rules.now.rules.now ground.number c.args.node.0 c.args.found.now.items
+    (λ is. not_shut w ground.context.now.restrictions (node_id ground.number c.args.node.0) is (c.requires.shut.0 c.if-shut.true)) c.requires.found

@@ -6,61 +6,67 @@ use Rattle.ide_ssr_matching.proofs.Shared.{is_tree}
 use Rattle.ide_ssr_search.specs.Private.Roots.{has_kind}
 use Rattle.ide_ssr_search.proofs.Asked.{unmatched_kind, unshutting_kind, no_call_of_kind}
 use Rattle.ide_ssr_search.proofs.Calls.{shut_kept}
-use Rattle.ide_ssr_search.proofs.Finding.{found_unmatched}
+use Rattle.ide_ssr_search.proofs.Finding.{found_in, found_unmatched}
 use Rattle.ide_ssr_search.proofs.Shutting.{past_now, past_turn, past_call, tested}
 use Rattle.ide_ssr_search.proofs.scan.Ground.add_found.Goals as goal
 
 pub add_at-requires-clause-shut : goal.add_at-requires-clause-shut
-add_at-requires-clause-shut c =
-    let g = c.args.self.now in
-    let w = g.workspace.now in
+add_at-requires-clause-shut g c =
+    let ground = c.args.self.now in
+    let w = ground.workspace.now in
     let n = c.loop-number.number in
-    let has : HasNode g.tree.now n = omega arith in
-    tested n c.loop-number.past (IsShutIn (trees w) (node_id g.number n))
-    (past_now (trees w) g.number g.tree.now (is_tree w g.number g.tree.now c.requires.ground.tree) n c.loop-number.past has c.loop-number.invariant.past)
+    let has : HasNode ground.tree.now n = omega arith in
+    tested n c.loop-number.past (IsShutIn (trees w) (node_id ground.number n))
+    (past_now (trees w) ground.number ground.tree.now (is_tree w ground.number ground.tree.now c.requires.ground.tree) n c.loop-number.past has c.loop-number.invariant.past)
 
 pub add_shut-requires-clause-shuts : goal.add_shut-requires-clause-shuts
-add_shut-requires-clause-shuts c =
-    let g = c.args.self.now in
-    let w = g.workspace.now in
+add_shut-requires-clause-shuts g c =
+    let ground = c.args.self.now in
+    let w = ground.workspace.now in
     let n = c.loop-number.number in
-    let has : HasNode g.tree.now n = omega arith in
-    tested n c.max-past.result (IsShut (trees w) (node_id g.number n))
-    (past_call (trees w) g.number g.tree.now (is_tree w g.number g.tree.now c.requires.ground.tree) n c.past.result c.loop-number.past c.max-past.result has
+    let has : HasNode ground.tree.now n = omega arith in
+    tested n c.max-past.result (IsShut (trees w) (node_id ground.number n))
+    (past_call (trees w) ground.number ground.tree.now (is_tree w ground.number ground.tree.now c.requires.ground.tree) n c.past.result c.loop-number.past c.max-past.result has
     c.loop-number.invariant.past c.past.ensures c.max-past.ensures)
 
 pub loop-number-preserved : goal.loop-number-preserved
-loop-number-preserved c =
-    let g = c.args.self.now in
-    let w = g.workspace.now in
+loop-number-preserved g c =
+    let ground = c.args.self.now in
+    let w = ground.workspace.now in
     let n = c.loop-number.number in
-    let has : HasNode g.tree.now n = omega arith in
+    let has : HasNode ground.tree.now n = omega arith in
     record {
       found = c.in_ok-add_at.ensures;
       shut = c.in_ok-add_shut.ensures;
       past =
-          past_turn (trees w) g.number g.tree.now (is_tree w g.number g.tree.now c.requires.ground.tree) n c.past.result c.loop-number.past c.max-past.result has
+          past_turn (trees w) ground.number ground.tree.now (is_tree w ground.number ground.tree.now c.requires.ground.tree) n c.past.result c.loop-number.past c.max-past.result has
           c.loop-number.invariant.past c.past.ensures c.max-past.ensures;
     }
 
 pub loop-number-preserved-then-not-concern : goal.loop-number-preserved-then-not-concern
-loop-number-preserved-then-not-concern c =
-    let g = c.args.self.now in
-    let w = g.workspace.now in
+loop-number-preserved-then-not-concern g c =
+    let ground = c.args.self.now in
+    let w = ground.workspace.now in
     let n = c.loop-number.number in
-    let has : HasNode g.tree.now n = omega arith in
-    let at = is_tree w g.number g.tree.now c.requires.ground.tree in
+    let has : HasNode ground.tree.now n = omega arith in
+    let at = is_tree w ground.number ground.tree.now c.requires.ground.tree in
     let rules = c.args.rules.now in
     let same : c.loop-number.past ≡ max 0 c.loop-number.past = omega arith in
     let lacks = ap (has_kind rules.kinds) (sym c.kind.ensures) ∙ sym c.concern.ensures ∙ c.if-not-concern.true in
     record {
       found =
-          found_unmatched w g.context.now rules.rules.now g.number n c.loop-number.found.items
-          (unmatched_kind w g.number n g.tree.now at rules c.requires.rules lacks) c.loop-number.invariant.found;
+          found_unmatched w (g.S.Semantics.meanings c.args.semantics.now) ground.context.now rules.rules.now ground.number n c.loop-number.found.items
+          (unmatched_kind w (g.S.Semantics.meanings c.args.semantics.now) ground.number n ground.tree.now at rules c.requires.rules lacks) c.loop-number.invariant.found;
       shut =
-          shut_kept w g.number n c.loop-number.shut (λ call _. no_call_of_kind w g.number n g.tree.now at rules c.requires.rules lacks call)
+          shut_kept w ground.number n c.loop-number.shut (λ call _. no_call_of_kind w ground.number n ground.tree.now at rules c.requires.rules lacks call)
           c.loop-number.invariant.shut;
       past =
-          past_turn (trees w) g.number g.tree.now at n 0 c.loop-number.past c.loop-number.past has c.loop-number.invariant.past
-          (inl (refl, unshutting_kind w g.number n g.tree.now at rules c.requires.rules lacks)) same;
+          past_turn (trees w) ground.number ground.tree.now at n 0 c.loop-number.past c.loop-number.past has c.loop-number.invariant.past
+          (inl (refl, unshutting_kind w ground.number n ground.tree.now at rules c.requires.rules lacks)) same;
     }
+
+pub returns-clause-found : goal.returns-clause-found
+returns-clause-found g c =
+    let ground = c.args.self.now in
+    found_in ground.workspace.now (g.S.Semantics.meanings c.args.semantics.now) ground.context.now c.args.rules.now.rules.now ground.number c.loop-number.number ground.tree.now
+    c.loop-number.found.items c.requires.ground.tree (omega arith) c.loop-number.invariant.found

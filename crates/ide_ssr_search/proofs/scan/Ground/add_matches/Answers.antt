@@ -4,18 +4,18 @@ use Rattle.ide_ssr_search.proofs.Finding.{found_more, found_at}
 use Rattle.ide_ssr_search.proofs.scan.Ground.add_matches.Goals as goal
 
 pub loop-place-preserved : goal.loop-place-preserved
-loop-place-preserved c =
-    let g = c.args.self.now in
-    found_more g.workspace.now g.context.now c.args.rules.now.rules.now g.number c.args.node.0 c.loop-place.place g.tree.now c.rule-item.result
+loop-place-preserved g c =
+    let ground = c.args.self.now in
+    found_more ground.workspace.now (g.S.Semantics.meanings c.args.semantics.now) ground.context.now c.args.rules.now.rules.now ground.number c.args.node.0 c.loop-place.place ground.tree.now c.rule-item.result
     c.loop-place.found.items c.add_match.new.found.items c.requires.ground.tree c.loop-place-test.true c.rule-item.is c.loop-place.invariant c.in_ok-add_match.ensures
 
 pub returns : goal.returns
-returns c =
-    let g = c.args.self.now in
-    found_at g.workspace.now g.context.now c.args.rules.now.rules.now g.number c.args.node.0 c.loop-place.place c.loop-place.found.items c.loop-place-test.false c.loop-place.invariant
+returns g c =
+    let ground = c.args.self.now in
+    found_at ground.workspace.now (g.S.Semantics.meanings c.args.semantics.now) ground.context.now c.args.rules.now.rules.now ground.number c.args.node.0 c.loop-place.place c.loop-place.found.items c.loop-place-test.false c.loop-place.invariant
 
 pub add_match-requires-clause-root : goal.add_match-requires-clause-root
-add_match-requires-clause-root c =
+add_match-requires-clause-root g c =
     let rules = c.args.rules.now in
     let p = c.loop-place.place in
     c.requires.rules.each p c.rule-item.result c.index.result.now

@@ -4,8 +4,8 @@ use Rattle.ide_ssr_search.proofs.Asked.{unmatched_root}
 use Rattle.ide_ssr_search.proofs.scan.Ground.match_of.Goals as goal
 
 pub returns-then-not-is_met : goal.returns-then-not-is_met
-returns-then-not-is_met c =
-    let g = c.args.self.now in
-    let w = g.workspace.now in
-    λ bindings permitted. unmatched_root w g.number c.args.node.0 g.tree.now (is_tree w g.number g.tree.now c.requires.ground.tree) c.args.rule.now c.args.root
+returns-then-not-is_met g c =
+    let ground = c.args.self.now in
+    let w = ground.workspace.now in
+    λ bindings permitted. unmatched_root w (g.S.Semantics.meanings c.args.semantics.now) ground.number c.args.node.0 ground.tree.now (is_tree w ground.number ground.tree.now c.requires.ground.tree) c.args.rule.now c.args.root
     c.requires.root (sym c.is_met.ensures ∙ c.if-not-is_met.true) bindings
