@@ -17,10 +17,10 @@ use Rattle.ide_ssr_nesting.proofs.Shared.{one_kept, one_holding, one_listing}
 pub one_outcome : (finder : Finder) → OneOutcome finder
 one_outcome finder a b s t one other =
     let w = finder.workspace in
-    let same : one.found ≡ other.found = one_list w finder.context finder.rules one.found other.found one.are_found other.are_found in
+    let same : one.found ≡ other.found = one_list w finder.meanings finder.context finder.rules one.found other.found one.are_found other.are_found in
     let workspaces : a.workspace ≡ b.workspace = one.workspace ∙ sym other.workspace in
     let matches : a.matches ≡ b.matches =
-    one_kept (trees w) (subst IsBuilt one.workspace one.is_kept.built).grown one.found other.found a.matches b.matches (are_matches w finder.context finder.rules one.found one.are_found)
+    one_kept (trees w) (subst IsBuilt one.workspace one.is_kept.built).grown one.found other.found a.matches b.matches (are_matches w finder.meanings finder.context finder.rules one.found one.are_found)
     (λ m. (subst (λ (ms : List Found). Contains ms m) same, subst (λ (ms : List Found). Contains ms m) (sym same))) one.are_kept other.are_kept in
     let kept : a ≡ b = one_holding a b one.is_kept other.is_kept workspaces matches in
     (kept, one_listing b s t (subst (λ (kept : Kept). AreLists kept s) kept one.are_lists) other.are_lists)

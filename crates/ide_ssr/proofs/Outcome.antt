@@ -7,6 +7,7 @@ use Rattle.std.proofs.lemmas.Option.{get_or_from_slice_get, slice_get_within}
 use Rattle.ssr_syntax_tree.specs.Syntax.{Syntax}
 use Rattle.ssr_syntax_tree.specs.Places.{HasNode, node_of, root_of}
 use Rattle.ssr_syntax_tree.proofs.Shared.{IsOf, node_of-number}
+use Rattle.ssr_base.specs.Meanings.{Meanings}
 use Rattle.ssr_base.specs.Workspace.{Workspace, Planted, planted, trees}
 use Rattle.ide_ssr_resolving.specs.Patterns.{HasEachOnce, placeholders_of}
 use Rattle.ide_ssr_resolving.specs.Resolved.{ResolvedKind}
@@ -26,27 +27,27 @@ is_of : (s : Syntax) (n : ℕ) → HasNode s n → IsOf s (node_of s n)
 is_of s n has = let number = node_of-number s n has in (subst (HasNode s) (sym number) has, ap (node_of s) number)
 
 -- a match at a node binds the placeholders of the pattern
-bound_at : (rule : ResolvedKind) (o : Option Planted) (n : ℕ) (bs : List Binding)
-    → IsSomeAnd o (λ p. Matches rule (root_of rule.pattern) (node_of p.syntax n) bs) → IsSomeAnd o (λ p. HasNode p.syntax n)
+bound_at : (m : Meanings) (tree : ℕ) (rule : ResolvedKind) (o : Option Planted) (n : ℕ) (bs : List Binding)
+    → IsSomeAnd o (λ p. Matches m tree rule (root_of rule.pattern) (node_of p.syntax n) bs) → IsSomeAnd o (λ p. HasNode p.syntax n)
     → placeholders_bound bs ≡ placeholders_of rule.names rule.pattern
-bound_at rule None n bs matches has = absurd has
-bound_at rule (Some p) n bs matches has =
-    (bindings_hold p.syntax rule (node_of p.syntax n) (is_of p.syntax n has) bs
-    (Matches-bindings_of rule (root_of rule.pattern) (node_of p.syntax n) bs matches)).1
+bound_at m tree rule None n bs matches has = absurd has
+bound_at m tree rule (Some p) n bs matches has =
+    (bindings_hold p.syntax m tree rule (node_of p.syntax n) (is_of p.syntax n has) bs
+    (Matches-bindings_of m tree rule (root_of rule.pattern) (node_of p.syntax n) bs matches)).1
 
 at_place : {X : Type 0} (P : X → Type 0) (xs : List X) (n : ℕ) (x : X) → All P xs → slice_get xs n ≡ Some x → P x
 at_place P xs n x all is = subst P (get_or_from_slice_get xs n x x is) (all n x (slice_get_within xs n x is))
 
-found_of_rule : (w : Workspace) (context : Context) (rules : List ResolvedKind) (m : Found) → All (λ rule. HasEachOnce rule.names rule.pattern) rules
-    → IsFound w context rules m → IsOfRule rules m
-found_of_rule w context rules m each found =
+found_of_rule : (w : Workspace) (meanings : Meanings) (context : Context) (rules : List ResolvedKind) (m : Found) → All (λ rule. HasEachOnce rule.names rule.pattern) rules
+    → IsFound w meanings context rules m → IsOfRule rules m
+found_of_rule w meanings context rules m each found =
     let rule = found.rule in
     let has = at_place (λ rule. HasEachOnce rule.names rule.pattern) rules m.rule rule each found.is_rule in
     record {
       rule = rule;
       is_rule = found.is_rule;
       numbered =
-          bound_at rule (planted (trees w) m.node.tree) m.node.node.0 m.bindings found.whole.matches found.permitted.open_to_all.node
+          bound_at meanings m.node.tree rule (planted (trees w) m.node.tree) m.node.node.0 m.bindings found.whole.matches found.permitted.open_to_all.node
           ∙ has.nodes;
       different = has.different;
     }
@@ -54,5 +55,5 @@ found_of_rule w context rules m each found =
 pub kept_of_rules : (finder : Finder) (kept : Kept) (lists : Listing) → All (λ rule. HasEachOnce rule.names rule.pattern) finder.rules
     → IsOutcome finder kept lists → All (IsOfRule finder.rules) kept.matches
 kept_of_rules finder kept lists each is k d less =
-    found_of_rule finder.workspace finder.context finder.rules _ each
+    found_of_rule finder.workspace finder.meanings finder.context finder.rules _ each
     ((is.are_found.are _).0 ((is.are_kept.are _).0 (Contains-get_or kept.matches k d less)).0)

@@ -11,8 +11,8 @@ use Rattle.ide_ssr.proofs.OneEach.{none_clash}
 pub outcome_exists : (finder : Finder) → IsBuilt finder.workspace → OutcomeExists finder
 outcome_exists finder built =
     let w = finder.workspace in
-    let found = some_found w built finder.context finder.rules in
-    let kept = kept_exist w built found.0 (are_matches w finder.context finder.rules found.0 found.1) in
+    let found = some_found w built finder.meanings finder.context finder.rules in
+    let kept = kept_exist w built found.0 (are_matches w finder.meanings finder.context finder.rules found.0 found.1) in
     let lists = lists_exist kept.0 kept.3 in (
       kept.0,
       lists.0,

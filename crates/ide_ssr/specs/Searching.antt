@@ -11,7 +11,7 @@ use Rattle.ide_ssr.specs.Finder.{Finder}
 -- there is one outcome, as the law `laws::searching` says
 pub record IsOutcome (finder : Finder) (kept : Kept) (lists : Listing) : Type 0 where
   pub found : List Found
-  pub are_found : AreFound finder.workspace finder.context finder.rules found
+  pub are_found : AreFound finder.workspace finder.meanings finder.context finder.rules found
   pub workspace : kept.workspace ≡ finder.workspace
   pub are_kept : AreKept (trees finder.workspace) found kept.matches
   pub is_kept : IsKept kept

@@ -194,7 +194,13 @@ impl<'a, S: Semantics> MatchFinder<'a, S> {
     fn outcome(&self) -> Result<(KeptMatches<'a>, Lists), AllocError>
         ensures { IfOk result (λ outcome. IsOutcome (finder_of S.meanings self.now) outcome.0 outcome.1) }
     {
-        let found = find_matches(self.alloc, self.workspace, &self.context, &self.rules)?;
+        let found = find_matches(
+            self.alloc,
+            self.workspace,
+            self.semantics,
+            &self.context,
+            &self.rules,
+        )?;
         let kept = keep(self.alloc, self.workspace, found)?;
         let lists = Lists::new(self.alloc, &kept)?;
         Ok((kept, lists))

@@ -24,3 +24,5 @@ mod resolving;
 mod search_patterns;
 #[cfg(test)]
 mod steps;
+#[cfg(test)]
+mod used_paths;

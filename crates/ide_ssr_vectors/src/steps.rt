@@ -63,7 +63,7 @@ fn a_search_goes_from_its_context_to_edits(rt: HostRuntime) -> Result<(), Fail> 
     let everywhere = Vec::new(alloc);
     let context = Context::at(alloc, &workspace, &semantics, position, everywhere)?;
     let rules = resolved(alloc, &semantics, SWAP)?;
-    let found = find_matches(alloc, &workspace, &context, &rules)?;
+    let found = find_matches(alloc, &workspace, &semantics, &context, &rules)?;
     assert_eq!(rt; found.len(), 3);
     let kept = keep(alloc, &workspace, found)?;
     assert_eq!(rt; kept.len(), 3);
@@ -97,7 +97,7 @@ fn nothing_is_tried_in_use_items(rt: HostRuntime) -> Result<(), Fail> {
         let facts = facts(alloc, &[text], "")?;
         let rules = resolved(alloc, &facts.semantics, "$a ==>> $a")?;
         let context = Context::at_first_file(alloc, &facts.workspace, &facts.semantics)?;
-        let found = find_matches(alloc, &facts.workspace, &context, &rules)?;
+        let found = find_matches(alloc, &facts.workspace, &facts.semantics, &context, &rules)?;
         // SOURCE_FILE, FN, NAME, PARAM_LIST, BLOCK_EXPR, STMT_LIST
         let nodes = found.iter().filter(|m| m.rule() == 0).count();
         assert_eq!(rt; nodes, 6, "{text}");
@@ -112,7 +112,7 @@ fn rules_come_in_their_order_at_a_node(rt: HostRuntime) -> Result<(), Fail> {
     let context = Context::at_first_file(alloc, &facts.workspace, &facts.semantics)?;
     let mut rules = resolved(alloc, &facts.semantics, "$a + 3 ==>> $a")?;
     rules.append(&mut resolved(alloc, &facts.semantics, SWAP)?)?;
-    let found = find_matches(alloc, &facts.workspace, &context, &rules)?;
+    let found = find_matches(alloc, &facts.workspace, &facts.semantics, &context, &rules)?;
     assert_eq!(rt; found.len(), 3);
     assert!(rt; found[0].rule() < found[1].rule());
     assert!(rt; found[0].node() == found[1].node());
@@ -128,12 +128,13 @@ fn a_node_is_matched_and_rendered(rt: HostRuntime) -> Result<(), Fail> {
     // behind the file, the function, its name and parameters, its block and the statements
     let sum = NodeNo(6);
     assert!(rt; tree.has(Element::Node(sum)));
+    let node = NodeId { tree: 0, node: sum };
     let facts = facts(alloc, &[""], "")?;
     let rules = resolved(alloc, &facts.semantics, SWAP)?;
     let Some(rule) = rules.first() else {
         return Err(Fail::new("no rule"));
     };
-    let Some(bindings) = match_node(alloc, rule, &tree, sum)? else {
+    let Some(bindings) = match_node(alloc, &facts.semantics, rule, &tree, node)? else {
         return Err(Fail::new("no match"));
     };
     assert_eq!(rt; bindings.len(), 2);
