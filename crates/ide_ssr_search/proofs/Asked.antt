@@ -17,7 +17,7 @@ use Rattle.ssr_base.specs.Workspace.{Workspace, trees, node_id}
 use Rattle.ide_ssr_resolving.specs.Resolved.{ResolvedKind}
 use Rattle.ide_ssr_resolving.specs.Placeholders.{placeholder_at}
 use Rattle.ide_ssr_matching.specs.declared.bindings.Binding.{Binding}
-use Rattle.ide_ssr_matching.specs.Matching.{closes, is_left_out, bare, Matches, bound, alike, Pairs, end, tokens, nodes}
+use Rattle.ide_ssr_matching.specs.Matching.{closes, is_left_out, bare, pattern_res, Matches, bound, used, alike, Pairs, end, tokens, nodes}
 use Rattle.ide_ssr_search.specs.declared.roots.Root.{Root}
 use Rattle.ide_ssr_search.specs.declared.roots.Root.TheVariants as roots
 use Rattle.ide_ssr_search.specs.declared.roots.Rules.{Rules}
@@ -25,7 +25,7 @@ use Rattle.ssr_base.specs.Built.{IsMacroCall}
 use Rattle.ide_ssr_search.specs.WholeMatches.{IsWholeMatch}
 use Rattle.ide_ssr_search.specs.Private.Shut.{Shuts}
 use Rattle.ide_ssr_matching.proofs.Shared.{IsTree, in_tree}
-use Rattle.ide_ssr_search.specs.Private.Roots.{counts, first_counted, has_token_of, has_asked, has_kind, pattern_res, IsRootOf, AreRules}
+use Rattle.ide_ssr_search.specs.Private.Roots.{counts, first_counted, has_token_of, has_asked, has_kind, IsRootOf, AreRules}
 
 -- ** Sibling by sibling.
 
@@ -129,12 +129,14 @@ root_of_placeholder rule m tree c bindings matches = refl
 
 matched_kind : (m : Meanings) (tree : ℕ) (rule : ResolvedKind) (p c : Node) (bs : List Binding) → placeholder_at rule.names p ≡ None → Matches m tree rule p c bs → p.kind ≡ c.kind
 matched_kind m tree rule _ _ _ none (bound p c i is met) = absurd (none-some i (sym none ∙ is))
-matched_kind m tree rule _ _ _ none (alike p c bs other same pairs) = same
+matched_kind m tree rule _ _ _ none (used p c r bs other same stands told arguments) = same
+matched_kind m tree rule _ _ _ none (alike p c bs other same unused children) = same
 
 matched_alike : (m : Meanings) (tree : ℕ) (rule : ResolvedKind) (p c : Node) (bs : List Binding) → placeholder_at rule.names p ≡ None → pattern_res rule p ≡ None
     → Matches m tree rule p c bs → Pairs m tree rule (bare (parts_of p)) (bare (parts_of c)) bs
 matched_alike m tree rule _ _ _ none unused (bound p c i is met) = absurd (none-some i (sym none ∙ is))
-matched_alike m tree rule _ _ _ none unused (alike p c bs other same pairs) = pairs
+matched_alike m tree rule _ _ _ none unused (used p c r bs other same stands told arguments) = absurd (none-some r (sym unused ∙ stands))
+matched_alike m tree rule _ _ _ none unused (alike p c bs other same again children) = children
 
 -- a root that is a used path asks for its kind alone
 pub root_of_path : (rule : ResolvedKind) (kind : SyntaxKind) → placeholder_at rule.names (root_of rule.pattern) ≡ None → kind ≡ (root_of rule.pattern).kind

@@ -18,7 +18,7 @@ use Rattle.ide_ssr_matching.specs.declared.bindings.Binding.{Binding}
 use Rattle.ide_ssr_matching.specs.Bindings.{bindings_of}
 use Rattle.ide_ssr_matching.specs.Found.{held_node, ShareNoByte}
 use Rattle.ide_ssr_matching.specs.Matching.{Matches}
-use Rattle.ide_ssr_matching.proofs.Shared.{bindings_of-Matches, Matches-bindings_of, bindings_hold, all_bound, all_apart, is_tree, of_tree, in_tree}
+use Rattle.ide_ssr_matching.proofs.Shared.{bindings_of-Matches, Matches-bindings_of, matches_hold, all_bound, all_apart, is_tree, of_tree, in_tree}
 use Rattle.ide_ssr_search.specs.declared.bounds.Bounds.{Bounds}
 use Rattle.ide_ssr_search.specs.declared.bounds.Bounds.TheVariants as limits
 use Rattle.ide_ssr_search.specs.Permitted.{arguments_range}
@@ -125,9 +125,11 @@ file_placed ts x bindings are m =
     let uncalled : p.call ≡ None = no_call had.0.call p.call (ap (λ (p : Planted). p.call) (same_Some had.0 p (sym had.1 ∙ m.is))) had.2 in
     let node = node_of p.syntax n in
     let number = node_of-number p.syntax n m.has in
-    let hold = bindings_hold p.syntax m.meanings t m.rule node (subst (HasNode p.syntax) (sym number) m.has, ap (node_of p.syntax) number) bindings m.matches in
-    let bound = all_bound p.syntax (start_of p.syntax node) (end_of p.syntax node) bindings hold.0 in
-    let apart = all_apart p.syntax (start_of p.syntax node) (end_of p.syntax node) bindings hold.0 in
+    let hold =
+    matches_hold m.meanings t m.rule p.syntax (root_of m.rule.pattern) node bindings (bindings_of-Matches m.meanings t m.rule (root_of m.rule.pattern) node bindings m.matches)
+    (subst (HasNode p.syntax) (sym number) m.has, ap (node_of p.syntax) number) in
+    let bound = all_bound p.syntax (start_of p.syntax node) (end_of p.syntax node) bindings hold in
+    let apart = all_apart p.syntax (start_of p.syntax node) (end_of p.syntax node) bindings hold in
     record {
       placed = placed_in_file ts t n p m.is uncalled m.has;
       bindings_placed =

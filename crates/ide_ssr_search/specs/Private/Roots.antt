@@ -7,10 +7,8 @@ use Rattle.ssr_syntax_kinds.specs.declared.kinds.SyntaxKind.{SyntaxKind}
 use Rattle.ssr_syntax_kinds.specs.declared.kinds.SyntaxKind.TheVariants as k
 use Rattle.ssr_syntax_kinds.specs.Kinds.{same_kind, is_trivia}
 use Rattle.ssr_syntax_tree.specs.Places.{Node, Part, token_part, node_part, parts_of, root_of}
-use Rattle.ssr_base.specs.declared.semantics.Res.{Res}
 use Rattle.ssr_base.specs.Meanings.{Meanings}
 use Rattle.ide_ssr_resolving.specs.Resolved.{ResolvedKind}
-use Rattle.ide_ssr_resolving.specs.Used.{res_at}
 use Rattle.ide_ssr_matching.specs.declared.bindings.Binding.{Binding}
 use Rattle.ide_ssr_matching.specs.Matching.{Matches}
 use Rattle.ide_ssr_search.specs.declared.roots.Root.{Root}
@@ -42,10 +40,6 @@ has_token_of kind (node_part node ∷ rest) = has_token_of kind rest
 abbrev pub has_asked : Root → Node → Bool
 has_asked roots.Placeholder c = true
 has_asked (roots.Node kind token) c = same_kind c.kind kind && option_map_or (λ token. has_token_of token (parts_of c)) token true
-
--- what a node of the pattern resolves to, if it is a used path
-abbrev pub pattern_res : ResolvedKind → Node → Option Res
-pattern_res rule p = res_at rule.pattern_paths (record { 0 = p.number })
 
 -- each node of a tree that matches the rule's pattern has it, whatever names mean
 abbrev pub IsRootOf : ResolvedKind → Root → Type 0
