@@ -5,16 +5,15 @@ use Rattle.std.specs.Prelude.{slice_get}
 use Rattle.std.proofs.lemmas.List.Elements.{Contains-get_or}
 use Rattle.std.proofs.lemmas.Option.{get_or_from_slice_get, slice_get_within}
 use Rattle.ssr_syntax_tree.specs.Syntax.{Syntax}
-use Rattle.ssr_syntax_tree.specs.Places.{HasNode, node_of, root_of}
-use Rattle.ssr_syntax_tree.proofs.Shared.{IsOf, node_of-number}
+use Rattle.ssr_syntax_tree.specs.Places.{node_of, root_of}
 use Rattle.ssr_base.specs.Meanings.{Meanings}
 use Rattle.ssr_base.specs.Workspace.{Workspace, Planted, planted, trees}
-use Rattle.ide_ssr_resolving.specs.Patterns.{HasEachOnce, placeholders_of}
+use Rattle.ide_ssr_resolving.specs.Patterns.{HasEachOnce, AreInArguments, placeholders_of}
 use Rattle.ide_ssr_resolving.specs.Resolved.{ResolvedKind}
 use Rattle.ide_ssr_matching.specs.declared.bindings.Binding.{Binding}
 use Rattle.ide_ssr_matching.specs.Found.{Found}
 use Rattle.ide_ssr_matching.specs.Matching.{Matches}
-use Rattle.ide_ssr_matching.proofs.Shared.{Matches-bindings_of, placeholders_bound, bindings_hold}
+use Rattle.ide_ssr_matching.proofs.Shared.{placeholders_bound, placeholders_are}
 use Rattle.ide_ssr_nesting.specs.Holding.{Kept}
 use Rattle.ide_ssr_nesting.specs.Lists.{Listing}
 use Rattle.ide_ssr_search.specs.Context.{Context}
@@ -23,37 +22,32 @@ use Rattle.ide_ssr.specs.Finder.{Finder}
 use Rattle.ide_ssr.specs.Searching.{IsOutcome}
 use Rattle.ide_ssr.proofs.BindsOnce.{IsOfRule}
 
-is_of : (s : Syntax) (n : ℕ) → HasNode s n → IsOf s (node_of s n)
-is_of s n has = let number = node_of-number s n has in (subst (HasNode s) (sym number) has, ap (node_of s) number)
-
 -- a match at a node binds the placeholders of the pattern
-bound_at : (m : Meanings) (tree : ℕ) (rule : ResolvedKind) (o : Option Planted) (n : ℕ) (bs : List Binding)
-    → IsSomeAnd o (λ p. Matches m tree rule (root_of rule.pattern) (node_of p.syntax n) bs) → IsSomeAnd o (λ p. HasNode p.syntax n)
-    → placeholders_bound bs ≡ placeholders_of rule.names rule.pattern
-bound_at m tree rule None n bs matches has = absurd has
-bound_at m tree rule (Some p) n bs matches has =
-    (bindings_hold p.syntax m tree rule (node_of p.syntax n) (is_of p.syntax n has) bs
-    (Matches-bindings_of m tree rule (root_of rule.pattern) (node_of p.syntax n) bs matches)).1
+bound_at : (m : Meanings) (tree : ℕ) (rule : ResolvedKind) → AreInArguments rule.names rule.pattern rule.pattern_paths → (o : Option Planted) (n : ℕ) (bs : List Binding)
+    → IsSomeAnd o (λ p. Matches m tree rule (root_of rule.pattern) (node_of p.syntax n) bs) → placeholders_bound bs ≡ placeholders_of rule.names rule.pattern
+bound_at m tree rule in_arguments None n bs matches = absurd matches
+bound_at m tree rule in_arguments (Some p) n bs matches = placeholders_are m tree rule in_arguments (node_of p.syntax n) bs matches
 
 at_place : {X : Type 0} (P : X → Type 0) (xs : List X) (n : ℕ) (x : X) → All P xs → slice_get xs n ≡ Some x → P x
 at_place P xs n x all is = subst P (get_or_from_slice_get xs n x x is) (all n x (slice_get_within xs n x is))
 
 found_of_rule : (w : Workspace) (meanings : Meanings) (context : Context) (rules : List ResolvedKind) (m : Found) → All (λ rule. HasEachOnce rule.names rule.pattern) rules
-    → IsFound w meanings context rules m → IsOfRule rules m
-found_of_rule w meanings context rules m each found =
+    → All (λ rule. AreInArguments rule.names rule.pattern rule.pattern_paths) rules → IsFound w meanings context rules m → IsOfRule rules m
+found_of_rule w meanings context rules m each in_arguments found =
     let rule = found.rule in
     let has = at_place (λ rule. HasEachOnce rule.names rule.pattern) rules m.rule rule each found.is_rule in
+    let known = at_place (λ rule. AreInArguments rule.names rule.pattern rule.pattern_paths) rules m.rule rule in_arguments found.is_rule in
     record {
       rule = rule;
       is_rule = found.is_rule;
       numbered =
-          bound_at meanings m.node.tree rule (planted (trees w) m.node.tree) m.node.node.0 m.bindings found.whole.matches found.permitted.open_to_all.node
+          bound_at meanings m.node.tree rule known (planted (trees w) m.node.tree) m.node.node.0 m.bindings found.whole.matches
           ∙ has.nodes;
       different = has.different;
     }
 
 pub kept_of_rules : (finder : Finder) (kept : Kept) (lists : Listing) → All (λ rule. HasEachOnce rule.names rule.pattern) finder.rules
-    → IsOutcome finder kept lists → All (IsOfRule finder.rules) kept.matches
-kept_of_rules finder kept lists each is k d less =
-    found_of_rule finder.workspace finder.meanings finder.context finder.rules _ each
+    → All (λ rule. AreInArguments rule.names rule.pattern rule.pattern_paths) finder.rules → IsOutcome finder kept lists → All (IsOfRule finder.rules) kept.matches
+kept_of_rules finder kept lists each in_arguments is k d less =
+    found_of_rule finder.workspace finder.meanings finder.context finder.rules _ each in_arguments
     ((is.are_found.are _).0 ((is.are_kept.are _).0 (Contains-get_or kept.matches k d less)).0)

@@ -1,7 +1,7 @@
 //! The finder: a workspace, rules, and what the search for them is made for.
 
 ghost use Rattle.std.specs.Prelude.{◌≡◌, ◌↔◌, ◌++◌, [], All, IfOk, IsTrue, OnErr};
-ghost use Rattle.ide_ssr_resolving.specs.Patterns.{HasEachOnce};
+ghost use Rattle.ide_ssr_resolving.specs.Patterns.{HasEachOnce, AreInArguments};
 ghost use Rattle.ide_ssr_resolving.specs.Resolved.{resolved_kinds};
 ghost use Rattle.ide_ssr_rewriting.specs.Edits.{EditsFit};
 ghost use Rattle.ide_ssr_search.specs.Making.{Makes, MakesFirst};
@@ -37,7 +37,7 @@ pub struct MatchFinder<'a, S: Semantics> {
 
 impl<'a, S: Semantics> Model for MatchFinder<'a, S> {
     ghost use Rattle.std.specs.Prelude.{All};
-    ghost use Rattle.ide_ssr_resolving.specs.Patterns.{HasEachOnce};
+    ghost use Rattle.ide_ssr_resolving.specs.Patterns.{HasEachOnce, AreInArguments};
     ghost use Rattle.ide_ssr.specs.Finder.{FinderWith};
     ghost use Rattle.ide_ssr.specs.FinderCode.{finder_code};
 
@@ -47,7 +47,7 @@ impl<'a, S: Semantics> Model for MatchFinder<'a, S> {
 
     ghost view = { λ finder. record { workspace = finder.workspace.now; semantics = finder.semantics.now; context = finder.context; rules = finder.rules.items } };
 
-    ghost invariant = { λ finder. All (λ rule. HasEachOnce rule.names rule.pattern) finder.rules.items };
+    ghost invariant = { λ finder. All (λ rule. HasEachOnce rule.names rule.pattern) finder.rules.items × All (λ rule. AreInArguments rule.names rule.pattern rule.pattern_paths) finder.rules.items };
 }
 
 /// The error that tells why there is nothing to make a search for.
@@ -149,7 +149,8 @@ impl<'a, S: Semantics> MatchFinder<'a, S> {
 
     /// Adds what a rule or a pattern resolves to, behind the others.
     fn add_kinds(&mut self, mut kinds: Vec<ResolvedRule>) -> Result<(), AllocError>
-        requires { All (λ kind. HasEachOnce kind.names kind.pattern) kinds.items }
+        requires each { All (λ kind. HasEachOnce kind.names kind.pattern) kinds.items }
+        requires in_arguments { All (λ kind. AreInArguments kind.names kind.pattern kind.pattern_paths) kinds.items }
         ensures added { IfOk result (λ _. self.new ≡ record self.old { rules = self.old.rules ++ kinds.items }) }
         ensures unchanged { OnErr result (self.new ≡ self.old) }
     {
