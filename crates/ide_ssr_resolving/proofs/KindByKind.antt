@@ -84,22 +84,26 @@ module _ (m : Meanings) (scope : ScopeId) (names : List (List ℕ)) (asked : Lis
       (after_ok (λ r. TellsOf error r) (check_template check_unmixed kind.template) (after_unmixed in_template in_pattern) tt plain
       (tells_first (check_unmixed kind.pattern) (whole in_template in_pattern) error tells))
 
-  pub kind_resolved : (kept : List (List ℕ)) (asks : List (List Constraint)) (in_template in_pattern : List UsedPath) (calls : List QualifiedCall) (eligible : List UsedPath)
-      → paths_in_template m scope names kind.template ≡ Ok in_template → paths_in m scope names kind.pattern ≡ Ok in_pattern
-      → check_template check_unmixed kind.template ≡ Ok tt → check_unmixed kind.pattern ≡ Ok tt → kept ≡ names → asks ≡ asked
-      → calls ≡ qualified_calls_of m scope kind.pattern in_pattern → eligible ≡ eligible_paths_of m kind.pattern calls in_pattern
-      → resolved_kind m scope names asked kind ≡ Ok (kind_with kind kept asks in_template in_pattern calls eligible)
-  kind_resolved kept asks in_template in_pattern calls eligible template pattern plain too keeps are called leads =
-      let IsIt : Result ResolvedKind Refusal → Type 0 = λ r. r ≡ Ok (kind_with kind kept asks in_template in_pattern calls eligible) in
-      let its_calls = qualified_calls_of m scope kind.pattern in_pattern in
-      let leading : List QualifiedCall → List UsedPath = λ cs. eligible_paths_of m kind.pattern cs in_pattern in
+  pub kind_resolved : (in_template in_pattern : List UsedPath) → paths_in_template m scope names kind.template ≡ Ok in_template
+      → paths_in m scope names kind.pattern ≡ Ok in_pattern → check_template check_unmixed kind.template ≡ Ok tt → check_unmixed kind.pattern ≡ Ok tt
+      → resolved_kind m scope names asked kind ≡ Ok (made in_template in_pattern)
+  kind_resolved in_template in_pattern template pattern plain too =
+      let IsIt : Result ResolvedKind Refusal → Type 0 = λ r. r ≡ Ok (made in_template in_pattern) in
       past_paths IsIt in_template in_pattern template pattern
       (after_ok IsIt (check_template check_unmixed kind.template) (after_unmixed in_template in_pattern) tt plain
-      (after_ok IsIt (check_unmixed kind.pattern) (whole in_template in_pattern) tt too
-      (ap (λ ns. Ok (kind_with kind ns asked in_template in_pattern its_calls (leading its_calls))) (sym keeps)
-      ∙ ap (λ cs. Ok (kind_with kind kept cs in_template in_pattern its_calls (leading its_calls))) (sym are)
-      ∙ ap (λ cs. Ok (kind_with kind kept asks in_template in_pattern cs (leading cs))) (sym called)
-      ∙ ap (λ ps. Ok (kind_with kind kept asks in_template in_pattern calls ps)) (sym leads))))
+      (after_ok IsIt (check_unmixed kind.pattern) (whole in_template in_pattern) tt too refl))
+
+  -- what a rule keeps is what it resolves to
+  pub kind_made : (kept : List (List ℕ)) (asks : List (List Constraint)) (in_template in_pattern : List UsedPath) (calls : List QualifiedCall) (eligible : List UsedPath)
+      → kept ≡ names → asks ≡ asked → calls ≡ qualified_calls_of m scope kind.pattern in_pattern → eligible ≡ eligible_paths_of m kind.pattern calls in_pattern
+      → kind_with kind kept asks in_template in_pattern calls eligible ≡ made in_template in_pattern
+  kind_made kept asks in_template in_pattern calls eligible keeps are called leads =
+      let its_calls = qualified_calls_of m scope kind.pattern in_pattern in
+      let leading : List QualifiedCall → List UsedPath = λ cs. eligible_paths_of m kind.pattern cs in_pattern in
+      ap (λ ps. kind_with kind kept asks in_template in_pattern calls ps) leads
+      ∙ ap (λ cs. kind_with kind kept asks in_template in_pattern cs (leading cs)) called
+      ∙ ap (λ cs. kind_with kind kept cs in_template in_pattern its_calls (leading its_calls)) are
+      ∙ ap (λ ns. kind_with kind ns asked in_template in_pattern its_calls (leading its_calls)) keeps
 
 -- kinds resolved so far, and what the rest gives
 abbrev pub joined : List ResolvedKind → Result (List ResolvedKind) Refusal → Result (List ResolvedKind) Refusal

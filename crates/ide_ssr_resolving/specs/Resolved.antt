@@ -64,6 +64,20 @@ module _ (m : Meanings) (scope : ScopeId) (names : List (List ℕ)) where
   paths_in_template template = option_map_or paths_in template (Ok [])
 
 module _ (m : Meanings) (scope : ScopeId) (names : List (List ℕ)) (constraints : List (List Constraint)) where
+  -- what a kind resolves to, with the used paths of its template and of its pattern
+  abbrev pub resolved_with : ParsedRule → List UsedPath → List UsedPath → ResolvedKind
+  resolved_with kind in_template in_pattern = record {
+    names = names;
+    constraints = constraints;
+    category = kind.category;
+    pattern = kind.pattern;
+    template = kind.template;
+    pattern_paths = in_pattern;
+    template_paths = in_template;
+    qualified_calls = qualified_calls_of m scope kind.pattern in_pattern;
+    eligible_paths = eligible_paths_of m kind.pattern (qualified_calls_of m scope kind.pattern in_pattern) in_pattern;
+  }
+
   -- a kind is resolved with its paths first, and of those with its template's
   unfoldable pub resolved_kind : ParsedRule → Result ResolvedKind Refusal
   resolved_kind kind = do
@@ -71,17 +85,7 @@ module _ (m : Meanings) (scope : ScopeId) (names : List (List ℕ)) (constraints
     in_pattern ← paths_in m scope names kind.pattern
     _ ← check_template check_unmixed kind.template
     _ ← check_unmixed kind.pattern
-    Ok (record {
-      names = names;
-      constraints = constraints;
-      category = kind.category;
-      pattern = kind.pattern;
-      template = kind.template;
-      pattern_paths = in_pattern;
-      template_paths = in_template;
-      qualified_calls = qualified_calls_of m scope kind.pattern in_pattern;
-      eligible_paths = eligible_paths_of m kind.pattern (qualified_calls_of m scope kind.pattern in_pattern) in_pattern;
-    })
+    Ok (resolved_with kind in_template in_pattern)
 
   -- kinds are resolved in their order
   abbrev pub resolved_kinds : List ParsedRule → Result (List ResolvedKind) Refusal

@@ -8,9 +8,11 @@ ghost use Rattle.ide_ssr_rules.specs.StandIns.{name_at};
 ghost use Rattle.ide_ssr_resolving.specs.Mixing.{check_unmixed};
 ghost use Rattle.ide_ssr_resolving.specs.Patterns.{HasEachOnce, AreInArguments};
 ghost use Rattle.ide_ssr_resolving.specs.Placeholders.{placeholder_at};
-ghost use Rattle.ide_ssr_resolving.specs.Private.Placeholders.{token_placeholders};
-ghost use Rattle.ide_ssr_resolving.specs.QualifiedCalls.{HasCalls};
-ghost use Rattle.ide_ssr_resolving.specs.Resolved.{check_template, meets, paths_in, paths_in_template, resolved_kind, resolved_kinds};
+ghost use Rattle.ide_ssr_resolving.specs.Eligible.{eligible_paths_of};
+ghost use Rattle.ide_ssr_resolving.specs.Private.Marks.{TellsRes};
+ghost use Rattle.ide_ssr_resolving.specs.Private.Placeholders.{placeholders, token_placeholders};
+ghost use Rattle.ide_ssr_resolving.specs.QualifiedCalls.{HasCalls, qualified_calls_of};
+ghost use Rattle.ide_ssr_resolving.specs.Resolved.{check_template, meets, paths_in, paths_in_template, resolved_kind, resolved_kinds, resolved_with};
 ghost use Rattle.ide_ssr_resolving.specs.Used.{HasPaths, res_at};
 
 use crate::eligible::eligible_paths;
@@ -29,6 +31,43 @@ use ssr_syntax_tree::{NodeNo, TokenNo, Tree};
 use std::alloc::{AllocError, Global};
 use std::marker::Model;
 
+/// What is looked up by the numbers of nodes and of tokens.
+#[derive(Drop)]
+struct Tables {
+    /// Which placeholder each node of the pattern is.
+    in_pattern: Vec<Option<u32>>,
+    /// Which placeholder each token of the template is.
+    in_template: Vec<Option<u32>>,
+    /// What each node of the pattern stands for, if it is a used path.
+    res_by_node: Vec<Option<Res>>,
+}
+
+impl Tables {
+    /// The tables of a rule with these names and this pattern, which has these used paths, and with this template.
+    fn of(
+        alloc: Global,
+        names: &Names<'_>,
+        pattern: &Tree,
+        template: Option<&Tree>,
+        paths: &[UsedPath],
+    ) -> Result<Tables, AllocError>
+        requires few { length names.now < 2 ^ 32 }
+        requires has { HasPaths pattern.now paths.now }
+        ensures in_pattern { IfOk result (λ tables. tables.in_pattern.items ≡ placeholders names.now pattern.now) }
+        ensures in_template { IfOk result (λ tables. IfSome (option_copied template.entry) (λ tree. tables.in_template.items ≡ token_placeholders names.now tree)) }
+        ensures res_by_node { IfOk result (λ tables. TellsRes paths.now tables.res_by_node.items) }
+    {
+        let in_pattern = placeholders(alloc, names, pattern)?;
+        let in_template = template_placeholders(alloc, names, template)?;
+        let res_by_node = res_by_node(alloc, pattern, paths)?;
+        Ok(Tables {
+            in_pattern,
+            in_template,
+            res_by_node,
+        })
+    }
+}
+
 /// One kind of a rule, ready for a search.
 #[derive(Drop)]
 pub struct ResolvedRule {
@@ -37,11 +76,9 @@ pub struct ResolvedRule {
     category: Fragment,
     pattern: Tree,
     template: Option<Tree>,
-    in_pattern: Vec<Option<u32>>,
-    in_template: Vec<Option<u32>>,
+    tables: Tables,
     pattern_paths: Vec<UsedPath>,
     template_paths: Vec<UsedPath>,
-    res_by_node: Vec<Option<Res>>,
     qualified_calls: Vec<QualifiedCall>,
     eligible_paths: Vec<UsedPath>,
 }
@@ -72,10 +109,10 @@ impl Model for ResolvedRule {
     } };
 
     ghost invariant = { λ rule. record {
-      in_pattern : rule.in_pattern.items ≡ placeholders (map string_bytes rule.names.items) rule.pattern;
-      in_template : IfSome rule.template (λ template. rule.in_template.items ≡ token_placeholders (map string_bytes rule.names.items) template);
+      in_pattern : rule.tables.in_pattern.items ≡ placeholders (map string_bytes rule.names.items) rule.pattern;
+      in_template : IfSome rule.template (λ template. rule.tables.in_template.items ≡ token_placeholders (map string_bytes rule.names.items) template);
       has_pattern : HasPaths rule.pattern rule.pattern_paths.items;
-      res_by_node : TellsRes rule.pattern_paths.items rule.res_by_node.items;
+      res_by_node : TellsRes rule.pattern_paths.items rule.tables.res_by_node.items;
       has_template : IfSome rule.template (λ template. HasPaths template rule.template_paths.items);
       has_calls : HasCalls rule.pattern rule.qualified_calls.items;
       has_eligible : HasPaths rule.pattern rule.eligible_paths.items;
@@ -116,7 +153,7 @@ impl ResolvedRule {
         requires { HasNode self.now.pattern node.0 }
         ensures { result ≡ placeholder_at self.now.names (node_of self.now.pattern node.0) }
     {
-        self.in_pattern[node.0 as usize]
+        self.tables.in_pattern[node.0 as usize]
     }
 
     /// Whether a node of a kind meets all constraints of a placeholder: the one with this place among the names.
@@ -135,7 +172,7 @@ impl ResolvedRule {
         requires { IsSomeAnd self.now.template (λ template. HasToken template token.0) }
         ensures { IfSome self.now.template (λ template. result ≡ name_at self.now.names (token_of template token.0)) }
     {
-        self.in_template[token.0 as usize]
+        self.tables.in_template[token.0 as usize]
     }
 
     /// The paths of the pattern that are used, in order, each with what it resolves to.
@@ -150,7 +187,7 @@ impl ResolvedRule {
     pub fn pattern_res(&self, node: NodeNo) -> Option<Res>
         ensures { result ≡ res_at self.now.pattern_paths node }
     {
-        match self.res_by_node.get(node.0 as usize) {
+        match self.tables.res_by_node.get(node.0 as usize) {
             Some(res) => *res,
             None => None,
         }
@@ -253,48 +290,67 @@ fn resolved_kind<S: Semantics>(
     requires { length names.now < 2 ^ 32 }
     ensures { Answers result (resolved_kind (S.meanings semantics.now) scope names.now constraints.now kind) }
 {
-    let ParsedRule {
-        category,
-        pattern,
-        template,
-    } = kind;
-    let template_paths = paths_in_template(alloc, semantics, scope, names, template.as_ref())?;
-    let pattern_paths = paths_in(alloc, semantics, scope, names, &pattern)?;
-    check_template_unmixed(alloc, template.as_ref())?;
-    check_unmixed(alloc, &pattern)?;
-    let qualified_calls = qualified_calls(
-        alloc,
-        semantics,
-        scope,
-        &pattern,
-        pattern_paths.as_slice(),
-    )?;
-    let eligible_paths = eligible_paths(
-        alloc,
-        semantics,
-        &pattern,
-        qualified_calls.as_slice(),
-        pattern_paths.as_slice(),
-    )?;
-    let res_by_node = res_by_node(alloc, &pattern, pattern_paths.as_slice())?;
-    let in_pattern = placeholders(alloc, names, &pattern)?;
-    let in_template = template_placeholders(alloc, names, template.as_ref())?;
+    let template = kind.template.as_ref();
+    let template_paths = paths_in_template(alloc, semantics, scope, names, template)?;
+    let pattern_paths = paths_in(alloc, semantics, scope, names, &kind.pattern)?;
+    check_template_unmixed(alloc, template)?;
+    check_unmixed(alloc, &kind.pattern)?;
+    let paths = (template_paths, pattern_paths);
+    Ok(resolved_with(alloc, semantics, scope, names, constraints, kind, paths)?)
+}
+
+/// What a kind resolves to, with the used paths of its template and of its pattern.
+fn resolved_with<S: Semantics>(
+    alloc: Global,
+    semantics: &S,
+    scope: ScopeId,
+    names: &Names<'_>,
+    constraints: &[ConstraintSet],
+    kind: ParsedRule,
+    paths: (Vec<UsedPath>, Vec<UsedPath>),
+) -> Result<ResolvedRule, AllocError>
+    requires few { length names.now < 2 ^ 32 }
+    requires has_pattern { HasPaths kind.pattern paths.1.items }
+    requires has_template { IfSome kind.template (λ template. HasPaths template paths.0.items) }
+    ensures { IfOk result (λ rule. rule ≡ resolved_with (S.meanings semantics.now) scope names.now constraints.now kind paths.0.items paths.1.items) }
+{
+    let (template_paths, pattern_paths) = paths;
+    let used = pattern_paths.as_slice();
+    let tables = Tables::of(alloc, names, &kind.pattern, kind.template.as_ref(), used)?;
+    let (qualified_calls, eligible_paths) = leads(alloc, semantics, scope, &kind.pattern, used)?;
     let names = names.owned(alloc)?;
     let constraints = copied_constraints(alloc, constraints)?;
     Ok(ResolvedRule {
         names,
         constraints,
-        category,
-        pattern,
-        template,
-        in_pattern,
-        in_template,
+        category: kind.category,
+        pattern: kind.pattern,
+        template: kind.template,
+        tables,
         pattern_paths,
         template_paths,
-        res_by_node,
         qualified_calls,
         eligible_paths,
     })
+}
+
+/// The qualified calls of a pattern with these used paths, and which of the paths are eligible.
+fn leads<S: Semantics>(
+    alloc: Global,
+    semantics: &S,
+    scope: ScopeId,
+    pattern: &Tree,
+    paths: &[UsedPath],
+) -> Result<(Vec<QualifiedCall>, Vec<UsedPath>), AllocError>
+    requires { HasPaths pattern.now paths.now }
+    ensures calls { IfOk result (λ found. found.0.items ≡ qualified_calls_of (S.meanings semantics.now) scope pattern.now paths.now) }
+    ensures eligible { IfOk result (λ found. found.1.items ≡ eligible_paths_of (S.meanings semantics.now) pattern.now found.0.items paths.now) }
+    ensures has_calls { IfOk result (λ found. HasCalls pattern.now found.0.items) }
+    ensures has_eligible { IfOk result (λ found. HasPaths pattern.now found.1.items) }
+{
+    let calls = qualified_calls(alloc, semantics, scope, pattern, paths)?;
+    let eligible = eligible_paths(alloc, semantics, pattern, &calls, paths)?;
+    Ok((calls, eligible))
 }
 
 /// Which placeholder each token of a template is; without one there are none.

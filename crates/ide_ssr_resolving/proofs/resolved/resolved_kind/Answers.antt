@@ -1,6 +1,4 @@
-use Rattle.std.proofs.Common.{◌≡◌, ap, subst, sym, ◌∙◌}
-use Rattle.std.specs.Option.{IfSome, option_copied}
-use Rattle.ide_ssr_resolving.specs.Private.Placeholders.{placeholders, token_placeholders}
+use Rattle.std.proofs.Common.{Ok, ap, sym, ◌∙◌}
 use Rattle.std.proofs.lemmas.Result.{err_from_is_err_and}
 use Rattle.ide_ssr_resolving.proofs.KindByKind.{template_unresolved, pattern_unresolved, template_mixes, pattern_mixes, kind_resolved}
 use Rattle.ide_ssr_resolving.proofs.resolved.resolved_kind.Goals as goal
@@ -8,51 +6,36 @@ use Rattle.ide_ssr_resolving.proofs.resolved.resolved_kind.Goals as goal
 pub returns-in_err-template_paths : goal.returns-in_err-template_paths
 returns-in_err-template_paths g c =
     let p = err_from_is_err_and c.from_residual.result c.from_residual.ensures.1 in
-    let refused = rw c.as_ref.ensures.value at c.in_err-template_paths.ensures.paths in
+    let refused = rw c.as_ref-template.ensures.value at c.in_err-template_paths.ensures.paths in
     rw (p.1, p.2) (template_unresolved (g.S.Semantics.meanings c.args.semantics.now) c.args.scope _ _ c.args.kind _ refused)
 
 pub returns-in_err-pattern_paths : goal.returns-in_err-pattern_paths
 returns-in_err-pattern_paths g c =
     let p = err_from_is_err_and c.from_residual-in_err-pattern_paths.result c.from_residual-in_err-pattern_paths.ensures.1 in
-    let template = rw c.as_ref.ensures.value at c.in_ok-template_paths.ensures.paths in
+    let template = rw c.as_ref-template.ensures.value at c.in_ok-template_paths.ensures.paths in
     rw (p.1, p.2) (pattern_unresolved (g.S.Semantics.meanings c.args.semantics.now) c.args.scope _ _ c.args.kind _ _ template c.in_err-pattern_paths.ensures.paths)
 
 pub returns-in_err-check_template_unmixed : goal.returns-in_err-check_template_unmixed
 returns-in_err-check_template_unmixed g c =
     let p = err_from_is_err_and c.from_residual-in_err-check_template_unmixed.result c.from_residual-in_err-check_template_unmixed.ensures.1 in
-    let template = rw c.as_ref.ensures.value at c.in_ok-template_paths.ensures.paths in
-    let refused = rw c.as_ref-2.ensures.value at c.in_err-check_template_unmixed.ensures in
+    let template = rw c.as_ref-template.ensures.value at c.in_ok-template_paths.ensures.paths in
+    let refused = rw c.as_ref-template.ensures.value at c.in_err-check_template_unmixed.ensures in
     rw (p.1, p.2)
     (template_mixes (g.S.Semantics.meanings c.args.semantics.now) c.args.scope _ _ c.args.kind _ _ _ template c.in_ok-pattern_paths.ensures.paths refused)
 
 pub returns-in_err-check_unmixed : goal.returns-in_err-check_unmixed
 returns-in_err-check_unmixed g c =
     let p = err_from_is_err_and c.from_residual-in_err-check_unmixed.result c.from_residual-in_err-check_unmixed.ensures.1 in
-    let template = rw c.as_ref.ensures.value at c.in_ok-template_paths.ensures.paths in
-    let plain = rw c.as_ref-2.ensures.value at c.in_ok-check_template_unmixed.ensures in
+    let template = rw c.as_ref-template.ensures.value at c.in_ok-template_paths.ensures.paths in
+    let plain = rw c.as_ref-template.ensures.value at c.in_ok-check_template_unmixed.ensures in
     rw (p.1, p.2)
     (pattern_mixes (g.S.Semantics.meanings c.args.semantics.now) c.args.scope _ _ c.args.kind _ _ _ template c.in_ok-pattern_paths.ensures.paths plain
     c.in_err-check_unmixed.ensures)
 
 pub returns : goal.returns
 returns g c =
-    let template = rw c.as_ref.ensures.value at c.in_ok-template_paths.ensures.paths in
-    let plain = rw c.as_ref-2.ensures.value at c.in_ok-check_template_unmixed.ensures in
-    let called = rw c.as_slice.ensures.value at c.in_ok-qualified_calls.ensures.calls in
-    let leads = rw (c.as_slice-2.ensures.value, c.as_slice-3.ensures.value) at c.in_ok-eligible_paths.ensures.paths in
-    kind_resolved (g.S.Semantics.meanings c.args.semantics.now) c.args.scope _ _ c.args.kind _ _ _ _ _ _ template c.in_ok-pattern_paths.ensures.paths plain
-    c.in_ok-check_unmixed.ensures c.in_ok-names.ensures c.in_ok-constraints.ensures called leads
-
-pub invariant_of-result : goal.invariant_of-result
-invariant_of-result g c = record {
-  in_pattern = c.in_ok-in_pattern.ensures ∙ ap (λ names. placeholders names c.args.kind.pattern) (sym c.in_ok-names.ensures);
-  in_template =
-      rw c.as_ref-3.ensures.value at
-      (subst (λ names. IfSome (option_copied c.as_ref-3.result) (λ tree. c.in_ok-in_template.in_template.items ≡ token_placeholders names tree)) (sym c.in_ok-names.ensures)
-      c.in_ok-in_template.ensures);
-  has_pattern = c.in_ok-pattern_paths.ensures.has;
-  res_by_node = rw c.as_slice-4.ensures.value at c.in_ok-res_by_node.ensures;
-  has_template = rw c.as_ref.ensures.value at c.in_ok-template_paths.ensures.has;
-  has_calls = c.in_ok-qualified_calls.ensures.has;
-  has_eligible = c.in_ok-eligible_paths.ensures.has;
-}
+    let template = rw c.as_ref-template.ensures.value at c.in_ok-template_paths.ensures.paths in
+    let plain = rw c.as_ref-template.ensures.value at c.in_ok-check_template_unmixed.ensures in
+    kind_resolved (g.S.Semantics.meanings c.args.semantics.now) c.args.scope _ _ c.args.kind _ _ template c.in_ok-pattern_paths.ensures.paths plain
+    c.in_ok-check_unmixed.ensures
+    ∙ ap Ok (sym c.in_ok-resolved_with.ensures)

@@ -7,6 +7,6 @@ use Rattle.ide_ssr_resolving.proofs.resolved.ResolvedRule.pattern_res.Goals as g
 
 pub returns-in-None : goal.returns-in-None
 returns-in-None c =
-    let past : length c.self.inside.res_by_node.items ≤ c.args.node.0 = grind (arith, nat_tests) in
-    sym (get_or_past c.self.inside.res_by_node.items c.args.node.0 None past) ∙ c.self.invariant.res_by_node c.args.node.0
+    let past : length c.self.inside.tables.res_by_node.items ≤ c.args.node.0 = grind (arith, nat_tests) in
+    sym (get_or_past c.self.inside.tables.res_by_node.items c.args.node.0 None past) ∙ c.self.invariant.res_by_node c.args.node.0
     ∙ ap (λ (rule : ResolvedKind). res_at rule.pattern_paths c.args.node) c.self.view_is

@@ -8,11 +8,11 @@ use Rattle.ide_ssr_resolving.proofs.resolved.ResolvedRule.placeholder.Goals as g
 pub index-requires : goal.index-requires
 index-requires c =
     let has : HasNode c.self.inside.pattern c.args.node.0 = subst (λ (rule : ResolvedKind). HasNode rule.pattern c.args.node.0) (sym c.self.view_is) c.requires in
-    let long = table_long (map string_bytes c.self.inside.names.items) c.self.inside.pattern c.self.inside.in_pattern.items c.args.node.0 c.self.invariant.in_pattern has in
+    let long = table_long (map string_bytes c.self.inside.names.items) c.self.inside.pattern c.self.inside.tables.in_pattern.items c.args.node.0 c.self.invariant.in_pattern has in
     omega (arith, long)
 
 pub returns : goal.returns
 returns c =
     let has : HasNode c.self.inside.pattern c.args.node.0 = subst (λ (rule : ResolvedKind). HasNode rule.pattern c.args.node.0) (sym c.self.view_is) c.requires in
-    table_at (map string_bytes c.self.inside.names.items) c.self.inside.pattern c.self.inside.in_pattern.items c.args.node.0 _ c.self.invariant.in_pattern has c.index.ensures
+    table_at (map string_bytes c.self.inside.names.items) c.self.inside.pattern c.self.inside.tables.in_pattern.items c.args.node.0 _ c.self.invariant.in_pattern has c.index.ensures
     ∙ ap (λ (rule : ResolvedKind). placeholder_at rule.names (node_of rule.pattern c.args.node.0)) c.self.view_is

@@ -10,7 +10,7 @@ pub index-requires : goal.index-requires
 index-requires c =
     let token = c.args.token.0 in
     let has = subst (λ (rule : ResolvedKind). IsSomeAnd rule.template (λ tree. HasToken tree token)) (sym c.self.view_is) c.requires in
-    let long = in_table (map string_bytes c.self.inside.names.items) c.self.inside.in_template.items token c.self.inside.template c.self.invariant.in_template has in
+    let long = in_table (map string_bytes c.self.inside.names.items) c.self.inside.tables.in_template.items token c.self.inside.template c.self.invariant.in_template has in
     omega (arith, long)
 
 pub returns : goal.returns
@@ -18,5 +18,5 @@ returns c =
     let token = c.args.token.0 in
     let has = subst (λ (rule : ResolvedKind). IsSomeAnd rule.template (λ tree. HasToken tree token)) (sym c.self.view_is) c.requires in
     subst (λ (rule : ResolvedKind). IfSome rule.template (λ tree. c.index.result.now ≡ name_at rule.names (token_of tree token))) c.self.view_is
-    (at_table (map string_bytes c.self.inside.names.items) c.self.inside.in_template.items token c.self.inside.template c.index.result.now
+    (at_table (map string_bytes c.self.inside.names.items) c.self.inside.tables.in_template.items token c.self.inside.template c.index.result.now
     c.self.invariant.in_template has c.index.ensures)
