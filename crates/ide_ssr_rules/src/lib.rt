@@ -23,5 +23,4 @@ pub use meeting::ConstraintSet;
 pub use names::Names;
 pub use refusals::{Fault, Refusal, Text};
 pub use rules::{ParsedKinds, SsrPattern, SsrRule, pattern_kinds, rule_kinds};
-pub use stand_ins::is_stand_in_of;
 pub use var::Var;

@@ -24,7 +24,7 @@ pub(crate) fn stand_in_name(text: &str) -> Option<&str>
 }
 
 /// Whether the text is the stand-in of a name.
-pub fn is_stand_in_of(text: &str, name: &str) -> bool
+pub(crate) fn is_stand_in_of(text: &str, name: &str) -> bool
     ensures { result ≡ bytes_eq text.now (stand_in_of name.now) }
 {
     match stand_in_name(text) {
