@@ -13,7 +13,7 @@ use Rattle.ide_ssr_resolving.specs.declared.used.UsedPath.{UsedPath}
 use Rattle.ide_ssr_resolving.specs.QualifiedCalls.{qualified_calls_of}
 use Rattle.ide_ssr_resolving.specs.Eligible.{eligible_paths_of}
 use Rattle.ide_ssr_resolving.specs.Mixing.{check_unmixed}
-use Rattle.ide_ssr_resolving.specs.Resolved.{ResolvedKind, check_template, paths_in, paths_in_template, resolved_kind, resolved_kinds}
+use Rattle.ide_ssr_resolving.specs.Resolved.{ResolvedKind, check_template, paths_in, paths_in_template, resolved_kind, resolved_kinds, resolved_with}
 
 -- a kind with its names, what they ask, the used paths of its template and its pattern, its qualified calls and its eligible paths
 abbrev pub kind_with : ParsedRule → List (List ℕ) → List (List Constraint) → List UsedPath → List UsedPath → List QualifiedCall → List UsedPath → ResolvedKind
@@ -30,14 +30,8 @@ kind_with kind kept asks in_template in_pattern calls eligible = record {
 }
 
 module _ (m : Meanings) (scope : ScopeId) (names : List (List ℕ)) (asked : List (List Constraint)) (kind : ParsedRule) where
-  -- what it resolves to with these used paths
-  abbrev pub made : List UsedPath → List UsedPath → ResolvedKind
-  made in_template in_pattern =
-      kind_with kind names asked in_template in_pattern (qualified_calls_of m scope kind.pattern in_pattern)
-      (eligible_paths_of m kind.pattern (qualified_calls_of m scope kind.pattern in_pattern) in_pattern)
-
   abbrev whole : List UsedPath → List UsedPath → Unit {0} → Result ResolvedKind Refusal
-  whole in_template in_pattern _ = Ok (made in_template in_pattern)
+  whole in_template in_pattern _ = Ok (resolved_with m scope names asked kind in_template in_pattern)
 
   abbrev after_unmixed : List UsedPath → List UsedPath → Unit {0} → Result ResolvedKind Refusal
   after_unmixed in_template in_pattern _ = check_unmixed kind.pattern >>= whole in_template in_pattern
@@ -86,9 +80,9 @@ module _ (m : Meanings) (scope : ScopeId) (names : List (List ℕ)) (asked : Lis
 
   pub kind_resolved : (in_template in_pattern : List UsedPath) → paths_in_template m scope names kind.template ≡ Ok in_template
       → paths_in m scope names kind.pattern ≡ Ok in_pattern → check_template check_unmixed kind.template ≡ Ok tt → check_unmixed kind.pattern ≡ Ok tt
-      → resolved_kind m scope names asked kind ≡ Ok (made in_template in_pattern)
+      → resolved_kind m scope names asked kind ≡ Ok (resolved_with m scope names asked kind in_template in_pattern)
   kind_resolved in_template in_pattern template pattern plain too =
-      let IsIt : Result ResolvedKind Refusal → Type 0 = λ r. r ≡ Ok (made in_template in_pattern) in
+      let IsIt : Result ResolvedKind Refusal → Type 0 = λ r. r ≡ Ok (resolved_with m scope names asked kind in_template in_pattern) in
       past_paths IsIt in_template in_pattern template pattern
       (after_ok IsIt (check_template check_unmixed kind.template) (after_unmixed in_template in_pattern) tt plain
       (after_ok IsIt (check_unmixed kind.pattern) (whole in_template in_pattern) tt too refl))
@@ -96,7 +90,7 @@ module _ (m : Meanings) (scope : ScopeId) (names : List (List ℕ)) (asked : Lis
   -- what a rule keeps is what it resolves to
   pub kind_made : (kept : List (List ℕ)) (asks : List (List Constraint)) (in_template in_pattern : List UsedPath) (calls : List QualifiedCall) (eligible : List UsedPath)
       → kept ≡ names → asks ≡ asked → calls ≡ qualified_calls_of m scope kind.pattern in_pattern → eligible ≡ eligible_paths_of m kind.pattern calls in_pattern
-      → kind_with kind kept asks in_template in_pattern calls eligible ≡ made in_template in_pattern
+      → kind_with kind kept asks in_template in_pattern calls eligible ≡ resolved_with m scope names asked kind in_template in_pattern
   kind_made kept asks in_template in_pattern calls eligible keeps are called leads =
       let its_calls = qualified_calls_of m scope kind.pattern in_pattern in
       let leading : List QualifiedCall → List UsedPath = λ cs. eligible_paths_of m kind.pattern cs in_pattern in

@@ -17,10 +17,9 @@ use Rattle.ide_ssr_resolving.specs.declared.used.UsedPath.{UsedPath}
 use Rattle.ide_ssr_resolving.specs.Mixing.{mixes, check_unmixed}
 use Rattle.ide_ssr_resolving.specs.Patterns.{HasEachOnce, AreInArguments}
 use Rattle.ide_ssr_resolving.specs.Used.{used_paths}
-use Rattle.ide_ssr_resolving.specs.Resolved.{ResolvedKind, or_refusal, check_template, paths_in, paths_in_template, resolved_kind, resolved_kinds}
+use Rattle.ide_ssr_resolving.specs.Resolved.{ResolvedKind, or_refusal, check_template, paths_in, paths_in_template, resolved_kind, resolved_kinds, resolved_with}
 use Rattle.ide_ssr_resolving.proofs.InArguments.{are_in_arguments}
 use Rattle.ide_ssr_resolving.proofs.Patterns.{each_once}
-use Rattle.ide_ssr_resolving.proofs.KindByKind.{made}
 
 unmixed : (tree : Syntax) → check_unmixed tree ≡ Ok tt → mixes tree ≡ false
 unfolding check_unmixed
@@ -44,7 +43,7 @@ module _ (m : Meanings) (scope : ScopeId) (names : List (List ℕ)) (asked : Lis
   pub record IsResolved (kind : ParsedRule) (found : ResolvedKind) : Type 0 where
     pub in_template : List UsedPath
     pub in_pattern : List UsedPath
-    pub same : made m scope names asked kind in_template in_pattern ≡ found
+    pub same : resolved_with m scope names asked kind in_template in_pattern ≡ found
     pub told : used_paths m scope names kind.pattern ≡ Ok in_pattern
     pub plain : mixes kind.pattern ≡ false
 
@@ -52,7 +51,7 @@ module _ (m : Meanings) (scope : ScopeId) (names : List (List ℕ)) (asked : Lis
   unfolding resolved_kind paths_in
   resolved_like kind found h =
       let plain = check_template check_unmixed kind.template in
-      let whole : List UsedPath → List UsedPath → Unit {0} → Result ResolvedKind Refusal = λ t p _. Ok (made m scope names asked kind t p) in
+      let whole : List UsedPath → List UsedPath → Unit {0} → Result ResolvedKind Refusal = λ t p _. Ok (resolved_with m scope names asked kind t p) in
       let unmixed_pattern : List UsedPath → List UsedPath → Unit {0} → Result ResolvedKind Refusal = λ t p _. check_unmixed kind.pattern >>= whole t p in
       let unmixed_template : List UsedPath → List UsedPath → Result ResolvedKind Refusal = λ t p. plain >>= unmixed_pattern t p in
       let first = went (paths_in_template m scope names kind.template) (λ t. paths_in m scope names kind.pattern >>= unmixed_template t) found h in
@@ -62,7 +61,7 @@ module _ (m : Meanings) (scope : ScopeId) (names : List (List ℕ)) (asked : Lis
       record {
         in_template = first.found;
         in_pattern = second.found;
-        same = ok_same (made m scope names asked kind first.found second.found) found last.next_is;
+        same = ok_same (resolved_with m scope names asked kind first.found second.found) found last.next_is;
         told = paths_used kind.pattern (used_paths m scope names kind.pattern) second.found second.first_is;
         plain = unmixed kind.pattern last.first_is;
       }
