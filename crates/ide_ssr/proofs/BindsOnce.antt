@@ -15,8 +15,8 @@ use Rattle.ssr_base.specs.Workspace.{Workspace, trees}
 use Rattle.ide_ssr_rules.specs.Elements.{has}
 use Rattle.ide_ssr_resolving.specs.Resolved.{ResolvedKind}
 use Rattle.ide_ssr_rules.specs.Uses.{AreNew}
-use Rattle.ide_ssr_matching.specs.declared.bindings.Binding.{Binding}
-use Rattle.ide_ssr_matching.specs.Found.{Found, AreDisjoint, ShareNoByte, IsMatch, held_node}
+use Rattle.ide_ssr_found.specs.declared.bindings.Binding.{Binding}
+use Rattle.ide_ssr_found.specs.Found.{Found, AreDisjoint, ShareNoByte, IsMatch, held_node}
 use Rattle.ide_ssr_matching.proofs.Shared.{placeholders_bound}
 use Rattle.ide_ssr_nesting.specs.Holding.{Kept, IsKept}
 use Rattle.ide_ssr_nesting.specs.Lists.{Listing, listed}

@@ -18,8 +18,8 @@ use Rattle.std.proofs.lemmas.Map.Keys.{apart_from_distinct, IsDistinct-from_apar
 use Rattle.std.proofs.lemmas.Option.{same_Some, slice_get-get_or}
 use Rattle.ssr_base.specs.declared.ids.NodeId.{NodeId}
 use Rattle.ssr_base.specs.Workspace.{Workspace, trees, original_range}
-use Rattle.ide_ssr_matching.specs.declared.bindings.Binding.{Binding}
-use Rattle.ide_ssr_matching.specs.Found.{Found, held_node}
+use Rattle.ide_ssr_found.specs.declared.bindings.Binding.{Binding}
+use Rattle.ide_ssr_found.specs.Found.{Found, held_node}
 use Rattle.ide_ssr.specs.declared.starts.Start.{Start}
 use Rattle.ide_ssr.specs.Starts.{start_at, AreByStart}
 use Rattle.ide_ssr.specs.Private.Starts.{IsStartOf, AreStarts, start_key}

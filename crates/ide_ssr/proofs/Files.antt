@@ -15,8 +15,8 @@ use Rattle.ssr_base.specs.Workspace.{Workspace, Planted, FileSpan, of_file, tree
 use Rattle.ssr_base.specs.Built.{IsNodeOf}
 use Rattle.ssr_base.specs.Laws.{IsSpanOf, LiesInFile}
 use Rattle.ssr_base.proofs.Shared.{and_some, boundary_passes, planted-file, some_and, span_of_text}
-use Rattle.ide_ssr_matching.specs.declared.bindings.Binding.{Binding}
-use Rattle.ide_ssr_matching.specs.Found.{Found}
+use Rattle.ide_ssr_found.specs.declared.bindings.Binding.{Binding}
+use Rattle.ide_ssr_found.specs.Found.{Found}
 use Rattle.ide_ssr_rewriting.specs.Comments.{kept_comments}
 use Rattle.ide_ssr.specs.Comments.{token_span, comment_spans}
 

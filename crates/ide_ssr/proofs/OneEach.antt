@@ -2,7 +2,7 @@
 use Rattle.std.proofs.Common.{◌≡◌, List, Contains, Ok, sym, ap, ◌∙◌, subst, arith}
 use Rattle.ssr_base.specs.Built.{IsBuilt}
 use Rattle.ssr_base.specs.Workspace.{Workspace, trees}
-use Rattle.ide_ssr_matching.specs.Found.{Found}
+use Rattle.ide_ssr_found.specs.Found.{Found}
 use Rattle.ide_ssr_nesting.specs.Holding.{Kept}
 use Rattle.ide_ssr_nesting.specs.Lists.{Listing, AreLists}
 use Rattle.ide_ssr_rewriting.specs.Clashes.{clash_of}

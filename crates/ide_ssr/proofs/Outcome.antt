@@ -10,8 +10,8 @@ use Rattle.ssr_base.specs.Meanings.{Meanings}
 use Rattle.ssr_base.specs.Workspace.{Workspace, Planted, planted, trees}
 use Rattle.ide_ssr_resolving.specs.Patterns.{HasEachOnce, AreInArguments, placeholders_of}
 use Rattle.ide_ssr_resolving.specs.Resolved.{ResolvedKind}
-use Rattle.ide_ssr_matching.specs.declared.bindings.Binding.{Binding}
-use Rattle.ide_ssr_matching.specs.Found.{Found}
+use Rattle.ide_ssr_found.specs.declared.bindings.Binding.{Binding}
+use Rattle.ide_ssr_found.specs.Found.{Found}
 use Rattle.ide_ssr_matching.specs.Matching.{Matches}
 use Rattle.ide_ssr_matching.proofs.Shared.{placeholders_bound, placeholders_are}
 use Rattle.ide_ssr_nesting.specs.Holding.{Kept}

@@ -11,8 +11,8 @@ use Rattle.ssr_syntax_tree.proofs.Lists.{all_at}
 use Rattle.ssr_base.specs.declared.ids.NodeId.{NodeId}
 use Rattle.ssr_base.specs.Workspace.{Workspace, FileSpan, trees, original_range}
 use Rattle.ide_ssr_resolving.specs.Resolved.{ResolvedKind}
-use Rattle.ide_ssr_matching.specs.declared.bindings.Binding.{Binding}
-use Rattle.ide_ssr_matching.specs.Found.{Found, IsMatch, held_node}
+use Rattle.ide_ssr_found.specs.declared.bindings.Binding.{Binding}
+use Rattle.ide_ssr_found.specs.Found.{Found, IsMatch, held_node}
 use Rattle.ide_ssr_nesting.specs.declared.holders.Holder.{Holder}
 use Rattle.ide_ssr_nesting.specs.Holding.{Kept, IsKept}
 use Rattle.ide_ssr_nesting.specs.Lists.{Listing, AreLists, listed}

@@ -5,7 +5,7 @@ use Rattle.ssr_syntax_tree.specs.declared.number.TokenNo.{TokenNo}
 use Rattle.ssr_syntax_tree.specs.Syntax.{Syntax}
 use Rattle.ssr_syntax_tree.specs.Places.{offset_of}
 use Rattle.ssr_base.specs.Workspace.{Workspace, FileSpan}
-use Rattle.ide_ssr_matching.specs.Found.{Found}
+use Rattle.ide_ssr_found.specs.Found.{Found}
 use Rattle.ide_ssr_rewriting.specs.Comments.{kept_comments}
 
 -- the bytes of a token in its file

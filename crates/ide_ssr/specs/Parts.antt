@@ -6,8 +6,8 @@ use Rattle.ssr_base.specs.declared.ids.NodeId.{NodeId}
 use Rattle.ssr_base.specs.Laws.{LiesInFile}
 use Rattle.ssr_base.specs.Workspace.{Workspace, FileSpan, trees, tree_of, file_span_of, original_range}
 use Rattle.ide_ssr_resolving.specs.Resolved.{ResolvedKind}
-use Rattle.ide_ssr_matching.specs.declared.bindings.Binding.{Binding}
-use Rattle.ide_ssr_matching.specs.Found.{Found, held_node}
+use Rattle.ide_ssr_found.specs.declared.bindings.Binding.{Binding}
+use Rattle.ide_ssr_found.specs.Found.{Found, held_node}
 use Rattle.ide_ssr.specs.declared.matches.Match.{Match}
 use Rattle.ide_ssr.specs.declared.matches.PlaceholderMatch.{PlaceholderMatch}
 use Rattle.ide_ssr.specs.Comments.{comment_spans}

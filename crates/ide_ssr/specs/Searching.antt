@@ -1,7 +1,7 @@
 -- What a finder's search comes to: the matches that are found, those of them that are kept, and the lists of these.
 use Rattle.std.specs.Prelude.{◌≡◌, List}
 use Rattle.ssr_base.specs.Workspace.{trees}
-use Rattle.ide_ssr_matching.specs.Found.{Found}
+use Rattle.ide_ssr_found.specs.Found.{Found}
 use Rattle.ide_ssr_nesting.specs.Holding.{Kept, IsKept}
 use Rattle.ide_ssr_nesting.specs.Kept.{AreKept}
 use Rattle.ide_ssr_nesting.specs.Lists.{Listing, AreLists}

@@ -2,7 +2,7 @@
 use Rattle.std.specs.Prelude.{ℕ, ◌≡◌, ◌<◌, ◌⊎◌, ◌↔◌, List, length, slice_get, Option, Some, AllPairs, Contains}
 use Rattle.std.specs.Option.{option_and_then, option_map}
 use Rattle.ssr_base.specs.Workspace.{Workspace, trees, original_range}
-use Rattle.ide_ssr_matching.specs.Found.{Found, held_node}
+use Rattle.ide_ssr_found.specs.Found.{Found, held_node}
 
 -- where in its file begins what the binding of this place holds
 abbrev pub start_at : Workspace → Found → ℕ → Option ℕ

@@ -3,10 +3,10 @@
 ghost use Rattle.std.specs.Prelude.{◌≡◌, All, IfOk, map};
 ghost use Rattle.ssr_base.specs.Laws.{LiesInFile};
 ghost use Rattle.ssr_base.specs.Workspace.{file_span_of, trees};
-ghost use Rattle.ide_ssr_matching.specs.Found.{IsMatch};
+ghost use Rattle.ide_ssr_found.specs.Found.{IsMatch};
 ghost use Rattle.ide_ssr.specs.Comments.{comment_spans};
 
-use ide_ssr_matching::Found;
+use ide_ssr_found::Found;
 use ide_ssr_rewriting::kept_comments;
 use ssr_base::{FileId, FileRange, NodeId, Workspace};
 use std::alloc::{AllocError, Global};

@@ -5,11 +5,11 @@ ghost use Rattle.std.specs.Cmp.Lexicographic.{slice_cmp};
 ghost use Rattle.std.specs.Option.{option_map};
 ghost use Rattle.std.specs.Ordering.{nat_cmp};
 ghost use Rattle.ssr_base.specs.Workspace.{original_range, trees};
-ghost use Rattle.ide_ssr_matching.specs.Found.{held_node};
+ghost use Rattle.ide_ssr_found.specs.Found.{held_node};
 ghost use Rattle.ide_ssr.specs.Starts.{AreByStart};
 ghost use Rattle.ide_ssr.specs.Private.Starts.{AreStarts, start_key};
 
-use ide_ssr_matching::{Binding, Found};
+use ide_ssr_found::{Binding, Found};
 use ssr_base::Workspace;
 use std::alloc::{AllocError, Global};
 use std::cmp::Ordering;

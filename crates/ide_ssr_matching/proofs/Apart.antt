@@ -15,10 +15,10 @@ use Rattle.ssr_base.specs.declared.semantics.Res.{Res}
 use Rattle.ssr_base.specs.Meanings.{Meanings}
 use Rattle.ide_ssr_resolving.specs.Paths.{first_of_kind}
 use Rattle.ide_ssr_resolving.specs.Resolved.{ResolvedKind}
-use Rattle.ide_ssr_matching.specs.declared.bindings.Binding.{Binding}
+use Rattle.ide_ssr_found.specs.declared.bindings.Binding.{Binding}
 use Rattle.ide_ssr_matching.specs.Matching.{is_left_out, bare, holds_arguments, from_arguments, arguments_of, Matches, bound, used, alike, Pairs, end, tokens, nodes}
 use Rattle.ide_ssr_matching.specs.Bindings.{counted}
-use Rattle.ide_ssr_matching.specs.Apart.{ComesBefore}
+use Rattle.ide_ssr_found.specs.Apart.{ComesBefore}
 
 -- nodes that bindings hold, between two places of the text and one behind another
 abbrev pub HoldNodes : Syntax → ℕ → ℕ → List Binding → Type 0

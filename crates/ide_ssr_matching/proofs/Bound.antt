@@ -21,7 +21,7 @@ use Rattle.ide_ssr_resolving.specs.Patterns.{or_below, placeholders_in, placehol
 use Rattle.ide_ssr_resolving.specs.Placeholders.{placeholder_at}
 use Rattle.ide_ssr_resolving.specs.Resolved.{ResolvedKind}
 use Rattle.ide_ssr_resolving.specs.Used.{is_at, res_at}
-use Rattle.ide_ssr_matching.specs.declared.bindings.Binding.{Binding}
+use Rattle.ide_ssr_found.specs.declared.bindings.Binding.{Binding}
 use Rattle.ide_ssr_matching.specs.Matching.{is_left_out, bare, from_arguments, arguments_of, pattern_res, Matches, bound, used, alike, Pairs, end, tokens, nodes}
 use Rattle.ide_ssr_matching.specs.Bindings.{counted}
 use Rattle.ide_ssr_matching.proofs.Counted.{bare_all, first_has, counted_all}

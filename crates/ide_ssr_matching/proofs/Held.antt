@@ -9,10 +9,10 @@ use Rattle.ssr_syntax_tree.proofs.Shared.{node_of-number}
 use Rattle.ssr_base.specs.declared.semantics.Res.{Res}
 use Rattle.ssr_base.specs.Meanings.{Meanings}
 use Rattle.ide_ssr_resolving.specs.Resolved.{ResolvedKind}
-use Rattle.ide_ssr_matching.specs.declared.bindings.Binding.{Binding}
+use Rattle.ide_ssr_found.specs.declared.bindings.Binding.{Binding}
 use Rattle.ide_ssr_matching.specs.Matching.{bare, arguments_of, Matches, bound, used, alike, Pairs, end, tokens, nodes}
 use Rattle.ide_ssr_matching.specs.Bindings.{counted}
-use Rattle.ide_ssr_matching.specs.Apart.{IsHeldIn, ComesBefore}
+use Rattle.ide_ssr_found.specs.Apart.{IsHeldIn, ComesBefore}
 use Rattle.ide_ssr_matching.proofs.Apart.{matches_hold, all_apart}
 use Rattle.ide_ssr_matching.proofs.Counted.{bare_all, first_has, counted_all}
 

@@ -10,5 +10,3 @@ mod Apart
 mod Bound
 mod Held
 mod Roots
-mod Nodes
-pub mod Deciding

@@ -21,7 +21,7 @@ use Rattle.ide_ssr_resolving.specs.Paths.{first_of_kind, is_arguments}
 use Rattle.ide_ssr_resolving.specs.Placeholders.{placeholder_at}
 use Rattle.ide_ssr_resolving.specs.Resolved.{ResolvedKind, meets}
 use Rattle.ide_ssr_resolving.specs.Used.{res_at}
-use Rattle.ide_ssr_matching.specs.declared.bindings.Binding.{Binding}
+use Rattle.ide_ssr_found.specs.declared.bindings.Binding.{Binding}
 use Rattle.ide_ssr_matching.specs.Private.Children.{IsBelow, AreKept}
 use Rattle.ide_ssr_matching.proofs.Bare.{below-has, tail_has}
 use Rattle.ide_ssr_matching.specs.Matching.{is_left_out, bare, from_arguments, arguments_of, pattern_res, code_res}

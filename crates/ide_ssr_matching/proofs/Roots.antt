@@ -4,7 +4,7 @@ use Rattle.ssr_syntax_tree.specs.Syntax.{Syntax}
 use Rattle.ssr_syntax_tree.specs.Places.{Node, node_of, root_of}
 use Rattle.ssr_base.specs.Meanings.{Meanings}
 use Rattle.ide_ssr_resolving.specs.Resolved.{ResolvedKind}
-use Rattle.ide_ssr_matching.specs.declared.bindings.Binding.{Binding}
+use Rattle.ide_ssr_found.specs.declared.bindings.Binding.{Binding}
 use Rattle.ide_ssr_matching.specs.Bindings.{bindings_of}
 use Rattle.ide_ssr_matching.specs.Private.Matching.{Answers, matched, other}
 

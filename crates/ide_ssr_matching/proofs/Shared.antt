@@ -7,5 +7,3 @@ pub use Rattle.ide_ssr_matching.proofs.Apart.{HoldNodes, matches_hold, all_bound
 pub use Rattle.ide_ssr_matching.proofs.Bound.{placeholders_bound, placeholders_are}
 -- where that stands
 pub use Rattle.ide_ssr_matching.proofs.Held.{held_in, held_apart}
--- trees and nodes of a workspace, and those that a match holds
-pub use Rattle.ide_ssr_matching.proofs.Nodes.{IsTree, is_tree, of_tree, in_tree, told_node, ranged_node, has_node, has_held}

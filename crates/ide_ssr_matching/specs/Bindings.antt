@@ -12,7 +12,7 @@ use Rattle.ssr_base.specs.Meanings.{Meanings, same_res}
 use Rattle.ide_ssr_resolving.specs.Paths.{is_arguments}
 use Rattle.ide_ssr_resolving.specs.Placeholders.{placeholder_at}
 use Rattle.ide_ssr_resolving.specs.Resolved.{ResolvedKind, meets}
-use Rattle.ide_ssr_matching.specs.declared.bindings.Binding.{Binding}
+use Rattle.ide_ssr_found.specs.declared.bindings.Binding.{Binding}
 use Rattle.ide_ssr_matching.specs.Matching.{bare, is_left_out, arguments_of, pattern_res, code_res}
 
 -- both bindings, where there are both

@@ -14,7 +14,7 @@ use Rattle.ide_ssr_resolving.specs.Paths.{first_of_kind, is_arguments}
 use Rattle.ide_ssr_resolving.specs.Placeholders.{placeholder_at}
 use Rattle.ide_ssr_resolving.specs.Resolved.{ResolvedKind, meets}
 use Rattle.ide_ssr_resolving.specs.Used.{res_at}
-use Rattle.ide_ssr_matching.specs.declared.bindings.Binding.{Binding}
+use Rattle.ide_ssr_found.specs.declared.bindings.Binding.{Binding}
 
 -- the brackets directly before which a comma may stand or not
 unfoldable pub is_closing : SyntaxKind → Bool

@@ -5,8 +5,8 @@ ghost use Rattle.ssr_syntax_tree.specs.Syntax.{Syntax};
 ghost use Rattle.ssr_syntax_tree.specs.Places.{Node, HasNode, node_of, root_of};
 ghost use Rattle.ssr_base.specs.Meanings.{Meanings};
 ghost use Rattle.ide_ssr_resolving.specs.Resolved.{ResolvedKind};
-ghost use Rattle.ide_ssr_matching.specs.declared.bindings.Binding.{Binding};
-ghost use Rattle.ide_ssr_matching.specs.Apart.{IsHeldIn, ComesBefore};
+ghost use Rattle.ide_ssr_found.specs.declared.bindings.Binding.{Binding};
+ghost use Rattle.ide_ssr_found.specs.Apart.{IsHeldIn, ComesBefore};
 ghost use Rattle.ide_ssr_matching.specs.Bindings.{bindings_of};
 ghost use Rattle.ide_ssr_matching.specs.Matching.{Matches};
 

@@ -7,8 +7,8 @@ ghost use Rattle.ssr_base.specs.Workspace.{node_id};
 ghost use Rattle.ide_ssr_matching.specs.Bindings.{placeholder_by, stands_for, bindings_of};
 ghost use Rattle.ide_ssr_matching.specs.Private.Matching.{pair_by, Answers};
 
-use crate::bindings::Binding;
 use crate::children::Siblings;
+use ide_ssr_found::Binding;
 use ide_ssr_resolving::ResolvedRule;
 use ssr_base::{NodeId, Res, Semantics};
 use ssr_syntax_tree::{Element, NodeNo, TokenNo, Tree};
@@ -28,10 +28,7 @@ fn placeholder_matches(
     if !rule.meets(placeholder, code.kind(c)) {
         return Ok(false);
     }
-    out.push(Binding {
-        placeholder,
-        node: c,
-    })?;
+    out.push(Binding::of_node(placeholder, c))?;
     Ok(true)
 }
 

@@ -8,7 +8,7 @@ use Rattle.ssr_base.specs.Workspace.{Planted, above_in, above}
 use Rattle.ssr_base.specs.Built.{IsNodeOf, CallsAreEarlier}
 use Rattle.ssr_base.specs.Laws.{climbed, IsBelow, IsEarlier}
 use Rattle.ssr_base.proofs.Shared.{is_up}
-use Rattle.ide_ssr_matching.proofs.Shared.{told_node}
+use Rattle.ide_ssr_found.proofs.Shared.{told_node}
 use Rattle.ide_ssr_nesting.specs.Order.{place, end_place}
 use Rattle.ide_ssr_nesting.specs.Laws.{BelowIsBetween, OnePlaceEach, OneWayUp}
 use Rattle.ide_ssr_nesting.proofs.Laid.{laid}

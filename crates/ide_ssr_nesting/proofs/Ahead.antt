@@ -11,7 +11,7 @@ use Rattle.ssr_base.specs.Workspace.{Workspace, Planted, trees, planted, tree_of
 use Rattle.ssr_base.specs.Built.{IsNodeOf, CallsAreEarlier}
 use Rattle.ssr_syntax_tree.specs.Syntax.{Syntax, node_count}
 use Rattle.ssr_syntax_tree.specs.Places.{HasNode}
-use Rattle.ide_ssr_matching.specs.Found.{Found}
+use Rattle.ide_ssr_found.specs.Found.{Found}
 use Rattle.ide_ssr_nesting.specs.Order.{count_of, place}
 use Rattle.ide_ssr_nesting.specs.Kept.{ComesBefore}
 use Rattle.ide_ssr_nesting.specs.Private.Sorting.{is_node, first_rank, next_rank, is_ahead}

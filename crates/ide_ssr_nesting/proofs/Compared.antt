@@ -11,7 +11,7 @@ use Rattle.ssr_base.specs.Workspace.{Planted, planted, node_id, same_id, above}
 use Rattle.ssr_base.specs.Built.{IsNodeOf, CallsAreEarlier}
 use Rattle.ssr_base.specs.Laws.{IsBelow}
 use Rattle.ssr_base.proofs.Shared.{is_up, planted_first, planted_earlier, same_nodes}
-use Rattle.ide_ssr_matching.specs.Found.{IsAtOrBelow}
+use Rattle.ide_ssr_found.specs.Found.{IsAtOrBelow}
 use Rattle.ide_ssr_nesting.specs.Order.{place, end_place, Precedes}
 use Rattle.ide_ssr_nesting.proofs.Nodes.{first_or_earlier, node_within, above_root, above_earlier, same_numbers}
 use Rattle.ide_ssr_nesting.proofs.Put.{put}

@@ -10,7 +10,7 @@ use Rattle.std.proofs.lemmas.List.Elements.{All-contains, All-contains_itself}
 use Rattle.std.proofs.lemmas.List.Kept.{AllPairs-cons}
 use Rattle.std.proofs.lemmas.Option.{same_Some, slice_get_within}
 use Rattle.ssr_base.specs.Workspace.{trees}
-use Rattle.ide_ssr_matching.specs.Found.{Found}
+use Rattle.ide_ssr_found.specs.Found.{Found}
 use Rattle.ide_ssr_nesting.specs.declared.holders.Holder.{Holder}
 use Rattle.ide_ssr_nesting.specs.Holding.{Kept, IsKept}
 use Rattle.ide_ssr_nesting.specs.Lists.{held, held_place, held_binding, holder_key, listing_key, lists_key, Listing, same_holder, listed, AreLists}

@@ -3,7 +3,7 @@ use Rattle.std.proofs.Common.{◌≡◌, ◌↔◌, inl, inr, List, [], ◌∷�
 use Rattle.std.proofs.lemmas.List.Elements.{All-nil, All-head, All-tail, All-contains, All-push, Contains-get_or, Contains-append_left, Contains-push, Contains-push_cases}
 use Rattle.ssr_base.specs.Workspace.{Planted}
 use Rattle.ssr_base.specs.Built.{CallsAreEarlier}
-use Rattle.ide_ssr_matching.specs.Found.{Found, IsMatch, AreMatches}
+use Rattle.ide_ssr_found.specs.Found.{Found, IsMatch, AreMatches}
 use Rattle.ide_ssr_nesting.specs.declared.holders.Holder.{Holder}
 use Rattle.ide_ssr_nesting.specs.Kept.{IsOver, Fits, ComesBefore, AreKept}
 use Rattle.ide_ssr_nesting.specs.Holding.{AreHeld}

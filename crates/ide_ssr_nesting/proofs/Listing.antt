@@ -18,7 +18,7 @@ use Rattle.std.proofs.lemmas.Map.Text.{is_eq-slice_cmp}
 use Rattle.std.proofs.lemmas.Option.{same_Some}
 use Rattle.std.proofs.lemmas.Slice.Eq.{bytes_eq-Decides}
 use Rattle.ssr_base.specs.Workspace.{trees}
-use Rattle.ide_ssr_matching.specs.Found.{Found}
+use Rattle.ide_ssr_found.specs.Found.{Found}
 use Rattle.ide_ssr_nesting.specs.declared.holders.Holder.{Holder}
 use Rattle.ide_ssr_nesting.specs.declared.lists.Row.{Row}
 use Rattle.ide_ssr_nesting.specs.Kept.{ComesBefore}

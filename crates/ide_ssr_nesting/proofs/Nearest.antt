@@ -9,7 +9,7 @@ use Rattle.std.proofs.lemmas.List.Quantifiers.{all_pairs_push}
 use Rattle.ssr_base.specs.Workspace.{Planted}
 use Rattle.ssr_base.specs.Built.{CallsAreEarlier}
 use Rattle.ssr_base.specs.Laws.{RangesNest}
-use Rattle.ide_ssr_matching.specs.Found.{Found, IsMatch}
+use Rattle.ide_ssr_found.specs.Found.{Found, IsMatch}
 use Rattle.ide_ssr_nesting.specs.declared.holders.Holder.{Holder}
 use Rattle.ide_ssr_nesting.specs.Kept.{IsOver, LiesUnder, Fits, ComesBefore}
 use Rattle.ide_ssr_nesting.specs.Holding.{IsOutermost, IsNearest, IsHeld, AreHeld}

@@ -5,7 +5,7 @@ use Rattle.std.proofs.lemmas.List.{same_lists}
 use Rattle.std.proofs.lemmas.Option.{same_Some, slice_get_within, slice_get-get_or}
 use Rattle.ssr_base.specs.Workspace.{Workspace, Planted, trees}
 use Rattle.ssr_base.specs.Built.{CallsAreEarlier}
-use Rattle.ide_ssr_matching.specs.Found.{Found, IsMatch}
+use Rattle.ide_ssr_found.specs.Found.{Found, IsMatch}
 use Rattle.ide_ssr_nesting.specs.declared.holders.Holder.{Holder}
 use Rattle.ide_ssr_nesting.specs.Kept.{IsOver, ComesBefore, LiesUnder}
 use Rattle.ide_ssr_nesting.specs.Holding.{IsOutermost, IsNearest, IsHeldBy, IsHeld, AreHeld, Kept, IsKept}

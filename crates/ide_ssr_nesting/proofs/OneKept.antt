@@ -4,7 +4,7 @@ use Rattle.std.proofs.lemmas.Bool.{cases_order}
 use Rattle.std.proofs.lemmas.List.Elements.{All-contains, Contains-append_left, Contains-append_right, Contains-append_cases}
 use Rattle.ssr_base.specs.Workspace.{Planted}
 use Rattle.ssr_base.specs.Built.{IsNodeOf, CallsAreEarlier}
-use Rattle.ide_ssr_matching.specs.Found.{Found, IsMatch, AreMatches}
+use Rattle.ide_ssr_found.specs.Found.{Found, IsMatch, AreMatches}
 use Rattle.ide_ssr_nesting.specs.Order.{place}
 use Rattle.ide_ssr_nesting.specs.Kept.{IsOver, Fits, ComesBefore, AreKept}
 use Rattle.ide_ssr_nesting.specs.Laws.{OneKept, LiesInOnePlaceholder}

@@ -7,7 +7,7 @@ use Rattle.ssr_base.specs.Workspace.{Planted, same_id}
 use Rattle.ssr_base.specs.Built.{IsNodeOf, CallsAreEarlier}
 use Rattle.ssr_base.specs.Laws.{IsBelow}
 use Rattle.ssr_base.proofs.Shared.{same_nodes}
-use Rattle.ide_ssr_matching.specs.Found.{Found}
+use Rattle.ide_ssr_found.specs.Found.{Found}
 use Rattle.ide_ssr_nesting.specs.Order.{place}
 use Rattle.ide_ssr_nesting.specs.Kept.{IsOver, ComesBefore}
 use Rattle.ide_ssr_nesting.proofs.Above.{below_over, below_is_between}

@@ -9,9 +9,9 @@ use Rattle.ssr_base.specs.Workspace.{Workspace, Planted, trees, original_range}
 use Rattle.ssr_base.specs.Built.{IsBuilt, IsNodeOf, CallsAreEarlier}
 use Rattle.ssr_base.specs.Laws.{LiesIn, RangesNest}
 use Rattle.ssr_base.proofs.Shared.{ranges_nest}
-use Rattle.ide_ssr_matching.specs.declared.bindings.Binding.{Binding}
-use Rattle.ide_ssr_matching.proofs.Deciding.{Decided, both, either, likewise, of_some, last_of, less, lies_in}
-use Rattle.ide_ssr_matching.specs.Found.{Found, IsMatch, held_node}
+use Rattle.ide_ssr_found.specs.declared.bindings.Binding.{Binding}
+use Rattle.ide_ssr_found.proofs.Deciding.{Decided, both, either, likewise, of_some, last_of, less, lies_in}
+use Rattle.ide_ssr_found.specs.Found.{Found, IsMatch, held_node}
 use Rattle.ide_ssr_nesting.specs.declared.holders.Holder.{Holder}
 use Rattle.ide_ssr_nesting.specs.Order.{place, end_place}
 use Rattle.ide_ssr_nesting.specs.Kept.{LiesWithin, IsOver, LiesUnder, Fits, ComesBefore, AreKept}

@@ -10,7 +10,7 @@ use Rattle.std.proofs.lemmas.List.Elements.{Contains-get_or}
 use Rattle.std.proofs.lemmas.Option.{get_or_from_slice_get, slice_get-get_or}
 use Rattle.ssr_syntax_tree.proofs.Lists.{at_front, at_back}
 use Rattle.ssr_base.specs.Workspace.{node_id, trees}
-use Rattle.ide_ssr_matching.specs.Found.{Found}
+use Rattle.ide_ssr_found.specs.Found.{Found}
 use Rattle.ide_ssr_nesting.specs.declared.holders.Holder.{Holder}
 use Rattle.ide_ssr_nesting.specs.declared.lists.Row.{Row}
 use Rattle.ide_ssr_nesting.specs.Holding.{Kept, IsKept}

@@ -9,7 +9,7 @@ use Rattle.std.proofs.lemmas.List.Kept.{AllPairs-cons, Contains-from_dedup}
 use Rattle.ssr_base.specs.declared.ids.NodeId.{NodeId}
 use Rattle.ssr_base.specs.Workspace.{Planted}
 use Rattle.ssr_base.specs.Built.{IsNodeOf, CallsAreEarlier}
-use Rattle.ide_ssr_matching.specs.Found.{Found, IsMatch, AreMatches}
+use Rattle.ide_ssr_found.specs.Found.{Found, IsMatch, AreMatches}
 use Rattle.ide_ssr_nesting.specs.Order.{place}
 use Rattle.ide_ssr_nesting.specs.Kept.{ComesBefore}
 use Rattle.ide_ssr_nesting.specs.Private.Sorting.{is_ahead, is_same}

@@ -7,8 +7,8 @@ use Rattle.std.specs.Option.{IsSomeAnd}
 use Rattle.ssr_base.specs.declared.ids.NodeId.{NodeId}
 use Rattle.ssr_base.specs.Workspace.{Planted, FileSpan, original_range}
 use Rattle.ssr_base.specs.Laws.{LiesIn, RangesNest}
-use Rattle.ide_ssr_matching.specs.declared.bindings.Binding.{Binding}
-use Rattle.ide_ssr_matching.specs.Found.{Found, IsAtOrBelow, held_node, HasByte, ShareNoByte, IsMatch}
+use Rattle.ide_ssr_found.specs.declared.bindings.Binding.{Binding}
+use Rattle.ide_ssr_found.specs.Found.{Found, IsAtOrBelow, held_node, HasByte, ShareNoByte, IsMatch}
 use Rattle.ide_ssr_nesting.specs.Kept.{LiesWithin, LiesUnder}
 use Rattle.ssr_syntax_tree.proofs.Lists.{all_at, pairs_at}
 

@@ -3,7 +3,7 @@
 use Rattle.std.specs.Prelude.{ℕ, ◌≡◌, ◌⊎◌, List, length, slice_get, Option, Some, None, All, AllPairs, Contains}
 use Rattle.ssr_base.specs.Workspace.{Workspace, Planted, trees}
 use Rattle.ssr_base.specs.Built.{IsBuilt}
-use Rattle.ide_ssr_matching.specs.Found.{Found, IsMatch}
+use Rattle.ide_ssr_found.specs.Found.{Found, IsMatch}
 use Rattle.ide_ssr_nesting.specs.declared.holders.Holder.{Holder}
 use Rattle.ide_ssr_nesting.specs.Kept.{IsOver, LiesUnder, Fits, ComesBefore}
 

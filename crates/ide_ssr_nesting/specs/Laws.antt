@@ -7,7 +7,7 @@ use Rattle.ssr_base.specs.declared.ids.NodeId.{NodeId}
 use Rattle.ssr_base.specs.Workspace.{Workspace, Planted, trees}
 use Rattle.ssr_base.specs.Built.{IsNodeOf}
 use Rattle.ssr_base.specs.Laws.{IsBelow}
-use Rattle.ide_ssr_matching.specs.Found.{Found, AreMatches}
+use Rattle.ide_ssr_found.specs.Found.{Found, AreMatches}
 use Rattle.ide_ssr_nesting.specs.declared.holders.Holder.{Holder}
 use Rattle.ide_ssr_nesting.specs.Order.{place, end_place}
 use Rattle.ide_ssr_nesting.specs.Kept.{AreKept, IsOver, LiesUnder}

@@ -5,14 +5,14 @@ ghost use Rattle.std.specs.Option.{IsSomeAnd};
 ghost use Rattle.ssr_base.specs.Workspace.{trees, original_range, file_span_of};
 ghost use Rattle.ssr_base.specs.Built.{IsNodeOf, IsBuilt};
 ghost use Rattle.ssr_base.specs.Laws.{LiesIn};
-ghost use Rattle.ide_ssr_matching.specs.Found.{Found as FoundMatch, IsMatch, AreMatches};
+ghost use Rattle.ide_ssr_found.specs.Found.{Found as FoundMatch, IsMatch, AreMatches};
 ghost use Rattle.ide_ssr_nesting.specs.Kept.{IsOver, LiesUnder, Fits, ComesBefore, AreKept};
 ghost use Rattle.ide_ssr_nesting.specs.Holding.{IsOutermost, IsHeld, AreHeld};
 ghost use Rattle.ide_ssr_nesting.specs.Private.Nearest.{IsNearestAt, IsKeptIfFits};
 
 use crate::holders::Holder;
 use crate::order::is_above;
-use ide_ssr_matching::Found;
+use ide_ssr_found::Found;
 use ssr_base::{FileRange, NodeId, Workspace};
 use std::alloc::{AllocError, Global};
 

@@ -2,7 +2,7 @@
 
 ghost use Rattle.std.specs.Prelude.{◌≡◌, ◌<◌, IfOk, Some, length, slice_get};
 ghost use Rattle.ssr_base.specs.Workspace.{trees};
-ghost use Rattle.ide_ssr_matching.specs.Found.{AreMatches};
+ghost use Rattle.ide_ssr_found.specs.Found.{AreMatches};
 ghost use Rattle.ide_ssr_nesting.specs.Kept.{AreKept};
 ghost use Rattle.ide_ssr_nesting.specs.Holding.{IsKept};
 
@@ -10,7 +10,7 @@ use crate::holders::Holder;
 use crate::kept::keep_in_order;
 use crate::order::is_built;
 use crate::sorting::put_in_order;
-use ide_ssr_matching::Found;
+use ide_ssr_found::Found;
 use ssr_base::Workspace;
 use std::alloc::{AllocError, Global};
 use std::marker::Model;

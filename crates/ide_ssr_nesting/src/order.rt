@@ -4,7 +4,7 @@ ghost use Rattle.std.specs.Prelude.{◌≡◌, ◌+◌, ◌<◌, ◌↔◌, IsTr
 ghost use Rattle.ssr_base.specs.Workspace.{trees, node_id, above};
 ghost use Rattle.ssr_base.specs.Built.{IsNodeOf, IsBuilt};
 ghost use Rattle.ssr_base.specs.Laws.{IsBelow};
-ghost use Rattle.ide_ssr_matching.specs.Found.{IsAtOrBelow};
+ghost use Rattle.ide_ssr_found.specs.Found.{IsAtOrBelow};
 ghost use Rattle.ide_ssr_nesting.specs.Order.{Precedes};
 
 use ssr_base::{NodeId, Workspace};

@@ -4,12 +4,12 @@ ghost use Rattle.std.specs.Prelude.{◌≡◌, ◌↔◌, All, AllPairs, Contain
 ghost use Rattle.std.specs.Ordering.{is_lt};
 ghost use Rattle.ssr_base.specs.Workspace.{trees};
 ghost use Rattle.ssr_base.specs.Built.{IsNodeOf, IsBuilt};
-ghost use Rattle.ide_ssr_matching.specs.Found.{Found as FoundMatch, IsMatch, AreMatches};
+ghost use Rattle.ide_ssr_found.specs.Found.{Found as FoundMatch, IsMatch, AreMatches};
 ghost use Rattle.ide_ssr_nesting.specs.Kept.{ComesBefore};
 ghost use Rattle.ide_ssr_nesting.specs.Private.Sorting.{is_node, is_ahead, is_same};
 
 use crate::order::precedes;
-use ide_ssr_matching::Found;
+use ide_ssr_found::Found;
 use ssr_base::{NodeId, Workspace};
 use ssr_syntax_tree::Element;
 use std::cmp::Ordering;

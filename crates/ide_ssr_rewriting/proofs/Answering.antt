@@ -15,7 +15,7 @@ use Rattle.ssr_base.specs.Laws.{LiesInFile, IsSpanOf}
 use Rattle.ssr_base.specs.Texts.{is_boundary}
 use Rattle.ssr_base.specs.Workspace.{Workspace, node_id}
 use Rattle.ide_ssr_resolving.specs.Resolved.{ResolvedKind}
-use Rattle.ide_ssr_matching.specs.Found.{Found}
+use Rattle.ide_ssr_found.specs.Found.{Found}
 use Rattle.ide_ssr_nesting.specs.declared.holders.Holder.{Holder}
 use Rattle.ide_ssr_nesting.specs.Holding.{IsKept, Kept}
 use Rattle.ide_ssr_nesting.specs.Lists.{AreLists, Listing, listed}

@@ -17,7 +17,7 @@ use Rattle.ssr_base.specs.Origins.{Span, covered}
 use Rattle.ssr_base.specs.Built.{CallsAreEarlier, IsNodeOf}
 use Rattle.ssr_base.specs.Workspace.{Expanded, FileSpan, Planted, Workspace, cover_below, file_of, of_expansion, of_file, original, original_in, original_range, own_span, planted, trees}
 use Rattle.ssr_base.proofs.Shared.{told_is}
-use Rattle.ide_ssr_matching.specs.Found.{Found, IsMatch}
+use Rattle.ide_ssr_found.specs.Found.{Found, IsMatch}
 use Rattle.ide_ssr_nesting.specs.declared.holders.Holder.{Holder}
 use Rattle.ide_ssr_nesting.specs.Kept.{ComesBefore, IsOver}
 use Rattle.ide_ssr_nesting.specs.Holding.{IsHeld, IsKept, Kept}

@@ -10,8 +10,8 @@ use Rattle.ssr_base.specs.Texts.{is_boundary}
 use Rattle.ssr_base.specs.Workspace.{FileSpan, Workspace, node_id, original_range, trees}
 use Rattle.ssr_base.specs.declared.ids.NodeId.{NodeId}
 use Rattle.ssr_base.proofs.Shared.{lies_in_file}
-use Rattle.ide_ssr_matching.specs.declared.bindings.Binding.{Binding}
-use Rattle.ide_ssr_matching.specs.Found.{Found, HasByte, IsMatch}
+use Rattle.ide_ssr_found.specs.declared.bindings.Binding.{Binding}
+use Rattle.ide_ssr_found.specs.Found.{Found, HasByte, IsMatch}
 use Rattle.ide_ssr_nesting.specs.Holding.{Kept}
 use Rattle.ide_ssr_nesting.specs.Lists.{Listing, range_of}
 use Rattle.ide_ssr_rewriting.specs.Clashes.{Rewrite}

@@ -10,8 +10,8 @@ use Rattle.std.proofs.lemmas.Option.{same_Some}
 use Rattle.ssr_syntax_tree.proofs.Lists.{all_at}
 use Rattle.ssr_base.specs.Workspace.{FileSpan, Workspace, node_id, original_range, trees}
 use Rattle.ide_ssr_resolving.specs.Resolved.{ResolvedKind}
-use Rattle.ide_ssr_matching.specs.declared.bindings.Binding.{Binding}
-use Rattle.ide_ssr_matching.specs.Found.{Found, HasByte, IsMatch}
+use Rattle.ide_ssr_found.specs.declared.bindings.Binding.{Binding}
+use Rattle.ide_ssr_found.specs.Found.{Found, HasByte, IsMatch}
 use Rattle.ide_ssr_nesting.specs.declared.holders.Holder.{Holder}
 use Rattle.ide_ssr_nesting.specs.Holding.{Kept}
 use Rattle.ide_ssr_nesting.specs.Lists.{Listing, listed, range_of}

@@ -6,7 +6,7 @@ use Rattle.std.proofs.lemmas.Bool.{cases_eq, eq-eqb, ne_eqb}
 use Rattle.std.proofs.lemmas.List.Elements.{All-contains, Contains-append_right}
 use Rattle.std.proofs.lemmas.Option.{same_Some, slice_get-get_or, slice_get_within}
 use Rattle.ide_ssr_resolving.specs.Resolved.{ResolvedKind}
-use Rattle.ide_ssr_matching.specs.Found.{Found}
+use Rattle.ide_ssr_found.specs.Found.{Found}
 use Rattle.ide_ssr_nesting.specs.declared.holders.Holder.{Holder}
 use Rattle.ide_ssr_nesting.specs.Holding.{Kept}
 use Rattle.ide_ssr_nesting.specs.Lists.{Listing, listed}

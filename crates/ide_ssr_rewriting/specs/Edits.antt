@@ -10,7 +10,7 @@ use Rattle.ssr_base.specs.declared.ids.FileId.{FileId}
 use Rattle.ssr_base.specs.Changes.{Change, FitsText}
 use Rattle.ssr_base.specs.Workspace.{FileSpan, Workspace, trees}
 use Rattle.ide_ssr_resolving.specs.Resolved.{ResolvedKind}
-use Rattle.ide_ssr_matching.specs.Found.{Found, held_node}
+use Rattle.ide_ssr_found.specs.Found.{Found, held_node}
 use Rattle.ide_ssr_nesting.specs.Holding.{Kept}
 use Rattle.ide_ssr_nesting.specs.Lists.{Listing, listed, range_of}
 use Rattle.ide_ssr_rewriting.specs.declared.editing.EditError.{EditError}

@@ -6,7 +6,7 @@ use Rattle.ssr_base.specs.declared.ids.NodeId.{NodeId}
 use Rattle.ssr_base.specs.Changes.{replaced}
 use Rattle.ssr_base.specs.Workspace.{FileSpan, Workspace, original_range, tree_of, trees}
 use Rattle.ide_ssr_resolving.specs.Resolved.{ResolvedKind}
-use Rattle.ide_ssr_matching.specs.Found.{Found}
+use Rattle.ide_ssr_found.specs.Found.{Found}
 use Rattle.ide_ssr_rewriting.specs.Clashes.{Rewrite, changes_made}
 use Rattle.ide_ssr_rewriting.specs.Comments.{comments_text, kept_comments}
 use Rattle.ide_ssr_rewriting.specs.Rendering.{piece_of, rendered}

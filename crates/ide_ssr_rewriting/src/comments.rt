@@ -4,7 +4,7 @@ ghost use Rattle.std.specs.Prelude.{◌≡◌, ◌++◌, All, IfOk, OnOk, string
 ghost use Rattle.ssr_syntax_tree.specs.Places.{HasNode, HasToken, node_of};
 ghost use Rattle.ide_ssr_rewriting.specs.Comments.{is_comment, is_below, is_bound, is_kept_comment, kept_comments, comment_text, comments_text};
 
-use ide_ssr_matching::Binding;
+use ide_ssr_found::Binding;
 use ssr_syntax_kinds::SyntaxKind;
 use ssr_syntax_tree::{NodeNo, TokenNo, Tree};
 use std::alloc::{AllocError, Global};

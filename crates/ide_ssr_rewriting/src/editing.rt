@@ -6,7 +6,7 @@ ghost use Rattle.std.specs.Ordering.{nat_cmp, ordering_then};
 ghost use Rattle.std.specs.BTreeMap.{get};
 ghost use Rattle.ssr_base.specs.declared.ids.FileId.{FileId as FileIdValue};
 ghost use Rattle.ssr_base.specs.Workspace.{file_span_of, original_range, trees};
-ghost use Rattle.ide_ssr_matching.specs.Found.{IsMatch};
+ghost use Rattle.ide_ssr_found.specs.Found.{IsMatch};
 ghost use Rattle.ide_ssr_rewriting.specs.Clashes.{AreInOrder, Clash, IsFirst, Rewrite as RewriteValue, clash_le, clash_of, clashes, is_clean};
 ghost use Rattle.ide_ssr_nesting.specs.Lists.{AreLists};
 ghost use Rattle.ide_ssr_rewriting.specs.Edits.{Answers, EditsFit, clashes_under, edit_of, file_cmp, list_at, list_under, range_at};
@@ -20,7 +20,7 @@ ghost use Rattle.ide_ssr_rewriting.specs.Replacements.{piece, text_of_match};
 
 use crate::clashes::{Rewrite, changes_made, first_clash};
 use crate::replacements::{piece, text_of_match};
-use ide_ssr_matching::Found;
+use ide_ssr_found::Found;
 use ide_ssr_nesting::{KeptMatches, Lists};
 use ide_ssr_resolving::ResolvedRule;
 use ssr_base::{FileId, FileRange, NodeId, TextEdit, Workspace};

@@ -5,14 +5,14 @@ ghost use Rattle.ssr_base.specs.Applied.{changes_of};
 ghost use Rattle.ssr_base.specs.Changes.{replaced};
 ghost use Rattle.ssr_base.specs.Texts.{is_boundary};
 ghost use Rattle.ssr_base.specs.Workspace.{original_range, trees};
-ghost use Rattle.ide_ssr_matching.specs.Found.{IsMatch};
+ghost use Rattle.ide_ssr_found.specs.Found.{IsMatch};
 ghost use Rattle.ide_ssr_rewriting.specs.Replacements.{comments_kept, file_text, piece, template_text, text_of_match};
 ghost use Rattle.ide_ssr_rewriting.specs.Private.Replacements.{FitsFile, IsOf};
 
 use crate::clashes::{Rewrite, changes_made};
 use crate::comments::{kept_comments, push_comments};
 use crate::rendering::rendered;
-use ide_ssr_matching::Found;
+use ide_ssr_found::Found;
 use ide_ssr_resolving::ResolvedRule;
 use ssr_base::{FileId, FileRange, NodeId, Workspace};
 use ssr_syntax_kinds::TextRange;

@@ -7,8 +7,8 @@ use Rattle.std.proofs.lemmas.List.Kept.{AllPairs-cons}
 use Rattle.std.proofs.lemmas.Option.{same_Some}
 use Rattle.ssr_base.specs.declared.ids.FileRange.{FileRange}
 use Rattle.ssr_base.specs.Workspace.{Planted, original_range, file_span_of}
-use Rattle.ide_ssr_matching.specs.declared.bindings.Binding.{Binding}
-use Rattle.ide_ssr_matching.specs.Found.{held_node, AreDisjoint, ShareNoByte}
+use Rattle.ide_ssr_found.specs.declared.bindings.Binding.{Binding}
+use Rattle.ide_ssr_found.specs.Found.{held_node, AreDisjoint, ShareNoByte}
 use Rattle.ide_ssr_search.specs.WholeMatches.{IsPlaced}
 use Rattle.ide_ssr_search.specs.Private.Whole.{AreRanges}
 use Rattle.ssr_syntax_tree.proofs.Lists.{pairs_none, pairs_head, pairs_tail}

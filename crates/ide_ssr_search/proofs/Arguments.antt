@@ -16,7 +16,7 @@ use Rattle.ssr_base.specs.declared.ids.NodeId.{NodeId}
 use Rattle.ssr_base.specs.Workspace.{Workspace, Planted, FileSpan, trees, planted, tree_of, node_id, original_range, file_span_of}
 use Rattle.ide_ssr_search.specs.Permitted.{first_token_tree, arguments_of, arguments_range}
 use Rattle.ide_ssr_search.specs.Private.Shut.{Shuts}
-use Rattle.ide_ssr_matching.proofs.Shared.{is_tree, of_tree, in_tree}
+use Rattle.ide_ssr_found.proofs.Shared.{is_tree, of_tree, in_tree}
 
 -- ** The first token tree.
 

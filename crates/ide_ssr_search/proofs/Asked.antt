@@ -16,7 +16,7 @@ use Rattle.ssr_base.specs.Meanings.{Meanings}
 use Rattle.ssr_base.specs.Workspace.{Workspace, trees, node_id}
 use Rattle.ide_ssr_resolving.specs.Resolved.{ResolvedKind}
 use Rattle.ide_ssr_resolving.specs.Placeholders.{placeholder_at}
-use Rattle.ide_ssr_matching.specs.declared.bindings.Binding.{Binding}
+use Rattle.ide_ssr_found.specs.declared.bindings.Binding.{Binding}
 use Rattle.ide_ssr_matching.specs.Matching.{closes, is_left_out, bare, pattern_res, Matches, bound, used, alike, Pairs, end, tokens, nodes}
 use Rattle.ide_ssr_search.specs.declared.roots.Root.{Root}
 use Rattle.ide_ssr_search.specs.declared.roots.Root.TheVariants as roots
@@ -24,7 +24,7 @@ use Rattle.ide_ssr_search.specs.declared.roots.Rules.{Rules}
 use Rattle.ssr_base.specs.Built.{IsMacroCall}
 use Rattle.ide_ssr_search.specs.WholeMatches.{IsWholeMatch}
 use Rattle.ide_ssr_search.specs.Private.Shut.{Shuts}
-use Rattle.ide_ssr_matching.proofs.Shared.{IsTree, in_tree}
+use Rattle.ide_ssr_found.proofs.Shared.{IsTree, in_tree}
 use Rattle.ide_ssr_search.specs.Private.Roots.{counts, first_counted, has_token_of, has_asked, has_kind, IsRootOf, AreRules}
 
 -- ** Sibling by sibling.

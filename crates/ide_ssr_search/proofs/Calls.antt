@@ -23,7 +23,7 @@ use Rattle.ide_ssr_search.specs.Context.{Context}
 use Rattle.ide_ssr_search.specs.Permitted.{IsInFunction}
 use Rattle.ide_ssr_search.specs.Private.Shut.{IsShutIn, IsShut}
 use Rattle.ide_ssr_search.specs.Private.Scan.{IsShutCall, KnowsShut, KnowsInside, IsEarlierCall}
-use Rattle.ide_ssr_matching.proofs.Shared.{is_tree, in_tree}
+use Rattle.ide_ssr_found.proofs.Shared.{is_tree, in_tree}
 use Rattle.ide_ssr_search.proofs.Trees.{then_some}
 use Rattle.ide_ssr_search.proofs.Shutting.{root_shut}
 use Rattle.ide_ssr_search.proofs.Inside.{root_inside, file_outside}

@@ -15,9 +15,9 @@ use Rattle.ssr_base.specs.Built.{IsNodeOf, IsMacroCall, IsBuilt}
 use Rattle.ssr_base.specs.Laws.{climbed, IsBelow, LiesIn, file_root}
 use Rattle.ssr_base.proofs.Shared.{reaches_its_file}
 use Rattle.ide_ssr_resolving.specs.Resolved.{ResolvedKind}
-use Rattle.ide_ssr_matching.specs.declared.bindings.Binding.{Binding}
-use Rattle.ide_ssr_matching.proofs.Deciding.{Decided, both, likewise, denied, given, of_some, if_some, each, each_two, some_one, all_of, less, at_most, of_kind, lies_in}
-use Rattle.ide_ssr_matching.specs.Found.{AreDisjoint, IsAtOrBelow, HasByte, ShareNoByte, held_node}
+use Rattle.ide_ssr_found.specs.declared.bindings.Binding.{Binding}
+use Rattle.ide_ssr_found.proofs.Deciding.{Decided, both, likewise, denied, given, of_some, if_some, each, each_two, some_one, all_of, less, at_most, of_kind, lies_in}
+use Rattle.ide_ssr_found.specs.Found.{AreDisjoint, IsAtOrBelow, HasByte, ShareNoByte, held_node}
 use Rattle.ide_ssr_search.specs.Context.{Context}
 use Rattle.ide_ssr_search.specs.Permitted.{IsUse, arguments_range, IsSearched, IsOpen, names_self, IsInFunction, IsPermitted}
 use Rattle.ide_ssr_search.specs.WholeMatches.{LiesInArguments, IsPlaced}

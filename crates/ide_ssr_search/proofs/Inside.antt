@@ -11,10 +11,10 @@ use Rattle.ssr_base.specs.Workspace.{Workspace, Planted, trees, node_id, above}
 use Rattle.ssr_base.specs.Laws.{IsBelow, climbed}
 use Rattle.ssr_base.specs.Built.{IsBuilt}
 use Rattle.ssr_base.proofs.Shared.{is_up}
-use Rattle.ide_ssr_matching.specs.Found.{IsAtOrBelow}
+use Rattle.ide_ssr_found.specs.Found.{IsAtOrBelow}
 use Rattle.ide_ssr_search.specs.Permitted.{IsInFunction}
 use Rattle.ide_ssr_search.specs.Private.Scan.{StandsIn}
-use Rattle.ide_ssr_matching.proofs.Shared.{IsTree}
+use Rattle.ide_ssr_found.proofs.Shared.{IsTree}
 use Rattle.ide_ssr_search.proofs.Trees.{then_some, split, over_below, root_below, up_below, below_up}
 
 -- what stands above the root of a tree is no node of it

@@ -9,11 +9,12 @@ use Rattle.ssr_syntax_tree.proofs.Shared.{node_of-number, over_within}
 use Rattle.ssr_base.specs.Meanings.{Meanings}
 use Rattle.ssr_base.specs.Workspace.{Workspace, Planted, trees, planted, node_id, original_range}
 use Rattle.ide_ssr_resolving.specs.Resolved.{ResolvedKind}
-use Rattle.ide_ssr_matching.specs.declared.bindings.Binding.{Binding}
-use Rattle.ide_ssr_matching.specs.Apart.{IsHeldIn}
-use Rattle.ide_ssr_matching.specs.Found.{Found, held_node, IsAtOrBelow, IsMatch, AreMatches}
+use Rattle.ide_ssr_found.specs.declared.bindings.Binding.{Binding}
+use Rattle.ide_ssr_found.specs.Apart.{IsHeldIn}
+use Rattle.ide_ssr_found.specs.Found.{Found, held_node, IsAtOrBelow, IsMatch, AreMatches}
 use Rattle.ide_ssr_matching.specs.Matching.{Matches}
-use Rattle.ide_ssr_matching.proofs.Shared.{held_in, IsTree, in_tree}
+use Rattle.ide_ssr_matching.proofs.Shared.{held_in}
+use Rattle.ide_ssr_found.proofs.Shared.{IsTree, in_tree}
 use Rattle.ide_ssr_search.specs.Context.{Context}
 use Rattle.ide_ssr_search.specs.WholeMatches.{LiesInArguments, IsPlaced}
 use Rattle.ide_ssr_search.specs.Found.{IsFound, Precedes, AreFound}

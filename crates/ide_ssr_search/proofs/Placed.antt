@@ -14,11 +14,12 @@ use Rattle.ssr_base.specs.Origins.{covered}
 use Rattle.ssr_base.specs.Workspace.{Workspace, Planted, FileSpan, trees, planted, tree_of, node_id, file_of, original_in, own_span, original_range, file_span_of, cover_below}
 use Rattle.ssr_base.specs.Laws.{LiesIn}
 use Rattle.ide_ssr_resolving.specs.Resolved.{ResolvedKind}
-use Rattle.ide_ssr_matching.specs.declared.bindings.Binding.{Binding}
+use Rattle.ide_ssr_found.specs.declared.bindings.Binding.{Binding}
 use Rattle.ide_ssr_matching.specs.Bindings.{bindings_of}
-use Rattle.ide_ssr_matching.specs.Found.{held_node, ShareNoByte}
+use Rattle.ide_ssr_found.specs.Found.{held_node, ShareNoByte}
 use Rattle.ide_ssr_matching.specs.Matching.{Matches}
-use Rattle.ide_ssr_matching.proofs.Shared.{bindings_of-Matches, Matches-bindings_of, matches_hold, all_bound, all_apart, is_tree, of_tree, in_tree}
+use Rattle.ide_ssr_matching.proofs.Shared.{bindings_of-Matches, Matches-bindings_of, matches_hold, all_bound, all_apart}
+use Rattle.ide_ssr_found.proofs.Shared.{is_tree, of_tree, in_tree}
 use Rattle.ide_ssr_search.specs.declared.bounds.Bounds.{Bounds}
 use Rattle.ide_ssr_search.specs.declared.bounds.Bounds.TheVariants as limits
 use Rattle.ide_ssr_search.specs.Permitted.{arguments_range}

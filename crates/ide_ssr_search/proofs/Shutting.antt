@@ -7,7 +7,7 @@ use Rattle.ssr_syntax_tree.specs.Places.{HasNode, node_of, size_of}
 use Rattle.ssr_base.specs.declared.ids.NodeId.{NodeId}
 use Rattle.ssr_base.specs.Workspace.{Planted, node_id, above}
 use Rattle.ide_ssr_search.specs.Private.Shut.{Shuts, IsShutIn, IsShut, ShutsBefore, IsPast, TellsPast}
-use Rattle.ide_ssr_matching.proofs.Shared.{IsTree}
+use Rattle.ide_ssr_found.proofs.Shared.{IsTree}
 use Rattle.ide_ssr_search.proofs.Trees.{split, over_below, root_below, up_below, below_up}
 
 module _ (ts : List Planted) (t : ℕ) (s : Syntax) (at : IsTree ts t s) where

@@ -15,7 +15,7 @@ use Rattle.ssr_base.proofs.Shared.{some_and}
 use Rattle.ide_ssr_search.specs.Laws.{ContextExists}
 use Rattle.ide_ssr_search.specs.Making.{restricting}
 use Rattle.ide_ssr_search.specs.Positions.{EndsAt, HoldsAt, IsNear, IsFirst, IsNextSibling, IsLeftFor, Leads, stays, goes_on, Settles, IsNodeAt, IsFunctionAround, IsInnermost}
-use Rattle.ide_ssr_matching.proofs.Deciding.{Decided, both, either, likewise, last_of, less, at_most, of_kind}
+use Rattle.ide_ssr_found.proofs.Deciding.{Decided, both, either, likewise, last_of, less, at_most, of_kind}
 use Rattle.ide_ssr_search.proofs.PositionNodes.{Spans, root_spans, is_parent, way, way_shorter}
 
 module _ (s : Syntax) where

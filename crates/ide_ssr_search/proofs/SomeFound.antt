@@ -9,13 +9,13 @@ use Rattle.ssr_base.specs.Workspace.{Workspace, Planted, trees, planted, tree_of
 use Rattle.ssr_base.specs.Built.{IsBuilt}
 use Rattle.ssr_base.proofs.Shared.{planted_within}
 use Rattle.ide_ssr_resolving.specs.Resolved.{ResolvedKind}
-use Rattle.ide_ssr_matching.specs.declared.bindings.Binding.{Binding}
+use Rattle.ide_ssr_found.specs.declared.bindings.Binding.{Binding}
 use Rattle.ide_ssr_matching.specs.Bindings.{bindings_of}
-use Rattle.ide_ssr_matching.specs.Found.{Found}
+use Rattle.ide_ssr_found.specs.Found.{Found}
 use Rattle.ide_ssr_search.specs.Context.{Context}
 use Rattle.ide_ssr_search.specs.Found.{AreFound}
 use Rattle.ide_ssr_search.specs.Private.Scan.{AreFoundBefore, TellsMatch, found_of}
-use Rattle.ide_ssr_matching.proofs.Shared.{is_tree, of_tree}
+use Rattle.ide_ssr_found.proofs.Shared.{is_tree, of_tree}
 use Rattle.ide_ssr_search.proofs.Trees.{planted_there}
 use Rattle.ide_ssr_search.proofs.Placed.{whole, not_matched, not_placed}
 use Rattle.ide_ssr_search.proofs.Finding.{found_none, added_by, found_at, found_in, found_all}

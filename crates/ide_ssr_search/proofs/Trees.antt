@@ -9,8 +9,8 @@ use Rattle.ssr_base.specs.declared.ids.NodeId.{NodeId}
 use Rattle.ssr_base.specs.Workspace.{Workspace, Planted, trees, planted, tree_of, node_id, above_in, above}
 use Rattle.ssr_base.specs.Laws.{climbed, IsBelow}
 use Rattle.ssr_base.proofs.Shared.{planted_first, planted_earlier, planted_within, length-trees, told_is, climbed_next}
-use Rattle.ide_ssr_matching.specs.Found.{IsAtOrBelow}
-use Rattle.ide_ssr_matching.proofs.Shared.{IsTree, is_tree}
+use Rattle.ide_ssr_found.specs.Found.{IsAtOrBelow}
+use Rattle.ide_ssr_found.proofs.Shared.{IsTree, is_tree}
 use Rattle.ssr_syntax_tree.proofs.Shared.{IsOver, inside, below_root}
 
 pub then_some : {A B : Type 0} (f : A → Option B) (o : Option A) (y : B) → option_and_then f o ≡ Some y → (x : A) × (o ≡ Some x) × (f x ≡ Some y)

@@ -10,7 +10,7 @@ use Rattle.ssr_base.specs.Workspace.{Workspace, Planted, FileSpan, trees, plante
 use Rattle.ssr_base.specs.Built.{IsNodeOf, IsMacroCall}
 use Rattle.ssr_base.specs.Laws.{IsBelow, LiesIn}
 use Rattle.ide_ssr_resolving.specs.Resolved.{ResolvedKind}
-use Rattle.ide_ssr_matching.specs.Found.{IsAtOrBelow, HasByte}
+use Rattle.ide_ssr_found.specs.Found.{IsAtOrBelow, HasByte}
 use Rattle.ide_ssr_search.specs.Context.{Context}
 
 abbrev pub IsUse : List Planted → NodeId → Type 0

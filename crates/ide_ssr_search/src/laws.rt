@@ -6,7 +6,7 @@ ghost use Rattle.ssr_base.specs.Meanings.{Meanings};
 ghost use Rattle.ssr_base.specs.Workspace.{Workspace as WorkspaceValue};
 ghost use Rattle.ssr_base.specs.Built.{IsBuilt};
 ghost use Rattle.ide_ssr_resolving.specs.Resolved.{ResolvedKind};
-ghost use Rattle.ide_ssr_matching.specs.Found.{Found as FoundMatch};
+ghost use Rattle.ide_ssr_found.specs.Found.{Found as FoundMatch};
 ghost use Rattle.ide_ssr_search.specs.Context.{Context as ContextValue};
 ghost use Rattle.ide_ssr_search.specs.Making.{IsContext};
 ghost use Rattle.ide_ssr_search.specs.Found.{AreFound};

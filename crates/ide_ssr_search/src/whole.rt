@@ -2,13 +2,14 @@
 ghost use Rattle.std.specs.Prelude.{◌≡◌, ◌↔◌, IsTrue, IfOk, IfSome, IfNone, MatchOption, Some, All, AllPairs, option_map};
 ghost use Rattle.ssr_syntax_tree.specs.Places.{HasNode};
 ghost use Rattle.ssr_base.specs.Workspace.{trees, tree_of, file_span_of, original_range};
-ghost use Rattle.ide_ssr_matching.specs.Found.{AreDisjoint, held_node};
+ghost use Rattle.ide_ssr_found.specs.Found.{AreDisjoint, held_node};
 ghost use Rattle.ide_ssr_search.specs.WholeMatches.{IsPlaced};
 ghost use Rattle.ide_ssr_search.specs.Private.Bounds.{AreBounds};
 ghost use Rattle.ide_ssr_search.specs.Private.Whole.{AreRanges, IsMatched, IsPlacedMatch, TellsWhole};
 
 use crate::bounds::Bounds;
-use ide_ssr_matching::{Binding, match_node};
+use ide_ssr_found::Binding;
+use ide_ssr_matching::match_node;
 use ide_ssr_resolving::ResolvedRule;
 use ssr_base::{FileRange, NodeId, Semantics, Workspace};
 use ssr_syntax_tree::Tree;

@@ -1,5 +1,5 @@
 -- Original ranges: they lie in their file, between characters, and in one tree that of a node below another one lies in that one's.
-use Rattle.std.proofs.Common.{◌≡◌, ℕ, zero, suc, ◌+◌, ◌-◌, ◌≤◌, ◌||◌, true, List, [], length, take, drop, slice_get, Option, Some, None, sym, ap, ◌∙◌, subst, inl, inr, arith, take-append-drop}
+use Rattle.std.proofs.Common.{◌≡◌, ℕ, zero, suc, ◌+◌, ◌-◌, ◌≤◌, ◌||◌, Bool, true, false, refl, List, [], length, take, drop, slice_get, Option, Some, None, sym, ap, ◌∙◌, subst, inl, inr, arith, take-append-drop}
 use Rattle.std.proofs.lemmas.Bool.{cases_lt, and_from, or_left, or_right, and_parts, lt-ltb, le-leb, leb-true}
 use Rattle.std.proofs.lemmas.List.{get_or_past}
 use Rattle.std.proofs.lemmas.List.Elements.{recursion_from_All, All-take, All-drop}
@@ -13,15 +13,16 @@ use Rattle.std.specs.Str.{IsUtf8}
 use Rattle.ssr_syntax_tree.specs.Syntax.{Syntax, token_count, tokens_of, spelled, source_of}
 use Rattle.ssr_syntax_tree.specs.Places.{Node, HasNode, node_of, offset_of}
 use Rattle.ssr_syntax_tree.proofs.Lists.{all_at}
-use Rattle.ssr_syntax_tree.proofs.Shared.{offset_grows, start_before_end}
+use Rattle.ssr_syntax_tree.proofs.Shared.{offset_grows}
 use Rattle.ssr_base.specs.declared.ids.FileRange.{FileRange}
 use Rattle.ssr_base.specs.declared.ids.NodeId.{NodeId}
-use Rattle.ssr_base.specs.Origins.{Span, covered}
+use Rattle.ssr_base.specs.declared.ids.TokenRun.{TokenRun}
+use Rattle.ssr_base.specs.Origins.{Span, cover_of, covered}
 use Rattle.ssr_base.specs.Texts.{is_boundary, text_between}
-use Rattle.ssr_base.specs.Workspace.{Workspace, Planted, FileSpan, trees, planted, file_of, text_at_top, text_of, node_id, above_in, above, own_span, cover_below, original_in, original, original_range, file_span_of}
+use Rattle.ssr_base.specs.Workspace.{Workspace, Planted, FileSpan, trees, planted, file_of, text_at_top, text_of, node_id, above_in, above, original_in, original, original_range, run_of, has_run, own_run_span, original_run_in, original_run, run_range, file_span_of}
 use Rattle.ssr_base.specs.Building.{fits_origin}
 use Rattle.ssr_base.specs.Built.{CallsAreEarlier, HasOrigins, HasTexts, IsBuilt}
-use Rattle.ssr_base.specs.Laws.{climbed, RangesNest, IsSpanOf, LiesInFile}
+use Rattle.ssr_base.specs.Laws.{climbed, IsAmong, RangesNest, RunsNest, IsSpanOf, LiesInFile}
 use Rattle.ssr_base.proofs.Parents.{HoldsTokens, parent_before, parent_holds}
 use Rattle.ssr_base.proofs.Planting.{and_some, some_and, mapped, is_top, is_called, file_at, expansion_at, uncalled_within, own_file}
 use Rattle.ssr_base.proofs.Above.{IsTold, told_from, step_from}
@@ -44,6 +45,25 @@ original_from ts x range is =
       told = told_from (origin_in x) ts x range.span (told.1 ∙ ap (λ (r : FileSpan). Some r.span) told.2);
       file = ap (λ (r : FileSpan). r.file) told.2;
     }
+
+record IsOriginalRun (ts : List Planted) (t : ℕ) (run : TokenRun) (range : FileSpan) : Type 0 where
+  tree : Planted
+  is : planted ts t ≡ Some tree
+  tells : original_run_in tree run ≡ Some range.span
+  file : file_of ts t ≡ range.file
+
+run_from : (ts : List Planted) (t : ℕ) (run : TokenRun) (range : FileSpan) → run_range ts t run ≡ Some range → IsOriginalRun ts t run range
+run_from ts t run range is =
+    let told = mapped (λ (span : Span). record { file = file_of ts t; span = span }) (original_run ts t run) range is in
+    let file : file_of ts t ≡ range.file = ap (λ (r : FileSpan). r.file) told.2 in
+    option_and_then_some {P = IsOriginalRun ts t run range} (λ p. if has_run p.syntax run then original_run_in p run else None) (planted ts t) range.span
+    (told.1 ∙ ap (λ (r : FileSpan). Some r.span) told.2)
+    (λ p plants here. tested p plants file (has_run p.syntax run) here)
+  where
+    tested : (p : Planted) → planted ts t ≡ Some p → file_of ts t ≡ range.file → (b : Bool)
+        → ◌≡◌ {A = Option Span} (if b then original_run_in p run else None) (Some range.span) → IsOriginalRun ts t run range
+    tested p plants file true here = record { tree = p; is = plants; tells = here; file = file }
+    tested p plants file false here = cc
 
 -- ** Ranges of one tree.
 
@@ -90,18 +110,18 @@ holds_below ts (suc n) b a p grown is one at has =
           (parent_holds p.syntax b.node.0 has inner.0)
     ])
 
-spans_nest : (syntax : Syntax) (call : Option NodeId) (origins : List (Option Span)) (outer inner : Node) (above below : Span) → HoldsTokens outer inner
-    → original_in (record { syntax = syntax; call = call; origins = origins }) outer ≡ Some above
-    → original_in (record { syntax = syntax; call = call; origins = origins }) inner ≡ Some below → IsInside above below
-spans_nest syntax None origins outer inner above below holds first second =
-    subst (IsInside above) (same_Some (own_span syntax inner) below second)
-    (subst (λ s. IsInside s (own_span syntax inner)) (same_Some (own_span syntax outer) above first)
+spans_nest : (syntax : Syntax) (call : Option NodeId) (origins : List (Option Span)) (outer inner : TokenRun) (above below : Span) → IsAmong inner outer
+    → original_run_in (record { syntax = syntax; call = call; origins = origins }) outer ≡ Some above
+    → original_run_in (record { syntax = syntax; call = call; origins = origins }) inner ≡ Some below → IsInside above below
+spans_nest syntax None origins outer inner above below among first second =
+    subst (IsInside above) (same_Some (own_run_span syntax inner) below second)
+    (subst (λ s. IsInside s (own_run_span syntax inner)) (same_Some (own_run_span syntax outer) above first)
     (record {
-      begins = offset_grows syntax outer.first inner.first holds.starts;
-      ends = offset_grows syntax (inner.first + token_count inner.children) (outer.first + token_count outer.children) holds.ends;
+      begins = offset_grows syntax outer.first inner.first among.0;
+      ends = offset_grows syntax (inner.first + inner.count) (outer.first + outer.count) among.1;
     }))
-spans_nest syntax (Some call) origins outer inner above below holds first second =
-    fewer_inside origins outer.first (token_count outer.children) inner.first (token_count inner.children) below above holds.starts holds.ends second first
+spans_nest syntax (Some call) origins outer inner above below among first second =
+    fewer_inside origins outer.first outer.count inner.first inner.count below above among.0 among.1 second first
 
 pub ranges_nest : (w : Workspace) → IsBuilt w → RangesNest (trees w)
 ranges_nest w b a x outer inner below one first second =
@@ -111,10 +131,29 @@ ranges_nest w b a x outer inner below one first second =
     let p = lower.told.tree in
     let same : upper.told.tree ≡ p = same_Some upper.told.tree p (sym upper.told.is ∙ ap (planted ts) one ∙ lower.told.is) in
     let holds = holds_below ts (suc below.0) x a p b.grown below.1 one lower.told.is lower.told.has in
-    let spans = spans_nest p.syntax p.call p.origins (node_of p.syntax a.node.0) (node_of p.syntax x.node.0) outer.span inner.span holds
+    let spans = spans_nest p.syntax p.call p.origins (run_of (node_of p.syntax a.node.0)) (run_of (node_of p.syntax x.node.0)) outer.span inner.span
+    (holds.starts, holds.ends)
     (ap (origin_in a) (sym same) ∙ upper.told.tells) lower.told.tells in
     record {
       file = sym lower.file ∙ ap (file_of ts) (sym one) ∙ upper.file;
+      begins = spans.begins;
+      ends = spans.ends;
+    }
+
+pub runs_nest : (w : Workspace) → RunsNest (trees w)
+runs_nest w x run outer inner among first second =
+    let ts = trees w in
+    let upper = original_from ts x outer first in
+    let lower = run_from ts x.tree run inner second in
+    let p = lower.tree in
+    let same : upper.told.tree ≡ p = same_Some upper.told.tree p (sym upper.told.is ∙ lower.is) in
+    let Among : Planted → Type 0 = λ p. IsAmong run (run_of (node_of p.syntax x.node.0)) in
+    let had = some_and (planted ts x.tree) Among among in
+    let spans = spans_nest p.syntax p.call p.origins (run_of (node_of p.syntax x.node.0)) run outer.span inner.span
+    (subst Among (same_Some had.0 p (sym had.1 ∙ lower.is)) had.2)
+    (ap (origin_in x) (sym same) ∙ upper.told.tells) lower.tells in
+    record {
+      file = sym lower.file ∙ upper.file;
       begins = spans.begins;
       ends = spans.ends;
     }
@@ -153,62 +192,76 @@ span_of_text text span ordered begins ends = record { ordered = ordered; within 
 
 -- ** Ranges in their files.
 
--- the span of a file's node
-in_own_file : (tree : Syntax) (node : Node) (span : Span) → HasTexts tree → own_span tree node ≡ span → IsSpanOf (source_of tree) span
-in_own_file tree node span texts is =
+-- the span of a file's tokens
+in_own_file : (tree : Syntax) (run : TokenRun) (span : Span) → HasTexts tree → own_run_span tree run ≡ span → IsSpanOf (source_of tree) span
+in_own_file tree run span texts is =
     subst (IsSpanOf (source_of tree)) is
-    (span_of_text (source_of tree) (own_span tree node) (start_before_end tree node)
-    (token_boundary tree node.first texts) (token_boundary tree (node.first + token_count node.children) texts))
+    (span_of_text (source_of tree) (own_run_span tree run) (offset_grows tree run.first (run.first + run.count) (omega arith))
+    (token_boundary tree run.first texts) (token_boundary tree (run.first + run.count) texts))
 
 -- what covers the origins of an expansion's tokens
-in_file_at_top : (text : List ℕ) (origins : List (Option Span)) (node : Node) (span : Span) → AllPass (fits_origin text) origins
-    → covered (cover_below origins node) ≡ Some span → IsSpanOf text span
-in_file_at_top text origins node span fit is =
+in_file_at_top : (text : List ℕ) (origins : List (Option Span)) (run : TokenRun) (span : Span) → AllPass (fits_origin text) origins
+    → covered (cover_of (take run.count (drop run.first origins))) ≡ Some span → IsSpanOf text span
+in_file_at_top text origins run span fit is =
     let Fits : Option Span → Type 0 = λ o. fits_origin text o ≡ true in
-    let below = take (token_count node.children) (drop node.first origins) in
+    let below = take run.count (drop run.first origins) in
     let fits = fits_parts text span
-    (ap (fits_origin text) (sym is) ∙ fit_covered text below (All-take Fits (token_count node.children) (drop node.first origins) (All-drop Fits node.first origins fit))) in
+    (ap (fits_origin text) (sym is) ∙ fit_covered text below (All-take Fits run.count (drop run.first origins) (All-drop Fits run.first origins fit))) in
     let holds = fits.holds in
     span_of_text text span (omega arith) fits.begins fits.ends
 
-pub lies_in_file : (w : Workspace) (x : NodeId) (range : FileSpan) → IsBuilt w → original_range (trees w) x ≡ Some range → LiesInFile w range
-lies_in_file w x range b is =
+tokens_lie_in_file : (w : Workspace) (t : ℕ) (p : Planted) (run : TokenRun) (range : FileSpan) → IsBuilt w → planted (trees w) t ≡ Some p
+    → file_of (trees w) t ≡ range.file → original_run_in p run ≡ Some range.span → LiesInFile w range
+tokens_lie_in_file w t p run range b plants in_file tells =
     let ts = trees w in
-    let origin = original_from ts x range is in
-    let told = origin.told in
-    let top = is_top ts x.tree told.tree b.grown told.is in
-    let file = file_at w (file_of ts x.tree) top.tree (uncalled_within w (file_of ts x.tree) top.tree top.is top.uncalled) top.is in
-    let here : slice_get w.files range.file ≡ Some file.tree = ap (slice_get w.files) (sym origin.file) ∙ file.is in
+    let top = is_top ts t p b.grown plants in
+    let file = file_at w (file_of ts t) top.tree (uncalled_within w (file_of ts t) top.tree top.is top.uncalled) top.is in
+    let here : slice_get w.files range.file ≡ Some file.tree = ap (slice_get w.files) (sym in_file) ∙ file.is in
     and_some (slice_get w.files range.file) (λ tree. IsSpanOf (source_of tree) range.span) file.tree here
-    (elim (cases_lt x.tree (length w.files)) [
+    (elim (cases_lt t (length w.files)) [
       | inl within ↦
-          let own = file_at w x.tree told.tree within told.is in
+          let own = file_at w t p within plants in
           let same : own.tree ≡ file.tree =
-          same_Some own.tree file.tree (sym own.is ∙ ap (slice_get w.files) (sym (own_file w x.tree within)) ∙ file.is) in
-          let node = node_of own.tree x.node.0 in
+          same_Some own.tree file.tree (sym own.is ∙ ap (slice_get w.files) (sym (own_file w t within)) ∙ file.is) in
           subst (λ tree. IsSpanOf (source_of tree) range.span) same
-          (in_own_file own.tree node range.span (all_at HasTexts w.files x.tree own.tree b.texts own.is)
-          (same_Some (own_span own.tree node) range.span (ap (origin_in x) own.plants ∙ told.tells)))
+          (in_own_file own.tree run range.span (all_at HasTexts w.files t own.tree b.texts own.is)
+          (same_Some (own_run_span own.tree run) range.span (ap (λ p. original_run_in p run) own.plants ∙ tells)))
       | inr behind ↦
-          let at = expansion_at w x.tree told.tree behind told.is in
+          let at = expansion_at w t p behind plants in
           let e = at.expanded in
-          let has = all_at (HasOrigins ts) w.expansions (x.tree - length w.files) e b.origins at.is in
-          let called = is_called ts x.tree told.tree e.call b.grown told.is (ap (λ (p : Planted). p.call) (sym at.plants)) in
+          let has = all_at (HasOrigins ts) w.expansions (t - length w.files) e b.origins at.is in
+          let called = is_called ts t p e.call b.grown plants (ap (λ (p : Planted). p.call) (sym at.plants)) in
           let tell : Option Planted → List ℕ = λ o. option_map_or (λ p. source_of p.syntax) o [] in
           let text : text_at_top ts e.call.tree ≡ source_of file.tree =
           ap (λ f. tell (planted ts f)) (sym called.file) ∙ ap tell (top.is ∙ ap Some (sym file.plants)) in
           subst (λ text. IsSpanOf text range.span) text
-          (in_file_at_top (text_at_top ts e.call.tree) e.origins (node_of e.syntax x.node.0) range.span has.fitting
-          (ap (origin_in x) at.plants ∙ told.tells))
+          (in_file_at_top (text_at_top ts e.call.tree) e.origins run range.span has.fitting
+          (ap (λ p. original_run_in p run) at.plants ∙ tells))
     ])
 
+pub lies_in_file : (w : Workspace) (x : NodeId) (range : FileSpan) → IsBuilt w → original_range (trees w) x ≡ Some range → LiesInFile w range
+lies_in_file w x range b is =
+    let origin = original_from (trees w) x range is in
+    let told = origin.told in
+    tokens_lie_in_file w x.tree told.tree (run_of (node_of told.tree.syntax x.node.0)) range b told.is origin.file told.tells
+
+pub run_lies_in_file : (w : Workspace) (t : ℕ) (run : TokenRun) (range : FileSpan) → IsBuilt w → run_range (trees w) t run ≡ Some range → LiesInFile w range
+run_lies_in_file w t run range b is =
+    let origin = run_from (trees w) t run range is in
+    tokens_lie_in_file w t origin.tree run range b origin.is origin.file origin.tells
+
 -- so it has a text
-pub has_text : (w : Workspace) (x : NodeId) (range : FileRange) → IsBuilt w → original_range (trees w) x ≡ Some (file_span_of range) → IsSome (text_of w range)
-has_text w x range b is =
+text_there : (w : Workspace) (range : FileRange) → LiesInFile w (file_span_of range) → IsSome (text_of w range)
+text_there w range in_file =
     let start = range.range.start in
     let end = range.range.end in
-    let lies = some_and (slice_get w.files range.file_id.0) (λ tree. IsSpanOf (source_of tree) (file_span_of range).span)
-    (lies_in_file w x (file_span_of range) b is) in
+    let lies = some_and (slice_get w.files range.file_id.0) (λ tree. IsSpanOf (source_of tree) (file_span_of range).span) in_file in
     let text = source_of lies.0 in
     ap (λ o. is_some (option_and_then (λ tree. text_between start end (source_of tree)) o)) lies.1
     ∙ ap (λ b. is_some (if b then Some (slice_range text start end) else None)) (and_from (is_boundary text start) (is_boundary text end) lies.2.begins lies.2.ends)
+
+pub has_text : (w : Workspace) (x : NodeId) (range : FileRange) → IsBuilt w → original_range (trees w) x ≡ Some (file_span_of range) → IsSome (text_of w range)
+has_text w x range b is = text_there w range (lies_in_file w x (file_span_of range) b is)
+
+pub run_has_text : (w : Workspace) (t : ℕ) (run : TokenRun) (range : FileRange) → IsBuilt w → run_range (trees w) t run ≡ Some (file_span_of range) → IsSome (text_of w range)
+run_has_text w t run range b is = text_there w range (run_lies_in_file w t run (file_span_of range) b is)

@@ -1,11 +1,13 @@
 -- Where nodes of a workspace come from, and what stands above them: the words of its laws.
-use Rattle.std.specs.Prelude.{ℕ, zero, suc, ◌≡◌, ◌<◌, ◌≤◌, ◌⊎◌, IsTrue, List, length, slice_get, Option, Some, None}
+use Rattle.std.specs.Prelude.{ℕ, zero, suc, ◌≡◌, ◌+◌, ◌<◌, ◌≤◌, ◌⊎◌, IsTrue, List, length, slice_get, Option, Some, None}
 use Rattle.std.specs.Option.{IsSomeAnd, option_and_then}
+use Rattle.ssr_syntax_tree.specs.Places.{node_of}
 use Rattle.ssr_syntax_tree.specs.Syntax.{source_of}
 use Rattle.ssr_base.specs.declared.ids.NodeId.{NodeId}
+use Rattle.ssr_base.specs.declared.ids.TokenRun.{TokenRun}
 use Rattle.ssr_base.specs.Origins.{Span}
 use Rattle.ssr_base.specs.Texts.{is_boundary}
-use Rattle.ssr_base.specs.Workspace.{Workspace, Planted, FileSpan, trees, file_of, node_id, above, original_range}
+use Rattle.ssr_base.specs.Workspace.{Workspace, Planted, FileSpan, trees, planted, file_of, node_id, above, original_range, run_of, run_range}
 
 -- ** What stands above.
 
@@ -47,6 +49,20 @@ RangesNest trees =
     → IsBelow trees b a → a.tree ≡ b.tree
     → original_range trees a ≡ Some outer → original_range trees b ≡ Some inner
     → LiesIn inner outer
+
+-- tokens are among others
+abbrev pub IsAmong : TokenRun → TokenRun → Type 0
+IsAmong inner outer = (outer.first ≤ inner.first) × (inner.first + inner.count ≤ outer.first + outer.count)
+
+-- tokens of a tree are among those of a node
+abbrev pub AreOfNode : List Planted → TokenRun → NodeId → Type 0
+AreOfNode trees run x = IsSomeAnd (planted trees x.tree) (λ p. IsAmong run (run_of (node_of p.syntax x.node.0)))
+
+-- where tokens of a node come from lies where it does
+abbrev pub RunsNest : List Planted → Type 0
+RunsNest trees =
+    (x : NodeId) (run : TokenRun) (outer inner : FileSpan) → AreOfNode trees run x
+    → original_range trees x ≡ Some outer → run_range trees x.tree run ≡ Some inner → LiesIn inner outer
 
 -- a span of a text, between characters
 pub record IsSpanOf (text : List ℕ) (span : Span) : Type 0 where

@@ -1,12 +1,13 @@
 -- A workspace: the trees of its files, and those of what macro calls in them stand for. Nodes and tokens of these have a
 -- place in a file at the top.
-use Rattle.std.specs.Prelude.{ℕ, ◌+◌, ◌==◌, ◌&&◌, nat_lt, Bool, if◌then◌else◌, List, [], ◌∷◌, ◌++◌, length, map, reverse, take, drop, slice_get, Option, Some, None}
+use Rattle.std.specs.Prelude.{ℕ, ◌+◌, ◌==◌, ◌&&◌, nat_le, nat_lt, Bool, if◌then◌else◌, List, [], ◌∷◌, ◌++◌, length, map, reverse, take, drop, slice_get, Option, Some, None}
 use Rattle.std.specs.List.{position_from}
 use Rattle.std.specs.Option.{option_map, option_and_then, option_map_or}
 use Rattle.ssr_syntax_tree.specs.Syntax.{Syntax, node_count, token_count, source_of}
-use Rattle.ssr_syntax_tree.specs.Places.{Node, node_of, start_of, end_of}
+use Rattle.ssr_syntax_tree.specs.Places.{Node, node_of, offset_of, start_of, end_of}
 use Rattle.ssr_base.specs.declared.ids.FileRange.{FileRange}
 use Rattle.ssr_base.specs.declared.ids.NodeId.{NodeId}
+use Rattle.ssr_base.specs.declared.ids.TokenRun.{TokenRun}
 use Rattle.ssr_base.specs.Origins.{Span, Cover, span_of, cover_of, covered}
 use Rattle.ssr_base.specs.Texts.{text_between}
 
@@ -119,3 +120,26 @@ file_span_of range = record { file = range.file_id.0; span = span_of range.range
 -- it lies in the file at the top
 abbrev pub original_range : List Planted → NodeId → Option FileSpan
 original_range trees x = option_map (λ span. record { file = file_of trees x.tree; span = span }) (original trees x)
+
+-- ** Tokens that follow each other.
+
+abbrev pub run_of : Node → TokenRun
+run_of node = record { first = node.first; count = token_count node.children }
+
+-- whether a tree has these tokens, and they are some
+abbrev pub has_run : Syntax → TokenRun → Bool
+has_run syntax run = nat_lt 0 run.count && nat_le (run.first + run.count) (token_count syntax.children)
+
+abbrev pub own_run_span : Syntax → TokenRun → Span
+own_run_span syntax run = record { start = offset_of syntax run.first; end = offset_of syntax (run.first + run.count) }
+
+-- those of a file have their own span, that of others covers their origins
+abbrev pub original_run_in : Planted → TokenRun → Option Span
+original_run_in p run =
+    option_map_or (λ call. covered (cover_of (take run.count (drop run.first p.origins)))) p.call (Some (own_run_span p.syntax run))
+
+abbrev pub original_run : List Planted → ℕ → TokenRun → Option Span
+original_run trees t run = option_and_then (λ p. if has_run p.syntax run then original_run_in p run else None) (planted trees t)
+
+abbrev pub run_range : List Planted → ℕ → TokenRun → Option FileSpan
+run_range trees t run = option_map (λ span. record { file = file_of trees t; span = span }) (original_run trees t run)

@@ -4,7 +4,7 @@ ghost use Rattle.std.specs.Prelude.{◌≡◌, ◌+◌, ◌<◌, ◌≤◌, IfOk
 ghost use Rattle.std.specs.Option.{option_map};
 ghost use Rattle.ssr_syntax_tree.specs.Syntax.{node_count, token_count};
 ghost use Rattle.ssr_syntax_tree.specs.Places.{HasNode, node_of, nodes_of};
-ghost use Rattle.ssr_base.specs.Origins.{span_of, join, covered, cover_of_one};
+ghost use Rattle.ssr_base.specs.Origins.{span_of, join, covered, cover_of, cover_of_one};
 ghost use Rattle.ssr_base.specs.Workspace.{cover_below};
 ghost use Rattle.ssr_base.specs.Private.Covers.{plain_cover, plain_origin, CoversFrom, AreCovers};
 
@@ -57,6 +57,17 @@ impl Cover {
             _ => None,
         }
     }
+}
+
+/// What covers the origins of these tokens.
+pub(crate) fn cover(origins: &[Option<TextRange>]) -> Cover
+    ensures { plain_cover result ≡ cover_of (map plain_origin origins.now) }
+{
+    let mut cover = Cover::NoToken;
+    for origin in origins {
+        cover = cover.join(Cover::of_token(*origin));
+    }
+    cover
 }
 
 /// What covers the origins of the tokens below a node, where those below the nodes behind it are known.

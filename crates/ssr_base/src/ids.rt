@@ -1,4 +1,4 @@
-//! Files, ranges and positions of files, nodes of trees, and the numbers that a provider of names and types gives.
+//! Files, ranges and positions of files, nodes and tokens of trees, and the numbers that a provider of names and types gives.
 
 use ssr_syntax_kinds::TextRange;
 use ssr_syntax_tree::NodeNo;
@@ -26,6 +26,13 @@ pub struct FilePosition {
 pub struct NodeId {
     pub tree: u32,
     pub node: NodeNo,
+}
+
+/// Tokens of a tree that follow each other: so many from the first one on.
+#[derive(Clone, Copy, Debug, PartialEq, Eq)]
+pub struct TokenRun {
+    pub first: u32,
+    pub count: u32,
 }
 
 /// The number of a scope, in which names are looked up.

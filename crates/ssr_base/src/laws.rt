@@ -1,13 +1,14 @@
 //! What holds of workspaces, whatever the code: each function here does nothing, and what it ensures is a law.
-ghost use Rattle.std.specs.Prelude.{◌≡◌, List, Some, Ok, IsSome, String};
+ghost use Rattle.std.specs.Prelude.{◌≡◌, ℕ, List, Some, Ok, IsSome, String};
 ghost use Rattle.std.specs.Global.{Global};
 ghost use Rattle.ssr_base.specs.declared.building.Expansion.{Expansion};
 ghost use Rattle.ssr_base.specs.declared.ids.FileRange.{FileRange};
 ghost use Rattle.ssr_base.specs.declared.ids.NodeId.{NodeId};
-ghost use Rattle.ssr_base.specs.Workspace.{Workspace as WorkspaceValue, FileSpan, trees, above, expansion_of, text_of, original_range, file_span_of};
+ghost use Rattle.ssr_base.specs.declared.ids.TokenRun.{TokenRun};
+ghost use Rattle.ssr_base.specs.Workspace.{Workspace as WorkspaceValue, FileSpan, trees, above, expansion_of, text_of, original_range, run_range, file_span_of};
 ghost use Rattle.ssr_base.specs.Building.{built};
 ghost use Rattle.ssr_base.specs.Built.{IsNodeOf, IsBuilt};
-ghost use Rattle.ssr_base.specs.Laws.{IsEarlier, ReachesItsFile, RangesNest, LiesInFile};
+ghost use Rattle.ssr_base.specs.Laws.{IsEarlier, ReachesItsFile, RangesNest, RunsNest, LiesInFile};
 
 /// What each workspace keeps that is built.
 pub fn building()
@@ -20,6 +21,14 @@ pub fn original_ranges()
     ensures in_file { (w : WorkspaceValue) (x : NodeId) (range : FileSpan) → IsBuilt w → original_range (trees w) x ≡ Some range → LiesInFile w range }
     ensures text { (w : WorkspaceValue) (x : NodeId) (range : FileRange) → IsBuilt w → original_range (trees w) x ≡ Some (file_span_of range) → IsSome (text_of w range) }
     ensures nested { (w : WorkspaceValue) → IsBuilt w → RangesNest (trees w) }
+{}
+
+/// The same of tokens that follow each other: where they come from lies in a file, between characters, and where those of a
+/// node come from lies where the node does.
+pub fn original_ranges_of_tokens()
+    ensures in_file { (w : WorkspaceValue) (tree : ℕ) (run : TokenRun) (range : FileSpan) → IsBuilt w → run_range (trees w) tree run ≡ Some range → LiesInFile w range }
+    ensures text { (w : WorkspaceValue) (tree : ℕ) (run : TokenRun) (range : FileRange) → IsBuilt w → run_range (trees w) tree run ≡ Some (file_span_of range) → IsSome (text_of w range) }
+    ensures nested { (w : WorkspaceValue) → RunsNest (trees w) }
 {}
 
 /// What stands above a node is an earlier one, so the way up ends: at the root of the file at the top. A call stands directly

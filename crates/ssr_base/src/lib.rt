@@ -13,7 +13,7 @@ mod workspace_error;
 
 pub use building::Expansion;
 pub use edit::{ApplyError, TextEdit};
-pub use ids::{DefId, FileId, FilePosition, FileRange, NodeId, ScopeId, TypeId};
+pub use ids::{DefId, FileId, FilePosition, FileRange, NodeId, ScopeId, TokenRun, TypeId};
 pub use semantics::{DefInfo, DefKind, Res, SelfKind, Semantics};
 pub use workspace::Workspace;
 pub use workspace_error::WorkspaceError;

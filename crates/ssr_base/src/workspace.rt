@@ -6,14 +6,14 @@ ghost use Rattle.ssr_syntax_tree.specs.Places.{node_of};
 ghost use Rattle.std.specs.Option.{option_copied, option_map, option_and_then};
 ghost use Rattle.ssr_syntax_tree.specs.Syntax.{source_of};
 ghost use Rattle.ssr_base.specs.Texts.{text_between};
-ghost use Rattle.ssr_base.specs.Workspace.{trees, planted, tree_of, file_of, nesting, text_at_top, text_of, above, expansion_of, has_node, own_span, original, original_range, file_span_of};
+ghost use Rattle.ssr_base.specs.Workspace.{trees, planted, tree_of, file_of, nesting, text_at_top, text_of, above, expansion_of, has_node, has_run, own_span, own_run_span, original, original_run, original_range, run_range, file_span_of};
 ghost use Rattle.ssr_base.specs.Built.{IsBuilt};
 ghost use Rattle.ssr_base.specs.Private.Stored.{IsStoredAt};
 
-use crate::covers::Cover;
-use crate::ids::{FileId, FileRange, NodeId};
+use crate::covers::cover;
+use crate::ids::{FileId, FileRange, NodeId, TokenRun};
 use ssr_syntax_kinds::TextRange;
-use ssr_syntax_tree::{Element, NodeNo, Tree};
+use ssr_syntax_tree::{Element, NodeNo, TokenNo, Tree};
 use std::collections::BTreeMap;
 use std::marker::Model;
 
@@ -80,6 +80,26 @@ fn own_range(tree: &Tree, node: NodeNo) -> Option<TextRange>
     }
 }
 
+/// Whether a tree has these tokens, and they are some.
+fn has_run(tree: &Tree, run: TokenRun) -> bool
+    ensures { result ≡ has_run tree.now run }
+{
+    let count = tree.token_count();
+    run.count > 0 && run.first <= count && run.count <= count - run.first
+}
+
+/// The range of these tokens in their tree, if it has them.
+fn own_run_range(tree: &Tree, run: TokenRun) -> Option<TextRange>
+    ensures { option_map span_of result ≡ (if has_run tree.now run then Some (own_run_span tree.now run) else None) }
+{
+    if !has_run(tree, run) {
+        return None;
+    }
+    let first = tree.token_range(TokenNo(run.first));
+    let last = tree.token_range(TokenNo(run.first + (run.count - 1)));
+    Some(TextRange::new(first.start, last.end))
+}
+
 impl Workspace {
     /// How many files there are.
     pub fn file_count(&self) -> u32
@@ -110,6 +130,18 @@ impl Workspace {
         let range = self.original(node)?;
         Some(FileRange {
             file_id: FileId(self.file_of(node.tree)),
+            range,
+        })
+    }
+
+    /// Where tokens of a tree come from that follow each other: those of a file have their own range, of others it is the
+    /// least one that covers their origins, if all have one. There has to be a token, and the tree has to have them all.
+    pub fn original_range_of_tokens(&self, tree: u32, run: TokenRun) -> Option<FileRange>
+        ensures { option_map file_span_of result ≡ run_range (trees self.now) tree run }
+    {
+        let range = self.original_run(tree, run)?;
+        Some(FileRange {
+            file_id: FileId(self.file_of(tree)),
             range,
         })
     }
@@ -168,6 +200,22 @@ impl Workspace {
         match self.expansion(node.tree) {
             Some(expansion) => expansion.covers.get(node.node.0 as usize)?.range(),
             None => own_range(self.files.get(node.tree as usize)?, node.node),
+        }
+    }
+
+    /// Where tokens come from in the file at the top.
+    fn original_run(&self, tree: u32, run: TokenRun) -> Option<TextRange>
+        ensures { option_map span_of result ≡ original_run (trees self.now) tree run }
+    {
+        match self.expansion(tree) {
+            Some(expansion) => {
+                if !has_run(&expansion.tree, run) {
+                    return None;
+                }
+                let first = run.first as usize;
+                cover(&expansion.origins[first..first + run.count as usize]).range()
+            }
+            None => own_run_range(self.files.get(tree as usize)?, run),
         }
     }
 

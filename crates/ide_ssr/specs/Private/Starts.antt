@@ -1,7 +1,7 @@
 -- Private: bindings with the places at which they begin.
 use Rattle.std.specs.Prelude.{ℕ, ◌≡◌, ◌<◌, List, [], ◌∷◌, Some, All, length, slice_index_or}
 use Rattle.ssr_base.specs.Workspace.{Workspace}
-use Rattle.ide_ssr_matching.specs.Found.{Found}
+use Rattle.ide_ssr_found.specs.Found.{Found}
 use Rattle.ide_ssr.specs.declared.starts.Start.{Start}
 use Rattle.ide_ssr.specs.Starts.{start_at}
 

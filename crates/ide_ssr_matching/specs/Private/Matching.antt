@@ -4,7 +4,7 @@ use Rattle.ssr_syntax_tree.specs.Syntax.{same_token}
 use Rattle.ssr_syntax_tree.specs.Places.{Part, token_part, node_part}
 use Rattle.ssr_base.specs.Meanings.{Meanings}
 use Rattle.ide_ssr_resolving.specs.Resolved.{ResolvedKind}
-use Rattle.ide_ssr_matching.specs.declared.bindings.Binding.{Binding}
+use Rattle.ide_ssr_found.specs.declared.bindings.Binding.{Binding}
 use Rattle.ide_ssr_matching.specs.Bindings.{bindings_of}
 
 -- a pair of bare children

@@ -1,7 +1,7 @@
 -- Private: the nearest match over another one, told by its place.
 use Rattle.std.specs.Prelude.{ℕ, ◌≡◌, ◌++◌, ◌∷◌, [], ◌⊎◌, List, Some, slice_get}
 use Rattle.ssr_base.specs.Workspace.{Planted}
-use Rattle.ide_ssr_matching.specs.Found.{Found}
+use Rattle.ide_ssr_found.specs.Found.{Found}
 use Rattle.ide_ssr_nesting.specs.Kept.{Fits}
 use Rattle.ide_ssr_nesting.specs.Holding.{IsNearest}
 

@@ -3,8 +3,8 @@ use Rattle.std.specs.Prelude.{ℕ, ◌≡◌, ◌<◌, ◌&&◌, Bool, true, if�
 use Rattle.std.specs.Global.{Global}
 use Rattle.std.specs.List.{enumerate_from, list_all}
 use Rattle.ssr_base.specs.Workspace.{Workspace, node_id}
-use Rattle.ide_ssr_matching.specs.declared.bindings.Binding.{Binding}
-use Rattle.ide_ssr_matching.specs.Found.{Found}
+use Rattle.ide_ssr_found.specs.declared.bindings.Binding.{Binding}
+use Rattle.ide_ssr_found.specs.Found.{Found}
 use Rattle.ide_ssr_nesting.specs.Holding.{Kept}
 use Rattle.ide_ssr_nesting.specs.Lists.{Listing}
 use Rattle.ide_ssr_rewriting.specs.Clashes.{Rewrite, Clash, IsFirst, clashes, is_clean}

@@ -9,7 +9,7 @@ use Rattle.ssr_syntax_kinds.specs.Kinds.{same_kind, is_trivia}
 use Rattle.ssr_syntax_tree.specs.Places.{Node, Part, token_part, node_part, parts_of, root_of}
 use Rattle.ssr_base.specs.Meanings.{Meanings}
 use Rattle.ide_ssr_resolving.specs.Resolved.{ResolvedKind}
-use Rattle.ide_ssr_matching.specs.declared.bindings.Binding.{Binding}
+use Rattle.ide_ssr_found.specs.declared.bindings.Binding.{Binding}
 use Rattle.ide_ssr_matching.specs.Matching.{Matches}
 use Rattle.ide_ssr_search.specs.declared.roots.Root.{Root}
 use Rattle.ide_ssr_search.specs.declared.roots.Root.TheVariants as roots

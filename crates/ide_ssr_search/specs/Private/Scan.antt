@@ -11,8 +11,8 @@ use Rattle.ssr_base.specs.Workspace.{Workspace, trees, tree_of, node_id}
 use Rattle.ssr_base.specs.Built.{IsNodeOf, IsMacroCall, IsBuilt}
 use Rattle.ssr_base.specs.Laws.{IsEarlier, IsBelow}
 use Rattle.ide_ssr_resolving.specs.Resolved.{ResolvedKind}
-use Rattle.ide_ssr_matching.specs.declared.bindings.Binding.{Binding}
-use Rattle.ide_ssr_matching.specs.Found.{Found}
+use Rattle.ide_ssr_found.specs.declared.bindings.Binding.{Binding}
+use Rattle.ide_ssr_found.specs.Found.{Found}
 use Rattle.ide_ssr_search.specs.declared.scan.Ground.{Ground}
 use Rattle.ide_ssr_search.specs.Context.{Context}
 use Rattle.ide_ssr_search.specs.Permitted.{IsPermitted}

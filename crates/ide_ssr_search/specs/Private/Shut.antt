@@ -6,7 +6,7 @@ use Rattle.ssr_base.specs.declared.ids.NodeId.{NodeId}
 use Rattle.ssr_base.specs.Workspace.{Planted, node_id}
 use Rattle.ssr_base.specs.Built.{IsMacroCall}
 use Rattle.ssr_base.specs.Laws.{IsBelow}
-use Rattle.ide_ssr_matching.specs.Found.{IsAtOrBelow}
+use Rattle.ide_ssr_found.specs.Found.{IsAtOrBelow}
 use Rattle.ide_ssr_search.specs.Permitted.{IsUse, arguments_range}
 
 -- a USE, and a macro call whose arguments have no original range

@@ -6,9 +6,9 @@ use Rattle.ssr_base.specs.declared.ids.NodeId.{NodeId}
 use Rattle.ssr_base.specs.Meanings.{Meanings}
 use Rattle.ssr_base.specs.Workspace.{Planted, planted, original_range, file_span_of}
 use Rattle.ide_ssr_resolving.specs.Resolved.{ResolvedKind}
-use Rattle.ide_ssr_matching.specs.declared.bindings.Binding.{Binding}
+use Rattle.ide_ssr_found.specs.declared.bindings.Binding.{Binding}
 use Rattle.ide_ssr_matching.specs.Bindings.{bindings_of}
-use Rattle.ide_ssr_matching.specs.Found.{held_node, ShareNoByte}
+use Rattle.ide_ssr_found.specs.Found.{held_node, ShareNoByte}
 use Rattle.ide_ssr_search.specs.WholeMatches.{IsPlaced, IsWholeMatch}
 
 -- what placeholders hold is placed, and comes from these ranges

@@ -7,7 +7,7 @@ use Rattle.ssr_base.specs.declared.ids.NodeId.{NodeId}
 use Rattle.ssr_base.specs.Built.{IsNodeOf}
 use Rattle.ssr_base.specs.Laws.{LiesInFile}
 use Rattle.ssr_base.specs.Workspace.{trees, tree_of, file_span_of}
-use Rattle.ide_ssr_matching.proofs.Shared.{has_node, has_held}
+use Rattle.ide_ssr_found.proofs.Shared.{has_node, has_held}
 use Rattle.ide_ssr.proofs.Files.{file_is, token_in_file, token_span_is, spans_more, spans_are}
 use Rattle.ide_ssr.proofs.comments.comment_ranges.Goals as goal
 

@@ -2,7 +2,7 @@ use Rattle.std.proofs.Common.{◌≡◌, ◌≢◌, ℕ, ◌∙◌, None, Some, 
 use Rattle.std.specs.Prelude.{IsSome}
 use Rattle.std.proofs.lemmas.Option.{same_Some}
 use Rattle.ssr_base.specs.declared.ids.NodeId.{NodeId}
-use Rattle.ide_ssr_matching.specs.Found.{Found, held_node}
+use Rattle.ide_ssr_found.specs.Found.{Found, held_node}
 use Rattle.ide_ssr_nesting.specs.Lists.{listed}
 use Rattle.ide_ssr.specs.Nesting.{Show}
 use Rattle.ide_ssr.specs.Private.Made.{ShowPlaceholders}

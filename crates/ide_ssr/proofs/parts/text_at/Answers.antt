@@ -2,7 +2,7 @@ use Rattle.std.proofs.Common.{◌≡◌, sym}
 use Rattle.ssr_syntax_tree.specs.Places.{node_of, text_of}
 use Rattle.ssr_base.specs.Workspace.{tree_of}
 use Rattle.ssr_base.proofs.Shared.{and_some}
-use Rattle.ide_ssr_matching.proofs.Shared.{has_node}
+use Rattle.ide_ssr_found.proofs.Shared.{has_node}
 use Rattle.ide_ssr.proofs.Files.{tree_there}
 use Rattle.ide_ssr.proofs.parts.text_at.Goals as goal
 

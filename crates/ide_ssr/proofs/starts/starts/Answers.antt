@@ -2,8 +2,8 @@ use Rattle.std.proofs.Common.{All, get_or, sym, subst}
 use Rattle.std.specs.Prelude.{IsSome}
 use Rattle.ssr_base.specs.declared.ids.NodeId.{NodeId}
 use Rattle.ssr_base.specs.Workspace.{trees, original_range}
-use Rattle.ide_ssr_matching.specs.declared.bindings.Binding.{Binding}
-use Rattle.ide_ssr_matching.specs.Found.{held_node}
+use Rattle.ide_ssr_found.specs.declared.bindings.Binding.{Binding}
+use Rattle.ide_ssr_found.specs.Found.{held_node}
 use Rattle.ide_ssr.proofs.ByStart.{start_is, starts_more}
 use Rattle.ide_ssr.proofs.starts.starts.Goals as goal
 

@@ -1,6 +1,6 @@
 use Rattle.std.proofs.Common.{ℕ, suc, ◌<◌, get_or}
 use Rattle.ssr_base.specs.Workspace.{trees}
-use Rattle.ide_ssr_matching.specs.Found.{Found}
+use Rattle.ide_ssr_found.specs.Found.{Found}
 use Rattle.ide_ssr_nesting.specs.Kept.{ComesBefore}
 use Rattle.ide_ssr_nesting.proofs.sorting.are_in_order.Given as goal
 

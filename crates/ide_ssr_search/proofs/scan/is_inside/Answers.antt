@@ -6,7 +6,7 @@ use Rattle.ssr_syntax_tree.specs.Places.{HasNode}
 use Rattle.ssr_base.specs.Workspace.{trees}
 use Rattle.ide_ssr_search.specs.Permitted.{IsInFunction}
 use Rattle.ide_ssr_search.specs.Private.Scan.{IsEarlierCall, StandsIn}
-use Rattle.ide_ssr_matching.proofs.Shared.{is_tree, in_tree}
+use Rattle.ide_ssr_found.proofs.Shared.{is_tree, in_tree}
 use Rattle.ide_ssr_search.proofs.Inside.{stands_in}
 use Rattle.ide_ssr_search.proofs.scan.is_inside.Goals as goal
 

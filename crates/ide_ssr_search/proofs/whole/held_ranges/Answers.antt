@@ -1,7 +1,7 @@
 use Rattle.std.proofs.Common.{◌++◌, ◌∷◌, [], get_or, take, sym, ap, ◌∙◌, subst}
 use Rattle.std.proofs.lemmas.List.{take_more}
 use Rattle.ssr_base.specs.Workspace.{trees, original_range}
-use Rattle.ide_ssr_matching.specs.declared.bindings.Binding.{Binding}
+use Rattle.ide_ssr_found.specs.declared.bindings.Binding.{Binding}
 use Rattle.ide_ssr_search.specs.WholeMatches.{IsPlaced}
 use Rattle.ide_ssr_search.specs.Private.Whole.{AreRanges}
 use Rattle.ide_ssr_search.proofs.Apart.{ranges_push}

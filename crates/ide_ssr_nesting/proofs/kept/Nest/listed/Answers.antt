@@ -1,6 +1,6 @@
 use Rattle.std.proofs.Common.{sym, subst}
 use Rattle.ssr_base.specs.Workspace.{trees}
-use Rattle.ide_ssr_matching.specs.Found.{Found}
+use Rattle.ide_ssr_found.specs.Found.{Found}
 use Rattle.ide_ssr_nesting.specs.Kept.{LiesUnder}
 use Rattle.ide_ssr_nesting.proofs.Nearest.{read_nearest, fits_held, fits_not}
 use Rattle.ide_ssr_nesting.proofs.kept.Nest.listed.Goals as goal

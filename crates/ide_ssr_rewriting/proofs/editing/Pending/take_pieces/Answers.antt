@@ -4,8 +4,8 @@ use Rattle.std.proofs.lemmas.List.{get_or_default}
 use Rattle.std.proofs.lemmas.Option.{slice_get-get_or}
 use Rattle.ssr_base.specs.declared.ids.NodeId.{NodeId}
 use Rattle.ssr_base.specs.Workspace.{Workspace}
-use Rattle.ide_ssr_matching.specs.declared.bindings.Binding.{Binding}
-use Rattle.ide_ssr_matching.specs.Found.{held_node}
+use Rattle.ide_ssr_found.specs.declared.bindings.Binding.{Binding}
+use Rattle.ide_ssr_found.specs.Found.{held_node}
 use Rattle.ide_ssr_rewriting.specs.Clashes.{AreInOrder, clash_of, is_clean}
 use Rattle.ide_ssr_rewriting.specs.Replacements.{piece}
 use Rattle.ide_ssr_rewriting.specs.Edits.{list_at}

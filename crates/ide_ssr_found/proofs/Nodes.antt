@@ -1,7 +1,6 @@
--- Nodes of the trees of a workspace, and those that a match holds.
-use Rattle.std.proofs.Common.{◌≡◌, ℕ, Bool, true, false, ◌+◌, All, List, Option, Some, None, refl, sym, ap, ◌∙◌, subst, ltb-true}
+-- Nodes of the trees of a workspace.
+use Rattle.std.proofs.Common.{◌≡◌, ℕ, Bool, true, false, ◌+◌, List, Option, Some, None, refl, sym, ap, ◌∙◌, subst, ltb-true}
 use Rattle.std.proofs.lemmas.Bool.{false≢true}
-use Rattle.std.proofs.lemmas.List.Elements.{All-weaker}
 use Rattle.std.proofs.lemmas.Option.{option_and_then_some, same_Some}
 use Rattle.std.specs.Prelude.{IsSome, if◌then◌else◌}
 use Rattle.std.specs.Option.{IsSomeAnd, option_map}
@@ -12,7 +11,6 @@ use Rattle.ssr_base.specs.Origins.{Span}
 use Rattle.ssr_base.specs.Workspace.{Workspace, Planted, FileSpan, trees, planted, tree_of, file_of, has_node as is_node, told_of, original_in, original, original_range}
 use Rattle.ssr_base.specs.Built.{IsNodeOf}
 use Rattle.ssr_base.proofs.Shared.{some_and, and_some, mapped}
-use Rattle.ide_ssr_matching.specs.Found.{Found, held_node, IsMatch}
 
 -- ** Trees by their numbers.
 
@@ -63,9 +61,3 @@ ranged_node ts x = by (original ts x) refl
 -- a node of a tree that is there is one of the tree's
 pub has_node : (w : Workspace) (x : NodeId) (s : Syntax) → tree_of w x.tree ≡ Some s → IsNodeOf (trees w) x → HasNode s x.node.0
 has_node w x s is node = in_tree (trees w) x.tree s (λ s. HasNode s x.node.0) (is_tree w x.tree s is) node
-
--- what a match holds are nodes of its tree
-pub has_held : (w : Workspace) (m : Found) (s : Syntax) → tree_of w m.node.tree ≡ Some s → IsMatch (trees w) m → All (λ b. HasNode s b.node.0) m.bindings
-has_held w m s is match =
-    All-weaker (λ b. IsSome (original_range (trees w) (held_node m.node.tree b))) (λ b. HasNode s b.node.0)
-    (λ b ranged. has_node w (held_node m.node.tree b) s is (ranged_node (trees w) (held_node m.node.tree b) ranged)) m.bindings match.ranges

@@ -16,7 +16,7 @@ pub struct Found {
 }
 
 impl Model for Found {
-    ghost use Rattle.ide_ssr_matching.specs.Found.{Found as FoundMatch};
+    ghost use Rattle.ide_ssr_found.specs.Found.{Found as FoundMatch};
 
     ghost Value = { FoundMatch };
 

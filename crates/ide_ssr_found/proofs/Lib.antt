@@ -1,0 +1,4 @@
+pub mod Shared
+mod Nodes
+mod Held
+pub mod Deciding

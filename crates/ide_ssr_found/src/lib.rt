@@ -1,0 +1,8 @@
+//! What a search finds: matches, and what their placeholders hold.
+#![tactic(auto)]
+
+mod bindings;
+mod found;
+
+pub use bindings::{Binding, Held};
+pub use found::Found;
