@@ -19,10 +19,18 @@ mod order;
 #[cfg(test)]
 mod paths;
 #[cfg(test)]
+mod qualified_calls;
+#[cfg(test)]
+mod records;
+#[cfg(test)]
 mod resolving;
 #[cfg(test)]
 mod search_patterns;
 #[cfg(test)]
 mod steps;
+#[cfg(test)]
+mod told;
+#[cfg(test)]
+mod token_trees;
 #[cfg(test)]
 mod used_paths;

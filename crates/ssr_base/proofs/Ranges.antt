@@ -1,5 +1,5 @@
 -- Original ranges: they lie in their file, between characters, and in one tree that of a node below another one lies in that one's.
-use Rattle.std.proofs.Common.{◌≡◌, ℕ, zero, suc, ◌+◌, ◌-◌, ◌≤◌, ◌||◌, Bool, true, false, refl, List, [], length, take, drop, slice_get, Option, Some, None, sym, ap, ◌∙◌, subst, inl, inr, arith, take-append-drop}
+use Rattle.std.proofs.Common.{◌≡◌, ℕ, zero, suc, ◌+◌, ◌-◌, ◌≤◌, ◌||◌, Bool, true, false, List, [], length, take, drop, slice_get, Option, Some, None, sym, ap, ◌∙◌, subst, inl, inr, arith, take-append-drop}
 use Rattle.std.proofs.lemmas.Bool.{cases_lt, and_from, or_left, or_right, and_parts, lt-ltb, le-leb, leb-true}
 use Rattle.std.proofs.lemmas.List.{get_or_past}
 use Rattle.std.proofs.lemmas.List.Elements.{recursion_from_All, All-take, All-drop}
@@ -10,7 +10,7 @@ use Rattle.std.specs.Prelude.{IsSome, is_some, nat_lt, nat_le, slice_index, slic
 use Rattle.std.specs.List.{AllPass}
 use Rattle.std.specs.Option.{option_and_then, option_map_or}
 use Rattle.std.specs.Str.{IsUtf8}
-use Rattle.ssr_syntax_tree.specs.Syntax.{Syntax, token_count, tokens_of, spelled, source_of}
+use Rattle.ssr_syntax_tree.specs.Syntax.{Syntax, tokens_of, spelled, source_of}
 use Rattle.ssr_syntax_tree.specs.Places.{Node, HasNode, node_of, offset_of}
 use Rattle.ssr_syntax_tree.proofs.Lists.{all_at}
 use Rattle.ssr_syntax_tree.proofs.Shared.{offset_grows}

@@ -1,18 +1,22 @@
 -- Laws of what a workspace stores of its expansions.
-use Rattle.std.proofs.Common.{◌≡◌, ℕ, zero, suc, ◌+◌, ◌<◌, ◌≤◌, Bool, true, false, if◌then◌else◌, cond, List, [], ◌∷◌, length, slice_get, Option, Some, None, sym, ap, ◌∙◌, arith, inl, inr, lt-ltb, le-ltb}
+use Rattle.std.proofs.Common.{◌≡◌, ℕ, zero, suc, ◌+◌, ◌<◌, ◌≤◌, Bool, true, false, if◌then◌else◌, cond, List, [], ◌∷◌, ◌-◌, length, map, take, drop, slice_get, Option, Some, None, sym, ap, ◌∙◌, arith, inl, inr, lt-ltb, le-ltb}
+use Rattle.std.proofs.lemmas.List.{drop-map, take-map, length-map}
+use Rattle.ssr_syntax_tree.proofs.Lists.{all_at}
 use Rattle.std.proofs.lemmas.Bool.{cases_lt, cases_Bool}
 use Rattle.std.proofs.lemmas.Option.{slice_get_within, same_Some}
-use Rattle.std.specs.List.{position_from}
+use Rattle.std.specs.List.{position_from, slice_range}
 use Rattle.std.specs.Option.{option_map, option_and_then}
-use Rattle.ssr_syntax_tree.specs.Syntax.{Syntax, node_count}
+use Rattle.ssr_syntax_tree.specs.Syntax.{Syntax, node_count, token_count}
 use Rattle.ssr_syntax_tree.specs.Places.{node_of}
 use Rattle.ssr_base.specs.declared.ids.NodeId.{NodeId}
+use Rattle.ssr_base.specs.declared.ids.TokenRun.{TokenRun}
 use Rattle.ssr_base.specs.declared.covers.Cover.{Cover as StoredCover}
 use Rattle.ssr_base.specs.declared.workspace.Expanded.{Expanded as Stored}
-use Rattle.ssr_base.specs.Origins.{covered}
-use Rattle.ssr_base.specs.Private.Covers.{plain_cover}
+use Rattle.ssr_base.specs.Origins.{cover_of, covered}
+use Rattle.ssr_base.specs.Private.Covers.{plain_cover, plain_origin}
 use Rattle.ssr_base.specs.Private.Stored.{expanded_of, IsStoredAt}
-use Rattle.ssr_base.specs.Workspace.{Workspace, Planted, of_file, of_expansion, trees, planted, tree_of, has_node, told_of, own_span, original_in, original}
+use Rattle.ssr_base.specs.Built.{HasOrigins, IsBuilt}
+use Rattle.ssr_base.specs.Workspace.{Workspace, Planted, of_file, of_expansion, trees, planted, tree_of, has_node, told_of, own_span, original_in, original, has_run, own_run_span, original_run_in, original_run}
 use Rattle.ssr_base.proofs.Trees.{planted_at, planted-file, planted_past}
 
 pub stored_planted : (w : Workspace) (t : ℕ) (e : Stored) → IsStoredAt w t e → planted (trees w) t ≡ Some (of_expansion (expanded_of e))
@@ -83,11 +87,50 @@ original_of_file w x s at =
     let within = slice_get_within w.files x.tree s at in
     told_in (λ p. original_in p (node_of p.syntax x.node.0)) w x (of_file s) (planted-file w x.tree within ∙ ap (option_map of_file) at)
 
+none_planted : (w : Workspace) (t : ℕ) → (length w.files ≤ t → length w.files + length w.expansions ≤ t) → slice_get w.files t ≡ None → planted (trees w) t ≡ None
+none_planted w t free at =
+    elim (cases_lt t (length w.files)) [
+      | inl file ↦ planted-file w t file ∙ ap (option_map of_file) at
+      | inr behind ↦ planted_past w t (free behind)
+    ]
+
 pub original_absent : (w : Workspace) (x : NodeId) → (length w.files ≤ x.tree → length w.files + length w.expansions ≤ x.tree)
     → slice_get w.files x.tree ≡ None → original (trees w) x ≡ None
 original_absent w x free at =
-    ap (option_and_then (λ q. if has_node q.syntax x.node.0 then original_in q (node_of q.syntax x.node.0) else None))
-    (elim (cases_lt x.tree (length w.files)) [
-      | inl file ↦ planted-file w x.tree file ∙ ap (option_map of_file) at
-      | inr behind ↦ planted_past w x.tree (free behind)
-    ])
+    ap (option_and_then (λ q. if has_node q.syntax x.node.0 then original_in q (node_of q.syntax x.node.0) else None)) (none_planted w x.tree free at)
+
+-- ** Where tokens come from.
+
+-- there is an origin for each token, or the lack of it
+pub stored_counted : (w : Workspace) (t : ℕ) (e : Stored) → IsBuilt w → IsStoredAt w t e → length e.origins.items ≡ token_count e.tree.children
+stored_counted w t e built is =
+    sym (length-map e.origins.items plain_origin)
+    ∙ (all_at (HasOrigins (trees w)) w.expansions (t - length w.files) (expanded_of e) built.origins is.is).counted
+
+run_in : (w : Workspace) (t : ℕ) (run : TokenRun) (p : Planted) → planted (trees w) t ≡ Some p
+    → original_run (trees w) t run ≡ (if has_run p.syntax run then original_run_in p run else None)
+run_in w t run p is = ap (option_and_then (λ q. if has_run q.syntax run then original_run_in q run else None)) is
+
+pub run_covered : (w : Workspace) (t : ℕ) (e : Stored) (run : TokenRun) → IsStoredAt w t e → has_run e.tree run ≡ true
+    → original_run (trees w) t run ≡ covered (cover_of (map plain_origin (slice_range e.origins.items run.first (run.first + run.count))))
+run_covered w t e run is has =
+    run_in w t run (of_expansion (expanded_of e)) (stored_planted w t e is)
+    ∙ if_true (has_run e.tree run) (original_run_in (of_expansion (expanded_of e)) run) None has
+    ∙ ap (λ origins. covered (cover_of (take run.count origins))) (drop-map plain_origin run.first e.origins.items)
+    ∙ ap (λ origins. covered (cover_of origins)) (take-map plain_origin run.count (drop run.first e.origins.items))
+    ∙ ap (λ n. covered (cover_of (map plain_origin (take n (drop run.first e.origins.items))))) (let counted : run.count ≡ run.first + run.count - run.first = omega arith in counted)
+
+pub run_lacking : (w : Workspace) (t : ℕ) (e : Stored) (run : TokenRun) → IsStoredAt w t e → has_run e.tree run ≡ false → original_run (trees w) t run ≡ None
+run_lacking w t e run is lacks =
+    run_in w t run (of_expansion (expanded_of e)) (stored_planted w t e is)
+    ∙ if_false (has_run e.tree run) (original_run_in (of_expansion (expanded_of e)) run) None lacks
+
+pub run_of_file : (w : Workspace) (t : ℕ) (run : TokenRun) (s : Syntax) → slice_get w.files t ≡ Some s
+    → original_run (trees w) t run ≡ (if has_run s run then Some (own_run_span s run) else None)
+run_of_file w t run s at =
+    run_in w t run (of_file s) (planted-file w t (slice_get_within w.files t s at) ∙ ap (option_map of_file) at)
+
+pub run_absent : (w : Workspace) (t : ℕ) (run : TokenRun) → (length w.files ≤ t → length w.files + length w.expansions ≤ t)
+    → slice_get w.files t ≡ None → original_run (trees w) t run ≡ None
+run_absent w t run free at =
+    ap (option_and_then (λ q. if has_run q.syntax run then original_run_in q run else None)) (none_planted w t free at)

@@ -60,7 +60,7 @@ impl Cover {
 }
 
 /// What covers the origins of these tokens.
-pub(crate) fn cover(origins: &[Option<TextRange>]) -> Cover
+pub(crate) fn cover_all(origins: &[Option<TextRange>]) -> Cover
     ensures { plain_cover result ≡ cover_of (map plain_origin origins.now) }
 {
     let mut cover = Cover::NoToken;

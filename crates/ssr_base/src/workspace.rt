@@ -1,8 +1,8 @@
 //! The workspace of a search: the trees of files, and of what macro calls in them stand for.
 
-ghost use Rattle.std.specs.Prelude.{◌≡◌, ◌+◌, ◌<◌, ◌≤◌, ◌↔◌, IfSome, IfNone, Some, None, if◌then◌else◌, length};
+ghost use Rattle.std.specs.Prelude.{is_some, ◌≡◌, ◌+◌, ◌<◌, ◌≤◌, ◌↔◌, IfSome, IfNone, Some, None, if◌then◌else◌, length};
 ghost use Rattle.ssr_base.specs.Origins.{span_of};
-ghost use Rattle.ssr_syntax_tree.specs.Places.{node_of};
+ghost use Rattle.ssr_syntax_tree.specs.Places.{HasToken, node_of};
 ghost use Rattle.std.specs.Option.{option_copied, option_map, option_and_then};
 ghost use Rattle.ssr_syntax_tree.specs.Syntax.{source_of};
 ghost use Rattle.ssr_base.specs.Texts.{text_between};
@@ -10,7 +10,7 @@ ghost use Rattle.ssr_base.specs.Workspace.{trees, planted, tree_of, file_of, nes
 ghost use Rattle.ssr_base.specs.Built.{IsBuilt};
 ghost use Rattle.ssr_base.specs.Private.Stored.{IsStoredAt};
 
-use crate::covers::cover;
+use crate::covers::{Cover, cover_all};
 use crate::ids::{FileId, FileRange, NodeId, TokenRun};
 use ssr_syntax_kinds::TextRange;
 use ssr_syntax_tree::{Element, NodeNo, TokenNo, Tree};
@@ -80,24 +80,26 @@ fn own_range(tree: &Tree, node: NodeNo) -> Option<TextRange>
     }
 }
 
-/// Whether a tree has these tokens, and they are some.
-fn has_run(tree: &Tree, run: TokenRun) -> bool
-    ensures { result ≡ has_run tree.now run }
+/// The last one of these tokens, if a tree has them all, and they are some.
+fn last_of(tree: &Tree, run: TokenRun) -> Option<TokenNo>
+    ensures has { IfSome result (λ last. HasToken tree.now last.0) }
+    ensures last { IfSome result (λ last. 1 + last.0 ≡ run.first + run.count) }
+    ensures there { is_some result ≡ has_run tree.now run }
 {
     let count = tree.token_count();
-    run.count > 0 && run.first <= count && run.count <= count - run.first
+    if run.count == 0 || run.first >= count || run.count > count - run.first {
+        return None;
+    }
+    Some(TokenNo(run.first + (run.count - 1)))
 }
 
 /// The range of these tokens in their tree, if it has them.
 fn own_run_range(tree: &Tree, run: TokenRun) -> Option<TextRange>
     ensures { option_map span_of result ≡ (if has_run tree.now run then Some (own_run_span tree.now run) else None) }
 {
-    if !has_run(tree, run) {
-        return None;
-    }
-    let first = tree.token_range(TokenNo(run.first));
-    let last = tree.token_range(TokenNo(run.first + (run.count - 1)));
-    Some(TextRange::new(first.start, last.end))
+    let last = last_of(tree, run)?;
+    let start = tree.token_range(TokenNo(run.first)).start;
+    Some(TextRange::new(start, tree.token_range(last).end))
 }
 
 impl Workspace {
@@ -209,11 +211,9 @@ impl Workspace {
     {
         match self.expansion(tree) {
             Some(expansion) => {
-                if !has_run(&expansion.tree, run) {
-                    return None;
-                }
-                let first = run.first as usize;
-                cover(&expansion.origins[first..first + run.count as usize]).range()
+                let last = last_of(&expansion.tree, run)?;
+                let origins = expansion.origins.as_slice();
+                cover_all(&origins[run.first as usize..last.0 as usize + 1]).range()
             }
             None => own_run_range(self.files.get(tree as usize)?, run),
         }

@@ -4,30 +4,37 @@
 //! outermost matches there are, and behind a first word `--times`, which is no rule, also the processor time that building
 //! and searching took, in nanoseconds.
 //!
+//! Rules may name the paths `Range`, `Vec`, `Vec::push` and `assert_eq`, which stand for what files spell so.
+//!
 //! With the words `--facts` and a path it reads that facts file, and tells how many files and bytes it has and what
-//! processor time reading it took.
+//! processor time reading it took; further words are rules, for which it is searched, as it stands.
 #![tactic(auto)]
 
+mod names;
+
+use crate::names::semantics;
 use anyhow::Result;
 use ide_ssr::{MatchFinder, SsrRule};
-use ssr_base::{NodeId, ScopeId, Workspace};
-use ssr_facts::{TableSemantics, Tables};
-use ssr_syntax_tree::NodeNo;
-use std::alloc::{AllocError, Global};
+use ssr_base::Workspace;
+use ssr_facts::TableSemantics;
+use std::alloc::Global;
 use std::time::{CpuClock, Duration};
 use std::{env, fs, io};
 
 fn main(rt: HostRuntime) -> Result<()> {
     let alloc = rt.alloc();
     let words: Vec<String> = env::args(&rt)?.skip(1).collect(alloc)?;
-    match words.as_slice() {
-        [first, path] if first.as_str() == "--facts" => time_facts(&rt, path.as_str()),
-        words => time_search(&rt, words),
+    match words.split_first() {
+        Some((first, rest)) if first.as_str() == "--facts" => match rest.split_first() {
+            Some((path, rules)) => time_facts(&rt, path.as_str(), rules),
+            None => time_search(&rt, &words),
+        },
+        _ => time_search(&rt, &words),
     }
 }
 
-/// Reads a facts file.
-fn time_facts(rt: &HostRuntime, path: &str) -> Result<()> {
+/// Reads a facts file, and searches what it tells of.
+fn time_facts(rt: &HostRuntime, path: &str, rules: &[String]) -> Result<()> {
     let bytes = fs::read(rt, path)?;
     let start = rt.process_cpu_time()?;
     let facts = ssr_facts::read(rt.alloc(), &bytes)?;
@@ -35,6 +42,12 @@ fn time_facts(rt: &HostRuntime, path: &str) -> Result<()> {
     let (files, size) = (facts.workspace.file_count(), bytes.len());
     println!(rt; "{files} files, {size} bytes of facts")?;
     println!(rt; "read in {reading} ns")?;
+    if !rules.is_empty() {
+        let before = rt.process_cpu_time()?;
+        let count = matches(rt.alloc(), &facts.workspace, &facts.semantics, rules)?;
+        let searching = between(before, rt.process_cpu_time()?);
+        println!(rt; "{count} matches, searched in {searching} ns")?;
+    }
     Ok(())
 }
 
@@ -89,30 +102,6 @@ fn texts(rt: &HostRuntime) -> io::Result<Vec<String>> {
         texts.push(fs::read_to_string(rt, path?.as_str())?)?;
     }
     Ok(texts)
-}
-
-/// A provider by which the first file is one scope.
-fn semantics(alloc: Global, workspace: &Workspace) -> Result<TableSemantics, AllocError> {
-    let mut scopes = Vec::new(alloc);
-    let count = workspace.tree(0).map_or(0, |tree| tree.node_count());
-    for number in 0..count {
-        let node = NodeId {
-            tree: 0,
-            node: NodeNo(number),
-        };
-        scopes.push((node, ScopeId(0)))?;
-    }
-    let tables = Tables {
-        definitions: Vec::new(alloc),
-        scopes,
-        names: Vec::new(alloc),
-        members: Vec::new(alloc),
-        paths: Vec::new(alloc),
-        methods: Vec::new(alloc),
-        types: Vec::new(alloc),
-        printed: Vec::new(alloc),
-    };
-    TableSemantics::new(alloc, tables)
 }
 
 /// How many outermost matches rules have.

@@ -1,10 +1,9 @@
-use Rattle.std.proofs.Common.{◌≡◌, map}
-use Rattle.std.specs.Slice.Iter.{iter_items}
+use Rattle.std.proofs.Common.{◌≡◌, drop, map}
 use Rattle.ssr_base.specs.Origins.{join, cover_of}
 use Rattle.ssr_base.specs.Private.Covers.{plain_cover, plain_origin}
-use Rattle.ssr_base.proofs.covers.cover.Given as goal
+use Rattle.ssr_base.proofs.covers.cover_all.Given as goal
 
 -- what covers all is what covers those passed, joined with what covers those left
 abbrev pub invariant-loop-origin : goal.invariant-loop-origin
 invariant-loop-origin l =
-    cover_of (map plain_origin l.origins.now) ≡ join (plain_cover l.cover) (cover_of (map plain_origin (iter_items l.origin-iterator)))
+    join (plain_cover l.cover) (cover_of (map plain_origin (drop l.origin-index l.origins))) ≡ cover_of (map plain_origin l.origins)

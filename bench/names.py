@@ -1,0 +1,127 @@
+#!/usr/bin/env python3
+"""Times rules that ask what names mean, on real code of some sizes and on macro calls that are expanded.
+
+    bench/names.py [--megabytes N ..] [--expansions N] [--repeat N] [--program FILE] [--keep FOLDER] [PACKAGE ..]
+
+Fetches and unpacks packages as `lex_debian.py` does, builds the program of `crates/ssr_bench` by `rt run` (unless it is
+given), and takes the first files that lie inside of the language until they have so many megabytes, 1 and 10 if not said.
+They are searched by a provider that tells for each path and method call of theirs a definition by its text: with a rule
+that names no path and matches nothing, with a record, a qualified call and a macro call, each alone, and with all three.
+Then comes a facts file of one text with many macro calls, 1,000 if not said, each with its expansion, that is searched with
+a rule that matches in each of them.
+
+Printed are the processor time of searching alone, as the program tells it, the least of some runs, MB/s, how many matches
+there are, and how many times as long it takes as the rule without paths.
+
+Needs python 3, the commands rt, apt-get and dpkg, and a list of packages (`apt-get update`). It is no test: nothing here
+fails on a slow machine.
+"""
+import argparse
+import json
+import os
+import re
+import subprocess
+import tempfile
+
+from lex_debian import PACKAGES, fetch, unpack
+from run import NOTHING
+from workspace import build, modules
+
+TIMES = re.compile(r"(\d+) files, (\d+) bytes, (\d+) matches\nbuilt in (\d+) ns, searched in (\d+) ns\n")
+FACTS = re.compile(r"(\d+) files, (\d+) bytes of facts\nread in (\d+) ns\n(\d+) matches, searched in (\d+) ns\n")
+
+RECORD = "Range {start: $a, end: $b} ==>> Range {start: $b, end: $a}"
+CALL = "Vec::push($v, $x) ==>> Vec::push($v, ($x))"
+MACRO = "assert_eq!($a, $b) ==>> assert_eq!($b, $a)"
+RULES = [
+    ("no path", [NOTHING]),
+    ("record", [RECORD]),
+    ("qualified call", [CALL]),
+    ("macro call", [MACRO]),
+    ("all three", [RECORD, CALL, MACRO]),
+]
+
+
+def searched(program, words, names, form):
+    """What the program tells, as numbers."""
+    run = subprocess.run([program, *words], input=names, stdout=subprocess.PIPE, check=True)
+    return [int(number) for number in form.fullmatch(run.stdout.decode()).groups()]
+
+
+def some_files(paths, size):
+    """The first of the files, until they have so many bytes."""
+    taken = []
+    for path in paths:
+        if size <= 0:
+            break
+        taken.append(path)
+        size -= os.path.getsize(path)
+    return "".join(path + "\n" for path in taken).encode()
+
+
+def time_rules(program, names, repeat):
+    """A line for each of the rules on these files."""
+    alone = None
+    for name, rules in RULES:
+        runs = [searched(program, ["--times", *rules], names, TIMES) for _ in range(repeat)]
+        size, matches, time = runs[0][1], runs[0][2], min(run[4] for run in runs)
+        alone = alone or time
+        print("%-16s %10d %8d %10.2f %8.1f %7.2f" % (name, size, matches, time / 1e6, 1000 * size / time, time / alone), flush=True)
+
+
+def expanded(count):
+    """Facts of a text with so many macro calls, each of which stands for its arguments."""
+    call, last = "m!(1 + x * y);", " }"
+    text = "fn f() { "
+    expansions = []
+    for _ in range(count):
+        start = len(text)
+        text += call
+        tokens = [(piece, start + call.index(piece)) for piece in ("1", "+", "x", "*", "y")]
+        expansions.append({
+            "call": [0, start, start + len(call) - 1],
+            "kind": "expr",
+            "tokens": [[piece, False, at, at + 1] for piece, at in tokens],
+        })
+    text += last
+    return {"files": [{"name": "a.rs", "text": text}], "expansions": expansions, "scopes": [[0, 0, len(text)]]
+            + [[1 + number, 0, 5] for number in range(count)]}
+
+
+def time_expansions(program, count, folder, repeat):
+    """Lines for a rule that matches nothing and for one that matches in each expansion."""
+    path = os.path.join(folder, "expanded.json")
+    with open(path, "w") as file:
+        json.dump(expanded(count), file)
+    alone = None
+    for name, rule in (("no match", NOTHING), ("a sum in each", "$a + $b ==>> $b + $a")):
+        runs = [searched(program, ["--facts", path, rule], b"", FACTS) for _ in range(repeat)]
+        matches, time = runs[0][3], min(run[4] for run in runs)
+        alone = alone or time
+        print("%-16s %10d %8d %10.2f %8s %7.2f" % (name, count, matches, time / 1e6, "", time / alone), flush=True)
+
+
+def main():
+    options = argparse.ArgumentParser()
+    options.add_argument("--megabytes", type=float, nargs="+", default=[1, 10])
+    options.add_argument("--expansions", type=int, default=1000)
+    options.add_argument("--repeat", type=int, default=5)
+    options.add_argument("--program")
+    options.add_argument("--keep")
+    options.add_argument("packages", nargs="*", default=PACKAGES)
+    options = options.parse_args()
+    with tempfile.TemporaryDirectory() as folder:
+        program = options.program or build("ssr_bench", b"data/none.rs\n")
+        packages = options.keep or os.path.join(folder, "packages")
+        fetch(packages, options.packages)
+        files = unpack(packages, options.packages, os.path.join(folder, "source"))
+        paths, _ = modules(program, files, len(files), folder)
+        print("%-16s %10s %8s %10s %8s %7s" % ("rules", "bytes", "matches", "search ms", "MB/s", "times"))
+        for megabytes in options.megabytes:
+            time_rules(program, some_files(paths, 1e6 * megabytes), options.repeat)
+        print("%-16s %10s %8s %10s %8s %7s" % ("rule", "expansions", "matches", "search ms", "", "times"))
+        time_expansions(program, options.expansions, folder, options.repeat)
+
+
+if __name__ == "__main__":
+    main()
