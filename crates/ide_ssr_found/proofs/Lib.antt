@@ -1,4 +1,4 @@
 pub mod Shared
 mod Nodes
-mod Held
+mod Holding
 pub mod Deciding

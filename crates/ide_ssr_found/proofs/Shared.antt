@@ -3,4 +3,4 @@
 -- trees and nodes of a workspace
 pub use Rattle.ide_ssr_found.proofs.Nodes.{IsTree, is_tree, of_tree, in_tree, told_node, ranged_node, has_node}
 -- what a match holds
-pub use Rattle.ide_ssr_found.proofs.Held.{has_held}
+pub use Rattle.ide_ssr_found.proofs.Holding.{has_held}

@@ -1,5 +1,5 @@
 -- Where what placeholders hold stands in the tree of a match.
-use Rattle.std.specs.Prelude.{ℕ, ◌≡◌, ◌+◌, ◌≤◌, ◌⊎◌, true}
+use Rattle.std.specs.Prelude.{◌≡◌, ◌+◌, ◌≤◌, ◌⊎◌, true}
 use Rattle.ssr_syntax_tree.specs.Syntax.{Syntax}
 use Rattle.ssr_syntax_tree.specs.Places.{Node, HasNode, node_of}
 use Rattle.ssr_base.specs.declared.ids.TokenRun.{TokenRun}

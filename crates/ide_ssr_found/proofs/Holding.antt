@@ -1,18 +1,16 @@
 -- What a match holds is there.
-use Rattle.std.proofs.Common.{◌≡◌, ℕ, Bool, true, false, All, Option, Some, None, refl}
+use Rattle.std.proofs.Common.{◌≡◌, ℕ, Bool, true, false, All, List, Option, Some, None, refl}
 use Rattle.std.proofs.lemmas.Bool.{false≢true}
 use Rattle.std.proofs.lemmas.List.Elements.{All-weaker}
 use Rattle.std.proofs.lemmas.Option.{option_and_then_some}
 use Rattle.std.specs.Prelude.{IsSome, if◌then◌else◌}
 use Rattle.std.specs.Option.{IsSomeAnd, option_map}
 use Rattle.ssr_syntax_tree.specs.Syntax.{Syntax}
-use Rattle.ssr_base.specs.declared.ids.NodeId.{NodeId}
 use Rattle.ssr_base.specs.declared.ids.TokenRun.{TokenRun}
 use Rattle.ssr_base.specs.Laws.{LiesIn}
 use Rattle.ssr_base.specs.Origins.{Span}
 use Rattle.ssr_base.specs.Workspace.{Workspace, Planted, FileSpan, trees, planted, tree_of, file_of, node_id, has_run, original_run_in, original_run, original_range, run_range}
 use Rattle.ssr_base.proofs.Shared.{and_some}
-use Rattle.ide_ssr_found.specs.declared.bindings.Binding.{Binding}
 use Rattle.ide_ssr_found.specs.declared.bindings.Held.{Held}
 use Rattle.ide_ssr_found.specs.declared.bindings.Held.TheVariants as held
 use Rattle.ide_ssr_found.specs.Apart.{HasHeld}
@@ -49,7 +47,7 @@ pub has_held : (w : Workspace) (m : Found) (s : Syntax) → tree_of w m.node.tre
 has_held w m s is match =
     All-weaker (IsInRange (trees w) m.node) (λ b. HasHeld s b.held)
     (λ b within. ranged_held w m.node.tree s b.held is
-        (there (range_of_held (trees w) m.node.tree b.held) (λ inner. IsSomeAnd (original_range (trees w) m.node) (λ outer. LiesIn inner outer)) within))
+    (there (range_of_held (trees w) m.node.tree b.held) (λ inner. IsSomeAnd (original_range (trees w) m.node) (λ outer. LiesIn inner outer)) within))
     m.bindings match.held
   where
     there : (o : Option FileSpan) (P : FileSpan → Type 0) → IsSomeAnd o P → IsSome o
