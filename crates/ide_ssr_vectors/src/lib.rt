@@ -19,6 +19,8 @@ mod order;
 #[cfg(test)]
 mod paths;
 #[cfg(test)]
+mod patterns;
+#[cfg(test)]
 mod qualified_calls;
 #[cfg(test)]
 mod records;
