@@ -12,8 +12,7 @@ use Rattle.ide_ssr_resolving.specs.declared.qualified_calls.QualifiedCall.{Quali
 use Rattle.ide_ssr_resolving.specs.declared.used.UsedPath.{UsedPath}
 use Rattle.ide_ssr_resolving.specs.QualifiedCalls.{qualified_calls_of}
 use Rattle.ide_ssr_resolving.specs.Eligible.{eligible_paths_of}
-use Rattle.ide_ssr_resolving.specs.Mixing.{check_unmixed}
-use Rattle.ide_ssr_resolving.specs.Resolved.{ResolvedKind, check_template, paths_in, paths_in_template, resolved_kind, resolved_kinds, resolved_with}
+use Rattle.ide_ssr_resolving.specs.Resolved.{ResolvedKind, paths_in, paths_in_template, resolved_kind, resolved_kinds, resolved_with}
 
 -- a kind with its names, what they ask, the used paths of its template and its pattern, its qualified calls and its eligible paths
 abbrev pub kind_with : ParsedRule → List (List ℕ) → List (List Constraint) → List UsedPath → List UsedPath → List QualifiedCall → List UsedPath → ResolvedKind
@@ -30,14 +29,8 @@ kind_with kind kept asks in_template in_pattern calls eligible = record {
 }
 
 module _ (m : Meanings) (scope : ScopeId) (names : List (List ℕ)) (asked : List (List Constraint)) (kind : ParsedRule) where
-  abbrev whole : List UsedPath → List UsedPath → Unit {0} → Result ResolvedKind Refusal
-  whole in_template in_pattern _ = Ok (resolved_with m scope names asked kind in_template in_pattern)
-
-  abbrev after_unmixed : List UsedPath → List UsedPath → Unit {0} → Result ResolvedKind Refusal
-  after_unmixed in_template in_pattern _ = check_unmixed kind.pattern >>= whole in_template in_pattern
-
   abbrev after_pattern : List UsedPath → List UsedPath → Result ResolvedKind Refusal
-  after_pattern in_template in_pattern = check_template check_unmixed kind.template >>= after_unmixed in_template in_pattern
+  after_pattern in_template in_pattern = Ok (resolved_with m scope names asked kind in_template in_pattern)
 
   abbrev after_template : List UsedPath → Result ResolvedKind Refusal
   after_template in_template = paths_in m scope names kind.pattern >>= after_pattern in_template
@@ -63,29 +56,11 @@ module _ (m : Meanings) (scope : ScopeId) (names : List (List ℕ)) (asked : Lis
   past_paths P in_template in_pattern template pattern h =
       past_template P in_template template (after_ok P (paths_in m scope names kind.pattern) (after_pattern in_template) in_pattern pattern h)
 
-  pub template_mixes : (error : SsrError) (in_template in_pattern : List UsedPath) → paths_in_template m scope names kind.template ≡ Ok in_template
-      → paths_in m scope names kind.pattern ≡ Ok in_pattern → TellsOf error (check_template check_unmixed kind.template)
-      → TellsOf error (resolved_kind m scope names asked kind)
-  template_mixes error in_template in_pattern template pattern tells =
-      past_paths (λ r. TellsOf error r) in_template in_pattern template pattern
-      (tells_first (check_template check_unmixed kind.template) (after_unmixed in_template in_pattern) error tells)
-
-  pub pattern_mixes : (error : SsrError) (in_template in_pattern : List UsedPath) → paths_in_template m scope names kind.template ≡ Ok in_template
-      → paths_in m scope names kind.pattern ≡ Ok in_pattern → check_template check_unmixed kind.template ≡ Ok tt → TellsOf error (check_unmixed kind.pattern)
-      → TellsOf error (resolved_kind m scope names asked kind)
-  pattern_mixes error in_template in_pattern template pattern plain tells =
-      past_paths (λ r. TellsOf error r) in_template in_pattern template pattern
-      (after_ok (λ r. TellsOf error r) (check_template check_unmixed kind.template) (after_unmixed in_template in_pattern) tt plain
-      (tells_first (check_unmixed kind.pattern) (whole in_template in_pattern) error tells))
-
   pub kind_resolved : (in_template in_pattern : List UsedPath) → paths_in_template m scope names kind.template ≡ Ok in_template
-      → paths_in m scope names kind.pattern ≡ Ok in_pattern → check_template check_unmixed kind.template ≡ Ok tt → check_unmixed kind.pattern ≡ Ok tt
+      → paths_in m scope names kind.pattern ≡ Ok in_pattern
       → resolved_kind m scope names asked kind ≡ Ok (resolved_with m scope names asked kind in_template in_pattern)
-  kind_resolved in_template in_pattern template pattern plain too =
-      let IsIt : Result ResolvedKind Refusal → Type 0 = λ r. r ≡ Ok (resolved_with m scope names asked kind in_template in_pattern) in
-      past_paths IsIt in_template in_pattern template pattern
-      (after_ok IsIt (check_template check_unmixed kind.template) (after_unmixed in_template in_pattern) tt plain
-      (after_ok IsIt (check_unmixed kind.pattern) (whole in_template in_pattern) tt too refl))
+  kind_resolved in_template in_pattern template pattern =
+      past_paths (λ r. r ≡ Ok (resolved_with m scope names asked kind in_template in_pattern)) in_template in_pattern template pattern refl
 
   -- what a rule keeps is what it resolves to
   pub kind_made : (kept : List (List ℕ)) (asks : List (List Constraint)) (in_template in_pattern : List UsedPath) (calls : List QualifiedCall) (eligible : List UsedPath)

@@ -1,6 +1,5 @@
 -- Kinds that are resolved use their placeholders once, as those that are read do.
-use Rattle.std.proofs.Common.{◌≡◌, ℕ, Bool, true, false, List, [], ◌∷◌, All, Result, Ok, Err, refl, ap, subst}
-use Rattle.std.specs.Prelude.{if◌then◌else◌}
+use Rattle.std.proofs.Common.{◌≡◌, ℕ, List, [], ◌∷◌, All, Result, Ok, Err, ap, subst}
 use Rattle.std.proofs.lemmas.List.Elements.{All-nil, All-cons, All-head, All-tail}
 use Rattle.ssr_syntax_tree.specs.declared.number.NodeNo.{NodeNo}
 use Rattle.ssr_syntax_tree.specs.Syntax.{Syntax}
@@ -8,25 +7,15 @@ use Rattle.ssr_base.specs.declared.ids.ScopeId.{ScopeId}
 use Rattle.ssr_base.specs.Meanings.{Meanings}
 use Rattle.ide_ssr_rules.specs.declared.constraints.Constraint.{Constraint}
 use Rattle.ide_ssr_rules.specs.declared.kinds.ParsedRule.{ParsedRule}
-use Rattle.ide_ssr_rules.specs.declared.refusals.Refusal.TheVariants as r
 use Rattle.ide_ssr_rules.specs.Patterns.{HasEachAtMostOnce, AreReadOnce}
 use Rattle.ide_ssr_rules.specs.declared.refusals.Refusal.{Refusal}
 use Rattle.ide_ssr_rules.specs.Refusals.{◌>>=◌}
 use Rattle.ide_ssr_rules.proofs.Shared.{went, ok_same}
 use Rattle.ide_ssr_resolving.specs.declared.used.UsedPath.{UsedPath}
-use Rattle.ide_ssr_resolving.specs.Mixing.{mixes, check_unmixed}
 use Rattle.ide_ssr_resolving.specs.Patterns.{HasEachOnce, AreInArguments}
 use Rattle.ide_ssr_resolving.specs.Used.{used_paths}
-use Rattle.ide_ssr_resolving.specs.Resolved.{ResolvedKind, or_refusal, check_template, paths_in, paths_in_template, resolved_kind, resolved_kinds, resolved_with}
+use Rattle.ide_ssr_resolving.specs.Resolved.{ResolvedKind, or_refusal, paths_in, paths_in_template, resolved_kind, resolved_kinds, resolved_with}
 use Rattle.ide_ssr_resolving.proofs.InArguments.{are_in_arguments}
-use Rattle.ide_ssr_resolving.proofs.Patterns.{each_once}
-
-unmixed : (tree : Syntax) → check_unmixed tree ≡ Ok tt → mixes tree ≡ false
-unfolding check_unmixed
-unmixed tree h = not_mixed (mixes tree) h where
-  not_mixed : (b : Bool) → ◌≡◌ {A = Result (Unit {0}) Refusal} (if b then Err r.TokenTree else Ok tt) (Ok tt) → b ≡ false
-  not_mixed true h = cc
-  not_mixed false h = refl
 
 -- the pattern has each of its names once, in the arguments of its used paths or outside of them, and the template at most once
 abbrev pub IsUsedOnce : ResolvedKind → Type 0
@@ -39,37 +28,31 @@ paths_used tree (Ok found) paths is = ap Ok (ok_same found paths is)
 paths_used tree (Err node) paths is = cc
 
 module _ (m : Meanings) (scope : ScopeId) (names : List (List ℕ)) (asked : List (List Constraint)) where
-  -- what a resolved kind is: the kind that is resolved with its used paths, whose pattern doesn't mix
+  -- what a resolved kind is: the kind that is resolved with its used paths
   pub record IsResolved (kind : ParsedRule) (found : ResolvedKind) : Type 0 where
     pub in_template : List UsedPath
     pub in_pattern : List UsedPath
     pub same : resolved_with m scope names asked kind in_template in_pattern ≡ found
     pub told : used_paths m scope names kind.pattern ≡ Ok in_pattern
-    pub plain : mixes kind.pattern ≡ false
 
   pub resolved_like : (kind : ParsedRule) (found : ResolvedKind) → resolved_kind m scope names asked kind ≡ Ok found → IsResolved kind found
   unfolding resolved_kind paths_in
   resolved_like kind found h =
-      let plain = check_template check_unmixed kind.template in
-      let whole : List UsedPath → List UsedPath → Unit {0} → Result ResolvedKind Refusal = λ t p _. Ok (resolved_with m scope names asked kind t p) in
-      let unmixed_pattern : List UsedPath → List UsedPath → Unit {0} → Result ResolvedKind Refusal = λ t p _. check_unmixed kind.pattern >>= whole t p in
-      let unmixed_template : List UsedPath → List UsedPath → Result ResolvedKind Refusal = λ t p. plain >>= unmixed_pattern t p in
-      let first = went (paths_in_template m scope names kind.template) (λ t. paths_in m scope names kind.pattern >>= unmixed_template t) found h in
-      let second = went (paths_in m scope names kind.pattern) (unmixed_template first.found) found first.next_is in
-      let third = went plain (unmixed_pattern first.found second.found) found second.next_is in
-      let last = went (check_unmixed kind.pattern) (whole first.found second.found) found third.next_is in
+      let whole : List UsedPath → List UsedPath → Result ResolvedKind Refusal = λ t p. Ok (resolved_with m scope names asked kind t p) in
+      let first = went (paths_in_template m scope names kind.template) (λ t. paths_in m scope names kind.pattern >>= whole t) found h in
+      let second = went (paths_in m scope names kind.pattern) (whole first.found) found first.next_is in
       record {
         in_template = first.found;
         in_pattern = second.found;
-        same = ok_same (resolved_with m scope names asked kind first.found second.found) found last.next_is;
+        same = ok_same (resolved_with m scope names asked kind first.found second.found) found second.next_is;
         told = paths_used kind.pattern (used_paths m scope names kind.pattern) second.found second.first_is;
-        plain = unmixed kind.pattern last.first_is;
       }
 
   used_once : (kind : ParsedRule) (found : ResolvedKind) → resolved_kind m scope names asked kind ≡ Ok found → AreReadOnce names kind → IsUsedOnce found
   used_once kind found h read =
       let is = resolved_like kind found h in
-      subst IsUsedOnce is.same (each_once names kind.pattern read.0 is.plain, read.1, are_in_arguments m scope names kind.pattern is.in_pattern is.told)
+      let each : HasEachOnce names kind.pattern = record { each = read.0.each; different = read.0.different } in
+      subst IsUsedOnce is.same (each, read.1, are_in_arguments m scope names kind.pattern is.in_pattern is.told)
 
   -- what holds of each kind that a kind with some property resolves to holds of all that are resolved
   pub resolved_all : (P : ParsedRule → Type 0) (Q : ResolvedKind → Type 0) (kinds : List ParsedRule) (found : List ResolvedKind)

@@ -5,7 +5,6 @@ pub mod Used
 pub mod QualifiedCalls
 pub mod Eligible
 pub mod Placeholders
-pub mod Mixing
 pub mod Resolved
 pub mod Patterns
 pub mod Private

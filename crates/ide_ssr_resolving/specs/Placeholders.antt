@@ -1,8 +1,8 @@
 -- Where placeholders stand in a tree.
-use Rattle.std.specs.Prelude.{ℕ, List, Option, Some, None}
+use Rattle.std.specs.Prelude.{ℕ, List, map, Option, Some, None}
 use Rattle.std.specs.Option.{option_and_then}
 use Rattle.ssr_syntax_tree.specs.Places.{Node}
-use Rattle.ssr_syntax_tree.specs.Syntax.{Token, Forest, nothing, leaf, branch}
+use Rattle.ssr_syntax_tree.specs.Syntax.{Token, Forest, nothing, leaf, branch, Syntax, tokens_of}
 use Rattle.ide_ssr_rules.specs.StandIns.{name_at}
 
 -- the only token of siblings, reached through single children
@@ -16,3 +16,7 @@ only_token (branch kind below next) = None
 -- which name's stand-in a node is: through single children it is only an identifier that spells it
 unfoldable pub placeholder_at : List (List ℕ) → Node → Option ℕ
 placeholder_at names node = option_and_then (name_at names) (only_token node.children)
+
+-- the same of each token of a tree
+abbrev pub token_placeholders : List (List ℕ) → Syntax → List (Option ℕ)
+token_placeholders names tree = map (name_at names) (tokens_of tree)

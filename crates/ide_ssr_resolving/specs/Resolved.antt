@@ -24,7 +24,6 @@ use Rattle.ide_ssr_resolving.specs.contracts.qualified_calls.QualifiedCall as ca
 use Rattle.ide_ssr_resolving.specs.declared.qualified_calls.QualifiedCall.{QualifiedCall}
 use Rattle.ide_ssr_resolving.specs.QualifiedCalls.{qualified_calls_of}
 use Rattle.ide_ssr_resolving.specs.Eligible.{eligible_paths_of}
-use Rattle.ide_ssr_resolving.specs.Mixing.{check_unmixed}
 use Rattle.ide_ssr_resolving.specs.Used.{used_paths}
 
 -- One kind of a rule that resolves; that of a search pattern has no template. The category is what the template was read
@@ -49,10 +48,6 @@ meets rule placeholder kind = are_met (slice_index_or rule.constraints placehold
 abbrev pub or_refusal : Syntax → Result (List UsedPath) NodeNo → Result (List UsedPath) Refusal
 or_refusal tree (Ok paths) = Ok paths
 or_refusal tree (Err node) = Err (r.UnresolvedPath (text_of (node_of tree node.0)))
-
--- checks a template, if there is one
-abbrev pub check_template : (Syntax → Result (Unit {0}) Refusal) → Option Syntax → Result (Unit {0}) Refusal
-check_template check template = option_map_or check template (Ok tt)
 
 module _ (m : Meanings) (scope : ScopeId) (names : List (List ℕ)) where
   -- the used paths of a tree of which all resolve that have to
@@ -83,8 +78,6 @@ module _ (m : Meanings) (scope : ScopeId) (names : List (List ℕ)) (constraints
   resolved_kind kind = do
     in_template ← paths_in_template m scope names kind.template
     in_pattern ← paths_in m scope names kind.pattern
-    _ ← check_template check_unmixed kind.template
-    _ ← check_unmixed kind.pattern
     Ok (resolved_with kind in_template in_pattern)
 
   -- kinds are resolved in their order

@@ -3,7 +3,6 @@
 
 mod eligible;
 mod keys;
-mod mixing;
 mod paths;
 mod placeholders;
 mod qualified_calls;

@@ -3,8 +3,8 @@ ghost use Rattle.std.specs.Prelude.{◌≡◌, ◌<◌, ◌^◌, length, map, If
 ghost use Rattle.std.specs.Option.{option_map};
 ghost use Rattle.ssr_syntax_tree.specs.Places.{HasNode, HasToken, node_of, token_of};
 ghost use Rattle.ide_ssr_rules.specs.StandIns.{name_at};
-ghost use Rattle.ide_ssr_resolving.specs.Placeholders.{only_token, placeholder_at};
-ghost use Rattle.ide_ssr_resolving.specs.Private.Placeholders.{placeholders, token_placeholders};
+ghost use Rattle.ide_ssr_resolving.specs.Placeholders.{only_token, placeholder_at, token_placeholders};
+ghost use Rattle.ide_ssr_resolving.specs.Private.Placeholders.{placeholders};
 
 use ide_ssr_rules::Names;
 use ssr_syntax_kinds::SyntaxKind;

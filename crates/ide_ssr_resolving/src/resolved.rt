@@ -5,18 +5,16 @@ ghost use Rattle.ssr_syntax_tree.specs.Places.{HasNode, HasToken, node_of, token
 ghost use Rattle.ide_ssr_rules.specs.Patterns.{HasEachAtMostOnce};
 ghost use Rattle.ide_ssr_rules.specs.Refusals.{Answers, AnswersBy};
 ghost use Rattle.ide_ssr_rules.specs.StandIns.{name_at};
-ghost use Rattle.ide_ssr_resolving.specs.Mixing.{check_unmixed};
 ghost use Rattle.ide_ssr_resolving.specs.Patterns.{HasEachOnce, AreInArguments};
-ghost use Rattle.ide_ssr_resolving.specs.Placeholders.{placeholder_at};
+ghost use Rattle.ide_ssr_resolving.specs.Placeholders.{placeholder_at, token_placeholders};
 ghost use Rattle.ide_ssr_resolving.specs.Eligible.{eligible_paths_of};
 ghost use Rattle.ide_ssr_resolving.specs.Private.Marks.{TellsRes};
-ghost use Rattle.ide_ssr_resolving.specs.Private.Placeholders.{placeholders, token_placeholders};
+ghost use Rattle.ide_ssr_resolving.specs.Private.Placeholders.{placeholders};
 ghost use Rattle.ide_ssr_resolving.specs.QualifiedCalls.{HasCalls, qualified_calls_of};
-ghost use Rattle.ide_ssr_resolving.specs.Resolved.{check_template, meets, paths_in, paths_in_template, resolved_kind, resolved_kinds, resolved_with};
+ghost use Rattle.ide_ssr_resolving.specs.Resolved.{meets, paths_in, paths_in_template, resolved_kind, resolved_kinds, resolved_with};
 ghost use Rattle.ide_ssr_resolving.specs.Used.{HasPaths, res_at};
 
 use crate::eligible::eligible_paths;
-use crate::mixing::check_unmixed;
 use crate::placeholders::{placeholders, token_placeholders};
 use crate::qualified_calls::{QualifiedCall, qualified_calls};
 use crate::used::{Unresolved, UsedPath, res_by_node, walked};
@@ -36,6 +34,8 @@ use std::marker::Model;
 struct Tables {
     /// Which placeholder each node of the pattern is.
     in_pattern: Vec<Option<u32>>,
+    /// Which placeholder each token of the pattern is.
+    in_pattern_tokens: Vec<Option<u32>>,
     /// Which placeholder each token of the template is.
     in_template: Vec<Option<u32>>,
     /// What each node of the pattern stands for, if it is a used path.
@@ -54,14 +54,17 @@ impl Tables {
         requires few { length names.now < 2 ^ 32 }
         requires has { HasPaths pattern.now paths.now }
         ensures in_pattern { IfOk result (λ tables. tables.in_pattern.items ≡ placeholders names.now pattern.now) }
+        ensures in_pattern_tokens { IfOk result (λ tables. tables.in_pattern_tokens.items ≡ token_placeholders names.now pattern.now) }
         ensures in_template { IfOk result (λ tables. IfSome (option_copied template.entry) (λ tree. tables.in_template.items ≡ token_placeholders names.now tree)) }
         ensures res_by_node { IfOk result (λ tables. TellsRes paths.now tables.res_by_node.items) }
     {
         let in_pattern = placeholders(alloc, names, pattern)?;
+        let in_pattern_tokens = token_placeholders(alloc, names, pattern)?;
         let in_template = template_placeholders(alloc, names, template)?;
         let res_by_node = res_by_node(alloc, pattern, paths)?;
         Ok(Tables {
             in_pattern,
+            in_pattern_tokens,
             in_template,
             res_by_node,
         })
@@ -88,7 +91,8 @@ impl Model for ResolvedRule {
     ghost use Rattle.std.specs.Option.{IfSome};
     ghost use Rattle.ide_ssr_resolving.specs.Resolved.{ResolvedKind, resolved_code};
     ghost use Rattle.ide_ssr_resolving.specs.Private.Marks.{TellsRes};
-    ghost use Rattle.ide_ssr_resolving.specs.Private.Placeholders.{placeholders, token_placeholders};
+    ghost use Rattle.ide_ssr_resolving.specs.Private.Placeholders.{placeholders};
+    ghost use Rattle.ide_ssr_resolving.specs.Placeholders.{token_placeholders};
     ghost use Rattle.ide_ssr_resolving.specs.QualifiedCalls.{HasCalls};
     ghost use Rattle.ide_ssr_resolving.specs.Used.{HasPaths};
 
@@ -110,6 +114,7 @@ impl Model for ResolvedRule {
 
     ghost invariant = { λ rule. record {
       in_pattern : rule.tables.in_pattern.items ≡ placeholders (map string_bytes rule.names.items) rule.pattern;
+      in_pattern_tokens : rule.tables.in_pattern_tokens.items ≡ token_placeholders (map string_bytes rule.names.items) rule.pattern;
       in_template : IfSome rule.template (λ template. rule.tables.in_template.items ≡ token_placeholders (map string_bytes rule.names.items) template);
       has_pattern : HasPaths rule.pattern rule.pattern_paths.items;
       res_by_node : TellsRes rule.pattern_paths.items rule.tables.res_by_node.items;
@@ -154,6 +159,13 @@ impl ResolvedRule {
         ensures { result ≡ placeholder_at self.now.names (node_of self.now.pattern node.0) }
     {
         self.tables.in_pattern[node.0 as usize]
+    }
+
+    /// Which placeholder each token of the pattern is, likewise.
+    pub fn token_placeholders(&self) -> &[Option<u32>]
+        ensures { result.now ≡ token_placeholders self.now.names self.now.pattern }
+    {
+        self.tables.in_pattern_tokens.as_slice()
     }
 
     /// Whether a node of a kind meets all constraints of a placeholder: the one with this place among the names.
@@ -220,8 +232,8 @@ impl ResolvedRule {
 }
 
 /// The kinds of a rule in their order, with what their paths stand for that are written in the scope; or why it doesn't
-/// resolve: which of its paths doesn't, or that it has token trees. The pattern of each kind has each placeholder once, in a
-/// used path only among its arguments, and the template at most once.
+/// resolve: which of its paths doesn't. The pattern of each kind has each placeholder once, in a used path only among its
+/// arguments, and the template at most once.
 pub fn resolve_rule<S: Semantics>(
     alloc: Global,
     semantics: &S,
@@ -293,8 +305,6 @@ fn resolved_kind<S: Semantics>(
     let template = kind.template.as_ref();
     let template_paths = paths_in_template(alloc, semantics, scope, names, template)?;
     let pattern_paths = paths_in(alloc, semantics, scope, names, &kind.pattern)?;
-    check_template_unmixed(alloc, template)?;
-    check_unmixed(alloc, &kind.pattern)?;
     let paths = (template_paths, pattern_paths);
     Ok(resolved_with(alloc, semantics, scope, names, constraints, kind, paths)?)
 }
@@ -417,15 +427,5 @@ fn paths_in_template<S: Semantics>(
     match template {
         Some(tree) => paths_in(alloc, semantics, scope, names, tree),
         None => Ok(Vec::new(alloc)),
-    }
-}
-
-/// Refuses a template that mixes identifiers with other tokens, if there is one.
-fn check_template_unmixed(alloc: Global, template: Option<&Tree>) -> Result<(), SsrError>
-    ensures { Answers result (check_template check_unmixed (option_copied template.entry)) }
-{
-    match template {
-        Some(tree) => check_unmixed(alloc, tree),
-        None => Ok(()),
     }
 }

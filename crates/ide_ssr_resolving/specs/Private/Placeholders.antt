@@ -1,14 +1,9 @@
--- Private: the tables of a pattern's and a template's placeholders.
+-- Private: the table of a pattern's placeholders.
 use Rattle.std.specs.Prelude.{ℕ, List, map, Option}
 use Rattle.ssr_syntax_tree.specs.Places.{nodes_of}
-use Rattle.ssr_syntax_tree.specs.Syntax.{Syntax, tokens_of}
-use Rattle.ide_ssr_rules.specs.StandIns.{name_at}
+use Rattle.ssr_syntax_tree.specs.Syntax.{Syntax}
 use Rattle.ide_ssr_resolving.specs.Placeholders.{placeholder_at}
 
 -- which name's stand-in each node of a tree is
 abbrev pub placeholders : List (List ℕ) → Syntax → List (Option ℕ)
 placeholders names tree = map (placeholder_at names) (nodes_of tree)
-
--- the same of its tokens
-abbrev pub token_placeholders : List (List ℕ) → Syntax → List (Option ℕ)
-token_placeholders names tree = map (name_at names) (tokens_of tree)

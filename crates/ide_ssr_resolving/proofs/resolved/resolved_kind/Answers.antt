@@ -1,6 +1,6 @@
 use Rattle.std.proofs.Common.{Ok, ap, sym, ◌∙◌}
 use Rattle.std.proofs.lemmas.Result.{err_from_is_err_and}
-use Rattle.ide_ssr_resolving.proofs.KindByKind.{template_unresolved, pattern_unresolved, template_mixes, pattern_mixes, kind_resolved}
+use Rattle.ide_ssr_resolving.proofs.KindByKind.{template_unresolved, pattern_unresolved, kind_resolved}
 use Rattle.ide_ssr_resolving.proofs.resolved.resolved_kind.Goals as goal
 
 pub returns-in_err-template_paths : goal.returns-in_err-template_paths
@@ -15,27 +15,8 @@ returns-in_err-pattern_paths g c =
     let template = rw c.as_ref-template.ensures.value at c.in_ok-template_paths.ensures.paths in
     rw (p.1, p.2) (pattern_unresolved (g.S.Semantics.meanings c.args.semantics.now) c.args.scope _ _ c.args.kind _ _ template c.in_err-pattern_paths.ensures.paths)
 
-pub returns-in_err-check_template_unmixed : goal.returns-in_err-check_template_unmixed
-returns-in_err-check_template_unmixed g c =
-    let p = err_from_is_err_and c.from_residual-in_err-check_template_unmixed.result c.from_residual-in_err-check_template_unmixed.ensures.1 in
-    let template = rw c.as_ref-template.ensures.value at c.in_ok-template_paths.ensures.paths in
-    let refused = rw c.as_ref-template.ensures.value at c.in_err-check_template_unmixed.ensures in
-    rw (p.1, p.2)
-    (template_mixes (g.S.Semantics.meanings c.args.semantics.now) c.args.scope _ _ c.args.kind _ _ _ template c.in_ok-pattern_paths.ensures.paths refused)
-
-pub returns-in_err-check_unmixed : goal.returns-in_err-check_unmixed
-returns-in_err-check_unmixed g c =
-    let p = err_from_is_err_and c.from_residual-in_err-check_unmixed.result c.from_residual-in_err-check_unmixed.ensures.1 in
-    let template = rw c.as_ref-template.ensures.value at c.in_ok-template_paths.ensures.paths in
-    let plain = rw c.as_ref-template.ensures.value at c.in_ok-check_template_unmixed.ensures in
-    rw (p.1, p.2)
-    (pattern_mixes (g.S.Semantics.meanings c.args.semantics.now) c.args.scope _ _ c.args.kind _ _ _ template c.in_ok-pattern_paths.ensures.paths plain
-    c.in_err-check_unmixed.ensures)
-
 pub returns : goal.returns
 returns g c =
     let template = rw c.as_ref-template.ensures.value at c.in_ok-template_paths.ensures.paths in
-    let plain = rw c.as_ref-template.ensures.value at c.in_ok-check_template_unmixed.ensures in
-    kind_resolved (g.S.Semantics.meanings c.args.semantics.now) c.args.scope _ _ c.args.kind _ _ template c.in_ok-pattern_paths.ensures.paths plain
-    c.in_ok-check_unmixed.ensures
+    kind_resolved (g.S.Semantics.meanings c.args.semantics.now) c.args.scope _ _ c.args.kind _ _ template c.in_ok-pattern_paths.ensures.paths
     ∙ ap Ok (sym c.in_ok-resolved_with.ensures)

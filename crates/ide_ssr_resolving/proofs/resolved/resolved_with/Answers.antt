@@ -1,6 +1,7 @@
 use Rattle.std.proofs.Common.{◌≡◌, ap, subst, sym, ◌∙◌}
 use Rattle.std.specs.Option.{IfSome, option_copied}
-use Rattle.ide_ssr_resolving.specs.Private.Placeholders.{placeholders, token_placeholders}
+use Rattle.ide_ssr_resolving.specs.Private.Placeholders.{placeholders}
+use Rattle.ide_ssr_resolving.specs.Placeholders.{token_placeholders}
 use Rattle.ide_ssr_resolving.proofs.KindByKind.{kind_made}
 use Rattle.ide_ssr_resolving.proofs.resolved.resolved_with.Goals as goal
 
@@ -14,6 +15,7 @@ returns g c =
 pub invariant_of-result : goal.invariant_of-result
 invariant_of-result g c = record {
   in_pattern = c.in_ok-tables.ensures.in_pattern ∙ ap (λ names. placeholders names c.args.kind.pattern) (sym c.in_ok-names.ensures);
+  in_pattern_tokens = c.in_ok-tables.ensures.in_pattern_tokens ∙ ap (λ names. token_placeholders names c.args.kind.pattern) (sym c.in_ok-names.ensures);
   in_template =
       rw c.as_ref.ensures.value at
       (subst (λ names. IfSome (option_copied c.as_ref.result) (λ tree. c.in_ok-tables.tables.in_template.items ≡ token_placeholders names tree))
