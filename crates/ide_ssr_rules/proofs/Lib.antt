@@ -9,6 +9,7 @@ mod Chains
 mod Uses
 mod Named
 mod NamePlaces
+mod CalledNames
 mod EachOnce
 mod AtMostOnce
 mod Lists

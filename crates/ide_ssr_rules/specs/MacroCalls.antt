@@ -32,12 +32,12 @@ in_token_tree text tree = list_any (is_tree_with text) (nodes_of tree)
 abbrev pub in_macro_call : List ParsedRule → List ℕ → Bool
 in_macro_call kinds name = list_any (λ kind. in_token_tree (stand_in_of name) kind.pattern) kinds
 
--- the name of a placeholder whose constraints nothing tests
-abbrev pub untested_name : List ParsedRule → Element → Option (List ℕ)
-untested_name kinds (e.Token token) = None
-untested_name kinds (e.Placeholder placeholder) =
-    if asks placeholder.constraints && in_macro_call kinds placeholder.name then Some placeholder.name else None
+-- the name of a placeholder whose constraints nothing tests, since it is one of those that pass
+abbrev pub untested_name : (List ℕ → Bool) → Element → Option (List ℕ)
+untested_name passes (e.Token token) = None
+untested_name passes (e.Placeholder placeholder) =
+    if asks placeholder.constraints && passes placeholder.name then Some placeholder.name else None
 
 -- the first of them in a pattern
 abbrev pub untested : List ParsedRule → List Element → Option (List ℕ)
-untested kinds pattern = first_of (untested_name kinds) pattern
+untested kinds pattern = first_of (untested_name (in_macro_call kinds)) pattern

@@ -43,7 +43,6 @@ words (r.ConstraintInMacroCall name) = codes "Placeholder `$" ++ (name ++ codes 
 words r.ConstraintInTemplate = codes "Replacement placeholders cannot have constraints"
 words (r.Undefined names) = codes "Replacement contains undefined placeholders: " ++ names
 words (r.UnresolvedPath path) = codes "Failed to resolve path `" ++ (path ++ codes "`")
-words r.TokenTree = codes "Token trees are not matched yet"
 
 -- an error tells a refusal; want of memory tells nothing
 abbrev pub Tells : SsrError → Refusal → Type 0

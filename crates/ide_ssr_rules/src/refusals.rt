@@ -93,7 +93,6 @@ pub enum Refusal<'a> {
     /// These names, listed.
     Undefined(Text<'a>),
     UnresolvedPath(Text<'a>),
-    TokenTree,
 }
 
 impl fmt::Display for Refusal<'_> {
@@ -167,7 +166,6 @@ impl fmt::Display for Refusal<'_> {
                 )
             }
             Refusal::UnresolvedPath(path) => write!(f, "Failed to resolve path `{}`", path.0),
-            Refusal::TokenTree => f.write_str("Token trees are not matched yet"),
         }
     }
 }

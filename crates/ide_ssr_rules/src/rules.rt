@@ -226,7 +226,7 @@ fn check_tested(
 ) -> Result<(), SsrError>
     ensures { Answers result (unless r.ConstraintInMacroCall (untested kinds.now pattern.now)) }
 {
-    match untested(kinds, pattern) {
+    match untested(alloc, kinds, pattern)? {
         Some(name) => Err(Refusal::ConstraintInMacroCall(Text(name)).told(alloc)),
         None => Ok(()),
     }

@@ -1,4 +1,4 @@
-use Rattle.std.proofs.Common.{◌<◌, length, ap, ◌∙◌, sym, subst, bytes_eq, false}
+use Rattle.std.proofs.Common.{◌<◌, length, ◌∙◌, sym, subst, bytes_eq, false}
 use Rattle.std.specs.Option.{IfSome}
 use Rattle.ide_ssr_rules.specs.StandIns.{stand_in_of}
 use Rattle.ide_ssr_rules.proofs.NamePlaces.{position-same, found_within, nowhere}

@@ -1,4 +1,4 @@
-use Rattle.std.proofs.Common.{◌≡◌, ◌∷◌, [], ◌++◌, ℕ, List, Option, Some, true, false, ap, ◌∙◌, sym, bytes_eq, Bor, nat_cmp}
+use Rattle.std.proofs.Common.{◌≡◌, ℕ, List, Option, Some, true, false, ap, ◌∙◌, sym, bytes_eq, Bor, nat_cmp}
 use Rattle.std.proofs.lemmas.Map.Text.{btree_map_updates_str}
 use Rattle.std.specs.BTreeMap.{get_by, BTreeMap}
 use Rattle.std.specs.Cmp.Lexicographic.{slice_cmp}
