@@ -110,7 +110,7 @@ holds_below ts (suc n) b a p grown is one at has =
           (parent_holds p.syntax b.node.0 has inner.0)
     ])
 
-spans_nest : (syntax : Syntax) (call : Option NodeId) (origins : List (Option Span)) (outer inner : TokenRun) (above below : Span) → IsAmong inner outer
+pub spans_nest : (syntax : Syntax) (call : Option NodeId) (origins : List (Option Span)) (outer inner : TokenRun) (above below : Span) → IsAmong inner outer
     → original_run_in (record { syntax = syntax; call = call; origins = origins }) outer ≡ Some above
     → original_run_in (record { syntax = syntax; call = call; origins = origins }) inner ≡ Some below → IsInside above below
 spans_nest syntax None origins outer inner above below among first second =

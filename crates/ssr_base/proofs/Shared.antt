@@ -3,7 +3,7 @@
 -- what each workspace keeps that is built
 pub use Rattle.ssr_base.proofs.Built.{is_built, built_none, built_read}
 -- original ranges
-pub use Rattle.ssr_base.proofs.Ranges.{lies_in_file, has_text, ranges_nest, boundary_passes, span_of_text}
+pub use Rattle.ssr_base.proofs.Ranges.{lies_in_file, run_lies_in_file, has_text, ranges_nest, runs_nest, spans_nest, boundary_passes, span_of_text}
 -- trees and nodes by their numbers
 pub use Rattle.ssr_base.proofs.Trees.{planted_first, planted_earlier, length-trees, planted-file, tree_of_file, same_nodes}
 pub use Rattle.ssr_base.proofs.Planting.{planted_within}
