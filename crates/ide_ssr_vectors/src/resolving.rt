@@ -45,8 +45,8 @@ T::$a ==>> 1 -> Failed to resolve path `T`
 m :: /* c */ foo ==>> 1 -> Failed to resolve path `m :: /* c */ foo`
 Baz(x) ==>> Qux(x) -> Failed to resolve path `Qux`
 baz!($a) ==>> qux($a) -> Failed to resolve path `qux`
-foo!($a) ==>> bar($a) -> Token trees are not matched yet
-foo($a) ==>> bar!($a) -> Token trees are not matched yet"
+foo!($a) ==>> bar($a) -> accepted
+foo($a) ==>> bar!($a) -> accepted"
         .lines()
     {
         let Some((rule, want)) = line.split_once(" -> ") else {

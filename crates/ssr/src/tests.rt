@@ -399,7 +399,6 @@ fn refuses_rules(rt: HostRuntime) -> Result<(), Fail> {
         ("foo ==>> 1", "Failed to resolve path `foo`"),
         ("m!($a) ==>> $a", "Failed to resolve path `m`"),
         ("$a as u8 ==>> $a", "Failed to resolve path `u8`"),
-        ("$m!(1) ==>> 1", "Token trees are not matched yet"),
     ] {
         let line = format!(in rt.alloc(); "error: Parse error: {message}\n")?;
         // alone, or the first refusal of several rules
