@@ -6,15 +6,17 @@ use Rattle.std.specs.Str.{bytes_eq}
 use Rattle.std.specs.Option.{option_and_then, option_map, option_map_or}
 use Rattle.std.proofs.lemmas.Bool.{and_parts, not-true, or_parts}
 use Rattle.std.proofs.lemmas.List.{get_or_default}
-use Rattle.std.proofs.lemmas.List.Elements.{All-nil, All-cons, All-head, All-tail, All-filter, filter_map-append}
+use Rattle.std.proofs.lemmas.List.Elements.{All-nil, All-cons, All-head, All-tail, All-filter}
 use Rattle.std.proofs.lemmas.List.Folds.{list_any-append}
 use Rattle.std.proofs.lemmas.Option.{none-some, same_Some}
+use Rattle.ssr_syntax_kinds.specs.declared.kinds.SyntaxKind.{SyntaxKind}
 use Rattle.ssr_syntax_kinds.specs.Kinds.{same_kind}
+use Rattle.ssr_syntax_kinds.proofs.Shared.{same_kind-equal}
 use Rattle.ssr_syntax_kinds.specs.declared.kinds.SyntaxKind.TheVariants as k
 use Rattle.ssr_syntax_tree.specs.Places.{Node, HasNode, node_of, nodes_of, root_of}
 use Rattle.ssr_syntax_tree.specs.Syntax.{Token, Forest, nothing, leaf, branch, Syntax, tokens_in}
 use Rattle.ssr_syntax_tree.proofs.Shared.{length-nodes_of, node_is, node_of-number}
-use Rattle.ssr_syntax.specs.Identifiers.{is_ident}
+use Rattle.ssr_syntax.specs.Identifiers.{is_ident, is_mixing}
 use Rattle.ssr_base.specs.declared.ids.ScopeId.{ScopeId}
 use Rattle.ssr_base.specs.declared.semantics.Res.{Res}
 use Rattle.ssr_base.specs.Meanings.{Meanings}
@@ -22,9 +24,11 @@ use Rattle.ide_ssr_rules.specs.Patterns.{placeholders_among}
 use Rattle.ide_ssr_rules.specs.StandIns.{name_at, is_stand_in, stand_in_of}
 use Rattle.ide_ssr_resolving.specs.declared.used.UsedPath.{UsedPath}
 use Rattle.ide_ssr_resolving.specs.Paths.{below_first, qualifying, is_arguments, before_arguments, from_arguments, without_arguments}
-use Rattle.ide_ssr_resolving.specs.Patterns.{HasThemInArguments, AreInArguments}
+use Rattle.ide_ssr_resolving.specs.Patterns.{or_below, placeholders_in, HasThemInArguments, AreInArguments}
+use Rattle.ide_ssr_resolving.specs.Placeholders.{only_token}
 use Rattle.ide_ssr_resolving.specs.Resolving.{resolution}
 use Rattle.ide_ssr_resolving.specs.Used.{names_placeholder, holds_stand_in, has_generics, ends_in_self, is_whole, is_path, used, use_of, used_at, used_path, is_reached, is_unresolved, reached, refused, used_paths}
+use Rattle.ide_ssr_resolving.proofs.Patterns.{only_one}
 
 no_position : (passes : List ℕ → Bool) (i : ℕ) (xs : List (List ℕ)) → list_any passes xs ≡ false → position_from passes i xs ≡ None
 no_position passes i [] none = refl
@@ -46,71 +50,111 @@ module _ (names : List (List ℕ)) where
       by true none = no_position (λ name. bytes_eq token.text (stand_in_of name)) 0 names none
       by false none = refl
 
+  is_none : (below : Forest) → HasNone below → option_and_then (name_at names) (only_token below) ≡ None
+  is_none below none = by (only_token below) refl
+    where
+      by : (o : Option Token) → only_token below ≡ o → option_and_then (name_at names) o ≡ None
+      by None is = refl
+      by (Some token) is =
+          names_none token
+          (or_parts (names_placeholder names token) false (ap (list_any (names_placeholder names)) (sym (only_one below token is)) ∙ none)).0
+
+  parted : (kind_below next : List Token) → list_any (names_placeholder names) (kind_below ++ next) ≡ false
+      → (list_any (names_placeholder names) kind_below ≡ false) × (list_any (names_placeholder names) next ≡ false)
+  parted inside next none =
+      or_parts (list_any (names_placeholder names) inside) (list_any (names_placeholder names) next)
+      (sym (list_any-append (names_placeholder names) inside next) ∙ none)
+
   none_among : (tokens : List Token) → list_any (names_placeholder names) tokens ≡ false → placeholders_among names tokens ≡ []
   none_among [] none = refl
   none_among (token ∷ tokens) none =
       let both = or_parts (names_placeholder names token) (list_any (names_placeholder names) tokens) none in
       ap (λ o. cons_option o (placeholders_among names tokens)) (names_none token both.0) ∙ none_among tokens both.1
 
-  -- tokens without a stand-in, in front of others and behind them
-  past_none : (front behind : List Token) → placeholders_among names front ≡ [] → placeholders_among names (front ++ behind) ≡ placeholders_among names behind
-  past_none front behind none = filter_map-append (name_at names) front behind ∙ ap (λ is. is ++ placeholders_among names behind) none
+  -- what stands in a node
+  abbrev inside : Bool → Forest → List ℕ
+  inside mixing below = if mixing then placeholders_among names (tokens_in below) else placeholders_in names below
 
-  before_none : (front behind : List Token) → placeholders_among names behind ≡ [] → placeholders_among names (front ++ behind) ≡ placeholders_among names front
-  before_none front behind none =
-      filter_map-append (name_at names) front behind ∙ ap (λ is. placeholders_among names front ++ is) none ∙ append-nil (placeholders_among names front)
+  abbrev at_node : Bool → Forest → List ℕ
+  at_node mixing below = or_below (option_and_then (name_at names) (only_token below)) (inside mixing below)
 
-  parted : (inside next : List Token) → list_any (names_placeholder names) (inside ++ next) ≡ false
-      → (list_any (names_placeholder names) inside ≡ false) × (list_any (names_placeholder names) next ≡ false)
-  parted inside next none =
-      or_parts (list_any (names_placeholder names) inside) (list_any (names_placeholder names) next)
-      (sym (list_any-append (names_placeholder names) inside next) ∙ none)
+  node_none : (mixing : Bool) (below : Forest) → HasNone below → placeholders_in names below ≡ [] → at_node mixing below ≡ []
+  node_none true below none nodes = ap (λ o. or_below o (inside true below)) (is_none below none) ∙ none_among (tokens_in below) none
+  node_none false below none nodes = ap (λ o. or_below o (inside false below)) (is_none below none) ∙ nodes
 
-  leaf_none : (token : Token) (rest : List Token) (is : List ℕ) → list_any (names_placeholder names) (token ∷ rest) ≡ false → cons_option (name_at names token) is ≡ is
-  leaf_none token rest is none =
-      ap (λ o. cons_option o is) (names_none token (or_parts (names_placeholder names token) (list_any (names_placeholder names) rest) none).0)
-
-  leaf_rest : (token : Token) (rest : List Token) → list_any (names_placeholder names) (token ∷ rest) ≡ false → list_any (names_placeholder names) rest ≡ false
-  leaf_rest token rest none = (or_parts (names_placeholder names token) (list_any (names_placeholder names) rest) none).1
+  none_in : (forest : Forest) → HasNone forest → placeholders_in names forest ≡ []
+  none_in nothing none = refl
+  none_in (leaf token next) none =
+      none_in next (or_parts (names_placeholder names token) (list_any (names_placeholder names) (tokens_in next)) none).1
+  none_in (branch kind below next) none =
+      let both = parted (tokens_in below) (tokens_in next) none in
+      ap (λ is. is ++ placeholders_in names next) (node_none (is_mixing kind) below both.0 (none_in below both.0)) ∙ none_in next both.1
 
   -- ** In a segment.
 
-  in_segment : (below : Forest) → HasNone (before_arguments below)
-      → placeholders_among names (tokens_in below) ≡ placeholders_among names (tokens_in (from_arguments below))
-  in_segment nothing none = refl
-  in_segment (leaf token next) none =
-      leaf_none token (tokens_in (before_arguments next)) (placeholders_among names (tokens_in next)) none
-      ∙ in_segment next (leaf_rest token (tokens_in (before_arguments next)) none)
-  in_segment (branch kind inner next) none = by (is_arguments kind) (in_segment next) none
+  below_segment : (below : Forest) → HasNone (before_arguments below) → placeholders_in names below ≡ placeholders_in names (from_arguments below)
+  below_segment nothing none = refl
+  below_segment (leaf token next) none =
+      below_segment next (or_parts (names_placeholder names token) (list_any (names_placeholder names) (tokens_in (before_arguments next))) none).1
+  below_segment (branch kind inner next) none = by (is_arguments kind) (below_segment next) none
     where
-      by : (b : Bool) → (HasNone (before_arguments next) → placeholders_among names (tokens_in next) ≡ placeholders_among names (tokens_in (from_arguments next)))
+      by : (b : Bool) → (HasNone (before_arguments next) → placeholders_in names next ≡ placeholders_in names (from_arguments next))
           → HasNone (if b then nothing else branch kind inner (before_arguments next))
-          → placeholders_among names (tokens_in inner ++ tokens_in next)
-          ≡ placeholders_among names (tokens_in (if b then branch kind inner next else from_arguments next))
+          → placeholders_in names (branch kind inner next) ≡ placeholders_in names (if b then branch kind inner next else from_arguments next)
       by true behind none = refl
       by false behind none =
           let both = parted (tokens_in inner) (tokens_in (before_arguments next)) none in
-          past_none (tokens_in inner) (tokens_in next) (none_among (tokens_in inner) both.0) ∙ behind both.1
+          ap (λ is. is ++ placeholders_in names next) (node_none (is_mixing kind) inner both.0 (none_in inner both.0)) ∙ behind both.1
+
+  -- the segment may be a placeholder as a whole: so is its only child then
+  at_segment : (below : Forest) → HasNone (before_arguments below) → at_node false below ≡ placeholders_in names (from_arguments below)
+  at_segment nothing none = refl
+  at_segment (leaf token nothing) none =
+      ap (λ o. or_below o []) (names_none token (or_parts (names_placeholder names token) false none).0)
+  at_segment (leaf token (leaf u next)) none = below_segment (leaf token (leaf u next)) none
+  at_segment (leaf token (branch kind inner next)) none = below_segment (leaf token (branch kind inner next)) none
+  at_segment (branch kind inner (leaf u next)) none = below_segment (branch kind inner (leaf u next)) none
+  at_segment (branch kind inner (branch other more next)) none = below_segment (branch kind inner (branch other more next)) none
+  at_segment (branch kind inner nothing) none = by (is_arguments kind) none
+    where
+      again : (o : Option ℕ) (is : List ℕ) → or_below o (or_below o is ++ []) ≡ or_below o is ++ []
+      again None is = refl
+      again (Some i) is = refl
+
+      by : (b : Bool) → HasNone (if b then nothing else branch kind inner nothing)
+          → or_below (option_and_then (name_at names) (only_token inner)) (at_node (is_mixing kind) inner ++ [])
+          ≡ placeholders_in names (if b then branch kind inner nothing else nothing)
+      by true none = again (option_and_then (name_at names) (only_token inner)) (inside (is_mixing kind) inner)
+      by false none =
+          let both = parted (tokens_in inner) [] none in
+          ap (λ o. or_below o (at_node (is_mixing kind) inner ++ [])) (is_none inner both.0)
+          ∙ ap (λ is. is ++ []) (node_none (is_mixing kind) inner both.0 (none_in inner both.0))
 
   -- ** In a path.
+
+  -- a segment mixes nothing
+  segment_mixes_not : (kind : SyntaxKind) → same_kind kind k.PATH_SEGMENT ≡ true → is_mixing kind ≡ false
+  segment_mixes_not kind is = ap is_mixing (same_kind-equal kind k.PATH_SEGMENT is)
 
   in_arguments : (path : Forest) → HasNone (without_arguments path) → HasThemInArguments names path
   in_arguments nothing none = refl
   in_arguments (leaf token next) none =
-      leaf_none token (tokens_in (without_arguments next)) (placeholders_among names (tokens_in next)) none
-      ∙ in_arguments next (leaf_rest token (tokens_in (without_arguments next)) none)
-  in_arguments (branch kind below next) none = by (same_kind kind k.PATH_SEGMENT) (in_arguments next) none
+      in_arguments next (or_parts (names_placeholder names token) (list_any (names_placeholder names) (tokens_in (without_arguments next))) none).1
+  in_arguments (branch kind below next) none = by (same_kind kind k.PATH_SEGMENT) refl (in_arguments next) none
     where
-      by : (b : Bool) → (HasNone (without_arguments next) → HasThemInArguments names next)
+      by : (b : Bool) → same_kind kind k.PATH_SEGMENT ≡ b → (HasNone (without_arguments next) → HasThemInArguments names next)
           → HasNone (if b then branch kind (before_arguments below) next else branch kind below (without_arguments next))
-          → placeholders_among names (tokens_in below ++ tokens_in next)
-          ≡ placeholders_among names (tokens_in (option_map_or from_arguments (if b then Some below else below_first k.PATH_SEGMENT next) nothing))
-      by true behind none =
+          → placeholders_in names (branch kind below next)
+          ≡ placeholders_in names (option_map_or from_arguments (if b then Some below else below_first k.PATH_SEGMENT next) nothing)
+      by true segment behind none =
           let both = parted (tokens_in (before_arguments below)) (tokens_in next) none in
-          before_none (tokens_in below) (tokens_in next) (none_among (tokens_in next) both.1) ∙ in_segment below both.0
-      by false behind none =
+          ap (λ is. at_node (is_mixing kind) below ++ is) (none_in next both.1)
+          ∙ append-nil (at_node (is_mixing kind) below)
+          ∙ ap (λ mixing. at_node mixing below) (segment_mixes_not kind segment)
+          ∙ at_segment below both.0
+      by false segment behind none =
           let both = parted (tokens_in below) (tokens_in (without_arguments next)) none in
-          past_none (tokens_in below) (tokens_in next) (none_among (tokens_in below) both.0) ∙ behind both.1
+          ap (λ is. is ++ placeholders_in names next) (node_none (is_mixing kind) below both.0 (none_in below both.0)) ∙ behind both.1
 
   whole_in_arguments : (path : Forest) → is_whole names path ≡ true → HasThemInArguments names path
   unfolding holds_stand_in

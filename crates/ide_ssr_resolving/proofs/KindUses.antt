@@ -16,6 +16,7 @@ use Rattle.ide_ssr_resolving.specs.Patterns.{HasEachOnce, AreInArguments}
 use Rattle.ide_ssr_resolving.specs.Used.{used_paths}
 use Rattle.ide_ssr_resolving.specs.Resolved.{ResolvedKind, or_refusal, paths_in, paths_in_template, resolved_kind, resolved_kinds, resolved_with}
 use Rattle.ide_ssr_resolving.proofs.InArguments.{are_in_arguments}
+use Rattle.ide_ssr_resolving.proofs.Patterns.{each_once}
 
 -- the pattern has each of its names once, in the arguments of its used paths or outside of them, and the template at most once
 abbrev pub IsUsedOnce : ResolvedKind → Type 0
@@ -51,8 +52,7 @@ module _ (m : Meanings) (scope : ScopeId) (names : List (List ℕ)) (asked : Lis
   used_once : (kind : ParsedRule) (found : ResolvedKind) → resolved_kind m scope names asked kind ≡ Ok found → AreReadOnce names kind → IsUsedOnce found
   used_once kind found h read =
       let is = resolved_like kind found h in
-      let each : HasEachOnce names kind.pattern = record { each = read.0.each; different = read.0.different } in
-      subst IsUsedOnce is.same (each, read.1, are_in_arguments m scope names kind.pattern is.in_pattern is.told)
+      subst IsUsedOnce is.same (each_once names kind.pattern read.0, read.1, are_in_arguments m scope names kind.pattern is.in_pattern is.told)
 
   -- what holds of each kind that a kind with some property resolves to holds of all that are resolved
   pub resolved_all : (P : ParsedRule → Type 0) (Q : ResolvedKind → Type 0) (kinds : List ParsedRule) (found : List ResolvedKind)

@@ -17,7 +17,7 @@ use Rattle.ssr_syntax_tree.specs.Syntax.{Token, Syntax, tokens_of, spelled, same
 use Rattle.ssr_syntax.specs.declared.fragments.Fragment.{Fragment}
 use Rattle.ssr_syntax.specs.Reading.{pieces, fragment_reading, FitsFragment}
 use Rattle.ssr_syntax.specs.Identifiers.{is_ident, idents}
-use Rattle.ssr_syntax.proofs.Shared.{fragment_sound, fragment_idents, length-token, tiles_within, spelled-pieces}
+use Rattle.ssr_syntax.proofs.Shared.{fragment_sound, fragment_idents, fragment_alone, length-token, tiles_within, spelled-pieces}
 use Rattle.ide_ssr_rules.specs.declared.elements.Element.{Element}
 use Rattle.ide_ssr_rules.specs.declared.elements.Element.TheVariants as e
 use Rattle.ide_ssr_rules.specs.Elements.{has, lexed, names_of}
@@ -227,5 +227,6 @@ pattern_each category es others tree is read =
     let fits = side_fits category (names ++ others) es tree is read in
     record {
       each = tree_among category es names tree is.utf8 is.is_trimmed is.same fits ∙ each_from es [] names others refl is.new is.free;
+      alone = fragment_alone category text tree fits;
       different = is.new;
     }

@@ -2,6 +2,7 @@
 use Rattle.std.specs.Prelude.{ℕ, ◌≡◌, ◌≢◌, List, [], length, AllPairs, Option}
 use Rattle.std.specs.List.{filter_map, range_with_len}
 use Rattle.std.specs.Option.{IfSome}
+use Rattle.ssr_syntax.specs.Identifiers.{IdentsAloneIn}
 use Rattle.ssr_syntax_tree.specs.Syntax.{Token, Syntax, tokens_of}
 use Rattle.ide_ssr_rules.specs.declared.kinds.ParsedRule.{ParsedRule}
 use Rattle.ide_ssr_rules.specs.StandIns.{name_at}
@@ -11,9 +12,11 @@ use Rattle.ide_ssr_rules.specs.Uses.{AreNew}
 abbrev pub placeholders_among : List (List ℕ) → List Token → List ℕ
 placeholders_among names tokens = filter_map (name_at names) tokens
 
--- a pattern's tokens have each placeholder once, in the order of their names, and no two have one name
+-- A pattern's tokens have each placeholder once, in the order of their names, and no two have one name. Each of them is a
+-- node as well, but in the nodes that mix identifiers with other tokens.
 pub record IsReadOnce (names : List (List ℕ)) (pattern : Syntax) : Type 0 where
   pub each : placeholders_among names (tokens_of pattern) ≡ range_with_len 0 (length names)
+  pub alone : IdentsAloneIn pattern
   pub different : AreNew [] names
 
 -- a template, if there is one, has no placeholder twice
