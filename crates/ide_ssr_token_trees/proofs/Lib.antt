@@ -1,0 +1,10 @@
+mod Rests
+mod Commas
+mod Runs
+mod FirstTokens
+mod Sizes
+mod Agreement
+mod Steps
+mod Matched
+mod Held
+mod Bound

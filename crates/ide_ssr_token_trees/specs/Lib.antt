@@ -1,0 +1,5 @@
+pub mod Elements
+pub mod TokenTrees
+pub mod Bindings
+pub mod Placeholders
+pub mod Private
