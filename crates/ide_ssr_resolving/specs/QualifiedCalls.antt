@@ -1,10 +1,11 @@
 -- Qualified calls: a call whose callee names an associated function that takes `self` says what a method call can say too.
 use Rattle.std.specs.Prelude.{ℕ, ◌+◌, ◌==◌, All, Bool, ◌&&◌, List, Option, Some, None, if◌then◌else◌}
-use Rattle.std.specs.List.{filter_map}
+use Rattle.std.specs.List.{filter_map, find}
 use Rattle.std.specs.Option.{option_map, option_and_then}
 use Rattle.ssr_syntax_kinds.specs.declared.kinds.SyntaxKind.{SyntaxKind}
 use Rattle.ssr_syntax_kinds.specs.declared.kinds.SyntaxKind.TheVariants as k
 use Rattle.ssr_syntax_kinds.specs.Kinds.{same_kind}
+use Rattle.ssr_syntax_tree.specs.declared.number.NodeNo.{NodeNo}
 use Rattle.ssr_syntax_tree.specs.Places.{HasNode, node_of}
 use Rattle.ssr_syntax_tree.specs.Syntax.{Forest, Syntax}
 use Rattle.ssr_base.specs.declared.ids.DefId.{DefId}
@@ -67,3 +68,7 @@ module _ (m : Meanings) (scope : ScopeId) where
 -- qualified calls are nodes of their tree
 abbrev pub HasCalls : Syntax → List QualifiedCall → Type 0
 HasCalls tree calls = All (λ call. HasNode tree call.node.0) calls
+
+-- the qualified call that a node is, if it is one of these
+abbrev pub call_at : List QualifiedCall → NodeNo → Option QualifiedCall
+call_at calls node = find (λ call. call.node.0 == node.0) calls

@@ -1,8 +1,8 @@
 //! Qualified calls: a call whose callee names an associated function that takes `self` says what a method call can say too.
 ghost use Rattle.std.specs.Prelude.{◌≡◌, IfOk, IfSome};
-ghost use Rattle.std.specs.Option.{option_map};
+ghost use Rattle.std.specs.Option.{option_copied, option_map};
 ghost use Rattle.ssr_syntax_tree.specs.Places.{HasNode, node_of};
-ghost use Rattle.ide_ssr_resolving.specs.QualifiedCalls.{first_in, called_by, is_method, method_of, qualifier_type, qualified_call, qualified_calls_of, HasCalls};
+ghost use Rattle.ide_ssr_resolving.specs.QualifiedCalls.{first_in, called_by, is_method, method_of, qualifier_type, qualified_call, qualified_calls_of, HasCalls, call_at};
 ghost use Rattle.ide_ssr_resolving.specs.Used.{HasPaths};
 
 use crate::paths::qualifier;
@@ -134,4 +134,11 @@ pub(crate) fn qualified_calls<S: Semantics>(
         }
     }
     Ok(calls)
+}
+
+/// The qualified call that a node is, if it is one of these.
+pub(crate) fn call_at(calls: &[QualifiedCall], node: NodeNo) -> Option<&QualifiedCall>
+    ensures { option_copied result ≡ call_at calls.now node }
+{
+    calls.iter().find(|call| call.node == node)
 }

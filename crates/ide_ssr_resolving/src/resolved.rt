@@ -10,13 +10,13 @@ ghost use Rattle.ide_ssr_resolving.specs.Placeholders.{placeholder_at, token_pla
 ghost use Rattle.ide_ssr_resolving.specs.Eligible.{eligible_paths_of};
 ghost use Rattle.ide_ssr_resolving.specs.Private.Marks.{TellsRes};
 ghost use Rattle.ide_ssr_resolving.specs.Private.Placeholders.{placeholders};
-ghost use Rattle.ide_ssr_resolving.specs.QualifiedCalls.{HasCalls, qualified_calls_of};
+ghost use Rattle.ide_ssr_resolving.specs.QualifiedCalls.{HasCalls, call_at, qualified_calls_of};
 ghost use Rattle.ide_ssr_resolving.specs.Resolved.{meets, paths_in, paths_in_template, resolved_kind, resolved_kinds, resolved_with};
 ghost use Rattle.ide_ssr_resolving.specs.Used.{HasPaths, res_at};
 
 use crate::eligible::eligible_paths;
 use crate::placeholders::{placeholders, token_placeholders};
-use crate::qualified_calls::{QualifiedCall, qualified_calls};
+use crate::qualified_calls::{QualifiedCall, call_at, qualified_calls};
 use crate::used::{Unresolved, UsedPath, res_by_node, walked};
 use ide_ssr_rules::{
     ConstraintSet, Names, ParsedKinds, ParsedRule, Refusal, SsrError, SsrPattern, SsrRule, Text,
@@ -219,6 +219,13 @@ impl ResolvedRule {
         ensures has { HasCalls self.now.pattern self.now.qualified_calls }
     {
         self.qualified_calls.as_slice()
+    }
+
+    /// The qualified call that a node of the pattern is, if it is one.
+    pub fn qualified_call(&self, node: NodeNo) -> Option<QualifiedCall>
+        ensures { result ≡ call_at self.now.qualified_calls node }
+    {
+        call_at(&self.qualified_calls, node).copied()
     }
 
     /// Those of the pattern's used paths whose usages can lead to its matches, in order: they are no builtin types, and stand
