@@ -13,7 +13,7 @@ use Rattle.ssr_base.specs.declared.semantics.Res.{Res}
 use Rattle.ide_ssr_resolving.specs.Paths.{first_of_kind}
 use Rattle.ide_ssr_matching.specs.declared.children.Siblings.{Siblings}
 use Rattle.ide_ssr_matching.specs.Bindings.{counted}
-use Rattle.ide_ssr_matching.specs.Matching.{holds_arguments, from_arguments, arguments_of}
+use Rattle.ide_ssr_matching.specs.UsedPaths.{holds_arguments, from_arguments, arguments_of}
 use Rattle.ide_ssr_matching.specs.Private.Children.{siblings_left, IsBelow, AreKept}
 use Rattle.ide_ssr_matching.proofs.Bare.{elements_below, kept-rest, kept-then, not_held, tail_has}
 use Rattle.ide_ssr_matching.proofs.Counted.{first_has}

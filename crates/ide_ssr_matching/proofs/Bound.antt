@@ -5,14 +5,14 @@ use Rattle.std.specs.List.{find}
 use Rattle.std.specs.Option.{option_map, option_map_or}
 use Rattle.std.proofs.lemmas.Bool.{eqb-true}
 use Rattle.std.proofs.lemmas.List.{map-append}
-use Rattle.std.proofs.lemmas.List.Elements.{All-head, All-tail, All-weaker}
+use Rattle.std.proofs.lemmas.List.Elements.{All-head, All-tail}
 use Rattle.std.proofs.lemmas.Option.{none-some}
 use Rattle.ssr_syntax_kinds.specs.declared.kinds.SyntaxKind.TheVariants as k
 use Rattle.ssr_syntax_kinds.specs.Kinds.{same_kind}
 use Rattle.ssr_syntax_tree.specs.declared.number.NodeNo.{NodeNo}
 use Rattle.ssr_syntax_tree.specs.Syntax.{Syntax, Forest, nothing, leaf, branch, token_count, node_count}
 use Rattle.ssr_syntax_tree.specs.Places.{Node, Part, token_part, node_part, node_of, parts_in, parts_of, root_of}
-use Rattle.ssr_syntax_tree.proofs.Shared.{IsOf, IsChild, children_known}
+use Rattle.ssr_syntax_tree.proofs.Shared.{IsOf}
 use Rattle.ssr_base.specs.declared.semantics.Res.{Res}
 use Rattle.ssr_base.specs.Meanings.{Meanings}
 use Rattle.ide_ssr_resolving.specs.declared.used.UsedPath.{UsedPath}
@@ -22,9 +22,12 @@ use Rattle.ide_ssr_resolving.specs.Placeholders.{placeholder_at}
 use Rattle.ide_ssr_resolving.specs.Resolved.{ResolvedKind}
 use Rattle.ide_ssr_resolving.specs.Used.{is_at, res_at}
 use Rattle.ide_ssr_found.specs.declared.bindings.Binding.{Binding}
-use Rattle.ide_ssr_matching.specs.Matching.{is_left_out, bare, from_arguments, arguments_of, pattern_res, Matches, bound, used, alike, Pairs, end, tokens, nodes}
+use Rattle.ide_ssr_matching.specs.Children.{is_left_out, bare}
+use Rattle.ide_ssr_matching.specs.UsedPaths.{from_arguments, arguments_of, pattern_res}
+use Rattle.ide_ssr_matching.specs.Matching.{Matches, bound, used, alike, Pairs, end, tokens, nodes}
 use Rattle.ide_ssr_matching.specs.Bindings.{counted}
 use Rattle.ide_ssr_matching.proofs.Counted.{bare_all, first_has, counted_all}
+use Rattle.ide_ssr_matching.proofs.Spread.{IsPartOf, each_child}
 
 -- the placeholders of bindings
 abbrev pub placeholders_bound : List Binding → List ℕ
@@ -111,25 +114,12 @@ used_has P (path ∷ paths) node r is all =
 
 -- ** What is bound.
 
-abbrev IsPartOf : Syntax → Part → Type 0
-IsPartOf tree (token_part t token) = Unit {0}
-IsPartOf tree (node_part node) = IsOf tree node
-
-children_of : (s : Syntax) (node : Node) → IsOf s node → All (IsPartOf s) (parts_of node)
-children_of s node is =
-    All-weaker (IsChild s node.number) (IsPartOf s) part_of_child (parts_of node)
-    (subst (λ (found : Node). All (IsChild s node.number) (parts_of found)) is.1 (children_known s node.number is.0))
-  where
-    part_of_child : (part : Part) → IsChild s node.number part → IsPartOf s part
-    part_of_child (token_part t token) child = tt
-    part_of_child (node_part child_node) child = (child.0, child.1)
-
 counted_of : (s : Syntax) (o : Option Res) (node : Node) → IsOf s node → All (IsPartOf s) (bare (counted o (arguments_of node) (parts_of node)))
 counted_of s o node is =
-    let children = children_of s node is in
+    let children = each_child s node is in
     bare_all (IsPartOf s) (counted o (arguments_of node) (parts_of node))
     (counted_all (IsPartOf s) o node children
-    (λ segment found. children_of s segment (first_has (IsPartOf s) k.PATH_SEGMENT (parts_of node) segment found children)))
+    (λ segment found. each_child s segment (first_has (IsPartOf s) k.PATH_SEGMENT (parts_of node) segment found children)))
 
 module _ (m : Meanings) (tree : ℕ) (rule : ResolvedKind) (in_arguments : AreInArguments rule.names rule.pattern rule.pattern_paths) where
   used_in_arguments : (p : Node) (r : Res) → IsOf rule.pattern p → pattern_res rule p ≡ Some r → HasThemInArguments rule.names p.children

@@ -1,6 +1,6 @@
 -- What counts of a node: its children, or the arguments of a path's last segment. They are among the children, or among those
 -- of a child.
-use Rattle.std.proofs.Common.{◌≡◌, ℕ, ◌+◌, Bool, true, false, cond, List, [], ◌∷◌, All, Option, Some, None, refl}
+use Rattle.std.proofs.Common.{◌≡◌, Bool, true, false, cond, List, [], ◌∷◌, All, Option, Some, None, refl}
 use Rattle.std.proofs.lemmas.List.Elements.{All-nil, All-cons, All-head, All-tail}
 use Rattle.std.proofs.lemmas.Option.{none-some, same_Some}
 use Rattle.std.proofs.Common.{subst}
@@ -8,26 +8,14 @@ use Rattle.std.specs.Option.{option_map_or}
 use Rattle.ssr_syntax_kinds.specs.declared.kinds.SyntaxKind.{SyntaxKind}
 use Rattle.ssr_syntax_kinds.specs.declared.kinds.SyntaxKind.TheVariants as k
 use Rattle.ssr_syntax_kinds.specs.Kinds.{same_kind}
-use Rattle.ssr_syntax_tree.specs.Syntax.{Token, Forest, nothing, leaf, branch, token_count, node_count}
-use Rattle.ssr_syntax_tree.specs.Places.{Node, Part, token_part, node_part, parts_in, parts_of}
+use Rattle.ssr_syntax_tree.specs.Places.{Node, Part, token_part, node_part, parts_of}
 use Rattle.ssr_base.specs.declared.semantics.Res.{Res}
 use Rattle.ide_ssr_resolving.specs.Paths.{first_of_kind}
 use Rattle.ide_ssr_matching.specs.Bindings.{counted}
-use Rattle.ide_ssr_matching.specs.Matching.{leaves_out, bare, holds_arguments, from_arguments, arguments_of}
+use Rattle.ide_ssr_matching.specs.Children.{leaves_out, bare}
+use Rattle.ide_ssr_matching.specs.UsedPaths.{holds_arguments, from_arguments, arguments_of}
 
 module _ (P : Part → Type 0) where
-  -- what is true of each node if it is of its children is true of all
-  pub each_part : ((t : ℕ) (token : Token) → P (token_part t token)) → ((node : Node) → All P (parts_of node) → P (node_part node))
-      → (parent n t : ℕ) (forest : Forest) → All P (parts_in parent n t forest)
-  each_part on_token step parent n t nothing = All-nil P
-  each_part on_token step parent n t (leaf token next) =
-      All-cons P (token_part t token) (parts_in parent n (1 + t) next) (on_token t token) (each_part on_token step parent n (1 + t) next)
-  each_part on_token step parent n t (branch kind below next) =
-      let node : Node = record { number = n; parent = parent; first = t; kind = kind; children = below } in
-      All-cons P (node_part node) (parts_in parent (1 + n + node_count below) (t + token_count below) next)
-      (step node (each_part on_token step n (1 + n) t below))
-      (each_part on_token step parent (1 + n + node_count below) (t + token_count below) next)
-
   pub bare_all : (parts : List Part) → All P parts → All P (bare parts)
   bare_all [] all = all
   bare_all (part ∷ rest) all = kept (leaves_out part rest) (bare_all rest (All-tail P part rest all))
@@ -36,7 +24,7 @@ module _ (P : Part → Type 0) where
       kept true behind = behind
       kept false behind = All-cons P part (bare rest) (All-head P part rest all) behind
 
-  arguments_all : (parts : List Part) → All P parts → All P (from_arguments parts)
+  pub arguments_all : (parts : List Part) → All P parts → All P (from_arguments parts)
   arguments_all [] all = all
   arguments_all (part ∷ rest) all = kept (holds_arguments part) (arguments_all rest (All-tail P part rest all))
     where

@@ -1,84 +1,122 @@
--- What a match binds stands at its node or below it.
-use Rattle.std.proofs.Common.{ℕ, ◌+◌, ◌<◌, ◌≤◌, List, [], All, AllPairs, Option, Some, None, sym, ap, subst, inl, inr, arith}
-use Rattle.std.proofs.lemmas.Bool.{cases_eq}
+-- What a match binds are tokens of its node, and no two share one.
+use Rattle.std.proofs.Common.{ℕ, List, [], ◌∷◌, ◌++◌, All, AllPairs, Some, None, sym, ap, subst, arith}
 use Rattle.std.proofs.lemmas.List.Elements.{All-nil, All-cons, All-head, All-tail, All-append, All-weaker}
-use Rattle.ssr_syntax_kinds.specs.declared.kinds.SyntaxKind.TheVariants as k
-use Rattle.ssr_syntax_tree.specs.Syntax.{Forest, nothing, leaf, branch, Syntax, token_count, node_count}
-use Rattle.ssr_syntax_tree.specs.Places.{HasNode, Node, Part, token_part, node_part, node_of, parts_in, parts_of, root_of, size_of, start_of, end_of}
-use Rattle.ssr_syntax_tree.proofs.Shared.{node_of-number}
-use Rattle.ssr_base.specs.declared.semantics.Res.{Res}
+use Rattle.std.proofs.lemmas.List.Kept.{AllPairs-cons}
+use Rattle.ssr_syntax_tree.specs.Syntax.{Syntax}
+use Rattle.ssr_syntax_tree.specs.Places.{HasNode, Node, Part, token_part, node_part, node_of, parts_of}
+use Rattle.ssr_syntax_tree.proofs.Lists.{pairs_none, pairs_head, pairs_tail}
+use Rattle.ssr_syntax_tree.proofs.Shared.{IsOf, node_of-number}
+use Rattle.ssr_base.specs.Laws.{IsAmong}
 use Rattle.ssr_base.specs.Meanings.{Meanings}
-use Rattle.ide_ssr_resolving.specs.Resolved.{ResolvedKind}
+use Rattle.ssr_base.specs.Workspace.{run_of}
 use Rattle.ide_ssr_found.specs.declared.bindings.Binding.{Binding}
-use Rattle.ide_ssr_matching.specs.Matching.{bare, arguments_of, Matches, bound, used, alike, Pairs, end, tokens, nodes}
-use Rattle.ide_ssr_matching.specs.Bindings.{counted}
-use Rattle.ide_ssr_found.specs.Apart.{IsHeldIn, ComesBefore}
-use Rattle.ide_ssr_matching.proofs.Apart.{matches_hold, all_apart}
-use Rattle.ide_ssr_matching.proofs.Counted.{bare_all, first_has, counted_all}
+use Rattle.ide_ssr_found.specs.Apart.{tokens_held, IsHeldIn, AreApart}
+use Rattle.ide_ssr_found.specs.Found.{node_binding}
+use Rattle.ide_ssr_resolving.specs.Resolved.{ResolvedKind}
+use Rattle.ide_ssr_matching.specs.Children.{bare}
+use Rattle.ide_ssr_matching.specs.UsedPaths.{arguments_of}
+use Rattle.ide_ssr_matching.specs.Matching.{Matches, bound, used, alike, Pairs, end, tokens, nodes}
+use Rattle.ide_ssr_matching.proofs.Spread.{RunsApart, narrower, wider, IsPartOf, IsAmongNode, PartsApart, counted_are}
 
--- numbers of nodes, from one up to before another
-abbrev StandsAmong : ℕ → ℕ → Part → Type 0
-StandsAmong low high (token_part t token) = Unit {0}
-StandsAmong low high (node_part node) = (low ≤ node.number) × (node.number + size_of node ≤ high)
+pairs_append : {X : Type 0} (R : X → X → Type 0) (xs ys : List X) → AllPairs R xs → AllPairs R ys → All (λ x. All (R x) ys) xs → AllPairs R (xs ++ ys)
+pairs_append R [] ys first second across = second
+pairs_append R (x ∷ xs) ys first second across =
+    AllPairs-cons R x (xs ++ ys) (All-append (R x) xs ys (pairs_head R x xs first) (All-head (λ x. All (R x) ys) x xs across))
+    (pairs_append R xs ys (pairs_tail R x xs first) second (All-tail (λ x. All (R x) ys) x xs across))
 
-abbrev HoldsAmong : ℕ → ℕ → Binding → Type 0
-HoldsAmong low high b = (low ≤ b.node.0) × (b.node.0 < high)
+module _ (code : Syntax) where
+  -- what is held shares no token with a node
+  abbrev IsBeside : Node → Binding → Type 0
+  IsBeside x b = RunsApart (run_of x) (tokens_held code b.held)
 
-parts_among : (low high parent m t : ℕ) (forest : Forest) → low ≤ m → m + node_count forest ≤ high → All (StandsAmong low high) (parts_in parent m t forest)
-parts_among low high parent m t nothing from to = All-nil (StandsAmong low high)
-parts_among low high parent m t (leaf token next) from to =
-    All-cons (StandsAmong low high) (token_part t token) (parts_in parent m (1 + t) next) tt (parts_among low high parent m (1 + t) next from to)
-parts_among low high parent m t (branch kind below next) from to =
-    let node : Node = record { number = m; parent = parent; first = t; kind = kind; children = below } in
-    All-cons (StandsAmong low high) (node_part node) (parts_in parent (1 + m + node_count below) (t + token_count below) next) (from, omega arith)
-    (parts_among low high parent (1 + m + node_count below) (t + token_count below) next (omega arith) (omega arith))
+  record AreHeld (c : Node) (bs : List Binding) : Type 0 where
+    each : All (IsHeldIn code c) bs
+    apart : AllPairs (AreApart code) bs
 
--- what counts of a node stands below it
-counted_among : (low high : ℕ) (o : Option Res) (c : Node) → low ≤ c.number → c.number + size_of c ≤ high
-    → All (StandsAmong low high) (bare (counted o (arguments_of c) (parts_of c)))
-counted_among low high o c from to =
-    let children = parts_among low high c.number (1 + c.number) c.first c.children (omega arith) (omega arith) in
-    bare_all (StandsAmong low high) (counted o (arguments_of c) (parts_of c))
-    (counted_all (StandsAmong low high) o c children
-    (λ segment is.
-    let range = first_has (StandsAmong low high) k.PATH_SEGMENT (parts_of c) segment is children in
-    let first : low ≤ segment.number = range.0 in
-    let last : segment.number + size_of segment ≤ high = range.1 in
-    parts_among low high segment.number (1 + segment.number) segment.first segment.children (omega arith) (omega arith)))
+  -- what is held in parts, and shares no token with whatever no part shares one with
+  record AreHeldIn (c : Node) (parts : List Part) (bs : List Binding) : Type 0 where
+    each : All (IsHeldIn code c) bs
+    apart : AllPairs (AreApart code) bs
+    beside : (x : Node) → All (PartsApart (node_part x)) parts → All (IsBeside x) bs
 
-module _ (m : Meanings) (tree : ℕ) (rule : ResolvedKind) where
-  mutual
-    held_among : (low high : ℕ) (p c : Node) (bs : List Binding) → Matches m tree rule p c bs → low ≤ c.number → c.number + size_of c ≤ high
-        → All (HoldsAmong low high) bs
-    held_among low high _ _ _ (bound p c i is met) from to =
-        All-cons (HoldsAmong low high) (record { placeholder = i; node = record { 0 = c.number } }) [] (from, omega arith) (All-nil (HoldsAmong low high))
-    held_among low high _ _ _ (used p c r bs none kinds is told arguments) from to =
-        pairs_among low high (bare (arguments_of p)) (bare (arguments_of c)) bs arguments (counted_among low high (Some r) c from to)
-    held_among low high _ _ _ (alike p c bs none kinds is children) from to =
-        pairs_among low high (bare (parts_of p)) (bare (parts_of c)) bs children (counted_among low high None c from to)
+  itself : (c : Node) (i : ℕ) → IsOf code c → AreHeld c (node_binding i c.number ∷ [])
+  itself c i is = record {
+    each =
+        All-cons (IsHeldIn code c) (node_binding i c.number) []
+        (record { has = is.0; among = subst (λ (x : Node). IsAmong (run_of x) (run_of c)) (sym is.1) (omega arith, omega arith) })
+        (All-nil (IsHeldIn code c));
+    apart = AllPairs-cons (AreApart code) (node_binding i c.number) [] (All-nil (AreApart code (node_binding i c.number))) (pairs_none (AreApart code));
+  }
 
-    pairs_among : (low high : ℕ) (ps cs : List Part) (bs : List Binding) → Pairs m tree rule ps cs bs → All (StandsAmong low high) cs
-        → All (HoldsAmong low high) bs
-    pairs_among low high _ _ _ end all = All-nil (HoldsAmong low high)
-    pairs_among low high _ _ _ (tokens t u p c ps cs bs kinds texts behind) all =
-        pairs_among low high ps cs bs behind (All-tail (StandsAmong low high) (token_part u c) cs all)
-    pairs_among low high _ _ _ (nodes p c ps cs found rest here behind) all =
-        let range = All-head (StandsAmong low high) (node_part c) cs all in
-        All-append (HoldsAmong low high) found rest
-        (held_among low high p c found here range.0 range.1)
-        (pairs_among low high ps cs rest behind (All-tail (StandsAmong low high) (node_part c) cs all))
+  -- what is held in a node and in the parts behind it
+  held_both : (c q : Node) (parts : List Part) (found rest : List Binding) → IsAmongNode c (node_part q) → All (PartsApart (node_part q)) parts
+      → AreHeld q found → AreHeldIn c parts rest → AreHeldIn c (node_part q ∷ parts) (found ++ rest)
+  held_both c q parts found rest within ahead here behind = record {
+    each =
+        All-append (IsHeldIn code c) found rest
+        (All-weaker (IsHeldIn code q) (IsHeldIn code c)
+        (λ b held. record { has = held.has; among = wider (run_of q) (run_of c) (tokens_held code b.held) held.among within }) found here.each)
+        behind.each;
+    apart =
+        pairs_append (AreApart code) found rest here.apart behind.apart
+        (All-weaker (IsHeldIn code q) (λ b. All (AreApart code b) rest)
+        (λ b held. All-weaker (IsBeside q) (AreApart code b)
+        (λ d beside. narrower (run_of q) (tokens_held code d.held) (tokens_held code b.held) (tokens_held code d.held) beside held.among (omega arith, omega arith))
+        rest (behind.beside q ahead))
+        found here.each);
+    beside = λ x clear.
+        All-append (IsBeside x) found rest
+        (All-weaker (IsHeldIn code q) (IsBeside x)
+        (λ b held. narrower (run_of x) (run_of q) (run_of x) (tokens_held code b.held)
+        (All-head (PartsApart (node_part x)) (node_part q) parts clear) (omega arith, omega arith) held.among)
+        found here.each)
+        (behind.beside x (All-tail (PartsApart (node_part x)) (node_part q) parts clear));
+  }
 
-  pub held_in : (p c : Node) (bs : List Binding) → Matches m tree rule p c bs → All (IsHeldIn c) bs
-  held_in p c bs matches =
-      All-weaker (HoldsAmong c.number (c.number + size_of c)) (IsHeldIn c)
-      (λ b range. elim (cases_eq b.node.0 c.number) [ inl same ↦ inl same | inr other ↦ inr (omega (arith, range.0), range.1) ])
-      bs (held_among c.number (c.number + size_of c) p c bs matches (omega arith) (omega arith))
+  in_parts : (c : Node) (parts : List Part) (bs : List Binding) → AreHeldIn c parts bs → AreHeld c bs
+  in_parts c parts bs held = record { each = held.each; apart = held.apart }
 
-  -- in the text, one comes behind another
-  pub held_apart : (code : Syntax) (n : ℕ) (bs : List Binding) → HasNode code n → Matches m tree rule (root_of rule.pattern) (node_of code n) bs
-      → AllPairs (ComesBefore code) bs
-  held_apart code n bs has matches =
-      let c = node_of code n in
-      let number = node_of-number code n has in
-      all_apart code (start_of code c) (end_of code c) bs
-      (matches_hold m tree rule code (root_of rule.pattern) c bs matches (subst (HasNode code) (sym number) has, ap (node_of code) number))
+  module _ (m : Meanings) (tree : ℕ) (rule : ResolvedKind) where
+    mutual
+      matches_held : (p c : Node) (bs : List Binding) → Matches m tree rule p c bs → IsOf code c → AreHeld c bs
+      matches_held _ _ _ (bound p c i at met) is = itself c i is
+      matches_held _ _ _ (used p c r bs none kinds stands told arguments) is =
+          let are = counted_are code (Some r) c is in
+          in_parts c (bare (arguments_of c)) bs
+          (pairs_held c (bare (arguments_of p)) (bare (arguments_of c)) bs arguments are.each are.among are.apart)
+      matches_held _ _ _ (alike p c bs none kinds unused children) is =
+          let are = counted_are code None c is in
+          in_parts c (bare (parts_of c)) bs
+          (pairs_held c (bare (parts_of p)) (bare (parts_of c)) bs children are.each are.among are.apart)
+
+      pairs_held : (c : Node) (ps cs : List Part) (bs : List Binding) → Pairs m tree rule ps cs bs
+          → All (IsPartOf code) cs → All (IsAmongNode c) cs → AllPairs PartsApart cs → AreHeldIn c cs bs
+      pairs_held c _ _ _ end each among apart =
+          record { each = All-nil (IsHeldIn code c); apart = pairs_none (AreApart code); beside = λ x clear. All-nil (IsBeside x) }
+      pairs_held c _ _ _ (tokens t u p d ps cs bs kinds texts behind) each among apart =
+          let rest =
+          pairs_held c ps cs bs behind (All-tail (IsPartOf code) (token_part u d) cs each) (All-tail (IsAmongNode c) (token_part u d) cs among)
+          (pairs_tail PartsApart (token_part u d) cs apart) in
+          record {
+            each = rest.each;
+            apart = rest.apart;
+            beside = λ x clear. rest.beside x (All-tail (PartsApart (node_part x)) (token_part u d) cs clear);
+          }
+      pairs_held c _ _ _ (nodes p q ps cs found rest here behind) each among apart =
+          held_both c q cs found rest (All-head (IsAmongNode c) (node_part q) cs among) (pairs_head PartsApart (node_part q) cs apart)
+          (matches_held p q found here (All-head (IsPartOf code) (node_part q) cs each))
+          (pairs_held c ps cs rest behind (All-tail (IsPartOf code) (node_part q) cs each) (All-tail (IsAmongNode c) (node_part q) cs among)
+          (pairs_tail PartsApart (node_part q) cs apart))
+
+    held_there : (p : Node) (n : ℕ) (bs : List Binding) → HasNode code n → Matches m tree rule p (node_of code n) bs → AreHeld (node_of code n) bs
+    held_there p n bs has matches =
+        let number = node_of-number code n has in
+        matches_held p (node_of code n) bs matches (subst (HasNode code) (sym number) has, ap (node_of code) number)
+
+    pub held_in : (p : Node) (n : ℕ) (bs : List Binding) → HasNode code n → Matches m tree rule p (node_of code n) bs
+        → All (IsHeldIn code (node_of code n)) bs
+    held_in p n bs has matches = (held_there p n bs has matches).each
+
+    pub held_apart : (p : Node) (n : ℕ) (bs : List Binding) → HasNode code n → Matches m tree rule p (node_of code n) bs
+        → AllPairs (AreApart code) bs
+    held_apart p n bs has matches = (held_there p n bs has matches).apart

@@ -4,9 +4,10 @@ mod Bare
 mod Same
 mod Counted
 mod Arguments
+mod Steps
 mod Pairs
 mod Agreement
-mod Apart
+mod Spread
 mod Bound
 mod Held
 mod Roots

@@ -1,19 +1,24 @@
--- The bindings of a match, computed along the pattern: those of the relation of `Matching`, as the law
--- `laws::matching` says.
-use Rattle.std.specs.Prelude.{ℕ, ◌+◌, ◌&&◌, Bool, true, false, if◌then◌else◌, List, [], ◌∷◌, ◌++◌, Option, Some, None}
+-- The bindings of a match, computed: those of the relation of `Matching`, as the law `laws::matching` says. A node of the
+-- pattern asks only for smaller ones, so that as many steps as it has nodes are enough.
+use Rattle.std.specs.Prelude.{ℕ, zero, suc, ◌&&◌, Bool, true, false, if◌then◌else◌, List, [], ◌∷◌, ◌++◌, Option, Some, None}
 use Rattle.std.specs.Option.{option_map_or}
-use Rattle.ssr_syntax_kinds.specs.declared.kinds.SyntaxKind.{SyntaxKind}
-use Rattle.ssr_syntax_kinds.specs.declared.kinds.SyntaxKind.TheVariants as k
 use Rattle.ssr_syntax_kinds.specs.Kinds.{same_kind}
-use Rattle.ssr_syntax_tree.specs.Syntax.{Token, same_token, Forest, nothing, leaf, branch, token_count, node_count}
-use Rattle.ssr_syntax_tree.specs.Places.{Node, Part, token_part, node_part, parts_in, parts_of}
+use Rattle.ssr_syntax_tree.specs.Syntax.{same_token}
+use Rattle.ssr_syntax_tree.specs.Places.{Node, Part, token_part, node_part, parts_of, size_of}
 use Rattle.ssr_base.specs.declared.semantics.Res.{Res}
 use Rattle.ssr_base.specs.Meanings.{Meanings, same_res}
-use Rattle.ide_ssr_resolving.specs.Paths.{is_arguments}
 use Rattle.ide_ssr_resolving.specs.Placeholders.{placeholder_at}
 use Rattle.ide_ssr_resolving.specs.Resolved.{ResolvedKind, meets}
 use Rattle.ide_ssr_found.specs.declared.bindings.Binding.{Binding}
-use Rattle.ide_ssr_matching.specs.Matching.{bare, is_left_out, arguments_of, pattern_res, code_res}
+use Rattle.ide_ssr_found.specs.Found.{node_binding}
+use Rattle.ide_ssr_matching.specs.Children.{bare}
+use Rattle.ide_ssr_matching.specs.UsedPaths.{arguments_of, pattern_res, code_res}
+
+-- ** Parts against parts.
+
+-- what a node of a pattern binds in a node of the code, where that matches it
+abbrev pub Binder : Type 0
+Binder = Node → Node → Option (List Binding)
 
 -- both bindings, where there are both
 abbrev pub joined : Option (List Binding) → Option (List Binding) → Option (List Binding)
@@ -21,27 +26,25 @@ joined (Some bs) (Some rest) = Some (bs ++ rest)
 joined (Some bs) None = None
 joined None rest = None
 
--- a token of the pattern and the rest behind it, against bare children of the code
-abbrev pub token_then : Token → (List Part → Option (List Binding)) → List Part → Option (List Binding)
-token_then token behind [] = None
-token_then token behind (token_part u c ∷ cs) =
-    if same_token token c then behind cs else None
-token_then token behind (node_part c ∷ cs) = None
+-- a part of the pattern against one of the code
+abbrev pub pair_by : Binder → Part → Part → Option (List Binding)
+pair_by inner (token_part t token) (token_part u c) = if same_token token c then Some [] else None
+pair_by inner (token_part t token) (node_part c) = None
+pair_by inner (node_part p) (token_part u c) = None
+pair_by inner (node_part p) (node_part c) = inner p c
 
--- likewise a node of the pattern
-abbrev pub node_then : (Node → Option (List Binding)) → (List Part → Option (List Binding)) → List Part → Option (List Binding)
-node_then matched behind [] = None
-node_then matched behind (token_part u c ∷ cs) = None
-node_then matched behind (node_part c ∷ cs) = joined (matched c) (behind cs)
+-- parts against parts, one by one
+abbrev pub pairs_by : Binder → List Part → List Part → Option (List Binding)
+pairs_by inner [] [] = Some []
+pairs_by inner [] (c ∷ cs) = None
+pairs_by inner (p ∷ ps) [] = None
+pairs_by inner (p ∷ ps) (c ∷ cs) = joined (pair_by inner p c) (pairs_by inner ps cs)
 
--- nothing more of the pattern
-abbrev pub nothing_then : List Part → Option (List Binding)
-nothing_then [] = Some []
-nothing_then (c ∷ cs) = None
+-- ** Cases.
 
 -- a placeholder against a node, which has to meet its constraints
 abbrev pub placeholder_by : ResolvedKind → ℕ → Node → Option (List Binding)
-placeholder_by rule i c = if meets rule i c.kind then Some (record { placeholder = i; node = record { 0 = c.number } } ∷ []) else None
+placeholder_by rule i c = if meets rule i c.kind then Some (node_binding i c.number ∷ []) else None
 
 -- whether what is told of a node of the code is what a path of the pattern stands for, if that is used
 abbrev pub stands_for : Option Res → Option Res → Bool
@@ -53,61 +56,42 @@ abbrev pub counted : {A : Type 0} → Option Res → A → A → A
 counted (Some r) arguments children = arguments
 counted None arguments children = children
 
+-- the parts of two nodes that have to pair
+pub record Sides : Type 0 where
+  pub pattern : List Part
+  pub code : List Part
+
+abbrev pub sides_by : Binder → Sides → Option (List Binding)
+sides_by inner sides = pairs_by inner sides.pattern sides.code
+
+-- what counts of both nodes, where that of the pattern is a used path or none
+abbrev pub counted_sides : Option Res → Node → Node → Sides
+counted_sides used p c = record {
+  pattern = bare (counted used (arguments_of p) (parts_of p));
+  code = bare (counted used (arguments_of c) (parts_of c));
+}
+
 module _ (m : Meanings) (tree : ℕ) (rule : ResolvedKind) where
-  -- a node of the pattern that is the placeholder, or of the kind and with what counts of it, against a node
-  abbrev pub node_by : Option ℕ → Option Res → SyntaxKind → (List Part → Option (List Binding)) → (List Part → Option (List Binding)) → Node → Option (List Binding)
-  node_by (Some i) used kind arguments children c = placeholder_by rule i c
-  node_by None used kind arguments children c =
-      if same_kind kind c.kind && stands_for used (code_res m tree c)
-      then counted used arguments children (bare (counted used (arguments_of c) (parts_of c)))
+  -- a node of the pattern that is no placeholder against a node: none, where the node cannot match it
+  abbrev pub sides_of : Node → Node → Option Sides
+  sides_of p c =
+      if same_kind p.kind c.kind && stands_for (pattern_res rule p) (code_res m tree c) then Some (counted_sides (pattern_res rule p) p c)
       else None
 
-  -- a node of the pattern, with what it asks of arguments and of children, and the rest behind it
-  abbrev pub branch_by : Node → (List Part → Option (List Binding)) → (List Part → Option (List Binding)) → (List Part → Option (List Binding)) → List Part → Option (List Binding)
-  branch_by p arguments children behind cs =
-      node_then (node_by (placeholder_at rule.names p) (pattern_res rule p) p.kind arguments children) behind cs
+  -- a node of the pattern that is the placeholder, or whose parts have to pair, against a node
+  abbrev pub node_by : Binder → Option ℕ → Option Sides → Node → Option (List Binding)
+  node_by inner (Some i) sides c = placeholder_by rule i c
+  node_by inner None None c = None
+  node_by inner None (Some sides) c = sides_by inner sides
 
-  abbrev mutual
-    -- siblings of the pattern below `parent`, where the next node has the number n and the next token t
-    pub siblings_by : ℕ → ℕ → ℕ → Forest → List Part → Option (List Binding)
-    siblings_by parent n t nothing cs = nothing_then cs
-    siblings_by parent n t (leaf token next) cs =
-        if is_left_out token.kind (parts_in parent n (1 + t) next)
-        then siblings_by parent n (1 + t) next cs
-        else token_then token (siblings_by parent n (1 + t) next) cs
-    siblings_by parent n t (branch kind below next) cs =
-        branch_by (record { number = n; parent = parent; first = t; kind = kind; children = below })
-        (path_by n (1 + n) t below)
-        (siblings_by n (1 + n) t below)
-        (siblings_by parent (1 + n + node_count below) (t + token_count below) next)
-        cs
+  -- the same, where it is told for smaller nodes
+  abbrev pub step : Binder → Binder
+  step inner p c = node_by inner (placeholder_at rule.names p) (sides_of p c) c
 
-    -- the arguments of the first segment among siblings
-    pub path_by : ℕ → ℕ → ℕ → Forest → List Part → Option (List Binding)
-    path_by parent n t nothing cs = nothing_then cs
-    path_by parent n t (leaf token next) cs = path_by parent n (1 + t) next cs
-    path_by parent n t (branch kind below next) cs =
-        if same_kind kind k.PATH_SEGMENT
-        then arguments_by n (1 + n) t below cs
-        else path_by parent (1 + n + node_count below) (t + token_count below) next cs
-
-    -- siblings from the first arguments on
-    pub arguments_by : ℕ → ℕ → ℕ → Forest → List Part → Option (List Binding)
-    arguments_by parent n t nothing cs = nothing_then cs
-    arguments_by parent n t (leaf token next) cs = arguments_by parent n (1 + t) next cs
-    arguments_by parent n t (branch kind below next) cs =
-        if is_arguments kind
-        then branch_by (record { number = n; parent = parent; first = t; kind = kind; children = below })
-        (path_by n (1 + n) t below)
-        (siblings_by n (1 + n) t below)
-        (siblings_by parent (1 + n + node_count below) (t + token_count below) next)
-        cs
-        else arguments_by parent (1 + n + node_count below) (t + token_count below) next cs
+  abbrev pub bindings_by : ℕ → Binder
+  bindings_by zero p c = None
+  bindings_by (suc steps) p c = step (bindings_by steps) p c
 
   -- what the placeholders of the pattern's node p bind where c matches it
   unfoldable pub bindings_of : Node → Node → Option (List Binding)
-  bindings_of p c =
-      node_by (placeholder_at rule.names p) (pattern_res rule p) p.kind
-      (path_by p.number (1 + p.number) p.first p.children)
-      (siblings_by p.number (1 + p.number) p.first p.children)
-      c
+  bindings_of p c = bindings_by (size_of p) p c

@@ -3,7 +3,8 @@
 ghost use Rattle.std.specs.Prelude.{◌≡◌, ◌∷◌, ◌++◌, [], true, false, All, IfNone, None, map, option_to_list};
 ghost use Rattle.ssr_syntax_tree.specs.Places.{HasNode, HasElement, node_of, part_of, parts_of, elements_of};
 ghost use Rattle.ide_ssr_matching.specs.Bindings.{counted};
-ghost use Rattle.ide_ssr_matching.specs.Matching.{is_closing, bare, holds_arguments, from_arguments, arguments_of};
+ghost use Rattle.ide_ssr_matching.specs.Children.{is_closing, bare};
+ghost use Rattle.ide_ssr_matching.specs.UsedPaths.{holds_arguments, from_arguments, arguments_of};
 ghost use Rattle.ide_ssr_matching.specs.PatternIterator.{is_trivia_part};
 ghost use Rattle.ide_ssr_matching.specs.Private.Children.{has_kind, closes_part, solid, siblings_left, IsBelow, AreKept};
 
@@ -21,7 +22,7 @@ pub(crate) struct Siblings<'a> {
 }
 
 /// Whether a closing bracket is of this kind.
-#[tactic(auto, unfolding(crate::specs::Matching::is_closing))]
+#[tactic(auto, unfolding(crate::specs::Children::is_closing))]
 fn is_closing(kind: SyntaxKind) -> bool
     ensures { result ≡ is_closing kind }
 {

@@ -2,11 +2,11 @@
 //! it ensures is a law.
 ghost use Rattle.std.specs.Prelude.{◌≡◌, ℕ, List, Some, All, AllPairs};
 ghost use Rattle.ssr_syntax_tree.specs.Syntax.{Syntax};
-ghost use Rattle.ssr_syntax_tree.specs.Places.{Node, HasNode, node_of, root_of};
+ghost use Rattle.ssr_syntax_tree.specs.Places.{Node, HasNode, node_of};
 ghost use Rattle.ssr_base.specs.Meanings.{Meanings};
 ghost use Rattle.ide_ssr_resolving.specs.Resolved.{ResolvedKind};
 ghost use Rattle.ide_ssr_found.specs.declared.bindings.Binding.{Binding};
-ghost use Rattle.ide_ssr_found.specs.Apart.{IsHeldIn, ComesBefore};
+ghost use Rattle.ide_ssr_found.specs.Apart.{IsHeldIn, AreApart};
 ghost use Rattle.ide_ssr_matching.specs.Bindings.{bindings_of};
 ghost use Rattle.ide_ssr_matching.specs.Matching.{Matches};
 
@@ -17,9 +17,9 @@ pub fn matching()
     ensures complete { (m : Meanings) (tree : ℕ) (rule : ResolvedKind) (p c : Node) (bs : List Binding) → Matches m tree rule p c bs → bindings_of m tree rule p c ≡ Some bs }
 {}
 
-/// What the placeholders of a pattern hold where a node matches it is that node, or stands below it. In the
-/// text of a tree one comes behind another.
+/// What the placeholders of a pattern hold where a node of a tree matches it are tokens of that node. No two of them hold
+/// a common token: of two bindings one ends before the other begins, in the one order or in the other.
 pub fn holding()
-    ensures held { (m : Meanings) (tree : ℕ) (rule : ResolvedKind) (p c : Node) (bs : List Binding) → Matches m tree rule p c bs → All (IsHeldIn c) bs }
-    ensures apart { (m : Meanings) (tree : ℕ) (rule : ResolvedKind) (code : Syntax) (n : ℕ) (bs : List Binding) → HasNode code n → Matches m tree rule (root_of rule.pattern) (node_of code n) bs → AllPairs (ComesBefore code) bs }
+    ensures held { (code : Syntax) (m : Meanings) (tree : ℕ) (rule : ResolvedKind) (p : Node) (n : ℕ) (bs : List Binding) → HasNode code n → Matches m tree rule p (node_of code n) bs → All (IsHeldIn code (node_of code n)) bs }
+    ensures apart { (code : Syntax) (m : Meanings) (tree : ℕ) (rule : ResolvedKind) (p : Node) (n : ℕ) (bs : List Binding) → HasNode code n → Matches m tree rule p (node_of code n) bs → AllPairs (AreApart code) bs }
 {}

@@ -4,8 +4,8 @@ ghost use Rattle.std.specs.Prelude.{◌≡◌, IfOk, option_map};
 ghost use Rattle.ssr_syntax_tree.specs.Places.{HasNode, HasToken, HasElement, node_of, root_of, token_of, part_of};
 ghost use Rattle.ssr_syntax_tree.specs.Syntax.{same_token};
 ghost use Rattle.ssr_base.specs.Workspace.{node_id};
-ghost use Rattle.ide_ssr_matching.specs.Bindings.{placeholder_by, stands_for, bindings_of};
-ghost use Rattle.ide_ssr_matching.specs.Private.Matching.{pair_by, Answers};
+ghost use Rattle.ide_ssr_matching.specs.Bindings.{placeholder_by, stands_for, pair_by, counted_sides, sides_by, bindings_of};
+ghost use Rattle.ide_ssr_matching.specs.Private.Matching.{Answers};
 
 use crate::children::Siblings;
 use ide_ssr_found::Binding;
@@ -75,14 +75,34 @@ fn node_matches<S: Semantics>(
     if let Some(placeholder) = rule.placeholder(p) {
         return placeholder_matches(rule, code, placeholder, c, out);
     }
-    let pattern = rule.pattern();
-    if !pattern.kind(p).is(code.kind(c)) {
+    if !rule.pattern().kind(p).is(code.kind(c)) {
         return Ok(false);
     }
     let used = rule.pattern_res(p);
     if !stands_for(alloc, semantics, used, number, c)? {
         return Ok(false);
     }
+    children_match(alloc, semantics, rule, number, code, p, c, used, out)
+}
+
+/// The same for what counts of both nodes, one by one: of a used path the arguments of its last segment, else the children.
+#[cycle(matching)]
+fn children_match<S: Semantics>(
+    alloc: Global,
+    semantics: &S,
+    rule: &ResolvedRule,
+    number: u32,
+    code: &Tree,
+    p: NodeNo,
+    c: NodeNo,
+    used: Option<Res>,
+    out: &mut Vec<Binding>,
+) -> Result<bool, AllocError>
+    requires p_in { HasNode rule.now.pattern p.0 }
+    requires c_in { HasNode code.now c.0 }
+    ensures { IfOk result (λ answer. Answers (sides_by (bindings_of (S.meanings semantics.now) number rule.now) (counted_sides used (node_of rule.now.pattern p.0) (node_of code.now c.0))) out.old.items out.new.items answer) }
+{
+    let pattern = rule.pattern();
     let mut ps = Siblings::counted(pattern, p, used);
     let mut cs = Siblings::counted(code, c, used);
     while let Some(first) = ps.next_bare(pattern) {
@@ -110,7 +130,7 @@ fn pair_matches<S: Semantics>(
 ) -> Result<bool, AllocError>
     requires p_in { HasElement rule.now.pattern p }
     requires c_in { HasElement code.now c }
-    ensures { IfOk result (λ answer. Answers (pair_by (S.meanings semantics.now) number rule.now (part_of rule.now.pattern p) (part_of code.now c)) out.old.items out.new.items answer) }
+    ensures { IfOk result (λ answer. Answers (pair_by (bindings_of (S.meanings semantics.now) number rule.now) (part_of rule.now.pattern p) (part_of code.now c)) out.old.items out.new.items answer) }
 {
     match (p, c) {
         (Element::Node(p), Element::Node(c)) => {

@@ -1,6 +1,6 @@
 use Rattle.std.proofs.Common.{◌∙◌, ◌++◌, ap, map, option_to_list, sym}
 use Rattle.ssr_syntax_tree.specs.Places.{HasElement, part_of}
-use Rattle.ide_ssr_matching.specs.Matching.{bare}
+use Rattle.ide_ssr_matching.specs.Children.{bare}
 use Rattle.ide_ssr_matching.specs.Private.Children.{siblings_left}
 use Rattle.ide_ssr_matching.proofs.Bare.{comma-answer, first-answer, first-solid, kept-then, none-answer, tail_has}
 use Rattle.ide_ssr_matching.proofs.children.Siblings.next_bare.Goals as goal

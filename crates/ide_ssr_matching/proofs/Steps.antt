@@ -1,0 +1,106 @@
+-- The bindings of a match as one step: a node of the pattern asks only for smaller ones, and more steps than it has nodes
+-- change nothing.
+use Rattle.std.proofs.Common.{◌≡◌, ℕ, zero, suc, ◌+◌, ◌<◌, ◌≤◌, Bool, true, false, ◌&&◌, cond, List, [], ◌∷◌, All, Option, Some, None, refl, ◌∙◌, ap, subst, arith}
+use Rattle.std.proofs.lemmas.List.Elements.{All-nil, All-cons, All-head, All-tail, All-weaker}
+use Rattle.std.proofs.lemmas.Option.{none-some, same_Some}
+use Rattle.ssr_syntax_kinds.specs.declared.kinds.SyntaxKind.TheVariants as k
+use Rattle.ssr_syntax_kinds.specs.Kinds.{same_kind}
+use Rattle.ssr_syntax_tree.specs.Syntax.{Forest, nothing, leaf, branch, token_count, node_count}
+use Rattle.ssr_syntax_tree.specs.Places.{Node, Part, token_part, node_part, parts_in, parts_of, size_of}
+use Rattle.ssr_base.specs.declared.semantics.Res.{Res}
+use Rattle.ssr_base.specs.Meanings.{Meanings}
+use Rattle.ide_ssr_resolving.specs.Placeholders.{placeholder_at}
+use Rattle.ide_ssr_resolving.specs.Resolved.{ResolvedKind}
+use Rattle.ide_ssr_matching.specs.Children.{bare}
+use Rattle.ide_ssr_matching.specs.UsedPaths.{arguments_of, pattern_res, code_res}
+use Rattle.ide_ssr_matching.specs.Bindings.{Binder, joined, pair_by, pairs_by, stands_for, counted, Sides, counted_sides, sides_of, node_by, step, bindings_by, bindings_of}
+use Rattle.ide_ssr_matching.proofs.Counted.{bare_all, first_has, counted_all}
+
+-- ** Parts that are smaller.
+
+abbrev pub IsSmaller : ℕ → Part → Type 0
+IsSmaller size (token_part t token) = Unit {0}
+IsSmaller size (node_part node) = size_of node < size
+
+parts_smaller : (size parent m t : ℕ) (forest : Forest) → node_count forest < size → All (IsSmaller size) (parts_in parent m t forest)
+parts_smaller size parent m t nothing lt = All-nil (IsSmaller size)
+parts_smaller size parent m t (leaf token next) lt =
+    All-cons (IsSmaller size) (token_part t token) (parts_in parent m (1 + t) next) tt (parts_smaller size parent m (1 + t) next lt)
+parts_smaller size parent m t (branch kind below next) lt =
+    let node : Node = record { number = m; parent = parent; first = t; kind = kind; children = below } in
+    All-cons (IsSmaller size) (node_part node) (parts_in parent (1 + m + node_count below) (t + token_count below) next) (omega arith)
+    (parts_smaller size parent (1 + m + node_count below) (t + token_count below) next (omega arith))
+
+-- so is what counts of a node
+counted_smaller : (used : Option Res) (p : Node) → All (IsSmaller (size_of p)) (bare (counted used (arguments_of p) (parts_of p)))
+counted_smaller used p =
+    let children = parts_smaller (size_of p) p.number (1 + p.number) p.first p.children (omega arith) in
+    bare_all (IsSmaller (size_of p)) (counted used (arguments_of p) (parts_of p))
+    (counted_all (IsSmaller (size_of p)) used p children
+    (λ segment is.
+    let lt : size_of segment < size_of p = first_has (IsSmaller (size_of p)) k.PATH_SEGMENT (parts_of p) segment is children in
+    parts_smaller (size_of p) segment.number (1 + segment.number) segment.first segment.children (omega arith)))
+
+-- ** Parts against parts.
+
+module _ (f g : Binder) where
+  abbrev AreSame : Part → Type 0
+  AreSame (token_part t token) = Unit {0}
+  AreSame (node_part p) = (c : Node) → f p c ≡ g p c
+
+  pair_same : (p c : Part) → AreSame p → pair_by f p c ≡ pair_by g p c
+  pair_same (token_part t token) (token_part u c) same = refl
+  pair_same (token_part t token) (node_part c) same = refl
+  pair_same (node_part p) (token_part u c) same = refl
+  pair_same (node_part p) (node_part c) same = same c
+
+  pairs_same : (ps cs : List Part) → All AreSame ps → pairs_by f ps cs ≡ pairs_by g ps cs
+  pairs_same [] [] all = refl
+  pairs_same [] (c ∷ cs) all = refl
+  pairs_same (p ∷ ps) [] all = refl
+  pairs_same (p ∷ ps) (c ∷ cs) all =
+      ap (λ o. joined o (pairs_by f ps cs)) (pair_same p c (All-head AreSame p ps all))
+      ∙ ap (joined (pair_by g p c)) (pairs_same ps cs (All-tail AreSame p ps all))
+
+-- ** Steps.
+
+module _ (m : Meanings) (tree : ℕ) (rule : ResolvedKind) where
+  pub sides_smaller : (p c : Node) (sides : Sides) → sides_of m tree rule p c ≡ Some sides → All (IsSmaller (size_of p)) sides.pattern
+  sides_smaller p c sides is =
+      by_test (same_kind p.kind c.kind && stands_for (pattern_res rule p) (code_res m tree c)) is
+    where
+      by_test : (b : Bool) → ◌≡◌ {A = Option Sides} (cond b (Some (counted_sides (pattern_res rule p) p c)) None) (Some sides)
+          → All (IsSmaller (size_of p)) sides.pattern
+      by_test true is =
+          subst (λ (s : Sides). All (IsSmaller (size_of p)) s.pattern) (same_Some (counted_sides (pattern_res rule p) p c) sides is)
+          (counted_smaller (pattern_res rule p) p)
+      by_test false is = absurd (none-some sides is)
+
+  step_same : (f g : Binder) (p c : Node) → ((q : Node) → size_of q < size_of p → (d : Node) → f q d ≡ g q d)
+      → step m tree rule f p c ≡ step m tree rule g p c
+  step_same f g p c same = by (placeholder_at rule.names p) (sides_of m tree rule p c) (sides_smaller p c)
+    where
+      is_same : (part : Part) → IsSmaller (size_of p) part → AreSame f g part
+      is_same (token_part t token) lt = tt
+      is_same (node_part q) lt = same q lt
+
+      by : (o : Option ℕ) (s : Option Sides) → ((sides : Sides) → s ≡ Some sides → All (IsSmaller (size_of p)) sides.pattern)
+          → node_by m tree rule f o s c ≡ node_by m tree rule g o s c
+      by (Some i) s smaller = refl
+      by None None smaller = refl
+      by None (Some sides) smaller =
+          pairs_same f g sides.pattern sides.code
+          (All-weaker (IsSmaller (size_of p)) (AreSame f g) is_same sides.pattern (smaller sides refl))
+
+  more_steps : (n k : ℕ) (p c : Node) → size_of p ≤ n → size_of p ≤ k → bindings_by m tree rule n p c ≡ bindings_by m tree rule k p c
+  more_steps zero k p c low high = absurd (omega arith)
+  more_steps (suc n) zero p c low high = absurd (omega arith)
+  more_steps (suc n) (suc k) p c low high =
+      step_same (bindings_by m tree rule n) (bindings_by m tree rule k) p c (λ q lt d. more_steps n k q d (omega arith) (omega arith))
+
+  pub bindings_step : (p c : Node) → bindings_of m tree rule p c ≡ step m tree rule (bindings_of m tree rule) p c
+  unfolding bindings_of
+  bindings_step p c =
+      more_steps (size_of p) (suc (node_count p.children)) p c (omega arith) (omega arith)
+      ∙ step_same (bindings_by m tree rule (node_count p.children)) (bindings_of m tree rule) p c
+      (λ q lt d. more_steps (node_count p.children) (size_of q) q d (omega arith) (omega arith))
