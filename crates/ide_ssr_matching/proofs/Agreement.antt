@@ -1,25 +1,30 @@
 -- The relation and the function of matching agree.
 use Rattle.std.proofs.Common.{◌≡◌, ℕ, zero, suc, ◌<◌, ◌≤◌, Bool, true, false, ◌&&◌, cond, List, [], ◌∷◌, ◌++◌, All, Option, Some, None, refl, sym, ◌∙◌, ap, subst, arith}
+use Rattle.std.specs.Option.{is_some, option_map}
 use Rattle.std.specs.Str.{bytes_eq}
 use Rattle.std.proofs.lemmas.Bool.{and_from, and_parts}
 use Rattle.std.proofs.lemmas.List.Elements.{All-head, All-tail, All-weaker}
 use Rattle.std.proofs.lemmas.Option.{none-some, same_Some}
 use Rattle.std.proofs.lemmas.Slice.Eq.{bytes_eq-Decides}
 use Rattle.ssr_syntax_kinds.proofs.Shared.{same_kind-equal, equal-same_kind}
+use Rattle.ssr_syntax_kinds.specs.declared.kinds.SyntaxKind.TheVariants as k
 use Rattle.ssr_syntax_kinds.specs.Kinds.{same_kind}
 use Rattle.ssr_syntax_tree.specs.Syntax.{Token}
 use Rattle.ssr_syntax_tree.specs.Places.{Node, Part, token_part, node_part, parts_of, size_of}
 use Rattle.ssr_base.specs.declared.semantics.Res.{Res}
 use Rattle.ssr_base.specs.Meanings.{Meanings}
+use Rattle.ide_ssr_resolving.specs.declared.qualified_calls.QualifiedCall.{QualifiedCall}
 use Rattle.ide_ssr_resolving.specs.Placeholders.{placeholder_at}
 use Rattle.ide_ssr_resolving.specs.Resolved.{ResolvedKind, meets}
 use Rattle.ide_ssr_found.specs.declared.bindings.Binding.{Binding}
 use Rattle.ide_ssr_found.specs.Found.{node_binding}
 use Rattle.ide_ssr_matching.specs.Children.{bare}
 use Rattle.ide_ssr_matching.specs.UsedPaths.{arguments_of, pattern_res, code_res}
-use Rattle.ide_ssr_matching.specs.Matching.{Matches, bound, used, alike, Pairs, end, tokens, nodes}
-use Rattle.ide_ssr_matching.specs.Bindings.{joined, pairs_by, placeholder_by, stands_for, Sides, counted_sides, sides_of, sides_by, bindings_of}
-use Rattle.ide_ssr_matching.proofs.Pairs.{bindings-placeholder, placeholder-met, bindings-sides, sides-tested}
+use Rattle.ide_ssr_matching.specs.Matching.{Matches, bound, method, used, alike, Pairs, end, tokens, nodes}
+use Rattle.ide_ssr_matching.specs.Bindings.{joined, pairs_by, placeholder_by, counted_sides, can_match, like_sides, sides_in, sides_of, sides_by, bindings_of}
+use Rattle.ide_ssr_matching.specs.Calls.{call_of, meets_method, method_sides}
+use Rattle.ide_ssr_matching.specs.Sides.{Sides, kept}
+use Rattle.ide_ssr_matching.proofs.Pairs.{bindings-placeholder, placeholder-met, bindings-sides, like-tested}
 use Rattle.ide_ssr_matching.proofs.Same.{stands_for-told, told-stands_for}
 use Rattle.ide_ssr_matching.proofs.Steps.{IsSmaller, sides_smaller}
 
@@ -88,26 +93,53 @@ module _ (ms : Meanings) (tree : ℕ) (rule : ResolvedKind) where
           subst (Matches ms tree rule p c) (same_Some (node_binding i c.number ∷ []) bs binds) (bound p c i is met)
       by false unmet binds = absurd (none-some bs binds)
 
-  -- a node of the kind, which stands for the same thing if the pattern's is a used path
-  counted_match : (p c : Node) (bs : List Binding) (o : Option Res) → placeholder_at rule.names p ≡ None → p.kind ≡ c.kind
-      → pattern_res rule p ≡ o → stands_for o (code_res ms tree c) ≡ true
+  -- a node of the kind that can match
+  counted_match : (p c : Node) (bs : List Binding) (o : Option Res) → placeholder_at rule.names p ≡ None → meets_method rule p c ≡ false
+      → p.kind ≡ c.kind → pattern_res rule p ≡ o → can_match ms tree rule o p c ≡ true
       → Pairs ms tree rule (counted_sides o p c).pattern (counted_sides o p c).code bs
       → Matches ms tree rule p c bs
-  counted_match p c bs (Some r) none kinds is stands pairs =
-      used p c r bs none kinds is (stands_for-told r (code_res ms tree c) stands) pairs
-  counted_match p c bs None none kinds is stands pairs = alike p c bs none kinds is pairs
+  counted_match p c bs (Some r) none unmet kinds is can pairs =
+      used p c r bs none unmet kinds is (stands_for-told r (code_res ms tree c) can) pairs
+  counted_match p c bs None none unmet kinds is can pairs = alike p c bs none unmet kinds is can pairs
+
+  like_match : (p c : Node) (sides : Sides) (bs : List Binding) → placeholder_at rule.names p ≡ None → meets_method rule p c ≡ false
+      → like_sides ms tree rule p c ≡ Some sides → Pairs ms tree rule sides.pattern sides.code bs → Matches ms tree rule p c (kept sides.receiver bs)
+  like_match p c sides bs none unmet is pairs = by (same_kind p.kind c.kind && can_match ms tree rule (pattern_res rule p) p c) refl is
+    where
+      by : (b : Bool) → (same_kind p.kind c.kind && can_match ms tree rule (pattern_res rule p) p c) ≡ b
+          → ◌≡◌ {A = Option Sides} (cond b (Some (counted_sides (pattern_res rule p) p c)) None) (Some sides)
+          → Matches ms tree rule p c (kept sides.receiver bs)
+      by true can is =
+          let e = and_parts (same_kind p.kind c.kind) (can_match ms tree rule (pattern_res rule p) p c) can in
+          let same = same_Some (counted_sides (pattern_res rule p) p c) sides is in
+          subst (λ (s : Sides). Matches ms tree rule p c (kept s.receiver bs)) same
+          (counted_match p c bs (pattern_res rule p) none unmet (same_kind-equal p.kind c.kind e.0) refl e.1
+          (subst (λ (s : Sides). Pairs ms tree rule s.pattern s.code bs) (sym same) pairs))
+      by false can is = absurd (none-some sides is)
 
   sides_match : (p c : Node) (sides : Sides) (bs : List Binding) → placeholder_at rule.names p ≡ None → sides_of ms tree rule p c ≡ Some sides
-      → Pairs ms tree rule sides.pattern sides.code bs → Matches ms tree rule p c bs
-  sides_match p c sides bs none is pairs = by (same_kind p.kind c.kind && stands_for (pattern_res rule p) (code_res ms tree c)) refl is
+      → Pairs ms tree rule sides.pattern sides.code bs → Matches ms tree rule p c (kept sides.receiver bs)
+  sides_match p c sides bs none is pairs = by (call_of rule p) refl (same_kind c.kind k.METHOD_CALL_EXPR) refl is
     where
-      by : (b : Bool) → (same_kind p.kind c.kind && stands_for (pattern_res rule p) (code_res ms tree c)) ≡ b
-          → ◌≡◌ {A = Option Sides} (cond b (Some (counted_sides (pattern_res rule p) p c)) None) (Some sides) → Matches ms tree rule p c bs
-      by true can is =
-          let e = and_parts (same_kind p.kind c.kind) (stands_for (pattern_res rule p) (code_res ms tree c)) can in
-          counted_match p c bs (pattern_res rule p) none (same_kind-equal p.kind c.kind e.0) refl e.1
-          (subst (λ (s : Sides). Pairs ms tree rule s.pattern s.code bs) (sym (same_Some (counted_sides (pattern_res rule p) p c) sides is)) pairs)
-      by false can is = absurd (none-some sides is)
+      unmet : (o : Option QualifiedCall) (b : Bool) → call_of rule p ≡ o → same_kind c.kind k.METHOD_CALL_EXPR ≡ b → (is_some o && b) ≡ false
+          → meets_method rule p c ≡ false
+      unmet o b called is_method other =
+          ap (λ o. is_some o && same_kind c.kind k.METHOD_CALL_EXPR) called ∙ ap (λ b. is_some o && b) is_method ∙ other
+
+      by : (o : Option QualifiedCall) → call_of rule p ≡ o → (b : Bool) → same_kind c.kind k.METHOD_CALL_EXPR ≡ b
+          → sides_in ms tree rule o b p c ≡ Some sides → Matches ms tree rule p c (kept sides.receiver bs)
+      by (Some call) called true is_method is = method p c call sides bs none called (same_kind-equal c.kind k.METHOD_CALL_EXPR is_method) is pairs
+      by (Some call) called false is_method is = like_match p c sides bs none (unmet (Some call) false called is_method refl) is pairs
+      by None called b is_method is = like_match p c sides bs none (unmet None b called is_method refl) is pairs
+
+  -- what sides bind is kept
+  kept_match : (p c : Node) (sides : Sides) (bs : List Binding) → placeholder_at rule.names p ≡ None → sides_of ms tree rule p c ≡ Some sides
+      → PartsAgree sides.pattern → (o : Option (List Binding)) → pairs_by (bindings_of ms tree rule) sides.pattern sides.code ≡ o
+      → option_map (kept sides.receiver) o ≡ Some bs → Matches ms tree rule p c bs
+  kept_match p c sides bs none is agree None pairs binds = absurd (none-some bs binds)
+  kept_match p c sides bs none is agree (Some found) pairs binds =
+      subst (Matches ms tree rule p c) (same_Some (kept sides.receiver found) bs binds)
+      (sides_match p c sides found none is (agree sides.code found pairs))
 
   node_agrees : (p : Node) → ((q : Node) → size_of q < size_of p → NodeAgrees q) → NodeAgrees p
   node_agrees p below c bs h = by_placeholder (placeholder_at rule.names p) refl
@@ -119,10 +151,11 @@ module _ (ms : Meanings) (tree : ℕ) (rule : ResolvedKind) where
       by_sides : (o : Option Sides) → sides_of ms tree rule p c ≡ o → placeholder_at rule.names p ≡ None → Matches ms tree rule p c bs
       by_sides None is none = absurd (none-some bs (sym (bindings-sides ms tree rule p c None none is) ∙ h))
       by_sides (Some sides) is none =
-          sides_match p c sides bs none is
+          kept_match p c sides bs none is
           (parts_agree sides.pattern
-          (All-weaker (IsSmaller (size_of p)) PartAgrees agrees sides.pattern (sides_smaller ms tree rule p c sides is))
-          sides.code bs (sym (bindings-sides ms tree rule p c (Some sides) none is) ∙ h))
+          (All-weaker (IsSmaller (size_of p)) PartAgrees agrees sides.pattern (sides_smaller ms tree rule p c sides is)))
+          (pairs_by (bindings_of ms tree rule) sides.pattern sides.code) refl
+          (sym (bindings-sides ms tree rule p c (Some sides) none is) ∙ h)
 
       by_placeholder : (o : Option ℕ) → placeholder_at rule.names p ≡ o → Matches ms tree rule p c bs
       by_placeholder (Some i) is = placeholder_agrees p c i bs is (sym (bindings-placeholder ms tree rule p c i is) ∙ h)
@@ -145,23 +178,44 @@ module _ (ms : Meanings) (tree : ℕ) (rule : ResolvedKind) where
       (and_from (same_kind p.kind c.kind) (bytes_eq p.text c.text) (equal-same_kind p.kind c.kind kinds) ((bytes_eq-Decides p.text c.text).1 texts))
       ∙ ap (joined (Some [])) behind
 
-  counted_computed : (p c : Node) (o : Option Res) → placeholder_at rule.names p ≡ None → p.kind ≡ c.kind → pattern_res rule p ≡ o
-      → stands_for o (code_res ms tree c) ≡ true
+  sides-like : (p c : Node) → meets_method rule p c ≡ false → sides_of ms tree rule p c ≡ like_sides ms tree rule p c
+  sides-like p c unmet = by (call_of rule p) (same_kind c.kind k.METHOD_CALL_EXPR) unmet
+    where
+      by : (o : Option QualifiedCall) (b : Bool) → (is_some o && b) ≡ false → sides_in ms tree rule o b p c ≡ like_sides ms tree rule p c
+      by (Some call) true other = let e : true ≡ false = other in cc
+      by (Some call) false other = refl
+      by None b other = refl
+
+  counted_computed : (p c : Node) (o : Option Res) → placeholder_at rule.names p ≡ None → meets_method rule p c ≡ false → p.kind ≡ c.kind
+      → pattern_res rule p ≡ o → can_match ms tree rule o p c ≡ true
       → bindings_of ms tree rule p c ≡ sides_by (bindings_of ms tree rule) (counted_sides o p c)
-  counted_computed p c o none kinds is stands =
+  counted_computed p c o none unmet kinds is can =
       bindings-sides ms tree rule p c (Some (counted_sides o p c)) none
-      (sides-tested ms tree rule p c o true is
-      (and_from (same_kind p.kind c.kind) (stands_for o (code_res ms tree c)) (equal-same_kind p.kind c.kind kinds) stands))
+      (sides-like p c unmet
+      ∙ like-tested ms tree rule p c o true is
+      (and_from (same_kind p.kind c.kind) (can_match ms tree rule o p c) (equal-same_kind p.kind c.kind kinds) can))
+
+  method_computed : (p c : Node) (call : QualifiedCall) (sides : Sides) → placeholder_at rule.names p ≡ None → call_of rule p ≡ Some call
+      → c.kind ≡ k.METHOD_CALL_EXPR → method_sides ms tree rule call p c ≡ Some sides
+      → bindings_of ms tree rule p c ≡ sides_by (bindings_of ms tree rule) sides
+  method_computed p c call sides none called kind is =
+      bindings-sides ms tree rule p c (Some sides) none
+      (ap (λ o. sides_in ms tree rule o (same_kind c.kind k.METHOD_CALL_EXPR) p c) called
+      ∙ ap (λ b. sides_in ms tree rule (Some call) b p c) (equal-same_kind c.kind k.METHOD_CALL_EXPR kind)
+      ∙ is)
 
   mutual
     pub Matches-bindings_of : (p c : Node) (bs : List Binding) → Matches ms tree rule p c bs → bindings_of ms tree rule p c ≡ Some bs
     Matches-bindings_of _ _ _ (bound p c i is met) = bindings-placeholder ms tree rule p c i is ∙ placeholder-met rule i c met
-    Matches-bindings_of _ _ _ (used p c r bs none kinds is told arguments) =
-        counted_computed p c (Some r) none kinds is (told-stands_for r (code_res ms tree c) told)
-        ∙ Pairs-pairs_by (bare (arguments_of p)) (bare (arguments_of c)) bs arguments
-    Matches-bindings_of _ _ _ (alike p c bs none kinds is children) =
-        counted_computed p c None none kinds is refl
-        ∙ Pairs-pairs_by (bare (parts_of p)) (bare (parts_of c)) bs children
+    Matches-bindings_of _ _ _ (method p c call sides bs none called kind is pairs) =
+        method_computed p c call sides none called kind is
+        ∙ ap (option_map (kept sides.receiver)) (Pairs-pairs_by sides.pattern sides.code bs pairs)
+    Matches-bindings_of _ _ _ (used p c r bs none unmet kinds is told arguments) =
+        counted_computed p c (Some r) none unmet kinds is (told-stands_for r (code_res ms tree c) told)
+        ∙ ap (option_map (kept None)) (Pairs-pairs_by (bare (arguments_of p)) (bare (arguments_of c)) bs arguments)
+    Matches-bindings_of _ _ _ (alike p c bs none unmet kinds is can children) =
+        counted_computed p c None none unmet kinds is can
+        ∙ ap (option_map (kept None)) (Pairs-pairs_by (bare (parts_of p)) (bare (parts_of c)) bs children)
 
     Pairs-pairs_by : (ps cs : List Part) (bs : List Binding) → Pairs ms tree rule ps cs bs → pairs_by (bindings_of ms tree rule) ps cs ≡ Some bs
     Pairs-pairs_by _ _ _ end = refl

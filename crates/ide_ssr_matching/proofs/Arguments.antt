@@ -74,7 +74,7 @@ segment_arguments code n segment all left is has all_are left_are =
     ∙ ap (λ o. option_map_or (λ segment. from_arguments (parts_of segment)) o []) is
 
 -- what is below a segment is below its path
-below_path : (code : Syntax) (n s : ℕ) → HasNode code n → HasNode code s → IsAbove (node_of code n) s → (x : Element) → IsBelow code s x → IsBelow code n x
+pub below_path : (code : Syntax) (n s : ℕ) → HasNode code n → HasNode code s → IsAbove (node_of code n) s → (x : Element) → IsBelow code s x → IsBelow code n x
 below_path code n s has there above (element.Node m) below =
     let number_n = node_of-number code n has in
     let number_s = node_of-number code s there in

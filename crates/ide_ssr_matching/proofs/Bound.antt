@@ -1,12 +1,13 @@
 -- Which placeholders a match binds: those of its pattern, from the left.
-use Rattle.std.proofs.Common.{◌≡◌, ℕ, ◌+◌, ◌==◌, Bool, true, false, map, List, [], ◌∷◌, ◌++◌, All, Option, Some, None, refl, sym, ◌∙◌, ap, subst, append-nil, arith}
+use Rattle.std.proofs.Common.{◌≡◌, ℕ, ◌+◌, ◌==◌, Bool, true, false, map, List, [], ◌∷◌, ◌++◌, All, Option, Some, None, refl, sym, ◌∙◌, ap, subst, append_assoc, append-nil, arith}
 use Rattle.std.specs.Prelude.{if◌then◌else◌}
 use Rattle.std.specs.List.{find}
-use Rattle.std.specs.Option.{option_map, option_map_or}
+use Rattle.std.specs.Option.{option_and_then, option_map, option_map_or}
 use Rattle.std.proofs.lemmas.Bool.{eqb-true}
 use Rattle.std.proofs.lemmas.List.{map-append}
-use Rattle.std.proofs.lemmas.List.Elements.{All-head, All-tail}
+use Rattle.std.proofs.lemmas.List.Elements.{All-append, All-head, All-map, All-tail}
 use Rattle.std.proofs.lemmas.Option.{none-some}
+use Rattle.ssr_syntax_kinds.specs.declared.kinds.SyntaxKind.{SyntaxKind}
 use Rattle.ssr_syntax_kinds.specs.declared.kinds.SyntaxKind.TheVariants as k
 use Rattle.ssr_syntax_kinds.specs.Kinds.{same_kind}
 use Rattle.ssr_syntax_tree.specs.declared.number.NodeNo.{NodeNo}
@@ -18,15 +19,20 @@ use Rattle.ssr_base.specs.Meanings.{Meanings}
 use Rattle.ide_ssr_resolving.specs.declared.used.UsedPath.{UsedPath}
 use Rattle.ide_ssr_resolving.specs.Paths.{below_first, first_of_kind, is_arguments, from_arguments as forest_arguments, path_arguments}
 use Rattle.ide_ssr_resolving.specs.Patterns.{or_below, placeholders_in, placeholders_of, HasThemInArguments, AreInArguments}
-use Rattle.ide_ssr_resolving.specs.Placeholders.{placeholder_at}
+use Rattle.ide_ssr_rules.specs.StandIns.{name_at}
+use Rattle.ide_ssr_resolving.specs.Placeholders.{only_token, placeholder_at}
 use Rattle.ide_ssr_resolving.specs.Resolved.{ResolvedKind}
 use Rattle.ide_ssr_resolving.specs.Used.{is_at, res_at}
 use Rattle.ide_ssr_found.specs.declared.bindings.Binding.{Binding}
 use Rattle.ide_ssr_matching.specs.Children.{is_left_out, bare}
 use Rattle.ide_ssr_matching.specs.UsedPaths.{from_arguments, arguments_of, pattern_res}
-use Rattle.ide_ssr_matching.specs.Matching.{Matches, bound, used, alike, Pairs, end, tokens, nodes}
+use Rattle.ide_ssr_matching.specs.Matching.{Matches, bound, method, used, alike, Pairs, end, tokens, nodes}
 use Rattle.ide_ssr_matching.specs.Bindings.{counted}
-use Rattle.ide_ssr_matching.proofs.Counted.{bare_all, first_has, counted_all}
+use Rattle.ide_ssr_matching.specs.declared.receivers.Receiver.{Receiver}
+use Rattle.ide_ssr_matching.specs.Sides.{Sides, is_node, received, kept}
+use Rattle.ide_ssr_matching.specs.Calls.{nodes_among, child_nodes, Called}
+use Rattle.ide_ssr_matching.proofs.CallParts.{nodes_all, IsCalled, method_match, callee_used}
+use Rattle.ide_ssr_matching.proofs.Counted.{bare_all, first_has, counted_all, last_arguments_all}
 use Rattle.ide_ssr_matching.proofs.Spread.{IsPartOf, each_child}
 
 -- the placeholders of bindings
@@ -96,6 +102,44 @@ module _ (names : List (List ℕ)) where
   at_other : (p : Node) → placeholder_at names p ≡ None → placeholders_in names p.children ≡ at_node p
   at_other p none = ap (λ o. or_below o (placeholders_in names p.children)) (sym none)
 
+  -- ** Nodes.
+
+  among_append : (parts more : List Part) → among (parts ++ more) ≡ among parts ++ among more
+  among_append [] more = refl
+  among_append (token_part t token ∷ rest) more = among_append rest more
+  among_append (node_part p ∷ rest) more =
+      ap (λ is. at_node p ++ is) (among_append rest more) ∙ sym (append_assoc (at_node p) (among rest) (among more))
+
+  among_nodes : (parts : List Part) → among (map node_part (nodes_among parts)) ≡ among parts
+  among_nodes [] = refl
+  among_nodes (token_part t token ∷ rest) = among_nodes rest
+  among_nodes (node_part p ∷ rest) = ap (λ is. at_node p ++ is) (among_nodes rest)
+
+  -- those of the nodes below a node
+  among_child_nodes : (p : Node) → among (map node_part (child_nodes p)) ≡ placeholders_in names p.children
+  among_child_nodes p = among_nodes (parts_of p) ∙ among_children p.number (1 + p.number) p.first p.children
+
+  -- a placeholder that has a node below it is that node
+  below_single : (parent n t : ℕ) (forest : Forest) (i : ℕ) → (nodes_among (parts_in parent n t forest) ≡ [] → ⊥)
+      → option_and_then (name_at names) (only_token forest) ≡ Some i → i ∷ [] ≡ placeholders_in names forest
+  below_single parent n t nothing i some is = absurd (some refl)
+  below_single parent n t (leaf token nothing) i some is = absurd (some refl)
+  below_single parent n t (leaf token (leaf other next)) i some is = absurd (none-some i is)
+  below_single parent n t (leaf token (branch kind below next)) i some is = absurd (none-some i is)
+  below_single parent n t (branch kind below nothing) i some is = ap (λ o. or_below o (placeholders_in names below) ++ []) (sym is)
+  below_single parent n t (branch kind below (leaf token next)) i some is = absurd (none-some i is)
+  below_single parent n t (branch kind below (branch other inner next)) i some is = absurd (none-some i is)
+
+  -- so a node with a node below it has those below it
+  at_parent : (p : Node) → (child_nodes p ≡ [] → ⊥) → at_node p ≡ placeholders_in names p.children
+  unfolding placeholder_at
+  at_parent p some = by (option_and_then (name_at names) (only_token p.children)) refl
+    where
+      by : (o : Option ℕ) → option_and_then (name_at names) (only_token p.children) ≡ o
+          → or_below o (placeholders_in names p.children) ≡ placeholders_in names p.children
+      by None is = refl
+      by (Some i) is = below_single p.number (1 + p.number) p.first p.children i some is
+
 -- ** Used paths.
 
 -- what is true of the used paths is true of the one at a node
@@ -114,6 +158,21 @@ used_has P (path ∷ paths) node r is all =
 
 -- ** What is bound.
 
+kept_placeholders : (o : Option Receiver) (bs : List Binding) → placeholders_bound (kept o bs) ≡ placeholders_bound bs
+kept_placeholders None bs = refl
+kept_placeholders (Some r) [] = refl
+kept_placeholders (Some r) (b ∷ bs) =
+    ap (λ i. i ∷ placeholders_bound (map (received r) bs)) (by (is_node r.node.0 b.held)) ∙ ap (λ is. b.placeholder ∷ is) (kept_placeholders (Some r) bs)
+  where
+    by : (test : Bool) → (if test then record b { deref_count = r.deref_count; self_kind = r.self_kind } else b).placeholder ≡ b.placeholder
+    by true = refl
+    by false = refl
+
+some_first : (kind : SyntaxKind) (parts : List Part) (node : Node) → first_of_kind kind parts ≡ Some node → nodes_among parts ≡ [] → ⊥
+some_first kind [] node is none = none-some node is
+some_first kind (token_part t token ∷ rest) node is none = some_first kind rest node is none
+some_first kind (node_part own ∷ rest) node is none = cc
+
 counted_of : (s : Syntax) (o : Option Res) (node : Node) → IsOf s node → All (IsPartOf s) (bare (counted o (arguments_of node) (parts_of node)))
 counted_of s o node is =
     let children = each_child s node is in
@@ -128,16 +187,100 @@ module _ (m : Meanings) (tree : ℕ) (rule : ResolvedKind) (in_arguments : AreIn
       let found = used_has P rule.pattern_paths (record { 0 = p.number }) r res in_arguments in
       subst (λ (node : Node). HasThemInArguments rule.names node.children) (ap (node_of rule.pattern) found.2 ∙ is.1) found.1
 
+  -- ** Calls.
+
+  callee_is_of : (p : Node) (call : Called) → IsCalled p call → IsOf rule.pattern p → IsOf rule.pattern call.path
+  callee_is_of p call is_call is =
+      let callee =
+      All-head (IsOf rule.pattern) is_call.callee (is_call.list ∷ [])
+      (subst (All (IsOf rule.pattern)) is_call.nodes (nodes_all (IsPartOf rule.pattern) (parts_of p) (each_child rule.pattern p is)))
+      in
+      All-head (IsOf rule.pattern) call.path []
+      (subst (All (IsOf rule.pattern)) is_call.path
+      (nodes_all (IsPartOf rule.pattern) (parts_of is_call.callee) (each_child rule.pattern is_call.callee callee)))
+
+  list_is_of : (p : Node) (call : Called) → (is : IsCalled p call) → IsOf rule.pattern p → IsOf rule.pattern is.list
+  list_is_of p call is_call is =
+      All-head (IsOf rule.pattern) is_call.list []
+      (All-tail (IsOf rule.pattern) is_call.callee (is_call.list ∷ [])
+      (subst (All (IsOf rule.pattern)) is_call.nodes (nodes_all (IsPartOf rule.pattern) (parts_of p) (each_child rule.pattern p is))))
+
+  call_is_of : (p : Node) (call : Called) → IsCalled p call → IsOf rule.pattern p
+      → All (IsPartOf rule.pattern) (bare (arguments_of call.path) ++ map node_part call.arguments)
+  call_is_of p call is_call is =
+      let path = callee_is_of p call is_call is in
+      let list = list_is_of p call is_call is in
+      let children = each_child rule.pattern call.path path in
+      All-append (IsPartOf rule.pattern) (bare (arguments_of call.path)) (map node_part call.arguments)
+      (bare_all (IsPartOf rule.pattern) (arguments_of call.path)
+      (last_arguments_all (IsPartOf rule.pattern) call.path
+      (λ segment found.
+      each_child rule.pattern segment (first_has (IsPartOf rule.pattern) k.PATH_SEGMENT (parts_of call.path) segment found children))))
+      (All-map (IsPartOf rule.pattern) node_part call.arguments
+      (subst (All (IsOf rule.pattern)) is_call.arguments
+      (nodes_all (IsPartOf rule.pattern) (parts_of is_call.list) (each_child rule.pattern is_call.list list))))
+
+  -- the placeholders of a call stand in the arguments of its callee and in its own
+  call_among : (p : Node) (call : Called) → IsCalled p call → IsOf rule.pattern p → (pattern_res rule call.path ≡ None → ⊥)
+      → among rule.names (bare (arguments_of call.path) ++ map node_part call.arguments) ≡ placeholders_in rule.names p.children
+  call_among p call is_call is uses =
+      among_append rule.names (bare (arguments_of call.path)) (map node_part call.arguments)
+      ∙ ap (λ is. is ++ among rule.names (map node_part call.arguments)) (path_among (pattern_res rule call.path) refl)
+      ∙ ap (λ arguments. at_node rule.names is_call.callee ++ among rule.names (map node_part arguments)) (sym is_call.arguments)
+      ∙ ap (λ is. at_node rule.names is_call.callee ++ is) list_among
+      ∙ ap (λ nodes. among rule.names (map node_part nodes)) (sym is_call.nodes)
+      ∙ among_child_nodes rule.names p
+    where
+      path_some : child_nodes call.path ≡ [] → ⊥
+      path_some = some_first k.PATH_SEGMENT (parts_of call.path) is_call.segment is_call.has_segment
+
+      callee_some : child_nodes is_call.callee ≡ [] → ⊥
+      callee_some none = let e : call.path ∷ [] ≡ [] = sym is_call.path ∙ none in cc
+
+      list_some : child_nodes is_call.list ≡ [] → ⊥
+      list_some none = let e : is_call.first ∷ is_call.rest ≡ [] = sym is_call.some ∙ sym is_call.arguments ∙ none in cc
+
+      -- the callee is its path
+      callee_among : placeholders_in rule.names call.path.children ≡ at_node rule.names is_call.callee
+      callee_among =
+          sym (at_parent rule.names call.path path_some)
+          ∙ sym (append-nil (at_node rule.names call.path))
+          ∙ ap (λ nodes. among rule.names (map node_part nodes)) (sym is_call.path)
+          ∙ among_child_nodes rule.names is_call.callee
+          ∙ sym (at_parent rule.names is_call.callee callee_some)
+
+      path_among : (o : Option Res) → pattern_res rule call.path ≡ o → among rule.names (bare (arguments_of call.path)) ≡ at_node rule.names is_call.callee
+      path_among None none = absurd (uses none)
+      path_among (Some r) stands =
+          among_bare rule.names (arguments_of call.path)
+          ∙ among_segment rule.names call.path.number (1 + call.path.number) call.path.first call.path.children
+          ∙ sym (used_in_arguments call.path r (callee_is_of p call is_call is) stands)
+          ∙ callee_among
+
+      list_among : among rule.names (map node_part (child_nodes is_call.list)) ≡ among rule.names (node_part is_call.list ∷ [])
+      list_among =
+          among_child_nodes rule.names is_call.list
+          ∙ sym (at_parent rule.names is_call.list list_some)
+          ∙ sym (append-nil (at_node rule.names is_call.list))
+
   mutual
     matches_bind : (p c : Node) (bs : List Binding) → Matches m tree rule p c bs → IsOf rule.pattern p → placeholders_bound bs ≡ at_node rule.names p
     matches_bind _ _ _ (bound p c i at met) is = at_placeholder rule.names p i at
-    matches_bind _ _ _ (used p c r bs none kinds stands told arguments) is =
+    matches_bind _ _ _ (method p c call sides bs none called kind found pairs) is =
+        let it = method_match m tree rule call p c sides found in
+        kept_placeholders sides.receiver bs
+        ∙ pairs_bind sides.pattern sides.code bs pairs
+        (subst (λ (s : Sides). All (IsPartOf rule.pattern) s.pattern) it.same (call_is_of p it.called_nodes it.is_called is))
+        ∙ ap (λ (s : Sides). among rule.names s.pattern) (sym it.same)
+        ∙ call_among p it.called_nodes it.is_called is (callee_used m tree rule call p c sides it)
+        ∙ at_other rule.names p none
+    matches_bind _ _ _ (used p c r bs none unmet kinds stands told arguments) is =
         pairs_bind (bare (arguments_of p)) (bare (arguments_of c)) bs arguments (counted_of rule.pattern (Some r) p is)
         ∙ among_bare rule.names (arguments_of p)
         ∙ among_segment rule.names p.number (1 + p.number) p.first p.children
         ∙ sym (used_in_arguments p r is stands)
         ∙ at_other rule.names p none
-    matches_bind _ _ _ (alike p c bs none kinds unused children) is =
+    matches_bind _ _ _ (alike p c bs none unmet kinds unused can children) is =
         pairs_bind (bare (parts_of p)) (bare (parts_of c)) bs children (counted_of rule.pattern None p is)
         ∙ among_bare rule.names (parts_of p)
         ∙ among_children rule.names p.number (1 + p.number) p.first p.children

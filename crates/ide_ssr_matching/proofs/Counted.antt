@@ -48,6 +48,10 @@ module _ (P : Part → Type 0) where
   segment_all None below = All-nil P
   segment_all (Some segment) below = arguments_all (parts_of segment) (below segment refl)
 
+  pub last_arguments_all : (path : Node) → ((segment : Node) → first_of_kind k.PATH_SEGMENT (parts_of path) ≡ Some segment → All P (parts_of segment))
+      → All P (arguments_of path)
+  last_arguments_all path below = segment_all (first_of_kind k.PATH_SEGMENT (parts_of path)) below
+
   -- what is true of the children, and of those of the last segment, is of what counts
   pub counted_all : (used : Option Res) (node : Node) → All P (parts_of node)
       → ((segment : Node) → first_of_kind k.PATH_SEGMENT (parts_of node) ≡ Some segment → All P (parts_of segment))

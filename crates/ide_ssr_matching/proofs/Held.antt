@@ -1,6 +1,7 @@
 -- What a match binds are tokens of its node, and no two share one.
-use Rattle.std.proofs.Common.{ℕ, List, [], ◌∷◌, ◌++◌, All, AllPairs, Some, None, sym, ap, subst, arith}
-use Rattle.std.proofs.lemmas.List.Elements.{All-nil, All-cons, All-head, All-tail, All-append, All-weaker}
+use Rattle.std.proofs.Common.{◌≡◌, ℕ, Bool, true, false, List, [], ◌∷◌, ◌++◌, map, All, AllPairs, Option, Some, None, refl, sym, ap, subst, arith}
+use Rattle.std.specs.Prelude.{if◌then◌else◌}
+use Rattle.std.proofs.lemmas.List.Elements.{All-nil, All-cons, All-head, All-tail, All-append, All-map, All-weaker}
 use Rattle.std.proofs.lemmas.List.Kept.{AllPairs-cons}
 use Rattle.ssr_syntax_tree.specs.Syntax.{Syntax}
 use Rattle.ssr_syntax_tree.specs.Places.{HasNode, Node, Part, token_part, node_part, node_of, parts_of}
@@ -15,7 +16,10 @@ use Rattle.ide_ssr_found.specs.Found.{node_binding}
 use Rattle.ide_ssr_resolving.specs.Resolved.{ResolvedKind}
 use Rattle.ide_ssr_matching.specs.Children.{bare}
 use Rattle.ide_ssr_matching.specs.UsedPaths.{arguments_of}
-use Rattle.ide_ssr_matching.specs.Matching.{Matches, bound, used, alike, Pairs, end, tokens, nodes}
+use Rattle.ide_ssr_matching.specs.declared.receivers.Receiver.{Receiver}
+use Rattle.ide_ssr_matching.specs.Sides.{is_node, received, kept}
+use Rattle.ide_ssr_matching.specs.Matching.{Matches, bound, method, used, alike, Pairs, end, tokens, nodes}
+use Rattle.ide_ssr_matching.proofs.CallNodes.{method_sides_are}
 use Rattle.ide_ssr_matching.proofs.Spread.{RunsApart, narrower, wider, IsPartOf, IsAmongNode, PartsApart, counted_are}
 
 pairs_append : {X : Type 0} (R : X → X → Type 0) (xs ys : List X) → AllPairs R xs → AllPairs R ys → All (λ x. All (R x) ys) xs → AllPairs R (xs ++ ys)
@@ -24,7 +28,26 @@ pairs_append R (x ∷ xs) ys first second across =
     AllPairs-cons R x (xs ++ ys) (All-append (R x) xs ys (pairs_head R x xs first) (All-head (λ x. All (R x) ys) x xs across))
     (pairs_append R xs ys (pairs_tail R x xs first) second (All-tail (λ x. All (R x) ys) x xs across))
 
+received_is : (r : Receiver) (b : Binding) → (received r b).held ≡ b.held
+received_is r b = by (is_node r.node.0 b.held)
+  where
+    by : (test : Bool) → (if test then record b { deref_count = r.deref_count; self_kind = r.self_kind } else b).held ≡ b.held
+    by true = refl
+    by false = refl
+
 module _ (code : Syntax) where
+  received_apart : (r : Receiver) (bs : List Binding) → AllPairs (AreApart code) bs → AllPairs (AreApart code) (map (received r) bs)
+  received_apart r [] apart = pairs_none (AreApart code)
+  received_apart r (b ∷ bs) apart =
+      AllPairs-cons (AreApart code) (received r b) (map (received r) bs)
+      (All-map (AreApart code (received r b)) (received r) bs
+      (All-weaker (AreApart code b) (λ d. AreApart code (received r b) (received r d))
+      (λ d clear.
+      subst (λ h. RunsApart (tokens_held code h) (tokens_held code (received r d).held)) (sym (received_is r b))
+      (subst (λ h. RunsApart (tokens_held code b.held) (tokens_held code h)) (sym (received_is r d)) clear))
+      bs (pairs_head (AreApart code) b bs apart)))
+      (received_apart r bs (pairs_tail (AreApart code) b bs apart))
+
   -- what is held shares no token with a node
   abbrev IsBeside : Node → Binding → Type 0
   IsBeside x b = RunsApart (run_of x) (tokens_held code b.held)
@@ -76,15 +99,34 @@ module _ (code : Syntax) where
   in_parts : (c : Node) (parts : List Part) (bs : List Binding) → AreHeldIn c parts bs → AreHeld c bs
   in_parts c parts bs held = record { each = held.each; apart = held.apart }
 
+  -- how a receiver is taken doesn't change what is held
+  received_held : (c : Node) (r : Receiver) (b : Binding) → IsHeldIn code c b → IsHeldIn code c (received r b)
+  received_held c r b held = by (is_node r.node.0 b.held)
+    where
+      by : (test : Bool) → IsHeldIn code c (if test then record b { deref_count = r.deref_count; self_kind = r.self_kind } else b)
+      by true = record { has = held.has; among = held.among }
+      by false = held
+
+  kept_held : (c : Node) (o : Option Receiver) (bs : List Binding) → AreHeld c bs → AreHeld c (kept o bs)
+  kept_held c None bs held = held
+  kept_held c (Some r) bs held = record {
+    each = All-map (IsHeldIn code c) (received r) bs (All-weaker (IsHeldIn code c) (λ b. IsHeldIn code c (received r b)) (received_held c r) bs held.each);
+    apart = received_apart r bs held.apart;
+  }
+
   module _ (m : Meanings) (tree : ℕ) (rule : ResolvedKind) where
     mutual
       matches_held : (p c : Node) (bs : List Binding) → Matches m tree rule p c bs → IsOf code c → AreHeld c bs
       matches_held _ _ _ (bound p c i at met) is = itself c i is
-      matches_held _ _ _ (used p c r bs none kinds stands told arguments) is =
+      matches_held _ _ _ (method p c call sides bs none qualified is_method found pairs) is =
+          let are = method_sides_are code m tree rule call p c sides is found in
+          kept_held c sides.receiver bs
+          (in_parts c sides.code bs (pairs_held c sides.pattern sides.code bs pairs are.each are.among are.apart))
+      matches_held _ _ _ (used p c r bs none unmet kinds stands told arguments) is =
           let are = counted_are code (Some r) c is in
           in_parts c (bare (arguments_of c)) bs
           (pairs_held c (bare (arguments_of p)) (bare (arguments_of c)) bs arguments are.each are.among are.apart)
-      matches_held _ _ _ (alike p c bs none kinds unused children) is =
+      matches_held _ _ _ (alike p c bs none unmet kinds unused can children) is =
           let are = counted_are code None c is in
           in_parts c (bare (parts_of c)) bs
           (pairs_held c (bare (parts_of p)) (bare (parts_of c)) bs children are.each are.among are.apart)

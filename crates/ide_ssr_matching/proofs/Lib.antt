@@ -4,6 +4,9 @@ mod Bare
 mod Same
 mod Counted
 mod Arguments
+mod CallParts
+mod NodeLists
+mod CallNodes
 mod Steps
 mod Pairs
 mod Agreement

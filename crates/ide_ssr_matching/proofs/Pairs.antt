@@ -1,30 +1,41 @@
 -- What the code of the matcher answers, case by case, and pair by pair.
-use Rattle.std.proofs.Common.{◌≡◌, ℕ, ◌+◌, ◌<◌, Bool, true, false, ◌&&◌, cond, List, [], ◌∷◌, ◌++◌, All, Option, Some, None, refl, sym, ◌∙◌, ap, subst, arith, append_assoc, append-nil, ◌*◌, option_to_list, is_some, not, IfNone, IfOk, Result}
-use Rattle.std.specs.Prelude.{map}
+use Rattle.std.proofs.Common.{◌≡◌, ℕ, zero, suc, ◌+◌, ◌<◌, ◌≤◌, Bool, true, false, ◌&&◌, cond, List, [], ◌∷◌, ◌++◌, length, drop, get_or, All, Option, Some, None, refl, sym, ◌∙◌, ap, subst, arith, append_assoc, append-nil, ◌*◌, option_to_list, is_some, not, IfNone, IfOk, Result}
+use Rattle.std.specs.Prelude.{map, max}
+use Rattle.std.specs.Option.{option_and_then, option_map}
 use Rattle.std.specs.Str.{bytes_eq}
+use Rattle.std.proofs.lemmas.List.{get_or_default, length-map}
+use Rattle.std.proofs.Math.ListN.{drop_of_length-le}
+use Rattle.std.proofs.Math.Seq.{drop-cons}
 use Rattle.ssr_syntax_kinds.specs.declared.kinds.SyntaxKind.{SyntaxKind}
+use Rattle.ssr_syntax_kinds.specs.declared.kinds.SyntaxKind.TheVariants as k
 use Rattle.ssr_syntax_kinds.specs.Kinds.{same_kind}
 use Rattle.ssr_syntax_tree.specs.declared.number.NodeNo.{NodeNo}
 use Rattle.ssr_syntax_tree.specs.declared.number.TokenNo.{TokenNo}
 use Rattle.ssr_syntax_tree.specs.Syntax.{Syntax}
-use Rattle.ssr_syntax_tree.specs.Places.{HasNode, Node, parts_of, part_of, node_of, token_of, size_of, HasElement}
+use Rattle.ssr_syntax_tree.specs.Places.{HasNode, Node, Part, parts_of, part_of, node_of, token_of, size_of, HasElement}
 use Rattle.ssr_syntax_tree.specs.declared.number.Element.{Element}
 use Rattle.ssr_syntax_tree.specs.declared.number.Element.TheVariants as element
 use Rattle.ssr_syntax_tree.proofs.Shared.{node_of-number, smaller}
 use Rattle.ssr_base.specs.declared.semantics.Res.{Res}
 use Rattle.ssr_base.specs.Meanings.{Meanings}
 use Rattle.ssr_base.specs.Workspace.{node_id}
+use Rattle.ide_ssr_resolving.specs.declared.qualified_calls.QualifiedCall.{QualifiedCall}
 use Rattle.ide_ssr_resolving.specs.Placeholders.{placeholder_at}
+use Rattle.ide_ssr_resolving.specs.QualifiedCalls.{call_at}
 use Rattle.ide_ssr_resolving.specs.Resolved.{ResolvedKind, meets}
 use Rattle.ide_ssr_resolving.specs.Used.{res_at}
 use Rattle.ide_ssr_found.specs.declared.bindings.Binding.{Binding}
 use Rattle.ide_ssr_found.specs.Found.{node_binding}
-use Rattle.ide_ssr_matching.specs.Private.Children.{IsBelow, AreKept}
-use Rattle.ide_ssr_matching.proofs.Bare.{below-has, tail_has}
+use Rattle.ide_ssr_matching.specs.declared.calls.MethodSides.{MethodSides}
 use Rattle.ide_ssr_matching.specs.Children.{bare}
-use Rattle.ide_ssr_matching.specs.UsedPaths.{arguments_of, pattern_res, code_res}
-use Rattle.ide_ssr_matching.specs.Bindings.{Binder, joined, pair_by, pairs_by, placeholder_by, stands_for, counted, Sides, counted_sides, sides_by, sides_of, node_by, bindings_of}
+use Rattle.ide_ssr_matching.specs.UsedPaths.{arguments_of, pattern_res}
+use Rattle.ide_ssr_matching.specs.Sides.{Sides, received, kept}
+use Rattle.ide_ssr_matching.specs.Calls.{method_sides, can_be_call}
+use Rattle.ide_ssr_matching.specs.Bindings.{Binder, joined, pair_by, pairs_by, placeholder_by, stands_for, counted, counted_sides, counted_by, can_match, like_sides, sides_in, sides_by, sides_of, node_by, bindings_of}
+use Rattle.ide_ssr_matching.specs.Private.Calls.{sides_at}
+use Rattle.ide_ssr_matching.specs.Private.Children.{IsBelow, AreKept}
 use Rattle.ide_ssr_matching.specs.Private.Matching.{Answers, matched, other}
+use Rattle.ide_ssr_matching.proofs.Bare.{below-has, tail_has}
 use Rattle.ide_ssr_matching.proofs.Steps.{bindings_step}
 
 joined-some : (found bs : List Binding) (o : Option (List Binding)) → joined (Some found) (joined (Some bs) o) ≡ joined (Some (found ++ bs)) o
@@ -34,6 +45,10 @@ joined-some found bs (Some rest) = ap Some (sym (append_assoc found bs rest))
 joined-none : (o : Option (List Binding)) → joined (Some []) o ≡ o
 joined-none None = refl
 joined-none (Some bs) = refl
+
+pub and_false : (b : Bool) → (b && false) ≡ false
+and_false true = refl
+and_false false = refl
 
 none_else : (o : Option ℕ) → ((i : ℕ) → o ≡ Some i → ⊥) → o ≡ None
 none_else None h = refl
@@ -61,16 +76,27 @@ negated : (b c : Bool) → c ≡ not b → b ≡ not c
 negated true c is = ap not (sym is)
 negated false c is = ap not (sym is)
 
--- how far a recursion on a pattern still goes: at what counts of a node, at a node and at an element
+-- how far a recursion on a pattern still goes: at what counts of a node, at a node of a kind, at any node and at an element
 abbrev pub children_size : Syntax → ℕ → ℕ
-children_size code n = 3 * size_of (node_of code n)
+children_size code n = 4 * size_of (node_of code n)
+
+abbrev pub like_size : Syntax → ℕ → ℕ
+like_size code n = 1 + children_size code n
 
 abbrev pub node_size : Syntax → ℕ → ℕ
-node_size code n = 1 + children_size code n
+node_size code n = 1 + like_size code n
 
 abbrev pub element_size : Syntax → Element → ℕ
 element_size code (element.Node n) = 1 + node_size code n.0
 element_size code (element.Token t) = 0
+
+-- the largest of elements
+abbrev pub largest : Syntax → List Element → ℕ
+largest code [] = 0
+largest code (x ∷ xs) = max (element_size code x) (largest code xs)
+
+abbrev pub elements_size : Syntax → List Element → ℕ
+elements_size code xs = 1 + largest code xs
 
 smaller_below : (code : Syntax) (n : ℕ) (p : Element) → HasNode code n → IsBelow code n p → element_size code p < children_size code n
 smaller_below code n (element.Node m) has b = let lt = smaller code n m.0 has b.1 in omega arith
@@ -123,7 +149,7 @@ module _ (inner : Binder) where
 
   module _ (pattern code : Syntax) (n m : ℕ) (whole : Option (List Binding)) where
     pub paired-starts : (lent : Syntax) (used : Option Res) (ps cs : List Element) (old : List Binding) → lent ≡ pattern
-        → whole ≡ sides_by inner (counted_sides used (node_of pattern n) (node_of code m))
+        → whole ≡ counted_by inner used (node_of pattern n) (node_of code m)
         → map (part_of lent) ps ≡ counted used (arguments_of (node_of lent n)) (parts_of (node_of lent n)) → All (IsBelow lent n) ps
         → map (part_of code) cs ≡ counted used (arguments_of (node_of code m)) (parts_of (node_of code m)) → All (IsBelow code m) cs
         → PairedSoFar pattern code n m whole ps cs old old
@@ -226,6 +252,100 @@ module _ (inner : Binder) where
         ∙ ap (λ ps. joined (Some so_far.bound) (pairs_by inner ps (bare (map (part_of code) beside)))) none
         ∙ ap (λ cs. joined (Some so_far.bound) (pairs_by inner [] cs)) cs_come)
 
+-- ** Elements in two lists.
+
+pub at_place : (xs : List Element) (i : ℕ) (d : Element) → i < length xs → get_or xs i d ≡ get_or xs i (get_or xs i d)
+at_place xs i d less = get_or_default xs i d (get_or xs i d) less
+
+drop_at : (xs : List Element) (i : ℕ) (d : Element) → i < length xs → drop i xs ≡ get_or xs i d ∷ drop (i + 1) xs
+drop_at xs i d less = drop-cons xs i d less ∙ ap (λ n. get_or xs i d ∷ drop n xs) (let next : suc i ≡ i + 1 = omega arith in next)
+
+module _ (inner : Binder) (pattern code : Syntax) (ps cs : List Element) where
+  abbrev pub elements_by : Option (List Binding)
+  elements_by = pairs_by inner (map (part_of pattern) ps) (map (part_of code) cs)
+
+  -- the pairs in front of a place
+  pub record PairedUpTo (place : ℕ) (old out : List Binding) : Type 0 where
+    pub within : place ≤ length ps
+    pub bound : List Binding
+    pub comes_to : elements_by ≡ joined (Some bound) (pairs_by inner (map (part_of pattern) (drop place ps)) (map (part_of code) (drop place cs)))
+    pub out_is : out ≡ old ++ bound
+
+  pub up_to-starts : (old : List Binding) → PairedUpTo 0 old old
+  up_to-starts old = record { within = omega arith; bound = []; comes_to = sym (joined-none elements_by); out_is = sym (append-nil old) }
+
+  module _ (long : length ps ≡ length cs) (place : ℕ) (p c : Element) (less : place < length ps) (p_is : p ≡ get_or ps place p) (c_is : c ≡ get_or cs place c) where
+    next_place : (bound : List Binding)
+        → joined (Some bound) (pairs_by inner (map (part_of pattern) (drop place ps)) (map (part_of code) (drop place cs)))
+        ≡ joined (Some bound)
+        (joined (pair_by inner (part_of pattern p) (part_of code c))
+        (pairs_by inner (map (part_of pattern) (drop (place + 1) ps)) (map (part_of code) (drop (place + 1) cs))))
+    next_place bound =
+        let within : place < length cs = omega arith in
+        ap (λ ps. joined (Some bound) (pairs_by inner (map (part_of pattern) ps) (map (part_of code) (drop place cs))))
+        (drop_at ps place p less ∙ ap (λ x. x ∷ drop (place + 1) ps) (sym p_is))
+        ∙ ap (λ cs. joined (Some bound) (pairs_by inner (map (part_of pattern) (p ∷ drop (place + 1) ps)) (map (part_of code) cs)))
+        (drop_at cs place c within ∙ ap (λ x. x ∷ drop (place + 1) cs) (sym c_is))
+
+    pub up_to-turns : (old out new : List Binding) (b : Bool) → PairedUpTo place old out
+        → Answers (pair_by inner (part_of pattern p) (part_of code c)) out new b → b ≡ true → PairedUpTo (place + 1) old new
+    up_to-turns old out new b so_far (matched bs is found new_is) yes_matched = record {
+      within = omega arith;
+      bound = so_far.bound ++ bs;
+      comes_to =
+          let rest = pairs_by inner (map (part_of pattern) (drop (place + 1) ps)) (map (part_of code) (drop (place + 1) cs)) in
+          so_far.comes_to ∙ next_place so_far.bound ∙ ap (λ o. joined (Some so_far.bound) (joined o rest)) found ∙ joined-some so_far.bound bs rest;
+      out_is = new_is ∙ ap (λ out. out ++ bs) so_far.out_is ∙ append_assoc old so_far.bound bs;
+    }
+    up_to-turns old out new b so_far (other is none) yes_matched = let e : true ≡ false = sym yes_matched ∙ is in cc
+
+    pub up_to-differs : (old out new : List Binding) (b : Bool) → PairedUpTo place old out
+        → Answers (pair_by inner (part_of pattern p) (part_of code c)) out new b → b ≡ false → Answers elements_by old new false
+    up_to-differs old out new b so_far (matched bs is found new_is) not_matched = let e : true ≡ false = sym is ∙ not_matched in cc
+    up_to-differs old out new b so_far (other is none) not_matched =
+        let rest = pairs_by inner (map (part_of pattern) (drop (place + 1) ps)) (map (part_of code) (drop (place + 1) cs)) in
+        other refl (so_far.comes_to ∙ next_place so_far.bound ∙ ap (λ o. joined (Some so_far.bound) (joined o rest)) none)
+
+  pub up_to-ends : (place : ℕ) (old out : List Binding) → length ps ≡ length cs → PairedUpTo place old out → length ps ≤ place → Answers elements_by old out true
+  up_to-ends place old out long so_far past =
+      matched so_far.bound refl
+      (so_far.comes_to
+      ∙ ap (λ ps. joined (Some so_far.bound) (pairs_by inner (map (part_of pattern) ps) (map (part_of code) (drop place cs)))) (drop_of_length-le ps past)
+      ∙ ap (λ cs. joined (Some so_far.bound) (pairs_by inner [] (map (part_of code) cs))) (drop_of_length-le cs (let past : length cs ≤ place = omega arith in past))
+      ∙ ap Some (append-nil so_far.bound))
+      so_far.out_is
+
+-- lists that are not as long don't pair
+unequal : (inner : Binder) (ps cs : List Part) → (length ps ≡ length cs → ⊥) → pairs_by inner ps cs ≡ None
+unequal inner [] [] differ = absurd (differ refl)
+unequal inner [] (c ∷ cs) differ = refl
+unequal inner (p ∷ ps) [] differ = refl
+unequal inner (p ∷ ps) (c ∷ cs) differ =
+    ap (joined (pair_by inner p c)) (unequal inner ps cs (λ same. differ (ap suc same))) ∙ lacking (pair_by inner p c)
+  where
+    lacking : (o : Option (List Binding)) → joined o None ≡ None
+    lacking None = refl
+    lacking (Some bs) = refl
+
+pub unequal-elements : (inner : Binder) (pattern code : Syntax) (ps cs : List Element) (old : List Binding) → (length ps ≡ length cs → ⊥)
+    → Answers (pairs_by inner (map (part_of pattern) ps) (map (part_of code) cs)) old old false
+unequal-elements inner pattern code ps cs old differ =
+    other refl
+    (unequal inner (map (part_of pattern) ps) (map (part_of code) cs)
+    (λ same. differ (sym (length-map ps (part_of pattern)) ∙ same ∙ length-map cs (part_of code))))
+
+-- an element is no larger than the largest
+pub largest-at : (code : Syntax) (xs : List Element) (i : ℕ) (d : Element) → i < length xs → element_size code (get_or xs i d) ≤ largest code xs
+largest-at code [] i d less = absurd (omega arith)
+largest-at code (x ∷ xs) zero d less = omega arith
+largest-at code (x ∷ xs) (suc i) d less = omega (arith, largest-at code xs i d (omega arith))
+
+pub largest-below : (code : Syntax) (n : ℕ) (xs : List Element) → HasNode code n → All (IsBelow code n) xs → elements_size code xs < like_size code n
+largest-below code n [] has below = omega arith
+largest-below code n (x ∷ xs) has below =
+    let here = smaller_below code n x has (below 0 x (omega arith)) in
+    omega (arith, here, largest-below code n xs has (tail_has (IsBelow code n) x xs below))
+
 -- ** Whether a node matches.
 
 module _ (ms : Meanings) (tree : ℕ) (rule : ResolvedKind) where
@@ -236,36 +356,31 @@ module _ (ms : Meanings) (tree : ℕ) (rule : ResolvedKind) where
 
   -- no placeholder, by the parts that have to pair
   pub bindings-sides : (p c : Node) (o : Option Sides) → placeholder_at rule.names p ≡ None → sides_of ms tree rule p c ≡ o
-      → bindings_of ms tree rule p c ≡ node_by ms tree rule (bindings_of ms tree rule) None o c
+      → bindings_of ms tree rule p c ≡ option_and_then (sides_by (bindings_of ms tree rule)) o
   bindings-sides p c o none is =
       bindings_step ms tree rule p c
       ∙ ap (λ o. node_by ms tree rule (bindings_of ms tree rule) o (sides_of ms tree rule p c) c) none
-      ∙ ap (λ s. node_by ms tree rule (bindings_of ms tree rule) None s c) is
+      ∙ ap (option_and_then (sides_by (bindings_of ms tree rule))) is
 
-  pub sides-tested : (p c : Node) (used : Option Res) (b : Bool) → pattern_res rule p ≡ used
-      → (same_kind p.kind c.kind && stands_for used (code_res ms tree c)) ≡ b
-      → sides_of ms tree rule p c ≡ cond b (Some (counted_sides used p c)) None
-  sides-tested p c used b is can =
-      ap (λ used. cond (same_kind p.kind c.kind && stands_for used (code_res ms tree c)) (Some (counted_sides used p c)) None) is
+  pub like-tested : (p c : Node) (used : Option Res) (b : Bool) → pattern_res rule p ≡ used
+      → (same_kind p.kind c.kind && can_match ms tree rule used p c) ≡ b
+      → like_sides ms tree rule p c ≡ cond b (Some (counted_sides used p c)) None
+  like-tested p c used b is can =
+      ap (λ used. cond (same_kind p.kind c.kind && can_match ms tree rule used p c) (Some (counted_sides used p c)) None) is
       ∙ ap (λ b. cond b (Some (counted_sides used p c)) None) can
 
-  -- a node of the pattern that is no placeholder and what is known of it and of the node of the code, as the code asks for it:
-  -- it goes over the pattern that the rule lends
-  pub record AreAsked (lent pattern code : Syntax) (n : NodeNo) (m : ℕ) (placeholder : Option ℕ) (pk ck : SyntaxKind) (used : Option Res) : Type 0 where
+  -- ** A node that has to be of the kind.
+
+  -- what the code asks of both nodes: it goes over the pattern that the rule lends
+  pub record AreAsked (lent pattern code : Syntax) (n : NodeNo) (m : ℕ) (pk ck : SyntaxKind) (used : Option Res) : Type 0 where
     pub lent_is : lent ≡ pattern
     pub p_in : HasNode pattern n.0
-    pub c_in : HasNode code m
-    pub at : placeholder ≡ placeholder_at rule.names (node_of pattern n.0)
-    pub none : (i : ℕ) → placeholder ≡ Some i → ⊥
     pub pk_is : pk ≡ (node_of lent n.0).kind
     pub ck_is : ck ≡ (node_of code m).kind
     pub used_is : used ≡ res_at rule.pattern_paths n
 
-  module _ (lent pattern code : Syntax) (n : NodeNo) (m : ℕ) (placeholder : Option ℕ) (pk ck : SyntaxKind) (used : Option Res)
-      (asked : AreAsked lent pattern code n m placeholder pk ck used) where
-    no_placeholder : placeholder_at rule.names (node_of pattern n.0) ≡ None
-    no_placeholder = sym asked.at ∙ none_else placeholder asked.none
-
+  module _ (lent pattern code : Syntax) (n : NodeNo) (m : ℕ) (pk ck : SyntaxKind) (used : Option Res)
+      (asked : AreAsked lent pattern code n m pk ck used) where
     kinds_are : same_kind (node_of pattern n.0).kind (node_of code m).kind ≡ same_kind pk ck
     kinds_are =
         ap (λ s. same_kind (node_of s n.0).kind (node_of code m).kind) (sym asked.lent_is)
@@ -275,45 +390,122 @@ module _ (ms : Meanings) (tree : ℕ) (rule : ResolvedKind) where
     res_is : pattern_res rule (node_of pattern n.0) ≡ used
     res_is = ap (λ k. res_at rule.pattern_paths (record { 0 = k })) (node_of-number pattern n.0 asked.p_in) ∙ sym asked.used_is
 
-    told_is : code_res ms tree (node_of code m) ≡ ms.path (node_id tree m)
-    told_is = ap (λ k. ms.path (node_id tree k)) (node_of-number code m asked.c_in)
-
     pub other_kind-from : (old : List Binding) (b : Bool) → b ≡ same_kind pk ck → b ≡ false
-        → Answers (bindings_of ms tree rule (node_of pattern n.0) (node_of code m)) old old false
+        → Answers (option_and_then (sides_by (bindings_of ms tree rule)) (like_sides ms tree rule (node_of pattern n.0) (node_of code m))) old old false
     other_kind-from old b b_is differs =
-        let unlike = ap (λ b. b && stands_for used (code_res ms tree (node_of code m))) (kinds_are ∙ sym b_is ∙ differs) in
+        let unlike = ap (λ b. b && can_match ms tree rule used (node_of pattern n.0) (node_of code m)) (kinds_are ∙ sym b_is ∙ differs) in
         other refl
-        (bindings-sides (node_of pattern n.0) (node_of code m) None no_placeholder
-        (sides-tested (node_of pattern n.0) (node_of code m) used false res_is unlike))
+        (ap (option_and_then (sides_by (bindings_of ms tree rule)))
+        (like-tested (node_of pattern n.0) (node_of code m) used false res_is unlike))
 
-    -- of one kind, by whether they stand for the same thing
-    by_stands : (b d : Bool) → b ≡ same_kind pk ck → b ≡ true → d ≡ stands_for used (ms.path (node_id tree m))
-        → bindings_of ms tree rule (node_of pattern n.0) (node_of code m)
-        ≡ node_by ms tree rule (bindings_of ms tree rule) None (cond d (Some (counted_sides used (node_of pattern n.0) (node_of code m))) None) (node_of code m)
-    by_stands b d b_is same d_is =
-        bindings-sides (node_of pattern n.0) (node_of code m) (cond d (Some (counted_sides used (node_of pattern n.0) (node_of code m))) None) no_placeholder
-        (sides-tested (node_of pattern n.0) (node_of code m) used d res_is
-        (ap (λ b. b && stands_for used (code_res ms tree (node_of code m))) (kinds_are ∙ sym b_is ∙ same)
-        ∙ ap (stands_for used) told_is ∙ sym d_is))
+    -- of one kind, by whether they can match
+    by_can : (b d : Bool) → b ≡ same_kind pk ck → b ≡ true → d ≡ can_match ms tree rule used (node_of pattern n.0) (node_of code m)
+        → like_sides ms tree rule (node_of pattern n.0) (node_of code m)
+        ≡ cond d (Some (counted_sides used (node_of pattern n.0) (node_of code m))) None
+    by_can b d b_is same d_is =
+        like-tested (node_of pattern n.0) (node_of code m) used d res_is
+        (ap (λ b. b && can_match ms tree rule used (node_of pattern n.0) (node_of code m)) (kinds_are ∙ sym b_is ∙ same) ∙ sym d_is)
 
-    pub other_res-from : (old : List Binding) (b d : Bool) → b ≡ same_kind pk ck → b ≡ true → d ≡ stands_for used (ms.path (node_id tree m)) → d ≡ false
-        → Answers (bindings_of ms tree rule (node_of pattern n.0) (node_of code m)) old old false
-    other_res-from old b d b_is same d_is differs =
+    pub unmatched-from : (old : List Binding) (b d : Bool) → b ≡ same_kind pk ck → b ≡ true
+        → d ≡ can_match ms tree rule used (node_of pattern n.0) (node_of code m) → d ≡ false
+        → Answers (option_and_then (sides_by (bindings_of ms tree rule)) (like_sides ms tree rule (node_of pattern n.0) (node_of code m))) old old false
+    unmatched-from old b d b_is same d_is differs =
         other refl
-        (by_stands b d b_is same d_is
-        ∙ ap (λ d. node_by ms tree rule (bindings_of ms tree rule) None (cond d (Some (counted_sides used (node_of pattern n.0) (node_of code m))) None) (node_of code m)) differs)
+        (ap (option_and_then (sides_by (bindings_of ms tree rule)))
+        (by_can b d b_is same d_is
+        ∙ ap (λ d. cond d (Some (counted_sides used (node_of pattern n.0) (node_of code m))) None) differs))
+
+    all_kept : (o : Option (List Binding)) → option_map (kept None) o ≡ o
+    all_kept None = refl
+    all_kept (Some bs) = refl
 
     -- they match as what counts of them does
     pub children-from : {E : Type 0} (result : Result Bool E) (old new : List Binding) (b d : Bool) → b ≡ same_kind pk ck → b ≡ true
-        → d ≡ stands_for used (ms.path (node_id tree m)) → d ≡ true
-        → IfOk result (λ b. Answers (sides_by (bindings_of ms tree rule) (counted_sides used (node_of pattern n.0) (node_of code m))) old new b)
-        → IfOk result (λ b. Answers (bindings_of ms tree rule (node_of pattern n.0) (node_of code m)) old new b)
-    children-from result old new b d b_is same d_is stands answers =
+        → d ≡ can_match ms tree rule used (node_of pattern n.0) (node_of code m) → d ≡ true
+        → IfOk result (λ b. Answers (counted_by (bindings_of ms tree rule) used (node_of pattern n.0) (node_of code m)) old new b)
+        → IfOk result (λ b. Answers (option_and_then (sides_by (bindings_of ms tree rule)) (like_sides ms tree rule (node_of pattern n.0) (node_of code m))) old new b)
+    children-from result old new b d b_is same d_is can answers =
         subst (λ o. IfOk result (λ b. Answers o old new b))
         (sym
-        (by_stands b d b_is same d_is
-        ∙ ap (λ d. node_by ms tree rule (bindings_of ms tree rule) None (cond d (Some (counted_sides used (node_of pattern n.0) (node_of code m))) None) (node_of code m)) stands))
+        (ap (option_and_then (sides_by (bindings_of ms tree rule)))
+        (by_can b d b_is same d_is ∙ ap (λ d. cond d (Some (counted_sides used (node_of pattern n.0) (node_of code m))) None) can)
+        ∙ all_kept (counted_by (bindings_of ms tree rule) used (node_of pattern n.0) (node_of code m))))
         answers
+
+  -- ** Any node.
+
+  no_call : (p c : Node) (o : Option QualifiedCall) (b : Bool) → (is_some o && b) ≡ false → sides_in ms tree rule o b p c ≡ like_sides ms tree rule p c
+  no_call p c (Some call) true none = let e : true ≡ false = none in cc
+  no_call p c (Some call) false none = refl
+  no_call p c None b none = refl
+
+  -- what is asked of any node
+  module _ {E : Type 0} (result : Result Bool E) (pattern code : Syntax) (n : NodeNo) (m : ℕ) (old new : List Binding) (has : HasNode pattern n.0)
+      (placeholder : Option ℕ) (at : placeholder ≡ placeholder_at rule.names (node_of pattern n.0)) (none : (i : ℕ) → placeholder ≡ Some i → ⊥) where
+    by_call : (o : Option QualifiedCall) (is_method : Bool) → o ≡ call_at rule.qualified_calls n
+        → is_method ≡ same_kind (node_of code m).kind k.METHOD_CALL_EXPR
+        → IfOk result (λ b. Answers (option_and_then (sides_by (bindings_of ms tree rule)) (sides_in ms tree rule o is_method (node_of pattern n.0) (node_of code m))) old new b)
+        → IfOk result (λ b. Answers (bindings_of ms tree rule (node_of pattern n.0) (node_of code m)) old new b)
+    by_call o is_method o_is method_is answers =
+        let p = node_of pattern n.0 in
+        let c = node_of code m in
+        subst (λ whole. IfOk result (λ b. Answers whole old new b))
+        (sym
+        (bindings-sides p c (sides_in ms tree rule o is_method p c) (sym at ∙ none_else placeholder none)
+        (ap (λ number. sides_in ms tree rule (call_at rule.qualified_calls (record { 0 = number })) (same_kind c.kind k.METHOD_CALL_EXPR) p c)
+        (node_of-number pattern n.0 has)
+        ∙ ap (λ o. sides_in ms tree rule o (same_kind c.kind k.METHOD_CALL_EXPR) p c) (sym o_is)
+        ∙ ap (λ is_method. sides_in ms tree rule o is_method p c) (sym method_is))))
+        answers
+
+    -- no qualified call meets a method call
+    pub like-from : (o : Option QualifiedCall) (is_method : Bool) → o ≡ call_at rule.qualified_calls n
+        → is_method ≡ same_kind (node_of code m).kind k.METHOD_CALL_EXPR → (is_some o && is_method) ≡ false
+        → IfOk result (λ b. Answers (option_and_then (sides_by (bindings_of ms tree rule)) (like_sides ms tree rule (node_of pattern n.0) (node_of code m))) old new b)
+        → IfOk result (λ b. Answers (bindings_of ms tree rule (node_of pattern n.0) (node_of code m)) old new b)
+    like-from o is_method o_is method_is unmet answers =
+        by_call o is_method o_is method_is
+        (subst (λ s. IfOk result (λ b. Answers (option_and_then (sides_by (bindings_of ms tree rule)) s) old new b))
+        (sym (no_call (node_of pattern n.0) (node_of code m) o is_method unmet)) answers)
+
+    -- one does
+    pub method-from : (call : QualifiedCall) → Some call ≡ call_at rule.qualified_calls n → true ≡ same_kind (node_of code m).kind k.METHOD_CALL_EXPR
+        → IfOk result (λ b. Answers (option_and_then (sides_by (bindings_of ms tree rule)) (method_sides ms tree rule call (node_of pattern n.0) (node_of code m))) old new b)
+        → IfOk result (λ b. Answers (bindings_of ms tree rule (node_of pattern n.0) (node_of code m)) old new b)
+    method-from call is is_method answers = by_call (Some call) true is is_method answers
+
+  -- ** Whether a node of the kind can match.
+
+  pub can-used : (code : Syntax) (p : Node) (m : ℕ) (used : Option Res) (r : Res) (b : Bool) → HasNode code m → used ≡ Some r
+      → b ≡ stands_for r (ms.path (node_id tree m)) → b ≡ can_match ms tree rule used p (node_of code m)
+  can-used code p m used r b has used_is b_is =
+      b_is
+      ∙ ap (λ number. stands_for r (ms.path (node_id tree number))) (sym (node_of-number code m has))
+      ∙ ap (λ used. can_match ms tree rule used p (node_of code m)) (sym used_is)
+
+  pub can-call : (pattern : Syntax) (n : NodeNo) (c : Node) (used : Option Res) (o : Option QualifiedCall) (b : Bool) → HasNode pattern n.0 → used ≡ None
+      → o ≡ call_at rule.qualified_calls n → b ≡ can_be_call ms tree o c → b ≡ can_match ms tree rule used (node_of pattern n.0) c
+  can-call pattern n c used o b has used_is o_is b_is =
+      b_is
+      ∙ ap (λ o. can_be_call ms tree o c)
+      (o_is ∙ ap (λ number. call_at rule.qualified_calls (record { 0 = number })) (sym (node_of-number pattern n.0 has)))
+      ∙ ap (λ used. can_match ms tree rule used (node_of pattern n.0) c) (sym used_is)
+
+  -- ** A method call.
+
+  -- what is held is kept
+  pub kept-from : (pattern code : Syntax) (sides : MethodSides) (o : Option Sides) (old new held none : List Binding) (b : Bool) → none ≡ []
+      → Some (sides_at pattern code sides) ≡ o
+      → Answers (pairs_by (bindings_of ms tree rule) (map (part_of pattern) sides.pattern.items) (map (part_of code) sides.code.items)) none held b → b ≡ true
+      → new ≡ old ++ map (received sides.receiver) held
+      → Answers (option_and_then (sides_by (bindings_of ms tree rule)) o) old new true
+  kept-from pattern code sides o old new held none b is_none o_is (matched bs is found held_is) yes_matched new_is =
+      let same : held ≡ bs = held_is ∙ ap (λ none. none ++ bs) is_none in
+      matched (map (received sides.receiver) bs) refl
+      (ap (option_and_then (sides_by (bindings_of ms tree rule))) (sym o_is) ∙ ap (option_map (kept (Some sides.receiver))) found)
+      (new_is ∙ ap (λ held. old ++ map (received sides.receiver) held) same)
+  kept-from pattern code sides o old new held none b is_none o_is (other is lacks) yes_matched new_is =
+      let e : true ≡ false = sym yes_matched ∙ is in cc
 
   -- a placeholder, as it is answered alone
   pub placeholder-from : {E : Type 0} (result : Result Bool E) (pattern code : Syntax) (n m : ℕ) (old new : List Binding) (i : ℕ)

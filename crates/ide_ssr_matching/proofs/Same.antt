@@ -4,9 +4,9 @@ use Rattle.ssr_base.specs.declared.semantics.Res.{Res}
 use Rattle.ssr_base.proofs.Shared.{same_res-equal, same_res-itself}
 use Rattle.ide_ssr_matching.specs.Bindings.{stands_for}
 
-pub stands_for-told : (r : Res) (told : Option Res) → stands_for (Some r) told ≡ true → told ≡ Some r
+pub stands_for-told : (r : Res) (told : Option Res) → stands_for r told ≡ true → told ≡ Some r
 stands_for-told r None stands = cc
 stands_for-told r (Some other) stands = let same : r ≡ other = same_res-equal r other stands in cc
 
-pub told-stands_for : (r : Res) (told : Option Res) → told ≡ Some r → stands_for (Some r) told ≡ true
+pub told-stands_for : (r : Res) (told : Option Res) → told ≡ Some r → stands_for r told ≡ true
 told-stands_for r told is = rw is (same_res-itself r)

@@ -1,7 +1,8 @@
 -- The bindings of a match as one step: a node of the pattern asks only for smaller ones, and more steps than it has nodes
 -- change nothing.
-use Rattle.std.proofs.Common.{◌≡◌, ℕ, zero, suc, ◌+◌, ◌<◌, ◌≤◌, Bool, true, false, ◌&&◌, cond, List, [], ◌∷◌, All, Option, Some, None, refl, ◌∙◌, ap, subst, arith}
-use Rattle.std.proofs.lemmas.List.Elements.{All-nil, All-cons, All-head, All-tail, All-weaker}
+use Rattle.std.proofs.Common.{◌≡◌, ℕ, zero, suc, ◌+◌, ◌<◌, ◌≤◌, Bool, true, false, ◌&&◌, cond, List, [], ◌∷◌, ◌++◌, map, All, Option, Some, None, refl, ◌∙◌, ap, subst, arith}
+use Rattle.std.specs.Option.{option_map}
+use Rattle.std.proofs.lemmas.List.Elements.{All-nil, All-cons, All-head, All-tail, All-append, All-map, All-weaker}
 use Rattle.std.proofs.lemmas.Option.{none-some, same_Some}
 use Rattle.ssr_syntax_kinds.specs.declared.kinds.SyntaxKind.TheVariants as k
 use Rattle.ssr_syntax_kinds.specs.Kinds.{same_kind}
@@ -9,12 +10,16 @@ use Rattle.ssr_syntax_tree.specs.Syntax.{Forest, nothing, leaf, branch, token_co
 use Rattle.ssr_syntax_tree.specs.Places.{Node, Part, token_part, node_part, parts_in, parts_of, size_of}
 use Rattle.ssr_base.specs.declared.semantics.Res.{Res}
 use Rattle.ssr_base.specs.Meanings.{Meanings}
+use Rattle.ide_ssr_resolving.specs.declared.qualified_calls.QualifiedCall.{QualifiedCall}
 use Rattle.ide_ssr_resolving.specs.Placeholders.{placeholder_at}
 use Rattle.ide_ssr_resolving.specs.Resolved.{ResolvedKind}
 use Rattle.ide_ssr_matching.specs.Children.{bare}
-use Rattle.ide_ssr_matching.specs.UsedPaths.{arguments_of, pattern_res, code_res}
-use Rattle.ide_ssr_matching.specs.Bindings.{Binder, joined, pair_by, pairs_by, stands_for, counted, Sides, counted_sides, sides_of, node_by, step, bindings_by, bindings_of}
-use Rattle.ide_ssr_matching.proofs.Counted.{bare_all, first_has, counted_all}
+use Rattle.ide_ssr_matching.specs.UsedPaths.{arguments_of, pattern_res}
+use Rattle.ide_ssr_matching.specs.Sides.{Sides, kept}
+use Rattle.ide_ssr_matching.specs.Calls.{child_nodes, Called, call_of}
+use Rattle.ide_ssr_matching.specs.Bindings.{Binder, joined, pair_by, pairs_by, counted, counted_sides, can_match, like_sides, sides_in, sides_of, node_by, step, bindings_by, bindings_of}
+use Rattle.ide_ssr_matching.proofs.CallParts.{nodes_all, IsCalled, method_match}
+use Rattle.ide_ssr_matching.proofs.Counted.{bare_all, first_has, last_arguments_all}
 
 -- ** Parts that are smaller.
 
@@ -31,15 +36,41 @@ parts_smaller size parent m t (branch kind below next) lt =
     All-cons (IsSmaller size) (node_part node) (parts_in parent (1 + m + node_count below) (t + token_count below) next) (omega arith)
     (parts_smaller size parent (1 + m + node_count below) (t + token_count below) next (omega arith))
 
+children_smaller : (size : ℕ) (p : Node) → size_of p ≤ size → All (IsSmaller size) (parts_of p)
+children_smaller size p within = parts_smaller size p.number (1 + p.number) p.first p.children (omega arith)
+
+arguments_smaller : (size : ℕ) (path : Node) → size_of path ≤ size → All (IsSmaller size) (arguments_of path)
+arguments_smaller size path within =
+    last_arguments_all (IsSmaller size) path
+    (λ segment is.
+    let lt : size_of segment < size = first_has (IsSmaller size) k.PATH_SEGMENT (parts_of path) segment is (children_smaller size path within) in
+    children_smaller size segment (omega arith))
+
 -- so is what counts of a node
 counted_smaller : (used : Option Res) (p : Node) → All (IsSmaller (size_of p)) (bare (counted used (arguments_of p) (parts_of p)))
-counted_smaller used p =
-    let children = parts_smaller (size_of p) p.number (1 + p.number) p.first p.children (omega arith) in
-    bare_all (IsSmaller (size_of p)) (counted used (arguments_of p) (parts_of p))
-    (counted_all (IsSmaller (size_of p)) used p children
-    (λ segment is.
-    let lt : size_of segment < size_of p = first_has (IsSmaller (size_of p)) k.PATH_SEGMENT (parts_of p) segment is children in
-    parts_smaller (size_of p) segment.number (1 + segment.number) segment.first segment.children (omega arith)))
+counted_smaller (Some r) p = bare_all (IsSmaller (size_of p)) (arguments_of p) (arguments_smaller (size_of p) p (omega arith))
+counted_smaller None p = bare_all (IsSmaller (size_of p)) (parts_of p) (children_smaller (size_of p) p (omega arith))
+
+-- and what counts of a call
+nodes_smaller : (size : ℕ) (p : Node) → size_of p ≤ size → All (λ node. size_of node < size) (child_nodes p)
+nodes_smaller size p within = nodes_all (IsSmaller size) (parts_of p) (children_smaller size p within)
+
+call_smaller : (p : Node) (call : Called) → IsCalled p call → All (IsSmaller (size_of p)) (bare (arguments_of call.path) ++ map node_part call.arguments)
+call_smaller p call is =
+    let size = size_of p in
+    let two = subst (All (λ node. size_of node < size)) is.nodes (nodes_smaller size p (omega arith)) in
+    let callee_lt : size_of is.callee < size_of p = All-head (λ node. size_of node < size) is.callee (is.list ∷ []) two in
+    let list_lt : size_of is.list < size_of p =
+    All-head (λ node. size_of node < size) is.list [] (All-tail (λ node. size_of node < size) is.callee (is.list ∷ []) two)
+    in
+    let path_lt : size_of call.path < size_of is.callee =
+    All-head (λ node. size_of node < size_of is.callee) call.path []
+    (subst (All (λ node. size_of node < size_of is.callee)) is.path (nodes_smaller (size_of is.callee) is.callee (omega arith)))
+    in
+    All-append (IsSmaller size) (bare (arguments_of call.path)) (map node_part call.arguments)
+    (bare_all (IsSmaller size) (arguments_of call.path) (arguments_smaller size call.path (omega arith)))
+    (All-map (IsSmaller size) node_part call.arguments
+    (subst (All (λ node. size_of node < size)) is.arguments (nodes_smaller size is.list (omega arith))))
 
 -- ** Parts against parts.
 
@@ -65,9 +96,8 @@ module _ (f g : Binder) where
 -- ** Steps.
 
 module _ (m : Meanings) (tree : ℕ) (rule : ResolvedKind) where
-  pub sides_smaller : (p c : Node) (sides : Sides) → sides_of m tree rule p c ≡ Some sides → All (IsSmaller (size_of p)) sides.pattern
-  sides_smaller p c sides is =
-      by_test (same_kind p.kind c.kind && stands_for (pattern_res rule p) (code_res m tree c)) is
+  like_smaller : (p c : Node) (sides : Sides) → like_sides m tree rule p c ≡ Some sides → All (IsSmaller (size_of p)) sides.pattern
+  like_smaller p c sides is = by_test (same_kind p.kind c.kind && can_match m tree rule (pattern_res rule p) p c) is
     where
       by_test : (b : Bool) → ◌≡◌ {A = Option Sides} (cond b (Some (counted_sides (pattern_res rule p) p c)) None) (Some sides)
           → All (IsSmaller (size_of p)) sides.pattern
@@ -75,6 +105,16 @@ module _ (m : Meanings) (tree : ℕ) (rule : ResolvedKind) where
           subst (λ (s : Sides). All (IsSmaller (size_of p)) s.pattern) (same_Some (counted_sides (pattern_res rule p) p c) sides is)
           (counted_smaller (pattern_res rule p) p)
       by_test false is = absurd (none-some sides is)
+
+  pub sides_smaller : (p c : Node) (sides : Sides) → sides_of m tree rule p c ≡ Some sides → All (IsSmaller (size_of p)) sides.pattern
+  sides_smaller p c sides is = by (call_of rule p) (same_kind c.kind k.METHOD_CALL_EXPR) is
+    where
+      by : (o : Option QualifiedCall) (b : Bool) → sides_in m tree rule o b p c ≡ Some sides → All (IsSmaller (size_of p)) sides.pattern
+      by (Some call) true is =
+          let it = method_match m tree rule call p c sides is in
+          subst (λ (s : Sides). All (IsSmaller (size_of p)) s.pattern) it.same (call_smaller p it.called_nodes it.is_called)
+      by (Some call) false is = like_smaller p c sides is
+      by None b is = like_smaller p c sides is
 
   step_same : (f g : Binder) (p c : Node) → ((q : Node) → size_of q < size_of p → (d : Node) → f q d ≡ g q d)
       → step m tree rule f p c ≡ step m tree rule g p c
@@ -89,8 +129,9 @@ module _ (m : Meanings) (tree : ℕ) (rule : ResolvedKind) where
       by (Some i) s smaller = refl
       by None None smaller = refl
       by None (Some sides) smaller =
-          pairs_same f g sides.pattern sides.code
-          (All-weaker (IsSmaller (size_of p)) (AreSame f g) is_same sides.pattern (smaller sides refl))
+          ap (option_map (kept sides.receiver))
+          (pairs_same f g sides.pattern sides.code
+          (All-weaker (IsSmaller (size_of p)) (AreSame f g) is_same sides.pattern (smaller sides refl)))
 
   more_steps : (n k : ℕ) (p c : Node) → size_of p ≤ n → size_of p ≤ k → bindings_by m tree rule n p c ≡ bindings_by m tree rule k p c
   more_steps zero k p c low high = absurd (omega arith)

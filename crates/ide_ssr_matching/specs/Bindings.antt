@@ -1,17 +1,21 @@
 -- The bindings of a match, computed: those of the relation of `Matching`, as the law `laws::matching` says. A node of the
 -- pattern asks only for smaller ones, so that as many steps as it has nodes are enough.
 use Rattle.std.specs.Prelude.{ℕ, zero, suc, ◌&&◌, Bool, true, false, if◌then◌else◌, List, [], ◌∷◌, ◌++◌, Option, Some, None}
-use Rattle.std.specs.Option.{option_map_or}
+use Rattle.std.specs.Option.{option_and_then, option_map, option_map_or}
+use Rattle.ssr_syntax_kinds.specs.declared.kinds.SyntaxKind.TheVariants as k
 use Rattle.ssr_syntax_kinds.specs.Kinds.{same_kind}
 use Rattle.ssr_syntax_tree.specs.Syntax.{same_token}
 use Rattle.ssr_syntax_tree.specs.Places.{Node, Part, token_part, node_part, parts_of, size_of}
 use Rattle.ssr_base.specs.declared.semantics.Res.{Res}
 use Rattle.ssr_base.specs.Meanings.{Meanings, same_res}
+use Rattle.ide_ssr_resolving.specs.declared.qualified_calls.QualifiedCall.{QualifiedCall}
 use Rattle.ide_ssr_resolving.specs.Placeholders.{placeholder_at}
 use Rattle.ide_ssr_resolving.specs.Resolved.{ResolvedKind, meets}
 use Rattle.ide_ssr_found.specs.declared.bindings.Binding.{Binding}
 use Rattle.ide_ssr_found.specs.Found.{node_binding}
 use Rattle.ide_ssr_matching.specs.Children.{bare}
+use Rattle.ide_ssr_matching.specs.Sides.{Sides, kept}
+use Rattle.ide_ssr_matching.specs.Calls.{call_of, method_sides, can_be_call}
 use Rattle.ide_ssr_matching.specs.UsedPaths.{arguments_of, pattern_res, code_res}
 
 -- ** Parts against parts.
@@ -46,43 +50,53 @@ pairs_by inner (p ∷ ps) (c ∷ cs) = joined (pair_by inner p c) (pairs_by inne
 abbrev pub placeholder_by : ResolvedKind → ℕ → Node → Option (List Binding)
 placeholder_by rule i c = if meets rule i c.kind then Some (node_binding i c.number ∷ []) else None
 
--- whether what is told of a node of the code is what a path of the pattern stands for, if that is used
-abbrev pub stands_for : Option Res → Option Res → Bool
-stands_for (Some r) told = option_map_or (same_res r) told false
-stands_for None told = true
+-- whether what is told of a node of the code is what a used path stands for
+abbrev pub stands_for : Res → Option Res → Bool
+stands_for r told = option_map_or (same_res r) told false
 
 -- what counts of a used path, or else of a node
 abbrev pub counted : {A : Type 0} → Option Res → A → A → A
 counted (Some r) arguments children = arguments
 counted None arguments children = children
 
--- the parts of two nodes that have to pair
-pub record Sides : Type 0 where
-  pub pattern : List Part
-  pub code : List Part
-
-abbrev pub sides_by : Binder → Sides → Option (List Binding)
-sides_by inner sides = pairs_by inner sides.pattern sides.code
-
 -- what counts of both nodes, where that of the pattern is a used path or none
 abbrev pub counted_sides : Option Res → Node → Node → Sides
 counted_sides used p c = record {
   pattern = bare (counted used (arguments_of p) (parts_of p));
   code = bare (counted used (arguments_of c) (parts_of c));
+  receiver = None;
 }
 
+abbrev pub counted_by : Binder → Option Res → Node → Node → Option (List Binding)
+counted_by inner used p c = pairs_by inner (counted_sides used p c).pattern (counted_sides used p c).code
+
+abbrev pub sides_by : Binder → Sides → Option (List Binding)
+sides_by inner sides = option_map (kept sides.receiver) (pairs_by inner sides.pattern sides.code)
+
 module _ (m : Meanings) (tree : ℕ) (rule : ResolvedKind) where
+  -- whether a node of the kind of one of the pattern can match it: where that is a used path it has to stand for the same thing
+  abbrev pub can_match : Option Res → Node → Node → Bool
+  can_match (Some r) p c = stands_for r (code_res m tree c)
+  can_match None p c = can_be_call m tree (call_of rule p) c
+
+  abbrev pub like_sides : Node → Node → Option Sides
+  like_sides p c =
+      if same_kind p.kind c.kind && can_match (pattern_res rule p) p c then Some (counted_sides (pattern_res rule p) p c) else None
+
+  -- whether it is a method call against which a qualified call is
+  abbrev pub sides_in : Option QualifiedCall → Bool → Node → Node → Option Sides
+  sides_in (Some call) true p c = method_sides m tree rule call p c
+  sides_in (Some call) false p c = like_sides p c
+  sides_in None is_method p c = like_sides p c
+
   -- a node of the pattern that is no placeholder against a node: none, where the node cannot match it
   abbrev pub sides_of : Node → Node → Option Sides
-  sides_of p c =
-      if same_kind p.kind c.kind && stands_for (pattern_res rule p) (code_res m tree c) then Some (counted_sides (pattern_res rule p) p c)
-      else None
+  sides_of p c = sides_in (call_of rule p) (same_kind c.kind k.METHOD_CALL_EXPR) p c
 
   -- a node of the pattern that is the placeholder, or whose parts have to pair, against a node
   abbrev pub node_by : Binder → Option ℕ → Option Sides → Node → Option (List Binding)
   node_by inner (Some i) sides c = placeholder_by rule i c
-  node_by inner None None c = None
-  node_by inner None (Some sides) c = sides_by inner sides
+  node_by inner None sides c = option_and_then (sides_by inner) sides
 
   -- the same, where it is told for smaller nodes
   abbrev pub step : Binder → Binder

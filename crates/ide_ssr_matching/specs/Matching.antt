@@ -1,29 +1,37 @@
 -- When a node of code matches a pattern, and what its placeholders hold then.
-use Rattle.std.specs.Prelude.{ℕ, ◌≡◌, true, List, [], ◌∷◌, ◌++◌, Some, None}
+use Rattle.std.specs.Prelude.{ℕ, ◌≡◌, true, false, List, [], ◌∷◌, ◌++◌, Some, None}
+use Rattle.ssr_syntax_kinds.specs.declared.kinds.SyntaxKind.TheVariants as k
 use Rattle.ssr_syntax_tree.specs.Syntax.{Token}
 use Rattle.ssr_syntax_tree.specs.Places.{Node, Part, token_part, node_part, parts_of}
 use Rattle.ssr_base.specs.declared.semantics.Res.{Res}
 use Rattle.ssr_base.specs.Meanings.{Meanings}
+use Rattle.ide_ssr_resolving.specs.declared.qualified_calls.QualifiedCall.{QualifiedCall}
 use Rattle.ide_ssr_resolving.specs.Placeholders.{placeholder_at}
 use Rattle.ide_ssr_resolving.specs.Resolved.{ResolvedKind, meets}
 use Rattle.ide_ssr_found.specs.declared.bindings.Binding.{Binding}
 use Rattle.ide_ssr_found.specs.Found.{node_binding}
 use Rattle.ide_ssr_matching.specs.Children.{bare}
 use Rattle.ide_ssr_matching.specs.UsedPaths.{arguments_of, pattern_res, code_res}
+use Rattle.ide_ssr_matching.specs.Sides.{Sides, kept}
+use Rattle.ide_ssr_matching.specs.Calls.{call_of, meets_method, method_sides, can_be_call}
 
--- A placeholder of the pattern matches each node that meets its constraints, and binds it. A used path of the pattern
--- matches the paths that stand for the same thing and whose arguments pair with its own, one by one; what else they are
--- spelled with doesn't count. Any other node of the pattern matches the nodes of its kind whose bare children pair with its
--- own, one by one.
+-- A placeholder of the pattern matches each node that meets its constraints, and binds it. A qualified call matches the method
+-- calls of the same function on a receiver that can be its first argument. A used path matches the paths that stand for the
+-- same thing and whose arguments pair with its own, one by one; what else they are spelled with doesn't count. Any other node
+-- of the pattern matches the nodes of its kind whose bare children pair with its own, one by one; a qualified call only those
+-- calls whose first argument is of its qualifier's type.
 mutual
   pub data Matches (m : Meanings) (tree : ℕ) (rule : ResolvedKind) : Node → Node → List Binding → Type 0 where
     bound : (p c : Node) (i : ℕ) → placeholder_at rule.names p ≡ Some i → meets rule i c.kind ≡ true
         → Matches m tree rule p c (node_binding i c.number ∷ [])
-    used : (p c : Node) (r : Res) (bs : List Binding) → placeholder_at rule.names p ≡ None → p.kind ≡ c.kind
-        → pattern_res rule p ≡ Some r → code_res m tree c ≡ Some r
+    method : (p c : Node) (call : QualifiedCall) (sides : Sides) (bs : List Binding) → placeholder_at rule.names p ≡ None
+        → call_of rule p ≡ Some call → c.kind ≡ k.METHOD_CALL_EXPR → method_sides m tree rule call p c ≡ Some sides
+        → Pairs m tree rule sides.pattern sides.code bs → Matches m tree rule p c (kept sides.receiver bs)
+    used : (p c : Node) (r : Res) (bs : List Binding) → placeholder_at rule.names p ≡ None → meets_method rule p c ≡ false
+        → p.kind ≡ c.kind → pattern_res rule p ≡ Some r → code_res m tree c ≡ Some r
         → Pairs m tree rule (bare (arguments_of p)) (bare (arguments_of c)) bs → Matches m tree rule p c bs
-    alike : (p c : Node) (bs : List Binding) → placeholder_at rule.names p ≡ None → p.kind ≡ c.kind
-        → pattern_res rule p ≡ None
+    alike : (p c : Node) (bs : List Binding) → placeholder_at rule.names p ≡ None → meets_method rule p c ≡ false
+        → p.kind ≡ c.kind → pattern_res rule p ≡ None → can_be_call m tree (call_of rule p) c ≡ true
         → Pairs m tree rule (bare (parts_of p)) (bare (parts_of c)) bs → Matches m tree rule p c bs
 
   pub data Pairs (m : Meanings) (tree : ℕ) (rule : ResolvedKind) : List Part → List Part → List Binding → Type 0 where

@@ -1,10 +1,12 @@
 //! Matching: whether a node of code has the shape of a rule's pattern, and what the placeholders hold then.
 #![tactic(auto)]
 
+mod calls;
 mod children;
 pub mod laws;
 mod matching;
 mod pattern_iterator;
+mod receivers;
 
 pub use matching::match_node;
 pub use pattern_iterator::PatternIterator;

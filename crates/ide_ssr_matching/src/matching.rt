@@ -1,16 +1,22 @@
 //! Whether a node of the code matches a node of a pattern.
 
-ghost use Rattle.std.specs.Prelude.{◌≡◌, IfOk, option_map};
+ghost use Rattle.std.specs.Prelude.{◌≡◌, ◌++◌, All, IfOk, OnOk, map, option_map};
+ghost use Rattle.std.specs.Option.{option_and_then};
 ghost use Rattle.ssr_syntax_tree.specs.Places.{HasNode, HasToken, HasElement, node_of, root_of, token_of, part_of};
 ghost use Rattle.ssr_syntax_tree.specs.Syntax.{same_token};
 ghost use Rattle.ssr_base.specs.Workspace.{node_id};
-ghost use Rattle.ide_ssr_matching.specs.Bindings.{placeholder_by, stands_for, pair_by, counted_sides, sides_by, bindings_of};
+ghost use Rattle.ide_ssr_matching.specs.Bindings.{placeholder_by, stands_for, pair_by, pairs_by, counted_by, can_match, like_sides, sides_by, bindings_of};
+ghost use Rattle.ide_ssr_matching.specs.Calls.{method_sides};
+ghost use Rattle.ide_ssr_matching.specs.Sides.{received};
 ghost use Rattle.ide_ssr_matching.specs.Private.Matching.{Answers};
 
+use crate::calls::{can_be_call, method_sides};
 use crate::children::Siblings;
+use crate::receivers::Receiver;
 use ide_ssr_found::Binding;
-use ide_ssr_resolving::ResolvedRule;
+use ide_ssr_resolving::{QualifiedCall, ResolvedRule};
 use ssr_base::{NodeId, Res, Semantics};
+use ssr_syntax_kinds::SyntaxKind;
 use ssr_syntax_tree::{Element, NodeNo, TokenNo, Tree};
 use std::alloc::{AllocError, Global};
 
@@ -32,19 +38,16 @@ fn placeholder_matches(
     Ok(true)
 }
 
-/// Whether the node `c` of the tree with the number `number` stands for what a path of the pattern does, if that is used.
+/// Whether the node `c` of the tree with the number `number` stands for what a used path does.
 fn stands_for<S: Semantics>(
     alloc: Global,
     semantics: &S,
-    used: Option<Res>,
+    res: Res,
     number: u32,
     c: NodeNo,
 ) -> Result<bool, AllocError>
-    ensures { IfOk result (λ answer. answer ≡ stands_for used ((S.meanings semantics.now).path (node_id number c.0))) }
+    ensures { IfOk result (λ answer. answer ≡ stands_for res ((S.meanings semantics.now).path (node_id number c.0))) }
 {
-    let Some(res) = used else {
-        return Ok(true);
-    };
     let node = NodeId {
         tree: number,
         node: c,
@@ -53,6 +56,44 @@ fn stands_for<S: Semantics>(
         Some(told) => Ok(res == told),
         None => Ok(false),
     }
+}
+
+/// Whether the node `c`, which is of the kind of the node `p` of the pattern, can match it: where `p` is a used path, `c` has
+/// to stand for the same thing; where it is a qualified call, the first argument has to be of the qualifier's type.
+fn can_match<S: Semantics>(
+    alloc: Global,
+    semantics: &S,
+    rule: &ResolvedRule,
+    used: Option<Res>,
+    number: u32,
+    code: &Tree,
+    p: NodeNo,
+    c: NodeNo,
+) -> Result<bool, AllocError>
+    requires p_in { HasNode rule.now.pattern p.0 }
+    requires c_in { HasNode code.now c.0 }
+    ensures { IfOk result (λ answer. answer ≡ can_match (S.meanings semantics.now) number rule.now used (node_of rule.now.pattern p.0) (node_of code.now c.0)) }
+{
+    match used {
+        Some(res) => {
+            let stands = stands_for(alloc, semantics, res, number, c)?;
+            Ok(stands)
+        }
+        None => {
+            let can = can_be_call(alloc, semantics, rule.qualified_call(p), number, code, c)?;
+            Ok(can)
+        }
+    }
+}
+
+/// Adds what placeholders bind to `out`: one that holds the receiver keeps how it is taken.
+fn keep(receiver: Receiver, held: &[Binding], out: &mut Vec<Binding>) -> Result<(), AllocError>
+    ensures { OnOk result (out.new.items ≡ out.old.items ++ map (received receiver) held.now) }
+{
+    for binding in held {
+        out.push(receiver.received(*binding))?;
+    }
+    Ok(())
 }
 
 /// Whether the node `c` of the code, the tree with the number `number`, matches the node `p` of the rule's pattern; if so,
@@ -75,11 +116,104 @@ fn node_matches<S: Semantics>(
     if let Some(placeholder) = rule.placeholder(p) {
         return placeholder_matches(rule, code, placeholder, c, out);
     }
+    if !code.kind(c).is(SyntaxKind::METHOD_CALL_EXPR) {
+        return like_matches(alloc, semantics, rule, number, code, p, c, out);
+    }
+    match rule.qualified_call(p) {
+        Some(call) => method_matches(alloc, semantics, rule, call, number, code, p, c, out),
+        None => like_matches(alloc, semantics, rule, number, code, p, c, out),
+    }
+}
+
+/// The same for a node `p` that is a qualified call, and a method call `c`.
+#[cycle(matching)]
+fn method_matches<S: Semantics>(
+    alloc: Global,
+    semantics: &S,
+    rule: &ResolvedRule,
+    call: QualifiedCall,
+    number: u32,
+    code: &Tree,
+    p: NodeNo,
+    c: NodeNo,
+    out: &mut Vec<Binding>,
+) -> Result<bool, AllocError>
+    requires p_in { HasNode rule.now.pattern p.0 }
+    requires c_in { HasNode code.now c.0 }
+    ensures { IfOk result (λ answer. Answers (option_and_then (sides_by (bindings_of (S.meanings semantics.now) number rule.now)) (method_sides (S.meanings semantics.now) number rule.now call (node_of rule.now.pattern p.0) (node_of code.now c.0))) out.old.items out.new.items answer) }
+{
+    let Some(sides) = method_sides(alloc, semantics, rule, call, number, code, p, c)? else {
+        return Ok(false);
+    };
+    let mut held = Vec::new(alloc);
+    if !elements_match(
+        alloc,
+        semantics,
+        rule,
+        number,
+        code,
+        &sides.pattern,
+        &sides.code,
+        &mut held,
+    )? {
+        return Ok(false);
+    }
+    keep(sides.receiver, &held, out)?;
+    Ok(true)
+}
+
+/// The same for elements of the pattern and of the code, one by one.
+#[cycle(matching)]
+fn elements_match<S: Semantics>(
+    alloc: Global,
+    semantics: &S,
+    rule: &ResolvedRule,
+    number: u32,
+    code: &Tree,
+    ps: &[Element],
+    cs: &[Element],
+    out: &mut Vec<Binding>,
+) -> Result<bool, AllocError>
+    requires ps_in { All (HasElement rule.now.pattern) ps.now }
+    requires cs_in { All (HasElement code.now) cs.now }
+    ensures { IfOk result (λ answer. Answers (pairs_by (bindings_of (S.meanings semantics.now) number rule.now) (map (part_of rule.now.pattern) ps.now) (map (part_of code.now) cs.now)) out.old.items out.new.items answer) }
+{
+    if ps.len() != cs.len() {
+        return Ok(false);
+    }
+    let mut place = 0;
+    while place < ps.len() {
+        if !pair_matches(
+            alloc, semantics, rule, number, code, ps[place], cs[place], out,
+        )? {
+            return Ok(false);
+        }
+        place += 1;
+    }
+    Ok(true)
+}
+
+/// The same for a node `c` that has to be of the kind of the node `p`, which is no placeholder.
+#[cycle(matching)]
+fn like_matches<S: Semantics>(
+    alloc: Global,
+    semantics: &S,
+    rule: &ResolvedRule,
+    number: u32,
+    code: &Tree,
+    p: NodeNo,
+    c: NodeNo,
+    out: &mut Vec<Binding>,
+) -> Result<bool, AllocError>
+    requires p_in { HasNode rule.now.pattern p.0 }
+    requires c_in { HasNode code.now c.0 }
+    ensures { IfOk result (λ answer. Answers (option_and_then (sides_by (bindings_of (S.meanings semantics.now) number rule.now)) (like_sides (S.meanings semantics.now) number rule.now (node_of rule.now.pattern p.0) (node_of code.now c.0))) out.old.items out.new.items answer) }
+{
     if !rule.pattern().kind(p).is(code.kind(c)) {
         return Ok(false);
     }
     let used = rule.pattern_res(p);
-    if !stands_for(alloc, semantics, used, number, c)? {
+    if !can_match(alloc, semantics, rule, used, number, code, p, c)? {
         return Ok(false);
     }
     children_match(alloc, semantics, rule, number, code, p, c, used, out)
@@ -100,7 +234,7 @@ fn children_match<S: Semantics>(
 ) -> Result<bool, AllocError>
     requires p_in { HasNode rule.now.pattern p.0 }
     requires c_in { HasNode code.now c.0 }
-    ensures { IfOk result (λ answer. Answers (sides_by (bindings_of (S.meanings semantics.now) number rule.now) (counted_sides used (node_of rule.now.pattern p.0) (node_of code.now c.0))) out.old.items out.new.items answer) }
+    ensures { IfOk result (λ answer. Answers (counted_by (bindings_of (S.meanings semantics.now) number rule.now) used (node_of rule.now.pattern p.0) (node_of code.now c.0)) out.old.items out.new.items answer) }
 {
     let pattern = rule.pattern();
     let mut ps = Siblings::counted(pattern, p, used);

@@ -1,7 +1,16 @@
-use Rattle.std.proofs.Common.{refl, rules, arith, ◌<◌}
+use Rattle.std.proofs.Common.{refl, sym, ap, subst, ◌∙◌, rules, arith, ◌<◌, ◌≤◌, length, get_or, true, false, All, None, is_some}
+use Rattle.std.specs.Option.{IfSome, option_map}
+use Rattle.ssr_syntax_kinds.specs.declared.kinds.SyntaxKind.TheVariants as k
+use Rattle.ssr_syntax_kinds.specs.Kinds.{same_kind}
+use Rattle.ssr_syntax_tree.specs.declared.number.Element.{Element}
+use Rattle.ssr_syntax_tree.specs.declared.number.Element.TheVariants as element
 use Rattle.ssr_syntax_tree.specs.Places.{HasElement}
+use Rattle.ide_ssr_resolving.specs.QualifiedCalls.{call_at}
 use Rattle.ide_ssr_resolving.specs.Used.{res_at}
-use Rattle.ide_ssr_matching.proofs.Pairs.{placeholder-from, other_kind-from, other_res-from, children-from, paired-starts, paired-turns, paired-differs, paired-short, paired-ends, lent_next, lent_none, none_left, tokens-answer, element-smaller, first-below, element_size, children_size}
+use Rattle.ide_ssr_matching.specs.Private.Calls.{sides_at, AreSidesBelow}
+use Rattle.ide_ssr_matching.specs.Private.Children.{IsBelow}
+use Rattle.ide_ssr_matching.proofs.Bare.{below_has}
+use Rattle.ide_ssr_matching.proofs.Pairs.{placeholder-from, like-from, method-from, and_false, other_kind-from, unmatched-from, children-from, kept-from, paired-starts, paired-turns, paired-differs, paired-short, paired-ends, up_to-turns, up_to-differs, up_to-ends, unequal-elements, at_place, lent_next, lent_none, none_left, tokens-answer, element-smaller, first-below, largest, largest-at, largest-below, element_size, elements_size, like_size, children_size}
 use Rattle.ide_ssr_matching.proofs.matching.+matching.Goals as goal
 
 pub node_matches-returns-in-Some : goal.node_matches-returns-in-Some
@@ -11,48 +20,44 @@ node_matches-returns-in-Some g t c =
 
 pub node_matches-returns-then-not-is : goal.node_matches-returns-then-not-is
 node_matches-returns-then-not-is g t c =
-    other_kind-from (g.S.Semantics.meanings c.args.semantics.now) c.args.number c.args.rule.now _ c.args.rule.now.pattern c.args.code.now c.args.p c.args.c.0 _ _ _ (res_at c.args.rule.now.pattern_paths c.args.p)
-    (record {
-      lent_is = c.pattern.ensures;
-      p_in = c.requires.p_in;
-      c_in = c.requires.c_in;
-      at = c.placeholder.ensures;
-      none = c.in_default.not-Some;
-      pk_is = c.kind.ensures;
-      ck_is = c.kind-2.ensures;
-      used_is = refl;
-    })
+    like-from (g.S.Semantics.meanings c.args.semantics.now) c.args.number c.args.rule.now c.like_matches.result c.args.rule.now.pattern c.args.code.now c.args.p c.args.c.0 c.args.out.now.items c.like_matches.new.out.items
+    c.requires.p_in _ c.placeholder.ensures c.in_default.not-Some (call_at c.args.rule.now.qualified_calls c.args.p) false refl
+    (sym c.if-not-is.true ∙ c.is.ensures.same ∙ ap (λ own. same_kind own k.METHOD_CALL_EXPR) c.kind.ensures)
+    (and_false (is_some (call_at c.args.rule.now.qualified_calls c.args.p))) c.like_matches.ensures
+
+pub node_matches-returns-in-Some-qualified_call : goal.node_matches-returns-in-Some-qualified_call
+node_matches-returns-in-Some-qualified_call g t c =
+    method-from (g.S.Semantics.meanings c.args.semantics.now) c.args.number c.args.rule.now c.method_matches.result c.args.rule.now.pattern c.args.code.now c.args.p c.args.c.0 c.args.out.now.items c.method_matches.new.out.items
+    c.requires.p_in _ c.placeholder.ensures c.in_default.not-Some c.in-Some-qualified_call.call
+    (sym c.in-Some-qualified_call.is ∙ c.qualified_call.ensures)
+    (sym c.if-not-is.false ∙ c.is.ensures.same ∙ ap (λ own. same_kind own k.METHOD_CALL_EXPR) c.kind.ensures)
+    c.method_matches.ensures
+
+pub node_matches-returns-in-None : goal.node_matches-returns-in-None
+node_matches-returns-in-None g t c =
+    like-from (g.S.Semantics.meanings c.args.semantics.now) c.args.number c.args.rule.now c.like_matches-in-None.result c.args.rule.now.pattern c.args.code.now c.args.p c.args.c.0 c.args.out.now.items c.like_matches-in-None.new.out.items
+    c.requires.p_in _ c.placeholder.ensures c.in_default.not-Some None true
+    (sym c.in-None.is ∙ c.qualified_call.ensures)
+    (sym c.if-not-is.false ∙ c.is.ensures.same ∙ ap (λ own. same_kind own k.METHOD_CALL_EXPR) c.kind.ensures)
+    refl c.like_matches-in-None.ensures
+
+pub like_matches-returns-then-not-is : goal.like_matches-returns-then-not-is
+like_matches-returns-then-not-is g t c =
+    other_kind-from (g.S.Semantics.meanings c.args.semantics.now) c.args.number c.args.rule.now _ c.args.rule.now.pattern c.args.code.now c.args.p c.args.c.0 _ _ (res_at c.args.rule.now.pattern_paths c.args.p)
+    (record { lent_is = c.pattern.ensures; p_in = c.requires.p_in; pk_is = c.kind.ensures; ck_is = c.kind-2.ensures; used_is = refl })
     _ _ c.is.ensures.same c.if-not-is.true
 
-pub node_matches-returns-then-not-branch : goal.node_matches-returns-then-not-branch
-node_matches-returns-then-not-branch g t c =
-    other_res-from (g.S.Semantics.meanings c.args.semantics.now) c.args.number c.args.rule.now _ c.args.rule.now.pattern c.args.code.now c.args.p c.args.c.0 _ _ _ c.pattern_res-used.result
-    (record {
-      lent_is = c.pattern.ensures;
-      p_in = c.requires.p_in;
-      c_in = c.requires.c_in;
-      at = c.placeholder.ensures;
-      none = c.in_default.not-Some;
-      pk_is = c.kind.ensures;
-      ck_is = c.kind-2.ensures;
-      used_is = c.pattern_res-used.ensures;
-    })
-    _ _ _ c.is.ensures.same c.if-not-is.false c.in_ok-stands_for.ensures c.if-not-branch.true
+pub like_matches-returns-then-not-branch : goal.like_matches-returns-then-not-branch
+like_matches-returns-then-not-branch g t c =
+    unmatched-from (g.S.Semantics.meanings c.args.semantics.now) c.args.number c.args.rule.now _ c.args.rule.now.pattern c.args.code.now c.args.p c.args.c.0 _ _ c.pattern_res-used.result
+    (record { lent_is = c.pattern.ensures; p_in = c.requires.p_in; pk_is = c.kind.ensures; ck_is = c.kind-2.ensures; used_is = c.pattern_res-used.ensures })
+    _ _ _ c.is.ensures.same c.if-not-is.false c.in_ok-can_match.ensures c.if-not-branch.true
 
-pub node_matches-returns : goal.node_matches-returns
-node_matches-returns g t c =
-    children-from (g.S.Semantics.meanings c.args.semantics.now) c.args.number c.args.rule.now _ c.args.rule.now.pattern c.args.code.now c.args.p c.args.c.0 _ _ _ c.pattern_res-used.result
-    (record {
-      lent_is = c.pattern.ensures;
-      p_in = c.requires.p_in;
-      c_in = c.requires.c_in;
-      at = c.placeholder.ensures;
-      none = c.in_default.not-Some;
-      pk_is = c.kind.ensures;
-      ck_is = c.kind-2.ensures;
-      used_is = c.pattern_res-used.ensures;
-    })
-    _ _ _ _ _ c.is.ensures.same c.if-not-is.false c.in_ok-stands_for.ensures c.if-not-branch.false c.children_match.ensures
+pub like_matches-returns : goal.like_matches-returns
+like_matches-returns g t c =
+    children-from (g.S.Semantics.meanings c.args.semantics.now) c.args.number c.args.rule.now _ c.args.rule.now.pattern c.args.code.now c.args.p c.args.c.0 _ _ c.pattern_res-used.result
+    (record { lent_is = c.pattern.ensures; p_in = c.requires.p_in; pk_is = c.kind.ensures; ck_is = c.kind-2.ensures; used_is = c.pattern_res-used.ensures })
+    _ _ _ _ _ c.is.ensures.same c.if-not-is.false c.in_ok-can_match.ensures c.if-not-branch.false c.children_match.ensures
 
 pub children_match-loop-first-init : goal.children_match-loop-first-init
 children_match-loop-first-init g t c =
@@ -107,3 +112,66 @@ children_match-returns g t c =
 pub pair_matches-returns-in-Token-Token : goal.pair_matches-returns-in-Token-Token
 pair_matches-returns-in-Token-Token g t c =
     tokens-answer (g.S.Semantics.meanings c.args.semantics.now) c.args.number c.args.rule.now c.args.rule.now.pattern c.pattern.result.now c.args.code.now c.args.p c.args.c _ _ _ _ c.in-Token-Token.is-0 c.in-Token-Token.is-1 c.pattern.ensures c.tokens_match.ensures
+
+pub elements_match-returns-then-ps-cs : goal.elements_match-returns-then-ps-cs
+elements_match-returns-then-ps-cs g t c = unequal-elements _ c.args.rule.now.pattern c.args.code.now c.args.ps.now c.args.cs.now _ c.if-ps-cs.true
+
+pub elements_match-pair_matches-requires : goal.elements_match-pair_matches-requires
+elements_match-pair_matches-requires g t c =
+    let none : Element = element.Node (record { 0 = 0 }) in
+    let ps = c.args.ps.now in
+    let cs = c.args.cs.now in
+    let low : c.loop-place.place < length ps = omega (arith, c.loop-place-test.true) in
+    let beside : c.loop-place.place < length cs = omega (arith, c.if-ps-cs.false) in
+    let le : element_size c.args.rule.now.pattern (get_or ps c.loop-place.place none) ≤ largest c.args.rule.now.pattern ps =
+    largest-at c.args.rule.now.pattern ps c.loop-place.place none low
+    in
+    let has_p : HasElement c.args.rule.now.pattern (get_or ps c.loop-place.place none) = c.requires.ps_in c.loop-place.place none low in
+    let has_c : HasElement c.args.code.now (get_or cs c.loop-place.place none) = c.requires.cs_in c.loop-place.place none beside in
+    λ κs lives. (omega arith, search (rules, lives, has_p, has_c))
+
+pub elements_match-loop-place-preserved : goal.elements_match-loop-place-preserved
+elements_match-loop-place-preserved g t c =
+    let none : Element = element.Node (record { 0 = 0 }) in
+    up_to-turns _ c.args.rule.now.pattern c.args.code.now c.args.ps.now c.args.cs.now c.if-ps-cs.false c.loop-place.place
+    (get_or c.args.ps.now c.loop-place.place none) (get_or c.args.cs.now c.loop-place.place none) (omega (arith, c.loop-place-test.true))
+    (at_place c.args.ps.now c.loop-place.place none (omega (arith, c.loop-place-test.true)))
+    (at_place c.args.cs.now c.loop-place.place none (omega (arith, c.loop-place-test.true, c.if-ps-cs.false)))
+    _ _ _ _ c.loop-place.invariant c.in_ok-pair_matches.ensures c.if-not-branch.false
+
+pub elements_match-returns-then-not-branch : goal.elements_match-returns-then-not-branch
+elements_match-returns-then-not-branch g t c =
+    let none : Element = element.Node (record { 0 = 0 }) in
+    up_to-differs _ c.args.rule.now.pattern c.args.code.now c.args.ps.now c.args.cs.now c.if-ps-cs.false c.loop-place.place
+    (get_or c.args.ps.now c.loop-place.place none) (get_or c.args.cs.now c.loop-place.place none) (omega (arith, c.loop-place-test.true))
+    (at_place c.args.ps.now c.loop-place.place none (omega (arith, c.loop-place-test.true)))
+    (at_place c.args.cs.now c.loop-place.place none (omega (arith, c.loop-place-test.true, c.if-ps-cs.false)))
+    _ _ _ _ c.loop-place.invariant c.in_ok-pair_matches.ensures c.if-not-branch.true
+
+pub elements_match-returns : goal.elements_match-returns
+elements_match-returns g t c =
+    up_to-ends _ c.args.rule.now.pattern c.args.code.now c.args.ps.now c.args.cs.now c.loop-place.place _ _ c.if-ps-cs.false c.loop-place.invariant
+    (omega (arith, c.loop-place-test.false))
+
+pub method_matches-elements_match-requires : goal.method_matches-elements_match-requires
+method_matches-elements_match-requires g t c =
+    let pattern = c.args.rule.now.pattern in
+    let code = c.args.code.now in
+    let below = subst (λ o. IfSome o (AreSidesBelow pattern code c.args.p.0 c.args.c.0)) c.in-Some.is c.in_ok-sides.ensures.below in
+    let ps_below = subst (All (IsBelow pattern c.args.p.0)) (sym c.deref.ensures.value) below.in_pattern in
+    let cs_below = subst (All (IsBelow code c.args.c.0)) (sym c.deref-2.ensures.value) below.in_code in
+    let lt : elements_size pattern c.deref.result.now < like_size pattern c.args.p.0 =
+    largest-below pattern c.args.p.0 c.deref.result.now c.requires.p_in ps_below
+    in
+    let has_ps : All (HasElement pattern) c.deref.result.now = below_has pattern c.args.p.0 c.deref.result.now ps_below in
+    let has_cs : All (HasElement code) c.deref-2.result.now = below_has code c.args.c.0 c.deref-2.result.now cs_below in
+    λ κs lives. (omega arith, search (rules, lives, has_ps, has_cs))
+
+pub method_matches-returns : goal.method_matches-returns
+method_matches-returns g t c =
+    let pattern = c.args.rule.now.pattern in
+    let code = c.args.code.now in
+    kept-from (g.S.Semantics.meanings c.args.semantics.now) c.args.number c.args.rule.now pattern code c.in-Some.sides _ _ _ _ _ _ c.new-held.ensures.items
+    (ap (option_map (sides_at pattern code)) (sym c.in-Some.is) ∙ c.in_ok-sides.ensures.sides)
+    (rw (c.deref.ensures.value, c.deref-2.ensures.value) at c.in_ok-elements_match.ensures) c.if-not-branch.false
+    (rw c.deref-3.ensures.value at c.in_ok-keep.ensures)

@@ -1,0 +1,13 @@
+use Rattle.std.proofs.Common.{◌≡◌, ◌++◌, map, All}
+use Rattle.ssr_syntax_tree.specs.Places.{node_of, part_of}
+use Rattle.ide_ssr_matching.specs.Calls.{nodes_among, child_nodes}
+use Rattle.ide_ssr_matching.specs.Private.Calls.{nodes_at, IsNodeBelow}
+use Rattle.ide_ssr_matching.specs.Private.Children.{IsBelow}
+use Rattle.ide_ssr_matching.proofs.calls.child_nodes.Given as goal
+
+abbrev pub invariant-loop-child : goal.invariant-loop-child
+invariant-loop-child l = record {
+  so_far : nodes_at l.tree l.nodes.items ++ nodes_among (map (part_of l.tree) l.child-iterator) ≡ child_nodes (node_of l.tree l.fn.node.0);
+  held : All (IsNodeBelow l.tree l.fn.node.0) l.nodes.items;
+  left : All (IsBelow l.tree l.fn.node.0) l.child-iterator;
+}

@@ -1,0 +1,43 @@
+use Rattle.std.proofs.Common.{◌≡◌, Some, None, Option, IfSome, sym, ap, ◌∙◌, subst}
+use Rattle.std.specs.Option.{option_and_then, option_map}
+use Rattle.ssr_syntax_tree.specs.Places.{node_of}
+use Rattle.ide_ssr_matching.specs.Calls.{alike_pairs, method_sides}
+use Rattle.ide_ssr_matching.specs.Sides.{Sides}
+use Rattle.ide_ssr_matching.specs.Private.Calls.{called_at, AreCalledBelow, method_at, IsMethodBelow, sides_at}
+use Rattle.ide_ssr_matching.proofs.NodeLists.{method_told, none_there}
+use Rattle.ide_ssr_matching.proofs.calls.method_sides.Goals as goal
+
+pub returns-in_default-3-clause-sides : goal.returns-in_default-3-clause-sides
+returns-in_default-3-clause-sides g c =
+    let ms = g.S.Semantics.meanings c.args.semantics.now in
+    let lent = c.pattern-pattern.result.now in
+    let code = c.args.code.now in
+    let pairs = alike_pairs (called_at lent c.in-Some.called) (method_at code c.in-Some-2.method) in
+    subst (λ s. ◌≡◌ {A = Option Sides} None (method_sides ms c.args.number c.args.rule.now c.args.call (node_of s c.args.p.0) (node_of code c.args.c.0)))
+    c.pattern-pattern.ensures
+    (ap (option_and_then pairs) (sym (none_there c.in_ok-receiver.field-0 c.in_default-3.not-Some))
+    ∙ method_told ms c.args.number c.args.rule.now lent code c.args.call c.args.p.0 c.args.c.0 c.in-Some.called c.in-Some-2.method
+    c.pattern_res-used.result c.in_ok-receiver.field-0 c.requires.c_in
+    (ap (option_map (called_at lent)) (sym c.in-Some.is) ∙ c.in_ok-called.ensures.called)
+    (subst (λ o. IfSome o (AreCalledBelow lent c.args.p.0)) c.in-Some.is c.in_ok-called.ensures.below)
+    (ap (option_map (method_at code)) (sym c.in-Some-2.is) ∙ c.in_ok-method.ensures.method)
+    (subst (λ o. IfSome o (IsMethodBelow code c.args.c.0)) c.in-Some-2.is c.in_ok-method.ensures.below)
+    c.pattern_res-used.ensures c.in_ok-receiver.ensures)
+
+pub returns-clause-sides : goal.returns-clause-sides
+returns-clause-sides g c =
+    let ms = g.S.Semantics.meanings c.args.semantics.now in
+    let lent = c.pattern-pattern.result.now in
+    let code = c.args.code.now in
+    subst
+    (λ s. option_map (sides_at s code) c.in_ok-sides.sides
+    ≡ method_sides ms c.args.number c.args.rule.now c.args.call (node_of s c.args.p.0) (node_of code c.args.c.0))
+    c.pattern-pattern.ensures
+    (c.in_ok-sides.ensures.sides
+    ∙ method_told ms c.args.number c.args.rule.now lent code c.args.call c.args.p.0 c.args.c.0 c.in-Some.called c.in-Some-2.method
+    c.pattern_res-used.result (Some c.in-Some-3.receiver) c.requires.c_in
+    (ap (option_map (called_at lent)) (sym c.in-Some.is) ∙ c.in_ok-called.ensures.called)
+    (subst (λ o. IfSome o (AreCalledBelow lent c.args.p.0)) c.in-Some.is c.in_ok-called.ensures.below)
+    (ap (option_map (method_at code)) (sym c.in-Some-2.is) ∙ c.in_ok-method.ensures.method)
+    (subst (λ o. IfSome o (IsMethodBelow code c.args.c.0)) c.in-Some-2.is c.in_ok-method.ensures.below)
+    c.pattern_res-used.ensures (sym c.in-Some-3.is ∙ c.in_ok-receiver.ensures))

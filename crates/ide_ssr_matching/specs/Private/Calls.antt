@@ -1,0 +1,54 @@
+-- Private: the nodes of calls by their numbers.
+use Rattle.std.specs.Prelude.{ℕ, List, [], ◌∷◌, Some, All, map}
+use Rattle.ssr_syntax_tree.specs.declared.number.Element.{Element}
+use Rattle.ssr_syntax_tree.specs.declared.number.Element.TheVariants as element
+use Rattle.ssr_syntax_tree.specs.declared.number.NodeNo.{NodeNo}
+use Rattle.ssr_syntax_tree.specs.Syntax.{Syntax}
+use Rattle.ssr_syntax_tree.specs.Places.{Node, node_of, part_of}
+use Rattle.ide_ssr_matching.specs.declared.calls.CalledNodes.{CalledNodes}
+use Rattle.ide_ssr_matching.specs.declared.calls.MethodNodes.{MethodNodes}
+use Rattle.ide_ssr_matching.specs.declared.calls.MethodSides.{MethodSides}
+use Rattle.ide_ssr_matching.specs.Calls.{Called, Method}
+use Rattle.ide_ssr_matching.specs.Sides.{Sides}
+use Rattle.ide_ssr_matching.specs.Private.Children.{IsBelow}
+
+-- a child, if that is a node
+abbrev pub nodes_named : Element → List NodeNo
+nodes_named (element.Node node) = node ∷ []
+nodes_named (element.Token token) = []
+
+abbrev pub nodes_at : Syntax → List NodeNo → List Node
+nodes_at tree nodes = map (λ node. node_of tree node.0) nodes
+
+abbrev pub IsNodeBelow : Syntax → ℕ → NodeNo → Type 0
+IsNodeBelow tree n node = IsBelow tree n (element.Node node)
+
+-- a call of the pattern
+abbrev pub called_at : Syntax → CalledNodes → Called
+called_at tree call = record { path = node_of tree call.path.0; arguments = nodes_at tree call.arguments.items }
+
+pub record AreCalledBelow (tree : Syntax) (n : ℕ) (call : CalledNodes) : Type 0 where
+  pub path : IsNodeBelow tree n call.path
+  pub arguments : All (IsNodeBelow tree n) call.arguments.items
+
+-- a method call of the code
+abbrev pub method_at : Syntax → MethodNodes → Method
+method_at tree method = record {
+  receiver = node_of tree method.receiver.0;
+  generics = nodes_at tree method.generics.items;
+  arguments = nodes_at tree method.arguments.items;
+}
+
+pub record IsMethodBelow (tree : Syntax) (n : ℕ) (method : MethodNodes) : Type 0 where
+  pub receiver : IsNodeBelow tree n method.receiver
+  pub generics : All (IsNodeBelow tree n) method.generics.items
+  pub arguments : All (IsNodeBelow tree n) method.arguments.items
+
+-- parts that have to pair
+abbrev pub sides_at : Syntax → Syntax → MethodSides → Sides
+sides_at pattern code sides =
+    record { pattern = map (part_of pattern) sides.pattern.items; code = map (part_of code) sides.code.items; receiver = Some sides.receiver }
+
+pub record AreSidesBelow (pattern code : Syntax) (p c : ℕ) (sides : MethodSides) : Type 0 where
+  pub in_pattern : All (IsBelow pattern p) sides.pattern.items
+  pub in_code : All (IsBelow code c) sides.code.items
