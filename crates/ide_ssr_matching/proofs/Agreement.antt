@@ -1,6 +1,7 @@
 -- The relation and the function of matching agree.
 use Rattle.std.proofs.Common.{◌≡◌, ℕ, zero, suc, ◌<◌, ◌≤◌, Bool, true, false, ◌&&◌, cond, List, [], ◌∷◌, ◌++◌, All, Option, Some, None, refl, sym, ◌∙◌, ap, subst, arith}
 use Rattle.std.specs.Option.{is_some, option_map}
+use Rattle.std.specs.Prelude.{if◌then◌else◌}
 use Rattle.std.specs.Str.{bytes_eq}
 use Rattle.std.proofs.lemmas.Bool.{and_from, and_parts}
 use Rattle.std.proofs.lemmas.List.Elements.{All-head, All-tail, All-weaker}
@@ -19,12 +20,16 @@ use Rattle.ide_ssr_resolving.specs.Resolved.{ResolvedKind, meets}
 use Rattle.ide_ssr_found.specs.declared.bindings.Binding.{Binding}
 use Rattle.ide_ssr_found.specs.Found.{node_binding}
 use Rattle.ide_ssr_matching.specs.Children.{bare}
+use Rattle.ide_ssr_token_trees.specs.Bindings.{tree_bindings}
+use Rattle.ide_ssr_token_trees.proofs.Shared.{tree_bindings-TreesMatch, TreesMatch-tree_bindings}
+use Rattle.ide_ssr_matching.specs.TokenTrees.{is_tree, token_placeholder, is_plain, is_by_parts}
 use Rattle.ide_ssr_matching.specs.UsedPaths.{arguments_of, pattern_res, code_res}
-use Rattle.ide_ssr_matching.specs.Matching.{Matches, bound, method, used, alike, Pairs, end, tokens, nodes}
-use Rattle.ide_ssr_matching.specs.Bindings.{joined, pairs_by, placeholder_by, counted_sides, can_match, like_sides, sides_in, sides_of, sides_by, bindings_of}
+use Rattle.ide_ssr_matching.specs.Matching.{Matches, bound, trees, method, used, alike, Pairs, end, tokens, nodes}
+use Rattle.ide_ssr_token_trees.specs.Bindings.{joined}
+use Rattle.ide_ssr_matching.specs.Bindings.{pairs_by, placeholder_by, counted_sides, can_match, like_sides, sides_in, sides_of, sides_by, bindings_of}
 use Rattle.ide_ssr_matching.specs.Calls.{call_of, meets_method, method_sides}
 use Rattle.ide_ssr_matching.specs.Sides.{Sides, kept}
-use Rattle.ide_ssr_matching.proofs.Pairs.{bindings-placeholder, placeholder-met, bindings-sides, like-tested}
+use Rattle.ide_ssr_matching.proofs.Pairs.{bindings-placeholder, placeholder-met, bindings-trees, bindings-spoiled, bindings-sides, by_parts, like-tested}
 use Rattle.ide_ssr_matching.proofs.Same.{stands_for-told, told-stands_for}
 use Rattle.ide_ssr_matching.proofs.Steps.{IsSmaller, sides_smaller}
 
@@ -94,7 +99,7 @@ module _ (ms : Meanings) (tree : ℕ) (rule : ResolvedKind) where
       by false unmet binds = absurd (none-some bs binds)
 
   -- a node of the kind that can match
-  counted_match : (p c : Node) (bs : List Binding) (o : Option Res) → placeholder_at rule.names p ≡ None → meets_method rule p c ≡ false
+  counted_match : (p c : Node) (bs : List Binding) (o : Option Res) → is_by_parts rule p ≡ true → meets_method rule p c ≡ false
       → p.kind ≡ c.kind → pattern_res rule p ≡ o → can_match ms tree rule o p c ≡ true
       → Pairs ms tree rule (counted_sides o p c).pattern (counted_sides o p c).code bs
       → Matches ms tree rule p c bs
@@ -102,7 +107,7 @@ module _ (ms : Meanings) (tree : ℕ) (rule : ResolvedKind) where
       used p c r bs none unmet kinds is (stands_for-told r (code_res ms tree c) can) pairs
   counted_match p c bs None none unmet kinds is can pairs = alike p c bs none unmet kinds is can pairs
 
-  like_match : (p c : Node) (sides : Sides) (bs : List Binding) → placeholder_at rule.names p ≡ None → meets_method rule p c ≡ false
+  like_match : (p c : Node) (sides : Sides) (bs : List Binding) → is_by_parts rule p ≡ true → meets_method rule p c ≡ false
       → like_sides ms tree rule p c ≡ Some sides → Pairs ms tree rule sides.pattern sides.code bs → Matches ms tree rule p c (kept sides.receiver bs)
   like_match p c sides bs none unmet is pairs = by (same_kind p.kind c.kind && can_match ms tree rule (pattern_res rule p) p c) refl is
     where
@@ -117,7 +122,7 @@ module _ (ms : Meanings) (tree : ℕ) (rule : ResolvedKind) where
           (subst (λ (s : Sides). Pairs ms tree rule s.pattern s.code bs) (sym same) pairs))
       by false can is = absurd (none-some sides is)
 
-  sides_match : (p c : Node) (sides : Sides) (bs : List Binding) → placeholder_at rule.names p ≡ None → sides_of ms tree rule p c ≡ Some sides
+  sides_match : (p c : Node) (sides : Sides) (bs : List Binding) → is_by_parts rule p ≡ true → sides_of ms tree rule p c ≡ Some sides
       → Pairs ms tree rule sides.pattern sides.code bs → Matches ms tree rule p c (kept sides.receiver bs)
   sides_match p c sides bs none is pairs = by (call_of rule p) refl (same_kind c.kind k.METHOD_CALL_EXPR) refl is
     where
@@ -133,7 +138,7 @@ module _ (ms : Meanings) (tree : ℕ) (rule : ResolvedKind) where
       by None called b is_method is = like_match p c sides bs none (unmet None b called is_method refl) is pairs
 
   -- what sides bind is kept
-  kept_match : (p c : Node) (sides : Sides) (bs : List Binding) → placeholder_at rule.names p ≡ None → sides_of ms tree rule p c ≡ Some sides
+  kept_match : (p c : Node) (sides : Sides) (bs : List Binding) → is_by_parts rule p ≡ true → sides_of ms tree rule p c ≡ Some sides
       → PartsAgree sides.pattern → (o : Option (List Binding)) → pairs_by (bindings_of ms tree rule) sides.pattern sides.code ≡ o
       → option_map (kept sides.receiver) o ≡ Some bs → Matches ms tree rule p c bs
   kept_match p c sides bs none is agree None pairs binds = absurd (none-some bs binds)
@@ -148,7 +153,7 @@ module _ (ms : Meanings) (tree : ℕ) (rule : ResolvedKind) where
       agrees (token_part t token) lt = tt
       agrees (node_part q) lt = below q lt
 
-      by_sides : (o : Option Sides) → sides_of ms tree rule p c ≡ o → placeholder_at rule.names p ≡ None → Matches ms tree rule p c bs
+      by_sides : (o : Option Sides) → sides_of ms tree rule p c ≡ o → is_by_parts rule p ≡ true → Matches ms tree rule p c bs
       by_sides None is none = absurd (none-some bs (sym (bindings-sides ms tree rule p c None none is) ∙ h))
       by_sides (Some sides) is none =
           kept_match p c sides bs none is
@@ -157,9 +162,19 @@ module _ (ms : Meanings) (tree : ℕ) (rule : ResolvedKind) where
           (pairs_by (bindings_of ms tree rule) sides.pattern sides.code) refl
           (sym (bindings-sides ms tree rule p c (Some sides) none is) ∙ h)
 
+      by_tree : (b : Bool) → is_tree c ≡ b → placeholder_at rule.names p ≡ None → is_tree p ≡ true
+          → (if b then tree_bindings (token_placeholder rule) p c else None) ≡ Some bs → Matches ms tree rule p c bs
+      by_tree true code_is none is binds = trees p c bs none is code_is (tree_bindings-TreesMatch (token_placeholder rule) p c bs binds)
+      by_tree false code_is none is binds = absurd (none-some bs binds)
+
+      by_kind : (tree_node plain : Bool) → is_tree p ≡ tree_node → is_plain rule p ≡ plain → placeholder_at rule.names p ≡ None → Matches ms tree rule p c bs
+      by_kind true plain is plain_is none = by_tree (is_tree c) refl none is (sym (bindings-trees ms tree rule p c none is) ∙ h)
+      by_kind false true is plain_is none = by_sides (sides_of ms tree rule p c) refl (by_parts rule p none is plain_is)
+      by_kind false false is plain_is none = absurd (none-some bs (sym (bindings-spoiled ms tree rule p c none is plain_is) ∙ h))
+
       by_placeholder : (o : Option ℕ) → placeholder_at rule.names p ≡ o → Matches ms tree rule p c bs
       by_placeholder (Some i) is = placeholder_agrees p c i bs is (sym (bindings-placeholder ms tree rule p c i is) ∙ h)
-      by_placeholder None is = by_sides (sides_of ms tree rule p c) refl is
+      by_placeholder None is = by_kind (is_tree p) (is_plain rule p) refl refl is
 
   nodes_agree : (size : ℕ) (p : Node) → size_of p ≤ size → NodeAgrees p
   nodes_agree zero p within = absurd (omega arith)
@@ -186,7 +201,7 @@ module _ (ms : Meanings) (tree : ℕ) (rule : ResolvedKind) where
       by (Some call) false other = refl
       by None b other = refl
 
-  counted_computed : (p c : Node) (o : Option Res) → placeholder_at rule.names p ≡ None → meets_method rule p c ≡ false → p.kind ≡ c.kind
+  counted_computed : (p c : Node) (o : Option Res) → is_by_parts rule p ≡ true → meets_method rule p c ≡ false → p.kind ≡ c.kind
       → pattern_res rule p ≡ o → can_match ms tree rule o p c ≡ true
       → bindings_of ms tree rule p c ≡ sides_by (bindings_of ms tree rule) (counted_sides o p c)
   counted_computed p c o none unmet kinds is can =
@@ -195,7 +210,7 @@ module _ (ms : Meanings) (tree : ℕ) (rule : ResolvedKind) where
       ∙ like-tested ms tree rule p c o true is
       (and_from (same_kind p.kind c.kind) (can_match ms tree rule o p c) (equal-same_kind p.kind c.kind kinds) can))
 
-  method_computed : (p c : Node) (call : QualifiedCall) (sides : Sides) → placeholder_at rule.names p ≡ None → call_of rule p ≡ Some call
+  method_computed : (p c : Node) (call : QualifiedCall) (sides : Sides) → is_by_parts rule p ≡ true → call_of rule p ≡ Some call
       → c.kind ≡ k.METHOD_CALL_EXPR → method_sides ms tree rule call p c ≡ Some sides
       → bindings_of ms tree rule p c ≡ sides_by (bindings_of ms tree rule) sides
   method_computed p c call sides none called kind is =
@@ -207,6 +222,10 @@ module _ (ms : Meanings) (tree : ℕ) (rule : ResolvedKind) where
   mutual
     pub Matches-bindings_of : (p c : Node) (bs : List Binding) → Matches ms tree rule p c bs → bindings_of ms tree rule p c ≡ Some bs
     Matches-bindings_of _ _ _ (bound p c i is met) = bindings-placeholder ms tree rule p c i is ∙ placeholder-met rule i c met
+    Matches-bindings_of _ _ _ (trees p c bs none is code_is found) =
+        bindings-trees ms tree rule p c none is
+        ∙ ap (λ b. if b then tree_bindings (token_placeholder rule) p c else None) code_is
+        ∙ TreesMatch-tree_bindings (token_placeholder rule) p c bs found
     Matches-bindings_of _ _ _ (method p c call sides bs none called kind is pairs) =
         method_computed p c call sides none called kind is
         ∙ ap (option_map (kept sides.receiver)) (Pairs-pairs_by sides.pattern sides.code bs pairs)

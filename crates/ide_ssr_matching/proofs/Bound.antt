@@ -1,24 +1,27 @@
 -- Which placeholders a match binds: those of its pattern, from the left.
-use Rattle.std.proofs.Common.{◌≡◌, ℕ, ◌+◌, ◌==◌, Bool, true, false, map, List, [], ◌∷◌, ◌++◌, All, Option, Some, None, refl, sym, ◌∙◌, ap, subst, append_assoc, append-nil, arith}
+use Rattle.std.proofs.Common.{◌≡◌, ℕ, ◌+◌, ◌==◌, ◌&&◌, Bool, true, false, not, is_some, map, take, drop, List, [], ◌∷◌, ◌++◌, All, Option, Some, None, refl, sym, ◌∙◌, ap, subst, append_assoc, append-nil, arith}
 use Rattle.std.specs.Prelude.{if◌then◌else◌}
-use Rattle.std.specs.List.{find}
+use Rattle.std.specs.List.{cons_option, find}
 use Rattle.std.specs.Option.{option_and_then, option_map, option_map_or}
-use Rattle.std.proofs.lemmas.Bool.{eqb-true}
+use Rattle.std.proofs.lemmas.Bool.{and_parts, eqb-true, not-true, or_parts}
 use Rattle.std.proofs.lemmas.List.{map-append}
 use Rattle.std.proofs.lemmas.List.Elements.{All-append, All-head, All-map, All-tail}
 use Rattle.std.proofs.lemmas.Option.{none-some}
 use Rattle.ssr_syntax_kinds.specs.declared.kinds.SyntaxKind.{SyntaxKind}
 use Rattle.ssr_syntax_kinds.specs.declared.kinds.SyntaxKind.TheVariants as k
 use Rattle.ssr_syntax_kinds.specs.Kinds.{same_kind}
+use Rattle.ssr_syntax_kinds.proofs.Shared.{same_kind-equal}
 use Rattle.ssr_syntax_tree.specs.declared.number.NodeNo.{NodeNo}
-use Rattle.ssr_syntax_tree.specs.Syntax.{Syntax, Forest, nothing, leaf, branch, token_count, node_count}
+use Rattle.ssr_syntax_tree.specs.Syntax.{Syntax, Forest, nothing, leaf, branch, token_count, node_count, tokens_in, tokens_of}
 use Rattle.ssr_syntax_tree.specs.Places.{Node, Part, token_part, node_part, node_of, parts_in, parts_of, root_of}
 use Rattle.ssr_syntax_tree.proofs.Shared.{IsOf}
 use Rattle.ssr_base.specs.declared.semantics.Res.{Res}
 use Rattle.ssr_base.specs.Meanings.{Meanings}
 use Rattle.ide_ssr_resolving.specs.declared.used.UsedPath.{UsedPath}
 use Rattle.ide_ssr_resolving.specs.Paths.{below_first, first_of_kind, is_arguments, from_arguments as forest_arguments, path_arguments}
-use Rattle.ide_ssr_resolving.specs.Patterns.{or_below, placeholders_in, placeholders_of, HasThemInArguments, AreInArguments}
+use Rattle.ide_ssr_resolving.proofs.Shared.{tokens_of_node}
+use Rattle.ide_ssr_resolving.specs.Patterns.{or_below, placeholders_in, placeholders_mixed, placeholders_below, placeholders_of, HasThemInArguments, AreInArguments}
+use Rattle.ide_ssr_rules.specs.Patterns.{placeholders_among}
 use Rattle.ide_ssr_rules.specs.StandIns.{name_at}
 use Rattle.ide_ssr_resolving.specs.Placeholders.{only_token, placeholder_at}
 use Rattle.ide_ssr_resolving.specs.Resolved.{ResolvedKind}
@@ -26,13 +29,18 @@ use Rattle.ide_ssr_resolving.specs.Used.{is_at, res_at}
 use Rattle.ide_ssr_found.specs.declared.bindings.Binding.{Binding}
 use Rattle.ide_ssr_matching.specs.Children.{is_left_out, bare}
 use Rattle.ide_ssr_matching.specs.UsedPaths.{from_arguments, arguments_of, pattern_res}
-use Rattle.ide_ssr_matching.specs.Matching.{Matches, bound, method, used, alike, Pairs, end, tokens, nodes}
+use Rattle.ide_ssr_token_trees.specs.Placeholders.{placeholders_from}
+use Rattle.ide_ssr_token_trees.proofs.Shared.{trees_bound}
+use Rattle.ide_ssr_matching.specs.TokenTrees.{is_tree, token_placeholder, has_token_placeholder, is_by_parts}
+use Rattle.ide_ssr_matching.specs.Matching.{Matches, bound, trees, method, used, alike, Pairs, end, tokens, nodes}
 use Rattle.ide_ssr_matching.specs.Bindings.{counted}
 use Rattle.ide_ssr_matching.specs.declared.receivers.Receiver.{Receiver}
 use Rattle.ide_ssr_matching.specs.Sides.{Sides, is_node, received, kept}
 use Rattle.ide_ssr_matching.specs.Calls.{nodes_among, child_nodes, Called}
 use Rattle.ide_ssr_matching.proofs.CallParts.{nodes_all, IsCalled, method_match, callee_used}
 use Rattle.ide_ssr_matching.proofs.Counted.{bare_all, first_has, counted_all, last_arguments_all}
+use Rattle.ide_ssr_matching.proofs.Numbered.{numbered}
+use Rattle.ide_ssr_matching.proofs.Pairs.{parts_of_it}
 use Rattle.ide_ssr_matching.proofs.Spread.{IsPartOf, each_child}
 
 -- the placeholders of bindings
@@ -43,7 +51,7 @@ placeholders_bound bindings = map (λ binding. binding.placeholder) bindings
 
 module _ (names : List (List ℕ)) where
   abbrev at_node : Node → List ℕ
-  at_node p = or_below (placeholder_at names p) (placeholders_in names p.children)
+  at_node p = or_below (placeholder_at names p) (placeholders_below names p.kind p.children)
 
   abbrev among : List Part → List ℕ
   among [] = []
@@ -97,10 +105,40 @@ module _ (names : List (List ℕ)) where
       either false later rest is = is
 
   at_placeholder : (p : Node) (i : ℕ) → placeholder_at names p ≡ Some i → i ∷ [] ≡ at_node p
-  at_placeholder p i is = ap (λ o. or_below o (placeholders_in names p.children)) (sym is)
+  at_placeholder p i is = ap (λ o. or_below o (placeholders_below names p.kind p.children)) (sym is)
 
-  at_other : (p : Node) → placeholder_at names p ≡ None → placeholders_in names p.children ≡ at_node p
-  at_other p none = ap (λ o. or_below o (placeholders_in names p.children)) (sym none)
+  at_other : (p : Node) → placeholder_at names p ≡ None → placeholders_below names p.kind p.children ≡ at_node p
+  at_other p none = ap (λ o. or_below o (placeholders_below names p.kind p.children)) (sym none)
+
+  no_name : (o : Option ℕ) (rest : List ℕ) → is_some o ≡ false → cons_option o rest ≡ rest
+  no_name None rest is = refl
+  no_name (Some i) rest is = let e : true ≡ false = is in cc
+
+  -- children of which no token is a placeholder
+  among_mixed : (parent n t : ℕ) (forest : Forest) → has_token_placeholder names (parts_in parent n t forest) ≡ false
+      → placeholders_mixed names forest ≡ among (parts_in parent n t forest)
+  unfolding placeholder_at
+  among_mixed parent n t nothing none = refl
+  among_mixed parent n t (leaf token next) none =
+      let both = or_parts (is_some (name_at names token)) (has_token_placeholder names (parts_in parent n (1 + t) next)) none in
+      no_name (name_at names token) (placeholders_mixed names next) both.0 ∙ among_mixed parent n (1 + t) next both.1
+  among_mixed parent n t (branch kind below next) none =
+      ap (λ is. at_node (record { number = n; parent = parent; first = t; kind = kind; children = below }) ++ is)
+      (among_mixed parent (1 + n + node_count below) (t + token_count below) next none)
+
+  -- below a node that is no token tree, and of which no token of its own is a placeholder
+  plain_below : (p : Node) → is_tree p ≡ false → not (same_kind p.kind k.MACRO_RULES && has_token_placeholder names (parts_of p)) ≡ true
+      → placeholders_in names p.children ≡ placeholders_below names p.kind p.children
+  plain_below p other plain =
+      by (same_kind p.kind k.MACRO_RULES) plain
+      ∙ ap (λ b. if b then placeholders_among names (tokens_in p.children) else if same_kind p.kind k.MACRO_RULES then placeholders_mixed names p.children else placeholders_in names p.children) (sym other)
+    where
+      by : (b : Bool) → not (b && has_token_placeholder names (parts_of p)) ≡ true
+          → placeholders_in names p.children ≡ (if b then placeholders_mixed names p.children else placeholders_in names p.children)
+      by true plain =
+          sym (among_mixed p.number (1 + p.number) p.first p.children (not-true (has_token_placeholder names (parts_of p)) plain)
+          ∙ among_children p.number (1 + p.number) p.first p.children)
+      by false plain = refl
 
   -- ** Nodes.
 
@@ -126,14 +164,16 @@ module _ (names : List (List ℕ)) where
   below_single parent n t (leaf token nothing) i some is = absurd (some refl)
   below_single parent n t (leaf token (leaf other next)) i some is = absurd (none-some i is)
   below_single parent n t (leaf token (branch kind below next)) i some is = absurd (none-some i is)
-  below_single parent n t (branch kind below nothing) i some is = ap (λ o. or_below o (placeholders_in names below) ++ []) (sym is)
+  below_single parent n t (branch kind below nothing) i some is = ap (λ o. or_below o (placeholders_below names kind below) ++ []) (sym is)
   below_single parent n t (branch kind below (leaf token next)) i some is = absurd (none-some i is)
   below_single parent n t (branch kind below (branch other inner next)) i some is = absurd (none-some i is)
 
   -- so a node with a node below it has those below it
-  at_parent : (p : Node) → (child_nodes p ≡ [] → ⊥) → at_node p ≡ placeholders_in names p.children
+  at_parent : (p : Node) → placeholders_below names p.kind p.children ≡ placeholders_in names p.children → (child_nodes p ≡ [] → ⊥)
+      → at_node p ≡ placeholders_in names p.children
   unfolding placeholder_at
-  at_parent p some = by (option_and_then (name_at names) (only_token p.children)) refl
+  at_parent p plain some =
+      ap (or_below (option_and_then (name_at names) (only_token p.children))) plain ∙ by (option_and_then (name_at names) (only_token p.children)) refl
     where
       by : (o : Option ℕ) → option_and_then (name_at names) (only_token p.children) ≡ o
           → or_below o (placeholders_in names p.children) ≡ placeholders_in names p.children
@@ -240,14 +280,31 @@ module _ (m : Meanings) (tree : ℕ) (rule : ResolvedKind) (in_arguments : AreIn
       list_some : child_nodes is_call.list ≡ [] → ⊥
       list_some none = let e : is_call.first ∷ is_call.rest ≡ [] = sym is_call.some ∙ sym is_call.arguments ∙ none in cc
 
+      kinds : (same_kind is_call.callee.kind k.PATH_EXPR ≡ true) × (same_kind is_call.list.kind k.ARG_LIST ≡ true)
+      kinds = and_parts (same_kind is_call.callee.kind k.PATH_EXPR) (same_kind is_call.list.kind k.ARG_LIST) is_call.kinds
+
+      -- a node of another kind than token trees and `macro_rules` items
+      of_plain_kind : (kind plain : SyntaxKind) (below : Forest) → same_kind kind plain ≡ true
+          → placeholders_below rule.names plain below ≡ placeholders_in rule.names below → placeholders_below rule.names kind below ≡ placeholders_in rule.names below
+      of_plain_kind kind plain below is known = ap (λ kind. placeholders_below rule.names kind below) (same_kind-equal kind plain is) ∙ known
+
+      path_plain : placeholders_below rule.names call.path.kind call.path.children ≡ placeholders_in rule.names call.path.children
+      path_plain = of_plain_kind call.path.kind k.PATH call.path.children is_call.path_kind refl
+
+      callee_plain : placeholders_below rule.names is_call.callee.kind is_call.callee.children ≡ placeholders_in rule.names is_call.callee.children
+      callee_plain = of_plain_kind is_call.callee.kind k.PATH_EXPR is_call.callee.children kinds.0 refl
+
+      list_plain : placeholders_below rule.names is_call.list.kind is_call.list.children ≡ placeholders_in rule.names is_call.list.children
+      list_plain = of_plain_kind is_call.list.kind k.ARG_LIST is_call.list.children kinds.1 refl
+
       -- the callee is its path
       callee_among : placeholders_in rule.names call.path.children ≡ at_node rule.names is_call.callee
       callee_among =
-          sym (at_parent rule.names call.path path_some)
+          sym (at_parent rule.names call.path path_plain path_some)
           ∙ sym (append-nil (at_node rule.names call.path))
           ∙ ap (λ nodes. among rule.names (map node_part nodes)) (sym is_call.path)
           ∙ among_child_nodes rule.names is_call.callee
-          ∙ sym (at_parent rule.names is_call.callee callee_some)
+          ∙ sym (at_parent rule.names is_call.callee callee_plain callee_some)
 
       path_among : (o : Option Res) → pattern_res rule call.path ≡ o → among rule.names (bare (arguments_of call.path)) ≡ at_node rule.names is_call.callee
       path_among None none = absurd (uses none)
@@ -260,31 +317,51 @@ module _ (m : Meanings) (tree : ℕ) (rule : ResolvedKind) (in_arguments : AreIn
       list_among : among rule.names (map node_part (child_nodes is_call.list)) ≡ among rule.names (node_part is_call.list ∷ [])
       list_among =
           among_child_nodes rule.names is_call.list
-          ∙ sym (at_parent rule.names is_call.list list_some)
+          ∙ sym (at_parent rule.names is_call.list list_plain list_some)
           ∙ sym (append-nil (at_node rule.names is_call.list))
+
+  -- what stands in a node that is matched by its parts
+  at_parts : (p : Node) → is_by_parts rule p ≡ true → placeholders_in rule.names p.children ≡ at_node rule.names p
+  at_parts p by_parts =
+      let it = parts_of_it rule p by_parts in
+      plain_below rule.names p it.no_tree it.plain ∙ at_other rule.names p it.none
+
+  -- the tokens of a token tree of the pattern, by their numbers
+  among_trees : (p : Node) → IsOf rule.pattern p
+      → placeholders_from (token_placeholder rule) p.first (tokens_in p.children) ≡ placeholders_among rule.names (tokens_in p.children)
+  among_trees p is =
+      numbered rule.names (tokens_of rule.pattern) p.first (token_count p.children) (tokens_in p.children)
+      (subst (λ (node : Node). take (token_count node.children) (drop node.first (tokens_of rule.pattern)) ≡ tokens_in node.children) is.1
+      (tokens_of_node rule.pattern p.number is.0))
 
   mutual
     matches_bind : (p c : Node) (bs : List Binding) → Matches m tree rule p c bs → IsOf rule.pattern p → placeholders_bound bs ≡ at_node rule.names p
     matches_bind _ _ _ (bound p c i at met) is = at_placeholder rule.names p i at
-    matches_bind _ _ _ (method p c call sides bs none called kind found pairs) is =
+    matches_bind _ _ _ (trees p c bs none tree_node code_tree found) is =
+        trees_bound (token_placeholder rule) p c bs found
+        ∙ among_trees p is
+        ∙ ap (λ b. if b then placeholders_among rule.names (tokens_in p.children)
+        else if same_kind p.kind k.MACRO_RULES then placeholders_mixed rule.names p.children else placeholders_in rule.names p.children) (sym tree_node)
+        ∙ at_other rule.names p none
+    matches_bind _ _ _ (method p c call sides bs by_parts called kind found pairs) is =
         let it = method_match m tree rule call p c sides found in
         kept_placeholders sides.receiver bs
         ∙ pairs_bind sides.pattern sides.code bs pairs
         (subst (λ (s : Sides). All (IsPartOf rule.pattern) s.pattern) it.same (call_is_of p it.called_nodes it.is_called is))
         ∙ ap (λ (s : Sides). among rule.names s.pattern) (sym it.same)
         ∙ call_among p it.called_nodes it.is_called is (callee_used m tree rule call p c sides it)
-        ∙ at_other rule.names p none
-    matches_bind _ _ _ (used p c r bs none unmet kinds stands told arguments) is =
+        ∙ at_parts p by_parts
+    matches_bind _ _ _ (used p c r bs by_parts unmet kinds stands told arguments) is =
         pairs_bind (bare (arguments_of p)) (bare (arguments_of c)) bs arguments (counted_of rule.pattern (Some r) p is)
         ∙ among_bare rule.names (arguments_of p)
         ∙ among_segment rule.names p.number (1 + p.number) p.first p.children
         ∙ sym (used_in_arguments p r is stands)
-        ∙ at_other rule.names p none
-    matches_bind _ _ _ (alike p c bs none unmet kinds unused can children) is =
+        ∙ at_parts p by_parts
+    matches_bind _ _ _ (alike p c bs by_parts unmet kinds unused can children) is =
         pairs_bind (bare (parts_of p)) (bare (parts_of c)) bs children (counted_of rule.pattern None p is)
         ∙ among_bare rule.names (parts_of p)
         ∙ among_children rule.names p.number (1 + p.number) p.first p.children
-        ∙ at_other rule.names p none
+        ∙ at_parts p by_parts
 
     pairs_bind : (ps cs : List Part) (bs : List Binding) → Pairs m tree rule ps cs bs → All (IsPartOf rule.pattern) ps → placeholders_bound bs ≡ among rule.names ps
     pairs_bind _ _ _ end all = refl

@@ -16,7 +16,7 @@ use Rattle.ide_ssr_matching.specs.declared.receivers.Receiver.{Receiver}
 use Rattle.ide_ssr_matching.specs.Children.{bare}
 use Rattle.ide_ssr_matching.specs.UsedPaths.{arguments_of, pattern_res}
 use Rattle.ide_ssr_matching.specs.Sides.{Sides}
-use Rattle.ide_ssr_matching.specs.Calls.{nodes_among, child_nodes, first_node, Called, called_with, called_in, called, Method, method_in, method_call, method_pairs, alike_pairs, receiver_with, method_with, method_sides}
+use Rattle.ide_ssr_matching.specs.Calls.{nodes_among, child_nodes, first_node, Called, are_call, called_with, called_in, called, Method, method_in, method_call, method_pairs, alike_pairs, receiver_with, method_with, method_sides}
 
 -- ** Nodes among parts.
 
@@ -44,7 +44,9 @@ pub record IsCalled (p : Node) (call : Called) : Type 0 where
   pub callee : Node
   pub list : Node
   pub nodes : child_nodes p ≡ callee ∷ list ∷ []
+  pub kinds : are_call callee list ≡ true
   pub path : child_nodes callee ≡ call.path ∷ []
+  pub path_kind : same_kind call.path.kind k.PATH ≡ true
   pub segment : Node
   pub has_segment : first_of_kind k.PATH_SEGMENT (parts_of call.path) ≡ Some segment
   pub first : Node
@@ -53,18 +55,21 @@ pub record IsCalled (p : Node) (call : Called) : Type 0 where
   pub some : call.arguments ≡ first ∷ rest
 
 module _ (p : Node) (call : Called) where
-  by_segment : (callee list path first : Node) (rest : List Node) → child_nodes p ≡ callee ∷ list ∷ [] → child_nodes callee ≡ path ∷ []
+  by_segment : (callee list path first : Node) (rest : List Node) → child_nodes p ≡ callee ∷ list ∷ [] → are_call callee list ≡ true → child_nodes callee ≡ path ∷ []
+      → same_kind path.kind k.PATH ≡ true
       → child_nodes list ≡ first ∷ rest → (o : Option Node) → first_of_kind k.PATH_SEGMENT (parts_of path) ≡ o
       → ◌≡◌ {A = Option Called} (option_map (λ _. record { path = path; arguments = first ∷ rest }) o) (Some call) → IsCalled p call
-  by_segment callee list path first rest nodes inner arguments None none is = absurd (none-some call is)
-  by_segment callee list path first rest nodes inner arguments (Some segment) found is =
+  by_segment callee list path first rest nodes kinds inner is_path arguments None none is = absurd (none-some call is)
+  by_segment callee list path first rest nodes kinds inner is_path arguments (Some segment) found is =
       let made : Called = record { path = path; arguments = first ∷ rest } in
       let same = same_Some made call is in
       record {
         callee = callee;
         list = list;
         nodes = nodes;
+        kinds = kinds;
         path = inner ∙ ap (λ (call : Called). call.path ∷ []) same;
+        path_kind = subst (λ (call : Called). same_kind call.path.kind k.PATH ≡ true) same is_path;
         segment = segment;
         has_segment = subst (λ (call : Called). first_of_kind k.PATH_SEGMENT (parts_of call.path) ≡ Some segment) same found;
         first = first;
@@ -73,18 +78,28 @@ module _ (p : Node) (call : Called) where
         some = sym (ap (λ (call : Called). call.arguments) same);
       }
 
-  by_inner : (callee list : Node) → child_nodes p ≡ callee ∷ list ∷ [] → (inner arguments : List Node) → child_nodes callee ≡ inner
+  by_inner : (callee list : Node) → child_nodes p ≡ callee ∷ list ∷ [] → are_call callee list ≡ true → (inner arguments : List Node) → child_nodes callee ≡ inner
       → child_nodes list ≡ arguments → called_with inner arguments ≡ Some call → IsCalled p call
-  by_inner callee list nodes [] arguments inner_is arguments_are is = absurd (none-some call is)
-  by_inner callee list nodes (path ∷ []) [] inner_is arguments_are is = absurd (none-some call is)
-  by_inner callee list nodes (path ∷ []) (first ∷ rest) inner_is arguments_are is =
-      by_segment callee list path first rest nodes inner_is arguments_are (first_of_kind k.PATH_SEGMENT (parts_of path)) refl is
-  by_inner callee list nodes (path ∷ other ∷ more) arguments inner_is arguments_are is = absurd (none-some call is)
+  by_inner callee list nodes kinds [] arguments inner_is arguments_are is = absurd (none-some call is)
+  by_inner callee list nodes kinds (path ∷ []) [] inner_is arguments_are is = absurd (none-some call is)
+  by_inner callee list nodes kinds (path ∷ []) (first ∷ rest) inner_is arguments_are is = by_path (same_kind path.kind k.PATH) refl is
+    where
+      by_path : (b : Bool) → same_kind path.kind k.PATH ≡ b
+          → ◌≡◌ {A = Option Called} (cond b (option_map (λ _. record { path = path; arguments = first ∷ rest }) (first_of_kind k.PATH_SEGMENT (parts_of path))) None) (Some call)
+          → IsCalled p call
+      by_path true is_path is =
+          by_segment callee list path first rest nodes kinds inner_is is_path arguments_are (first_of_kind k.PATH_SEGMENT (parts_of path)) refl is
+      by_path false is_path is = absurd (none-some call is)
+  by_inner callee list nodes kinds (path ∷ other ∷ more) arguments inner_is arguments_are is = absurd (none-some call is)
 
   by_nodes : (nodes : List Node) → child_nodes p ≡ nodes → called_in nodes ≡ Some call → IsCalled p call
   by_nodes [] nodes is = absurd (none-some call is)
   by_nodes (callee ∷ []) nodes is = absurd (none-some call is)
-  by_nodes (callee ∷ list ∷ []) nodes is = by_inner callee list nodes (child_nodes callee) (child_nodes list) refl refl is
+  by_nodes (callee ∷ list ∷ []) nodes is = by_kinds (are_call callee list) refl is
+    where
+      by_kinds : (b : Bool) → are_call callee list ≡ b → cond b (called_with (child_nodes callee) (child_nodes list)) None ≡ Some call → IsCalled p call
+      by_kinds true kinds is = by_inner callee list nodes kinds (child_nodes callee) (child_nodes list) refl refl is
+      by_kinds false kinds is = absurd (none-some call is)
   by_nodes (callee ∷ list ∷ other ∷ more) nodes is = absurd (none-some call is)
 
   pub is_called : called p ≡ Some call → IsCalled p call

@@ -1,5 +1,5 @@
 -- What a match binds are tokens of its node, and no two share one.
-use Rattle.std.proofs.Common.{◌≡◌, ℕ, Bool, true, false, List, [], ◌∷◌, ◌++◌, map, All, AllPairs, Option, Some, None, refl, sym, ap, subst, arith}
+use Rattle.std.proofs.Common.{◌≡◌, ℕ, Bool, true, false, List, [], ◌∷◌, ◌++◌, map, All, AllPairs, Option, Some, None, inl, refl, sym, ap, subst, arith}
 use Rattle.std.specs.Prelude.{if◌then◌else◌}
 use Rattle.std.proofs.lemmas.List.Elements.{All-nil, All-cons, All-head, All-tail, All-append, All-map, All-weaker}
 use Rattle.std.proofs.lemmas.List.Kept.{AllPairs-cons}
@@ -15,10 +15,13 @@ use Rattle.ide_ssr_found.specs.Apart.{tokens_held, IsHeldIn, AreApart}
 use Rattle.ide_ssr_found.specs.Found.{node_binding}
 use Rattle.ide_ssr_resolving.specs.Resolved.{ResolvedKind}
 use Rattle.ide_ssr_matching.specs.Children.{bare}
+use Rattle.ide_ssr_token_trees.specs.TokenTrees.{TreesMatch}
+use Rattle.ide_ssr_token_trees.proofs.Shared.{trees_held, trees_behind}
+use Rattle.ide_ssr_matching.specs.TokenTrees.{token_placeholder}
 use Rattle.ide_ssr_matching.specs.UsedPaths.{arguments_of}
 use Rattle.ide_ssr_matching.specs.declared.receivers.Receiver.{Receiver}
 use Rattle.ide_ssr_matching.specs.Sides.{is_node, received, kept}
-use Rattle.ide_ssr_matching.specs.Matching.{Matches, bound, method, used, alike, Pairs, end, tokens, nodes}
+use Rattle.ide_ssr_matching.specs.Matching.{Matches, bound, trees, method, used, alike, Pairs, end, tokens, nodes}
 use Rattle.ide_ssr_matching.proofs.CallNodes.{method_sides_are}
 use Rattle.ide_ssr_matching.proofs.Spread.{RunsApart, narrower, wider, IsPartOf, IsAmongNode, PartsApart, counted_are}
 
@@ -118,6 +121,13 @@ module _ (code : Syntax) where
     mutual
       matches_held : (p c : Node) (bs : List Binding) → Matches m tree rule p c bs → IsOf code c → AreHeld c bs
       matches_held _ _ _ (bound p c i at met) is = itself c i is
+      matches_held _ _ _ (trees p c bs none tree_node code_tree found) is =
+          let there = subst (λ node. TreesMatch (token_placeholder rule) p node bs) (sym is.1) found in
+          let at = token_placeholder rule in
+          record {
+            each = subst (λ node. All (IsHeldIn code node) bs) is.1 (trees_held at p code c.number bs is.0 there);
+            apart = λ i j d before within. inl (trees_behind at p code c.number bs is.0 there i j d before within);
+          }
       matches_held _ _ _ (method p c call sides bs none qualified is_method found pairs) is =
           let are = method_sides_are code m tree rule call p c sides is found in
           kept_held c sides.receiver bs

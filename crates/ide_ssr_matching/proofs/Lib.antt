@@ -10,7 +10,9 @@ mod CallNodes
 mod Steps
 mod Pairs
 mod Agreement
+mod OwnTokens
 mod Spread
+mod Numbered
 mod Bound
 mod Held
 mod Roots

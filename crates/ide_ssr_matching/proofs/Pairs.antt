@@ -1,7 +1,8 @@
 -- What the code of the matcher answers, case by case, and pair by pair.
 use Rattle.std.proofs.Common.{◌≡◌, ℕ, zero, suc, ◌+◌, ◌<◌, ◌≤◌, Bool, true, false, ◌&&◌, cond, List, [], ◌∷◌, ◌++◌, length, drop, get_or, All, Option, Some, None, refl, sym, ◌∙◌, ap, subst, arith, append_assoc, append-nil, ◌*◌, option_to_list, is_some, not, IfNone, IfOk, Result}
 use Rattle.std.specs.Prelude.{map, max}
-use Rattle.std.specs.Option.{option_and_then, option_map}
+use Rattle.std.specs.Option.{is_none, option_and_then, option_map}
+use Rattle.std.proofs.lemmas.Bool.{and_from, and_parts, not-true}
 use Rattle.std.specs.Str.{bytes_eq}
 use Rattle.std.proofs.lemmas.List.{get_or_default, length-map}
 use Rattle.std.proofs.Math.ListN.{drop_of_length-le}
@@ -28,13 +29,15 @@ use Rattle.ide_ssr_found.specs.declared.bindings.Binding.{Binding}
 use Rattle.ide_ssr_found.specs.Found.{node_binding}
 use Rattle.ide_ssr_matching.specs.declared.calls.MethodSides.{MethodSides}
 use Rattle.ide_ssr_matching.specs.Children.{bare}
+use Rattle.ide_ssr_matching.specs.TokenTrees.{is_tree, tree_by, is_plain, is_by_parts}
 use Rattle.ide_ssr_matching.specs.UsedPaths.{arguments_of, pattern_res}
 use Rattle.ide_ssr_matching.specs.Sides.{Sides, received, kept}
 use Rattle.ide_ssr_matching.specs.Calls.{method_sides, can_be_call}
-use Rattle.ide_ssr_matching.specs.Bindings.{Binder, joined, pair_by, pairs_by, placeholder_by, stands_for, counted, counted_sides, counted_by, can_match, like_sides, sides_in, sides_by, sides_of, node_by, bindings_of}
+use Rattle.ide_ssr_token_trees.specs.Bindings.{joined}
+use Rattle.ide_ssr_matching.specs.Bindings.{Binder, pair_by, pairs_by, placeholder_by, stands_for, counted, counted_sides, counted_by, can_match, like_sides, sides_in, sides_by, sides_of, other_by, node_by, bindings_of}
 use Rattle.ide_ssr_matching.specs.Private.Calls.{sides_at}
 use Rattle.ide_ssr_matching.specs.Private.Children.{IsBelow, AreKept}
-use Rattle.ide_ssr_matching.specs.Private.Matching.{Answers, matched, other}
+use Rattle.ide_ssr_token_trees.specs.Bindings.{Answers, matched, other}
 use Rattle.ide_ssr_matching.proofs.Bare.{below-has, tail_has}
 use Rattle.ide_ssr_matching.proofs.Steps.{bindings_step}
 
@@ -78,13 +81,16 @@ negated false c is = ap not (sym is)
 
 -- how far a recursion on a pattern still goes: at what counts of a node, at a node of a kind, at any node and at an element
 abbrev pub children_size : Syntax → ℕ → ℕ
-children_size code n = 4 * size_of (node_of code n)
+children_size code n = 5 * size_of (node_of code n)
 
 abbrev pub like_size : Syntax → ℕ → ℕ
 like_size code n = 1 + children_size code n
 
+abbrev pub parts_size : Syntax → ℕ → ℕ
+parts_size code n = 1 + like_size code n
+
 abbrev pub node_size : Syntax → ℕ → ℕ
-node_size code n = 1 + like_size code n
+node_size code n = 1 + parts_size code n
 
 abbrev pub element_size : Syntax → Element → ℕ
 element_size code (element.Node n) = 1 + node_size code n.0
@@ -348,19 +354,60 @@ largest-below code n (x ∷ xs) has below =
 
 -- ** Whether a node matches.
 
+-- what is known of a node that is matched by its parts
+pub record IsByParts (rule : ResolvedKind) (p : Node) : Type 0 where
+  pub none : placeholder_at rule.names p ≡ None
+  pub no_tree : is_tree p ≡ false
+  pub plain : is_plain rule p ≡ true
+
+no_placeholder : (o : Option ℕ) → is_none o ≡ true → o ≡ None
+no_placeholder None is = refl
+no_placeholder (Some i) is = let e : false ≡ true = is in cc
+
+pub parts_of_it : (rule : ResolvedKind) (p : Node) → is_by_parts rule p ≡ true → IsByParts rule p
+parts_of_it rule p is =
+    let first = and_parts (is_none (placeholder_at rule.names p)) (not (is_tree p) && is_plain rule p) is in
+    let rest = and_parts (not (is_tree p)) (is_plain rule p) first.1 in
+    record { none = no_placeholder (placeholder_at rule.names p) first.0; no_tree = not-true (is_tree p) rest.0; plain = rest.1 }
+
+pub by_parts : (rule : ResolvedKind) (p : Node) → placeholder_at rule.names p ≡ None → is_tree p ≡ false → is_plain rule p ≡ true → is_by_parts rule p ≡ true
+by_parts rule p none no_tree plain =
+    and_from (is_none (placeholder_at rule.names p)) (not (is_tree p) && is_plain rule p) (ap is_none none)
+    (and_from (not (is_tree p)) (is_plain rule p) (ap not no_tree) plain)
+
 module _ (ms : Meanings) (tree : ℕ) (rule : ResolvedKind) where
+  -- what is told of a node that is no placeholder
+  abbrev rest_of : Node → Node → Option (List Binding)
+  rest_of p c = other_by ms tree rule (bindings_of ms tree rule) (is_tree p) (is_plain rule p) p c
+
   pub bindings-placeholder : (p c : Node) (i : ℕ) → placeholder_at rule.names p ≡ Some i
       → bindings_of ms tree rule p c ≡ placeholder_by rule i c
-  bindings-placeholder p c i is =
-      bindings_step ms tree rule p c ∙ ap (λ o. node_by ms tree rule (bindings_of ms tree rule) o (sides_of ms tree rule p c) c) is
+  bindings-placeholder p c i is = bindings_step ms tree rule p c ∙ ap (λ o. node_by rule o (rest_of p c) c) is
 
-  -- no placeholder, by the parts that have to pair
-  pub bindings-sides : (p c : Node) (o : Option Sides) → placeholder_at rule.names p ≡ None → sides_of ms tree rule p c ≡ o
-      → bindings_of ms tree rule p c ≡ option_and_then (sides_by (bindings_of ms tree rule)) o
-  bindings-sides p c o none is =
+  bindings-other : (p c : Node) (is_tree_node plain : Bool) → placeholder_at rule.names p ≡ None → is_tree p ≡ is_tree_node → is_plain rule p ≡ plain
+      → bindings_of ms tree rule p c ≡ other_by ms tree rule (bindings_of ms tree rule) is_tree_node plain p c
+  bindings-other p c is_tree_node plain none tree_is plain_is =
       bindings_step ms tree rule p c
-      ∙ ap (λ o. node_by ms tree rule (bindings_of ms tree rule) o (sides_of ms tree rule p c) c) none
-      ∙ ap (option_and_then (sides_by (bindings_of ms tree rule))) is
+      ∙ ap (λ o. node_by rule o (rest_of p c) c) none
+      ∙ ap (λ b. other_by ms tree rule (bindings_of ms tree rule) b (is_plain rule p) p c) tree_is
+      ∙ ap (λ b. other_by ms tree rule (bindings_of ms tree rule) is_tree_node b p c) plain_is
+
+  pub bindings-trees : (p c : Node) → placeholder_at rule.names p ≡ None → is_tree p ≡ true → bindings_of ms tree rule p c ≡ tree_by rule p c
+  bindings-trees p c none is = bindings-other p c true (is_plain rule p) none is refl
+
+  pub bindings-spoiled : (p c : Node) → placeholder_at rule.names p ≡ None → is_tree p ≡ false → is_plain rule p ≡ false → bindings_of ms tree rule p c ≡ None
+  bindings-spoiled p c none is plain = bindings-other p c false false none is plain
+
+  -- by the parts that have to pair
+  pub bindings-parts : (p c : Node) (o : Option Sides) → placeholder_at rule.names p ≡ None → is_tree p ≡ false → is_plain rule p ≡ true
+      → sides_of ms tree rule p c ≡ o → bindings_of ms tree rule p c ≡ option_and_then (sides_by (bindings_of ms tree rule)) o
+  bindings-parts p c o none is plain sides =
+      bindings-other p c false true none is plain ∙ ap (option_and_then (sides_by (bindings_of ms tree rule))) sides
+
+  pub bindings-sides : (p c : Node) (o : Option Sides) → is_by_parts rule p ≡ true → sides_of ms tree rule p c ≡ o
+      → bindings_of ms tree rule p c ≡ option_and_then (sides_by (bindings_of ms tree rule)) o
+  bindings-sides p c o by_parts sides =
+      let it = parts_of_it rule p by_parts in bindings-parts p c o it.none it.no_tree it.plain sides
 
   pub like-tested : (p c : Node) (used : Option Res) (b : Bool) → pattern_res rule p ≡ used
       → (same_kind p.kind c.kind && can_match ms tree rule used p c) ≡ b
@@ -439,40 +486,66 @@ module _ (ms : Meanings) (tree : ℕ) (rule : ResolvedKind) where
   no_call p c (Some call) false none = refl
   no_call p c None b none = refl
 
-  -- what is asked of any node
-  module _ {E : Type 0} (result : Result Bool E) (pattern code : Syntax) (n : NodeNo) (m : ℕ) (old new : List Binding) (has : HasNode pattern n.0)
-      (placeholder : Option ℕ) (at : placeholder ≡ placeholder_at rule.names (node_of pattern n.0)) (none : (i : ℕ) → placeholder ≡ Some i → ⊥) where
+  -- what is asked of a node that is no placeholder and no token tree
+  module _ {E : Type 0} (result : Result Bool E) (pattern code : Syntax) (n : NodeNo) (m : ℕ) (old new : List Binding) (has : HasNode pattern n.0) where
+    abbrev AnswersSides : Option Sides → Type 0
+    AnswersSides sides = IfOk result (λ b. Answers (option_and_then (sides_by (bindings_of ms tree rule)) sides) old new b)
+
     by_call : (o : Option QualifiedCall) (is_method : Bool) → o ≡ call_at rule.qualified_calls n
         → is_method ≡ same_kind (node_of code m).kind k.METHOD_CALL_EXPR
-        → IfOk result (λ b. Answers (option_and_then (sides_by (bindings_of ms tree rule)) (sides_in ms tree rule o is_method (node_of pattern n.0) (node_of code m))) old new b)
-        → IfOk result (λ b. Answers (bindings_of ms tree rule (node_of pattern n.0) (node_of code m)) old new b)
+        → AnswersSides (sides_in ms tree rule o is_method (node_of pattern n.0) (node_of code m))
+        → AnswersSides (sides_of ms tree rule (node_of pattern n.0) (node_of code m))
     by_call o is_method o_is method_is answers =
         let p = node_of pattern n.0 in
         let c = node_of code m in
-        subst (λ whole. IfOk result (λ b. Answers whole old new b))
+        subst AnswersSides
         (sym
-        (bindings-sides p c (sides_in ms tree rule o is_method p c) (sym at ∙ none_else placeholder none)
         (ap (λ number. sides_in ms tree rule (call_at rule.qualified_calls (record { 0 = number })) (same_kind c.kind k.METHOD_CALL_EXPR) p c)
         (node_of-number pattern n.0 has)
         ∙ ap (λ o. sides_in ms tree rule o (same_kind c.kind k.METHOD_CALL_EXPR) p c) (sym o_is)
-        ∙ ap (λ is_method. sides_in ms tree rule o is_method p c) (sym method_is))))
+        ∙ ap (λ is_method. sides_in ms tree rule o is_method p c) (sym method_is)))
         answers
 
     -- no qualified call meets a method call
     pub like-from : (o : Option QualifiedCall) (is_method : Bool) → o ≡ call_at rule.qualified_calls n
         → is_method ≡ same_kind (node_of code m).kind k.METHOD_CALL_EXPR → (is_some o && is_method) ≡ false
-        → IfOk result (λ b. Answers (option_and_then (sides_by (bindings_of ms tree rule)) (like_sides ms tree rule (node_of pattern n.0) (node_of code m))) old new b)
-        → IfOk result (λ b. Answers (bindings_of ms tree rule (node_of pattern n.0) (node_of code m)) old new b)
+        → AnswersSides (like_sides ms tree rule (node_of pattern n.0) (node_of code m))
+        → AnswersSides (sides_of ms tree rule (node_of pattern n.0) (node_of code m))
     like-from o is_method o_is method_is unmet answers =
-        by_call o is_method o_is method_is
-        (subst (λ s. IfOk result (λ b. Answers (option_and_then (sides_by (bindings_of ms tree rule)) s) old new b))
-        (sym (no_call (node_of pattern n.0) (node_of code m) o is_method unmet)) answers)
+        by_call o is_method o_is method_is (subst AnswersSides (sym (no_call (node_of pattern n.0) (node_of code m) o is_method unmet)) answers)
 
     -- one does
     pub method-from : (call : QualifiedCall) → Some call ≡ call_at rule.qualified_calls n → true ≡ same_kind (node_of code m).kind k.METHOD_CALL_EXPR
-        → IfOk result (λ b. Answers (option_and_then (sides_by (bindings_of ms tree rule)) (method_sides ms tree rule call (node_of pattern n.0) (node_of code m))) old new b)
-        → IfOk result (λ b. Answers (bindings_of ms tree rule (node_of pattern n.0) (node_of code m)) old new b)
+        → AnswersSides (method_sides ms tree rule call (node_of pattern n.0) (node_of code m))
+        → AnswersSides (sides_of ms tree rule (node_of pattern n.0) (node_of code m))
     method-from call is is_method answers = by_call (Some call) true is is_method answers
+
+  -- ** Any node.
+
+  -- a node that is no placeholder
+  module _ (pattern code : Syntax) (n m : ℕ) (old : List Binding) (placeholder : Option ℕ)
+      (at : placeholder ≡ placeholder_at rule.names (node_of pattern n)) (none : (i : ℕ) → placeholder ≡ Some i → ⊥) where
+    pub trees-from : {E : Type 0} (result : Result Bool E) (new : List Binding) (b : Bool) → b ≡ is_tree (node_of pattern n) → b ≡ true
+        → IfOk result (λ b. Answers (tree_by rule (node_of pattern n) (node_of code m)) old new b)
+        → IfOk result (λ b. Answers (bindings_of ms tree rule (node_of pattern n) (node_of code m)) old new b)
+    trees-from result new b b_is is answers =
+        subst (λ o. IfOk result (λ b. Answers o old new b))
+        (sym (bindings-trees (node_of pattern n) (node_of code m) (sym at ∙ none_else placeholder none) (sym b_is ∙ is))) answers
+
+    pub spoiled-from : (b d : Bool) → b ≡ is_tree (node_of pattern n) → b ≡ false → d ≡ is_plain rule (node_of pattern n) → d ≡ false
+        → Answers (bindings_of ms tree rule (node_of pattern n) (node_of code m)) old old false
+    spoiled-from b d b_is is d_is spoiled =
+        other refl
+        (bindings-spoiled (node_of pattern n) (node_of code m) (sym at ∙ none_else placeholder none) (sym b_is ∙ is) (sym d_is ∙ spoiled))
+
+    pub parts-from : {E : Type 0} (result : Result Bool E) (new : List Binding) (b d : Bool) → b ≡ is_tree (node_of pattern n) → b ≡ false → d ≡ is_plain rule (node_of pattern n) → d ≡ true
+        → IfOk result (λ b. Answers (option_and_then (sides_by (bindings_of ms tree rule)) (sides_of ms tree rule (node_of pattern n) (node_of code m))) old new b)
+        → IfOk result (λ b. Answers (bindings_of ms tree rule (node_of pattern n) (node_of code m)) old new b)
+    parts-from result new b d b_is is d_is plain answers =
+        let p = node_of pattern n in
+        let c = node_of code m in
+        subst (λ o. IfOk result (λ b. Answers o old new b))
+        (sym (bindings-parts p c (sides_of ms tree rule p c) (sym at ∙ none_else placeholder none) (sym b_is ∙ is) (sym d_is ∙ plain) refl)) answers
 
   -- ** Whether a node of the kind can match.
 

@@ -6,7 +6,7 @@ use Rattle.ssr_base.specs.Meanings.{Meanings}
 use Rattle.ide_ssr_resolving.specs.Resolved.{ResolvedKind}
 use Rattle.ide_ssr_found.specs.declared.bindings.Binding.{Binding}
 use Rattle.ide_ssr_matching.specs.Bindings.{bindings_of}
-use Rattle.ide_ssr_matching.specs.Private.Matching.{Answers, matched, other}
+use Rattle.ide_ssr_token_trees.specs.Bindings.{Answers, matched, other}
 
 node_of-root : (syntax : Syntax) → node_of syntax 0 ≡ root_of syntax
 unfolding node_of

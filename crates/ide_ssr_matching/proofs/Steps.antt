@@ -1,7 +1,7 @@
 -- The bindings of a match as one step: a node of the pattern asks only for smaller ones, and more steps than it has nodes
 -- change nothing.
 use Rattle.std.proofs.Common.{◌≡◌, ℕ, zero, suc, ◌+◌, ◌<◌, ◌≤◌, Bool, true, false, ◌&&◌, cond, List, [], ◌∷◌, ◌++◌, map, All, Option, Some, None, refl, ◌∙◌, ap, subst, arith}
-use Rattle.std.specs.Option.{option_map}
+use Rattle.std.specs.Option.{option_and_then, option_map}
 use Rattle.std.proofs.lemmas.List.Elements.{All-nil, All-cons, All-head, All-tail, All-append, All-map, All-weaker}
 use Rattle.std.proofs.lemmas.Option.{none-some, same_Some}
 use Rattle.ssr_syntax_kinds.specs.declared.kinds.SyntaxKind.TheVariants as k
@@ -14,10 +14,12 @@ use Rattle.ide_ssr_resolving.specs.declared.qualified_calls.QualifiedCall.{Quali
 use Rattle.ide_ssr_resolving.specs.Placeholders.{placeholder_at}
 use Rattle.ide_ssr_resolving.specs.Resolved.{ResolvedKind}
 use Rattle.ide_ssr_matching.specs.Children.{bare}
+use Rattle.ide_ssr_matching.specs.TokenTrees.{is_tree, is_plain}
 use Rattle.ide_ssr_matching.specs.UsedPaths.{arguments_of, pattern_res}
 use Rattle.ide_ssr_matching.specs.Sides.{Sides, kept}
 use Rattle.ide_ssr_matching.specs.Calls.{child_nodes, Called, call_of}
-use Rattle.ide_ssr_matching.specs.Bindings.{Binder, joined, pair_by, pairs_by, counted, counted_sides, can_match, like_sides, sides_in, sides_of, node_by, step, bindings_by, bindings_of}
+use Rattle.ide_ssr_token_trees.specs.Bindings.{joined}
+use Rattle.ide_ssr_matching.specs.Bindings.{Binder, pair_by, pairs_by, counted, counted_sides, can_match, like_sides, sides_in, sides_of, sides_by, other_by, node_by, step, bindings_by, bindings_of}
 use Rattle.ide_ssr_matching.proofs.CallParts.{nodes_all, IsCalled, method_match}
 use Rattle.ide_ssr_matching.proofs.Counted.{bare_all, first_has, last_arguments_all}
 
@@ -118,20 +120,24 @@ module _ (m : Meanings) (tree : ℕ) (rule : ResolvedKind) where
 
   step_same : (f g : Binder) (p c : Node) → ((q : Node) → size_of q < size_of p → (d : Node) → f q d ≡ g q d)
       → step m tree rule f p c ≡ step m tree rule g p c
-  step_same f g p c same = by (placeholder_at rule.names p) (sides_of m tree rule p c) (sides_smaller p c)
+  step_same f g p c same = ap (λ rest. node_by rule (placeholder_at rule.names p) rest c) (by_kind (is_tree p) (is_plain rule p))
     where
       is_same : (part : Part) → IsSmaller (size_of p) part → AreSame f g part
       is_same (token_part t token) lt = tt
       is_same (node_part q) lt = same q lt
 
-      by : (o : Option ℕ) (s : Option Sides) → ((sides : Sides) → s ≡ Some sides → All (IsSmaller (size_of p)) sides.pattern)
-          → node_by m tree rule f o s c ≡ node_by m tree rule g o s c
-      by (Some i) s smaller = refl
-      by None None smaller = refl
-      by None (Some sides) smaller =
+      by : (s : Option Sides) → ((sides : Sides) → s ≡ Some sides → All (IsSmaller (size_of p)) sides.pattern)
+          → option_and_then (sides_by f) s ≡ option_and_then (sides_by g) s
+      by None smaller = refl
+      by (Some sides) smaller =
           ap (option_map (kept sides.receiver))
           (pairs_same f g sides.pattern sides.code
           (All-weaker (IsSmaller (size_of p)) (AreSame f g) is_same sides.pattern (smaller sides refl)))
+
+      by_kind : (tree_node plain : Bool) → other_by m tree rule f tree_node plain p c ≡ other_by m tree rule g tree_node plain p c
+      by_kind true plain = refl
+      by_kind false true = by (sides_of m tree rule p c) (sides_smaller p c)
+      by_kind false false = refl
 
   more_steps : (n k : ℕ) (p c : Node) → size_of p ≤ n → size_of p ≤ k → bindings_by m tree rule n p c ≡ bindings_by m tree rule k p c
   more_steps zero k p c low high = absurd (omega arith)

@@ -1,6 +1,6 @@
 -- The bindings of a match, computed: those of the relation of `Matching`, as the law `laws::matching` says. A node of the
 -- pattern asks only for smaller ones, so that as many steps as it has nodes are enough.
-use Rattle.std.specs.Prelude.{ℕ, zero, suc, ◌&&◌, Bool, true, false, if◌then◌else◌, List, [], ◌∷◌, ◌++◌, Option, Some, None}
+use Rattle.std.specs.Prelude.{ℕ, zero, suc, ◌&&◌, Bool, true, false, if◌then◌else◌, List, [], ◌∷◌, Option, Some, None}
 use Rattle.std.specs.Option.{option_and_then, option_map, option_map_or}
 use Rattle.ssr_syntax_kinds.specs.declared.kinds.SyntaxKind.TheVariants as k
 use Rattle.ssr_syntax_kinds.specs.Kinds.{same_kind}
@@ -16,6 +16,8 @@ use Rattle.ide_ssr_found.specs.Found.{node_binding}
 use Rattle.ide_ssr_matching.specs.Children.{bare}
 use Rattle.ide_ssr_matching.specs.Sides.{Sides, kept}
 use Rattle.ide_ssr_matching.specs.Calls.{call_of, method_sides, can_be_call}
+use Rattle.ide_ssr_token_trees.specs.Bindings.{joined}
+use Rattle.ide_ssr_matching.specs.TokenTrees.{is_tree, tree_by, is_plain}
 use Rattle.ide_ssr_matching.specs.UsedPaths.{arguments_of, pattern_res, code_res}
 
 -- ** Parts against parts.
@@ -23,12 +25,6 @@ use Rattle.ide_ssr_matching.specs.UsedPaths.{arguments_of, pattern_res, code_res
 -- what a node of a pattern binds in a node of the code, where that matches it
 abbrev pub Binder : Type 0
 Binder = Node → Node → Option (List Binding)
-
--- both bindings, where there are both
-abbrev pub joined : Option (List Binding) → Option (List Binding) → Option (List Binding)
-joined (Some bs) (Some rest) = Some (bs ++ rest)
-joined (Some bs) None = None
-joined None rest = None
 
 -- a part of the pattern against one of the code
 abbrev pub pair_by : Binder → Part → Part → Option (List Binding)
@@ -49,6 +45,11 @@ pairs_by inner (p ∷ ps) (c ∷ cs) = joined (pair_by inner p c) (pairs_by inne
 -- a placeholder against a node, which has to meet its constraints
 abbrev pub placeholder_by : ResolvedKind → ℕ → Node → Option (List Binding)
 placeholder_by rule i c = if meets rule i c.kind then Some (node_binding i c.number ∷ []) else None
+
+-- a node of the pattern that may be a placeholder
+abbrev pub node_by : ResolvedKind → Option ℕ → Option (List Binding) → Node → Option (List Binding)
+node_by rule (Some i) rest c = placeholder_by rule i c
+node_by rule None rest c = rest
 
 -- whether what is told of a node of the code is what a used path stands for
 abbrev pub stands_for : Res → Option Res → Bool
@@ -93,14 +94,15 @@ module _ (m : Meanings) (tree : ℕ) (rule : ResolvedKind) where
   abbrev pub sides_of : Node → Node → Option Sides
   sides_of p c = sides_in (call_of rule p) (same_kind c.kind k.METHOD_CALL_EXPR) p c
 
-  -- a node of the pattern that is the placeholder, or whose parts have to pair, against a node
-  abbrev pub node_by : Binder → Option ℕ → Option Sides → Node → Option (List Binding)
-  node_by inner (Some i) sides c = placeholder_by rule i c
-  node_by inner None sides c = option_and_then (sides_by inner) sides
+  -- a node of the pattern that is no placeholder against a node: a token tree by its tokens, another one by its parts
+  abbrev pub other_by : Binder → Bool → Bool → Node → Node → Option (List Binding)
+  other_by inner true plain p c = tree_by rule p c
+  other_by inner false true p c = option_and_then (sides_by inner) (sides_of p c)
+  other_by inner false false p c = None
 
-  -- the same, where it is told for smaller nodes
+  -- any node of the pattern, where it is told for smaller ones
   abbrev pub step : Binder → Binder
-  step inner p c = node_by inner (placeholder_at rule.names p) (sides_of p c) c
+  step inner p c = node_by rule (placeholder_at rule.names p) (other_by inner (is_tree p) (is_plain rule p) p c) c
 
   abbrev pub bindings_by : ℕ → Binder
   bindings_by zero p c = None

@@ -63,12 +63,18 @@ pub record Called : Type 0 where
 -- by the nodes of the callee: only a path, which has a segment
 abbrev pub called_with : List Node → List Node → Option Called
 called_with (path ∷ []) (first ∷ rest) =
-    option_map (λ _. record { path = path; arguments = first ∷ rest }) (first_of_kind k.PATH_SEGMENT (parts_of path))
+    if same_kind path.kind k.PATH
+    then option_map (λ _. record { path = path; arguments = first ∷ rest }) (first_of_kind k.PATH_SEGMENT (parts_of path))
+    else None
 called_with callee arguments = None
+
+-- whether two nodes are a path expression and a list of arguments
+abbrev pub are_call : Node → Node → Bool
+are_call callee list = same_kind callee.kind k.PATH_EXPR && same_kind list.kind k.ARG_LIST
 
 -- by the nodes of the call: the callee, and the list of arguments
 abbrev pub called_in : List Node → Option Called
-called_in (callee ∷ list ∷ []) = called_with (child_nodes callee) (child_nodes list)
+called_in (callee ∷ list ∷ []) = if are_call callee list then called_with (child_nodes callee) (child_nodes list) else None
 called_in _ = None
 
 abbrev pub called : Node → Option Called

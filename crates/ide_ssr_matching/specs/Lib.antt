@@ -3,6 +3,7 @@ pub mod Children
 pub mod UsedPaths
 pub mod Sides
 pub mod Calls
+pub mod TokenTrees
 pub mod Matching
 pub mod Bindings
 pub mod Private

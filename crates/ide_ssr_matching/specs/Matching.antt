@@ -13,9 +13,12 @@ use Rattle.ide_ssr_found.specs.Found.{node_binding}
 use Rattle.ide_ssr_matching.specs.Children.{bare}
 use Rattle.ide_ssr_matching.specs.UsedPaths.{arguments_of, pattern_res, code_res}
 use Rattle.ide_ssr_matching.specs.Sides.{Sides, kept}
+use Rattle.ide_ssr_token_trees.specs.TokenTrees.{TreesMatch}
+use Rattle.ide_ssr_matching.specs.TokenTrees.{is_tree, token_placeholder, is_by_parts}
 use Rattle.ide_ssr_matching.specs.Calls.{call_of, meets_method, method_sides, can_be_call}
 
--- A placeholder of the pattern matches each node that meets its constraints, and binds it. A qualified call matches the method
+-- A placeholder of the pattern matches each node that meets its constraints, and binds it. A token tree matches token trees by
+-- their tokens. A qualified call matches the method
 -- calls of the same function on a receiver that can be its first argument. A used path matches the paths that stand for the
 -- same thing and whose arguments pair with its own, one by one; what else they are spelled with doesn't count. Any other node
 -- of the pattern matches the nodes of its kind whose bare children pair with its own, one by one; a qualified call only those
@@ -24,13 +27,15 @@ mutual
   pub data Matches (m : Meanings) (tree : ℕ) (rule : ResolvedKind) : Node → Node → List Binding → Type 0 where
     bound : (p c : Node) (i : ℕ) → placeholder_at rule.names p ≡ Some i → meets rule i c.kind ≡ true
         → Matches m tree rule p c (node_binding i c.number ∷ [])
-    method : (p c : Node) (call : QualifiedCall) (sides : Sides) (bs : List Binding) → placeholder_at rule.names p ≡ None
+    trees : (p c : Node) (bs : List Binding) → placeholder_at rule.names p ≡ None → is_tree p ≡ true → is_tree c ≡ true
+        → TreesMatch (token_placeholder rule) p c bs → Matches m tree rule p c bs
+    method : (p c : Node) (call : QualifiedCall) (sides : Sides) (bs : List Binding) → is_by_parts rule p ≡ true
         → call_of rule p ≡ Some call → c.kind ≡ k.METHOD_CALL_EXPR → method_sides m tree rule call p c ≡ Some sides
         → Pairs m tree rule sides.pattern sides.code bs → Matches m tree rule p c (kept sides.receiver bs)
-    used : (p c : Node) (r : Res) (bs : List Binding) → placeholder_at rule.names p ≡ None → meets_method rule p c ≡ false
+    used : (p c : Node) (r : Res) (bs : List Binding) → is_by_parts rule p ≡ true → meets_method rule p c ≡ false
         → p.kind ≡ c.kind → pattern_res rule p ≡ Some r → code_res m tree c ≡ Some r
         → Pairs m tree rule (bare (arguments_of p)) (bare (arguments_of c)) bs → Matches m tree rule p c bs
-    alike : (p c : Node) (bs : List Binding) → placeholder_at rule.names p ≡ None → meets_method rule p c ≡ false
+    alike : (p c : Node) (bs : List Binding) → is_by_parts rule p ≡ true → meets_method rule p c ≡ false
         → p.kind ≡ c.kind → pattern_res rule p ≡ None → can_be_call m tree (call_of rule p) c ≡ true
         → Pairs m tree rule (bare (parts_of p)) (bare (parts_of c)) bs → Matches m tree rule p c bs
 

@@ -1,5 +1,4 @@
 -- Words of private functions and of the invariants of private fields. No public clause cites them, and no reader of
 -- those has to believe them.
 pub mod Children
-pub mod Matching
 pub mod Calls

@@ -4,7 +4,7 @@ ghost use Rattle.std.specs.Prelude.{ℕ, ◌≡◌, ◌++◌, All, Contains, IfO
 ghost use Rattle.std.specs.List.{position};
 ghost use Rattle.ssr_syntax_tree.specs.Places.{HasNode, node_of, node_part, part_of};
 ghost use Rattle.ssr_base.specs.Workspace.{node_id};
-ghost use Rattle.ide_ssr_matching.specs.Calls.{child_nodes, first_node, generics_among, arguments_among, method_call, method_parts, called_with, called, same_type, derefs, calls_same, receiver_with, alike_pairs, method_sides, can_be_call};
+ghost use Rattle.ide_ssr_matching.specs.Calls.{child_nodes, first_node, generics_among, arguments_among, method_call, method_parts, are_call, called_with, called, same_type, derefs, calls_same, receiver_with, alike_pairs, method_sides, can_be_call};
 ghost use Rattle.ide_ssr_matching.specs.Private.Calls.{nodes_named, nodes_at, IsNodeBelow, called_at, AreCalledBelow, method_at, IsMethodBelow, sides_at, AreSidesBelow};
 ghost use Rattle.ide_ssr_matching.specs.Private.Children.{IsBelow};
 
@@ -147,13 +147,25 @@ fn called_with(
     let [path] = nodes.as_slice() else {
         return Ok(None);
     };
-    if arguments.is_empty() || last_segment(tree, *path).is_none() {
+    if arguments.is_empty() || !tree.kind(*path).is(SyntaxKind::PATH) {
+        return Ok(None);
+    }
+    if last_segment(tree, *path).is_none() {
         return Ok(None);
     }
     Ok(Some(CalledNodes {
         path: *path,
         arguments,
     }))
+}
+
+/// Whether two nodes are a path expression and a list of arguments.
+fn are_call(tree: &Tree, callee: NodeNo, list: NodeNo) -> bool
+    requires callee { HasNode tree.now callee.0 }
+    requires list { HasNode tree.now list.0 }
+    ensures { result ≡ are_call (node_of tree.now callee.0) (node_of tree.now list.0) }
+{
+    tree.kind(callee).is(SyntaxKind::PATH_EXPR) && tree.kind(list).is(SyntaxKind::ARG_LIST)
 }
 
 /// A call of the pattern, if its callee is only a path.
@@ -166,6 +178,9 @@ fn called(alloc: Global, tree: &Tree, call: NodeNo) -> Result<Option<CalledNodes
     let [callee, list] = nodes.as_slice() else {
         return Ok(None);
     };
+    if !are_call(tree, *callee, *list) {
+        return Ok(None);
+    }
     let found = called_with(alloc, tree, *callee, *list)?;
     Ok(found)
 }

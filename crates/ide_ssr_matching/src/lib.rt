@@ -7,6 +7,7 @@ pub mod laws;
 mod matching;
 mod pattern_iterator;
 mod receivers;
+mod token_trees;
 
 pub use matching::match_node;
 pub use pattern_iterator::PatternIterator;

@@ -5,14 +5,15 @@ ghost use Rattle.std.specs.Option.{option_and_then};
 ghost use Rattle.ssr_syntax_tree.specs.Places.{HasNode, HasToken, HasElement, node_of, root_of, token_of, part_of};
 ghost use Rattle.ssr_syntax_tree.specs.Syntax.{same_token};
 ghost use Rattle.ssr_base.specs.Workspace.{node_id};
-ghost use Rattle.ide_ssr_matching.specs.Bindings.{placeholder_by, stands_for, pair_by, pairs_by, counted_by, can_match, like_sides, sides_by, bindings_of};
+ghost use Rattle.ide_ssr_matching.specs.Bindings.{placeholder_by, stands_for, pair_by, pairs_by, counted_by, can_match, like_sides, sides_of, sides_by, bindings_of};
 ghost use Rattle.ide_ssr_matching.specs.Calls.{method_sides};
 ghost use Rattle.ide_ssr_matching.specs.Sides.{received};
-ghost use Rattle.ide_ssr_matching.specs.Private.Matching.{Answers};
+ghost use Rattle.ide_ssr_token_trees.specs.Bindings.{Answers};
 
 use crate::calls::{can_be_call, method_sides};
 use crate::children::Siblings;
 use crate::receivers::Receiver;
+use crate::token_trees::{is_plain, is_tree, tree_matches};
 use ide_ssr_found::Binding;
 use ide_ssr_resolving::{QualifiedCall, ResolvedRule};
 use ssr_base::{NodeId, Res, Semantics};
@@ -116,6 +117,31 @@ fn node_matches<S: Semantics>(
     if let Some(placeholder) = rule.placeholder(p) {
         return placeholder_matches(rule, code, placeholder, c, out);
     }
+    if is_tree(rule.pattern(), p) {
+        return tree_matches(rule, code, p, c, out);
+    }
+    if !is_plain(rule, p) {
+        return Ok(false);
+    }
+    parts_match(alloc, semantics, rule, number, code, p, c, out)
+}
+
+/// The same for a node `p` that is no placeholder and no token tree.
+#[cycle(matching)]
+fn parts_match<S: Semantics>(
+    alloc: Global,
+    semantics: &S,
+    rule: &ResolvedRule,
+    number: u32,
+    code: &Tree,
+    p: NodeNo,
+    c: NodeNo,
+    out: &mut Vec<Binding>,
+) -> Result<bool, AllocError>
+    requires p_in { HasNode rule.now.pattern p.0 }
+    requires c_in { HasNode code.now c.0 }
+    ensures { IfOk result (λ answer. Answers (option_and_then (sides_by (bindings_of (S.meanings semantics.now) number rule.now)) (sides_of (S.meanings semantics.now) number rule.now (node_of rule.now.pattern p.0) (node_of code.now c.0))) out.old.items out.new.items answer) }
+{
     if !code.kind(c).is(SyntaxKind::METHOD_CALL_EXPR) {
         return like_matches(alloc, semantics, rule, number, code, p, c, out);
     }

@@ -16,7 +16,7 @@ use Rattle.ssr_syntax_kinds.specs.declared.kinds.SyntaxKind.TheVariants as k
 use Rattle.ssr_syntax_tree.specs.Places.{Node, HasNode, node_of, nodes_of, root_of}
 use Rattle.ssr_syntax_tree.specs.Syntax.{Token, Forest, nothing, leaf, branch, Syntax, tokens_in}
 use Rattle.ssr_syntax_tree.proofs.Shared.{length-nodes_of, node_is, node_of-number}
-use Rattle.ssr_syntax.specs.Identifiers.{is_ident, is_mixing}
+use Rattle.ssr_syntax.specs.Identifiers.{is_ident}
 use Rattle.ssr_base.specs.declared.ids.ScopeId.{ScopeId}
 use Rattle.ssr_base.specs.declared.semantics.Res.{Res}
 use Rattle.ssr_base.specs.Meanings.{Meanings}
@@ -24,7 +24,7 @@ use Rattle.ide_ssr_rules.specs.Patterns.{placeholders_among}
 use Rattle.ide_ssr_rules.specs.StandIns.{name_at, is_stand_in, stand_in_of}
 use Rattle.ide_ssr_resolving.specs.declared.used.UsedPath.{UsedPath}
 use Rattle.ide_ssr_resolving.specs.Paths.{below_first, qualifying, is_arguments, before_arguments, from_arguments, without_arguments}
-use Rattle.ide_ssr_resolving.specs.Patterns.{or_below, placeholders_in, HasThemInArguments, AreInArguments}
+use Rattle.ide_ssr_resolving.specs.Patterns.{or_below, placeholders_in, placeholders_mixed, placeholders_below, HasThemInArguments, AreInArguments}
 use Rattle.ide_ssr_resolving.specs.Placeholders.{only_token}
 use Rattle.ide_ssr_resolving.specs.Resolving.{resolution}
 use Rattle.ide_ssr_resolving.specs.Used.{names_placeholder, holds_stand_in, has_generics, ends_in_self, is_whole, is_path, used, use_of, used_at, used_path, is_reached, is_unresolved, reached, refused, used_paths}
@@ -71,24 +71,39 @@ module _ (names : List (List ℕ)) where
       let both = or_parts (names_placeholder names token) (list_any (names_placeholder names) tokens) none in
       ap (λ o. cons_option o (placeholders_among names tokens)) (names_none token both.0) ∙ none_among tokens both.1
 
-  -- what stands in a node
-  abbrev inside : Bool → Forest → List ℕ
-  inside mixing below = if mixing then placeholders_among names (tokens_in below) else placeholders_in names below
+  abbrev at_node : SyntaxKind → Forest → List ℕ
+  at_node kind below = or_below (option_and_then (name_at names) (only_token below)) (placeholders_below names kind below)
 
-  abbrev at_node : Bool → Forest → List ℕ
-  at_node mixing below = or_below (option_and_then (name_at names) (only_token below)) (inside mixing below)
+  node_none : (kind : SyntaxKind) (below : Forest) → HasNone below → placeholders_in names below ≡ [] → placeholders_mixed names below ≡ [] → at_node kind below ≡ []
+  node_none kind below none nodes mixed =
+      ap (λ o. or_below o (placeholders_below names kind below)) (is_none below none) ∙ by (same_kind kind k.TOKEN_TREE) (same_kind kind k.MACRO_RULES)
+    where
+      by : (tree rules : Bool)
+          → (if tree then placeholders_among names (tokens_in below) else if rules then placeholders_mixed names below else placeholders_in names below) ≡ []
+      by true rules = none_among (tokens_in below) none
+      by false true = mixed
+      by false false = nodes
 
-  node_none : (mixing : Bool) (below : Forest) → HasNone below → placeholders_in names below ≡ [] → at_node mixing below ≡ []
-  node_none true below none nodes = ap (λ o. or_below o (inside true below)) (is_none below none) ∙ none_among (tokens_in below) none
-  node_none false below none nodes = ap (λ o. or_below o (inside false below)) (is_none below none) ∙ nodes
+  mutual
+    none_in : (forest : Forest) → HasNone forest → placeholders_in names forest ≡ []
+    none_in nothing none = refl
+    none_in (leaf token next) none =
+        none_in next (or_parts (names_placeholder names token) (list_any (names_placeholder names) (tokens_in next)) none).1
+    none_in (branch kind below next) none =
+        let both = parted (tokens_in below) (tokens_in next) none in
+        ap (λ is. is ++ placeholders_in names next) (node_none kind below both.0 (none_in below both.0) (none_mixed below both.0)) ∙ none_in next both.1
 
-  none_in : (forest : Forest) → HasNone forest → placeholders_in names forest ≡ []
-  none_in nothing none = refl
-  none_in (leaf token next) none =
-      none_in next (or_parts (names_placeholder names token) (list_any (names_placeholder names) (tokens_in next)) none).1
-  none_in (branch kind below next) none =
-      let both = parted (tokens_in below) (tokens_in next) none in
-      ap (λ is. is ++ placeholders_in names next) (node_none (is_mixing kind) below both.0 (none_in below both.0)) ∙ none_in next both.1
+    none_mixed : (forest : Forest) → HasNone forest → placeholders_mixed names forest ≡ []
+    none_mixed nothing none = refl
+    none_mixed (leaf token next) none =
+        let both = or_parts (names_placeholder names token) (list_any (names_placeholder names) (tokens_in next)) none in
+        ap (λ o. cons_option o (placeholders_mixed names next)) (names_none token both.0) ∙ none_mixed next both.1
+    none_mixed (branch kind below next) none =
+        let both = parted (tokens_in below) (tokens_in next) none in
+        ap (λ is. is ++ placeholders_mixed names next) (node_none kind below both.0 (none_in below both.0) (none_mixed below both.0)) ∙ none_mixed next both.1
+
+  none_at : (kind : SyntaxKind) (below : Forest) → HasNone below → at_node kind below ≡ []
+  none_at kind below none = node_none kind below none (none_in below none) (none_mixed below none)
 
   -- ** In a segment.
 
@@ -104,10 +119,10 @@ module _ (names : List (List ℕ)) where
       by true behind none = refl
       by false behind none =
           let both = parted (tokens_in inner) (tokens_in (before_arguments next)) none in
-          ap (λ is. is ++ placeholders_in names next) (node_none (is_mixing kind) inner both.0 (none_in inner both.0)) ∙ behind both.1
+          ap (λ is. is ++ placeholders_in names next) (none_at kind inner both.0) ∙ behind both.1
 
   -- the segment may be a placeholder as a whole: so is its only child then
-  at_segment : (below : Forest) → HasNone (before_arguments below) → at_node false below ≡ placeholders_in names (from_arguments below)
+  at_segment : (below : Forest) → HasNone (before_arguments below) → at_node k.PATH_SEGMENT below ≡ placeholders_in names (from_arguments below)
   at_segment nothing none = refl
   at_segment (leaf token nothing) none =
       ap (λ o. or_below o []) (names_none token (or_parts (names_placeholder names token) false none).0)
@@ -122,19 +137,15 @@ module _ (names : List (List ℕ)) where
       again (Some i) is = refl
 
       by : (b : Bool) → HasNone (if b then nothing else branch kind inner nothing)
-          → or_below (option_and_then (name_at names) (only_token inner)) (at_node (is_mixing kind) inner ++ [])
+          → or_below (option_and_then (name_at names) (only_token inner)) (at_node kind inner ++ [])
           ≡ placeholders_in names (if b then branch kind inner nothing else nothing)
-      by true none = again (option_and_then (name_at names) (only_token inner)) (inside (is_mixing kind) inner)
+      by true none = again (option_and_then (name_at names) (only_token inner)) (placeholders_below names kind inner)
       by false none =
           let both = parted (tokens_in inner) [] none in
-          ap (λ o. or_below o (at_node (is_mixing kind) inner ++ [])) (is_none inner both.0)
-          ∙ ap (λ is. is ++ []) (node_none (is_mixing kind) inner both.0 (none_in inner both.0))
+          ap (λ o. or_below o (at_node kind inner ++ [])) (is_none inner both.0)
+          ∙ ap (λ is. is ++ []) (none_at kind inner both.0)
 
   -- ** In a path.
-
-  -- a segment mixes nothing
-  segment_mixes_not : (kind : SyntaxKind) → same_kind kind k.PATH_SEGMENT ≡ true → is_mixing kind ≡ false
-  segment_mixes_not kind is = ap is_mixing (same_kind-equal kind k.PATH_SEGMENT is)
 
   in_arguments : (path : Forest) → HasNone (without_arguments path) → HasThemInArguments names path
   in_arguments nothing none = refl
@@ -148,13 +159,13 @@ module _ (names : List (List ℕ)) where
           ≡ placeholders_in names (option_map_or from_arguments (if b then Some below else below_first k.PATH_SEGMENT next) nothing)
       by true segment behind none =
           let both = parted (tokens_in (before_arguments below)) (tokens_in next) none in
-          ap (λ is. at_node (is_mixing kind) below ++ is) (none_in next both.1)
-          ∙ append-nil (at_node (is_mixing kind) below)
-          ∙ ap (λ mixing. at_node mixing below) (segment_mixes_not kind segment)
+          ap (λ is. at_node kind below ++ is) (none_in next both.1)
+          ∙ append-nil (at_node kind below)
+          ∙ ap (λ kind. at_node kind below) (same_kind-equal kind k.PATH_SEGMENT segment)
           ∙ at_segment below both.0
       by false segment behind none =
           let both = parted (tokens_in below) (tokens_in (without_arguments next)) none in
-          ap (λ is. is ++ placeholders_in names next) (node_none (is_mixing kind) below both.0 (none_in below both.0)) ∙ behind both.1
+          ap (λ is. is ++ placeholders_in names next) (none_at kind below both.0) ∙ behind both.1
 
   whole_in_arguments : (path : Forest) → is_whole names path ≡ true → HasThemInArguments names path
   unfolding holds_stand_in

@@ -6,13 +6,16 @@ use Rattle.std.specs.Prelude.{if◌then◌else◌}
 use Rattle.std.proofs.lemmas.Bool.{not-true, or_parts}
 use Rattle.std.proofs.lemmas.List.Elements.{filter_map-append}
 use Rattle.std.proofs.lemmas.Option.{option_and_then_some}
+use Rattle.ssr_syntax_kinds.specs.declared.kinds.SyntaxKind.{SyntaxKind}
+use Rattle.ssr_syntax_kinds.specs.declared.kinds.SyntaxKind.TheVariants as k
+use Rattle.ssr_syntax_kinds.specs.Kinds.{same_kind}
 use Rattle.ssr_syntax_tree.specs.Places.{Node}
 use Rattle.ssr_syntax_tree.specs.Syntax.{Token, Forest, nothing, leaf, branch, Syntax, tokens_in, tokens_of}
 use Rattle.ssr_syntax.specs.Identifiers.{is_ident, is_mixing, has_ident, stand_alone, IdentsAlone, IdentsAloneIn}
 use Rattle.ide_ssr_rules.specs.Patterns.{placeholders_among, IsReadOnce}
 use Rattle.ide_ssr_rules.specs.StandIns.{name_at}
 use Rattle.ide_ssr_rules.proofs.Shared.{not_named}
-use Rattle.ide_ssr_resolving.specs.Patterns.{or_below, placeholders_in, placeholders_of, HasEachOnce}
+use Rattle.ide_ssr_resolving.specs.Patterns.{or_below, placeholders_in, placeholders_mixed, placeholders_below, placeholders_of, HasEachOnce}
 use Rattle.ide_ssr_resolving.specs.Placeholders.{only_token, placeholder_at}
 
 pub only_one : (below : Forest) (token : Token) → only_token below ≡ Some token → tokens_in below ≡ token ∷ []
@@ -64,25 +67,44 @@ below_named names (leaf token (branch kind below next)) inside alone =
 below_named names (branch kind below next) inside alone =
     node_named names (branch kind below next) _ (inside (not-true (has_ident (branch kind below next)) alone))
 
--- a node that mixes them or doesn't
-mixed_named : (names : List (List ℕ)) (mixing : Bool) (below : Forest)
-    → (has_ident below ≡ false → placeholders_in names below ≡ placeholders_among names (tokens_in below)) → (mixing || stand_alone below) ≡ true
-    → or_below (option_and_then (name_at names) (only_token below)) (if mixing then placeholders_among names (tokens_in below) else placeholders_in names below)
-    ≡ placeholders_among names (tokens_in below)
-mixed_named names true below inside alone = node_named names below _ refl
-mixed_named names false below inside alone = below_named names below inside alone
+-- a node in which they stand alone
+alone_below : (names : List (List ℕ)) (kind : SyntaxKind) (below : Forest)
+    → (has_ident below ≡ false → placeholders_in names below ≡ placeholders_among names (tokens_in below))
+    → placeholders_mixed names below ≡ placeholders_among names (tokens_in below)
+    → (is_mixing kind || stand_alone below) ≡ true
+    → or_below (option_and_then (name_at names) (only_token below)) (placeholders_below names kind below) ≡ placeholders_among names (tokens_in below)
+alone_below names kind below inside mixed alone = by (same_kind kind k.TOKEN_TREE) (same_kind kind k.MACRO_RULES) alone
+  where
+    by : (tree rules : Bool) → ((tree || (rules || false)) || stand_alone below) ≡ true
+        → or_below (option_and_then (name_at names) (only_token below))
+        (if tree then placeholders_among names (tokens_in below) else if rules then placeholders_mixed names below else placeholders_in names below)
+        ≡ placeholders_among names (tokens_in below)
+    by true rules alone = node_named names below _ refl
+    by false true alone = node_named names below _ mixed
+    by false false alone = below_named names below inside alone
 
-tokens_named : (names : List (List ℕ)) (forest : Forest) → IdentsAlone forest → has_ident forest ≡ false
-    → placeholders_in names forest ≡ placeholders_among names (tokens_in forest)
-tokens_named names nothing alone none = refl
-tokens_named names (leaf token next) alone none =
-    let n = or_parts (is_ident token.kind) (has_ident next) none in
-    tokens_named names next alone n.1
-    ∙ ap (λ o. cons_option o (placeholders_among names (tokens_in next))) (sym (not_named names token n.0))
-tokens_named names (branch kind below next) alone none =
-    ap (λ ps. ps ++ placeholders_in names next) (mixed_named names (is_mixing kind) below (tokens_named names below alone.1) alone.0)
-    ∙ ap (λ ps. placeholders_among names (tokens_in below) ++ ps) (tokens_named names next alone.2 none)
-    ∙ sym (filter_map-append (name_at names) (tokens_in below) (tokens_in next))
+mutual
+  tokens_named : (names : List (List ℕ)) (forest : Forest) → IdentsAlone forest → has_ident forest ≡ false
+      → placeholders_in names forest ≡ placeholders_among names (tokens_in forest)
+  tokens_named names nothing alone none = refl
+  tokens_named names (leaf token next) alone none =
+      let n = or_parts (is_ident token.kind) (has_ident next) none in
+      tokens_named names next alone n.1
+      ∙ ap (λ o. cons_option o (placeholders_among names (tokens_in next))) (sym (not_named names token n.0))
+  tokens_named names (branch kind below next) alone none =
+      ap (λ ps. ps ++ placeholders_in names next)
+      (alone_below names kind below (tokens_named names below alone.1) (mixed_named names below alone.1) alone.0)
+      ∙ ap (λ ps. placeholders_among names (tokens_in below) ++ ps) (tokens_named names next alone.2 none)
+      ∙ sym (filter_map-append (name_at names) (tokens_in below) (tokens_in next))
+
+  mixed_named : (names : List (List ℕ)) (forest : Forest) → IdentsAlone forest → placeholders_mixed names forest ≡ placeholders_among names (tokens_in forest)
+  mixed_named names nothing alone = refl
+  mixed_named names (leaf token next) alone = ap (cons_option (name_at names token)) (mixed_named names next alone)
+  mixed_named names (branch kind below next) alone =
+      ap (λ ps. ps ++ placeholders_mixed names next)
+      (alone_below names kind below (tokens_named names below alone.1) (mixed_named names below alone.1) alone.0)
+      ∙ ap (λ ps. placeholders_among names (tokens_in below) ++ ps) (mixed_named names next alone.2)
+      ∙ sym (filter_map-append (name_at names) (tokens_in below) (tokens_in next))
 
 placeholders_named : (names : List (List ℕ)) (tree : Syntax) → IdentsAloneIn tree → placeholders_of names tree ≡ placeholders_among names (tokens_of tree)
 placeholders_named names tree alone =

@@ -1,8 +1,10 @@
 -- Which placeholders a pattern has for a match to bind: each once.
 use Rattle.std.specs.Prelude.{ℕ, ◌≡◌, All, List, [], ◌∷◌, ◌++◌, length, if◌then◌else◌, Option, Some, None}
-use Rattle.std.specs.List.{range_with_len}
+use Rattle.std.specs.List.{cons_option, range_with_len}
 use Rattle.std.specs.Option.{option_and_then}
-use Rattle.ssr_syntax.specs.Identifiers.{is_mixing}
+use Rattle.ssr_syntax_kinds.specs.declared.kinds.SyntaxKind.{SyntaxKind}
+use Rattle.ssr_syntax_kinds.specs.declared.kinds.SyntaxKind.TheVariants as k
+use Rattle.ssr_syntax_kinds.specs.Kinds.{same_kind}
 use Rattle.ssr_syntax_tree.specs.Places.{node_of}
 use Rattle.ssr_syntax_tree.specs.Syntax.{Forest, nothing, leaf, branch, Syntax, tokens_in, tokens_of}
 use Rattle.ide_ssr_rules.specs.Patterns.{placeholders_among}
@@ -17,15 +19,33 @@ abbrev pub or_below : Option ℕ → List ℕ → List ℕ
 or_below (Some i) below = i ∷ []
 or_below None below = below
 
--- The placeholders among siblings and below them, from the left: nodes, whatever stands below those, and tokens where a node
--- mixes identifiers with other tokens, as a token tree does.
-abbrev pub placeholders_in : List (List ℕ) → Forest → List ℕ
-placeholders_in names nothing = []
-placeholders_in names (leaf token next) = placeholders_in names next
-placeholders_in names (branch kind below next) =
-    or_below (option_and_then (name_at names) (only_token below))
-    (if is_mixing kind then placeholders_among names (tokens_in below) else placeholders_in names below)
-    ++ placeholders_in names next
+-- those below a node of this kind: in a token tree the tokens that are some, in a `macro_rules` item, in which an identifier
+-- stands beside other children too, those children, and else the nodes among the children and below them
+abbrev pub of_kind : SyntaxKind → List ℕ → List ℕ → List ℕ → List ℕ
+of_kind kind tokens children nodes = if same_kind kind k.TOKEN_TREE then tokens else if same_kind kind k.MACRO_RULES then children else nodes
+
+abbrev mutual
+  -- the placeholders among the nodes that are siblings and below them, from the left; what stands below one is that one itself
+  pub placeholders_in : List (List ℕ) → Forest → List ℕ
+  placeholders_in names nothing = []
+  placeholders_in names (leaf token next) = placeholders_in names next
+  placeholders_in names (branch kind below next) =
+      or_below (option_and_then (name_at names) (only_token below))
+      (of_kind kind (placeholders_among names (tokens_in below)) (placeholders_mixed names below) (placeholders_in names below))
+      ++ placeholders_in names next
+
+  -- the same of siblings of which tokens count as well
+  pub placeholders_mixed : List (List ℕ) → Forest → List ℕ
+  placeholders_mixed names nothing = []
+  placeholders_mixed names (leaf token next) = cons_option (name_at names token) (placeholders_mixed names next)
+  placeholders_mixed names (branch kind below next) =
+      or_below (option_and_then (name_at names) (only_token below))
+      (of_kind kind (placeholders_among names (tokens_in below)) (placeholders_mixed names below) (placeholders_in names below))
+      ++ placeholders_mixed names next
+
+abbrev pub placeholders_below : List (List ℕ) → SyntaxKind → Forest → List ℕ
+placeholders_below names kind below =
+    of_kind kind (placeholders_among names (tokens_in below)) (placeholders_mixed names below) (placeholders_in names below)
 
 abbrev pub placeholders_of : List (List ℕ) → Syntax → List ℕ
 placeholders_of names tree = placeholders_in names (branch tree.kind tree.children nothing)

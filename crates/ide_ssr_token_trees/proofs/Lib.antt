@@ -8,3 +8,4 @@ mod Steps
 mod Matched
 mod Held
 mod Bound
+pub mod Shared

@@ -4,13 +4,14 @@ use Rattle.ssr_syntax_kinds.specs.declared.kinds.SyntaxKind.TheVariants as k
 use Rattle.ssr_syntax_kinds.specs.Kinds.{same_kind}
 use Rattle.ssr_syntax_tree.specs.declared.number.Element.{Element}
 use Rattle.ssr_syntax_tree.specs.declared.number.Element.TheVariants as element
-use Rattle.ssr_syntax_tree.specs.Places.{HasElement}
+use Rattle.ssr_syntax_tree.specs.Places.{HasElement, node_of}
 use Rattle.ide_ssr_resolving.specs.QualifiedCalls.{call_at}
 use Rattle.ide_ssr_resolving.specs.Used.{res_at}
+use Rattle.ide_ssr_matching.specs.TokenTrees.{is_tree}
 use Rattle.ide_ssr_matching.specs.Private.Calls.{sides_at, AreSidesBelow}
 use Rattle.ide_ssr_matching.specs.Private.Children.{IsBelow}
 use Rattle.ide_ssr_matching.proofs.Bare.{below_has}
-use Rattle.ide_ssr_matching.proofs.Pairs.{placeholder-from, like-from, method-from, and_false, other_kind-from, unmatched-from, children-from, kept-from, paired-starts, paired-turns, paired-differs, paired-short, paired-ends, up_to-turns, up_to-differs, up_to-ends, unequal-elements, at_place, lent_next, lent_none, none_left, tokens-answer, element-smaller, first-below, largest, largest-at, largest-below, element_size, elements_size, like_size, children_size}
+use Rattle.ide_ssr_matching.proofs.Pairs.{placeholder-from, trees-from, spoiled-from, parts-from, like-from, method-from, and_false, other_kind-from, unmatched-from, children-from, kept-from, paired-starts, paired-turns, paired-differs, paired-short, paired-ends, up_to-turns, up_to-differs, up_to-ends, unequal-elements, at_place, lent_next, lent_none, none_left, tokens-answer, element-smaller, first-below, largest, largest-at, largest-below, element_size, elements_size, like_size, children_size}
 use Rattle.ide_ssr_matching.proofs.matching.+matching.Goals as goal
 
 pub node_matches-returns-in-Some : goal.node_matches-returns-in-Some
@@ -18,25 +19,40 @@ node_matches-returns-in-Some g t c =
     placeholder-from (g.S.Semantics.meanings c.args.semantics.now) c.args.number c.args.rule.now c.placeholder_matches.result c.args.rule.now.pattern c.args.code.now c.args.p.0 c.args.c.0 c.args.out.now.items c.placeholder_matches.new.out.items
     c.in-Some.placeholder c.in-Some.ensures c.placeholder_matches.ensures
 
-pub node_matches-returns-then-not-is : goal.node_matches-returns-then-not-is
-node_matches-returns-then-not-is g t c =
+pub node_matches-returns-then-is_tree : goal.node_matches-returns-then-is_tree
+node_matches-returns-then-is_tree g t c =
+    trees-from (g.S.Semantics.meanings c.args.semantics.now) c.args.number c.args.rule.now c.args.rule.now.pattern c.args.code.now c.args.p.0 c.args.c.0 c.args.out.now.items
+    _ c.placeholder.ensures c.in_default.not-Some c.tree_matches.result c.tree_matches.new.out.items _ (c.is_tree.ensures ∙ ap (λ s. is_tree (node_of s c.args.p.0)) c.pattern.ensures) c.if-is_tree.true c.tree_matches.ensures
+
+pub node_matches-returns-then-not-is_plain : goal.node_matches-returns-then-not-is_plain
+node_matches-returns-then-not-is_plain g t c =
+    spoiled-from (g.S.Semantics.meanings c.args.semantics.now) c.args.number c.args.rule.now c.args.rule.now.pattern c.args.code.now c.args.p.0 c.args.c.0 c.args.out.now.items
+    _ c.placeholder.ensures c.in_default.not-Some _ _ (c.is_tree.ensures ∙ ap (λ s. is_tree (node_of s c.args.p.0)) c.pattern.ensures) c.if-is_tree.false c.is_plain.ensures c.if-not-is_plain.true
+
+pub node_matches-returns : goal.node_matches-returns
+node_matches-returns g t c =
+    parts-from (g.S.Semantics.meanings c.args.semantics.now) c.args.number c.args.rule.now c.args.rule.now.pattern c.args.code.now c.args.p.0 c.args.c.0 c.args.out.now.items
+    _ c.placeholder.ensures c.in_default.not-Some c.parts_match.result c.parts_match.new.out.items _ _ (c.is_tree.ensures ∙ ap (λ s. is_tree (node_of s c.args.p.0)) c.pattern.ensures) c.if-is_tree.false c.is_plain.ensures c.if-not-is_plain.false c.parts_match.ensures
+
+pub parts_match-returns-then-not-is : goal.parts_match-returns-then-not-is
+parts_match-returns-then-not-is g t c =
     like-from (g.S.Semantics.meanings c.args.semantics.now) c.args.number c.args.rule.now c.like_matches.result c.args.rule.now.pattern c.args.code.now c.args.p c.args.c.0 c.args.out.now.items c.like_matches.new.out.items
-    c.requires.p_in _ c.placeholder.ensures c.in_default.not-Some (call_at c.args.rule.now.qualified_calls c.args.p) false refl
+    c.requires.p_in (call_at c.args.rule.now.qualified_calls c.args.p) false refl
     (sym c.if-not-is.true ∙ c.is.ensures.same ∙ ap (λ own. same_kind own k.METHOD_CALL_EXPR) c.kind.ensures)
     (and_false (is_some (call_at c.args.rule.now.qualified_calls c.args.p))) c.like_matches.ensures
 
-pub node_matches-returns-in-Some-qualified_call : goal.node_matches-returns-in-Some-qualified_call
-node_matches-returns-in-Some-qualified_call g t c =
+pub parts_match-returns-in-Some : goal.parts_match-returns-in-Some
+parts_match-returns-in-Some g t c =
     method-from (g.S.Semantics.meanings c.args.semantics.now) c.args.number c.args.rule.now c.method_matches.result c.args.rule.now.pattern c.args.code.now c.args.p c.args.c.0 c.args.out.now.items c.method_matches.new.out.items
-    c.requires.p_in _ c.placeholder.ensures c.in_default.not-Some c.in-Some-qualified_call.call
-    (sym c.in-Some-qualified_call.is ∙ c.qualified_call.ensures)
+    c.requires.p_in c.in-Some.call
+    (sym c.in-Some.is ∙ c.qualified_call.ensures)
     (sym c.if-not-is.false ∙ c.is.ensures.same ∙ ap (λ own. same_kind own k.METHOD_CALL_EXPR) c.kind.ensures)
     c.method_matches.ensures
 
-pub node_matches-returns-in-None : goal.node_matches-returns-in-None
-node_matches-returns-in-None g t c =
+pub parts_match-returns-in-None : goal.parts_match-returns-in-None
+parts_match-returns-in-None g t c =
     like-from (g.S.Semantics.meanings c.args.semantics.now) c.args.number c.args.rule.now c.like_matches-in-None.result c.args.rule.now.pattern c.args.code.now c.args.p c.args.c.0 c.args.out.now.items c.like_matches-in-None.new.out.items
-    c.requires.p_in _ c.placeholder.ensures c.in_default.not-Some None true
+    c.requires.p_in None true
     (sym c.in-None.is ∙ c.qualified_call.ensures)
     (sym c.if-not-is.false ∙ c.is.ensures.same ∙ ap (λ own. same_kind own k.METHOD_CALL_EXPR) c.kind.ensures)
     refl c.like_matches-in-None.ensures

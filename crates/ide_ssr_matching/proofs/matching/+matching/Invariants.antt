@@ -2,11 +2,14 @@ use Rattle.std.proofs.Common.{length, ◌-◌}
 use Rattle.ssr_syntax_tree.specs.Places.{node_of}
 use Rattle.ide_ssr_matching.specs.Bindings.{counted_by, bindings_of}
 use Rattle.ide_ssr_matching.specs.Private.Children.{siblings_left}
-use Rattle.ide_ssr_matching.proofs.Pairs.{PairedSoFar, PairedUpTo, children_size, like_size, node_size, element_size, elements_size}
+use Rattle.ide_ssr_matching.proofs.Pairs.{PairedSoFar, PairedUpTo, children_size, like_size, parts_size, node_size, element_size, elements_size}
 use Rattle.ide_ssr_matching.proofs.matching.+matching.Given as goal
 
 abbrev pub decreases-node_matches : goal.decreases-node_matches
 decreases-node_matches g l = node_size l.rule.now.pattern l.p.0
+
+abbrev pub decreases-parts_match : goal.decreases-parts_match
+decreases-parts_match g l = parts_size l.rule.now.pattern l.p.0
 
 abbrev pub decreases-method_matches : goal.decreases-method_matches
 decreases-method_matches g l = like_size l.rule.now.pattern l.p.0
