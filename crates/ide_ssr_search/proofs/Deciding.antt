@@ -10,22 +10,32 @@ use Rattle.ssr_syntax_tree.specs.Syntax.{tokens_of}
 use Rattle.ssr_syntax_tree.specs.Places.{node_of}
 use Rattle.ssr_syntax_tree.proofs.Lists.{at_front, at_back, front_or_back}
 use Rattle.ssr_base.specs.declared.ids.NodeId.{NodeId}
+use Rattle.ssr_base.specs.declared.ids.ScopeId.{ScopeId}
+use Rattle.ssr_base.specs.declared.semantics.Res.{Res}
+use Rattle.ssr_base.specs.declared.semantics.Res.TheVariants as res
+use Rattle.ssr_base.specs.Meanings.{Meanings}
 use Rattle.ssr_base.specs.Workspace.{Workspace, Planted, FileSpan, trees, planted, above, original_range}
 use Rattle.ssr_base.specs.Built.{IsNodeOf, IsMacroCall, IsBuilt}
 use Rattle.ssr_base.specs.Laws.{climbed, IsBelow, LiesIn, file_root}
 use Rattle.ssr_base.proofs.Shared.{reaches_its_file}
+use Rattle.ide_ssr_resolving.specs.declared.used.UsedPath.{UsedPath}
 use Rattle.ide_ssr_resolving.specs.Resolved.{ResolvedKind}
 use Rattle.ide_ssr_found.specs.declared.bindings.Binding.{Binding}
 use Rattle.ide_ssr_found.proofs.Deciding.{Decided, both, likewise, denied, given, of_some, if_some, each, each_two, some_one, all_of, less, at_most, of_kind, lies_in}
 use Rattle.ide_ssr_found.specs.Found.{AreDisjoint, IsAtOrBelow, HasByte, ShareNoByte, held_node}
 use Rattle.ide_ssr_search.specs.Context.{Context}
 use Rattle.ide_ssr_search.specs.Permitted.{IsUse, arguments_range, IsSearched, IsOpen, names_self, IsInFunction, IsPermitted}
+use Rattle.ide_ssr_search.specs.Printing.{IsReached, CanBeWritten}
 use Rattle.ide_ssr_search.specs.WholeMatches.{LiesInArguments, IsPlaced}
 use Rattle.ide_ssr_search.specs.Private.Whole.{IsPlacedMatch}
 use Rattle.ide_ssr_search.proofs.Trees.{then_some, below_up, up_below}
 use Rattle.ide_ssr_search.proofs.Finding.{at_id}
 
 -- ** Nodes and ranges.
+
+is_there : {A : Type 0} (o : Option A) → Decided (IsSome o)
+is_there None = inr (λ some. false≢true some)
+is_there (Some x) = inl refl
 
 one_node : (a b : NodeId) → Decided (a ≡ b)
 one_node a b =
@@ -66,6 +76,24 @@ is_placed_match ts x bindings =
     (each_two (λ b c. ShareNoByte ts (held_node x.tree b) (held_node x.tree c)) (λ b c. share_no_byte ts (held_node x.tree b) (held_node x.tree c)) bindings)))
     (λ h. record { placed = h.0; bindings_placed = h.1.0; apart = h.1.1 })
     (λ placed. (placed.placed, (placed.bindings_placed, placed.apart)))
+
+-- ** Templates.
+
+is_reached : (m : Meanings) (scope : ScopeId) (thing : Res) → Decided (IsReached m scope thing)
+is_reached m scope (res.Def def) = is_there (m.path_from scope def)
+is_reached m scope (res.Local n) = inl tt
+is_reached m scope (res.TypeParam n) = inl tt
+is_reached m scope (res.ConstParam n) = inl tt
+is_reached m scope (res.SelfType n) = inl tt
+is_reached m scope (res.Other n) = inl tt
+
+pub can_be_written : (m : Meanings) (rule : ResolvedKind) (x : NodeId) → Decided (CanBeWritten m rule x)
+can_be_written m rule x =
+    if_some (λ _. IsSomeAnd (m.scope x) (λ scope. All (λ path. IsReached m scope path.res) rule.template_paths))
+    (λ _. of_some (λ scope. All (λ path. IsReached m scope path.res) rule.template_paths)
+    (λ scope. each (λ (path : UsedPath). IsReached m scope path.res) (λ path. is_reached m scope path.res) rule.template_paths)
+    (m.scope x))
+    rule.template
 
 -- ** What stands above.
 
@@ -124,7 +152,7 @@ module _ (w : Workspace) (b : IsBuilt w) (x : NodeId) (node : IsNodeOf (trees w)
       (both (of_some HasByte (λ range. less range.span.start range.span.end) (original_range (trees w) x))
       (both (of_some (IsSearched restrictions) (is_searched restrictions) (original_range (trees w) x))
       (both (each Outside (λ a. denied (of_tree_kind a k.USE)) (x ∷ way_up.0))
-      (each Argued (λ a. given (of_tree_kind a k.MACRO_CALL) (cases_some (arguments_range (trees w) a))) way_up.0))))
+      (each Argued (λ a. given (of_tree_kind a k.MACRO_CALL) (is_there (arguments_range (trees w) a))) way_up.0))))
       (λ h. record {
         node = node;
         has_byte = h.0;
@@ -147,9 +175,6 @@ module _ (w : Workspace) (b : IsBuilt w) (x : NodeId) (node : IsNodeOf (trees w)
       of_tree_kind a kind =
           of_some (λ p. (node_of p.syntax a.node.0).kind ≡ kind) (λ p. of_kind (node_of p.syntax a.node.0).kind kind) (planted (trees w) a.tree)
 
-      cases_some : (o : Option FileSpan) → Decided (IsSome o)
-      cases_some None = inr (λ some. false≢true some)
-      cases_some (Some range) = inl refl
 
   in_function : (function : Option NodeId) → Decided (IsInFunction (trees w) function x)
   in_function function =

@@ -23,6 +23,7 @@ use Rattle.ide_ssr_found.proofs.Shared.{is_tree, of_tree, in_tree}
 use Rattle.ide_ssr_search.specs.declared.bounds.Bounds.{Bounds}
 use Rattle.ide_ssr_search.specs.declared.bounds.Bounds.TheVariants as limits
 use Rattle.ide_ssr_search.specs.Permitted.{arguments_range}
+use Rattle.ide_ssr_search.specs.Printing.{CanBeWritten}
 use Rattle.ide_ssr_search.specs.WholeMatches.{LiesInArguments, IsPlaced, IsWholeMatch}
 use Rattle.ide_ssr_search.specs.Private.Bounds.{AreBoundsOf, AreBounds, LiesInBounds}
 use Rattle.ide_ssr_search.specs.Private.Whole.{AreRanges, IsPlacedMatch, IsMatched, TellsWhole}
@@ -159,8 +160,9 @@ matched w meanings tree rule x bindings is has found =
     }
 
 pub whole : (w : Workspace) (meanings : Meanings) (tree : Syntax) (rule : ResolvedKind) (x : NodeId) (bindings : List Binding) → tree_of w x.tree ≡ Some tree
-    → Some bindings ≡ bindings_of meanings x.tree rule (root_of rule.pattern) (node_of tree x.node.0) → IsPlacedMatch (trees w) x bindings → IsWholeMatch (trees w) meanings rule x bindings
-whole w meanings tree rule x bindings is found placed =
+    → Some bindings ≡ bindings_of meanings x.tree rule (root_of rule.pattern) (node_of tree x.node.0) → IsPlacedMatch (trees w) x bindings → CanBeWritten meanings rule x
+    → IsWholeMatch (trees w) meanings rule x bindings
+whole w meanings tree rule x bindings is found placed written =
     let at = is_tree w x.tree tree is in
     record {
       matches =
@@ -169,6 +171,7 @@ whole w meanings tree rule x bindings is found placed =
       placed = placed.placed;
       bindings_placed = placed.bindings_placed;
       apart = placed.apart;
+      written = written;
     }
 
 -- a whole match binds what is computed
@@ -187,3 +190,6 @@ pub not_placed : (w : Workspace) (meanings : Meanings) (tree : Syntax) (rule : R
 not_placed w meanings tree rule x found is matches out bindings whole =
     let same : bindings ≡ found = same_Some bindings found (sym (whole_binds w meanings tree rule x bindings is whole) ∙ sym matches) in
     out (subst (IsPlacedMatch (trees w) x) same (record { placed = whole.placed; bindings_placed = whole.bindings_placed; apart = whole.apart }))
+
+pub not_written : (trees : List Planted) (meanings : Meanings) (rule : ResolvedKind) (x : NodeId) → (CanBeWritten meanings rule x → ⊥) → TellsWhole trees meanings rule x None
+not_written trees meanings rule x not bindings whole = not whole.written

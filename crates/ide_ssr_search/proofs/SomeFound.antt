@@ -17,9 +17,9 @@ use Rattle.ide_ssr_search.specs.Found.{AreFound}
 use Rattle.ide_ssr_search.specs.Private.Scan.{AreFoundBefore, TellsMatch, found_of}
 use Rattle.ide_ssr_found.proofs.Shared.{is_tree, of_tree}
 use Rattle.ide_ssr_search.proofs.Trees.{planted_there}
-use Rattle.ide_ssr_search.proofs.Placed.{whole, not_matched, not_placed}
+use Rattle.ide_ssr_search.proofs.Placed.{whole, not_matched, not_placed, not_written}
 use Rattle.ide_ssr_search.proofs.Finding.{found_none, added_by, found_at, found_in, found_all}
-use Rattle.ide_ssr_search.proofs.Deciding.{is_permitted, is_placed_match}
+use Rattle.ide_ssr_search.proofs.Deciding.{is_permitted, is_placed_match, can_be_written}
 
 module _ (w : Workspace) (b : IsBuilt w) (meanings : Meanings) (context : Context) (rules : List ResolvedKind) where
   -- what the placeholders of a rule hold at a node, or that it has no match there
@@ -37,7 +37,11 @@ module _ (w : Workspace) (b : IsBuilt w) (meanings : Meanings) (context : Contex
               | inr not_here ↦ (None, λ _ permitted. absurd (not_here permitted))
               | inl permitted ↦
                   elim (is_placed_match (trees w) (node_id t n) bindings) [
-                    | inl placed ↦ (Some bindings, (permitted, whole w meanings s rule (node_id t n) bindings tree (sym is) placed))
+                    | inl placed ↦
+                        elim (can_be_written meanings rule (node_id t n)) [
+                          | inl written ↦ (Some bindings, (permitted, whole w meanings s rule (node_id t n) bindings tree (sym is) placed written))
+                          | inr not ↦ (None, λ others _. not_written (trees w) meanings rule (node_id t n) not others)
+                        ]
                     | inr out ↦ (None, λ others _. not_placed w meanings s rule (node_id t n) bindings tree (sym is) out others)
                   ]
             ]

@@ -2,6 +2,7 @@ pub mod Context
 pub mod Positions
 pub mod Making
 pub mod Permitted
+pub mod Printing
 pub mod WholeMatches
 pub mod Found
 pub mod Laws

@@ -11,6 +11,7 @@ use Rattle.ide_ssr_found.specs.declared.bindings.Binding.{Binding}
 use Rattle.ide_ssr_found.specs.Found.{held_node, ShareNoByte}
 use Rattle.ide_ssr_matching.specs.Matching.{Matches}
 use Rattle.ide_ssr_search.specs.Permitted.{arguments_range}
+use Rattle.ide_ssr_search.specs.Printing.{CanBeWritten}
 
 -- in a tree that a macro call stands for, a range lies in the call's arguments
 abbrev pub LiesInArguments : List Planted → ℕ → FileSpan → Type 0
@@ -21,10 +22,11 @@ LiesInArguments trees t range =
 abbrev pub IsPlaced : List Planted → NodeId → Type 0
 IsPlaced trees x = IsSomeAnd (original_range trees x) (LiesInArguments trees x.tree)
 
--- The node matches the root of the pattern by what names mean, it and what the placeholders hold are placed, and no two
--- placeholders share a byte.
+-- The node matches the root of the pattern by what names mean, it and what the placeholders hold are placed, no two
+-- placeholders share a byte, and the template can be written there.
 pub record IsWholeMatch (trees : List Planted) (m : Meanings) (rule : ResolvedKind) (x : NodeId) (bindings : List Binding) : Type 0 where
   pub matches : IsSomeAnd (planted trees x.tree) (λ p. Matches m x.tree rule (root_of rule.pattern) (node_of p.syntax x.node.0) bindings)
   pub placed : IsPlaced trees x
   pub bindings_placed : All (λ b. IsPlaced trees (held_node x.tree b)) bindings
   pub apart : AllPairs (λ b c. ShareNoByte trees (held_node x.tree b) (held_node x.tree c)) bindings
+  pub written : CanBeWritten m rule x

@@ -7,6 +7,7 @@ mod context_error;
 pub mod laws;
 mod permitted;
 mod positions;
+mod printing;
 mod roots;
 mod scan;
 mod whole;

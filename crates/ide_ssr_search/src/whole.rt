@@ -8,6 +8,7 @@ ghost use Rattle.ide_ssr_search.specs.Private.Bounds.{AreBounds};
 ghost use Rattle.ide_ssr_search.specs.Private.Whole.{AreRanges, IsMatched, IsPlacedMatch, TellsWhole};
 
 use crate::bounds::Bounds;
+use crate::printing::can_be_written;
 use ide_ssr_found::Binding;
 use ide_ssr_matching::match_node;
 use ide_ssr_resolving::ResolvedRule;
@@ -77,7 +78,7 @@ fn are_apart(ranges: &[FileRange]) -> bool
 
 /// Whether a match in an expansion, with what its placeholders hold, lies within the bounds of its tree, and no two
 /// placeholders share a byte.
-fn is_placed_match(
+fn is_placed_in_call(
     alloc: Global,
     workspace: &Workspace,
     bounds: Bounds,
@@ -96,8 +97,8 @@ fn is_placed_match(
     }
 }
 
-/// Whether a match is a whole match. In a file each is: what its placeholders hold stands in the match, one behind another.
-fn is_whole(
+/// Whether a match is placed so. In a file each is: what its placeholders hold stands in the match, one behind another.
+fn is_placed_match(
     alloc: Global,
     workspace: &Workspace,
     bounds: Bounds,
@@ -111,7 +112,7 @@ fn is_whole(
     if let Bounds::Everywhere = bounds {
         return Ok(true);
     }
-    is_placed_match(alloc, workspace, bounds, node, bindings)
+    is_placed_in_call(alloc, workspace, bounds, node, bindings)
 }
 
 /// What the placeholders of a rule hold where it matches as a whole at a node of a tree with these bounds.
@@ -132,7 +133,10 @@ pub(crate) fn whole_match<S: Semantics>(
     let Some(bindings) = match_node(alloc, semantics, rule, tree, node)? else {
         return Ok(None);
     };
-    if is_whole(alloc, workspace, bounds, node, &bindings)? {
+    if !is_placed_match(alloc, workspace, bounds, node, &bindings)? {
+        return Ok(None);
+    }
+    if can_be_written(alloc, semantics, rule, node)? {
         Ok(Some(bindings))
     } else {
         Ok(None)
