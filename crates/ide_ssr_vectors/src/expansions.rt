@@ -1,6 +1,6 @@
 //! Matches and edits in what macro calls stand for.
 
-use crate::given::{SWAP, bytes, edited, facts, texts};
+use crate::given::{SWAP, bytes, edited, expanded_facts, texts};
 use ide_ssr::{EditError, MatchFinder, SsrPattern, SsrRule};
 use ssr_base::{FileRange, NodeId};
 use ssr_facts::Facts;
@@ -17,10 +17,10 @@ const SECOND: &str = r#"["2",false,16,17],["+",false,18,19],["3",false,20,21]"#;
 
 /// The facts of a file in which the call of these bytes stands for an expression of these tokens.
 fn expanded(alloc: Global, file: &str, call: &str, tokens: &str) -> Result<Facts, Fail> {
-    let keys = format!(in alloc;
-        ",\"expansions\":[{{\"call\":[0,{call}],\"kind\":\"expr\",\"tokens\":[{tokens}]}}]"
+    let row = format!(in alloc;
+        "{{\"call\":[0,{call}],\"kind\":\"expr\",\"tokens\":[{tokens}]}}"
     )?;
-    facts(alloc, &[file], keys.as_str())
+    expanded_facts(alloc, &[file], &[row.as_str()], "")
 }
 
 /// The facts of the file whose call stands for a pair of expressions, of which the tokens are given. The other tokens
@@ -161,12 +161,12 @@ fn a_placeholder_holds_what_its_call_stands_for(rt: HostRuntime) -> Result<(), F
 fn calls_in_expansions_are_searched(rt: HostRuntime) -> Result<(), Fail> {
     let alloc = rt.alloc();
     let sum = r#"["1",false,15,16],["+",false,17,18],["2",false,19,20]"#;
-    let keys = format!(in alloc;
-        ",\"expansions\":[
-{{\"call\":[0,9,22],\"kind\":\"stmts\",\"tokens\":[[\"n\",true,12,13],[\"!\",true,13,14],[\"(\",false,14,15],{sum},[\")\",false,20,21]]}},
-{{\"call\":[1,0,7],\"kind\":\"expr\",\"tokens\":[{sum}]}}]"
+    let outer = format!(in alloc;
+        "{{\"call\":[0,9,22],\"kind\":\"stmts\",\"tokens\":[[\"n\",true,12,13],[\"!\",true,13,14],[\"(\",false,14,15],{sum},[\")\",false,20,21]]}}"
     )?;
-    let facts = facts(alloc, &["fn f() { m!(n!(1 + 2)) }"], keys.as_str())?;
+    let inner = format!(in alloc; "{{\"call\":[1,0,7],\"kind\":\"expr\",\"tokens\":[{sum}]}}")?;
+    let rows = [outer.as_str(), inner.as_str()];
+    let facts = expanded_facts(alloc, &["fn f() { m!(n!(1 + 2)) }"], &rows, "")?;
     assert_eq!(rt;
         rewritten(alloc, &facts, &[SWAP])?.as_str(),
         "fn f() { m!(n!(2 + 1)) }"

@@ -12,9 +12,22 @@ use std::test::Fail;
 
 pub(crate) const SWAP: &str = "$a + $b ==>> $b + $a";
 
+/// More bytes than what a macro call stands for has here.
+const LONG: u32 = 1000;
+
 /// The facts of files with these texts, each of which is one scope, with these further keys: an empty text, or one that
 /// begins with a comma.
 pub(crate) fn facts(alloc: Global, texts: &[&str], keys: &str) -> Result<Facts, Fail> {
+    expanded_facts(alloc, texts, &[], keys)
+}
+
+/// The same where macro calls stand for something, as these rows tell; what each of them stands for is one scope too.
+pub(crate) fn expanded_facts(
+    alloc: Global,
+    texts: &[&str],
+    expansions: &[&str],
+    keys: &str,
+) -> Result<Facts, Fail> {
     let mut files = String::new(alloc);
     let mut scopes = String::new(alloc);
     for (number, text) in texts.iter().enumerate() {
@@ -26,7 +39,16 @@ pub(crate) fn facts(alloc: Global, texts: &[&str], keys: &str) -> Result<Facts, 
         )?;
         write!(scopes, "{comma}[{number},0,{end}]")?;
     }
-    let bytes = format!(in alloc; "{{\"files\":[{files}],\"scopes\":[{scopes}]{keys}}}")?;
+    let mut calls = String::new(alloc);
+    for (number, row) in expansions.iter().enumerate() {
+        let comma = if number == 0 { "" } else { "," };
+        let tree = texts.len().saturating_add(number);
+        write!(calls, "{comma}{row}")?;
+        write!(scopes, ",[{tree},0,{LONG}]")?;
+    }
+    let bytes = format!(in alloc;
+        "{{\"files\":[{files}],\"expansions\":[{calls}],\"scopes\":[{scopes}]{keys}}}"
+    )?;
     Ok(read(alloc, bytes.as_str().as_bytes())?)
 }
 

@@ -21,6 +21,8 @@ mod paths;
 #[cfg(test)]
 mod patterns;
 #[cfg(test)]
+mod printing;
+#[cfg(test)]
 mod qualified_calls;
 #[cfg(test)]
 mod records;

@@ -15,7 +15,7 @@ const FACTS: &str =
     r#"{"files":[{"name":"a.rs","text":"fn f() { foo(1) + 2 }"}],"scopes":[[0,0,21]],
 "defs":[{"kind":"function"},{"kind":"function"},{"kind":"module"},{"kind":"adt"},{"kind":"function","assoc":true,"self":true}],
 "names":[[0,["foo"],["def",0]],[0,["bar"],["def",1]],[0,["m"],["def",2]],[0,["S"],["def",3]],[0,["x"],["local",0]]],
-"members":[[0,3,"get",4]],"paths":[[0,9,12,["def",0]]]}"#;
+"members":[[0,3,"get",4]],"paths":[[0,9,12,["def",0]]],"printed":[[0,1,"bar"]]}"#;
 
 /// What a finder tells of a rule.
 fn told(alloc: Global, facts: &Facts, rule: &str) -> Result<String, Fail> {
