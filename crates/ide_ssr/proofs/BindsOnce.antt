@@ -16,7 +16,7 @@ use Rattle.ide_ssr_rules.specs.Elements.{has}
 use Rattle.ide_ssr_resolving.specs.Resolved.{ResolvedKind}
 use Rattle.ide_ssr_rules.specs.Uses.{AreNew}
 use Rattle.ide_ssr_found.specs.declared.bindings.Binding.{Binding}
-use Rattle.ide_ssr_found.specs.Found.{Found, AreDisjoint, ShareNoByte, IsMatch, held_node}
+use Rattle.ide_ssr_found.specs.Found.{Found, AreDisjoint, ShareNoByte, IsMatch, held_range, node_binding}
 use Rattle.ide_ssr_matching.proofs.Shared.{placeholders_bound}
 use Rattle.ide_ssr_nesting.specs.Holding.{Kept, IsKept}
 use Rattle.ide_ssr_nesting.specs.Lists.{Listing, listed}
@@ -64,7 +64,7 @@ pub record IsOfRule (rules : List ResolvedKind) (m : Found) : Type 0 where
   pub different : AreNew [] rule.names
 
 nothing : Binding
-nothing = record { placeholder = 0; node = record { 0 = 0 } }
+nothing = node_binding 0 0
 
 name_of_binding : List ResolvedKind → Found → ℕ → List ℕ
 name_of_binding rules m i =
@@ -155,7 +155,7 @@ module _ (rules : List ResolvedKind) (kept : Kept) (m : Found) (of : IsOfRule ru
 record IsShownAt (w : Workspace) (m : Found) (i : ℕ) (p : PlaceholderMatch) : Type 0 where
   binding : Binding
   is : slice_get m.bindings i ≡ Some binding
-  from : ComesFrom w (held_node m.node.tree binding) (span_of p)
+  from : ComesFrom w (held_range (trees w) m.node.tree binding) (span_of p)
 
 shown_at : (rules : List ResolvedKind) (kept : Kept) (lists : Listing) (n : ℕ) (m : Found) (order : List ℕ) (ps : List PlaceholderMatch)
     → ShowBindings rules kept lists n m order ps → (k : ℕ) (d : PlaceholderMatch) → k < length ps → IsShownAt kept.workspace m (get_or order k 0) (get_or ps k d)
@@ -172,8 +172,8 @@ shown_counted rules kept lists _ _ _ _ (nesting.bound n m i b order p ps is has 
 
 apart_in_order : (w : Workspace) (m : Found) → IsMatch (trees w) m → (i j : ℕ) (p q : PlaceholderMatch) → IsShownAt w m i p → IsShownAt w m j q → i < j → AreDisjoint (span_of p) (span_of q)
 apart_in_order w m is_match i j p q one other less =
-    pairs_at (λ b c. ShareNoByte (trees w) (held_node m.node.tree b) (held_node m.node.tree c)) m.bindings i j one.binding other.binding is_match.apart less
-    one.is other.is (span_of p) (span_of q) one.from.original other.from.original
+    pairs_at (ShareNoByte (trees w) m.node.tree) m.bindings i j one.binding other.binding is_match.apart less
+    one.is other.is (span_of p) (span_of q) one.from.is other.from.is
 
 apart_shown : (rules : List ResolvedKind) (kept : Kept) (lists : Listing) (n : ℕ) (m : Found) (order : List ℕ) (ps : List PlaceholderMatch)
     → IsMatch (trees kept.workspace) m → AreByStart kept.workspace m order → ShowBindings rules kept lists n m order ps → AllPairs (λ p q. AreDisjoint (span_of p) (span_of q)) ps

@@ -17,9 +17,9 @@ use Rattle.std.proofs.lemmas.List.Sorted.{All-permutation, Contains-permutation,
 use Rattle.std.proofs.lemmas.Map.Keys.{apart_from_distinct, IsDistinct-from_apart, IsDistinct-IsPermutation}
 use Rattle.std.proofs.lemmas.Option.{same_Some, slice_get-get_or}
 use Rattle.ssr_base.specs.declared.ids.NodeId.{NodeId}
-use Rattle.ssr_base.specs.Workspace.{Workspace, trees, original_range}
+use Rattle.ssr_base.specs.Workspace.{Workspace, trees}
 use Rattle.ide_ssr_found.specs.declared.bindings.Binding.{Binding}
-use Rattle.ide_ssr_found.specs.Found.{Found, held_node}
+use Rattle.ide_ssr_found.specs.Found.{Found, held_range}
 use Rattle.ide_ssr.specs.declared.starts.Start.{Start}
 use Rattle.ide_ssr.specs.Starts.{start_at, AreByStart}
 use Rattle.ide_ssr.specs.Private.Starts.{IsStartOf, AreStarts, start_key}
@@ -58,13 +58,13 @@ starts_more w m n old new at so_far is more =
 
 -- where the binding begins that stands at a place
 pub start_is : (w : Workspace) (m : Found) (n at : ℕ) (node : NodeId) (bindings : List Binding) (d : Binding) → node ≡ m.node → bindings ≡ m.bindings
-    → n < length bindings → option_map (λ range. range.span.start) (original_range (trees w) (held_node node.tree (get_or bindings n d))) ≡ Some at
+    → n < length bindings → option_map (λ range. range.span.start) (held_range (trees w) node.tree (get_or bindings n d)) ≡ Some at
     → start_at w m n ≡ Some at
 start_is w m n at node bindings d same_node same within is =
     let b = get_or bindings n d in
     let found : slice_get m.bindings n ≡ Some b = ap (λ bs. slice_get bs n) (sym same) ∙ slice_get-get_or bindings n d within in
-    ap (option_and_then (λ binding. option_map (λ range. range.span.start) (original_range (trees w) (held_node m.node.tree binding)))) found
-    ∙ ap (λ (x : NodeId). option_map (λ range. range.span.start) (original_range (trees w) (held_node x.tree b))) (sym same_node)
+    ap (option_and_then (λ binding. option_map (λ range. range.span.start) (held_range (trees w) m.node.tree binding))) found
+    ∙ ap (λ (x : NodeId). option_map (λ range. range.span.start) (held_range (trees w) x.tree b)) (sym same_node)
     ∙ is
 
 -- ** In order.

@@ -1,7 +1,7 @@
 -- Nested matches show kept ones: they are made one by one, from the last to the first, and taken by those that hold them.
 use Rattle.std.proofs.Common.{◌≡◌, ◌≢◌, ℕ, ◌+◌, ◌<◌, ◌≤◌, List, [], ◌∷◌, ◌++◌, inl, inr, length, map, take, get_or, set, slice_get, Option, Some, None, All, AllPairs, Contains, refl, sym, ◌∙◌, ap, subst, arith}
 use Rattle.std.specs.Prelude.{is_some, IsSome}
-use Rattle.std.specs.Option.{option_map, option_and_then}
+use Rattle.std.specs.Option.{IsSomeAnd, option_map, option_and_then}
 use Rattle.std.proofs.Math.Seq.{take_all}
 use Rattle.std.proofs.lemmas.Bool.{cases_lt, false≢true}
 use Rattle.std.proofs.lemmas.List.{take_more, get_or-set_same, get_or-set_other, length-set}
@@ -9,17 +9,18 @@ use Rattle.std.proofs.lemmas.List.Elements.{All-head, All-tail, Contains-append_
 use Rattle.std.proofs.lemmas.Option.{slice_get-get_or, slice_get_within, same_Some, none-some}
 use Rattle.ssr_syntax_tree.proofs.Lists.{all_at}
 use Rattle.ssr_base.specs.declared.ids.NodeId.{NodeId}
-use Rattle.ssr_base.specs.Workspace.{Workspace, FileSpan, trees, original_range}
+use Rattle.ssr_base.specs.Laws.{LiesIn}
+use Rattle.ssr_base.specs.Workspace.{Workspace, Planted, FileSpan, trees, original_range}
 use Rattle.ide_ssr_resolving.specs.Resolved.{ResolvedKind}
 use Rattle.ide_ssr_found.specs.declared.bindings.Binding.{Binding}
-use Rattle.ide_ssr_found.specs.Found.{Found, IsMatch, held_node}
+use Rattle.ide_ssr_found.specs.Found.{Found, IsInRange, IsMatch, held_range, node_binding}
 use Rattle.ide_ssr_nesting.specs.declared.holders.Holder.{Holder}
 use Rattle.ide_ssr_nesting.specs.Holding.{Kept, IsKept}
 use Rattle.ide_ssr_nesting.specs.Lists.{Listing, AreLists, listed}
 use Rattle.ide_ssr_rewriting.proofs.Shared.{not_before}
 use Rattle.ide_ssr.specs.declared.matches.Match.{Match}
 use Rattle.ide_ssr.specs.declared.matches.PlaceholderMatch.{PlaceholderMatch}
-use Rattle.ide_ssr.specs.Matches.{placeholders_of, name_of, span_of, inner_of}
+use Rattle.ide_ssr.specs.Matches.{placeholders_of, name_of, span_of, deref_count_of, self_kind_of, inner_of}
 use Rattle.ide_ssr.specs.Nesting.{Show, Shows, ShowBindings}
 use Rattle.ide_ssr.specs.Nesting as nesting
 use Rattle.ide_ssr.specs.Parts.{ComesFrom, HasParts, HasBinding, placeholder_name}
@@ -137,13 +138,20 @@ told : (o : Option FileSpan) → IsSome o → (a : ℕ) × (option_map (λ (rang
 told None is = absurd (false≢true is)
 told (Some range) is = (range.span.start, refl)
 
+in_range : (ts : List Planted) (x : NodeId) (b : Binding) → IsInRange ts x b → IsSome (held_range ts x.tree b)
+in_range ts x b within = there (held_range ts x.tree b) (λ inner. IsSomeAnd (original_range ts x) (LiesIn inner)) within
+  where
+    there : (o : Option FileSpan) (P : FileSpan → Type 0) → IsSomeAnd o P → IsSome o
+    there None P known = absurd known
+    there (Some range) P known = refl
+
 start_there : (kept : Kept) (m : Found) (i : ℕ) → IsMatch (trees kept.workspace) m → i < length m.bindings → (a : ℕ) × (start_at kept.workspace m i ≡ Some a)
 start_there kept m i is_match less =
-    let nothing : Binding = record { placeholder = 0; node = record { 0 = 0 } } in
+    let nothing : Binding = node_binding 0 0 in
     let b = get_or m.bindings i nothing in
-    let start = told (original_range (trees kept.workspace) (held_node m.node.tree b)) (is_match.ranges i nothing less) in (
+    let start = told (held_range (trees kept.workspace) m.node.tree b) (in_range (trees kept.workspace) m.node b (is_match.held i nothing less)) in (
       start.0,
-      ap (option_and_then (λ (b : Binding). option_map (λ (range : FileSpan). range.span.start) (original_range (trees kept.workspace) (held_node m.node.tree b))))
+      ap (option_and_then (λ (b : Binding). option_map (λ (range : FileSpan). range.span.start) (held_range (trees kept.workspace) m.node.tree b)))
           (slice_get-get_or m.bindings i nothing less)
           ∙ start.1,
     )
@@ -235,21 +243,23 @@ pub index_within : (w : Workspace) (m : Found) (order : List ℕ) (p : ℕ) → 
 index_within w m order p by_start less = (by_start.each (get_or order p 0)).0 (Contains-get_or order p 0 less)
 
 pub range_there : (kept : Kept) (w : Workspace) (m : Found) (node : NodeId) (b : Binding) (i : ℕ) → IsMatch (trees kept.workspace) m → w ≡ kept.workspace
-    → node ≡ held_node m.node.tree b → slice_get m.bindings i ≡ Some b → IsSome (original_range (trees w) node)
+    → node ≡ m.node → slice_get m.bindings i ≡ Some b → IsSome (held_range (trees w) node.tree b)
 range_there kept w m node b i is_match same_w same_node is =
-    let ranged : IsSome (original_range (trees kept.workspace) (held_node m.node.tree b)) =
-    all_at (λ b. IsSome (original_range (trees kept.workspace) (held_node m.node.tree b))) m.bindings i b is_match.ranges is in
-    subst (λ (w : Workspace). IsSome (original_range (trees w) node)) (sym same_w)
-    (subst (λ (x : NodeId). IsSome (original_range (trees kept.workspace) x)) (sym same_node) ranged)
+    let ranged = in_range (trees kept.workspace) m.node b (all_at (IsInRange (trees kept.workspace) m.node) m.bindings i b is_match.held is) in
+    subst (λ (w : Workspace). IsSome (held_range (trees w) node.tree b)) (sym same_w)
+    (subst (λ (x : NodeId). IsSome (held_range (trees kept.workspace) x.tree b)) (sym same_node) ranged)
 
 pub binding_shown : (kept : Kept) (w : Workspace) (rules : List ResolvedKind) (m : Found) (node : NodeId) (rule : ℕ) (b : Binding) (p : PlaceholderMatch) (name : List ℕ)
-    → w ≡ kept.workspace → node ≡ held_node m.node.tree b → rule ≡ m.rule → name_of p ≡ name → name ≡ placeholder_name (slice_get rules rule) b.placeholder
-    → ComesFrom w node (span_of p) → HasBinding kept.workspace (slice_get rules m.rule) m.node.tree b p
-binding_shown kept w rules m node rule b p name same_w same_node same_rule named is from = record {
+    → w ≡ kept.workspace → node ≡ m.node → rule ≡ m.rule → name_of p ≡ name → name ≡ placeholder_name (slice_get rules rule) b.placeholder
+    → ComesFrom w (held_range (trees w) node.tree b) (span_of p) → deref_count_of p ≡ b.deref_count → self_kind_of p ≡ b.self_kind
+    → HasBinding kept.workspace (slice_get rules m.rule) m.node.tree b p
+binding_shown kept w rules m node rule b p name same_w same_node same_rule named is from count kind = record {
   name = named ∙ is ∙ ap (λ rule. placeholder_name (slice_get rules rule) b.placeholder) same_rule;
   range =
-      subst (λ (x : NodeId). ComesFrom kept.workspace x (span_of p)) same_node
-      (subst (λ (w : Workspace). ComesFrom w node (span_of p)) same_w from);
+      subst (λ (x : NodeId). ComesFrom kept.workspace (held_range (trees kept.workspace) x.tree b) (span_of p)) same_node
+      (subst (λ (w : Workspace). ComesFrom w (held_range (trees w) node.tree b) (span_of p)) same_w from);
+  deref_count = count;
+  self_kind = kind;
 }
 
 pub show_match : (rules : List ResolvedKind) (kept : Kept) (lists : Listing) (n : ℕ) (m : Found) (v : Match) (placeholders : List PlaceholderMatch)

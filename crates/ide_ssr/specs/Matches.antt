@@ -2,6 +2,7 @@
 use Rattle.std.specs.Prelude.{ℕ, List, string_bytes}
 use Rattle.ssr_base.specs.declared.ids.FileRange.{FileRange}
 use Rattle.ssr_base.specs.declared.ids.NodeId.{NodeId}
+use Rattle.ssr_base.specs.declared.semantics.SelfKind.{SelfKind}
 use Rattle.ssr_base.specs.Workspace.{FileSpan, file_span_of}
 use Rattle.ide_ssr.specs.declared.matches.Match.{Match, out-Match}
 use Rattle.ide_ssr.specs.declared.matches.PlaceholderMatch.{PlaceholderMatch, out-PlaceholderMatch}
@@ -37,6 +38,14 @@ place_of p = (out-PlaceholderMatch p).range
 -- the same, as bytes of a file
 abbrev pub span_of : PlaceholderMatch → FileSpan
 span_of p = file_span_of (place_of p)
+
+-- how often a receiver is dereferenced
+abbrev pub deref_count_of : PlaceholderMatch → ℕ
+deref_count_of p = (out-PlaceholderMatch p).deref_count
+
+-- how it is taken
+abbrev pub self_kind_of : PlaceholderMatch → SelfKind
+self_kind_of p = (out-PlaceholderMatch p).self_kind
 
 -- the matches in it
 abbrev pub inner_of : PlaceholderMatch → List Match

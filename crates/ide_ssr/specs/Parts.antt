@@ -2,27 +2,26 @@
 use Rattle.std.specs.Prelude.{ℕ, ◌≡◌, List, [], Option, Some, map, slice_index_or, All}
 use Rattle.std.specs.Option.{IsSomeAnd, option_map_or}
 use Rattle.ssr_syntax_tree.specs.Places.{node_of as code_node, text_of as node_text}
-use Rattle.ssr_base.specs.declared.ids.NodeId.{NodeId}
 use Rattle.ssr_base.specs.Laws.{LiesInFile}
 use Rattle.ssr_base.specs.Workspace.{Workspace, FileSpan, trees, tree_of, file_span_of, original_range}
 use Rattle.ide_ssr_resolving.specs.Resolved.{ResolvedKind}
 use Rattle.ide_ssr_found.specs.declared.bindings.Binding.{Binding}
-use Rattle.ide_ssr_found.specs.Found.{Found, held_node}
+use Rattle.ide_ssr_found.specs.Found.{Found, held_range}
 use Rattle.ide_ssr.specs.declared.matches.Match.{Match}
 use Rattle.ide_ssr.specs.declared.matches.PlaceholderMatch.{PlaceholderMatch}
 use Rattle.ide_ssr.specs.Comments.{comment_spans}
-use Rattle.ide_ssr.specs.Matches.{text_of, range_of, node_of, rule_of, name_of, span_of, comments_of}
+use Rattle.ide_ssr.specs.Matches.{text_of, range_of, node_of, rule_of, name_of, span_of, deref_count_of, self_kind_of, comments_of}
 
--- bytes of a file, which begin and end between characters, are those that a node comes from
-pub record ComesFrom (w : Workspace) (node : NodeId) (range : FileSpan) : Type 0 where
-  pub original : original_range (trees w) node ≡ Some range
+-- bytes of a file, which begin and end between characters, are those of an original range
+pub record ComesFrom (w : Workspace) (original : Option FileSpan) (range : FileSpan) : Type 0 where
+  pub is : original ≡ Some range
   pub in_file : LiesInFile w range
 
 -- a match has the rule, the node, where it comes from, its text in its own tree, and the comments that it keeps
 pub record HasParts (w : Workspace) (m : Found) (v : Match) : Type 0 where
   pub rule : rule_of v ≡ m.rule
   pub node : node_of v ≡ m.node
-  pub range : ComesFrom w m.node (file_span_of (range_of v))
+  pub range : ComesFrom w (original_range (trees w) m.node) (file_span_of (range_of v))
   pub text : IsSomeAnd (tree_of w m.node.tree) (λ syntax. text_of v ≡ node_text (code_node syntax m.node.node.0))
   pub comments : map file_span_of (comments_of v) ≡ comment_spans w m
   pub comments_in_file : All (λ range. LiesInFile w (file_span_of range)) (comments_of v)
@@ -31,7 +30,9 @@ pub record HasParts (w : Workspace) (m : Found) (v : Match) : Type 0 where
 abbrev pub placeholder_name : Option ResolvedKind → ℕ → List ℕ
 placeholder_name rule i = option_map_or (λ rule. slice_index_or rule.names i []) rule []
 
--- a placeholder has the name, and comes from where its node does
+-- a placeholder has the name, comes from where what it holds does, and tells how a receiver is taken
 pub record HasBinding (w : Workspace) (rule : Option ResolvedKind) (tree : ℕ) (binding : Binding) (p : PlaceholderMatch) : Type 0 where
   pub name : name_of p ≡ placeholder_name rule binding.placeholder
-  pub range : ComesFrom w (held_node tree binding) (span_of p)
+  pub range : ComesFrom w (held_range (trees w) tree binding) (span_of p)
+  pub deref_count : deref_count_of p ≡ binding.deref_count
+  pub self_kind : self_kind_of p ≡ binding.self_kind

@@ -1,14 +1,14 @@
 -- In which order a match shows its placeholders: by where what they hold begins.
 use Rattle.std.specs.Prelude.{ℕ, ◌≡◌, ◌<◌, ◌⊎◌, ◌↔◌, List, length, slice_get, Option, Some, AllPairs, Contains}
 use Rattle.std.specs.Option.{option_and_then, option_map}
-use Rattle.ssr_base.specs.Workspace.{Workspace, trees, original_range}
-use Rattle.ide_ssr_found.specs.Found.{Found, held_node}
+use Rattle.ssr_base.specs.Workspace.{Workspace, trees}
+use Rattle.ide_ssr_found.specs.Found.{Found, held_range}
 
 -- where in its file begins what the binding of this place holds
 abbrev pub start_at : Workspace → Found → ℕ → Option ℕ
 start_at w m i =
     option_and_then
-    (λ binding. option_map (λ range. range.span.start) (original_range (trees w) (held_node m.node.tree binding)))
+    (λ binding. option_map (λ range. range.span.start) (held_range (trees w) m.node.tree binding))
     (slice_get m.bindings i)
 
 -- one binding begins before another one, or where it does, and stands before it in the pattern

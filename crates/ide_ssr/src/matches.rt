@@ -1,10 +1,10 @@
 //! What a caller sees of kept matches: those in no other one, with the others nested in their placeholders.
 
 ghost use Rattle.std.specs.Prelude.{◌≡◌, IfOk, string_bytes};
-ghost use Rattle.ide_ssr.specs.Matches.{text_of, range_of, node_of, rule_of, placeholders_of, name_of, place_of, inner_of, comments_of};
+ghost use Rattle.ide_ssr.specs.Matches.{text_of, range_of, node_of, rule_of, placeholders_of, name_of, place_of, deref_count_of, self_kind_of, inner_of, comments_of};
 
 use ide_ssr_rules::Var;
-use ssr_base::{FileRange, NodeId};
+use ssr_base::{FileRange, NodeId, SelfKind};
 use std::alloc::{AllocError, Global};
 
 /// The matches of a search: those that stand in no placeholder of another one, by file, start and end, rule, tree and node. The
@@ -19,6 +19,8 @@ fn leave_inner<'a>(placeholders: Vec<PlaceholderMatch<'a>>, left: &mut Vec<Match
         let PlaceholderMatch {
             var: _,
             range: _,
+            deref_count: _,
+            self_kind: _,
             mut inner,
         } = placeholder;
         // Where there is no memory for them they are dropped here, level by level on the stack. One alone always
@@ -73,6 +75,8 @@ pub struct Match<'a> {
 pub struct PlaceholderMatch<'a> {
     pub(crate) var: Var,
     pub(crate) range: FileRange,
+    pub(crate) deref_count: usize,
+    pub(crate) self_kind: SelfKind,
     pub(crate) inner: Vec<Match<'a>>,
 }
 
@@ -141,6 +145,21 @@ impl<'a> PlaceholderMatch<'a> {
         ensures { result ≡ place_of self.now }
     {
         self.range
+    }
+
+    /// How often what it holds is dereferenced to be the first argument of the qualified call that matched a method call,
+    /// where it holds that call's receiver; else 0.
+    pub fn deref_count(&self) -> usize
+        ensures { result ≡ deref_count_of self.now }
+    {
+        self.deref_count
+    }
+
+    /// How the method takes that receiver; `Owned` where it holds something else.
+    pub fn self_kind(&self) -> SelfKind
+        ensures { result ≡ self_kind_of self.now }
+    {
+        self.self_kind
     }
 
     /// The matches in it that stand in no placeholder of another one in it, in the same order.

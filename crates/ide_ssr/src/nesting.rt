@@ -48,10 +48,12 @@ fn nested_placeholders<'a>(
     let mut placeholders = Vec::new(alloc);
     for index in &order {
         let binding = binding_at(m, *index);
-        let node = binding.held_node(m.node().tree);
         let inner = take_list(alloc, lists.under(place, *index), made)?;
         let name = placeholder_name(rules, m.rule(), binding.placeholder);
-        placeholders.push(nested_placeholder(alloc, workspace, name, node, inner)?)?;
+        let tree = m.node().tree;
+        placeholders.push(nested_placeholder(
+            alloc, workspace, name, tree, binding, inner,
+        )?)?;
     }
     Ok(placeholders)
 }

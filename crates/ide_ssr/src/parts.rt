@@ -1,14 +1,16 @@
 //! What a nested match shows of itself, and its placeholders of themselves.
 
-ghost use Rattle.std.specs.Prelude.{◌≡◌, [], IfOk, IsSome, map, slice_get, slice_index_or, string_bytes};
+ghost use Rattle.std.specs.Prelude.{◌≡◌, [], IfOk, IsSome, Some, map, option_map, slice_get, slice_index_or, string_bytes};
 ghost use Rattle.std.specs.Option.{IsSomeAnd};
 ghost use Rattle.ssr_syntax_tree.specs.Places.{node_of, text_of};
 ghost use Rattle.ssr_base.specs.Built.{IsBuilt, IsNodeOf};
 ghost use Rattle.ssr_base.specs.Workspace.{file_span_of, original_range, tree_of, trees};
-ghost use Rattle.ide_ssr.specs.Matches.{inner_of, name_of, span_of};
+ghost use Rattle.ide_ssr_found.specs.Found.{held_range};
+ghost use Rattle.ide_ssr.specs.Matches.{deref_count_of, inner_of, name_of, self_kind_of, span_of};
 ghost use Rattle.ide_ssr.specs.Parts.{ComesFrom, placeholder_name};
 
 use crate::matches::{Match, PlaceholderMatch};
+use ide_ssr_found::Binding;
 use ide_ssr_resolving::ResolvedRule;
 use ide_ssr_rules::Var;
 use ssr_base::{FileId, FileRange, NodeId, Workspace};
@@ -46,13 +48,12 @@ pub(crate) fn text_at(workspace: &Workspace, node: NodeId) -> &str
     }
 }
 
-/// Where a node comes from.
-pub(crate) fn range_at(workspace: &Workspace, node: NodeId) -> FileRange
-    requires built { IsBuilt workspace.now }
-    requires range { IsSome (original_range (trees workspace.now) node) }
-    ensures { ComesFrom workspace.now node (file_span_of result) }
+/// The range that there is.
+fn there(range: Option<FileRange>) -> FileRange
+    requires { IsSome (option_map file_span_of range) }
+    ensures { option_map file_span_of range ≡ Some (file_span_of result) }
 {
-    match workspace.original_range(node) {
+    match range {
         Some(range) => range,
         None => FileRange {
             file_id: FileId(0),
@@ -61,23 +62,46 @@ pub(crate) fn range_at(workspace: &Workspace, node: NodeId) -> FileRange
     }
 }
 
-/// What a placeholder of a match holds, with the matches in it.
+/// Where a node comes from.
+pub(crate) fn range_at(workspace: &Workspace, node: NodeId) -> FileRange
+    requires built { IsBuilt workspace.now }
+    requires range { IsSome (original_range (trees workspace.now) node) }
+    ensures { ComesFrom workspace.now (original_range (trees workspace.now) node) (file_span_of result) }
+{
+    there(workspace.original_range(node))
+}
+
+/// Where what a binding of a match in the tree holds comes from.
+fn held_range_at(workspace: &Workspace, tree: u32, binding: Binding) -> FileRange
+    requires built { IsBuilt workspace.now }
+    requires range { IsSome (held_range (trees workspace.now) tree binding) }
+    ensures { ComesFrom workspace.now (held_range (trees workspace.now) tree binding) (file_span_of result) }
+{
+    there(binding.original_range(workspace, tree))
+}
+
+/// What a placeholder of a match in the tree holds, with the matches in it.
 pub(crate) fn nested_placeholder<'a>(
     alloc: Global,
     workspace: &Workspace,
     name: &str,
-    node: NodeId,
+    tree: u32,
+    binding: Binding,
     inner: Vec<Match<'a>>,
 ) -> Result<PlaceholderMatch<'a>, AllocError>
     requires built { IsBuilt workspace.now }
-    requires range { IsSome (original_range (trees workspace.now) node) }
+    requires range { IsSome (held_range (trees workspace.now) tree binding) }
     ensures name { IfOk result (λ p. name_of p ≡ name.now) }
-    ensures range { IfOk result (λ p. ComesFrom workspace.now node (span_of p)) }
+    ensures range { IfOk result (λ p. ComesFrom workspace.now (held_range (trees workspace.now) tree binding) (span_of p)) }
+    ensures deref_count { IfOk result (λ p. deref_count_of p ≡ binding.deref_count) }
+    ensures self_kind { IfOk result (λ p. self_kind_of p ≡ binding.self_kind) }
     ensures inner { IfOk result (λ p. inner_of p ≡ inner.entry.items) }
 {
     Ok(PlaceholderMatch {
         var: Var(String::from_str(alloc, name)?),
-        range: range_at(workspace, node),
+        range: held_range_at(workspace, tree, binding),
+        deref_count: binding.deref_count,
+        self_kind: binding.self_kind,
         inner,
     })
 }

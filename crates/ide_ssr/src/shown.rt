@@ -27,6 +27,8 @@ impl fmt::Debug for PlaceholderMatch<'_> {
         f.debug_struct("PlaceholderMatch")
             .field("var", &self.var)
             .field("range", &self.range)
+            .field("deref_count", &self.deref_count)
+            .field("self_kind", &self.self_kind)
             .field("inner", &self.inner.len())
             .finish()
     }

@@ -1,16 +1,16 @@
 //! In which order a match shows its placeholders.
 
-ghost use Rattle.std.specs.Prelude.{◌≡◌, All, IfOk, IsSome, Some, length};
+ghost use Rattle.std.specs.Prelude.{◌≡◌, All, IfOk, Some, length};
 ghost use Rattle.std.specs.Cmp.Lexicographic.{slice_cmp};
 ghost use Rattle.std.specs.Option.{option_map};
 ghost use Rattle.std.specs.Ordering.{nat_cmp};
-ghost use Rattle.ssr_base.specs.Workspace.{original_range, trees};
-ghost use Rattle.ide_ssr_found.specs.Found.{held_node};
+ghost use Rattle.ssr_base.specs.Workspace.{trees};
+ghost use Rattle.ide_ssr_found.specs.Found.{IsInRange, held_range};
 ghost use Rattle.ide_ssr.specs.Starts.{AreByStart};
 ghost use Rattle.ide_ssr.specs.Private.Starts.{AreStarts, start_key};
 
 use ide_ssr_found::{Binding, Found};
-use ssr_base::Workspace;
+use ssr_base::{NodeId, Workspace};
 use std::alloc::{AllocError, Global};
 use std::cmp::Ordering;
 
@@ -34,7 +34,7 @@ pub(crate) fn by_start(
     workspace: &Workspace,
     m: &Found,
 ) -> Result<Vec<usize>, AllocError>
-    requires { All (λ b. IsSome (original_range (trees workspace.now) (held_node m.now.node.tree b))) m.now.bindings }
+    requires { All (IsInRange (trees workspace.now) m.now.node) m.now.bindings }
     ensures { IfOk result (λ order. AreByStart workspace.now m.now order.items) }
 {
     let mut starts = starts(alloc, workspace, m)?;
@@ -48,23 +48,23 @@ pub(crate) fn by_start(
 
 /// Where what the bindings of a match hold begins, in the order of the pattern.
 fn starts(alloc: Global, workspace: &Workspace, m: &Found) -> Result<Vec<Start>, AllocError>
-    requires { All (λ b. IsSome (original_range (trees workspace.now) (held_node m.now.node.tree b))) m.now.bindings }
+    requires { All (IsInRange (trees workspace.now) m.now.node) m.now.bindings }
     ensures { IfOk result (λ starts. AreStarts workspace.now m.now (length m.now.bindings) starts.items) }
 {
     let mut starts = Vec::new(alloc);
     for (place, binding) in m.bindings().iter().enumerate() {
-        let at = start_of(workspace, m.node().tree, *binding);
+        let at = start_of(workspace, m.node(), *binding);
         starts.push(Start { at, place })?;
     }
     Ok(starts)
 }
 
-/// Where what a binding of a match in the tree holds begins in its file.
-fn start_of(workspace: &Workspace, tree: u32, binding: Binding) -> u32
-    requires { IsSome (original_range (trees workspace.now) (held_node tree binding)) }
-    ensures { option_map (λ range. range.span.start) (original_range (trees workspace.now) (held_node tree binding)) ≡ Some result }
+/// Where what a binding of a match at the node holds begins in its file.
+fn start_of(workspace: &Workspace, node: NodeId, binding: Binding) -> u32
+    requires { IsInRange (trees workspace.now) node binding }
+    ensures { option_map (λ range. range.span.start) (held_range (trees workspace.now) node.tree binding) ≡ Some result }
 {
-    match workspace.original_range(binding.held_node(tree)) {
+    match binding.original_range(workspace, node.tree) {
         Some(range) => range.range.start,
         None => 0,
     }

@@ -8,7 +8,6 @@ use Rattle.std.proofs.lemmas.List.Elements.{All-contains, All-push, Contains-pus
 use Rattle.std.proofs.lemmas.List.Quantifiers.{all_pairs_push}
 use Rattle.ssr_base.specs.Workspace.{Planted}
 use Rattle.ssr_base.specs.Built.{CallsAreEarlier}
-use Rattle.ssr_base.specs.Laws.{RangesNest}
 use Rattle.ide_ssr_found.specs.Found.{Found, IsMatch}
 use Rattle.ide_ssr_nesting.specs.declared.holders.Holder.{Holder}
 use Rattle.ide_ssr_nesting.specs.Kept.{IsOver, LiesUnder, Fits, ComesBefore}
@@ -99,16 +98,16 @@ module _ (trees : List Planted) (grown : CallsAreEarlier trees) (kept : List Fou
 
   -- ** Whether m fits.
 
-  pub fits_held : RangesNest trees → (p i : ℕ) (near : IsNearestAt trees kept m p) → LiesUnder trees near.nearest m i
+  pub fits_held : (p i : ℕ) (near : IsNearestAt trees kept m p) → LiesUnder trees near.nearest m i
       → Fits trees kept m × IsHeld trees kept m (Some (record { place = p; binding = i }))
-  fits_held nest p i near under =
+  fits_held p i near under =
       let k = near.nearest in
       let is_in : Contains kept k = contains_at kept p k near.stands in (
         (λ j at over. elim (near.is_nearest.others j at over) [
           | inl same ↦ (i, subst (λ k. LiesUnder trees k m i) (sym same) under)
           | inr above ↦ (
               let outer = held.fit k is_in j at above in
-              (outer.0, under_outer trees nest j k m i outer.0 (all_at (IsMatch trees) kept p k held.each near.stands) under outer.1)
+              (outer.0, under_outer trees j k m i outer.0 (all_at (IsMatch trees) kept p k held.each near.stands) under outer.1)
               )
         ]),
         record { nearest = k; stands = near.stands; is_nearest = near.is_nearest; under = under },

@@ -4,14 +4,12 @@ use Rattle.std.proofs.lemmas.Bool.{cases_eq}
 use Rattle.std.proofs.lemmas.List.Elements.{All-contains, All-contains_itself}
 use Rattle.std.proofs.lemmas.Option.{same_Some, slice_get_within}
 use Rattle.ssr_syntax_tree.proofs.Lists.{all_at, place_in, stands_at}
-use Rattle.ssr_base.specs.declared.ids.NodeId.{NodeId}
-use Rattle.ssr_base.specs.Workspace.{Workspace, Planted, trees, original_range}
+use Rattle.ssr_base.specs.Workspace.{Workspace, Planted, FileSpan, trees, original_range}
 use Rattle.ssr_base.specs.Built.{IsBuilt, IsNodeOf, CallsAreEarlier}
-use Rattle.ssr_base.specs.Laws.{LiesIn, RangesNest}
-use Rattle.ssr_base.proofs.Shared.{ranges_nest}
+use Rattle.ssr_base.specs.Laws.{LiesIn}
 use Rattle.ide_ssr_found.specs.declared.bindings.Binding.{Binding}
 use Rattle.ide_ssr_found.proofs.Deciding.{Decided, both, either, likewise, of_some, last_of, less, lies_in}
-use Rattle.ide_ssr_found.specs.Found.{Found, IsMatch, held_node}
+use Rattle.ide_ssr_found.specs.Found.{Found, IsMatch, held_range}
 use Rattle.ide_ssr_nesting.specs.declared.holders.Holder.{Holder}
 use Rattle.ide_ssr_nesting.specs.Order.{place, end_place}
 use Rattle.ide_ssr_nesting.specs.Kept.{LiesWithin, IsOver, LiesUnder, Fits, ComesBefore, AreKept}
@@ -26,15 +24,14 @@ use Rattle.ide_ssr_nesting.proofs.Keeping.{AreKeptSoFar, kept_starts, kept_ends,
 
 -- ** What holds or doesn't.
 
-lies_within : (trees : List Planted) (inner outer : NodeId) → Decided (LiesWithin trees inner outer)
-lies_within trees inner outer =
-    of_some (λ i. IsSomeAnd (original_range trees outer) (LiesIn i)) (λ i. of_some (LiesIn i) (lies_in i) (original_range trees outer)) (original_range trees inner)
+lies_within : (inner outer : Option FileSpan) → Decided (LiesWithin inner outer)
+lies_within inner outer = of_some (λ i. IsSomeAnd outer (LiesIn i)) (λ i. of_some (LiesIn i) (lies_in i) outer) inner
 
 lies_under : (trees : List Planted) (k m : Found) (n : ℕ) → n < length k.bindings → Decided (LiesUnder trees k m n)
 lies_under trees k m n within =
     let at = stands_at k.bindings n within in
-    likewise (lies_within trees m.node (held_node k.node.tree at.0)) (λ lies. record { binding = at.0; is = at.1; within = lies })
-    (λ under. subst (λ (b : Binding). LiesWithin trees m.node (held_node k.node.tree b)) (same_Some under.binding at.0 (sym under.is ∙ at.1)) under.within)
+    likewise (lies_within (original_range trees m.node) (held_range trees k.node.tree at.0)) (λ lies. record { binding = at.0; is = at.1; within = lies })
+    (λ under. subst (λ (b : Binding). LiesWithin (original_range trees m.node) (held_range trees k.node.tree b)) (same_Some under.binding at.0 (sym under.is ∙ at.1)) under.within)
 
 module _ (trees : List Planted) (grown : CallsAreEarlier trees) where
   is_over : (k m : Found) → IsNodeOf trees k.node → IsNodeOf trees m.node → Decided (IsOver trees k m)
@@ -46,7 +43,7 @@ module _ (trees : List Planted) (grown : CallsAreEarlier trees) where
   -- ** One match after another.
 
   module _ (kept : List Found) (holders : List (Option Holder)) (held : AreHeld trees kept holders) (m : Found) (match : IsMatch trees m)
-      (behind : All (λ k. ComesBefore trees k m) kept) (nest : RangesNest trees) where
+      (behind : All (λ k. ComesBefore trees k m) kept) where
     abbrev IsOverAt : ℕ → Type 0
     IsOverAt n = (k : Found) × (slice_get kept n ≡ Some k) × IsOver trees k m
 
@@ -72,13 +69,13 @@ module _ (trees : List Planted) (grown : CallsAreEarlier trees) where
               elim (last_of (LiesUnder trees by m) (length by.bindings) (lies_under trees by m)
               (λ n low under. omega (arith, slice_get_within by.bindings n under.binding under.is))) [
                 | inl under ↦
-                    let fits = fits_held trees grown kept holders held m match behind nest p under.0 near under.1 in
+                    let fits = fits_held trees grown kept holders held m match behind p under.0 near under.1 in
                     inl (Some (record { place = p; binding = under.0 }), fits.0, fits.1)
                 | inr none ↦ inr (fits_not trees grown kept holders held m match behind p near none)
               ]
         ]
 
-  module _ (nest : RangesNest trees) (found : List Found) where
+  module _ (found : List Found) where
     abbrev AreAll : Type 0
     AreAll = (kept : List Found) × (holders : List (Option Holder)) × AreKept trees found kept × AreHeld trees kept holders
 
@@ -87,7 +84,7 @@ module _ (trees : List Planted) (grown : CallsAreEarlier trees) where
     gone_through (x ∷ rest) kept holders so_far =
         let match = kept_match trees grown found kept holders x rest so_far in
         let behind = kept_behind trees grown found kept holders x rest so_far in
-        elim (considered kept holders so_far.held x match behind nest) [
+        elim (considered kept holders so_far.held x match behind) [
           | inl fits ↦
               gone_through rest (kept ++ x ∷ []) (holders ++ fits.0 ∷ [])
               (kept_turns trees grown found kept holders x rest so_far (kept ++ x ∷ []) (holders ++ fits.0 ∷ []) (inl (fits.1, refl))
@@ -109,7 +106,7 @@ kept_exist w built found are =
     ])
     found (All-contains_itself found) in
     let sorted = in_order.1 in
-    let all = gone_through ts built.grown (ranges_nest w built) in_order.0 in_order.0 [] []
+    let all = gone_through ts built.grown in_order.0 in_order.0 [] []
     (kept_starts ts in_order.0 [] [] in_order.0 (all_match ts found in_order.0 are sorted.same) sorted.in_order refl refl refl) in (
       record { workspace = w; matches = all.0; holders = all.1 },
       refl,

@@ -1,17 +1,15 @@
 -- Which of the matches that are found are kept: those that lie in a placeholder of each kept match over them.
-use Rattle.std.specs.Prelude.{ℕ, ◌≡◌, ◌<◌, ◌↔◌, ◌⊎◌, List, Some, slice_get, AllPairs, Contains}
+use Rattle.std.specs.Prelude.{ℕ, ◌≡◌, ◌<◌, ◌↔◌, ◌⊎◌, List, Option, Some, slice_get, AllPairs, Contains}
 use Rattle.std.specs.Option.{IsSomeAnd}
-use Rattle.ssr_base.specs.declared.ids.NodeId.{NodeId}
-use Rattle.ssr_base.specs.Workspace.{Planted, original_range}
+use Rattle.ssr_base.specs.Workspace.{Planted, FileSpan, original_range}
 use Rattle.ssr_base.specs.Laws.{IsBelow, LiesIn}
 use Rattle.ide_ssr_found.specs.declared.bindings.Binding.{Binding}
-use Rattle.ide_ssr_found.specs.Found.{Found, held_node}
+use Rattle.ide_ssr_found.specs.Found.{Found, held_range}
 use Rattle.ide_ssr_nesting.specs.Order.{Precedes}
 
--- the original range of one node lies in that of the other
-abbrev pub LiesWithin : List Planted → NodeId → NodeId → Type 0
-LiesWithin trees inner outer =
-    IsSomeAnd (original_range trees inner) (λ i. IsSomeAnd (original_range trees outer) (λ o. LiesIn i o))
+-- there are two ranges, and one lies in the other
+abbrev pub LiesWithin : Option FileSpan → Option FileSpan → Type 0
+LiesWithin inner outer = IsSomeAnd inner (λ i. IsSomeAnd outer (λ o. LiesIn i o))
 
 -- k stands above m, or at the same node with an earlier rule
 abbrev pub IsOver : List Planted → Found → Found → Type 0
@@ -21,7 +19,7 @@ IsOver trees k m = IsBelow trees m.node k.node ⊎ ((k.node ≡ m.node) × (k.ru
 pub record LiesUnder (trees : List Planted) (k m : Found) (place : ℕ) : Type 0 where
   pub binding : Binding
   pub is : slice_get k.bindings place ≡ Some binding
-  pub within : LiesWithin trees m.node (held_node k.node.tree binding)
+  pub within : LiesWithin (original_range trees m.node) (held_range trees k.node.tree binding)
 
 abbrev pub LiesInPlaceholder : List Planted → Found → Found → Type 0
 LiesInPlaceholder trees k m = (place : ℕ) × LiesUnder trees k m place

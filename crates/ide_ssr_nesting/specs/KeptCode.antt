@@ -4,20 +4,16 @@ use Rattle.std.specs.Coded.{Coded, code_by, coded×, coded_list, coded_option, c
 use Rattle.ssr_base.specs.declared.ids.NodeId.{NodeId}
 use Rattle.ssr_base.specs.Workspace.{Workspace}
 use Rattle.ssr_base.specs.WorkspaceCode.{id_code, workspace_code}
+use Rattle.ide_ssr_found.specs.contracts.bindings.Binding as binding
 use Rattle.ide_ssr_found.specs.declared.bindings.Binding.{Binding}
 use Rattle.ide_ssr_found.specs.Found.{Found}
 use Rattle.ide_ssr_nesting.specs.declared.holders.Holder.{Holder}
 use Rattle.ide_ssr_nesting.specs.Holding.{Kept}
 use Rattle.ide_ssr_nesting.specs.Lists.{Listing}
 
-abbrev pub binding_code : Coded Binding
-binding_code =
-    code_by (ℕ × ℕ) (coded× coded_ℕ coded_ℕ) (λ b. (b.placeholder, b.node.0))
-    (λ c. record { placeholder = c.0; node = record { 0 = c.1 } }) (λ _. refl)
-
 abbrev pub found_code : Coded Found
 found_code =
-    code_by (ℕ × (NodeId × List Binding)) (coded× coded_ℕ (coded× id_code (coded_list binding_code)))
+    code_by (ℕ × (NodeId × List Binding)) (coded× coded_ℕ (coded× id_code (coded_list binding.the_row.coded)))
     (λ m. (m.rule, (m.node, m.bindings))) (λ c. record { rule = c.0; node = c.1.0; bindings = c.1.1 }) (λ _. refl)
 
 abbrev pub holder_code : Coded Holder

@@ -2,7 +2,7 @@
 
 ghost use Rattle.std.specs.Prelude.{◌≡◌, ◌<◌, ◌↔◌, ℕ, All, AllPairs, Contains, IsTrue, IfOk, MatchOption, length, option_map, slice_get, Some};
 ghost use Rattle.std.specs.Option.{IsSomeAnd};
-ghost use Rattle.ssr_base.specs.Workspace.{trees, original_range, file_span_of};
+ghost use Rattle.ssr_base.specs.Workspace.{trees, file_span_of};
 ghost use Rattle.ssr_base.specs.Built.{IsNodeOf, IsBuilt};
 ghost use Rattle.ssr_base.specs.Laws.{LiesIn};
 ghost use Rattle.ide_ssr_found.specs.Found.{Found as FoundMatch, IsMatch, AreMatches};
@@ -13,7 +13,7 @@ ghost use Rattle.ide_ssr_nesting.specs.Private.Nearest.{IsNearestAt, IsKeptIfFit
 use crate::holders::Holder;
 use crate::order::is_above;
 use ide_ssr_found::Found;
-use ssr_base::{FileRange, NodeId, Workspace};
+use ssr_base::{FileRange, Workspace};
 use std::alloc::{AllocError, Global};
 
 /// Kept matches in order, and beside each of them what holds it: nothing, if it is outermost.
@@ -37,11 +37,11 @@ fn is_over(workspace: &Workspace, k: &Found, m: &Found) -> bool
     }
 }
 
-/// Whether a range of a file lies in the original range of a node.
-fn lies_in(workspace: &Workspace, range: FileRange, node: NodeId) -> bool
-    ensures { IsTrue result ↔ IsSomeAnd (original_range (trees workspace.now) node) (λ outer. LiesIn (file_span_of range) outer) }
+/// Whether a range of a file lies in another one, if there is that.
+fn lies_in(range: FileRange, outer: Option<FileRange>) -> bool
+    ensures { IsTrue result ↔ IsSomeAnd (option_map file_span_of outer) (λ outer. LiesIn (file_span_of range) outer) }
 {
-    match workspace.original_range(node) {
+    match outer {
         Some(outer) => {
             outer.file_id.0 == range.file_id.0
                 && outer.range.start <= range.range.start
@@ -58,7 +58,7 @@ fn binding_over(workspace: &Workspace, k: &Found, m: &Found) -> Option<usize>
     let range = workspace.original_range(m.node())?;
     let tree = k.node().tree;
     for (i, binding) in k.bindings().iter().enumerate() {
-        if lies_in(workspace, range, binding.held_node(tree)) {
+        if lies_in(range, binding.original_range(workspace, tree)) {
             return Some(i);
         }
     }

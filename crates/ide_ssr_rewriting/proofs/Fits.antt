@@ -8,10 +8,12 @@ use Rattle.ssr_syntax_tree.proofs.Lists.{all_at}
 use Rattle.ssr_base.specs.Laws.{IsSpanOf, LiesInFile}
 use Rattle.ssr_base.specs.Texts.{is_boundary}
 use Rattle.ssr_base.specs.Workspace.{FileSpan, Workspace, node_id, original_range, trees}
-use Rattle.ssr_base.specs.declared.ids.NodeId.{NodeId}
-use Rattle.ssr_base.proofs.Shared.{lies_in_file}
+use Rattle.ssr_base.specs.Built.{IsBuilt}
+use Rattle.ssr_base.proofs.Shared.{lies_in_file, run_lies_in_file}
 use Rattle.ide_ssr_found.specs.declared.bindings.Binding.{Binding}
-use Rattle.ide_ssr_found.specs.Found.{Found, HasByte, IsMatch}
+use Rattle.ide_ssr_found.specs.declared.bindings.Held.{Held}
+use Rattle.ide_ssr_found.specs.declared.bindings.Held.TheVariants as held
+use Rattle.ide_ssr_found.specs.Found.{Found, HasByte, IsMatch, held_range, range_of_held}
 use Rattle.ide_ssr_nesting.specs.Holding.{Kept}
 use Rattle.ide_ssr_nesting.specs.Lists.{Listing, range_of}
 use Rattle.ide_ssr_rewriting.specs.Clashes.{Rewrite}
@@ -30,8 +32,10 @@ in_file w range lies =
     let both = fits_in (slice_get w.files range.file) range.span.start range.span.end lies in
     record { begins = both.0; ends = both.1 }
 
-fits_file : (kept : Kept) (listing : Listing) → IsNest kept listing → (x : NodeId) (range : FileSpan) → original_range (trees kept.workspace) x ≡ Some range → FitsItsFile kept.workspace range
-fits_file kept listing is x range e = in_file kept.workspace range (lies_in_file kept.workspace x range is.built e)
+-- where what a placeholder holds comes from
+pub held_in_file : (w : Workspace) (t : ℕ) (h : Held) (range : FileSpan) → IsBuilt w → range_of_held (trees w) t h ≡ Some range → LiesInFile w range
+held_in_file w t (held.Node node) range built is = lies_in_file w (node_id t node.0) range built is
+held_in_file w t (held.Tokens run) range built is = run_lies_in_file w t run range built is
 
 -- where a match comes from
 pub range_in_file : (kept : Kept) (listing : Listing) → IsNest kept listing → (n : ℕ) → n < length kept.matches → LiesInFile kept.workspace (range_at kept n)
@@ -50,29 +54,29 @@ range_in_file kept listing is n lt = at (slice_get kept.matches n) refl
 range_fits : (kept : Kept) (listing : Listing) → IsNest kept listing → (n : ℕ) → n < length kept.matches → FitsItsFile kept.workspace (range_at kept n)
 range_fits kept listing is n lt = in_file kept.workspace (range_at kept n) (range_in_file kept listing is n lt)
 
-pub list_fits : (kept : Kept) (listing : Listing) → IsNest kept listing → (n i : ℕ) (m : Found) (binding : Binding) (texts : Texts) (list : List Rewrite) (node : NodeId)
-    → slice_get kept.matches n ≡ Some m → slice_get m.bindings i ≡ Some binding → list ≡ list_at kept texts (under listing n i) → node ≡ node_id m.node.tree binding.node.0
-    → IfSome (original_range (trees kept.workspace) node) (λ range. IsOf kept.workspace range list)
-list_fits kept listing is n i m binding texts list node at bound taken e =
-    subst (λ (node : NodeId). IfSome (original_range (trees kept.workspace) node) (λ range. IsOf kept.workspace range list)) (sym e)
-    (subst (λ (list : List Rewrite). IfSome (original_range (trees kept.workspace) held) (λ range. IsOf kept.workspace range list)) (sym taken) (of (original_range (trees kept.workspace) held) refl))
+pub list_fits : (kept : Kept) (listing : Listing) → IsNest kept listing → (n i : ℕ) (m : Found) (binding : Binding) (texts : Texts) (list : List Rewrite) (range : Option FileSpan)
+    → slice_get kept.matches n ≡ Some m → slice_get m.bindings i ≡ Some binding → list ≡ list_at kept texts (under listing n i)
+    → range ≡ held_range (trees kept.workspace) m.node.tree binding → IfSome range (λ range. IsOf kept.workspace range list)
+list_fits kept listing is n i m binding texts list range at bound taken e =
+    subst (λ (o : Option FileSpan). IfSome o (λ range. IsOf kept.workspace range list)) (sym e)
+    (subst (λ (list : List Rewrite). IfSome there (λ range. IsOf kept.workspace range list)) (sym taken) (of there refl))
   where
-    held : NodeId
-    held = node_id m.node.tree binding.node.0
+    there : Option FileSpan
+    there = held_range (trees kept.workspace) m.node.tree binding
 
     stands : ℕ → Rewrite
     stands j = record { range = range_at kept j; text = texts j }
 
-    one : (range : FileSpan) → original_range (trees kept.workspace) held ≡ Some range → (j : ℕ) → Contains (under listing n i) j → ((stands j).range.file ≡ range.file) × FitsItsFile kept.workspace (stands j).range
+    one : (range : FileSpan) → there ≡ Some range → (j : ℕ) → Contains (under listing n i) j → ((stands j).range.file ≡ range.file) × FitsItsFile kept.workspace (stands j).range
     one range e j h = (
       (is.within n i j m binding range at bound h e).file,
       range_fits kept listing is j (All-contains (λ j. j < length kept.matches) (under listing n i) j (is.lists (Some (record { place = n; binding = i }))).within h),
     )
 
-    of : (o : Option FileSpan) → original_range (trees kept.workspace) held ≡ o → IfSome o (λ range. IsOf kept.workspace range (list_at kept texts (under listing n i)))
+    of : (o : Option FileSpan) → there ≡ o → IfSome o (λ range. IsOf kept.workspace range (list_at kept texts (under listing n i)))
     of None e = tt
     of (Some range) e = record {
-      fits = fits_file kept listing is held range e;
+      fits = in_file kept.workspace range (held_in_file kept.workspace m.node.tree binding.held range is.built e);
       each = All-map (λ r. (r.range.file ≡ range.file) × FitsItsFile kept.workspace r.range) stands (under listing n i)
           (All-weaker (Contains (under listing n i)) (λ j. ((stands j).range.file ≡ range.file) × FitsItsFile kept.workspace (stands j).range) (one range e) (under listing n i) (All-contains_itself (under listing n i)));
     }

@@ -10,7 +10,7 @@ use Rattle.std.proofs.lemmas.Option.{same_Some, slice_get-get_or, slice_get_with
 use Rattle.ssr_base.specs.Laws.{LiesIn}
 use Rattle.ssr_base.specs.Workspace.{FileSpan, Planted, node_id, original_range, trees}
 use Rattle.ide_ssr_found.specs.declared.bindings.Binding.{Binding}
-use Rattle.ide_ssr_found.specs.Found.{Found, held_node}
+use Rattle.ide_ssr_found.specs.Found.{Found, held_range}
 use Rattle.ide_ssr_nesting.specs.declared.holders.Holder.{Holder}
 use Rattle.ide_ssr_nesting.specs.Kept.{LiesUnder}
 use Rattle.ide_ssr_nesting.specs.Holding.{IsHeldBy, IsKept, Kept}
@@ -90,7 +90,7 @@ is_list kept lists is are holder = record {
 
 held_in : (kept : Kept) (lists : Listing) → IsKept kept → AreLists kept lists → (n i j : ℕ) (m : Found) (binding : Binding) (range : FileSpan)
     → slice_get kept.matches n ≡ Some m → slice_get m.bindings i ≡ Some binding → Contains (under lists n i) j
-    → original_range (trees kept.workspace) (held_node m.node.tree binding) ≡ Some range → LiesIn (range_at kept j) range
+    → held_range (trees kept.workspace) m.node.tree binding ≡ Some range → LiesIn (range_at kept j) range
 held_in kept lists is are n i j m binding range at bound here ranged =
     let holder : Holder = record { place = n; binding = i } in
     let beside = (lists_what_is_held kept is lists (Some holder) j are).0 here in
@@ -104,7 +104,7 @@ held_in kept lists is are n i j m binding range at bound here ranged =
     rw (range_is kept j inner stands)
     (inside (original_range (trees kept.workspace) inner.node)
     (subst (λ o. IsSomeAnd (original_range (trees kept.workspace) inner.node) (λ i. IsSomeAnd o (λ o. LiesIn i o)))
-    (ap (λ (b : Binding). original_range (trees kept.workspace) (held_node m.node.tree b)) same ∙ ranged) lies.within))
+    (ap (held_range (trees kept.workspace) m.node.tree) same ∙ ranged) lies.within))
   where
     inside : (o : Option FileSpan) → IsSomeAnd o (λ i. LiesIn i range) → LiesIn (unwrap_or o nowhere) range
     inside None h = absurd h

@@ -8,10 +8,10 @@ use Rattle.std.proofs.lemmas.List.{drop_more, drop_all, get_or-map, length-map}
 use Rattle.std.proofs.lemmas.List.Elements.{All-append, All-contains_itself, All-map, All-weaker, Contains-append_left, Contains-append_right}
 use Rattle.std.proofs.lemmas.Option.{same_Some}
 use Rattle.ssr_syntax_tree.proofs.Lists.{all_at}
-use Rattle.ssr_base.specs.Workspace.{FileSpan, Workspace, node_id, original_range, trees}
+use Rattle.ssr_base.specs.Workspace.{FileSpan, Workspace, original_range, trees}
 use Rattle.ide_ssr_resolving.specs.Resolved.{ResolvedKind}
 use Rattle.ide_ssr_found.specs.declared.bindings.Binding.{Binding}
-use Rattle.ide_ssr_found.specs.Found.{Found, HasByte, IsMatch}
+use Rattle.ide_ssr_found.specs.Found.{Found, HasByte, IsMatch, held_range}
 use Rattle.ide_ssr_nesting.specs.declared.holders.Holder.{Holder}
 use Rattle.ide_ssr_nesting.specs.Holding.{Kept}
 use Rattle.ide_ssr_nesting.specs.Lists.{Listing, listed, range_of}
@@ -135,7 +135,7 @@ taking-starts kept listing m n old pieces was none = record {
 pub taking-more : (kept : Kept) (listing : Listing) → IsNest kept listing → (m : Found) (n i : ℕ) (old cur new : List (Option (String Global))) (clean made : Bool) (pieces more : List (List ℕ)) (was now next : Option Clash)
     → AreTaken kept listing m n i old cur clean pieces was now → (b : Binding) → i < length m.bindings → b ≡ get_or m.bindings i b
     → (list : List Rewrite) (c : Option Clash) (o : Option (List ℕ)) → list ≡ list_at kept (text_in cur) (under listing n i) → IsFirst (clashes list) c → next ≡ lesser c now
-    → o ≡ (if is_clean list then Some (piece kept.workspace (node_id m.node.tree b.node.0) list) else None)
+    → o ≡ (if is_clean list then Some (piece kept.workspace (held_range (trees kept.workspace) m.node.tree b) list) else None)
     → made ≡ (is_some o && clean) → more ≡ pieces ++ option_to_list o
     → length new ≡ length cur → ((j : ℕ) → (Contains (under listing n i) j → ⊥) → text_in new j ≡ text_in cur j)
     → AreTaken kept listing m n (i + 1) old new made more was next
@@ -144,8 +144,8 @@ taking-more kept listing is m n i old cur new clean made pieces more was now nex
     let here : list ≡ lists i = taken ∙ list_left kept listing is n i old cur so_far.left in
     let from = bound_from m.bindings i b lt at in
     let rest : List (ℕ × Binding) = enumerate_from (i + 1) (drop (i + 1) m.bindings) in
-    let it : List ℕ = piece kept.workspace (node_id m.node.tree b.node.0) (lists i) in
-    let told : o ≡ (if is_clean (lists i) then Some it else None) = text ∙ ap (λ (list : List Rewrite). if is_clean list then Some (piece kept.workspace (node_id m.node.tree b.node.0) list) else None) here in
+    let it : List ℕ = piece kept.workspace (held_range (trees kept.workspace) m.node.tree b) (lists i) in
+    let told : o ≡ (if is_clean (lists i) then Some it else None) = text ∙ ap (λ (list : List Rewrite). if is_clean list then Some (piece kept.workspace (held_range (trees kept.workspace) m.node.tree b) list) else None) here in
     record {
       counted = counted ∙ so_far.counted;
       left = λ j none. others j (λ h. none i (omega arith) h) ∙ so_far.left j (λ k lt h. none k (omega arith) h);

@@ -7,3 +7,5 @@ pub use Rattle.ide_ssr_rewriting.proofs.SomeAnswer.{answer_exists}
 pub use Rattle.ide_ssr_rewriting.proofs.Clashless.{no_clash}
 -- places that are gone through
 pub use Rattle.ide_ssr_rewriting.proofs.Taken.{not_before}
+-- where what placeholders hold comes from
+pub use Rattle.ide_ssr_rewriting.proofs.Fits.{held_in_file}

@@ -6,6 +6,8 @@ use Rattle.ssr_syntax_kinds.specs.declared.kinds.SyntaxKind.TheVariants as k
 use Rattle.ssr_syntax_tree.specs.declared.number.TokenNo.{TokenNo}
 use Rattle.ssr_syntax_tree.specs.Syntax.{Syntax, token_count}
 use Rattle.ssr_syntax_tree.specs.Places.{Node, node_of, token_of}
+use Rattle.ssr_base.specs.declared.ids.TokenRun.{TokenRun}
+use Rattle.ide_ssr_found.specs.Apart.{tokens_held}
 use Rattle.ide_ssr_found.specs.declared.bindings.Binding.{Binding}
 
 unfoldable pub is_comment : SyntaxKind → Bool
@@ -16,13 +18,13 @@ is_comment _ = false
 abbrev pub tokens_below : Node → List TokenNo
 tokens_below node = map (λ t. record { 0 = t }) (range_with_len node.first (token_count node.children))
 
--- whether a token lies below a node
-abbrev pub is_below : Node → TokenNo → Bool
-is_below node token = nat_le node.first token.0 && nat_lt token.0 (node.first + token_count node.children)
+-- whether a token is one of these
+abbrev pub is_among : TokenRun → TokenNo → Bool
+is_among run token = nat_le run.first token.0 && nat_lt token.0 (run.first + run.count)
 
 -- whether a placeholder holds a token
 abbrev pub is_bound : Syntax → List Binding → TokenNo → Bool
-is_bound code bindings token = list_any (λ binding. is_below (node_of code binding.node.0) token) bindings
+is_bound code bindings token = list_any (λ binding. is_among (tokens_held code binding.held) token) bindings
 
 abbrev pub is_kept_comment : Syntax → List Binding → TokenNo → Bool
 is_kept_comment code bindings token = is_comment (token_of code token.0).kind && not (is_bound code bindings token)

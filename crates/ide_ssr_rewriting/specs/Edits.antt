@@ -10,7 +10,7 @@ use Rattle.ssr_base.specs.declared.ids.FileId.{FileId}
 use Rattle.ssr_base.specs.Changes.{Change, FitsText}
 use Rattle.ssr_base.specs.Workspace.{FileSpan, Workspace, trees}
 use Rattle.ide_ssr_resolving.specs.Resolved.{ResolvedKind}
-use Rattle.ide_ssr_found.specs.Found.{Found, held_node}
+use Rattle.ide_ssr_found.specs.Found.{Found, held_range}
 use Rattle.ide_ssr_nesting.specs.Holding.{Kept}
 use Rattle.ide_ssr_nesting.specs.Lists.{Listing, listed, range_of}
 use Rattle.ide_ssr_rewriting.specs.declared.editing.EditError.{EditError}
@@ -51,7 +51,7 @@ abbrev pub text_by : Workspace → List ResolvedKind → Found → (ℕ → List
 text_by w rules m lists =
     let bound = enumerate_from 0 m.bindings in
     if list_all (λ p. is_clean (lists p.0)) bound
-    then Some (text_of_match w rules m (map (λ p. piece w (held_node m.node.tree p.1) (lists p.0)) bound))
+    then Some (text_of_match w rules m (map (λ p. piece w (held_range (trees w) m.node.tree p.1) (lists p.0)) bound))
     else None
 
 -- The texts are those that stand for the matches. There are such ones, and no others, as the law `laws::rewriting` says.

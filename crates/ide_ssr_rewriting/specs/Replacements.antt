@@ -1,10 +1,9 @@
 -- What is written for a match whose placeholders' lists can be made.
-use Rattle.std.specs.Prelude.{ℕ, List, [], ◌++◌, slice_get}
+use Rattle.std.specs.Prelude.{ℕ, List, [], ◌++◌, Option, slice_get}
 use Rattle.std.specs.Option.{option_map_or}
 use Rattle.ssr_syntax_tree.specs.Syntax.{source_of}
-use Rattle.ssr_base.specs.declared.ids.NodeId.{NodeId}
 use Rattle.ssr_base.specs.Changes.{replaced}
-use Rattle.ssr_base.specs.Workspace.{FileSpan, Workspace, original_range, tree_of, trees}
+use Rattle.ssr_base.specs.Workspace.{FileSpan, Workspace, tree_of}
 use Rattle.ide_ssr_resolving.specs.Resolved.{ResolvedKind}
 use Rattle.ide_ssr_found.specs.Found.{Found}
 use Rattle.ide_ssr_rewriting.specs.Clashes.{Rewrite, changes_made}
@@ -19,9 +18,9 @@ file_text w file = option_map_or source_of (slice_get w.files file) []
 abbrev pub rewritten : Workspace → FileSpan → List Rewrite → List ℕ
 rewritten w range list = replaced (file_text w range.file) range.span.start range.span.end (changes_made list)
 
--- what a node comes from, with the changes of a list made
-abbrev pub piece : Workspace → NodeId → List Rewrite → List ℕ
-piece w node list = option_map_or (λ range. rewritten w range list) (original_range (trees w) node) []
+-- what a placeholder holds, which comes from this range, with the changes of a list made
+abbrev pub piece : Workspace → Option FileSpan → List Rewrite → List ℕ
+piece w range list = option_map_or (λ range. rewritten w range list) range []
 
 -- what the template of a match's rule gives, where its placeholders have these pieces
 abbrev pub template_text : List ResolvedKind → Found → List (List ℕ) → List ℕ

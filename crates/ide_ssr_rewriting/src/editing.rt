@@ -5,7 +5,7 @@ ghost use Rattle.std.specs.List.{list_all};
 ghost use Rattle.std.specs.Ordering.{nat_cmp, ordering_then};
 ghost use Rattle.std.specs.BTreeMap.{get};
 ghost use Rattle.ssr_base.specs.declared.ids.FileId.{FileId as FileIdValue};
-ghost use Rattle.ssr_base.specs.Workspace.{file_span_of, original_range, trees};
+ghost use Rattle.ssr_base.specs.Workspace.{file_span_of, trees};
 ghost use Rattle.ide_ssr_found.specs.Found.{IsMatch};
 ghost use Rattle.ide_ssr_rewriting.specs.Clashes.{AreInOrder, Clash, IsFirst, Rewrite as RewriteValue, clash_le, clash_of, clashes, is_clean};
 ghost use Rattle.ide_ssr_nesting.specs.Lists.{AreLists};
@@ -23,7 +23,7 @@ use crate::replacements::{piece, text_of_match};
 use ide_ssr_found::Found;
 use ide_ssr_nesting::{KeptMatches, Lists};
 use ide_ssr_resolving::ResolvedRule;
-use ssr_base::{FileId, FileRange, NodeId, TextEdit, Workspace};
+use ssr_base::{FileId, FileRange, TextEdit, Workspace};
 use ssr_syntax_kinds::TextRange;
 use std::alloc::{AllocError, Global};
 use std::cmp::Ordering;
@@ -153,23 +153,23 @@ fn all_known(list: &[Rewrite]) -> bool
     true
 }
 
-/// What a node comes from with the changes of a list made, if it can be made: there is no clash in it, and all texts are
-/// known.
+/// What a placeholder holds, which comes from this range, with the changes of a list made, if it can be made: there is no
+/// clash in it, and all texts are known.
 fn piece_if_clean(
     alloc: Global,
     workspace: &Workspace,
-    node: NodeId,
+    range: Option<FileRange>,
     list: Vec<Rewrite>,
     clash: Option<(FileRange, FileRange)>,
 ) -> Result<Option<String>, AllocError>
     requires clash { IsFirst (clashes list.items) (option_map clash_of clash) }
-    requires list { IfSome (original_range (trees workspace.now) node) (λ range. IsOf workspace.now range list.items) }
-    ensures { IfOk result (λ text. option_map string_bytes text ≡ (if is_clean list.items then Some (piece workspace.now node list.items) else None)) }
+    requires list { IfSome (option_map file_span_of range) (λ range. IsOf workspace.now range list.items) }
+    ensures { IfOk result (λ text. option_map string_bytes text ≡ (if is_clean list.items then Some (piece workspace.now (option_map file_span_of range) list.items) else None)) }
 {
     if clash.is_some() || !all_known(&list) {
         return Ok(None);
     }
-    Ok(Some(piece(alloc, workspace, node, list)?))
+    Ok(Some(piece(alloc, workspace, range, list)?))
 }
 
 /// Pushes a piece, if there is one; answers whether there was.
@@ -248,9 +248,9 @@ impl Pending {
         let mut pieces = Vec::new(alloc);
         let mut is_clean = true;
         for (index, binding) in m.bindings().iter().enumerate() {
-            let node = binding.held_node(m.node().tree);
+            let range = binding.original_range(kept.workspace(), m.node().tree);
             let (list, first) = self.take_list(alloc, kept, lists.under(place, index))?;
-            let piece = piece_if_clean(alloc, kept.workspace(), node, list, first)?;
+            let piece = piece_if_clean(alloc, kept.workspace(), range, list, first)?;
             is_clean = push_piece(&mut pieces, piece)? && is_clean;
         }
         if is_clean { Ok(Some(pieces)) } else { Ok(None) }

@@ -1,10 +1,10 @@
 //! What is written for a match whose placeholders' lists can be made.
 
-ghost use Rattle.std.specs.Prelude.{◌≡◌, ◌++◌, All, IfOk, IfSome, OnOk, map, slice_range, string_bytes, true};
+ghost use Rattle.std.specs.Prelude.{◌≡◌, ◌++◌, All, IfOk, IfSome, OnOk, map, option_map, slice_range, string_bytes, true};
 ghost use Rattle.ssr_base.specs.Applied.{changes_of};
 ghost use Rattle.ssr_base.specs.Changes.{replaced};
 ghost use Rattle.ssr_base.specs.Texts.{is_boundary};
-ghost use Rattle.ssr_base.specs.Workspace.{original_range, trees};
+ghost use Rattle.ssr_base.specs.Workspace.{file_span_of, trees};
 ghost use Rattle.ide_ssr_found.specs.Found.{IsMatch};
 ghost use Rattle.ide_ssr_rewriting.specs.Replacements.{comments_kept, file_text, piece, template_text, text_of_match};
 ghost use Rattle.ide_ssr_rewriting.specs.Private.Replacements.{FitsFile, IsOf};
@@ -14,7 +14,7 @@ use crate::comments::{kept_comments, push_comments};
 use crate::rendering::rendered;
 use ide_ssr_found::Found;
 use ide_ssr_resolving::ResolvedRule;
-use ssr_base::{FileId, FileRange, NodeId, Workspace};
+use ssr_base::{FileId, FileRange, Workspace};
 use ssr_syntax_kinds::TextRange;
 use std::alloc::{AllocError, Global};
 
@@ -60,17 +60,17 @@ fn replaced(
     Ok(text)
 }
 
-/// What a node comes from, with the changes of a list made.
+/// What a placeholder holds, which comes from this range, with the changes of a list made.
 pub(crate) fn piece(
     alloc: Global,
     workspace: &Workspace,
-    node: NodeId,
+    range: Option<FileRange>,
     list: Vec<Rewrite>,
 ) -> Result<String, AllocError>
-    requires { IfSome (original_range (trees workspace.now) node) (λ range. IsOf workspace.now range list.items) }
-    ensures { IfOk result (λ text. string_bytes text ≡ piece workspace.now node list.items) }
+    requires { IfSome (option_map file_span_of range) (λ range. IsOf workspace.now range list.items) }
+    ensures { IfOk result (λ text. string_bytes text ≡ piece workspace.now (option_map file_span_of range) list.items) }
 {
-    let Some(range) = workspace.original_range(node) else {
+    let Some(range) = range else {
         return Ok(String::new(alloc));
     };
     let changes = changes_made(alloc, list)?;

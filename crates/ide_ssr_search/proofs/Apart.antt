@@ -6,9 +6,9 @@ use Rattle.std.proofs.lemmas.List.Elements.{All-nil, All-cons, All-head, All-tai
 use Rattle.std.proofs.lemmas.List.Kept.{AllPairs-cons}
 use Rattle.std.proofs.lemmas.Option.{same_Some}
 use Rattle.ssr_base.specs.declared.ids.FileRange.{FileRange}
-use Rattle.ssr_base.specs.Workspace.{Planted, original_range, file_span_of}
+use Rattle.ssr_base.specs.Workspace.{Planted, file_span_of}
 use Rattle.ide_ssr_found.specs.declared.bindings.Binding.{Binding}
-use Rattle.ide_ssr_found.specs.Found.{held_node, AreDisjoint, ShareNoByte}
+use Rattle.ide_ssr_found.specs.Found.{held_range, AreDisjoint, ShareNoByte}
 use Rattle.ide_ssr_search.specs.WholeMatches.{IsPlaced}
 use Rattle.ide_ssr_search.specs.Private.Whole.{AreRanges}
 use Rattle.ssr_syntax_tree.proofs.Lists.{pairs_none, pairs_head, pairs_tail}
@@ -20,22 +20,22 @@ Disjoint a b = AreDisjoint (file_span_of a) (file_span_of b)
 
 module _ (ts : List Planted) (t : ℕ) where
   abbrev pub HeldApart : Binding → Binding → Type 0
-  HeldApart b c = ShareNoByte ts (held_node t b) (held_node t c)
+  HeldApart b c = ShareNoByte ts t b c
 
-  pub ranges_push : (bs : List Binding) (rs : List FileRange) (b : Binding) (r : FileRange) → AreRanges ts t bs rs → IsPlaced ts (held_node t b)
-      → original_range ts (held_node t b) ≡ Some (file_span_of r) → AreRanges ts t (bs ++ b ∷ []) (rs ++ r ∷ [])
+  pub ranges_push : (bs : List Binding) (rs : List FileRange) (b : Binding) (r : FileRange) → AreRanges ts t bs rs → IsPlaced ts t (held_range ts t b)
+      → held_range ts t b ≡ Some (file_span_of r) → AreRanges ts t (bs ++ b ∷ []) (rs ++ r ∷ [])
   ranges_push [] [] b r are placed is = (placed, is, tt)
   ranges_push [] (q ∷ rs) b r are placed is = absurd are
   ranges_push (c ∷ bs) [] b r are placed is = absurd are
   ranges_push (c ∷ bs) (q ∷ rs) b r are placed is = (are.0, are.1, ranges_push bs rs b r are.2 placed is)
 
-  pub ranges_placed : (bs : List Binding) (rs : List FileRange) → AreRanges ts t bs rs → All (λ b. IsPlaced ts (held_node t b)) bs
-  ranges_placed [] [] are = All-nil (λ b. IsPlaced ts (held_node t b))
+  pub ranges_placed : (bs : List Binding) (rs : List FileRange) → AreRanges ts t bs rs → All (λ b. IsPlaced ts t (held_range ts t b)) bs
+  ranges_placed [] [] are = All-nil (λ b. IsPlaced ts t (held_range ts t b))
   ranges_placed [] (r ∷ rs) are = absurd are
   ranges_placed (b ∷ bs) [] are = absurd are
-  ranges_placed (b ∷ bs) (r ∷ rs) are = All-cons (λ b. IsPlaced ts (held_node t b)) b bs are.0 (ranges_placed bs rs are.2)
+  ranges_placed (b ∷ bs) (r ∷ rs) are = All-cons (λ b. IsPlaced ts t (held_range ts t b)) b bs are.0 (ranges_placed bs rs are.2)
 
-  one_apart : (b : Binding) (r : FileRange) (bs : List Binding) (rs : List FileRange) → original_range ts (held_node t b) ≡ Some (file_span_of r)
+  one_apart : (b : Binding) (r : FileRange) (bs : List Binding) (rs : List FileRange) → held_range ts t b ≡ Some (file_span_of r)
       → AreRanges ts t bs rs → All (Disjoint r) rs → All (HeldApart b) bs
   one_apart b r [] [] is are all = All-nil (HeldApart b)
   one_apart b r [] (q ∷ rs) is are all = absurd are
@@ -54,7 +54,7 @@ module _ (ts : List Planted) (t : ℕ) where
       AllPairs-cons HeldApart b bs (one_apart b r bs rs are.1 are.2 (pairs_head Disjoint r rs pairs))
       (ranges_apart bs rs are.2 (pairs_tail Disjoint r rs pairs))
 
-  one_disjoint : (b : Binding) (r : FileRange) (bs : List Binding) (rs : List FileRange) → original_range ts (held_node t b) ≡ Some (file_span_of r)
+  one_disjoint : (b : Binding) (r : FileRange) (bs : List Binding) (rs : List FileRange) → held_range ts t b ≡ Some (file_span_of r)
       → AreRanges ts t bs rs → All (HeldApart b) bs → All (Disjoint r) rs
   one_disjoint b r [] [] is are all = All-nil (Disjoint r)
   one_disjoint b r [] (q ∷ rs) is are all = absurd are

@@ -17,7 +17,9 @@ use Rattle.ssr_base.specs.Workspace.{Workspace, trees, node_id}
 use Rattle.ide_ssr_resolving.specs.Resolved.{ResolvedKind}
 use Rattle.ide_ssr_resolving.specs.Placeholders.{placeholder_at}
 use Rattle.ide_ssr_found.specs.declared.bindings.Binding.{Binding}
-use Rattle.ide_ssr_matching.specs.Matching.{closes, is_left_out, bare, pattern_res, Matches, bound, used, alike, Pairs, end, tokens, nodes}
+use Rattle.ide_ssr_matching.specs.Children.{closes, is_left_out, bare}
+use Rattle.ide_ssr_matching.specs.Matching.{Matches, bound, used, alike, Pairs, end, tokens, nodes}
+use Rattle.ide_ssr_matching.specs.UsedPaths.{pattern_res}
 use Rattle.ide_ssr_search.specs.declared.roots.Root.{Root}
 use Rattle.ide_ssr_search.specs.declared.roots.Root.TheVariants as roots
 use Rattle.ide_ssr_search.specs.declared.roots.Rules.{Rules}

@@ -1,5 +1,5 @@
 -- What is asked of a match holds or doesn't.
-use Rattle.std.proofs.Common.{◌≡◌, ℕ, zero, suc, min, max, Bool, true, false, inl, inr, List, [], ◌∷◌, Contains, Option, Some, None, IfSome, IsSomeAnd, refl, sym, ap, ◌∙◌, subst, arith}
+use Rattle.std.proofs.Common.{◌≡◌, ℕ, zero, suc, min, max, Bool, true, false, inl, inr, List, [], ◌∷◌, All, Contains, Option, Some, None, IfSome, IsSomeAnd, refl, sym, ap, ◌∙◌, subst, arith}
 use Rattle.std.specs.Prelude.{◌↔◌, IsTrue, IsSome}
 use Rattle.std.proofs.lemmas.Bool.{cases_eq, false≢true}
 use Rattle.std.proofs.lemmas.List.Elements.{All-contains}
@@ -22,7 +22,7 @@ use Rattle.ide_ssr_resolving.specs.declared.used.UsedPath.{UsedPath}
 use Rattle.ide_ssr_resolving.specs.Resolved.{ResolvedKind}
 use Rattle.ide_ssr_found.specs.declared.bindings.Binding.{Binding}
 use Rattle.ide_ssr_found.proofs.Deciding.{Decided, both, likewise, denied, given, of_some, if_some, each, each_two, some_one, all_of, less, at_most, of_kind, lies_in}
-use Rattle.ide_ssr_found.specs.Found.{AreDisjoint, IsAtOrBelow, HasByte, ShareNoByte, held_node}
+use Rattle.ide_ssr_found.specs.Found.{AreDisjoint, IsAtOrBelow, HasByte, ShareNoByte, held_range}
 use Rattle.ide_ssr_search.specs.Context.{Context}
 use Rattle.ide_ssr_search.specs.Permitted.{IsUse, arguments_range, IsSearched, IsOpen, names_self, IsInFunction, IsPermitted}
 use Rattle.ide_ssr_search.specs.Printing.{IsReached, CanBeWritten}
@@ -48,18 +48,18 @@ is_searched (r ∷ rs) range =
     likewise (some_one (LiesIn range) (lies_in range) (r ∷ rs)) (λ one. inr one)
     (λ searched. elim searched [ inl none ↦ absurd (cc none) | inr one ↦ one ])
 
-is_placed : (ts : List Planted) (x : NodeId) → Decided (IsPlaced ts x)
-is_placed ts x =
-    of_some (LiesInArguments ts x.tree)
+is_placed : (ts : List Planted) (t : ℕ) (o : Option FileSpan) → Decided (IsPlaced ts t o)
+is_placed ts t o =
+    of_some (LiesInArguments ts t)
     (λ range. of_some (λ p. IfSome p.call (λ call. IsSomeAnd (arguments_range ts call) (LiesIn range)))
     (λ p. if_some (λ call. IsSomeAnd (arguments_range ts call) (LiesIn range)) (λ call. of_some (LiesIn range) (lies_in range) (arguments_range ts call)) p.call)
-    (planted ts x.tree))
-    (original_range ts x)
+    (planted ts t))
+    o
 
-share_no_byte : (ts : List Planted) (a b : NodeId) → Decided (ShareNoByte ts a b)
-share_no_byte ts a b = by (original_range ts a) (original_range ts b) refl refl
+share_no_byte : (ts : List Planted) (t : ℕ) (a b : Binding) → Decided (ShareNoByte ts t a b)
+share_no_byte ts t a b = by (held_range ts t a) (held_range ts t b) refl refl
   where
-    by : (o p : Option FileSpan) → original_range ts a ≡ o → original_range ts b ≡ p → Decided (ShareNoByte ts a b)
+    by : (o p : Option FileSpan) → held_range ts t a ≡ o → held_range ts t b ≡ p → Decided (ShareNoByte ts t a b)
     by None p none is = inl (λ r s first second. absurd (none-some r (sym none ∙ first)))
     by (Some q) None is none = inl (λ r s first second. absurd (none-some s (sym none ∙ second)))
     by (Some r) (Some s) is_r is_s =
@@ -71,9 +71,9 @@ share_no_byte ts a b = by (original_range ts a) (original_range ts b) refl refl
 pub is_placed_match : (ts : List Planted) (x : NodeId) (bindings : List Binding) → Decided (IsPlacedMatch ts x bindings)
 is_placed_match ts x bindings =
     likewise
-    (both (is_placed ts x)
-    (both (each (λ b. IsPlaced ts (held_node x.tree b)) (λ b. is_placed ts (held_node x.tree b)) bindings)
-    (each_two (λ b c. ShareNoByte ts (held_node x.tree b) (held_node x.tree c)) (λ b c. share_no_byte ts (held_node x.tree b) (held_node x.tree c)) bindings)))
+    (both (is_placed ts x.tree (original_range ts x))
+    (both (each (λ b. IsPlaced ts x.tree (held_range ts x.tree b)) (λ b. is_placed ts x.tree (held_range ts x.tree b)) bindings)
+    (each_two (ShareNoByte ts x.tree) (share_no_byte ts x.tree) bindings)))
     (λ h. record { placed = h.0; bindings_placed = h.1.0; apart = h.1.1 })
     (λ placed. (placed.placed, (placed.bindings_placed, placed.apart)))
 
@@ -174,7 +174,6 @@ module _ (w : Workspace) (b : IsBuilt w) (x : NodeId) (node : IsNodeOf (trees w)
       of_tree_kind : (a : NodeId) (kind : SyntaxKind) → Decided (IsSomeAnd (planted (trees w) a.tree) (λ p. (node_of p.syntax a.node.0).kind ≡ kind))
       of_tree_kind a kind =
           of_some (λ p. (node_of p.syntax a.node.0).kind ≡ kind) (λ p. of_kind (node_of p.syntax a.node.0).kind kind) (planted (trees w) a.tree)
-
 
   in_function : (function : Option NodeId) → Decided (IsInFunction (trees w) function x)
   in_function function =

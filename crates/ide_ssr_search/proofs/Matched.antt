@@ -1,35 +1,69 @@
 -- What a search finds are matches, and it finds one list.
-use Rattle.std.proofs.Common.{◌≡◌, ℕ, ◌<◌, List, refl, ap, ◌∙◌, inl, inr, arith}
-use Rattle.std.specs.Prelude.{Contains, IsSome, is_some}
+use Rattle.std.proofs.Common.{◌≡◌, ℕ, Bool, true, false, List, get_or, Option, Some, None, refl, sym, ap, ◌∙◌, inl, inr, arith}
+use Rattle.std.specs.Prelude.{Contains, if◌then◌else◌}
+use Rattle.std.specs.Option.{IsSomeAnd, option_and_then, option_map}
 use Rattle.std.proofs.lemmas.List.Elements.{All-weaker, All-contains_itself}
+use Rattle.std.proofs.lemmas.Option.{none-some, same_Some}
+use Rattle.ssr_syntax_tree.specs.declared.number.NodeNo.{NodeNo}
 use Rattle.ssr_syntax_tree.specs.Syntax.{Syntax}
 use Rattle.ssr_syntax_tree.specs.Places.{HasNode, node_of, root_of}
 use Rattle.ssr_syntax_tree.proofs.Lists.{same_rising}
-use Rattle.ssr_syntax_tree.proofs.Shared.{node_of-number, over_within}
 use Rattle.ssr_base.specs.Meanings.{Meanings}
-use Rattle.ssr_base.specs.Workspace.{Workspace, Planted, trees, planted, node_id, original_range}
+use Rattle.ssr_base.specs.Laws.{LiesIn, IsAmong}
+use Rattle.ssr_base.specs.Origins.{Span}
+use Rattle.ssr_base.specs.Workspace.{Workspace, Planted, FileSpan, trees, planted, node_id, file_of, has_node, original_in, original_range, run_of, has_run, original_run_in}
+use Rattle.ssr_base.proofs.Shared.{some_and, and_some, spans_nest}
 use Rattle.ide_ssr_resolving.specs.Resolved.{ResolvedKind}
 use Rattle.ide_ssr_found.specs.declared.bindings.Binding.{Binding}
-use Rattle.ide_ssr_found.specs.Apart.{IsHeldIn}
-use Rattle.ide_ssr_found.specs.Found.{Found, held_node, IsAtOrBelow, IsMatch, AreMatches}
+use Rattle.ide_ssr_found.specs.declared.bindings.Held.{Held}
+use Rattle.ide_ssr_found.specs.declared.bindings.Held.TheVariants as held
+use Rattle.ide_ssr_found.specs.Apart.{tokens_held, IsHeldIn}
+use Rattle.ide_ssr_found.specs.Found.{Found, HasByte, IsInRange, IsMatch, AreMatches, range_of_held, held_range}
 use Rattle.ide_ssr_matching.specs.Matching.{Matches}
 use Rattle.ide_ssr_matching.proofs.Shared.{held_in}
 use Rattle.ide_ssr_found.proofs.Shared.{IsTree, in_tree}
 use Rattle.ide_ssr_search.specs.Context.{Context}
 use Rattle.ide_ssr_search.specs.WholeMatches.{LiesInArguments, IsPlaced}
 use Rattle.ide_ssr_search.specs.Found.{IsFound, Precedes, AreFound}
-use Rattle.ssr_base.proofs.Shared.{some_and}
-use Rattle.ide_ssr_search.proofs.Trees.{over_below}
 use Rattle.ide_ssr_search.proofs.Finding.{one_match}
 
--- a node of a tree or one below it, by numbers, stands at or below it in the workspace
-at_or_below : (ts : List Planted) (t n : ℕ) (s : Syntax) → IsTree ts t s → HasNode s n → (b : Binding) → IsHeldIn (node_of s n) b → IsAtOrBelow ts (held_node t b) (node_id t n)
-at_or_below ts t n s at has b (inl same) = inl (ap (node_id t) (same ∙ node_of-number s n has))
-at_or_below ts t n s at has b (inr above) =
-    let number = node_of-number s n has in
-    let low : n < b.node.0 = omega (arith, above.0) in
-    let inside = over_within s n b.node.0 has (low, omega (arith, above.1)) in
-    inr (over_below ts t s at n b.node.0 inside (low, omega (arith, above.1)))
+-- ** What is held comes from where the match does.
+
+module _ (ts : List Planted) (t : ℕ) (p : Planted) (plants : planted ts t ≡ Some p) where
+  abbrev in_file : Span → FileSpan
+  in_file span = record { file = file_of ts t; span = span }
+
+  told_if : (b : Bool) (o : Option Span) (range : FileSpan) → option_map in_file (if b then o else None) ≡ Some range → (o ≡ Some range.span) × (file_of ts t ≡ range.file)
+  told_if true None range is = absurd (none-some range is)
+  told_if true (Some span) range is =
+      let same = same_Some (in_file span) range is in
+      (ap (λ (r : FileSpan). Some r.span) same, ap (λ (r : FileSpan). r.file) same)
+  told_if false o range is = absurd (none-some range is)
+
+  held_told : (h : Held) (range : FileSpan) → range_of_held ts t h ≡ Some range → (original_run_in p (tokens_held p.syntax h) ≡ Some range.span) × (file_of ts t ≡ range.file)
+  held_told (held.Node node) range is =
+      told_if (has_node p.syntax node.0) (original_in p (node_of p.syntax node.0)) range
+      (ap (λ o. option_map in_file (option_and_then (λ p. if has_node p.syntax node.0 then original_in p (node_of p.syntax node.0) else None) o)) (sym plants) ∙ is)
+  held_told (held.Tokens run) range is =
+      told_if (has_run p.syntax run) (original_run_in p run) range
+      (ap (λ o. option_map in_file (option_and_then (λ p. if has_run p.syntax run then original_run_in p run else None) o)) (sym plants) ∙ is)
+
+  held_lies : (h : Held) (node : NodeNo) (inner outer : FileSpan) → IsAmong (tokens_held p.syntax h) (run_of (node_of p.syntax node.0))
+      → range_of_held ts t h ≡ Some inner → original_range ts (node_id t node.0) ≡ Some outer → LiesIn inner outer
+  held_lies h node inner outer among first second =
+      let lower = held_told h inner first in
+      let upper = held_told (held.Node node) outer second in
+      let spans = spans_nest p.syntax p.call p.origins (run_of (node_of p.syntax node.0)) (tokens_held p.syntax h) outer.span inner.span among upper.0 lower.0 in
+      record { file = sym lower.1 ∙ upper.1; begins = spans.begins; ends = spans.ends }
+
+  held_in_range : (node : NodeNo) (b : Binding) → IsHeldIn p.syntax (node_of p.syntax node.0) b → IsPlaced ts t (held_range ts t b)
+      → IsSomeAnd (original_range ts (node_id t node.0)) HasByte → IsInRange ts (node_id t node.0) b
+  held_in_range node b known placed there =
+      let x = node_id t node.0 in
+      let inner = some_and (held_range ts t b) (LiesInArguments ts t) placed in
+      let outer = some_and (original_range ts x) HasByte there in
+      and_some (held_range ts t b) (λ inner. IsSomeAnd (original_range ts x) (LiesIn inner)) inner.0 inner.1
+      (and_some (original_range ts x) (LiesIn inner.0) outer.0 outer.1 (held_lies b.held node inner.0 outer.0 known.among inner.1 outer.1))
 
 module _ (w : Workspace) (meanings : Meanings) (context : Context) (rules : List ResolvedKind) where
   is_match : (m : Found) → IsFound w meanings context rules m → IsMatch (trees w) m
@@ -45,13 +79,9 @@ module _ (w : Workspace) (meanings : Meanings) (context : Context) (rules : List
       record {
         node = is.permitted.open_to_all.node;
         range = is.permitted.open_to_all.has_byte;
-        held =
-            All-weaker (IsHeldIn (node_of s n)) (λ b. IsAtOrBelow ts (held_node t b) m.node) (at_or_below ts t n s at has) m.bindings
-            (held_in meanings t rule (root_of rule.pattern) (node_of s n) m.bindings matched.2);
-        ranges =
-            All-weaker (λ b. IsPlaced ts (held_node t b)) (λ b. IsSome (original_range ts (held_node t b)))
-            (λ b placed. ap is_some (some_and (original_range ts (held_node t b)) (LiesInArguments ts t) placed).1)
-            m.bindings is.whole.bindings_placed;
+        held = λ i d within.
+            held_in_range ts t matched.0 matched.1 m.node.node (get_or m.bindings i d)
+            (held_in s meanings t rule (root_of rule.pattern) n m.bindings has matched.2 i d within) (is.whole.bindings_placed i d within) is.permitted.open_to_all.has_byte;
         apart = is.whole.apart;
       }
 

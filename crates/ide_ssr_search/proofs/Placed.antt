@@ -1,24 +1,27 @@
 -- Matches that are placed: where they lie, and that in a file each does.
-use Rattle.std.proofs.Common.{◌≡◌, ℕ, ◌≤◌, List, get_or, AllPairs, Bool, true, false, Option, Some, None, sym, ap, ◌∙◌, subst, arith}
-use Rattle.std.specs.Prelude.{◌↔◌, is_some, IsTrue, IfSome, MatchOption}
-use Rattle.std.specs.Option.{IsSomeAnd, option_map, option_map_or}
+use Rattle.std.proofs.Common.{◌≡◌, ℕ, ◌+◌, inl, inr, List, get_or, AllPairs, Bool, true, false, Option, Some, None, sym, ap, ◌∙◌, subst, arith}
+use Rattle.std.specs.Prelude.{◌↔◌, take, drop, is_some, if◌then◌else◌, IsTrue, IfNone, IfSome, MatchOption}
+use Rattle.std.specs.Option.{IsSomeAnd, option_and_then, option_map, option_map_or}
 use Rattle.std.proofs.lemmas.List.Elements.{All-weaker}
 use Rattle.std.proofs.lemmas.Option.{none-some, same_Some}
 use Rattle.ssr_syntax_tree.specs.Syntax.{Syntax}
-use Rattle.ssr_syntax_tree.specs.Places.{HasNode, node_of, root_of, start_of, end_of}
-use Rattle.ssr_syntax_tree.proofs.Shared.{node_of-number}
+use Rattle.ssr_syntax_tree.specs.Places.{HasNode, node_of, root_of}
+use Rattle.ssr_syntax_tree.proofs.Shared.{offset_grows}
 use Rattle.ssr_base.specs.declared.ids.FileRange.{FileRange}
 use Rattle.ssr_base.specs.declared.ids.NodeId.{NodeId}
 use Rattle.ssr_base.specs.Meanings.{Meanings}
-use Rattle.ssr_base.specs.Origins.{covered}
-use Rattle.ssr_base.specs.Workspace.{Workspace, Planted, FileSpan, trees, planted, tree_of, node_id, file_of, original_in, own_span, original_range, file_span_of, cover_below}
+use Rattle.ssr_base.specs.Origins.{Span, cover_of, covered}
+use Rattle.ssr_base.specs.Workspace.{Workspace, Planted, FileSpan, trees, planted, tree_of, node_id, file_of, original_in, own_span, original_range, original_run_in, own_run_span, has_run, file_span_of, cover_below}
 use Rattle.ssr_base.specs.Laws.{LiesIn}
 use Rattle.ide_ssr_resolving.specs.Resolved.{ResolvedKind}
 use Rattle.ide_ssr_found.specs.declared.bindings.Binding.{Binding}
+use Rattle.ide_ssr_found.specs.declared.bindings.Held.{Held}
+use Rattle.ide_ssr_found.specs.declared.bindings.Held.TheVariants as held
+use Rattle.ide_ssr_found.specs.Apart.{tokens_held, HasHeld, IsHeldIn, AreApart}
 use Rattle.ide_ssr_matching.specs.Bindings.{bindings_of}
-use Rattle.ide_ssr_found.specs.Found.{held_node, ShareNoByte}
+use Rattle.ide_ssr_found.specs.Found.{range_of_held, held_range, AreDisjoint, ShareNoByte}
 use Rattle.ide_ssr_matching.specs.Matching.{Matches}
-use Rattle.ide_ssr_matching.proofs.Shared.{bindings_of-Matches, Matches-bindings_of, matches_hold, all_bound, all_apart}
+use Rattle.ide_ssr_matching.proofs.Shared.{bindings_of-Matches, Matches-bindings_of, held_in, held_apart}
 use Rattle.ide_ssr_found.proofs.Shared.{is_tree, of_tree, in_tree}
 use Rattle.ide_ssr_search.specs.declared.bounds.Bounds.{Bounds}
 use Rattle.ide_ssr_search.specs.declared.bounds.Bounds.TheVariants as limits
@@ -59,23 +62,23 @@ in_bounds ts t bounds range are =
           both.1 (subst Lies (same_Some other.0 had.0 (sym other.1 ∙ had.1)) other.2),
     )
 
-pub placed_in : (ts : List Planted) (x : NodeId) (bounds : Bounds) (range : FileSpan) → AreBounds ts x.tree bounds → original_range ts x ≡ Some range
-    → LiesInBounds bounds range → IsPlaced ts x
-placed_in ts x bounds range are is lies = and_some (original_range ts x) (LiesInArguments ts x.tree) range is ((in_bounds ts x.tree bounds range are).0 lies)
+-- a range that is there lies in the bounds of a tree exactly if it is placed
+pub placed_by : (ts : List Planted) (t : ℕ) (bounds : Bounds) (o : Option FileSpan) → AreBounds ts t bounds → IsSomeAnd o (LiesInBounds bounds) ↔ IsPlaced ts t o
+placed_by ts t bounds None are = (λ lies. lies, λ placed. placed)
+placed_by ts t bounds (Some range) are = in_bounds ts t bounds range are
 
-pub placed_out : (ts : List Planted) (x : NodeId) (bounds : Bounds) (range : FileSpan) → AreBounds ts x.tree bounds → original_range ts x ≡ Some range
-    → (LiesInBounds bounds range → ⊥) → IsPlaced ts x → ⊥
-placed_out ts x bounds range are is out placed =
-    let had = some_and (original_range ts x) (LiesInArguments ts x.tree) placed in
-    out ((in_bounds ts x.tree bounds range are).1 (subst (LiesInArguments ts x.tree) (same_Some had.0 range (sym had.1 ∙ is)) had.2))
+-- what is told of a range
+pub placed_told : (bounds : Bounds) (range placed : Option FileRange) → IfSome placed (λ p. range ≡ Some p) → IfSome placed (λ p. LiesInBounds bounds (file_span_of p))
+    → is_some placed ≡ true → IsSomeAnd (option_map file_span_of range) (LiesInBounds bounds)
+placed_told bounds range None of lies is = let e : false ≡ true = is in cc
+placed_told bounds range (Some p) of lies is = subst (λ o. IsSomeAnd (option_map file_span_of o) (LiesInBounds bounds)) (sym of) lies
 
-pub placed_none : (ts : List Planted) (x : NodeId) → original_range ts x ≡ None → IsPlaced ts x → ⊥
-placed_none ts x is placed =
-    let had = some_and (original_range ts x) (LiesInArguments ts x.tree) placed in
-    none-some had.0 (sym is ∙ had.1)
+pub none_told : {P : Type 0} (placed : Option FileRange) → IfNone placed (P → ⊥) → is_some placed ≡ false → P → ⊥
+none_told None known is = known
+none_told (Some p) known is = let e : true ≡ false = is in cc
 
 -- what is tested of a match in an expansion
-pub placed_match : (ts : List Planted) (x : NodeId) (bindings : List Binding) (ranges tested : List FileRange) (apart : Bool) → IsPlaced ts x → AreRanges ts x.tree bindings ranges
+pub placed_match : (ts : List Planted) (x : NodeId) (bindings : List Binding) (ranges tested : List FileRange) (apart : Bool) → IsPlaced ts x.tree (original_range ts x) → AreRanges ts x.tree bindings ranges
     → tested ≡ ranges → IsTrue apart ↔ AllPairs Disjoint tested → IsTrue apart ↔ IsPlacedMatch ts x bindings
 placed_match ts x bindings ranges tested apart placed are same known =
     let both = subst (λ rs. IsTrue apart ↔ AllPairs Disjoint rs) same known in (
@@ -87,35 +90,49 @@ placed_match ts x bindings ranges tested apart placed are same known =
       λ is. both.1 (ranges_disjoint ts x.tree bindings ranges are is.apart),
     )
 
-pub if_some : {A : Type 0} (o : Option A) (P : Type 0) → IfSome o (λ _. P) → is_some o ≡ true → P
-if_some None P known is = let e : false ≡ true = is in cc
-if_some (Some x) P known is = known
-
 -- ** In a file.
 
--- its nodes have their own ranges
-own_range : (ts : List Planted) (t n : ℕ) (p : Planted) → planted ts t ≡ Some p → p.call ≡ None → HasNode p.syntax n
-    → original_range ts (node_id t n) ≡ Some (record { file = file_of ts t; span = own_span p.syntax (node_of p.syntax n) })
-own_range ts t n p is uncalled has =
-    ap (option_map (λ span. record { file = file_of ts t; span = span }))
-    (told_is (λ p. original_in p (node_of p.syntax n)) ts (node_id t n) p is has
-    ∙ ap (λ call. option_map_or (λ _. covered (cover_below p.origins (node_of p.syntax n))) call (Some (own_span p.syntax (node_of p.syntax n)))) uncalled)
+module _ (ts : List Planted) (t : ℕ) (p : Planted) (plants : planted ts t ≡ Some p) (uncalled : p.call ≡ None) where
+  abbrev in_this_file : Span → FileSpan
+  in_this_file span = record { file = file_of ts t; span = span }
 
-placed_in_file : (ts : List Planted) (t n : ℕ) (p : Planted) → planted ts t ≡ Some p → p.call ≡ None → HasNode p.syntax n → IsPlaced ts (node_id t n)
-placed_in_file ts t n p is uncalled has =
-    let range : FileSpan = record { file = file_of ts t; span = own_span p.syntax (node_of p.syntax n) } in
-    and_some (original_range ts (node_id t n)) (LiesInArguments ts t) range (own_range ts t n p is uncalled has)
-    (and_some (planted ts t) (λ p. IfSome p.call (λ call. IsSomeAnd (arguments_range ts call) (LiesIn range))) p is
-    (subst (λ call. IfSome call (λ call. IsSomeAnd (arguments_range ts call) (LiesIn range))) (sym uncalled) tt))
+  abbrev own : Held → FileSpan
+  own h = in_this_file (own_run_span p.syntax (tokens_held p.syntax h))
 
-apart_in_file : (ts : List Planted) (t m n : ℕ) (p : Planted) → planted ts t ≡ Some p → p.call ≡ None → HasNode p.syntax m → HasNode p.syntax n
-    → end_of p.syntax (node_of p.syntax m) ≤ start_of p.syntax (node_of p.syntax n) → ShareNoByte ts (node_id t m) (node_id t n)
-apart_in_file ts t m n p is uncalled has_m has_n before a b first second =
-    let one : end_of p.syntax (node_of p.syntax m) ≡ a.span.end =
-    ap (λ (r : FileSpan). r.span.end) (same_Some _ a (sym (own_range ts t m p is uncalled has_m) ∙ first)) in
-    let other : start_of p.syntax (node_of p.syntax n) ≡ b.span.start =
-    ap (λ (r : FileSpan). r.span.start) (same_Some _ b (sym (own_range ts t n p is uncalled has_n) ∙ second)) in
-    omega arith
+  -- what is held there has its own range
+  own_range : (h : Held) → HasHeld p.syntax h → range_of_held ts t h ≡ Some (own h)
+  own_range (held.Node node) has =
+      ap (option_map in_this_file)
+      (told_is (λ p. original_in p (node_of p.syntax node.0)) ts (node_id t node.0) p plants has
+      ∙ ap (λ call. option_map_or (λ _. covered (cover_below p.origins (node_of p.syntax node.0))) call (Some (own_span p.syntax (node_of p.syntax node.0)))) uncalled)
+  own_range (held.Tokens run) has =
+      ap (option_map in_this_file)
+      (ap (option_and_then (λ p. if has_run p.syntax run then original_run_in p run else None)) plants
+      ∙ ap (λ b. if b then original_run_in p run else None) has
+      ∙ ap (λ call. option_map_or (λ _. covered (cover_of (take run.count (drop run.first p.origins)))) call (Some (own_run_span p.syntax run))) uncalled)
+
+  placed_in_file : (h : Held) → HasHeld p.syntax h → IsPlaced ts t (range_of_held ts t h)
+  placed_in_file h has =
+      and_some (range_of_held ts t h) (LiesInArguments ts t) (own h) (own_range h has)
+      (and_some (planted ts t) (λ p. IfSome p.call (λ call. IsSomeAnd (arguments_range ts call) (LiesIn (own h)))) p plants
+      (subst (λ call. IfSome call (λ call. IsSomeAnd (arguments_range ts call) (LiesIn (own h)))) (sym uncalled) tt))
+
+  own_apart : (a b : Binding) → AreApart p.syntax a b → AreDisjoint (own a.held) (own b.held)
+  own_apart a b (inl before) =
+      let one = tokens_held p.syntax a.held in
+      let other = tokens_held p.syntax b.held in
+      let between = offset_grows p.syntax (one.first + one.count) other.first before in
+      omega arith
+  own_apart a b (inr behind) =
+      let one = tokens_held p.syntax a.held in
+      let other = tokens_held p.syntax b.held in
+      let between = offset_grows p.syntax (other.first + other.count) one.first behind in
+      omega arith
+
+  apart_in_file : (a b : Binding) → HasHeld p.syntax a.held → HasHeld p.syntax b.held → AreApart p.syntax a b → ShareNoByte ts t a b
+  apart_in_file a b has_a has_b apart r s first second =
+      subst (λ (r : FileSpan). AreDisjoint r s) (same_Some (own a.held) r (sym (own_range a.held has_a) ∙ first))
+      (subst (AreDisjoint (own a.held)) (same_Some (own b.held) s (sym (own_range b.held has_b) ∙ second)) (own_apart a b apart))
 
 -- so what placeholders hold there is placed, and no two share a byte
 pub file_placed : (ts : List Planted) (x : NodeId) (bindings : List Binding) → AreBounds ts x.tree limits.Everywhere → IsMatched ts x bindings → IsPlacedMatch ts x bindings
@@ -125,19 +142,15 @@ file_placed ts x bindings are m =
     let n = x.node.0 in
     let had = some_and (planted ts t) (λ p. MatchOption p.call (limits.Everywhere ≡ limits.Everywhere) (λ call. AreBoundsOf (arguments_range ts call) limits.Everywhere)) are in
     let uncalled : p.call ≡ None = no_call had.0.call p.call (ap (λ (p : Planted). p.call) (same_Some had.0 p (sym had.1 ∙ m.is))) had.2 in
-    let node = node_of p.syntax n in
-    let number = node_of-number p.syntax n m.has in
-    let hold =
-    matches_hold m.meanings t m.rule p.syntax (root_of m.rule.pattern) node bindings (bindings_of-Matches m.meanings t m.rule (root_of m.rule.pattern) node bindings m.matches)
-    (subst (HasNode p.syntax) (sym number) m.has, ap (node_of p.syntax) number) in
-    let bound = all_bound p.syntax (start_of p.syntax node) (end_of p.syntax node) bindings hold in
-    let apart = all_apart p.syntax (start_of p.syntax node) (end_of p.syntax node) bindings hold in
+    let matches = bindings_of-Matches m.meanings t m.rule (root_of m.rule.pattern) (node_of p.syntax n) bindings m.matches in
+    let bound = held_in p.syntax m.meanings t m.rule (root_of m.rule.pattern) n bindings m.has matches in
+    let apart = held_apart p.syntax m.meanings t m.rule (root_of m.rule.pattern) n bindings m.has matches in
     record {
-      placed = placed_in_file ts t n p m.is uncalled m.has;
+      placed = placed_in_file ts t p m.is uncalled (held.Node x.node) m.has;
       bindings_placed =
-          All-weaker (λ b. HasNode p.syntax b.node.0) (λ b. IsPlaced ts (held_node t b)) (λ b has. placed_in_file ts t b.node.0 p m.is uncalled has) bindings bound;
+          All-weaker (IsHeldIn p.syntax (node_of p.syntax n)) (λ b. IsPlaced ts t (held_range ts t b)) (λ b known. placed_in_file ts t p m.is uncalled b.held known.has) bindings bound;
       apart = λ i j d before within.
-          apart_in_file ts t (get_or bindings i d).node.0 (get_or bindings j d).node.0 p m.is uncalled (bound i d (omega arith)) (bound j d within) (apart i j d before within);
+          apart_in_file ts t p m.is uncalled (get_or bindings i d) (get_or bindings j d) (bound i d (omega arith)).has (bound j d within).has (apart i j d before within);
     }
   where
     no_call : (o call : Option NodeId) → o ≡ call → MatchOption o (limits.Everywhere ≡ limits.Everywhere) (λ call. AreBoundsOf (arguments_range ts call) limits.Everywhere) → call ≡ None

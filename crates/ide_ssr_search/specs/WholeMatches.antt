@@ -1,5 +1,5 @@
 -- When a rule matches as a whole at a node.
-use Rattle.std.specs.Prelude.{ℕ, List, All, AllPairs, IfSome}
+use Rattle.std.specs.Prelude.{ℕ, List, Option, All, AllPairs, IfSome}
 use Rattle.std.specs.Option.{IsSomeAnd}
 use Rattle.ssr_syntax_tree.specs.Places.{node_of, root_of}
 use Rattle.ssr_base.specs.declared.ids.NodeId.{NodeId}
@@ -8,7 +8,7 @@ use Rattle.ssr_base.specs.Workspace.{Planted, FileSpan, planted, original_range}
 use Rattle.ssr_base.specs.Laws.{LiesIn}
 use Rattle.ide_ssr_resolving.specs.Resolved.{ResolvedKind}
 use Rattle.ide_ssr_found.specs.declared.bindings.Binding.{Binding}
-use Rattle.ide_ssr_found.specs.Found.{held_node, ShareNoByte}
+use Rattle.ide_ssr_found.specs.Found.{held_range, ShareNoByte}
 use Rattle.ide_ssr_matching.specs.Matching.{Matches}
 use Rattle.ide_ssr_search.specs.Permitted.{arguments_range}
 use Rattle.ide_ssr_search.specs.Printing.{CanBeWritten}
@@ -18,15 +18,15 @@ abbrev pub LiesInArguments : List Planted → ℕ → FileSpan → Type 0
 LiesInArguments trees t range =
     IsSomeAnd (planted trees t) (λ p. IfSome p.call (λ call. IsSomeAnd (arguments_range trees call) (LiesIn range)))
 
--- a node has an original range, and it lies so
-abbrev pub IsPlaced : List Planted → NodeId → Type 0
-IsPlaced trees x = IsSomeAnd (original_range trees x) (LiesInArguments trees x.tree)
+-- there is such a range, of something in this tree, and it lies so
+abbrev pub IsPlaced : List Planted → ℕ → Option FileSpan → Type 0
+IsPlaced trees t range = IsSomeAnd range (LiesInArguments trees t)
 
 -- The node matches the root of the pattern by what names mean, it and what the placeholders hold are placed, no two
 -- placeholders share a byte, and the template can be written there.
 pub record IsWholeMatch (trees : List Planted) (m : Meanings) (rule : ResolvedKind) (x : NodeId) (bindings : List Binding) : Type 0 where
   pub matches : IsSomeAnd (planted trees x.tree) (λ p. Matches m x.tree rule (root_of rule.pattern) (node_of p.syntax x.node.0) bindings)
-  pub placed : IsPlaced trees x
-  pub bindings_placed : All (λ b. IsPlaced trees (held_node x.tree b)) bindings
-  pub apart : AllPairs (λ b c. ShareNoByte trees (held_node x.tree b) (held_node x.tree c)) bindings
+  pub placed : IsPlaced trees x.tree (original_range trees x)
+  pub bindings_placed : All (λ b. IsPlaced trees x.tree (held_range trees x.tree b)) bindings
+  pub apart : AllPairs (ShareNoByte trees x.tree) bindings
   pub written : CanBeWritten m rule x

@@ -1,5 +1,6 @@
 //! Whether a rule's template can be written for a match.
 ghost use Rattle.std.specs.Prelude.{◌↔◌, All, IfOk, IsTrue};
+ghost use Rattle.std.specs.Option.{IsSomeAnd};
 ghost use Rattle.ide_ssr_search.specs.Printing.{CanBeWritten, IsReached};
 
 use ide_ssr_resolving::{ResolvedRule, UsedPath};
@@ -38,6 +39,21 @@ fn are_reached<S: Semantics>(
     Ok(true)
 }
 
+/// Whether a node stands in a scope that reaches what each of these paths stands for.
+fn are_reached_at<S: Semantics>(
+    alloc: Global,
+    semantics: &S,
+    node: NodeId,
+    paths: &[UsedPath],
+) -> Result<bool, AllocError>
+    ensures { IfOk result (λ reached. IsTrue reached ↔ IsSomeAnd ((S.meanings semantics.now).scope node) (λ scope. All (λ path. IsReached (S.meanings semantics.now) scope path.res) paths.now)) }
+{
+    match semantics.scope(alloc, node)? {
+        Some(scope) => are_reached(alloc, semantics, scope, paths),
+        None => Ok(false),
+    }
+}
+
 /// Whether the template of a rule, if it has one, can be written at a node: the node has to stand in a scope that reaches what
 /// the used paths of the template stand for.
 pub(crate) fn can_be_written<S: Semantics>(
@@ -48,11 +64,8 @@ pub(crate) fn can_be_written<S: Semantics>(
 ) -> Result<bool, AllocError>
     ensures { IfOk result (λ can. IsTrue can ↔ CanBeWritten (S.meanings semantics.now) rule.now node) }
 {
-    if rule.template().is_none() {
-        return Ok(true);
-    }
-    match semantics.scope(alloc, node)? {
-        Some(scope) => are_reached(alloc, semantics, scope, rule.template_paths()),
-        None => Ok(false),
+    match rule.template() {
+        Some(_) => are_reached_at(alloc, semantics, node, rule.template_paths()),
+        None => Ok(true),
     }
 }

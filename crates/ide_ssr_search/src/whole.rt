@@ -1,10 +1,11 @@
 //! Whether a rule matches as a whole at a node.
 ghost use Rattle.std.specs.Prelude.{◌≡◌, ◌↔◌, IsTrue, IfOk, IfSome, IfNone, MatchOption, Some, All, AllPairs, option_map};
+ghost use Rattle.std.specs.Option.{IsSomeAnd};
 ghost use Rattle.ssr_syntax_tree.specs.Places.{HasNode};
-ghost use Rattle.ssr_base.specs.Workspace.{trees, tree_of, file_span_of, original_range};
-ghost use Rattle.ide_ssr_found.specs.Found.{AreDisjoint, held_node};
+ghost use Rattle.ssr_base.specs.Workspace.{trees, tree_of, file_span_of};
+ghost use Rattle.ide_ssr_found.specs.Found.{AreDisjoint, held_range};
 ghost use Rattle.ide_ssr_search.specs.WholeMatches.{IsPlaced};
-ghost use Rattle.ide_ssr_search.specs.Private.Bounds.{AreBounds};
+ghost use Rattle.ide_ssr_search.specs.Private.Bounds.{AreBounds, LiesInBounds};
 ghost use Rattle.ide_ssr_search.specs.Private.Whole.{AreRanges, IsMatched, IsPlacedMatch, TellsWhole};
 
 use crate::bounds::Bounds;
@@ -16,14 +17,13 @@ use ssr_base::{FileRange, NodeId, Semantics, Workspace};
 use ssr_syntax_tree::Tree;
 use std::alloc::{AllocError, Global};
 
-/// Where a node comes from, if that lies within the bounds of its tree.
-fn placed(workspace: &Workspace, bounds: Bounds, node: NodeId) -> Option<FileRange>
-    requires { AreBounds (trees workspace.now) node.tree bounds }
-    ensures range { IfSome result (λ range. original_range (trees workspace.now) node ≡ Some (file_span_of range)) }
-    ensures placed { IfSome result (λ _. IsPlaced (trees workspace.now) node) }
-    ensures none { IfNone result (¬ IsPlaced (trees workspace.now) node) }
+/// A range, if there is one that lies within the bounds.
+fn placed(bounds: Bounds, range: Option<FileRange>) -> Option<FileRange>
+    ensures range { IfSome result (λ placed. range ≡ Some placed) }
+    ensures placed { IfSome result (λ placed. LiesInBounds bounds (file_span_of placed)) }
+    ensures none { IfNone result (¬ IsSomeAnd (option_map file_span_of range) (LiesInBounds bounds)) }
 {
-    let range = workspace.original_range(node)?;
+    let range = range?;
     if bounds.hold(range) {
         Some(range)
     } else {
@@ -40,11 +40,11 @@ fn held_ranges(
     bindings: &[Binding],
 ) -> Result<Option<Vec<FileRange>>, AllocError>
     requires { AreBounds (trees workspace.now) tree bounds }
-    ensures { IfOk result (λ found. MatchOption found (¬ All (λ b. IsPlaced (trees workspace.now) (held_node tree b)) bindings.now) (λ ranges. AreRanges (trees workspace.now) tree bindings.now ranges.items)) }
+    ensures { IfOk result (λ found. MatchOption found (¬ All (λ b. IsPlaced (trees workspace.now) tree (held_range (trees workspace.now) tree b)) bindings.now) (λ ranges. AreRanges (trees workspace.now) tree bindings.now ranges.items)) }
 {
     let mut ranges = Vec::new(alloc);
     for binding in bindings {
-        let Some(range) = placed(workspace, bounds, binding.held_node(tree)) else {
+        let Some(range) = placed(bounds, binding.original_range(workspace, tree)) else {
             return Ok(None);
         };
         ranges.push(range)?;
@@ -88,7 +88,7 @@ fn is_placed_in_call(
     requires { AreBounds (trees workspace.now) node.tree bounds }
     ensures { IfOk result (λ is. IsTrue is ↔ IsPlacedMatch (trees workspace.now) node bindings.now) }
 {
-    if placed(workspace, bounds, node).is_none() {
+    if placed(bounds, workspace.original_range(node)).is_none() {
         return Ok(false);
     }
     match held_ranges(alloc, workspace, bounds, node.tree, bindings)? {

@@ -1,7 +1,7 @@
 //! A provider for measuring alone, which tells for each path and method call of the files a definition by its text.
 
 use ssr_base::{DefId, DefInfo, DefKind, NodeId, Res, ScopeId, SelfKind, TypeId, Workspace};
-use ssr_facts::{Definition, Method, NameKey, TableSemantics, Tables};
+use ssr_facts::{Definition, Method, NameKey, PrintedKey, TableSemantics, Tables};
 use ssr_syntax_kinds::SyntaxKind;
 use ssr_syntax_tree::{Element, NodeNo, Tree};
 use std::alloc::{AllocError, Global};
@@ -67,6 +67,19 @@ fn names(alloc: Global) -> Result<Vec<(NameKey, Res)>, AllocError> {
     Ok(names)
 }
 
+/// The paths by which the scope reaches the definitions that rules can name: templates have to be written.
+fn printed(alloc: Global) -> Result<Vec<(PrintedKey, String)>, AllocError> {
+    let mut printed = Vec::new(alloc);
+    for name in NAMED {
+        let key = PrintedKey {
+            scope: SCOPE,
+            def: named(name),
+        };
+        printed.push((key, String::from_str(alloc, name)?))?;
+    }
+    Ok(printed)
+}
+
 /// Whether a method call calls a method of this name.
 fn calls(tree: &Tree, call: NodeNo, name: &str) -> bool {
     tree.children(call).any(|child| match child {
@@ -118,7 +131,7 @@ pub(crate) fn semantics(alloc: Global, workspace: &Workspace) -> Result<TableSem
         paths: Vec::new(alloc),
         methods: Vec::new(alloc),
         types: Vec::new(alloc),
-        printed: Vec::new(alloc),
+        printed: printed(alloc)?,
     };
     let mut number = 0;
     while let Some(tree) = workspace.tree(number) {

@@ -2,9 +2,9 @@
 use Rattle.std.specs.Prelude.{ℕ, ◌≡◌, ◌<◌, ◌≢◌, true, List, length, slice_get, Option, Some, All, AllPairs, Contains}
 use Rattle.ssr_base.specs.Built.{IsBuilt}
 use Rattle.ssr_base.specs.Laws.{LiesIn}
-use Rattle.ssr_base.specs.Workspace.{FileSpan, original_range, trees}
+use Rattle.ssr_base.specs.Workspace.{FileSpan, trees}
 use Rattle.ide_ssr_found.specs.declared.bindings.Binding.{Binding}
-use Rattle.ide_ssr_found.specs.Found.{Found, IsMatch, held_node}
+use Rattle.ide_ssr_found.specs.Found.{Found, IsMatch, held_range}
 use Rattle.ide_ssr_nesting.specs.declared.holders.Holder.{Holder}
 use Rattle.ide_ssr_nesting.specs.Holding.{Kept}
 use Rattle.ide_ssr_nesting.specs.Lists.{Listing, listed}
@@ -30,4 +30,4 @@ pub record IsNest (kept : Kept) (listing : Listing) : Type 0 where
   pub before : (n i j : ℕ) → Contains (under listing n i) j → n < j
   pub within : (n i j : ℕ) (m : Found) (binding : Binding) (range : FileSpan)
       → slice_get kept.matches n ≡ Some m → slice_get m.bindings i ≡ Some binding → Contains (under listing n i) j
-      → original_range (trees kept.workspace) (held_node m.node.tree binding) ≡ Some range → LiesIn (range_at kept j) range
+      → held_range (trees kept.workspace) m.node.tree binding ≡ Some range → LiesIn (range_at kept j) range

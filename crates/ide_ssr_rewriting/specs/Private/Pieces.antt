@@ -2,9 +2,9 @@
 use Rattle.std.specs.Prelude.{ℕ, ◌≡◌, ◌<◌, ◌&&◌, Bool, true, if◌then◌else◌, List, ◌++◌, drop, length, map, flat_map, Option, Some, None, Contains, String}
 use Rattle.std.specs.Global.{Global}
 use Rattle.std.specs.List.{enumerate_from, list_all}
-use Rattle.ssr_base.specs.Workspace.{Workspace, node_id}
+use Rattle.ssr_base.specs.Workspace.{Workspace, trees}
 use Rattle.ide_ssr_found.specs.declared.bindings.Binding.{Binding}
-use Rattle.ide_ssr_found.specs.Found.{Found}
+use Rattle.ide_ssr_found.specs.Found.{Found, held_range}
 use Rattle.ide_ssr_nesting.specs.Holding.{Kept}
 use Rattle.ide_ssr_nesting.specs.Lists.{Listing}
 use Rattle.ide_ssr_rewriting.specs.Clashes.{Rewrite, Clash, IsFirst, clashes, is_clean}
@@ -19,7 +19,7 @@ all_clean lists bound = list_all (λ p. is_clean (lists p.0)) bound
 
 -- what placeholders hold, with the changes of their lists made
 abbrev pub pieces_of : Workspace → Found → (ℕ → List Rewrite) → List (ℕ × Binding) → List (List ℕ)
-pieces_of w m lists bound = map (λ p. piece w (node_id m.node.tree p.1.node.0) (lists p.0)) bound
+pieces_of w m lists bound = map (λ p. piece w (held_range (trees w) m.node.tree p.1) (lists p.0)) bound
 
 -- likewise, if all lists can be made
 abbrev pub pieces_by : Workspace → Found → (ℕ → List Rewrite) → Option (List (List ℕ))

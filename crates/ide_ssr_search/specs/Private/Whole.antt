@@ -8,7 +8,7 @@ use Rattle.ssr_base.specs.Workspace.{Planted, planted, original_range, file_span
 use Rattle.ide_ssr_resolving.specs.Resolved.{ResolvedKind}
 use Rattle.ide_ssr_found.specs.declared.bindings.Binding.{Binding}
 use Rattle.ide_ssr_matching.specs.Bindings.{bindings_of}
-use Rattle.ide_ssr_found.specs.Found.{held_node, ShareNoByte}
+use Rattle.ide_ssr_found.specs.Found.{held_range, ShareNoByte}
 use Rattle.ide_ssr_search.specs.WholeMatches.{IsPlaced, IsWholeMatch}
 
 -- what placeholders hold is placed, and comes from these ranges
@@ -17,13 +17,13 @@ AreRanges trees tree [] [] = Unit {0}
 AreRanges trees tree [] (range ∷ ranges) = ⊥
 AreRanges trees tree (b ∷ bindings) [] = ⊥
 AreRanges trees tree (b ∷ bindings) (range ∷ ranges) =
-    IsPlaced trees (held_node tree b) × (original_range trees (held_node tree b) ≡ Some (file_span_of range)) × AreRanges trees tree bindings ranges
+    IsPlaced trees tree (held_range trees tree b) × (held_range trees tree b ≡ Some (file_span_of range)) × AreRanges trees tree bindings ranges
 
 -- what is asked of a match beside that the node matches
 pub record IsPlacedMatch (trees : List Planted) (x : NodeId) (bindings : List Binding) : Type 0 where
-  pub placed : IsPlaced trees x
-  pub bindings_placed : All (λ b. IsPlaced trees (held_node x.tree b)) bindings
-  pub apart : AllPairs (λ b c. ShareNoByte trees (held_node x.tree b) (held_node x.tree c)) bindings
+  pub placed : IsPlaced trees x.tree (original_range trees x)
+  pub bindings_placed : All (λ b. IsPlaced trees x.tree (held_range trees x.tree b)) bindings
+  pub apart : AllPairs (ShareNoByte trees x.tree) bindings
 
 -- this is what the placeholders of a rule hold where it matches at the node
 pub record IsMatched (trees : List Planted) (x : NodeId) (bindings : List Binding) : Type 0 where

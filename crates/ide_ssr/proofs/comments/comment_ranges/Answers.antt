@@ -1,12 +1,12 @@
 use Rattle.std.proofs.Common.{◌<◌, All, length, refl, sym, ap, ◌∙◌, subst, arith}
 use Rattle.std.proofs.lemmas.List.Elements.{All-push}
 use Rattle.ssr_syntax_tree.specs.declared.number.TokenNo.{TokenNo}
-use Rattle.ssr_syntax_tree.specs.Places.{HasNode}
 use Rattle.ssr_base.specs.declared.ids.FileRange.{FileRange}
 use Rattle.ssr_base.specs.declared.ids.NodeId.{NodeId}
 use Rattle.ssr_base.specs.Built.{IsNodeOf}
 use Rattle.ssr_base.specs.Laws.{LiesInFile}
 use Rattle.ssr_base.specs.Workspace.{trees, tree_of, file_span_of}
+use Rattle.ide_ssr_found.specs.Apart.{HasHeld}
 use Rattle.ide_ssr_found.proofs.Shared.{has_node, has_held}
 use Rattle.ide_ssr.proofs.Files.{file_is, token_in_file, token_span_is, spans_more, spans_are}
 use Rattle.ide_ssr.proofs.comments.comment_ranges.Goals as goal
@@ -18,7 +18,7 @@ kept_comments-requires-clause-node c =
 
 pub kept_comments-requires-clause-bindings : goal.kept_comments-requires-clause-bindings
 kept_comments-requires-clause-bindings c =
-    subst (All (λ binding. HasNode c.in-Some.tree.now binding.node.0)) (sym c.bindings.ensures)
+    subst (All (λ binding. HasHeld c.in-Some.tree.now binding.held)) (sym c.bindings.ensures)
     (has_held c.args.workspace.now c.args.m.now c.in-Some.tree.now
     (ap (λ (x : NodeId). tree_of c.args.workspace.now x.tree) (sym c.node-file.ensures) ∙ sym c.in-Some.ensures) c.requires)
 

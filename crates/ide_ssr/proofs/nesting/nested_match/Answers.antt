@@ -4,7 +4,7 @@ use Rattle.ssr_syntax_tree.specs.Places.{node_of, text_of}
 use Rattle.ssr_base.specs.declared.ids.FileRange.{FileRange}
 use Rattle.ssr_base.specs.declared.ids.NodeId.{NodeId}
 use Rattle.ssr_base.specs.Laws.{LiesInFile}
-use Rattle.ssr_base.specs.Workspace.{Workspace, file_span_of, tree_of}
+use Rattle.ssr_base.specs.Workspace.{Workspace, file_span_of, original_range, tree_of, trees}
 use Rattle.ide_ssr.specs.declared.matches.Match.TheViews.{out-roll-Match}
 use Rattle.ide_ssr.specs.Comments.{comment_spans}
 use Rattle.ide_ssr.specs.Parts.{ComesFrom}
@@ -23,9 +23,9 @@ returns-clause-shown c =
       rule = ap (λ v. v.rule_index) own ∙ c.rule.ensures;
       node = ap (λ v. v.node) own ∙ c.node-3.ensures;
       range =
-          subst (λ (r : FileRange). ComesFrom w m.node (file_span_of r)) (sym (ap (λ v. v.range) own))
-          (subst (λ (x : NodeId). ComesFrom w x (file_span_of c.range_at.result)) c.node-2.ensures
-          (subst (λ (w : Workspace). ComesFrom w c.node-2.result (file_span_of c.range_at.result)) same c.range_at.ensures));
+          subst (λ (r : FileRange). ComesFrom w (original_range (trees w) m.node) (file_span_of r)) (sym (ap (λ v. v.range) own))
+          (subst (λ (x : NodeId). ComesFrom w (original_range (trees w) x) (file_span_of c.range_at.result)) c.node-2.ensures
+          (subst (λ (w : Workspace). ComesFrom w (original_range (trees w) c.node-2.result) (file_span_of c.range_at.result)) same c.range_at.ensures));
       text =
           subst (λ (t : List ℕ). IsSomeAnd (tree_of w m.node.tree) (λ syntax. t ≡ text_of (node_of syntax m.node.node.0))) (sym (ap (λ v. v.text.now) own))
           (subst (λ (x : NodeId). IsSomeAnd (tree_of w x.tree) (λ syntax. c.text_at.result.now ≡ text_of (node_of syntax x.node.0))) c.node.ensures

@@ -1,8 +1,7 @@
 use Rattle.std.proofs.Common.{◌≡◌, ◌≢◌, ℕ, ◌∙◌, None, Some, All, AllPairs, Contains, get_or, map, sym, ap, subst}
 use Rattle.std.specs.Prelude.{IsSome}
 use Rattle.std.proofs.lemmas.Option.{same_Some}
-use Rattle.ssr_base.specs.declared.ids.NodeId.{NodeId}
-use Rattle.ide_ssr_found.specs.Found.{Found, held_node}
+use Rattle.ide_ssr_found.specs.Found.{Found}
 use Rattle.ide_ssr_nesting.specs.Lists.{listed}
 use Rattle.ide_ssr.specs.Nesting.{Show}
 use Rattle.ide_ssr.specs.Private.Made.{ShowPlaceholders}
@@ -41,8 +40,8 @@ take_list-requires-clause-there c =
 pub nested_placeholder-requires-clause-range : goal.nested_placeholder-requires-clause-range
 nested_placeholder-requires-clause-range c =
     let b = c.binding_at-binding.result in
-    range_there c.args.kept.now c.workspace-workspace.result.now c.get-m.result.now c.held_node-node.result b _ c.loop-index.invariant.is_match
-    c.workspace-workspace.ensures (c.held_node-node.ensures ∙ ap (λ (x : NodeId). held_node x.tree b) c.node.ensures) c.binding_at-binding.ensures
+    range_there c.args.kept.now c.workspace-workspace.result.now c.get-m.result.now c.node-tree.result b _ c.loop-index.invariant.is_match
+    c.workspace-workspace.ensures c.node-tree.ensures c.binding_at-binding.ensures
 
 pub loop-index-preserved : goal.loop-index-preserved
 loop-index-preserved c =
@@ -64,9 +63,9 @@ loop-index-preserved c =
     holding_more rules kept lists place m order p c.args.made.now.items made _ c.loop-index.placeholders.items _ b placeholder c.requires.kept c.requires.lists
     c.loop-index.invariant c.loop-index-test.true
     c.binding_at-binding.ensures
-    (binding_shown kept c.workspace-workspace.result.now rules m c.held_node-node.result c.rule.result b placeholder c.placeholder_name-name.result.now
-    c.workspace-workspace.ensures (c.held_node-node.ensures ∙ ap (λ (x : NodeId). held_node x.tree b) c.node.ensures) c.rule.ensures
-    c.in_ok-nested_placeholder.ensures.name c.placeholder_name-name.ensures c.in_ok-nested_placeholder.ensures.range)
+    (binding_shown kept c.workspace-workspace.result.now rules m c.node-tree.result c.rule.result b placeholder c.placeholder_name-name.result.now
+    c.workspace-workspace.ensures c.node-tree.ensures c.rule.ensures c.in_ok-nested_placeholder.ensures.name c.placeholder_name-name.ensures
+    c.in_ok-nested_placeholder.ensures.range c.in_ok-nested_placeholder.ensures.deref_count c.in_ok-nested_placeholder.ensures.self_kind)
     (subst (Show rules kept lists places) (sym c.in_ok-nested_placeholder.ensures.inner) (show_taken rules kept lists made places c.in_ok-inner.inner.items all taken))
     (λ j out. c.in_ok-inner.ensures.others j (subst (λ places. Contains places j → ⊥) (sym c.under.ensures) out))
     c.in_ok-inner.ensures.counted c.in_ok-push.ensures.items

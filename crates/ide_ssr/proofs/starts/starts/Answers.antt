@@ -1,20 +1,19 @@
 use Rattle.std.proofs.Common.{All, get_or, sym, subst}
-use Rattle.std.specs.Prelude.{IsSome}
 use Rattle.ssr_base.specs.declared.ids.NodeId.{NodeId}
-use Rattle.ssr_base.specs.Workspace.{trees, original_range}
+use Rattle.ssr_base.specs.Workspace.{trees}
 use Rattle.ide_ssr_found.specs.declared.bindings.Binding.{Binding}
-use Rattle.ide_ssr_found.specs.Found.{held_node}
+use Rattle.ide_ssr_found.specs.Found.{IsInRange, node_binding}
 use Rattle.ide_ssr.proofs.ByStart.{start_is, starts_more}
 use Rattle.ide_ssr.proofs.starts.starts.Goals as goal
 
 no_binding : Binding
-no_binding = record { placeholder = 0; node = record { 0 = 0 } }
+no_binding = node_binding 0 0
 
 pub start_of-at-requires : goal.start_of-at-requires
 unfolding no_binding
 start_of-at-requires c =
-    let ranged = subst (All (λ b. IsSome (original_range (trees c.args.workspace.now) (held_node c.args.m.now.node.tree b)))) (sym c.bindings-binding-items.ensures) c.requires in
-    subst (λ (x : NodeId). IsSome (original_range (trees c.args.workspace.now) (held_node x.tree (get_or c.bindings-binding-items.result.now c.loop-place.place no_binding)))) (sym c.node.ensures)
+    let ranged = subst (All (IsInRange (trees c.args.workspace.now) c.args.m.now.node)) (sym c.bindings-binding-items.ensures) c.requires in
+    subst (λ (x : NodeId). IsInRange (trees c.args.workspace.now) x (get_or c.bindings-binding-items.result.now c.loop-place.place no_binding)) (sym c.node.ensures)
     (ranged c.loop-place.place no_binding c.loop-place-test.true)
 
 pub loop-place-preserved : goal.loop-place-preserved

@@ -2,10 +2,11 @@ use Rattle.std.proofs.Common.{◌≤◌, ◌==◌, length, arith, sym}
 use Rattle.std.proofs.lemmas.List.Sums.{position_or_len_is}
 use Rattle.std.proofs.lemmas.Bool.Decides.{nat_tests}
 use Rattle.ide_ssr_found.specs.declared.bindings.Binding.{Binding}
+use Rattle.ide_ssr_found.specs.Found.{node_binding}
 use Rattle.ide_ssr_rewriting.proofs.rendering.place_of_binding.Goals as goal
 
 abbrev nobody : Binding
-nobody = record { placeholder = 0; node = record { 0 = 0 } }
+nobody = node_binding 0 0
 
 pub returns-then-binding-placeholder : goal.returns-then-binding-placeholder
 returns-then-binding-placeholder c =

@@ -1,4 +1,5 @@
-use Rattle.std.proofs.Common.{◌∙◌, ap}
+use Rattle.std.proofs.Common.{◌∙◌, ap, sym}
+use Rattle.std.specs.Option.{option_map}
 use Rattle.ssr_base.specs.Applied.{changes_of}
 use Rattle.ssr_base.specs.Workspace.{file_span_of}
 use Rattle.ide_ssr_rewriting.proofs.Written.{changes_fit}
@@ -6,5 +7,5 @@ use Rattle.ide_ssr_rewriting.proofs.replacements.piece.Goals as goal
 
 pub replaced-requires-clause-changes : goal.replaced-requires-clause-changes
 replaced-requires-clause-changes c =
-    changes_fit c.args.workspace.now (file_span_of c.in-Some.range) _ c.args.list.items _ c.in-Some.ensures c.requires
+    changes_fit c.args.workspace.now (file_span_of c.in-Some.range) _ c.args.list.items _ (sym (ap (option_map file_span_of) c.in-Some.is)) c.requires
     (ap changes_of c.deref.ensures.value ∙ c.in_ok-changes.ensures)

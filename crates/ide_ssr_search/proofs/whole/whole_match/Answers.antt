@@ -18,14 +18,14 @@ returns-then-not-branch g c =
     (λ placed. both_ways c.in_ok-is_placed_match.field-0 c.if-not-branch.true
     (c.in_ok-is_placed_match.ensures.1 (subst (IsPlacedMatch (trees c.args.workspace.now) c.args.node) (sym c.deref.ensures.value) placed)))
 
-pub returns-then-branch-2 : goal.returns-then-branch-2
-returns-then-branch-2 g c =
+pub returns-then-branch : goal.returns-then-branch
+returns-then-branch g c =
     whole c.args.workspace.now (g.S.Semantics.meanings c.args.semantics.now) c.args.tree.now c.args.rule.now c.args.node c.in-Some.bindings.items c.requires.tree
     (sym (ap (option_map (λ v. v.items)) c.in-Some.is) ∙ c.in_ok-bindings.ensures)
     (subst (IsPlacedMatch (trees c.args.workspace.now) c.args.node) c.deref.ensures.value (c.in_ok-is_placed_match.ensures.0 c.if-not-branch.false))
-    (c.in_ok-can_be_written.ensures.0 c.if-branch-2.true)
+    (c.in_ok-can_be_written.ensures.0 c.if-branch.true)
 
-pub returns-else-branch-2 : goal.returns-else-branch-2
-returns-else-branch-2 g c =
+pub returns-else-branch : goal.returns-else-branch
+returns-else-branch g c =
     not_written (trees c.args.workspace.now) (g.S.Semantics.meanings c.args.semantics.now) c.args.rule.now c.args.node
-    (λ written. both_ways c.in_ok-can_be_written.field-0 c.if-branch-2.false (c.in_ok-can_be_written.ensures.1 written))
+    (λ written. both_ways c.in_ok-can_be_written.field-0 c.if-branch.false (c.in_ok-can_be_written.ensures.1 written))

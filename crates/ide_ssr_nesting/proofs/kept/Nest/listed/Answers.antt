@@ -4,7 +4,6 @@ use Rattle.ide_ssr_found.specs.Found.{Found}
 use Rattle.ide_ssr_nesting.specs.Kept.{LiesUnder}
 use Rattle.ide_ssr_nesting.proofs.Nearest.{read_nearest, fits_held, fits_not}
 use Rattle.ide_ssr_nesting.proofs.kept.Nest.listed.Goals as goal
-use Rattle.ssr_base.proofs.Shared.{ranges_nest}
 
 pub returns-in-None : goal.returns-in-None
 returns-in-None c = ((λ k at over. absurd (c.in-None.ensures k at over)), c.in-None.ensures)
@@ -16,7 +15,7 @@ returns-in-Some-binding_over c =
     let m = c.args.m.now in
     let same = read_nearest ts kept m c.in-Some.place c.index.result.now c.in-Some.ensures c.index.ensures in
     fits_held ts c.requires.built.grown kept c.args.self.now.holders.items c.requires.held m c.requires.match_in c.requires.behind
-    (ranges_nest c.args.workspace.now c.requires.built) c.in-Some.place c.in-Some-binding_over.binding c.in-Some.ensures
+    c.in-Some.place c.in-Some-binding_over.binding c.in-Some.ensures
     (subst (λ (k : Found). LiesUnder ts k m c.in-Some-binding_over.binding) same c.in-Some-binding_over.ensures)
 
 pub returns-in-None-binding_over : goal.returns-in-None-binding_over

@@ -1,11 +1,12 @@
-use Rattle.std.proofs.Common.{◌≡◌, ◌≢◌, ◌&&◌, ◌<◌, Bool, List, ℕ, All, get_or, length, option_map, string_bytes, is_some, sym, ◌∙◌, ap, subst, arith}
+use Rattle.std.proofs.Common.{◌≡◌, ◌≢◌, ◌&&◌, ◌<◌, Bool, List, Option, ℕ, All, get_or, length, option_map, string_bytes, is_some, sym, ◌∙◌, ap, subst, arith}
 use Rattle.std.specs.Prelude.{AllPairs, Contains, None, Some, if◌then◌else◌}
 use Rattle.std.proofs.lemmas.List.{get_or_default}
 use Rattle.std.proofs.lemmas.Option.{slice_get-get_or}
 use Rattle.ssr_base.specs.declared.ids.NodeId.{NodeId}
-use Rattle.ssr_base.specs.Workspace.{Workspace}
+use Rattle.ssr_base.specs.Workspace.{FileSpan, Workspace, file_span_of, trees}
 use Rattle.ide_ssr_found.specs.declared.bindings.Binding.{Binding}
-use Rattle.ide_ssr_found.specs.Found.{held_node}
+use Rattle.ide_ssr_found.specs.Found.{Found, held_range, node_binding}
+use Rattle.ide_ssr_nesting.specs.Holding.{Kept}
 use Rattle.ide_ssr_rewriting.specs.Clashes.{AreInOrder, clash_of, is_clean}
 use Rattle.ide_ssr_rewriting.specs.Replacements.{piece}
 use Rattle.ide_ssr_rewriting.specs.Edits.{list_at}
@@ -16,7 +17,16 @@ use Rattle.ide_ssr_rewriting.proofs.editing.Pending.take_pieces.Goals as goal
 use Rattle.ide_ssr_rewriting.proofs.editing.Pending.take_pieces.Goals.{then-branch, else-branch}
 
 abbrev nobody : Binding
-nobody = record { placeholder = 0; node = record { 0 = 0 } }
+nobody = node_binding 0 0
+
+-- where what the binding of a place holds comes from, as it is read
+held_read : (kept : Kept) (m : Found) (w : Workspace) (x : NodeId) (bs : List Binding) (i : ℕ) (range : Option FileSpan) → w ≡ kept.workspace → x ≡ m.node → bs ≡ m.bindings
+    → range ≡ held_range (trees w) x.tree (get_or bs i nobody) → range ≡ held_range (trees kept.workspace) m.node.tree (get_or m.bindings i nobody)
+held_read kept m w x bs i range same_w same_x same_bs is =
+    is
+    ∙ ap (λ (w : Workspace). held_range (trees w) x.tree (get_or bs i nobody)) same_w
+    ∙ ap (λ (x : NodeId). held_range (trees kept.workspace) x.tree (get_or bs i nobody)) same_x
+    ∙ ap (λ (bs : List Binding). held_range (trees kept.workspace) m.node.tree (get_or bs i nobody)) same_bs
 
 pub take_list-requires-clause-within : goal.take_list-requires-clause-within
 take_list-requires-clause-within c =
@@ -36,13 +46,12 @@ piece_if_clean-requires-clause-list c =
     let i = c.loop-index.index in
     let b = get_or m.bindings i nobody in
     let lt : i < length m.bindings = omega (arith, ap (λ (bs : List Binding). length bs) c.bindings-binding-items.ensures) in
-    rw c.workspace.ensures
+    rw c.workspace-in-loop-index.ensures
     (list_fits c.args.kept.now c.args.lists.now c.requires.nest c.args.place i m b (text_in c.loop-index.self.texts.items) c.in_ok-list.list.items _
     c.requires.m (slice_get-get_or m.bindings i nobody lt)
     (c.in_ok-list.ensures.list ∙ ap (list_at c.args.kept.now (text_in c.loop-index.self.texts.items)) c.under.ensures)
-    (c.held_node-node.ensures
-    ∙ ap (λ (bs : List Binding). held_node c.node.result.tree (get_or bs i nobody)) c.bindings-binding-items.ensures
-    ∙ ap (λ x. held_node x.tree b) c.node.ensures))
+    (held_read c.args.kept.now m c.workspace.result.now c.node.result c.bindings-binding-items.result.now i _ c.workspace.ensures c.node.ensures c.bindings-binding-items.ensures
+    c.original_range-range.ensures))
 
 pub loop-index-preserved : goal.loop-index-preserved
 loop-index-preserved c =
@@ -52,10 +61,9 @@ loop-index-preserved c =
     let b = get_or m.bindings i nobody in
     let list = c.in_ok-list.list.items in
     let lt : i < length m.bindings = omega (arith, ap (λ (bs : List Binding). length bs) c.bindings-binding-items.ensures) in
-    let held : c.held_node-node.result ≡ held_node m.node.tree b =
-    c.held_node-node.ensures
-    ∙ ap (λ (bs : List Binding). held_node c.node.result.tree (get_or bs i nobody)) c.bindings-binding-items.ensures
-    ∙ ap (λ x. held_node x.tree b) c.node.ensures in
+    let held =
+    held_read kept m c.workspace.result.now c.node.result c.bindings-binding-items.result.now i (option_map file_span_of c.original_range-range.result) c.workspace.ensures c.node.ensures
+    c.bindings-binding-items.ensures c.original_range-range.ensures in
     let made : c.if-branch.is_clean ≡ (is_some (option_map string_bytes c.in_ok-piece.piece) && c.loop-index.is_clean) =
     elim c.if-branch.branch [
       | then-branch w ↦ w.is_clean-is ∙ ap (λ (t : Bool). t && c.loop-index.is_clean) (sym (sym c.in_ok-is_clean.ensures.there ∙ w.if-branch.true))
@@ -66,8 +74,8 @@ loop-index-preserved c =
     (c.in_ok-list.ensures.list ∙ ap (list_at kept (text_in c.loop-index.self.texts.items)) c.under.ensures)
     c.in_ok-list.ensures.first c.in_ok-list.ensures.clash
     (c.in_ok-piece.ensures
-    ∙ (ap (λ (w : Workspace). if is_clean list then Some (piece w c.held_node-node.result list) else None) c.workspace.ensures
-    ∙ ap (λ (node : NodeId). if is_clean list then Some (piece kept.workspace node list) else None) held))
+    ∙ (ap (λ (w : Workspace). if is_clean list then Some (piece w (option_map file_span_of c.original_range-range.result) list) else None) c.workspace-in-loop-index.ensures
+    ∙ ap (λ (range : Option FileSpan). if is_clean list then Some (piece kept.workspace range list) else None) held))
     made c.in_ok-is_clean.ensures.pieces c.in_ok-list.ensures.counted
     (λ j none. c.in_ok-list.ensures.others j (λ h. none (subst (λ (xs : List ℕ). Contains xs j) c.under.ensures h)))
 
