@@ -2,7 +2,7 @@
 
 use crate::given::{SWAP, bytes, edited, facts};
 use ide_ssr::{MatchFinder, SsrRule};
-use ssr_base::NodeId;
+use ssr_base::{NodeId, SelfKind};
 use ssr_syntax_tree::NodeNo;
 use std::test::Fail;
 
@@ -62,6 +62,8 @@ fn a_match_tells_its_parts(rt: HostRuntime) -> Result<(), Fail> {
     assert_eq!(rt; held.var().to_string(alloc)?.as_str(), "$a");
     assert_eq!(rt; held.range(), bytes(0, 8, 1));
     assert_eq!(rt; held.inner().len(), 0);
+    assert_eq!(rt; held.deref_count(), 0);
+    assert_eq!(rt; held.self_kind(), SelfKind::Owned);
     Ok(())
 }
 
