@@ -8,7 +8,7 @@ use Rattle.ssr_syntax_kinds.specs.Kinds.{same_kind, is_trivia}
 use Rattle.ssr_syntax_tree.specs.Syntax.{Token, Syntax, token_count, tokens_of}
 use Rattle.ssr_syntax_tree.specs.Places.{HasToken, token_of}
 use Rattle.ssr_syntax_tree.proofs.Shared.{length-tokens_in}
-use Rattle.ide_ssr_search.specs.Permitted.{goes_on, names_self}
+use Rattle.ide_ssr_search.specs.Permitted.{begins_with, is_double_colon, goes_on, names_self}
 
 -- the answer, where `begun` says whether a `self` has come that trivia alone have followed so far
 abbrev pub answer : Bool → List Token → Bool
@@ -39,24 +39,31 @@ tokens_left s n has =
     let none : Token = record { kind = k.WHITESPACE; text = [] } in
     drop_more (tokens_of s) n none within ∙ ap (λ token. token ∷ drop (n + 1) (tokens_of s)) (sym (unwrap_or-slice_get (tokens_of s) n none))
 
+-- a `:` in front of the tokens from a number on
+pub colon_there : (s : Syntax) (n : ℕ) → HasToken s n → same_kind (token_of s n).kind k.COLON ≡ begins_with k.COLON (drop n (tokens_of s))
+colon_there s n has = sym (ap (begins_with k.COLON) (tokens_left s n has))
+
+pub no_colon : (s : Syntax) (n : ℕ) → token_count s.children ≤ n → false ≡ begins_with k.COLON (drop n (tokens_of s))
+no_colon s n past = sym (ap (begins_with k.COLON) (drop_all n (tokens_of s) (omega (arith, length-tokens_in s.children))))
+
 pub self_turn : (s : Syntax) (n : ℕ) (begun next : Bool) → HasToken s n
-    → (begun && (not (is_trivia (token_of s n).kind) && not (same_kind (token_of s n).kind k.COLON2))) ≡ false
+    → (begun && (not (is_trivia (token_of s n).kind) && not (is_double_colon (token_of s n) (drop (n + 1) (tokens_of s))))) ≡ false
     → next ≡ (same_kind (token_of s n).kind k.SELF_KW || (begun && is_trivia (token_of s n).kind))
     → answer begun (drop n (tokens_of s)) ≡ names_self (tokens_of s) → answer next (drop (n + 1) (tokens_of s)) ≡ names_self (tokens_of s)
 self_turn s n begun next has on is so_far =
     let kind = (token_of s n).kind in
     let rest = drop (n + 1) (tokens_of s) in
     ap (λ b. answer b rest) is
-    ∙ sym (open_turn begun (is_trivia kind) (same_kind kind k.COLON2) (same_kind kind k.SELF_KW) (goes_on rest) (names_self rest) on)
+    ∙ sym (open_turn begun (is_trivia kind) (is_double_colon (token_of s n) rest) (same_kind kind k.SELF_KW) (goes_on rest) (names_self rest) on)
     ∙ ap (answer begun) (sym (tokens_left s n has)) ∙ so_far
 
 pub self_found : (s : Syntax) (n : ℕ) (begun : Bool) → HasToken s n
-    → (begun && (not (is_trivia (token_of s n).kind) && not (same_kind (token_of s n).kind k.COLON2))) ≡ true
+    → (begun && (not (is_trivia (token_of s n).kind) && not (is_double_colon (token_of s n) (drop (n + 1) (tokens_of s))))) ≡ true
     → answer begun (drop n (tokens_of s)) ≡ names_self (tokens_of s) → true ≡ names_self (tokens_of s)
 self_found s n begun has ends so_far =
     let kind = (token_of s n).kind in
     let rest = drop (n + 1) (tokens_of s) in
-    sym (open_ends begun (is_trivia kind) (same_kind kind k.COLON2) (goes_on rest) ((same_kind kind k.SELF_KW && not (goes_on rest)) || names_self rest) ends)
+    sym (open_ends begun (is_trivia kind) (is_double_colon (token_of s n) rest) (goes_on rest) ((same_kind kind k.SELF_KW && not (goes_on rest)) || names_self rest) ends)
     ∙ ap (answer begun) (sym (tokens_left s n has)) ∙ so_far
 
 at_end : (begun : Bool) → ((begun && true) || false) ≡ begun

@@ -1,6 +1,7 @@
 -- At which nodes a search tries a rule.
 use Rattle.std.specs.Prelude.{ℕ, ◌≡◌, ◌⊎◌, ◌&&◌, ◌||◌, not, Bool, false, IsTrue, IsSome, if◌then◌else◌, List, [], ◌∷◌, Option, Some, None, Contains}
 use Rattle.std.specs.Option.{IsSomeAnd, option_map, option_and_then}
+use Rattle.ssr_syntax_kinds.specs.declared.kinds.SyntaxKind.{SyntaxKind}
 use Rattle.ssr_syntax_kinds.specs.declared.kinds.SyntaxKind.TheVariants as k
 use Rattle.ssr_syntax_kinds.specs.Kinds.{same_kind, is_trivia}
 use Rattle.ssr_syntax_tree.specs.Syntax.{Token, tokens_of}
@@ -51,10 +52,18 @@ pub record IsOpen (w : Workspace) (restrictions : List FileSpan) (x : NodeId) : 
 
 -- ** `self` as the value of a method.
 
+abbrev pub begins_with : SyntaxKind → List Token → Bool
+begins_with kind [] = false
+begins_with kind (token ∷ tokens) = same_kind token.kind kind
+
+-- whether a token is `::`, or the first of two `:`, one directly behind the other: in token trees tokens aren't joined
+abbrev pub is_double_colon : Token → List Token → Bool
+is_double_colon token behind = same_kind token.kind k.COLON2 || (same_kind token.kind k.COLON && begins_with k.COLON behind)
+
 -- whether the first of these tokens that is no trivia is `::`
 abbrev pub goes_on : List Token → Bool
 goes_on [] = false
-goes_on (token ∷ tokens) = if is_trivia token.kind then goes_on tokens else same_kind token.kind k.COLON2
+goes_on (token ∷ tokens) = if is_trivia token.kind then goes_on tokens else is_double_colon token tokens
 
 -- whether one of these tokens is a `self` that isn't followed, trivia aside, by `::`
 abbrev pub names_self : List Token → Bool

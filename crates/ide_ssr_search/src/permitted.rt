@@ -1,11 +1,11 @@
 //! At which nodes a rule is tried.
-ghost use Rattle.std.specs.Prelude.{◌≡◌, ◌+◌, ◌<◌, ◌≤◌, ◌↔◌, ◌&&◌, ◌||◌, not, IsTrue, Some, [], ◌∷◌, map, option_map};
+ghost use Rattle.std.specs.Prelude.{◌≡◌, ◌+◌, ◌<◌, ◌≤◌, ◌↔◌, ◌&&◌, ◌||◌, not, IsTrue, Some, [], ◌∷◌, drop, map, option_map};
 ghost use Rattle.ssr_syntax_kinds.specs.Kinds.{same_kind, is_trivia};
 ghost use Rattle.ssr_syntax_tree.specs.Syntax.{tokens_of};
-ghost use Rattle.ssr_syntax_tree.specs.Places.{HasNode, HasElement, node_of, part_of, parts_of, size_of};
+ghost use Rattle.ssr_syntax_tree.specs.Places.{HasNode, HasToken, HasElement, node_of, token_of, part_of, parts_of, size_of};
 ghost use Rattle.ssr_base.specs.Workspace.{trees, tree_of, file_span_of};
 ghost use Rattle.ssr_base.specs.Laws.{LiesIn};
-ghost use Rattle.ide_ssr_search.specs.Permitted.{IsSearched, first_token_tree, arguments_range, names_self};
+ghost use Rattle.ide_ssr_search.specs.Permitted.{IsSearched, begins_with, first_token_tree, arguments_range, is_double_colon, names_self};
 ghost use Rattle.ide_ssr_search.specs.Private.Shut.{Shuts};
 
 use ssr_base::{FileRange, NodeId, Workspace};
@@ -93,11 +93,31 @@ pub(crate) fn is_searched(restrictions: &[FileRange], range: FileRange) -> bool
     false
 }
 
-/// Whether a token comes behind a `self`, trivia aside, and isn't `::`.
-fn ends_self(begun: bool, kind: SyntaxKind) -> bool
-    ensures { result ≡ (begun && (not (is_trivia kind) && not (same_kind kind SyntaxKind.COLON2))) }
+/// Whether `:` stands directly behind a token.
+fn colon_follows(tree: &Tree, token: TokenNo) -> bool
+    requires { HasToken tree.now token.0 }
+    ensures { result ≡ begins_with SyntaxKind.COLON (drop (token.0 + 1) (tokens_of tree.now)) }
 {
-    begun && !kind.is_trivia() && !kind.is(SyntaxKind::COLON2)
+    let count = tree.token_count();
+    let next = token.0 + 1;
+    next < count && tree.token_kind(TokenNo(next)).is(SyntaxKind::COLON)
+}
+
+/// Whether `::` begins at a token: in token trees it is two tokens, one directly behind the other.
+fn is_double_colon(tree: &Tree, token: TokenNo) -> bool
+    requires { HasToken tree.now token.0 }
+    ensures { result ≡ is_double_colon (token_of tree.now token.0) (drop (token.0 + 1) (tokens_of tree.now)) }
+{
+    let kind = tree.token_kind(token);
+    kind.is(SyntaxKind::COLON2) || kind.is(SyntaxKind::COLON) && colon_follows(tree, token)
+}
+
+/// Whether a token comes behind a `self`, trivia aside, and isn't `::`.
+fn ends_self(tree: &Tree, begun: bool, token: TokenNo) -> bool
+    requires { HasToken tree.now token.0 }
+    ensures { result ≡ (begun && (not (is_trivia (token_of tree.now token.0).kind) && not (is_double_colon (token_of tree.now token.0) (drop (token.0 + 1) (tokens_of tree.now))))) }
+{
+    begun && !tree.token_kind(token).is_trivia() && !is_double_colon(tree, token)
 }
 
 /// Whether a `self` is followed by trivia alone, once a token has come.
@@ -114,11 +134,11 @@ pub(crate) fn names_self(tree: &Tree) -> bool
     // Whether a `self` has come that trivia alone have followed so far.
     let mut begun = false;
     for number in 0..tree.token_count() {
-        let kind = tree.token_kind(TokenNo(number));
-        if ends_self(begun, kind) {
+        let token = TokenNo(number);
+        if ends_self(tree, begun, token) {
             return true;
         }
-        begun = stays_begun(begun, kind);
+        begun = stays_begun(begun, tree.token_kind(token));
     }
     begun
 }
