@@ -1,5 +1,5 @@
 -- What the root of a rule's pattern asks of a node has each node that matches.
-use Rattle.std.proofs.Common.{◌≡◌, ℕ, ◌≤◌, Bool, true, false, ◌||◌, ◌&&◌, not, List, [], ◌∷◌, Option, Some, None, refl, sym, ap, ◌∙◌, subst, inl, inr, get_or, length}
+use Rattle.std.proofs.Common.{◌≡◌, ℕ, ◌≤◌, Bool, true, false, ◌||◌, ◌&&◌, not, List, [], ◌∷◌, Option, Some, None, refl, sym, ap, ◌∙◌, subst, inl, inr, ◌⊎◌, get_or, length}
 use Rattle.std.specs.Prelude.{if◌then◌else◌, is_some, slice_get, slice_index_or, slice_set}
 use Rattle.std.proofs.lemmas.Grind.{get_or-set_at}
 use Rattle.std.proofs.lemmas.List.{get_or_past, get_or-set_other}
@@ -15,10 +15,12 @@ use Rattle.ssr_syntax_tree.specs.Places.{Node, Part, token_part, node_part, part
 use Rattle.ssr_base.specs.Meanings.{Meanings}
 use Rattle.ssr_base.specs.Workspace.{Workspace, trees, node_id}
 use Rattle.ide_ssr_resolving.specs.Resolved.{ResolvedKind}
+use Rattle.ide_ssr_resolving.specs.declared.qualified_calls.QualifiedCall.{QualifiedCall}
 use Rattle.ide_ssr_resolving.specs.Placeholders.{placeholder_at}
 use Rattle.ide_ssr_found.specs.declared.bindings.Binding.{Binding}
 use Rattle.ide_ssr_matching.specs.Children.{closes, is_left_out, bare}
-use Rattle.ide_ssr_matching.specs.Matching.{Matches, bound, used, alike, Pairs, end, tokens, nodes}
+use Rattle.ide_ssr_matching.specs.Calls.{call_of}
+use Rattle.ide_ssr_matching.specs.Matching.{Matches, bound, method, used, alike, Pairs, end, tokens, nodes}
 use Rattle.ide_ssr_matching.specs.UsedPaths.{pattern_res}
 use Rattle.ide_ssr_search.specs.declared.roots.Root.{Root}
 use Rattle.ide_ssr_search.specs.declared.roots.Root.TheVariants as roots
@@ -129,30 +131,49 @@ paired_token m tree rule _ _ _ kind (nodes p c ps cs bs rest here behind) has = 
 pub root_of_placeholder : (rule : ResolvedKind) → IsRootOf rule roots.Placeholder
 root_of_placeholder rule m tree c bindings matches = refl
 
-matched_kind : (m : Meanings) (tree : ℕ) (rule : ResolvedKind) (p c : Node) (bs : List Binding) → placeholder_at rule.names p ≡ None → Matches m tree rule p c bs → p.kind ≡ c.kind
+matched_kind : (m : Meanings) (tree : ℕ) (rule : ResolvedKind) (p c : Node) (bs : List Binding) → placeholder_at rule.names p ≡ None → Matches m tree rule p c bs
+    → (p.kind ≡ c.kind) ⊎ ((call : QualifiedCall) × (call_of rule p ≡ Some call) × (c.kind ≡ k.METHOD_CALL_EXPR))
 matched_kind m tree rule _ _ _ none (bound p c i is met) = absurd (none-some i (sym none ∙ is))
-matched_kind m tree rule _ _ _ none (used p c r bs other same stands told arguments) = same
-matched_kind m tree rule _ _ _ none (alike p c bs other same unused children) = same
+matched_kind m tree rule _ _ _ none (method p c call sides bs other is kind sides_are pairs) = inr (call, is, kind)
+matched_kind m tree rule _ _ _ none (used p c r bs other unmet same stands told arguments) = inl same
+matched_kind m tree rule _ _ _ none (alike p c bs other unmet same unused can children) = inl same
 
-matched_alike : (m : Meanings) (tree : ℕ) (rule : ResolvedKind) (p c : Node) (bs : List Binding) → placeholder_at rule.names p ≡ None → pattern_res rule p ≡ None
-    → Matches m tree rule p c bs → Pairs m tree rule (bare (parts_of p)) (bare (parts_of c)) bs
-matched_alike m tree rule _ _ _ none unused (bound p c i is met) = absurd (none-some i (sym none ∙ is))
-matched_alike m tree rule _ _ _ none unused (used p c r bs other same stands told arguments) = absurd (none-some r (sym unused ∙ stands))
-matched_alike m tree rule _ _ _ none unused (alike p c bs other same again children) = children
+own_kind : (m : Meanings) (tree : ℕ) (rule : ResolvedKind) (p c : Node) (bs : List Binding) → placeholder_at rule.names p ≡ None → call_of rule p ≡ None
+    → Matches m tree rule p c bs → p.kind ≡ c.kind
+own_kind m tree rule p c bs none no_call matches = elim (matched_kind m tree rule p c bs none matches) [
+  | inl same ↦ same
+  | inr called ↦ absurd (none-some called.0 (sym no_call ∙ called.1))
+]
+
+matched_alike : (m : Meanings) (tree : ℕ) (rule : ResolvedKind) (p c : Node) (bs : List Binding) → placeholder_at rule.names p ≡ None → call_of rule p ≡ None
+    → pattern_res rule p ≡ None → Matches m tree rule p c bs → Pairs m tree rule (bare (parts_of p)) (bare (parts_of c)) bs
+matched_alike m tree rule _ _ _ none no_call unused (bound p c i is met) = absurd (none-some i (sym none ∙ is))
+matched_alike m tree rule _ _ _ none no_call unused (method p c call sides bs other is kind sides_are pairs) = absurd (none-some call (sym no_call ∙ is))
+matched_alike m tree rule _ _ _ none no_call unused (used p c r bs other unmet same stands told arguments) = absurd (none-some r (sym unused ∙ stands))
+matched_alike m tree rule _ _ _ none no_call unused (alike p c bs other unmet same again can children) = children
+
+-- a root that is a qualified call asks for its kind, or for a method call
+pub root_of_call : (rule : ResolvedKind) (kind : SyntaxKind) → placeholder_at rule.names (root_of rule.pattern) ≡ None → kind ≡ (root_of rule.pattern).kind
+    → IsRootOf rule (roots.Call kind)
+root_of_call rule kind none kind_is m tree c bindings matches =
+    elim (matched_kind m tree rule (root_of rule.pattern) c bindings none matches) [
+      | inl same ↦ or_left (same_kind c.kind kind) (same_kind c.kind k.METHOD_CALL_EXPR) (equal-same_kind c.kind kind (sym same ∙ sym kind_is))
+      | inr called ↦ or_right (same_kind c.kind kind) (same_kind c.kind k.METHOD_CALL_EXPR) (equal-same_kind c.kind k.METHOD_CALL_EXPR called.2)
+    ]
 
 -- a root that is a used path asks for its kind alone
-pub root_of_path : (rule : ResolvedKind) (kind : SyntaxKind) → placeholder_at rule.names (root_of rule.pattern) ≡ None → kind ≡ (root_of rule.pattern).kind
-    → IsRootOf rule (roots.Node kind None)
-root_of_path rule kind none kind_is m tree c bindings matches =
-    and_from _ _ (equal-same_kind c.kind kind (sym (matched_kind m tree rule (root_of rule.pattern) c bindings none matches) ∙ sym kind_is)) refl
+pub root_of_path : (rule : ResolvedKind) (kind : SyntaxKind) → placeholder_at rule.names (root_of rule.pattern) ≡ None → call_of rule (root_of rule.pattern) ≡ None
+    → kind ≡ (root_of rule.pattern).kind → IsRootOf rule (roots.Node kind None)
+root_of_path rule kind none no_call kind_is m tree c bindings matches =
+    and_from _ _ (equal-same_kind c.kind kind (sym (own_kind m tree rule (root_of rule.pattern) c bindings none no_call matches) ∙ sym kind_is)) refl
 
 pub root_of_node : (rule : ResolvedKind) (kind : SyntaxKind) (token : Option SyntaxKind) → placeholder_at rule.names (root_of rule.pattern) ≡ None
-    → pattern_res rule (root_of rule.pattern) ≡ None → kind ≡ (root_of rule.pattern).kind → token ≡ first_counted (parts_of (root_of rule.pattern))
+    → call_of rule (root_of rule.pattern) ≡ None → pattern_res rule (root_of rule.pattern) ≡ None → kind ≡ (root_of rule.pattern).kind → token ≡ first_counted (parts_of (root_of rule.pattern))
     → IsRootOf rule (roots.Node kind token)
-root_of_node rule kind token none unused kind_is token_is m tree c bindings matches =
+root_of_node rule kind token none no_call unused kind_is token_is m tree c bindings matches =
     let p = root_of rule.pattern in
-    and_from _ _ (equal-same_kind c.kind kind (sym (matched_kind m tree rule p c bindings none matches) ∙ sym kind_is))
-    (by_token token (sym token_is) (matched_alike m tree rule p c bindings none unused matches))
+    and_from _ _ (equal-same_kind c.kind kind (sym (own_kind m tree rule p c bindings none no_call matches) ∙ sym kind_is))
+    (by_token token (sym token_is) (matched_alike m tree rule p c bindings none no_call unused matches))
   where
     by_token : (o : Option SyntaxKind) → first_counted (parts_of (root_of rule.pattern)) ≡ o
         → Pairs m tree rule (bare (parts_of (root_of rule.pattern))) (bare (parts_of c)) bindings → option_map_or (λ kind. has_token_of kind (parts_of c)) o true ≡ true
@@ -171,6 +192,13 @@ not_some (Some x) is = let e : true ≡ false = is in cc
 
 pub asked_kind : (root : Root) (kind : SyntaxKind) (token : Option SyntaxKind) (c : Node) → root ≡ roots.Node kind token → has_asked root c ≡ true → c.kind ≡ kind
 asked_kind root kind token c is asked = same_kind-equal c.kind kind (and_parts _ _ (subst (λ r. has_asked r c ≡ true) is asked)).0
+
+pub asked_call : (root : Root) (kind : SyntaxKind) (c : Node) → root ≡ roots.Call kind → has_asked root c ≡ true → (c.kind ≡ kind) ⊎ (c.kind ≡ k.METHOD_CALL_EXPR)
+asked_call root kind c is asked = by (same_kind c.kind kind) refl (subst (λ r. has_asked r c ≡ true) is asked)
+  where
+    by : (b : Bool) → same_kind c.kind kind ≡ b → (b || same_kind c.kind k.METHOD_CALL_EXPR) ≡ true → (c.kind ≡ kind) ⊎ (c.kind ≡ k.METHOD_CALL_EXPR)
+    by true same either = inl (same_kind-equal c.kind kind same)
+    by false same either = inr (same_kind-equal c.kind k.METHOD_CALL_EXPR either)
 
 -- ** Sets of kinds.
 

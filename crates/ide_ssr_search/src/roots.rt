@@ -15,6 +15,8 @@ use std::alloc::{AllocError, Global};
 pub(crate) enum Root {
     /// A placeholder asks for nothing.
     Placeholder,
+    /// A qualified call asks for its kind, or for a method call.
+    Call(SyntaxKind),
     /// Any other node asks for its kind, and for a token directly below of the kind of its own first one that counts for each
     /// match, if it has such a token. Of a used path none counts.
     Node(SyntaxKind, Option<SyntaxKind>),
@@ -95,6 +97,9 @@ impl Root {
         }
         let pattern = rule.pattern();
         let kind = pattern.kind(root);
+        if rule.qualified_call(root).is_some() {
+            return Root::Call(kind);
+        }
         if rule.pattern_res(root).is_some() {
             return Root::Node(kind, None);
         }
@@ -108,6 +113,10 @@ impl Root {
     {
         match self {
             Root::Placeholder => true,
+            Root::Call(kind) => {
+                let own = tree.kind(node);
+                own.is(kind) || own.is(SyntaxKind::METHOD_CALL_EXPR)
+            }
             Root::Node(kind, token) => {
                 tree.kind(node).is(kind) && has_token_if(tree, token, node)
             }
@@ -153,6 +162,10 @@ impl KindSet {
     {
         match root {
             Root::Placeholder => self.every = true,
+            Root::Call(kind) => {
+                self.add(kind);
+                self.add(SyntaxKind::METHOD_CALL_EXPR);
+            }
             Root::Node(kind, _) => self.add(kind),
         }
     }

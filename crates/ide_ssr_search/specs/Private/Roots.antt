@@ -39,6 +39,7 @@ has_token_of kind (node_part node ∷ rest) = has_token_of kind rest
 -- whether a node has what a root asks for
 abbrev pub has_asked : Root → Node → Bool
 has_asked roots.Placeholder c = true
+has_asked (roots.Call kind) c = same_kind c.kind kind || same_kind c.kind k.METHOD_CALL_EXPR
 has_asked (roots.Node kind token) c = same_kind c.kind kind && option_map_or (λ token. has_token_of token (parts_of c)) token true
 
 -- each node of a tree that matches the rule's pattern has it, whatever names mean
