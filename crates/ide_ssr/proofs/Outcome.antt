@@ -42,7 +42,7 @@ found_of_rule w meanings context rules m each in_arguments found =
       is_rule = found.is_rule;
       numbered =
           bound_at meanings m.node.tree rule known (planted (trees w) m.node.tree) m.node.node.0 m.bindings found.whole.matches
-          ∙ has.nodes;
+          ∙ has.bound;
       different = has.different;
     }
 
