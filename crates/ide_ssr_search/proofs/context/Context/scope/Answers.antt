@@ -1,0 +1,5 @@
+use Rattle.std.proofs.Common.{rules}
+use Rattle.ide_ssr_search.proofs.context.Context.scope.Goals as goal
+
+pub returns : goal.returns
+returns c = search rules
