@@ -24,7 +24,7 @@ use Rattle.ide_ssr_token_trees.specs.Bindings.{tree_bindings}
 use Rattle.ide_ssr_token_trees.proofs.Shared.{tree_bindings-TreesMatch, TreesMatch-tree_bindings}
 use Rattle.ide_ssr_matching.specs.TokenTrees.{is_tree, token_placeholder, is_plain, is_by_parts}
 use Rattle.ide_ssr_matching.specs.UsedPaths.{arguments_of, pattern_res, code_res}
-use Rattle.ide_ssr_matching.specs.Matching.{Matches, bound, trees, method, used, alike, Pairs, end, tokens, nodes}
+use Rattle.ide_ssr_matching.specs.Matching.{Matches, bound, token_trees, method, used, alike, Pairs, end, tokens, nodes}
 use Rattle.ide_ssr_token_trees.specs.Bindings.{joined}
 use Rattle.ide_ssr_matching.specs.Bindings.{pairs_by, placeholder_by, counted_sides, can_match, like_sides, sides_in, sides_of, sides_by, bindings_of}
 use Rattle.ide_ssr_matching.specs.Calls.{call_of, meets_method, method_sides}
@@ -164,7 +164,7 @@ module _ (ms : Meanings) (tree : ℕ) (rule : ResolvedKind) where
 
       by_tree : (b : Bool) → is_tree c ≡ b → placeholder_at rule.names p ≡ None → is_tree p ≡ true
           → (if b then tree_bindings (token_placeholder rule) p c else None) ≡ Some bs → Matches ms tree rule p c bs
-      by_tree true code_is none is binds = trees p c bs none is code_is (tree_bindings-TreesMatch (token_placeholder rule) p c bs binds)
+      by_tree true code_is none is binds = token_trees p c bs none is code_is (tree_bindings-TreesMatch (token_placeholder rule) p c bs binds)
       by_tree false code_is none is binds = absurd (none-some bs binds)
 
       by_kind : (tree_node plain : Bool) → is_tree p ≡ tree_node → is_plain rule p ≡ plain → placeholder_at rule.names p ≡ None → Matches ms tree rule p c bs
@@ -222,7 +222,7 @@ module _ (ms : Meanings) (tree : ℕ) (rule : ResolvedKind) where
   mutual
     pub Matches-bindings_of : (p c : Node) (bs : List Binding) → Matches ms tree rule p c bs → bindings_of ms tree rule p c ≡ Some bs
     Matches-bindings_of _ _ _ (bound p c i is met) = bindings-placeholder ms tree rule p c i is ∙ placeholder-met rule i c met
-    Matches-bindings_of _ _ _ (trees p c bs none is code_is found) =
+    Matches-bindings_of _ _ _ (token_trees p c bs none is code_is found) =
         bindings-trees ms tree rule p c none is
         ∙ ap (λ b. if b then tree_bindings (token_placeholder rule) p c else None) code_is
         ∙ TreesMatch-tree_bindings (token_placeholder rule) p c bs found

@@ -32,7 +32,7 @@ use Rattle.ide_ssr_matching.specs.UsedPaths.{from_arguments, arguments_of, patte
 use Rattle.ide_ssr_token_trees.specs.Placeholders.{placeholders_from}
 use Rattle.ide_ssr_token_trees.proofs.Shared.{trees_bound}
 use Rattle.ide_ssr_matching.specs.TokenTrees.{is_tree, token_placeholder, has_token_placeholder, is_by_parts}
-use Rattle.ide_ssr_matching.specs.Matching.{Matches, bound, trees, method, used, alike, Pairs, end, tokens, nodes}
+use Rattle.ide_ssr_matching.specs.Matching.{Matches, bound, token_trees, method, used, alike, Pairs, end, tokens, nodes}
 use Rattle.ide_ssr_matching.specs.Bindings.{counted}
 use Rattle.ide_ssr_matching.specs.declared.receivers.Receiver.{Receiver}
 use Rattle.ide_ssr_matching.specs.Sides.{Sides, is_node, received, kept}
@@ -337,7 +337,7 @@ module _ (m : Meanings) (tree : ℕ) (rule : ResolvedKind) (in_arguments : AreIn
   mutual
     matches_bind : (p c : Node) (bs : List Binding) → Matches m tree rule p c bs → IsOf rule.pattern p → placeholders_bound bs ≡ at_node rule.names p
     matches_bind _ _ _ (bound p c i at met) is = at_placeholder rule.names p i at
-    matches_bind _ _ _ (trees p c bs none tree_node code_tree found) is =
+    matches_bind _ _ _ (token_trees p c bs none tree_node code_tree found) is =
         trees_bound (token_placeholder rule) p c bs found
         ∙ among_trees p is
         ∙ ap (λ b. if b then placeholders_among rule.names (tokens_in p.children)

@@ -21,7 +21,7 @@ use Rattle.ide_ssr_matching.specs.TokenTrees.{token_placeholder}
 use Rattle.ide_ssr_matching.specs.UsedPaths.{arguments_of}
 use Rattle.ide_ssr_matching.specs.declared.receivers.Receiver.{Receiver}
 use Rattle.ide_ssr_matching.specs.Sides.{is_node, received, kept}
-use Rattle.ide_ssr_matching.specs.Matching.{Matches, bound, trees, method, used, alike, Pairs, end, tokens, nodes}
+use Rattle.ide_ssr_matching.specs.Matching.{Matches, bound, token_trees, method, used, alike, Pairs, end, tokens, nodes}
 use Rattle.ide_ssr_matching.proofs.CallNodes.{method_sides_are}
 use Rattle.ide_ssr_matching.proofs.Spread.{RunsApart, narrower, wider, IsPartOf, IsAmongNode, PartsApart, counted_are}
 
@@ -121,7 +121,7 @@ module _ (code : Syntax) where
     mutual
       matches_held : (p c : Node) (bs : List Binding) → Matches m tree rule p c bs → IsOf code c → AreHeld c bs
       matches_held _ _ _ (bound p c i at met) is = itself c i is
-      matches_held _ _ _ (trees p c bs none tree_node code_tree found) is =
+      matches_held _ _ _ (token_trees p c bs none tree_node code_tree found) is =
           let there = subst (λ node. TreesMatch (token_placeholder rule) p node bs) (sym is.1) found in
           let at = token_placeholder rule in
           record {

@@ -27,7 +27,7 @@ mutual
   pub data Matches (m : Meanings) (tree : ℕ) (rule : ResolvedKind) : Node → Node → List Binding → Type 0 where
     bound : (p c : Node) (i : ℕ) → placeholder_at rule.names p ≡ Some i → meets rule i c.kind ≡ true
         → Matches m tree rule p c (node_binding i c.number ∷ [])
-    trees : (p c : Node) (bs : List Binding) → placeholder_at rule.names p ≡ None → is_tree p ≡ true → is_tree c ≡ true
+    token_trees : (p c : Node) (bs : List Binding) → placeholder_at rule.names p ≡ None → is_tree p ≡ true → is_tree c ≡ true
         → TreesMatch (token_placeholder rule) p c bs → Matches m tree rule p c bs
     method : (p c : Node) (call : QualifiedCall) (sides : Sides) (bs : List Binding) → is_by_parts rule p ≡ true
         → call_of rule p ≡ Some call → c.kind ≡ k.METHOD_CALL_EXPR → method_sides m tree rule call p c ≡ Some sides

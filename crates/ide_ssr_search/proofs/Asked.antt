@@ -20,7 +20,7 @@ use Rattle.ide_ssr_resolving.specs.Placeholders.{placeholder_at}
 use Rattle.ide_ssr_found.specs.declared.bindings.Binding.{Binding}
 use Rattle.ide_ssr_matching.specs.Children.{closes, is_left_out, bare}
 use Rattle.ide_ssr_matching.specs.Calls.{call_of}
-use Rattle.ide_ssr_matching.specs.Matching.{Matches, bound, method, used, alike, Pairs, end, tokens, nodes}
+use Rattle.ide_ssr_matching.specs.Matching.{Matches, bound, token_trees, method, used, alike, Pairs, end, tokens, nodes}
 use Rattle.ide_ssr_matching.specs.UsedPaths.{pattern_res}
 use Rattle.ide_ssr_search.specs.declared.roots.Root.{Root}
 use Rattle.ide_ssr_search.specs.declared.roots.Root.TheVariants as roots
@@ -29,7 +29,7 @@ use Rattle.ssr_base.specs.Built.{IsMacroCall}
 use Rattle.ide_ssr_search.specs.WholeMatches.{IsWholeMatch}
 use Rattle.ide_ssr_search.specs.Private.Shut.{Shuts}
 use Rattle.ide_ssr_found.proofs.Shared.{IsTree, in_tree}
-use Rattle.ide_ssr_search.specs.Private.Roots.{counts, first_counted, has_token_of, has_asked, has_kind, IsRootOf, AreRules}
+use Rattle.ide_ssr_search.specs.Private.Roots.{counts, first_counted, has_token_of, pairs_otherwise, has_asked, has_kind, IsRootOf, AreRules}
 
 -- ** Sibling by sibling.
 
@@ -134,6 +134,8 @@ root_of_placeholder rule m tree c bindings matches = refl
 matched_kind : (m : Meanings) (tree : ℕ) (rule : ResolvedKind) (p c : Node) (bs : List Binding) → placeholder_at rule.names p ≡ None → Matches m tree rule p c bs
     → (p.kind ≡ c.kind) ⊎ ((call : QualifiedCall) × (call_of rule p ≡ Some call) × (c.kind ≡ k.METHOD_CALL_EXPR))
 matched_kind m tree rule _ _ _ none (bound p c i is met) = absurd (none-some i (sym none ∙ is))
+matched_kind m tree rule _ _ _ none (token_trees p c bs other p_tree c_tree found) =
+    inl (same_kind-equal p.kind k.TOKEN_TREE p_tree ∙ sym (same_kind-equal c.kind k.TOKEN_TREE c_tree))
 matched_kind m tree rule _ _ _ none (method p c call sides bs other is kind sides_are pairs) = inr (call, is, kind)
 matched_kind m tree rule _ _ _ none (used p c r bs other unmet same stands told arguments) = inl same
 matched_kind m tree rule _ _ _ none (alike p c bs other unmet same unused can children) = inl same
@@ -146,11 +148,12 @@ own_kind m tree rule p c bs none no_call matches = elim (matched_kind m tree rul
 ]
 
 matched_alike : (m : Meanings) (tree : ℕ) (rule : ResolvedKind) (p c : Node) (bs : List Binding) → placeholder_at rule.names p ≡ None → call_of rule p ≡ None
-    → pattern_res rule p ≡ None → Matches m tree rule p c bs → Pairs m tree rule (bare (parts_of p)) (bare (parts_of c)) bs
-matched_alike m tree rule _ _ _ none no_call unused (bound p c i is met) = absurd (none-some i (sym none ∙ is))
-matched_alike m tree rule _ _ _ none no_call unused (method p c call sides bs other is kind sides_are pairs) = absurd (none-some call (sym no_call ∙ is))
-matched_alike m tree rule _ _ _ none no_call unused (used p c r bs other unmet same stands told arguments) = absurd (none-some r (sym unused ∙ stands))
-matched_alike m tree rule _ _ _ none no_call unused (alike p c bs other unmet same again can children) = children
+    → pattern_res rule p ≡ None → pairs_otherwise p.kind ≡ false → Matches m tree rule p c bs → Pairs m tree rule (bare (parts_of p)) (bare (parts_of c)) bs
+matched_alike m tree rule _ _ _ none no_call unused by_children (bound p c i is met) = absurd (none-some i (sym none ∙ is))
+matched_alike m tree rule _ _ _ none no_call unused by_children (token_trees p c bs other p_tree c_tree found) = let e : true ≡ false = sym p_tree ∙ by_children in cc
+matched_alike m tree rule _ _ _ none no_call unused by_children (method p c call sides bs other is kind sides_are pairs) = absurd (none-some call (sym no_call ∙ is))
+matched_alike m tree rule _ _ _ none no_call unused by_children (used p c r bs other unmet same stands told arguments) = absurd (none-some r (sym unused ∙ stands))
+matched_alike m tree rule _ _ _ none no_call unused by_children (alike p c bs other unmet same again can children) = children
 
 -- a root that is a qualified call asks for its kind, or for a method call
 pub root_of_call : (rule : ResolvedKind) (kind : SyntaxKind) → placeholder_at rule.names (root_of rule.pattern) ≡ None → kind ≡ (root_of rule.pattern).kind
@@ -168,12 +171,13 @@ root_of_path rule kind none no_call kind_is m tree c bindings matches =
     and_from _ _ (equal-same_kind c.kind kind (sym (own_kind m tree rule (root_of rule.pattern) c bindings none no_call matches) ∙ sym kind_is)) refl
 
 pub root_of_node : (rule : ResolvedKind) (kind : SyntaxKind) (token : Option SyntaxKind) → placeholder_at rule.names (root_of rule.pattern) ≡ None
-    → call_of rule (root_of rule.pattern) ≡ None → pattern_res rule (root_of rule.pattern) ≡ None → kind ≡ (root_of rule.pattern).kind → token ≡ first_counted (parts_of (root_of rule.pattern))
+    → call_of rule (root_of rule.pattern) ≡ None → pattern_res rule (root_of rule.pattern) ≡ None → pairs_otherwise kind ≡ false
+    → kind ≡ (root_of rule.pattern).kind → token ≡ first_counted (parts_of (root_of rule.pattern))
     → IsRootOf rule (roots.Node kind token)
-root_of_node rule kind token none no_call unused kind_is token_is m tree c bindings matches =
+root_of_node rule kind token none no_call unused by_children kind_is token_is m tree c bindings matches =
     let p = root_of rule.pattern in
     and_from _ _ (equal-same_kind c.kind kind (sym (own_kind m tree rule p c bindings none no_call matches) ∙ sym kind_is))
-    (by_token token (sym token_is) (matched_alike m tree rule p c bindings none no_call unused matches))
+    (by_token token (sym token_is) (matched_alike m tree rule p c bindings none no_call unused (ap pairs_otherwise (sym kind_is) ∙ by_children) matches))
   where
     by_token : (o : Option SyntaxKind) → first_counted (parts_of (root_of rule.pattern)) ≡ o
         → Pairs m tree rule (bare (parts_of (root_of rule.pattern))) (bare (parts_of c)) bindings → option_map_or (λ kind. has_token_of kind (parts_of c)) o true ≡ true

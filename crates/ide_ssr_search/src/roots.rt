@@ -3,7 +3,7 @@ ghost use Rattle.std.specs.Prelude.{◌≡◌, ◌&&◌, ◌∷◌, [], not, tru
 ghost use Rattle.std.specs.Option.{option_map_or};
 ghost use Rattle.ssr_syntax_kinds.specs.declared.kinds.SyntaxKind.{SyntaxKind as Kind};
 ghost use Rattle.ssr_syntax_tree.specs.Places.{Node, HasNode, HasElement, node_of, root_of, part_of, parts_of};
-ghost use Rattle.ide_ssr_search.specs.Private.Roots.{first_counted, has_token_of, has_asked, has_kind, IsRootOf, AreRules};
+ghost use Rattle.ide_ssr_search.specs.Private.Roots.{first_counted, has_token_of, pairs_otherwise, has_asked, has_kind, IsRootOf, AreRules};
 
 use ide_ssr_resolving::ResolvedRule;
 use ssr_syntax_kinds::SyntaxKind;
@@ -18,7 +18,7 @@ pub(crate) enum Root {
     /// A qualified call asks for its kind, or for a method call.
     Call(SyntaxKind),
     /// Any other node asks for its kind, and for a token directly below of the kind of its own first one that counts for each
-    /// match, if it has such a token. Of a used path none counts.
+    /// match, if it has such a token. Of a used path and of a node that matches by other things than its children none counts.
     Node(SyntaxKind, Option<SyntaxKind>),
 }
 
@@ -86,6 +86,13 @@ fn has_token_if(tree: &Tree, kind: Option<SyntaxKind>, node: NodeNo) -> bool
     }
 }
 
+/// Whether nodes of a kind match by other things than their children, one by one.
+fn pairs_otherwise(kind: SyntaxKind) -> bool
+    ensures { result ≡ pairs_otherwise kind }
+{
+    kind.is(SyntaxKind::TOKEN_TREE)
+}
+
 impl Root {
     /// What the root of a rule's pattern asks.
     fn of(rule: &ResolvedRule) -> Root
@@ -100,7 +107,7 @@ impl Root {
         if rule.qualified_call(root).is_some() {
             return Root::Call(kind);
         }
-        if rule.pattern_res(root).is_some() {
+        if rule.pattern_res(root).is_some() || pairs_otherwise(kind) {
             return Root::Node(kind, None);
         }
         Root::Node(kind, first_counted(pattern, root))

@@ -36,6 +36,10 @@ has_token_of kind (node_part node ∷ rest) = has_token_of kind rest
 
 -- ** What is asked.
 
+-- whether nodes of a kind match by other things than their children, one by one: token trees by their tokens
+abbrev pub pairs_otherwise : SyntaxKind → Bool
+pairs_otherwise kind = same_kind kind k.TOKEN_TREE
+
 -- whether a node has what a root asks for
 abbrev pub has_asked : Root → Node → Bool
 has_asked roots.Placeholder c = true

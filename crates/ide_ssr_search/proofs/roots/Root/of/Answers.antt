@@ -40,5 +40,6 @@ returns c =
     (no_placeholder rule c.placeholder.result c.placeholder.ensures (sym c.is_some.ensures ∙ c.if-is_some.false))
     (sym c.qualified_call.ensures ∙ not_some c.qualified_call.result (sym c.is_some-2.ensures ∙ c.if-is_some-2.false))
     (sym c.pattern_res.ensures ∙ not_some c.pattern_res.result (sym c.is_some-3.ensures ∙ c.if-is_some-3.false))
+    (sym c.pairs_otherwise.ensures ∙ c.if-pairs_otherwise.false)
     (c.kind-kind.ensures ∙ of_root (λ p. p.kind) _ rule.pattern c.pattern-pattern.ensures)
     (c.first_counted.ensures ∙ of_root (λ p. first_counted (parts_of p)) _ rule.pattern c.pattern-pattern.ensures)
