@@ -1,5 +1,5 @@
 -- The relation and the function of matching agree.
-use Rattle.std.proofs.Common.{◌≡◌, ℕ, zero, suc, ◌<◌, ◌≤◌, Bool, true, false, ◌&&◌, cond, List, [], ◌∷◌, ◌++◌, All, Option, Some, None, refl, sym, ◌∙◌, ap, subst, arith}
+use Rattle.std.proofs.Common.{◌≡◌, ℕ, zero, suc, ◌<◌, ◌≤◌, Bool, true, false, ◌&&◌, cond, List, [], ◌∷◌, ◌++◌, map, All, Option, Some, None, refl, sym, ◌∙◌, ap, subst, arith}
 use Rattle.std.specs.Option.{is_some, option_map}
 use Rattle.std.specs.Prelude.{if◌then◌else◌}
 use Rattle.std.specs.Str.{bytes_eq}
@@ -24,10 +24,11 @@ use Rattle.ide_ssr_token_trees.specs.Bindings.{tree_bindings}
 use Rattle.ide_ssr_token_trees.proofs.Shared.{tree_bindings-TreesMatch, TreesMatch-tree_bindings}
 use Rattle.ide_ssr_matching.specs.TokenTrees.{is_tree, token_placeholder, is_plain, is_by_parts}
 use Rattle.ide_ssr_matching.specs.UsedPaths.{arguments_of, pattern_res, code_res}
-use Rattle.ide_ssr_matching.specs.Matching.{Matches, bound, token_trees, method, used, alike, Pairs, end, tokens, nodes}
+use Rattle.ide_ssr_matching.specs.Matching.{Matches, bound, token_trees, method, used, alike, Pairs, end, tokens, nodes, named}
 use Rattle.ide_ssr_token_trees.specs.Bindings.{joined}
-use Rattle.ide_ssr_matching.specs.Bindings.{pairs_by, placeholder_by, counted_sides, can_match, like_sides, sides_in, sides_of, sides_by, bindings_of}
-use Rattle.ide_ssr_matching.specs.Calls.{call_of, meets_method, method_sides}
+use Rattle.ide_ssr_matching.specs.Bindings.{pairs_by, placeholder_by, counted_sides, can_match, like_sides, sides_in, sides_of, sides_by, bindings_of, like_pairs}
+use Rattle.ide_ssr_matching.specs.Calls.{call_of, meets_method, method_sides, child_nodes}
+use Rattle.ide_ssr_matching.specs.Records.{is_named, named_nodes, named_pairs}
 use Rattle.ide_ssr_matching.specs.Sides.{Sides, kept}
 use Rattle.ide_ssr_matching.proofs.Pairs.{bindings-placeholder, placeholder-met, bindings-trees, bindings-spoiled, bindings-sides, by_parts, like-tested}
 use Rattle.ide_ssr_matching.proofs.Same.{stands_for-told, told-stands_for}
@@ -99,27 +100,43 @@ module _ (ms : Meanings) (tree : ℕ) (rule : ResolvedKind) where
       by false unmet binds = absurd (none-some bs binds)
 
   -- a node of the kind that can match
-  counted_match : (p c : Node) (bs : List Binding) (o : Option Res) → is_by_parts rule p ≡ true → meets_method rule p c ≡ false
-      → p.kind ≡ c.kind → pattern_res rule p ≡ o → can_match ms tree rule o p c ≡ true
-      → Pairs ms tree rule (counted_sides o p c).pattern (counted_sides o p c).code bs
-      → Matches ms tree rule p c bs
-  counted_match p c bs (Some r) none unmet kinds is can pairs =
-      used p c r bs none unmet kinds is (stands_for-told r (code_res ms tree c) can) pairs
-  counted_match p c bs None none unmet kinds is can pairs = alike p c bs none unmet kinds is can pairs
+  pairs_match : (p c : Node) (sides : Sides) (bs : List Binding) (o : Option Res) → is_by_parts rule p ≡ true → meets_method rule p c ≡ false
+      → p.kind ≡ c.kind → pattern_res rule p ≡ o → can_match ms tree rule o p c ≡ true → like_pairs ms tree rule o p c ≡ Some sides
+      → Pairs ms tree rule sides.pattern sides.code bs → Matches ms tree rule p c (kept sides.receiver bs)
+  pairs_match p c sides bs (Some r) none unmet kinds is can same pairs =
+      let equal = same_Some (counted_sides (Some r) p c) sides same in
+      subst (λ (s : Sides). Matches ms tree rule p c (kept s.receiver bs)) equal
+      (used p c r bs none unmet kinds is (stands_for-told r (code_res ms tree c) can)
+      (subst (λ (s : Sides). Pairs ms tree rule s.pattern s.code bs) (sym equal) pairs))
+  pairs_match p c sides bs None none unmet kinds is can same pairs = by (is_named rule.names p c) refl same
+    where
+      by_nodes : (o : Option (List Node)) → named_nodes p c ≡ o → is_named rule.names p c ≡ true → option_map (named_pairs p) o ≡ Some sides
+          → Matches ms tree rule p c (kept sides.receiver bs)
+      by_nodes None found_is by_names same = absurd (none-some sides same)
+      by_nodes (Some found) found_is by_names same =
+          let equal = same_Some (named_pairs p found) sides same in
+          subst (λ (s : Sides). Matches ms tree rule p c (kept s.receiver bs)) equal
+          (named p c found bs none unmet kinds is can by_names found_is
+          (subst (λ (s : Sides). Pairs ms tree rule s.pattern s.code bs) (sym equal) pairs))
+
+      by : (b : Bool) → is_named rule.names p c ≡ b
+          → ◌≡◌ {A = Option Sides} (cond b (option_map (named_pairs p) (named_nodes p c)) (Some (counted_sides None p c))) (Some sides)
+          → Matches ms tree rule p c (kept sides.receiver bs)
+      by true by_names same = by_nodes (named_nodes p c) refl by_names same
+      by false unnamed same =
+          let equal = same_Some (counted_sides None p c) sides same in
+          subst (λ (s : Sides). Matches ms tree rule p c (kept s.receiver bs)) equal
+          (alike p c bs none unmet kinds is can unnamed (subst (λ (s : Sides). Pairs ms tree rule s.pattern s.code bs) (sym equal) pairs))
 
   like_match : (p c : Node) (sides : Sides) (bs : List Binding) → is_by_parts rule p ≡ true → meets_method rule p c ≡ false
       → like_sides ms tree rule p c ≡ Some sides → Pairs ms tree rule sides.pattern sides.code bs → Matches ms tree rule p c (kept sides.receiver bs)
   like_match p c sides bs none unmet is pairs = by (same_kind p.kind c.kind && can_match ms tree rule (pattern_res rule p) p c) refl is
     where
       by : (b : Bool) → (same_kind p.kind c.kind && can_match ms tree rule (pattern_res rule p) p c) ≡ b
-          → ◌≡◌ {A = Option Sides} (cond b (Some (counted_sides (pattern_res rule p) p c)) None) (Some sides)
-          → Matches ms tree rule p c (kept sides.receiver bs)
+          → cond b (like_pairs ms tree rule (pattern_res rule p) p c) None ≡ Some sides → Matches ms tree rule p c (kept sides.receiver bs)
       by true can is =
           let e = and_parts (same_kind p.kind c.kind) (can_match ms tree rule (pattern_res rule p) p c) can in
-          let same = same_Some (counted_sides (pattern_res rule p) p c) sides is in
-          subst (λ (s : Sides). Matches ms tree rule p c (kept s.receiver bs)) same
-          (counted_match p c bs (pattern_res rule p) none unmet (same_kind-equal p.kind c.kind e.0) refl e.1
-          (subst (λ (s : Sides). Pairs ms tree rule s.pattern s.code bs) (sym same) pairs))
+          pairs_match p c sides bs (pattern_res rule p) none unmet (same_kind-equal p.kind c.kind e.0) refl e.1 is pairs
       by false can is = absurd (none-some sides is)
 
   sides_match : (p c : Node) (sides : Sides) (bs : List Binding) → is_by_parts rule p ≡ true → sides_of ms tree rule p c ≡ Some sides
@@ -201,14 +218,15 @@ module _ (ms : Meanings) (tree : ℕ) (rule : ResolvedKind) where
       by (Some call) false other = refl
       by None b other = refl
 
-  counted_computed : (p c : Node) (o : Option Res) → is_by_parts rule p ≡ true → meets_method rule p c ≡ false → p.kind ≡ c.kind
-      → pattern_res rule p ≡ o → can_match ms tree rule o p c ≡ true
-      → bindings_of ms tree rule p c ≡ sides_by (bindings_of ms tree rule) (counted_sides o p c)
-  counted_computed p c o none unmet kinds is can =
-      bindings-sides ms tree rule p c (Some (counted_sides o p c)) none
+  like_computed : (p c : Node) (o : Option Res) (sides : Sides) → is_by_parts rule p ≡ true → meets_method rule p c ≡ false → p.kind ≡ c.kind
+      → pattern_res rule p ≡ o → can_match ms tree rule o p c ≡ true → like_pairs ms tree rule o p c ≡ Some sides
+      → bindings_of ms tree rule p c ≡ sides_by (bindings_of ms tree rule) sides
+  like_computed p c o sides none unmet kinds is can same =
+      bindings-sides ms tree rule p c (Some sides) none
       (sides-like p c unmet
       ∙ like-tested ms tree rule p c o true is
-      (and_from (same_kind p.kind c.kind) (can_match ms tree rule o p c) (equal-same_kind p.kind c.kind kinds) can))
+      (and_from (same_kind p.kind c.kind) (can_match ms tree rule o p c) (equal-same_kind p.kind c.kind kinds) can)
+      ∙ same)
 
   method_computed : (p c : Node) (call : QualifiedCall) (sides : Sides) → is_by_parts rule p ≡ true → call_of rule p ≡ Some call
       → c.kind ≡ k.METHOD_CALL_EXPR → method_sides ms tree rule call p c ≡ Some sides
@@ -230,10 +248,15 @@ module _ (ms : Meanings) (tree : ℕ) (rule : ResolvedKind) where
         method_computed p c call sides none called kind is
         ∙ ap (option_map (kept sides.receiver)) (Pairs-pairs_by sides.pattern sides.code bs pairs)
     Matches-bindings_of _ _ _ (used p c r bs none unmet kinds is told arguments) =
-        counted_computed p c (Some r) none unmet kinds is (told-stands_for r (code_res ms tree c) told)
+        like_computed p c (Some r) (counted_sides (Some r) p c) none unmet kinds is (told-stands_for r (code_res ms tree c) told) refl
         ∙ ap (option_map (kept None)) (Pairs-pairs_by (bare (arguments_of p)) (bare (arguments_of c)) bs arguments)
-    Matches-bindings_of _ _ _ (alike p c bs none unmet kinds is can children) =
-        counted_computed p c None none unmet kinds is can
+    Matches-bindings_of _ _ _ (named p c found bs none unmet kinds is can by_names found_is pairs) =
+        like_computed p c None (named_pairs p found) none unmet kinds is can
+        (ap (λ b. cond b (option_map (named_pairs p) (named_nodes p c)) (Some (counted_sides None p c))) by_names ∙ ap (option_map (named_pairs p)) found_is)
+        ∙ ap (option_map (kept None)) (Pairs-pairs_by (map node_part (child_nodes p)) (map node_part found) bs pairs)
+    Matches-bindings_of _ _ _ (alike p c bs none unmet kinds is can unnamed children) =
+        like_computed p c None (counted_sides None p c) none unmet kinds is can
+        (ap (λ b. cond b (option_map (named_pairs p) (named_nodes p c)) (Some (counted_sides None p c))) unnamed)
         ∙ ap (option_map (kept None)) (Pairs-pairs_by (bare (parts_of p)) (bare (parts_of c)) bs children)
 
     Pairs-pairs_by : (ps cs : List Part) (bs : List Binding) → Pairs ms tree rule ps cs bs → pairs_by (bindings_of ms tree rule) ps cs ≡ Some bs

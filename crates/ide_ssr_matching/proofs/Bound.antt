@@ -32,7 +32,7 @@ use Rattle.ide_ssr_matching.specs.UsedPaths.{from_arguments, arguments_of, patte
 use Rattle.ide_ssr_token_trees.specs.Placeholders.{placeholders_from}
 use Rattle.ide_ssr_token_trees.proofs.Shared.{trees_bound}
 use Rattle.ide_ssr_matching.specs.TokenTrees.{is_tree, token_placeholder, has_token_placeholder, is_by_parts}
-use Rattle.ide_ssr_matching.specs.Matching.{Matches, bound, token_trees, method, used, alike, Pairs, end, tokens, nodes}
+use Rattle.ide_ssr_matching.specs.Matching.{Matches, bound, token_trees, method, used, alike, Pairs, end, tokens, nodes, named}
 use Rattle.ide_ssr_matching.specs.Bindings.{counted}
 use Rattle.ide_ssr_matching.specs.declared.receivers.Receiver.{Receiver}
 use Rattle.ide_ssr_matching.specs.Sides.{Sides, is_node, received, kept}
@@ -357,7 +357,12 @@ module _ (m : Meanings) (tree : ℕ) (rule : ResolvedKind) (in_arguments : AreIn
         ∙ among_segment rule.names p.number (1 + p.number) p.first p.children
         ∙ sym (used_in_arguments p r is stands)
         ∙ at_parts p by_parts
-    matches_bind _ _ _ (alike p c bs by_parts unmet kinds unused can children) is =
+    matches_bind _ _ _ (named p c found bs by_parts unmet kinds unused can by_names found_is pairs) is =
+        pairs_bind (map node_part (child_nodes p)) (map node_part found) bs pairs
+        (All-map (IsPartOf rule.pattern) node_part (child_nodes p) (nodes_all (IsPartOf rule.pattern) (parts_of p) (each_child rule.pattern p is)))
+        ∙ among_child_nodes rule.names p
+        ∙ at_parts p by_parts
+    matches_bind _ _ _ (alike p c bs by_parts unmet kinds unused can unnamed children) is =
         pairs_bind (bare (parts_of p)) (bare (parts_of c)) bs children (counted_of rule.pattern None p is)
         ∙ among_bare rule.names (parts_of p)
         ∙ among_children rule.names p.number (1 + p.number) p.first p.children

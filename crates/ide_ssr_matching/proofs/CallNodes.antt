@@ -21,10 +21,10 @@ use Rattle.ide_ssr_matching.specs.Calls.{nodes_among, child_nodes, first_node, M
 use Rattle.ide_ssr_matching.proofs.CallParts.{nodes_all, found_has, HasMethod, has_method, method_match}
 use Rattle.ide_ssr_matching.proofs.Spread.{RunsApart, narrower, wider, IsPartOf, IsAmongNode, PartsApart, AreOf, children_are}
 
-abbrev NodesApart : Node → Node → Type 0
+abbrev pub NodesApart : Node → Node → Type 0
 NodesApart a b = RunsApart (run_of a) (run_of b)
 
-swapped : (a b : Node) → NodesApart a b → NodesApart b a
+pub swapped : (a b : Node) → NodesApart a b → NodesApart b a
 swapped a b (inl before) = inr before
 swapped a b (inr behind) = inl behind
 

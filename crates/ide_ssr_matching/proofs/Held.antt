@@ -21,8 +21,10 @@ use Rattle.ide_ssr_matching.specs.TokenTrees.{token_placeholder}
 use Rattle.ide_ssr_matching.specs.UsedPaths.{arguments_of}
 use Rattle.ide_ssr_matching.specs.declared.receivers.Receiver.{Receiver}
 use Rattle.ide_ssr_matching.specs.Sides.{is_node, received, kept}
-use Rattle.ide_ssr_matching.specs.Matching.{Matches, bound, token_trees, method, used, alike, Pairs, end, tokens, nodes}
+use Rattle.ide_ssr_matching.specs.Matching.{Matches, bound, token_trees, method, used, alike, Pairs, end, tokens, nodes, named}
+use Rattle.ide_ssr_matching.specs.Calls.{child_nodes}
 use Rattle.ide_ssr_matching.proofs.CallNodes.{method_sides_are}
+use Rattle.ide_ssr_matching.proofs.NamedNodes.{named_nodes_are}
 use Rattle.ide_ssr_matching.proofs.Spread.{RunsApart, narrower, wider, IsPartOf, IsAmongNode, PartsApart, counted_are}
 
 pairs_append : {X : Type 0} (R : X → X → Type 0) (xs ys : List X) → AllPairs R xs → AllPairs R ys → All (λ x. All (R x) ys) xs → AllPairs R (xs ++ ys)
@@ -136,7 +138,11 @@ module _ (code : Syntax) where
           let are = counted_are code (Some r) c is in
           in_parts c (bare (arguments_of c)) bs
           (pairs_held c (bare (arguments_of p)) (bare (arguments_of c)) bs arguments are.each are.among are.apart)
-      matches_held _ _ _ (alike p c bs none unmet kinds unused can children) is =
+      matches_held _ _ _ (named p c found bs none unmet kinds unused can by_names found_is pairs) is =
+          let are = named_nodes_are code p c found is found_is in
+          in_parts c (map node_part found) bs
+          (pairs_held c (map node_part (child_nodes p)) (map node_part found) bs pairs are.each are.among are.apart)
+      matches_held _ _ _ (alike p c bs none unmet kinds unused can unnamed children) is =
           let are = counted_are code None c is in
           in_parts c (bare (parts_of c)) bs
           (pairs_held c (bare (parts_of p)) (bare (parts_of c)) bs children are.each are.among are.apart)

@@ -7,6 +7,11 @@ mod Arguments
 mod CallParts
 mod NodeLists
 mod CallNodes
+mod NamedNodes
+mod Labels
+mod LabelSteps
+mod Places
+mod NamedAt
 mod Steps
 mod Pairs
 mod Agreement

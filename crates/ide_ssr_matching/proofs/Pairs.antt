@@ -1,5 +1,5 @@
 -- What the code of the matcher answers, case by case, and pair by pair.
-use Rattle.std.proofs.Common.{◌≡◌, ℕ, zero, suc, ◌+◌, ◌<◌, ◌≤◌, Bool, true, false, ◌&&◌, cond, List, [], ◌∷◌, ◌++◌, length, drop, get_or, All, Option, Some, None, refl, sym, ◌∙◌, ap, subst, arith, append_assoc, append-nil, ◌*◌, option_to_list, is_some, not, IfNone, IfOk, Result}
+use Rattle.std.proofs.Common.{◌≡◌, ℕ, zero, suc, ◌+◌, ◌<◌, ◌≤◌, Bool, true, false, ◌&&◌, cond, List, [], ◌∷◌, ◌++◌, length, drop, get_or, All, Option, Some, None, refl, sym, ◌∙◌, ap, subst, arith, append_assoc, append-nil, ◌*◌, option_to_list, is_some, not, string_bytes, IfNone, IfOk, Result}
 use Rattle.std.specs.Prelude.{map, max}
 use Rattle.std.specs.Option.{is_none, option_and_then, option_map}
 use Rattle.std.proofs.lemmas.Bool.{and_from, and_parts, not-true}
@@ -13,7 +13,7 @@ use Rattle.ssr_syntax_kinds.specs.Kinds.{same_kind}
 use Rattle.ssr_syntax_tree.specs.declared.number.NodeNo.{NodeNo}
 use Rattle.ssr_syntax_tree.specs.declared.number.TokenNo.{TokenNo}
 use Rattle.ssr_syntax_tree.specs.Syntax.{Syntax}
-use Rattle.ssr_syntax_tree.specs.Places.{HasNode, Node, Part, parts_of, part_of, node_of, token_of, size_of, HasElement}
+use Rattle.ssr_syntax_tree.specs.Places.{HasNode, Node, Part, node_part, parts_of, part_of, node_of, token_of, size_of, HasElement}
 use Rattle.ssr_syntax_tree.specs.declared.number.Element.{Element}
 use Rattle.ssr_syntax_tree.specs.declared.number.Element.TheVariants as element
 use Rattle.ssr_syntax_tree.proofs.Shared.{node_of-number, smaller}
@@ -32,10 +32,14 @@ use Rattle.ide_ssr_matching.specs.Children.{bare}
 use Rattle.ide_ssr_matching.specs.TokenTrees.{is_tree, tree_by, is_plain, is_by_parts}
 use Rattle.ide_ssr_matching.specs.UsedPaths.{arguments_of, pattern_res}
 use Rattle.ide_ssr_matching.specs.Sides.{Sides, received, kept}
-use Rattle.ide_ssr_matching.specs.Calls.{method_sides, can_be_call}
+use Rattle.ide_ssr_matching.specs.Calls.{method_sides, can_be_call, child_nodes}
 use Rattle.ide_ssr_token_trees.specs.Bindings.{joined}
-use Rattle.ide_ssr_matching.specs.Bindings.{Binder, pair_by, pairs_by, placeholder_by, stands_for, counted, counted_sides, counted_by, can_match, like_sides, sides_in, sides_by, sides_of, other_by, node_by, bindings_of}
-use Rattle.ide_ssr_matching.specs.Private.Calls.{sides_at}
+use Rattle.ide_ssr_matching.specs.Bindings.{Binder, pair_by, pairs_by, placeholder_by, stands_for, counted, counted_sides, counted_by, can_match, like_sides, sides_in, sides_by, sides_of, other_by, node_by, bindings_of, like_pairs}
+use Rattle.ide_ssr_matching.specs.Private.Calls.{sides_at, nodes_at}
+use Rattle.ide_ssr_matching.specs.declared.records.NamedLists.{NamedLists}
+use Rattle.ide_ssr_matching.specs.Records.{arranged, is_named, named_nodes, named_pairs}
+use Rattle.ide_ssr_matching.specs.Private.Records.{AreNamedLists}
+use Rattle.ide_ssr_matching.proofs.NamedAt.{named_at, parts_at}
 use Rattle.ide_ssr_matching.specs.Private.Children.{IsBelow, AreKept}
 use Rattle.ide_ssr_token_trees.specs.Bindings.{Answers, matched, other}
 use Rattle.ide_ssr_matching.proofs.Bare.{below-has, tail_has}
@@ -79,12 +83,19 @@ negated : (b c : Bool) → c ≡ not b → b ≡ not c
 negated true c is = ap not (sym is)
 negated false c is = ap not (sym is)
 
--- how far a recursion on a pattern still goes: at what counts of a node, at a node of a kind, at any node and at an element
+-- how far a recursion on a pattern still goes: at what counts of a node, at parts of it in lists, at parts that are to be found,
+-- at a node of a kind, at any node and at an element
 abbrev pub children_size : Syntax → ℕ → ℕ
-children_size code n = 5 * size_of (node_of code n)
+children_size code n = 7 * size_of (node_of code n)
+
+abbrev pub lists_size : Syntax → ℕ → ℕ
+lists_size code n = 1 + children_size code n
+
+abbrev pub pairs_size : Syntax → ℕ → ℕ
+pairs_size code n = 1 + lists_size code n
 
 abbrev pub like_size : Syntax → ℕ → ℕ
-like_size code n = 1 + children_size code n
+like_size code n = 1 + pairs_size code n
 
 abbrev pub parts_size : Syntax → ℕ → ℕ
 parts_size code n = 1 + like_size code n
@@ -346,7 +357,7 @@ largest-at code [] i d less = absurd (omega arith)
 largest-at code (x ∷ xs) zero d less = omega arith
 largest-at code (x ∷ xs) (suc i) d less = omega (arith, largest-at code xs i d (omega arith))
 
-pub largest-below : (code : Syntax) (n : ℕ) (xs : List Element) → HasNode code n → All (IsBelow code n) xs → elements_size code xs < like_size code n
+pub largest-below : (code : Syntax) (n : ℕ) (xs : List Element) → HasNode code n → All (IsBelow code n) xs → elements_size code xs < lists_size code n
 largest-below code n [] has below = omega arith
 largest-below code n (x ∷ xs) has below =
     let here = smaller_below code n x has (below 0 x (omega arith)) in
@@ -411,10 +422,10 @@ module _ (ms : Meanings) (tree : ℕ) (rule : ResolvedKind) where
 
   pub like-tested : (p c : Node) (used : Option Res) (b : Bool) → pattern_res rule p ≡ used
       → (same_kind p.kind c.kind && can_match ms tree rule used p c) ≡ b
-      → like_sides ms tree rule p c ≡ cond b (Some (counted_sides used p c)) None
+      → like_sides ms tree rule p c ≡ cond b (like_pairs ms tree rule used p c) None
   like-tested p c used b is can =
-      ap (λ used. cond (same_kind p.kind c.kind && can_match ms tree rule used p c) (Some (counted_sides used p c)) None) is
-      ∙ ap (λ b. cond b (Some (counted_sides used p c)) None) can
+      ap (λ used. cond (same_kind p.kind c.kind && can_match ms tree rule used p c) (like_pairs ms tree rule used p c) None) is
+      ∙ ap (λ b. cond b (like_pairs ms tree rule used p c) None) can
 
   -- ** A node that has to be of the kind.
 
@@ -448,7 +459,7 @@ module _ (ms : Meanings) (tree : ℕ) (rule : ResolvedKind) where
     -- of one kind, by whether they can match
     by_can : (b d : Bool) → b ≡ same_kind pk ck → b ≡ true → d ≡ can_match ms tree rule used (node_of pattern n.0) (node_of code m)
         → like_sides ms tree rule (node_of pattern n.0) (node_of code m)
-        ≡ cond d (Some (counted_sides used (node_of pattern n.0) (node_of code m))) None
+        ≡ cond d (like_pairs ms tree rule used (node_of pattern n.0) (node_of code m)) None
     by_can b d b_is same d_is =
         like-tested (node_of pattern n.0) (node_of code m) used d res_is
         (ap (λ b. b && can_match ms tree rule used (node_of pattern n.0) (node_of code m)) (kinds_are ∙ sym b_is ∙ same) ∙ sym d_is)
@@ -460,23 +471,90 @@ module _ (ms : Meanings) (tree : ℕ) (rule : ResolvedKind) where
         other refl
         (ap (option_and_then (sides_by (bindings_of ms tree rule)))
         (by_can b d b_is same d_is
-        ∙ ap (λ d. cond d (Some (counted_sides used (node_of pattern n.0) (node_of code m))) None) differs))
+        ∙ ap (λ d. cond d (like_pairs ms tree rule used (node_of pattern n.0) (node_of code m)) None) differs))
 
-    all_kept : (o : Option (List Binding)) → option_map (kept None) o ≡ o
-    all_kept None = refl
-    all_kept (Some bs) = refl
-
-    -- they match as what counts of them does
-    pub children-from : {E : Type 0} (result : Result Bool E) (old new : List Binding) (b d : Bool) → b ≡ same_kind pk ck → b ≡ true
+    -- they match as the parts that have to pair do
+    pub pairs-from : {E : Type 0} (result : Result Bool E) (old new : List Binding) (b d : Bool) → b ≡ same_kind pk ck → b ≡ true
         → d ≡ can_match ms tree rule used (node_of pattern n.0) (node_of code m) → d ≡ true
-        → IfOk result (λ b. Answers (counted_by (bindings_of ms tree rule) used (node_of pattern n.0) (node_of code m)) old new b)
+        → IfOk result (λ b. Answers (option_and_then (sides_by (bindings_of ms tree rule)) (like_pairs ms tree rule used (node_of pattern n.0) (node_of code m))) old new b)
         → IfOk result (λ b. Answers (option_and_then (sides_by (bindings_of ms tree rule)) (like_sides ms tree rule (node_of pattern n.0) (node_of code m))) old new b)
-    children-from result old new b d b_is same d_is can answers =
+    pairs-from result old new b d b_is same d_is can answers =
         subst (λ o. IfOk result (λ b. Answers o old new b))
         (sym
         (ap (option_and_then (sides_by (bindings_of ms tree rule)))
-        (by_can b d b_is same d_is ∙ ap (λ d. cond d (Some (counted_sides used (node_of pattern n.0) (node_of code m))) None) can)
-        ∙ all_kept (counted_by (bindings_of ms tree rule) used (node_of pattern n.0) (node_of code m))))
+        (by_can b d b_is same d_is ∙ ap (λ d. cond d (like_pairs ms tree rule used (node_of pattern n.0) (node_of code m)) None) can)))
+        answers
+
+  -- ** The parts of such a node.
+
+  all_kept : (o : Option (List Binding)) → option_map (kept None) o ≡ o
+  all_kept None = refl
+  all_kept (Some bs) = refl
+
+  -- what counts of both nodes, where they don't pair by names
+  counted-from : {E : Type 0} (result : Result Bool E) (p c : Node) (used : Option Res) (old new : List Binding)
+      → like_pairs ms tree rule used p c ≡ Some (counted_sides used p c)
+      → IfOk result (λ b. Answers (counted_by (bindings_of ms tree rule) used p c) old new b)
+      → IfOk result (λ b. Answers (option_and_then (sides_by (bindings_of ms tree rule)) (like_pairs ms tree rule used p c)) old new b)
+  counted-from result p c used old new is answers =
+      subst (λ o. IfOk result (λ b. Answers o old new b))
+      (sym (ap (option_and_then (sides_by (bindings_of ms tree rule))) is ∙ all_kept (counted_by (bindings_of ms tree rule) used p c)))
+      answers
+
+  pub used-from : {E : Type 0} (result : Result Bool E) (p c : Node) (used : Option Res) (r : Res) (old new : List Binding) → used ≡ Some r
+      → IfOk result (λ b. Answers (counted_by (bindings_of ms tree rule) (Some r) p c) old new b)
+      → IfOk result (λ b. Answers (option_and_then (sides_by (bindings_of ms tree rule)) (like_pairs ms tree rule used p c)) old new b)
+  used-from result p c used r old new is answers =
+      subst (λ used. IfOk result (λ b. Answers (option_and_then (sides_by (bindings_of ms tree rule)) (like_pairs ms tree rule used p c)) old new b)) (sym is)
+      (counted-from result p c (Some r) old new refl answers)
+
+  pub unnamed-from : {E : Type 0} (result : Result Bool E) (p c : Node) (used : Option Res) (old new : List Binding) → used ≡ None
+      → false ≡ is_named rule.names p c
+      → IfOk result (λ b. Answers (counted_by (bindings_of ms tree rule) used p c) old new b)
+      → IfOk result (λ b. Answers (option_and_then (sides_by (bindings_of ms tree rule)) (like_pairs ms tree rule used p c)) old new b)
+  unnamed-from result p c used old new is unnamed answers =
+      counted-from result p c used old new
+      (ap (λ used. like_pairs ms tree rule used p c) is
+      ∙ ap (λ b. cond b (option_map (named_pairs p) (named_nodes p c)) (Some (counted_sides None p c))) (sym unnamed)
+      ∙ ap (λ used. Some (counted_sides used p c)) (sym is)) answers
+
+  pub named-from : {E : Type 0} (result : Result Bool E) (p c : Node) (used : Option Res) (old new : List Binding) → used ≡ None
+      → true ≡ is_named rule.names p c
+      → IfOk result (λ b. Answers (option_and_then (sides_by (bindings_of ms tree rule)) (option_map (named_pairs p) (named_nodes p c))) old new b)
+      → IfOk result (λ b. Answers (option_and_then (sides_by (bindings_of ms tree rule)) (like_pairs ms tree rule used p c)) old new b)
+  named-from result p c used old new is by_names answers =
+      subst (λ o. IfOk result (λ b. Answers (option_and_then (sides_by (bindings_of ms tree rule)) o) old new b))
+      (sym
+      (ap (λ used. like_pairs ms tree rule used p c) is
+      ∙ ap (λ b. cond b (option_map (named_pairs p) (named_nodes p c)) (Some (counted_sides None p c))) (sym by_names)))
+      answers
+
+  -- ** Lists that match by labels.
+
+  module _ (pattern code : Syntax) (n m : ℕ) (lists : NamedLists) (are : AreNamedLists pattern code n m lists) where
+    pub unarranged-from : (o : Option (List NodeNo)) (old : List Binding) → o ≡ None
+        → o ≡ arranged (map string_bytes lists.order.items) (map string_bytes lists.labels.items) lists.cs.items
+        → Answers (option_and_then (sides_by (bindings_of ms tree rule)) (option_map (named_pairs (node_of pattern n)) (named_nodes (node_of pattern n) (node_of code m)))) old old false
+    unarranged-from o old none o_is =
+        other refl
+        (ap (λ o. option_and_then (sides_by (bindings_of ms tree rule)) (option_map (named_pairs (node_of pattern n)) o))
+        (named_at pattern code n m lists are ∙ ap (option_map (nodes_at code)) (sym o_is ∙ none)))
+
+    pub arranged-from : {E : Type 0} (result : Result Bool E) (found : List NodeNo) (ps cs : List Element) (old new : List Binding)
+        → Some found ≡ arranged (map string_bytes lists.order.items) (map string_bytes lists.labels.items) lists.cs.items
+        → ps ≡ map element.Node lists.ps.items → cs ≡ map element.Node found
+        → IfOk result (λ b. Answers (pairs_by (bindings_of ms tree rule) (map (part_of pattern) ps) (map (part_of code) cs)) old new b)
+        → IfOk result (λ b. Answers (option_and_then (sides_by (bindings_of ms tree rule)) (option_map (named_pairs (node_of pattern n)) (named_nodes (node_of pattern n) (node_of code m)))) old new b)
+    arranged-from result found ps cs old new found_is ps_are cs_are answers =
+        let inner = bindings_of ms tree rule in
+        subst (λ o. IfOk result (λ b. Answers o old new b))
+        (sym
+        (ap (λ o. option_and_then (sides_by inner) (option_map (named_pairs (node_of pattern n)) o))
+        (named_at pattern code n m lists are ∙ ap (option_map (nodes_at code)) (sym found_is))
+        ∙ all_kept (pairs_by inner (map node_part (child_nodes (node_of pattern n))) (map node_part (nodes_at code found)))
+        ∙ ap (λ parts. pairs_by inner parts (map node_part (nodes_at code found)))
+        (ap (map node_part) (sym are.ps) ∙ sym (ap (map (part_of pattern)) ps_are ∙ parts_at pattern lists.ps.items))
+        ∙ ap (pairs_by inner (map (part_of pattern) ps)) (sym (ap (map (part_of code)) cs_are ∙ parts_at code found))))
         answers
 
   -- ** Any node.

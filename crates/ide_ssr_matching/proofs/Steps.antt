@@ -19,7 +19,8 @@ use Rattle.ide_ssr_matching.specs.UsedPaths.{arguments_of, pattern_res}
 use Rattle.ide_ssr_matching.specs.Sides.{Sides, kept}
 use Rattle.ide_ssr_matching.specs.Calls.{child_nodes, Called, call_of}
 use Rattle.ide_ssr_token_trees.specs.Bindings.{joined}
-use Rattle.ide_ssr_matching.specs.Bindings.{Binder, pair_by, pairs_by, counted, counted_sides, can_match, like_sides, sides_in, sides_of, sides_by, other_by, node_by, step, bindings_by, bindings_of}
+use Rattle.ide_ssr_matching.specs.Bindings.{Binder, pair_by, pairs_by, counted, counted_sides, can_match, like_sides, sides_in, sides_of, sides_by, other_by, node_by, step, bindings_by, bindings_of, like_pairs}
+use Rattle.ide_ssr_matching.specs.Records.{is_named, named_nodes, named_pairs}
 use Rattle.ide_ssr_matching.proofs.CallParts.{nodes_all, IsCalled, method_match}
 use Rattle.ide_ssr_matching.proofs.Counted.{bare_all, first_has, last_arguments_all}
 
@@ -98,14 +99,28 @@ module _ (f g : Binder) where
 -- ** Steps.
 
 module _ (m : Meanings) (tree : ℕ) (rule : ResolvedKind) where
+  named_smaller : (p : Node) (sides : Sides) (o : Option (List Node)) → option_map (named_pairs p) o ≡ Some sides → All (IsSmaller (size_of p)) sides.pattern
+  named_smaller p sides None is = absurd (none-some sides is)
+  named_smaller p sides (Some nodes) is =
+      subst (λ (s : Sides). All (IsSmaller (size_of p)) s.pattern) (same_Some (named_pairs p nodes) sides is)
+      (All-map (IsSmaller (size_of p)) node_part (child_nodes p) (nodes_smaller (size_of p) p (omega arith)))
+
+  pairs_smaller : (p c : Node) (sides : Sides) (used : Option Res) → like_pairs m tree rule used p c ≡ Some sides → All (IsSmaller (size_of p)) sides.pattern
+  pairs_smaller p c sides (Some r) is =
+      subst (λ (s : Sides). All (IsSmaller (size_of p)) s.pattern) (same_Some (counted_sides (Some r) p c) sides is) (counted_smaller (Some r) p)
+  pairs_smaller p c sides None is = by (is_named rule.names p c) is
+    where
+      by : (b : Bool) → ◌≡◌ {A = Option Sides} (cond b (option_map (named_pairs p) (named_nodes p c)) (Some (counted_sides None p c))) (Some sides)
+          → All (IsSmaller (size_of p)) sides.pattern
+      by true is = named_smaller p sides (named_nodes p c) is
+      by false is =
+          subst (λ (s : Sides). All (IsSmaller (size_of p)) s.pattern) (same_Some (counted_sides None p c) sides is) (counted_smaller None p)
+
   like_smaller : (p c : Node) (sides : Sides) → like_sides m tree rule p c ≡ Some sides → All (IsSmaller (size_of p)) sides.pattern
   like_smaller p c sides is = by_test (same_kind p.kind c.kind && can_match m tree rule (pattern_res rule p) p c) is
     where
-      by_test : (b : Bool) → ◌≡◌ {A = Option Sides} (cond b (Some (counted_sides (pattern_res rule p) p c)) None) (Some sides)
-          → All (IsSmaller (size_of p)) sides.pattern
-      by_test true is =
-          subst (λ (s : Sides). All (IsSmaller (size_of p)) s.pattern) (same_Some (counted_sides (pattern_res rule p) p c) sides is)
-          (counted_smaller (pattern_res rule p) p)
+      by_test : (b : Bool) → cond b (like_pairs m tree rule (pattern_res rule p) p c) None ≡ Some sides → All (IsSmaller (size_of p)) sides.pattern
+      by_test true is = pairs_smaller p c sides (pattern_res rule p) is
       by_test false is = absurd (none-some sides is)
 
   pub sides_smaller : (p c : Node) (sides : Sides) → sides_of m tree rule p c ≡ Some sides → All (IsSmaller (size_of p)) sides.pattern

@@ -18,6 +18,7 @@ use Rattle.ide_ssr_matching.specs.Sides.{Sides, kept}
 use Rattle.ide_ssr_matching.specs.Calls.{call_of, method_sides, can_be_call}
 use Rattle.ide_ssr_token_trees.specs.Bindings.{joined}
 use Rattle.ide_ssr_matching.specs.TokenTrees.{is_tree, tree_by, is_plain}
+use Rattle.ide_ssr_matching.specs.Records.{is_named, named_nodes, named_pairs}
 use Rattle.ide_ssr_matching.specs.UsedPaths.{arguments_of, pattern_res, code_res}
 
 -- ** Parts against parts.
@@ -80,9 +81,13 @@ module _ (m : Meanings) (tree : ℕ) (rule : ResolvedKind) where
   can_match (Some r) p c = stands_for r (code_res m tree c)
   can_match None p c = can_be_call m tree (call_of rule p) c
 
+  -- lists of fields with names pair by these
+  abbrev pub like_pairs : Option Res → Node → Node → Option Sides
+  like_pairs (Some r) p c = Some (counted_sides (Some r) p c)
+  like_pairs None p c = if is_named rule.names p c then option_map (named_pairs p) (named_nodes p c) else Some (counted_sides None p c)
+
   abbrev pub like_sides : Node → Node → Option Sides
-  like_sides p c =
-      if same_kind p.kind c.kind && can_match (pattern_res rule p) p c then Some (counted_sides (pattern_res rule p) p c) else None
+  like_sides p c = if same_kind p.kind c.kind && can_match (pattern_res rule p) p c then like_pairs (pattern_res rule p) p c else None
 
   -- whether it is a method call against which a qualified call is
   abbrev pub sides_in : Option QualifiedCall → Bool → Node → Node → Option Sides

@@ -4,6 +4,7 @@ pub mod UsedPaths
 pub mod Sides
 pub mod Calls
 pub mod TokenTrees
+pub mod Records
 pub mod Matching
 pub mod Bindings
 pub mod Private

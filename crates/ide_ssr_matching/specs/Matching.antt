@@ -1,5 +1,5 @@
 -- When a node of code matches a pattern, and what its placeholders hold then.
-use Rattle.std.specs.Prelude.{ℕ, ◌≡◌, true, false, List, [], ◌∷◌, ◌++◌, Some, None}
+use Rattle.std.specs.Prelude.{ℕ, ◌≡◌, true, false, List, [], ◌∷◌, ◌++◌, Some, None, map}
 use Rattle.ssr_syntax_kinds.specs.declared.kinds.SyntaxKind.TheVariants as k
 use Rattle.ssr_syntax_tree.specs.Syntax.{Token}
 use Rattle.ssr_syntax_tree.specs.Places.{Node, Part, token_part, node_part, parts_of}
@@ -15,14 +15,15 @@ use Rattle.ide_ssr_matching.specs.UsedPaths.{arguments_of, pattern_res, code_res
 use Rattle.ide_ssr_matching.specs.Sides.{Sides, kept}
 use Rattle.ide_ssr_token_trees.specs.TokenTrees.{TreesMatch}
 use Rattle.ide_ssr_matching.specs.TokenTrees.{is_tree, token_placeholder, is_by_parts}
-use Rattle.ide_ssr_matching.specs.Calls.{call_of, meets_method, method_sides, can_be_call}
+use Rattle.ide_ssr_matching.specs.Calls.{call_of, meets_method, method_sides, can_be_call, child_nodes}
+use Rattle.ide_ssr_matching.specs.Records.{is_named, named_nodes}
 
 -- A placeholder of the pattern matches each node that meets its constraints, and binds it. A token tree matches token trees by
--- their tokens. A qualified call matches the method
--- calls of the same function on a receiver that can be its first argument. A used path matches the paths that stand for the
--- same thing and whose arguments pair with its own, one by one; what else they are spelled with doesn't count. Any other node
--- of the pattern matches the nodes of its kind whose bare children pair with its own, one by one; a qualified call only those
--- calls whose first argument is of its qualifier's type.
+-- their tokens. A qualified call matches the method calls of the same function on a receiver that can be its first argument. A
+-- used path matches the paths that stand for the same thing and whose arguments pair with its own, one by one; what else they
+-- are spelled with doesn't count. Lists of record fields with names pair by the names. Any other node of the pattern matches
+-- the nodes of its kind whose bare children pair with its own, one by one; a qualified call only those calls whose first
+-- argument is of its qualifier's type.
 mutual
   pub data Matches (m : Meanings) (tree : ℕ) (rule : ResolvedKind) : Node → Node → List Binding → Type 0 where
     bound : (p c : Node) (i : ℕ) → placeholder_at rule.names p ≡ Some i → meets rule i c.kind ≡ true
@@ -35,8 +36,12 @@ mutual
     used : (p c : Node) (r : Res) (bs : List Binding) → is_by_parts rule p ≡ true → meets_method rule p c ≡ false
         → p.kind ≡ c.kind → pattern_res rule p ≡ Some r → code_res m tree c ≡ Some r
         → Pairs m tree rule (bare (arguments_of p)) (bare (arguments_of c)) bs → Matches m tree rule p c bs
+    named : (p c : Node) (nodes : List Node) (bs : List Binding) → is_by_parts rule p ≡ true → meets_method rule p c ≡ false
+        → p.kind ≡ c.kind → pattern_res rule p ≡ None → can_be_call m tree (call_of rule p) c ≡ true → is_named rule.names p c ≡ true
+        → named_nodes p c ≡ Some nodes
+        → Pairs m tree rule (map node_part (child_nodes p)) (map node_part nodes) bs → Matches m tree rule p c bs
     alike : (p c : Node) (bs : List Binding) → is_by_parts rule p ≡ true → meets_method rule p c ≡ false
-        → p.kind ≡ c.kind → pattern_res rule p ≡ None → can_be_call m tree (call_of rule p) c ≡ true
+        → p.kind ≡ c.kind → pattern_res rule p ≡ None → can_be_call m tree (call_of rule p) c ≡ true → is_named rule.names p c ≡ false
         → Pairs m tree rule (bare (parts_of p)) (bare (parts_of c)) bs → Matches m tree rule p c bs
 
   pub data Pairs (m : Meanings) (tree : ℕ) (rule : ResolvedKind) : List Part → List Part → List Binding → Type 0 where

@@ -2,3 +2,4 @@
 -- those has to believe them.
 pub mod Children
 pub mod Calls
+pub mod Records

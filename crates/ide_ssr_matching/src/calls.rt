@@ -51,7 +51,11 @@ fn push_node(child: Element, nodes: &mut Vec<NodeNo>) -> Result<(), AllocError>
 }
 
 /// The nodes among the children of a node.
-fn child_nodes(alloc: Global, tree: &Tree, node: NodeNo) -> Result<Vec<NodeNo>, AllocError>
+pub(crate) fn child_nodes(
+    alloc: Global,
+    tree: &Tree,
+    node: NodeNo,
+) -> Result<Vec<NodeNo>, AllocError>
     requires { HasNode tree.now node.0 }
     ensures nodes { IfOk result (λ v. nodes_at tree.now v.items ≡ child_nodes (node_of tree.now node.0)) }
     ensures below { IfOk result (λ v. All (IsNodeBelow tree.now node.0) v.items) }
@@ -64,7 +68,7 @@ fn child_nodes(alloc: Global, tree: &Tree, node: NodeNo) -> Result<Vec<NodeNo>, 
 }
 
 /// The first node of a kind.
-fn first_node(tree: &Tree, nodes: &[NodeNo], kind: SyntaxKind) -> Option<NodeNo>
+pub(crate) fn first_node(tree: &Tree, nodes: &[NodeNo], kind: SyntaxKind) -> Option<NodeNo>
     requires { All (λ node. HasNode tree.now node.0) nodes.now }
     ensures node { option_map (λ node. node_of tree.now node.0) result ≡ first_node kind (nodes_at tree.now nodes.now) }
     ensures there { IfSome result (λ node. Contains nodes.now node) }
@@ -267,7 +271,7 @@ fn receiver_of<S: Semantics>(
 }
 
 /// Parts of a call with its arguments behind them.
-fn with_arguments(
+pub(crate) fn with_arguments(
     tree: &Tree,
     front: Vec<Element>,
     arguments: &[NodeNo],

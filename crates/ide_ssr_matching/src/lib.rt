@@ -7,6 +7,7 @@ pub mod laws;
 mod matching;
 mod pattern_iterator;
 mod receivers;
+mod records;
 mod token_trees;
 
 pub use matching::match_node;

@@ -5,14 +5,17 @@ ghost use Rattle.std.specs.Option.{option_and_then};
 ghost use Rattle.ssr_syntax_tree.specs.Places.{HasNode, HasToken, HasElement, node_of, root_of, token_of, part_of};
 ghost use Rattle.ssr_syntax_tree.specs.Syntax.{same_token};
 ghost use Rattle.ssr_base.specs.Workspace.{node_id};
-ghost use Rattle.ide_ssr_matching.specs.Bindings.{placeholder_by, stands_for, pair_by, pairs_by, counted_by, can_match, like_sides, sides_of, sides_by, bindings_of};
+ghost use Rattle.ide_ssr_matching.specs.Bindings.{placeholder_by, stands_for, pair_by, pairs_by, counted_by, can_match, like_sides, sides_of, sides_by, bindings_of, like_pairs};
 ghost use Rattle.ide_ssr_matching.specs.Calls.{method_sides};
+ghost use Rattle.ide_ssr_matching.specs.Records.{named_nodes, named_pairs};
 ghost use Rattle.ide_ssr_matching.specs.Sides.{received};
 ghost use Rattle.ide_ssr_token_trees.specs.Bindings.{Answers};
+ghost use Rattle.ide_ssr_matching.specs.Private.Records.{AreNamedLists};
 
 use crate::calls::{can_be_call, method_sides};
 use crate::children::Siblings;
 use crate::receivers::Receiver;
+use crate::records::{NamedLists, elements_of};
 use crate::token_trees::{is_plain, is_tree, tree_matches};
 use ide_ssr_found::Binding;
 use ide_ssr_resolving::{QualifiedCall, ResolvedRule};
@@ -242,7 +245,59 @@ fn like_matches<S: Semantics>(
     if !can_match(alloc, semantics, rule, used, number, code, p, c)? {
         return Ok(false);
     }
-    children_match(alloc, semantics, rule, number, code, p, c, used, out)
+    pairs_match(alloc, semantics, rule, number, code, p, c, used, out)
+}
+
+/// The same for the parts of both nodes: lists of record fields pair by names, where all fields have some.
+#[cycle(matching)]
+fn pairs_match<S: Semantics>(
+    alloc: Global,
+    semantics: &S,
+    rule: &ResolvedRule,
+    number: u32,
+    code: &Tree,
+    p: NodeNo,
+    c: NodeNo,
+    used: Option<Res>,
+    out: &mut Vec<Binding>,
+) -> Result<bool, AllocError>
+    requires p_in { HasNode rule.now.pattern p.0 }
+    requires c_in { HasNode code.now c.0 }
+    ensures { IfOk result (λ answer. Answers (option_and_then (sides_by (bindings_of (S.meanings semantics.now) number rule.now)) (like_pairs (S.meanings semantics.now) number rule.now used (node_of rule.now.pattern p.0) (node_of code.now c.0))) out.old.items out.new.items answer) }
+{
+    if let Some(_res) = used {
+        return children_match(alloc, semantics, rule, number, code, p, c, used, out);
+    }
+    match NamedLists::of(alloc, rule, code, p, c)? {
+        Some(lists) => named_match(alloc, semantics, rule, number, code, p, c, &lists, out),
+        None => children_match(alloc, semantics, rule, number, code, p, c, used, out),
+    }
+}
+
+/// The same for lists of record fields by the names of the fields.
+#[cycle(matching)]
+fn named_match<S: Semantics>(
+    alloc: Global,
+    semantics: &S,
+    rule: &ResolvedRule,
+    number: u32,
+    code: &Tree,
+    p: NodeNo,
+    c: NodeNo,
+    lists: &NamedLists,
+    out: &mut Vec<Binding>,
+) -> Result<bool, AllocError>
+    requires p_in { HasNode rule.now.pattern p.0 }
+    requires c_in { HasNode code.now c.0 }
+    requires lists { AreNamedLists rule.now.pattern code.now p.0 c.0 lists.now }
+    ensures { IfOk result (λ answer. Answers (option_and_then (sides_by (bindings_of (S.meanings semantics.now) number rule.now)) (option_map (named_pairs (node_of rule.now.pattern p.0)) (named_nodes (node_of rule.now.pattern p.0) (node_of code.now c.0)))) out.old.items out.new.items answer) }
+{
+    let Some(nodes) = lists.arranged(alloc)? else {
+        return Ok(false);
+    };
+    let ps = elements_of(alloc, &lists.ps)?;
+    let cs = elements_of(alloc, &nodes)?;
+    elements_match(alloc, semantics, rule, number, code, &ps, &cs, out)
 }
 
 /// The same for what counts of both nodes, one by one: of a used path the arguments of its last segment, else the children.

@@ -1,5 +1,6 @@
-use Rattle.std.proofs.Common.{refl, sym, ap, subst, ◌∙◌, rules, arith, ◌<◌, ◌≤◌, length, get_or, true, false, All, None, is_some}
+use Rattle.std.proofs.Common.{refl, sym, ap, subst, ◌∙◌, rules, arith, ◌<◌, ◌≤◌, length, get_or, map, string_bytes, true, false, All, None, is_some}
 use Rattle.std.specs.Option.{IfSome, option_map}
+use Rattle.std.proofs.lemmas.List.Elements.{All-map}
 use Rattle.ssr_syntax_kinds.specs.declared.kinds.SyntaxKind.TheVariants as k
 use Rattle.ssr_syntax_kinds.specs.Kinds.{same_kind}
 use Rattle.ssr_syntax_tree.specs.declared.number.Element.{Element}
@@ -8,10 +9,11 @@ use Rattle.ssr_syntax_tree.specs.Places.{HasElement, node_of}
 use Rattle.ide_ssr_resolving.specs.QualifiedCalls.{call_at}
 use Rattle.ide_ssr_resolving.specs.Used.{res_at}
 use Rattle.ide_ssr_matching.specs.TokenTrees.{is_tree}
-use Rattle.ide_ssr_matching.specs.Private.Calls.{sides_at, AreSidesBelow}
+use Rattle.ide_ssr_matching.specs.Private.Calls.{sides_at, AreSidesBelow, IsNodeBelow}
 use Rattle.ide_ssr_matching.specs.Private.Children.{IsBelow}
 use Rattle.ide_ssr_matching.proofs.Bare.{below_has}
-use Rattle.ide_ssr_matching.proofs.Pairs.{placeholder-from, trees-from, spoiled-from, parts-from, like-from, method-from, and_false, other_kind-from, unmatched-from, children-from, kept-from, paired-starts, paired-turns, paired-differs, paired-short, paired-ends, up_to-turns, up_to-differs, up_to-ends, unequal-elements, at_place, lent_next, lent_none, none_left, tokens-answer, element-smaller, first-below, largest, largest-at, largest-below, element_size, elements_size, like_size, children_size}
+use Rattle.ide_ssr_matching.proofs.Pairs.{placeholder-from, trees-from, spoiled-from, parts-from, like-from, method-from, and_false, other_kind-from, unmatched-from, kept-from, paired-starts, paired-turns, paired-differs, paired-short, paired-ends, up_to-turns, up_to-differs, up_to-ends, unequal-elements, at_place, lent_next, lent_none, none_left, tokens-answer, element-smaller, first-below, largest, largest-at, largest-below, element_size, elements_size, children_size, pairs-from, used-from, unnamed-from, unarranged-from, arranged-from, lists_size}
+use Rattle.ide_ssr_matching.proofs.NamedNodes.{each_arranged}
 use Rattle.ide_ssr_matching.proofs.matching.+matching.Goals as goal
 
 pub node_matches-returns-in-Some : goal.node_matches-returns-in-Some
@@ -71,9 +73,54 @@ like_matches-returns-then-not-branch g t c =
 
 pub like_matches-returns : goal.like_matches-returns
 like_matches-returns g t c =
-    children-from (g.S.Semantics.meanings c.args.semantics.now) c.args.number c.args.rule.now _ c.args.rule.now.pattern c.args.code.now c.args.p c.args.c.0 _ _ c.pattern_res-used.result
+    pairs-from (g.S.Semantics.meanings c.args.semantics.now) c.args.number c.args.rule.now _ c.args.rule.now.pattern c.args.code.now c.args.p c.args.c.0 _ _ c.pattern_res-used.result
     (record { lent_is = c.pattern.ensures; p_in = c.requires.p_in; pk_is = c.kind.ensures; ck_is = c.kind-2.ensures; used_is = c.pattern_res-used.ensures })
-    _ _ _ _ _ c.is.ensures.same c.if-not-is.false c.in_ok-can_match.ensures c.if-not-branch.false c.children_match.ensures
+    _ _ _ _ _ c.is.ensures.same c.if-not-is.false c.in_ok-can_match.ensures c.if-not-branch.false c.pairs_match.ensures
+
+pub pairs_match-returns-in-Some : goal.pairs_match-returns-in-Some
+pairs_match-returns-in-Some g t c =
+    used-from (g.S.Semantics.meanings c.args.semantics.now) c.args.number c.args.rule.now _ (node_of c.args.rule.now.pattern c.args.p.0)
+    (node_of c.args.code.now c.args.c.0) c.args.used _ _ _ c.in-Some.is c.children_match.ensures
+
+pub pairs_match-returns-in-None : goal.pairs_match-returns-in-None
+pairs_match-returns-in-None g t c =
+    unnamed-from (g.S.Semantics.meanings c.args.semantics.now) c.args.number c.args.rule.now _ (node_of c.args.rule.now.pattern c.args.p.0)
+    (node_of c.args.code.now c.args.c.0) c.args.used _ _ c.in_default.is (ap is_some (sym c.in-None.is) ∙ c.in_ok-lists.ensures.named)
+    c.children_match-in-None.ensures
+
+pub named_match-returns-in_default : goal.named_match-returns-in_default
+named_match-returns-in_default g t c =
+    unarranged-from (g.S.Semantics.meanings c.args.semantics.now) c.args.number c.args.rule.now c.args.rule.now.pattern c.args.code.now c.args.p.0 c.args.c.0
+    c.args.lists.now c.requires.lists _ _ (ap (option_map (λ nodes. nodes.items)) c.in_default.is) c.in_ok-nodes.ensures
+
+pub named_match-elements_match-requires : goal.named_match-elements_match-requires
+named_match-elements_match-requires g t c =
+    let pattern = c.args.rule.now.pattern in
+    let code = c.args.code.now in
+    let n = c.args.p.0 in
+    let m = c.args.c.0 in
+    let lists = c.args.lists.now in
+    let ps_are = c.deref-3.ensures.value ∙ c.in_ok-ps.ensures ∙ ap (map element.Node) c.deref.ensures.value in
+    let cs_are = c.deref-4.ensures.value ∙ c.in_ok-cs.ensures ∙ ap (map element.Node) c.deref-2.ensures.value in
+    let ps_below = subst (All (IsBelow pattern n)) (sym ps_are) (All-map (IsBelow pattern n) element.Node lists.ps.items c.requires.lists.ps_below) in
+    let found =
+    each_arranged (map string_bytes lists.order.items) (map string_bytes lists.labels.items) lists.cs.items (IsNodeBelow code m) c.requires.lists.cs_below
+    c.in-Some.nodes.items (sym c.in_ok-nodes.ensures ∙ ap (option_map (λ nodes. nodes.items)) c.in-Some.is)
+    in
+    let cs_below = subst (All (IsBelow code m)) (sym cs_are) (All-map (IsBelow code m) element.Node c.in-Some.nodes.items found) in
+    let lt : elements_size pattern c.deref-3.result.now < lists_size pattern n = largest-below pattern n c.deref-3.result.now c.requires.p_in ps_below in
+    let has_ps : All (HasElement pattern) c.deref-3.result.now = below_has pattern n c.deref-3.result.now ps_below in
+    let has_cs : All (HasElement code) c.deref-4.result.now = below_has code m c.deref-4.result.now cs_below in
+    λ κs lives. (omega arith, search (rules, lives, has_ps, has_cs))
+
+pub named_match-returns : goal.named_match-returns
+named_match-returns g t c =
+    arranged-from (g.S.Semantics.meanings c.args.semantics.now) c.args.number c.args.rule.now c.args.rule.now.pattern c.args.code.now c.args.p.0 c.args.c.0
+    c.args.lists.now c.requires.lists _ c.in-Some.nodes.items c.deref-3.result.now c.deref-4.result.now _ _
+    (ap (option_map (λ nodes. nodes.items)) (sym c.in-Some.is) ∙ c.in_ok-nodes.ensures)
+    (c.deref-3.ensures.value ∙ c.in_ok-ps.ensures ∙ ap (map element.Node) c.deref.ensures.value)
+    (c.deref-4.ensures.value ∙ c.in_ok-cs.ensures ∙ ap (map element.Node) c.deref-2.ensures.value)
+    c.elements_match.ensures
 
 pub children_match-loop-first-init : goal.children_match-loop-first-init
 children_match-loop-first-init g t c =
@@ -176,7 +223,7 @@ method_matches-elements_match-requires g t c =
     let below = subst (λ o. IfSome o (AreSidesBelow pattern code c.args.p.0 c.args.c.0)) c.in-Some.is c.in_ok-sides.ensures.below in
     let ps_below = subst (All (IsBelow pattern c.args.p.0)) (sym c.deref.ensures.value) below.in_pattern in
     let cs_below = subst (All (IsBelow code c.args.c.0)) (sym c.deref-2.ensures.value) below.in_code in
-    let lt : elements_size pattern c.deref.result.now < like_size pattern c.args.p.0 =
+    let lt : elements_size pattern c.deref.result.now < lists_size pattern c.args.p.0 =
     largest-below pattern c.args.p.0 c.deref.result.now c.requires.p_in ps_below
     in
     let has_ps : All (HasElement pattern) c.deref.result.now = below_has pattern c.args.p.0 c.deref.result.now ps_below in

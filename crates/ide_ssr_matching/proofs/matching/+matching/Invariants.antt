@@ -2,7 +2,7 @@ use Rattle.std.proofs.Common.{length, ◌-◌}
 use Rattle.ssr_syntax_tree.specs.Places.{node_of}
 use Rattle.ide_ssr_matching.specs.Bindings.{counted_by, bindings_of}
 use Rattle.ide_ssr_matching.specs.Private.Children.{siblings_left}
-use Rattle.ide_ssr_matching.proofs.Pairs.{PairedSoFar, PairedUpTo, children_size, like_size, parts_size, node_size, element_size, elements_size}
+use Rattle.ide_ssr_matching.proofs.Pairs.{PairedSoFar, PairedUpTo, children_size, like_size, parts_size, node_size, element_size, elements_size, lists_size, pairs_size}
 use Rattle.ide_ssr_matching.proofs.matching.+matching.Given as goal
 
 abbrev pub decreases-node_matches : goal.decreases-node_matches
@@ -12,7 +12,13 @@ abbrev pub decreases-parts_match : goal.decreases-parts_match
 decreases-parts_match g l = parts_size l.rule.now.pattern l.p.0
 
 abbrev pub decreases-method_matches : goal.decreases-method_matches
-decreases-method_matches g l = like_size l.rule.now.pattern l.p.0
+decreases-method_matches g l = lists_size l.rule.now.pattern l.p.0
+
+abbrev pub decreases-named_match : goal.decreases-named_match
+decreases-named_match g l = lists_size l.rule.now.pattern l.p.0
+
+abbrev pub decreases-pairs_match : goal.decreases-pairs_match
+decreases-pairs_match g l = pairs_size l.rule.now.pattern l.p.0
 
 abbrev pub decreases-like_matches : goal.decreases-like_matches
 decreases-like_matches g l = like_size l.rule.now.pattern l.p.0
