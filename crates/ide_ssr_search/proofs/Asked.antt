@@ -4,7 +4,7 @@ use Rattle.std.specs.Prelude.{if◌then◌else◌, is_some, slice_get, slice_ind
 use Rattle.std.proofs.lemmas.Grind.{get_or-set_at}
 use Rattle.std.proofs.lemmas.List.{get_or_past, get_or-set_other}
 use Rattle.std.specs.Option.{option_map_or}
-use Rattle.std.proofs.lemmas.Bool.{or_left, or_right, and_from, and_parts, cases_Bool, cases_eq, cases_lt, both_ways}
+use Rattle.std.proofs.lemmas.Bool.{or_left, or_right, and_from, and_parts, or_parts, cases_Bool, cases_eq, cases_lt, both_ways}
 use Rattle.std.proofs.lemmas.Option.{none-some, same_Some}
 use Rattle.ssr_syntax_kinds.specs.declared.kinds.SyntaxKind.{SyntaxKind}
 use Rattle.ssr_syntax_kinds.specs.declared.kinds.SyntaxKind.TheVariants as k
@@ -20,7 +20,7 @@ use Rattle.ide_ssr_resolving.specs.Placeholders.{placeholder_at}
 use Rattle.ide_ssr_found.specs.declared.bindings.Binding.{Binding}
 use Rattle.ide_ssr_matching.specs.Children.{closes, is_left_out, bare}
 use Rattle.ide_ssr_matching.specs.Calls.{call_of}
-use Rattle.ide_ssr_matching.specs.Matching.{Matches, bound, token_trees, method, used, alike, Pairs, end, tokens, nodes}
+use Rattle.ide_ssr_matching.specs.Matching.{Matches, bound, token_trees, method, used, named, alike, Pairs, end, tokens, nodes}
 use Rattle.ide_ssr_matching.specs.UsedPaths.{pattern_res}
 use Rattle.ide_ssr_search.specs.declared.roots.Root.{Root}
 use Rattle.ide_ssr_search.specs.declared.roots.Root.TheVariants as roots
@@ -138,7 +138,8 @@ matched_kind m tree rule _ _ _ none (token_trees p c bs other p_tree c_tree foun
     inl (same_kind-equal p.kind k.TOKEN_TREE p_tree ∙ sym (same_kind-equal c.kind k.TOKEN_TREE c_tree))
 matched_kind m tree rule _ _ _ none (method p c call sides bs other is kind sides_are pairs) = inr (call, is, kind)
 matched_kind m tree rule _ _ _ none (used p c r bs other unmet same stands told arguments) = inl same
-matched_kind m tree rule _ _ _ none (alike p c bs other unmet same unused can children) = inl same
+matched_kind m tree rule _ _ _ none (named p c found bs other unmet same unused can by_names are pairs) = inl same
+matched_kind m tree rule _ _ _ none (alike p c bs other unmet same unused can unnamed children) = inl same
 
 own_kind : (m : Meanings) (tree : ℕ) (rule : ResolvedKind) (p c : Node) (bs : List Binding) → placeholder_at rule.names p ≡ None → call_of rule p ≡ None
     → Matches m tree rule p c bs → p.kind ≡ c.kind
@@ -150,10 +151,14 @@ own_kind m tree rule p c bs none no_call matches = elim (matched_kind m tree rul
 matched_alike : (m : Meanings) (tree : ℕ) (rule : ResolvedKind) (p c : Node) (bs : List Binding) → placeholder_at rule.names p ≡ None → call_of rule p ≡ None
     → pattern_res rule p ≡ None → pairs_otherwise p.kind ≡ false → Matches m tree rule p c bs → Pairs m tree rule (bare (parts_of p)) (bare (parts_of c)) bs
 matched_alike m tree rule _ _ _ none no_call unused by_children (bound p c i is met) = absurd (none-some i (sym none ∙ is))
-matched_alike m tree rule _ _ _ none no_call unused by_children (token_trees p c bs other p_tree c_tree found) = let e : true ≡ false = sym p_tree ∙ by_children in cc
+matched_alike m tree rule _ _ _ none no_call unused by_children (token_trees p c bs other p_tree c_tree found) =
+    let e : true ≡ false = sym p_tree ∙ (or_parts (same_kind p.kind k.TOKEN_TREE) (same_kind p.kind k.RECORD_EXPR_FIELD_LIST) by_children).0 in cc
 matched_alike m tree rule _ _ _ none no_call unused by_children (method p c call sides bs other is kind sides_are pairs) = absurd (none-some call (sym no_call ∙ is))
 matched_alike m tree rule _ _ _ none no_call unused by_children (used p c r bs other unmet same stands told arguments) = absurd (none-some r (sym unused ∙ stands))
-matched_alike m tree rule _ _ _ none no_call unused by_children (alike p c bs other unmet same again can children) = children
+matched_alike m tree rule _ _ _ none no_call unused by_children (named p c found bs other unmet same again can by_names are pairs) =
+    let list = (and_parts (same_kind p.kind k.RECORD_EXPR_FIELD_LIST) _ by_names).0 in
+    let e : true ≡ false = sym list ∙ (or_parts (same_kind p.kind k.TOKEN_TREE) (same_kind p.kind k.RECORD_EXPR_FIELD_LIST) by_children).1 in cc
+matched_alike m tree rule _ _ _ none no_call unused by_children (alike p c bs other unmet same again can unnamed children) = children
 
 -- a root that is a qualified call asks for its kind, or for a method call
 pub root_of_call : (rule : ResolvedKind) (kind : SyntaxKind) → placeholder_at rule.names (root_of rule.pattern) ≡ None → kind ≡ (root_of rule.pattern).kind

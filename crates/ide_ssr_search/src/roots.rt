@@ -90,7 +90,7 @@ fn has_token_if(tree: &Tree, kind: Option<SyntaxKind>, node: NodeNo) -> bool
 fn pairs_otherwise(kind: SyntaxKind) -> bool
     ensures { result ≡ pairs_otherwise kind }
 {
-    kind.is(SyntaxKind::TOKEN_TREE)
+    kind.is(SyntaxKind::TOKEN_TREE) || kind.is(SyntaxKind::RECORD_EXPR_FIELD_LIST)
 }
 
 impl Root {

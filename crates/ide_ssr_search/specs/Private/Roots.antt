@@ -36,9 +36,10 @@ has_token_of kind (node_part node ∷ rest) = has_token_of kind rest
 
 -- ** What is asked.
 
--- whether nodes of a kind match by other things than their children, one by one: token trees by their tokens
+-- whether nodes of a kind match by other things than their children, one by one: token trees by their tokens, lists of
+-- record fields by names
 abbrev pub pairs_otherwise : SyntaxKind → Bool
-pairs_otherwise kind = same_kind kind k.TOKEN_TREE
+pairs_otherwise kind = same_kind kind k.TOKEN_TREE || same_kind kind k.RECORD_EXPR_FIELD_LIST
 
 -- whether a node has what a root asks for
 abbrev pub has_asked : Root → Node → Bool
