@@ -51,9 +51,7 @@ fn nested_placeholders<'a>(
         let inner = take_list(alloc, lists.under(place, *index), made)?;
         let name = placeholder_name(rules, m.rule(), binding.placeholder);
         let tree = m.node().tree;
-        placeholders.push(nested_placeholder(
-            alloc, workspace, name, tree, binding, inner,
-        )?)?;
+        placeholders.push(nested_placeholder(alloc, workspace, name, tree, binding, inner)?)?;
     }
     Ok(placeholders)
 }

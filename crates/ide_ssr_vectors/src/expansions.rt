@@ -17,9 +17,7 @@ const SECOND: &str = r#"["2",false,16,17],["+",false,18,19],["3",false,20,21]"#;
 
 /// The facts of a file in which the call of these bytes stands for an expression of these tokens.
 fn expanded(alloc: Global, file: &str, call: &str, tokens: &str) -> Result<Facts, Fail> {
-    let row = format!(in alloc;
-        "{{\"call\":[0,{call}],\"kind\":\"expr\",\"tokens\":[{tokens}]}}"
-    )?;
+    let row = format!(in alloc; "{{\"call\":[0,{call}],\"kind\":\"expr\",\"tokens\":[{tokens}]}}")?;
     expanded_facts(alloc, &[file], &[row.as_str()], "")
 }
 

@@ -33,8 +33,8 @@ mod search_patterns;
 #[cfg(test)]
 mod steps;
 #[cfg(test)]
-mod told;
-#[cfg(test)]
 mod token_trees;
+#[cfg(test)]
+mod told;
 #[cfg(test)]
 mod used_paths;

@@ -49,7 +49,8 @@ fn statements_of_expansions_match(rt: HostRuntime) -> Result<(), Fail> {
 #[test]
 fn nested_matches_of_expansions_are_rewritten(rt: HostRuntime) -> Result<(), Fail> {
     let alloc = rt.alloc();
-    let keys = r#","scopes":[[0,0,37],[1,0,7]],"expansions":[{"call":[0,9,35],"kind":"expr","tokens":
+    let keys =
+        r#","scopes":[[0,0,37],[1,0,7]],"expansions":[{"call":[0,9,35],"kind":"expr","tokens":
 [["1",false,17,18],["*",false,21,22],["2",false,25,26],["+",false,27,28],["3",false,29,30],["+",false,31,32],["4",false,33,34]]}]"#;
     let facts = facts(alloc, &["fn f() { macro1!(1   *   2 + 3 + 4) }"], keys)?;
     let mut finder = MatchFinder::at_first_file(alloc, &facts.workspace, &facts.semantics)?;

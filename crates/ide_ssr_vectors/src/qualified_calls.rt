@@ -62,7 +62,9 @@ Foo::foo::<u8>($a)  on  fn k() { v.foo::<u16>() }  where  v.foo::<u16>() calls 1
 }
 
 #[test]
-fn a_qualified_call_matches_a_call_whose_first_argument_has_the_type(rt: HostRuntime) -> Result<(), Fail> {
+fn a_qualified_call_matches_a_call_whose_first_argument_has_the_type(
+    rt: HostRuntime,
+) -> Result<(), Fail> {
     finds(
         &rt,
         NAMES,

@@ -8,7 +8,9 @@ const NAMES: &str =
     r#","defs":[{"kind":"macro"},{"kind":"macro"}],"names":[[0,["foo"],["def",0]],[0,["vec"],["def",1]]]"#;
 
 #[test]
-fn a_placeholder_takes_elements_up_to_the_next_token_of_the_pattern(rt: HostRuntime) -> Result<(), Fail> {
+fn a_placeholder_takes_elements_up_to_the_next_token_of_the_pattern(
+    rt: HostRuntime,
+) -> Result<(), Fail> {
     finds(
         &rt,
         NAMES,

@@ -69,9 +69,7 @@ fn keys(alloc: Global, text: &str, told: &str) -> Result<String, Fail> {
         methods,
         types,
     } = rows;
-    Ok(format!(in alloc;
-        ",\"paths\":[{paths}],\"methods\":[{methods}],\"types\":[{types}]"
-    )?)
+    Ok(format!(in alloc; ",\"paths\":[{paths}],\"methods\":[{methods}],\"types\":[{types}]")?)
 }
 
 /// Adds what a placeholder holds: its text, and how often it is dereferenced and taken, if it is a receiver.

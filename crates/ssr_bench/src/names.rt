@@ -13,6 +13,7 @@ const NAMED: [&str; 4] = ["Range", "Vec", "Vec::push", "assert_eq"];
 const OTHER: DefId = DefId(4);
 
 const VEC: DefId = DefId(1);
+
 const PUSH: DefId = DefId(2);
 
 /// The one scope.
@@ -91,7 +92,12 @@ fn calls(tree: &Tree, call: NodeNo, name: &str) -> bool {
 }
 
 /// Adds what is known of a node.
-fn push_node(alloc: Global, tables: &mut Tables, tree: &Tree, id: NodeId) -> Result<(), AllocError> {
+fn push_node(
+    alloc: Global,
+    tables: &mut Tables,
+    tree: &Tree,
+    id: NodeId,
+) -> Result<(), AllocError> {
     let node = id.node;
     tables.scopes.push((id, SCOPE))?;
     match tree.kind(node) {
@@ -110,7 +116,12 @@ fn push_node(alloc: Global, tables: &mut Tables, tree: &Tree, id: NodeId) -> Res
 }
 
 /// Adds what is known of the nodes of a tree.
-fn push_tree(alloc: Global, tables: &mut Tables, tree: &Tree, number: u32) -> Result<(), AllocError> {
+fn push_tree(
+    alloc: Global,
+    tables: &mut Tables,
+    tree: &Tree,
+    number: u32,
+) -> Result<(), AllocError> {
     for node in 0..tree.node_count() {
         let id = NodeId {
             tree: number,
@@ -122,7 +133,10 @@ fn push_tree(alloc: Global, tables: &mut Tables, tree: &Tree, number: u32) -> Re
 }
 
 /// The provider of a workspace's files.
-pub(crate) fn semantics(alloc: Global, workspace: &Workspace) -> Result<TableSemantics, AllocError> {
+pub(crate) fn semantics(
+    alloc: Global,
+    workspace: &Workspace,
+) -> Result<TableSemantics, AllocError> {
     let mut tables = Tables {
         definitions: definitions(alloc)?,
         scopes: Vec::new(alloc),

@@ -1,4 +1,4 @@
-use Rattle.std.proofs.Common.{◌≡◌, ◌∙◌, sym, subst}
+use Rattle.std.proofs.Common.{◌≡◌, ◌∙◌, true, false, sym, subst}
 use Rattle.std.proofs.lemmas.Result.{IfOk-weaker}
 use Rattle.ssr_base.specs.Workspace.{Workspace}
 use Rattle.ide_ssr_rewriting.specs.Edits.{EditsFit}
@@ -19,3 +19,9 @@ pub returns-clause-fits : goal.returns-clause-fits
 returns-clause-fits g c =
     IfOk-weaker c.edits.result (λ edits. EditsFit c.in_ok-kept.kept.workspace edits) (λ edits. EditsFit c.args.self.now.workspace edits)
     (λ edits fit. subst (λ (w : Workspace). EditsFit w edits) c.in_ok-kept.ensures.workspace fit) c.edits.ensures.fits
+
+pub returns-then-not-have_templates-clause-answer : goal.returns-then-not-have_templates-clause-answer
+returns-then-not-have_templates-clause-answer g c = λ have.
+    let finder = finder_of g.S.Semantics.meanings c.args.self.now in
+    let same : c.deref.result.now ≡ finder.rules = c.deref.ensures.value ∙ rules_are _ _ c.self.view_is in
+    let e : true ≡ false = sym (c.have_templates.ensures.1 (subst HaveTemplates (sym same) have)) ∙ c.if-not-have_templates.true in cc

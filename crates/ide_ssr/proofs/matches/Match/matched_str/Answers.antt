@@ -1,0 +1,5 @@
+use Rattle.std.proofs.Common.{rules}
+use Rattle.ide_ssr.proofs.matches.Match.matched_str.Goals as goal
+
+pub returns : goal.returns
+returns c = search rules
