@@ -8,6 +8,7 @@ use std::fmt::Write;
 use std::test::Fail;
 
 /// The rows of facts on a file, by their keys.
+#[derive(Drop)]
 struct Rows {
     paths: String,
     methods: String,

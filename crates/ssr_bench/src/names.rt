@@ -101,18 +101,19 @@ fn push_node(
     let node = id.node;
     tables.scopes.push((id, SCOPE))?;
     match tree.kind(node) {
-        SyntaxKind::PATH => tables.paths.push((id, Res::Def(named(tree.text(node))))),
+        SyntaxKind::PATH => tables.paths.push((id, Res::Def(named(tree.text(node)))))?,
         SyntaxKind::METHOD_CALL_EXPR => {
             let pushes = calls(tree, node, "push");
             let method = Method {
                 def: if pushes { PUSH } else { OTHER },
                 self_kind: SelfKind::Mut,
             };
-            tables.methods.push((id, method))
+            tables.methods.push((id, method))?;
         }
-        SyntaxKind::PATH_EXPR => tables.types.push((id, vec![in alloc; TypeId(VEC.0)]?)),
-        _ => Ok(()),
+        SyntaxKind::PATH_EXPR => tables.types.push((id, vec![in alloc; TypeId(VEC.0)]?))?,
+        _ => {}
     }
+    Ok(())
 }
 
 /// Adds what is known of the nodes of a tree.
