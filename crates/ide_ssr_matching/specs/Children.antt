@@ -4,19 +4,7 @@ use Rattle.ssr_syntax_kinds.specs.declared.kinds.SyntaxKind.{SyntaxKind}
 use Rattle.ssr_syntax_kinds.specs.declared.kinds.SyntaxKind.TheVariants as k
 use Rattle.ssr_syntax_kinds.specs.Kinds.{same_kind, is_trivia}
 use Rattle.ssr_syntax_tree.specs.Places.{Part, token_part, node_part}
-
--- the brackets directly before which a comma may stand or not
-unfoldable pub is_closing : SyntaxKind → Bool
-is_closing k.R_PAREN = true
-is_closing k.R_CURLY = true
-is_closing k.R_BRACK = true
-is_closing _ = false
-
--- whether the first of these siblings that is no trivia is such a bracket
-abbrev pub closes : List Part → Bool
-closes [] = false
-closes (token_part t token ∷ rest) = if is_trivia token.kind then closes rest else is_closing token.kind
-closes (node_part node ∷ rest) = false
+use Rattle.ide_ssr_token_trees.specs.Elements.{closes}
 
 -- whether a token of this kind, with these siblings behind it, is left out
 abbrev pub is_left_out : SyntaxKind → List Part → Bool

@@ -3,12 +3,13 @@
 ghost use Rattle.std.specs.Prelude.{◌≡◌, ◌∷◌, ◌++◌, [], true, false, All, IfNone, IfOk, None, map, option_to_list};
 ghost use Rattle.ssr_syntax_tree.specs.Places.{HasNode, HasElement, node_of, part_of, parts_of, elements_of};
 ghost use Rattle.ide_ssr_matching.specs.Bindings.{counted};
-ghost use Rattle.ide_ssr_matching.specs.Children.{is_closing, bare};
+ghost use Rattle.ide_ssr_token_trees.specs.Elements.{is_trivia_part};
+ghost use Rattle.ide_ssr_matching.specs.Children.{bare};
 ghost use Rattle.ide_ssr_matching.specs.UsedPaths.{holds_arguments, from_arguments, arguments_of};
-ghost use Rattle.ide_ssr_matching.specs.PatternIterator.{is_trivia_part};
 ghost use Rattle.ide_ssr_matching.specs.Private.Children.{has_kind, closes_part, solid, siblings_left, IsBelow, AreKept};
 
 use ide_ssr_resolving::{is_arguments, last_segment};
+use ide_ssr_token_trees::{is_closing, is_trivia};
 use ssr_base::Res;
 use ssr_syntax_kinds::SyntaxKind;
 use ssr_syntax_tree::{Children, Element, NodeNo, Tree};
@@ -20,28 +21,6 @@ pub(crate) struct Siblings<'a> {
     /// One that was looked at, in front of the others.
     held: Option<Element>,
     left: Children<'a>,
-}
-
-/// Whether a closing bracket is of this kind.
-#[tactic(auto, unfolding(crate::specs::Children::is_closing))]
-fn is_closing(kind: SyntaxKind) -> bool
-    ensures { result ≡ is_closing kind }
-{
-    matches!(
-        kind,
-        SyntaxKind::R_PAREN | SyntaxKind::R_CURLY | SyntaxKind::R_BRACK
-    )
-}
-
-/// Whether a child is trivia.
-pub(crate) fn is_trivia(tree: &Tree, child: Element) -> bool
-    requires { HasElement tree.now child }
-    ensures { result ≡ is_trivia_part (part_of tree.now child) }
-{
-    match child {
-        Element::Token(token) => tree.token_kind(token).is_trivia(),
-        Element::Node(_) => false,
-    }
 }
 
 /// Whether a child is a comma.

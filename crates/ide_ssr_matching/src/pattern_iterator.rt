@@ -5,7 +5,7 @@ ghost use Rattle.std.specs.Iterator.{YieldsFirst};
 ghost use Rattle.ssr_syntax_tree.specs.Places.{HasNode, HasElement, node_of, elements_of};
 ghost use Rattle.ide_ssr_matching.specs.PatternIterator.{without_trivia};
 
-use crate::children::is_trivia;
+use ide_ssr_token_trees::is_trivia;
 use ssr_syntax_tree::{Children, Element, NodeNo, Tree};
 use std::marker::Model;
 

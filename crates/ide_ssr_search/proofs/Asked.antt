@@ -18,7 +18,8 @@ use Rattle.ide_ssr_resolving.specs.Resolved.{ResolvedKind}
 use Rattle.ide_ssr_resolving.specs.declared.qualified_calls.QualifiedCall.{QualifiedCall}
 use Rattle.ide_ssr_resolving.specs.Placeholders.{placeholder_at}
 use Rattle.ide_ssr_found.specs.declared.bindings.Binding.{Binding}
-use Rattle.ide_ssr_matching.specs.Children.{closes, is_left_out, bare}
+use Rattle.ide_ssr_token_trees.specs.Elements.{closes}
+use Rattle.ide_ssr_matching.specs.Children.{is_left_out, bare}
 use Rattle.ide_ssr_matching.specs.Calls.{call_of}
 use Rattle.ide_ssr_matching.specs.Matching.{Matches, bound, token_trees, method, used, named, alike, Pairs, end, tokens, nodes}
 use Rattle.ide_ssr_matching.specs.UsedPaths.{pattern_res}

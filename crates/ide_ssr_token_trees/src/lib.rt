@@ -1,8 +1,10 @@
 //! Token trees: whether one of the code matches one of a pattern, and what the placeholders hold then.
 #![tactic(auto)]
 
+mod elements;
 pub mod laws;
 mod matching;
 mod siblings;
 
+pub use elements::{is_closing, is_trivia};
 pub use matching::match_token_trees;

@@ -9,6 +9,7 @@ ghost use Rattle.ide_ssr_token_trees.specs.Elements.{is_closing, last_comma, is_
 ghost use Rattle.ide_ssr_token_trees.specs.Private.Siblings.{siblings_left, parts_left, number_of, closes_part, comma_at, run_by, behind_run, IsRest};
 ghost use Rattle.ide_ssr_token_trees.specs.TokenTrees.{is_passed};
 
+use crate::elements::{is_closing, is_trivia};
 use ssr_base::TokenRun;
 use ssr_syntax_kinds::SyntaxKind;
 use ssr_syntax_tree::{Children, Element, NodeNo, TokenNo, Tree};
@@ -21,28 +22,6 @@ pub(crate) struct Siblings<'a> {
     /// One that was looked at, in front of the others.
     held: Option<Element>,
     left: Children<'a>,
-}
-
-/// Whether a closing bracket is of this kind.
-#[tactic(auto, unfolding(crate::specs::Elements::is_closing))]
-fn is_closing(kind: SyntaxKind) -> bool
-    ensures { result ≡ is_closing kind }
-{
-    matches!(
-        kind,
-        SyntaxKind::R_PAREN | SyntaxKind::R_CURLY | SyntaxKind::R_BRACK
-    )
-}
-
-/// Whether an element is trivia.
-fn is_trivia(tree: &Tree, element: Element) -> bool
-    requires { HasElement tree.now element }
-    ensures { result ≡ is_trivia_part (part_of tree.now element) }
-{
-    match element {
-        Element::Token(token) => tree.token_kind(token).is_trivia(),
-        Element::Node(_) => false,
-    }
 }
 
 /// The tokens of an element.

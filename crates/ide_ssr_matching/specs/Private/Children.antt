@@ -7,8 +7,8 @@ use Rattle.ssr_syntax_tree.specs.declared.number.Element.TheVariants as element
 use Rattle.ssr_syntax_tree.specs.Syntax.{Syntax}
 use Rattle.ssr_syntax_tree.specs.Places.{Part, token_part, node_part, node_of, HasNode, HasToken, HasElement, IsAbove}
 use Rattle.ide_ssr_matching.specs.declared.children.Siblings.{Siblings}
-use Rattle.ide_ssr_matching.specs.Children.{is_closing}
-use Rattle.ide_ssr_matching.specs.PatternIterator.{is_trivia_part}
+use Rattle.ide_ssr_token_trees.specs.Elements.{is_closing}
+use Rattle.ide_ssr_token_trees.specs.Elements.{is_trivia_part}
 
 -- whether a sibling is a token of a kind
 abbrev pub has_kind : SyntaxKind → Part → Bool
