@@ -1,5 +1,7 @@
 //! A provider for measuring alone, which tells for each path and method call of the files a definition by its text.
 
+ghost use Rattle.ssr_syntax_tree.specs.Places.{HasNode, HasElement};
+
 use ssr_base::{DefId, DefInfo, DefKind, NodeId, Res, ScopeId, SelfKind, TypeId, Workspace};
 use ssr_facts::{Definition, Method, NameKey, PrintedKey, TableSemantics, Tables};
 use ssr_syntax_kinds::SyntaxKind;
@@ -81,23 +83,34 @@ fn printed(alloc: Global) -> Result<Vec<(PrintedKey, String)>, AllocError> {
     Ok(printed)
 }
 
-/// Whether a method call calls a method of this name.
-fn calls(tree: &Tree, call: NodeNo, name: &str) -> bool {
-    tree.children(call).any(|child| match child {
+/// Whether a child of a method call is this name of a method.
+fn is_name(tree: &Tree, child: Element, name: &str) -> bool
+    requires { HasElement tree.now child }
+{
+    match child {
         Element::Node(child) => {
             tree.kind(child).is(SyntaxKind::NAME_REF) && tree.text(child) == name
         }
         Element::Token(_) => false,
-    })
+    }
+}
+
+/// Whether a method call calls a method of this name.
+fn calls(tree: &Tree, call: NodeNo, name: &str) -> bool
+    requires { HasNode tree.now call.0 }
+{
+    for child in tree.children(call) {
+        if is_name(tree, child, name) {
+            return true;
+        }
+    }
+    false
 }
 
 /// Adds what is known of a node.
-fn push_node(
-    alloc: Global,
-    tables: &mut Tables,
-    tree: &Tree,
-    id: NodeId,
-) -> Result<(), AllocError> {
+fn push_node(alloc: Global, tables: &mut Tables, tree: &Tree, id: NodeId) -> Result<(), AllocError>
+    requires { HasNode tree.now id.node.0 }
+{
     let node = id.node;
     tables.scopes.push((id, SCOPE))?;
     match tree.kind(node) {
@@ -148,10 +161,10 @@ pub(crate) fn semantics(
         types: Vec::new(alloc),
         printed: printed(alloc)?,
     };
-    let mut number = 0;
-    while let Some(tree) = workspace.tree(number) {
-        push_tree(alloc, &mut tables, tree, number)?;
-        number = number.saturating_add(1);
+    for number in 0..workspace.file_count() {
+        if let Some(tree) = workspace.tree(number) {
+            push_tree(alloc, &mut tables, tree, number)?;
+        }
     }
     TableSemantics::new(alloc, tables)
 }
