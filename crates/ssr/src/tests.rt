@@ -192,6 +192,28 @@ fn rewrites_items_and_statements(rt: HostRuntime) -> Result<(), Fail> {
 }
 
 #[test]
+fn rewrites_macro_calls(rt: HostRuntime) -> Result<(), Fail> {
+    let rows = [
+        (
+            "$m!(41, $a, 43) ==>> [$a]",
+            "fn f() {foo!(41, 42, 43)}",
+            "fn f() {[( 42)]}",
+        ),
+        (
+            "$m!($a) ==>> $a?",
+            "fn f() {bar(try_!(foo()));}",
+            "fn f() {bar(foo()?);}",
+        ),
+        (
+            "$m!($a, $b) ==>> $m!($b, $a)",
+            "fn f() {g!(1 + 2, x)}",
+            "fn f() {g!(( x), (1 + 2))}",
+        ),
+    ];
+    rewrites(&rt, &rows)
+}
+
+#[test]
 fn rewrites_literals(rt: HostRuntime) -> Result<(), Fail> {
     let rows = [
         (SWAP, "fn f() {\"é\" + x}", "fn f() {x + \"é\"}"),
