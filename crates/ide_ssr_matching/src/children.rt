@@ -6,10 +6,10 @@ ghost use Rattle.ide_ssr_matching.specs.Bindings.{counted};
 ghost use Rattle.ide_ssr_token_trees.specs.Elements.{is_trivia_part};
 ghost use Rattle.ide_ssr_matching.specs.Children.{bare};
 ghost use Rattle.ide_ssr_matching.specs.UsedPaths.{holds_arguments, from_arguments, arguments_of};
-ghost use Rattle.ide_ssr_matching.specs.Private.Children.{has_kind, closes_part, solid, siblings_left, IsBelow, AreKept};
+ghost use Rattle.ide_ssr_matching.specs.Private.Children.{has_kind, solid, siblings_left, IsBelow, AreKept};
 
 use ide_ssr_resolving::{is_arguments, last_segment};
-use ide_ssr_token_trees::{is_closing, is_trivia};
+use ide_ssr_token_trees::{closes, is_trivia};
 use ssr_base::Res;
 use ssr_syntax_kinds::SyntaxKind;
 use ssr_syntax_tree::{Children, Element, NodeNo, Tree};
@@ -30,17 +30,6 @@ fn is_comma(tree: &Tree, child: Element) -> bool
 {
     match child {
         Element::Token(token) => tree.token_kind(token).is(SyntaxKind::COMMA),
-        Element::Node(_) => false,
-    }
-}
-
-/// Whether a child is a bracket directly before which a comma may stand or not.
-fn closes(tree: &Tree, child: Element) -> bool
-    requires { HasElement tree.now child }
-    ensures { result ≡ closes_part (part_of tree.now child) }
-{
-    match child {
-        Element::Token(token) => is_closing(tree.token_kind(token)),
         Element::Node(_) => false,
     }
 }

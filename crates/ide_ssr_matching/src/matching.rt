@@ -2,8 +2,7 @@
 
 ghost use Rattle.std.specs.Prelude.{◌≡◌, ◌++◌, All, IfOk, OnOk, map, option_map};
 ghost use Rattle.std.specs.Option.{option_and_then};
-ghost use Rattle.ssr_syntax_tree.specs.Places.{HasNode, HasToken, HasElement, node_of, root_of, token_of, part_of};
-ghost use Rattle.ssr_syntax_tree.specs.Syntax.{same_token};
+ghost use Rattle.ssr_syntax_tree.specs.Places.{HasNode, HasElement, node_of, root_of, part_of};
 ghost use Rattle.ssr_base.specs.Workspace.{node_id};
 ghost use Rattle.ide_ssr_matching.specs.Bindings.{placeholder_by, stands_for, pair_by, pairs_by, counted_by, can_match, like_sides, sides_of, sides_by, bindings_of, like_pairs};
 ghost use Rattle.ide_ssr_matching.specs.Calls.{method_sides};
@@ -19,9 +18,10 @@ use crate::records::{NamedLists, elements_of};
 use crate::token_trees::{is_plain, is_tree, tree_matches};
 use ide_ssr_found::Binding;
 use ide_ssr_resolving::{QualifiedCall, ResolvedRule};
+use ide_ssr_token_trees::tokens_match;
 use ssr_base::{NodeId, Res, Semantics};
 use ssr_syntax_kinds::SyntaxKind;
-use ssr_syntax_tree::{Element, NodeNo, TokenNo, Tree};
+use ssr_syntax_tree::{Element, NodeNo, Tree};
 use std::alloc::{AllocError, Global};
 
 /// Whether a placeholder of the rule matches the node `c` of the code; if so, `out` gets that it binds it.
@@ -354,15 +354,6 @@ fn pair_matches<S: Semantics>(
         (Element::Token(p), Element::Token(c)) => Ok(tokens_match(rule.pattern(), p, code, c)),
         _ => Ok(false),
     }
-}
-
-/// Whether two tokens have one kind and one text.
-fn tokens_match(pattern: &Tree, p: TokenNo, code: &Tree, c: TokenNo) -> bool
-    requires p_in { HasToken pattern.now p.0 }
-    requires c_in { HasToken code.now c.0 }
-    ensures { result ≡ same_token (token_of pattern.now p.0) (token_of code.now c.0) }
-{
-    pattern.token_kind(p).is(code.token_kind(c)) && pattern.token_text(p) == code.token_text(c)
 }
 
 /// What the placeholders of the rule's pattern bind where the node matches it, which is one of `tree`.

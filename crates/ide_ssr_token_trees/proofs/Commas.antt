@@ -9,8 +9,8 @@ use Rattle.ssr_syntax_tree.specs.declared.number.Element.{Element}
 use Rattle.ssr_syntax_tree.specs.Syntax.{Syntax}
 use Rattle.ssr_syntax_tree.specs.Places.{Part, token_part, node_part, part_of, parts_of, elements_of, node_of, HasNode, HasElement}
 use Rattle.ssr_syntax_tree.proofs.Shared.{elements_had, parts_of-elements_of}
-use Rattle.ide_ssr_token_trees.specs.Elements.{is_closing, closes, last_comma}
-use Rattle.ide_ssr_token_trees.specs.Private.Siblings.{closes_part, comma_at, comma_before}
+use Rattle.ide_ssr_token_trees.specs.Elements.{is_closing, closes, closes_part, last_comma}
+use Rattle.ide_ssr_token_trees.specs.Private.Siblings.{comma_at, comma_before}
 
 -- a kind that is trivia is that of no closing bracket
 trivia_open : (kind : SyntaxKind) → is_trivia kind ≡ true → is_closing kind ≡ false

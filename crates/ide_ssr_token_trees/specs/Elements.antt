@@ -24,6 +24,11 @@ is_closing k.R_CURLY = true
 is_closing k.R_BRACK = true
 is_closing _ = false
 
+-- whether an element is a closing bracket
+abbrev pub closes_part : Part → Bool
+closes_part (token_part t token) = is_closing token.kind
+closes_part (node_part node) = false
+
 -- whether the first of these elements that is no trivia is a closing bracket
 abbrev pub closes : List Part → Bool
 closes [] = false

@@ -6,5 +6,5 @@ pub mod laws;
 mod matching;
 mod siblings;
 
-pub use elements::{is_closing, is_trivia};
+pub use elements::{closes, is_trivia, tokens_match};
 pub use matching::match_token_trees;

@@ -3,13 +3,13 @@
 ghost use Rattle.std.specs.Prelude.{◌≡◌, ◌<◌, ◌^◌, [], None, List, Option, ℕ, All, IfOk, if◌then◌else◌};
 ghost use Rattle.std.specs.Option.{option_copied};
 ghost use Rattle.ssr_syntax_tree.specs.Places.{Part, HasNode, HasToken, HasElement, node_of, token_of, part_of};
-ghost use Rattle.ssr_syntax_tree.specs.Syntax.{same_token};
 ghost use Rattle.ide_ssr_found.specs.declared.bindings.Binding.{Binding};
 ghost use Rattle.ide_ssr_token_trees.specs.Bindings.{placeholder_in, placeholder_by, leaf_by, tree_bindings, Answers};
 ghost use Rattle.ide_ssr_token_trees.specs.Elements.{without_trivia, is_number, next_text, tokens_among};
 ghost use Rattle.ide_ssr_token_trees.specs.Private.Matching.{is_same, Steps, ElementSteps};
 ghost use Rattle.ide_ssr_token_trees.specs.Private.Siblings.{siblings_left, parts_left, number_of, IsRest};
 
+use crate::elements::tokens_match;
 use crate::siblings::Siblings;
 use ide_ssr_found::Binding;
 use ssr_syntax_tree::{Element, NodeNo, TokenNo, Tree};
@@ -23,15 +23,6 @@ fn placeholder_at(placeholders: &[Option<u32>], token: TokenNo) -> Option<u32>
         Some(placeholder) => *placeholder,
         None => None,
     }
-}
-
-/// Whether two tokens have one kind and one text.
-fn tokens_match(pattern: &Tree, p: TokenNo, code: &Tree, c: TokenNo) -> bool
-    requires p_in { HasToken pattern.now p.0 }
-    requires c_in { HasToken code.now c.0 }
-    ensures { result ≡ same_token (token_of pattern.now p.0) (token_of code.now c.0) }
-{
-    pattern.token_kind(p).is(code.token_kind(c)) && pattern.token_text(p) == code.token_text(c)
 }
 
 /// Whether an element of the code is a token with the kind and the text of one of the pattern.

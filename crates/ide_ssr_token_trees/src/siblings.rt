@@ -5,11 +5,11 @@ ghost use Rattle.std.specs.Option.{IfSome, option_copied};
 ghost use Rattle.ssr_syntax_tree.specs.Places.{HasNode, HasElement, node_of, part_of, parts_of, elements_of};
 ghost use Rattle.ssr_syntax_tree.specs.Syntax.{token_count};
 ghost use Rattle.ide_ssr_token_trees.specs.Bindings.{passed};
-ghost use Rattle.ide_ssr_token_trees.specs.Elements.{is_closing, last_comma, is_number, is_trivia_part, without_trivia, first_text, first_token, tokens_at, tokens_among, next_text, same_text, up_to, from};
-ghost use Rattle.ide_ssr_token_trees.specs.Private.Siblings.{siblings_left, parts_left, number_of, closes_part, comma_at, run_by, behind_run, IsRest};
+ghost use Rattle.ide_ssr_token_trees.specs.Elements.{closes_part, last_comma, is_number, is_trivia_part, without_trivia, first_text, first_token, tokens_at, tokens_among, next_text, same_text, up_to, from};
+ghost use Rattle.ide_ssr_token_trees.specs.Private.Siblings.{siblings_left, parts_left, number_of, comma_at, run_by, behind_run, IsRest};
 ghost use Rattle.ide_ssr_token_trees.specs.TokenTrees.{is_passed};
 
-use crate::elements::{is_closing, is_trivia};
+use crate::elements::{closes, is_trivia};
 use ssr_base::TokenRun;
 use ssr_syntax_kinds::SyntaxKind;
 use ssr_syntax_tree::{Children, Element, NodeNo, TokenNo, Tree};
@@ -65,17 +65,6 @@ fn begins_with(tree: &Tree, element: Element, text: Option<&str>) -> bool
     match (first_text(tree, element), text) {
         (Some(first), Some(text)) => first == text,
         _ => false,
-    }
-}
-
-/// Whether an element is a closing bracket.
-fn closes(tree: &Tree, element: Element) -> bool
-    requires { HasElement tree.now element }
-    ensures { result ≡ closes_part (part_of tree.now element) }
-{
-    match element {
-        Element::Token(token) => is_closing(tree.token_kind(token)),
-        Element::Node(_) => false,
     }
 }
 

@@ -7,18 +7,12 @@ use Rattle.ssr_syntax_tree.specs.declared.number.Element.TheVariants as element
 use Rattle.ssr_syntax_tree.specs.Syntax.{Syntax}
 use Rattle.ssr_syntax_tree.specs.Places.{Part, token_part, node_part, node_of, HasNode, HasToken, HasElement, IsAbove}
 use Rattle.ide_ssr_matching.specs.declared.children.Siblings.{Siblings}
-use Rattle.ide_ssr_token_trees.specs.Elements.{is_closing}
 use Rattle.ide_ssr_token_trees.specs.Elements.{is_trivia_part}
 
 -- whether a sibling is a token of a kind
 abbrev pub has_kind : SyntaxKind → Part → Bool
 has_kind kind (token_part t token) = same_kind token.kind kind
 has_kind kind (node_part node) = false
-
--- whether a sibling, if there is one, is a bracket directly before which a comma may stand or not
-abbrev pub closes_part : Part → Bool
-closes_part (token_part t token) = is_closing token.kind
-closes_part (node_part node) = false
 
 -- siblings from the first one on that is no trivia
 abbrev pub solid : List Part → List Part

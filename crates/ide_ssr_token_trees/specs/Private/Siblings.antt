@@ -10,7 +10,7 @@ use Rattle.ssr_syntax_tree.specs.Syntax.{Syntax}
 use Rattle.ssr_syntax_tree.specs.Places.{Part, token_part, node_part, node_of, part_of, HasNode, HasToken, IsAbove}
 use Rattle.ssr_base.specs.declared.ids.TokenRun.{TokenRun}
 use Rattle.ide_ssr_token_trees.specs.declared.siblings.Siblings.{Siblings}
-use Rattle.ide_ssr_token_trees.specs.Elements.{is_closing, closes, last_comma, run_over, up_to, from}
+use Rattle.ide_ssr_token_trees.specs.Elements.{closes, last_comma, run_over, up_to, from}
 
 abbrev pub siblings_left : Siblings → List Element
 siblings_left siblings = option_to_list siblings.held ++ siblings.left
@@ -32,11 +32,6 @@ pub record IsRest (before : Siblings) (came : List Element) (after : Siblings) :
 abbrev pub IsBelow : Syntax → ℕ → Element → Type 0
 IsBelow tree n (element.Node m) = HasNode tree m.0 × IsAbove (node_of tree n) m.0
 IsBelow tree n (element.Token t) = HasToken tree t.0
-
--- whether an element is a closing bracket
-abbrev pub closes_part : Part → Bool
-closes_part (token_part t token) = is_closing token.kind
-closes_part (node_part node) = false
 
 -- the last comma, trivia aside, where there was this one before an element
 abbrev pub comma_at : Option ℕ → Part → Option ℕ
