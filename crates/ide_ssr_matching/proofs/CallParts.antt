@@ -9,6 +9,7 @@ use Rattle.ssr_syntax_kinds.specs.declared.kinds.SyntaxKind.TheVariants as k
 use Rattle.ssr_syntax_kinds.specs.Kinds.{same_kind}
 use Rattle.ssr_syntax_tree.specs.Places.{Node, Part, token_part, node_part, parts_of}
 use Rattle.ssr_base.specs.Meanings.{Meanings}
+use Rattle.ssr_base.specs.Workspace.{node_id}
 use Rattle.ide_ssr_resolving.specs.declared.qualified_calls.QualifiedCall.{QualifiedCall}
 use Rattle.ide_ssr_resolving.specs.Paths.{first_of_kind}
 use Rattle.ide_ssr_resolving.specs.Resolved.{ResolvedKind}
@@ -16,7 +17,7 @@ use Rattle.ide_ssr_matching.specs.declared.receivers.Receiver.{Receiver}
 use Rattle.ide_ssr_matching.specs.Children.{bare}
 use Rattle.ide_ssr_matching.specs.UsedPaths.{arguments_of, pattern_res}
 use Rattle.ide_ssr_matching.specs.Sides.{Sides}
-use Rattle.ide_ssr_matching.specs.Calls.{nodes_among, child_nodes, first_node, Called, are_call, called_with, called_in, called, Method, method_in, method_call, method_pairs, alike_pairs, receiver_with, method_with, method_sides}
+use Rattle.ide_ssr_matching.specs.Calls.{nodes_among, child_nodes, first_among, first_node, derefs, calls_same, Called, are_call, called_with, called_in, called, Method, method_in, method_call, method_pairs, alike_pairs, receiver_with, method_with, method_sides}
 
 -- ** Nodes among parts.
 
@@ -105,6 +106,14 @@ module _ (p : Node) (call : Called) where
   pub is_called : called p ≡ Some call → IsCalled p call
   is_called is = by_nodes (child_nodes p) refl is
 
+-- the callee's path is the first node below the first one
+pub callee_path : (p : Node) (found : Called) → called p ≡ Some found → (o : Option Node) → o ≡ first_among (child_nodes p)
+    → (callee : Node) → o ≡ Some callee → first_among (child_nodes callee) ≡ Some found.path
+callee_path p found is o o_is callee callee_is =
+    let call = is_called p found is in
+    let same : callee ≡ call.callee = same_Some callee call.callee (sym callee_is ∙ o_is ∙ ap first_among call.nodes) in
+    ap (λ callee. first_among (child_nodes callee)) same ∙ ap first_among call.path
+
 -- ** A qualified call against a method call.
 
 pub record IsMethodMatch (m : Meanings) (tree : ℕ) (rule : ResolvedKind) (call : QualifiedCall) (p c : Node) (sides : Sides) : Type 0 where
@@ -152,6 +161,33 @@ module _ (m : Meanings) (tree : ℕ) (rule : ResolvedKind) (call : QualifiedCall
 
   pub method_match : method_sides m tree rule call p c ≡ Some sides → IsMethodMatch m tree rule call p c sides
   method_match is = by_called (called p) refl is
+
+-- a method call that calls something else
+module _ (m : Meanings) (tree : ℕ) (rule : ResolvedKind) (call : QualifiedCall) (p c : Node) where
+  pub uncalled : ((found : Called) → called p ≡ Some found → calls_same m (pattern_res rule found.path) (node_id tree c.number) ≡ false)
+      → method_sides m tree rule call p c ≡ None
+  uncalled other = by (called p) refl
+    where
+      without : (found : Called) (method : Method) (b : Bool) → calls_same m (pattern_res rule found.path) (node_id tree c.number) ≡ b → b ≡ false
+          → method_with m tree rule call.qualifier_type c found method ≡ None
+      without found method b is differs =
+          ap (option_and_then (alike_pairs found method))
+          (ap
+          (λ b. cond b
+          (option_map
+          (λ count. record { node = record { 0 = method.receiver.number }; deref_count = count; self_kind = m.self_kind (node_id tree c.number) })
+          (derefs m call.qualifier_type (node_id tree method.receiver.number))) None)
+          (is ∙ differs))
+
+      by_method : (found : Called) → calls_same m (pattern_res rule found.path) (node_id tree c.number) ≡ false → (o : Option Method)
+          → option_and_then (method_with m tree rule call.qualifier_type c found) o ≡ None
+      by_method found differs None = refl
+      by_method found differs (Some method) = without found method _ refl differs
+
+      by : (o : Option Called) → called p ≡ o
+          → option_and_then (λ called. option_and_then (method_with m tree rule call.qualifier_type c called) (method_call c)) o ≡ None
+      by None is = refl
+      by (Some found) is = by_method found (other found is) (method_call c)
 
 -- the nodes of a method call
 pub record HasMethod (c : Node) (method : Method) : Type 0 where

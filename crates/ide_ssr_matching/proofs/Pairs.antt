@@ -61,6 +61,11 @@ none_else : (o : Option ℕ) → ((i : ℕ) → o ≡ Some i → ⊥) → o ≡ 
 none_else None h = refl
 none_else (Some i) h = absurd (h i refl)
 
+-- where the answer is no, nothing is bound
+unmatched : (o : Option (List Binding)) (old new : List Binding) (a : Bool) → a ≡ false → Answers o old new a → o ≡ None
+unmatched o old new a failed (matched bs is found added) = let e : true ≡ false = sym is ∙ failed in cc
+unmatched o old new a failed (other is none) = none
+
 pub lent_next : (lent pattern : Syntax) (p : Element) (before ps : List Element) → lent ≡ pattern
     → bare (map (part_of lent) before) ≡ part_of lent p ∷ bare (map (part_of lent) ps)
     → bare (map (part_of pattern) before) ≡ part_of pattern p ∷ bare (map (part_of pattern) ps)
@@ -464,26 +469,38 @@ module _ (ms : Meanings) (tree : ℕ) (rule : ResolvedKind) where
         like-tested (node_of pattern n.0) (node_of code m) used d res_is
         (ap (λ b. b && can_match ms tree rule used (node_of pattern n.0) (node_of code m)) (kinds_are ∙ sym b_is ∙ same) ∙ sym d_is)
 
-    pub unmatched-from : (old : List Binding) (b d : Bool) → b ≡ same_kind pk ck → b ≡ true
-        → d ≡ can_match ms tree rule used (node_of pattern n.0) (node_of code m) → d ≡ false
-        → Answers (option_and_then (sides_by (bindings_of ms tree rule)) (like_sides ms tree rule (node_of pattern n.0) (node_of code m))) old old false
-    unmatched-from old b d b_is same d_is differs =
-        other refl
-        (ap (option_and_then (sides_by (bindings_of ms tree rule)))
-        (by_can b d b_is same d_is
-        ∙ ap (λ d. cond d (like_pairs ms tree rule used (node_of pattern n.0) (node_of code m)) None) differs))
+    -- they don't match where their parts don't pair, whatever they can match
+    pub unpaired-from : (old new : List Binding) (a b : Bool) → b ≡ same_kind pk ck → b ≡ true → a ≡ false
+        → Answers (option_and_then (sides_by (bindings_of ms tree rule)) (like_pairs ms tree rule used (node_of pattern n.0) (node_of code m))) old new a
+        → Answers (option_and_then (sides_by (bindings_of ms tree rule)) (like_sides ms tree rule (node_of pattern n.0) (node_of code m))) old new false
+    unpaired-from old new a b b_is same failed answers =
+        let d = can_match ms tree rule used (node_of pattern n.0) (node_of code m) in
+        other refl (ap (option_and_then (sides_by (bindings_of ms tree rule))) (by_can b d b_is same refl) ∙ by d (unmatched _ old new a failed answers))
+      where
+        by : (d : Bool) → option_and_then (sides_by (bindings_of ms tree rule)) (like_pairs ms tree rule used (node_of pattern n.0) (node_of code m)) ≡ None
+            → option_and_then (sides_by (bindings_of ms tree rule))
+            (cond d (like_pairs ms tree rule used (node_of pattern n.0) (node_of code m)) None)
+            ≡ None
+        by true none = none
+        by false none = refl
 
-    -- they match as the parts that have to pair do
-    pub pairs-from : {E : Type 0} (result : Result Bool E) (old new : List Binding) (b d : Bool) → b ≡ same_kind pk ck → b ≡ true
-        → d ≡ can_match ms tree rule used (node_of pattern n.0) (node_of code m) → d ≡ true
-        → IfOk result (λ b. Answers (option_and_then (sides_by (bindings_of ms tree rule)) (like_pairs ms tree rule used (node_of pattern n.0) (node_of code m))) old new b)
-        → IfOk result (λ b. Answers (option_and_then (sides_by (bindings_of ms tree rule)) (like_sides ms tree rule (node_of pattern n.0) (node_of code m))) old new b)
-    pairs-from result old new b d b_is same d_is can answers =
-        subst (λ o. IfOk result (λ b. Answers o old new b))
-        (sym
-        (ap (option_and_then (sides_by (bindings_of ms tree rule)))
-        (by_can b d b_is same d_is ∙ ap (λ d. cond d (like_pairs ms tree rule used (node_of pattern n.0) (node_of code m)) None) can)))
-        answers
+    -- where these pair, they match if they can
+    pub paired-from : (old new : List Binding) (a b d : Bool) → b ≡ same_kind pk ck → b ≡ true → a ≡ true
+        → d ≡ can_match ms tree rule used (node_of pattern n.0) (node_of code m)
+        → Answers (option_and_then (sides_by (bindings_of ms tree rule)) (like_pairs ms tree rule used (node_of pattern n.0) (node_of code m))) old new a
+        → Answers (option_and_then (sides_by (bindings_of ms tree rule)) (like_sides ms tree rule (node_of pattern n.0) (node_of code m))) old new d
+    paired-from old new a b d b_is same paired d_is answers =
+        subst (λ o. Answers (option_and_then (sides_by (bindings_of ms tree rule)) o) old new d) (sym (by_can b d b_is same d_is))
+        (by d (subst (Answers _ old new) paired answers))
+      where
+        by : (d : Bool)
+            → Answers (option_and_then (sides_by (bindings_of ms tree rule)) (like_pairs ms tree rule used (node_of pattern n.0) (node_of code m))) old new true
+            → Answers
+            (option_and_then (sides_by (bindings_of ms tree rule))
+            (cond d (like_pairs ms tree rule used (node_of pattern n.0) (node_of code m)) None))
+            old new d
+        by true answers = answers
+        by false answers = other refl refl
 
   -- ** The parts of such a node.
 

@@ -1,11 +1,12 @@
 //! Qualified calls of a pattern against calls of the code.
 
-ghost use Rattle.std.specs.Prelude.{ℕ, ◌≡◌, ◌++◌, All, Contains, IfOk, IfSome, OnOk, option_map, map};
+ghost use Rattle.std.specs.Prelude.{ℕ, false, Some, ◌≡◌, ◌++◌, All, Contains, IfOk, IfSome, OnOk, option_map, map};
 ghost use Rattle.std.specs.List.{position};
 ghost use Rattle.ssr_syntax_tree.specs.Places.{HasNode, node_of, node_part, part_of};
 ghost use Rattle.ssr_base.specs.Workspace.{node_id};
-ghost use Rattle.ide_ssr_matching.specs.Calls.{child_nodes, first_node, generics_among, arguments_among, method_call, method_parts, are_call, called_with, called, same_type, derefs, calls_same, receiver_with, alike_pairs, method_sides, can_be_call};
+ghost use Rattle.ide_ssr_matching.specs.Calls.{Called, child_nodes, first_among, first_node, generics_among, arguments_among, method_call, method_parts, are_call, called_with, called, same_type, derefs, calls_same, receiver_with, alike_pairs, method_sides, can_be_call};
 ghost use Rattle.ide_ssr_matching.specs.Private.Calls.{nodes_named, nodes_at, IsNodeBelow, called_at, AreCalledBelow, method_at, IsMethodBelow, sides_at, AreSidesBelow};
+ghost use Rattle.ide_ssr_matching.specs.UsedPaths.{pattern_res};
 ghost use Rattle.ide_ssr_matching.specs.Private.Children.{IsBelow};
 
 use crate::children::bare_arguments;
@@ -65,6 +66,21 @@ pub(crate) fn child_nodes(
         push_node(child, &mut nodes)?;
     }
     Ok(nodes)
+}
+
+/// The first child of a node that is one.
+fn first_child(tree: &Tree, node: NodeNo) -> Option<NodeNo>
+    requires { HasNode tree.now node.0 }
+    ensures child { option_map (λ child. node_of tree.now child.0) result ≡ first_among (child_nodes (node_of tree.now node.0)) }
+    ensures below { IfSome result (IsNodeBelow tree.now node.0) }
+{
+    for child in tree.children(node) {
+        match child {
+            Element::Node(child) => return Some(child),
+            Element::Token(_) => {}
+        }
+    }
+    None
 }
 
 /// The first node of a kind.
@@ -323,6 +339,35 @@ fn method_pairs(
     }))
 }
 
+/// The path that is the callee of a call of the pattern, where that is a qualified one.
+fn callee(tree: &Tree, call: NodeNo) -> Option<NodeNo>
+    requires { HasNode tree.now call.0 }
+    ensures path { (found : Called) → called (node_of tree.now call.0) ≡ Some found → option_map (λ path. node_of tree.now path.0) result ≡ Some found.path }
+    ensures there { IfSome result (λ path. HasNode tree.now path.0) }
+{
+    let expression = first_child(tree, call)?;
+    first_child(tree, expression)
+}
+
+/// Whether a method call may be what a qualified call says: whether it calls the same. Most method calls call something else,
+/// of which the parts need not be gathered.
+fn may_be_called<S: Semantics>(
+    alloc: Global,
+    semantics: &S,
+    rule: &ResolvedRule,
+    number: u32,
+    p: NodeNo,
+    c: NodeNo,
+) -> Result<bool, AllocError>
+    requires { HasNode rule.now.pattern p.0 }
+    ensures { IfOk result (λ may. may ≡ false → (found : Called) → called (node_of rule.now.pattern p.0) ≡ Some found → calls_same (S.meanings semantics.now) (pattern_res rule.now found.path) (node_id number c.0) ≡ false) }
+{
+    let Some(path) = callee(rule.pattern(), p) else {
+        return Ok(false);
+    };
+    calls_same(alloc, semantics, rule.pattern_res(path), number, c)
+}
+
 /// The parts that have to pair so that a qualified call of the pattern matches a method call; none, where that cannot be.
 pub(crate) fn method_sides<S: Semantics>(
     alloc: Global,
@@ -339,6 +384,9 @@ pub(crate) fn method_sides<S: Semantics>(
     ensures sides { IfOk result (λ sides. option_map (sides_at rule.now.pattern code.now) sides ≡ method_sides (S.meanings semantics.now) number rule.now call (node_of rule.now.pattern p.0) (node_of code.now c.0)) }
     ensures below { IfOk result (λ sides. IfSome sides (AreSidesBelow rule.now.pattern code.now p.0 c.0)) }
 {
+    if !may_be_called(alloc, semantics, rule, number, p, c)? {
+        return Ok(None);
+    }
     let pattern = rule.pattern();
     let Some(called) = called(alloc, pattern, p)? else {
         return Ok(None);

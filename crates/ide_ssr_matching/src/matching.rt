@@ -63,7 +63,7 @@ fn stands_for<S: Semantics>(
 }
 
 /// Whether the node `c`, which is of the kind of the node `p` of the pattern, can match it: where `p` is a used path, `c` has
-/// to stand for the same thing; where it is a qualified call, the first argument has to be of the qualifier's type.
+/// to stand for the same thing; where it is a qualified call with a qualifier type, the first argument has to be of that type.
 fn can_match<S: Semantics>(
     alloc: Global,
     semantics: &S,
@@ -242,10 +242,12 @@ fn like_matches<S: Semantics>(
         return Ok(false);
     }
     let used = rule.pattern_res(p);
-    if !can_match(alloc, semantics, rule, used, number, code, p, c)? {
+    // what names mean is asked last: most nodes differ before
+    if !pairs_match(alloc, semantics, rule, number, code, p, c, used, out)? {
         return Ok(false);
     }
-    pairs_match(alloc, semantics, rule, number, code, p, c, used, out)
+    let can = can_match(alloc, semantics, rule, used, number, code, p, c)?;
+    Ok(can)
 }
 
 /// The same for the parts of both nodes: lists of record fields pair by names, where all fields have some.

@@ -1,10 +1,11 @@
-//! What the roots of rules' patterns ask of a node: most nodes lack it, and need not be asked whether they match.
+//! What rules ask of a node, before it is asked whether it matches: most nodes lack it.
 ghost use Rattle.std.specs.Prelude.{◌≡◌, ◌&&◌, ◌∷◌, [], not, true, is_some, IfOk, IfSome};
 ghost use Rattle.std.specs.Option.{option_map_or};
 ghost use Rattle.ssr_syntax_kinds.specs.declared.kinds.SyntaxKind.{SyntaxKind as Kind};
 ghost use Rattle.ssr_syntax_tree.specs.Places.{Node, HasNode, HasElement, node_of, root_of, part_of, parts_of};
-ghost use Rattle.ide_ssr_search.specs.Private.Roots.{first_counted, has_token_of, pairs_otherwise, has_asked, has_kind, IsRootOf, AreRules};
+ghost use Rattle.ide_ssr_search.specs.Private.Roots.{first_counted, has_token_of, pairs_otherwise, has_asked, has_kind, IsRootOf, IsAskedBy, AreRules};
 
+use crate::permitted::names_self;
 use ide_ssr_resolving::ResolvedRule;
 use ssr_syntax_kinds::SyntaxKind;
 use ssr_syntax_tree::{Element, NodeNo, Tree};
@@ -131,6 +132,25 @@ impl Root {
     }
 }
 
+/// What a rule asks of each node at which it is tried.
+#[derive(Clone, Copy)]
+pub(crate) struct Asked {
+    pub(crate) root: Root,
+    /// Whether it asks that the node stands in the function around the position, since its pattern names the own `self`.
+    pub(crate) in_function: bool,
+}
+
+impl Asked {
+    fn by(rule: &ResolvedRule) -> Asked
+        ensures { IsAskedBy rule.now result }
+    {
+        Asked {
+            root: Root::of(rule),
+            in_function: names_self(rule.pattern()),
+        }
+    }
+}
+
 /// A set of kinds.
 #[derive(Clone, Copy)]
 pub(crate) struct KindSet {
@@ -184,32 +204,32 @@ impl KindSet {
     }
 }
 
-/// The rules of a search, and what the roots of their patterns ask.
+/// The rules of a search, and what they ask.
 #[derive(Drop)]
 pub(crate) struct Rules<'a> {
     pub(crate) rules: &'a [ResolvedRule],
     /// What each of them asks.
-    pub(crate) roots: Vec<Root>,
+    pub(crate) asked: Vec<Asked>,
     /// The kinds of the nodes that one of them may match, and of those that may shut in what is below them.
     kinds: KindSet,
 }
 
 impl<'a> Rules<'a> {
-    /// What the roots of the rules' patterns ask.
+    /// What rules ask.
     pub(crate) fn new(alloc: Global, rules: &'a [ResolvedRule]) -> Result<Rules<'a>, AllocError>
         ensures rules { IfOk result (λ made. made.rules.now ≡ rules.now) }
         ensures are { IfOk result AreRules }
     {
-        let mut roots = Vec::new(alloc);
+        let mut asked = Vec::new(alloc);
         let mut kinds = KindSet::shutting();
         for rule in rules {
-            let root = Root::of(rule);
-            roots.push(root)?;
-            kinds.add_asked(root);
+            let by_rule = Asked::by(rule);
+            asked.push(by_rule)?;
+            kinds.add_asked(by_rule.root);
         }
         Ok(Rules {
             rules,
-            roots,
+            asked,
             kinds,
         })
     }

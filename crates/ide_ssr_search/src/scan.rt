@@ -4,17 +4,18 @@ ghost use Rattle.std.specs.Option.{IsSomeAnd};
 ghost use Rattle.ssr_syntax_tree.specs.Places.{HasNode};
 ghost use Rattle.ssr_base.specs.Workspace.{trees, tree_of, node_id};
 ghost use Rattle.ssr_base.specs.Built.{IsBuilt};
+ghost use Rattle.ide_ssr_resolving.specs.Resolved.{ResolvedKind};
 ghost use Rattle.ide_ssr_found.specs.Found.{AreMatches};
 ghost use Rattle.ide_ssr_search.specs.Permitted.{IsOpen, IsInFunction, IsPermitted};
 ghost use Rattle.ide_ssr_search.specs.Found.{AreFound};
-ghost use Rattle.ide_ssr_search.specs.Private.Roots.{IsRootOf, AreRules};
+ghost use Rattle.ide_ssr_search.specs.Private.Roots.{IsAskedBy, AreRules};
 ghost use Rattle.ide_ssr_search.specs.Private.Shut.{IsShutIn, IsShut, TellsPast};
 ghost use Rattle.ide_ssr_search.specs.Private.Scan.{AreFoundBefore, IsGround, TellsMatch, Adds, KnowsShut, KnowsInside, IsEarlierCall, StandsIn};
 
 use crate::bounds::Bounds;
 use crate::context::Context;
-use crate::permitted::{is_at_or_below, is_searched, names_self, shuts};
-use crate::roots::{Root, Rules};
+use crate::permitted::{is_at_or_below, is_searched, shuts};
+use crate::roots::{Asked, Rules};
 use crate::whole::whole_match;
 use ide_ssr_found::{Binding, Found};
 use ide_ssr_resolving::ResolvedRule;
@@ -117,33 +118,36 @@ impl<'a> Ground<'a> {
         )
     }
 
-    /// Whether a rule is permitted at a node that nothing above it shuts in.
-    fn is_permitted(&self, rule: &ResolvedRule, node: NodeNo) -> bool
+    /// Whether a rule that asks this is permitted at a node that nothing above it shuts in.
+    fn is_permitted(&self, asked: Asked, node: NodeNo) -> bool
         requires ground { IsGround self.now }
         requires has { HasNode self.now.tree.now node.0 }
         requires free { ¬ IsShutIn (trees self.now.workspace.now) (node_id self.now.number node.0) }
-        ensures { IsTrue result ↔ IsPermitted self.now.workspace.now self.now.context.now rule.now (node_id self.now.number node.0) }
+        ensures { (rule : ResolvedKind) → IsAskedBy rule asked → IsTrue result ↔ IsPermitted self.now.workspace.now self.now.context.now rule (node_id self.now.number node.0) }
     {
-        self.is_open(node) && (!names_self(rule.pattern()) || self.is_in_function(node))
+        self.is_open(node) && (!asked.in_function || self.is_in_function(node))
     }
 
-    /// What the placeholders of a rule hold at such a node, if the rule is permitted there and matches as a whole. Whether
-    /// it matches is asked first: most nodes match no rule.
+    /// What the placeholders of a rule hold at such a node, if the rule is permitted there, which is asked first, and matches
+    /// as a whole.
     fn match_of<S: Semantics>(
         &self,
         alloc: Global,
         semantics: &S,
         rule: &ResolvedRule,
-        root: Root,
+        asked: Asked,
         node: NodeNo,
     ) -> Result<Option<Vec<Binding>>, AllocError>
         requires ground { IsGround self.now }
-        requires root { IsRootOf rule.now root }
+        requires asked { IsAskedBy rule.now asked }
         requires has { HasNode self.now.tree.now node.0 }
         requires free { ¬ IsShutIn (trees self.now.workspace.now) (node_id self.now.number node.0) }
         ensures { IfOk result (λ found. TellsMatch self.now.workspace.now (S.meanings semantics.now) self.now.context.now rule.now (node_id self.now.number node.0) (option_map (λ v. v.items) found)) }
     {
-        if !root.is_met(self.tree, node) {
+        if !asked.root.is_met(self.tree, node) {
+            return Ok(None);
+        }
+        if !self.is_permitted(asked, node) {
             return Ok(None);
         }
         let found = whole_match(
@@ -155,9 +159,6 @@ impl<'a> Ground<'a> {
             rule,
             self.id(node),
         )?;
-        if found.is_some() && !self.is_permitted(rule, node) {
-            return Ok(None);
-        }
         Ok(found)
     }
 
@@ -168,17 +169,17 @@ impl<'a> Ground<'a> {
         semantics: &S,
         place: usize,
         rule: &ResolvedRule,
-        root: Root,
+        asked: Asked,
         node: NodeNo,
         found: &mut Vec<Found>,
     ) -> Result<(), AllocError>
         requires ground { IsGround self.now }
-        requires root { IsRootOf rule.now root }
+        requires asked { IsAskedBy rule.now asked }
         requires has { HasNode self.now.tree.now node.0 }
         requires free { ¬ IsShutIn (trees self.now.workspace.now) (node_id self.now.number node.0) }
         ensures { IfOk result (λ _. Adds self.now.workspace.now (S.meanings semantics.now) self.now.context.now rule.now place (node_id self.now.number node.0) found.old.items found.new.items) }
     {
-        if let Some(bindings) = self.match_of(alloc, semantics, rule, root, node)? {
+        if let Some(bindings) = self.match_of(alloc, semantics, rule, asked, node)? {
             found.push(Found::new(place, self.id(node), bindings))?;
         }
         Ok(())
@@ -206,7 +207,7 @@ impl<'a> Ground<'a> {
                 semantics,
                 place,
                 rule,
-                rules.roots[place],
+                rules.asked[place],
                 node,
                 found,
             )?;

@@ -1,33 +1,19 @@
 //! What is searched, and what comes of it.
 
-use ide_ssr::SsrMatches;
 use ide_ssr_resolving::{ResolvedRule, resolve_rule};
 use ide_ssr_rules::{SsrError, SsrRule};
 use ssr_base::{FileId, FileRange, ScopeId, TextEdit, Workspace};
 use ssr_facts::{Facts, TableSemantics, read};
 use ssr_syntax_kinds::TextRange;
-use std::alloc::{AllocError, Global};
+use std::alloc::Global;
 use std::collections::BTreeMap;
 use std::test::Fail;
 
 pub(crate) const SWAP: &str = "$a + $b ==>> $b + $a";
 
-/// More bytes than what a macro call stands for has here.
-const LONG: u32 = 1000;
-
 /// The facts of files with these texts, each of which is one scope, with these further keys: an empty text, or one that
 /// begins with a comma.
 pub(crate) fn facts(alloc: Global, texts: &[&str], keys: &str) -> Result<Facts, Fail> {
-    expanded_facts(alloc, texts, &[], keys)
-}
-
-/// The same where macro calls stand for something, as these rows tell; what each of them stands for is one scope too.
-pub(crate) fn expanded_facts(
-    alloc: Global,
-    texts: &[&str],
-    expansions: &[&str],
-    keys: &str,
-) -> Result<Facts, Fail> {
     let mut files = String::new(alloc);
     let mut scopes = String::new(alloc);
     for (number, text) in texts.iter().enumerate() {
@@ -39,16 +25,7 @@ pub(crate) fn expanded_facts(
         )?;
         write!(scopes, "{comma}[{number},0,{end}]")?;
     }
-    let mut calls = String::new(alloc);
-    for (number, row) in expansions.iter().enumerate() {
-        let comma = if number == 0 { "" } else { "," };
-        let tree = texts.len().saturating_add(number);
-        write!(calls, "{comma}{row}")?;
-        write!(scopes, ",[{tree},0,{LONG}]")?;
-    }
-    let bytes = format!(in alloc;
-        "{{\"files\":[{files}],\"expansions\":[{calls}],\"scopes\":[{scopes}]{keys}}}"
-    )?;
+    let bytes = format!(in alloc; "{{\"files\":[{files}],\"scopes\":[{scopes}]{keys}}}")?;
     Ok(read(alloc, bytes.as_str().as_bytes())?)
 }
 
@@ -75,18 +52,6 @@ pub(crate) fn edited(
         return Err(Fail::new("no such file"));
     };
     Ok(edit.apply(alloc, tree.source())?)
-}
-
-/// The texts of the outermost matches, with a stroke between them.
-pub(crate) fn texts(alloc: Global, found: &SsrMatches<'_>) -> Result<String, AllocError> {
-    let mut all = String::new(alloc);
-    for (number, m) in found.matches.iter().enumerate() {
-        if number > 0 {
-            all.push_str(" | ")?;
-        }
-        all.push_str(m.matched_str())?;
-    }
-    Ok(all)
 }
 
 /// So many bytes of a file, from the one at `start` on.

@@ -1,6 +1,7 @@
 //! The steps of a search, one call after the other.
 
 use crate::given::{SWAP, bytes, edited, facts, resolved};
+use ide_ssr::PatternIterator;
 use ide_ssr_matching::match_node;
 use ide_ssr_nesting::{Holder, Lists, keep};
 use ide_ssr_rewriting::{edits, kept_comments, push_comments, rendered};
@@ -147,5 +148,26 @@ fn a_node_is_matched_and_rendered(rt: HostRuntime) -> Result<(), Fail> {
     let comments = kept_comments(alloc, &tree, sum, &[])?;
     push_comments(&mut text, &tree, &comments)?;
     assert_eq!(rt; text.as_str(), "1 + x/* k */");
+    Ok(())
+}
+
+#[test]
+fn a_pattern_iterator_passes_trivia_over(rt: HostRuntime) -> Result<(), Fail> {
+    let alloc = rt.alloc();
+    let tree = parse_file(alloc, "fn f() {x /* k */ + 1}")?;
+    // behind the file, the function, its name and parameters, its block and the statements
+    let sum = NodeNo(6);
+    assert!(rt; tree.has(Element::Node(sum)));
+    let mut kinds = String::new(alloc);
+    for element in PatternIterator::new(&tree, sum) {
+        assert!(rt; tree.has(element));
+        let kind = match element {
+            Element::Node(node) => tree.kind(node),
+            Element::Token(token) => tree.token_kind(token),
+        };
+        kinds.push_str(kind.name())?;
+        kinds.push_str(" ")?;
+    }
+    assert_eq!(rt; kinds.as_str(), "PATH_EXPR PLUS LITERAL ");
     Ok(())
 }

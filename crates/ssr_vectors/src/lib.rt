@@ -9,6 +9,10 @@ mod facts;
 #[cfg(test)]
 mod parser;
 #[cfg(test)]
+mod paths;
+#[cfg(test)]
+mod resolving;
+#[cfg(test)]
 mod rule_kinds;
 #[cfg(test)]
 mod rule_texts;

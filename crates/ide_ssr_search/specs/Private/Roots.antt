@@ -1,4 +1,4 @@
--- Private: what the roots of rules' patterns ask of a node, so that it need not be asked whether each node matches.
+-- Private: what rules ask of a node, so that it need not be asked whether each node matches.
 use Rattle.std.specs.Prelude.{ℕ, ◌≡◌, ◌&&◌, ◌||◌, not, Bool, true, false, if◌then◌else◌, List, [], ◌∷◌, length, slice_get, slice_index_or, Option, Some, None}
 use Rattle.std.specs.Option.{option_map_or}
 use denote.Enum.Declared.{tag_of}
@@ -6,11 +6,14 @@ use Rattle.ssr_syntax_kinds.specs.contracts.kinds.SyntaxKind.{the_type}
 use Rattle.ssr_syntax_kinds.specs.declared.kinds.SyntaxKind.{SyntaxKind}
 use Rattle.ssr_syntax_kinds.specs.declared.kinds.SyntaxKind.TheVariants as k
 use Rattle.ssr_syntax_kinds.specs.Kinds.{same_kind, is_trivia}
+use Rattle.ssr_syntax_tree.specs.Syntax.{tokens_of}
 use Rattle.ssr_syntax_tree.specs.Places.{Node, Part, token_part, node_part, parts_of, root_of}
 use Rattle.ssr_base.specs.Meanings.{Meanings}
 use Rattle.ide_ssr_resolving.specs.Resolved.{ResolvedKind}
 use Rattle.ide_ssr_found.specs.declared.bindings.Binding.{Binding}
 use Rattle.ide_ssr_matching.specs.Matching.{Matches}
+use Rattle.ide_ssr_search.specs.Permitted.{names_self}
+use Rattle.ide_ssr_search.specs.declared.roots.Asked.{Asked}
 use Rattle.ide_ssr_search.specs.declared.roots.Root.{Root}
 use Rattle.ide_ssr_search.specs.declared.roots.Root.TheVariants as roots
 use Rattle.ide_ssr_search.specs.declared.roots.KindSet.{KindSet}
@@ -52,6 +55,11 @@ abbrev pub IsRootOf : ResolvedKind → Root → Type 0
 IsRootOf rule root =
     (m : Meanings) (tree : ℕ) (c : Node) (bindings : List Binding) → Matches m tree rule (root_of rule.pattern) c bindings → has_asked root c ≡ true
 
+-- what a rule asks
+pub record IsAskedBy (rule : ResolvedKind) (asked : Asked) : Type 0 where
+  pub root : IsRootOf rule asked.root
+  pub in_function : asked.in_function ≡ names_self (tokens_of rule.pattern)
+
 -- ** By kinds.
 
 abbrev pub has_kind : KindSet → SyntaxKind → Bool
@@ -59,8 +67,8 @@ has_kind kinds kind = kinds.every || slice_index_or kinds.listed (tag_of the_typ
 
 -- what is known of the rules of a search
 pub record AreRules (rules : Rules) : Type 0 where
-  pub counted : length rules.roots.items ≡ length rules.rules.now
-  pub each : (n : ℕ) (rule : ResolvedKind) (root : Root) → slice_get rules.rules.now n ≡ Some rule → slice_get rules.roots.items n ≡ Some root → IsRootOf rule root
+  pub counted : length rules.asked.items ≡ length rules.rules.now
+  pub each : (n : ℕ) (rule : ResolvedKind) (asked : Asked) → slice_get rules.rules.now n ≡ Some rule → slice_get rules.asked.items n ≡ Some asked → IsAskedBy rule asked
   pub kinds : (n : ℕ) (rule : ResolvedKind) → slice_get rules.rules.now n ≡ Some rule → (m : Meanings) (tree : ℕ) (c : Node)
       (bindings : List Binding) → Matches m tree rule (root_of rule.pattern) c bindings → has_kind rules.kinds c.kind ≡ true
   pub uses : has_kind rules.kinds k.USE ≡ true

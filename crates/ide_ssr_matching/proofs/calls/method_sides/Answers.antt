@@ -41,3 +41,6 @@ returns-clause-sides g c =
     (ap (option_map (method_at code)) (sym c.in-Some-2.is) ∙ c.in_ok-method.ensures.method)
     (subst (λ o. IfSome o (IsMethodBelow code c.args.c.0)) c.in-Some-2.is c.in_ok-method.ensures.below)
     c.pattern_res-used.ensures (sym c.in-Some-3.is ∙ c.in_ok-receiver.ensures))
+
+pub returns-then-not-branch-clause-sides : goal.returns-then-not-branch-clause-sides
+returns-then-not-branch-clause-sides g c = ?

@@ -12,7 +12,7 @@ use Rattle.ide_ssr_matching.specs.TokenTrees.{is_tree}
 use Rattle.ide_ssr_matching.specs.Private.Calls.{sides_at, AreSidesBelow, IsNodeBelow}
 use Rattle.ide_ssr_matching.specs.Private.Children.{IsBelow}
 use Rattle.ide_ssr_matching.proofs.Bare.{below_has}
-use Rattle.ide_ssr_matching.proofs.Pairs.{placeholder-from, trees-from, spoiled-from, parts-from, like-from, method-from, and_false, other_kind-from, unmatched-from, kept-from, paired-starts, paired-turns, paired-differs, paired-short, paired-ends, up_to-turns, up_to-differs, up_to-ends, unequal-elements, at_place, lent_next, lent_none, none_left, tokens-answer, element-smaller, first-below, largest, largest-at, largest-below, element_size, elements_size, children_size, pairs-from, used-from, unnamed-from, unarranged-from, arranged-from, lists_size}
+use Rattle.ide_ssr_matching.proofs.Pairs.{placeholder-from, trees-from, spoiled-from, parts-from, like-from, method-from, and_false, other_kind-from, unpaired-from, kept-from, paired-starts, paired-turns, paired-differs, paired-short, paired-ends, up_to-turns, up_to-differs, up_to-ends, unequal-elements, at_place, lent_next, lent_none, none_left, tokens-answer, element-smaller, first-below, largest, largest-at, largest-below, element_size, elements_size, children_size, paired-from, used-from, unnamed-from, unarranged-from, arranged-from, lists_size}
 use Rattle.ide_ssr_matching.proofs.NamedNodes.{each_arranged}
 use Rattle.ide_ssr_matching.proofs.matching.+matching.Goals as goal
 
@@ -67,15 +67,15 @@ like_matches-returns-then-not-is g t c =
 
 pub like_matches-returns-then-not-branch : goal.like_matches-returns-then-not-branch
 like_matches-returns-then-not-branch g t c =
-    unmatched-from (g.S.Semantics.meanings c.args.semantics.now) c.args.number c.args.rule.now _ c.args.rule.now.pattern c.args.code.now c.args.p c.args.c.0 _ _ c.pattern_res-used.result
+    unpaired-from (g.S.Semantics.meanings c.args.semantics.now) c.args.number c.args.rule.now _ c.args.rule.now.pattern c.args.code.now c.args.p c.args.c.0 _ _ c.pattern_res-used.result
     (record { lent_is = c.pattern.ensures; p_in = c.requires.p_in; pk_is = c.kind.ensures; ck_is = c.kind-2.ensures; used_is = c.pattern_res-used.ensures })
-    _ _ _ c.is.ensures.same c.if-not-is.false c.in_ok-can_match.ensures c.if-not-branch.true
+    _ _ _ _ c.is.ensures.same c.if-not-is.false c.if-not-branch.true c.in_ok-pairs_match.ensures
 
 pub like_matches-returns : goal.like_matches-returns
 like_matches-returns g t c =
-    pairs-from (g.S.Semantics.meanings c.args.semantics.now) c.args.number c.args.rule.now _ c.args.rule.now.pattern c.args.code.now c.args.p c.args.c.0 _ _ c.pattern_res-used.result
+    paired-from (g.S.Semantics.meanings c.args.semantics.now) c.args.number c.args.rule.now _ c.args.rule.now.pattern c.args.code.now c.args.p c.args.c.0 _ _ c.pattern_res-used.result
     (record { lent_is = c.pattern.ensures; p_in = c.requires.p_in; pk_is = c.kind.ensures; ck_is = c.kind-2.ensures; used_is = c.pattern_res-used.ensures })
-    _ _ _ _ _ c.is.ensures.same c.if-not-is.false c.in_ok-can_match.ensures c.if-not-branch.false c.pairs_match.ensures
+    _ _ _ _ _ c.is.ensures.same c.if-not-is.false c.if-not-branch.false c.in_ok-can.ensures c.in_ok-pairs_match.ensures
 
 pub pairs_match-returns-in-Some : goal.pairs_match-returns-in-Some
 pairs_match-returns-in-Some g t c =

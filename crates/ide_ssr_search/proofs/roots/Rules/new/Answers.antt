@@ -5,7 +5,7 @@ use Rattle.std.proofs.lemmas.Option.{slice_get_within, get_or_from_slice_get}
 use Rattle.ssr_syntax_kinds.specs.declared.kinds.SyntaxKind.TheVariants as k
 use Rattle.ssr_syntax_tree.proofs.Lists.{pushed_at}
 use Rattle.ide_ssr_resolving.specs.Resolved.{ResolvedKind}
-use Rattle.ide_ssr_search.specs.Private.Roots.{IsRootOf}
+use Rattle.ide_ssr_search.specs.Private.Roots.{IsAskedBy}
 use Rattle.ide_ssr_search.proofs.roots.Rules.new.Goals as goal
 
 pub loop-rule-preserved : goal.loop-rule-preserved
@@ -13,24 +13,24 @@ loop-rule-preserved c =
     let rules = c.args.rules.now in
     let i = c.loop-rule.rule-index in
     let known = c.loop-rule.invariant in
-    let old = c.loop-rule.roots.items in
-    let root = c.of-root.result in
+    let old = c.loop-rule.asked.items in
+    let asked = c.by-by_rule.result in
     let pushed = c.in_ok-push.ensures.items in
-    let here : (rule : ResolvedKind) → slice_get rules i ≡ Some rule → IsRootOf rule root =
-    λ rule is. subst (λ r. IsRootOf r root) (c.rule-item.is ∙ get_or_from_slice_get rules i rule c.rule-item.result is) c.of-root.ensures in
+    let here : (rule : ResolvedKind) → slice_get rules i ≡ Some rule → IsAskedBy rule asked =
+    λ rule is. subst (λ r. IsAskedBy r asked) (c.rule-item.is ∙ get_or_from_slice_get rules i rule c.rule-item.result is) c.by-by_rule.ensures in
     record {
-      counted = ap length pushed ∙ length-append old (root ∷ []) ∙ ap (λ n. n + 1) known.counted;
-      each = λ n rule other rule_is root_is.
-          elim (pushed_at old root n other (subst (λ rs. slice_get rs n ≡ Some other) pushed root_is)) [
+      counted = ap length pushed ∙ length-append old (asked ∷ []) ∙ ap (λ n. n + 1) known.counted;
+      each = λ n rule other rule_is asked_is.
+          elim (pushed_at old asked n other (subst (λ all. slice_get all n ≡ Some other) pushed asked_is)) [
             | inl there ↦ known.each n rule other rule_is there
-            | inr last ↦ subst (IsRootOf rule) last.1 (here rule (subst (λ n. slice_get rules n ≡ Some rule) (last.0 ∙ known.counted) rule_is))
+            | inr last ↦ subst (IsAskedBy rule) last.1 (here rule (subst (λ n. slice_get rules n ≡ Some rule) (last.0 ∙ known.counted) rule_is))
           ];
       kinds = λ n rule less rule_is m tree node bindings matches.
           elim (cases_lt n i) [
             | inl early ↦ c.add_asked.ensures.kept node.kind (known.kinds n rule early rule_is m tree node bindings matches)
             | inr late ↦
                 let same : n ≡ i = omega arith in
-                c.add_asked.ensures.added node (here rule (subst (λ n. slice_get rules n ≡ Some rule) same rule_is) m tree node bindings matches)
+                c.add_asked.ensures.added node ((here rule (subst (λ n. slice_get rules n ≡ Some rule) same rule_is)).root m tree node bindings matches)
           ];
       uses = c.add_asked.ensures.kept k.USE known.uses;
       calls = c.add_asked.ensures.kept k.MACRO_CALL known.calls;

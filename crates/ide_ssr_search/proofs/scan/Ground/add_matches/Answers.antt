@@ -14,10 +14,10 @@ returns g c =
     let ground = c.args.self.now in
     found_at ground.workspace.now (g.S.Semantics.meanings c.args.semantics.now) ground.context.now c.args.rules.now.rules.now ground.number c.args.node.0 c.loop-place.place c.loop-place.found.items c.loop-place-test.false c.loop-place.invariant
 
-pub add_match-requires-clause-root : goal.add_match-requires-clause-root
-add_match-requires-clause-root g c =
+pub add_match-requires-clause-asked : goal.add_match-requires-clause-asked
+add_match-requires-clause-asked g c =
     let rules = c.args.rules.now in
     let p = c.loop-place.place in
     c.requires.rules.each p c.rule-item.result c.index.result.now
     (slice_get_read rules.rules.now (length rules.rules.now) p c.rule-item.result refl c.loop-place-test.true c.rule-item.is)
-    (slice_get_read rules.roots.items (length rules.rules.now) p c.index.result.now (sym c.requires.rules.counted) c.loop-place-test.true c.index.ensures)
+    (slice_get_read rules.asked.items (length rules.rules.now) p c.index.result.now (sym c.requires.rules.counted) c.loop-place-test.true c.index.ensures)
