@@ -13,17 +13,17 @@ either_below P kind below own strips = cond_both (stays kind below) below (strip
 
 -- ** Nodes.
 
-pub nodes_left : (siblings : Forest) → node_count (stripped siblings) ≡ node_count siblings
-nodes_left nothing = refl
-nodes_left (leaf token next) =
+node_count_left : (siblings : Forest) → node_count (stripped siblings) ≡ node_count siblings
+node_count_left nothing = refl
+node_count_left (leaf token next) =
     cond_both (is_trivia token.kind) (stripped next) (leaf token (stripped next)) (λ rest. node_count rest ≡ node_count next)
-    (λ _. nodes_left next) (λ _. nodes_left next)
-nodes_left (branch kind below next) =
-    let inner = either_below (λ rest. node_count rest ≡ node_count below) kind below refl (nodes_left below) in
-    ap (λ n. 1 + (n + node_count (stripped next))) inner ∙ ap (λ n. 1 + (node_count below + n)) (nodes_left next)
+    (λ _. node_count_left next) (λ _. node_count_left next)
+node_count_left (branch kind below next) =
+    let inner = either_below (λ rest. node_count rest ≡ node_count below) kind below refl (node_count_left below) in
+    ap (λ n. 1 + (n + node_count (stripped next))) inner ∙ ap (λ n. 1 + (node_count below + n)) (node_count_left next)
 
-pub nodes_below_left : (kind : SyntaxKind) (below : Forest) → node_count (stripped_below kind below) ≡ node_count below
-nodes_below_left kind below = either_below (λ rest. node_count rest ≡ node_count below) kind below refl (nodes_left below)
+pub node_count_below_left : (kind : SyntaxKind) (below : Forest) → node_count (stripped_below kind below) ≡ node_count below
+node_count_below_left kind below = either_below (λ rest. node_count rest ≡ node_count below) kind below refl (node_count_left below)
 
 -- ** Nothing more is left out a second time.
 
@@ -34,7 +34,7 @@ below_again kind below again =
     (λ is. ap (λ b. cond b below (stripped below)) is)
     (λ _. either_below (λ rest. rest ≡ stripped below) kind (stripped below) refl again)
 
-pub stripped_again : (siblings : Forest) → stripped (stripped siblings) ≡ stripped siblings
+stripped_again : (siblings : Forest) → stripped (stripped siblings) ≡ stripped siblings
 stripped_again nothing = refl
 stripped_again (leaf token next) =
     cond_both (is_trivia token.kind) (stripped next) (leaf token (stripped next)) (λ rest. stripped rest ≡ rest)
@@ -97,15 +97,15 @@ first_of_left [] left behind left_behind other here later solid = ap (first_or l
 first_of_left (token ∷ front) left behind left_behind other here later solid = here (first_or left_behind other) solid
 
 -- a first token that is no trivia is left
-pub first_left : (siblings : Forest) (other : Option Token) → is_trivia_first (first_or (tokens_in siblings) other) ≡ false
+pub first_token_left : (siblings : Forest) (other : Option Token) → is_trivia_first (first_or (tokens_in siblings) other) ≡ false
     → first_or (tokens_in (stripped siblings)) other ≡ first_or (tokens_in siblings) other
-first_left nothing other solid = refl
-first_left (leaf token next) other solid = ap (λ b. first_or (tokens_in (cond b (stripped next) (leaf token (stripped next)))) other) solid
-first_left (branch kind below next) other solid =
+first_token_left nothing other solid = refl
+first_token_left (leaf token next) other solid = ap (λ b. first_or (tokens_in (cond b (stripped next) (leaf token (stripped next)))) other) solid
+first_token_left (branch kind below next) other solid =
     first_of_both (tokens_in (stripped_below kind below)) (tokens_in (stripped next)) other
     ∙ first_of_left (tokens_in below) (tokens_in (stripped_below kind below)) (tokens_in next) (tokens_in (stripped next)) other
     (λ o first.
-    either_below (λ rest. first_or (tokens_in rest) o ≡ first_or (tokens_in below) o) kind below refl (first_left below o first))
-    (first_left next other)
+    either_below (λ rest. first_or (tokens_in rest) o ≡ first_or (tokens_in below) o) kind below refl (first_token_left below o first))
+    (first_token_left next other)
     (ap is_trivia_first (sym (first_of_both (tokens_in below) (tokens_in next) other)) ∙ solid)
     ∙ sym (first_of_both (tokens_in below) (tokens_in next) other)

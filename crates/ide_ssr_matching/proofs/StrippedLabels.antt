@@ -1,10 +1,10 @@
 -- Labels of record fields in nodes that are alike.
-use Rattle.std.proofs.Common.{◌≡◌, ℕ, Bool, true, false, ◌&&◌, cond, List, [], ◌∷◌, codes, length, map, slice_get, Option, Some, None, refl, sym, ◌∙◌, ap, bytes_eq}
+use Rattle.std.proofs.Common.{◌≡◌, ℕ, Bool, true, false, ◌&&◌, cond, List, [], ◌∷◌, codes, length, map, Option, Some, None, refl, sym, ◌∙◌, ap}
 use Rattle.std.specs.Prelude.{◌==◌, is_none}
-use Rattle.std.specs.List.{join_by, position_from}
-use Rattle.std.specs.Option.{option_and_then, option_map}
+use Rattle.std.specs.List.{join_by}
+use Rattle.std.specs.Option.{option_map}
 use Rattle.std.proofs.lemmas.List.{length-map}
-use Rattle.std.proofs.lemmas.Option.{none-some, same_Some, slice_get-map}
+use Rattle.std.proofs.lemmas.Option.{none-some, same_Some}
 use Rattle.ssr_syntax_kinds.proofs.Shared.{same_kind-equal}
 use Rattle.ssr_syntax_kinds.specs.declared.kinds.SyntaxKind.{SyntaxKind}
 use Rattle.ssr_syntax_kinds.specs.declared.kinds.SyntaxKind.TheVariants as k
@@ -14,15 +14,13 @@ use Rattle.ssr_syntax_tree.specs.Syntax.{spelled, tokens_in}
 use Rattle.ide_ssr_resolving.specs.Keys.{key_of}
 use Rattle.ide_ssr_matching.specs.Calls.{child_nodes, first_node}
 use Rattle.ide_ssr_matching.specs.Children.{bare}
-use Rattle.ide_ssr_matching.specs.Records.{name_of_path, name_of_only, name_of_expr, name_by, field_name, is_field, label_of, all_some, labels_of, are_different, with_label, arranged, nodes_by, named_nodes}
+use Rattle.ide_ssr_matching.specs.Records.{name_of_path, name_of_only, name_of_expr, name_by, field_name, is_field, label_of, all_some, labels_of, nodes_by, named_nodes}
 use Rattle.ide_ssr_matching.specs.Trivia.{stripped_below}
 use Rattle.ide_ssr_matching.specs.UsedPaths.{arguments_of}
-use Rattle.ide_ssr_matching.proofs.StrippedNodes.{stripped_node, stripped_part, AreAlike}
-use Rattle.ide_ssr_matching.proofs.StrippedParts.{each_alike, child_nodes_alike, first_node_alike, arguments_alike, bare_alike}
+use Rattle.ide_ssr_matching.proofs.NamedAt.{arranged_map}
+use Rattle.ide_ssr_matching.proofs.StrippedNodes.{stripped_node, stripped_part, AreAlike, kinds_alike}
+use Rattle.ide_ssr_matching.proofs.StrippedParts.{each_alike, child_nodes_alike, first_node_alike, bare_arguments_alike}
 use Rattle.ide_ssr_matching.proofs.StrippedPaths.{key_left}
-
-pub kinds_alike : (a b : Node) → AreAlike a b → a.kind ≡ b.kind
-kinds_alike a b alike = ap (λ (node : Node). node.kind) alike
 
 -- ** Names.
 
@@ -35,9 +33,6 @@ none_alike o p alike = sym (same o) ∙ ap is_none alike ∙ same p
     same : (o : Option Node) → is_none (option_map stripped_node o) ≡ is_none o
     same None = refl
     same (Some node) = refl
-
-pub bare_arguments_alike : (a b : Node) → AreAlike a b → map stripped_part (bare (arguments_of a)) ≡ map stripped_part (bare (arguments_of b))
-bare_arguments_alike a b alike = bare_alike (arguments_of a) (arguments_of b) (arguments_alike a b alike)
 
 paths_alike : (a b : Node) → AreAlike a b → name_of_path a ≡ name_of_path b
 paths_alike a b alike =
@@ -125,52 +120,15 @@ labels_alike a b alike = ap all_some (each_alike label_of label_alike (child_nod
 
 -- ** What is arranged by labels.
 
-module _ {A B : Type 0} (f : A → B) where
-  all_each : (os : List (Option A)) → all_some (map (option_map f) os) ≡ option_map (map f) (all_some os)
-  all_each [] = refl
-  all_each (None ∷ os) = refl
-  all_each (Some x ∷ os) = ap (option_map (λ ys. f x ∷ ys)) (all_each os) ∙ by (all_some os)
-    where
-      by : (o : Option (List A)) → option_map (λ ys. f x ∷ ys) (option_map (map f) o) ≡ option_map (map f) (option_map (λ xs. x ∷ xs) o)
-      by None = refl
-      by (Some xs) = refl
-
-  label_each : (labels : List (List ℕ)) (nodes : List A) (label : List ℕ) → with_label labels (map f nodes) label ≡ option_map f (with_label labels nodes label)
-  label_each labels nodes label = by (position_from (bytes_eq label) 0 labels)
-    where
-      by : (o : Option ℕ) → option_and_then (slice_get (map f nodes)) o ≡ option_map f (option_and_then (slice_get nodes) o)
-      by None = refl
-      by (Some n) = slice_get-map f nodes n
-
-  found_each : (labels : List (List ℕ)) (nodes : List A) (order : List (List ℕ))
-      → map (with_label labels (map f nodes)) order ≡ map (option_map f) (map (with_label labels nodes) order)
-  found_each labels nodes [] = refl
-  found_each labels nodes (label ∷ order) =
-      ap (λ o. o ∷ map (with_label labels (map f nodes)) order) (label_each labels nodes label)
-      ∙ ap (λ os. option_map f (with_label labels nodes label) ∷ os) (found_each labels nodes order)
-
-  arranged_each : (order labels : List (List ℕ)) (nodes : List A) → arranged order labels (map f nodes) ≡ option_map (map f) (arranged order labels nodes)
-  arranged_each order labels nodes =
-      ap (λ found. cond fit (all_some found) None) (found_each labels nodes order)
-      ∙ ap (λ all. cond fit all None) (all_each (map (with_label labels nodes) order))
-      ∙ by fit (all_some (map (with_label labels nodes) order))
-    where
-      fit : Bool
-      fit = are_different order && (are_different labels && length order == length labels)
-
-      by : (b : Bool) (o : Option (List A)) → cond b (option_map (map f) o) None ≡ option_map (map f) (cond b o None)
-      by true o = refl
-      by false o = refl
-
-nodes_by_each : (order labels : Option (List (List ℕ))) (nodes : List Node)
+nodes_by_map : (order labels : Option (List (List ℕ))) (nodes : List Node)
     → nodes_by order labels (map stripped_node nodes) ≡ option_map (map stripped_node) (nodes_by order labels nodes)
-nodes_by_each None labels nodes = refl
-nodes_by_each (Some order) None nodes = refl
-nodes_by_each (Some order) (Some labels) nodes = arranged_each stripped_node order labels nodes
+nodes_by_map None labels nodes = refl
+nodes_by_map (Some order) None nodes = refl
+nodes_by_map (Some order) (Some labels) nodes = arranged_map stripped_node order labels nodes
 
 pub named_alike : (p a b : Node) → AreAlike a b → option_map (map stripped_node) (named_nodes p a) ≡ option_map (map stripped_node) (named_nodes p b)
 named_alike p a b alike =
-    sym (nodes_by_each (labels_of p) (labels_of a) (child_nodes a))
+    sym (nodes_by_map (labels_of p) (labels_of a) (child_nodes a))
     ∙ ap (λ labels. nodes_by (labels_of p) labels (map stripped_node (child_nodes a))) (labels_alike a b alike)
     ∙ ap (nodes_by (labels_of p) (labels_of b)) (child_nodes_alike a b alike)
-    ∙ nodes_by_each (labels_of p) (labels_of b) (child_nodes b)
+    ∙ nodes_by_map (labels_of p) (labels_of b) (child_nodes b)

@@ -10,7 +10,7 @@ use Rattle.ssr_syntax_tree.specs.Syntax.{Forest, nothing, leaf, branch, Syntax, 
 use Rattle.ssr_syntax_tree.specs.Places.{Node, Part, token_part, node_part, nodes_in, parts_in, root_of, nodes_of, node_of, parts_of}
 use Rattle.ide_ssr_token_trees.specs.Elements.{is_trivia_part}
 use Rattle.ide_ssr_matching.specs.Trivia.{stripped, stripped_below, stripped_tree}
-use Rattle.ide_ssr_matching.proofs.Stripped.{either_below, nodes_below_left, stripped_below_again}
+use Rattle.ide_ssr_matching.proofs.Stripped.{either_below, node_count_below_left, stripped_below_again}
 
 -- a node without trivia below it, and without the number of its first token, which trivia in front of it change
 abbrev pub stripped_node : Node → Node
@@ -28,6 +28,12 @@ stripped_parts (part ∷ rest) = if is_trivia_part part then stripped_parts rest
 abbrev pub AreAlike : Node → Node → Type 0
 AreAlike a b = stripped_node a ≡ stripped_node b
 
+pub kinds_alike : (a b : Node) → AreAlike a b → a.kind ≡ b.kind
+kinds_alike a b alike = ap (λ (node : Node). node.kind) alike
+
+pub numbers_alike : (a b : Node) → AreAlike a b → a.number ≡ b.number
+numbers_alike a b alike = ap (λ (node : Node). node.number) alike
+
 -- ** Parts.
 
 parts_left : (parent m t u : ℕ) (siblings : Forest) → stripped_parts (parts_in parent m t (stripped siblings)) ≡ stripped_parts (parts_in parent m u siblings)
@@ -41,10 +47,11 @@ parts_left parent m t u (leaf token next) =
     (λ _. ap (λ parts. cond (is_trivia token.kind) parts (token_part 0 token ∷ parts)) (parts_left parent m (1 + t) (1 + u) next))
 parts_left parent m t u (branch kind below next) =
     let inner = stripped_below kind below in
-    ap (λ rest. node_part (record { number = m; parent = parent; first = 0; kind = kind; children = rest }) ∷ stripped_parts (parts_in parent (1 + m + node_count inner) (t + token_count inner) (stripped next)))
+    let behind = stripped_parts (parts_in parent (1 + m + node_count inner) (t + token_count inner) (stripped next)) in
+    ap (λ rest. node_part (record { number = m; parent = parent; first = 0; kind = kind; children = rest }) ∷ behind)
     (stripped_below_again kind below)
     ∙ ap (λ parts. node_part (record { number = m; parent = parent; first = 0; kind = kind; children = inner }) ∷ parts)
-    (ap (λ n. stripped_parts (parts_in parent (1 + m + n) (t + token_count inner) (stripped next))) (nodes_below_left kind below)
+    (ap (λ n. stripped_parts (parts_in parent (1 + m + n) (t + token_count inner) (stripped next))) (node_count_below_left kind below)
     ∙ parts_left parent (1 + m + node_count below) (t + token_count inner) (u + token_count below) next)
 
 parts_stripped : (node : Node) → stripped_parts (parts_of (stripped_node node)) ≡ stripped_parts (parts_of node)
@@ -68,20 +75,22 @@ inner_left parent m t u (leaf token next) =
     (λ _. inner_left parent m (1 + t) (1 + u) next)
 inner_left parent m t u (branch kind below next) =
     let inner = stripped_below kind below in
-    let here =
+    let own = nodes_in m (1 + m) t inner in
+    let others = nodes_in parent (1 + m + node_count inner) (t + token_count inner) (stripped next) in
+    let here : map stripped_node own ≡ map stripped_node (nodes_in m (1 + m) u below) =
     either_below (λ rest. map stripped_node (nodes_in m (1 + m) t rest) ≡ map stripped_node (nodes_in m (1 + m) u below)) kind below
     (sym (inner_left m (1 + m) 0 t below) ∙ inner_left m (1 + m) 0 u below)
     (inner_left m (1 + m) t u below)
     in
-    let behind =
-    ap (λ n. map stripped_node (nodes_in parent (1 + m + n) (t + token_count inner) (stripped next))) (nodes_below_left kind below)
+    let behind : map stripped_node others ≡ map stripped_node (nodes_in parent (1 + m + node_count below) (u + token_count below) next) =
+    ap (λ n. map stripped_node (nodes_in parent (1 + m + n) (t + token_count inner) (stripped next))) (node_count_below_left kind below)
     ∙ inner_left parent (1 + m + node_count below) (t + token_count inner) (u + token_count below) next
     in
-    ap (λ rest. record { number = m; parent = parent; first = 0; kind = kind; children = rest } ∷ map stripped_node (nodes_in m (1 + m) t inner ++ nodes_in parent (1 + m + node_count inner) (t + token_count inner) (stripped next)))
+    ap (λ rest. record { number = m; parent = parent; first = 0; kind = kind; children = rest } ∷ map stripped_node (own ++ others))
     (stripped_below_again kind below)
     ∙ ap (λ nodes. record { number = m; parent = parent; first = 0; kind = kind; children = inner } ∷ nodes)
-    (map-append stripped_node (nodes_in m (1 + m) t inner) (nodes_in parent (1 + m + node_count inner) (t + token_count inner) (stripped next))
-    ∙ ap (λ nodes. nodes ++ map stripped_node (nodes_in parent (1 + m + node_count inner) (t + token_count inner) (stripped next))) here
+    (map-append stripped_node own others
+    ∙ ap (λ nodes. nodes ++ map stripped_node others) here
     ∙ ap (λ nodes. map stripped_node (nodes_in m (1 + m) u below) ++ nodes) behind
     ∙ sym (map-append stripped_node (nodes_in m (1 + m) u below) (nodes_in parent (1 + m + node_count below) (u + token_count below) next)))
 

@@ -44,41 +44,44 @@ bare_left (token_part t token ∷ rest) =
     bare_left rest
     ∙ ap (λ b. map stripped_part (cond (b || (same_kind token.kind k.COMMA && closes rest)) (bare rest) (token_part t token ∷ bare rest))) (sym is))
     (λ _.
-    let left_out = is_trivia token.kind || (same_kind token.kind k.COMMA && closes rest) in
-    ap (λ b. cond (is_trivia token.kind || (same_kind token.kind k.COMMA && b)) (bare (stripped_parts rest)) (token_part 0 token ∷ bare (stripped_parts rest))) (closes_left rest)
+    let comma = same_kind token.kind k.COMMA in
+    let left_out = is_trivia token.kind || (comma && closes rest) in
+    let behind = bare (stripped_parts rest) in
+    ap (λ b. cond (is_trivia token.kind || (comma && b)) behind (token_part 0 token ∷ behind)) (closes_left rest)
     ∙ ap (λ parts. cond left_out parts (token_part 0 token ∷ parts)) (bare_left rest)
     ∙ map_cond stripped_part left_out (token_part t token) (bare rest))
 
-nodes_left : (parts : List Part) → nodes_among (stripped_parts parts) ≡ map stripped_node (nodes_among parts)
-nodes_left [] = refl
-nodes_left (node_part node ∷ rest) = ap (λ nodes. stripped_node node ∷ nodes) (nodes_left rest)
-nodes_left (token_part t token ∷ rest) =
-    token_in t token rest (λ left. nodes_among left ≡ map stripped_node (nodes_among rest)) (λ _. nodes_left rest) (λ _. nodes_left rest)
+nodes_among_left : (parts : List Part) → nodes_among (stripped_parts parts) ≡ map stripped_node (nodes_among parts)
+nodes_among_left [] = refl
+nodes_among_left (node_part node ∷ rest) = ap (λ nodes. stripped_node node ∷ nodes) (nodes_among_left rest)
+nodes_among_left (token_part t token ∷ rest) =
+    token_in t token rest (λ left. nodes_among left ≡ map stripped_node (nodes_among rest)) (λ _. nodes_among_left rest) (λ _. nodes_among_left rest)
 
-first_left : (kind : SyntaxKind) (parts : List Part) → first_of_kind kind (stripped_parts parts) ≡ option_map stripped_node (first_of_kind kind parts)
-first_left kind [] = refl
-first_left kind (node_part node ∷ rest) =
-    ap (cond (same_kind node.kind kind) (Some (stripped_node node))) (first_left kind rest)
+first_of_kind_left : (kind : SyntaxKind) (parts : List Part) → first_of_kind kind (stripped_parts parts) ≡ option_map stripped_node (first_of_kind kind parts)
+first_of_kind_left kind [] = refl
+first_of_kind_left kind (node_part node ∷ rest) =
+    ap (cond (same_kind node.kind kind) (Some (stripped_node node))) (first_of_kind_left kind rest)
     ∙ by (same_kind node.kind kind) (first_of_kind kind rest)
   where
     by : (b : Bool) (o : Option Node) → cond b (Some (stripped_node node)) (option_map stripped_node o) ≡ option_map stripped_node (cond b (Some node) o)
     by true o = refl
     by false o = refl
-first_left kind (token_part t token ∷ rest) =
-    token_in t token rest (λ left. first_of_kind kind left ≡ option_map stripped_node (first_of_kind kind rest)) (λ _. first_left kind rest) (λ _. first_left kind rest)
+first_of_kind_left kind (token_part t token ∷ rest) =
+    token_in t token rest (λ left. first_of_kind kind left ≡ option_map stripped_node (first_of_kind kind rest))
+    (λ _. first_of_kind_left kind rest) (λ _. first_of_kind_left kind rest)
 
-arguments_left : (parts : List Part) → from_arguments (stripped_parts parts) ≡ stripped_parts (from_arguments parts)
-arguments_left [] = refl
-arguments_left (node_part node ∷ rest) =
-    ap (cond (is_arguments node.kind) (node_part (stripped_node node) ∷ stripped_parts rest)) (arguments_left rest)
+from_arguments_left : (parts : List Part) → from_arguments (stripped_parts parts) ≡ stripped_parts (from_arguments parts)
+from_arguments_left [] = refl
+from_arguments_left (node_part node ∷ rest) =
+    ap (cond (is_arguments node.kind) (node_part (stripped_node node) ∷ stripped_parts rest)) (from_arguments_left rest)
     ∙ by (is_arguments node.kind) (from_arguments rest)
   where
     by : (b : Bool) (parts : List Part)
         → cond b (stripped_parts (node_part node ∷ rest)) (stripped_parts parts) ≡ stripped_parts (cond b (node_part node ∷ rest) parts)
     by true parts = refl
     by false parts = refl
-arguments_left (token_part t token ∷ rest) =
-    token_in t token rest (λ left. from_arguments left ≡ stripped_parts (from_arguments rest)) (λ _. arguments_left rest) (λ _. arguments_left rest)
+from_arguments_left (token_part t token ∷ rest) =
+    token_in t token rest (λ left. from_arguments left ≡ stripped_parts (from_arguments rest)) (λ _. from_arguments_left rest) (λ _. from_arguments_left rest)
 
 -- ** What is told of nodes that are alike.
 
@@ -105,7 +108,7 @@ each_alike f same (x ∷ xs) (y ∷ ys) alike =
 pub first_alike : (kind : SyntaxKind) (a b : Node) → AreAlike a b
     → option_map stripped_node (first_of_kind kind (parts_of a)) ≡ option_map stripped_node (first_of_kind kind (parts_of b))
 first_alike kind a b alike =
-    sym (first_left kind (parts_of a)) ∙ ap (first_of_kind kind) (parts_alike a b alike) ∙ first_left kind (parts_of b)
+    sym (first_of_kind_left kind (parts_of a)) ∙ ap (first_of_kind kind) (parts_alike a b alike) ∙ first_of_kind_left kind (parts_of b)
 
 pub arguments_alike : (a b : Node) → AreAlike a b → stripped_parts (arguments_of a) ≡ stripped_parts (arguments_of b)
 arguments_alike a b alike =
@@ -121,21 +124,24 @@ arguments_alike a b alike =
     told (Some segment) = refl
 
     own : (c d : Node) → AreAlike c d → stripped_parts (from_arguments (parts_of c)) ≡ stripped_parts (from_arguments (parts_of d))
-    own c d alike = sym (arguments_left (parts_of c)) ∙ ap from_arguments (parts_alike c d alike) ∙ arguments_left (parts_of d)
+    own c d alike = sym (from_arguments_left (parts_of c)) ∙ ap from_arguments (parts_alike c d alike) ∙ from_arguments_left (parts_of d)
 
 -- parts that are the same but for trivia have the same bare parts
 pub bare_alike : (xs ys : List Part) → stripped_parts xs ≡ stripped_parts ys → map stripped_part (bare xs) ≡ map stripped_part (bare ys)
 bare_alike xs ys alike = sym (bare_left xs) ∙ ap bare alike ∙ bare_left ys
 
+pub bare_arguments_alike : (a b : Node) → AreAlike a b → map stripped_part (bare (arguments_of a)) ≡ map stripped_part (bare (arguments_of b))
+bare_arguments_alike a b alike = bare_alike (arguments_of a) (arguments_of b) (arguments_alike a b alike)
+
 pub child_nodes_alike : (a b : Node) → AreAlike a b → map stripped_node (child_nodes a) ≡ map stripped_node (child_nodes b)
-child_nodes_alike a b alike = sym (nodes_left (parts_of a)) ∙ ap nodes_among (parts_alike a b alike) ∙ nodes_left (parts_of b)
+child_nodes_alike a b alike = sym (nodes_among_left (parts_of a)) ∙ ap nodes_among (parts_alike a b alike) ∙ nodes_among_left (parts_of b)
 
 -- ** Nodes in lists that are alike.
 
-first_among : (kind : SyntaxKind) (nodes : List Node) → first_node kind (map stripped_node nodes) ≡ option_map stripped_node (first_node kind nodes)
-first_among kind [] = refl
-first_among kind (node ∷ rest) =
-    ap (cond (same_kind node.kind kind) (Some (stripped_node node))) (first_among kind rest)
+first_node_map : (kind : SyntaxKind) (nodes : List Node) → first_node kind (map stripped_node nodes) ≡ option_map stripped_node (first_node kind nodes)
+first_node_map kind [] = refl
+first_node_map kind (node ∷ rest) =
+    ap (cond (same_kind node.kind kind) (Some (stripped_node node))) (first_node_map kind rest)
     ∙ by (same_kind node.kind kind) (first_node kind rest)
   where
     by : (b : Bool) (o : Option Node) → cond b (Some (stripped_node node)) (option_map stripped_node o) ≡ option_map stripped_node (cond b (Some node) o)
@@ -144,7 +150,7 @@ first_among kind (node ∷ rest) =
 
 module _ (xs ys : List Node) (alike : map stripped_node xs ≡ map stripped_node ys) where
   pub first_node_alike : (kind : SyntaxKind) → option_map stripped_node (first_node kind xs) ≡ option_map stripped_node (first_node kind ys)
-  first_node_alike kind = sym (first_among kind xs) ∙ ap (first_node kind) alike ∙ first_among kind ys
+  first_node_alike kind = sym (first_node_map kind xs) ∙ ap (first_node kind) alike ∙ first_node_map kind ys
 
   pub generics_alike : map stripped_node (generics_among xs) ≡ map stripped_node (generics_among ys)
   generics_alike =

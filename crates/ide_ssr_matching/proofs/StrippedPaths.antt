@@ -14,7 +14,7 @@ use Rattle.ssr_syntax.specs.Lossless.{begins_with_trivia}
 use Rattle.ide_ssr_resolving.specs.Keys.{pieces, pieces_of, spaced, key_of}
 use Rattle.ide_ssr_resolving.specs.Paths.{below_first, qualifier, last_segment, segments, qualifying, is_arguments, before_arguments}
 use Rattle.ide_ssr_matching.specs.Trivia.{stays, stripped, stripped_below}
-use Rattle.ide_ssr_matching.proofs.Stripped.{either_below, solid_tokens, tokens_left, first_or, is_trivia_first, first_left}
+use Rattle.ide_ssr_matching.proofs.Stripped.{either_below, solid_tokens, tokens_left, first_or, is_trivia_first, first_token_left}
 
 -- ** Pieces.
 
@@ -69,7 +69,7 @@ texts_left segment =
     (λ begins.
     let solid = begins_first (tokens_in segment) ∙ begins in
     sym
-    (pieces_same (tokens_in segment) (tokens_in (stripped segment)) (sym (tokens_left segment)) (sym (first_left segment None solid)) solid))
+    (pieces_same (tokens_in segment) (tokens_in (stripped segment)) (sym (tokens_left segment)) (sym (first_token_left segment None solid)) solid))
 
 -- those in front of the arguments
 front_left : (segment : Forest) → before_arguments (stripped segment) ≡ stripped (before_arguments segment)
@@ -115,7 +115,7 @@ front_texts_left segment =
     let front = before_arguments segment in
     let solid = front_first segment (begins_first (tokens_in segment) ∙ begins) in
     ap texts_of (front_left segment)
-    ∙ sym (pieces_same (tokens_in front) (tokens_in (stripped front)) (sym (tokens_left front)) (sym (first_left front None solid)) solid))
+    ∙ sym (pieces_same (tokens_in front) (tokens_in (stripped front)) (sym (tokens_left front)) (sym (first_token_left front None solid)) solid))
 
 -- ** Paths.
 

@@ -23,12 +23,9 @@ use Rattle.ide_ssr_matching.specs.Records.{is_open, labels_of, named_nodes, name
 use Rattle.ide_ssr_matching.specs.Sides.{Sides}
 use Rattle.ide_ssr_matching.specs.Trivia.{AreToldAlike}
 use Rattle.ide_ssr_matching.specs.UsedPaths.{arguments_of, pattern_res}
-use Rattle.ide_ssr_matching.proofs.StrippedLabels.{kinds_alike, bare_arguments_alike, labels_alike, named_alike}
-use Rattle.ide_ssr_matching.proofs.StrippedNodes.{stripped_node, stripped_part, AreAlike, parts_alike}
-use Rattle.ide_ssr_matching.proofs.StrippedParts.{bare_alike, child_nodes_alike, arguments_among_alike, stripped_method, method_alike}
-
-pub numbers_alike : (a b : Node) → AreAlike a b → a.number ≡ b.number
-numbers_alike a b alike = ap (λ (node : Node). node.number) alike
+use Rattle.ide_ssr_matching.proofs.StrippedLabels.{labels_alike, named_alike}
+use Rattle.ide_ssr_matching.proofs.StrippedNodes.{stripped_node, stripped_part, AreAlike, kinds_alike, numbers_alike, parts_alike}
+use Rattle.ide_ssr_matching.proofs.StrippedParts.{bare_alike, bare_arguments_alike, child_nodes_alike, arguments_among_alike, stripped_method, method_alike}
 
 abbrev pub stripped_sides : Sides → Sides
 stripped_sides sides = record sides { code = map stripped_part sides.code }
@@ -65,7 +62,8 @@ module _ (rule : ResolvedKind) where
         → method_with ms tree rule type c call (stripped_method method) ≡ option_map stripped_sides (method_with ms tree rule type c call method)
     method_with_left type c call method = by (receiver_with ms tree (pattern_res rule call.path) type c.number method.receiver.number)
       where
-        by : (o : Option Receiver) → option_and_then (alike_pairs call (stripped_method method)) o ≡ option_map stripped_sides (option_and_then (alike_pairs call method) o)
+        by : (o : Option Receiver)
+            → option_and_then (alike_pairs call (stripped_method method)) o ≡ option_map stripped_sides (option_and_then (alike_pairs call method) o)
         by None = refl
         by (Some receiver) = alike_pairs_left call method receiver
 
@@ -110,12 +108,16 @@ module _ (rule : ResolvedKind) where
           → option_map stripped_sides (method_sides ms tree rule call p c) ≡ option_map stripped_sides (method_sides other_ms other_tree rule call p d)
       methods_alike call = by (called p)
         where
-          by : (o : Option Called)
-              → option_map stripped_sides (option_and_then (λ called. option_and_then (method_with ms tree rule call.qualifier_type c called) (method_call c)) o)
-              ≡ option_map stripped_sides (option_and_then (λ called. option_and_then (method_with other_ms other_tree rule call.qualifier_type d called) (method_call d)) o)
+          own : Called → Option Sides
+          own found = option_and_then (method_with ms tree rule call.qualifier_type c found) (method_call c)
+
+          others : Called → Option Sides
+          others found = option_and_then (method_with other_ms other_tree rule call.qualifier_type d found) (method_call d)
+
+          by : (o : Option Called) → option_map stripped_sides (option_and_then own o) ≡ option_map stripped_sides (option_and_then others o)
           by None = refl
-          by (Some called) =
-              either_method call.qualifier_type called c d (numbers_alike c d alike) (method_call c) (method_call d) (method_alike c d alike)
+          by (Some found) =
+              either_method call.qualifier_type found c d (numbers_alike c d alike) (method_call c) (method_call d) (method_alike c d alike)
 
       -- ** Which nodes of one kind can match.
 
@@ -177,15 +179,18 @@ module _ (rule : ResolvedKind) where
 
       likes_alike : option_map stripped_sides (like_sides ms tree rule p c) ≡ option_map stripped_sides (like_sides other_ms other_tree rule p d)
       likes_alike =
-          ap (λ kind. option_map stripped_sides (cond (same_kind p.kind kind && can_match ms tree rule (pattern_res rule p) p c) (like_pairs ms tree rule (pattern_res rule p) p c) None))
-          (kinds_alike c d alike)
-          ∙ ap (λ can. option_map stripped_sides (cond (same_kind p.kind d.kind && can) (like_pairs ms tree rule (pattern_res rule p) p c) None))
-          (can_alike (pattern_res rule p))
-          ∙ by (same_kind p.kind d.kind && can_match other_ms other_tree rule (pattern_res rule p) p d)
+          ap (λ kind. if_like (same_kind p.kind kind && can_match ms tree rule used p c)) (kinds_alike c d alike)
+          ∙ ap (λ can. if_like (same_kind p.kind d.kind && can)) (can_alike used)
+          ∙ by (same_kind p.kind d.kind && can_match other_ms other_tree rule used p d)
         where
-          by : (b : Bool) → option_map stripped_sides (cond b (like_pairs ms tree rule (pattern_res rule p) p c) None)
-              ≡ option_map stripped_sides (cond b (like_pairs other_ms other_tree rule (pattern_res rule p) p d) None)
-          by true = pairs_alike (pattern_res rule p)
+          used : Option Res
+          used = pattern_res rule p
+
+          if_like : Bool → Option Sides
+          if_like b = option_map stripped_sides (cond b (like_pairs ms tree rule used p c) None)
+
+          by : (b : Bool) → if_like b ≡ option_map stripped_sides (cond b (like_pairs other_ms other_tree rule used p d) None)
+          by true = pairs_alike used
           by false = refl
 
       pub sides_alike : option_map stripped_sides (sides_of ms tree rule p c) ≡ option_map stripped_sides (sides_of other_ms other_tree rule p d)

@@ -6,7 +6,7 @@ use Rattle.std.proofs.lemmas.Option.{none-some, same_Some}
 use Rattle.ssr_syntax_kinds.proofs.Shared.{same_kind-equal}
 use Rattle.ssr_syntax_kinds.specs.declared.kinds.SyntaxKind.TheVariants as k
 use Rattle.ssr_syntax_kinds.specs.Kinds.{same_kind}
-use Rattle.ssr_syntax_tree.specs.Syntax.{Token, Syntax, same_token}
+use Rattle.ssr_syntax_tree.specs.Syntax.{Syntax, same_token}
 use Rattle.ssr_syntax_tree.specs.Places.{Node, Part, token_part, node_part, node_of, size_of}
 use Rattle.ssr_base.specs.Meanings.{Meanings}
 use Rattle.ide_ssr_resolving.specs.Placeholders.{placeholder_at}
@@ -25,9 +25,8 @@ use Rattle.ide_ssr_matching.specs.Sides.{Sides, is_node, received, kept}
 use Rattle.ide_ssr_matching.specs.TokenTrees.{is_tree, token_placeholder, tree_by, is_plain}
 use Rattle.ide_ssr_matching.specs.Trivia.{stripped_below, stripped_tree, AreToldAlike, held_anywhere, bound_anywhere, BindAlike}
 use Rattle.ide_ssr_matching.proofs.Agreement.{bindings_of-Matches, Matches-bindings_of}
-use Rattle.ide_ssr_matching.proofs.StrippedLabels.{kinds_alike}
-use Rattle.ide_ssr_matching.proofs.StrippedNodes.{stripped_part, AreAlike, nodes_alike}
-use Rattle.ide_ssr_matching.proofs.StrippedSides.{numbers_alike, stripped_sides, sides_alike}
+use Rattle.ide_ssr_matching.proofs.StrippedNodes.{stripped_node, stripped_part, AreAlike, kinds_alike, numbers_alike, nodes_alike}
+use Rattle.ide_ssr_matching.proofs.StrippedSides.{stripped_sides, sides_alike}
 
 -- bindings, if there are any, but for where tokens stand
 abbrev anywhere : Option (List Binding) → Option (List Binding)
@@ -109,19 +108,16 @@ module _ (inner other : Binder) (same : (p c d : Node) → AreAlike c d → anyw
       let e : token_part 0 c ≡ token_part 0 d = alike in
       let equal : c ≡ d = cc in
       ap (λ c. anywhere (cond (same_token token c) (Some []) None)) equal
-  pair_alike (token_part t token) (token_part u c) (node_part d) alike = absurd (differ c d alike)
-    where
-      differ : (c : Token) (d : Node) → token_part 0 c ≡ stripped_part (node_part d) → ⊥
-      differ c d alike = cc
-  pair_alike (token_part t token) (node_part c) (token_part v d) alike = let e : stripped_part (node_part c) ≡ token_part 0 d = alike in cc
+  pair_alike (token_part t token) (token_part u c) (node_part d) alike = let e : token_part 0 c ≡ node_part (stripped_node d) = alike in cc
+  pair_alike (token_part t token) (node_part c) (token_part v d) alike = let e : node_part (stripped_node c) ≡ token_part 0 d = alike in cc
   pair_alike (token_part t token) (node_part c) (node_part d) alike = refl
   pair_alike (node_part p) (token_part u c) (token_part v d) alike = refl
-  pair_alike (node_part p) (token_part u c) (node_part d) alike = let e : token_part 0 c ≡ stripped_part (node_part d) = alike in cc
-  pair_alike (node_part p) (node_part c) (token_part v d) alike = let e : stripped_part (node_part c) ≡ token_part 0 d = alike in cc
-  pair_alike (node_part p) (node_part c) (node_part d) alike = same p c d (nodes_equal c d alike)
-    where
-      nodes_equal : (c d : Node) → stripped_part (node_part c) ≡ stripped_part (node_part d) → AreAlike c d
-      nodes_equal c d alike = cc
+  pair_alike (node_part p) (token_part u c) (node_part d) alike = let e : token_part 0 c ≡ node_part (stripped_node d) = alike in cc
+  pair_alike (node_part p) (node_part c) (token_part v d) alike = let e : node_part (stripped_node c) ≡ token_part 0 d = alike in cc
+  pair_alike (node_part p) (node_part c) (node_part d) alike =
+      let e : node_part (stripped_node c) ≡ node_part (stripped_node d) = alike in
+      let equal : stripped_node c ≡ stripped_node d = cc in
+      same p c d equal
 
   pairs_alike : (ps cs ds : List Part) → map stripped_part cs ≡ map stripped_part ds → anywhere (pairs_by inner ps cs) ≡ anywhere (pairs_by other ps ds)
   pairs_alike ps [] (d ∷ ds) alike = let e : [] ≡ stripped_part d ∷ map stripped_part ds = alike in cc
