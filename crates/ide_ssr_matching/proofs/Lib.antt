@@ -21,3 +21,10 @@ mod Numbered
 mod Bound
 mod Held
 mod Roots
+mod Stripped
+mod StrippedNodes
+mod StrippedParts
+mod StrippedPaths
+mod StrippedLabels
+mod StrippedSides
+mod Trivia

@@ -42,7 +42,7 @@ module _ {A B : Type 0} (f : A → B) where
           moved None = refl
           moved (Some xs) = refl
 
-  arranged_map : (order labels : List (List ℕ)) (nodes : List A) → arranged order labels (map f nodes) ≡ option_map (map f) (arranged order labels nodes)
+  pub arranged_map : (order labels : List (List ℕ)) (nodes : List A) → arranged order labels (map f nodes) ≡ option_map (map f) (arranged order labels nodes)
   arranged_map order labels nodes = by (are_different order && (are_different labels && length order == length labels))
     where
       by : (b : Bool) → cond b (all_some (map (with_label labels (map f nodes)) order)) None

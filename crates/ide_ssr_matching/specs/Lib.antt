@@ -7,4 +7,5 @@ pub mod TokenTrees
 pub mod Records
 pub mod Matching
 pub mod Bindings
+pub mod Trivia
 pub mod Private

@@ -9,6 +9,7 @@ ghost use Rattle.ide_ssr_found.specs.declared.bindings.Binding.{Binding};
 ghost use Rattle.ide_ssr_found.specs.Apart.{IsHeldIn, AreApart};
 ghost use Rattle.ide_ssr_matching.specs.Bindings.{bindings_of};
 ghost use Rattle.ide_ssr_matching.specs.Matching.{Matches};
+ghost use Rattle.ide_ssr_matching.specs.Trivia.{stripped_tree, AreToldAlike, BindAlike};
 
 /// The bindings that are computed for a match are those with which the node matches, and the other way
 /// round, whatever names mean.
@@ -22,4 +23,10 @@ pub fn matching()
 pub fn holding()
     ensures held { (code : Syntax) (m : Meanings) (tree : ℕ) (rule : ResolvedKind) (p : Node) (n : ℕ) (bs : List Binding) → HasNode code n → Matches m tree rule p (node_of code n) bs → All (IsHeldIn code (node_of code n)) bs }
     ensures apart { (code : Syntax) (m : Meanings) (tree : ℕ) (rule : ResolvedKind) (p : Node) (n : ℕ) (bs : List Binding) → HasNode code n → Matches m tree rule p (node_of code n) bs → AllPairs (AreApart code) bs }
+{}
+
+/// Two trees that are the same but for white space and comments outside of token trees match the same patterns, node by node,
+/// where the same is told of their nodes. What the placeholders hold is the same, but for the numbers of tokens.
+pub fn trivia()
+    ensures { (ms : Meanings) (tree : ℕ) (other_ms : Meanings) (other_tree : ℕ) (rule : ResolvedKind) (code other : Syntax) (p : Node) (n : ℕ) (bs : List Binding) → stripped_tree code ≡ stripped_tree other → AreToldAlike ms tree other_ms other_tree → Matches ms tree rule p (node_of code n) bs → (others : List Binding) × Matches other_ms other_tree rule p (node_of other n) others × BindAlike bs others }
 {}

@@ -8,4 +8,5 @@ mod Steps
 mod Matched
 mod Held
 mod Bound
+mod Numbers
 pub mod Shared

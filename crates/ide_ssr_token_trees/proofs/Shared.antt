@@ -5,3 +5,5 @@ pub use Rattle.ide_ssr_token_trees.proofs.Agreement.{tree_bindings-TreesMatch, T
 -- what is held, and which placeholders are bound
 pub use Rattle.ide_ssr_token_trees.proofs.Held.{trees_held, trees_behind}
 pub use Rattle.ide_ssr_token_trees.proofs.Bound.{trees_bound}
+-- the same tree with higher numbers of tokens
+pub use Rattle.ide_ssr_token_trees.proofs.Numbers.{bindings_later}

@@ -2,4 +2,5 @@ pub mod Elements
 pub mod TokenTrees
 pub mod Bindings
 pub mod Placeholders
+pub mod Numbers
 pub mod Private
