@@ -365,7 +365,8 @@ fn may_be_called<S: Semantics>(
     let Some(path) = callee(rule.pattern(), p) else {
         return Ok(false);
     };
-    calls_same(alloc, semantics, rule.pattern_res(path), number, c)
+    let same = calls_same(alloc, semantics, rule.pattern_res(path), number, c)?;
+    Ok(same)
 }
 
 /// The parts that have to pair so that a qualified call of the pattern matches a method call; none, where that cannot be.

@@ -1,7 +1,11 @@
 use Rattle.std.proofs.Common.{◌≡◌, Some, None, Option, IfSome, sym, ap, ◌∙◌, subst}
 use Rattle.std.specs.Option.{option_and_then, option_map}
 use Rattle.ssr_syntax_tree.specs.Places.{node_of}
-use Rattle.ide_ssr_matching.specs.Calls.{alike_pairs, method_sides}
+use Rattle.ssr_syntax_tree.proofs.Shared.{node_of-number}
+use Rattle.ssr_base.specs.Workspace.{node_id}
+use Rattle.ide_ssr_matching.specs.Calls.{alike_pairs, calls_same, method_sides}
+use Rattle.ide_ssr_matching.specs.UsedPaths.{pattern_res}
+use Rattle.ide_ssr_matching.proofs.CallParts.{uncalled}
 use Rattle.ide_ssr_matching.specs.Sides.{Sides}
 use Rattle.ide_ssr_matching.specs.Private.Calls.{called_at, AreCalledBelow, method_at, IsMethodBelow, sides_at}
 use Rattle.ide_ssr_matching.proofs.NodeLists.{method_told, none_there}
@@ -43,4 +47,11 @@ returns-clause-sides g c =
     c.pattern_res-used.ensures (sym c.in-Some-3.is ∙ c.in_ok-receiver.ensures))
 
 pub returns-then-not-branch-clause-sides : goal.returns-then-not-branch-clause-sides
-returns-then-not-branch-clause-sides g c = ?
+returns-then-not-branch-clause-sides g c =
+    let ms = g.S.Semantics.meanings c.args.semantics.now in
+    let code = c.args.code.now in
+    sym
+    (uncalled ms c.args.number c.args.rule.now c.args.call (node_of c.args.rule.now.pattern c.args.p.0) (node_of code c.args.c.0)
+    (λ found is.
+        ap (λ n. calls_same ms (pattern_res c.args.rule.now found.path) (node_id c.args.number n)) (node_of-number code c.args.c.0 c.requires.c_in)
+        ∙ c.in_ok-may_be_called.ensures c.if-not-branch.true found is))
