@@ -88,10 +88,15 @@ fn try_all(rt: &HostRuntime, text: &str) -> Result<Tally> {
 
 /// Tries a scenario, where there are these keys of facts.
 fn try_one(rt: &HostRuntime, names: &str, lines: &[Line<'_>]) -> Result<Tally> {
+    let text = facts_text(rt.alloc(), names, lines)?;
+    let facts = read(rt.alloc(), text.as_str().as_bytes())?;
+    try_lines(rt, &facts, lines)
+}
+
+/// Tries what the lines of a scenario ask of a search over these facts.
+fn try_lines(rt: &HostRuntime, facts: &Facts, lines: &[Line<'_>]) -> Result<Tally> {
     let alloc = rt.alloc();
-    let text = facts_text(alloc, names, lines)?;
-    let facts = read(alloc, text.as_str().as_bytes())?;
-    let mut finder = finder_of(alloc, &facts, lines);
+    let mut finder = finder_of(alloc, facts, lines);
     let mut tally = NOTHING;
     for line in lines {
         if let Some(answer) = answer(alloc, &facts.workspace, &mut finder, line)? {

@@ -1,8 +1,8 @@
 //! The order of the nodes of a workspace with an expansion.
 
-use crate::given::facts;
 use ide_ssr_nesting::{is_above, precedes};
 use ssr_base::{NodeId, Workspace};
+use ssr_facts::read;
 use ssr_syntax_tree::{Element, NodeNo};
 use std::test::Fail;
 
@@ -27,9 +27,12 @@ fn compared(workspace: &Workspace, a: NodeId, b: NodeId) -> Option<(bool, bool)>
 fn an_expansion_comes_behind_its_call_and_before_its_arguments(
     rt: HostRuntime,
 ) -> Result<(), Fail> {
-    let keys =
-        ",\"expansions\":[{\"call\":[0,9,14],\"kind\":\"expr\",\"tokens\":[[\"1\",false,12,13]]}]";
-    let facts = facts(rt.alloc(), &["fn f() { m!(1) }", "struct S;"], keys)?;
+    let facts = read(
+        rt.alloc(),
+        r#"{"files":[{"name":"a.rs","text":"fn f() { m!(1) }"},{"name":"b.rs","text":"struct S;"}],
+"expansions":[{"call":[0,9,14],"kind":"expr","tokens":[["1",false,12,13]]}]}"#
+            .as_bytes(),
+    )?;
     let workspace = &facts.workspace;
     // SOURCE_FILE, FN, NAME, PARAM_LIST, BLOCK_EXPR, STMT_LIST, MACRO_EXPR, MACRO_CALL, and below that PATH and TOKEN_TREE.
     let call = node(0, 7);
