@@ -6,12 +6,13 @@
 Fetches and unpacks packages as `lex_debian.py` does, builds the program of `crates/ssr_bench` by `rt run` (unless it is
 given), and takes the first files that lie inside of the language until they have so many megabytes, 1 and 10 if not said.
 They are searched by a provider that tells for each path and method call of theirs a definition by its text: with a rule
-that names no path and matches nothing, with a record, a qualified call and a macro call, each alone, and with all three.
+that names no path and matches nothing; with a record, a qualified call and a macro call, each alone, and with all three; and
+with the same rules where placeholders stand in the place of their paths, so that they match whatever is spelled there.
 Then comes a facts file of one text with many macro calls, 1,000 if not said, each with its expansion, that is searched with
 a rule that matches in each of them.
 
 Printed are the processor time of searching alone, as the program tells it, the least of some runs, MB/s, how many matches
-there are, and how many times as long it takes as the rule without paths.
+there are, and how many times as long it takes as the rule that matches nothing, and as the same rule without paths.
 
 Needs python 3, the commands rt, apt-get and dpkg, and a list of packages (`apt-get update`). It is no test: nothing here
 fails on a slow machine.
@@ -33,12 +34,15 @@ FACTS = re.compile(r"(\d+) files, (\d+) bytes of facts\nread in (\d+) ns\n(\d+) 
 RECORD = "Range {start: $a, end: $b} ==>> Range {start: $b, end: $a}"
 CALL = "Vec::push($v, $x) ==>> Vec::push($v, ($x))"
 MACRO = "assert_eq!($a, $b) ==>> assert_eq!($b, $a)"
+OPEN_RECORD = "$r {start: $a, end: $b} ==>> $r {start: $b, end: $a}"
+OPEN_CALL = "$f($v, $x) ==>> $f($v, ($x))"
+OPEN_MACRO = "$m!($a, $b) ==>> $m!($b, $a)"
+# rules with paths, and the same with placeholders in their place
 RULES = [
-    ("no path", [NOTHING]),
-    ("record", [RECORD]),
-    ("qualified call", [CALL]),
-    ("macro call", [MACRO]),
-    ("all three", [RECORD, CALL, MACRO]),
+    ("record", [RECORD], [OPEN_RECORD]),
+    ("qualified call", [CALL], [OPEN_CALL]),
+    ("macro call", [MACRO], [OPEN_MACRO]),
+    ("all three", [RECORD, CALL, MACRO], [OPEN_RECORD, OPEN_CALL, OPEN_MACRO]),
 ]
 
 
@@ -59,14 +63,26 @@ def some_files(paths, size):
     return "".join(path + "\n" for path in taken).encode()
 
 
+def time_one(program, names, repeat, rules):
+    """The bytes, the matches and the least time of some searches."""
+    runs = [searched(program, ["--times", *rules], names, TIMES) for _ in range(repeat)]
+    return runs[0][1], runs[0][2], min(run[4] for run in runs)
+
+
+def told(name, size, matches, time, *times):
+    """A line of the table."""
+    print("%-24s %10d %8d %10.2f %8.1f" % (name, size, matches, time / 1e6, 1000 * size / time), *["%9.2f" % it for it in times], flush=True)
+
+
 def time_rules(program, names, repeat):
-    """A line for each of the rules on these files."""
-    alone = None
-    for name, rules in RULES:
-        runs = [searched(program, ["--times", *rules], names, TIMES) for _ in range(repeat)]
-        size, matches, time = runs[0][1], runs[0][2], min(run[4] for run in runs)
-        alone = alone or time
-        print("%-16s %10d %8d %10.2f %8.1f %7.2f" % (name, size, matches, time / 1e6, 1000 * size / time, time / alone), flush=True)
+    """Lines for each of the rules on these files."""
+    size, matches, nothing = time_one(program, names, repeat, [NOTHING])
+    told("nothing matches", size, matches, nothing)
+    for name, rules, others in RULES:
+        size, matches, alone = time_one(program, names, repeat, others)
+        told(name + ", no path", size, matches, alone, alone / nothing)
+        size, matches, time = time_one(program, names, repeat, rules)
+        told(name, size, matches, time, time / nothing, time / alone)
 
 
 def expanded(count):
@@ -116,7 +132,7 @@ def main():
         fetch(packages, options.packages)
         files = unpack(packages, options.packages, os.path.join(folder, "source"))
         paths, _ = modules(program, files, len(files), folder)
-        print("%-16s %10s %8s %10s %8s %7s" % ("rules", "bytes", "matches", "search ms", "MB/s", "times"))
+        print("%-24s %10s %8s %10s %8s %9s %9s" % ("rules", "bytes", "matches", "search ms", "MB/s", "nothing", "no path"))
         for megabytes in options.megabytes:
             time_rules(program, some_files(paths, 1e6 * megabytes), options.repeat)
         print("%-16s %10s %8s %10s %8s %7s" % ("rule", "expansions", "matches", "search ms", "", "times"))
