@@ -53,5 +53,5 @@ returns-then-not-branch-clause-sides g c =
     sym
     (uncalled ms c.args.number c.args.rule.now c.args.call (node_of c.args.rule.now.pattern c.args.p.0) (node_of code c.args.c.0)
     (λ found is.
-        ap (λ n. calls_same ms (pattern_res c.args.rule.now found.path) (node_id c.args.number n)) (node_of-number code c.args.c.0 c.requires.c_in)
-        ∙ c.in_ok-may_be_called.ensures c.if-not-branch.true found is))
+    ap (λ n. calls_same ms (pattern_res c.args.rule.now found.path) (node_id c.args.number n)) (node_of-number code c.args.c.0 c.requires.c_in)
+    ∙ c.in_ok-may_be_called.ensures c.if-not-branch.true found is))
