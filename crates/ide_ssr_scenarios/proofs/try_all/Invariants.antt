@@ -1,0 +1,9 @@
+use denote.Text.{Utf8}
+use denote.Shadow.{shadow}
+use Rattle.ide_ssr_scenarios.proofs.try_all.Given as goal
+
+abbrev pub invariant-loop-block : goal.invariant-loop-block
+invariant-loop-block l =
+    (goal.iterator-loop-block).can_next l.block-iterator ×
+    (goal.iterator-loop-block).is_finite l.block-iterator ×
+    shadow (Utf8 l.names)
