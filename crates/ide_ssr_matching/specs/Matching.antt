@@ -19,11 +19,12 @@ use Rattle.ide_ssr_matching.specs.Calls.{call_of, meets_method, method_sides, ca
 use Rattle.ide_ssr_matching.specs.Records.{is_named, named_nodes}
 
 -- A placeholder of the pattern matches each node that meets its constraints, and binds it. A token tree matches token trees by
--- their tokens. A qualified call matches the method calls of the same function on a receiver that can be its first argument. A
--- used path matches the paths that stand for the same thing and whose arguments pair with its own, one by one; what else they
--- are spelled with doesn't count. Lists of record fields with names pair by the names. Any other node of the pattern matches
--- the nodes of its kind whose bare children pair with its own, one by one; a qualified call only those calls whose first
--- argument is of its qualifier's type.
+-- their tokens. A qualified call matches the method calls of the same function on a receiver that can be its first argument, where
+-- their parts pair with its own, one by one. A used path matches the paths that stand for the same thing and whose arguments
+-- pair with its own, one by one; what else they are spelled with doesn't count. Lists of record fields with names pair by the
+-- names. Any other node of the pattern matches the nodes of its kind whose bare children pair with its own, one by one; a
+-- qualified call with a qualifier type only those calls whose first argument, if there is one, is of that type, maybe after
+-- dereferences.
 mutual
   pub data Matches (m : Meanings) (tree : ℕ) (rule : ResolvedKind) : Node → Node → List Binding → Type 0 where
     bound : (p c : Node) (i : ℕ) → placeholder_at rule.names p ≡ Some i → meets rule i c.kind ≡ true
