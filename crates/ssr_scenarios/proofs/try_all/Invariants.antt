@@ -1,6 +1,6 @@
 use denote.Text.{Utf8}
 use denote.Shadow.{shadow}
-use Rattle.ide_ssr_scenarios.proofs.try_all.Given as goal
+use Rattle.ssr_scenarios.proofs.try_all.Given as goal
 
 abbrev pub invariant-loop-block : goal.invariant-loop-block
 invariant-loop-block l =
