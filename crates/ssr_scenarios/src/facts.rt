@@ -1,6 +1,7 @@
 //! The facts of a scenario.
 
 use crate::lines::{Line, rest_of};
+use crate::texts::text_of;
 use anyhow::{Result, bail};
 use std::alloc::Global;
 use std::fmt::Write;
@@ -48,10 +49,13 @@ fn push_row(rows: &mut String, row: &str) -> Result<()> {
     Ok(())
 }
 
-/// The text of a facts file for a scenario. Each tree is one scope.
+/// The text of a facts file for a scenario, which has no names without a file. Each tree is one scope.
 pub(crate) fn facts_text(alloc: Global, names: &str, lines: &[Line<'_>]) -> Result<String> {
     if let Some(facts) = rest_of(lines, "facts") {
-        return Ok(String::from_str(alloc, facts)?);
+        return text_of(alloc, facts);
+    }
+    if rest_of(lines, "file").is_none() {
+        return Ok(String::from_str(alloc, "{}")?);
     }
     let mut rows = no_rows(alloc);
     let mut keys = String::from_str(alloc, names)?;
@@ -64,9 +68,9 @@ pub(crate) fn facts_text(alloc: Global, names: &str, lines: &[Line<'_>]) -> Resu
 /// Adds what a line tells.
 fn push_line(alloc: Global, rows: &mut Rows, keys: &mut String, line: &Line<'_>) -> Result<()> {
     match line.word {
-        "file" => push_file(alloc, rows, line.rest),
+        "file" => push_file(alloc, rows, text_of(alloc, line.rest)?.as_str()),
         "call" => push_call(rows, line.rest),
-        "told" => push_told(rows, line.rest),
+        "told" => push_told(alloc, rows, line.rest),
         "keys" => push_row(keys, line.rest),
         _ => Ok(()),
     }
@@ -129,34 +133,36 @@ fn push_call(rows: &mut Rows, row: &str) -> Result<()> {
 }
 
 /// Adds what is told of snippets of the first file.
-fn push_told(rows: &mut Rows, told: &str) -> Result<()> {
+fn push_told(alloc: Global, rows: &mut Rows, told: &str) -> Result<()> {
     for fact in told.split("; ") {
-        push_fact(rows, fact)?;
+        push_fact(alloc, rows, fact)?;
     }
     Ok(())
 }
 
 /// Adds what is told of a snippet: that it is a path of a definition, a method call of a function with a self kind, or has
 /// types.
-fn push_fact(rows: &mut Rows, fact: &str) -> Result<()> {
+fn push_fact(alloc: Global, rows: &mut Rows, fact: &str) -> Result<()> {
+    let first = rows.first.as_str();
     if let Some((path, def)) = fact.split_once(" is ") {
-        let (start, end) = range_of(rows.first.as_str(), path)?;
-        let comma = comma(&rows.paths);
-        write!(rows.paths, "{comma}[0,{start},{end},[\"def\",{def}]]")?;
-        return Ok(());
+        let told = format!(in alloc; "[\"def\",{def}]")?;
+        return push_at(&mut rows.paths, first, path, told.as_str());
     }
     if let Some((call, told)) = fact.split_once(" calls ") {
-        let (start, end) = range_of(rows.first.as_str(), call)?;
-        let comma = comma(&rows.methods);
-        write!(rows.methods, "{comma}[0,{start},{end},{told}]")?;
-        return Ok(());
+        return push_at(&mut rows.methods, first, call, told);
     }
     let Some((expression, types)) = fact.split_once(" has ") else {
         bail!("{fact} is no fact");
     };
-    let (start, end) = range_of(rows.first.as_str(), expression)?;
-    let comma = comma(&rows.types);
-    write!(rows.types, "{comma}[0,{start},{end},[{types}]]")?;
+    let told = format!(in alloc; "[{types}]")?;
+    push_at(&mut rows.types, first, expression, told.as_str())
+}
+
+/// Adds what is told of the first place where a snippet stands in the first file.
+fn push_at(rows: &mut String, first: &str, snippet: &str, told: &str) -> Result<()> {
+    let (start, end) = range_of(first, snippet)?;
+    let comma = comma(rows);
+    write!(rows, "{comma}[0,{start},{end},{told}]")?;
     Ok(())
 }
 

@@ -1,24 +1,63 @@
-//! Worked examples of searches, in the files of `data/`, which the words of the command name.
+//! Worked examples of what the libraries have in public, in the files of `data/`, which the words of the command name.
 //!
-//! A file has scenarios with empty lines between. The lines of a scenario say, by their first word, what is searched, by which
-//! rules, and what is asked of the search; the indented lines below a question are the answer that is wanted. Lines that
-//! begin with `#` are remarks. The words are:
+//! A file has scenarios with empty lines between. The lines of a scenario say, by their first word, what there is, and what is
+//! asked of it; the indented lines below a question are the answer that is wanted. Lines that begin with `#` are remarks.
+//!
+//! A text stands in a line as it is, or between two `, with the escapes `\n`, `\r`, `\t` and `\u{..}`. So may parts of a text, one
+//! behind another; a part that comes three times has *3 behind it.
+//!
+//! What there is:
 //!
 //! | Word | What it says |
 //! |---|---|
-//! | `names KEYS` | keys of facts, from here on to the end of the file |
+//! | `names KEYS` | keys of facts, from here on to the end of the file, where there are files |
 //! | `file TEXT` | a further file; a path may stand as `«path is 3»`, where it stands for definition 3 |
 //! | `call ROW` | a further macro call, with what it stands for, as facts tell it |
 //! | `told FACTS` | what is told of snippets of the first file, as `path is 3; call calls 3,"ref"; expression has 7,8` |
 //! | `keys KEYS` | further keys of facts |
-//! | `facts JSON` | all facts, in the place of those above |
+//! | `facts TEXT` | all facts, in the place of those above |
 //! | `context` | the search is that of the facts' position and ranges, and not one of all files |
-//! | `opens` | asks whether there is such a search: nothing, or why not |
+//! | `shows WAY` | in which of the ways below trees are told, and not by the kinds of their nodes |
+//!
+//! What is asked of a search:
+//!
+//! | Word | What it asks |
+//! |---|---|
+//! | `opens` | whether there is such a search: nothing, or why not |
 //! | `rule TEXT`, `pattern TEXT` | adds a rule or a search pattern, and asks whether that is accepted: nothing, or why not |
-//! | `finds`, `scans` | asks for the texts of the outermost matches |
+//! | `finds`, `scans` | the texts of the outermost matches |
 //! | `holds` | the same, with what each placeholder holds, how often it is dereferenced and how it is taken |
-//! | `places` | asks where the outermost matches, their comments and what their placeholders hold stand |
-//! | `edits` | asks for the new texts of files, or why there are none |
+//! | `places` | where the outermost matches, their comments and what their placeholders hold stand |
+//! | `edits` | the new texts of files, or why there are none |
+//! | `nodes` | the nodes of all trees, where each comes from, what stands above it, what it stands for as a macro call, and what facts tell of it |
+//!
+//! What is asked of a text:
+//!
+//! | Word | What it asks |
+//! |---|---|
+//! | `lexes TEXT` | its tokens, or its fault |
+//! | `whole TEXT` | the tree of a file, or why there is none |
+//! | `expr TEXT`, `type TEXT`, `item TEXT`, `pat TEXT`, `stmt TEXT` | the tree of a fragment likewise |
+//! | `call-expr TEXT`, `call-items TEXT`, `call-stmts TEXT` | the tree of what a macro call stands for, if that is the tokens of the text |
+//! | `told-expr ROWS`, `told-items ROWS`, `told-stmts ROWS` | the same of tokens as facts tell them |
+//! | `kinds TEXT` | the kinds of a rule, or of a search pattern, where the text has no delimiter, or why it is refused |
+//! | `parts TEXT` | the placeholders of its first kind, its pattern and its template, and which nodes and tokens are placeholders |
+//! | `used TEXT`, `calls TEXT`, `eligible TEXT` | the used paths of its first kind, of the template too, its qualified calls, or its eligible paths |
+//! | `rows TEXT` | the rows of a facts file, or why there are none |
+//! | `reads TEXT` | whether it is a facts file: nothing, or why not |
+//! | `fronts QUESTION TEXT` | what that question answers to each front of the text, a line for each run of equal answers |
+//!
+//! Ways to tell a tree:
+//!
+//! | Way | What is told |
+//! |---|---|
+//! | `ranges` | the nodes, each with its range |
+//! | `tokens` | the kinds of its tokens |
+//! | `source` | its source, and how many bytes of white space stand in front of that |
+//! | `depth` | how many nodes stand above the deepest one |
+//! | `fits` | as what it could have been read |
+//! | `paths` | its used paths, where `a` and `b` are placeholders, or the first one that doesn't resolve |
+//! | `key` | the key of its first path |
 //!
 //! The program tells how many answers of each file are as wanted, and each that isn't.
 #![tactic(auto)]
@@ -27,6 +66,13 @@ mod answers;
 mod facts;
 mod lines;
 mod matches;
+mod nodes;
+mod paths;
+mod rows;
+mod rules;
+mod texts;
+mod tokens;
+mod trees;
 
 use crate::answers::answer;
 use crate::facts::facts_text;
@@ -79,9 +125,7 @@ fn try_all(rt: &HostRuntime, text: &str) -> Result<Tally> {
         if let Some(told) = rest_of(&lines, "names") {
             names = told;
         }
-        if rest_of(&lines, "file").is_some() || rest_of(&lines, "facts").is_some() {
-            tally = tally.with(try_one(rt, names, &lines)?);
-        }
+        tally = tally.with(try_one(rt, names, &lines)?);
     }
     Ok(tally)
 }
@@ -93,13 +137,14 @@ fn try_one(rt: &HostRuntime, names: &str, lines: &[Line<'_>]) -> Result<Tally> {
     try_lines(rt, &facts, lines)
 }
 
-/// Tries what the lines of a scenario ask of a search over these facts.
+/// Tries what the lines of a scenario ask, where there are these facts.
 fn try_lines(rt: &HostRuntime, facts: &Facts, lines: &[Line<'_>]) -> Result<Tally> {
     let alloc = rt.alloc();
     let mut finder = finder_of(alloc, facts, lines);
+    let way = rest_of(lines, "shows").unwrap_or("");
     let mut tally = NOTHING;
     for line in lines {
-        if let Some(answer) = answer(alloc, &facts.workspace, &mut finder, line)? {
+        if let Some(answer) = answer(alloc, facts, &mut finder, way, line)? {
             tally = tally.with(compared(rt, line, answer.as_str())?);
         }
     }

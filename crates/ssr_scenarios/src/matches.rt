@@ -68,7 +68,7 @@ pub(crate) fn write_places(out: &mut String, matches: &[Match<'_>]) -> Result<()
     Ok(())
 }
 
-fn write_range(out: &mut String, range: FileRange) -> Result<(), AllocError> {
+pub(crate) fn write_range(out: &mut String, range: FileRange) -> Result<(), AllocError> {
     let (start, end) = (range.range.start(), range.range.end());
     write!(out, "{}:{start}..{end}", range.file_id.0)
 }
