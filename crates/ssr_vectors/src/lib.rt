@@ -1,5 +1,5 @@
-//! Worked examples of what the libraries below the finder have in public, and that their calls succeed. They stand in a crate
-//! of their own, above what they try: a crate with tests is proved twice.
+//! Tests of what no scenario of `ssr_scenarios` can say in a text: values that are handed in, and what there isn't. They stand
+//! in a crate of their own, above what they try: a crate with tests is proved twice.
 #![tactic(auto)]
 
 #[cfg(test)]
@@ -7,18 +7,16 @@ mod edits;
 #[cfg(test)]
 mod facts;
 #[cfg(test)]
+mod fitting;
+#[cfg(test)]
+mod order;
+#[cfg(test)]
 mod parser;
 #[cfg(test)]
-mod paths;
+mod pattern_iterator;
 #[cfg(test)]
 mod resolving;
 #[cfg(test)]
-mod rule_kinds;
-#[cfg(test)]
-mod rule_texts;
-#[cfg(test)]
-mod syntax;
-#[cfg(test)]
-mod untold;
+mod rules;
 #[cfg(test)]
 mod workspaces;
