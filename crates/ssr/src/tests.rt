@@ -107,220 +107,28 @@ fn run_between(
     Ok(run(rt.alloc(), Some(owned.as_slice()), &mut source, &mut sink))
 }
 
-/// The rule of each row, alone, makes the row's text of its file.
-fn rewrites(rt: &HostRuntime, rows: &[(&str, &str, &str)]) -> Result<(), Fail> {
-    for &(rule, file, text) in rows {
-        let new = written(rt, 0, &[rule], file.as_bytes())?;
-        if new.as_str() != text {
-            return Err(Fail::new(format_args!("{rule} on {file} makes {new}")));
-        }
-    }
-    Ok(())
-}
-
 #[test]
 fn rewrites_files(rt: HostRuntime) -> Result<(), Fail> {
-    let rows = [
+    for (rule, file, text) in [
         (SWAP, "fn f() {1 + 2 + 3 + 4}", "fn f() {4 + (3 + (2 + 1))}"),
         (SWAP, "", ""),
-        (SWAP, "fn f() {x}", "fn f() {x}"),
-        (
-            "$a - $b ==>> $b - $a",
-            "fn f() {1 - 2 - 3}",
-            "fn f() {3 - (2 - 1)}",
-        ),
-        (
-            "$a * $b ==>> $b * $a",
-            "fn f() {(1 + 2) * 3}",
-            "fn f() {3 * (1 + 2)}",
-        ),
-        ("$a + 1 ==>> $a", "fn f() {2 * (x + 1)}", "fn f() {2 * (x)}"),
-        (
-            "!($a && $b) ==>> !$a || !$b",
-            "fn f() {!(x.y() && -z[0] < 1)}",
-            "fn f() {!x.y() || !(-z[0] < 1)}",
-        ),
-        (
-            "$a.len() == 0 ==>> $a.is_empty()",
-            "fn f() {&v.len() | (f(1, -g)?.len() == 0)}",
-            "fn f() {&v.len() | (f(1, -g)?.is_empty())}",
-        ),
-        (
-            "$a + $b ==>> $a",
-            "fn f() {1 + 2} fn g() {3}",
-            "fn f() {1} fn g() {3}",
-        ),
         (
             "$a+$b==>>$b-$a",
             "fn  f ( )\n{\n  1\t+ 2 }\r\n",
             "fn  f ( )\n{\n  2-1 }\r\n",
         ),
-    ];
-    rewrites(&rt, &rows)
-}
-
-#[test]
-fn rewrites_items_and_statements(rt: HostRuntime) -> Result<(), Fail> {
-    let rows = [
-        (
-            SWAP,
-            "use a::{b, c as _};\n#[x(1 + 2)]\npub struct S<T: A + 'static>(T);\n",
-            "use a::{b, c as _};\n#[x(1 + 2)]\npub struct S<T: A + 'static>(T);\n",
-        ),
-        (
-            SWAP,
-            "impl S<u8> {fn f(&self, n: u32) -> u32 {let k = n + 1; m!(1 + 2); k}}",
-            "impl S<u8> {fn f(&self, n: u32) -> u32 {let k = 1 + n; m!(1 + 2); k}}",
-        ),
-        (
-            SWAP,
-            "fn f() {if let Some(x) = g(1 + 2) {return x + 3;} else {loop {}}}",
-            "fn f() {if let Some(x) = g(2 + 1) {return 3 + x;} else {loop {}}}",
-        ),
-        (
-            "match $a {true => $b, false => $c} ==>> if $a {$b} else {$c}",
-            "fn f() {match x {true => 1, false => {2}}}",
-            "fn f() {if x {1} else {{2}}}",
-        ),
-        (
-            "$a.unwrap() ==>> $a?",
-            "fn f() {let y = |z| -x.unwrap()..z;}",
-            "fn f() {let y = |z| -x?..z;}",
-        ),
-    ];
-    rewrites(&rt, &rows)
-}
-
-#[test]
-fn rewrites_macro_calls(rt: HostRuntime) -> Result<(), Fail> {
-    let rows = [
-        (
-            "$m!(41, $a, 43) ==>> [$a]",
-            "fn f() {foo!(41, 42, 43)}",
-            "fn f() {[( 42)]}",
-        ),
-        (
-            "$m!($a) ==>> $a?",
-            "fn f() {bar(try_!(foo()));}",
-            "fn f() {bar(foo()?);}",
-        ),
-        (
-            "$m!($a, $b) ==>> $m!($b, $a)",
-            "fn f() {g!(1 + 2, x)}",
-            "fn f() {g!(( x), (1 + 2))}",
-        ),
-    ];
-    rewrites(&rt, &rows)
-}
-
-#[test]
-fn rewrites_literals(rt: HostRuntime) -> Result<(), Fail> {
-    let rows = [
-        (SWAP, "fn f() {\"é\" + x}", "fn f() {x + \"é\"}"),
-        ("true ==>> false", "fn f() {true}", "fn f() {false}"),
-        (
-            "$a + 1.5e-3 ==>> $a",
-            "fn f() {r#\"a\"b\"# + 1.5e-3}",
-            "fn f() {r#\"a\"b\"#}",
-        ),
-        (
-            "'\\'' * $a ==>> b'x' - $a",
-            "fn f() {'\\'' * br\"y\"}",
-            "fn f() {b'x' - br\"y\"}",
-        ),
-        // only the same spelling is the same literal
-        (
-            "1 ==>> 2",
-            "fn f() {1.0 + 0x1 + 1u8 + 1}",
-            "fn f() {1.0 + 0x1 + 1u8 + 2}",
-        ),
-    ];
-    rewrites(&rt, &rows)
-}
-
-#[test]
-fn rewrites_what_constraints_allow(rt: HostRuntime) -> Result<(), Fail> {
-    let rows = [
-        (
-            "${a:kind(literal)} + $b ==>> $b + $a",
-            "fn f() {1 + x + 2}",
-            "fn f() {x + 1 + 2}",
-        ),
-        (
-            "${a:not(kind(literal))} + $b ==>> $b + $a",
-            "fn f() {1 + x + 2}",
-            "fn f() {2 + (1 + x)}",
-        ),
-        (
-            "${a:not(not(kind(literal)))} ==>> 7",
-            "fn f() {g(1, (-2), x)}",
-            "fn f() {g(7, (-7), x)}",
-        ),
-    ];
-    rewrites(&rt, &rows)
-}
-
-#[test]
-fn keeps_comments(rt: HostRuntime) -> Result<(), Fail> {
-    let rows = [
-        (
-            "$a + 1 ==>> $a",
-            "fn f() {x /* k */ + 1}",
-            "fn f() {x/* k */}",
-        ),
-        ("$a + 1 ==>> $a", "fn f() {x // k\n+ 1}", "fn f() {x// k\n}"),
-        // a placeholder's own comments stay in it, and those around it come in their order
-        (
-            "($a + $b) ==>> $b * $a",
-            "fn f() { // 0\n( /* 1 */ (x /* 2 */) // 3\n + /* 4 */ y) /* 5 */ }",
-            "fn f() { // 0\ny * (x /* 2 */)/* 1 */// 3\n/* 4 */ /* 5 */ }",
-        ),
-        // those of a match in a placeholder stay with it
-        (
-            "$a - $b ==>> $b",
-            "fn f() {1 - (2 /* 1 */ - /* 2 */ 3)}",
-            "fn f() {(3/* 1 *//* 2 */)}",
-        ),
-        // those of a placeholder that the template drops go with it
-        ("$a + $b ==>> $a", "fn f() {x + (/* k */ y)}", "fn f() {x}"),
-        // a text that ends with one is no expression, and gets no parentheses, whatever it means then
-        (
-            "$a - $b ==>> $b - $a",
-            "fn f() {1 /* k */ - 2 - 3}",
-            "fn f() {3 - 2 - 1/* k */}",
-        ),
-        // a text of a rule may hold comments as well
-        (
-            "$a /* k */ + $b ==>> $a /* l */ - $b",
-            "fn f() {1 + 2}",
-            "fn f() {1 /* l */ - 2}",
-        ),
-    ];
-    rewrites(&rt, &rows)
+    ] {
+        let new = written(&rt, 0, &[rule], file.as_bytes())?;
+        assert_eq!(rt; new.as_str(), text, "{rule}");
+    }
+    Ok(())
 }
 
 #[test]
 fn earlier_rules_come_first(rt: HostRuntime) -> Result<(), Fail> {
-    for (rules, file, text) in [
-        (
-            ["$a + 1 ==>> $a", "$a + $b ==>> $b"],
-            "fn f() {3 + 1}",
-            "fn f() {3}",
-        ),
-        (
-            ["$a + $b ==>> $b", "$a + 1 ==>> $a"],
-            "fn f() {3 + 1}",
-            "fn f() {1}",
-        ),
-        (
-            ["$a + 1 ==>> $a * 7", "$a + $b ==>> $a - $b"],
-            "fn f() {3 + 2 + 1}",
-            "fn f() {(3 - 2) * 7}",
-        ),
-    ] {
-        let new = written(&rt, 0, &rules, file.as_bytes())?;
-        assert_eq!(rt; new.as_str(), text, "{file}");
-    }
+    let rules = ["$a + 1 ==>> $a * 7", "$a + $b ==>> $a - $b"];
+    let new = written(&rt, 0, &rules, b"fn f() {3 + 2 + 1}")?;
+    assert_eq!(rt; new.as_str(), "fn f() {(3 - 2) * 7}");
     Ok(())
 }
 
@@ -380,47 +188,11 @@ fn refuses_files(rt: HostRuntime) -> Result<(), Fail> {
 fn refuses_rules(rt: HostRuntime) -> Result<(), Fail> {
     for (rule, message) in [
         ("", "Cannot find delimiter `==>>`"),
-        ("1 ==>> 2 ==>> 3", "More than one delimiter found"),
         (
             "1 ==>> \"a",
             "Failed to parse pattern: a string that is not closed, at byte 0",
         ),
-        (
-            "1 + ' ==>> 1",
-            "Failed to parse pattern: a character literal that is not closed, at byte 4",
-        ),
-        ("$ ==>> 1", "Placeholder ($) with no name"),
-        (
-            "$ a ==>> 1",
-            "Placeholders should either be $name or ${name:constraints}",
-        ),
-        ("${a ==>> 1", "Placeholder is missing closing brace '}'"),
-        (
-            "$a ==>> ${a:kind(literal)}",
-            "Replacement placeholders cannot have constraints",
-        ),
-        ("$a + $a ==>> $a", "Placeholder `$a` repeats more than once"),
-        ("foo$a ==>> 1", "Placeholder `$a` isn't a token of its own"),
-        (
-            "__placeholder_a + $a ==>> $a",
-            "Name `__placeholder_a` is reserved",
-        ),
-        (
-            " ==>> 1",
-            "Not a valid Rust expression, type, item, path or pattern",
-        ),
-        (
-            "1 ==>> )",
-            "Not a valid Rust expression, type, item, path or pattern",
-        ),
-        (
-            "42 ==>> $a + $b",
-            "Replacement contains undefined placeholders: $a, $b",
-        ),
-        ("foo ==>> bar", "Failed to resolve path `bar`"),
         ("foo ==>> 1", "Failed to resolve path `foo`"),
-        ("m!($a) ==>> $a", "Failed to resolve path `m`"),
-        ("$a as u8 ==>> $a", "Failed to resolve path `u8`"),
     ] {
         let line = format!(in rt.alloc(); "error: Parse error: {message}\n")?;
         // alone, or the first refusal of several rules
@@ -489,31 +261,12 @@ fn answers_every_beginning(rt: HostRuntime) -> Result<(), Fail> {
     let no_tokens = "error: standard input: not tokens of this grammar\n";
     for (text, new) in [
         (SWAP, no_file),
-        ("fn f() {}", "fn f() {}"),
-        ("fn f() {1 + 2 + 3 + 4}", "fn f() {4 + (3 + (2 + 1))}"),
-        ("foo ==>> bar", no_file),
-        ("$a - $b ==>> $b - $a", no_file),
-        ("fn f() {1 - 2 - 3}", "fn f() {1 - 2 - 3}"),
-        ("$a * $b ==>> $b * $a", no_file),
-        ("fn f() {(1 + 2) * 3}", "fn f() {(2 + 1) * 3}"),
-        ("$a + 1 ==>> $a", no_file),
-        ("fn f() {2 * (x + 1)}", "fn f() {2 * (1 + x)}"),
-        ("$a + $b ==>> $a", no_file),
-        ("fn f() {1 + 2} fn g() {3}", "fn f() {2 + 1} fn g() {3}"),
-        ("fn f() {\"é\" + x}", "fn f() {x + \"é\"}"),
-        ("fn f() {x /* k */ + 1}", "fn f() {1 + x/* k */}"),
         ("fn f() {x // k\n+ 1}", "fn f() {1 + x// k\n}"),
-        (
-            "fn f() {4 + (3 + (2 + 1))} fn g() {(x * y) % z / 3}",
-            "fn f() {((1 + 2) + 3) + 4} fn g() {(x * y) % z / 3}",
-        ),
-        ("1 * (2 - x) ==>> 0x1F / 3", no_file),
         ("__placeholder_a $a ${a} ' // /* \"", no_tokens),
         (
             "fn f() {\"é\" + 1.5e-3 * b'\\n' - r#\"x\"#} // k",
             "fn f() {1.5e-3 * b'\\n' + \"é\" - r#\"x\"#} // k",
         ),
-        ("$a /* k /* l */ */ + 'x' ==>> c\"é\" // k", no_file),
     ] {
         for end in 0..=text.len() {
             let Some(beginning) = text.get(..end) else {
