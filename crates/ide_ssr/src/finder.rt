@@ -32,7 +32,7 @@ pub struct MatchFinder<'a, S: Semantics> {
     workspace: &'a Workspace,
     semantics: &'a S,
     context: Context,
-    rules: Vec<ResolvedRule>,
+    pub(crate) rules: Vec<ResolvedRule>,
 }
 
 impl<'a, S: Semantics> Model for MatchFinder<'a, S> {

@@ -7,6 +7,7 @@ ghost use Rattle.ide_ssr_matching.specs.PatternIterator.{without_trivia};
 
 use ide_ssr_token_trees::is_trivia;
 use ssr_syntax_tree::{Children, Element, NodeNo, Tree};
+use std::fmt;
 use std::marker::Model;
 
 /// The children of a node that are neither white space nor comments, from the left.
@@ -27,6 +28,13 @@ impl<'a> Model for PatternIterator<'a> {
     ghost view = { λ iterator. without_trivia iterator.tree.now iterator.left };
 
     ghost invariant = { λ iterator. All (HasElement iterator.tree.now) iterator.left };
+}
+
+/// Tells its name alone, a text without a promise.
+impl fmt::Debug for PatternIterator<'_> {
+    fn fmt<W: fmt::Write>(&self, f: &mut fmt::Formatter<W>) -> fmt::Result {
+        f.debug_struct("PatternIterator").finish_non_exhaustive()
+    }
 }
 
 impl<'a> PatternIterator<'a> {
