@@ -3,6 +3,7 @@ use Rattle.std.proofs.Common.{◌≡◌, ℕ, Bool, true, false, cond, List, [],
 use Rattle.std.specs.Prelude.{◌==◌}
 use Rattle.std.specs.Option.{option_map, option_map_or, option_and_then}
 use Rattle.std.proofs.lemmas.List.Elements.{All-nil, All-cons, All-head, All-tail}
+use Rattle.std.proofs.lemmas.Bool.{and_parts}
 use Rattle.std.proofs.lemmas.Option.{none-some, same_Some}
 use Rattle.ssr_syntax_kinds.specs.declared.kinds.SyntaxKind.{SyntaxKind}
 use Rattle.ssr_syntax_kinds.specs.declared.kinds.SyntaxKind.TheVariants as k
@@ -17,7 +18,7 @@ use Rattle.ide_ssr_matching.specs.declared.receivers.Receiver.{Receiver}
 use Rattle.ide_ssr_matching.specs.Children.{bare}
 use Rattle.ide_ssr_matching.specs.UsedPaths.{arguments_of, pattern_res}
 use Rattle.ide_ssr_matching.specs.Sides.{Sides}
-use Rattle.ide_ssr_matching.specs.Calls.{nodes_among, child_nodes, first_among, first_node, derefs, calls_same, Called, are_call, called_with, called_in, called, Method, method_in, method_call, method_pairs, alike_pairs, receiver_with, method_with, method_sides}
+use Rattle.ide_ssr_matching.specs.Calls.{nodes_among, child_nodes, first_node, calls_same, Called, are_call, called_with, called_in, called, Method, method_in, method_call, method_pairs, alike_pairs, receiver_by, receiver_with, method_with, method_sides}
 
 -- ** Nodes among parts.
 
@@ -28,6 +29,12 @@ module _ (P : Part → Type 0) where
   nodes_all (node_part node ∷ rest) all =
       All-cons (λ node. P (node_part node)) node (nodes_among rest) (All-head P (node_part node) rest all)
       (nodes_all rest (All-tail P (node_part node) rest all))
+
+-- the first node of a kind among parts is that among their nodes
+pub first_among_nodes : (kind : SyntaxKind) (parts : List Part) → first_of_kind kind parts ≡ first_node kind (nodes_among parts)
+first_among_nodes kind [] = refl
+first_among_nodes kind (token_part t token ∷ rest) = first_among_nodes kind rest
+first_among_nodes kind (node_part node ∷ rest) = ap (cond (same_kind node.kind kind) (Some node)) (first_among_nodes kind rest)
 
 -- what is true of nodes is of the first one of a kind
 pub found_has : (P : Node → Type 0) (kind : SyntaxKind) (nodes : List Node) (found : Node) → first_node kind nodes ≡ Some found → All P nodes → P found
@@ -106,13 +113,18 @@ module _ (p : Node) (call : Called) where
   pub is_called : called p ≡ Some call → IsCalled p call
   is_called is = by_nodes (child_nodes p) refl is
 
--- the callee's path is the first node below the first one
-pub callee_path : (p : Node) (found : Called) → called p ≡ Some found → (o : Option Node) → o ≡ first_among (child_nodes p)
-    → (callee : Node) → o ≡ Some callee → first_among (child_nodes callee) ≡ Some found.path
-callee_path p found is o o_is callee callee_is =
-    let call = is_called p found is in
-    let same : callee ≡ call.callee = same_Some callee call.callee (sym callee_is ∙ o_is ∙ ap first_among call.nodes) in
-    ap (λ callee. first_among (child_nodes callee)) same ∙ ap first_among call.path
+-- the callee is the first path expression of a call, and its path the first path below it
+module _ (p : Node) (found : Called) (call : IsCalled p found) where
+  pub first_expression : first_of_kind k.PATH_EXPR (parts_of p) ≡ Some call.callee
+  first_expression =
+      first_among_nodes k.PATH_EXPR (parts_of p) ∙ ap (first_node k.PATH_EXPR) call.nodes
+      ∙ ap (λ b. cond b (Some call.callee) (first_node k.PATH_EXPR (call.list ∷ [])))
+      (and_parts (same_kind call.callee.kind k.PATH_EXPR) (same_kind call.list.kind k.ARG_LIST) call.kinds).0
+
+  pub first_path : first_of_kind k.PATH (parts_of call.callee) ≡ Some found.path
+  first_path =
+      first_among_nodes k.PATH (parts_of call.callee) ∙ ap (first_node k.PATH) call.path
+      ∙ ap (λ b. cond b (Some found.path) None) call.path_kind
 
 -- ** A qualified call against a method call.
 
@@ -171,13 +183,8 @@ module _ (m : Meanings) (tree : ℕ) (rule : ResolvedKind) (call : QualifiedCall
       without : (found : Called) (method : Method) (b : Bool) → calls_same m (pattern_res rule found.path) (node_id tree c.number) ≡ b → b ≡ false
           → method_with m tree rule call.qualifier_type c found method ≡ None
       without found method b is differs =
-          ap (option_and_then (alike_pairs found method))
-          (ap
-          (λ b. cond b
-          (option_map
-          (λ count. record { node = record { 0 = method.receiver.number }; deref_count = count; self_kind = m.self_kind (node_id tree c.number) })
-          (derefs m call.qualifier_type (node_id tree method.receiver.number))) None)
-          (is ∙ differs))
+          ap (λ b. option_and_then (alike_pairs found method) (cond b (receiver_by m tree call.qualifier_type c.number method.receiver.number) None))
+          (is ∙ differs)
 
       by_method : (found : Called) → calls_same m (pattern_res rule found.path) (node_id tree c.number) ≡ false → (o : Option Method)
           → option_and_then (method_with m tree rule call.qualifier_type c found) o ≡ None

@@ -22,7 +22,7 @@ use Rattle.ide_ssr_resolving.specs.Used.{res_at}
 use Rattle.ide_ssr_matching.specs.declared.calls.CalledNodes.{CalledNodes}
 use Rattle.ide_ssr_matching.specs.declared.calls.MethodNodes.{MethodNodes}
 use Rattle.ide_ssr_matching.specs.declared.receivers.Receiver.{Receiver}
-use Rattle.ide_ssr_matching.specs.Calls.{nodes_among, child_nodes, first_node, arguments_among, Called, called, method_call, method_parts, derefs, receiver_with, alike_pairs, method_with, method_sides, takes_first, can_be_call}
+use Rattle.ide_ssr_matching.specs.Calls.{nodes_among, child_nodes, first_node, arguments_among, Called, called, method_call, method_parts, calls_same, derefs, receiver_by, receiver_with, alike_pairs, method_with, method_sides, takes_first, can_be_call}
 use Rattle.ide_ssr_matching.specs.UsedPaths.{pattern_res}
 use Rattle.ide_ssr_matching.specs.Private.Calls.{nodes_named, nodes_at, IsNodeBelow, called_at, AreCalledBelow, method_at, IsMethodBelow}
 use Rattle.ide_ssr_matching.specs.Private.Children.{IsBelow}
@@ -174,25 +174,26 @@ first_told ms number code m o call nodes (x ∷ rest) first count b o_is nodes_a
     ∙ ap (λ o. can_be_call ms number o (node_of code m)) (sym o_is)
 
 pub method_told : (ms : Meanings) (number : ℕ) (rule : ResolvedKind) (pattern code : Syntax) (call : QualifiedCall) (n m : ℕ)
-    (found : CalledNodes) (method : MethodNodes) (used : Option Res) (o : Option Receiver) → HasNode code m
-    → Some (called_at pattern found) ≡ called (node_of pattern n) → AreCalledBelow pattern n found
+    (found : CalledNodes) (method : MethodNodes) (o : Option Receiver) → HasNode code m
+    → Some (called_at pattern found) ≡ called (node_of pattern n)
+    → calls_same ms (pattern_res rule (node_of pattern found.path.0)) (node_id number m) ≡ true
     → Some (method_at code method) ≡ method_call (node_of code m) → IsMethodBelow code m method
-    → used ≡ res_at rule.pattern_paths found.path → o ≡ receiver_with ms number used call.qualifier_type m method.receiver.0
+    → o ≡ receiver_by ms number call.qualifier_type m method.receiver.0
     → option_and_then (alike_pairs (called_at pattern found) (method_at code method)) o
     ≡ method_sides ms number rule call (node_of pattern n) (node_of code m)
-method_told ms number rule pattern code call n m found method used o has called_is path_below method_is receiver_below used_is o_is =
+method_told ms number rule pattern code call n m found method o has called_is same method_is receiver_below o_is =
+    let type = call.qualifier_type in
     let called_nodes = called_at pattern found in
     let method_nodes = method_at code method in
     let pairs = alike_pairs called_nodes method_nodes in
-    let with_called = λ (c : Called). option_and_then (method_with ms number rule call.qualifier_type (node_of code m) c) (method_call (node_of code m)) in
+    let used = pattern_res rule called_nodes.path in
+    let with_called = λ (c : Called). option_and_then (method_with ms number rule type (node_of code m) c) (method_call (node_of code m)) in
     ap (option_and_then pairs)
     (o_is
-    ∙ ap (λ used. receiver_with ms number used call.qualifier_type m method.receiver.0)
-    (used_is ∙ ap (λ k. res_at rule.pattern_paths (record { 0 = k })) (sym (node_of-number pattern found.path.0 path_below.path.0)))
-    ∙ ap (λ k. receiver_with ms number (pattern_res rule called_nodes.path) call.qualifier_type k method.receiver.0) (sym (node_of-number code m has))
-    ∙ ap (receiver_with ms number (pattern_res rule called_nodes.path) call.qualifier_type (node_of code m).number)
-    (sym (node_of-number code method.receiver.0 receiver_below.receiver.0)))
-    ∙ ap (option_and_then (method_with ms number rule call.qualifier_type (node_of code m) called_nodes)) method_is
+    ∙ ap (λ b. cond b (receiver_by ms number type m method.receiver.0) None) (sym same)
+    ∙ ap (λ k. receiver_with ms number used type k method.receiver.0) (sym (node_of-number code m has))
+    ∙ ap (receiver_with ms number used type (node_of code m).number) (sym (node_of-number code method.receiver.0 receiver_below.receiver.0)))
+    ∙ ap (option_and_then (method_with ms number rule type (node_of code m) called_nodes)) method_is
     ∙ ap (option_and_then with_called) called_is
 
 pub none_there : {A : Type 0} (o : Option A) → ((x : A) → o ≡ Some x → ⊥) → o ≡ None

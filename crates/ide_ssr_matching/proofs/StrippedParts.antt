@@ -13,6 +13,7 @@ use Rattle.ide_ssr_token_trees.specs.Elements.{is_closing, closes}
 use Rattle.ide_ssr_matching.specs.Calls.{nodes_among, child_nodes, first_node, generics_among, arguments_among, Method, method_in, method_call}
 use Rattle.ide_ssr_matching.specs.Children.{bare}
 use Rattle.ide_ssr_matching.specs.UsedPaths.{from_arguments, arguments_of}
+use Rattle.ide_ssr_matching.proofs.CallParts.{first_among_nodes}
 use Rattle.ide_ssr_matching.proofs.StrippedNodes.{stripped_node, stripped_part, stripped_parts, AreAlike, parts_alike}
 
 -- ** Siblings.
@@ -57,19 +58,6 @@ nodes_among_left (node_part node ∷ rest) = ap (λ nodes. stripped_node node �
 nodes_among_left (token_part t token ∷ rest) =
     token_in t token rest (λ left. nodes_among left ≡ map stripped_node (nodes_among rest)) (λ _. nodes_among_left rest) (λ _. nodes_among_left rest)
 
-first_of_kind_left : (kind : SyntaxKind) (parts : List Part) → first_of_kind kind (stripped_parts parts) ≡ option_map stripped_node (first_of_kind kind parts)
-first_of_kind_left kind [] = refl
-first_of_kind_left kind (node_part node ∷ rest) =
-    ap (cond (same_kind node.kind kind) (Some (stripped_node node))) (first_of_kind_left kind rest)
-    ∙ by (same_kind node.kind kind) (first_of_kind kind rest)
-  where
-    by : (b : Bool) (o : Option Node) → cond b (Some (stripped_node node)) (option_map stripped_node o) ≡ option_map stripped_node (cond b (Some node) o)
-    by true o = refl
-    by false o = refl
-first_of_kind_left kind (token_part t token ∷ rest) =
-    token_in t token rest (λ left. first_of_kind kind left ≡ option_map stripped_node (first_of_kind kind rest))
-    (λ _. first_of_kind_left kind rest) (λ _. first_of_kind_left kind rest)
-
 from_arguments_left : (parts : List Part) → from_arguments (stripped_parts parts) ≡ stripped_parts (from_arguments parts)
 from_arguments_left [] = refl
 from_arguments_left (node_part node ∷ rest) =
@@ -105,10 +93,29 @@ each_alike f same (x ∷ xs) (y ∷ ys) alike =
     let rest : map stripped_node xs ≡ map stripped_node ys = cc in
     ap (λ z. z ∷ map f xs) (same x y first) ∙ ap (λ zs. f y ∷ zs) (each_alike f same xs ys rest)
 
+pub child_nodes_alike : (a b : Node) → AreAlike a b → map stripped_node (child_nodes a) ≡ map stripped_node (child_nodes b)
+child_nodes_alike a b alike = sym (nodes_among_left (parts_of a)) ∙ ap nodes_among (parts_alike a b alike) ∙ nodes_among_left (parts_of b)
+
+first_node_map : (kind : SyntaxKind) (nodes : List Node) → first_node kind (map stripped_node nodes) ≡ option_map stripped_node (first_node kind nodes)
+first_node_map kind [] = refl
+first_node_map kind (node ∷ rest) =
+    ap (cond (same_kind node.kind kind) (Some (stripped_node node))) (first_node_map kind rest)
+    ∙ by (same_kind node.kind kind) (first_node kind rest)
+  where
+    by : (b : Bool) (o : Option Node) → cond b (Some (stripped_node node)) (option_map stripped_node o) ≡ option_map stripped_node (cond b (Some node) o)
+    by true o = refl
+    by false o = refl
+
+pub first_node_alike : (xs ys : List Node) → map stripped_node xs ≡ map stripped_node ys → (kind : SyntaxKind)
+    → option_map stripped_node (first_node kind xs) ≡ option_map stripped_node (first_node kind ys)
+first_node_alike xs ys alike kind = sym (first_node_map kind xs) ∙ ap (first_node kind) alike ∙ first_node_map kind ys
+
 pub first_alike : (kind : SyntaxKind) (a b : Node) → AreAlike a b
     → option_map stripped_node (first_of_kind kind (parts_of a)) ≡ option_map stripped_node (first_of_kind kind (parts_of b))
 first_alike kind a b alike =
-    sym (first_of_kind_left kind (parts_of a)) ∙ ap (first_of_kind kind) (parts_alike a b alike) ∙ first_of_kind_left kind (parts_of b)
+    ap (option_map stripped_node) (first_among_nodes kind (parts_of a))
+    ∙ first_node_alike (child_nodes a) (child_nodes b) (child_nodes_alike a b alike) kind
+    ∙ sym (ap (option_map stripped_node) (first_among_nodes kind (parts_of b)))
 
 pub arguments_alike : (a b : Node) → AreAlike a b → stripped_parts (arguments_of a) ≡ stripped_parts (arguments_of b)
 arguments_alike a b alike =
@@ -133,28 +140,12 @@ bare_alike xs ys alike = sym (bare_left xs) ∙ ap bare alike ∙ bare_left ys
 pub bare_arguments_alike : (a b : Node) → AreAlike a b → map stripped_part (bare (arguments_of a)) ≡ map stripped_part (bare (arguments_of b))
 bare_arguments_alike a b alike = bare_alike (arguments_of a) (arguments_of b) (arguments_alike a b alike)
 
-pub child_nodes_alike : (a b : Node) → AreAlike a b → map stripped_node (child_nodes a) ≡ map stripped_node (child_nodes b)
-child_nodes_alike a b alike = sym (nodes_among_left (parts_of a)) ∙ ap nodes_among (parts_alike a b alike) ∙ nodes_among_left (parts_of b)
-
 -- ** Nodes in lists that are alike.
 
-first_node_map : (kind : SyntaxKind) (nodes : List Node) → first_node kind (map stripped_node nodes) ≡ option_map stripped_node (first_node kind nodes)
-first_node_map kind [] = refl
-first_node_map kind (node ∷ rest) =
-    ap (cond (same_kind node.kind kind) (Some (stripped_node node))) (first_node_map kind rest)
-    ∙ by (same_kind node.kind kind) (first_node kind rest)
-  where
-    by : (b : Bool) (o : Option Node) → cond b (Some (stripped_node node)) (option_map stripped_node o) ≡ option_map stripped_node (cond b (Some node) o)
-    by true o = refl
-    by false o = refl
-
 module _ (xs ys : List Node) (alike : map stripped_node xs ≡ map stripped_node ys) where
-  pub first_node_alike : (kind : SyntaxKind) → option_map stripped_node (first_node kind xs) ≡ option_map stripped_node (first_node kind ys)
-  first_node_alike kind = sym (first_node_map kind xs) ∙ ap (first_node kind) alike ∙ first_node_map kind ys
-
   pub generics_alike : map stripped_node (generics_among xs) ≡ map stripped_node (generics_among ys)
   generics_alike =
-      sym (listed (first_node k.GENERIC_ARG_LIST xs)) ∙ ap option_to_list (first_node_alike k.GENERIC_ARG_LIST) ∙ listed (first_node k.GENERIC_ARG_LIST ys)
+      sym (listed (first_node k.GENERIC_ARG_LIST xs)) ∙ ap option_to_list (first_node_alike xs ys alike k.GENERIC_ARG_LIST) ∙ listed (first_node k.GENERIC_ARG_LIST ys)
     where
       listed : (o : Option Node) → option_to_list (option_map stripped_node o) ≡ map stripped_node (option_to_list o)
       listed None = refl
@@ -164,7 +155,7 @@ module _ (xs ys : List Node) (alike : map stripped_node xs ≡ map stripped_node
   arguments_among_alike =
       sym (told (first_node k.ARG_LIST xs))
       ∙ either_alike (λ list. map stripped_node (child_nodes list)) [] child_nodes_alike (first_node k.ARG_LIST xs) (first_node k.ARG_LIST ys)
-      (first_node_alike k.ARG_LIST)
+      (first_node_alike xs ys alike k.ARG_LIST)
       ∙ told (first_node k.ARG_LIST ys)
     where
       told : (o : Option Node) → option_map_or (λ list. map stripped_node (child_nodes list)) o [] ≡ map stripped_node (option_map_or child_nodes o [])

@@ -32,10 +32,6 @@ nodes_among (node_part node ∷ rest) = node ∷ nodes_among rest
 abbrev pub child_nodes : Node → List Node
 child_nodes node = nodes_among (parts_of node)
 
-abbrev pub first_among : List Node → Option Node
-first_among [] = None
-first_among (node ∷ rest) = Some node
-
 abbrev pub first_node : SyntaxKind → List Node → Option Node
 first_node kind nodes = find (λ node. same_kind node.kind kind) nodes
 
@@ -126,13 +122,15 @@ alike_pairs called method receiver =
     if length (bare (arguments_of called.path)) == length method.generics then Some (method_pairs called method receiver) else None
 
 module _ (m : Meanings) (tree : ℕ) where
-  -- how the method call c takes its receiver, if it calls what the callee stands for on a value of the qualifier's type
-  abbrev pub receiver_with : Option Res → Option TypeId → ℕ → ℕ → Option Receiver
-  receiver_with used type c receiver =
-      if calls_same m used (node_id tree c)
-      then option_map (λ count. record { node = record { 0 = receiver }; deref_count = count; self_kind = m.self_kind (node_id tree c) })
+  -- how the method call c takes its receiver, if that can be of the qualifier's type
+  abbrev pub receiver_by : Option TypeId → ℕ → ℕ → Option Receiver
+  receiver_by type c receiver =
+      option_map (λ count. record { node = record { 0 = receiver }; deref_count = count; self_kind = m.self_kind (node_id tree c) })
       (derefs m type (node_id tree receiver))
-      else None
+
+  -- the same, if it calls what the callee stands for
+  abbrev pub receiver_with : Option Res → Option TypeId → ℕ → ℕ → Option Receiver
+  receiver_with used type c receiver = if calls_same m used (node_id tree c) then receiver_by type c receiver else None
 
   abbrev pub method_with : ResolvedKind → Option TypeId → Node → Called → Method → Option Sides
   method_with rule type c called method =

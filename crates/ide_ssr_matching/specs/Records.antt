@@ -10,7 +10,7 @@ use Rattle.ide_ssr_resolving.specs.Placeholders.{placeholder_at}
 use Rattle.ide_ssr_matching.specs.Children.{bare}
 use Rattle.ide_ssr_matching.specs.UsedPaths.{arguments_of}
 use Rattle.ide_ssr_matching.specs.Sides.{Sides}
-use Rattle.ide_ssr_matching.specs.Calls.{child_nodes, first_among, first_node}
+use Rattle.ide_ssr_matching.specs.Calls.{child_nodes, first_node}
 
 -- ** Names.
 
@@ -30,6 +30,10 @@ abbrev pub name_of_expr : Node → Option (List ℕ)
 name_of_expr expr = if same_kind expr.kind k.PATH_EXPR then name_of_only (child_nodes expr) else None
 
 -- what a field is named by: its name, or else its expression
+abbrev pub first_among : List Node → Option Node
+first_among [] = None
+first_among (node ∷ rest) = Some node
+
 abbrev pub named_by : Option Node → List Node → Option Node
 named_by (Some name) nodes = Some name
 named_by None nodes = first_among nodes

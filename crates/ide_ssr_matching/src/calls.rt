@@ -4,14 +4,14 @@ ghost use Rattle.std.specs.Prelude.{ℕ, false, Some, ◌≡◌, ◌++◌, All, 
 ghost use Rattle.std.specs.List.{position};
 ghost use Rattle.ssr_syntax_tree.specs.Places.{HasNode, node_of, node_part, part_of};
 ghost use Rattle.ssr_base.specs.Workspace.{node_id};
-ghost use Rattle.ide_ssr_matching.specs.Calls.{Called, child_nodes, first_among, first_node, generics_among, arguments_among, method_call, method_parts, are_call, called_with, called, same_type, derefs, calls_same, receiver_with, alike_pairs, method_sides, can_be_call};
+ghost use Rattle.ide_ssr_matching.specs.Calls.{Called, child_nodes, first_node, generics_among, arguments_among, method_call, method_parts, are_call, called_with, called, same_type, derefs, calls_same, receiver_by, alike_pairs, method_sides, can_be_call};
 ghost use Rattle.ide_ssr_matching.specs.Private.Calls.{nodes_named, nodes_at, IsNodeBelow, called_at, AreCalledBelow, method_at, IsMethodBelow, sides_at, AreSidesBelow};
 ghost use Rattle.ide_ssr_matching.specs.UsedPaths.{pattern_res};
 ghost use Rattle.ide_ssr_matching.specs.Private.Children.{IsBelow};
 
 use crate::children::bare_arguments;
 use crate::receivers::Receiver;
-use ide_ssr_resolving::{QualifiedCall, ResolvedRule, last_segment};
+use ide_ssr_resolving::{QualifiedCall, ResolvedRule, first_child, last_segment};
 use ssr_base::{NodeId, Res, Semantics, TypeId};
 use ssr_syntax_kinds::SyntaxKind;
 use ssr_syntax_tree::{Element, NodeNo, Tree};
@@ -66,21 +66,6 @@ pub(crate) fn child_nodes(
         push_node(child, &mut nodes)?;
     }
     Ok(nodes)
-}
-
-/// The first child of a node that is one.
-fn first_child(tree: &Tree, node: NodeNo) -> Option<NodeNo>
-    requires { HasNode tree.now node.0 }
-    ensures child { option_map (λ child. node_of tree.now child.0) result ≡ first_among (child_nodes (node_of tree.now node.0)) }
-    ensures below { IfSome result (IsNodeBelow tree.now node.0) }
-{
-    for child in tree.children(node) {
-        match child {
-            Element::Node(child) => return Some(child),
-            Element::Token(_) => {}
-        }
-    }
-    None
 }
 
 /// The first node of a kind.
@@ -256,22 +241,17 @@ fn calls_same<S: Semantics>(
     }
 }
 
-/// The receiver of the method call `c`, if that calls what a callee stands for and the receiver can be of the qualifier's
-/// type.
+/// The receiver of the method call `c`, if it can be of the qualifier's type.
 fn receiver_of<S: Semantics>(
     alloc: Global,
     semantics: &S,
-    used: Option<Res>,
     wanted: Option<TypeId>,
     number: u32,
     c: NodeNo,
     receiver: NodeNo,
 ) -> Result<Option<Receiver>, AllocError>
-    ensures { IfOk result (λ found. found ≡ receiver_with (S.meanings semantics.now) number used wanted c.0 receiver.0) }
+    ensures { IfOk result (λ found. found ≡ receiver_by (S.meanings semantics.now) number wanted c.0 receiver.0) }
 {
-    if !calls_same(alloc, semantics, used, number, c)? {
-        return Ok(None);
-    }
     let Some(deref_count) = derefs(alloc, semantics, wanted, number, receiver)? else {
         return Ok(None);
     };
@@ -345,13 +325,12 @@ fn callee(tree: &Tree, call: NodeNo) -> Option<NodeNo>
     ensures path { (found : Called) → called (node_of tree.now call.0) ≡ Some found → option_map (λ path. node_of tree.now path.0) result ≡ Some found.path }
     ensures there { IfSome result (λ path. HasNode tree.now path.0) }
 {
-    let expression = first_child(tree, call)?;
-    first_child(tree, expression)
+    let expression = first_child(tree, call, SyntaxKind::PATH_EXPR)?;
+    first_child(tree, expression, SyntaxKind::PATH)
 }
 
-/// Whether a method call may be what a qualified call says: whether it calls the same. Most method calls call something else,
-/// of which the parts need not be gathered.
-fn may_be_called<S: Semantics>(
+/// Whether the method call `c` calls what the callee of the qualified call `p` stands for.
+fn calls_callee<S: Semantics>(
     alloc: Global,
     semantics: &S,
     rule: &ResolvedRule,
@@ -360,7 +339,7 @@ fn may_be_called<S: Semantics>(
     c: NodeNo,
 ) -> Result<bool, AllocError>
     requires { HasNode rule.now.pattern p.0 }
-    ensures { IfOk result (λ may. may ≡ false → (found : Called) → called (node_of rule.now.pattern p.0) ≡ Some found → calls_same (S.meanings semantics.now) (pattern_res rule.now found.path) (node_id number c.0) ≡ false) }
+    ensures { IfOk result (λ same. (found : Called) → called (node_of rule.now.pattern p.0) ≡ Some found → calls_same (S.meanings semantics.now) (pattern_res rule.now found.path) (node_id number c.0) ≡ same) }
 {
     let Some(path) = callee(rule.pattern(), p) else {
         return Ok(false);
@@ -385,7 +364,8 @@ pub(crate) fn method_sides<S: Semantics>(
     ensures sides { IfOk result (λ sides. option_map (sides_at rule.now.pattern code.now) sides ≡ method_sides (S.meanings semantics.now) number rule.now call (node_of rule.now.pattern p.0) (node_of code.now c.0)) }
     ensures below { IfOk result (λ sides. IfSome sides (AreSidesBelow rule.now.pattern code.now p.0 c.0)) }
 {
-    if !may_be_called(alloc, semantics, rule, number, p, c)? {
+    // most method calls call something else, of which the parts need not be gathered
+    if !calls_callee(alloc, semantics, rule, number, p, c)? {
         return Ok(None);
     }
     let pattern = rule.pattern();
@@ -395,10 +375,8 @@ pub(crate) fn method_sides<S: Semantics>(
     let Some(method) = method_call(alloc, code, c)? else {
         return Ok(None);
     };
-    let used = rule.pattern_res(called.path);
     let wanted = call.qualifier_type;
-    let Some(receiver) = receiver_of(alloc, semantics, used, wanted, number, c, method.receiver)?
-    else {
+    let Some(receiver) = receiver_of(alloc, semantics, wanted, number, c, method.receiver)? else {
         return Ok(None);
     };
     let sides = method_pairs(alloc, pattern, code, &called, &method, receiver)?;

@@ -12,7 +12,7 @@ mod stand_ins;
 mod used;
 
 pub use keys::key_of;
-pub use paths::{is_arguments, last_segment};
+pub use paths::{first_child, is_arguments, last_segment};
 pub use qualified_calls::QualifiedCall;
 pub use resolved::{ResolvedRule, resolve_pattern, resolve_rule};
 pub use resolving::resolution;

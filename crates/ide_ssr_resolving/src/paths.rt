@@ -27,10 +27,10 @@ fn node_of_kind(tree: &Tree, child: Element, kind: SyntaxKind) -> Option<NodeNo>
 }
 
 /// The first child of a node that is a node of this kind.
-pub(crate) fn first_child(tree: &Tree, node: NodeNo, kind: SyntaxKind) -> Option<NodeNo>
+pub fn first_child(tree: &Tree, node: NodeNo, kind: SyntaxKind) -> Option<NodeNo>
     requires { HasNode tree.now node.0 }
     ensures node { option_map (λ child. node_of tree.now child.0) result ≡ first_of_kind kind (parts_of (node_of tree.now node.0)) }
-    ensures below { option_map (below tree.now) result ≡ below_first kind (node_of tree.now node.0).children }
+    ensures below { option_map (λ child. (node_of tree.now child.0).children) result ≡ below_first kind (node_of tree.now node.0).children }
     ensures has { IfSome result (λ child. HasNode tree.now child.0) }
 {
     for child in tree.children(node) {

@@ -6,10 +6,10 @@ use Rattle.ssr_base.specs.Workspace.{node_id}
 use Rattle.ide_ssr_resolving.specs.Used.{res_at}
 use Rattle.ide_ssr_matching.specs.Calls.{called, calls_same}
 use Rattle.ide_ssr_matching.specs.UsedPaths.{pattern_res}
-use Rattle.ide_ssr_matching.proofs.calls.may_be_called.Goals as goal
+use Rattle.ide_ssr_matching.proofs.calls.calls_callee.Goals as goal
 
 pub returns : goal.returns
-returns g c = λ differs found is.
+returns g c = λ found is.
     let ms = g.S.Semantics.meanings c.args.semantics.now in
     let rule = c.args.rule.now in
     let lent = c.pattern.result.now in
@@ -22,4 +22,4 @@ returns g c = λ differs found is.
     ap (λ (path : Node). calls_same ms (pattern_res rule path) call) (sym same)
     ∙ ap (λ n. calls_same ms (res_at rule.pattern_paths (record { 0 = n })) call) (node_of-number lent path.0 c.in-Some.ensures.there)
     ∙ ap (λ used. calls_same ms used call) (sym c.pattern_res.ensures)
-    ∙ sym c.in_ok-same.ensures ∙ differs
+    ∙ sym c.in_ok-same.ensures
