@@ -3,3 +3,9 @@ use Rattle.ide_ssr_search.proofs.scan.Ground.is_permitted.Goals as goal
 
 pub returns-else-is_open : goal.returns-else-is_open
 returns-else-is_open c = search rules
+
+pub returns-then-not-asked : goal.returns-then-not-asked
+returns-then-not-asked c = search rules
+
+pub returns-else-not-asked : goal.returns-else-not-asked
+returns-else-not-asked c = search rules
