@@ -25,7 +25,7 @@ use Rattle.ide_ssr_rules.specs.Patterns.{placeholders_among, IsReadOnce}
 use Rattle.ide_ssr_rules.specs.StandIns.{stand_in_of, read_as, code_of, first_glued, first_name, glued_placeholder, is_stand_in, name_at, stand_in_text, spelled_stand_in}
 use Rattle.ide_ssr_rules.specs.Uses.{AreNew}
 use Rattle.ide_ssr_rules.proofs.Named.{over_idents}
-use Rattle.ide_ssr_rules.proofs.Trimming.{IsUtf8-trim, trim_shorter}
+use Rattle.ssr_syntax.proofs.Shared.{IsUtf8-trim, trim_shorter}
 
 -- ** The tokens are those that are read for the elements.
 

@@ -1,5 +1,5 @@
 -- What the lexer answers, as tokens with their texts.
-use Rattle.std.proofs.Common.{◌≡◌, ℕ, ◌+◌, ◌<◌, ◌≤◌, ◌^◌, List, [], length, nat_lt, Some, None, Err, arith, ap, ◌∙◌, sym, cond, false, take, get_or, subst, ◌∷◌}
+use Rattle.std.proofs.Common.{◌≡◌, ◌≢◌, ℕ, ◌+◌, ◌<◌, ◌≤◌, ◌^◌, Bool, true, false, List, [], length, nat_lt, Option, Some, None, Err, refl, arith, ap, ◌∙◌, sym, cond, take, get_or, subst, ◌∷◌}
 use Rattle.std.proofs.lemmas.List.{take_all}
 use Rattle.std.proofs.lemmas.Bool.{lt-ltb}
 use Rattle.std.proofs.lemmas.List.Elements.{All-get_or, All-from_recursion}
@@ -10,7 +10,9 @@ use Rattle.std.specs.Str.{IsCharBoundary}
 use Rattle.std.proofs.lemmas.Bool.Decides.{nat_tests}
 use Rattle.ssr_syntax_lex.specs.declared.tokens.RawToken.{RawToken}
 use Rattle.ssr_syntax_lex.specs.Tokens.{tokens, fault, TilesFrom, Tiles}
-use Rattle.ssr_syntax.specs.Reading.{pieces}
+use Rattle.ssr_syntax.specs.Reading.{pieces, IsLexFault}
+use Rattle.ssr_syntax.specs.declared.syntax_error.SyntaxError.{SyntaxError}
+use Rattle.ssr_syntax.specs.declared.syntax_error.SyntaxError.TheVariants as unread
 use Rattle.ssr_syntax_tree.specs.Syntax.{Token}
 use Rattle.ide_ssr_rules.specs.Elements.{lexed, fault_in, side, elements}
 use Rattle.ide_ssr_rules.specs.declared.refusals.Refusal.TheVariants as r
@@ -25,15 +27,38 @@ lexed-tokens text raw short is =
     ap (λ b. cond b (option_map (pieces text) (tokens text)) None) (lt-ltb (length text) (2 ^ 32) short)
     ∙ ap (option_map (pieces text)) is
 
+-- what a text's tokens are
+pub record AreLexed (text : List ℕ) (found : List Token) : Type 0 where
+  pub raw : List RawToken
+  pub are : tokens text ≡ Some raw
+  pub seen : found ≡ pieces text raw
+
+are_lexed : (text : List ℕ) (found : List Token) (o : Option (List RawToken)) → tokens text ≡ o → option_map (pieces text) o ≡ Some found → AreLexed text found
+are_lexed text found None is h = cc
+are_lexed text found (Some raw) is h = record { raw = raw; are = is; seen = cc }
+
+short_lexed : (text : List ℕ) (found : List Token) (short : Bool) → cond short (option_map (pieces text) (tokens text)) None ≡ Some found → AreLexed text found
+short_lexed text found true h = are_lexed text found (tokens text) refl h
+short_lexed text found false h = cc
+
+pub lexed_known : (text : List ℕ) (found : List Token) → lexed text ≡ Some found → AreLexed text found
+unfolding lexed
+lexed_known text found h = short_lexed text found (nat_lt (length text) (2 ^ 32)) h
+
 -- what the lexer refuses has no tokens, and is told in these words
 abbrev pub IsFault : List ℕ → List ℕ → Type 0
 IsFault text words = (lexed text ≡ None) × (words ≡ fault_in text)
 
+lexed-lacking : (text : List ℕ) → length text < 2 ^ 32 → tokens text ≡ None → lexed text ≡ None
+unfolding lexed
+lexed-lacking text short is =
+    ap (λ b. cond b (option_map (pieces text) (tokens text)) None) (lt-ltb (length text) (2 ^ 32) short) ∙ ap (option_map (pieces text)) is
+
 pub lexed-fault : (text words : List ℕ) → length text < 2 ^ 32 → tokens text ≡ None → fault text ≡ Some words → IsFault text words
-unfolding lexed fault_in
+unfolding fault_in
 lexed-fault text words short is told =
     let shorter = lt-ltb (length text) (2 ^ 32) short in (
-      ap (λ b. cond b (option_map (pieces text) (tokens text)) None) shorter ∙ ap (option_map (pieces text)) is,
+      lexed-lacking text short is,
       sym (ap (λ b. cond b (unwrap_or (fault text) []) (error_words errors.TooLong)) shorter ∙ ap (λ o. unwrap_or o []) told),
     )
 
@@ -44,6 +69,14 @@ lexed-long text long =
       ap (λ b. cond b (option_map (pieces text) (tokens text)) None) not_short,
       sym (ap (λ b. cond b (unwrap_or (fault text) []) (error_words errors.TooLong)) not_short),
     )
+
+-- what isn't lexed has no tokens
+pub lexed_none : (text : List ℕ) (e : SyntaxError) → e ≢ unread.Memory → IsLexFault text e → lexed text ≡ None
+lexed_none text unread.Lex other h = lexed-lacking text h.0 h.1
+lexed_none text unread.TooLong other h = (lexed-long text h).0
+lexed_none text unread.Memory other h = absurd (other refl)
+lexed_none text unread.NoTree other h = absurd h
+lexed_none text unread.TooDeep other h = absurd h
 
 pub lexed-all : (text : List ℕ) (raw items : List RawToken) (found : List Token) (n : ℕ)
     → length text < 2 ^ 32 → tokens text ≡ Some raw → items ≡ raw → found ≡ pieces text (take n items) → length items ≤ n

@@ -15,6 +15,5 @@ mod AtMostOnce
 mod Lists
 mod KindsRead
 mod KindUses
-mod Trimming
 mod Templates
 pub mod Shared

@@ -1,4 +1,5 @@
 -- Words of private functions and of the invariants of private fields. No public clause cites them, and no reader of
 -- those has to believe them.
 pub mod MacroCalls
+pub mod Texts
 pub mod Tokens

@@ -1,17 +1,13 @@
 //! The kinds of a rule: as what its sides can be read.
-ghost use Rattle.std.specs.Prelude.{◌≡◌, ◌++◌, IfOk, OnOk, IfSome, option_to_list, string_bytes};
+ghost use Rattle.std.specs.Prelude.{◌≡◌, ◌++◌, IfOk, OnOk, option_to_list};
 ghost use Rattle.std.specs.List.{list_any};
-ghost use Rattle.std.specs.Option.{option_copied, option_map};
-ghost use Rattle.std.specs.Str.{IsUtf8};
+ghost use Rattle.std.specs.Option.{option_copied};
 ghost use Rattle.ide_ssr_rules.specs.Kinds.{read_in, template_in, kind_with, kind_in, read_kinds, has_path, prefer_paths, kinds_of, some_kind};
 ghost use Rattle.ide_ssr_rules.specs.Refusals.{AnswersBy};
-ghost use Rattle.ide_ssr_rules.specs.StandIns.{code_of};
 
-use crate::elements::Element;
 use crate::error::SsrError;
 use crate::refusals::Refusal;
-use crate::stand_ins::code_of;
-use ssr_syntax::{Fragment, SyntaxError, fragment};
+use ssr_syntax::{Fragment, FragmentText, SyntaxError};
 use ssr_syntax_kinds::SyntaxKind;
 use ssr_syntax_tree::{NodeNo, Tree};
 use std::alloc::{AllocError, Global};
@@ -42,11 +38,15 @@ struct ReadSide {
 }
 
 /// A side's text read in a category, where it can be.
-fn read_in(alloc: Global, category: Fragment, text: &str) -> Result<Option<ReadSide>, AllocError>
+fn read_in(
+    alloc: Global,
+    category: Fragment,
+    text: &FragmentText,
+) -> Result<Option<ReadSide>, AllocError>
     ensures { IfOk result (λ side. side ≡ read_in category text.now) }
 {
-    match fragment(alloc, category, text) {
-        Ok((tree, _)) => Ok(Some(ReadSide { category, tree })),
+    match text.read(alloc, category) {
+        Ok(tree) => Ok(Some(ReadSide { category, tree })),
         Err(SyntaxError::Memory) => Err(AllocError),
         Err(_) => Ok(None),
     }
@@ -56,7 +56,7 @@ fn read_in(alloc: Global, category: Fragment, text: &str) -> Result<Option<ReadS
 fn template_in(
     alloc: Global,
     category: Fragment,
-    text: &str,
+    text: &FragmentText,
 ) -> Result<Option<ReadSide>, AllocError>
     ensures { IfOk result (λ side. side ≡ template_in category text.now) }
 {
@@ -70,7 +70,7 @@ fn template_in(
 /// The kind that a pattern gives, if the template, where there is one, can be read beside it.
 fn kind_with(
     alloc: Global,
-    template: Option<&str>,
+    template: Option<&FragmentText>,
     pattern: ReadSide,
 ) -> Result<Option<ParsedRule>, AllocError>
     ensures { IfOk result (λ kind. kind ≡ kind_with (option_copied template.entry) pattern) }
@@ -96,8 +96,8 @@ fn kind_with(
 /// The kind in which the pattern is of a category.
 fn kind_in(
     alloc: Global,
-    pattern: &str,
-    template: Option<&str>,
+    pattern: &FragmentText,
+    template: Option<&FragmentText>,
     category: Fragment,
 ) -> Result<Option<ParsedRule>, AllocError>
     ensures { IfOk result (λ kind. kind ≡ kind_in pattern.now (option_copied template.entry) category) }
@@ -121,8 +121,8 @@ fn push_some(kinds: &mut Vec<ParsedRule>, kind: Option<ParsedRule>) -> Result<()
 /// The kinds in which both sides are read.
 fn read_kinds(
     alloc: Global,
-    pattern: &str,
-    template: Option<&str>,
+    pattern: &FragmentText,
+    template: Option<&FragmentText>,
 ) -> Result<Vec<ParsedRule>, AllocError>
     ensures { IfOk result (λ v. v.items ≡ read_kinds pattern.now (option_copied template.entry)) }
 {
@@ -167,8 +167,8 @@ fn prefer_paths(kinds: &mut Vec<ParsedRule>)
 #[tactic(auto, unfolding(crate::specs::Kinds::kinds_of))]
 fn kinds_of(
     alloc: Global,
-    pattern: &str,
-    template: Option<&str>,
+    pattern: &FragmentText,
+    template: Option<&FragmentText>,
 ) -> Result<Vec<ParsedRule>, AllocError>
     ensures { IfOk result (λ v. v.items ≡ kinds_of pattern.now (option_copied template.entry)) }
 {
@@ -177,32 +177,15 @@ fn kinds_of(
     Ok(kinds)
 }
 
-/// A template's text with stand-ins.
-fn template_code(
-    alloc: Global,
-    template: Option<&[Element<'_>]>,
-) -> Result<Option<String>, AllocError>
-    ensures { IfOk result (λ code. option_map string_bytes code ≡ option_map code_of (option_copied template.entry)) }
-{
-    match template {
-        Some(elements) => Ok(Some(code_of(alloc, elements)?)),
-        None => Ok(None),
-    }
-}
-
 /// The kinds of a rule, of which there is at least one.
 pub(crate) fn some_kind(
     alloc: Global,
-    pattern: &[Element<'_>],
-    template: Option<&[Element<'_>]>,
+    pattern: &FragmentText,
+    template: Option<&FragmentText>,
 ) -> Result<Vec<ParsedRule>, SsrError>
-    ensures kinds { AnswersBy (λ v. v.items) result (some_kind (kinds_of (code_of pattern.now) (option_map code_of (option_copied template.entry)))) }
-    ensures pattern_text { IfOk result (λ _. IsUtf8 (code_of pattern.now)) }
-    ensures template_text { IfOk result (λ _. IfSome (option_copied template.entry) (λ side. IsUtf8 (code_of side))) }
+    ensures { AnswersBy (λ v. v.items) result (some_kind (kinds_of pattern.now (option_copied template.entry))) }
 {
-    let pattern = code_of(alloc, pattern)?;
-    let template = template_code(alloc, template)?;
-    let kinds = kinds_of(alloc, pattern.as_str(), template.as_deref())?;
+    let kinds = kinds_of(alloc, pattern, template)?;
     if kinds.is_empty() {
         return Err(Refusal::NoKind.told(alloc));
     }

@@ -1,15 +1,17 @@
 //! Rules and search patterns, read from their texts.
-ghost use Rattle.std.specs.Prelude.{◌≡◌, ◌<◌, ◌^◌, ◌++◌, [], length, map, string_bytes, All, IfOk, IfSome};
+ghost use Rattle.std.specs.Prelude.{◌≡◌, ◌<◌, ◌^◌, ◌++◌, ℕ, List, [], length, map, string_bytes, All, IfOk, IfSome};
 ghost use Rattle.std.specs.List.{list_any};
 ghost use Rattle.std.specs.Option.{option_copied, option_map};
-ghost use Rattle.std.specs.Str.{IsUtf8};
+ghost use Rattle.std.specs.Str.{trim};
+ghost use Rattle.ssr_syntax.specs.Reading.{IsLexFault};
 ghost use Rattle.ide_ssr_rules.specs.Elements.{names_of, constraints_of, is_constrained};
 ghost use Rattle.ide_ssr_rules.specs.declared.refusals.Refusal.TheVariants as r;
 ghost use Rattle.ide_ssr_rules.specs.MacroCalls.{untested};
-ghost use Rattle.ide_ssr_rules.specs.Refusals.{Answers, AnswersBy, unless};
+ghost use Rattle.ide_ssr_rules.specs.Refusals.{Answers, AnswersBy, TellsOf, unless};
 ghost use Rattle.ide_ssr_rules.specs.Rules.{lacking, check_sides, check_uses, check_defined, unconstrained, rule_of, rule_reading, pattern_reading};
 ghost use Rattle.ide_ssr_rules.specs.Uses.{AreNew, UsesPlaceholdersOnce};
 ghost use Rattle.ide_ssr_rules.specs.StandIns.{code_of, glued_placeholder, spelled_stand_in};
+ghost use Rattle.ide_ssr_rules.specs.Private.Texts.{IsTextOf};
 
 use crate::elements::Element;
 use crate::error::SsrError;
@@ -19,8 +21,9 @@ use crate::meeting::ConstraintSet;
 use crate::names::Names;
 use crate::refusals::{Refusal, Text, listed};
 use crate::sides::{side, sides, with_names};
-use crate::stand_ins::{glued_placeholder, spelled_stand_in};
+use crate::stand_ins::{code_of, first_glued, first_name, spelled_stand_in};
 use crate::tokens::Name;
+use ssr_syntax::{FragmentText, SyntaxError};
 use std::alloc::{AllocError, Global};
 use std::fmt;
 use std::marker::Model;
@@ -174,8 +177,8 @@ fn rule_of<'a>(
     ensures { Answers result (rule_of pattern.now (option_copied template.entry)) }
 {
     let written = template.unwrap_or(&[]);
-    check_sides(alloc, pattern, written)?;
-    let kinds = some_kind(alloc, pattern, template)?;
+    let texts = side_texts(alloc, pattern, written)?;
+    let kinds = some_kind(alloc, &texts.pattern, template.and(Some(&texts.template)))?;
     check_uses(alloc, pattern, written, kinds.as_slice())?;
     let names = names_of(alloc, pattern)?;
     let names = names.owned(alloc)?;
@@ -187,19 +190,32 @@ fn rule_of<'a>(
     })
 }
 
-/// Whether placeholders and the identifiers beside them are told apart where a side is read with stand-ins.
-fn check_sides<'a>(
+/// Both sides' texts with stand-ins.
+#[derive(Drop)]
+struct SideTexts {
+    pattern: FragmentText,
+    template: FragmentText,
+}
+
+/// The texts of both sides with stand-ins, in which placeholders and the identifiers beside them are told apart.
+fn side_texts<'a>(
     alloc: Global,
     pattern: &[Element<'a>],
     template: &[Element<'a>],
-) -> Result<(), SsrError>
-    ensures { Answers result (check_sides pattern.now template.now) }
+) -> Result<SideTexts, SsrError>
+    ensures refused { AnswersBy (λ _. tt) result (check_sides pattern.now template.now) }
+    ensures pattern { IfOk result (λ texts. IsTextOf pattern.now texts.pattern) }
+    ensures template { IfOk result (λ texts. IsTextOf template.now texts.template) }
 {
-    check_tokens(alloc, pattern)?;
-    check_tokens(alloc, template)?;
+    let pattern_text = side_text(alloc, pattern)?;
+    let template_text = side_text(alloc, template)?;
     let names = all_names(alloc, pattern, template)?;
     check_reserved(alloc, &names, pattern)?;
-    check_reserved(alloc, &names, template)
+    check_reserved(alloc, &names, template)?;
+    Ok(SideTexts {
+        pattern: pattern_text,
+        template: template_text,
+    })
 }
 
 /// Whether what both sides' placeholders ask for can be given.
@@ -280,13 +296,28 @@ fn constraints_of(alloc: Global, elements: &[Element<'_>]) -> Result<Vec<Constra
     Ok(sets)
 }
 
-/// Refuses a placeholder that isn't a token of its own.
-fn check_tokens(alloc: Global, elements: &[Element<'_>]) -> Result<(), SsrError>
-    ensures { Answers result (unless r.Glued (glued_placeholder elements.now)) }
+/// Why a side's text with stand-ins isn't lexed: its first placeholder is no token of its own, or memory ran out.
+fn unlexed(alloc: Global, elements: &[Element<'_>], error: SyntaxError) -> SsrError
+    ensures { (code : List ℕ) → code ≡ code_of elements.now → IsLexFault (trim code) error → TellsOf result (unless r.Glued (glued_placeholder elements.now)) }
 {
-    match glued_placeholder(alloc, elements)? {
+    match error {
+        SyntaxError::Memory => SsrError::Memory,
+        _ => Refusal::Glued(Text(first_name(elements))).told(alloc),
+    }
+}
+
+/// A side's text with stand-ins, which is lexed. A placeholder that isn't a token of its own is refused.
+fn side_text(alloc: Global, elements: &[Element<'_>]) -> Result<FragmentText, SsrError>
+    ensures refused { AnswersBy (λ _. tt) result (unless r.Glued (glued_placeholder elements.now)) }
+    ensures text { IfOk result (λ text. IsTextOf elements.now text) }
+{
+    let text = match FragmentText::new(alloc, code_of(alloc, elements)?) {
+        Ok(text) => text,
+        Err(error) => return Err(unlexed(alloc, elements, error)),
+    };
+    match first_glued(elements, &text) {
         Some(name) => Err(Refusal::Glued(Text(name)).told(alloc)),
-        None => Ok(()),
+        None => Ok(text),
     }
 }
 

@@ -1,12 +1,15 @@
 //! Stand-ins: the identifiers that are read in the place of placeholders.
-ghost use Rattle.std.specs.Prelude.{◌≡◌, ℕ, List, ◌++◌, false, IfOk, OnOk, bytes_eq, string_bytes};
+ghost use Rattle.std.specs.Prelude.{◌≡◌, ℕ, List, ◌++◌, Some, false, IfOk, OnOk, bytes_eq, slice_get, string_bytes};
 ghost use Rattle.std.specs.Option.{option_copied, option_map_or};
-ghost use Rattle.ssr_syntax_tree.specs.Syntax.{same_token};
-ghost use Rattle.ide_ssr_rules.specs.StandIns.{stand_in_of, read_as, code_of, first_name, first_glued, glued_placeholder, stand_in_text, spelled_stand_in};
+ghost use Rattle.std.specs.Str.{trim};
+ghost use Rattle.ssr_syntax_tree.specs.Syntax.{Token, same_token};
+ghost use Rattle.ide_ssr_rules.specs.Elements.{lexed};
+ghost use Rattle.ide_ssr_rules.specs.StandIns.{stand_in_of, read_as, code_of, first_name, first_glued, stand_in_text, spelled_stand_in};
 
 use crate::elements::Element;
 use crate::names::Names;
-use crate::tokens::{Token, Unlexed, lexed};
+use crate::tokens::Token;
+use ssr_syntax::FragmentText;
 use ssr_syntax_kinds::SyntaxKind;
 use std::alloc::{AllocError, Global};
 
@@ -59,6 +62,17 @@ impl<'a> Element<'a> {
         }
     }
 
+    /// Whether it is the token of that number that is read for the element.
+    fn is_read_at(&self, text: &FragmentText, number: usize) -> bool
+        ensures { (tokens : List Token) → lexed (trim text.now) ≡ Some tokens
+            → result ≡ option_map_or (same_token (read_as self.now)) (slice_get tokens number) false }
+    {
+        match text.token(number) {
+            Some((kind, text)) => self.is_read_as(&Token { kind, text }),
+            None => false,
+        }
+    }
+
     /// The text of an identifier that is spelled as a stand-in of one of the names.
     fn stand_in_text(&self, names: &Names<'_>) -> Option<&'a str>
         ensures { option_copied result ≡ stand_in_text names.now self.now }
@@ -86,7 +100,7 @@ pub(crate) fn code_of(alloc: Global, elements: &[Element<'_>]) -> Result<String,
 }
 
 /// The name of the first placeholder; without one, the empty text.
-fn first_name<'a>(elements: &[Element<'a>]) -> &'a str
+pub(crate) fn first_name<'a>(elements: &[Element<'a>]) -> &'a str
     ensures { result.now ≡ first_name elements.now }
 {
     for element in elements {
@@ -98,31 +112,16 @@ fn first_name<'a>(elements: &[Element<'a>]) -> &'a str
     ""
 }
 
-/// The first placeholder at or behind the first element that isn't read as its own token.
-fn first_glued<'a>(elements: &[Element<'a>], tokens: &[Token<'_>]) -> Option<&'a str>
-    ensures { option_copied result ≡ first_glued elements.now tokens.now }
+/// The first placeholder at or behind the first element that isn't read as its own token of the text.
+pub(crate) fn first_glued<'a>(elements: &[Element<'a>], text: &FragmentText) -> Option<&'a str>
+    ensures { (tokens : List Token) → lexed (trim text.now) ≡ Some tokens → option_copied result ≡ first_glued elements.now tokens }
 {
     for (place, element) in elements.iter().enumerate() {
-        if place >= tokens.len() || !element.is_read_as(&tokens[place]) {
+        if !element.is_read_at(text, place) {
             return Some(first_name(&elements[place..]));
         }
     }
     None
-}
-
-/// The name of a placeholder that isn't a token of its own.
-pub(crate) fn glued_placeholder<'a>(
-    alloc: Global,
-    elements: &[Element<'a>],
-) -> Result<Option<&'a str>, AllocError>
-    ensures { IfOk result (λ name. option_copied name ≡ glued_placeholder elements.now) }
-{
-    let code = code_of(alloc, elements)?;
-    match lexed(alloc, code.as_str().trim()) {
-        Ok(tokens) => Ok(first_glued(elements, tokens.as_slice())),
-        Err(Unlexed::Fault(_)) => Ok(Some(first_name(elements))),
-        Err(Unlexed::Memory) => Err(AllocError),
-    }
 }
 
 /// The first identifier that is spelled as a stand-in of one of the names.

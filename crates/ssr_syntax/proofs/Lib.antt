@@ -12,6 +12,7 @@ mod Solidity
 mod FitsHere
 mod Texts
 mod Trimmed
+mod Trimming
 mod TextRows
 mod TextLaws
 mod MemoryFree

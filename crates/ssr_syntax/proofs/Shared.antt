@@ -8,3 +8,5 @@ pub use Rattle.ssr_syntax.proofs.MemoryFree.{file_needs_none}
 pub use Rattle.ssr_syntax.proofs.IdentTexts.{fragment_idents, fragment_alone}
 -- the tokens of a text, one behind another
 pub use Rattle.ssr_syntax.proofs.Tiles.{length-token, tiled_texts, tiles_within, spelled-pieces}
+-- a text without the white space around it
+pub use Rattle.ssr_syntax.proofs.Trimming.{IsUtf8-trim, trim_shorter}

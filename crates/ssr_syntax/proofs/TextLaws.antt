@@ -23,10 +23,10 @@ use Rattle.ssr_syntax.specs.Lossless.{whole_tree, IsTrimmed}
 use Rattle.ssr_syntax.specs.Reading.{most_deep}
 use Rattle.ssr_syntax.specs.MacroRules.{misnames_macros}
 use Rattle.ssr_syntax.specs.Solid.{solid_tokens}
-use Rattle.ssr_syntax.specs.Reading.{reading, most_levels, pieces, one_tree, tree_reading, unless_misnamed, lexed_reading, short_reading, file_reading, fragment_reading, trimmed, goal_of, begins_solid, error_of, Answers, AnswersTrimmed, FitsTokens, FitsFile, FitsFragment, IsTreeOfFile, IsTreeOfFragment, IsThatOrTooDeep, Refuses}
-use Rattle.ssr_syntax.specs.Private.Reading.{IsLexFault}
+use Rattle.ssr_syntax.specs.Reading.{reading, most_levels, pieces, one_tree, tree_reading, unless_misnamed, lexed_reading, short_reading, file_reading, fragment_reading, trimmed, goal_of, begins_solid, error_of, Answers, AnswersTrimmed, FitsTokens, FitsFile, FitsFragment, IsTreeOfFile, IsTreeOfFragment, IsThatOrTooDeep, IsLexFault, Refuses}
 use Rattle.ssr_syntax.proofs.Laid.{AreSolid}
 use Rattle.ssr_syntax.proofs.Trimmed.{trimmed-whole, trimmed-root}
+use Rattle.ssr_syntax.proofs.Trimming.{IsUtf8-trim, trim_shorter}
 use Rattle.ssr_syntax.specs.Grammar.{grammar}
 use Rattle.ssr_syntax_forms.proofs.Shared.{shallow_of, goals_by_rules}
 use Rattle.ssr_syntax.proofs.Whole.{one_fits, reading_fits, reading_complete}
@@ -256,10 +256,20 @@ fragment_told fragment text s lt (raw, e, outside, fits) =
     ∙ ap (λ b. if b then tree_reading (goal_of fragment) inner raw else Err errors.NoTree) outside))
     (tokens_complete (goal_of fragment) inner raw s fits)
 
-pub fragment_complete : (fragment : Fragment) (text : List ℕ) (s : Syntax) (r : Result (Syntax × ℕ) SyntaxError) → length text < 2 ^ 32
-    → FitsFragment fragment text s → AnswersTrimmed r (fragment_reading fragment text) text → IsThatOrTooDeep (λ v. v.0) s r
-fragment_complete fragment text s (Ok v) lt fits h = told_ok (fragment_reading fragment text) s v.0 (fragment_told fragment text s lt fits) h.0
+pub fragment_answers : (fragment : Fragment) (text : List ℕ) (r : Result Syntax SyntaxError) → IsUtf8 text
+    → Answers r (fragment_reading fragment text) text → IfOk r (IsTreeOfFragment fragment text)
+fragment_answers fragment text (Ok s) utf8 h = fragment_sound fragment text s (IsUtf8-trim text utf8) h
+fragment_answers fragment text (Err e) utf8 h = tt
+
+pub fragment_complete : (fragment : Fragment) (text : List ℕ) (s : Syntax) (r : Result Syntax SyntaxError) → length text < 2 ^ 32
+    → FitsFragment fragment text s → Answers r (fragment_reading fragment text) text → IsThatOrTooDeep (λ v. v) s r
+fragment_complete fragment text s (Ok v) lt fits h = told_ok (fragment_reading fragment text) s v (fragment_told fragment text s lt fits) h
 fragment_complete fragment text s (Err x) lt fits h = λ m. told_err (fragment_reading fragment text) s x (fragment_told fragment text s lt fits) (h.1 m)
+
+pub trimmed_complete : (fragment : Fragment) (text : List ℕ) (s : Syntax) (r : Result (Syntax × ℕ) SyntaxError) → length text < 2 ^ 32
+    → FitsFragment fragment text s → AnswersTrimmed r (fragment_reading fragment text) text → IsThatOrTooDeep (λ v. v.0) s r
+trimmed_complete fragment text s (Ok v) lt fits h = told_ok (fragment_reading fragment text) s v.0 (fragment_told fragment text s lt fits) h.0
+trimmed_complete fragment text s (Err x) lt fits h = λ m. told_err (fragment_reading fragment text) s x (fragment_told fragment text s lt fits) (h.1 m)
 
 pub fragment_too_long : (fragment : Fragment) (text : List ℕ) (e : SyntaxError) → (e ≡ errors.TooLong) × (2 ^ 32 ≤ length text)
     → Refuses e (fragment_reading fragment text) text
@@ -271,42 +281,48 @@ fragment_too_long fragment text e h =
 pub short_is : (read : Result Syntax SyntaxError) (text : List ℕ) → length text < 2 ^ 32 → short_reading read text ≡ read
 short_is read text lt = ap (λ b. if b then read else Err errors.TooLong) (lt-ltb (length text) (2 ^ 32) lt)
 
-pub fragment_fault : (fragment : Fragment) (text inner : List ℕ) (e : SyntaxError) → inner ≡ trimmed text → length text < 2 ^ 32
-    → length inner ≤ length text → IsLexFault inner e → Refuses e (fragment_reading fragment text) text
+pub fragment_fault : (fragment : Fragment) (text given : List ℕ) (e : SyntaxError) → given ≡ text → IsUtf8 text → length text < 2 ^ 32
+    → IsLexFault (trimmed given) e → Refuses e (fragment_reading fragment text) text
 unfolding fragment_reading
-fragment_fault fragment text inner e same lt le h =
-    let reads : Result Syntax SyntaxError = lexed_reading (fragment_reads fragment (trimmed text)) (trimmed text) in
-    let shorter : length (trimmed text) < 2 ^ 32 = subst (λ t. length t < 2 ^ 32) same (omega (arith, lt, le)) in
-    as_refused e (short_reading reads (trimmed text)) (short_reading reads text) (trimmed text) text lt
-    (short_is reads text lt ∙ sym (short_is reads (trimmed text) shorter))
-    (fault_refused (fragment_reads fragment (trimmed text)) (trimmed text) e (subst (λ t. IsLexFault t e) same h))
+fragment_fault fragment text given e same utf8 lt h =
+    let inner : List ℕ = trimmed text in
+    let reads : Result Syntax SyntaxError = lexed_reading (fragment_reads fragment inner) inner in
+    let shorter : length inner < 2 ^ 32 = omega (arith, lt, trim_shorter text utf8) in
+    as_refused e (short_reading reads inner) (short_reading reads text) inner text lt
+    (short_is reads text lt ∙ sym (short_is reads inner shorter))
+    (fault_refused (fragment_reads fragment inner) inner e (subst (λ t. IsLexFault (trimmed t) e) same h))
 
 -- what a fragment's tokens are read as
 abbrev outside : List RawToken → Bool
 outside raw = begins_solid raw && begins_solid (reverse raw)
 
-fragment_lexed : (fragment : Fragment) (text inner : List ℕ) (raw : List RawToken) → inner ≡ trimmed text → length text < 2 ^ 32
-    → tokens inner ≡ Some raw → fragment_reading fragment text ≡ fragment_reads fragment (trimmed text) raw
+fragment_lexed : (fragment : Fragment) (text : List ℕ) (raw : List RawToken) → length text < 2 ^ 32
+    → tokens (trimmed text) ≡ Some raw → fragment_reading fragment text ≡ fragment_reads fragment (trimmed text) raw
 unfolding fragment_reading
-fragment_lexed fragment text inner raw same lt e =
-    reads_short (fragment_reads fragment (trimmed text)) (trimmed text) text raw lt (ap tokens (sym same) ∙ e)
+fragment_lexed fragment text raw lt e = reads_short (fragment_reads fragment (trimmed text)) (trimmed text) text raw lt e
 
-pub fragment_comment : (fragment : Fragment) (text inner : List ℕ) (raw given : List RawToken) → inner ≡ trimmed text → length text < 2 ^ 32
-    → tokens inner ≡ Some raw → given ≡ raw → false ≡ outside given → Refuses errors.NoTree (fragment_reading fragment text) text
-fragment_comment fragment text inner raw given same lt e f comment =
-    let no_tree : outside raw ≡ false = ap outside (sym f) ∙ sym comment in (
-      λ is. lt,
-      λ other. fragment_lexed fragment text inner raw same lt e
-          ∙ ap (λ b. if b then tree_reading (goal_of fragment) (trimmed text) raw else Err errors.NoTree) no_tree,
-    )
+pub fragment_comment : (fragment : Fragment) (text : List ℕ) (raw : List RawToken) → length text < 2 ^ 32
+    → tokens (trimmed text) ≡ Some raw → false ≡ outside raw → Refuses errors.NoTree (fragment_reading fragment text) text
+fragment_comment fragment text raw lt e comment = (
+  λ is. lt,
+  λ other. fragment_lexed fragment text raw lt e
+      ∙ ap (λ b. if b then tree_reading (goal_of fragment) (trimmed text) raw else Err errors.NoTree) (sym comment),
+)
 
-pub fragment_read : (fragment : Fragment) (text inner source : List ℕ) (raw given : List RawToken) → inner ≡ trimmed text → length text < 2 ^ 32
-    → tokens inner ≡ Some raw → given ≡ raw → true ≡ outside given → source ≡ inner
-    → fragment_reading fragment text ≡ tree_reading (goal_of fragment) source raw
-fragment_read fragment text inner source raw given same lt e f sides copy =
-    fragment_lexed fragment text inner raw same lt e
-    ∙ ap (λ b. if b then tree_reading (goal_of fragment) (trimmed text) raw else Err errors.NoTree) (ap outside (sym f) ∙ sym sides)
-    ∙ ap (λ t. tree_reading (goal_of fragment) t raw) (sym (copy ∙ same))
+pub fragment_read : (fragment : Fragment) (text : List ℕ) (raw : List RawToken) (goal : Goal) → length text < 2 ^ 32
+    → tokens (trimmed text) ≡ Some raw → true ≡ outside raw → goal ≡ goal_of fragment
+    → fragment_reading fragment text ≡ tree_reading goal (trimmed text) raw
+fragment_read fragment text raw goal lt e sides is =
+    fragment_lexed fragment text raw lt e
+    ∙ ap (λ b. if b then tree_reading (goal_of fragment) (trimmed text) raw else Err errors.NoTree) (sym sides)
+    ∙ ap (λ g. tree_reading g (trimmed text) raw) (sym is)
+
+-- what is answered for the text without the white space around it
+pub fragment_answered : (fragment : Fragment) (text source : List ℕ) (read : Result Syntax SyntaxError) (r : Result Syntax SyntaxError)
+    → length text < 2 ^ 32 → source ≡ trimmed text → fragment_reading fragment text ≡ read → Answers r read source
+    → Answers r (fragment_reading fragment text) text
+fragment_answered fragment text source read (Ok s) lt same is h = is ∙ h
+fragment_answered fragment text source read (Err e) lt same is h = as_refused e read (fragment_reading fragment text) source text lt is h
 
 -- a fault is told on
 pub trimmed_told : (x : SyntaxError) (r : Result (Syntax × ℕ) SyntaxError) (read : Result Syntax SyntaxError) (text : List ℕ) → IsErr r

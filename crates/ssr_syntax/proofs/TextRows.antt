@@ -1,6 +1,6 @@
 -- The rows of a text: its tokens are known by them, and its solid tokens by their kinds alone.
-use Rattle.std.proofs.Common.{◌≡◌, ℕ, ◌∷◌, ◌≤◌, Bool, true, false, ◌&&◌, if◌then◌else◌, List, [], length, map, drop, Some, None, refl, sym, ◌∙◌, ap, arith, reverse}
-use Rattle.std.specs.Prelude.{Option}
+use Rattle.std.proofs.Common.{◌≡◌, ℕ, zero, suc, ◌+◌, ◌∷◌, ◌<◌, ◌≤◌, ◌^◌, Bool, true, false, ◌&&◌, if◌then◌else◌, List, [], length, map, drop, Some, None, refl, sym, ◌∙◌, ap, subst, arith, reverse}
+use Rattle.std.specs.Prelude.{Option, Ok, IsCharBoundary, slice_get, slice_range}
 use Rattle.std.specs.Str.{IsUtf8}
 use Rattle.std.proofs.lemmas.List.{length-map}
 use Rattle.ssr_syntax_kinds.specs.declared.kinds.SyntaxKind.{SyntaxKind}
@@ -9,16 +9,22 @@ use Rattle.ssr_syntax_kinds.specs.declared.token_rows.TokenRow.{TokenRow}
 use Rattle.ssr_syntax_lex.specs.declared.tokens.RawToken.{RawToken}
 use Rattle.ssr_syntax_kinds.specs.Kinds.{same_kind, is_trivia}
 use Rattle.ssr_syntax_lex.specs.Words.{is_punctuation}
-use Rattle.ssr_syntax_lex.specs.Tokens.{tokens, row_of, rows_in, begins_with_punctuation, spell, Tiles}
+use Rattle.ssr_syntax_lex.specs.Tokens.{tokens, row_of, rows_in, begins_with_punctuation, spell, token_text, Tiles, TilesFrom}
 use Rattle.ssr_syntax_tree.proofs.Lists.{map-reverse}
 use Rattle.ssr_syntax_kinds.proofs.Shared.{same_kind-equal}
 use Rattle.ssr_syntax_lex.proofs.Shared.{tokens_tile, tiles_spell, AreJoint, tokens_joint, rows_known}
 use Rattle.ssr_syntax.specs.Solid.{twice, joined, lengthened, is_joint, joined_two, joined_three, solid_token, solid_tokens}
 use Rattle.ssr_syntax.specs.Private.SolidKinds.{with_next, two_of, solid_kind, solid_kinds, kinds_begin_solid}
-use Rattle.ssr_syntax.specs.Reading.{begins_solid}
-use Rattle.ssr_syntax.specs.Private.Reading.{IsCut}
+use Rattle.ssr_syntax_tree.specs.Syntax as plain
+use Rattle.ssr_syntax.specs.Reading.{begins_solid, pieces, reading, trimmed}
+use Rattle.ssr_syntax.specs.Private.Reading.{AreTokensOf, IsCut, IsWritten, end_before}
 use Rattle.ssr_syntax_forms.specs.declared.tokens.Token.{Token}
-use Rattle.ssr_syntax.proofs.Tiles.{tiles_count}
+use Rattle.ssr_syntax_forms.specs.Parser.{Written}
+use Rattle.ssr_syntax_forms.specs.Trees.{Forest}
+use Rattle.ssr_syntax_forms.specs.Written.{writes}
+use Rattle.ssr_syntax_types.specs.declared.goals.Goal.{Goal}
+use Rattle.ssr_syntax.proofs.Trimming.{IsUtf8-trim}
+use Rattle.ssr_syntax.proofs.Tiles.{boundary, tiles_count, tiles_within}
 
 abbrev pub kinds_of : List TokenRow → List SyntaxKind
 kinds_of rows = map (λ row. row.kind) rows
@@ -142,6 +148,93 @@ pub cut_of_rows : (text : List ℕ) (rows : List TokenRow) (solid : List Token) 
 cut_of_rows text rows solid raw are e = record { are = are.are; tiles = are.tiles; spelled = are.spelled; solid_are = e ∙ are.solid }
 
 -- 32 bits count the rows of a short text
-pub cut_count : (text : List ℕ) (rows : List TokenRow) (solid : List Token) (raw : List RawToken) → IsCut text rows solid raw
-    → length rows ≤ length text
-cut_count text rows solid raw cut = omega (arith, tiles_count text 0 raw cut.tiles, ap length cut.are, length-map raw row_of)
+pub rows_count : (text : List ℕ) (rows : List TokenRow) (raw : List RawToken) → rows ≡ map row_of raw → Tiles text raw → length rows ≤ length text
+rows_count text rows raw are tiles = omega (arith, tiles_count text 0 raw tiles, ap length are, length-map raw row_of)
+
+-- what is written of tokens, beside the rows of the text
+pub written_of_cut : (goal : Goal) (text : List ℕ) (rows : List TokenRow) (solid given : List Token) (raw : List RawToken) (z : Forest) (out : Written)
+    → IsCut text rows solid raw → given ≡ solid → reading goal given ≡ Ok z → out ≡ writes z 0 → IsWritten goal text rows out raw
+written_of_cut goal text rows solid given raw z out cut same read writes =
+    record { are = cut.are; tiles = cut.tiles; spelled = cut.spelled; reads = (z, ap (reading goal) (sym (same ∙ cut.solid_are)) ∙ read, writes) }
+
+-- a text that is the same is cut the same
+pub cut_copied : (text source : List ℕ) (rows copy : List TokenRow) (solid : List Token) (raw : List RawToken) → IsCut text rows solid raw
+    → source ≡ text → copy ≡ rows → IsCut source copy solid raw
+cut_copied text source rows copy solid raw cut same copied =
+    subst (λ t. IsCut t copy solid raw) (sym same) (subst (λ ts. IsCut text ts solid raw) (sym copied) cut)
+
+-- the tokens of a text that is kept with them
+pub record AreKept (text : List ℕ) (rows : List TokenRow) (solid : List Token) (raw : List RawToken) : Type 0 where
+  pub lexed : tokens (trimmed text) ≡ Some raw
+  pub cut : IsCut (trimmed text) rows solid raw
+  pub outside : (given : List SyntaxKind) → given ≡ kinds_of rows
+      → (kinds_begin_solid given && kinds_begin_solid (reverse given)) ≡ (begins_solid raw && begins_solid (reverse raw))
+
+pub kept_tokens : (text : List ℕ) (rows : List TokenRow) (solid : List Token) → IsUtf8 text → AreTokensOf text rows solid
+    → (raw : List RawToken) × AreKept text rows solid raw
+kept_tokens text rows solid utf8 are =
+    let known = known_rows (trimmed text) rows (IsUtf8-trim text utf8) are.lexed in (
+      known.0,
+      record {
+        lexed = known.1.lexed;
+        cut = cut_of_rows (trimmed text) rows solid known.0 known.1 are.solid_are;
+        outside = λ given is. outside_same known.0 given (is ∙ ap kinds_of known.1.are);
+      },
+    )
+
+-- ** The token of a number.
+
+-- a row's token ends here, and is this one
+pub record IsTokenAt (text : List ℕ) (row : TokenRow) (end : ℕ) (token : Option plain.Token) : Type 0 where
+  pub starts : IsCharBoundary text row.start
+  pub ends : IsCharBoundary text end
+  pub ordered : row.start ≤ end
+  pub within : end ≤ length text
+  pub is : token ≡ Some (record { kind = row.kind; text = slice_range text row.start end })
+
+next_start : (text : List ℕ) (start : ℕ) (raw : List RawToken) → TilesFrom text start raw → end_before (length text) (slice_get (map row_of raw) 0) ≡ start
+next_start text start [] tiles = sym tiles
+next_start text start (t ∷ ts) tiles = tiles.0
+
+pub token_at : (text : List ℕ) (start : ℕ) (raw : List RawToken) (number : ℕ) (row : TokenRow) → TilesFrom text start raw
+    → slice_get (map row_of raw) number ≡ Some row
+    → IsTokenAt text row (end_before (length text) (slice_get (map row_of raw) (number + 1))) (slice_get (pieces text raw) number)
+token_at text start [] number row tiles is = cc
+token_at text start (t ∷ ts) zero row tiles is =
+    let same : row_of t ≡ row = cc in
+    let end : end_before (length text) (slice_get (map row_of ts) 0) ≡ t.range.end = next_start text t.range.end ts tiles.3 in
+    let token : Option plain.Token = Some (record { kind = t.kind; text = token_text text t }) in
+    subst (λ r. IsTokenAt text r (end_before (length text) (slice_get (map row_of ts) 0)) token) same
+    (subst (λ n. IsTokenAt text (row_of t) n token) (sym end)
+    (record {
+      starts = subst (IsCharBoundary text) (sym tiles.0) tiles.2;
+      ends = boundary text t.range.end ts tiles.3;
+      ordered = omega (arith, tiles.0, tiles.1);
+      within = tiles_within text t.range.end ts tiles.3;
+      is = refl;
+    }))
+token_at text start (t ∷ ts) (suc n) row tiles is =
+    let same : suc n + 1 ≡ suc (n + 1) = omega arith in
+    subst (λ m. IsTokenAt text row (end_before (length text) (slice_get (map row_of (t ∷ ts)) m)) (slice_get (pieces text ts) n)) (sym same)
+    (token_at text t.range.end ts n row tiles.3 is)
+
+-- the token of a row of a text that is kept with its tokens
+pub kept_token : (text : List ℕ) (rows : List TokenRow) (solid : List Token) (number : ℕ) (row : TokenRow) → IsUtf8 text → AreTokensOf text rows solid
+    → slice_get rows number ≡ Some row
+    → (raw : List RawToken) × (tokens (trimmed text) ≡ Some raw)
+    × IsTokenAt (trimmed text) row (end_before (length (trimmed text)) (slice_get rows (number + 1))) (slice_get (pieces (trimmed text) raw) number)
+kept_token text rows solid number row utf8 are is =
+    let kept = kept_tokens text rows solid utf8 are in
+    let raw : List RawToken = kept.0 in
+    let same : rows ≡ map row_of raw = kept.1.cut.are in (
+      raw,
+      kept.1.lexed,
+      subst (λ rs. IsTokenAt (trimmed text) row (end_before (length (trimmed text)) (slice_get rs (number + 1))) (slice_get (pieces (trimmed text) raw) number)) (sym same)
+          (token_at (trimmed text) 0 raw number row kept.1.cut.tiles (subst (λ rs. slice_get rs number ≡ Some row) same is)),
+    )
+
+-- there are no more of them than 32 bits count
+pub kept_count : (text : List ℕ) (rows : List TokenRow) (solid : List Token) → IsUtf8 text → AreTokensOf text rows solid → length rows < 2 ^ 32
+kept_count text rows solid utf8 are =
+    let kept = kept_tokens text rows solid utf8 are in
+    omega (arith, rows_count (trimmed text) rows kept.0 kept.1.cut.are kept.1.cut.tiles, are.short)

@@ -14,7 +14,7 @@ pub tiles_within : (text : List ℕ) (start : ℕ) (raw : List RawToken) → Til
 tiles_within text start [] h = omega arith
 tiles_within text start (t ∷ ts) h = omega (arith, h.1, tiles_within text t.range.end ts h.3)
 
-boundary : (text : List ℕ) (start : ℕ) (raw : List RawToken) → TilesFrom text start raw → IsCharBoundary text start
+pub boundary : (text : List ℕ) (start : ℕ) (raw : List RawToken) → TilesFrom text start raw → IsCharBoundary text start
 boundary text start [] h = subst (IsCharBoundary text) (sym h) (IsCharBoundary-end text)
 boundary text start (t ∷ ts) h = h.2
 

@@ -1,5 +1,6 @@
 -- The reading of a list of tokens and of a text, and what fits a text.
 use Rattle.std.specs.Prelude.{◌≡◌, ◌≢◌, ℕ, ◌+◌, ◌-◌, ◌^◌, ◌<◌, ◌≤◌, nat_lt, Bool, true, false, not, ◌&&◌, if◌then◌else◌, List, [], ◌∷◌, length, map, reverse, Some, None, Result, Ok, Err}
+use Rattle.std.specs.Borrow.{Bor}
 use Rattle.std.specs.Str.{trim, trim_start}
 use Rattle.ssr_syntax_kinds.specs.declared.kinds.SyntaxKind.{SyntaxKind}
 use Rattle.ssr_syntax_lex.specs.declared.tokens.RawToken.{RawToken}
@@ -116,6 +117,28 @@ fragment_of fragment text =
 
 unfoldable pub fragment_reading : Fragment → List ℕ → Result Syntax SyntaxError
 fragment_reading fragment text = short_reading (fragment_of fragment (trimmed text)) text
+
+-- ** Texts that are lexed to be read as fragments.
+
+-- why a text has no tokens; want of memory says that the text isn't too long, and nothing else
+abbrev pub IsLexFault : List ℕ → SyntaxError → Type 0
+IsLexFault text errors.Lex = (length text < 2 ^ 32) × (tokens text ≡ None)
+IsLexFault text errors.TooLong = 2 ^ 32 ≤ length text
+IsLexFault text errors.Memory = length text < 2 ^ 32
+IsLexFault text errors.NoTree = ⊥
+IsLexFault text errors.TooDeep = ⊥
+
+-- a text that is kept with the tokens that it has without the white space around it, or why it has none
+abbrev pub IsLexedTrimmed : List ℕ → Result (List ℕ) SyntaxError → Type 0
+IsLexedTrimmed text (Ok lexed) =
+    (lexed ≡ text) × (length (trimmed text) < 2 ^ 32) × ((raw : List RawToken) × (tokens (trimmed text) ≡ Some raw))
+IsLexedTrimmed text (Err e) = IsLexFault (trimmed text) e
+
+-- a token, told by its kind and its text
+abbrev pub as_token : SyntaxKind × Bor (List ℕ) → plain.Token
+as_token token = record { kind = token.0; text = token.1.now }
+
+-- ** What the calls answer.
 
 -- an error is the reading's; want of memory says that the text isn't too long, and nothing else
 abbrev pub Refuses : SyntaxError → Result Syntax SyntaxError → List ℕ → Type 0

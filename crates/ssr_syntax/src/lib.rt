@@ -3,6 +3,7 @@
 
 mod expansions;
 mod fitting;
+mod fragment_text;
 mod fragments;
 mod grammar;
 pub mod laws;
@@ -17,6 +18,7 @@ mod turning;
 
 pub use expansions::{ExpToken, ExpansionKind, parse_tokens};
 pub use fitting::{fits_file, fits_fragment, fits_tokens};
+pub use fragment_text::FragmentText;
 pub use fragments::Fragment;
 pub use reading::{fragment, parse_file, parse_file_owned};
 pub use ssr_syntax_kinds::{SyntaxKind, TextRange};

@@ -1,13 +1,15 @@
 //! The syntax trees of texts.
-ghost use Rattle.std.specs.Prelude.{◌≡◌, ◌<◌, ◌≤◌, ◌^◌, List, length, Some, IfOk, IfErr, reverse, ◌&&◌, string_bytes};
+ghost use Rattle.std.specs.Prelude.{◌≡◌, ◌<◌, ◌≤◌, ◌^◌, List, length, Some, IfOk, IfErr, string_bytes};
 ghost use Rattle.ssr_syntax.specs.declared.syntax_error.SyntaxError.TheVariants.{TooLong};
 ghost use Rattle.ssr_syntax_lex.specs.Tokens.{tokens, rows_in};
 ghost use Rattle.ssr_syntax.specs.Reading.{Answers, AnswersTrimmed, tree_reading, file_reading, fragment_reading, FitsFile, FitsFragment, IsTreeOfFile, IsTreeOfFragment, IsThatOrTooDeep};
-ghost use Rattle.ssr_syntax.specs.Private.Reading.{IsLexed, IsCut};
+ghost use Rattle.ssr_syntax.specs.Private.Reading.{IsLexed, IsCut, IsWritten};
 ghost use Rattle.ssr_syntax_lex.specs.declared.tokens.RawToken.{RawToken};
-ghost use Rattle.ssr_syntax.specs.Private.SolidKinds.{kinds_begin_solid};
+ghost use Rattle.ssr_syntax_forms.specs.Parser.{written_in};
+ghost use Rattle.ssr_syntax_types.specs.declared.goals.Goal.{Goal};
 ghost use Rattle.ssr_syntax_tree.specs.Syntax.{Syntax};
 
+use crate::fragment_text::FragmentText;
 use crate::fragments::Fragment;
 use crate::grammar::parse_as;
 use crate::macro_rules::misnames_macros;
@@ -15,15 +17,15 @@ use crate::preorder::node_rows;
 use crate::solid::solid_tokens;
 use crate::syntax_error::SyntaxError;
 use crate::tree_tokens::{ends, tree_tokens};
-use ssr_syntax_forms::Token;
-use ssr_syntax_kinds::{SyntaxKind, TokenRows};
+use ssr_syntax_forms::{Output, Token};
+use ssr_syntax_kinds::TokenRows;
 use ssr_syntax_lex::{LexError, lex_rows};
 use ssr_syntax_tree::Tree;
 use ssr_syntax_types::goals::Goal;
 use std::alloc::Global;
 
 /// Refuses a text that isn't shorter than 2^32 bytes.
-fn check_length(text: &str) -> Result<(), SyntaxError>
+pub(crate) fn check_length(text: &str) -> Result<(), SyntaxError>
     ensures short { IfOk result (λ _. length text.now < 2 ^ 32) }
     ensures long { IfErr result (λ e. (e ≡ TooLong) × (2 ^ 32 ≤ length text.now)) }
 {
@@ -78,9 +80,25 @@ pub(crate) fn read_solid(
     let written = parse_as(alloc, goal, &solid)?;
     // Each list is dropped as soon as it is read, which keeps the most memory in use low.
     drop(solid);
+    written_tree(alloc, text, rows, written, count)
+}
+
+/// The tree of a text with these rows, of which this is written; `solid` of its tokens are solid.
+pub(crate) fn written_tree(
+    alloc: Global,
+    text: String,
+    rows: TokenRows,
+    written: Output,
+    solid: usize,
+) -> Result<Tree, SyntaxError>
+    requires short { length (string_bytes text) < 2 ^ 32 }
+    requires written { (goal : Goal) × (raw : List RawToken) × IsWritten goal (string_bytes text) rows (written_in written) raw }
+    ensures { (goal : Goal) (raw : List RawToken) → IsWritten goal (string_bytes text) rows (written_in written) raw
+        → Answers result (tree_reading goal (string_bytes text) raw) (string_bytes text) }
+{
     let tokens = tree_tokens(alloc, rows, &written.taken)?;
     drop(written.taken);
-    let ends = ends(alloc, &tokens.sizes, count)?;
+    let ends = ends(alloc, &tokens.sizes, solid)?;
     drop(tokens.sizes);
     let nodes = node_rows(alloc, written.rows, &ends, tokens.rows.len() as u32)?;
     let tree = Tree::from_parts(text, tokens.rows, nodes);
@@ -111,16 +129,6 @@ pub fn parse_file_owned(alloc: Global, text: String) -> Result<Tree, SyntaxError
     read_tokens(alloc, Goal::File, text, rows)
 }
 
-/// Whether the first and the last token are neither white space nor comments.
-fn is_solid_outside(kinds: &[SyntaxKind]) -> bool
-    ensures { result ≡ (kinds_begin_solid kinds.now && kinds_begin_solid (reverse kinds.now)) }
-{
-    let (Some(first), Some(last)) = (kinds.first(), kinds.last()) else {
-        return true;
-    };
-    !first.is_trivia() && !last.is_trivia()
-}
-
 /// The syntax tree of a text without the white space around it, and how many bytes of that stand in front. The tree's
 /// root is a node of the fragment's kind. A comment in front of it or behind it is no part of a fragment: `NoTree`.
 pub fn fragment(alloc: Global, fragment: Fragment, text: &str) -> Result<(Tree, u32), SyntaxError>
@@ -130,13 +138,9 @@ pub fn fragment(alloc: Global, fragment: Fragment, text: &str) -> Result<(Tree, 
         → IsThatOrTooDeep (λ answer. answer.0) syntax result }
 {
     check_length(text)?;
-    let inner = text.trim();
-    let rows = token_rows(alloc, inner)?;
-    if !is_solid_outside(rows.kinds()) {
-        return Err(SyntaxError::NoTree);
-    }
     let front = text.len().saturating_sub(text.trim_start().len()) as u32;
-    let source = String::from_str(alloc, inner)?;
-    let tree = read_tokens(alloc, fragment.goal(), source, rows)?;
+    let owned = String::from_str(alloc, text)?;
+    let lexed = FragmentText::new(alloc, owned)?;
+    let tree = lexed.read(alloc, fragment)?;
     Ok((tree, front))
 }

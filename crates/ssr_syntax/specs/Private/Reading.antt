@@ -1,15 +1,17 @@
 -- Private: what the calls below give.
-use Rattle.std.specs.Prelude.{◌≡◌, ◌≢◌, ℕ, ◌^◌, ◌<◌, ◌≤◌, List, length, map, Some, None, Result, Ok, Err}
+use Rattle.std.specs.Prelude.{◌≡◌, ◌≢◌, ℕ, ◌^◌, ◌<◌, List, length, map, Option, Some, None, Result, Ok, Err}
 use Rattle.ssr_syntax_kinds.specs.declared.token_rows.TokenRow.{TokenRow}
-use Rattle.ssr_syntax_lex.specs.Tokens.{tokens, row_of, rows_in, spell, Tiles}
+use Rattle.ssr_syntax_lex.specs.Tokens.{row_of, rows_in, spell, Tiles}
 use Rattle.ssr_syntax_lex.specs.declared.tokens.RawToken.{RawToken}
 use Rattle.ssr_syntax_forms.specs.declared.tokens.Token.{Token}
+use Rattle.ssr_syntax.specs.Reading.{IsLexFault, reading, trimmed}
+use Rattle.ssr_syntax.specs.Private.SolidKinds.{solid_kinds}
 use Rattle.ssr_syntax.specs.Solid.{solid_tokens}
 use Rattle.ssr_syntax.specs.declared.syntax_error.SyntaxError.{SyntaxError}
-use Rattle.ssr_syntax.specs.declared.syntax_error.SyntaxError.TheVariants as errors
 use Rattle.ssr_syntax_forms.specs.declared.fault.Fault.{Fault}
 use Rattle.ssr_syntax_forms.specs.declared.fault.Fault.TheVariants as faults
 use Rattle.ssr_syntax_forms.specs.Trees.{Forest}
+use Rattle.ssr_syntax_types.specs.declared.goals.Goal.{Goal}
 use Rattle.ssr_syntax_forms.specs.Parser.{Written}
 use Rattle.ssr_syntax_forms.specs.Written.{writes}
 
@@ -17,14 +19,6 @@ use Rattle.ssr_syntax_forms.specs.Written.{writes}
 abbrev pub IsReading : {R : Type 0} → (R → Written) → Result R Fault → Result Forest Fault → Type 0
 IsReading now (Ok v) read = (z : Forest) × (read ≡ Ok z) × (now v ≡ writes z 0)
 IsReading now (Err e) read = e ≢ faults.Memory → read ≡ Err e
-
--- why a text has no tokens
-abbrev pub IsLexFault : List ℕ → SyntaxError → Type 0
-IsLexFault text errors.Lex = (length text < 2 ^ 32) × (tokens text ≡ None)
-IsLexFault text errors.TooLong = 2 ^ 32 ≤ length text
-IsLexFault text errors.Memory = length text < 2 ^ 32
-IsLexFault text errors.NoTree = ⊥
-IsLexFault text errors.TooDeep = ⊥
 
 -- the rows of a text's tokens, or why there are none
 abbrev pub IsLexed : List ℕ → Result (List TokenRow) SyntaxError → Type 0
@@ -37,3 +31,21 @@ pub record IsCut (text : List ℕ) (rows : List TokenRow) (solid : List Token) (
   pub tiles : Tiles text raw
   pub spelled : spell text raw ≡ text
   pub solid_are : solid ≡ solid_tokens raw
+
+-- a text is cut into these tokens, and this is written of what they are read as
+pub record IsWritten (goal : Goal) (text : List ℕ) (rows : List TokenRow) (written : Written) (raw : List RawToken) : Type 0 where
+  pub are : rows ≡ map row_of raw
+  pub tiles : Tiles text raw
+  pub spelled : spell text raw ≡ text
+  pub reads : (z : Forest) × (reading goal (solid_tokens raw) ≡ Ok z) × (written ≡ writes z 0)
+
+-- the rows and the solid tokens of a text without the white space around it
+pub record AreTokensOf (text : List ℕ) (rows : List TokenRow) (solid : List Token) : Type 0 where
+  pub short : length (trimmed text) < 2 ^ 32
+  pub lexed : rows_in (trimmed text) ≡ Some rows
+  pub solid_are : solid ≡ solid_kinds (map (λ row. row.kind) rows)
+
+-- where a token ends in front of the next row, or of the end of the text
+abbrev pub end_before : ℕ → Option TokenRow → ℕ
+end_before total None = total
+end_before total (Some next) = next.start

@@ -1,42 +1,13 @@
-use Rattle.std.proofs.Common.{◌∷◌, List, arith, length, map, refl, ap, sym, ◌≡◌, ◌∙◌}
-use Rattle.std.specs.Prelude.{slice_index, string_bytes, Ok}
-use Rattle.std.proofs.lemmas.Str.{IsUtf8-string_bytes}
+use Rattle.std.proofs.Common.{◌∙◌, List}
+use Rattle.std.specs.Prelude.{string_bytes}
 use Rattle.ssr_syntax_lex.specs.declared.tokens.RawToken.{RawToken}
-use Rattle.ssr_syntax_lex.specs.Tokens.{row_of}
-use Rattle.ssr_syntax_tree.specs.Parts.{AreParts}
-use Rattle.ssr_syntax_forms.specs.Written.{leaves}
-use Rattle.ssr_syntax.specs.Lossless.{whole_tree}
-use Rattle.ssr_syntax.specs.MacroRules.{misnames_macros}
-use Rattle.ssr_syntax.specs.declared.syntax_error.SyntaxError.TheVariants as errors
-use Rattle.ssr_syntax.specs.Private.Preorder.{tree_rows}
-use Rattle.ssr_syntax.specs.Private.Reading.{IsCut}
-use Rattle.ssr_syntax.specs.Private.TreeTokens.{taken_rows, taken_sizes, ends}
-use Rattle.ssr_syntax.specs.Reading.{pieces, tree_reading, error_of}
-use Rattle.ssr_syntax.proofs.Texts.{WrittenOfText, written_read, depth_fault, told_on, whole_parts, count_fits, read_ok, read_misnamed, refused, at_ends, parser_fault}
-use Rattle.ssr_syntax.proofs.TextRows.{cut_count}
+use Rattle.ssr_syntax_forms.specs.Parser.{written_in}
+use Rattle.ssr_syntax.specs.Private.Reading.{IsCut, IsWritten}
+use Rattle.ssr_syntax.specs.Reading.{tree_reading, error_of}
+use Rattle.ssr_syntax.proofs.Texts.{told_on, parser_fault}
+use Rattle.ssr_syntax.proofs.TextRows.{written_of_cut}
 use Rattle.ssr_syntax.proofs.reading.read_solid.Goals as goal
-use Rattle.ssr_syntax.proofs.reading.read_solid.Goals.{After-deref-3, In_ok-nodes}
-
-pub ends-requires : goal.ends-requires
-ends-requires c =
-    omega (
-      arith,
-      cut_count (string_bytes c.args.text) c.args.rows c.args.solid.items c.requires.cut.0 c.requires.cut.1,
-      c.requires.short,
-      c.in_ok-tokens.ensures.count,
-      c.in_ok-tokens.ensures.beside,
-      ap length c.deref-3.ensures.value,
-    )
-
-pub overflow_cast-len : goal.overflow_cast-len
-overflow_cast-len c =
-    omega (
-      arith,
-      cut_count (string_bytes c.args.text) c.args.rows c.args.solid.items c.requires.cut.0 c.requires.cut.1,
-      c.requires.short,
-      c.in_ok-tokens.ensures.count,
-      c.len.ensures,
-    )
+use Rattle.ssr_syntax.proofs.reading.read_solid.Goals.{In_ok-written}
 
 pub returns-in_err-written : goal.returns-in_err-written
 returns-in_err-written c raw are =
@@ -47,68 +18,17 @@ returns-in_err-written c raw are =
     (c.deref.ensures.value ∙ are.solid_are) c.in_err-written.ensures)
 
 -- what was written
-written_is : (c : After-deref-3) (raw : List RawToken) → IsCut (string_bytes c.args.text) c.args.rows c.args.solid.items raw
-    → WrittenOfText c.args.goal (string_bytes c.args.text) raw c.in_ok-written.written.rows c.deref-2.result.now
+written_is : (c : In_ok-written) (raw : List RawToken) → IsCut (string_bytes c.args.text) c.args.rows c.args.solid.items raw
+    → IsWritten c.args.goal (string_bytes c.args.text) c.args.rows (written_in c.in_ok-written.written) raw
 written_is c raw are =
     let reads = c.in_ok-written.ensures in
-    written_read c.args.goal (string_bytes c.args.text) raw c.deref.result.now reads.0 c.in_ok-written.written.rows c.in_ok-written.written.rows
-    c.in_ok-written.written.taken.items c.deref-2.result.now
-    (c.deref.ensures.value ∙ are.solid_are) reads.1 reads.2 refl c.deref-2.ensures.value
+    written_of_cut c.args.goal (string_bytes c.args.text) c.args.rows c.args.solid.items c.deref.result.now raw reads.0
+    (written_in c.in_ok-written.written) are c.deref.ensures.value reads.1 reads.2
 
-pub returns-in_err-nodes : goal.returns-in_err-nodes
-returns-in_err-nodes c raw are =
-    let text = string_bytes c.args.text in
-    let w = written_is (goal.at.returns-in_err-nodes c).After-deref-3 raw are in
-    told_on c.in_err-nodes.field-0.0 c.from_residual-in_err-nodes.result (tree_reading c.args.goal text raw) text
-    c.from_residual-in_err-nodes.ensures.0 c.from_residual-in_err-nodes.ensures.1
-    (depth_fault c.args.goal text raw w.kind w.kids c.in_err-nodes.field-0.0 c.requires.short w.read
-    (c.in_err-nodes.ensures w.kind w.kids w.rows))
-
--- the parts of the flat tree
-parts_are : (c : In_ok-nodes) (raw : List RawToken) (are : IsCut (string_bytes c.args.text) c.args.rows c.args.solid.items raw)
-    (w : WrittenOfText c.args.goal (string_bytes c.args.text) raw c.in_ok-written.written.rows c.deref-2.result.now)
-    → AreParts (string_bytes c.args.text) c.in_ok-tokens.tokens.rows c.in_ok-nodes.nodes
-    (whole_tree w.kind w.kids (pieces (string_bytes c.args.text) raw))
-parts_are c raw are w =
-    let text = string_bytes c.args.text in
-    let us = leaves w.kids in
-    let n = c.in_ok-nodes.ensures w.kind w.kids w.rows in
-    let rows_are : c.in_ok-tokens.tokens.rows ≡ taken_rows 0 us (map row_of raw) =
-    c.in_ok-tokens.ensures.rows ∙ ap (λ l. taken_rows 0 l c.args.rows) w.taken_are ∙ ap (taken_rows 0 us) are.are in
-    let sizes_are : c.deref-3.result.now ≡ taken_sizes 0 us (map row_of raw) =
-    c.deref-3.ensures.value ∙ c.in_ok-tokens.ensures.sizes ∙ ap (λ l. taken_sizes 0 l c.args.rows) w.taken_are
-    ∙ ap (taken_sizes 0 us) are.are in
-    let ends_are : c.deref-4.result.now ≡ 0 ∷ ends 0 (taken_sizes 0 us (map row_of raw)) =
-    c.deref-4.ensures.value ∙ c.in_ok-ends.ensures ∙ ap (λ l. 0 ∷ ends 0 l) sizes_are in
-    let count : c.len.result ≡ length (taken_rows 0 us (map row_of raw)) = c.len.ensures ∙ ap length rows_are in
-    whole_parts text raw w.kind w.kids text c.in_ok-tokens.tokens.rows c.in_ok-nodes.nodes
-    (IsUtf8-string_bytes c.args.text) c.requires.short are.tiles are.spelled w.read.are_solid w.read.few
-    refl rows_are
-    (n.1.0 ∙ ap (λ b. tree_rows (λ i. slice_index b i) c.len.result w.kind w.kids) ends_are
-    ∙ ap (λ m. tree_rows (at_ends us raw) m w.kind w.kids) count)
-    (count_fits (λ i. slice_index c.deref-4.result.now i) c.len.result w.kind w.kids c.in_ok-written.written.rows c.in_ok-nodes.nodes w.rows n.1.1 n.1.0)
-
-pub from_parts-tree-requires : goal.from_parts-tree-requires
-from_parts-tree-requires c =
-    let text = string_bytes c.args.text in
+pub written_tree-requires-clause-written : goal.written_tree-requires-clause-written
+written_tree-requires-clause-written c =
     let known = c.requires.cut in
-    let w = written_is (goal.at.from_parts-tree-requires c).After-deref-3 known.0 known.1 in
-    (whole_tree w.kind w.kids (pieces text known.0), parts_are (goal.at.from_parts-tree-requires c).In_ok-nodes known.0 known.1 w)
-
-pub returns-then-misnames_macros : goal.returns-then-misnames_macros
-returns-then-misnames_macros c raw are =
-    let text = string_bytes c.args.text in
-    let w = written_is (goal.at.returns-then-misnames_macros c).After-deref-3 raw are in
-    let is = c.from_parts-tree.ensures (whole_tree w.kind w.kids (pieces text raw)) (parts_are (goal.at.returns-then-misnames_macros c).In_ok-nodes raw are w) in
-    refused errors.NoTree (tree_reading c.args.goal text raw) text c.requires.short
-    (read_misnamed c.args.goal text raw w.kind w.kids w.read (c.in_ok-nodes.ensures w.kind w.kids w.rows).0
-    (ap misnames_macros (sym is) ∙ sym c.misnames_macros.ensures ∙ c.if-misnames_macros.true))
+    (c.args.goal, known.0, written_is (goal.at.written_tree-requires-clause-written c).In_ok-written known.0 known.1)
 
 pub returns : goal.returns
-returns c raw are =
-    let text = string_bytes c.args.text in
-    let w = written_is (goal.at.returns c).After-deref-3 raw are in
-    let is = c.from_parts-tree.ensures (whole_tree w.kind w.kids (pieces text raw)) (parts_are (goal.at.returns c).In_ok-nodes raw are w) in
-    read_ok c.args.goal text raw w.kind w.kids w.read (c.in_ok-nodes.ensures w.kind w.kids w.rows).0
-    (ap misnames_macros (sym is) ∙ sym c.misnames_macros.ensures ∙ c.if-misnames_macros.false)
-    ∙ ap Ok (sym is)
+returns c raw are = c.written_tree.ensures c.args.goal raw (written_is (goal.at.returns c).In_ok-written raw are)
