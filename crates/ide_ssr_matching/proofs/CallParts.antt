@@ -180,16 +180,12 @@ module _ (m : Meanings) (tree : ℕ) (rule : ResolvedKind) (call : QualifiedCall
       → method_sides m tree rule call p c ≡ None
   uncalled other = by (called p) refl
     where
-      without : (found : Called) (method : Method) (b : Bool) → calls_same m (pattern_res rule found.path) (node_id tree c.number) ≡ b → b ≡ false
-          → method_with m tree rule call.qualifier_type c found method ≡ None
-      without found method b is differs =
-          ap (λ b. option_and_then (alike_pairs found method) (cond b (receiver_by m tree call.qualifier_type c.number method.receiver.number) None))
-          (is ∙ differs)
-
       by_method : (found : Called) → calls_same m (pattern_res rule found.path) (node_id tree c.number) ≡ false → (o : Option Method)
           → option_and_then (method_with m tree rule call.qualifier_type c found) o ≡ None
       by_method found differs None = refl
-      by_method found differs (Some method) = without found method _ refl differs
+      by_method found differs (Some method) =
+          ap (λ b. option_and_then (alike_pairs found method) (cond b (receiver_by m tree call.qualifier_type c.number method.receiver.number) None))
+          differs
 
       by : (o : Option Called) → called p ≡ o
           → option_and_then (λ called. option_and_then (method_with m tree rule call.qualifier_type c called) (method_call c)) o ≡ None

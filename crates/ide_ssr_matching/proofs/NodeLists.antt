@@ -13,12 +13,10 @@ use Rattle.ssr_syntax_tree.specs.declared.number.NodeNo.{NodeNo}
 use Rattle.ssr_syntax_tree.specs.Syntax.{Syntax}
 use Rattle.ssr_syntax_tree.specs.Places.{HasNode, Node, Part, node_part, node_of, part_of}
 use Rattle.ssr_syntax_tree.proofs.Shared.{node_of-number}
-use Rattle.ssr_base.specs.declared.semantics.Res.{Res}
 use Rattle.ssr_base.specs.Meanings.{Meanings}
 use Rattle.ssr_base.specs.Workspace.{node_id}
 use Rattle.ide_ssr_resolving.specs.declared.qualified_calls.QualifiedCall.{QualifiedCall}
 use Rattle.ide_ssr_resolving.specs.Resolved.{ResolvedKind}
-use Rattle.ide_ssr_resolving.specs.Used.{res_at}
 use Rattle.ide_ssr_matching.specs.declared.calls.CalledNodes.{CalledNodes}
 use Rattle.ide_ssr_matching.specs.declared.calls.MethodNodes.{MethodNodes}
 use Rattle.ide_ssr_matching.specs.declared.receivers.Receiver.{Receiver}

@@ -65,6 +65,7 @@
 mod answers;
 mod facts;
 mod lines;
+mod lists;
 mod matches;
 mod nodes;
 mod paths;

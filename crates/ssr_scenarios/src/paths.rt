@@ -1,5 +1,6 @@
 //! The paths of trees, and what they stand for.
 
+use crate::lists::separator;
 use anyhow::{Result, bail};
 use ide_ssr_resolving::{QualifiedCall, Unresolved, UsedPath, key_of, used_paths};
 use ssr_base::{DefId, Res, ScopeId};
@@ -49,7 +50,7 @@ pub(crate) fn write_paths(
         return writeln!(out, "nothing");
     }
     for (number, path) in paths.iter().enumerate() {
-        let comma = if number == 0 { "" } else { ", " };
+        let comma = separator(number, ", ");
         write!(out, "{comma}{} ", text_at(tree, path.node))?;
         write_res(out, path.res)?;
     }
@@ -75,7 +76,7 @@ pub(crate) fn write_calls(
         return writeln!(out, "nothing");
     }
     for (number, call) in calls.iter().enumerate() {
-        let comma = if number == 0 { "" } else { ", " };
+        let comma = separator(number, ", ");
         let (text, function) = (text_at(tree, call.node), call.function.0);
         write!(out, "{comma}{text} def {function}")?;
         if let Some(ty) = call.qualifier_type {

@@ -1,5 +1,6 @@
 //! The kinds of rules.
 
+use crate::lists::separator;
 use crate::paths::{write_calls, write_paths};
 use anyhow::Result;
 use ide_ssr::{SsrError, SsrPattern, SsrRule};
@@ -58,7 +59,7 @@ fn kinds_of(
 /// Of each kind the category, and what the roots of its pattern and of its template are.
 fn write_kinds(out: &mut String, kinds: &[ResolvedRule]) -> Result<(), AllocError> {
     for (number, kind) in kinds.iter().enumerate() {
-        let comma = if number == 0 { "" } else { ", " };
+        let comma = separator(number, ", ");
         let category = kind.category();
         let (pattern, template) = (root(kind.pattern()), kind.template().map_or("-", root));
         write!(out, "{comma}{category:?} {pattern} {template}")?;

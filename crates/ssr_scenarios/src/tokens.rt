@@ -1,5 +1,6 @@
 //! The tokens of texts.
 
+use crate::lists::separator;
 use anyhow::{Result, bail};
 use ssr_facts_rows::{TokenRow, read_rows};
 use ssr_syntax::{ExpToken, RawToken, lex};
@@ -18,7 +19,7 @@ pub(crate) fn write_tokens(alloc: Global, out: &mut String, text: &str) -> Resul
 /// Each token with its text, and which are joint.
 fn write_each(out: &mut String, text: &str, tokens: &[RawToken]) -> Result<(), AllocError> {
     for (number, token) in tokens.iter().enumerate() {
-        let comma = if number == 0 { "" } else { ", " };
+        let comma = separator(number, ", ");
         let joint = if token.joint { " joint" } else { "" };
         let text = text_in(text, token.range);
         write!(out, "{comma}{:?} {text:?}{joint}", token.kind)?;

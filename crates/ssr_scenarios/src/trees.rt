@@ -1,5 +1,6 @@
 //! The trees that are read of texts.
 
+use crate::lists::separator;
 use crate::paths::{write_first_key, write_used};
 use crate::tokens::{solid_tokens, told_tokens};
 use anyhow::Result;
@@ -114,7 +115,7 @@ fn depths_of(alloc: Global, tree: &Tree) -> Result<Vec<usize>, AllocError> {
 fn write_outline(alloc: Global, out: &mut String, tree: &Tree) -> Result<(), AllocError> {
     let depths = depths_of(alloc, tree)?;
     for number in 0..tree.node_count() {
-        let blank = if number == 0 { "" } else { " " };
+        let blank = separator(number as usize, " ");
         let depth = depths.get(number as usize).copied().unwrap_or(0);
         let dots = ".".repeat(alloc, depth)?;
         write!(out, "{blank}{dots}{}", tree.kind(NodeNo(number)).name())?;
@@ -142,7 +143,7 @@ fn write_ranges(out: &mut String, tree: &Tree) -> Result<(), AllocError> {
 /// The kinds of a tree's tokens.
 fn write_leaves(out: &mut String, tree: &Tree) -> Result<(), AllocError> {
     for number in 0..tree.token_count() {
-        let blank = if number == 0 { "" } else { " " };
+        let blank = separator(number as usize, " ");
         write!(out, "{blank}{}", tree.token_kind(TokenNo(number)).name())?;
     }
     writeln!(out)
