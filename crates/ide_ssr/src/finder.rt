@@ -23,6 +23,7 @@ use ide_ssr_search::{Context, ContextError, find_matches};
 use ssr_base::{FileId, FilePosition, FileRange, Semantics, TextEdit, Workspace};
 use std::alloc::{AllocError, Global};
 use std::collections::BTreeMap;
+use std::fmt;
 use std::marker::Model;
 
 /// Finds what matches rules in a workspace, and rewrites it.
@@ -32,7 +33,7 @@ pub struct MatchFinder<'a, S: Semantics> {
     workspace: &'a Workspace,
     semantics: &'a S,
     context: Context,
-    pub(crate) rules: Vec<ResolvedRule>,
+    rules: Vec<ResolvedRule>,
 }
 
 impl<'a, S: Semantics> Model for MatchFinder<'a, S> {
@@ -48,6 +49,15 @@ impl<'a, S: Semantics> Model for MatchFinder<'a, S> {
     ghost view = { λ finder. record { workspace = finder.workspace.now; semantics = finder.semantics.now; context = finder.context; rules = finder.rules.items } };
 
     ghost invariant = { λ finder. All (λ rule. HasEachOnce rule.names rule.pattern) finder.rules.items × All (λ rule. AreInArguments rule.names rule.pattern rule.pattern_paths) finder.rules.items };
+}
+
+/// Tells how many rules there are, a text without a promise.
+impl<S: Semantics> fmt::Debug for MatchFinder<'_, S> {
+    fn fmt<W: fmt::Write>(&self, f: &mut fmt::Formatter<W>) -> fmt::Result {
+        f.debug_struct("MatchFinder")
+            .field("rules", &self.rules.len())
+            .finish_non_exhaustive()
+    }
 }
 
 /// The error that tells why there is nothing to make a search for.

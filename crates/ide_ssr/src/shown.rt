@@ -1,18 +1,8 @@
-//! How matches and finders are shown to whoever looks for a mistake, a text without a promise. Of the matches in a placeholder
-//! it tells how many there are: they can nest deeper than the stack.
+//! How matches are shown to whoever looks for a mistake, a text without a promise. Of the matches in a placeholder it tells how
+//! many there are: they can nest deeper than the stack.
 
-use crate::finder::MatchFinder;
 use crate::matches::{Match, PlaceholderMatch, SsrMatches};
-use ssr_base::Semantics;
 use std::fmt;
-
-impl<S: Semantics> fmt::Debug for MatchFinder<'_, S> {
-    fn fmt<W: fmt::Write>(&self, f: &mut fmt::Formatter<W>) -> fmt::Result {
-        f.debug_struct("MatchFinder")
-            .field("rules", &self.rules.len())
-            .finish_non_exhaustive()
-    }
-}
 
 impl fmt::Debug for SsrMatches<'_> {
     fn fmt<W: fmt::Write>(&self, f: &mut fmt::Formatter<W>) -> fmt::Result {

@@ -1,17 +1,11 @@
 //! The order of the nodes of a workspace with an expansion.
 
+use crate::workspaces::node;
 use ide_ssr_nesting::{is_above, precedes};
 use ssr_base::{NodeId, Workspace};
 use ssr_facts::read;
-use ssr_syntax_tree::{Element, NodeNo};
+use ssr_syntax_tree::Element;
 use std::test::Fail;
-
-fn node(tree: u32, node: u32) -> NodeId {
-    NodeId {
-        tree,
-        node: NodeNo(node),
-    }
-}
 
 /// Whether the first node comes before the second, and whether it stands above it, where there are both.
 fn compared(workspace: &Workspace, a: NodeId, b: NodeId) -> Option<(bool, bool)> {

@@ -5,7 +5,7 @@ use ssr_syntax_kinds::TextRange;
 use ssr_syntax_tree::NodeNo;
 use std::test::Fail;
 
-fn node(tree: u32, node: u32) -> NodeId {
+pub(crate) fn node(tree: u32, node: u32) -> NodeId {
     NodeId {
         tree,
         node: NodeNo(node),
