@@ -1,8 +1,8 @@
 -- What adding a rule does to a finder.
 use Rattle.std.specs.Prelude.{◌≡◌, List, ◌++◌, Result, Ok, Err}
-use Rattle.ide_ssr_rules.specs.declared.error.SsrError.{SsrError}
-use Rattle.ide_ssr_rules.specs.declared.refusals.Refusal.{Refusal}
-use Rattle.ide_ssr_rules.specs.Refusals.{TellsOf}
+use Rattle.ide_ssr_refusals.specs.declared.error.SsrError.{SsrError}
+use Rattle.ide_ssr_refusals.specs.declared.refusals.Refusal.{Refusal}
+use Rattle.ide_ssr_refusals.specs.Refusals.{TellsOf}
 use Rattle.ide_ssr_resolving.specs.Resolved.{ResolvedKind}
 use Rattle.ide_ssr.specs.Finder.{FinderWith}
 

@@ -1,8 +1,8 @@
 -- What making a finder answers.
 use Rattle.std.specs.Prelude.{◌≡◌, ◌≢◌, [], Result, Ok, Err, string_bytes}
 use Rattle.ssr_base.specs.Workspace.{Workspace}
-use Rattle.ide_ssr_rules.specs.declared.error.SsrError.{SsrError}
-use Rattle.ide_ssr_rules.specs.declared.error.SsrError.TheVariants as errors
+use Rattle.ide_ssr_refusals.specs.declared.error.SsrError.{SsrError}
+use Rattle.ide_ssr_refusals.specs.declared.error.SsrError.TheVariants as errors
 use Rattle.ide_ssr_search.specs.declared.context_error.ContextError.{ContextError}
 use Rattle.ide_ssr_search.specs.declared.context_error.ContextError.TheVariants as refusals
 use Rattle.ide_ssr_search.specs.Context.{Context}

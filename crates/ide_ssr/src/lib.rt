@@ -13,6 +13,7 @@ mod starts;
 
 pub use finder::MatchFinder;
 pub use ide_ssr_matching::PatternIterator;
+pub use ide_ssr_refusals::SsrError;
 pub use ide_ssr_rewriting::EditError;
-pub use ide_ssr_rules::{SsrError, SsrPattern, SsrRule, Var};
+pub use ide_ssr_rules::{SsrPattern, SsrRule, Var};
 pub use matches::{Match, PlaceholderMatch, SsrMatches};

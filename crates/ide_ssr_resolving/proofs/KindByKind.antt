@@ -3,11 +3,11 @@ use Rattle.std.proofs.Common.{◌≡◌, ℕ, List, [], ◌∷◌, ◌++◌, Res
 use Rattle.ssr_base.specs.declared.ids.ScopeId.{ScopeId}
 use Rattle.ssr_base.specs.Meanings.{Meanings}
 use Rattle.ide_ssr_rules.specs.declared.constraints.Constraint.{Constraint}
-use Rattle.ide_ssr_rules.specs.declared.error.SsrError.{SsrError}
+use Rattle.ide_ssr_refusals.specs.declared.error.SsrError.{SsrError}
 use Rattle.ide_ssr_rules.specs.declared.kinds.ParsedRule.{ParsedRule}
-use Rattle.ide_ssr_rules.specs.declared.refusals.Refusal.{Refusal}
-use Rattle.ide_ssr_rules.specs.Refusals.{TellsOf, ◌>>=◌}
-use Rattle.ide_ssr_rules.proofs.Shared.{tells_first, after_ok}
+use Rattle.ide_ssr_refusals.specs.declared.refusals.Refusal.{Refusal}
+use Rattle.ide_ssr_refusals.specs.Refusals.{TellsOf, ◌>>=◌}
+use Rattle.ide_ssr_refusals.proofs.Shared.{tells_first, after_ok}
 use Rattle.ide_ssr_resolving.specs.declared.qualified_calls.QualifiedCall.{QualifiedCall}
 use Rattle.ide_ssr_resolving.specs.declared.used.UsedPath.{UsedPath}
 use Rattle.ide_ssr_resolving.specs.QualifiedCalls.{qualified_calls_of}

@@ -8,9 +8,9 @@ use Rattle.ssr_base.specs.Meanings.{Meanings}
 use Rattle.ide_ssr_rules.specs.declared.constraints.Constraint.{Constraint}
 use Rattle.ide_ssr_rules.specs.declared.kinds.ParsedRule.{ParsedRule}
 use Rattle.ide_ssr_rules.specs.Patterns.{HasEachAtMostOnce, AreReadOnce}
-use Rattle.ide_ssr_rules.specs.declared.refusals.Refusal.{Refusal}
-use Rattle.ide_ssr_rules.specs.Refusals.{◌>>=◌}
-use Rattle.ide_ssr_rules.proofs.Shared.{went, ok_same}
+use Rattle.ide_ssr_refusals.specs.declared.refusals.Refusal.{Refusal}
+use Rattle.ide_ssr_refusals.specs.Refusals.{◌>>=◌}
+use Rattle.ide_ssr_refusals.proofs.Shared.{went, ok_same}
 use Rattle.ide_ssr_resolving.specs.declared.used.UsedPath.{UsedPath}
 use Rattle.ide_ssr_resolving.specs.Patterns.{HasEachOnce, AreInArguments}
 use Rattle.ide_ssr_resolving.specs.Used.{used_paths}

@@ -3,7 +3,7 @@ ghost use Rattle.std.specs.Prelude.{◌≡◌, ◌<◌, ◌^◌, length, map, st
 ghost use Rattle.std.specs.Option.{IfSome, IsSomeAnd, option_copied};
 ghost use Rattle.ssr_syntax_tree.specs.Places.{HasNode, HasToken, node_of, token_of};
 ghost use Rattle.ide_ssr_rules.specs.Patterns.{HasEachAtMostOnce};
-ghost use Rattle.ide_ssr_rules.specs.Refusals.{Answers, AnswersBy};
+ghost use Rattle.ide_ssr_refusals.specs.Refusals.{Answers, AnswersBy};
 ghost use Rattle.ide_ssr_rules.specs.StandIns.{name_at};
 ghost use Rattle.ide_ssr_resolving.specs.Patterns.{HasEachOnce, AreInArguments};
 ghost use Rattle.ide_ssr_resolving.specs.Placeholders.{placeholder_at, token_placeholders};
@@ -18,9 +18,9 @@ use crate::eligible::eligible_paths;
 use crate::placeholders::{placeholders, token_placeholders};
 use crate::qualified_calls::{QualifiedCall, call_at, qualified_calls};
 use crate::used::{Unresolved, UsedPath, res_by_node, walked};
+use ide_ssr_refusals::{Refusal, SsrError, Text};
 use ide_ssr_rules::{
-    ConstraintSet, Names, ParsedKinds, ParsedRule, Refusal, SsrError, SsrPattern, SsrRule, Text,
-    pattern_kinds, rule_kinds,
+    ConstraintSet, Names, ParsedKinds, ParsedRule, SsrPattern, SsrRule, pattern_kinds, rule_kinds,
 };
 use ssr_base::{Res, ScopeId, Semantics};
 use ssr_syntax::Fragment;

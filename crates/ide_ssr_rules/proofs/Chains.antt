@@ -4,17 +4,18 @@ use Rattle.std.specs.Option.{option_map}
 use Rattle.std.specs.Str.{trim}
 use Rattle.ide_ssr_rules.specs.declared.constraints.Constraint.{Constraint}
 use Rattle.ide_ssr_rules.specs.declared.elements.Element.{Element}
-use Rattle.ide_ssr_rules.specs.declared.error.SsrError.{SsrError}
+use Rattle.ide_ssr_refusals.specs.declared.error.SsrError.{SsrError}
 use Rattle.ide_ssr_rules.specs.declared.kinds.ParsedRule.{ParsedRule}
 use Rattle.ide_ssr_rules.specs.Elements.{names_of, constraints_of, side}
-use Rattle.ide_ssr_rules.specs.declared.refusals.Refusal.TheVariants as r
+use Rattle.ide_ssr_refusals.specs.declared.refusals.Refusal.TheVariants as r
 use Rattle.ide_ssr_rules.specs.Kinds.{kinds_of, some_kind}
 use Rattle.ide_ssr_rules.specs.MacroCalls.{untested}
-use Rattle.ide_ssr_rules.specs.Refusals.{Refusal, TellsOf, Answers, ◌>>=◌, unless}
+use Rattle.ide_ssr_refusals.specs.declared.refusals.Refusal.{Refusal}
+use Rattle.ide_ssr_refusals.specs.Refusals.{TellsOf, Answers, ◌>>=◌, unless}
 use Rattle.ide_ssr_rules.specs.Rules.{Rule, check_sides, check_uses, check_defined, unconstrained, written, rule_of, rule_reading, pattern_reading}
 use Rattle.ide_ssr_rules.specs.Sides.{sides}
 use Rattle.ide_ssr_rules.specs.StandIns.{glued_placeholder, code_of, spelled_stand_in}
-use Rattle.ide_ssr_rules.proofs.Telling.{tells_first, after_ok}
+use Rattle.ide_ssr_refusals.proofs.Shared.{tells_first, after_ok}
 
 module _ (pattern template : List Element) where
   abbrev tokens_stay : List Element → Result (Unit {0}) Refusal

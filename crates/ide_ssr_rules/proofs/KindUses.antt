@@ -10,15 +10,16 @@ use Rattle.ide_ssr_rules.specs.declared.kinds.ParsedRule.{ParsedRule}
 use Rattle.ide_ssr_rules.specs.Elements.{names_of}
 use Rattle.ide_ssr_rules.specs.Kinds.{kinds_of, some_kind}
 use Rattle.ide_ssr_rules.specs.Patterns.{HasEachAtMostOnce, AreReadOnce}
-use Rattle.ide_ssr_rules.specs.declared.refusals.Refusal.TheVariants as r
-use Rattle.ide_ssr_rules.specs.Refusals.{Refusal, ◌>>=◌, unless}
+use Rattle.ide_ssr_refusals.specs.declared.refusals.Refusal.TheVariants as r
+use Rattle.ide_ssr_refusals.specs.declared.refusals.Refusal.{Refusal}
+use Rattle.ide_ssr_refusals.specs.Refusals.{◌>>=◌, unless}
 use Rattle.ide_ssr_rules.specs.Rules.{check_sides, written}
 use Rattle.ide_ssr_rules.specs.StandIns.{code_of, glued_placeholder, spelled_stand_in}
 use Rattle.ide_ssr_rules.specs.Uses.{AreNew}
 use Rattle.ide_ssr_rules.proofs.AtMostOnce.{template_at_most}
 use Rattle.ide_ssr_rules.proofs.EachOnce.{IsSide, pattern_each, stays_trimmed}
 use Rattle.ide_ssr_rules.proofs.KindsRead.{IsTemplateFrom, IsKindFrom, kinds_read}
-use Rattle.ide_ssr_rules.proofs.Telling.{went}
+use Rattle.ide_ssr_refusals.proofs.Shared.{went}
 
 pub some_kinds : (kinds found : List ParsedRule) → some_kind kinds ≡ Ok found → kinds ≡ found
 some_kinds [] found h = cc

@@ -1,6 +1,5 @@
 mod LexedSides
 mod Splitting
-mod Telling
 mod ReadingConstraints
 mod ReadingElements
 mod Walking

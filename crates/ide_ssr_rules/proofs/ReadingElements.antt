@@ -3,14 +3,15 @@ use Rattle.std.proofs.Common.{◌≡◌, ℕ, zero, suc, List, [], ◌∷◌, �
 use Rattle.ssr_syntax_tree.specs.Syntax.{Token}
 use Rattle.ide_ssr_rules.specs.declared.elements.Element.{Element}
 use Rattle.ide_ssr_rules.specs.declared.elements.Element.TheVariants as e
-use Rattle.ide_ssr_rules.specs.declared.error.SsrError.{SsrError}
-use Rattle.ide_ssr_rules.specs.declared.error.SsrError.TheVariants as errors
-use Rattle.ide_ssr_rules.specs.declared.refusals.Refusal.TheVariants as r
+use Rattle.ide_ssr_refusals.specs.declared.error.SsrError.{SsrError}
+use Rattle.ide_ssr_refusals.specs.declared.error.SsrError.TheVariants as errors
+use Rattle.ide_ssr_refusals.specs.declared.refusals.Refusal.TheVariants as r
 use Rattle.ide_ssr_rules.specs.Constraints.{Placeholder, placeholder}
 use Rattle.ide_ssr_rules.specs.Elements.{is_dollar, has, with_new_name, new_placeholder, after, elements_within, elements}
-use Rattle.ide_ssr_rules.specs.Refusals.{Refusal, TellsOf, ◌>>=◌}
+use Rattle.ide_ssr_refusals.specs.declared.refusals.Refusal.{Refusal}
+use Rattle.ide_ssr_refusals.specs.Refusals.{TellsOf, ◌>>=◌}
 use Rattle.ide_ssr_rules.proofs.ReadingConstraints.{IsShorter, placeholder_shorter, same_next}
-use Rattle.ide_ssr_rules.proofs.Telling.{went, ok_same, tells_first}
+use Rattle.ide_ssr_refusals.proofs.Shared.{went, ok_same, tells_first}
 
 new_shorter : (names : List (List ℕ)) (tokens : List Token) (taken : Placeholder × List Token) → new_placeholder names tokens ≡ Ok taken → IsShorter tokens taken
 new_shorter names tokens taken h =

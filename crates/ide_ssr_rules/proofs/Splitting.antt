@@ -6,7 +6,7 @@ use Rattle.std.specs.List.{starts_with}
 use Rattle.std.specs.Option.{option_map}
 use Rattle.std.specs.Str.{trim}
 use Rattle.std.specs.Str.Pattern.{LacksTextAt, FindsText, HasMatch, SplitsAroundMatch}
-use Rattle.ide_ssr_rules.specs.declared.refusals.Refusal.TheVariants as r
+use Rattle.ide_ssr_refusals.specs.declared.refusals.Refusal.TheVariants as r
 use Rattle.ide_ssr_rules.specs.Sides.{delimiter, split_at_delimiter, only, only_split, sides}
 
 no_start : (s : List ℕ) → LacksTextAt delimiter s 0 → starts_with eqb s delimiter ≡ false

@@ -6,8 +6,9 @@ use Rattle.ssr_syntax.specs.Identifiers.{is_ident}
 use Rattle.ssr_syntax_tree.specs.Syntax.{Token}
 use Rattle.ide_ssr_rules.specs.declared.constraints.Constraint.{Constraint}
 use Rattle.ide_ssr_rules.specs.declared.constraints.Constraint.TheVariants as c
-use Rattle.ide_ssr_rules.specs.declared.refusals.Refusal.TheVariants as r
-use Rattle.ide_ssr_rules.specs.Refusals.{Refusal, ◌>>=◌}
+use Rattle.ide_ssr_refusals.specs.declared.refusals.Refusal.TheVariants as r
+use Rattle.ide_ssr_refusals.specs.declared.refusals.Refusal.{Refusal}
+use Rattle.ide_ssr_refusals.specs.Refusals.{◌>>=◌}
 
 -- a placeholder, without its `$`
 pub record Placeholder : Type 0 where

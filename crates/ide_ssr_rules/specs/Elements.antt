@@ -12,9 +12,10 @@ use Rattle.ssr_syntax_tree.specs.Syntax.{Token}
 use Rattle.ide_ssr_rules.specs.declared.constraints.Constraint.{Constraint}
 use Rattle.ide_ssr_rules.specs.declared.elements.Element.{Element}
 use Rattle.ide_ssr_rules.specs.declared.elements.Element.TheVariants as e
-use Rattle.ide_ssr_rules.specs.declared.refusals.Refusal.TheVariants as r
+use Rattle.ide_ssr_refusals.specs.declared.refusals.Refusal.TheVariants as r
 use Rattle.ide_ssr_rules.specs.Constraints.{Placeholder, Taken, placeholder}
-use Rattle.ide_ssr_rules.specs.Refusals.{Refusal, ◌>>=◌}
+use Rattle.ide_ssr_refusals.specs.declared.refusals.Refusal.{Refusal}
+use Rattle.ide_ssr_refusals.specs.Refusals.{◌>>=◌}
 
 -- the tokens of a text; none where the lexer refuses it, for its length too
 unfoldable pub lexed : List ℕ → Option (List Token)

@@ -15,8 +15,8 @@ use Rattle.ssr_syntax_tree.specs.Syntax.{Syntax}
 use Rattle.ssr_syntax_tree.specs.SyntaxCode.{syntax_code}
 use Rattle.ide_ssr_rules.specs.declared.kinds.ParsedRule.{ParsedRule}
 use Rattle.ide_ssr_rules.specs.declared.kinds.ReadSide.{ReadSide}
-use Rattle.ide_ssr_rules.specs.declared.refusals.Refusal.TheVariants as r
-use Rattle.ide_ssr_rules.specs.Refusals.{Refusal}
+use Rattle.ide_ssr_refusals.specs.declared.refusals.Refusal.TheVariants as r
+use Rattle.ide_ssr_refusals.specs.declared.refusals.Refusal.{Refusal}
 
 abbrev pub side_in : Fragment → Syntax → ReadSide
 side_in category tree = record { category = category; tree = tree }

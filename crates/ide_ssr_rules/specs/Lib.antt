@@ -1,4 +1,4 @@
-pub mod Refusals
+pub mod Listed
 pub mod Sides
 pub mod Constraints
 pub mod Meeting

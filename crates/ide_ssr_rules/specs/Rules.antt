@@ -9,11 +9,13 @@ use Rattle.ide_ssr_rules.specs.contracts.constraints.Constraint as constraint
 use Rattle.ide_ssr_rules.specs.declared.constraints.Constraint.{Constraint}
 use Rattle.ide_ssr_rules.specs.declared.elements.Element.{Element}
 use Rattle.ide_ssr_rules.specs.declared.kinds.ParsedRule.{ParsedRule}
-use Rattle.ide_ssr_rules.specs.declared.refusals.Refusal.TheVariants as r
+use Rattle.ide_ssr_refusals.specs.declared.refusals.Refusal.TheVariants as r
 use Rattle.ide_ssr_rules.specs.Elements.{has, side, names_of, constraints_of, is_constrained}
 use Rattle.ide_ssr_rules.specs.Kinds.{kinds_of, some_kind, kind_code}
+use Rattle.ide_ssr_rules.specs.Listed.{listed}
 use Rattle.ide_ssr_rules.specs.MacroCalls.{untested}
-use Rattle.ide_ssr_rules.specs.Refusals.{Refusal, listed, ◌>>=◌, unless}
+use Rattle.ide_ssr_refusals.specs.declared.refusals.Refusal.{Refusal}
+use Rattle.ide_ssr_refusals.specs.Refusals.{◌>>=◌, unless}
 use Rattle.ide_ssr_rules.specs.Sides.{sides}
 use Rattle.ide_ssr_rules.specs.StandIns.{code_of, glued_placeholder, spelled_stand_in}
 

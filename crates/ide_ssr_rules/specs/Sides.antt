@@ -3,8 +3,8 @@ use Rattle.std.specs.Prelude.{ℕ, List, [], ◌∷◌, Option, Some, None, Resu
 use Rattle.std.specs.List.{starts_with}
 use Rattle.std.specs.Option.{option_map}
 use Rattle.std.specs.Str.{trim}
-use Rattle.ide_ssr_rules.specs.declared.refusals.Refusal.TheVariants as r
-use Rattle.ide_ssr_rules.specs.Refusals.{Refusal}
+use Rattle.ide_ssr_refusals.specs.declared.refusals.Refusal.TheVariants as r
+use Rattle.ide_ssr_refusals.specs.declared.refusals.Refusal.{Refusal}
 
 abbrev pub delimiter : List ℕ
 delimiter = codes "==>>"

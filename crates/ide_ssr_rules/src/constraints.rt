@@ -2,13 +2,12 @@
 ghost use Rattle.std.specs.Prelude.{◌≡◌, IfOk, bytes_eq, not};
 ghost use Rattle.ide_ssr_rules.specs.Constraints.{bracket, kind_name, on_kind, contrary, constraint, constraints, braced, placeholder};
 ghost use Rattle.ide_ssr_rules.specs.Meeting.{holds_at};
-ghost use Rattle.ide_ssr_rules.specs.Refusals.{AnswersBy};
+ghost use Rattle.ide_ssr_refusals.specs.Refusals.{AnswersBy};
 ghost use Rattle.ssr_syntax_kinds.specs.declared.kinds.SyntaxKind.{SyntaxKind as Kind};
 
-use crate::error::SsrError;
 use crate::meeting::ConstraintSet;
-use crate::refusals::{Refusal, Text};
 use crate::tokens::{Name, Tokens};
+use ide_ssr_refusals::{Refusal, SsrError, Text};
 use std::alloc::{AllocError, Global};
 use std::marker::Model;
 

@@ -3,10 +3,9 @@ ghost use Rattle.std.specs.Prelude.{◌≡◌, ◌++◌, IfOk, OnOk, option_to_l
 ghost use Rattle.std.specs.List.{list_any};
 ghost use Rattle.std.specs.Option.{option_copied};
 ghost use Rattle.ide_ssr_rules.specs.Kinds.{read_in, template_in, kind_with, kind_in, read_kinds, has_path, prefer_paths, kinds_of, some_kind};
-ghost use Rattle.ide_ssr_rules.specs.Refusals.{AnswersBy};
+ghost use Rattle.ide_ssr_refusals.specs.Refusals.{AnswersBy};
 
-use crate::error::SsrError;
-use crate::refusals::Refusal;
+use ide_ssr_refusals::{Refusal, SsrError};
 use ssr_syntax::{Fragment, FragmentText, SyntaxError};
 use ssr_syntax_kinds::SyntaxKind;
 use ssr_syntax_tree::{NodeNo, Tree};

@@ -3,13 +3,11 @@
 
 mod constraints;
 mod elements;
-mod error;
 mod kinds;
-pub mod laws;
+mod listed;
 mod macro_calls;
 mod meeting;
 mod names;
-mod refusals;
 mod rules;
 mod sides;
 mod stand_ins;
@@ -17,10 +15,8 @@ mod tokens;
 mod var;
 
 pub use constraints::Constraint;
-pub use error::SsrError;
 pub use kinds::ParsedRule;
 pub use meeting::ConstraintSet;
 pub use names::Names;
-pub use refusals::{Fault, Refusal, Text};
 pub use rules::{ParsedKinds, SsrPattern, SsrRule, pattern_kinds, rule_kinds};
 pub use var::Var;

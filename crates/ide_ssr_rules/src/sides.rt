@@ -1,15 +1,14 @@
 //! The two sides of a rule text, and the elements of a side.
 ghost use Rattle.std.specs.Prelude.{◌≡◌, ◌<◌, ◌≤◌, ◌^◌, ◌++◌, [], length, IfOk};
 ghost use Rattle.ide_ssr_rules.specs.Elements.{new_placeholder, elements, side, names_of};
-ghost use Rattle.ide_ssr_rules.specs.Refusals.{AnswersBy};
+ghost use Rattle.ide_ssr_refusals.specs.Refusals.{AnswersBy};
 ghost use Rattle.ide_ssr_rules.specs.Sides.{sides};
 
 use crate::constraints::{Placeholder, read_placeholder};
 use crate::elements::Element;
-use crate::error::SsrError;
 use crate::names::Names;
-use crate::refusals::{Fault, Refusal, Text};
 use crate::tokens::{Token, Tokens, Unlexed, lexed};
+use ide_ssr_refusals::{Fault, Refusal, SsrError, Text};
 use std::alloc::{AllocError, Global};
 
 const DELIMITER: &str = "==>>";

@@ -6,8 +6,8 @@ use Rattle.ssr_syntax_tree.specs.Syntax.{Syntax}
 use Rattle.ssr_syntax.specs.declared.syntax_error.SyntaxError.{SyntaxError}
 use Rattle.ssr_syntax.specs.Reading.{file_reading}
 use Rattle.ssr_syntax.proofs.Shared.{file_needs_none}
-use Rattle.ide_ssr_rules.specs.declared.refusals.Refusal.{Refusal}
-use Rattle.ide_ssr_rules.specs.Refusals.{words}
+use Rattle.ide_ssr_refusals.specs.declared.refusals.Refusal.{Refusal}
+use Rattle.ide_ssr_refusals.specs.Refusals.{words}
 use Rattle.ide_ssr_resolving.specs.Resolved.{ResolvedKind}
 use Rattle.ssr.specs.Rewritten.{IsRewritten}
 use Rattle.ssr.proofs.OneText.{one_text}

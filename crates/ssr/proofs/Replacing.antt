@@ -2,8 +2,8 @@
 use Rattle.std.proofs.Common.{◌≡◌, ℕ, List, [], ◌∷◌, All, Result, Ok, Err, refl, subst}
 use Rattle.std.specs.Prelude.{IsSome}
 use Rattle.std.proofs.lemmas.List.Elements.{All-nil, All-append}
-use Rattle.ide_ssr_rules.specs.declared.refusals.Refusal.{Refusal}
-use Rattle.ide_ssr_rules.specs.Refusals.{◌>>=◌}
+use Rattle.ide_ssr_refusals.specs.declared.refusals.Refusal.{Refusal}
+use Rattle.ide_ssr_refusals.specs.Refusals.{◌>>=◌}
 use Rattle.ide_ssr_resolving.specs.Resolved.{ResolvedKind}
 use Rattle.ide_ssr_rules.specs.Rules.{Rule, rule_reading}
 use Rattle.ide_ssr_resolving.proofs.Shared.{have_templates}

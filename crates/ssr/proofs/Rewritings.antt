@@ -4,13 +4,13 @@ use Rattle.std.specs.Str.{IsUtf8}
 use Rattle.ssr_syntax_tree.specs.Syntax.{Syntax}
 use Rattle.ssr_syntax.specs.declared.syntax_error.SyntaxError.{SyntaxError}
 use Rattle.ssr_syntax.specs.declared.syntax_error.SyntaxError.TheVariants as syntax
-use Rattle.ide_ssr_rules.specs.declared.error.SsrError.{SsrError}
-use Rattle.ide_ssr_rules.specs.declared.error.SsrError.TheVariants as rule
+use Rattle.ide_ssr_refusals.specs.declared.error.SsrError.{SsrError}
+use Rattle.ide_ssr_refusals.specs.declared.error.SsrError.TheVariants as rule
 use Rattle.ssr.specs.declared.rewriting.RewriteError.{RewriteError}
 use Rattle.ssr.specs.declared.rewriting.RewriteError.TheVariants as errors
 use Rattle.ssr_syntax.specs.Reading.{file_reading}
-use Rattle.ide_ssr_rules.specs.declared.refusals.Refusal.{Refusal}
-use Rattle.ide_ssr_rules.specs.Refusals.{TellsOf}
+use Rattle.ide_ssr_refusals.specs.declared.refusals.Refusal.{Refusal}
+use Rattle.ide_ssr_refusals.specs.Refusals.{TellsOf}
 use Rattle.ide_ssr_resolving.specs.Resolved.{ResolvedKind}
 use Rattle.ssr_base.specs.Workspace.{Workspace}
 use Rattle.ide_ssr_search.specs.Making.{IsContext, first_position}

@@ -2,7 +2,7 @@
 use Rattle.std.proofs.Common.{◌≡◌, ℕ, ◌+◌, ◌<◌, List, [], ◌∷◌, ◌++◌, Result, Ok, Err, length, take, drop, get_or, refl, ap, sym, ◌∙◌, append_assoc, append-nil}
 use Rattle.std.proofs.lemmas.List.{drop_more, take-append-drop, take_more}
 use Rattle.ssr.specs.Output.{both, rule_kinds, rules_reading}
-use Rattle.ide_ssr_rules.specs.declared.refusals.Refusal.{Refusal}
+use Rattle.ide_ssr_refusals.specs.declared.refusals.Refusal.{Refusal}
 use Rattle.ide_ssr_resolving.specs.Resolved.{ResolvedKind}
 
 abbrev Read : Type 0

@@ -1,7 +1,8 @@
 //! The errors of rules, and how a rule is shown.
 
-use ide_ssr_rules::laws::equality;
-use ide_ssr_rules::{SsrError, SsrRule};
+use ide_ssr_refusals::SsrError;
+use ide_ssr_refusals::laws::equality;
+use ide_ssr_rules::SsrRule;
 use std::test::Fail;
 
 #[test]

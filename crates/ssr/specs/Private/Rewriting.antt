@@ -6,8 +6,8 @@ use Rattle.ssr_syntax.specs.declared.syntax_error.SyntaxError.{SyntaxError}
 use Rattle.ssr_syntax.specs.declared.syntax_error.SyntaxError.TheVariants as syntax
 use Rattle.ssr.specs.declared.rewriting.RewriteError.{RewriteError}
 use Rattle.ssr.specs.declared.rewriting.RewriteError.TheVariants as errors
-use Rattle.ide_ssr_rules.specs.declared.error.SsrError.{SsrError}
-use Rattle.ide_ssr_rules.specs.declared.error.SsrError.TheVariants as rules
+use Rattle.ide_ssr_refusals.specs.declared.error.SsrError.{SsrError}
+use Rattle.ide_ssr_refusals.specs.declared.error.SsrError.TheVariants as rules
 use Rattle.ssr_base.specs.declared.ids.FileId.{FileId}
 use Rattle.ssr_base.specs.Changes.{Change}
 use Rattle.ssr_base.specs.Workspace.{Workspace}

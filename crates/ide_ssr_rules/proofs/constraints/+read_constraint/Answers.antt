@@ -1,7 +1,7 @@
 use Rattle.std.proofs.Common.{sym, ◌∙◌}
 use Rattle.std.proofs.lemmas.Result.{err_from_is_err_and}
 use Rattle.ide_ssr_rules.proofs.ReadingConstraints.{no_word, at_kind, at_unknown, at_deep, past_tells, past_reads, not_unopened, not_refused, not_unclosed, not_read}
-use Rattle.ide_ssr_rules.proofs.Telling.{tells_refusal}
+use Rattle.ide_ssr_refusals.proofs.Shared.{tells_refusal}
 use Rattle.ide_ssr_rules.proofs.constraints.+read_constraint.Goals as goal
 
 pub returns-in_default : goal.returns-in_default

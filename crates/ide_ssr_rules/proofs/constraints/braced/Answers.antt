@@ -1,7 +1,7 @@
 use Rattle.std.proofs.Common.{sym, ◌∙◌}
 use Rattle.std.proofs.lemmas.Result.{err_from_is_err_and}
 use Rattle.ide_ssr_rules.proofs.ReadingConstraints.{braced_end, braced_refused, braced_unnamed, braced_read}
-use Rattle.ide_ssr_rules.proofs.Telling.{tells_refusal}
+use Rattle.ide_ssr_refusals.proofs.Shared.{tells_refusal}
 use Rattle.ide_ssr_rules.proofs.constraints.braced.Goals as goal
 
 pub returns-in_default : goal.returns-in_default

@@ -1,7 +1,7 @@
 use Rattle.std.proofs.Common.{arith, sym, ◌∙◌}
 use Rattle.std.proofs.lemmas.Result.{err_from_is_err_and}
 use Rattle.ide_ssr_rules.proofs.ReadingConstraints.{constraints_closed, constraints_unexpected, constraints_refused, constraints_smaller, constraints_more, constraints_end}
-use Rattle.ide_ssr_rules.proofs.Telling.{tells_refusal}
+use Rattle.ide_ssr_refusals.proofs.Shared.{tells_refusal}
 use Rattle.ide_ssr_rules.proofs.constraints.constraints.Goals as goal
 
 pub returns-then-closes : goal.returns-then-closes

@@ -1,7 +1,7 @@
 use Rattle.std.proofs.Common.{sym, ◌∙◌}
 use Rattle.std.proofs.lemmas.Result.{err_from_is_err_and}
 use Rattle.ide_ssr_rules.proofs.ReadingConstraints.{kind_unopened, kind_unnamed, kind_unclosed, kind_known, kind_unknown}
-use Rattle.ide_ssr_rules.proofs.Telling.{tells_refusal}
+use Rattle.ide_ssr_refusals.proofs.Shared.{tells_refusal}
 use Rattle.ide_ssr_rules.proofs.constraints.on_kind.Goals as goal
 
 pub returns-in_err-bracket : goal.returns-in_err-bracket

@@ -1,6 +1,6 @@
 use Rattle.std.proofs.Common.{sym, ◌∙◌}
 use Rattle.ide_ssr_rules.proofs.ReadingConstraints.{placeholder_end, opens_braces, plain_read, other_read}
-use Rattle.ide_ssr_rules.proofs.Telling.{tells_refusal}
+use Rattle.ide_ssr_refusals.proofs.Shared.{tells_refusal}
 use Rattle.ide_ssr_rules.proofs.constraints.read_placeholder.Goals as goal
 
 pub returns-in_default : goal.returns-in_default

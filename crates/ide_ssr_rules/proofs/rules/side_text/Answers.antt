@@ -3,13 +3,13 @@ use Rattle.std.specs.Prelude.{string_bytes}
 use Rattle.std.specs.Str.{trim, IsUtf8}
 use Rattle.std.proofs.lemmas.Str.{IsUtf8-string_bytes}
 use Rattle.ssr_syntax.specs.Reading.{pieces}
-use Rattle.ide_ssr_rules.specs.declared.refusals.Refusal.TheVariants as r
+use Rattle.ide_ssr_refusals.specs.declared.refusals.Refusal.TheVariants as r
 use Rattle.ide_ssr_rules.specs.Elements.{lexed}
-use Rattle.ide_ssr_rules.specs.Refusals.{unless}
+use Rattle.ide_ssr_refusals.specs.Refusals.{unless}
 use Rattle.ide_ssr_rules.specs.StandIns.{glued_placeholder}
 use Rattle.ide_ssr_rules.proofs.LexedSides.{lexed-tokens}
 use Rattle.ide_ssr_rules.proofs.StandIns.{glued_lexed}
-use Rattle.ide_ssr_rules.proofs.Telling.{tells_refusal}
+use Rattle.ide_ssr_refusals.proofs.Shared.{tells_refusal}
 use Rattle.ide_ssr_rules.proofs.rules.side_text.Goals as goal
 
 pub returns-in-Err : goal.returns-in-Err

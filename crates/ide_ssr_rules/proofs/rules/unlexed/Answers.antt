@@ -1,12 +1,12 @@
 use Rattle.std.proofs.Common.{ap, sym, refl, subst}
 use Rattle.std.specs.Str.{trim}
-use Rattle.ide_ssr_rules.specs.declared.error.SsrError.TheVariants as errors
-use Rattle.ide_ssr_rules.specs.declared.refusals.Refusal.TheVariants as r
-use Rattle.ide_ssr_rules.specs.Refusals.{Tells, unless}
+use Rattle.ide_ssr_refusals.specs.declared.error.SsrError.TheVariants as errors
+use Rattle.ide_ssr_refusals.specs.declared.refusals.Refusal.TheVariants as r
+use Rattle.ide_ssr_refusals.specs.Refusals.{Tells, unless}
 use Rattle.ide_ssr_rules.specs.StandIns.{first_name, glued_placeholder}
 use Rattle.ide_ssr_rules.proofs.LexedSides.{lexed_none}
 use Rattle.ide_ssr_rules.proofs.StandIns.{glued_fault}
-use Rattle.ide_ssr_rules.proofs.Telling.{tells_memory, tells_refusal}
+use Rattle.ide_ssr_refusals.proofs.Shared.{tells_memory, tells_refusal}
 use Rattle.ide_ssr_rules.proofs.rules.unlexed.Goals as goal
 
 pub returns-in-Memory : goal.returns-in-Memory

@@ -1,5 +1,5 @@
 use Rattle.ide_ssr_rules.proofs.Splitting.{no_split, second_split, one_split}
-use Rattle.ide_ssr_rules.proofs.Telling.{tells_refusal}
+use Rattle.ide_ssr_refusals.proofs.Shared.{tells_refusal}
 use Rattle.ide_ssr_rules.proofs.sides.sides.Goals as goal
 
 pub returns-in_default : goal.returns-in_default

@@ -1,8 +1,8 @@
 -- How an error that tells one reading's refusal tells that of a larger one.
 use Rattle.std.proofs.Common.{◌≡◌, Result, Ok, Err, subst, sym, refl, ap}
-use Rattle.ide_ssr_rules.specs.declared.error.SsrError.{SsrError}
-use Rattle.ide_ssr_rules.specs.declared.error.SsrError.TheVariants as errors
-use Rattle.ide_ssr_rules.specs.Refusals.{Refusal, Tells, TellsOf, ◌>>=◌}
+use Rattle.ide_ssr_refusals.specs.declared.error.SsrError.{SsrError}
+use Rattle.ide_ssr_refusals.specs.declared.error.SsrError.TheVariants as errors
+use Rattle.ide_ssr_refusals.specs.Refusals.{Refusal, Tells, TellsOf, ◌>>=◌}
 
 pub tells_memory : {A : Type 0} (reading : Result A Refusal) (error : SsrError) → error ≡ errors.Memory → TellsOf error reading
 tells_memory {A = A} (Ok value) error is = let P : SsrError → Type 0 = λ e. TellsOf {A = A} e (Ok value) in subst P (sym is) tt

@@ -1,5 +1,5 @@
 use Rattle.std.proofs.Common.{rules}
-use Rattle.ide_ssr_rules.proofs.error.SsrErrorDisplay.fmt.Goals as goal
+use Rattle.ide_ssr_refusals.proofs.error.SsrErrorDisplay.fmt.Goals as goal
 
 pub returns-in-Memory : goal.returns-in-Memory
 returns-in-Memory g c = search rules

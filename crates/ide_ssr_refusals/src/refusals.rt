@@ -1,9 +1,7 @@
 //! The refusals of rules, each in its words.
-ghost use Rattle.std.specs.Prelude.{◌≡◌, IfOk, string_bytes};
-ghost use Rattle.ide_ssr_rules.specs.Refusals.{Tells, mark, listed};
+ghost use Rattle.ide_ssr_refusals.specs.Refusals.{Tells};
 
 use crate::error::SsrError;
-use crate::tokens::Name;
 use ssr_syntax_kinds::SyntaxKind;
 use ssr_syntax_lex::LexError;
 use std::alloc::{AllocError, Global};
@@ -33,25 +31,6 @@ impl Model for Fault {
     ghost Value = { List ℕ };
 
     ghost view = { λ fault. error_words fault.0 };
-}
-
-/// Names as a user writes them: `$a, $b`.
-pub(crate) fn listed(alloc: Global, names: &[Name<'_>]) -> Result<String, AllocError>
-    ensures { IfOk result (λ text. string_bytes text ≡ listed names.now) }
-{
-    let mut text = String::new(alloc);
-    for (place, name) in names.iter().enumerate() {
-        text.push_str(mark(place))?;
-        text.push_str(name.text)?;
-    }
-    Ok(text)
-}
-
-/// What stands before the name at this place of a list.
-fn mark(place: usize) -> &'static str
-    ensures { result.now ≡ mark place }
-{
-    if place == 0 { "$" } else { ", $" }
 }
 
 /// Why a rule is refused, with what its words name.
@@ -97,7 +76,7 @@ pub enum Refusal<'a> {
 
 impl fmt::Display for Refusal<'_> {
     ghost use Rattle.std.specs.Prelude.{Some};
-    ghost use Rattle.ide_ssr_rules.specs.Refusals.{words};
+    ghost use Rattle.ide_ssr_refusals.specs.Refusals.{words};
 
     ghost output = { λ refusal. Some (words refusal) };
 

@@ -1,5 +1,5 @@
 use Rattle.std.proofs.Common.{rules}
-use Rattle.ide_ssr_rules.proofs.laws.equality.Goals as goal
+use Rattle.ide_ssr_refusals.proofs.laws.equality.Goals as goal
 
 pub returns : goal.returns
 returns c = search rules

@@ -1,6 +1,6 @@
 //! What holds of the values of this crate.
 ghost use Rattle.std.specs.Prelude.{◌≡◌, ◌↔◌, IsTrue};
-ghost use Rattle.ide_ssr_rules.specs.Refusals.{message_of};
+ghost use Rattle.ide_ssr_refusals.specs.Refusals.{message_of};
 
 use crate::error::SsrError;
 

@@ -1,21 +1,10 @@
 -- Why a rule is refused, and with which words.
-use Rattle.std.specs.Prelude.{ℕ, ◌≡◌, ◌+◌, ◌==◌, if◌then◌else◌, List, [], ◌∷◌, ◌++◌, Option, Some, None, Result, Ok, Err, codes, string_bytes}
+use Rattle.std.specs.Prelude.{ℕ, ◌≡◌, List, ◌++◌, Option, Some, None, Result, Ok, Err, codes, string_bytes}
 use Rattle.ssr_syntax_kinds.specs.Kinds.{name}
-use Rattle.ide_ssr_rules.specs.declared.error.SsrError.{SsrError}
-use Rattle.ide_ssr_rules.specs.declared.error.SsrError.TheVariants as errors
-use Rattle.ide_ssr_rules.specs.declared.refusals.Refusal.TheVariants as r
-pub use Rattle.ide_ssr_rules.specs.declared.refusals.Refusal.{Refusal}
-
--- names as a user writes them: `$a, $b`
-abbrev pub mark : ℕ → List ℕ
-mark place = if place == 0 then codes "$" else codes ", $"
-
-abbrev pub listed_from : ℕ → List (List ℕ) → List ℕ
-listed_from place [] = []
-listed_from place (name ∷ names) = mark place ++ (name ++ listed_from (place + 1) names)
-
-abbrev pub listed : List (List ℕ) → List ℕ
-listed names = listed_from 0 names
+use Rattle.ide_ssr_refusals.specs.declared.error.SsrError.{SsrError}
+use Rattle.ide_ssr_refusals.specs.declared.error.SsrError.TheVariants as errors
+use Rattle.ide_ssr_refusals.specs.declared.refusals.Refusal.TheVariants as r
+pub use Rattle.ide_ssr_refusals.specs.declared.refusals.Refusal.{Refusal}
 
 -- the message
 abbrev pub words : Refusal → List ℕ

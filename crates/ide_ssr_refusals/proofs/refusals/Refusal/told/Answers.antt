@@ -1,5 +1,5 @@
 use Rattle.std.proofs.Common.{rules}
-use Rattle.ide_ssr_rules.proofs.refusals.Refusal.told.Goals as goal
+use Rattle.ide_ssr_refusals.proofs.refusals.Refusal.told.Goals as goal
 
 pub returns-in-Ok : goal.returns-in-Ok
 returns-in-Ok c = search rules

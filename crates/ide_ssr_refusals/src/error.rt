@@ -1,6 +1,6 @@
 //! The error of a rule that is refused.
 ghost use Rattle.std.specs.Prelude.{Some};
-ghost use Rattle.ide_ssr_rules.specs.declared.error.SsrError.TheVariants as errors;
+ghost use Rattle.ide_ssr_refusals.specs.declared.error.SsrError.TheVariants as errors;
 
 use std::alloc::{AllocError, AllocFailed};
 use std::error::Error;
@@ -16,7 +16,7 @@ pub enum SsrError {
 }
 
 impl fmt::Display for SsrError {
-    ghost use Rattle.ide_ssr_rules.specs.Refusals.{shown};
+    ghost use Rattle.ide_ssr_refusals.specs.Refusals.{shown};
 
     ghost output = { λ error. Some (shown error) };
 
