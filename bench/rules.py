@@ -4,10 +4,10 @@
     bench/rules.py [--program FILE]
 
 Builds the program by `rt run` (unless it is given), and runs it on an empty text with one long rule: a pattern of many
-numbers, and one of many placeholders, each of which its template names again. Printed are the rule's length, the least
-processor time of five runs less that of a run with a short rule, and the growth: the exponent of the time between this
-length and the one before, 1.0 being linear. A word of a command has at most 128 KB, and so has the longest rule. Then come
-many short rules in one run.
+calls, about as dense as code is, one of many numbers, where two bytes of three are tokens, and one of many placeholders,
+each of which its template names again. Printed are the rule's length, the least processor time of five runs less that of a
+run with a short rule, and the growth: the exponent of the time between this length and the one before, 1.0 being linear. A
+word of a command has at most 128 KB, and so has the longest rule. Then come many short rules in one run.
 
 Needs python 3 and the command rt. It is no test: nothing here fails on a slow machine.
 """
@@ -20,6 +20,11 @@ from run import build
 
 SIZES = [1_000, 10_000, 100_000]
 COUNTS = [10, 100, 1000]
+
+
+def calls(size):
+    lines = ['    $a%04d.record("entry %04d", %d);\n' % (number, number, number) for number in range(size // 36)]
+    return "{\n%s} ==>> $a0000" % "".join(lines)
 
 
 def numbers(size):
@@ -48,7 +53,7 @@ def main():
     program = options.parse_args().program or build()
     nothing = spent(program, ["1 ==>> 2"])
     print("%-14s %8s %8s %7s" % ("", "bytes", "ms", "growth"))
-    for name, rule in (("numbers", numbers), ("placeholders", placeholders)):
+    for name, rule in (("calls", calls), ("numbers", numbers), ("placeholders", placeholders)):
         last = None
         for size in SIZES:
             text = rule(size)
