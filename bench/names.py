@@ -5,11 +5,11 @@
 
 Fetches and unpacks packages as `lex_debian.py` does, builds the program of `crates/ssr_bench` by `rt run` (unless it is
 given), and takes the first files that lie inside of the language until they have so many megabytes, 1 and 10 if not said.
-They are searched by a provider that tells for each path and method call of theirs a definition by its text: with a rule
-that names no path and matches nothing; with a record, a qualified call and a macro call, each alone, and with all three; and
-with the same rules where placeholders stand in the place of their paths, so that they match whatever is spelled there.
-Then comes a facts file of one text with many macro calls, 1,000 if not said, each with its expansion, that is searched with
-a rule that matches in each of them.
+Of these a facts file is made that tells for each path and method call of theirs a definition by its text, and it is searched:
+with a rule that names no path and matches nothing; with a record, a qualified call and a macro call, each alone, and with all
+three; and with the same rules where placeholders stand in the place of their paths, so that they match whatever is spelled
+there. Then comes a facts file of one text with many macro calls, 1,000 if not said, each with its expansion, that is searched
+with a rule that matches in each of them.
 
 Printed are the processor time of searching alone, as the program tells it, the least of some runs, MB/s, how many matches
 there are, and how many times as long it takes as the rule that matches nothing, and as the same rule without paths.
@@ -28,8 +28,10 @@ from lex_debian import PACKAGES, fetch, unpack
 from run import NOTHING
 from workspace import build, modules
 
-TIMES = re.compile(r"(\d+) files, (\d+) bytes, (\d+) matches\nbuilt in (\d+) ns, searched in (\d+) ns\n")
 FACTS = re.compile(r"(\d+) files, (\d+) bytes of facts\nread in (\d+) ns\n(\d+) matches, searched in (\d+) ns\n")
+
+# what rules can name: two types, a method of the second one, and a macro
+NAMED = ["Range", "Vec", "Vec::push", "assert_eq"]
 
 RECORD = "Range {start: $a, end: $b} ==>> Range {start: $b, end: $a}"
 CALL = "Vec::push($v, $x) ==>> Vec::push($v, ($x))"
@@ -46,10 +48,10 @@ RULES = [
 ]
 
 
-def searched(program, words, names, form):
-    """What the program tells, as numbers."""
-    run = subprocess.run([program, *words], input=names, stdout=subprocess.PIPE, check=True)
-    return [int(number) for number in form.fullmatch(run.stdout.decode()).groups()]
+def searched(program, facts, rules):
+    """How many matches there are in a facts file, and what processor time searching took, in nanoseconds."""
+    run = subprocess.run([program, "--facts", facts, *rules], stdout=subprocess.PIPE, check=True)
+    return [int(number) for number in FACTS.fullmatch(run.stdout.decode()).groups()][3:]
 
 
 def some_files(paths, size):
@@ -60,13 +62,52 @@ def some_files(paths, size):
             break
         taken.append(path)
         size -= os.path.getsize(path)
-    return "".join(path + "\n" for path in taken).encode()
+    return taken
 
 
-def time_one(program, names, repeat, rules):
-    """The bytes, the matches and the least time of some searches."""
-    runs = [searched(program, ["--times", *rules], names, TIMES) for _ in range(repeat)]
-    return runs[0][1], runs[0][2], min(run[4] for run in runs)
+def rows(program, paths, texts):
+    """The rows of facts that files ask for, by the kinds of nodes."""
+    run = subprocess.run([program, "--asked"], input="".join(path + "\n" for path in paths).encode(), stdout=subprocess.PIPE, check=True)
+    told = {"paths": [], "types": [], "methods": []}
+    for line in run.stdout.decode().splitlines():
+        kind, file, start, end, *method = line.split(" ")
+        place = [int(file), int(start), int(end)]
+        if kind == "PATH":
+            told["paths"].append([*place, ["def", number_of(texts[place[0]][place[1] : place[2]].decode())]])
+        elif kind == "PATH_EXPR":
+            told["types"].append([*place, [NAMED.index("Vec")]])
+        else:
+            told["methods"].append([*place, number_of("Vec::" + method[0]), "mut"])
+    return told
+
+
+def number_of(name):
+    """The definition of that name, or the one that all other paths and methods stand for."""
+    return NAMED.index(name) if name in NAMED else len(NAMED)
+
+
+def facts(program, paths, folder):
+    """A facts file of the files, and how many bytes these have."""
+    texts = [open(path, "rb").read() for path in paths]
+    method = {"kind": "function", "assoc": True, "self": True}
+    whole = {
+        "files": [{"name": path, "text": text.decode()} for path, text in zip(paths, texts)],
+        "defs": [{"kind": "adt", "type": 0}, {"kind": "adt", "type": 1}, method, {"kind": "macro"}, {"kind": "function"}],
+        "scopes": [[number, 0, len(text)] for number, text in enumerate(texts)],
+        "names": [[0, name.split("::"), ["def", number]] for number, name in enumerate(NAMED)],
+        "printed": [[scope, number, name] for scope in range(len(texts)) for number, name in enumerate(NAMED)],
+        **rows(program, paths, texts),
+    }
+    path = os.path.join(folder, "facts.json")
+    with open(path, "w") as file:
+        json.dump(whole, file)
+    return path, sum(len(text) for text in texts)
+
+
+def time_one(program, path, repeat, rules):
+    """The matches and the least time of some searches."""
+    runs = [searched(program, path, rules) for _ in range(repeat)]
+    return runs[0][0], min(time for _, time in runs)
 
 
 def told(name, size, matches, time, *times):
@@ -74,14 +115,14 @@ def told(name, size, matches, time, *times):
     print("%-24s %10d %8d %10.2f %8.1f" % (name, size, matches, time / 1e6, 1000 * size / time), *["%9.2f" % it for it in times], flush=True)
 
 
-def time_rules(program, names, repeat):
-    """Lines for each of the rules on these files."""
-    size, matches, nothing = time_one(program, names, repeat, [NOTHING])
+def time_rules(program, path, size, repeat):
+    """Lines for each of the rules on these facts."""
+    matches, nothing = time_one(program, path, repeat, [NOTHING])
     told("nothing matches", size, matches, nothing)
     for name, rules, others in RULES:
-        size, matches, alone = time_one(program, names, repeat, others)
+        matches, alone = time_one(program, path, repeat, others)
         told(name + ", no path", size, matches, alone, alone / nothing)
-        size, matches, time = time_one(program, names, repeat, rules)
+        matches, time = time_one(program, path, repeat, rules)
         told(name, size, matches, time, time / nothing, time / alone)
 
 
@@ -111,8 +152,7 @@ def time_expansions(program, count, folder, repeat):
         json.dump(expanded(count), file)
     alone = None
     for name, rule in (("no match", NOTHING), ("a sum in each", "$a + $b ==>> $b + $a")):
-        runs = [searched(program, ["--facts", path, rule], b"", FACTS) for _ in range(repeat)]
-        matches, time = runs[0][3], min(run[4] for run in runs)
+        matches, time = time_one(program, path, repeat, [rule])
         alone = alone or time
         print("%-16s %10d %8d %10.2f %8s %7.2f" % (name, count, matches, time / 1e6, "", time / alone), flush=True)
 
@@ -134,7 +174,8 @@ def main():
         paths, _ = modules(program, files, len(files), folder)
         print("%-24s %10s %8s %10s %8s %9s %9s" % ("rules", "bytes", "matches", "search ms", "MB/s", "nothing", "no path"))
         for megabytes in options.megabytes:
-            time_rules(program, some_files(paths, 1e6 * megabytes), options.repeat)
+            path, size = facts(program, some_files(paths, 1e6 * megabytes), folder)
+            time_rules(program, path, size, options.repeat)
         print("%-16s %10s %8s %10s %8s %7s" % ("rule", "expansions", "matches", "search ms", "", "times"))
         time_expansions(program, options.expansions, folder, options.repeat)
 

@@ -1,18 +1,20 @@
 //! A program for measuring alone: it builds a workspace of files and searches it, or reads a facts file.
 //!
-//! Standard input names the files, one a line, and the words of the command are rules. It tells how many files, bytes and
-//! outermost matches there are, and behind a first word `--times`, which is no rule, also the processor time that building
-//! and searching took, in nanoseconds.
+//! Standard input names the files, one a line, and the words of the command are rules without paths. It tells how many files,
+//! bytes and outermost matches there are, and behind a first word `--times`, which is no rule, also the processor time that
+//! building and searching took, in nanoseconds.
 //!
-//! Rules may name the paths `Range`, `Vec`, `Vec::push` and `assert_eq`, which stand for what files spell so.
+//! With the word `--asked` it tells which nodes of the files a provider is asked about.
 //!
 //! With the words `--facts` and a path it reads that facts file, and tells how many files and bytes it has and what
 //! processor time reading it took; further words are rules, for which it is searched, as it stands.
 #![tactic(auto)]
 
-mod names;
+mod asked;
+mod scopes;
 
-use crate::names::semantics;
+use crate::asked::write_asked;
+use crate::scopes::semantics;
 use anyhow::Result;
 use ide_ssr::{MatchFinder, SsrRule};
 use ssr_base::Workspace;
@@ -29,8 +31,23 @@ fn main(rt: HostRuntime) -> Result<()> {
             Some((path, rules)) => time_facts(&rt, path.as_str(), rules),
             None => time_search(&rt, &words),
         },
+        Some((first, _)) if first.as_str() == "--asked" => tell_asked(&rt),
         _ => time_search(&rt, &words),
     }
+}
+
+/// Tells which nodes of the files a provider is asked about.
+fn tell_asked(rt: &HostRuntime) -> Result<()> {
+    let alloc = rt.alloc();
+    let workspace = Workspace::build(alloc, texts(rt)?, Vec::new(alloc))?;
+    for number in 0..workspace.file_count() {
+        if let Some(tree) = workspace.tree(number) {
+            let mut lines = String::new(alloc);
+            write_asked(&mut lines, tree, number)?;
+            print!(rt; "{lines}")?;
+        }
+    }
+    Ok(())
 }
 
 /// Reads a facts file, and searches what it tells of.

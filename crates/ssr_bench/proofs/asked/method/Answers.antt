@@ -3,7 +3,7 @@ use Rattle.std.proofs.lemmas.List.Elements.{All-tail}
 use Rattle.std.specs.List.{All}
 use Rattle.ssr_syntax_tree.specs.Places.{HasElement}
 use Rattle.ssr_syntax_tree.proofs.Shared.{elements_had}
-use Rattle.ssr_bench.proofs.names.calls.Goals as goal
+use Rattle.ssr_bench.proofs.asked.method.Goals as goal
 
 pub loop-child-init : goal.loop-child-init
 loop-child-init c =

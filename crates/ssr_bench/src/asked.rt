@@ -1,0 +1,57 @@
+//! Which nodes of a file a provider is asked about.
+
+ghost use Rattle.ssr_syntax_tree.specs.Places.{HasNode, HasElement};
+
+use ssr_syntax_kinds::SyntaxKind;
+use ssr_syntax_tree::{Element, NodeNo, Tree};
+use std::alloc::AllocError;
+use std::fmt::Write;
+
+/// The text of a child that is a name.
+fn name(tree: &Tree, child: Element) -> Option<&str>
+    requires { HasElement tree.now child }
+{
+    match child {
+        Element::Node(child) => {
+            if tree.kind(child).is(SyntaxKind::NAME_REF) {
+                Some(tree.text(child))
+            } else {
+                None
+            }
+        }
+        Element::Token(_) => None,
+    }
+}
+
+/// The name of the method that a method call calls.
+fn method(tree: &Tree, call: NodeNo) -> &str
+    requires { HasNode tree.now call.0 }
+{
+    for child in tree.children(call) {
+        if let Some(name) = name(tree, child) {
+            return name;
+        }
+    }
+    ""
+}
+
+/// A line for each path, each expression that is one and each method call: the name of its kind, the number of the file, its
+/// range, and what the method is called.
+pub(crate) fn write_asked(out: &mut String, tree: &Tree, file: u32) -> Result<(), AllocError> {
+    for number in 0..tree.node_count() {
+        let node = NodeNo(number);
+        let (kind, range) = (tree.kind(node), tree.range(node));
+        let (name, start, end) = (kind.name(), range.start(), range.end());
+        match kind {
+            SyntaxKind::PATH | SyntaxKind::PATH_EXPR => {
+                writeln!(out, "{name} {file} {start} {end}")?;
+            }
+            SyntaxKind::METHOD_CALL_EXPR => {
+                let method = method(tree, node);
+                writeln!(out, "{name} {file} {start} {end} {method}")?;
+            }
+            _ => {}
+        }
+    }
+    Ok(())
+}
