@@ -1,38 +1,21 @@
 //! Which nodes of a file a provider is asked about.
 
-ghost use Rattle.ssr_syntax_tree.specs.Places.{HasNode, HasElement};
+ghost use Rattle.ssr_syntax_tree.specs.Places.{HasNode};
 
+use ide_ssr_resolving::first_child;
 use ssr_syntax_kinds::SyntaxKind;
-use ssr_syntax_tree::{Element, NodeNo, Tree};
+use ssr_syntax_tree::{NodeNo, Tree};
 use std::alloc::AllocError;
 use std::fmt::Write;
-
-/// The text of a child that is a name.
-fn name(tree: &Tree, child: Element) -> Option<&str>
-    requires { HasElement tree.now child }
-{
-    match child {
-        Element::Node(child) => {
-            if tree.kind(child).is(SyntaxKind::NAME_REF) {
-                Some(tree.text(child))
-            } else {
-                None
-            }
-        }
-        Element::Token(_) => None,
-    }
-}
 
 /// The name of the method that a method call calls.
 fn method(tree: &Tree, call: NodeNo) -> &str
     requires { HasNode tree.now call.0 }
 {
-    for child in tree.children(call) {
-        if let Some(name) = name(tree, child) {
-            return name;
-        }
+    match first_child(tree, call, SyntaxKind::NAME_REF) {
+        Some(name) => tree.text(name),
+        None => "",
     }
-    ""
 }
 
 /// A line for each path, each expression that is one and each method call: the name of its kind, the number of the file, its
