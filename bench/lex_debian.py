@@ -108,10 +108,15 @@ def unpack(folder, packages, source):
     return sorted(path for path in files if os.path.isfile(path) and not os.path.islink(path))
 
 
+def lines_of(words, files):
+    """The lines that a command writes, which is given the files, a line each."""
+    given = "".join(path + "\n" for path in files)
+    return subprocess.run(words, input=given, stdout=subprocess.PIPE, text=True, check=True).stdout.splitlines()
+
+
 def lexed(program, files):
     """What the program says of each file."""
-    given = "".join(path + "\n" for path in files)
-    lines = subprocess.run([program], input=given, stdout=subprocess.PIPE, text=True, check=True).stdout.splitlines()
+    lines = lines_of([program], files)
     if len(lines) != len(files):
         sys.exit("%d lines for %d files" % (len(lines), len(files)))
     return lines

@@ -24,11 +24,11 @@ import re
 import subprocess
 import tempfile
 
-from lex_debian import PACKAGES, fetch, unpack
+from lex_debian import PACKAGES, fetch, lines_of, unpack
 from run import NOTHING
 from workspace import build, modules
 
-FACTS = re.compile(r"(\d+) files, (\d+) bytes of facts\nread in (\d+) ns\n(\d+) matches, searched in (\d+) ns\n")
+FACTS = re.compile(r"\d+ files, \d+ bytes of facts\nread in \d+ ns\n(\d+) matches, searched in (\d+) ns\n")
 
 # what rules can name: two types, a method of the second one, and a macro
 NAMED = ["Range", "Vec", "Vec::push", "assert_eq"]
@@ -51,7 +51,7 @@ RULES = [
 def searched(program, facts, rules):
     """How many matches there are in a facts file, and what processor time searching took, in nanoseconds."""
     run = subprocess.run([program, "--facts", facts, *rules], stdout=subprocess.PIPE, check=True)
-    return [int(number) for number in FACTS.fullmatch(run.stdout.decode()).groups()][3:]
+    return [int(number) for number in FACTS.fullmatch(run.stdout.decode()).groups()]
 
 
 def some_files(paths, size):
@@ -67,9 +67,8 @@ def some_files(paths, size):
 
 def rows(program, paths, texts):
     """The rows of facts that files ask for, by the kinds of nodes."""
-    run = subprocess.run([program, "--asked"], input="".join(path + "\n" for path in paths).encode(), stdout=subprocess.PIPE, check=True)
     told = {"paths": [], "types": [], "methods": []}
-    for line in run.stdout.decode().splitlines():
+    for line in lines_of([program, "--asked"], paths):
         kind, file, start, end, *method = line.split(" ")
         place = [int(file), int(start), int(end)]
         if kind == "PATH":
@@ -86,11 +85,10 @@ def number_of(name):
     return NAMED.index(name) if name in NAMED else len(NAMED)
 
 
-def facts(program, paths, folder):
-    """A facts file of the files, and how many bytes these have."""
-    texts = [open(path, "rb").read() for path in paths]
+def facts(program, paths, texts):
+    """Facts of the files, which have these texts."""
     method = {"kind": "function", "assoc": True, "self": True}
-    whole = {
+    return {
         "files": [{"name": path, "text": text.decode()} for path, text in zip(paths, texts)],
         "defs": [{"kind": "adt", "type": 0}, {"kind": "adt", "type": 1}, method, {"kind": "macro"}, {"kind": "function"}],
         "scopes": [[number, 0, len(text)] for number, text in enumerate(texts)],
@@ -98,10 +96,20 @@ def facts(program, paths, folder):
         "printed": [[scope, number, name] for scope in range(len(texts)) for number, name in enumerate(NAMED)],
         **rows(program, paths, texts),
     }
+
+
+def text_of(path):
+    """The bytes of a file."""
+    with open(path, "rb") as file:
+        return file.read()
+
+
+def written(facts, folder):
+    """The path of a file with these facts."""
     path = os.path.join(folder, "facts.json")
     with open(path, "w") as file:
-        json.dump(whole, file)
-    return path, sum(len(text) for text in texts)
+        json.dump(facts, file)
+    return path
 
 
 def time_one(program, path, repeat, rules):
@@ -147,9 +155,7 @@ def expanded(count):
 
 def time_expansions(program, count, folder, repeat):
     """Lines for a rule that matches nothing and for one that matches in each expansion."""
-    path = os.path.join(folder, "expanded.json")
-    with open(path, "w") as file:
-        json.dump(expanded(count), file)
+    path = written(expanded(count), folder)
     alone = None
     for name, rule in (("no match", NOTHING), ("a sum in each", "$a + $b ==>> $b + $a")):
         matches, time = time_one(program, path, repeat, [rule])
@@ -174,8 +180,10 @@ def main():
         paths, _ = modules(program, files, len(files), folder)
         print("%-24s %10s %8s %10s %8s %9s %9s" % ("rules", "bytes", "matches", "search ms", "MB/s", "nothing", "no path"))
         for megabytes in options.megabytes:
-            path, size = facts(program, some_files(paths, 1e6 * megabytes), folder)
-            time_rules(program, path, size, options.repeat)
+            taken = some_files(paths, 1e6 * megabytes)
+            texts = [text_of(path) for path in taken]
+            path = written(facts(program, taken, texts), folder)
+            time_rules(program, path, sum(len(text) for text in texts), options.repeat)
         print("%-16s %10s %8s %10s %8s %7s" % ("rule", "expansions", "matches", "search ms", "", "times"))
         time_expansions(program, options.expansions, folder, options.repeat)
 
