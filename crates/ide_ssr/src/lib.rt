@@ -12,8 +12,8 @@ mod shown;
 mod starts;
 
 pub use finder::MatchFinder;
-pub use ide_ssr_matching::PatternIterator;
 pub use ide_ssr_refusals::SsrError;
 pub use ide_ssr_rewriting::EditError;
 pub use ide_ssr_rules::{SsrPattern, SsrRule, Var};
+pub use ide_ssr_token_trees::PatternIterator;
 pub use matches::{Match, PlaceholderMatch, SsrMatches};

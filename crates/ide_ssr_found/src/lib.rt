@@ -3,6 +3,8 @@
 
 mod bindings;
 mod found;
+mod receivers;
 
 pub use bindings::{Binding, Held};
 pub use found::Found;
+pub use receivers::Receiver;

@@ -34,8 +34,9 @@ use Rattle.ide_ssr_token_trees.proofs.Shared.{trees_bound}
 use Rattle.ide_ssr_matching.specs.TokenTrees.{is_tree, token_placeholder, has_token_placeholder, is_by_parts}
 use Rattle.ide_ssr_matching.specs.Matching.{Matches, bound, token_trees, method, used, alike, Pairs, end, tokens, nodes, named}
 use Rattle.ide_ssr_matching.specs.Bindings.{counted}
-use Rattle.ide_ssr_matching.specs.declared.receivers.Receiver.{Receiver}
-use Rattle.ide_ssr_matching.specs.Sides.{Sides, is_node, received, kept}
+use Rattle.ide_ssr_found.specs.declared.receivers.Receiver.{Receiver}
+use Rattle.ide_ssr_found.specs.Receivers.{is_node, received}
+use Rattle.ide_ssr_matching.specs.Sides.{Sides, kept}
 use Rattle.ide_ssr_matching.specs.Calls.{nodes_among, child_nodes, Called}
 use Rattle.ide_ssr_matching.proofs.CallParts.{nodes_all, IsCalled, method_match, callee_used}
 use Rattle.ide_ssr_matching.proofs.Counted.{bare_all, first_has, counted_all, last_arguments_all}

@@ -14,7 +14,7 @@ use Rattle.ssr_base.specs.Workspace.{node_id}
 use Rattle.ide_ssr_resolving.specs.declared.qualified_calls.QualifiedCall.{QualifiedCall}
 use Rattle.ide_ssr_resolving.specs.Paths.{first_of_kind}
 use Rattle.ide_ssr_resolving.specs.Resolved.{ResolvedKind}
-use Rattle.ide_ssr_matching.specs.declared.receivers.Receiver.{Receiver}
+use Rattle.ide_ssr_found.specs.declared.receivers.Receiver.{Receiver}
 use Rattle.ide_ssr_matching.specs.Children.{bare}
 use Rattle.ide_ssr_matching.specs.UsedPaths.{arguments_of, pattern_res}
 use Rattle.ide_ssr_matching.specs.Sides.{Sides}

@@ -19,8 +19,9 @@ use Rattle.ide_ssr_token_trees.specs.TokenTrees.{TreesMatch}
 use Rattle.ide_ssr_token_trees.proofs.Shared.{trees_held, trees_behind}
 use Rattle.ide_ssr_matching.specs.TokenTrees.{token_placeholder}
 use Rattle.ide_ssr_matching.specs.UsedPaths.{arguments_of}
-use Rattle.ide_ssr_matching.specs.declared.receivers.Receiver.{Receiver}
-use Rattle.ide_ssr_matching.specs.Sides.{is_node, received, kept}
+use Rattle.ide_ssr_found.specs.declared.receivers.Receiver.{Receiver}
+use Rattle.ide_ssr_found.specs.Receivers.{is_node, received}
+use Rattle.ide_ssr_matching.specs.Sides.{kept}
 use Rattle.ide_ssr_matching.specs.Matching.{Matches, bound, token_trees, method, used, alike, Pairs, end, tokens, nodes, named}
 use Rattle.ide_ssr_matching.specs.Calls.{child_nodes}
 use Rattle.ide_ssr_matching.proofs.CallNodes.{method_sides_are}

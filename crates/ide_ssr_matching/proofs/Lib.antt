@@ -1,5 +1,4 @@
 pub mod Shared
-mod Solid
 mod Bare
 mod Same
 mod Counted

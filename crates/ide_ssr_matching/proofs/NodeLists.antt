@@ -19,7 +19,7 @@ use Rattle.ide_ssr_resolving.specs.declared.qualified_calls.QualifiedCall.{Quali
 use Rattle.ide_ssr_resolving.specs.Resolved.{ResolvedKind}
 use Rattle.ide_ssr_matching.specs.declared.calls.CalledNodes.{CalledNodes}
 use Rattle.ide_ssr_matching.specs.declared.calls.MethodNodes.{MethodNodes}
-use Rattle.ide_ssr_matching.specs.declared.receivers.Receiver.{Receiver}
+use Rattle.ide_ssr_found.specs.declared.receivers.Receiver.{Receiver}
 use Rattle.ide_ssr_matching.specs.Calls.{nodes_among, child_nodes, first_node, arguments_among, Called, called, method_call, method_parts, calls_same, derefs, receiver_by, receiver_with, alike_pairs, method_with, method_sides, takes_first, can_be_call}
 use Rattle.ide_ssr_matching.specs.UsedPaths.{pattern_res}
 use Rattle.ide_ssr_matching.specs.Private.Calls.{nodes_named, nodes_at, IsNodeBelow, called_at, AreCalledBelow, method_at, IsMethodBelow}

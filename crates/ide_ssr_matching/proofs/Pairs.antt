@@ -31,7 +31,8 @@ use Rattle.ide_ssr_matching.specs.declared.calls.MethodSides.{MethodSides}
 use Rattle.ide_ssr_matching.specs.Children.{bare}
 use Rattle.ide_ssr_matching.specs.TokenTrees.{is_tree, tree_by, is_plain, is_by_parts}
 use Rattle.ide_ssr_matching.specs.UsedPaths.{arguments_of, pattern_res}
-use Rattle.ide_ssr_matching.specs.Sides.{Sides, received, kept}
+use Rattle.ide_ssr_found.specs.Receivers.{received}
+use Rattle.ide_ssr_matching.specs.Sides.{Sides, kept}
 use Rattle.ide_ssr_matching.specs.Calls.{method_sides, can_be_call, child_nodes}
 use Rattle.ide_ssr_token_trees.specs.Bindings.{joined}
 use Rattle.ide_ssr_matching.specs.Bindings.{Binder, pair_by, pairs_by, placeholder_by, stands_for, counted, counted_sides, counted_by, can_match, like_sides, sides_in, sides_by, sides_of, other_by, node_by, bindings_of, like_pairs}

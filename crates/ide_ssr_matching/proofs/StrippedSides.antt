@@ -15,7 +15,7 @@ use Rattle.ssr_base.specs.Meanings.{Meanings, same_res}
 use Rattle.ssr_base.specs.Workspace.{node_id}
 use Rattle.ide_ssr_resolving.specs.declared.qualified_calls.QualifiedCall.{QualifiedCall}
 use Rattle.ide_ssr_resolving.specs.Resolved.{ResolvedKind}
-use Rattle.ide_ssr_matching.specs.declared.receivers.Receiver.{Receiver}
+use Rattle.ide_ssr_found.specs.declared.receivers.Receiver.{Receiver}
 use Rattle.ide_ssr_matching.specs.Bindings.{stands_for, counted_sides, can_match, like_pairs, like_sides, sides_in, sides_of}
 use Rattle.ide_ssr_matching.specs.Calls.{child_nodes, arguments_among, Method, method_call, Called, called, call_of, same_type, derefs, calls_same, method_parts, alike_pairs, receiver_with, method_with, method_sides, takes_first, can_be_call}
 use Rattle.ide_ssr_matching.specs.Children.{bare}

@@ -18,10 +18,11 @@ use Rattle.ide_ssr_found.specs.Found.{node_binding}
 use Rattle.ide_ssr_token_trees.specs.Bindings.{joined, tree_bindings}
 use Rattle.ide_ssr_token_trees.specs.Numbers.{held_later, bound_later}
 use Rattle.ide_ssr_token_trees.proofs.Shared.{bindings_later}
-use Rattle.ide_ssr_matching.specs.declared.receivers.Receiver.{Receiver}
+use Rattle.ide_ssr_found.specs.declared.receivers.Receiver.{Receiver}
 use Rattle.ide_ssr_matching.specs.Bindings.{Binder, pair_by, pairs_by, sides_by, sides_of, other_by, node_by, step, bindings_by, bindings_of}
 use Rattle.ide_ssr_matching.specs.Matching.{Matches}
-use Rattle.ide_ssr_matching.specs.Sides.{Sides, is_node, received, kept}
+use Rattle.ide_ssr_found.specs.Receivers.{is_node, received}
+use Rattle.ide_ssr_matching.specs.Sides.{Sides, kept}
 use Rattle.ide_ssr_matching.specs.TokenTrees.{is_tree, token_placeholder, tree_by, is_plain}
 use Rattle.ide_ssr_matching.specs.Trivia.{stripped_below, stripped_tree, AreToldAlike, held_anywhere, bound_anywhere, BindAlike}
 use Rattle.ide_ssr_matching.proofs.Agreement.{bindings_of-Matches, Matches-bindings_of}

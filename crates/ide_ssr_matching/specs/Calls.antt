@@ -18,7 +18,7 @@ use Rattle.ide_ssr_resolving.specs.QualifiedCalls.{call_at}
 use Rattle.ide_ssr_resolving.specs.Resolved.{ResolvedKind}
 use Rattle.ide_ssr_matching.specs.Children.{bare}
 use Rattle.ide_ssr_matching.specs.UsedPaths.{arguments_of, pattern_res}
-use Rattle.ide_ssr_matching.specs.declared.receivers.Receiver.{Receiver}
+use Rattle.ide_ssr_found.specs.declared.receivers.Receiver.{Receiver}
 use Rattle.ide_ssr_matching.specs.Sides.{Sides}
 
 -- ** How calls are put together.

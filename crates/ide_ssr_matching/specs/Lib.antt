@@ -1,4 +1,3 @@
-pub mod PatternIterator
 pub mod Children
 pub mod UsedPaths
 pub mod Sides

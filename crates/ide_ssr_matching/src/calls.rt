@@ -10,7 +10,7 @@ ghost use Rattle.ide_ssr_matching.specs.UsedPaths.{pattern_res};
 ghost use Rattle.ide_ssr_matching.specs.Private.Children.{IsBelow};
 
 use crate::children::bare_arguments;
-use crate::receivers::Receiver;
+use ide_ssr_found::Receiver;
 use ide_ssr_resolving::{QualifiedCall, ResolvedRule, first_child, last_segment};
 use ssr_base::{NodeId, Res, Semantics, TypeId};
 use ssr_syntax_kinds::SyntaxKind;

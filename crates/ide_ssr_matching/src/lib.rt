@@ -5,10 +5,7 @@ mod calls;
 mod children;
 pub mod laws;
 mod matching;
-mod pattern_iterator;
-mod receivers;
 mod records;
 mod token_trees;
 
 pub use matching::match_node;
-pub use pattern_iterator::PatternIterator;

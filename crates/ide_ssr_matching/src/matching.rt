@@ -7,16 +7,15 @@ ghost use Rattle.ssr_base.specs.Workspace.{node_id};
 ghost use Rattle.ide_ssr_matching.specs.Bindings.{placeholder_by, stands_for, pair_by, pairs_by, counted_by, can_match, like_sides, sides_of, sides_by, bindings_of, like_pairs};
 ghost use Rattle.ide_ssr_matching.specs.Calls.{method_sides};
 ghost use Rattle.ide_ssr_matching.specs.Records.{named_nodes, named_pairs};
-ghost use Rattle.ide_ssr_matching.specs.Sides.{received};
+ghost use Rattle.ide_ssr_found.specs.Receivers.{received};
 ghost use Rattle.ide_ssr_token_trees.specs.Bindings.{Answers};
 ghost use Rattle.ide_ssr_matching.specs.Private.Records.{AreNamedLists};
 
 use crate::calls::{can_be_call, method_sides};
 use crate::children::Siblings;
-use crate::receivers::Receiver;
 use crate::records::{NamedLists, elements_of};
 use crate::token_trees::{is_plain, is_tree, tree_matches};
-use ide_ssr_found::Binding;
+use ide_ssr_found::{Binding, Receiver};
 use ide_ssr_resolving::{QualifiedCall, ResolvedRule};
 use ide_ssr_token_trees::tokens_match;
 use ssr_base::{NodeId, Res, Semantics};

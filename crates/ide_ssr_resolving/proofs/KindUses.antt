@@ -5,7 +5,7 @@ use Rattle.ssr_syntax_tree.specs.declared.number.NodeNo.{NodeNo}
 use Rattle.ssr_syntax_tree.specs.Syntax.{Syntax}
 use Rattle.ssr_base.specs.declared.ids.ScopeId.{ScopeId}
 use Rattle.ssr_base.specs.Meanings.{Meanings}
-use Rattle.ide_ssr_rules.specs.declared.constraints.Constraint.{Constraint}
+use Rattle.ide_ssr_constraints.specs.declared.constraints.Constraint.{Constraint}
 use Rattle.ide_ssr_rules.specs.declared.kinds.ParsedRule.{ParsedRule}
 use Rattle.ide_ssr_rules.specs.Patterns.{HasEachAtMostOnce, AreReadOnce}
 use Rattle.ide_ssr_refusals.specs.declared.refusals.Refusal.{Refusal}

@@ -18,9 +18,10 @@ use crate::eligible::eligible_paths;
 use crate::placeholders::{placeholders, token_placeholders};
 use crate::qualified_calls::{QualifiedCall, call_at, qualified_calls};
 use crate::used::{Unresolved, UsedPath, res_by_node, walked};
+use ide_ssr_constraints::ConstraintSet;
 use ide_ssr_refusals::{Refusal, SsrError, Text};
 use ide_ssr_rules::{
-    ConstraintSet, Names, ParsedKinds, ParsedRule, SsrPattern, SsrRule, pattern_kinds, rule_kinds,
+    Names, ParsedKinds, ParsedRule, SsrPattern, SsrRule, pattern_kinds, rule_kinds,
 };
 use ssr_base::{Res, ScopeId, Semantics};
 use ssr_syntax::Fragment;

@@ -4,8 +4,9 @@ use Rattle.ssr_syntax_kinds.specs.declared.kinds.SyntaxKind.{SyntaxKind}
 use Rattle.ssr_syntax_kinds.specs.declared.kinds.SyntaxKind.TheVariants as k
 use Rattle.ssr_syntax.specs.Identifiers.{is_ident}
 use Rattle.ssr_syntax_tree.specs.Syntax.{Token}
-use Rattle.ide_ssr_rules.specs.declared.constraints.Constraint.{Constraint}
-use Rattle.ide_ssr_rules.specs.declared.constraints.Constraint.TheVariants as c
+use Rattle.ide_ssr_constraints.specs.declared.constraints.Constraint.{Constraint}
+use Rattle.ide_ssr_constraints.specs.declared.constraints.Constraint.TheVariants as c
+use Rattle.ide_ssr_constraints.specs.Constraints.{contrary}
 use Rattle.ide_ssr_refusals.specs.declared.refusals.Refusal.TheVariants as r
 use Rattle.ide_ssr_refusals.specs.declared.refusals.Refusal.{Refusal}
 use Rattle.ide_ssr_refusals.specs.Refusals.{◌>>=◌}
@@ -42,11 +43,6 @@ on_kind tokens = do
   name ← kind_name inside
   behind ← bracket (codes ")") name.1
   constraint_on name.0 behind
-
--- what holds where a constraint doesn't
-abbrev pub contrary : Constraint → Constraint
-contrary c.Literal = c.NoLiteral
-contrary c.NoLiteral = c.Literal
 
 -- behind a constraint's word: which of the two forms follows
 abbrev pub by_word : List ℕ → Taken Constraint → Taken Constraint → Taken Constraint

@@ -9,7 +9,7 @@ use Rattle.ssr_syntax_lex.specs.Fault.{error_words}
 use Rattle.ssr_syntax_lex.specs.Tokens.{tokens, fault}
 use Rattle.ssr_syntax.specs.Reading.{pieces}
 use Rattle.ssr_syntax_tree.specs.Syntax.{Token}
-use Rattle.ide_ssr_rules.specs.declared.constraints.Constraint.{Constraint}
+use Rattle.ide_ssr_constraints.specs.declared.constraints.Constraint.{Constraint}
 use Rattle.ide_ssr_rules.specs.declared.elements.Element.{Element}
 use Rattle.ide_ssr_rules.specs.declared.elements.Element.TheVariants as e
 use Rattle.ide_ssr_refusals.specs.declared.refusals.Refusal.TheVariants as r

@@ -1,7 +1,6 @@
 pub mod Listed
 pub mod Sides
 pub mod Constraints
-pub mod Meeting
 pub mod Elements
 pub mod StandIns
 pub mod MacroCalls

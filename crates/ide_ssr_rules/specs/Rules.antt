@@ -5,8 +5,8 @@ use Rattle.std.specs.List.{filter, list_any}
 use Rattle.std.specs.Option.{option_map}
 use Rattle.std.specs.Coded.{Coded, code_by, coded×, coded_list, coded_ℕ}
 use Rattle.std.specs.Str.{trim}
-use Rattle.ide_ssr_rules.specs.contracts.constraints.Constraint as constraint
-use Rattle.ide_ssr_rules.specs.declared.constraints.Constraint.{Constraint}
+use Rattle.ide_ssr_constraints.specs.contracts.constraints.Constraint as constraint
+use Rattle.ide_ssr_constraints.specs.declared.constraints.Constraint.{Constraint}
 use Rattle.ide_ssr_rules.specs.declared.elements.Element.{Element}
 use Rattle.ide_ssr_rules.specs.declared.kinds.ParsedRule.{ParsedRule}
 use Rattle.ide_ssr_refusals.specs.declared.refusals.Refusal.TheVariants as r

@@ -1,27 +1,16 @@
 //! Placeholders as they are written: `$name`, or `${name:constraint}` with any number of constraints.
-ghost use Rattle.std.specs.Prelude.{◌≡◌, IfOk, bytes_eq, not};
-ghost use Rattle.ide_ssr_rules.specs.Constraints.{bracket, kind_name, on_kind, contrary, constraint, constraints, braced, placeholder};
-ghost use Rattle.ide_ssr_rules.specs.Meeting.{holds_at};
+ghost use Rattle.std.specs.Prelude.{◌≡◌, IfOk, bytes_eq};
+ghost use Rattle.ide_ssr_rules.specs.Constraints.{bracket, kind_name, on_kind, constraint, constraints, braced, placeholder};
 ghost use Rattle.ide_ssr_refusals.specs.Refusals.{AnswersBy};
-ghost use Rattle.ssr_syntax_kinds.specs.declared.kinds.SyntaxKind.{SyntaxKind as Kind};
 
-use crate::meeting::ConstraintSet;
 use crate::tokens::{Name, Tokens};
+use ide_ssr_constraints::{Constraint, ConstraintSet};
 use ide_ssr_refusals::{Refusal, SsrError, Text};
 use std::alloc::{AllocError, Global};
 use std::marker::Model;
 
 /// How many `not`s may stand inside one another.
 const MOST_NOTS: u32 = 128;
-
-/// What a placeholder asks of the node that it stands for. A `not` turns one into the other.
-#[derive(Clone, Copy)]
-pub enum Constraint {
-    /// It is a literal.
-    Literal,
-    /// It is none.
-    NoLiteral,
-}
 
 /// A placeholder of a side.
 #[derive(Drop)]
@@ -58,19 +47,6 @@ impl<'a> Placeholder<'a> {
         ensures { result ≡ asks self.now.constraints }
     {
         !self.constraints.is_empty()
-    }
-}
-
-impl Constraint {
-    /// What holds where the constraint doesn't.
-    fn contrary(self) -> Constraint
-        ensures value { result ≡ contrary self }
-        ensures opposite { (kind : Kind) → holds_at kind result ≡ not (holds_at kind self) }
-    {
-        match self {
-            Constraint::Literal => Constraint::NoLiteral,
-            Constraint::NoLiteral => Constraint::Literal,
-        }
     }
 }
 

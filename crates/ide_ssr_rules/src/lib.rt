@@ -6,7 +6,6 @@ mod elements;
 mod kinds;
 mod listed;
 mod macro_calls;
-mod meeting;
 mod names;
 mod rules;
 mod sides;
@@ -14,9 +13,7 @@ mod stand_ins;
 mod tokens;
 mod var;
 
-pub use constraints::Constraint;
 pub use kinds::ParsedRule;
-pub use meeting::ConstraintSet;
 pub use names::Names;
 pub use rules::{ParsedKinds, SsrPattern, SsrRule, pattern_kinds, rule_kinds};
 pub use var::Var;

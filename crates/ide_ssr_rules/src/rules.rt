@@ -1,7 +1,7 @@
 //! Rules and search patterns, read from their texts.
 ghost use Rattle.std.specs.Prelude.{◌≡◌, ◌<◌, ◌^◌, ◌++◌, ℕ, List, [], length, map, string_bytes, All, IfOk, IfSome};
 ghost use Rattle.std.specs.List.{list_any};
-ghost use Rattle.std.specs.Option.{option_copied, option_map};
+ghost use Rattle.std.specs.Option.{option_copied};
 ghost use Rattle.std.specs.Str.{trim};
 ghost use Rattle.ssr_syntax.specs.Reading.{IsLexFault};
 ghost use Rattle.ide_ssr_rules.specs.Elements.{names_of, constraints_of, is_constrained};
@@ -17,11 +17,11 @@ use crate::elements::Element;
 use crate::kinds::{ParsedRule, some_kind};
 use crate::listed::listed;
 use crate::macro_calls::untested;
-use crate::meeting::ConstraintSet;
 use crate::names::Names;
 use crate::sides::{side, sides, with_names};
 use crate::stand_ins::{code_of, first_glued, first_name, spelled_stand_in};
 use crate::tokens::Name;
+use ide_ssr_constraints::ConstraintSet;
 use ide_ssr_refusals::{Refusal, SsrError, Text};
 use ssr_syntax::{FragmentText, SyntaxError};
 use std::alloc::{AllocError, Global};

@@ -1,3 +1,4 @@
+mod Solid
 mod Rests
 mod Commas
 mod Runs

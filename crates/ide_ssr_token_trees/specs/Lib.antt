@@ -1,4 +1,5 @@
 pub mod Elements
+pub mod PatternIterator
 pub mod TokenTrees
 pub mod Bindings
 pub mod Placeholders

@@ -4,7 +4,9 @@
 mod elements;
 pub mod laws;
 mod matching;
+mod pattern_iterator;
 mod siblings;
 
 pub use elements::{closes, is_trivia, tokens_match};
 pub use matching::match_token_trees;
+pub use pattern_iterator::PatternIterator;

@@ -1,7 +1,7 @@
 use Rattle.std.proofs.Common.{◌≤◌, [], length, sym, ap, ◌∙◌, arith}
 use Rattle.std.proofs.lemmas.Bool.Decides.{nat_tests}
 use Rattle.std.proofs.lemmas.List.{get_or_past}
-use Rattle.ide_ssr_rules.specs.Meeting.{are_met}
+use Rattle.ide_ssr_constraints.specs.Constraints.{are_met}
 use Rattle.ide_ssr_resolving.specs.Resolved.{ResolvedKind, meets}
 use Rattle.ide_ssr_resolving.proofs.resolved.ResolvedRule.meets.Goals as goal
 

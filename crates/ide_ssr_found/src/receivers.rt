@@ -1,19 +1,19 @@
 //! The receiver of a method call that a qualified call matches.
 
 ghost use Rattle.std.specs.Prelude.{◌≡◌};
-ghost use Rattle.ide_ssr_matching.specs.Sides.{is_node, received};
+ghost use Rattle.ide_ssr_found.specs.Receivers.{is_node, received};
 
-use ide_ssr_found::{Binding, Held};
+use crate::bindings::{Binding, Held};
 use ssr_base::SelfKind;
 use ssr_syntax_tree::NodeNo;
 
 /// The receiver of a method call: its node, how often that is dereferenced to be what the qualified call takes, and how the
 /// method takes it.
 #[derive(Clone, Copy)]
-pub(crate) struct Receiver {
-    pub(crate) node: NodeNo,
-    pub(crate) deref_count: usize,
-    pub(crate) self_kind: SelfKind,
+pub struct Receiver {
+    pub node: NodeNo,
+    pub deref_count: usize,
+    pub self_kind: SelfKind,
 }
 
 /// Whether what is held is this node.
@@ -28,7 +28,7 @@ fn is_node(node: NodeNo, held: Held) -> bool
 
 impl Receiver {
     /// A binding of the match: one that holds the receiver keeps how it is taken.
-    pub(crate) fn received(self, binding: Binding) -> Binding
+    pub fn received(self, binding: Binding) -> Binding
         ensures { result ≡ received self binding }
     {
         if !is_node(self.node, binding.held) {

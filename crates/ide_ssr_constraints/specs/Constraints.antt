@@ -1,11 +1,16 @@
--- Which nodes meet the constraints of a placeholder.
+-- The constraints of a placeholder: what one asks, and which nodes meet all of them.
 use Rattle.std.specs.Prelude.{Bool, not, List}
 use Rattle.std.specs.List.{list_all}
 use Rattle.ssr_syntax_kinds.specs.declared.kinds.SyntaxKind.{SyntaxKind}
 use Rattle.ssr_syntax_kinds.specs.declared.kinds.SyntaxKind.TheVariants.{LITERAL}
 use Rattle.ssr_syntax_kinds.specs.Kinds.{same_kind}
-use Rattle.ide_ssr_rules.specs.declared.constraints.Constraint.{Constraint}
-use Rattle.ide_ssr_rules.specs.declared.constraints.Constraint.TheVariants as c
+use Rattle.ide_ssr_constraints.specs.declared.constraints.Constraint.{Constraint}
+use Rattle.ide_ssr_constraints.specs.declared.constraints.Constraint.TheVariants as c
+
+-- what holds where a constraint doesn't
+abbrev pub contrary : Constraint → Constraint
+contrary c.Literal = c.NoLiteral
+contrary c.NoLiteral = c.Literal
 
 -- whether a constraint holds at a node of a kind
 abbrev pub holds_at : SyntaxKind → Constraint → Bool

@@ -1,6 +1,6 @@
 use Rattle.std.proofs.Common.{sym}
-use Rattle.ide_ssr_matching.proofs.Solid.{trivia_passed, solid_behind}
-use Rattle.ide_ssr_matching.proofs.pattern_iterator.next_solid.Goals as goal
+use Rattle.ide_ssr_token_trees.proofs.Solid.{trivia_passed, solid_behind}
+use Rattle.ide_ssr_token_trees.proofs.pattern_iterator.next_solid.Goals as goal
 
 pub returns-then-not-is_trivia-clause-has : goal.returns-then-not-is_trivia-clause-has
 returns-then-not-is_trivia-clause-has c = solid_behind _ _ _ _ c.in-Some.child c.loop-child.invariant.2 c.in-Some.ensures.steps

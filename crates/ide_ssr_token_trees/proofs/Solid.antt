@@ -5,7 +5,7 @@ use Rattle.ssr_syntax_tree.specs.declared.number.Element.{Element}
 use Rattle.ssr_syntax_tree.specs.Places.{HasElement, part_of}
 use Rattle.ssr_syntax_tree.specs.Syntax.{Syntax}
 use Rattle.ide_ssr_token_trees.specs.Elements.{is_trivia_part}
-use Rattle.ide_ssr_matching.specs.PatternIterator.{without_trivia}
+use Rattle.ide_ssr_token_trees.specs.PatternIterator.{without_trivia}
 
 module _ (tree : Syntax) where
   -- only trivia have gone by

@@ -1,5 +1,5 @@
-use Rattle.ide_ssr_matching.proofs.Solid.{IsBehindTrivia}
-use Rattle.ide_ssr_matching.proofs.pattern_iterator.next_solid.Given as goal
+use Rattle.ide_ssr_token_trees.proofs.Solid.{IsBehindTrivia}
+use Rattle.ide_ssr_token_trees.proofs.pattern_iterator.next_solid.Given as goal
 
 abbrev pub invariant-loop-child : goal.invariant-loop-child
 invariant-loop-child l =

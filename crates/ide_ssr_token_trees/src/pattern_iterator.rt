@@ -3,9 +3,9 @@
 ghost use Rattle.std.specs.Prelude.{◌≡◌, All};
 ghost use Rattle.std.specs.Iterator.{YieldsFirst};
 ghost use Rattle.ssr_syntax_tree.specs.Places.{HasNode, HasElement, node_of, elements_of};
-ghost use Rattle.ide_ssr_matching.specs.PatternIterator.{without_trivia};
+ghost use Rattle.ide_ssr_token_trees.specs.PatternIterator.{without_trivia};
 
-use ide_ssr_token_trees::is_trivia;
+use crate::elements::is_trivia;
 use ssr_syntax_tree::{Children, Element, NodeNo, Tree};
 use std::fmt;
 use std::marker::Model;
@@ -21,7 +21,7 @@ impl<'a> Model for PatternIterator<'a> {
     ghost use Rattle.std.specs.Prelude.{List, All};
     ghost use Rattle.ssr_syntax_tree.specs.declared.number.Element.{Element};
     ghost use Rattle.ssr_syntax_tree.specs.Places.{HasElement};
-    ghost use Rattle.ide_ssr_matching.specs.PatternIterator.{without_trivia};
+    ghost use Rattle.ide_ssr_token_trees.specs.PatternIterator.{without_trivia};
 
     ghost Value = { List Element };
 

@@ -1,13 +1,33 @@
-//! Which nodes meet the constraints of a placeholder.
-ghost use Rattle.std.specs.Prelude.{◌≡◌, IfOk};
-ghost use Rattle.ide_ssr_rules.specs.Meeting.{holds_at, are_met};
+//! The constraints of a placeholder, and which nodes meet them.
+ghost use Rattle.std.specs.Prelude.{◌≡◌, IfOk, not};
+ghost use Rattle.ssr_syntax_kinds.specs.declared.kinds.SyntaxKind.{SyntaxKind as Kind};
+ghost use Rattle.ide_ssr_constraints.specs.Constraints.{contrary, holds_at, are_met};
 
-use crate::constraints::Constraint;
 use ssr_syntax_kinds::SyntaxKind;
 use std::alloc::{AllocError, Global};
 use std::marker::Model;
 
+/// What a placeholder asks of the node that it stands for. A `not` turns one into the other.
+#[derive(Clone, Copy)]
+pub enum Constraint {
+    /// It is a literal.
+    Literal,
+    /// It is none.
+    NoLiteral,
+}
+
 impl Constraint {
+    /// What holds where the constraint doesn't.
+    pub fn contrary(self) -> Constraint
+        ensures value { result ≡ contrary self }
+        ensures opposite { (kind : Kind) → holds_at kind result ≡ not (holds_at kind self) }
+    {
+        match self {
+            Constraint::Literal => Constraint::NoLiteral,
+            Constraint::NoLiteral => Constraint::Literal,
+        }
+    }
+
     /// Whether it holds at a node of a kind.
     fn holds_at(self, kind: SyntaxKind) -> bool
         ensures { result ≡ holds_at kind self }
@@ -25,7 +45,7 @@ pub struct ConstraintSet(Vec<Constraint>);
 
 impl Model for ConstraintSet {
     ghost use Rattle.std.specs.Prelude.{List};
-    ghost use Rattle.ide_ssr_rules.specs.declared.constraints.Constraint.{Constraint as One};
+    ghost use Rattle.ide_ssr_constraints.specs.declared.constraints.Constraint.{Constraint as One};
 
     ghost Value = { List One };
 
@@ -33,7 +53,8 @@ impl Model for ConstraintSet {
 }
 
 impl ConstraintSet {
-    pub(crate) fn of(alloc: Global, constraints: &[Constraint]) -> Result<ConstraintSet, AllocError>
+    /// These constraints.
+    pub fn of(alloc: Global, constraints: &[Constraint]) -> Result<ConstraintSet, AllocError>
         ensures { IfOk result (λ set. set ≡ constraints.now) }
     {
         Ok(ConstraintSet(Vec::from_slice(alloc, constraints)?))
