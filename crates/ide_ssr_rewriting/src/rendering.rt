@@ -93,7 +93,7 @@ fn text_for<'a>(
     }
 }
 
-/// The template with its pieces.
+/// The template with its pieces. At first it gets the room of the template, whose stand-ins are as long as most pieces.
 fn plain(
     alloc: Global,
     rule: &ResolvedRule,
@@ -104,7 +104,7 @@ fn plain(
     requires { rule.now.template ≡ Some template.now }
     ensures { IfOk result (λ text. string_bytes text ≡ plain rule.now.names (piece_of bindings.now (map string_bytes pieces.now)) (tokens_of template.now)) }
 {
-    let mut text = String::new(alloc);
+    let mut text = String::with_capacity(alloc, template.source().len())?;
     for token in 0..template.token_count() {
         text.push_str(text_for(rule, template, bindings, pieces, TokenNo(token)))?;
     }
@@ -126,7 +126,7 @@ fn wrapped(
     requires length { length (plain rule.now.names (piece_of bindings.now (map string_bytes pieces.now)) (tokens_of template.now)) < 2 ^ 64 }
     ensures { IfOk result (λ text. string_bytes text ≡ wrapped tree.now front rule.now.names (piece_of bindings.now (map string_bytes pieces.now)) 0 (tokens_of template.now)) }
 {
-    let mut wrapped = String::new(alloc);
+    let mut wrapped = String::with_capacity(alloc, template.source().len())?;
     let mut at = 0;
     for token in 0..template.token_count() {
         let text = text_for(rule, template, bindings, pieces, TokenNo(token));

@@ -90,7 +90,7 @@ fn end_before(next: Option<TokenRow>, total: usize) -> usize
 }
 
 /// Whether the first and the last token are neither white space nor comments.
-fn is_solid_outside(kinds: &[SyntaxKind]) -> bool
+pub(crate) fn is_solid_outside(kinds: &[SyntaxKind]) -> bool
     ensures { result ≡ (kinds_begin_solid kinds.now && kinds_begin_solid (reverse kinds.now)) }
 {
     let (Some(first), Some(last)) = (kinds.first(), kinds.last()) else {

@@ -9,7 +9,7 @@ ghost use Rattle.ssr_syntax_forms.specs.Parser.{written_in};
 ghost use Rattle.ssr_syntax_types.specs.declared.goals.Goal.{Goal};
 ghost use Rattle.ssr_syntax_tree.specs.Syntax.{Syntax};
 
-use crate::fragment_text::FragmentText;
+use crate::fragment_text::is_solid_outside;
 use crate::fragments::Fragment;
 use crate::grammar::parse_as;
 use crate::macro_rules::misnames_macros;
@@ -138,9 +138,13 @@ pub fn fragment(alloc: Global, fragment: Fragment, text: &str) -> Result<(Tree, 
         → IsThatOrTooDeep (λ answer. answer.0) syntax result }
 {
     check_length(text)?;
+    let inner = text.trim();
+    let rows = token_rows(alloc, inner)?;
+    if !is_solid_outside(rows.kinds()) {
+        return Err(SyntaxError::NoTree);
+    }
     let front = text.len().saturating_sub(text.trim_start().len()) as u32;
-    let owned = String::from_str(alloc, text)?;
-    let lexed = FragmentText::new(alloc, owned)?;
-    let tree = lexed.read(alloc, fragment)?;
+    let source = String::from_str(alloc, inner)?;
+    let tree = read_tokens(alloc, fragment.goal(), source, rows)?;
     Ok((tree, front))
 }
