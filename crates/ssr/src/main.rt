@@ -7,8 +7,6 @@ mod laws;
 mod program;
 mod rewriting;
 mod streams;
-#[cfg(test)]
-mod tests;
 mod transfer;
 mod unresolved;
 

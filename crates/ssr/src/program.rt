@@ -84,23 +84,3 @@ fn send<W: Sink>(sink: &mut W, pieces: &[&str], status: u8) -> u8
         1
     }
 }
-
-#[cfg(test)]
-mod tests {
-    use super::*;
-    use std::test::Fail;
-
-    #[test]
-    fn each_error_has_its_words(rt: HostRuntime) -> Result<(), Fail> {
-        for (error, words) in [
-            (SyntaxError::Lex, "not tokens of this grammar"),
-            (SyntaxError::NoTree, "not a file of this grammar"),
-            (SyntaxError::TooDeep, "nested too deeply"),
-            (SyntaxError::TooLong, "text too long"),
-            (SyntaxError::Memory, "out of memory"),
-        ] {
-            assert_eq!(rt; words_for(error), words);
-        }
-        Ok(())
-    }
-}

@@ -1,0 +1,268 @@
+#!/usr/bin/env python3
+"""Runs built programs on worked examples of whole runs, and compares what they write and their status.
+
+    crates/ssr/cases.py [PROGRAM..]
+
+The programs are those that `rt ci` leaves in crates/ssr/out, unless others are named. Nothing may come on standard error.
+The last line is 'N passed, M failed'.
+"""
+
+import contextlib
+import os
+import resource
+import signal
+import socket
+import subprocess
+import sys
+import tempfile
+import time
+from pathlib import Path
+
+SWAP = "$a + $b ==>> $b + $a"
+SUM = "fn f() {1 + 2}"
+SWAPPED = "fn f() {2 + 1}"
+USAGE = "usage: ssr [--facts FILE] RULE..\n"
+NO_FILE = "error: standard input: not a file of this grammar\n"
+NO_TOKENS = "error: standard input: not tokens of this grammar\n"
+NO_UTF8 = "error: standard input: not UTF-8\n"
+NO_READ = "error: standard input: cannot be read\n"
+TOO_DEEP = "error: standard input: nested too deeply\n"
+NO_KIND = "error: Parse error: Not a valid Rust expression, type, item, path or pattern\n"
+
+
+def as_bytes(text):
+    return text if isinstance(text, bytes) else text.encode()
+
+
+def ran(program, words, **streams):
+    """What a run writes, and its status: None where it takes more than two minutes or writes to standard error."""
+    try:
+        done = subprocess.run([program, *words], stderr=subprocess.PIPE, timeout=120, **streams)
+    except subprocess.TimeoutExpired:
+        return b"", None
+    return done.stdout, None if done.stderr else done.returncode
+
+
+def answer(program, words, given):
+    """What is written for the words of a command and what is given, and the status."""
+    return ran(program, words, input=as_bytes(given), stdout=subprocess.PIPE)
+
+
+def gives(program, words, given, wanted, status=0):
+    """Whether this is written, with this status."""
+    return answer(program, words, given) == (as_bytes(wanted), status)
+
+
+# ** Worked examples: each function tells of a run after the other whether it was as wanted.
+
+
+def rewrites_files(program):
+    yield gives(program, [SWAP], "fn f() {1 + 2 + 3 + 4}", "fn f() {4 + (3 + (2 + 1))}")
+    yield gives(program, [SWAP], "", "")
+    file, new = "fn  f ( )\n{\n  1\t+ 2 }\r\n", "fn  f ( )\n{\n  2-1 }\r\n"
+    yield gives(program, ["$a+$b==>>$b-$a"], file, new)
+
+
+def earlier_rules_come_first(program):
+    rules = ["$a + 1 ==>> $a * 7", "$a + $b ==>> $a - $b", "true ==>> false"]
+    yield gives(program, rules, "fn f() {3 + 2 + 1}", "fn f() {(3 - 2) * 7}")
+    file = "fn f() { // k\n\t3 + 2 /* two */ + 1\n}\n\nfn g() {true}\n"
+    new = "fn f() { // k\n\t(3 - 2) * 7/* two */\n}\n\nfn g() {false}\n"
+    yield gives(program, rules, file, new)
+
+
+def wrong_words_are_refused(program):
+    for words in [[], ["--facts", "f.json", SWAP], [SWAP, b"\xff"]]:
+        yield gives(program, words, SUM, USAGE, 2)
+
+
+def files_are_refused(program):
+    # a file is told of before a rule
+    for rule in [SWAP, "no rule"]:
+        for file, told in [("fn f() {1 + ", NO_FILE), ("1", NO_FILE), ("fn f() {'", NO_TOKENS)]:
+            yield gives(program, [rule], file, told, 1)
+        for file in [b"fn f() {\xff}", b"fn f() {\xc3}"]:
+            yield gives(program, [rule], file, NO_UTF8, 1)
+
+
+def rules_are_refused(program):
+    for rule, message in [
+        ("", "Cannot find delimiter `==>>`"),
+        ('1 ==>> "a', "Failed to parse pattern: a string that is not closed, at byte 0"),
+        ('1 + "a ==>> 2', "Failed to parse pattern: a string that is not closed, at byte 4"),
+        ("foo ==>> 1", "Failed to resolve path `foo`"),
+    ]:
+        # alone, or the first refusal of several rules
+        for rules in [[rule], [SWAP, rule, SWAP], [SWAP, rule, "no rule"]]:
+            yield gives(program, rules, SUM, f"error: Parse error: {message}\n", 1)
+
+
+def is_answer(output, status):
+    """An answer is a new text of status 0, or one line of status 1."""
+    is_line = output.startswith(b"error: ") and output.endswith(b"\n")
+    return status == 0 and not is_line or status == 1 and is_line
+
+
+def every_beginning_is_answered(program):
+    for text, output, status in [
+        (SWAP, NO_FILE, 1),
+        ("fn f() {x // k\n+ 1}", "fn f() {1 + x// k\n}", 0),
+        ("__placeholder_a $a ${a} ' // /* \"", NO_TOKENS, 1),
+        (
+            "fn f() {\"é\" + 1.5e-3 * b'\\n' - r#\"x\"#} // k",
+            "fn f() {1.5e-3 * b'\\n' + \"é\" - r#\"x\"#} // k",
+            0,
+        ),
+    ]:
+        beginnings = [text[:end] for end in range(len(text) + 1)]
+        yield all(is_answer(*answer(program, [SWAP], file)) for file in beginnings)
+        yield all(is_answer(*answer(program, [rule], SUM)) for rule in beginnings)
+        yield gives(program, [SWAP], text, output, status)
+
+
+# ** Depth and size.
+
+
+def nested(pairs, inner):
+    return "(" * pairs + inner + ")" * pairs
+
+
+def files_are_read_to_a_depth_of_1024(program):
+    # a block's tail expression has depth 4
+    for body, fits in [
+        (nested(1020, "1"), True),
+        (nested(1021, "1"), False),
+        ("1 + " * 1020 + "1", True),
+        ("1 + " * 1021 + "1", False),
+        ("1 + " * 100_000 + "1", False),
+    ]:
+        file = f"fn f() {{{body}}}"
+        yield gives(program, ["2 ==>> 3"], file, file if fits else TOO_DEEP, 0 if fits else 1)
+
+
+def rules_are_read_to_a_depth_of_1024(program):
+    file = "fn f() {1}"
+    yield gives(program, [nested(1024, "1") + " ==>> 3"], file, file)
+    yield gives(program, [nested(1025, "1") + " ==>> 3"], file, NO_KIND, 1)
+
+
+def matches_go_to_a_depth_of_1024(program):
+    file = f"fn f() {{{nested(1020, '1')}}}"
+    yield gives(program, [nested(1020, "$a") + " ==>> $a"], file, "fn f() {1}")
+
+
+def a_million_parentheses_are_refused(program):
+    output, status = answer(program, [SWAP], "fn f() {" + "(" * 1_000_000)
+    yield status == 1 and output.decode() in (NO_FILE, TOO_DEEP)
+
+
+def many_matches_are_rewritten(program):
+    yield gives(program, [SWAP], f"{SUM}\n" * 20_000, f"{SWAPPED}\n" * 20_000)
+
+
+def a_file_of_17_megabytes_is_rewritten(program):
+    lines = "// a line of a comment\n" * 750_000
+    yield gives(program, [SWAP], f"{lines}{SUM}\n", f"{lines}{SWAPPED}\n")
+
+
+# ** Streams that fail, or give and take in parts.
+
+
+@contextlib.contextmanager
+def folder():
+    """A folder is a standard input that no read can read."""
+    stream = os.open("/", os.O_RDONLY)
+    yield stream
+    os.close(stream)
+
+
+@contextlib.contextmanager
+def connection(text):
+    """Gives a text, and fails then."""
+    given, giving = socket.socketpair()
+    giving.sendall(as_bytes(text))
+    # an end that is closed before all is read that came there is told as a failure at the other end
+    given.sendall(b"unread")
+    giving.close()
+    yield given.fileno()
+    given.close()
+
+
+def failed_reads_are_told(program):
+    for given in [folder(), connection(""), connection("fn f() "), connection(SUM)]:
+        with given as stream:
+            told = ran(program, [SWAP], stdin=stream, stdout=subprocess.PIPE)
+        yield told == (NO_READ.encode(), 1)
+
+
+def texts_are_read_in_parts(program):
+    reading, writing = os.pipe()
+    with os.fdopen(reading) as stream:
+        run = subprocess.Popen([program, SWAP], stdin=stream, stdout=subprocess.PIPE, stderr=subprocess.PIPE)
+    for place in range(0, len(SUM), 3):
+        os.write(writing, as_bytes(SUM[place : place + 3]))
+        time.sleep(0.01)
+    os.close(writing)
+    output, _ = run.communicate(timeout=120)
+    yield (output, run.returncode) == (SWAPPED.encode(), 0)
+
+
+def limited(count):
+    """Sets the size beyond which a write to a file fails."""
+
+    def limit():
+        signal.signal(signal.SIGXFSZ, signal.SIG_IGN)
+        resource.setrlimit(resource.RLIMIT_FSIZE, (count, count))
+
+    return limit
+
+
+def failed_writes_leave_a_beginning(program):
+    with open("/dev/full", "wb") as full:
+        yield ran(program, [SWAP], input=SUM.encode(), stdout=full)[1] == 1
+    for count, status in [(0, 1), (1, 1), (10, 1), (13, 1), (14, 0)]:
+        with tempfile.TemporaryFile() as file:
+            _, ended = ran(program, [SWAP], input=SUM.encode(), stdout=file, preexec_fn=limited(count))
+            file.seek(0)
+            yield (file.read(), ended) == (SWAPPED[:count].encode(), status)
+
+
+EXAMPLES = [
+    rewrites_files,
+    earlier_rules_come_first,
+    wrong_words_are_refused,
+    files_are_refused,
+    rules_are_refused,
+    every_beginning_is_answered,
+    files_are_read_to_a_depth_of_1024,
+    rules_are_read_to_a_depth_of_1024,
+    matches_go_to_a_depth_of_1024,
+    a_million_parentheses_are_refused,
+    many_matches_are_rewritten,
+    a_file_of_17_megabytes_is_rewritten,
+    failed_reads_are_told,
+    texts_are_read_in_parts,
+    failed_writes_leave_a_beginning,
+]
+
+
+def built_programs():
+    out = Path(__file__).resolve().parent / "out"
+    # (the second is there only where Rattle's own compiler compiles it)
+    return [out / "ssr", *out.glob("ssr.by-rattle")]
+
+
+def main(words):
+    passed = failed = 0
+    for program in words or built_programs():
+        for example in EXAMPLES:
+            for number, is_well in enumerate(example(os.path.abspath(program)), 1):
+                passed, failed = passed + is_well, failed + (not is_well)
+                if not is_well:
+                    print(f"{program}: {example.__name__}, run {number}: FAILED")
+    print(f"{passed} passed, {failed} failed")
+    return 1 if failed else 0
+
+
+if __name__ == "__main__":
+    sys.exit(main(sys.argv[1:]))
