@@ -165,6 +165,24 @@ def a_file_of_17_megabytes_is_rewritten(program):
     yield gives(program, [SWAP], f"{lines}{SUM}\n", f"{lines}{SWAPPED}\n")
 
 
+def limited(limit, count):
+    """Limits what a run gets of the system. A write beyond a limit fails, and does not end the run."""
+
+    def limits():
+        signal.signal(signal.SIGXFSZ, signal.SIG_IGN)
+        resource.setrlimit(limit, (count, count))
+
+    return limits
+
+
+def want_of_memory_is_told(program):
+    file = f"{SUM}\n" * 200_000
+    # the first has no room for the file's tree, the second for its edits
+    for megabytes, told in [(16, "error: standard input: out of memory\n"), (100, "error: out of memory\n")]:
+        limits = limited(resource.RLIMIT_AS, megabytes << 20)
+        yield ran(program, [SWAP], input=file.encode(), stdout=subprocess.PIPE, preexec_fn=limits) == (told.encode(), 1)
+
+
 # ** Streams that fail, or give and take in parts.
 
 
@@ -207,22 +225,12 @@ def texts_are_read_in_parts(program):
     yield (output, run.returncode) == (SWAPPED.encode(), 0)
 
 
-def limited(count):
-    """Sets the size beyond which a write to a file fails."""
-
-    def limit():
-        signal.signal(signal.SIGXFSZ, signal.SIG_IGN)
-        resource.setrlimit(resource.RLIMIT_FSIZE, (count, count))
-
-    return limit
-
-
 def failed_writes_leave_a_beginning(program):
     with open("/dev/full", "wb") as full:
         yield ran(program, [SWAP], input=SUM.encode(), stdout=full)[1] == 1
     for count, status in [(0, 1), (1, 1), (10, 1), (13, 1), (14, 0)]:
         with tempfile.TemporaryFile() as file:
-            _, ended = ran(program, [SWAP], input=SUM.encode(), stdout=file, preexec_fn=limited(count))
+            _, ended = ran(program, [SWAP], input=SUM.encode(), stdout=file, preexec_fn=limited(resource.RLIMIT_FSIZE, count))
             file.seek(0)
             yield (file.read(), ended) == (SWAPPED[:count].encode(), status)
 
@@ -240,6 +248,7 @@ EXAMPLES = [
     a_million_parentheses_are_refused,
     many_matches_are_rewritten,
     a_file_of_17_megabytes_is_rewritten,
+    want_of_memory_is_told,
     failed_reads_are_told,
     texts_are_read_in_parts,
     failed_writes_leave_a_beginning,
