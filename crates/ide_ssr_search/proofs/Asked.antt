@@ -1,22 +1,17 @@
 -- What the root of a rule's pattern asks of a node has each node that matches.
-use Rattle.std.proofs.Common.{◌≡◌, ℕ, ◌≤◌, Bool, true, false, ◌||◌, ◌&&◌, not, List, [], ◌∷◌, All, Option, Some, None, refl, sym, ap, ◌∙◌, subst, inl, inr, ◌⊎◌, get_or, length, map, arith}
+use Rattle.std.proofs.Common.{◌≡◌, ℕ, ◌≤◌, Bool, true, false, ◌||◌, ◌&&◌, not, List, [], ◌∷◌, Option, Some, None, refl, sym, ap, ◌∙◌, subst, inl, inr, ◌⊎◌, get_or, length}
 use Rattle.std.specs.Prelude.{if◌then◌else◌, is_some, slice_get, slice_index_or, slice_set}
 use Rattle.std.proofs.lemmas.Grind.{get_or-set_at}
 use Rattle.std.proofs.lemmas.List.{get_or_past, get_or-set_other}
-use Rattle.std.proofs.lemmas.List.Elements.{All-head, All-tail}
 use Rattle.std.specs.Option.{option_map_or}
 use Rattle.std.proofs.lemmas.Bool.{or_left, or_right, and_from, and_parts, or_parts, cases_Bool, cases_eq, cases_lt, both_ways}
-use Rattle.std.proofs.lemmas.Option.{none-some, same_Some, slice_get_within, get_or_from_slice_get}
+use Rattle.std.proofs.lemmas.Option.{none-some, same_Some}
 use Rattle.ssr_syntax_kinds.specs.declared.kinds.SyntaxKind.{SyntaxKind}
 use Rattle.ssr_syntax_kinds.specs.declared.kinds.SyntaxKind.TheVariants as k
 use Rattle.ssr_syntax_kinds.specs.Kinds.{same_kind, is_trivia}
 use Rattle.ssr_syntax_kinds.proofs.Shared.{same_kind-equal, equal-same_kind}
 use Rattle.ssr_syntax_tree.specs.Syntax.{Syntax, Token}
-use Rattle.ssr_syntax_tree.specs.declared.number.Element.{Element}
-use Rattle.ssr_syntax_tree.specs.declared.number.Element.TheVariants as element
-use Rattle.ssr_syntax_tree.specs.Places.{Node, Part, token_part, node_part, parts_of, part_of, elements_of, node_of, token_of, root_of, HasNode, HasElement}
-use Rattle.ssr_syntax_tree.proofs.Lists.{stands_at}
-use Rattle.ssr_syntax_tree.proofs.Shared.{elements_had, parts_of-elements_of}
+use Rattle.ssr_syntax_tree.specs.Places.{Node, Part, token_part, node_part, parts_of, node_of, root_of}
 use Rattle.ssr_base.specs.Meanings.{Meanings}
 use Rattle.ssr_base.specs.Workspace.{Workspace, trees, node_id}
 use Rattle.ide_ssr_resolving.specs.Resolved.{ResolvedKind}
@@ -30,14 +25,12 @@ use Rattle.ide_ssr_matching.specs.Matching.{Matches, bound, token_trees, method,
 use Rattle.ide_ssr_matching.specs.UsedPaths.{pattern_res}
 use Rattle.ide_ssr_search.specs.declared.roots.Root.{Root}
 use Rattle.ide_ssr_search.specs.declared.roots.Root.TheVariants as roots
-use Rattle.ide_ssr_search.specs.declared.roots.Asked.{Asked}
-use Rattle.ide_ssr_search.specs.declared.roots.KindSet.{KindSet}
 use Rattle.ide_ssr_search.specs.declared.roots.Rules.{Rules}
 use Rattle.ssr_base.specs.Built.{IsMacroCall}
 use Rattle.ide_ssr_search.specs.WholeMatches.{IsWholeMatch}
 use Rattle.ide_ssr_search.specs.Private.Shut.{Shuts}
 use Rattle.ide_ssr_found.proofs.Shared.{IsTree, in_tree}
-use Rattle.ide_ssr_search.specs.Private.Roots.{counts, first_counted, has_token_of, pairs_otherwise, has_asked, has_kind, IsRootOf, AreRules, AreTokenKinds, HasTokensOf, AreKindsIn}
+use Rattle.ide_ssr_search.specs.Private.Roots.{counts, first_counted, has_token_of, pairs_otherwise, has_asked, has_kind, IsRootOf, AreRules}
 
 -- ** Sibling by sibling.
 
@@ -217,38 +210,7 @@ asked_call root kind c is asked = by (same_kind c.kind kind) refl (subst (λ r. 
     by true same either = inl (same_kind-equal c.kind kind same)
     by false same either = inr (same_kind-equal c.kind k.METHOD_CALL_EXPR either)
 
-pub asked_token : (root : Root) (kind : SyntaxKind) (token : Option SyntaxKind) (c : Node) (kinds : KindSet) → root ≡ roots.Node kind token
-    → HasTokensOf kinds c → has_asked root c ≡ true → option_map_or (has_kind kinds) token true ≡ true
-asked_token root kind token c kinds is among asked = by token (and_parts _ _ (subst (λ r. has_asked r c ≡ true) is asked)).1
-  where
-    by : (o : Option SyntaxKind) → option_map_or (λ token. has_token_of token (parts_of c)) o true ≡ true → option_map_or (has_kind kinds) o true ≡ true
-    by None has = refl
-    by (Some other) has = among other has
-
-pub asked_there : (asked : List Asked) (i : ℕ) (d one : Asked) (c : Node) → slice_get asked i ≡ Some one → has_asked one.root c ≡ true
-    → has_asked (get_or asked i d).root c ≡ true
-asked_there asked i d one c is has = subst (λ one. has_asked one.root c ≡ true) (sym (get_or_from_slice_get asked i one d is)) has
-
 -- ** Sets of kinds.
-
--- the tokens directly below a node are among those of the tree
-module _ (s : Syntax) (kinds : KindSet) (are : AreTokenKinds s kinds) where
-  among_elements : (es : List Element) (kind : SyntaxKind) → All (HasElement s) es → has_token_of kind (map (part_of s) es) ≡ true → has_kind kinds kind ≡ true
-  among_elements [] kind had has = let e : false ≡ true = has in cc
-  among_elements (element.Token t ∷ es) kind had has =
-      here (same_kind (token_of s t.0).kind kind) refl (among_elements es kind (All-tail (HasElement s) (element.Token t) es had)) has
-    where
-      here : (b : Bool) → same_kind (token_of s t.0).kind kind ≡ b → (has_token_of kind (map (part_of s) es) ≡ true → has_kind kinds kind ≡ true)
-          → (b || has_token_of kind (map (part_of s) es)) ≡ true → has_kind kinds kind ≡ true
-      here true same behind h =
-          subst (λ kind. has_kind kinds kind ≡ true) (same_kind-equal (token_of s t.0).kind kind same) (are t.0 (All-head (HasElement s) (element.Token t) es had))
-      here false same behind h = behind h
-  among_elements (element.Node n ∷ es) kind had has = among_elements es kind (All-tail (HasElement s) (element.Node n) es had) has
-
-pub tokens_below : (s : Syntax) (n : ℕ) (kinds : KindSet) → HasNode s n → AreTokenKinds s kinds → HasTokensOf kinds (node_of s n)
-tokens_below s n kinds node are = λ kind has.
-    among_elements s kinds are (elements_of (node_of s n)) kind (elements_had s n node)
-    (subst (λ parts. has_token_of kind parts ≡ true) (sym (parts_of-elements_of s n node)) has)
 
 pub set_kept : (every : Bool) (listed : List Bool) (i j : ℕ) → (every || slice_index_or listed j false) ≡ true → (every || slice_index_or (slice_set listed i true) j false) ≡ true
 set_kept true listed i j has = refl
@@ -275,26 +237,22 @@ module _ (w : Workspace) (meanings : Meanings) (t n : ℕ) (s : Syntax) (at : Is
   unmatched_root rule root is lacks bindings whole =
       both_ways (has_asked root (node_of s n)) lacks (is meanings t (node_of s n) bindings (matched_there rule bindings whole))
 
-  pub unmatched_kind : (rules : Rules) (kinds : KindSet) → AreRules rules → AreKindsIn rules s kinds → HasNode s n → has_kind kinds (node_of s n).kind ≡ false
+  pub unmatched_kind : (rules : Rules) → AreRules rules → has_kind rules.kinds (node_of s n).kind ≡ false
       → (place : ℕ) (rule : ResolvedKind) (bindings : List Binding) → slice_get rules.rules.now place ≡ Some rule → IsWholeMatch (trees w) meanings rule (node_id t n) bindings → ⊥
-  unmatched_kind rules kinds are within has lacks place rule bindings is whole =
-      let less = slice_get_within rules.rules.now place rule is in
-      let asked = stands_at rules.asked.items place (let counted = are.counted in omega arith) in
-      both_ways (has_kind kinds (node_of s n).kind) lacks
-      (within.asked place asked.0 asked.1 n has
-      ((are.each place rule asked.0 is asked.1).root meanings t (node_of s n) bindings (matched_there rule bindings whole)))
+  unmatched_kind rules are lacks place rule bindings is whole =
+      both_ways (has_kind rules.kinds (node_of s n).kind) lacks (are.kinds place rule is meanings t (node_of s n) bindings (matched_there rule bindings whole))
 
 module _ (w : Workspace) (t n : ℕ) (s : Syntax) (at : IsTree (trees w) t s) where
   -- a node of a kind that concerns nothing shuts in nothing
-  pub unshutting_kind : (rules : Rules) (kinds : KindSet) → AreKindsIn rules s kinds → has_kind kinds (node_of s n).kind ≡ false → Shuts (trees w) (node_id t n) → ⊥
-  unshutting_kind rules kinds within lacks (inl is_use) =
-      both_ways (has_kind kinds (node_of s n).kind) lacks
-      (ap (has_kind kinds) (in_tree (trees w) t s (λ s. (node_of s n).kind ≡ k.USE) at is_use) ∙ within.uses)
-  unshutting_kind rules kinds within lacks (inr call) =
-      both_ways (has_kind kinds (node_of s n).kind) lacks
-      (ap (has_kind kinds) (in_tree (trees w) t s (λ s. (node_of s n).kind ≡ k.MACRO_CALL) at call.0) ∙ within.calls)
+  pub unshutting_kind : (rules : Rules) → AreRules rules → has_kind rules.kinds (node_of s n).kind ≡ false → Shuts (trees w) (node_id t n) → ⊥
+  unshutting_kind rules are lacks (inl is_use) =
+      both_ways (has_kind rules.kinds (node_of s n).kind) lacks
+      (ap (has_kind rules.kinds) (in_tree (trees w) t s (λ s. (node_of s n).kind ≡ k.USE) at is_use) ∙ are.uses)
+  unshutting_kind rules are lacks (inr call) =
+      both_ways (has_kind rules.kinds (node_of s n).kind) lacks
+      (ap (has_kind rules.kinds) (in_tree (trees w) t s (λ s. (node_of s n).kind ≡ k.MACRO_CALL) at call.0) ∙ are.calls)
 
-  pub no_call_of_kind : (rules : Rules) (kinds : KindSet) → AreKindsIn rules s kinds → has_kind kinds (node_of s n).kind ≡ false → IsMacroCall (trees w) (node_id t n) → ⊥
-  no_call_of_kind rules kinds within lacks call =
-      both_ways (has_kind kinds (node_of s n).kind) lacks
-      (ap (has_kind kinds) (in_tree (trees w) t s (λ s. (node_of s n).kind ≡ k.MACRO_CALL) at call) ∙ within.calls)
+  pub no_call_of_kind : (rules : Rules) → AreRules rules → has_kind rules.kinds (node_of s n).kind ≡ false → IsMacroCall (trees w) (node_id t n) → ⊥
+  no_call_of_kind rules are lacks call =
+      both_ways (has_kind rules.kinds (node_of s n).kind) lacks
+      (ap (has_kind rules.kinds) (in_tree (trees w) t s (λ s. (node_of s n).kind ≡ k.MACRO_CALL) at call) ∙ are.calls)

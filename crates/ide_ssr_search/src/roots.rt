@@ -1,15 +1,14 @@
 //! What rules ask of a node, before it is asked whether it matches: most nodes lack it.
-ghost use Rattle.std.specs.Prelude.{◌≡◌, ◌&&◌, ◌∷◌, [], ℕ, not, true, is_some, slice_get, IfOk, IfSome, Some};
+ghost use Rattle.std.specs.Prelude.{◌≡◌, ◌&&◌, ◌∷◌, [], not, true, is_some, IfOk, IfSome};
 ghost use Rattle.std.specs.Option.{option_map_or};
 ghost use Rattle.ssr_syntax_kinds.specs.declared.kinds.SyntaxKind.{SyntaxKind as Kind};
 ghost use Rattle.ssr_syntax_tree.specs.Places.{Node, HasNode, HasElement, node_of, root_of, part_of, parts_of};
-ghost use Rattle.ide_ssr_search.specs.Private.Roots.{first_counted, has_token_of, pairs_otherwise, has_asked, has_kind, IsRootOf, IsAskedBy, AreRules, AreTokenKinds, HasTokensOf, AreKindsIn};
-ghost use Rattle.ide_ssr_search.specs.declared.roots.Asked.{Asked as AskedBy};
+ghost use Rattle.ide_ssr_search.specs.Private.Roots.{first_counted, has_token_of, pairs_otherwise, has_asked, has_kind, IsRootOf, IsAskedBy, AreRules};
 
 use crate::permitted::names_self;
 use ide_ssr_resolving::ResolvedRule;
 use ssr_syntax_kinds::SyntaxKind;
-use ssr_syntax_tree::{Element, NodeNo, TokenNo, Tree};
+use ssr_syntax_tree::{Element, NodeNo, Tree};
 use std::alloc::{AllocError, Global};
 
 /// What the root of a rule's pattern asks of each node that matches it.
@@ -161,33 +160,17 @@ pub(crate) struct KindSet {
 }
 
 impl KindSet {
-    /// No kind.
-    fn none() -> KindSet {
-        KindSet {
-            every: false,
-            listed: [false; 256],
-        }
-    }
-
     /// The kinds of nodes that may shut in what is below them.
     fn shutting() -> KindSet
         ensures uses { has_kind result SyntaxKind.USE ≡ true }
         ensures calls { has_kind result SyntaxKind.MACRO_CALL ≡ true }
     {
-        let mut kinds = KindSet::none();
+        let mut kinds = KindSet {
+            every: false,
+            listed: [false; 256],
+        };
         kinds.add(SyntaxKind::USE);
         kinds.add(SyntaxKind::MACRO_CALL);
-        kinds
-    }
-
-    /// The kinds of a tree's tokens.
-    fn of_tokens(tree: &Tree) -> KindSet
-        ensures { AreTokenKinds tree.now result }
-    {
-        let mut kinds = KindSet::none();
-        for number in 0..tree.token_count() {
-            kinds.add(tree.token_kind(TokenNo(number)));
-        }
         kinds
     }
 
@@ -199,60 +182,26 @@ impl KindSet {
         self.listed[kind as usize] = true;
     }
 
-    /// Adds a kind, if that is asked.
-    fn add_if(&mut self, kind: SyntaxKind, asked: bool)
-        ensures added { asked ≡ true → has_kind self.new kind ≡ true }
-        ensures kept { (other : Kind) → has_kind self.old other ≡ true → has_kind self.new other ≡ true }
-    {
-        if asked {
-            self.add(kind);
-        }
-    }
-
-    /// Adds the kinds of all nodes that have what is asked of them, where their tokens are of these kinds.
-    fn add_asked(&mut self, asked: &Asked, tokens: &KindSet)
-        ensures added { (c : Node) → HasTokensOf tokens.now c → has_asked asked.now.root c ≡ true → has_kind self.new c.kind ≡ true }
+    /// Adds the kinds of all nodes that have what a root asks for.
+    fn add_asked(&mut self, root: Root)
+        ensures added { (c : Node) → has_asked root c ≡ true → has_kind self.new c.kind ≡ true }
         ensures kept { (kind : Kind) → has_kind self.old kind ≡ true → has_kind self.new kind ≡ true }
     {
-        match asked.root {
+        match root {
             Root::Placeholder => self.every = true,
             Root::Call(kind) => {
                 self.add(kind);
                 self.add(SyntaxKind::METHOD_CALL_EXPR);
             }
-            Root::Node(kind, token) => self.add_if(kind, tokens.has_if(token)),
+            Root::Node(kind, _) => self.add(kind),
         }
     }
 
-    pub(crate) fn has(&self, kind: SyntaxKind) -> bool
+    fn has(&self, kind: SyntaxKind) -> bool
         ensures { result ≡ has_kind self.now kind }
     {
         self.every || self.listed[kind as usize]
     }
-
-    /// The same where a kind is asked for.
-    fn has_if(&self, kind: Option<SyntaxKind>) -> bool
-        ensures { result ≡ option_map_or (has_kind self.now) kind true }
-    {
-        match kind {
-            Some(kind) => self.has(kind),
-            None => true,
-        }
-    }
-}
-
-/// The kinds of the nodes that have what one of these asks for, where their tokens are of these kinds, and of those that may
-/// shut in what is below them.
-fn kinds_asked(asked: &[Asked], tokens: &KindSet) -> KindSet
-    ensures asked { (n : ℕ) (one : AskedBy) → slice_get asked.now n ≡ Some one → (c : Node) → HasTokensOf tokens.now c → has_asked one.root c ≡ true → has_kind result c.kind ≡ true }
-    ensures uses { has_kind result SyntaxKind.USE ≡ true }
-    ensures calls { has_kind result SyntaxKind.MACRO_CALL ≡ true }
-{
-    let mut kinds = KindSet::shutting();
-    for one in asked {
-        kinds.add_asked(one, tokens);
-    }
-    kinds
 }
 
 /// The rules of a search, and what they ask.
@@ -261,6 +210,8 @@ pub(crate) struct Rules<'a> {
     pub(crate) rules: &'a [ResolvedRule],
     /// What each of them asks.
     pub(crate) asked: Vec<Asked>,
+    /// The kinds of the nodes that one of them may match, and of those that may shut in what is below them.
+    kinds: KindSet,
 }
 
 impl<'a> Rules<'a> {
@@ -270,17 +221,23 @@ impl<'a> Rules<'a> {
         ensures are { IfOk result AreRules }
     {
         let mut asked = Vec::new(alloc);
+        let mut kinds = KindSet::shutting();
         for rule in rules {
-            asked.push(Asked::by(rule))?;
+            let by_rule = Asked::by(rule);
+            asked.push(by_rule)?;
+            kinds.add_asked(by_rule.root);
         }
-        Ok(Rules { rules, asked })
+        Ok(Rules {
+            rules,
+            asked,
+            kinds,
+        })
     }
 
-    /// The kinds of the nodes of a tree that one of them may match, and of those that may shut in what is below them. A rule
-    /// whose root asks for a token of a kind that the tree lacks matches none.
-    pub(crate) fn kinds_in(&self, tree: &Tree) -> KindSet
-        ensures { AreKindsIn self.now tree.now result }
+    /// Whether one of them may match a node of a kind, or such a node may shut in what is below it.
+    pub(crate) fn concern(&self, kind: SyntaxKind) -> bool
+        ensures { result ≡ has_kind self.now.kinds kind }
     {
-        kinds_asked(&self.asked, &KindSet::of_tokens(tree))
+        self.kinds.has(kind)
     }
 }

@@ -6,8 +6,8 @@ use Rattle.ssr_syntax_kinds.specs.contracts.kinds.SyntaxKind.{the_type}
 use Rattle.ssr_syntax_kinds.specs.declared.kinds.SyntaxKind.{SyntaxKind}
 use Rattle.ssr_syntax_kinds.specs.declared.kinds.SyntaxKind.TheVariants as k
 use Rattle.ssr_syntax_kinds.specs.Kinds.{same_kind, is_trivia}
-use Rattle.ssr_syntax_tree.specs.Syntax.{Syntax, tokens_of}
-use Rattle.ssr_syntax_tree.specs.Places.{Node, Part, token_part, node_part, parts_of, root_of, node_of, token_of, HasNode, HasToken}
+use Rattle.ssr_syntax_tree.specs.Syntax.{tokens_of}
+use Rattle.ssr_syntax_tree.specs.Places.{Node, Part, token_part, node_part, parts_of, root_of}
 use Rattle.ssr_base.specs.Meanings.{Meanings}
 use Rattle.ide_ssr_resolving.specs.Resolved.{ResolvedKind}
 use Rattle.ide_ssr_found.specs.declared.bindings.Binding.{Binding}
@@ -69,18 +69,7 @@ has_kind kinds kind = kinds.every || slice_index_or kinds.listed (tag_of the_typ
 pub record AreRules (rules : Rules) : Type 0 where
   pub counted : length rules.asked.items ≡ length rules.rules.now
   pub each : (n : ℕ) (rule : ResolvedKind) (asked : Asked) → slice_get rules.rules.now n ≡ Some rule → slice_get rules.asked.items n ≡ Some asked → IsAskedBy rule asked
-
--- the tokens of a tree are of these kinds
-abbrev pub AreTokenKinds : Syntax → KindSet → Type 0
-AreTokenKinds tree kinds = (t : ℕ) → HasToken tree t → has_kind kinds (token_of tree t).kind ≡ true
-
--- so are those directly below a node
-abbrev pub HasTokensOf : KindSet → Node → Type 0
-HasTokensOf kinds c = (kind : SyntaxKind) → has_token_of kind (parts_of c) ≡ true → has_kind kinds kind ≡ true
-
--- the kinds of the nodes of a tree that have what one of the rules asks for, and of those that may shut in what is below them
-pub record AreKindsIn (rules : Rules) (tree : Syntax) (kinds : KindSet) : Type 0 where
-  pub asked : (n : ℕ) (one : Asked) → slice_get rules.asked.items n ≡ Some one → (node : ℕ) → HasNode tree node → has_asked one.root (node_of tree node) ≡ true
-      → has_kind kinds (node_of tree node).kind ≡ true
-  pub uses : has_kind kinds k.USE ≡ true
-  pub calls : has_kind kinds k.MACRO_CALL ≡ true
+  pub kinds : (n : ℕ) (rule : ResolvedKind) → slice_get rules.rules.now n ≡ Some rule → (m : Meanings) (tree : ℕ) (c : Node)
+      (bindings : List Binding) → Matches m tree rule (root_of rule.pattern) c bindings → has_kind rules.kinds c.kind ≡ true
+  pub uses : has_kind rules.kinds k.USE ≡ true
+  pub calls : has_kind rules.kinds k.MACRO_CALL ≡ true

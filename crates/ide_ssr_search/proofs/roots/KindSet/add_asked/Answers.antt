@@ -1,12 +1,12 @@
-use Rattle.std.proofs.Common.{◌≡◌, true, inl, inr, ◌∙◌, sym, subst}
+use Rattle.std.proofs.Common.{◌≡◌, true, inl, inr, sym, subst}
 use Rattle.ssr_syntax_kinds.specs.declared.kinds.SyntaxKind.TheVariants as k
 use Rattle.ide_ssr_search.specs.Private.Roots.{has_kind}
-use Rattle.ide_ssr_search.proofs.Asked.{asked_call, asked_kind, asked_token}
+use Rattle.ide_ssr_search.proofs.Asked.{asked_call, asked_kind}
 use Rattle.ide_ssr_search.proofs.roots.KindSet.add_asked.Goals as goal
 
 pub returns-in-Call-clause-added : goal.returns-in-Call-clause-added
-returns-in-Call-clause-added c = λ node tokens asked.
-    elim (asked_call c.args.asked.now.root c.in-Call.kind node c.in-Call.is asked) [
+returns-in-Call-clause-added c = λ node asked.
+    elim (asked_call c.args.root c.in-Call.kind node c.in-Call.is asked) [
       | inl own ↦ subst (λ kind. has_kind c.add-in-Call.new.self kind ≡ true) (sym own) (c.add-in-Call.ensures.kept c.in-Call.kind c.add.ensures.added)
       | inr method ↦ subst (λ kind. has_kind c.add-in-Call.new.self kind ≡ true) (sym method) c.add-in-Call.ensures.added
     ]
@@ -15,7 +15,5 @@ pub returns-in-Call-clause-kept : goal.returns-in-Call-clause-kept
 returns-in-Call-clause-kept c = λ kind has. c.add-in-Call.ensures.kept kind (c.add.ensures.kept kind has)
 
 pub returns-in-Node-clause-added : goal.returns-in-Node-clause-added
-returns-in-Node-clause-added c = λ node tokens asked.
-    let there = asked_token c.args.asked.now.root c.in-Node.kind c.in-Node.token node c.args.tokens.now c.in-Node.is tokens asked in
-    subst (λ kind. has_kind c.add_if.new.self kind ≡ true) (sym (asked_kind c.args.asked.now.root c.in-Node.kind c.in-Node.token node c.in-Node.is asked))
-    (c.add_if.ensures.added (c.has_if.ensures ∙ there))
+returns-in-Node-clause-added c = λ node asked.
+    subst (λ kind. has_kind c.add-in-Node.new.self kind ≡ true) (sym (asked_kind c.args.root c.in-Node.kind c.in-Node.field-1 node c.in-Node.is asked)) c.add-in-Node.ensures.added

@@ -1,7 +1,0 @@
-use Rattle.std.proofs.Common.{◌≡◌, ℕ, ◌<◌, true}
-use Rattle.ssr_syntax_tree.specs.Places.{token_of}
-use Rattle.ide_ssr_search.specs.Private.Roots.{has_kind}
-use Rattle.ide_ssr_search.proofs.roots.KindSet.of_tokens.Given as goal
-
-abbrev pub invariant-loop-number : goal.invariant-loop-number
-invariant-loop-number l = (t : ℕ) → t < l.number → has_kind l.kinds (token_of l.tree t).kind ≡ true
