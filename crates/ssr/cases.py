@@ -43,19 +43,27 @@ def ran(program, words, **streams):
     return done.stdout, None if done.stderr else done.returncode
 
 
-def answer(program, words, given):
+def answer(program, words, given, **streams):
     """What is written for the words of a command and what is given, and the status."""
-    return ran(program, words, input=as_bytes(given), stdout=subprocess.PIPE)
+    return ran(program, words, **{"input": as_bytes(given), "stdout": subprocess.PIPE, **streams})
 
 
-def gives(program, words, given, wanted, status=0):
+def gives(program, words, given, wanted, status=0, **streams):
     """Whether this is written, with this status."""
-    return answer(program, words, given) == (as_bytes(wanted), status)
+    return answer(program, words, given, **streams) == (as_bytes(wanted), status)
 
 
 # ** Worked examples: each function tells of a run after the other whether it was as wanted.
 
+EXAMPLES = []
 
+
+def example(runs):
+    EXAMPLES.append(runs)
+    return runs
+
+
+@example
 def rewrites_files(program):
     yield gives(program, [SWAP], "fn f() {1 + 2 + 3 + 4}", "fn f() {4 + (3 + (2 + 1))}")
     yield gives(program, [SWAP], "", "")
@@ -63,6 +71,7 @@ def rewrites_files(program):
     yield gives(program, ["$a+$b==>>$b-$a"], file, new)
 
 
+@example
 def earlier_rules_come_first(program):
     rules = ["$a + 1 ==>> $a * 7", "$a + $b ==>> $a - $b", "true ==>> false"]
     yield gives(program, rules, "fn f() {3 + 2 + 1}", "fn f() {(3 - 2) * 7}")
@@ -71,11 +80,16 @@ def earlier_rules_come_first(program):
     yield gives(program, rules, file, new)
 
 
+@example
 def wrong_words_are_refused(program):
     for words in [[], ["--facts", "f.json", SWAP], [SWAP, b"\xff"]]:
         yield gives(program, words, SUM, USAGE, 2)
+        # nor is anything read
+        with folder() as stream:
+            yield ran(program, words, stdin=stream, stdout=subprocess.PIPE) == (as_bytes(USAGE), 2)
 
 
+@example
 def files_are_refused(program):
     # a file is told of before a rule
     for rule in [SWAP, "no rule"]:
@@ -85,6 +99,7 @@ def files_are_refused(program):
             yield gives(program, [rule], file, NO_UTF8, 1)
 
 
+@example
 def rules_are_refused(program):
     for rule, message in [
         ("", "Cannot find delimiter `==>>`"),
@@ -93,8 +108,8 @@ def rules_are_refused(program):
         ("foo ==>> 1", "Failed to resolve path `foo`"),
     ]:
         # alone, or the first refusal of several rules
-        for rules in [[rule], [SWAP, rule, SWAP], [SWAP, rule, "no rule"]]:
-            yield gives(program, rules, SUM, f"error: Parse error: {message}\n", 1)
+        for rules, file in [([rule], "fn f() {}"), ([SWAP, rule, SWAP], SUM), ([SWAP, rule, "no rule"], SUM)]:
+            yield gives(program, rules, file, f"error: Parse error: {message}\n", 1)
 
 
 def is_answer(output, status):
@@ -103,6 +118,7 @@ def is_answer(output, status):
     return status == 0 and not is_line or status == 1 and is_line
 
 
+@example
 def every_beginning_is_answered(program):
     for text, output, status in [
         (SWAP, NO_FILE, 1),
@@ -127,6 +143,7 @@ def nested(pairs, inner):
     return "(" * pairs + inner + ")" * pairs
 
 
+@example
 def files_are_read_to_a_depth_of_1024(program):
     # a block's tail expression has depth 4
     for body, fits in [
@@ -140,26 +157,31 @@ def files_are_read_to_a_depth_of_1024(program):
         yield gives(program, ["2 ==>> 3"], file, file if fits else TOO_DEEP, 0 if fits else 1)
 
 
+@example
 def rules_are_read_to_a_depth_of_1024(program):
     file = "fn f() {1}"
     yield gives(program, [nested(1024, "1") + " ==>> 3"], file, file)
     yield gives(program, [nested(1025, "1") + " ==>> 3"], file, NO_KIND, 1)
 
 
+@example
 def matches_go_to_a_depth_of_1024(program):
     file = f"fn f() {{{nested(1020, '1')}}}"
     yield gives(program, [nested(1020, "$a") + " ==>> $a"], file, "fn f() {1}")
 
 
+@example
 def a_million_parentheses_are_refused(program):
     output, status = answer(program, [SWAP], "fn f() {" + "(" * 1_000_000)
     yield status == 1 and output.decode() in (NO_FILE, TOO_DEEP)
 
 
+@example
 def many_matches_are_rewritten(program):
     yield gives(program, [SWAP], f"{SUM}\n" * 20_000, f"{SWAPPED}\n" * 20_000)
 
 
+@example
 def a_file_of_17_megabytes_is_rewritten(program):
     lines = "// a line of a comment\n" * 750_000
     yield gives(program, [SWAP], f"{lines}{SUM}\n", f"{lines}{SWAPPED}\n")
@@ -175,12 +197,12 @@ def limited(limit, count):
     return limits
 
 
+@example
 def want_of_memory_is_told(program):
     file = f"{SUM}\n" * 200_000
     # the first has no room for the file's tree, the second for its edits
     for megabytes, told in [(16, "error: standard input: out of memory\n"), (100, "error: out of memory\n")]:
-        limits = limited(resource.RLIMIT_AS, megabytes << 20)
-        yield ran(program, [SWAP], input=file.encode(), stdout=subprocess.PIPE, preexec_fn=limits) == (told.encode(), 1)
+        yield gives(program, [SWAP], file, told, 1, preexec_fn=limited(resource.RLIMIT_AS, megabytes << 20))
 
 
 # ** Streams that fail, or give and take in parts.
@@ -206,13 +228,15 @@ def connection(text):
     given.close()
 
 
+@example
 def failed_reads_are_told(program):
     for given in [folder(), connection(""), connection("fn f() "), connection(SUM)]:
         with given as stream:
             told = ran(program, [SWAP], stdin=stream, stdout=subprocess.PIPE)
-        yield told == (NO_READ.encode(), 1)
+        yield told == (as_bytes(NO_READ), 1)
 
 
+@example
 def texts_are_read_in_parts(program):
     reading, writing = os.pipe()
     with os.fdopen(reading) as stream:
@@ -222,37 +246,18 @@ def texts_are_read_in_parts(program):
         time.sleep(0.01)
     os.close(writing)
     output, _ = run.communicate(timeout=120)
-    yield (output, run.returncode) == (SWAPPED.encode(), 0)
+    yield (output, run.returncode) == (as_bytes(SWAPPED), 0)
 
 
+@example
 def failed_writes_leave_a_beginning(program):
     with open("/dev/full", "wb") as full:
-        yield ran(program, [SWAP], input=SUM.encode(), stdout=full)[1] == 1
+        yield answer(program, [SWAP], SUM, stdout=full)[1] == 1
     for count, status in [(0, 1), (1, 1), (10, 1), (13, 1), (14, 0)]:
         with tempfile.TemporaryFile() as file:
-            _, ended = ran(program, [SWAP], input=SUM.encode(), stdout=file, preexec_fn=limited(resource.RLIMIT_FSIZE, count))
+            _, ended = answer(program, [SWAP], SUM, stdout=file, preexec_fn=limited(resource.RLIMIT_FSIZE, count))
             file.seek(0)
-            yield (file.read(), ended) == (SWAPPED[:count].encode(), status)
-
-
-EXAMPLES = [
-    rewrites_files,
-    earlier_rules_come_first,
-    wrong_words_are_refused,
-    files_are_refused,
-    rules_are_refused,
-    every_beginning_is_answered,
-    files_are_read_to_a_depth_of_1024,
-    rules_are_read_to_a_depth_of_1024,
-    matches_go_to_a_depth_of_1024,
-    a_million_parentheses_are_refused,
-    many_matches_are_rewritten,
-    a_file_of_17_megabytes_is_rewritten,
-    want_of_memory_is_told,
-    failed_reads_are_told,
-    texts_are_read_in_parts,
-    failed_writes_leave_a_beginning,
-]
+            yield (file.read(), ended) == (as_bytes(SWAPPED[:count]), status)
 
 
 def built_programs():
@@ -264,11 +269,11 @@ def built_programs():
 def main(words):
     passed = failed = 0
     for program in words or built_programs():
-        for example in EXAMPLES:
-            for number, is_well in enumerate(example(os.path.abspath(program)), 1):
+        for runs in EXAMPLES:
+            for number, is_well in enumerate(runs(os.path.abspath(program)), 1):
                 passed, failed = passed + is_well, failed + (not is_well)
                 if not is_well:
-                    print(f"{program}: {example.__name__}, run {number}: FAILED")
+                    print(f"{program}: {runs.__name__}, run {number}: FAILED")
     print(f"{passed} passed, {failed} failed")
     return 1 if failed else 0
 
