@@ -20,8 +20,12 @@ fn the_tree_of_tokens(rt: HostRuntime) -> Result<(), Fail> {
     let tokens = one_token(rt.alloc(), "1")?;
     let others = one_token(rt.alloc(), "2")?;
     let tree = parse_tokens(rt.alloc(), ExpansionKind::Expr, &tokens)?;
-    assert!(rt; fits_tokens(rt.alloc(), ExpansionKind::Expr, &tokens, &tree)?);
-    assert!(rt; !fits_tokens(rt.alloc(), ExpansionKind::Stmts, &tokens, &tree)?);
-    assert!(rt; !fits_tokens(rt.alloc(), ExpansionKind::Expr, &others, &tree)?);
+    for (kind, tokens, fits) in [
+        (ExpansionKind::Expr, &tokens, true),
+        (ExpansionKind::Stmts, &tokens, false),
+        (ExpansionKind::Expr, &others, false),
+    ] {
+        assert!(rt; fits_tokens(rt.alloc(), kind, tokens, &tree)? == fits);
+    }
     Ok(())
 }

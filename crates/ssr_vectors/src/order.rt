@@ -32,13 +32,17 @@ fn an_expansion_comes_behind_its_call_and_before_its_arguments(
     let call = node(0, 7);
     let arguments = node(0, 8);
     let root = node(2, 0);
-    assert_eq!(rt; compared(workspace, call, root), Some((true, true)));
-    assert_eq!(rt; compared(workspace, root, arguments), Some((true, false)));
-    assert_eq!(rt; compared(workspace, arguments, root), Some((false, false)));
-    assert_eq!(rt; compared(workspace, node(0, 0), root), Some((true, true)));
-    assert_eq!(rt; compared(workspace, root, node(1, 0)), Some((true, false)));
-    assert_eq!(rt; compared(workspace, node(1, 0), root), Some((false, false)));
-    assert_eq!(rt; compared(workspace, root, root), Some((false, false)));
-    assert_eq!(rt; compared(workspace, node(3, 0), root), None);
+    for (a, b, wanted) in [
+        (call, root, Some((true, true))),
+        (root, arguments, Some((true, false))),
+        (arguments, root, Some((false, false))),
+        (node(0, 0), root, Some((true, true))),
+        (root, node(1, 0), Some((true, false))),
+        (node(1, 0), root, Some((false, false))),
+        (root, root, Some((false, false))),
+        (node(3, 0), root, None),
+    ] {
+        assert_eq!(rt; compared(workspace, a, b), wanted, "of {a:?} and {b:?}");
+    }
     Ok(())
 }
