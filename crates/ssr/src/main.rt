@@ -2,16 +2,7 @@
 //! standard output.
 #![tactic(auto)]
 
-mod counted;
-mod laws;
-mod program;
-mod rewriting;
-mod streams;
-mod transfer;
-mod unresolved;
-
-use counted::{CountedSink, CountedSource};
-use program::run;
+use ssr_program::{CountedSink, CountedSource, run};
 use std::process::ExitCode;
 use std::{env, io};
 
