@@ -4,4 +4,4 @@ use Rattle.ssr_syntax_adts.proofs.adts.enum_item.Goals as goal
 
 pub returns : goal.returns
 unfolding enum_item
-returns g c = search rules
+returns g c = rw (c.in_ok-expect.ensures, c.in_ok-name.ensures, c.in_ok-generic_params.ensures, c.in_ok-wheres.ensures, c.in_ok-variant_list.ensures) (search (rules, c.complete.ensures) steps 100000)

@@ -5,4 +5,4 @@ use Rattle.ssr_syntax_adts.proofs.params.generic_param_list.Goals as goal
 
 pub returns : goal.returns
 unfolding generic_param_list
-returns g c = search (rules, run_comma_list)
+returns g c = search (rules, run_comma_list) steps 3000000

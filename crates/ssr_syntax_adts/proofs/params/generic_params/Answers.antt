@@ -4,4 +4,4 @@ use Rattle.ssr_syntax_adts.proofs.params.generic_params.Goals as goal
 
 pub returns-then-at_any : goal.returns-then-at_any
 unfolding generic_params
-returns-then-at_any g c = search rules
+returns-then-at_any g c = search rules steps 200000

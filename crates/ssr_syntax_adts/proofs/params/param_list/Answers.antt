@@ -4,4 +4,4 @@ use Rattle.ssr_syntax_adts.proofs.params.param_list.Goals as goal
 
 pub returns : goal.returns
 unfolding param_list
-returns g c = search rules
+returns g c = rw (c.in_ok-expect.ensures, c.in_ok-any_params.ensures, c.in_ok-expect-2.ensures) (search (rules, rw c.start-m.ensures at c.complete.ensures) steps 100000)

@@ -4,4 +4,4 @@ use Rattle.ssr_syntax_adts.proofs.uses.name_or_underscore.Goals as goal
 
 pub returns-then-at : goal.returns-then-at
 unfolding name_or_underscore
-returns-then-at g c = search rules
+returns-then-at g c = search rules steps 3000000

@@ -4,4 +4,4 @@ use Rattle.ssr_syntax_adts.proofs.uses.use_item.Goals as goal
 
 pub returns : goal.returns
 unfolding use_item
-returns g c = search rules
+returns g c = rw (c.in_ok-expect.ensures, c.in_ok-read.ensures, c.in_ok-expect-2.ensures) (search (rules, c.complete.ensures) steps 100000)
