@@ -4,4 +4,4 @@ use Rattle.ssr_syntax_exprs.proofs.blocks.block_like.Goals as goal
 
 pub returns-then-at-2 : goal.returns-then-at-2
 unfolding block_like
-returns-then-at-2 g c = search rules
+returns-then-at-2 g c = search rules steps 3000000

@@ -5,8 +5,8 @@ use Rattle.ssr_syntax_exprs.proofs.conditions.conjunction_end.Goals as goal
 
 pub returns-then-at_two : goal.returns-then-at_two
 unfolding conjunction_end
-returns-then-at_two g c = search (rules, run_decide)
+returns-then-at_two g c = search (rules, run_decide) steps 3000000
 
 pub returns-else-at_two : goal.returns-else-at_two
 unfolding conjunction_end
-returns-else-at_two g c = search (rules, run_decide)
+returns-else-at_two g c = search (rules, run_decide) steps 3000000

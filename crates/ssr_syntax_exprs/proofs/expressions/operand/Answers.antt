@@ -4,4 +4,4 @@ use Rattle.ssr_syntax_exprs.proofs.expressions.operand.Goals as goal
 
 pub returns : goal.returns
 unfolding operand
-returns g c = search rules
+returns g c = search rules steps 1000000

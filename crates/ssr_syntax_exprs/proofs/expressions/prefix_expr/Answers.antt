@@ -4,4 +4,4 @@ use Rattle.ssr_syntax_exprs.proofs.expressions.prefix_expr.Goals as goal
 
 pub returns : goal.returns
 unfolding prefix_expr
-returns g c = search rules
+returns g c = search rules steps 3000000

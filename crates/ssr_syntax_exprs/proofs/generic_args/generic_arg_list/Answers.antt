@@ -5,4 +5,4 @@ use Rattle.ssr_syntax_exprs.proofs.generic_args.generic_arg_list.Goals as goal
 
 pub returns : goal.returns
 unfolding generic_arg_list
-returns g c = search (rules, run_comma_list)
+returns g c = search (rules, run_comma_list) steps 3000000
