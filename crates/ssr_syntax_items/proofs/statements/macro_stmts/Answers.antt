@@ -4,4 +4,4 @@ use Rattle.ssr_syntax_items.proofs.statements.macro_stmts.Goals as goal
 
 pub returns : goal.returns
 unfolding macro_stmts
-returns g c = search rules
+returns g c = search rules steps 3000000
