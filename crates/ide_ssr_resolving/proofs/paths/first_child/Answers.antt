@@ -49,5 +49,5 @@ returns-in-Some-node_of_kind-clause-below c =
 
 pub returns-clause-below : goal.returns-clause-below
 returns-clause-below c =
-    let none : ◌≡◌ {A = Option Node} None (first_of_kind c.args.kind (parts_of (node_of c.args.tree.now c.args.node.0))) = search rules in
+    let none : ◌≡◌ {A = Option Node} None (first_of_kind c.args.kind (parts_of (node_of c.args.tree.now c.args.node.0))) = search rules steps 200000 in
     below_told c.args.tree.now c.args.kind (node_of c.args.tree.now c.args.node.0) None none

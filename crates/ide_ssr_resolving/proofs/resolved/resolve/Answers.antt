@@ -1,4 +1,5 @@
-use Rattle.std.proofs.Common.{◌≡◌, ℕ, arith, List, length, map, string_bytes, All, Ok, ap, sym, ◌∙◌}
+use Rattle.std.proofs.Common.{◌≡◌, ℕ, arith, rules, List, length, map, string_bytes, All, Ok, ap, sym, ◌∙◌}
+use Rattle.std.proofs.lemmas.Grind.{common_steps}
 use Rattle.std.proofs.lemmas.List.Elements.{All-weaker}
 use Rattle.std.proofs.lemmas.List.{length-map, nil_from_length}
 use Rattle.std.specs.declared.alloc.Global.{Global}
@@ -61,3 +62,6 @@ pub resolved_kind-requires : goal.resolved_kind-requires
 resolved_kind-requires g c =
     let few = c.into_parts-names.ensures.few in
     omega (arith, few, ap length (c.in_ok-known.ensures ∙ ap (map string_bytes) c.as_slice.ensures.value), length-map {A = String Global} {B = List ℕ})
+
+pub returns-clause-kinds : goal.returns-clause-kinds
+returns-clause-kinds g c = first_of (search rules steps 500000, grind (arith, common_steps) steps 500000)

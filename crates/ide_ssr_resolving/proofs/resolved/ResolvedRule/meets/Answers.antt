@@ -1,4 +1,5 @@
-use Rattle.std.proofs.Common.{◌≤◌, [], length, sym, ap, ◌∙◌, arith}
+use Rattle.std.proofs.Common.{◌≤◌, [], length, sym, ap, ◌∙◌, arith, rules}
+use Rattle.std.proofs.lemmas.Grind.{common_steps}
 use Rattle.std.proofs.lemmas.Bool.Decides.{nat_tests}
 use Rattle.std.proofs.lemmas.List.{get_or_past}
 use Rattle.ide_ssr_constraints.specs.Constraints.{are_met}
@@ -8,6 +9,10 @@ use Rattle.ide_ssr_resolving.proofs.resolved.ResolvedRule.meets.Goals as goal
 pub returns-in-None : goal.returns-in-None
 unfolding meets
 returns-in-None c =
-    let past : length c.self.inside.constraints.items ≤ c.args.placeholder = grind (arith, nat_tests) in
+    let past : length c.self.inside.constraints.items ≤ c.args.placeholder = grind (arith, nat_tests) steps 200000 in
     ap (λ constraints. are_met constraints c.args.kind) (sym (get_or_past c.self.inside.constraints.items c.args.placeholder [] past))
     ∙ ap (λ (rule : ResolvedKind). meets rule c.args.placeholder c.args.kind) c.self.view_is
+
+pub returns-in-Some : goal.returns-in-Some
+unfolding meets
+returns-in-Some c = first_of (search rules steps 500000, grind (arith, common_steps) steps 500000)
