@@ -25,7 +25,7 @@ overflow_add-at c =
     let bound : c.loop-token.at + length c.text_for-text.result.now < 2 ^ 64 = bounded _ _ _ _ _ _ c.loop-token.invariant.within
     (plain_from c.args.rule.now.names (piece_of c.args.bindings.now (map string_bytes c.args.pieces.now)) c.args.template.now c.loop-token.token (omega arith))
     c.requires.length c.text_for-text.ensures in
-    search rules
+    search rules steps 1000000
 
 pub loop-token-preserved : goal.loop-token-preserved
 loop-token-preserved c =

@@ -4,4 +4,4 @@ use Rattle.ide_ssr_rewriting.proofs.clashes.Rewrite.clashes_with.Goals as goal
 
 pub returns-else-share_byte : goal.returns-else-share_byte
 unfolding is_clash
-returns-else-share_byte c = search rules
+returns-else-share_byte c = search rules steps 200000

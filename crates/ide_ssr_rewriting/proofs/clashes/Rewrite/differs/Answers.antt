@@ -2,10 +2,10 @@ use Rattle.std.proofs.Common.{rules}
 use Rattle.ide_ssr_rewriting.proofs.clashes.Rewrite.differs.Goals as goal
 
 pub returns-in_default : goal.returns-in_default
-returns-in_default c = search rules
+returns-in_default c = search rules steps 200000
 
 pub returns-in-Some-Some : goal.returns-in-Some-Some
-returns-in-Some-Some c = search rules
+returns-in-Some-Some c = search rules steps 200000
 
 pub returns-in_default-2 : goal.returns-in_default-2
-returns-in_default-2 c = search rules
+returns-in_default-2 c = search rules steps 200000
