@@ -1,4 +1,5 @@
-use Rattle.std.proofs.Common.{◌+◌, sym, subst, arith}
+use Rattle.std.proofs.Common.{◌+◌, sym, subst, arith, rules}
+use Rattle.std.proofs.lemmas.Grind.{common_steps}
 use Rattle.std.specs.Prelude.{◌↔◌, IsTrue}
 use Rattle.std.specs.Option.{IsSomeAnd}
 use Rattle.ssr_base.specs.Workspace.{trees, node_id}
@@ -56,3 +57,6 @@ add_found-requires-clause-shut g c =
     let known = c.new-ground.ensures in
     subst (λ w. KnowsShut w c.new-ground.result.number 0 c.loop-tree.shut) (sym known.workspace)
     (subst (λ n. KnowsShut w n 0 c.loop-tree.shut) (sym known.number) c.loop-tree.invariant.shut)
+
+pub loop-tree-init : goal.loop-tree-init
+loop-tree-init g c = first_of (search rules steps 1000000, grind (arith, common_steps) steps 1000000)
