@@ -4,8 +4,8 @@ use Rattle.ssr_syntax.proofs.grammar.read_form.Goals as goal
 
 pub returns-in-Ty : goal.returns-in-Ty
 unfolding grammar
-returns-in-Ty g c = search rules
+returns-in-Ty g c = search rules steps 200000
 
 pub returns-in-If : goal.returns-in-If
 unfolding grammar
-returns-in-If g c = search rules
+returns-in-If g c = search rules steps 200000

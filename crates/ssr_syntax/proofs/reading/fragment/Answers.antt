@@ -77,7 +77,7 @@ returns-in_err-tree-clause-complete c syntax short fits =
 pub returns-clause-answers : goal.returns-clause-answers
 returns-clause-answers c =
     let is = read_is (goal.at.returns-clause-answers c).After-goal in
-    (is.read ∙ c.in_ok-tree.ensures is.raw is.lexed, search rules)
+    (is.read ∙ c.in_ok-tree.ensures is.raw is.lexed, search rules steps 1000000)
 
 pub returns-clause-sound : goal.returns-clause-sound
 returns-clause-sound c =
