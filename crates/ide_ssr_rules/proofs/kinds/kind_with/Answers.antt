@@ -2,10 +2,10 @@ use Rattle.std.proofs.Common.{rules}
 use Rattle.ide_ssr_rules.proofs.kinds.kind_with.Goals as goal
 
 pub returns : goal.returns
-returns c = search rules
+returns c = search rules steps 500000
 
 pub returns-in_default : goal.returns-in_default
-returns-in_default c = search rules
+returns-in_default c = search rules steps 500000
 
 pub returns-in_err-side : goal.returns-in_err-side
-returns-in_err-side c = search rules
+returns-in_err-side c = search rules steps 500000
