@@ -6,7 +6,7 @@ use Rattle.ssr_base.proofs.edit.TextEdit.apply.Goals as goal
 
 pub returns-clause-answer : goal.returns-clause-answer
 returns-clause-answer c =
-    let fit : All (FitsText c.args.text.now) c.args.self.now = c.if-not-fits.ensures.fits.0 (search rules) in (
+    let fit : All (FitsText c.args.text.now) c.args.self.now = c.if-not-fits.ensures.fits.0 (search rules steps 200000) in (
       fit,
       subst (IsReplaced 0 c.args.text.now c.args.self.now) (sym c.in_ok-written.ensures)
           (IsReplaced-replaced c.args.text.now 0 c.args.self.now c.fits.ensures.order (omega arith) fit),

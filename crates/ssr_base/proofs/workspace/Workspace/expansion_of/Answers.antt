@@ -9,6 +9,6 @@ use Rattle.ssr_base.proofs.workspace.Workspace.expansion_of.Goals as goal
 pub overflow_add-result : goal.overflow_add-result
 overflow_add-result c =
     let expansions = map expanded_of c.self.inside.expansions.items in
-    let found : position_from (λ e. same_id c.args.call e.call) 0 expansions ≡ Some c.in-Some.number.now = search rules in
+    let found : position_from (λ e. same_id c.args.call e.call) 0 expansions ≡ Some c.in-Some.number.now = search rules steps 200000 in
     let files = ap (λ w. length w.files) c.self.view_is in
     omega (arith, files, position_within (λ e. same_id c.args.call e.call) 0 c.in-Some.number.now expansions found, c.self.invariant.few, length-map c.self.inside.expansions.items expanded_of)
