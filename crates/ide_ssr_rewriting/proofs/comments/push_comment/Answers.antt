@@ -7,3 +7,6 @@ returns-in_err-push_str c = search rules steps 200000
 
 pub returns-in_ok-push_str-2 : goal.returns-in_ok-push_str-2
 returns-in_ok-push_str-2 c = grind (arith, common_steps) steps 200000
+
+pub returns-else-starts_with : goal.returns-else-starts_with
+returns-else-starts_with c = first_of (search rules steps 2000000, grind (arith, common_steps) steps 2000000)
