@@ -1,4 +1,5 @@
-use Rattle.std.proofs.Common.{◌≡◌, ◌∙◌, List, None, All, subst}
+use Rattle.std.proofs.Common.{◌≡◌, ◌∙◌, List, None, All, subst, arith, rules}
+use Rattle.std.proofs.lemmas.Grind.{common_steps}
 use Rattle.ide_ssr_resolving.specs.Patterns.{HasEachOnce, AreInArguments}
 use Rattle.ide_ssr_resolving.specs.Resolved.{ResolvedKind}
 use Rattle.ide_ssr_nesting.specs.Lists.{listed}
@@ -22,3 +23,6 @@ returns-clause-binds g c =
     let same : c.deref.result.now ≡ finder.rules = c.deref.ensures.value ∙ rules in
     let shown = subst (λ (rules : List ResolvedKind). Show rules kept lists (listed lists None) answer) same c.in_ok-matches.ensures in
     answer_once finder.rules kept lists (listed lists None) answer (kept_of_rules finder kept lists each in_arguments outcome) outcome.is_kept shown
+
+pub returns-clause-shows : goal.returns-clause-shows
+returns-clause-shows g c = first_of (search rules steps 2000000, grind (arith, common_steps) steps 2000000)
