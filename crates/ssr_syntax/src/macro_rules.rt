@@ -42,6 +42,7 @@ fn is_misnamed(tree: &Tree, node: NodeNo) -> bool
 }
 
 /// Whether one of the nodes is.
+#[inline(never)]
 pub(crate) fn misnames_macros(tree: &Tree) -> bool
     ensures { result ≡ misnames_macros tree.now }
 {

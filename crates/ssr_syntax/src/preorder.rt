@@ -128,6 +128,7 @@ fn open_row(
 }
 
 /// Turns the rows, the last one first, and then those above.
+#[inline(never)]
 fn from_right(
     ends: &[u32],
     total: u32,

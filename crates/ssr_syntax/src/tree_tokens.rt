@@ -56,6 +56,7 @@ fn add<'a>(
 }
 
 /// The tokens of the tree of a text with these rows, of whose tokens these were taken.
+#[inline(never)]
 pub(crate) fn tree_tokens(
     alloc: Global,
     rows: TokenRows,
@@ -91,6 +92,7 @@ fn push_again(numbers: &mut Vec<u32>, number: u32, times: u8) -> Result<(), Allo
 
 /// How many tokens of these sizes there are up to each solid token of the text and with the one that it is of, after none
 /// for no solid token; `solid` of those there are.
+#[inline(never)]
 pub(crate) fn ends(alloc: Global, sizes: &[u8], solid: usize) -> Result<Vec<u32>, AllocError>
     requires { length sizes.now < 2 ^ 32 }
     ensures { IfOk result (λ v. v.items ≡ 0 ∷ ends_of 0 sizes.now) }

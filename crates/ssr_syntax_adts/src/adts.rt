@@ -18,6 +18,7 @@ struct RecordFieldFirst;
 impl TokenSet for RecordFieldFirst {
     ghost kinds = { λ _. form.record_field_first };
 
+    #[inline(always)]
     fn contains(self, kind: SyntaxKind) -> bool {
         matches!(kind, IDENT | POUND | PUB_KW)
     }
@@ -30,6 +31,7 @@ struct TupleFieldFirst;
 impl TokenSet for TupleFieldFirst {
     ghost kinds = { λ _. form.tuple_field_first };
 
+    #[inline(always)]
     #[tactic(auto, unfolding(crate::specs::Adts::tuple_field_first))]
     fn contains(self, kind: SyntaxKind) -> bool {
         matches!(kind, POUND | PUB_KW) || TypeFirst.contains(kind)
@@ -43,6 +45,7 @@ struct VariantFirst;
 impl TokenSet for VariantFirst {
     ghost kinds = { λ _. form.variant_first };
 
+    #[inline(always)]
     fn contains(self, kind: SyntaxKind) -> bool {
         matches!(kind, IDENT | POUND)
     }

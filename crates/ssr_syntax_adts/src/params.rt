@@ -22,6 +22,7 @@ struct GenericParamFirst;
 impl TokenSet for GenericParamFirst {
     ghost kinds = { λ _. form.generic_param_first };
 
+    #[inline(always)]
     fn contains(self, kind: SyntaxKind) -> bool {
         matches!(kind, IDENT | LIFETIME_IDENT | CONST_KW)
     }
@@ -34,6 +35,7 @@ struct TypeBoundFirst;
 impl TokenSet for TypeBoundFirst {
     ghost kinds = { λ _. form.type_bound_first };
 
+    #[inline(always)]
     #[tactic(auto, unfolding(crate::specs::Params::type_bound_first))]
     fn contains(self, kind: SyntaxKind) -> bool {
         matches!(kind, LIFETIME_IDENT | QUESTION) || PathFirst.contains(kind)
@@ -47,6 +49,7 @@ struct WherePredFirst;
 impl TokenSet for WherePredFirst {
     ghost kinds = { λ _. form.where_pred_first };
 
+    #[inline(always)]
     #[tactic(auto, unfolding(crate::specs::Params::where_pred_first))]
     fn contains(self, kind: SyntaxKind) -> bool {
         matches!(kind, LIFETIME_IDENT) || TypeFirst.contains(kind)
@@ -60,6 +63,7 @@ struct EndsSelf;
 impl TokenSet for EndsSelf {
     ghost kinds = { λ _. form.ends_self };
 
+    #[inline(always)]
     fn contains(self, kind: SyntaxKind) -> bool {
         matches!(kind, COLON | COMMA | R_PAREN)
     }
@@ -72,6 +76,7 @@ struct OwnWords;
 impl TokenSet for OwnWords {
     ghost kinds = { λ _. form.own_words };
 
+    #[inline(always)]
     fn contains(self, kind: SyntaxKind) -> bool {
         matches!(kind, CRATE_KW | SELF_KW | SUPER_KW)
     }
@@ -84,6 +89,7 @@ struct EndsType;
 impl TokenSet for EndsType {
     ghost kinds = { λ _. form.ends_type };
 
+    #[inline(always)]
     fn contains(self, kind: SyntaxKind) -> bool {
         matches!(kind, COMMA | R_PAREN)
     }

@@ -18,6 +18,7 @@ pub struct MacroPathFirst;
 impl TokenSet for MacroPathFirst {
     ghost kinds = { λ _. form.macro_path_first };
 
+    #[inline(always)]
     #[tactic(auto, unfolding(crate::specs::Uses::macro_path_first))]
     fn contains(self, kind: SyntaxKind) -> bool {
         matches!(kind, COLON2) || PathNames.contains(kind)
@@ -31,6 +32,7 @@ struct UseFirst;
 impl TokenSet for UseFirst {
     ghost kinds = { λ _. form.use_first };
 
+    #[inline(always)]
     #[tactic(auto, unfolding(crate::specs::Uses::use_first))]
     fn contains(self, kind: SyntaxKind) -> bool {
         matches!(kind, STAR | L_CURLY) || MacroPathFirst.contains(kind)

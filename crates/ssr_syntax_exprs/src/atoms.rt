@@ -19,6 +19,7 @@ pub(crate) struct LeavingFirst;
 impl TokenSet for LeavingFirst {
     ghost kinds = { λ _. form.leaving_first };
 
+    #[inline(always)]
     #[tactic(auto, unfolding(crate::specs::Atoms::leaving_first))]
     fn contains(self, kind: SyntaxKind) -> bool {
         matches!(kind, RETURN_KW | BREAK_KW | PIPE | PIPE2 | MOVE_KW)
@@ -32,6 +33,7 @@ struct Bars;
 impl TokenSet for Bars {
     ghost kinds = { λ _. form.bars };
 
+    #[inline(always)]
     fn contains(self, kind: SyntaxKind) -> bool {
         matches!(kind, PIPE | PIPE2)
     }
@@ -44,6 +46,7 @@ struct OperandMarks;
 impl TokenSet for OperandMarks {
     ghost kinds = { λ _. form.operand_marks };
 
+    #[inline(always)]
     #[tactic(auto, unfolding(crate::specs::Atoms::operand_marks))]
     fn contains(self, kind: SyntaxKind) -> bool {
         matches!(
@@ -60,6 +63,7 @@ pub(crate) struct BracelessFirst;
 impl TokenSet for BracelessFirst {
     ghost kinds = { λ _. form.braceless_first };
 
+    #[inline(always)]
     #[tactic(auto, using(ssr_syntax_forms::proofs::Shared::mem_append), unfolding(crate::specs::Atoms::braceless_first))]
     fn contains(self, kind: SyntaxKind) -> bool {
         Literals.contains(kind)
@@ -76,6 +80,7 @@ pub(crate) struct OperandFirst;
 impl TokenSet for OperandFirst {
     ghost kinds = { λ _. form.operand_first };
 
+    #[inline(always)]
     #[tactic(auto, unfolding(crate::specs::Atoms::operand_first))]
     fn contains(self, kind: SyntaxKind) -> bool {
         matches!(kind, L_CURLY) || BracelessFirst.contains(kind)
@@ -89,6 +94,7 @@ pub struct ExprFirst;
 impl TokenSet for ExprFirst {
     ghost kinds = { λ _. form.expr_first };
 
+    #[inline(always)]
     #[tactic(auto, using(ssr_syntax_forms::proofs::Shared::mem_append), unfolding(crate::specs::Atoms::expr_first))]
     fn contains(self, kind: SyntaxKind) -> bool {
         OperandFirst.contains(kind) || Ranges.contains(kind) || LeavingFirst.contains(kind)
@@ -102,6 +108,7 @@ struct FieldValueFirst;
 impl TokenSet for FieldValueFirst {
     ghost kinds = { λ _. form.field_value_first };
 
+    #[inline(always)]
     #[tactic(auto, using(ssr_syntax_forms::proofs::Shared::mem_append), unfolding(crate::specs::Atoms::field_value_first))]
     fn contains(self, kind: SyntaxKind) -> bool {
         matches!(kind, DOT2EQ) || OperandFirst.contains(kind) || LeavingFirst.contains(kind)

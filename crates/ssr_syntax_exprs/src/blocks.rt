@@ -17,6 +17,7 @@ pub(crate) struct BlockWords;
 impl TokenSet for BlockWords {
     ghost kinds = { λ _. form.block_words };
 
+    #[inline(always)]
     #[tactic(auto, unfolding(crate::specs::Blocks::block_words))]
     fn contains(self, kind: SyntaxKind) -> bool {
         matches!(
@@ -33,6 +34,7 @@ pub struct BlockFirst;
 impl TokenSet for BlockFirst {
     ghost kinds = { λ _. form.block_first };
 
+    #[inline(always)]
     #[tactic(auto, unfolding(crate::specs::Blocks::block_first))]
     fn contains(self, kind: SyntaxKind) -> bool {
         matches!(kind, L_CURLY) || BlockWords.contains(kind)
@@ -46,6 +48,7 @@ struct ArmFirst;
 impl TokenSet for ArmFirst {
     ghost kinds = { λ _. form.arm_first };
 
+    #[inline(always)]
     #[tactic(auto, unfolding(crate::specs::Blocks::arm_first))]
     fn contains(self, kind: SyntaxKind) -> bool {
         matches!(kind, POUND) || PatFirst.contains(kind)

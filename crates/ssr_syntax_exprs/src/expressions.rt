@@ -26,6 +26,7 @@ struct PrefixOperators;
 impl TokenSet for PrefixOperators {
     ghost kinds = { λ _. form.prefix_operators };
 
+    #[inline(always)]
     fn contains(self, kind: SyntaxKind) -> bool {
         matches!(kind, MINUS | BANG | STAR)
     }
@@ -38,6 +39,7 @@ struct PostfixFirst;
 impl TokenSet for PostfixFirst {
     ghost kinds = { λ _. form.postfix_first };
 
+    #[inline(always)]
     fn contains(self, kind: SyntaxKind) -> bool {
         matches!(kind, L_PAREN | L_BRACK | QUESTION | DOT)
     }
@@ -50,6 +52,7 @@ struct Assignments;
 impl TokenSet for Assignments {
     ghost kinds = { λ _. form.assignments };
 
+    #[inline(always)]
     #[tactic(auto, unfolding(crate::specs::Expressions::assignments))]
     fn contains(self, kind: SyntaxKind) -> bool {
         matches!(
@@ -84,6 +87,7 @@ struct Operators(Rank);
 impl TokenSet for Operators {
     ghost kinds = { λ o. form.operators o.0 };
 
+    #[inline(always)]
     #[tactic(auto, using(crate::proofs::Ranks::no_operators), unfolding(crate::specs::Expressions::operators))]
     fn contains(self, kind: SyntaxKind) -> bool {
         match self.0 {
@@ -108,6 +112,7 @@ struct EndsFirst(ExprPlace);
 impl TokenSet for EndsFirst {
     ghost kinds = { λ e. form.ends_first e.0 };
 
+    #[inline(always)]
     #[tactic(auto, unfolding(crate::specs::Expressions::ends_first))]
     fn contains(self, kind: SyntaxKind) -> bool {
         match self.0 {

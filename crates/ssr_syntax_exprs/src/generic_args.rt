@@ -18,6 +18,7 @@ struct GenericArgMarks;
 impl TokenSet for GenericArgMarks {
     ghost kinds = { λ _. form.generic_arg_marks };
 
+    #[inline(always)]
     #[tactic(auto, unfolding(crate::specs::GenericArgs::generic_arg_marks))]
     fn contains(self, kind: SyntaxKind) -> bool {
         matches!(kind, LIFETIME_IDENT | MINUS | L_CURLY)
@@ -31,6 +32,7 @@ struct GenericArgFirst;
 impl TokenSet for GenericArgFirst {
     ghost kinds = { λ _. form.generic_arg_first };
 
+    #[inline(always)]
     #[tactic(auto, using(ssr_syntax_forms::proofs::Shared::mem_append), unfolding(crate::specs::GenericArgs::generic_arg_first))]
     fn contains(self, kind: SyntaxKind) -> bool {
         GenericArgMarks.contains(kind) || Literals.contains(kind) || TypeFirst.contains(kind)

@@ -104,6 +104,7 @@ impl<'a> Parser<'a> {
     }
 
     /// The kind of the next token; `END` behind the last one.
+    #[inline(always)]
     pub fn current(&self) -> SyntaxKind
         ensures { result ≡ next self.now.rest }
     {
@@ -111,6 +112,7 @@ impl<'a> Parser<'a> {
     }
 
     /// Whether the next token is of this kind.
+    #[inline(always)]
     pub fn at(&self, kind: SyntaxKind) -> bool
         ensures { result ≡ passes (at (kind ∷ [])) self.now.rest }
     {
@@ -118,6 +120,7 @@ impl<'a> Parser<'a> {
     }
 
     /// Whether the next token is of one of these kinds.
+    #[inline(always)]
     #[tactic(auto, using(crate::proofs::Members::at_next))]
     pub fn at_any<S: TokenSet>(&self, set: S) -> bool
         ensures { result ≡ passes (at (S.kinds set)) self.now.rest }
@@ -168,6 +171,7 @@ impl<'a> Parser<'a> {
     }
 
     /// Takes a token of this kind; `NoTree` where none is next.
+    #[inline(always)]
     pub fn expect(&mut self, kind: SyntaxKind) -> Result<(), Fault>
         ensures { Steps self.new result (taken true (kind ∷ []) self.old) }
     {
@@ -175,6 +179,7 @@ impl<'a> Parser<'a> {
     }
 
     /// Takes a token of one of these kinds; `NoTree` where none is next.
+    #[inline(always)]
     pub fn expect_any<S: TokenSet>(&mut self, set: S) -> Result<(), Fault>
         ensures { Steps self.new result (taken true (S.kinds set) self.old) }
     {
@@ -201,6 +206,7 @@ impl<'a> Parser<'a> {
     }
 
     /// Takes a token of this kind, if it is next.
+    #[inline(always)]
     pub fn eat(&mut self, kind: SyntaxKind) -> Result<(), Fault>
         ensures { Steps self.new result (if passes (at (kind ∷ [])) self.old.rest then taken true (kind ∷ []) self.old else Ok self.old) }
     {

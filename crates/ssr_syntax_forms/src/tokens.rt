@@ -35,6 +35,7 @@ pub trait TokenSet: Copy {
 impl TokenSet for SyntaxKind {
     ghost kinds = { λ k. k ∷ [] };
 
+    #[inline(always)]
     fn contains(self, kind: SyntaxKind) -> bool {
         kind == self
     }

@@ -24,6 +24,7 @@ struct TraitFirst;
 impl TokenSet for TraitFirst {
     ghost kinds = { λ _. form.trait_first };
 
+    #[inline(always)]
     fn contains(self, kind: SyntaxKind) -> bool {
         matches!(kind, UNSAFE_KW | TRAIT_KW)
     }
@@ -36,6 +37,7 @@ struct UnsafeOrFn;
 impl TokenSet for UnsafeOrFn {
     ghost kinds = { λ _. form.unsafe_or_fn };
 
+    #[inline(always)]
     fn contains(self, kind: SyntaxKind) -> bool {
         matches!(kind, UNSAFE_KW | FN_KW)
     }
@@ -48,6 +50,7 @@ struct UnsafeItemWords;
 impl TokenSet for UnsafeItemWords {
     ghost kinds = { λ _. form.unsafe_item_words };
 
+    #[inline(always)]
     fn contains(self, kind: SyntaxKind) -> bool {
         matches!(kind, FN_KW | IMPL_KW | TRAIT_KW)
     }
@@ -60,6 +63,7 @@ struct NamedItemFirst;
 impl TokenSet for NamedItemFirst {
     ghost kinds = { λ _. form.named_item_first };
 
+    #[inline(always)]
     #[tactic(auto, unfolding(crate::specs::Items::named_item_first))]
     fn contains(self, kind: SyntaxKind) -> bool {
         matches!(
@@ -87,6 +91,7 @@ pub(crate) struct StmtItemFirst;
 impl TokenSet for StmtItemFirst {
     ghost kinds = { λ _. form.stmt_item_first };
 
+    #[inline(always)]
     #[tactic(auto, unfolding(crate::specs::Items::stmt_item_first))]
     fn contains(self, kind: SyntaxKind) -> bool {
         matches!(kind, UNSAFE_KW) || NamedItemFirst.contains(kind)
@@ -100,6 +105,7 @@ struct ModuleItemFirst;
 impl TokenSet for ModuleItemFirst {
     ghost kinds = { λ _. form.module_item_first };
 
+    #[inline(always)]
     #[tactic(auto, using(ssr_syntax_forms::proofs::Shared::mem_append), unfolding(crate::specs::Items::module_item_first))]
     fn contains(self, kind: SyntaxKind) -> bool {
         StmtItemFirst.contains(kind) || MacroPathFirst.contains(kind)
@@ -113,6 +119,7 @@ struct TraitItemWords;
 impl TokenSet for TraitItemWords {
     ghost kinds = { λ _. form.trait_item_words };
 
+    #[inline(always)]
     #[tactic(auto, unfolding(crate::specs::Items::trait_item_words))]
     fn contains(self, kind: SyntaxKind) -> bool {
         matches!(kind, POUND | CONST_KW | UNSAFE_KW | FN_KW | TYPE_KW)
@@ -126,6 +133,7 @@ struct ImplItemWords;
 impl TokenSet for ImplItemWords {
     ghost kinds = { λ _. form.impl_item_words };
 
+    #[inline(always)]
     #[tactic(auto, unfolding(crate::specs::Items::impl_item_words))]
     fn contains(self, kind: SyntaxKind) -> bool {
         matches!(kind, PUB_KW) || TraitItemWords.contains(kind)
@@ -139,6 +147,7 @@ struct ImplItemFirst;
 impl TokenSet for ImplItemFirst {
     ghost kinds = { λ _. form.impl_item_first };
 
+    #[inline(always)]
     #[tactic(auto, using(ssr_syntax_forms::proofs::Shared::mem_append), unfolding(crate::specs::Items::impl_item_first))]
     fn contains(self, kind: SyntaxKind) -> bool {
         MacroPathFirst.contains(kind) || ImplItemWords.contains(kind)
@@ -152,6 +161,7 @@ struct TraitItemFirst;
 impl TokenSet for TraitItemFirst {
     ghost kinds = { λ _. form.trait_item_first };
 
+    #[inline(always)]
     #[tactic(auto, using(ssr_syntax_forms::proofs::Shared::mem_append), unfolding(crate::specs::Items::trait_item_first))]
     fn contains(self, kind: SyntaxKind) -> bool {
         MacroPathFirst.contains(kind) || TraitItemWords.contains(kind)

@@ -22,6 +22,7 @@ struct LeadingFirst;
 impl TokenSet for LeadingFirst {
     ghost kinds = { λ _. form.leading_first };
 
+    #[inline(always)]
     #[tactic(auto, using(ssr_syntax_forms::proofs::Shared::mem_append), unfolding(crate::specs::Statements::leading_first))]
     fn contains(self, kind: SyntaxKind) -> bool {
         BlockFirst.contains(kind) || PathFirst.contains(kind)
@@ -35,6 +36,7 @@ struct BlockGoesOn;
 impl TokenSet for BlockGoesOn {
     ghost kinds = { λ _. form.block_goes_on };
 
+    #[inline(always)]
     fn contains(self, kind: SyntaxKind) -> bool {
         matches!(kind, DOT | QUESTION)
     }
@@ -47,6 +49,7 @@ struct ArmEnds;
 impl TokenSet for ArmEnds {
     ghost kinds = { λ _. form.arm_ends };
 
+    #[inline(always)]
     fn contains(self, kind: SyntaxKind) -> bool {
         matches!(kind, COMMA | R_CURLY)
     }
@@ -59,6 +62,7 @@ struct StmtFirst;
 impl TokenSet for StmtFirst {
     ghost kinds = { λ _. form.stmt_first };
 
+    #[inline(always)]
     #[tactic(auto, using(ssr_syntax_forms::proofs::Shared::mem_append), unfolding(crate::specs::Statements::stmt_first))]
     fn contains(self, kind: SyntaxKind) -> bool {
         matches!(kind, LET_KW) || ExprFirst.contains(kind) || StmtItemFirst.contains(kind)

@@ -19,6 +19,7 @@ struct IdentPatFirst;
 impl TokenSet for IdentPatFirst {
     ghost kinds = { λ _. form.ident_pat_first };
 
+    #[inline(always)]
     fn contains(self, kind: SyntaxKind) -> bool {
         matches!(kind, IDENT | REF_KW | MUT_KW)
     }
@@ -31,6 +32,7 @@ struct PatFieldFirst;
 impl TokenSet for PatFieldFirst {
     ghost kinds = { λ _. form.pat_field_first };
 
+    #[inline(always)]
     #[tactic(auto, unfolding(crate::specs::Patterns::pat_field_first))]
     fn contains(self, kind: SyntaxKind) -> bool {
         matches!(kind, IDENT | INT_NUMBER | REF_KW | MUT_KW)
@@ -44,6 +46,7 @@ struct PatFieldOrRest;
 impl TokenSet for PatFieldOrRest {
     ghost kinds = { λ _. form.pat_field_or_rest };
 
+    #[inline(always)]
     #[tactic(auto, unfolding(crate::specs::Patterns::pat_field_or_rest))]
     fn contains(self, kind: SyntaxKind) -> bool {
         matches!(kind, DOT2) || PatFieldFirst.contains(kind)
@@ -57,6 +60,7 @@ struct PathPatNext;
 impl TokenSet for PathPatNext {
     ghost kinds = { λ _. form.path_pat_next };
 
+    #[inline(always)]
     fn contains(self, kind: SyntaxKind) -> bool {
         matches!(kind, COLON2 | L_PAREN | L_CURLY | DOT2 | DOT2EQ)
     }

@@ -14,6 +14,7 @@ pub struct Literals;
 impl TokenSet for Literals {
     ghost kinds = { λ _. form.literals };
 
+    #[inline(always)]
     #[tactic(auto, unfolding(crate::specs::Literals::literals))]
     fn contains(self, kind: SyntaxKind) -> bool {
         matches!(

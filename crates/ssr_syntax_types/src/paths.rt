@@ -15,6 +15,7 @@ pub struct PathNames;
 impl TokenSet for PathNames {
     ghost kinds = { λ _. form.path_names };
 
+    #[inline(always)]
     fn contains(self, kind: SyntaxKind) -> bool {
         matches!(kind, IDENT | SELF_KW | SELF_TYPE_KW | SUPER_KW | CRATE_KW)
     }
@@ -27,6 +28,7 @@ pub struct OpenAngle;
 impl TokenSet for OpenAngle {
     ghost kinds = { λ _. form.open_angle };
 
+    #[inline(always)]
     fn contains(self, kind: SyntaxKind) -> bool {
         matches!(kind, L_ANGLE | SHL)
     }
@@ -39,6 +41,7 @@ pub struct CloseAngle;
 impl TokenSet for CloseAngle {
     ghost kinds = { λ _. form.close_angle };
 
+    #[inline(always)]
     fn contains(self, kind: SyntaxKind) -> bool {
         matches!(kind, R_ANGLE | SHR | GTEQ | SHREQ)
     }
@@ -51,6 +54,7 @@ pub struct PathFirst;
 impl TokenSet for PathFirst {
     ghost kinds = { λ _. form.path_first };
 
+    #[inline(always)]
     #[tactic(auto, unfolding(crate::specs::Paths::path_first))]
     fn contains(self, kind: SyntaxKind) -> bool {
         matches!(
@@ -67,6 +71,7 @@ pub struct TypeFirst;
 impl TokenSet for TypeFirst {
     ghost kinds = { λ _. form.type_first };
 
+    #[inline(always)]
     #[tactic(auto, unfolding(crate::specs::Paths::type_first))]
     fn contains(self, kind: SyntaxKind) -> bool {
         matches!(
@@ -83,6 +88,7 @@ struct GenericsFirst;
 impl TokenSet for GenericsFirst {
     ghost kinds = { λ _. form.generics_first };
 
+    #[inline(always)]
     fn contains(self, kind: SyntaxKind) -> bool {
         matches!(kind, L_ANGLE | SHL | SHLEQ)
     }

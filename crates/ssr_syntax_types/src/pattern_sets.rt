@@ -14,6 +14,7 @@ pub struct Ranges;
 impl TokenSet for Ranges {
     ghost kinds = { λ _. form.ranges };
 
+    #[inline(always)]
     #[tactic(auto, unfolding(crate::specs::PatternSets::ranges))]
     fn contains(self, kind: SyntaxKind) -> bool {
         matches!(kind, DOT2 | DOT2EQ)
@@ -27,6 +28,7 @@ pub struct LiteralPatFirst;
 impl TokenSet for LiteralPatFirst {
     ghost kinds = { λ _. form.literal_pat_first };
 
+    #[inline(always)]
     #[tactic(auto, unfolding(crate::specs::PatternSets::literal_pat_first))]
     fn contains(self, kind: SyntaxKind) -> bool {
         matches!(kind, MINUS) || Literals.contains(kind)
@@ -40,6 +42,7 @@ pub struct BoundFirst;
 impl TokenSet for BoundFirst {
     ghost kinds = { λ _. form.bound_first };
 
+    #[inline(always)]
     #[tactic(auto, using(ssr_syntax_forms::proofs::Shared::mem_append), unfolding(crate::specs::PatternSets::bound_first))]
     fn contains(self, kind: SyntaxKind) -> bool {
         LiteralPatFirst.contains(kind) || PathFirst.contains(kind)
@@ -53,6 +56,7 @@ pub struct PatMarks;
 impl TokenSet for PatMarks {
     ghost kinds = { λ _. form.pat_marks };
 
+    #[inline(always)]
     #[tactic(auto, unfolding(crate::specs::PatternSets::pat_marks))]
     fn contains(self, kind: SyntaxKind) -> bool {
         matches!(
@@ -69,6 +73,7 @@ pub struct SinglePatFirst;
 impl TokenSet for SinglePatFirst {
     ghost kinds = { λ _. form.single_pat_first };
 
+    #[inline(always)]
     #[tactic(auto, using(ssr_syntax_forms::proofs::Shared::mem_append), unfolding(crate::specs::PatternSets::single_pat_first))]
     fn contains(self, kind: SyntaxKind) -> bool {
         BoundFirst.contains(kind) || PatMarks.contains(kind)
@@ -82,6 +87,7 @@ pub struct PatFirst;
 impl TokenSet for PatFirst {
     ghost kinds = { λ _. form.pat_first };
 
+    #[inline(always)]
     #[tactic(auto, unfolding(crate::specs::PatternSets::pat_first))]
     fn contains(self, kind: SyntaxKind) -> bool {
         matches!(kind, PIPE) || SinglePatFirst.contains(kind)

@@ -16,6 +16,7 @@ struct Opening;
 impl TokenSet for Opening {
     ghost kinds = { λ _. form.opening };
 
+    #[inline(always)]
     #[tactic(auto, unfolding(crate::specs::TokenTrees::opening))]
     fn contains(self, kind: SyntaxKind) -> bool {
         matches!(kind, L_PAREN | L_BRACK | L_CURLY)
@@ -29,6 +30,7 @@ struct Words;
 impl TokenSet for Words {
     ghost kinds = { λ _. form.words };
 
+    #[inline(always)]
     #[tactic(auto, unfolding(crate::specs::TokenTrees::words))]
     fn contains(self, kind: SyntaxKind) -> bool {
         match kind {
@@ -68,6 +70,7 @@ struct Punctuation;
 impl TokenSet for Punctuation {
     ghost kinds = { λ _. form.punctuation };
 
+    #[inline(always)]
     #[tactic(auto, unfolding(crate::specs::TokenTrees::punctuation))]
     fn contains(self, kind: SyntaxKind) -> bool {
         match kind {
@@ -86,6 +89,7 @@ struct JoinedPunctuation;
 impl TokenSet for JoinedPunctuation {
     ghost kinds = { λ _. form.joined_punctuation };
 
+    #[inline(always)]
     #[tactic(auto, unfolding(crate::specs::TokenTrees::joined_punctuation))]
     fn contains(self, kind: SyntaxKind) -> bool {
         match kind {
@@ -104,6 +108,7 @@ struct Loose;
 impl TokenSet for Loose {
     ghost kinds = { λ _. form.loose };
 
+    #[inline(always)]
     #[tactic(auto, using(ssr_syntax_forms::proofs::Shared::mem_append), unfolding(crate::specs::TokenTrees::loose))]
     fn contains(self, kind: SyntaxKind) -> bool {
         Literals.contains(kind)
@@ -120,6 +125,7 @@ struct TreeFirst;
 impl TokenSet for TreeFirst {
     ghost kinds = { λ _. form.tree_first };
 
+    #[inline(always)]
     #[tactic(auto, using(ssr_syntax_forms::proofs::Shared::mem_append), unfolding(crate::specs::TokenTrees::tree_first))]
     fn contains(self, kind: SyntaxKind) -> bool {
         Opening.contains(kind) || Loose.contains(kind)

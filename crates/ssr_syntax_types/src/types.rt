@@ -16,6 +16,7 @@ pub struct Ampersands;
 impl TokenSet for Ampersands {
     ghost kinds = { λ _. form.ampersands };
 
+    #[inline(always)]
     fn contains(self, kind: SyntaxKind) -> bool {
         matches!(kind, AMP | AMP2)
     }
@@ -28,6 +29,7 @@ struct PointerWords;
 impl TokenSet for PointerWords {
     ghost kinds = { λ _. form.pointer_words };
 
+    #[inline(always)]
     fn contains(self, kind: SyntaxKind) -> bool {
         matches!(kind, CONST_KW | MUT_KW)
     }
