@@ -12,7 +12,7 @@ use serde_json::Value;
 use std::alloc::Global;
 
 /// All rows of a facts file.
-#[derive(Debug, PartialEq, Eq, Drop)]
+#[derive(Debug, Drop)]
 pub struct FactRows {
     pub files: Vec<FileRow>,
     pub expansions: Vec<ExpansionRow>,

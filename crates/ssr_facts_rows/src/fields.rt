@@ -3,12 +3,23 @@
 ghost use Rattle.std.specs.Prelude.{◌≡◌, map, string_bytes};
 ghost use Rattle.std.specs.List.{list_all};
 ghost use Rattle.std.specs.Map.{keys_of};
+ghost use Rattle.serde_json.specs.Find.{as_str};
 ghost use Rattle.serde_json.specs.View.{view};
 ghost use Rattle.ssr_facts_rows.specs.Private.Answers.{Gives};
 ghost use Rattle.ssr_facts_rows.specs.Fields.{items, two, three, four, five, is_among, has_only};
 
 use crate::rows_error::RowsError;
 use serde_json::{Map, Value};
+
+/// The text of a string.
+pub(crate) fn text(value: &Value) -> Result<&str, RowsError>
+    ensures { Gives (λ text. text.now) (as_str (view value.now)) result }
+{
+    match value.as_str() {
+        Some(text) => Ok(text),
+        None => Err(RowsError::Shape),
+    }
+}
 
 /// The values of an array.
 #[tactic(auto, using(crate::proofs::Lists::list_of_of_view))]

@@ -6,7 +6,7 @@ ghost use Rattle.serde_json.specs.View.{view};
 ghost use Rattle.ssr_facts_rows.specs.Private.Answers.{Gives};
 ghost use Rattle.ssr_facts_rows.specs.Fields.{number, rows, required, optional, defaulted, rows_at};
 
-use crate::fields::items;
+use crate::fields::{items, text};
 use crate::rows_error::RowsError;
 use serde_json::Value;
 use std::alloc::Global;
@@ -63,10 +63,7 @@ impl FromJson for String {
     ghost reading = { as_str };
 
     fn from_json(alloc: Global, value: &Value) -> Result<String, RowsError> {
-        match value.as_str() {
-            Some(text) => Ok(String::from_str(alloc, text)?),
-            None => Err(RowsError::Shape),
-        }
+        Ok(String::from_str(alloc, text(value)?)?)
     }
 }
 

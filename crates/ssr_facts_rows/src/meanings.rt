@@ -1,6 +1,6 @@
 //! What names mean, and which types expressions have.
 
-use crate::fields::{five, four, has_only, three, two};
+use crate::fields::{five, four, has_only, text, three, two};
 use crate::from_json::{FromJson, defaulted, required};
 use crate::places::{PlaceRow, place};
 use crate::rows_error::RowsError;
@@ -8,7 +8,7 @@ use serde_json::Value;
 use std::alloc::Global;
 
 /// What a definition is.
-#[derive(Clone, Copy, Debug, PartialEq, Eq)]
+#[derive(Clone, Copy, Debug)]
 pub enum DefinitionKind {
     Module,
     Function,
@@ -23,7 +23,7 @@ pub enum DefinitionKind {
 }
 
 /// A definition.
-#[derive(Clone, Copy, Debug, PartialEq, Eq)]
+#[derive(Clone, Copy, Debug)]
 pub struct DefinitionRow {
     pub kind: DefinitionKind,
     /// Whether it is an associated item.
@@ -35,7 +35,7 @@ pub struct DefinitionRow {
 }
 
 /// What a name means.
-#[derive(Clone, Copy, Debug, PartialEq, Eq)]
+#[derive(Clone, Copy, Debug)]
 pub enum ResolutionRow {
     Definition(u32),
     Local(u32),
@@ -46,7 +46,7 @@ pub enum ResolutionRow {
 }
 
 /// What a path means in a scope.
-#[derive(Debug, PartialEq, Eq, Drop)]
+#[derive(Debug, Drop)]
 pub struct NameRow {
     pub scope: u32,
     pub path: Vec<String>,
@@ -54,7 +54,7 @@ pub struct NameRow {
 }
 
 /// The member of a name that a definition has, seen from a scope.
-#[derive(Debug, PartialEq, Eq, Drop)]
+#[derive(Debug, Drop)]
 pub struct MemberRow {
     pub scope: u32,
     pub definition: u32,
@@ -63,14 +63,14 @@ pub struct MemberRow {
 }
 
 /// What the path at a place means.
-#[derive(Clone, Copy, Debug, PartialEq, Eq)]
+#[derive(Clone, Copy, Debug)]
 pub struct PathRow {
     pub place: PlaceRow,
     pub resolution: ResolutionRow,
 }
 
 /// How a method takes `self`: as a value, by `&` or by `&mut`.
-#[derive(Clone, Copy, Debug, PartialEq, Eq)]
+#[derive(Clone, Copy, Debug)]
 pub enum SelfKindRow {
     Owned,
     Ref,
@@ -78,7 +78,7 @@ pub enum SelfKindRow {
 }
 
 /// Which method the call at a place calls.
-#[derive(Clone, Copy, Debug, PartialEq, Eq)]
+#[derive(Clone, Copy, Debug)]
 pub struct MethodRow {
     pub place: PlaceRow,
     pub definition: u32,
@@ -86,14 +86,14 @@ pub struct MethodRow {
 }
 
 /// The numbers of the types of the expression at a place.
-#[derive(Debug, PartialEq, Eq, Drop)]
+#[derive(Debug, Drop)]
 pub struct TypeRow {
     pub place: PlaceRow,
     pub types: Vec<u32>,
 }
 
 /// The path by which a scope names a definition.
-#[derive(Debug, PartialEq, Eq, Drop)]
+#[derive(Debug, Drop)]
 pub struct PrintedRow {
     pub scope: u32,
     pub definition: u32,
@@ -111,17 +111,17 @@ impl FromJson for DefinitionKind {
     ghost reading = { definition_kind };
 
     fn from_json(_alloc: Global, value: &Value) -> Result<DefinitionKind, RowsError> {
-        match value.as_str() {
-            Some("module") => Ok(DefinitionKind::Module),
-            Some("function") => Ok(DefinitionKind::Function),
-            Some("adt") => Ok(DefinitionKind::Adt),
-            Some("variant") => Ok(DefinitionKind::Variant),
-            Some("const") => Ok(DefinitionKind::Const),
-            Some("static") => Ok(DefinitionKind::Static),
-            Some("trait") => Ok(DefinitionKind::Trait),
-            Some("type_alias") => Ok(DefinitionKind::TypeAlias),
-            Some("builtin") => Ok(DefinitionKind::Builtin),
-            Some("macro") => Ok(DefinitionKind::Macro),
+        match text(value)? {
+            "module" => Ok(DefinitionKind::Module),
+            "function" => Ok(DefinitionKind::Function),
+            "adt" => Ok(DefinitionKind::Adt),
+            "variant" => Ok(DefinitionKind::Variant),
+            "const" => Ok(DefinitionKind::Const),
+            "static" => Ok(DefinitionKind::Static),
+            "trait" => Ok(DefinitionKind::Trait),
+            "type_alias" => Ok(DefinitionKind::TypeAlias),
+            "builtin" => Ok(DefinitionKind::Builtin),
+            "macro" => Ok(DefinitionKind::Macro),
             _ => Err(RowsError::Shape),
         }
     }
@@ -161,13 +161,13 @@ impl FromJson for ResolutionRow {
     fn from_json(alloc: Global, value: &Value) -> Result<ResolutionRow, RowsError> {
         let (kind, number) = two(value)?;
         let number = u32::from_json(alloc, number)?;
-        match kind.as_str() {
-            Some("def") => Ok(ResolutionRow::Definition(number)),
-            Some("local") => Ok(ResolutionRow::Local(number)),
-            Some("typeparam") => Ok(ResolutionRow::TypeParameter(number)),
-            Some("constparam") => Ok(ResolutionRow::ConstParameter(number)),
-            Some("selftype") => Ok(ResolutionRow::SelfType(number)),
-            Some("other") => Ok(ResolutionRow::Other(number)),
+        match text(kind)? {
+            "def" => Ok(ResolutionRow::Definition(number)),
+            "local" => Ok(ResolutionRow::Local(number)),
+            "typeparam" => Ok(ResolutionRow::TypeParameter(number)),
+            "constparam" => Ok(ResolutionRow::ConstParameter(number)),
+            "selftype" => Ok(ResolutionRow::SelfType(number)),
+            "other" => Ok(ResolutionRow::Other(number)),
             _ => Err(RowsError::Shape),
         }
     }
@@ -242,10 +242,10 @@ impl FromJson for SelfKindRow {
     ghost reading = { self_kind };
 
     fn from_json(_alloc: Global, value: &Value) -> Result<SelfKindRow, RowsError> {
-        match value.as_str() {
-            Some("owned") => Ok(SelfKindRow::Owned),
-            Some("ref") => Ok(SelfKindRow::Ref),
-            Some("mut") => Ok(SelfKindRow::Mut),
+        match text(value)? {
+            "owned" => Ok(SelfKindRow::Owned),
+            "ref" => Ok(SelfKindRow::Ref),
+            "mut" => Ok(SelfKindRow::Mut),
             _ => Err(RowsError::Shape),
         }
     }

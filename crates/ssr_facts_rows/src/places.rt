@@ -11,7 +11,7 @@ use serde_json::Value;
 use std::alloc::Global;
 
 /// Bytes from a start up to an end, which isn't below the start.
-#[derive(Clone, Copy, Debug, PartialEq, Eq)]
+#[derive(Clone, Copy, Debug)]
 pub struct SpanRow {
     pub start: u32,
     pub end: u32,
@@ -26,7 +26,7 @@ pub struct PlaceRow {
 }
 
 /// Bytes of a file.
-#[derive(Clone, Copy, Debug, PartialEq, Eq)]
+#[derive(Clone, Copy, Debug)]
 pub struct RangeRow {
     pub file: u32,
     pub start: u32,
@@ -34,7 +34,7 @@ pub struct RangeRow {
 }
 
 /// A place in a file, in front of a byte or at the end.
-#[derive(Clone, Copy, Debug, PartialEq, Eq)]
+#[derive(Clone, Copy, Debug)]
 pub struct PositionRow {
     pub file: u32,
     pub offset: u32,

@@ -5,7 +5,7 @@ ghost use Rattle.serde_json.specs.View.{view};
 ghost use Rattle.ssr_facts_rows.specs.Private.Answers.{Gives};
 ghost use Rattle.ssr_facts_rows.specs.Sources.{plain_token, token};
 
-use crate::fields::{has_only, items};
+use crate::fields::{has_only, items, text};
 use crate::from_json::{FromJson, required};
 use crate::places::{PlaceRow, SpanRow, span};
 use crate::rows_error::RowsError;
@@ -13,14 +13,14 @@ use serde_json::Value;
 use std::alloc::Global;
 
 /// A file.
-#[derive(Debug, PartialEq, Eq, Drop)]
+#[derive(Debug, Drop)]
 pub struct FileRow {
     pub name: String,
     pub text: String,
 }
 
 /// A token of an expansion, and whence in the file at the top it comes, if from there.
-#[derive(Debug, PartialEq, Eq, Drop)]
+#[derive(Debug, Drop)]
 pub struct TokenRow {
     pub text: String,
     /// Whether the next token follows with nothing in between.
@@ -29,7 +29,7 @@ pub struct TokenRow {
 }
 
 /// What a macro call stands for.
-#[derive(Clone, Copy, Debug, PartialEq, Eq)]
+#[derive(Clone, Copy, Debug)]
 pub enum ExpansionKindRow {
     Expr,
     Items,
@@ -37,7 +37,7 @@ pub enum ExpansionKindRow {
 }
 
 /// A macro call, and the tokens that it stands for.
-#[derive(Debug, PartialEq, Eq, Drop)]
+#[derive(Debug, Drop)]
 pub struct ExpansionRow {
     pub call: PlaceRow,
     pub kind: ExpansionKindRow,
@@ -110,10 +110,10 @@ impl FromJson for ExpansionKindRow {
     ghost reading = { expansion_kind };
 
     fn from_json(_alloc: Global, value: &Value) -> Result<ExpansionKindRow, RowsError> {
-        match value.as_str() {
-            Some("expr") => Ok(ExpansionKindRow::Expr),
-            Some("items") => Ok(ExpansionKindRow::Items),
-            Some("stmts") => Ok(ExpansionKindRow::Stmts),
+        match text(value)? {
+            "expr" => Ok(ExpansionKindRow::Expr),
+            "items" => Ok(ExpansionKindRow::Items),
+            "stmts" => Ok(ExpansionKindRow::Stmts),
             _ => Err(RowsError::Shape),
         }
     }
