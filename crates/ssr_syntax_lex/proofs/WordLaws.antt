@@ -1,5 +1,5 @@
 -- That a word need be looked for only among those that begin as it does, and where the kinds of punctuation stand among all kinds.
-use Rattle.std.proofs.Common.{◌≡◌, ℕ, ◌<◌, ◌≤◌, ◌==◌, Bool, true, false, not, ◌&&◌, ◌||◌, if◌then◌else◌, List, [], ◌∷◌, refl, sym, ap, subst, ne_eqb, ◌∙◌, arith}
+use Rattle.std.proofs.Common.{◌≡◌, ℕ, ◌<◌, ◌≤◌, ◌==◌, Bool, true, false, not, ◌&&◌, ◌||◌, if◌then◌else◌, List, [], ◌∷◌, get_or, refl, sym, ap, subst, ne_eqb, ◌∙◌, arith}
 use Rattle.std.specs.Prelude.{nat_le, nat_lt, bytes_eq, codes, slice_get, Some, None}
 use Rattle.std.specs.List.{list_all}
 use Rattle.std.specs.Char.{is_ascii_alphabetic}
@@ -35,14 +35,21 @@ kind_in-beginning low high [] word begins = refl
 kind_in-beginning low high (row ∷ rows) word begins =
     row_case low high rows word row.0 row.1 (bytes_eq word (codes row.0)) (begins_between low high (codes row.0)) begins refl refl (kind_in-beginning low high rows word begins)
 
-pub kind_by_letter : (low high c : ℕ) (word : List ℕ) → slice_get word 0 ≡ Some c → low ≤ c → c ≤ high → kind_in (beginning low high word_kinds) word ≡ word_kind word
+-- of a word whose bytes begin with this one
+pub kind_by_letter : (low high c : ℕ) (word bytes : List ℕ) → bytes ≡ word → Some c ≡ slice_get bytes 0 → low ≤ c → c ≤ high → kind_in (beginning low high word_kinds) word ≡ word_kind word
 unfolding word_kind
-kind_by_letter low high c word e above below = kind_in-beginning low high word_kinds word (begins_so low high c word e above below)
+kind_by_letter low high c word bytes same first above below =
+    kind_in-beginning low high word_kinds word (begins_so low high c word (sym (first ∙ ap (λ bs. slice_get bs 0) same)) above below)
 
-pub kind_of_nothing : (word : List ℕ) → slice_get word 0 ≡ None → k.IDENT ≡ word_kind word
+-- the first byte is that at 0
+pub first_is : (c : ℕ) (word bytes : List ℕ) → bytes ≡ word → Some c ≡ slice_get bytes 0 → get_or word 0 0 ≡ c
+first_is c [] bytes same first = absurd (cc)
+first_is c (d ∷ ds) bytes same first = cc
+
+pub kind_of_nothing : (word bytes : List ℕ) → bytes ≡ word → None ≡ slice_get bytes 0 → k.IDENT ≡ word_kind word
 unfolding word_kind
-kind_of_nothing [] e = refl
-kind_of_nothing (c ∷ cs) e = absurd (cc)
+kind_of_nothing [] bytes same none = refl
+kind_of_nothing (c ∷ cs) bytes same none = absurd (cc)
 
 pub ruleset ascii_words = (is_xid_continue-ascii)
 

@@ -9,7 +9,6 @@ use ssr_syntax_kinds::SyntaxKind;
 
 /// The kind of a word: a keyword's, that of `_`, or an identifier's. The first letter decides which few words it is
 /// compared with.
-#[tactic(auto, unfolding(crate::specs::Words::word_kind), using(crate::proofs::WordLaws::kind_by_letter, crate::proofs::WordLaws::kind_of_nothing))]
 pub(crate) fn word_kind(word: &str) -> SyntaxKind
     ensures { result ≡ spec.word_kind word.now }
 {
