@@ -1,4 +1,7 @@
 //! The refusals of rules, each in its words.
+ghost use Rattle.std.specs.Prelude.{◌++◌};
+ghost use Rattle.std.specs.Fmt.{IsPlainFormatter, HasWritten};
+ghost use Rattle.std.specs.Result.{IsOk};
 ghost use Rattle.ide_ssr_refusals.specs.Refusals.{Tells};
 
 use crate::error::SsrError;
@@ -74,6 +77,18 @@ pub enum Refusal<'a> {
     UnresolvedPath(Text<'a>),
 }
 
+/// Writes a text between words.
+fn write_around<W: fmt::Write>(
+    f: &mut fmt::Formatter<W>,
+    front: &str,
+    text: &Text<'_>,
+    behind: &str,
+) -> fmt::Result
+    ensures { IsPlainFormatter f.old → IsOk result → HasWritten W.write_str_gives f.old (front.now ++ (text.now ++ behind.now)) f.new }
+{
+    write!(f, "{front}{}{behind}", text.0)
+}
+
 impl fmt::Display for Refusal<'_> {
     ghost use Rattle.std.specs.Prelude.{Some};
     ghost use Rattle.ide_ssr_refusals.specs.Refusals.{words};
@@ -91,13 +106,12 @@ impl fmt::Display for Refusal<'_> {
             }
             Refusal::EndOfPlaceholder => f.write_str("Unexpected end of placeholder"),
             Refusal::NoClosingBrace => f.write_str("Placeholder is missing closing brace '}'"),
-            Refusal::UnexpectedToken(text) => {
-                write!(
-                    f,
-                    "Unexpected token while parsing placeholder: '{}'",
-                    text.0
-                )
-            }
+            Refusal::UnexpectedToken(text) => write_around(
+                f,
+                "Unexpected token while parsing placeholder: '",
+                text,
+                "'",
+            ),
             Refusal::NoConstraint => {
                 f.write_str("Found end of placeholder while looking for a constraint")
             }
@@ -113,27 +127,42 @@ impl fmt::Display for Refusal<'_> {
             Refusal::OtherBracket(wanted, text) => {
                 write!(f, "Expected {} found {}", wanted.0, text.0)
             }
-            Refusal::NoBracket(wanted) => write!(f, "Expected {} found end of stream", wanted.0),
-            Refusal::UnknownKind(text) => write!(f, "Unknown node kind '{}'", text.0),
-            Refusal::UnknownConstraint(text) => {
-                write!(f, "Unsupported constraint type '{}'", text.0)
-            }
+            Refusal::NoBracket(wanted) => write_around(
+                f,
+                "Expected ",
+                wanted,
+                " found end of stream",
+            ),
+            Refusal::UnknownKind(text) => write_around(f, "Unknown node kind '", text, "'"),
+            Refusal::UnknownConstraint(text) => write_around(
+                f,
+                "Unsupported constraint type '",
+                text,
+                "'",
+            ),
             Refusal::DeepConstraint => f.write_str("Constraint nested too deeply"),
-            Refusal::Repeated(name) => {
-                write!(f, "Placeholder `${}` repeats more than once", name.0)
-            }
-            Refusal::Glued(name) => write!(f, "Placeholder `${}` isn't a token of its own", name.0),
-            Refusal::Reserved(text) => write!(f, "Name `{}` is reserved", text.0),
+            Refusal::Repeated(name) => write_around(
+                f,
+                "Placeholder `$",
+                name,
+                "` repeats more than once",
+            ),
+            Refusal::Glued(name) => write_around(
+                f,
+                "Placeholder `$",
+                name,
+                "` isn't a token of its own",
+            ),
+            Refusal::Reserved(text) => write_around(f, "Name `", text, "` is reserved"),
             Refusal::NoKind => {
                 f.write_str("Not a valid Rust expression, type, item, path or pattern")
             }
-            Refusal::ConstraintInMacroCall(name) => {
-                write!(
-                    f,
-                    "Placeholder `${}` in a macro call cannot have constraints",
-                    name.0
-                )
-            }
+            Refusal::ConstraintInMacroCall(name) => write_around(
+                f,
+                "Placeholder `$",
+                name,
+                "` in a macro call cannot have constraints",
+            ),
             Refusal::ConstraintInTemplate => {
                 f.write_str("Replacement placeholders cannot have constraints")
             }
@@ -144,7 +173,7 @@ impl fmt::Display for Refusal<'_> {
                     names.0
                 )
             }
-            Refusal::UnresolvedPath(path) => write!(f, "Failed to resolve path `{}`", path.0),
+            Refusal::UnresolvedPath(path) => write_around(f, "Failed to resolve path `", path, "`"),
         }
     }
 }
