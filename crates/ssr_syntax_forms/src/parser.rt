@@ -55,7 +55,8 @@ impl<'a> Parser<'a> {
     pub fn new(alloc: Global, tokens: &'a [Token]) -> Result<Parser<'a>, AllocError>
         ensures { IfOk result (λ p. p ≡ state_of (written_of [] []) tokens.entry.now) }
     {
-        let rows = NodeRows::with_capacity(alloc, tokens.len())?;
+        // code has one to two nodes for each token
+        let rows = NodeRows::with_capacity(alloc, tokens.len().saturating_mul(2))?;
         let taken = Vec::with_capacity(alloc, tokens.len())?;
         Ok(Parser {
             rest: tokens,
