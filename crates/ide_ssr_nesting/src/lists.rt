@@ -61,7 +61,13 @@ fn holder_key(holder: Option<Holder>) -> [usize; 3]
 fn comes_before(one: Option<Holder>, other: Option<Holder>) -> bool
     ensures { result ≡ comes_before one other }
 {
-    holder_key(one).cmp(&holder_key(other)).is_lt()
+    match (one, other) {
+        (_, None) => false,
+        (None, Some(_)) => true,
+        (Some(one), Some(other)) => {
+            one.place < other.place || one.place == other.place && one.binding < other.binding
+        }
+    }
 }
 
 /// How two rows stand in order: number by number.
