@@ -1,6 +1,6 @@
 //! The rows of a text's tokens: five bytes for each.
 
-ghost use Rattle.std.specs.Prelude.{◌≡◌, ◌<◌, ◌∷◌, ◌++◌, [], length, map, take, slice_get, slice_set, Some, ◌==◌, MatchResult};
+ghost use Rattle.std.specs.Prelude.{◌≡◌, ◌<◌, ◌∷◌, ◌++◌, [], length, map, take, slice_get, slice_set, Some, ◌==◌, IfOk, MatchResult};
 
 use crate::kinds::SyntaxKind;
 use std::alloc::{AllocError, Global};
@@ -42,6 +42,16 @@ impl TokenRows {
             kinds: Vec::new(alloc),
             starts: Vec::new(alloc),
         }
+    }
+
+    /// No rows, with room for so many.
+    pub fn with_capacity(alloc: Global, count: usize) -> Result<TokenRows, AllocError>
+        ensures { IfOk result (λ rows. rows ≡ []) }
+    {
+        Ok(TokenRows {
+            kinds: Vec::with_capacity(alloc, count)?,
+            starts: Vec::with_capacity(alloc, count)?,
+        })
     }
 
     /// How many rows there are.

@@ -116,7 +116,8 @@ fn cut(alloc: Global, text: &str) -> Result<TokenRows, LexError>
 {
     let mut cursor = Cursor::new(text);
     let total = cursor.len();
-    let mut rows = TokenRows::new(alloc);
+    // Code has a token for every two bytes or so.
+    let mut rows = TokenRows::with_capacity(alloc, total / 2 + 1)?;
     let mut start = 0u32;
     let mut dots = 0u32;
     while !cursor.is_empty() {

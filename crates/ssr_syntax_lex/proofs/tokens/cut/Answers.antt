@@ -5,7 +5,7 @@ use Rattle.ssr_syntax_lex.proofs.tokens.cut.Goals as goal
 
 pub loop-cursor-init : goal.loop-cursor-init
 loop-cursor-init c =
-    rw (c.new-cursor.ensures, c.new-rows.ensures) (started c.args.text.now _ (c.len-total.ensures.bytes ∙ ap size c.new-cursor.ensures))
+    rw (c.new-cursor.ensures, c.in_ok-rows.ensures) (started c.args.text.now _ (c.len-total.ensures.bytes ∙ ap size c.new-cursor.ensures))
 
 pub overflow_sub-start : goal.overflow_sub-start
 overflow_sub-start c =
