@@ -1,17 +1,21 @@
 //! A facts file read to a workspace and its provider.
 
-ghost use Rattle.std.specs.Prelude.{◌≡◌, ◌+◌, ◌≤◌, length, IfOk, Ok};
-ghost use Rattle.std.specs.Option.{option_map};
+ghost use Rattle.std.specs.Prelude.{◌≡◌, ◌+◌, ◌≤◌, length, map, IfOk, Ok};
+ghost use Rattle.std.specs.List.{find, filter_map};
+ghost use Rattle.std.specs.Option.{option_map, option_and_then};
 ghost use Rattle.ssr_syntax_kinds.specs.declared.kinds.SyntaxKind.TheVariants as kinds;
+ghost use Rattle.ssr_base.specs.declared.ids.NodeId.{NodeId as Id};
 ghost use Rattle.ssr_base.specs.Building.{most_trees};
 ghost use Rattle.ssr_facts_rows.specs.Facts.{plain_facts, facts_of};
+ghost use Rattle.ssr_facts_rows.specs.Meanings.{plain_type};
 ghost use Rattle.ssr_facts_rows.specs.declared.places.PlaceRow.{PlaceRow as Place};
-ghost use Rattle.ssr_facts.specs.Nodes.{node_at};
+ghost use Rattle.ssr_facts.specs.Nodes.{node_at, place_of, same_place};
 ghost use Rattle.ssr_facts.specs.Provider.{provided};
 ghost use Rattle.ssr_facts.specs.Reading.{position_of, Answers};
 ghost use Rattle.ssr_facts.specs.Tables.{meanings_of};
-ghost use Rattle.ssr_facts.specs.Told.{meanings_told};
-ghost use Rattle.ssr_facts.specs.Private.Nodes.{at_place};
+ghost use Rattle.ssr_facts.specs.Told.{meanings_told, type_of};
+ghost use Rattle.ssr_facts.specs.Private.Nodes.{at_place, types_at};
+ghost use Rattle.ssr_facts.specs.Private.Rows.{path_told, method_told};
 ghost use Rattle.ssr_facts.specs.Private.Reading.{AreOrdered, Builds, IsToldIfNamed};
 
 use crate::facts_error::FactsError;
@@ -22,10 +26,12 @@ use crate::provider::TableSemantics;
 use crate::scopes::scopes_of_nodes;
 use crate::sources::{expansions, file_ranges, names_and_texts};
 use crate::table_rows;
-use crate::tables::Tables;
+use crate::tables::{Method, Tables};
 use crate::types::types_of_nodes;
-use ssr_base::{Expansion, FileId, FilePosition, FileRange, NodeId, Workspace, WorkspaceError};
-use ssr_facts_rows::{FactRows, PlaceRow, PositionRow, read_rows};
+use ssr_base::{
+    Expansion, FileId, FilePosition, FileRange, NodeId, Res, TypeId, Workspace, WorkspaceError,
+};
+use ssr_facts_rows::{FactRows, MethodRow, PathRow, PlaceRow, PositionRow, TypeRow, read_rows};
 use ssr_syntax_kinds::SyntaxKind;
 use std::alloc::{AllocError, Global};
 use std::collections::BTreeMap;
@@ -61,11 +67,55 @@ fn position(row: Option<PositionRow>) -> FilePosition
     }
 }
 
+/// The values of a list, which is empty then.
+fn taken<T: Drop>(alloc: Global, list: &mut Vec<T>) -> Vec<T>
+    ensures { result ≡ list.old }
+{
+    mem::replace(list, Vec::new(alloc))
+}
+
+/// What paths stand for, by the nodes at their places.
+fn paths_of_nodes(
+    alloc: Global,
+    nodes: &BTreeMap<PlaceRow, NodeId>,
+    rows: &[PathRow],
+) -> Result<Vec<(NodeId, Res)>, AllocError>
+    ensures { IfOk result (λ told. told.items ≡ filter_map (λ row. option_map (λ node. (node, row.1)) (at_place nodes.now row.0)) (map path_told rows.now)) }
+{
+    let rows = table_rows::paths(alloc, rows)?;
+    at_nodes(alloc, nodes, &rows)
+}
+
+/// What method calls call, by the nodes at their places.
+fn methods_of_nodes(
+    alloc: Global,
+    nodes: &BTreeMap<PlaceRow, NodeId>,
+    rows: &[MethodRow],
+) -> Result<Vec<(NodeId, Method)>, AllocError>
+    ensures { IfOk result (λ told. told.items ≡ filter_map (λ row. option_map (λ node. (node, row.1)) (at_place nodes.now row.0)) (map method_told rows.now)) }
+{
+    let rows = table_rows::methods(alloc, rows)?;
+    at_nodes(alloc, nodes, &rows)
+}
+
+/// The types of nodes, of several rows of a place those of the first one.
+fn types_by_nodes(
+    alloc: Global,
+    workspace: &Workspace,
+    rows: Vec<TypeRow>,
+) -> Result<Vec<(NodeId, Vec<TypeId>)>, AllocError>
+    requires { length workspace.now.files + length workspace.now.expansions ≤ most_trees }
+    ensures { IfOk result (λ told. (x : Id) → types_at told.items x ≡ option_and_then (λ place. option_map (λ row. map type_of row.types) (find (λ row. same_place place row.place) (map plain_type rows.items))) (place_of workspace.now x)) }
+{
+    let by_place = first_rows(alloc, table_rows::types(alloc, rows)?)?;
+    types_of_nodes(alloc, workspace, &by_place)
+}
+
 /// What rows tell of a workspace with these paths and method calls, as tables.
 fn tables(
     alloc: Global,
     workspace: &Workspace,
-    rows: FactRows,
+    mut rows: FactRows,
     path_nodes: &BTreeMap<PlaceRow, NodeId>,
     call_nodes: &BTreeMap<PlaceRow, NodeId>,
 ) -> Result<Tables, AllocError>
@@ -74,29 +124,15 @@ fn tables(
     requires calls { (place : Place) → at_place call_nodes.now place ≡ node_at workspace.now kinds.METHOD_CALL_EXPR place }
     ensures { IfOk result (λ tables. meanings_of tables ≡ meanings_told workspace.now (plain_facts rows)) }
 {
-    let FactRows {
-        definitions,
-        scopes,
-        names,
-        members,
-        paths,
-        methods,
-        types,
-        printed,
-        ..
-    } = rows;
-    let types = first_rows(alloc, table_rows::types(alloc, types)?)?;
-    let paths = table_rows::paths(alloc, &paths)?;
-    let methods = table_rows::methods(alloc, &methods)?;
     Ok(Tables {
-        definitions: table_rows::definitions(alloc, &definitions)?,
-        scopes: scopes_of_nodes(alloc, workspace, &scopes)?,
-        names: table_rows::names(alloc, names)?,
-        members: table_rows::members(alloc, members)?,
-        paths: at_nodes(alloc, path_nodes, &paths)?,
-        methods: at_nodes(alloc, call_nodes, &methods)?,
-        types: types_of_nodes(alloc, workspace, &types)?,
-        printed: table_rows::printed(alloc, printed)?,
+        definitions: table_rows::definitions(alloc, &rows.definitions)?,
+        scopes: scopes_of_nodes(alloc, workspace, &rows.scopes)?,
+        names: table_rows::names(alloc, taken(alloc, &mut rows.names))?,
+        members: table_rows::members(alloc, taken(alloc, &mut rows.members))?,
+        paths: paths_of_nodes(alloc, path_nodes, &rows.paths)?,
+        methods: methods_of_nodes(alloc, call_nodes, &rows.methods)?,
+        types: types_by_nodes(alloc, workspace, taken(alloc, &mut rows.types))?,
+        printed: table_rows::printed(alloc, taken(alloc, &mut rows.printed))?,
     })
 }
 
