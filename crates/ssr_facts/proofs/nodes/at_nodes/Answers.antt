@@ -1,4 +1,6 @@
-use Rattle.std.proofs.Common.{◌++◌, ap, ◌∙◌, arith, refl}
+use Rattle.std.proofs.Common.{◌≤◌, ◌++◌, length, ap, ◌∙◌, arith, refl}
+use Rattle.std.proofs.lemmas.List.{take_all}
+use Rattle.std.specs.List.{filter_map}
 use Rattle.std.proofs.lemmas.Option.{slice_get_read}
 use Rattle.std.specs.Option.{option_map, option_to_list}
 use Rattle.ssr_base.specs.declared.ids.NodeId.{NodeId}
@@ -24,3 +26,10 @@ loop-place-preserved g c =
           (ap (λ v. v.items) w.told-is ∙ append_none told
           ∙ ap (λ o. told ++ option_to_list (option_map (λ (node : NodeId). (node, item.1)) o)) w.in_default.ensures.value)
     ]
+
+pub returns : goal.returns
+returns g c =
+    let all : length c.args.rows.now ≤ c.loop-place.place-index = omega arith in
+    c.loop-place.invariant
+    ∙ ap (filter_map (λ (row : PlaceRow × g.row.V.Denot). option_map (λ (node : NodeId). (node, row.1)) (at_place c.args.nodes.now row.0)))
+    (take_all c.loop-place.place-index c.args.rows.now all)
