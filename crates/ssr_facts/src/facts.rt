@@ -174,8 +174,8 @@ fn told(alloc: Global, mut rows: FactRows) -> Result<Facts, FactsError>
     requires { AreOrdered (plain_facts rows) }
     ensures { Answers (Ok (plain_facts rows)) result }
 {
-    let files = mem::replace(&mut rows.files, Vec::new(alloc));
-    let calls = mem::replace(&mut rows.expansions, Vec::new(alloc));
+    let files = taken(alloc, &mut rows.files);
+    let calls = taken(alloc, &mut rows.expansions);
     let (names, texts) = names_and_texts(alloc, files)?;
     let expansions = expansions(alloc, calls)?;
     let workspace = workspace(alloc, texts, expansions)?;
