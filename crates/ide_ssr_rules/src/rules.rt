@@ -1,5 +1,5 @@
 //! Rules and search patterns, read from their texts.
-ghost use Rattle.std.specs.Prelude.{◌≡◌, ◌<◌, ◌^◌, ◌++◌, ℕ, List, [], length, map, string_bytes, All, IfOk, IfSome};
+ghost use Rattle.std.specs.Prelude.{◌≡◌, ◌<◌, ◌^◌, ◌++◌, ℕ, List, [], length, map, string_bytes, All, Ok, IfOk, IfSome};
 ghost use Rattle.std.specs.List.{list_any};
 ghost use Rattle.std.specs.Option.{option_copied};
 ghost use Rattle.std.specs.Str.{trim};
@@ -177,17 +177,31 @@ fn rule_of<'a>(
     ensures { Answers result (rule_of pattern.now (option_copied template.entry)) }
 {
     let written = template.unwrap_or(&[]);
-    let texts = side_texts(alloc, pattern, written)?;
-    let kinds = some_kind(alloc, &texts.pattern, template.and(Some(&texts.template)))?;
+    let kinds = {
+        let texts = side_texts(alloc, pattern, written)?;
+        some_kind(alloc, &texts.pattern, template.and(Some(&texts.template)))?
+    };
     check_uses(alloc, pattern, written, kinds.as_slice())?;
-    let names = names_of(alloc, pattern)?;
-    let names = names.owned(alloc)?;
-    let constraints = constraints_of(alloc, pattern)?;
+    let (names, constraints) = asked(alloc, pattern)?;
     Ok(ParsedKinds {
         names,
         constraints,
         kinds,
     })
+}
+
+/// The names of a side's placeholders, and what each of these asks.
+fn asked(
+    alloc: Global,
+    elements: &[Element<'_>],
+) -> Result<(Vec<String>, Vec<ConstraintSet>), AllocError>
+    ensures names { IfOk result (λ asked. map string_bytes asked.0.items ≡ names_of elements.now) }
+    ensures constraints { IfOk result (λ asked. asked.1.items ≡ constraints_of elements.now) }
+{
+    let names = names_of(alloc, elements)?;
+    let names = names.owned(alloc)?;
+    let constraints = constraints_of(alloc, elements)?;
+    Ok((names, constraints))
 }
 
 /// Both sides' texts with stand-ins.
@@ -209,13 +223,25 @@ fn side_texts<'a>(
 {
     let pattern_text = side_text(alloc, pattern)?;
     let template_text = side_text(alloc, template)?;
-    let names = all_names(alloc, pattern, template)?;
-    check_reserved(alloc, &names, pattern)?;
-    check_reserved(alloc, &names, template)?;
+    check_names(alloc, pattern, template)?;
     Ok(SideTexts {
         pattern: pattern_text,
         template: template_text,
     })
+}
+
+/// Refuses an identifier of either side that is spelled as a stand-in of one of the sides' names, in sides whose placeholders
+/// are tokens of their own.
+fn check_names(
+    alloc: Global,
+    pattern: &[Element<'_>],
+    template: &[Element<'_>],
+) -> Result<(), SsrError>
+    ensures { unless r.Glued (glued_placeholder pattern.now) ≡ Ok tt → unless r.Glued (glued_placeholder template.now) ≡ Ok tt → Answers result (check_sides pattern.now template.now) }
+{
+    let names = all_names(alloc, pattern, template)?;
+    check_reserved(alloc, &names, pattern)?;
+    check_reserved(alloc, &names, template)
 }
 
 /// Whether what both sides' placeholders ask for can be given.

@@ -86,18 +86,18 @@ returns c =
     let texts = texts_are (goal.at.returns c).In_ok-texts in
     let read = rw (kinds_here (goal.at.returns c).After-and) at c.in_ok-kinds.ensures in
     let uses = rw is at c.in_ok-check_uses.ensures in
-    rule_made _ (option_copied c.args.template) _ _ _ _ _ texts.checked read c.as_slice.ensures.value uses c.in_ok-names.ensures
-    c.in_ok-names-2.ensures c.in_ok-constraints.ensures
+    rule_made _ (option_copied c.args.template) _ _ _ _ _ texts.checked read c.as_slice.ensures.value uses refl c.in_ok-names.ensures.names
+    c.in_ok-names.ensures.constraints
 
 pub invariant_of-result : goal.invariant_of-result
 invariant_of-result c =
     let texts = texts_are (goal.at.invariant_of-result c).In_ok-texts in
     let read = rw (kinds_here (goal.at.invariant_of-result c).After-and) at c.in_ok-kinds.ensures in
-    let kept = c.in_ok-names.ensures in record {
-      few = names_few c.args.pattern.now _ _ c.requires.few c.in_ok-names-2.ensures kept;
+    let kept = c.in_ok-names.ensures.names in record {
+      few = names_few c.args.pattern.now _ _ c.requires.few kept refl;
       once =
           kinds_once c.args.pattern.now (option_copied c.args.template) _ _
           (record { utf8 = subst IsUtf8 texts.pattern.0 texts.pattern.1; new = c.requires.pattern_new })
           (are_read (option_copied c.args.template) (template_utf8 (option_copied c.args.template) _ texts.template) c.requires.template_new)
-          texts.checked read (c.in_ok-names-2.ensures ∙ kept);
+          texts.checked read kept;
     }
