@@ -10,8 +10,8 @@ use Rattle.ssr_syntax.proofs.preorder.node_rows.Goals as goal
 pub returns-in_err-from_right : goal.returns-in_err-from_right
 returns-in_err-from_right c kind kids e =
     let same = rows_too_deep (λ i. slice_index c.args.ends.now i) c.args.tokens kind kids c.read.new.self.unread c.args.rows c.in-Some.root
-    c.new-above.result.items c.push.new.self.items (sym (ap (λ t. t.unread) c.new-rows.ensures) ∙ c.in-Some.ensures.row) e c.new-above.ensures.items
-    (c.in_ok-push.ensures.items ∙ ap (λ n. c.new-above.result.items ++ (root_open c.in-Some.root.kind c.args.tokens n ∷ [])) c.unread.ensures) in
+    c.in_ok-above.above.items c.push.new.self.items (sym (ap (λ t. t.unread) c.new-rows.ensures) ∙ c.in-Some.ensures.row) e c.in_ok-above.ensures.items
+    (c.in_ok-push.ensures.items ∙ ap (λ n. c.in_ok-above.above.items ++ (root_open c.in-Some.root.kind c.args.tokens n ∷ [])) c.unread.ensures) in
     carried
     (is_deeper most_deep (λ i. slice_index c.args.ends.now i) c.in-Some.root.first (reverse c.push.new.self.items) (reverse c.read.new.self.unread))
     (nat_lt most_deep (height kids))
@@ -22,8 +22,8 @@ returns-in_err-from_right c kind kids e =
 pub returns : goal.returns
 returns c kind kids e =
     let r = rows_done (λ i. slice_index c.args.ends.now i) c.args.tokens kind kids c.read.new.self.unread c.args.rows c.in-Some.root
-    c.new-above.result.items c.push.new.self.items (sym (ap (λ t. t.unread) c.new-rows.ensures) ∙ c.in-Some.ensures.row) e c.new-above.ensures.items
-    (c.in_ok-push.ensures.items ∙ ap (λ n. c.new-above.result.items ++ (root_open c.in-Some.root.kind c.args.tokens n ∷ [])) c.unread.ensures)
+    c.in_ok-above.above.items c.push.new.self.items (sym (ap (λ t. t.unread) c.new-rows.ensures) ∙ c.in-Some.ensures.row) e c.in_ok-above.ensures.items
+    (c.in_ok-push.ensures.items ∙ ap (λ n. c.in_ok-above.above.items ++ (root_open c.in-Some.root.kind c.args.tokens n ∷ [])) c.unread.ensures)
     c.read.new.self.turned c.from_right.new.rows.turned (c.read.ensures.turned ∙ ap (λ t. t.turned) c.new-rows.ensures)
     c.in_ok-from_right.ensures.turned.0 c.in_ok-from_right.ensures.turned.1 in
     (r.0, (c.finish.ensures ∙ r.1, omega (arith, c.len.ensures, c.if-len-gt-MOST_NODES.false)))
