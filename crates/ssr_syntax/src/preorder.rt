@@ -19,8 +19,8 @@ const MOST_DEEP: usize = 1024;
 /// 2^32 is room for the open nodes, which are added to a number.
 const MOST_NODES: usize = 0xffff_f000;
 
-/// For how many open nodes there is room at once, which is as many as most code has.
-const MOST_OPEN: usize = 32;
+/// For how many open nodes there is room from the first one on: few texts have more.
+const OPEN_AT_FIRST: usize = 32;
 
 /// A node with its row, as long as more nodes may stand below it.
 #[derive(Clone, Copy)]
@@ -178,7 +178,7 @@ pub(crate) fn node_rows(
         past: tokens,
         below: rows.unread() as u32,
     };
-    let mut above = Vec::with_capacity(alloc, MOST_OPEN)?;
+    let mut above = Vec::with_capacity(alloc, OPEN_AT_FIRST)?;
     above.push(Open {
         start: 0,
         number: 0,
