@@ -19,7 +19,7 @@ const MOST_DEEP: usize = 1024;
 /// 2^32 is room for the open nodes, which are added to a number.
 const MOST_NODES: usize = 0xffff_f000;
 
-/// For how many open nodes there is room from the first one on: few texts have more.
+/// For how many open nodes there is room from the first one on; texts of a few tokens have no more.
 const OPEN_AT_FIRST: usize = 32;
 
 /// A node with its row, as long as more nodes may stand below it.
