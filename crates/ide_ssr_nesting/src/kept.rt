@@ -138,10 +138,9 @@ pub(crate) fn keep_in_order(
     ensures kept { IfOk result (λ nest. AreKept (trees workspace.now) found.items nest.matches.items) }
     ensures held { IfOk result (λ nest. AreHeld (trees workspace.now) nest.matches.items nest.holders.items) }
 {
-    let mut nest = Nest {
-        matches: Vec::new(alloc),
-        holders: Vec::new(alloc),
-    };
+    let matches = Vec::with_capacity(alloc, found.len())?;
+    let holders = Vec::with_capacity(alloc, found.len())?;
+    let mut nest = Nest { matches, holders };
     for m in found {
         nest.consider(workspace, m)?;
     }

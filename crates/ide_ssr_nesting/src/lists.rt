@@ -113,7 +113,7 @@ fn rows(alloc: Global, kept: &KeptMatches<'_>) -> Result<Vec<Row>, AllocError>
     ensures each { IfOk result (λ rows. All (IsRowOf kept.now) rows.items) }
     ensures places { IfOk result (λ rows. map (λ row. row.place) rows.items ≡ range_with_len 0 (length kept.now.matches)) }
 {
-    let mut rows = Vec::new(alloc);
+    let mut rows = Vec::with_capacity(alloc, kept.len())?;
     for place in 0..kept.len() {
         rows.push(row_at(kept, place))?;
     }
@@ -128,8 +128,8 @@ impl Lists {
         ensures places { IfOk result (λ lists. lists.places ≡ map (λ row. row.place) rows.now) }
         ensures beside { IfOk result (λ lists. map Some lists.holders ≡ map (slice_get kept.now.holders) lists.places) }
     {
-        let mut places = Vec::new(alloc);
-        let mut holders = Vec::new(alloc);
+        let mut places = Vec::with_capacity(alloc, rows.len())?;
+        let mut holders = Vec::with_capacity(alloc, rows.len())?;
         for row in rows {
             places.push(row.place)?;
             holders.push(kept.holder(row.place))?;

@@ -4,7 +4,7 @@ use Rattle.ide_ssr_nesting.proofs.kept.keep_in_order.Goals as goal
 
 pub loop-m-init : goal.loop-m-init
 loop-m-init c =
-    kept_starts _ _ _ _ _ c.requires.matches c.requires.in_order c.new.ensures.items c.new-2.ensures.items c.into_iter-m-iterator.ensures.into_iter_gives.0
+    kept_starts _ _ _ _ _ c.requires.matches c.requires.in_order c.in_ok-matches.ensures.items c.in_ok-holders.ensures.items c.into_iter-m-iterator.ensures.into_iter_gives.0
 
 pub consider-requires-clause-behind : goal.consider-requires-clause-behind
 consider-requires-clause-behind c = rest_behind _ c.requires.built.grown _ _ _ _ c.loop-m.invariant _ _ c.in-Some.ensures.steps.0
