@@ -1,8 +1,10 @@
 -- What the root of a rule's pattern asks of a node has each node that matches.
-use Rattle.std.proofs.Common.{◌≡◌, ℕ, ◌≤◌, Bool, true, false, ◌||◌, ◌&&◌, not, List, [], ◌∷◌, Option, Some, None, refl, sym, ap, ◌∙◌, subst, inl, inr, ◌⊎◌, get_or, length}
+use Rattle.std.proofs.Common.{◌≡◌, ℕ, ◌≤◌, Bool, true, false, ◌||◌, ◌&&◌, not, List, [], ◌∷◌, Option, Some, None, refl, sym, ap, ◌∙◌, subst, inl, inr, ◌⊎◌, get_or, length, map, arith}
 use Rattle.std.specs.Prelude.{if◌then◌else◌, is_some, slice_get, slice_index_or, slice_set}
 use Rattle.std.proofs.lemmas.Grind.{get_or-set_at}
 use Rattle.std.proofs.lemmas.List.{get_or_past, get_or-set_other}
+use Rattle.std.proofs.lemmas.List.Elements.{All-tail}
+use Rattle.std.specs.List.{All}
 use Rattle.std.specs.Option.{option_map_or}
 use Rattle.std.proofs.lemmas.Bool.{or_left, or_right, and_from, and_parts, or_parts, cases_Bool, cases_eq, cases_lt, both_ways}
 use Rattle.std.proofs.lemmas.Option.{none-some, same_Some}
@@ -11,7 +13,10 @@ use Rattle.ssr_syntax_kinds.specs.declared.kinds.SyntaxKind.TheVariants as k
 use Rattle.ssr_syntax_kinds.specs.Kinds.{same_kind, is_trivia}
 use Rattle.ssr_syntax_kinds.proofs.Shared.{same_kind-equal, equal-same_kind}
 use Rattle.ssr_syntax_tree.specs.Syntax.{Syntax, Token}
-use Rattle.ssr_syntax_tree.specs.Places.{Node, Part, token_part, node_part, parts_of, node_of, root_of}
+use Rattle.ssr_syntax_tree.specs.declared.number.Element.{Element}
+use Rattle.ssr_syntax_tree.specs.declared.number.Element.TheVariants as element
+use Rattle.ssr_syntax_tree.specs.Places.{Node, Part, token_part, node_part, parts_of, part_of, node_of, token_of, elements_of, root_of, HasNode, HasToken, HasElement}
+use Rattle.ssr_syntax_tree.proofs.Shared.{elements_had, parts_of-elements_of}
 use Rattle.ssr_base.specs.Meanings.{Meanings}
 use Rattle.ssr_base.specs.Workspace.{Workspace, trees, node_id}
 use Rattle.ide_ssr_resolving.specs.Resolved.{ResolvedKind}
@@ -25,12 +30,13 @@ use Rattle.ide_ssr_matching.specs.Matching.{Matches, bound, token_trees, method,
 use Rattle.ide_ssr_matching.specs.UsedPaths.{pattern_res}
 use Rattle.ide_ssr_search.specs.declared.roots.Root.{Root}
 use Rattle.ide_ssr_search.specs.declared.roots.Root.TheVariants as roots
+use Rattle.ide_ssr_search.specs.declared.roots.KindSet.{KindSet}
 use Rattle.ide_ssr_search.specs.declared.roots.Rules.{Rules}
 use Rattle.ssr_base.specs.Built.{IsMacroCall}
 use Rattle.ide_ssr_search.specs.WholeMatches.{IsWholeMatch}
 use Rattle.ide_ssr_search.specs.Private.Shut.{Shuts}
 use Rattle.ide_ssr_found.proofs.Shared.{IsTree, in_tree}
-use Rattle.ide_ssr_search.specs.Private.Roots.{counts, first_counted, has_token_of, pairs_otherwise, has_asked, has_kind, IsRootOf, AreRules}
+use Rattle.ide_ssr_search.specs.Private.Roots.{counts, first_counted, counts_first, pairs_otherwise, has_asked, token_asked, has_kind, AreTokenKinds, IsRootOf, AreKindsIn}
 
 -- ** Sibling by sibling.
 
@@ -50,29 +56,7 @@ counted_behind (token_part t token) rest is = here (counts token.kind) is
     here false is = refl
 counted_behind (node_part node) rest is = refl
 
-pub token_here : (part : Part) (rest : List Part) (kind : SyntaxKind) → has_token_of kind (part ∷ []) ≡ true → has_token_of kind (part ∷ rest) ≡ true
-token_here (token_part t token) rest kind is = here (same_kind token.kind kind) is
-  where
-    here : (b : Bool) → (b || false) ≡ true → (b || has_token_of kind rest) ≡ true
-    here true is = refl
-    here false is = let e : false ≡ true = is in cc
-token_here (node_part node) rest kind is = let e : false ≡ true = is in cc
-
-pub token_behind : (part : Part) (rest : List Part) (kind : SyntaxKind) → has_token_of kind (part ∷ []) ≡ false → has_token_of kind (part ∷ rest) ≡ has_token_of kind rest
-token_behind (token_part t token) rest kind is = here (same_kind token.kind kind) is
-  where
-    here : (b : Bool) → (b || false) ≡ false → (b || has_token_of kind rest) ≡ has_token_of kind rest
-    here true is = let e : true ≡ false = is in cc
-    here false is = refl
-token_behind (node_part node) rest kind is = refl
-
--- ** Tokens that count are among those that a match compares.
-
--- the token is among them, whether what comes before it is left out or not
-at_or_behind : (b : Bool) (part : Part) (parts : List Part) (kind : SyntaxKind) → has_token_of kind parts ≡ true → has_token_of kind (if b then parts else part ∷ parts) ≡ true
-at_or_behind true part parts kind has = has
-at_or_behind false (token_part t token) parts kind has = or_right (same_kind token.kind kind) (has_token_of kind parts) has
-at_or_behind false (node_part node) parts kind has = has
+-- ** The first token that counts is one that a match compares.
 
 counted_kept : (kind : SyntaxKind) (rest : List Part) → counts kind ≡ true → is_left_out kind rest ≡ false
 counted_kept kind rest counted = by_parts (is_trivia kind) (same_kind kind k.COMMA) counted
@@ -82,50 +66,35 @@ counted_kept kind rest counted = by_parts (is_trivia kind) (same_kind kind k.COM
     by_parts false true is = let e : false ≡ true = is in cc
     by_parts false false is = refl
 
-counted_bare : (parts : List Part) (kind : SyntaxKind) → first_counted parts ≡ Some kind → has_token_of kind (bare parts) ≡ true
-counted_bare [] kind is = absurd (none-some kind is)
-counted_bare (token_part t token ∷ rest) kind is =
+-- a token that doesn't count is passed over, whether it is left out or not
+passed_over : (left_out : Bool) (t : ℕ) (token : Token) (parts : List Part) → counts token.kind ≡ false
+    → first_counted (if left_out then parts else token_part t token ∷ parts) ≡ first_counted parts
+passed_over true t token parts other = refl
+passed_over false t token parts other = ap (λ b. if b then Some token.kind else first_counted parts) other
+
+-- what is left out doesn't count
+counted_bare : (parts : List Part) → first_counted (bare parts) ≡ first_counted parts
+counted_bare [] = refl
+counted_bare (token_part t token ∷ rest) =
     elim (cases_Bool (counts token.kind)) [
       | inl counted ↦
-          let same : token.kind ≡ kind = same_Some token.kind kind (sym (ap (λ b. if b then Some token.kind else first_counted rest) counted) ∙ is) in
-          subst (λ b. has_token_of kind (if b then bare rest else token_part t token ∷ bare rest) ≡ true) (sym (counted_kept token.kind rest counted))
-          (or_left (same_kind token.kind kind) (has_token_of kind (bare rest)) (equal-same_kind token.kind kind same))
+          ap (λ b. first_counted (if b then bare rest else token_part t token ∷ bare rest)) (counted_kept token.kind rest counted)
+          ∙ ap (λ b. if b then Some token.kind else first_counted (bare rest)) counted
+          ∙ sym (ap (λ b. if b then Some token.kind else first_counted rest) counted)
       | inr other ↦
-          at_or_behind (is_left_out token.kind rest) (token_part t token) (bare rest) kind
-          (counted_bare rest kind (sym (ap (λ b. if b then Some token.kind else first_counted rest) other) ∙ is))
+          passed_over (is_left_out token.kind rest) t token (bare rest) other ∙ counted_bare rest
+          ∙ sym (ap (λ b. if b then Some token.kind else first_counted rest) other)
     ]
-counted_bare (node_part node ∷ rest) kind is = counted_bare rest kind is
+counted_bare (node_part node ∷ rest) = counted_bare rest
 
--- what is compared is among the siblings
-was_there : (left_out : Bool) (t : ℕ) (token : Token) (kind : SyntaxKind) (has : Bool) (parts : List Part) → (has_token_of kind parts ≡ true → has ≡ true)
-    → has_token_of kind (if left_out then parts else token_part t token ∷ parts) ≡ true → (same_kind token.kind kind || has) ≡ true
-was_there true t token kind has parts within h = or_right (same_kind token.kind kind) has (within h)
-was_there false t token kind has parts within h = by_kind (same_kind token.kind kind) refl h
-  where
-    by_kind : (b : Bool) → same_kind token.kind kind ≡ b → (b || has_token_of kind parts) ≡ true → (same_kind token.kind kind || has) ≡ true
-    by_kind true same h = or_left (same_kind token.kind kind) has same
-    by_kind false same h = or_right (same_kind token.kind kind) has (within h)
-
-bare_token : (parts : List Part) (kind : SyntaxKind) → has_token_of kind (bare parts) ≡ true → has_token_of kind parts ≡ true
-bare_token [] kind has = has
-bare_token (token_part t token ∷ rest) kind has =
-    was_there (is_left_out token.kind rest) t token kind (has_token_of kind rest) (bare rest) (bare_token rest kind) has
-bare_token (node_part node ∷ rest) kind has = bare_token rest kind has
-
--- of two rows that pair, the second has each token of the first
-token_paired : (a b kind : SyntaxKind) (had has : Bool) → a ≡ b → (had ≡ true → has ≡ true) → (same_kind a kind || had) ≡ true → (same_kind b kind || has) ≡ true
-token_paired a b kind had has same behind h = by_kind (same_kind a kind) refl h
-  where
-    by_kind : (test : Bool) → same_kind a kind ≡ test → (test || had) ≡ true → (same_kind b kind || has) ≡ true
-    by_kind true is h = or_left (same_kind b kind) has (ap (λ x. same_kind x kind) (sym same) ∙ is)
-    by_kind false is h = or_right (same_kind b kind) has (behind h)
-
-paired_token : (m : Meanings) (tree : ℕ) (rule : ResolvedKind) (ps cs : List Part) (bs : List Binding) (kind : SyntaxKind) → Pairs m tree rule ps cs bs
-    → has_token_of kind ps ≡ true → has_token_of kind cs ≡ true
-paired_token m tree rule _ _ _ kind end has = has
-paired_token m tree rule _ _ _ kind (tokens t u p c ps cs bs same text rest) has =
-    token_paired p.kind c.kind kind (has_token_of kind ps) (has_token_of kind cs) same (paired_token m tree rule ps cs bs kind rest) has
-paired_token m tree rule _ _ _ kind (nodes p c ps cs bs rest here behind) has = paired_token m tree rule ps cs rest kind behind has
+-- two rows that pair have one and the same
+counted_paired : (m : Meanings) (tree : ℕ) (rule : ResolvedKind) (ps cs : List Part) (bs : List Binding) → Pairs m tree rule ps cs bs
+    → first_counted ps ≡ first_counted cs
+counted_paired m tree rule _ _ _ end = refl
+counted_paired m tree rule _ _ _ (tokens t u p c ps cs bs same text rest) =
+    ap (λ kind. if counts kind then Some kind else first_counted ps) same
+    ∙ ap (λ behind. if counts c.kind then Some c.kind else behind) (counted_paired m tree rule ps cs bs rest)
+counted_paired m tree rule _ _ _ (nodes p c ps cs bs rest here behind) = counted_paired m tree rule ps cs rest behind
 
 -- ** What is asked.
 
@@ -186,11 +155,13 @@ root_of_node rule kind token none no_call unused by_children kind_is token_is m 
     (by_token token (sym token_is) (matched_alike m tree rule p c bindings none no_call unused (ap pairs_otherwise (sym kind_is) ∙ by_children) matches))
   where
     by_token : (o : Option SyntaxKind) → first_counted (parts_of (root_of rule.pattern)) ≡ o
-        → Pairs m tree rule (bare (parts_of (root_of rule.pattern))) (bare (parts_of c)) bindings → option_map_or (λ kind. has_token_of kind (parts_of c)) o true ≡ true
+        → Pairs m tree rule (bare (parts_of (root_of rule.pattern))) (bare (parts_of c)) bindings → option_map_or (λ kind. counts_first kind (parts_of c)) o true ≡ true
     by_token None is pairs = refl
     by_token (Some kind) is pairs =
-        bare_token (parts_of c) kind
-        (paired_token m tree rule (bare (parts_of (root_of rule.pattern))) (bare (parts_of c)) bindings kind pairs (counted_bare (parts_of (root_of rule.pattern)) kind is))
+        let p = root_of rule.pattern in
+        let first : first_counted (parts_of c) ≡ Some kind = sym (counted_bare (parts_of c))
+        ∙ sym (counted_paired m tree rule (bare (parts_of p)) (bare (parts_of c)) bindings pairs) ∙ counted_bare (parts_of p) ∙ is in
+        ap (λ own. option_map_or (λ own. same_kind own kind) own false) first ∙ equal-same_kind kind kind refl
 
 pub root_node : (syntax : Syntax) → node_of syntax 0 ≡ root_of syntax
 unfolding node_of
@@ -209,6 +180,42 @@ asked_call root kind c is asked = by (same_kind c.kind kind) refl (subst (λ r. 
     by : (b : Bool) → same_kind c.kind kind ≡ b → (b || same_kind c.kind k.METHOD_CALL_EXPR) ≡ true → (c.kind ≡ kind) ⊎ (c.kind ≡ k.METHOD_CALL_EXPR)
     by true same either = inl (same_kind-equal c.kind kind same)
     by false same either = inr (same_kind-equal c.kind k.METHOD_CALL_EXPR either)
+
+-- ** What the tokens of a tree tell.
+
+first_in : (tree : Syntax) (es : List Element) (kind : SyntaxKind) → All (HasElement tree) es → first_counted (map (part_of tree) es) ≡ Some kind
+    → (t : ℕ) × HasToken tree t × ((token_of tree t).kind ≡ kind)
+first_in tree [] kind had is = absurd (none-some kind is)
+first_in tree (element.Node n ∷ es) kind had is = first_in tree es kind (All-tail (HasElement tree) (element.Node n) es had) is
+first_in tree (element.Token t ∷ es) kind had is =
+    let own = (token_of tree t.0).kind in
+    let behind = first_counted (map (part_of tree) es) in
+    elim (cases_Bool (counts own)) [
+      | inl counted ↦ (
+        t.0,
+        had 0 (element.Token t) (omega arith),
+        same_Some own kind (sym (ap (λ b. if b then Some own else behind) counted) ∙ is),
+      )
+      | inr other ↦ first_in tree es kind (All-tail (HasElement tree) (element.Token t) es had) (sym (ap (λ b. if b then Some own else behind) other) ∙ is)
+    ]
+
+is_first : (o : Option SyntaxKind) (kind : SyntaxKind) → option_map_or (λ own. same_kind own kind) o false ≡ true → o ≡ Some kind
+is_first None kind is = let e : false ≡ true = is in cc
+is_first (Some own) kind is = ap Some (same_kind-equal own kind is)
+
+-- where a node has what a root asks for, the tree has a token of the kind that it asks for
+pub asked_in : (tree : Syntax) (n : ℕ) (kinds : KindSet) (root : Root) (token : SyntaxKind) → HasNode tree n → AreTokenKinds tree kinds
+    → token_asked root ≡ Some token → has_asked root (node_of tree n) ≡ true → has_kind kinds token ≡ true
+asked_in tree n kinds roots.Placeholder token has are is asked = absurd (none-some token is)
+asked_in tree n kinds (roots.Call kind) token has are is asked = absurd (none-some token is)
+asked_in tree n kinds (roots.Node kind own) token has are is asked =
+    let parts = parts_of (node_of tree n) in
+    let counted = (and_parts (same_kind (node_of tree n).kind kind) (option_map_or (λ token. counts_first token parts) own true) asked).1 in
+    let first : counts_first token parts ≡ true = subst (λ o. option_map_or (λ token. counts_first token parts) o true ≡ true) is counted in
+    let there =
+    first_in tree (elements_of (node_of tree n)) token (elements_had tree n has)
+    (ap first_counted (parts_of-elements_of tree n has) ∙ is_first (first_counted parts) token first) in
+    subst (λ kind. has_kind kinds kind ≡ true) there.2 (are there.0 there.1)
 
 -- ** Sets of kinds.
 
@@ -237,22 +244,22 @@ module _ (w : Workspace) (meanings : Meanings) (t n : ℕ) (s : Syntax) (at : Is
   unmatched_root rule root is lacks bindings whole =
       both_ways (has_asked root (node_of s n)) lacks (is meanings t (node_of s n) bindings (matched_there rule bindings whole))
 
-  pub unmatched_kind : (rules : Rules) → AreRules rules → has_kind rules.kinds (node_of s n).kind ≡ false
+  pub unmatched_kind : (rules : Rules) (kinds : KindSet) → AreKindsIn rules s kinds → HasNode s n → has_kind kinds (node_of s n).kind ≡ false
       → (place : ℕ) (rule : ResolvedKind) (bindings : List Binding) → slice_get rules.rules.now place ≡ Some rule → IsWholeMatch (trees w) meanings rule (node_id t n) bindings → ⊥
-  unmatched_kind rules are lacks place rule bindings is whole =
-      both_ways (has_kind rules.kinds (node_of s n).kind) lacks (are.kinds place rule is meanings t (node_of s n) bindings (matched_there rule bindings whole))
+  unmatched_kind rules kinds are has lacks place rule bindings is whole =
+      both_ways (has_kind kinds (node_of s n).kind) lacks (are.matched place rule is meanings t n bindings has (matched_there rule bindings whole))
 
 module _ (w : Workspace) (t n : ℕ) (s : Syntax) (at : IsTree (trees w) t s) where
   -- a node of a kind that concerns nothing shuts in nothing
-  pub unshutting_kind : (rules : Rules) → AreRules rules → has_kind rules.kinds (node_of s n).kind ≡ false → Shuts (trees w) (node_id t n) → ⊥
-  unshutting_kind rules are lacks (inl is_use) =
-      both_ways (has_kind rules.kinds (node_of s n).kind) lacks
-      (ap (has_kind rules.kinds) (in_tree (trees w) t s (λ s. (node_of s n).kind ≡ k.USE) at is_use) ∙ are.uses)
-  unshutting_kind rules are lacks (inr call) =
-      both_ways (has_kind rules.kinds (node_of s n).kind) lacks
-      (ap (has_kind rules.kinds) (in_tree (trees w) t s (λ s. (node_of s n).kind ≡ k.MACRO_CALL) at call.0) ∙ are.calls)
+  pub unshutting_kind : (rules : Rules) (kinds : KindSet) → AreKindsIn rules s kinds → has_kind kinds (node_of s n).kind ≡ false → Shuts (trees w) (node_id t n) → ⊥
+  unshutting_kind rules kinds are lacks (inl is_use) =
+      both_ways (has_kind kinds (node_of s n).kind) lacks
+      (ap (has_kind kinds) (in_tree (trees w) t s (λ s. (node_of s n).kind ≡ k.USE) at is_use) ∙ are.uses)
+  unshutting_kind rules kinds are lacks (inr call) =
+      both_ways (has_kind kinds (node_of s n).kind) lacks
+      (ap (has_kind kinds) (in_tree (trees w) t s (λ s. (node_of s n).kind ≡ k.MACRO_CALL) at call.0) ∙ are.calls)
 
-  pub no_call_of_kind : (rules : Rules) → AreRules rules → has_kind rules.kinds (node_of s n).kind ≡ false → IsMacroCall (trees w) (node_id t n) → ⊥
-  no_call_of_kind rules are lacks call =
-      both_ways (has_kind rules.kinds (node_of s n).kind) lacks
-      (ap (has_kind rules.kinds) (in_tree (trees w) t s (λ s. (node_of s n).kind ≡ k.MACRO_CALL) at call) ∙ are.calls)
+  pub no_call_of_kind : (rules : Rules) (kinds : KindSet) → AreKindsIn rules s kinds → has_kind kinds (node_of s n).kind ≡ false → IsMacroCall (trees w) (node_id t n) → ⊥
+  no_call_of_kind rules kinds are lacks call =
+      both_ways (has_kind kinds (node_of s n).kind) lacks
+      (ap (has_kind kinds) (in_tree (trees w) t s (λ s. (node_of s n).kind ≡ k.MACRO_CALL) at call) ∙ are.calls)

@@ -5,7 +5,6 @@ use Rattle.std.specs.Option.{IsSomeAnd, option_and_then, option_map}
 use Rattle.std.proofs.lemmas.List.Elements.{All-weaker, All-contains_itself}
 use Rattle.std.proofs.lemmas.Option.{none-some, same_Some}
 use Rattle.ssr_syntax_tree.specs.declared.number.NodeNo.{NodeNo}
-use Rattle.ssr_syntax_tree.specs.Syntax.{Syntax}
 use Rattle.ssr_syntax_tree.specs.Places.{HasNode, node_of, root_of}
 use Rattle.ssr_syntax_tree.proofs.Lists.{same_rising}
 use Rattle.ssr_base.specs.Meanings.{Meanings}

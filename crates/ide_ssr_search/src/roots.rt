@@ -1,14 +1,16 @@
 //! What rules ask of a node, before it is asked whether it matches: most nodes lack it.
-ghost use Rattle.std.specs.Prelude.{◌≡◌, ◌&&◌, ◌∷◌, [], not, true, is_some, IfOk, IfSome};
+ghost use Rattle.std.specs.Prelude.{◌≡◌, ℕ, ◌&&◌, ◌∷◌, [], not, true, false, is_some, IfOk, IfSome};
 ghost use Rattle.std.specs.Option.{option_map_or};
 ghost use Rattle.ssr_syntax_kinds.specs.declared.kinds.SyntaxKind.{SyntaxKind as Kind};
+ghost use Rattle.ssr_syntax_kinds.specs.Kinds.{same_kind};
+ghost use Rattle.ssr_syntax_tree.specs.Syntax.{Syntax};
 ghost use Rattle.ssr_syntax_tree.specs.Places.{Node, HasNode, HasElement, node_of, root_of, part_of, parts_of};
-ghost use Rattle.ide_ssr_search.specs.Private.Roots.{first_counted, has_token_of, pairs_otherwise, has_asked, has_kind, IsRootOf, IsAskedBy, AreRules};
+ghost use Rattle.ide_ssr_search.specs.Private.Roots.{first_counted, counts_first, pairs_otherwise, has_asked, token_asked, has_kind, AreTokenKinds, IsRootOf, IsAskedBy, AreRules, AreKindsIn};
 
 use crate::permitted::names_self;
 use ide_ssr_resolving::ResolvedRule;
 use ssr_syntax_kinds::SyntaxKind;
-use ssr_syntax_tree::{Element, NodeNo, Tree};
+use ssr_syntax_tree::{Element, NodeNo, TokenNo, Tree};
 use std::alloc::{AllocError, Global};
 
 /// What the root of a rule's pattern asks of each node that matches it.
@@ -18,8 +20,9 @@ pub(crate) enum Root {
     Placeholder,
     /// A qualified call asks for its kind, or for a method call.
     Call(SyntaxKind),
-    /// Any other node asks for its kind, and for a token directly below of the kind of its own first one that counts for each
-    /// match, if it has such a token. Of a used path and of a node that matches by other things than its children none counts.
+    /// Any other node asks for its kind, and, if a token directly below it counts for each match, that the first such token
+    /// has the kind of its own first one. Of a used path and of a node that matches by other things than its children none
+    /// counts.
     Node(SyntaxKind, Option<SyntaxKind>),
 }
 
@@ -52,37 +55,23 @@ fn first_counted(tree: &Tree, node: NodeNo) -> Option<SyntaxKind>
     None
 }
 
-/// Whether a child is a token of a kind.
-fn is_token_of(tree: &Tree, kind: SyntaxKind, child: Element) -> bool
-    requires { HasElement tree.now child }
-    ensures { result ≡ has_token_of kind (part_of tree.now child ∷ []) }
+/// Whether a kind was found, and is this one.
+fn is_kind(found: Option<SyntaxKind>, kind: SyntaxKind) -> bool
+    ensures { result ≡ option_map_or (λ own. same_kind own kind) found false }
 {
-    match child {
-        Element::Token(token) => tree.token_kind(token).is(kind),
-        Element::Node(_) => false,
+    match found {
+        Some(own) => own.is(kind),
+        None => false,
     }
 }
 
-/// Whether a node has a child that is a token of a kind.
-fn has_token_of(tree: &Tree, kind: SyntaxKind, node: NodeNo) -> bool
+/// Whether the first such token of a node has a kind, where one is asked for.
+fn counts_first(tree: &Tree, kind: Option<SyntaxKind>, node: NodeNo) -> bool
     requires { HasNode tree.now node.0 }
-    ensures { result ≡ has_token_of kind (parts_of (node_of tree.now node.0)) }
-{
-    for child in tree.children(node) {
-        if is_token_of(tree, kind, child) {
-            return true;
-        }
-    }
-    false
-}
-
-/// The same where a kind is asked for.
-fn has_token_if(tree: &Tree, kind: Option<SyntaxKind>, node: NodeNo) -> bool
-    requires { HasNode tree.now node.0 }
-    ensures { result ≡ option_map_or (λ kind. has_token_of kind (parts_of (node_of tree.now node.0))) kind true }
+    ensures { result ≡ option_map_or (λ kind. counts_first kind (parts_of (node_of tree.now node.0))) kind true }
 {
     match kind {
-        Some(kind) => has_token_of(tree, kind, node),
+        Some(kind) => is_kind(first_counted(tree, node), kind),
         None => true,
     }
 }
@@ -126,8 +115,28 @@ impl Root {
                 own.is(kind) || own.is(SyntaxKind::METHOD_CALL_EXPR)
             }
             Root::Node(kind, token) => {
-                tree.kind(node).is(kind) && has_token_if(tree, token, node)
+                tree.kind(node).is(kind) && counts_first(tree, token, node)
             }
+        }
+    }
+
+    /// The kind of the token that is asked for, if one is.
+    fn token(self) -> Option<SyntaxKind>
+        ensures { result ≡ token_asked self }
+    {
+        match self {
+            Root::Node(_, token) => token,
+            _ => None,
+        }
+    }
+
+    /// Whether a tree whose tokens all have kinds of a set may have a node with what is asked.
+    fn may_be_met(self, tokens: &KindSet) -> bool
+        ensures { (tree : Syntax) (n : ℕ) → HasNode tree n → AreTokenKinds tree tokens.now → has_asked self (node_of tree n) ≡ true → result ≡ true }
+    {
+        match self.token() {
+            Some(token) => tokens.has(token),
+            None => true,
         }
     }
 }
@@ -160,15 +169,30 @@ pub(crate) struct KindSet {
 }
 
 impl KindSet {
+    fn none() -> KindSet {
+        KindSet {
+            every: false,
+            listed: [false; 256],
+        }
+    }
+
+    /// The kinds of a tree's tokens.
+    fn of_tokens(tree: &Tree) -> KindSet
+        ensures { AreTokenKinds tree.now result }
+    {
+        let mut kinds = KindSet::none();
+        for token in 0..tree.token_count() {
+            kinds.add(tree.token_kind(TokenNo(token)));
+        }
+        kinds
+    }
+
     /// The kinds of nodes that may shut in what is below them.
     fn shutting() -> KindSet
         ensures uses { has_kind result SyntaxKind.USE ≡ true }
         ensures calls { has_kind result SyntaxKind.MACRO_CALL ≡ true }
     {
-        let mut kinds = KindSet {
-            every: false,
-            listed: [false; 256],
-        };
+        let mut kinds = KindSet::none();
         kinds.add(SyntaxKind::USE);
         kinds.add(SyntaxKind::MACRO_CALL);
         kinds
@@ -197,7 +221,17 @@ impl KindSet {
         }
     }
 
-    fn has(&self, kind: SyntaxKind) -> bool
+    /// Adds the kinds of all nodes of a tree that have what a root asks for, where the tree's tokens have these kinds.
+    fn add_asked_in(&mut self, tokens: &KindSet, root: Root)
+        ensures added { (tree : Syntax) (n : ℕ) → HasNode tree n → AreTokenKinds tree tokens.now → has_asked root (node_of tree n) ≡ true → has_kind self.new (node_of tree n).kind ≡ true }
+        ensures kept { (kind : Kind) → has_kind self.old kind ≡ true → has_kind self.new kind ≡ true }
+    {
+        if root.may_be_met(tokens) {
+            self.add_asked(root);
+        }
+    }
+
+    pub(crate) fn has(&self, kind: SyntaxKind) -> bool
         ensures { result ≡ has_kind self.now kind }
     {
         self.every || self.listed[kind as usize]
@@ -210,8 +244,6 @@ pub(crate) struct Rules<'a> {
     pub(crate) rules: &'a [ResolvedRule],
     /// What each of them asks.
     pub(crate) asked: Vec<Asked>,
-    /// The kinds of the nodes that one of them may match, and of those that may shut in what is below them.
-    kinds: KindSet,
 }
 
 impl<'a> Rules<'a> {
@@ -221,23 +253,23 @@ impl<'a> Rules<'a> {
         ensures are { IfOk result AreRules }
     {
         let mut asked = Vec::new(alloc);
-        let mut kinds = KindSet::shutting();
         for rule in rules {
-            let by_rule = Asked::by(rule);
-            asked.push(by_rule)?;
-            kinds.add_asked(by_rule.root);
+            asked.push(Asked::by(rule))?;
         }
-        Ok(Rules {
-            rules,
-            asked,
-            kinds,
-        })
+        Ok(Rules { rules, asked })
     }
 
-    /// Whether one of them may match a node of a kind, or such a node may shut in what is below it.
-    pub(crate) fn concern(&self, kind: SyntaxKind) -> bool
-        ensures { result ≡ has_kind self.now.kinds kind }
+    /// The kinds of a tree's nodes that one of them may match, and of those that may shut in what is below them. A rule that
+    /// asks for a token of a kind that the tree doesn't have matches none.
+    pub(crate) fn kinds_in(&self, tree: &Tree) -> KindSet
+        requires { AreRules self.now }
+        ensures { AreKindsIn self.now tree.now result }
     {
-        self.kinds.has(kind)
+        let tokens = KindSet::of_tokens(tree);
+        let mut kinds = KindSet::shutting();
+        for asked in &self.asked {
+            kinds.add_asked_in(&tokens, asked.root);
+        }
+        kinds
     }
 }

@@ -287,11 +287,12 @@ impl<'a> Ground<'a> {
         ensures found { IfOk result (λ _. AreFoundBefore self.now.workspace.now (S.meanings semantics.now) self.now.context.now rules.now.rules.now (self.now.number + 1) 0 0 found.new.items) }
     {
         let count = self.tree.node_count();
+        let kinds = rules.kinds_in(self.tree);
         // The first number behind all nodes so far that shut in what is below them: a node before it is shut in.
         let mut past = if self.shut { count } else { 0 };
         for number in 0..count {
             let node = NodeNo(number);
-            if !rules.concern(self.tree.kind(node)) {
+            if !kinds.has(self.tree.kind(node)) {
                 continue;
             }
             self.add_at(alloc, semantics, rules, node, number < past, found)?;

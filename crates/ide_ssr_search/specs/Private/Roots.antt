@@ -6,8 +6,8 @@ use Rattle.ssr_syntax_kinds.specs.contracts.kinds.SyntaxKind.{the_type}
 use Rattle.ssr_syntax_kinds.specs.declared.kinds.SyntaxKind.{SyntaxKind}
 use Rattle.ssr_syntax_kinds.specs.declared.kinds.SyntaxKind.TheVariants as k
 use Rattle.ssr_syntax_kinds.specs.Kinds.{same_kind, is_trivia}
-use Rattle.ssr_syntax_tree.specs.Syntax.{tokens_of}
-use Rattle.ssr_syntax_tree.specs.Places.{Node, Part, token_part, node_part, parts_of, root_of}
+use Rattle.ssr_syntax_tree.specs.Syntax.{Syntax, tokens_of}
+use Rattle.ssr_syntax_tree.specs.Places.{Node, Part, token_part, node_part, parts_of, node_of, token_of, root_of, HasNode, HasToken}
 use Rattle.ssr_base.specs.Meanings.{Meanings}
 use Rattle.ide_ssr_resolving.specs.Resolved.{ResolvedKind}
 use Rattle.ide_ssr_found.specs.declared.bindings.Binding.{Binding}
@@ -31,11 +31,9 @@ first_counted [] = None
 first_counted (token_part t token ∷ rest) = if counts token.kind then Some token.kind else first_counted rest
 first_counted (node_part node ∷ rest) = first_counted rest
 
--- whether one has this kind
-abbrev pub has_token_of : SyntaxKind → List Part → Bool
-has_token_of kind [] = false
-has_token_of kind (token_part t token ∷ rest) = same_kind token.kind kind || has_token_of kind rest
-has_token_of kind (node_part node ∷ rest) = has_token_of kind rest
+-- whether that kind is this one
+abbrev pub counts_first : SyntaxKind → List Part → Bool
+counts_first kind parts = option_map_or (λ own. same_kind own kind) (first_counted parts) false
 
 -- ** What is asked.
 
@@ -48,7 +46,13 @@ pairs_otherwise kind = same_kind kind k.TOKEN_TREE || same_kind kind k.RECORD_EX
 abbrev pub has_asked : Root → Node → Bool
 has_asked roots.Placeholder c = true
 has_asked (roots.Call kind) c = same_kind c.kind kind || same_kind c.kind k.METHOD_CALL_EXPR
-has_asked (roots.Node kind token) c = same_kind c.kind kind && option_map_or (λ token. has_token_of token (parts_of c)) token true
+has_asked (roots.Node kind token) c = same_kind c.kind kind && option_map_or (λ token. counts_first token (parts_of c)) token true
+
+-- the kind of the token that a root asks for
+abbrev pub token_asked : Root → Option SyntaxKind
+token_asked roots.Placeholder = None
+token_asked (roots.Call kind) = None
+token_asked (roots.Node kind token) = token
 
 -- each node of a tree that matches the rule's pattern has it, whatever names mean
 abbrev pub IsRootOf : ResolvedKind → Root → Type 0
@@ -65,11 +69,18 @@ pub record IsAskedBy (rule : ResolvedKind) (asked : Asked) : Type 0 where
 abbrev pub has_kind : KindSet → SyntaxKind → Bool
 has_kind kinds kind = kinds.every || slice_index_or kinds.listed (tag_of the_type kind) false
 
+-- all tokens of a tree have kinds of the set
+abbrev pub AreTokenKinds : Syntax → KindSet → Type 0
+AreTokenKinds tree kinds = (t : ℕ) → HasToken tree t → has_kind kinds (token_of tree t).kind ≡ true
+
 -- what is known of the rules of a search
 pub record AreRules (rules : Rules) : Type 0 where
   pub counted : length rules.asked.items ≡ length rules.rules.now
   pub each : (n : ℕ) (rule : ResolvedKind) (asked : Asked) → slice_get rules.rules.now n ≡ Some rule → slice_get rules.asked.items n ≡ Some asked → IsAskedBy rule asked
-  pub kinds : (n : ℕ) (rule : ResolvedKind) → slice_get rules.rules.now n ≡ Some rule → (m : Meanings) (tree : ℕ) (c : Node)
-      (bindings : List Binding) → Matches m tree rule (root_of rule.pattern) c bindings → has_kind rules.kinds c.kind ≡ true
-  pub uses : has_kind rules.kinds k.USE ≡ true
-  pub calls : has_kind rules.kinds k.MACRO_CALL ≡ true
+
+-- the set has the kinds of all nodes of a tree that one of the rules matches, and of those that may shut in what is below them
+pub record AreKindsIn (rules : Rules) (tree : Syntax) (kinds : KindSet) : Type 0 where
+  pub matched : (place : ℕ) (rule : ResolvedKind) → slice_get rules.rules.now place ≡ Some rule → (m : Meanings) (t n : ℕ) (bindings : List Binding)
+      → HasNode tree n → Matches m t rule (root_of rule.pattern) (node_of tree n) bindings → has_kind kinds (node_of tree n).kind ≡ true
+  pub uses : has_kind kinds k.USE ≡ true
+  pub calls : has_kind kinds k.MACRO_CALL ≡ true

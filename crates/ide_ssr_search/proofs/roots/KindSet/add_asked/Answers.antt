@@ -1,5 +1,4 @@
 use Rattle.std.proofs.Common.{◌≡◌, true, inl, inr, sym, subst}
-use Rattle.ssr_syntax_kinds.specs.declared.kinds.SyntaxKind.TheVariants as k
 use Rattle.ide_ssr_search.specs.Private.Roots.{has_kind}
 use Rattle.ide_ssr_search.proofs.Asked.{asked_call, asked_kind}
 use Rattle.ide_ssr_search.proofs.roots.KindSet.add_asked.Goals as goal

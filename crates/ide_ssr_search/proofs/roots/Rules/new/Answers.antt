@@ -1,8 +1,6 @@
 use Rattle.std.proofs.Common.{◌≡◌, ◌+◌, ◌∷◌, [], length, Some, ap, ◌∙◌, subst, inl, inr, arith, length-append}
 use Rattle.std.specs.Prelude.{slice_get}
-use Rattle.std.proofs.lemmas.Bool.{cases_lt}
-use Rattle.std.proofs.lemmas.Option.{slice_get_within, get_or_from_slice_get}
-use Rattle.ssr_syntax_kinds.specs.declared.kinds.SyntaxKind.TheVariants as k
+use Rattle.std.proofs.lemmas.Option.{get_or_from_slice_get}
 use Rattle.ssr_syntax_tree.proofs.Lists.{pushed_at}
 use Rattle.ide_ssr_resolving.specs.Resolved.{ResolvedKind}
 use Rattle.ide_ssr_search.specs.Private.Roots.{IsAskedBy}
@@ -14,10 +12,10 @@ loop-rule-preserved c =
     let i = c.loop-rule.rule-index in
     let known = c.loop-rule.invariant in
     let old = c.loop-rule.asked.items in
-    let asked = c.by-by_rule.result in
+    let asked = c.by.result in
     let pushed = c.in_ok-push.ensures.items in
     let here : (rule : ResolvedKind) → slice_get rules i ≡ Some rule → IsAskedBy rule asked =
-    λ rule is. subst (λ r. IsAskedBy r asked) (c.rule-item.is ∙ get_or_from_slice_get rules i rule c.rule-item.result is) c.by-by_rule.ensures in
+    λ rule is. subst (λ r. IsAskedBy r asked) (c.rule-item.is ∙ get_or_from_slice_get rules i rule c.rule-item.result is) c.by.ensures in
     record {
       counted = ap length pushed ∙ length-append old (asked ∷ []) ∙ ap (λ n. n + 1) known.counted;
       each = λ n rule other rule_is asked_is.
@@ -25,15 +23,6 @@ loop-rule-preserved c =
             | inl there ↦ known.each n rule other rule_is there
             | inr last ↦ subst (IsAskedBy rule) last.1 (here rule (subst (λ n. slice_get rules n ≡ Some rule) (last.0 ∙ known.counted) rule_is))
           ];
-      kinds = λ n rule less rule_is m tree node bindings matches.
-          elim (cases_lt n i) [
-            | inl early ↦ c.add_asked.ensures.kept node.kind (known.kinds n rule early rule_is m tree node bindings matches)
-            | inr late ↦
-                let same : n ≡ i = omega arith in
-                c.add_asked.ensures.added node ((here rule (subst (λ n. slice_get rules n ≡ Some rule) same rule_is)).root m tree node bindings matches)
-          ];
-      uses = c.add_asked.ensures.kept k.USE known.uses;
-      calls = c.add_asked.ensures.kept k.MACRO_CALL known.calls;
     }
 
 pub returns-clause-are : goal.returns-clause-are
@@ -42,7 +31,4 @@ returns-clause-are c =
     record {
       counted = let e = known.counted in omega arith;
       each = known.each;
-      kinds = λ n rule is. known.kinds n rule (let within = slice_get_within c.args.rules.now n rule is in omega arith) is;
-      uses = known.uses;
-      calls = known.calls;
     }

@@ -43,8 +43,8 @@ loop-number-preserved g c =
           c.loop-number.invariant.past c.past.ensures c.max-past.ensures;
     }
 
-pub loop-number-preserved-then-not-concern : goal.loop-number-preserved-then-not-concern
-loop-number-preserved-then-not-concern g c =
+pub loop-number-preserved-then-not-has : goal.loop-number-preserved-then-not-has
+loop-number-preserved-then-not-has g c =
     let ground = c.args.self.now in
     let w = ground.workspace.now in
     let n = c.loop-number.number in
@@ -52,17 +52,19 @@ loop-number-preserved-then-not-concern g c =
     let at = is_tree w ground.number ground.tree.now c.requires.ground.tree in
     let rules = c.args.rules.now in
     let same : c.loop-number.past ≡ max 0 c.loop-number.past = omega arith in
-    let lacks = ap (has_kind rules.kinds) (sym c.kind.ensures) ∙ sym c.concern.ensures ∙ c.if-not-concern.true in
+    let kinds = c.kinds_in-kinds.result in
+    let are = c.kinds_in-kinds.ensures in
+    let lacks = ap (has_kind kinds) (sym c.kind.ensures) ∙ sym c.has.ensures ∙ c.if-not-has.true in
     record {
       found =
           found_unmatched w (g.S.Semantics.meanings c.args.semantics.now) ground.context.now rules.rules.now ground.number n c.loop-number.found.items
-          (unmatched_kind w (g.S.Semantics.meanings c.args.semantics.now) ground.number n ground.tree.now at rules c.requires.rules lacks) c.loop-number.invariant.found;
+          (unmatched_kind w (g.S.Semantics.meanings c.args.semantics.now) ground.number n ground.tree.now at rules kinds are has lacks) c.loop-number.invariant.found;
       shut =
-          shut_kept w ground.number n c.loop-number.shut (λ call _. no_call_of_kind w ground.number n ground.tree.now at rules c.requires.rules lacks call)
+          shut_kept w ground.number n c.loop-number.shut (λ call _. no_call_of_kind w ground.number n ground.tree.now at rules kinds are lacks call)
           c.loop-number.invariant.shut;
       past =
           past_turn (trees w) ground.number ground.tree.now at n 0 c.loop-number.past c.loop-number.past has c.loop-number.invariant.past
-          (inl (refl, unshutting_kind w ground.number n ground.tree.now at rules c.requires.rules lacks)) same;
+          (inl (refl, unshutting_kind w ground.number n ground.tree.now at rules kinds are lacks)) same;
     }
 
 pub returns-clause-found : goal.returns-clause-found
