@@ -1,5 +1,6 @@
 -- Laws of what a template gives.
-use Rattle.std.proofs.Common.{◌≡◌, ℕ, ◌+◌, ◌<◌, ◌≤◌, ◌==◌, ◌&&◌, inl, inr, nat_le, if◌then◌else◌, Bool, true, false, List, ◌++◌, length, drop, get_or, is_some, refl, sym, ◌∙◌, ap, subst, arith, append_assoc}
+use Rattle.std.proofs.Common.{◌≡◌, ℕ, ◌+◌, ◌^◌, ◌<◌, ◌≤◌, ◌==◌, ◌&&◌, not, inl, inr, nat_le, if◌then◌else◌, Bool, true, false, List, ◌++◌, length, drop, get_or, is_some, refl, sym, ◌∙◌, ap, subst, arith, append_assoc, length-append}
+use Rattle.std.specs.Prelude.{codes}
 use Rattle.std.proofs.lemmas.List.{get_or_default}
 use Rattle.std.proofs.lemmas.List.Folds.{list_any_at, list_any_none}
 use Rattle.std.proofs.lemmas.Option.{unwrap_or-slice_get}
@@ -25,6 +26,23 @@ pub wrapped_from : (read : Syntax) (front : ℕ) (names : List (List ℕ)) (piec
     ≡ wrapped_text read front (is_some (name_at names (token_of tree t))) at (text_for names piece (token_of tree t))
     ++ wrapped read front names piece (at + length (text_for names piece (token_of tree t))) (drop (t + 1) (tokens_of tree))
 wrapped_from read front names piece at tree t h = ap (wrapped read front names piece at) (tokens_from tree t h)
+
+-- what is left of the template without the token is as much shorter
+pub still_within : (at n : ℕ) (left text rest : List ℕ) → at + length left ≡ n → left ≡ text ++ rest → (at + length text) + length rest ≡ n
+still_within at n left text rest h e = omega (arith, ap length e, length-append text rest)
+
+pub bounded : (at n : ℕ) (left text rest other : List ℕ) → at + length left ≡ n → left ≡ text ++ rest → n < 2 ^ 64 → other ≡ text → at + length other < 2 ^ 64
+bounded at n left text rest other h e b same = omega (arith, ap length e, length-append text rest, ap length same)
+
+-- a text that is no piece, or a node, stands as it is
+pub unwrapped : (read : Syntax) (front at : ℕ) (is_piece : Bool) (text : List ℕ) → (is_piece && not (is_node read front at (at + length text))) ≡ false
+    → wrapped_text read front is_piece at text ≡ text
+unwrapped read front at is_piece text is = ap (λ (b : Bool). if b then codes "(" ++ (text ++ codes ")") else text) is
+
+-- if what stands behind it does so too, all does
+pub stays : (left shown text behind plain_left plain_behind : List ℕ) → left ≡ shown ++ behind → shown ≡ text → plain_left ≡ text ++ plain_behind → behind ≡ plain_behind
+    → left ≡ plain_left
+stays left shown text behind plain_left plain_behind is same plain_is so = is ∙ (ap (λ (t : List ℕ). t ++ behind) same ∙ (ap (λ (t : List ℕ). text ++ t) so ∙ sym plain_is))
 
 -- the node of a number, in the list of nodes
 pub node_at : (tree : Syntax) (n : ℕ) (d : Node) → HasNode tree n → get_or (nodes_of tree) n d ≡ node_of tree n

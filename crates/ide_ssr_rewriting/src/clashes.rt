@@ -135,7 +135,7 @@ pub(crate) fn changes_made(
 ) -> Result<Vec<(TextRange, String)>, AllocError>
     ensures { IfOk result (λ v. changes_of v.items ≡ changes_made list.items) }
 {
-    let mut changes = Vec::new(alloc);
+    let mut changes = Vec::with_capacity(alloc, list.len())?;
     let mut last = None;
     for rewrite in list {
         let Rewrite { range, text } = rewrite;

@@ -1,6 +1,7 @@
 //! The texts of the kept matches, the first clash of all their lists, and the edits of the files.
 
-ghost use Rattle.std.specs.Prelude.{◌≡◌, ◌≢◌, ◌+◌, ◌-◌, ◌<◌, [], ℕ, All, AllPairs, IfNone, IfOk, IfSome, OnOk, Contains, List, None, Some, ◌++◌, is_some, length, map, option_map, option_to_list, slice_get, slice_index_or, string_bytes, if◌then◌else◌};
+ghost use Rattle.std.specs.Prelude.{◌≡◌, ◌≢◌, ◌+◌, ◌-◌, ◌<◌, ◌↔◌, [], ℕ, All, AllPairs, IfNone, IfOk, IfSome, IsTrue, OnOk, Contains, List, None, Some, ◌++◌, is_some, length, map, option_map, option_to_list, slice_get, slice_index_or, string_bytes, if◌then◌else◌};
+ghost use Rattle.std.specs.Cow.{cow_str_bytes};
 ghost use Rattle.std.specs.List.{list_all};
 ghost use Rattle.std.specs.Ordering.{nat_cmp, ordering_then};
 ghost use Rattle.std.specs.BTreeMap.{get};
@@ -26,8 +27,10 @@ use ide_ssr_resolving::ResolvedRule;
 use ssr_base::{FileId, FileRange, TextEdit, Workspace};
 use ssr_syntax_kinds::TextRange;
 use std::alloc::{AllocError, Global};
+use std::borrow::CowStr;
 use std::cmp::Ordering;
 use std::collections::BTreeMap;
+use std::mem;
 use thiserror::Error;
 
 /// Why there are no edits.
@@ -98,7 +101,7 @@ struct Pending {
 fn none_known(alloc: Global, count: usize) -> Result<Vec<Option<String>>, AllocError>
     ensures { IfOk result (λ texts. length texts.items ≡ count) }
 {
-    let mut texts = Vec::new(alloc);
+    let mut texts = Vec::with_capacity(alloc, count)?;
     for _ in 0..count {
         texts.push(None)?;
     }
@@ -133,7 +136,7 @@ fn take_list(
     ensures others { OnOk result ((n : ℕ) → (Contains places.now n → ⊥) → text_in texts.new.items n ≡ text_in texts.old.items n) }
     ensures counted { OnOk result (length texts.new.items ≡ length texts.old.items) }
 {
-    let mut list = Vec::new(alloc);
+    let mut list = Vec::with_capacity(alloc, places.len())?;
     for place in places {
         let text = texts[*place].take();
         list.push(Rewrite::new(range_at(kept, *place), text))?;
@@ -155,16 +158,16 @@ fn all_known(list: &[Rewrite]) -> bool
 
 /// What a placeholder holds, which comes from this range, with the changes of a list made, if it can be made: there is no
 /// clash in it, and all texts are known.
-fn piece_if_clean(
+fn piece_if_clean<'a>(
     alloc: Global,
-    workspace: &Workspace,
+    workspace: &'a Workspace,
     range: Option<FileRange>,
     list: Vec<Rewrite>,
     clash: Option<(FileRange, FileRange)>,
-) -> Result<Option<String>, AllocError>
+) -> Result<Option<CowStr<'a>>, AllocError>
     requires clash { IsFirst (clashes list.items) (option_map clash_of clash) }
     requires list { IfSome (option_map file_span_of range) (λ range. IsOf workspace.now range list.items) }
-    ensures { IfOk result (λ text. option_map string_bytes text ≡ (if is_clean list.items then Some (piece workspace.now (option_map file_span_of range) list.items) else None)) }
+    ensures { IfOk result (λ text. option_map cow_str_bytes text ≡ (if is_clean list.items then Some (piece workspace.now (option_map file_span_of range) list.items) else None)) }
 {
     if clash.is_some() || !all_known(&list) {
         return Ok(None);
@@ -173,9 +176,12 @@ fn piece_if_clean(
 }
 
 /// Pushes a piece, if there is one; answers whether there was.
-fn push_piece(pieces: &mut Vec<String>, piece: Option<String>) -> Result<bool, AllocError>
-    ensures there { IfOk result (λ there. there ≡ is_some (option_map string_bytes piece)) }
-    ensures pieces { OnOk result (map string_bytes pieces.new.items ≡ map string_bytes pieces.old.items ++ option_to_list (option_map string_bytes piece)) }
+fn push_piece<'a>(
+    pieces: &mut Vec<CowStr<'a>>,
+    piece: Option<CowStr<'a>>,
+) -> Result<bool, AllocError>
+    ensures there { IfOk result (λ there. there ≡ is_some (option_map cow_str_bytes piece.entry)) }
+    ensures pieces { OnOk result (map cow_str_bytes pieces.new.items ≡ map cow_str_bytes pieces.old.items ++ option_to_list (option_map cow_str_bytes piece.entry)) }
 {
     match piece {
         Some(piece) => {
@@ -186,21 +192,22 @@ fn push_piece(pieces: &mut Vec<String>, piece: Option<String>) -> Result<bool, A
     }
 }
 
-/// What stands for a match with these pieces, if there are some.
+/// What stands for a match with these pieces, if they are all.
 fn text_of_pieces(
     alloc: Global,
     workspace: &Workspace,
     rules: &[ResolvedRule],
     m: &Found,
-    pieces: Option<Vec<String>>,
+    pieces: &[CowStr<'_>],
+    are_all: bool,
 ) -> Result<Option<String>, AllocError>
     requires { IsMatch (trees workspace.now) m.now }
-    ensures { IfOk result (λ text. option_map string_bytes text ≡ option_map (text_of_match workspace.now rules.now m.now) (option_map (λ v. map string_bytes v.items) pieces)) }
+    ensures { IfOk result (λ text. option_map string_bytes text ≡ option_map (text_of_match workspace.now rules.now m.now) (if are_all then Some (map cow_str_bytes pieces.now) else None)) }
 {
-    match pieces {
-        Some(pieces) => Ok(Some(text_of_match(alloc, workspace, rules, m, &pieces)?)),
-        None => Ok(None),
+    if !are_all {
+        return Ok(None);
     }
+    Ok(Some(text_of_match(alloc, workspace, rules, m, pieces)?))
 }
 
 impl Pending {
@@ -227,43 +234,45 @@ impl Pending {
         Ok((list, first))
     }
 
-    /// The pieces of the placeholders of the match of a place, if all lists under them can be made; these are taken, and
-    /// their first clash is noted.
-    fn take_pieces(
+    /// Takes the lists under the placeholders of the match of a place, and notes their first clash. The pieces become those
+    /// of these placeholders, in the place of another match's; answers whether they are all: all lists can be made.
+    fn take_pieces<'a>(
         &mut self,
         alloc: Global,
-        kept: &KeptMatches<'_>,
+        kept: &KeptMatches<'a>,
         lists: &Lists,
         m: &Found,
         place: usize,
-    ) -> Result<Option<Vec<String>>, AllocError>
+        pieces: &mut Vec<CowStr<'a>>,
+    ) -> Result<bool, AllocError>
         requires nest { IsNest kept.now lists.now }
         requires m { slice_get kept.now.matches place ≡ Some m.now }
         requires counted { length self.old.texts.items ≡ length kept.now.matches }
-        ensures pieces { IfOk result (λ pieces. option_map (λ v. map string_bytes v.items) pieces ≡ pieces_by kept.now.workspace m.now (list_under kept.now lists.now (text_in self.old.texts.items) place)) }
+        ensures pieces { IfOk result (λ are_all. (if are_all then Some (map cow_str_bytes pieces.new.items) else None) ≡ pieces_by kept.now.workspace m.now (list_under kept.now lists.now (text_in self.old.texts.items) place)) }
         ensures clash { OnOk result ((others : List Clash) → IsFirst others (option_map clash_of self.old.clash) → IsFirst (clashes_under m.now (list_under kept.now lists.now (text_in self.old.texts.items) place) ++ others) (option_map clash_of self.new.clash)) }
         ensures left { OnOk result ((j : ℕ) → ((i : ℕ) → Contains (under lists.now place i) j → ⊥) → text_in self.new.texts.items j ≡ text_in self.old.texts.items j) }
         ensures counted { OnOk result (length self.new.texts.items ≡ length self.old.texts.items) }
     {
-        let mut pieces = Vec::new(alloc);
-        let mut is_clean = true;
+        pieces.clear();
+        let mut are_all = true;
         for (index, binding) in m.bindings().iter().enumerate() {
             let range = binding.original_range(kept.workspace(), m.node().tree);
             let (list, first) = self.take_list(alloc, kept, lists.under(place, index))?;
             let piece = piece_if_clean(alloc, kept.workspace(), range, list, first)?;
-            is_clean = push_piece(&mut pieces, piece)? && is_clean;
+            are_all = push_piece(pieces, piece)? && are_all;
         }
-        if is_clean { Ok(Some(pieces)) } else { Ok(None) }
+        Ok(are_all)
     }
 
-    /// Rewrites the match of a place, where those behind it are gone through.
-    fn rewrite_at(
+    /// Rewrites the match of a place, where those behind it are gone through; the pieces become its own.
+    fn rewrite_at<'a>(
         &mut self,
         alloc: Global,
-        kept: &KeptMatches<'_>,
+        kept: &KeptMatches<'a>,
         lists: &Lists,
         rules: &[ResolvedRule],
         place: usize,
+        pieces: &mut Vec<CowStr<'a>>,
     ) -> Result<(), AllocError>
         requires nest { IsNest kept.now lists.now }
         requires place { place < length kept.now.matches }
@@ -271,8 +280,15 @@ impl Pending {
         ensures { OnOk result (IsRun kept.now lists.now rules.now place self.new.texts.items (option_map clash_of self.new.clash)) }
     {
         let m = kept.get(place);
-        let pieces = self.take_pieces(alloc, kept, lists, m, place)?;
-        let text = text_of_pieces(alloc, kept.workspace(), rules, m, pieces)?;
+        let are_all = self.take_pieces(alloc, kept, lists, m, place, pieces)?;
+        let text = text_of_pieces(
+            alloc,
+            kept.workspace(),
+            rules,
+            m,
+            pieces.as_slice(),
+            are_all,
+        )?;
         self.texts[place] = text;
         Ok(())
     }
@@ -292,8 +308,10 @@ fn run(
     let count = kept.len();
     let texts = none_known(alloc, count)?;
     let mut pending = Pending { texts, clash: None };
+    // One list serves all matches, one after another.
+    let mut pieces = Vec::new(alloc);
     for place in (0..count).rev() {
-        pending.rewrite_at(alloc, kept, lists, rules, place)?;
+        pending.rewrite_at(alloc, kept, lists, rules, place, &mut pieces)?;
     }
     Ok(pending)
 }
@@ -320,6 +338,14 @@ fn pop_of_file(list: &mut Vec<Rewrite>, file: FileId) -> Option<Rewrite>
     list.pop()
 }
 
+/// Whether all of a list lie in the file.
+fn lie_in(list: &[Rewrite], file: FileId) -> bool
+    ensures { IsTrue result ↔ All (λ r. r.range.file ≡ file.0) list.now }
+{
+    list.iter()
+        .all(|rewrite| rewrite.range().file_id.0 == file.0)
+}
+
 /// Takes those off the end of a list that lie in the file.
 fn take_group(
     alloc: Global,
@@ -328,6 +354,9 @@ fn take_group(
 ) -> Result<Vec<Rewrite>, AllocError>
     ensures { IfOk result (λ group. IsGroup file.0 list.old.items list.new.items group.items) }
 {
+    if lie_in(list, file) {
+        return Ok(mem::replace(list, Vec::new(alloc)));
+    }
     let mut group = Vec::new(alloc);
     while let Some(rewrite) = pop_of_file(list, file) {
         group.push(rewrite)?;

@@ -1,6 +1,7 @@
 //! The text that a template gives for a match.
 
-ghost use Rattle.std.specs.Prelude.{◌≡◌, ◌+◌, ◌++◌, ◌^◌, ◌<◌, ◌≤◌, ◌==◌, ◌&&◌, ℕ, if◌then◌else◌, nat_le, IfOk, Some, length, map, string_bytes};
+ghost use Rattle.std.specs.Prelude.{◌≡◌, ◌+◌, ◌++◌, ◌^◌, ◌<◌, ◌≤◌, ◌==◌, ◌&&◌, ℕ, if◌then◌else◌, nat_le, not, IfOk, IsTrue, Some, length, map, string_bytes};
+ghost use Rattle.std.specs.Cow.{cow_str_bytes};
 ghost use Rattle.std.specs.List.{position_or_len};
 ghost use Rattle.ssr_syntax_tree.specs.Syntax.{node_count, tokens_of};
 ghost use Rattle.ssr_syntax_tree.specs.Places.{HasNode, HasToken, node_of, token_of};
@@ -13,6 +14,7 @@ use ssr_syntax::{Fragment, SyntaxError, fragment};
 use ssr_syntax_kinds::TextRange;
 use ssr_syntax_tree::{NodeNo, TokenNo, Tree};
 use std::alloc::{AllocError, Global};
+use std::borrow::CowStr;
 
 /// The text that the rule's template gives for a match with these bindings, each of which has its piece.
 pub fn rendered(
@@ -23,6 +25,22 @@ pub fn rendered(
 ) -> Result<String, AllocError>
     ensures { IfOk result (λ text. string_bytes text ≡ rendered rule.now (piece_of bindings.now (map string_bytes pieces.now))) }
 {
+    let mut lent = Vec::with_capacity(alloc, pieces.len())?;
+    for piece in pieces {
+        lent.push(CowStr::Borrowed(piece.as_str()))?;
+    }
+    rendered_with(alloc, rule, bindings, &lent)
+}
+
+/// The same with pieces that may be parts of a file's text.
+pub(crate) fn rendered_with(
+    alloc: Global,
+    rule: &ResolvedRule,
+    bindings: &[Binding],
+    pieces: &[CowStr<'_>],
+) -> Result<String, AllocError>
+    ensures { IfOk result (λ text. string_bytes text ≡ rendered rule.now (piece_of bindings.now (map cow_str_bytes pieces.now))) }
+{
     let Some(template) = rule.template() else {
         return Ok(String::new(alloc));
     };
@@ -31,7 +49,12 @@ pub fn rendered(
         return Ok(plain);
     }
     match fragment(alloc, rule.category(), plain.as_str()) {
-        Ok((tree, front)) => wrapped(alloc, rule, template, bindings, pieces, &tree, front),
+        Ok((tree, front)) => {
+            if are_nodes(rule, template, bindings, pieces, &tree, front) {
+                return Ok(plain);
+            }
+            wrapped(alloc, rule, template, bindings, pieces, &tree, front)
+        }
         Err(SyntaxError::Memory) => Err(AllocError),
         Err(_) => Ok(plain),
     }
@@ -57,8 +80,8 @@ fn place_of_binding(bindings: &[Binding], placeholder: u32) -> usize
 }
 
 /// The piece of the placeholder whose name has this place.
-fn piece<'a>(bindings: &[Binding], pieces: &'a [String], placeholder: u32) -> &'a str
-    ensures { result.now ≡ piece_of bindings.now (map string_bytes pieces.now) placeholder }
+fn piece<'a>(bindings: &[Binding], pieces: &'a [CowStr<'_>], placeholder: u32) -> &'a str
+    ensures { result.now ≡ piece_of bindings.now (map cow_str_bytes pieces.now) placeholder }
 {
     match pieces.get(place_of_binding(bindings, placeholder)) {
         Some(piece) => piece.as_str(),
@@ -80,12 +103,12 @@ fn text_for<'a>(
     rule: &ResolvedRule,
     template: &'a Tree,
     bindings: &[Binding],
-    pieces: &'a [String],
+    pieces: &'a [CowStr<'_>],
     token: TokenNo,
 ) -> &'a str
     requires template { rule.now.template ≡ Some template.now }
     requires has { HasToken template.now token.0 }
-    ensures { result.now ≡ text_for rule.now.names (piece_of bindings.now (map string_bytes pieces.now)) (token_of template.now token.0) }
+    ensures { result.now ≡ text_for rule.now.names (piece_of bindings.now (map cow_str_bytes pieces.now)) (token_of template.now token.0) }
 {
     match placeholder(rule, template, token) {
         Some(place) => piece(bindings, pieces, place),
@@ -99,16 +122,42 @@ fn plain(
     rule: &ResolvedRule,
     template: &Tree,
     bindings: &[Binding],
-    pieces: &[String],
+    pieces: &[CowStr<'_>],
 ) -> Result<String, AllocError>
     requires { rule.now.template ≡ Some template.now }
-    ensures { IfOk result (λ text. string_bytes text ≡ plain rule.now.names (piece_of bindings.now (map string_bytes pieces.now)) (tokens_of template.now)) }
+    ensures { IfOk result (λ text. string_bytes text ≡ plain rule.now.names (piece_of bindings.now (map cow_str_bytes pieces.now)) (tokens_of template.now)) }
 {
     let mut text = String::with_capacity(alloc, template.source().len())?;
     for token in 0..template.token_count() {
-        text.push_str(text_for(rule, template, bindings, pieces, TokenNo(token)))?;
+        text.push_str(text_for(rule, template, bindings, &*pieces, TokenNo(token)))?;
     }
     Ok(text)
+}
+
+/// Whether no piece stands in parentheses: each is a node of the tree that was read of the template with its pieces,
+/// without the first `front` bytes.
+fn are_nodes(
+    rule: &ResolvedRule,
+    template: &Tree,
+    bindings: &[Binding],
+    pieces: &[CowStr<'_>],
+    tree: &Tree,
+    front: u32,
+) -> bool
+    requires template { rule.now.template ≡ Some template.now }
+    requires length { length (plain rule.now.names (piece_of bindings.now (map cow_str_bytes pieces.now)) (tokens_of template.now)) < 2 ^ 64 }
+    ensures { IsTrue result → wrapped tree.now front rule.now.names (piece_of bindings.now (map cow_str_bytes pieces.now)) 0 (tokens_of template.now) ≡ plain rule.now.names (piece_of bindings.now (map cow_str_bytes pieces.now)) (tokens_of template.now) }
+{
+    let mut at = 0;
+    for token in 0..template.token_count() {
+        let text = text_for(rule, template, bindings, &*pieces, TokenNo(token));
+        let is_piece = placeholder(rule, template, TokenNo(token)).is_some();
+        if is_wrapped(tree, front, is_piece, at, text) {
+            return false;
+        }
+        at += text.len();
+    }
+    true
 }
 
 /// The template with its pieces, of which `tree` was read without the first `front` bytes: a piece that is no
@@ -118,18 +167,18 @@ fn wrapped(
     rule: &ResolvedRule,
     template: &Tree,
     bindings: &[Binding],
-    pieces: &[String],
+    pieces: &[CowStr<'_>],
     tree: &Tree,
     front: u32,
 ) -> Result<String, AllocError>
     requires template { rule.now.template ≡ Some template.now }
-    requires length { length (plain rule.now.names (piece_of bindings.now (map string_bytes pieces.now)) (tokens_of template.now)) < 2 ^ 64 }
-    ensures { IfOk result (λ text. string_bytes text ≡ wrapped tree.now front rule.now.names (piece_of bindings.now (map string_bytes pieces.now)) 0 (tokens_of template.now)) }
+    requires length { length (plain rule.now.names (piece_of bindings.now (map cow_str_bytes pieces.now)) (tokens_of template.now)) < 2 ^ 64 }
+    ensures { IfOk result (λ text. string_bytes text ≡ wrapped tree.now front rule.now.names (piece_of bindings.now (map cow_str_bytes pieces.now)) 0 (tokens_of template.now)) }
 {
     let mut wrapped = String::with_capacity(alloc, template.source().len())?;
     let mut at = 0;
     for token in 0..template.token_count() {
-        let text = text_for(rule, template, bindings, pieces, TokenNo(token));
+        let text = text_for(rule, template, bindings, &*pieces, TokenNo(token));
         let is_piece = placeholder(rule, template, TokenNo(token)).is_some();
         push_wrapped(&mut wrapped, tree, front, is_piece, at, text)?;
         at += text.len();
@@ -137,8 +186,15 @@ fn wrapped(
     Ok(wrapped)
 }
 
-/// Pushes the text of a token at a place of the template with its pieces, in parentheses if it is a piece and
-/// no node.
+/// Whether the text of a token at a place of the template with its pieces stands in parentheses: it is a piece and no node.
+fn is_wrapped(tree: &Tree, front: u32, is_piece: bool, at: usize, text: &str) -> bool
+    requires { at + length text.now < 2 ^ 64 }
+    ensures { result ≡ (is_piece && not (is_node tree.now front at (at + length text.now))) }
+{
+    is_piece && !is_node(tree, front, at, at + text.len())
+}
+
+/// Pushes the text of a token at such a place.
 fn push_wrapped(
     out: &mut String,
     tree: &Tree,
@@ -150,7 +206,7 @@ fn push_wrapped(
     requires { at + length text.now < 2 ^ 64 }
     ensures { IfOk result (λ _. string_bytes out.new ≡ string_bytes out.old ++ wrapped_text tree.now front is_piece at text.now) }
 {
-    if is_piece && !is_node(tree, front, at, at + text.len()) {
+    if is_wrapped(tree, front, is_piece, at, text) {
         out.push_str("(")?;
         out.push_str(text)?;
         out.push_str(")")

@@ -1,6 +1,7 @@
 //! What is written for a match whose placeholders' lists can be made.
 
 ghost use Rattle.std.specs.Prelude.{◌≡◌, ◌++◌, All, IfOk, IfSome, OnOk, map, option_map, slice_range, string_bytes, true};
+ghost use Rattle.std.specs.Cow.{cow_str_bytes};
 ghost use Rattle.ssr_base.specs.Applied.{changes_of};
 ghost use Rattle.ssr_base.specs.Changes.{replaced};
 ghost use Rattle.ssr_base.specs.Texts.{is_boundary};
@@ -11,12 +12,13 @@ ghost use Rattle.ide_ssr_rewriting.specs.Private.Replacements.{FitsFile, IsOf};
 
 use crate::clashes::{Rewrite, changes_made};
 use crate::comments::{kept_comments, push_comments};
-use crate::rendering::rendered;
+use crate::rendering::rendered_with;
 use ide_ssr_found::Found;
 use ide_ssr_resolving::ResolvedRule;
 use ssr_base::{FileId, FileRange, Workspace};
 use ssr_syntax_kinds::TextRange;
 use std::alloc::{AllocError, Global};
+use std::borrow::CowStr;
 
 /// The bytes of a file from one place to another; none if these places are the other way round.
 fn between(workspace: &Workspace, file: FileId, from: u32, to: u32) -> &str
@@ -60,21 +62,27 @@ fn replaced(
     Ok(text)
 }
 
-/// What a placeholder holds, which comes from this range, with the changes of a list made.
-pub(crate) fn piece(
+/// What a placeholder holds, which comes from this range, with the changes of a list made. Without a list it is a part of its
+/// file's text.
+pub(crate) fn piece<'a>(
     alloc: Global,
-    workspace: &Workspace,
+    workspace: &'a Workspace,
     range: Option<FileRange>,
     list: Vec<Rewrite>,
-) -> Result<String, AllocError>
+) -> Result<CowStr<'a>, AllocError>
     requires { IfSome (option_map file_span_of range) (λ range. IsOf workspace.now range list.items) }
-    ensures { IfOk result (λ text. string_bytes text ≡ piece workspace.now (option_map file_span_of range) list.items) }
+    ensures { IfOk result (λ text. cow_str_bytes text ≡ piece workspace.now (option_map file_span_of range) list.items) }
 {
     let Some(range) = range else {
-        return Ok(String::new(alloc));
+        return Ok(CowStr::Borrowed(""));
     };
+    if list.is_empty() {
+        let text = between(workspace, range.file_id, range.range.start, range.range.end);
+        return Ok(CowStr::Borrowed(text));
+    }
     let changes = changes_made(alloc, list)?;
-    replaced(alloc, workspace, range, &changes)
+    let text = replaced(alloc, workspace, range, &changes)?;
+    Ok(CowStr::Owned(text))
 }
 
 /// What the template of the match's rule gives with these pieces.
@@ -82,12 +90,12 @@ fn template_text(
     alloc: Global,
     rules: &[ResolvedRule],
     m: &Found,
-    pieces: &[String],
+    pieces: &[CowStr<'_>],
 ) -> Result<String, AllocError>
-    ensures { IfOk result (λ text. string_bytes text ≡ template_text rules.now m.now (map string_bytes pieces.now)) }
+    ensures { IfOk result (λ text. string_bytes text ≡ template_text rules.now m.now (map cow_str_bytes pieces.now)) }
 {
     match rules.get(m.rule()) {
-        Some(rule) => rendered(alloc, rule, m.bindings(), pieces),
+        Some(rule) => rendered_with(alloc, rule, m.bindings(), pieces),
         None => Ok(String::new(alloc)),
     }
 }
@@ -116,10 +124,10 @@ pub(crate) fn text_of_match(
     workspace: &Workspace,
     rules: &[ResolvedRule],
     m: &Found,
-    pieces: &[String],
+    pieces: &[CowStr<'_>],
 ) -> Result<String, AllocError>
     requires { IsMatch (trees workspace.now) m.now }
-    ensures { IfOk result (λ text. string_bytes text ≡ text_of_match workspace.now rules.now m.now (map string_bytes pieces.now)) }
+    ensures { IfOk result (λ text. string_bytes text ≡ text_of_match workspace.now rules.now m.now (map cow_str_bytes pieces.now)) }
 {
     let mut text = template_text(alloc, rules, m, pieces)?;
     push_kept(alloc, workspace, m, &mut text)?;

@@ -7,7 +7,7 @@ use Rattle.ide_ssr_rewriting.proofs.ChangesMade.{goes_past, goes_on, ends, made_
 use Rattle.ide_ssr_rewriting.proofs.clashes.changes_made.Goals as goal
 
 pub loop-rewrite-init : goal.loop-rewrite-init
-loop-rewrite-init c = rw (c.new-changes.ensures.items, c.into_iter-rewrite-iterator.ensures.into_iter_gives.0) refl
+loop-rewrite-init c = rw (c.in_ok-changes.ensures.items, c.into_iter-rewrite-iterator.ensures.into_iter_gives.0) refl
 
 pub loop-rewrite-preserved-then-is_last : goal.loop-rewrite-preserved-then-is_last
 loop-rewrite-preserved-then-is_last c =

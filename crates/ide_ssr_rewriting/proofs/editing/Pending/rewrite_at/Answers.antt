@@ -1,4 +1,8 @@
-use Rattle.std.proofs.Common.{◌∙◌, ap, map, option_map, string_bytes}
+use Rattle.std.proofs.Common.{◌∙◌, ap, map, option_map}
+use Rattle.std.specs.Prelude.{None, Some, List, if◌then◌else◌}
+use Rattle.std.specs.Cow.{cow_str_bytes}
+use Rattle.std.specs.Global.{Global}
+use Rattle.std.specs.declared.borrow.CowStr.{CowStr}
 use Rattle.ssr_base.specs.Workspace.{Workspace}
 use Rattle.ide_ssr_rewriting.specs.Edits.{list_under}
 use Rattle.ide_ssr_rewriting.specs.Replacements.{text_of_match}
@@ -13,9 +17,10 @@ returns c =
     let rules = c.args.rules.now in
     let m = c.get-m.result.now in
     run-more kept c.args.lists.now rules c.requires.nest c.args.place m _ c.take_pieces.new.self.texts.items c.in_ok-text.text _ _
-    c.get-m.ensures c.requires.run c.in_ok-pieces.ensures.counted c.in_ok-pieces.ensures.left
+    c.get-m.ensures c.requires.run c.in_ok-are_all.ensures.counted c.in_ok-are_all.ensures.left
     (c.in_ok-text.ensures
-    ∙ (ap (λ (w : Workspace). option_map (text_of_match w rules m) (option_map (λ v. map string_bytes v.items) c.in_ok-pieces.pieces)) c.workspace.ensures
-    ∙ (ap (option_map (text_of_match kept.workspace rules m)) c.in_ok-pieces.ensures.pieces
-    ∙ text_of_pieces kept.workspace rules m (list_under kept c.args.lists.now (text_in c.args.self.now.texts.items) c.args.place))))
-    c.in_ok-pieces.ensures.clash
+    ∙ (ap (λ (w : Workspace). option_map (text_of_match w rules m) (if c.in_ok-are_all.are_all then Some (map cow_str_bytes c.as_slice.result.now) else None)) c.workspace.ensures
+    ∙ (ap (λ (pieces : List (CowStr Global)). option_map (text_of_match kept.workspace rules m) (if c.in_ok-are_all.are_all then Some (map cow_str_bytes pieces) else None)) c.as_slice.ensures.value
+    ∙ (ap (option_map (text_of_match kept.workspace rules m)) c.in_ok-are_all.ensures.pieces
+    ∙ text_of_pieces kept.workspace rules m (list_under kept c.args.lists.now (text_in c.args.self.now.texts.items) c.args.place)))))
+    c.in_ok-are_all.ensures.clash

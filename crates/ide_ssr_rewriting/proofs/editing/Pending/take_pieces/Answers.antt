@@ -1,4 +1,5 @@
-use Rattle.std.proofs.Common.{◌≡◌, ◌≢◌, ◌&&◌, ◌<◌, Bool, List, Option, ℕ, All, get_or, length, option_map, string_bytes, is_some, sym, ◌∙◌, ap, subst, arith}
+use Rattle.std.proofs.Common.{◌≡◌, ◌≢◌, ◌&&◌, ◌<◌, Bool, List, Option, ℕ, All, get_or, length, option_map, is_some, sym, ◌∙◌, ap, subst, arith}
+use Rattle.std.specs.Cow.{cow_str_bytes}
 use Rattle.std.specs.Prelude.{AllPairs, Contains, None, Some, if◌then◌else◌}
 use Rattle.std.proofs.lemmas.List.{get_or_default}
 use Rattle.std.proofs.lemmas.Option.{slice_get-get_or}
@@ -12,7 +13,7 @@ use Rattle.ide_ssr_rewriting.specs.Replacements.{piece}
 use Rattle.ide_ssr_rewriting.specs.Edits.{list_at}
 use Rattle.ide_ssr_rewriting.specs.Private.Edits.{text_in}
 use Rattle.ide_ssr_rewriting.proofs.Fits.{list_fits}
-use Rattle.ide_ssr_rewriting.proofs.Pieces.{list_in_order, taking-more, taken_clashes}
+use Rattle.ide_ssr_rewriting.proofs.Pieces.{list_in_order, taking-more, taken_pieces, taken_clashes}
 use Rattle.ide_ssr_rewriting.proofs.editing.Pending.take_pieces.Goals as goal
 use Rattle.ide_ssr_rewriting.proofs.editing.Pending.take_pieces.Goals.{then-branch, else-branch}
 
@@ -64,31 +65,28 @@ loop-index-preserved c =
     let held =
     held_read kept m c.workspace.result.now c.node.result c.bindings-binding-items.result.now i (option_map file_span_of c.original_range-range.result) c.workspace.ensures c.node.ensures
     c.bindings-binding-items.ensures c.original_range-range.ensures in
-    let made : c.if-branch.is_clean ≡ (is_some (option_map string_bytes c.in_ok-piece.piece) && c.loop-index.is_clean) =
+    let made : c.if-branch.are_all ≡ (is_some (option_map cow_str_bytes c.in_ok-piece.piece) && c.loop-index.are_all) =
     elim c.if-branch.branch [
-      | then-branch w ↦ w.is_clean-is ∙ ap (λ (t : Bool). t && c.loop-index.is_clean) (sym (sym c.in_ok-is_clean.ensures.there ∙ w.if-branch.true))
-      | else-branch w ↦ w.is_clean-is ∙ (w.if-branch.false ∙ ap (λ (t : Bool). t && c.loop-index.is_clean) (sym (sym c.in_ok-is_clean.ensures.there ∙ w.if-branch.false)))
+      | then-branch w ↦ w.are_all-is ∙ ap (λ (t : Bool). t && c.loop-index.are_all) (sym (sym c.in_ok-are_all.ensures.there ∙ w.if-branch.true))
+      | else-branch w ↦ w.are_all-is ∙ (w.if-branch.false ∙ ap (λ (t : Bool). t && c.loop-index.are_all) (sym (sym c.in_ok-are_all.ensures.there ∙ w.if-branch.false)))
     ] in
     taking-more kept c.args.lists.now c.requires.nest m c.args.place i _ _ _ _ _ _ _ _ _ _ c.loop-index.invariant b lt (get_or_default m.bindings i nobody b lt)
-    list (option_map clash_of c.in_ok-list.first) (option_map string_bytes c.in_ok-piece.piece)
+    list (option_map clash_of c.in_ok-list.first) (option_map cow_str_bytes c.in_ok-piece.piece)
     (c.in_ok-list.ensures.list ∙ ap (list_at kept (text_in c.loop-index.self.texts.items)) c.under.ensures)
     c.in_ok-list.ensures.first c.in_ok-list.ensures.clash
     (c.in_ok-piece.ensures
     ∙ (ap (λ (w : Workspace). if is_clean list then Some (piece w (option_map file_span_of c.original_range-range.result) list) else None) c.workspace-in-loop-index.ensures
     ∙ ap (λ (range : Option FileSpan). if is_clean list then Some (piece kept.workspace range list) else None) held))
-    made c.in_ok-is_clean.ensures.pieces c.in_ok-list.ensures.counted
+    made c.in_ok-are_all.ensures.pieces c.in_ok-list.ensures.counted
     (λ j none. c.in_ok-list.ensures.others j (λ h. none (subst (λ (xs : List ℕ). Contains xs j) c.under.ensures h)))
 
-pub returns-then-is_clean-clause-clash : goal.returns-then-is_clean-clause-clash
-returns-then-is_clean-clause-clash c =
+pub returns-clause-pieces : goal.returns-clause-pieces
+returns-clause-pieces c =
+    taken_pieces _ _ _ _ _ _ _ _ _ _ _ c.loop-index.invariant (omega (arith, ap (λ (bs : List Binding). length bs) c.bindings-binding-items.ensures))
+
+pub returns-clause-clash : goal.returns-clause-clash
+returns-clause-clash c =
     taken_clashes _ _ _ _ _ _ _ _ _ _ _ c.loop-index.invariant (omega (arith, ap (λ (bs : List Binding). length bs) c.bindings-binding-items.ensures))
 
-pub returns-else-is_clean-clause-clash : goal.returns-else-is_clean-clause-clash
-returns-else-is_clean-clause-clash c =
-    taken_clashes _ _ _ _ _ _ _ _ _ _ _ c.loop-index.invariant (omega (arith, ap (λ (bs : List Binding). length bs) c.bindings-binding-items.ensures))
-
-pub returns-then-is_clean-clause-left : goal.returns-then-is_clean-clause-left
-returns-then-is_clean-clause-left c = λ j none. c.loop-index.invariant.left j (λ k _ h. none k h)
-
-pub returns-else-is_clean-clause-left : goal.returns-else-is_clean-clause-left
-returns-else-is_clean-clause-left c = λ j none. c.loop-index.invariant.left j (λ k _ h. none k h)
+pub returns-clause-left : goal.returns-clause-left
+returns-clause-left c = λ j none. c.loop-index.invariant.left j (λ k _ h. none k h)

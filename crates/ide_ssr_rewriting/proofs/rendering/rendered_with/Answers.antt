@@ -1,0 +1,19 @@
+use Rattle.std.proofs.Common.{◌≡◌, ◌∙◌, sym, map, string_bytes, rules}
+use Rattle.std.specs.Cow.{cow_str_bytes}
+use Rattle.ssr_syntax_tree.specs.Syntax.{tokens_of}
+use Rattle.ide_ssr_rewriting.specs.Rendering.{piece_of, wrapped}
+use Rattle.ide_ssr_rewriting.proofs.rendering.rendered_with.Goals as goal
+
+pub returns-then-are_nodes : goal.returns-then-are_nodes
+returns-then-are_nodes c =
+    let rule = c.args.rule.now in
+    let spelled : string_bytes c.in_ok-plain.plain
+    ≡ wrapped c.in-Ok.tree c.in-Ok.front rule.names (piece_of c.args.bindings.now (map cow_str_bytes c.args.pieces.now)) 0 (tokens_of c.in-Some.template.now) =
+    c.in_ok-plain.ensures ∙ sym (c.are_nodes.ensures c.if-are_nodes.true) in
+    search rules steps 2000000
+
+pub returns-else-are_nodes : goal.returns-else-are_nodes
+returns-else-are_nodes c = search rules steps 2000000
+
+pub returns-in-Err : goal.returns-in-Err
+returns-in-Err c = search rules steps 1000000
