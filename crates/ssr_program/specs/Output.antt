@@ -19,7 +19,7 @@ pub record Output : Type 0 where
 abbrev pub line_break : List ℕ
 line_break = 10 ∷ []
 
--- one line that tells why there is no new text
+-- what tells why there is no new text: one line, unless the words have a line break
 abbrev pub refused : List ℕ → Output
 refused words = record { text = codes "error: " ++ (words ++ line_break); status = 1 }
 
