@@ -26,7 +26,7 @@ pub record HasParts (w : Workspace) (m : Found) (v : Match) : Type 0 where
   pub comments : map file_span_of (comments_of v) ≡ comment_spans w m
   pub comments_in_file : All (λ range. LiesInFile w (file_span_of range)) (comments_of v)
 
--- the name of a placeholder of a rule
+-- the name of a placeholder of a rule; the rule of a match is one of the finder's, and its placeholders have names
 abbrev pub placeholder_name : Option ResolvedKind → ℕ → List ℕ
 placeholder_name rule i = option_map_or (λ rule. slice_index_or rule.names i []) rule []
 

@@ -6,7 +6,7 @@ use crate::bindings::Binding;
 use ssr_base::NodeId;
 use std::marker::Model;
 
-/// A match: the place of its rule among the rules, its node, and what the placeholders hold, in the order in
+/// A match: the place (index) of its rule among the rules, its node, and what the placeholders hold, in the order in
 /// which they stand in the pattern.
 #[derive(Drop)]
 pub struct Found {

@@ -24,6 +24,7 @@ Texts = ℕ → Option (List ℕ)
 
 -- ** The lists.
 
+-- in the place of a range, where no match is kept; lists have the places of kept matches alone
 abbrev pub nowhere : FileSpan
 nowhere = record { file = 0; span = record { start = 0; end = 0 } }
 

@@ -12,7 +12,8 @@ use Rattle.ide_ssr_resolving.specs.Resolved.{ResolvedKind}
 use Rattle.ide_ssr_rules.specs.StandIns.{name_at}
 use Rattle.ide_ssr_found.specs.declared.bindings.Binding.{Binding}
 
--- the piece of the placeholder whose name has the place i, where the bindings have these pieces
+-- the piece of the placeholder whose name has the place i, where the bindings have these pieces; a match binds each
+-- placeholder of its rule, so none lacks one
 unfoldable pub piece_of : List Binding → List (List ℕ) → ℕ → List ℕ
 piece_of bindings pieces i = slice_index_or pieces (position_or_len (λ binding. binding.placeholder == i) bindings) []
 

@@ -10,7 +10,7 @@ use Rattle.ide_ssr_rewriting.specs.Clashes.{Rewrite, changes_made}
 use Rattle.ide_ssr_rewriting.specs.Comments.{comments_text, kept_comments}
 use Rattle.ide_ssr_rewriting.specs.Rendering.{piece_of, rendered}
 
--- the text of a file
+-- the text of a file; original ranges lie in files of the workspace, so there is one
 abbrev pub file_text : Workspace → ℕ → List ℕ
 file_text w file = option_map_or source_of (slice_get w.files file) []
 
@@ -18,15 +18,17 @@ file_text w file = option_map_or source_of (slice_get w.files file) []
 abbrev pub rewritten : Workspace → FileSpan → List Rewrite → List ℕ
 rewritten w range list = replaced (file_text w range.file) range.span.start range.span.end (changes_made list)
 
--- what a placeholder holds, which comes from this range, with the changes of a list made
+-- what a placeholder holds, which comes from this range, with the changes of a list made; in a match that a search finds,
+-- each has a range
 abbrev pub piece : Workspace → Option FileSpan → List Rewrite → List ℕ
 piece w range list = option_map_or (λ range. rewritten w range list) range []
 
--- what the template of a match's rule gives, where its placeholders have these pieces
+-- what the template of a match's rule gives, where its placeholders have these pieces; the rule of a match that is found
+-- is one of the rules
 abbrev pub template_text : List ResolvedKind → Found → List (List ℕ) → List ℕ
 template_text rules m pieces = option_map_or (λ rule. rendered rule (piece_of m.bindings pieces)) (slice_get rules m.rule) []
 
--- the comments that a match keeps; among the tokens of an expansion there are none
+-- the comments that a match keeps; among the tokens of an expansion there are none. Its tree is one of the workspace.
 abbrev pub comments_kept : Workspace → Found → List ℕ
 comments_kept w m = option_map_or (λ tree. comments_text tree (kept_comments tree m.node.node.0 m.bindings)) (tree_of w m.node.tree) []
 

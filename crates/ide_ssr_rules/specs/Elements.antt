@@ -21,7 +21,7 @@ use Rattle.ide_ssr_refusals.specs.Refusals.{◌>>=◌}
 unfoldable pub lexed : List ℕ → Option (List Token)
 lexed text = if nat_lt (length text) (2 ^ 32) then option_map (pieces text) (tokens text) else None
 
--- the lexer's words for a text without tokens
+-- the lexer's words for a text without tokens; one of less than 2^32 bytes has a fault
 unfoldable pub fault_in : List ℕ → List ℕ
 fault_in text = if nat_lt (length text) (2 ^ 32) then unwrap_or (fault text) [] else error_words errors.TooLong
 

@@ -1,4 +1,4 @@
--- Solid tokens: what the grammar reads of a text's tokens.
+-- Solid tokens, those that are no trivia: what the grammar reads of a text's tokens.
 use Rattle.std.specs.Prelude.{Bool, true, false, if◌then◌else◌, List, [], ◌∷◌, drop, Option, Some, None}
 use Rattle.ssr_syntax_kinds.specs.Kinds.{same_kind, is_trivia}
 use Rattle.ssr_syntax_kinds.specs.declared.kinds.SyntaxKind.{SyntaxKind}

@@ -33,7 +33,7 @@ pub data Form (Goal : Type 0) : Type 0 where
   child : Goal → Form Goal
   -- nodes that are sealed inside begin here
   mark : Form Goal → Form Goal
-  -- all since the mark is put into a node of this kind
+  -- all since the mark is put into a node of this kind: the node is completed, as parsers say
   seal : SyntaxKind → Form Goal
   -- one form, and then another
   ◌then◌ : Form Goal → Form Goal → Form Goal

@@ -93,5 +93,5 @@ pub enum ItemPlace {
     InTrait,
 }
 
-/// How tightly an operator binds, the tightest ones first.
+/// How tightly an operator binds, its precedence or binding power: 0 is the tightest.
 pub type Rank = u8;
