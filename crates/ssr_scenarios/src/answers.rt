@@ -7,14 +7,14 @@ use crate::rows::{write_facts, write_rows};
 use crate::rules::write_rule;
 use crate::texts::text_of;
 use crate::tokens::write_tokens;
+use crate::told::Told;
 use crate::trees::{goal_of, write_tree};
 use anyhow::Result;
-use ide_ssr::{EditError, MatchFinder, SsrError, SsrPattern, SsrRule};
+use ide_ssr::{EditError, MatchFinder, SsrError, SsrMatches, SsrPattern, SsrRule};
 use ssr_base::{FileId, TextEdit, Workspace};
 use ssr_facts::{Facts, TableSemantics};
-use std::alloc::Global;
+use std::alloc::{AllocError, Global};
 use std::collections::BTreeMap;
-use std::fmt::Write;
 
 type Finder<'a> = MatchFinder<'a, TableSemantics>;
 
@@ -27,7 +27,9 @@ pub(crate) fn answer(
     line: &Line<'_>,
 ) -> Result<Option<String>> {
     if line.word == "fronts" {
-        return Ok(Some(fronts(alloc, facts, finder, way, line.rest)?));
+        let (word, written) = line.rest.split_once(' ').unwrap_or((line.rest, ""));
+        let text = text_of(alloc, written)?;
+        return Ok(Some(fronts(alloc, facts, finder, way, word, text.as_str())?));
     }
     let text = text_of(alloc, line.rest)?;
     asked(alloc, facts, finder, way, line.word, text.as_str())
@@ -39,24 +41,31 @@ fn fronts(
     facts: &Facts,
     finder: &mut Result<Finder<'_>, SsrError>,
     way: &str,
-    rest: &str,
+    word: &str,
+    text: &str,
 ) -> Result<String> {
-    let (word, written) = rest.split_once(' ').unwrap_or((rest, ""));
-    let text = text_of(alloc, written)?;
-    let mut out = String::new(alloc);
+    let mut out = Told::nothing(alloc);
     let mut last = String::new(alloc);
     for end in 0..=text.len() {
-        if let Some(front) = text.as_str().get(..end) {
+        if let Some(front) = text.get(..end) {
             let told = asked(alloc, facts, finder, way, word, front)?.unwrap_or(String::new(alloc));
             if end == 0 || told.as_str() != last.as_str() {
-                let answer = told.as_str().trim_end();
-                let blank = if answer.is_empty() { "" } else { " " };
-                writeln!(out, "{end}..{blank}{answer}")?;
+                write_front(&mut out, end, told.as_str().trim_end());
                 last = told;
             }
         }
     }
-    Ok(out)
+    Ok(out.end()?)
+}
+
+/// How long a front is, and what a question answers to it.
+fn write_front(out: &mut Told, end: usize, answer: &str) {
+    out.shown(&end);
+    out.text("..");
+    if !answer.is_empty() {
+        out.text(" ");
+    }
+    out.line(answer);
 }
 
 /// What a question answers to a text, if the word asks something.
@@ -68,65 +77,80 @@ fn asked(
     word: &str,
     text: &str,
 ) -> Result<Option<String>> {
-    let mut out = String::new(alloc);
-    let semantics = &facts.semantics;
-    if let Some(goal) = goal_of(word) {
-        write_tree(alloc, &mut out, semantics, goal, way, text)?;
-        return Ok(Some(out));
+    let mut out = Told::nothing(alloc);
+    if write_answer(alloc, &mut out, facts, finder, way, word, text)? {
+        Ok(Some(out.end()?))
+    } else {
+        Ok(None)
     }
-    match word {
-        "lexes" => write_tokens(alloc, &mut out, text)?,
-        "kinds" | "parts" | "used" | "calls" | "eligible" => {
-            write_rule(alloc, &mut out, semantics, word, text)?;
-        }
-        "rows" => write_rows(alloc, &mut out, text)?,
-        "reads" => write_facts(alloc, &mut out, text)?,
-        "nodes" => write_nodes(alloc, &mut out, facts)?,
-        _ => return of_search(alloc, &facts.workspace, finder, word, text),
-    }
-    Ok(Some(out))
 }
 
-/// What the word asks of a search, if it asks that.
+/// What a question answers to a text. Says whether the word asks something.
+fn write_answer(
+    alloc: Global,
+    out: &mut Told,
+    facts: &Facts,
+    finder: &mut Result<Finder<'_>, SsrError>,
+    way: &str,
+    word: &str,
+    text: &str,
+) -> Result<bool> {
+    let semantics = &facts.semantics;
+    if let Some(goal) = goal_of(word) {
+        write_tree(alloc, out, semantics, goal, way, text)?;
+        return Ok(true);
+    }
+    match word {
+        "lexes" => write_tokens(alloc, out, text),
+        "kinds" | "parts" | "used" | "calls" | "eligible" => {
+            write_rule(alloc, out, semantics, word, text);
+        }
+        "rows" => write_rows(alloc, out, text),
+        "reads" => write_facts(alloc, out, text),
+        "nodes" => write_nodes(alloc, out, facts),
+        _ => return of_search(alloc, out, &facts.workspace, finder, word, text),
+    }
+    Ok(true)
+}
+
+/// What a question asks of a search. Says whether the word asks that.
 fn of_search(
     alloc: Global,
+    out: &mut Told,
     workspace: &Workspace,
     finder: &mut Result<Finder<'_>, SsrError>,
     word: &str,
     text: &str,
-) -> Result<Option<String>> {
+) -> Result<bool> {
     match finder {
-        Ok(finder) => of_finder(alloc, workspace, finder, word, text),
+        Ok(finder) => of_finder(alloc, out, workspace, finder, word, text),
         Err(error) if word == "opens" => {
-            let mut out = String::new(alloc);
-            writeln!(out, "{error}")?;
-            Ok(Some(out))
+            write_error(out, error);
+            Ok(true)
         }
-        Err(_) => Ok(None),
+        Err(_) => Ok(false),
     }
 }
 
 /// The same of a search that there is.
 fn of_finder(
     alloc: Global,
+    out: &mut Told,
     workspace: &Workspace,
     finder: &mut Finder<'_>,
     word: &str,
     text: &str,
-) -> Result<Option<String>> {
-    let mut out = String::new(alloc);
+) -> Result<bool> {
     match word {
         "opens" => {}
-        "rule" => write_refusal(&mut out, add_rule(alloc, finder, text))?,
-        "pattern" => write_refusal(&mut out, add_pattern(alloc, finder, text))?,
-        "finds" => write_texts(&mut out, &finder.matches()?.matches)?,
-        "scans" => write_texts(&mut out, &finder.scan_matches()?.matches)?,
-        "holds" => write_held(&mut out, workspace, &finder.matches()?.matches)?,
-        "places" => write_places(&mut out, &finder.matches()?.matches)?,
-        "edits" => write_edits(alloc, &mut out, workspace, finder.edits())?,
-        _ => return Ok(None),
+        "rule" => write_refusal(out, &add_rule(alloc, finder, text)),
+        "pattern" => write_refusal(out, &add_pattern(alloc, finder, text)),
+        "edits" => write_edits(alloc, out, workspace, finder.edits())?,
+        "finds" | "holds" | "places" => write_matches(out, workspace, word, finder.matches()),
+        "scans" => write_matches(out, workspace, word, finder.scan_matches()),
+        _ => return Ok(false),
     }
-    Ok(Some(out))
+    Ok(true)
 }
 
 fn add_rule(alloc: Global, finder: &mut Finder<'_>, text: &str) -> Result<(), SsrError> {
@@ -138,35 +162,62 @@ fn add_pattern(alloc: Global, finder: &mut Finder<'_>, text: &str) -> Result<(),
 }
 
 /// Why something is refused, if it is.
-fn write_refusal(out: &mut String, added: Result<(), SsrError>) -> Result<()> {
+fn write_refusal(out: &mut Told, added: &Result<(), SsrError>) {
     if let Err(error) = added {
-        writeln!(out, "{error}")?;
+        write_error(out, error);
     }
-    Ok(())
+}
+
+fn write_error(out: &mut Told, error: &SsrError) {
+    out.shown(error);
+    out.text("\n");
+}
+
+/// What a word asks of matches.
+fn write_matches(
+    out: &mut Told,
+    workspace: &Workspace,
+    word: &str,
+    found: Result<SsrMatches<'_>, AllocError>,
+) {
+    if let Some(found) = out.got(found) {
+        match word {
+            "holds" => write_held(out, workspace, &found.matches),
+            "places" => write_places(out, &found.matches),
+            _ => write_texts(out, &found.matches),
+        }
+    }
 }
 
 /// The new texts of files, each behind its number, or why there are none.
 fn write_edits(
     alloc: Global,
-    out: &mut String,
+    out: &mut Told,
     workspace: &Workspace,
     edits: Result<BTreeMap<FileId, TextEdit>, EditError>,
 ) -> Result<()> {
     match edits {
         Ok(edits) => write_files(alloc, out, workspace, &edits),
-        Err(error) => Ok(writeln!(out, "{error:?}")?),
+        Err(error) => {
+            out.debug(&error);
+            out.text("\n");
+            Ok(())
+        }
     }
 }
 
 fn write_files(
     alloc: Global,
-    out: &mut String,
+    out: &mut Told,
     workspace: &Workspace,
     edits: &BTreeMap<FileId, TextEdit>,
 ) -> Result<()> {
     for number in 0..workspace.file_count() {
         if let (Some(edit), Some(tree)) = (edits.get(&FileId(number)), workspace.tree(number)) {
-            writeln!(out, "{number} {}", edit.apply(alloc, tree.source())?)?;
+            let text = edit.apply(alloc, tree.source())?;
+            out.shown(&number);
+            out.text(" ");
+            out.line(text.as_str());
         }
     }
     Ok(())

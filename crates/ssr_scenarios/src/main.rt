@@ -73,6 +73,7 @@ mod rows;
 mod rules;
 mod texts;
 mod tokens;
+mod told;
 mod trees;
 
 use crate::answers::answer;

@@ -2,39 +2,45 @@
 
 use crate::lists::separator;
 use crate::paths::{write_calls, write_paths};
-use anyhow::Result;
+use crate::told::Told;
 use ide_ssr::{SsrError, SsrPattern, SsrRule};
 use ide_ssr_resolving::{ResolvedRule, resolve_pattern, resolve_rule};
 use ssr_base::ScopeId;
 use ssr_facts::TableSemantics;
 use ssr_syntax_kinds::SyntaxKind;
 use ssr_syntax_tree::{Element, NodeNo, TokenNo, Tree};
-use std::alloc::{AllocError, Global};
-use std::fmt::Write;
+use std::alloc::Global;
 
 /// What is asked of the kinds of a rule, or why it is refused; nothing, if the word doesn't ask that.
 pub(crate) fn write_rule(
     alloc: Global,
-    out: &mut String,
+    out: &mut Told,
     semantics: &TableSemantics,
     word: &str,
     text: &str,
-) -> Result<()> {
-    let kinds = match kinds_of(alloc, semantics, text) {
-        Ok(kinds) => kinds,
-        Err(error) => return Ok(writeln!(out, "{error}")?),
-    };
+) {
+    match kinds_of(alloc, semantics, text) {
+        Ok(kinds) => write_asked(out, word, &kinds),
+        Err(error) => {
+            out.shown(&error);
+            out.text("\n");
+        }
+    }
+}
+
+/// What a word asks of kinds: all of them, or the first one.
+fn write_asked(out: &mut Told, word: &str, kinds: &[ResolvedRule]) {
     if word == "kinds" {
-        return Ok(write_kinds(out, &kinds)?);
+        return write_kinds(out, kinds);
     }
     let Some(kind) = kinds.first() else {
-        return Ok(());
+        return;
     };
     match word {
-        "calls" => Ok(write_calls(out, kind.pattern(), kind.qualified_calls())?),
-        "eligible" => Ok(write_paths(out, kind.pattern(), kind.eligible_paths())?),
-        "parts" => Ok(write_parts(out, kind)?),
-        _ => Ok(write_used_paths(out, kind)?),
+        "calls" => write_calls(out, kind.pattern(), kind.qualified_calls()),
+        "eligible" => write_paths(out, kind.pattern(), kind.eligible_paths()),
+        "parts" => write_parts(out, kind),
+        _ => write_used_paths(out, kind),
     }
 }
 
@@ -57,14 +63,16 @@ fn kinds_of(
 }
 
 /// Of each kind the category, and what the roots of its pattern and of its template are.
-fn write_kinds(out: &mut String, kinds: &[ResolvedRule]) -> Result<(), AllocError> {
+fn write_kinds(out: &mut Told, kinds: &[ResolvedRule]) {
     for (number, kind) in kinds.iter().enumerate() {
-        let comma = separator(number, ", ");
-        let category = kind.category();
-        let (pattern, template) = (root(kind.pattern()), kind.template().map_or("-", root));
-        write!(out, "{comma}{category:?} {pattern} {template}")?;
+        out.text(separator(number, ", "));
+        out.debug(&kind.category());
+        out.text(" ");
+        out.text(root(kind.pattern()));
+        out.text(" ");
+        out.text(kind.template().map_or("-", root));
     }
-    writeln!(out)
+    out.text("\n");
 }
 
 fn root(tree: &Tree) -> &'static str {
@@ -72,61 +80,68 @@ fn root(tree: &Tree) -> &'static str {
 }
 
 /// The used paths of the pattern, and below them those of the template.
-fn write_used_paths(out: &mut String, kind: &ResolvedRule) -> Result<(), AllocError> {
-    write_paths(out, kind.pattern(), kind.pattern_paths())?;
-    match kind.template() {
-        Some(template) => write_paths(out, template, kind.template_paths()),
-        None => Ok(()),
+fn write_used_paths(out: &mut Told, kind: &ResolvedRule) {
+    write_paths(out, kind.pattern(), kind.pattern_paths());
+    if let Some(template) = kind.template() {
+        write_paths(out, template, kind.template_paths());
     }
 }
 
 /// The placeholders, the pattern and the template.
-fn write_parts(out: &mut String, kind: &ResolvedRule) -> Result<(), AllocError> {
-    write_names(out, kind)?;
-    write_pattern(out, kind)?;
-    write_template(out, kind)
+fn write_parts(out: &mut Told, kind: &ResolvedRule) {
+    write_names(out, kind);
+    write_pattern(out, kind);
+    write_template(out, kind);
 }
 
 /// The placeholders, each with its name and what it doesn't stand for of literals and paths.
-fn write_names(out: &mut String, kind: &ResolvedRule) -> Result<(), AllocError> {
+fn write_names(out: &mut Told, kind: &ResolvedRule) {
     for (number, name) in (0..u32::MAX).zip(kind.names()) {
-        let literal = is_not(kind, number, SyntaxKind::LITERAL, ", no literal");
-        let path = is_not(kind, number, SyntaxKind::PATH_EXPR, ", no path");
-        writeln!(out, "{number} is ${name}{literal}{path}")?;
+        out.shown(&number);
+        out.text(" is $");
+        out.shown(name);
+        out.text(is_not(kind, number, SyntaxKind::LITERAL, ", no literal"));
+        out.text(is_not(kind, number, SyntaxKind::PATH_EXPR, ", no path"));
+        out.text("\n");
     }
-    Ok(())
 }
 
 /// The text of the pattern, and which of its nodes are placeholders.
-fn write_pattern(out: &mut String, kind: &ResolvedRule) -> Result<(), AllocError> {
+fn write_pattern(out: &mut Told, kind: &ResolvedRule) {
     let pattern = kind.pattern();
-    write!(out, "{}", pattern.source())?;
+    out.text(pattern.source());
     for number in 0..pattern.node_count() {
         let node = NodeNo(number);
         if pattern.has(Element::Node(node)) {
-            if let Some(placeholder) = kind.placeholder(node) {
-                write!(out, " node {number} is {placeholder}")?;
-            }
+            write_placeholder(out, " node ", number, kind.placeholder(node));
         }
     }
-    writeln!(out)
+    out.text("\n");
 }
 
 /// The text of the template, and which of its tokens are placeholders.
-fn write_template(out: &mut String, kind: &ResolvedRule) -> Result<(), AllocError> {
+fn write_template(out: &mut Told, kind: &ResolvedRule) {
     let Some(template) = kind.template() else {
-        return Ok(());
+        return;
     };
-    write!(out, "{}", template.source())?;
+    out.text(template.source());
     for number in 0..template.token_count() {
         let token = TokenNo(number);
         if template.has(Element::Token(token)) {
-            if let Some(placeholder) = kind.template_placeholder(token) {
-                write!(out, " token {number} is {placeholder}")?;
-            }
+            write_placeholder(out, " token ", number, kind.template_placeholder(token));
         }
     }
-    writeln!(out)
+    out.text("\n");
+}
+
+/// That the node or token of a number is a placeholder, if it is one.
+fn write_placeholder(out: &mut Told, of: &str, number: u32, placeholder: Option<u32>) {
+    if let Some(placeholder) = placeholder {
+        out.text(of);
+        out.shown(&number);
+        out.text(" is ");
+        out.shown(&placeholder);
+    }
 }
 
 /// Words that say of a placeholder that it doesn't stand for a node of a kind, if it doesn't.

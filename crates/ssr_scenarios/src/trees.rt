@@ -3,15 +3,15 @@
 use crate::lists::separator;
 use crate::paths::{write_first_key, write_used};
 use crate::tokens::{solid_tokens, told_tokens};
+use crate::told::Told;
 use anyhow::Result;
 use ssr_facts::TableSemantics;
 use ssr_syntax::{
-    ExpansionKind, Fragment, SyntaxError, fits_file, fits_fragment, fragment, parse_file,
+    ExpToken, ExpansionKind, Fragment, SyntaxError, fits_file, fits_fragment, fragment, parse_file,
     parse_tokens,
 };
 use ssr_syntax_tree::{NodeNo, TokenNo, Tree};
 use std::alloc::{AllocError, Global};
-use std::fmt::Write;
 
 /// What a text is read as.
 #[derive(Clone, Copy)]
@@ -57,42 +57,64 @@ fn fragment_of(word: &str) -> Option<Fragment> {
 }
 
 /// What is read of a text: a tree and how many bytes of white space stand in front of it, or why there is none.
-fn read(alloc: Global, goal: Goal, text: &str) -> Result<Result<(Tree, u32), SyntaxError>> {
-    let tree = match goal {
-        Goal::Fragment(kind) => return Ok(fragment(alloc, kind, text)),
-        Goal::File => parse_file(alloc, text),
-        Goal::Call(kind) => parse_tokens(alloc, kind, &solid_tokens(alloc, text)?),
-        Goal::Told(kind) => parse_tokens(alloc, kind, &told_tokens(alloc, text)?),
-    };
-    match tree {
-        Ok(tree) => Ok(Ok((tree, 0))),
-        Err(error) => Ok(Err(error)),
+type Read = Result<(Tree, u32), SyntaxError>;
+
+fn read(alloc: Global, goal: Goal, text: &str) -> Result<Read> {
+    match goal {
+        Goal::Fragment(kind) => Ok(fragment(alloc, kind, text)),
+        Goal::File => Ok(in_front(parse_file(alloc, text))),
+        Goal::Call(kind) => Ok(read_tokens(alloc, kind, solid_tokens(alloc, text)?)),
+        Goal::Told(kind) => Ok(read_tokens(alloc, kind, told_tokens(alloc, text)?)),
     }
+}
+
+fn read_tokens(alloc: Global, kind: ExpansionKind, tokens: Vec<ExpToken>) -> Read {
+    in_front(parse_tokens(alloc, kind, &tokens))
+}
+
+/// A tree that stands in front.
+fn in_front(tree: Result<Tree, SyntaxError>) -> Read {
+    Ok((tree?, 0))
 }
 
 /// What is asked of the tree of a text, in the way that a word says, or why there is none.
 pub(crate) fn write_tree(
     alloc: Global,
-    out: &mut String,
+    out: &mut Told,
     semantics: &TableSemantics,
     goal: Goal,
     way: &str,
     text: &str,
 ) -> Result<()> {
-    let (tree, front) = match read(alloc, goal, text)? {
-        Ok(read) => read,
-        Err(error) => return Ok(writeln!(out, "{error:?}")?),
-    };
-    match way {
-        "source" => Ok(writeln!(out, "{:?} behind {front}", tree.source())?),
-        "tokens" => Ok(write_leaves(out, &tree)?),
-        "ranges" => Ok(write_ranges(out, &tree)?),
-        "depth" => Ok(write_depth(alloc, out, &tree)?),
-        "fits" => Ok(write_fitting(alloc, out, &tree)?),
-        "paths" => write_used(alloc, out, semantics, &tree),
-        "key" => Ok(write_first_key(alloc, out, &tree)?),
-        _ => Ok(write_outline(alloc, out, &tree)?),
+    match read(alloc, goal, text)? {
+        Ok((tree, front)) if way == "source" => write_source(out, &tree, front),
+        Ok((tree, _)) => write_way(alloc, out, semantics, way, &tree),
+        Err(error) => {
+            out.debug(&error);
+            out.text("\n");
+        }
     }
+    Ok(())
+}
+
+fn write_way(alloc: Global, out: &mut Told, semantics: &TableSemantics, way: &str, tree: &Tree) {
+    match way {
+        "tokens" => write_leaves(out, tree),
+        "ranges" => write_ranges(out, tree),
+        "depth" => write_depth(alloc, out, tree),
+        "fits" => write_fitting(alloc, out, tree),
+        "paths" => write_used(alloc, out, semantics, tree),
+        "key" => write_first_key(alloc, out, tree),
+        _ => write_outline(alloc, out, tree),
+    }
+}
+
+/// The source of a tree, and how many bytes of white space stand in front of it.
+fn write_source(out: &mut Told, tree: &Tree, front: u32) {
+    out.quoted(tree.source());
+    out.text(" behind ");
+    out.shown(&front);
+    out.text("\n");
 }
 
 /// How many nodes stand above each node of a tree.
@@ -112,52 +134,62 @@ fn depths_of(alloc: Global, tree: &Tree) -> Result<Vec<usize>, AllocError> {
 }
 
 /// The nodes of a tree in preorder, each with a dot for each node above it.
-fn write_outline(alloc: Global, out: &mut String, tree: &Tree) -> Result<(), AllocError> {
-    let depths = depths_of(alloc, tree)?;
+fn write_outline(alloc: Global, out: &mut Told, tree: &Tree) {
+    let Some(depths) = out.got(depths_of(alloc, tree)) else {
+        return;
+    };
     for number in 0..tree.node_count() {
-        let blank = separator(number as usize, " ");
-        let depth = depths.get(number as usize).copied().unwrap_or(0);
-        let dots = ".".repeat(alloc, depth)?;
-        write!(out, "{blank}{dots}{}", tree.kind(NodeNo(number)).name())?;
+        out.text(separator(number as usize, " "));
+        for _ in 0..depths.get(number as usize).copied().unwrap_or(0) {
+            out.text(".");
+        }
+        out.text(tree.kind(NodeNo(number)).name());
     }
-    writeln!(out)
+    out.text("\n");
 }
 
 /// How many nodes stand above the deepest one.
-fn write_depth(alloc: Global, out: &mut String, tree: &Tree) -> Result<(), AllocError> {
-    let depths = depths_of(alloc, tree)?;
-    let deepest = depths.iter().copied().max().unwrap_or(0);
-    writeln!(out, "{deepest}")
+fn write_depth(alloc: Global, out: &mut Told, tree: &Tree) {
+    if let Some(depths) = out.got(depths_of(alloc, tree)) {
+        out.shown(&depths.iter().copied().max().unwrap_or(0));
+        out.text("\n");
+    }
 }
 
 /// The nodes of a tree in preorder, each with its range, a line each.
-fn write_ranges(out: &mut String, tree: &Tree) -> Result<(), AllocError> {
+fn write_ranges(out: &mut Told, tree: &Tree) {
     for number in 0..tree.node_count() {
         let node = NodeNo(number);
-        let (kind, range) = (tree.kind(node).name(), tree.range(node));
-        writeln!(out, "{kind} {}..{}", range.start(), range.end())?;
+        out.text(tree.kind(node).name());
+        let range = tree.range(node);
+        out.text(" ");
+        out.shown(&range.start());
+        out.text("..");
+        out.shown(&range.end());
+        out.text("\n");
     }
-    Ok(())
 }
 
 /// The kinds of a tree's tokens.
-fn write_leaves(out: &mut String, tree: &Tree) -> Result<(), AllocError> {
+fn write_leaves(out: &mut Told, tree: &Tree) {
     for number in 0..tree.token_count() {
-        let blank = separator(number as usize, " ");
-        write!(out, "{blank}{}", tree.token_kind(TokenNo(number)).name())?;
+        out.text(separator(number as usize, " "));
+        out.text(tree.token_kind(TokenNo(number)).name());
     }
-    writeln!(out)
+    out.text("\n");
 }
 
 /// As what a tree could have been read.
-fn write_fitting(alloc: Global, out: &mut String, tree: &Tree) -> Result<(), AllocError> {
-    if fits_file(alloc, tree)? {
-        writeln!(out, "whole")?;
+fn write_fitting(alloc: Global, out: &mut Told, tree: &Tree) {
+    if out.got(fits_file(alloc, tree)).unwrap_or(false) {
+        out.line("whole");
     }
     for (name, fragment) in FRAGMENTS {
-        if fits_fragment(alloc, fragment, tree)? {
-            writeln!(out, "{name}")?;
+        if out
+            .got(fits_fragment(alloc, fragment, tree))
+            .unwrap_or(false)
+        {
+            out.line(name);
         }
     }
-    Ok(())
 }

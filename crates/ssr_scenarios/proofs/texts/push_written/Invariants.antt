@@ -1,6 +1,6 @@
 use denote.Text.{Utf8}
 use denote.Shadow.{shadow}
-use Rattle.ssr_scenarios.proofs.texts.text_of.Given as goal
+use Rattle.ssr_scenarios.proofs.texts.push_written.Given as goal
 
 abbrev pub invariant-loop-piece : goal.invariant-loop-piece
 invariant-loop-piece l =
