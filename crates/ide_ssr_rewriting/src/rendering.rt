@@ -16,24 +16,9 @@ use ssr_syntax_tree::{NodeNo, TokenNo, Tree};
 use std::alloc::{AllocError, Global};
 use std::borrow::CowStr;
 
-/// The text that the rule's template gives for a match with these bindings, each of which has its piece.
+/// The text that the rule's template gives for a match with these bindings, each of which has its piece: a part of a file's
+/// text, or a text of its own.
 pub fn rendered(
-    alloc: Global,
-    rule: &ResolvedRule,
-    bindings: &[Binding],
-    pieces: &[String],
-) -> Result<String, AllocError>
-    ensures { IfOk result (λ text. string_bytes text ≡ rendered rule.now (piece_of bindings.now (map string_bytes pieces.now))) }
-{
-    let mut lent = Vec::with_capacity(alloc, pieces.len())?;
-    for piece in pieces {
-        lent.push(CowStr::Borrowed(piece.as_str()))?;
-    }
-    rendered_with(alloc, rule, bindings, &lent)
-}
-
-/// The same with pieces that may be parts of a file's text.
-pub(crate) fn rendered_with(
     alloc: Global,
     rule: &ResolvedRule,
     bindings: &[Binding],

@@ -12,7 +12,7 @@ ghost use Rattle.ide_ssr_rewriting.specs.Private.Replacements.{FitsFile, IsOf};
 
 use crate::clashes::{Rewrite, changes_made};
 use crate::comments::{kept_comments, push_comments};
-use crate::rendering::rendered_with;
+use crate::rendering::rendered;
 use ide_ssr_found::Found;
 use ide_ssr_resolving::ResolvedRule;
 use ssr_base::{FileId, FileRange, Workspace};
@@ -95,7 +95,7 @@ fn template_text(
     ensures { IfOk result (λ text. string_bytes text ≡ template_text rules.now m.now (map cow_str_bytes pieces.now)) }
 {
     match rules.get(m.rule()) {
-        Some(rule) => rendered_with(alloc, rule, m.bindings(), pieces),
+        Some(rule) => rendered(alloc, rule, m.bindings(), pieces),
         None => Ok(String::new(alloc)),
     }
 }

@@ -2,7 +2,7 @@ use Rattle.std.proofs.Common.{◌≡◌, ◌∙◌, sym, map, string_bytes, rule
 use Rattle.std.specs.Cow.{cow_str_bytes}
 use Rattle.ssr_syntax_tree.specs.Syntax.{tokens_of}
 use Rattle.ide_ssr_rewriting.specs.Rendering.{piece_of, wrapped}
-use Rattle.ide_ssr_rewriting.proofs.rendering.rendered_with.Goals as goal
+use Rattle.ide_ssr_rewriting.proofs.rendering.rendered.Goals as goal
 
 pub returns-then-are_nodes : goal.returns-then-are_nodes
 returns-then-are_nodes c =
