@@ -2,7 +2,6 @@
 ghost use Rattle.std.specs.Prelude.{◌≡◌, ℕ, ◌&&◌, ◌∷◌, [], not, true, false, is_some, IfOk, IfSome};
 ghost use Rattle.std.specs.Option.{option_map_or};
 ghost use Rattle.ssr_syntax_kinds.specs.declared.kinds.SyntaxKind.{SyntaxKind as Kind};
-ghost use Rattle.ssr_syntax_kinds.specs.Kinds.{same_kind};
 ghost use Rattle.ssr_syntax_tree.specs.Syntax.{Syntax};
 ghost use Rattle.ssr_syntax_tree.specs.Places.{Node, HasNode, HasElement, node_of, root_of, part_of, parts_of};
 ghost use Rattle.ide_ssr_search.specs.Private.Roots.{first_counted, counts_first, pairs_otherwise, has_asked, token_asked, has_kind, AreTokenKinds, IsRootOf, IsAskedBy, AreRules, AreKindsIn};
@@ -55,23 +54,13 @@ fn first_counted(tree: &Tree, node: NodeNo) -> Option<SyntaxKind>
     None
 }
 
-/// Whether a kind was found, and is this one.
-fn is_kind(found: Option<SyntaxKind>, kind: SyntaxKind) -> bool
-    ensures { result ≡ option_map_or (λ own. same_kind own kind) found false }
-{
-    match found {
-        Some(own) => own.is(kind),
-        None => false,
-    }
-}
-
 /// Whether the first such token of a node has a kind, where one is asked for.
 fn counts_first(tree: &Tree, kind: Option<SyntaxKind>, node: NodeNo) -> bool
     requires { HasNode tree.now node.0 }
     ensures { result ≡ option_map_or (λ kind. counts_first kind (parts_of (node_of tree.now node.0))) kind true }
 {
     match kind {
-        Some(kind) => is_kind(first_counted(tree, node), kind),
+        Some(kind) => first_counted(tree, node).is_some_and(|own| own.is(kind)),
         None => true,
     }
 }
