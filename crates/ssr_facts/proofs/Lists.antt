@@ -1,15 +1,12 @@
 -- Lists, and what a test or a search finds in them.
-use Rattle.std.proofs.Common.{◌≡◌, ℕ, zero, suc, ◌+◌, ◌<◌, ◌⊎◌, List, [], ◌∷◌, ◌++◌, map, length, take, get_or, Bool, cond, true, false, ◌&&◌, Option, Some, None, refl, sym, ap, ◌∙◌, inl, inr, arith, append-nil}
+use Rattle.std.proofs.Common.{◌≡◌, ℕ, ◌+◌, List, [], ◌∷◌, ◌++◌, map, take, Bool, cond, true, false, ◌&&◌, Option, Some, None, refl, sym, ap, ◌∙◌, arith, append-nil}
 use Rattle.std.proofs.lemmas.List.{take_more}
 use Rattle.std.proofs.lemmas.Option.{slice_get_within, get_or_from_slice_get}
 use Rattle.std.specs.Prelude.{Contains, slice_get}
 use Rattle.std.proofs.lemmas.List.Elements.{filter_map-append}
+use Rattle.std.proofs.lemmas.List.Folds.{find-append}
 use Rattle.std.specs.List.{list_all, find, filter_map, cons_option}
 use Rattle.std.specs.Option.{option_map, option_or, option_to_list}
-
-pub all_of_map : {A B : Type 0} (test : B → Bool) (f : A → B) (xs : List A) → list_all test (map f xs) ≡ list_all (λ x. test (f x)) xs
-all_of_map test f [] = refl
-all_of_map test f (x ∷ xs) = ap (λ rest. test (f x) && rest) (all_of_map test f xs)
 
 pub all_alike : {A : Type 0} (p q : A → Bool) → ((x : A) → p x ≡ q x) → (xs : List A) → list_all p xs ≡ list_all q xs
 all_alike p q alike [] = refl
@@ -30,12 +27,7 @@ option_map-or f None b = refl
 option_map-or f (Some x) b = refl
 
 pub find_push : {A : Type 0} (test : A → Bool) (xs : List A) (y : A) → find test (xs ++ y ∷ []) ≡ option_or (find test xs) (cond (test y) (Some y) None)
-find_push test [] y = refl
-find_push test (x ∷ xs) y =
-    elim (test x) as (λ b. cond b (Some x) (find test (xs ++ y ∷ [])) ≡ option_or (cond b (Some x) (find test xs)) (cond (test y) (Some y) None)) [
-      | true ↦ refl
-      | false ↦ find_push test xs y
-    ]
+find_push test xs y = find-append test xs (y ∷ [])
 
 pub find_of_map : {A B : Type 0} (test : B → Bool) (f : A → B) (xs : List A) → find test (map f xs) ≡ option_map f (find (λ x. test (f x)) xs)
 find_of_map test f [] = refl
@@ -46,19 +38,6 @@ find_of_map test f (x ∷ xs) =
     ]
 
 -- ** What a list contains.
-
-pub among_head : {A : Type 0} (x : A) (xs : List A) → Contains (x ∷ xs) x
-among_head x xs = (0, omega arith, refl)
-
-pub among_tail : {A : Type 0} (x : A) (xs : List A) (y : A) → Contains xs y → Contains (x ∷ xs) y
-among_tail x xs y among = (suc among.0, omega (arith, among.1), among.2)
-
-pub among_cases : {A : Type 0} (x : A) (xs : List A) (y : A) → Contains (x ∷ xs) y → (x ≡ y) ⊎ Contains xs y
-among_cases {A} x xs y among = at among.0 among.1 among.2
-  where
-    at : (k : ℕ) → k < length (x ∷ xs) → get_or (x ∷ xs) k y ≡ y → (x ≡ y) ⊎ Contains xs y
-    at zero lt is = inl is
-    at (suc k) lt is = inr (k, omega arith, is)
 
 pub none_among : {A : Type 0} (y : A) → Contains [] y → ⊥
 none_among y among = omega (arith, among.1)

@@ -10,7 +10,8 @@ use Rattle.ssr_facts.specs.declared.scopes.Scope.{Scope}
 use Rattle.ssr_facts.specs.Scopes.{holds, size_of, shorter, shortest, scope_of}
 use Rattle.ssr_facts.specs.Private.Scopes.{scopes_in, AsGood, Holds, IsBest, id_of}
 use Rattle.ssr_facts.proofs.Best.{as_itself, good_good}
-use Rattle.ssr_facts.proofs.Lists.{among_head, among_tail, among_cases, none_among}
+use Rattle.ssr_syntax_tree.proofs.Lists.{at_front, at_back, front_or_back}
+use Rattle.ssr_facts.proofs.Lists.{none_among}
 
 -- a numbered row as a scope of its tree
 abbrev pub numbered : ℕ × PlaceRow → Scope
@@ -42,7 +43,7 @@ at_least t n (row ∷ rows) y among = by (row.tree == t) among (at_least t (n + 
         → (Contains (scopes_in t (n + 1) rows) y → n + 1 ≤ y.number) → n ≤ y.number
     by false among later = omega (arith, later among)
     by true among later =
-        elim (among_cases (numbered (n, row)) (scopes_in t (n + 1) rows) y among) [
+        elim (front_or_back (numbered (n, row)) y (scopes_in t (n + 1) rows) among) [
           | inl first ↦ omega (arith, ap (λ (u : Scope). u.number) first)
           | inr behind ↦ omega (arith, later behind)
         ]
@@ -52,14 +53,14 @@ at_least t n (row ∷ rows) y among = by (row.tree == t) among (at_least t (n + 
 module _ (start end : ℕ) (x : Scope) (xs : List Scope) where
   -- one that doesn't hold the span
   best_passed : (best : Option Scope) → (Holds start end x → ⊥) → IsBest start end xs best → IsBest start end (x ∷ xs) best
-  best_passed None not none = λ y among holds. elim (among_cases x xs y among) [
+  best_passed None not none = λ y among holds. elim (front_or_back x y xs among) [
     | inl first ↦ not (subst (Holds start end) (sym first) holds)
     | inr behind ↦ none y behind holds
   ]
   best_passed (Some v) not is = (
-    among_tail x xs v is.0,
+    at_back x v xs is.0,
     is.1,
-    λ y among holds. elim (among_cases x xs y among) [
+    λ y among holds. elim (front_or_back x y xs among) [
       | inl first ↦ absurd (not (subst (Holds start end) (sym first) holds))
       | inr behind ↦ is.2 y behind holds
     ],
@@ -68,9 +69,9 @@ module _ (start end : ℕ) (x : Scope) (xs : List Scope) where
   -- one that holds it, where no other one does
   best_alone : Holds start end x → IsBest start end xs None → IsBest start end (x ∷ xs) (Some x)
   best_alone here none = (
-    among_head x xs,
+    at_front x xs,
     here,
-    λ y among holds. elim (among_cases x xs y among) [
+    λ y among holds. elim (front_or_back x y xs among) [
       | inl first ↦ subst (AsGood x) first (as_itself x)
       | inr behind ↦ absurd (none y behind holds)
     ],
@@ -79,9 +80,9 @@ module _ (start end : ℕ) (x : Scope) (xs : List Scope) where
   -- or where it is as good as the best one
   best_first : (v : Scope) → Holds start end x → AsGood x v → IsBest start end xs (Some v) → IsBest start end (x ∷ xs) (Some x)
   best_first v here good is = (
-    among_head x xs,
+    at_front x xs,
     here,
-    λ y among holds. elim (among_cases x xs y among) [
+    λ y among holds. elim (front_or_back x y xs among) [
       | inl first ↦ subst (AsGood x) first (as_itself x)
       | inr behind ↦ good_good x v y good (is.2 y behind holds)
     ],
@@ -90,9 +91,9 @@ module _ (start end : ℕ) (x : Scope) (xs : List Scope) where
   -- or where that one is as good as it
   best_later : (v : Scope) → AsGood v x → IsBest start end xs (Some v) → IsBest start end (x ∷ xs) (Some v)
   best_later v good is = (
-    among_tail x xs v is.0,
+    at_back x v xs is.0,
     is.1,
-    λ y among holds. elim (among_cases x xs y among) [
+    λ y among holds. elim (front_or_back x y xs among) [
       | inl first ↦ subst (AsGood v) first good
       | inr behind ↦ is.2 y behind holds
     ],

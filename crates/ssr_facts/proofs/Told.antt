@@ -1,5 +1,6 @@
 -- Tables that are made of the rows of a facts file mean what these tell.
 use Rattle.std.proofs.Common.{◌≡◌, ℕ, List, [], ◌∷◌, ◌++◌, map, Bool, cond, true, false, ◌&&◌, Option, Some, None, string_bytes, refl, sym, ap, ◌∙◌}
+use Rattle.std.proofs.lemmas.List.Folds.{list_all-map}
 use Rattle.std.specs.Prelude.{filter, is_some, Vec}
 use Rattle.std.specs.Global.{Global}
 use Rattle.std.specs.BTreeMap.{is_at}
@@ -30,7 +31,7 @@ use Rattle.ssr_facts.specs.Told as told
 use Rattle.ssr_facts.specs.Private.Nodes.{types_at}
 use Rattle.ssr_facts.specs.Private.Reading.{rows_named}
 use Rattle.ssr_facts.specs.Private.Rows.{name_told, member_told, printed_told, path_told, method_told, types_told}
-use Rattle.ssr_facts.proofs.Lists.{find_of_map, all_of_map, all_alike}
+use Rattle.ssr_facts.proofs.Lists.{find_of_map, all_alike}
 use Rattle.ssr_facts.proofs.Places.{place_ties}
 use Rattle.ssr_facts.proofs.Rows.{lookup_alike}
 
@@ -189,11 +190,11 @@ named_by_rows w rows path call paths calls =
     let facts = plain_facts rows in
     λ i.
     list_all (λ row. is_tree w row.tree) rows.scopes.items
-    && (sym (all_of_map (λ row. is_scope facts row.scope && is_resolution facts row.resolution) plain_name rows.names.items) i
-    && (sym (all_of_map (λ row. is_scope facts row.scope && (is_definition facts row.definition && is_definition facts row.member)) plain_member rows.members.items) i
+    && (sym (list_all-map (λ row. is_scope facts row.scope && is_resolution facts row.resolution) plain_name rows.names.items) i
+    && (sym (list_all-map (λ row. is_scope facts row.scope && (is_definition facts row.definition && is_definition facts row.member)) plain_member rows.members.items) i
     && (all_alike (λ row. is_some (path row.place) && is_resolution facts row.resolution) (λ row. is_some (node_at w k.PATH row.place) && is_resolution facts row.resolution)
     (λ row. ap (λ o. is_some o && is_resolution facts row.resolution) (paths row.place)) rows.paths.items i
     && (all_alike (λ row. is_some (call row.place) && is_definition facts row.definition) (λ row. is_some (node_at w k.METHOD_CALL_EXPR row.place) && is_definition facts row.definition)
     (λ row. ap (λ o. is_some o && is_definition facts row.definition) (calls row.place)) rows.methods.items i
-    && (sym (all_of_map (λ row. is_tree w row.place.tree) plain_type rows.types.items) i
-    && sym (all_of_map (λ row. is_scope facts row.scope && is_definition facts row.definition) plain_printed rows.printed.items) i)))))
+    && (sym (list_all-map (λ row. is_tree w row.place.tree) plain_type rows.types.items) i
+    && sym (list_all-map (λ row. is_scope facts row.scope && is_definition facts row.definition) plain_printed rows.printed.items) i)))))

@@ -174,10 +174,8 @@ fn told(alloc: Global, mut rows: FactRows) -> Result<Facts, FactsError>
     requires { AreOrdered (plain_facts rows) }
     ensures { Answers (Ok (plain_facts rows)) result }
 {
-    let files = taken(alloc, &mut rows.files);
-    let calls = taken(alloc, &mut rows.expansions);
-    let (names, texts) = names_and_texts(alloc, files)?;
-    let expansions = expansions(alloc, calls)?;
+    let expansions = expansions(alloc, taken(alloc, &mut rows.expansions))?;
+    let (names, texts) = names_and_texts(alloc, taken(alloc, &mut rows.files))?;
     let workspace = workspace(alloc, texts, expansions)?;
     let position = position(rows.position);
     let ranges = file_ranges(alloc, &rows.ranges)?;
@@ -200,6 +198,5 @@ fn told(alloc: Global, mut rows: FactRows) -> Result<Facts, FactsError>
 pub fn read(alloc: Global, bytes: &[u8]) -> Result<Facts, FactsError>
     ensures { Answers (facts_of bytes.now) result }
 {
-    let rows = read_rows(alloc, bytes)?;
-    told(alloc, rows)
+    told(alloc, read_rows(alloc, bytes)?)
 }

@@ -14,10 +14,8 @@ use std::collections::BTreeMap;
 pub(crate) fn first_from(kept: &BTreeMap<u32, Scope>, end: u32) -> Option<Scope>
     ensures { IsFirst (get nat_cmp kept.now) end result }
 {
-    match kept.range(end..).next() {
-        Some((_, scope)) => Some(*scope),
-        None => None,
-    }
+    let (_, scope) = kept.range(end..).next()?;
+    Some(*scope)
 }
 
 /// Whether one that is kept is as good as a scope, wherever that serves.

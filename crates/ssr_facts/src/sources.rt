@@ -39,15 +39,10 @@ pub(crate) fn names_and_texts(
 fn token(row: TokenRow) -> ExpToken
     ensures { row_of_token result ≡ token_told row }
 {
-    let TokenRow {
-        text,
-        joint,
-        origin,
-    } = row;
     ExpToken {
-        text,
-        joint,
-        origin: match origin {
+        text: row.text,
+        joint: row.joint,
+        origin: match row.origin {
             Some(SpanRow { start, end }) => Some(text_range(start, end)),
             None => None,
         },

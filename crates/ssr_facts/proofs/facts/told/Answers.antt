@@ -18,8 +18,8 @@ returns-in_err-workspace c =
     let told = err_from_is_err_and c.from_residual-in_err-workspace.result c.from_residual-in_err-workspace.ensures.1 in
     let sources =
     sources_are rows c.requires texts xs
-    (c.in_ok-names.ensures.texts ∙ ap (λ v. map (λ (file : FileRow). file.text) v.items) c.taken-files.ensures)
-    (c.in_ok-expansions.ensures ∙ ap (λ v. map expansion_told v.items) c.taken-calls.ensures) in
+    (c.in_ok-names.ensures.texts ∙ ap (λ v. map (λ (file : FileRow). file.text) v.items) c.taken-2.ensures)
+    (c.in_ok-expansions.ensures ∙ ap (λ v. map expansion_told v.items) c.taken.ensures) in
     subst (Answers (Ok (plain_facts rows))) (sym told.1)
     (refused (plain_facts rows) texts xs sources told.0 (subst (λ e. Builds texts xs (Err e)) (sym told.2) c.in_err-workspace.ensures))
 
@@ -31,15 +31,15 @@ returns-in-Some c =
     let meant = subst (λ o. IsToldIfNamed c.in_ok-workspace.workspace (plain_facts rows) (option_map provided o)) c.in-Some.is c.in_ok-semantics.ensures in
     answered_facts (plain_facts rows) texts xs
     (sources_are rows c.requires texts xs
-    (c.in_ok-names.ensures.texts ∙ ap (λ v. map (λ (file : FileRow). file.text) v.items) c.taken-files.ensures)
-    (c.in_ok-expansions.ensures ∙ ap (λ v. map expansion_told v.items) c.taken-calls.ensures))
+    (c.in_ok-names.ensures.texts ∙ ap (λ v. map (λ (file : FileRow). file.text) v.items) c.taken-2.ensures)
+    (c.in_ok-expansions.ensures ∙ ap (λ v. map expansion_told v.items) c.taken.ensures))
     c.in_ok-workspace.workspace c.in_ok-workspace.ensures _ meant.0
     (record {
       workspace = refl;
       meanings = meant.1;
       names =
           names_are rows c.in_ok-names.names.items
-          (c.in_ok-names.ensures.names ∙ ap (λ v. map (λ (file : FileRow). file.name) v.items) c.taken-files.ensures);
+          (c.in_ok-names.ensures.names ∙ ap (λ v. map (λ (file : FileRow). file.name) v.items) c.taken-2.ensures);
       position = c.position-position.ensures;
       ranges = c.in_ok-ranges.ensures ∙ ap (map range_told) c.deref.ensures.value ∙ c.requires.ranges;
     })
@@ -51,7 +51,7 @@ returns-in-None c =
     let xs = c.in_ok-expansions.expansions.items in
     answered_shape (plain_facts rows) texts xs
     (sources_are rows c.requires texts xs
-    (c.in_ok-names.ensures.texts ∙ ap (λ v. map (λ (file : FileRow). file.text) v.items) c.taken-files.ensures)
-    (c.in_ok-expansions.ensures ∙ ap (λ v. map expansion_told v.items) c.taken-calls.ensures))
+    (c.in_ok-names.ensures.texts ∙ ap (λ v. map (λ (file : FileRow). file.text) v.items) c.taken-2.ensures)
+    (c.in_ok-expansions.ensures ∙ ap (λ v. map expansion_told v.items) c.taken.ensures))
     c.in_ok-workspace.workspace c.in_ok-workspace.ensures
     (subst (λ o. IsToldIfNamed c.in_ok-workspace.workspace (plain_facts rows) (option_map provided o)) c.in-None.is c.in_ok-semantics.ensures)
