@@ -1,6 +1,6 @@
 -- How the macro call at a range is found: nodes begin one behind another, and the first ones that begin before the range are passed.
-use Rattle.std.proofs.Common.{◌≡◌, ℕ, zero, suc, ◌+◌, ◌-◌, ◌<◌, ◌≤◌, ◌==◌, ◌&&◌, Bool, true, false, cond, drop, Some, None, refl, sym, ap, ◌∙◌, inl, inr, arith, ne_eqb}
-use Rattle.std.proofs.lemmas.Bool.{cases_lt, cases_eq}
+use Rattle.std.proofs.Common.{◌≡◌, ℕ, zero, suc, ◌+◌, ◌-◌, ◌<◌, ◌≤◌, ◌==◌, Bool, true, false, cond, drop, Some, None, refl, sym, ap, ◌∙◌, inl, inr, arith, ne_eqb}
+use Rattle.std.proofs.lemmas.Bool.{cases_lt, cases_eq, and_left, and_right}
 use Rattle.std.proofs.lemmas.List.{drop_all}
 use Rattle.std.specs.List.{find}
 use Rattle.ssr_syntax_kinds.specs.Kinds.{same_kind}
@@ -68,18 +68,11 @@ module _ (test : Node → Bool) (syntax : Syntax) where
 
 -- ** The test for a call.
 
-and_false_left : (a b : Bool) → a ≡ false → (a && b) ≡ false
-and_false_left a b e = ap (λ c. c && b) e
-
-and_false_right : (a b : Bool) → b ≡ false → (a && b) ≡ false
-and_false_right true b e = e
-and_false_right false b e = refl
-
 -- a node that begins elsewhere is no call of this range
 pub no_call_elsewhere : (syntax : Syntax) (range : TextRange) (node : Node) → (start_of syntax node ≡ range.start → ⊥) → is_call syntax range node ≡ false
 no_call_elsewhere syntax range node other =
-    and_false_left _ (end_of syntax node == range.end)
-    (and_false_right (same_kind node.kind k.MACRO_CALL) _ (ne_eqb (start_of syntax node) range.start other))
+    and_left _ (end_of syntax node == range.end)
+    (and_right (same_kind node.kind k.MACRO_CALL) _ (ne_eqb (start_of syntax node) range.start other))
 
 -- ** The steps.
 

@@ -11,3 +11,9 @@ returns-clause-answer c =
       subst (IsReplaced 0 c.args.text.now c.args.self.now) (sym c.in_ok-written.ensures)
           (IsReplaced-replaced c.args.text.now 0 c.args.self.now c.fits.ensures.order (omega arith) fit),
     )
+
+pub returns-then-not-fits-clause-answer : goal.returns-then-not-fits-clause-answer
+returns-then-not-fits-clause-answer c = λ fit. search (rules, c.if-not-fits.ensures.fits.1 fit) steps 200000
+
+pub returns-then-not-fits-clause-text : goal.returns-then-not-fits-clause-text
+returns-then-not-fits-clause-text c = tt

@@ -12,3 +12,6 @@ overflow_add-result c =
     let found : position_from (λ e. same_id c.args.call e.call) 0 expansions ≡ Some c.in-Some.number.now = search rules steps 200000 in
     let files = ap (λ w. length w.files) c.self.view_is in
     omega (arith, files, position_within (λ e. same_id c.args.call e.call) 0 c.in-Some.number.now expansions found, c.self.invariant.few, length-map c.self.inside.expansions.items expanded_of)
+
+pub returns-in-Some : goal.returns-in-Some
+returns-in-Some c = search rules steps 500000
