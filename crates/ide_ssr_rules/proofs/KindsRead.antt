@@ -4,6 +4,7 @@ use Rattle.std.specs.List.{list_any, filter}
 use Rattle.std.specs.Option.{option_map, option_and_then, option_or}
 use Rattle.std.specs.Result.{result_ok}
 use Rattle.std.proofs.lemmas.List.Elements.{All-filter}
+use Rattle.std.proofs.lemmas.Option.{same_Some}
 use Rattle.ssr_syntax.specs.declared.fragments.Fragment.{Fragment}
 use Rattle.ssr_syntax.specs.declared.fragments.Fragment.TheVariants as fragments
 use Rattle.ssr_syntax.specs.declared.syntax_error.SyntaxError.{SyntaxError}
@@ -14,9 +15,6 @@ use Rattle.ide_ssr_rules.specs.declared.kinds.ReadSide.{ReadSide}
 use Rattle.ide_ssr_rules.specs.Kinds.{side_in, read_in, template_in, with_template, without_template, kind_with, kind_in, categories, read_kinds, has_path, kinds_of}
 use Rattle.ide_ssr_rules.proofs.Lists.{all_given}
 
-some_same : {X : Type 0} (one other : X) → Some one ≡ Some other → one ≡ other
-some_same one other h = cc
-
 -- a side's tree is what its text is read as
 abbrev IsReadFrom : List ℕ → ReadSide → Type 0
 IsReadFrom text side = fragment_reading side.category text ≡ Ok side.tree
@@ -24,7 +22,7 @@ IsReadFrom text side = fragment_reading side.category text ≡ Ok side.tree
 read_by : (category : Fragment) (text : List ℕ) (r : Result Syntax SyntaxError) (side : ReadSide) → fragment_reading category text ≡ r
     → option_map (side_in category) (result_ok r) ≡ Some side → IsReadFrom text side
 read_by category text (Ok tree) side is h =
-    subst (IsReadFrom text) (some_same (side_in category tree) side h) is
+    subst (IsReadFrom text) (same_Some (side_in category tree) side h) is
 read_by category text (Err error) side is h = cc
 
 side_read : (category : Fragment) (text : List ℕ) (side : ReadSide) → read_in category text ≡ Some side → IsReadFrom text side
@@ -61,13 +59,13 @@ module _ (pattern : List ℕ) where
       → IsKindFrom pattern (Some template) kind
   beside template one None kind is are h = cc
   beside template one (Some side) kind is are h =
-      subst (IsKindFrom pattern (Some template)) (some_same (with_template one.tree side) kind h)
+      subst (IsKindFrom pattern (Some template)) (same_Some (with_template one.tree side) kind h)
       (record { category = one.category; pattern_read = is; template_read = are side refl })
 
   kind_from : (template : Option (List ℕ)) (one : ReadSide) (kind : ParsedRule) → IsReadFrom pattern one → kind_with template one ≡ Some kind
       → IsKindFrom pattern template kind
   kind_from None one kind is h =
-      subst (IsKindFrom pattern None) (some_same (without_template one) kind h)
+      subst (IsKindFrom pattern None) (same_Some (without_template one) kind h)
       (record { category = one.category; pattern_read = is; template_read = tt })
   kind_from (Some template) one kind is h =
       beside template one (template_in one.category template) kind is (template_from one.category template) h

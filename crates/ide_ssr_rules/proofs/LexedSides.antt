@@ -9,7 +9,7 @@ use Rattle.std.specs.List.{All, AllByRecursion}
 use Rattle.std.specs.Str.{IsCharBoundary}
 use Rattle.std.proofs.lemmas.Bool.Decides.{nat_tests}
 use Rattle.ssr_syntax_lex.specs.declared.tokens.RawToken.{RawToken}
-use Rattle.ssr_syntax_lex.specs.Tokens.{tokens, fault, TilesFrom, Tiles}
+use Rattle.ssr_syntax_lex.specs.Tokens.{tokens, fault, HasNoTokens, TellsFault, TilesFrom, Tiles}
 use Rattle.ssr_syntax.specs.Reading.{pieces, IsLexFault}
 use Rattle.ssr_syntax.specs.declared.syntax_error.SyntaxError.{SyntaxError}
 use Rattle.ssr_syntax.specs.declared.syntax_error.SyntaxError.TheVariants as unread
@@ -18,6 +18,7 @@ use Rattle.ide_ssr_rules.specs.Elements.{lexed, fault_in, side, elements}
 use Rattle.ide_ssr_refusals.specs.declared.refusals.Refusal.TheVariants as r
 use Rattle.std.specs.Option.{option_map, option_map_or}
 use Rattle.std.specs.Prelude.{unwrap_or}
+use Rattle.ssr_syntax_lex.specs.declared.tokens.LexError.{LexError}
 use Rattle.ssr_syntax_lex.specs.declared.tokens.LexError.TheVariants as errors
 use Rattle.ssr_syntax_lex.specs.Fault.{error_words}
 
@@ -54,7 +55,7 @@ unfolding lexed
 lexed-lacking text short is =
     ap (λ b. cond b (option_map (pieces text) (tokens text)) None) (lt-ltb (length text) (2 ^ 32) short) ∙ ap (option_map (pieces text)) is
 
-pub lexed-fault : (text words : List ℕ) → length text < 2 ^ 32 → tokens text ≡ None → fault text ≡ Some words → IsFault text words
+lexed-fault : (text words : List ℕ) → length text < 2 ^ 32 → tokens text ≡ None → fault text ≡ Some words → IsFault text words
 unfolding fault_in
 lexed-fault text words short is told =
     let shorter = lt-ltb (length text) (2 ^ 32) short in (
@@ -62,13 +63,19 @@ lexed-fault text words short is told =
       sym (ap (λ b. cond b (unwrap_or (fault text) []) (error_words errors.TooLong)) shorter ∙ ap (λ o. unwrap_or o []) told),
     )
 
-pub lexed-long : (text : List ℕ) → 2 ^ 32 ≤ length text → IsFault text (error_words errors.TooLong)
+lexed-long : (text : List ℕ) → 2 ^ 32 ≤ length text → IsFault text (error_words errors.TooLong)
 unfolding lexed fault_in
 lexed-long text long =
     let not_short : nat_lt (length text) (2 ^ 32) ≡ false = grind (arith, nat_tests) in (
       ap (λ b. cond b (option_map (pieces text) (tokens text)) None) not_short,
       sym (ap (λ b. cond b (unwrap_or (fault text) []) (error_words errors.TooLong)) not_short),
     )
+
+-- what the lexer refuses, but for want of memory
+pub lexed-refused : (text : List ℕ) (e : LexError) → HasNoTokens e text → TellsFault {R = List RawToken} (Err e) text → e ≢ errors.Memory → IsFault text (error_words e)
+lexed-refused text (errors.Fault told) none is other = lexed-fault text (error_words (errors.Fault told)) none.0 none.1 is
+lexed-refused text errors.TooLong none is other = lexed-long text none
+lexed-refused text errors.Memory none is other = absurd (other refl)
 
 -- what isn't lexed has no tokens
 pub lexed_none : (text : List ℕ) (e : SyntaxError) → e ≢ unread.Memory → IsLexFault text e → lexed text ≡ None

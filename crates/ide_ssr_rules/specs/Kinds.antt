@@ -1,18 +1,15 @@
 -- The kinds of a rule: as what its sides, with stand-ins for placeholders, are read.
-use Rattle.std.specs.Prelude.{ℕ, refl, Bool, List, [], ◌∷◌, filter, Option, Some, None, Result, Ok, Err, if◌then◌else◌}
+use Rattle.std.specs.Prelude.{ℕ, Bool, List, [], ◌∷◌, filter, Option, Some, None, Result, Ok, Err, if◌then◌else◌}
 use Rattle.std.specs.List.{list_any, filter_map}
 use Rattle.std.specs.Option.{option_map, option_and_then, option_or}
 use Rattle.std.specs.Result.{result_ok}
-use Rattle.std.specs.Coded.{Coded, code_by, coded×, coded_option}
 use Rattle.ssr_syntax_kinds.specs.Kinds.{same_kind}
 use Rattle.ssr_syntax_kinds.specs.declared.kinds.SyntaxKind.TheVariants.{PATH}
-use Rattle.ssr_syntax.specs.contracts.fragments.Fragment as fragment
 use Rattle.ssr_syntax.specs.declared.fragments.Fragment.{Fragment}
 use Rattle.ssr_syntax.specs.declared.fragments.Fragment.TheVariants as fragments
 use Rattle.ssr_syntax.specs.Reading.{fragment_reading}
 use Rattle.ssr_syntax_tree.specs.Places.{nodes_of}
 use Rattle.ssr_syntax_tree.specs.Syntax.{Syntax}
-use Rattle.ssr_syntax_tree.specs.SyntaxCode.{syntax_code}
 use Rattle.ide_ssr_rules.specs.declared.kinds.ParsedRule.{ParsedRule}
 use Rattle.ide_ssr_rules.specs.declared.kinds.ReadSide.{ReadSide}
 use Rattle.ide_ssr_refusals.specs.declared.refusals.Refusal.TheVariants as r
@@ -72,10 +69,3 @@ kinds_of pattern template = prefer_paths (read_kinds pattern template)
 abbrev pub some_kind : List ParsedRule → Result (List ParsedRule) Refusal
 some_kind [] = Err r.NoKind
 some_kind (kind ∷ kinds) = Ok (kind ∷ kinds)
-
--- how the logic stores a kind
-abbrev pub kind_code : Coded ParsedRule
-kind_code =
-    code_by (Fragment × (Syntax × Option Syntax)) (coded× fragment.the_row.coded (coded× syntax_code (coded_option syntax_code)))
-    (λ kind. (kind.category, (kind.pattern, kind.template)))
-    (λ p. record { category = p.0; pattern = p.1.0; template = p.1.1 }) (λ _. refl)

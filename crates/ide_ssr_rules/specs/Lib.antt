@@ -6,6 +6,7 @@ pub mod StandIns
 pub mod MacroCalls
 pub mod Kinds
 pub mod Rules
+pub mod RuleCode
 pub mod Uses
 pub mod Patterns
 pub mod Private

@@ -1,17 +1,15 @@
 -- Rules: the names of their placeholders, what each of these asks, and a pattern and a template for each kind that they can be read as. A search
 -- pattern is a rule without a template.
-use Rattle.std.specs.Prelude.{ℕ, refl, not, List, [], ◌∷◌, ◌++◌, Option, Some, None, Result, Ok, Err, unwrap_or, if◌then◌else◌}
+use Rattle.std.specs.Prelude.{ℕ, not, List, [], ◌∷◌, ◌++◌, Option, Some, None, Result, Ok, Err, unwrap_or, if◌then◌else◌}
 use Rattle.std.specs.List.{filter, list_any}
 use Rattle.std.specs.Option.{option_map}
-use Rattle.std.specs.Coded.{Coded, code_by, coded×, coded_list, coded_ℕ}
 use Rattle.std.specs.Str.{trim}
-use Rattle.ide_ssr_constraints.specs.contracts.constraints.Constraint as constraint
 use Rattle.ide_ssr_constraints.specs.declared.constraints.Constraint.{Constraint}
 use Rattle.ide_ssr_rules.specs.declared.elements.Element.{Element}
 use Rattle.ide_ssr_rules.specs.declared.kinds.ParsedRule.{ParsedRule}
 use Rattle.ide_ssr_refusals.specs.declared.refusals.Refusal.TheVariants as r
 use Rattle.ide_ssr_rules.specs.Elements.{has, side, names_of, constraints_of, is_constrained}
-use Rattle.ide_ssr_rules.specs.Kinds.{kinds_of, some_kind, kind_code}
+use Rattle.ide_ssr_rules.specs.Kinds.{kinds_of, some_kind}
 use Rattle.ide_ssr_rules.specs.Listed.{listed}
 use Rattle.ide_ssr_rules.specs.MacroCalls.{untested}
 use Rattle.ide_ssr_refusals.specs.declared.refusals.Refusal.{Refusal}
@@ -23,13 +21,6 @@ pub record Rule : Type 0 where
   pub names : List (List ℕ)
   pub constraints : List (List Constraint)
   pub kinds : List ParsedRule
-
--- how the logic stores a rule
-abbrev pub rule_code : Coded Rule
-rule_code =
-    code_by (List (List ℕ) × (List (List Constraint) × List ParsedRule))
-    (coded× (coded_list (coded_list coded_ℕ)) (coded× (coded_list (coded_list constraint.the_row.coded)) (coded_list kind_code)))
-    (λ rule. (rule.names, (rule.constraints, rule.kinds))) (λ p. record { names = p.0; constraints = p.1.0; kinds = p.1.1 }) (λ _. refl)
 
 -- names that a template uses and the pattern lacks
 abbrev pub lacking : List (List ℕ) → List (List ℕ) → List (List ℕ)

@@ -39,7 +39,8 @@ pub struct ParsedKinds {
 
 impl Model for ParsedKinds {
     ghost use Rattle.std.specs.Prelude.{◌<◌, ◌^◌, All, length, map, string_bytes};
-    ghost use Rattle.ide_ssr_rules.specs.Rules.{Rule, rule_code};
+    ghost use Rattle.ide_ssr_rules.specs.Rules.{Rule};
+    ghost use Rattle.ide_ssr_rules.specs.RuleCode.{rule_code};
 
     ghost Value = { Rule };
 
@@ -87,7 +88,8 @@ pub struct SsrRule {
 }
 
 impl Model for SsrRule {
-    ghost use Rattle.ide_ssr_rules.specs.Rules.{Rule, rule_code};
+    ghost use Rattle.ide_ssr_rules.specs.Rules.{Rule};
+    ghost use Rattle.ide_ssr_rules.specs.RuleCode.{rule_code};
 
     ghost Value = { Rule };
 
@@ -114,7 +116,8 @@ pub struct SsrPattern {
 }
 
 impl Model for SsrPattern {
-    ghost use Rattle.ide_ssr_rules.specs.Rules.{Rule, rule_code};
+    ghost use Rattle.ide_ssr_rules.specs.Rules.{Rule};
+    ghost use Rattle.ide_ssr_rules.specs.RuleCode.{rule_code};
 
     ghost Value = { Rule };
 

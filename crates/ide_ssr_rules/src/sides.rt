@@ -7,8 +7,9 @@ ghost use Rattle.ide_ssr_rules.specs.Sides.{sides};
 use crate::constraints::{Placeholder, read_placeholder};
 use crate::elements::Element;
 use crate::names::Names;
-use crate::tokens::{Token, Tokens, Unlexed, lexed};
+use crate::tokens::{Token, Tokens, lexed};
 use ide_ssr_refusals::{Fault, Refusal, SsrError, Text};
+use ssr_syntax_lex::LexError;
 use std::alloc::{AllocError, Global};
 
 const DELIMITER: &str = "==>>";
@@ -69,8 +70,10 @@ pub(crate) fn side<'a>(alloc: Global, text: &'a str) -> Result<Vec<Element<'a>>,
 {
     match lexed(alloc, text) {
         Ok(tokens) => elements(alloc, tokens),
-        Err(Unlexed::Fault(fault)) => Err(Refusal::LexerFault(Fault(fault)).told(alloc)),
-        Err(Unlexed::Memory) => Err(SsrError::Memory),
+        Err(error) => match error {
+            LexError::Memory => Err(SsrError::Memory),
+            _ => Err(Refusal::LexerFault(Fault(error)).told(alloc)),
+        },
     }
 }
 

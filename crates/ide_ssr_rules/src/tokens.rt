@@ -116,33 +116,17 @@ impl<'a> Model for Name<'a> {
     ghost view = { λ name. name.text.now };
 }
 
-/// Why a text has no tokens.
-#[derive(Drop)]
-pub(crate) enum Unlexed {
-    /// The lexer refuses it; this is never its want of memory.
-    Fault(LexError),
-    /// Memory ran out.
-    Memory,
-}
-
 /// The tokens of a text.
-pub(crate) fn lexed<'a>(alloc: Global, text: &'a str) -> Result<Vec<Token<'a>>, Unlexed>
+pub(crate) fn lexed<'a>(alloc: Global, text: &'a str) -> Result<Vec<Token<'a>>, LexError>
     ensures value { IsLexed result text.now }
     ensures few { IfOk result (λ v. length v.items < 2 ^ 32) }
 {
-    let raw = match lex(alloc, text) {
-        Ok(raw) => raw,
-        Err(LexError::Memory) => return Err(Unlexed::Memory),
-        Err(LexError::TooLong) => return Err(Unlexed::Fault(LexError::TooLong)),
-        Err(LexError::Fault(fault)) => return Err(Unlexed::Fault(LexError::Fault(fault))),
-    };
+    let raw = lex(alloc, text)?;
     let mut tokens = Vec::new(alloc);
     for token in raw.as_slice() {
         let kind = token.kind;
         let text = &text[token.range.start as usize..token.range.end as usize];
-        if tokens.push(Token { kind, text }).is_err() {
-            return Err(Unlexed::Memory);
-        }
+        tokens.push(Token { kind, text })?;
     }
     Ok(tokens)
 }

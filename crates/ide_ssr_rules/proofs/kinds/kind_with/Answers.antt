@@ -9,3 +9,6 @@ returns-in_default c = search rules steps 500000
 
 pub returns-in_err-side : goal.returns-in_err-side
 returns-in_err-side c = search rules steps 500000
+
+pub returns-in_default-2 : goal.returns-in_default-2
+returns-in_default-2 c = search rules steps 500000

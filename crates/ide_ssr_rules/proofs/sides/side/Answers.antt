@@ -10,8 +10,5 @@ returns-in-Ok c = record {
   few = IfOk-weaker c.elements.result (λ v. length v.items ≤ length c.in-Ok.tokens.items) (λ v. length v.items < 2 ^ 32) (λ v fewer. omega (arith, fewer, c.in-Ok.ensures.few)) c.elements.ensures.few;
 }
 
-pub returns-in-Err-Fault : goal.returns-in-Err-Fault
-returns-in-Err-Fault c = record {
-  value = (let h = rw c.in-Err-Fault.field-0-is at c.in-Err-Fault.ensures in tells_refusal _ _ _ (side-fault _ _ h.value) c.told.ensures);
-  few = tt;
-}
+pub returns-in_default : goal.returns-in_default
+returns-in_default c = record { value = tells_refusal _ _ _ (side-fault _ _ (c.in-Err.ensures.value c.in_default.not-Memory)) c.told.ensures; few = tt }
