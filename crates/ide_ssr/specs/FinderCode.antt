@@ -5,7 +5,8 @@ use Rattle.ssr_base.specs.declared.ids.NodeId.{NodeId}
 use Rattle.ssr_base.specs.Origins.{Span}
 use Rattle.ssr_base.specs.Workspace.{Workspace, FileSpan}
 use Rattle.ssr_base.specs.WorkspaceCode.{span_code, id_code, workspace_code}
-use Rattle.ide_ssr_resolving.specs.Resolved.{ResolvedKind, resolved_code}
+use Rattle.ide_ssr_resolving.specs.Resolved.{ResolvedKind}
+use Rattle.ide_ssr_resolving.specs.ResolvedCode.{resolved_code}
 use Rattle.ide_ssr_search.specs.Context.{Context}
 use Rattle.ide_ssr.specs.Finder.{FinderWith}
 

@@ -1,6 +1,6 @@
 -- The walk over a tree: by numbers, what it has come to, and that this is what is defined.
 use Rattle.std.proofs.Common.{◌≡◌, ℕ, zero, suc, ◌+◌, ◌<◌, ◌≤◌, Bool, true, false, ◌&&◌, not, List, [], ◌∷◌, ◌++◌, All, length, take, drop, take-append-drop, get_or, Some, None, Result, Ok, Err, refl, sym, ap, ◌∙◌, subst, arith, inl, inr, append-nil}
-use Rattle.std.proofs.lemmas.Bool.{cases_eq, cases_lt, ltb-true, lt-ltb}
+use Rattle.std.proofs.lemmas.Bool.{and_parts, cases_eq, cases_lt, ltb-true, lt-ltb}
 use Rattle.std.proofs.lemmas.List.{take_all, take_more, get_or_default}
 use Rattle.std.proofs.lemmas.List.Elements.{All-append, All-cons, All-nil, filter-append, filter_map-append}
 use Rattle.std.proofs.lemmas.List.Folds.{find-append, list_any_none, list_any-from_Any}
@@ -27,10 +27,6 @@ not_both : (a b : Bool) → (a ≡ true → b ≡ true → ⊥) → (a && b) ≡
 not_both false b never = refl
 not_both true false never = refl
 not_both true true never = absurd (never refl refl)
-
-both : (a b : Bool) → (a && b) ≡ true → (a ≡ true) × (b ≡ true)
-both true b is = (refl, is)
-both false b is = let wrong : false ≡ true = is in cc
 
 abbrev pub path_at : ℕ → Res → UsedPath
 path_at n res = record { node = record { 0 = n }; res = res }
@@ -66,7 +62,7 @@ module _ (m : Meanings) (scope : ScopeId) (names : List (List ℕ)) (s : Syntax)
   above_is k n has other is =
       let a = node_of s k in
       let b = node_of s n in
-      let p = both (nat_lt a.number b.number) (nat_lt b.number (a.number + size_of a)) is in
+      let p = and_parts (nat_lt a.number b.number) (nat_lt b.number (a.number + size_of a)) is in
       let low = ltb-true a.number b.number p.0 in
       let high = ltb-true b.number (a.number + size_of a) p.1 in
       (omega (arith, low, node_of-number s k has, node_of-number s n other), omega (arith, high, node_of-number s k has, node_of-number s n other))

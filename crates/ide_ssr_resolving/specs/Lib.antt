@@ -6,5 +6,6 @@ pub mod QualifiedCalls
 pub mod Eligible
 pub mod Placeholders
 pub mod Resolved
+pub mod ResolvedCode
 pub mod Patterns
 pub mod Private

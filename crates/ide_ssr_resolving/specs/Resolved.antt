@@ -1,26 +1,20 @@
 -- Which rules resolve, and what of a rule is used then.
-use Rattle.std.specs.Prelude.{ℕ, refl, Bool, List, [], ◌∷◌, Option, Result, Ok, Err, slice_index_or}
-use Rattle.std.specs.Coded.{Coded, code_by, coded×, coded_list, coded_option, coded_ℕ}
+use Rattle.std.specs.Prelude.{ℕ, Bool, List, [], ◌∷◌, Option, Result, Ok, Err, slice_index_or}
 use Rattle.std.specs.Option.{option_map_or}
 use Rattle.ssr_syntax_kinds.specs.declared.kinds.SyntaxKind.{SyntaxKind}
-use Rattle.ssr_syntax.specs.contracts.fragments.Fragment as fragment
 use Rattle.ssr_syntax.specs.declared.fragments.Fragment.{Fragment}
 use Rattle.ssr_syntax_tree.specs.declared.number.NodeNo.{NodeNo}
 use Rattle.ssr_syntax_tree.specs.Places.{node_of, text_of}
 use Rattle.ssr_syntax_tree.specs.Syntax.{Syntax}
-use Rattle.ssr_syntax_tree.specs.SyntaxCode.{syntax_code}
 use Rattle.ssr_base.specs.declared.ids.ScopeId.{ScopeId}
 use Rattle.ssr_base.specs.Meanings.{Meanings}
-use Rattle.ide_ssr_constraints.specs.contracts.constraints.Constraint as constraint
 use Rattle.ide_ssr_constraints.specs.declared.constraints.Constraint.{Constraint}
 use Rattle.ide_ssr_rules.specs.declared.kinds.ParsedRule.{ParsedRule}
 use Rattle.ide_ssr_constraints.specs.Constraints.{are_met}
 use Rattle.ide_ssr_refusals.specs.declared.refusals.Refusal.TheVariants as r
 use Rattle.ide_ssr_refusals.specs.declared.refusals.Refusal.{Refusal}
 use Rattle.ide_ssr_refusals.specs.Refusals.{◌>>=◌}
-use Rattle.ide_ssr_resolving.specs.contracts.used.UsedPath as path
 use Rattle.ide_ssr_resolving.specs.declared.used.UsedPath.{UsedPath}
-use Rattle.ide_ssr_resolving.specs.contracts.qualified_calls.QualifiedCall as call
 use Rattle.ide_ssr_resolving.specs.declared.qualified_calls.QualifiedCall.{QualifiedCall}
 use Rattle.ide_ssr_resolving.specs.QualifiedCalls.{qualified_calls_of}
 use Rattle.ide_ssr_resolving.specs.Eligible.{eligible_paths_of}
@@ -87,26 +81,3 @@ module _ (m : Meanings) (scope : ScopeId) (names : List (List ℕ)) (constraints
     first ← resolved_kind kind
     rest ← resolved_kinds kinds
     Ok (first ∷ rest)
-
--- how the logic stores a resolved kind
-abbrev pub resolved_code : Coded ResolvedKind
-resolved_code =
-    code_by (List (List ℕ) × (List (List Constraint) × (Fragment × (Syntax × (Option Syntax × (List UsedPath × (List UsedPath × (List QualifiedCall × List UsedPath))))))))
-    (coded× (coded_list (coded_list coded_ℕ))
-    (coded× (coded_list (coded_list constraint.the_row.coded))
-    (coded× fragment.the_row.coded
-    (coded× syntax_code (coded× (coded_option syntax_code) (coded× (coded_list path.the_row.coded)
-    (coded× (coded_list path.the_row.coded)
-    (coded× (coded_list call.the_row.coded) (coded_list path.the_row.coded)))))))))
-    (λ kind. (kind.names, (kind.constraints, (kind.category, (kind.pattern, (kind.template, (kind.pattern_paths, (kind.template_paths, (kind.qualified_calls, kind.eligible_paths)))))))))
-    (λ p. record {
-      names = p.0;
-      constraints = p.1.0;
-      category = p.1.1.0;
-      pattern = p.1.1.1.0;
-      template = p.1.1.1.1.0;
-      pattern_paths = p.1.1.1.1.1.0;
-      template_paths = p.1.1.1.1.1.1.0;
-      qualified_calls = p.1.1.1.1.1.1.1.0;
-      eligible_paths = p.1.1.1.1.1.1.1.1;
-    }) (λ _. refl)

@@ -90,7 +90,8 @@ pub struct ResolvedRule {
 impl Model for ResolvedRule {
     ghost use Rattle.std.specs.Prelude.{◌≡◌, ◌<◌, ◌^◌, length, map, string_bytes};
     ghost use Rattle.std.specs.Option.{IfSome};
-    ghost use Rattle.ide_ssr_resolving.specs.Resolved.{ResolvedKind, resolved_code};
+    ghost use Rattle.ide_ssr_resolving.specs.Resolved.{ResolvedKind};
+    ghost use Rattle.ide_ssr_resolving.specs.ResolvedCode.{resolved_code};
     ghost use Rattle.ide_ssr_resolving.specs.Private.Marks.{TellsRes};
     ghost use Rattle.ide_ssr_resolving.specs.Private.Placeholders.{placeholders};
     ghost use Rattle.ide_ssr_resolving.specs.Placeholders.{token_placeholders};
@@ -322,22 +323,21 @@ fn resolved_with<S: Semantics>(
     alloc: Global,
     semantics: &S,
     scope: ScopeId,
-    names: &Names<'_>,
-    constraints: &[ConstraintSet],
+    known: &Names<'_>,
+    asked: &[ConstraintSet],
     kind: ParsedRule,
     paths: (Vec<UsedPath>, Vec<UsedPath>),
 ) -> Result<ResolvedRule, AllocError>
-    requires few { length names.now < 2 ^ 32 }
+    requires few { length known.now < 2 ^ 32 }
     requires has_pattern { HasPaths kind.pattern paths.1.items }
     requires has_template { IfSome kind.template (λ template. HasPaths template paths.0.items) }
-    ensures { IfOk result (λ rule. rule ≡ resolved_with (S.meanings semantics.now) scope names.now constraints.now kind paths.0.items paths.1.items) }
+    ensures { IfOk result (λ rule. rule ≡ resolved_with (S.meanings semantics.now) scope known.now asked.now kind paths.0.items paths.1.items) }
 {
     let (template_paths, pattern_paths) = paths;
     let used = pattern_paths.as_slice();
-    let tables = Tables::of(alloc, names, &kind.pattern, kind.template.as_ref(), used)?;
+    let tables = Tables::of(alloc, known, &kind.pattern, kind.template.as_ref(), used)?;
     let (qualified_calls, eligible_paths) = leads(alloc, semantics, scope, &kind.pattern, used)?;
-    let names = names.owned(alloc)?;
-    let constraints = copied_constraints(alloc, constraints)?;
+    let (names, constraints) = copied(alloc, known, asked)?;
     Ok(ResolvedRule {
         names,
         constraints,
@@ -384,6 +384,20 @@ fn template_placeholders(
         Some(tree) => token_placeholders(alloc, names, tree),
         None => Ok(Vec::new(alloc)),
     }
+}
+
+/// The names of a rule's placeholders and what each of these asks, once more.
+fn copied(
+    alloc: Global,
+    names: &Names<'_>,
+    constraints: &[ConstraintSet],
+) -> Result<(Vec<String>, Vec<ConstraintSet>), AllocError>
+    ensures names { IfOk result (λ copies. map string_bytes copies.0.items ≡ names.now) }
+    ensures constraints { IfOk result (λ copies. copies.1.items ≡ constraints.now) }
+{
+    let names = names.owned(alloc)?;
+    let constraints = copied_constraints(alloc, constraints)?;
+    Ok((names, constraints))
 }
 
 /// The constraints once more.
