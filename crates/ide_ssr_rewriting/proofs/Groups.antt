@@ -10,9 +10,9 @@ use Rattle.std.proofs.lemmas.List.Elements.{All-cons, All-head, All-nil, All-tai
 use Rattle.ssr_base.specs.declared.ids.FileId.{FileId}
 use Rattle.ssr_base.specs.Changes.{Change, ChangesInOrder}
 use Rattle.ssr_base.specs.Workspace.{FileSpan}
-use Rattle.ide_ssr_rewriting.specs.Clashes.{Rewrite, Clash, AreInOrder, change_of, changes_made, clashes, clashes_with, is_clash, range_le, same_range, share_byte}
+use Rattle.ide_ssr_rewriting.specs.Clashes.{Rewrite, Clash, change_of, changes_made, clashes, clashes_with, is_clash, same_range, share_byte}
 use Rattle.ide_ssr_rewriting.specs.Edits.{edit_of, file_cmp, some_changes}
-use Rattle.ide_ssr_rewriting.specs.Private.Clashes.{fresh_behind}
+use Rattle.ide_ssr_rewriting.specs.Private.Clashes.{AreInOrder, range_le, fresh_behind}
 use Rattle.ide_ssr_rewriting.specs.Private.Groups.{AreSplit, IsGroup, LastElsewhere, in_file}
 use Rattle.ide_ssr_rewriting.proofs.FirstClashes.{ComesFirst, InOrder, apart_ranges, comes_first, in_order, less_shared, one_range, pairs, without_second}
 use Rattle.ide_ssr_rewriting.proofs.ChangesMade.{fresh_from}

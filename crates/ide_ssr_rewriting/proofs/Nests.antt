@@ -16,7 +16,7 @@ use Rattle.ide_ssr_nesting.specs.Kept.{LiesUnder}
 use Rattle.ide_ssr_nesting.specs.Holding.{IsHeldBy, IsKept, Kept}
 use Rattle.ide_ssr_nesting.specs.Lists.{AreLists, Listing, listed, listing_key, range_of}
 use Rattle.ide_ssr_nesting.proofs.Shared.{held_behind, lists_in_order, lists_what_is_held}
-use Rattle.ide_ssr_rewriting.specs.Clashes.{range_le}
+use Rattle.ide_ssr_rewriting.specs.Private.Clashes.{range_le}
 use Rattle.ide_ssr_rewriting.specs.Edits.{nowhere, range_at}
 use Rattle.ide_ssr_rewriting.specs.Private.Nest.{IsList, IsNest, under}
 use Rattle.ide_ssr_rewriting.proofs.FirstClashes.{then_le}

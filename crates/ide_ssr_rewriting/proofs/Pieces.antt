@@ -4,6 +4,8 @@ use Rattle.std.specs.Global.{Global}
 use Rattle.std.specs.Prelude.{Contains, if◌then◌else◌, is_some, option_map, option_to_list, slice_get, unwrap_or}
 use Rattle.std.specs.List.{enumerate_from}
 use Rattle.std.specs.Option.{IsSomeAnd, option_map_or}
+use Rattle.std.proofs.Math.Bool.{and-true}
+use Rattle.std.proofs.lemmas.Bool.{and_right}
 use Rattle.std.proofs.lemmas.List.{drop_more, drop_all, get_or-map, length-map}
 use Rattle.std.proofs.lemmas.List.Elements.{All-append, All-contains_itself, All-map, All-weaker, Contains-append_left, Contains-append_right}
 use Rattle.std.proofs.lemmas.Option.{same_Some}
@@ -15,13 +17,13 @@ use Rattle.ide_ssr_found.specs.Found.{Found, HasByte, IsMatch, held_range}
 use Rattle.ide_ssr_nesting.specs.declared.holders.Holder.{Holder}
 use Rattle.ide_ssr_nesting.specs.Holding.{Kept}
 use Rattle.ide_ssr_nesting.specs.Lists.{Listing, listed, range_of}
-use Rattle.ide_ssr_rewriting.specs.Clashes.{Rewrite, Clash, AreInOrder, IsFirst, clashes, is_clean}
+use Rattle.ide_ssr_rewriting.specs.Clashes.{Rewrite, Clash, IsFirst, clashes, is_clean}
 use Rattle.ide_ssr_rewriting.specs.Private.Nest.{IsNest, under}
 use Rattle.ide_ssr_rewriting.specs.Edits.{nowhere, range_at, Texts, list_at, list_under, text_by}
 use Rattle.ide_ssr_rewriting.specs.Replacements.{piece, text_of_match}
-use Rattle.ide_ssr_rewriting.specs.Private.Clashes.{lesser}
+use Rattle.ide_ssr_rewriting.specs.Private.Clashes.{AreInOrder, lesser}
 use Rattle.ide_ssr_rewriting.specs.Private.Edits.{text_in}
-use Rattle.ide_ssr_rewriting.specs.Private.Pieces.{AreTaken, all_clean, clashes_in, pieces_by, pieces_of}
+use Rattle.ide_ssr_rewriting.specs.Private.Pieces.{AreLeft, AreNoted, AreTaken, AreWritten, all_clean, clashes_in, pieces_by, pieces_of}
 use Rattle.ide_ssr_rewriting.proofs.FirstClashes.{IsFirst-append, IsFirst-same}
 use Rattle.ide_ssr_rewriting.proofs.Texts.{list_same, one_list}
 
@@ -98,17 +100,13 @@ IsFirst-moved xs ys zs o =
     (All-weaker (Contains ys) (Contains moved) (λ c h. Contains-append_left (ys ++ xs) zs c (Contains-append_left ys xs c h)) ys (All-contains_itself ys))
     (All-weaker (Contains zs) (Contains moved) (λ c h. Contains-append_right (ys ++ xs) zs c h) zs (All-contains_itself zs))))
 
-and_false : (b : Bool) → (b && false) ≡ false
-and_false true = refl
-and_false false = refl
-
 -- whether the lists so far and this one can be made
 clean_more : (all clean here rest new : Bool) (o : Option (List ℕ)) (text : List ℕ) → all ≡ (clean && (here && rest)) → o ≡ (if here then Some text else None)
     → new ≡ (is_some o && clean) → all ≡ (new && rest)
 clean_more all clean true rest new o text is e made =
     is ∙ ap (λ (b : Bool). b && rest) (sym (made ∙ ap (λ (o : Option (List ℕ)). is_some o && clean) e))
 clean_more all clean false rest new o text is e made =
-    is ∙ (and_false clean ∙ ap (λ (b : Bool). b && rest) (sym (made ∙ ap (λ (o : Option (List ℕ)). is_some o && clean) e)))
+    is ∙ (and_right clean false refl ∙ ap (λ (b : Bool). b && rest) (sym (made ∙ ap (λ (o : Option (List ℕ)). is_some o && clean) e)))
 
 pieces_more : (all rest old new : List (List ℕ)) (here : Bool) (o : Option (List ℕ)) (text : List ℕ) (clean made : Bool)
     → (clean ≡ true → old ++ (text ∷ rest) ≡ all) → o ≡ (if here then Some text else None) → made ≡ (is_some o && clean) → new ≡ old ++ option_to_list o
@@ -123,43 +121,47 @@ pieces_more all rest old new false o text clean made so_far e m n sure =
 pub taking-starts : (kept : Kept) (listing : Listing) (m : Found) (n : ℕ) (old : List (Option (String Global))) (pieces : List (List ℕ)) (was : Option Clash) → pieces ≡ []
     → AreTaken kept listing m n 0 old old true pieces was was
 taking-starts kept listing m n old pieces was none = record {
-  counted = refl;
-  left = λ j _. refl;
-  lists = refl;
-  written = λ _. ap (λ (xs : List (List ℕ)). xs ++ pieces_of kept.workspace m (list_under kept listing (text_in old) n) (enumerate_from 0 m.bindings)) none;
-  before = [];
-  split = refl;
-  first = λ others h. h;
+  texts = record { counted = refl; left = λ j _. refl };
+  written = record {
+    clean_lists = refl;
+    written = λ _. ap (λ (xs : List (List ℕ)). xs ++ pieces_of kept.workspace m (list_under kept listing (text_in old) n) (enumerate_from 0 m.bindings)) none;
+  };
+  noted = record { before = []; split = refl; first = λ others h. h };
 }
 
-pub taking-more : (kept : Kept) (listing : Listing) → IsNest kept listing → (m : Found) (n i : ℕ) (old cur new : List (Option (String Global))) (clean made : Bool) (pieces more : List (List ℕ)) (was now next : Option Clash)
-    → AreTaken kept listing m n i old cur clean pieces was now → (b : Binding) → i < length m.bindings → b ≡ get_or m.bindings i b
-    → (list : List Rewrite) (c : Option Clash) (o : Option (List ℕ)) → list ≡ list_at kept (text_in cur) (under listing n i) → IsFirst (clashes list) c → next ≡ lesser c now
-    → o ≡ (if is_clean list then Some (piece kept.workspace (held_range (trees kept.workspace) m.node.tree b) list) else None)
-    → made ≡ (is_some o && clean) → more ≡ pieces ++ option_to_list o
-    → length new ≡ length cur → ((j : ℕ) → (Contains (under listing n i) j → ⊥) → text_in new j ≡ text_in cur j)
-    → AreTaken kept listing m n (i + 1) old new made more was next
-taking-more kept listing is m n i old cur new clean made pieces more was now next so_far b lt at list c o taken first noted text made_is more_is counted others =
-    let lists : ℕ → List Rewrite = list_under kept listing (text_in old) n in
-    let here : list ≡ lists i = taken ∙ list_left kept listing is n i old cur so_far.left in
+pub left-more : (listing : Listing) (n i : ℕ) (old cur new : List (Option (String Global))) → AreLeft listing n i old cur → length new ≡ length cur
+    → ((j : ℕ) → (Contains (under listing n i) j → ⊥) → text_in new j ≡ text_in cur j) → AreLeft listing n (i + 1) old new
+left-more listing n i old cur new so_far counted others = record {
+  counted = counted ∙ so_far.counted;
+  left = λ j none. others j (λ h. none i (omega arith) h) ∙ so_far.left j (λ k lt h. none k (omega arith) h);
+}
+
+pub written-more : (w : Workspace) (m : Found) (lists : ℕ → List Rewrite) (i : ℕ) (clean made : Bool) (pieces more : List (List ℕ)) → AreWritten w m lists i clean pieces
+    → (b : Binding) → i < length m.bindings → b ≡ get_or m.bindings i b → (o : Option (List ℕ)) → o ≡ (if is_clean (lists i) then Some (piece w (held_range (trees w) m.node.tree b) (lists i)) else None)
+    → made ≡ (is_some o && clean) → more ≡ pieces ++ option_to_list o → AreWritten w m lists (i + 1) made more
+written-more w m lists i clean made pieces more so_far b lt at o told made_is more_is =
     let from = bound_from m.bindings i b lt at in
     let rest : List (ℕ × Binding) = enumerate_from (i + 1) (drop (i + 1) m.bindings) in
-    let it : List ℕ = piece kept.workspace (held_range (trees kept.workspace) m.node.tree b) (lists i) in
-    let told : o ≡ (if is_clean (lists i) then Some it else None) = text ∙ ap (λ (list : List Rewrite). if is_clean list then Some (piece kept.workspace (held_range (trees kept.workspace) m.node.tree b) list) else None) here in
+    let it : List ℕ = piece w (held_range (trees w) m.node.tree b) (lists i) in
     record {
-      counted = counted ∙ so_far.counted;
-      left = λ j none. others j (λ h. none i (omega arith) h) ∙ so_far.left j (λ k lt h. none k (omega arith) h);
-      lists = clean_more (all_clean lists (enumerate_from 0 m.bindings)) clean (is_clean (lists i)) (all_clean lists rest) made o it
-          (so_far.lists ∙ ap (λ (bound : List (ℕ × Binding)). clean && all_clean lists bound) from) told made_is;
-      written = pieces_more (pieces_of kept.workspace m lists (enumerate_from 0 m.bindings)) (pieces_of kept.workspace m lists rest) pieces more (is_clean (lists i)) o it clean made
-          (λ sure. ap (λ (bound : List (ℕ × Binding)). pieces ++ pieces_of kept.workspace m lists bound) (sym from) ∙ so_far.written sure) told made_is more_is;
+      clean_lists = clean_more (all_clean lists (enumerate_from 0 m.bindings)) clean (is_clean (lists i)) (all_clean lists rest) made o it
+          (so_far.clean_lists ∙ ap (λ (bound : List (ℕ × Binding)). clean && all_clean lists bound) from) told made_is;
+      written = pieces_more (pieces_of w m lists (enumerate_from 0 m.bindings)) (pieces_of w m lists rest) pieces more (is_clean (lists i)) o it clean made
+          (λ sure. ap (λ (bound : List (ℕ × Binding)). pieces ++ pieces_of w m lists bound) (sym from) ∙ so_far.written sure) told made_is more_is;
+    }
+
+pub noted-more : (m : Found) (lists : ℕ → List Rewrite) (i : ℕ) (was now next : Option Clash) → AreNoted m lists i was now → (b : Binding) → i < length m.bindings → b ≡ get_or m.bindings i b
+    → (c : Option Clash) → IsFirst (clashes (lists i)) c → next ≡ lesser c now → AreNoted m lists (i + 1) was next
+noted-more m lists i was now next so_far b lt at c first noted =
+    let from = bound_from m.bindings i b lt at in
+    let rest : List (ℕ × Binding) = enumerate_from (i + 1) (drop (i + 1) m.bindings) in
+    record {
       before = so_far.before ++ clashes (lists i);
       split = append_assoc so_far.before (clashes (lists i)) (clashes_in lists rest)
           ∙ (ap (λ (bound : List (ℕ × Binding)). so_far.before ++ clashes_in lists bound) (sym from) ∙ so_far.split);
       first = λ rests h.
           IsFirst-moved (clashes (lists i)) so_far.before rests next
-          (subst (IsFirst (clashes (lists i) ++ (so_far.before ++ rests))) (sym noted)
-          (IsFirst-append (clashes (lists i)) (so_far.before ++ rests) c now (subst (λ (list : List Rewrite). IsFirst (clashes list) c) here first) (so_far.first rests h)));
+          (subst (IsFirst (clashes (lists i) ++ (so_far.before ++ rests))) (sym noted) (IsFirst-append (clashes (lists i)) (so_far.before ++ rests) c now first (so_far.first rests h)));
     }
 
 -- ** All of them.
@@ -172,10 +174,6 @@ by_clean : (all clean : Bool) (pieces whole : List (List ℕ)) → all ≡ clean
 by_clean all true pieces whole is same = rw is (ap Some (same refl))
 by_clean all false pieces whole is same = rw is refl
 
-and_true : (b : Bool) → (b && true) ≡ b
-and_true true = refl
-and_true false = refl
-
 pub taken_pieces : (kept : Kept) (listing : Listing) (m : Found) (n i : ℕ) (old cur : List (Option (String Global))) (clean : Bool) (pieces : List (List ℕ)) (was now : Option Clash)
     → AreTaken kept listing m n i old cur clean pieces was now → length m.bindings ≤ i
     → (if clean then Some pieces else None) ≡ pieces_by kept.workspace m (list_under kept listing (text_in old) n)
@@ -183,8 +181,8 @@ taken_pieces kept listing m n i old cur clean pieces was now all le =
     let lists : ℕ → List Rewrite = list_under kept listing (text_in old) n in
     let none = bound_none m.bindings i le in
     by_clean (all_clean lists (enumerate_from 0 m.bindings)) clean pieces (pieces_of kept.workspace m lists (enumerate_from 0 m.bindings))
-    (all.lists ∙ (ap (λ (bound : List (ℕ × Binding)). clean && all_clean lists bound) none ∙ and_true clean))
-    (λ sure. sym (append-nil pieces) ∙ (ap (λ (bound : List (ℕ × Binding)). pieces ++ pieces_of kept.workspace m lists bound) (sym none) ∙ all.written sure))
+    (all.written.clean_lists ∙ (ap (λ (bound : List (ℕ × Binding)). clean && all_clean lists bound) none ∙ and-true clean))
+    (λ sure. sym (append-nil pieces) ∙ (ap (λ (bound : List (ℕ × Binding)). pieces ++ pieces_of kept.workspace m lists bound) (sym none) ∙ all.written.written sure))
 
 pub taken_clashes : (kept : Kept) (listing : Listing) (m : Found) (n i : ℕ) (old cur : List (Option (String Global))) (clean : Bool) (pieces : List (List ℕ)) (was now : Option Clash)
     → AreTaken kept listing m n i old cur clean pieces was now → length m.bindings ≤ i
@@ -193,8 +191,8 @@ taken_clashes kept listing m n i old cur clean pieces was now all le others h =
     let lists : ℕ → List Rewrite = list_under kept listing (text_in old) n in
     let none = bound_none m.bindings i le in
     subst (λ (cs : List Clash). IsFirst (cs ++ others) now)
-    (sym (append-nil all.before) ∙ (ap (λ (bound : List (ℕ × Binding)). all.before ++ clashes_in lists bound) (sym none) ∙ all.split))
-    (all.first others h)
+    (sym (append-nil all.noted.before) ∙ (ap (λ (bound : List (ℕ × Binding)). all.noted.before ++ clashes_in lists bound) (sym none) ∙ all.noted.split))
+    (all.noted.first others h)
 
 -- ** A text of its pieces.
 

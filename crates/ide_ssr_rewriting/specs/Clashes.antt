@@ -1,5 +1,5 @@
 -- Clashes: what stands for the matches of one list, and which two of it can't both be made.
-use Rattle.std.specs.Prelude.{ℕ, ◌≡◌, ◌<◌, ◌==◌, ◌&&◌, ◌||◌, not, nat_lt, min, max, bytes_eq, Bool, true, false, List, [], ◌∷◌, ◌++◌, map, filter, length, Option, Some, None, is_some, unwrap_or, All, AllPairs, Contains}
+use Rattle.std.specs.Prelude.{ℕ, ◌≡◌, ◌==◌, ◌&&◌, ◌||◌, not, nat_lt, min, max, bytes_eq, Bool, false, List, [], ◌∷◌, ◌++◌, map, filter, length, Option, Some, None, is_some, unwrap_or, Contains}
 use Rattle.std.specs.Cmp.Lexicographic.{slice_cmp}
 use Rattle.std.specs.List.{AllPass, list_all, dedup}
 use Rattle.std.specs.Ordering.{is_le, nat_cmp}
@@ -54,9 +54,6 @@ clashes (r ∷ rs) = clashes_with r rs ++ clashes rs
 abbrev pub range_key : FileSpan → List ℕ
 range_key range = range.file ∷ range.span.start ∷ range.span.end ∷ []
 
-unfoldable pub range_le : FileSpan → FileSpan → Bool
-range_le a b = is_le (slice_cmp nat_cmp (range_key a) (range_key b))
-
 -- clashes by the earlier range, then the later one
 unfoldable pub clash_le : Clash → Clash → Bool
 clash_le c d = is_le (slice_cmp nat_cmp (range_key c.earlier ++ range_key c.later) (range_key d.earlier ++ range_key d.later))
@@ -67,11 +64,6 @@ IsFirst clashes None = clashes ≡ []
 IsFirst clashes (Some first) = Contains clashes first × AllPass (clash_le first) clashes
 
 -- ** Lists that can be made.
-
--- they stand in the order of their ranges, each of which has a byte
-pub record AreInOrder (list : List Rewrite) : Type 0 where
-  pub ordered : AllPairs (λ a b. range_le a.range b.range ≡ true) list
-  pub bytes : All (λ r. r.range.span.start < r.range.span.end) list
 
 -- all texts are known, and no two clash
 abbrev pub is_clean : List Rewrite → Bool

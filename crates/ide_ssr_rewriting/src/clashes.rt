@@ -4,8 +4,8 @@ ghost use Rattle.std.specs.Prelude.{◌≡◌, IfOk, false, is_some, option_map,
 ghost use Rattle.std.specs.Option.{option_map_or};
 ghost use Rattle.ssr_base.specs.Applied.{changes_of};
 ghost use Rattle.ssr_base.specs.Workspace.{file_span_of};
-ghost use Rattle.ide_ssr_rewriting.specs.Clashes.{AreInOrder, IsFirst, changes_made, clash_of, clashes, differ, is_clash, same_range, share_byte};
-ghost use Rattle.ide_ssr_rewriting.specs.Private.Clashes.{first_behind, stands_for};
+ghost use Rattle.ide_ssr_rewriting.specs.Clashes.{IsFirst, changes_made, clash_of, clashes, differ, is_clash, same_range, share_byte};
+ghost use Rattle.ide_ssr_rewriting.specs.Private.Clashes.{AreInOrder, first_behind, stands_for};
 
 use ssr_base::FileRange;
 use ssr_syntax_kinds::TextRange;

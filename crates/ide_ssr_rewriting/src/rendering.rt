@@ -29,16 +29,22 @@ pub fn rendered(
     let Some(template) = rule.template() else {
         return Ok(String::new(alloc));
     };
-    let plain = plain(alloc, rule, template, bindings, pieces)?;
+    let rendering = Rendering {
+        rule,
+        template,
+        bindings,
+        pieces,
+    };
+    let plain = rendering.plain(alloc)?;
     if !takes_parentheses(rule.category()) {
         return Ok(plain);
     }
     match fragment(alloc, rule.category(), plain.as_str()) {
         Ok((tree, front)) => {
-            if are_nodes(rule, template, bindings, pieces, &tree, front) {
+            if rendering.are_nodes(&tree, front) {
                 return Ok(plain);
             }
-            wrapped(alloc, rule, template, bindings, pieces, &tree, front)
+            rendering.wrapped(alloc, &tree, front)
         }
         Err(SyntaxError::Memory) => Err(AllocError),
         Err(_) => Ok(plain),
@@ -74,101 +80,85 @@ fn piece<'a>(bindings: &[Binding], pieces: &'a [CowStr<'_>], placeholder: u32) -
     }
 }
 
-/// Which placeholder a token of the rule's template is.
-fn placeholder(rule: &ResolvedRule, template: &Tree, token: TokenNo) -> Option<u32>
-    requires template { rule.now.template ≡ Some template.now }
-    requires has { HasToken template.now token.0 }
-    ensures { result ≡ name_at rule.now.names (token_of template.now token.0) }
-{
-    rule.template_placeholder(token)
-}
-
-/// What stands for the token of the template.
-fn text_for<'a>(
-    rule: &ResolvedRule,
+/// A rule's template, and what its placeholders become.
+#[derive(Clone, Copy)]
+struct Rendering<'a> {
+    rule: &'a ResolvedRule,
     template: &'a Tree,
-    bindings: &[Binding],
-    pieces: &'a [CowStr<'_>],
-    token: TokenNo,
-) -> &'a str
-    requires template { rule.now.template ≡ Some template.now }
-    requires has { HasToken template.now token.0 }
-    ensures { result.now ≡ text_for rule.now.names (piece_of bindings.now (map cow_str_bytes pieces.now)) (token_of template.now token.0) }
-{
-    match placeholder(rule, template, token) {
-        Some(place) => piece(bindings, pieces, place),
-        None => template.token_text(token),
-    }
+    bindings: &'a [Binding],
+    pieces: &'a [CowStr<'a>],
 }
 
-/// The template with its pieces. At first it gets the room of the template, whose stand-ins are as long as most pieces.
-fn plain(
-    alloc: Global,
-    rule: &ResolvedRule,
-    template: &Tree,
-    bindings: &[Binding],
-    pieces: &[CowStr<'_>],
-) -> Result<String, AllocError>
-    requires { rule.now.template ≡ Some template.now }
-    ensures { IfOk result (λ text. string_bytes text ≡ plain rule.now.names (piece_of bindings.now (map cow_str_bytes pieces.now)) (tokens_of template.now)) }
-{
-    let mut text = String::with_capacity(alloc, template.source().len())?;
-    for token in 0..template.token_count() {
-        text.push_str(text_for(rule, template, bindings, &*pieces, TokenNo(token)))?;
+impl<'a> Rendering<'a> {
+    /// Which placeholder a token of the template is.
+    fn placeholder(&self, token: TokenNo) -> Option<u32>
+        requires template { self.now.rule.now.template ≡ Some self.now.template.now }
+        requires has { HasToken self.now.template.now token.0 }
+        ensures { result ≡ name_at self.now.rule.now.names (token_of self.now.template.now token.0) }
+    {
+        self.rule.template_placeholder(token)
     }
-    Ok(text)
-}
 
-/// Whether no piece stands in parentheses: each is a node of the tree that was read of the template with its pieces,
-/// without the first `front` bytes.
-fn are_nodes(
-    rule: &ResolvedRule,
-    template: &Tree,
-    bindings: &[Binding],
-    pieces: &[CowStr<'_>],
-    tree: &Tree,
-    front: u32,
-) -> bool
-    requires template { rule.now.template ≡ Some template.now }
-    requires length { length (plain rule.now.names (piece_of bindings.now (map cow_str_bytes pieces.now)) (tokens_of template.now)) < 2 ^ 64 }
-    ensures { IsTrue result → wrapped tree.now front rule.now.names (piece_of bindings.now (map cow_str_bytes pieces.now)) 0 (tokens_of template.now) ≡ plain rule.now.names (piece_of bindings.now (map cow_str_bytes pieces.now)) (tokens_of template.now) }
-{
-    let mut at = 0;
-    for token in 0..template.token_count() {
-        let text = text_for(rule, template, bindings, &*pieces, TokenNo(token));
-        let is_piece = placeholder(rule, template, TokenNo(token)).is_some();
-        if is_wrapped(tree, front, is_piece, at, text) {
-            return false;
+    /// What stands for the token of the template.
+    fn text_for(&self, token: TokenNo) -> &'a str
+        requires template { self.now.rule.now.template ≡ Some self.now.template.now }
+        requires has { HasToken self.now.template.now token.0 }
+        ensures { result.now ≡ text_for self.now.rule.now.names (piece_of self.now.bindings.now (map cow_str_bytes self.now.pieces.now)) (token_of self.now.template.now token.0) }
+    {
+        match self.placeholder(token) {
+            Some(place) => piece(self.bindings, self.pieces, place),
+            None => self.template.token_text(token),
         }
-        at += text.len();
     }
-    true
-}
 
-/// The template with its pieces, of which `tree` was read without the first `front` bytes: a piece that is no
-/// node of it stands in parentheses.
-fn wrapped(
-    alloc: Global,
-    rule: &ResolvedRule,
-    template: &Tree,
-    bindings: &[Binding],
-    pieces: &[CowStr<'_>],
-    tree: &Tree,
-    front: u32,
-) -> Result<String, AllocError>
-    requires template { rule.now.template ≡ Some template.now }
-    requires length { length (plain rule.now.names (piece_of bindings.now (map cow_str_bytes pieces.now)) (tokens_of template.now)) < 2 ^ 64 }
-    ensures { IfOk result (λ text. string_bytes text ≡ wrapped tree.now front rule.now.names (piece_of bindings.now (map cow_str_bytes pieces.now)) 0 (tokens_of template.now)) }
-{
-    let mut wrapped = String::with_capacity(alloc, template.source().len())?;
-    let mut at = 0;
-    for token in 0..template.token_count() {
-        let text = text_for(rule, template, bindings, &*pieces, TokenNo(token));
-        let is_piece = placeholder(rule, template, TokenNo(token)).is_some();
-        push_wrapped(&mut wrapped, tree, front, is_piece, at, text)?;
-        at += text.len();
+    /// The template with its pieces. At first it gets the room of the template, whose stand-ins are as long as most pieces.
+    fn plain(&self, alloc: Global) -> Result<String, AllocError>
+        requires { self.now.rule.now.template ≡ Some self.now.template.now }
+        ensures { IfOk result (λ text. string_bytes text ≡ plain self.now.rule.now.names (piece_of self.now.bindings.now (map cow_str_bytes self.now.pieces.now)) (tokens_of self.now.template.now)) }
+    {
+        let mut text = String::with_capacity(alloc, self.template.source().len())?;
+        for token in 0..self.template.token_count() {
+            text.push_str(self.text_for(TokenNo(token)))?;
+        }
+        Ok(text)
     }
-    Ok(wrapped)
+
+    /// Whether no piece stands in parentheses: each is a node of the tree that was read of the template with its pieces,
+    /// without the first `front` bytes.
+    fn are_nodes(&self, tree: &Tree, front: u32) -> bool
+        requires template { self.now.rule.now.template ≡ Some self.now.template.now }
+        requires length { length (plain self.now.rule.now.names (piece_of self.now.bindings.now (map cow_str_bytes self.now.pieces.now)) (tokens_of self.now.template.now)) < 2 ^ 64 }
+        ensures { IsTrue result → wrapped tree.now front self.now.rule.now.names (piece_of self.now.bindings.now (map cow_str_bytes self.now.pieces.now)) 0 (tokens_of self.now.template.now) ≡ plain self.now.rule.now.names (piece_of self.now.bindings.now (map cow_str_bytes self.now.pieces.now)) (tokens_of self.now.template.now) }
+    {
+        let mut at = 0;
+        for token in 0..self.template.token_count() {
+            let text = self.text_for(TokenNo(token));
+            let is_piece = self.placeholder(TokenNo(token)).is_some();
+            if is_wrapped(tree, front, is_piece, at, text) {
+                return false;
+            }
+            at += text.len();
+        }
+        true
+    }
+
+    /// The template with its pieces, of which `tree` was read without the first `front` bytes: a piece that is no
+    /// node of it stands in parentheses.
+    fn wrapped(&self, alloc: Global, tree: &Tree, front: u32) -> Result<String, AllocError>
+        requires template { self.now.rule.now.template ≡ Some self.now.template.now }
+        requires length { length (plain self.now.rule.now.names (piece_of self.now.bindings.now (map cow_str_bytes self.now.pieces.now)) (tokens_of self.now.template.now)) < 2 ^ 64 }
+        ensures { IfOk result (λ text. string_bytes text ≡ wrapped tree.now front self.now.rule.now.names (piece_of self.now.bindings.now (map cow_str_bytes self.now.pieces.now)) 0 (tokens_of self.now.template.now)) }
+    {
+        let mut wrapped = String::with_capacity(alloc, self.template.source().len())?;
+        let mut at = 0;
+        for token in 0..self.template.token_count() {
+            let text = self.text_for(TokenNo(token));
+            let is_piece = self.placeholder(TokenNo(token)).is_some();
+            push_wrapped(&mut wrapped, tree, front, is_piece, at, text)?;
+            at += text.len();
+        }
+        Ok(wrapped)
+    }
 }
 
 /// Whether the text of a token at a place of the template with its pieces stands in parentheses: it is a piece and no node.

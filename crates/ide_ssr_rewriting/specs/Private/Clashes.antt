@@ -1,7 +1,18 @@
--- Private: how a list is gone through for its first clash, and for its changes.
-use Rattle.std.specs.Prelude.{◌&&◌, Bool, if◌then◌else◌, List, [], ◌∷◌, Option, Some, None, is_some}
+-- Private: in which order a list stands, and how it is gone through for its first clash, and for its changes.
+use Rattle.std.specs.Prelude.{◌≡◌, ◌<◌, ◌&&◌, Bool, true, if◌then◌else◌, List, [], ◌∷◌, Option, Some, None, is_some, All, AllPairs}
+use Rattle.std.specs.Cmp.Lexicographic.{slice_cmp}
+use Rattle.std.specs.Ordering.{is_le, nat_cmp}
 use Rattle.ssr_base.specs.Workspace.{FileSpan}
-use Rattle.ide_ssr_rewriting.specs.Clashes.{Rewrite, Clash, clash_le, same_range, is_clash}
+use Rattle.ide_ssr_rewriting.specs.Clashes.{Rewrite, Clash, clash_le, range_key, same_range, is_clash}
+
+-- a range comes no later than another one
+unfoldable pub range_le : FileSpan → FileSpan → Bool
+range_le a b = is_le (slice_cmp nat_cmp (range_key a) (range_key b))
+
+-- they stand in the order of their ranges, each of which has a byte
+pub record AreInOrder (list : List Rewrite) : Type 0 where
+  pub ordered : AllPairs (λ a b. range_le a.range b.range ≡ true) list
+  pub bytes : All (λ r. r.range.span.start < r.range.span.end) list
 
 -- whether what another one clashes with, which has the same range and doesn't clash with this one, clashes with this one too
 unfoldable pub stands_for : Rewrite → Rewrite → Bool

@@ -8,7 +8,7 @@ use Rattle.ide_ssr_found.specs.Found.{Found, IsMatch, held_range}
 use Rattle.ide_ssr_nesting.specs.declared.holders.Holder.{Holder}
 use Rattle.ide_ssr_nesting.specs.Holding.{Kept}
 use Rattle.ide_ssr_nesting.specs.Lists.{Listing, listed}
-use Rattle.ide_ssr_rewriting.specs.Clashes.{range_le}
+use Rattle.ide_ssr_rewriting.specs.Private.Clashes.{range_le}
 use Rattle.ide_ssr_rewriting.specs.Edits.{range_at}
 
 -- the places of those under the placeholder whose binding has the place i, of the match of the place n

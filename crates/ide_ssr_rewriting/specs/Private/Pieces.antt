@@ -31,16 +31,24 @@ pieces_by w m lists =
 abbrev pub clashes_in : (ℕ → List Rewrite) → List (ℕ × Binding) → List Clash
 clashes_in lists bound = flat_map (λ p. clashes (lists p.0)) bound
 
--- the first i placeholders of the match m of the place n are done: which pieces there are, whether all their lists can be made,
--- the first clash, and which texts are left
-pub record AreTaken (kept : Kept) (listing : Listing) (m : Found) (n i : ℕ) (old cur : List (Option (String Global))) (clean : Bool) (pieces : List (List ℕ)) (was now : Option Clash) : Type 0 where
+-- the texts that are left, where the lists of the first i placeholders of the match of the place n are taken
+pub record AreLeft (listing : Listing) (n i : ℕ) (old cur : List (Option (String Global))) : Type 0 where
   pub counted : length cur ≡ length old
   pub left : (j : ℕ) → ((k : ℕ) → k < i → Contains (under listing n k) j → ⊥) → text_in cur j ≡ text_in old j
-  pub lists : all_clean (list_under kept listing (text_in old) n) (enumerate_from 0 m.bindings)
-      ≡ (clean && all_clean (list_under kept listing (text_in old) n) (enumerate_from i (drop i m.bindings)))
-  pub written : clean ≡ true → pieces ++ pieces_of kept.workspace m (list_under kept listing (text_in old) n) (enumerate_from i (drop i m.bindings))
-      ≡ pieces_of kept.workspace m (list_under kept listing (text_in old) n) (enumerate_from 0 m.bindings)
+
+-- the pieces of the first i placeholders, and whether all their lists can be made
+pub record AreWritten (w : Workspace) (m : Found) (lists : ℕ → List Rewrite) (i : ℕ) (clean : Bool) (pieces : List (List ℕ)) : Type 0 where
+  pub clean_lists : all_clean lists (enumerate_from 0 m.bindings) ≡ (clean && all_clean lists (enumerate_from i (drop i m.bindings)))
+  pub written : clean ≡ true → pieces ++ pieces_of w m lists (enumerate_from i (drop i m.bindings)) ≡ pieces_of w m lists (enumerate_from 0 m.bindings)
+
+-- the first clash of the lists of the first i placeholders and of others
+pub record AreNoted (m : Found) (lists : ℕ → List Rewrite) (i : ℕ) (was now : Option Clash) : Type 0 where
   pub before : List Clash
-  pub split : before ++ clashes_in (list_under kept listing (text_in old) n) (enumerate_from i (drop i m.bindings))
-      ≡ clashes_in (list_under kept listing (text_in old) n) (enumerate_from 0 m.bindings)
+  pub split : before ++ clashes_in lists (enumerate_from i (drop i m.bindings)) ≡ clashes_in lists (enumerate_from 0 m.bindings)
   pub first : (others : List Clash) → IsFirst others was → IsFirst (before ++ others) now
+
+-- the first i placeholders of the match m of the place n are done
+pub record AreTaken (kept : Kept) (listing : Listing) (m : Found) (n i : ℕ) (old cur : List (Option (String Global))) (clean : Bool) (pieces : List (List ℕ)) (was now : Option Clash) : Type 0 where
+  pub texts : AreLeft listing n i old cur
+  pub written : AreWritten kept.workspace m (list_under kept listing (text_in old) n) i clean pieces
+  pub noted : AreNoted m (list_under kept listing (text_in old) n) i was now

@@ -1,7 +1,8 @@
 use Rattle.std.proofs.Common.{◌≢◌, ◌<◌, List, ℕ, All, length, None, Err, option_map, sym, ◌∙◌, ap, subst}
 use Rattle.std.specs.Prelude.{AllPairs}
 use Rattle.std.proofs.lemmas.Result.{err_from_is_err_and}
-use Rattle.ide_ssr_rewriting.specs.Clashes.{AreInOrder, clash_of}
+use Rattle.ide_ssr_rewriting.specs.Clashes.{clash_of}
+use Rattle.ide_ssr_rewriting.specs.Private.Clashes.{AreInOrder}
 use Rattle.ide_ssr_rewriting.specs.Edits.{list_at}
 use Rattle.ide_ssr_rewriting.specs.Private.Edits.{text_in}
 use Rattle.ide_ssr_rewriting.proofs.Pieces.{list_in_order}

@@ -8,12 +8,13 @@ use Rattle.ssr_base.specs.Workspace.{FileSpan, Workspace, file_span_of, trees}
 use Rattle.ide_ssr_found.specs.declared.bindings.Binding.{Binding}
 use Rattle.ide_ssr_found.specs.Found.{Found, held_range, node_binding}
 use Rattle.ide_ssr_nesting.specs.Holding.{Kept}
-use Rattle.ide_ssr_rewriting.specs.Clashes.{AreInOrder, clash_of, is_clean}
+use Rattle.ide_ssr_rewriting.specs.Clashes.{IsFirst, Rewrite, clash_of, clashes, is_clean}
+use Rattle.ide_ssr_rewriting.specs.Private.Clashes.{AreInOrder}
 use Rattle.ide_ssr_rewriting.specs.Replacements.{piece}
-use Rattle.ide_ssr_rewriting.specs.Edits.{list_at}
+use Rattle.ide_ssr_rewriting.specs.Edits.{list_at, list_under}
 use Rattle.ide_ssr_rewriting.specs.Private.Edits.{text_in}
 use Rattle.ide_ssr_rewriting.proofs.Fits.{list_fits}
-use Rattle.ide_ssr_rewriting.proofs.Pieces.{list_in_order, taking-more, taken_pieces, taken_clashes}
+use Rattle.ide_ssr_rewriting.proofs.Pieces.{list_in_order, list_left, left-more, written-more, noted-more, taken_pieces, taken_clashes}
 use Rattle.ide_ssr_rewriting.proofs.editing.Pending.take_pieces.Goals as goal
 use Rattle.ide_ssr_rewriting.proofs.editing.Pending.take_pieces.Goals.{then-branch, else-branch}
 
@@ -70,15 +71,23 @@ loop-index-preserved c =
       | then-branch w ↦ w.are_all-is ∙ ap (λ (t : Bool). t && c.loop-index.are_all) (sym (sym c.in_ok-are_all.ensures.there ∙ w.if-branch.true))
       | else-branch w ↦ w.are_all-is ∙ (w.if-branch.false ∙ ap (λ (t : Bool). t && c.loop-index.are_all) (sym (sym c.in_ok-are_all.ensures.there ∙ w.if-branch.false)))
     ] in
-    taking-more kept c.args.lists.now c.requires.nest m c.args.place i _ _ _ _ _ _ _ _ _ _ c.loop-index.invariant b lt (get_or_default m.bindings i nobody b lt)
-    list (option_map clash_of c.in_ok-list.first) (option_map cow_str_bytes c.in_ok-piece.piece)
-    (c.in_ok-list.ensures.list ∙ ap (list_at kept (text_in c.loop-index.self.texts.items)) c.under.ensures)
-    c.in_ok-list.ensures.first c.in_ok-list.ensures.clash
-    (c.in_ok-piece.ensures
-    ∙ (ap (λ (w : Workspace). if is_clean list then Some (piece w (option_map file_span_of c.original_range-range.result) list) else None) c.workspace-in-loop-index.ensures
-    ∙ ap (λ (range : Option FileSpan). if is_clean list then Some (piece kept.workspace range list) else None) held))
-    made c.in_ok-are_all.ensures.pieces c.in_ok-list.ensures.counted
-    (λ j none. c.in_ok-list.ensures.others j (λ h. none (subst (λ (xs : List ℕ). Contains xs j) c.under.ensures h)))
+    let here : list ≡ list_under kept c.args.lists.now (text_in c.args.self.now.texts.items) c.args.place i =
+    c.in_ok-list.ensures.list
+    ∙ (ap (list_at kept (text_in c.loop-index.self.texts.items)) c.under.ensures
+    ∙ list_left kept c.args.lists.now c.requires.nest c.args.place i _ _ c.loop-index.invariant.texts.left) in
+    let at = get_or_default m.bindings i nobody b lt in
+    record {
+      texts = left-more c.args.lists.now c.args.place i _ _ _ c.loop-index.invariant.texts c.in_ok-list.ensures.counted
+          (λ j none. c.in_ok-list.ensures.others j (λ h. none (subst (λ (xs : List ℕ). Contains xs j) c.under.ensures h)));
+      written = written-more kept.workspace m _ i _ _ _ _ c.loop-index.invariant.written b lt at (option_map cow_str_bytes c.in_ok-piece.piece)
+          (c.in_ok-piece.ensures
+          ∙ (ap (λ (w : Workspace). if is_clean list then Some (piece w (option_map file_span_of c.original_range-range.result) list) else None) c.workspace-in-loop-index.ensures
+          ∙ (ap (λ (range : Option FileSpan). if is_clean list then Some (piece kept.workspace range list) else None) held
+          ∙ ap (λ (list : List Rewrite). if is_clean list then Some (piece kept.workspace (held_range (trees kept.workspace) m.node.tree b) list) else None) here)))
+          made c.in_ok-are_all.ensures.pieces;
+      noted = noted-more m _ i _ _ _ c.loop-index.invariant.noted b lt at (option_map clash_of c.in_ok-list.first)
+          (subst (λ (list : List Rewrite). IsFirst (clashes list) (option_map clash_of c.in_ok-list.first)) here c.in_ok-list.ensures.first) c.in_ok-list.ensures.clash;
+    }
 
 pub returns-clause-pieces : goal.returns-clause-pieces
 returns-clause-pieces c =
@@ -89,4 +98,4 @@ returns-clause-clash c =
     taken_clashes _ _ _ _ _ _ _ _ _ _ _ c.loop-index.invariant (omega (arith, ap (λ (bs : List Binding). length bs) c.bindings-binding-items.ensures))
 
 pub returns-clause-left : goal.returns-clause-left
-returns-clause-left c = λ j none. c.loop-index.invariant.left j (λ k _ h. none k h)
+returns-clause-left c = λ j none. c.loop-index.invariant.texts.left j (λ k _ h. none k h)

@@ -4,17 +4,17 @@ use Rattle.ssr_syntax_tree.specs.Syntax.{Token, tokens_of}
 use Rattle.ide_ssr_rewriting.specs.Rendering.{piece_of, plain}
 use Rattle.ide_ssr_rewriting.proofs.Tokens.{no_tokens}
 use Rattle.ide_ssr_rewriting.proofs.Templates.{pushed, plain_from}
-use Rattle.ide_ssr_rewriting.proofs.rendering.plain.Goals as goal
+use Rattle.ide_ssr_rewriting.proofs.rendering.Rendering.plain.Goals as goal
 
 pub loop-token-preserved : goal.loop-token-preserved
 loop-token-preserved c =
     pushed _ _ _ _ _ _ c.loop-token.invariant
-    (plain_from c.args.rule.now.names (piece_of c.args.bindings.now (map cow_str_bytes c.args.pieces.now)) c.args.template.now c.loop-token.token (omega arith))
+    (plain_from c.args.self.now.rule.now.names (piece_of c.args.self.now.bindings.now (map cow_str_bytes c.args.self.now.pieces.now)) c.args.self.now.template.now c.loop-token.token (omega arith))
     (c.in_ok-push_str.ensures.bytes ∙ ap (λ (t : List ℕ). string_bytes c.loop-token.text ++ t) c.text_for.ensures)
 
 pub returns : goal.returns
 returns c =
-    let none : drop c.loop-token.token (tokens_of c.args.template.now) ≡ [] = no_tokens c.args.template.now c.loop-token.token (omega arith) in
+    let none : drop c.loop-token.token (tokens_of c.args.self.now.template.now) ≡ [] = no_tokens c.args.self.now.template.now c.loop-token.token (omega arith) in
     sym (append-nil (string_bytes c.loop-token.text))
-    ∙ (ap (λ (ts : List Token). string_bytes c.loop-token.text ++ plain c.args.rule.now.names (piece_of c.args.bindings.now (map cow_str_bytes c.args.pieces.now)) ts) (sym none)
+    ∙ (ap (λ (ts : List Token). string_bytes c.loop-token.text ++ plain c.args.self.now.rule.now.names (piece_of c.args.self.now.bindings.now (map cow_str_bytes c.args.self.now.pieces.now)) ts) (sym none)
     ∙ c.loop-token.invariant)
