@@ -39,7 +39,7 @@ pub enum EditError {
     /// Two matches of one list share a byte, and their ranges or their replacements differ: the ranges of the first two.
     #[error("two matches share a byte")]
     Clash(FileRange, FileRange),
-    /// A held rule has no template.
+    /// A rule has no template.
     #[error("a rule has no template")]
     NoTemplate,
     /// Memory ran out.
