@@ -1,6 +1,6 @@
 -- Bare children, found from the left.
 use Rattle.std.proofs.Common.{◌≡◌, ℕ, zero, suc, arith, ◌++◌, All, None, option_to_list, map, subst, Bool, true, false, ◌&&◌, ◌||◌, cond, List, [], ◌∷◌, refl, sym, ◌∙◌, ap, inl, inr}
-use Rattle.std.proofs.lemmas.Bool.{cases_Bool}
+use Rattle.std.proofs.lemmas.Bool.{cases_Bool, or_left}
 use Rattle.std.proofs.lemmas.List.Elements.{All-weaker}
 use Rattle.ssr_syntax_kinds.specs.declared.kinds.SyntaxKind.{SyntaxKind}
 use Rattle.ssr_syntax_kinds.specs.declared.kinds.SyntaxKind.TheVariants as k
@@ -18,9 +18,6 @@ use Rattle.ide_ssr_token_trees.specs.Elements.{is_trivia_part}
 use Rattle.ide_ssr_matching.specs.Private.Children.{has_kind, solid, siblings_left, IsBelow, AreKept}
 
 -- what trivia are left out of
-or_true : (a b : Bool) → a ≡ true → (a || b) ≡ true
-or_true a b is = rw is refl
-
 passed : (b : Bool) (out : List Part) (xs : List Part) (part : Part) → b ≡ true → cond b out (part ∷ xs) ≡ out
 passed b out xs part is = rw is refl
 
@@ -31,7 +28,7 @@ bare-solid (token_part t token ∷ rest) =
       | inl trivia ↦
           ap (λ b. bare (cond b (solid rest) (token_part t token ∷ rest))) trivia
           ∙ bare-solid rest
-          ∙ sym (passed (leaves_out (token_part t token) rest) (bare rest) (bare rest) (token_part t token) (or_true (is_trivia token.kind) (same_kind token.kind k.COMMA && closes rest) trivia))
+          ∙ sym (passed (leaves_out (token_part t token) rest) (bare rest) (bare rest) (token_part t token) (or_left (is_trivia token.kind) (same_kind token.kind k.COMMA && closes rest) trivia))
       | inr other ↦ ap (λ b. bare (cond b (solid rest) (token_part t token ∷ rest))) other
     ]
 bare-solid (node_part node ∷ rest) = refl

@@ -35,7 +35,8 @@ use Rattle.ide_ssr_found.specs.Receivers.{received}
 use Rattle.ide_ssr_matching.specs.Sides.{Sides, kept}
 use Rattle.ide_ssr_matching.specs.Calls.{method_sides, can_be_call, child_nodes}
 use Rattle.ide_ssr_token_trees.specs.Bindings.{joined}
-use Rattle.ide_ssr_matching.specs.Bindings.{Binder, pair_by, pairs_by, placeholder_by, stands_for, counted, counted_sides, counted_by, can_match, like_sides, sides_in, sides_by, sides_of, other_by, node_by, bindings_of, like_pairs}
+use Rattle.ide_ssr_matching.specs.Bindings.{Binder, pair_by, pairs_by, placeholder_by, stands_for, counted, counted_sides, can_match, like_sides, sides_in, sides_by, sides_of, other_by, node_by, bindings_of, like_pairs}
+use Rattle.ide_ssr_matching.specs.Private.Bindings.{counted_by}
 use Rattle.ide_ssr_matching.specs.Private.Calls.{sides_at, nodes_at}
 use Rattle.ide_ssr_matching.specs.declared.records.NamedLists.{NamedLists}
 use Rattle.ide_ssr_matching.specs.Records.{arranged, is_named, named_nodes, named_pairs}
@@ -53,10 +54,6 @@ joined-some found bs (Some rest) = ap Some (sym (append_assoc found bs rest))
 joined-none : (o : Option (List Binding)) → joined (Some []) o ≡ o
 joined-none None = refl
 joined-none (Some bs) = refl
-
-pub and_false : (b : Bool) → (b && false) ≡ false
-and_false true = refl
-and_false false = refl
 
 none_else : (o : Option ℕ) → ((i : ℕ) → o ≡ Some i → ⊥) → o ≡ None
 none_else None h = refl

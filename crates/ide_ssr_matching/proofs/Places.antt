@@ -1,13 +1,11 @@
 -- Labels and their places: one label more.
-use Rattle.std.proofs.Common.{◌≡◌, ℕ, ◌+◌, ◌<◌, ◌≤◌, Bool, true, false, ◌&&◌, ◌||◌, not, List, [], ◌∷◌, ◌++◌, drop, get_or, length, take, Option, Some, None, refl, sym, ap, ◌∙◌, subst, arith, inl, inr, bytes_eq, Bor, nat_cmp, add-zero}
-use Rattle.std.proofs.lemmas.Bool.{cases_Bool, false_from_ne_true}
+use Rattle.std.proofs.Common.{◌≡◌, ℕ, ◌+◌, ◌<◌, ◌≤◌, Bool, true, false, ◌&&◌, not, List, [], ◌∷◌, ◌++◌, drop, get_or, length, take, Option, Some, None, refl, sym, ap, ◌∙◌, subst, arith, bytes_eq, Bor, nat_cmp}
 use Rattle.std.proofs.lemmas.List.{length-take-le, take_more}
-use Rattle.std.proofs.lemmas.Slice.Eq.{bytes_eq-Decides}
 use Rattle.std.specs.BTreeMap.{BTreeMap, get_by}
 use Rattle.std.specs.Cmp.Lexicographic.{slice_cmp}
 use Rattle.std.specs.Prelude.{cond}
 use Rattle.std.specs.List.{list_any, position_from}
-use Rattle.std.specs.Option.{is_some, option_copied, option_or}
+use Rattle.std.specs.Option.{is_some, option_copied}
 use Rattle.std.proofs.Math.ListN.{drop_of_length-le}
 use Rattle.ide_ssr_rules.proofs.Shared.{is_some-position, new_name}
 use Rattle.ide_ssr_matching.specs.Records.{are_new, are_different}

@@ -69,9 +69,6 @@ counted_sides used p c = record {
   receiver = None;
 }
 
-abbrev pub counted_by : Binder → Option Res → Node → Node → Option (List Binding)
-counted_by inner used p c = pairs_by inner (counted_sides used p c).pattern (counted_sides used p c).code
-
 abbrev pub sides_by : Binder → Sides → Option (List Binding)
 sides_by inner sides = option_map (kept sides.receiver) (pairs_by inner sides.pattern sides.code)
 

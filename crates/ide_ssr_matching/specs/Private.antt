@@ -3,3 +3,4 @@
 pub mod Children
 pub mod Calls
 pub mod Records
+pub mod Bindings

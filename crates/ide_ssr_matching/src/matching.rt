@@ -4,11 +4,12 @@ ghost use Rattle.std.specs.Prelude.{◌≡◌, ◌++◌, All, IfOk, OnOk, map, o
 ghost use Rattle.std.specs.Option.{option_and_then};
 ghost use Rattle.ssr_syntax_tree.specs.Places.{HasNode, HasElement, node_of, root_of, part_of};
 ghost use Rattle.ssr_base.specs.Workspace.{node_id};
-ghost use Rattle.ide_ssr_matching.specs.Bindings.{placeholder_by, stands_for, pair_by, pairs_by, counted_by, can_match, like_sides, sides_of, sides_by, bindings_of, like_pairs};
+ghost use Rattle.ide_ssr_matching.specs.Bindings.{placeholder_by, stands_for, pair_by, pairs_by, can_match, like_sides, sides_of, sides_by, bindings_of, like_pairs};
 ghost use Rattle.ide_ssr_matching.specs.Calls.{method_sides};
 ghost use Rattle.ide_ssr_matching.specs.Records.{named_nodes, named_pairs};
 ghost use Rattle.ide_ssr_found.specs.Receivers.{received};
 ghost use Rattle.ide_ssr_token_trees.specs.Bindings.{Answers};
+ghost use Rattle.ide_ssr_matching.specs.Private.Bindings.{counted_by};
 ghost use Rattle.ide_ssr_matching.specs.Private.Records.{AreNamedLists};
 
 use crate::calls::{can_be_call, method_sides};

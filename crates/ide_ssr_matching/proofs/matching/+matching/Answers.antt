@@ -1,5 +1,6 @@
 use Rattle.std.proofs.Common.{refl, sym, ap, subst, ◌∙◌, rules, arith, ◌<◌, ◌≤◌, length, get_or, map, string_bytes, true, false, All, None, is_some}
 use Rattle.std.specs.Option.{IfSome, option_map}
+use Rattle.std.proofs.lemmas.Bool.{and_right}
 use Rattle.std.proofs.lemmas.List.Elements.{All-map}
 use Rattle.ssr_syntax_kinds.specs.declared.kinds.SyntaxKind.TheVariants as k
 use Rattle.ssr_syntax_kinds.specs.Kinds.{same_kind}
@@ -12,7 +13,7 @@ use Rattle.ide_ssr_matching.specs.TokenTrees.{is_tree}
 use Rattle.ide_ssr_matching.specs.Private.Calls.{sides_at, AreSidesBelow, IsNodeBelow}
 use Rattle.ide_ssr_matching.specs.Private.Children.{IsBelow}
 use Rattle.ide_ssr_matching.proofs.Bare.{below_has}
-use Rattle.ide_ssr_matching.proofs.Pairs.{placeholder-from, trees-from, spoiled-from, parts-from, like-from, method-from, and_false, other_kind-from, unpaired-from, kept-from, paired-starts, paired-turns, paired-differs, paired-short, paired-ends, up_to-turns, up_to-differs, up_to-ends, unequal-elements, at_place, lent_next, lent_none, none_left, tokens-answer, element-smaller, first-below, largest, largest-at, largest-below, element_size, elements_size, children_size, paired-from, used-from, unnamed-from, unarranged-from, arranged-from, lists_size}
+use Rattle.ide_ssr_matching.proofs.Pairs.{placeholder-from, trees-from, spoiled-from, parts-from, like-from, method-from, other_kind-from, unpaired-from, kept-from, paired-starts, paired-turns, paired-differs, paired-short, paired-ends, up_to-turns, up_to-differs, up_to-ends, unequal-elements, at_place, lent_next, lent_none, none_left, tokens-answer, element-smaller, first-below, largest, largest-at, largest-below, element_size, elements_size, children_size, paired-from, used-from, unnamed-from, unarranged-from, arranged-from, lists_size}
 use Rattle.ide_ssr_matching.proofs.NamedNodes.{each_arranged}
 use Rattle.ide_ssr_matching.proofs.matching.+matching.Goals as goal
 
@@ -41,7 +42,7 @@ parts_match-returns-then-not-is g t c =
     like-from (g.S.Semantics.meanings c.args.semantics.now) c.args.number c.args.rule.now c.like_matches.result c.args.rule.now.pattern c.args.code.now c.args.p c.args.c.0 c.args.out.now.items c.like_matches.new.out.items
     c.requires.p_in (call_at c.args.rule.now.qualified_calls c.args.p) false refl
     (sym c.if-not-is.true ∙ c.is.ensures.same ∙ ap (λ own. same_kind own k.METHOD_CALL_EXPR) c.kind.ensures)
-    (and_false (is_some (call_at c.args.rule.now.qualified_calls c.args.p))) c.like_matches.ensures
+    (and_right (is_some (call_at c.args.rule.now.qualified_calls c.args.p)) false refl) c.like_matches.ensures
 
 pub parts_match-returns-in-Some : goal.parts_match-returns-in-Some
 parts_match-returns-in-Some g t c =

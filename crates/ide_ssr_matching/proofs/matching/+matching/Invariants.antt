@@ -1,6 +1,7 @@
 use Rattle.std.proofs.Common.{length, ◌-◌}
 use Rattle.ssr_syntax_tree.specs.Places.{node_of}
-use Rattle.ide_ssr_matching.specs.Bindings.{counted_by, bindings_of}
+use Rattle.ide_ssr_matching.specs.Bindings.{bindings_of}
+use Rattle.ide_ssr_matching.specs.Private.Bindings.{counted_by}
 use Rattle.ide_ssr_matching.specs.Private.Children.{siblings_left}
 use Rattle.ide_ssr_matching.proofs.Pairs.{PairedSoFar, PairedUpTo, children_size, like_size, parts_size, node_size, element_size, elements_size, lists_size, pairs_size}
 use Rattle.ide_ssr_matching.proofs.matching.+matching.Given as goal
