@@ -1,11 +1,11 @@
-use Rattle.std.proofs.Common.{◌<◌, All, length, refl, sym, ap, ◌∙◌, subst, arith}
+use Rattle.std.proofs.Common.{◌≡◌, ◌<◌, ◌++◌, [], ◌∷◌, List, All, length, refl, sym, ap, ◌∙◌, subst, arith}
 use Rattle.std.proofs.lemmas.List.Elements.{All-push}
 use Rattle.ssr_syntax_tree.specs.declared.number.TokenNo.{TokenNo}
 use Rattle.ssr_base.specs.declared.ids.FileRange.{FileRange}
 use Rattle.ssr_base.specs.declared.ids.NodeId.{NodeId}
 use Rattle.ssr_base.specs.Built.{IsNodeOf}
 use Rattle.ssr_base.specs.Laws.{LiesInFile}
-use Rattle.ssr_base.specs.Workspace.{trees, tree_of, file_span_of}
+use Rattle.ssr_base.specs.Workspace.{Workspace, trees, tree_of, file_span_of}
 use Rattle.ide_ssr_found.specs.Apart.{HasHeld}
 use Rattle.ide_ssr_found.proofs.Shared.{has_node, has_held}
 use Rattle.ide_ssr.proofs.Files.{file_is, token_in_file, token_span_is, spans_more, spans_are}
@@ -25,6 +25,11 @@ kept_comments-requires-clause-bindings c =
 no_token : TokenNo
 no_token = record { 0 = 0 }
 
+one_more : (w : Workspace) (ranges more : List FileRange) (range : FileRange) → more ≡ ranges ++ range ∷ []
+    → All (λ range. LiesInFile w (file_span_of range)) ranges → LiesInFile w (file_span_of range) → All (λ range. LiesInFile w (file_span_of range)) more
+one_more w ranges more range is all last =
+    subst (All (λ range. LiesInFile w (file_span_of range))) (sym is) (All-push (λ range. LiesInFile w (file_span_of range)) ranges range all last)
+
 pub loop-comment-preserved : goal.loop-comment-preserved
 unfolding no_token
 loop-comment-preserved c =
@@ -39,10 +44,9 @@ loop-comment-preserved c =
           c.loop-comment-test.true c.loop-comment.invariant.ranges c.in_ok-push.ensures.items
           (token_span_is file tree _ range refl c.token_range.ensures.start c.token_range.ensures.end);
       in_file =
-          subst (All (λ range. LiesInFile w (file_span_of range))) (sym c.in_ok-push.ensures.items)
-          (All-push (λ range. LiesInFile w (file_span_of range)) c.loop-comment.ranges.items range c.loop-comment.invariant.in_file
+          one_more w c.loop-comment.ranges.items _ range c.in_ok-push.ensures.items c.loop-comment.invariant.in_file
           (token_in_file w file tree _ (file_span_of range) (file_is w file tree within (sym c.in-Some.ensures)) refl
-          c.token_range.ensures.start c.token_range.ensures.end c.token_range.ensures.start_boundary c.token_range.ensures.end_boundary));
+          c.token_range.ensures.start c.token_range.ensures.end c.token_range.ensures.start_boundary c.token_range.ensures.end_boundary);
     }
 
 pub returns-clause-ranges : goal.returns-clause-ranges
