@@ -18,7 +18,7 @@ use crate::scopes::semantics;
 use anyhow::Result;
 use ide_ssr::{MatchFinder, SsrRule};
 use ssr_base::Workspace;
-use ssr_facts::TableSemantics;
+use ssr_facts::{Facts, TableSemantics};
 use std::alloc::Global;
 use std::time::{CpuClock, Duration};
 use std::{env, fs, io};
@@ -57,14 +57,20 @@ fn time_facts(rt: &HostRuntime, path: &str, rules: &[String]) -> Result<()> {
     let facts = ssr_facts::read(rt.alloc(), &bytes)?;
     let reading = between(start, rt.process_cpu_time()?);
     let (files, size) = (facts.workspace.file_count(), bytes.len());
-    println!(rt; "{files} files, {size} bytes of facts")?;
-    println!(rt; "read in {reading} ns")?;
-    if !rules.is_empty() {
-        let before = rt.process_cpu_time()?;
-        let count = matches(rt.alloc(), &facts.workspace, &facts.semantics, rules)?;
-        let searching = between(before, rt.process_cpu_time()?);
-        println!(rt; "{count} matches, searched in {searching} ns")?;
+    println!(rt; "{files} files, {size} bytes of facts\nread in {reading} ns")?;
+    if rules.is_empty() {
+        Ok(())
+    } else {
+        time_rules(rt, &facts, rules)
     }
+}
+
+/// Searches what a facts file tells of.
+fn time_rules(rt: &HostRuntime, facts: &Facts, rules: &[String]) -> Result<()> {
+    let start = rt.process_cpu_time()?;
+    let count = matches(rt.alloc(), &facts.workspace, &facts.semantics, rules)?;
+    let searching = between(start, rt.process_cpu_time()?);
+    println!(rt; "{count} matches, searched in {searching} ns")?;
     Ok(())
 }
 
