@@ -5,6 +5,6 @@ pub use Rattle.ide_ssr_resolving.proofs.Templates.{have_templates}
 -- a placeholder of a pattern is its node's only one
 pub use Rattle.ide_ssr_resolving.proofs.Patterns.{placeholder_alone}
 -- the tokens of a node are those from its first one on
-pub use Rattle.ide_ssr_resolving.proofs.Tokens.{tokens_of_node}
+pub use Rattle.ide_ssr_resolving.proofs.Tokens.{tokens_left, tokens_of_node}
 -- which placeholder a token is, by a table of them
 pub use Rattle.ide_ssr_resolving.proofs.Nodes.{in_table, at_table}

@@ -17,7 +17,7 @@ use Rattle.ide_ssr_rules.specs.Patterns.{placeholders_among, HasEachAtMostOnce}
 use Rattle.ide_ssr_rules.specs.StandIns.{stand_in_of, read_as, code_of, name_at, stand_in_text, spelled_stand_in}
 use Rattle.ide_ssr_rules.specs.Uses.{AreNew}
 use Rattle.ide_ssr_rules.proofs.Lists.{all_with}
-use Rattle.ide_ssr_rules.proofs.EachOnce.{same_bytes, unnamed, stand_in, neither_of, tree_among, IsSide, side_fits}
+use Rattle.ide_ssr_rules.proofs.EachOnce.{unnamed, stand_in, neither_of, tree_among, IsSide, side_fits}
 
 later : (b : Bool) (i j : ℕ) (o : Option ℕ) → cond b (Some i) o ≡ Some j → (o ≡ Some j → i < j) → i ≤ j
 later true i j o h g = let same : i ≡ j = cc in omega (arith, same)
@@ -54,7 +54,7 @@ one_name names one other j h g =
     let test : List ℕ → List ℕ → Bool = λ name known. bytes_eq (stand_in_of name) (stand_in_of known) in
     let b = both_pass (test one) (test other) 0 names j h g in
     append_cancel_left (codes "__placeholder_") one other
-    (same_bytes (stand_in_of one) (stand_in_of b.0) b.1 ∙ sym (same_bytes (stand_in_of other) (stand_in_of b.0) b.2))
+    ((bytes_eq-Decides (stand_in_of one) (stand_in_of b.0)).0 b.1 ∙ sym ((bytes_eq-Decides (stand_in_of other) (stand_in_of b.0)).0 b.2))
 
 has_more : (names : List (List ℕ)) (more name : List ℕ) → has names name ≡ true → has (names ++ more ∷ []) name ≡ true
 has_more names more name h =

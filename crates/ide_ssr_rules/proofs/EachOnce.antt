@@ -29,14 +29,11 @@ use Rattle.ssr_syntax.proofs.Shared.{IsUtf8-trim, trim_shorter}
 
 -- ** The tokens are those that are read for the elements.
 
-pub same_bytes : (xs ys : List ℕ) → bytes_eq xs ys ≡ true → xs ≡ ys
-same_bytes xs ys h = (bytes_eq-Decides xs ys).0 h
-
 same_tokens : (one other : Token) → same_token one other ≡ true → one ≡ other
 same_tokens one other h =
     let b = and_parts (same_kind one.kind other.kind) (bytes_eq one.text other.text) h in
     let kind : one.kind ≡ other.kind = same_kind-equal one.kind other.kind b.0 in
-    let text : one.text ≡ other.text = same_bytes one.text other.text b.1 in
+    let text : one.text ≡ other.text = (bytes_eq-Decides one.text other.text).0 b.1 in
     let token : SyntaxKind → List ℕ → Token = λ kind text. record { kind = kind; text = text } in
     ap (λ kind. token kind one.text) kind ∙ ap (token other.kind) text
 

@@ -4,7 +4,6 @@ use Rattle.std.proofs.lemmas.List.{take_all}
 use Rattle.std.proofs.lemmas.Bool.{lt-ltb}
 use Rattle.std.proofs.lemmas.List.Elements.{All-get_or, All-from_recursion}
 use Rattle.std.proofs.lemmas.List.{length-map, length-take}
-use Rattle.std.proofs.lemmas.Str.{IsCharBoundary-end}
 use Rattle.std.specs.List.{All, AllByRecursion}
 use Rattle.std.specs.Str.{IsCharBoundary}
 use Rattle.std.proofs.lemmas.Bool.Decides.{nat_tests}
@@ -13,6 +12,7 @@ use Rattle.ssr_syntax_lex.specs.Tokens.{tokens, fault, HasNoTokens, TellsFault, 
 use Rattle.ssr_syntax.specs.Reading.{pieces, IsLexFault}
 use Rattle.ssr_syntax.specs.declared.syntax_error.SyntaxError.{SyntaxError}
 use Rattle.ssr_syntax.specs.declared.syntax_error.SyntaxError.TheVariants as unread
+use Rattle.ssr_syntax.proofs.Shared.{boundary, tiles_count}
 use Rattle.ssr_syntax_tree.specs.Syntax.{Token}
 use Rattle.ide_ssr_rules.specs.Elements.{lexed, fault_in, side, elements}
 use Rattle.ide_ssr_refusals.specs.declared.refusals.Refusal.TheVariants as r
@@ -105,16 +105,12 @@ pub record IsPlace (text : List ℕ) (raw : RawToken) : Type 0 where
   pub starts : IsCharBoundary text raw.range.start
   pub ends : IsCharBoundary text raw.range.end
 
-tiles_start : (text : List ℕ) (start : ℕ) (raw : List RawToken) → TilesFrom text start raw → IsCharBoundary text start
-tiles_start text start [] is = let P : ℕ → Type 0 = λ n. IsCharBoundary text n in subst P (sym is) (IsCharBoundary-end text)
-tiles_start text start (t ∷ raw) tiles = tiles.2
-
 places : (text : List ℕ) (start : ℕ) (raw : List RawToken) → TilesFrom text start raw → AllByRecursion (IsPlace text) raw
 places text start [] is = tt
 places text start (t ∷ raw) tiles = (
   record {
     starts = let P : ℕ → Type 0 = λ n. IsCharBoundary text n in subst P (sym tiles.0) tiles.2;
-    ends = tiles_start text t.range.end raw tiles.3;
+    ends = boundary text t.range.end raw tiles.3;
   },
   places text t.range.end raw tiles.3,
 )
@@ -124,14 +120,10 @@ place_at text raw items i t tiles same small is =
     let P : RawToken → Type 0 = λ r. IsPlace text r in
     subst P (sym is) (All-get_or (IsPlace text) items i t small (subst (All (IsPlace text)) (sym same) (All-from_recursion (IsPlace text) raw (places text 0 raw tiles))))
 
-tiles_few : (text : List ℕ) (start : ℕ) (raw : List RawToken) → TilesFrom text start raw → start + length raw ≤ length text
-tiles_few text start [] is = omega (arith, is)
-tiles_few text start (t ∷ raw) tiles = omega (arith, tiles_few text t.range.end raw tiles.3, tiles.1)
-
 length-pieces : (text : List ℕ) (raw : List RawToken) → length (pieces text raw) ≡ length raw
 length-pieces text raw = length-map raw _
 
 pub lexed_few : (text : List ℕ) (raw items : List RawToken) (found : List Token) (n : ℕ)
     → length text < 2 ^ 32 → Tiles text raw → items ≡ raw → found ≡ pieces text (take n items) → length found < 2 ^ 32
 lexed_few text raw items found n short tiles same made =
-    omega (arith, tiles_few text 0 raw tiles, ap length same, ap length made, length-pieces text (take n items), length-take n items)
+    omega (arith, tiles_count text 0 raw tiles, ap length same, ap length made, length-pieces text (take n items), length-take n items)

@@ -59,11 +59,8 @@ or_nothing (Some n) = refl
 
 -- ** One name more.
 
-same_text : (a b : List ℕ) → bytes_eq a b ≡ true → a ≡ b
-same_text a b is = (bytes_eq-Decides a b).0 is
-
 turned : (a b : List ℕ) → bytes_eq a b ≡ true → bytes_eq b a ≡ true
-turned a b is = (bytes_eq-Decides b a).1 (sym (same_text a b is))
+turned a b is = (bytes_eq-Decides b a).1 (sym ((bytes_eq-Decides a b).0 is))
 
 module _ (names : List (List ℕ)) (name text : List ℕ) where
   abbrev place : List ℕ → Option ℕ
@@ -78,7 +75,7 @@ module _ (names : List (List ℕ)) (name text : List ℕ) where
 
   found_as : (b : Bool) → list_any (bytes_eq name) names ≡ b → bytes_eq text name ≡ true → is_some (place text) ≡ b
   found_as b known is =
-      is_some-position (bytes_eq text) 0 names ∙ ap (λ text. list_any (bytes_eq text) names) (same_text text name is) ∙ known
+      is_some-position (bytes_eq text) 0 names ∙ ap (λ text. list_any (bytes_eq text) names) ((bytes_eq-Decides text name).0 is) ∙ known
 
   -- one that is among them already
   pub known_again : list_any (bytes_eq name) names ≡ true → position_from (bytes_eq text) 0 (names ++ name ∷ []) ≡ place text

@@ -1,13 +1,13 @@
 -- How a token `self` is found that isn't followed by `::`.
 use Rattle.std.proofs.Common.{◌≡◌, ℕ, ◌+◌, ◌<◌, ◌≤◌, ◌&&◌, ◌||◌, not, Bool, true, false, List, [], ◌∷◌, length, drop, refl, sym, ap, ◌∙◌, arith}
 use Rattle.std.specs.Prelude.{if◌then◌else◌}
-use Rattle.std.proofs.lemmas.List.{drop_more, drop_all}
-use Rattle.std.proofs.lemmas.Option.{unwrap_or-slice_get}
+use Rattle.std.proofs.lemmas.List.{drop_all}
 use Rattle.ssr_syntax_kinds.specs.declared.kinds.SyntaxKind.TheVariants as k
 use Rattle.ssr_syntax_kinds.specs.Kinds.{same_kind, is_trivia}
 use Rattle.ssr_syntax_tree.specs.Syntax.{Token, Syntax, token_count, tokens_of}
 use Rattle.ssr_syntax_tree.specs.Places.{HasToken, token_of}
 use Rattle.ssr_syntax_tree.proofs.Shared.{length-tokens_in}
+use Rattle.ide_ssr_resolving.proofs.Shared.{tokens_left}
 use Rattle.ide_ssr_search.specs.Permitted.{begins_with, is_double_colon, goes_on, names_self}
 
 -- the answer, where `begun` says whether a `self` has come that trivia alone have followed so far
@@ -30,14 +30,6 @@ open_ends false trivia colon goes rest e = let f : false ≡ true = e in cc
 open_ends true true colon goes rest e = let f : false ≡ true = e in cc
 open_ends true false true goes rest e = let f : false ≡ true = e in cc
 open_ends true false false goes rest e = refl
-
--- the tokens from a number on
-tokens_left : (s : Syntax) (n : ℕ) → HasToken s n → drop n (tokens_of s) ≡ token_of s n ∷ drop (n + 1) (tokens_of s)
-unfolding token_of
-tokens_left s n has =
-    let within : n < length (tokens_of s) = omega (arith, length-tokens_in s.children) in
-    let none : Token = record { kind = k.WHITESPACE; text = [] } in
-    drop_more (tokens_of s) n none within ∙ ap (λ token. token ∷ drop (n + 1) (tokens_of s)) (sym (unwrap_or-slice_get (tokens_of s) n none))
 
 -- a `:` in front of the tokens from a number on
 pub colon_there : (s : Syntax) (n : ℕ) → HasToken s n → same_kind (token_of s n).kind k.COLON ≡ begins_with k.COLON (drop n (tokens_of s))

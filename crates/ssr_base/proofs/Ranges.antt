@@ -26,7 +26,7 @@ use Rattle.ssr_base.specs.Laws.{climbed, IsAmong, RangesNest, RunsNest, IsSpanOf
 use Rattle.ssr_base.proofs.Parents.{HoldsTokens, parent_before, parent_holds}
 use Rattle.ssr_base.proofs.Planting.{and_some, some_and, mapped, is_top, is_called, file_at, expansion_at, uncalled_within, own_file}
 use Rattle.ssr_base.proofs.Above.{IsTold, told_from, step_from}
-use Rattle.ssr_base.proofs.Readings.{texts_spelled}
+use Rattle.ssr_syntax.proofs.Shared.{texts_spelled}
 use Rattle.ssr_base.proofs.CoverSpans.{IsInside, fewer_inside, fits_parts, fit_covered}
 
 -- ** Where an original range comes from.

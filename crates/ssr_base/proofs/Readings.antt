@@ -1,10 +1,8 @@
 -- What is read isn't too deep, and each token of a file that is read is a text.
 use Rattle.std.proofs.Common.{◌≡◌, ℕ, zero, suc, ◌^◌, ◌≤◌, Bool, true, false, List, [], ◌∷◌, ◌++◌, length, Option, Some, None, Result, Ok, Err, refl, subst}
 use Rattle.std.proofs.lemmas.Bool.{ltb-false}
-use Rattle.std.proofs.lemmas.Str.{IsUtf8-nil, IsUtf8-append}
 use Rattle.std.proofs.lemmas.List.Elements.{All-from_recursion}
 use Rattle.std.specs.Prelude.{nat_lt, if◌then◌else◌}
-use Rattle.std.specs.List.{AllByRecursion}
 use Rattle.std.specs.Str.{IsUtf8}
 use Rattle.ssr_syntax_kinds.specs.declared.kinds.SyntaxKind.{SyntaxKind}
 use Rattle.ssr_syntax_lex.specs.declared.tokens.RawToken.{RawToken}
@@ -25,7 +23,7 @@ use Rattle.ssr_syntax.specs.Expansions.{expansion_text, expansion_reading, goal_
 use Rattle.ssr_syntax.specs.Lossless.{trivia, behind_trivia, gap, behind_gap, upto, past, before, behind, lossless, whole_tree}
 use Rattle.ssr_syntax.specs.Reading.{most_deep, pieces, error_of, unless_misnamed, one_tree, reading, tree_reading, lexed_reading, file_reading}
 use Rattle.ssr_syntax.specs.Solid.{solid_tokens}
-use Rattle.ssr_syntax.proofs.Shared.{tiled_texts}
+use Rattle.ssr_syntax.proofs.Shared.{AreTexts, texts-append, texts_spelled, texts_split, tiled_texts}
 use Rattle.ssr_base.specs.Built.{HasTexts}
 
 -- ** What there is where a reading answers.
@@ -100,9 +98,6 @@ expansion_shallow kind tokens s e =
 
 -- ** The tokens of a whole tree are texts where those of the list are.
 
-abbrev pub AreTexts : List plain.Token → Type 0
-AreTexts ts = AllByRecursion (λ token. IsUtf8 token.text) ts
-
 chosen : (b : Bool) (xs ys : List plain.Token) → AreTexts xs → AreTexts ys → AreTexts (if b then xs else ys)
 chosen true xs ys left right = left
 chosen false xs ys left right = right
@@ -132,18 +127,6 @@ texts_past : (n : ℕ) (ts : List plain.Token) → AreTexts ts → AreTexts (pas
 texts_past n [] all = tt
 texts_past zero (t ∷ ts) all = all
 texts_past (suc n) (t ∷ ts) all = texts_past (if is_trivia t.kind then suc n else n) ts all.1
-
-pub texts_spelled : (ts : List plain.Token) → AreTexts ts → IsUtf8 (plain.spelled ts)
-texts_spelled [] all = IsUtf8-nil
-texts_spelled (t ∷ ts) all = IsUtf8-append t.text (plain.spelled ts) all.0 (texts_spelled ts all.1)
-
-texts-append : (ss ts : List plain.Token) → AreTexts ss → AreTexts ts → AreTexts (ss ++ ts)
-texts-append [] ts all rest = rest
-texts-append (s ∷ ss) ts all rest = (all.0, texts-append ss ts all.1 rest)
-
-texts_split : (ss ts : List plain.Token) → AreTexts (ss ++ ts) → AreTexts ss × AreTexts ts
-texts_split [] ts all = (tt, all)
-texts_split (s ∷ ss) ts all = let both = texts_split ss ts all.1 in ((all.0, both.0), both.1)
 
 texts_before : (ts : List plain.Token) (z : plain.Forest) → AreTexts ts → AreTexts (plain.tokens_in z) → AreTexts (plain.tokens_in (before ts z))
 texts_before [] z all rest = rest

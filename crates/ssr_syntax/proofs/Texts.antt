@@ -113,18 +113,18 @@ whole-source text raw kind kids are spells =
 
 -- ** Each token of the tree is a text.
 
-abbrev AreTexts : List plain.Token → Type 0
+abbrev pub AreTexts : List plain.Token → Type 0
 AreTexts ts = AllByRecursion (λ token. IsUtf8 token.text) ts
 
-texts-append : (ss ts : List plain.Token) → AreTexts ss → AreTexts ts → AreTexts (ss ++ ts)
+pub texts-append : (ss ts : List plain.Token) → AreTexts ss → AreTexts ts → AreTexts (ss ++ ts)
 texts-append [] ts h k = k
 texts-append (s ∷ ss) ts h k = (h.0, texts-append ss ts h.1 k)
 
-texts_spelled : (ts : List plain.Token) → AreTexts ts → IsUtf8 (plain.spelled ts)
+pub texts_spelled : (ts : List plain.Token) → AreTexts ts → IsUtf8 (plain.spelled ts)
 texts_spelled [] h = IsUtf8-nil
 texts_spelled (t ∷ ts) h = IsUtf8-append t.text (plain.spelled ts) h.0 (texts_spelled ts h.1)
 
-texts_split : (ss ts : List plain.Token) → AreTexts (ss ++ ts) → AreTexts ss × AreTexts ts
+pub texts_split : (ss ts : List plain.Token) → AreTexts (ss ++ ts) → AreTexts ss × AreTexts ts
 texts_split [] ts h = (tt, h)
 texts_split (s ∷ ss) ts h = let r = texts_split ss ts h.1 in ((h.0, r.0), r.1)
 
