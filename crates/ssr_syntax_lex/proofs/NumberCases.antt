@@ -1,7 +1,7 @@
 -- The number at the front, by the run that it begins with and what the code finds behind it.
 use Rattle.std.proofs.Common.{◌≡◌, ℕ, suc, ◌-◌, ◌==◌, Bool, true, false, not, ◌&&◌, ◌||◌, if◌then◌else◌, [], ◌∷◌, length, drop, refl, sym, ap, subst, ◌∙◌}
 use Rattle.std.specs.List.{list_all}
-use Rattle.std.proofs.lemmas.Bool.{and_parts, eqb-true}
+use Rattle.std.proofs.lemmas.Bool.{and_parts, and_right, eqb-true}
 use Rattle.ssr_syntax_lex.specs.Private.Steps.{comes_point}
 use Rattle.ssr_syntax_lex.specs.Cursor.{Chars, passes_at, begins, is_at, run, past}
 use Rattle.ssr_syntax_lex.specs.Characters.{is_digit, is_digit_or_underscore, is_exponent_mark, starts_word, continues_word}
@@ -101,22 +101,13 @@ nothing_left : (cs : Chars) → (length cs == 0) ≡ true → passes_at 0 is_exp
 nothing_left [] e = refl
 nothing_left (c ∷ cs) e = absurd (omega (arith, eqb-true (length (c ∷ cs)) 0 e))
 
-off_between : (a b : Bool) → (a && false && b) ≡ false
-off_between true b = refl
-off_between false b = refl
-
-off_behind : (a : Bool) → (a && false) ≡ false
-off_behind true = refl
-off_behind false = refl
-
 plain_sign : (text rest : Chars) → list_all is_digit_or_underscore text ≡ true → takes_sign (text, rest) ≡ false
 plain_sign text rest plain =
-    ap (λ b. not (has_radix text) && b && is_signed_digit rest) (plain_end text plain) ∙ off_between (not (has_radix text)) (is_signed_digit rest)
+    ap (λ b. b && is_signed_digit rest) (and_right (not (has_radix text)) _ (plain_end text plain))
 
 plain_exponent : (text : Chars) → list_all is_digit_or_underscore text ≡ true → has_exponent text ≡ false
 plain_exponent text plain =
-    ap (λ b. not (has_radix text) && b) (nothing_left (past is_digit_or_underscore text) (sym (all_passed is_digit_or_underscore text) ∙ plain))
-    ∙ off_behind (not (has_radix text))
+    and_right (not (has_radix text)) _ (nothing_left (past is_digit_or_underscore text) (sym (all_passed is_digit_or_underscore text) ∙ plain))
 
 int_kind : (w : Part) → takes_point w ≡ false → takes_sign w ≡ false → has_exponent w.0 ≡ false → number_kind w ≡ k.INT_NUMBER
 int_kind w point sign exponent =

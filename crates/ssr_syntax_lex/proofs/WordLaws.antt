@@ -3,7 +3,7 @@ use Rattle.std.proofs.Common.{◌≡◌, ℕ, ◌<◌, ◌≤◌, ◌==◌, Bool
 use Rattle.std.specs.Prelude.{nat_le, nat_lt, bytes_eq, codes, slice_get, Some, None}
 use Rattle.std.specs.List.{list_all}
 use Rattle.std.specs.Char.{is_ascii_alphabetic}
-use Rattle.std.proofs.lemmas.Bool.{and_from, and_parts, eqb-true, ltb-true, le-leb, lt-leb}
+use Rattle.std.proofs.lemmas.Bool.{and_from, and_parts, eqb-true, ltb-true, le-leb, lt-leb, not-true}
 use Rattle.std.proofs.lemmas.Slice.Eq.{bytes_eq-Decides}
 use Rattle.std.proofs.Math.Bool.{or-false}
 use Rattle.unicode_ident.proofs.IdentLemmas.{is_xid_continue-ascii, is_xid_start-ascii}
@@ -69,10 +69,6 @@ stands_apart [] = false
 stands_apart (m ∷ []) = nat_lt m 128 && not (is_whitespace m) && not (is_ascii_alphabetic m || m == 95) && not (is_digit m)
 stands_apart (m ∷ n ∷ ms) = false
 
-off : (b : Bool) → not b ≡ true → b ≡ false
-off true e = absurd (cc)
-off false e = refl
-
 apart_is : (c : ℕ) (ms : List ℕ) → stands_apart ms ≡ true → is_among c ms ≡ true → IsOfNoOther c
 apart_is c [] apart is = absurd (cc)
 apart_is c (m ∷ []) apart is =
@@ -81,9 +77,9 @@ apart_is c (m ∷ []) apart is =
     let white = and_parts _ _ word.0 in
     let same : m ≡ c = sym (eqb-true c m is) in
     subst IsOfNoOther same (
-      off (is_whitespace m) white.1,
-      ap (λ b. b || m == 95) (is_xid_start-ascii m (ltb-true m 128 white.0)) ∙ off (is_ascii_alphabetic m || m == 95) word.1,
-      off (is_digit m) digit.1,
+      not-true (is_whitespace m) white.1,
+      ap (λ b. b || m == 95) (is_xid_start-ascii m (ltb-true m 128 white.0)) ∙ not-true (is_ascii_alphabetic m || m == 95) word.1,
+      not-true (is_digit m) digit.1,
     )
 apart_is c (m ∷ n ∷ ms) apart is = absurd (cc)
 
