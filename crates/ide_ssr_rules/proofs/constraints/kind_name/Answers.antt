@@ -4,4 +4,4 @@ use Rattle.ide_ssr_rules.proofs.constraints.kind_name.Goals as goal
 
 pub returns : goal.returns
 unfolding kind_name
-returns c = search rules steps 170000
+returns c = search rules steps 340000

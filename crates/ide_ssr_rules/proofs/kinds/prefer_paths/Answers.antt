@@ -23,4 +23,4 @@ returns-then-not-some_path c = nothing_dropped _ _ c.as_slice.ensures.value c.if
 pub returns : goal.returns
 returns c =
     others_dropped _ _ _ c.as_slice.ensures.value c.if-not-some_path.ensures
-    (filter_same _ _ _ (λ x b f' k. search rules steps 65000) _ _ c.retain.ensures.filtered)
+    (filter_same _ _ _ (λ x b f' k. search rules steps 130000) _ _ c.retain.ensures.filtered)

@@ -5,6 +5,6 @@ use Rattle.ssr_syntax_lex.proofs.scan.eat_block_comment.Goals as goal
 
 pub loop-depth-preserved-then-is_pair : goal.loop-depth-preserved-then-is_pair
 loop-depth-preserved-then-is_pair c = record {
-  goes_on = search (rules, comment_steps) steps 110000;
-  few = grind (arith, common_steps, comment_steps) steps 110000;
+  goes_on = search (rules, comment_steps) steps 220000;
+  few = grind (arith, common_steps, comment_steps) steps 220000;
 }

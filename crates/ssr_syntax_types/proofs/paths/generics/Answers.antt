@@ -4,4 +4,4 @@ use Rattle.ssr_syntax_types.proofs.paths.generics.Goals as goal
 
 pub returns-in-InExpr : goal.returns-in-InExpr
 unfolding generics
-returns-in-InExpr g c = search rules steps 190000
+returns-in-InExpr g c = search rules steps 380000

@@ -4,8 +4,8 @@ use Rattle.ssr_syntax_types.proofs.paths.lifetime.Goals as goal
 
 pub returns-in_err-expect : goal.returns-in_err-expect
 unfolding lifetime
-returns-in_err-expect g c = search rules steps 1100000
+returns-in_err-expect g c = search rules steps 2200000
 
 pub returns : goal.returns
 unfolding lifetime
-returns g c = rw c.in_ok-expect.ensures (search (rules, rw c.start-m.ensures at c.complete.ensures) steps 37000)
+returns g c = rw c.in_ok-expect.ensures (search (rules, rw c.start-m.ensures at c.complete.ensures) steps 74000)

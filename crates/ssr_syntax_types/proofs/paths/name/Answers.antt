@@ -4,4 +4,4 @@ use Rattle.ssr_syntax_types.proofs.paths.name.Goals as goal
 
 pub returns : goal.returns
 unfolding name
-returns g c = rw c.in_ok-expect.ensures (search (rules, rw c.start-m.ensures at c.complete.ensures) steps 37000)
+returns g c = rw c.in_ok-expect.ensures (search (rules, rw c.start-m.ensures at c.complete.ensures) steps 74000)

@@ -4,4 +4,4 @@ use Rattle.ssr_syntax_types.proofs.paths.name_ref.Goals as goal
 
 pub returns : goal.returns
 unfolding name_ref
-returns g c = search rules steps 1800000
+returns g c = search rules steps 3000000

@@ -5,8 +5,8 @@ use Rattle.ssr_syntax_types.proofs.paths.simple_path.Goals as goal
 
 pub returns-in_err-plain_path : goal.returns-in_err-plain_path
 unfolding simple_path
-returns-in_err-plain_path g c = search (rules, run_as_long_as) steps 250000
+returns-in_err-plain_path g c = search (rules, run_as_long_as) steps 500000
 
 pub returns : goal.returns
 unfolding simple_path
-returns g c = search (rules, run_as_long_as) steps 1200000
+returns g c = search (rules, run_as_long_as) steps 2400000

@@ -4,4 +4,4 @@ use Rattle.ssr_syntax_types.proofs.token_trees.attrs.Goals as goal
 
 pub returns : goal.returns
 unfolding attrs
-returns g c = search rules steps 1100000
+returns g c = search rules steps 2200000

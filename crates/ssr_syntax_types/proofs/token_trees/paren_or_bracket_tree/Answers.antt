@@ -4,4 +4,4 @@ use Rattle.ssr_syntax_types.proofs.token_trees.paren_or_bracket_tree.Goals as go
 
 pub returns-else-at : goal.returns-else-at
 unfolding paren_or_bracket_tree
-returns-else-at g c = search rules steps 1100000
+returns-else-at g c = search rules steps 2200000

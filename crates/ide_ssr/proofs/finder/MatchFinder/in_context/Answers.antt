@@ -3,7 +3,7 @@ use Rattle.std.proofs.lemmas.Grind.{common_steps}
 use Rattle.ide_ssr.proofs.finder.MatchFinder.in_context.Goals as goal
 
 pub returns-in-Ok : goal.returns-in-Ok
-returns-in-Ok g c = first_of (search rules steps 55000, grind (arith, common_steps) steps 55000)
+returns-in-Ok g c = first_of (search rules steps 110000, grind (arith, common_steps) steps 110000)
 
 pub returns-in-Err : goal.returns-in-Err
-returns-in-Err g c = first_of (search rules steps 55000, grind (arith, common_steps) steps 55000)
+returns-in-Err g c = first_of (search rules steps 110000, grind (arith, common_steps) steps 110000)

@@ -25,4 +25,4 @@ returns-clause-binds g c =
     answer_once finder.rules kept lists (listed lists None) answer (kept_of_rules finder kept lists each in_arguments outcome) outcome.is_kept shown
 
 pub returns-clause-shows : goal.returns-clause-shows
-returns-clause-shows g c = first_of (search rules steps 650000, grind (arith, common_steps) steps 650000)
+returns-clause-shows g c = first_of (search rules steps 1300000, grind (arith, common_steps) steps 1300000)

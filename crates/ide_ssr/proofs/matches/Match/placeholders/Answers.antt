@@ -2,4 +2,4 @@ use Rattle.std.proofs.Common.{rules}
 use Rattle.ide_ssr.proofs.matches.Match.placeholders.Goals as goal
 
 pub returns : goal.returns
-returns c = search rules steps 65000
+returns c = search rules steps 130000

@@ -2,4 +2,4 @@ use Rattle.std.proofs.Common.{rules}
 use Rattle.ide_ssr.proofs.matches.Match.rule_index.Goals as goal
 
 pub returns : goal.returns
-returns c = search rules steps 22000
+returns c = search rules steps 44000

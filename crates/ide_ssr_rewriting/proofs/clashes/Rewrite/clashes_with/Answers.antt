@@ -8,4 +8,4 @@ returns-else-share_byte c = search rules steps 200000
 
 pub returns-else-not-same_range : goal.returns-else-not-same_range
 unfolding is_clash
-returns-else-not-same_range c = search rules steps 200000
+returns-else-not-same_range c = search rules steps 400000

@@ -19,7 +19,7 @@ overflow_add-at c =
     let bound : c.loop-token.at + length c.text_for-text.result.now < 2 ^ 64 = bounded _ _ _ _ _ _ c.loop-token.invariant.within
     (plain_from c.args.self.now.rule.now.names (piece_of c.args.self.now.bindings.now (map cow_str_bytes c.args.self.now.pieces.now)) c.args.self.now.template.now c.loop-token.token (omega arith))
     c.requires.length c.text_for-text.ensures in
-    search rules steps 1000000
+    search rules steps 2000000
 
 pub loop-token-preserved : goal.loop-token-preserved
 loop-token-preserved c =

@@ -13,7 +13,7 @@ returns-clause-answer c =
     )
 
 pub returns-then-not-fits-clause-answer : goal.returns-then-not-fits-clause-answer
-returns-then-not-fits-clause-answer c = λ fit. search (rules, c.if-not-fits.ensures.fits.1 fit) steps 200000
+returns-then-not-fits-clause-answer c = λ fit. search (rules, c.if-not-fits.ensures.fits.1 fit) steps 400000
 
 pub returns-then-not-fits-clause-text : goal.returns-then-not-fits-clause-text
 returns-then-not-fits-clause-text c = tt

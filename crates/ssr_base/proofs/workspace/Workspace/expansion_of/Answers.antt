@@ -14,4 +14,4 @@ overflow_add-result c =
     omega (arith, files, position_within (λ e. same_id c.args.call e.call) 0 c.in-Some.number.now expansions found, c.self.invariant.few, length-map c.self.inside.expansions.items expanded_of)
 
 pub returns-in-Some : goal.returns-in-Some
-returns-in-Some c = search rules steps 500000
+returns-in-Some c = search rules steps 1000000

@@ -2,4 +2,4 @@ use Rattle.std.proofs.Common.{rules}
 use Rattle.ssr_facts.proofs.provider.TableSemanticsSemantics.adt_type.Goals as goal
 
 pub returns : goal.returns
-returns c = search rules steps 55000
+returns c = search rules steps 110000

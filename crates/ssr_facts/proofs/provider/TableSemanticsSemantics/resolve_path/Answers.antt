@@ -2,4 +2,4 @@ use Rattle.std.proofs.Common.{rules}
 use Rattle.ssr_facts.proofs.provider.TableSemanticsSemantics.resolve_path.Goals as goal
 
 pub returns : goal.returns
-returns c = search rules steps 130000
+returns c = search rules steps 260000

@@ -2,7 +2,7 @@ use Rattle.std.proofs.Common.{rules}
 use Rattle.ssr_facts.proofs.provider.TableSemanticsSemantics.self_kind.Goals as goal
 
 pub returns-in-None : goal.returns-in-None
-returns-in-None c = search rules steps 94000
+returns-in-None c = search rules steps 188000
 
 pub returns-in-Some : goal.returns-in-Some
-returns-in-Some c = search rules steps 190000
+returns-in-Some c = search rules steps 380000

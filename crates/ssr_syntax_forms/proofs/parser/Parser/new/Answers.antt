@@ -2,10 +2,10 @@ use Rattle.std.proofs.Common.{rules}
 use Rattle.ssr_syntax_forms.proofs.parser.Parser.new.Goals as goal
 
 pub returns : goal.returns
-returns c = search rules steps 170000
+returns c = search rules steps 340000
 
 pub returns-in_err-rows : goal.returns-in_err-rows
-returns-in_err-rows c = search rules steps 200000
+returns-in_err-rows c = search rules steps 400000
 
 pub returns-in_err-taken : goal.returns-in_err-taken
-returns-in_err-taken c = search rules steps 390000
+returns-in_err-taken c = search rules steps 600000

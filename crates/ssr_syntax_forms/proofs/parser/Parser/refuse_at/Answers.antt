@@ -2,7 +2,7 @@ use Rattle.std.proofs.Common.{rules}
 use Rattle.ssr_syntax_forms.proofs.parser.Parser.refuse_at.Goals as goal
 
 pub returns-then-at_any : goal.returns-then-at_any
-returns-then-at_any g c = search rules steps 65000
+returns-then-at_any g c = search rules steps 130000
 
 pub returns-else-at_any : goal.returns-else-at_any
-returns-else-at_any g c = search rules steps 50000
+returns-else-at_any g c = search rules steps 100000

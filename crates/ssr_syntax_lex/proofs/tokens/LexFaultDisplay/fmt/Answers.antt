@@ -2,4 +2,4 @@ use Rattle.std.proofs.Common.{rules}
 use Rattle.ssr_syntax_lex.proofs.tokens.LexFaultDisplay.fmt.Goals as goal
 
 pub returns : goal.returns
-returns g c = search rules steps 110000
+returns g c = search rules steps 220000

@@ -4,4 +4,4 @@ use Rattle.ssr_syntax_types.proofs.literals.LiteralsTokenSet.contains.Goals as g
 
 pub returns-in-INT_NUMBER : goal.returns-in-INT_NUMBER
 unfolding literals
-returns-in-INT_NUMBER c = search rules steps 850000
+returns-in-INT_NUMBER c = search rules steps 1700000

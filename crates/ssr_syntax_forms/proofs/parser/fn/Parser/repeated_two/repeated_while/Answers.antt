@@ -2,4 +2,4 @@ use Rattle.std.proofs.Common.{rules}
 use Rattle.ssr_syntax_forms.proofs.parser.fn.Parser.repeated_two.repeated_while.Goals as goal
 
 pub returns : goal.returns
-returns g c = search rules steps 57000
+returns g c = search rules steps 114000
