@@ -3,7 +3,7 @@ use Rattle.std.proofs.Common.{◌≡◌, ℕ, suc, ◌+◌, Bool, true, false, �
 use Rattle.std.specs.Prelude.{◌==◌}
 use Rattle.std.specs.List.{list_any, position_from}
 use Rattle.std.specs.Option.{option_map, option_and_then}
-use Rattle.std.proofs.lemmas.Bool.{and_parts, both_ways, cases_lt, cases_eq, or_parts}
+use Rattle.std.proofs.lemmas.Bool.{not-true, and_parts, both_ways, cases_lt, cases_eq, or_parts}
 use Rattle.std.proofs.lemmas.List.Elements.{All-nil, All-cons, All-head, All-tail, All-weaker}
 use Rattle.std.proofs.lemmas.List.Kept.{AllPairs-cons}
 use Rattle.std.proofs.lemmas.List.Folds.{list_any-append}
@@ -20,16 +20,12 @@ use Rattle.ide_ssr_matching.proofs.Spread.{IsAmongNode, AreOf}
 
 -- ** Labels that are different.
 
-was_false : (b : Bool) → not b ≡ true → b ≡ false
-was_false true is = let e : false ≡ true = is in cc
-was_false false is = refl
-
 -- new ones are unequal to those that were seen
 fresh : (seen labels : List (List ℕ)) → are_new seen labels ≡ true → All (λ label. list_any (bytes_eq label) seen ≡ false) labels
 fresh seen [] new = All-nil (λ label. list_any (bytes_eq label) seen ≡ false)
 fresh seen (label ∷ rest) new =
     let both = and_parts (not (list_any (bytes_eq label) seen)) (are_new (seen ++ label ∷ []) rest) new in
-    All-cons (λ label. list_any (bytes_eq label) seen ≡ false) label rest (was_false (list_any (bytes_eq label) seen) both.0)
+    All-cons (λ label. list_any (bytes_eq label) seen ≡ false) label rest (not-true (list_any (bytes_eq label) seen) both.0)
     (All-weaker (λ other. list_any (bytes_eq other) (seen ++ label ∷ []) ≡ false) (λ other. list_any (bytes_eq other) seen ≡ false)
     (λ other none. (or_parts (list_any (bytes_eq other) seen) (list_any (bytes_eq other) (label ∷ [])) (sym (list_any-append (bytes_eq other) seen (label ∷ [])) ∙ none)).0)
     rest (fresh (seen ++ label ∷ []) rest both.1))

@@ -5,7 +5,7 @@ use Rattle.std.specs.List.Sorted.{IsSortedByKey, IsPartitionedBy, IsPartitionPoi
 use Rattle.std.specs.Ordering.{nat_cmp, is_lt, is_eq, ordering_reverse, ordering_then}
 use Rattle.std.specs.declared.cmp.Ordering.{Ordering}
 use Rattle.std.specs.declared.cmp.Ordering.TheVariants.{Less, Equal, Greater}
-use Rattle.std.proofs.lemmas.Bool.{cases_lt, false≢true}
+use Rattle.std.proofs.lemmas.Bool.{cases_lt, false≢true, not-false, not-true}
 use Rattle.std.proofs.lemmas.Cmp.{nat_list_cmp_total}
 use Rattle.std.proofs.lemmas.List.{get_or-map, get_or_default, length-map}
 use Rattle.std.proofs.lemmas.List.Sorted.{ranks_by, sorted_far}
@@ -92,14 +92,6 @@ behind_not_same g h behind = same_by_key g h ∙ greater_not_equal (slice_cmp na
 neither_same : (g h : Option Holder) → comes_before g h ≡ false → comes_before h g ≡ false → same_holder g h ≡ true
 neither_same g h before behind = same_by_key g h ∙ neither (slice_cmp nat_cmp (holder_key g) (holder_key h)) before (reversed g h ∙ behind)
 
-not_true : (b : Bool) → not b ≡ true → b ≡ false
-not_true true is = absurd (false≢true is)
-not_true false is = refl
-
-not_false : (b : Bool) → not b ≡ false → b ≡ true
-not_false true is = refl
-not_false false is = absurd (false≢true (sym is))
-
 module _ (holders : List (Option Holder)) (up : IsSortedByKey holder_key (slice_cmp nat_cmp) holders) (h : Option Holder) where
   far : (i j : ℕ) (d : Option Holder) → i ≤ j → j < length holders → comes_before (get_or holders j d) (get_or holders i d) ≡ false
   far = sorted_far comes_before (ranks_by nat_list_cmp_total holder_key) holders up
@@ -122,7 +114,7 @@ module _ (holders : List (Option Holder)) (up : IsSortedByKey holder_key (slice_
 
   pub behind_parts : IsPartitionedBy (λ g. not (comes_before h g)) holders
   behind_parts i j d low within is =
-      ap not ((ranks_by nat_list_cmp_total holder_key).chain h (get_or holders j d) (get_or holders i d) (not_true (comes_before h (get_or holders j d)) is) (far i j d low within))
+      ap not ((ranks_by nat_list_cmp_total holder_key).chain h (get_or holders j d) (get_or holders i d) (not-true (comes_before h (get_or holders j d)) is) (far i j d low within))
 
   module _ (start end : ℕ) (start_in : start ≤ length holders) (end_in : end ≤ length holders)
       (starts : IsPartitionPoint (λ g. comes_before g h ≡ true) (λ g. comes_before g h ≡ false) holders start)
@@ -132,7 +124,7 @@ module _ (holders : List (Option Holder)) (up : IsSortedByKey holder_key (slice_
       | inl wrong ↦ absurd (
           let g = get_or holders end None in
           let before : comes_before g h ≡ true = starts.0 end None (omega arith) wrong in
-          let behind : comes_before h g ≡ true = not_false (comes_before h g) (ends.1 end None (omega arith) (omega arith)) in
+          let behind : comes_before h g ≡ true = not-false (comes_before h g) (ends.1 end None (omega arith) (omega arith)) in
           false≢true (sym ((ranks_by nat_list_cmp_total holder_key).one_way g h before) ∙ behind)
           )
       | inr right ↦ right
@@ -144,8 +136,8 @@ module _ (holders : List (Option Holder)) (up : IsSortedByKey holder_key (slice_
         sym (rows_between (λ g. same_holder g h) places holders start end counted start_end end_in
         (λ k d less. before_not_same (get_or holders k d) h (starts.0 k d (omega arith) less))
         (λ k d low less. neither_same (get_or holders k d) h (starts.1 k d low (omega arith))
-        (not_true (comes_before h (get_or holders k d)) (ends.0 k d (omega arith) less)))
-        (λ k d low less. behind_not_same (get_or holders k d) h (not_false (comes_before h (get_or holders k d)) (ends.1 k d low less))))
+        (not-true (comes_before h (get_or holders k d)) (ends.0 k d (omega arith) less)))
+        (λ k d low less. behind_not_same (get_or holders k d) h (not-false (comes_before h (get_or holders k d)) (ends.1 k d low less))))
 
 -- ** The holders of sorted rows are in order.
 

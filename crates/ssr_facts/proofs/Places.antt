@@ -1,7 +1,6 @@
 -- Nodes and places of a workspace, tree by tree.
-use Rattle.std.proofs.Common.{◌≡◌, ℕ, ◌+◌, ◌-◌, ◌≤◌, ◌==◌, ◌&&◌, ltb, List, [], ◌∷◌, ◌++◌, length, map, take, drop, Bool, cond, true, false, Option, Some, None, refl, sym, ap, ◌∙◌, inl, inr, arith, eq-eqb, eqb-true, ne_eqb, length-append}
+use Rattle.std.proofs.Common.{◌≡◌, ℕ, ◌+◌, ◌-◌, ◌≤◌, ◌==◌, ◌&&◌, ltb, List, [], ◌∷◌, ◌++◌, length, take, drop, Bool, cond, true, false, Option, Some, None, refl, sym, ap, ◌∙◌, inl, inr, arith, eq-eqb, eqb-true, ne_eqb}
 use Rattle.std.proofs.lemmas.Bool.{cases_eq}
-use Rattle.std.proofs.lemmas.List.{length-map, length-reverse}
 use Rattle.std.proofs.lemmas.Option.{same_Some}
 use Rattle.std.specs.Prelude.{if◌then◌else◌}
 use Rattle.std.specs.BTreeMap.{is_at}
@@ -16,7 +15,8 @@ use Rattle.ssr_syntax_tree.proofs.Lists.{take_between}
 use Rattle.ssr_syntax_tree.proofs.Shared.{node_left, node_of-number}
 use Rattle.ssr_base.specs.declared.ids.NodeId.{NodeId}
 use Rattle.ssr_base.specs.Building.{most_trees}
-use Rattle.ssr_base.specs.Workspace.{Workspace, Planted, trees, planted, tree_of, node_id, has_node, of_file, of_expansion}
+use Rattle.ssr_base.specs.Workspace.{Workspace, Planted, trees, planted, tree_of, node_id, has_node}
+use Rattle.ssr_base.proofs.Shared.{length-trees}
 use Rattle.ssr_facts_rows.specs.declared.places.PlaceRow.{PlaceRow}
 use Rattle.ssr_facts_rows.specs.contracts.places.PlaceRowOrd.TheImpl as place_order
 use Rattle.ssr_facts.specs.Nodes.{same_place, place_in, place_of, stands_at, node_at}
@@ -35,16 +35,9 @@ planted_past [] t past = refl
 planted_past (p ∷ earlier) t past =
     ap (λ b. cond b (Some p) (planted earlier t)) (ne_eqb t (length earlier) (λ e. omega arith)) ∙ planted_past earlier t (omega arith)
 
-tree_count : (w : Workspace) → length (trees w) ≡ length w.files + length w.expansions
-unfolding trees
-tree_count w =
-    length-reverse (map of_file w.files ++ map of_expansion w.expansions)
-    ∙ length-append (map of_file w.files) (map of_expansion w.expansions)
-    ∙ (λ i. length-map w.files of_file i + length-map w.expansions of_expansion i)
-
 module _ (w : Workspace) (few : length w.files + length w.expansions ≤ most_trees) where
   none_planted : (t : ℕ) → most_trees ≤ t → planted (trees w) t ≡ None
-  none_planted t past = planted_past (trees w) t (omega (arith, tree_count w))
+  none_planted t past = planted_past (trees w) t (omega (arith, length-trees w))
 
   pub no_node_past : (kind : SyntaxKind) (place : PlaceRow) → most_trees ≤ place.tree → node_at w kind place ≡ None
   no_node_past kind place past =
