@@ -4,6 +4,7 @@ mod RowCounts
 mod Siblings
 mod ReadBack
 mod RowLaws
+mod KindsOfNodes
 mod Places
 mod Above
 mod Ranges

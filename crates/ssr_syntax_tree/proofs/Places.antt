@@ -174,6 +174,15 @@ tokens_apart syntax n m h g behind =
     ∙ get_or-append_right front place.nodes_after (node_count node.children) far root count (omega arith) in
     rw read (All-get_or (λ later. node.first + token_count node.children ≤ later.first) place.nodes_after (far - node_count node.children) root (omega arith) place.later)
 
+-- of two nodes the one with the greater number begins at the same token or later
+pub firsts_grow : (syntax : Syntax) (n m : ℕ) → HasNode syntax n → HasNode syntax m → n < m → (node_of syntax n).first ≤ (node_of syntax m).first
+firsts_grow syntax n m h g behind =
+    let number = node_of-number syntax n h in
+    elim (cases_lt m (n + size_of (node_of syntax n))) [
+      | inl inside ↦ (below_within syntax n m h (omega arith, omega arith)).starts
+      | inr apart ↦ omega (arith, tokens_apart syntax n m h g apart)
+    ]
+
 -- the tokens of a node
 pub tokens_in-node : (syntax : Syntax) (n : ℕ) → HasNode syntax n → take (token_count (node_of syntax n).children) (drop (node_of syntax n).first (tokens_of syntax)) ≡ tokens_in (node_of syntax n).children
 tokens_in-node syntax n h =

@@ -1,7 +1,7 @@
 -- The laws of trees that the crates above may cite. The other files of lemmas here are this crate's own, but for `Lists`.
 
 -- nodes and their numbers
-pub use Rattle.ssr_syntax_tree.proofs.Places.{node_of-number, below_fits, smaller}
+pub use Rattle.ssr_syntax_tree.proofs.Places.{node_of-number, below_fits, smaller, firsts_grow}
 pub use Rattle.ssr_syntax_tree.proofs.Nodes.{node_is, node_left, node_found, node_passed, none_found}
 -- how many nodes and tokens there are
 pub use Rattle.ssr_syntax_tree.proofs.Siblings.{length-nodes_in, length-tokens_in}

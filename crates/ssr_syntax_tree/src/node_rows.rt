@@ -72,6 +72,7 @@ impl NodeRows {
     }
 
     /// How many rows there are.
+    #[inline(always)]
     pub fn len(&self) -> usize
         ensures { result ≡ length self.now }
     {
@@ -79,6 +80,7 @@ impl NodeRows {
     }
 
     /// The row of that number, counted from 0.
+    #[inline(always)]
     pub fn row(&self, number: usize) -> NodeRow
         requires { number < length self.now }
         ensures { slice_get self.now number ≡ Some result }
@@ -109,6 +111,7 @@ impl NodeRows {
     }
 
     /// Puts another row in the place of that number.
+    #[inline(always)]
     pub fn set(&mut self, number: usize, row: NodeRow)
         requires { number < length self.old }
         ensures { self.new ≡ slice_set self.old number row }

@@ -109,6 +109,18 @@ impl Tree {
         self.nodes.kind(node.0 as usize)
     }
 
+    /// Whether some node is of this kind. All kinds are compared, which takes fewer jumps than a stop at the first one.
+    pub fn has_kind(&self, kind: SyntaxKind) -> bool
+        ensures { IsTrue result ↔ ((n : ℕ) × (HasNode self.now n × ((node_of self.now n).kind ≡ kind))) }
+    {
+        let kinds = self.nodes.kinds();
+        let mut found = false;
+        for own in kinds {
+            found |= own.is(kind);
+        }
+        found
+    }
+
     /// The node above; the root has none.
     pub fn parent(&self, node: NodeNo) -> Option<NodeNo>
         requires { HasNode self.now node.0 }
