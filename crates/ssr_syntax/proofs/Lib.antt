@@ -15,6 +15,7 @@ mod Trimmed
 mod Trimming
 mod TextRows
 mod TextLaws
+mod MacroNames
 mod MemoryFree
 mod ExpansionTokens
 mod ExpansionLaws

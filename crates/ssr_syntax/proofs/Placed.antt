@@ -13,6 +13,7 @@ use Rattle.ssr_syntax_forms.proofs.Shared.{length-rows}
 use Rattle.ssr_syntax_forms.specs.Trees.{Forest, done, leaf, tree, spell, nodes, height}
 use Rattle.ssr_syntax_forms.specs.Written.{rows}
 use Rattle.ssr_syntax.specs.Private.Preorder.{node_rows, first_at, past_at, tree_rows, IsDepthFault, OkUnlessDeep}
+use Rattle.ssr_syntax.specs.Private.Turning.{TurningRows}
 use Rattle.ssr_syntax.specs.Reading.{most_deep}
 use Rattle.ssr_syntax.specs.Private.OpenNodes.{still_open, closed, number_of, first_of, opened, from_right, is_deeper, IsClosed, IsFromRight}
 
@@ -302,15 +303,15 @@ none_left (inner ∷ above) =
 pub all_closed : (old new : List Open) → reverse new ≡ still_open 0 (reverse old) → length new ≡ 0
 all_closed old new h = sym (length-reverse new) ∙ ap length (h ∙ none_left (reverse old))
 
-pub closed_at_end : {R : Type 0} (at : ℕ → ℕ) (total : ℕ) (rest rows : List NodeRow) (above old new : List Open)
-    (before written nodes : List NodeRow) (r : R)
+pub closed_at_end : (at : ℕ → ℕ) (total : ℕ) (rest rows : List NodeRow) (above old new : List Open)
+    (before written : List NodeRow) (t : TurningRows)
     → rest ≡ []
     → written ++ from_right at total (reverse old) (reverse rest) ≡ before ++ from_right at total (reverse above) (reverse rows)
     → is_deeper most_deep at total (reverse old) (reverse rest) ≡ is_deeper most_deep at total (reverse above) (reverse rows)
-    → IsClosed 0 old new written nodes → IsFromRight at total rows above before nodes (Ok r)
-closed_at_end at total [] rows above old new before written nodes r none e f h =
+    → IsClosed 0 old new written t.turned → IsFromRight at total rows above before (Ok t)
+closed_at_end at total [] rows above old new before written t none e f h =
     (sym f, h.1 ∙ ap (λ l. written ++ l) (closes_all (reverse old)) ∙ e)
-closed_at_end at total (row ∷ rest) rows above old new before written nodes r none e f h = absurd (omega (arith, ap length none))
+closed_at_end at total (row ∷ rest) rows above old new before written t none e f h = absurd (omega (arith, ap length none))
 
 -- ** One row: `mid` are the nodes that stay open before it, `inner` is its node.
 module _ (at : ℕ → ℕ) (total : ℕ) (row : NodeRow) (place : ℕ) (old mid : List Open) (written kept : List NodeRow) (inner : Open)

@@ -1,7 +1,7 @@
 -- Laws of solid tokens.
 use Rattle.std.proofs.Common.{◌≡◌, Bool, true, false, not, ◌||◌, ◌&&◌, if◌then◌else◌, List, [], ◌∷◌, drop, Some, None, refl, sym, ◌∙◌, ap}
 use Rattle.std.proofs.lemmas.Bool.{and_parts, not-true, or_parts}
-use Rattle.std.specs.Prelude.{Option}
+use Rattle.std.specs.Prelude.{Option, slice_get}
 use Rattle.ssr_syntax_kinds.specs.declared.kinds.SyntaxKind.{SyntaxKind}
 use Rattle.ssr_syntax_kinds.specs.declared.kinds.SyntaxKind.TheVariants as k
 use Rattle.ssr_syntax_kinds.specs.Kinds.{same_kind, is_trivia}
@@ -9,6 +9,7 @@ use Rattle.ssr_syntax_lex.specs.declared.tokens.RawToken.{RawToken}
 use Rattle.ssr_syntax_kinds.proofs.Shared.{same_kind-equal}
 use Rattle.ssr_syntax_forms.specs.declared.tokens.Token.{Token}
 use Rattle.ssr_syntax.specs.Solid.{with_eq, with_r_angle, twice, joined, lengthened, is_joint, joined_two, joined_three, solid_token, solid_tokens}
+use Rattle.ssr_syntax.specs.Private.SolidKinds.{ends_joined, with_next}
 use Rattle.ssr_syntax.specs.Identifiers.{is_ident}
 use Rattle.ssr_syntax.proofs.Laid.{by_kind}
 use Rattle.ssr_syntax.proofs.Solidity.{AllSolid}
@@ -64,6 +65,28 @@ joined_joins : (next kind : SyntaxKind) → joins (joined next kind) next kind �
 joined_joins k.EQ kind = eq_joins kind
 joined_joins k.R_ANGLE kind = r_angle_joins kind
 joined_joins next kind = perhaps_joins (same_kind kind next) next kind refl
+
+unlike : (b : Bool) (next kind : SyntaxKind) → same_kind kind next ≡ b → twice next ≡ None → (if b then twice kind else None) ≡ None
+unlike true next kind e none = ap twice (same_kind-equal kind next e) ∙ none
+unlike false next kind e none = refl
+
+never_joined : (next kind : SyntaxKind) → ends_joined next ≡ false → joined next kind ≡ None
+never_joined k.EQ kind e = cc
+never_joined k.R_ANGLE kind e = cc
+never_joined k.COLON kind e = cc
+never_joined k.DOT kind e = cc
+never_joined k.AMP kind e = cc
+never_joined k.PIPE kind e = cc
+never_joined k.L_ANGLE kind e = cc
+never_joined next kind e = unlike (same_kind kind next) next kind refl refl
+
+-- nothing is joined with a token that is no last part
+pub stands_alone : (kind : SyntaxKind) (kinds : List SyntaxKind) (next : SyntaxKind) → slice_get kinds 0 ≡ Some next → ends_joined next ≡ false
+    → with_next kind kinds ≡ None
+stands_alone kind [] next first e = refl
+stands_alone kind (other ∷ kinds) next first e =
+    let same : next ≡ other = cc in
+    never_joined other kind (ap ends_joined (sym same) ∙ e)
 
 -- what a token is joined from: one of the kind, and one directly behind it
 pub record AreJoined (kind both : SyntaxKind) (ts : List RawToken) : Type 0 where

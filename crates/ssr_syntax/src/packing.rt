@@ -40,6 +40,7 @@ impl Packing {
     }
 
     /// How many rows are packed.
+    #[inline(always)]
     pub(crate) fn packed(&self) -> usize
         ensures { result ≡ length self.now.packed }
     {
@@ -47,6 +48,7 @@ impl Packing {
     }
 
     /// Reads the first one of the unread rows.
+    #[inline(always)]
     pub(crate) fn read(&mut self) -> Option<TokenRow>
         ensures all { IfNone result ((self.old.unread ≡ []) × (self.new ≡ self.old)) }
         ensures row { IfSome result (λ row. self.old.unread ≡ row ∷ self.new.unread) }
@@ -62,6 +64,7 @@ impl Packing {
     }
 
     /// Puts a row behind the packed ones.
+    #[inline(always)]
     pub(crate) fn put(&mut self, row: TokenRow)
         requires { 0 < self.old.room }
         ensures packed { self.new.packed ≡ self.old.packed ++ row ∷ [] }

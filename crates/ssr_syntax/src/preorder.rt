@@ -1,9 +1,9 @@
 //! The rows of a tree's nodes in preorder, from the parser's rows.
-ghost use Rattle.std.specs.Prelude.{◌≡◌, ◌+◌, ◌<◌, ◌≤◌, ◌^◌, [], length, reverse, slice_index, nat_lt, IfOk};
+ghost use Rattle.std.specs.Prelude.{◌≡◌, ◌+◌, ◌<◌, ◌≤◌, ◌^◌, [], length, reverse, slice_index, nat_lt, vec_capacity, IfOk};
 ghost use Rattle.ssr_syntax_kinds.specs.declared.kinds.SyntaxKind.{SyntaxKind};
 ghost use Rattle.ssr_syntax.specs.Private.Preorder.{first_at, past_at, OkUnlessDeep, tree_rows, most_nodes};
 ghost use Rattle.ssr_syntax.specs.Reading.{most_deep};
-ghost use Rattle.ssr_syntax.specs.Private.OpenNodes.{opened, IsClosed, IsOpened, IsFromRight};
+ghost use Rattle.ssr_syntax.specs.Private.OpenNodes.{opened, AreEnough, IsClosed, IsOpened, IsFromRight};
 ghost use Rattle.ssr_syntax_forms.specs.Trees.{Forest, done, height, tree};
 ghost use Rattle.ssr_syntax_forms.specs.Written.{rows as rows_of};
 
@@ -19,8 +19,8 @@ const MOST_DEEP: usize = 1024;
 /// 2^32 is room for the open nodes, which are added to a number.
 const MOST_NODES: usize = 0xffff_f000;
 
-/// For how many open nodes there is room from the first one on; texts of a few tokens have no more.
-const OPEN_AT_FIRST: usize = 32;
+/// How many nodes may be open at once: one at each depth.
+const MOST_OPEN: usize = MOST_DEEP + 1;
 
 /// A node with its row, as long as more nodes may stand below it.
 #[derive(Clone, Copy)]
@@ -32,11 +32,14 @@ struct Open {
 }
 
 /// Closes the open nodes that begin at `place` or behind it.
+#[inline(always)]
 fn close_open(place: usize, above: &mut Vec<Open>, rows: &mut Turning)
     requires { length above.old.items ≤ rows.old.room }
     ensures closed { IsClosed place above.old.items above.new.items rows.old.turned rows.new.turned }
     ensures unread { rows.new.unread ≡ rows.old.unread }
     ensures room { rows.new.room + length above.old.items ≡ rows.old.room + length above.new.items }
+    ensures fewer { length above.new.items ≤ length above.old.items }
+    ensures places { vec_capacity above.new ≡ vec_capacity above.old }
 {
     while let Some(inner) = above.last() {
         if inner.start < place {
@@ -48,6 +51,7 @@ fn close_open(place: usize, above: &mut Vec<Open>, rows: &mut Turning)
 }
 
 /// How many tokens there are up to the solid one of that number.
+#[inline(always)]
 fn taken(ends: &[u32], solid: usize) -> u32
     ensures { result ≡ slice_index ends.now solid }
 {
@@ -56,6 +60,7 @@ fn taken(ends: &[u32], solid: usize) -> u32
 
 /// The first token of a node of `count` solid tokens, to whose left `left` stand. A node without tokens stands at the
 /// token `low` or behind it.
+#[inline(always)]
 fn first_token(ends: &[u32], low: u32, left: u32, count: u32) -> u32
     ensures { result ≡ first_at (λ i. slice_index ends.now i) low left count }
 {
@@ -67,6 +72,7 @@ fn first_token(ends: &[u32], low: u32, left: u32, count: u32) -> u32
 }
 
 /// The token past the last one of such a node.
+#[inline(always)]
 fn past_token(ends: &[u32], low: u32, left: u32, count: u32) -> u32
     ensures { result ≡ past_at (λ i. slice_index ends.now i) low left count }
 {
@@ -78,6 +84,7 @@ fn past_token(ends: &[u32], low: u32, left: u32, count: u32) -> u32
 }
 
 /// The node of a row with `place` rows in front of it, below the open ones.
+#[inline(always)]
 fn opened(ends: &[u32], total: u32, row: &NodeRow, place: usize, above: &[Open]) -> Open
     requires { place + length above.now < 2 ^ 32 }
     ensures { result ≡ opened (λ i. slice_index ends.now i) total row.now place (reverse above.now) }
@@ -103,6 +110,7 @@ fn opened(ends: &[u32], total: u32, row: &NodeRow, place: usize, above: &[Open])
 }
 
 /// Opens the node of a row with `place` rows in front of it, or turns it at once if no node is below it.
+#[inline(always)]
 fn open_row(
     ends: &[u32],
     total: u32,
@@ -113,9 +121,12 @@ fn open_row(
 ) -> Result<(), SyntaxError>
     requires few { place ≤ most_nodes }
     requires room { rows.old.room ≡ 1 + length above.old.items }
+    requires places { AreEnough (vec_capacity above.old) rows.old }
     ensures opened { IsOpened (λ i. slice_index ends.now i) total row.now place above.old.items above.new.items rows.old.turned rows.new.turned result }
     ensures unread { rows.new.unread ≡ rows.old.unread }
     ensures room { IfOk result (λ _. rows.new.room ≡ length above.new.items) }
+    ensures one_more { length above.new.items ≤ 1 + length above.old.items }
+    ensures places { vec_capacity above.new ≡ vec_capacity above.old }
 {
     close_open(place + 1, above, rows);
     if above.len() > MOST_DEEP {
@@ -125,30 +136,32 @@ fn open_row(
     if row.below == 0 {
         rows.put(inner.node);
     } else {
-        above.push(inner)?;
+        above.push_reserved(inner);
     }
     Ok(())
 }
 
-/// Turns the rows, the last one first, and then those above.
+/// Turns the rows, the last one first, and then those above. It has both lists to itself, so that what the loop knows of
+/// them can stay in registers.
 #[inline(never)]
 fn from_right(
     ends: &[u32],
     total: u32,
-    above: &mut Vec<Open>,
-    rows: &mut Turning,
-) -> Result<(), SyntaxError>
-    requires few { length rows.old.unread ≤ most_nodes }
-    requires room { rows.old.room ≡ length above.old.items }
-    ensures turned { IsFromRight (λ i. slice_index ends.now i) total rows.old.unread above.old.items rows.old.turned rows.new.turned result }
-    ensures read { IfOk result (λ _. rows.new.unread ≡ []) }
-    ensures full { IfOk result (λ _. rows.new.room ≡ 0) }
+    mut above: Vec<Open>,
+    mut rows: Turning,
+) -> Result<Turning, SyntaxError>
+    requires few { length rows.unread ≤ most_nodes }
+    requires room { rows.room ≡ length above.items }
+    requires places { AreEnough (vec_capacity above) rows }
+    ensures turned { IsFromRight (λ i. slice_index ends.now i) total rows.unread above.items rows.turned result }
+    ensures read { IfOk result (λ t. t.unread ≡ []) }
+    ensures full { IfOk result (λ t. t.room ≡ 0) }
 {
     while let Some(row) = rows.read() {
-        open_row(ends, total, &row, rows.unread(), above, rows)?;
+        open_row(ends, total, &row, rows.unread(), &mut above, &mut rows)?;
     }
-    close_open(0, above, rows);
-    Ok(())
+    close_open(0, &mut above, &mut rows);
+    Ok(rows)
 }
 
 /// The rows of a tree's nodes in preorder, from the parser's, in the same vectors. `ends` says how many of the `tokens`
@@ -164,7 +177,8 @@ pub(crate) fn node_rows(
         (λ v. (v ≡ tree_rows (λ i. slice_index ends.now i) tokens kind kids) × (length rows ≤ most_nodes))
         result }
 {
-    if rows.len() > MOST_NODES {
+    let count = rows.len();
+    if count > MOST_NODES {
         return Err(SyntaxError::Memory);
     }
     let mut rows = Turning::new(rows);
@@ -178,12 +192,13 @@ pub(crate) fn node_rows(
         past: tokens,
         below: rows.unread() as u32,
     };
-    let mut above = Vec::with_capacity(alloc, OPEN_AT_FIRST)?;
-    above.push(Open {
+    // There is room for all that may be open at once from the first one on.
+    let mut above = Vec::with_capacity(alloc, count.min(MOST_OPEN))?;
+    above.push_reserved(Open {
         start: 0,
         number: 0,
         node,
-    })?;
-    from_right(ends, root.first, &mut above, &mut rows)?;
-    Ok(rows.finish())
+    });
+    let turned = from_right(ends, root.first, above, rows)?;
+    Ok(turned.finish())
 }

@@ -1,7 +1,8 @@
 //! The solid tokens of a text: all but white space and comments, joined to the longest ones.
 ghost use Rattle.std.specs.Prelude.{◌≡◌, IfOk, drop, false, None};
 ghost use Rattle.ssr_syntax.specs.Solid.{with_eq, with_r_angle, twice, joined};
-ghost use Rattle.ssr_syntax.specs.Private.SolidKinds.{with_next, solid_kind, solid_kinds};
+ghost use Rattle.ssr_syntax.specs.Private.SolidKinds.{ends_joined, with_next, solid_kind, solid_kinds};
+ghost use Rattle.ssr_syntax_kinds.specs.declared.kinds.SyntaxKind.{SyntaxKind};
 
 use ssr_syntax_forms::Token;
 use ssr_syntax_kinds::SyntaxKind;
@@ -69,14 +70,30 @@ fn joined(next: SyntaxKind, kind: SyntaxKind) -> Option<SyntaxKind>
     }
 }
 
-/// Whether one may be joined with the first of those behind it. Most tokens stand alone, and this tells it of nearly all.
-fn may_go_on(kind: SyntaxKind, behind: &[SyntaxKind]) -> bool
-    ensures { result ≡ false → with_next kind behind.now ≡ None }
+/// Whether there are joined tokens whose last part is of this kind.
+fn ends_joined(kind: SyntaxKind) -> bool
+    ensures { result ≡ ends_joined kind }
+{
+    matches!(
+        kind,
+        SyntaxKind::EQ
+            | SyntaxKind::R_ANGLE
+            | SyntaxKind::COLON
+            | SyntaxKind::DOT
+            | SyntaxKind::AMP
+            | SyntaxKind::PIPE
+            | SyntaxKind::L_ANGLE
+    )
+}
+
+/// Whether a token may be joined with the first of those behind it. Most tokens stand alone, and the kind of the next one
+/// tells it of nearly all.
+fn may_go_on(behind: &[SyntaxKind]) -> bool
+    ensures { (kind : SyntaxKind) → result ≡ false → with_next kind behind.now ≡ None }
 {
     match behind.first() {
         None => false,
-        Some(SyntaxKind::EQ | SyntaxKind::R_ANGLE) => true,
-        Some(next) => kind == *next && twice(kind).is_some(),
+        Some(next) => ends_joined(*next),
     }
 }
 
@@ -113,7 +130,7 @@ fn alone(kind: SyntaxKind) -> Token
 fn solid_token(kind: SyntaxKind, behind: &[SyntaxKind]) -> Token
     ensures { result ≡ solid_kind kind behind.now }
 {
-    if !may_go_on(kind, behind) {
+    if !may_go_on(behind) {
         return alone(kind);
     }
     let Some(two) = lengthened(kind, behind) else {
@@ -142,7 +159,7 @@ pub(crate) fn solid_tokens(alloc: Global, kinds: &[SyntaxKind]) -> Result<Vec<To
     let mut rest = kinds;
     while let Some((first, others)) = rest.split_first() {
         if !first.is_trivia() {
-            tokens.push(solid_token(*first, others))?;
+            tokens.push_reserved(solid_token(*first, others));
         }
         rest = others;
     }

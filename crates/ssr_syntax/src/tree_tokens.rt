@@ -1,5 +1,5 @@
 //! The rows of a tree's tokens, from those of the text's tokens and the tokens that the parser took.
-ghost use Rattle.std.specs.Prelude.{ℕ, ◌≡◌, ◌+◌, ◌-◌, ◌<◌, ◌≤◌, ◌^◌, ◌∷◌, ◌++◌, List, length, replicate, IfOk};
+ghost use Rattle.std.specs.Prelude.{ℕ, ◌≡◌, ◌+◌, ◌-◌, ◌<◌, ◌≤◌, ◌^◌, ◌∷◌, ◌++◌, List, length, replicate, IfOk, vec_len, vec_capacity};
 ghost use Rattle.ssr_syntax.specs.Private.TreeTokens.{taken_rows, taken_sizes, ends as ends_of};
 ghost use Rattle.ssr_syntax_kinds.specs.declared.token_rows.TokenRow.{TokenRow};
 
@@ -24,19 +24,21 @@ fn add<'a>(
     next: &'a [Taken],
     rows: &mut Packing,
     sizes: &mut Vec<u8>,
-) -> Result<(u8, &'a [Taken]), AllocError>
-    requires { 0 < rows.old.room }
-    ensures packed { IfOk result (λ r. (others : List TokenRow) → rows.new.packed ++ taken_rows r.0 r.1.now others
-        ≡ rows.old.packed ++ taken_rows left next.now (token ∷ others)) }
-    ensures sizes { IfOk result (λ r. (others : List TokenRow) → sizes.new.items ++ taken_sizes r.0 r.1.now others
-        ≡ sizes.old.items ++ taken_sizes left next.now (token ∷ others)) }
+) -> (u8, &'a [Taken])
+    requires room { 0 < rows.old.room }
+    requires places { vec_len sizes.old < vec_capacity sizes.old }
+    ensures packed { (others : List TokenRow) → rows.new.packed ++ taken_rows result.0 result.1.now others
+        ≡ rows.old.packed ++ taken_rows left next.now (token ∷ others) }
+    ensures sizes { (others : List TokenRow) → sizes.new.items ++ taken_sizes result.0 result.1.now others
+        ≡ sizes.old.items ++ taken_sizes left next.now (token ∷ others) }
     ensures unread { rows.new.unread ≡ rows.old.unread }
-    ensures count { IfOk result (λ r. length rows.new.packed ≤ length rows.old.packed + 1) }
-    ensures beside { length sizes.old.items ≡ length rows.old.packed → IfOk result (λ r. length sizes.new.items ≡ length rows.new.packed) }
+    ensures count { length rows.new.packed ≤ length rows.old.packed + 1 }
+    ensures beside { length sizes.old.items ≡ length rows.old.packed → length sizes.new.items ≡ length rows.new.packed }
+    ensures places { vec_capacity sizes.new ≡ vec_capacity sizes.old }
 {
     let is_trivia = token.kind.is_trivia();
     if left > 0 {
-        return Ok((if is_trivia { left } else { left - 1 }, next));
+        return (if is_trivia { left } else { left - 1 }, next);
     }
     match next.split_first() {
         Some((first, others)) if !is_trivia => {
@@ -44,13 +46,13 @@ fn add<'a>(
                 kind: first.kind,
                 start: token.start,
             });
-            sizes.push(first.size)?;
-            Ok((first.size.saturating_sub(1), others))
+            sizes.push_reserved(first.size);
+            (first.size.saturating_sub(1), others)
         }
         _ => {
             rows.put(token);
-            sizes.push(0)?;
-            Ok((0, next))
+            sizes.push_reserved(0);
+            (0, next)
         }
     }
 }
@@ -72,7 +74,7 @@ pub(crate) fn tree_tokens(
     let mut left = 0;
     let mut next = taken;
     while let Some(token) = packing.read() {
-        (left, next) = add(token, left, next, &mut packing, &mut sizes)?;
+        (left, next) = add(token, left, next, &mut packing, &mut sizes);
     }
     Ok(TreeTokens {
         rows: packing.finish(),
@@ -99,7 +101,7 @@ pub(crate) fn ends(alloc: Global, sizes: &[u8], solid: usize) -> Result<Vec<u32>
 {
     let mut ends = Vec::with_capacity(alloc, solid.saturating_add(1))?;
     let mut count = 0;
-    ends.push(count)?;
+    ends.push_reserved(count);
     let mut rest = sizes;
     while let Some((size, others)) = rest.split_first() {
         count += 1;

@@ -41,6 +41,7 @@ impl Turning {
     }
 
     /// How many rows are unread.
+    #[inline(always)]
     pub(crate) fn unread(&self) -> usize
         ensures { result ≡ length self.now.unread }
     {
@@ -48,6 +49,7 @@ impl Turning {
     }
 
     /// Reads the last one of the unread rows.
+    #[inline(always)]
     pub(crate) fn read(&mut self) -> Option<NodeRow>
         ensures all { IfNone result ((self.old.unread ≡ []) × (self.new ≡ self.old)) }
         ensures row { IfSome result (λ row. self.old.unread ≡ self.new.unread ++ row ∷ []) }
@@ -62,6 +64,7 @@ impl Turning {
     }
 
     /// Puts a row in front of the turned ones.
+    #[inline(always)]
     pub(crate) fn put(&mut self, row: NodeRow)
         requires { 0 < self.old.room }
         ensures unread { self.new.unread ≡ self.old.unread }

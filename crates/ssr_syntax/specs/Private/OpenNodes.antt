@@ -1,10 +1,11 @@
 -- Private: the rows of a tree's nodes from the parser's rows, read from the right: a node is open until a row comes that isn't below it.
 -- Open nodes are told from the innermost one on; a row comes before `place` if it isn't below those that begin there.
-use Rattle.std.specs.Prelude.{ℕ, ◌+◌, ◌-◌, nat_le, nat_lt, Bool, false, ◌||◌, if◌then◌else◌, List, [], ◌∷◌, ◌++◌, length, map, reverse, ◌≡◌, Result}
+use Rattle.std.specs.Prelude.{ℕ, ◌+◌, ◌-◌, ◌<◌, ◌≤◌, nat_le, nat_lt, Bool, false, ◌||◌, if◌then◌else◌, List, [], ◌∷◌, ◌++◌, length, map, reverse, ◌≡◌, Result}
 use Rattle.ssr_syntax_tree.specs.declared.rows.NodeRow.{NodeRow}
 use Rattle.ssr_syntax.specs.declared.preorder.Open.{Open}
 use Rattle.ssr_syntax.specs.declared.syntax_error.SyntaxError.{SyntaxError}
 use Rattle.ssr_syntax.specs.Private.Preorder.{first_at, past_at, OkUnlessDeep}
+use Rattle.ssr_syntax.specs.Private.Turning.{TurningRows}
 use Rattle.ssr_syntax.specs.Reading.{most_deep}
 
 -- those that stay open
@@ -72,8 +73,11 @@ IsOpened at total row place old new written nodes result =
     × (is_deeper most_deep at total (reverse new) front ≡ is_deeper most_deep at total (reverse old) (row ∷ front)))
     result
 
-abbrev pub IsFromRight : {R : Type 0}
-    → (ℕ → ℕ) → ℕ → List NodeRow → List Open → List NodeRow → List NodeRow → Result R SyntaxError → Type 0
-IsFromRight at total rows above written nodes result =
+abbrev pub IsFromRight : (ℕ → ℕ) → ℕ → List NodeRow → List Open → List NodeRow → Result TurningRows SyntaxError → Type 0
+IsFromRight at total rows above written result =
     OkUnlessDeep (is_deeper most_deep at total (reverse above) (reverse rows))
-    (λ r. nodes ≡ written ++ from_right at total (reverse above) (reverse rows)) result
+    (λ t. t.turned ≡ written ++ from_right at total (reverse above) (reverse rows)) result
+
+-- so many places are enough for the nodes that may be open at once: there are no more of these than rows that aren't turned, and than levels
+abbrev pub AreEnough : ℕ → TurningRows → Type 0
+AreEnough places rows = (n : ℕ) → n ≤ most_deep → n < length rows.unread + rows.room → n < places

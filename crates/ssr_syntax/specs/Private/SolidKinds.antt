@@ -1,10 +1,22 @@
 -- Private: the solid tokens of a text, from the kinds of its tokens alone. A text's token is joint if the next one is
 -- punctuation, and nothing else is joined, so whether it is joint needn't be asked.
-use Rattle.std.specs.Prelude.{Bool, true, not, if◌then◌else◌, List, [], ◌∷◌, drop, Option, Some, None}
+use Rattle.std.specs.Prelude.{Bool, true, false, not, if◌then◌else◌, List, [], ◌∷◌, drop, Option, Some, None}
 use Rattle.ssr_syntax_kinds.specs.Kinds.{is_trivia}
 use Rattle.ssr_syntax_kinds.specs.declared.kinds.SyntaxKind.{SyntaxKind}
+use Rattle.ssr_syntax_kinds.specs.declared.kinds.SyntaxKind.TheVariants as k
 use Rattle.ssr_syntax_forms.specs.declared.tokens.Token.{Token}
 use Rattle.ssr_syntax.specs.Solid.{joined, joined_three}
+
+-- there are joined tokens whose last part is of this kind
+abbrev pub ends_joined : SyntaxKind → Bool
+ends_joined k.EQ = true
+ends_joined k.R_ANGLE = true
+ends_joined k.COLON = true
+ends_joined k.DOT = true
+ends_joined k.AMP = true
+ends_joined k.PIPE = true
+ends_joined k.L_ANGLE = true
+ends_joined _ = false
 
 -- a token of the kind, joined with the first of those behind it
 abbrev pub with_next : SyntaxKind → List SyntaxKind → Option SyntaxKind

@@ -1,4 +1,4 @@
-use Rattle.std.proofs.Common.{◌≡◌, ◌++◌, ◌+◌, ◌≤◌, vec_len, length}
+use Rattle.std.proofs.Common.{◌≡◌, ◌++◌, ◌+◌, ◌≤◌, vec_len, vec_capacity, length}
 use Rattle.std.specs.Prelude.{reverse}
 use Rattle.ssr_syntax.specs.Private.OpenNodes.{still_open, closed}
 use Rattle.ssr_syntax.proofs.preorder.close_open.Given as goal
@@ -10,6 +10,8 @@ invariant-loop-inner l =
     × (l.rows.unread ≡ l.fn.rows.unread)
     × (l.rows.room + length l.fn.above.items ≡ l.fn.rows.room + length l.above.items)
     × (length l.above.items ≤ l.rows.room)
+    × (length l.above.items ≤ length l.fn.above.items)
+    × (vec_capacity l.above ≡ vec_capacity l.fn.above)
 
 abbrev pub decreases-loop-inner : goal.decreases-loop-inner
 decreases-loop-inner l = vec_len l.above

@@ -1,7 +1,7 @@
-use Rattle.std.proofs.Common.{◌≡◌, ◌++◌, ◌≤◌, length}
+use Rattle.std.proofs.Common.{◌≡◌, ◌++◌, ◌≤◌, length, vec_capacity}
 use Rattle.std.specs.Prelude.{reverse, slice_index}
 use Rattle.ssr_syntax.specs.Reading.{most_deep}
-use Rattle.ssr_syntax.specs.Private.OpenNodes.{from_right, is_deeper}
+use Rattle.ssr_syntax.specs.Private.OpenNodes.{from_right, is_deeper, AreEnough}
 use Rattle.ssr_syntax.proofs.preorder.from_right.Given as goal
 
 abbrev pub invariant-loop-row : goal.invariant-loop-row
@@ -12,6 +12,7 @@ invariant-loop-row l =
     ≡ is_deeper most_deep (λ i. slice_index l.ends i) l.total (reverse l.fn.above.items) (reverse l.fn.rows.unread))
     × (length l.rows.unread ≤ length l.fn.rows.unread)
     × (l.rows.room ≡ length l.above.items)
+    × AreEnough (vec_capacity l.above) l.rows
 
 abbrev pub decreases-loop-row : goal.decreases-loop-row
 decreases-loop-row l = length l.rows.unread

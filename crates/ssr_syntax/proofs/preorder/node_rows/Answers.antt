@@ -7,23 +7,23 @@ use Rattle.ssr_syntax_forms.specs.Trees.{height}
 use Rattle.ssr_syntax.proofs.Placed.{rows_done, rows_too_deep, root_open, carried}
 use Rattle.ssr_syntax.proofs.preorder.node_rows.Goals as goal
 
-pub returns-in_err-from_right : goal.returns-in_err-from_right
-returns-in_err-from_right c kind kids e =
+pub returns-in_err-turned : goal.returns-in_err-turned
+returns-in_err-turned c kind kids e =
     let same = rows_too_deep (λ i. slice_index c.args.ends.now i) c.args.tokens kind kids c.read.new.self.unread c.args.rows c.in-Some.root
-    c.in_ok-above.above.items c.push.new.self.items (sym (ap (λ t. t.unread) c.new-rows.ensures) ∙ c.in-Some.ensures.row) e c.in_ok-above.ensures.items
-    (c.in_ok-push.ensures.items ∙ ap (λ n. c.in_ok-above.above.items ++ (root_open c.in-Some.root.kind c.args.tokens n ∷ [])) c.unread.ensures) in
+    c.in_ok-above.above.items c.push_reserved.new.self.items (sym (ap (λ t. t.unread) c.new-rows.ensures) ∙ c.in-Some.ensures.row) e c.in_ok-above.ensures.items
+    (c.push_reserved.ensures.items ∙ ap (λ n. c.in_ok-above.above.items ++ (root_open c.in-Some.root.kind c.args.tokens n ∷ [])) c.unread.ensures) in
     carried
-    (is_deeper most_deep (λ i. slice_index c.args.ends.now i) c.in-Some.root.first (reverse c.push.new.self.items) (reverse c.read.new.self.unread))
+    (is_deeper most_deep (λ i. slice_index c.args.ends.now i) c.in-Some.root.first (reverse c.push_reserved.new.self.items) (reverse c.read.new.self.unread))
     (nat_lt most_deep (height kids))
     (λ v. (v ≡ tree_rows (λ i. slice_index c.args.ends.now i) c.args.tokens kind kids) × (length c.args.rows ≤ most_nodes))
-    c.in_err-from_right.field-0.0 c.from_residual-in_err-from_right.result
-    c.in_err-from_right.ensures.turned same c.from_residual-in_err-from_right.ensures.0 c.from_residual-in_err-from_right.ensures.1
+    c.in_err-turned.field-0.0 c.from_residual-in_err-turned.result
+    c.in_err-turned.ensures.turned same c.from_residual-in_err-turned.ensures.0 c.from_residual-in_err-turned.ensures.1
 
 pub returns : goal.returns
 returns c kind kids e =
     let r = rows_done (λ i. slice_index c.args.ends.now i) c.args.tokens kind kids c.read.new.self.unread c.args.rows c.in-Some.root
-    c.in_ok-above.above.items c.push.new.self.items (sym (ap (λ t. t.unread) c.new-rows.ensures) ∙ c.in-Some.ensures.row) e c.in_ok-above.ensures.items
-    (c.in_ok-push.ensures.items ∙ ap (λ n. c.in_ok-above.above.items ++ (root_open c.in-Some.root.kind c.args.tokens n ∷ [])) c.unread.ensures)
-    c.read.new.self.turned c.from_right.new.rows.turned (c.read.ensures.turned ∙ ap (λ t. t.turned) c.new-rows.ensures)
-    c.in_ok-from_right.ensures.turned.0 c.in_ok-from_right.ensures.turned.1 in
-    (r.0, (c.finish.ensures ∙ r.1, omega (arith, c.len.ensures, c.if-len-gt-MOST_NODES.false)))
+    c.in_ok-above.above.items c.push_reserved.new.self.items (sym (ap (λ t. t.unread) c.new-rows.ensures) ∙ c.in-Some.ensures.row) e c.in_ok-above.ensures.items
+    (c.push_reserved.ensures.items ∙ ap (λ n. c.in_ok-above.above.items ++ (root_open c.in-Some.root.kind c.args.tokens n ∷ [])) c.unread.ensures)
+    c.read.new.self.turned c.in_ok-turned.turned.turned (c.read.ensures.turned ∙ ap (λ t. t.turned) c.new-rows.ensures)
+    c.in_ok-turned.ensures.turned.0 c.in_ok-turned.ensures.turned.1 in
+    (r.0, (c.finish.ensures ∙ r.1, omega (arith, c.len-count.ensures, c.if-count-gt-MOST_NODES.false)))

@@ -1,4 +1,4 @@
-use Rattle.std.proofs.Common.{arith, ◌∙◌, ap}
+use Rattle.std.proofs.Common.{arith, ◌∙◌, ap, length}
 use Rattle.std.specs.Prelude.{reverse, slice_index}
 use Rattle.ssr_syntax.specs.Private.OpenNodes.{opened}
 use Rattle.ssr_syntax.proofs.Placed.{goes_on, goes_on_written}
@@ -12,10 +12,17 @@ returns-then-row-eq0-clause-opened c =
     (c.opened-inner.ensures ∙ ap (λ l. opened (λ i. slice_index c.args.ends.now i) c.args.total c.args.row.now c.args.place (reverse l)) c.deref.ensures.value)
     c.put.new.self.turned (omega (arith, ap (λ o. o.start) c.opened-inner.ensures, c.if-row-eq0.true)) c.put.ensures.turned
 
-pub returns-in_ok-push-clause-opened : goal.returns-in_ok-push-clause-opened
-returns-in_ok-push-clause-opened c =
+pub returns-else-row-eq0-clause-opened : goal.returns-else-row-eq0-clause-opened
+returns-else-row-eq0-clause-opened c =
     goes_on (λ i. slice_index c.args.ends.now i) c.args.total c.args.row.now c.args.place c.args.above.now.items
     c.close_open.new.above.items c.args.rows.now.turned c.close_open.new.rows.turned c.opened-inner.result
     c.close_open.ensures.closed.0 c.close_open.ensures.closed.1 (omega (arith, c.len.ensures, c.if-len-gt-MOST_DEEP.false))
     (c.opened-inner.ensures ∙ ap (λ l. opened (λ i. slice_index c.args.ends.now i) c.args.total c.args.row.now c.args.place (reverse l)) c.deref.ensures.value)
-    c.push.new.self.items c.in_ok-push.ensures.items
+    c.push_reserved.new.self.items c.push_reserved.ensures.items
+
+pub push_reserved-requires : goal.push_reserved-requires
+push_reserved-requires c =
+    let above = c.close_open.new.above in
+    let enough = c.requires.places (length above.items)
+    (omega (arith, above.ok.0, c.len.ensures, c.if-len-gt-MOST_DEEP.false)) (omega (arith, c.requires.room, c.close_open.ensures.fewer)) in
+    omega (arith, enough, above.ok.0, c.close_open.ensures.places)
