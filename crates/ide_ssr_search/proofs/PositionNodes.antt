@@ -11,7 +11,7 @@ use Rattle.ssr_syntax_tree.specs.declared.number.TokenNo.{TokenNo}
 use Rattle.ssr_syntax_tree.specs.Syntax.{Forest, nothing, leaf, branch, Syntax, node_count, token_count, tokens_of, spelled, source_of}
 use Rattle.ssr_syntax_tree.specs.Places.{Node, Part, token_part, node_part, HasNode, HasToken, HoldsByte, node_of, size_of, offset_of, parts_in, parts_of, element_of}
 use Rattle.ssr_syntax_tree.proofs.Lists.{all_at}
-use Rattle.ssr_syntax_tree.proofs.Shared.{node_of-number, below_fits, offset_grows, IsChild, children_known, IsOver, inside, below_root, root_size}
+use Rattle.ssr_syntax_tree.proofs.Shared.{node_of-number, below_fits, firsts_grow, offset_grows, IsChild, children_known, IsOver, inside, below_root, root_size}
 use Rattle.ide_ssr_search.specs.Positions.{EndsAt, IsNear, IsFirst, IsNextSibling, IsLeftFor, Leads, goes_on}
 
 -- ** Tokens by their bytes.
@@ -115,6 +115,14 @@ last_before s t number found other so_far = record {
         | inr late ↦ let same : m ≡ number = omega arith in other (subst (λ m. Spans s m t) same spans)
       ];
 }
+
+-- from a node on that begins behind the token no node has it
+pub none_behind : (s : Syntax) (t number : ℕ) → HasNode s number → t < (node_of s number).first → (m : ℕ) → HasNode s m → number ≤ m → ¬ Spans s m t
+none_behind s t number has past m has_m behind spans =
+    elim (cases_lt number m) [
+      | inl later ↦ omega (arith, past, firsts_grow s number m has has_m later, spans.0)
+      | inr here ↦ let same : number ≡ m = omega arith in omega (arith, past, ap (λ n. (node_of s n).first) same, spans.0)
+    ]
 
 -- ** Steps to other nodes.
 

@@ -45,7 +45,15 @@ fn has_token(tree: &Tree, node: NodeNo, token: TokenNo) -> bool
     tokens.start <= token.0 && token.0 < tokens.end
 }
 
-/// The parent of a token: the last node that has it.
+/// Whether a node begins behind a token.
+fn begins_behind(tree: &Tree, node: NodeNo, token: TokenNo) -> bool
+    requires { HasNode tree.now node.0 }
+    ensures { IsTrue result ↔ (token.0 < (node_of tree.now node.0).first) }
+{
+    token.0 < tree.tokens_below(node).start
+}
+
+/// The parent of a token: the last node that has it. From a node on that begins behind the token none has it.
 fn parent_of(tree: &Tree, token: TokenNo) -> NodeNo
     requires { HasToken tree.now token.0 }
     ensures parent { IsFirst tree.now (Some token.0) result.0 }
@@ -53,7 +61,11 @@ fn parent_of(tree: &Tree, token: TokenNo) -> NodeNo
 {
     let mut found = 0;
     for number in 1..tree.node_count() {
-        if has_token(tree, NodeNo(number), token) {
+        let node = NodeNo(number);
+        if begins_behind(tree, node, token) {
+            return NodeNo(found);
+        }
+        if has_token(tree, node, token) {
             found = number;
         }
     }

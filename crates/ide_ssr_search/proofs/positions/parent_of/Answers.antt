@@ -1,6 +1,6 @@
-use Rattle.std.proofs.Common.{◌+◌, sym, subst, arith}
-use Rattle.std.proofs.lemmas.Bool.{both_ways}
-use Rattle.ide_ssr_search.proofs.PositionNodes.{IsLastSpanning, root_spans, is_parent, last_here, last_before}
+use Rattle.std.proofs.Common.{◌+◌, sym, subst, inl, inr, arith}
+use Rattle.std.proofs.lemmas.Bool.{both_ways, cases_lt}
+use Rattle.ide_ssr_search.proofs.PositionNodes.{IsLastSpanning, root_spans, is_parent, last_here, last_before, none_behind}
 use Rattle.ide_ssr_search.proofs.positions.parent_of.Goals as goal
 use Rattle.ide_ssr_search.proofs.positions.parent_of.Goals.{then-has_token, else-has_token}
 
@@ -25,3 +25,16 @@ pub returns-clause-parent : goal.returns-clause-parent
 returns-clause-parent c =
     let so_far = c.loop-number.invariant in
     is_parent c.args.tree.now c.loop-number.found c.args.token.0 so_far.has so_far.spans (λ m has behind. so_far.last m behind (omega arith))
+
+pub returns-then-begins_behind-clause-parent : goal.returns-then-begins_behind-clause-parent
+returns-then-begins_behind-clause-parent c =
+    let tree = c.args.tree.now in
+    let t = c.args.token.0 in
+    let n = c.loop-number.number in
+    let so_far = c.loop-number.invariant in
+    is_parent tree c.loop-number.found t so_far.has so_far.spans
+    (λ m has behind.
+    elim (cases_lt m n) [
+      | inl earlier ↦ so_far.last m behind earlier
+      | inr late ↦ none_behind tree t n (omega arith) (c.begins_behind.ensures.0 c.if-begins_behind.true) m has late
+    ])
