@@ -1,12 +1,13 @@
 -- What the parser is left with tells whether there is a tree.
-use Rattle.std.proofs.Common.{◌≡◌, ◌≢◌, List, [], ◌∷◌, length, Result, Ok, Err, refl, sym, ap, ◌∙◌}
+use Rattle.std.proofs.Common.{◌≡◌, ◌≢◌, List, [], ◌∷◌, Result, Ok, Err, refl, sym, ap, subst, ◌∙◌}
 use Rattle.ssr_syntax_types.specs.declared.goals.Goal.{Goal}
 use Rattle.ssr_syntax_forms.specs.declared.fault.Fault.{Fault}
 use Rattle.ssr_syntax_forms.specs.declared.fault.Fault.TheVariants as faults
 use Rattle.ssr_syntax_forms.specs.declared.rows.Output.{Output}
 use Rattle.ssr_syntax_forms.specs.declared.tokens.Token.{Token}
 use Rattle.ssr_syntax_forms.specs.Trees.{Forest}
-use Rattle.ssr_syntax_forms.specs.Parser.{written_of, written_in}
+use Rattle.ssr_syntax_kinds.specs.declared.kinds.SyntaxKind.{SyntaxKind}
+use Rattle.ssr_syntax_forms.specs.Parser.{Written, Holds, unwritten}
 use Rattle.ssr_syntax_forms.specs.Written.{writes}
 use Rattle.ssr_syntax_forms.specs.Forms.{so_far, ◌>>=◌}
 use Rattle.ssr_syntax_forms.specs.Parser.{State, state_of, Finishes}
@@ -31,16 +32,20 @@ is_left : (rest : List Token) (z : Forest) → rest ≢ [] → whole (so_far z r
 is_left [] z e = absurd (e refl)
 is_left (t ∷ ts) z e = refl
 
-pub finished : (goal : Goal) (ts : List Token) (old new : State) (result : Result Output Fault) → old ≡ state_of (written_of [] []) ts
-    → run_goal grammar most_levels goal old ≡ Ok new → Finishes new result → IsReading (λ v. written_in v) result (reading goal ts)
-finished goal ts old new (Ok v) start e f =
-    let m = read_as_run grammar most_levels goal ts old new start e in
-    (m.0, read_to goal ts new.rest m.0 m.1 ∙ is_whole new.rest m.0 f.0, f.1 ∙ m.2 ∙ ap (λ w. writes m.0 (length w)) f.0)
-finished goal ts old new (Err x) start e f =
-    let m = read_as_run grammar most_levels goal ts old new start e in
+-- the output of what is written is that of the same
+held : (out : Output) (v w : Written) → Holds out v → v ≡ w → Holds out w
+held out v w h e = subst (Holds out) e h
+
+pub finished : (goal : Goal) (kinds : List SyntaxKind) (ts : List Token) (old new : State) (result : Result Output Fault) → old ≡ state_of (unwritten kinds) ts
+    → run_goal grammar most_levels goal old ≡ Ok new → Finishes new result → IsReading kinds result (reading goal ts)
+finished goal kinds ts old new (Ok v) start e f =
+    let m = read_as_run grammar most_levels goal (unwritten kinds) ts old new start e in
+    (m.0, read_to goal ts new.rest m.0 m.1 ∙ is_whole new.rest m.0 f.0, held v new.out (writes m.0 (unwritten kinds)) f.1 m.2)
+finished goal kinds ts old new (Err x) start e f =
+    let m = read_as_run grammar most_levels goal (unwritten kinds) ts old new start e in
     λ told. read_to goal ts new.rest m.0 m.1 ∙ is_left new.rest m.0 f.0 ∙ ap Err (sym f.1)
 
-pub no_tree : (goal : Goal) (ts : List Token) (old : State) (f : Fault) → old ≡ state_of (written_of [] []) ts
+pub no_tree : (goal : Goal) (kinds : List SyntaxKind) (ts : List Token) (old : State) (f : Fault) → old ≡ state_of (unwritten kinds) ts
     → run_goal grammar most_levels goal old ≡ Err f → reading goal ts ≡ Err f
 unfolding reading
-no_tree goal ts old f start e = ap (λ w. w >>= whole) (refused_as_run grammar most_levels goal ts old f start e)
+no_tree goal kinds ts old f start e = ap (λ w. w >>= whole) (refused_as_run grammar most_levels goal (unwritten kinds) ts old f start e)

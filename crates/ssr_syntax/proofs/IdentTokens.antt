@@ -13,7 +13,7 @@ use Rattle.ssr_syntax_tree.specs.Syntax as plain
 use Rattle.ssr_syntax_tree.specs.Syntax.{tokens_of}
 use Rattle.ssr_syntax_forms.specs.declared.tokens.Token.{Token}
 use Rattle.ssr_syntax_forms.specs.Trees as solid
-use Rattle.ssr_syntax_forms.specs.Written as written
+use Rattle.ssr_syntax.specs.Private.Leaves as written
 use Rattle.ssr_syntax_forms.specs.Forms.{more, taken_as}
 use Rattle.ssr_syntax.specs.Lossless.{trivia, behind_trivia, gap, behind_gap, upto, past, whole_tree}
 use Rattle.ssr_syntax.specs.Identifiers.{is_ident, idents}

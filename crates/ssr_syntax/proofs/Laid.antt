@@ -8,11 +8,14 @@ use Rattle.ssr_syntax_tree.specs.declared.rows.NodeRow.{NodeRow}
 use Rattle.ssr_syntax_tree.specs.Syntax as plain
 use Rattle.ssr_syntax_tree.specs.Places.{nodes_in}
 use Rattle.ssr_syntax_tree.specs.Parts.{node_row}
-use Rattle.ssr_syntax_forms.specs.declared.rows.Taken.{Taken}
+use Rattle.ssr_syntax.specs.Private.Leaves.{Taken}
+use Rattle.ssr_syntax_forms.specs.Places as place
+use Rattle.ssr_syntax_forms.specs.Places.{leading, behind_solid, Place, behind_token}
 use Rattle.ssr_syntax_forms.specs.Trees as solid
-use Rattle.ssr_syntax_forms.specs.Written as written
+use Rattle.ssr_syntax.specs.Private.Leaves as written
 use Rattle.ssr_syntax.specs.Lossless.{trivia, behind_trivia, gap, behind_gap, upto, past, before, behind, lossless}
-use Rattle.ssr_syntax.specs.Private.Preorder.{node_rows, first_at, past_at}
+use Rattle.ssr_syntax.specs.Private.Leaves.{after, first_in, past_in}
+use Rattle.ssr_syntax.specs.Private.Preorder.{node_rows}
 
 -- ** Tokens beside siblings.
 
@@ -291,88 +294,100 @@ height-lossless (solid.tree kind kids x) ts =
     height-before (gap n ts) _
     ∙ omega (arith, height-lossless kids (behind_gap n ts), height-lossless x (past n ts))
 
--- ** Where nodes stand. `at i` is how many tokens of the tree there are up to the i-th solid one and with the token that
--- it is of; t of the tree's tokens and i solid ones are to the left of what is taken.
-abbrev pub Counts : (ℕ → ℕ) → ℕ → ℕ → List Taken → List plain.Token → Type 0
-Counts at t i [] ts = ⊤
-Counts at t i (u ∷ us) ts =
-    let next : ℕ = t + length (gap u.size ts) + 1 in
-    (at (i + 1) ≡ next) × (at (i + u.size) ≡ next) × Counts at next (i + u.size) us (past u.size ts)
+-- ** The kinds of tokens.
 
-pub counts_same : (at : ℕ → ℕ) (t s i j : ℕ) (us : List Taken) (ts ss : List plain.Token) → t ≡ s → i ≡ j → ts ≡ ss
-    → Counts at t i us ts → Counts at s j us ss
-counts_same at t s i j us ts ss e f g h =
-    subst (Counts at s j us) g (subst (λ n. Counts at s n us ts) f (subst (λ n. Counts at n i us ts) e h))
+abbrev pub kinds_of : List plain.Token → List SyntaxKind
+kinds_of ts = map (λ t. t.kind) ts
 
-counts-append : (at : ℕ → ℕ) (t i : ℕ) (us vs : List Taken) (ts : List plain.Token) → Counts at t i (us ++ vs) ts
-    → Counts at t i us ts × Counts at (t + length (laid us ts)) (i + total us) vs (past (total us) ts)
-counts-append at t i [] vs ts h =
-    (tt, counts_same at t (t + 0) i (i + 0) vs ts (past 0 ts) (omega arith) (omega arith) (sym (past-zero ts)) h)
-counts-append at t i (u ∷ us) vs ts h =
+pub leading-kinds : (ts : List plain.Token) → leading (kinds_of ts) ≡ length (trivia ts)
+leading-kinds [] = refl
+leading-kinds (t ∷ ts) =
+    elim (is_trivia t.kind) as (λ b. (if b then 1 + leading (kinds_of ts) else 0) ≡ length (if b then t ∷ trivia ts else []))
+    [ true ↦ omega (arith, leading-kinds ts) | false ↦ refl ]
+
+pub behind-kinds : (ts : List plain.Token) → place.behind_trivia (kinds_of ts) ≡ kinds_of (behind_trivia ts)
+behind-kinds [] = refl
+behind-kinds (t ∷ ts) =
+    elim (is_trivia t.kind)
+    as (λ b. (if b then place.behind_trivia (kinds_of ts) else t.kind ∷ kinds_of ts) ≡ kinds_of (if b then behind_trivia ts else t ∷ ts))
+    [ true ↦ behind-kinds ts | false ↦ refl ]
+
+pub past-kinds : (n : ℕ) (ts : List plain.Token) → behind_solid n (kinds_of ts) ≡ kinds_of (past n ts)
+past-kinds n [] = refl
+past-kinds zero (t ∷ ts) = refl
+past-kinds (suc n) (t ∷ ts) = past-kinds (if is_trivia t.kind then suc n else n) ts
+
+-- ** Where nodes stand. The parser is at p, and t of the tree's tokens are to the left of ts: those of the parser, but that
+-- the innermost node may begin later, at the token `low`.
+pub record At (p : Place) (t low : ℕ) (ts : List plain.Token) : Type 0 where
+  pub next : p.next ≡ t + length (trivia ts)
+  pub kinds : p.kinds ≡ kinds_of (behind_trivia ts)
+  pub here : t ≡ max p.end low
+
+at_same : (p : Place) (t t' low : ℕ) (ts ts' : List plain.Token) → t ≡ t' → ts ≡ ts' → At p t low ts → At p t' low ts'
+at_same p t t' low ts ts' e f h = subst (λ n. At p n low ts') e (subst (At p t low) f h)
+
+-- behind a token
+at_token : (n : ℕ) (p : Place) (t low : ℕ) (ts : List plain.Token) → 0 < n → At p t low ts
+    → At (behind_token n p) (t + length (gap n ts) + 1) low (past n ts)
+at_token zero p t low ts lt h = absurd (omega arith)
+at_token (suc n) p t low ts lt h =
+    let left : behind_solid (suc n) p.kinds ≡ kinds_of (past (suc n) ts) =
+    ap (behind_solid (suc n)) h.kinds ∙ past-kinds (suc n) (behind_trivia ts) ∙ ap kinds_of (past-behind_trivia n ts) in
+    record {
+      next = omega (arith, h.next, ap leading left, leading-kinds (past (suc n) ts));
+      kinds = ap place.behind_trivia left ∙ behind-kinds (past (suc n) ts);
+      here = omega (arith, h.next, h.here);
+    }
+
+-- behind some of them
+at_after : (us : List Taken) (p : Place) (t low : ℕ) (ts : List plain.Token) → AreSolid us → At p t low ts
+    → At (after us p) (t + length (laid us ts)) low (past (total us) ts)
+at_after [] p t low ts s h = at_same p t (t + 0) low ts (past 0 ts) (omega arith) (sym (past-zero ts)) h
+at_after (u ∷ us) p t low ts s h =
     let n = u.size in
     let next : ℕ = t + length (gap n ts) + 1 in
-    let r = counts-append at next (i + n) us vs (past n ts) h.2 in
-    let longer : length (laid (u ∷ us) ts) ≡ length (gap n ts) + (1 + length (laid us (past n ts))) =
-    omega (arith, length-append (gap n ts) (token_of u ts ∷ laid us (past n ts))) in (
-      (h.0, h.1, r.0),
-      counts_same at (next + length (laid us (past n ts))) (t + length (laid (u ∷ us) ts)) (i + n + total us) (i + (n + total us)) vs
-          (past (total us) (past n ts)) (past (n + total us) ts) (omega arith) (omega arith) (sym (past-add n (total us) ts)) r.1,
-    )
+    at_same (after us (behind_token n p)) (next + length (laid us (past n ts))) (t + length (laid (u ∷ us) ts)) low
+    (past (total us) (past n ts)) (past (n + total us) ts)
+    (omega (arith, length-append (gap n ts) (token_of u ts ∷ laid us (past n ts))))
+    (sym (past-add n (total us) ts))
+    (at_after us (behind_token n p) next low (past n ts) s.2 (at_token n p t low ts s.0 h))
 
 -- What is below a node with n solid tokens, which stands there.
-record CountsInside (at : ℕ → ℕ) (t low i n : ℕ) (us : List Taken) (ts : List plain.Token) : Type 0 where
-  pub first : t + length (gap n ts) ≡ first_at at low i n
-  pub last : t + length (gap n ts) + length (laid us (behind_gap n ts)) ≡ past_at at low i n
-  pub here : t + length (gap n ts) ≡ max (at i) (first_at at low i n)
-  pub inside : Counts at (t + length (gap n ts)) i us (behind_gap n ts)
-  pub next : t + length (gap n ts) + length (laid us (behind_gap n ts)) ≡ max (at (i + n)) low
+record Inside (p : Place) (t low n : ℕ) (us : List Taken) (ts : List plain.Token) : Type 0 where
+  pub first : t + length (gap n ts) ≡ max (first_in us p) low
+  pub last : t + length (gap n ts) + length (laid us (behind_gap n ts)) ≡ max (past_in us p) low
+  pub inside : At p (t + length (gap n ts)) (max (first_in us p) low) (behind_gap n ts)
+  pub next : At (after us p) (t + length (gap n ts) + length (laid us (behind_gap n ts))) low (past n ts)
 
--- the count up to the last one
-last_count : (at : ℕ → ℕ) (t i : ℕ) (u : Taken) (us : List Taken) (ts : List plain.Token) → Counts at t i (u ∷ us) ts
-    → at (i + total (u ∷ us)) ≡ t + length (laid (u ∷ us) ts)
-last_count at t i u [] ts h =
-    let same : at (i + (u.size + 0)) ≡ at (i + u.size) = ap at (omega arith) in
-    omega (arith, h.1, length-append (gap u.size ts) (token_of u ts ∷ []))
-last_count at t i u (v ∷ us) ts h =
-    let n = u.size in
-    let rest = laid (v ∷ us) (past n ts) in
-    let same : at (i + (n + total (v ∷ us))) ≡ at ((i + n) + total (v ∷ us)) = ap at (omega arith) in
-    omega (
-      arith,
-      last_count at (t + length (gap n ts) + 1) (i + n) v us (past n ts) h.2,
-      length-append (gap n ts) (token_of u ts ∷ rest),
-    )
-
-counts_inside : (at : ℕ → ℕ) (t low i n : ℕ) (us : List Taken) (ts : List plain.Token) → AreSolid us → n ≡ total us → t ≡ max (at i) low
-    → Counts at t i us ts → CountsInside at t low i n us ts
-counts_inside at t low i zero [] ts s e here h =
-    let same : at (i + 0) ≡ at i = ap at (omega arith) in
-    record { first = omega arith; last = omega arith; here = omega arith; inside = tt; next = omega arith }
-counts_inside at t low i (suc n) [] ts s e here h = absurd (omega arith)
-counts_inside at t low i zero (u ∷ us) ts s e here h = absurd (omega (arith, s.0))
-counts_inside at t low i (suc n) (u ∷ us) ts s e here h =
-    let m = u.size in
+inside_of : (p : Place) (t low n : ℕ) (us : List Taken) (ts : List plain.Token) → AreSolid us → n ≡ total us → At p t low ts
+    → Inside p t low n us ts
+inside_of p t low zero [] ts s e h = record {
+  first = omega (arith, h.next, h.here);
+  last = omega (arith, h.here);
+  inside = record { next = omega (arith, h.next); kinds = h.kinds; here = omega (arith, h.next, h.here) };
+  next = at_same p t (t + 0 + 0) low ts (past 0 ts) (omega arith) (sym (past-zero ts)) h;
+}
+inside_of p t low (suc n) [] ts s e h = absurd (omega arith)
+inside_of p t low zero (u ∷ us) ts s e h = absurd (omega (arith, s.0))
+inside_of p t low (suc n) (u ∷ us) ts s e h =
     let b = behind_gap (suc n) ts in
-    let lt : 0 < suc n = omega arith in
-    let first : at (i + 1) ≡ t + length (gap m ts) + 1 = h.0 in
-    let gaps : length (gap m ts) ≡ length (gap (suc n) ts) = ap length (gap_same m (suc n) ts s.0 lt) in
-    let none : length (gap m b) ≡ 0 = ap length (gap-behind m (suc n) ts s.0 lt) in
     let all : length (laid (u ∷ us) ts) ≡ length (gap (suc n) ts) + length (laid (u ∷ us) b) =
     ap length (laid-gap (suc n) (u ∷ us) ts s e) ∙ length-append (gap (suc n) ts) (laid (u ∷ us) b) in
-    let last : at (i + suc n) ≡ t + length (laid (u ∷ us) ts) = ap (λ k. at (i + k)) e ∙ last_count at t i u us ts h in
-    let some : length (laid (u ∷ us) b) ≡ length (gap m b) + (1 + length (laid us (past m b))) =
-    omega (arith, length-append (gap m b) (token_of u b ∷ laid us (past m b))) in
+    let some : length (laid (u ∷ us) b) ≡ length (gap u.size b) + (1 + length (laid us (past u.size b))) =
+    omega (arith, length-append (gap u.size b) (token_of u b ∷ laid us (past u.size b))) in
+    let behind = at_after (u ∷ us) p t low ts s h in
+    let none : length (trivia b) ≡ 0 = ap length (trivia-behind ts) in
     record {
-      first = omega arith;
-      last = omega arith;
-      here = omega arith;
-      inside = (
-        omega arith,
-        omega (arith, h.1),
-        counts_same at (t + length (gap m ts) + 1) ((t + length (gap (suc n) ts)) + length (gap m b) + 1) (i + m) (i + m) us (past m ts) (past m b)
-            (omega arith) refl (sym (past-gap m (suc n) ts s.0 lt)) h.2,
-      );
-      next = omega arith;
+      first = omega (arith, h.next, h.here, all, some, behind.here);
+      last = omega (arith, h.here, all, some, behind.here);
+      inside = record {
+        next = omega (arith, h.next, none);
+        kinds = h.kinds ∙ ap kinds_of (sym (behind-behind ts));
+        here = omega (arith, h.next, h.here, all, some, behind.here);
+      };
+      next = at_same (after (u ∷ us) p) (t + length (laid (u ∷ us) ts)) (t + length (gap (suc n) ts) + length (laid (u ∷ us) b)) low
+          (past (total (u ∷ us)) ts) (past (suc n) ts) (omega (arith, all)) (ap (λ m. past m ts) (sym e)) behind;
     }
 
 the_node_row : (parent m t : ℕ) (kind : SyntaxKind) (below : plain.Forest) (first past below_count : ℕ)
@@ -385,55 +400,44 @@ the_node_row parent m t kind below first past below_count e f g =
     ∙ ap (λ b. row first b (plain.node_count below)) f
     ∙ ap (row first past) g
 
-pub rows-lossless : (at : ℕ → ℕ) (parent m t low i : ℕ) (f : solid.Forest) (ts : List plain.Token)
-    → AreSolid (written.leaves f) → t ≡ max (at i) low → Counts at t i (written.leaves f) ts
-    → map node_row (nodes_in parent m t (lossless f ts)) ≡ node_rows at parent low m i f
-rows-lossless at parent m t low i solid.done ts s here h = refl
-rows-lossless at parent m t low i (solid.leaf kind tokens x) ts s here h =
+pub rows-lossless : (parent m t low : ℕ) (p : Place) (f : solid.Forest) (ts : List plain.Token) → AreSolid (written.leaves f) → At p t low ts
+    → map node_row (nodes_in parent m t (lossless f ts)) ≡ node_rows parent low m p f
+rows-lossless parent m t low p solid.done ts s h = refl
+rows-lossless parent m t low p (solid.leaf kind tokens x) ts s h =
     let n = length tokens in
     let token : plain.Token = record { kind = kind; text = plain.spelled (upto n (behind_gap n ts)) } in
     let next : ℕ = t + length (gap n ts) + 1 in
-    let last : at (i + n) ≡ next = h.1 in
     ap (map node_row) (nodes-before parent m t (gap n ts) (plain.leaf token (lossless x (past n ts))))
     ∙ ap (λ k. map node_row (nodes_in parent m k (lossless x (past n ts)))) (omega arith)
-    ∙ rows-lossless at parent m next low (i + n) x (past n ts) s.2 (omega arith) h.2
-rows-lossless at parent m t low i (solid.tree kind kids x) ts s here h =
+    ∙ rows-lossless parent m next low (behind_token n p) x (past n ts) s.2 (at_token n p t low ts s.0 h)
+rows-lossless parent m t low p (solid.tree kind kids x) ts s h =
     let us = written.leaves kids in
     let n = length (solid.spell kids) in
     let count : n ≡ total us = sym (total-leaves kids) in
     let inner : ℕ = t + length (gap n ts) in
+    let first : ℕ = max (first_in us p) low in
     let are = solid-append us (written.leaves x) s in
-    let parts = counts-append at t i us (written.leaves x) ts h in
-    let facts = counts_inside at t low i n us ts are.0 count here parts.0 in
+    let facts = inside_of p t low n us ts are.0 count h in
     let below : plain.Forest = lossless kids (behind_gap n ts) in
     let tokens : plain.token_count below ≡ length (laid us (behind_gap n ts)) =
     token_count-tokens below ∙ ap length (tokens-lossless kids (behind_gap n ts) are.0) in
-    let all : length (laid us ts) ≡ length (gap n ts) + length (laid us (behind_gap n ts)) =
-    ap length (laid-gap n us ts are.0 count) ∙ length-append (gap n ts) (laid us (behind_gap n ts)) in
     let nodes : plain.node_count below ≡ solid.nodes kids = count-lossless kids (behind_gap n ts) in
     let next : ℕ = inner + plain.token_count below in
-    let row : NodeRow = record {
-      kind = kind;
-      parent = parent;
-      first = first_at at low i n;
-      past = past_at at low i n;
-      below = solid.nodes kids;
-    } in
+    let row : NodeRow = record { kind = kind; parent = parent; first = first; past = max (past_in us p) low; below = solid.nodes kids } in
     let here_row : node_row (record { number = m; parent = parent; first = inner; kind = kind; children = below }) ≡ row =
-    the_node_row parent m inner kind below (first_at at low i n) (past_at at low i n) (solid.nodes kids)
+    the_node_row parent m inner kind below first (max (past_in us p) low) (solid.nodes kids)
     facts.first (ap (λ c. inner + c) tokens ∙ facts.last) nodes in
-    let kids_rows : map node_row (nodes_in m (1 + m) inner below) ≡ node_rows at m (first_at at low i n) (1 + m) i kids =
-    rows-lossless at m (1 + m) inner (first_at at low i n) i kids (behind_gap n ts) are.0 facts.here facts.inside in
-    let next_counts : Counts at next (i + n) (written.leaves x) (past n ts) =
-    counts_same at (t + length (laid us ts)) next (i + total us) (i + n) (written.leaves x) (past (total us) ts) (past n ts)
-    (omega arith) (omega arith) (ap (λ k. past k ts) (sym count)) parts.1 in
+    let kids_rows : map node_row (nodes_in m (1 + m) inner below) ≡ node_rows m first (1 + m) p kids =
+    rows-lossless m (1 + m) inner first p kids (behind_gap n ts) are.0 facts.inside in
+    let next_at : At (after us p) next low (past n ts) =
+    subst (λ c. At (after us p) (inner + c) low (past n ts)) (sym tokens) facts.next in
     let next_rows : map node_row (nodes_in parent (1 + m + plain.node_count below) next (lossless x (past n ts)))
-    ≡ node_rows at parent low (1 + m + solid.nodes kids) (i + n) x =
+    ≡ node_rows parent low (1 + m + solid.nodes kids) (after us p) x =
     ap (λ c. map node_row (nodes_in parent (1 + m + c) next (lossless x (past n ts)))) nodes
-    ∙ rows-lossless at parent (1 + m + solid.nodes kids) next low (i + n) x (past n ts) are.1 (ap (λ c. inner + c) tokens ∙ facts.next) next_counts in
+    ∙ rows-lossless parent (1 + m + solid.nodes kids) next low (after us p) x (past n ts) are.1 next_at in
     ap (map node_row) (nodes-before parent m t (gap n ts) (plain.branch kind below (lossless x (past n ts))))
     ∙ ap (λ l. node_row (record { number = m; parent = parent; first = inner; kind = kind; children = below }) ∷ l)
     (map-append node_row (nodes_in m (1 + m) inner below) (nodes_in parent (1 + m + plain.node_count below) next (lossless x (past n ts))))
     ∙ ap (λ r. r ∷ (map node_row (nodes_in m (1 + m) inner below) ++ map node_row (nodes_in parent (1 + m + plain.node_count below) next (lossless x (past n ts))))) here_row
     ∙ ap (λ l. row ∷ (l ++ map node_row (nodes_in parent (1 + m + plain.node_count below) next (lossless x (past n ts))))) kids_rows
-    ∙ ap (λ l. row ∷ (node_rows at m (first_at at low i n) (1 + m) i kids ++ l)) next_rows
+    ∙ ap (λ l. row ∷ (node_rows m first (1 + m) p kids ++ l)) next_rows

@@ -4,6 +4,7 @@ mod Checks
 mod Whole
 mod Operands
 mod Placed
+mod Leaves
 mod Laid
 mod SolidLaws
 mod Tiles

@@ -6,7 +6,7 @@ use Rattle.ssr_syntax_kinds.specs.Kinds.{is_trivia}
 use Rattle.ssr_syntax_forms.specs.declared.tokens.Token.{Token}
 use Rattle.ssr_syntax_types.specs.declared.goals.Goal.{Goal}
 use Rattle.ssr_syntax_forms.specs.Trees.{Forest, done, leaf, tree, join, spell}
-use Rattle.ssr_syntax_forms.specs.Written.{leaves}
+use Rattle.ssr_syntax.specs.Private.Leaves.{leaves}
 use Rattle.ssr_syntax_forms.specs.Forms.{Productions, more, taken_as}
 use Rattle.ssr_syntax_forms.proofs.Shared.{FitsGoal, IsKept, walk_goals}
 use Rattle.ssr_syntax.proofs.Laid.{AreSolid}

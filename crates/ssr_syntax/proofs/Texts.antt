@@ -1,6 +1,6 @@
 -- The tree of a text: what a flat tree is made of, and its laws.
 use Rattle.std.proofs.Common.{◌≡◌, ◌≢◌, ℕ, zero, suc, ◌+◌, ◌^◌, ◌<◌, ◌≤◌, true, false, if◌then◌else◌, List, [], ◌∷◌, ◌++◌, length, map, refl, sym, ◌∙◌, ap, subst, arith, length-append}
-use Rattle.std.specs.Prelude.{All, slice_index, get_or, nat_lt, Result, Ok, Err}
+use Rattle.std.specs.Prelude.{All, max, nat_lt, Result, Ok, Err}
 use Rattle.std.specs.List.{AllByRecursion}
 use Rattle.std.specs.Result.{IsErr, IsErrAnd}
 use Rattle.std.specs.Str.{IsUtf8}
@@ -17,33 +17,37 @@ use Rattle.ssr_syntax_tree.specs.Parts.{AreParts, node_row, token_rows}
 use Rattle.ssr_syntax_tree.specs.declared.rows.NodeRow.{NodeRow}
 use Rattle.ssr_syntax_kinds.specs.declared.token_rows.TokenRow.{TokenRow}
 use Rattle.ssr_syntax_forms.specs.declared.tokens.Token.{Token}
-use Rattle.ssr_syntax_forms.specs.declared.rows.Taken.{Taken}
+use Rattle.ssr_syntax.specs.Private.Leaves.{Taken}
 use Rattle.ssr_syntax_types.specs.declared.goals.Goal.{Goal}
 use Rattle.ssr_syntax_forms.specs.declared.fault.Fault.{Fault}
+use Rattle.ssr_syntax_forms.specs.declared.rows.Output.{Output}
 use Rattle.ssr_syntax_forms.specs.declared.fault.Fault.TheVariants as faults
 use Rattle.ssr_syntax.specs.declared.syntax_error.SyntaxError.{SyntaxError}
 use Rattle.ssr_syntax.specs.declared.syntax_error.SyntaxError.TheVariants as errors
 use Rattle.ssr_syntax_forms.specs.Trees.{Forest, nodes, height}
-use Rattle.ssr_syntax_forms.specs.Written.{leaves}
-use Rattle.ssr_syntax_forms.specs.Written as written
-use Rattle.ssr_syntax_forms.specs.Parser.{written_of}
+use Rattle.ssr_syntax.specs.Private.Leaves.{leaves, after, first_in}
+use Rattle.ssr_syntax.specs.Private.Leaves as written
+use Rattle.ssr_syntax_forms.specs.Parser.{Holds, unwritten}
+use Rattle.ssr_syntax_forms.specs.Places.{leading, behind_trivia, behind_solid, Place, place_at, behind_token}
+use Rattle.ssr_syntax_forms.specs.Written.{writes}
 use Rattle.ssr_syntax_forms.specs.Trees as solid
 use Rattle.ssr_syntax.specs.Grammar.{grammar}
 use Rattle.ssr_syntax.proofs.Checks.{goal_makes_node}
 use Rattle.ssr_syntax.specs.Lossless.{gap, behind_gap, upto, past, lossless, whole_tree}
-use Rattle.ssr_syntax.specs.Private.Preorder.{tree_rows, node_rows, first_at, IsDepthFault, most_nodes}
+use Rattle.ssr_syntax.specs.Private.Preorder.{tree_rows, node_rows, IsDepthFault, most_nodes}
 use Rattle.ssr_syntax.specs.Reading.{most_deep}
 use Rattle.ssr_syntax.specs.Solid.{solid_tokens}
-use Rattle.ssr_syntax.specs.Private.TreeTokens.{taken_rows, taken_sizes, ends}
+use Rattle.ssr_syntax.specs.Private.TreeTokens.{taken_rows, joined_rows}
 use Rattle.ssr_syntax.specs.Reading.{pieces, reading, most_levels, tree_reading, one_tree, unless_misnamed, unless_too_deep, error_of, Refuses, Answers}
 use Rattle.ssr_syntax.specs.MacroRules.{misnames_macros}
 use Rattle.ssr_syntax.proofs.Whole.{reading_fits, reading_spells}
-use Rattle.ssr_syntax_forms.proofs.Shared.{goals_lone, length-rows}
-use Rattle.ssr_syntax.proofs.Laid.{AreSolid, total, total-leaves, token_of, laid, all_laid, spelled-laid, Counts, counts_same, upto-zero, past-zero, upto-past, upto-behind_gap, tokens-behind, tokens-lossless, token_count-tokens, count-behind, count-lossless, nodes-behind, rows-lossless, height-behind, height-lossless}
+use Rattle.ssr_syntax_forms.proofs.Shared.{goals_lone}
+use Rattle.ssr_syntax.proofs.Leaves.{length-rows, writes_parts}
+use Rattle.ssr_syntax.proofs.Laid.{AreSolid, total, total-leaves, token_of, laid, all_laid, spelled-laid, kinds_of, leading-kinds, behind-kinds, At, upto-zero, past-zero, upto-past, upto-behind_gap, tokens-behind, tokens-lossless, token_count-tokens, count-behind, count-lossless, nodes-behind, rows-lossless, height-behind, height-lossless}
 use Rattle.ssr_syntax.proofs.Solidity.{AreTaken, goals_taken, AllSolid, leaves_solid}
 use Rattle.ssr_syntax.proofs.SolidLaws.{all_solid}
 use Rattle.ssr_syntax.proofs.Tiles.{tiled_texts, spelled-pieces}
-use Rattle.ssr_syntax.proofs.TreeTokens.{all-next, rows_laid, length-token_rows, counts_of}
+use Rattle.ssr_syntax.proofs.TreeTokens.{all-next, rows_laid, length-token_rows, behind_nothing, joined_taken}
 
 -- the tokens of the tree are those that were taken
 pub whole-tokens : (kind : SyntaxKind) (kids : Forest) (ts : List plain.Token) → AreSolid (leaves kids)
@@ -63,17 +67,23 @@ root_row kind below past count e f =
     let row : ℕ → ℕ → NodeRow = λ a b. record { kind = kind; parent = 0; first = 0; past = a; below = b } in
     ap (λ a. row a (plain.node_count below)) (omega arith) ∙ ap (row past) f
 
--- the counts of a text's tokens
-abbrev pub at_ends : List Taken → List RawToken → ℕ → ℕ
-at_ends us raw i = slice_index (0 ∷ ends 0 (taken_sizes 0 us (map row_of raw))) i
+-- where the parser begins in a text of these tokens
+abbrev pub start_of : List RawToken → Place
+start_of raw = place_at 0 (map (λ row. row.kind) (map row_of raw))
 
-counted : (text : List ℕ) (us : List Taken) (raw : List RawToken) → AreSolid us → total us ≤ length (solid_tokens raw)
-    → Counts (at_ends us raw) 0 0 us (pieces text raw)
-counted text us raw are few =
-    let next : (j : ℕ) → j < total us → at_ends us raw (0 + 1 + j) ≡ get_or (ends 0 (taken_sizes 0 us (map row_of raw))) j 0 =
-    λ j lt. (let same : 0 + 1 + j ≡ suc j = omega arith in ap (at_ends us raw) same) in
-    counts_same (at_ends us raw) 0 0 0 0 us (past zero (pieces text raw)) (pieces text raw) refl refl (past-zero (pieces text raw))
-    (counts_of text (at_ends us raw) 0 0 0 us raw are (omega arith) next)
+kinds-pieces : (text : List ℕ) (raw : List RawToken) → map (λ row. row.kind) (map row_of raw) ≡ kinds_of (pieces text raw)
+kinds-pieces text [] = refl
+kinds-pieces text (t ∷ ts) = ap (λ l. t.kind ∷ l) (kinds-pieces text ts)
+
+at_start : (text : List ℕ) (raw : List RawToken) → At (start_of raw) 0 0 (pieces text raw)
+at_start text raw =
+    let ts = pieces text raw in
+    let same = kinds-pieces text raw in
+    record {
+      next = omega (arith, ap leading same, leading-kinds ts);
+      kinds = ap behind_trivia same ∙ behind-kinds ts;
+      here = omega arith;
+    }
 
 laid_rows : (text : List ℕ) (us : List Taken) (raw : List RawToken) → Tiles text raw → AreSolid us → total us ≤ length (solid_tokens raw)
     → taken_rows 0 us (map row_of raw) ≡ token_rows 0 (all_laid us (pieces text raw))
@@ -86,7 +96,7 @@ laid_rows text us raw tiles are few =
 
 pub whole-rows : (text : List ℕ) (raw : List RawToken) (kind : SyntaxKind) (kids : Forest) → Tiles text raw
     → AreSolid (leaves kids) → total (leaves kids) ≤ length (solid_tokens raw)
-    → tree_rows (at_ends (leaves kids) raw) (length (taken_rows 0 (leaves kids) (map row_of raw))) kind kids
+    → tree_rows (start_of raw) (length (taken_rows 0 (leaves kids) (map row_of raw))) kind kids
     ≡ map node_row (nodes_of (whole_tree kind kids (pieces text raw)))
 whole-rows text raw kind kids tiles are few =
     let ts = pieces text raw in
@@ -100,7 +110,7 @@ whole-rows text raw kind kids tiles are few =
     let count : plain.node_count below ≡ nodes kids = count-behind (lossless kids ts) outside ∙ count-lossless kids ts in
     let root : NodeRow = record { kind = kind; parent = 0; first = 0; past = many; below = nodes kids } in
     ap (λ l. root ∷ l)
-    (sym (rows-lossless (at_ends us raw) 0 1 0 0 0 kids ts are refl (counted text us raw are few))
+    (sym (rows-lossless 0 1 0 0 (start_of raw) kids ts are (at_start text raw))
     ∙ ap (map node_row) (sym (nodes-behind 0 1 0 (lossless kids ts) outside)))
     ∙ ap (λ r. r ∷ map node_row (nodes_in 0 1 0 below)) (sym (root_row kind below many (nodes kids) tokens count))
 
@@ -143,7 +153,7 @@ pub whole_parts : (text : List ℕ) (raw : List RawToken) (kind : SyntaxKind) (k
     → IsUtf8 text → length text < 2 ^ 32 → Tiles text raw → spell text raw ≡ text
     → AreSolid (leaves kids) → total (leaves kids) ≤ length (solid_tokens raw)
     → source ≡ text → tokens ≡ taken_rows 0 (leaves kids) (map row_of raw)
-    → rows ≡ tree_rows (at_ends (leaves kids) raw) (length (taken_rows 0 (leaves kids) (map row_of raw))) kind kids → length rows < 2 ^ 32
+    → rows ≡ tree_rows (start_of raw) (length (taken_rows 0 (leaves kids) (map row_of raw))) kind kids → length rows < 2 ^ 32
     → AreParts source tokens rows (whole_tree kind kids (pieces text raw))
 whole_parts text raw kind kids source tokens rows utf8 short tiles spells are few source_is tokens_is rows_is count =
     let ts = pieces text raw in
@@ -159,25 +169,26 @@ whole_parts text raw kind kids source tokens rows utf8 short tiles spells are fe
       few = count;
     }
 
-length-node_rows : (at : ℕ → ℕ) (parent low m i : ℕ) (f : Forest) → length (node_rows at parent low m i f) ≡ nodes f
-length-node_rows at parent low m i solid.done = refl
-length-node_rows at parent low m i (solid.leaf kind us x) = length-node_rows at parent low m (i + length us) x
-length-node_rows at parent low m i (solid.tree kind kids x) =
-    let n = length (solid.spell kids) in
-    let inside = node_rows at m (first_at at low i n) (1 + m) i kids in
-    let beside = node_rows at parent low (1 + m + nodes kids) (i + n) x in
+length-node_rows : (parent low m : ℕ) (p : Place) (f : Forest) → length (node_rows parent low m p f) ≡ nodes f
+length-node_rows parent low m p solid.done = refl
+length-node_rows parent low m p (solid.leaf kind us x) = length-node_rows parent low m (behind_token (length us) p) x
+length-node_rows parent low m p (solid.tree kind kids x) =
+    let us = leaves kids in
+    let first = max (first_in us p) low in
+    let inside = node_rows m first (1 + m) p kids in
+    let beside = node_rows parent low (1 + m + nodes kids) (after us p) x in
     omega (
       arith,
       length-append inside beside,
-      length-node_rows at m (first_at at low i n) (1 + m) i kids,
-      length-node_rows at parent low (1 + m + nodes kids) (i + n) x,
+      length-node_rows m first (1 + m) p kids,
+      length-node_rows parent low (1 + m + nodes kids) (after us p) x,
     )
 
-pub count_fits : (at : ℕ → ℕ) (tokens : ℕ) (kind : SyntaxKind) (kids : Forest) (rows : List NodeRow) (made : List NodeRow)
-    → rows ≡ written.rows (solid.tree kind kids solid.done) 0 → length rows ≤ most_nodes → made ≡ tree_rows at tokens kind kids
+pub count_fits : (p : Place) (tokens : ℕ) (kind : SyntaxKind) (kids : Forest) (rows : List NodeRow) (made : List NodeRow)
+    → rows ≡ written.rows (solid.tree kind kids solid.done) p → length rows ≤ most_nodes → made ≡ tree_rows p tokens kind kids
     → length made < 2 ^ 32
-count_fits at tokens kind kids rows made e le f =
-    omega (arith, ap length e, length-rows (solid.tree kind kids solid.done) 0, ap length f, length-node_rows at 0 0 1 0 kids)
+count_fits p tokens kind kids rows made e le f =
+    omega (arith, ap length e, length-rows (solid.tree kind kids solid.done) p, ap length f, length-node_rows 0 0 1 p kids)
 
 -- ** The reading of tokens: what the trees of a goal are.
 
@@ -279,22 +290,38 @@ told_on x (Ok syntax) read text err is h = cc
 told_on x (Err e) read text err is h = subst (λ y. Refuses y read text) (sym is) h
 
 -- what was written of a text's tokens
-pub record WrittenOfText (goal : Goal) (text : List ℕ) (raw : List RawToken) (given : List NodeRow) (taken : List Taken) : Type 0 where
+pub record WrittenOfText (goal : Goal) (text : List ℕ) (raw : List RawToken) (out : Output) : Type 0 where
   pub kind : SyntaxKind
   pub kids : Forest
   pub read : ReadsAs goal text raw kind kids
-  pub rows : given ≡ written.rows (solid.tree kind kids solid.done) 0
-  pub taken_are : taken ≡ leaves kids
+  pub rows : out.rows ≡ written.rows (solid.tree kind kids solid.done) (start_of raw)
+  pub joined : out.joined.items ≡ written.joined (leaves kids) (start_of raw)
 
-pub written_read : (goal : Goal) (text : List ℕ) (raw : List RawToken) (tokens : List Token) (z : Forest) (made given : List NodeRow) (taken next : List Taken)
-    → tokens ≡ solid_tokens raw → reading goal tokens ≡ Ok z → written_of made taken ≡ written.writes z 0 → given ≡ made → next ≡ taken
-    → WrittenOfText goal text raw given next
-written_read goal text raw tokens z made given taken next same e f g h =
-    let r = is_read goal text raw z (ap (reading goal) (sym same) ∙ e) in
+pub written_read : (goal : Goal) (text : List ℕ) (raw : List RawToken) (z : Forest) (rows : List TokenRow) (out : Output)
+    → reading goal (solid_tokens raw) ≡ Ok z → rows ≡ map row_of raw → Holds out (writes z (unwritten (map (λ row. row.kind) rows)))
+    → WrittenOfText goal text raw out
+written_read goal text raw z rows out e are h =
+    let r = is_read goal text raw z e in
+    let whole : Forest = solid.tree r.0 r.1 solid.done in
+    let lists : writes z (unwritten (map (λ row. row.kind) rows)) ≡ writes whole (unwritten (map (λ row. row.kind) (map row_of raw))) =
+    ap (λ ts. writes z (unwritten (map (λ row. row.kind) ts))) are ∙ ap (λ f. writes f (unwritten (map (λ row. row.kind) (map row_of raw)))) r.2 in
+    let parts = lists ∙ writes_parts whole (unwritten (map (λ row. row.kind) (map row_of raw))) in
     record {
       kind = r.0;
       kids = r.1;
       read = r.3;
-      rows = g ∙ ap (λ w. w.rows) f ∙ ap (λ w. written.rows w 0) r.2;
-      taken_are = h ∙ ap (λ w. w.taken) f ∙ ap leaves r.2 ∙ append-nil (leaves r.1);
+      rows = h.rows ∙ ap (λ w. w.rows) parts;
+      joined = h.joined ∙ ap (λ w. w.joined) parts ∙ ap (λ us. written.joined us (start_of raw)) (append-nil (leaves r.1));
     }
+
+-- the joined tokens tell all of a text's tree
+pub tokens_told : (goal : Goal) (text : List ℕ) (raw : List RawToken) (rows : List TokenRow) (out : Output) (w : WrittenOfText goal text raw out)
+    → rows ≡ map row_of raw → joined_rows 0 0 out.joined.items rows ≡ taken_rows 0 (leaves w.kids) (map row_of raw)
+tokens_told goal text raw rows out w are =
+    let us = leaves w.kids in
+    let ts = map row_of raw in
+    let start : start_of raw ≡ place_at 0 (behind_solid 0 (map (λ row. row.kind) ts)) = ap (place_at 0) (sym (behind_nothing (map (λ row. row.kind) ts))) in
+    ap (λ js. joined_rows 0 0 js rows) w.joined
+    ∙ ap (λ l. joined_rows 0 0 (written.joined us (start_of raw)) l) are
+    ∙ ap (λ p. joined_rows 0 0 (written.joined us p) ts) start
+    ∙ joined_taken us 0 0 ts w.read.are_solid

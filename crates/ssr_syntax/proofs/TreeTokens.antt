@@ -1,20 +1,25 @@
--- Laws of the walk over a text's tokens and those that were taken: the rows and the counts are those of the lossless tree.
-use Rattle.std.proofs.Common.{◌≡◌, ℕ, zero, suc, ◌+◌, ◌-◌, ◌<◌, ◌≤◌, true, false, if◌then◌else◌, List, [], ◌∷◌, ◌++◌, length, map, refl, sym, ◌∙◌, ap, arith, append_assoc, length-append}
-use Rattle.std.specs.Prelude.{get_or, replicate}
-use Rattle.std.proofs.lemmas.List.{get_or_append_left, get_or-append_right, get_or-replicate, length-replicate}
+-- Laws of the walk over a text's tokens and those that were taken or joined: the rows are those of the lossless tree.
+use Rattle.std.proofs.Common.{◌≡◌, ℕ, zero, suc, ◌+◌, ◌-◌, ◌<◌, ◌≤◌, true, false, if◌then◌else◌, inl, inr, List, [], ◌∷◌, ◌++◌, length, map, refl, sym, ◌∙◌, ap, subst, arith, append_assoc, length-append}
+use Rattle.std.specs.Prelude.{⊤, ◌==◌}
+use Rattle.std.proofs.lemmas.Bool.{and_parts, cases_Bool, eq-eqb, eqb-true, ne_eqb}
 use Rattle.ssr_syntax_kinds.specs.declared.kinds.SyntaxKind.{SyntaxKind}
-use Rattle.ssr_syntax_kinds.specs.Kinds.{is_trivia}
+use Rattle.ssr_syntax_kinds.specs.Kinds.{is_trivia, same_kind}
+use Rattle.ssr_syntax_kinds.proofs.Shared.{same_kind-equal}
 use Rattle.ssr_syntax_lex.specs.Tokens.{token_text, row_of, TilesFrom}
 use Rattle.ssr_syntax_lex.specs.declared.tokens.RawToken.{RawToken}
 use Rattle.ssr_syntax_kinds.specs.declared.token_rows.TokenRow.{TokenRow}
 use Rattle.ssr_syntax_tree.specs.Syntax as plain
 use Rattle.ssr_syntax_tree.specs.Parts.{token_rows}
-use Rattle.ssr_syntax_forms.specs.declared.rows.Taken.{Taken}
-use Rattle.ssr_syntax.specs.Lossless.{trivia, behind_trivia, gap, behind_gap, upto, past}
+use Rattle.ssr_syntax_forms.specs.declared.rows.Joined.{Joined}
+use Rattle.ssr_syntax_forms.specs.Parser.{is_alone}
+use Rattle.ssr_syntax_forms.specs.Places.{leading, behind_trivia, behind_solid, Place, place_at, behind_token}
+use Rattle.ssr_syntax.specs.Lossless as text
+use Rattle.ssr_syntax.specs.Lossless.{trivia, gap, behind_gap, upto, past}
 use Rattle.ssr_syntax.specs.Solid.{solid_token, solid_tokens}
-use Rattle.ssr_syntax.specs.Private.TreeTokens.{taken_rows, taken_sizes, ends}
+use Rattle.ssr_syntax.specs.Private.Leaves.{Taken, joined}
+use Rattle.ssr_syntax.specs.Private.TreeTokens.{taken_rows, joined_rows}
 use Rattle.ssr_syntax.specs.Reading.{pieces}
-use Rattle.ssr_syntax.proofs.Laid.{AreSolid, total, token_of, laid, all_laid, Counts, by_kind, upto-zero, past-zero, past-add, counts_same}
+use Rattle.ssr_syntax.proofs.Laid.{AreSolid, total, token_of, laid, all_laid, by_kind, upto-zero, past-zero, past-add}
 use Rattle.ssr_syntax.proofs.Tiles.{tiles_within, length-token}
 
 -- ** The first of a text's tokens.
@@ -29,7 +34,7 @@ in_front : (n : ℕ) (p : plain.Token) (ps : List plain.Token) → 0 < n → is_
 in_front zero p ps lt e = absurd (omega arith)
 in_front (suc n) p ps lt e = record {
   gaps = ap (λ b. if b then p ∷ trivia ps else []) e;
-  behind_gaps = ap (λ b. if b then behind_trivia ps else p ∷ ps) e;
+  behind_gaps = ap (λ b. if b then text.behind_trivia ps else p ∷ ps) e;
   past_is = ap (λ b. past (if b then suc n else n) ps) e;
 }
 
@@ -46,7 +51,7 @@ is_first (suc n) p ps lt e =
     let less : n ≡ suc n - 1 = omega arith in
     record {
       gaps = ap (λ b. if b then p ∷ trivia ps else []) e;
-      behind_gaps = ap (λ b. if b then behind_trivia ps else p ∷ ps) e;
+      behind_gaps = ap (λ b. if b then text.behind_trivia ps else p ∷ ps) e;
       upto_is = ap (λ b. p ∷ upto (if b then suc n else n) ps) e ∙ ap (λ m. p ∷ upto m ps) less;
       past_is = ap (λ b. past (if b then suc n else n) ps) e ∙ ap (λ m. past m ps) less;
     }
@@ -161,90 +166,135 @@ pub length-token_rows : (start : ℕ) (ts : List plain.Token) → length (token_
 length-token_rows start [] = refl
 length-token_rows start (t ∷ ts) = omega (arith, length-token_rows (start + length t.text) ts)
 
--- ** The counts.
+-- ** The joined tokens tell all of them.
 
--- the counts of the next solid ones
-abbrev AreNext : (ℕ → ℕ) → ℕ → ℕ → List ℕ → Type 0
-AreNext at i count counts = (j : ℕ) → j < count → at (i + 1 + j) ≡ get_or counts j 0
+abbrev row_kinds : List TokenRow → List SyntaxKind
+row_kinds ts = map (λ t. t.kind) ts
 
--- up to each solid one of a token
-same_counts : (at : ℕ → ℕ) (i count size n : ℕ) (counts : List ℕ) (j : ℕ) → AreNext at i count (replicate size n ++ counts) → j < size → size ≤ count
-    → at (i + 1 + j) ≡ n
-same_counts at i count size n counts j h lt le =
-    h j (omega arith)
-    ∙ get_or_append_left (replicate size n) counts 0 j (omega (arith, length-replicate size n))
-    ∙ get_or-replicate size j n 0 lt
+pub no_joined : (n : ℕ) (ts : List TokenRow) → joined_rows zero n [] ts ≡ ts
+no_joined n [] = refl
+no_joined n (t ∷ ts) = refl
 
--- behind those of a token
-behind_counts : (at : ℕ → ℕ) (i size count n : ℕ) (counts : List ℕ) → AreNext at i (size + count) (replicate size n ++ counts)
-    → AreNext at (i + size) count counts
-behind_counts at i size count n counts h j lt =
-    let place : i + size + 1 + j ≡ i + 1 + (size + j) = omega arith in
-    let left : size + j - size ≡ j = omega arith in
-    ap at place ∙ h (size + j) (omega arith)
-    ∙ get_or-append_right (replicate size n) counts size (size + j) 0 (length-replicate size n) (omega arith)
-    ∙ ap (λ m. get_or counts m 0) left
+pub none_joined : (n : ℕ) (js : List Joined) (ts : List TokenRow) → length js ≡ 0 → joined_rows zero n js ts ≡ ts
+none_joined n [] ts e = no_joined n ts
+none_joined n (j ∷ js) ts e = absurd (omega (arith, e))
 
-counts_in_front : (at : ℕ → ℕ) (before i : ℕ) (u : Taken) (us : List Taken) (p : plain.Token) (ps : List plain.Token) → InFront u.size p ps
-    → Counts at (1 + before) i (u ∷ us) ps → Counts at before i (u ∷ us) (p ∷ ps)
-counts_in_front at before i u us p ps f h =
-    let n = u.size in
-    let longer : length (gap n (p ∷ ps)) ≡ length (p ∷ gap n ps) = ap length f.gaps in (
-      omega (arith, h.0),
-      omega (arith, h.1),
-      counts_same at ((1 + before) + length (gap n ps) + 1) (before + length (gap n (p ∷ ps)) + 1) (i + n) (i + n) us (past n ps) (past n (p ∷ ps))
-          (omega arith) refl (sym f.past_is) h.2,
-    )
+-- where nothing is joined any more, a row is put down as it is
+pub row_put_alone : (left : ℕ) (js : List Joined) (old new : List TokenRow) (t : TokenRow) (ts : List TokenRow) → left ≡ 0 → length js ≡ 0 → new ≡ old ++ t ∷ []
+    → new ++ joined_rows 0 (length new) js ts ≡ old ++ joined_rows left (length old) js (t ∷ ts)
+row_put_alone (suc left) js old new t ts e none put = absurd (omega (arith, e))
+row_put_alone zero js old new t ts e none put =
+    ap (λ l. new ++ l) (none_joined (length new) js ts none)
+    ∙ ap (λ l. l ++ ts) put
+    ∙ append_assoc old (t ∷ []) ts
+    ∙ ap (λ l. old ++ l) (sym (none_joined (length old) js (t ∷ ts) none))
 
-counts_first : (at : ℕ → ℕ) (before i : ℕ) (u : Taken) (us : List Taken) (p : plain.Token) (ps : List plain.Token) → 0 < u.size
-    → IsFirst u.size p ps → at (i + 1) ≡ 1 + before → at (i + u.size) ≡ 1 + before
-    → Counts at (1 + before) (i + 1 + (u.size - 1)) us (past (u.size - 1) ps) → Counts at before i (u ∷ us) (p ∷ ps)
-counts_first at before i u us p ps lt f e d h =
-    let n = u.size in
-    let none : length (gap n (p ∷ ps)) ≡ 0 = ap length f.gaps in (
-      omega arith,
-      omega arith,
-      counts_same at (1 + before) (before + length (gap n (p ∷ ps)) + 1) (i + 1 + (n - 1)) (i + n) us (past (n - 1) ps) (past n (p ∷ ps))
-          (omega arith) (omega arith) (sym f.past_is) h,
-    )
+-- the first one has this number or a later one
+abbrev BeginBehind : ℕ → List Joined → Type 0
+BeginBehind n [] = ⊤
+BeginBehind n (j ∷ js) = n ≤ j.number
 
--- the counts by the sizes of what is taken of a text's tokens
-abbrev counts : ℕ → ℕ → List Taken → List RawToken → List ℕ
-counts before left us raw = ends before (taken_sizes left us (map row_of raw))
+joined_behind : (us : List Taken) (p : Place) (n : ℕ) → n ≤ p.next → BeginBehind n (joined us p)
+joined_behind [] p n le = tt
+joined_behind (u ∷ us) p n le =
+    elim (is_alone u.kind u.size p.kinds)
+    as (λ b. BeginBehind n ((if b then [] else record { number = p.next; kind = u.kind; size = u.size } ∷ []) ++ joined us (behind_token u.size p)))
+    [ true ↦ joined_behind us (behind_token u.size p) n (omega (arith, le)) | false ↦ le ]
 
-pub counts_of : (text : List ℕ) (at : ℕ → ℕ) (before i left : ℕ) (us : List Taken) (raw : List RawToken) → AreSolid us
-    → left + total us ≤ length (solid_tokens raw) → AreNext at i (total us) (counts before left us raw)
-    → Counts at before i us (past left (pieces text raw))
-counts_of text at before i left [] raw s le h = tt
-counts_of text at before i left (u ∷ us) [] s le h = absurd (omega (arith, s.0))
-counts_of text at before i zero (u ∷ us) (t ∷ ts) s le h =
-    let ps = pieces text ts in
-    let n = u.size in
-    let p : plain.Token = record { kind = t.kind; text = token_text text t } in
-    by_kind (λ b. 0 + total (u ∷ us) ≤ length (if b then solid_tokens ts else solid_token t ts ∷ solid_tokens ts)
-    → AreNext at i (total (u ∷ us))
-    (ends before (if b then 0 ∷ taken_sizes zero (u ∷ us) (map row_of ts) else (n ∷ taken_sizes (n - 1) us (map row_of ts))))
-    → Counts at before i (u ∷ us) (p ∷ ps)) p
-    (λ e k next. counts_in_front at before i u us p ps (in_front n p ps s.0 e)
-    (counts_same at (1 + before) (1 + before) i i (u ∷ us) (past zero ps) ps refl refl (past-zero ps)
-    (counts_of text at (1 + before) i zero (u ∷ us) ts s k next)))
-    (λ e k next.
-    let behind = counts (1 + before) (n - 1) us ts in
-    let fits : n - 1 + total us ≤ length (solid_tokens ts) = omega (arith, s.0) in
-    let first : at (i + 1 + 0) ≡ 1 + before = same_counts at i (total (u ∷ us)) n (1 + before) behind 0 next s.0 (omega arith) in
-    let last : at (i + 1 + (n - 1)) ≡ 1 + before = same_counts at i (total (u ∷ us)) n (1 + before) behind (n - 1) next (omega (arith, s.0)) (omega arith) in
-    let first_at : at (i + 1) ≡ at (i + 1 + 0) = ap at (omega arith) in
-    let last_at : at (i + n) ≡ at (i + 1 + (n - 1)) = ap at (omega (arith, s.0)) in
-    counts_first at before i u us p ps s.0 (is_first n p ps s.0 e) (first_at ∙ first) (last_at ∙ last)
-    (counts_same at (1 + before) (1 + before) (i + n) (i + 1 + (n - 1)) us (past (n - 1) ps) (past (n - 1) ps) refl (omega (arith, s.0)) refl
-    (counts_of text at (1 + before) (i + n) (n - 1) us ts s.2 fits (behind_counts at i n (total us) (1 + before) behind next))))
-    le h
-counts_of text at before i (suc n) (u ∷ us) (t ∷ ts) s le h =
-    let ps = pieces text ts in
-    let p : plain.Token = record { kind = t.kind; text = token_text text t } in
-    by_kind (λ b. suc n + total (u ∷ us) ≤ length (if b then solid_tokens ts else solid_token t ts ∷ solid_tokens ts)
-    → AreNext at i (total (u ∷ us)) (counts before (if b then suc n else n) (u ∷ us) ts)
-    → Counts at before i (u ∷ us) (past (if b then suc n else n) ps)) p
-    (λ e k next. counts_of text at before i (suc n) (u ∷ us) ts s k next)
-    (λ e k next. counts_of text at before i n (u ∷ us) ts s (omega arith) next)
-    le h
+-- a row in front of all of them stands as it is
+row_kept : (n : ℕ) (js : List Joined) (t : TokenRow) (ts : List TokenRow) → BeginBehind (1 + n) js
+    → joined_rows zero n js (t ∷ ts) ≡ t ∷ joined_rows zero (1 + n) js ts
+row_kept n [] t ts h = ap (λ l. t ∷ l) (sym (no_joined (1 + n) ts))
+row_kept n (j ∷ js) t ts h =
+    let other : (j.number == n) ≡ false = ne_eqb j.number n (λ e. omega (arith, h, e)) in
+    ap (λ b. if b then (record { kind = j.kind; start = t.start } ∷ joined_rows (j.size - 1) (1 + n) js ts) else (t ∷ joined_rows zero (1 + n) (j ∷ js) ts)) other
+
+-- what is joined depends on what comes next alone
+joined_same : (us : List Taken) (p q : Place) → p.next ≡ q.next → p.kinds ≡ q.kinds → joined us p ≡ joined us q
+joined_same [] p q e f = refl
+joined_same (u ∷ us) p q e f =
+    ap (λ ks. (if is_alone u.kind u.size ks then [] else record { number = p.next; kind = u.kind; size = u.size } ∷ []) ++ joined us (behind_token u.size p)) f
+    ∙ ap (λ n. (if is_alone u.kind u.size q.kinds then [] else record { number = n; kind = u.kind; size = u.size } ∷ []) ++ joined us (behind_token u.size p)) e
+    ∙ ap (λ r. (if is_alone u.kind u.size q.kinds then [] else record { number = q.next; kind = u.kind; size = u.size } ∷ []) ++ joined us r)
+    (ap (λ n. place_at (1 + n) (behind_solid u.size p.kinds)) e ∙ ap (λ ks. place_at (1 + q.next) (behind_solid u.size ks)) f)
+
+pub behind_nothing : (ks : List SyntaxKind) → behind_solid zero ks ≡ ks
+behind_nothing [] = refl
+behind_nothing (k ∷ ks) = refl
+
+behind_one : (n : ℕ) (k : SyntaxKind) (ks : List SyntaxKind) → 0 < n → is_trivia k ≡ false → behind_solid n (k ∷ ks) ≡ behind_solid (n - 1) ks
+behind_one zero k ks lt e = absurd (omega arith)
+behind_one (suc n) k ks lt e =
+    ap (λ b. behind_solid (if b then suc n else n) ks) e ∙ ap (λ m. behind_solid m ks) (omega arith)
+
+-- in front of the rows that are left behind what was taken last
+abbrev front : ℕ → ℕ → List TokenRow → Place
+front left n ts = place_at n (behind_solid left (row_kinds ts))
+
+-- a row of a solid token: what was taken there
+taken_solid : (u : Taken) (us : List Taken) (n : ℕ) (t : TokenRow) (ts : List TokenRow) → 0 < u.size → is_trivia t.kind ≡ false
+    → joined_rows (u.size - 1) (1 + n) (joined us (front (u.size - 1) (1 + n) ts)) ts ≡ taken_rows (u.size - 1) us ts
+    → joined_rows zero n (joined (u ∷ us) (front zero n (t ∷ ts))) (t ∷ ts) ≡ taken_rows zero (u ∷ us) (t ∷ ts)
+taken_solid u us n t ts lt solid rest =
+    let ks = row_kinds ts in
+    let here : Place = front zero n (t ∷ ts) in
+    let next : Place = front (u.size - 1) (1 + n) ts in
+    let joint : Joined = record { number = n; kind = u.kind; size = u.size } in
+    let taken : TokenRow = record { kind = u.kind; start = t.start } in
+    let behind : Place → List Joined = λ p.
+    (if is_alone u.kind u.size p.kinds then [] else record { number = p.next; kind = u.kind; size = u.size } ∷ []) ++ joined us next in
+    let number : here.next ≡ n = ap (λ b. n + (if b then 1 + leading ks else 0)) solid ∙ omega arith in
+    let kinds : here.kinds ≡ t.kind ∷ ks = ap (λ b. if b then behind_trivia ks else t.kind ∷ ks) solid in
+    let left : behind_solid u.size here.kinds ≡ behind_solid (u.size - 1) ks = ap (behind_solid u.size) kinds ∙ behind_one u.size t.kind ks lt solid in
+    let place : behind_token u.size here ≡ next =
+    ap (λ m. place_at (1 + m) (behind_solid u.size here.kinds)) number ∙ ap (place_at (1 + n)) left in
+    let all : joined (u ∷ us) here ≡ (if is_alone u.kind u.size (t.kind ∷ ks) then [] else joint ∷ []) ++ joined us next =
+    ap (λ p. (if is_alone u.kind u.size here.kinds then [] else record { number = here.next; kind = u.kind; size = u.size } ∷ []) ++ joined us p) place
+    ∙ ap (λ l. (if is_alone u.kind u.size l then [] else record { number = here.next; kind = u.kind; size = u.size } ∷ []) ++ joined us next) kinds
+    ∙ ap (λ m. (if is_alone u.kind u.size (t.kind ∷ ks) then [] else record { number = m; kind = u.kind; size = u.size } ∷ []) ++ joined us next) number in
+    let told : taken_rows zero (u ∷ us) (t ∷ ts) ≡ taken ∷ taken_rows (u.size - 1) us ts =
+    ap (λ b. if b then t ∷ taken_rows zero (u ∷ us) ts else (taken ∷ taken_rows (u.size - 1) us ts)) solid in
+    elim (cases_Bool (is_alone u.kind u.size (t.kind ∷ ks))) [
+      | inl alone ↦
+          let is = and_parts (same_kind t.kind u.kind) (u.size == 1) alone in
+          let one : u.size - 1 ≡ zero = omega (arith, eqb-true u.size 1 is.1) in
+          let js = all ∙ ap (λ b. (if b then [] else joint ∷ []) ++ joined us next) alone in
+          ap (λ l. joined_rows zero n l (t ∷ ts)) js
+          ∙ row_kept n (joined us next) t ts (joined_behind us next (1 + n) (omega arith))
+          ∙ ap (λ m. t ∷ joined_rows m (1 + n) (joined us next) ts) (sym one)
+          ∙ ap (λ l. t ∷ l) rest
+          ∙ ap (λ k. record { kind = k; start = t.start } ∷ taken_rows (u.size - 1) us ts) (same_kind-equal t.kind u.kind is.0)
+          ∙ sym told
+      | inr other ↦
+          let js = all ∙ ap (λ b. (if b then [] else joint ∷ []) ++ joined us next) other in
+          ap (λ l. joined_rows zero n l (t ∷ ts)) js
+          ∙ ap (λ b. if b then (taken ∷ joined_rows (u.size - 1) (1 + n) (joined us next) ts) else (t ∷ joined_rows zero (1 + n) (joint ∷ joined us next) ts))
+          (eq-eqb n n refl)
+          ∙ ap (λ l. taken ∷ l) rest
+          ∙ sym told
+    ]
+
+pub joined_taken : (us : List Taken) (left n : ℕ) (ts : List TokenRow) → AreSolid us
+    → joined_rows left n (joined us (place_at n (behind_solid left (row_kinds ts)))) ts ≡ taken_rows left us ts
+joined_taken [] zero n [] s = refl
+joined_taken (u ∷ us) zero n [] s = refl
+joined_taken us (suc left) n [] s = refl
+joined_taken us (suc left) n (t ∷ ts) s = joined_taken us (if is_trivia t.kind then suc left else left) n ts s
+joined_taken [] zero n (t ∷ ts) s = ap (λ l. t ∷ l) (sym (no_joined n ts) ∙ joined_taken [] zero n ts tt)
+joined_taken (u ∷ us) zero n (t ∷ ts) s =
+    let ks = row_kinds ts in
+    let here : Place = place_at n (t.kind ∷ ks) in
+    let later : Place = place_at (1 + n) (behind_solid zero ks) in
+    let js = joined (u ∷ us) here in
+    elim (cases_Bool (is_trivia t.kind)) [
+      | inl blank ↦
+          let same : js ≡ joined (u ∷ us) later =
+          joined_same (u ∷ us) here later
+          (omega (arith, ap (λ b. if b then 1 + leading ks else 0) blank, ap leading (behind_nothing ks)))
+          (ap (λ b. if b then behind_trivia ks else t.kind ∷ ks) blank ∙ ap behind_trivia (sym (behind_nothing ks))) in
+          row_kept n js t ts (subst (BeginBehind (1 + n)) (sym same) (joined_behind (u ∷ us) later (1 + n) (omega arith)))
+          ∙ ap (λ l. t ∷ joined_rows zero (1 + n) l ts) same
+          ∙ ap (λ l. t ∷ l) (joined_taken (u ∷ us) zero (1 + n) ts s)
+          ∙ ap (λ b. if b then t ∷ taken_rows zero (u ∷ us) ts else (record { kind = u.kind; start = t.start } ∷ taken_rows (u.size - 1) us ts)) (sym blank)
+      | inr solid ↦ taken_solid u us n t ts s.0 solid (joined_taken us (u.size - 1) (1 + n) ts s.2)
+    ]

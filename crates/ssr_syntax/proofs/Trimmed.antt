@@ -8,9 +8,9 @@ use Rattle.ssr_syntax_kinds.specs.Kinds.{is_trivia}
 use Rattle.ssr_syntax_lex.specs.Tokens.{token_text}
 use Rattle.ssr_syntax_lex.specs.declared.tokens.RawToken.{RawToken}
 use Rattle.ssr_syntax_tree.specs.Syntax as plain
-use Rattle.ssr_syntax_forms.specs.declared.rows.Taken.{Taken}
+use Rattle.ssr_syntax.specs.Private.Leaves.{Taken}
 use Rattle.ssr_syntax_forms.specs.Trees as solid
-use Rattle.ssr_syntax_forms.specs.Written as written
+use Rattle.ssr_syntax.specs.Private.Leaves as written
 use Rattle.ssr_syntax.specs.Lossless.{trivia, gap, behind_gap, upto, past, before, behind, lossless, whole_tree, begins_with_trivia, IsTrimmed}
 use Rattle.ssr_syntax.specs.Reading.{pieces, begins_solid}
 use Rattle.ssr_syntax.proofs.Laid.{AreSolid, total, total-leaves, token_of, laid, all_laid, solid-append, gap-behind, past-zero, upto-past, tokens-lossless}

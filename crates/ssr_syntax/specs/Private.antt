@@ -4,6 +4,7 @@ pub mod OpenNodes
 pub mod Turning
 pub mod Packing
 pub mod SolidKinds
+pub mod Leaves
 pub mod TreeTokens
 pub mod Preorder
 pub mod Reading

@@ -71,11 +71,11 @@ impl FragmentText {
         if !is_solid_outside(self.rows.kinds()) {
             return Err(SyntaxError::NoTree);
         }
-        let written = parse_as(alloc, fragment.goal(), &self.solid)?;
+        let written = parse_as(alloc, fragment.goal(), &self.solid, self.rows.kinds())?;
         // A tree owns its text and its rows. They are copied only where the tokens are those of a tree.
         let text = String::from_str(alloc, self.text.as_str().trim())?;
         let rows = copied(alloc, &self.rows)?;
-        written_tree(alloc, text, rows, written, self.solid.len())
+        written_tree(alloc, text, rows, written)
     }
 }
 

@@ -2,7 +2,7 @@
 ghost use Rattle.ssr_syntax.specs.Grammar.{grammar};
 ghost use Rattle.ssr_syntax.specs.Private.Reading.{IsReading};
 ghost use Rattle.ssr_syntax.specs.Reading.{reading};
-ghost use Rattle.ssr_syntax_forms.specs.Parser.{Steps, written_in};
+ghost use Rattle.ssr_syntax_forms.specs.Parser.{Steps};
 ghost use Rattle.ssr_syntax_forms.specs.Runs.{Runs, run_goal};
 
 use ssr_syntax_adts::uses::use_tree;
@@ -13,6 +13,7 @@ use ssr_syntax_exprs::generic_args::generic_arg_list;
 use ssr_syntax_forms::{Fault, Output, Parser, Token};
 use ssr_syntax_items::items::{item, macro_items, source_file};
 use ssr_syntax_items::statements::{lone_stmt, macro_stmts, match_arm, stmt_list};
+use ssr_syntax_kinds::SyntaxKind;
 use ssr_syntax_patterns::patterns::pat;
 use ssr_syntax_types::goals::Goal;
 use ssr_syntax_types::reader::Reader;
@@ -92,13 +93,18 @@ fn read(p: &mut Parser<'_>, goal: Goal, left: u32) -> Result<(), Fault>
 /// How many levels of goals are read. Each level but the first stands below a node.
 const MOST_LEVELS: u32 = 1026;
 
-/// The nodes and the tokens of the tree that is read of all tokens as the goal; `NoTree` where none fits. A tree that fits,
-/// with at most 1,025 nodes above one another, is read.
+/// The nodes and the joined tokens of the tree that is read of all solid tokens as the goal, where the text's tokens have
+/// these kinds; `NoTree` where none fits. A tree that fits, with at most 1,025 nodes above one another, is read.
 #[tactic(auto, using(crate::proofs::Finished::no_tree, crate::proofs::Finished::finished))]
-pub(crate) fn parse_as(alloc: Global, goal: Goal, tokens: &[Token]) -> Result<Output, Fault>
-    ensures { IsReading (λ v. written_in v) result (reading goal tokens.now) }
+pub(crate) fn parse_as(
+    alloc: Global,
+    goal: Goal,
+    tokens: &[Token],
+    kinds: &[SyntaxKind],
+) -> Result<Output, Fault>
+    ensures { IsReading kinds.now result (reading goal tokens.now) }
 {
-    let mut parser = Parser::new(alloc, tokens)?;
+    let mut parser = Parser::new(alloc, tokens, kinds)?;
     read(&mut parser, goal, MOST_LEVELS)?;
     parser.finish()
 }

@@ -1,11 +1,12 @@
 //! The rows of a tree's nodes in preorder, from the parser's rows.
-ghost use Rattle.std.specs.Prelude.{◌≡◌, ◌+◌, ◌<◌, ◌≤◌, ◌^◌, [], length, reverse, slice_index, nat_lt, vec_capacity, IfOk};
+ghost use Rattle.std.specs.Prelude.{◌≡◌, ◌+◌, ◌<◌, ◌≤◌, ◌^◌, [], length, reverse, nat_lt, vec_capacity, IfOk};
 ghost use Rattle.ssr_syntax_kinds.specs.declared.kinds.SyntaxKind.{SyntaxKind};
-ghost use Rattle.ssr_syntax.specs.Private.Preorder.{first_at, past_at, OkUnlessDeep, tree_rows, most_nodes};
+ghost use Rattle.ssr_syntax.specs.Private.Leaves.{rows as rows_of};
+ghost use Rattle.ssr_syntax.specs.Private.Preorder.{OkUnlessDeep, tree_rows, most_nodes};
 ghost use Rattle.ssr_syntax.specs.Reading.{most_deep};
 ghost use Rattle.ssr_syntax.specs.Private.OpenNodes.{opened, AreEnough, IsClosed, IsOpened, IsFromRight};
 ghost use Rattle.ssr_syntax_forms.specs.Trees.{Forest, done, height, tree};
-ghost use Rattle.ssr_syntax_forms.specs.Written.{rows as rows_of};
+ghost use Rattle.ssr_syntax_forms.specs.Places.{Place};
 
 use crate::syntax_error::SyntaxError;
 use crate::turning::Turning;
@@ -50,51 +51,16 @@ fn close_open(place: usize, above: &mut Vec<Open>, rows: &mut Turning)
     }
 }
 
-/// How many tokens there are up to the solid one of that number.
-#[inline(always)]
-fn taken(ends: &[u32], solid: usize) -> u32
-    ensures { result ≡ slice_index ends.now solid }
-{
-    ends.get(solid).copied().unwrap_or(0)
-}
-
-/// The first token of a node of `count` solid tokens, to whose left `left` stand. A node without tokens stands at the
-/// token `low` or behind it.
-#[inline(always)]
-fn first_token(ends: &[u32], low: u32, left: u32, count: u32) -> u32
-    ensures { result ≡ first_at (λ i. slice_index ends.now i) low left count }
-{
-    if count == 0 {
-        taken(ends, left as usize).max(low)
-    } else {
-        taken(ends, left as usize + 1).saturating_sub(1)
-    }
-}
-
-/// The token past the last one of such a node.
-#[inline(always)]
-fn past_token(ends: &[u32], low: u32, left: u32, count: u32) -> u32
-    ensures { result ≡ past_at (λ i. slice_index ends.now i) low left count }
-{
-    if count == 0 {
-        taken(ends, left as usize).max(low)
-    } else {
-        taken(ends, left as usize + count as usize)
-    }
-}
-
 /// The node of a row with `place` rows in front of it, below the open ones.
 #[inline(always)]
-fn opened(ends: &[u32], total: u32, row: &NodeRow, place: usize, above: &[Open]) -> Open
+fn opened(row: &NodeRow, place: usize, above: &[Open]) -> Open
     requires { place + length above.now < 2 ^ 32 }
-    ensures { result ≡ opened (λ i. slice_index ends.now i) total row.now place (reverse above.now) }
+    ensures { result ≡ opened row.now place (reverse above.now) }
 {
     let (parent, low) = match above.last() {
         Some(inner) => (inner.number, inner.node.first),
         None => (0, 0),
     };
-    let left = total.saturating_sub(row.first);
-    let count = row.first.saturating_sub(row.past);
     let start = place.saturating_sub(row.below as usize);
     Open {
         start,
@@ -102,8 +68,8 @@ fn opened(ends: &[u32], total: u32, row: &NodeRow, place: usize, above: &[Open])
         node: NodeRow {
             kind: row.kind,
             parent,
-            first: first_token(ends, low, left, count),
-            past: past_token(ends, low, left, count),
+            first: row.first.max(low),
+            past: row.past.max(low),
             below: row.below,
         },
     }
@@ -112,8 +78,6 @@ fn opened(ends: &[u32], total: u32, row: &NodeRow, place: usize, above: &[Open])
 /// Opens the node of a row with `place` rows in front of it, or turns it at once if no node is below it.
 #[inline(always)]
 fn open_row(
-    ends: &[u32],
-    total: u32,
     row: &NodeRow,
     place: usize,
     above: &mut Vec<Open>,
@@ -122,7 +86,7 @@ fn open_row(
     requires few { place ≤ most_nodes }
     requires room { rows.old.room ≡ 1 + length above.old.items }
     requires places { AreEnough (vec_capacity above.old) rows.old }
-    ensures opened { IsOpened (λ i. slice_index ends.now i) total row.now place above.old.items above.new.items rows.old.turned rows.new.turned result }
+    ensures opened { IsOpened row.now place above.old.items above.new.items rows.old.turned rows.new.turned result }
     ensures unread { rows.new.unread ≡ rows.old.unread }
     ensures room { IfOk result (λ _. rows.new.room ≡ length above.new.items) }
     ensures one_more { length above.new.items ≤ 1 + length above.old.items }
@@ -132,7 +96,7 @@ fn open_row(
     if above.len() > MOST_DEEP {
         return Err(SyntaxError::TooDeep);
     }
-    let inner = opened(ends, total, row, place, above);
+    let inner = opened(row, place, above);
     if row.below == 0 {
         rows.put(inner.node);
     } else {
@@ -144,37 +108,30 @@ fn open_row(
 /// Turns the rows, the last one first, and then those above. It has both lists to itself, so that what the loop knows of
 /// them can stay in registers.
 #[inline(never)]
-fn from_right(
-    ends: &[u32],
-    total: u32,
-    mut above: Vec<Open>,
-    mut rows: Turning,
-) -> Result<Turning, SyntaxError>
+fn from_right(mut above: Vec<Open>, mut rows: Turning) -> Result<Turning, SyntaxError>
     requires few { length rows.unread ≤ most_nodes }
     requires room { rows.room ≡ length above.items }
     requires places { AreEnough (vec_capacity above) rows }
-    ensures turned { IsFromRight (λ i. slice_index ends.now i) total rows.unread above.items rows.turned result }
+    ensures turned { IsFromRight rows.unread above.items rows.turned result }
     ensures read { IfOk result (λ t. t.unread ≡ []) }
     ensures full { IfOk result (λ t. t.room ≡ 0) }
 {
     while let Some(row) = rows.read() {
-        open_row(ends, total, &row, rows.unread(), &mut above, &mut rows)?;
+        open_row(&row, rows.unread(), &mut above, &mut rows)?;
     }
     close_open(0, &mut above, &mut rows);
     Ok(rows)
 }
 
-/// The rows of a tree's nodes in preorder, from the parser's, in the same vectors. `ends` says how many of the `tokens`
-/// tokens there are up to each solid one, from none on.
+/// The rows of the nodes of a tree of so many tokens in preorder, from the parser's, in the same vectors.
 pub(crate) fn node_rows(
     alloc: Global,
     rows: NodeRows,
-    ends: &[u32],
     tokens: u32,
 ) -> Result<NodeRows, SyntaxError>
-    ensures { (kind : SyntaxKind) (kids : Forest) → rows ≡ rows_of (tree kind kids done) 0
+    ensures { (kind : SyntaxKind) (kids : Forest) (p : Place) → rows ≡ rows_of (tree kind kids done) p
         → OkUnlessDeep (nat_lt most_deep (height kids))
-        (λ v. (v ≡ tree_rows (λ i. slice_index ends.now i) tokens kind kids) × (length rows ≤ most_nodes))
+        (λ v. (v ≡ tree_rows p tokens kind kids) × (length rows ≤ most_nodes))
         result }
 {
     let count = rows.len();
@@ -199,6 +156,6 @@ pub(crate) fn node_rows(
         number: 0,
         node,
     });
-    let turned = from_right(ends, root.first, above, rows)?;
+    let turned = from_right(above, rows)?;
     Ok(turned.finish())
 }

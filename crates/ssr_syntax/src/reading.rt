@@ -5,7 +5,6 @@ ghost use Rattle.ssr_syntax_lex.specs.Tokens.{tokens, rows_in};
 ghost use Rattle.ssr_syntax.specs.Reading.{Answers, AnswersTrimmed, tree_reading, file_reading, fragment_reading, FitsFile, FitsFragment, IsTreeOfFile, IsTreeOfFragment, IsThatOrTooDeep};
 ghost use Rattle.ssr_syntax.specs.Private.Reading.{IsLexed, IsCut, IsWritten};
 ghost use Rattle.ssr_syntax_lex.specs.declared.tokens.RawToken.{RawToken};
-ghost use Rattle.ssr_syntax_forms.specs.Parser.{written_in};
 ghost use Rattle.ssr_syntax_types.specs.declared.goals.Goal.{Goal};
 ghost use Rattle.ssr_syntax_tree.specs.Syntax.{Syntax};
 
@@ -16,7 +15,7 @@ use crate::macro_rules::misnames_macros;
 use crate::preorder::node_rows;
 use crate::solid::solid_tokens;
 use crate::syntax_error::SyntaxError;
-use crate::tree_tokens::{ends, tree_tokens};
+use crate::tree_tokens::tree_tokens;
 use ssr_syntax_forms::{Output, Token};
 use ssr_syntax_kinds::TokenRows;
 use ssr_syntax_lex::{LexError, lex_rows};
@@ -76,32 +75,27 @@ pub(crate) fn read_solid(
     ensures { (raw : List RawToken) → IsCut (string_bytes text) rows solid.items raw
         → Answers result (tree_reading goal (string_bytes text) raw) (string_bytes text) }
 {
-    let count = solid.len();
-    let written = parse_as(alloc, goal, &solid)?;
+    let written = parse_as(alloc, goal, &solid, rows.kinds())?;
     // Each list is dropped as soon as it is read, which keeps the most memory in use low.
     drop(solid);
-    written_tree(alloc, text, rows, written, count)
+    written_tree(alloc, text, rows, written)
 }
 
-/// The tree of a text with these rows, of which this is written; `solid` of its tokens are solid.
+/// The tree of a text with these rows, of which this is written.
 pub(crate) fn written_tree(
     alloc: Global,
     text: String,
     rows: TokenRows,
     written: Output,
-    solid: usize,
 ) -> Result<Tree, SyntaxError>
     requires short { length (string_bytes text) < 2 ^ 32 }
-    requires written { (goal : Goal) × (raw : List RawToken) × IsWritten goal (string_bytes text) rows (written_in written) raw }
-    ensures { (goal : Goal) (raw : List RawToken) → IsWritten goal (string_bytes text) rows (written_in written) raw
+    requires written { (goal : Goal) × (raw : List RawToken) × IsWritten goal (string_bytes text) rows written raw }
+    ensures { (goal : Goal) (raw : List RawToken) → IsWritten goal (string_bytes text) rows written raw
         → Answers result (tree_reading goal (string_bytes text) raw) (string_bytes text) }
 {
-    let tokens = tree_tokens(alloc, rows, &written.taken)?;
-    drop(written.taken);
-    let ends = ends(alloc, &tokens.sizes, solid)?;
-    drop(tokens.sizes);
-    let nodes = node_rows(alloc, written.rows, &ends, tokens.rows.len() as u32)?;
-    let tree = Tree::from_parts(text, tokens.rows, nodes);
+    let tokens = tree_tokens(rows, &written.joined);
+    let nodes = node_rows(alloc, written.rows, tokens.len() as u32)?;
+    let tree = Tree::from_parts(text, tokens, nodes);
     if misnames_macros(&tree) {
         return Err(SyntaxError::NoTree);
     }

@@ -1,13 +1,13 @@
 -- The theorems on forms, at every number of levels.
-use Rattle.std.proofs.Common.{◌≡◌, ℕ, zero, suc, List, [], ◌++◌, length, Result, Ok, Err, refl, sym, ap, subst, ◌∙◌}
+use Rattle.std.proofs.Common.{◌≡◌, ℕ, zero, suc, List, ◌++◌, Result, Ok, Err, refl, sym, ap, ◌∙◌}
 use Rattle.ssr_syntax_forms.specs.declared.tokens.Token.{Token}
 use Rattle.ssr_syntax_forms.specs.declared.fault.Fault.{Fault}
 use Rattle.ssr_syntax_forms.specs.Trees.{Forest, done}
-use Rattle.ssr_syntax_forms.specs.Parser.{Written, written_of}
+use Rattle.ssr_syntax_kinds.specs.declared.kinds.SyntaxKind.{SyntaxKind}
+use Rattle.ssr_syntax_forms.specs.Parser.{Written, unwritten}
 use Rattle.ssr_syntax_forms.specs.Written.{writes}
 use Rattle.ssr_syntax_forms.specs.Forms.{Productions, SoFar, so_far, read}
-use Rattle.ssr_syntax_forms.specs.Parser.{State, state_of, mark_at}
-use Rattle.ssr_syntax_forms.specs.Runs.{run}
+use Rattle.ssr_syntax_forms.specs.Parser.{State, state_of}
 use Rattle.ssr_syntax_forms.specs.Levels.{read_goal}
 use Rattle.ssr_syntax_forms.specs.Runs.{run_goal}
 use Rattle.ssr_syntax_forms.proofs.Answers.{ok_one}
@@ -15,7 +15,7 @@ use Rattle.ssr_syntax_forms.specs.Fitting.{Fits}
 use Rattle.ssr_syntax_forms.proofs.Nested.{FitsGoal, goals_by_rules}
 use Rattle.ssr_syntax_forms.proofs.Soundness.{IsSound, sound}
 use Rattle.ssr_syntax_forms.proofs.Spelling.{Spells, spelled, ReadsSpelled, read_spelled}
-use Rattle.ssr_syntax_forms.proofs.Agreement.{RunsAsRead, agree, emit, plus-none}
+use Rattle.ssr_syntax_forms.proofs.Agreement.{RunsAsRead, agree, emit}
 
 pub goals_spell : {Goal : Type 0} (grammar : Productions Goal) (n : ℕ) → Spells (FitsGoal grammar n)
 unfolding FitsGoal
@@ -39,55 +39,48 @@ pub goals_agree : {Goal : Type 0} (grammar : Productions Goal) (n : ℕ) → Run
 unfolding read_goal run_goal
 goals_agree grammar zero goal out ts = refl
 goals_agree grammar (suc n) goal out ts =
-    let red : Result SoFar _ = read (read_goal grammar n) (grammar goal) (so_far done ts) in
-    subst (λ w. run (run_goal grammar n) (grammar goal) (mark_at (length out.rows) ts) (state_of w ts) ≡ emit out red)
-    (plus-none out (length ts))
-    (agree (run_goal grammar n) (read_goal grammar n) (goals_agree grammar n) (goals_read_spelled grammar n)
-    (grammar goal) out ts (so_far done ts) refl)
+    agree (run_goal grammar n) (read_goal grammar n) (goals_agree grammar n) (goals_read_spelled grammar n)
+    (grammar goal) out ts (so_far done ts) refl
 
 -- ** What a run tells of what is read, where nothing was written before.
 
-abbrev blank : Written
-blank = written_of [] []
+from_written : (out : Written) (red : Result SoFar Fault) (new : State) → emit out red ≡ Ok new
+    → (z : Forest) × (red ≡ Ok (so_far z new.rest)) × (new.out ≡ writes z out)
+from_written out (Ok r) new e =
+    let same : state_of (writes r.made out) r.rest ≡ new = ok_one e in
+    (r.made, ap (λ w. Ok (so_far r.made w)) (ap (λ w. w.rest) same), sym (ap (λ w. w.out) same))
+from_written out (Err f) new e = cc
 
-from_written : (red : Result SoFar Fault) (new : State) → emit blank red ≡ Ok new
-    → (z : Forest) × (red ≡ Ok (so_far z new.rest)) × (new.out ≡ writes z (length new.rest))
-from_written (Ok r) new e =
-    let same : state_of (writes r.made (length r.rest)) r.rest ≡ new = ok_one e in
-    let same_rest : r.rest ≡ new.rest = ap (λ w. w.rest) same in
-    let same_out : writes r.made (length r.rest) ≡ new.out = ap (λ w. w.out) same in
-    (r.made, ap (λ w. Ok (so_far r.made w)) same_rest, sym same_out ∙ ap (λ w. writes r.made (length w)) same_rest)
-from_written (Err f) new e = cc
+from_fault : (out : Written) (red : Result SoFar Fault) (f : Fault) → emit out red ≡ Err f → red ≡ Err f
+from_fault out (Ok r) f e = cc
+from_fault out (Err g) f e = cc
 
-from_fault : (red : Result SoFar Fault) (f : Fault) → emit blank red ≡ Err f → red ≡ Err f
-from_fault (Ok r) f e = cc
-from_fault (Err g) f e = cc
+from_run : {Goal : Type 0} (grammar : Productions Goal) (n : ℕ) (goal : Goal) (out : Written) (ts : List Token) (old : State) (ran : Result State Fault)
+    → old ≡ state_of out ts → run_goal grammar n goal old ≡ ran → emit out (read_goal grammar n goal ts) ≡ ran
+from_run grammar n goal out ts old ran start e = sym (goals_agree grammar n goal out ts) ∙ ap (run_goal grammar n goal) (sym start) ∙ e
 
-from_run : {Goal : Type 0} (grammar : Productions Goal) (n : ℕ) (goal : Goal) (ts : List Token) (old : State) (ran : Result State Fault)
-    → old ≡ state_of blank ts → run_goal grammar n goal old ≡ ran → emit blank (read_goal grammar n goal ts) ≡ ran
-from_run grammar n goal ts old ran start e = sym (goals_agree grammar n goal blank ts) ∙ ap (run_goal grammar n goal) (sym start) ∙ e
+pub read_as_run : {Goal : Type 0} (grammar : Productions Goal) (n : ℕ) (goal : Goal) (out : Written) (ts : List Token) (old new : State)
+    → old ≡ state_of out ts → run_goal grammar n goal old ≡ Ok new
+    → (z : Forest) × (read_goal grammar n goal ts ≡ Ok (so_far z new.rest)) × (new.out ≡ writes z out)
+read_as_run grammar n goal out ts old new start e =
+    from_written out (read_goal grammar n goal ts) new (from_run grammar n goal out ts old (Ok new) start e)
 
-pub read_as_run : {Goal : Type 0} (grammar : Productions Goal) (n : ℕ) (goal : Goal) (ts : List Token) (old new : State)
-    → old ≡ state_of (written_of [] []) ts → run_goal grammar n goal old ≡ Ok new
-    → (z : Forest) × (read_goal grammar n goal ts ≡ Ok (so_far z new.rest)) × (new.out ≡ writes z (length new.rest))
-read_as_run grammar n goal ts old new start e =
-    from_written (read_goal grammar n goal ts) new (from_run grammar n goal ts old (Ok new) start e)
-
-pub refused_as_run : {Goal : Type 0} (grammar : Productions Goal) (n : ℕ) (goal : Goal) (ts : List Token) (old : State) (f : Fault)
-    → old ≡ state_of (written_of [] []) ts → run_goal grammar n goal old ≡ Err f → read_goal grammar n goal ts ≡ Err f
-refused_as_run grammar n goal ts old f start e =
-    from_fault (read_goal grammar n goal ts) f (from_run grammar n goal ts old (Err f) start e)
+pub refused_as_run : {Goal : Type 0} (grammar : Productions Goal) (n : ℕ) (goal : Goal) (out : Written) (ts : List Token) (old : State) (f : Fault)
+    → old ≡ state_of out ts → run_goal grammar n goal old ≡ Err f → read_goal grammar n goal ts ≡ Err f
+refused_as_run grammar n goal out ts old f start e =
+    from_fault out (read_goal grammar n goal ts) f (from_run grammar n goal out ts old (Err f) start e)
 
 -- ** What a run from the start says of what fits.
 
-pub fits_as_run : {Goal : Type 0} (grammar : Productions Goal) (n : ℕ) (goal : Goal) (ts : List Token) (new : State)
-    → run_goal grammar n goal (state_of (written_of [] []) ts) ≡ Ok new
-    → (z : Forest) × (us : List Token) × Fits grammar (grammar goal) done z us new.rest × (ts ≡ us ++ new.rest) × (new.out ≡ writes z (length new.rest))
-fits_as_run grammar n goal ts new e =
-    let m = read_as_run grammar n goal ts (state_of blank ts) new refl e in
+pub fits_as_run : {Goal : Type 0} (grammar : Productions Goal) (n : ℕ) (goal : Goal) (kinds : List SyntaxKind) (ts : List Token) (new : State)
+    → run_goal grammar n goal (state_of (unwritten kinds) ts) ≡ Ok new
+    → (z : Forest) × (us : List Token) × Fits grammar (grammar goal) done z us new.rest × (ts ≡ us ++ new.rest) × (new.out ≡ writes z (unwritten kinds))
+fits_as_run grammar n goal kinds ts new e =
+    let m = read_as_run grammar n goal (unwritten kinds) ts (state_of (unwritten kinds) ts) new refl e in
     let s = goals_sound grammar n goal ts (so_far m.0 new.rest) m.1 in
     (m.0, s.0, goals_by_rules grammar n goal m.0 s.0 new.rest s.2, s.1, m.2)
 
-pub refused_at_start : {Goal : Type 0} (grammar : Productions Goal) (n : ℕ) (goal : Goal) (ts : List Token) (f : Fault)
-    → run_goal grammar n goal (state_of (written_of [] []) ts) ≡ Err f → read_goal grammar n goal ts ≡ Err f
-refused_at_start grammar n goal ts f e = refused_as_run grammar n goal ts (state_of blank ts) f refl e
+pub refused_at_start : {Goal : Type 0} (grammar : Productions Goal) (n : ℕ) (goal : Goal) (kinds : List SyntaxKind) (ts : List Token) (f : Fault)
+    → run_goal grammar n goal (state_of (unwritten kinds) ts) ≡ Err f → read_goal grammar n goal ts ≡ Err f
+refused_at_start grammar n goal kinds ts f e =
+    refused_as_run grammar n goal (unwritten kinds) ts (state_of (unwritten kinds) ts) f refl e

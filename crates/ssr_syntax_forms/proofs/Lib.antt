@@ -1,6 +1,7 @@
 pub mod Shared
 mod Answers
 mod Joins
+mod PlaceLaws
 mod Nested
 mod Walks
 mod Loops

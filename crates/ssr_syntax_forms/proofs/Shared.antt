@@ -2,8 +2,6 @@
 
 -- answers by cases
 pub use Rattle.ssr_syntax_forms.proofs.Answers.{bind_ok, ok_one}
--- forests side by side
-pub use Rattle.ssr_syntax_forms.proofs.Joins.{length-rows}
 -- kinds in lists
 pub use Rattle.ssr_syntax_forms.proofs.Check.{every, meets}
 pub use Rattle.ssr_syntax_forms.proofs.Members.{apart, at_next, every_mem, mem_append, one_taken}

@@ -2,6 +2,7 @@ pub mod Kinds
 pub mod Trees
 pub mod Forms
 pub mod Fitting
+pub mod Places
 pub mod Parser
 pub mod Levels
 pub mod Written

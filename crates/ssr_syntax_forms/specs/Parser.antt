@@ -1,26 +1,50 @@
 -- What the parser's functions do to what is written and to the tokens that are left.
-use Rattle.std.specs.Prelude.{◌≡◌, ◌≢◌, ℕ, ◌+◌, ◌-◌, if◌then◌else◌, Bool, true, false, List, ◌∷◌, [], ◌++◌, length, take, Result, Ok, Err}
+use Rattle.std.specs.Prelude.{◌≡◌, ◌≢◌, ℕ, ◌+◌, ◌-◌, ◌==◌, ◌&&◌, min, if◌then◌else◌, Bool, true, false, List, ◌∷◌, [], ◌++◌, length, take, Result, Ok, Err}
 use Rattle.std.specs.Borrow.{MutBor}
 use Rattle.ssr_syntax_kinds.specs.declared.kinds.SyntaxKind.{SyntaxKind}
 use Rattle.ssr_syntax_kinds.specs.declared.kinds.SyntaxKind.TheVariants.{COMMA}
+use Rattle.ssr_syntax_kinds.specs.Kinds.{same_kind}
 use Rattle.ssr_syntax_forms.specs.declared.tokens.Token.{Token}
 use Rattle.ssr_syntax_forms.specs.declared.rows.Output.{Output}
 use Rattle.ssr_syntax_forms.specs.declared.fault.Fault.{Fault}
 use Rattle.ssr_syntax_forms.specs.declared.fault.Fault.TheVariants as faults
 use Rattle.ssr_syntax_tree.specs.declared.rows.NodeRow.{NodeRow}
-use Rattle.ssr_syntax_forms.specs.declared.rows.Taken.{Taken}
+use Rattle.ssr_syntax_forms.specs.declared.rows.Joined.{Joined}
+use Rattle.ssr_syntax_forms.specs.Places.{Place, place_at, behind_token}
 use Rattle.ssr_syntax_forms.specs.Forms.{Test, at, more, taken_as, past, passes, agrees, repeat, ◌>>=◌}
 
--- the rows of nodes and the tokens that are written
+-- The rows of nodes that are written, the tokens that are joined from several, and where the parser is.
 pub record Written : Type 0 where
   pub rows : List NodeRow
-  pub taken : List Taken
+  pub joined : List Joined
+  pub place : Place
 
-abbrev pub written_of : List NodeRow → List Taken → Written
-written_of rows taken = record { rows = rows; taken = taken }
+-- nothing, in front of tokens of these kinds
+abbrev pub unwritten : List SyntaxKind → Written
+unwritten kinds = record { rows = []; joined = []; place = place_at 0 kinds }
 
-abbrev pub written_in : Output → Written
-written_in out = written_of out.rows out.taken.items
+-- The next token of the tree is a token of the text as it is: of this kind, and no other is joined to it.
+abbrev pub is_alone : SyntaxKind → ℕ → List SyntaxKind → Bool
+is_alone kind size [] = false
+is_alone kind size (k ∷ ks) = same_kind k kind && size == 1
+
+-- A token of this kind, joined from so many solid ones, is written: any other than one of the text as it is.
+abbrev pub token_written : SyntaxKind → ℕ → Written → Written
+token_written kind size out =
+    record {
+      rows = out.rows;
+      joined = out.joined ++ (if is_alone kind size out.place.kinds then [] else record { number = out.place.next; kind = kind; size = size } ∷ []);
+      place = behind_token size out.place;
+    }
+
+-- A node is written of all rows but the first `made`. Where it has tokens, the first one is `next`.
+abbrev pub node_written : SyntaxKind → ℕ → ℕ → Written → Written
+node_written kind made next out =
+    record {
+      rows = out.rows ++ record { kind = kind; parent = 0; first = min next out.place.end; past = out.place.end; below = length out.rows - made } ∷ [];
+      joined = out.joined;
+      place = out.place;
+    }
 
 -- what is written, and the tokens that are left
 pub record State : Type 0 where
@@ -30,16 +54,17 @@ pub record State : Type 0 where
 abbrev pub state_of : Written → List Token → State
 state_of out rest = record { out = out; rest = rest }
 
--- how many rows were written at a mark, and which tokens were left
+-- How many rows were written at a mark, what number the next token of the tree had there, and which tokens were left.
 pub record Mark : Type 0 where
   pub made : ℕ
+  pub next : ℕ
   pub start : List Token
 
-abbrev pub mark_at : ℕ → List Token → Mark
-mark_at made start = record { made = made; start = start }
+abbrev pub mark_at : Written → List Token → Mark
+mark_at out start = record { made = length out.rows; next = out.place.next; start = start }
 
 abbrev pub mark_of : State → Mark
-mark_of s = mark_at (length s.out.rows) s.rest
+mark_of s = mark_at s.out s.rest
 
 -- the tokens since a mark
 abbrev pub since : Mark → State → List Token
@@ -50,7 +75,7 @@ since m s = take (length m.start - length s.rest) m.start
 -- what is written behind the token in front, which is taken whole or but for its first part
 abbrev pub took : Bool → List Token → Written → Written
 took whole [] out = out
-took whole (t ∷ ts) out = written_of out.rows (out.taken ++ record { kind = taken_as whole t; size = 1 + more whole t } ∷ [])
+took whole (t ∷ ts) out = token_written (taken_as whole t) (1 + more whole t) out
 
 -- a token of one of these kinds is taken
 abbrev pub taken : Bool → List SyntaxKind → State → Result State Fault
@@ -58,12 +83,7 @@ taken whole ks s = past whole ks s.rest >>= λ ts. Ok (state_of (took whole s.re
 
 -- all since the mark is put into a node
 abbrev pub close : SyntaxKind → Mark → State → State
-close kind m s =
-    state_of
-    (written_of
-    (s.out.rows ++ record { kind = kind; parent = 0; first = length m.start; past = length s.rest; below = length s.out.rows - m.made } ∷ [])
-    s.out.taken)
-    s.rest
+close kind m s = state_of (node_written kind m.made m.next s.out) s.rest
 
 -- a step again and again, as long as the next tokens pass
 unfoldable pub repeated : Test → (State → Result State Fault) → State → Result State Fault
@@ -90,9 +110,14 @@ abbrev pub Steps : {R : Type 0} → State → Result R Fault → Result State Fa
 Steps new (Ok r) ran = ran ≡ Ok new
 Steps new (Err e) ran = e ≢ faults.Memory → ran ≡ Err e
 
+-- the output is what is written
+pub record Holds (out : Output) (w : Written) : Type 0 where
+  pub rows : out.rows ≡ w.rows
+  pub joined : out.joined.items ≡ w.joined
+
 -- what is written, where no token is left
 abbrev pub Finishes : State → Result Output Fault → Type 0
-Finishes s (Ok out) = (s.rest ≡ []) × (written_in out ≡ s.out)
+Finishes s (Ok out) = (s.rest ≡ []) × Holds out s.out
 Finishes s (Err e) = (s.rest ≢ []) × (e ≡ faults.NoTree)
 
 -- Each call of a closure is the step.

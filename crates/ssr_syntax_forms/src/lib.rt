@@ -4,10 +4,11 @@
 mod fault;
 pub mod laws;
 mod parser;
+mod places;
 mod rows;
 mod tokens;
 
 pub use fault::Fault;
 pub use parser::{Mark, Parser};
-pub use rows::{Output, Taken};
+pub use rows::{Joined, Output};
 pub use tokens::{END, Token, TokenSet};

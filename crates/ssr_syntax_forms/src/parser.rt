@@ -1,21 +1,21 @@
 //! The parser's state: the tokens that are left, and what is written of those that were read.
 ghost use Rattle.std.specs.Prelude.{◌≡◌, ◌-◌, true, false, if◌then◌else◌, [], ◌∷◌, Result, Ok, Err, IfOk};
 ghost use Rattle.ssr_syntax_forms.specs.Forms.{Test, agrees, at, holds, last_isnt, next, none_is, passes};
-ghost use Rattle.ssr_syntax_forms.specs.Parser.{Calls, Finishes, State, Steps, close, comma, comma_separated, listed, mark_of, repeated, since, state_of, taken};
+ghost use Rattle.ssr_syntax_forms.specs.Parser.{Calls, Finishes, State, Steps, close, comma, comma_separated, listed, mark_of, repeated, since, state_of, taken, token_written, unwritten};
 ghost use Rattle.ssr_syntax_forms.specs.Private.Ahead.{Asks, nth, taken_with};
-ghost use Rattle.ssr_syntax_forms.specs.Parser.{written_of};
 ghost use Rattle.ssr_syntax_forms.specs.declared.fault.Fault.{Fault};
 ghost use Rattle.ssr_syntax_forms.specs.declared.fault.Fault.TheVariants as faults;
 
 use crate::fault::Fault;
-use crate::rows::{Output, Taken};
+use crate::places::Place;
+use crate::rows::{Joined, Output};
 use crate::tokens::{Token, TokenSet, last_isnt, next, none_is, nth};
 use ssr_syntax_kinds::SyntaxKind;
 use ssr_syntax_tree::{NodeRow, NodeRows};
 use std::alloc::{AllocError, Global};
 use std::marker::Model;
 
-/// The most rows and tokens that are counted.
+/// The most rows that are counted.
 const MOST: usize = u32::MAX as usize;
 
 /// Reads tokens, and writes the nodes and the tokens of their tree. A call that writes may answer want of memory; after an
@@ -23,44 +23,52 @@ const MOST: usize = u32::MAX as usize;
 #[derive(Drop)]
 pub struct Parser<'a> {
     rest: &'a [Token],
+    place: Place<'a>,
     out: Output,
 }
 
 impl<'a> Model for Parser<'a> {
     ghost use Rattle.ssr_syntax_forms.specs.Parser.{State, state_of};
-    ghost use Rattle.ssr_syntax_forms.specs.Parser.{written_in};
 
     ghost Value = { State };
 
-    ghost view = { λ p. state_of (written_in p.out) p.rest.now };
+    ghost view = { λ p. state_of (record { rows = p.out.rows; joined = p.out.joined.items; place = p.place }) p.rest.now };
 }
 
-/// Where a node begins: how many rows were written there, and which tokens were left.
+/// Where a node begins: how many rows were written there, what number the next token of the tree had, and which tokens
+/// were left.
 #[derive(Drop)]
 pub struct Mark<'a> {
     made: usize,
+    next: u32,
     start: &'a [Token],
 }
 
 impl<'a> Model for Mark<'a> {
-    ghost use Rattle.ssr_syntax_forms.specs.Parser.{Mark, mark_at};
+    ghost use Rattle.ssr_syntax_forms.specs.Parser.{Mark};
 
     ghost Value = { Mark };
 
-    ghost view = { λ m. mark_at m.made m.start.now };
+    ghost view = { λ m. record { made = m.made; next = m.next; start = m.start.now } };
 }
 
 impl<'a> Parser<'a> {
-    /// At the first of some tokens, with nothing written.
-    pub fn new(alloc: Global, tokens: &'a [Token]) -> Result<Parser<'a>, AllocError>
-        ensures { IfOk result (λ p. p ≡ state_of (written_of [] []) tokens.entry.now) }
+    /// At the first of the solid tokens of a text whose tokens have these kinds, with nothing written.
+    pub fn new(
+        alloc: Global,
+        tokens: &'a [Token],
+        kinds: &'a [SyntaxKind],
+    ) -> Result<Parser<'a>, AllocError>
+        ensures { IfOk result (λ p. p ≡ state_of (unwritten kinds.entry.now) tokens.entry.now) }
     {
         // code has one to two nodes for each token
         let rows = NodeRows::with_capacity(alloc, tokens.len().saturating_mul(2))?;
-        let taken = Vec::with_capacity(alloc, tokens.len())?;
+        let joined = Vec::new(alloc);
+        let place = Place::at(0, kinds)?;
         Ok(Parser {
             rest: tokens,
-            out: Output { rows, taken },
+            place,
+            out: Output { rows, joined },
         })
     }
 
@@ -81,24 +89,25 @@ impl<'a> Parser<'a> {
     {
         Mark {
             made: self.out.rows.len(),
+            next: self.place.next(),
             start: self.rest,
         }
     }
 
-    /// Puts all since the mark into a node. More rows or tokens than are counted are told as want of memory.
+    /// Puts all since the mark into a node. More rows than are counted are told as want of memory.
     pub fn complete(&mut self, mark: &Mark<'_>, kind: SyntaxKind) -> Result<(), Fault>
         ensures { Steps self.new result (Ok (close kind mark.now self.old)) }
     {
         let below = self.out.rows.len().saturating_sub(mark.made);
-        let (first, past) = (mark.start.len(), self.rest.len());
-        if first > MOST || past > MOST || below > MOST {
+        if below > MOST {
             return Err(Fault::Memory);
         }
+        let past = self.place.end();
         self.out.rows.push(NodeRow {
             kind,
             parent: 0,
-            first: first as u32,
-            past: past as u32,
+            first: mark.next.min(past),
+            past,
             below: below as u32,
         })?;
         Ok(())
@@ -275,10 +284,21 @@ impl<'a> Parser<'a> {
             return Err(Fault::NoTree);
         }
         self.rest = &rest[more as usize..];
-        self.out.taken.push(Taken {
-            kind,
-            size: 1 + more,
-        })?;
+        self.write_token(kind, 1 + more)
+    }
+
+    /// Writes a token of this kind, joined from so many: it is counted, and put down where it is no single one of the text.
+    fn write_token(&mut self, kind: SyntaxKind, size: u8) -> Result<(), Fault>
+        ensures { Steps self.new result (Ok (state_of (token_written kind size self.old.out) self.old.rest)) }
+    {
+        if !self.place.is_alone(kind, size) {
+            self.out.joined.push(Joined {
+                number: self.place.next(),
+                kind,
+                size,
+            })?;
+        }
+        self.place = self.place.behind_token(size)?;
         Ok(())
     }
 

@@ -1,22 +1,23 @@
-//! What the parser writes: the nodes of a tree, each behind those below it, and its tokens.
+//! What the parser writes: the nodes of a tree, each behind those below it, and its joined tokens.
 
 use ssr_syntax_kinds::SyntaxKind;
 use ssr_syntax_tree::NodeRows;
 
-/// A token that the parser took, whole or a part of a longer one.
+/// A token of a tree that is joined from several of the text's.
 #[derive(Clone, Copy)]
-pub struct Taken {
-    /// The token's kind, or its first part's.
+pub struct Joined {
+    /// The token's number in the tree.
+    pub number: u32,
     pub kind: SyntaxKind,
     /// How many solid tokens it is joined from.
     pub size: u8,
 }
 
-/// What the parser writes: the rows of nodes, each behind those below it, and the tokens that it took.
+/// What the parser writes: the rows of nodes, each behind those below it, and the joined tokens.
 #[derive(Drop)]
 pub struct Output {
-    /// A row has the tokens left at its first one and behind its last one; its parent is not filled in.
+    /// A row's parent is not filled in. A node without tokens stands behind the token in front of it.
     pub rows: NodeRows,
     /// In the order of the text.
-    pub taken: Vec<Taken>,
+    pub joined: Vec<Joined>,
 }

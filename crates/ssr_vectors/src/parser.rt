@@ -39,26 +39,51 @@ fn two_ampersands() -> [Token; 2] {
     [first, token(AMP)]
 }
 
+// `a` and ` &&`, with white space around
+const BEHIND_A_NAME: [SyntaxKind; 6] = [WHITESPACE, IDENT, WHITESPACE, AMP, AMP, WHITESPACE];
+
 #[test]
 fn a_joined_token_is_taken_whole(rt: HostRuntime) -> Result<(), Fail> {
-    let tokens = two_ampersands();
-    let mut p = Parser::new(rt.alloc(), &tokens)?;
+    let [first, second] = two_ampersands();
+    let tokens = [token(IDENT), first, second];
+    let mut p = Parser::new(rt.alloc(), &tokens, &BEHIND_A_NAME)?;
+    p.expect(IDENT)?;
     p.expect(AMP2)?;
-    let taken = p.finish()?.taken;
-    assert!(rt; taken.len() == 1 && taken[0].kind == AMP2 && taken[0].size == 2);
+    let joined = p.finish()?.joined;
+    assert_eq!(rt; joined.len(), 1);
+    assert!(rt; joined[0].number == 3 && joined[0].kind == AMP2 && joined[0].size == 2);
     Ok(())
 }
 
 #[test]
 fn a_joined_token_is_taken_by_parts(rt: HostRuntime) -> Result<(), Fail> {
     let tokens = two_ampersands();
-    let mut p = Parser::new(rt.alloc(), &tokens)?;
+    let mut p = Parser::new(rt.alloc(), &tokens, &[AMP, AMP])?;
     p.expect_part(Ampersands)?;
     p.expect_part(Ampersands)?;
-    let taken = p.finish()?.taken;
-    assert!(rt; taken.len() == 2);
-    for part in &taken {
-        assert!(rt; part.kind == AMP && part.size == 1);
+    let joined = p.finish()?.joined;
+    assert!(rt; joined.is_empty());
+    Ok(())
+}
+
+#[test]
+fn nodes_begin_and_end_at_tokens_of_the_tree(rt: HostRuntime) -> Result<(), Fail> {
+    let [first, second] = two_ampersands();
+    let tokens = [token(IDENT), first, second];
+    let mut p = Parser::new(rt.alloc(), &tokens, &BEHIND_A_NAME)?;
+    let whole = p.start();
+    p.expect(IDENT)?;
+    let none = p.start();
+    p.complete(&none, NAME)?;
+    let inner = p.start();
+    p.expect(AMP2)?;
+    p.complete(&inner, REF_EXPR)?;
+    p.complete(&whole, BIN_EXPR)?;
+    let rows = p.finish()?.rows;
+    assert_eq!(rt; rows.len(), 3);
+    for (number, first, past, below) in [(0, 2, 2, 0), (1, 3, 4, 0), (2, 1, 4, 2)] {
+        let row = rows.row(number);
+        assert!(rt; row.first == first && row.past == past && row.below == below);
     }
     Ok(())
 }
@@ -83,7 +108,7 @@ fn items_of_a_list_stand_apart_by_commas(rt: HostRuntime) -> Result<(), Fail> {
         (&[COMMA][..], false),
     ] {
         let tokens = tokens(rt.alloc(), kinds)?;
-        let mut p = Parser::new(rt.alloc(), &tokens)?;
+        let mut p = Parser::new(rt.alloc(), &tokens, kinds)?;
         let read = p.comma_list(INT_NUMBER, |p| p.expect(INT_NUMBER));
         let whole = read.is_ok() && p.finish().is_ok();
         assert_eq!(rt; whole, fits);
@@ -94,11 +119,11 @@ fn items_of_a_list_stand_apart_by_commas(rt: HostRuntime) -> Result<(), Fail> {
 #[test]
 fn what_may_stand_is_taken_if_it_does(rt: HostRuntime) -> Result<(), Fail> {
     let tokens = [token(MUT_KW), token(IDENT)];
-    let mut p = Parser::new(rt.alloc(), &tokens)?;
+    let mut p = Parser::new(rt.alloc(), &tokens, &[MUT_KW, IDENT])?;
     p.eat(MUT_KW)?;
     p.eat(MUT_KW)?;
     p.eat(IDENT)?;
-    assert_eq!(rt; p.finish()?.taken.len(), 2);
+    assert!(rt; p.finish().is_ok());
     Ok(())
 }
 
@@ -107,12 +132,13 @@ fn tokens_ahead_are_told_by_their_kinds(rt: HostRuntime) -> Result<(), Fail> {
     // `&& mut x :`
     let [first, second] = two_ampersands();
     let tokens = [first, second, token(MUT_KW), token(IDENT), token(COLON)];
-    let p = Parser::new(rt.alloc(), &tokens)?;
+    let kinds = [AMP, AMP, WHITESPACE, MUT_KW, WHITESPACE, IDENT, COLON];
+    let p = Parser::new(rt.alloc(), &tokens, &kinds)?;
     assert!(rt; p.at_three(AMP2, MUT_KW, IDENT));
     assert!(rt; !p.at_three(AMP2, MUT_KW, COLON));
     assert!(rt; p.at_four(AMP2, MUT_KW, IDENT, COLON));
     assert!(rt; !p.at_four(AMP2, MUT_KW, IDENT, IDENT));
-    let p = Parser::new(rt.alloc(), &tokens[3..])?;
+    let p = Parser::new(rt.alloc(), &tokens[3..], &kinds[5..])?;
     assert!(rt; p.at_three(IDENT, COLON, END));
     assert!(rt; p.at_four(IDENT, COLON, END, END));
     Ok(())
@@ -120,15 +146,16 @@ fn tokens_ahead_are_told_by_their_kinds(rt: HostRuntime) -> Result<(), Fail> {
 
 #[test]
 fn a_loop_goes_on_while_two_tokens_are_next(rt: HostRuntime) -> Result<(), Fail> {
-    let tokens = tokens(rt.alloc(), &[IDENT, EQ, IDENT, EQ, IDENT])?;
-    let mut p = Parser::new(rt.alloc(), &tokens)?;
+    let kinds = [IDENT, EQ, IDENT, EQ, IDENT];
+    let tokens = tokens(rt.alloc(), &kinds)?;
+    let mut p = Parser::new(rt.alloc(), &tokens, &kinds)?;
     p.repeated_two(IDENT, EQ, |p| {
         p.expect(IDENT)?;
         p.expect(EQ)
     })?;
     p.expect(IDENT)?;
-    assert_eq!(rt; p.finish()?.taken.len(), 5);
-    let mut p = Parser::new(rt.alloc(), &tokens)?;
+    assert!(rt; p.finish().is_ok());
+    let mut p = Parser::new(rt.alloc(), &tokens, &kinds)?;
     let idle = p.repeated_two(IDENT, EQ, |_p| Ok(()));
     assert_eq!(rt; idle, Err(Fault::NoTree));
     Ok(())
@@ -136,8 +163,9 @@ fn a_loop_goes_on_while_two_tokens_are_next(rt: HostRuntime) -> Result<(), Fail>
 
 #[test]
 fn a_comma_is_wanted_before_a_further_item(rt: HostRuntime) -> Result<(), Fail> {
-    let tokens = tokens(rt.alloc(), &[COMMA, IDENT])?;
-    let mut p = Parser::new(rt.alloc(), &tokens)?;
+    let kinds = [COMMA, IDENT];
+    let tokens = tokens(rt.alloc(), &kinds)?;
+    let mut p = Parser::new(rt.alloc(), &tokens, &kinds)?;
     p.comma(IDENT)?;
     p.comma(INT_NUMBER)?;
     assert_eq!(rt; p.comma(IDENT), Err(Fault::NoTree));
@@ -147,7 +175,7 @@ fn a_comma_is_wanted_before_a_further_item(rt: HostRuntime) -> Result<(), Fail> 
 #[test]
 fn a_next_token_is_wanted_or_refused(rt: HostRuntime) -> Result<(), Fail> {
     let tokens = tokens(rt.alloc(), &[IDENT])?;
-    let p = Parser::new(rt.alloc(), &tokens)?;
+    let p = Parser::new(rt.alloc(), &tokens, &[IDENT])?;
     assert_eq!(rt; p.expect_at(IDENT), Ok(()));
     assert_eq!(rt; p.expect_at(EQ), Err(Fault::NoTree));
     assert_eq!(rt; p.refuse_at(EQ), Ok(()));
@@ -157,8 +185,9 @@ fn a_next_token_is_wanted_or_refused(rt: HostRuntime) -> Result<(), Fail> {
 
 #[test]
 fn tokens_since_a_mark_are_refused(rt: HostRuntime) -> Result<(), Fail> {
-    let tokens = tokens(rt.alloc(), &[MUT_KW, IDENT, EQ, COMMA])?;
-    let mut p = Parser::new(rt.alloc(), &tokens)?;
+    let kinds = [MUT_KW, IDENT, EQ, COMMA];
+    let tokens = tokens(rt.alloc(), &kinds)?;
+    let mut p = Parser::new(rt.alloc(), &tokens, &kinds)?;
     p.expect(MUT_KW)?;
     let m = p.start();
     assert_eq!(rt; p.refuse_last(&m, IDENT), Ok(()));

@@ -1,10 +1,10 @@
 -- Private: the rows of a tree's nodes from the parser's rows, read from the right: a node is open until a row comes that isn't below it.
 -- Open nodes are told from the innermost one on; a row comes before `place` if it isn't below those that begin there.
-use Rattle.std.specs.Prelude.{ℕ, ◌+◌, ◌-◌, ◌<◌, ◌≤◌, nat_le, nat_lt, Bool, false, ◌||◌, if◌then◌else◌, List, [], ◌∷◌, ◌++◌, length, map, reverse, ◌≡◌, Result}
+use Rattle.std.specs.Prelude.{ℕ, ◌+◌, ◌-◌, ◌<◌, ◌≤◌, max, nat_le, nat_lt, Bool, false, ◌||◌, if◌then◌else◌, List, [], ◌∷◌, ◌++◌, length, map, reverse, ◌≡◌, Result}
 use Rattle.ssr_syntax_tree.specs.declared.rows.NodeRow.{NodeRow}
 use Rattle.ssr_syntax.specs.declared.preorder.Open.{Open}
 use Rattle.ssr_syntax.specs.declared.syntax_error.SyntaxError.{SyntaxError}
-use Rattle.ssr_syntax.specs.Private.Preorder.{first_at, past_at, OkUnlessDeep}
+use Rattle.ssr_syntax.specs.Private.Preorder.{OkUnlessDeep}
 use Rattle.ssr_syntax.specs.Private.Turning.{TurningRows}
 use Rattle.ssr_syntax.specs.Reading.{most_deep}
 
@@ -27,35 +27,33 @@ first_of [] = 0
 first_of (inner ∷ above) = inner.node.first
 
 -- the node of a row that has so many rows to its left
-abbrev pub opened : (ℕ → ℕ) → ℕ → NodeRow → ℕ → List Open → Open
-opened at total row place above =
+abbrev pub opened : NodeRow → ℕ → List Open → Open
+opened row place above =
     record {
       start = place - row.below;
       number = (place - row.below) + length above;
       node = record {
         kind = row.kind;
         parent = number_of above;
-        first = first_at at (first_of above) (total - row.first) (row.first - row.past);
-        past = past_at at (first_of above) (total - row.first) (row.first - row.past);
+        first = max row.first (first_of above);
+        past = max row.past (first_of above);
         below = row.below;
       };
     }
 
 -- the nodes' rows, the last one first
-abbrev pub from_right : (ℕ → ℕ) → ℕ → List Open → List NodeRow → List NodeRow
-from_right at total above [] = map (λ inner. inner.node) above
-from_right at total above (row ∷ rows) =
+abbrev pub from_right : List Open → List NodeRow → List NodeRow
+from_right above [] = map (λ inner. inner.node) above
+from_right above (row ∷ rows) =
     closed (1 + length rows) above
-    ++ from_right at total
-    (opened at total row (length rows) (still_open (1 + length rows) above) ∷ still_open (1 + length rows) above) rows
+    ++ from_right (opened row (length rows) (still_open (1 + length rows) above) ∷ still_open (1 + length rows) above) rows
 
 -- a node has more than so many others above it
-abbrev pub is_deeper : ℕ → (ℕ → ℕ) → ℕ → List Open → List NodeRow → Bool
-is_deeper limit at total above [] = false
-is_deeper limit at total above (row ∷ rows) =
+abbrev pub is_deeper : ℕ → List Open → List NodeRow → Bool
+is_deeper limit above [] = false
+is_deeper limit above (row ∷ rows) =
     nat_lt limit (length (still_open (1 + length rows) above))
-    || is_deeper limit at total
-    (opened at total row (length rows) (still_open (1 + length rows) above) ∷ still_open (1 + length rows) above) rows
+    || is_deeper limit (opened row (length rows) (still_open (1 + length rows) above) ∷ still_open (1 + length rows) above) rows
 
 -- ** What the loops do. A list of open nodes has the innermost one last.
 
@@ -64,19 +62,18 @@ IsClosed place old new written nodes =
     (reverse new ≡ still_open place (reverse old)) × (nodes ≡ written ++ closed place (reverse old))
 
 -- what is written, with what the rows in front of this one give, and whether those are too deep: as with this one
-abbrev pub IsOpened : {R : Type 0}
-    → (ℕ → ℕ) → ℕ → NodeRow → ℕ → List Open → List Open → List NodeRow → List NodeRow → Result R SyntaxError → Type 0
-IsOpened at total row place old new written nodes result =
+abbrev pub IsOpened : {R : Type 0} → NodeRow → ℕ → List Open → List Open → List NodeRow → List NodeRow → Result R SyntaxError → Type 0
+IsOpened row place old new written nodes result =
     OkUnlessDeep (nat_lt most_deep (length (still_open (1 + place) (reverse old))))
     (λ r. (front : List NodeRow) → length front ≡ place
-    → (nodes ++ from_right at total (reverse new) front ≡ written ++ from_right at total (reverse old) (row ∷ front))
-    × (is_deeper most_deep at total (reverse new) front ≡ is_deeper most_deep at total (reverse old) (row ∷ front)))
+    → (nodes ++ from_right (reverse new) front ≡ written ++ from_right (reverse old) (row ∷ front))
+    × (is_deeper most_deep (reverse new) front ≡ is_deeper most_deep (reverse old) (row ∷ front)))
     result
 
-abbrev pub IsFromRight : (ℕ → ℕ) → ℕ → List NodeRow → List Open → List NodeRow → Result TurningRows SyntaxError → Type 0
-IsFromRight at total rows above written result =
-    OkUnlessDeep (is_deeper most_deep at total (reverse above) (reverse rows))
-    (λ t. t.turned ≡ written ++ from_right at total (reverse above) (reverse rows)) result
+abbrev pub IsFromRight : List NodeRow → List Open → List NodeRow → Result TurningRows SyntaxError → Type 0
+IsFromRight rows above written result =
+    OkUnlessDeep (is_deeper most_deep (reverse above) (reverse rows))
+    (λ t. t.turned ≡ written ++ from_right (reverse above) (reverse rows)) result
 
 -- so many places are enough for the nodes that may be open at once: there are no more of these than rows that aren't turned, and than levels
 abbrev pub AreEnough : ℕ → TurningRows → Type 0

@@ -1,5 +1,6 @@
 -- Private: what the calls below give.
 use Rattle.std.specs.Prelude.{◌≡◌, ◌≢◌, ℕ, ◌^◌, ◌<◌, List, length, map, Option, Some, None, Result, Ok, Err}
+use Rattle.ssr_syntax_kinds.specs.declared.kinds.SyntaxKind.{SyntaxKind}
 use Rattle.ssr_syntax_kinds.specs.declared.token_rows.TokenRow.{TokenRow}
 use Rattle.ssr_syntax_lex.specs.Tokens.{row_of, rows_in, spell, Tiles}
 use Rattle.ssr_syntax_lex.specs.declared.tokens.RawToken.{RawToken}
@@ -12,13 +13,15 @@ use Rattle.ssr_syntax_forms.specs.declared.fault.Fault.{Fault}
 use Rattle.ssr_syntax_forms.specs.declared.fault.Fault.TheVariants as faults
 use Rattle.ssr_syntax_forms.specs.Trees.{Forest}
 use Rattle.ssr_syntax_types.specs.declared.goals.Goal.{Goal}
-use Rattle.ssr_syntax_forms.specs.Parser.{Written}
+use Rattle.ssr_syntax_forms.specs.declared.rows.Output.{Output}
+use Rattle.ssr_syntax_forms.specs.Parser.{Holds, unwritten}
 use Rattle.ssr_syntax_forms.specs.Written.{writes}
 
--- The answer is the reading's: what is written of its forest, or its fault. Want of memory says nothing.
-abbrev pub IsReading : {R : Type 0} → (R → Written) → Result R Fault → Result Forest Fault → Type 0
-IsReading now (Ok v) read = (z : Forest) × (read ≡ Ok z) × (now v ≡ writes z 0)
-IsReading now (Err e) read = e ≢ faults.Memory → read ≡ Err e
+-- The answer is the reading's: what is written of its forest in front of tokens of these kinds, or its fault. Want of
+-- memory says nothing.
+abbrev pub IsReading : List SyntaxKind → Result Output Fault → Result Forest Fault → Type 0
+IsReading kinds (Ok out) read = (z : Forest) × (read ≡ Ok z) × Holds out (writes z (unwritten kinds))
+IsReading kinds (Err e) read = e ≢ faults.Memory → read ≡ Err e
 
 -- the rows of a text's tokens, or why there are none
 abbrev pub IsLexed : List ℕ → Result (List TokenRow) SyntaxError → Type 0
@@ -33,11 +36,11 @@ pub record IsCut (text : List ℕ) (rows : List TokenRow) (solid : List Token) (
   pub solid_are : solid ≡ solid_tokens raw
 
 -- a text is cut into these tokens, and this is written of what they are read as
-pub record IsWritten (goal : Goal) (text : List ℕ) (rows : List TokenRow) (written : Written) (raw : List RawToken) : Type 0 where
+pub record IsWritten (goal : Goal) (text : List ℕ) (rows : List TokenRow) (out : Output) (raw : List RawToken) : Type 0 where
   pub are : rows ≡ map row_of raw
   pub tiles : Tiles text raw
   pub spelled : spell text raw ≡ text
-  pub reads : (z : Forest) × (reading goal (solid_tokens raw) ≡ Ok z) × (written ≡ writes z 0)
+  pub reads : (z : Forest) × (reading goal (solid_tokens raw) ≡ Ok z) × Holds out (writes z (unwritten (map (λ row. row.kind) rows)))
 
 -- the rows and the solid tokens of a text without the white space around it
 pub record AreTokensOf (text : List ℕ) (rows : List TokenRow) (solid : List Token) : Type 0 where

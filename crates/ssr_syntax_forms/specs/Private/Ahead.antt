@@ -5,7 +5,7 @@ use Rattle.ssr_syntax_kinds.specs.declared.kinds.SyntaxKind.{SyntaxKind}
 use Rattle.ssr_syntax_forms.specs.declared.tokens.Token.{Token}
 use Rattle.ssr_syntax_forms.specs.declared.fault.Fault.{Fault}
 use Rattle.ssr_syntax_forms.specs.Forms.{Test, behind, next, passes, ◌>>=◌}
-use Rattle.ssr_syntax_forms.specs.Parser.{Written, written_of, State, state_of}
+use Rattle.ssr_syntax_forms.specs.Parser.{Written, State, state_of, token_written}
 
 -- the tokens behind the next one
 abbrev pub behind_next : List Token → List Token
@@ -23,5 +23,4 @@ Asks post test = (asked : Bor State) (b : Bool) → post asked b → b ≡ passe
 
 -- a token of this kind is taken: the one in front of those that are left, and so many of them
 abbrev pub taken_with : SyntaxKind → ℕ → List Token → Written → Result State Fault
-taken_with kind more rest out =
-    behind more rest >>= λ ts. Ok (state_of (written_of out.rows (out.taken ++ record { kind = kind; size = 1 + more } ∷ [])) ts)
+taken_with kind more rest out = behind more rest >>= λ ts. Ok (state_of (token_written kind (1 + more) out) ts)

@@ -1,5 +1,5 @@
-use Rattle.std.proofs.Common.{arith, ap, sym, ℕ, ◌≡◌, ◌∙◌, ◌++◌, [], ◌∷◌, length, length-append}
-use Rattle.std.specs.Prelude.{reverse, slice_index}
+use Rattle.std.proofs.Common.{arith, ap, sym, ◌≡◌, ◌∙◌, ◌++◌, [], ◌∷◌, length, length-append}
+use Rattle.std.specs.Prelude.{reverse}
 use Rattle.std.proofs.lemmas.List.{reverse-append, length-reverse}
 use Rattle.ssr_syntax.specs.Reading.{most_deep}
 use Rattle.ssr_syntax.specs.Private.OpenNodes.{from_right, is_deeper}
@@ -8,7 +8,7 @@ use Rattle.ssr_syntax.proofs.preorder.from_right.Goals as goal
 
 pub returns-clause-turned : goal.returns-clause-turned
 returns-clause-turned c =
-    closed_at_end (λ i. slice_index c.args.ends.now i) c.args.total c.loop-row.rows.unread c.args.rows.unread c.args.above.items
+    closed_at_end c.loop-row.rows.unread c.args.rows.unread c.args.above.items
     c.loop-row.above.items c.close_open.new.above.items c.args.rows.turned c.read.new.self.turned c.close_open.new.rows
     c.in_default.ensures.all.0 (rw (c.read.ensures.turned) c.loop-row.invariant.0) c.loop-row.invariant.1 c.close_open.ensures.closed
 
@@ -24,18 +24,17 @@ returns-clause-full c =
 
 pub loop-row-preserved : goal.loop-row-preserved
 loop-row-preserved c =
-    let at : ℕ → ℕ = λ i. slice_index c.args.ends.now i in
     let went = c.in_ok-open_row.ensures.opened.1 (reverse c.read.new.self.unread) (length-reverse c.read.new.self.unread ∙ sym c.unread.ensures) in
     let front : reverse c.loop-row.rows.unread ≡ c.in-Some.row ∷ reverse c.read.new.self.unread =
     ap reverse c.in-Some.ensures.row ∙ reverse-append c.read.new.self.unread (c.in-Some.row ∷ []) in (
-      ap (λ l. c.open_row.new.rows.turned ++ from_right at c.args.total (reverse c.open_row.new.above.items) (reverse l)) c.open_row.ensures.unread
+      ap (λ l. c.open_row.new.rows.turned ++ from_right (reverse c.open_row.new.above.items) (reverse l)) c.open_row.ensures.unread
           ∙ went.0
-          ∙ ap (λ l. c.read.new.self.turned ++ from_right at c.args.total (reverse c.loop-row.above.items) l) (sym front)
-          ∙ ap (λ l. l ++ from_right at c.args.total (reverse c.loop-row.above.items) (reverse c.loop-row.rows.unread)) c.read.ensures.turned
+          ∙ ap (λ l. c.read.new.self.turned ++ from_right (reverse c.loop-row.above.items) l) (sym front)
+          ∙ ap (λ l. l ++ from_right (reverse c.loop-row.above.items) (reverse c.loop-row.rows.unread)) c.read.ensures.turned
           ∙ c.loop-row.invariant.0,
-      ap (λ l. is_deeper most_deep at c.args.total (reverse c.open_row.new.above.items) (reverse l)) c.open_row.ensures.unread
+      ap (λ l. is_deeper most_deep (reverse c.open_row.new.above.items) (reverse l)) c.open_row.ensures.unread
           ∙ went.1
-          ∙ ap (λ l. is_deeper most_deep at c.args.total (reverse c.loop-row.above.items) l) (sym front)
+          ∙ ap (λ l. is_deeper most_deep (reverse c.loop-row.above.items) l) (sym front)
           ∙ c.loop-row.invariant.1,
       omega (
         arith,

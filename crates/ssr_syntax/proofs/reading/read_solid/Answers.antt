@@ -1,7 +1,6 @@
 use Rattle.std.proofs.Common.{◌∙◌, List}
 use Rattle.std.specs.Prelude.{string_bytes}
 use Rattle.ssr_syntax_lex.specs.declared.tokens.RawToken.{RawToken}
-use Rattle.ssr_syntax_forms.specs.Parser.{written_in}
 use Rattle.ssr_syntax.specs.Private.Reading.{IsCut, IsWritten}
 use Rattle.ssr_syntax.specs.Reading.{tree_reading, error_of}
 use Rattle.ssr_syntax.proofs.Texts.{told_on, parser_fault}
@@ -19,11 +18,11 @@ returns-in_err-written c raw are =
 
 -- what was written
 written_is : (c : In_ok-written) (raw : List RawToken) → IsCut (string_bytes c.args.text) c.args.rows c.args.solid.items raw
-    → IsWritten c.args.goal (string_bytes c.args.text) c.args.rows (written_in c.in_ok-written.written) raw
+    → IsWritten c.args.goal (string_bytes c.args.text) c.args.rows c.in_ok-written.written raw
 written_is c raw are =
     let reads = c.in_ok-written.ensures in
     written_of_cut c.args.goal (string_bytes c.args.text) c.args.rows c.args.solid.items c.deref.result.now raw reads.0
-    (written_in c.in_ok-written.written) are c.deref.ensures.value reads.1 reads.2
+    c.in_ok-written.written c.kinds.result.now are c.deref.ensures.value reads.1 c.kinds.ensures reads.2
 
 pub written_tree-requires-clause-written : goal.written_tree-requires-clause-written
 written_tree-requires-clause-written c =

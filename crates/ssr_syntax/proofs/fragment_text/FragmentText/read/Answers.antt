@@ -1,8 +1,7 @@
-use Rattle.std.proofs.Common.{◌≡◌, ◌∙◌, ◌<◌, ◌≤◌, ◌^◌, ap, sym, subst, length, List}
+use Rattle.std.proofs.Common.{◌≡◌, ◌∙◌, ◌<◌, ◌≤◌, ◌^◌, ap, sym, subst, length, map, List}
 use Rattle.std.specs.Prelude.{string_bytes, Err}
 use Rattle.std.specs.Str.{IsUtf8, trim}
 use Rattle.std.proofs.lemmas.Str.{IsUtf8-string_bytes}
-use Rattle.ssr_syntax_forms.specs.Parser.{written_in}
 use Rattle.ssr_syntax_lex.specs.declared.tokens.RawToken.{RawToken}
 use Rattle.ssr_syntax.specs.declared.syntax_error.SyntaxError.TheVariants as errors
 use Rattle.ssr_syntax.specs.Private.Reading.{IsWritten}
@@ -76,15 +75,15 @@ copied_text : (c : In_ok-rows) → string_bytes c.in_ok-text.text ≡ trimmed (s
 copied_text c = c.in_ok-text.ensures.ok ∙ c.trim.ensures.trim ∙ ap trim c.as_str-2.ensures.value
 
 written_is : (c : In_ok-rows) (is : ReadAs (goal.at.In_ok-rows c).After-goal)
-    → IsWritten c.goal.result (string_bytes c.in_ok-text.text) c.in_ok-rows.rows (written_in c.in_ok-written.written) is.raw
+    → IsWritten c.goal.result (string_bytes c.in_ok-text.text) c.in_ok-rows.rows c.in_ok-written.written is.raw
 written_is c is =
     let inner = trimmed (string_bytes c.self.inside.text) in
     let reads = c.in_ok-written.ensures in
     written_of_cut c.goal.result (string_bytes c.in_ok-text.text) c.in_ok-rows.rows c.self.inside.solid.items c.deref.result.now is.raw reads.0
-    (written_in c.in_ok-written.written)
+    c.in_ok-written.written c.kinds-2.result.now
     (cut_copied inner (string_bytes c.in_ok-text.text) c.self.inside.rows c.in_ok-rows.rows c.self.inside.solid.items is.raw is.kept.cut
     (copied_text c) c.in_ok-rows.ensures)
-    c.deref.ensures.value reads.1 reads.2
+    c.deref.ensures.value reads.1 (c.kinds-2.ensures ∙ ap (map (λ row. row.kind)) (sym c.in_ok-rows.ensures)) reads.2
 
 pub written_tree-requires : goal.written_tree-requires
 written_tree-requires c =

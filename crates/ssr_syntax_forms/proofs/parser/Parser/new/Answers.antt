@@ -6,6 +6,3 @@ returns c = search rules steps 340000
 
 pub returns-in_err-rows : goal.returns-in_err-rows
 returns-in_err-rows c = search rules steps 400000
-
-pub returns-in_err-taken : goal.returns-in_err-taken
-returns-in_err-taken c = search rules steps 600000

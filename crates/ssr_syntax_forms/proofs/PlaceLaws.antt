@@ -1,0 +1,25 @@
+-- Places, and what is behind white space, comments and solid tokens.
+use Rattle.std.proofs.Common.{◌≡◌, ℕ, zero, suc, ◌+◌, ◌-◌, true, false, if◌then◌else◌, List, [], ◌∷◌, length, refl, sym, ap, ◌∙◌, arith}
+use Rattle.ssr_syntax_kinds.specs.declared.kinds.SyntaxKind.{SyntaxKind}
+use Rattle.ssr_syntax_kinds.specs.Kinds.{is_trivia}
+use Rattle.ssr_syntax_forms.specs.Places.{leading, behind_trivia, behind_solid, Place, place_at}
+
+pub leading-behind : (ks : List SyntaxKind) → leading ks + length (behind_trivia ks) ≡ length ks
+leading-behind [] = refl
+leading-behind (k ∷ ks) =
+    elim (is_trivia k)
+    as (λ b. (if b then 1 + leading ks else 0) + length (if b then behind_trivia ks else k ∷ ks) ≡ length (k ∷ ks))
+    [ true ↦ omega (arith, leading-behind ks) | false ↦ omega arith ]
+
+pub behind_none : (n : ℕ) (ks : List SyntaxKind) → n ≡ 0 → behind_solid n ks ≡ ks
+behind_none n [] e = refl
+behind_none zero (k ∷ ks) e = refl
+behind_none (suc n) (k ∷ ks) e = absurd (omega arith)
+
+-- what is behind the white space and comments tells how many those are
+pub counted_place : (end : ℕ) (ks rest : List SyntaxKind) → rest ≡ behind_trivia ks
+    → record { end = end; next = end + (length ks - length rest); kinds = rest } ≡ place_at end ks
+counted_place end ks rest e =
+    let place : ℕ → List SyntaxKind → Place = λ next kinds. record { end = end; next = next; kinds = kinds } in
+    let count : length ks - length rest ≡ leading ks = omega (arith, ap length e, leading-behind ks) in
+    ap (λ n. place (end + n) rest) count ∙ ap (place (end + leading ks)) e

@@ -1,0 +1,9 @@
+use Rattle.std.proofs.Common.{arith, ap, length}
+use Rattle.ssr_syntax_forms.proofs.PlaceLaws.{counted_place, leading-behind}
+use Rattle.ssr_syntax_forms.proofs.places.Place.at.Goals as goal
+
+pub overflow_sub-leading : goal.overflow_sub-leading
+overflow_sub-leading c = omega (arith, ap length c.behind_trivia-rest.ensures, leading-behind c.args.kinds.now)
+
+pub returns : goal.returns
+returns c = counted_place c.args.end c.args.kinds.now c.behind_trivia-rest.result.now c.behind_trivia-rest.ensures

@@ -1,0 +1,35 @@
+-- Where the parser is in a text: which of the tree's tokens comes next, and which of the text's tokens are left.
+use Rattle.std.specs.Prelude.{ℕ, zero, suc, ◌+◌, if◌then◌else◌, List, [], ◌∷◌}
+use Rattle.ssr_syntax_kinds.specs.declared.kinds.SyntaxKind.{SyntaxKind}
+use Rattle.ssr_syntax_kinds.specs.Kinds.{is_trivia}
+
+-- how many of the kinds in front are white space and comments
+abbrev pub leading : List SyntaxKind → ℕ
+leading [] = 0
+leading (k ∷ ks) = if is_trivia k then 1 + leading ks else 0
+
+-- what is behind them
+abbrev pub behind_trivia : List SyntaxKind → List SyntaxKind
+behind_trivia [] = []
+behind_trivia (k ∷ ks) = if is_trivia k then behind_trivia ks else k ∷ ks
+
+-- what is behind so many solid tokens
+abbrev pub behind_solid : ℕ → List SyntaxKind → List SyntaxKind
+behind_solid n [] = []
+behind_solid zero (k ∷ ks) = k ∷ ks
+behind_solid (suc n) (k ∷ ks) = behind_solid (if is_trivia k then suc n else n) ks
+
+-- Between two tokens of the tree that are neither white space nor comments: the number past the one in front, the number
+-- of the one behind, and the kinds of the text's tokens from that one on.
+pub record Place : Type 0 where
+  pub end : ℕ
+  pub next : ℕ
+  pub kinds : List SyntaxKind
+
+-- in front of tokens of these kinds, with so many tokens of the tree to the left
+abbrev pub place_at : ℕ → List SyntaxKind → Place
+place_at end ks = record { end = end; next = end + leading ks; kinds = behind_trivia ks }
+
+-- behind the next token of the tree, which is joined from so many solid ones of the text
+abbrev pub behind_token : ℕ → Place → Place
+behind_token size p = place_at (1 + p.next) (behind_solid size p.kinds)
