@@ -106,6 +106,8 @@ def rules_are_refused(program):
         ('1 ==>> "a', "Failed to parse pattern: a string that is not closed, at byte 0"),
         ('1 + "a ==>> 2', "Failed to parse pattern: a string that is not closed, at byte 4"),
         ("foo ==>> 1", "Failed to resolve path `foo`"),
+        # the template is resolved first
+        ("foo ==>> bar", "Failed to resolve path `bar`"),
     ]:
         # alone, or the first refusal of several rules
         for rules, file in [([rule], "fn f() {}"), ([SWAP, rule, SWAP], SUM), ([SWAP, rule, "no rule"], SUM)]:

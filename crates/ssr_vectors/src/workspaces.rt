@@ -12,7 +12,7 @@ pub(crate) fn node(tree: u32, node: u32) -> NodeId {
     }
 }
 
-fn range(file: u32, start: u32, len: u32) -> FileRange {
+pub(crate) fn range(file: u32, start: u32, len: u32) -> FileRange {
     FileRange {
         file_id: FileId(file),
         range: TextRange::new(start, start.saturating_add(len)),
