@@ -129,7 +129,8 @@ fn node_matches<S: Semantics>(
     parts_match(alloc, semantics, rule, number, code, p, c, out)
 }
 
-/// The same for a node `p` that is no placeholder and no token tree.
+/// Whether the node `c` of the code matches the node `p` of the rule's pattern, which is no placeholder and no token tree; if
+/// so, `out` gets what the placeholders bind.
 #[cycle(matching)]
 fn parts_match<S: Semantics>(
     alloc: Global,
@@ -154,7 +155,8 @@ fn parts_match<S: Semantics>(
     }
 }
 
-/// The same for a node `p` that is a qualified call, and a method call `c`.
+/// Whether the method call `c` of the code matches the qualified call `p` of the rule's pattern; if so, `out` gets what the
+/// placeholders bind.
 #[cycle(matching)]
 fn method_matches<S: Semantics>(
     alloc: Global,
@@ -191,7 +193,8 @@ fn method_matches<S: Semantics>(
     Ok(true)
 }
 
-/// The same for elements of the pattern and of the code, one by one.
+/// Whether elements of the code match those of the rule's pattern, one by one, with none left over; if so, `out` gets what the
+/// placeholders bind.
 #[cycle(matching)]
 fn elements_match<S: Semantics>(
     alloc: Global,
@@ -222,7 +225,8 @@ fn elements_match<S: Semantics>(
     Ok(true)
 }
 
-/// The same for a node `c` that has to be of the kind of the node `p`, which is no placeholder.
+/// Whether the node `c` of the code is of the kind of the node `p` of the rule's pattern, which is no placeholder, and matches
+/// it; if so, `out` gets what the placeholders bind.
 #[cycle(matching)]
 fn like_matches<S: Semantics>(
     alloc: Global,
@@ -250,7 +254,8 @@ fn like_matches<S: Semantics>(
     Ok(can)
 }
 
-/// The same for the parts of both nodes: lists of record fields pair by names, where all fields have some.
+/// Whether the parts of the node `c` of the code match those of the node `p` of the rule's pattern, lists of record fields by
+/// their names, where all fields have some; if so, `out` gets what the placeholders bind.
 #[cycle(matching)]
 fn pairs_match<S: Semantics>(
     alloc: Global,
@@ -276,7 +281,8 @@ fn pairs_match<S: Semantics>(
     }
 }
 
-/// The same for lists of record fields by the names of the fields.
+/// Whether the list of record fields `c` of the code matches the list `p` of the rule's pattern by the names of the fields; if
+/// so, `out` gets what the placeholders bind.
 #[cycle(matching)]
 fn named_match<S: Semantics>(
     alloc: Global,
@@ -302,7 +308,8 @@ fn named_match<S: Semantics>(
     elements_match(alloc, semantics, rule, number, code, &ps, &cs, out)
 }
 
-/// The same for what counts of both nodes, one by one: of a used path the arguments of its last segment, else the children.
+/// Whether what counts of the node `c` of the code matches what counts of the node `p` of the rule's pattern, one by one: of a
+/// used path the arguments of its last segment, else the children. If so, `out` gets what the placeholders bind.
 #[cycle(matching)]
 fn children_match<S: Semantics>(
     alloc: Global,
@@ -333,7 +340,8 @@ fn children_match<S: Semantics>(
     Ok(cs.next_bare(code).is_none())
 }
 
-/// The same for a child of a node of the pattern and one of the code.
+/// Whether a child of a node of the code matches one of a node of the rule's pattern, as nodes or as tokens; if so, `out` gets
+/// what the placeholders bind.
 #[cycle(matching)]
 fn pair_matches<S: Semantics>(
     alloc: Global,
