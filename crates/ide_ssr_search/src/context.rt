@@ -79,13 +79,8 @@ fn function_at(tree: &Tree, file: u32, node: NodeNo) -> Option<NodeId>
     requires { HasNode tree.now node.0 }
     ensures { IsFunctionAt tree.now file node.0 result }
 {
-    match function_around(tree, node) {
-        Some(function) => Some(NodeId {
-            tree: file,
-            node: function,
-        }),
-        None => None,
-    }
+    let node = function_around(tree, node)?;
+    Some(NodeId { tree: file, node })
 }
 
 impl Context {

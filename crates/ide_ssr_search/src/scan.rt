@@ -150,7 +150,7 @@ impl<'a> Ground<'a> {
         if !self.is_permitted(asked, node) {
             return Ok(None);
         }
-        let found = whole_match(
+        whole_match(
             alloc,
             semantics,
             self.workspace,
@@ -158,8 +158,7 @@ impl<'a> Ground<'a> {
             self.bounds,
             rule,
             self.id(node),
-        )?;
-        Ok(found)
+        )
     }
 
     /// Adds the match of a rule, which has this place among the rules, at such a node.

@@ -11,7 +11,7 @@ use Rattle.std.specs.Map.{lookup, lookup_key, IsKeyTest}
 use Rattle.std.specs.Ordering.{is_eq, eq_by_cmp}
 use Rattle.std.specs.declared.cmp.Ordering.{Ordering}
 use Rattle.std.specs.declared.cmp.Ordering.TheVariants.{Less, Equal, Greater}
-use Rattle.ssr_facts.specs.Private.Grouping.{group_at}
+use Rattle.ssr_facts.specs.Grouping.{group_at}
 
 -- tests that agree find the same
 pub lookup_alike : {K V : Type 0} (p q : K → Bool) → ((x : K) → p x ≡ q x) → (rows : List (K × V)) → lookup p rows ≡ lookup q rows

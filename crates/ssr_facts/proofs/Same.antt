@@ -26,8 +26,9 @@ use Rattle.ssr_facts.specs.contracts.tables.PrintedKeyOrd.TheImpl as printed_ord
 use Rattle.ssr_base.specs.Workspace.{same_id}
 use Rattle.ssr_base.proofs.Shared.{same_res-itself}
 use Rattle.ssr_facts.specs.Tables.{is_name, is_member, is_printed, definition_at, path_of, method_of, callee, stands_for, nodes_for, meanings_of}
-use Rattle.ssr_facts.specs.Private.Usages.{uses_of}
-use Rattle.ssr_facts.specs.Private.Maps.{path_in, method_in, meanings_in, IsIndexed, AreMade}
+use Rattle.ssr_facts.specs.Usages.{uses_of}
+use Rattle.ssr_facts.specs.Maps.{path_in, method_in, meanings_in}
+use Rattle.ssr_facts.specs.Private.Maps.{IsIndexed, AreMade}
 use Rattle.ssr_facts.specs.Private.Complete.{same_nodes}
 use Rattle.ssr_facts.proofs.Keys.{id_ties, printed_ties, name_test, member_test, found_node}
 use Rattle.ssr_facts.proofs.Rows.{lookup_alike, found_alike}

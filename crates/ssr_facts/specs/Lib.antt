@@ -1,9 +1,13 @@
 pub mod Tables
+pub mod Grouping
+pub mod Usages
+pub mod Maps
 pub mod Provider
 pub mod Sources
 pub mod Nodes
 pub mod Scopes
 pub mod Naming
 pub mod Told
+pub mod Errors
 pub mod Reading
 pub mod Private

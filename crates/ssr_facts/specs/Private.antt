@@ -1,10 +1,7 @@
 -- Words of private functions and of the invariants of private fields. No public clause cites them, and no reader of those has to
 -- believe them.
-pub mod Grouping
-pub mod Usages
 pub mod Maps
 pub mod Complete
-pub mod Errors
 pub mod Sources
 pub mod Nodes
 pub mod Scopes

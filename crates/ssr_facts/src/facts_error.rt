@@ -46,7 +46,7 @@ impl<T: Drop> From<AllocFailed<T>> for FactsError {
 
 impl From<RowsError> for FactsError {
     ghost use Rattle.std.specs.Prelude.{◌≡◌};
-    ghost use Rattle.ssr_facts.specs.Private.Errors.{error_of_rows};
+    ghost use Rattle.ssr_facts.specs.Errors.{error_of_rows};
 
     ghost from_gives = { λ refused error. error ≡ error_of_rows refused };
 

@@ -4,7 +4,7 @@ ghost use Rattle.std.specs.Prelude.{◌≡◌, ◌++◌, ◌∷◌, [], IfOk, On
 ghost use Rattle.std.specs.BTreeMap.{get, is_at};
 ghost use Rattle.std.specs.Map.{lookup, keys_of};
 ghost use Rattle.std.specs.Option.{option_or};
-ghost use Rattle.ssr_facts.specs.Private.Grouping.{group_at};
+ghost use Rattle.ssr_facts.specs.Grouping.{group_at};
 
 use std::alloc::{AllocError, Global};
 use std::collections::BTreeMap;

@@ -4,7 +4,7 @@ ghost use Rattle.std.specs.Prelude.{◌≡◌, ◌++◌, IfOk, OnOk, filter};
 ghost use Rattle.std.specs.Map.{lookup};
 ghost use Rattle.ssr_base.specs.Workspace.{same_id};
 ghost use Rattle.ssr_facts.specs.Tables.{callee, stands_for};
-ghost use Rattle.ssr_facts.specs.Private.Usages.{uses_of};
+ghost use Rattle.ssr_facts.specs.Usages.{uses_of};
 
 use crate::grouping::{add, first_rows, keys};
 use crate::tables::{Definition, MemberKey, Method, NameKey, PrintedKey, Tables};

@@ -12,7 +12,7 @@ ghost use Rattle.ssr_base.specs.Building.{most_trees};
 ghost use Rattle.ssr_base.specs.Workspace.{same_id};
 ghost use Rattle.ssr_facts.specs.Nodes.{place_of};
 ghost use Rattle.ssr_facts.specs.Scopes.{scope_of};
-ghost use Rattle.ssr_facts.specs.Private.Grouping.{group_at};
+ghost use Rattle.ssr_facts.specs.Grouping.{group_at};
 ghost use Rattle.ssr_facts.specs.Private.Nodes.{told_up_to};
 ghost use Rattle.ssr_facts.specs.Private.Scopes.{scopes_in, IsBestAt, id_of, AsGood, Better};
 

@@ -12,8 +12,9 @@ use Rattle.ssr_facts.specs.declared.tables.Method.{Method}
 use Rattle.ssr_facts.specs.declared.maps.Maps.{Maps}
 use Rattle.ssr_base.specs.Meanings.{IsComplete}
 use Rattle.ssr_base.specs.Workspace.{same_id}
-use Rattle.ssr_facts.specs.Private.Usages.{uses_of}
-use Rattle.ssr_facts.specs.Private.Maps.{method_in, meanings_in, IsIndexed}
+use Rattle.ssr_facts.specs.Usages.{uses_of}
+use Rattle.ssr_facts.specs.Maps.{method_in, meanings_in}
+use Rattle.ssr_facts.specs.Private.Maps.{IsIndexed}
 
 pub same_nodes : (a b : NodeId) → same_id a b ≡ true → a ≡ b
 same_nodes a b is =

@@ -3,7 +3,7 @@ use Rattle.std.specs.Map.{lookup}
 use Rattle.ssr_base.specs.declared.semantics.Res.TheVariants as res
 use Rattle.ssr_base.specs.Workspace.{same_id}
 use Rattle.ssr_facts.specs.Tables.{callee}
-use Rattle.ssr_facts.specs.Private.Usages.{uses_of}
+use Rattle.ssr_facts.specs.Usages.{uses_of}
 use Rattle.ssr_facts.proofs.Uses.{use_more, use_none}
 use Rattle.ssr_facts.proofs.Keys.{found_node}
 use Rattle.ssr_facts.proofs.maps.add_calls.Goals as goal

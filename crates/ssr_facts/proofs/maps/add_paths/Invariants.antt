@@ -4,7 +4,7 @@ use Rattle.std.specs.Map.{lookup}
 use Rattle.ssr_base.specs.declared.semantics.Res.{Res}
 use Rattle.ssr_base.specs.Workspace.{same_id}
 use Rattle.ssr_facts.specs.Tables.{stands_for}
-use Rattle.ssr_facts.specs.Private.Usages.{uses_of}
+use Rattle.ssr_facts.specs.Usages.{uses_of}
 use Rattle.ssr_facts.proofs.maps.add_paths.Given as goal
 
 abbrev pub invariant-loop-node : goal.invariant-loop-node

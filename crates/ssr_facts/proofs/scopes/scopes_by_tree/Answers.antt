@@ -1,7 +1,7 @@
 use Rattle.std.proofs.Common.{arith}
 use Rattle.std.proofs.lemmas.Option.{slice_get-get_or}
 use Rattle.std.specs.Ordering.{nat_cmp}
-use Rattle.ssr_facts.specs.Private.Grouping.{group_at}
+use Rattle.ssr_facts.specs.Grouping.{group_at}
 use Rattle.ssr_facts.proofs.Sweep.{scopes_more}
 use Rattle.ssr_facts.proofs.scopes.scopes_by_tree.Goals as goal
 

@@ -1,6 +1,6 @@
 use Rattle.std.proofs.Common.{◌≡◌, ℕ, take}
 use Rattle.std.specs.Ordering.{nat_cmp}
-use Rattle.ssr_facts.specs.Private.Grouping.{group_at}
+use Rattle.ssr_facts.specs.Grouping.{group_at}
 use Rattle.ssr_facts.specs.Private.Scopes.{scopes_in}
 use Rattle.ssr_facts.proofs.scopes.scopes_by_tree.Given as goal
 

@@ -1,4 +1,4 @@
--- Private: what the refusals of rows are told as.
+-- What the refusals of rows are told as.
 use Rattle.ssr_facts_rows.specs.declared.rows_error.RowsError.{RowsError}
 use Rattle.ssr_facts_rows.specs.declared.rows_error.RowsError.TheVariants as rows
 use Rattle.ssr_facts.specs.declared.facts_error.FactsError.{FactsError}

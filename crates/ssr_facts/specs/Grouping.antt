@@ -1,4 +1,4 @@
--- Private: the values that a map has of each key.
+-- The values that a map of groups has of each key.
 use Rattle.std.specs.Prelude.{List, [], Vec}
 use Rattle.std.specs.BTreeMap.{BTreeMap, get}
 use Rattle.std.specs.Option.{option_map_or}
