@@ -1,12 +1,12 @@
 -- What the parser's functions write is what the tree that is read writes.
-use Rattle.std.proofs.Common.{◌≡◌, ℕ, zero, suc, ◌+◌, ◌-◌, ◌≤◌, Bool, List, [], ◌∷◌, ◌++◌, length, take, Result, Ok, Err, ◌⊎◌, inl, inr, refl, sym, ap, subst, ◌∙◌, arith}
+use Rattle.std.proofs.Common.{◌≡◌, ℕ, zero, suc, ◌+◌, ◌-◌, Bool, List, ◌∷◌, ◌++◌, length, take, Result, Ok, Err, ◌⊎◌, inl, inr, refl, sym, ap, subst, ◌∙◌, arith}
 use Rattle.std.proofs.lemmas.Bool.{cases_Bool}
 use Rattle.std.proofs.lemmas.List.{length-append, length-take-le}
 use Rattle.std.proofs.Math.Seq.{take-append_seam}
 use Rattle.ssr_syntax_kinds.specs.declared.kinds.SyntaxKind.{SyntaxKind}
 use Rattle.ssr_syntax_forms.specs.declared.tokens.Token.{Token}
 use Rattle.ssr_syntax_forms.specs.declared.fault.Fault.{Fault}
-use Rattle.ssr_syntax_forms.specs.Trees.{Forest, done, tree, join, spell}
+use Rattle.ssr_syntax_forms.specs.Trees.{Forest, done, spell}
 use Rattle.ssr_syntax_forms.specs.Parser.{Written, token_written}
 use Rattle.ssr_syntax_forms.specs.Written.{writes}
 use Rattle.ssr_syntax_forms.specs.Forms.{Form, one, child, mark, seal, ◌then◌, nothing, choose, many, look, check, Test, more, taken_as, passes, agrees, holds, SoFar, so_far, ReadsBelow, read, past, first_leaf, repeat, beside, ◌>>=◌}

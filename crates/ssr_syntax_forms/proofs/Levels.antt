@@ -6,7 +6,7 @@ use Rattle.ssr_syntax_forms.specs.Trees.{Forest, done}
 use Rattle.ssr_syntax_kinds.specs.declared.kinds.SyntaxKind.{SyntaxKind}
 use Rattle.ssr_syntax_forms.specs.Parser.{Written, unwritten}
 use Rattle.ssr_syntax_forms.specs.Written.{writes}
-use Rattle.ssr_syntax_forms.specs.Forms.{Productions, SoFar, so_far, read}
+use Rattle.ssr_syntax_forms.specs.Forms.{Productions, SoFar, so_far}
 use Rattle.ssr_syntax_forms.specs.Parser.{State, state_of}
 use Rattle.ssr_syntax_forms.specs.Levels.{read_goal}
 use Rattle.ssr_syntax_forms.specs.Runs.{run_goal}

@@ -1,5 +1,5 @@
 -- What the parser writes of a forest.
-use Rattle.std.specs.Prelude.{ℕ, ◌-◌, List, [], ◌∷◌, length}
+use Rattle.std.specs.Prelude.{length}
 use Rattle.ssr_syntax_forms.specs.Parser.{Written, token_written, node_written}
 use Rattle.ssr_syntax_forms.specs.Trees.{Forest, done, leaf, tree}
 

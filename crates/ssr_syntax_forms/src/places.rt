@@ -1,7 +1,7 @@
 //! Where the parser is in a text: which of the tree's tokens comes next, and which of the text's tokens are left.
-ghost use Rattle.std.specs.Prelude.{◌≡◌, ◌+◌, length, IfOk};
+ghost use Rattle.std.specs.Prelude.{◌≡◌, IfOk};
 ghost use Rattle.ssr_syntax_forms.specs.Parser.{is_alone};
-ghost use Rattle.ssr_syntax_forms.specs.Places.{leading, behind_trivia, behind_solid, behind_token, place_at};
+ghost use Rattle.ssr_syntax_forms.specs.Places.{behind_trivia, behind_solid, behind_token, place_at};
 
 use ssr_syntax_kinds::SyntaxKind;
 use std::alloc::AllocError;

@@ -1,5 +1,5 @@
 -- Private: the tokens ahead, and what closures ask and take.
-use Rattle.std.specs.Prelude.{◌≡◌, ◌+◌, ◌-◌, ℕ, zero, suc, Bool, List, ◌∷◌, [], ◌++◌, drop, Result, Ok}
+use Rattle.std.specs.Prelude.{◌≡◌, ◌+◌, ◌-◌, ℕ, zero, suc, Bool, List, ◌∷◌, [], drop, Result, Ok}
 use Rattle.std.specs.Borrow.{Bor}
 use Rattle.ssr_syntax_kinds.specs.declared.kinds.SyntaxKind.{SyntaxKind}
 use Rattle.ssr_syntax_forms.specs.declared.tokens.Token.{Token}
