@@ -124,11 +124,7 @@ fn from_right(mut above: Vec<Open>, mut rows: Turning) -> Result<Turning, Syntax
 }
 
 /// The rows of the nodes of a tree of so many tokens in preorder, from the parser's, in the same vectors.
-pub(crate) fn node_rows(
-    alloc: Global,
-    rows: NodeRows,
-    tokens: u32,
-) -> Result<NodeRows, SyntaxError>
+pub(crate) fn node_rows(alloc: Global, rows: NodeRows, tokens: u32) -> Result<NodeRows, SyntaxError>
     ensures { (kind : SyntaxKind) (kids : Forest) (p : Place) → rows ≡ rows_of (tree kind kids done) p
         → OkUnlessDeep (nat_lt most_deep (height kids))
         (λ v. (v ≡ tree_rows p tokens kind kids) × (length rows ≤ most_nodes))

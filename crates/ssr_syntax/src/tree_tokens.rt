@@ -9,12 +9,7 @@ use ssr_syntax_kinds::{TokenRow, TokenRows};
 
 /// Adds a token of the text. The token that was added last has `left` solid ones more, and `next` are the joined ones
 /// behind it: the answer says what is left of both.
-fn add<'a>(
-    token: TokenRow,
-    left: u8,
-    next: &'a [Joined],
-    rows: &mut Packing,
-) -> (u8, &'a [Joined])
+fn add<'a>(token: TokenRow, left: u8, next: &'a [Joined], rows: &mut Packing) -> (u8, &'a [Joined])
     requires room { 0 < rows.old.room }
     ensures packed { (others : List TokenRow) → rows.new.packed ++ joined_rows result.0 (length rows.new.packed) result.1.now others
         ≡ rows.old.packed ++ joined_rows left (length rows.old.packed) next.now (token ∷ others) }
