@@ -76,7 +76,7 @@ pub(crate) fn read_solid(
         → Answers result (tree_reading goal (string_bytes text) raw) (string_bytes text) }
 {
     let written = parse_as(alloc, goal, &solid, rows.kinds())?;
-    // Each list is dropped as soon as it is read, which keeps the most memory in use low.
+    // The solid tokens are dropped as soon as they are read, which keeps the most memory in use low.
     drop(solid);
     written_tree(alloc, text, rows, written)
 }

@@ -9,7 +9,7 @@ use Rattle.ssr_syntax_forms.specs.Trees.{Forest, done, leaf, tree, nodes}
 use Rattle.ssr_syntax.specs.Private.Leaves.{leaves, after, first_in, past_in}
 
 -- ** The rows of a forest, in front of which the parser stands: `parent` stands above it and begins at the token `low`, and
--- m is the number of its first node. A node without tokens stands where the one before it ends, but not before its parent.
+-- m is the number of its first node. A node without tokens stands where the token before it ends, but not before its parent.
 abbrev pub node_rows : ℕ → ℕ → ℕ → Place → Forest → List NodeRow
 node_rows parent low m p done = []
 node_rows parent low m p (leaf kind tokens next) = node_rows parent low m (behind_token (length tokens) p) next
