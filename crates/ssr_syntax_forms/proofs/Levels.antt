@@ -42,7 +42,7 @@ goals_agree grammar (suc n) goal out ts =
     agree (run_goal grammar n) (read_goal grammar n) (goals_agree grammar n) (goals_read_spelled grammar n)
     (grammar goal) out ts (so_far done ts) refl
 
--- ** What a run tells of what is read, where nothing was written before.
+-- ** What a run tells of what is read.
 
 from_written : (out : Written) (red : Result SoFar Fault) (new : State) → emit out red ≡ Ok new
     → (z : Forest) × (red ≡ Ok (so_far z new.rest)) × (new.out ≡ writes z out)

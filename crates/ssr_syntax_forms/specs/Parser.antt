@@ -13,7 +13,7 @@ use Rattle.ssr_syntax_forms.specs.declared.rows.Joined.{Joined}
 use Rattle.ssr_syntax_forms.specs.Places.{Place, place_at, behind_token}
 use Rattle.ssr_syntax_forms.specs.Forms.{Test, at, more, taken_as, past, passes, agrees, repeat, ◌>>=◌}
 
--- The rows of nodes that are written, the tokens that are joined from several, and where the parser is.
+-- The rows of nodes and the joined tokens that are written, and where the parser is.
 pub record Written : Type 0 where
   pub rows : List NodeRow
   pub joined : List Joined
@@ -23,12 +23,12 @@ pub record Written : Type 0 where
 abbrev pub unwritten : List SyntaxKind → Written
 unwritten kinds = record { rows = []; joined = []; place = place_at 0 kinds }
 
--- The next token of the tree is a token of the text as it is: of this kind, and no other is joined to it.
+-- The next token of the grammar is one of the text as it is: of this kind, and no other is joined to it.
 abbrev pub is_alone : SyntaxKind → ℕ → List SyntaxKind → Bool
 is_alone kind size [] = false
 is_alone kind size (k ∷ ks) = same_kind k kind && size == 1
 
--- A token of this kind, joined from so many solid ones, is written: any other than one of the text as it is.
+-- A token of this kind, joined from so many solid ones, is taken: it is written, unless it is one of the text as it is.
 abbrev pub token_written : SyntaxKind → ℕ → Written → Written
 token_written kind size out =
     record {
@@ -37,7 +37,8 @@ token_written kind size out =
       place = behind_token size out.place;
     }
 
--- A node is written of all rows but the first `made`. Where it has tokens, the first one is `next`.
+-- A node is written of all rows but the first `made`. Where it has tokens, the first one is `next`; else it begins and ends
+-- behind the token in front.
 abbrev pub node_written : SyntaxKind → ℕ → ℕ → Written → Written
 node_written kind made next out =
     record {
@@ -54,7 +55,7 @@ pub record State : Type 0 where
 abbrev pub state_of : Written → List Token → State
 state_of out rest = record { out = out; rest = rest }
 
--- How many rows were written at a mark, what number the next token of the tree had there, and which tokens were left.
+-- How many rows were written at a mark, what number the next token of the grammar had there, and which tokens were left.
 pub record Mark : Type 0 where
   pub made : ℕ
   pub next : ℕ
@@ -72,7 +73,7 @@ since m s = take (length m.start - length s.rest) m.start
 
 -- ** Steps from one state to the next.
 
--- what is written behind the token in front, which is taken whole or but for its first part
+-- what is written behind the token in front, of which the whole is taken, or its first part alone
 abbrev pub took : Bool → List Token → Written → Written
 took whole [] out = out
 took whole (t ∷ ts) out = token_written (taken_as whole t) (1 + more whole t) out

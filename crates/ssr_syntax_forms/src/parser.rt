@@ -18,8 +18,8 @@ use std::marker::Model;
 /// The most rows that are counted.
 const MOST: usize = u32::MAX as usize;
 
-/// Reads tokens, and writes the nodes and the tokens of their tree. A call that writes may answer want of memory; after an
-/// `Err` nothing is known of the state.
+/// Reads tokens, and writes the nodes of their tree and its joined tokens. A call that writes may answer want of memory;
+/// after an `Err` nothing is known of the state.
 #[derive(Drop)]
 pub struct Parser<'a> {
     rest: &'a [Token],
@@ -35,7 +35,7 @@ impl<'a> Model for Parser<'a> {
     ghost view = { λ p. state_of (record { rows = p.out.rows; joined = p.out.joined.items; place = p.place }) p.rest.now };
 }
 
-/// Where a node begins: how many rows were written there, what number the next token of the tree had, and which tokens
+/// Where a node begins: how many rows were written there, what number the next token of the grammar had, and which tokens
 /// were left.
 #[derive(Drop)]
 pub struct Mark<'a> {

@@ -1,4 +1,5 @@
-//! Where the parser is in a text: which of the tree's tokens comes next, and which of the text's tokens are left.
+//! Where the parser is in a text: which token of the grammar comes next, what its number is among all tokens of the tree,
+//! and which of the text's tokens are left.
 ghost use Rattle.std.specs.Prelude.{◌≡◌, IfOk};
 ghost use Rattle.ssr_syntax_forms.specs.Parser.{is_alone};
 ghost use Rattle.ssr_syntax_forms.specs.Places.{behind_trivia, behind_solid, behind_token, place_at};
@@ -10,7 +11,7 @@ use std::marker::Model;
 /// The most tokens of a tree that are counted.
 const MOST: usize = u32::MAX as usize;
 
-/// Between two tokens of the tree that are neither white space nor comments.
+/// Between two tokens of the grammar.
 #[derive(Drop)]
 pub(crate) struct Place<'a> {
     /// The number past the token in front.
@@ -98,7 +99,7 @@ impl<'a> Place<'a> {
         self.next
     }
 
-    /// Whether the token behind is one of the text as it is, if it is of this kind and joined from so many.
+    /// Whether the next token of the grammar is one of the text as it is, if it is of this kind and joined from so many.
     #[inline(always)]
     pub(crate) fn is_alone(&self, kind: SyntaxKind, size: u8) -> bool
         ensures { result ≡ is_alone kind size self.now.kinds }
@@ -109,7 +110,7 @@ impl<'a> Place<'a> {
         }
     }
 
-    /// Behind the next token of the tree, which is joined from so many solid ones of the text.
+    /// Behind the next token of the grammar, which is joined from so many solid ones of the text.
     #[inline(always)]
     pub(crate) fn behind_token(&self, size: u8) -> Result<Place<'a>, AllocError>
         ensures { IfOk result (λ p. p ≡ behind_token size self.now) }

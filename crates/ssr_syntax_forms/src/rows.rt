@@ -3,7 +3,7 @@
 use ssr_syntax_kinds::SyntaxKind;
 use ssr_syntax_tree::NodeRows;
 
-/// A token of a tree that is joined from several of the text's.
+/// A token of a tree that is none of the text as it is: where the kinds are the text's, one that is joined from several.
 #[derive(Clone, Copy)]
 pub struct Joined {
     /// The token's number in the tree.
