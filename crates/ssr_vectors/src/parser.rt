@@ -99,7 +99,7 @@ fn tokens(alloc: Global, kinds: &[SyntaxKind]) -> Result<Vec<Token>, Fail> {
 
 #[test]
 fn items_of_a_list_stand_apart_by_commas(rt: HostRuntime) -> Result<(), Fail> {
-    for (kinds, fits) in [
+    for (listed, fits) in [
         (&[][..], true),
         (&[INT_NUMBER][..], true),
         (&[INT_NUMBER, COMMA][..], true),
@@ -107,8 +107,10 @@ fn items_of_a_list_stand_apart_by_commas(rt: HostRuntime) -> Result<(), Fail> {
         (&[INT_NUMBER, INT_NUMBER][..], false),
         (&[COMMA][..], false),
     ] {
-        let tokens = tokens(rt.alloc(), kinds)?;
-        let mut p = Parser::new(rt.alloc(), &tokens, kinds)?;
+        let tokens = tokens(rt.alloc(), listed)?;
+        let mut kinds = Vec::new(rt.alloc());
+        kinds.extend_from_slice(listed)?;
+        let mut p = Parser::new(rt.alloc(), &tokens, &kinds)?;
         let read = p.comma_list(INT_NUMBER, |p| p.expect(INT_NUMBER));
         let whole = read.is_ok() && p.finish().is_ok();
         assert_eq!(rt; whole, fits);
