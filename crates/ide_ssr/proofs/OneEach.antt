@@ -1,16 +1,20 @@
 -- A finder's search comes to one outcome, so it has one edit for each file.
-use Rattle.std.proofs.Common.{◌≡◌, List, Contains, Ok, sym, ap, ◌∙◌, subst, arith}
+use Rattle.std.proofs.Common.{◌≡◌, List, [], Contains, Ok, sym, ap, ◌∙◌, subst, arith}
+use Rattle.std.specs.Prelude.{Err}
+use Rattle.ssr_base.specs.declared.ids.FileRange.{FileRange}
 use Rattle.ssr_base.specs.Built.{IsBuilt}
 use Rattle.ssr_base.specs.Workspace.{Workspace, trees}
 use Rattle.ide_ssr_found.specs.Found.{Found}
 use Rattle.ide_ssr_nesting.specs.Holding.{Kept}
 use Rattle.ide_ssr_nesting.specs.Lists.{Listing, AreLists}
+use Rattle.ide_ssr_rewriting.specs.declared.editing.EditError.TheVariants as errors
 use Rattle.ide_ssr_rewriting.specs.Clashes.{clash_of}
 use Rattle.ide_ssr_rewriting.specs.Edits.{Answers}
 use Rattle.ide_ssr_rewriting.proofs.Shared.{one_edit, no_clash}
 use Rattle.ide_ssr_search.proofs.Shared.{are_matches, one_list}
 use Rattle.ide_ssr.specs.Finder.{Finder}
-use Rattle.ide_ssr.specs.Laws.{OneOutcome, OneEdit, NoClashWithoutExpansions}
+use Rattle.ide_ssr.specs.Edits.{Edits}
+use Rattle.ide_ssr.specs.Laws.{OneOutcome, OneEdit}
 use Rattle.ide_ssr.specs.Searching.{IsOutcome}
 use Rattle.ide_ssr_nesting.proofs.Shared.{one_kept, one_holding, one_listing}
 
@@ -38,6 +42,11 @@ one_edit_each finder a b first again =
     let other = again.1 in
     one_edit one.0 one.1 finder.rules one.2.is_kept one.2.are_lists a b one.3
     (answers_again finder one.0 other.0 one.1 other.1 one.2 other.2 (λ kept lists. Answers kept lists finder.rules (Ok b)) other.3)
+
+-- where no macro call stands for anything, no clash is told
+abbrev pub NoClashWithoutExpansions : Finder → Type 0
+NoClashWithoutExpansions finder =
+    finder.workspace.expansions ≡ [] → (earlier later : FileRange) → Edits finder (Err (errors.Clash earlier later)) → ⊥
 
 pub none_clash : (finder : Finder) → NoClashWithoutExpansions finder
 none_clash finder without earlier later told =

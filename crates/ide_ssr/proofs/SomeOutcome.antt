@@ -1,11 +1,15 @@
 -- A finder's search comes to an outcome, and so to edits or a clash.
-use Rattle.std.proofs.Common.{inl, inr}
+use Rattle.std.proofs.Common.{◌≡◌, List, [], Ok, inl, inr}
+use Rattle.std.specs.BTreeMap.{BTreeMap}
+use Rattle.ssr_base.specs.declared.ids.FileId.{FileId}
+use Rattle.ssr_base.specs.Changes.{Change}
 use Rattle.ssr_base.specs.Built.{IsBuilt}
 use Rattle.ide_ssr_nesting.proofs.Shared.{kept_exist, lists_exist}
 use Rattle.ide_ssr_rewriting.proofs.Shared.{answer_exists}
 use Rattle.ide_ssr_search.proofs.Shared.{are_matches, some_found}
 use Rattle.ide_ssr.specs.Finder.{Finder}
-use Rattle.ide_ssr.specs.Laws.{AnswerExists, EditsExist, OutcomeExists}
+use Rattle.ide_ssr.specs.Edits.{HaveTemplates, Edits}
+use Rattle.ide_ssr.specs.Laws.{AnswerExists, OutcomeExists}
 use Rattle.ide_ssr.proofs.OneEach.{none_clash}
 
 pub outcome_exists : (finder : Finder) → IsBuilt finder.workspace → OutcomeExists finder
@@ -28,6 +32,11 @@ answer_exists_each finder built templates =
       | inl edits ↦ inl (edits.0, (templates, (kept, lists, outcome.2, edits.1)))
       | inr clash ↦ inr (clash.0, clash.1, (templates, (kept, lists, outcome.2, clash.2)))
     ]
+
+-- there are edits where besides no macro call stands for anything
+abbrev pub EditsExist : Finder → Type 0
+EditsExist finder =
+    HaveTemplates finder.rules → finder.workspace.expansions ≡ [] → (edits : BTreeMap FileId (List Change)) × Edits finder (Ok edits)
 
 pub edits_exist : (finder : Finder) → IsBuilt finder.workspace → EditsExist finder
 edits_exist finder built templates alone =

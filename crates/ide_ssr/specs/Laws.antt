@@ -1,5 +1,5 @@
 -- The words of laws: that a search comes to one outcome, and that its edits are determined.
-use Rattle.std.specs.Prelude.{◌≡◌, ◌⊎◌, List, [], Ok, Err}
+use Rattle.std.specs.Prelude.{◌≡◌, ◌⊎◌, List, Ok, Err}
 use Rattle.std.specs.BTreeMap.{BTreeMap, get}
 use Rattle.ssr_base.specs.declared.ids.FileId.{FileId}
 use Rattle.ssr_base.specs.declared.ids.FileRange.{FileRange}
@@ -28,17 +28,7 @@ AnswerExists finder =
     → ((edits : BTreeMap FileId (List Change)) × Edits finder (Ok edits))
     ⊎ ((earlier : FileRange) × (later : FileRange) × Edits finder (Err (errors.Clash earlier later)))
 
--- there are edits where besides no macro call stands for anything
-abbrev pub EditsExist : Finder → Type 0
-EditsExist finder =
-    HaveTemplates finder.rules → finder.workspace.expansions ≡ [] → (edits : BTreeMap FileId (List Change)) × Edits finder (Ok edits)
-
 -- two answers with edits have the same edit for each file
 abbrev pub OneEdit : Finder → Type 0
 OneEdit finder =
     (a b : BTreeMap FileId (List Change)) → Edits finder (Ok a) → Edits finder (Ok b) → (file : FileId) → get file_cmp a file ≡ get file_cmp b file
-
--- where no macro call stands for anything, no clash is told
-abbrev pub NoClashWithoutExpansions : Finder → Type 0
-NoClashWithoutExpansions finder =
-    finder.workspace.expansions ≡ [] → (earlier later : FileRange) → Edits finder (Err (errors.Clash earlier later)) → ⊥

@@ -2,7 +2,7 @@
 //! it ensures is a law.
 ghost use Rattle.ssr_base.specs.Built.{IsBuilt};
 ghost use Rattle.ide_ssr.specs.Finder.{Finder};
-ghost use Rattle.ide_ssr.specs.Laws.{AnswerExists, EditsExist, NoClashWithoutExpansions, OneEdit, OneOutcome, OutcomeExists};
+ghost use Rattle.ide_ssr.specs.Laws.{AnswerExists, OneEdit, OneOutcome, OutcomeExists};
 
 /// A finder's search comes to an outcome, and to one: there is one list of kept matches, and one way to list them.
 pub fn searching()
@@ -10,11 +10,8 @@ pub fn searching()
     ensures one { (finder : Finder) → OneOutcome finder }
 {}
 
-/// Where each rule has a template, there are edits or a clash. There is one edit for each file, and without expansions there
-/// are edits and no clashes.
+/// Where each rule has a template, there are edits or a clash. There is one edit for each file.
 pub fn editing()
     ensures exist { (finder : Finder) → IsBuilt finder.workspace → AnswerExists finder }
-    ensures edits { (finder : Finder) → IsBuilt finder.workspace → EditsExist finder }
     ensures one { (finder : Finder) → OneEdit finder }
-    ensures no_clash { (finder : Finder) → NoClashWithoutExpansions finder }
 {}

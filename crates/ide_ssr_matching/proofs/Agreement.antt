@@ -20,12 +20,11 @@ use Rattle.ide_ssr_resolving.specs.Resolved.{ResolvedKind, meets}
 use Rattle.ide_ssr_found.specs.declared.bindings.Binding.{Binding}
 use Rattle.ide_ssr_found.specs.Found.{node_binding}
 use Rattle.ide_ssr_matching.specs.Children.{bare}
-use Rattle.ide_ssr_token_trees.specs.Bindings.{tree_bindings}
+use Rattle.ide_ssr_token_trees.specs.Bindings.{tree_bindings, joined}
 use Rattle.ide_ssr_token_trees.proofs.Shared.{tree_bindings-TreesMatch, TreesMatch-tree_bindings}
 use Rattle.ide_ssr_matching.specs.TokenTrees.{is_tree, token_placeholder, is_plain, is_by_parts}
 use Rattle.ide_ssr_matching.specs.UsedPaths.{arguments_of, pattern_res, code_res}
 use Rattle.ide_ssr_matching.specs.Matching.{Matches, bound, token_trees, method, used, alike, Pairs, end, tokens, nodes, named}
-use Rattle.ide_ssr_token_trees.specs.Bindings.{joined}
 use Rattle.ide_ssr_matching.specs.Bindings.{pairs_by, placeholder_by, counted_sides, can_match, like_sides, sides_in, sides_of, sides_by, bindings_of, like_pairs}
 use Rattle.ide_ssr_matching.specs.Calls.{call_of, meets_method, method_sides, child_nodes}
 use Rattle.ide_ssr_matching.specs.Records.{is_named, named_nodes, named_pairs}

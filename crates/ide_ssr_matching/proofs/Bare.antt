@@ -12,9 +12,8 @@ use Rattle.ssr_syntax_tree.specs.Syntax.{Syntax}
 use Rattle.ssr_syntax_tree.specs.Places.{HasNode, HasElement, Part, token_part, node_part, element_of, elements_of, node_of, parts_of, part_of}
 use Rattle.ssr_syntax_tree.proofs.Shared.{IsChild, children_known}
 use Rattle.ide_ssr_matching.specs.declared.children.Siblings.{Siblings}
-use Rattle.ide_ssr_token_trees.specs.Elements.{closes, closes_part, is_closing}
+use Rattle.ide_ssr_token_trees.specs.Elements.{closes, closes_part, is_closing, is_trivia_part}
 use Rattle.ide_ssr_matching.specs.Children.{leaves_out, bare}
-use Rattle.ide_ssr_token_trees.specs.Elements.{is_trivia_part}
 use Rattle.ide_ssr_matching.specs.Private.Children.{has_kind, solid, siblings_left, IsBelow, AreKept}
 
 -- what trivia are left out of

@@ -34,7 +34,7 @@ use Rattle.ide_ssr_matching.specs.UsedPaths.{arguments_of, pattern_res}
 use Rattle.ide_ssr_found.specs.Receivers.{received}
 use Rattle.ide_ssr_matching.specs.Sides.{Sides, kept}
 use Rattle.ide_ssr_matching.specs.Calls.{method_sides, can_be_call, child_nodes}
-use Rattle.ide_ssr_token_trees.specs.Bindings.{joined}
+use Rattle.ide_ssr_token_trees.specs.Bindings.{joined, Answers, matched, other}
 use Rattle.ide_ssr_matching.specs.Bindings.{Binder, pair_by, pairs_by, placeholder_by, stands_for, counted, counted_sides, can_match, like_sides, sides_in, sides_by, sides_of, other_by, node_by, bindings_of, like_pairs}
 use Rattle.ide_ssr_matching.specs.Private.Bindings.{counted_by}
 use Rattle.ide_ssr_matching.specs.Private.Calls.{sides_at, nodes_at}
@@ -43,7 +43,6 @@ use Rattle.ide_ssr_matching.specs.Records.{arranged, is_named, named_nodes, name
 use Rattle.ide_ssr_matching.specs.Private.Records.{AreNamedLists}
 use Rattle.ide_ssr_matching.proofs.NamedAt.{named_at, parts_at}
 use Rattle.ide_ssr_matching.specs.Private.Children.{IsBelow, AreKept}
-use Rattle.ide_ssr_token_trees.specs.Bindings.{Answers, matched, other}
 use Rattle.ide_ssr_matching.proofs.Bare.{below-has, tail_has}
 use Rattle.ide_ssr_matching.proofs.Steps.{bindings_step}
 

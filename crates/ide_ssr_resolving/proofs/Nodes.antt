@@ -8,9 +8,8 @@ use Rattle.ide_ssr_rules.specs.StandIns.{name_at}
 use Rattle.ssr_syntax_tree.specs.Places.{Node, Part, node_part, token_part, parts_in, parts_of, elements_of, element_of, nodes_of, node_of, root_of, HasNode, HasToken, token_of}
 use Rattle.ssr_syntax_tree.specs.Syntax.{Token, Forest, nothing, leaf, branch, Syntax, node_count, token_count, tokens_of}
 use Rattle.ssr_syntax_tree.proofs.Shared.{length-nodes_of, length-tokens_in, node_is}
-use Rattle.ide_ssr_resolving.specs.Placeholders.{only_token, placeholder_at}
+use Rattle.ide_ssr_resolving.specs.Placeholders.{only_token, placeholder_at, token_placeholders}
 use Rattle.ide_ssr_resolving.specs.Private.Placeholders.{placeholders}
-use Rattle.ide_ssr_resolving.specs.Placeholders.{token_placeholders}
 
 -- ** Nodes by their numbers.
 pub table_next : (names : List (List ℕ)) (s : Syntax) (n : ℕ) (old new : List (Option ℕ)) (found : Option ℕ) → HasNode s n → found ≡ placeholder_at names (node_of s n)

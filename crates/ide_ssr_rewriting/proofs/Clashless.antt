@@ -25,8 +25,7 @@ use Rattle.ide_ssr_nesting.specs.Lists.{AreLists, Listing, listed, range_of}
 use Rattle.ssr_syntax_tree.proofs.Lists.{contains_at, pairs_at, pairs_head, pairs_tail}
 use Rattle.ide_ssr_nesting.proofs.Shared.{below_is_between, in_one_tree, not_over_itself, one_way, over_before}
 use Rattle.ide_ssr_rewriting.specs.Clashes.{Clash, Rewrite, clashes, is_clash, same_range, differ, share_byte}
-use Rattle.ide_ssr_rewriting.specs.Edits.{Texts, clashes_under, list_at, list_under, nowhere, range_at}
-use Rattle.ide_ssr_rewriting.specs.Laws.{NoClash}
+use Rattle.ide_ssr_rewriting.specs.Edits.{Texts, all_clashes, clashes_under, list_at, list_under, nowhere, range_at}
 use Rattle.ide_ssr_rewriting.specs.Private.Nest.{IsList}
 use Rattle.ide_ssr_rewriting.proofs.FirstClashes.{clashes_none}
 use Rattle.ide_ssr_rewriting.proofs.Nests.{is_nest}
@@ -203,6 +202,10 @@ module _ (kept : Kept) (is : IsKept kept) where
         (and_parts (share_byte (range_at kept i) (range_at kept j)) (not (same_range (range_at kept i) (range_at kept j)) || differ (texts i) (texts j)) clash).0)
 
 -- ** All lists.
+
+-- no two matches of one list clash, whatever stands for them
+abbrev pub NoClash : Kept → Listing → Type 0
+NoClash kept lists = (texts : Texts) → all_clashes kept lists texts ≡ []
 
 no_clashes : {X : Type 0} (stands : X → Rewrite) (xs : List X) → AllPairs (λ x y. is_clash (stands x) (stands y) ≡ false) xs → clashes (map stands xs) ≡ []
 no_clashes stands [] pairs = refl

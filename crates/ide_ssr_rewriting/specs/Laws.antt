@@ -1,5 +1,5 @@
 -- What holds of the edits of kept matches: the words of their laws.
-use Rattle.std.specs.Prelude.{ℕ, ◌≡◌, ◌⊎◌, List, [], Some, slice_get, Ok, Err}
+use Rattle.std.specs.Prelude.{ℕ, ◌≡◌, ◌⊎◌, List, Some, slice_get, Ok, Err}
 use Rattle.std.specs.BTreeMap.{BTreeMap, get}
 use Rattle.ssr_base.specs.declared.ids.FileId.{FileId}
 use Rattle.ssr_base.specs.declared.ids.FileRange.{FileRange}
@@ -9,7 +9,7 @@ use Rattle.ide_ssr_found.specs.Found.{Found}
 use Rattle.ide_ssr_nesting.specs.Holding.{Kept}
 use Rattle.ide_ssr_nesting.specs.Lists.{Listing}
 use Rattle.ide_ssr_rewriting.specs.declared.editing.EditError.TheVariants as errors
-use Rattle.ide_ssr_rewriting.specs.Edits.{Answers, AreTexts, Texts, all_clashes, file_cmp}
+use Rattle.ide_ssr_rewriting.specs.Edits.{Answers, AreTexts, Texts, file_cmp}
 
 -- there are texts that stand for the matches
 abbrev pub TextsExist : Kept → Listing → List ResolvedKind → Type 0
@@ -35,7 +35,3 @@ OneEdit kept lists rules =
 abbrev pub EditsOrClash : Kept → Listing → List ResolvedKind → Type 0
 EditsOrClash kept lists rules =
     (edits : BTreeMap FileId (List Change)) (earlier later : FileRange) → Answers kept lists rules (Ok edits) → Answers kept lists rules (Err (errors.Clash earlier later)) → ⊥
-
--- no two matches of one list clash, whatever stands for them
-abbrev pub NoClash : Kept → Listing → Type 0
-NoClash kept lists = (texts : Texts) → all_clashes kept lists texts ≡ []

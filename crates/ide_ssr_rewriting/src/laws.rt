@@ -1,10 +1,10 @@
 //! What holds of the words of the contracts, whatever the code: each function here does nothing, and what
 //! it ensures is a law.
-ghost use Rattle.std.specs.Prelude.{◌≡◌, [], List};
+ghost use Rattle.std.specs.Prelude.{List};
 ghost use Rattle.ide_ssr_resolving.specs.Resolved.{ResolvedKind};
 ghost use Rattle.ide_ssr_nesting.specs.Holding.{Kept, IsKept};
 ghost use Rattle.ide_ssr_nesting.specs.Lists.{Listing, AreLists};
-ghost use Rattle.ide_ssr_rewriting.specs.Laws.{AnswerExists, EditsOrClash, NoClash, OneEdit, OneText, TextsExist};
+ghost use Rattle.ide_ssr_rewriting.specs.Laws.{AnswerExists, EditsOrClash, OneEdit, OneText, TextsExist};
 
 /// There are texts that stand for kept matches, and no others.
 pub fn rewriting()
@@ -18,9 +18,4 @@ pub fn answering()
     ensures exist { (kept : Kept) (lists : Listing) (rules : List ResolvedKind) → IsKept kept → AreLists kept lists → AnswerExists kept lists rules }
     ensures one { (kept : Kept) (lists : Listing) (rules : List ResolvedKind) → IsKept kept → AreLists kept lists → OneEdit kept lists rules }
     ensures edits_or_clash { (kept : Kept) (lists : Listing) (rules : List ResolvedKind) → IsKept kept → AreLists kept lists → EditsOrClash kept lists rules }
-{}
-
-/// Without expansions no two kept matches clash.
-pub fn clashing()
-    ensures { (kept : Kept) (lists : Listing) → IsKept kept → AreLists kept lists → kept.workspace.expansions ≡ [] → NoClash kept lists }
 {}

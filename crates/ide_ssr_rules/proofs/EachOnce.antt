@@ -17,7 +17,7 @@ use Rattle.ssr_syntax_tree.specs.Syntax.{Token, Syntax, tokens_of, spelled, same
 use Rattle.ssr_syntax.specs.declared.fragments.Fragment.{Fragment}
 use Rattle.ssr_syntax.specs.Reading.{pieces, fragment_reading, FitsFragment}
 use Rattle.ssr_syntax.specs.Identifiers.{is_ident, idents}
-use Rattle.ssr_syntax.proofs.Shared.{fragment_sound, fragment_idents, fragment_alone, length-token, tiles_within, spelled-pieces}
+use Rattle.ssr_syntax.proofs.Shared.{fragment_sound, fragment_idents, fragment_alone, length-token, tiles_within, spelled-pieces, IsUtf8-trim, trim_shorter}
 use Rattle.ide_ssr_rules.specs.declared.elements.Element.{Element}
 use Rattle.ide_ssr_rules.specs.declared.elements.Element.TheVariants as e
 use Rattle.ide_ssr_rules.specs.Elements.{has, lexed, names_of}
@@ -25,7 +25,6 @@ use Rattle.ide_ssr_rules.specs.Patterns.{placeholders_among, IsReadOnce}
 use Rattle.ide_ssr_rules.specs.StandIns.{stand_in_of, read_as, code_of, first_glued, first_name, glued_placeholder, is_stand_in, name_at, stand_in_text, spelled_stand_in}
 use Rattle.ide_ssr_rules.specs.Uses.{AreNew}
 use Rattle.ide_ssr_rules.proofs.Named.{over_idents}
-use Rattle.ssr_syntax.proofs.Shared.{IsUtf8-trim, trim_shorter}
 
 -- ** The tokens are those that are read for the elements.
 

@@ -1,9 +1,8 @@
 -- What the lexer answers, as tokens with their texts.
 use Rattle.std.proofs.Common.{◌≡◌, ◌≢◌, ℕ, ◌+◌, ◌<◌, ◌≤◌, ◌^◌, Bool, true, false, List, [], length, nat_lt, Option, Some, None, Err, refl, arith, ap, ◌∙◌, sym, cond, take, get_or, subst, ◌∷◌}
-use Rattle.std.proofs.lemmas.List.{take_all}
+use Rattle.std.proofs.lemmas.List.{take_all, length-map, length-take}
 use Rattle.std.proofs.lemmas.Bool.{lt-ltb}
 use Rattle.std.proofs.lemmas.List.Elements.{All-get_or, All-from_recursion}
-use Rattle.std.proofs.lemmas.List.{length-map, length-take}
 use Rattle.std.specs.List.{All, AllByRecursion}
 use Rattle.std.specs.Str.{IsCharBoundary}
 use Rattle.std.proofs.lemmas.Bool.Decides.{nat_tests}

@@ -15,9 +15,7 @@ fn ending_token(tree: &Tree, offset: u32) -> Option<TokenNo>
     if offset == 0 {
         return None;
     }
-    let Some(token) = tree.token_at(offset - 1) else {
-        return None;
-    };
+    let token = tree.token_at(offset - 1)?;
     if tree.token_range(token).end == offset {
         Some(token)
     } else {
@@ -82,12 +80,8 @@ fn next_sibling(tree: &Tree, node: NodeNo) -> Option<NodeNo>
     if next >= tree.node_count() {
         return None;
     }
-    let Some(parent) = tree.parent(node) else {
-        return None;
-    };
-    let Some(other) = tree.parent(NodeNo(next)) else {
-        return None;
-    };
+    let parent = tree.parent(node)?;
+    let other = tree.parent(NodeNo(next))?;
     if other.0 == parent.0 {
         Some(NodeNo(next))
     } else {

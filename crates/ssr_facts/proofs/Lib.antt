@@ -11,3 +11,4 @@ mod Sweep
 mod Told
 mod Ordered
 mod Answered
+mod OneWorkspace

@@ -10,4 +10,5 @@ pub mod Naming
 pub mod Told
 pub mod Errors
 pub mod Reading
+pub mod Laws
 pub mod Private

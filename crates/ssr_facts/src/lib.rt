@@ -6,6 +6,7 @@ mod facts;
 mod facts_error;
 mod grouping;
 mod kept;
+pub mod laws;
 mod maps;
 mod naming;
 mod nodes;

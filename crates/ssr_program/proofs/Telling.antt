@@ -8,10 +8,9 @@ use Rattle.ide_ssr_resolving.specs.Resolved.{ResolvedKind, resolved_kinds}
 use Rattle.ssr_base.specs.declared.ids.ScopeId.{ScopeId}
 use Rattle.ssr_program.specs.Unresolved.{nothing_resolves, one_scope}
 use Rattle.ide_ssr_rules.specs.Rules.{Rule, rule_reading}
-use Rattle.ssr_program.specs.Output.{resolved}
+use Rattle.ssr_program.specs.Output.{resolved, rule_kinds, rules_reading}
 use Rattle.ide_ssr.specs.Finder.{FinderWith}
 use Rattle.ssr_program.specs.declared.unresolved.Unresolved.{Unresolved}
-use Rattle.ssr_program.specs.Output.{rule_kinds, rules_reading}
 use Rattle.ide_ssr.specs.Adding.{Adds}
 use Rattle.ssr_program.proofs.RulesRead.{read_more, read_refused}
 

@@ -7,10 +7,9 @@ use Rattle.ssr_syntax_forms.specs.declared.rows.Output.{Output}
 use Rattle.ssr_syntax_forms.specs.declared.tokens.Token.{Token}
 use Rattle.ssr_syntax_forms.specs.Trees.{Forest}
 use Rattle.ssr_syntax_kinds.specs.declared.kinds.SyntaxKind.{SyntaxKind}
-use Rattle.ssr_syntax_forms.specs.Parser.{Written, Holds, unwritten}
+use Rattle.ssr_syntax_forms.specs.Parser.{Written, Holds, unwritten, State, state_of, Finishes}
 use Rattle.ssr_syntax_forms.specs.Written.{writes}
 use Rattle.ssr_syntax_forms.specs.Forms.{so_far, ◌>>=◌}
-use Rattle.ssr_syntax_forms.specs.Parser.{State, state_of, Finishes}
 use Rattle.ssr_syntax_forms.specs.Levels.{read_goal}
 use Rattle.ssr_syntax_forms.specs.Runs.{run_goal}
 use Rattle.ssr_syntax.specs.Grammar.{grammar}

@@ -8,13 +8,12 @@ use Rattle.ssr_syntax_tree.specs.declared.rows.NodeRow.{NodeRow}
 use Rattle.ssr_syntax_tree.specs.Syntax as plain
 use Rattle.ssr_syntax_tree.specs.Places.{nodes_in}
 use Rattle.ssr_syntax_tree.specs.Parts.{node_row}
-use Rattle.ssr_syntax.specs.Private.Leaves.{Taken}
+use Rattle.ssr_syntax.specs.Private.Leaves.{Taken, after, first_in, past_in}
 use Rattle.ssr_syntax_forms.specs.Places as place
 use Rattle.ssr_syntax_forms.specs.Places.{leading, behind_solid, Place, behind_token}
 use Rattle.ssr_syntax_forms.specs.Trees as solid
 use Rattle.ssr_syntax.specs.Private.Leaves as written
 use Rattle.ssr_syntax.specs.Lossless.{trivia, behind_trivia, gap, behind_gap, upto, past, before, behind, lossless}
-use Rattle.ssr_syntax.specs.Private.Leaves.{after, first_in, past_in}
 use Rattle.ssr_syntax.specs.Private.Preorder.{node_rows}
 
 -- ** Tokens beside siblings.

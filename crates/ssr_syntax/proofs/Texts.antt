@@ -17,7 +17,7 @@ use Rattle.ssr_syntax_tree.specs.Parts.{AreParts, node_row, token_rows}
 use Rattle.ssr_syntax_tree.specs.declared.rows.NodeRow.{NodeRow}
 use Rattle.ssr_syntax_kinds.specs.declared.token_rows.TokenRow.{TokenRow}
 use Rattle.ssr_syntax_forms.specs.declared.tokens.Token.{Token}
-use Rattle.ssr_syntax.specs.Private.Leaves.{Taken}
+use Rattle.ssr_syntax.specs.Private.Leaves.{Taken, leaves, after, first_in}
 use Rattle.ssr_syntax_types.specs.declared.goals.Goal.{Goal}
 use Rattle.ssr_syntax_forms.specs.declared.fault.Fault.{Fault}
 use Rattle.ssr_syntax_forms.specs.declared.rows.Output.{Output}
@@ -25,7 +25,6 @@ use Rattle.ssr_syntax_forms.specs.declared.fault.Fault.TheVariants as faults
 use Rattle.ssr_syntax.specs.declared.syntax_error.SyntaxError.{SyntaxError}
 use Rattle.ssr_syntax.specs.declared.syntax_error.SyntaxError.TheVariants as errors
 use Rattle.ssr_syntax_forms.specs.Trees.{Forest, nodes, height}
-use Rattle.ssr_syntax.specs.Private.Leaves.{leaves, after, first_in}
 use Rattle.ssr_syntax.specs.Private.Leaves as written
 use Rattle.ssr_syntax_forms.specs.Parser.{Holds, unwritten}
 use Rattle.ssr_syntax_forms.specs.Places.{leading, behind_trivia, behind_solid, Place, place_at, behind_token}
@@ -35,19 +34,18 @@ use Rattle.ssr_syntax.specs.Grammar.{grammar}
 use Rattle.ssr_syntax.proofs.Checks.{goal_makes_node}
 use Rattle.ssr_syntax.specs.Lossless.{gap, behind_gap, upto, past, lossless, whole_tree}
 use Rattle.ssr_syntax.specs.Private.Preorder.{tree_rows, node_rows, IsDepthFault, most_nodes}
-use Rattle.ssr_syntax.specs.Reading.{most_deep}
+use Rattle.ssr_syntax.specs.Reading.{most_deep, pieces, reading, most_levels, tree_reading, one_tree, unless_misnamed, unless_too_deep, error_of, Refuses, Answers}
 use Rattle.ssr_syntax.specs.Solid.{solid_tokens}
-use Rattle.ssr_syntax.specs.Private.TreeTokens.{taken_rows, joined_rows}
-use Rattle.ssr_syntax.specs.Reading.{pieces, reading, most_levels, tree_reading, one_tree, unless_misnamed, unless_too_deep, error_of, Refuses, Answers}
+use Rattle.ssr_syntax.specs.Private.TreeTokens.{joined_rows}
 use Rattle.ssr_syntax.specs.MacroRules.{misnames_macros}
 use Rattle.ssr_syntax.proofs.Whole.{reading_fits, reading_spells}
 use Rattle.ssr_syntax_forms.proofs.Shared.{goals_lone}
-use Rattle.ssr_syntax.proofs.Leaves.{length-rows, writes_parts}
+use Rattle.ssr_syntax.proofs.Leaves.{joined_of, length-rows, writes_parts}
 use Rattle.ssr_syntax.proofs.Laid.{AreSolid, total, total-leaves, token_of, laid, all_laid, spelled-laid, kinds_of, leading-kinds, behind-kinds, At, upto-zero, past-zero, upto-past, upto-behind_gap, tokens-behind, tokens-lossless, token_count-tokens, count-behind, count-lossless, nodes-behind, rows-lossless, height-behind, height-lossless}
 use Rattle.ssr_syntax.proofs.Solidity.{AreTaken, goals_taken, AllSolid, leaves_solid}
 use Rattle.ssr_syntax.proofs.SolidLaws.{all_solid}
 use Rattle.ssr_syntax.proofs.Tiles.{tiled_texts, spelled-pieces}
-use Rattle.ssr_syntax.proofs.TreeTokens.{all-next, rows_laid, length-token_rows, behind_nothing, joined_taken}
+use Rattle.ssr_syntax.proofs.TreeTokens.{taken_rows, all-next, rows_laid, length-token_rows, behind_nothing, joined_taken}
 
 -- the tokens of the tree are those that were taken
 pub whole-tokens : (kind : SyntaxKind) (kids : Forest) (ts : List plain.Token) → AreSolid (leaves kids)
@@ -295,7 +293,7 @@ pub record WrittenOfText (goal : Goal) (text : List ℕ) (raw : List RawToken) (
   pub kids : Forest
   pub read : ReadsAs goal text raw kind kids
   pub rows : out.rows ≡ written.rows (solid.tree kind kids solid.done) (start_of raw)
-  pub joined : out.joined.items ≡ written.joined (leaves kids) (start_of raw)
+  pub joined : out.joined.items ≡ joined_of (leaves kids) (start_of raw)
 
 pub written_read : (goal : Goal) (text : List ℕ) (raw : List RawToken) (z : Forest) (rows : List TokenRow) (out : Output)
     → reading goal (solid_tokens raw) ≡ Ok z → rows ≡ map row_of raw → Holds out (writes z (unwritten (map (λ row. row.kind) rows)))
@@ -311,7 +309,7 @@ written_read goal text raw z rows out e are h =
       kids = r.1;
       read = r.3;
       rows = h.rows ∙ ap (λ w. w.rows) parts;
-      joined = h.joined ∙ ap (λ w. w.joined) parts ∙ ap (λ us. written.joined us (start_of raw)) (append-nil (leaves r.1));
+      joined = h.joined ∙ ap (λ w. w.joined) parts ∙ ap (λ us. joined_of us (start_of raw)) (append-nil (leaves r.1));
     }
 
 -- the joined tokens tell all of a text's tree
@@ -322,6 +320,6 @@ tokens_told goal text raw rows out w are =
     let ts = map row_of raw in
     let start : start_of raw ≡ place_at 0 (behind_solid 0 (map (λ row. row.kind) ts)) = ap (place_at 0) (sym (behind_nothing (map (λ row. row.kind) ts))) in
     ap (λ js. joined_rows 0 0 js rows) w.joined
-    ∙ ap (λ l. joined_rows 0 0 (written.joined us (start_of raw)) l) are
-    ∙ ap (λ p. joined_rows 0 0 (written.joined us p) ts) start
+    ∙ ap (λ l. joined_rows 0 0 (joined_of us (start_of raw)) l) are
+    ∙ ap (λ p. joined_rows 0 0 (joined_of us p) ts) start
     ∙ joined_taken us 0 0 ts w.read.are_solid

@@ -11,15 +11,16 @@ use Rattle.ssr_syntax_kinds.specs.declared.token_rows.TokenRow.{TokenRow}
 use Rattle.ssr_syntax_tree.specs.Syntax as plain
 use Rattle.ssr_syntax_tree.specs.Parts.{token_rows}
 use Rattle.ssr_syntax_forms.specs.declared.rows.Joined.{Joined}
-use Rattle.ssr_syntax_forms.specs.Parser.{is_alone}
-use Rattle.ssr_syntax_forms.specs.Places.{leading, behind_trivia, behind_solid, Place, place_at, behind_token}
+use Rattle.ssr_syntax_forms.specs.Places.{leading, behind_trivia, behind_solid, Place, place_at, behind_token, is_alone}
 use Rattle.ssr_syntax.specs.Lossless as text
 use Rattle.ssr_syntax.specs.Lossless.{trivia, gap, behind_gap, upto, past}
 use Rattle.ssr_syntax.specs.Solid.{solid_token, solid_tokens}
-use Rattle.ssr_syntax.specs.Private.Leaves.{Taken, joined}
-use Rattle.ssr_syntax.specs.Private.TreeTokens.{taken_rows, joined_rows}
+use Rattle.ssr_syntax.specs.Private.Leaves.{Taken}
+use Rattle.ssr_syntax.specs.Private.TreeTokens.{joined_rows}
 use Rattle.ssr_syntax.specs.Reading.{pieces}
+use Rattle.ssr_syntax.proofs.Leaves.{joined_of}
 use Rattle.ssr_syntax.proofs.Laid.{AreSolid, total, token_of, laid, all_laid, by_kind, upto-zero, past-zero, past-add}
+use Rattle.ssr_syntax.proofs.TextRows.{kinds_of}
 use Rattle.ssr_syntax.proofs.Tiles.{tiles_within, length-token}
 
 -- ** The first of a text's tokens.
@@ -86,6 +87,15 @@ all-first u us p ps f =
     ∙ ap (λ l. put u.kind [] (p ∷ upto (n - 1) ps) (all_laid us l)) f.past_is
 
 -- ** The rows.
+
+-- by all tokens that are taken: the one that was taken last has `left` solid ones more
+abbrev pub taken_rows : ℕ → List Taken → List TokenRow → List TokenRow
+taken_rows left us [] = []
+taken_rows zero [] (t ∷ ts) = t ∷ taken_rows zero [] ts
+taken_rows zero (u ∷ us) (t ∷ ts) =
+    if is_trivia t.kind then t ∷ taken_rows zero (u ∷ us) ts
+    else (record { kind = u.kind; start = t.start } ∷ taken_rows (u.size - 1) us ts)
+taken_rows (suc n) us (t ∷ ts) = taken_rows (if is_trivia t.kind then suc n else n) us ts
 
 abbrev row : SyntaxKind → ℕ → TokenRow
 row kind start = record { kind = kind; start = start }
@@ -168,9 +178,6 @@ length-token_rows start (t ∷ ts) = omega (arith, length-token_rows (start + le
 
 -- ** The joined tokens tell all of them.
 
-abbrev row_kinds : List TokenRow → List SyntaxKind
-row_kinds ts = map (λ t. t.kind) ts
-
 pub no_joined : (n : ℕ) (ts : List TokenRow) → joined_rows zero n [] ts ≡ ts
 no_joined n [] = refl
 no_joined n (t ∷ ts) = refl
@@ -194,11 +201,11 @@ abbrev BeginBehind : ℕ → List Joined → Type 0
 BeginBehind n [] = ⊤
 BeginBehind n (j ∷ js) = n ≤ j.number
 
-joined_behind : (us : List Taken) (p : Place) (n : ℕ) → n ≤ p.next → BeginBehind n (joined us p)
+joined_behind : (us : List Taken) (p : Place) (n : ℕ) → n ≤ p.next → BeginBehind n (joined_of us p)
 joined_behind [] p n le = tt
 joined_behind (u ∷ us) p n le =
     elim (is_alone u.kind u.size p.kinds)
-    as (λ b. BeginBehind n ((if b then [] else record { number = p.next; kind = u.kind; size = u.size } ∷ []) ++ joined us (behind_token u.size p)))
+    as (λ b. BeginBehind n ((if b then [] else record { number = p.next; kind = u.kind; size = u.size } ∷ []) ++ joined_of us (behind_token u.size p)))
     [ true ↦ joined_behind us (behind_token u.size p) n (omega (arith, le)) | false ↦ le ]
 
 -- a row in front of all of them stands as it is
@@ -210,12 +217,12 @@ row_kept n (j ∷ js) t ts h =
     ap (λ b. if b then (record { kind = j.kind; start = t.start } ∷ joined_rows (j.size - 1) (1 + n) js ts) else (t ∷ joined_rows zero (1 + n) (j ∷ js) ts)) other
 
 -- what is joined depends on what comes next alone
-joined_same : (us : List Taken) (p q : Place) → p.next ≡ q.next → p.kinds ≡ q.kinds → joined us p ≡ joined us q
+joined_same : (us : List Taken) (p q : Place) → p.next ≡ q.next → p.kinds ≡ q.kinds → joined_of us p ≡ joined_of us q
 joined_same [] p q e f = refl
 joined_same (u ∷ us) p q e f =
-    ap (λ ks. (if is_alone u.kind u.size ks then [] else record { number = p.next; kind = u.kind; size = u.size } ∷ []) ++ joined us (behind_token u.size p)) f
-    ∙ ap (λ n. (if is_alone u.kind u.size q.kinds then [] else record { number = n; kind = u.kind; size = u.size } ∷ []) ++ joined us (behind_token u.size p)) e
-    ∙ ap (λ r. (if is_alone u.kind u.size q.kinds then [] else record { number = q.next; kind = u.kind; size = u.size } ∷ []) ++ joined us r)
+    ap (λ ks. (if is_alone u.kind u.size ks then [] else record { number = p.next; kind = u.kind; size = u.size } ∷ []) ++ joined_of us (behind_token u.size p)) f
+    ∙ ap (λ n. (if is_alone u.kind u.size q.kinds then [] else record { number = n; kind = u.kind; size = u.size } ∷ []) ++ joined_of us (behind_token u.size p)) e
+    ∙ ap (λ r. (if is_alone u.kind u.size q.kinds then [] else record { number = q.next; kind = u.kind; size = u.size } ∷ []) ++ joined_of us r)
     (ap (λ n. place_at (1 + n) (behind_solid u.size p.kinds)) e ∙ ap (λ ks. place_at (1 + q.next) (behind_solid u.size ks)) f)
 
 pub behind_nothing : (ks : List SyntaxKind) → behind_solid zero ks ≡ ks
@@ -229,66 +236,66 @@ behind_one (suc n) k ks lt e =
 
 -- in front of the rows that are left behind what was taken last
 abbrev front : ℕ → ℕ → List TokenRow → Place
-front left n ts = place_at n (behind_solid left (row_kinds ts))
+front left n ts = place_at n (behind_solid left (kinds_of ts))
 
 -- a row of a solid token: what was taken there
 taken_solid : (u : Taken) (us : List Taken) (n : ℕ) (t : TokenRow) (ts : List TokenRow) → 0 < u.size → is_trivia t.kind ≡ false
-    → joined_rows (u.size - 1) (1 + n) (joined us (front (u.size - 1) (1 + n) ts)) ts ≡ taken_rows (u.size - 1) us ts
-    → joined_rows zero n (joined (u ∷ us) (front zero n (t ∷ ts))) (t ∷ ts) ≡ taken_rows zero (u ∷ us) (t ∷ ts)
+    → joined_rows (u.size - 1) (1 + n) (joined_of us (front (u.size - 1) (1 + n) ts)) ts ≡ taken_rows (u.size - 1) us ts
+    → joined_rows zero n (joined_of (u ∷ us) (front zero n (t ∷ ts))) (t ∷ ts) ≡ taken_rows zero (u ∷ us) (t ∷ ts)
 taken_solid u us n t ts lt solid rest =
-    let ks = row_kinds ts in
+    let ks = kinds_of ts in
     let here : Place = front zero n (t ∷ ts) in
     let next : Place = front (u.size - 1) (1 + n) ts in
     let joint : Joined = record { number = n; kind = u.kind; size = u.size } in
     let taken : TokenRow = record { kind = u.kind; start = t.start } in
     let behind : Place → List Joined = λ p.
-    (if is_alone u.kind u.size p.kinds then [] else record { number = p.next; kind = u.kind; size = u.size } ∷ []) ++ joined us next in
+    (if is_alone u.kind u.size p.kinds then [] else record { number = p.next; kind = u.kind; size = u.size } ∷ []) ++ joined_of us next in
     let number : here.next ≡ n = ap (λ b. n + (if b then 1 + leading ks else 0)) solid ∙ omega arith in
     let kinds : here.kinds ≡ t.kind ∷ ks = ap (λ b. if b then behind_trivia ks else t.kind ∷ ks) solid in
     let left : behind_solid u.size here.kinds ≡ behind_solid (u.size - 1) ks = ap (behind_solid u.size) kinds ∙ behind_one u.size t.kind ks lt solid in
     let place : behind_token u.size here ≡ next =
     ap (λ m. place_at (1 + m) (behind_solid u.size here.kinds)) number ∙ ap (place_at (1 + n)) left in
-    let all : joined (u ∷ us) here ≡ (if is_alone u.kind u.size (t.kind ∷ ks) then [] else joint ∷ []) ++ joined us next =
-    ap (λ p. (if is_alone u.kind u.size here.kinds then [] else record { number = here.next; kind = u.kind; size = u.size } ∷ []) ++ joined us p) place
-    ∙ ap (λ l. (if is_alone u.kind u.size l then [] else record { number = here.next; kind = u.kind; size = u.size } ∷ []) ++ joined us next) kinds
-    ∙ ap (λ m. (if is_alone u.kind u.size (t.kind ∷ ks) then [] else record { number = m; kind = u.kind; size = u.size } ∷ []) ++ joined us next) number in
+    let all : joined_of (u ∷ us) here ≡ (if is_alone u.kind u.size (t.kind ∷ ks) then [] else joint ∷ []) ++ joined_of us next =
+    ap (λ p. (if is_alone u.kind u.size here.kinds then [] else record { number = here.next; kind = u.kind; size = u.size } ∷ []) ++ joined_of us p) place
+    ∙ ap (λ l. (if is_alone u.kind u.size l then [] else record { number = here.next; kind = u.kind; size = u.size } ∷ []) ++ joined_of us next) kinds
+    ∙ ap (λ m. (if is_alone u.kind u.size (t.kind ∷ ks) then [] else record { number = m; kind = u.kind; size = u.size } ∷ []) ++ joined_of us next) number in
     let told : taken_rows zero (u ∷ us) (t ∷ ts) ≡ taken ∷ taken_rows (u.size - 1) us ts =
     ap (λ b. if b then t ∷ taken_rows zero (u ∷ us) ts else (taken ∷ taken_rows (u.size - 1) us ts)) solid in
     elim (cases_Bool (is_alone u.kind u.size (t.kind ∷ ks))) [
       | inl alone ↦
           let is = and_parts (same_kind t.kind u.kind) (u.size == 1) alone in
           let one : u.size - 1 ≡ zero = omega (arith, eqb-true u.size 1 is.1) in
-          let js = all ∙ ap (λ b. (if b then [] else joint ∷ []) ++ joined us next) alone in
+          let js = all ∙ ap (λ b. (if b then [] else joint ∷ []) ++ joined_of us next) alone in
           ap (λ l. joined_rows zero n l (t ∷ ts)) js
-          ∙ row_kept n (joined us next) t ts (joined_behind us next (1 + n) (omega arith))
-          ∙ ap (λ m. t ∷ joined_rows m (1 + n) (joined us next) ts) (sym one)
+          ∙ row_kept n (joined_of us next) t ts (joined_behind us next (1 + n) (omega arith))
+          ∙ ap (λ m. t ∷ joined_rows m (1 + n) (joined_of us next) ts) (sym one)
           ∙ ap (λ l. t ∷ l) rest
           ∙ ap (λ k. record { kind = k; start = t.start } ∷ taken_rows (u.size - 1) us ts) (same_kind-equal t.kind u.kind is.0)
           ∙ sym told
       | inr other ↦
-          let js = all ∙ ap (λ b. (if b then [] else joint ∷ []) ++ joined us next) other in
+          let js = all ∙ ap (λ b. (if b then [] else joint ∷ []) ++ joined_of us next) other in
           ap (λ l. joined_rows zero n l (t ∷ ts)) js
-          ∙ ap (λ b. if b then (taken ∷ joined_rows (u.size - 1) (1 + n) (joined us next) ts) else (t ∷ joined_rows zero (1 + n) (joint ∷ joined us next) ts))
+          ∙ ap (λ b. if b then (taken ∷ joined_rows (u.size - 1) (1 + n) (joined_of us next) ts) else (t ∷ joined_rows zero (1 + n) (joint ∷ joined_of us next) ts))
           (eq-eqb n n refl)
           ∙ ap (λ l. taken ∷ l) rest
           ∙ sym told
     ]
 
 pub joined_taken : (us : List Taken) (left n : ℕ) (ts : List TokenRow) → AreSolid us
-    → joined_rows left n (joined us (place_at n (behind_solid left (row_kinds ts)))) ts ≡ taken_rows left us ts
+    → joined_rows left n (joined_of us (place_at n (behind_solid left (kinds_of ts)))) ts ≡ taken_rows left us ts
 joined_taken [] zero n [] s = refl
 joined_taken (u ∷ us) zero n [] s = refl
 joined_taken us (suc left) n [] s = refl
 joined_taken us (suc left) n (t ∷ ts) s = joined_taken us (if is_trivia t.kind then suc left else left) n ts s
 joined_taken [] zero n (t ∷ ts) s = ap (λ l. t ∷ l) (sym (no_joined n ts) ∙ joined_taken [] zero n ts tt)
 joined_taken (u ∷ us) zero n (t ∷ ts) s =
-    let ks = row_kinds ts in
+    let ks = kinds_of ts in
     let here : Place = place_at n (t.kind ∷ ks) in
     let later : Place = place_at (1 + n) (behind_solid zero ks) in
-    let js = joined (u ∷ us) here in
+    let js = joined_of (u ∷ us) here in
     elim (cases_Bool (is_trivia t.kind)) [
       | inl blank ↦
-          let same : js ≡ joined (u ∷ us) later =
+          let same : js ≡ joined_of (u ∷ us) later =
           joined_same (u ∷ us) here later
           (omega (arith, ap (λ b. if b then 1 + leading ks else 0) blank, ap leading (behind_nothing ks)))
           (ap (λ b. if b then behind_trivia ks else t.kind ∷ ks) blank ∙ ap behind_trivia (sym (behind_nothing ks))) in

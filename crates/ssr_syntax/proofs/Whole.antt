@@ -5,13 +5,12 @@ use Rattle.ssr_syntax_forms.specs.declared.tokens.Token.{Token}
 use Rattle.ssr_syntax_types.specs.declared.goals.Goal.{Goal}
 use Rattle.ssr_syntax_forms.specs.declared.fault.Fault.TheVariants as faults
 use Rattle.ssr_syntax_forms.specs.Trees.{Forest, done, spell}
-use Rattle.ssr_syntax_forms.proofs.Shared.{IsShallow}
+use Rattle.ssr_syntax_forms.proofs.Shared.{IsShallow, FitsGoal, at_some_level, bind_ok, ok_one, cut_goals, lower_ranked, complete_goal, goals_spell, goals_sound}
 use Rattle.ssr_syntax_forms.specs.Fitting.{Fits}
 use Rattle.ssr_syntax_forms.specs.Forms.{SoFar, so_far, ◌>>=◌}
 use Rattle.ssr_syntax_forms.specs.Levels.{read_goal}
 use Rattle.ssr_syntax.specs.Grammar.{grammar}
 use Rattle.ssr_syntax.specs.Reading.{most_high, most_levels, whole, reading}
-use Rattle.ssr_syntax_forms.proofs.Shared.{FitsGoal, at_some_level, bind_ok, ok_one, cut_goals, lower_ranked, complete_goal, goals_spell, goals_sound}
 use Rattle.ssr_syntax.proofs.Checks.{tables, goal_keeps, goal_covered, goal_ranked, goal_may_end}
 
 whole_ok : (r : SoFar) (rest : List Token) (z : Forest) → r.rest ≡ rest → whole (so_far r.made rest) ≡ Ok z → (rest ≡ []) × (r.made ≡ z)

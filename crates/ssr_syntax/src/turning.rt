@@ -1,5 +1,5 @@
 //! Rows on their way from the parser's order to preorder, in one place, so that no second one is needed.
-ghost use Rattle.std.specs.Prelude.{◌≡◌, ◌<◌, ◌+◌, ◌-◌, ◌++◌, [], ◌∷◌, suc, length, reverse, IfSome, IfNone};
+ghost use Rattle.std.specs.Prelude.{◌≡◌, ◌<◌, ◌+◌, ◌++◌, [], ◌∷◌, suc, length, reverse, IfSome, IfNone};
 ghost use Rattle.ssr_syntax.specs.Private.Turning.{TurningRows, turned_of};
 
 use ssr_syntax_tree::{NodeRow, NodeRows};

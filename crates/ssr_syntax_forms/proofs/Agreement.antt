@@ -7,10 +7,9 @@ use Rattle.ssr_syntax_kinds.specs.declared.kinds.SyntaxKind.{SyntaxKind}
 use Rattle.ssr_syntax_forms.specs.declared.tokens.Token.{Token}
 use Rattle.ssr_syntax_forms.specs.declared.fault.Fault.{Fault}
 use Rattle.ssr_syntax_forms.specs.Trees.{Forest, done, spell}
-use Rattle.ssr_syntax_forms.specs.Parser.{Written, token_written}
+use Rattle.ssr_syntax_forms.specs.Parser.{Written, token_written, State, state_of, Mark, mark_at, took, repeated}
 use Rattle.ssr_syntax_forms.specs.Written.{writes}
 use Rattle.ssr_syntax_forms.specs.Forms.{Form, one, child, mark, seal, ◌then◌, nothing, choose, many, look, check, Test, more, taken_as, passes, agrees, holds, SoFar, so_far, ReadsBelow, read, past, first_leaf, repeat, beside, ◌>>=◌}
-use Rattle.ssr_syntax_forms.specs.Parser.{State, state_of, Mark, mark_at, took, repeated}
 use Rattle.ssr_syntax_forms.specs.Runs.{RunsBelow, run}
 use Rattle.ssr_syntax_forms.proofs.Joins.{writes-join}
 use Rattle.ssr_syntax_forms.proofs.Soundness.{past_ok}

@@ -4,10 +4,9 @@ use Rattle.ssr_syntax_forms.specs.declared.tokens.Token.{Token}
 use Rattle.ssr_syntax_forms.specs.declared.fault.Fault.{Fault}
 use Rattle.ssr_syntax_forms.specs.Trees.{Forest, done}
 use Rattle.ssr_syntax_kinds.specs.declared.kinds.SyntaxKind.{SyntaxKind}
-use Rattle.ssr_syntax_forms.specs.Parser.{Written, unwritten}
+use Rattle.ssr_syntax_forms.specs.Parser.{Written, unwritten, State, state_of}
 use Rattle.ssr_syntax_forms.specs.Written.{writes}
 use Rattle.ssr_syntax_forms.specs.Forms.{Productions, SoFar, so_far}
-use Rattle.ssr_syntax_forms.specs.Parser.{State, state_of}
 use Rattle.ssr_syntax_forms.specs.Levels.{read_goal}
 use Rattle.ssr_syntax_forms.specs.Runs.{run_goal}
 use Rattle.ssr_syntax_forms.proofs.Answers.{ok_one}

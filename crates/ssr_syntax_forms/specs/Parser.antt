@@ -1,16 +1,15 @@
 -- What the parser's functions do to what is written and to the tokens that are left.
-use Rattle.std.specs.Prelude.{◌≡◌, ◌≢◌, ℕ, ◌+◌, ◌-◌, ◌==◌, ◌&&◌, min, if◌then◌else◌, Bool, true, false, List, ◌∷◌, [], ◌++◌, length, take, Result, Ok, Err}
+use Rattle.std.specs.Prelude.{◌≡◌, ◌≢◌, ℕ, ◌+◌, ◌-◌, min, if◌then◌else◌, Bool, true, false, List, ◌∷◌, [], ◌++◌, length, take, Result, Ok, Err}
 use Rattle.std.specs.Borrow.{MutBor}
 use Rattle.ssr_syntax_kinds.specs.declared.kinds.SyntaxKind.{SyntaxKind}
 use Rattle.ssr_syntax_kinds.specs.declared.kinds.SyntaxKind.TheVariants.{COMMA}
-use Rattle.ssr_syntax_kinds.specs.Kinds.{same_kind}
 use Rattle.ssr_syntax_forms.specs.declared.tokens.Token.{Token}
 use Rattle.ssr_syntax_forms.specs.declared.rows.Output.{Output}
 use Rattle.ssr_syntax_forms.specs.declared.fault.Fault.{Fault}
 use Rattle.ssr_syntax_forms.specs.declared.fault.Fault.TheVariants as faults
 use Rattle.ssr_syntax_tree.specs.declared.rows.NodeRow.{NodeRow}
 use Rattle.ssr_syntax_forms.specs.declared.rows.Joined.{Joined}
-use Rattle.ssr_syntax_forms.specs.Places.{Place, place_at, behind_token}
+use Rattle.ssr_syntax_forms.specs.Places.{Place, place_at, behind_token, is_alone}
 use Rattle.ssr_syntax_forms.specs.Forms.{Test, at, more, taken_as, past, passes, agrees, repeat, ◌>>=◌}
 
 -- The rows of nodes and the joined tokens that are written, and where the parser is.
@@ -22,11 +21,6 @@ pub record Written : Type 0 where
 -- nothing, in front of tokens of these kinds
 abbrev pub unwritten : List SyntaxKind → Written
 unwritten kinds = record { rows = []; joined = []; place = place_at 0 kinds }
-
--- The next token of the grammar is one of the text as it is: of this kind, and no other is joined to it.
-abbrev pub is_alone : SyntaxKind → ℕ → List SyntaxKind → Bool
-is_alone kind size [] = false
-is_alone kind size (k ∷ ks) = same_kind k kind && size == 1
 
 -- A token of this kind, joined from so many solid ones, is taken: it is written, unless it is one of the text as it is.
 abbrev pub token_written : SyntaxKind → ℕ → Written → Written

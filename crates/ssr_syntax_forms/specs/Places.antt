@@ -1,8 +1,8 @@
 -- Where the parser is in a text: which token of the grammar comes next, what its number is among all tokens of the tree,
 -- and which of the text's tokens are left.
-use Rattle.std.specs.Prelude.{ℕ, zero, suc, ◌+◌, if◌then◌else◌, List, [], ◌∷◌}
+use Rattle.std.specs.Prelude.{ℕ, zero, suc, ◌+◌, ◌==◌, ◌&&◌, if◌then◌else◌, Bool, false, List, [], ◌∷◌}
 use Rattle.ssr_syntax_kinds.specs.declared.kinds.SyntaxKind.{SyntaxKind}
-use Rattle.ssr_syntax_kinds.specs.Kinds.{is_trivia}
+use Rattle.ssr_syntax_kinds.specs.Kinds.{is_trivia, same_kind}
 
 -- how many of the kinds in front are white space and comments
 abbrev pub leading : List SyntaxKind → ℕ
@@ -35,3 +35,8 @@ place_at end ks = record { end = end; next = end + leading ks; kinds = behind_tr
 -- behind the next token of the grammar, which is joined from so many solid ones of the text
 abbrev pub behind_token : ℕ → Place → Place
 behind_token size p = place_at (1 + p.next) (behind_solid size p.kinds)
+
+-- The next token of the grammar is one of the text as it is: of this kind, and no other is joined to it.
+abbrev pub is_alone : SyntaxKind → ℕ → List SyntaxKind → Bool
+is_alone kind size [] = false
+is_alone kind size (k ∷ ks) = same_kind k kind && size == 1

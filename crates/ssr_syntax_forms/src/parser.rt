@@ -8,15 +8,12 @@ ghost use Rattle.ssr_syntax_forms.specs.declared.fault.Fault.TheVariants as faul
 
 use crate::fault::Fault;
 use crate::places::Place;
-use crate::rows::{Joined, Output};
+use crate::rows::{Joined, MOST_COUNTED, Output};
 use crate::tokens::{Token, TokenSet, last_isnt, next, none_is, nth};
 use ssr_syntax_kinds::SyntaxKind;
 use ssr_syntax_tree::{NodeRow, NodeRows};
 use std::alloc::{AllocError, Global};
 use std::marker::Model;
-
-/// The most rows that are counted.
-const MOST: usize = u32::MAX as usize;
 
 /// Reads tokens, and writes the nodes of their tree and its joined tokens. A call that writes may answer want of memory;
 /// after an `Err` nothing is known of the state.
@@ -99,7 +96,7 @@ impl<'a> Parser<'a> {
         ensures { Steps self.new result (Ok (close kind mark.now self.old)) }
     {
         let below = self.out.rows.len().saturating_sub(mark.made);
-        if below > MOST {
+        if below > MOST_COUNTED {
             return Err(Fault::Memory);
         }
         let past = self.place.end();

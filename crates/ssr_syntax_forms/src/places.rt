@@ -1,15 +1,12 @@
 //! Where the parser is in a text: which token of the grammar comes next, what its number is among all tokens of the tree,
 //! and which of the text's tokens are left.
 ghost use Rattle.std.specs.Prelude.{◌≡◌, IfOk};
-ghost use Rattle.ssr_syntax_forms.specs.Parser.{is_alone};
-ghost use Rattle.ssr_syntax_forms.specs.Places.{behind_trivia, behind_solid, behind_token, place_at};
+ghost use Rattle.ssr_syntax_forms.specs.Places.{behind_trivia, behind_solid, behind_token, is_alone, place_at};
 
+use crate::rows::MOST_COUNTED;
 use ssr_syntax_kinds::SyntaxKind;
 use std::alloc::AllocError;
 use std::marker::Model;
-
-/// The most tokens of a tree that are counted.
-const MOST: usize = u32::MAX as usize;
 
 /// Between two tokens of the grammar.
 #[derive(Drop)]
@@ -73,7 +70,7 @@ impl<'a> Place<'a> {
     {
         let rest = behind_trivia(kinds);
         let leading = kinds.len() - rest.len();
-        if end > MOST || leading > MOST - end {
+        if end > MOST_COUNTED || leading > MOST_COUNTED - end {
             return Err(AllocError);
         }
         Ok(Place {

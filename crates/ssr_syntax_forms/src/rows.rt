@@ -3,6 +3,9 @@
 use ssr_syntax_kinds::SyntaxKind;
 use ssr_syntax_tree::NodeRows;
 
+/// The most rows, and the most tokens of a tree, that are counted.
+pub(crate) const MOST_COUNTED: usize = u32::MAX as usize;
+
 /// A token of a tree that is none of the text as it is: where the kinds are the text's, one that is joined from several.
 #[derive(Clone, Copy)]
 pub struct Joined {

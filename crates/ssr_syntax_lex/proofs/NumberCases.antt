@@ -1,5 +1,5 @@
 -- The number at the front, by the run that it begins with and what the code finds behind it.
-use Rattle.std.proofs.Common.{◌≡◌, ℕ, suc, ◌-◌, ◌==◌, Bool, true, false, not, ◌&&◌, ◌||◌, if◌then◌else◌, [], ◌∷◌, length, drop, refl, sym, ap, subst, ◌∙◌}
+use Rattle.std.proofs.Common.{◌≡◌, ℕ, suc, ◌-◌, ◌==◌, Bool, true, false, not, ◌&&◌, ◌||◌, if◌then◌else◌, [], ◌∷◌, length, drop, refl, sym, ap, subst, ◌∙◌, arith, ne_eqb}
 use Rattle.std.specs.List.{list_all}
 use Rattle.std.proofs.lemmas.Bool.{and_parts, and_right, eqb-true}
 use Rattle.ssr_syntax_lex.specs.Private.Steps.{comes_point}
@@ -9,7 +9,6 @@ use Rattle.ssr_syntax_lex.specs.Numbers.{Part, with_run, has_radix, ends_with_ex
 use Rattle.ssr_syntax_kinds.specs.declared.kinds.SyntaxKind.TheVariants as k
 use Rattle.ssr_syntax_lex.proofs.PointLaws.{pointed_sign}
 use Rattle.ssr_syntax_lex.proofs.NumberLaws.{all_passed, no_mark}
-use Rattle.std.proofs.Common.{arith, ne_eqb}
 
 whole_is : (cs text rest : Chars) → text ≡ run continues_word cs → rest ≡ past continues_word cs → ◌≡◌ {A = Part} (text, rest) (whole_run cs)
 whole_is cs text rest t r =

@@ -1,6 +1,6 @@
 -- The tokens' ranges are the whole text in order.
 use Rattle.std.proofs.Common.{◌≡◌, ℕ, suc, zero, ◌+◌, ◌-◌, ◌<◌, ◌≤◌, List, [], ◌∷◌, ◌++◌, length, drop, refl, sym, ap, subst, ◌∙◌, arith, append_assoc, length-append}
-use Rattle.std.specs.Prelude.{Option, Some, None, slice_range, encode_utf8_all, IsCharBoundary}
+use Rattle.std.specs.Prelude.{Option, Some, None, slice_range, encode_utf8_all, IsCharBoundary, Result, Ok, Err, Vec, IfOk}
 use Rattle.std.specs.Option.{option_map, option_and_then}
 use Rattle.std.specs.Str.{chars, IsUtf8}
 use Rattle.std.proofs.lemmas.List.{take-append-drop, drop-drop, drop_all}
@@ -8,14 +8,12 @@ use Rattle.std.proofs.lemmas.Option.{same_Some}
 use Rattle.std.proofs.lemmas.Str.{encodes-append, encodes-chars, IsUtf8-past_char, IsCharBoundary-at_seam}
 use Rattle.ssr_syntax_lex.specs.Cursor.{Chars}
 use Rattle.ssr_syntax_lex.specs.Raw.{Taken, token}
-use Rattle.ssr_syntax_lex.specs.Tokens.{size, range_of, in_front, dots_behind, tokens_from, tokens, token_text, spell, TilesFrom, Tiles}
+use Rattle.ssr_syntax_lex.specs.Tokens.{size, range_of, in_front, dots_behind, tokens_from, tokens, token_text, spell, TilesFrom, Tiles, Lexes}
 use Rattle.ssr_syntax_kinds.specs.declared.kinds.SyntaxKind.{SyntaxKind}
 use Rattle.ssr_syntax_lex.specs.declared.tokens.RawToken.{RawToken}
 use Rattle.ssr_syntax_lex.proofs.Fronts.{Follows, token_leaves, shorter}
-use Rattle.std.specs.Prelude.{Result, Ok, Err, Vec, IfOk}
 use Rattle.std.specs.declared.alloc.Global.{Global}
 use Rattle.ssr_syntax_lex.specs.declared.tokens.LexError.{LexError}
-use Rattle.ssr_syntax_lex.specs.Tokens.{Lexes}
 
 -- the end of a text is a text
 ends_utf8 : (taken rest : Chars) → IsUtf8 (encode_utf8_all (taken ++ rest)) → IsUtf8 (encode_utf8_all rest)

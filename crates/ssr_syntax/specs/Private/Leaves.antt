@@ -1,9 +1,7 @@
 -- Private: what is written of a forest, in lists.
-use Rattle.std.specs.Prelude.{ℕ, min, if◌then◌else◌, List, [], ◌∷◌, ◌++◌, length}
+use Rattle.std.specs.Prelude.{ℕ, min, List, [], ◌∷◌, ◌++◌, length}
 use Rattle.ssr_syntax_kinds.specs.declared.kinds.SyntaxKind.{SyntaxKind}
 use Rattle.ssr_syntax_tree.specs.declared.rows.NodeRow.{NodeRow}
-use Rattle.ssr_syntax_forms.specs.declared.rows.Joined.{Joined}
-use Rattle.ssr_syntax_forms.specs.Parser.{is_alone}
 use Rattle.ssr_syntax_forms.specs.Places.{Place, behind_token}
 use Rattle.ssr_syntax_forms.specs.Trees.{Forest, done, leaf, tree, nodes}
 
@@ -22,13 +20,6 @@ leaves (tree kind kids x) = leaves kids ++ leaves x
 abbrev pub after : List Taken → Place → Place
 after [] p = p
 after (u ∷ us) p = after us (behind_token u.size p)
-
--- those of them that are no token of the text as it is
-abbrev pub joined : List Taken → Place → List Joined
-joined [] p = []
-joined (u ∷ us) p =
-    (if is_alone u.kind u.size p.kinds then [] else record { number = p.next; kind = u.kind; size = u.size } ∷ [])
-    ++ joined us (behind_token u.size p)
 
 -- a node of these tokens, of which the parser stands in front: where it begins and ends
 abbrev pub first_in : List Taken → Place → ℕ

@@ -3,18 +3,8 @@ use Rattle.std.specs.Prelude.{ℕ, zero, suc, ◌+◌, ◌-◌, ◌==◌, if◌t
 use Rattle.ssr_syntax_kinds.specs.Kinds.{is_trivia}
 use Rattle.ssr_syntax_kinds.specs.declared.token_rows.TokenRow.{TokenRow}
 use Rattle.ssr_syntax_forms.specs.declared.rows.Joined.{Joined}
-use Rattle.ssr_syntax.specs.Private.Leaves.{Taken}
 
--- by all tokens that are taken; the one that was taken last has `left` solid ones more
-abbrev pub taken_rows : ℕ → List Taken → List TokenRow → List TokenRow
-taken_rows left us [] = []
-taken_rows zero [] (t ∷ ts) = t ∷ taken_rows zero [] ts
-taken_rows zero (u ∷ us) (t ∷ ts) =
-    if is_trivia t.kind then t ∷ taken_rows zero (u ∷ us) ts
-    else (record { kind = u.kind; start = t.start } ∷ taken_rows (u.size - 1) us ts)
-taken_rows (suc n) us (t ∷ ts) = taken_rows (if is_trivia t.kind then suc n else n) us ts
-
--- by the joined ones alone: the next token of the tree has the number n
+-- The joined ones are told; the next token of the tree has the number n, and the one in front `left` solid ones more.
 abbrev pub joined_rows : ℕ → ℕ → List Joined → List TokenRow → List TokenRow
 joined_rows left n js [] = []
 joined_rows zero n [] (t ∷ ts) = t ∷ ts

@@ -1,7 +1,6 @@
-use Rattle.std.proofs.Common.{Some, map, sym, ap, ◌∙◌}
+use Rattle.std.proofs.Common.{Some, map, sym, ap, ◌∙◌, ℕ, cond, None}
 use Rattle.std.specs.Prelude.{Vec}
 use Rattle.std.specs.Global.{Global}
-use Rattle.std.proofs.Common.{ℕ, cond, None}
 use Rattle.std.specs.Option.{option_map, option_or}
 use Rattle.ssr_base.specs.Workspace.{node_id, same_id}
 use Rattle.ssr_facts.specs.Told.{type_of}

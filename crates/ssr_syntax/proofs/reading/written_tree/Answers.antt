@@ -11,10 +11,11 @@ use Rattle.ssr_syntax.specs.MacroRules.{misnames_macros}
 use Rattle.ssr_syntax.specs.declared.syntax_error.SyntaxError.TheVariants as errors
 use Rattle.ssr_syntax.specs.Private.Preorder.{tree_rows}
 use Rattle.ssr_syntax.specs.Private.Reading.{IsWritten}
-use Rattle.ssr_syntax.specs.Private.TreeTokens.{taken_rows, joined_rows}
+use Rattle.ssr_syntax.specs.Private.TreeTokens.{joined_rows}
 use Rattle.ssr_syntax.specs.Reading.{pieces, tree_reading}
 use Rattle.ssr_syntax.proofs.Texts.{WrittenOfText, written_read, depth_fault, told_on, whole_parts, count_fits, read_ok, read_misnamed, refused, start_of, tokens_told}
 use Rattle.ssr_syntax.proofs.TextRows.{rows_count}
+use Rattle.ssr_syntax.proofs.TreeTokens.{taken_rows}
 use Rattle.ssr_syntax.proofs.reading.written_tree.Goals as goal
 use Rattle.ssr_syntax.proofs.reading.written_tree.Goals.{After-deref, In_ok-nodes}
 
