@@ -11,7 +11,7 @@ use Rattle.ssr_syntax_tree.specs.Places.{HasNode, offset_of}
 use Rattle.ssr_syntax_tree.proofs.Shared.{offset_grows}
 use Rattle.ssr_base.specs.declared.ids.FileRange.{FileRange}
 use Rattle.ssr_base.specs.declared.ids.NodeId.{NodeId}
-use Rattle.ssr_base.specs.Workspace.{Workspace, Planted, FileSpan, of_file, trees, planted, tree_of, file_span_of}
+use Rattle.ssr_base.specs.Workspace.{Workspace, Planted, FileSpan, of_file, trees, with_number, tree_of, file_span_of}
 use Rattle.ssr_base.specs.Built.{IsNodeOf}
 use Rattle.ssr_base.specs.Laws.{IsSpanOf, LiesInFile}
 use Rattle.ssr_base.proofs.Shared.{and_some, boundary_passes, planted-file, some_and, span_of_text}
@@ -25,7 +25,7 @@ use Rattle.ide_ssr.specs.Comments.{token_span, comment_spans}
 -- there is the tree of a node
 pub tree_there : (w : Workspace) (x : NodeId) → IsNodeOf (trees w) x → tree_of w x.tree ≡ None → ⊥
 tree_there w x node is =
-    let had = some_and (planted (trees w) x.tree) (λ p. HasNode p.syntax x.node.0) node in
+    let had = some_and (with_number (trees w) x.tree) (λ p. HasNode p.syntax x.node.0) node in
     none-some had.0.syntax (sym is ∙ ap (option_map (λ (p : Planted). p.syntax)) had.1)
 
 syntax_of_file : (o : Option Syntax) (s : Syntax) → option_map (λ (p : Planted). p.syntax) (option_map of_file o) ≡ Some s → o ≡ Some s

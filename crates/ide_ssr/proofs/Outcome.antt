@@ -6,7 +6,7 @@ use Rattle.std.proofs.lemmas.List.Elements.{Contains-get_or}
 use Rattle.std.proofs.lemmas.Option.{get_or_from_slice_get, slice_get_within}
 use Rattle.ssr_syntax_tree.specs.Places.{node_of, root_of}
 use Rattle.ssr_base.specs.Meanings.{Meanings}
-use Rattle.ssr_base.specs.Workspace.{Workspace, Planted, planted, trees}
+use Rattle.ssr_base.specs.Workspace.{Workspace, Planted, with_number, trees}
 use Rattle.ide_ssr_resolving.specs.Patterns.{HasEachOnce, AreInArguments, placeholders_of}
 use Rattle.ide_ssr_resolving.specs.Resolved.{ResolvedKind}
 use Rattle.ide_ssr_found.specs.declared.bindings.Binding.{Binding}
@@ -40,7 +40,7 @@ found_of_rule w meanings context rules m each in_arguments found =
       rule = rule;
       is_rule = found.is_rule;
       numbered =
-          bound_at meanings m.node.tree rule known (planted (trees w) m.node.tree) m.node.node.0 m.bindings found.whole.matches
+          bound_at meanings m.node.tree rule known (with_number (trees w) m.node.tree) m.node.node.0 m.bindings found.whole.matches
           ∙ has.bound;
       different = has.different;
     }

@@ -9,7 +9,7 @@ use Rattle.ssr_syntax_tree.specs.Syntax.{Syntax}
 use Rattle.ssr_base.specs.declared.ids.TokenRun.{TokenRun}
 use Rattle.ssr_base.specs.Laws.{LiesIn}
 use Rattle.ssr_base.specs.Origins.{Span}
-use Rattle.ssr_base.specs.Workspace.{Workspace, Planted, FileSpan, trees, planted, tree_of, file_of, node_id, has_run, original_run_in, original_run, original_range, run_range}
+use Rattle.ssr_base.specs.Workspace.{Workspace, Planted, FileSpan, trees, with_number, tree_of, file_of, node_id, has_run, original_run_in, original_run, original_range, run_range}
 use Rattle.ssr_base.proofs.Shared.{and_some}
 use Rattle.ide_ssr_found.specs.declared.bindings.Held.{Held}
 use Rattle.ide_ssr_found.specs.declared.bindings.Held.TheVariants as held
@@ -18,22 +18,22 @@ use Rattle.ide_ssr_found.specs.Found.{Found, range_of_held, IsInRange, IsMatch}
 use Rattle.ide_ssr_found.proofs.Nodes.{is_tree, in_tree, ranged_node, has_node}
 
 -- tokens with an original range are tokens of their tree
-ranged_tokens : (ts : List Planted) (t : ℕ) (run : TokenRun) → IsSome (run_range ts t run) → IsSomeAnd (planted ts t) (λ p. has_run p.syntax run ≡ true)
+ranged_tokens : (ts : List Planted) (t : ℕ) (run : TokenRun) → IsSome (run_range ts t run) → IsSomeAnd (with_number ts t) (λ p. has_run p.syntax run ≡ true)
 ranged_tokens ts t run = by (original_run ts t run) refl
   where
     in_file : Span → FileSpan
     in_file span = record { file = file_of ts t; span = span }
 
-    tested : (p : Planted) (span : Span) → planted ts t ≡ Some p → (b : Bool) → has_run p.syntax run ≡ b
-        → ◌≡◌ {A = Option Span} (if b then original_run_in p run else None) (Some span) → IsSomeAnd (planted ts t) (λ p. has_run p.syntax run ≡ true)
-    tested p span is true test here = and_some (planted ts t) (λ p. has_run p.syntax run ≡ true) p is test
+    tested : (p : Planted) (span : Span) → with_number ts t ≡ Some p → (b : Bool) → has_run p.syntax run ≡ b
+        → ◌≡◌ {A = Option Span} (if b then original_run_in p run else None) (Some span) → IsSomeAnd (with_number ts t) (λ p. has_run p.syntax run ≡ true)
+    tested p span is true test here = and_some (with_number ts t) (λ p. has_run p.syntax run ≡ true) p is test
     tested p span is false test here = cc
 
-    by : (o : Option Span) → original_run ts t run ≡ o → IsSome (option_map in_file o) → IsSomeAnd (planted ts t) (λ p. has_run p.syntax run ≡ true)
+    by : (o : Option Span) → original_run ts t run ≡ o → IsSome (option_map in_file o) → IsSomeAnd (with_number ts t) (λ p. has_run p.syntax run ≡ true)
     by None is ranged = absurd (false≢true ranged)
     by (Some span) is ranged =
-        option_and_then_some {P = IsSomeAnd (planted ts t) (λ p. has_run p.syntax run ≡ true)} (λ p. if has_run p.syntax run then original_run_in p run else None)
-        (planted ts t) span is
+        option_and_then_some {P = IsSomeAnd (with_number ts t) (λ p. has_run p.syntax run ≡ true)} (λ p. if has_run p.syntax run then original_run_in p run else None)
+        (with_number ts t) span is
         (λ p plants here. tested p span plants (has_run p.syntax run) refl here)
 
 -- what is held and has an original range is there

@@ -8,7 +8,7 @@ use Rattle.ssr_syntax_tree.specs.Syntax.{Syntax, node_count}
 use Rattle.ssr_syntax_tree.specs.Places.{HasNode, node_of}
 use Rattle.ssr_base.specs.declared.ids.NodeId.{NodeId}
 use Rattle.ssr_base.specs.Origins.{Span}
-use Rattle.ssr_base.specs.Workspace.{Workspace, Planted, FileSpan, trees, planted, tree_of, file_of, has_node as is_node, told_of, original_in, original, original_range}
+use Rattle.ssr_base.specs.Workspace.{Workspace, Planted, FileSpan, trees, with_number, tree_of, file_of, has_node as is_node, told_of, original_in, original, original_range}
 use Rattle.ssr_base.specs.Built.{IsNodeOf}
 use Rattle.ssr_base.proofs.Shared.{some_and, and_some, mapped}
 
@@ -17,21 +17,21 @@ use Rattle.ssr_base.proofs.Shared.{some_and, and_some, mapped}
 -- a tree of the number t
 pub record IsTree (ts : List Planted) (t : ℕ) (s : Syntax) : Type 0 where
   pub tree : Planted
-  pub is : planted ts t ≡ Some tree
+  pub is : with_number ts t ≡ Some tree
   pub same : tree.syntax ≡ s
 
 pub is_tree : (w : Workspace) (t : ℕ) (s : Syntax) → tree_of w t ≡ Some s → IsTree (trees w) t s
 is_tree w t s is =
-    let had = mapped (λ (p : Planted). p.syntax) (planted (trees w) t) s is in
+    let had = mapped (λ (p : Planted). p.syntax) (with_number (trees w) t) s is in
     record { tree = had.0; is = had.1; same = had.2 }
 
 -- what is said of a tree that is there
-pub of_tree : (ts : List Planted) (t : ℕ) (s : Syntax) (P : Syntax → Type 0) → IsTree ts t s → P s → IsSomeAnd (planted ts t) (λ p. P p.syntax)
-of_tree ts t s P at known = and_some (planted ts t) (λ p. P p.syntax) at.tree at.is (subst P (sym at.same) known)
+pub of_tree : (ts : List Planted) (t : ℕ) (s : Syntax) (P : Syntax → Type 0) → IsTree ts t s → P s → IsSomeAnd (with_number ts t) (λ p. P p.syntax)
+of_tree ts t s P at known = and_some (with_number ts t) (λ p. P p.syntax) at.tree at.is (subst P (sym at.same) known)
 
-pub in_tree : (ts : List Planted) (t : ℕ) (s : Syntax) (P : Syntax → Type 0) → IsTree ts t s → IsSomeAnd (planted ts t) (λ p. P p.syntax) → P s
+pub in_tree : (ts : List Planted) (t : ℕ) (s : Syntax) (P : Syntax → Type 0) → IsTree ts t s → IsSomeAnd (with_number ts t) (λ p. P p.syntax) → P s
 in_tree ts t s P at known =
-    let had = some_and (planted ts t) (λ p. P p.syntax) known in
+    let had = some_and (with_number ts t) (λ p. P p.syntax) known in
     subst P (ap (λ (p : Planted). p.syntax) (same_Some had.0 at.tree (sym had.1 ∙ at.is)) ∙ at.same) had.2
 
 -- ** Nodes.
@@ -39,12 +39,12 @@ in_tree ts t s P at known =
 -- what is told is told of a node
 pub told_node : {A : Type 0} (tell : Planted → Option A) (ts : List Planted) (x : NodeId) (value : A) → told_of tell ts x ≡ Some value → IsNodeOf ts x
 told_node {A} tell ts x value told =
-    option_and_then_some {P = IsNodeOf ts x} (λ p. if is_node p.syntax x.node.0 then tell p else None) (planted ts x.tree) value told
+    option_and_then_some {P = IsNodeOf ts x} (λ p. if is_node p.syntax x.node.0 then tell p else None) (with_number ts x.tree) value told
     (λ p is here. tested p is (is_node p.syntax x.node.0) refl here)
   where
-    tested : (p : Planted) → planted ts x.tree ≡ Some p → (b : Bool) → is_node p.syntax x.node.0 ≡ b → ◌≡◌ {A = Option A} (if b then tell p else None) (Some value)
+    tested : (p : Planted) → with_number ts x.tree ≡ Some p → (b : Bool) → is_node p.syntax x.node.0 ≡ b → ◌≡◌ {A = Option A} (if b then tell p else None) (Some value)
         → IsNodeOf ts x
-    tested p is true test here = and_some (planted ts x.tree) (λ p. HasNode p.syntax x.node.0) p is (ltb-true x.node.0 (1 + node_count p.syntax.children) test)
+    tested p is true test here = and_some (with_number ts x.tree) (λ p. HasNode p.syntax x.node.0) p is (ltb-true x.node.0 (1 + node_count p.syntax.children) test)
     tested p is false test here = cc
 
 -- what has an original range is a node

@@ -37,7 +37,7 @@ use Rattle.ide_ssr_matching.specs.Bindings.{counted}
 use Rattle.ide_ssr_found.specs.declared.receivers.Receiver.{Receiver}
 use Rattle.ide_ssr_found.specs.Receivers.{is_node, received}
 use Rattle.ide_ssr_matching.specs.Sides.{Sides, kept}
-use Rattle.ide_ssr_matching.specs.Calls.{nodes_among, child_nodes, Called}
+use Rattle.ide_ssr_matching.specs.Calls.{nodes_among, child_nodes, PathCall}
 use Rattle.ide_ssr_matching.proofs.CallParts.{nodes_all, IsCalled, method_match, callee_used}
 use Rattle.ide_ssr_matching.proofs.Counted.{bare_all, first_has, counted_all, last_arguments_all}
 use Rattle.ide_ssr_matching.proofs.Numbered.{numbered}
@@ -230,7 +230,7 @@ module _ (m : Meanings) (tree : ℕ) (rule : ResolvedKind) (in_arguments : AreIn
 
   -- ** Calls.
 
-  callee_is_of : (p : Node) (call : Called) → IsCalled p call → IsOf rule.pattern p → IsOf rule.pattern call.path
+  callee_is_of : (p : Node) (call : PathCall) → IsCalled p call → IsOf rule.pattern p → IsOf rule.pattern call.path
   callee_is_of p call is_call is =
       let callee =
       All-head (IsOf rule.pattern) is_call.callee (is_call.list ∷ [])
@@ -240,13 +240,13 @@ module _ (m : Meanings) (tree : ℕ) (rule : ResolvedKind) (in_arguments : AreIn
       (subst (All (IsOf rule.pattern)) is_call.path
       (nodes_all (IsPartOf rule.pattern) (parts_of is_call.callee) (each_child rule.pattern is_call.callee callee)))
 
-  list_is_of : (p : Node) (call : Called) → (is : IsCalled p call) → IsOf rule.pattern p → IsOf rule.pattern is.list
+  list_is_of : (p : Node) (call : PathCall) → (is : IsCalled p call) → IsOf rule.pattern p → IsOf rule.pattern is.list
   list_is_of p call is_call is =
       All-head (IsOf rule.pattern) is_call.list []
       (All-tail (IsOf rule.pattern) is_call.callee (is_call.list ∷ [])
       (subst (All (IsOf rule.pattern)) is_call.nodes (nodes_all (IsPartOf rule.pattern) (parts_of p) (each_child rule.pattern p is))))
 
-  call_is_of : (p : Node) (call : Called) → IsCalled p call → IsOf rule.pattern p
+  call_is_of : (p : Node) (call : PathCall) → IsCalled p call → IsOf rule.pattern p
       → All (IsPartOf rule.pattern) (bare (arguments_of call.path) ++ map node_part call.arguments)
   call_is_of p call is_call is =
       let path = callee_is_of p call is_call is in
@@ -262,7 +262,7 @@ module _ (m : Meanings) (tree : ℕ) (rule : ResolvedKind) (in_arguments : AreIn
       (nodes_all (IsPartOf rule.pattern) (parts_of is_call.list) (each_child rule.pattern is_call.list list))))
 
   -- the placeholders of a call stand in the arguments of its callee and in its own
-  call_among : (p : Node) (call : Called) → IsCalled p call → IsOf rule.pattern p → (pattern_res rule call.path ≡ None → ⊥)
+  call_among : (p : Node) (call : PathCall) → IsCalled p call → IsOf rule.pattern p → (pattern_res rule call.path ≡ None → ⊥)
       → among rule.names (bare (arguments_of call.path) ++ map node_part call.arguments) ≡ placeholders_in rule.names p.children
   call_among p call is_call is uses =
       among_append rule.names (bare (arguments_of call.path)) (map node_part call.arguments)

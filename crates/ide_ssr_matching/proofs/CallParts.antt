@@ -18,7 +18,7 @@ use Rattle.ide_ssr_found.specs.declared.receivers.Receiver.{Receiver}
 use Rattle.ide_ssr_matching.specs.Children.{bare}
 use Rattle.ide_ssr_matching.specs.UsedPaths.{arguments_of, pattern_res}
 use Rattle.ide_ssr_matching.specs.Sides.{Sides}
-use Rattle.ide_ssr_matching.specs.Calls.{nodes_among, child_nodes, first_node, calls_same, Called, are_call, called_with, called_in, called, Method, method_in, method_call, method_pairs, alike_pairs, receiver_by, receiver_with, method_with, method_sides}
+use Rattle.ide_ssr_matching.specs.Calls.{nodes_among, child_nodes, first_node, calls_same, PathCall, are_call, called_with, called_in, called, Method, method_in, method_call, method_pairs, alike_pairs, receiver_by, receiver_with, method_with, method_sides}
 
 -- ** Nodes among parts.
 
@@ -48,7 +48,7 @@ found_has P kind (node ∷ rest) found is all =
 
 -- ** A call of the pattern.
 
-pub record IsCalled (p : Node) (call : Called) : Type 0 where
+pub record IsCalled (p : Node) (call : PathCall) : Type 0 where
   pub callee : Node
   pub list : Node
   pub nodes : child_nodes p ≡ callee ∷ list ∷ []
@@ -62,28 +62,28 @@ pub record IsCalled (p : Node) (call : Called) : Type 0 where
   pub arguments : child_nodes list ≡ call.arguments
   pub some : call.arguments ≡ first ∷ rest
 
-module _ (p : Node) (call : Called) where
+module _ (p : Node) (call : PathCall) where
   by_segment : (callee list path first : Node) (rest : List Node) → child_nodes p ≡ callee ∷ list ∷ [] → are_call callee list ≡ true → child_nodes callee ≡ path ∷ []
       → same_kind path.kind k.PATH ≡ true
       → child_nodes list ≡ first ∷ rest → (o : Option Node) → first_of_kind k.PATH_SEGMENT (parts_of path) ≡ o
-      → ◌≡◌ {A = Option Called} (option_map (λ _. record { path = path; arguments = first ∷ rest }) o) (Some call) → IsCalled p call
+      → ◌≡◌ {A = Option PathCall} (option_map (λ _. record { path = path; arguments = first ∷ rest }) o) (Some call) → IsCalled p call
   by_segment callee list path first rest nodes kinds inner is_path arguments None none is = absurd (none-some call is)
   by_segment callee list path first rest nodes kinds inner is_path arguments (Some segment) found is =
-      let made : Called = record { path = path; arguments = first ∷ rest } in
+      let made : PathCall = record { path = path; arguments = first ∷ rest } in
       let same = same_Some made call is in
       record {
         callee = callee;
         list = list;
         nodes = nodes;
         kinds = kinds;
-        path = inner ∙ ap (λ (call : Called). call.path ∷ []) same;
-        path_kind = subst (λ (call : Called). same_kind call.path.kind k.PATH ≡ true) same is_path;
+        path = inner ∙ ap (λ (call : PathCall). call.path ∷ []) same;
+        path_kind = subst (λ (call : PathCall). same_kind call.path.kind k.PATH ≡ true) same is_path;
         segment = segment;
-        has_segment = subst (λ (call : Called). first_of_kind k.PATH_SEGMENT (parts_of call.path) ≡ Some segment) same found;
+        has_segment = subst (λ (call : PathCall). first_of_kind k.PATH_SEGMENT (parts_of call.path) ≡ Some segment) same found;
         first = first;
         rest = rest;
-        arguments = arguments ∙ ap (λ (call : Called). call.arguments) same;
-        some = sym (ap (λ (call : Called). call.arguments) same);
+        arguments = arguments ∙ ap (λ (call : PathCall). call.arguments) same;
+        some = sym (ap (λ (call : PathCall). call.arguments) same);
       }
 
   by_inner : (callee list : Node) → child_nodes p ≡ callee ∷ list ∷ [] → are_call callee list ≡ true → (inner arguments : List Node) → child_nodes callee ≡ inner
@@ -93,7 +93,7 @@ module _ (p : Node) (call : Called) where
   by_inner callee list nodes kinds (path ∷ []) (first ∷ rest) inner_is arguments_are is = by_path (same_kind path.kind k.PATH) refl is
     where
       by_path : (b : Bool) → same_kind path.kind k.PATH ≡ b
-          → ◌≡◌ {A = Option Called} (cond b (option_map (λ _. record { path = path; arguments = first ∷ rest }) (first_of_kind k.PATH_SEGMENT (parts_of path))) None) (Some call)
+          → ◌≡◌ {A = Option PathCall} (cond b (option_map (λ _. record { path = path; arguments = first ∷ rest }) (first_of_kind k.PATH_SEGMENT (parts_of path))) None) (Some call)
           → IsCalled p call
       by_path true is_path is =
           by_segment callee list path first rest nodes kinds inner_is is_path arguments_are (first_of_kind k.PATH_SEGMENT (parts_of path)) refl is
@@ -114,7 +114,7 @@ module _ (p : Node) (call : Called) where
   is_called is = by_nodes (child_nodes p) refl is
 
 -- the callee is the first path expression of a call, and its path the first path below it
-module _ (p : Node) (found : Called) (call : IsCalled p found) where
+module _ (p : Node) (found : PathCall) (call : IsCalled p found) where
   pub first_expression : first_of_kind k.PATH_EXPR (parts_of p) ≡ Some call.callee
   first_expression =
       first_among_nodes k.PATH_EXPR (parts_of p) ∙ ap (first_node k.PATH_EXPR) call.nodes
@@ -129,7 +129,7 @@ module _ (p : Node) (found : Called) (call : IsCalled p found) where
 -- ** A qualified call against a method call.
 
 pub record IsMethodMatch (m : Meanings) (tree : ℕ) (rule : ResolvedKind) (call : QualifiedCall) (p c : Node) (sides : Sides) : Type 0 where
-  pub called_nodes : Called
+  pub called_nodes : PathCall
   pub is_called : IsCalled p called_nodes
   pub method : Method
   pub is_method : method_call c ≡ Some method
@@ -138,7 +138,7 @@ pub record IsMethodMatch (m : Meanings) (tree : ℕ) (rule : ResolvedKind) (call
   pub same : method_pairs called_nodes method receiver ≡ sides
 
 module _ (m : Meanings) (tree : ℕ) (rule : ResolvedKind) (call : QualifiedCall) (p c : Node) (sides : Sides) where
-  with_receiver : (called_nodes : Called) → IsCalled p called_nodes → (method : Method) → method_call c ≡ Some method → (o : Option Receiver)
+  with_receiver : (called_nodes : PathCall) → IsCalled p called_nodes → (method : Method) → method_call c ≡ Some method → (o : Option Receiver)
       → receiver_with m tree (pattern_res rule called_nodes.path) call.qualifier_type c.number method.receiver.number ≡ o
       → option_and_then (alike_pairs called_nodes method) o ≡ Some sides → IsMethodMatch m tree rule call p c sides
   with_receiver called_nodes is_call method is_method None none is = absurd (none-some sides is)
@@ -158,14 +158,14 @@ module _ (m : Meanings) (tree : ℕ) (rule : ResolvedKind) (call : QualifiedCall
       }
       by false is = absurd (none-some sides is)
 
-  with_called : (called_nodes : Called) → IsCalled p called_nodes → (o : Option Method) → method_call c ≡ o
+  with_called : (called_nodes : PathCall) → IsCalled p called_nodes → (o : Option Method) → method_call c ≡ o
       → option_and_then (method_with m tree rule call.qualifier_type c called_nodes) o ≡ Some sides → IsMethodMatch m tree rule call p c sides
   with_called called_nodes is_call None none is = absurd (none-some sides is)
   with_called called_nodes is_call (Some method) is_method is =
       with_receiver called_nodes is_call method is_method
       (receiver_with m tree (pattern_res rule called_nodes.path) call.qualifier_type c.number method.receiver.number) refl is
 
-  by_called : (o : Option Called) → called p ≡ o
+  by_called : (o : Option PathCall) → called p ≡ o
       → option_and_then (λ called. option_and_then (method_with m tree rule call.qualifier_type c called) (method_call c)) o ≡ Some sides
       → IsMethodMatch m tree rule call p c sides
   by_called None none is = absurd (none-some sides is)
@@ -176,18 +176,18 @@ module _ (m : Meanings) (tree : ℕ) (rule : ResolvedKind) (call : QualifiedCall
 
 -- a method call that calls something else
 module _ (m : Meanings) (tree : ℕ) (rule : ResolvedKind) (call : QualifiedCall) (p c : Node) where
-  pub uncalled : ((found : Called) → called p ≡ Some found → calls_same m (pattern_res rule found.path) (node_id tree c.number) ≡ false)
+  pub uncalled : ((found : PathCall) → called p ≡ Some found → calls_same m (pattern_res rule found.path) (node_id tree c.number) ≡ false)
       → method_sides m tree rule call p c ≡ None
   uncalled other = by (called p) refl
     where
-      by_method : (found : Called) → calls_same m (pattern_res rule found.path) (node_id tree c.number) ≡ false → (o : Option Method)
+      by_method : (found : PathCall) → calls_same m (pattern_res rule found.path) (node_id tree c.number) ≡ false → (o : Option Method)
           → option_and_then (method_with m tree rule call.qualifier_type c found) o ≡ None
       by_method found differs None = refl
       by_method found differs (Some method) =
           ap (λ b. option_and_then (alike_pairs found method) (cond b (receiver_by m tree call.qualifier_type c.number method.receiver.number) None))
           differs
 
-      by : (o : Option Called) → called p ≡ o
+      by : (o : Option PathCall) → called p ≡ o
           → option_and_then (λ called. option_and_then (method_with m tree rule call.qualifier_type c called) (method_call c)) o ≡ None
       by None is = refl
       by (Some found) is = by_method found (other found is) (method_call c)

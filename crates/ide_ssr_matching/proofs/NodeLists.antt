@@ -20,7 +20,7 @@ use Rattle.ide_ssr_resolving.specs.Resolved.{ResolvedKind}
 use Rattle.ide_ssr_matching.specs.declared.calls.CalledNodes.{CalledNodes}
 use Rattle.ide_ssr_matching.specs.declared.calls.MethodNodes.{MethodNodes}
 use Rattle.ide_ssr_found.specs.declared.receivers.Receiver.{Receiver}
-use Rattle.ide_ssr_matching.specs.Calls.{nodes_among, child_nodes, first_node, arguments_among, Called, called, method_call, method_parts, calls_same, derefs, receiver_by, receiver_with, alike_pairs, method_with, method_sides, takes_first, can_be_call}
+use Rattle.ide_ssr_matching.specs.Calls.{nodes_among, child_nodes, first_node, arguments_among, PathCall, called, method_call, method_parts, calls_same, derefs, receiver_by, receiver_with, alike_pairs, method_with, method_sides, takes_first, can_be_call}
 use Rattle.ide_ssr_matching.specs.UsedPaths.{pattern_res}
 use Rattle.ide_ssr_matching.specs.Private.Calls.{nodes_named, nodes_at, IsNodeBelow, called_at, AreCalledBelow, method_at, IsMethodBelow}
 use Rattle.ide_ssr_matching.specs.Private.Children.{IsBelow}
@@ -185,7 +185,7 @@ method_told ms number rule pattern code call n m found method o has called_is sa
     let method_nodes = method_at code method in
     let pairs = alike_pairs called_nodes method_nodes in
     let used = pattern_res rule called_nodes.path in
-    let with_called = λ (c : Called). option_and_then (method_with ms number rule type (node_of code m) c) (method_call (node_of code m)) in
+    let with_called = λ (c : PathCall). option_and_then (method_with ms number rule type (node_of code m) c) (method_call (node_of code m)) in
     ap (option_and_then pairs)
     (o_is
     ∙ ap (λ b. cond b (receiver_by ms number type m method.receiver.0) None) (sym same)

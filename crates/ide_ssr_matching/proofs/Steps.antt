@@ -17,7 +17,7 @@ use Rattle.ide_ssr_matching.specs.Children.{bare}
 use Rattle.ide_ssr_matching.specs.TokenTrees.{is_tree, is_plain}
 use Rattle.ide_ssr_matching.specs.UsedPaths.{arguments_of, pattern_res}
 use Rattle.ide_ssr_matching.specs.Sides.{Sides, kept}
-use Rattle.ide_ssr_matching.specs.Calls.{child_nodes, Called, call_of}
+use Rattle.ide_ssr_matching.specs.Calls.{child_nodes, PathCall, call_of}
 use Rattle.ide_ssr_token_trees.specs.Bindings.{joined}
 use Rattle.ide_ssr_matching.specs.Bindings.{Binder, pair_by, pairs_by, counted, counted_sides, can_match, like_sides, sides_in, sides_of, sides_by, other_by, node_by, step, bindings_by, bindings_of, like_pairs}
 use Rattle.ide_ssr_matching.specs.Records.{is_named, named_nodes, named_pairs}
@@ -58,7 +58,7 @@ counted_smaller None p = bare_all (IsSmaller (size_of p)) (parts_of p) (children
 nodes_smaller : (size : ℕ) (p : Node) → size_of p ≤ size → All (λ node. size_of node < size) (child_nodes p)
 nodes_smaller size p within = nodes_all (IsSmaller size) (parts_of p) (children_smaller size p within)
 
-call_smaller : (p : Node) (call : Called) → IsCalled p call → All (IsSmaller (size_of p)) (bare (arguments_of call.path) ++ map node_part call.arguments)
+call_smaller : (p : Node) (call : PathCall) → IsCalled p call → All (IsSmaller (size_of p)) (bare (arguments_of call.path) ++ map node_part call.arguments)
 call_smaller p call is =
     let size = size_of p in
     let two = subst (All (λ node. size_of node < size)) is.nodes (nodes_smaller size p (omega arith)) in

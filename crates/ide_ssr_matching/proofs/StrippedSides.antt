@@ -17,7 +17,7 @@ use Rattle.ide_ssr_resolving.specs.declared.qualified_calls.QualifiedCall.{Quali
 use Rattle.ide_ssr_resolving.specs.Resolved.{ResolvedKind}
 use Rattle.ide_ssr_found.specs.declared.receivers.Receiver.{Receiver}
 use Rattle.ide_ssr_matching.specs.Bindings.{stands_for, counted_sides, can_match, like_pairs, like_sides, sides_in, sides_of}
-use Rattle.ide_ssr_matching.specs.Calls.{child_nodes, arguments_among, Method, method_call, Called, called, call_of, same_type, derefs, calls_same, method_parts, alike_pairs, receiver_with, method_with, method_sides, takes_first, can_be_call}
+use Rattle.ide_ssr_matching.specs.Calls.{child_nodes, arguments_among, Method, method_call, PathCall, called, call_of, same_type, derefs, calls_same, method_parts, alike_pairs, receiver_with, method_with, method_sides, takes_first, can_be_call}
 use Rattle.ide_ssr_matching.specs.Children.{bare}
 use Rattle.ide_ssr_matching.specs.Records.{is_open, labels_of, named_nodes, named_pairs}
 use Rattle.ide_ssr_matching.specs.Sides.{Sides}
@@ -42,7 +42,7 @@ cond_sides false sides = refl
 module _ (rule : ResolvedKind) where
   -- ** Method calls.
 
-  alike_pairs_left : (call : Called) (method : Method) (receiver : Receiver)
+  alike_pairs_left : (call : PathCall) (method : Method) (receiver : Receiver)
       → alike_pairs call (stripped_method method) receiver ≡ option_map stripped_sides (alike_pairs call method receiver)
   alike_pairs_left call method receiver =
       ap (λ n. cond (length (bare (arguments_of call.path)) == n) (Some (sides (map node_part (method_parts (stripped_method method))))) None)
@@ -58,7 +58,7 @@ module _ (rule : ResolvedKind) where
       sides code = record { pattern = bare (arguments_of call.path) ++ map node_part call.arguments; code = code; receiver = Some receiver }
 
   module _ (ms : Meanings) (tree : ℕ) where
-    method_with_left : (type : Option TypeId) (c : Node) (call : Called) (method : Method)
+    method_with_left : (type : Option TypeId) (c : Node) (call : PathCall) (method : Method)
         → method_with ms tree rule type c call (stripped_method method) ≡ option_map stripped_sides (method_with ms tree rule type c call method)
     method_with_left type c call method = by (receiver_with ms tree (pattern_res rule call.path) type c.number method.receiver.number)
       where
@@ -80,7 +80,7 @@ module _ (rule : ResolvedKind) where
         → receiver_with ms tree used type c receiver ≡ receiver_with other_ms other_tree used type c receiver
     receivers_told used type c receiver = rw (calls_told used c, derefs_told type receiver, told.self_kind c) refl
 
-    module _ (type : Option TypeId) (call : Called) (c d : Node) (same : c.number ≡ d.number) where
+    module _ (type : Option TypeId) (call : PathCall) (c d : Node) (same : c.number ≡ d.number) where
       method_with_told : (method : Method) → method_with ms tree rule type c call method ≡ method_with other_ms other_tree rule type d call method
       method_with_told method =
           ap (option_and_then (alike_pairs call method))
@@ -108,13 +108,13 @@ module _ (rule : ResolvedKind) where
           → option_map stripped_sides (method_sides ms tree rule call p c) ≡ option_map stripped_sides (method_sides other_ms other_tree rule call p d)
       methods_alike call = by (called p)
         where
-          own : Called → Option Sides
+          own : PathCall → Option Sides
           own found = option_and_then (method_with ms tree rule call.qualifier_type c found) (method_call c)
 
-          others : Called → Option Sides
+          others : PathCall → Option Sides
           others found = option_and_then (method_with other_ms other_tree rule call.qualifier_type d found) (method_call d)
 
-          by : (o : Option Called) → option_map stripped_sides (option_and_then own o) ≡ option_map stripped_sides (option_and_then others o)
+          by : (o : Option PathCall) → option_map stripped_sides (option_and_then own o) ≡ option_map stripped_sides (option_and_then others o)
           by None = refl
           by (Some found) =
               either_method call.qualifier_type found c d (numbers_alike c d alike) (method_call c) (method_call d) (method_alike c d alike)

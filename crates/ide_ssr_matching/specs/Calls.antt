@@ -56,12 +56,12 @@ abbrev pub method_call : Node → Option Method
 method_call c = method_in (child_nodes c)
 
 -- a call of the pattern: the path that is its callee, and its arguments, of which it has at least one
-pub record Called : Type 0 where
+pub record PathCall : Type 0 where
   pub path : Node
   pub arguments : List Node
 
 -- by the nodes of the callee: only a path, which has a segment
-abbrev pub called_with : List Node → List Node → Option Called
+abbrev pub called_with : List Node → List Node → Option PathCall
 called_with (path ∷ []) (first ∷ rest) =
     if same_kind path.kind k.PATH
     then option_map (λ _. record { path = path; arguments = first ∷ rest }) (first_of_kind k.PATH_SEGMENT (parts_of path))
@@ -73,11 +73,11 @@ abbrev pub are_call : Node → Node → Bool
 are_call callee list = same_kind callee.kind k.PATH_EXPR && same_kind list.kind k.ARG_LIST
 
 -- by the nodes of the call: the callee, and the list of arguments
-abbrev pub called_in : List Node → Option Called
+abbrev pub called_in : List Node → Option PathCall
 called_in (callee ∷ list ∷ []) = if are_call callee list then called_with (child_nodes callee) (child_nodes list) else None
 called_in _ = None
 
-abbrev pub called : Node → Option Called
+abbrev pub called : Node → Option PathCall
 called call = called_in (child_nodes call)
 
 -- ** Which calls match.
@@ -109,7 +109,7 @@ method_parts method = method.generics ++ method.receiver ∷ method.arguments
 
 -- The bare arguments of the callee are paired with the generic arguments of the method call, and the arguments with the
 -- receiver and the arguments behind it.
-abbrev pub method_pairs : Called → Method → Receiver → Sides
+abbrev pub method_pairs : PathCall → Method → Receiver → Sides
 method_pairs called method receiver = record {
   pattern = bare (arguments_of called.path) ++ map node_part called.arguments;
   code = map node_part (method_parts method);
@@ -117,7 +117,7 @@ method_pairs called method receiver = record {
 }
 
 -- generic arguments are there on both sides or on neither
-abbrev pub alike_pairs : Called → Method → Receiver → Option Sides
+abbrev pub alike_pairs : PathCall → Method → Receiver → Option Sides
 alike_pairs called method receiver =
     if length (bare (arguments_of called.path)) == length method.generics then Some (method_pairs called method receiver) else None
 
@@ -132,7 +132,7 @@ module _ (m : Meanings) (tree : ℕ) where
   abbrev pub receiver_with : Option Res → Option TypeId → ℕ → ℕ → Option Receiver
   receiver_with used type c receiver = if calls_same m used (node_id tree c) then receiver_by type c receiver else None
 
-  abbrev pub method_with : ResolvedKind → Option TypeId → Node → Called → Method → Option Sides
+  abbrev pub method_with : ResolvedKind → Option TypeId → Node → PathCall → Method → Option Sides
   method_with rule type c called method =
       option_and_then (alike_pairs called method) (receiver_with (pattern_res rule called.path) type c.number method.receiver.number)
 

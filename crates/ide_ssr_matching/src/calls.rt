@@ -4,7 +4,7 @@ ghost use Rattle.std.specs.Prelude.{ℕ, false, Some, ◌≡◌, ◌++◌, All, 
 ghost use Rattle.std.specs.List.{position};
 ghost use Rattle.ssr_syntax_tree.specs.Places.{HasNode, node_of, node_part, part_of};
 ghost use Rattle.ssr_base.specs.Workspace.{node_id};
-ghost use Rattle.ide_ssr_matching.specs.Calls.{Called, child_nodes, first_node, generics_among, arguments_among, method_call, method_parts, are_call, called_with, called, same_type, derefs, calls_same, receiver_by, alike_pairs, method_sides, can_be_call};
+ghost use Rattle.ide_ssr_matching.specs.Calls.{PathCall, child_nodes, first_node, generics_among, arguments_among, method_call, method_parts, are_call, called_with, called, same_type, derefs, calls_same, receiver_by, alike_pairs, method_sides, can_be_call};
 ghost use Rattle.ide_ssr_matching.specs.Private.Calls.{nodes_named, nodes_at, IsNodeBelow, called_at, AreCalledBelow, method_at, IsMethodBelow, sides_at, AreSidesBelow};
 ghost use Rattle.ide_ssr_matching.specs.UsedPaths.{pattern_res};
 ghost use Rattle.ide_ssr_matching.specs.Private.Children.{IsBelow};
@@ -322,7 +322,7 @@ fn method_pairs(
 /// The path that is the callee of a call of the pattern, where that is a qualified one.
 fn callee(tree: &Tree, call: NodeNo) -> Option<NodeNo>
     requires { HasNode tree.now call.0 }
-    ensures path { (found : Called) → called (node_of tree.now call.0) ≡ Some found → option_map (λ path. node_of tree.now path.0) result ≡ Some found.path }
+    ensures path { (found : PathCall) → called (node_of tree.now call.0) ≡ Some found → option_map (λ path. node_of tree.now path.0) result ≡ Some found.path }
     ensures there { IfSome result (λ path. HasNode tree.now path.0) }
 {
     let expression = first_child(tree, call, SyntaxKind::PATH_EXPR)?;
@@ -339,7 +339,7 @@ fn calls_callee<S: Semantics>(
     c: NodeNo,
 ) -> Result<bool, AllocError>
     requires { HasNode rule.now.pattern p.0 }
-    ensures { IfOk result (λ same. (found : Called) → called (node_of rule.now.pattern p.0) ≡ Some found → calls_same (S.meanings semantics.now) (pattern_res rule.now found.path) (node_id number c.0) ≡ same) }
+    ensures { IfOk result (λ same. (found : PathCall) → called (node_of rule.now.pattern p.0) ≡ Some found → calls_same (S.meanings semantics.now) (pattern_res rule.now found.path) (node_id number c.0) ≡ same) }
 {
     let Some(path) = callee(rule.pattern(), p) else {
         return Ok(false);

@@ -7,7 +7,7 @@ use Rattle.std.proofs.lemmas.Bool.{cases_order, cases_Bool, cond-true, cond-fals
 use Rattle.std.proofs.lemmas.Option.{same_Some}
 use Rattle.std.proofs.lemmas.Bool.Decides.{nat_tests}
 use Rattle.ssr_base.specs.declared.ids.NodeId.{NodeId}
-use Rattle.ssr_base.specs.Workspace.{Workspace, Planted, trees, planted, tree_of, has_node}
+use Rattle.ssr_base.specs.Workspace.{Workspace, Planted, trees, with_number, tree_of, has_node}
 use Rattle.ssr_base.specs.Built.{IsNodeOf, CallsAreEarlier}
 use Rattle.ssr_syntax_tree.specs.Syntax.{Syntax, node_count}
 use Rattle.ssr_syntax_tree.specs.Places.{HasNode}
@@ -21,7 +21,7 @@ use Rattle.ide_ssr_nesting.proofs.Laid.{laid}
 
 pub node_test : (trees : List Planted) (x : NodeId) → is_node trees x ≡ true → IsNodeOf trees x
 unfolding is_node
-node_test trees x is = by (planted trees x.tree) is
+node_test trees x is = by (with_number trees x.tree) is
   where
     by : (o : Option Planted) → option_map_or (λ p. has_node p.syntax x.node.0) o false ≡ true → IsSomeAnd o (λ p. HasNode p.syntax x.node.0)
     by None is = absurd (false≢true is)
@@ -30,7 +30,7 @@ node_test trees x is = by (planted trees x.tree) is
 -- what the code asks of the tree
 pub node_told : (w : Workspace) (x : NodeId) (tree : Syntax) (r : Bool) → Some tree ≡ tree_of w x.tree → IsTrue r ↔ HasNode tree x.node.0 → r ≡ is_node (trees w) x
 unfolding is_node
-node_told w x tree r is told = by (planted (trees w) x.tree) is
+node_told w x tree r is told = by (with_number (trees w) x.tree) is
   where
     by : (o : Option Planted) → Some tree ≡ option_map (λ p. p.syntax) o → r ≡ option_map_or (λ p. has_node p.syntax x.node.0) o false
     by None is = cc
@@ -40,7 +40,7 @@ node_told w x tree r is told = by (planted (trees w) x.tree) is
 
 pub no_node : (w : Workspace) (x : NodeId) → None ≡ tree_of w x.tree → false ≡ is_node (trees w) x
 unfolding is_node
-no_node w x none = by (planted (trees w) x.tree) none
+no_node w x none = by (with_number (trees w) x.tree) none
   where
     by : (o : Option Planted) → None ≡ option_map (λ p. p.syntax) o → false ≡ option_map_or (λ p. has_node p.syntax x.node.0) o false
     by None none = refl
@@ -48,7 +48,7 @@ no_node w x none = by (planted (trees w) x.tree) none
 
 pub test_node : (trees : List Planted) (x : NodeId) → IsNodeOf trees x → is_node trees x ≡ true
 unfolding is_node
-test_node trees x node = by (planted trees x.tree) node
+test_node trees x node = by (with_number trees x.tree) node
   where
     by : (o : Option Planted) → IsSomeAnd o (λ p. HasNode p.syntax x.node.0) → option_map_or (λ p. has_node p.syntax x.node.0) o false ≡ true
     by None node = absurd node

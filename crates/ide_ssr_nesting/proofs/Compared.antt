@@ -7,7 +7,7 @@ use Rattle.std.specs.Option.{IsSomeAnd, option_map}
 use Rattle.ssr_syntax_tree.specs.Syntax.{Syntax, node_count}
 use Rattle.ssr_syntax_tree.specs.Places.{HasNode, node_of, size_of}
 use Rattle.ssr_base.specs.declared.ids.NodeId.{NodeId}
-use Rattle.ssr_base.specs.Workspace.{Planted, planted, node_id, same_id, above}
+use Rattle.ssr_base.specs.Workspace.{Planted, with_number, node_id, same_id, above}
 use Rattle.ssr_base.specs.Built.{IsNodeOf, CallsAreEarlier}
 use Rattle.ssr_base.specs.Laws.{IsBelow}
 use Rattle.ssr_base.proofs.Shared.{is_up, planted_first, planted_earlier, same_nodes}
@@ -26,7 +26,7 @@ pub record LieInOneTree (trees : List Planted) (syntax : Syntax) (a b : NodeId) 
   pub within : b.node.0 < a.node.0 + size_of (node_of syntax a.node.0) → place trees b < end_place trees a
   pub was_within : place trees b < end_place trees a → b.node.0 < a.node.0 + size_of (node_of syntax a.node.0)
 
-pub in_one_tree : (trees : List Planted) (syntax : Syntax) (a b : NodeId) → CallsAreEarlier trees → option_map (λ p. p.syntax) (planted trees a.tree) ≡ Some syntax
+pub in_one_tree : (trees : List Planted) (syntax : Syntax) (a b : NodeId) → CallsAreEarlier trees → option_map (λ p. p.syntax) (with_number trees a.tree) ≡ Some syntax
     → a.tree ≡ b.tree → IsNodeOf trees a → IsNodeOf trees b → LieInOneTree trees syntax a b
 in_one_tree [] syntax a b grown is same a_in b_in = absurd a_in
 in_one_tree (p ∷ earlier) syntax a b grown is same a_in b_in =
@@ -170,11 +170,11 @@ call_known trees grown t call is =
     (up.node, elim up.earlier [ inl less ↦ less | inr same ↦ absurd (let low = same.1 in omega arith) ])
 
 module _ (trees : List Planted) (grown : CallsAreEarlier trees) (a b : NodeId) (a_in : IsNodeOf trees a) (b_in : IsNodeOf trees b) where
-  syntax_of : (x : NodeId) → IsNodeOf trees x → (syntax : Syntax) × (option_map (λ (p : Planted). p.syntax) (planted trees x.tree) ≡ Some syntax)
-  syntax_of x node = by (planted trees x.tree) refl node
+  syntax_of : (x : NodeId) → IsNodeOf trees x → (syntax : Syntax) × (option_map (λ (p : Planted). p.syntax) (with_number trees x.tree) ≡ Some syntax)
+  syntax_of x node = by (with_number trees x.tree) refl node
     where
-      by : (o : Option Planted) → planted trees x.tree ≡ o → IsSomeAnd o (λ p. HasNode p.syntax x.node.0)
-          → (syntax : Syntax) × (option_map (λ (p : Planted). p.syntax) (planted trees x.tree) ≡ Some syntax)
+      by : (o : Option Planted) → with_number trees x.tree ≡ o → IsSomeAnd o (λ p. HasNode p.syntax x.node.0)
+          → (syntax : Syntax) × (option_map (λ (p : Planted). p.syntax) (with_number trees x.tree) ≡ Some syntax)
       by None is known = absurd known
       by (Some p) is known = (p.syntax, ap (option_map (λ (p : Planted). p.syntax)) is)
 
@@ -228,7 +228,7 @@ module _ (trees : List Planted) (grown : CallsAreEarlier trees) (a b : NodeId) (
 
   -- ** What stands at or above.
 
-  pub holds_in_tree : (syntax : Syntax) → Some syntax ≡ option_map (λ (p : Planted). p.syntax) (planted trees a.tree) → a.tree ≡ b.tree
+  pub holds_in_tree : (syntax : Syntax) → Some syntax ≡ option_map (λ (p : Planted). p.syntax) (with_number trees a.tree) → a.tree ≡ b.tree
       → a.node.0 ≤ b.node.0 → b.node.0 < a.node.0 + size_of (node_of syntax a.node.0) → IsAtOrBelow trees b a
   holds_in_tree syntax is same low high =
       let lie = in_one_tree trees syntax a b grown (sym is) same a_in b_in in
@@ -237,7 +237,7 @@ module _ (trees : List Planted) (grown : CallsAreEarlier trees) (a b : NodeId) (
         | inr least ↦ inl (same_numbers b a (sym same) (omega arith))
       ]
 
-  pub held_in_tree : (syntax : Syntax) → Some syntax ≡ option_map (λ (p : Planted). p.syntax) (planted trees a.tree) → a.tree ≡ b.tree
+  pub held_in_tree : (syntax : Syntax) → Some syntax ≡ option_map (λ (p : Planted). p.syntax) (with_number trees a.tree) → a.tree ≡ b.tree
       → IsAtOrBelow trees b a → (a.node.0 ≤ b.node.0) × (b.node.0 < a.node.0 + size_of (node_of syntax a.node.0))
   held_in_tree syntax is same (inl e) = let number = ap (λ (x : NodeId). x.node.0) e in (omega arith, omega arith)
   held_in_tree syntax is same (inr below) =
@@ -246,14 +246,14 @@ module _ (trees : List Planted) (grown : CallsAreEarlier trees) (a b : NodeId) (
       let less = lie.was_before between.0 in
       (omega arith, lie.was_within between.1)
 
-  pub holds_here : (syntax : Syntax) (below : ℕ) → Some syntax ≡ option_map (λ (p : Planted). p.syntax) (planted trees a.tree) → a.tree ≡ b.tree
+  pub holds_here : (syntax : Syntax) (below : ℕ) → Some syntax ≡ option_map (λ (p : Planted). p.syntax) (with_number trees a.tree) → a.tree ≡ b.tree
       → below ≡ node_count (node_of syntax a.node.0).children → a.node.0 ≤ b.node.0 → IsTrue (nat_le (b.node.0 - a.node.0) below) ↔ IsAtOrBelow trees b a
   holds_here syntax below is same count low = (
     (λ test. let less = leb-true (b.node.0 - a.node.0) below test in holds_in_tree syntax is same low (omega arith)),
     (λ held. let parts = held_in_tree syntax is same held in let high = parts.1 in le-leb (b.node.0 - a.node.0) below (omega arith)),
   )
 
-  pub holds_before : (syntax : Syntax) → Some syntax ≡ option_map (λ (p : Planted). p.syntax) (planted trees a.tree) → a.tree ≡ b.tree
+  pub holds_before : (syntax : Syntax) → Some syntax ≡ option_map (λ (p : Planted). p.syntax) (with_number trees a.tree) → a.tree ≡ b.tree
       → b.node.0 < a.node.0 → IsTrue (nat_le a.node.0 b.node.0) ↔ IsAtOrBelow trees b a
   holds_before syntax is same less = (
     (λ test. absurd (let low = leb-true a.node.0 b.node.0 test in omega arith)),

@@ -15,7 +15,7 @@ use Rattle.ssr_syntax_tree.proofs.Shared.{ranges_apart}
 use Rattle.ssr_base.specs.declared.ids.NodeId.{NodeId}
 use Rattle.ssr_base.specs.Origins.{Span, covered}
 use Rattle.ssr_base.specs.Built.{CallsAreEarlier, IsNodeOf}
-use Rattle.ssr_base.specs.Workspace.{Expanded, FileSpan, Planted, Workspace, cover_below, file_of, of_expansion, of_file, original, original_in, original_range, own_span, planted, trees}
+use Rattle.ssr_base.specs.Workspace.{Expanded, FileSpan, Planted, Workspace, cover_below, file_of, of_expansion, of_file, original, original_in, original_range, own_span, with_number, trees}
 use Rattle.ssr_base.proofs.Shared.{told_is}
 use Rattle.ide_ssr_found.specs.Found.{Found, IsMatch}
 use Rattle.ide_ssr_nesting.specs.declared.holders.Holder.{Holder}
@@ -53,11 +53,11 @@ top_itself (p ∷ earlier) files t = by (t == length earlier) (top_itself earlie
     by true rest = ap (λ (call : Option NodeId). option_map_or (λ call. file_of earlier call.tree) call t) files.0
     by false rest = rest
 
-planted_file : (ts : List Planted) → AllByRecursion IsFile ts → (t : ℕ) (p : Planted) → planted ts t ≡ Some p → IsFile p
+planted_file : (ts : List Planted) → AllByRecursion IsFile ts → (t : ℕ) (p : Planted) → with_number ts t ≡ Some p → IsFile p
 planted_file [] files t p is = absurd (cc is)
 planted_file (q ∷ earlier) files t p is = by (t == length earlier) (planted_file earlier files.1 t p) is
   where
-    by : (b : Bool) → (planted earlier t ≡ Some p → IsFile p) → ◌≡◌ {A = Option Planted} (if b then Some q else planted earlier t) (Some p) → IsFile p
+    by : (b : Bool) → (with_number earlier t ≡ Some p → IsFile p) → ◌≡◌ {A = Option Planted} (if b then Some q else with_number earlier t) (Some p) → IsFile p
     by true rest here = subst IsFile (same_Some q p here) files.0
     by false rest later = rest later
 
@@ -67,18 +67,18 @@ own_range syntax x = record { file = x.tree; span = own_span syntax (node_of syn
 
 record IsOfFile (ts : List Planted) (x : NodeId) : Type 0 where
   syntax : Syntax
-  is : option_map (λ p. p.syntax) (planted ts x.tree) ≡ Some syntax
+  is : option_map (λ p. p.syntax) (with_number ts x.tree) ≡ Some syntax
   has : HasNode syntax x.node.0
   range : original_range ts x ≡ Some (own_range syntax x)
 
 of_a_file : (ts : List Planted) → AllByRecursion IsFile ts → (x : NodeId) → IsNodeOf ts x → IsOfFile ts x
-of_a_file ts files x node = at (planted ts x.tree) refl node
+of_a_file ts files x node = at (with_number ts x.tree) refl node
   where
     own : (p : Planted) (node : Node) → IsFile p → original_in p node ≡ Some (own_span p.syntax node)
     own p node file =
         ap (λ (call : Option NodeId). option_map_or (λ call. covered (cover_below p.origins node)) call (Some (own_span p.syntax node))) file
 
-    at : (o : Option Planted) → planted ts x.tree ≡ o → IsSomeAnd o (λ p. HasNode p.syntax x.node.0) → IsOfFile ts x
+    at : (o : Option Planted) → with_number ts x.tree ≡ o → IsSomeAnd o (λ p. HasNode p.syntax x.node.0) → IsOfFile ts x
     at None is has = absurd has
     at (Some p) is has =
         let inner : Node = node_of p.syntax x.node.0 in
@@ -128,7 +128,7 @@ module _ (ts : List Planted) (grown : CallsAreEarlier ts) (files : AllByRecursio
         | inr other ↦ inl other
         | inl same ↦
             let tree : of_k.syntax ≡ of_m.syntax =
-            same_Some of_k.syntax of_m.syntax (sym of_k.is ∙ (ap (λ t. option_map (λ (p : Planted). p.syntax) (planted ts t)) same ∙ of_m.is)) in
+            same_Some of_k.syntax of_m.syntax (sym of_k.is ∙ (ap (λ t. option_map (λ (p : Planted). p.syntax) (with_number ts t)) same ∙ of_m.is)) in
             let lie = in_one_tree ts of_k.syntax k.node m.node grown of_k.is same k_in m_in in
             inr (subst (λ (s : Syntax). end_of of_k.syntax (node_of of_k.syntax k.node.node.0) ≤ start_of s (node_of s m.node.node.0)) tree
             (ranges_apart of_k.syntax k.node.node.0 m.node.node.0 of_k.has (subst (λ (s : Syntax). HasNode s m.node.node.0) (sym tree) of_m.has)

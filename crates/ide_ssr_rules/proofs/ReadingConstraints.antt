@@ -8,7 +8,7 @@ use Rattle.ide_ssr_refusals.specs.declared.error.SsrError.{SsrError}
 use Rattle.ide_ssr_refusals.specs.declared.error.SsrError.TheVariants as errors
 use Rattle.ide_ssr_refusals.specs.declared.refusals.Refusal.TheVariants as r
 use Rattle.ide_ssr_constraints.specs.Constraints.{contrary}
-use Rattle.ide_ssr_rules.specs.Constraints.{Taken, Placeholder, bracket, kind_name, constraint_on, on_kind, by_word, on_not, worded, constraint, most_nots, is_colon, opens, closes, in_front, constraints_within, constraints, named, braced, placeholder}
+use Rattle.ide_ssr_rules.specs.Constraints.{Taken, Placeholder, bracket, kind_name, constraint_on, on_kind, by_word, on_not, worded, constraint, most_nots, is_colon, opens, closes, in_front, constraints_within, constraints, named, braced, named_placeholder}
 use Rattle.ide_ssr_refusals.specs.declared.refusals.Refusal.{Refusal}
 use Rattle.ide_ssr_refusals.specs.Refusals.{TellsOf, ◌>>=◌}
 use Rattle.ide_ssr_refusals.proofs.Shared.{went, ok_same, tells_first, after_ok}
@@ -408,25 +408,25 @@ placed_shorter true ident token tokens taken h = let less = braced_shorter token
 placed_shorter false true token tokens taken h = plain_shorter token tokens taken h
 placed_shorter false false token tokens taken h = absurd cc
 
-pub placeholder_shorter : (tokens : List Token) (taken : Placeholder × List Token) → placeholder tokens ≡ Ok taken → IsShorter tokens taken
-unfolding placeholder
+pub placeholder_shorter : (tokens : List Token) (taken : Placeholder × List Token) → named_placeholder tokens ≡ Ok taken → IsShorter tokens taken
+unfolding named_placeholder
 placeholder_shorter [] taken h = absurd cc
 placeholder_shorter (token ∷ tokens) taken h = placed_shorter (opens token.kind) (is_ident token.kind) token tokens taken h
 
 -- a placeholder, by its first token
 module _ (token : Token) (tokens : List Token) where
-  pub placeholder_braced : opens token.kind ≡ true → placeholder (token ∷ tokens) ≡ braced tokens
-  unfolding placeholder
+  pub placeholder_braced : opens token.kind ≡ true → named_placeholder (token ∷ tokens) ≡ braced tokens
+  unfolding named_placeholder
   placeholder_braced is = ap (λ b. cond b (braced tokens) (cond (is_ident token.kind) (plain token tokens) (Err r.NoPlaceholder))) is
 
-  pub placeholder_plain : opens token.kind ≡ false → is_ident token.kind ≡ true → placeholder (token ∷ tokens) ≡ plain token tokens
-  unfolding placeholder
+  pub placeholder_plain : opens token.kind ≡ false → is_ident token.kind ≡ true → named_placeholder (token ∷ tokens) ≡ plain token tokens
+  unfolding named_placeholder
   placeholder_plain brace ident =
       ap (λ b. cond b (braced tokens) (cond (is_ident token.kind) (plain token tokens) (Err r.NoPlaceholder))) brace
       ∙ ap (λ b. cond b (plain token tokens) (Err r.NoPlaceholder)) ident
 
-  pub placeholder_other : opens token.kind ≡ false → is_ident token.kind ≡ false → placeholder (token ∷ tokens) ≡ Err r.NoPlaceholder
-  unfolding placeholder
+  pub placeholder_other : opens token.kind ≡ false → is_ident token.kind ≡ false → named_placeholder (token ∷ tokens) ≡ Err r.NoPlaceholder
+  unfolding named_placeholder
   placeholder_other brace ident =
       ap (λ b. cond b (braced tokens) (cond (is_ident token.kind) (plain token tokens) (Err r.NoPlaceholder))) brace
       ∙ ap (λ b. cond b (plain token tokens) (Err r.NoPlaceholder)) ident
@@ -452,22 +452,22 @@ module _ (tokens rest : List Token) (token : Token) (is : tokens ≡ token ∷ r
       at_name read reads ∙ ap (λ b. cond b (Ok (record { name = token.text; constraints = read.0 }, read.1)) (Err r.NoName)) ident
       ∙ ap (λ text. Ok (record { name = text; constraints = read.0 }, read.1)) (sym same)
 
-  pub opens_braces : opens token.kind ≡ true → placeholder tokens ≡ braced rest
-  opens_braces brace = ap placeholder is ∙ placeholder_braced token rest brace
+  pub opens_braces : opens token.kind ≡ true → named_placeholder tokens ≡ braced rest
+  opens_braces brace = ap named_placeholder is ∙ placeholder_braced token rest brace
 
   pub plain_read : (name : List ℕ) (none : List Constraint) → name ≡ token.text → none ≡ [] → opens token.kind ≡ false → is_ident token.kind ≡ true
-      → placeholder tokens ≡ Ok (record { name = name; constraints = none }, rest)
+      → named_placeholder tokens ≡ Ok (record { name = name; constraints = none }, rest)
   plain_read name none same empty brace ident =
-      ap placeholder is ∙ placeholder_plain token rest brace ident ∙ ap (λ text. Ok (record { name = text; constraints = [] }, rest)) (sym same)
+      ap named_placeholder is ∙ placeholder_plain token rest brace ident ∙ ap (λ text. Ok (record { name = text; constraints = [] }, rest)) (sym same)
       ∙ ap (λ cs. Ok (record { name = name; constraints = cs }, rest)) (sym empty)
 
-  pub other_read : opens token.kind ≡ false → is_ident token.kind ≡ false → placeholder tokens ≡ Err r.NoPlaceholder
-  other_read brace ident = ap placeholder is ∙ placeholder_other token rest brace ident
+  pub other_read : opens token.kind ≡ false → is_ident token.kind ≡ false → named_placeholder tokens ≡ Err r.NoPlaceholder
+  other_read brace ident = ap named_placeholder is ∙ placeholder_other token rest brace ident
 
 pub braced_end : (tokens : List Token) → tokens ≡ [] → braced tokens ≡ Err r.EndOfPlaceholder
 unfolding braced
 braced_end tokens none = ap braced none
 
-pub placeholder_end : (tokens : List Token) → tokens ≡ [] → placeholder tokens ≡ Err r.NoName
-unfolding placeholder
-placeholder_end tokens none = ap placeholder none
+pub placeholder_end : (tokens : List Token) → tokens ≡ [] → named_placeholder tokens ≡ Err r.NoName
+unfolding named_placeholder
+placeholder_end tokens none = ap named_placeholder none

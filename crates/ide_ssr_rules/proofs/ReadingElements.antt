@@ -6,7 +6,7 @@ use Rattle.ide_ssr_rules.specs.declared.elements.Element.TheVariants as e
 use Rattle.ide_ssr_refusals.specs.declared.error.SsrError.{SsrError}
 use Rattle.ide_ssr_refusals.specs.declared.error.SsrError.TheVariants as errors
 use Rattle.ide_ssr_refusals.specs.declared.refusals.Refusal.TheVariants as r
-use Rattle.ide_ssr_rules.specs.Constraints.{Placeholder, placeholder}
+use Rattle.ide_ssr_rules.specs.Constraints.{Placeholder, named_placeholder}
 use Rattle.ide_ssr_rules.specs.Elements.{is_dollar, has, with_new_name, new_placeholder, after, elements_within, elements}
 use Rattle.ide_ssr_refusals.specs.declared.refusals.Refusal.{Refusal}
 use Rattle.ide_ssr_refusals.specs.Refusals.{TellsOf, ◌>>=◌}
@@ -15,7 +15,7 @@ use Rattle.ide_ssr_refusals.proofs.Shared.{went, ok_same, tells_first}
 
 new_shorter : (names : List (List ℕ)) (tokens : List Token) (taken : Placeholder × List Token) → new_placeholder names tokens ≡ Ok taken → IsShorter tokens taken
 new_shorter names tokens taken h =
-    let read = went (placeholder tokens) (λ read. with_new_name names read) taken h in
+    let read = went (named_placeholder tokens) (λ read. with_new_name names read) taken h in
     let same = kept (has names read.found.0.name) read.found read.next_is in
     omega (arith, placeholder_shorter tokens read.found read.first_is, ap (λ (t : Placeholder × List Token). length t.1) same) where
       kept : (known : Bool) (read : Placeholder × List Token) → cond known (Err (r.Repeated read.0.name)) (Ok read) ≡ Ok taken → read ≡ taken

@@ -6,7 +6,7 @@ use Rattle.ide_ssr_rules.specs.declared.elements.Element.{Element}
 use Rattle.ide_ssr_rules.specs.declared.elements.Element.TheVariants as e
 use Rattle.ide_ssr_rules.specs.declared.kinds.ParsedRule.{ParsedRule}
 use Rattle.ide_ssr_refusals.specs.declared.refusals.Refusal.TheVariants as r
-use Rattle.ide_ssr_rules.specs.Constraints.{Placeholder, Taken, placeholder}
+use Rattle.ide_ssr_rules.specs.Constraints.{Placeholder, Taken, named_placeholder}
 use Rattle.ide_ssr_rules.specs.Elements.{is_dollar, has, after, with_new_name, new_placeholder, elements_within, elements, lexed, fault_in, side, names_of, constraints_of}
 use Rattle.ide_ssr_rules.specs.Kinds.{kinds_of, some_kind}
 use Rattle.ide_ssr_rules.specs.MacroCalls.{untested}
@@ -53,7 +53,7 @@ fresh_within zero names tokens = tt
 fresh_within (suc fuel) names [] = tt
 fresh_within (suc fuel) names (token ∷ tokens) =
     fresh_step names (is_dollar token.kind) (new_placeholder names tokens >>= behind_dollar fuel names) (after (e.Token token) (elements_within fuel names tokens))
-    (fresh_behind fuel names (placeholder tokens) (fresh_within fuel))
+    (fresh_behind fuel names (named_placeholder tokens) (fresh_within fuel))
     (fresh_token names token (elements_within fuel names tokens) (fresh_within fuel names tokens))
 
 fresh_lexed : (text : List ℕ) (tokens : Option (List Token)) → Fresh [] (option_map_or (elements []) tokens (Err (r.LexerFault (fault_in text))))

@@ -114,9 +114,9 @@ braced [] = Err r.EndOfPlaceholder
 braced (token ∷ tokens) = constraints tokens >>= (λ rest. named token rest)
 
 -- behind `$`
-unfoldable pub placeholder : List Token → Taken Placeholder
-placeholder [] = Err r.NoName
-placeholder (token ∷ tokens) =
+unfoldable pub named_placeholder : List Token → Taken Placeholder
+named_placeholder [] = Err r.NoName
+named_placeholder (token ∷ tokens) =
     if opens token.kind then braced tokens
     else if is_ident token.kind then Ok (record { name = token.text; constraints = [] }, tokens)
     else Err r.NoPlaceholder

@@ -13,7 +13,7 @@ use Rattle.ide_ssr_constraints.specs.declared.constraints.Constraint.{Constraint
 use Rattle.ide_ssr_rules.specs.declared.elements.Element.{Element}
 use Rattle.ide_ssr_rules.specs.declared.elements.Element.TheVariants as e
 use Rattle.ide_ssr_refusals.specs.declared.refusals.Refusal.TheVariants as r
-use Rattle.ide_ssr_rules.specs.Constraints.{Placeholder, Taken, placeholder}
+use Rattle.ide_ssr_rules.specs.Constraints.{Placeholder, Taken, named_placeholder}
 use Rattle.ide_ssr_refusals.specs.declared.refusals.Refusal.{Refusal}
 use Rattle.ide_ssr_refusals.specs.Refusals.{◌>>=◌}
 
@@ -42,7 +42,7 @@ with_new_name names (placeholder, rest) =
     if has names placeholder.name then Err (r.Repeated placeholder.name) else Ok (placeholder, rest)
 
 abbrev pub new_placeholder : List (List ℕ) → List Token → Taken Placeholder
-new_placeholder names tokens = placeholder tokens >>= (λ read. with_new_name names read)
+new_placeholder names tokens = named_placeholder tokens >>= (λ read. with_new_name names read)
 
 -- the elements that tokens are, of which there are at most `fuel`: a placeholder begins with `$`, any other token is
 -- itself; `names` are those of the placeholders before

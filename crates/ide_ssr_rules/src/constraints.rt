@@ -1,6 +1,6 @@
 //! Placeholders as they are written: `$name`, or `${name:constraint}` with any number of constraints.
 ghost use Rattle.std.specs.Prelude.{◌≡◌, IfOk, bytes_eq};
-ghost use Rattle.ide_ssr_rules.specs.Constraints.{bracket, kind_name, on_kind, constraint, constraints, braced, placeholder};
+ghost use Rattle.ide_ssr_rules.specs.Constraints.{bracket, kind_name, on_kind, constraint, constraints, braced, named_placeholder};
 ghost use Rattle.ide_ssr_refusals.specs.Refusals.{AnswersBy};
 
 use crate::tokens::{Name, Tokens};
@@ -162,7 +162,7 @@ pub(crate) fn read_placeholder<'a>(
     alloc: Global,
     tokens: &mut Tokens<'a>,
 ) -> Result<Placeholder<'a>, SsrError>
-    ensures { AnswersBy (λ placeholder. (placeholder, tokens.new)) result (placeholder tokens.old) }
+    ensures { AnswersBy (λ placeholder. (placeholder, tokens.new)) result (named_placeholder tokens.old) }
 {
     let Some(token) = tokens.next() else {
         return Err(Refusal::NoName.told(alloc));

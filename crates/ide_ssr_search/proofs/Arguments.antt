@@ -13,7 +13,7 @@ use Rattle.ssr_syntax_tree.specs.Places.{Part, token_part, node_part, HasElement
 use Rattle.ssr_syntax_tree.proofs.Shared.{node_of-number}
 use Rattle.ssr_base.specs.declared.ids.FileRange.{FileRange}
 use Rattle.ssr_base.specs.declared.ids.NodeId.{NodeId}
-use Rattle.ssr_base.specs.Workspace.{Workspace, Planted, FileSpan, trees, planted, tree_of, node_id, original_range, file_span_of}
+use Rattle.ssr_base.specs.Workspace.{Workspace, Planted, FileSpan, trees, with_number, tree_of, node_id, original_range, file_span_of}
 use Rattle.ide_ssr_search.specs.Permitted.{first_token_tree, arguments_of, arguments_range}
 use Rattle.ide_ssr_search.specs.Private.Shut.{Shuts}
 use Rattle.ide_ssr_found.proofs.Shared.{is_tree, of_tree, in_tree}
@@ -65,7 +65,7 @@ arguments_some w call tree n is some =
     sym (ap (option_and_then (original_range (trees w))) (arguments_are w call tree is ∙ ap (option_map (node_id call.tree)) (sym some)))
 
 pub no_tree_no_arguments : (w : Workspace) (call : NodeId) → None ≡ tree_of w call.tree → arguments_range (trees w) call ≡ None
-no_tree_no_arguments w call none = gone (planted (trees w) call.tree) none
+no_tree_no_arguments w call none = gone (with_number (trees w) call.tree) none
   where
     gone : (o : Option Planted) → None ≡ option_map (λ (p : Planted). p.syntax) o
         → option_and_then (original_range (trees w)) (option_and_then (λ (p : Planted). option_map (node_id call.tree) (first_token_tree (parts_of (node_of p.syntax call.node.0)))) o) ≡ None

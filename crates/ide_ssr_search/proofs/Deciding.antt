@@ -14,7 +14,7 @@ use Rattle.ssr_base.specs.declared.ids.ScopeId.{ScopeId}
 use Rattle.ssr_base.specs.declared.semantics.Res.{Res}
 use Rattle.ssr_base.specs.declared.semantics.Res.TheVariants as res
 use Rattle.ssr_base.specs.Meanings.{Meanings}
-use Rattle.ssr_base.specs.Workspace.{Workspace, Planted, FileSpan, trees, planted, above, original_range}
+use Rattle.ssr_base.specs.Workspace.{Workspace, Planted, FileSpan, trees, with_number, above, original_range}
 use Rattle.ssr_base.specs.Built.{IsNodeOf, IsMacroCall, IsBuilt}
 use Rattle.ssr_base.specs.Laws.{climbed, IsBelow, LiesIn, file_root}
 use Rattle.ssr_base.proofs.Shared.{reaches_its_file}
@@ -53,7 +53,7 @@ is_placed ts t o =
     of_some (LiesInArguments ts t)
     (λ range. of_some (λ p. IfSome p.call (λ call. IsSomeAnd (arguments_range ts call) (LiesIn range)))
     (λ p. if_some (λ call. IsSomeAnd (arguments_range ts call) (LiesIn range)) (λ call. of_some (LiesIn range) (lies_in range) (arguments_range ts call)) p.call)
-    (planted ts t))
+    (with_number ts t))
     o
 
 share_no_byte : (ts : List Planted) (t : ℕ) (a b : Binding) → Decided (ShareNoByte ts t a b)
@@ -171,9 +171,9 @@ module _ (w : Workspace) (b : IsBuilt w) (x : NodeId) (node : IsNodeOf (trees w)
         ),
       ))
     where
-      of_tree_kind : (a : NodeId) (kind : SyntaxKind) → Decided (IsSomeAnd (planted (trees w) a.tree) (λ p. (node_of p.syntax a.node.0).kind ≡ kind))
+      of_tree_kind : (a : NodeId) (kind : SyntaxKind) → Decided (IsSomeAnd (with_number (trees w) a.tree) (λ p. (node_of p.syntax a.node.0).kind ≡ kind))
       of_tree_kind a kind =
-          of_some (λ p. (node_of p.syntax a.node.0).kind ≡ kind) (λ p. of_kind (node_of p.syntax a.node.0).kind kind) (planted (trees w) a.tree)
+          of_some (λ p. (node_of p.syntax a.node.0).kind ≡ kind) (λ p. of_kind (node_of p.syntax a.node.0).kind kind) (with_number (trees w) a.tree)
 
   in_function : (function : Option NodeId) → Decided (IsInFunction (trees w) function x)
   in_function function =

@@ -10,7 +10,7 @@ use Rattle.ssr_syntax_tree.specs.Syntax.{Syntax, node_count}
 use Rattle.ssr_syntax_tree.specs.Places.{HasNode}
 use Rattle.ssr_base.specs.declared.ids.NodeId.{NodeId}
 use Rattle.ssr_base.specs.Meanings.{Meanings}
-use Rattle.ssr_base.specs.Workspace.{Workspace, Planted, trees, planted, tree_of, node_id}
+use Rattle.ssr_base.specs.Workspace.{Workspace, Planted, trees, with_number, tree_of, node_id}
 use Rattle.ide_ssr_resolving.specs.Resolved.{ResolvedKind}
 use Rattle.ide_ssr_found.specs.declared.bindings.Binding.{Binding}
 use Rattle.ide_ssr_found.specs.Found.{Found}
@@ -113,7 +113,7 @@ module _ (w : Workspace) (meanings : Meanings) (context : Context) (rules : List
   pub one_match : (f g : Found) → IsFound w meanings context rules f → IsFound w meanings context rules g → f.node ≡ g.node → f.rule ≡ g.rule → f ≡ g
   one_match f g is other node rule =
       let x = g.node in
-      let at = some_and (planted (trees w) x.tree) (λ p. HasNode p.syntax x.node.0) other.permitted.open_to_all.node in
+      let at = some_and (with_number (trees w) x.tree) (λ p. HasNode p.syntax x.node.0) other.permitted.open_to_all.node in
       let s = at.0.syntax in
       let tree : tree_of w x.tree ≡ Some s = ap (option_map (λ (p : Planted). p.syntax)) at.1 in
       let known = here_found x.tree x.node.0 g.rule other.rule f other.is_rule is (ap (λ (x : NodeId). x.tree) node) (ap (λ (x : NodeId). x.node.0) node) rule in
@@ -219,7 +219,7 @@ module _ (w : Workspace) (meanings : Meanings) (context : Context) (rules : List
     are = λ f. (
       λ had. All-contains (IsFound w meanings context rules) ms f so_far.are had,
       λ is.
-          let at = some_and (planted (trees w) f.node.tree) (λ p. HasNode p.syntax f.node.node.0) is.permitted.open_to_all.node in
+          let at = some_and (with_number (trees w) f.node.tree) (λ p. HasNode p.syntax f.node.node.0) is.permitted.open_to_all.node in
           let within = planted_within (trees w) f.node.tree at.0 at.1 in
           so_far.complete f is (inl (elim (cases_lt f.node.tree t) [
             | inl before ↦ before

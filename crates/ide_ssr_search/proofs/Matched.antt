@@ -10,7 +10,7 @@ use Rattle.ssr_syntax_tree.proofs.Lists.{same_rising}
 use Rattle.ssr_base.specs.Meanings.{Meanings}
 use Rattle.ssr_base.specs.Laws.{LiesIn, IsAmong}
 use Rattle.ssr_base.specs.Origins.{Span}
-use Rattle.ssr_base.specs.Workspace.{Workspace, Planted, FileSpan, trees, planted, node_id, file_of, has_node, original_in, original_range, run_of, has_run, original_run_in}
+use Rattle.ssr_base.specs.Workspace.{Workspace, Planted, FileSpan, trees, with_number, node_id, file_of, has_node, original_in, original_range, run_of, has_run, original_run_in}
 use Rattle.ssr_base.proofs.Shared.{some_and, and_some, spans_nest}
 use Rattle.ide_ssr_resolving.specs.Resolved.{ResolvedKind}
 use Rattle.ide_ssr_found.specs.declared.bindings.Binding.{Binding}
@@ -28,7 +28,7 @@ use Rattle.ide_ssr_search.proofs.Finding.{one_match}
 
 -- ** What is held comes from where the match does.
 
-module _ (ts : List Planted) (t : ℕ) (p : Planted) (plants : planted ts t ≡ Some p) where
+module _ (ts : List Planted) (t : ℕ) (p : Planted) (plants : with_number ts t ≡ Some p) where
   abbrev in_file : Span → FileSpan
   in_file span = record { file = file_of ts t; span = span }
 
@@ -71,7 +71,7 @@ module _ (w : Workspace) (meanings : Meanings) (context : Context) (rules : List
       let t = m.node.tree in
       let n = m.node.node.0 in
       let rule = is.rule in
-      let matched = some_and (planted ts t) (λ p. Matches meanings t rule (root_of rule.pattern) (node_of p.syntax n) m.bindings) is.whole.matches in
+      let matched = some_and (with_number ts t) (λ p. Matches meanings t rule (root_of rule.pattern) (node_of p.syntax n) m.bindings) is.whole.matches in
       let s = matched.0.syntax in
       let at : IsTree ts t s = record { tree = matched.0; is = matched.1; same = refl } in
       let has = in_tree ts t s (λ s. HasNode s n) at is.permitted.open_to_all.node in

@@ -11,7 +11,7 @@ use Rattle.ssr_base.specs.declared.ids.FileRange.{FileRange}
 use Rattle.ssr_base.specs.declared.ids.NodeId.{NodeId}
 use Rattle.ssr_base.specs.Meanings.{Meanings}
 use Rattle.ssr_base.specs.Origins.{Span, cover_of, covered}
-use Rattle.ssr_base.specs.Workspace.{Workspace, Planted, FileSpan, trees, planted, tree_of, node_id, file_of, original_in, own_span, original_range, original_run_in, own_run_span, has_run, file_span_of, cover_below}
+use Rattle.ssr_base.specs.Workspace.{Workspace, Planted, FileSpan, trees, with_number, tree_of, node_id, file_of, original_in, own_span, original_range, original_run_in, own_run_span, has_run, file_span_of, cover_below}
 use Rattle.ssr_base.specs.Laws.{LiesIn}
 use Rattle.ide_ssr_resolving.specs.Resolved.{ResolvedKind}
 use Rattle.ide_ssr_found.specs.declared.bindings.Binding.{Binding}
@@ -55,10 +55,10 @@ pub in_bounds : (ts : List Planted) (t : ℕ) (bounds : Bounds) (range : FileSpa
 in_bounds ts t bounds range are =
     let Known : Planted → Type 0 = λ p. MatchOption p.call (bounds ≡ limits.Everywhere) (λ call. AreBoundsOf (arguments_range ts call) bounds) in
     let Lies : Planted → Type 0 = λ p. IfSome p.call (λ call. IsSomeAnd (arguments_range ts call) (LiesIn range)) in
-    let had = some_and (planted ts t) Known are in
+    let had = some_and (with_number ts t) Known are in
     let both = bounds_hold ts had.0.call bounds range had.2 in (
-      λ lies. and_some (planted ts t) Lies had.0 had.1 (both.0 lies),
-      λ lies. let other = some_and (planted ts t) Lies lies in
+      λ lies. and_some (with_number ts t) Lies had.0 had.1 (both.0 lies),
+      λ lies. let other = some_and (with_number ts t) Lies lies in
           both.1 (subst Lies (same_Some other.0 had.0 (sym other.1 ∙ had.1)) other.2),
     )
 
@@ -92,7 +92,7 @@ placed_match ts x bindings ranges tested apart placed are same known =
 
 -- ** In a file.
 
-module _ (ts : List Planted) (t : ℕ) (p : Planted) (plants : planted ts t ≡ Some p) (uncalled : p.call ≡ None) where
+module _ (ts : List Planted) (t : ℕ) (p : Planted) (plants : with_number ts t ≡ Some p) (uncalled : p.call ≡ None) where
   abbrev in_this_file : Span → FileSpan
   in_this_file span = record { file = file_of ts t; span = span }
 
@@ -114,7 +114,7 @@ module _ (ts : List Planted) (t : ℕ) (p : Planted) (plants : planted ts t ≡ 
   placed_in_file : (h : Held) → HasHeld p.syntax h → IsPlaced ts t (range_of_held ts t h)
   placed_in_file h has =
       and_some (range_of_held ts t h) (LiesInArguments ts t) (own h) (own_range h has)
-      (and_some (planted ts t) (λ p. IfSome p.call (λ call. IsSomeAnd (arguments_range ts call) (LiesIn (own h)))) p plants
+      (and_some (with_number ts t) (λ p. IfSome p.call (λ call. IsSomeAnd (arguments_range ts call) (LiesIn (own h)))) p plants
       (subst (λ call. IfSome call (λ call. IsSomeAnd (arguments_range ts call) (LiesIn (own h)))) (sym uncalled) tt))
 
   own_apart : (a b : Binding) → AreApart p.syntax a b → AreDisjoint (own a.held) (own b.held)
@@ -140,7 +140,7 @@ file_placed ts x bindings are m =
     let p = m.tree in
     let t = x.tree in
     let n = x.node.0 in
-    let had = some_and (planted ts t) (λ p. MatchOption p.call (limits.Everywhere ≡ limits.Everywhere) (λ call. AreBoundsOf (arguments_range ts call) limits.Everywhere)) are in
+    let had = some_and (with_number ts t) (λ p. MatchOption p.call (limits.Everywhere ≡ limits.Everywhere) (λ call. AreBoundsOf (arguments_range ts call) limits.Everywhere)) are in
     let uncalled : p.call ≡ None = no_call had.0.call p.call (ap (λ (p : Planted). p.call) (same_Some had.0 p (sym had.1 ∙ m.is))) had.2 in
     let matches = bindings_of-Matches m.meanings t m.rule (root_of m.rule.pattern) (node_of p.syntax n) bindings m.matches in
     let bound = held_in p.syntax m.meanings t m.rule (root_of m.rule.pattern) n bindings m.has matches in

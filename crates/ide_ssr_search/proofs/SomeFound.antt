@@ -5,7 +5,7 @@ use Rattle.ssr_syntax_tree.specs.Syntax.{Syntax, node_count}
 use Rattle.ssr_syntax_tree.specs.Places.{HasNode, node_of, root_of}
 use Rattle.ssr_syntax_tree.proofs.Lists.{stands_at}
 use Rattle.ssr_base.specs.Meanings.{Meanings}
-use Rattle.ssr_base.specs.Workspace.{Workspace, Planted, trees, planted, tree_of, node_id}
+use Rattle.ssr_base.specs.Workspace.{Workspace, Planted, trees, with_number, tree_of, node_id}
 use Rattle.ssr_base.specs.Built.{IsBuilt}
 use Rattle.ssr_base.proofs.Shared.{planted_within}
 use Rattle.ide_ssr_resolving.specs.Resolved.{ResolvedKind}
@@ -67,9 +67,9 @@ module _ (w : Workspace) (b : IsBuilt w) (meanings : Meanings) (context : Contex
         nodes_tried left (n + 1) (omega arith) next.0 next.1
 
   trees_tried : (left t : ℕ) → t + left ≡ length (trees w) → (ms : List Found) → AreFoundBefore w meanings context rules t 0 0 ms → (found : List Found) × AreFound w meanings context rules found
-  trees_tried zero t all ms so_far = (ms, found_all w meanings context rules t ms (none_there (planted (trees w) t) refl) so_far)
+  trees_tried zero t all ms so_far = (ms, found_all w meanings context rules t ms (none_there (with_number (trees w) t) refl) so_far)
     where
-      none_there : (o : Option Planted) → planted (trees w) t ≡ o → None ≡ option_map (λ (p : Planted). p.syntax) o
+      none_there : (o : Option Planted) → with_number (trees w) t ≡ o → None ≡ option_map (λ (p : Planted). p.syntax) o
       none_there None is = refl
       none_there (Some p) is = absurd (omega (arith, planted_within (trees w) t p is))
   trees_tried (suc left) t all ms so_far =

@@ -6,7 +6,7 @@ use Rattle.std.specs.Option.{option_and_then}
 use Rattle.ssr_syntax_tree.specs.Syntax.{Syntax}
 use Rattle.ssr_syntax_tree.specs.Places.{HasNode, node_of}
 use Rattle.ssr_base.specs.declared.ids.NodeId.{NodeId}
-use Rattle.ssr_base.specs.Workspace.{Workspace, Planted, trees, planted, tree_of, node_id, above_in, above}
+use Rattle.ssr_base.specs.Workspace.{Workspace, Planted, trees, with_number, tree_of, node_id, above_in, above}
 use Rattle.ssr_base.specs.Laws.{climbed, IsBelow}
 use Rattle.ssr_base.proofs.Shared.{planted_first, planted_earlier, planted_within, length-trees, told_is, climbed_next}
 use Rattle.ide_ssr_found.specs.Found.{IsAtOrBelow}
@@ -19,7 +19,7 @@ then_some f (Some x) y is = (x, refl, is)
 
 -- ** Trees.
 
-pub planted_there : (ts : List Planted) (t : ℕ) → t < length ts → (p : Planted) × (planted ts t ≡ Some p)
+pub planted_there : (ts : List Planted) (t : ℕ) → t < length ts → (p : Planted) × (with_number ts t ≡ Some p)
 planted_there [] t within = absurd (omega arith)
 planted_there (q ∷ earlier) t within =
     elim (cases_eq t (length earlier)) [

@@ -7,7 +7,7 @@ use Rattle.ssr_syntax_kinds.specs.Kinds.{same_kind, is_trivia}
 use Rattle.ssr_syntax_tree.specs.Syntax.{Token, tokens_of}
 use Rattle.ssr_syntax_tree.specs.Places.{Part, token_part, node_part, node_of, parts_of}
 use Rattle.ssr_base.specs.declared.ids.NodeId.{NodeId}
-use Rattle.ssr_base.specs.Workspace.{Workspace, Planted, FileSpan, trees, planted, node_id, original_range}
+use Rattle.ssr_base.specs.Workspace.{Workspace, Planted, FileSpan, trees, with_number, node_id, original_range}
 use Rattle.ssr_base.specs.Built.{IsNodeOf, IsMacroCall}
 use Rattle.ssr_base.specs.Laws.{IsBelow, LiesIn}
 use Rattle.ide_ssr_resolving.specs.Resolved.{ResolvedKind}
@@ -15,7 +15,7 @@ use Rattle.ide_ssr_found.specs.Found.{IsAtOrBelow, HasByte}
 use Rattle.ide_ssr_search.specs.Context.{Context}
 
 abbrev pub IsUse : List Planted → NodeId → Type 0
-IsUse trees x = IsSomeAnd (planted trees x.tree) (λ p. (node_of p.syntax x.node.0).kind ≡ k.USE)
+IsUse trees x = IsSomeAnd (with_number trees x.tree) (λ p. (node_of p.syntax x.node.0).kind ≡ k.USE)
 
 -- ** The arguments of a macro call.
 
@@ -31,7 +31,7 @@ abbrev pub arguments_of : List Planted → NodeId → Option NodeId
 arguments_of trees call =
     option_and_then
     (λ p. option_map (node_id call.tree) (first_token_tree (parts_of (node_of p.syntax call.node.0))))
-    (planted trees call.tree)
+    (with_number trees call.tree)
 
 -- where they come from
 abbrev pub arguments_range : List Planted → NodeId → Option FileSpan

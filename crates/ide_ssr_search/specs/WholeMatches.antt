@@ -4,7 +4,7 @@ use Rattle.std.specs.Option.{IsSomeAnd}
 use Rattle.ssr_syntax_tree.specs.Places.{node_of, root_of}
 use Rattle.ssr_base.specs.declared.ids.NodeId.{NodeId}
 use Rattle.ssr_base.specs.Meanings.{Meanings}
-use Rattle.ssr_base.specs.Workspace.{Planted, FileSpan, planted, original_range}
+use Rattle.ssr_base.specs.Workspace.{Planted, FileSpan, with_number, original_range}
 use Rattle.ssr_base.specs.Laws.{LiesIn}
 use Rattle.ide_ssr_resolving.specs.Resolved.{ResolvedKind}
 use Rattle.ide_ssr_found.specs.declared.bindings.Binding.{Binding}
@@ -16,7 +16,7 @@ use Rattle.ide_ssr_search.specs.Printing.{CanBeWritten}
 -- in a tree that a macro call stands for, a range lies in the call's arguments
 abbrev pub LiesInArguments : List Planted → ℕ → FileSpan → Type 0
 LiesInArguments trees t range =
-    IsSomeAnd (planted trees t) (λ p. IfSome p.call (λ call. IsSomeAnd (arguments_range trees call) (LiesIn range)))
+    IsSomeAnd (with_number trees t) (λ p. IfSome p.call (λ call. IsSomeAnd (arguments_range trees call) (LiesIn range)))
 
 -- there is such a range, of something in this tree, and it lies so
 abbrev pub IsPlaced : List Planted → ℕ → Option FileSpan → Type 0
@@ -25,7 +25,7 @@ IsPlaced trees t range = IsSomeAnd range (LiesInArguments trees t)
 -- The node matches the root of the pattern by what names mean, it and what the placeholders hold are placed, no two
 -- placeholders share a byte, and the template can be written there.
 pub record IsWholeMatch (trees : List Planted) (m : Meanings) (rule : ResolvedKind) (x : NodeId) (bindings : List Binding) : Type 0 where
-  pub matches : IsSomeAnd (planted trees x.tree) (λ p. Matches m x.tree rule (root_of rule.pattern) (node_of p.syntax x.node.0) bindings)
+  pub matches : IsSomeAnd (with_number trees x.tree) (λ p. Matches m x.tree rule (root_of rule.pattern) (node_of p.syntax x.node.0) bindings)
   pub placed : IsPlaced trees x.tree (original_range trees x)
   pub bindings_placed : All (λ b. IsPlaced trees x.tree (held_range trees x.tree b)) bindings
   pub apart : AllPairs (ShareNoByte trees x.tree) bindings

@@ -8,7 +8,7 @@ use Rattle.std.specs.Option.{option_map, option_and_then}
 use Rattle.ssr_syntax_tree.specs.Syntax.{node_count}
 use Rattle.ssr_syntax_tree.specs.Places.{HasNode, node_of}
 use Rattle.ssr_base.specs.declared.ids.NodeId.{NodeId}
-use Rattle.ssr_base.specs.Workspace.{Expanded, Workspace, Planted, of_expansion, trees, planted, file_of, node_id, same_id, has_node, told_of, above_in, above, expansion_of}
+use Rattle.ssr_base.specs.Workspace.{Expanded, Workspace, Planted, of_expansion, trees, with_number, file_of, node_id, same_id, has_node, told_of, above_in, above, expansion_of}
 use Rattle.ssr_base.specs.Built.{IsNodeOf, CallsAreEarlier, IsBuilt}
 use Rattle.ssr_base.specs.Laws.{IsEarlier, climbed, file_root, ReachesItsFile}
 use Rattle.ssr_base.proofs.Trees.{planted_at, same_nodes, same_id-itself}
@@ -20,21 +20,21 @@ use Rattle.ssr_base.proofs.Planting.{some_and, and_some, mapped, file_at, is_top
 -- what is known of a node of which its tree tells something
 pub record IsTold {A : Type 0} (tell : Planted → Option A) (ts : List Planted) (x : NodeId) (value : A) : Type 0 where
   pub tree : Planted
-  pub is : planted ts x.tree ≡ Some tree
+  pub is : with_number ts x.tree ≡ Some tree
   pub has : HasNode tree.syntax x.node.0
   pub tells : tell tree ≡ Some value
 
 pub told_from : {A : Type 0} (tell : Planted → Option A) (ts : List Planted) (x : NodeId) (value : A) → told_of tell ts x ≡ Some value → IsTold tell ts x value
 told_from {A} tell ts x value told =
-    option_and_then_some {P = IsTold tell ts x value} (λ p. if has_node p.syntax x.node.0 then tell p else None) (planted ts x.tree) value told
+    option_and_then_some {P = IsTold tell ts x value} (λ p. if has_node p.syntax x.node.0 then tell p else None) (with_number ts x.tree) value told
     (λ p is here. tested p is (has_node p.syntax x.node.0) refl here)
   where
-    tested : (p : Planted) → planted ts x.tree ≡ Some p → (b : Bool) → has_node p.syntax x.node.0 ≡ b → ◌≡◌ {A = Option A} (if b then tell p else None) (Some value)
+    tested : (p : Planted) → with_number ts x.tree ≡ Some p → (b : Bool) → has_node p.syntax x.node.0 ≡ b → ◌≡◌ {A = Option A} (if b then tell p else None) (Some value)
         → IsTold tell ts x value
     tested p is true test here = record { tree = p; is = is; has = ltb-true x.node.0 (1 + node_count p.syntax.children) test; tells = here }
     tested p is false test here = cc
 
-pub told_is : {A : Type 0} (tell : Planted → Option A) (ts : List Planted) (x : NodeId) (p : Planted) → planted ts x.tree ≡ Some p → HasNode p.syntax x.node.0
+pub told_is : {A : Type 0} (tell : Planted → Option A) (ts : List Planted) (x : NodeId) (p : Planted) → with_number ts x.tree ≡ Some p → HasNode p.syntax x.node.0
     → told_of tell ts x ≡ tell p
 told_is tell ts x p is has =
     ap (λ o. option_and_then (λ p. if has_node p.syntax x.node.0 then tell p else None) o) is
@@ -74,17 +74,17 @@ is_up ts x up grown is =
           let before = parent_before p.syntax x.node.0 told.has inner.0 in
           subst (IsUp ts x) inner.1
           (record {
-            node = and_some (planted ts x.tree) (λ p. HasNode p.syntax (node_of told.tree.syntax x.node.0).parent) p told.is (omega (arith, before, told.has));
+            node = and_some (with_number ts x.tree) (λ p. HasNode p.syntax (node_of told.tree.syntax x.node.0).parent) p told.is (omega (arith, before, told.has));
             earlier = inr (refl, before);
           })
     ]
 
-above_inner : (ts : List Planted) (t n : ℕ) (p : Planted) → planted ts t ≡ Some p → HasNode p.syntax n → 0 < n → above ts (node_id t n) ≡ Some (node_id t (node_of p.syntax n).parent)
+above_inner : (ts : List Planted) (t n : ℕ) (p : Planted) → with_number ts t ≡ Some p → HasNode p.syntax n → 0 < n → above ts (node_id t n) ≡ Some (node_id t (node_of p.syntax n).parent)
 above_inner ts t n p is has inner =
     told_is (above_in (node_id t n)) ts (node_id t n) p is has
     ∙ cond-false (n == 0) p.call (Some (node_id t (node_of p.syntax n).parent)) (ne_eqb n 0 (λ e. omega arith))
 
-pub above_root : (ts : List Planted) (t : ℕ) (p : Planted) → planted ts t ≡ Some p → above ts (node_id t 0) ≡ p.call
+pub above_root : (ts : List Planted) (t : ℕ) (p : Planted) → with_number ts t ≡ Some p → above ts (node_id t 0) ≡ p.call
 above_root ts t p is = told_is (above_in (node_id t 0)) ts (node_id t 0) p is (omega arith)
 
 -- ** The way up.
@@ -101,7 +101,7 @@ climbed_on ts (suc n) m x y z first second =
     (λ c is rest. climbed_next ts (n + m) x c is ∙ climbed_on ts n m c y z rest second)
 
 -- from a node to its tree's root
-to_root : (ts : List Planted) (t : ℕ) (p : Planted) (bound n : ℕ) → n ≤ bound → planted ts t ≡ Some p → HasNode p.syntax n
+to_root : (ts : List Planted) (t : ℕ) (p : Planted) (bound n : ℕ) → n ≤ bound → with_number ts t ≡ Some p → HasNode p.syntax n
     → (steps : ℕ) × (climbed ts steps (node_id t n) ≡ Some (node_id t 0))
 to_root ts t p bound zero low is has = (0, refl)
 to_root ts t p zero (suc n) low is has = absurd (omega arith)
@@ -112,19 +112,19 @@ to_root ts t p (suc bound) (suc n) low is has =
     (suc rest.0, climbed_next ts rest.0 (node_id t (suc n)) (node_id t parent) (above_inner ts t (suc n) p is has (omega arith)) ∙ rest.1)
 
 -- the steps from a tree's root to that of the file at the top
-to_file : (w : Workspace) (bound t : ℕ) (p : Planted) → t < bound → CallsAreEarlier (trees w) → planted (trees w) t ≡ Some p
+to_file : (w : Workspace) (bound t : ℕ) (p : Planted) → t < bound → CallsAreEarlier (trees w) → with_number (trees w) t ≡ Some p
     → (steps : ℕ) × (climbed (trees w) steps (node_id t 0) ≡ Some (node_id (file_of (trees w) t) 0))
 to_file w zero t p low grown is = absurd (omega arith)
 to_file w (suc bound) t p low grown is = called p.call refl (λ s q less e. to_file w bound s q less grown e)
   where
     called : (o : Option NodeId) → p.call ≡ o
-        → ((s : ℕ) (q : Planted) → s < bound → planted (trees w) s ≡ Some q → (steps : ℕ) × (climbed (trees w) steps (node_id s 0) ≡ Some (node_id (file_of (trees w) s) 0)))
+        → ((s : ℕ) (q : Planted) → s < bound → with_number (trees w) s ≡ Some q → (steps : ℕ) × (climbed (trees w) steps (node_id s 0) ≡ Some (node_id (file_of (trees w) s) 0)))
         → (steps : ℕ) × (climbed (trees w) steps (node_id t 0) ≡ Some (node_id (file_of (trees w) t) 0))
     called None none further = (0, ap (λ f. Some (node_id f 0)) (sym (own_file w t (uncalled_within w t p is none))))
     called (Some call) some further =
         let known = is_called (trees w) t p call grown is some in
         let earlier = known.earlier in
-        let had = some_and (planted (trees w) call.tree) (λ q. HasNode q.syntax call.node.0) known.node in
+        let had = some_and (with_number (trees w) call.tree) (λ q. HasNode q.syntax call.node.0) known.node in
         let up = to_root (trees w) call.tree had.0 call.node.0 call.node.0 (omega arith) had.1 had.2 in
         let top = further call.tree had.0 (omega arith) had.1 in (
           suc (up.0 + top.0),
@@ -135,7 +135,7 @@ to_file w (suc bound) t p low grown is = called p.call refl (λ s q less e. to_f
 
 pub reaches_its_file : (w : Workspace) (x : NodeId) → IsBuilt w → IsNodeOf (trees w) x → ReachesItsFile w x
 reaches_its_file w x b node =
-    let had = some_and (planted (trees w) x.tree) (λ p. HasNode p.syntax x.node.0) node in
+    let had = some_and (with_number (trees w) x.tree) (λ p. HasNode p.syntax x.node.0) node in
     let up = to_root (trees w) x.tree had.0 x.node.0 x.node.0 (omega arith) had.1 had.2 in
     let on = to_file w (suc x.tree) x.tree had.0 (omega arith) b.grown had.1 in
     let top = is_top (trees w) x.tree had.0 b.grown had.1 in

@@ -23,7 +23,7 @@ use Rattle.ssr_base.specs.declared.ids.NodeId.{NodeId}
 use Rattle.ssr_base.specs.declared.building.Expansion.{Expansion}
 use Rattle.ssr_base.specs.declared.workspace_error.WorkspaceError.{WorkspaceError}
 use Rattle.ssr_base.specs.declared.workspace_error.WorkspaceError.TheVariants as errors
-use Rattle.ssr_base.specs.Workspace.{Expanded, Workspace, Planted, of_file, of_expansion, trees, planted, nesting, text_at_top, same_id, node_id, expansion_of}
+use Rattle.ssr_base.specs.Workspace.{Expanded, Workspace, Planted, of_file, of_expansion, trees, with_number, nesting, text_at_top, same_id, node_id, expansion_of}
 use Rattle.ssr_base.specs.Building.{most_trees, most_nested, ◌>>=◌, unless, in_turn, read_as, checked_call, fits_origin, origin_of, joined_origins, with_file, with_expansion, no_tree, built}
 use Rattle.ssr_base.specs.Built.{IsMacroCall, CallsAreEarlier, HasOrigins, HasTexts, IsBuilt}
 use Rattle.ssr_base.specs.Private.Built.{IsOfCall}
@@ -134,7 +134,7 @@ other_calls w call free =
 
 has_more : (q : Planted) (earlier : List Planted) (e : Expanded) → CallsAreEarlier earlier → IsMacroCall earlier e.call → HasOrigins earlier e → HasOrigins (q ∷ earlier) e
 has_more q earlier e grown call has =
-    let at = some_and (planted earlier e.call.tree) (λ p. (node_of p.syntax e.call.node.0).kind ≡ k.MACRO_CALL) call in
+    let at = some_and (with_number earlier e.call.tree) (λ p. (node_of p.syntax e.call.node.0).kind ≡ k.MACRO_CALL) call in
     record {
       counted = has.counted;
       fitting =

@@ -11,7 +11,7 @@ use Rattle.ssr_base.specs.declared.ids.NodeId.{NodeId}
 use Rattle.ssr_base.specs.declared.building.Expansion.{Expansion}
 use Rattle.ssr_base.specs.declared.workspace_error.WorkspaceError.{WorkspaceError}
 use Rattle.ssr_base.specs.declared.workspace_error.WorkspaceError.TheVariants as errors
-use Rattle.ssr_base.specs.Workspace.{Workspace, trees, planted, tree_of, text_at_top, nesting, node_id, expansion_of}
+use Rattle.ssr_base.specs.Workspace.{Workspace, trees, with_number, tree_of, text_at_top, nesting, node_id, expansion_of}
 use Rattle.ssr_base.specs.Building.{most_nested, ◌>>=◌, unless, first_call, if_free, free_call, fits_origin, origin_of, checked_call}
 use Rattle.ssr_base.specs.Private.Built.{IsFree}
 use Rattle.ssr_base.proofs.Trees.{length-trees}
@@ -123,7 +123,7 @@ pub checked_free : (w : Workspace) (x : Expansion) (call : NodeId) → Ok call �
 checked_free w x call e =
     let told = accepted w x call (sym e) in
     let chosen = chosen_free w x.call.0 x.call.1 call told.0 in
-    let tree = some_and (planted (trees w) call.tree) (λ p. HasNode p.syntax call.node.0) chosen.0.node in
+    let tree = some_and (with_number (trees w) call.tree) (λ p. HasNode p.syntax call.node.0) chosen.0.node in
     record {
       earlier = omega (arith, planted_within (trees w) call.tree tree.0 tree.1, length-trees w);
       nested = omega (arith, ltb-false most_nested (1 + nesting (trees w) call.tree) told.1);

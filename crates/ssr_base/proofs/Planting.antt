@@ -7,7 +7,7 @@ use Rattle.std.specs.Option.{IsSomeAnd, option_map, option_map_or}
 use Rattle.ssr_syntax_tree.specs.Syntax.{Syntax, source_of}
 use Rattle.ssr_syntax_tree.specs.Places.{HasNode}
 use Rattle.ssr_base.specs.declared.ids.NodeId.{NodeId}
-use Rattle.ssr_base.specs.Workspace.{Expanded, Workspace, Planted, of_file, of_expansion, trees, planted, file_of, nesting, text_at_top}
+use Rattle.ssr_base.specs.Workspace.{Expanded, Workspace, Planted, of_file, of_expansion, trees, with_number, file_of, nesting, text_at_top}
 use Rattle.ssr_base.specs.Built.{IsNodeOf, CallsAreEarlier}
 use Rattle.ssr_base.proofs.Trees.{planted_first, planted_earlier, planted-file, planted-expansion, file_of-earlier, file_of_file}
 
@@ -19,7 +19,7 @@ some_and (Some x) P known = (x, refl, known)
 pub and_some : {A : Type 0} (o : Option A) (P : A → Type 0) (x : A) → o ≡ Some x → P x → IsSomeAnd o P
 and_some o P x is known = subst (λ o. IsSomeAnd o P) (sym is) known
 
-pub planted_within : (ts : List Planted) (t : ℕ) (p : Planted) → planted ts t ≡ Some p → t < length ts
+pub planted_within : (ts : List Planted) (t : ℕ) (p : Planted) → with_number ts t ≡ Some p → t < length ts
 planted_within [] t p is = cc
 planted_within (q ∷ earlier) t p is =
     elim (cases_eq t (length earlier)) [
@@ -28,14 +28,14 @@ planted_within (q ∷ earlier) t p is =
     ]
 
 -- a tree that was there before
-pub planted_more : (q : Planted) (earlier : List Planted) (t : ℕ) (p : Planted) → planted earlier t ≡ Some p → planted (q ∷ earlier) t ≡ Some p
+pub planted_more : (q : Planted) (earlier : List Planted) (t : ℕ) (p : Planted) → with_number earlier t ≡ Some p → with_number (q ∷ earlier) t ≡ Some p
 planted_more q earlier t p is =
     planted_earlier q earlier t (λ e. omega (arith, planted_within earlier t p is)) ∙ is
 
-pub known_more : (P : Planted → Type 0) (q : Planted) (earlier : List Planted) (t : ℕ) → IsSomeAnd (planted earlier t) P → IsSomeAnd (planted (q ∷ earlier) t) P
+pub known_more : (P : Planted → Type 0) (q : Planted) (earlier : List Planted) (t : ℕ) → IsSomeAnd (with_number earlier t) P → IsSomeAnd (with_number (q ∷ earlier) t) P
 known_more P q earlier t known =
-    let had = some_and (planted earlier t) P known in
-    and_some (planted (q ∷ earlier) t) P had.0 (planted_more q earlier t had.0 had.1) had.2
+    let had = some_and (with_number earlier t) P known in
+    and_some (with_number (q ∷ earlier) t) P had.0 (planted_more q earlier t had.0 had.1) had.2
 
 -- ** The file at the top.
 
@@ -49,7 +49,7 @@ file_of-other p earlier t other = rw (ne_eqb t (length earlier) other) refl
 -- the file of a number is a tree without a call
 pub record IsTop (ts : List Planted) (file : ℕ) : Type 0 where
   pub tree : Planted
-  pub is : planted ts file ≡ Some tree
+  pub is : with_number ts file ≡ Some tree
   pub uncalled : tree.call ≡ None
 
 top_more : (q : Planted) (earlier : List Planted) (file : ℕ) → IsTop earlier file → IsTop (q ∷ earlier) file
@@ -59,7 +59,7 @@ top_more q earlier file top = record {
   uncalled = top.uncalled;
 }
 
-pub is_top : (ts : List Planted) (t : ℕ) (p : Planted) → CallsAreEarlier ts → planted ts t ≡ Some p → IsTop ts (file_of ts t)
+pub is_top : (ts : List Planted) (t : ℕ) (p : Planted) → CallsAreEarlier ts → with_number ts t ≡ Some p → IsTop ts (file_of ts t)
 is_top [] t p grown is = cc
 is_top (q ∷ earlier) t p grown is =
     elim (cases_eq t (length earlier)) [
@@ -70,20 +70,20 @@ is_top (q ∷ earlier) t p grown is =
     ]
   where
     called : (o : Option NodeId) → q.call ≡ o → t ≡ length earlier → IfSome o (IsNodeOf earlier)
-        → ((s : ℕ) (r : Planted) → planted earlier s ≡ Some r → IsTop earlier (file_of earlier s))
+        → ((s : ℕ) (r : Planted) → with_number earlier s ≡ Some r → IsTop earlier (file_of earlier s))
         → IsTop (q ∷ earlier) (option_map_or (λ call. file_of earlier call.tree) o t)
     called None e here node before = record { tree = q; is = planted_first q earlier t here; uncalled = e }
     called (Some call) e here node before =
-        let had = some_and (planted earlier call.tree) (λ p. HasNode p.syntax call.node.0) node in
+        let had = some_and (with_number earlier call.tree) (λ p. HasNode p.syntax call.node.0) node in
         top_more q earlier (file_of earlier call.tree) (before call.tree had.0 had.1)
 
 -- its text is the same while trees come
-pub text_more : (q : Planted) (earlier : List Planted) (t : ℕ) (p : Planted) → CallsAreEarlier earlier → planted earlier t ≡ Some p
+pub text_more : (q : Planted) (earlier : List Planted) (t : ℕ) (p : Planted) → CallsAreEarlier earlier → with_number earlier t ≡ Some p
     → text_at_top (q ∷ earlier) t ≡ text_at_top earlier t
 text_more q earlier t p grown is =
     let top = is_top earlier t p grown is in
     let tell : Option Planted → List ℕ = λ o. option_map_or (λ p. source_of p.syntax) o [] in
-    ap (λ file. tell (planted (q ∷ earlier) file)) (file_of-earlier q earlier t (planted_within earlier t p is))
+    ap (λ file. tell (with_number (q ∷ earlier) file)) (file_of-earlier q earlier t (planted_within earlier t p is))
     ∙ ap tell (planted_more q earlier (file_of earlier t) top.tree top.is ∙ sym top.is)
 
 -- ** The call of a tree.
@@ -103,7 +103,7 @@ called_more q earlier t call within known = record {
       file_of-earlier q earlier t within ∙ known.file ∙ sym (file_of-earlier q earlier call.tree (omega arith));
 }
 
-pub is_called : (ts : List Planted) (t : ℕ) (p : Planted) (call : NodeId) → CallsAreEarlier ts → planted ts t ≡ Some p → p.call ≡ Some call → IsCalled ts t call
+pub is_called : (ts : List Planted) (t : ℕ) (p : Planted) (call : NodeId) → CallsAreEarlier ts → with_number ts t ≡ Some p → p.call ≡ Some call → IsCalled ts t call
 is_called [] t p call grown is called = cc
 is_called (q ∷ earlier) t p call grown is called =
     elim (cases_eq t (length earlier)) [
@@ -111,7 +111,7 @@ is_called (q ∷ earlier) t p call grown is called =
           let same : q ≡ p = cc (planted_first q earlier t here, is) in
           let by : q.call ≡ Some call = ap (λ (p : Planted). p.call) same ∙ called in
           let node : IsNodeOf earlier call = subst (λ o. IfSome o (IsNodeOf earlier)) by grown.0 in
-          let had = some_and (planted earlier call.tree) (λ p. HasNode p.syntax call.node.0) node in
+          let had = some_and (with_number earlier call.tree) (λ p. HasNode p.syntax call.node.0) node in
           let within = planted_within earlier call.tree had.0 had.1 in
           record {
             earlier = omega arith;
@@ -122,7 +122,7 @@ is_called (q ∷ earlier) t p call grown is called =
                 ∙ sym (file_of-earlier q earlier call.tree within);
           }
       | inr other ↦
-          let before : planted earlier t ≡ Some p = sym (planted_earlier q earlier t other) ∙ is in
+          let before : with_number earlier t ≡ Some p = sym (planted_earlier q earlier t other) ∙ is in
           called_more q earlier t call (planted_within earlier t p before) (is_called earlier t p call grown.1 before called)
     ]
 
@@ -149,7 +149,7 @@ pub mapped : {A B : Type 0} (f : A → B) (o : Option A) (y : B) → option_map 
 mapped f None y is = cc
 mapped f (Some x) y is = (x, refl, same_Some (f x) y is)
 
-pub file_at : (w : Workspace) (t : ℕ) (p : Planted) → t < length w.files → planted (trees w) t ≡ Some p → IsFile w t p
+pub file_at : (w : Workspace) (t : ℕ) (p : Planted) → t < length w.files → with_number (trees w) t ≡ Some p → IsFile w t p
 file_at w t p within is =
     let found = mapped of_file (slice_get w.files t) p (sym (planted-file w t within) ∙ is) in
     record { tree = found.0; is = found.1; plants = found.2 }
@@ -159,13 +159,13 @@ pub record IsExpansion (w : Workspace) (t : ℕ) (p : Planted) : Type 0 where
   pub is : slice_get w.expansions (t - length w.files) ≡ Some expanded
   pub plants : of_expansion expanded ≡ p
 
-pub expansion_at : (w : Workspace) (t : ℕ) (p : Planted) → length w.files ≤ t → planted (trees w) t ≡ Some p → IsExpansion w t p
+pub expansion_at : (w : Workspace) (t : ℕ) (p : Planted) → length w.files ≤ t → with_number (trees w) t ≡ Some p → IsExpansion w t p
 expansion_at w t p behind is =
     let found = mapped of_expansion (slice_get w.expansions (t - length w.files)) p (sym (planted-expansion w t behind) ∙ is) in
     record { expanded = found.0; is = found.1; plants = found.2 }
 
 -- so its number is below that of each expansion
-pub uncalled_within : (w : Workspace) (t : ℕ) (p : Planted) → planted (trees w) t ≡ Some p → p.call ≡ None → t < length w.files
+pub uncalled_within : (w : Workspace) (t : ℕ) (p : Planted) → with_number (trees w) t ≡ Some p → p.call ≡ None → t < length w.files
 uncalled_within w t p is none =
     elim (cases_lt t (length w.files)) [
       | inl within ↦ within

@@ -19,7 +19,7 @@ use Rattle.ssr_base.specs.declared.ids.NodeId.{NodeId}
 use Rattle.ssr_base.specs.declared.ids.TokenRun.{TokenRun}
 use Rattle.ssr_base.specs.Origins.{Span, cover_of, covered}
 use Rattle.ssr_base.specs.Texts.{is_boundary, text_between}
-use Rattle.ssr_base.specs.Workspace.{Workspace, Planted, FileSpan, trees, planted, file_of, text_at_top, text_of, node_id, above_in, above, original_in, original, original_range, run_of, has_run, own_run_span, original_run_in, original_run, run_range, file_span_of}
+use Rattle.ssr_base.specs.Workspace.{Workspace, Planted, FileSpan, trees, with_number, file_of, text_at_top, text_of, node_id, above_in, above, original_in, original, original_range, run_of, has_run, own_run_span, original_run_in, original_run, run_range, file_span_of}
 use Rattle.ssr_base.specs.Building.{fits_origin}
 use Rattle.ssr_base.specs.Built.{CallsAreEarlier, HasOrigins, HasTexts, IsBuilt}
 use Rattle.ssr_base.specs.Laws.{climbed, IsAmong, RangesNest, RunsNest, IsSpanOf, LiesInFile}
@@ -48,7 +48,7 @@ original_from ts x range is =
 
 record IsOriginalRun (ts : List Planted) (t : ℕ) (run : TokenRun) (range : FileSpan) : Type 0 where
   tree : Planted
-  is : planted ts t ≡ Some tree
+  is : with_number ts t ≡ Some tree
   tells : original_run_in tree run ≡ Some range.span
   file : file_of ts t ≡ range.file
 
@@ -56,11 +56,11 @@ run_from : (ts : List Planted) (t : ℕ) (run : TokenRun) (range : FileSpan) →
 run_from ts t run range is =
     let told = mapped (λ (span : Span). record { file = file_of ts t; span = span }) (original_run ts t run) range is in
     let file : file_of ts t ≡ range.file = ap (λ (r : FileSpan). r.file) told.2 in
-    option_and_then_some {P = IsOriginalRun ts t run range} (λ p. if has_run p.syntax run then original_run_in p run else None) (planted ts t) range.span
+    option_and_then_some {P = IsOriginalRun ts t run range} (λ p. if has_run p.syntax run then original_run_in p run else None) (with_number ts t) range.span
     (told.1 ∙ ap (λ (r : FileSpan). Some r.span) told.2)
     (λ p plants here. tested p plants file (has_run p.syntax run) here)
   where
-    tested : (p : Planted) → planted ts t ≡ Some p → file_of ts t ≡ range.file → (b : Bool)
+    tested : (p : Planted) → with_number ts t ≡ Some p → file_of ts t ≡ range.file → (b : Bool)
         → ◌≡◌ {A = Option Span} (if b then original_run_in p run else None) (Some range.span) → IsOriginalRun ts t run range
     tested p plants file true here = record { tree = p; is = plants; tells = here; file = file }
     tested p plants file false here = cc
@@ -91,7 +91,7 @@ holds_on a b c first second =
     record { starts = omega arith; ends = omega arith }
 
 holds_below : (ts : List Planted) (n : ℕ) (b a : NodeId) (p : Planted) → CallsAreEarlier ts → climbed ts n b ≡ Some a → a.tree ≡ b.tree
-    → planted ts b.tree ≡ Some p → HasNode p.syntax b.node.0 → HoldsTokens (node_of p.syntax a.node.0) (node_of p.syntax b.node.0)
+    → with_number ts b.tree ≡ Some p → HasNode p.syntax b.node.0 → HoldsTokens (node_of p.syntax a.node.0) (node_of p.syntax b.node.0)
 holds_below ts zero b a p grown is one at has =
     subst (λ (x : NodeId). HoldsTokens (node_of p.syntax x.node.0) (node_of p.syntax b.node.0)) (same_Some b a is) (holds_itself (node_of p.syntax b.node.0))
 holds_below ts (suc n) b a p grown is one at has =
@@ -129,7 +129,7 @@ ranges_nest w b a x outer inner below one first second =
     let upper = original_from ts a outer first in
     let lower = original_from ts x inner second in
     let p = lower.told.tree in
-    let same : upper.told.tree ≡ p = same_Some upper.told.tree p (sym upper.told.is ∙ ap (planted ts) one ∙ lower.told.is) in
+    let same : upper.told.tree ≡ p = same_Some upper.told.tree p (sym upper.told.is ∙ ap (with_number ts) one ∙ lower.told.is) in
     let holds = holds_below ts (suc below.0) x a p b.grown below.1 one lower.told.is lower.told.has in
     let spans = spans_nest p.syntax p.call p.origins (run_of (node_of p.syntax a.node.0)) (run_of (node_of p.syntax x.node.0)) outer.span inner.span
     (holds.starts, holds.ends)
@@ -148,7 +148,7 @@ runs_nest w x run outer inner among first second =
     let p = lower.tree in
     let same : upper.told.tree ≡ p = same_Some upper.told.tree p (sym upper.told.is ∙ lower.is) in
     let Among : Planted → Type 0 = λ p. IsAmong run (run_of (node_of p.syntax x.node.0)) in
-    let had = some_and (planted ts x.tree) Among among in
+    let had = some_and (with_number ts x.tree) Among among in
     let spans = spans_nest p.syntax p.call p.origins (run_of (node_of p.syntax x.node.0)) run outer.span inner.span
     (subst Among (same_Some had.0 p (sym had.1 ∙ lower.is)) had.2)
     (ap (origin_in x) (sym same) ∙ upper.told.tells) lower.tells in
@@ -210,7 +210,7 @@ in_file_at_top text origins run span fit is =
     let holds = fits.holds in
     span_of_text text span (omega arith) fits.begins fits.ends
 
-tokens_lie_in_file : (w : Workspace) (t : ℕ) (p : Planted) (run : TokenRun) (range : FileSpan) → IsBuilt w → planted (trees w) t ≡ Some p
+tokens_lie_in_file : (w : Workspace) (t : ℕ) (p : Planted) (run : TokenRun) (range : FileSpan) → IsBuilt w → with_number (trees w) t ≡ Some p
     → file_of (trees w) t ≡ range.file → original_run_in p run ≡ Some range.span → LiesInFile w range
 tokens_lie_in_file w t p run range b plants in_file tells =
     let ts = trees w in
@@ -233,7 +233,7 @@ tokens_lie_in_file w t p run range b plants in_file tells =
           let called = is_called ts t p e.call b.grown plants (ap (λ (p : Planted). p.call) (sym at.plants)) in
           let tell : Option Planted → List ℕ = λ o. option_map_or (λ p. source_of p.syntax) o [] in
           let text : text_at_top ts e.call.tree ≡ source_of file.tree =
-          ap (λ f. tell (planted ts f)) (sym called.file) ∙ ap tell (top.is ∙ ap Some (sym file.plants)) in
+          ap (λ f. tell (with_number ts f)) (sym called.file) ∙ ap tell (top.is ∙ ap Some (sym file.plants)) in
           subst (λ text. IsSpanOf text range.span) text
           (in_file_at_top (text_at_top ts e.call.tree) e.origins run range.span has.fitting
           (ap (λ p. original_run_in p run) at.plants ∙ tells))

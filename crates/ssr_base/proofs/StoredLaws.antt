@@ -16,16 +16,16 @@ use Rattle.ssr_base.specs.Origins.{cover_of, covered}
 use Rattle.ssr_base.specs.Private.Covers.{plain_cover, plain_origin}
 use Rattle.ssr_base.specs.Private.Stored.{expanded_of, IsStoredAt}
 use Rattle.ssr_base.specs.Built.{HasOrigins, IsBuilt}
-use Rattle.ssr_base.specs.Workspace.{Workspace, Planted, of_file, of_expansion, trees, planted, tree_of, has_node, told_of, own_span, original_in, original, has_run, own_run_span, original_run_in, original_run}
+use Rattle.ssr_base.specs.Workspace.{Workspace, Planted, of_file, of_expansion, trees, with_number, tree_of, has_node, told_of, own_span, original_in, original, has_run, own_run_span, original_run_in, original_run}
 use Rattle.ssr_base.proofs.Trees.{planted_at, planted-file, planted_past}
 
-pub stored_planted : (w : Workspace) (t : ℕ) (e : Stored) → IsStoredAt w t e → planted (trees w) t ≡ Some (of_expansion (expanded_of e))
+pub stored_planted : (w : Workspace) (t : ℕ) (e : Stored) → IsStoredAt w t e → with_number (trees w) t ≡ Some (of_expansion (expanded_of e))
 stored_planted w t e is = planted_at w t (expanded_of e) is.behind is.is
 
 pub stored_tree : (w : Workspace) (t : ℕ) (e : Stored) → IsStoredAt w t e → Some e.tree ≡ tree_of w t
 stored_tree w t e is = sym (ap (option_map (λ p. p.syntax)) (stored_planted w t e is))
 
-pub stored_call : (w : Workspace) (t : ℕ) (e : Stored) → IsStoredAt w t e → Some e.call ≡ option_and_then (λ p. p.call) (planted (trees w) t)
+pub stored_call : (w : Workspace) (t : ℕ) (e : Stored) → IsStoredAt w t e → Some e.call ≡ option_and_then (λ p. p.call) (with_number (trees w) t)
 stored_call w t e is = sym (ap (option_and_then (λ p. p.call)) (stored_planted w t e is))
 
 -- a place that is found lies in the list
@@ -43,7 +43,7 @@ position_within test i n (x ∷ xs) is =
 
 -- ** Where a node comes from, before it is told in which file.
 
-told_in : {A : Type 0} (tell : Planted → Option A) (w : Workspace) (x : NodeId) (p : Planted) → planted (trees w) x.tree ≡ Some p
+told_in : {A : Type 0} (tell : Planted → Option A) (w : Workspace) (x : NodeId) (p : Planted) → with_number (trees w) x.tree ≡ Some p
     → told_of tell (trees w) x ≡ (if has_node p.syntax x.node.0 then tell p else None)
 told_in tell w x p is = ap (option_and_then (λ q. if has_node q.syntax x.node.0 then tell q else None)) is
 
@@ -87,7 +87,7 @@ original_of_file w x s at =
     let within = slice_get_within w.files x.tree s at in
     told_in (λ p. original_in p (node_of p.syntax x.node.0)) w x (of_file s) (planted-file w x.tree within ∙ ap (option_map of_file) at)
 
-none_planted : (w : Workspace) (t : ℕ) → (length w.files ≤ t → length w.files + length w.expansions ≤ t) → slice_get w.files t ≡ None → planted (trees w) t ≡ None
+none_planted : (w : Workspace) (t : ℕ) → (length w.files ≤ t → length w.files + length w.expansions ≤ t) → slice_get w.files t ≡ None → with_number (trees w) t ≡ None
 none_planted w t free at =
     elim (cases_lt t (length w.files)) [
       | inl file ↦ planted-file w t file ∙ ap (option_map of_file) at
@@ -107,7 +107,7 @@ stored_counted w t e built is =
     sym (length-map e.origins.items plain_origin)
     ∙ (all_at (HasOrigins (trees w)) w.expansions (t - length w.files) (expanded_of e) built.origins is.is).counted
 
-run_in : (w : Workspace) (t : ℕ) (run : TokenRun) (p : Planted) → planted (trees w) t ≡ Some p
+run_in : (w : Workspace) (t : ℕ) (run : TokenRun) (p : Planted) → with_number (trees w) t ≡ Some p
     → original_run (trees w) t run ≡ (if has_run p.syntax run then original_run_in p run else None)
 run_in w t run p is = ap (option_and_then (λ q. if has_run q.syntax run then original_run_in q run else None)) is
 

@@ -8,7 +8,7 @@ use Rattle.std.specs.Slice.{IsItemAt}
 use Rattle.std.specs.Option.{option_copied, option_map, option_and_then, option_map_or}
 use Rattle.ssr_syntax_tree.specs.Syntax.{Syntax}
 use Rattle.ssr_base.specs.declared.ids.NodeId.{NodeId}
-use Rattle.ssr_base.specs.Workspace.{Expanded, Workspace, Planted, of_file, of_expansion, trees, planted, tree_of, file_of, nesting, node_id, same_id}
+use Rattle.ssr_base.specs.Workspace.{Expanded, Workspace, Planted, of_file, of_expansion, trees, with_number, tree_of, file_of, nesting, node_id, same_id}
 
 -- ** Elements of lists by their numbers.
 
@@ -34,13 +34,13 @@ slice_get_push (y ∷ xs) x =
 in_order : Workspace → List Planted
 in_order w = map of_file w.files ++ map of_expansion w.expansions
 
-pub planted_first : (p : Planted) (earlier : List Planted) (t : ℕ) → t ≡ length earlier → planted (p ∷ earlier) t ≡ Some p
+pub planted_first : (p : Planted) (earlier : List Planted) (t : ℕ) → t ≡ length earlier → with_number (p ∷ earlier) t ≡ Some p
 planted_first p earlier t e = rw (eq-eqb t (length earlier) e) refl
 
-pub planted_earlier : (p : Planted) (earlier : List Planted) (t : ℕ) → t ≢ length earlier → planted (p ∷ earlier) t ≡ planted earlier t
+pub planted_earlier : (p : Planted) (earlier : List Planted) (t : ℕ) → t ≢ length earlier → with_number (p ∷ earlier) t ≡ with_number earlier t
 planted_earlier p earlier t e = rw (ne_eqb t (length earlier) e) refl
 
-planted-reverse : (ts : List Planted) (t : ℕ) → planted ts t ≡ slice_get (reverse ts) t
+planted-reverse : (ts : List Planted) (t : ℕ) → with_number ts t ≡ slice_get (reverse ts) t
 planted-reverse [] t = refl
 planted-reverse (p ∷ earlier) t =
     let onto : reverse (p ∷ earlier) ≡ reverse earlier ++ p ∷ [] = reverse_onto earlier p [] in
@@ -68,7 +68,7 @@ planted-reverse (p ∷ earlier) t =
           ]
     ]
 
-planted_in_order : (w : Workspace) (t : ℕ) → planted (trees w) t ≡ slice_get (map of_file w.files ++ map of_expansion w.expansions) t
+planted_in_order : (w : Workspace) (t : ℕ) → with_number (trees w) t ≡ slice_get (map of_file w.files ++ map of_expansion w.expansions) t
 unfolding trees
 planted_in_order w t =
     planted-reverse (trees w) t ∙ ap (λ ts. slice_get ts t) (reverse-reverse (map of_file w.files ++ map of_expansion w.expansions))
@@ -82,14 +82,14 @@ length-trees w =
     ∙ ap (λ n. length w.files + n) (length-map w.expansions of_expansion)
 
 -- the tree of a file
-pub planted-file : (w : Workspace) (t : ℕ) → t < length w.files → planted (trees w) t ≡ option_map of_file (slice_get w.files t)
+pub planted-file : (w : Workspace) (t : ℕ) → t < length w.files → with_number (trees w) t ≡ option_map of_file (slice_get w.files t)
 planted-file w t h =
     planted_in_order w t
     ∙ slice_get-append_left (map of_file w.files) (map of_expansion w.expansions) t (omega (arith, length-map w.files of_file))
     ∙ slice_get-map of_file w.files t
 
 -- the tree of an expansion
-pub planted-expansion : (w : Workspace) (t : ℕ) → length w.files ≤ t → planted (trees w) t ≡ option_map of_expansion (slice_get w.expansions (t - length w.files))
+pub planted-expansion : (w : Workspace) (t : ℕ) → length w.files ≤ t → with_number (trees w) t ≡ option_map of_expansion (slice_get w.expansions (t - length w.files))
 planted-expansion w t h =
     let place : t ≡ length (map of_file w.files) + (t - length w.files) = omega (arith, length-map w.files of_file) in
     planted_in_order w t
@@ -125,15 +125,15 @@ tree_of_file w t h = ap (option_map (λ p. p.syntax)) (planted-file w t h) ∙ o
     of_file_again (Some syntax) = refl
 
 -- what is known of a tree that is no file's
-pub planted_at : (w : Workspace) (t : ℕ) (e : Expanded) → length w.files ≤ t → slice_get w.expansions (t - length w.files) ≡ Some e → planted (trees w) t ≡ Some (of_expansion e)
+pub planted_at : (w : Workspace) (t : ℕ) (e : Expanded) → length w.files ≤ t → slice_get w.expansions (t - length w.files) ≡ Some e → with_number (trees w) t ≡ Some (of_expansion e)
 planted_at w t e h is = planted-expansion w t h ∙ ap (option_map of_expansion) is
 
-pub planted_past : (w : Workspace) (t : ℕ) → length w.files + length w.expansions ≤ t → planted (trees w) t ≡ None
+pub planted_past : (w : Workspace) (t : ℕ) → length w.files + length w.expansions ≤ t → with_number (trees w) t ≡ None
 planted_past w t h =
     planted-expansion w t (omega arith) ∙ ap (option_map of_expansion) (slice_get_past w.expansions (t - length w.files) (omega arith))
 
 -- a tree without a call is its own file
-pub file_of_top : (ts : List Planted) (t : ℕ) → ((p : Planted) → planted ts t ≡ Some p → p.call ≡ None) → file_of ts t ≡ t
+pub file_of_top : (ts : List Planted) (t : ℕ) → ((p : Planted) → with_number ts t ≡ Some p → p.call ≡ None) → file_of ts t ≡ t
 file_of_top [] t top = refl
 file_of_top (p ∷ earlier) t top =
     elim (cases_eq t (length earlier)) [
@@ -143,7 +143,7 @@ file_of_top (p ∷ earlier) t top =
           rw (ne_eqb t (length earlier) other) (file_of_top earlier t (λ q is. top q (planted_earlier p earlier t other ∙ is)))
     ]
 
-pub nesting_top : (ts : List Planted) (t : ℕ) → ((p : Planted) → planted ts t ≡ Some p → p.call ≡ None) → nesting ts t ≡ 0
+pub nesting_top : (ts : List Planted) (t : ℕ) → ((p : Planted) → with_number ts t ≡ Some p → p.call ≡ None) → nesting ts t ≡ 0
 nesting_top [] t top = refl
 nesting_top (p ∷ earlier) t top =
     elim (cases_eq t (length earlier)) [
@@ -154,7 +154,7 @@ nesting_top (p ∷ earlier) t top =
     ]
 
 -- a number that is no expansion's
-call_of_file : (w : Workspace) (t : ℕ) → (length w.files ≤ t → length w.files + length w.expansions ≤ t) → (p : Planted) → planted (trees w) t ≡ Some p → p.call ≡ None
+call_of_file : (w : Workspace) (t : ℕ) → (length w.files ≤ t → length w.files + length w.expansions ≤ t) → (p : Planted) → with_number (trees w) t ≡ Some p → p.call ≡ None
 call_of_file w t free p is =
     elim (cases_lt t (length w.files)) [
       | inl file ↦ at_file (slice_get w.files t) p (sym (planted-file w t file) ∙ is)
@@ -171,8 +171,8 @@ file_of_file w t free = file_of_top (trees w) t (call_of_file w t free)
 pub nesting_of_file : (w : Workspace) (t : ℕ) → (length w.files ≤ t → length w.files + length w.expansions ≤ t) → nesting (trees w) t ≡ 0
 nesting_of_file w t free = nesting_top (trees w) t (call_of_file w t free)
 
-pub no_call : (w : Workspace) (t : ℕ) → (length w.files ≤ t → length w.files + length w.expansions ≤ t) → option_and_then (λ p. p.call) (planted (trees w) t) ≡ None
-no_call w t free = none_called (planted (trees w) t) (call_of_file w t free)
+pub no_call : (w : Workspace) (t : ℕ) → (length w.files ≤ t → length w.files + length w.expansions ≤ t) → option_and_then (λ p. p.call) (with_number (trees w) t) ≡ None
+no_call w t free = none_called (with_number (trees w) t) (call_of_file w t free)
   where
     none_called : (o : Option Planted) → ((p : Planted) → o ≡ Some p → p.call ≡ None) → option_and_then (λ p. p.call) o ≡ None
     none_called None known = refl

@@ -8,15 +8,15 @@ use Rattle.ssr_syntax_tree.specs.Syntax.{Syntax, token_count, tokens_of, depth_o
 use Rattle.ssr_syntax_tree.specs.Places.{node_of, HasNode}
 use Rattle.ssr_syntax.specs.Reading.{most_deep}
 use Rattle.ssr_base.specs.declared.ids.NodeId.{NodeId}
-use Rattle.ssr_base.specs.Workspace.{Expanded, Workspace, Planted, trees, planted, nesting, text_at_top}
+use Rattle.ssr_base.specs.Workspace.{Expanded, Workspace, Planted, trees, with_number, nesting, text_at_top}
 use Rattle.ssr_base.specs.Building.{most_trees, most_nested, fits_origin}
 
 -- whether there is such a node in one of the trees
 abbrev pub IsNodeOf : List Planted → NodeId → Type 0
-IsNodeOf trees x = IsSomeAnd (planted trees x.tree) (λ p. HasNode p.syntax x.node.0)
+IsNodeOf trees x = IsSomeAnd (with_number trees x.tree) (λ p. HasNode p.syntax x.node.0)
 
 abbrev pub IsMacroCall : List Planted → NodeId → Type 0
-IsMacroCall trees x = IsSomeAnd (planted trees x.tree) (λ p. (node_of p.syntax x.node.0).kind ≡ k.MACRO_CALL)
+IsMacroCall trees x = IsSomeAnd (with_number trees x.tree) (λ p. (node_of p.syntax x.node.0).kind ≡ k.MACRO_CALL)
 
 -- of trees, the latest first: the call of each is a node of one of those behind it, which are the earlier ones
 abbrev pub CallsAreEarlier : List Planted → Type 0

@@ -7,7 +7,7 @@ use Rattle.ssr_base.specs.declared.ids.NodeId.{NodeId}
 use Rattle.ssr_base.specs.declared.ids.TokenRun.{TokenRun}
 use Rattle.ssr_base.specs.Origins.{Span}
 use Rattle.ssr_base.specs.Texts.{is_boundary}
-use Rattle.ssr_base.specs.Workspace.{Workspace, Planted, FileSpan, trees, planted, file_of, node_id, above, original_range, run_of, run_range}
+use Rattle.ssr_base.specs.Workspace.{Workspace, Planted, FileSpan, trees, with_number, file_of, node_id, above, original_range, run_of, run_range}
 
 -- ** What stands above.
 
@@ -56,7 +56,7 @@ IsAmong inner outer = (outer.first ≤ inner.first) × (inner.first + inner.coun
 
 -- tokens of a tree are among those of a node
 abbrev pub AreOfNode : List Planted → TokenRun → NodeId → Type 0
-AreOfNode trees run x = IsSomeAnd (planted trees x.tree) (λ p. IsAmong run (run_of (node_of p.syntax x.node.0)))
+AreOfNode trees run x = IsSomeAnd (with_number trees x.tree) (λ p. IsAmong run (run_of (node_of p.syntax x.node.0)))
 
 -- where tokens of a node come from lies where it does
 abbrev pub RunsNest : List Planted → Type 0

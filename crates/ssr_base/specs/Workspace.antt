@@ -38,12 +38,12 @@ unfoldable pub trees : Workspace → List Planted
 trees w = reverse (map of_file w.files ++ map of_expansion w.expansions)
 
 -- the tree of a number
-abbrev pub planted : List Planted → ℕ → Option Planted
-planted [] t = None
-planted (p ∷ earlier) t = if t == length earlier then Some p else planted earlier t
+abbrev pub with_number : List Planted → ℕ → Option Planted
+with_number [] t = None
+with_number (p ∷ earlier) t = if t == length earlier then Some p else with_number earlier t
 
 abbrev pub tree_of : Workspace → ℕ → Option Syntax
-tree_of w t = option_map (λ p. p.syntax) (planted (trees w) t)
+tree_of w t = option_map (λ p. p.syntax) (with_number (trees w) t)
 
 -- the file at the top of a tree: of a file itself, and of an expansion the one at the top of its call
 abbrev pub file_of : List Planted → ℕ → ℕ
@@ -59,7 +59,7 @@ nesting (p ∷ earlier) t =
 
 -- the text of that file
 abbrev pub text_at_top : List Planted → ℕ → List ℕ
-text_at_top trees t = option_map_or (λ p. source_of p.syntax) (planted trees (file_of trees t)) []
+text_at_top trees t = option_map_or (λ p. source_of p.syntax) (with_number trees (file_of trees t)) []
 
 -- the text of a range of a file
 abbrev pub text_of : Workspace → FileRange → Option (List ℕ)
@@ -80,7 +80,7 @@ has_node syntax n = nat_lt n (1 + node_count syntax.children)
 
 -- what a node's tree tells, if there is such a node
 abbrev pub told_of : {A : Type 0} → (Planted → Option A) → List Planted → NodeId → Option A
-told_of tell trees x = option_and_then (λ p. if has_node p.syntax x.node.0 then tell p else None) (planted trees x.tree)
+told_of tell trees x = option_and_then (λ p. if has_node p.syntax x.node.0 then tell p else None) (with_number trees x.tree)
 
 -- above a node is its parent; above the root of an expansion is its call
 abbrev pub above_in : NodeId → Planted → Option NodeId
@@ -139,7 +139,7 @@ original_run_in p run =
     option_map_or (λ call. covered (cover_of (take run.count (drop run.first p.origins)))) p.call (Some (own_run_span p.syntax run))
 
 abbrev pub original_run : List Planted → ℕ → TokenRun → Option Span
-original_run trees t run = option_and_then (λ p. if has_run p.syntax run then original_run_in p run else None) (planted trees t)
+original_run trees t run = option_and_then (λ p. if has_run p.syntax run then original_run_in p run else None) (with_number trees t)
 
 abbrev pub run_range : List Planted → ℕ → TokenRun → Option FileSpan
 run_range trees t run = option_map (λ span. record { file = file_of trees t; span = span }) (original_run trees t run)

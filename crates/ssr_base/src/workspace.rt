@@ -6,7 +6,7 @@ ghost use Rattle.ssr_syntax_tree.specs.Places.{HasToken, node_of};
 ghost use Rattle.std.specs.Option.{option_copied, option_map, option_and_then};
 ghost use Rattle.ssr_syntax_tree.specs.Syntax.{source_of};
 ghost use Rattle.ssr_base.specs.Texts.{text_between};
-ghost use Rattle.ssr_base.specs.Workspace.{trees, planted, tree_of, file_of, nesting, text_at_top, text_of, above, expansion_of, has_node, has_run, own_span, own_run_span, original, original_run, original_range, run_range, file_span_of};
+ghost use Rattle.ssr_base.specs.Workspace.{trees, with_number, tree_of, file_of, nesting, text_at_top, text_of, above, expansion_of, has_node, has_run, own_span, own_run_span, original, original_run, original_range, run_range, file_span_of};
 ghost use Rattle.ssr_base.specs.Built.{IsBuilt};
 ghost use Rattle.ssr_base.specs.Private.Stored.{IsStoredAt};
 
@@ -232,7 +232,7 @@ impl Workspace {
 
     /// The call that a tree stands for.
     fn call_of(&self, tree: u32) -> Option<NodeId>
-        ensures { result ≡ option_and_then (λ p. p.call) (planted (trees self.now) tree) }
+        ensures { result ≡ option_and_then (λ p. p.call) (with_number (trees self.now) tree) }
     {
         match self.expansion(tree) {
             Some(expansion) => Some(expansion.call),

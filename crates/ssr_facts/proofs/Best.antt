@@ -11,7 +11,7 @@ use Rattle.std.specs.Ordering.{is_gt, is_lt, nat_cmp}
 use Rattle.std.specs.Prelude.{Contains, IsSome}
 use Rattle.std.specs.Option.{option_map}
 use Rattle.ssr_facts.specs.declared.scopes.Scope.{Scope}
-use Rattle.ssr_facts.specs.Private.Scopes.{Better, AsGood, IsBest, Covers, IsKept, IsKeptBeside, IsFirst, IsWorse, IsPassed}
+use Rattle.ssr_facts.specs.Private.Scopes.{IsBetter, AsGood, IsBest, Covers, IsKept, IsKeptBeside, IsFirst, IsWorse, IsPassed}
 
 -- ** The order of scopes.
 
@@ -24,18 +24,18 @@ good_good a b c (inl p) (inr q) = inl (omega arith)
 good_good a b c (inr p) (inl q) = inl (omega arith)
 good_good a b c (inr p) (inr q) = inr (p.0 ∙ q.0, omega arith)
 
-pub better_better : (a b c : Scope) → Better a b → Better b c → Better a c
+pub better_better : (a b c : Scope) → IsBetter a b → IsBetter b c → IsBetter a c
 better_better a b c (inl p) (inl q) = inl (omega arith)
 better_better a b c (inl p) (inr q) = inl (omega arith)
 better_better a b c (inr p) (inl q) = inl (omega arith)
 better_better a b c (inr p) (inr q) = inr (p.0 ∙ q.0, omega arith)
 
-pub good_better : (a b : Scope) → Better a b → AsGood a b
+pub good_better : (a b : Scope) → IsBetter a b → AsGood a b
 good_better a b (inl p) = inl p
 good_better a b (inr p) = inr (p.0, omega arith)
 
 -- no scope is better than one than which it is worse
-pub not_both : (a b : Scope) → Better a b → Better b a → ⊥
+pub not_both : (a b : Scope) → IsBetter a b → IsBetter b a → ⊥
 not_both a b (inl p) (inl q) = omega arith
 not_both a b (inl p) (inr q) = omega arith
 not_both a b (inr p) (inl q) = omega arith
@@ -75,7 +75,7 @@ module _ (kept : ℕ → Option Scope) (begun : List Scope) (known : IsKept kept
   }
 
   -- one comes in that is better than what is kept at its end or behind it
-  pub kept_beside : (x : Scope) → ((k : ℕ) (v : Scope) → x.end ≤ k → kept k ≡ Some v → Better x v) → IsKeptBeside kept begun x
+  pub kept_beside : (x : Scope) → ((k : ℕ) (v : Scope) → x.end ≤ k → kept k ≡ Some v → IsBetter x v) → IsKeptBeside kept begun x
   kept_beside x better = record {
     own = known.own;
     stairs = known.stairs;
@@ -108,18 +108,18 @@ taken_out kept left begun x end known worse sub others = record {
 
 -- what is left up to its end is better
 pub left_better : (kept : ℕ → Option Scope) (begun : List Scope) (x : Scope) → IsKeptBeside kept begun x
-    → (k : ℕ) (v : Scope) → kept k ≡ Some v → IsPassed kept x k → Better v x
+    → (k : ℕ) (v : Scope) → kept k ≡ Some v → IsPassed kept x k → IsBetter v x
 left_better kept begun x known k v has passed =
     elim (cases_eq k passed.end) [
       | inl same ↦
-          subst (λ (u : Scope). Better u x) (same_Some passed.scope v (sym passed.is ∙ ap kept (sym same) ∙ has)) passed.better
+          subst (λ (u : Scope). IsBetter u x) (same_Some passed.scope v (sym passed.is ∙ ap kept (sym same) ∙ has)) passed.better
       | inr other ↦
           better_better v passed.scope x (known.stairs k passed.end v passed.scope (omega (arith, passed.behind, other)) has passed.is) passed.better
     ]
 
 -- and then the one that comes in is put at its end
 pub put_in : (kept new : ℕ → Option Scope) (begun : List Scope) (x : Scope) → IsKeptBeside kept begun x
-    → ((k : ℕ) (v : Scope) → k ≤ x.end → kept k ≡ Some v → Better v x)
+    → ((k : ℕ) (v : Scope) → k ≤ x.end → kept k ≡ Some v → IsBetter v x)
     → new x.end ≡ Some x → ((k : ℕ) → (k ≡ x.end → ⊥) → new k ≡ kept k)
     → IsKept new (begun ++ x ∷ [])
 put_in kept new begun x known before here others = record {
@@ -138,17 +138,17 @@ put_in kept new begun x known before here others = record {
   ];
 }
   where
-    stairs : (j k : ℕ) (a b : Scope) → j < k → new j ≡ Some a → new k ≡ Some b → Better a b
+    stairs : (j k : ℕ) (a b : Scope) → j < k → new j ≡ Some a → new k ≡ Some b → IsBetter a b
     stairs j k a b less at_j at_k =
         elim (cases_eq j x.end) [
           | inl first ↦
               let one : x ≡ a = same_Some x a (sym here ∙ ap new (sym first) ∙ at_j) in
-              subst (λ (u : Scope). Better u b) one (known.behind k b (omega arith) (sym (others k (λ e. omega arith)) ∙ at_k))
+              subst (λ (u : Scope). IsBetter u b) one (known.behind k b (omega arith) (sym (others k (λ e. omega arith)) ∙ at_k))
           | inr other ↦
               elim (cases_eq k x.end) [
                 | inl second ↦
                     let one : x ≡ b = same_Some x b (sym here ∙ ap new (sym second) ∙ at_k) in
-                    subst (Better a) one (before j a (omega arith) (sym (others j other) ∙ at_j))
+                    subst (IsBetter a) one (before j a (omega arith) (sym (others j other) ∙ at_j))
                 | inr neither ↦
                     known.stairs j k a b less (sym (others j other) ∙ at_j) (sym (others k neither) ∙ at_k)
               ]

@@ -8,7 +8,7 @@ use Rattle.std.specs.Option.{option_map}
 use Rattle.ssr_facts_rows.specs.declared.places.PlaceRow.{PlaceRow}
 use Rattle.ssr_facts.specs.declared.scopes.Scope.{Scope}
 use Rattle.ssr_facts.specs.Scopes.{holds, size_of, shorter, shortest, scope_of}
-use Rattle.ssr_facts.specs.Private.Scopes.{scopes_in, AsGood, Holds, IsBest, id_of}
+use Rattle.ssr_facts.specs.Private.Scopes.{scopes_in, AsGood, IsAround, IsBest, id_of}
 use Rattle.ssr_facts.proofs.Best.{as_itself, good_good}
 use Rattle.ssr_syntax_tree.proofs.Lists.{at_front, at_back, front_or_back}
 use Rattle.ssr_facts.proofs.Lists.{none_among}
@@ -52,22 +52,22 @@ at_least t n (row ∷ rows) y among = by (row.tree == t) among (at_least t (n + 
 
 module _ (start end : ℕ) (x : Scope) (xs : List Scope) where
   -- one that doesn't hold the span
-  best_passed : (best : Option Scope) → (Holds start end x → ⊥) → IsBest start end xs best → IsBest start end (x ∷ xs) best
+  best_passed : (best : Option Scope) → (IsAround start end x → ⊥) → IsBest start end xs best → IsBest start end (x ∷ xs) best
   best_passed None not none = λ y among holds. elim (front_or_back x y xs among) [
-    | inl first ↦ not (subst (Holds start end) (sym first) holds)
+    | inl first ↦ not (subst (IsAround start end) (sym first) holds)
     | inr behind ↦ none y behind holds
   ]
   best_passed (Some v) not is = (
     at_back x v xs is.0,
     is.1,
     λ y among holds. elim (front_or_back x y xs among) [
-      | inl first ↦ absurd (not (subst (Holds start end) (sym first) holds))
+      | inl first ↦ absurd (not (subst (IsAround start end) (sym first) holds))
       | inr behind ↦ is.2 y behind holds
     ],
   )
 
   -- one that holds it, where no other one does
-  best_alone : Holds start end x → IsBest start end xs None → IsBest start end (x ∷ xs) (Some x)
+  best_alone : IsAround start end x → IsBest start end xs None → IsBest start end (x ∷ xs) (Some x)
   best_alone here none = (
     at_front x xs,
     here,
@@ -78,7 +78,7 @@ module _ (start end : ℕ) (x : Scope) (xs : List Scope) where
   )
 
   -- or where it is as good as the best one
-  best_first : (v : Scope) → Holds start end x → AsGood x v → IsBest start end xs (Some v) → IsBest start end (x ∷ xs) (Some x)
+  best_first : (v : Scope) → IsAround start end x → AsGood x v → IsBest start end xs (Some v) → IsBest start end (x ∷ xs) (Some x)
   best_first v here good is = (
     at_front x xs,
     here,
@@ -108,7 +108,7 @@ module _ (place : PlaceRow) where
 
   -- whether the row is of the tree, and whether it holds the span
   step : (n : ℕ) (row : PlaceRow) (xs : List Scope) (later : Option (ℕ × PlaceRow)) (tree within : Bool) → ((y : Scope) → Contains xs y → n + 1 ≤ y.number)
-      → (within ≡ true → Holds place.start place.end (numbered (n, row))) → (within ≡ false → Holds place.start place.end (numbered (n, row)) → ⊥)
+      → (within ≡ true → IsAround place.start place.end (numbered (n, row))) → (within ≡ false → IsAround place.start place.end (numbered (n, row)) → ⊥)
       → IsBest place.start place.end xs (option_map numbered later)
       → IsBest place.start place.end (if tree then numbered (n, row) ∷ xs else xs) (option_map numbered (if tree && within then shorter (n, row) later else later))
   step n row xs later false within behind here elsewhere is = is

@@ -4,7 +4,7 @@ ghost use Rattle.std.specs.Prelude.{◌≡◌, ◌+◌, ◌<◌, ◌≤◌, ◌+
 ghost use Rattle.std.specs.Ordering.{nat_cmp};
 ghost use Rattle.std.specs.BTreeMap.{get};
 ghost use Rattle.ssr_facts.specs.declared.scopes.Scope.{Scope as Kept};
-ghost use Rattle.ssr_facts.specs.Private.Scopes.{Better, Covers, IsKept, IsKeptBeside, IsFirst, IsWorse, IsPassed};
+ghost use Rattle.ssr_facts.specs.Private.Scopes.{IsBetter, Covers, IsKept, IsKeptBeside, IsFirst, IsWorse, IsPassed};
 
 use crate::scopes::Scope;
 use std::alloc::AllocError;
@@ -21,7 +21,7 @@ pub(crate) fn first_from(kept: &BTreeMap<u32, Scope>, end: u32) -> Option<Scope>
 /// Whether one that is kept is as good as a scope, wherever that serves.
 fn is_covered(kept: &BTreeMap<u32, Scope>, scope: &Scope) -> bool
     ensures yes { IsTrue result → Covers (get nat_cmp kept.now) scope.now }
-    ensures no { result ≡ false → (begun : List Kept) → IsKept (get nat_cmp kept.now) begun → (k : ℕ) (v : Kept) → scope.now.end ≤ k → get nat_cmp kept.now k ≡ Some v → Better scope.now v }
+    ensures no { result ≡ false → (begun : List Kept) → IsKept (get nat_cmp kept.now) begun → (k : ℕ) (v : Kept) → scope.now.end ≤ k → get nat_cmp kept.now k ≡ Some v → IsBetter scope.now v }
 {
     match first_from(kept, scope.end) {
         Some(first) => first.is_as_good(scope),
@@ -45,7 +45,7 @@ fn last_worse(kept: &BTreeMap<u32, Scope>, scope: &Scope) -> Option<u32>
 /// Takes those out up to the end of a scope than which the scope is as good.
 fn take_worse_out(kept: &mut BTreeMap<u32, Scope>, scope: &Scope)
     ensures kept { (begun : List Kept) → IsKeptBeside (get nat_cmp kept.old) begun scope.now → IsKeptBeside (get nat_cmp kept.new) begun scope.now }
-    ensures better { (begun : List Kept) → IsKeptBeside (get nat_cmp kept.old) begun scope.now → (k : ℕ) (v : Kept) → k ≤ scope.now.end → get nat_cmp kept.new k ≡ Some v → Better v scope.now }
+    ensures better { (begun : List Kept) → IsKeptBeside (get nat_cmp kept.old) begun scope.now → (k : ℕ) (v : Kept) → k ≤ scope.now.end → get nat_cmp kept.new k ≡ Some v → IsBetter v scope.now }
 {
     while let Some(end) = last_worse(kept, scope) {
         kept.remove(&end);

@@ -14,7 +14,7 @@ ghost use Rattle.ssr_facts.specs.Nodes.{place_of};
 ghost use Rattle.ssr_facts.specs.Scopes.{scope_of};
 ghost use Rattle.ssr_facts.specs.Grouping.{group_at};
 ghost use Rattle.ssr_facts.specs.Private.Nodes.{told_up_to};
-ghost use Rattle.ssr_facts.specs.Private.Scopes.{scopes_in, IsBestAt, id_of, AsGood, Better};
+ghost use Rattle.ssr_facts.specs.Private.Scopes.{scopes_in, IsBestAt, id_of, AsGood, IsBetter};
 
 use crate::grouping::add;
 use crate::kept::{first_from, keep_begun};
@@ -37,7 +37,7 @@ impl Scope {
     /// Whether it is shorter than another one, or as short and its row stands behind or is the same.
     pub(crate) fn is_as_good(&self, other: &Scope) -> bool
         ensures good { IsTrue result → AsGood self.now other.now }
-        ensures worse { result ≡ false → Better other.now self.now }
+        ensures worse { result ≡ false → IsBetter other.now self.now }
     {
         let size = self.end.saturating_sub(self.start);
         let other_size = other.end.saturating_sub(other.start);

@@ -7,7 +7,7 @@ use Rattle.ssr_syntax_forms.specs.declared.rows.Output.{Output}
 use Rattle.ssr_syntax_forms.specs.declared.tokens.Token.{Token}
 use Rattle.ssr_syntax_forms.specs.Trees.{Forest}
 use Rattle.ssr_syntax_kinds.specs.declared.kinds.SyntaxKind.{SyntaxKind}
-use Rattle.ssr_syntax_forms.specs.Parser.{Written, Holds, unwritten, State, state_of, Finishes}
+use Rattle.ssr_syntax_forms.specs.Parser.{Written, HasWritten, unwritten, State, state_of, Finishes}
 use Rattle.ssr_syntax_forms.specs.Written.{writes}
 use Rattle.ssr_syntax_forms.specs.Forms.{so_far, ◌>>=◌}
 use Rattle.ssr_syntax_forms.specs.Levels.{read_goal}
@@ -32,8 +32,8 @@ is_left [] z e = absurd (e refl)
 is_left (t ∷ ts) z e = refl
 
 -- the output of what is written is that of the same
-held : (out : Output) (v w : Written) → Holds out v → v ≡ w → Holds out w
-held out v w h e = subst (Holds out) e h
+held : (out : Output) (v w : Written) → HasWritten out v → v ≡ w → HasWritten out w
+held out v w h e = subst (HasWritten out) e h
 
 pub finished : (goal : Goal) (kinds : List SyntaxKind) (ts : List Token) (old new : State) (result : Result Output Fault) → old ≡ state_of (unwritten kinds) ts
     → run_goal grammar most_levels goal old ≡ Ok new → Finishes new result → IsReading kinds result (reading goal ts)

@@ -20,7 +20,7 @@ use Rattle.ssr_syntax.specs.Reading.{begins_solid, pieces, reading, trimmed}
 use Rattle.ssr_syntax.specs.Private.Reading.{AreTokensOf, IsCut, IsWritten, end_before}
 use Rattle.ssr_syntax_forms.specs.declared.tokens.Token.{Token}
 use Rattle.ssr_syntax_forms.specs.declared.rows.Output.{Output}
-use Rattle.ssr_syntax_forms.specs.Parser.{Holds, unwritten}
+use Rattle.ssr_syntax_forms.specs.Parser.{HasWritten, unwritten}
 use Rattle.ssr_syntax_forms.specs.Trees.{Forest}
 use Rattle.ssr_syntax_forms.specs.Written.{writes}
 use Rattle.ssr_syntax_types.specs.declared.goals.Goal.{Goal}
@@ -155,13 +155,13 @@ rows_count text rows raw are tiles = omega (arith, tiles_count text 0 raw tiles,
 -- what is written of tokens, beside the rows of the text
 pub written_of_cut : (goal : Goal) (text : List ℕ) (rows : List TokenRow) (solid given : List Token) (raw : List RawToken) (z : Forest) (out : Output)
     (kinds : List SyntaxKind) → IsCut text rows solid raw → given ≡ solid → reading goal given ≡ Ok z → kinds ≡ map (λ row. row.kind) rows
-    → Holds out (writes z (unwritten kinds)) → IsWritten goal text rows out raw
+    → HasWritten out (writes z (unwritten kinds)) → IsWritten goal text rows out raw
 written_of_cut goal text rows solid given raw z out kinds cut same read are holds =
     record {
       are = cut.are;
       tiles = cut.tiles;
       spelled = cut.spelled;
-      reads = (z, ap (reading goal) (sym (same ∙ cut.solid_are)) ∙ read, subst (λ ks. Holds out (writes z (unwritten ks))) are holds);
+      reads = (z, ap (reading goal) (sym (same ∙ cut.solid_are)) ∙ read, subst (λ ks. HasWritten out (writes z (unwritten ks))) are holds);
     }
 
 -- a text that is the same is cut the same

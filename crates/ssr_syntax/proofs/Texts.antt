@@ -26,7 +26,7 @@ use Rattle.ssr_syntax.specs.declared.syntax_error.SyntaxError.{SyntaxError}
 use Rattle.ssr_syntax.specs.declared.syntax_error.SyntaxError.TheVariants as errors
 use Rattle.ssr_syntax_forms.specs.Trees.{Forest, nodes, height}
 use Rattle.ssr_syntax.specs.Private.Leaves as written
-use Rattle.ssr_syntax_forms.specs.Parser.{Holds, unwritten}
+use Rattle.ssr_syntax_forms.specs.Parser.{HasWritten, unwritten}
 use Rattle.ssr_syntax_forms.specs.Places.{leading, behind_trivia, behind_solid, Place, place_at, behind_token}
 use Rattle.ssr_syntax_forms.specs.Written.{writes}
 use Rattle.ssr_syntax_forms.specs.Trees as solid
@@ -296,7 +296,7 @@ pub record WrittenOfText (goal : Goal) (text : List ℕ) (raw : List RawToken) (
   pub joined : out.joined.items ≡ joined_of (leaves kids) (start_of raw)
 
 pub written_read : (goal : Goal) (text : List ℕ) (raw : List RawToken) (z : Forest) (rows : List TokenRow) (out : Output)
-    → reading goal (solid_tokens raw) ≡ Ok z → rows ≡ map row_of raw → Holds out (writes z (unwritten (map (λ row. row.kind) rows)))
+    → reading goal (solid_tokens raw) ≡ Ok z → rows ≡ map row_of raw → HasWritten out (writes z (unwritten (map (λ row. row.kind) rows)))
     → WrittenOfText goal text raw out
 written_read goal text raw z rows out e are h =
     let r = is_read goal text raw z e in

@@ -15,7 +15,7 @@ pub enum SyntaxError {
     TooDeep,
     /// The text isn't shorter than 2^32 bytes.
     TooLong,
-    /// There is not enough memory.
+    /// There is not enough memory, or there would be more nodes than are numbered.
     Memory,
 }
 

@@ -9,7 +9,7 @@ use Rattle.ssr_syntax_forms.specs.Written.{writes}
 use Rattle.ssr_syntax_forms.specs.Forms.{Productions, SoFar, so_far}
 use Rattle.ssr_syntax_forms.specs.Levels.{read_goal}
 use Rattle.ssr_syntax_forms.specs.Runs.{run_goal}
-use Rattle.ssr_syntax_forms.proofs.Answers.{ok_one}
+use Rattle.ssr_syntax_forms.proofs.Results.{ok_one}
 use Rattle.ssr_syntax_forms.specs.Fitting.{Fits}
 use Rattle.ssr_syntax_forms.proofs.Nested.{FitsGoal, goals_by_rules}
 use Rattle.ssr_syntax_forms.proofs.Soundness.{IsSound, sound}

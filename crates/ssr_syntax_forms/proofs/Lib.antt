@@ -1,5 +1,6 @@
 pub mod Shared
-mod Answers
+mod Results
+mod MemoryFree
 mod Joins
 mod PlaceLaws
 mod Nested

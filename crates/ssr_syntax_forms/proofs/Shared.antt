@@ -1,7 +1,7 @@
 -- What the crates above may cite of the theorems on forms. The other files of lemmas here are this crate's own.
 
 -- answers by cases
-pub use Rattle.ssr_syntax_forms.proofs.Answers.{bind_ok, ok_one}
+pub use Rattle.ssr_syntax_forms.proofs.Results.{bind_ok, ok_one}
 -- kinds in lists
 pub use Rattle.ssr_syntax_forms.proofs.Check.{every, meets}
 pub use Rattle.ssr_syntax_forms.proofs.Members.{apart, at_next, every_mem, mem_append, one_taken}
@@ -17,6 +17,8 @@ pub use Rattle.ssr_syntax_forms.proofs.Depth.{IsShallow, shallow_of, covered, lo
 pub use Rattle.ssr_syntax_forms.proofs.Keeping.{complete_goal}
 pub use Rattle.ssr_syntax_forms.proofs.Lone.{goals_lone}
 pub use Rattle.ssr_syntax_forms.proofs.Decision.{IsLone, decided, answers}
+-- a reading tells no want of memory
+pub use Rattle.ssr_syntax_forms.proofs.MemoryFree.{IsFree, no_tree, free-bind, free-goal}
 -- readings and runs
 pub use Rattle.ssr_syntax_forms.proofs.Levels.{goals_spell, goals_sound, read_as_run, refused_as_run}
 pub use Rattle.ssr_syntax_forms.proofs.Cuts.{cut_goals}

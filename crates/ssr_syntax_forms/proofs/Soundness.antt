@@ -8,7 +8,7 @@ use Rattle.ssr_syntax_forms.specs.declared.fault.Fault.{Fault}
 use Rattle.ssr_syntax_forms.specs.Trees.{Forest, done, join, spell}
 use Rattle.ssr_syntax_forms.specs.Forms.{Form, one, child, mark, seal, ◌then◌, nothing, choose, many, look, check, Test, more, is_one, passes, agrees, holds, SoFar, so_far, ReadsBelow, read, past, first_leaf, repeat}
 use Rattle.ssr_syntax_forms.proofs.Nested.{FitsBelow, Step, Repeats, FitsForm}
-use Rattle.ssr_syntax_forms.proofs.Answers.{bind_ok, ok_one}
+use Rattle.ssr_syntax_forms.proofs.Results.{bind_ok, ok_one}
 
 pub past_ok : (whole : Bool) (ks : List SyntaxKind) (ts rest : List Token) → past whole ks ts ≡ Ok rest
     → (t : Token) × (us : List Token) × (ts ≡ t ∷ us) × (is_one whole ks t ≡ true)

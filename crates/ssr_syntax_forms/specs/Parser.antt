@@ -106,13 +106,13 @@ Steps new (Ok r) ran = ran ≡ Ok new
 Steps new (Err e) ran = e ≢ faults.Memory → ran ≡ Err e
 
 -- the output is what is written
-pub record Holds (out : Output) (w : Written) : Type 0 where
+pub record HasWritten (out : Output) (w : Written) : Type 0 where
   pub rows : out.rows ≡ w.rows
   pub joined : out.joined.items ≡ w.joined
 
 -- what is written, where no token is left
 abbrev pub Finishes : State → Result Output Fault → Type 0
-Finishes s (Ok out) = (s.rest ≡ []) × Holds out s.out
+Finishes s (Ok out) = (s.rest ≡ []) × HasWritten out s.out
 Finishes s (Err e) = (s.rest ≢ []) × (e ≡ faults.NoTree)
 
 -- Each call of a closure is the step.

@@ -7,9 +7,9 @@ use std::alloc::{AllocError, AllocFailed};
 pub enum Fault {
     /// The tokens are not of this grammar.
     NoTree,
-    /// The tree would be nested too deeply.
+    /// The tree would be nested too deeply, or the tokens are so, and may have no tree.
     TooDeep,
-    /// There is not enough memory.
+    /// There is not enough memory, or there would be more rows than are counted.
     Memory,
 }
 

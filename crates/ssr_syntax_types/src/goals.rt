@@ -1,6 +1,6 @@
 //! What the parser is asked for.
 
-/// What is to be read.
+/// What is to be read: a nonterminal of the grammar, whose production is its form.
 #[derive(Clone, Copy)]
 pub enum Goal {
     /// A whole file.

@@ -8,7 +8,7 @@ use Rattle.ssr_syntax_tree.specs.Places.{Node, node_of, part_of}
 use Rattle.ide_ssr_matching.specs.declared.calls.CalledNodes.{CalledNodes}
 use Rattle.ide_ssr_matching.specs.declared.calls.MethodNodes.{MethodNodes}
 use Rattle.ide_ssr_matching.specs.declared.calls.MethodSides.{MethodSides}
-use Rattle.ide_ssr_matching.specs.Calls.{Called, Method}
+use Rattle.ide_ssr_matching.specs.Calls.{PathCall, Method}
 use Rattle.ide_ssr_matching.specs.Sides.{Sides}
 use Rattle.ide_ssr_matching.specs.Private.Children.{IsBelow}
 
@@ -24,7 +24,7 @@ abbrev pub IsNodeBelow : Syntax → ℕ → NodeNo → Type 0
 IsNodeBelow tree n node = IsBelow tree n (element.Node node)
 
 -- a call of the pattern
-abbrev pub called_at : Syntax → CalledNodes → Called
+abbrev pub called_at : Syntax → CalledNodes → PathCall
 called_at tree call = record { path = node_of tree call.path.0; arguments = nodes_at tree call.arguments.items }
 
 pub record AreCalledBelow (tree : Syntax) (n : ℕ) (call : CalledNodes) : Type 0 where

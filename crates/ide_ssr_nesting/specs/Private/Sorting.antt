@@ -2,13 +2,13 @@
 use Rattle.std.specs.Prelude.{ℕ, ◌==◌, ◌&&◌, ◌||◌, nat_lt, Bool, false, if◌then◌else◌, List}
 use Rattle.std.specs.Option.{option_map_or}
 use Rattle.ssr_base.specs.declared.ids.NodeId.{NodeId}
-use Rattle.ssr_base.specs.Workspace.{Planted, planted, has_node, same_id}
+use Rattle.ssr_base.specs.Workspace.{Planted, with_number, has_node, same_id}
 use Rattle.ide_ssr_found.specs.Found.{Found}
 use Rattle.ide_ssr_nesting.specs.Order.{count_of, place}
 
 -- whether a node is one of these trees
 unfoldable pub is_node : List Planted → NodeId → Bool
-is_node trees x = option_map_or (λ p. has_node p.syntax x.node.0) (planted trees x.tree) false
+is_node trees x = option_map_or (λ p. has_node p.syntax x.node.0) (with_number trees x.tree) false
 
 -- a sort may compare any two matches: one at a node that the trees lack, which no search finds, comes behind all others
 unfoldable pub first_rank : List Planted → Found → ℕ

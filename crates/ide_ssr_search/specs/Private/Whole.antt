@@ -4,7 +4,7 @@ use Rattle.ssr_syntax_tree.specs.Places.{HasNode, node_of, root_of}
 use Rattle.ssr_base.specs.declared.ids.FileRange.{FileRange}
 use Rattle.ssr_base.specs.declared.ids.NodeId.{NodeId}
 use Rattle.ssr_base.specs.Meanings.{Meanings}
-use Rattle.ssr_base.specs.Workspace.{Planted, planted, original_range, file_span_of}
+use Rattle.ssr_base.specs.Workspace.{Planted, with_number, original_range, file_span_of}
 use Rattle.ide_ssr_resolving.specs.Resolved.{ResolvedKind}
 use Rattle.ide_ssr_found.specs.declared.bindings.Binding.{Binding}
 use Rattle.ide_ssr_matching.specs.Bindings.{bindings_of}
@@ -30,7 +30,7 @@ pub record IsMatched (trees : List Planted) (x : NodeId) (bindings : List Bindin
   pub meanings : Meanings
   pub rule : ResolvedKind
   pub tree : Planted
-  pub is : planted trees x.tree ≡ Some tree
+  pub is : with_number trees x.tree ≡ Some tree
   pub has : HasNode tree.syntax x.node.0
   pub matches : bindings_of meanings x.tree rule (root_of rule.pattern) (node_of tree.syntax x.node.0) ≡ Some bindings
 

@@ -13,21 +13,21 @@ scopes_in t n (row ∷ rows) =
     if row.tree == t then record { start = row.start; end = row.end; number = n } ∷ scopes_in t (n + 1) rows else scopes_in t (n + 1) rows
 
 -- a scope is shorter than another one, or as short and its row stands behind
-abbrev pub Better : Scope → Scope → Type 0
-Better a b = (a.end - a.start < b.end - b.start) ⊎ ((a.end - a.start ≡ b.end - b.start) × (b.number < a.number))
+abbrev pub IsBetter : Scope → Scope → Type 0
+IsBetter a b = (a.end - a.start < b.end - b.start) ⊎ ((a.end - a.start ≡ b.end - b.start) × (b.number < a.number))
 
 -- or it is the same row
 abbrev pub AsGood : Scope → Scope → Type 0
 AsGood a b = (a.end - a.start < b.end - b.start) ⊎ ((a.end - a.start ≡ b.end - b.start) × (b.number ≤ a.number))
 
-abbrev pub Holds : ℕ → ℕ → Scope → Type 0
-Holds start end scope = (scope.start ≤ start) × (end ≤ scope.end)
+abbrev pub IsAround : ℕ → ℕ → Scope → Type 0
+IsAround start end scope = (scope.start ≤ start) × (end ≤ scope.end)
 
 -- the best of the scopes that hold a span
 abbrev pub IsBest : ℕ → ℕ → List Scope → Option Scope → Type 0
-IsBest start end scopes None = (y : Scope) → Contains scopes y → Holds start end y → ⊥
+IsBest start end scopes None = (y : Scope) → Contains scopes y → IsAround start end y → ⊥
 IsBest start end scopes (Some v) =
-    Contains scopes v × Holds start end v × ((y : Scope) → Contains scopes y → Holds start end y → AsGood v y)
+    Contains scopes v × IsAround start end v × ((y : Scope) → Contains scopes y → IsAround start end y → AsGood v y)
 
 -- ** What is kept of the scopes that began, at their ends.
 
@@ -43,15 +43,15 @@ pub record IsKept (kept : ℕ → Option Scope) (begun : List Scope) : Type 0 wh
   -- each stands at its end
   pub own : (k : ℕ) (v : Scope) → kept k ≡ Some v → (v.end ≡ k) × Contains begun v
   -- those that end farther behind are worse
-  pub stairs : (j k : ℕ) (a b : Scope) → j < k → kept j ≡ Some a → kept k ≡ Some b → Better a b
+  pub stairs : (j k : ℕ) (a b : Scope) → j < k → kept j ≡ Some a → kept k ≡ Some b → IsBetter a b
   pub covered : (y : Scope) → Contains begun y → Covers kept y
 
 -- the same while a scope comes in: it covers what goes out for it, and is better than what stays at its end or behind it
 pub record IsKeptBeside (kept : ℕ → Option Scope) (begun : List Scope) (x : Scope) : Type 0 where
   pub own : (k : ℕ) (v : Scope) → kept k ≡ Some v → (v.end ≡ k) × Contains begun v
-  pub stairs : (j k : ℕ) (a b : Scope) → j < k → kept j ≡ Some a → kept k ≡ Some b → Better a b
+  pub stairs : (j k : ℕ) (a b : Scope) → j < k → kept j ≡ Some a → kept k ≡ Some b → IsBetter a b
   pub covered : (y : Scope) → Contains begun y → Covers kept y ⊎ ((y.end ≤ x.end) × AsGood x y)
-  pub behind : (k : ℕ) (v : Scope) → x.end ≤ k → kept k ≡ Some v → Better x v
+  pub behind : (k : ℕ) (v : Scope) → x.end ≤ k → kept k ≡ Some v → IsBetter x v
 
 -- the first that is kept at an end or behind it
 abbrev pub IsFirst : (ℕ → Option Scope) → ℕ → Option Scope → Type 0
@@ -72,7 +72,7 @@ pub record IsPassed (kept : ℕ → Option Scope) (x : Scope) (k : ℕ) : Type 0
   pub is : kept end ≡ Some scope
   pub within : end ≤ x.end
   pub behind : k ≤ end
-  pub better : Better scope x
+  pub better : IsBetter scope x
 
 -- ** Nodes.
 

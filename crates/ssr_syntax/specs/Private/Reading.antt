@@ -14,13 +14,13 @@ use Rattle.ssr_syntax_forms.specs.declared.fault.Fault.TheVariants as faults
 use Rattle.ssr_syntax_forms.specs.Trees.{Forest}
 use Rattle.ssr_syntax_types.specs.declared.goals.Goal.{Goal}
 use Rattle.ssr_syntax_forms.specs.declared.rows.Output.{Output}
-use Rattle.ssr_syntax_forms.specs.Parser.{Holds, unwritten}
+use Rattle.ssr_syntax_forms.specs.Parser.{HasWritten, unwritten}
 use Rattle.ssr_syntax_forms.specs.Written.{writes}
 
 -- The answer is the reading's: what is written of its forest in front of tokens of these kinds, or its fault. Want of
 -- memory says nothing.
 abbrev pub IsReading : List SyntaxKind → Result Output Fault → Result Forest Fault → Type 0
-IsReading kinds (Ok out) read = (z : Forest) × (read ≡ Ok z) × Holds out (writes z (unwritten kinds))
+IsReading kinds (Ok out) read = (z : Forest) × (read ≡ Ok z) × HasWritten out (writes z (unwritten kinds))
 IsReading kinds (Err e) read = e ≢ faults.Memory → read ≡ Err e
 
 -- the rows of a text's tokens, or why there are none
@@ -40,7 +40,7 @@ pub record IsWritten (goal : Goal) (text : List ℕ) (rows : List TokenRow) (out
   pub are : rows ≡ map row_of raw
   pub tiles : Tiles text raw
   pub spelled : spell text raw ≡ text
-  pub reads : (z : Forest) × (reading goal (solid_tokens raw) ≡ Ok z) × Holds out (writes z (unwritten (map (λ row. row.kind) rows)))
+  pub reads : (z : Forest) × (reading goal (solid_tokens raw) ≡ Ok z) × HasWritten out (writes z (unwritten (map (λ row. row.kind) rows)))
 
 -- the rows and the solid tokens of a text without the white space around it
 pub record AreTokensOf (text : List ℕ) (rows : List TokenRow) (solid : List Token) : Type 0 where
