@@ -27,7 +27,7 @@ PACKAGES = [
     for name in ("syn", "libc", "rustix", "tokio", "bindgen", "clap", "nix", "chrono", "winapi", "gtk", "image",
                  "futures-util", "regex-syntax")
 ]
-CRATES = "ssr_syntax_lex: unicode_ident\nlex_files: ssr_syntax_lex\n"
+CRATES = "ssr_syntax_kinds:\nssr_syntax_lex: ssr_syntax_kinds unicode_ident\nlex_files: ssr_syntax_kinds ssr_syntax_lex\n"
 PROGRAM = """\
 //! Lexes files that standard input names, one a line, and writes a line for each: how many bytes, tokens and nanoseconds,
 //! or what is wrong with it.
@@ -73,11 +73,12 @@ fn cover(tokens: &[RawToken], end: usize) -> bool {
 
 
 def build(folder):
-    """The program, built beside a copy of the crate."""
+    """The program, built beside copies of the crates."""
     crates = os.path.join(folder, "crates")
     source = os.path.join(crates, "lex_files", "src")
     os.makedirs(source)
-    shutil.copytree(os.path.join(ROOT, "crates", "ssr_syntax_lex"), os.path.join(crates, "ssr_syntax_lex"), symlinks=True)
+    for crate in ("ssr_syntax_kinds", "ssr_syntax_lex"):
+        shutil.copytree(os.path.join(ROOT, "crates", crate), os.path.join(crates, crate), symlinks=True)
     with open(os.path.join(folder, "crates.txt"), "w") as file:
         file.write(CRATES)
     with open(os.path.join(source, "main.rt"), "w") as file:

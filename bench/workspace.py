@@ -1,12 +1,13 @@
 #!/usr/bin/env python3
 """Times a workspace of many files of real Rust beside one file of the same bytes.
 
-    bench/workspace.py [--files N] [--repeat N] [--program FILE] [--beside FILE] [--keep FOLDER] [PACKAGE ..]
+    bench/workspace.py [--files N] [--megabytes N] [--repeat N] [--program FILE] [--beside FILE] [--keep FOLDER] [PACKAGE ..]
 
 Fetches and unpacks packages as `lex_debian.py` does, builds the program of `crates/ssr_bench` and the program `ssr` by
-`rt run` (unless they are given: the first by `--program`, the second by `--beside`), and takes the first N files, 1,000 if
-not said, that lie inside of the language where they stand in a module. It writes each of them as a module in a file of its
-own, and all of them behind one another in one file: the same bytes, cut or whole.
+`rt run` (unless they are given: the first by `--program`, the second by `--beside`), and takes those files that lie inside of the
+language where they stand in a module. Of these, by their size, it takes N that follow each other, 1,000 if not said: the
+smallest ones that have so many megabytes together, 10 if not said. It writes each of them as a module in a file of its own,
+and all of them behind one another in one file: the same bytes, cut or whole.
 
 Both are built and searched in turn, with a rule that matches nothing and with one that matches, each without expansions and
 restrictions. Printed are the processor time (user and system) of building and of searching alone, as the program itself
@@ -67,6 +68,26 @@ def modules(program, files, most, folder):
     return paths, whole
 
 
+def following(paths, count, size):
+    """So many of the files that follow each other by their size: the smallest ones that have `size` bytes together."""
+    paths = sorted(paths, key=os.path.getsize)
+    sizes = [os.path.getsize(path) for path in paths]
+    for first in range(len(paths) - count + 1):
+        if sum(sizes[first:first + count]) >= size:
+            return paths[first:first + count]
+    sys.exit("no %d files have %d bytes together" % (count, size))
+
+
+def joined(paths, folder):
+    """The path of one file with the texts of all of these."""
+    whole = os.path.join(folder, "joined.rs")
+    with open(whole, "wb") as all_texts:
+        for path in paths:
+            with open(path, "rb") as file:
+                all_texts.write(file.read())
+    return whole
+
+
 def timed(program, rule, names):
     """Files, bytes and matches, and the nanoseconds of building and of searching."""
     run = subprocess.run([program, "--times", rule], input=names, stdout=subprocess.PIPE, check=True)
@@ -93,6 +114,7 @@ def compare(program, many, one, rule, repeat):
 def main():
     options = argparse.ArgumentParser()
     options.add_argument("--files", type=int, default=1000)
+    options.add_argument("--megabytes", type=float, default=10)
     options.add_argument("--repeat", type=int, default=10)
     options.add_argument("--program")
     options.add_argument("--beside")
@@ -105,7 +127,9 @@ def main():
         packages = options.keep or os.path.join(folder, "packages")
         fetch(packages, options.packages)
         files = unpack(packages, options.packages, os.path.join(folder, "source"))
-        paths, whole = modules(program, files, options.files, folder)
+        readable, _ = modules(program, files, len(files), folder)
+        paths = following(readable, options.files, int(1e6 * options.megabytes))
+        whole = joined(paths, folder)
         many = "".join(path + "\n" for path in paths).encode()
         one = (whole + "\n").encode()
         print("%-24s %6s %10s %8s %9s %7s %9s %7s %8s" % (

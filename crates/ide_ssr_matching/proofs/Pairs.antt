@@ -6,7 +6,6 @@ use Rattle.std.proofs.lemmas.Bool.{and_from, and_parts, not-true}
 use Rattle.std.specs.Str.{bytes_eq}
 use Rattle.std.proofs.lemmas.List.{get_or_default, length-map}
 use Rattle.std.proofs.Math.ListN.{drop_of_length-le}
-use Rattle.std.proofs.Math.Seq.{drop-cons}
 use Rattle.ssr_syntax_kinds.specs.declared.kinds.SyntaxKind.{SyntaxKind}
 use Rattle.ssr_syntax_kinds.specs.declared.kinds.SyntaxKind.TheVariants as k
 use Rattle.ssr_syntax_kinds.specs.Kinds.{same_kind}
@@ -41,6 +40,8 @@ use Rattle.ide_ssr_matching.specs.Private.Calls.{sides_at, nodes_at}
 use Rattle.ide_ssr_matching.specs.declared.records.NamedLists.{NamedLists}
 use Rattle.ide_ssr_matching.specs.Records.{arranged, is_named, named_nodes, named_pairs}
 use Rattle.ide_ssr_matching.specs.Private.Records.{AreNamedLists}
+use Rattle.ide_ssr_matching.proofs.Labels.{left_at}
+use Rattle.ide_ssr_matching.proofs.NodeLists.{none_there}
 use Rattle.ide_ssr_matching.proofs.NamedAt.{named_at, parts_at}
 use Rattle.ide_ssr_matching.specs.Private.Children.{IsBelow, AreKept}
 use Rattle.ide_ssr_matching.proofs.Bare.{below-has, tail_has}
@@ -53,10 +54,6 @@ joined-some found bs (Some rest) = ap Some (sym (append_assoc found bs rest))
 joined-none : (o : Option (List Binding)) → joined (Some []) o ≡ o
 joined-none None = refl
 joined-none (Some bs) = refl
-
-none_else : (o : Option ℕ) → ((i : ℕ) → o ≡ Some i → ⊥) → o ≡ None
-none_else None h = refl
-none_else (Some i) h = absurd (h i refl)
 
 -- where the answer is no, nothing is bound
 unmatched : (o : Option (List Binding)) (old new : List Binding) (a : Bool) → a ≡ false → Answers o old new a → o ≡ None
@@ -276,9 +273,6 @@ module _ (inner : Binder) where
 pub at_place : (xs : List Element) (i : ℕ) (d : Element) → i < length xs → get_or xs i d ≡ get_or xs i (get_or xs i d)
 at_place xs i d less = get_or_default xs i d (get_or xs i d) less
 
-drop_at : (xs : List Element) (i : ℕ) (d : Element) → i < length xs → drop i xs ≡ get_or xs i d ∷ drop (i + 1) xs
-drop_at xs i d less = drop-cons xs i d less ∙ ap (λ n. get_or xs i d ∷ drop n xs) (let next : suc i ≡ i + 1 = omega arith in next)
-
 module _ (inner : Binder) (pattern code : Syntax) (ps cs : List Element) where
   abbrev pub elements_by : Option (List Binding)
   elements_by = pairs_by inner (map (part_of pattern) ps) (map (part_of code) cs)
@@ -302,9 +296,9 @@ module _ (inner : Binder) (pattern code : Syntax) (ps cs : List Element) where
     next_place bound =
         let within : place < length cs = omega arith in
         ap (λ ps. joined (Some bound) (pairs_by inner (map (part_of pattern) ps) (map (part_of code) (drop place cs))))
-        (drop_at ps place p less ∙ ap (λ x. x ∷ drop (place + 1) ps) (sym p_is))
+        (left_at ps place p less ∙ ap (λ x. x ∷ drop (place + 1) ps) (sym p_is))
         ∙ ap (λ cs. joined (Some bound) (pairs_by inner (map (part_of pattern) (p ∷ drop (place + 1) ps)) (map (part_of code) cs)))
-        (drop_at cs place c within ∙ ap (λ x. x ∷ drop (place + 1) cs) (sym c_is))
+        (left_at cs place c within ∙ ap (λ x. x ∷ drop (place + 1) cs) (sym c_is))
 
     pub up_to-turns : (old out new : List Binding) (b : Bool) → PairedUpTo place old out
         → Answers (pair_by inner (part_of pattern p) (part_of code c)) out new b → b ≡ true → PairedUpTo (place + 1) old new
@@ -622,13 +616,13 @@ module _ (ms : Meanings) (tree : ℕ) (rule : ResolvedKind) where
         → IfOk result (λ b. Answers (bindings_of ms tree rule (node_of pattern n) (node_of code m)) old new b)
     trees-from result new b b_is is answers =
         subst (λ o. IfOk result (λ b. Answers o old new b))
-        (sym (bindings-trees (node_of pattern n) (node_of code m) (sym at ∙ none_else placeholder none) (sym b_is ∙ is))) answers
+        (sym (bindings-trees (node_of pattern n) (node_of code m) (sym at ∙ none_there placeholder none) (sym b_is ∙ is))) answers
 
     pub spoiled-from : (b d : Bool) → b ≡ is_tree (node_of pattern n) → b ≡ false → d ≡ is_plain rule (node_of pattern n) → d ≡ false
         → Answers (bindings_of ms tree rule (node_of pattern n) (node_of code m)) old old false
     spoiled-from b d b_is is d_is spoiled =
         other refl
-        (bindings-spoiled (node_of pattern n) (node_of code m) (sym at ∙ none_else placeholder none) (sym b_is ∙ is) (sym d_is ∙ spoiled))
+        (bindings-spoiled (node_of pattern n) (node_of code m) (sym at ∙ none_there placeholder none) (sym b_is ∙ is) (sym d_is ∙ spoiled))
 
     pub parts-from : {E : Type 0} (result : Result Bool E) (new : List Binding) (b d : Bool) → b ≡ is_tree (node_of pattern n) → b ≡ false → d ≡ is_plain rule (node_of pattern n) → d ≡ true
         → IfOk result (λ b. Answers (option_and_then (sides_by (bindings_of ms tree rule)) (sides_of ms tree rule (node_of pattern n) (node_of code m))) old new b)
@@ -637,7 +631,7 @@ module _ (ms : Meanings) (tree : ℕ) (rule : ResolvedKind) where
         let p = node_of pattern n in
         let c = node_of code m in
         subst (λ o. IfOk result (λ b. Answers o old new b))
-        (sym (bindings-parts p c (sides_of ms tree rule p c) (sym at ∙ none_else placeholder none) (sym b_is ∙ is) (sym d_is ∙ plain) refl)) answers
+        (sym (bindings-parts p c (sides_of ms tree rule p c) (sym at ∙ none_there placeholder none) (sym b_is ∙ is) (sym d_is ∙ plain) refl)) answers
 
   -- ** Whether a node of the kind can match.
 

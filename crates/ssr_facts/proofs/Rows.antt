@@ -12,6 +12,7 @@ use Rattle.std.specs.Ordering.{is_eq, eq_by_cmp}
 use Rattle.std.specs.declared.cmp.Ordering.{Ordering}
 use Rattle.std.specs.declared.cmp.Ordering.TheVariants.{Less, Equal, Greater}
 use Rattle.ssr_facts.specs.Grouping.{group_at}
+use Rattle.ssr_facts.proofs.Lists.{option_or_none}
 
 -- tests that agree find the same
 pub lookup_alike : {K V : Type 0} (p q : K → Bool) → ((x : K) → p x ≡ q x) → (rows : List (K × V)) → lookup p rows ≡ lookup q rows
@@ -31,10 +32,6 @@ is_some-false (Some v) e = cc
 option_or-some : {V : Type 0} (o other : Option V) → is_some o ≡ true → option_or o other ≡ o
 option_or-some None other e = cc
 option_or-some (Some v) other e = refl
-
-option_or-none : {V : Type 0} (o : Option V) → option_or o None ≡ o
-option_or-none None = refl
-option_or-none (Some v) = refl
 
 -- where no key passes nothing is found
 lookup_key-none : {K V : Type 0} (test : K → Bool) (rows : List (K × V)) → lookup_key test rows ≡ None → lookup test rows ≡ None
@@ -74,7 +71,7 @@ module _ {K V : Type 0} {R : K → K → Ordering} (total : IsTotalOrder R) wher
         | inl same ↦
             sym (option_or-some (get R map q) (cond (is_at (R key) q) (Some value) None) (ap is_some (get_alike map key q same) ∙ has))
         | inr other ↦
-            sym (option_or-none (get R map q)) ∙ ap (λ b. option_or (get R map q) (cond b (Some value) None)) (sym other)
+            sym (option_or_none (get R map q)) ∙ ap (λ b. option_or (get R map q) (cond b (Some value) None)) (sym other)
       ]
 
   -- and one that it has not is put in
@@ -89,7 +86,7 @@ module _ {K V : Type 0} {R : K → K → Ordering} (total : IsTotalOrder R) wher
             ∙ ap (λ b. cond b (Some value) None) (sym same)
             ∙ ap (λ o. option_or o (cond (is_at (R key) q) (Some value) None)) (sym (get_alike map key q same ∙ is_some-false (get R map key) free))
         | inr other ↦
-            ap (λ b. cond b (Some value) (get R map q)) other ∙ sym (option_or-none (get R map q))
+            ap (λ b. cond b (Some value) (get R map q)) other ∙ sym (option_or_none (get R map q))
             ∙ ap (λ b. option_or (get R map q) (cond b (Some value) None)) (sym other)
       ]
 

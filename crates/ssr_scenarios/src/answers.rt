@@ -146,8 +146,14 @@ fn of_finder(
         "rule" => write_refusal(out, &add_rule(alloc, finder, text)),
         "pattern" => write_refusal(out, &add_pattern(alloc, finder, text)),
         "edits" => write_edits(alloc, out, workspace, finder.edits())?,
-        "finds" | "holds" | "places" => write_matches(out, workspace, word, finder.matches()),
-        "scans" => write_matches(out, workspace, word, finder.scan_matches()),
+        "finds" | "holds" | "places" => write_matches(
+            alloc,
+            out,
+            workspace,
+            word,
+            finder.matches(),
+        ),
+        "scans" => write_matches(alloc, out, workspace, word, finder.scan_matches()),
         _ => return Ok(false),
     }
     Ok(true)
@@ -175,6 +181,7 @@ fn write_error(out: &mut Told, error: &SsrError) {
 
 /// What a word asks of matches.
 fn write_matches(
+    alloc: Global,
     out: &mut Told,
     workspace: &Workspace,
     word: &str,
@@ -184,7 +191,7 @@ fn write_matches(
         match word {
             "holds" => write_held(out, workspace, &found.matches),
             "places" => write_places(out, &found.matches),
-            _ => write_texts(out, &found.matches),
+            _ => write_texts(alloc, out, &found.matches),
         }
     }
 }

@@ -3,11 +3,14 @@
 use crate::told::Told;
 use ide_ssr::{Match, PlaceholderMatch};
 use ssr_base::{FileRange, Workspace};
+use std::alloc::Global;
 
 /// The texts of matches, a line each.
-pub(crate) fn write_texts(out: &mut Told, matches: &[Match<'_>]) {
+pub(crate) fn write_texts(alloc: Global, out: &mut Told, matches: &[Match<'_>]) {
     for m in matches {
-        out.line(m.matched_str());
+        if let Some(text) = out.got(m.matched_text(alloc)) {
+            out.line(text.as_str());
+        }
     }
 }
 
