@@ -1,10 +1,9 @@
 -- What a finder's search comes to: each kept match is one of a rule.
-use Rattle.std.proofs.Common.{◌≡◌, ℕ, List, All, Option, Some, None, ◌∙◌, subst}
+use Rattle.std.proofs.Common.{◌≡◌, ℕ, List, All, Option, Some, None, ◌∙◌}
 use Rattle.std.specs.Option.{IsSomeAnd}
-use Rattle.std.specs.Prelude.{slice_get}
 use Rattle.std.proofs.lemmas.List.Elements.{Contains-get_or}
-use Rattle.std.proofs.lemmas.Option.{get_or_from_slice_get, slice_get_within}
 use Rattle.ssr_syntax_tree.specs.Places.{node_of, root_of}
+use Rattle.ssr_syntax_tree.proofs.Lists.{all_at}
 use Rattle.ssr_base.specs.Meanings.{Meanings}
 use Rattle.ssr_base.specs.Workspace.{Workspace, Planted, with_number, trees}
 use Rattle.ide_ssr_resolving.specs.Patterns.{HasEachOnce, AreInArguments, placeholders_of}
@@ -27,15 +26,12 @@ bound_at : (m : Meanings) (tree : ℕ) (rule : ResolvedKind) → AreInArguments 
 bound_at m tree rule in_arguments None n bs matches = absurd matches
 bound_at m tree rule in_arguments (Some p) n bs matches = placeholders_are m tree rule in_arguments (node_of p.syntax n) bs matches
 
-at_place : {X : Type 0} (P : X → Type 0) (xs : List X) (n : ℕ) (x : X) → All P xs → slice_get xs n ≡ Some x → P x
-at_place P xs n x all is = subst P (get_or_from_slice_get xs n x x is) (all n x (slice_get_within xs n x is))
-
 found_of_rule : (w : Workspace) (meanings : Meanings) (context : Context) (rules : List ResolvedKind) (m : Found) → All (λ rule. HasEachOnce rule.names rule.pattern) rules
     → All (λ rule. AreInArguments rule.names rule.pattern rule.pattern_paths) rules → IsFound w meanings context rules m → IsOfRule rules m
 found_of_rule w meanings context rules m each in_arguments found =
     let rule = found.rule in
-    let has = at_place (λ rule. HasEachOnce rule.names rule.pattern) rules m.rule rule each found.is_rule in
-    let known = at_place (λ rule. AreInArguments rule.names rule.pattern rule.pattern_paths) rules m.rule rule in_arguments found.is_rule in
+    let has = all_at (λ rule. HasEachOnce rule.names rule.pattern) rules m.rule rule each found.is_rule in
+    let known = all_at (λ rule. AreInArguments rule.names rule.pattern rule.pattern_paths) rules m.rule rule in_arguments found.is_rule in
     record {
       rule = rule;
       is_rule = found.is_rule;

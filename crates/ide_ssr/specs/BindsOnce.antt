@@ -20,6 +20,6 @@ pub data IsListIn (answer : List Match) : List Match → Type 0 where
   inner : (ms : List Match) (m : Match) (p : PlaceholderMatch)
       → IsListIn answer ms → Contains ms m → Contains (placeholders_of m) p → IsListIn answer (inner_of p)
 
--- each match of them binds each placeholder once
+-- each match in one of an answer's lists binds each placeholder once
 abbrev pub BindOnce : List ResolvedKind → List Match → Type 0
 BindOnce rules answer = (ms : List Match) → IsListIn answer ms → All (BindsOnce rules) ms

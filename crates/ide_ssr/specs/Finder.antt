@@ -11,7 +11,7 @@ pub record FinderWith (S : Type 0) : Type 0 where
   pub context : Context
   pub rules : List ResolvedKind
 
--- the same, with what the provider tells in its place
+-- what contracts see of a finder, with what the provider tells in the provider's place
 pub record Finder : Type 0 where
   pub workspace : Workspace
   pub meanings : Meanings

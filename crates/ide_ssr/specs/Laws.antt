@@ -16,7 +16,7 @@ use Rattle.ide_ssr.specs.Edits.{HaveTemplates, Edits}
 abbrev pub OutcomeExists : Finder → Type 0
 OutcomeExists finder = (kept : Kept) × (lists : Listing) × IsOutcome finder kept lists
 
--- and to no other
+-- a search comes to no two outcomes
 abbrev pub OneOutcome : Finder → Type 0
 OneOutcome finder =
     (a b : Kept) (s t : Listing) → IsOutcome finder a s → IsOutcome finder b t → (a ≡ b) × (s ≡ t)

@@ -11,19 +11,19 @@ use Rattle.ide_ssr.specs.declared.matches.PlaceholderMatch.{PlaceholderMatch, ou
 abbrev pub text_of : Match → List ℕ
 text_of m = (out-Match m).text.now
 
--- where it comes from
+-- where a match comes from
 abbrev pub range_of : Match → FileRange
 range_of m = (out-Match m).range
 
--- its node
+-- the node of a match
 abbrev pub node_of : Match → NodeId
 node_of m = (out-Match m).node
 
--- the place of its rule
+-- the place of a match's rule
 abbrev pub rule_of : Match → ℕ
 rule_of m = (out-Match m).rule_index
 
--- its placeholders
+-- the placeholders of a match
 abbrev pub placeholders_of : Match → List PlaceholderMatch
 placeholders_of m = (out-Match m).placeholders.items
 
@@ -31,26 +31,26 @@ placeholders_of m = (out-Match m).placeholders.items
 abbrev pub name_of : PlaceholderMatch → List ℕ
 name_of p = string_bytes (out-PlaceholderMatch p).var.0
 
--- where what it holds comes from
+-- where what a placeholder holds comes from
 abbrev pub place_of : PlaceholderMatch → FileRange
 place_of p = (out-PlaceholderMatch p).range
 
--- the same, as bytes of a file
+-- where what a placeholder holds comes from, as bytes of a file
 abbrev pub span_of : PlaceholderMatch → FileSpan
 span_of p = file_span_of (place_of p)
 
--- how often a receiver is dereferenced
+-- how often the receiver that a placeholder holds is dereferenced
 abbrev pub deref_count_of : PlaceholderMatch → ℕ
 deref_count_of p = (out-PlaceholderMatch p).deref_count
 
--- how it is taken
+-- how the receiver that a placeholder holds is taken
 abbrev pub self_kind_of : PlaceholderMatch → SelfKind
 self_kind_of p = (out-PlaceholderMatch p).self_kind
 
--- the matches in it
+-- the matches in a placeholder
 abbrev pub inner_of : PlaceholderMatch → List Match
 inner_of p = (out-PlaceholderMatch p).inner.items
 
--- where its comments stand
+-- where the comments stand that a match keeps
 abbrev pub comments_of : Match → List FileRange
 comments_of m = (out-Match m).comments.items

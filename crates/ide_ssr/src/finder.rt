@@ -106,7 +106,9 @@ impl<'a, S: Semantics> MatchFinder<'a, S> {
         }
     }
 
-    /// The same in front of the first file, without restrictions. Where there is no file: `No files to search`.
+    /// A finder without rules, which searches all files. The names of its rules are looked up where the node at the beginning
+    /// of the first file stands. Refused: `No files to search`, where there is no file, and `no resolution scope for file`,
+    /// where that node stands in no scope.
     pub fn at_first_file(
         alloc: Global,
         workspace: &'a Workspace,
@@ -149,7 +151,9 @@ impl<'a, S: Semantics> MatchFinder<'a, S> {
         Ok(self.add_kinds(kinds)?)
     }
 
-    /// Adds all kinds of a search pattern likewise. They have no template: a finder that has one has no edits.
+    /// Adds all kinds of a search pattern, in their order, with what their paths stand for where the finder's position stands.
+    /// They have no template: a finder that has such a kind has no edits. It is refused for the first path that has to resolve
+    /// and doesn't. A refused pattern, or one that there is no memory for, leaves the finder as it was.
     pub fn add_search_pattern(&mut self, pattern: SsrPattern) -> Result<(), SsrError>
         ensures answer { Adds self.old self.new (resolved_kinds (S.meanings self.old.semantics) self.old.context.scope pattern.names pattern.constraints pattern.kinds) result }
         ensures unchanged { OnErr result (self.new ≡ self.old) }
@@ -192,7 +196,7 @@ impl<'a, S: Semantics> MatchFinder<'a, S> {
         self.scan_matches()
     }
 
-    /// The same list, always found by trying every node at which a rule is permitted.
+    /// The kept matches, as `matches` lists them, always found by trying every node at which a rule is permitted.
     pub fn scan_matches(&self) -> Result<SsrMatches<'a>, AllocError>
         ensures shows { IfOk result (λ found. ShowKept (finder_of S.meanings self.now) found.matches.items) }
         ensures binds { IfOk result (λ found. BindOnce self.now.rules found.matches.items) }

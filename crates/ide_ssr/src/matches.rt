@@ -140,29 +140,30 @@ impl<'a> PlaceholderMatch<'a> {
         &self.var
     }
 
-    /// The bytes of a file that what it holds comes from.
+    /// The bytes of a file that what the placeholder holds comes from.
     pub fn range(&self) -> FileRange
         ensures { result ≡ place_of self.now }
     {
         self.range
     }
 
-    /// How often what it holds is dereferenced to be the first argument of the qualified call that matched a method call,
-    /// where it holds that call's receiver; else 0.
+    /// How often what the placeholder holds is dereferenced to be the first argument of the qualified call that matched a
+    /// method call, where it holds that call's receiver; else 0.
     pub fn deref_count(&self) -> usize
         ensures { result ≡ deref_count_of self.now }
     {
         self.deref_count
     }
 
-    /// How the method takes that receiver; `Owned` where it holds something else.
+    /// How the method of a method call takes the receiver that the placeholder holds; `Owned` where it holds something else.
     pub fn self_kind(&self) -> SelfKind
         ensures { result ≡ self_kind_of self.now }
     {
         self.self_kind
     }
 
-    /// The matches in it that stand in no placeholder of another one in it, in the same order.
+    /// The matches in the placeholder that stand in no placeholder of another one in it, by file, start and end, rule, tree and
+    /// node.
     pub fn inner(&self) -> &[Match<'a>]
         ensures { result.now ≡ inner_of self.now }
     {

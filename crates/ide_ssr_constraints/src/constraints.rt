@@ -10,9 +10,9 @@ use std::marker::Model;
 /// What a placeholder asks of the node that it stands for. A `not` turns one into the other.
 #[derive(Clone, Copy)]
 pub enum Constraint {
-    /// It is a literal.
+    /// The node is a literal.
     Literal,
-    /// It is none.
+    /// The node is no literal.
     NoLiteral,
 }
 
@@ -28,7 +28,7 @@ impl Constraint {
         }
     }
 
-    /// Whether it holds at a node of a kind.
+    /// Whether the constraint holds at a node of a kind.
     fn holds_at(self, kind: SyntaxKind) -> bool
         ensures { result ≡ holds_at kind self }
     {
@@ -53,21 +53,21 @@ impl Model for ConstraintSet {
 }
 
 impl ConstraintSet {
-    /// These constraints.
+    /// The set of these constraints.
     pub fn of(alloc: Global, constraints: &[Constraint]) -> Result<ConstraintSet, AllocError>
         ensures { IfOk result (λ set. set ≡ constraints.now) }
     {
         Ok(ConstraintSet(Vec::from_slice(alloc, constraints)?))
     }
 
-    /// The same constraints once more.
+    /// The constraints of the set, once more.
     pub fn copied(&self, alloc: Global) -> Result<ConstraintSet, AllocError>
         ensures { IfOk result (λ set. set ≡ self.now) }
     {
         ConstraintSet::of(alloc, self.0.as_slice())
     }
 
-    /// Whether a node of a kind meets all of them.
+    /// Whether a node of a kind meets all constraints of the set.
     pub fn are_met(&self, kind: SyntaxKind) -> bool
         ensures { result ≡ are_met self.now kind }
     {

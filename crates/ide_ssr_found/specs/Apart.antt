@@ -28,6 +28,6 @@ pub record IsHeldIn (code : Syntax) (node : Node) (b : Binding) : Type 0 where
 abbrev pub ComesBefore : Syntax → Binding → Binding → Type 0
 ComesBefore code a b = (tokens_held code a.held).first + (tokens_held code a.held).count ≤ (tokens_held code b.held).first
 
--- in this order or in the other
+-- what one of two bindings holds ends before that of the other begins, in the one order or in the other
 abbrev pub AreApart : Syntax → Binding → Binding → Type 0
 AreApart code a b = ComesBefore code a b ⊎ ComesBefore code b a

@@ -13,7 +13,7 @@ use Rattle.ide_ssr_found.specs.declared.bindings.Held.TheVariants as held
 
 -- ** What placeholders hold.
 
--- that of a receiver of a method call tells more
+-- a placeholder with what it holds; that of a receiver of a method call tells more
 abbrev pub plain_binding : ℕ → Held → Binding
 plain_binding placeholder held = record { placeholder = placeholder; held = held; deref_count = 0; self_kind = self_kind.Owned }
 
@@ -23,7 +23,7 @@ node_binding placeholder node = plain_binding placeholder (held.Node (record { 0
 abbrev pub tokens_binding : ℕ → TokenRun → Binding
 tokens_binding placeholder run = plain_binding placeholder (held.Tokens run)
 
--- where it comes from, the tree of the match having this number
+-- where what is held comes from, the tree of the match having this number
 abbrev pub range_of_held : List Planted → ℕ → Held → Option FileSpan
 range_of_held trees tree (held.Node node) = original_range trees (node_id tree node.0)
 range_of_held trees tree (held.Tokens run) = run_range trees tree run
@@ -61,10 +61,10 @@ IsInRange trees node b = IsSomeAnd (held_range trees node.tree b) (λ inner. IsS
 
 -- what is asked of a match
 pub record IsMatch (trees : List Planted) (m : Found) : Type 0 where
-  -- its node is a node of the workspace, and has an original range with a byte
+  -- the match's node is a node of the workspace, and has an original range with a byte
   pub node : IsNodeOf trees m.node
   pub range : IsSomeAnd (original_range trees m.node) HasByte
-  -- what its placeholders hold comes from there, and no two share a byte
+  -- what the match's placeholders hold comes from the range of its node, and no two share a byte
   pub held : All (IsInRange trees m.node) m.bindings
   pub apart : AllPairs (ShareNoByte trees m.node.tree) m.bindings
 

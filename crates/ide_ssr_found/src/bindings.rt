@@ -24,7 +24,7 @@ pub struct Binding {
     /// How often the receiver of a method call is dereferenced to be the first argument of the qualified call that it
     /// matched; 0 for whatever else is held.
     pub deref_count: usize,
-    /// How that method takes its receiver; `Owned` for whatever else is held.
+    /// How the method of a method call takes the receiver that is held; `Owned` for whatever else is held.
     pub self_kind: SelfKind,
 }
 
@@ -41,7 +41,7 @@ impl Binding {
         }
     }
 
-    /// One that holds elements of a token tree.
+    /// A placeholder that holds elements of a token tree.
     pub fn of_tokens(placeholder: u32, run: TokenRun) -> Binding
         ensures { result ≡ tokens_binding placeholder run }
     {

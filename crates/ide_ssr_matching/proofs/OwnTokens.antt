@@ -1,5 +1,6 @@
 -- Tokens of a node's own that are placeholders, child by child.
 use Rattle.std.proofs.Common.{◌≡◌, ℕ, ◌||◌, Bool, true, false, is_some, List, [], ◌∷◌, Option, refl, sym, ◌∙◌, ap}
+use Rattle.std.proofs.Math.Bool.{or-false}
 use Rattle.ssr_syntax_tree.specs.Syntax.{Syntax}
 use Rattle.ssr_syntax_tree.specs.Places.{Part, token_part, node_part, part_of, token_of}
 use Rattle.ssr_syntax_tree.specs.declared.number.Element.{Element}
@@ -29,9 +30,5 @@ module _ (names : List (List ℕ)) where
   pub token_told : (pattern : Syntax) (child : Element) (t : TokenNo) (o : Option ℕ) (b : Bool) → child ≡ element.Token t
       → o ≡ name_at names (token_of pattern t.0) → b ≡ is_some o → b ≡ has_token_placeholder names (part_of pattern child ∷ [])
   token_told pattern child t o b child_is told is =
-      is ∙ ap is_some told ∙ or_false (is_some (name_at names (token_of pattern t.0)))
+      is ∙ ap is_some told ∙ sym (or-false (is_some (name_at names (token_of pattern t.0))))
       ∙ ap (λ child. has_token_placeholder names (part_of pattern child ∷ [])) (sym child_is)
-    where
-      or_false : (b : Bool) → b ≡ (b || false)
-      or_false true = refl
-      or_false false = refl

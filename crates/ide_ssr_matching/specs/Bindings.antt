@@ -78,7 +78,7 @@ module _ (m : Meanings) (tree : ℕ) (rule : ResolvedKind) where
   can_match (Some r) p c = stands_for r (code_res m tree c)
   can_match None p c = can_be_call m tree (call_of rule p) c
 
-  -- lists of fields with names pair by these
+  -- lists of fields with names pair by the names
   abbrev pub like_pairs : Option Res → Node → Node → Option Sides
   like_pairs (Some r) p c = Some (counted_sides (Some r) p c)
   like_pairs None p c = if is_named rule.names p c then option_map (named_pairs p) (named_nodes p c) else Some (counted_sides None p c)
@@ -86,7 +86,7 @@ module _ (m : Meanings) (tree : ℕ) (rule : ResolvedKind) where
   abbrev pub like_sides : Node → Node → Option Sides
   like_sides p c = if same_kind p.kind c.kind && can_match (pattern_res rule p) p c then like_pairs (pattern_res rule p) p c else None
 
-  -- whether it is a method call against which a qualified call is
+  -- what has to pair of a node of the pattern, which may be a qualified call, and a node, which may be a method call
   abbrev pub sides_in : Option QualifiedCall → Bool → Node → Node → Option Sides
   sides_in (Some call) true p c = method_sides m tree rule call p c
   sides_in (Some call) false p c = like_sides p c

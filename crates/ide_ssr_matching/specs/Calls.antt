@@ -60,7 +60,7 @@ pub record PathCall : Type 0 where
   pub path : Node
   pub arguments : List Node
 
--- by the nodes of the callee: only a path, which has a segment
+-- a call of the pattern by the nodes of its callee, which is only a path, and of its arguments; the path has a segment
 abbrev pub called_with : List Node → List Node → Option PathCall
 called_with (path ∷ []) (first ∷ rest) =
     if same_kind path.kind k.PATH
@@ -72,7 +72,7 @@ called_with callee arguments = None
 abbrev pub are_call : Node → Node → Bool
 are_call callee list = same_kind callee.kind k.PATH_EXPR && same_kind list.kind k.ARG_LIST
 
--- by the nodes of the call: the callee, and the list of arguments
+-- a call of the pattern by its nodes: the callee, and the list of arguments
 abbrev pub called_in : List Node → Option PathCall
 called_in (callee ∷ list ∷ []) = if are_call callee list then called_with (child_nodes callee) (child_nodes list) else None
 called_in _ = None
@@ -128,7 +128,7 @@ module _ (m : Meanings) (tree : ℕ) where
       option_map (λ count. record { node = record { 0 = receiver }; deref_count = count; self_kind = m.self_kind (node_id tree c) })
       (derefs m type (node_id tree receiver))
 
-  -- the same, if it calls what the callee stands for
+  -- how the method call c takes its receiver, if it calls what the callee stands for, and that can be of the qualifier's type
   abbrev pub receiver_with : Option Res → Option TypeId → ℕ → ℕ → Option Receiver
   receiver_with used type c receiver = if calls_same m used (node_id tree c) then receiver_by type c receiver else None
 

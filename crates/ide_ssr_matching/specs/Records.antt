@@ -21,7 +21,7 @@ name_of_path path =
     then Some (join_by (λ text. text) (codes "::") (key_of path.children))
     else None
 
--- an expression that is such a path has its name
+-- an expression that is only a path of one segment without arguments has the name of the path
 abbrev pub name_of_only : List Node → Option (List ℕ)
 name_of_only (path ∷ []) = name_of_path path
 name_of_only _ = None
@@ -60,7 +60,7 @@ is_open names node =
 
 -- ** Labels.
 
--- all of them, if each is there
+-- all elements of a list, if each is there
 abbrev pub all_some : {A : Type 0} → List (Option A) → Option (List A)
 all_some [] = Some []
 all_some (None ∷ rest) = None
@@ -69,7 +69,7 @@ all_some (Some x ∷ rest) = option_map (λ xs. x ∷ xs) (all_some rest)
 abbrev pub labels_of : Node → Option (List (List ℕ))
 labels_of list = all_some (map label_of (child_nodes list))
 
--- whether none of them is among those that were seen, or twice among them
+-- whether no label is among those that were seen, or stands twice
 abbrev pub are_new : List (List ℕ) → List (List ℕ) → Bool
 are_new seen [] = true
 are_new seen (label ∷ rest) = not (list_any (bytes_eq label) seen) && are_new (seen ++ label ∷ []) rest
@@ -77,18 +77,18 @@ are_new seen (label ∷ rest) = not (list_any (bytes_eq label) seen) && are_new 
 abbrev pub are_different : List (List ℕ) → Bool
 are_different labels = are_new [] labels
 
--- which of these has a label
+-- which of the elements of a list has a label, where these are their labels
 abbrev pub with_label : {A : Type 0} → List (List ℕ) → List A → List ℕ → Option A
 with_label labels nodes label = option_and_then (slice_get nodes) (position_from (bytes_eq label) 0 labels)
 
--- those with labels in the order of other labels, if both are the same, and none is there twice
+-- elements with labels in the order of other labels, if both are the same, and none is there twice
 abbrev pub arranged : {A : Type 0} → List (List ℕ) → List (List ℕ) → List A → Option (List A)
 arranged order labels nodes =
     if are_different order && (are_different labels && length order == length labels) then all_some (map (with_label labels nodes) order) else None
 
 -- ** Lists that match by labels.
 
--- where all fields have names, those of the pattern other ones than placeholders
+-- whether two lists of fields match by names: where all fields have some, those of the pattern other ones than placeholders
 abbrev pub is_named : List (List ℕ) → Node → Node → Bool
 is_named names p c =
     same_kind p.kind k.RECORD_EXPR_FIELD_LIST

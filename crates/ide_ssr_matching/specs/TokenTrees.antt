@@ -27,8 +27,8 @@ has_token_placeholder names [] = false
 has_token_placeholder names (token_part t token ∷ rest) = is_some (name_at names token) || has_token_placeholder names rest
 has_token_placeholder names (node_part node ∷ rest) = has_token_placeholder names rest
 
--- In a `macro_rules` item, too, an identifier stands beside other children: the word `macro_rules`, which is no placeholder.
--- Were it one, the item would match nothing.
+-- Whether a node of the pattern is no `macro_rules` item of which a token of its own is a placeholder. In such an item an
+-- identifier stands beside other children, the word `macro_rules`. Were it a placeholder, the item would match nothing.
 abbrev pub is_plain : ResolvedKind → Node → Bool
 is_plain rule p = not (same_kind p.kind k.MACRO_RULES && has_token_placeholder rule.names (parts_of p))
 

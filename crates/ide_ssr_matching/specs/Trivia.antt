@@ -50,6 +50,6 @@ held_anywhere (held.Tokens run) = held.Tokens (record { first = 0; count = run.c
 abbrev pub bound_anywhere : Binding → Binding
 bound_anywhere b = record b { held = held_anywhere b.held }
 
--- two matches bind the same but for that
+-- two matches bind the same, but for where tokens begin
 abbrev pub BindAlike : List Binding → List Binding → Type 0
 BindAlike bs others = map bound_anywhere bs ≡ map bound_anywhere others

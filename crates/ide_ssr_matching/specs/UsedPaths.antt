@@ -20,7 +20,7 @@ abbrev pub from_arguments : List Part → List Part
 from_arguments [] = []
 from_arguments (part ∷ rest) = if holds_arguments part then part ∷ rest else from_arguments rest
 
--- those of the last segment of a path; a path in front of it is a child of its own
+-- the arguments of the last segment of a path; a path in front of it is a child of its own
 abbrev pub arguments_of : Node → List Part
 arguments_of path = option_map_or (λ segment. from_arguments (parts_of segment)) (first_of_kind k.PATH_SEGMENT (parts_of path)) []
 

@@ -18,7 +18,7 @@ use std::alloc::{AllocError, Global};
 /// The children of a node that are left, while they are gone over.
 #[derive(Drop)]
 pub(crate) struct Siblings<'a> {
-    /// One that was looked at, in front of the others.
+    /// A child that was looked at, in front of the others.
     held: Option<Element>,
     left: Children<'a>,
 }
@@ -57,7 +57,7 @@ impl<'a> Siblings<'a> {
         }
     }
 
-    /// The next one.
+    /// The next child.
     fn advance(&mut self) -> Option<Element>
         ensures gives { siblings_left self.old ≡ option_to_list result ++ siblings_left self.new }
         ensures none { IfNone result (siblings_left self.new ≡ []) }
@@ -69,14 +69,14 @@ impl<'a> Siblings<'a> {
         }
     }
 
-    /// Passes all of them.
+    /// Passes all children that are left.
     fn pass_all(&mut self)
         ensures { siblings_left self.new ≡ [] }
     {
         while let Some(_child) = self.advance() {}
     }
 
-    /// Passes those in front of the first one that holds arguments.
+    /// Passes the children in front of the first one that holds arguments.
     fn pass_to_arguments(&mut self, tree: &Tree)
         requires { All (HasElement tree.now) (siblings_left self.old) }
         ensures gives { map (part_of tree.now) (siblings_left self.new) ≡ from_arguments (map (part_of tree.now) (siblings_left self.old)) }
@@ -118,7 +118,7 @@ impl<'a> Siblings<'a> {
         }
     }
 
-    /// The next one that is no trivia.
+    /// The next child that is no trivia.
     fn next_solid(&mut self, tree: &Tree) -> Option<Element>
         requires { All (HasElement tree.now) (siblings_left self.old) }
         ensures gives { solid (map (part_of tree.now) (siblings_left self.old)) ≡ map (part_of tree.now) (option_to_list result ++ siblings_left self.new) }
@@ -153,7 +153,7 @@ impl<'a> Siblings<'a> {
         comma
     }
 
-    /// The next one that counts for a match: no trivia, and no comma directly, trivia aside, before a closing bracket.
+    /// The next child that counts for a match: no trivia, and no comma directly, trivia aside, before a closing bracket.
     pub(crate) fn next_bare(&mut self, tree: &Tree) -> Option<Element>
         requires { All (HasElement tree.now) (siblings_left self.old) }
         ensures gives { bare (map (part_of tree.now) (siblings_left self.old)) ≡ (map (part_of tree.now) (option_to_list result) ++ bare (map (part_of tree.now) (siblings_left self.new))) }

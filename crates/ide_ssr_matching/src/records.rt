@@ -43,7 +43,7 @@ fn name_of_path(alloc: Global, tree: &Tree, path: NodeNo) -> Result<Option<Strin
     Ok(Some(name))
 }
 
-/// The name of an expression that is such a path.
+/// The name of an expression that is a path of one segment without arguments.
 fn name_of_expr(alloc: Global, tree: &Tree, expr: NodeNo) -> Result<Option<String>, AllocError>
     requires { HasNode tree.now expr.0 }
     ensures { IfOk result (λ name. option_map string_bytes name ≡ name_of_expr (node_of tree.now expr.0)) }
@@ -132,7 +132,7 @@ fn is_open(
     }
 }
 
-/// Whether one of the nodes of the pattern is such a field.
+/// Whether one of the nodes of the pattern is a field that is named by a placeholder.
 fn has_open(
     alloc: Global,
     rule: &ResolvedRule,

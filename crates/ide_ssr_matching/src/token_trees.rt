@@ -50,7 +50,7 @@ fn is_token_placeholder(rule: &ResolvedRule, child: Element) -> bool
     }
 }
 
-/// Whether one of them is.
+/// Whether one of the children of a node of the pattern is a token that is a placeholder.
 fn has_token_placeholder(rule: &ResolvedRule, p: NodeNo) -> bool
     requires { HasNode rule.now.pattern p.0 }
     ensures { result ≡ has_token_placeholder rule.now.names (parts_of (node_of rule.now.pattern p.0)) }

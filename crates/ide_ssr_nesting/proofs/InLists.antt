@@ -16,10 +16,8 @@ use Rattle.ide_ssr_nesting.specs.Holding.{Kept, IsKept}
 use Rattle.ide_ssr_nesting.specs.Lists.{held, held_place, held_binding, holder_key, listing_key, lists_key, Listing, same_holder, listed, AreLists}
 use Rattle.ide_ssr_nesting.specs.Laws.{IsListedBefore, ListsWhatIsHeld, ListsInOrder, ListsEachOnce, OneListing}
 use Rattle.ssr_syntax_tree.proofs.Lists.{at_front, at_back, front_or_back, pairs_head, pairs_tail, stands_at}
+use Rattle.ide_ssr_nesting.proofs.Elements.{none_in}
 use Rattle.ide_ssr_nesting.proofs.OneHolding.{same_holders}
-
-none_in : {X : Type 0} (x : X) → Contains [] x → ⊥
-none_in x at = let within = at.1 in omega arith
 
 -- ** Holders that are tested.
 

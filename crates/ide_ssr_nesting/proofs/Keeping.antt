@@ -9,6 +9,7 @@ use Rattle.ide_ssr_nesting.specs.Kept.{IsOver, Fits, ComesBefore, AreKept}
 use Rattle.ide_ssr_nesting.specs.Holding.{AreHeld}
 use Rattle.ide_ssr_nesting.specs.Private.Nearest.{IsKeptIfFits}
 use Rattle.ssr_syntax_tree.proofs.Lists.{pairs_head, pairs_tail}
+use Rattle.ide_ssr_nesting.proofs.Elements.{none_in}
 use Rattle.ide_ssr_nesting.proofs.Over.{not_over, not_over_itself}
 
 -- the kept ones of those that came, where `rest` is still to come
@@ -20,9 +21,6 @@ pub record AreKeptSoFar (trees : List Planted) (found kept : List Found) (holder
   pub before : All (λ m. All (ComesBefore trees m) rest) front
   pub in_order : AllPairs (ComesBefore trees) rest
   pub each : All (IsMatch trees) rest
-
-none_in : {X : Type 0} (x : X) → Contains [] x → ⊥
-none_in x at = let within = at.1 in omega arith
 
 none_held : (trees : List Planted) → AreHeld trees [] []
 none_held trees = record {

@@ -1,4 +1,5 @@
 pub mod Shared
+mod Elements
 mod Parents
 mod Nodes
 mod Moved

@@ -10,6 +10,7 @@ use Rattle.ide_ssr_nesting.specs.Kept.{IsOver, Fits, ComesBefore, AreKept}
 use Rattle.ide_ssr_nesting.specs.Laws.{OneKept, LiesInOnePlaceholder}
 use Rattle.ssr_syntax_tree.proofs.Lists.{at_front, front_or_back, pairs_head, pairs_right, pairs_across}
 use Rattle.ide_ssr_nesting.proofs.Above.{one_place_each}
+use Rattle.ide_ssr_nesting.proofs.Elements.{none_in}
 use Rattle.ide_ssr_nesting.proofs.Over.{before_trans, not_before_itself, not_over, over_before}
 use Rattle.ide_ssr_nesting.proofs.Under.{one_placeholder}
 
@@ -93,9 +94,6 @@ module _ (trees : List Planted) (grown : CallsAreEarlier trees) where
     node_again front ls l other =
         let told = (other.are l).0 (Contains-append_right front (l ∷ ls) l (at_front l ls)) in
         (All-contains (IsMatch trees) found l are.each ((same l).1 told.0)).node
-
-    none_in : (k : Found) → Contains [] k → ⊥
-    none_in k at = let within = at.1 in omega arith
 
     rests : (front ks ls : List Found) → AreKept trees found (front ++ ks) → AreKept trees again (front ++ ls) → ks ≡ ls
     rests front [] [] one other = refl

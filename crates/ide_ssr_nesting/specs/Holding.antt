@@ -40,7 +40,7 @@ pub record Kept : Type 0 where
   pub matches : List Found
   pub holders : List (Option Holder)
 
--- what is known of them
+-- what is known of the kept matches of a workspace, and of what holds them
 pub record IsKept (kept : Kept) : Type 0 where
   pub built : IsBuilt kept.workspace
   pub held : AreHeld (trees kept.workspace) kept.matches kept.holders

@@ -28,7 +28,7 @@ LiesInPlaceholder trees k m = (place : ℕ) × LiesUnder trees k m place
 abbrev pub Fits : List Planted → List Found → Found → Type 0
 Fits trees kept m = (k : Found) → Contains kept k → IsOver trees k m → LiesInPlaceholder trees k m
 
--- in the order of nodes, at a node in that of rules
+-- k comes before m: in the order of nodes, at a node in that of rules
 abbrev pub ComesBefore : List Planted → Found → Found → Type 0
 ComesBefore trees k m = Precedes trees k.node m.node ⊎ ((k.node ≡ m.node) × (k.rule < m.rule))
 

@@ -74,7 +74,7 @@ ListsEachOnce kept =
 abbrev pub ListsExist : Kept → Type 0
 ListsExist kept = (lists : Listing) × AreLists kept lists
 
--- and no other
+-- kept matches have no two ways to list them
 abbrev pub OneListing : Kept → Type 0
 OneListing kept = (lists other : Listing) → AreLists kept lists → AreLists kept other → lists ≡ other
 

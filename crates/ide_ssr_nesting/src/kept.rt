@@ -73,7 +73,7 @@ fn place_of(holder: Option<Holder>) -> Option<usize>
 }
 
 impl Nest {
-    /// The place of the nearest match over `m`, which comes behind all of them.
+    /// The place of the nearest kept match over `m`, which comes behind all kept ones.
     fn nearest(&self, workspace: &Workspace, m: &Found) -> Option<usize>
         requires built { IsBuilt workspace.now }
         requires held { AreHeld (trees workspace.now) self.now.matches.items self.now.holders.items }
@@ -91,7 +91,7 @@ impl Nest {
         None
     }
 
-    /// What holds a match that comes behind all of them, if it lies in a placeholder of each one over it.
+    /// What holds a match that comes behind all kept ones, if it lies in a placeholder of each of these over it.
     fn listed(&self, workspace: &Workspace, m: &Found) -> Option<Option<Holder>>
         requires built { IsBuilt workspace.now }
         requires held { AreHeld (trees workspace.now) self.now.matches.items self.now.holders.items }
@@ -109,7 +109,7 @@ impl Nest {
         }
     }
 
-    /// Keeps a match that comes behind all of them, if it lies in a placeholder of each one over it.
+    /// Keeps a match that comes behind all kept ones, if it lies in a placeholder of each of these over it.
     fn consider(&mut self, workspace: &Workspace, m: Found) -> Result<(), AllocError>
         requires built { IsBuilt workspace.now }
         requires held { AreHeld (trees workspace.now) self.old.matches.items self.old.holders.items }

@@ -58,14 +58,14 @@ pub fn keep<'a>(
 }
 
 impl<'a> KeptMatches<'a> {
-    /// The workspace that they are matches of.
+    /// The workspace that the matches are of.
     pub fn workspace(&self) -> &'a Workspace
         ensures { result.now ≡ self.now.workspace }
     {
         self.workspace
     }
 
-    /// How many there are.
+    /// How many kept matches there are.
     pub fn len(&self) -> usize
         ensures count { result ≡ length self.now.matches }
         ensures kept { IsKept self.now }

@@ -154,7 +154,8 @@ impl Lists {
         self.list(None)
     }
 
-    /// The places of the matches that a match holds by one of its bindings, in the same order.
+    /// The places of the matches that a match holds by one of its bindings: by file, start and end of the original range, rule,
+    /// tree and node.
     pub fn under(&self, place: usize, binding: usize) -> &[usize]
         ensures { result.now ≡ listed self.now (Some (record { place = place; binding = binding })) }
     {

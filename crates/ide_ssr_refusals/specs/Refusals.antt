@@ -6,7 +6,7 @@ use Rattle.ide_ssr_refusals.specs.declared.error.SsrError.TheVariants as errors
 use Rattle.ide_ssr_refusals.specs.declared.refusals.Refusal.TheVariants as r
 pub use Rattle.ide_ssr_refusals.specs.declared.refusals.Refusal.{Refusal}
 
--- the message
+-- the message of a refusal
 abbrev pub words : Refusal → List ℕ
 words r.NoDelimiter = codes "Cannot find delimiter `==>>`"
 words r.SecondDelimiter = codes "More than one delimiter found"

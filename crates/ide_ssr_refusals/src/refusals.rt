@@ -72,7 +72,7 @@ pub enum Refusal<'a> {
     NoKind,
     ConstraintInMacroCall(Text<'a>),
     ConstraintInTemplate,
-    /// These names, listed.
+    /// The template uses placeholders of these names, listed, which the pattern lacks.
     Undefined(Text<'a>),
     UnresolvedPath(Text<'a>),
 }

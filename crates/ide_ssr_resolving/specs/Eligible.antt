@@ -52,6 +52,6 @@ module _ (m : Meanings) (tree : Syntax) (calls : List QualifiedCall) where
   abbrev pub is_eligible : UsedPath → Bool
   is_eligible path = not (is_builtin_type m path.res) && not (is_in_first_argument tree calls path.node.0)
 
-  -- those of all used paths, in their order
+  -- the eligible ones of all used paths, in their order
   abbrev pub eligible_paths_of : List UsedPath → List UsedPath
   eligible_paths_of paths = filter is_eligible paths

@@ -14,7 +14,7 @@ below_first kind nothing = None
 below_first kind (leaf token next) = below_first kind next
 below_first kind (branch own below next) = if same_kind own kind then Some below else below_first kind next
 
--- that node itself, among the children of a node
+-- the first node of a kind among the children of a node
 abbrev pub first_of_kind : SyntaxKind → List Part → Option Node
 first_of_kind kind [] = None
 first_of_kind kind (token_part t token ∷ rest) = first_of_kind kind rest
@@ -33,7 +33,7 @@ segments (leaf token next) = segments next
 segments (branch kind below next) =
     (if same_kind kind k.PATH then segments below else if same_kind kind k.PATH_SEGMENT then below ∷ [] else []) ++ segments next
 
--- those in front of the last one
+-- the segments of a path in front of the last one, from the left
 unfoldable pub qualifying : Forest → List Forest
 qualifying path = option_map_or segments (qualifier path) []
 
@@ -54,7 +54,7 @@ before_arguments nothing = nothing
 before_arguments (leaf token next) = leaf token (before_arguments next)
 before_arguments (branch kind below next) = if is_arguments kind then nothing else branch kind below (before_arguments next)
 
--- a segment from there on
+-- a segment from its arguments on
 abbrev pub from_arguments : Forest → Forest
 from_arguments nothing = nothing
 from_arguments (leaf token next) = from_arguments next
@@ -64,7 +64,7 @@ from_arguments (branch kind below next) = if is_arguments kind then branch kind 
 abbrev pub path_arguments : Forest → Forest
 path_arguments path = option_map_or from_arguments (last_segment path) nothing
 
--- a path without them
+-- a path without the arguments of its last segment
 abbrev pub without_arguments : Forest → Forest
 without_arguments nothing = nothing
 without_arguments (leaf token next) = leaf token (without_arguments next)

@@ -14,13 +14,13 @@ use Rattle.ide_ssr_resolving.specs.declared.used.UsedPath.{UsedPath}
 use Rattle.ide_ssr_resolving.specs.Paths.{path_arguments}
 use Rattle.ide_ssr_resolving.specs.Placeholders.{only_token}
 
--- a placeholder, or else those below it
+-- the placeholder that a node is, or else those below the node
 abbrev pub or_below : Option ℕ → List ℕ → List ℕ
 or_below (Some i) below = i ∷ []
 or_below None below = below
 
--- those below a node of this kind: in a token tree the tokens that are some, in a `macro_rules` item, in which an identifier
--- stands beside other children too, those children, and else the nodes among the children and below them
+-- the placeholders below a node of this kind: in a token tree the tokens that are some, in a `macro_rules` item, in which an
+-- identifier stands beside other children too, those children, and else the nodes among the children and below them
 abbrev pub of_kind : SyntaxKind → List ℕ → List ℕ → List ℕ → List ℕ
 of_kind kind tokens children nodes = if same_kind kind k.TOKEN_TREE then tokens else if same_kind kind k.MACRO_RULES then children else nodes
 
@@ -34,7 +34,7 @@ abbrev mutual
       (of_kind kind (placeholders_among names (tokens_in below)) (placeholders_mixed names below) (placeholders_in names below))
       ++ placeholders_in names next
 
-  -- the same of siblings of which tokens count as well
+  -- the placeholders among siblings and below them, from the left, where tokens among the siblings count as well
   pub placeholders_mixed : List (List ℕ) → Forest → List ℕ
   placeholders_mixed names nothing = []
   placeholders_mixed names (leaf token next) = cons_option (name_at names token) (placeholders_mixed names next)
@@ -61,6 +61,6 @@ pub record HasEachOnce (names : List (List ℕ)) (pattern : Syntax) : Type 0 whe
 abbrev pub HasThemInArguments : List (List ℕ) → Forest → Type 0
 HasThemInArguments names path = placeholders_in names path ≡ placeholders_in names (path_arguments path)
 
--- so it is with the used paths of a pattern
+-- what placeholders each used path of a pattern has stand in its arguments
 abbrev pub AreInArguments : List (List ℕ) → Syntax → List UsedPath → Type 0
 AreInArguments names pattern paths = All (λ path. HasThemInArguments names (node_of pattern path.node.0).children) paths

@@ -17,6 +17,6 @@ only_token (branch kind below next) = None
 unfoldable pub placeholder_at : List (List ℕ) → Node → Option ℕ
 placeholder_at names node = option_and_then (name_at names) (only_token node.children)
 
--- the same of each token of a tree
+-- which name's stand-in each token of a tree is
 abbrev pub token_placeholders : List (List ℕ) → Syntax → List (Option ℕ)
 token_placeholders names tree = map (name_at names) (tokens_of tree)

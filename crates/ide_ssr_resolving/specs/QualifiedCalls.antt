@@ -61,7 +61,7 @@ module _ (m : Meanings) (scope : ScopeId) where
   qualified_call tree path =
       option_and_then (λ function. option_map (call_of tree path.node.0 function) (called_by tree path.node.0)) (method_of m path.res)
 
-  -- those of all used paths, in their order, which is that of the calls too
+  -- the qualified calls of all used paths, in the order of the paths, which is that of the calls too
   abbrev pub qualified_calls_of : Syntax → List UsedPath → List QualifiedCall
   qualified_calls_of tree paths = filter_map (qualified_call tree) paths
 

@@ -48,7 +48,7 @@ module _ (m : Meanings) (scope : ScopeId) (names : List (List ℕ)) where
   unfoldable pub paths_in : Syntax → Result (List UsedPath) Refusal
   paths_in tree = or_refusal tree (used_paths m scope names tree)
 
-  -- those of a template; without one there are none
+  -- the used paths of a template of which all resolve that have to; without a template there are none
   abbrev pub paths_in_template : Option Syntax → Result (List UsedPath) Refusal
   paths_in_template template = option_map_or paths_in template (Ok [])
 

@@ -26,7 +26,7 @@ module _ (m : Meanings) (scope : ScopeId) where
   abbrev pub told : Forest → Option Res
   told path = m.lookup scope (key_of path)
 
-  -- the member of that name of the type that is told of the qualifier
+  -- the member that a path names of the type that is told of its qualifier
   unfoldable pub told_member : Forest → Option Res
   told_member path =
       option_and_then (λ adt. option_and_then (λ name. option_map res.Def (m.member scope adt name)) (last_name path))

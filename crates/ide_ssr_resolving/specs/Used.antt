@@ -38,7 +38,8 @@ names_placeholder names token = is_ident token.kind && is_stand_in names token.t
 unfoldable pub holds_stand_in : List (List ℕ) → Forest → Bool
 holds_stand_in names path = list_any (names_placeholder names) (tokens_in (without_arguments path))
 
--- a path that has none of both resolves as a whole
+-- a path resolves as a whole if no segment in front of its last one has generic arguments, and no stand-in is among its tokens,
+-- but for the arguments of its last segment
 abbrev pub is_whole : List (List ℕ) → Forest → Bool
 is_whole names path = not (list_any has_generics (qualifying path)) && not (holds_stand_in names path)
 
@@ -56,7 +57,8 @@ abbrev pub is_function : DefKind → Bool
 is_function kinds.Function = true
 is_function _ = false
 
--- all but an associated constant, an associated type, and an associated function that doesn't take `self`
+-- a path of a definition can be used: of any but an associated constant, an associated type, and an associated function that
+-- doesn't take `self`
 abbrev pub is_usable_def : DefInfo → Bool
 is_usable_def info = not (info.assoc && (is_const_or_type info.kind || (is_function info.kind && not info.takes_self)))
 
@@ -121,7 +123,7 @@ is_at node path = path.node.0 == node.0
 abbrev pub res_at : List UsedPath → NodeNo → Option Res
 res_at paths node = option_map (λ path. path.res) (find (is_at node) paths)
 
--- a call answers so, `seen` being the list of its value; want of memory says nothing
+-- a call answers the used paths, which `seen` tells of its value, or the path that doesn't resolve; want of memory says nothing
 abbrev pub Answers : {A : Type 0} → (A → List UsedPath) → Result A Unresolved → Result (List UsedPath) NodeNo → Type 0
 Answers seen (Ok value) paths = paths ≡ Ok (seen value)
 Answers seen (Err (errors.Path node)) paths = paths ≡ Err node

@@ -163,7 +163,7 @@ impl ResolvedRule {
         self.tables.in_pattern[node.0 as usize]
     }
 
-    /// Which placeholder each token of the pattern is, likewise.
+    /// Which placeholder each token of the pattern is: the place of its name among the names.
     pub fn token_placeholders(&self) -> &[Option<u32>]
         ensures { result.now ≡ token_placeholders self.now.names self.now.pattern }
     {
@@ -207,7 +207,7 @@ impl ResolvedRule {
         }
     }
 
-    /// The paths of the template that are used, likewise.
+    /// The paths of the template that are used, in order, each with what it resolves to.
     pub fn template_paths(&self) -> &[UsedPath]
         ensures paths { result.now ≡ self.now.template_paths }
         ensures has { IfSome self.now.template (λ template. HasPaths template self.now.template_paths) }
@@ -257,7 +257,9 @@ pub fn resolve_rule<S: Semantics>(
     resolve(alloc, semantics, scope, rule_kinds(rule))
 }
 
-/// The kinds of a search pattern likewise.
+/// The kinds of a search pattern in their order, with what their paths stand for that are written in the scope; or why it
+/// doesn't resolve: which of its paths doesn't. The pattern of each kind has each placeholder once, in a used path only among
+/// its arguments.
 pub fn resolve_pattern<S: Semantics>(
     alloc: Global,
     semantics: &S,
@@ -400,7 +402,7 @@ fn copied(
     Ok((names, constraints))
 }
 
-/// The constraints once more.
+/// The constraints of a rule's placeholders, once more.
 fn copied_constraints(
     alloc: Global,
     constraints: &[ConstraintSet],
@@ -435,7 +437,7 @@ fn paths_in<S: Semantics>(
     }
 }
 
-/// The same of a template; without one there are none.
+/// The used paths of a template; without one there are none. Refuses the first one that has to resolve and doesn't.
 fn paths_in_template<S: Semantics>(
     alloc: Global,
     semantics: &S,

@@ -60,7 +60,7 @@ fn told_type<S: Semantics>(
     Ok(adt_of(semantics, res))
 }
 
-/// The member of that name of the type that is told of the qualifier.
+/// The member that a path names of the type that is told of its qualifier.
 fn told_member<S: Semantics>(
     alloc: Global,
     semantics: &S,

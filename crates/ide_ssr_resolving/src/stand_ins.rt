@@ -20,7 +20,7 @@ fn names_placeholder(names: &Names<'_>, tree: &Tree, token: TokenNo) -> bool
         && names.has_stand_in(tree.token_text(token))
 }
 
-/// Whether one of the tokens of a piece is.
+/// Whether one of the tokens of a piece is the stand-in of one of the names.
 fn has_stand_in(names: &Names<'_>, tree: &Tree, piece: Piece) -> bool
     requires { HasPiece tree.now piece }
     ensures { result ≡ list_any (names_placeholder names.now) (tokens_at tree.now piece) }
@@ -33,7 +33,7 @@ fn has_stand_in(names: &Names<'_>, tree: &Tree, piece: Piece) -> bool
     false
 }
 
-/// Whether one of the tokens of a path is, but for the arguments of its last segment.
+/// Whether one of the tokens of a path, but for the arguments of its last segment, is the stand-in of one of the names.
 pub(crate) fn holds_stand_in(names: &Names<'_>, tree: &Tree, path: NodeNo) -> bool
     requires { HasNode tree.now path.0 }
     ensures { result ≡ holds_stand_in names.now (node_of tree.now path.0).children }

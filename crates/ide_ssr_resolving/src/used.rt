@@ -26,7 +26,7 @@ pub struct UsedPath {
 /// Why paths of a tree aren't resolved.
 #[derive(Clone, Copy, Debug, PartialEq, Eq)]
 pub enum Unresolved {
-    /// This one doesn't resolve.
+    /// This path doesn't resolve.
     Path(NodeNo),
     Memory,
 }
@@ -56,11 +56,11 @@ impl<T: Drop> From<AllocFailed<T>> for Unresolved {
 /// What the walk over a tree does at a node.
 #[derive(Clone, Copy)]
 enum Step {
-    /// Goes on with its children.
+    /// Goes on with the node's children.
     Enter,
-    /// Goes on behind it.
+    /// Goes on behind the node and what is below it.
     Pass,
-    /// Takes the path, which resolves to this, and goes on behind it.
+    /// Takes the path, which resolves to this, and goes on behind it and what is below it.
     Use(Res),
     /// Ends with the path that doesn't resolve.
     Refuse,
@@ -200,7 +200,8 @@ pub fn used_paths<S: Semantics>(
     walked(alloc, semantics, scope, &known, tree)
 }
 
-/// The same for names that are looked up.
+/// The paths of a tree that are used, in order, or the first one that has to resolve and doesn't, as `used_paths` answers
+/// them. The names are looked up by their texts.
 pub(crate) fn walked<S: Semantics>(
     alloc: Global,
     semantics: &S,

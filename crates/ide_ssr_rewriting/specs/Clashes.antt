@@ -27,7 +27,7 @@ differ (Some a) (Some b) = not (bytes_eq a b)
 differ (Some a) None = false
 differ None b = false
 
--- They share a byte, and have other ranges or differ in their texts. What has no text is told by its range alone.
+-- Two clash that share a byte, and have other ranges or differ in their texts. What has no text is told by its range alone.
 unfoldable pub is_clash : Rewrite → Rewrite → Bool
 is_clash a b = share_byte a.range b.range && (not (same_range a.range b.range) || differ a.text b.text)
 
@@ -58,7 +58,7 @@ range_key range = range.file ∷ range.span.start ∷ range.span.end ∷ []
 unfoldable pub clash_le : Clash → Clash → Bool
 clash_le c d = is_le (slice_cmp nat_cmp (range_key c.earlier ++ range_key c.later) (range_key d.earlier ++ range_key d.later))
 
--- it is one of the clashes, and none comes before it; there is none where there are no clashes
+-- the first clash is one of the clashes, and none comes before it; there is none where there are no clashes
 abbrev pub IsFirst : List Clash → Option Clash → Type 0
 IsFirst clashes None = clashes ≡ []
 IsFirst clashes (Some first) = Contains clashes first × AllPass (clash_le first) clashes

@@ -1,5 +1,5 @@
 -- The comments of the code that a match keeps: what is written behind its replacement.
-use Rattle.std.specs.Prelude.{ℕ, ◌+◌, Bool, true, false, not, ◌&&◌, if◌then◌else◌, nat_le, nat_lt, eqb, List, [], ◌∷◌, ◌++◌, map, filter, flat_map, codes}
+use Rattle.std.specs.Prelude.{ℕ, ◌+◌, Bool, true, false, not, ◌&&◌, if◌then◌else◌, nat_le, nat_lt, eqb, List, ◌++◌, map, filter, flat_map, codes}
 use Rattle.std.specs.List.{list_any, range_with_len, starts_with}
 use Rattle.ssr_syntax_kinds.specs.declared.kinds.SyntaxKind.{SyntaxKind}
 use Rattle.ssr_syntax_kinds.specs.declared.kinds.SyntaxKind.TheVariants as k
@@ -35,7 +35,7 @@ kept_comments code node bindings = filter (is_kept_comment code bindings) (token
 
 -- a comment that goes to the end of its line is followed by a line break
 abbrev pub comment_text : List ℕ → List ℕ
-comment_text text = if starts_with eqb text (codes "//") then text ++ 10 ∷ [] else text
+comment_text text = if starts_with eqb text (codes "//") then text ++ codes "\n" else text
 
 abbrev pub comments_text : Syntax → List TokenNo → List ℕ
 comments_text code comments = flat_map (λ token. comment_text (token_of code token.0).text) comments

@@ -24,7 +24,7 @@ Texts = ℕ → Option (List ℕ)
 
 -- ** The lists.
 
--- in the place of a range, where no match is kept; lists have the places of kept matches alone
+-- a range for places where no match is kept; lists have the places of kept matches alone
 abbrev pub nowhere : FileSpan
 nowhere = record { file = 0; span = record { start = 0; end = 0 } }
 
@@ -36,11 +36,11 @@ range_at kept n = option_map_or (range_of (trees kept.workspace)) (slice_get kep
 abbrev pub list_at : Kept → Texts → List ℕ → List Rewrite
 list_at kept texts places = map (λ n. record { range = range_at kept n; text = texts n }) places
 
--- likewise for those under the placeholder whose binding has the place i, of the match of the place n
+-- what stands for the matches under the placeholder whose binding has the place i, of the match of the place n
 abbrev pub list_under : Kept → Listing → Texts → ℕ → ℕ → List Rewrite
 list_under kept lists texts n i = list_at kept texts (listed lists (Some (record { place = n; binding = i })))
 
--- likewise for the outermost ones
+-- what stands for the outermost matches
 abbrev pub outermost_list : Kept → Listing → Texts → List Rewrite
 outermost_list kept lists texts = list_at kept texts (listed lists None)
 
@@ -61,11 +61,11 @@ AreTexts kept lists rules texts = (n : ℕ) (m : Found) → slice_get kept.match
 
 -- ** The clashes.
 
--- those of the lists under the placeholders of a match
+-- the clashes of the lists under the placeholders of a match
 abbrev pub clashes_under : Found → (ℕ → List Rewrite) → List Clash
 clashes_under m lists = flat_map (λ p. clashes (lists p.0)) (enumerate_from 0 m.bindings)
 
--- those of all lists
+-- the clashes of all lists
 abbrev pub all_clashes : Kept → Listing → Texts → List Clash
 all_clashes kept lists texts =
     clashes (outermost_list kept lists texts) ++ flat_map (λ p. clashes_under p.1 (list_under kept lists texts p.0)) (enumerate_from 0 kept.matches)

@@ -15,7 +15,7 @@ use Rattle.ide_ssr_rewriting.specs.Edits.{Answers, AreTexts, Texts, file_cmp}
 abbrev pub TextsExist : Kept → Listing → List ResolvedKind → Type 0
 TextsExist kept lists rules = (texts : Texts) × AreTexts kept lists rules texts
 
--- and no others
+-- there are no two choices of texts that stand for the matches
 abbrev pub OneText : Kept → Listing → List ResolvedKind → Type 0
 OneText kept lists rules =
     (f g : Texts) → AreTexts kept lists rules f → AreTexts kept lists rules g → (n : ℕ) (m : Found) → slice_get kept.matches n ≡ Some m → f n ≡ g n

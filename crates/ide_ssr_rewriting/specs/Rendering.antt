@@ -36,7 +36,7 @@ abbrev pub wrapped_text : Syntax → ℕ → Bool → ℕ → List ℕ → List 
 wrapped_text tree front is_piece at text =
     if is_piece && not (is_node tree front at (at + length text)) then codes "(" ++ (text ++ codes ")") else text
 
--- the rest of the template from that place on
+-- the rest of the template with its pieces, from a place on: each piece that is no node stands in parentheses
 abbrev pub wrapped : Syntax → ℕ → List (List ℕ) → (ℕ → List ℕ) → ℕ → List Token → List ℕ
 wrapped tree front names piece at [] = []
 wrapped tree front names piece at (token ∷ tokens) =
@@ -44,7 +44,7 @@ wrapped tree front names piece at (token ∷ tokens) =
     wrapped_text tree front (is_some (name_at names token)) at text
     ++ wrapped tree front names piece (at + length text) tokens
 
--- with parentheses if the text without them reads in the template's category
+-- the template with its pieces, with parentheses if the text without them reads in the template's category
 abbrev pub rendered_as : Result Syntax SyntaxError → List (List ℕ) → (ℕ → List ℕ) → List Token → List ℕ
 rendered_as (Ok tree) names piece tokens = wrapped tree (trimmed_front (plain names piece tokens)) names piece 0 tokens
 rendered_as (Err error) names piece tokens = plain names piece tokens
@@ -64,6 +64,6 @@ rendered_by rule piece template =
     if takes_parentheses rule.category then rendered_as (fragment_reading rule.category text) rule.names piece tokens
     else text
 
--- that of a rule, which gives nothing where it has no template
+-- the template of a rule with its pieces; nothing where the rule has no template
 abbrev pub rendered : ResolvedKind → (ℕ → List ℕ) → List ℕ
 rendered rule piece = option_map_or (rendered_by rule piece) rule.template []

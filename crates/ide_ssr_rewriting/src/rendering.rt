@@ -169,7 +169,7 @@ fn is_wrapped(tree: &Tree, front: u32, is_piece: bool, at: usize, text: &str) ->
     is_piece && !is_node(tree, front, at, at + text.len())
 }
 
-/// Pushes the text of a token at such a place.
+/// Pushes the text of a token at a place of the template with its pieces, in parentheses if it is a piece and no node.
 fn push_wrapped(
     out: &mut String,
     tree: &Tree,

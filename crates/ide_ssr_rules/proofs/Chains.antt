@@ -60,16 +60,16 @@ module _ (pattern template : List Element) where
       (subst (λ ns. Answers result (names_free ns template)) (keeps ∙ are) answers)))
 
 module _ (pattern : List Element) (template : Option (List Element)) where
-  abbrev kinds_read : Result (List ParsedRule) Refusal
+  abbrev pub kinds_read : Result (List ParsedRule) Refusal
   kinds_read = some_kind (kinds_of (code_of pattern) (option_map code_of template))
 
-  abbrev rule_with : List ParsedRule → Unit {0} → Result Rule Refusal
+  abbrev pub rule_with : List ParsedRule → Unit {0} → Result Rule Refusal
   rule_with kinds _ = Ok (record { names = names_of pattern; constraints = constraints_of pattern; kinds = kinds })
 
-  abbrev after_kinds : List ParsedRule → Result Rule Refusal
+  abbrev pub after_kinds : List ParsedRule → Result Rule Refusal
   after_kinds kinds = check_uses pattern (written template) kinds >>= rule_with kinds
 
-  abbrev after_sides : Unit {0} → Result Rule Refusal
+  abbrev pub after_sides : Unit {0} → Result Rule Refusal
   after_sides _ = kinds_read >>= after_kinds
 
   pub sides_refused : (error : SsrError) → TellsOf error (check_sides pattern (written template)) → TellsOf error (rule_of pattern template)

@@ -16,6 +16,7 @@ use Rattle.ide_ssr_rules.specs.Rules.{Rule, rule_of, rule_reading, check_sides, 
 use Rattle.ide_ssr_rules.specs.Sides.{sides}
 use Rattle.ide_ssr_rules.specs.StandIns.{code_of}
 use Rattle.ide_ssr_rules.specs.Uses.{AreNew, UsesPlaceholdersOnce}
+use Rattle.ide_ssr_rules.proofs.Chains.{rule_with, after_kinds, after_sides}
 use Rattle.ide_ssr_rules.proofs.ReadingElements.{behind_dollar}
 use Rattle.ide_ssr_refusals.proofs.Shared.{went}
 
@@ -82,15 +83,6 @@ uses_defined pattern template kinds is =
     none_lack (lacking (names_of pattern) (names_of template)) tt plain.next_is
 
 module _ (pattern : List Element) (template : Option (List Element)) where
-  abbrev rule_with : List ParsedRule → Unit {0} → Result Rule Refusal
-  rule_with kinds _ = Ok (record { names = names_of pattern; constraints = constraints_of pattern; kinds = kinds })
-
-  abbrev after_kinds : List ParsedRule → Result Rule Refusal
-  after_kinds kinds = check_uses pattern (written template) kinds >>= rule_with kinds
-
-  abbrev after_sides : Unit {0} → Result Rule Refusal
-  after_sides _ = some_kind (kinds_of (code_of pattern) (option_map code_of template)) >>= after_kinds
-
   pub record Uses (rule : Rule) : Type 0 where
     pub names : rule.names ≡ names_of pattern
     pub kinds : some_kind (kinds_of (code_of pattern) (option_map code_of template)) ≡ Ok rule.kinds
@@ -99,9 +91,9 @@ module _ (pattern : List Element) (template : Option (List Element)) where
   pub rule_uses : (rule : Rule) → rule_of pattern template ≡ Ok rule → Uses rule
   unfolding rule_of
   rule_uses rule is =
-      let kinds = went (check_sides pattern (written template)) after_sides rule is in
-      let names = went (some_kind (kinds_of (code_of pattern) (option_map code_of template))) after_kinds rule kinds.next_is in
-      let made = went (check_uses pattern (written template) names.found) (rule_with names.found) rule names.next_is in
+      let kinds = went (check_sides pattern (written template)) (after_sides pattern template) rule is in
+      let names = went (some_kind (kinds_of (code_of pattern) (option_map code_of template))) (after_kinds pattern template) rule kinds.next_is in
+      let made = went (check_uses pattern (written template) names.found) (rule_with pattern template names.found) rule names.next_is in
       let same : record { names = names_of pattern; constraints = constraints_of pattern; kinds = names.found } ≡ rule = cc in
       let kinds_are : names.found ≡ rule.kinds = ap (λ (r : Rule). r.kinds) same in
       record {

@@ -36,7 +36,7 @@ kind_name (token ∷ tokens) = if is_ident token.kind then Ok (token.text, token
 abbrev pub constraint_on : List ℕ → List Token → Taken Constraint
 constraint_on name tokens = if bytes_eq name (codes "literal") then Ok (c.Literal, tokens) else Err (r.UnknownKind name)
 
--- behind the word `kind`
+-- the constraint behind the word `kind`
 unfoldable pub on_kind : List Token → Taken Constraint
 on_kind tokens = do
   inside ← bracket (codes "(") tokens
@@ -44,14 +44,14 @@ on_kind tokens = do
   behind ← bracket (codes ")") name.1
   constraint_on name.0 behind
 
--- behind a constraint's word: which of the two forms follows
+-- the constraint behind its word: which of the two forms follows
 abbrev pub by_word : List ℕ → Taken Constraint → Taken Constraint → Taken Constraint
 by_word word kind negated =
     if bytes_eq word (codes "kind") then kind
     else if bytes_eq word (codes "not") then negated
     else Err (r.UnknownConstraint word)
 
--- behind the word `not`, where what stands inside is read so
+-- the constraint behind the word `not`, where what stands inside is read so
 abbrev pub on_not : (List Token → Taken Constraint) → List Token → Taken Constraint
 on_not inner tokens = do
   inside ← bracket (codes "(") tokens
@@ -108,12 +108,12 @@ abbrev pub named : Token → List Constraint × List Token → Taken Placeholder
 named token (constraints, behind) =
     if is_ident token.kind then Ok (record { name = token.text; constraints = constraints }, behind) else Err r.NoName
 
--- behind `${`: the first token stands in the name's place, whatever it is
+-- the placeholder behind `${`: the first token stands in the name's place, whatever it is
 unfoldable pub braced : List Token → Taken Placeholder
 braced [] = Err r.EndOfPlaceholder
 braced (token ∷ tokens) = constraints tokens >>= (λ rest. named token rest)
 
--- behind `$`
+-- the placeholder behind `$`
 unfoldable pub named_placeholder : List Token → Taken Placeholder
 named_placeholder [] = Err r.NoName
 named_placeholder (token ∷ tokens) =

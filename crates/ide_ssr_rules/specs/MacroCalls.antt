@@ -21,7 +21,7 @@ abbrev pub is_spelled : List ℕ → Part → Bool
 is_spelled text (token_part t token) = is_ident token.kind && bytes_eq token.text text
 is_spelled text (node_part node) = false
 
--- whether a node is a token tree with such a child
+-- whether a node is a token tree with a child that is an identifier of this text
 abbrev pub is_tree_with : List ℕ → Node → Bool
 is_tree_with text node = is_token_tree node.kind && list_any (is_spelled text) (parts_of node)
 
@@ -32,12 +32,12 @@ in_token_tree text tree = list_any (is_tree_with text) (nodes_of tree)
 abbrev pub in_macro_call : List ParsedRule → List ℕ → Bool
 in_macro_call kinds name = list_any (λ kind. in_token_tree (stand_in_of name) kind.pattern) kinds
 
--- the name of a placeholder whose constraints nothing tests, since it is one of those that pass
+-- the name of a placeholder whose constraints nothing tests, since the name is one of those that pass
 abbrev pub untested_name : (List ℕ → Bool) → Element → Option (List ℕ)
 untested_name passes (e.Token token) = None
 untested_name passes (e.Placeholder placeholder) =
     if asks placeholder.constraints && passes placeholder.name then Some placeholder.name else None
 
--- the first of them in a pattern
+-- the name of the first placeholder in a pattern whose constraints nothing tests
 abbrev pub untested : List ParsedRule → List Element → Option (List ℕ)
 untested kinds pattern = first_of (untested_name (in_macro_call kinds)) pattern

@@ -40,8 +40,8 @@ first_glued (element ∷ elements) [] = Some (first_name (element ∷ elements))
 first_glued (element ∷ elements) (token ∷ tokens) =
     if same_token (read_as element) token then first_glued elements tokens else Some (first_name (element ∷ elements))
 
--- The same of a side: its first placeholder, if the text with stand-ins doesn't lex. The text is taken without white
--- space around it, as its kinds are read.
+-- Which placeholder of a side isn't a token of its own: the first one, if the text with stand-ins doesn't lex. The text is
+-- taken without white space around it, as its kinds are read.
 unfoldable pub glued_placeholder : List Element → Option (List ℕ)
 glued_placeholder elements = option_map_or (first_glued elements) (lexed (trim (code_of elements))) (Some (first_name elements))
 
@@ -57,6 +57,6 @@ abbrev pub stand_in_text : List (List ℕ) → Element → Option (List ℕ)
 stand_in_text names (e.Token token) = if is_ident token.kind && is_stand_in names token.text then Some token.text else None
 stand_in_text names (e.Placeholder placeholder) = None
 
--- the first such identifier of a side
+-- the text of the first identifier of a side that is spelled as a stand-in of one of the names
 abbrev pub spelled_stand_in : List (List ℕ) → List Element → Option (List ℕ)
 spelled_stand_in names elements = first_of (stand_in_text names) elements

@@ -5,7 +5,7 @@ use Rattle.ide_ssr_rules.specs.Elements.{has, side, names_of}
 use Rattle.ide_ssr_rules.specs.Rules.{Rule, lacking}
 use Rattle.ide_ssr_rules.specs.Sides.{sides}
 
--- no name stands twice, and none of them is among those before
+-- no name stands twice among these, and none of them is among the names before
 abbrev pub AreNew : List (List ℕ) → List (List ℕ) → Type 0
 AreNew before [] = Unit {0}
 AreNew before (name ∷ names) = (has before name ≡ false) × AreNew (before ++ name ∷ []) names

@@ -36,7 +36,7 @@ impl<'a> Placeholder<'a> {
         self.name.text
     }
 
-    /// What it asks.
+    /// What the placeholder asks.
     pub(crate) fn constraints(&self, alloc: Global) -> Result<ConstraintSet, AllocError>
         ensures { IfOk result (λ set. set ≡ self.now.constraints) }
     {

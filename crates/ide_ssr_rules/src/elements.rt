@@ -13,7 +13,7 @@ pub(crate) enum Element<'a> {
 }
 
 impl Element<'_> {
-    /// Whether it is a placeholder with constraints.
+    /// Whether the element is a placeholder with constraints.
     pub(crate) fn is_constrained(&self) -> bool
         ensures { result ≡ is_constrained self.now }
     {

@@ -103,7 +103,7 @@ impl<'a> Element<'a> {
     }
 }
 
-/// The first of them in a pattern.
+/// The name of the first placeholder with constraints in a pattern that is one of these names.
 fn first_constrained<'a>(pattern: &[Element<'a>], called: &Names<'_>) -> Option<&'a str>
     ensures { option_copied result ≡ first_of (untested_name (has called.now)) pattern.now }
 {

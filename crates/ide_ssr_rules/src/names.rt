@@ -95,7 +95,7 @@ impl<'a> Names<'a> {
         self.places.get(name).copied()
     }
 
-    /// Whether one of them is this one.
+    /// Whether one of the names is this one.
     pub(crate) fn has(&self, name: &str) -> bool
         ensures { result ≡ has self.now name.now }
     {

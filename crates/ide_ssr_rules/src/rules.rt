@@ -277,7 +277,7 @@ fn check_tested(
     }
 }
 
-/// Whether one of them is a placeholder with constraints.
+/// Whether one of the elements is a placeholder with constraints.
 fn is_any_constrained(elements: &[Element<'_>]) -> bool
     ensures { result ≡ list_any is_constrained elements.now }
 {

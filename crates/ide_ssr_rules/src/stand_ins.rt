@@ -62,7 +62,7 @@ impl<'a> Element<'a> {
         }
     }
 
-    /// Whether it is the token of that number that is read for the element.
+    /// Whether the token of this number is the one that is read for the element.
     fn is_read_at(&self, text: &FragmentText, number: usize) -> bool
         ensures { (tokens : List Token) → lexed (trim text.now) ≡ Some tokens
             → result ≡ option_map_or (same_token (read_as self.now)) (slice_get tokens number) false }

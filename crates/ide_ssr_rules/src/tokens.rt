@@ -46,14 +46,14 @@ impl<'a> Token<'a> {
         matches!(self.kind, SyntaxKind::COLON)
     }
 
-    /// Whether it opens the braces of a placeholder.
+    /// Whether the token opens the braces of a placeholder.
     pub(crate) fn opens(&self) -> bool
         ensures { result ≡ opens self.now.kind }
     {
         matches!(self.kind, SyntaxKind::L_CURLY)
     }
 
-    /// Whether it closes them.
+    /// Whether the token closes the braces of a placeholder.
     pub(crate) fn closes(&self) -> bool
         ensures { result ≡ closes self.now.kind }
     {
@@ -94,7 +94,7 @@ impl<'a> Tokens<'a> {
         }
     }
 
-    /// Takes the first one.
+    /// Takes the first of the tokens.
     pub(crate) fn next(&mut self) -> Option<Token<'a>>
         ensures { MatchOption result (self.old ≡ []) (λ token. self.old ≡ token ∷ self.new) }
     {

@@ -15,14 +15,14 @@ pub record IsFound (w : Workspace) (m : Meanings) (context : Context) (rules : L
   pub permitted : IsPermitted w context rule found.node
   pub whole : IsWholeMatch (trees w) m rule found.node found.bindings
 
--- trees by their numbers, in a tree nodes by theirs, at a node rules in order
+-- one match comes before another one: trees by their numbers, in a tree nodes by theirs, at a node rules in order
 abbrev pub Precedes : Found → Found → Type 0
 Precedes k m =
     (k.node.tree < m.node.tree)
     ⊎ ((k.node.tree ≡ m.node.tree)
     × ((k.node.node.0 < m.node.node.0) ⊎ ((k.node.node.0 ≡ m.node.node.0) × (k.rule < m.rule))))
 
--- in that order, so each once, and exactly what is found
+-- exactly what is found, in the order of trees, nodes and rules, and so each once
 pub record AreFound (w : Workspace) (m : Meanings) (context : Context) (rules : List ResolvedKind) (ms : List Found) : Type 0 where
   pub in_order : AllPairs Precedes ms
   pub are : (found : Found) → Contains ms found ↔ IsFound w m context rules found

@@ -37,7 +37,7 @@ pub record IsPlace (w : Workspace) (position : FilePosition) (restrictions : Lis
   pub is : tree_of w position.file_id.0 ≡ Some tree
   pub node : IsNodeAt tree position.offset n
 
--- a search there is made for this
+-- a search at a position is made for this
 pub record IsContext (w : Workspace) (m : Meanings) (position : FilePosition) (restrictions : List FileRange) (c : Context) : Type 0 where
   pub tree : Syntax
   pub node : ℕ
@@ -62,7 +62,8 @@ Makes w m position restrictions (Err errors.Memory) = Unit {0}
 abbrev pub first_position : FilePosition
 first_position = record { file_id = record { 0 = 0 }; offset = 0 }
 
--- the same in front of the first file, without restrictions
+-- The first refusal, or what a search in front of the first file, without restrictions, is made for. Want of memory says
+-- nothing.
 abbrev pub MakesFirst : Workspace → Meanings → Result Context ContextError → Type 0
 MakesFirst w m (Ok c) = IsContext w m first_position [] c
 MakesFirst w m (Err errors.NoFiles) = length w.files ≡ 0

@@ -33,7 +33,7 @@ arguments_of trees call =
     (λ p. option_map (node_id call.tree) (first_token_tree (parts_of (node_of p.syntax call.node.0))))
     (with_number trees call.tree)
 
--- where they come from
+-- where the arguments of a macro call come from
 abbrev pub arguments_range : List Planted → NodeId → Option FileSpan
 arguments_range trees call = option_and_then (original_range trees) (arguments_of trees call)
 
@@ -70,7 +70,7 @@ abbrev pub names_self : List Token → Bool
 names_self [] = false
 names_self (token ∷ tokens) = (same_kind token.kind k.SELF_KW && not (goes_on tokens)) || names_self tokens
 
--- only that of one function is meant
+-- a node stands in the function whose `self` is meant, at its node or below it
 abbrev pub IsInFunction : List Planted → Option NodeId → NodeId → Type 0
 IsInFunction trees function x = IsSomeAnd function (IsAtOrBelow trees x)
 

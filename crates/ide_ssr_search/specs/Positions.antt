@@ -22,7 +22,7 @@ IsNear syntax offset None = ((u : ℕ) → ¬ EndsAt syntax offset u) × ((u : �
 
 -- ** Its node.
 
--- the parent of that token, else the root
+-- the parent of a token, if there is one, else the root
 abbrev pub IsFirst : Syntax → Option ℕ → ℕ → Type 0
 IsFirst syntax (Some t) n = HasNode syntax n × Contains (elements_of (node_of syntax n)) (element.Token (record { 0 = t }))
 IsFirst syntax None n = n ≡ 0
@@ -38,12 +38,12 @@ IsLeftFor syntax n m =
     ((((node_of syntax n).kind ≡ k.LET_STMT) ⊎ ((node_of syntax n).kind ≡ k.IDENT_PAT)) × IsNextSibling syntax n m)
     ⊎ (((node_of syntax n).kind ≡ k.NAME) × (0 < n) × (m ≡ (node_of syntax n).parent))
 
--- and so on, as long as there is one
+-- from a node to the last one, where each LET_STMT, IDENT_PAT and NAME is left, as long as there is a node that it is left for
 pub data Leads (syntax : Syntax) : ℕ → ℕ → Type 0 where
   stays : (n : ℕ) → ((m : ℕ) → ¬ IsLeftFor syntax n m) → Leads syntax n n
   goes_on : (n m last : ℕ) → IsLeftFor syntax n m → Leads syntax m last → Leads syntax n last
 
--- an EXPR_STMT is then left for its first child node, which has the next number
+-- an EXPR_STMT is left for its first child node, which has the next number
 abbrev pub IsStatementAround : Syntax → ℕ → Type 0
 IsStatementAround syntax n = ((node_of syntax n).kind ≡ k.EXPR_STMT) × (1 < size_of (node_of syntax n))
 
@@ -67,7 +67,7 @@ abbrev pub IsFunctionAround : Syntax → ℕ → ℕ → Type 0
 IsFunctionAround syntax n f =
     HasNode syntax f × ((node_of syntax f).kind ≡ k.FN) × (f ≤ n) × (n < f + size_of (node_of syntax f))
 
--- the innermost one, if there is one: of nodes above one another it has the last number
+-- the innermost function around a node, if there is one: of nodes above one another it has the last number
 abbrev pub IsInnermost : Syntax → ℕ → Option ℕ → Type 0
 IsInnermost syntax n None = (f : ℕ) → ¬ IsFunctionAround syntax n f
 IsInnermost syntax n (Some f) = IsFunctionAround syntax n f × ((g : ℕ) → IsFunctionAround syntax n g → g ≤ f)

@@ -18,7 +18,7 @@ abbrev pub LiesInArguments : List Planted → ℕ → FileSpan → Type 0
 LiesInArguments trees t range =
     IsSomeAnd (with_number trees t) (λ p. IfSome p.call (λ call. IsSomeAnd (arguments_range trees call) (LiesIn range)))
 
--- there is such a range, of something in this tree, and it lies so
+-- there is a range, of something in this tree, and in a tree that a macro call stands for it lies in the call's arguments
 abbrev pub IsPlaced : List Planted → ℕ → Option FileSpan → Type 0
 IsPlaced trees t range = IsSomeAnd range (LiesInArguments trees t)
 

@@ -19,7 +19,7 @@ pub(crate) enum Bounds {
 }
 
 impl Bounds {
-    /// Those of a tree.
+    /// The bounds of the matches in a tree.
     pub(crate) fn of(workspace: &Workspace, tree: u32) -> Bounds
         requires built { IsBuilt workspace.now }
         requires has { IsSome (tree_of workspace.now tree) }
@@ -35,7 +35,7 @@ impl Bounds {
         }
     }
 
-    /// Those of what a call stands for.
+    /// The bounds of the matches in what a call stands for.
     fn of_call(workspace: &Workspace, call: NodeId) -> Bounds
         requires { IsNodeOf (trees workspace.now) call }
         ensures { AreBoundsOf (arguments_range (trees workspace.now) call) result }
@@ -49,7 +49,7 @@ impl Bounds {
         }
     }
 
-    /// Whether a range lies in them.
+    /// Whether a range lies in the bounds.
     pub(crate) fn hold(self, range: FileRange) -> bool
         ensures { IsTrue result ↔ LiesInBounds self (file_span_of range) }
     {

@@ -106,7 +106,7 @@ fn left_for(tree: &Tree, node: NodeNo) -> Option<NodeNo>
     None
 }
 
-/// The node to which these lead.
+/// The last node, where each LET_STMT, IDENT_PAT and NAME is left, one after another, as long as there is a node to go to.
 fn last_left_for(tree: &Tree, node: NodeNo) -> NodeNo
     requires { HasNode tree.now node.0 }
     ensures leads { Leads tree.now node.0 result.0 }

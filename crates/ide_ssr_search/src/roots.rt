@@ -41,7 +41,7 @@ fn counted_token(tree: &Tree, child: Element) -> Option<SyntaxKind>
     }
 }
 
-/// The kind of the first child of a node that is such a token.
+/// The kind of the first child of a node that is a token that counts for each match.
 fn first_counted(tree: &Tree, node: NodeNo) -> Option<SyntaxKind>
     requires { HasNode tree.now node.0 }
     ensures { result ≡ first_counted (parts_of (node_of tree.now node.0)) }
@@ -54,7 +54,7 @@ fn first_counted(tree: &Tree, node: NodeNo) -> Option<SyntaxKind>
     None
 }
 
-/// Whether the first such token of a node has a kind, where one is asked for.
+/// Whether the first child of a node that is a token that counts for each match has a kind, where one is asked for.
 fn counts_first(tree: &Tree, kind: Option<SyntaxKind>, node: NodeNo) -> bool
     requires { HasNode tree.now node.0 }
     ensures { result ≡ option_map_or (λ kind. counts_first kind (parts_of (node_of tree.now node.0))) kind true }
@@ -134,7 +134,7 @@ impl Root {
 #[derive(Clone, Copy)]
 pub(crate) struct Asked {
     pub(crate) root: Root,
-    /// Whether it asks that the node stands in the function around the position, since its pattern names the own `self`.
+    /// Whether the rule asks that the node stands in the function around the position, since its pattern names the own `self`.
     pub(crate) in_function: bool,
 }
 
@@ -231,7 +231,7 @@ impl KindSet {
 #[derive(Drop)]
 pub(crate) struct Rules<'a> {
     pub(crate) rules: &'a [ResolvedRule],
-    /// What each of them asks.
+    /// What each of the rules asks.
     pub(crate) asked: Vec<Asked>,
 }
 
@@ -248,8 +248,8 @@ impl<'a> Rules<'a> {
         Ok(Rules { rules, asked })
     }
 
-    /// The kinds of a tree's nodes that one of them may match, and of those that may shut in what is below them. A rule that
-    /// asks for a token of a kind that the tree doesn't have matches none.
+    /// The kinds of a tree's nodes that one of the rules may match, and of those that may shut in what is below them. A rule
+    /// that asks for a token of a kind that the tree doesn't have matches none.
     pub(crate) fn kinds_in(&self, tree: &Tree) -> KindSet
         requires { AreRules self.now }
         ensures { AreKindsIn self.now tree.now result }

@@ -128,8 +128,8 @@ impl<'a> Ground<'a> {
         self.is_open(node) && (!asked.in_function || self.is_in_function(node))
     }
 
-    /// What the placeholders of a rule hold at such a node, if the rule is permitted there, which is asked first, and matches
-    /// as a whole.
+    /// What the placeholders of a rule hold at a node that nothing above it shuts in, if the rule is permitted there, which is
+    /// asked first, and matches as a whole.
     fn match_of<S: Semantics>(
         &self,
         alloc: Global,
@@ -161,7 +161,7 @@ impl<'a> Ground<'a> {
         )
     }
 
-    /// Adds the match of a rule, which has this place among the rules, at such a node.
+    /// Adds the match of a rule, which has this place among the rules, at a node that nothing above it shuts in.
     fn add_match<S: Semantics>(
         &self,
         alloc: Global,
@@ -184,7 +184,7 @@ impl<'a> Ground<'a> {
         Ok(())
     }
 
-    /// Adds the matches of all rules at such a node.
+    /// Adds the matches of all rules at a node that nothing above it shuts in.
     fn add_matches<S: Semantics>(
         &self,
         alloc: Global,

@@ -97,7 +97,8 @@ fn is_placed_in_call(
     }
 }
 
-/// Whether a match is placed so. In a file each is: what its placeholders hold stands in the match, one behind another.
+/// Whether a match, with what its placeholders hold, lies within the bounds of its tree, and no two placeholders share a byte.
+/// In a file each does: what its placeholders hold stands in the match, one behind another.
 fn is_placed_match(
     alloc: Global,
     workspace: &Workspace,

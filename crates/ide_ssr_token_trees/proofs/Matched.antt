@@ -14,6 +14,7 @@ use Rattle.ide_ssr_token_trees.specs.Private.Matching.{goes_on, differs, Element
 use Rattle.ide_ssr_token_trees.specs.Private.Siblings.{siblings_left, parts_left, number_of, IsBelow, IsRest}
 use Rattle.ide_ssr_token_trees.proofs.Rests.{rest_all, rest_few}
 use Rattle.ide_ssr_token_trees.proofs.Sizes.{Behind, tree_step}
+use Rattle.ide_ssr_token_trees.proofs.Steps.{joined_none}
 
 -- ** Elements below a node.
 
@@ -45,10 +46,6 @@ tokens_in_parts parent m t (leaf token next) = omega (arith, tokens_in_parts par
 tokens_in_parts parent m t (branch kind below next) = omega (arith, tokens_in_parts parent (1 + m + node_count below) (t + token_count below) next)
 
 -- ** Bindings so far.
-
-joined_none : (o : Option (List Binding)) → joined (Some []) o ≡ o
-joined_none None = refl
-joined_none (Some bs) = refl
 
 negated : {b : Bool} (answer : Bool) → b ≡ not answer → answer ≡ not b
 negated true is = ap not (sym is)

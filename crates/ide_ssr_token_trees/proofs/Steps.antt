@@ -72,12 +72,13 @@ token_step y comma token text behind cs left c same is left_is same_is =
     ∙ same_step token behind c left
     ∙ ap (λ b. cond b (behind left) None) (sym same_is)
 
+pub joined_none : (o : Option (List Binding)) → joined (Some []) o ≡ o
+joined_none None = refl
+joined_none (Some bs) = refl
+
 -- an answer without bindings
 pub tested_step : (whole behind : Option (List Binding)) (out : List Binding) (same : Bool) → whole ≡ cond same behind None → Steps whole behind out out same
-tested_step whole behind out true is = goes_on [] refl (is ∙ sym (joined_none behind)) (sym (append-nil out)) where
-  joined_none : (o : Option (List Binding)) → joined (Some []) o ≡ o
-  joined_none None = refl
-  joined_none (Some bs) = refl
+tested_step whole behind out true is = goes_on [] refl (is ∙ sym (joined_none behind)) (sym (append-nil out))
 tested_step whole behind out false is = differs refl is
 
 -- ** Any token.

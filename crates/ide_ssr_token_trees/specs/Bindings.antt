@@ -23,7 +23,7 @@ abbrev pub passed : Option ℕ → List Part → List Part
 passed comma [] = []
 passed comma (part ∷ rest) = if is_passed comma part then passed comma rest else part ∷ rest
 
--- nothing more of the pattern
+-- nothing more of the pattern, which matches where nothing of the code is left
 abbrev pub nothing_by : List Part → Option (List Binding)
 nothing_by [] = Some []
 nothing_by (c ∷ cs) = None
@@ -36,19 +36,19 @@ abbrev pub placeholder_by : ℕ → Option (List ℕ) → (List Part → Option 
 placeholder_by i text behind [] = None
 placeholder_by i text behind (c ∷ cs) = joined (holding i (run_over c (up_to text cs))) (behind (from text cs))
 
--- another token
+-- a token of the pattern that is no placeholder, and what comes behind it
 abbrev pub token_by : Token → (List Part → Option (List Binding)) → List Part → Option (List Binding)
 token_by token behind [] = None
 token_by token behind (token_part u c ∷ cs) = if same_token token c then behind cs else None
 token_by token behind (node_part c ∷ cs) = None
 
--- a tree
+-- a token tree of the pattern, and what comes behind it
 abbrev pub tree_by : (Node → Option (List Binding)) → (List Part → Option (List Binding)) → List Part → Option (List Binding)
 tree_by matched behind [] = None
 tree_by matched behind (token_part u c ∷ cs) = None
 tree_by matched behind (node_part c ∷ cs) = joined (matched c) (behind cs)
 
--- a token that may be a placeholder, or the comma before the closing bracket
+-- a token of the pattern, which may be a placeholder, or the comma before the closing bracket
 abbrev pub leaf_by : Option ℕ → Option ℕ → Bool → Token → Option (List ℕ) → (List Part → Option (List Binding)) → List Part → Option (List Binding)
 leaf_by c_comma (Some i) is_comma token text behind cs = placeholder_by i text behind cs
 leaf_by c_comma None true token text behind cs = behind (passed c_comma cs)
@@ -57,7 +57,7 @@ leaf_by c_comma None false token text behind cs = token_by token behind (passed 
 module _ (at : ℕ → Option ℕ) where
   -- elements of a pattern against those of the code, where it is known how trees match
   module _ (matched : Node → Node → Option (List Binding)) (p_comma c_comma : Option ℕ) where
-    -- the first one, before one that begins with a text, and what comes behind it
+    -- the first element of the pattern, before one that begins with a text, and what comes behind it
     abbrev pub part_by : Part → Option (List ℕ) → (List Part → Option (List Binding)) → List Part → Option (List Binding)
     part_by (token_part t token) text behind cs = leaf_by c_comma (at t) (is_number p_comma t) token text behind cs
     part_by (node_part p) text behind cs = tree_by (matched p) behind (passed c_comma cs)

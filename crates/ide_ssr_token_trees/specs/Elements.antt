@@ -53,7 +53,7 @@ abbrev pub first_text : Part → Option (List ℕ)
 first_text (token_part t token) = Some token.text
 first_text (node_part node) = option_map (λ token. token.text) (slice_get (tokens_in node.children) 0)
 
--- that of the first of these elements, if there is one
+-- the text of the first token of the first of these elements, if there is one
 abbrev pub next_text : List Part → Option (List ℕ)
 next_text [] = None
 next_text (part ∷ rest) = first_text part
@@ -68,7 +68,7 @@ abbrev pub up_to : Option (List ℕ) → List Part → List Part
 up_to text [] = []
 up_to text (part ∷ rest) = if same_text (first_text part) text then [] else part ∷ up_to text rest
 
--- those from that one on
+-- the elements from the first on whose first token has the text
 abbrev pub from : Option (List ℕ) → List Part → List Part
 from text [] = []
 from text (part ∷ rest) = if same_text (first_text part) text then part ∷ rest else from text rest

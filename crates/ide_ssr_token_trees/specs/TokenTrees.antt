@@ -13,7 +13,7 @@ abbrev pub is_passed : Option ℕ → Part → Bool
 is_passed comma (token_part t token) = is_trivia token.kind || is_number comma t
 is_passed comma (node_part node) = false
 
--- whether the first of these elements is
+-- whether the first of these elements of the code is passed over where no placeholder takes it
 abbrev pub begins_passed : Option ℕ → List Part → Bool
 begins_passed comma [] = false
 begins_passed comma (part ∷ rest) = is_passed comma part

@@ -111,7 +111,8 @@ fn token_matches(
     }
 }
 
-/// The same of an element of the pattern.
+/// Whether an element of the pattern, before the elements `ps`, matches at the front of the elements `cs` of the code; if so,
+/// `out` gets what it binds.
 #[cycle(matching)]
 fn element_matches(
     placeholders: &[Option<u32>],

@@ -38,7 +38,7 @@ impl fmt::Debug for PatternIterator<'_> {
 }
 
 impl<'a> PatternIterator<'a> {
-    /// Those of a node.
+    /// The children of a node that are neither white space nor comments.
     pub fn new(tree: &'a Tree, node: NodeNo) -> PatternIterator<'a>
         requires { HasNode tree.now node.0 }
         ensures { result ≡ without_trivia tree.now (elements_of (node_of tree.now node.0)) }

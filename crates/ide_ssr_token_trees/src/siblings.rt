@@ -19,7 +19,7 @@ use ssr_syntax_tree::{Children, Element, NodeNo, TokenNo, Tree};
 pub(crate) struct Siblings<'a> {
     /// The comma directly, trivia aside, before the closing bracket.
     comma: Option<TokenNo>,
-    /// One that was looked at, in front of the others.
+    /// An element that was looked at, in front of the others.
     held: Option<Element>,
     left: Children<'a>,
 }
@@ -148,7 +148,7 @@ impl<'a> Siblings<'a> {
         }
     }
 
-    /// The next one.
+    /// The next element.
     fn advance(&mut self) -> Option<Element>
         ensures gives { siblings_left self.old ≡ option_to_list result ++ siblings_left self.new }
         ensures none { IfNone result (siblings_left self.new ≡ []) }
@@ -161,7 +161,7 @@ impl<'a> Siblings<'a> {
         }
     }
 
-    /// The next one that is no trivia.
+    /// The next element that is no trivia.
     pub(crate) fn next_solid(&mut self, tree: &Tree) -> Option<Element>
         requires { All (HasElement tree.now) (siblings_left self.old) }
         ensures gives { without_trivia (parts_left tree.now self.old) ≡ map (part_of tree.now) (option_to_list result) ++ without_trivia (parts_left tree.now self.new) }
@@ -178,7 +178,7 @@ impl<'a> Siblings<'a> {
         None
     }
 
-    /// The next one that is not passed over.
+    /// The next element that is not passed over.
     pub(crate) fn next_counted(&mut self, tree: &Tree) -> Option<Element>
         requires { All (HasElement tree.now) (siblings_left self.old) }
         ensures gives { passed (number_of self.old.comma) (parts_left tree.now self.old) ≡ map (part_of tree.now) (option_to_list result ++ siblings_left self.new) }
@@ -194,7 +194,7 @@ impl<'a> Siblings<'a> {
         None
     }
 
-    /// Passes those that are passed over.
+    /// Passes the next elements, as long as they are passed over where no placeholder takes them.
     pub(crate) fn pass(&mut self, tree: &Tree)
         requires { All (HasElement tree.now) (siblings_left self.old) }
         ensures gives { parts_left tree.now self.new ≡ passed (number_of self.old.comma) (parts_left tree.now self.old) }
@@ -203,7 +203,7 @@ impl<'a> Siblings<'a> {
         self.held = self.next_counted(tree);
     }
 
-    /// The text of the next one's first token, where trivia don't count.
+    /// The text of the next element's first token, where trivia don't count.
     pub(crate) fn next_text<'t>(&mut self, tree: &'t Tree) -> Option<&'t str>
         requires { All (HasElement tree.now) (siblings_left self.old) }
         ensures text { option_copied result ≡ next_text (without_trivia (parts_left tree.now self.old)) }
@@ -217,7 +217,7 @@ impl<'a> Siblings<'a> {
         first_text(tree, next)
     }
 
-    /// Passes those up to the first whose first token has the text, and counts their tokens.
+    /// Passes the elements up to the first whose first token has the text, and counts their tokens.
     fn count_up_to(&mut self, tree: &Tree, text: Option<&str>) -> u32
         requires has { All (HasElement tree.now) (siblings_left self.old) }
         requires few { tokens_among (parts_left tree.now self.old) < 2 ^ 32 }
@@ -236,7 +236,7 @@ impl<'a> Siblings<'a> {
         count
     }
 
-    /// The tokens of the next one, whatever that is, and of those behind it up to the first whose first token has the text;
+    /// The tokens of the next element, whatever that is, and of those behind it up to the first whose first token has the text;
     /// none where there is no next one.
     pub(crate) fn take_run(&mut self, tree: &Tree, text: Option<&str>) -> Option<TokenRun>
         requires has { All (HasElement tree.now) (siblings_left self.old) }

@@ -60,7 +60,7 @@ with_file w text = do
 abbrev pub is_call : Syntax → TextRange → Node → Bool
 is_call tree range node = same_kind node.kind k.MACRO_CALL && start_of tree node == range.start && end_of tree node == range.end
 
--- the first one
+-- the first macro call with exactly this range
 unfoldable pub first_call : Syntax → TextRange → Option Node
 first_call tree range = find (is_call tree range) (nodes_of tree)
 
@@ -68,7 +68,7 @@ abbrev pub call_at : Workspace → ℕ → TextRange → Option NodeId
 call_at w t range =
     option_and_then (λ tree. option_map (λ node. node_id t node.number) (first_call tree range)) (tree_of w t)
 
--- unless it has an expansion already
+-- a call, unless it has an expansion already
 abbrev pub if_free : Workspace → NodeId → Option NodeId
 if_free w call = if is_some (expansion_of w call) then None else Some call
 

@@ -28,7 +28,7 @@ IsEarlier a b = (a.tree < b.tree) ⊎ ((a.tree ≡ b.tree) × (a.node.0 < b.node
 abbrev pub file_root : List Planted → NodeId → NodeId
 file_root trees x = node_id (file_of trees x.tree) 0
 
--- the way up from a node ends there
+-- the way up from a node ends at the root of the file at the top
 pub record ReachesItsFile (w : Workspace) (x : NodeId) : Type 0 where
   pub steps : ℕ
   pub reached : climbed (trees w) steps x ≡ Some (file_root (trees w) x)
@@ -58,7 +58,7 @@ IsAmong inner outer = (outer.first ≤ inner.first) × (inner.first + inner.coun
 abbrev pub AreOfNode : List Planted → TokenRun → NodeId → Type 0
 AreOfNode trees run x = IsSomeAnd (with_number trees x.tree) (λ p. IsAmong run (run_of (node_of p.syntax x.node.0)))
 
--- where tokens of a node come from lies where it does
+-- where tokens of a node come from lies where the node does
 abbrev pub RunsNest : List Planted → Type 0
 RunsNest trees =
     (x : NodeId) (run : TokenRun) (outer inner : FileSpan) → AreOfNode trees run x
@@ -71,6 +71,6 @@ pub record IsSpanOf (text : List ℕ) (span : Span) : Type 0 where
   pub begins : IsTrue (is_boundary text span.start)
   pub ends : IsTrue (is_boundary text span.end)
 
--- it is one of a file's text
+-- a span of a file is one of the file's text, between characters
 abbrev pub LiesInFile : Workspace → FileSpan → Type 0
 LiesInFile w range = IsSomeAnd (slice_get w.files range.file) (λ tree. IsSpanOf (source_of tree) range.span)

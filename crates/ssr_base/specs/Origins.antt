@@ -16,7 +16,7 @@ pub data Cover : Type 0 where
   no_origin : Cover
   covers : Span → Cover
 
--- the least cover of both
+-- the least cover of two covers
 abbrev pub join : Cover → Cover → Cover
 join no_token c = c
 join no_origin c = no_origin
@@ -32,7 +32,7 @@ abbrev pub cover_of : List (Option Span) → Cover
 cover_of [] = no_token
 cover_of (origin ∷ origins) = join (cover_of_one origin) (cover_of origins)
 
--- the span, if there is a token and all have an origin
+-- the span that covers the origins of tokens, if there is a token and all have one
 abbrev pub covered : Cover → Option Span
 covered no_token = None
 covered no_origin = None

@@ -5,7 +5,7 @@ use Rattle.std.specs.Prelude.{ℕ, ◌&&◌, ◌||◌, nat_lt, nat_le, Bool, if�
 abbrev pub is_boundary : List ℕ → ℕ → Bool
 is_boundary text i = nat_le i (length text) && (nat_lt (slice_index text i) 128 || nat_le 192 (slice_index text i))
 
--- the bytes from `start` up to before `end`, if both are such places
+-- the bytes from `start` up to before `end`, if both stand between characters of the text
 abbrev pub text_between : ℕ → ℕ → List ℕ → Option (List ℕ)
 text_between start end text =
     if is_boundary text start && is_boundary text end then Some (slice_range text start end) else None

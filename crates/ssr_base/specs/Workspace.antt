@@ -57,7 +57,7 @@ nesting [] t = 0
 nesting (p ∷ earlier) t =
     if t == length earlier then option_map_or (λ call. 1 + nesting earlier call.tree) p.call 0 else nesting earlier t
 
--- the text of that file
+-- the text of the file at the top of a tree
 abbrev pub text_at_top : List Planted → ℕ → List ℕ
 text_at_top trees t = option_map_or (λ p. source_of p.syntax) (with_number trees (file_of trees t)) []
 
@@ -74,7 +74,7 @@ node_id tree node = record { tree = tree; node = record { 0 = node } }
 abbrev pub same_id : NodeId → NodeId → Bool
 same_id a b = (a.tree == b.tree) && (a.node.0 == b.node.0)
 
--- whether there is a node of that number
+-- whether a tree has a node of this number
 abbrev pub has_node : Syntax → ℕ → Bool
 has_node syntax n = nat_lt n (1 + node_count syntax.children)
 
@@ -117,7 +117,7 @@ pub record FileSpan : Type 0 where
 abbrev pub file_span_of : FileRange → FileSpan
 file_span_of range = record { file = range.file_id.0; span = span_of range.range }
 
--- it lies in the file at the top
+-- the original span of a node, which lies in the file at the top of its tree
 abbrev pub original_range : List Planted → NodeId → Option FileSpan
 original_range trees x = option_map (λ span. record { file = file_of trees x.tree; span = span }) (original trees x)
 
@@ -133,7 +133,7 @@ has_run syntax run = nat_lt 0 run.count && nat_le (run.first + run.count) (token
 abbrev pub own_run_span : Syntax → TokenRun → Span
 own_run_span syntax run = record { start = offset_of syntax run.first; end = offset_of syntax (run.first + run.count) }
 
--- those of a file have their own span, that of others covers their origins
+-- the original span of tokens of a file is their own one, that of other tokens covers their origins
 abbrev pub original_run_in : Planted → TokenRun → Option Span
 original_run_in p run =
     option_map_or (λ call. covered (cover_of (take run.count (drop run.first p.origins)))) p.call (Some (own_run_span p.syntax run))

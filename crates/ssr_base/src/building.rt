@@ -100,7 +100,7 @@ fn fits_origin(text: &str, token: &ExpToken) -> bool
     }
 }
 
-/// Whether all origins of tokens are so.
+/// Whether each token has no origin, or one that has a byte and lies between characters of a text.
 fn fit_origins(text: &str, tokens: &[ExpToken]) -> bool
     ensures { result ≡ list_all (fits_origin text.now) (map origin_of tokens.now) }
 {
@@ -283,7 +283,7 @@ impl Workspace {
         Ok(self.with_tree(alloc, call, tree, origins)?)
     }
 
-    /// The workspace with the tree of a call of an earlier tree that has none.
+    /// The workspace with the tree of a call of an earlier tree that has no expansion yet.
     fn with_tree(
         self,
         alloc: Global,

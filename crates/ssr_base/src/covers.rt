@@ -19,7 +19,7 @@ pub(crate) enum Cover {
     NoToken,
     /// A token has no origin.
     NoOrigin,
-    /// All have one, and this is the least range with them all.
+    /// All tokens have an origin, and this is the least range with them all.
     Range(TextRange),
 }
 
@@ -33,7 +33,7 @@ impl Cover {
         }
     }
 
-    /// What covers both.
+    /// What covers the origins that this one covers and those that another one covers.
     pub(crate) fn join(self, other: Cover) -> Cover
         ensures { plain_cover result ≡ join (plain_cover self) (plain_cover other) }
     {
@@ -48,7 +48,7 @@ impl Cover {
         }
     }
 
-    /// The range that covers the origins, if there is a token and all have one.
+    /// The range that covers the origins, if there is a token and all tokens have one.
     pub(crate) fn range(self) -> Option<TextRange>
         ensures { option_map span_of result ≡ covered (plain_cover self) }
     {

@@ -23,15 +23,15 @@ pub fn original_ranges()
     ensures nested { (w : WorkspaceValue) → IsBuilt w → RangesNest (trees w) }
 {}
 
-/// The same of tokens that follow each other: where they come from lies in a file, between characters, and where those of a
-/// node come from lies where the node does.
+/// Where tokens that follow each other come from lies in one of the files, between characters, so it has a text. Where those of
+/// a node come from lies where the node does.
 pub fn original_ranges_of_tokens()
     ensures in_file { (w : WorkspaceValue) (tree : ℕ) (run : TokenRun) (range : FileSpan) → IsBuilt w → run_range (trees w) tree run ≡ Some range → LiesInFile w range }
     ensures text { (w : WorkspaceValue) (tree : ℕ) (run : TokenRun) (range : FileRange) → IsBuilt w → run_range (trees w) tree run ≡ Some (file_span_of range) → IsSome (text_of w range) }
     ensures nested { (w : WorkspaceValue) → RunsNest (trees w) }
 {}
 
-/// What stands above a node is an earlier one, so the way up ends: at the root of the file at the top. A call stands directly
+/// What stands above a node is an earlier node, so the way up ends: at the root of the file at the top. A call stands directly
 /// above the root of what it stands for, and that root is found by the call.
 pub fn climbing()
     ensures node { (w : WorkspaceValue) (x up : NodeId) → IsBuilt w → above (trees w) x ≡ Some up → IsNodeOf (trees w) up }

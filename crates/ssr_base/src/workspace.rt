@@ -28,7 +28,7 @@ pub(crate) struct Expanded {
     pub(crate) covers: Vec<Cover>,
     /// The file at the top.
     pub(crate) file: u32,
-    /// How many calls there are from the tree up to that file.
+    /// How many calls there are from the tree up to the file at the top.
     pub(crate) nesting: u32,
 }
 

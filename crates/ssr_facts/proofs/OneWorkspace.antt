@@ -1,19 +1,19 @@
 -- What is built hangs on the rows of texts and expansions alone.
-use Rattle.std.proofs.Common.{◌≡◌, ℕ, ◌+◌, ◌-◌, ◌==◌, Bool, if◌then◌else◌, List, [], ◌∷◌, ◌++◌, length, map, take, drop, get_or, Option, Some, None, Ok, Err, refl, sym, ◌∙◌, ap, arith}
+use Rattle.std.proofs.Common.{◌≡◌, ℕ, ◌+◌, ◌-◌, ◌≤◌, ◌==◌, if◌then◌else◌, List, [], ◌∷◌, ◌++◌, length, map, take, drop, get_or, Option, Some, None, Ok, Err, refl, sym, ◌∙◌, ap, subst, arith, le-add_right}
 use Rattle.std.specs.Prelude.{Result, String, string_bytes, nat_lt, not}
+use Rattle.std.specs.Coded.{le_prop}
 use Rattle.std.specs.Global.{Global}
 use Rattle.std.specs.List.{list_all}
 use Rattle.std.specs.Option.{option_map, ok_or}
 use Rattle.std.proofs.lemmas.List.{length-map, take-map, drop-map}
+use Rattle.ssr_syntax_kinds.specs.declared.kinds.SyntaxKind.{SyntaxKind}
 use Rattle.ssr_syntax_kinds.specs.declared.range.TextRange.{TextRange}
-use Rattle.ssr_syntax_lex.specs.declared.tokens.RawToken.{RawToken}
-use Rattle.ssr_syntax_lex.specs.Tokens.{range_of}
 use Rattle.ssr_syntax_tree.specs.Syntax.{Token, Syntax, tokens_of}
 use Rattle.ssr_syntax.specs.declared.expansions.ExpToken.{ExpToken}
 use Rattle.ssr_syntax.specs.declared.expansions.ExpansionKind.{ExpansionKind}
 use Rattle.ssr_syntax.specs.declared.expansions.ExpansionKind.TheVariants as kinds
 use Rattle.ssr_syntax.specs.declared.syntax_error.SyntaxError.{SyntaxError}
-use Rattle.ssr_syntax.specs.Expansions.{expansion_text, unless_refused, lone_kind, raw_from, goal_of_expansion, expansion_reading}
+use Rattle.ssr_syntax.specs.Expansions.{expansion_text, unless_refused, lone_kind, raw_token, raw_from, goal_of_expansion, expansion_reading}
 use Rattle.ssr_syntax.specs.Reading.{tree_reading, short_reading, file_reading}
 use Rattle.ssr_base.specs.declared.building.Expansion.{Expansion}
 use Rattle.ssr_base.specs.declared.ids.NodeId.{NodeId}
@@ -25,6 +25,7 @@ use Rattle.ssr_base.specs.Building.{most_trees, most_nested, ◌>>=◌, unless, 
 use Rattle.ssr_facts_rows.specs.declared.places.SpanRow.{SpanRow}
 use Rattle.ssr_facts_rows.specs.declared.sources.ExpansionKindRow.{ExpansionKindRow}
 use Rattle.ssr_facts_rows.specs.declared.sources.ExpansionKindRow.TheVariants as rows
+use Rattle.ssr_facts_rows.specs.Sources.{PlainToken, PlainExpansion}
 use Rattle.ssr_facts_rows.specs.Facts.{PlainFacts}
 use Rattle.ssr_facts.specs.Laws.{OneWorkspace}
 use Rattle.ssr_facts.specs.Sources.{row_of_origin, row_of_token, row_of_kind, row_of_expansion}
@@ -47,8 +48,8 @@ in_turn_same : {A R : Type 0} (row : A → R) (step : Workspace → A → Result
     → ((w : Workspace) (x y : A) → row x ≡ row y → step w x ≡ step w y)
     → (w : Workspace) (xs ys : List A) → map row xs ≡ map row ys → in_turn step w xs ≡ in_turn step w ys
 in_turn_same row step alike w [] [] same = refl
-in_turn_same row step alike w [] (y ∷ ys) same = absurd (omega (arith, ap (λ rs. length rs) same))
-in_turn_same row step alike w (x ∷ xs) [] same = absurd (omega (arith, ap (λ rs. length rs) same))
+in_turn_same row step alike w [] (y ∷ ys) same = absurd (omega (arith, ap length same))
+in_turn_same row step alike w (x ∷ xs) [] same = absurd (omega (arith, ap length same))
 in_turn_same row step alike w (x ∷ xs) (y ∷ ys) same =
     ap (λ r. r >>= (λ grown. in_turn step grown xs)) (alike w x y (first_same row x y xs ys same))
     ∙ then_same (λ grown. in_turn step grown xs) (λ grown. in_turn step grown ys)
@@ -65,29 +66,34 @@ file_same w x y same =
 
 texts_same : (ts us : List ExpToken) → map row_of_token ts ≡ map row_of_token us → expansion_text ts ≡ expansion_text us
 texts_same [] [] same = refl
-texts_same [] (u ∷ us) same = absurd (omega (arith, ap (λ rs. length rs) same))
-texts_same (t ∷ ts) [] same = absurd (omega (arith, ap (λ rs. length rs) same))
+texts_same [] (u ∷ us) same = absurd (omega (arith, ap length same))
+texts_same (t ∷ ts) [] same = absurd (omega (arith, ap length same))
 texts_same (t ∷ ts) (u ∷ us) same =
-    ap (λ bytes. bytes ++ expansion_text ts) (ap (λ r. r.text) (first_same row_of_token t u ts us same))
+    ap (λ bytes. bytes ++ expansion_text ts) (ap (λ (r : PlainToken). r.text) (first_same row_of_token t u ts us same))
     ∙ ap (λ l. string_bytes u.text ++ l) (texts_same ts us (others_same row_of_token t u ts us same))
 
--- a raw token in front of others
-abbrev with_raw : ℕ → List ℕ → Bool → Result (List RawToken) SyntaxError → Result (List RawToken) SyntaxError
-with_raw start bytes joint rest =
-    unless_refused
-    (λ kind. unless_refused (λ raw. Ok (record { kind = kind; range = range_of start (length bytes); joint = joint } ∷ raw)) rest)
-    (lone_kind bytes)
+-- the raw tokens where one of these bytes, which is made of its kind, stands in front of the rest
+abbrev with_raw : {A : Type 0} → (SyntaxKind → A) → List ℕ → Result (List A) SyntaxError → Result (List A) SyntaxError
+with_raw made bytes rest = unless_refused (λ kind. unless_refused (λ raw. Ok (made kind ∷ raw)) rest) (lone_kind bytes)
+
+raw_token_same : (start : ℕ) (t u : ExpToken) → row_of_token t ≡ row_of_token u → raw_token start t ≡ raw_token start u
+raw_token_same start t u same =
+    ap (λ (r : PlainToken) kind. record {
+      kind = kind;
+      range = record { start = start; end = start + length r.text; ordered = le-add_right start (length r.text) };
+      joint = r.joint;
+    }) same
 
 raw_same : (start : ℕ) (ts us : List ExpToken) → map row_of_token ts ≡ map row_of_token us → raw_from start ts ≡ raw_from start us
 raw_same start [] [] same = refl
-raw_same start [] (u ∷ us) same = absurd (omega (arith, ap (λ rs. length rs) same))
-raw_same start (t ∷ ts) [] same = absurd (omega (arith, ap (λ rs. length rs) same))
+raw_same start [] (u ∷ us) same = absurd (omega (arith, ap length same))
+raw_same start (t ∷ ts) [] same = absurd (omega (arith, ap length same))
 raw_same start (t ∷ ts) (u ∷ us) same =
     let first = first_same row_of_token t u ts us same in
     let bytes = string_bytes t.text in
-    ap (λ rest. with_raw start bytes t.joint rest) (raw_same (start + length bytes) ts us (others_same row_of_token t u ts us same))
-    ∙ ap (λ b. with_raw start b t.joint (raw_from (start + length b) us)) (ap (λ r. r.text) first)
-    ∙ ap (λ joint. with_raw start (string_bytes u.text) joint (raw_from (start + length (string_bytes u.text)) us)) (ap (λ r. r.joint) first)
+    ap (λ rest. with_raw (raw_token start t) bytes rest) (raw_same (start + length bytes) ts us (others_same row_of_token t u ts us same))
+    ∙ ap (λ b. with_raw (raw_token start t) b (raw_from (start + length b) us)) (ap (λ (r : PlainToken). r.text) first)
+    ∙ ap (λ made. with_raw made (string_bytes u.text) (raw_from (start + length (string_bytes u.text)) us)) (raw_token_same start t u first)
 
 reading_same : (kind : ExpansionKind) (ts us : List ExpToken) → map row_of_token ts ≡ map row_of_token us
     → expansion_reading kind ts ≡ expansion_reading kind us
@@ -104,22 +110,22 @@ by_row None = refl
 by_row (Some range) = refl
 
 origin_same : (t u : ExpToken) → row_of_token t ≡ row_of_token u → origin_of t ≡ origin_of u
-origin_same t u same = by_row t.origin ∙ ap (λ r. option_map span_of_row r.origin) same ∙ sym (by_row u.origin)
+origin_same t u same = by_row t.origin ∙ ap (λ (r : PlainToken). option_map span_of_row r.origin) same ∙ sym (by_row u.origin)
 
 origins_same : (ts us : List ExpToken) → map row_of_token ts ≡ map row_of_token us → map origin_of ts ≡ map origin_of us
 origins_same [] [] same = refl
-origins_same [] (u ∷ us) same = absurd (omega (arith, ap (λ rs. length rs) same))
-origins_same (t ∷ ts) [] same = absurd (omega (arith, ap (λ rs. length rs) same))
+origins_same [] (u ∷ us) same = absurd (omega (arith, ap length same))
+origins_same (t ∷ ts) [] same = absurd (omega (arith, ap length same))
 origins_same (t ∷ ts) (u ∷ us) same =
     ap (λ o. o ∷ map origin_of ts) (origin_same t u (first_same row_of_token t u ts us same))
     ∙ ap (λ os. origin_of u ∷ os) (origins_same ts us (others_same row_of_token t u ts us same))
 
 count_same : (bytes : ℕ) (ts us : List ExpToken) → map row_of_token ts ≡ map row_of_token us → count_in bytes ts ≡ count_in bytes us
 count_same bytes [] [] same = refl
-count_same bytes [] (u ∷ us) same = absurd (omega (arith, ap (λ rs. length rs) same))
-count_same bytes (t ∷ ts) [] same = absurd (omega (arith, ap (λ rs. length rs) same))
+count_same bytes [] (u ∷ us) same = absurd (omega (arith, ap length same))
+count_same bytes (t ∷ ts) [] same = absurd (omega (arith, ap length same))
 count_same bytes (t ∷ ts) (u ∷ us) same =
-    ap (λ n. if bytes == 0 then 0 else 1 + count_in (bytes - n) ts) (ap (λ r. length r.text) (first_same row_of_token t u ts us same))
+    ap (λ n. if bytes == 0 then 0 else 1 + count_in (bytes - n) ts) (ap (λ (r : PlainToken). length r.text) (first_same row_of_token t u ts us same))
     ∙ ap (λ n. if bytes == 0 then 0 else 1 + n)
     (count_same (bytes - length (string_bytes u.text)) ts us (others_same row_of_token t u ts us same))
 
@@ -135,6 +141,25 @@ joined_same (token ∷ later) ts us same =
     sym (drop-map row_of_token n ts) ∙ ap (λ rs. drop n rs) same ∙ drop-map row_of_token n us ∙ ap (λ k. map row_of_token (drop k us)) count in
     ap (λ os. covered (cover_of os) ∷ joined_origins later (drop n ts)) (origins_same (take n ts) (take m us) front)
     ∙ ap (λ os. covered (cover_of (map origin_of (take m us))) ∷ os) (joined_same later (drop n ts) (drop m us) rest)
+
+-- ** Ranges of bytes.
+
+bytes_from : (start end : ℕ) → start ≤ end → TextRange
+bytes_from start end ordered = record { start = start; end = end; ordered = ordered }
+
+same_end : (start e f : ℕ) (o : start ≤ e) → e ≡ f → (p : start ≤ f) → bytes_from start e o ≡ bytes_from start f p
+unfolding bytes_from
+same_end start e f o same =
+    subst (λ (x : ℕ). (p : start ≤ x) → bytes_from start e o ≡ bytes_from start x p) same (λ p. ap (bytes_from start e) (le_prop o p))
+
+same_ends : (s t e f : ℕ) (o : s ≤ e) → s ≡ t → e ≡ f → (p : t ≤ f) → bytes_from s e o ≡ bytes_from t f p
+unfolding bytes_from
+same_ends s t e f o starts ends = subst (λ (x : ℕ). (p : x ≤ f) → bytes_from s e o ≡ bytes_from x f p) starts (same_end s e f o ends)
+
+-- a range is known by its ends
+range_same : (a b : TextRange) → a.start ≡ b.start → a.end ≡ b.end → a ≡ b
+unfolding bytes_from
+range_same a b starts ends = same_ends a.start b.start a.end b.end a.ordered starts ends b.ordered
 
 -- ** Expansions.
 
@@ -162,11 +187,12 @@ checked_is w x = refl
 
 checked_same : (w : Workspace) (x y : Expansion) → row_of_expansion x ≡ row_of_expansion y → checked_call w x ≡ checked_call w y
 checked_same w x y same =
-    let place : x.call.1 ≡ y.call.1 = ap (λ r. record { start = r.call.start; end = r.call.end }) same in
+    let place : x.call.1 ≡ y.call.1 =
+    range_same x.call.1 y.call.1 (ap (λ (r : PlainExpansion). r.call.start) same) (ap (λ (r : PlainExpansion). r.call.end) same) in
     checked_is w x
-    ∙ ap (λ tree. checked w tree x.call.1 (map origin_of x.tokens.items)) (ap (λ r. r.call.tree) same)
+    ∙ ap (λ tree. checked w tree x.call.1 (map origin_of x.tokens.items)) (ap (λ (r : PlainExpansion). r.call.tree) same)
     ∙ ap (λ range. checked w y.call.0 range (map origin_of x.tokens.items)) place
-    ∙ ap (λ origins. checked w y.call.0 y.call.1 origins) (origins_same x.tokens.items y.tokens.items (ap (λ r. r.tokens) same))
+    ∙ ap (λ origins. checked w y.call.0 y.call.1 origins) (origins_same x.tokens.items y.tokens.items (ap (λ (r : PlainExpansion). r.tokens) same))
     ∙ sym (checked_is w y)
 
 abbrev grown : Workspace → Result NodeId WorkspaceError → Result Syntax WorkspaceError → List ExpToken → Result Workspace WorkspaceError
@@ -174,9 +200,9 @@ grown w called tree tokens = called >>= (λ call. tree >>= (λ syntax. Ok (with_
 
 expansion_same : (w : Workspace) (x y : Expansion) → row_of_expansion x ≡ row_of_expansion y → with_expansion w x ≡ with_expansion w y
 expansion_same w x y same =
-    let tokens : map row_of_token x.tokens.items ≡ map row_of_token y.tokens.items = ap (λ r. r.tokens) same in
-    let kind : x.kind ≡ y.kind = sym (kind_back x.kind) ∙ ap (λ r. kind_of_row r.kind) same ∙ kind_back y.kind in
-    let why = errors.Expansion (length w.expansions) in
+    let tokens : map row_of_token x.tokens.items ≡ map row_of_token y.tokens.items = ap (λ (r : PlainExpansion). r.tokens) same in
+    let kind : x.kind ≡ y.kind = sym (kind_back x.kind) ∙ ap (λ (r : PlainExpansion). kind_of_row r.kind) same ∙ kind_back y.kind in
+    let why : SyntaxError → WorkspaceError = errors.Expansion (length w.expansions) in
     let tree : Expansion → Result Syntax WorkspaceError = λ z. read_as why (expansion_reading z.kind z.tokens.items) in
     let read : expansion_reading x.kind x.tokens.items ≡ expansion_reading y.kind y.tokens.items =
     ap (λ k. expansion_reading k x.tokens.items) kind ∙ reading_same y.kind x.tokens.items y.tokens.items tokens in
@@ -199,12 +225,12 @@ one_workspace rows files again expansions others are same =
     let count : length files + length expansions ≡ length again + length others =
     omega (
       arith,
-      length-map string_bytes files,
-      length-map string_bytes again,
-      ap (λ l. length l) texts,
-      length-map row_of_expansion expansions,
-      length-map row_of_expansion others,
-      ap (λ l. length l) expanded,
+      length-map files string_bytes,
+      length-map again string_bytes,
+      ap length texts,
+      length-map expansions row_of_expansion,
+      length-map others row_of_expansion,
+      ap length expanded,
     ) in
     let rest : List (String Global) → List Expansion → Result Workspace WorkspaceError =
     λ fs xs. in_turn with_file no_tree fs >>= (λ w. in_turn with_expansion w xs) in

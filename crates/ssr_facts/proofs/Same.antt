@@ -1,5 +1,6 @@
 -- Maps that are made of the rows of tables mean what these mean.
-use Rattle.std.proofs.Common.{◌≡◌, List, [], ◌++◌, ◌||◌, Bool, true, false, Option, Some, string_bytes, refl, sym, ap, ◌∙◌}
+use Rattle.std.proofs.Common.{◌≡◌, List, [], ◌++◌, ◌||◌, true, Option, Some, string_bytes, sym, ap, ◌∙◌}
+use Rattle.std.proofs.Math.Bool.{or-true}
 use Rattle.std.proofs.lemmas.List.Folds.{list_any-append}
 use Rattle.std.proofs.lemmas.Map.Made.{is_some-lookup}
 use Rattle.std.proofs.lemmas.Map.Views.{any-filter_same}
@@ -99,10 +100,6 @@ among_nodes rows meaning r node has means =
     (λ other same. ap (λ x. stands_for r (meaning x)) (sym (same_nodes node other same)) ∙ ap (stands_for r) means ∙ same_res-itself r) (keys_of rows)
     ∙ sym (is_some-lookup (same_id node) rows) ∙ has
 
-or_true : (b : Bool) → (b || true) ≡ true
-or_true true = refl
-or_true false = refl
-
 pub indexed : (m : Maps) (t : Tables) → AreMade m t → IsIndexed m
 indexed m t made = record {
   paths = λ r node means.
@@ -117,5 +114,5 @@ indexed m t made = record {
       ∙ ap (λ b. list_any (same_id node) (nodes_for r (path_in m) t.paths.items) || b)
       (among_nodes t.methods.items (λ node. callee (method_in m node)) r node
       (ap is_some (sym (at_node m.methods t.methods.items made.methods node) ∙ means)) (ap callee means))
-      ∙ or_true (list_any (same_id node) (nodes_for r (path_in m) t.paths.items));
+      ∙ or-true (list_any (same_id node) (nodes_for r (path_in m) t.paths.items));
 }

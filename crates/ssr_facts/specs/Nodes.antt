@@ -25,7 +25,7 @@ place_of w x = told_of (λ p. Some (place_in x.tree p.syntax (node_of p.syntax x
 abbrev pub stands_at : SyntaxKind → PlaceRow → Syntax → Node → Bool
 stands_at kind place tree node = same_kind node.kind kind && same_place place (place_in place.tree tree node)
 
--- the first such node in preorder
+-- the first node in preorder that is of a kind and has exactly this place
 abbrev pub node_at : Workspace → SyntaxKind → PlaceRow → Option NodeId
 node_at w kind place =
     option_and_then

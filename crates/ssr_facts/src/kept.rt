@@ -10,7 +10,7 @@ use crate::scopes::Scope;
 use std::alloc::AllocError;
 use std::collections::BTreeMap;
 
-/// The first one that ends at a byte or behind it.
+/// The first kept scope that ends at a byte or behind it.
 pub(crate) fn first_from(kept: &BTreeMap<u32, Scope>, end: u32) -> Option<Scope>
     ensures { IsFirst (get nat_cmp kept.now) end result }
 {
@@ -18,7 +18,7 @@ pub(crate) fn first_from(kept: &BTreeMap<u32, Scope>, end: u32) -> Option<Scope>
     Some(*scope)
 }
 
-/// Whether one that is kept is as good as a scope, wherever that serves.
+/// Whether a kept scope is as good as another one, wherever that serves.
 fn is_covered(kept: &BTreeMap<u32, Scope>, scope: &Scope) -> bool
     ensures yes { IsTrue result → Covers (get nat_cmp kept.now) scope.now }
     ensures no { result ≡ false → (begun : List Kept) → IsKept (get nat_cmp kept.now) begun → (k : ℕ) (v : Kept) → scope.now.end ≤ k → get nat_cmp kept.now k ≡ Some v → IsBetter scope.now v }
@@ -29,7 +29,7 @@ fn is_covered(kept: &BTreeMap<u32, Scope>, scope: &Scope) -> bool
     }
 }
 
-/// The end of the last one up to the end of a scope, if the scope is as good.
+/// The end of the last kept scope up to the end of another one, if that one is as good.
 fn last_worse(kept: &BTreeMap<u32, Scope>, scope: &Scope) -> Option<u32>
     ensures worse { IfSome result (IsWorse (get nat_cmp kept.now) scope.now) }
     ensures passed { IfNone result ((k : ℕ) (v : Kept) → k ≤ scope.now.end → get nat_cmp kept.now k ≡ Some v → IsPassed (get nat_cmp kept.now) scope.now k) }
@@ -42,7 +42,7 @@ fn last_worse(kept: &BTreeMap<u32, Scope>, scope: &Scope) -> Option<u32>
     }
 }
 
-/// Takes those out up to the end of a scope than which the scope is as good.
+/// Takes out the kept scopes up to the end of another one than which that one is as good.
 fn take_worse_out(kept: &mut BTreeMap<u32, Scope>, scope: &Scope)
     ensures kept { (begun : List Kept) → IsKeptBeside (get nat_cmp kept.old) begun scope.now → IsKeptBeside (get nat_cmp kept.new) begun scope.now }
     ensures better { (begun : List Kept) → IsKeptBeside (get nat_cmp kept.old) begun scope.now → (k : ℕ) (v : Kept) → k ≤ scope.now.end → get nat_cmp kept.new k ≡ Some v → IsBetter v scope.now }

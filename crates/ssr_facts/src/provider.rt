@@ -15,7 +15,7 @@ pub struct TableSemantics {
     ghost indexed: { IsIndexed maps },
 }
 
-/// The same texts.
+/// The texts, copied.
 fn copied(alloc: Global, texts: &[String]) -> Result<Vec<String>, AllocError>
     ensures { IfOk result (λ copies. map string_bytes copies.items ≡ map string_bytes texts.now) }
 {

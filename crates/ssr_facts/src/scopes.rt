@@ -34,7 +34,7 @@ pub(crate) struct Scope {
 }
 
 impl Scope {
-    /// Whether it is shorter than another one, or as short and its row stands behind or is the same.
+    /// Whether this scope is shorter than another one, or as short and its row stands behind or is the same.
     pub(crate) fn is_as_good(&self, other: &Scope) -> bool
         ensures good { IsTrue result → AsGood self.now other.now }
         ensures worse { result ≡ false → IsBetter other.now self.now }

@@ -64,7 +64,7 @@ four d = items d >>= if_four
 abbrev pub five : Data → Option (Data × Data × Data × Data × Data)
 five d = items d >>= if_five
 
--- each of a list, in their order, unless one of them is refused
+-- what each value of a list stands for, in their order, unless one of them is refused
 abbrev pub each : {A : Type 0} → (Data → Option A) → List Data → Option (List A)
 each reading [] = Some []
 each reading (d ∷ ds) = do
@@ -101,7 +101,7 @@ if_found reading (Some d) = option_map Some (reading d)
 abbrev pub optional : {A : Type 0} → List ℕ → (Data → Option A) → Data → Option (Option A)
 optional key reading d = if_found reading (get key d)
 
--- what stands at a key, and this where it isn't there
+-- what stands at a key, and `default` where it isn't there
 abbrev pub defaulted : {A : Type 0} → List ℕ → (Data → Option A) → A → Data → Option A
 defaulted key reading default d = option_map (λ found. unwrap_or found default) (optional key reading d)
 

@@ -26,11 +26,11 @@ pub enum DefinitionKind {
 #[derive(Clone, Copy, Debug)]
 pub struct DefinitionRow {
     pub kind: DefinitionKind,
-    /// Whether it is an associated item.
+    /// Whether the definition is an associated item.
     pub associated: bool,
-    /// Whether it takes `self`.
+    /// Whether the definition takes `self`.
     pub takes_self: bool,
-    /// The number of the type that goes with it.
+    /// The number of the type that goes with the definition.
     pub type_number: u32,
 }
 

@@ -62,7 +62,7 @@ impl FromJson for FileRow {
     }
 }
 
-/// A token of its parts.
+/// A token of an expansion, by the parts of its row.
 fn token(
     alloc: Global,
     text: &Value,

@@ -17,17 +17,17 @@ pub record Output : Type 0 where
   pub status : ℕ
 
 abbrev pub line_break : List ℕ
-line_break = 10 ∷ []
+line_break = codes "\n"
 
 -- what tells why there is no new text: one line, unless the words have a line break
 abbrev pub refused : List ℕ → Output
 refused words = record { text = codes "error: " ++ (words ++ line_break); status = 1 }
 
--- the same, of what was read from standard input
+-- what tells why what was read from standard input gives no new text
 abbrev pub input_refused : List ℕ → Output
 input_refused words = refused (codes "standard input: " ++ words)
 
--- the same, of a rule
+-- what tells why a rule gives no new text
 abbrev pub rule_refused : List ℕ → Output
 rule_refused message = refused (codes "Parse error: " ++ message)
 

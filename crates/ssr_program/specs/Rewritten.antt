@@ -31,7 +31,7 @@ abbrev pub edited : Syntax → Option (List Change) → List ℕ
 edited code None = source_of code
 edited code (Some changes) = replaced (source_of code) 0 (length (source_of code)) changes
 
--- the text of a file in which the edits of such a search are made
+-- the text of a file in which the edits of a search of it for these kinds are made
 pub record IsRewritten (code : Syntax) (kinds : List ResolvedKind) (text : List ℕ) : Type 0 where
   pub finder : Finder
   pub searches : SearchesFile code kinds finder

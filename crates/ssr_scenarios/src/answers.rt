@@ -132,7 +132,7 @@ fn of_search(
     }
 }
 
-/// The same of a search that there is.
+/// What a question asks of a search that there is. Says whether the word asks that.
 fn of_finder(
     alloc: Global,
     out: &mut Told,

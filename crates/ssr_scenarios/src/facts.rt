@@ -62,7 +62,7 @@ pub(crate) fn facts_text(alloc: Global, names: &str, lines: &[Line<'_>]) -> Resu
     Ok(text.end()?)
 }
 
-/// The same by the rows that lines tell.
+/// The text of a facts file for a scenario, by the rows that its lines tell.
 fn rows_text(alloc: Global, names: &str, lines: &[Line<'_>]) -> Result<Told> {
     let mut rows = no_rows(alloc);
     let mut keys = Told::nothing(alloc);

@@ -14,7 +14,7 @@ pub(crate) fn write_texts(alloc: Global, out: &mut Told, matches: &[Match<'_>]) 
     }
 }
 
-/// The same, with what each placeholder holds.
+/// The texts of matches, a line each, with what each placeholder holds.
 pub(crate) fn write_held(out: &mut Told, workspace: &Workspace, matches: &[Match<'_>]) {
     for m in matches {
         out.text(m.matched_str());

@@ -72,17 +72,17 @@ impl Told {
         self.is_whole = false;
     }
 
-    /// Whether it is whole and has nothing.
+    /// Whether the text is whole and has nothing.
     pub(crate) fn is_empty(&self) -> bool {
         self.is_whole && self.text.is_empty()
     }
 
-    /// How many bytes it has.
+    /// How many bytes the text has.
     pub(crate) fn len(&self) -> usize {
         self.text.len()
     }
 
-    /// What it has.
+    /// What the text has so far.
     pub(crate) fn as_str(&self) -> &str {
         self.text.as_str()
     }

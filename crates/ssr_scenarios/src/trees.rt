@@ -20,7 +20,7 @@ pub(crate) enum Goal {
     Fragment(Fragment),
     /// What a macro call stands for, by the tokens of the text but for white space and comments.
     Call(ExpansionKind),
-    /// The same, by tokens as facts tell them.
+    /// What a macro call stands for, by tokens as facts tell them.
     Told(ExpansionKind),
 }
 

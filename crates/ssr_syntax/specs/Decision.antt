@@ -9,6 +9,6 @@ use Rattle.ssr_syntax_forms.specs.Trees.{height}
 abbrev pub goals_in_a_row : ℕ
 goals_in_a_row = 1
 
--- what is made is one of the goal
+-- whether the forest that is made is one of the goal, before the tokens that are left
 abbrev pub decide_fits : Goal → Stages
 decide_fits goal r = decide_at grammar (height r.made * goals_in_a_row + goals_in_a_row) goal r

@@ -40,7 +40,8 @@ lone_kind text = lexed_reading kind_of_one text
 abbrev pub raw_token : ℕ → ExpToken → SyntaxKind → RawToken
 raw_token start t kind = record { kind = kind; range = range_of start (length (string_bytes t.text)); joint = t.joint }
 
--- the raw tokens, of which the first begins at the byte `start`, or why the first text that is none is refused
+-- the raw tokens that are handed in, of which the first begins at the byte `start`, or why the first text that is no token is
+-- refused
 abbrev pub raw_from : ℕ → List ExpToken → Result (List RawToken) SyntaxError
 raw_from start [] = Ok []
 raw_from start (t ∷ ts) =

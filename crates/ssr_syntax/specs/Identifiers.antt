@@ -33,12 +33,12 @@ mixing_kinds = TOKEN_TREE ∷ MACRO_RULES ∷ []
 abbrev pub is_mixing : SyntaxKind → Bool
 is_mixing kind = mem kind mixing_kinds
 
--- no other node among the siblings or below them has an identifier beside other children
+-- no node among the siblings or below them has an identifier beside other children, but those that are made to mix them
 abbrev pub IdentsAlone : Forest → Type 0
 IdentsAlone nothing = ⊤
 IdentsAlone (leaf token next) = IdentsAlone next
 IdentsAlone (branch kind below next) = ((is_mixing kind || stand_alone below) ≡ true) × IdentsAlone below × IdentsAlone next
 
--- nor the root
+-- no node of a tree, its root or one below it, has an identifier beside other children, but those that are made to mix them
 abbrev pub IdentsAloneIn : Syntax → Type 0
 IdentsAloneIn syntax = IdentsAlone (branch syntax.kind syntax.children nothing)

@@ -11,7 +11,7 @@ abbrev pub trivia : List plain.Token → List plain.Token
 trivia [] = []
 trivia (t ∷ ts) = if is_trivia t.kind then t ∷ trivia ts else []
 
--- what is behind them
+-- the tokens behind the white space and comments in front
 abbrev pub behind_trivia : List plain.Token → List plain.Token
 behind_trivia [] = []
 behind_trivia (t ∷ ts) = if is_trivia t.kind then behind_trivia ts else t ∷ ts

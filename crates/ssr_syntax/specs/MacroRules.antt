@@ -7,12 +7,12 @@ use Rattle.ssr_syntax_kinds.specs.declared.kinds.SyntaxKind.TheVariants.{IDENT, 
 use Rattle.ssr_syntax_tree.specs.Places.{Part, token_part, node_part, Node, nodes_of, parts_of}
 use Rattle.ssr_syntax_tree.specs.Syntax.{Syntax}
 
--- another identifier
+-- an identifier other than `macro_rules`
 abbrev pub is_other_word : Part → Bool
 is_other_word (token_part t token) = same_kind token.kind IDENT && not (bytes_eq token.text (codes "macro_rules"))
 is_other_word (node_part node) = false
 
--- the node is MACRO_RULES, and another identifier is its child
+-- the node is MACRO_RULES, and an identifier other than `macro_rules` is its child
 abbrev pub is_misnamed : Node → Bool
 is_misnamed node = same_kind node.kind MACRO_RULES && list_any is_other_word (parts_of node)
 

@@ -20,7 +20,7 @@ row_in (ks ∷ rows) kind = if mem kind ks then 0 else suc (row_in rows kind)
 abbrev pub of_operator : SyntaxKind → ℕ
 of_operator kind = if mem kind assignments then 1 + of_ranges else 4 + row_in ranks kind
 
--- of the first token among siblings
+-- the precedence that the first token among siblings has as an operator; without a token 0
 abbrev pub of_first_token : Forest → ℕ
 of_first_token done = 0
 of_first_token (leaf kind us x) = of_operator kind
@@ -43,7 +43,7 @@ FirstHasAtMost limit done = ⊥
 FirstHasAtMost limit (leaf kind us x) = FirstHasAtMost limit x
 FirstHasAtMost limit (tree kind kids x) = precedence kind kids ≤ limit
 
--- each node among siblings has less
+-- each node among siblings has a precedence below the limit
 abbrev pub AllHaveLess : ℕ → Forest → Type 0
 AllHaveLess limit done = ⊤
 AllHaveLess limit (leaf kind us x) = AllHaveLess limit x
@@ -63,10 +63,10 @@ AreOperands _ = ⊥
 
 -- what a node asks of its children
 pub record HasOperands (kind : SyntaxKind) (kids : Forest) : Type 0 where
-  -- of what goes on with an operand or stands in front of one, and of a cast
+  -- of what goes on with an operand or stands in front of one, and of a cast, the operand binds at least as tightly
   pub first : 0 < precedence kind kids → precedence kind kids < 4 → FirstHasAtMost (precedence kind kids) kids
   pub both : same_kind kind k.BIN_EXPR ≡ true → AreOperands kids
-  -- of a range, which may lack operands
+  -- each operand of a range, which may lack them, binds tighter than a range
   pub ends : same_kind kind k.RANGE_EXPR ≡ true → AllHaveLess of_ranges kids
   -- what `let` compares with binds tighter than `&&`
   pub value : same_kind kind k.LET_EXPR ≡ true → AllHaveLess (of_operator k.AMP2) kids

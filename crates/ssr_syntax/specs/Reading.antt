@@ -81,7 +81,7 @@ tree_reading goal text raw =
 abbrev pub lexed_reading : {A : Type 0} → (List RawToken → Result A SyntaxError) → List ℕ → Result A SyntaxError
 lexed_reading read text = elim (tokens text) [ None ↦ Err errors.Lex | Some raw ↦ read raw ]
 
--- of a text shorter than 2^32 bytes
+-- what is read of a text shorter than 2^32 bytes; any other one is refused
 abbrev pub short_reading : Result Syntax SyntaxError → List ℕ → Result Syntax SyntaxError
 short_reading read text = if nat_lt (length text) (2 ^ 32) then read else Err errors.TooLong
 

@@ -49,7 +49,7 @@ joined k.EQ kind = with_eq kind
 joined k.R_ANGLE kind = with_r_angle kind
 joined next kind = if same_kind kind next then twice kind else None
 
--- the same of a token that is joint or isn't, and those behind it
+-- the kind of a token joined from one of `kind`, which is joint or isn't, and the first of those behind it
 abbrev pub lengthened : SyntaxKind → Bool → List RawToken → Option SyntaxKind
 lengthened kind false ts = None
 lengthened kind true [] = None

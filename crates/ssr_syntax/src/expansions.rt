@@ -28,11 +28,11 @@ pub enum ExpansionKind {
 /// A token that is handed in.
 #[derive(Debug, PartialEq, Eq, Drop)]
 pub struct ExpToken {
-    /// What it is in a text: neither white space nor a comment.
+    /// The text that the token is: neither white space nor a comment.
     pub text: String,
-    /// Whether punctuation follows directly, with which it may be joined.
+    /// Whether punctuation follows the token directly, with which it may be joined.
     pub joint: bool,
-    /// Where it comes from. The tree doesn't depend on it.
+    /// Where the token comes from. The tree doesn't depend on that.
     pub origin: Option<TextRange>,
 }
 
@@ -80,10 +80,10 @@ fn lone_kind(alloc: Global, text: &str) -> Result<SyntaxKind, SyntaxError>
 /// Tokens that are put together.
 #[derive(Drop)]
 struct Gathered {
-    /// Their texts, with nothing between.
+    /// The texts of the tokens, with nothing between.
     text: String,
     rows: TokenRows,
-    /// Their kinds. White space stands behind each token that isn't joint, as in a text.
+    /// The kinds of the tokens. White space stands behind each token that isn't joint, as in a text.
     kinds: Vec<SyntaxKind>,
 }
 

@@ -99,7 +99,7 @@ pub(crate) fn is_solid_outside(kinds: &[SyntaxKind]) -> bool
     !first.is_trivia() && !last.is_trivia()
 }
 
-/// The rows once more.
+/// The rows of tokens, copied.
 fn copied(alloc: Global, rows: &TokenRows) -> Result<TokenRows, AllocError>
     ensures { IfOk result (λ copy. copy ≡ rows.now) }
 {

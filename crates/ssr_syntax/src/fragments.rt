@@ -20,7 +20,7 @@ pub enum Fragment {
 }
 
 impl Fragment {
-    /// The goal that such a text is read as.
+    /// The goal that a text is read as for a fragment of this kind.
     pub(crate) fn goal(self) -> Goal
         ensures { result ≡ goal_of self }
     {

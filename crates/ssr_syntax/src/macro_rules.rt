@@ -20,7 +20,7 @@ fn is_other_word(tree: &Tree, child: Element) -> bool
     }
 }
 
-/// Whether a child of the node is.
+/// Whether a child of the node is an identifier other than `macro_rules`.
 fn has_other_word(tree: &Tree, node: NodeNo) -> bool
     requires { HasNode tree.now node.0 }
     ensures { result ≡ list_any is_other_word (parts_of (node_of tree.now node.0)) }
@@ -33,7 +33,7 @@ fn has_other_word(tree: &Tree, node: NodeNo) -> bool
     false
 }
 
-/// Whether the node is MACRO_RULES with another word than that in front.
+/// Whether the node is MACRO_RULES with an identifier other than `macro_rules`.
 fn is_misnamed(tree: &Tree, node: NodeNo) -> bool
     requires { HasNode tree.now node.0 }
     ensures { result ≡ is_misnamed (node_of tree.now node.0) }
@@ -41,14 +41,15 @@ fn is_misnamed(tree: &Tree, node: NodeNo) -> bool
     tree.kind(node) == SyntaxKind::MACRO_RULES && has_other_word(tree, node)
 }
 
-/// Whether one of the nodes is MACRO_RULES with another word than that in front. Few trees have such a node at all.
+/// Whether one of the tree's nodes is MACRO_RULES with an identifier other than `macro_rules`. Few trees have a MACRO_RULES at
+/// all.
 pub(crate) fn misnames_macros(tree: &Tree) -> bool
     ensures { result ≡ misnames_macros tree.now }
 {
     tree.has_kind(SyntaxKind::MACRO_RULES) && has_misnamed(tree)
 }
 
-/// Whether one of the nodes is, each looked at by itself.
+/// Whether one of the tree's nodes, each looked at by itself, is MACRO_RULES with an identifier other than `macro_rules`.
 fn has_misnamed(tree: &Tree) -> bool
     ensures { result ≡ misnames_macros tree.now }
 {

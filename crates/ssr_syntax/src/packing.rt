@@ -5,14 +5,14 @@ ghost use Rattle.ssr_syntax.specs.Private.Packing.{PackingRows, packed_of};
 use ssr_syntax_kinds::{TokenRow, TokenRows};
 use std::marker::Model;
 
-/// PackingRows rows at the front, and unread ones at the end. Between them is room for those that were read and aren't packed,
-/// since some are joined.
+/// Packed rows at the front, and unread ones at the end. Between them is room for those that were read and aren't
+/// packed, since some are joined.
 #[derive(Drop)]
 pub(crate) struct Packing {
     rows: TokenRows,
-    /// How many are packed.
+    /// How many rows are packed.
     packed: usize,
-    /// Where the unread ones begin.
+    /// Where the unread rows begin.
     unread: usize,
 }
 
@@ -28,7 +28,7 @@ impl Model for Packing {
 }
 
 impl Packing {
-    /// With all rows unread.
+    /// These rows, of which all are unread.
     pub(crate) fn new(rows: TokenRows) -> Packing
         ensures { result ≡ record { packed = []; unread = rows; room = 0 } }
     {

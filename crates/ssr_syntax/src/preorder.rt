@@ -26,7 +26,7 @@ const MOST_OPEN: usize = MOST_DEEP + 1;
 /// A node with its row, as long as more nodes may stand below it.
 #[derive(Clone, Copy)]
 struct Open {
-    /// How many of the parser's rows are in front of it and of those below it.
+    /// How many of the parser's rows are in front of the node's own and of those of the nodes below it.
     start: usize,
     number: u32,
     node: NodeRow,
@@ -105,8 +105,8 @@ fn open_row(
     Ok(())
 }
 
-/// Turns the rows, the last one first, and then those above. It has both lists to itself, so that what the loop knows of
-/// them can stay in registers.
+/// Turns the rows, the last one first, and then the open nodes above. It has both lists to itself, so that what the loop
+/// knows of them can stay in registers.
 #[inline(never)]
 fn from_right(mut above: Vec<Open>, mut rows: Turning) -> Result<Turning, SyntaxError>
     requires few { length rows.unread ≤ most_nodes }

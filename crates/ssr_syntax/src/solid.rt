@@ -97,7 +97,7 @@ fn may_go_on(behind: &[SyntaxKind]) -> bool
     }
 }
 
-/// The kind joined from one and the first of those behind it.
+/// The kind joined from a token of this kind and the first of those behind it.
 fn lengthened(kind: SyntaxKind, behind: &[SyntaxKind]) -> Option<SyntaxKind>
     ensures { result ≡ with_next kind behind.now }
 {
@@ -105,7 +105,7 @@ fn lengthened(kind: SyntaxKind, behind: &[SyntaxKind]) -> Option<SyntaxKind>
     joined(*next, kind)
 }
 
-/// All but the first one.
+/// All kinds but the first one.
 fn others(kinds: &[SyntaxKind]) -> &[SyntaxKind]
     ensures { result.now ≡ drop 1 kinds.now }
 {
@@ -115,7 +115,7 @@ fn others(kinds: &[SyntaxKind]) -> &[SyntaxKind]
     }
 }
 
-/// The token of this kind alone.
+/// A token of this kind that is joined with no other one.
 fn alone(kind: SyntaxKind) -> Token
     ensures { result ≡ record { kind = kind; joined = kind; size = 1 } }
 {

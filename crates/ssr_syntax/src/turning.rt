@@ -10,9 +10,9 @@ use std::marker::Model;
 #[derive(Drop)]
 pub(crate) struct Turning {
     rows: NodeRows,
-    /// How many are unread.
+    /// How many rows are unread.
     unread: usize,
-    /// Where the turned ones begin.
+    /// Where the turned rows begin.
     turned: usize,
 }
 
@@ -28,7 +28,7 @@ impl Model for Turning {
 }
 
 impl Turning {
-    /// With all rows unread.
+    /// These rows, of which all are unread.
     pub(crate) fn new(rows: NodeRows) -> Turning
         ensures { result ≡ record { unread = rows; turned = []; room = 0 } }
     {

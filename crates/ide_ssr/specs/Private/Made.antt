@@ -18,7 +18,7 @@ IsMade rules kept lists made n = (v : Match) × (slice_index_or made n None ≡ 
 abbrev pub Waits : ℕ → Option Holder → Type 0
 Waits n holder = IfSome holder (λ h. h.place < n)
 
--- those from the place n on are made that wait for a match before it, or for none
+-- the matches from the place n on are made that wait for a match before it, or for none
 pub record AreMade (rules : List ResolvedKind) (kept : Kept) (lists : Listing) (n : ℕ) (made : List (Option Match)) : Type 0 where
   pub counted : length made ≡ length kept.matches
   pub waiting : (j : ℕ) (holder : Option Holder) → n ≤ j → slice_get kept.holders j ≡ Some holder → Waits n holder → IsMade rules kept lists made j

@@ -14,6 +14,6 @@ pub record AreStarts (w : Workspace) (m : Found) (n : ℕ) (starts : List Start)
   pub each : All (IsStartOf w m) starts
   pub places : (i : ℕ) (d : Start) → i < n → (slice_index_or starts i d).place ≡ i
 
--- the numbers by which they are sorted
+-- the numbers by which bindings are sorted
 abbrev pub start_key : Start → List ℕ
 start_key start = start.at ∷ start.place ∷ []

@@ -11,12 +11,12 @@ use Rattle.ide_ssr_resolving.specs.declared.used.Step.TheVariants as steps
 use Rattle.ide_ssr_resolving.specs.Resolving.{resolution}
 use Rattle.ide_ssr_resolving.specs.Used.{is_path, ends_in_self, is_whole, is_usable}
 
--- at a path that resolves to this
+-- what the walk does at a path that resolves to this
 abbrev pub step_by : Meanings → Res → Step
 step_by m res = if is_usable m res then steps.Use res else steps.Enter
 
 module _ (m : Meanings) (scope : ScopeId) (names : List (List ℕ)) where
-  -- at a path that doesn't end in `self`
+  -- what the walk does at a path that doesn't end in `self`
   abbrev pub path_step : Forest → Step
   path_step path = if is_whole names path then option_map_or (step_by m) (resolution m scope path) steps.Refuse else steps.Enter
 

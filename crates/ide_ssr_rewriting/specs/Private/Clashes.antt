@@ -9,7 +9,7 @@ use Rattle.ide_ssr_rewriting.specs.Clashes.{Rewrite, Clash, clash_le, range_key,
 unfoldable pub range_le : FileSpan → FileSpan → Bool
 range_le a b = is_le (slice_cmp nat_cmp (range_key a) (range_key b))
 
--- they stand in the order of their ranges, each of which has a byte
+-- a list stands in the order of its ranges, each of which has a byte
 pub record AreInOrder (list : List Rewrite) : Type 0 where
   pub ordered : AllPairs (λ a b. range_le a.range b.range ≡ true) list
   pub bytes : All (λ r. r.range.span.start < r.range.span.end) list
@@ -24,12 +24,12 @@ first_behind r [] = None
 first_behind r (s ∷ rs) =
     if is_clash r s then Some (record { earlier = r.range; later = s.range }) else first_behind (if stands_for r s then r else s) rs
 
--- those behind one of the range that begin another range
+-- those of a list, behind one of the range, that begin another range
 abbrev pub fresh_behind : FileSpan → List Rewrite → List Rewrite
 fresh_behind range [] = []
 fresh_behind range (r ∷ rs) = if same_range r.range range then fresh_behind range rs else r ∷ fresh_behind r.range rs
 
--- the earlier one of two
+-- the earlier one of two clashes, where there are some
 abbrev pub lesser : Option Clash → Option Clash → Option Clash
 lesser None other = other
 lesser (Some c) None = Some c

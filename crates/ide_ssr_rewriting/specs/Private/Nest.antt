@@ -11,7 +11,7 @@ use Rattle.ide_ssr_nesting.specs.Lists.{Listing, listed}
 use Rattle.ide_ssr_rewriting.specs.Private.Clashes.{range_le}
 use Rattle.ide_ssr_rewriting.specs.Edits.{range_at}
 
--- the places of those under the placeholder whose binding has the place i, of the match of the place n
+-- the places of the matches under the placeholder whose binding has the place i, of the match of the place n
 abbrev pub under : Listing → ℕ → ℕ → List ℕ
 under listing n i = listed listing (Some (record { place = n; binding = i }))
 
@@ -22,7 +22,8 @@ pub record IsList (kept : Kept) (holder : Option Holder) (places : List ℕ) : T
   pub once : AllPairs ◌≢◌ places
   pub ordered : AllPairs (λ a b. range_le (range_at kept a) (range_at kept b) ≡ true) places
 
--- All of them. What is in the list of a placeholder comes behind the match that has the placeholder, and lies in what this holds.
+-- Each holder has a list. What is in that of a placeholder comes behind the match that has the placeholder, and lies in what
+-- this holds.
 pub record IsNest (kept : Kept) (listing : Listing) : Type 0 where
   pub built : IsBuilt kept.workspace
   pub matches : All (IsMatch (trees kept.workspace)) kept.matches

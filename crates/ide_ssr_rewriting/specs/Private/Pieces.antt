@@ -21,7 +21,7 @@ all_clean lists bound = list_all (λ p. is_clean (lists p.0)) bound
 abbrev pub pieces_of : Workspace → Found → (ℕ → List Rewrite) → List (ℕ × Binding) → List (List ℕ)
 pieces_of w m lists bound = map (λ p. piece w (held_range (trees w) m.node.tree p.1) (lists p.0)) bound
 
--- likewise, if all lists can be made
+-- what the placeholders of a match hold, with the changes of their lists made, if all lists can be made
 abbrev pub pieces_by : Workspace → Found → (ℕ → List Rewrite) → Option (List (List ℕ))
 pieces_by w m lists =
     let bound = enumerate_from 0 m.bindings in

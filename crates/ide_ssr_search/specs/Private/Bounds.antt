@@ -18,7 +18,7 @@ abbrev pub AreBounds : List Planted → ℕ → Bounds → Type 0
 AreBounds trees t bounds =
     IsSomeAnd (with_number trees t) (λ p. MatchOption p.call (bounds ≡ limits.Everywhere) (λ call. AreBoundsOf (arguments_range trees call) bounds))
 
--- a range lies in them
+-- a range lies in the bounds
 abbrev pub LiesInBounds : Bounds → FileSpan → Type 0
 LiesInBounds limits.Everywhere range = ⊤
 LiesInBounds (limits.Within within) range = LiesIn range (file_span_of within)

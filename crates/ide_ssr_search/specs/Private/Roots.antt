@@ -25,13 +25,13 @@ use Rattle.ide_ssr_search.specs.declared.roots.Rules.{Rules}
 abbrev pub counts : SyntaxKind → Bool
 counts kind = not (is_trivia kind) && not (same_kind kind k.COMMA)
 
--- the kind of the first one that counts
+-- the kind of the first token among siblings that counts for a match
 abbrev pub first_counted : List Part → Option SyntaxKind
 first_counted [] = None
 first_counted (token_part t token ∷ rest) = if counts token.kind then Some token.kind else first_counted rest
 first_counted (node_part node ∷ rest) = first_counted rest
 
--- whether that kind is this one
+-- whether the first token among siblings that counts for a match is of this kind
 abbrev pub counts_first : SyntaxKind → List Part → Bool
 counts_first kind parts = option_map_or (λ own. same_kind own kind) (first_counted parts) false
 
@@ -54,7 +54,7 @@ token_asked roots.Placeholder = None
 token_asked (roots.Call kind) = None
 token_asked (roots.Node kind token) = token
 
--- each node of a tree that matches the rule's pattern has it, whatever names mean
+-- each node of a tree that matches the rule's pattern has what the root asks for, whatever names mean
 abbrev pub IsRootOf : ResolvedKind → Root → Type 0
 IsRootOf rule root =
     (m : Meanings) (tree : ℕ) (c : Node) (bindings : List Binding) → Matches m tree rule (root_of rule.pattern) c bindings → has_asked root c ≡ true

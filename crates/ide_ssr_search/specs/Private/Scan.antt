@@ -27,7 +27,7 @@ use Rattle.ide_ssr_search.specs.Private.Bounds.{AreBounds}
 abbrev pub IsBefore : ℕ → ℕ → ℕ → Found → Type 0
 IsBefore t n r m = Precedes m (record { rule = r; node = node_id t n; bindings = [] })
 
--- what is found up to before those
+-- what is found before the matches of the rule r at the node n of the tree t
 pub record AreFoundBefore (w : Workspace) (m : Meanings) (context : Context) (rules : List ResolvedKind) (t n r : ℕ) (ms : List Found) : Type 0 where
   pub in_order : AllPairs Precedes ms
   pub before : All (IsBefore t n r) ms
@@ -43,7 +43,7 @@ abbrev pub found_of : ℕ → NodeId → Option (List Binding) → List Found
 found_of place x None = []
 found_of place x (Some bindings) = record { rule = place; node = x; bindings = bindings } ∷ []
 
--- that match is added
+-- the match of a rule at a node is added, if the rule is permitted there and matches as a whole
 pub record Adds (w : Workspace) (m : Meanings) (context : Context) (rule : ResolvedKind) (place : ℕ) (x : NodeId) (old new : List Found) : Type 0 where
   pub bindings : Option (List Binding)
   pub tells : TellsMatch w m context rule x bindings
@@ -66,7 +66,7 @@ pub record IsShutCall (w : Workspace) (t n : ℕ) (call : NodeId) : Type 0 where
   pub is_call : IsMacroCall (trees w) call
   pub shut : IsShut (trees w) call
 
--- these are all such calls
+-- these are all calls before the node n of the tree t that shut in what they stand for
 abbrev pub KnowsShut : Workspace → ℕ → ℕ → BTreeSet NodeId → Type 0
 KnowsShut w t n shut = (call : NodeId) → IsTrue (contains ((id_order.ghosts).cmp) shut call) ↔ IsShutCall w t n call
 
@@ -75,7 +75,7 @@ pub record KnowsInside (w : Workspace) (context : Context) (t : ℕ) (inside : L
   pub counted : length inside ≡ t
   pub known : (s : ℕ) → s < t → IsTrue (slice_index_or inside s false) ↔ IsSomeAnd context.function (IsBelow (trees w) (node_id s 0))
 
--- the call of a tree
+-- a macro call of a tree before the tree t, as the call of t is
 pub record IsEarlierCall (w : Workspace) (t : ℕ) (call : NodeId) : Type 0 where
   pub earlier : call.tree < t
   pub node : IsNodeOf (trees w) call

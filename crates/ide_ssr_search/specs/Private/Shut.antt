@@ -9,15 +9,15 @@ use Rattle.ssr_base.specs.Laws.{IsBelow}
 use Rattle.ide_ssr_found.specs.Found.{IsAtOrBelow}
 use Rattle.ide_ssr_search.specs.Permitted.{IsUse, arguments_range}
 
--- a USE, and a macro call whose arguments have no original range
+-- what shuts in what is below it: a USE, and a macro call whose arguments have no original range
 abbrev pub Shuts : List Planted → NodeId → Type 0
 Shuts trees a = IsUse trees a ⊎ (IsMacroCall trees a × (arguments_range trees a ≡ None))
 
--- such a node stands above
+-- a node that shuts in what is below it stands above this one
 abbrev pub IsShutIn : List Planted → NodeId → Type 0
 IsShutIn trees x = (a : NodeId) × IsBelow trees x a × Shuts trees a
 
--- the same of the nodes directly below
+-- a node that shuts in what is below it stands above those directly below this one: it is this one, or stands above it
 abbrev pub IsShut : List Planted → NodeId → Type 0
 IsShut trees x = (a : NodeId) × IsAtOrBelow trees x a × Shuts trees a
 

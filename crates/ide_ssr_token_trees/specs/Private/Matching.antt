@@ -19,8 +19,8 @@ pub data Steps (whole behind : Option (List Binding)) (old new : List Binding) (
   goes_on : (bs : List Binding) → answer ≡ true → whole ≡ joined (Some bs) behind → new ≡ old ++ bs → Steps whole behind old new answer
   differs : answer ≡ false → whole ≡ None → Steps whole behind old new answer
 
--- likewise where an element of the pattern stands before the elements `ps`, and is matched at the front of the elements `cs` of the code,
--- of which `ds` are left: whatever comes behind it
+-- how a test of an element of the pattern answers that stands before the elements `ps`, and is matched at the front of the
+-- elements `cs` of the code, of which `ds` are left: whatever comes behind it
 abbrev pub ElementSteps : (ℕ → Option ℕ) → Syntax → Element → Siblings → Syntax → Siblings → Siblings → List Binding → List Binding → Bool → Type 0
 ElementSteps at pattern p ps code cs ds old new answer =
     (behind : List Part → Option (List Binding))

@@ -12,7 +12,7 @@ use Rattle.ssr_base.specs.Built.{IsNodeOf, IsMacroCall, HasOrigins}
 abbrev pub NodesBefore : Syntax → ℕ → ℕ → Type 0
 NodesBefore syntax offset count = (n : ℕ) → HasNode syntax n → n < count → start_of syntax (node_of syntax n) < offset
 
--- the nodes from a number on begin at the byte or behind it
+-- the nodes from a number on begin at a byte or behind it
 abbrev pub NodesFrom : Syntax → ℕ → ℕ → Type 0
 NodesFrom syntax offset count = (n : ℕ) → HasNode syntax n → count ≤ n → offset ≤ start_of syntax (node_of syntax n)
 

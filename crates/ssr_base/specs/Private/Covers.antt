@@ -22,7 +22,7 @@ abbrev pub CoversFrom : Syntax → List (Option Span) → ℕ → List Stored �
 CoversFrom syntax origins from list =
     (n : ℕ) (cover : Stored) → from ≤ n → slice_get list n ≡ Some cover → plain_cover cover ≡ cover_below origins (node_of syntax n)
 
--- there is one for each node
+-- what is stored covers the origins of the tokens of each node of a tree, one cover for each
 pub record AreCovers (syntax : Syntax) (origins : List (Option Span)) (list : List Stored) : Type 0 where
   pub counted : length list ≡ 1 + node_count syntax.children
   pub each : CoversFrom syntax origins 0 list

@@ -16,7 +16,7 @@ scopes_in t n (row ∷ rows) =
 abbrev pub IsBetter : Scope → Scope → Type 0
 IsBetter a b = (a.end - a.start < b.end - b.start) ⊎ ((a.end - a.start ≡ b.end - b.start) × (b.number < a.number))
 
--- or it is the same row
+-- a scope is shorter than another one, or as short and its row stands behind or is the same
 abbrev pub AsGood : Scope → Scope → Type 0
 AsGood a b = (a.end - a.start < b.end - b.start) ⊎ ((a.end - a.start ≡ b.end - b.start) × (b.number ≤ a.number))
 
@@ -31,7 +31,7 @@ IsBest start end scopes (Some v) =
 
 -- ** What is kept of the scopes that began, at their ends.
 
--- a scope is kept that ends as far behind and is as good
+-- a scope is kept that ends where y does or behind it, and is as good as y
 pub record Covers (kept : ℕ → Option Scope) (y : Scope) : Type 0 where
   pub end : ℕ
   pub scope : Scope
@@ -40,32 +40,32 @@ pub record Covers (kept : ℕ → Option Scope) (y : Scope) : Type 0 where
   pub good : AsGood scope y
 
 pub record IsKept (kept : ℕ → Option Scope) (begun : List Scope) : Type 0 where
-  -- each stands at its end
+  -- each kept scope stands at its end
   pub own : (k : ℕ) (v : Scope) → kept k ≡ Some v → (v.end ≡ k) × Contains begun v
-  -- those that end farther behind are worse
+  -- kept scopes that end farther behind are worse
   pub stairs : (j k : ℕ) (a b : Scope) → j < k → kept j ≡ Some a → kept k ≡ Some b → IsBetter a b
   pub covered : (y : Scope) → Contains begun y → Covers kept y
 
--- the same while a scope comes in: it covers what goes out for it, and is better than what stays at its end or behind it
+-- scopes are kept while x comes in: it covers what goes out for it, and is better than what stays at its end or behind it
 pub record IsKeptBeside (kept : ℕ → Option Scope) (begun : List Scope) (x : Scope) : Type 0 where
   pub own : (k : ℕ) (v : Scope) → kept k ≡ Some v → (v.end ≡ k) × Contains begun v
   pub stairs : (j k : ℕ) (a b : Scope) → j < k → kept j ≡ Some a → kept k ≡ Some b → IsBetter a b
   pub covered : (y : Scope) → Contains begun y → Covers kept y ⊎ ((y.end ≤ x.end) × AsGood x y)
   pub behind : (k : ℕ) (v : Scope) → x.end ≤ k → kept k ≡ Some v → IsBetter x v
 
--- the first that is kept at an end or behind it
+-- the first scope that is kept at an end or behind it
 abbrev pub IsFirst : (ℕ → Option Scope) → ℕ → Option Scope → Type 0
 IsFirst kept end None = (k : ℕ) (v : Scope) → end ≤ k → kept k ≡ Some v → ⊥
 IsFirst kept end (Some v) = (k : ℕ) × (end ≤ k) × (kept k ≡ Some v) × ((j : ℕ) (u : Scope) → end ≤ j → kept j ≡ Some u → k ≤ j)
 
--- the last that is kept up to a scope's end, where that is as good: it goes out for it
+-- the last scope that is kept up to the end of x, where x is as good: it goes out for x
 pub record IsWorse (kept : ℕ → Option Scope) (x : Scope) (end : ℕ) : Type 0 where
   pub scope : Scope
   pub is : kept end ≡ Some scope
   pub within : end ≤ x.end
   pub worse : AsGood x scope
 
--- and where nothing goes out, the last one is better
+-- where nothing goes out for x, the last scope that is kept up to its end is better than x
 pub record IsPassed (kept : ℕ → Option Scope) (x : Scope) (k : ℕ) : Type 0 where
   pub end : ℕ
   pub scope : Scope

@@ -25,7 +25,7 @@ abbrev pub spaced : List RawToken → List SyntaxKind
 spaced [] = []
 spaced (t ∷ ts) = t.kind ∷ behind t.joint (spaced ts)
 
--- the tokens put together
+-- these are the tokens that are handed in, put together
 abbrev pub IsGathered : List ExpToken → Gathered → List RawToken → Type 0
 IsGathered tokens g raw =
     (raw_from 0 tokens ≡ Ok raw)
@@ -33,12 +33,12 @@ IsGathered tokens g raw =
     × (g.rows ≡ map row_of raw)
     × (g.kinds.items ≡ spaced raw)
 
--- or why the first text that is no token is refused; want of memory says nothing
+-- the tokens are put together, or it is told why the first text that is no token is refused; want of memory says nothing
 abbrev pub AreGathered : List ExpToken → Result Gathered SyntaxError → Type 0
 AreGathered tokens (Ok g) = (raw : List RawToken) × IsGathered tokens g raw
 AreGathered tokens (Err e) = e ≢ errors.Memory → raw_from 0 tokens ≡ Err e
 
--- These tokens are the front, and behind them are those that are left.
+-- The raw tokens are those of the front, with their texts, rows and kinds, and `rest` are the tokens that are left behind it.
 pub record IsFront (tokens rest : List ExpToken) (text : List ℕ) (rows : List TokenRow) (kinds : List SyntaxKind) (raw : List RawToken) : Type 0 where
   pub texts : text ++ expansion_text rest ≡ expansion_text tokens
   pub rows_are : rows ≡ map row_of raw

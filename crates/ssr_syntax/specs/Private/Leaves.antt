@@ -16,7 +16,7 @@ leaves done = []
 leaves (leaf kind tokens x) = record { kind = kind; size = length tokens } ∷ leaves x
 leaves (tree kind kids x) = leaves kids ++ leaves x
 
--- where the parser is behind them
+-- where the parser is behind these tokens of the tree
 abbrev pub after : List Taken → Place → Place
 after [] p = p
 after (u ∷ us) p = after us (behind_token u.size p)

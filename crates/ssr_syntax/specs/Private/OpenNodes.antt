@@ -8,12 +8,12 @@ use Rattle.ssr_syntax.specs.Private.Preorder.{OkUnlessDeep}
 use Rattle.ssr_syntax.specs.Private.Turning.{TurningRows}
 use Rattle.ssr_syntax.specs.Reading.{most_deep}
 
--- those that stay open
+-- the nodes that stay open when those that begin at `place` or behind it are closed
 abbrev pub still_open : ℕ → List Open → List Open
 still_open place [] = []
 still_open place (inner ∷ above) = if nat_le place inner.start then still_open place above else inner ∷ above
 
--- those that are closed
+-- the nodes that begin at `place` or behind it, the innermost one first: they are closed
 abbrev pub closed : ℕ → List Open → List NodeRow
 closed place [] = []
 closed place (inner ∷ above) = if nat_le place inner.start then inner.node ∷ closed place above else []

@@ -8,6 +8,6 @@ pub record PackingRows : Type 0 where
   pub unread : List TokenRow
   pub room : ℕ
 
--- of rows whose first ones are packed and whose last ones, from a place on, are unread
+-- rows on their way whose first ones are packed and whose last ones, from a place on, are unread
 abbrev pub packed_of : List TokenRow → ℕ → ℕ → PackingRows
 packed_of rows packed unread = record { packed = take packed rows; unread = drop unread rows; room = unread - packed }

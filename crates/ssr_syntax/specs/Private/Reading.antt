@@ -1,4 +1,4 @@
--- Private: what the calls below give.
+-- Private: what the steps of reading a text give.
 use Rattle.std.specs.Prelude.{◌≡◌, ◌≢◌, ℕ, ◌^◌, ◌<◌, List, length, map, Option, Some, None, Result, Ok, Err}
 use Rattle.ssr_syntax_kinds.specs.declared.kinds.SyntaxKind.{SyntaxKind}
 use Rattle.ssr_syntax_kinds.specs.declared.token_rows.TokenRow.{TokenRow}

@@ -8,6 +8,6 @@ pub record TurningRows : Type 0 where
   pub turned : List NodeRow
   pub room : ℕ
 
--- of rows whose first ones are unread and whose last ones, from a place on, are turned
+-- rows on their way whose first ones are unread and whose last ones, from a place on, are turned
 abbrev pub turned_of : List NodeRow → ℕ → ℕ → TurningRows
 turned_of rows unread turned = record { unread = take unread rows; turned = reverse (drop turned rows); room = turned - unread }
