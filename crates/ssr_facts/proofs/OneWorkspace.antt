@@ -78,11 +78,11 @@ with_raw made bytes rest = unless_refused (λ kind. unless_refused (λ raw. Ok (
 
 raw_token_same : (start : ℕ) (t u : ExpToken) → row_of_token t ≡ row_of_token u → raw_token start t ≡ raw_token start u
 raw_token_same start t u same =
-    ap (λ (r : PlainToken) kind. record {
+    subst (λ (r : PlainToken). raw_token start t ≡ (λ kind. record {
       kind = kind;
       range = record { start = start; end = start + length r.text; ordered = le-add_right start (length r.text) };
       joint = r.joint;
-    }) same
+    })) same refl
 
 raw_same : (start : ℕ) (ts us : List ExpToken) → map row_of_token ts ≡ map row_of_token us → raw_from start ts ≡ raw_from start us
 raw_same start [] [] same = refl
