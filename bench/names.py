@@ -177,7 +177,7 @@ def main():
         packages = options.keep or os.path.join(folder, "packages")
         fetch(packages, options.packages)
         files = unpack(packages, options.packages, os.path.join(folder, "source"))
-        paths, _ = modules(program, files, len(files), folder)
+        paths = modules(program, files, folder)
         print("%-24s %10s %8s %10s %8s %9s %9s" % ("rules", "bytes", "matches", "search ms", "MB/s", "nothing", "no path"))
         for megabytes in options.megabytes:
             taken = some_files(paths, 1e6 * megabytes)

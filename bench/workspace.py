@@ -49,23 +49,18 @@ def is_read(program, path):
     return run.returncode == 0
 
 
-def modules(program, files, most, folder):
-    """The paths of so many files, each a module with the text of one of the files, and that of one file with all of them."""
+def modules(program, files, folder):
+    """The paths of modules with the text of one of the files each: of those files that are read so."""
     paths = []
-    whole = os.path.join(folder, "whole.rs")
-    with open(whole, "wb") as all_modules:
-        for path in files:
-            if len(paths) == most:
-                break
-            with open(path, "rb") as file:
-                text = module(len(paths), file.read())
-            cut = os.path.join(folder, "m%d.rs" % len(paths))
-            with open(cut, "wb") as file:
-                file.write(text)
-            if is_read(program, cut):
-                paths.append(cut)
-                all_modules.write(text)
-    return paths, whole
+    for path in files:
+        with open(path, "rb") as file:
+            text = module(len(paths), file.read())
+        cut = os.path.join(folder, "m%d.rs" % len(paths))
+        with open(cut, "wb") as file:
+            file.write(text)
+        if is_read(program, cut):
+            paths.append(cut)
+    return paths
 
 
 def following(paths, count, size):
@@ -127,8 +122,7 @@ def main():
         packages = options.keep or os.path.join(folder, "packages")
         fetch(packages, options.packages)
         files = unpack(packages, options.packages, os.path.join(folder, "source"))
-        readable, _ = modules(program, files, len(files), folder)
-        paths = following(readable, options.files, int(1e6 * options.megabytes))
+        paths = following(modules(program, files, folder), options.files, int(1e6 * options.megabytes))
         whole = joined(paths, folder)
         many = "".join(path + "\n" for path in paths).encode()
         one = (whole + "\n").encode()
