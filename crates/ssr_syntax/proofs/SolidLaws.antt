@@ -80,6 +80,12 @@ never_joined k.PIPE kind e = cc
 never_joined k.L_ANGLE kind e = cc
 never_joined next kind e = unlike (same_kind kind next) next kind refl refl
 
+-- white space and comments are no last part
+pub trivia_ends_none : (kind : SyntaxKind) → is_trivia kind ≡ true → ends_joined kind ≡ false
+trivia_ends_none k.WHITESPACE trivia = refl
+trivia_ends_none k.COMMENT trivia = refl
+trivia_ends_none _ trivia = absurd (cc)
+
 -- nothing is joined with a token that is no last part
 pub stands_alone : (kind : SyntaxKind) (kinds : List SyntaxKind) (next : SyntaxKind) → slice_get kinds 0 ≡ Some next → ends_joined next ≡ false
     → with_next kind kinds ≡ None

@@ -87,13 +87,13 @@ fn ends_joined(kind: SyntaxKind) -> bool
 }
 
 /// Whether a token may be joined with the first of those behind it. Most tokens stand alone, and the kind of the next one
-/// tells it of nearly all.
+/// tells it of nearly all: it is white space, or no punctuation that ends joined tokens.
 fn may_go_on(behind: &[SyntaxKind]) -> bool
     ensures { (kind : SyntaxKind) → result ≡ false → with_next kind behind.now ≡ None }
 {
     match behind.first() {
         None => false,
-        Some(next) => ends_joined(*next),
+        Some(next) => !next.is_trivia() && ends_joined(*next),
     }
 }
 

@@ -3,6 +3,7 @@ mod Results
 mod MemoryFree
 mod Joins
 mod PlaceLaws
+mod Alone
 mod Nested
 mod Walks
 mod Loops

@@ -1,8 +1,8 @@
 -- Places, and what is behind white space, comments and solid tokens.
-use Rattle.std.proofs.Common.{◌≡◌, ℕ, zero, suc, ◌+◌, ◌-◌, true, false, if◌then◌else◌, List, [], ◌∷◌, length, refl, ap, ◌∙◌, arith}
+use Rattle.std.proofs.Common.{◌≡◌, ℕ, zero, suc, ◌+◌, ◌-◌, true, false, if◌then◌else◌, List, [], ◌∷◌, length, refl, ap, sym, ◌∙◌, arith}
 use Rattle.ssr_syntax_kinds.specs.declared.kinds.SyntaxKind.{SyntaxKind}
-use Rattle.ssr_syntax_kinds.specs.Kinds.{is_trivia}
-use Rattle.ssr_syntax_forms.specs.Places.{leading, behind_trivia, behind_solid, Place, place_at}
+use Rattle.ssr_syntax_kinds.specs.Kinds.{is_trivia, same_kind}
+use Rattle.ssr_syntax_forms.specs.Places.{leading, behind_trivia, behind_solid, behind_token, is_alone, Place, place_at}
 
 pub leading-behind : (ks : List SyntaxKind) → leading ks + length (behind_trivia ks) ≡ length ks
 leading-behind [] = refl
@@ -23,3 +23,12 @@ counted_place end ks rest e =
     let place : ℕ → List SyntaxKind → Place = λ next kinds. record { end = end; next = next; kinds = kinds } in
     let count : length ks - length rest ≡ leading ks = omega (arith, ap length e, leading-behind ks) in
     ap (λ n. place (end + n) rest) count ∙ ap (place (end + leading ks)) e
+
+-- behind a token that is one of the text as it is
+pub alone_next : (kind first : SyntaxKind) (others : List SyntaxKind) (here there : Place) (end : ℕ) → here.kinds ≡ first ∷ others → same_kind first kind ≡ true → is_trivia first ≡ false
+    → there ≡ place_at end others → end ≡ here.next + 1 → (is_alone kind 1 here.kinds ≡ true) × (there ≡ behind_token 1 here)
+alone_next kind first others here there end is same solid place count =
+    let behind : behind_solid 1 here.kinds ≡ others = ap (behind_solid 1) is ∙ (ap (λ b. behind_solid (if b then 1 else 0) others) solid ∙ behind_none 0 others refl) in (
+      ap (is_alone kind 1) is ∙ rw same refl,
+      place ∙ (ap (λ n. place_at n others) (omega (arith, count)) ∙ ap (place_at (1 + here.next)) (sym behind)),
+    )

@@ -276,6 +276,20 @@ impl<'a> Parser<'a> {
     fn take(&mut self, kind: SyntaxKind, size: u8, rest: &'a [Token]) -> Result<(), Fault>
         ensures { Steps self.new result (taken_with kind (size - 1) rest.entry.now self.old.out) }
     {
+        if size == 1
+            && let Some(place) = self.place.behind_alone(kind)
+        {
+            self.rest = rest;
+            self.place = place;
+            return Ok(());
+        }
+        self.take_any(kind, size, rest)
+    }
+
+    /// The same, also of a token that is none of the text as it is.
+    fn take_any(&mut self, kind: SyntaxKind, size: u8, rest: &'a [Token]) -> Result<(), Fault>
+        ensures { Steps self.new result (taken_with kind (size - 1) rest.entry.now self.old.out) }
+    {
         let more = size.saturating_sub(1);
         if more as usize > rest.len() {
             return Err(Fault::NoTree);

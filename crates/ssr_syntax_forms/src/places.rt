@@ -1,6 +1,6 @@
 //! Where the parser is in a text: which token of the grammar comes next, what its number is among all tokens of the tree,
 //! and which of the text's tokens are left.
-ghost use Rattle.std.specs.Prelude.{◌≡◌, IfOk};
+ghost use Rattle.std.specs.Prelude.{◌≡◌, ◌+◌, ◌<◌, ◌^◌, true, length, IfOk, IfSome};
 ghost use Rattle.ssr_syntax_forms.specs.Places.{behind_trivia, behind_solid, behind_token, is_alone, place_at};
 
 use crate::rows::MOST_COUNTED;
@@ -8,7 +8,7 @@ use ssr_syntax_kinds::SyntaxKind;
 use std::alloc::AllocError;
 use std::marker::Model;
 
-/// Between two tokens of the grammar.
+/// Between two tokens of the grammar. All tokens of a tree are counted, those that are left too.
 #[derive(Drop)]
 pub(crate) struct Place<'a> {
     /// The number past the token in front.
@@ -20,11 +20,14 @@ pub(crate) struct Place<'a> {
 }
 
 impl<'a> Model for Place<'a> {
+    ghost use Rattle.std.specs.Prelude.{◌+◌, ◌<◌, ◌^◌, length};
     ghost use Rattle.ssr_syntax_forms.specs.Places.{Place};
 
     ghost Value = { Place };
 
     ghost view = { λ p. record { end = p.end; next = p.next; kinds = p.kinds.now } };
+
+    ghost invariant = { λ p. p.next + length p.kinds.now < 2 ^ 32 };
 }
 
 /// What is behind the white space and comments in front.
@@ -68,16 +71,25 @@ impl<'a> Place<'a> {
     pub(crate) fn at(end: usize, kinds: &'a [SyntaxKind]) -> Result<Place<'a>, AllocError>
         ensures { IfOk result (λ p. p ≡ place_at end kinds.entry.now) }
     {
-        let rest = behind_trivia(kinds);
-        let leading = kinds.len() - rest.len();
-        if end > MOST_COUNTED || leading > MOST_COUNTED - end {
+        if end > MOST_COUNTED || kinds.len() > MOST_COUNTED - end {
             return Err(AllocError);
         }
-        Ok(Place {
-            end: end as u32,
-            next: (end + leading) as u32,
+        Ok(Place::counted(end as u32, kinds))
+    }
+
+    /// The same, where that is known to be counted.
+    #[inline(always)]
+    fn counted(end: u32, kinds: &'a [SyntaxKind]) -> Place<'a>
+        requires { end + length kinds.now < 2 ^ 32 }
+        ensures { result ≡ place_at end kinds.entry.now }
+    {
+        let rest = behind_trivia(kinds);
+        let leading = (kinds.len() - rest.len()) as u32;
+        Place {
+            end,
+            next: end + leading,
             kinds: rest,
-        })
+        }
     }
 
     /// The number past the token in front.
@@ -94,6 +106,19 @@ impl<'a> Place<'a> {
         ensures { result ≡ self.now.next }
     {
         self.next
+    }
+
+    /// Behind the next token of the grammar, where that is one of the text as it is, and of this kind. This is what nearly
+    /// all are; without an answer nothing is known.
+    #[inline(always)]
+    pub(crate) fn behind_alone(&self, kind: SyntaxKind) -> Option<Place<'a>>
+        ensures { IfSome result (λ p. (is_alone kind 1 self.now.kinds ≡ true) × (p ≡ behind_token 1 self.now)) }
+    {
+        let (first, others) = self.kinds.split_first()?;
+        if *first != kind || first.is_trivia() {
+            return None;
+        }
+        Some(Place::counted(self.next + 1, others))
     }
 
     /// Whether the next token of the grammar is one of the text as it is, if it is of this kind and joined from so many.

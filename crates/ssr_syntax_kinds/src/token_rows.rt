@@ -1,6 +1,8 @@
 //! The rows of a text's tokens: five bytes for each.
 
-ghost use Rattle.std.specs.Prelude.{◌≡◌, ◌<◌, ◌∷◌, ◌++◌, [], length, map, take, slice_get, slice_set, Some, ◌==◌, IfOk, MatchResult};
+ghost use Rattle.std.specs.Prelude.{◌≡◌, ◌<◌, ◌∷◌, ◌++◌, [], length, map, take, slice_get, slice_set, Some, ◌==◌, MatchResult};
+ghost use Rattle.std.specs.Simd.Lanes.{zip2};
+ghost use Rattle.ssr_syntax_kinds.specs.TokenRows.{row_with};
 
 use crate::kinds::SyntaxKind;
 use std::alloc::{AllocError, Global};
@@ -44,14 +46,12 @@ impl TokenRows {
         }
     }
 
-    /// No rows, with room for so many.
-    pub fn with_capacity(alloc: Global, count: usize) -> Result<TokenRows, AllocError>
-        ensures { IfOk result (λ rows. rows ≡ []) }
+    /// The rows of tokens of these kinds, which begin there.
+    pub fn from_columns(kinds: Vec<SyntaxKind>, starts: Vec<u32>) -> TokenRows
+        requires { length kinds.items ≡ length starts.items }
+        ensures { result ≡ zip2 row_with kinds.items starts.items }
     {
-        Ok(TokenRows {
-            kinds: Vec::with_capacity(alloc, count)?,
-            starts: Vec::with_capacity(alloc, count)?,
-        })
+        TokenRows { kinds, starts }
     }
 
     /// How many rows there are.

@@ -1,13 +1,15 @@
 -- The loop that cuts a text into tokens: what is known of what it has, and of what is left.
-use Rattle.std.proofs.Common.{◌≡◌, ℕ, suc, zero, ◌+◌, ◌-◌, ◌<◌, ◌≤◌, ◌==◌, true, false, if◌then◌else◌, List, [], ◌∷◌, ◌++◌, length, map, refl, sym, ap, subst, ◌∙◌, arith, append_assoc}
+use Rattle.std.proofs.Common.{◌≡◌, ℕ, suc, zero, ◌+◌, ◌-◌, ◌<◌, ◌≤◌, ◌==◌, true, false, if◌then◌else◌, List, [], ◌∷◌, ◌++◌, length, map, vec_len, vec_capacity, refl, sym, ap, subst, ◌∙◌, arith, append_assoc}
 use Rattle.std.specs.Prelude.{Option, Some, None}
 use Rattle.std.specs.Option.{option_map, option_map_or, option_and_then}
 use Rattle.std.specs.Str.{chars}
+use Rattle.std.specs.declared.vec.Vec.{Vec}
 use Rattle.ssr_syntax_lex.specs.Cursor.{Chars}
 use Rattle.ssr_syntax_lex.specs.Raw.{Taken, token, fault_of}
 use Rattle.ssr_syntax_lex.specs.Tokens.{size, range_of, in_front, dots_behind, tokens_from, tokens, fault_from, fault, row_of, rows_in}
 use Rattle.ssr_syntax_lex.specs.Fault.{words_at}
 use Rattle.ssr_syntax_kinds.specs.Kinds.{same_kind}
+use Rattle.ssr_syntax_kinds.specs.TokenRows.{row_with}
 use Rattle.ssr_syntax_kinds.specs.declared.kinds.SyntaxKind.TheVariants as k
 use Rattle.ssr_syntax_kinds.specs.declared.kinds.SyntaxKind.{SyntaxKind}
 use Rattle.ssr_syntax_kinds.specs.declared.token_rows.TokenRow.{TokenRow}
@@ -22,6 +24,12 @@ pub record Cutting (whole : Option (List TokenRow)) (told : Option (List ℕ)) (
   pub tells : fault_from fuel start dots rest ≡ told
   pub place : start + size rest ≡ total
   pub few : dots ≤ start
+
+-- The columns of the rows that are there are of one length, and have room for a token of each byte that is left.
+pub record HasRoom {Z : Type 0} (kinds : Vec SyntaxKind Z) (starts : Vec ℕ Z) (rest : Chars) : Type 0 where
+  pub beside : length kinds.items ≡ length starts.items
+  pub kinds_fit : vec_len kinds + size rest ≤ vec_capacity kinds
+  pub starts_fit : vec_len starts + size rest ≤ vec_capacity starts
 
 nothing_yet : (o : Option (List RawToken)) → option_map (λ ts. let none : List TokenRow = [] in none ++ map row_of ts) o ≡ option_map (map row_of) o
 nothing_yet None = refl
@@ -50,27 +58,24 @@ fault_behind fuel start dots c cs kind rest e =
     let here : Option (List ℕ) = Some (words_at (fault_of (c ∷ cs)) start) in
     ap (λ o. option_map_or (λ (taken : Taken). let count : ℕ = size (c ∷ cs) - size taken.1 in fault_from fuel (start + count) (dots_behind dots taken.0) taken.1) o here) e
 
-abbrev row : SyntaxKind → ℕ → TokenRow
-row kind start = record { kind = kind; start = start }
-
 -- the row of the next token stands behind those that are there
-pass_on : (done : List TokenRow) (kind : SyntaxKind) (start count : ℕ) (o : Option (List RawToken)) → option_map (λ ts. done ++ map row_of ts) (option_map (in_front kind (range_of start count)) o) ≡ option_map (λ ts. (done ++ row kind start ∷ []) ++ map row_of ts) o
+pass_on : (done : List TokenRow) (kind : SyntaxKind) (start count : ℕ) (o : Option (List RawToken)) → option_map (λ ts. done ++ map row_of ts) (option_map (in_front kind (range_of start count)) o) ≡ option_map (λ ts. (done ++ row_with kind start ∷ []) ++ map row_of ts) o
 pass_on done kind start count None = refl
 pass_on done kind start count (Some ts) =
-    ap (λ (rows : List TokenRow). let all : Option (List TokenRow) = Some rows in all) (sym (append_assoc done (row kind start ∷ []) (map row_of ts)))
+    ap (λ (rows : List TokenRow). let all : Option (List TokenRow) = Some rows in all) (sym (append_assoc done (row_with kind start ∷ []) (map row_of ts)))
 
 few_dots : (dots : ℕ) (kind : SyntaxKind) → dots_behind dots kind ≤ dots + 1
 few_dots dots kind = elim (same_kind kind k.DOT) as (λ b. (if b then dots + 1 else 0) ≤ dots + 1) [ true ↦ omega arith | false ↦ omega arith ]
 
 -- one token further, with the fuel and the place as variables
-step : (whole : Option (List TokenRow)) (told : Option (List ℕ)) (done more : List TokenRow) (fuel start dots next c : ℕ) (cs : Chars) (kind : SyntaxKind) (rest : Chars) → length rest ≤ length cs → suc (length cs) ≤ fuel → option_map (λ ts. done ++ map row_of ts) (tokens_from fuel start dots (c ∷ cs)) ≡ whole → fault_from fuel start dots (c ∷ cs) ≡ told → token dots (c ∷ cs) ≡ Some (kind, rest) → more ≡ done ++ row kind start ∷ [] → next ≡ start + (size (c ∷ cs) - size rest) → (left : ℕ) × (length rest ≤ left) × (option_map (λ ts. more ++ map row_of ts) (tokens_from left next (dots_behind dots kind) rest) ≡ whole) × (fault_from left next (dots_behind dots kind) rest ≡ told)
+step : (whole : Option (List TokenRow)) (told : Option (List ℕ)) (done more : List TokenRow) (fuel start dots next c : ℕ) (cs : Chars) (kind : SyntaxKind) (rest : Chars) → length rest ≤ length cs → suc (length cs) ≤ fuel → option_map (λ ts. done ++ map row_of ts) (tokens_from fuel start dots (c ∷ cs)) ≡ whole → fault_from fuel start dots (c ∷ cs) ≡ told → token dots (c ∷ cs) ≡ Some (kind, rest) → more ≡ done ++ row_with kind start ∷ [] → next ≡ start + (size (c ∷ cs) - size rest) → (left : ℕ) × (length rest ≤ left) × (option_map (λ ts. more ++ map row_of ts) (tokens_from left next (dots_behind dots kind) rest) ≡ whole) × (fault_from left next (dots_behind dots kind) rest ≡ told)
 step whole told done more zero start dots next c cs kind rest less enough goes tells e pushed place = absurd (omega arith)
 step whole told done more (suc fuel) start dots next c cs kind rest less enough goes tells e pushed place =
     let count : ℕ = size (c ∷ cs) - size rest in (
       fuel,
       omega arith,
       ap (λ rows. option_map (λ ts. rows ++ map row_of ts) (tokens_from fuel next (dots_behind dots kind) rest)) pushed
-          ∙ (ap (λ n. option_map (λ ts. (done ++ row kind start ∷ []) ++ map row_of ts) (tokens_from fuel n (dots_behind dots kind) rest)) place
+          ∙ (ap (λ n. option_map (λ ts. (done ++ row_with kind start ∷ []) ++ map row_of ts) (tokens_from fuel n (dots_behind dots kind) rest)) place
           ∙ (sym (pass_on done kind start count (tokens_from fuel (start + count) (dots_behind dots kind) rest))
           ∙ (sym (ap (option_map (λ ts. done ++ map row_of ts)) (one_more fuel start dots c cs kind rest e))
           ∙ goes))),
@@ -86,7 +91,7 @@ left_place start here left total h e = omega arith
 few_left : (start here left total dots more : ℕ) → left < here → start + here ≡ total → dots ≤ start → more ≤ dots + 1 → more ≤ total - left
 few_left start here left total dots more h e few m = omega arith
 
-gone_on : (whole : Option (List TokenRow)) (told : Option (List ℕ)) (total : ℕ) (done : List TokenRow) (start dots : ℕ) (cs : Chars) (kind : SyntaxKind) (rest : Chars) (more : List TokenRow) → Cutting whole told total done start dots cs → (length cs == 0) ≡ false → token dots cs ≡ Some (kind, rest) → more ≡ done ++ row kind start ∷ [] → Cutting whole told total more (total - size rest) (dots_behind dots kind) rest
+gone_on : (whole : Option (List TokenRow)) (told : Option (List ℕ)) (total : ℕ) (done : List TokenRow) (start dots : ℕ) (cs : Chars) (kind : SyntaxKind) (rest : Chars) (more : List TokenRow) → Cutting whole told total done start dots cs → (length cs == 0) ≡ false → token dots cs ≡ Some (kind, rest) → more ≡ done ++ row_with kind start ∷ [] → Cutting whole told total more (total - size rest) (dots_behind dots kind) rest
 gone_on whole told total done start dots [] kind rest more cutting some e pushed = absurd (cc)
 gone_on whole told total done start dots (c ∷ cs) kind rest more cutting some e pushed =
     let less = shorter c cs rest (token_leaves dots c cs (kind, rest) e) in
@@ -104,7 +109,7 @@ gone_on whole told total done start dots (c ∷ cs) kind rest more cutting some 
     }
 
 -- the same, with the numbers as the code has them
-pub gone_to : (whole : Option (List TokenRow)) (told : Option (List ℕ)) (total : ℕ) (done : List TokenRow) (start dots : ℕ) (cs : Chars) (kind : SyntaxKind) (rest : Chars) (more : List TokenRow) (next points : ℕ) → Cutting whole told total done start dots cs → (length cs == 0) ≡ false → token dots cs ≡ Some (kind, rest) → more ≡ done ++ row kind start ∷ [] → next ≡ total - size rest → points ≡ dots_behind dots kind → Cutting whole told total more next points rest
+pub gone_to : (whole : Option (List TokenRow)) (told : Option (List ℕ)) (total : ℕ) (done : List TokenRow) (start dots : ℕ) (cs : Chars) (kind : SyntaxKind) (rest : Chars) (more : List TokenRow) (next points : ℕ) → Cutting whole told total done start dots cs → (length cs == 0) ≡ false → token dots cs ≡ Some (kind, rest) → more ≡ done ++ row_with kind start ∷ [] → next ≡ total - size rest → points ≡ dots_behind dots kind → Cutting whole told total more next points rest
 gone_to whole told total done start dots cs kind rest more next points cutting some e pushed n p =
     let there = gone_on whole told total done start dots cs kind rest more cutting some e pushed in
     subst (λ (x : ℕ). Cutting whole told total more x points rest) (sym n)
@@ -119,6 +124,7 @@ pub record Ahead (total start dots : ℕ) (cs rest : Chars) : Type 0 where
   pub begins : start ≤ total - size rest
   pub few : dots + 1 ≤ total
   pub less : length rest < length cs
+  pub shorter : size rest < size cs
 
 ahead_bounds : (total start dots here left : ℕ) → left < here → start + here ≡ total → dots ≤ start → (left ≤ total) × (start ≤ total - left) × (dots + 1 ≤ total)
 ahead_bounds total start dots here left h e few = (omega arith, omega arith, omega arith)
@@ -128,4 +134,4 @@ looked_ahead whole told total done start dots [] kind rest cutting some e = absu
 looked_ahead whole told total done start dots (c ∷ cs) kind rest cutting some e =
     let less = shorter c cs rest (token_leaves dots c cs (kind, rest) e) in
     let bounds = ahead_bounds total start dots (size (c ∷ cs)) (size rest) less.1 cutting.place cutting.few in
-    record { left = bounds.0; begins = bounds.1; few = bounds.2; less = one_less (length rest) (length cs) less.0 }
+    record { left = bounds.0; begins = bounds.1; few = bounds.2; less = one_less (length rest) (length cs) less.0; shorter = less.1 }

@@ -71,8 +71,10 @@ other_row dots c cs white word digit first plain is_white is_word is_a_digit =
     ∙ (ap (λ b. if white then Some (k.WHITESPACE, past is_whitespace cs) else (if b then Some (kind_of_word cs, past_word cs) else (if is_digit c then Some (number dots cs) else punctuation cs))) is_word
     ∙ ap (λ b. if white then Some (k.WHITESPACE, past is_whitespace cs) else (if word then Some (kind_of_word cs, past_word cs) else (if b then Some (number dots cs) else punctuation cs))) is_a_digit))
 
-pub token_white : (dots c : ℕ) (cs : Chars) → slice_get cs 0 ≡ Some c → IsPlain c → is_whitespace c ≡ true → token dots cs ≡ Some (k.WHITESPACE, past is_whitespace cs)
-token_white dots c cs first plain white = other_row dots c cs true (starts_word c) (is_digit c) first plain white refl refl
+pub token_white : (dots c : ℕ) (cs : Chars) → slice_get cs 0 ≡ Some c → is_whitespace c ≡ true → token dots cs ≡ Some (k.WHITESPACE, past is_whitespace (drop 1 cs))
+unfolding token
+token_white dots c = from_front (λ cs. is_whitespace c ≡ true → token dots cs ≡ Some (k.WHITESPACE, past is_whitespace (drop 1 cs))) c
+    (λ cs white. rw white refl)
 
 pub token_word : (dots c : ℕ) (cs : Chars) → slice_get cs 0 ≡ Some c → IsPlain c → is_whitespace c ≡ false → starts_word c ≡ true → token dots cs ≡ Some (kind_of_word cs, past_word cs)
 token_word dots c cs first plain white word = other_row dots c cs false true (is_digit c) first plain white word refl

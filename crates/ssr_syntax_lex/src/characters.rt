@@ -6,9 +6,12 @@ ghost use Rattle.ssr_syntax_lex.specs.Characters as spec;
 pub(crate) fn is_whitespace(c: char) -> bool
     ensures { result ≡ spec.is_whitespace c }
 {
+    if c.is_ascii() {
+        return c == ' ' || matches!(c, '\u{9}'..='\u{d}');
+    }
     matches!(
         c,
-        '\u{9}'..='\u{d}' | ' ' | '\u{85}' | '\u{200e}' | '\u{200f}' | '\u{2028}' | '\u{2029}'
+        '\u{85}' | '\u{200e}' | '\u{200f}' | '\u{2028}' | '\u{2029}'
     )
 }
 

@@ -186,6 +186,7 @@ fn eat_other(cursor: &mut Cursor<'_>, first: char, dots: u32) -> Result<SyntaxKi
         return Ok(kind);
     }
     if is_whitespace(first) {
+        cursor.bump();
         cursor.eat_while(is_whitespace);
         return Ok(SyntaxKind::WHITESPACE);
     }

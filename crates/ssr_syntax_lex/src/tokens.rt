@@ -116,8 +116,9 @@ fn cut(alloc: Global, text: &str) -> Result<TokenRows, LexError>
 {
     let mut cursor = Cursor::new(text);
     let total = cursor.len();
-    // Code has a token for every two bytes or so.
-    let mut rows = TokenRows::with_capacity(alloc, total / 2 + 1)?;
+    // A token has a byte at least, so there is room for all of them. Room that isn't written to takes no memory.
+    let mut kinds = Vec::with_capacity(alloc, total)?;
+    let mut starts = Vec::with_capacity(alloc, total)?;
     let mut start = 0u32;
     let mut dots = 0u32;
     while !cursor.is_empty() {
@@ -125,11 +126,12 @@ fn cut(alloc: Global, text: &str) -> Result<TokenRows, LexError>
             Ok(kind) => kind,
             Err(kind) => return Err(LexError::Fault(LexFault { kind, start })),
         };
-        rows.push(TokenRow { kind, start })?;
+        kinds.push_reserved(kind);
+        starts.push_reserved(start);
         dots = dots_behind(dots, kind);
         start = (total - cursor.len()) as u32;
     }
-    Ok(rows)
+    Ok(TokenRows::from_columns(kinds, starts))
 }
 
 /// The raw tokens of rows, of which the last one ends at the byte `total`.

@@ -1,6 +1,6 @@
 use Rattle.std.proofs.Common.{ap, sym, refl, ◌∙◌, map}
 use Rattle.ssr_syntax_kinds.proofs.Zips.{map-zip2}
-use Rattle.ssr_syntax_kinds.specs.Private.TokenRows.{row_with}
+use Rattle.ssr_syntax_kinds.specs.TokenRows.{row_with}
 use Rattle.ssr_syntax_kinds.proofs.token_rows.TokenRows.kinds.Goals as goal
 
 pub returns : goal.returns

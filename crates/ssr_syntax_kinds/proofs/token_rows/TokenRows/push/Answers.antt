@@ -1,6 +1,6 @@
 use Rattle.std.proofs.Common.{◌+◌, ap, length-append}
 use Rattle.ssr_syntax_kinds.proofs.Zips.{zip2-push, popped}
-use Rattle.ssr_syntax_kinds.specs.Private.TokenRows.{row_with}
+use Rattle.ssr_syntax_kinds.specs.TokenRows.{row_with}
 use Rattle.ssr_syntax_kinds.proofs.token_rows.TokenRows.push.Goals as goal
 
 pub invariant_of-self : goal.invariant_of-self

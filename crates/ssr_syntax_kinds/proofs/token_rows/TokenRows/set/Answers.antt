@@ -1,7 +1,7 @@
 use Rattle.std.proofs.Common.{arith}
 use Rattle.ssr_syntax_kinds.proofs.Zips.{zip2-set}
 use Rattle.ssr_syntax_kinds.proofs.RowCounts.{kinds_counted, starts_counted}
-use Rattle.ssr_syntax_kinds.specs.Private.TokenRows.{row_with}
+use Rattle.ssr_syntax_kinds.specs.TokenRows.{row_with}
 use Rattle.ssr_syntax_kinds.proofs.token_rows.TokenRows.set.Goals as goal
 
 pub index_mut-requires : goal.index_mut-requires

@@ -1,5 +1,5 @@
 use Rattle.ssr_syntax_kinds.proofs.Zips.{zip2-take}
-use Rattle.ssr_syntax_kinds.specs.Private.TokenRows.{row_with}
+use Rattle.ssr_syntax_kinds.specs.TokenRows.{row_with}
 use Rattle.ssr_syntax_kinds.proofs.token_rows.TokenRows.truncate.Goals as goal
 
 pub returns : goal.returns
