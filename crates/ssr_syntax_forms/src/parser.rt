@@ -283,11 +283,11 @@ impl<'a> Parser<'a> {
             self.place = place;
             return Ok(());
         }
-        self.take_any(kind, size, rest)
+        self.take_joined(kind, size, rest)
     }
 
-    /// The same, also of a token that is none of the text as it is.
-    fn take_any(&mut self, kind: SyntaxKind, size: u8, rest: &'a [Token]) -> Result<(), Fault>
+    /// The same, also of a token that is joined from several.
+    fn take_joined(&mut self, kind: SyntaxKind, size: u8, rest: &'a [Token]) -> Result<(), Fault>
         ensures { Steps self.new result (taken_with kind (size - 1) rest.entry.now self.old.out) }
     {
         let more = size.saturating_sub(1);
