@@ -107,9 +107,9 @@ module _ (ms : Meanings) (tree : ℕ) (rule : ResolvedKind) where
       subst (λ (s : Sides). Matches ms tree rule p c (kept s.receiver bs)) equal
       (used p c r bs none unmet kinds is (stands_for-told r (code_res ms tree c) can)
       (subst (λ (s : Sides). Pairs ms tree rule s.pattern s.code bs) (sym equal) pairs))
-  pairs_match p c sides bs None none unmet kinds is can same pairs = by (is_named rule.names p c) refl same
+  pairs_match p c sides bs None none unmet kinds is can same pairs = by (is_named rule p c) refl same
     where
-      by_nodes : (o : Option (List Node)) → named_nodes p c ≡ o → is_named rule.names p c ≡ true → option_map (named_pairs p) o ≡ Some sides
+      by_nodes : (o : Option (List Node)) → named_nodes p c ≡ o → is_named rule p c ≡ true → option_map (named_pairs p) o ≡ Some sides
           → Matches ms tree rule p c (kept sides.receiver bs)
       by_nodes None found_is by_names same = absurd (none-some sides same)
       by_nodes (Some found) found_is by_names same =
@@ -118,7 +118,7 @@ module _ (ms : Meanings) (tree : ℕ) (rule : ResolvedKind) where
           (named p c found bs none unmet kinds is can by_names found_is
           (subst (λ (s : Sides). Pairs ms tree rule s.pattern s.code bs) (sym equal) pairs))
 
-      by : (b : Bool) → is_named rule.names p c ≡ b
+      by : (b : Bool) → is_named rule p c ≡ b
           → ◌≡◌ {A = Option Sides} (cond b (option_map (named_pairs p) (named_nodes p c)) (Some (counted_sides None p c))) (Some sides)
           → Matches ms tree rule p c (kept sides.receiver bs)
       by true by_names same = by_nodes (named_nodes p c) refl by_names same

@@ -1,7 +1,9 @@
 -- The arguments of a path's last segment, found from the left.
-use Rattle.std.proofs.Common.{◌≡◌, ℕ, true, false, cond, List, [], ◌∷◌, map, All, Option, Some, None, sym, ◌∙◌, ap, subst, arith}
+use Rattle.std.proofs.Common.{◌≡◌, ℕ, Bool, true, false, cond, List, [], ◌∷◌, ◌++◌, length, map, option_to_list, All, Option, Some, None, sym, ◌∙◌, ap, subst, arith}
+use Rattle.std.specs.Prelude.{◌==◌, is_some, not}
+use Rattle.std.specs.Option.{IfNone, option_map_or}
+use Rattle.std.proofs.Math.Dec.{eqb-suc-zero}
 use Rattle.std.proofs.lemmas.List.Elements.{All-weaker}
-use Rattle.std.specs.Option.{option_map_or}
 use Rattle.ssr_syntax_kinds.specs.declared.kinds.SyntaxKind.TheVariants as k
 use Rattle.ssr_syntax_tree.specs.declared.number.Element.{Element}
 use Rattle.ssr_syntax_tree.specs.declared.number.Element.TheVariants as element
@@ -11,11 +13,11 @@ use Rattle.ssr_syntax_tree.specs.Places.{HasNode, HasElement, Part, IsAbove, ele
 use Rattle.ssr_syntax_tree.proofs.Shared.{IsChild, children_known, parts_of-elements_of, node_of-number, inside}
 use Rattle.ssr_base.specs.declared.semantics.Res.{Res}
 use Rattle.ide_ssr_resolving.specs.Paths.{first_of_kind}
-use Rattle.ide_ssr_matching.specs.declared.children.Siblings.{Siblings}
 use Rattle.ide_ssr_matching.specs.Bindings.{counted}
+use Rattle.ide_ssr_matching.specs.Children.{bare}
 use Rattle.ide_ssr_matching.specs.UsedPaths.{holds_arguments, from_arguments, arguments_of}
-use Rattle.ide_ssr_matching.specs.Private.Children.{siblings_left, IsBelow, AreKept}
-use Rattle.ide_ssr_matching.proofs.Bare.{elements_below, kept-rest, kept-then, not_held, tail_has}
+use Rattle.ide_ssr_matching.specs.Private.Children.{IsBelow, AreKept}
+use Rattle.ide_ssr_matching.proofs.Bare.{elements_below, kept-rest, kept-then, tail_has}
 use Rattle.ide_ssr_matching.proofs.Counted.{first_has}
 
 -- ** Up to the arguments of a segment.
@@ -36,25 +38,6 @@ front-next code before now left child so_far is other = record {
       ∙ ap (λ xs. from_arguments (map (part_of code) xs)) (sym is)
       ∙ so_far.same;
 }
-
--- here they begin
-pub front-ends : (code : Syntax) (before now : List Element) (child : Element) (after : Siblings) → AreInFront code before now
-    → now ≡ child ∷ siblings_left after → after.held ≡ None → holds_arguments (part_of code child) ≡ true
-    → map (part_of code) (child ∷ after.left) ≡ from_arguments (map (part_of code) before)
-front-ends code before now child after so_far is none begins =
-    ap (λ xs. map (part_of code) (child ∷ xs)) (sym (not_held after none))
-    ∙ ap (λ b. cond b (part_of code child ∷ map (part_of code) (siblings_left after)) (from_arguments (map (part_of code) (siblings_left after)))) (sym begins)
-    ∙ ap (λ xs. from_arguments (map (part_of code) xs)) (sym is)
-    ∙ so_far.same
-
-pub front-kept : (before now : List Element) (child : Element) (after : Siblings) → AreKept before now → now ≡ child ∷ siblings_left after → after.held ≡ None
-    → AreKept before (child ∷ after.left)
-front-kept before now child after kept is none = subst (AreKept before) (is ∙ ap (λ xs. child ∷ xs) (not_held after none)) kept
-
-pub front-none : (code : Syntax) (before now left : List Element) → AreInFront code before now → now ≡ [] → left ≡ []
-    → map (part_of code) left ≡ from_arguments (map (part_of code) before)
-front-none code before now left so_far is none =
-    ap (map (part_of code)) none ∙ ap (λ xs. from_arguments (map (part_of code) xs)) (sym is) ∙ so_far.same
 
 -- ** The last segment.
 
@@ -105,3 +88,14 @@ counted_other code n o xs arguments has none are =
 
 pub all_below : (code : Syntax) (n : ℕ) (xs : List Element) → HasNode code n → xs ≡ elements_of (node_of code n) → All (IsBelow code n) xs
 all_below code n xs has are = subst (All (IsBelow code n)) (sym are) (elements_below code n has)
+
+-- ** Whether there are any.
+
+pub lacking_arguments : (tree : Syntax) (found : List Part) (o : Option Element) (left : List Element) (b : Bool) → is_some o ≡ not b
+    → found ≡ map (part_of tree) (option_to_list o) ++ bare (map (part_of tree) left) → IfNone o (left ≡ []) → b ≡ (length found == 0)
+lacking_arguments tree found None left true is gives none =
+    sym (ap (λ parts. length parts == 0) gives ∙ ap (λ left. length (bare (map (part_of tree) left)) == 0) none)
+lacking_arguments tree found None left false is gives none = let e : false ≡ true = is in cc
+lacking_arguments tree found (Some x) left true is gives none = let e : true ≡ false = is in cc
+lacking_arguments tree found (Some x) left false is gives none =
+    sym (ap (λ parts. length parts == 0) gives ∙ eqb-suc-zero (length (bare (map (part_of tree) left))))

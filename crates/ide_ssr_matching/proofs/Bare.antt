@@ -142,9 +142,6 @@ comma-next first parts more xs next is = sym (bare-solid parts) ∙ ap bare next
 pub tail_has : (P : Element → Type 0) (x : Element) (xs : List Element) → All P (x ∷ xs) → All P xs
 tail_has P x xs h i d lt = h (suc i) d (omega arith)
 
-pub kept-same : (xs : List Element) → AreKept xs xs
-kept-same xs = record { has = λ code h. h; below = λ code n h. h; fewer = omega arith }
-
 pub kept-then : (xs ys zs : List Element) → AreKept xs ys → AreKept ys zs → AreKept xs zs
 kept-then xs ys zs a b = record {
   has = λ code h. b.has code (a.has code h);

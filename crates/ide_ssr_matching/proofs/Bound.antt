@@ -31,7 +31,7 @@ use Rattle.ide_ssr_matching.specs.Children.{is_left_out, bare}
 use Rattle.ide_ssr_matching.specs.UsedPaths.{from_arguments, arguments_of, pattern_res}
 use Rattle.ide_ssr_token_trees.specs.Placeholders.{placeholders_from}
 use Rattle.ide_ssr_token_trees.proofs.Shared.{trees_bound}
-use Rattle.ide_ssr_matching.specs.TokenTrees.{is_tree, token_placeholder, has_token_placeholder, is_by_parts}
+use Rattle.ide_ssr_matching.specs.TokenTrees.{is_tree, token_placeholder, has_token_placeholder, is_plain, is_by_parts}
 use Rattle.ide_ssr_matching.specs.Matching.{Matches, bound, token_trees, method, used, alike, Pairs, end, tokens, nodes, named}
 use Rattle.ide_ssr_matching.specs.Bindings.{counted}
 use Rattle.ide_ssr_found.specs.declared.receivers.Receiver.{Receiver}
@@ -111,36 +111,6 @@ module _ (names : List (List ℕ)) where
   at_other : (p : Node) → placeholder_at names p ≡ None → placeholders_below names p.kind p.children ≡ at_node p
   at_other p none = ap (λ o. or_below o (placeholders_below names p.kind p.children)) (sym none)
 
-  no_name : (o : Option ℕ) (rest : List ℕ) → is_some o ≡ false → cons_option o rest ≡ rest
-  no_name None rest is = refl
-  no_name (Some i) rest is = let e : true ≡ false = is in cc
-
-  -- children of which no token is a placeholder
-  among_mixed : (parent n t : ℕ) (forest : Forest) → has_token_placeholder names (parts_in parent n t forest) ≡ false
-      → placeholders_mixed names forest ≡ among (parts_in parent n t forest)
-  unfolding placeholder_at
-  among_mixed parent n t nothing none = refl
-  among_mixed parent n t (leaf token next) none =
-      let both = or_parts (is_some (name_at names token)) (has_token_placeholder names (parts_in parent n (1 + t) next)) none in
-      no_name (name_at names token) (placeholders_mixed names next) both.0 ∙ among_mixed parent n (1 + t) next both.1
-  among_mixed parent n t (branch kind below next) none =
-      ap (λ is. at_node (record { number = n; parent = parent; first = t; kind = kind; children = below }) ++ is)
-      (among_mixed parent (1 + n + node_count below) (t + token_count below) next none)
-
-  -- below a node that is no token tree, and of which no token of its own is a placeholder
-  plain_below : (p : Node) → is_tree p ≡ false → not (same_kind p.kind k.MACRO_RULES && has_token_placeholder names (parts_of p)) ≡ true
-      → placeholders_in names p.children ≡ placeholders_below names p.kind p.children
-  plain_below p other plain =
-      by (same_kind p.kind k.MACRO_RULES) plain
-      ∙ ap (λ b. if b then placeholders_among names (tokens_in p.children) else if same_kind p.kind k.MACRO_RULES then placeholders_mixed names p.children else placeholders_in names p.children) (sym other)
-    where
-      by : (b : Bool) → not (b && has_token_placeholder names (parts_of p)) ≡ true
-          → placeholders_in names p.children ≡ (if b then placeholders_mixed names p.children else placeholders_in names p.children)
-      by true plain =
-          sym (among_mixed p.number (1 + p.number) p.first p.children (not-true (has_token_placeholder names (parts_of p)) plain)
-          ∙ among_children p.number (1 + p.number) p.first p.children)
-      by false plain = refl
-
   -- ** Nodes.
 
   among_append : (parts more : List Part) → among (parts ++ more) ≡ among parts ++ among more
@@ -180,6 +150,38 @@ module _ (names : List (List ℕ)) where
           → or_below o (placeholders_in names p.children) ≡ placeholders_in names p.children
       by None is = refl
       by (Some i) is = below_single p.number (1 + p.number) p.first p.children i some is
+
+-- ** What stands below a node that is matched by its parts.
+
+no_name : (o : Option ℕ) (rest : List ℕ) → is_some o ≡ false → cons_option o rest ≡ rest
+no_name None rest is = refl
+no_name (Some i) rest is = let e : true ≡ false = is in cc
+
+module _ (rule : ResolvedKind) where
+  -- children of which no token is a placeholder
+  among_mixed : (parent n t : ℕ) (forest : Forest) → has_token_placeholder rule (parts_in parent n t forest) ≡ false
+      → placeholders_mixed rule.names forest ≡ among rule.names (parts_in parent n t forest)
+  unfolding placeholder_at
+  among_mixed parent n t nothing none = refl
+  among_mixed parent n t (leaf token next) none =
+      let both = or_parts (is_some (name_at rule.names token)) (has_token_placeholder rule (parts_in parent n (1 + t) next)) none in
+      no_name (name_at rule.names token) (placeholders_mixed rule.names next) both.0 ∙ among_mixed parent n (1 + t) next both.1
+  among_mixed parent n t (branch kind below next) none =
+      ap (λ is. at_node rule.names (record { number = n; parent = parent; first = t; kind = kind; children = below }) ++ is)
+      (among_mixed parent (1 + n + node_count below) (t + token_count below) next none)
+
+  -- below a node that is no token tree, and of which no token of its own is a placeholder
+  plain_below : (p : Node) → is_tree p ≡ false → is_plain rule p ≡ true → placeholders_in rule.names p.children ≡ placeholders_below rule.names p.kind p.children
+  plain_below p other plain =
+      by (same_kind p.kind k.MACRO_RULES) plain
+      ∙ ap (λ b. if b then placeholders_among rule.names (tokens_in p.children) else if same_kind p.kind k.MACRO_RULES then placeholders_mixed rule.names p.children else placeholders_in rule.names p.children) (sym other)
+    where
+      by : (b : Bool) → not (b && has_token_placeholder rule (parts_of p)) ≡ true
+          → placeholders_in rule.names p.children ≡ (if b then placeholders_mixed rule.names p.children else placeholders_in rule.names p.children)
+      by true plain =
+          sym (among_mixed p.number (1 + p.number) p.first p.children (not-true (has_token_placeholder rule (parts_of p)) plain)
+          ∙ among_children rule.names p.number (1 + p.number) p.first p.children)
+      by false plain = refl
 
 -- ** Used paths.
 
@@ -325,7 +327,7 @@ module _ (m : Meanings) (tree : ℕ) (rule : ResolvedKind) (in_arguments : AreIn
   at_parts : (p : Node) → is_by_parts rule p ≡ true → placeholders_in rule.names p.children ≡ at_node rule.names p
   at_parts p by_parts =
       let it = parts_of_it rule p by_parts in
-      plain_below rule.names p it.no_tree it.plain ∙ at_other rule.names p it.none
+      plain_below rule p it.no_tree it.plain ∙ at_other rule.names p it.none
 
   -- the tokens of a token tree of the pattern, by their numbers
   among_trees : (p : Node) → IsOf rule.pattern p

@@ -19,6 +19,7 @@ use Rattle.ide_ssr_matching.specs.Children.{bare}
 use Rattle.ide_ssr_matching.specs.UsedPaths.{arguments_of, pattern_res}
 use Rattle.ide_ssr_matching.specs.Sides.{Sides}
 use Rattle.ide_ssr_matching.specs.Calls.{nodes_among, child_nodes, first_node, calls_same, PathCall, are_call, called_with, called_in, called, Method, method_in, method_call, method_pairs, alike_pairs, receiver_by, receiver_with, method_with, method_sides}
+use Rattle.ide_ssr_matching.specs.Private.Calls.{first_receiver}
 
 -- ** Nodes among parts.
 
@@ -218,6 +219,29 @@ has_method c method is = by (child_nodes c) refl is
           generics = sym (ap (λ (method : Method). method.generics) same);
           arguments = sym (ap (λ (method : Method). method.arguments) same);
         }
+
+-- a method call whose receiver is of another type
+module _ (m : Meanings) (tree : ℕ) (rule : ResolvedKind) (call : QualifiedCall) (p c : Node) where
+  pub unreceived : first_receiver m tree call.qualifier_type c.number (child_nodes c) ≡ None → method_sides m tree rule call p c ≡ None
+  unreceived none = by (called p)
+    where
+      either : (b : Bool) (receiver : Option Receiver) → receiver ≡ None → cond b receiver None ≡ None
+      either true receiver none = none
+      either false receiver none = refl
+
+      by_method : (found : PathCall) (o : Option Method) → method_call c ≡ o
+          → option_and_then (method_with m tree rule call.qualifier_type c found) o ≡ None
+      by_method found None is = refl
+      by_method found (Some method) is =
+          ap (option_and_then (alike_pairs found method))
+          (either (calls_same m (pattern_res rule found.path) (node_id tree c.number))
+          (receiver_by m tree call.qualifier_type c.number method.receiver.number)
+          (sym (ap (first_receiver m tree call.qualifier_type c.number) (has_method c method is).nodes) ∙ none))
+
+      by : (o : Option PathCall)
+          → option_and_then (λ called. option_and_then (method_with m tree rule call.qualifier_type c called) (method_call c)) o ≡ None
+      by None = refl
+      by (Some found) = by_method found (method_call c) refl
 
 -- a callee that stands for something is a used path
 pub callee_used : (m : Meanings) (tree : ℕ) (rule : ResolvedKind) (call : QualifiedCall) (p c : Node) (sides : Sides)

@@ -1,9 +1,8 @@
 -- Lists of nodes, by their numbers.
-use Rattle.std.proofs.Common.{◌≡◌, ℕ, suc, ◌+◌, ◌<◌, ◌≤◌, Bool, true, false, cond, List, [], ◌∷◌, ◌++◌, length, drop, take, get_or, map, is_some, slice_get, All, Contains, Option, Some, None, refl, sym, ◌∙◌, ap, subst, append_assoc, arith}
-use Rattle.std.specs.Option.{IfSome, option_and_then}
+use Rattle.std.proofs.Common.{◌≡◌, ℕ, suc, ◌+◌, ◌<◌, ◌≤◌, Bool, true, false, cond, List, [], ◌∷◌, ◌++◌, length, drop, take, get_or, map, is_some, option_to_list, All, Contains, Option, Some, None, refl, sym, ◌∙◌, ap, subst, append_assoc, arith}
+use Rattle.std.specs.Option.{IfSome, option_and_then, option_map, option_map_or}
 use Rattle.std.proofs.lemmas.List.{map-append, take_more}
-use Rattle.std.proofs.lemmas.List.Elements.{All-nil, All-cons, All-head, All-append, All-contains, All-get_or, All-weaker}
-use Rattle.std.proofs.lemmas.Option.{none-some, same_Some}
+use Rattle.std.proofs.lemmas.List.Elements.{All-nil, All-cons, All-append, All-contains, All-get_or, All-weaker}
 use Rattle.std.proofs.Math.Seq.{drop-cons}
 use Rattle.ssr_syntax_kinds.specs.declared.kinds.SyntaxKind.{SyntaxKind}
 use Rattle.ssr_syntax_kinds.specs.Kinds.{same_kind}
@@ -13,6 +12,7 @@ use Rattle.ssr_syntax_tree.specs.declared.number.NodeNo.{NodeNo}
 use Rattle.ssr_syntax_tree.specs.Syntax.{Syntax}
 use Rattle.ssr_syntax_tree.specs.Places.{HasNode, Node, Part, node_part, node_of, part_of}
 use Rattle.ssr_syntax_tree.proofs.Shared.{node_of-number}
+use Rattle.ssr_base.specs.declared.ids.TypeId.{TypeId}
 use Rattle.ssr_base.specs.Meanings.{Meanings}
 use Rattle.ssr_base.specs.Workspace.{node_id}
 use Rattle.ide_ssr_resolving.specs.declared.qualified_calls.QualifiedCall.{QualifiedCall}
@@ -20,11 +20,12 @@ use Rattle.ide_ssr_resolving.specs.Resolved.{ResolvedKind}
 use Rattle.ide_ssr_matching.specs.declared.calls.CalledNodes.{CalledNodes}
 use Rattle.ide_ssr_matching.specs.declared.calls.MethodNodes.{MethodNodes}
 use Rattle.ide_ssr_found.specs.declared.receivers.Receiver.{Receiver}
-use Rattle.ide_ssr_matching.specs.Calls.{nodes_among, child_nodes, first_node, arguments_among, PathCall, called, method_call, method_parts, calls_same, derefs, receiver_by, receiver_with, alike_pairs, method_with, method_sides, takes_first, can_be_call}
+use Rattle.ide_ssr_matching.specs.Calls.{nodes_among, child_nodes, first_among, first_node, arguments_among, PathCall, called, method_call, method_parts, calls_same, derefs, receiver_by, receiver_with, alike_pairs, method_with, method_sides, takes_first, can_be_call}
 use Rattle.ide_ssr_matching.specs.UsedPaths.{pattern_res}
-use Rattle.ide_ssr_matching.specs.Private.Calls.{nodes_named, nodes_at, IsNodeBelow, called_at, AreCalledBelow, method_at, IsMethodBelow}
+use Rattle.ide_ssr_matching.specs.Private.Calls.{nodes_named, nodes_at, IsNodeBelow, called_at, AreCalledBelow, method_at, first_receiver, only_among}
 use Rattle.ide_ssr_matching.specs.Private.Children.{IsBelow}
 use Rattle.ide_ssr_matching.proofs.Arguments.{below_path}
+use Rattle.ide_ssr_matching.proofs.CallParts.{has_method}
 
 -- ** Nodes among children.
 
@@ -52,6 +53,36 @@ pub below_next : (tree : Syntax) (n : ℕ) (before after : List NodeNo) (child :
     → after ≡ before ++ nodes_named child → All (IsNodeBelow tree n) after
 below_next tree n before after child all below after_is =
     subst (All (IsNodeBelow tree n)) (sym after_is) (All-append (IsNodeBelow tree n) before (nodes_named child) all (named_below tree n child below))
+
+-- ** The first one: a child in front of others is a node or none.
+
+pub node_ahead : (tree : Syntax) (child : Element) (node : NodeNo) (left behind : List Element) → left ≡ child ∷ behind → child ≡ element.Node node
+    → nodes_among (map (part_of tree) left) ≡ node_of tree node.0 ∷ nodes_among (map (part_of tree) behind)
+node_ahead tree child node left behind left_is child_is =
+    ap (λ left. nodes_among (map (part_of tree) left)) left_is
+    ∙ ap (λ child. nodes_among (part_of tree child ∷ map (part_of tree) behind)) child_is
+
+pub none_ahead : (tree : Syntax) (child : Element) (left behind : List Element) → left ≡ child ∷ behind → ((node : NodeNo) → child ≡ element.Node node → ⊥)
+    → nodes_among (map (part_of tree) left) ≡ nodes_among (map (part_of tree) behind)
+none_ahead tree (element.Node node) left behind left_is no_node = absurd (no_node node refl)
+none_ahead tree (element.Token token) left behind left_is no_node = ap (λ left. nodes_among (map (part_of tree) left)) left_is
+
+-- ** The only one.
+
+pub two_there : (tree : Syntax) (whole : List Node) (o : Option NodeNo) (node : Node) (rest : List Node) → is_some o ≡ true
+    → nodes_at tree (option_to_list o) ++ node ∷ rest ≡ whole → None ≡ only_among whole
+two_there tree whole None node rest is so_far = let e : false ≡ true = is in cc
+two_there tree whole (Some first) node rest is so_far = ap only_among so_far
+
+pub one_there : (tree : Syntax) (whole : List Node) (o : Option NodeNo) (found : NodeNo) (rest : List Node) → is_some o ≡ false
+    → nodes_at tree (option_to_list o) ++ node_of tree found.0 ∷ rest ≡ whole → nodes_at tree (found ∷ []) ++ rest ≡ whole
+one_there tree whole None found rest is so_far = so_far
+one_there tree whole (Some first) found rest is so_far = let e : true ≡ false = is in cc
+
+pub only_told : (tree : Syntax) (whole : List Node) (o : Option NodeNo) → nodes_at tree (option_to_list o) ++ [] ≡ whole
+    → option_map (λ (node : NodeNo). node_of tree node.0) o ≡ only_among whole
+only_told tree whole None so_far = ap only_among so_far
+only_told tree whole (Some node) so_far = ap only_among so_far
 
 -- ** The first one of a kind.
 
@@ -155,42 +186,63 @@ method_in_order tree method none generics front parts is_none generics_are front
 
 -- ** What is told of calls.
 
-pub first_told : (ms : Meanings) (number : ℕ) (code : Syntax) (m : ℕ) (o : Option QualifiedCall) (call : QualifiedCall) (nodes arguments : List NodeNo)
-    (first : NodeNo) (count : Option ℕ) (b : Bool) → o ≡ Some call → nodes_at code nodes ≡ child_nodes (node_of code m)
-    → nodes_at code arguments ≡ arguments_among (nodes_at code nodes) → All (IsNodeBelow code m) arguments → Some first ≡ slice_get arguments 0
+-- whether the arguments of a call fit is told by the first one alone
+taken : (ms : Meanings) (number : ℕ) (type : Option TypeId) (nodes : List Node) (o : Option Node) → o ≡ first_among nodes
+    → option_map_or (λ first. is_some (derefs ms type (node_id number first.number))) o true ≡ takes_first ms number type nodes
+taken ms number type nodes o is = ap by_first is ∙ same nodes
+  where
+    by_first : Option Node → Bool
+    by_first first = option_map_or (λ (first : Node). is_some (derefs ms type (node_id number first.number))) first true
+
+    same : (nodes : List Node) → by_first (first_among nodes) ≡ takes_first ms number type nodes
+    same [] = refl
+    same (first ∷ rest) = refl
+
+pub first_told : (ms : Meanings) (number : ℕ) (code : Syntax) (m : ℕ) (o : Option QualifiedCall) (call : QualifiedCall) (first : NodeNo)
+    (count : Option ℕ) (b : Bool) → o ≡ Some call → HasNode code first.0
+    → Some (node_of code first.0) ≡ first_among (arguments_among (child_nodes (node_of code m)))
     → count ≡ derefs ms call.qualifier_type (node_id number first.0) → b ≡ is_some count → b ≡ can_be_call ms number o (node_of code m)
-first_told ms number code m o call nodes [] first count b o_is nodes_are arguments_are below first_is count_is b_is = absurd (none-some first (sym first_is))
-first_told ms number code m o call nodes (x ∷ rest) first count b o_is nodes_are arguments_are below first_is count_is b_is =
-    let same : first ≡ x = same_Some first x first_is in
-    let has : HasNode code x.0 = (All-head (IsNodeBelow code m) x rest below).0 in
+first_told ms number code m o call first count b o_is has first_is count_is b_is =
     b_is
-    ∙ ap is_some
-    (count_is
-    ∙ ap (λ (node : NodeNo). derefs ms call.qualifier_type (node_id number node.0)) same
-    ∙ ap (λ n. derefs ms call.qualifier_type (node_id number n)) (sym (node_of-number code x.0 has)))
-    ∙ ap (takes_first ms number call.qualifier_type) (arguments_are ∙ ap arguments_among nodes_are)
+    ∙ ap is_some (count_is ∙ ap (λ n. derefs ms call.qualifier_type (node_id number n)) (sym (node_of-number code first.0 has)))
+    ∙ taken ms number call.qualifier_type (arguments_among (child_nodes (node_of code m))) (Some (node_of code first.0)) first_is
     ∙ ap (λ o. can_be_call ms number o (node_of code m)) (sym o_is)
+
+pub none_told : (ms : Meanings) (number : ℕ) (code : Syntax) (m : ℕ) (o : Option QualifiedCall) (call : QualifiedCall) → o ≡ Some call
+    → None ≡ first_among (arguments_among (child_nodes (node_of code m))) → true ≡ can_be_call ms number o (node_of code m)
+none_told ms number code m o call o_is none =
+    taken ms number call.qualifier_type (arguments_among (child_nodes (node_of code m))) None none
+    ∙ ap (λ o. can_be_call ms number o (node_of code m)) (sym o_is)
+
+pub receiver_told : (ms : Meanings) (number : ℕ) (type : Option TypeId) (code : Syntax) (m : ℕ) (nodes : List Node) (receiver : NodeNo)
+    (found : Option Receiver) → HasNode code receiver.0 → Some (node_of code receiver.0) ≡ first_among nodes
+    → found ≡ receiver_by ms number type m receiver.0 → found ≡ first_receiver ms number type m nodes
+receiver_told ms number type code m nodes receiver found has first_is found_is =
+    found_is
+    ∙ ap (receiver_by ms number type m) (sym (node_of-number code receiver.0 has))
+    ∙ ap (option_and_then (λ (node : Node). receiver_by ms number type m node.number)) first_is
 
 pub method_told : (ms : Meanings) (number : ℕ) (rule : ResolvedKind) (pattern code : Syntax) (call : QualifiedCall) (n m : ℕ)
     (found : CalledNodes) (method : MethodNodes) (o : Option Receiver) → HasNode code m
     → Some (called_at pattern found) ≡ called (node_of pattern n)
     → calls_same ms (pattern_res rule (node_of pattern found.path.0)) (node_id number m) ≡ true
-    → Some (method_at code method) ≡ method_call (node_of code m) → IsMethodBelow code m method
-    → o ≡ receiver_by ms number call.qualifier_type m method.receiver.0
+    → Some (method_at code method) ≡ method_call (node_of code m)
+    → o ≡ first_receiver ms number call.qualifier_type m (child_nodes (node_of code m))
     → option_and_then (alike_pairs (called_at pattern found) (method_at code method)) o
     ≡ method_sides ms number rule call (node_of pattern n) (node_of code m)
-method_told ms number rule pattern code call n m found method o has called_is same method_is receiver_below o_is =
+method_told ms number rule pattern code call n m found method o has called_is same method_is o_is =
     let type = call.qualifier_type in
     let called_nodes = called_at pattern found in
     let method_nodes = method_at code method in
+    let receiver = method_nodes.receiver.number in
     let pairs = alike_pairs called_nodes method_nodes in
     let used = pattern_res rule called_nodes.path in
     let with_called = λ (c : PathCall). option_and_then (method_with ms number rule type (node_of code m) c) (method_call (node_of code m)) in
     ap (option_and_then pairs)
     (o_is
-    ∙ ap (λ b. cond b (receiver_by ms number type m method.receiver.0) None) (sym same)
-    ∙ ap (λ k. receiver_with ms number used type k method.receiver.0) (sym (node_of-number code m has))
-    ∙ ap (receiver_with ms number used type (node_of code m).number) (sym (node_of-number code method.receiver.0 receiver_below.receiver.0)))
+    ∙ ap (first_receiver ms number type m) (has_method (node_of code m) method_nodes (sym method_is)).nodes
+    ∙ ap (λ b. cond b (receiver_by ms number type m receiver) None) (sym same)
+    ∙ ap (λ c. receiver_with ms number used type c receiver) (sym (node_of-number code m has)))
     ∙ ap (option_and_then (method_with ms number rule type (node_of code m) called_nodes)) method_is
     ∙ ap (option_and_then with_called) called_is
 

@@ -7,28 +7,29 @@ use Rattle.ssr_syntax_tree.specs.declared.number.Element.{Element}
 use Rattle.ssr_syntax_tree.specs.declared.number.Element.TheVariants as element
 use Rattle.ssr_syntax_tree.specs.declared.number.TokenNo.{TokenNo}
 use Rattle.ide_ssr_rules.specs.StandIns.{name_at}
+use Rattle.ide_ssr_resolving.specs.Resolved.{ResolvedKind}
 use Rattle.ide_ssr_matching.specs.TokenTrees.{has_token_placeholder}
 
-module _ (names : List (List ℕ)) where
-  pub token_here : (part : Part) (rest : List Part) → has_token_placeholder names (part ∷ []) ≡ true → has_token_placeholder names (part ∷ rest) ≡ true
-  token_here (token_part t token) rest is = here (is_some (name_at names token)) is
+module _ (rule : ResolvedKind) where
+  pub token_here : (part : Part) (rest : List Part) → has_token_placeholder rule (part ∷ []) ≡ true → has_token_placeholder rule (part ∷ rest) ≡ true
+  token_here (token_part t token) rest is = here (is_some (name_at rule.names token)) is
     where
-      here : (b : Bool) → (b || false) ≡ true → (b || has_token_placeholder names rest) ≡ true
+      here : (b : Bool) → (b || false) ≡ true → (b || has_token_placeholder rule rest) ≡ true
       here true is = refl
       here false is = let e : false ≡ true = is in cc
   token_here (node_part node) rest is = let e : false ≡ true = is in cc
 
-  pub token_behind : (part : Part) (rest : List Part) → has_token_placeholder names (part ∷ []) ≡ false
-      → has_token_placeholder names (part ∷ rest) ≡ has_token_placeholder names rest
-  token_behind (token_part t token) rest is = behind (is_some (name_at names token)) is
+  pub token_behind : (part : Part) (rest : List Part) → has_token_placeholder rule (part ∷ []) ≡ false
+      → has_token_placeholder rule (part ∷ rest) ≡ has_token_placeholder rule rest
+  token_behind (token_part t token) rest is = behind (is_some (name_at rule.names token)) is
     where
-      behind : (b : Bool) → (b || false) ≡ false → (b || has_token_placeholder names rest) ≡ has_token_placeholder names rest
+      behind : (b : Bool) → (b || false) ≡ false → (b || has_token_placeholder rule rest) ≡ has_token_placeholder rule rest
       behind true is = let e : true ≡ false = is in cc
       behind false is = refl
   token_behind (node_part node) rest is = refl
 
   pub token_told : (pattern : Syntax) (child : Element) (t : TokenNo) (o : Option ℕ) (b : Bool) → child ≡ element.Token t
-      → o ≡ name_at names (token_of pattern t.0) → b ≡ is_some o → b ≡ has_token_placeholder names (part_of pattern child ∷ [])
+      → o ≡ name_at rule.names (token_of pattern t.0) → b ≡ is_some o → b ≡ has_token_placeholder rule (part_of pattern child ∷ [])
   token_told pattern child t o b child_is told is =
-      is ∙ ap is_some told ∙ sym (or-false (is_some (name_at names (token_of pattern t.0))))
-      ∙ ap (λ child. has_token_placeholder names (part_of pattern child ∷ [])) (sym child_is)
+      is ∙ ap is_some told ∙ sym (or-false (is_some (name_at rule.names (token_of pattern t.0))))
+      ∙ ap (λ child. has_token_placeholder rule (part_of pattern child ∷ [])) (sym child_is)

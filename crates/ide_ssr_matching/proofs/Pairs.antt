@@ -75,9 +75,6 @@ pub lent_none : (lent pattern : Syntax) (before left : List Element) → lent �
 lent_none lent pattern before left lent_is come none =
     subst (λ tree. bare (map (part_of tree) before) ≡ []) lent_is (none_left lent before left come none)
 
-joined-lacking : (bound : List Binding) (o : Option (List Binding)) → joined (Some bound) (joined None o) ≡ None
-joined-lacking bound o = refl
-
 negated : (b c : Bool) → c ≡ not b → b ≡ not c
 negated true c is = ap not (sym is)
 negated false c is = ap not (sym is)
@@ -283,9 +280,6 @@ module _ (inner : Binder) (pattern code : Syntax) (ps cs : List Element) where
     pub bound : List Binding
     pub comes_to : elements_by ≡ joined (Some bound) (pairs_by inner (map (part_of pattern) (drop place ps)) (map (part_of code) (drop place cs)))
     pub out_is : out ≡ old ++ bound
-
-  pub up_to-starts : (old : List Binding) → PairedUpTo 0 old old
-  up_to-starts old = record { within = omega arith; bound = []; comes_to = sym (joined-none elements_by); out_is = sym (append-nil old) }
 
   module _ (long : length ps ≡ length cs) (place : ℕ) (p c : Element) (less : place < length ps) (p_is : p ≡ get_or ps place p) (c_is : c ≡ get_or cs place c) where
     next_place : (bound : List Binding)
@@ -517,7 +511,7 @@ module _ (ms : Meanings) (tree : ℕ) (rule : ResolvedKind) where
       (counted-from result p c (Some r) old new refl answers)
 
   pub unnamed-from : {E : Type 0} (result : Result Bool E) (p c : Node) (used : Option Res) (old new : List Binding) → used ≡ None
-      → false ≡ is_named rule.names p c
+      → false ≡ is_named rule p c
       → IfOk result (λ b. Answers (counted_by (bindings_of ms tree rule) used p c) old new b)
       → IfOk result (λ b. Answers (option_and_then (sides_by (bindings_of ms tree rule)) (like_pairs ms tree rule used p c)) old new b)
   unnamed-from result p c used old new is unnamed answers =
@@ -525,17 +519,6 @@ module _ (ms : Meanings) (tree : ℕ) (rule : ResolvedKind) where
       (ap (λ used. like_pairs ms tree rule used p c) is
       ∙ ap (λ b. cond b (option_map (named_pairs p) (named_nodes p c)) (Some (counted_sides None p c))) (sym unnamed)
       ∙ ap (λ used. Some (counted_sides used p c)) (sym is)) answers
-
-  pub named-from : {E : Type 0} (result : Result Bool E) (p c : Node) (used : Option Res) (old new : List Binding) → used ≡ None
-      → true ≡ is_named rule.names p c
-      → IfOk result (λ b. Answers (option_and_then (sides_by (bindings_of ms tree rule)) (option_map (named_pairs p) (named_nodes p c))) old new b)
-      → IfOk result (λ b. Answers (option_and_then (sides_by (bindings_of ms tree rule)) (like_pairs ms tree rule used p c)) old new b)
-  named-from result p c used old new is by_names answers =
-      subst (λ o. IfOk result (λ b. Answers (option_and_then (sides_by (bindings_of ms tree rule)) o) old new b))
-      (sym
-      (ap (λ used. like_pairs ms tree rule used p c) is
-      ∙ ap (λ b. cond b (option_map (named_pairs p) (named_nodes p c)) (Some (counted_sides None p c))) (sym by_names)))
-      answers
 
   -- ** Lists that match by labels.
 

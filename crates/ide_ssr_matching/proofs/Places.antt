@@ -6,7 +6,6 @@ use Rattle.std.specs.Cmp.Lexicographic.{slice_cmp}
 use Rattle.std.specs.Prelude.{cond}
 use Rattle.std.specs.List.{list_any, position_from}
 use Rattle.std.specs.Option.{is_some, option_copied}
-use Rattle.std.proofs.Math.ListN.{drop_of_length-le}
 use Rattle.ide_ssr_rules.proofs.Shared.{is_some-position, new_name}
 use Rattle.ide_ssr_matching.specs.Records.{are_new, are_different}
 use Rattle.ide_ssr_matching.specs.Private.Records.{TellsPlaces}
@@ -18,9 +17,6 @@ pub record ArePlaced (labels : List (List ℕ)) (place : ℕ) (places : BTreeMap
   pub new : are_new (take place labels) (drop place labels) ≡ are_different labels
 
 module _ (labels : List (List ℕ)) (place : ℕ) (d : List ℕ) (less : place < length labels) where
-  label_at : List ℕ
-  label_at = get_or labels place d
-
   new_by : (b : Bool) → list_any (bytes_eq (get_or labels place d)) (take place labels) ≡ b
       → are_new (take place labels) (drop place labels) ≡ (not b && are_new (take (place + 1) labels) (drop (place + 1) labels))
   new_by b known =
@@ -75,11 +71,6 @@ module _ (labels : List (List ℕ)) (place : ℕ) (d : List ℕ) (less : place <
         (λ l. (text : List ℕ) → get_by (λ known. slice_cmp nat_cmp text known.now) after
         ≡ cond (bytes_eq l text) (Some place) (get_by (λ known. slice_cmp nat_cmp text known.now) places))
         is updates)
-
-pub all_once : (labels : List (List ℕ)) (place : ℕ) (places : BTreeMap (Bor (List ℕ)) ℕ) → ArePlaced labels place places → length labels ≤ place
-    → true ≡ are_different labels
-all_once labels place places so_far past =
-    ap (are_new (take place labels)) (sym (drop_of_length-le labels past)) ∙ so_far.new
 
 pub some_copied : (o : Option (Bor ℕ)) → is_some (option_copied o) ≡ is_some o
 some_copied None = refl

@@ -108,7 +108,7 @@ module _ (m : Meanings) (tree : ℕ) (rule : ResolvedKind) where
   pairs_smaller : (p c : Node) (sides : Sides) (used : Option Res) → like_pairs m tree rule used p c ≡ Some sides → All (IsSmaller (size_of p)) sides.pattern
   pairs_smaller p c sides (Some r) is =
       subst (λ (s : Sides). All (IsSmaller (size_of p)) s.pattern) (same_Some (counted_sides (Some r) p c) sides is) (counted_smaller (Some r) p)
-  pairs_smaller p c sides None is = by (is_named rule.names p c) is
+  pairs_smaller p c sides None is = by (is_named rule p c) is
     where
       by : (b : Bool) → ◌≡◌ {A = Option Sides} (cond b (option_map (named_pairs p) (named_nodes p c)) (Some (counted_sides None p c))) (Some sides)
           → All (IsSmaller (size_of p)) sides.pattern

@@ -169,7 +169,7 @@ module _ (rule : ResolvedKind) where
           named : Option (List (List ℕ)) → Bool
           named labels =
               same_kind p.kind k.RECORD_EXPR_FIELD_LIST
-              && (not (list_any (is_open rule.names) (child_nodes p)) && (is_some (labels_of p) && is_some labels))
+              && (not (list_any (is_open rule) (child_nodes p)) && (is_some (labels_of p) && is_some labels))
 
           by : (b : Bool)
               → option_map stripped_sides (cond b (option_map (named_pairs p) (named_nodes p c)) (Some (counted_sides None p c)))

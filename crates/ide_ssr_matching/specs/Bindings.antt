@@ -81,7 +81,7 @@ module _ (m : Meanings) (tree : ℕ) (rule : ResolvedKind) where
   -- lists of fields with names pair by the names
   abbrev pub like_pairs : Option Res → Node → Node → Option Sides
   like_pairs (Some r) p c = Some (counted_sides (Some r) p c)
-  like_pairs None p c = if is_named rule.names p c then option_map (named_pairs p) (named_nodes p c) else Some (counted_sides None p c)
+  like_pairs None p c = if is_named rule p c then option_map (named_pairs p) (named_nodes p c) else Some (counted_sides None p c)
 
   abbrev pub like_sides : Node → Node → Option Sides
   like_sides p c = if same_kind p.kind c.kind && can_match (pattern_res rule p) p c then like_pairs (pattern_res rule p) p c else None

@@ -32,6 +32,10 @@ nodes_among (node_part node ∷ rest) = node ∷ nodes_among rest
 abbrev pub child_nodes : Node → List Node
 child_nodes node = nodes_among (parts_of node)
 
+abbrev pub first_among : List Node → Option Node
+first_among [] = None
+first_among (node ∷ rest) = Some node
+
 abbrev pub first_node : SyntaxKind → List Node → Option Node
 first_node kind nodes = find (λ node. same_kind node.kind kind) nodes
 

@@ -38,11 +38,11 @@ mutual
         → p.kind ≡ c.kind → pattern_res rule p ≡ Some r → code_res m tree c ≡ Some r
         → Pairs m tree rule (bare (arguments_of p)) (bare (arguments_of c)) bs → Matches m tree rule p c bs
     named : (p c : Node) (nodes : List Node) (bs : List Binding) → is_by_parts rule p ≡ true → meets_method rule p c ≡ false
-        → p.kind ≡ c.kind → pattern_res rule p ≡ None → can_be_call m tree (call_of rule p) c ≡ true → is_named rule.names p c ≡ true
+        → p.kind ≡ c.kind → pattern_res rule p ≡ None → can_be_call m tree (call_of rule p) c ≡ true → is_named rule p c ≡ true
         → named_nodes p c ≡ Some nodes
         → Pairs m tree rule (map node_part (child_nodes p)) (map node_part nodes) bs → Matches m tree rule p c bs
     alike : (p c : Node) (bs : List Binding) → is_by_parts rule p ≡ true → meets_method rule p c ≡ false
-        → p.kind ≡ c.kind → pattern_res rule p ≡ None → can_be_call m tree (call_of rule p) c ≡ true → is_named rule.names p c ≡ false
+        → p.kind ≡ c.kind → pattern_res rule p ≡ None → can_be_call m tree (call_of rule p) c ≡ true → is_named rule p c ≡ false
         → Pairs m tree rule (bare (parts_of p)) (bare (parts_of c)) bs → Matches m tree rule p c bs
 
   pub data Pairs (m : Meanings) (tree : ℕ) (rule : ResolvedKind) : List Part → List Part → List Binding → Type 0 where

@@ -7,10 +7,11 @@ use Rattle.ssr_syntax_kinds.specs.Kinds.{same_kind}
 use Rattle.ssr_syntax_tree.specs.Places.{Node, node_part, text_of}
 use Rattle.ide_ssr_resolving.specs.Keys.{key_of}
 use Rattle.ide_ssr_resolving.specs.Placeholders.{placeholder_at}
+use Rattle.ide_ssr_resolving.specs.Resolved.{ResolvedKind}
 use Rattle.ide_ssr_matching.specs.Children.{bare}
 use Rattle.ide_ssr_matching.specs.UsedPaths.{arguments_of}
 use Rattle.ide_ssr_matching.specs.Sides.{Sides}
-use Rattle.ide_ssr_matching.specs.Calls.{child_nodes, first_node}
+use Rattle.ide_ssr_matching.specs.Calls.{child_nodes, first_among, first_node}
 
 -- ** Names.
 
@@ -30,10 +31,6 @@ abbrev pub name_of_expr : Node → Option (List ℕ)
 name_of_expr expr = if same_kind expr.kind k.PATH_EXPR then name_of_only (child_nodes expr) else None
 
 -- what a field is named by: its name, or else its expression
-abbrev pub first_among : List Node → Option Node
-first_among [] = None
-first_among (node ∷ rest) = Some node
-
 abbrev pub named_by : Option Node → List Node → Option Node
 named_by (Some name) nodes = Some name
 named_by None nodes = first_among nodes
@@ -53,10 +50,10 @@ abbrev pub label_of : Node → Option (List ℕ)
 label_of node = if is_field node then field_name node else Some (codes "..")
 
 -- whether a field of a pattern is named by a placeholder
-abbrev pub is_open : List (List ℕ) → Node → Bool
-is_open names node =
+abbrev pub is_open : ResolvedKind → Node → Bool
+is_open rule node =
     is_field node
-    && option_map_or (λ by. is_some (placeholder_at names by)) (named_by (first_node k.NAME_REF (child_nodes node)) (child_nodes node)) false
+    && option_map_or (λ by. is_some (placeholder_at rule.names by)) (named_by (first_node k.NAME_REF (child_nodes node)) (child_nodes node)) false
 
 -- ** Labels.
 
@@ -89,10 +86,10 @@ arranged order labels nodes =
 -- ** Lists that match by labels.
 
 -- whether two lists of fields match by names: where all fields have some, those of the pattern other ones than placeholders
-abbrev pub is_named : List (List ℕ) → Node → Node → Bool
-is_named names p c =
+abbrev pub is_named : ResolvedKind → Node → Node → Bool
+is_named rule p c =
     same_kind p.kind k.RECORD_EXPR_FIELD_LIST
-    && (not (list_any (is_open names) (child_nodes p)) && (is_some (labels_of p) && is_some (labels_of c)))
+    && (not (list_any (is_open rule) (child_nodes p)) && (is_some (labels_of p) && is_some (labels_of c)))
 
 -- the nodes of the code's list in the order of the pattern's
 abbrev pub nodes_by : Option (List (List ℕ)) → Option (List (List ℕ)) → List Node → Option (List Node)

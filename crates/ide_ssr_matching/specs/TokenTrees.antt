@@ -22,15 +22,15 @@ abbrev pub tree_by : ResolvedKind → Node → Node → Option (List Binding)
 tree_by rule p c = if is_tree c then tree_bindings (token_placeholder rule) p c else None
 
 -- whether one of these children is a token that is a placeholder
-abbrev pub has_token_placeholder : List (List ℕ) → List Part → Bool
-has_token_placeholder names [] = false
-has_token_placeholder names (token_part t token ∷ rest) = is_some (name_at names token) || has_token_placeholder names rest
-has_token_placeholder names (node_part node ∷ rest) = has_token_placeholder names rest
+abbrev pub has_token_placeholder : ResolvedKind → List Part → Bool
+has_token_placeholder rule [] = false
+has_token_placeholder rule (token_part t token ∷ rest) = is_some (name_at rule.names token) || has_token_placeholder rule rest
+has_token_placeholder rule (node_part node ∷ rest) = has_token_placeholder rule rest
 
 -- Whether a node of the pattern is no `macro_rules` item of which a token of its own is a placeholder. In such an item an
 -- identifier stands beside other children, the word `macro_rules`. Were it a placeholder, the item would match nothing.
 abbrev pub is_plain : ResolvedKind → Node → Bool
-is_plain rule p = not (same_kind p.kind k.MACRO_RULES && has_token_placeholder rule.names (parts_of p))
+is_plain rule p = not (same_kind p.kind k.MACRO_RULES && has_token_placeholder rule (parts_of p))
 
 -- whether a node of the pattern is matched by its parts: it is no placeholder and no token tree
 abbrev pub is_by_parts : ResolvedKind → Node → Bool

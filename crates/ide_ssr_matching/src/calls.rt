@@ -4,8 +4,8 @@ ghost use Rattle.std.specs.Prelude.{ℕ, false, Some, ◌≡◌, ◌++◌, All, 
 ghost use Rattle.std.specs.List.{position};
 ghost use Rattle.ssr_syntax_tree.specs.Places.{HasNode, node_of, node_part, part_of};
 ghost use Rattle.ssr_base.specs.Workspace.{node_id};
-ghost use Rattle.ide_ssr_matching.specs.Calls.{PathCall, child_nodes, first_node, generics_among, arguments_among, method_call, method_parts, are_call, called_with, called, same_type, derefs, calls_same, receiver_by, alike_pairs, method_sides, can_be_call};
-ghost use Rattle.ide_ssr_matching.specs.Private.Calls.{nodes_named, nodes_at, IsNodeBelow, called_at, AreCalledBelow, method_at, IsMethodBelow, sides_at, AreSidesBelow};
+ghost use Rattle.ide_ssr_matching.specs.Calls.{PathCall, child_nodes, first_among, first_node, generics_among, arguments_among, method_call, method_parts, are_call, called_with, called, same_type, derefs, calls_same, receiver_by, alike_pairs, method_sides, can_be_call};
+ghost use Rattle.ide_ssr_matching.specs.Private.Calls.{nodes_named, nodes_at, IsNodeBelow, called_at, AreCalledBelow, method_at, IsMethodBelow, first_receiver, only_among, sides_at, AreSidesBelow};
 ghost use Rattle.ide_ssr_matching.specs.UsedPaths.{pattern_res};
 ghost use Rattle.ide_ssr_matching.specs.Private.Children.{IsBelow};
 
@@ -68,8 +68,41 @@ pub(crate) fn child_nodes(
     Ok(nodes)
 }
 
+/// The first child of a node that is a node.
+pub(crate) fn first_child_node(tree: &Tree, node: NodeNo) -> Option<NodeNo>
+    requires { HasNode tree.now node.0 }
+    ensures node { option_map (λ child. node_of tree.now child.0) result ≡ first_among (child_nodes (node_of tree.now node.0)) }
+    ensures has { IfSome result (λ child. HasNode tree.now child.0) }
+{
+    for child in tree.children(node) {
+        if let Element::Node(found) = child {
+            return Some(found);
+        }
+    }
+    None
+}
+
+/// The child of a node that is a node, if there is only one.
+pub(crate) fn only_child_node(tree: &Tree, node: NodeNo) -> Option<NodeNo>
+    requires { HasNode tree.now node.0 }
+    ensures node { option_map (λ child. node_of tree.now child.0) result ≡ only_among (child_nodes (node_of tree.now node.0)) }
+    ensures has { IfSome result (λ child. HasNode tree.now child.0) }
+{
+    let mut only = None;
+    for child in tree.children(node) {
+        let Element::Node(found) = child else {
+            continue;
+        };
+        if only.is_some() {
+            return None;
+        }
+        only = Some(found);
+    }
+    only
+}
+
 /// The first node of a kind.
-pub(crate) fn first_node(tree: &Tree, nodes: &[NodeNo], kind: SyntaxKind) -> Option<NodeNo>
+fn first_node(tree: &Tree, nodes: &[NodeNo], kind: SyntaxKind) -> Option<NodeNo>
     requires { All (λ node. HasNode tree.now node.0) nodes.now }
     ensures node { option_map (λ node. node_of tree.now node.0) result ≡ first_node kind (nodes_at tree.now nodes.now) }
     ensures there { IfSome result (λ node. Contains nodes.now node) }
@@ -241,8 +274,8 @@ fn calls_same<S: Semantics>(
     }
 }
 
-/// The receiver of the method call `c`, if it can be of the qualifier's type.
-fn receiver_of<S: Semantics>(
+/// How the method call `c` takes the node `receiver`, if that can be of the qualifier's type.
+fn receiver_by<S: Semantics>(
     alloc: Global,
     semantics: &S,
     wanted: Option<TypeId>,
@@ -264,6 +297,25 @@ fn receiver_of<S: Semantics>(
         deref_count,
         self_kind: semantics.self_kind(call),
     }))
+}
+
+/// How the method call `c` takes its receiver, which is its first node, if that can be of the qualifier's type.
+fn receiver_of<S: Semantics>(
+    alloc: Global,
+    semantics: &S,
+    wanted: Option<TypeId>,
+    number: u32,
+    code: &Tree,
+    c: NodeNo,
+) -> Result<Option<Receiver>, AllocError>
+    requires { HasNode code.now c.0 }
+    ensures { IfOk result (λ found. found ≡ first_receiver (S.meanings semantics.now) number wanted c.0 (child_nodes (node_of code.now c.0))) }
+{
+    let Some(receiver) = first_child_node(code, c) else {
+        return Ok(None);
+    };
+    let found = receiver_by(alloc, semantics, wanted, number, c, receiver)?;
+    Ok(found)
 }
 
 /// Parts of a call with its arguments behind them.
@@ -364,10 +416,14 @@ pub(crate) fn method_sides<S: Semantics>(
     ensures sides { IfOk result (λ sides. option_map (sides_at rule.now.pattern code.now) sides ≡ method_sides (S.meanings semantics.now) number rule.now call (node_of rule.now.pattern p.0) (node_of code.now c.0)) }
     ensures below { IfOk result (λ sides. IfSome sides (AreSidesBelow rule.now.pattern code.now p.0 c.0)) }
 {
-    // most method calls call something else, of which the parts need not be gathered
+    // most method calls call something else, or take a receiver of another type; their parts need not be gathered
     if !calls_callee(alloc, semantics, rule, number, p, c)? {
         return Ok(None);
     }
+    let wanted = call.qualifier_type;
+    let Some(receiver) = receiver_of(alloc, semantics, wanted, number, code, c)? else {
+        return Ok(None);
+    };
     let pattern = rule.pattern();
     let Some(called) = called(alloc, pattern, p)? else {
         return Ok(None);
@@ -375,12 +431,19 @@ pub(crate) fn method_sides<S: Semantics>(
     let Some(method) = method_call(alloc, code, c)? else {
         return Ok(None);
     };
-    let wanted = call.qualifier_type;
-    let Some(receiver) = receiver_of(alloc, semantics, wanted, number, c, method.receiver)? else {
-        return Ok(None);
-    };
     let sides = method_pairs(alloc, pattern, code, &called, &method, receiver)?;
     Ok(sides)
+}
+
+/// The first argument of a call.
+#[tactic(auto, using(crate::proofs::CallParts::first_among_nodes))]
+fn first_argument(tree: &Tree, call: NodeNo) -> Option<NodeNo>
+    requires { HasNode tree.now call.0 }
+    ensures node { option_map (λ argument. node_of tree.now argument.0) result ≡ first_among (arguments_among (child_nodes (node_of tree.now call.0))) }
+    ensures has { IfSome result (λ argument. HasNode tree.now argument.0) }
+{
+    let list = first_child(tree, call, SyntaxKind::ARG_LIST)?;
+    first_child_node(tree, list)
 }
 
 /// Whether the call `c` of the tree with the number `number` can be a qualified call of the pattern: its first argument, if
@@ -399,11 +462,9 @@ pub(crate) fn can_be_call<S: Semantics>(
     let Some(call) = call else {
         return Ok(true);
     };
-    let nodes = child_nodes(alloc, code, c)?;
-    let arguments = arguments_among(alloc, code, c, &nodes)?;
-    match arguments.first() {
+    match first_argument(code, c) {
         Some(first) => {
-            let count = derefs(alloc, semantics, call.qualifier_type, number, *first)?;
+            let count = derefs(alloc, semantics, call.qualifier_type, number, first)?;
             Ok(count.is_some())
         }
         None => Ok(true),

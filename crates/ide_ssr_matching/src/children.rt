@@ -1,6 +1,6 @@
 //! A node's children, without those that do not count for a match.
 
-ghost use Rattle.std.specs.Prelude.{◌≡◌, ◌∷◌, ◌++◌, [], true, false, All, IfNone, IfOk, None, map, option_to_list};
+ghost use Rattle.std.specs.Prelude.{◌≡◌, ◌==◌, ◌∷◌, ◌++◌, [], true, false, All, IfNone, IfOk, None, length, map, option_to_list};
 ghost use Rattle.ssr_syntax_tree.specs.Places.{HasNode, HasElement, node_of, part_of, parts_of, elements_of};
 ghost use Rattle.ide_ssr_matching.specs.Bindings.{counted};
 ghost use Rattle.ide_ssr_token_trees.specs.Elements.{is_trivia_part};
@@ -166,6 +166,15 @@ impl<'a> Siblings<'a> {
         }
         Some(self.behind_comma(tree, first))
     }
+}
+
+/// Whether a path's last segment has no bare arguments.
+pub(crate) fn lacks_arguments(tree: &Tree, path: NodeNo) -> bool
+    requires { HasNode tree.now path.0 }
+    ensures { result ≡ (length (bare (arguments_of (node_of tree.now path.0))) == 0) }
+{
+    let mut siblings = Siblings::arguments(tree, path);
+    siblings.next_bare(tree).is_none()
 }
 
 /// The bare arguments of a path's last segment.

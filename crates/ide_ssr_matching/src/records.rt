@@ -8,9 +8,9 @@ ghost use Rattle.ide_ssr_matching.specs.Records.{name_of_path, name_of_expr, fie
 ghost use Rattle.ide_ssr_matching.specs.Private.Calls.{nodes_at, IsNodeBelow};
 ghost use Rattle.ide_ssr_matching.specs.Private.Records.{TellsPlaces, AreNamedLists};
 
-use crate::calls::{child_nodes, first_node};
-use crate::children::bare_arguments;
-use ide_ssr_resolving::{ResolvedRule, key_of};
+use crate::calls::{child_nodes, first_child_node, only_child_node};
+use crate::children::lacks_arguments;
+use ide_ssr_resolving::{ResolvedRule, first_child, key_of};
 use ssr_syntax_kinds::SyntaxKind;
 use ssr_syntax_tree::{Element, NodeNo, Tree};
 use std::alloc::{AllocError, Global};
@@ -26,16 +26,15 @@ pub(crate) struct NamedLists {
 }
 
 /// The name of a path of one segment without arguments.
+#[tactic(auto, using(crate::proofs::CallParts::first_among_nodes))]
 fn name_of_path(alloc: Global, tree: &Tree, path: NodeNo) -> Result<Option<String>, AllocError>
     requires { HasNode tree.now path.0 }
     ensures { IfOk result (λ name. option_map string_bytes name ≡ name_of_path (node_of tree.now path.0)) }
 {
-    let nodes = child_nodes(alloc, tree, path)?;
-    if first_node(tree, &nodes, SyntaxKind::PATH).is_some() {
+    if first_child(tree, path, SyntaxKind::PATH).is_some() {
         return Ok(None);
     }
-    let arguments = bare_arguments(alloc, tree, path)?;
-    if !arguments.is_empty() {
+    if !lacks_arguments(tree, path) {
         return Ok(None);
     }
     let key = key_of(alloc, tree, path)?;
@@ -51,28 +50,27 @@ fn name_of_expr(alloc: Global, tree: &Tree, expr: NodeNo) -> Result<Option<Strin
     if !tree.kind(expr).is(SyntaxKind::PATH_EXPR) {
         return Ok(None);
     }
-    let nodes = child_nodes(alloc, tree, expr)?;
-    let [path] = nodes.as_slice() else {
+    let Some(path) = only_child_node(tree, expr) else {
         return Ok(None);
     };
-    let name = name_of_path(alloc, tree, *path)?;
+    let name = name_of_path(alloc, tree, path)?;
     Ok(name)
 }
 
 /// The name of a field.
+#[tactic(auto, using(crate::proofs::CallParts::first_among_nodes))]
 fn field_name(alloc: Global, tree: &Tree, field: NodeNo) -> Result<Option<String>, AllocError>
     requires { HasNode tree.now field.0 }
     ensures { IfOk result (λ name. option_map string_bytes name ≡ field_name (node_of tree.now field.0)) }
 {
-    let nodes = child_nodes(alloc, tree, field)?;
-    if let Some(name) = first_node(tree, &nodes, SyntaxKind::NAME_REF) {
+    if let Some(name) = first_child(tree, field, SyntaxKind::NAME_REF) {
         let text = String::from_str(alloc, tree.text(name))?;
         return Ok(Some(text));
     }
-    let [expr, ..] = nodes.as_slice() else {
+    let Some(expr) = first_child_node(tree, field) else {
         return Ok(None);
     };
-    let name = name_of_expr(alloc, tree, *expr)?;
+    let name = name_of_expr(alloc, tree, expr)?;
     Ok(name)
 }
 
@@ -109,46 +107,36 @@ fn labels_of(
 }
 
 /// Whether a node of the pattern is a field that is named by a placeholder.
-fn is_open(
-    alloc: Global,
-    rule: &ResolvedRule,
-    pattern: &Tree,
-    node: NodeNo,
-) -> Result<bool, AllocError>
+#[tactic(auto, using(crate::proofs::CallParts::first_among_nodes))]
+fn is_open(rule: &ResolvedRule, pattern: &Tree, node: NodeNo) -> bool
     requires lent { pattern.now ≡ rule.now.pattern }
     requires has { HasNode pattern.now node.0 }
-    ensures { IfOk result (λ answer. answer ≡ is_open rule.now.names (node_of pattern.now node.0)) }
+    ensures { result ≡ is_open rule.now (node_of pattern.now node.0) }
 {
     if !pattern.kind(node).is(SyntaxKind::RECORD_EXPR_FIELD) {
-        return Ok(false);
+        return false;
     }
-    let nodes = child_nodes(alloc, pattern, node)?;
-    if let Some(name) = first_node(pattern, &nodes, SyntaxKind::NAME_REF) {
-        return Ok(rule.placeholder(name).is_some());
+    if let Some(name) = first_child(pattern, node, SyntaxKind::NAME_REF) {
+        return rule.placeholder(name).is_some();
     }
-    match nodes.first() {
-        Some(expr) => Ok(rule.placeholder(*expr).is_some()),
-        None => Ok(false),
+    match first_child_node(pattern, node) {
+        Some(expr) => rule.placeholder(expr).is_some(),
+        None => false,
     }
 }
 
 /// Whether one of the nodes of the pattern is a field that is named by a placeholder.
-fn has_open(
-    alloc: Global,
-    rule: &ResolvedRule,
-    pattern: &Tree,
-    nodes: &[NodeNo],
-) -> Result<bool, AllocError>
+fn has_open(rule: &ResolvedRule, pattern: &Tree, nodes: &[NodeNo]) -> bool
     requires lent { pattern.now ≡ rule.now.pattern }
     requires has { All (λ node. HasNode pattern.now node.0) nodes.now }
-    ensures { IfOk result (λ answer. answer ≡ list_any (is_open rule.now.names) (nodes_at pattern.now nodes.now)) }
+    ensures { result ≡ list_any (is_open rule.now) (nodes_at pattern.now nodes.now) }
 {
     for node in nodes {
-        if is_open(alloc, rule, pattern, *node)? {
-            return Ok(true);
+        if is_open(rule, pattern, *node) {
+            return true;
         }
     }
-    Ok(false)
+    false
 }
 
 /// The place of each label, if none is there twice.
@@ -244,7 +232,7 @@ impl NamedLists {
     ) -> Result<Option<NamedLists>, AllocError>
         requires p_in { HasNode rule.now.pattern p.0 }
         requires c_in { HasNode code.now c.0 }
-        ensures named { IfOk result (λ lists. is_some lists ≡ is_named rule.now.names (node_of rule.now.pattern p.0) (node_of code.now c.0)) }
+        ensures named { IfOk result (λ lists. is_some lists ≡ is_named rule.now (node_of rule.now.pattern p.0) (node_of code.now c.0)) }
         ensures lists { IfOk result (λ lists. IfSome lists (AreNamedLists rule.now.pattern code.now p.0 c.0)) }
     {
         let pattern = rule.pattern();
@@ -252,7 +240,7 @@ impl NamedLists {
             return Ok(None);
         }
         let ps = child_nodes(alloc, pattern, p)?;
-        if has_open(alloc, rule, pattern, &ps)? {
+        if has_open(rule, pattern, &ps) {
             return Ok(None);
         }
         let Some(order) = labels_of(alloc, pattern, &ps)? else {

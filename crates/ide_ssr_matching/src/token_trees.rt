@@ -42,7 +42,7 @@ pub(crate) fn tree_matches(
 /// Whether a child of a node of the pattern is a token that is a placeholder.
 fn is_token_placeholder(rule: &ResolvedRule, child: Element) -> bool
     requires { HasElement rule.now.pattern child }
-    ensures { result ≡ has_token_placeholder rule.now.names (part_of rule.now.pattern child ∷ []) }
+    ensures { result ≡ has_token_placeholder rule.now (part_of rule.now.pattern child ∷ []) }
 {
     match child {
         Element::Token(token) => rule.token_placeholders()[token.0 as usize].is_some(),
@@ -53,7 +53,7 @@ fn is_token_placeholder(rule: &ResolvedRule, child: Element) -> bool
 /// Whether one of the children of a node of the pattern is a token that is a placeholder.
 fn has_token_placeholder(rule: &ResolvedRule, p: NodeNo) -> bool
     requires { HasNode rule.now.pattern p.0 }
-    ensures { result ≡ has_token_placeholder rule.now.names (parts_of (node_of rule.now.pattern p.0)) }
+    ensures { result ≡ has_token_placeholder rule.now (parts_of (node_of rule.now.pattern p.0)) }
 {
     for child in rule.pattern().children(p) {
         if is_token_placeholder(rule, child) {

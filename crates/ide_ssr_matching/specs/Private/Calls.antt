@@ -1,14 +1,18 @@
 -- Private: the nodes of calls by their numbers.
-use Rattle.std.specs.Prelude.{ℕ, List, [], ◌∷◌, Some, All, map}
+use Rattle.std.specs.Prelude.{ℕ, List, [], ◌∷◌, Option, Some, None, All, map}
+use Rattle.std.specs.Option.{option_and_then}
 use Rattle.ssr_syntax_tree.specs.declared.number.Element.{Element}
 use Rattle.ssr_syntax_tree.specs.declared.number.Element.TheVariants as element
 use Rattle.ssr_syntax_tree.specs.declared.number.NodeNo.{NodeNo}
 use Rattle.ssr_syntax_tree.specs.Syntax.{Syntax}
 use Rattle.ssr_syntax_tree.specs.Places.{Node, node_of, part_of}
+use Rattle.ssr_base.specs.declared.ids.TypeId.{TypeId}
+use Rattle.ssr_base.specs.Meanings.{Meanings}
+use Rattle.ide_ssr_found.specs.declared.receivers.Receiver.{Receiver}
 use Rattle.ide_ssr_matching.specs.declared.calls.CalledNodes.{CalledNodes}
 use Rattle.ide_ssr_matching.specs.declared.calls.MethodNodes.{MethodNodes}
 use Rattle.ide_ssr_matching.specs.declared.calls.MethodSides.{MethodSides}
-use Rattle.ide_ssr_matching.specs.Calls.{PathCall, Method}
+use Rattle.ide_ssr_matching.specs.Calls.{PathCall, Method, first_among, receiver_by}
 use Rattle.ide_ssr_matching.specs.Sides.{Sides}
 use Rattle.ide_ssr_matching.specs.Private.Children.{IsBelow}
 
@@ -22,6 +26,11 @@ nodes_at tree nodes = map (λ node. node_of tree node.0) nodes
 
 abbrev pub IsNodeBelow : Syntax → ℕ → NodeNo → Type 0
 IsNodeBelow tree n node = IsBelow tree n (element.Node node)
+
+-- a node, if it is the only one
+abbrev pub only_among : List Node → Option Node
+only_among (node ∷ []) = Some node
+only_among _ = None
 
 -- a call of the pattern
 abbrev pub called_at : Syntax → CalledNodes → PathCall
@@ -43,6 +52,10 @@ pub record IsMethodBelow (tree : Syntax) (n : ℕ) (method : MethodNodes) : Type
   pub receiver : IsNodeBelow tree n method.receiver
   pub generics : All (IsNodeBelow tree n) method.generics.items
   pub arguments : All (IsNodeBelow tree n) method.arguments.items
+
+-- how the method call c with these nodes takes its receiver, the first of them, if that can be of the qualifier's type
+abbrev pub first_receiver : Meanings → ℕ → Option TypeId → ℕ → List Node → Option Receiver
+first_receiver m tree type c nodes = option_and_then (λ receiver. receiver_by m tree type c receiver.number) (first_among nodes)
 
 -- parts that have to pair
 abbrev pub sides_at : Syntax → Syntax → MethodSides → Sides

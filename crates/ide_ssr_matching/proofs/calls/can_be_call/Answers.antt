@@ -1,10 +1,13 @@
-use Rattle.ide_ssr_matching.proofs.NodeLists.{first_told}
+use Rattle.ide_ssr_matching.proofs.NodeLists.{first_told, none_told}
 use Rattle.ide_ssr_matching.proofs.calls.can_be_call.Goals as goal
 
-pub returns-in-Some-first : goal.returns-in-Some-first
-returns-in-Some-first g c =
+pub returns-in_ok-count-in-Some-first_argument : goal.returns-in_ok-count-in-Some-first_argument
+returns-in_ok-count-in-Some-first_argument g c =
     first_told (g.S.Semantics.meanings c.args.semantics.now) c.args.number c.args.code.now c.args.c.0 c.args.call c.in-Some.call
-    c.in_ok-nodes.nodes.items c.in_ok-arguments.arguments.items c.in-Some-first.first.now c.in_ok-count-in-Some-first.count _
-    c.in-Some.is c.in_ok-nodes.ensures.nodes (rw c.deref.ensures.value at c.in_ok-arguments.ensures.nodes) c.in_ok-arguments.ensures.below
-    (rw c.deref-2.ensures.value at c.in-Some-first.ensures.value)
-    c.in_ok-count-in-Some-first.ensures c.is_some.ensures
+    c.in-Some-first_argument.first c.in_ok-count-in-Some-first_argument.count _ c.in-Some.is c.in-Some-first_argument.ensures.has c.in-Some-first_argument.ensures.node
+    c.in_ok-count-in-Some-first_argument.ensures c.is_some.ensures
+
+pub returns-in-None : goal.returns-in-None
+returns-in-None g c =
+    none_told (g.S.Semantics.meanings c.args.semantics.now) c.args.number c.args.code.now c.args.c.0 c.args.call c.in-Some.call c.in-Some.is
+    c.in-None.ensures.node

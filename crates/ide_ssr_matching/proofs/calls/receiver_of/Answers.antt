@@ -1,6 +1,7 @@
-use Rattle.std.proofs.Common.{arith, rules}
-use Rattle.std.proofs.lemmas.Grind.{common_steps}
+use Rattle.ide_ssr_matching.proofs.NodeLists.{receiver_told}
 use Rattle.ide_ssr_matching.proofs.calls.receiver_of.Goals as goal
 
 pub returns : goal.returns
-returns g c = first_of (search rules steps 2000000, grind (arith, common_steps) steps 2000000)
+returns g c =
+    receiver_told (g.S.Semantics.meanings c.args.semantics.now) c.args.number c.args.wanted c.args.code.now c.args.c.0 _ c.in-Some.receiver _
+    c.in-Some.ensures.has c.in-Some.ensures.node c.in_ok-found.ensures

@@ -13,18 +13,18 @@ loop-node-preserved c =
     let nodes = c.args.nodes.now in
     let place = c.loop-node.node-index in
     let low : place < length nodes = omega (arith, c.loop-node-test.true) in
-    any_by (is_open c.args.rule.now.names) (node_of c.args.pattern.now (get_or nodes place none).0) (nodes_at c.args.pattern.now (drop (place + 1) nodes)) _ _
-    (sym c.in_ok-is_open.ensures ∙ c.if-branch.false)
-    (ap (λ nodes. list_any (is_open c.args.rule.now.names) (nodes_at c.args.pattern.now nodes)) (sym (left_at nodes place none low))
+    any_by (is_open c.args.rule.now) (node_of c.args.pattern.now (get_or nodes place none).0) (nodes_at c.args.pattern.now (drop (place + 1) nodes)) _ _
+    (sym c.is_open.ensures ∙ c.if-is_open.false)
+    (ap (λ nodes. list_any (is_open c.args.rule.now) (nodes_at c.args.pattern.now nodes)) (sym (left_at nodes place none low))
     ∙ c.loop-node.invariant)
 
-pub returns-then-branch : goal.returns-then-branch
-returns-then-branch c =
+pub returns-then-is_open : goal.returns-then-is_open
+returns-then-is_open c =
     let none : NodeNo = record { 0 = 0 } in
     let nodes = c.args.nodes.now in
     let place = c.loop-node.node-index in
     let low : place < length nodes = omega (arith, c.loop-node-test.true) in
-    any_by (is_open c.args.rule.now.names) (node_of c.args.pattern.now (get_or nodes place none).0) (nodes_at c.args.pattern.now (drop (place + 1) nodes)) _ _
-    (sym c.in_ok-is_open.ensures ∙ c.if-branch.true)
-    (ap (λ nodes. list_any (is_open c.args.rule.now.names) (nodes_at c.args.pattern.now nodes)) (sym (left_at nodes place none low))
+    any_by (is_open c.args.rule.now) (node_of c.args.pattern.now (get_or nodes place none).0) (nodes_at c.args.pattern.now (drop (place + 1) nodes)) _ _
+    (sym c.is_open.ensures ∙ c.if-is_open.true)
+    (ap (λ nodes. list_any (is_open c.args.rule.now) (nodes_at c.args.pattern.now nodes)) (sym (left_at nodes place none low))
     ∙ c.loop-node.invariant)

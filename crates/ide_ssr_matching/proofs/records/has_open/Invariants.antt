@@ -6,4 +6,4 @@ use Rattle.ide_ssr_matching.proofs.records.has_open.Given as goal
 
 abbrev pub invariant-loop-node : goal.invariant-loop-node
 invariant-loop-node l =
-    list_any (is_open l.rule.names) (nodes_at l.pattern (drop l.node-index l.nodes)) ≡ list_any (is_open l.rule.names) (nodes_at l.pattern l.nodes)
+    list_any (is_open l.rule) (nodes_at l.pattern (drop l.node-index l.nodes)) ≡ list_any (is_open l.rule) (nodes_at l.pattern l.nodes)

@@ -6,7 +6,7 @@ use Rattle.ide_ssr_matching.proofs.token_trees.has_token_placeholder.Given as go
 
 abbrev pub invariant-loop-child : goal.invariant-loop-child
 invariant-loop-child l = record {
-  so_far : has_token_placeholder l.rule.names (map (part_of l.rule.pattern) l.child-iterator)
-      ≡ has_token_placeholder l.rule.names (parts_of (node_of l.rule.pattern l.fn.p.0));
+  so_far : has_token_placeholder l.rule (map (part_of l.rule.pattern) l.child-iterator)
+      ≡ has_token_placeholder l.rule (parts_of (node_of l.rule.pattern l.fn.p.0));
   had : All (HasElement l.rule.pattern) l.child-iterator;
 }

@@ -17,7 +17,7 @@ returns-in-Token c =
     let table = c.token_placeholders.result.now in
     let told = get_or table c.in-Token.token.0 None in
     let has = subst (HasElement rule.pattern) c.in-Token.is c.requires in
-    token_told rule.names rule.pattern c.args.child c.in-Token.token told c.is_some.result c.in-Token.is
+    token_told rule rule.pattern c.args.child c.in-Token.token told c.is_some.result c.in-Token.is
     (at_table rule.names table c.in-Token.token.0 (Some rule.pattern) told c.token_placeholders.ensures has
     (get_or_default table c.in-Token.token.0 None told
     (in_table rule.names table c.in-Token.token.0 (Some rule.pattern) c.token_placeholders.ensures has)))
