@@ -11,7 +11,11 @@ use Rattle.ssr_base.specs.Applied.{change_of as pair_change, changes_of}
 use Rattle.ssr_base.specs.Changes.{Change}
 use Rattle.ssr_base.specs.Workspace.{FileSpan, file_span_of}
 use Rattle.ide_ssr_rewriting.specs.Clashes.{Rewrite, same_range, change_of}
-use Rattle.ide_ssr_rewriting.specs.Private.Clashes.{fresh_behind}
+
+-- those of a list, behind one of the range, that begin another range
+abbrev pub fresh_behind : FileSpan → List Rewrite → List Rewrite
+fresh_behind range [] = []
+fresh_behind range (r ∷ rs) = if same_range r.range range then fresh_behind range rs else r ∷ fresh_behind r.range rs
 
 -- those of a list that begin another range than the last one before them
 abbrev pub fresh : Option FileRange → List Rewrite → List Rewrite

@@ -164,9 +164,6 @@ no_clash x z apart = and_left (share_byte x.range z.range) (not (same_range x.ra
 
 -- ** Clashes of a list.
 
-pair_of : Rewrite → Rewrite → Clash
-pair_of x z = record { earlier = x.range; later = z.range }
-
 Contains-here : (c d : Clash) (cs : List Clash) → c ≡ d → Contains (c ∷ cs) d
 Contains-here c d cs e = (0, omega arith, e)
 

@@ -1,5 +1,5 @@
 -- The edits of the files, from a list that is in order and has no clash.
-use Rattle.std.proofs.Common.{◌≡◌, ℕ, suc, ◌-◌, ◌<◌, ◌≤◌, ◌==◌, Bool, cond, true, false, inl, inr, List, [], ◌∷◌, ◌++◌, All, get_or, length, map, filter, reverse, Some, refl, sym, ◌∙◌, ap, subst, arith, append-nil, append_assoc}
+use Rattle.std.proofs.Common.{◌≡◌, ℕ, suc, ◌-◌, ◌<◌, ◌≤◌, ◌==◌, Bool, cond, true, false, inl, inr, ◌⊎◌, List, [], ◌∷◌, ◌++◌, All, get_or, length, map, filter, reverse, Some, refl, sym, ◌∙◌, ap, subst, arith, append-nil, append_assoc}
 use Rattle.std.specs.BTreeMap.{BTreeMap, get, is_at}
 use Rattle.std.specs.Map.{lookup}
 use Rattle.std.specs.Prelude.{if◌then◌else◌}
@@ -12,10 +12,10 @@ use Rattle.ssr_base.specs.Changes.{Change, ChangesInOrder}
 use Rattle.ssr_base.specs.Workspace.{FileSpan}
 use Rattle.ide_ssr_rewriting.specs.Clashes.{Rewrite, Clash, change_of, changes_made, clashes, clashes_with, is_clash, same_range, share_byte}
 use Rattle.ide_ssr_rewriting.specs.Edits.{edit_of, file_cmp, some_changes}
-use Rattle.ide_ssr_rewriting.specs.Private.Clashes.{AreInOrder, range_le, fresh_behind}
-use Rattle.ide_ssr_rewriting.specs.Private.Groups.{AreSplit, IsGroup, LastElsewhere, in_file}
+use Rattle.ide_ssr_rewriting.specs.Private.Clashes.{AreInOrder, range_le}
+use Rattle.ide_ssr_rewriting.specs.Private.Groups.{IsGroup, LastElsewhere}
 use Rattle.ide_ssr_rewriting.proofs.FirstClashes.{ComesFirst, InOrder, apart_ranges, comes_first, in_order, less_shared, one_range, pairs, without_second}
-use Rattle.ide_ssr_rewriting.proofs.ChangesMade.{fresh_from}
+use Rattle.ide_ssr_rewriting.proofs.ChangesMade.{fresh_behind, fresh_from}
 
 -- ** Lists without a clash.
 
@@ -117,10 +117,6 @@ All-front : {X : Type 0} (P : X → Type 0) (xs ys : List X) → All P (xs ++ ys
 All-front P [] ys h = All-nil P
 All-front P (x ∷ xs) ys h = All-cons P x xs (All-head P x (xs ++ ys) h) (All-front P xs ys (All-tail P x (xs ++ ys) h))
 
-All-back : {X : Type 0} (P : X → Type 0) (xs ys : List X) → All P (xs ++ ys) → All P ys
-All-back P [] ys h = h
-All-back P (x ∷ xs) ys h = All-back P xs ys (All-tail P x (xs ++ ys) h)
-
 order-front : (xs ys : List Rewrite) → InOrder (xs ++ ys) → InOrder xs
 order-front [] ys h = tt
 order-front (x ∷ xs) ys h = (h.0, All-front (λ s. range_le x.range s.range ≡ true) xs ys h.1, order-front xs ys h.2)
@@ -130,6 +126,15 @@ order-back [] ys h = h
 order-back (x ∷ xs) ys h = order-back xs ys h.2
 
 -- ** The rewrites of a file.
+
+-- those of a list that lie in a file
+abbrev pub in_file : ℕ → List Rewrite → List Rewrite
+in_file q rs = filter (λ r. r.range.file == q) rs
+
+-- a list of which the last part is taken, with no file in both parts
+pub record AreSplit (all left done : List Rewrite) : Type 0 where
+  pub is : left ++ done ≡ all
+  pub apart : (q : ℕ) → (in_file q left ≡ []) ⊎ (in_file q done ≡ [])
 
 all_in : (q : ℕ) (rs : List Rewrite) → All (λ r. r.range.file ≡ q) rs → in_file q rs ≡ rs
 all_in q [] h = refl

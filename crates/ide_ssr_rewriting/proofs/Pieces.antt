@@ -1,7 +1,7 @@
 -- The placeholders of a match, one more at a time.
 use Rattle.std.proofs.Common.{◌≡◌, ℕ, zero, suc, ◌+◌, ◌<◌, ◌≤◌, ◌&&◌, Bool, true, false, List, [], ◌∷◌, ◌++◌, get_or, drop, length, Option, Some, None, refl, sym, ◌∙◌, ap, subst, arith, append_assoc, append-nil, String}
 use Rattle.std.specs.Global.{Global}
-use Rattle.std.specs.Prelude.{Contains, if◌then◌else◌, is_some, option_map, option_to_list, slice_get, unwrap_or}
+use Rattle.std.specs.Prelude.{Contains, flat_map, if◌then◌else◌, is_some, option_map, option_to_list, slice_get, unwrap_or}
 use Rattle.std.specs.List.{enumerate_from}
 use Rattle.std.specs.Option.{IsSomeAnd, option_map_or}
 use Rattle.std.proofs.Math.Bool.{and-true}
@@ -23,7 +23,7 @@ use Rattle.ide_ssr_rewriting.specs.Edits.{nowhere, range_at, Texts, list_at, lis
 use Rattle.ide_ssr_rewriting.specs.Replacements.{piece, text_of_match}
 use Rattle.ide_ssr_rewriting.specs.Private.Clashes.{AreInOrder, lesser}
 use Rattle.ide_ssr_rewriting.specs.Private.Edits.{text_in}
-use Rattle.ide_ssr_rewriting.specs.Private.Pieces.{AreLeft, AreNoted, AreTaken, AreWritten, all_clean, clashes_in, pieces_by, pieces_of}
+use Rattle.ide_ssr_rewriting.specs.Private.Pieces.{all_clean, pieces_by, pieces_of}
 use Rattle.ide_ssr_rewriting.proofs.FirstClashes.{IsFirst-append, IsFirst-same}
 use Rattle.ide_ssr_rewriting.proofs.Texts.{list_same, one_list}
 
@@ -62,6 +62,34 @@ list_in_order kept listing is holder texts = record {
 
     stands : ℕ → Rewrite
     stands n = record { range = range_at kept n; text = texts n }
+
+-- ** The first placeholders.
+
+-- the clashes of the lists of placeholders
+abbrev pub clashes_in : (ℕ → List Rewrite) → List (ℕ × Binding) → List Clash
+clashes_in lists bound = flat_map (λ p. clashes (lists p.0)) bound
+
+-- the texts that are left, where the lists of the first i placeholders of the match of the place n are taken
+pub record AreLeft (listing : Listing) (n i : ℕ) (old cur : List (Option (String Global))) : Type 0 where
+  pub counted : length cur ≡ length old
+  pub left : (j : ℕ) → ((k : ℕ) → k < i → Contains (under listing n k) j → ⊥) → text_in cur j ≡ text_in old j
+
+-- the pieces of the first i placeholders, and whether all their lists can be made
+pub record AreWritten (w : Workspace) (m : Found) (lists : ℕ → List Rewrite) (i : ℕ) (clean : Bool) (pieces : List (List ℕ)) : Type 0 where
+  pub clean_lists : all_clean lists (enumerate_from 0 m.bindings) ≡ (clean && all_clean lists (enumerate_from i (drop i m.bindings)))
+  pub written : clean ≡ true → pieces ++ pieces_of w m lists (enumerate_from i (drop i m.bindings)) ≡ pieces_of w m lists (enumerate_from 0 m.bindings)
+
+-- the first clash of the lists of the first i placeholders and of others
+pub record AreNoted (m : Found) (lists : ℕ → List Rewrite) (i : ℕ) (was now : Option Clash) : Type 0 where
+  pub before : List Clash
+  pub split : before ++ clashes_in lists (enumerate_from i (drop i m.bindings)) ≡ clashes_in lists (enumerate_from 0 m.bindings)
+  pub first : (others : List Clash) → IsFirst others was → IsFirst (before ++ others) now
+
+-- the first i placeholders of the match m of the place n are done
+pub record AreTaken (kept : Kept) (listing : Listing) (m : Found) (n i : ℕ) (old cur : List (Option (String Global))) (clean : Bool) (pieces : List (List ℕ)) (was now : Option Clash) : Type 0 where
+  pub texts : AreLeft listing n i old cur
+  pub written : AreWritten kept.workspace m (list_under kept listing (text_in old) n) i clean pieces
+  pub noted : AreNoted m (list_under kept listing (text_in old) n) i was now
 
 -- ** One placeholder more.
 
@@ -117,17 +145,6 @@ pieces_more all rest old new true o text clean made so_far e m n sure =
 pieces_more all rest old new false o text clean made so_far e m n sure =
     let wrong : false ≡ true = sym (m ∙ ap (λ (o : Option (List ℕ)). is_some o && clean) e) ∙ sure in
     absurd (cc wrong)
-
-pub taking-starts : (kept : Kept) (listing : Listing) (m : Found) (n : ℕ) (old : List (Option (String Global))) (pieces : List (List ℕ)) (was : Option Clash) → pieces ≡ []
-    → AreTaken kept listing m n 0 old old true pieces was was
-taking-starts kept listing m n old pieces was none = record {
-  texts = record { counted = refl; left = λ j _. refl };
-  written = record {
-    clean_lists = refl;
-    written = λ _. ap (λ (xs : List (List ℕ)). xs ++ pieces_of kept.workspace m (list_under kept listing (text_in old) n) (enumerate_from 0 m.bindings)) none;
-  };
-  noted = record { before = []; split = refl; first = λ others h. h };
-}
 
 pub left-more : (listing : Listing) (n i : ℕ) (old cur new : List (Option (String Global))) → AreLeft listing n i old cur → length new ≡ length cur
     → ((j : ℕ) → (Contains (under listing n i) j → ⊥) → text_in new j ≡ text_in cur j) → AreLeft listing n (i + 1) old new

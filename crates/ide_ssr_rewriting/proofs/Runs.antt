@@ -1,5 +1,5 @@
 -- The matches are gone through, one more at a time.
-use Rattle.std.proofs.Common.{◌≡◌, ℕ, ◌+◌, ◌<◌, inl, inr, List, [], ◌∷◌, ◌++◌, set, drop, length, Option, Some, None, refl, sym, ◌∙◌, ap, subst, arith, String, string_bytes}
+use Rattle.std.proofs.Common.{◌≡◌, ℕ, ◌+◌, ◌<◌, inl, inr, List, ◌∷◌, ◌++◌, set, drop, length, Option, Some, None, sym, ◌∙◌, ap, subst, arith, String, string_bytes}
 use Rattle.std.specs.Global.{Global}
 use Rattle.std.specs.Prelude.{Contains, flat_map, option_map, slice_get, Result, Ok, Err}
 use Rattle.std.specs.BTreeMap.{BTreeMap, get}
@@ -110,18 +110,6 @@ first_of_all kept listing rules is stored was first now list run taken told note
     subst (IsFirst (all_clashes kept listing (texts_of kept listing rules))) (sym noted)
     (IsFirst-append (clashes (outermost_list kept listing (texts_of kept listing rules))) (clashes_from kept listing (texts_of kept listing rules) 0) first was
     (subst (λ (list : List Rewrite). IsFirst (clashes list) first) here told) run.first)
-
-front_none : (xs ys : List Clash) → xs ++ ys ≡ [] → xs ≡ []
-front_none [] ys e = refl
-front_none (x ∷ xs) ys e = absurd (cc e)
-
--- without a clash the outermost list has none
-pub outermost_clean : (kept : Kept) (listing : Listing) (rules : List ResolvedKind) → IsNest kept listing → (stored : List (Option (String Global))) (was now : Option Clash) (list : List Rewrite)
-    → IsRun kept listing rules 0 stored was → list ≡ list_at kept (text_in stored) (listed listing None) → IsFirst (all_clashes kept listing (texts_of kept listing rules)) now → now ≡ None → clashes list ≡ []
-outermost_clean kept listing rules is stored was now list run taken first none =
-    let all : all_clashes kept listing (texts_of kept listing rules) ≡ [] = subst (IsFirst (all_clashes kept listing (texts_of kept listing rules))) none first in
-    ap clashes (taken ∙ outermost_known kept listing rules is stored was run)
-    ∙ front_none (clashes (outermost_list kept listing (texts_of kept listing rules))) (clashes_from kept listing (texts_of kept listing rules) 0) all
 
 pub edited : (kept : Kept) (listing : Listing) (rules : List ResolvedKind) → IsNest kept listing → (stored : List (Option (String Global))) (was now : Option Clash) (list : List Rewrite) (edits : BTreeMap FileId (List Change))
     → IsRun kept listing rules 0 stored was → list ≡ list_at kept (text_in stored) (listed listing None) → IsFirst (all_clashes kept listing (texts_of kept listing rules)) now → now ≡ None

@@ -26,10 +26,9 @@ use Rattle.ide_ssr_rewriting.specs.Edits.{Texts, AreTexts, all_clashes, clashes_
 use Rattle.ide_ssr_rewriting.specs.Laws.{AnswerExists}
 use Rattle.ide_ssr_rewriting.specs.Private.Clashes.{lesser}
 use Rattle.ide_ssr_rewriting.specs.Private.Edits.{texts_of}
-use Rattle.ide_ssr_rewriting.specs.Private.Groups.{in_file}
 use Rattle.ide_ssr_rewriting.proofs.ChangesMade.{fresh_from}
 use Rattle.ide_ssr_rewriting.proofs.FirstClashes.{IsFirst-append}
-use Rattle.ide_ssr_rewriting.proofs.Groups.{same_file, some_of}
+use Rattle.ide_ssr_rewriting.proofs.Groups.{in_file, same_file, some_of}
 use Rattle.ide_ssr_rewriting.proofs.Nests.{is_nest}
 use Rattle.ide_ssr_rewriting.proofs.Texts.{are_texts}
 

@@ -1,6 +1,6 @@
 -- The text that a rule's template gives for a match.
 use Rattle.std.specs.Prelude.{ℕ, ◌+◌, ◌==◌, ◌&&◌, not, Bool, true, false, if◌then◌else◌, codes, is_some, slice_index_or, length, List, [], ◌∷◌, ◌++◌, flat_map, Some, None, Result, Ok, Err}
-use Rattle.std.specs.List.{list_any, position_or_len}
+use Rattle.std.specs.List.{list_any, position}
 use Rattle.std.specs.Option.{option_map_or}
 use Rattle.ssr_syntax_tree.specs.Syntax.{Token, Syntax, tokens_of}
 use Rattle.ssr_syntax_tree.specs.Places.{nodes_of, start_of, end_of}
@@ -15,15 +15,16 @@ use Rattle.ide_ssr_found.specs.declared.bindings.Binding.{Binding}
 -- the piece of the placeholder whose name has the place i, where the bindings have these pieces; a match binds each
 -- placeholder of its rule, so none lacks one
 unfoldable pub piece_of : List Binding → List (List ℕ) → ℕ → List ℕ
-piece_of bindings pieces i = slice_index_or pieces (position_or_len (λ binding. binding.placeholder == i) bindings) []
+piece_of bindings pieces i =
+    option_map_or (λ place. slice_index_or pieces place []) (position (λ binding. binding.placeholder == i) bindings) []
 
--- what stands for a token of the template: the piece of its placeholder, or its own text; `piece` are the pieces
-abbrev pub text_for : List (List ℕ) → (ℕ → List ℕ) → Token → List ℕ
-text_for names piece token = elim (name_at names token) [ Some i ↦ piece i | None ↦ token.text ]
+-- what stands for a token of the rule's template: the piece of its placeholder, or its own text; `piece` are the pieces
+abbrev pub text_for : ResolvedKind → (ℕ → List ℕ) → Token → List ℕ
+text_for rule piece token = elim (name_at rule.names token) [ Some i ↦ piece i | None ↦ token.text ]
 
 -- the template with its pieces
-abbrev pub plain : List (List ℕ) → (ℕ → List ℕ) → List Token → List ℕ
-plain names piece tokens = flat_map (text_for names piece) tokens
+abbrev pub plain : ResolvedKind → (ℕ → List ℕ) → List Token → List ℕ
+plain rule piece tokens = flat_map (text_for rule piece) tokens
 
 -- whether a node has exactly the bytes from one place to another of a text, of which the tree was read
 -- without the first `front` bytes
@@ -37,17 +38,17 @@ wrapped_text tree front is_piece at text =
     if is_piece && not (is_node tree front at (at + length text)) then codes "(" ++ (text ++ codes ")") else text
 
 -- the rest of the template with its pieces, from a place on: each piece that is no node stands in parentheses
-abbrev pub wrapped : Syntax → ℕ → List (List ℕ) → (ℕ → List ℕ) → ℕ → List Token → List ℕ
-wrapped tree front names piece at [] = []
-wrapped tree front names piece at (token ∷ tokens) =
-    let text = text_for names piece token in
-    wrapped_text tree front (is_some (name_at names token)) at text
-    ++ wrapped tree front names piece (at + length text) tokens
+abbrev pub wrapped : Syntax → ℕ → ResolvedKind → (ℕ → List ℕ) → ℕ → List Token → List ℕ
+wrapped tree front rule piece at [] = []
+wrapped tree front rule piece at (token ∷ tokens) =
+    let text = text_for rule piece token in
+    wrapped_text tree front (is_some (name_at rule.names token)) at text
+    ++ wrapped tree front rule piece (at + length text) tokens
 
 -- the template with its pieces, with parentheses if the text without them reads in the template's category
-abbrev pub rendered_as : Result Syntax SyntaxError → List (List ℕ) → (ℕ → List ℕ) → List Token → List ℕ
-rendered_as (Ok tree) names piece tokens = wrapped tree (trimmed_front (plain names piece tokens)) names piece 0 tokens
-rendered_as (Err error) names piece tokens = plain names piece tokens
+abbrev pub rendered_as : Result Syntax SyntaxError → ResolvedKind → (ℕ → List ℕ) → List Token → List ℕ
+rendered_as (Ok tree) rule piece tokens = wrapped tree (trimmed_front (plain rule piece tokens)) rule piece 0 tokens
+rendered_as (Err error) rule piece tokens = plain rule piece tokens
 
 -- A template in one of these categories gets parentheses: in a type or in a pattern they would mean nothing, or another
 -- thing.
@@ -60,8 +61,8 @@ takes_parentheses category = true
 abbrev pub rendered_by : ResolvedKind → (ℕ → List ℕ) → Syntax → List ℕ
 rendered_by rule piece template =
     let tokens = tokens_of template in
-    let text = plain rule.names piece tokens in
-    if takes_parentheses rule.category then rendered_as (fragment_reading rule.category text) rule.names piece tokens
+    let text = plain rule piece tokens in
+    if takes_parentheses rule.category then rendered_as (fragment_reading rule.category text) rule piece tokens
     else text
 
 -- the template of a rule with its pieces; nothing where the rule has no template

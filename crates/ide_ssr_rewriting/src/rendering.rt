@@ -2,7 +2,7 @@
 
 ghost use Rattle.std.specs.Prelude.{◌≡◌, ◌+◌, ◌++◌, ◌^◌, ◌<◌, ◌≤◌, ◌==◌, ◌&&◌, ℕ, if◌then◌else◌, nat_le, not, IfOk, IsTrue, Some, length, map, string_bytes};
 ghost use Rattle.std.specs.Cow.{cow_str_bytes};
-ghost use Rattle.std.specs.List.{position_or_len};
+ghost use Rattle.std.specs.List.{position};
 ghost use Rattle.ssr_syntax_tree.specs.Syntax.{node_count, tokens_of};
 ghost use Rattle.ssr_syntax_tree.specs.Places.{HasNode, HasToken, node_of, token_of};
 ghost use Rattle.ide_ssr_rules.specs.StandIns.{name_at};
@@ -58,23 +58,24 @@ fn takes_parentheses(category: Fragment) -> bool
     !matches!(category, Fragment::Ty | Fragment::Pat)
 }
 
-/// The place of the placeholder's binding, or the count of bindings.
-fn place_of_binding(bindings: &[Binding], placeholder: u32) -> usize
-    ensures { result ≡ position_or_len (λ binding. binding.placeholder == placeholder) bindings.now }
+/// The place of the placeholder's binding, if it has one.
+fn place_of_binding(bindings: &[Binding], placeholder: u32) -> Option<usize>
+    ensures { result ≡ position (λ binding. binding.placeholder == placeholder) bindings.now }
 {
-    for (place, binding) in bindings.iter().enumerate() {
-        if binding.placeholder == placeholder {
-            return place;
-        }
-    }
-    bindings.len()
+    bindings
+        .iter()
+        .position(|binding| binding.placeholder == placeholder)
 }
 
 /// The piece of the placeholder whose name has this place.
+#[tactic(auto, unfolding(crate::specs::Rendering::piece_of))]
 fn piece<'a>(bindings: &[Binding], pieces: &'a [CowStr<'_>], placeholder: u32) -> &'a str
     ensures { result.now ≡ piece_of bindings.now (map cow_str_bytes pieces.now) placeholder }
 {
-    match pieces.get(place_of_binding(bindings, placeholder)) {
+    let Some(place) = place_of_binding(bindings, placeholder) else {
+        return "";
+    };
+    match pieces.get(place) {
         Some(piece) => piece.as_str(),
         None => "",
     }
@@ -103,7 +104,7 @@ impl<'a> Rendering<'a> {
     fn text_for(&self, token: TokenNo) -> &'a str
         requires template { self.now.rule.now.template ≡ Some self.now.template.now }
         requires has { HasToken self.now.template.now token.0 }
-        ensures { result.now ≡ text_for self.now.rule.now.names (piece_of self.now.bindings.now (map cow_str_bytes self.now.pieces.now)) (token_of self.now.template.now token.0) }
+        ensures { result.now ≡ text_for self.now.rule.now (piece_of self.now.bindings.now (map cow_str_bytes self.now.pieces.now)) (token_of self.now.template.now token.0) }
     {
         match self.placeholder(token) {
             Some(place) => piece(self.bindings, self.pieces, place),
@@ -114,7 +115,7 @@ impl<'a> Rendering<'a> {
     /// The template with its pieces. At first it gets the room of the template, whose stand-ins are as long as most pieces.
     fn plain(&self, alloc: Global) -> Result<String, AllocError>
         requires { self.now.rule.now.template ≡ Some self.now.template.now }
-        ensures { IfOk result (λ text. string_bytes text ≡ plain self.now.rule.now.names (piece_of self.now.bindings.now (map cow_str_bytes self.now.pieces.now)) (tokens_of self.now.template.now)) }
+        ensures { IfOk result (λ text. string_bytes text ≡ plain self.now.rule.now (piece_of self.now.bindings.now (map cow_str_bytes self.now.pieces.now)) (tokens_of self.now.template.now)) }
     {
         let mut text = String::with_capacity(alloc, self.template.source().len())?;
         for token in 0..self.template.token_count() {
@@ -127,8 +128,8 @@ impl<'a> Rendering<'a> {
     /// without the first `front` bytes.
     fn are_nodes(&self, tree: &Tree, front: u32) -> bool
         requires template { self.now.rule.now.template ≡ Some self.now.template.now }
-        requires length { length (plain self.now.rule.now.names (piece_of self.now.bindings.now (map cow_str_bytes self.now.pieces.now)) (tokens_of self.now.template.now)) < 2 ^ 64 }
-        ensures { IsTrue result → wrapped tree.now front self.now.rule.now.names (piece_of self.now.bindings.now (map cow_str_bytes self.now.pieces.now)) 0 (tokens_of self.now.template.now) ≡ plain self.now.rule.now.names (piece_of self.now.bindings.now (map cow_str_bytes self.now.pieces.now)) (tokens_of self.now.template.now) }
+        requires length { length (plain self.now.rule.now (piece_of self.now.bindings.now (map cow_str_bytes self.now.pieces.now)) (tokens_of self.now.template.now)) < 2 ^ 64 }
+        ensures { IsTrue result → wrapped tree.now front self.now.rule.now (piece_of self.now.bindings.now (map cow_str_bytes self.now.pieces.now)) 0 (tokens_of self.now.template.now) ≡ plain self.now.rule.now (piece_of self.now.bindings.now (map cow_str_bytes self.now.pieces.now)) (tokens_of self.now.template.now) }
     {
         let mut at = 0;
         for token in 0..self.template.token_count() {
@@ -146,8 +147,8 @@ impl<'a> Rendering<'a> {
     /// node of it stands in parentheses.
     fn wrapped(&self, alloc: Global, tree: &Tree, front: u32) -> Result<String, AllocError>
         requires template { self.now.rule.now.template ≡ Some self.now.template.now }
-        requires length { length (plain self.now.rule.now.names (piece_of self.now.bindings.now (map cow_str_bytes self.now.pieces.now)) (tokens_of self.now.template.now)) < 2 ^ 64 }
-        ensures { IfOk result (λ text. string_bytes text ≡ wrapped tree.now front self.now.rule.now.names (piece_of self.now.bindings.now (map cow_str_bytes self.now.pieces.now)) 0 (tokens_of self.now.template.now)) }
+        requires length { length (plain self.now.rule.now (piece_of self.now.bindings.now (map cow_str_bytes self.now.pieces.now)) (tokens_of self.now.template.now)) < 2 ^ 64 }
+        ensures { IfOk result (λ text. string_bytes text ≡ wrapped tree.now front self.now.rule.now (piece_of self.now.bindings.now (map cow_str_bytes self.now.pieces.now)) 0 (tokens_of self.now.template.now)) }
     {
         let mut wrapped = String::with_capacity(alloc, self.template.source().len())?;
         let mut at = 0;

@@ -1,4 +1,4 @@
--- Private: in which order a list stands, and how it is gone through for its first clash, and for its changes.
+-- Private: in which order a list stands, and how it is gone through for its first clash.
 use Rattle.std.specs.Prelude.{◌≡◌, ◌<◌, ◌&&◌, Bool, true, if◌then◌else◌, List, [], ◌∷◌, Option, Some, None, is_some, All, AllPairs}
 use Rattle.std.specs.Cmp.Lexicographic.{slice_cmp}
 use Rattle.std.specs.Ordering.{is_le, nat_cmp}
@@ -23,11 +23,6 @@ abbrev pub first_behind : Rewrite → List Rewrite → Option Clash
 first_behind r [] = None
 first_behind r (s ∷ rs) =
     if is_clash r s then Some (record { earlier = r.range; later = s.range }) else first_behind (if stands_for r s then r else s) rs
-
--- those of a list, behind one of the range, that begin another range
-abbrev pub fresh_behind : FileSpan → List Rewrite → List Rewrite
-fresh_behind range [] = []
-fresh_behind range (r ∷ rs) = if same_range r.range range then fresh_behind range rs else r ∷ fresh_behind r.range rs
 
 -- the earlier one of two clashes, where there are some
 abbrev pub lesser : Option Clash → Option Clash → Option Clash

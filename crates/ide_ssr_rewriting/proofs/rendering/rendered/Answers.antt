@@ -8,7 +8,7 @@ pub returns-then-are_nodes : goal.returns-then-are_nodes
 returns-then-are_nodes c =
     let rule = c.args.rule.now in
     let spelled : string_bytes c.in_ok-plain.plain
-    ≡ wrapped c.in-Ok.tree c.in-Ok.front rule.names (piece_of c.args.bindings.now (map cow_str_bytes c.args.pieces.now)) 0 (tokens_of c.in-Some.template.now) =
+    ≡ wrapped c.in-Ok.tree c.in-Ok.front rule (piece_of c.args.bindings.now (map cow_str_bytes c.args.pieces.now)) 0 (tokens_of c.in-Some.template.now) =
     c.in_ok-plain.ensures ∙ sym (c.are_nodes.ensures c.if-are_nodes.true) in
     search rules steps 2000000
 

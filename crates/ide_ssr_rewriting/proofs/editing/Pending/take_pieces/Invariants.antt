@@ -1,7 +1,7 @@
 use Rattle.std.proofs.Common.{map, option_map}
 use Rattle.std.specs.Cow.{cow_str_bytes}
 use Rattle.ide_ssr_rewriting.specs.Clashes.{clash_of}
-use Rattle.ide_ssr_rewriting.specs.Private.Pieces.{AreTaken}
+use Rattle.ide_ssr_rewriting.proofs.Pieces.{AreTaken}
 use Rattle.ide_ssr_rewriting.proofs.editing.Pending.take_pieces.Given as goal
 
 abbrev pub invariant-loop-index : goal.invariant-loop-index

@@ -6,10 +6,10 @@ use Rattle.ide_ssr_rewriting.proofs.rendering.Rendering.are_nodes.Given as goal
 
 abbrev pub invariant-loop-token : goal.invariant-loop-token
 invariant-loop-token l = record {
-  so_far : wrapped l.tree l.front l.self.rule.now.names (piece_of l.self.bindings.now (map cow_str_bytes l.self.pieces.now)) l.at (drop l.token (tokens_of l.self.template.now))
-      ≡ plain l.self.rule.now.names (piece_of l.self.bindings.now (map cow_str_bytes l.self.pieces.now)) (drop l.token (tokens_of l.self.template.now))
-      → wrapped l.tree l.front l.self.rule.now.names (piece_of l.self.bindings.now (map cow_str_bytes l.self.pieces.now)) 0 (tokens_of l.self.template.now)
-      ≡ plain l.self.rule.now.names (piece_of l.self.bindings.now (map cow_str_bytes l.self.pieces.now)) (tokens_of l.self.template.now);
-  within : l.at + length (plain l.self.rule.now.names (piece_of l.self.bindings.now (map cow_str_bytes l.self.pieces.now)) (drop l.token (tokens_of l.self.template.now)))
-      ≡ length (plain l.self.rule.now.names (piece_of l.self.bindings.now (map cow_str_bytes l.self.pieces.now)) (tokens_of l.self.template.now));
+  so_far : wrapped l.tree l.front l.self.rule.now (piece_of l.self.bindings.now (map cow_str_bytes l.self.pieces.now)) l.at (drop l.token (tokens_of l.self.template.now))
+      ≡ plain l.self.rule.now (piece_of l.self.bindings.now (map cow_str_bytes l.self.pieces.now)) (drop l.token (tokens_of l.self.template.now))
+      → wrapped l.tree l.front l.self.rule.now (piece_of l.self.bindings.now (map cow_str_bytes l.self.pieces.now)) 0 (tokens_of l.self.template.now)
+      ≡ plain l.self.rule.now (piece_of l.self.bindings.now (map cow_str_bytes l.self.pieces.now)) (tokens_of l.self.template.now);
+  within : l.at + length (plain l.self.rule.now (piece_of l.self.bindings.now (map cow_str_bytes l.self.pieces.now)) (drop l.token (tokens_of l.self.template.now)))
+      ≡ length (plain l.self.rule.now (piece_of l.self.bindings.now (map cow_str_bytes l.self.pieces.now)) (tokens_of l.self.template.now));
 }

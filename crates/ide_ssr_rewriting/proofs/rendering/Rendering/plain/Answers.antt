@@ -9,12 +9,12 @@ use Rattle.ide_ssr_rewriting.proofs.rendering.Rendering.plain.Goals as goal
 pub loop-token-preserved : goal.loop-token-preserved
 loop-token-preserved c =
     pushed _ _ _ _ _ _ c.loop-token.invariant
-    (plain_from c.args.self.now.rule.now.names (piece_of c.args.self.now.bindings.now (map cow_str_bytes c.args.self.now.pieces.now)) c.args.self.now.template.now c.loop-token.token (omega arith))
+    (plain_from c.args.self.now.rule.now (piece_of c.args.self.now.bindings.now (map cow_str_bytes c.args.self.now.pieces.now)) c.args.self.now.template.now c.loop-token.token (omega arith))
     (c.in_ok-push_str.ensures.bytes ∙ ap (λ (t : List ℕ). string_bytes c.loop-token.text ++ t) c.text_for.ensures)
 
 pub returns : goal.returns
 returns c =
     let none : drop c.loop-token.token (tokens_of c.args.self.now.template.now) ≡ [] = no_tokens c.args.self.now.template.now c.loop-token.token (omega arith) in
     sym (append-nil (string_bytes c.loop-token.text))
-    ∙ (ap (λ (ts : List Token). string_bytes c.loop-token.text ++ plain c.args.self.now.rule.now.names (piece_of c.args.self.now.bindings.now (map cow_str_bytes c.args.self.now.pieces.now)) ts) (sym none)
+    ∙ (ap (λ (ts : List Token). string_bytes c.loop-token.text ++ plain c.args.self.now.rule.now (piece_of c.args.self.now.bindings.now (map cow_str_bytes c.args.self.now.pieces.now)) ts) (sym none)
     ∙ c.loop-token.invariant)

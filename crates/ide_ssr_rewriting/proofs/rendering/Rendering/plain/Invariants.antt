@@ -6,5 +6,5 @@ use Rattle.ide_ssr_rewriting.proofs.rendering.Rendering.plain.Given as goal
 
 abbrev pub invariant-loop-token : goal.invariant-loop-token
 invariant-loop-token l =
-    string_bytes l.text ++ plain l.self.rule.now.names (piece_of l.self.bindings.now (map cow_str_bytes l.self.pieces.now)) (drop l.token (tokens_of l.self.template.now))
-    ≡ plain l.self.rule.now.names (piece_of l.self.bindings.now (map cow_str_bytes l.self.pieces.now)) (tokens_of l.self.template.now)
+    string_bytes l.text ++ plain l.self.rule.now (piece_of l.self.bindings.now (map cow_str_bytes l.self.pieces.now)) (drop l.token (tokens_of l.self.template.now))
+    ≡ plain l.self.rule.now (piece_of l.self.bindings.now (map cow_str_bytes l.self.pieces.now)) (tokens_of l.self.template.now)

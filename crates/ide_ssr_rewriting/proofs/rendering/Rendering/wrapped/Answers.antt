@@ -11,34 +11,34 @@ use Rattle.ide_ssr_rewriting.proofs.rendering.Rendering.wrapped.Goals as goal
 pub push_wrapped-requires : goal.push_wrapped-requires
 push_wrapped-requires c =
     bounded _ _ _ _ _ _ c.loop-token.invariant.within
-    (plain_from c.args.self.now.rule.now.names (piece_of c.args.self.now.bindings.now (map cow_str_bytes c.args.self.now.pieces.now)) c.args.self.now.template.now c.loop-token.token (omega arith))
+    (plain_from c.args.self.now.rule.now (piece_of c.args.self.now.bindings.now (map cow_str_bytes c.args.self.now.pieces.now)) c.args.self.now.template.now c.loop-token.token (omega arith))
     c.requires.length c.text_for-text.ensures
 
 pub overflow_add-at : goal.overflow_add-at
 overflow_add-at c =
     let bound : c.loop-token.at + length c.text_for-text.result.now < 2 ^ 64 = bounded _ _ _ _ _ _ c.loop-token.invariant.within
-    (plain_from c.args.self.now.rule.now.names (piece_of c.args.self.now.bindings.now (map cow_str_bytes c.args.self.now.pieces.now)) c.args.self.now.template.now c.loop-token.token (omega arith))
+    (plain_from c.args.self.now.rule.now (piece_of c.args.self.now.bindings.now (map cow_str_bytes c.args.self.now.pieces.now)) c.args.self.now.template.now c.loop-token.token (omega arith))
     c.requires.length c.text_for-text.ensures in
     search rules steps 2000000
 
 pub loop-token-preserved : goal.loop-token-preserved
 loop-token-preserved c =
     let has : HasToken c.args.self.now.template.now c.loop-token.token = omega arith in
-    let text : c.text_for-text.result.now ≡ text_for c.args.self.now.rule.now.names (piece_of c.args.self.now.bindings.now (map cow_str_bytes c.args.self.now.pieces.now)) (token_of c.args.self.now.template.now c.loop-token.token) = c.text_for-text.ensures in
+    let text : c.text_for-text.result.now ≡ text_for c.args.self.now.rule.now (piece_of c.args.self.now.bindings.now (map cow_str_bytes c.args.self.now.pieces.now)) (token_of c.args.self.now.template.now c.loop-token.token) = c.text_for-text.ensures in
     let is_piece : c.is_some-is_piece.result ≡ is_some (name_at c.args.self.now.rule.now.names (token_of c.args.self.now.template.now c.loop-token.token)) = c.is_some-is_piece.ensures ∙ ap is_some c.placeholder.ensures in
     rw text record {
       spelled = pushed _ _ _ _ _ _ c.loop-token.invariant.spelled
-          (wrapped_from c.args.tree.now c.args.front c.args.self.now.rule.now.names (piece_of c.args.self.now.bindings.now (map cow_str_bytes c.args.self.now.pieces.now)) c.loop-token.at c.args.self.now.template.now c.loop-token.token has)
+          (wrapped_from c.args.tree.now c.args.front c.args.self.now.rule.now (piece_of c.args.self.now.bindings.now (map cow_str_bytes c.args.self.now.pieces.now)) c.loop-token.at c.args.self.now.template.now c.loop-token.token has)
           (c.in_ok-push_wrapped.ensures
           ∙ (ap (λ (b : Bool). string_bytes c.loop-token.wrapped ++ wrapped_text c.args.tree.now c.args.front b c.loop-token.at c.text_for-text.result.now) is_piece
           ∙ ap (λ (t : List ℕ). string_bytes c.loop-token.wrapped ++ wrapped_text c.args.tree.now c.args.front (is_some (name_at c.args.self.now.rule.now.names (token_of c.args.self.now.template.now c.loop-token.token))) c.loop-token.at t) text));
       within = still_within _ _ _ _ _ c.loop-token.invariant.within
-          (plain_from c.args.self.now.rule.now.names (piece_of c.args.self.now.bindings.now (map cow_str_bytes c.args.self.now.pieces.now)) c.args.self.now.template.now c.loop-token.token has);
+          (plain_from c.args.self.now.rule.now (piece_of c.args.self.now.bindings.now (map cow_str_bytes c.args.self.now.pieces.now)) c.args.self.now.template.now c.loop-token.token has);
     }
 
 pub returns : goal.returns
 returns c =
     let none : drop c.loop-token.token (tokens_of c.args.self.now.template.now) ≡ [] = no_tokens c.args.self.now.template.now c.loop-token.token (omega arith) in
     sym (append-nil (string_bytes c.loop-token.wrapped))
-    ∙ (ap (λ (ts : List Token). string_bytes c.loop-token.wrapped ++ wrapped c.args.tree.now c.args.front c.args.self.now.rule.now.names (piece_of c.args.self.now.bindings.now (map cow_str_bytes c.args.self.now.pieces.now)) c.loop-token.at ts) (sym none)
+    ∙ (ap (λ (ts : List Token). string_bytes c.loop-token.wrapped ++ wrapped c.args.tree.now c.args.front c.args.self.now.rule.now (piece_of c.args.self.now.bindings.now (map cow_str_bytes c.args.self.now.pieces.now)) c.loop-token.at ts) (sym none)
     ∙ c.loop-token.invariant.spelled)

@@ -6,8 +6,8 @@ use Rattle.ide_ssr_rewriting.proofs.rendering.Rendering.wrapped.Given as goal
 
 abbrev pub invariant-loop-token : goal.invariant-loop-token
 invariant-loop-token l = record {
-  spelled : string_bytes l.wrapped ++ wrapped l.tree l.front l.self.rule.now.names (piece_of l.self.bindings.now (map cow_str_bytes l.self.pieces.now)) l.at (drop l.token (tokens_of l.self.template.now))
-      ≡ wrapped l.tree l.front l.self.rule.now.names (piece_of l.self.bindings.now (map cow_str_bytes l.self.pieces.now)) 0 (tokens_of l.self.template.now);
-  within : l.at + length (plain l.self.rule.now.names (piece_of l.self.bindings.now (map cow_str_bytes l.self.pieces.now)) (drop l.token (tokens_of l.self.template.now)))
-      ≡ length (plain l.self.rule.now.names (piece_of l.self.bindings.now (map cow_str_bytes l.self.pieces.now)) (tokens_of l.self.template.now));
+  spelled : string_bytes l.wrapped ++ wrapped l.tree l.front l.self.rule.now (piece_of l.self.bindings.now (map cow_str_bytes l.self.pieces.now)) l.at (drop l.token (tokens_of l.self.template.now))
+      ≡ wrapped l.tree l.front l.self.rule.now (piece_of l.self.bindings.now (map cow_str_bytes l.self.pieces.now)) 0 (tokens_of l.self.template.now);
+  within : l.at + length (plain l.self.rule.now (piece_of l.self.bindings.now (map cow_str_bytes l.self.pieces.now)) (drop l.token (tokens_of l.self.template.now)))
+      ≡ length (plain l.self.rule.now (piece_of l.self.bindings.now (map cow_str_bytes l.self.pieces.now)) (tokens_of l.self.template.now));
 }
