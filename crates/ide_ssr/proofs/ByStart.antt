@@ -12,7 +12,7 @@ use Rattle.std.proofs.lemmas.Bool.{cases_lt, cases_order, false≢true}
 use Rattle.std.proofs.lemmas.Bool.Decides.{nat_tests}
 use Rattle.std.proofs.lemmas.Cmp.{nat_list_cmp_total}
 use Rattle.std.proofs.lemmas.List.{get_or-map, length-map, length-append}
-use Rattle.std.proofs.lemmas.List.Elements.{All-nil, All-push, Contains-get_or}
+use Rattle.std.proofs.lemmas.List.Elements.{All-push, Contains-get_or}
 use Rattle.std.proofs.lemmas.List.Sorted.{All-permutation, Contains-permutation, ranks_by, sorted_far}
 use Rattle.std.proofs.lemmas.Map.Keys.{apart_from_distinct, IsDistinct-from_apart, IsDistinct-IsPermutation}
 use Rattle.std.proofs.lemmas.Option.{same_Some, slice_get-get_or}
@@ -31,11 +31,6 @@ abbrev pub places_of : List Start → List ℕ
 places_of starts = map (λ start. start.place) starts
 
 -- ** The starts, one after another.
-
-pub starts_none : (w : Workspace) (m : Found) (starts : List Start) → starts ≡ [] → AreStarts w m 0 starts
-starts_none w m starts none =
-    subst (AreStarts w m 0) (sym none)
-    (record { counted = refl; each = All-nil (IsStartOf w m); places = λ i d lt. absurd (omega arith) })
 
 pub starts_more : (w : Workspace) (m : Found) (n : ℕ) (old new : List Start) (at : ℕ) → AreStarts w m n old → start_at w m n ≡ Some at
     → new ≡ old ++ record { at = at; place = n } ∷ [] → AreStarts w m (n + 1) new

@@ -25,85 +25,89 @@ fn binding_at(m: &Found, place: usize) -> Binding
     m.bindings()[place]
 }
 
-/// What the placeholders of the kept match of a place hold, with the matches in them, which are taken from the made ones.
-fn nested_placeholders<'a>(
-    alloc: Global,
-    kept: &KeptMatches<'a>,
-    lists: &Lists,
-    rules: &[ResolvedRule],
-    place: usize,
-    made: &mut Vec<Option<Match<'a>>>,
-) -> Result<Vec<PlaceholderMatch<'a>>, AllocError>
-    requires kept { IsKept kept.now }
-    requires lists { AreLists kept.now lists.now }
-    requires place { place < length kept.now.matches }
-    requires made { AreMade rules.now kept.now lists.now (place + 1) made.old.items }
-    ensures shown { IfOk result (λ placeholders. (m : FoundMatch) → slice_get kept.now.matches place ≡ Some m → ShowPlaceholders rules.now kept.now lists.now place m placeholders.items) }
-    ensures others { OnOk result ((j : ℕ) → IsNotHeldBy kept.now place j → slice_index_or made.new.items j None ≡ slice_index_or made.old.items j None) }
-    ensures counted { OnOk result (length made.new.items ≡ length made.old.items) }
-{
-    let workspace = kept.workspace();
-    let m = kept.get(place);
-    let order = by_start(alloc, workspace, m)?;
-    let mut placeholders = Vec::new(alloc);
-    for index in &order {
-        let binding = binding_at(m, *index);
-        let inner = take_list(alloc, lists.under(place, *index), made)?;
-        let name = placeholder_name(rules, m.rule(), binding.placeholder);
-        let tree = m.node().tree;
-        placeholders.push(nested_placeholder(alloc, workspace, name, tree, binding, inner)?)?;
+/// What nested matches are made of: the kept matches, which of them hold which, and the rules that they are of.
+#[derive(Clone, Copy)]
+struct Nesting<'n, 'a> {
+    kept: &'n KeptMatches<'a>,
+    lists: &'n Lists,
+    rules: &'n [ResolvedRule],
+}
+
+impl<'n, 'a> Nesting<'n, 'a> {
+    /// What the placeholders of the kept match of a place hold, with the matches in them, which are taken from the made ones.
+    fn placeholders(
+        &self,
+        alloc: Global,
+        place: usize,
+        made: &mut Vec<Option<Match<'a>>>,
+    ) -> Result<Vec<PlaceholderMatch<'a>>, AllocError>
+        requires kept { IsKept self.now.kept.now }
+        requires lists { AreLists self.now.kept.now self.now.lists.now }
+        requires place { place < length self.now.kept.now.matches }
+        requires made { AreMade self.now.rules.now self.now.kept.now self.now.lists.now (place + 1) made.old.items }
+        ensures shown { IfOk result (λ placeholders. (m : FoundMatch) → slice_get self.now.kept.now.matches place ≡ Some m → ShowPlaceholders self.now.rules.now self.now.kept.now self.now.lists.now place m placeholders.items) }
+        ensures others { OnOk result ((j : ℕ) → IsNotHeldBy self.now.kept.now place j → slice_index_or made.new.items j None ≡ slice_index_or made.old.items j None) }
+        ensures counted { OnOk result (length made.new.items ≡ length made.old.items) }
+    {
+        let workspace = self.kept.workspace();
+        let m = self.kept.get(place);
+        let order = by_start(alloc, workspace, m)?;
+        let mut placeholders = Vec::new(alloc);
+        for index in &order {
+            let binding = binding_at(m, *index);
+            let inner = take_list(alloc, self.lists.under(place, *index), made)?;
+            let name = placeholder_name(self.rules, m.rule(), binding.placeholder);
+            let tree = m.node().tree;
+            placeholders.push(nested_placeholder(alloc, workspace, name, tree, binding, inner)?)?;
+        }
+        Ok(placeholders)
     }
-    Ok(placeholders)
-}
 
-/// The kept match of the place with those that it holds, which are taken from the made ones.
-fn nested_match<'a>(
-    alloc: Global,
-    kept: &KeptMatches<'a>,
-    lists: &Lists,
-    rules: &[ResolvedRule],
-    place: usize,
-    made: &mut Vec<Option<Match<'a>>>,
-) -> Result<Match<'a>, AllocError>
-    requires kept { IsKept kept.now }
-    requires lists { AreLists kept.now lists.now }
-    requires place { place < length kept.now.matches }
-    requires made { AreMade rules.now kept.now lists.now (place + 1) made.old.items }
-    ensures shown { IfOk result (λ v. Shows rules.now kept.now lists.now place v) }
-    ensures others { OnOk result ((j : ℕ) → IsNotHeldBy kept.now place j → slice_index_or made.new.items j None ≡ slice_index_or made.old.items j None) }
-    ensures counted { OnOk result (length made.new.items ≡ length made.old.items) }
-{
-    let workspace = kept.workspace();
-    let m = kept.get(place);
-    let placeholders = nested_placeholders(alloc, kept, lists, rules, place, made)?;
-    Ok(Match {
-        text: text_at(workspace, m.node()),
-        range: range_at(workspace, m.node()),
-        node: m.node(),
-        rule_index: m.rule(),
-        placeholders,
-        comments: comment_ranges(alloc, workspace, m)?,
-    })
-}
+    /// The kept match of the place with those that it holds, which are taken from the made ones.
+    fn nested(
+        &self,
+        alloc: Global,
+        place: usize,
+        made: &mut Vec<Option<Match<'a>>>,
+    ) -> Result<Match<'a>, AllocError>
+        requires kept { IsKept self.now.kept.now }
+        requires lists { AreLists self.now.kept.now self.now.lists.now }
+        requires place { place < length self.now.kept.now.matches }
+        requires made { AreMade self.now.rules.now self.now.kept.now self.now.lists.now (place + 1) made.old.items }
+        ensures shown { IfOk result (λ v. Shows self.now.rules.now self.now.kept.now self.now.lists.now place v) }
+        ensures others { OnOk result ((j : ℕ) → IsNotHeldBy self.now.kept.now place j → slice_index_or made.new.items j None ≡ slice_index_or made.old.items j None) }
+        ensures counted { OnOk result (length made.new.items ≡ length made.old.items) }
+    {
+        let workspace = self.kept.workspace();
+        let m = self.kept.get(place);
+        let placeholders = self.placeholders(alloc, place, made)?;
+        Ok(Match {
+            text: text_at(workspace, m.node()),
+            range: range_at(workspace, m.node()),
+            node: m.node(),
+            rule_index: m.rule(),
+            placeholders,
+            comments: comment_ranges(alloc, workspace, m)?,
+        })
+    }
 
-/// Makes the match of the place, where those behind it are made.
-fn make_match<'a>(
-    alloc: Global,
-    kept: &KeptMatches<'a>,
-    lists: &Lists,
-    rules: &[ResolvedRule],
-    place: usize,
-    made: &mut Vec<Option<Match<'a>>>,
-) -> Result<(), AllocError>
-    requires kept { IsKept kept.now }
-    requires lists { AreLists kept.now lists.now }
-    requires place { place < length kept.now.matches }
-    requires made { AreMade rules.now kept.now lists.now (place + 1) made.old.items }
-    ensures { OnOk result (AreMade rules.now kept.now lists.now place made.new.items) }
-{
-    let m = nested_match(alloc, kept, lists, rules, place, made)?;
-    made[place] = Some(m);
-    Ok(())
+    /// Makes the match of the place, where those behind it are made.
+    fn make(
+        &self,
+        alloc: Global,
+        place: usize,
+        made: &mut Vec<Option<Match<'a>>>,
+    ) -> Result<(), AllocError>
+        requires kept { IsKept self.now.kept.now }
+        requires lists { AreLists self.now.kept.now self.now.lists.now }
+        requires place { place < length self.now.kept.now.matches }
+        requires made { AreMade self.now.rules.now self.now.kept.now self.now.lists.now (place + 1) made.old.items }
+        ensures { OnOk result (AreMade self.now.rules.now self.now.kept.now self.now.lists.now place made.new.items) }
+    {
+        let m = self.nested(alloc, place, made)?;
+        made[place] = Some(m);
+        Ok(())
+    }
 }
 
 /// The outermost kept matches, with those that they hold. They are made from the last to the first: what a match
@@ -118,9 +122,10 @@ pub(crate) fn nested_matches<'a>(
     ensures { IfOk result (λ answer. Show rules.now kept.now lists.now (listed lists.now None) answer.items) }
 {
     let count = kept.len();
+    let nesting = Nesting { kept, lists, rules };
     let mut made = none_made(alloc, count)?;
     for place in (0..count).rev() {
-        make_match(alloc, kept, lists, rules, place, &mut made)?;
+        nesting.make(alloc, place, &mut made)?;
     }
     take_list(alloc, lists.outermost(), &mut made)
 }

@@ -9,16 +9,16 @@ use Rattle.ide_ssr.specs.declared.matches.Match.TheViews.{out-roll-Match}
 use Rattle.ide_ssr.specs.Comments.{comment_spans}
 use Rattle.ide_ssr.specs.Parts.{ComesFrom}
 use Rattle.ide_ssr.proofs.Showing.{show_match}
-use Rattle.ide_ssr.proofs.nesting.nested_match.Goals as goal
+use Rattle.ide_ssr.proofs.nesting.Nesting.nested.Goals as goal
 
 pub returns-clause-shown : goal.returns-clause-shown
 returns-clause-shown c =
-    let w = c.args.kept.now.workspace in
+    let w = c.args.self.now.kept.now.workspace in
     let same = c.workspace-workspace.ensures in
     let m = c.get-m.result.now in
     let ranges = c.in_ok-comment_ranges.field-0.items in
     let own = out-roll-Match (record { text = c.text_at.result; range = c.range_at.result; node = c.node-3.result; rule_index = c.rule.result; placeholders = c.in_ok-placeholders.placeholders; comments = c.in_ok-comment_ranges.field-0 }) in
-    show_match c.args.rules.now c.args.kept.now c.args.lists.now c.args.place m _ c.in_ok-placeholders.placeholders.items c.get-m.ensures
+    show_match c.args.self.now.rules.now c.args.self.now.kept.now c.args.self.now.lists.now c.args.place m _ c.in_ok-placeholders.placeholders.items c.get-m.ensures
     (record {
       rule = ap (λ v. v.rule_index) own ∙ c.rule.ensures;
       node = ap (λ v. v.node) own ∙ c.node-3.ensures;
