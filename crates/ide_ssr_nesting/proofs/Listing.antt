@@ -1,5 +1,5 @@
 -- The lists of kept matches, from rows that are sorted.
-use Rattle.std.proofs.Common.{◌≡◌, ◌≢◌, ℕ, zero, suc, ◌+◌, ◌<◌, ◌==◌, ◌↔◌, inl, inr, false, List, [], ◌∷◌, ◌++◌, length, map, take, get_or, slice_get, Option, Some, All, AllPairs, Contains, refl, sym, ap, ◌∙◌, subst, arith}
+use Rattle.std.proofs.Common.{◌≡◌, ◌≢◌, ℕ, zero, suc, ◌+◌, ◌<◌, ◌==◌, ◌↔◌, inl, inr, false, List, [], ◌∷◌, ◌++◌, length, map, get_or, slice_get, Option, Some, All, AllPairs, Contains, refl, sym, ap, ◌∙◌, subst, arith}
 use Rattle.std.specs.Cmp.Lexicographic.{slice_cmp}
 use Rattle.std.specs.List.{range_with_len}
 use Rattle.std.specs.List.Sorted.{IsPermutation, IsSortedByKey}
@@ -9,7 +9,7 @@ use Rattle.std.specs.declared.cmp.Ordering.TheVariants.{Less, Equal, Greater}
 use Rattle.std.proofs.lemmas.Bool.{cases_order, false≢true}
 use Rattle.std.proofs.lemmas.Bool.Decides.{Decides-eqb, nat_tests}
 use Rattle.std.proofs.lemmas.Cmp.{nat_list_cmp_total}
-use Rattle.std.proofs.lemmas.List.{get_or-map, take_more, map-append, length-map}
+use Rattle.std.proofs.lemmas.List.{get_or-map, map-append, length-map}
 use Rattle.std.proofs.lemmas.List.FromFn.{length-range_with_len, get_or-range_with_len}
 use Rattle.std.proofs.lemmas.List.Sorted.{All-permutation, Contains-permutation, IsPermutation-sym, IsPermutation-map, ranks_by, sorted_far}
 use Rattle.std.proofs.lemmas.Map.Keys.{IsDistinct-IsPermutation}
@@ -48,26 +48,6 @@ places_more rows new row i so_far new_is at =
     ∙ ap (λ n. range_with_len 0 i ++ n ∷ []) (let last : row.place ≡ 0 + i = omega arith in last)
     ∙ sym (range_more 0 i)
     ∙ ap (range_with_len 0) (let next : suc i ≡ i + 1 = omega arith in next)
-
-pub listed_more : (rows : List Row) (i : ℕ) (row : Row) (places new : List ℕ) → i < length rows → row ≡ get_or rows i row
-    → places ≡ places_of (take i rows) → new ≡ places ++ row.place ∷ [] → new ≡ places_of (take (i + 1) rows)
-listed_more rows i row places new within read so_far new_is =
-    new_is
-    ∙ ap (λ l. l ++ row.place ∷ []) so_far
-    ∙ ap (λ (r : Row). places_of (take i rows) ++ r.place ∷ []) read
-    ∙ sym (map-append (λ (row : Row). row.place) (take i rows) (get_or rows i row ∷ []))
-    ∙ ap places_of (sym (take_more rows i row within))
-
-pub beside_more : (held : List (Option Holder)) (places new_places : List ℕ) (holders new : List (Option Holder)) (place : ℕ) (holder : Option Holder)
-    → map Some holders ≡ map (slice_get held) places → slice_get held place ≡ Some holder → new_places ≡ places ++ place ∷ [] → new ≡ holders ++ holder ∷ []
-    → map Some new ≡ map (slice_get held) new_places
-beside_more held places new_places holders new place holder so_far is places_is new_is =
-    ap (map Some) new_is
-    ∙ map-append Some holders (holder ∷ [])
-    ∙ ap (λ l. l ++ Some holder ∷ []) so_far
-    ∙ ap (λ o. map (slice_get held) places ++ o ∷ []) (sym is)
-    ∙ sym (map-append (slice_get held) places (place ∷ []))
-    ∙ ap (map (slice_get held)) (sym places_is)
 
 -- ** All places, each once.
 

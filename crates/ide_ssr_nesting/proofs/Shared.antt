@@ -2,10 +2,10 @@
 
 -- the order of nodes, and of matches over one another
 pub use Rattle.ide_ssr_nesting.proofs.Above.{below_is_between}
-pub use Rattle.ide_ssr_nesting.proofs.Compared.{LieInOneTree, in_one_tree}
+pub use Rattle.ide_ssr_nesting.proofs.Compared.{in_one_tree}
 pub use Rattle.ide_ssr_nesting.proofs.Over.{one_way, over_before, not_over_itself}
 -- the kept matches, and what holds them
-pub use Rattle.ide_ssr_nesting.proofs.OneKept.{one_kept, lies_in_one}
+pub use Rattle.ide_ssr_nesting.proofs.OneKept.{one_kept}
 pub use Rattle.ide_ssr_nesting.proofs.SomeKept.{kept_exist}
 pub use Rattle.ide_ssr_nesting.proofs.OneHolding.{held_behind, one_holding}
 -- their lists

@@ -1,11 +1,11 @@
 //! Which of the matches that are found are kept.
 
-ghost use Rattle.std.specs.Prelude.{◌≡◌, ◌<◌, ◌↔◌, ℕ, All, AllPairs, Contains, IsTrue, IfOk, MatchOption, length, option_map, slice_get, Some};
+ghost use Rattle.std.specs.Prelude.{◌≡◌, ◌<◌, ◌↔◌, ℕ, All, AllPairs, IsTrue, IfOk, MatchOption, option_map, Some};
 ghost use Rattle.std.specs.Option.{IsSomeAnd};
 ghost use Rattle.ssr_base.specs.Workspace.{trees, file_span_of};
 ghost use Rattle.ssr_base.specs.Built.{IsNodeOf, IsBuilt};
 ghost use Rattle.ssr_base.specs.Laws.{LiesIn};
-ghost use Rattle.ide_ssr_found.specs.Found.{Found as FoundMatch, IsMatch, AreMatches};
+ghost use Rattle.ide_ssr_found.specs.Found.{IsMatch};
 ghost use Rattle.ide_ssr_nesting.specs.Kept.{IsOver, LiesUnder, Fits, ComesBefore, AreKept};
 ghost use Rattle.ide_ssr_nesting.specs.Holding.{IsOutermost, IsHeld, AreHeld};
 ghost use Rattle.ide_ssr_nesting.specs.Private.Nearest.{IsNearestAt, IsKeptIfFits};

@@ -1,5 +1,5 @@
 -- What is found among the children of a node, one after the other.
-use Rattle.std.proofs.Common.{◌≡◌, ℕ, ◌+◌, ◌*◌, ◌<◌, ◌≤◌, Bool, true, false, List, [], ◌∷◌, ◌++◌, map, All, Option, Some, None, refl, sym, ap, ◌∙◌, subst, arith, append_assoc, append-nil}
+use Rattle.std.proofs.Common.{◌≡◌, ℕ, ◌+◌, ◌*◌, ◌<◌, ◌≤◌, Bool, true, false, List, [], ◌∷◌, ◌++◌, map, All, Option, Some, None, refl, sym, ap, ◌∙◌, subst, arith, append_assoc}
 use Rattle.std.proofs.lemmas.List.Elements.{All-head, All-tail}
 use Rattle.std.proofs.lemmas.Option.{none-some}
 use Rattle.std.specs.Prelude.{if◌then◌else◌}
@@ -14,7 +14,17 @@ use Rattle.ssr_syntax_tree.specs.Places.{Node, Part, token_part, node_part, HasN
 use Rattle.ssr_syntax_tree.specs.Syntax.{Token, Forest, nothing, leaf, branch, Syntax, node_count, token_count, tokens_in}
 use Rattle.ssr_syntax_tree.proofs.Shared.{IsChild, children_known, elements_had, parts_of-elements_of, node_of-number, smaller}
 use Rattle.ide_ssr_resolving.specs.Paths.{below_first, first_of_kind, segments, is_arguments, before_arguments}
-use Rattle.ide_ssr_resolving.specs.Private.Parts.{below, segments_at, segments_among, start_at, start_among}
+use Rattle.ide_ssr_resolving.specs.Private.Parts.{below, segments_at, start_at}
+
+-- the segments at the children of a path
+abbrev segments_among : List Part → List Forest
+segments_among [] = []
+segments_among (part ∷ rest) = segments_at part ++ segments_among rest
+
+-- where the arguments of a segment begin; `past`, where there are none
+abbrev pub start_among : ℕ → List Part → ℕ
+start_among past [] = past
+start_among past (part ∷ rest) = option_map_or (λ start. start) (start_at part) (start_among past rest)
 
 -- ** The first node of a kind.
 
@@ -84,26 +94,6 @@ segments_parts p m t (branch kind inner next) =
 pub segments_children : (node : Node) → segments_among (parts_of node) ≡ segments node.children
 segments_children node = segments_parts node.number (1 + node.number) node.first node.children
 
-pub at_path : (s : Syntax) (child : Element) (n : NodeNo) → child ≡ element.Node n → same_kind (node_of s n.0).kind k.PATH ≡ true
-    → segments_at (part_of s child) ≡ segments (below s n)
-at_path s child n is path =
-    ap (λ e. segments_at (part_of s e)) is
-    ∙ ap (λ b. if b then segments (below s n) else if same_kind (node_of s n.0).kind k.PATH_SEGMENT then below s n ∷ [] else []) path
-
-pub at_segment : (s : Syntax) (child : Element) (n : NodeNo) → child ≡ element.Node n → same_kind (node_of s n.0).kind k.PATH ≡ false
-    → same_kind (node_of s n.0).kind k.PATH_SEGMENT ≡ true → segments_at (part_of s child) ≡ below s n ∷ []
-at_segment s child n is path segment =
-    ap (λ e. segments_at (part_of s e)) is
-    ∙ ap (λ b. if b then segments (below s n) else if same_kind (node_of s n.0).kind k.PATH_SEGMENT then below s n ∷ [] else []) path
-    ∙ ap (λ b. if b then below s n ∷ [] else []) segment
-
-pub at_other : (s : Syntax) (child : Element) (n : NodeNo) → child ≡ element.Node n → same_kind (node_of s n.0).kind k.PATH ≡ false
-    → same_kind (node_of s n.0).kind k.PATH_SEGMENT ≡ false → segments_at (part_of s child) ≡ []
-at_other s child n is path segment =
-    ap (λ e. segments_at (part_of s e)) is
-    ∙ ap (λ b. if b then segments (below s n) else if same_kind (node_of s n.0).kind k.PATH_SEGMENT then below s n ∷ [] else []) path
-    ∙ ap (λ b. if b then below s n ∷ [] else []) segment
-
 -- the segments that were found, where these children are left
 pub record FoundSoFar (s : Syntax) (n : ℕ) (whole : List Forest) (found : List NodeNo) (left : List Element) : Type 0 where
   pub so_far : map (below s) found ++ segments_among (map (part_of s) left) ≡ whole
@@ -135,10 +125,6 @@ module _ (s : Syntax) (n : ℕ) (whole : List Forest) where
         children = All-tail (IsChild s n) (part_of s child) (map (part_of s) behind) (subst (λ es. All (IsChild s n) (map (part_of s) es)) steps so_far.children);
         has = has;
       }
-
-  pub found_ends : (found : List NodeNo) (left : List Element) → FoundSoFar s n whole found left → left ≡ [] → map (below s) found ≡ whole
-  found_ends found left so_far none =
-      sym (append-nil (map (below s) found)) ∙ ap (λ es. map (below s) found ++ segments_among (map (part_of s) es)) (sym none) ∙ so_far.so_far
 
   pub first_child_of : (found : List NodeNo) (left behind : List Element) (child : Element) → FoundSoFar s n whole found left → left ≡ child ∷ behind
       → HasElement s child × IsChild s n (part_of s child)

@@ -1,22 +1,22 @@
 -- Nodes in first arguments: each node from the one above it.
-use Rattle.std.proofs.Common.{◌≡◌, ℕ, ◌+◌, ◌<◌, ◌≤◌, Bool, true, false, not, ◌&&◌, ◌||◌, List, [], ◌∷◌, ◌++◌, length, take, get_or, Option, Some, None, refl, sym, ap, ◌∙◌, subst, arith, inl, inr}
+use Rattle.std.proofs.Common.{◌≡◌, ℕ, ◌+◌, ◌<◌, ◌≤◌, Bool, true, false, ◌&&◌, ◌||◌, List, [], ◌∷◌, ◌++◌, length, take, get_or, Option, Some, None, refl, sym, ap, ◌∙◌, subst, arith, inl, inr}
 use Rattle.std.proofs.lemmas.Bool.{cases_eq, and_parts, and_from, or_cases, or_left, or_right, leb-true, ltb-true, le-leb, lt-ltb}
 use Rattle.std.proofs.lemmas.List.{get_or_default, get_or_append_left, length-append, take_all}
 use Rattle.std.proofs.Math.Bool.{or-false}
 use Rattle.std.proofs.Math.Seq.{get_or-append_seam}
-use Rattle.std.proofs.lemmas.List.Elements.{All-filter, filter_more}
+use Rattle.std.proofs.lemmas.List.Elements.{All-filter}
 use Rattle.std.proofs.lemmas.List.Folds.{Any-from_list_any, list_any-from_Any}
-use Rattle.std.specs.Prelude.{nat_le, nat_lt, cond, unwrap_or, IsNone, IfSome, ◌↔◌}
+use Rattle.std.specs.Prelude.{nat_le, nat_lt, unwrap_or, IsNone, IfSome, ◌↔◌}
 use Rattle.std.specs.Option.{option_map, option_map_or}
 use Rattle.ssr_base.specs.Meanings.{Meanings}
 use Rattle.ssr_syntax_kinds.specs.declared.kinds.SyntaxKind.TheVariants as k
 use Rattle.ssr_syntax_tree.specs.declared.number.NodeNo.{NodeNo}
 use Rattle.ssr_syntax_tree.specs.Places.{Node, HasNode, node_of, nodes_of, root_of, size_of}
-use Rattle.ssr_syntax_tree.specs.Syntax.{Syntax, node_count}
+use Rattle.ssr_syntax_tree.specs.Syntax.{Syntax}
 use Rattle.ssr_syntax_tree.proofs.Shared.{node_is, node_of-number, length-nodes_of, IsOver, inside, below_root}
 use Rattle.ide_ssr_resolving.specs.declared.qualified_calls.QualifiedCall.{QualifiedCall}
 use Rattle.ide_ssr_resolving.specs.declared.used.UsedPath.{UsedPath}
-use Rattle.ide_ssr_resolving.specs.Eligible.{first_argument_of, is_call, is_first_argument, holds, is_in_first_argument, is_builtin_type, is_eligible, eligible_paths_of}
+use Rattle.ide_ssr_resolving.specs.Eligible.{first_argument_of, is_call, is_first_argument, holds, is_in_first_argument, is_eligible, eligible_paths_of}
 use Rattle.ide_ssr_resolving.specs.QualifiedCalls.{first_in}
 use Rattle.ide_ssr_resolving.specs.Used.{HasPaths}
 use Rattle.ide_ssr_resolving.specs.Private.Marks.{MarksCalls, MarksFirstArguments}
@@ -154,9 +154,6 @@ module _ (s : Syntax) (calls : List QualifiedCall) where
 
   -- ** Marks.
 
-  pub none_marked : MarksFirstArguments s calls 0 []
-  none_marked = record { long = refl; marked = λ n low. absurd (omega arith) }
-
   one_marked : (past : ℕ) (marks : List Bool) (mark : Bool) → mark ≡ is_in_first_argument s calls past → MarksFirstArguments s calls past marks
       → MarksFirstArguments s calls (past + 1) (marks ++ mark ∷ [])
   one_marked past marks mark is so_far =
@@ -201,20 +198,6 @@ module _ (s : Syntax) (calls : List QualifiedCall) where
       subst (MarksFirstArguments s calls (past + 1)) (sym pushed) (one_marked past marks (first || above) mark so_far)
 
 -- ** Eligible paths.
-
--- one path more
-pub eligible_more : (m : Meanings) (s : Syntax) (calls : List QualifiedCall) (paths : List UsedPath) (i : ℕ) (d : UsedPath) (found new : List UsedPath)
-    (marks : List Bool) (b : Bool) → i < length paths → HasNode s (get_or paths i d).node.0 → MarksFirstArguments s calls (1 + node_count s.children) marks
-    → found ≡ eligible_paths_of m s calls (take i paths)
-    → b ≡ (not (is_builtin_type m (get_or paths i d).res) && not (get_or marks (get_or paths i d).node.0 false))
-    → new ≡ found ++ cond b (get_or paths i d ∷ []) [] → new ≡ eligible_paths_of m s calls (take (i + 1) paths)
-eligible_more m s calls paths i d found new marks b low has marked so_far is more =
-    let path = get_or paths i d in
-    let eligible : b ≡ is_eligible m s calls path =
-    is ∙ ap (λ mark. not (is_builtin_type m path.res) && not mark) (marked.marked path.node.0 has) in
-    more ∙ ap (λ found. found ++ cond b (path ∷ []) []) so_far
-    ∙ ap (λ b. eligible_paths_of m s calls (take i paths) ++ cond b (path ∷ []) []) eligible
-    ∙ sym (filter_more (is_eligible m s calls) paths i d low)
 
 pub eligible_had : (m : Meanings) (s : Syntax) (calls : List QualifiedCall) (paths : List UsedPath) (i : ℕ) (found : List UsedPath) → length paths ≤ i
     → HasPaths s paths → found ≡ eligible_paths_of m s calls (take i paths) → HasPaths s found

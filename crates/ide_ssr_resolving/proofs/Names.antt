@@ -42,13 +42,6 @@ module _ (m : Meanings) (scope : ScopeId) (path : Forest) where
   abbrev type_of : Option DefId
   type_of = option_and_then (adt_of m) (option_and_then (told m scope) (qualifier path))
 
-  pub no_qualifier : None ≡ qualifier path → None ≡ type_of
-  no_qualifier none = ap (λ front. option_and_then (adt_of m) (option_and_then (told m scope) front)) none
-
-  pub qualifier_untold : (front : Forest) → Some front ≡ qualifier path → None ≡ told m scope front → None ≡ type_of
-  qualifier_untold front is none =
-      ap (option_and_then (adt_of m)) none ∙ ap (λ front. option_and_then (adt_of m) (option_and_then (told m scope) front)) is
-
   pub qualifier_told : (front : Forest) (res : Res) (adt : Option DefId) → Some front ≡ qualifier path → Some res ≡ told m scope front → adt ≡ adt_of m res → adt ≡ type_of
   qualifier_told front res adt is tells type =
       type ∙ ap (option_and_then (adt_of m)) tells ∙ ap (λ front. option_and_then (adt_of m) (option_and_then (told m scope) front)) is

@@ -5,18 +5,16 @@ use Rattle.std.specs.Option.{option_and_then}
 use Rattle.std.specs.Prelude.{if◌then◌else◌}
 use Rattle.std.proofs.lemmas.Bool.{not-true, or_parts}
 use Rattle.std.proofs.lemmas.List.Elements.{filter_map-append}
-use Rattle.std.proofs.lemmas.Option.{option_and_then_some}
 use Rattle.ssr_syntax_kinds.specs.declared.kinds.SyntaxKind.{SyntaxKind}
 use Rattle.ssr_syntax_kinds.specs.declared.kinds.SyntaxKind.TheVariants as k
 use Rattle.ssr_syntax_kinds.specs.Kinds.{same_kind}
-use Rattle.ssr_syntax_tree.specs.Places.{Node}
 use Rattle.ssr_syntax_tree.specs.Syntax.{Token, Forest, nothing, leaf, branch, Syntax, tokens_in, tokens_of}
 use Rattle.ssr_syntax.specs.Identifiers.{is_ident, is_mixing, has_ident, stand_alone, IdentsAlone, IdentsAloneIn}
 use Rattle.ide_ssr_rules.specs.Patterns.{placeholders_among, IsReadOnce}
 use Rattle.ide_ssr_rules.specs.StandIns.{name_at}
 use Rattle.ide_ssr_rules.proofs.Shared.{not_named}
 use Rattle.ide_ssr_resolving.specs.Patterns.{or_below, placeholders_in, placeholders_mixed, placeholders_below, placeholders_of, HasEachOnce}
-use Rattle.ide_ssr_resolving.specs.Placeholders.{only_token, placeholder_at}
+use Rattle.ide_ssr_resolving.specs.Placeholders.{only_token}
 
 pub only_one : (below : Forest) (token : Token) → only_token below ≡ Some token → tokens_in below ≡ token ∷ []
 only_one nothing token h = cc
@@ -26,14 +24,6 @@ only_one (leaf t (branch kind below next)) token h = cc
 only_one (branch kind below nothing) token h = append-nil (tokens_in below) ∙ only_one below token h
 only_one (branch kind below (leaf u next)) token h = cc
 only_one (branch kind below (branch k b next)) token h = cc
-
--- a node that is a placeholder has that one alone
-pub placeholder_alone : (names : List (List ℕ)) (node : Node) (i : ℕ) → placeholder_at names node ≡ Some i
-    → placeholders_among names (tokens_in node.children) ≡ i ∷ []
-unfolding placeholder_at
-placeholder_alone names node i is =
-    option_and_then_some {P = placeholders_among names (tokens_in node.children) ≡ i ∷ []} (name_at names) (only_token node.children) i is
-    (λ token only named. ap (placeholders_among names) (only_one node.children token only) ∙ ap (λ o. cons_option o []) named)
 
 -- a node, where those below it are known
 node_named : (names : List (List ℕ)) (below : Forest) (inner : List ℕ) → inner ≡ placeholders_among names (tokens_in below)

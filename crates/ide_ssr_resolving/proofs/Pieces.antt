@@ -1,7 +1,7 @@
 -- The pieces of a path, gathered segment by segment, and the tokens of a piece.
-use Rattle.std.proofs.Common.{◌≡◌, ℕ, ◌+◌, ◌<◌, ◌≤◌, ◌||◌, not, Bool, codes, List, [], ◌∷◌, ◌++◌, All, length, map, drop, take, get_or, Some, None, refl, sym, ap, ◌∙◌, subst, arith, append_assoc, append-nil, true, false}
+use Rattle.std.proofs.Common.{◌≡◌, ℕ, ◌+◌, ◌<◌, ◌≤◌, ◌||◌, not, Bool, codes, List, [], ◌∷◌, ◌++◌, length, map, drop, take, get_or, Some, None, refl, sym, ap, ◌∙◌, arith, append_assoc, append-nil, true, false}
 use Rattle.std.proofs.lemmas.List.{drop_all, drop_more, take_all, take_more, map-append}
-use Rattle.std.proofs.lemmas.List.Elements.{All-append, All-cons, All-nil, filter-append}
+use Rattle.std.proofs.lemmas.List.Elements.{filter-append}
 use Rattle.std.proofs.lemmas.Grind.{flat_map-append}
 use Rattle.std.specs.Prelude.{cond}
 use Rattle.std.specs.List.{filter, flat_map, join_by, list_any}
@@ -77,9 +77,6 @@ module _ (s : Syntax) where
       ap (map (tokens_at s)) pushed ∙ map-append (tokens_at s) old (piece ∷ [])
       ∙ ap (λ more. map (tokens_at s) old ++ more) (sym (pieces_plain s piece.first piece.past plain))
 
-  pub colons_within : (piece : Piece) → begins_with_colons (tokens_at s piece) ≡ true → piece.first < piece.past
-  colons_within piece colons = colons_some s piece.first piece.past colons
-
   pub push_colons : (old middle new : List Piece) (piece empty rest : Piece) → HasPiece s piece → begins_with_colons (tokens_at s piece) ≡ true
       → empty ≡ record { first = piece.first; past = piece.first } → rest ≡ record { first = piece.first + 1; past = piece.past }
       → middle ≡ old ++ empty ∷ [] → new ≡ middle ++ rest ∷ []
@@ -91,10 +88,6 @@ module _ (s : Syntax) where
       ∙ ap (λ empty. map (tokens_at s) old ++ tokens_at s empty ∷ tokens_at s rest ∷ []) none
       ∙ ap (λ rest. map (tokens_at s) old ++ tokens_between s piece.first piece.first ∷ tokens_at s rest ∷ []) behind
       ∙ ap (λ more. map (tokens_at s) old ++ more) (sym (pieces_colons s piece.first piece.past (omega (arith, has.1)) colons))
-
-  pub push_has : (old new : List Piece) (piece : Piece) → All (HasPiece s) old → HasPiece s piece → new ≡ old ++ piece ∷ [] → All (HasPiece s) new
-  push_has old new piece all has pushed =
-      subst (All (HasPiece s)) (sym pushed) (All-append (HasPiece s) old (piece ∷ []) all (All-cons (HasPiece s) piece [] has (All-nil (HasPiece s))))
 
 -- ** The texts of a piece.
 

@@ -2,8 +2,6 @@
 
 -- what a rule resolves to has a template in each kind
 pub use Rattle.ide_ssr_resolving.proofs.Templates.{have_templates}
--- a placeholder of a pattern is its node's only one
-pub use Rattle.ide_ssr_resolving.proofs.Patterns.{placeholder_alone}
 -- the tokens of a node are those from its first one on
 pub use Rattle.ide_ssr_resolving.proofs.Tokens.{tokens_left, tokens_of_node}
 -- which placeholder a token is, by a table of them

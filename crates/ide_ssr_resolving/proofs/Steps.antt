@@ -50,9 +50,6 @@ module _ (m : Meanings) where
 -- ** What a step is.
 
 module _ (names : List (List ℕ)) (path : Forest) where
-  pub generic_front : true ≡ list_any has_generics (qualifying path) → false ≡ is_whole names path
-  generic_front is = ap (λ b. not b && not (holds_stand_in names path)) is
-
   pub whole_by : (held : Bool) → false ≡ list_any has_generics (qualifying path) → held ≡ holds_stand_in names path → not held ≡ is_whole names path
   whole_by held none is =
       ap not is ∙ ap (λ b. not b && not (holds_stand_in names path)) none
@@ -60,12 +57,6 @@ module _ (names : List (List ℕ)) (path : Forest) where
 module _ (m : Meanings) (scope : ScopeId) (names : List (List ℕ)) where
   abbrev at_whole : Bool → Option Res → Step
   at_whole whole res = if whole then option_map_or (step_by m) res steps.Refuse else steps.Enter
-
-  pub enters_part : (path : Forest) → false ≡ is_whole names path → steps.Enter ≡ path_step m scope names path
-  enters_part path is = ap (λ b. at_whole b (resolution m scope path)) is
-
-  pub refuses : (path : Forest) → true ≡ is_whole names path → None ≡ resolution m scope path → steps.Refuse ≡ path_step m scope names path
-  refuses path is none = ap (at_whole true) none ∙ ap (λ b. at_whole b (resolution m scope path)) is
 
   pub resolved_step : (path : Forest) (res : Res) (usable : Bool) → true ≡ is_whole names path → Some res ≡ resolution m scope path → usable ≡ is_usable m res
       → (if usable then steps.Use res else steps.Enter) ≡ path_step m scope names path
@@ -75,14 +66,6 @@ module _ (m : Meanings) (scope : ScopeId) (names : List (List ℕ)) where
 
   abbrev at_path : Bool → Bool → Step → Step
   at_path path own step = if path then if own then steps.Pass else step else steps.Enter
-
-  pub enters_other : (node : Node) → false ≡ is_path node → steps.Enter ≡ step_of m scope names node
-  enters_other node is = ap (λ b. at_path b (ends_in_self node.children) (path_step m scope names node.children)) is
-
-  pub passes_self : (node : Node) → true ≡ is_path node → true ≡ ends_in_self node.children → steps.Pass ≡ step_of m scope names node
-  passes_self node is own =
-      ap (λ b. at_path true b (path_step m scope names node.children)) own
-      ∙ ap (λ b. at_path b (ends_in_self node.children) (path_step m scope names node.children)) is
 
   pub steps_at_path : (node : Node) (step : Step) → true ≡ is_path node → false ≡ ends_in_self node.children → step ≡ path_step m scope names node.children
       → step ≡ step_of m scope names node

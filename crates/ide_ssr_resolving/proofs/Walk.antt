@@ -126,9 +126,6 @@ module _ (m : Meanings) (scope : ScopeId) (names : List (List ℕ)) (s : Syntax)
     pub resolved : find (is_unresolved m scope names) (reached_before next) ≡ None
     pub has : All (λ (path : UsedPath). HasNode s path.node.0) paths
 
-  pub walked_none : Walked 0 []
-  walked_none = record { ends = λ k less stopped. absurd (omega arith); used = refl; resolved = refl; has = All-nil (λ (path : UsedPath). HasNode s path.node.0) }
-
   reached_more : (n : ℕ) → HasNode s n → EndsBy n → reached_before (n + 1) ≡ reached_before n ++ node_of s n ∷ []
   reached_more n has ends =
       ap (filter (is_reached m scope names s)) (node_more s n has)

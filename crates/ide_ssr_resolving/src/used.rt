@@ -1,5 +1,5 @@
 //! The paths of a tree that are used: what they resolve to counts, and not how they are spelled.
-ghost use Rattle.std.specs.Prelude.{◌≡◌, All, IfErr, IfOk, map, string_bytes};
+ghost use Rattle.std.specs.Prelude.{◌≡◌, IfErr, IfOk, map, string_bytes};
 ghost use Rattle.std.specs.List.{list_any};
 ghost use Rattle.ssr_syntax_tree.specs.Places.{HasNode, node_of};
 ghost use Rattle.ide_ssr_resolving.specs.Paths.{qualifying};

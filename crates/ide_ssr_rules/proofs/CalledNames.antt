@@ -31,11 +31,6 @@ spelled_by text (token_part t token) = by (is_ident token.kind)
 spelled_by text (node_part node) = refl
 
 module _ (names : List (List ℕ)) (part : Part) where
-  pub no_ident_also : ident_text part ≡ None → HasAlso names (in_part part) names
-  no_ident_also none name =
-      sym (or-false (has names name))
-      ∙ ap (λ b. has names name || b) (sym (spelled_by (stand_in_of name) part ∙ ap (λ o. option_map_or (λ own. bytes_eq own (stand_in_of name)) o false) none))
-
   pub other_also : (text : List ℕ) → ident_text part ≡ Some text → ((name : List ℕ) → bytes_eq text (stand_in_of name) ≡ false) → HasAlso names (in_part part) names
   other_also text some none name =
       sym (or-false (has names name))

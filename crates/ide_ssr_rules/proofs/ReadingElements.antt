@@ -72,12 +72,6 @@ pub record Reads (all : List Token) (found : List Element) (names : List (List �
   pub reads : joined found (elements names left) ≡ elements [] all
   pub few : length found + length left ≤ length all
 
-pub reads_none : (all : List Token) → Reads all [] [] all
-reads_none all = record { reads = nothing_before (elements [] all); few = omega arith } where
-  nothing_before : (rest : Result (List Element) Refusal) → joined [] rest ≡ rest
-  nothing_before (Ok rest) = refl
-  nothing_before (Err refusal) = refl
-
 pub reads_all : (all left : List Token) (found : List Element) (names : List (List ℕ)) → Reads all found names left → left ≡ [] → elements [] all ≡ Ok found
 unfolding elements
 reads_all all left found names so_far none =

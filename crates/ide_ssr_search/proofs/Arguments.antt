@@ -1,20 +1,19 @@
--- The arguments of macro calls, and where they come from.
+-- The arguments of macro calls, and what shuts in.
 use Rattle.std.proofs.Common.{◌≡◌, ℕ, Bool, true, false, List, [], ◌∷◌, Option, Some, None, refl, sym, ap, ◌∙◌, subst, inl, inr}
 use Rattle.std.proofs.lemmas.Option.{none-some}
 use Rattle.std.specs.Prelude.{◌↔◌, not, is_some, IsTrue, if◌then◌else◌}
-use Rattle.std.specs.Option.{option_map, option_and_then}
+use Rattle.std.specs.Option.{option_map}
 use Rattle.ssr_syntax_kinds.specs.declared.kinds.SyntaxKind.TheVariants as k
 use Rattle.ssr_syntax_kinds.specs.Kinds.{same_kind}
 use Rattle.ssr_syntax_tree.specs.Syntax.{Syntax}
 use Rattle.ssr_syntax_tree.specs.declared.number.Element.{Element}
 use Rattle.ssr_syntax_tree.specs.declared.number.Element.TheVariants as element
 use Rattle.ssr_syntax_tree.specs.declared.number.NodeNo.{NodeNo}
-use Rattle.ssr_syntax_tree.specs.Places.{Part, token_part, node_part, HasElement, node_of, part_of, parts_of}
+use Rattle.ssr_syntax_tree.specs.Places.{Part, token_part, node_part, HasElement, node_of, part_of}
 use Rattle.ssr_syntax_tree.proofs.Shared.{node_of-number}
 use Rattle.ssr_base.specs.declared.ids.FileRange.{FileRange}
-use Rattle.ssr_base.specs.declared.ids.NodeId.{NodeId}
-use Rattle.ssr_base.specs.Workspace.{Workspace, Planted, FileSpan, trees, with_number, tree_of, node_id, original_range, file_span_of}
-use Rattle.ide_ssr_search.specs.Permitted.{first_token_tree, arguments_of, arguments_range}
+use Rattle.ssr_base.specs.Workspace.{Workspace, FileSpan, trees, tree_of, node_id, file_span_of}
+use Rattle.ide_ssr_search.specs.Permitted.{first_token_tree, arguments_range}
 use Rattle.ide_ssr_search.specs.Private.Shut.{Shuts}
 use Rattle.ide_ssr_found.proofs.Shared.{is_tree, of_tree, in_tree}
 
@@ -29,14 +28,6 @@ token_tree_is s child n has is kind =
     ∙ sym (ap (λ b. if b then Some (node_of s n.0).number else None) kind)
     ∙ ap (λ e. first_token_tree (part_of s e ∷ [])) (sym is)
 
-pub first-some : (part : Part) (rest : List Part) (n : ℕ) → Some n ≡ first_token_tree (part ∷ []) → Some n ≡ first_token_tree (part ∷ rest)
-first-some (token_part t token) rest n is = absurd (none-some n (sym is))
-first-some (node_part node) rest n is = here (same_kind node.kind k.TOKEN_TREE) is
-  where
-    here : (b : Bool) → Some n ≡ (if b then Some node.number else None) → Some n ≡ (if b then Some node.number else first_token_tree rest)
-    here true is = is
-    here false is = absurd (none-some n (sym is))
-
 pub first-none : (part : Part) (rest : List Part) → None ≡ first_token_tree (part ∷ []) → first_token_tree (part ∷ rest) ≡ first_token_tree rest
 first-none (token_part t token) rest is = refl
 first-none (node_part node) rest is = here (same_kind node.kind k.TOKEN_TREE) is
@@ -44,33 +35,6 @@ first-none (node_part node) rest is = here (same_kind node.kind k.TOKEN_TREE) is
     here : (b : Bool) → None ≡ (if b then Some node.number else None) → (if b then Some node.number else first_token_tree rest) ≡ first_token_tree rest
     here true is = absurd (none-some node.number is)
     here false is = refl
-
--- ** Where arguments come from.
-
-arguments_are : (w : Workspace) (call : NodeId) (tree : Syntax) → tree_of w call.tree ≡ Some tree
-    → arguments_of (trees w) call ≡ option_map (node_id call.tree) (first_token_tree (parts_of (node_of tree call.node.0)))
-arguments_are w call tree is =
-    let at = is_tree w call.tree tree is in
-    ap (option_and_then (λ (p : Planted). option_map (node_id call.tree) (first_token_tree (parts_of (node_of p.syntax call.node.0))))) at.is
-    ∙ ap (λ s. option_map (node_id call.tree) (first_token_tree (parts_of (node_of s call.node.0)))) at.same
-
-pub arguments_none : (w : Workspace) (call : NodeId) (tree : Syntax) → tree_of w call.tree ≡ Some tree
-    → None ≡ first_token_tree (parts_of (node_of tree call.node.0)) → None ≡ arguments_range (trees w) call
-arguments_none w call tree is none =
-    sym (ap (option_and_then (original_range (trees w))) (arguments_are w call tree is ∙ ap (option_map (node_id call.tree)) (sym none)))
-
-pub arguments_some : (w : Workspace) (call : NodeId) (tree : Syntax) (n : ℕ) → tree_of w call.tree ≡ Some tree
-    → Some n ≡ first_token_tree (parts_of (node_of tree call.node.0)) → original_range (trees w) (node_id call.tree n) ≡ arguments_range (trees w) call
-arguments_some w call tree n is some =
-    sym (ap (option_and_then (original_range (trees w))) (arguments_are w call tree is ∙ ap (option_map (node_id call.tree)) (sym some)))
-
-pub no_tree_no_arguments : (w : Workspace) (call : NodeId) → None ≡ tree_of w call.tree → arguments_range (trees w) call ≡ None
-no_tree_no_arguments w call none = gone (with_number (trees w) call.tree) none
-  where
-    gone : (o : Option Planted) → None ≡ option_map (λ (p : Planted). p.syntax) o
-        → option_and_then (original_range (trees w)) (option_and_then (λ (p : Planted). option_map (node_id call.tree) (first_token_tree (parts_of (node_of p.syntax call.node.0)))) o) ≡ None
-    gone None none = refl
-    gone (Some p) none = absurd (none-some p.syntax none)
 
 -- ** What shuts in.
 

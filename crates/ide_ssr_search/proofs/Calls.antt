@@ -1,21 +1,19 @@
 -- Calls that shut in what they stand for, and trees that stand in the function: what is known of them while trees are gone over.
-use Rattle.std.proofs.Common.{◌≡◌, ℕ, ◌+◌, ◌≤◌, ◌==◌, Bool, true, false, cond, List, [], ◌∷◌, ◌++◌, length, get_or, All, Option, Some, None, refl, sym, ap, ◌∙◌, subst, inl, inr, ◌⊎◌, arith, eq-eqb, length-append}
+use Rattle.std.proofs.Common.{◌≡◌, ℕ, ◌+◌, ◌==◌, Bool, true, false, cond, List, [], ◌∷◌, ◌++◌, length, get_or, All, Option, Some, None, refl, sym, ap, ◌∙◌, subst, inl, inr, ◌⊎◌, arith, eq-eqb, length-append}
 use Rattle.std.specs.Prelude.{◌↔◌, IsTrue, IfSome}
 use Rattle.std.specs.BTreeMap.{is_at}
 use Rattle.std.specs.BTreeSet.{BTreeSet, contains}
 use Rattle.std.specs.Cmp.{unsigned_ties, both_tied}
-use Rattle.std.specs.List.{list_any, position_from}
+use Rattle.std.specs.List.{position_from}
 use Rattle.std.specs.Option.{IsSomeAnd}
 use Rattle.std.proofs.lemmas.Bool.{cases_lt, cases_Bool, and_from, cond-true, cond-false}
 use Rattle.std.proofs.lemmas.List.Elements.{All-head, All-tail}
 use Rattle.std.proofs.lemmas.List.{get_or_push}
 use Rattle.std.proofs.Math.ListN.{get_or-append}
 use Rattle.std.proofs.lemmas.Option.{none-some}
-use Rattle.ssr_syntax_tree.specs.Syntax.{Syntax, node_count}
-use Rattle.ssr_syntax_tree.specs.Places.{HasNode}
 use Rattle.ssr_base.specs.declared.ids.NodeId.{NodeId}
 use Rattle.ssr_base.specs.contracts.ids.NodeIdOrd.TheImpl as id_order
-use Rattle.ssr_base.specs.Workspace.{Expanded, Workspace, Planted, trees, tree_of, node_id, same_id, above}
+use Rattle.ssr_base.specs.Workspace.{Expanded, Workspace, Planted, trees, node_id, same_id, above}
 use Rattle.ssr_base.specs.Built.{IsNodeOf, IsMacroCall, IsBuilt}
 use Rattle.ssr_base.specs.Laws.{IsEarlier, IsBelow, climbed}
 use Rattle.ssr_base.proofs.Shared.{is_up, root_found, same_nodes, mapped}
@@ -23,7 +21,6 @@ use Rattle.ide_ssr_search.specs.Context.{Context}
 use Rattle.ide_ssr_search.specs.Permitted.{IsInFunction}
 use Rattle.ide_ssr_search.specs.Private.Shut.{IsShutIn, IsShut}
 use Rattle.ide_ssr_search.specs.Private.Scan.{IsShutCall, KnowsShut, KnowsInside, IsEarlierCall}
-use Rattle.ide_ssr_found.proofs.Shared.{is_tree, in_tree}
 use Rattle.ide_ssr_search.proofs.Trees.{then_some}
 use Rattle.ide_ssr_search.proofs.Shutting.{root_shut}
 use Rattle.ide_ssr_search.proofs.Inside.{root_inside, file_outside}
@@ -32,10 +29,6 @@ use Rattle.ide_ssr_search.proofs.Inside.{root_inside, file_outside}
 
 id_ties : (a b : NodeId) → same_id a b ≡ is_at ((id_order.ghosts).cmp a) b
 id_ties a b = both_tied _ _ _ _ (unsigned_ties a.tree b.tree) (unsigned_ties a.node.0 b.node.0)
-
-not_itself : (t n : ℕ) → IsEarlier (node_id t n) (node_id t n) → ⊥
-not_itself t n (inl tree) = omega arith
-not_itself t n (inr same) = omega (arith, same.1)
 
 earlier_on : (c : NodeId) (t n : ℕ) → IsEarlier c (node_id t n) → IsEarlier c (node_id t (n + 1))
 earlier_on c t n (inl tree) = inl tree
@@ -79,20 +72,7 @@ pub earlier_if : (w : Workspace) → IsBuilt w → (t : ℕ) (call : Option Node
 earlier_if w b t None is = tt
 earlier_if w b t (Some call) is = earlier_call w b t call (sym is)
 
--- what is known of it is whether it shuts in what is directly below it
-pub call_shut : (w : Workspace) (t : ℕ) (call : NodeId) (had : Bool) → IsEarlierCall w t call → IsTrue had ↔ IsShutCall w t 0 call → IsTrue had ↔ IsShut (trees w) call
-call_shut w t call had known both = (
-  λ is. (both.0 is).shut,
-  λ shut. both.1 (record { earlier = inl known.earlier; node = known.node; is_call = known.is_call; shut = shut }),
-)
-
 -- ** Calls that shut in what they stand for.
-
-pub shut_none : (w : Workspace) (shut : BTreeSet NodeId) → shut.keys ≡ [] → KnowsShut w 0 0 shut
-shut_none w shut none call = (
-  λ had. absurd (let e : false ≡ true = sym (ap (list_any (is_at ((id_order.ghosts).cmp call))) none) ∙ had in cc),
-  λ is. absurd (elim is.earlier [ inl tree ↦ omega arith | inr same ↦ omega (arith, same.1) ]),
-)
 
 pub shut_kept : (w : Workspace) (t n : ℕ) (shut : BTreeSet NodeId) → (IsMacroCall (trees w) (node_id t n) → IsShut (trees w) (node_id t n) → ⊥)
     → KnowsShut w t n shut → KnowsShut w t (n + 1) shut
@@ -135,34 +115,6 @@ shut_added w t n old new node is_call shut updates known call =
     same_itself : (a : NodeId) → same_id a a ≡ true
     same_itself a = and_from (a.tree == a.tree) (a.node.0 == a.node.0) (eq-eqb a.tree a.tree refl) (eq-eqb a.node.0 a.node.0 refl)
 
--- those of a whole tree
-pub shut_in : (w : Workspace) (t n : ℕ) (s : Syntax) (shut : BTreeSet NodeId) → tree_of w t ≡ Some s → 1 + node_count s.children ≤ n → KnowsShut w t n shut → KnowsShut w (t + 1) 0 shut
-shut_in w t n s shut tree all known call = (
-  λ had. let is = (known call).0 had in
-      record {
-        earlier = elim is.earlier [ inl before ↦ inl (omega arith) | inr same ↦ inl (omega (arith, same.0)) ];
-        node = is.node;
-        is_call = is.is_call;
-        shut = is.shut;
-      },
-  λ is. (known call).1 (record {
-    earlier = elim is.earlier [
-      | inl before ↦
-          elim (cases_lt call.tree t) [
-            | inl low ↦ inl low
-            | inr high ↦
-                let here : call.tree ≡ t = omega arith in
-                let has = in_tree (trees w) call.tree s (λ s. HasNode s call.node.0) (is_tree w call.tree s (ap (tree_of w) here ∙ tree)) is.node in
-                inr (here, omega arith)
-          ]
-      | inr same ↦ absurd (omega (arith, same.1))
-    ];
-    node = is.node;
-    is_call = is.is_call;
-    shut = is.shut;
-  }),
-)
-
 -- ** What a tree is told of by its call.
 
 pub ground_shut : (ts : List Planted) (root : NodeId) (call : Option NodeId) (shut : Bool) → above ts root ≡ call → IsTrue shut ↔ IsSomeAnd call (IsShut ts) → IsTrue shut ↔ IsShutIn ts root
@@ -182,9 +134,6 @@ ground_inside ts root (Some call) function inside up known =
     (λ is. both.1 (known.0 is), λ is. known.1 (both.0 is))
 
 -- ** Trees that stand in the function.
-
-pub inside_none : (w : Workspace) (context : Context) → KnowsInside w context 0 []
-inside_none w context = record { counted = refl; known = λ s before. absurd (omega arith) }
 
 pub inside_more : (w : Workspace) (context : Context) (t : ℕ) (inside : List Bool) (new : Bool) → KnowsInside w context t inside
     → IsTrue new ↔ IsSomeAnd context.function (IsBelow (trees w) (node_id t 0)) → KnowsInside w context (t + 1) (inside ++ new ∷ [])

@@ -1,6 +1,6 @@
 -- Which nodes are open to all rules.
 use Rattle.std.proofs.Common.{◌≡◌, ℕ, true, false, List, Option, Some, None, refl, sym, ap, ◌∙◌, subst, inl, inr}
-use Rattle.std.proofs.lemmas.Option.{none-some, same_Some}
+use Rattle.std.proofs.lemmas.Option.{same_Some}
 use Rattle.std.specs.Prelude.{IsSome, is_some}
 use Rattle.ssr_syntax_kinds.specs.declared.kinds.SyntaxKind.TheVariants as k
 use Rattle.ssr_syntax_tree.specs.Syntax.{Syntax}
@@ -62,8 +62,3 @@ open_range w restrictions x range is known =
       subst HasByte (same_Some byte.0 range (sym byte.1 ∙ is)) byte.2,
       subst (IsSearched restrictions) (same_Some searched.0 range (sym searched.1 ∙ is)) searched.2,
     )
-
-pub no_range : (w : Workspace) (restrictions : List FileSpan) (x : NodeId) → original_range (trees w) x ≡ None → IsOpen w restrictions x → ⊥
-no_range w restrictions x is known =
-    let byte = some_and (original_range (trees w) x) HasByte known.has_byte in
-    none-some byte.0 (sym is ∙ byte.1)

@@ -5,7 +5,7 @@ use Rattle.std.specs.Option.{IsSomeAnd, option_and_then, option_map, option_map_
 use Rattle.std.proofs.lemmas.List.Elements.{All-weaker}
 use Rattle.std.proofs.lemmas.Option.{none-some, same_Some}
 use Rattle.ssr_syntax_tree.specs.Syntax.{Syntax}
-use Rattle.ssr_syntax_tree.specs.Places.{HasNode, node_of, root_of}
+use Rattle.ssr_syntax_tree.specs.Places.{node_of, root_of}
 use Rattle.ssr_syntax_tree.proofs.Shared.{offset_grows}
 use Rattle.ssr_base.specs.declared.ids.FileRange.{FileRange}
 use Rattle.ssr_base.specs.declared.ids.NodeId.{NodeId}
@@ -158,19 +158,6 @@ file_placed ts x bindings are m =
     no_call (Some c) call is known = absurd known
 
 -- ** Whole matches.
-
-pub matched : (w : Workspace) (meanings : Meanings) (tree : Syntax) (rule : ResolvedKind) (x : NodeId) (bindings : List Binding) → tree_of w x.tree ≡ Some tree → HasNode tree x.node.0
-    → Some bindings ≡ bindings_of meanings x.tree rule (root_of rule.pattern) (node_of tree x.node.0) → IsMatched (trees w) x bindings
-matched w meanings tree rule x bindings is has found =
-    let at = is_tree w x.tree tree is in
-    record {
-      meanings = meanings;
-      rule = rule;
-      tree = at.tree;
-      is = at.is;
-      has = subst (λ s. HasNode s x.node.0) (sym at.same) has;
-      matches = subst (λ s. bindings_of meanings x.tree rule (root_of rule.pattern) (node_of s x.node.0) ≡ Some bindings) (sym at.same) (sym found);
-    }
 
 pub whole : (w : Workspace) (meanings : Meanings) (tree : Syntax) (rule : ResolvedKind) (x : NodeId) (bindings : List Binding) → tree_of w x.tree ≡ Some tree
     → Some bindings ≡ bindings_of meanings x.tree rule (root_of rule.pattern) (node_of tree x.node.0) → IsPlacedMatch (trees w) x bindings → CanBeWritten meanings rule x

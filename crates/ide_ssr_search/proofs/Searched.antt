@@ -1,16 +1,10 @@
 -- Which ranges are searched.
-use Rattle.std.proofs.Common.{◌≡◌, ℕ, ◌<◌, ◌≤◌, List, [], ◌∷◌, length, map, get_or, sym, ap, ◌∙◌, subst, inl, inr, arith}
+use Rattle.std.proofs.Common.{◌≡◌, ℕ, ◌<◌, ◌≤◌, List, [], ◌∷◌, length, map, get_or, sym, ◌∙◌, subst, inl, inr, arith}
 use Rattle.std.proofs.lemmas.List.{get_or-map, length-map}
 use Rattle.ssr_base.specs.declared.ids.FileRange.{FileRange}
 use Rattle.ssr_base.specs.Workspace.{FileSpan, file_span_of}
 use Rattle.ssr_base.specs.Laws.{LiesIn}
 use Rattle.ide_ssr_search.specs.Permitted.{IsSearched}
-
-pub searched_here : (rs : List FileRange) (range : FileSpan) (n : ℕ) (r : FileRange) → n < length rs → r ≡ get_or rs n r → LiesIn range (file_span_of r)
-    → IsSearched (map file_span_of rs) range
-searched_here rs range n r within is lies =
-    let at : get_or (map file_span_of rs) n (file_span_of r) ≡ file_span_of r = get_or-map file_span_of rs n r (file_span_of r) within ∙ ap file_span_of (sym is) in
-    inr (file_span_of r, (n, omega (arith, length-map rs file_span_of), at), lies)
 
 pub searched_nowhere : (rs : List FileRange) (range : FileSpan) (n : ℕ) → length rs ≤ n → 0 < length rs
     → ((k : ℕ) (d : FileRange) → k < n → ¬ LiesIn range (file_span_of (get_or rs k d))) → ¬ IsSearched (map file_span_of rs) range

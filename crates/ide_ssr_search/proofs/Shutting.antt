@@ -1,14 +1,22 @@
 -- Which nodes are shut in, told by how far the nodes reach that came before and shut in what is below them.
-use Rattle.std.proofs.Common.{◌≡◌, ℕ, ◌+◌, ◌<◌, max, Bool, true, false, List, Some, refl, sym, subst, inl, inr, ◌⊎◌, arith}
+use Rattle.std.proofs.Common.{◌≡◌, ℕ, ◌+◌, ◌<◌, ◌≤◌, max, List, Some, refl, sym, subst, inl, inr, ◌⊎◌, arith}
 use Rattle.std.proofs.lemmas.Bool.{cases_lt, ltb-true, lt-ltb}
 use Rattle.std.specs.Prelude.{◌↔◌, nat_lt, IsTrue}
-use Rattle.ssr_syntax_tree.specs.Syntax.{Syntax, node_count}
+use Rattle.ssr_syntax_tree.specs.Syntax.{Syntax}
 use Rattle.ssr_syntax_tree.specs.Places.{HasNode, node_of, size_of}
 use Rattle.ssr_base.specs.declared.ids.NodeId.{NodeId}
 use Rattle.ssr_base.specs.Workspace.{Planted, node_id, above}
-use Rattle.ide_ssr_search.specs.Private.Shut.{Shuts, IsShutIn, IsShut, ShutsBefore, IsPast, TellsPast}
+use Rattle.ide_ssr_search.specs.Private.Shut.{Shuts, IsShutIn, IsShut, TellsPast}
 use Rattle.ide_ssr_found.proofs.Shared.{IsTree}
 use Rattle.ide_ssr_search.proofs.Trees.{split, over_below, root_below, up_below, below_up}
+
+-- of the nodes of a tree up to before the number n, one that has the number m among those below it
+abbrev ShutsBefore : List Planted → ℕ → Syntax → ℕ → ℕ → Type 0
+ShutsBefore trees t syntax n m = (a : ℕ) × (a < n) × Shuts trees (node_id t a) × (m < a + size_of (node_of syntax a))
+
+-- of the nodes from n on, those before `past` are shut in by what stands above the tree, or by a node before n
+pub record IsPast (trees : List Planted) (t : ℕ) (syntax : Syntax) (n past : ℕ) : Type 0 where
+  pub known : (m : ℕ) → n ≤ m → HasNode syntax m → (m < past) ↔ (IsShutIn trees (node_id t 0) ⊎ ShutsBefore trees t syntax n m)
 
 module _ (ts : List Planted) (t : ℕ) (s : Syntax) (at : IsTree ts t s) where
   -- a node is shut in by what stands above its tree, or by a node of the tree before it
@@ -23,23 +31,6 @@ module _ (ts : List Planted) (t : ℕ) (s : Syntax) (at : IsTree ts t s) where
   to_shut : (n : ℕ) → HasNode s n → IsShutIn ts (node_id t 0) ⊎ ShutsBefore ts t s n n → IsShutIn ts (node_id t n)
   to_shut n has (inl root) = (root.0, root_below ts t s at n has root.0 root.1, root.2)
   to_shut n has (inr before) = (node_id t before.0, over_below ts t s at before.0 n has (before.1, before.3), before.2)
-
-  pub past_start : (shut : Bool) (past : ℕ) → IsTrue shut ↔ IsShutIn ts (node_id t 0) → (shut ≡ true → past ≡ 1 + node_count s.children) → (shut ≡ false → past ≡ 0)
-      → IsPast ts t s 0 past
-  past_start true past known all none =
-      let count = all refl in
-      record { known = λ m low has. (λ before. inl (known.0 refl), λ shut. omega arith) }
-  past_start false past known all none =
-      let zero_past = none refl in
-      record {
-        known = λ m low has. (
-          λ before. absurd (omega arith),
-          λ shut. elim shut [
-            | inl root ↦ absurd (let e : false ≡ true = known.1 root in cc)
-            | inr before ↦ absurd (omega (arith, before.1))
-          ],
-        );
-      }
 
   -- a node is shut in if it comes before that number
   pub past_now : (n past : ℕ) → HasNode s n → IsPast ts t s n past → (n < past) ↔ IsShutIn ts (node_id t n)

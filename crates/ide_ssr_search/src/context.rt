@@ -1,6 +1,5 @@
 //! What a search is made for: where names are looked up, which ranges are searched, and the function around a position.
 ghost use Rattle.std.specs.Prelude.{◌≡◌, ◌↔◌, ◌⊎◌, IsTrue, IfOk, MatchResult, All, map};
-ghost use Rattle.ssr_base.specs.Built.{IsBuilt};
 ghost use Rattle.ssr_base.specs.Workspace.{file_span_of};
 ghost use Rattle.ide_ssr_search.specs.Making.{restricting, HasFile, LiesInText, Makes, MakesFirst};
 ghost use Rattle.ide_ssr_search.specs.Private.Files.{IsFileAt, IsFunctionAt};

@@ -1,9 +1,9 @@
 //! What rules ask of a node, before it is asked whether it matches: most nodes lack it.
-ghost use Rattle.std.specs.Prelude.{◌≡◌, ℕ, ◌&&◌, ◌∷◌, [], not, true, false, is_some, IfOk, IfSome};
+ghost use Rattle.std.specs.Prelude.{◌≡◌, ℕ, ◌&&◌, ◌∷◌, [], true, false, is_some, IfOk};
 ghost use Rattle.std.specs.Option.{option_map_or};
 ghost use Rattle.ssr_syntax_kinds.specs.declared.kinds.SyntaxKind.{SyntaxKind as Kind};
 ghost use Rattle.ssr_syntax_tree.specs.Syntax.{Syntax};
-ghost use Rattle.ssr_syntax_tree.specs.Places.{Node, HasNode, HasElement, node_of, root_of, part_of, parts_of};
+ghost use Rattle.ssr_syntax_tree.specs.Places.{Node, HasNode, HasElement, node_of, part_of, parts_of};
 ghost use Rattle.ide_ssr_search.specs.Private.Roots.{first_counted, counts_first, pairs_otherwise, has_asked, token_asked, has_kind, AreTokenKinds, IsRootOf, IsAskedBy, AreRules, AreKindsIn};
 
 use crate::permitted::names_self;

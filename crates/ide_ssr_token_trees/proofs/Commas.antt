@@ -1,5 +1,5 @@
 -- The comma before the closing bracket, found from the left.
-use Rattle.std.proofs.Common.{◌≡◌, ℕ, Bool, true, false, ◌&&◌, cond, List, [], ◌∷◌, All, map, Option, Some, None, is_some, refl, sym, ◌∙◌, ap, subst}
+use Rattle.std.proofs.Common.{◌≡◌, ℕ, Bool, true, false, ◌&&◌, if◌then◌else◌, cond, List, [], ◌∷◌, All, map, Option, Some, None, is_some, refl, sym, ◌∙◌, ap, subst}
 use Rattle.std.proofs.lemmas.List.Elements.{All-head, All-tail}
 use Rattle.ssr_syntax_kinds.specs.declared.kinds.SyntaxKind.{SyntaxKind}
 use Rattle.ssr_syntax_kinds.specs.declared.kinds.SyntaxKind.TheVariants as k
@@ -10,7 +10,12 @@ use Rattle.ssr_syntax_tree.specs.Syntax.{Syntax}
 use Rattle.ssr_syntax_tree.specs.Places.{Part, token_part, node_part, part_of, parts_of, elements_of, node_of, HasNode, HasElement}
 use Rattle.ssr_syntax_tree.proofs.Shared.{elements_had, parts_of-elements_of}
 use Rattle.ide_ssr_token_trees.specs.Elements.{is_closing, closes, closes_part, last_comma}
-use Rattle.ide_ssr_token_trees.specs.Private.Siblings.{comma_at, comma_before}
+use Rattle.ide_ssr_token_trees.specs.Private.Siblings.{comma_at}
+
+-- the comma before the closing bracket, where this one stands directly before these elements, trivia aside
+abbrev comma_before : Option ℕ → List Part → Option ℕ
+comma_before (Some t) rest = if closes rest then Some t else last_comma rest
+comma_before None rest = last_comma rest
 
 -- a kind that is trivia is that of no closing bracket
 trivia_open : (kind : SyntaxKind) → is_trivia kind ≡ true → is_closing kind ≡ false

@@ -4,19 +4,24 @@ use Rattle.std.proofs.lemmas.List.Elements.{All-map, All-weaker}
 use Rattle.ssr_syntax_tree.specs.declared.number.Element.{Element}
 use Rattle.ssr_syntax_tree.specs.declared.number.Element.TheVariants as element
 use Rattle.ssr_syntax_tree.specs.Syntax.{Forest, nothing, leaf, branch, Syntax, token_count, node_count}
-use Rattle.ssr_syntax_tree.specs.Places.{Part, token_part, node_part, HasNode, HasElement, element_of, elements_of, node_of, part_of, parts_in, parts_of, size_of}
+use Rattle.ssr_syntax_tree.specs.Places.{Part, token_part, node_part, HasNode, HasToken, HasElement, IsAbove, element_of, elements_of, node_of, part_of, parts_in, parts_of, size_of}
 use Rattle.ssr_syntax_tree.proofs.Shared.{IsChild, children_known, elements_had, parts_of-elements_of, smaller}
 use Rattle.ide_ssr_found.specs.declared.bindings.Binding.{Binding}
 use Rattle.ide_ssr_token_trees.specs.declared.siblings.Siblings.{Siblings}
 use Rattle.ide_ssr_token_trees.specs.Bindings.{joined, passed, nothing_by, part_by, elements_by, tree_bindings, Answers, matched, other}
 use Rattle.ide_ssr_token_trees.specs.Elements.{last_comma, next_text, tokens_among, without_trivia}
 use Rattle.ide_ssr_token_trees.specs.Private.Matching.{goes_on, differs, ElementSteps}
-use Rattle.ide_ssr_token_trees.specs.Private.Siblings.{siblings_left, parts_left, number_of, IsBelow, IsRest}
+use Rattle.ide_ssr_token_trees.specs.Private.Siblings.{siblings_left, parts_left, number_of, IsRest}
 use Rattle.ide_ssr_token_trees.proofs.Rests.{rest_all, rest_few}
 use Rattle.ide_ssr_token_trees.proofs.Sizes.{Behind, tree_step}
 use Rattle.ide_ssr_token_trees.proofs.Steps.{joined_none}
 
 -- ** Elements below a node.
+
+-- elements that stand below a node
+abbrev pub IsBelow : Syntax → ℕ → Element → Type 0
+IsBelow tree n (element.Node m) = HasNode tree m.0 × IsAbove (node_of tree n) m.0
+IsBelow tree n (element.Token t) = HasToken tree t.0
 
 element_below : (tree : Syntax) (n : ℕ) (part : Part) → IsChild tree n part → IsBelow tree n (element_of part)
 element_below tree n (token_part t token) child = child.0

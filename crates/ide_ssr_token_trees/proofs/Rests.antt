@@ -45,14 +45,6 @@ pub parts_back : (tree : Syntax) (after : Siblings) (came : Option Element) → 
     → map (part_of tree) (option_to_list came ++ after.left) ≡ map (part_of tree) (option_to_list came ++ siblings_left after)
 parts_back tree after came none = ap (λ xs. map (part_of tree) (option_to_list came ++ xs)) (sym (not_held after none))
 
--- there may be none
-pub rest_none : (before now after : Siblings) → IsRest before [] now → siblings_left now ≡ siblings_left after → after.comma ≡ now.comma → IsRest before [] after
-rest_none before now after rest is same = record {
-  passed = rest.passed;
-  left = rest.left ∙ ap (λ xs. rest.passed ++ xs) is;
-  comma = rest.comma ∙ sym same;
-}
-
 pub rest_then : (a b c : Siblings) (came : List Element) → IsRest a [] b → IsRest b came c → IsRest a came c
 rest_then a b c came first second = record {
   passed = first.passed ++ second.passed;
@@ -107,10 +99,6 @@ pub solid_came : (tree : Syntax) (before now after : Siblings) (x : Element) →
     → is_trivia_part (part_of tree x) ≡ false → without_trivia (parts_left tree before) ≡ part_of tree x ∷ without_trivia (parts_left tree after)
 solid_came tree before now after x so_far is other =
     so_far.same ∙ ap (λ xs. without_trivia (map (part_of tree) xs)) is ∙ other_kept (part_of tree x) (parts_left tree after) other
-
-pub none_came : (tree : Syntax) (before now after : Siblings) → TriviaCame tree before now → siblings_left now ≡ siblings_left after
-    → without_trivia (parts_left tree before) ≡ without_trivia (parts_left tree after)
-none_came tree before now after so_far is = so_far.same ∙ ap (λ xs. without_trivia (map (part_of tree) xs)) is
 
 -- so far only such came as are passed over
 pub record PassedCame (tree : Syntax) (before now : Siblings) : Type 0 where

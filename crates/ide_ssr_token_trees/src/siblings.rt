@@ -1,6 +1,6 @@
 //! The elements of a token tree, one after the other.
 
-ghost use Rattle.std.specs.Prelude.{◌≡◌, ◌&&◌, is_some, ◌++◌, ◌<◌, ◌^◌, [], All, IfNone, None, true, false, map, option_to_list};
+ghost use Rattle.std.specs.Prelude.{◌≡◌, ◌&&◌, is_some, ◌++◌, ◌<◌, ◌^◌, [], All, IfNone, None, false, map, option_to_list};
 ghost use Rattle.std.specs.Option.{IfSome, option_copied};
 ghost use Rattle.ssr_syntax_tree.specs.Places.{HasNode, HasElement, node_of, part_of, parts_of, elements_of};
 ghost use Rattle.ssr_syntax_tree.specs.Syntax.{token_count};

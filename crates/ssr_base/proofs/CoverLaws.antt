@@ -105,9 +105,6 @@ covers_next syntax origins n cover next e left so_far is = record {
       ∙ so_far.rest;
 }
 
-pub covers_all : (syntax : Syntax) (origins : List (Option Span)) (n : ℕ) (cover : Cover) → Covers syntax origins n cover [] → cover ≡ cover_below origins (node_of syntax n)
-covers_all syntax origins n cover all = sym (join-no_token cover) ∙ all.rest
-
 -- what an element that comes next is
 pub first_part : (syntax : Syntax) (origins : List (Option Span)) (n : ℕ) (cover : Cover) (e : Element) (left : List Element)
     → Covers syntax origins n cover (e ∷ left) → IsPartOf syntax n e
@@ -166,9 +163,6 @@ covers_more syntax origins n list cover known within is m at from get =
           ap plain_cover same ∙ is ∙ ap (λ k. cover_below origins (node_of syntax k)) (sym here)
       | inr other ↦ known m at (omega (arith, other)) (sym (slice_get-set_other list n m cover other) ∙ get)
     ]
-
-pub covers_past : (syntax : Syntax) (origins : List (Option Span)) (list : List Stored) → CoversFrom syntax origins (length list) list
-covers_past syntax origins list m at from get = absurd (omega (arith, slice_get_within list m at get))
 
 -- ** The steps over the children of a node.
 

@@ -43,11 +43,6 @@ drop_next left after before token others is more less =
     ∙ ap (λ n. drop n (token ∷ others)) (sym (count_next left token others more))
     ∙ ap (λ ts. drop (count_in left ts) ts) (sym is)
 
--- nothing more is taken where no byte is left
-pub count_none : (tokens : List ExpToken) → count_in 0 tokens ≡ 0
-count_none [] = refl
-count_none (token ∷ tokens) = refl
-
 -- ** The tokens of a tree, one by one.
 
 -- the origins so far, and those of the tokens that are left

@@ -31,9 +31,6 @@ slice_get_push (y ∷ xs) x =
 
 -- ** Which trees there are.
 
-in_order : Workspace → List Planted
-in_order w = map of_file w.files ++ map of_expansion w.expansions
-
 pub planted_first : (p : Planted) (earlier : List Planted) (t : ℕ) → t ≡ length earlier → with_number (p ∷ earlier) t ≡ Some p
 planted_first p earlier t e = rw (eq-eqb t (length earlier) e) refl
 

@@ -1,5 +1,5 @@
 -- How files and expansions are taken in turn.
-use Rattle.std.proofs.Common.{◌≡◌, ◌+◌, ◌<◌, ◌≤◌, List, [], ◌∷◌, length, Result, Ok, Err, String, sym, ap, ◌∙◌, subst, lt-ltb, le-ltb}
+use Rattle.std.proofs.Common.{◌≡◌, ◌+◌, ◌<◌, ◌≤◌, List, length, Result, Ok, Err, String, sym, ap, ◌∙◌, subst, lt-ltb, le-ltb}
 use Rattle.std.specs.Prelude.{IsErrAnd}
 use Rattle.std.specs.Global.{Global}
 use Rattle.ssr_base.specs.declared.building.Expansion.{Expansion}
@@ -49,28 +49,6 @@ module _ (files : List (String Global)) (expansions : List Expansion) where
   pub left_first : (w : Workspace) → length files + length expansions ≤ most_trees → in_turn with_file no_tree files ≡ Ok w
       → built files expansions ≡ in_turn with_expansion w expansions
   left_first w few is = built_few few ∙ ap (λ r. r >>= (λ w. in_turn with_expansion w expansions)) is
-
-  pub left_next : (w next : Workspace) (x : Expansion) (before left : List Expansion) → built files expansions ≡ in_turn with_expansion w before
-      → before ≡ x ∷ left → with_expansion w x ≡ Ok next → built files expansions ≡ in_turn with_expansion next left
-  left_next w next x before left so_far first is =
-      so_far ∙ ap (in_turn with_expansion w) first ∙ ap (λ r. r >>= (λ grown. in_turn with_expansion grown left)) is
-
-  -- a refusal of an expansion
-  pub answers_expansion : (w : Workspace) (x : Expansion) (before left : List Expansion) (e : WorkspaceError) → length files + length expansions ≤ most_trees
-      → built files expansions ≡ in_turn with_expansion w before → before ≡ x ∷ left → Gives (with_expansion w x) (Err e) → Answers files expansions (Err e)
-  answers_expansion w x before left e few so_far first h = record {
-    gives =
-        gives_refusal (with_expansion w x) (built files expansions) e
-        (λ is. so_far ∙ ap (in_turn with_expansion w) first ∙ ap (λ r. r >>= (λ grown. in_turn with_expansion grown left)) is) h;
-    few = λ _. few;
-  }
-
-  pub answers_all : (w : Workspace) (before : List Expansion) → built files expansions ≡ in_turn with_expansion w before → before ≡ []
-      → Answers files expansions (Ok w)
-  answers_all w before so_far none = record {
-    gives = so_far ∙ ap (in_turn with_expansion w) none;
-    few = λ e. cc;
-  }
 
   -- an answer that is a refusal
   pub answers_by : (answer : Result Workspace WorkspaceError) (e : WorkspaceError) → IsErrAnd answer (λ y. y ≡ e) → Answers files expansions (Err e)

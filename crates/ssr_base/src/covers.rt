@@ -1,9 +1,9 @@
 //! What covers the origins of tokens.
 
-ghost use Rattle.std.specs.Prelude.{◌≡◌, ◌+◌, ◌<◌, ◌≤◌, IfOk, length, map, slice_get, Some};
+ghost use Rattle.std.specs.Prelude.{◌≡◌, ◌+◌, ◌<◌, ◌≤◌, IfOk, length, map, Some};
 ghost use Rattle.std.specs.Option.{option_map};
 ghost use Rattle.ssr_syntax_tree.specs.Syntax.{node_count, token_count};
-ghost use Rattle.ssr_syntax_tree.specs.Places.{HasNode, node_of, nodes_of};
+ghost use Rattle.ssr_syntax_tree.specs.Places.{HasNode, node_of};
 ghost use Rattle.ssr_base.specs.Origins.{span_of, join, covered, cover_of, cover_of_one};
 ghost use Rattle.ssr_base.specs.Workspace.{cover_below};
 ghost use Rattle.ssr_base.specs.Private.Covers.{plain_cover, plain_origin, CoversFrom, AreCovers};

@@ -4,9 +4,8 @@ ghost use Rattle.std.specs.Prelude.{is_some, ◌≡◌, ◌+◌, ◌<◌, ◌≤
 ghost use Rattle.ssr_base.specs.Origins.{span_of};
 ghost use Rattle.ssr_syntax_tree.specs.Places.{HasToken, node_of};
 ghost use Rattle.std.specs.Option.{option_copied, option_map, option_and_then};
-ghost use Rattle.ssr_syntax_tree.specs.Syntax.{source_of};
 ghost use Rattle.ssr_base.specs.Texts.{text_between};
-ghost use Rattle.ssr_base.specs.Workspace.{trees, with_number, tree_of, file_of, nesting, text_at_top, text_of, above, expansion_of, has_node, has_run, own_span, own_run_span, original, original_run, original_range, run_range, file_span_of};
+ghost use Rattle.ssr_base.specs.Workspace.{trees, with_number, tree_of, file_of, nesting, text_of, above, expansion_of, has_node, has_run, own_span, own_run_span, original, original_run, original_range, run_range, file_span_of};
 ghost use Rattle.ssr_base.specs.Built.{IsBuilt};
 ghost use Rattle.ssr_base.specs.Private.Stored.{IsStoredAt};
 

@@ -11,7 +11,7 @@ use Rattle.std.specs.Ordering.{is_gt, is_lt, nat_cmp}
 use Rattle.std.specs.Prelude.{Contains, IsSome}
 use Rattle.std.specs.Option.{option_map}
 use Rattle.ssr_facts.specs.declared.scopes.Scope.{Scope}
-use Rattle.ssr_facts.specs.Private.Scopes.{IsBetter, AsGood, IsBest, Covers, IsKept, IsKeptBeside, IsFirst, IsWorse, IsPassed}
+use Rattle.ssr_facts.specs.Private.Scopes.{IsBetter, AsGood, IsBest, Covers, IsKept, IsKeptBeside, IsFirst, IsWorse}
 
 -- ** The order of scopes.
 
@@ -23,12 +23,6 @@ good_good a b c (inl p) (inl q) = inl (omega arith)
 good_good a b c (inl p) (inr q) = inl (omega arith)
 good_good a b c (inr p) (inl q) = inl (omega arith)
 good_good a b c (inr p) (inr q) = inr (p.0 ∙ q.0, omega arith)
-
-pub better_better : (a b c : Scope) → IsBetter a b → IsBetter b c → IsBetter a c
-better_better a b c (inl p) (inl q) = inl (omega arith)
-better_better a b c (inl p) (inr q) = inl (omega arith)
-better_better a b c (inr p) (inl q) = inl (omega arith)
-better_better a b c (inr p) (inr q) = inr (p.0 ∙ q.0, omega arith)
 
 pub good_better : (a b : Scope) → IsBetter a b → AsGood a b
 good_better a b (inl p) = inl p
@@ -105,17 +99,6 @@ taken_out kept left begun x end known worse sub others = record {
           | inr other ↦
               inl (record { end = covers.end; scope = covers.scope; is = others covers.end other ∙ covers.is; behind = covers.behind; good = covers.good })
         ]
-
--- what is left up to its end is better
-pub left_better : (kept : ℕ → Option Scope) (begun : List Scope) (x : Scope) → IsKeptBeside kept begun x
-    → (k : ℕ) (v : Scope) → kept k ≡ Some v → IsPassed kept x k → IsBetter v x
-left_better kept begun x known k v has passed =
-    elim (cases_eq k passed.end) [
-      | inl same ↦
-          subst (λ (u : Scope). IsBetter u x) (same_Some passed.scope v (sym passed.is ∙ ap kept (sym same) ∙ has)) passed.better
-      | inr other ↦
-          better_better v passed.scope x (known.stairs k passed.end v passed.scope (omega (arith, passed.behind, other)) has passed.is) passed.better
-    ]
 
 -- and then the one that comes in is put at its end
 pub put_in : (kept new : ℕ → Option Scope) (begun : List Scope) (x : Scope) → IsKeptBeside kept begun x

@@ -53,15 +53,6 @@ tree_all t number all old is past =
 -- ** Nodes of one tree before a number.
 
 module _ {A : Type 0} (t : ℕ) (tell : ℕ → Option A) where
-  -- none is told yet
-  pub told_none : (x : NodeId) (old : Option A) → old ≡ option_or old (told_up_to t 0 tell x)
-  told_none x old =
-      sym (option_or_none old) ∙ ap (option_or old) (sym (nothing (x.tree == t)) ∙ ap (λ b. cond ((x.tree == t) && b) (tell x.node.0) None) (sym (le-ltb x.node.0 0 (omega arith))))
-    where
-      nothing : (b : Bool) → cond (b && false) (tell x.node.0) None ≡ None
-      nothing true = refl
-      nothing false = refl
-
   -- one node more, of which nothing or something is told
   pub told_more : (x : NodeId) (n : ℕ) (old now new : Option A) → now ≡ option_or old (told_up_to t n tell x)
       → new ≡ option_or now (cond (same_id x (node_id t n)) (tell n) None) → new ≡ option_or old (told_up_to t (n + 1) tell x)

@@ -67,17 +67,6 @@ place_unknown w t is x same = by (with_number (trees w) x.tree) (ap (tree_of w) 
     by None e = refl
     by (Some p) e = cc
 
--- the node at a place of a tree
-pub node_known : (w : Workspace) (t : ℕ) (tree : Syntax) → tree_of w t ≡ Some tree → (kind : SyntaxKind) (place : PlaceRow) → place.tree ≡ t
-    → option_map (λ (node : Node). node_id t node.number) (find (stands_at kind place tree) (nodes_of tree)) ≡ node_at w kind place
-node_known w t tree is kind place same =
-    ap (λ n. option_map (λ (node : Node). node_id n node.number) (find (stands_at kind place tree) (nodes_of tree))) (sym same)
-    ∙ ap (option_and_then (λ tree. option_map (λ node. node_id place.tree node.number) (find (stands_at kind place tree) (nodes_of tree)))) (sym (ap (tree_of w) same ∙ is))
-
-pub node_unknown : (w : Workspace) (t : ℕ) → tree_of w t ≡ None → (kind : SyntaxKind) (place : PlaceRow) → place.tree ≡ t → node_at w kind place ≡ None
-node_unknown w t is kind place same =
-    ap (option_and_then (λ tree. option_map (λ node. node_id place.tree node.number) (find (stands_at kind place tree) (nodes_of tree)))) (ap (tree_of w) same ∙ is)
-
 -- ** The nodes of one tree.
 
 -- one node more

@@ -17,10 +17,6 @@ use Rattle.ssr_facts.proofs.Best.{first_best, one_best}
 use Rattle.ssr_facts.proofs.Lists.{take_one, option_or_none, append_none}
 use Rattle.ssr_facts.proofs.Shortest.{numbered, scopes_in-push}
 
--- what a list contains stands at a place
-at : {A : Type 0} (xs : List A) (y : A) (among : Contains xs y) → slice_get xs among.0 ≡ Some y
-at xs y among = slice_get-get_or xs among.0 y among.1 ∙ ap Some among.2
-
 module _ (scopes : List Scope) (past : ℕ) (within : past ≤ length scopes) where
   taken : (y : Scope) (among : Contains (take past scopes) y) → (among.0 < past) × (slice_get scopes among.0 ≡ Some y) × Contains scopes y
   taken y among =

@@ -1,6 +1,6 @@
 //! The files and expansions of a facts file, as a workspace is built of them. What rows have is moved.
 
-ghost use Rattle.std.specs.Prelude.{◌≡◌, max, map, option_map, IfOk};
+ghost use Rattle.std.specs.Prelude.{◌≡◌, max, map, IfOk};
 ghost use Rattle.ssr_facts.specs.Sources.{row_of_range, row_of_token, row_of_kind, row_of_expansion};
 ghost use Rattle.ssr_facts.specs.Private.Sources.{token_told, expansion_told, range_told};
 

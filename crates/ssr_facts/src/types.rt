@@ -1,7 +1,6 @@
 //! The types of nodes.
 
 ghost use Rattle.std.specs.Prelude.{◌≡◌, ◌+◌, ◌≤◌, length, map, IfOk, OnOk};
-ghost use Rattle.std.specs.Map.{lookup};
 ghost use Rattle.std.specs.Option.{option_map, option_or, option_and_then};
 ghost use Rattle.ssr_base.specs.declared.ids.NodeId.{NodeId as Id};
 ghost use Rattle.ssr_syntax_tree.specs.Syntax.{node_count};

@@ -1,6 +1,5 @@
 -- Private: words on paths over the children of a node as a tree lends them.
-use Rattle.std.specs.Prelude.{ℕ, List, [], ◌∷◌, ◌++◌, Option, Some, None, if◌then◌else◌}
-use Rattle.std.specs.Option.{option_map_or}
+use Rattle.std.specs.Prelude.{ℕ, List, [], ◌∷◌, Option, Some, None, if◌then◌else◌}
 use Rattle.ssr_syntax_kinds.specs.declared.kinds.SyntaxKind.TheVariants as k
 use Rattle.ssr_syntax_kinds.specs.Kinds.{same_kind}
 use Rattle.ssr_syntax_tree.specs.declared.number.NodeNo.{NodeNo}
@@ -18,16 +17,7 @@ segments_at (token_part t token) = []
 segments_at (node_part node) =
     if same_kind node.kind k.PATH then segments node.children else if same_kind node.kind k.PATH_SEGMENT then node.children ∷ [] else []
 
-abbrev pub segments_among : List Part → List Forest
-segments_among [] = []
-segments_among (part ∷ rest) = segments_at part ++ segments_among rest
-
 -- where the arguments begin that a child of a segment is
 abbrev pub start_at : Part → Option ℕ
 start_at (token_part t token) = None
 start_at (node_part node) = if is_arguments node.kind then Some node.first else None
-
--- where arguments begin; `past`, where there are none
-abbrev pub start_among : ℕ → List Part → ℕ
-start_among past [] = past
-start_among past (part ∷ rest) = option_map_or (λ start. start) (start_at part) (start_among past rest)

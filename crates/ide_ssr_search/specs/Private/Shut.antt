@@ -1,7 +1,7 @@
 -- Private: nodes below which nothing is tried.
-use Rattle.std.specs.Prelude.{ℕ, ◌≡◌, ◌+◌, ◌<◌, ◌≤◌, ◌⊎◌, ◌↔◌, List, None}
+use Rattle.std.specs.Prelude.{ℕ, ◌≡◌, ◌+◌, ◌⊎◌, List, None}
 use Rattle.ssr_syntax_tree.specs.Syntax.{Syntax}
-use Rattle.ssr_syntax_tree.specs.Places.{HasNode, node_of, size_of}
+use Rattle.ssr_syntax_tree.specs.Places.{node_of, size_of}
 use Rattle.ssr_base.specs.declared.ids.NodeId.{NodeId}
 use Rattle.ssr_base.specs.Workspace.{Planted, node_id}
 use Rattle.ssr_base.specs.Built.{IsMacroCall}
@@ -20,14 +20,6 @@ IsShutIn trees x = (a : NodeId) × IsBelow trees x a × Shuts trees a
 -- a node that shuts in what is below it stands above those directly below this one: it is this one, or stands above it
 abbrev pub IsShut : List Planted → NodeId → Type 0
 IsShut trees x = (a : NodeId) × IsAtOrBelow trees x a × Shuts trees a
-
--- of the nodes of a tree up to before the number n, one that has the number m among those below it
-abbrev pub ShutsBefore : List Planted → ℕ → Syntax → ℕ → ℕ → Type 0
-ShutsBefore trees t syntax n m = (a : ℕ) × (a < n) × Shuts trees (node_id t a) × (m < a + size_of (node_of syntax a))
-
--- of the nodes from n on, those before `past` are shut in by what stands above the tree, or by a node before n
-pub record IsPast (trees : List Planted) (t : ℕ) (syntax : Syntax) (n past : ℕ) : Type 0 where
-  pub known : (m : ℕ) → n ≤ m → HasNode syntax m → (m < past) ↔ (IsShutIn trees (node_id t 0) ⊎ ShutsBefore trees t syntax n m)
 
 -- the number behind a node that shuts in what is below it; of any other node 0
 abbrev pub TellsPast : List Planted → ℕ → Syntax → ℕ → ℕ → Type 0

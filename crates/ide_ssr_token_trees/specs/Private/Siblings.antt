@@ -1,16 +1,15 @@
 -- Private: the elements of a token tree that are left while they are gone over.
-use Rattle.std.specs.Prelude.{ℕ, ◌≡◌, nat_lt, Bool, false, List, [], ◌∷◌, ◌++◌, map, option_to_list, Option, Some, None, if◌then◌else◌}
+use Rattle.std.specs.Prelude.{ℕ, ◌≡◌, nat_lt, List, [], ◌∷◌, ◌++◌, map, option_to_list, Option, Some, None, if◌then◌else◌}
 use Rattle.std.specs.Option.{option_map}
 use Rattle.ssr_syntax_kinds.specs.declared.kinds.SyntaxKind.TheVariants as k
 use Rattle.ssr_syntax_kinds.specs.Kinds.{same_kind, is_trivia}
 use Rattle.ssr_syntax_tree.specs.declared.number.Element.{Element}
-use Rattle.ssr_syntax_tree.specs.declared.number.Element.TheVariants as element
 use Rattle.ssr_syntax_tree.specs.declared.number.TokenNo.{TokenNo}
 use Rattle.ssr_syntax_tree.specs.Syntax.{Syntax}
-use Rattle.ssr_syntax_tree.specs.Places.{Part, token_part, node_part, node_of, part_of, HasNode, HasToken, IsAbove}
+use Rattle.ssr_syntax_tree.specs.Places.{Part, token_part, node_part, part_of}
 use Rattle.ssr_base.specs.declared.ids.TokenRun.{TokenRun}
 use Rattle.ide_ssr_token_trees.specs.declared.siblings.Siblings.{Siblings}
-use Rattle.ide_ssr_token_trees.specs.Elements.{closes, last_comma, run_over, up_to, from}
+use Rattle.ide_ssr_token_trees.specs.Elements.{run_over, up_to, from}
 
 abbrev pub siblings_left : Siblings → List Element
 siblings_left siblings = option_to_list siblings.held ++ siblings.left
@@ -28,21 +27,11 @@ pub record IsRest (before : Siblings) (came : List Element) (after : Siblings) :
   pub left : siblings_left before ≡ passed ++ (came ++ siblings_left after)
   pub comma : before.comma ≡ after.comma
 
--- elements that stand below a node
-abbrev pub IsBelow : Syntax → ℕ → Element → Type 0
-IsBelow tree n (element.Node m) = HasNode tree m.0 × IsAbove (node_of tree n) m.0
-IsBelow tree n (element.Token t) = HasToken tree t.0
-
 -- the last comma, trivia aside, where there was this one before an element
 abbrev pub comma_at : Option ℕ → Part → Option ℕ
 comma_at before (token_part t token) =
     if is_trivia token.kind then before else if same_kind token.kind k.COMMA then Some t else None
 comma_at before (node_part node) = None
-
--- the comma before the closing bracket, where this one stands directly before these elements, trivia aside
-abbrev pub comma_before : Option ℕ → List Part → Option ℕ
-comma_before (Some t) rest = if closes rest then Some t else last_comma rest
-comma_before None rest = last_comma rest
 
 -- what a placeholder holds of these elements, if it can hold them, and what is left then
 abbrev pub run_by : Option (List ℕ) → List Part → Option TokenRun

@@ -5,8 +5,7 @@ use Rattle.std.specs.Option.{option_map_or}
 use Rattle.ssr_syntax_tree.specs.Places.{node_of, part_of, HasElement}
 use Rattle.ssr_syntax_tree.specs.Syntax.{token_count}
 use Rattle.ssr_syntax_tree.proofs.Shared.{elements_had, parts_of-elements_of}
-use Rattle.ide_ssr_resolving.specs.Private.Parts.{start_among}
-use Rattle.ide_ssr_resolving.proofs.Children.{start_children}
+use Rattle.ide_ssr_resolving.proofs.Children.{start_among, start_children}
 use Rattle.ide_ssr_resolving.proofs.paths.name_end.Goals as goal
 
 pub loop-child-init : goal.loop-child-init

@@ -4,8 +4,7 @@ use Rattle.std.proofs.lemmas.Result.{IfOk-weaker}
 use Rattle.ssr_syntax_tree.specs.Places.{HasElement, node_of, size_of}
 use Rattle.ide_ssr_token_trees.specs.Bindings.{placeholder_in, tree_bindings, Answers}
 use Rattle.ide_ssr_token_trees.specs.Private.Matching.{ElementSteps}
-use Rattle.ide_ssr_token_trees.specs.Private.Siblings.{IsBelow}
-use Rattle.ide_ssr_token_trees.proofs.Matched.{match_starts, came_below, came_has, match_turns, match_differs, match_ends, element_size, element_smaller, below_has}
+use Rattle.ide_ssr_token_trees.proofs.Matched.{IsBelow, match_starts, came_below, came_has, match_turns, match_differs, match_ends, element_size, element_smaller, below_has}
 use Rattle.ide_ssr_token_trees.proofs.Rests.{rest_first, rest_passed}
 use Rattle.ide_ssr_token_trees.proofs.Steps.{none_steps, token_steps, node_steps}
 use Rattle.ide_ssr_token_trees.proofs.matching.+matching.Goals as goal

@@ -1,6 +1,6 @@
 use Rattle.ssr_base.specs.Workspace.{trees}
-use Rattle.ide_ssr_search.specs.Private.Shut.{IsPast}
 use Rattle.ide_ssr_search.specs.Private.Scan.{AreFoundBefore, KnowsShut}
+use Rattle.ide_ssr_search.proofs.Shutting.{IsPast}
 use Rattle.ide_ssr_search.proofs.scan.Ground.add_found.Given as goal
 
 abbrev pub invariant-loop-number : goal.invariant-loop-number
