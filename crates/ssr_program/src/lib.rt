@@ -7,6 +7,8 @@ pub mod laws;
 mod program;
 mod rewriting;
 mod streams;
+#[cfg(test)]
+mod tests;
 mod transfer;
 mod unresolved;
 

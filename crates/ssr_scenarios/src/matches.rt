@@ -18,10 +18,19 @@ pub(crate) fn write_texts(alloc: Global, out: &mut Told, matches: &[Match<'_>]) 
 pub(crate) fn write_held(out: &mut Told, workspace: &Workspace, matches: &[Match<'_>]) {
     for m in matches {
         out.text(m.matched_str());
-        for placeholder in m.placeholders() {
-            write_placeholder(out, workspace, placeholder);
-        }
+        write_placeholders(out, workspace, m.placeholders());
         out.text("\n");
+    }
+}
+
+/// What placeholders hold.
+fn write_placeholders(
+    out: &mut Told,
+    workspace: &Workspace,
+    placeholders: &[PlaceholderMatch<'_>],
+) {
+    for placeholder in placeholders {
+        write_placeholder(out, workspace, placeholder);
     }
 }
 
@@ -47,17 +56,27 @@ fn write_placeholder(out: &mut Told, workspace: &Workspace, placeholder: &Placeh
 pub(crate) fn write_places(out: &mut Told, matches: &[Match<'_>]) {
     for m in matches {
         write_place(out, m);
-        for comment in m.comments() {
-            out.text(" comment ");
-            write_range(out, *comment);
-        }
-        for placeholder in m.placeholders() {
-            out.text(" ");
-            out.shown(placeholder.var());
-            out.text(" ");
-            write_range(out, placeholder.range());
-        }
+        write_comments(out, m.comments());
+        write_ranges(out, m.placeholders());
         out.text("\n");
+    }
+}
+
+/// The ranges of comments.
+fn write_comments(out: &mut Told, comments: &[FileRange]) {
+    for comment in comments {
+        out.text(" comment ");
+        write_range(out, *comment);
+    }
+}
+
+/// The ranges of what placeholders hold.
+fn write_ranges(out: &mut Told, placeholders: &[PlaceholderMatch<'_>]) {
+    for placeholder in placeholders {
+        out.text(" ");
+        out.shown(placeholder.var());
+        out.text(" ");
+        write_range(out, placeholder.range());
     }
 }
 

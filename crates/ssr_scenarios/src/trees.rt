@@ -133,6 +133,13 @@ fn depths_of(alloc: Global, tree: &Tree) -> Result<Vec<usize>, AllocError> {
     Ok(depths)
 }
 
+/// So many dots.
+fn write_dots(out: &mut Told, count: usize) {
+    for _ in 0..count {
+        out.text(".");
+    }
+}
+
 /// The nodes of a tree in preorder, each with a dot for each node above it.
 fn write_outline(alloc: Global, out: &mut Told, tree: &Tree) {
     let Some(depths) = out.got(depths_of(alloc, tree)) else {
@@ -140,9 +147,7 @@ fn write_outline(alloc: Global, out: &mut Told, tree: &Tree) {
     };
     for number in 0..tree.node_count() {
         out.text(separator(number as usize, " "));
-        for _ in 0..depths.get(number as usize).copied().unwrap_or(0) {
-            out.text(".");
-        }
+        write_dots(out, depths.get(number as usize).copied().unwrap_or(0));
         out.text(tree.kind(NodeNo(number)).name());
     }
     out.text("\n");

@@ -19,4 +19,6 @@ mod resolving;
 #[cfg(test)]
 mod rules;
 #[cfg(test)]
+mod trees;
+#[cfg(test)]
 mod workspaces;
