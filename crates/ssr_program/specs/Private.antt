@@ -1,4 +1,4 @@
--- Words of private functions. No public clause cites them, and no reader of those has to believe them.
+-- Words of private functions, and of how private fields are seen. No public clause cites them, and no reader of those has to believe them.
 pub mod Noted
 pub mod Rewriting
 pub mod Transfer

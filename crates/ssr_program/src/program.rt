@@ -12,7 +12,7 @@ use std::alloc::Global;
 
 /// Runs the command with these words, `None` being words that cannot be read, and answers its status.
 ///
-/// The whole output is made before the first write. A refusal ends with a line break, and takes no memory.
+/// The whole output is made before the first write. A refusal ends with a line break, and is written without further memory.
 pub fn run<R: Source, W: Sink>(
     alloc: Global,
     words: Option<&[String]>,
