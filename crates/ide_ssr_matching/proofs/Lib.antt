@@ -3,16 +3,17 @@ mod Bare
 mod Same
 mod Counted
 mod Arguments
+mod ChildNodes
 mod CallParts
 mod NodeLists
 mod CallNodes
 mod NamedNodes
 mod Labels
+mod LabelTexts
 mod LabelSteps
-mod Places
-mod NamedAt
 mod Steps
 mod Pairs
+mod Fields
 mod Agreement
 mod OwnTokens
 mod Spread
@@ -23,7 +24,6 @@ mod Roots
 mod Stripped
 mod StrippedNodes
 mod StrippedParts
-mod StrippedPaths
 mod StrippedLabels
 mod StrippedSides
 mod Trivia

@@ -1,5 +1,5 @@
 -- What the code of the matcher answers, case by case, and pair by pair.
-use Rattle.std.proofs.Common.{◌≡◌, ℕ, zero, suc, ◌+◌, ◌<◌, ◌≤◌, Bool, true, false, ◌&&◌, cond, List, [], ◌∷◌, ◌++◌, length, drop, get_or, All, Option, Some, None, refl, sym, ◌∙◌, ap, subst, arith, append_assoc, append-nil, ◌*◌, option_to_list, is_some, not, string_bytes, IfNone, IfOk, Result}
+use Rattle.std.proofs.Common.{◌≡◌, ℕ, zero, suc, ◌+◌, ◌<◌, ◌≤◌, Bool, true, false, ◌&&◌, cond, List, [], ◌∷◌, ◌++◌, length, drop, get_or, All, Option, Some, None, refl, sym, ◌∙◌, ap, subst, arith, append_assoc, append-nil, ◌*◌, option_to_list, is_some, not, IfNone, IfOk, Result}
 use Rattle.std.specs.Prelude.{map, max}
 use Rattle.std.specs.Option.{is_none, option_and_then, option_map}
 use Rattle.std.proofs.lemmas.Bool.{and_from, and_parts, not-true}
@@ -12,7 +12,7 @@ use Rattle.ssr_syntax_kinds.specs.Kinds.{same_kind}
 use Rattle.ssr_syntax_tree.specs.declared.number.NodeNo.{NodeNo}
 use Rattle.ssr_syntax_tree.specs.declared.number.TokenNo.{TokenNo}
 use Rattle.ssr_syntax_tree.specs.Syntax.{Syntax}
-use Rattle.ssr_syntax_tree.specs.Places.{HasNode, Node, Part, node_part, parts_of, part_of, node_of, token_of, size_of, HasElement}
+use Rattle.ssr_syntax_tree.specs.Places.{HasNode, Node, Part, parts_of, part_of, node_of, token_of, size_of, HasElement}
 use Rattle.ssr_syntax_tree.specs.declared.number.Element.{Element}
 use Rattle.ssr_syntax_tree.specs.declared.number.Element.TheVariants as element
 use Rattle.ssr_syntax_tree.proofs.Shared.{node_of-number, smaller}
@@ -32,31 +32,28 @@ use Rattle.ide_ssr_matching.specs.TokenTrees.{is_tree, tree_by, is_plain, is_by_
 use Rattle.ide_ssr_matching.specs.UsedPaths.{arguments_of, pattern_res}
 use Rattle.ide_ssr_found.specs.Receivers.{received}
 use Rattle.ide_ssr_matching.specs.Sides.{Sides, kept}
-use Rattle.ide_ssr_matching.specs.Calls.{method_sides, can_be_call, child_nodes}
+use Rattle.ide_ssr_matching.specs.Calls.{method_sides, can_be_call}
 use Rattle.ide_ssr_token_trees.specs.Bindings.{joined, Answers, matched, other}
 use Rattle.ide_ssr_matching.specs.Bindings.{Binder, pair_by, pairs_by, placeholder_by, stands_for, counted, counted_sides, can_match, like_sides, sides_in, sides_by, sides_of, other_by, node_by, bindings_of, like_pairs}
 use Rattle.ide_ssr_matching.specs.Private.Bindings.{counted_by}
-use Rattle.ide_ssr_matching.specs.Private.Calls.{sides_at, nodes_at}
-use Rattle.ide_ssr_matching.specs.declared.records.NamedLists.{NamedLists}
-use Rattle.ide_ssr_matching.specs.Records.{arranged, is_named, named_nodes, named_pairs}
-use Rattle.ide_ssr_matching.specs.Private.Records.{AreNamedLists}
+use Rattle.ide_ssr_matching.specs.Private.Calls.{sides_at}
+use Rattle.ide_ssr_matching.specs.Records.{is_named, named_nodes, named_pairs}
 use Rattle.ide_ssr_matching.proofs.Labels.{left_at}
 use Rattle.ide_ssr_matching.proofs.NodeLists.{none_there}
-use Rattle.ide_ssr_matching.proofs.NamedAt.{named_at, parts_at}
 use Rattle.ide_ssr_matching.specs.Private.Children.{IsBelow, AreKept}
 use Rattle.ide_ssr_matching.proofs.Bare.{below-has, tail_has}
 use Rattle.ide_ssr_matching.proofs.Steps.{bindings_step}
 
-joined-some : (found bs : List Binding) (o : Option (List Binding)) → joined (Some found) (joined (Some bs) o) ≡ joined (Some (found ++ bs)) o
+pub joined-some : (found bs : List Binding) (o : Option (List Binding)) → joined (Some found) (joined (Some bs) o) ≡ joined (Some (found ++ bs)) o
 joined-some found bs None = refl
 joined-some found bs (Some rest) = ap Some (sym (append_assoc found bs rest))
 
-joined-none : (o : Option (List Binding)) → joined (Some []) o ≡ o
+pub joined-none : (o : Option (List Binding)) → joined (Some []) o ≡ o
 joined-none None = refl
 joined-none (Some bs) = refl
 
 -- where the answer is no, nothing is bound
-unmatched : (o : Option (List Binding)) (old new : List Binding) (a : Bool) → a ≡ false → Answers o old new a → o ≡ None
+pub unmatched : (o : Option (List Binding)) (old new : List Binding) (a : Bool) → a ≡ false → Answers o old new a → o ≡ None
 unmatched o old new a failed (matched bs is found added) = let e : true ≡ false = sym is ∙ failed in cc
 unmatched o old new a failed (other is none) = none
 
@@ -111,7 +108,7 @@ largest code (x ∷ xs) = max (element_size code x) (largest code xs)
 abbrev pub elements_size : Syntax → List Element → ℕ
 elements_size code xs = 1 + largest code xs
 
-smaller_below : (code : Syntax) (n : ℕ) (p : Element) → HasNode code n → IsBelow code n p → element_size code p < children_size code n
+pub smaller_below : (code : Syntax) (n : ℕ) (p : Element) → HasNode code n → IsBelow code n p → element_size code p < children_size code n
 smaller_below code n (element.Node m) has b = let lt = smaller code n m.0 has b.1 in omega arith
 smaller_below code n (element.Token t) has b = omega arith
 
@@ -520,33 +517,16 @@ module _ (ms : Meanings) (tree : ℕ) (rule : ResolvedKind) where
       ∙ ap (λ b. cond b (option_map (named_pairs p) (named_nodes p c)) (Some (counted_sides None p c))) (sym unnamed)
       ∙ ap (λ used. Some (counted_sides used p c)) (sym is)) answers
 
-  -- ** Lists that match by labels.
-
-  module _ (pattern code : Syntax) (n m : ℕ) (lists : NamedLists) (are : AreNamedLists pattern code n m lists) where
-    pub unarranged-from : (o : Option (List NodeNo)) (old : List Binding) → o ≡ None
-        → o ≡ arranged (map string_bytes lists.order.items) (map string_bytes lists.labels.items) lists.cs.items
-        → Answers (option_and_then (sides_by (bindings_of ms tree rule)) (option_map (named_pairs (node_of pattern n)) (named_nodes (node_of pattern n) (node_of code m)))) old old false
-    unarranged-from o old none o_is =
-        other refl
-        (ap (λ o. option_and_then (sides_by (bindings_of ms tree rule)) (option_map (named_pairs (node_of pattern n)) o))
-        (named_at pattern code n m lists are ∙ ap (option_map (nodes_at code)) (sym o_is ∙ none)))
-
-    pub arranged-from : {E : Type 0} (result : Result Bool E) (found : List NodeNo) (ps cs : List Element) (old new : List Binding)
-        → Some found ≡ arranged (map string_bytes lists.order.items) (map string_bytes lists.labels.items) lists.cs.items
-        → ps ≡ map element.Node lists.ps.items → cs ≡ map element.Node found
-        → IfOk result (λ b. Answers (pairs_by (bindings_of ms tree rule) (map (part_of pattern) ps) (map (part_of code) cs)) old new b)
-        → IfOk result (λ b. Answers (option_and_then (sides_by (bindings_of ms tree rule)) (option_map (named_pairs (node_of pattern n)) (named_nodes (node_of pattern n) (node_of code m)))) old new b)
-    arranged-from result found ps cs old new found_is ps_are cs_are answers =
-        let inner = bindings_of ms tree rule in
-        subst (λ o. IfOk result (λ b. Answers o old new b))
-        (sym
-        (ap (λ o. option_and_then (sides_by inner) (option_map (named_pairs (node_of pattern n)) o))
-        (named_at pattern code n m lists are ∙ ap (option_map (nodes_at code)) (sym found_is))
-        ∙ all_kept (pairs_by inner (map node_part (child_nodes (node_of pattern n))) (map node_part (nodes_at code found)))
-        ∙ ap (λ parts. pairs_by inner parts (map node_part (nodes_at code found)))
-        (ap (map node_part) (sym are.ps) ∙ sym (ap (map (part_of pattern)) ps_are ∙ parts_at pattern lists.ps.items))
-        ∙ ap (pairs_by inner (map (part_of pattern) ps)) (sym (ap (map (part_of code)) cs_are ∙ parts_at code found))))
-        answers
+  pub named-from : {E : Type 0} (result : Result Bool E) (p c : Node) (used : Option Res) (old new : List Binding) → used ≡ None
+      → true ≡ is_named rule p c
+      → IfOk result (λ b. Answers (option_and_then (sides_by (bindings_of ms tree rule)) (option_map (named_pairs p) (named_nodes p c))) old new b)
+      → IfOk result (λ b. Answers (option_and_then (sides_by (bindings_of ms tree rule)) (like_pairs ms tree rule used p c)) old new b)
+  named-from result p c used old new is by_names answers =
+      subst (λ o. IfOk result (λ b. Answers (option_and_then (sides_by (bindings_of ms tree rule)) o) old new b))
+      (sym
+      (ap (λ used. like_pairs ms tree rule used p c) is
+      ∙ ap (λ b. cond b (option_map (named_pairs p) (named_nodes p c)) (Some (counted_sides None p c))) (sym by_names)))
+      answers
 
   -- ** Any node.
 

@@ -1,5 +1,5 @@
 -- Siblings without trivia: their nodes and tokens.
-use Rattle.std.proofs.Common.{◌≡◌, ◌+◌, Bool, false, cond, not, List, [], ◌∷◌, ◌++◌, filter, Option, Some, None, refl, sym, ◌∙◌, ap}
+use Rattle.std.proofs.Common.{◌≡◌, ◌+◌, Bool, cond, not, List, ◌∷◌, ◌++◌, filter, refl, sym, ◌∙◌, ap}
 use Rattle.std.proofs.lemmas.Bool.{cond_both}
 use Rattle.std.proofs.lemmas.List.Elements.{filter-append}
 use Rattle.ssr_syntax_kinds.specs.declared.kinds.SyntaxKind.{SyntaxKind}
@@ -71,41 +71,3 @@ tokens_left (branch kind below next) =
     ∙ ap (λ tokens. tokens ++ solid_tokens (tokens_in (stripped next))) inner
     ∙ ap (λ tokens. solid_tokens (tokens_in below) ++ tokens) (tokens_left next)
     ∙ sym (filter-append is_solid (tokens_in below) (tokens_in next))
-
--- ** The first token.
-
--- the first of these tokens, or else another one
-abbrev pub first_or : List Token → Option Token → Option Token
-first_or [] other = other
-first_or (token ∷ rest) other = Some token
-
-abbrev pub is_trivia_first : Option Token → Bool
-is_trivia_first None = false
-is_trivia_first (Some token) = is_trivia token.kind
-
-first_of_both : (front behind : List Token) (other : Option Token) → first_or (front ++ behind) other ≡ first_or front (first_or behind other)
-first_of_both [] behind other = refl
-first_of_both (token ∷ front) behind other = refl
-
--- tokens `front` before others, where a first one that is no trivia is left of them in front of any
-first_of_left : (front left behind left_behind : List Token) (other : Option Token)
-    → ((o : Option Token) → is_trivia_first (first_or front o) ≡ false → first_or left o ≡ first_or front o)
-    → (is_trivia_first (first_or behind other) ≡ false → first_or left_behind other ≡ first_or behind other)
-    → is_trivia_first (first_or front (first_or behind other)) ≡ false
-    → first_or left (first_or left_behind other) ≡ first_or front (first_or behind other)
-first_of_left [] left behind left_behind other here later solid = ap (first_or left) (later solid) ∙ here (first_or behind other) solid
-first_of_left (token ∷ front) left behind left_behind other here later solid = here (first_or left_behind other) solid
-
--- a first token that is no trivia is left
-pub first_token_left : (siblings : Forest) (other : Option Token) → is_trivia_first (first_or (tokens_in siblings) other) ≡ false
-    → first_or (tokens_in (stripped siblings)) other ≡ first_or (tokens_in siblings) other
-first_token_left nothing other solid = refl
-first_token_left (leaf token next) other solid = ap (λ b. first_or (tokens_in (cond b (stripped next) (leaf token (stripped next)))) other) solid
-first_token_left (branch kind below next) other solid =
-    first_of_both (tokens_in (stripped_below kind below)) (tokens_in (stripped next)) other
-    ∙ first_of_left (tokens_in below) (tokens_in (stripped_below kind below)) (tokens_in next) (tokens_in (stripped next)) other
-    (λ o first.
-    either_below (λ rest. first_or (tokens_in rest) o ≡ first_or (tokens_in below) o) kind below refl (first_token_left below o first))
-    (first_token_left next other)
-    (ap is_trivia_first (sym (first_of_both (tokens_in below) (tokens_in next) other)) ∙ solid)
-    ∙ sym (first_of_both (tokens_in below) (tokens_in next) other)

@@ -19,11 +19,11 @@ use Rattle.ide_ssr_found.specs.declared.receivers.Receiver.{Receiver}
 use Rattle.ide_ssr_matching.specs.Bindings.{stands_for, counted_sides, can_match, like_pairs, like_sides, sides_in, sides_of}
 use Rattle.ide_ssr_matching.specs.Calls.{child_nodes, arguments_among, Method, method_call, PathCall, called, call_of, same_type, derefs, calls_same, method_parts, alike_pairs, receiver_with, method_with, method_sides, takes_first, can_be_call}
 use Rattle.ide_ssr_matching.specs.Children.{bare}
-use Rattle.ide_ssr_matching.specs.Records.{is_open, labels_of, named_nodes, named_pairs}
+use Rattle.ide_ssr_matching.specs.Records.{is_open, are_labelled, named_nodes, named_pairs}
 use Rattle.ide_ssr_matching.specs.Sides.{Sides}
 use Rattle.ide_ssr_matching.specs.Trivia.{AreToldAlike}
 use Rattle.ide_ssr_matching.specs.UsedPaths.{arguments_of, pattern_res}
-use Rattle.ide_ssr_matching.proofs.StrippedLabels.{labels_alike, named_alike}
+use Rattle.ide_ssr_matching.proofs.StrippedLabels.{labelled_alike, named_alike}
 use Rattle.ide_ssr_matching.proofs.StrippedNodes.{stripped_node, stripped_part, AreAlike, kinds_alike, numbers_alike, parts_alike}
 use Rattle.ide_ssr_matching.proofs.StrippedParts.{bare_alike, bare_arguments_alike, child_nodes_alike, arguments_among_alike, stripped_method, method_alike}
 
@@ -162,14 +162,14 @@ module _ (rule : ResolvedKind) where
           → option_map stripped_sides (like_pairs ms tree rule used p c) ≡ option_map stripped_sides (like_pairs other_ms other_tree rule used p d)
       pairs_alike (Some r) = ap Some (counted_alike (Some r))
       pairs_alike None =
-          ap (λ labels. option_map stripped_sides (cond (named labels) (option_map (named_pairs p) (named_nodes p c)) (Some (counted_sides None p c))))
-          (labels_alike c d alike)
-          ∙ by (named (labels_of d))
+          ap (λ labelled. option_map stripped_sides (cond (named labelled) (option_map (named_pairs p) (named_nodes p c)) (Some (counted_sides None p c))))
+          (labelled_alike c d alike)
+          ∙ by (named (are_labelled (child_nodes d)))
         where
-          named : Option (List (List ℕ)) → Bool
-          named labels =
+          named : Bool → Bool
+          named labelled =
               same_kind p.kind k.RECORD_EXPR_FIELD_LIST
-              && (not (list_any (is_open rule) (child_nodes p)) && (is_some (labels_of p) && is_some labels))
+              && (not (list_any (is_open rule) (child_nodes p)) && (are_labelled (child_nodes p) && labelled))
 
           by : (b : Bool)
               → option_map stripped_sides (cond b (option_map (named_pairs p) (named_nodes p c)) (Some (counted_sides None p c)))

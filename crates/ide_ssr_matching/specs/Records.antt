@@ -1,11 +1,12 @@
 -- Lists of record fields, which match by the names of the fields and not by their order.
-use Rattle.std.specs.Prelude.{ℕ, ◌==◌, ◌&&◌, Bool, true, false, not, if◌then◌else◌, List, [], ◌∷◌, ◌++◌, length, map, codes, bytes_eq, slice_get, Option, Some, None, is_some, is_none}
-use Rattle.std.specs.List.{join_by, list_any, position_from}
+use Rattle.std.specs.Prelude.{ℕ, ◌==◌, ◌&&◌, Bool, true, false, not, if◌then◌else◌, List, [], ◌∷◌, ◌++◌, length, map, filter, bytes_eq, Option, Some, None, is_some, is_none}
+use Rattle.std.specs.Cmp.Lexicographic.{pointwise}
+use Rattle.std.specs.List.{find, list_all, list_any}
 use Rattle.std.specs.Option.{option_map, option_map_or, option_and_then}
 use Rattle.ssr_syntax_kinds.specs.declared.kinds.SyntaxKind.TheVariants as k
-use Rattle.ssr_syntax_kinds.specs.Kinds.{same_kind}
-use Rattle.ssr_syntax_tree.specs.Places.{Node, node_part, text_of}
-use Rattle.ide_ssr_resolving.specs.Keys.{key_of}
+use Rattle.ssr_syntax_kinds.specs.Kinds.{same_kind, is_trivia}
+use Rattle.ssr_syntax_tree.specs.Syntax.{Token, tokens_in}
+use Rattle.ssr_syntax_tree.specs.Places.{Node, node_part}
 use Rattle.ide_ssr_resolving.specs.Placeholders.{placeholder_at}
 use Rattle.ide_ssr_resolving.specs.Resolved.{ResolvedKind}
 use Rattle.ide_ssr_matching.specs.Children.{bare}
@@ -15,39 +16,33 @@ use Rattle.ide_ssr_matching.specs.Calls.{child_nodes, first_among, first_node}
 
 -- ** Names.
 
--- a path of one segment without arguments names what it spells, with `::` in front if that stands there
-abbrev pub name_of_path : Node → Option (List ℕ)
-name_of_path path =
-    if is_none (first_node k.PATH (child_nodes path)) && length (bare (arguments_of path)) == 0
-    then Some (join_by (λ text. text) (codes "::") (key_of path.children))
-    else None
+-- a path of one segment without arguments is a name, with `::` in front if that stands there
+abbrev pub is_name : Node → Bool
+is_name path = is_none (first_node k.PATH (child_nodes path)) && length (bare (arguments_of path)) == 0
 
--- an expression that is only a path of one segment without arguments has the name of the path
-abbrev pub name_of_only : List Node → Option (List ℕ)
-name_of_only (path ∷ []) = name_of_path path
-name_of_only _ = None
+-- the name that an expression is, if it is only one
+abbrev pub only_name : List Node → Option Node
+only_name (path ∷ []) = if is_name path then Some path else None
+only_name _ = None
 
-abbrev pub name_of_expr : Node → Option (List ℕ)
-name_of_expr expr = if same_kind expr.kind k.PATH_EXPR then name_of_only (child_nodes expr) else None
+abbrev pub name_in : Node → Option Node
+name_in expr = if same_kind expr.kind k.PATH_EXPR then only_name (child_nodes expr) else None
 
 -- what a field is named by: its name, or else its expression
 abbrev pub named_by : Option Node → List Node → Option Node
 named_by (Some name) nodes = Some name
 named_by None nodes = first_among nodes
 
-abbrev pub name_by : Option Node → List Node → Option (List ℕ)
-name_by (Some name) nodes = Some (text_of name)
-name_by None nodes = option_and_then name_of_expr (first_among nodes)
+-- what names a field: its name, or else its expression, if that is one
+abbrev pub name_by : Option Node → List Node → Option Node
+name_by (Some name) nodes = Some name
+name_by None nodes = option_and_then name_in (first_among nodes)
 
-abbrev pub field_name : Node → Option (List ℕ)
+abbrev pub field_name : Node → Option Node
 field_name field = name_by (first_node k.NAME_REF (child_nodes field)) (child_nodes field)
 
--- each node in a list of fields has a label: a field its name, the base two dots
 abbrev pub is_field : Node → Bool
 is_field node = same_kind node.kind k.RECORD_EXPR_FIELD
-
-abbrev pub label_of : Node → Option (List ℕ)
-label_of node = if is_field node then field_name node else Some (codes "..")
 
 -- whether a field of a pattern is named by a placeholder
 abbrev pub is_open : ResolvedKind → Node → Bool
@@ -57,31 +52,36 @@ is_open rule node =
 
 -- ** Labels.
 
--- all elements of a list, if each is there
-abbrev pub all_some : {A : Type 0} → List (Option A) → Option (List A)
-all_some [] = Some []
-all_some (None ∷ rest) = None
-all_some (Some x ∷ rest) = option_map (λ xs. x ∷ xs) (all_some rest)
+-- the texts of tokens but for trivia
+abbrev pub solid_texts : List Token → List (List ℕ)
+solid_texts tokens = map (λ token. token.text) (filter (λ token. not (is_trivia token.kind)) tokens)
 
-abbrev pub labels_of : Node → Option (List (List ℕ))
-labels_of list = all_some (map label_of (child_nodes list))
+abbrev pub texts_of : Node → List (List ℕ)
+texts_of node = solid_texts (tokens_in node.children)
 
--- whether no label is among those that were seen, or stands twice
-abbrev pub are_new : List (List ℕ) → List (List ℕ) → Bool
+-- Each node in a list of fields has a label: a field the texts of its name, if it has one, and the base no text.
+abbrev pub label_of : Node → Option (List (List ℕ))
+label_of node = if is_field node then option_map texts_of (field_name node) else Some []
+
+-- whether all nodes have labels
+abbrev pub are_labelled : List Node → Bool
+are_labelled nodes = list_all (λ node. is_some (label_of node)) nodes
+
+abbrev pub has_label : List (List ℕ) → Node → Bool
+has_label label node = option_map_or (pointwise bytes_eq label) (label_of node) false
+
+-- whether two nodes have the same label
+abbrev pub have_same_label : Node → Node → Bool
+have_same_label a b = option_map_or (λ label. has_label label b) (label_of a) false
+
+-- whether no node has the label of one that was seen, or of one in front of it
+abbrev pub are_new : List Node → List Node → Bool
 are_new seen [] = true
-are_new seen (label ∷ rest) = not (list_any (bytes_eq label) seen) && are_new (seen ++ label ∷ []) rest
+are_new seen (node ∷ rest) = not (list_any (have_same_label node) seen) && are_new (seen ++ node ∷ []) rest
 
-abbrev pub are_different : List (List ℕ) → Bool
-are_different labels = are_new [] labels
-
--- which of the elements of a list has a label, where these are their labels
-abbrev pub with_label : {A : Type 0} → List (List ℕ) → List A → List ℕ → Option A
-with_label labels nodes label = option_and_then (slice_get nodes) (position_from (bytes_eq label) 0 labels)
-
--- elements with labels in the order of other labels, if both are the same, and none is there twice
-abbrev pub arranged : {A : Type 0} → List (List ℕ) → List (List ℕ) → List A → Option (List A)
-arranged order labels nodes =
-    if are_different order && (are_different labels && length order == length labels) then all_some (map (with_label labels nodes) order) else None
+-- whether no two nodes have the same label
+abbrev pub are_different : List Node → Bool
+are_different nodes = are_new [] nodes
 
 -- ** Lists that match by labels.
 
@@ -89,15 +89,21 @@ arranged order labels nodes =
 abbrev pub is_named : ResolvedKind → Node → Node → Bool
 is_named rule p c =
     same_kind p.kind k.RECORD_EXPR_FIELD_LIST
-    && (not (list_any (is_open rule) (child_nodes p)) && (is_some (labels_of p) && is_some (labels_of c)))
+    && (not (list_any (is_open rule) (child_nodes p)) && (are_labelled (child_nodes p) && are_labelled (child_nodes c)))
 
--- the nodes of the code's list in the order of the pattern's
-abbrev pub nodes_by : Option (List (List ℕ)) → Option (List (List ℕ)) → List Node → Option (List Node)
-nodes_by (Some order) (Some labels) nodes = arranged order labels nodes
-nodes_by order labels nodes = None
+-- all elements of a list, if each is there
+abbrev pub all_some : {A : Type 0} → List (Option A) → Option (List A)
+all_some [] = Some []
+all_some (None ∷ rest) = None
+all_some (Some x ∷ rest) = option_map (λ xs. x ∷ xs) (all_some rest)
+
+-- the nodes of the code that have the labels of the pattern's, in their order, if both have as many, and no label is there twice
+abbrev pub arranged : List Node → List Node → Option (List Node)
+arranged ps cs =
+    if are_different ps && (are_different cs && length ps == length cs) then all_some (map (λ p. find (have_same_label p) cs) ps) else None
 
 abbrev pub named_nodes : Node → Node → Option (List Node)
-named_nodes p c = nodes_by (labels_of p) (labels_of c) (child_nodes c)
+named_nodes p c = arranged (child_nodes p) (child_nodes c)
 
 abbrev pub named_pairs : Node → List Node → Sides
 named_pairs p nodes = record { pattern = map node_part (child_nodes p); code = map node_part nodes; receiver = None }

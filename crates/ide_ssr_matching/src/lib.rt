@@ -2,6 +2,7 @@
 #![tactic(auto)]
 
 mod calls;
+mod child_nodes;
 mod children;
 pub mod laws;
 mod matching;

@@ -5,16 +5,17 @@ ghost use Rattle.std.specs.Option.{option_and_then};
 ghost use Rattle.ssr_syntax_tree.specs.Places.{HasNode, HasElement, node_of, root_of, part_of};
 ghost use Rattle.ssr_base.specs.Workspace.{node_id};
 ghost use Rattle.ide_ssr_matching.specs.Bindings.{placeholder_by, stands_for, pair_by, pairs_by, can_match, like_sides, sides_of, sides_by, bindings_of, like_pairs};
-ghost use Rattle.ide_ssr_matching.specs.Calls.{method_sides};
+ghost use Rattle.ide_ssr_matching.specs.Calls.{child_nodes, method_sides};
 ghost use Rattle.ide_ssr_matching.specs.Records.{named_nodes, named_pairs};
 ghost use Rattle.ide_ssr_found.specs.Receivers.{received};
 ghost use Rattle.ide_ssr_token_trees.specs.Bindings.{Answers};
 ghost use Rattle.ide_ssr_matching.specs.Private.Bindings.{counted_by};
-ghost use Rattle.ide_ssr_matching.specs.Private.Records.{AreNamedLists};
+ghost use Rattle.ide_ssr_matching.specs.Private.Records.{fields_by};
 
 use crate::calls::{can_be_call, method_sides};
+use crate::child_nodes::ChildNodes;
 use crate::children::Siblings;
-use crate::records::{NamedLists, elements_of};
+use crate::records::{are_as_many, are_different, counterpart, is_named};
 use crate::token_trees::{is_plain, is_tree, tree_matches};
 use ide_ssr_found::{Binding, Receiver};
 use ide_ssr_resolving::{QualifiedCall, ResolvedRule};
@@ -275,10 +276,10 @@ fn pairs_match<S: Semantics>(
     if let Some(_res) = used {
         return children_match(alloc, semantics, rule, number, code, p, c, used, out);
     }
-    match NamedLists::of(alloc, rule, code, p, c)? {
-        Some(lists) => named_match(alloc, semantics, rule, number, code, p, c, &lists, out),
-        None => children_match(alloc, semantics, rule, number, code, p, c, used, out),
+    if is_named(rule, code, p, c) {
+        return named_match(alloc, semantics, rule, number, code, p, c, out);
     }
+    children_match(alloc, semantics, rule, number, code, p, c, used, out)
 }
 
 /// Whether the list of record fields `c` of the code matches the list `p` of the rule's pattern by the names of the fields; if
@@ -292,20 +293,50 @@ fn named_match<S: Semantics>(
     code: &Tree,
     p: NodeNo,
     c: NodeNo,
-    lists: &NamedLists,
     out: &mut Vec<Binding>,
 ) -> Result<bool, AllocError>
     requires p_in { HasNode rule.now.pattern p.0 }
     requires c_in { HasNode code.now c.0 }
-    requires lists { AreNamedLists rule.now.pattern code.now p.0 c.0 lists.now }
     ensures { IfOk result (λ answer. Answers (option_and_then (sides_by (bindings_of (S.meanings semantics.now) number rule.now)) (option_map (named_pairs (node_of rule.now.pattern p.0)) (named_nodes (node_of rule.now.pattern p.0) (node_of code.now c.0)))) out.old.items out.new.items answer) }
 {
-    let Some(nodes) = lists.arranged(alloc)? else {
+    let pattern = rule.pattern();
+    if !are_as_many(pattern, p, code, c) {
         return Ok(false);
-    };
-    let ps = elements_of(alloc, &lists.ps)?;
-    let cs = elements_of(alloc, &nodes)?;
-    elements_match(alloc, semantics, rule, number, code, &ps, &cs, out)
+    }
+    // whether a name is there twice is asked last: most lists differ before
+    if !fields_match(alloc, semantics, rule, number, code, p, c, out)? {
+        return Ok(false);
+    }
+    Ok(are_different(pattern, p) && are_different(code, c))
+}
+
+/// Whether each node of the list `p` of the rule's pattern matches the first one of the list `c` of the code that has its label;
+/// if so, `out` gets what the placeholders bind.
+#[cycle(matching)]
+fn fields_match<S: Semantics>(
+    alloc: Global,
+    semantics: &S,
+    rule: &ResolvedRule,
+    number: u32,
+    code: &Tree,
+    p: NodeNo,
+    c: NodeNo,
+    out: &mut Vec<Binding>,
+) -> Result<bool, AllocError>
+    requires p_in { HasNode rule.now.pattern p.0 }
+    requires c_in { HasNode code.now c.0 }
+    ensures { IfOk result (λ answer. Answers (fields_by (bindings_of (S.meanings semantics.now) number rule.now) (child_nodes (node_of rule.now.pattern p.0)) (child_nodes (node_of code.now c.0))) out.old.items out.new.items answer) }
+{
+    let pattern = rule.pattern();
+    for field in ChildNodes::of(pattern, p) {
+        let Some(other) = counterpart(pattern, field, code, c) else {
+            return Ok(false);
+        };
+        if !node_matches(alloc, semantics, rule, number, code, field, other, out)? {
+            return Ok(false);
+        }
+    }
+    Ok(true)
 }
 
 /// Whether what counts of the node `c` of the code matches what counts of the node `p` of the rule's pattern, one by one: of a

@@ -1,109 +1,232 @@
 //! Lists of record fields, which match by the names of the fields.
 
-ghost use Rattle.std.specs.Prelude.{ℕ, List, ◌≡◌, ◌++◌, All, IfOk, IfSome, Some, is_some, length, map, option_map, string_bytes};
-ghost use Rattle.std.specs.List.{list_any};
+ghost use Rattle.std.specs.Prelude.{[], ◌≡◌, ◌==◌, ◌++◌, IfNone, IfSome, length, option_copied, option_map, option_to_list, take, bytes_eq};
+ghost use Rattle.std.specs.Cmp.Lexicographic.{pointwise};
+ghost use Rattle.std.specs.List.{find, list_any};
 ghost use Rattle.ssr_syntax_tree.specs.Places.{HasNode, node_of};
 ghost use Rattle.ide_ssr_matching.specs.Calls.{child_nodes};
-ghost use Rattle.ide_ssr_matching.specs.Records.{name_of_path, name_of_expr, field_name, label_of, is_open, all_some, are_different, with_label, arranged, is_named};
-ghost use Rattle.ide_ssr_matching.specs.Private.Calls.{nodes_at, IsNodeBelow};
-ghost use Rattle.ide_ssr_matching.specs.Private.Records.{TellsPlaces, AreNamedLists};
+ghost use Rattle.ide_ssr_matching.specs.Records.{is_name, name_in, field_name, texts_of, label_of, are_labelled, has_label, have_same_label, are_different, is_open, is_named};
+ghost use Rattle.ide_ssr_matching.specs.Private.Records.{HasTokens, label_texts};
 
-use crate::calls::{child_nodes, first_child_node, only_child_node};
+use crate::child_nodes::{ChildNodes, first_child_node, only_child_node};
 use crate::children::lacks_arguments;
-use ide_ssr_resolving::{ResolvedRule, first_child, key_of};
+use ide_ssr_resolving::{ResolvedRule, first_child};
 use ssr_syntax_kinds::SyntaxKind;
-use ssr_syntax_tree::{Element, NodeNo, Tree};
-use std::alloc::{AllocError, Global};
-use std::collections::BTreeMap;
+use ssr_syntax_tree::{NodeNo, TokenNo, Tree};
 
-/// The nodes of two lists of record fields, with the label of each: a field has its name, the base two dots.
-#[derive(Drop)]
-pub(crate) struct NamedLists {
-    pub(crate) ps: Vec<NodeNo>,
-    pub(crate) order: Vec<String>,
-    pub(crate) cs: Vec<NodeNo>,
-    pub(crate) labels: Vec<String>,
+/// The tokens that name a field, from the number `first` up to before `past`; a record's base has none.
+#[derive(Clone, Copy)]
+pub(crate) struct Label {
+    first: u32,
+    past: u32,
 }
 
-/// The name of a path of one segment without arguments.
-#[tactic(auto, using(crate::proofs::CallParts::first_among_nodes))]
-fn name_of_path(alloc: Global, tree: &Tree, path: NodeNo) -> Result<Option<String>, AllocError>
-    requires { HasNode tree.now path.0 }
-    ensures { IfOk result (λ name. option_map string_bytes name ≡ name_of_path (node_of tree.now path.0)) }
+impl Label {
+    /// The tokens of a node.
+    fn of_node(tree: &Tree, node: NodeNo) -> Label
+        requires { HasNode tree.now node.0 }
+        ensures texts { label_texts tree.now result ≡ texts_of (node_of tree.now node.0) }
+        ensures has { HasTokens tree.now result }
+    {
+        let tokens = tree.tokens_below(node);
+        Label {
+            first: tokens.start,
+            past: tokens.end,
+        }
+    }
+
+    /// The next text that is no trivia.
+    fn next_text<'t>(&mut self, tree: &'t Tree) -> Option<&'t str>
+        requires { HasTokens tree.now self.old }
+        ensures gives { label_texts tree.now self.old ≡ option_to_list (option_copied result) ++ label_texts tree.now self.new }
+        ensures none { IfNone result (label_texts tree.now self.new ≡ []) }
+        ensures has { HasTokens tree.now self.new }
+    {
+        while self.first < self.past {
+            let token = TokenNo(self.first);
+            self.first += 1;
+            if !tree.token_kind(token).is_trivia() {
+                return Some(tree.token_text(token));
+            }
+        }
+        None
+    }
+}
+
+/// Whether two labels have the same texts.
+fn same_texts(a_tree: &Tree, a: Label, b_tree: &Tree, b: Label) -> bool
+    requires has_a { HasTokens a_tree.now a }
+    requires has_b { HasTokens b_tree.now b }
+    ensures { result ≡ pointwise bytes_eq (label_texts a_tree.now a) (label_texts b_tree.now b) }
 {
-    if first_child(tree, path, SyntaxKind::PATH).is_some() {
-        return Ok(None);
+    let mut a = a;
+    let mut b = b;
+    while let Some(text) = a.next_text(a_tree) {
+        let Some(other) = b.next_text(b_tree) else {
+            return false;
+        };
+        if text != other {
+            return false;
+        }
     }
-    if !lacks_arguments(tree, path) {
-        return Ok(None);
-    }
-    let key = key_of(alloc, tree, path)?;
-    let name = key.as_slice().join(alloc, "::")?;
-    Ok(Some(name))
+    b.next_text(b_tree).is_none()
 }
 
-/// The name of an expression that is a path of one segment without arguments.
-fn name_of_expr(alloc: Global, tree: &Tree, expr: NodeNo) -> Result<Option<String>, AllocError>
+/// Whether a path is a name: one segment without arguments.
+#[tactic(auto, using(crate::proofs::CallParts::first_among_nodes))]
+fn is_name(tree: &Tree, path: NodeNo) -> bool
+    requires { HasNode tree.now path.0 }
+    ensures { result ≡ is_name (node_of tree.now path.0) }
+{
+    first_child(tree, path, SyntaxKind::PATH).is_none() && lacks_arguments(tree, path)
+}
+
+/// The name that an expression is, if it is only one.
+fn name_in(tree: &Tree, expr: NodeNo) -> Option<NodeNo>
     requires { HasNode tree.now expr.0 }
-    ensures { IfOk result (λ name. option_map string_bytes name ≡ name_of_expr (node_of tree.now expr.0)) }
+    ensures node { option_map (λ name. node_of tree.now name.0) result ≡ name_in (node_of tree.now expr.0) }
+    ensures has { IfSome result (λ name. HasNode tree.now name.0) }
 {
     if !tree.kind(expr).is(SyntaxKind::PATH_EXPR) {
-        return Ok(None);
+        return None;
     }
-    let Some(path) = only_child_node(tree, expr) else {
-        return Ok(None);
-    };
-    let name = name_of_path(alloc, tree, path)?;
-    Ok(name)
+    let path = only_child_node(tree, expr)?;
+    if is_name(tree, path) {
+        Some(path)
+    } else {
+        None
+    }
 }
 
-/// The name of a field.
+/// What names a field.
 #[tactic(auto, using(crate::proofs::CallParts::first_among_nodes))]
-fn field_name(alloc: Global, tree: &Tree, field: NodeNo) -> Result<Option<String>, AllocError>
+fn field_name(tree: &Tree, field: NodeNo) -> Option<NodeNo>
     requires { HasNode tree.now field.0 }
-    ensures { IfOk result (λ name. option_map string_bytes name ≡ field_name (node_of tree.now field.0)) }
+    ensures node { option_map (λ name. node_of tree.now name.0) result ≡ field_name (node_of tree.now field.0) }
+    ensures has { IfSome result (λ name. HasNode tree.now name.0) }
 {
     if let Some(name) = first_child(tree, field, SyntaxKind::NAME_REF) {
-        let text = String::from_str(alloc, tree.text(name))?;
-        return Ok(Some(text));
+        return Some(name);
     }
-    let Some(expr) = first_child_node(tree, field) else {
-        return Ok(None);
-    };
-    let name = name_of_expr(alloc, tree, expr)?;
-    Ok(name)
+    let expr = first_child_node(tree, field)?;
+    name_in(tree, expr)
 }
 
 /// The label of a node in a list of fields.
-fn label_of(alloc: Global, tree: &Tree, node: NodeNo) -> Result<Option<String>, AllocError>
+fn label_of(tree: &Tree, node: NodeNo) -> Option<Label>
     requires { HasNode tree.now node.0 }
-    ensures { IfOk result (λ label. option_map string_bytes label ≡ label_of (node_of tree.now node.0)) }
+    ensures label { option_map (label_texts tree.now) result ≡ label_of (node_of tree.now node.0) }
+    ensures has { IfSome result (HasTokens tree.now) }
 {
     if !tree.kind(node).is(SyntaxKind::RECORD_EXPR_FIELD) {
-        let base = String::from_str(alloc, "..")?;
-        return Ok(Some(base));
+        return Some(Label { first: 0, past: 0 });
     }
-    let name = field_name(alloc, tree, node)?;
-    Ok(name)
+    let name = field_name(tree, node)?;
+    Some(Label::of_node(tree, name))
 }
 
-/// The labels of nodes, if each has one.
-fn labels_of(
-    alloc: Global,
-    tree: &Tree,
-    nodes: &[NodeNo],
-) -> Result<Option<Vec<String>>, AllocError>
-    requires { All (λ node. HasNode tree.now node.0) nodes.now }
-    ensures { IfOk result (λ labels. option_map (λ v. map string_bytes v.items) labels ≡ all_some (map label_of (nodes_at tree.now nodes.now))) }
+/// Whether a node of the code has a label.
+fn has_label(tree: &Tree, label: Label, code: &Tree, node: NodeNo) -> bool
+    requires label { HasTokens tree.now label }
+    requires node { HasNode code.now node.0 }
+    ensures { result ≡ has_label (label_texts tree.now label) (node_of code.now node.0) }
 {
-    let mut labels = Vec::new(alloc);
-    for node in nodes {
-        let Some(label) = label_of(alloc, tree, *node)? else {
-            return Ok(None);
-        };
-        labels.push(label)?;
+    match label_of(code, node) {
+        Some(other) => same_texts(tree, label, code, other),
+        None => false,
     }
-    Ok(Some(labels))
+}
+
+/// The first node of a list of the code that has a label.
+fn with_label(tree: &Tree, label: Label, code: &Tree, list: NodeNo) -> Option<NodeNo>
+    requires label { HasTokens tree.now label }
+    requires list { HasNode code.now list.0 }
+    ensures node { option_map (λ node. node_of code.now node.0) result ≡ find (has_label (label_texts tree.now label)) (child_nodes (node_of code.now list.0)) }
+    ensures has { IfSome result (λ node. HasNode code.now node.0) }
+{
+    for node in ChildNodes::of(code, list) {
+        if has_label(tree, label, code, node) {
+            return Some(node);
+        }
+    }
+    None
+}
+
+/// The first node of a list of the code that has the label of a node of the pattern.
+pub(crate) fn counterpart(pattern: &Tree, node: NodeNo, code: &Tree, list: NodeNo) -> Option<NodeNo>
+    requires node { HasNode pattern.now node.0 }
+    requires list { HasNode code.now list.0 }
+    ensures node { option_map (λ node. node_of code.now node.0) result ≡ find (have_same_label (node_of pattern.now node.0)) (child_nodes (node_of code.now list.0)) }
+    ensures has { IfSome result (λ node. HasNode code.now node.0) }
+{
+    match label_of(pattern, node) {
+        Some(label) => with_label(pattern, label, code, list),
+        None => None,
+    }
+}
+
+/// Whether all nodes of a list have labels.
+fn are_labelled(tree: &Tree, list: NodeNo) -> bool
+    requires { HasNode tree.now list.0 }
+    ensures { result ≡ are_labelled (child_nodes (node_of tree.now list.0)) }
+{
+    for node in ChildNodes::of(tree, list) {
+        if label_of(tree, node).is_none() {
+            return false;
+        }
+    }
+    true
+}
+
+/// Whether one of the first nodes of a list, `count` of them, has the label of a node of the same tree.
+fn is_repeated(tree: &Tree, list: NodeNo, count: usize, node: NodeNo) -> bool
+    requires list { HasNode tree.now list.0 }
+    requires node { HasNode tree.now node.0 }
+    ensures { result ≡ list_any (have_same_label (node_of tree.now node.0)) (take count (child_nodes (node_of tree.now list.0))) }
+{
+    let Some(label) = label_of(tree, node) else {
+        return false;
+    };
+    let mut nodes = ChildNodes::of(tree, list);
+    for _ in 0..count {
+        let Some(other) = nodes.next() else {
+            return false;
+        };
+        if has_label(tree, label, tree, other) {
+            return true;
+        }
+    }
+    false
+}
+
+/// Whether no two nodes of a list have the same label.
+pub(crate) fn are_different(tree: &Tree, list: NodeNo) -> bool
+    requires { HasNode tree.now list.0 }
+    ensures { result ≡ are_different (child_nodes (node_of tree.now list.0)) }
+{
+    let mut count = 0;
+    for node in ChildNodes::of(tree, list) {
+        if is_repeated(tree, list, count, node) {
+            return false;
+        }
+        count += 1;
+    }
+    true
+}
+
+/// Whether the lists `p` of the pattern and `c` of the code have as many nodes.
+pub(crate) fn are_as_many(pattern: &Tree, p: NodeNo, code: &Tree, c: NodeNo) -> bool
+    requires p_in { HasNode pattern.now p.0 }
+    requires c_in { HasNode code.now c.0 }
+    ensures { result ≡ (length (child_nodes (node_of pattern.now p.0)) == length (child_nodes (node_of code.now c.0))) }
+{
+    let mut others = ChildNodes::of(code, c);
+    for _node in ChildNodes::of(pattern, p) {
+        if others.next().is_none() {
+            return false;
+        }
+    }
+    others.next().is_none()
 }
 
 /// Whether a node of the pattern is a field that is named by a placeholder.
@@ -125,144 +248,30 @@ fn is_open(rule: &ResolvedRule, pattern: &Tree, node: NodeNo) -> bool
     }
 }
 
-/// Whether one of the nodes of the pattern is a field that is named by a placeholder.
-fn has_open(rule: &ResolvedRule, pattern: &Tree, nodes: &[NodeNo]) -> bool
+/// Whether a list of the pattern has a field that is named by a placeholder.
+fn has_open(rule: &ResolvedRule, pattern: &Tree, list: NodeNo) -> bool
     requires lent { pattern.now ≡ rule.now.pattern }
-    requires has { All (λ node. HasNode pattern.now node.0) nodes.now }
-    ensures { result ≡ list_any (is_open rule.now) (nodes_at pattern.now nodes.now) }
+    requires has { HasNode pattern.now list.0 }
+    ensures { result ≡ list_any (is_open rule.now) (child_nodes (node_of pattern.now list.0)) }
 {
-    for node in nodes {
-        if is_open(rule, pattern, *node) {
+    for node in ChildNodes::of(pattern, list) {
+        if is_open(rule, pattern, node) {
             return true;
         }
     }
     false
 }
 
-/// The place of each label, if none is there twice.
-fn places_of<'a>(
-    alloc: Global,
-    labels: &'a [String],
-) -> Result<Option<BTreeMap<&'a str, usize>>, AllocError>
-    ensures different { IfOk result (λ places. is_some places ≡ are_different (map string_bytes labels.now)) }
-    ensures places { IfOk result (λ places. IfSome places (TellsPlaces (map string_bytes labels.now))) }
+/// Whether the list `p` of the pattern and the list `c` of the code match by the names of their fields: where all have some,
+/// those of the pattern other ones than placeholders.
+pub(crate) fn is_named(rule: &ResolvedRule, code: &Tree, p: NodeNo, c: NodeNo) -> bool
+    requires p_in { HasNode rule.now.pattern p.0 }
+    requires c_in { HasNode code.now c.0 }
+    ensures { result ≡ is_named rule.now (node_of rule.now.pattern p.0) (node_of code.now c.0) }
 {
-    let mut places = BTreeMap::new(alloc);
-    let mut place = 0;
-    while place < labels.len() {
-        let label = labels[place].as_str();
-        if places.get(label).is_some() {
-            return Ok(None);
-        }
-        places.insert(label, place)?;
-        place += 1;
-    }
-    Ok(Some(places))
-}
-
-/// Which of the nodes has a label, by the places of labels.
-fn with_label(places: &BTreeMap<&str, usize>, nodes: &[NodeNo], label: &str) -> Option<NodeNo>
-    ensures { (labels : List (List ℕ)) → TellsPlaces labels places.now → result ≡ with_label labels nodes.now label.now }
-{
-    let place = places.get(label).copied()?;
-    nodes.get(place).copied()
-}
-
-/// The nodes with these labels, in their order, if there are all.
-fn gathered(
-    alloc: Global,
-    order: &[String],
-    places: &BTreeMap<&str, usize>,
-    nodes: &[NodeNo],
-) -> Result<Option<Vec<NodeNo>>, AllocError>
-    ensures { IfOk result (λ found. (labels : List (List ℕ)) → TellsPlaces labels places.now → option_map (λ v. v.items) found ≡ all_some (map (with_label labels nodes.now) (map string_bytes order.now))) }
-{
-    let mut found = Vec::new(alloc);
-    for label in order {
-        let Some(node) = with_label(places, nodes, label.as_str()) else {
-            return Ok(None);
-        };
-        found.push(node)?;
-    }
-    Ok(Some(found))
-}
-
-/// Nodes with labels in the order of other labels, if both are the same, and none is there twice.
-fn arranged(
-    alloc: Global,
-    order: &[String],
-    labels: &[String],
-    nodes: &[NodeNo],
-) -> Result<Option<Vec<NodeNo>>, AllocError>
-    ensures { IfOk result (λ found. option_map (λ v. v.items) found ≡ arranged (map string_bytes order.now) (map string_bytes labels.now) nodes.now) }
-{
-    if places_of(alloc, order)?.is_none() {
-        return Ok(None);
-    }
-    let Some(places) = places_of(alloc, labels)? else {
-        return Ok(None);
-    };
-    if order.len() != labels.len() {
-        return Ok(None);
-    }
-    let found = gathered(alloc, order, &places, nodes)?;
-    Ok(found)
-}
-
-/// Nodes as elements.
-pub(crate) fn elements_of(alloc: Global, nodes: &[NodeNo]) -> Result<Vec<Element>, AllocError>
-    ensures { IfOk result (λ v. v.items ≡ map (λ node. Element.Node node) nodes.now) }
-{
-    let mut elements = Vec::new(alloc);
-    for node in nodes {
-        elements.push(Element::Node(*node))?;
-    }
-    Ok(elements)
-}
-
-impl NamedLists {
-    /// The lists `p` of the pattern and `c` of the code, if all fields have names, those of the pattern other ones than
-    /// placeholders.
-    pub(crate) fn of(
-        alloc: Global,
-        rule: &ResolvedRule,
-        code: &Tree,
-        p: NodeNo,
-        c: NodeNo,
-    ) -> Result<Option<NamedLists>, AllocError>
-        requires p_in { HasNode rule.now.pattern p.0 }
-        requires c_in { HasNode code.now c.0 }
-        ensures named { IfOk result (λ lists. is_some lists ≡ is_named rule.now (node_of rule.now.pattern p.0) (node_of code.now c.0)) }
-        ensures lists { IfOk result (λ lists. IfSome lists (AreNamedLists rule.now.pattern code.now p.0 c.0)) }
-    {
-        let pattern = rule.pattern();
-        if !pattern.kind(p).is(SyntaxKind::RECORD_EXPR_FIELD_LIST) {
-            return Ok(None);
-        }
-        let ps = child_nodes(alloc, pattern, p)?;
-        if has_open(rule, pattern, &ps) {
-            return Ok(None);
-        }
-        let Some(order) = labels_of(alloc, pattern, &ps)? else {
-            return Ok(None);
-        };
-        let cs = child_nodes(alloc, code, c)?;
-        let Some(labels) = labels_of(alloc, code, &cs)? else {
-            return Ok(None);
-        };
-        Ok(Some(NamedLists {
-            ps,
-            order,
-            cs,
-            labels,
-        }))
-    }
-
-    /// The nodes of the code's list in the order of the pattern's.
-    pub(crate) fn arranged(&self, alloc: Global) -> Result<Option<Vec<NodeNo>>, AllocError>
-        ensures { IfOk result (λ found. option_map (λ v. v.items) found ≡ arranged (map string_bytes self.now.order.items) (map string_bytes self.now.labels.items) self.now.cs.items) }
-    {
-        let found = arranged(alloc, &self.order, &self.labels, &self.cs)?;
-        Ok(found)
-    }
+    let pattern = rule.pattern();
+    pattern.kind(p).is(SyntaxKind::RECORD_EXPR_FIELD_LIST)
+        && !has_open(rule, pattern, p)
+        && are_labelled(pattern, p)
+        && are_labelled(code, c)
 }

@@ -117,13 +117,9 @@ pub(crate) fn last_name(tree: &Tree, path: NodeNo) -> Option<&str>
     requires { HasNode tree.now path.0 }
     ensures { option_map (λ name. name.now) result ≡ last_name (node_of tree.now path.0).children }
 {
-    let Some(segment) = last_segment(tree, path) else {
-        return None;
-    };
-    match first_child(tree, segment, SyntaxKind::NAME_REF) {
-        Some(name) => Some(tree.text(name)),
-        None => None,
-    }
+    let segment = last_segment(tree, path)?;
+    let name = first_child(tree, segment, SyntaxKind::NAME_REF)?;
+    Some(tree.text(name))
 }
 
 /// Whether a node of this kind holds arguments of a segment, or the return type behind them.

@@ -36,10 +36,8 @@ fn name_at(names: &Names<'_>, tree: &Tree, token: TokenNo) -> Option<u32>
     if !matches!(tree.token_kind(token), SyntaxKind::IDENT) {
         return None;
     }
-    match names.place_of_stand_in(tree.token_text(token)) {
-        Some(place) => Some(place as u32),
-        None => None,
-    }
+    let place = names.place_of_stand_in(tree.token_text(token))?;
+    Some(place as u32)
 }
 
 /// Which name's stand-in a node is.
@@ -48,10 +46,7 @@ fn placeholder_at(names: &Names<'_>, tree: &Tree, node: NodeNo) -> Option<u32>
     requires has { HasNode tree.now node.0 }
     ensures { result ≡ placeholder_at names.now (node_of tree.now node.0) }
 {
-    match only_token(tree, node) {
-        Some(token) => name_at(names, tree, token),
-        None => None,
-    }
+    name_at(names, tree, only_token(tree, node)?)
 }
 
 /// Which name's stand-in each node of a tree is.

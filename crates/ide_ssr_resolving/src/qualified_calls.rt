@@ -27,9 +27,7 @@ pub(crate) fn first_in(tree: &Tree, kind: SyntaxKind, node: NodeNo) -> Option<No
     ensures first { option_map (λ parent. parent.0) result ≡ first_in tree.now kind node.0 }
     ensures has { IfSome result (λ parent. HasNode tree.now parent.0) }
 {
-    let Some(parent) = tree.parent(node) else {
-        return None;
-    };
+    let parent = tree.parent(node)?;
     if node.0 - 1 == parent.0 && tree.kind(parent).is(kind) {
         Some(parent)
     } else {
@@ -43,10 +41,8 @@ fn called_by(tree: &Tree, path: NodeNo) -> Option<NodeNo>
     ensures call { option_map (λ call. call.0) result ≡ called_by tree.now path.0 }
     ensures has { IfSome result (λ call. HasNode tree.now call.0) }
 {
-    match first_in(tree, SyntaxKind::PATH_EXPR, path) {
-        Some(callee) => first_in(tree, SyntaxKind::CALL_EXPR, callee),
-        None => None,
-    }
+    let callee = first_in(tree, SyntaxKind::PATH_EXPR, path)?;
+    first_in(tree, SyntaxKind::CALL_EXPR, callee)
 }
 
 /// Whether a definition is an associated function that takes `self`.

@@ -1,26 +1,26 @@
--- Private: lists of record fields by the numbers of their nodes.
-use Rattle.std.specs.Prelude.{ℕ, ◌≡◌, List, Some, All, map, string_bytes, bytes_eq}
-use denote.Ref.{Bor}
-use Rattle.std.specs.List.{position_from}
-use Rattle.std.specs.BTreeMap.{BTreeMap, get_by}
-use Rattle.std.specs.Ordering.{nat_cmp}
-use Rattle.std.specs.Cmp.Lexicographic.{slice_cmp}
-use Rattle.ssr_syntax_tree.specs.Syntax.{Syntax}
-use Rattle.ssr_syntax_tree.specs.Places.{node_of}
-use Rattle.ide_ssr_matching.specs.declared.records.NamedLists.{NamedLists}
-use Rattle.ide_ssr_matching.specs.Calls.{child_nodes}
-use Rattle.ide_ssr_matching.specs.Records.{labels_of}
-use Rattle.ide_ssr_matching.specs.Private.Calls.{nodes_at, IsNodeBelow}
+-- Private: labels by the numbers of their tokens, and what the nodes of two lists bind that have the same ones.
+use Rattle.std.specs.Prelude.{ℕ, ◌-◌, ◌≤◌, List, [], ◌∷◌, Option, Some, drop, take}
+use Rattle.std.specs.List.{find}
+use Rattle.std.specs.Option.{option_and_then}
+use Rattle.ssr_syntax_tree.specs.Syntax.{Syntax, token_count, tokens_of}
+use Rattle.ssr_syntax_tree.specs.Places.{Node}
+use Rattle.ide_ssr_found.specs.declared.bindings.Binding.{Binding}
+use Rattle.ide_ssr_token_trees.specs.Bindings.{joined}
+use Rattle.ide_ssr_matching.specs.declared.records.Label.{Label}
+use Rattle.ide_ssr_matching.specs.Bindings.{Binder}
+use Rattle.ide_ssr_matching.specs.Records.{solid_texts, have_same_label}
 
--- a map tells the first place of each label
-abbrev pub TellsPlaces : List (List ℕ) → BTreeMap (Bor (List ℕ)) ℕ → Type 0
-TellsPlaces labels places = (text : List ℕ) → get_by (λ label. slice_cmp nat_cmp text label.now) places ≡ position_from (bytes_eq text) 0 labels
+-- the texts of the tokens of a tree from one number up to before another one
+abbrev pub texts_between : Syntax → ℕ → ℕ → List (List ℕ)
+texts_between tree first past = solid_texts (take (past - first) (drop first (tokens_of tree)))
 
--- the nodes of both lists, with their labels
-pub record AreNamedLists (pattern code : Syntax) (p c : ℕ) (lists : NamedLists) : Type 0 where
-  pub ps : nodes_at pattern lists.ps.items ≡ child_nodes (node_of pattern p)
-  pub ps_below : All (IsNodeBelow pattern p) lists.ps.items
-  pub order : labels_of (node_of pattern p) ≡ Some (map string_bytes lists.order.items)
-  pub cs : nodes_at code lists.cs.items ≡ child_nodes (node_of code c)
-  pub cs_below : All (IsNodeBelow code c) lists.cs.items
-  pub labels : labels_of (node_of code c) ≡ Some (map string_bytes lists.labels.items)
+abbrev pub label_texts : Syntax → Label → List (List ℕ)
+label_texts tree label = texts_between tree label.first label.past
+
+abbrev pub HasTokens : Syntax → Label → Type 0
+HasTokens tree label = (label.first ≤ label.past) × (label.past ≤ token_count tree.children)
+
+-- what nodes of the pattern bind in the first ones of the code that have their labels
+abbrev pub fields_by : Binder → List Node → List Node → Option (List Binding)
+fields_by inner [] cs = Some []
+fields_by inner (p ∷ ps) cs = joined (option_and_then (inner p) (find (have_same_label p) cs)) (fields_by inner ps cs)

@@ -1,20 +1,26 @@
-use Rattle.std.proofs.Common.{refl, sym, ap, subst, ◌∙◌, rules, arith, ◌<◌, ◌≤◌, length, get_or, map, string_bytes, true, false, All, None, is_some}
+use Rattle.std.proofs.Common.{◌≡◌, refl, sym, ap, subst, ◌∙◌, rules, arith, ◌<◌, ◌≤◌, length, get_or, true, false, All, None, is_some}
+use Rattle.std.specs.List.{find}
 use Rattle.std.specs.Option.{IfSome, option_map}
 use Rattle.std.proofs.lemmas.Bool.{and_right}
-use Rattle.std.proofs.lemmas.List.Elements.{All-map}
+use Rattle.std.proofs.lemmas.List.Elements.{All-head}
 use Rattle.ssr_syntax_kinds.specs.declared.kinds.SyntaxKind.TheVariants as k
 use Rattle.ssr_syntax_kinds.specs.Kinds.{same_kind}
 use Rattle.ssr_syntax_tree.specs.declared.number.Element.{Element}
 use Rattle.ssr_syntax_tree.specs.declared.number.Element.TheVariants as element
-use Rattle.ssr_syntax_tree.specs.Places.{HasElement, node_of}
+use Rattle.ssr_syntax_tree.specs.Places.{HasNode, HasElement, node_of}
 use Rattle.ide_ssr_resolving.specs.QualifiedCalls.{call_at}
 use Rattle.ide_ssr_resolving.specs.Used.{res_at}
 use Rattle.ide_ssr_matching.specs.TokenTrees.{is_tree}
-use Rattle.ide_ssr_matching.specs.Private.Calls.{sides_at, AreSidesBelow, IsNodeBelow}
+use Rattle.ide_ssr_matching.specs.Bindings.{bindings_of}
+use Rattle.ide_ssr_matching.specs.Calls.{child_nodes}
+use Rattle.ide_ssr_matching.specs.Records.{have_same_label}
+use Rattle.ide_ssr_matching.specs.Private.Calls.{sides_at, AreSidesBelow}
+use Rattle.ide_ssr_matching.specs.Private.ChildNodes.{nodes_at, IsNodeBelow}
 use Rattle.ide_ssr_matching.specs.Private.Children.{IsBelow}
 use Rattle.ide_ssr_matching.proofs.Bare.{below_has}
-use Rattle.ide_ssr_matching.proofs.Pairs.{placeholder-from, trees-from, spoiled-from, parts-from, like-from, method-from, other_kind-from, unpaired-from, kept-from, paired-starts, paired-turns, paired-differs, paired-short, paired-ends, up_to-turns, up_to-differs, up_to-ends, unequal-elements, at_place, lent_next, lent_none, none_left, tokens-answer, element-smaller, first-below, largest, largest-at, largest-below, element_size, elements_size, children_size, paired-from, used-from, unnamed-from, unarranged-from, arranged-from, lists_size}
-use Rattle.ide_ssr_matching.proofs.NamedNodes.{each_arranged}
+use Rattle.ide_ssr_matching.proofs.Pairs.{placeholder-from, trees-from, spoiled-from, parts-from, like-from, method-from, other_kind-from, unpaired-from, kept-from, paired-starts, paired-turns, paired-differs, paired-short, paired-ends, up_to-turns, up_to-differs, up_to-ends, unequal-elements, at_place, lent_next, lent_none, none_left, tokens-answer, element-smaller, first-below, smaller_below, largest, largest-at, largest-below, element_size, elements_size, children_size, paired-from, used-from, named-from, unnamed-from, lists_size}
+use Rattle.ide_ssr_matching.proofs.ChildNodes.{nodes_behind}
+use Rattle.ide_ssr_matching.proofs.Fields.{named-differs, named-matches, fields-starts, fields-turn, fields-end}
 use Rattle.ide_ssr_matching.proofs.matching.+matching.Goals as goal
 
 pub node_matches-returns-in-Some : goal.node_matches-returns-in-Some
@@ -83,45 +89,77 @@ pairs_match-returns-in-Some g t c =
     used-from (g.S.Semantics.meanings c.args.semantics.now) c.args.number c.args.rule.now _ (node_of c.args.rule.now.pattern c.args.p.0)
     (node_of c.args.code.now c.args.c.0) c.args.used _ _ _ c.in-Some.is c.children_match.ensures
 
-pub pairs_match-returns-in-None : goal.pairs_match-returns-in-None
-pairs_match-returns-in-None g t c =
+pub pairs_match-returns-then-is_named : goal.pairs_match-returns-then-is_named
+pairs_match-returns-then-is_named g t c =
+    named-from (g.S.Semantics.meanings c.args.semantics.now) c.args.number c.args.rule.now _ (node_of c.args.rule.now.pattern c.args.p.0)
+    (node_of c.args.code.now c.args.c.0) c.args.used _ _ c.in_default.is (sym c.if-is_named.true ∙ c.is_named.ensures) c.named_match.ensures
+
+pub pairs_match-returns : goal.pairs_match-returns
+pairs_match-returns g t c =
     unnamed-from (g.S.Semantics.meanings c.args.semantics.now) c.args.number c.args.rule.now _ (node_of c.args.rule.now.pattern c.args.p.0)
-    (node_of c.args.code.now c.args.c.0) c.args.used _ _ c.in_default.is (ap is_some (sym c.in-None.is) ∙ c.in_ok-lists.ensures.named)
-    c.children_match-in-None.ensures
+    (node_of c.args.code.now c.args.c.0) c.args.used _ _ c.in_default.is (sym c.if-is_named.false ∙ c.is_named.ensures) c.children_match-2.ensures
 
-pub named_match-returns-in_default : goal.named_match-returns-in_default
-named_match-returns-in_default g t c =
-    unarranged-from (g.S.Semantics.meanings c.args.semantics.now) c.args.number c.args.rule.now c.args.rule.now.pattern c.args.code.now c.args.p.0 c.args.c.0
-    c.args.lists.now c.requires.lists _ _ (ap (option_map (λ nodes. nodes.items)) c.in_default.is) c.in_ok-nodes.ensures
+pub named_match-returns-then-not-branch : goal.named_match-returns-then-not-branch
+named_match-returns-then-not-branch g t c =
+    named-differs (bindings_of (g.S.Semantics.meanings c.args.semantics.now) c.args.number c.args.rule.now) c.args.rule.now.pattern c.args.code.now
+    c.args.p.0 c.args.c.0 _ _ _ c.in_ok-fields_match.ensures c.if-not-branch.true
 
-pub named_match-elements_match-requires : goal.named_match-elements_match-requires
-named_match-elements_match-requires g t c =
+pub named_match-returns-then-are_different : goal.named_match-returns-then-are_different
+named_match-returns-then-are_different g t c =
+    named-matches (bindings_of (g.S.Semantics.meanings c.args.semantics.now) c.args.number c.args.rule.now) c.args.rule.now.pattern c.args.code.now
+    c.args.p.0 c.args.c.0 _ _ _ _ _ _ _ c.pattern-pattern.ensures c.are_as_many.ensures c.if-not-are_as_many.false c.are_different.ensures
+    c.if-are_different.true c.are_different-then-are_different.ensures c.in_ok-fields_match.ensures c.if-not-branch.false
+
+pub fields_match-loop-field-init : goal.fields_match-loop-field-init
+fields_match-loop-field-init g t c =
     let pattern = c.args.rule.now.pattern in
-    let code = c.args.code.now in
     let n = c.args.p.0 in
-    let m = c.args.c.0 in
-    let lists = c.args.lists.now in
-    let ps_are = c.deref-3.ensures.value ∙ c.in_ok-ps.ensures ∙ ap (map element.Node) c.deref.ensures.value in
-    let cs_are = c.deref-4.ensures.value ∙ c.in_ok-cs.ensures ∙ ap (map element.Node) c.deref-2.ensures.value in
-    let ps_below = subst (All (IsBelow pattern n)) (sym ps_are) (All-map (IsBelow pattern n) element.Node lists.ps.items c.requires.lists.ps_below) in
-    let found =
-    each_arranged (map string_bytes lists.order.items) (map string_bytes lists.labels.items) lists.cs.items (IsNodeBelow code m) c.requires.lists.cs_below
-    c.in-Some.nodes.items (sym c.in_ok-nodes.ensures ∙ ap (option_map (λ nodes. nodes.items)) c.in-Some.is)
-    in
-    let cs_below = subst (All (IsBelow code m)) (sym cs_are) (All-map (IsBelow code m) element.Node c.in-Some.nodes.items found) in
-    let lt : elements_size pattern c.deref-3.result.now < lists_size pattern n = largest-below pattern n c.deref-3.result.now c.requires.p_in ps_below in
-    let has_ps : All (HasElement pattern) c.deref-3.result.now = below_has pattern n c.deref-3.result.now ps_below in
-    let has_cs : All (HasElement code) c.deref-4.result.now = below_has code m c.deref-4.result.now cs_below in
-    λ κs lives. (omega arith, search (rules, lives, has_ps, has_cs))
+    let items = c.of-field-items.result in
+    let gives = c.into_iter-field-iterator.ensures.into_iter_gives in
+    record {
+      so_far =
+          fields-starts (bindings_of (g.S.Semantics.meanings c.args.semantics.now) c.args.number c.args.rule.now) pattern
+          (child_nodes (node_of c.args.code.now c.args.c.0)) n _ _
+          (ap (nodes_at pattern) gives
+          ∙ subst (λ s. nodes_at s items ≡ child_nodes (node_of s n)) c.pattern-pattern.ensures c.of-field-items.ensures.nodes);
+      below =
+          subst (All (IsNodeBelow pattern n)) (sym gives)
+          (subst (λ s. All (IsNodeBelow s n) items) c.pattern-pattern.ensures c.of-field-items.ensures.below);
+    }
 
-pub named_match-returns : goal.named_match-returns
-named_match-returns g t c =
-    arranged-from (g.S.Semantics.meanings c.args.semantics.now) c.args.number c.args.rule.now c.args.rule.now.pattern c.args.code.now c.args.p.0 c.args.c.0
-    c.args.lists.now c.requires.lists _ c.in-Some.nodes.items c.deref-3.result.now c.deref-4.result.now _ _
-    (ap (option_map (λ nodes. nodes.items)) (sym c.in-Some.is) ∙ c.in_ok-nodes.ensures)
-    (c.deref-3.ensures.value ∙ c.in_ok-ps.ensures ∙ ap (map element.Node) c.deref.ensures.value)
-    (c.deref-4.ensures.value ∙ c.in_ok-cs.ensures ∙ ap (map element.Node) c.deref-2.ensures.value)
-    c.elements_match.ensures
+pub fields_match-node_matches-requires : goal.fields_match-node_matches-requires
+fields_match-node_matches-requires g t c =
+    let pattern = c.args.rule.now.pattern in
+    let field = c.in-Some.field in
+    let below : IsNodeBelow pattern c.args.p.0 field =
+    All-head (IsNodeBelow pattern c.args.p.0) field c.next.new.self
+    (subst (All (IsNodeBelow pattern c.args.p.0)) c.in-Some.ensures.steps c.loop-field.invariant.below)
+    in
+    let lt : element_size pattern (element.Node field) < children_size pattern c.args.p.0 =
+    smaller_below pattern c.args.p.0 (element.Node field) c.requires.p_in below
+    in
+    let has_p : HasNode pattern field.0 = below.0 in
+    let has_c : HasNode c.args.code.now c.in-Some-counterpart.other.0 = c.in-Some-counterpart.ensures.has in
+    λ κs lives. (omega arith, search (rules, lives, has_p, has_c))
+
+pub fields_match-loop-field-preserved : goal.fields_match-loop-field-preserved
+fields_match-loop-field-preserved g t c =
+    let pattern = c.args.rule.now.pattern in
+    let field = c.in-Some.field in
+    let cs = child_nodes (node_of c.args.code.now c.args.c.0) in
+    record {
+      so_far =
+          fields-turn (bindings_of (g.S.Semantics.meanings c.args.semantics.now) c.args.number c.args.rule.now) pattern cs _ _ _ field _ c.next.new.self
+          c.in-Some.ensures.steps c.loop-field.invariant.so_far (node_of c.args.code.now c.in-Some-counterpart.other.0)
+          (c.in-Some-counterpart.ensures.node ∙ ap (λ s. find (have_same_label (node_of s field.0)) cs) c.pattern-pattern.ensures)
+          _ _ c.in_ok-node_matches.ensures c.if-not-branch.false;
+      below = nodes_behind (IsNodeBelow pattern c.args.p.0) field _ c.next.new.self c.in-Some.ensures.steps c.loop-field.invariant.below;
+    }
+
+pub fields_match-returns : goal.fields_match-returns
+fields_match-returns g t c =
+    fields-end (bindings_of (g.S.Semantics.meanings c.args.semantics.now) c.args.number c.args.rule.now) c.args.rule.now.pattern
+    (child_nodes (node_of c.args.code.now c.args.c.0)) _ _ _ _ c.in-None.ensures.steps.0 c.loop-field.invariant.so_far
 
 pub children_match-loop-first-init : goal.children_match-loop-first-init
 children_match-loop-first-init g t c =

@@ -1,8 +1,12 @@
-use Rattle.std.proofs.Common.{length, ◌-◌}
+use Rattle.std.proofs.Common.{All, length, ◌-◌}
 use Rattle.ssr_syntax_tree.specs.Places.{node_of}
 use Rattle.ide_ssr_matching.specs.Bindings.{bindings_of}
+use Rattle.ide_ssr_matching.specs.Calls.{child_nodes}
 use Rattle.ide_ssr_matching.specs.Private.Bindings.{counted_by}
+use Rattle.ide_ssr_matching.specs.Private.ChildNodes.{nodes_at, IsNodeBelow}
+use Rattle.ide_ssr_matching.specs.Private.Records.{fields_by}
 use Rattle.ide_ssr_matching.specs.Private.Children.{siblings_left}
+use Rattle.ide_ssr_matching.proofs.Fields.{IsBoundSoFar}
 use Rattle.ide_ssr_matching.proofs.Pairs.{PairedSoFar, PairedUpTo, children_size, like_size, parts_size, node_size, element_size, elements_size, lists_size, pairs_size}
 use Rattle.ide_ssr_matching.proofs.matching.+matching.Given as goal
 
@@ -17,6 +21,9 @@ decreases-method_matches g l = lists_size l.rule.now.pattern l.p.0
 
 abbrev pub decreases-named_match : goal.decreases-named_match
 decreases-named_match g l = lists_size l.rule.now.pattern l.p.0
+
+abbrev pub decreases-fields_match : goal.decreases-fields_match
+decreases-fields_match g l = children_size l.rule.now.pattern l.p.0
 
 abbrev pub decreases-pairs_match : goal.decreases-pairs_match
 decreases-pairs_match g l = pairs_size l.rule.now.pattern l.p.0
@@ -48,3 +55,13 @@ invariant-elements_match-loop-place g l =
 
 abbrev pub decreases-elements_match-loop-place : goal.decreases-elements_match-loop-place
 decreases-elements_match-loop-place g l = length l.ps - l.place
+
+abbrev pub invariant-fields_match-loop-field : goal.invariant-fields_match-loop-field
+invariant-fields_match-loop-field g l =
+    let inner = bindings_of (g.S.Semantics.meanings l.semantics) l.number l.rule in
+    let cs = child_nodes (node_of l.code l.fn.c.0) in
+    record {
+      so_far : IsBoundSoFar (fields_by inner (child_nodes (node_of l.rule.pattern l.fn.p.0)) cs) (fields_by inner (nodes_at l.rule.pattern l.field-iterator) cs)
+          l.fn.out.items l.out.items;
+      below : All (IsNodeBelow l.rule.pattern l.fn.p.0) l.field-iterator;
+    }

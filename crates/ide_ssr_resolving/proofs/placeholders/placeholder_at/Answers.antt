@@ -4,10 +4,10 @@ use Rattle.ide_ssr_rules.specs.StandIns.{name_at}
 use Rattle.ide_ssr_resolving.specs.Placeholders.{placeholder_at}
 use Rattle.ide_ssr_resolving.proofs.placeholders.placeholder_at.Goals as goal
 
-pub returns-in-Some : goal.returns-in-Some
+pub returns-in_err-only_token : goal.returns-in_err-only_token
 unfolding placeholder_at
-returns-in-Some c = c.name_at.ensures ∙ ap (option_and_then (name_at c.args.names.now)) c.in-Some.ensures.token
+returns-in_err-only_token c = c.from_residual.ensures ∙ ap (option_and_then (name_at c.args.names.now)) c.in_err-only_token.ensures.token
 
-pub returns-in-None : goal.returns-in-None
+pub returns : goal.returns
 unfolding placeholder_at
-returns-in-None c = ap (option_and_then (name_at c.args.names.now)) c.in-None.ensures.token
+returns c = c.name_at.ensures ∙ ap (option_and_then (name_at c.args.names.now)) c.in_ok-only_token.ensures.token
