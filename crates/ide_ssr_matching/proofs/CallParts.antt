@@ -3,14 +3,12 @@ use Rattle.std.proofs.Common.{◌≡◌, ℕ, Bool, true, false, cond, List, [],
 use Rattle.std.specs.Prelude.{◌==◌}
 use Rattle.std.specs.Option.{option_map, option_map_or, option_and_then}
 use Rattle.std.proofs.lemmas.List.Elements.{All-nil, All-cons, All-head, All-tail}
-use Rattle.std.proofs.lemmas.Bool.{and_parts}
 use Rattle.std.proofs.lemmas.Option.{none-some, same_Some}
 use Rattle.ssr_syntax_kinds.specs.declared.kinds.SyntaxKind.{SyntaxKind}
 use Rattle.ssr_syntax_kinds.specs.declared.kinds.SyntaxKind.TheVariants as k
 use Rattle.ssr_syntax_kinds.specs.Kinds.{same_kind}
 use Rattle.ssr_syntax_tree.specs.Places.{Node, Part, token_part, node_part, parts_of}
 use Rattle.ssr_base.specs.Meanings.{Meanings}
-use Rattle.ssr_base.specs.Workspace.{node_id}
 use Rattle.ide_ssr_resolving.specs.declared.qualified_calls.QualifiedCall.{QualifiedCall}
 use Rattle.ide_ssr_resolving.specs.Paths.{first_of_kind}
 use Rattle.ide_ssr_resolving.specs.Resolved.{ResolvedKind}
@@ -18,8 +16,7 @@ use Rattle.ide_ssr_found.specs.declared.receivers.Receiver.{Receiver}
 use Rattle.ide_ssr_matching.specs.Children.{bare}
 use Rattle.ide_ssr_matching.specs.UsedPaths.{arguments_of, pattern_res}
 use Rattle.ide_ssr_matching.specs.Sides.{Sides}
-use Rattle.ide_ssr_matching.specs.Calls.{nodes_among, child_nodes, first_node, calls_same, PathCall, are_call, called_with, called_in, called, Method, method_in, method_call, method_pairs, alike_pairs, receiver_by, receiver_with, method_with, method_sides}
-use Rattle.ide_ssr_matching.specs.Private.Calls.{first_receiver}
+use Rattle.ide_ssr_matching.specs.Calls.{nodes_among, child_nodes, first_node, PathCall, are_call, called_with, called_in, called, Method, method_in, method_call, method_pairs, alike_pairs, receiver_with, method_with, method_sides}
 
 -- ** Nodes among parts.
 
@@ -114,19 +111,6 @@ module _ (p : Node) (call : PathCall) where
   pub is_called : called p ≡ Some call → IsCalled p call
   is_called is = by_nodes (child_nodes p) refl is
 
--- the callee is the first path expression of a call, and its path the first path below it
-module _ (p : Node) (found : PathCall) (call : IsCalled p found) where
-  pub first_expression : first_of_kind k.PATH_EXPR (parts_of p) ≡ Some call.callee
-  first_expression =
-      first_among_nodes k.PATH_EXPR (parts_of p) ∙ ap (first_node k.PATH_EXPR) call.nodes
-      ∙ ap (λ b. cond b (Some call.callee) (first_node k.PATH_EXPR (call.list ∷ [])))
-      (and_parts (same_kind call.callee.kind k.PATH_EXPR) (same_kind call.list.kind k.ARG_LIST) call.kinds).0
-
-  pub first_path : first_of_kind k.PATH (parts_of call.callee) ≡ Some found.path
-  first_path =
-      first_among_nodes k.PATH (parts_of call.callee) ∙ ap (first_node k.PATH) call.path
-      ∙ ap (λ b. cond b (Some found.path) None) call.path_kind
-
 -- ** A qualified call against a method call.
 
 pub record IsMethodMatch (m : Meanings) (tree : ℕ) (rule : ResolvedKind) (call : QualifiedCall) (p c : Node) (sides : Sides) : Type 0 where
@@ -175,24 +159,6 @@ module _ (m : Meanings) (tree : ℕ) (rule : ResolvedKind) (call : QualifiedCall
   pub method_match : method_sides m tree rule call p c ≡ Some sides → IsMethodMatch m tree rule call p c sides
   method_match is = by_called (called p) refl is
 
--- a method call that calls something else
-module _ (m : Meanings) (tree : ℕ) (rule : ResolvedKind) (call : QualifiedCall) (p c : Node) where
-  pub uncalled : ((found : PathCall) → called p ≡ Some found → calls_same m (pattern_res rule found.path) (node_id tree c.number) ≡ false)
-      → method_sides m tree rule call p c ≡ None
-  uncalled other = by (called p) refl
-    where
-      by_method : (found : PathCall) → calls_same m (pattern_res rule found.path) (node_id tree c.number) ≡ false → (o : Option Method)
-          → option_and_then (method_with m tree rule call.qualifier_type c found) o ≡ None
-      by_method found differs None = refl
-      by_method found differs (Some method) =
-          ap (λ b. option_and_then (alike_pairs found method) (cond b (receiver_by m tree call.qualifier_type c.number method.receiver.number) None))
-          differs
-
-      by : (o : Option PathCall) → called p ≡ o
-          → option_and_then (λ called. option_and_then (method_with m tree rule call.qualifier_type c called) (method_call c)) o ≡ None
-      by None is = refl
-      by (Some found) is = by_method found (other found is) (method_call c)
-
 -- the nodes of a method call
 pub record HasMethod (c : Node) (method : Method) : Type 0 where
   pub behind : List Node
@@ -219,29 +185,6 @@ has_method c method is = by (child_nodes c) refl is
           generics = sym (ap (λ (method : Method). method.generics) same);
           arguments = sym (ap (λ (method : Method). method.arguments) same);
         }
-
--- a method call whose receiver is of another type
-module _ (m : Meanings) (tree : ℕ) (rule : ResolvedKind) (call : QualifiedCall) (p c : Node) where
-  pub unreceived : first_receiver m tree call.qualifier_type c.number (child_nodes c) ≡ None → method_sides m tree rule call p c ≡ None
-  unreceived none = by (called p)
-    where
-      either : (b : Bool) (receiver : Option Receiver) → receiver ≡ None → cond b receiver None ≡ None
-      either true receiver none = none
-      either false receiver none = refl
-
-      by_method : (found : PathCall) (o : Option Method) → method_call c ≡ o
-          → option_and_then (method_with m tree rule call.qualifier_type c found) o ≡ None
-      by_method found None is = refl
-      by_method found (Some method) is =
-          ap (option_and_then (alike_pairs found method))
-          (either (calls_same m (pattern_res rule found.path) (node_id tree c.number))
-          (receiver_by m tree call.qualifier_type c.number method.receiver.number)
-          (sym (ap (first_receiver m tree call.qualifier_type c.number) (has_method c method is).nodes) ∙ none))
-
-      by : (o : Option PathCall)
-          → option_and_then (λ called. option_and_then (method_with m tree rule call.qualifier_type c called) (method_call c)) o ≡ None
-      by None = refl
-      by (Some found) = by_method found (method_call c) refl
 
 -- a callee that stands for something is a used path
 pub callee_used : (m : Meanings) (tree : ℕ) (rule : ResolvedKind) (call : QualifiedCall) (p c : Node) (sides : Sides)

@@ -26,9 +26,13 @@ among_below tree n (element.Token token ∷ rest) all = among_below tree n rest 
 pub nodes_had : (tree : Syntax) (n : ℕ) (nodes : List NodeNo) → All (IsNodeBelow tree n) nodes → All (λ node. HasNode tree node.0) nodes
 nodes_had tree n nodes all = All-weaker (IsNodeBelow tree n) (λ node. HasNode tree node.0) (λ node below. below.0) nodes all
 
--- what is true of the nodes that were left is of those behind the first one
-pub nodes_behind : (P : NodeNo → Type 0) (first : NodeNo) (left behind : List NodeNo) → left ≡ first ∷ behind → All P left → All P behind
-nodes_behind P first left behind steps all = All-tail P first behind (subst (All P) steps all)
+-- what is true of the nodes that were left is of the first one and of those behind it
+module _ (P : NodeNo → Type 0) (first : NodeNo) (left behind : List NodeNo) (steps : left ≡ first ∷ behind) (all : All P left) where
+  pub node_first : P first
+  node_first = All-head P first behind (subst (All P) steps all)
+
+  pub nodes_behind : All P behind
+  nodes_behind = All-tail P first behind (subst (All P) steps all)
 
 -- they are no more than the children
 pub among_fewer : (children : List Element) → length (numbers_among children) ≤ length children

@@ -1,5 +1,5 @@
--- What is bound one after the other, and what lists of fields bind that match by labels.
-use Rattle.std.proofs.Common.{◌≡◌, ℕ, Bool, true, false, ◌&&◌, cond, List, [], ◌∷◌, ◌++◌, length, map, Option, Some, None, refl, sym, ◌∙◌, ap, subst, append_assoc, append-nil}
+-- What lists of fields bind that match by labels.
+use Rattle.std.proofs.Common.{◌≡◌, ℕ, Bool, true, false, ◌&&◌, cond, List, [], ◌∷◌, length, map, Option, Some, None, refl, sym, ◌∙◌, ap, subst}
 use Rattle.std.specs.Prelude.{◌==◌}
 use Rattle.std.specs.List.{find}
 use Rattle.std.specs.Option.{option_and_then, option_map}
@@ -7,51 +7,16 @@ use Rattle.ssr_syntax_tree.specs.declared.number.NodeNo.{NodeNo}
 use Rattle.ssr_syntax_tree.specs.Syntax.{Syntax}
 use Rattle.ssr_syntax_tree.specs.Places.{Node, node_part, node_of}
 use Rattle.ide_ssr_found.specs.declared.bindings.Binding.{Binding}
-use Rattle.ide_ssr_token_trees.specs.Bindings.{joined, Answers, matched, other}
+use Rattle.ide_ssr_token_trees.specs.Bindings.{joined, Answers, other}
 use Rattle.ide_ssr_matching.specs.Bindings.{Binder, pairs_by, sides_by}
 use Rattle.ide_ssr_matching.specs.Calls.{child_nodes}
 use Rattle.ide_ssr_matching.specs.Records.{all_some, have_same_label, are_different, named_nodes, named_pairs}
 use Rattle.ide_ssr_matching.specs.Sides.{kept}
 use Rattle.ide_ssr_matching.specs.Private.ChildNodes.{nodes_at}
 use Rattle.ide_ssr_matching.specs.Private.Records.{fields_by}
-use Rattle.ide_ssr_matching.proofs.Pairs.{joined-none, joined-some, unmatched}
-
--- ** One after the other.
-
--- so far these were bound, and `rest` is still to come
-pub record IsBoundSoFar (whole rest : Option (List Binding)) (old out : List Binding) : Type 0 where
-  pub bound : List Binding
-  pub comes_to : whole ≡ joined (Some bound) rest
-  pub out_is : out ≡ old ++ bound
-
-pub bound-starts : (whole : Option (List Binding)) (old : List Binding) → IsBoundSoFar whole whole old old
-bound-starts whole old = record { bound = []; comes_to = sym (joined-none whole); out_is = sym (append-nil old) }
-
-module _ (whole : Option (List Binding)) (old out : List Binding) where
-  module _ (next rest : Option (List Binding)) (new : List Binding) (b : Bool) (so_far : IsBoundSoFar whole (joined next rest) old out) where
-    pub bound-turns : Answers next out new b → b ≡ true → IsBoundSoFar whole rest old new
-    bound-turns (matched bs is found new_is) holds = record {
-      bound = so_far.bound ++ bs;
-      comes_to = so_far.comes_to ∙ ap (λ o. joined (Some so_far.bound) (joined o rest)) found ∙ joined-some so_far.bound bs rest;
-      out_is = new_is ∙ ap (λ out. out ++ bs) so_far.out_is ∙ append_assoc old so_far.bound bs;
-    }
-    bound-turns (other is none) holds = let e : true ≡ false = sym holds ∙ is in cc
-
-    pub bound-differs : Answers next out new b → b ≡ false → Answers whole old new false
-    bound-differs answers fails =
-        other refl (so_far.comes_to ∙ ap (λ o. joined (Some so_far.bound) (joined o rest)) (unmatched next out new b fails answers))
-
-  pub bound-lacks : (rest : Option (List Binding)) → rest ≡ None → IsBoundSoFar whole rest old out → Answers whole old out false
-  bound-lacks rest none so_far = other refl (so_far.comes_to ∙ ap (joined (Some so_far.bound)) none)
-
-  pub bound-ends : IsBoundSoFar whole (Some []) old out → Answers whole old out true
-  bound-ends so_far = matched so_far.bound refl (so_far.comes_to ∙ ap Some (append-nil so_far.bound)) so_far.out_is
+use Rattle.ide_ssr_matching.proofs.Pairs.{IsBoundSoFar, bound-starts, bound-turns, bound-ends, lacking, unmatched}
 
 -- ** Fields by their labels.
-
-lacking : (o : Option (List Binding)) → joined o None ≡ None
-lacking None = refl
-lacking (Some bs) = refl
 
 module _ (inner : Binder) where
   abbrev pairs_of : List Node → List Node → Option (List Binding)
@@ -158,16 +123,10 @@ module _ (inner : Binder) where
             ∙ ap (λ o. joined (option_and_then (inner (node_of pattern field.0)) o) (fields_by inner (nodes_at pattern behind) cs)) (sym is))
             so_far
 
-        pub fields-lack : None ≡ find (have_same_label (node_of pattern field.0)) cs → Answers whole old out false
-        fields-lack none = bound-lacks whole old out None refl (at_front None none)
-
         module _ (c : Node) (is : Some c ≡ find (have_same_label (node_of pattern field.0)) cs) (new : List Binding) (b : Bool)
             (answers : Answers (inner (node_of pattern field.0) c) out new b) where
           pub fields-turn : b ≡ true → IsBoundSoFar whole (fields_by inner (nodes_at pattern behind) cs) old new
           fields-turn holds = bound-turns whole old out (inner (node_of pattern field.0) c) (fields_by inner (nodes_at pattern behind) cs) new b (at_front (Some c) is) answers holds
-
-          pub fields-differ : b ≡ false → Answers whole old new false
-          fields-differ fails = bound-differs whole old out (inner (node_of pattern field.0) c) (fields_by inner (nodes_at pattern behind) cs) new b (at_front (Some c) is) answers fails
 
       pub fields-end : (left : List NodeNo) → left ≡ [] → IsBoundSoFar whole (fields_by inner (nodes_at pattern left) cs) old out → Answers whole old out true
       fields-end left none so_far =

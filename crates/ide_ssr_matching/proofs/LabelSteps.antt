@@ -82,9 +82,6 @@ pub record AreNewSoFar (tree : Syntax) (all : List Node) (count : ℕ) (left : L
   pub counted : count ≡ length seen
   pub so_far : are_new seen (nodes_at tree left) ≡ are_different all
 
-pub new_starts : (tree : Syntax) (all : List Node) (left : List NodeNo) → nodes_at tree left ≡ all → AreNewSoFar tree all 0 left
-new_starts tree all left is = record { seen = []; split = sym is; counted = refl; so_far = ap (are_new []) is }
-
 module _ (tree : Syntax) (all : List Node) (count : ℕ) (first : NodeNo) (left behind : List NodeNo) (steps : left ≡ first ∷ behind)
     (new : AreNewSoFar tree all count left) where
   new_by : (b : Bool) → b ≡ list_any (have_same_label (node_of tree first.0)) (take count all)
@@ -109,10 +106,3 @@ module _ (tree : Syntax) (all : List Node) (count : ℕ) (first : NodeNo) (left 
       longer : (seen : List Node) → length (seen ++ node_of tree first.0 ∷ []) ≡ length seen + 1
       longer [] = refl
       longer (node ∷ seen) = omega (arith, longer seen)
-
-  pub new_repeats : (b : Bool) → b ≡ list_any (have_same_label (node_of tree first.0)) (take count all) → b ≡ true → false ≡ are_different all
-  new_repeats b is repeats =
-      ap (λ b. not b && are_new (new.seen ++ node_of tree first.0 ∷ []) (nodes_at tree behind)) (sym repeats) ∙ new_by b is
-
-pub new_ends : (tree : Syntax) (all : List Node) (count : ℕ) (left : List NodeNo) → left ≡ [] → AreNewSoFar tree all count left → true ≡ are_different all
-new_ends tree all count left none new = ap (λ left. are_new new.seen (nodes_at tree left)) (sym none) ∙ new.so_far

@@ -1,5 +1,5 @@
 -- The texts of a label by the numbers of its tokens.
-use Rattle.std.proofs.Common.{◌≡◌, ℕ, suc, ◌+◌, ◌-◌, ◌<◌, ◌≤◌, Bool, true, false, not, cond, List, [], ◌∷◌, drop, map, take, refl, ◌∙◌, ap, arith}
+use Rattle.std.proofs.Common.{◌≡◌, ℕ, suc, ◌+◌, ◌-◌, ◌<◌, Bool, true, false, not, cond, List, ◌∷◌, drop, map, take, refl, ◌∙◌, ap, arith}
 use Rattle.std.specs.List.{filter}
 use Rattle.ssr_syntax_kinds.specs.Kinds.{is_trivia}
 use Rattle.ssr_syntax_tree.specs.Places.{HasNode, HasToken, node_of, token_of}
@@ -20,10 +20,6 @@ module _ (s : Syntax) where
       ap (λ first. texts_between s first past) first_is
       ∙ ap (λ k. solid_texts (take k (drop node.first (tokens_of s)))) count
       ∙ ap solid_texts (tokens_of_node s n has)
-
-  pub no_texts : (first past : ℕ) → past ≤ first → texts_between s first past ≡ []
-  no_texts first past none =
-      let zero : past - first ≡ 0 = omega arith in ap (λ k. solid_texts (take k (drop first (tokens_of s)))) zero
 
   texts_by : (first past : ℕ) (b : Bool) → HasToken s first → first < past → is_trivia (token_of s first).kind ≡ b
       → texts_between s first past ≡ cond b (texts_between s (first + 1) past) ((token_of s first).text ∷ texts_between s (first + 1) past)

@@ -1,15 +1,10 @@
 -- Labels: which nodes have the same one.
-use Rattle.std.proofs.Common.{◌≡◌, ℕ, suc, ◌+◌, ◌<◌, true, false, drop, get_or, length, List, ◌∷◌, Option, Some, None, refl, sym, ◌∙◌, ap, arith, bytes_eq}
-use Rattle.std.proofs.Math.Seq.{drop-cons}
+use Rattle.std.proofs.Common.{◌≡◌, ℕ, true, false, List, Option, Some, None, refl, sym, ◌∙◌, ap, bytes_eq}
 use Rattle.std.proofs.lemmas.Slice.Eq.{bytes_eq-Decides, slice_eq-Decides}
 use Rattle.std.specs.Cmp.Lexicographic.{pointwise}
 use Rattle.std.specs.Option.{option_map_or}
 use Rattle.ssr_syntax_tree.specs.Places.{Node}
 use Rattle.ide_ssr_matching.specs.Records.{label_of, has_label, have_same_label}
-
--- what is left from a place on
-pub left_at : {A : Type 0} (xs : List A) (i : ℕ) (d : A) → i < length xs → drop i xs ≡ get_or xs i d ∷ drop (i + 1) xs
-left_at xs i d less = drop-cons xs i d less ∙ ap (λ n. get_or xs i d ∷ drop n xs) (let next : suc i ≡ i + 1 = omega arith in next)
 
 same_texts : (xs ys : List (List ℕ)) → pointwise bytes_eq xs ys ≡ true → xs ≡ ys
 same_texts xs ys is = (slice_eq-Decides bytes_eq-Decides xs ys (pointwise bytes_eq xs ys) refl).0 is

@@ -1,11 +1,11 @@
 pub mod Shared
 mod Bare
+mod ChildNodes
 mod Same
 mod Counted
 mod Arguments
-mod ChildNodes
 mod CallParts
-mod NodeLists
+mod CallsTold
 mod CallNodes
 mod NamedNodes
 mod Labels
@@ -14,6 +14,7 @@ mod LabelSteps
 mod Steps
 mod Pairs
 mod Fields
+mod CallPairs
 mod Agreement
 mod OwnTokens
 mod Spread

@@ -1,11 +1,9 @@
 -- What the code of the matcher answers, case by case, and pair by pair.
-use Rattle.std.proofs.Common.{◌≡◌, ℕ, zero, suc, ◌+◌, ◌<◌, ◌≤◌, Bool, true, false, ◌&&◌, cond, List, [], ◌∷◌, ◌++◌, length, drop, get_or, All, Option, Some, None, refl, sym, ◌∙◌, ap, subst, arith, append_assoc, append-nil, ◌*◌, option_to_list, is_some, not, IfNone, IfOk, Result}
-use Rattle.std.specs.Prelude.{map, max}
+use Rattle.std.proofs.Common.{◌≡◌, ℕ, suc, ◌+◌, ◌<◌, Bool, true, false, ◌&&◌, cond, List, [], ◌∷◌, ◌++◌, length, All, Option, Some, None, refl, sym, ◌∙◌, ap, subst, arith, append_assoc, append-nil, ◌*◌, option_to_list, is_some, not, IfNone, IfOk, Result}
+use Rattle.std.specs.Prelude.{map}
 use Rattle.std.specs.Option.{is_none, option_and_then, option_map}
 use Rattle.std.proofs.lemmas.Bool.{and_from, and_parts, not-true}
 use Rattle.std.specs.Str.{bytes_eq}
-use Rattle.std.proofs.lemmas.List.{get_or_default, length-map}
-use Rattle.std.proofs.Math.ListN.{drop_of_length-le}
 use Rattle.ssr_syntax_kinds.specs.declared.kinds.SyntaxKind.{SyntaxKind}
 use Rattle.ssr_syntax_kinds.specs.declared.kinds.SyntaxKind.TheVariants as k
 use Rattle.ssr_syntax_kinds.specs.Kinds.{same_kind}
@@ -26,27 +24,36 @@ use Rattle.ide_ssr_resolving.specs.Resolved.{ResolvedKind, meets}
 use Rattle.ide_ssr_resolving.specs.Used.{res_at}
 use Rattle.ide_ssr_found.specs.declared.bindings.Binding.{Binding}
 use Rattle.ide_ssr_found.specs.Found.{node_binding}
-use Rattle.ide_ssr_matching.specs.declared.calls.MethodSides.{MethodSides}
 use Rattle.ide_ssr_matching.specs.Children.{bare}
 use Rattle.ide_ssr_matching.specs.TokenTrees.{is_tree, tree_by, is_plain, is_by_parts}
 use Rattle.ide_ssr_matching.specs.UsedPaths.{arguments_of, pattern_res}
-use Rattle.ide_ssr_found.specs.Receivers.{received}
 use Rattle.ide_ssr_matching.specs.Sides.{Sides, kept}
 use Rattle.ide_ssr_matching.specs.Calls.{method_sides, can_be_call}
 use Rattle.ide_ssr_token_trees.specs.Bindings.{joined, Answers, matched, other}
 use Rattle.ide_ssr_matching.specs.Bindings.{Binder, pair_by, pairs_by, placeholder_by, stands_for, counted, counted_sides, can_match, like_sides, sides_in, sides_by, sides_of, other_by, node_by, bindings_of, like_pairs}
 use Rattle.ide_ssr_matching.specs.Private.Bindings.{counted_by}
-use Rattle.ide_ssr_matching.specs.Private.Calls.{sides_at}
+use Rattle.ide_ssr_matching.specs.Private.ChildNodes.{IsNodeBelow}
 use Rattle.ide_ssr_matching.specs.Records.{is_named, named_nodes, named_pairs}
-use Rattle.ide_ssr_matching.proofs.Labels.{left_at}
-use Rattle.ide_ssr_matching.proofs.NodeLists.{none_there}
 use Rattle.ide_ssr_matching.specs.Private.Children.{IsBelow, AreKept}
-use Rattle.ide_ssr_matching.proofs.Bare.{below-has, tail_has}
+use Rattle.ide_ssr_matching.proofs.Bare.{below-has}
 use Rattle.ide_ssr_matching.proofs.Steps.{bindings_step}
 
-pub joined-some : (found bs : List Binding) (o : Option (List Binding)) → joined (Some found) (joined (Some bs) o) ≡ joined (Some (found ++ bs)) o
-joined-some found bs None = refl
-joined-some found bs (Some rest) = ap Some (sym (append_assoc found bs rest))
+pub none_there : {A : Type 0} (o : Option A) → ((x : A) → o ≡ Some x → ⊥) → o ≡ None
+none_there None h = refl
+none_there (Some x) h = absurd (h x refl)
+
+pub joined_assoc : (a b c : Option (List Binding)) → joined (joined a b) c ≡ joined a (joined b c)
+joined_assoc None b c = refl
+joined_assoc (Some xs) None c = refl
+joined_assoc (Some xs) (Some ys) None = refl
+joined_assoc (Some xs) (Some ys) (Some zs) = ap Some (append_assoc xs ys zs)
+
+joined-some : (found bs : List Binding) (o : Option (List Binding)) → joined (Some found) (joined (Some bs) o) ≡ joined (Some (found ++ bs)) o
+joined-some found bs o = sym (joined_assoc (Some found) (Some bs) o)
+
+pub lacking : (o : Option (List Binding)) → joined o None ≡ None
+lacking None = refl
+lacking (Some bs) = refl
 
 pub joined-none : (o : Option (List Binding)) → joined (Some []) o ≡ o
 joined-none None = refl
@@ -100,17 +107,12 @@ abbrev pub element_size : Syntax → Element → ℕ
 element_size code (element.Node n) = 1 + node_size code n.0
 element_size code (element.Token t) = 0
 
--- the largest of elements
-abbrev pub largest : Syntax → List Element → ℕ
-largest code [] = 0
-largest code (x ∷ xs) = max (element_size code x) (largest code xs)
-
-abbrev pub elements_size : Syntax → List Element → ℕ
-elements_size code xs = 1 + largest code xs
-
 pub smaller_below : (code : Syntax) (n : ℕ) (p : Element) → HasNode code n → IsBelow code n p → element_size code p < children_size code n
 smaller_below code n (element.Node m) has b = let lt = smaller code n m.0 has b.1 in omega arith
 smaller_below code n (element.Token t) has b = omega arith
+
+pub node-smaller : (code : Syntax) (n : ℕ) (node : NodeNo) → HasNode code n → IsNodeBelow code n node → children_size code node.0 < lists_size code n
+node-smaller code n node has below = let lt = smaller code n node.0 has below.1 in omega arith
 
 pub element-smaller : (code : Syntax) (n : ℕ) (before ps : List Element) (p : Element) → HasNode code n → All (IsBelow code n) before → AreKept before (p ∷ ps)
     → element_size code p < children_size code n
@@ -146,209 +148,111 @@ pub placeholder-lacks : (rule : ResolvedKind) (code : Syntax) (m : ℕ) (old : L
 placeholder-lacks rule code m old i ck b ck_is b_is unmet =
     other refl (placeholder-unmet rule i (node_of code m) (ap (meets rule i) (sym ck_is) ∙ sym b_is ∙ unmet))
 
--- ** Pair by pair.
+-- ** One after the other.
 
-module _ (inner : Binder) where
-  -- the pairs so far, where ps and cs are still to come
-  pub record PairedSoFar (pattern code : Syntax) (n m : ℕ) (whole : Option (List Binding)) (ps cs : List Element) (old out : List Binding) : Type 0 where
-    pub bound : List Binding
-    pub comes_to : whole ≡ joined (Some bound) (pairs_by inner (bare (map (part_of pattern) ps)) (bare (map (part_of code) cs)))
-    pub out_is : out ≡ old ++ bound
-    pub below : All (IsBelow pattern n) ps
-    pub beside : All (IsBelow code m) cs
+-- so far these were bound, and `rest` is still to come
+pub record IsBoundSoFar (whole rest : Option (List Binding)) (old out : List Binding) : Type 0 where
+  pub bound : List Binding
+  pub comes_to : whole ≡ joined (Some bound) rest
+  pub out_is : out ≡ old ++ bound
 
-  module _ (pattern code : Syntax) (n m : ℕ) (whole : Option (List Binding)) where
-    pub paired-starts : (lent : Syntax) (used : Option Res) (ps cs : List Element) (old : List Binding) → lent ≡ pattern
-        → whole ≡ counted_by inner used (node_of pattern n) (node_of code m)
-        → map (part_of lent) ps ≡ counted used (arguments_of (node_of lent n)) (parts_of (node_of lent n)) → All (IsBelow lent n) ps
-        → map (part_of code) cs ≡ counted used (arguments_of (node_of code m)) (parts_of (node_of code m)) → All (IsBelow code m) cs
-        → PairedSoFar pattern code n m whole ps cs old old
-    paired-starts lent used ps cs old lent_is whole_is ps_are below cs_are beside =
-        let ps_counted : map (part_of pattern) ps ≡ counted used (arguments_of (node_of pattern n)) (parts_of (node_of pattern n)) =
-        subst (λ s. map (part_of s) ps ≡ counted used (arguments_of (node_of s n)) (parts_of (node_of s n))) lent_is ps_are
-        in
-        record {
-          bound = [];
-          comes_to =
-              whole_is
-              ∙ ap (λ parts. pairs_by inner (bare parts) (bare (counted used (arguments_of (node_of code m)) (parts_of (node_of code m))))) (sym ps_counted)
-              ∙ ap (λ parts. pairs_by inner (bare (map (part_of pattern) ps)) (bare parts)) (sym cs_are)
-              ∙ sym (joined-none (pairs_by inner (bare (map (part_of pattern) ps)) (bare (map (part_of code) cs))));
-          out_is = sym (append-nil old);
-          below = subst (λ s. All (IsBelow s n) ps) lent_is below;
-          beside = beside;
-        }
+pub bound-starts : (whole : Option (List Binding)) (old : List Binding) → IsBoundSoFar whole whole old old
+bound-starts whole old = record { bound = []; comes_to = sym (joined-none whole); out_is = sym (append-nil old) }
 
-    -- what is to come where the next of both sides have come
-    next_pair : (p c : Element) (ps cs before beside : List Element) (old out : List Binding)
-        → (so_far : PairedSoFar pattern code n m whole before beside old out)
-        → bare (map (part_of pattern) before) ≡ part_of pattern p ∷ bare (map (part_of pattern) ps)
-        → bare (map (part_of code) beside) ≡ part_of code c ∷ bare (map (part_of code) cs)
-        → whole ≡ joined (Some so_far.bound) (joined (pair_by inner (part_of pattern p) (part_of code c)) (pairs_by inner (bare (map (part_of pattern) ps)) (bare (map (part_of code) cs))))
-    next_pair p c ps cs before beside old out so_far ps_come cs_come =
-        so_far.comes_to
-        ∙ ap (λ ps. joined (Some so_far.bound) (pairs_by inner ps (bare (map (part_of code) beside)))) ps_come
-        ∙ ap (λ cs. joined (Some so_far.bound) (pairs_by inner (part_of pattern p ∷ bare (map (part_of pattern) ps)) cs)) cs_come
-
-    turn_at : (p c : Element) (ps cs before beside : List Element) (old out new bs : List Binding)
-        → PairedSoFar pattern code n m whole before beside old out
-        → bare (map (part_of pattern) before) ≡ part_of pattern p ∷ bare (map (part_of pattern) ps) → AreKept before (p ∷ ps)
-        → bare (map (part_of code) beside) ≡ part_of code c ∷ bare (map (part_of code) cs) → AreKept beside (c ∷ cs)
-        → pair_by inner (part_of pattern p) (part_of code c) ≡ Some bs → new ≡ out ++ bs
-        → PairedSoFar pattern code n m whole ps cs old new
-    turn_at p c ps cs before beside old out new bs so_far ps_come ps_kept cs_come cs_kept is new_is =
-        record {
-          bound = so_far.bound ++ bs;
-          comes_to =
-              next_pair p c ps cs before beside old out so_far ps_come cs_come
-              ∙ ap (λ o. joined (Some so_far.bound) (joined o (pairs_by inner (bare (map (part_of pattern) ps)) (bare (map (part_of code) cs))))) is
-              ∙ joined-some so_far.bound bs (pairs_by inner (bare (map (part_of pattern) ps)) (bare (map (part_of code) cs)));
-          out_is = new_is ∙ ap (λ out. out ++ bs) so_far.out_is ∙ append_assoc old so_far.bound bs;
-          below = tail_has (IsBelow pattern n) p ps (ps_kept.below pattern n so_far.below);
-          beside = tail_has (IsBelow code m) c cs (cs_kept.below code m so_far.beside);
-        }
-
-    pub paired-turns : (p c : Element) (ps cs before beside : List Element) (old out new : List Binding) (b : Bool)
-        → PairedSoFar pattern code n m whole before beside old out
-        → bare (map (part_of pattern) before) ≡ part_of pattern p ∷ bare (map (part_of pattern) ps) → AreKept before (p ∷ ps)
-        → bare (map (part_of code) beside) ≡ part_of code c ∷ bare (map (part_of code) cs) → AreKept beside (c ∷ cs)
-        → Answers (pair_by inner (part_of pattern p) (part_of code c)) out new b → b ≡ true
-        → PairedSoFar pattern code n m whole ps cs old new
-    paired-turns p c ps cs before beside old out new b so_far ps_come ps_kept cs_come cs_kept (matched bs is found new_is) yes_matched =
-        turn_at p c ps cs before beside old out new bs so_far ps_come ps_kept cs_come cs_kept found new_is
-    paired-turns p c ps cs before beside old out new b so_far ps_come ps_kept cs_come cs_kept (other is none) yes_matched =
-        let e : true ≡ false = sym yes_matched ∙ is in cc
-
-    -- a pair that doesn't match
-    pub paired-differs : (p c : Element) (ps cs before beside : List Element) (old out new : List Binding) (b : Bool)
-        → PairedSoFar pattern code n m whole before beside old out
-        → bare (map (part_of pattern) before) ≡ part_of pattern p ∷ bare (map (part_of pattern) ps)
-        → bare (map (part_of code) beside) ≡ part_of code c ∷ bare (map (part_of code) cs)
-        → Answers (pair_by inner (part_of pattern p) (part_of code c)) out new b → b ≡ false
-        → Answers whole old new false
-    paired-differs p c ps cs before beside old out new b so_far ps_come cs_come (matched bs is found new_is) not_matched =
-        let e : true ≡ false = sym is ∙ not_matched in cc
-    paired-differs p c ps cs before beside old out new b so_far ps_come cs_come (other is none) not_matched =
-        other refl
-        (next_pair p c ps cs before beside old out so_far ps_come cs_come
-        ∙ ap (λ o. joined (Some so_far.bound) (joined o (pairs_by inner (bare (map (part_of pattern) ps)) (bare (map (part_of code) cs))))) none)
-
-    -- the code has no child more
-    pub paired-short : (p : Element) (ps before beside : List Element) (old out : List Binding)
-        → PairedSoFar pattern code n m whole before beside old out
-        → bare (map (part_of pattern) before) ≡ part_of pattern p ∷ bare (map (part_of pattern) ps) → bare (map (part_of code) beside) ≡ []
-        → Answers whole old out false
-    paired-short p ps before beside old out so_far ps_come none =
-        other refl
-        (so_far.comes_to
-        ∙ ap (λ ps. joined (Some so_far.bound) (pairs_by inner ps (bare (map (part_of code) beside)))) ps_come
-        ∙ ap (λ cs. joined (Some so_far.bound) (pairs_by inner (part_of pattern p ∷ bare (map (part_of pattern) ps)) cs)) none)
-
-    -- the pattern has no child more
-    pub paired-ends : (came : Option Element) (before beside cs : List Element) (old out : List Binding) (b : Bool)
-        → PairedSoFar pattern code n m whole before beside old out → bare (map (part_of pattern) before) ≡ []
-        → bare (map (part_of code) beside) ≡ map (part_of code) (option_to_list came) ++ bare (map (part_of code) cs) → IfNone came (cs ≡ []) → is_some came ≡ not b
-        → Answers whole old out b
-    paired-ends None before beside cs old out b so_far none cs_come last b_is =
-        matched so_far.bound (negated b false b_is)
-        (so_far.comes_to
-        ∙ ap (λ ps. joined (Some so_far.bound) (pairs_by inner ps (bare (map (part_of code) beside)))) none
-        ∙ ap (λ cs. joined (Some so_far.bound) (pairs_by inner [] cs)) (cs_come ∙ ap (λ cs. bare (map (part_of code) cs)) last)
-        ∙ ap Some (append-nil so_far.bound))
-        so_far.out_is
-    paired-ends (Some c) before beside cs old out b so_far none cs_come last b_is =
-        other (negated b true b_is)
-        (so_far.comes_to
-        ∙ ap (λ ps. joined (Some so_far.bound) (pairs_by inner ps (bare (map (part_of code) beside)))) none
-        ∙ ap (λ cs. joined (Some so_far.bound) (pairs_by inner [] cs)) cs_come)
-
--- ** Elements in two lists.
-
-pub at_place : (xs : List Element) (i : ℕ) (d : Element) → i < length xs → get_or xs i d ≡ get_or xs i (get_or xs i d)
-at_place xs i d less = get_or_default xs i d (get_or xs i d) less
-
-module _ (inner : Binder) (pattern code : Syntax) (ps cs : List Element) where
-  abbrev pub elements_by : Option (List Binding)
-  elements_by = pairs_by inner (map (part_of pattern) ps) (map (part_of code) cs)
-
-  -- the pairs in front of a place
-  pub record PairedUpTo (place : ℕ) (old out : List Binding) : Type 0 where
-    pub within : place ≤ length ps
-    pub bound : List Binding
-    pub comes_to : elements_by ≡ joined (Some bound) (pairs_by inner (map (part_of pattern) (drop place ps)) (map (part_of code) (drop place cs)))
-    pub out_is : out ≡ old ++ bound
-
-  module _ (long : length ps ≡ length cs) (place : ℕ) (p c : Element) (less : place < length ps) (p_is : p ≡ get_or ps place p) (c_is : c ≡ get_or cs place c) where
-    next_place : (bound : List Binding)
-        → joined (Some bound) (pairs_by inner (map (part_of pattern) (drop place ps)) (map (part_of code) (drop place cs)))
-        ≡ joined (Some bound)
-        (joined (pair_by inner (part_of pattern p) (part_of code c))
-        (pairs_by inner (map (part_of pattern) (drop (place + 1) ps)) (map (part_of code) (drop (place + 1) cs))))
-    next_place bound =
-        let within : place < length cs = omega arith in
-        ap (λ ps. joined (Some bound) (pairs_by inner (map (part_of pattern) ps) (map (part_of code) (drop place cs))))
-        (left_at ps place p less ∙ ap (λ x. x ∷ drop (place + 1) ps) (sym p_is))
-        ∙ ap (λ cs. joined (Some bound) (pairs_by inner (map (part_of pattern) (p ∷ drop (place + 1) ps)) (map (part_of code) cs)))
-        (left_at cs place c within ∙ ap (λ x. x ∷ drop (place + 1) cs) (sym c_is))
-
-    pub up_to-turns : (old out new : List Binding) (b : Bool) → PairedUpTo place old out
-        → Answers (pair_by inner (part_of pattern p) (part_of code c)) out new b → b ≡ true → PairedUpTo (place + 1) old new
-    up_to-turns old out new b so_far (matched bs is found new_is) yes_matched = record {
-      within = omega arith;
+module _ (whole : Option (List Binding)) (old out : List Binding) where
+  module _ (next rest : Option (List Binding)) (new : List Binding) (b : Bool) (so_far : IsBoundSoFar whole (joined next rest) old out) where
+    pub bound-turns : Answers next out new b → b ≡ true → IsBoundSoFar whole rest old new
+    bound-turns (matched bs is found new_is) holds = record {
       bound = so_far.bound ++ bs;
-      comes_to =
-          let rest = pairs_by inner (map (part_of pattern) (drop (place + 1) ps)) (map (part_of code) (drop (place + 1) cs)) in
-          so_far.comes_to ∙ next_place so_far.bound ∙ ap (λ o. joined (Some so_far.bound) (joined o rest)) found ∙ joined-some so_far.bound bs rest;
+      comes_to = so_far.comes_to ∙ ap (λ o. joined (Some so_far.bound) (joined o rest)) found ∙ joined-some so_far.bound bs rest;
       out_is = new_is ∙ ap (λ out. out ++ bs) so_far.out_is ∙ append_assoc old so_far.bound bs;
     }
-    up_to-turns old out new b so_far (other is none) yes_matched = let e : true ≡ false = sym yes_matched ∙ is in cc
+    bound-turns (other is none) holds = let e : true ≡ false = sym holds ∙ is in cc
 
-    pub up_to-differs : (old out new : List Binding) (b : Bool) → PairedUpTo place old out
-        → Answers (pair_by inner (part_of pattern p) (part_of code c)) out new b → b ≡ false → Answers elements_by old new false
-    up_to-differs old out new b so_far (matched bs is found new_is) not_matched = let e : true ≡ false = sym is ∙ not_matched in cc
-    up_to-differs old out new b so_far (other is none) not_matched =
-        let rest = pairs_by inner (map (part_of pattern) (drop (place + 1) ps)) (map (part_of code) (drop (place + 1) cs)) in
-        other refl (so_far.comes_to ∙ next_place so_far.bound ∙ ap (λ o. joined (Some so_far.bound) (joined o rest)) none)
+    pub bound-differs : Answers next out new b → b ≡ false → Answers whole old new false
+    bound-differs answers fails =
+        other refl (so_far.comes_to ∙ ap (λ o. joined (Some so_far.bound) (joined o rest)) (unmatched next out new b fails answers))
 
-  pub up_to-ends : (place : ℕ) (old out : List Binding) → length ps ≡ length cs → PairedUpTo place old out → length ps ≤ place → Answers elements_by old out true
-  up_to-ends place old out long so_far past =
-      matched so_far.bound refl
-      (so_far.comes_to
-      ∙ ap (λ ps. joined (Some so_far.bound) (pairs_by inner (map (part_of pattern) ps) (map (part_of code) (drop place cs)))) (drop_of_length-le ps past)
-      ∙ ap (λ cs. joined (Some so_far.bound) (pairs_by inner [] (map (part_of code) cs))) (drop_of_length-le cs (let past : length cs ≤ place = omega arith in past))
-      ∙ ap Some (append-nil so_far.bound))
-      so_far.out_is
+  pub bound-lacks : (rest : Option (List Binding)) → rest ≡ None → IsBoundSoFar whole rest old out → Answers whole old out false
+  bound-lacks rest none so_far = other refl (so_far.comes_to ∙ ap (joined (Some so_far.bound)) none)
+
+  pub bound-ends : IsBoundSoFar whole (Some []) old out → Answers whole old out true
+  bound-ends so_far = matched so_far.bound refl (so_far.comes_to ∙ ap Some (append-nil so_far.bound)) so_far.out_is
+
+-- ** Pair by pair.
+
+module _ (inner : Binder) (whole : Option (List Binding)) where
+  -- the pairs so far, where ps and cs are still to come
+  abbrev pub PairedSoFar : List Part → List Part → List Binding → List Binding → Type 0
+  PairedSoFar ps cs old out = IsBoundSoFar whole (pairs_by inner ps cs) old out
+
+  pub paired-starts : (ps cs before beside : List Part) (old : List Binding) → whole ≡ pairs_by inner before beside → ps ≡ before → cs ≡ beside
+      → PairedSoFar ps cs old old
+  paired-starts ps cs before beside old whole_is ps_are cs_are =
+      subst (λ rest. IsBoundSoFar whole rest old old)
+      (whole_is ∙ ap (λ ps. pairs_by inner ps beside) (sym ps_are) ∙ ap (pairs_by inner ps) (sym cs_are)) (bound-starts whole old)
+
+  module _ (before beside : List Part) (old out : List Binding) (so_far : PairedSoFar before beside old out) where
+    -- where the next of both sides have come
+    next_pair : (p c : Part) (ps cs : List Part) → before ≡ p ∷ ps → beside ≡ c ∷ cs
+        → IsBoundSoFar whole (joined (pair_by inner p c) (pairs_by inner ps cs)) old out
+    next_pair p c ps cs ps_come cs_come =
+        subst (λ rest. IsBoundSoFar whole rest old out) (ap (λ ps. pairs_by inner ps beside) ps_come ∙ ap (pairs_by inner (p ∷ ps)) cs_come) so_far
+
+    pub paired-turns : (p c : Part) (ps cs : List Part) (new : List Binding) (b : Bool) → before ≡ p ∷ ps → beside ≡ c ∷ cs
+        → Answers (pair_by inner p c) out new b → b ≡ true → PairedSoFar ps cs old new
+    paired-turns p c ps cs new b ps_come cs_come answers holds =
+        bound-turns whole old out (pair_by inner p c) (pairs_by inner ps cs) new b (next_pair p c ps cs ps_come cs_come) answers holds
+
+    -- a pair that doesn't match
+    pub paired-differs : (p c : Part) (ps cs : List Part) (new : List Binding) (b : Bool) → before ≡ p ∷ ps → beside ≡ c ∷ cs
+        → Answers (pair_by inner p c) out new b → b ≡ false → Answers whole old new false
+    paired-differs p c ps cs new b ps_come cs_come answers fails =
+        bound-differs whole old out (pair_by inner p c) (pairs_by inner ps cs) new b (next_pair p c ps cs ps_come cs_come) answers fails
+
+    -- the code has nothing more
+    pub paired-short : (p : Part) (ps : List Part) → before ≡ p ∷ ps → beside ≡ [] → Answers whole old out false
+    paired-short p ps ps_come none =
+        bound-lacks whole old out (pairs_by inner before beside) (ap (λ ps. pairs_by inner ps beside) ps_come ∙ ap (pairs_by inner (p ∷ ps)) none) so_far
+
+    -- the pattern has nothing more
+    module _ (none : before ≡ []) where
+      ended : (cs : List Part) → beside ≡ cs → IsBoundSoFar whole (pairs_by inner [] cs) old out
+      ended cs are =
+          subst (λ rest. IsBoundSoFar whole rest old out) (ap (λ ps. pairs_by inner ps beside) none ∙ ap (pairs_by inner []) are) so_far
+
+      pub both-end : (b : Bool) → beside ≡ [] → false ≡ not b → Answers whole old out b
+      both-end b last b_is = subst (Answers whole old out) (sym (negated b false b_is)) (bound-ends whole old out (ended [] last))
+
+      pub one-left : (c : Part) (cs : List Part) (b : Bool) → beside ≡ c ∷ cs → true ≡ not b → Answers whole old out b
+      one-left c cs b more b_is = subst (Answers whole old out) (sym (negated b true b_is)) (bound-lacks whole old out None refl (ended (c ∷ cs) more))
+
+      pub paired-ends : (code : Syntax) (came : Option Element) (cs : List Element) (b : Bool)
+          → beside ≡ map (part_of code) (option_to_list came) ++ bare (map (part_of code) cs) → IfNone came (cs ≡ []) → is_some came ≡ not b
+          → Answers whole old out b
+      paired-ends code None cs b come last b_is = both-end b (come ∙ ap (λ cs. bare (map (part_of code) cs)) last) b_is
+      paired-ends code (Some c) cs b come last b_is = one-left (part_of code c) (bare (map (part_of code) cs)) b come b_is
+
+-- ** The children of both nodes.
+
+module _ (inner : Binder) (pattern code : Syntax) (n m : ℕ) (used : Option Res) where
+  pub children-start : (lent : Syntax) (ps cs : List Element) (old : List Binding) → lent ≡ pattern
+      → map (part_of lent) ps ≡ counted used (arguments_of (node_of lent n)) (parts_of (node_of lent n))
+      → map (part_of code) cs ≡ counted used (arguments_of (node_of code m)) (parts_of (node_of code m))
+      → PairedSoFar inner (counted_by inner used (node_of pattern n) (node_of code m)) (bare (map (part_of pattern) ps)) (bare (map (part_of code) cs)) old old
+  children-start lent ps cs old lent_is ps_are cs_are =
+      let both = counted_sides used (node_of pattern n) (node_of code m) in
+      paired-starts inner (counted_by inner used (node_of pattern n) (node_of code m)) (bare (map (part_of pattern) ps)) (bare (map (part_of code) cs))
+      both.pattern both.code old refl
+      (ap bare (subst (λ s. map (part_of s) ps ≡ counted used (arguments_of (node_of s n)) (parts_of (node_of s n))) lent_is ps_are)) (ap bare cs_are)
 
 -- lists that are not as long don't pair
-unequal : (inner : Binder) (ps cs : List Part) → (length ps ≡ length cs → ⊥) → pairs_by inner ps cs ≡ None
+pub unequal : (inner : Binder) (ps cs : List Part) → (length ps ≡ length cs → ⊥) → pairs_by inner ps cs ≡ None
 unequal inner [] [] differ = absurd (differ refl)
 unequal inner [] (c ∷ cs) differ = refl
 unequal inner (p ∷ ps) [] differ = refl
 unequal inner (p ∷ ps) (c ∷ cs) differ =
     ap (joined (pair_by inner p c)) (unequal inner ps cs (λ same. differ (ap suc same))) ∙ lacking (pair_by inner p c)
-  where
-    lacking : (o : Option (List Binding)) → joined o None ≡ None
-    lacking None = refl
-    lacking (Some bs) = refl
-
-pub unequal-elements : (inner : Binder) (pattern code : Syntax) (ps cs : List Element) (old : List Binding) → (length ps ≡ length cs → ⊥)
-    → Answers (pairs_by inner (map (part_of pattern) ps) (map (part_of code) cs)) old old false
-unequal-elements inner pattern code ps cs old differ =
-    other refl
-    (unequal inner (map (part_of pattern) ps) (map (part_of code) cs)
-    (λ same. differ (sym (length-map ps (part_of pattern)) ∙ same ∙ length-map cs (part_of code))))
-
--- an element is no larger than the largest
-pub largest-at : (code : Syntax) (xs : List Element) (i : ℕ) (d : Element) → i < length xs → element_size code (get_or xs i d) ≤ largest code xs
-largest-at code [] i d less = absurd (omega arith)
-largest-at code (x ∷ xs) zero d less = omega arith
-largest-at code (x ∷ xs) (suc i) d less = omega (arith, largest-at code xs i d (omega arith))
-
-pub largest-below : (code : Syntax) (n : ℕ) (xs : List Element) → HasNode code n → All (IsBelow code n) xs → elements_size code xs < lists_size code n
-largest-below code n [] has below = omega arith
-largest-below code n (x ∷ xs) has below =
-    let here = smaller_below code n x has (below 0 x (omega arith)) in
-    omega (arith, here, largest-below code n xs has (tail_has (IsBelow code n) x xs below))
 
 -- ** Whether a node matches.
 
@@ -612,22 +516,6 @@ module _ (ms : Meanings) (tree : ℕ) (rule : ResolvedKind) where
       ∙ ap (λ o. can_be_call ms tree o c)
       (o_is ∙ ap (λ number. call_at rule.qualified_calls (record { 0 = number })) (sym (node_of-number pattern n.0 has)))
       ∙ ap (λ used. can_match ms tree rule used (node_of pattern n.0) c) (sym used_is)
-
-  -- ** A method call.
-
-  -- what is held is kept
-  pub kept-from : (pattern code : Syntax) (sides : MethodSides) (o : Option Sides) (old new held none : List Binding) (b : Bool) → none ≡ []
-      → Some (sides_at pattern code sides) ≡ o
-      → Answers (pairs_by (bindings_of ms tree rule) (map (part_of pattern) sides.pattern.items) (map (part_of code) sides.code.items)) none held b → b ≡ true
-      → new ≡ old ++ map (received sides.receiver) held
-      → Answers (option_and_then (sides_by (bindings_of ms tree rule)) o) old new true
-  kept-from pattern code sides o old new held none b is_none o_is (matched bs is found held_is) yes_matched new_is =
-      let same : held ≡ bs = held_is ∙ ap (λ none. none ++ bs) is_none in
-      matched (map (received sides.receiver) bs) refl
-      (ap (option_and_then (sides_by (bindings_of ms tree rule))) (sym o_is) ∙ ap (option_map (kept (Some sides.receiver))) found)
-      (new_is ∙ ap (λ held. old ++ map (received sides.receiver) held) same)
-  kept-from pattern code sides o old new held none b is_none o_is (other is lacks) yes_matched new_is =
-      let e : true ≡ false = sym yes_matched ∙ is in cc
 
   -- a placeholder, as it is answered alone
   pub placeholder-from : {E : Type 0} (result : Result Bool E) (pattern code : Syntax) (n m : ℕ) (old new : List Binding) (i : ℕ)

@@ -1,6 +1,6 @@
 //! A node's children, without those that do not count for a match.
 
-ghost use Rattle.std.specs.Prelude.{◌≡◌, ◌==◌, ◌∷◌, ◌++◌, [], true, false, All, IfNone, IfOk, None, length, map, option_to_list};
+ghost use Rattle.std.specs.Prelude.{◌≡◌, ◌==◌, ◌∷◌, ◌++◌, [], true, false, All, IfNone, None, length, map, option_to_list};
 ghost use Rattle.ssr_syntax_tree.specs.Places.{HasNode, HasElement, node_of, part_of, parts_of, elements_of};
 ghost use Rattle.ide_ssr_matching.specs.Bindings.{counted};
 ghost use Rattle.ide_ssr_token_trees.specs.Elements.{is_trivia_part};
@@ -13,7 +13,6 @@ use ide_ssr_token_trees::{closes, is_trivia};
 use ssr_base::Res;
 use ssr_syntax_kinds::SyntaxKind;
 use ssr_syntax_tree::{Children, Element, NodeNo, Tree};
-use std::alloc::{AllocError, Global};
 
 /// The children of a node that are left, while they are gone over.
 #[derive(Drop)]
@@ -91,7 +90,7 @@ impl<'a> Siblings<'a> {
     }
 
     /// The arguments of a path's last segment.
-    fn arguments(tree: &'a Tree, path: NodeNo) -> Siblings<'a>
+    pub(crate) fn arguments(tree: &'a Tree, path: NodeNo) -> Siblings<'a>
         requires { HasNode tree.now path.0 }
         ensures gives { map (part_of tree.now) (siblings_left result) ≡ arguments_of (node_of tree.now path.0) }
         ensures below { All (IsBelow tree.now path.0) (siblings_left result) }
@@ -175,22 +174,4 @@ pub(crate) fn lacks_arguments(tree: &Tree, path: NodeNo) -> bool
 {
     let mut siblings = Siblings::arguments(tree, path);
     siblings.next_bare(tree).is_none()
-}
-
-/// The bare arguments of a path's last segment.
-pub(crate) fn bare_arguments(
-    alloc: Global,
-    tree: &Tree,
-    path: NodeNo,
-) -> Result<Vec<Element>, AllocError>
-    requires { HasNode tree.now path.0 }
-    ensures gives { IfOk result (λ v. map (part_of tree.now) v.items ≡ bare (arguments_of (node_of tree.now path.0))) }
-    ensures below { IfOk result (λ v. All (IsBelow tree.now path.0) v.items) }
-{
-    let mut siblings = Siblings::arguments(tree, path);
-    let mut elements = Vec::new(alloc);
-    while let Some(element) = siblings.next_bare(tree) {
-        elements.push(element)?;
-    }
-    Ok(elements)
 }

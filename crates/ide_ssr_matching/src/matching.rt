@@ -9,10 +9,11 @@ ghost use Rattle.ide_ssr_matching.specs.Calls.{child_nodes, method_sides};
 ghost use Rattle.ide_ssr_matching.specs.Records.{named_nodes, named_pairs};
 ghost use Rattle.ide_ssr_found.specs.Receivers.{received};
 ghost use Rattle.ide_ssr_token_trees.specs.Bindings.{Answers};
-ghost use Rattle.ide_ssr_matching.specs.Private.Bindings.{counted_by};
+ghost use Rattle.ide_ssr_matching.specs.Private.Bindings.{counted_by, generics_by, arguments_by};
+ghost use Rattle.ide_ssr_matching.specs.Private.Calls.{method_at, arguments_at, HasMethodNodes};
 ghost use Rattle.ide_ssr_matching.specs.Private.Records.{fields_by};
 
-use crate::calls::{can_be_call, method_sides};
+use crate::calls::{CalledNodes, MethodArguments, MethodNodes, can_be_call, method_sides};
 use crate::child_nodes::ChildNodes;
 use crate::children::Siblings;
 use crate::records::{are_as_many, are_different, counterpart, is_named};
@@ -177,16 +178,16 @@ fn method_matches<S: Semantics>(
     let Some(sides) = method_sides(alloc, semantics, rule, call, number, code, p, c)? else {
         return Ok(false);
     };
+    let called = sides.called;
+    let method = sides.method;
     let mut held = Vec::new(alloc);
-    if !elements_match(
-        alloc,
-        semantics,
-        rule,
-        number,
-        code,
-        &sides.pattern,
-        &sides.code,
-        &mut held,
+    if !generics_match(
+        alloc, semantics, rule, number, code, called, method, &mut held,
+    )? {
+        return Ok(false);
+    }
+    if !arguments_match(
+        alloc, semantics, rule, number, code, called, method, &mut held,
     )? {
         return Ok(false);
     }
@@ -194,36 +195,65 @@ fn method_matches<S: Semantics>(
     Ok(true)
 }
 
-/// Whether elements of the code match those of the rule's pattern, one by one, with none left over; if so, `out` gets what the
-/// placeholders bind.
+/// Whether the generic arguments of a method call of the code match those of the callee of a call of the rule's pattern: they
+/// are there on both sides or on neither. If so, `out` gets what the placeholders bind.
 #[cycle(matching)]
-fn elements_match<S: Semantics>(
+fn generics_match<S: Semantics>(
     alloc: Global,
     semantics: &S,
     rule: &ResolvedRule,
     number: u32,
     code: &Tree,
-    ps: &[Element],
-    cs: &[Element],
+    called: CalledNodes,
+    method: MethodNodes,
     out: &mut Vec<Binding>,
 ) -> Result<bool, AllocError>
-    requires ps_in { All (HasElement rule.now.pattern) ps.now }
-    requires cs_in { All (HasElement code.now) cs.now }
-    ensures { IfOk result (λ answer. Answers (pairs_by (bindings_of (S.meanings semantics.now) number rule.now) (map (part_of rule.now.pattern) ps.now) (map (part_of code.now) cs.now)) out.old.items out.new.items answer) }
+    requires path_in { HasNode rule.now.pattern called.path.0 }
+    requires method_in { HasMethodNodes code.now method }
+    ensures { IfOk result (λ answer. Answers (generics_by (bindings_of (S.meanings semantics.now) number rule.now) (node_of rule.now.pattern called.path.0) (method_at code.now method).generics) out.old.items out.new.items answer) }
 {
-    if ps.len() != cs.len() {
-        return Ok(false);
-    }
-    let mut place = 0;
-    while place < ps.len() {
-        if !pair_matches(
-            alloc, semantics, rule, number, code, ps[place], cs[place], out,
-        )? {
+    let pattern = rule.pattern();
+    let mut arguments = Siblings::arguments(pattern, called.path);
+    let mut left = method.generics;
+    while let Some(first) = arguments.next_bare(pattern) {
+        let Some(other) = left.take() else {
+            return Ok(false);
+        };
+        let c = Element::Node(other);
+        if !pair_matches(alloc, semantics, rule, number, code, first, c, out)? {
             return Ok(false);
         }
-        place += 1;
     }
-    Ok(true)
+    Ok(left.is_none())
+}
+
+/// Whether the receiver of a method call of the code and the arguments behind it match the arguments of a call of the rule's
+/// pattern, one by one, with none left over; if so, `out` gets what the placeholders bind.
+#[cycle(matching)]
+fn arguments_match<S: Semantics>(
+    alloc: Global,
+    semantics: &S,
+    rule: &ResolvedRule,
+    number: u32,
+    code: &Tree,
+    called: CalledNodes,
+    method: MethodNodes,
+    out: &mut Vec<Binding>,
+) -> Result<bool, AllocError>
+    requires list_in { HasNode rule.now.pattern called.list.0 }
+    requires method_in { HasMethodNodes code.now method }
+    ensures { IfOk result (λ answer. Answers (arguments_by (bindings_of (S.meanings semantics.now) number rule.now) (child_nodes (node_of rule.now.pattern called.list.0)) (arguments_at code.now method)) out.old.items out.new.items answer) }
+{
+    let mut cs = MethodArguments::of(code, method);
+    for first in ChildNodes::of(rule.pattern(), called.list) {
+        let Some(other) = cs.next() else {
+            return Ok(false);
+        };
+        if !node_matches(alloc, semantics, rule, number, code, first, other, out)? {
+            return Ok(false);
+        }
+    }
+    Ok(cs.next().is_none())
 }
 
 /// Whether the node `c` of the code is of the kind of the node `p` of the rule's pattern, which is no placeholder, and matches

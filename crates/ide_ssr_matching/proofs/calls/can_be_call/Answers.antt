@@ -1,4 +1,4 @@
-use Rattle.ide_ssr_matching.proofs.NodeLists.{first_told, none_told}
+use Rattle.ide_ssr_matching.proofs.CallsTold.{first_told, none_told}
 use Rattle.ide_ssr_matching.proofs.calls.can_be_call.Goals as goal
 
 pub returns-in_ok-count-in-Some-first_argument : goal.returns-in_ok-count-in-Some-first_argument

@@ -1,26 +1,26 @@
-use Rattle.std.proofs.Common.{◌≡◌, refl, sym, ap, subst, ◌∙◌, rules, arith, ◌<◌, ◌≤◌, length, get_or, true, false, All, None, is_some}
+use Rattle.std.proofs.Common.{◌≡◌, refl, sym, ap, subst, ◌∙◌, rules, arith, ◌<◌, true, false, All, None, is_some}
 use Rattle.std.specs.List.{find}
-use Rattle.std.specs.Option.{IfSome, option_map}
+use Rattle.std.specs.Option.{IfSome, option_and_then}
 use Rattle.std.proofs.lemmas.Bool.{and_right}
 use Rattle.std.proofs.lemmas.List.Elements.{All-head}
 use Rattle.ssr_syntax_kinds.specs.declared.kinds.SyntaxKind.TheVariants as k
 use Rattle.ssr_syntax_kinds.specs.Kinds.{same_kind}
-use Rattle.ssr_syntax_tree.specs.declared.number.Element.{Element}
 use Rattle.ssr_syntax_tree.specs.declared.number.Element.TheVariants as element
 use Rattle.ssr_syntax_tree.specs.Places.{HasNode, HasElement, node_of}
 use Rattle.ide_ssr_resolving.specs.QualifiedCalls.{call_at}
 use Rattle.ide_ssr_resolving.specs.Used.{res_at}
-use Rattle.ide_ssr_matching.specs.TokenTrees.{is_tree}
 use Rattle.ide_ssr_matching.specs.Bindings.{bindings_of}
+use Rattle.ide_ssr_matching.specs.TokenTrees.{is_tree}
 use Rattle.ide_ssr_matching.specs.Calls.{child_nodes}
 use Rattle.ide_ssr_matching.specs.Records.{have_same_label}
-use Rattle.ide_ssr_matching.specs.Private.Calls.{sides_at, AreSidesBelow}
+use Rattle.ide_ssr_matching.specs.Private.Calls.{called_at, method_at, HasMethodNodes, sides_at, AreSidesBelow}
 use Rattle.ide_ssr_matching.specs.Private.ChildNodes.{nodes_at, IsNodeBelow}
-use Rattle.ide_ssr_matching.specs.Private.Children.{IsBelow}
-use Rattle.ide_ssr_matching.proofs.Bare.{below_has}
-use Rattle.ide_ssr_matching.proofs.Pairs.{placeholder-from, trees-from, spoiled-from, parts-from, like-from, method-from, other_kind-from, unpaired-from, kept-from, paired-starts, paired-turns, paired-differs, paired-short, paired-ends, up_to-turns, up_to-differs, up_to-ends, unequal-elements, at_place, lent_next, lent_none, none_left, tokens-answer, element-smaller, first-below, smaller_below, largest, largest-at, largest-below, element_size, elements_size, children_size, paired-from, used-from, named-from, unnamed-from, lists_size}
-use Rattle.ide_ssr_matching.proofs.ChildNodes.{nodes_behind}
+use Rattle.ide_ssr_matching.specs.Private.Children.{siblings_left, IsBelow}
+use Rattle.ide_ssr_matching.proofs.Bare.{tail_has}
+use Rattle.ide_ssr_matching.proofs.ChildNodes.{node_first, nodes_behind}
 use Rattle.ide_ssr_matching.proofs.Fields.{named-differs, named-matches, fields-starts, fields-turn, fields-end}
+use Rattle.ide_ssr_matching.proofs.CallPairs.{node_parts, generics-start, generics-none, generics-taken, generics-end, arguments-start, nodes-next, nodes-end, generics-differ, arguments-differ, both-match}
+use Rattle.ide_ssr_matching.proofs.Pairs.{none_there, placeholder-from, trees-from, spoiled-from, parts-from, like-from, method-from, other_kind-from, unpaired-from, children-start, paired-turns, paired-differs, paired-short, paired-ends, lent_next, lent_none, none_left, tokens-answer, element-smaller, node-smaller, smaller_below, first-below, element_size, children_size, paired-from, used-from, named-from, unnamed-from, lists_size}
 use Rattle.ide_ssr_matching.proofs.matching.+matching.Goals as goal
 
 pub node_matches-returns-in-Some : goal.node_matches-returns-in-Some
@@ -163,12 +163,20 @@ fields_match-returns g t c =
 
 pub children_match-loop-first-init : goal.children_match-loop-first-init
 children_match-loop-first-init g t c =
-    paired-starts _ c.args.rule.now.pattern c.args.code.now c.args.p.0 c.args.c.0 _ _ c.args.used _ _ _ c.pattern-pattern.ensures refl
-    c.counted-ps.ensures.gives c.counted-ps.ensures.below c.counted-cs.ensures.gives c.counted-cs.ensures.below
+    let pattern = c.args.rule.now.pattern in
+    let inner = bindings_of (g.S.Semantics.meanings c.args.semantics.now) c.args.number c.args.rule.now in
+    record {
+      paired =
+          children-start inner pattern c.args.code.now c.args.p.0 c.args.c.0 c.args.used _ _ _ _ c.pattern-pattern.ensures
+          c.counted-ps.ensures.gives c.counted-cs.ensures.gives;
+      below =
+          subst (λ s. All (IsBelow s c.args.p.0) (siblings_left c.counted-ps.result)) c.pattern-pattern.ensures c.counted-ps.ensures.below;
+      beside = c.counted-cs.ensures.below;
+    }
 
 pub children_match-returns-in_default-next_bare : goal.children_match-returns-in_default-next_bare
 children_match-returns-in_default-next_bare g t c =
-    paired-short _ _ _ _ _ _ c.in-Some.first _ _ _ _ _ c.loop-first.invariant
+    paired-short _ _ _ _ _ _ c.loop-first.invariant.paired _ _
     (lent_next _ _ c.in-Some.first _ _ c.pattern-pattern.ensures c.in-Some.ensures.gives)
     (none_left _ _ _ c.in_default-next_bare.ensures.gives c.in_default-next_bare.ensures.none)
 
@@ -187,7 +195,7 @@ children_match-pair_matches-requires g t c =
 
 pub children_match-returns-then-not-branch : goal.children_match-returns-then-not-branch
 children_match-returns-then-not-branch g t c =
-    paired-differs _ _ _ _ _ _ c.in-Some.first c.in-Some-next_bare.other _ _ _ _ _ _ _ _ c.loop-first.invariant
+    paired-differs _ _ _ _ _ _ c.loop-first.invariant.paired _ _ _ _ _ _
     (lent_next _ _ c.in-Some.first _ _ c.pattern-pattern.ensures c.in-Some.ensures.gives)
     c.in-Some-next_bare.ensures.gives
     c.in_ok-pair_matches.ensures
@@ -195,18 +203,30 @@ children_match-returns-then-not-branch g t c =
 
 pub children_match-loop-first-preserved : goal.children_match-loop-first-preserved
 children_match-loop-first-preserved g t c =
-    paired-turns _ _ _ _ _ _ c.in-Some.first c.in-Some-next_bare.other _ _ _ _ _ _ _ _ c.loop-first.invariant
-    (lent_next _ _ c.in-Some.first _ _ c.pattern-pattern.ensures c.in-Some.ensures.gives)
-    c.in-Some.ensures.kept
-    c.in-Some-next_bare.ensures.gives
-    c.in-Some-next_bare.ensures.kept
-    c.in_ok-pair_matches.ensures
-    c.if-not-branch.false
+    let pattern = c.args.rule.now.pattern in
+    let code = c.args.code.now in
+    let n = c.args.p.0 in
+    let m = c.args.c.0 in
+    record {
+      paired =
+          paired-turns _ _ _ _ _ _ c.loop-first.invariant.paired _ _ _ _ _ _
+          (lent_next _ _ c.in-Some.first _ _ c.pattern-pattern.ensures c.in-Some.ensures.gives)
+          c.in-Some-next_bare.ensures.gives
+          c.in_ok-pair_matches.ensures
+          c.if-not-branch.false;
+      below =
+          tail_has (IsBelow pattern n) c.in-Some.first (siblings_left c.next_bare.new.self)
+          (c.in-Some.ensures.kept.below pattern n c.loop-first.invariant.below);
+      beside =
+          tail_has (IsBelow code m) c.in-Some-next_bare.other (siblings_left c.next_bare-in-Some.new.self)
+          (c.in-Some-next_bare.ensures.kept.below code m c.loop-first.invariant.beside);
+    }
 
 pub children_match-returns : goal.children_match-returns
 children_match-returns g t c =
-    paired-ends _ _ _ _ _ _ c.next_bare-2.result _ _ _ _ _ _ c.loop-first.invariant
+    paired-ends _ _ _ _ _ _ c.loop-first.invariant.paired
     (lent_none _ _ _ _ c.pattern-pattern.ensures c.in_default.ensures.gives c.in_default.ensures.none)
+    _ c.next_bare-2.result _ _
     c.next_bare-2.ensures.gives
     c.next_bare-2.ensures.none
     c.is_none.ensures
@@ -215,65 +235,188 @@ pub pair_matches-returns-in-Token-Token : goal.pair_matches-returns-in-Token-Tok
 pair_matches-returns-in-Token-Token g t c =
     tokens-answer (g.S.Semantics.meanings c.args.semantics.now) c.args.number c.args.rule.now c.args.rule.now.pattern c.pattern.result.now c.args.code.now c.args.p c.args.c _ _ _ _ c.in-Token-Token.is-0 c.in-Token-Token.is-1 c.pattern.ensures c.tokens_match.ensures
 
-pub elements_match-returns-then-ps-cs : goal.elements_match-returns-then-ps-cs
-elements_match-returns-then-ps-cs g t c = unequal-elements _ c.args.rule.now.pattern c.args.code.now c.args.ps.now c.args.cs.now _ c.if-ps-cs.true
-
-pub elements_match-pair_matches-requires : goal.elements_match-pair_matches-requires
-elements_match-pair_matches-requires g t c =
-    let none : Element = element.Node (record { 0 = 0 }) in
-    let ps = c.args.ps.now in
-    let cs = c.args.cs.now in
-    let low : c.loop-place.place < length ps = omega (arith, c.loop-place-test.true) in
-    let beside : c.loop-place.place < length cs = omega (arith, c.if-ps-cs.false) in
-    let le : element_size c.args.rule.now.pattern (get_or ps c.loop-place.place none) ≤ largest c.args.rule.now.pattern ps =
-    largest-at c.args.rule.now.pattern ps c.loop-place.place none low
-    in
-    let has_p : HasElement c.args.rule.now.pattern (get_or ps c.loop-place.place none) = c.requires.ps_in c.loop-place.place none low in
-    let has_c : HasElement c.args.code.now (get_or cs c.loop-place.place none) = c.requires.cs_in c.loop-place.place none beside in
-    λ κs lives. (omega arith, search (rules, lives, has_p, has_c))
-
-pub elements_match-loop-place-preserved : goal.elements_match-loop-place-preserved
-elements_match-loop-place-preserved g t c =
-    let none : Element = element.Node (record { 0 = 0 }) in
-    up_to-turns _ c.args.rule.now.pattern c.args.code.now c.args.ps.now c.args.cs.now c.if-ps-cs.false c.loop-place.place
-    (get_or c.args.ps.now c.loop-place.place none) (get_or c.args.cs.now c.loop-place.place none) (omega (arith, c.loop-place-test.true))
-    (at_place c.args.ps.now c.loop-place.place none (omega (arith, c.loop-place-test.true)))
-    (at_place c.args.cs.now c.loop-place.place none (omega (arith, c.loop-place-test.true, c.if-ps-cs.false)))
-    _ _ _ _ c.loop-place.invariant c.in_ok-pair_matches.ensures c.if-not-branch.false
-
-pub elements_match-returns-then-not-branch : goal.elements_match-returns-then-not-branch
-elements_match-returns-then-not-branch g t c =
-    let none : Element = element.Node (record { 0 = 0 }) in
-    up_to-differs _ c.args.rule.now.pattern c.args.code.now c.args.ps.now c.args.cs.now c.if-ps-cs.false c.loop-place.place
-    (get_or c.args.ps.now c.loop-place.place none) (get_or c.args.cs.now c.loop-place.place none) (omega (arith, c.loop-place-test.true))
-    (at_place c.args.ps.now c.loop-place.place none (omega (arith, c.loop-place-test.true)))
-    (at_place c.args.cs.now c.loop-place.place none (omega (arith, c.loop-place-test.true, c.if-ps-cs.false)))
-    _ _ _ _ c.loop-place.invariant c.in_ok-pair_matches.ensures c.if-not-branch.true
-
-pub elements_match-returns : goal.elements_match-returns
-elements_match-returns g t c =
-    up_to-ends _ c.args.rule.now.pattern c.args.code.now c.args.ps.now c.args.cs.now c.loop-place.place _ _ c.if-ps-cs.false c.loop-place.invariant
-    (omega (arith, c.loop-place-test.false))
-
-pub method_matches-elements_match-requires : goal.method_matches-elements_match-requires
-method_matches-elements_match-requires g t c =
+pub method_matches-generics_match-requires : goal.method_matches-generics_match-requires
+method_matches-generics_match-requires g t c =
     let pattern = c.args.rule.now.pattern in
     let code = c.args.code.now in
-    let below = subst (λ o. IfSome o (AreSidesBelow pattern code c.args.p.0 c.args.c.0)) c.in-Some.is c.in_ok-sides.ensures.below in
-    let ps_below = subst (All (IsBelow pattern c.args.p.0)) (sym c.deref.ensures.value) below.in_pattern in
-    let cs_below = subst (All (IsBelow code c.args.c.0)) (sym c.deref-2.ensures.value) below.in_code in
-    let lt : elements_size pattern c.deref.result.now < lists_size pattern c.args.p.0 =
-    largest-below pattern c.args.p.0 c.deref.result.now c.requires.p_in ps_below
+    let n = c.args.p.0 in
+    let sides = c.in-Some.sides in
+    let below = subst (λ o. IfSome o (AreSidesBelow pattern code n)) c.in-Some.is c.in_ok-sides.ensures.below in
+    let lt : children_size pattern sides.called.path.0 < lists_size pattern n =
+    node-smaller pattern n sides.called.path c.requires.p_in below.called.path
     in
-    let has_ps : All (HasElement pattern) c.deref.result.now = below_has pattern c.args.p.0 c.deref.result.now ps_below in
-    let has_cs : All (HasElement code) c.deref-2.result.now = below_has code c.args.c.0 c.deref-2.result.now cs_below in
-    λ κs lives. (omega arith, search (rules, lives, has_ps, has_cs))
+    let has_path : HasNode pattern sides.called.path.0 = below.called.path.0 in
+    let has_method : HasMethodNodes code sides.method = below.method in
+    λ κs lives. (omega arith, search (rules, lives, has_path, has_method))
+
+pub method_matches-arguments_match-requires : goal.method_matches-arguments_match-requires
+method_matches-arguments_match-requires g t c =
+    let pattern = c.args.rule.now.pattern in
+    let code = c.args.code.now in
+    let n = c.args.p.0 in
+    let sides = c.in-Some.sides in
+    let below = subst (λ o. IfSome o (AreSidesBelow pattern code n)) c.in-Some.is c.in_ok-sides.ensures.below in
+    let lt : children_size pattern sides.called.list.0 < lists_size pattern n =
+    node-smaller pattern n sides.called.list c.requires.p_in below.called.list
+    in
+    let has_list : HasNode pattern sides.called.list.0 = below.called.list.0 in
+    let has_method : HasMethodNodes code sides.method = below.method in
+    λ κs lives. (omega arith, search (rules, lives, has_list, has_method))
+
+pub method_matches-returns-then-not-branch : goal.method_matches-returns-then-not-branch
+method_matches-returns-then-not-branch g t c =
+    let pattern = c.args.rule.now.pattern in
+    let code = c.args.code.now in
+    let sides = c.in-Some.sides in
+    generics-differ (bindings_of (g.S.Semantics.meanings c.args.semantics.now) c.args.number c.args.rule.now) (called_at pattern sides.called)
+    (method_at code sides.method) sides.receiver _ (ap (option_and_then (sides_at pattern code)) (sym c.in-Some.is) ∙ c.in_ok-sides.ensures.sides)
+    _ _ _ _ c.in_ok-generics_match.ensures c.if-not-branch.true
+
+pub method_matches-returns-then-not-branch-2 : goal.method_matches-returns-then-not-branch-2
+method_matches-returns-then-not-branch-2 g t c =
+    let pattern = c.args.rule.now.pattern in
+    let code = c.args.code.now in
+    let sides = c.in-Some.sides in
+    arguments-differ (bindings_of (g.S.Semantics.meanings c.args.semantics.now) c.args.number c.args.rule.now) (called_at pattern sides.called)
+    (method_at code sides.method) sides.receiver _ (ap (option_and_then (sides_at pattern code)) (sym c.in-Some.is) ∙ c.in_ok-sides.ensures.sides)
+    _ _ _ _ c.in_ok-arguments_match.ensures c.if-not-branch-2.true
 
 pub method_matches-returns : goal.method_matches-returns
 method_matches-returns g t c =
     let pattern = c.args.rule.now.pattern in
     let code = c.args.code.now in
-    kept-from (g.S.Semantics.meanings c.args.semantics.now) c.args.number c.args.rule.now pattern code c.in-Some.sides _ _ _ _ _ _ c.new-held.ensures.items
-    (ap (option_map (sides_at pattern code)) (sym c.in-Some.is) ∙ c.in_ok-sides.ensures.sides)
-    (rw (c.deref.ensures.value, c.deref-2.ensures.value) at c.in_ok-elements_match.ensures) c.if-not-branch.false
-    (rw c.deref-3.ensures.value at c.in_ok-keep.ensures)
+    let sides = c.in-Some.sides in
+    both-match (bindings_of (g.S.Semantics.meanings c.args.semantics.now) c.args.number c.args.rule.now) (called_at pattern sides.called)
+    (method_at code sides.method) sides.receiver _ (ap (option_and_then (sides_at pattern code)) (sym c.in-Some.is) ∙ c.in_ok-sides.ensures.sides)
+    _ _ _ _ _ _ _ c.new-held.ensures.items c.in_ok-generics_match.ensures c.if-not-branch.false c.in_ok-arguments_match.ensures c.if-not-branch-2.false
+    (rw c.deref.ensures.value at c.in_ok-keep.ensures)
+
+pub generics_match-loop-first-init : goal.generics_match-loop-first-init
+generics_match-loop-first-init g t c =
+    let pattern = c.args.rule.now.pattern in
+    record {
+      paired =
+          generics-start (bindings_of (g.S.Semantics.meanings c.args.semantics.now) c.args.number c.args.rule.now) pattern c.args.code.now _ c.args.called.path.0 c.args.method.generics _ _ c.pattern-pattern.ensures
+          c.arguments-arguments.ensures.gives;
+      below =
+          subst (λ s. All (IsBelow s c.args.called.path.0) (siblings_left c.arguments-arguments.result)) c.pattern-pattern.ensures
+          c.arguments-arguments.ensures.below;
+      has = c.requires.method_in.generics;
+    }
+
+pub generics_match-returns-in_default-take : goal.generics_match-returns-in_default-take
+generics_match-returns-in_default-take g t c =
+    paired-short _ _ _ _ _ _ c.loop-first.invariant.paired _ _
+    (lent_next _ _ c.in-Some.first _ _ c.pattern-pattern.ensures c.in-Some.ensures.gives)
+    (generics-none c.args.code.now _ (sym c.take.ensures.value ∙ none_there c.take.result c.in_default-take.not-Some))
+
+pub generics_match-returns-then-not-branch : goal.generics_match-returns-then-not-branch
+generics_match-returns-then-not-branch g t c =
+    paired-differs _ _ _ _ _ _ c.loop-first.invariant.paired _ _ _ _ _ _
+    (lent_next _ _ c.in-Some.first _ _ c.pattern-pattern.ensures c.in-Some.ensures.gives)
+    (generics-taken c.args.code.now _ _ c.in-Some-take.other (sym c.in-Some-take.ensures.value) c.in-Some-take.ensures.after)
+    c.in_ok-pair_matches.ensures
+    c.if-not-branch.true
+
+pub generics_match-loop-first-preserved : goal.generics_match-loop-first-preserved
+generics_match-loop-first-preserved g t c =
+    let pattern = c.args.rule.now.pattern in
+    let n = c.args.called.path.0 in
+    record {
+      paired =
+          paired-turns _ _ _ _ _ _ c.loop-first.invariant.paired _ _ _ _ _ _
+          (lent_next _ _ c.in-Some.first _ _ c.pattern-pattern.ensures c.in-Some.ensures.gives)
+          (generics-taken c.args.code.now _ _ c.in-Some-take.other (sym c.in-Some-take.ensures.value) c.in-Some-take.ensures.after)
+          c.in_ok-pair_matches.ensures
+          c.if-not-branch.false;
+      below =
+          tail_has (IsBelow pattern n) c.in-Some.first (siblings_left c.next_bare.new.self)
+          (c.in-Some.ensures.kept.below pattern n c.loop-first.invariant.below);
+      has = subst (λ o. IfSome o (λ node. HasNode c.args.code.now node.0)) (sym c.in-Some-take.ensures.after) tt;
+    }
+
+pub generics_match-returns : goal.generics_match-returns
+generics_match-returns g t c =
+    generics-end _ _ _ _ _ _ c.loop-first.invariant.paired
+    (lent_none _ _ _ _ c.pattern-pattern.ensures c.in_default.ensures.gives c.in_default.ensures.none)
+    c.args.code.now c.loop-first.left _ refl c.is_none.ensures
+
+pub generics_match-pair_matches-requires : goal.generics_match-pair_matches-requires
+generics_match-pair_matches-requires g t c =
+    let pattern = c.args.rule.now.pattern in
+    let code = c.args.code.now in
+    let n = c.args.called.path.0 in
+    let lt : element_size pattern c.in-Some.first < children_size pattern n =
+    element-smaller _ _ _ _ _ c.requires.path_in c.loop-first.invariant.below c.in-Some.ensures.kept
+    in
+    let has_p : HasElement pattern c.in-Some.first = first-below pattern n _ _ _ c.loop-first.invariant.below c.in-Some.ensures.kept in
+    let has_c : HasNode code c.in-Some-take.other.0 =
+    subst (λ o. IfSome o (λ node. HasNode code node.0)) (sym c.in-Some-take.ensures.value) c.loop-first.invariant.has
+    in
+    λ κs lives. (omega arith, search (rules, lives, has_p, has_c))
+
+pub arguments_match-loop-first-init : goal.arguments_match-loop-first-init
+arguments_match-loop-first-init g t c =
+    let pattern = c.args.rule.now.pattern in
+    let n = c.args.called.list.0 in
+    let items = c.into_iter-first-iterator.ensures.into_iter_gives in
+    record {
+      paired =
+          arguments-start (bindings_of (g.S.Semantics.meanings c.args.semantics.now) c.args.number c.args.rule.now) pattern c.args.code.now c.pattern.result.now n c.args.method c.into_iter-first-iterator.result _ _ c.pattern.ensures
+          (ap (nodes_at c.pattern.result.now) items ∙ c.of-first-items.ensures.nodes) c.of-cs.ensures.nodes;
+      below =
+          subst (All (IsNodeBelow pattern n)) (sym items)
+          (subst (λ s. All (IsNodeBelow s n) c.of-first-items.result) c.pattern.ensures c.of-first-items.ensures.below);
+      beside = c.of-cs.ensures.has;
+    }
+
+pub arguments_match-returns-in_default : goal.arguments_match-returns-in_default
+arguments_match-returns-in_default g t c =
+    paired-short _ _ _ _ _ _ c.loop-first.invariant.paired _ _
+    (nodes-next c.args.rule.now.pattern _ c.next.new.self c.in-Some.first c.in-Some.ensures.steps)
+    (ap (node_parts c.args.code.now) c.in_default.ensures.steps.0)
+
+pub arguments_match-returns-then-not-branch : goal.arguments_match-returns-then-not-branch
+arguments_match-returns-then-not-branch g t c =
+    paired-differs _ _ _ _ _ _ c.loop-first.invariant.paired _ _ _ _ _ _
+    (nodes-next c.args.rule.now.pattern _ c.next.new.self c.in-Some.first c.in-Some.ensures.steps)
+    (nodes-next c.args.code.now _ c.next-in-loop-first.new.self c.in-Some-next.other c.in-Some-next.ensures.steps)
+    c.in_ok-node_matches.ensures
+    c.if-not-branch.true
+
+pub arguments_match-loop-first-preserved : goal.arguments_match-loop-first-preserved
+arguments_match-loop-first-preserved g t c =
+    let pattern = c.args.rule.now.pattern in
+    let code = c.args.code.now in
+    record {
+      paired =
+          paired-turns _ _ _ _ _ _ c.loop-first.invariant.paired _ _ _ _ _ _
+          (nodes-next pattern _ c.next.new.self c.in-Some.first c.in-Some.ensures.steps)
+          (nodes-next code _ c.next-in-loop-first.new.self c.in-Some-next.other c.in-Some-next.ensures.steps)
+          c.in_ok-node_matches.ensures
+          c.if-not-branch.false;
+      below = nodes_behind (IsNodeBelow pattern c.args.called.list.0) c.in-Some.first _ c.next.new.self c.in-Some.ensures.steps c.loop-first.invariant.below;
+      beside =
+          nodes_behind (λ node. HasNode code node.0) c.in-Some-next.other _ c.next-in-loop-first.new.self c.in-Some-next.ensures.steps
+          c.loop-first.invariant.beside;
+    }
+
+pub arguments_match-returns : goal.arguments_match-returns
+arguments_match-returns g t c =
+    nodes-end _ _ _ _ _ _ c.loop-first.invariant.paired (ap (node_parts c.args.rule.now.pattern) c.in-None.ensures.steps.0)
+    c.args.code.now c.next-2.result c.loop-first.cs _ _ refl c.next-2.ensures.steps c.is_none.ensures
+
+pub arguments_match-node_matches-requires : goal.arguments_match-node_matches-requires
+arguments_match-node_matches-requires g t c =
+    let pattern = c.args.rule.now.pattern in
+    let code = c.args.code.now in
+    let n = c.args.called.list.0 in
+    let below = node_first (IsNodeBelow pattern n) c.in-Some.first _ c.next.new.self c.in-Some.ensures.steps c.loop-first.invariant.below in
+    let lt : element_size pattern (element.Node c.in-Some.first) < children_size pattern n =
+    smaller_below pattern n (element.Node c.in-Some.first) c.requires.list_in below
+    in
+    let has_p : HasNode pattern c.in-Some.first.0 = below.0 in
+    let has_c : HasNode code c.in-Some-next.other.0 =
+    node_first (λ node. HasNode code node.0) c.in-Some-next.other _ c.next-in-loop-first.new.self c.in-Some-next.ensures.steps c.loop-first.invariant.beside
+    in
+    λ κs lives. (omega arith, search (rules, lives, has_p, has_c))

@@ -1,13 +1,15 @@
-use Rattle.std.proofs.Common.{All, length, ◌-◌}
-use Rattle.ssr_syntax_tree.specs.Places.{node_of}
+use Rattle.std.proofs.Common.{length, All, map, option_to_list}
+use Rattle.std.specs.Option.{IfSome}
+use Rattle.ssr_syntax_tree.specs.Places.{HasNode, node_of, node_part, part_of}
 use Rattle.ide_ssr_matching.specs.Bindings.{bindings_of}
 use Rattle.ide_ssr_matching.specs.Calls.{child_nodes}
-use Rattle.ide_ssr_matching.specs.Private.Bindings.{counted_by}
+use Rattle.ide_ssr_matching.specs.Children.{bare}
+use Rattle.ide_ssr_matching.specs.Private.Bindings.{counted_by, generics_by, arguments_by}
+use Rattle.ide_ssr_matching.specs.Private.Calls.{method_at, arguments_at}
 use Rattle.ide_ssr_matching.specs.Private.ChildNodes.{nodes_at, IsNodeBelow}
+use Rattle.ide_ssr_matching.specs.Private.Children.{siblings_left, IsBelow}
 use Rattle.ide_ssr_matching.specs.Private.Records.{fields_by}
-use Rattle.ide_ssr_matching.specs.Private.Children.{siblings_left}
-use Rattle.ide_ssr_matching.proofs.Fields.{IsBoundSoFar}
-use Rattle.ide_ssr_matching.proofs.Pairs.{PairedSoFar, PairedUpTo, children_size, like_size, parts_size, node_size, element_size, elements_size, lists_size, pairs_size}
+use Rattle.ide_ssr_matching.proofs.Pairs.{IsBoundSoFar, PairedSoFar, children_size, like_size, parts_size, node_size, element_size, lists_size, pairs_size}
 use Rattle.ide_ssr_matching.proofs.matching.+matching.Given as goal
 
 abbrev pub decreases-node_matches : goal.decreases-node_matches
@@ -18,6 +20,12 @@ decreases-parts_match g l = parts_size l.rule.now.pattern l.p.0
 
 abbrev pub decreases-method_matches : goal.decreases-method_matches
 decreases-method_matches g l = lists_size l.rule.now.pattern l.p.0
+
+abbrev pub decreases-generics_match : goal.decreases-generics_match
+decreases-generics_match g l = children_size l.rule.now.pattern l.called.path.0
+
+abbrev pub decreases-arguments_match : goal.decreases-arguments_match
+decreases-arguments_match g l = children_size l.rule.now.pattern l.called.list.0
 
 abbrev pub decreases-named_match : goal.decreases-named_match
 decreases-named_match g l = lists_size l.rule.now.pattern l.p.0
@@ -34,27 +42,48 @@ decreases-like_matches g l = like_size l.rule.now.pattern l.p.0
 abbrev pub decreases-children_match : goal.decreases-children_match
 decreases-children_match g l = children_size l.rule.now.pattern l.p.0
 
-abbrev pub decreases-elements_match : goal.decreases-elements_match
-decreases-elements_match g l = elements_size l.rule.now.pattern l.ps.now
-
 abbrev pub decreases-pair_matches : goal.decreases-pair_matches
 decreases-pair_matches g l = element_size l.rule.now.pattern l.p
 
+abbrev pub invariant-generics_match-loop-first : goal.invariant-generics_match-loop-first
+invariant-generics_match-loop-first g l =
+    let inner = bindings_of (g.S.Semantics.meanings l.semantics) l.number l.rule in
+    record {
+      paired :
+          PairedSoFar inner (generics_by inner (node_of l.rule.pattern l.fn.called.path.0) (method_at l.code l.fn.method).generics)
+          (bare (map (part_of l.rule.pattern) (siblings_left l.arguments))) (map node_part (nodes_at l.code (option_to_list l.left)))
+          l.fn.out.items l.out.items;
+      below : All (IsBelow l.rule.pattern l.fn.called.path.0) (siblings_left l.arguments);
+      has : IfSome l.left (λ node. HasNode l.code node.0);
+    }
+
+abbrev pub decreases-generics_match-loop-first : goal.decreases-generics_match-loop-first
+decreases-generics_match-loop-first g l = length (siblings_left l.arguments)
+
+abbrev pub invariant-arguments_match-loop-first : goal.invariant-arguments_match-loop-first
+invariant-arguments_match-loop-first g l =
+    let inner = bindings_of (g.S.Semantics.meanings l.semantics) l.number l.rule in
+    record {
+      paired :
+          PairedSoFar inner (arguments_by inner (child_nodes (node_of l.rule.pattern l.fn.called.list.0)) (arguments_at l.code l.fn.method))
+          (map node_part (nodes_at l.rule.pattern l.first-iterator)) (map node_part (nodes_at l.code l.cs)) l.fn.out.items l.out.items;
+      below : All (IsNodeBelow l.rule.pattern l.fn.called.list.0) l.first-iterator;
+      beside : All (λ node. HasNode l.code node.0) l.cs;
+    }
+
 abbrev pub invariant-children_match-loop-first : goal.invariant-children_match-loop-first
 invariant-children_match-loop-first g l =
-    PairedSoFar (bindings_of (g.S.Semantics.meanings l.semantics) l.number l.rule) l.rule.pattern l.code l.fn.p.0 l.fn.c.0
-    (counted_by (bindings_of (g.S.Semantics.meanings l.semantics) l.number l.rule) l.fn.used (node_of l.rule.pattern l.fn.p.0) (node_of l.code l.fn.c.0))
-    (siblings_left l.ps) (siblings_left l.cs) l.fn.out.items l.out.items
+    let inner = bindings_of (g.S.Semantics.meanings l.semantics) l.number l.rule in
+    record {
+      paired :
+          PairedSoFar inner (counted_by inner l.fn.used (node_of l.rule.pattern l.fn.p.0) (node_of l.code l.fn.c.0))
+          (bare (map (part_of l.rule.pattern) (siblings_left l.ps))) (bare (map (part_of l.code) (siblings_left l.cs))) l.fn.out.items l.out.items;
+      below : All (IsBelow l.rule.pattern l.fn.p.0) (siblings_left l.ps);
+      beside : All (IsBelow l.code l.fn.c.0) (siblings_left l.cs);
+    }
 
 abbrev pub decreases-children_match-loop-first : goal.decreases-children_match-loop-first
 decreases-children_match-loop-first g l = length (siblings_left l.ps)
-
-abbrev pub invariant-elements_match-loop-place : goal.invariant-elements_match-loop-place
-invariant-elements_match-loop-place g l =
-    PairedUpTo (bindings_of (g.S.Semantics.meanings l.semantics) l.number l.rule) l.rule.pattern l.code l.ps l.cs l.place l.fn.out.items l.out.items
-
-abbrev pub decreases-elements_match-loop-place : goal.decreases-elements_match-loop-place
-decreases-elements_match-loop-place g l = length l.ps - l.place
 
 abbrev pub invariant-fields_match-loop-field : goal.invariant-fields_match-loop-field
 invariant-fields_match-loop-field g l =

@@ -1,7 +1,6 @@
-use Rattle.std.proofs.Common.{All, ap, arith, sym, subst, ◌∙◌}
-use Rattle.ssr_syntax_tree.proofs.Shared.{parts_of-elements_of}
+use Rattle.std.proofs.Common.{map, All, ap, arith, sym, subst, ◌∙◌}
 use Rattle.ssr_syntax_tree.specs.Places.{part_of}
-use Rattle.std.proofs.Common.{map}
+use Rattle.ssr_syntax_tree.proofs.Shared.{parts_of-elements_of}
 use Rattle.ide_ssr_matching.specs.Calls.{nodes_among}
 use Rattle.ide_ssr_matching.specs.Private.Children.{IsBelow}
 use Rattle.ide_ssr_matching.proofs.Bare.{elements_below}
