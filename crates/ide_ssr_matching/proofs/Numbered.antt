@@ -5,9 +5,8 @@ use Rattle.std.specs.List.{cons_option}
 use Rattle.std.proofs.lemmas.List.{take-append-drop}
 use Rattle.ssr_syntax_kinds.specs.declared.kinds.SyntaxKind.{SyntaxKind}
 use Rattle.ssr_syntax_kinds.specs.declared.kinds.SyntaxKind.TheVariants as k
-use Rattle.ssr_syntax_kinds.specs.Kinds.{is_trivia}
+use Rattle.ssr_syntax_kinds.specs.Kinds.{is_trivia, is_ident}
 use Rattle.ssr_syntax_tree.specs.Syntax.{Token}
-use Rattle.ssr_syntax.specs.Identifiers.{is_ident}
 use Rattle.ide_ssr_rules.proofs.Shared.{not_named}
 use Rattle.ide_ssr_rules.specs.Patterns.{placeholders_among}
 use Rattle.ide_ssr_rules.specs.StandIns.{name_at}

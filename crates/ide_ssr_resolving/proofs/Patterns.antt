@@ -7,9 +7,9 @@ use Rattle.std.proofs.lemmas.Bool.{not-true, or_parts}
 use Rattle.std.proofs.lemmas.List.Elements.{filter_map-append}
 use Rattle.ssr_syntax_kinds.specs.declared.kinds.SyntaxKind.{SyntaxKind}
 use Rattle.ssr_syntax_kinds.specs.declared.kinds.SyntaxKind.TheVariants as k
-use Rattle.ssr_syntax_kinds.specs.Kinds.{same_kind}
+use Rattle.ssr_syntax_kinds.specs.Kinds.{same_kind, is_ident}
 use Rattle.ssr_syntax_tree.specs.Syntax.{Token, Forest, nothing, leaf, branch, Syntax, tokens_in, tokens_of}
-use Rattle.ssr_syntax.specs.Identifiers.{is_ident, is_mixing, has_ident, stand_alone, IdentsAlone, IdentsAloneIn}
+use Rattle.ssr_syntax.specs.Identifiers.{is_mixing, has_ident, stand_alone, IdentsAlone, IdentsAloneIn}
 use Rattle.ide_ssr_rules.specs.Patterns.{placeholders_among, IsReadOnce}
 use Rattle.ide_ssr_rules.specs.StandIns.{name_at}
 use Rattle.ide_ssr_rules.proofs.Shared.{not_named}

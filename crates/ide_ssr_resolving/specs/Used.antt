@@ -3,11 +3,10 @@ use Rattle.std.specs.Prelude.{ℕ, ◌≡◌, ◌+◌, ◌==◌, All, Bool, true
 use Rattle.std.specs.List.{filter, filter_map, find, list_any}
 use Rattle.std.specs.Option.{is_none, is_some, option_map, option_map_or, option_and_then}
 use Rattle.ssr_syntax_kinds.specs.declared.kinds.SyntaxKind.TheVariants as k
-use Rattle.ssr_syntax_kinds.specs.Kinds.{same_kind}
+use Rattle.ssr_syntax_kinds.specs.Kinds.{same_kind, is_ident}
 use Rattle.ssr_syntax_tree.specs.declared.number.NodeNo.{NodeNo}
 use Rattle.ssr_syntax_tree.specs.Places.{Node, HasNode, nodes_of, size_of}
 use Rattle.ssr_syntax_tree.specs.Syntax.{Token, Forest, Syntax, tokens_in}
-use Rattle.ssr_syntax.specs.Identifiers.{is_ident}
 use Rattle.ssr_base.specs.declared.ids.ScopeId.{ScopeId}
 use Rattle.ssr_base.specs.declared.semantics.Res.{Res}
 use Rattle.ssr_base.specs.declared.semantics.Res.TheVariants as res

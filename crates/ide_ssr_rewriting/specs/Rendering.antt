@@ -4,8 +4,8 @@ use Rattle.std.specs.List.{list_any, position}
 use Rattle.std.specs.Option.{option_map_or}
 use Rattle.ssr_syntax_tree.specs.Syntax.{Token, Syntax, tokens_of}
 use Rattle.ssr_syntax_tree.specs.Places.{nodes_of, start_of, end_of}
-use Rattle.ssr_syntax.specs.declared.fragments.Fragment.{Fragment}
-use Rattle.ssr_syntax.specs.declared.fragments.Fragment.TheVariants as fragments
+use Rattle.ssr_syntax_kinds.specs.declared.fragment.Fragment.{Fragment}
+use Rattle.ssr_syntax_kinds.specs.declared.fragment.Fragment.TheVariants as fragments
 use Rattle.ssr_syntax.specs.declared.syntax_error.SyntaxError.{SyntaxError}
 use Rattle.ssr_syntax.specs.Reading.{fragment_reading, trimmed_front}
 use Rattle.ide_ssr_resolving.specs.Resolved.{ResolvedKind}

@@ -5,7 +5,7 @@ use Rattle.std.proofs.lemmas.List.Folds.{list_any-append}
 use Rattle.std.proofs.lemmas.Slice.Eq.{bytes_eq-Decides}
 use Rattle.std.specs.Prelude.{if◌then◌else◌}
 use Rattle.std.specs.Option.{option_map_or}
-use Rattle.ssr_syntax.specs.Identifiers.{is_ident}
+use Rattle.ssr_syntax_kinds.specs.Kinds.{is_ident}
 use Rattle.ssr_syntax_tree.specs.Places.{Part, token_part, node_part}
 use Rattle.ide_ssr_rules.specs.Elements.{has}
 use Rattle.ide_ssr_rules.specs.MacroCalls.{is_spelled}

@@ -3,7 +3,7 @@ use Rattle.std.proofs.Common.{◌≡◌, ℕ, List, [], ◌∷◌, ◌++◌, All
 use Rattle.std.specs.Option.{IfSome, option_map}
 use Rattle.std.specs.Str.{IsUtf8}
 use Rattle.std.proofs.lemmas.List.Elements.{All-weaker}
-use Rattle.ssr_syntax.specs.declared.fragments.Fragment.{Fragment}
+use Rattle.ssr_syntax_kinds.specs.declared.fragment.Fragment.{Fragment}
 use Rattle.ssr_syntax_tree.specs.Syntax.{Syntax}
 use Rattle.ide_ssr_rules.specs.declared.elements.Element.{Element}
 use Rattle.ide_ssr_rules.specs.declared.kinds.ParsedRule.{ParsedRule}

@@ -2,7 +2,8 @@
 use Rattle.std.proofs.Common.{◌≡◌, ℕ, Bool, true, false, cond, List, [], ◌∷◌, None, refl, ◌∙◌, ap}
 use Rattle.std.specs.List.{cons_option}
 use Rattle.ssr_syntax_tree.specs.Syntax.{Token}
-use Rattle.ssr_syntax.specs.Identifiers.{is_ident, idents}
+use Rattle.ssr_syntax_kinds.specs.Kinds.{is_ident}
+use Rattle.ssr_syntax.specs.Identifiers.{idents}
 use Rattle.ide_ssr_rules.specs.Patterns.{placeholders_among}
 use Rattle.ide_ssr_rules.specs.StandIns.{name_at}
 

@@ -2,7 +2,7 @@
 use Rattle.std.proofs.Common.{◌≡◌, ℕ, List, All, Option, Some, None, Ok, refl, subst}
 use Rattle.std.specs.Prelude.{IsSome}
 use Rattle.std.proofs.lemmas.List.Elements.{All-weaker}
-use Rattle.ssr_syntax.specs.declared.fragments.Fragment.{Fragment}
+use Rattle.ssr_syntax_kinds.specs.declared.fragment.Fragment.{Fragment}
 use Rattle.ssr_syntax_tree.specs.Syntax.{Syntax}
 use Rattle.ide_ssr_rules.specs.declared.kinds.ParsedRule.{ParsedRule}
 use Rattle.ide_ssr_rules.specs.Kinds.{kinds_of}

@@ -5,8 +5,8 @@ use Rattle.std.specs.Option.{option_map, option_and_then, option_or}
 use Rattle.std.specs.Result.{result_ok}
 use Rattle.ssr_syntax_kinds.specs.Kinds.{same_kind}
 use Rattle.ssr_syntax_kinds.specs.declared.kinds.SyntaxKind.TheVariants.{PATH}
-use Rattle.ssr_syntax.specs.declared.fragments.Fragment.{Fragment}
-use Rattle.ssr_syntax.specs.declared.fragments.Fragment.TheVariants as fragments
+use Rattle.ssr_syntax_kinds.specs.declared.fragment.Fragment.{Fragment}
+use Rattle.ssr_syntax_kinds.specs.declared.fragment.Fragment.TheVariants as fragments
 use Rattle.ssr_syntax.specs.Reading.{fragment_reading}
 use Rattle.ssr_syntax_tree.specs.Places.{nodes_of}
 use Rattle.ssr_syntax_tree.specs.Syntax.{Syntax}

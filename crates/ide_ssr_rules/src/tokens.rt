@@ -24,7 +24,7 @@ impl<'a> Model for Token<'a> {
 }
 
 impl<'a> Token<'a> {
-    ghost use Rattle.ssr_syntax.specs.Identifiers.{is_ident};
+    ghost use Rattle.ssr_syntax_kinds.specs.Kinds.{is_ident};
     ghost use Rattle.ide_ssr_rules.specs.Constraints.{is_colon, opens, closes};
     ghost use Rattle.ide_ssr_rules.specs.Elements.{is_dollar};
 

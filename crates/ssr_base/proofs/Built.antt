@@ -12,12 +12,12 @@ use Rattle.std.specs.Global.{Global}
 use Rattle.std.specs.List.{AllPass, list_all, position_from}
 use Rattle.std.specs.Option.{option_map}
 use Rattle.std.specs.Str.{IsUtf8}
-use Rattle.ssr_syntax_tree.specs.Syntax.{Syntax, tokens_of, depth_of}
+use Rattle.ssr_syntax_tree.specs.Syntax.{Syntax, tokens_of, depth_of, most_deep}
 use Rattle.ssr_syntax_tree.specs.Places.{node_of}
 use Rattle.ssr_syntax_tree.proofs.Shared.{length-tokens_in}
 use Rattle.ssr_syntax_kinds.specs.declared.kinds.SyntaxKind.TheVariants as k
 use Rattle.ssr_syntax.specs.declared.expansions.ExpToken.{ExpToken}
-use Rattle.ssr_syntax.specs.Reading.{file_reading, most_deep}
+use Rattle.ssr_syntax.specs.Reading.{file_reading}
 use Rattle.ssr_syntax.specs.Expansions.{expansion_reading}
 use Rattle.ssr_base.specs.declared.ids.NodeId.{NodeId}
 use Rattle.ssr_base.specs.declared.building.Expansion.{Expansion}

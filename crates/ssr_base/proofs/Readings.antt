@@ -10,7 +10,7 @@ use Rattle.ssr_syntax_kinds.specs.Kinds.{is_trivia}
 use Rattle.ssr_syntax_lex.specs.Tokens.{tokens}
 use Rattle.ssr_syntax_lex.proofs.Shared.{tokens_tile}
 use Rattle.ssr_syntax_tree.specs.Syntax as plain
-use Rattle.ssr_syntax_tree.specs.Syntax.{Syntax, depth_of, tokens_of}
+use Rattle.ssr_syntax_tree.specs.Syntax.{Syntax, depth_of, tokens_of, most_deep}
 use Rattle.ssr_syntax_forms.specs.Trees as solid
 use Rattle.ssr_syntax_forms.specs.declared.fault.Fault.{Fault}
 use Rattle.ssr_syntax_types.specs.declared.goals.Goal.{Goal}
@@ -21,7 +21,7 @@ use Rattle.ssr_syntax.specs.declared.syntax_error.SyntaxError.{SyntaxError}
 use Rattle.ssr_syntax.specs.declared.syntax_error.SyntaxError.TheVariants as errors
 use Rattle.ssr_syntax.specs.Expansions.{expansion_text, expansion_reading, goal_of_expansion, raw_from, unless_refused}
 use Rattle.ssr_syntax.specs.Lossless.{trivia, behind_trivia, gap, behind_gap, upto, past, before, behind, lossless, whole_tree}
-use Rattle.ssr_syntax.specs.Reading.{most_deep, pieces, error_of, unless_misnamed, one_tree, reading, tree_reading, lexed_reading, file_reading}
+use Rattle.ssr_syntax.specs.Reading.{pieces, error_of, unless_misnamed, one_tree, reading, tree_reading, lexed_reading, file_reading}
 use Rattle.ssr_syntax.specs.Solid.{solid_tokens}
 use Rattle.ssr_syntax.proofs.Shared.{AreTexts, texts-append, texts_spelled, texts_split, tiled_texts}
 use Rattle.ssr_base.specs.Built.{HasTexts}

@@ -4,9 +4,8 @@ use Rattle.std.specs.List.{AllPass}
 use Rattle.std.specs.Option.{IsSomeAnd}
 use Rattle.std.specs.Str.{IsUtf8}
 use Rattle.ssr_syntax_kinds.specs.declared.kinds.SyntaxKind.TheVariants as k
-use Rattle.ssr_syntax_tree.specs.Syntax.{Syntax, token_count, tokens_of, depth_of}
+use Rattle.ssr_syntax_tree.specs.Syntax.{Syntax, token_count, tokens_of, depth_of, most_deep}
 use Rattle.ssr_syntax_tree.specs.Places.{node_of, HasNode}
-use Rattle.ssr_syntax.specs.Reading.{most_deep}
 use Rattle.ssr_base.specs.declared.ids.NodeId.{NodeId}
 use Rattle.ssr_base.specs.Workspace.{Expanded, Workspace, Planted, trees, with_number, nesting, text_at_top}
 use Rattle.ssr_base.specs.Building.{most_trees, most_nested, fits_origin}

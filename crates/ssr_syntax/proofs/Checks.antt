@@ -27,12 +27,12 @@ use Rattle.ssr_syntax_exprs.specs.Atoms.{bars, operand_first, expr_first}
 use Rattle.ssr_syntax_exprs.specs.Expressions as expr
 use Rattle.ssr_syntax_exprs.specs.Expressions.{ranks, assignments}
 use Rattle.ssr_syntax_exprs.specs.GenericArgs as args
-use Rattle.ssr_syntax_adts.specs.Params as params
+use Rattle.ssr_syntax_item_parts.specs.Params as params
 use Rattle.ssr_syntax_items.specs.Items as item
 use Rattle.ssr_syntax_items.specs.Items.{module_item_first, stmt_item_first, impl_item_first, trait_item_first}
-use Rattle.ssr_syntax_adts.specs.Adts as adt
-use Rattle.ssr_syntax_adts.specs.Uses as uses
-use Rattle.ssr_syntax_adts.specs.Uses.{use_first}
+use Rattle.ssr_syntax_item_parts.specs.Adts as adt
+use Rattle.ssr_syntax_item_parts.specs.Uses as uses
+use Rattle.ssr_syntax_item_parts.specs.Uses.{use_first}
 use Rattle.ssr_syntax_exprs.specs.Conditions as cond
 use Rattle.ssr_syntax_items.specs.Statements as stmts
 use Rattle.ssr_syntax_items.specs.Statements.{stmt_first}

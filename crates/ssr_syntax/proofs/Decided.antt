@@ -1,10 +1,10 @@
 -- What is read again decides whether a tree fits.
 use Rattle.std.proofs.Common.{◌≡◌, ◌≢◌, ◌↔◌, ◌≤◌, Bool, IsTrue, Ok, Err, IfOk, ap, arith}
 use Rattle.std.specs.Prelude.{Result}
-use Rattle.ssr_syntax_tree.specs.Syntax.{Syntax, depth_of}
+use Rattle.ssr_syntax_tree.specs.Syntax.{Syntax, depth_of, most_deep}
 use Rattle.ssr_syntax.specs.declared.syntax_error.SyntaxError.{SyntaxError}
 use Rattle.ssr_syntax.specs.declared.syntax_error.SyntaxError.TheVariants as errors
-use Rattle.ssr_syntax.specs.Reading.{most_deep, IsThatOrTooDeep}
+use Rattle.ssr_syntax.specs.Reading.{IsThatOrTooDeep}
 
 -- what fits and isn't too deep is read
 pub fitting_read : (read : Result Syntax SyntaxError) (tree : Syntax) → read ≢ Err errors.Memory → depth_of tree ≤ most_deep

@@ -4,18 +4,18 @@ use Rattle.std.specs.Prelude.{⊤, reverse}
 use Rattle.std.proofs.lemmas.Bool.{not-true}
 use Rattle.std.proofs.lemmas.List.{append-nil, reverse-append}
 use Rattle.ssr_syntax_kinds.specs.declared.kinds.SyntaxKind.{SyntaxKind}
-use Rattle.ssr_syntax_kinds.specs.Kinds.{is_trivia}
+use Rattle.ssr_syntax_kinds.specs.Kinds.{is_trivia, is_ident}
 use Rattle.ssr_syntax_lex.specs.declared.tokens.RawToken.{RawToken}
 use Rattle.ssr_syntax_lex.specs.Tokens.{tokens, token_text}
 use Rattle.ssr_syntax_tree.specs.Syntax as plain
-use Rattle.ssr_syntax_tree.specs.Syntax.{Syntax, tokens_of}
-use Rattle.ssr_syntax.specs.declared.fragments.Fragment.{Fragment}
+use Rattle.ssr_syntax_tree.specs.Syntax.{Syntax, tokens_of, begins_with_trivia}
+use Rattle.ssr_syntax_kinds.specs.declared.fragment.Fragment.{Fragment}
 use Rattle.ssr_syntax_types.specs.declared.goals.Goal.{Goal}
 use Rattle.ssr_syntax_forms.specs.Trees as solid
 use Rattle.ssr_syntax.specs.Grammar.{grammar}
 use Rattle.ssr_syntax.specs.Solid.{solid_token, solid_tokens}
-use Rattle.ssr_syntax.specs.Lossless.{trivia, behind_trivia, gap, behind_gap, upto, past, before, behind, lossless, whole_tree, begins_with_trivia}
-use Rattle.ssr_syntax.specs.Identifiers.{is_ident, idents, has_ident, stand_alone, is_mixing, IdentsAlone, IdentsAloneIn}
+use Rattle.ssr_syntax.specs.Lossless.{trivia, behind_trivia, gap, behind_gap, upto, past, before, behind, lossless, whole_tree}
+use Rattle.ssr_syntax.specs.Identifiers.{idents, has_ident, stand_alone, is_mixing, IdentsAlone, IdentsAloneIn}
 use Rattle.ssr_syntax.specs.Reading.{pieces, trimmed, goal_of, begins_solid, FitsTokens, FitsFragment}
 use Rattle.ssr_syntax_forms.proofs.Shared.{at_some_level, goals_spell}
 use Rattle.ssr_syntax.proofs.Solidity.{AreTaken, goals_taken, AllSolid, leaves_solid}

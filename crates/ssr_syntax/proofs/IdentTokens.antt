@@ -7,7 +7,7 @@ use Rattle.std.proofs.lemmas.List.Elements.{filter-append}
 use Rattle.ssr_syntax_kinds.specs.declared.kinds.SyntaxKind.{SyntaxKind}
 use Rattle.ssr_syntax_kinds.specs.declared.kinds.SyntaxKind.TheVariants.{IDENT}
 use Rattle.ssr_syntax_lex.specs.declared.tokens.RawToken.{RawToken}
-use Rattle.ssr_syntax_kinds.specs.Kinds.{is_trivia}
+use Rattle.ssr_syntax_kinds.specs.Kinds.{is_trivia, is_ident}
 use Rattle.ssr_syntax_lex.specs.Tokens.{token_text}
 use Rattle.ssr_syntax_tree.specs.Syntax as plain
 use Rattle.ssr_syntax_tree.specs.Syntax.{tokens_of}
@@ -16,7 +16,7 @@ use Rattle.ssr_syntax_forms.specs.Trees as solid
 use Rattle.ssr_syntax.specs.Private.Leaves as written
 use Rattle.ssr_syntax_forms.specs.Forms.{more, taken_as}
 use Rattle.ssr_syntax.specs.Lossless.{trivia, behind_trivia, gap, behind_gap, upto, past, whole_tree}
-use Rattle.ssr_syntax.specs.Identifiers.{is_ident, idents}
+use Rattle.ssr_syntax.specs.Identifiers.{idents}
 use Rattle.ssr_syntax.specs.Solid.{lengthened, joined_two, joined_three, solid_token, solid_tokens}
 use Rattle.ssr_syntax.specs.Reading.{pieces}
 use Rattle.ssr_syntax.proofs.Laid.{AreSolid, by_kind, upto-zero, upto-add, upto-past, upto-behind_trivia, past-zero, total-leaves, laid, laid-append}

@@ -12,7 +12,8 @@ use Rattle.ssr_syntax_forms.specs.Trees.{Forest, done, leaf, tree, join}
 use Rattle.ssr_syntax_forms.specs.Forms.{Form, one, child, mark, seal, ◌then◌, nothing, choose, many, look, check, taken_as}
 use Rattle.ssr_syntax.proofs.Operands.{went}
 use Rattle.ssr_syntax.specs.Grammar.{grammar}
-use Rattle.ssr_syntax.specs.Identifiers.{is_ident, is_mixing}
+use Rattle.ssr_syntax_kinds.specs.Kinds.{is_ident}
+use Rattle.ssr_syntax.specs.Identifiers.{is_mixing}
 use Rattle.ssr_syntax_forms.proofs.Shared.{FitsBelow, Step, Repeats, FitsForm, FitsGoal, meets, apart, one_taken}
 
 -- one of the trees is an identifier

@@ -5,7 +5,7 @@ use Rattle.std.proofs.lemmas.Result.{IfErr-at_err}
 use Rattle.ssr_syntax_lex.specs.declared.tokens.RawToken.{RawToken}
 use Rattle.ssr_syntax_lex.specs.Tokens.{tokens}
 use Rattle.ssr_syntax_tree.specs.Syntax as plain
-use Rattle.ssr_syntax_tree.specs.Syntax.{Syntax, depth_of}
+use Rattle.ssr_syntax_tree.specs.Syntax.{Syntax, depth_of, most_deep}
 use Rattle.ssr_syntax_forms.specs.declared.fault.Fault.{Fault}
 use Rattle.ssr_syntax_forms.specs.declared.fault.Fault.TheVariants as faults
 use Rattle.ssr_syntax_forms.specs.declared.tokens.Token.{Token}
@@ -21,7 +21,7 @@ use Rattle.ssr_syntax.specs.Lossless.{whole_tree}
 use Rattle.ssr_syntax.specs.MacroRules.{misnames_macros}
 use Rattle.ssr_syntax.specs.Solid.{solid_tokens}
 use Rattle.ssr_syntax_forms.proofs.Shared.{IsFree, no_tree, free-bind, free-goal}
-use Rattle.ssr_syntax.specs.Reading.{most_deep, most_levels, whole, reading, pieces, error_of, unless_misnamed, one_tree, tree_reading, lexed_reading, file_reading}
+use Rattle.ssr_syntax.specs.Reading.{most_levels, whole, reading, pieces, error_of, unless_misnamed, one_tree, tree_reading, lexed_reading, file_reading}
 
 -- ** Goals.
 

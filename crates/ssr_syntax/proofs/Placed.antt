@@ -15,7 +15,7 @@ use Rattle.ssr_syntax_forms.specs.Trees.{Forest, done, leaf, tree, nodes, height
 use Rattle.ssr_syntax.specs.Private.Leaves.{leaves, after, first_in, past_in, rows}
 use Rattle.ssr_syntax.specs.Private.Preorder.{node_rows, tree_rows, IsDepthFault, OkUnlessDeep}
 use Rattle.ssr_syntax.specs.Private.Turning.{TurningRows}
-use Rattle.ssr_syntax.specs.Reading.{most_deep}
+use Rattle.ssr_syntax_tree.specs.Syntax.{most_deep}
 use Rattle.ssr_syntax.specs.Private.OpenNodes.{still_open, closed, number_of, first_of, opened, from_right, is_deeper, IsClosed, IsFromRight}
 
 -- Whether a node of the forest has more than `limit` others above it, where so many stand above the forest.

@@ -8,8 +8,8 @@ use Rattle.ssr_syntax_kinds.specs.declared.kinds.SyntaxKind.{SyntaxKind}
 use Rattle.ssr_syntax_lex.specs.declared.tokens.RawToken.{RawToken}
 use Rattle.ssr_syntax_lex.specs.Tokens.{tokens, spell as spelled_by}
 use Rattle.ssr_syntax_lex.proofs.Shared.{tokens_tile, tiles_spell}
-use Rattle.ssr_syntax_tree.specs.Syntax.{Syntax, nothing, branch, depth_of, source_of}
-use Rattle.ssr_syntax.specs.declared.fragments.Fragment.{Fragment}
+use Rattle.ssr_syntax_tree.specs.Syntax.{Syntax, nothing, branch, depth_of, source_of, most_deep}
+use Rattle.ssr_syntax_kinds.specs.declared.fragment.Fragment.{Fragment}
 use Rattle.ssr_syntax_types.specs.declared.goals.Goal.{Goal}
 use Rattle.ssr_syntax_types.specs.declared.goals.Goal.TheVariants as goals
 use Rattle.ssr_syntax_forms.specs.declared.fault.Fault.{Fault}
@@ -20,7 +20,7 @@ use Rattle.ssr_syntax_forms.specs.Trees.{Forest, done, tree, height}
 use Rattle.ssr_syntax.specs.Private.Leaves.{leaves}
 use Rattle.ssr_syntax_forms.proofs.Shared.{IsShallow, shallow_of, goals_by_rules}
 use Rattle.ssr_syntax.specs.Lossless.{whole_tree, IsTrimmed}
-use Rattle.ssr_syntax.specs.Reading.{most_deep, reading, most_levels, pieces, one_tree, tree_reading, unless_misnamed, lexed_reading, short_reading, file_reading, fragment_reading, trimmed, goal_of, begins_solid, error_of, Answers, AnswersTrimmed, FitsTokens, FitsFile, FitsFragment, IsTreeOfFile, IsTreeOfFragment, IsThatOrTooDeep, IsLexFault, Refuses}
+use Rattle.ssr_syntax.specs.Reading.{reading, most_levels, pieces, one_tree, tree_reading, unless_misnamed, lexed_reading, short_reading, file_reading, fragment_reading, trimmed, goal_of, begins_solid, error_of, Answers, AnswersTrimmed, FitsTokens, FitsFile, FitsFragment, IsTreeOfFile, IsTreeOfFragment, IsThatOrTooDeep, IsLexFault, Refuses}
 use Rattle.ssr_syntax.specs.MacroRules.{misnames_macros}
 use Rattle.ssr_syntax.specs.Solid.{solid_tokens}
 use Rattle.ssr_syntax.proofs.Laid.{AreSolid}

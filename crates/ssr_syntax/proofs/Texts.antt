@@ -11,7 +11,7 @@ use Rattle.ssr_syntax_kinds.specs.declared.kinds.SyntaxKind.{SyntaxKind}
 use Rattle.ssr_syntax_lex.specs.declared.tokens.RawToken.{RawToken}
 use Rattle.ssr_syntax_lex.specs.Tokens.{row_of, spell, Tiles}
 use Rattle.ssr_syntax_tree.specs.Syntax as plain
-use Rattle.ssr_syntax_tree.specs.Syntax.{Syntax, depth_of, source_of, tokens_of}
+use Rattle.ssr_syntax_tree.specs.Syntax.{Syntax, depth_of, source_of, tokens_of, most_deep}
 use Rattle.ssr_syntax_tree.specs.Places.{nodes_of, nodes_in, root_of}
 use Rattle.ssr_syntax_tree.specs.Parts.{AreParts, node_row, token_rows}
 use Rattle.ssr_syntax_tree.specs.declared.rows.NodeRow.{NodeRow}
@@ -34,7 +34,7 @@ use Rattle.ssr_syntax.specs.Grammar.{grammar}
 use Rattle.ssr_syntax.proofs.Checks.{goal_makes_node}
 use Rattle.ssr_syntax.specs.Lossless.{gap, behind_gap, upto, past, lossless, whole_tree}
 use Rattle.ssr_syntax.specs.Private.Preorder.{tree_rows, node_rows, IsDepthFault, most_nodes}
-use Rattle.ssr_syntax.specs.Reading.{most_deep, pieces, reading, most_levels, tree_reading, one_tree, unless_misnamed, unless_too_deep, error_of, Refuses, Answers}
+use Rattle.ssr_syntax.specs.Reading.{pieces, reading, most_levels, tree_reading, one_tree, unless_misnamed, unless_too_deep, error_of, Refuses, Answers}
 use Rattle.ssr_syntax.specs.Solid.{solid_tokens}
 use Rattle.ssr_syntax.specs.Private.TreeTokens.{joined_rows}
 use Rattle.ssr_syntax.specs.MacroRules.{misnames_macros}

@@ -11,7 +11,8 @@ use Rattle.ssr_syntax_tree.specs.Syntax as plain
 use Rattle.ssr_syntax.specs.Private.Leaves.{Taken}
 use Rattle.ssr_syntax_forms.specs.Trees as solid
 use Rattle.ssr_syntax.specs.Private.Leaves as written
-use Rattle.ssr_syntax.specs.Lossless.{trivia, gap, behind_gap, upto, past, before, behind, lossless, whole_tree, begins_with_trivia, IsTrimmed}
+use Rattle.ssr_syntax.specs.Lossless.{trivia, gap, behind_gap, upto, past, before, behind, lossless, whole_tree, IsTrimmed}
+use Rattle.ssr_syntax_tree.specs.Syntax.{begins_with_trivia}
 use Rattle.ssr_syntax.specs.Reading.{pieces, begins_solid}
 use Rattle.ssr_syntax.proofs.Laid.{AreSolid, total, total-leaves, token_of, laid, all_laid, solid-append, gap-behind, past-zero, upto-past, tokens-lossless}
 use Rattle.ssr_syntax.proofs.Texts.{whole-tokens}

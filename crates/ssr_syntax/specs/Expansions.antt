@@ -5,7 +5,7 @@ use Rattle.ssr_syntax_lex.specs.declared.tokens.RawToken.{RawToken}
 use Rattle.ssr_syntax_kinds.specs.Kinds.{is_trivia}
 use Rattle.ssr_syntax_lex.specs.Tokens.{range_of}
 use Rattle.ssr_syntax_tree.specs.Syntax as plain
-use Rattle.ssr_syntax_tree.specs.Syntax.{Syntax, depth_of, source_of}
+use Rattle.ssr_syntax_tree.specs.Syntax.{Syntax, depth_of, source_of, most_deep}
 use Rattle.ssr_syntax_types.specs.declared.goals.Goal.{Goal}
 use Rattle.ssr_syntax_types.specs.declared.goals.Goal.TheVariants as goals
 use Rattle.ssr_syntax_types.specs.declared.goals.ExprPlace.TheVariants.{Anywhere}
@@ -15,7 +15,7 @@ use Rattle.ssr_syntax.specs.declared.expansions.ExpansionKind.TheVariants as exp
 use Rattle.ssr_syntax.specs.declared.syntax_error.SyntaxError.{SyntaxError}
 use Rattle.ssr_syntax.specs.declared.syntax_error.SyntaxError.TheVariants as errors
 use Rattle.ssr_syntax.specs.Lossless.{IsTrimmed}
-use Rattle.ssr_syntax.specs.Reading.{most_deep, tree_reading, lexed_reading, short_reading, FitsTokens}
+use Rattle.ssr_syntax.specs.Reading.{tree_reading, lexed_reading, short_reading, FitsTokens}
 
 -- the text that tokens spell
 abbrev pub expansion_text : List ExpToken → List ℕ

@@ -11,7 +11,7 @@ use Rattle.ssr_syntax_patterns.specs.Patterns as pats
 use Rattle.ssr_syntax_items.specs.Statements as stmts
 use Rattle.ssr_syntax_types.specs.TokenTrees as trees
 use Rattle.ssr_syntax_types.specs.Types as types
-use Rattle.ssr_syntax_adts.specs.Uses as uses
+use Rattle.ssr_syntax_item_parts.specs.Uses as uses
 
 unfoldable pub grammar : Goal → Form Goal
 grammar File = items.source_file

@@ -1,6 +1,6 @@
 -- The tree of a text with all of the text's tokens. White space and comments are children of the innermost node that
 -- spans them, so a node begins and ends with a token that is neither; those around all other tokens are the root's.
-use Rattle.std.specs.Prelude.{ℕ, zero, suc, if◌then◌else◌, ⊤, ◌≡◌, Bool, false, reverse, List, [], ◌∷◌, length}
+use Rattle.std.specs.Prelude.{ℕ, zero, suc, if◌then◌else◌, ⊤, ◌≡◌, false, reverse, List, [], ◌∷◌, length}
 use Rattle.ssr_syntax_kinds.specs.declared.kinds.SyntaxKind.{SyntaxKind}
 use Rattle.ssr_syntax_kinds.specs.Kinds.{is_trivia}
 use Rattle.ssr_syntax_tree.specs.Syntax as plain
@@ -66,16 +66,12 @@ whole_tree kind kids ts =
 
 -- ** Where white space and comments don't stand.
 
-abbrev pub begins_with_trivia : List plain.Token → Bool
-begins_with_trivia [] = false
-begins_with_trivia (t ∷ ts) = is_trivia t.kind
-
 -- each of the nodes begins and ends with a token that is no white space and no comment
 abbrev pub IsTrimmed : plain.Forest → Type 0
 IsTrimmed plain.nothing = ⊤
 IsTrimmed (plain.leaf token next) = IsTrimmed next
 IsTrimmed (plain.branch kind below next) =
-    (begins_with_trivia (plain.tokens_in below) ≡ false)
-    × (begins_with_trivia (reverse (plain.tokens_in below)) ≡ false)
+    (plain.begins_with_trivia (plain.tokens_in below) ≡ false)
+    × (plain.begins_with_trivia (reverse (plain.tokens_in below)) ≡ false)
     × IsTrimmed below
     × IsTrimmed next

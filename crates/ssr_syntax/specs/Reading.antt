@@ -7,13 +7,13 @@ use Rattle.ssr_syntax_lex.specs.declared.tokens.RawToken.{RawToken}
 use Rattle.ssr_syntax_kinds.specs.Kinds.{is_trivia}
 use Rattle.ssr_syntax_lex.specs.Tokens.{tokens, token_text}
 use Rattle.ssr_syntax_tree.specs.Syntax as plain
-use Rattle.ssr_syntax_tree.specs.Syntax.{Syntax, depth_of, source_of}
+use Rattle.ssr_syntax_tree.specs.Syntax.{Syntax, depth_of, source_of, most_deep}
 use Rattle.ssr_syntax_types.specs.declared.goals.Goal.TheVariants as goals
 use Rattle.ssr_syntax_types.specs.declared.goals.ExprPlace.TheVariants.{Anywhere}
 use Rattle.ssr_syntax_types.specs.declared.goals.ItemPlace.TheVariants.{InModule}
 use Rattle.ssr_syntax_types.specs.declared.goals.PatPlace.TheVariants.{TopLevel}
-use Rattle.ssr_syntax.specs.declared.fragments.Fragment.{Fragment}
-use Rattle.ssr_syntax.specs.declared.fragments.Fragment.TheVariants as fragments
+use Rattle.ssr_syntax_kinds.specs.declared.fragment.Fragment.{Fragment}
+use Rattle.ssr_syntax_kinds.specs.declared.fragment.Fragment.TheVariants as fragments
 use Rattle.ssr_syntax.specs.declared.syntax_error.SyntaxError.{SyntaxError}
 use Rattle.ssr_syntax.specs.declared.syntax_error.SyntaxError.TheVariants as errors
 use Rattle.ssr_syntax_forms.specs.declared.tokens.Token.{Token}
@@ -28,10 +28,6 @@ use Rattle.ssr_syntax.specs.Grammar.{grammar}
 use Rattle.ssr_syntax.specs.Solid.{solid_tokens}
 use Rattle.ssr_syntax.specs.Lossless.{whole_tree, IsTrimmed}
 use Rattle.ssr_syntax.specs.MacroRules.{misnames_macros}
-
--- how deep a tree may be
-abbrev pub most_deep : ℕ
-most_deep = 1024
 
 -- A tree is read where no more nodes than these stand above one another: the root, and 1,024 below it.
 abbrev pub most_high : ℕ

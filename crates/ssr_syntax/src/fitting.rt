@@ -6,9 +6,9 @@ ghost use Rattle.ssr_syntax.specs.Expansions.{IsTreeOfExpansion};
 ghost use Rattle.ssr_syntax_tree.specs.Syntax.{source_of};
 
 use crate::expansions::{ExpToken, ExpansionKind, parse_tokens};
-use crate::fragments::Fragment;
 use crate::reading::{fragment, parse_file};
 use crate::syntax_error::SyntaxError;
+use ssr_syntax_kinds::Fragment;
 use ssr_syntax_tree::Tree;
 use std::alloc::{AllocError, Global};
 

@@ -8,13 +8,13 @@ ghost use Rattle.ssr_syntax.specs.Private.Reading.{end_before};
 ghost use Rattle.ssr_syntax.specs.Private.SolidKinds.{kinds_begin_solid};
 ghost use Rattle.ssr_syntax.specs.Reading.{Answers, FitsFragment, IsLexedTrimmed, IsThatOrTooDeep, IsTreeOfFragment, as_token, fragment_reading, pieces, trimmed};
 
-use crate::fragments::Fragment;
+use crate::fragments::goal;
 use crate::grammar::parse_as;
 use crate::reading::{check_length, token_rows, written_tree};
 use crate::solid::solid_tokens;
 use crate::syntax_error::SyntaxError;
 use ssr_syntax_forms::Token;
-use ssr_syntax_kinds::{SyntaxKind, TokenRow, TokenRows};
+use ssr_syntax_kinds::{Fragment, SyntaxKind, TokenRow, TokenRows};
 use ssr_syntax_tree::Tree;
 use std::alloc::{AllocError, Global};
 use std::marker::Model;
@@ -71,7 +71,7 @@ impl FragmentText {
         if !is_solid_outside(self.rows.kinds()) {
             return Err(SyntaxError::NoTree);
         }
-        let written = parse_as(alloc, fragment.goal(), &self.solid, self.rows.kinds())?;
+        let written = parse_as(alloc, goal(fragment), &self.solid, self.rows.kinds())?;
         // A tree owns its text and its rows. They are copied only where the tokens are those of a tree.
         let text = String::from_str(alloc, self.text.as_str().trim())?;
         let rows = copied(alloc, &self.rows)?;

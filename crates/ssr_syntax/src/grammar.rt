@@ -5,12 +5,12 @@ ghost use Rattle.ssr_syntax.specs.Reading.{reading};
 ghost use Rattle.ssr_syntax_forms.specs.Parser.{Steps};
 ghost use Rattle.ssr_syntax_forms.specs.Runs.{Runs, run_goal};
 
-use ssr_syntax_adts::uses::use_tree;
 use ssr_syntax_exprs::blocks::if_expr;
 use ssr_syntax_exprs::conditions::condition;
 use ssr_syntax_exprs::expressions::{at_most_all, expr, operand, unary};
 use ssr_syntax_exprs::generic_args::generic_arg_list;
 use ssr_syntax_forms::{Fault, Output, Parser, Token};
+use ssr_syntax_item_parts::uses::use_tree;
 use ssr_syntax_items::items::{item, macro_items, source_file};
 use ssr_syntax_items::statements::{lone_stmt, macro_stmts, match_arm, stmt_list};
 use ssr_syntax_kinds::SyntaxKind;

@@ -6,7 +6,7 @@ ghost use Rattle.ssr_syntax_lex.specs.Tokens.{tokens};
 ghost use Rattle.ssr_syntax_tree.specs.Syntax.{Syntax, tokens_of};
 ghost use Rattle.ssr_syntax.specs.declared.expansions.ExpToken.{ExpToken};
 ghost use Rattle.ssr_syntax.specs.declared.expansions.ExpansionKind.{ExpansionKind};
-ghost use Rattle.ssr_syntax.specs.declared.fragments.Fragment.{Fragment};
+ghost use Rattle.ssr_syntax_kinds.specs.declared.fragment.Fragment.{Fragment};
 ghost use Rattle.ssr_syntax_types.specs.declared.goals.Goal.{Goal};
 ghost use Rattle.ssr_syntax.specs.Decision.{decide_fits};
 ghost use Rattle.ssr_syntax_forms.specs.Decision.{is_empty, reached};

@@ -3,7 +3,7 @@ ghost use Rattle.std.specs.Prelude.{◌≡◌, ◌+◌, ◌<◌, ◌≤◌, ◌^
 ghost use Rattle.ssr_syntax_kinds.specs.declared.kinds.SyntaxKind.{SyntaxKind};
 ghost use Rattle.ssr_syntax.specs.Private.Leaves.{rows as rows_of};
 ghost use Rattle.ssr_syntax.specs.Private.Preorder.{OkUnlessDeep, tree_rows, most_nodes};
-ghost use Rattle.ssr_syntax.specs.Reading.{most_deep};
+ghost use Rattle.ssr_syntax_tree.specs.Syntax.{most_deep};
 ghost use Rattle.ssr_syntax.specs.Private.OpenNodes.{opened, AreEnough, IsClosed, IsOpened, IsFromRight};
 ghost use Rattle.ssr_syntax_forms.specs.Trees.{Forest, done, height, tree};
 ghost use Rattle.ssr_syntax_forms.specs.Places.{Place};

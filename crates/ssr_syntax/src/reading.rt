@@ -9,7 +9,7 @@ ghost use Rattle.ssr_syntax_types.specs.declared.goals.Goal.{Goal};
 ghost use Rattle.ssr_syntax_tree.specs.Syntax.{Syntax};
 
 use crate::fragment_text::is_solid_outside;
-use crate::fragments::Fragment;
+use crate::fragments::goal;
 use crate::grammar::parse_as;
 use crate::macro_rules::misnames_macros;
 use crate::preorder::node_rows;
@@ -17,7 +17,7 @@ use crate::solid::solid_tokens;
 use crate::syntax_error::SyntaxError;
 use crate::tree_tokens::tree_tokens;
 use ssr_syntax_forms::{Output, Token};
-use ssr_syntax_kinds::TokenRows;
+use ssr_syntax_kinds::{Fragment, TokenRows};
 use ssr_syntax_lex::{LexError, lex_rows};
 use ssr_syntax_tree::Tree;
 use ssr_syntax_types::goals::Goal;
@@ -139,6 +139,6 @@ pub fn fragment(alloc: Global, fragment: Fragment, text: &str) -> Result<(Tree, 
     }
     let front = text.len().saturating_sub(text.trim_start().len()) as u32;
     let source = String::from_str(alloc, inner)?;
-    let tree = read_tokens(alloc, fragment.goal(), source, rows)?;
+    let tree = read_tokens(alloc, goal(fragment), source, rows)?;
     Ok((tree, front))
 }

@@ -12,9 +12,9 @@ use Rattle.ssr_syntax_types.specs.Paths.{name, open_angle, ret_type, simple_path
 use Rattle.ssr_syntax_types.specs.Types.{type_bound_list}
 use Rattle.ssr_syntax_types.specs.TokenTrees.{attrs, curly_tree, inner_attr, paren_or_bracket_tree}
 use Rattle.ssr_syntax_exprs.specs.Blocks.{block_expr}
-use Rattle.ssr_syntax_adts.specs.Params.{generic_param_list, generic_params, param_list, visibility, wheres}
-use Rattle.ssr_syntax_adts.specs.Adts.{enum_item, struct_item}
-use Rattle.ssr_syntax_adts.specs.Uses.{macro_path_first, name_or_underscore, use_item}
+use Rattle.ssr_syntax_item_parts.specs.Params.{generic_param_list, generic_params, param_list, visibility, wheres}
+use Rattle.ssr_syntax_item_parts.specs.Adts.{enum_item, struct_item}
+use Rattle.ssr_syntax_item_parts.specs.Uses.{macro_path_first, name_or_underscore, use_item}
 
 abbrev pub trait_first : List SyntaxKind
 trait_first = k.UNSAFE_KW ∷ k.TRAIT_KW ∷ []

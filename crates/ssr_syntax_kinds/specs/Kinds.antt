@@ -15,6 +15,10 @@ is_trivia k.WHITESPACE = true
 is_trivia k.COMMENT = true
 is_trivia _ = false
 
+abbrev pub is_ident : SyntaxKind → Bool
+is_ident k.IDENT = true
+is_ident _ = false
+
 -- the kind's name, as Debug writes it
 unfoldable pub name : SyntaxKind → List ℕ
 name k.WHITESPACE = codes "WHITESPACE"

@@ -6,10 +6,12 @@ pub use Rattle.ssr_syntax_tree.proofs.Nodes.{node_is, node_left, node_found, nod
 -- how many nodes and tokens there are
 pub use Rattle.ssr_syntax_tree.proofs.Siblings.{length-nodes_in, length-tokens_in}
 pub use Rattle.ssr_syntax_tree.proofs.RowLaws.{length-nodes_of}
+-- the texts of tokens
+pub use Rattle.ssr_syntax_tree.proofs.RowLaws.{spelled-texts}
 -- nodes above one another
 pub use Rattle.ssr_syntax_tree.proofs.Above.{IsOver, IsInside, inside, root_size, below_root, over_within}
 -- the children of a node
 pub use Rattle.ssr_syntax_tree.proofs.Places.{IsChild, children_known, elements_had, parts_of-elements_of}
 -- ranges
 pub use Rattle.ssr_syntax_tree.proofs.RowLaws.{offset_grows}
-pub use Rattle.ssr_syntax_tree.proofs.Ranges.{start_before_end, start_of-below, end_of-below, ranges_apart, IsOf, Spans, spans_children}
+pub use Rattle.ssr_syntax_tree.proofs.Ranges.{start_before_end, start_of-below, end_of-below, ranges_apart, IsOf}

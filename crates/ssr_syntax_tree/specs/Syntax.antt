@@ -1,7 +1,7 @@
 -- A plain syntax tree: what contracts see of a `Tree`. Trivia are leaves like the other tokens.
-use Rattle.std.specs.Prelude.{ℕ, ◌+◌, Bool, ◌&&◌, bytes_eq, List, [], ◌∷◌, ◌++◌, max}
+use Rattle.std.specs.Prelude.{ℕ, ◌+◌, Bool, false, ◌&&◌, bytes_eq, List, [], ◌∷◌, ◌++◌, max}
 use Rattle.std.specs.List.{flat_map}
-use Rattle.ssr_syntax_kinds.specs.Kinds.{same_kind}
+use Rattle.ssr_syntax_kinds.specs.Kinds.{same_kind, is_trivia}
 use Rattle.ssr_syntax_kinds.specs.declared.kinds.SyntaxKind.{SyntaxKind}
 
 -- a token of a tree: its kind and its bytes
@@ -61,3 +61,12 @@ height (branch kind below next) = max (1 + height below) (height next)
 -- the depth of the deepest node, the root's being 0
 abbrev pub depth_of : Syntax → ℕ
 depth_of syntax = height syntax.children
+
+-- how deep a tree may be that is read of a text
+abbrev pub most_deep : ℕ
+most_deep = 1024
+
+-- whether the first of the tokens is white space or a comment
+abbrev pub begins_with_trivia : List Token → Bool
+begins_with_trivia [] = false
+begins_with_trivia (t ∷ ts) = is_trivia t.kind

@@ -1,6 +1,6 @@
 -- Private: names that are collected from token trees.
 use Rattle.std.specs.Prelude.{ℕ, ◌≡◌, ◌||◌, Bool, List, Option, Some, None, if◌then◌else◌}
-use Rattle.ssr_syntax.specs.Identifiers.{is_ident}
+use Rattle.ssr_syntax_kinds.specs.Kinds.{is_ident}
 use Rattle.ssr_syntax_tree.specs.Places.{Node, Part, token_part, node_part}
 use Rattle.ssr_syntax_tree.specs.Syntax.{Syntax}
 use Rattle.ide_ssr_rules.specs.Elements.{has}

@@ -1,8 +1,7 @@
 -- Private: what the steps of building find and keep.
 use Rattle.std.specs.Prelude.{ℕ, ◌+◌, ◌≡◌, ◌<◌, ◌≤◌, length, None}
-use Rattle.ssr_syntax_tree.specs.Syntax.{Syntax, depth_of}
+use Rattle.ssr_syntax_tree.specs.Syntax.{Syntax, depth_of, most_deep}
 use Rattle.ssr_syntax_tree.specs.Places.{HasNode, node_of, start_of}
-use Rattle.ssr_syntax.specs.Reading.{most_deep}
 use Rattle.ssr_base.specs.declared.ids.NodeId.{NodeId}
 use Rattle.ssr_base.specs.Workspace.{Expanded, Workspace, trees, nesting, expansion_of}
 use Rattle.ssr_base.specs.Building.{most_nested}

@@ -6,7 +6,7 @@ use Rattle.ssr_syntax.specs.declared.preorder.Open.{Open}
 use Rattle.ssr_syntax.specs.declared.syntax_error.SyntaxError.{SyntaxError}
 use Rattle.ssr_syntax.specs.Private.Preorder.{OkUnlessDeep}
 use Rattle.ssr_syntax.specs.Private.Turning.{TurningRows}
-use Rattle.ssr_syntax.specs.Reading.{most_deep}
+use Rattle.ssr_syntax_tree.specs.Syntax.{most_deep}
 
 -- the nodes that stay open when those that begin at `place` or behind it are closed
 abbrev pub still_open : ℕ → List Open → List Open

@@ -1,7 +1,7 @@
 use Rattle.std.proofs.Common.{arith, ap, sym, ◌≡◌, ◌∙◌, ◌++◌, [], ◌∷◌, length, length-append}
 use Rattle.std.specs.Prelude.{reverse}
 use Rattle.std.proofs.lemmas.List.{reverse-append, length-reverse}
-use Rattle.ssr_syntax.specs.Reading.{most_deep}
+use Rattle.ssr_syntax_tree.specs.Syntax.{most_deep}
 use Rattle.ssr_syntax.specs.Private.OpenNodes.{from_right, is_deeper}
 use Rattle.ssr_syntax.proofs.Placed.{closed_at_end, all_closed}
 use Rattle.ssr_syntax.proofs.preorder.from_right.Goals as goal

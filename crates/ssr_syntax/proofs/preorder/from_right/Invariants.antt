@@ -1,6 +1,6 @@
 use Rattle.std.proofs.Common.{◌≡◌, ◌++◌, ◌≤◌, length, vec_capacity}
 use Rattle.std.specs.Prelude.{reverse}
-use Rattle.ssr_syntax.specs.Reading.{most_deep}
+use Rattle.ssr_syntax_tree.specs.Syntax.{most_deep}
 use Rattle.ssr_syntax.specs.Private.OpenNodes.{from_right, is_deeper, AreEnough}
 use Rattle.ssr_syntax.proofs.preorder.from_right.Given as goal
 

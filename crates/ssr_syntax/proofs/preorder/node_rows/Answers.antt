@@ -1,7 +1,7 @@
 use Rattle.std.proofs.Common.{arith, ◌≡◌, ◌≤◌, ◌∙◌, ◌++◌, [], ◌∷◌, ap, sym, length}
 use Rattle.std.specs.Prelude.{reverse, nat_lt}
 use Rattle.ssr_syntax.specs.Private.Preorder.{tree_rows, most_nodes}
-use Rattle.ssr_syntax.specs.Reading.{most_deep}
+use Rattle.ssr_syntax_tree.specs.Syntax.{most_deep}
 use Rattle.ssr_syntax.specs.Private.OpenNodes.{is_deeper}
 use Rattle.ssr_syntax_forms.specs.Trees.{height}
 use Rattle.ssr_syntax.proofs.Placed.{rows_done, rows_too_deep, root_open, carried}

@@ -1,6 +1,6 @@
 use Rattle.std.proofs.Common.{rules}
-use Rattle.ssr_syntax_adts.specs.Uses.{use_item}
-use Rattle.ssr_syntax_adts.proofs.uses.use_item.Goals as goal
+use Rattle.ssr_syntax_item_parts.specs.Uses.{use_item}
+use Rattle.ssr_syntax_item_parts.proofs.uses.use_item.Goals as goal
 
 pub returns : goal.returns
 unfolding use_item

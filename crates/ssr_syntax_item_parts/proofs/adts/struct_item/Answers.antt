@@ -1,6 +1,6 @@
 use Rattle.std.proofs.Common.{rules}
-use Rattle.ssr_syntax_adts.specs.Adts.{struct_item}
-use Rattle.ssr_syntax_adts.proofs.adts.struct_item.Goals as goal
+use Rattle.ssr_syntax_item_parts.specs.Adts.{struct_item}
+use Rattle.ssr_syntax_item_parts.proofs.adts.struct_item.Goals as goal
 
 pub returns : goal.returns
 unfolding struct_item

@@ -1,5 +1,5 @@
 //! The functions that read structures and enumerations.
-ghost use Rattle.ssr_syntax_adts.specs.Adts as form;
+ghost use Rattle.ssr_syntax_item_parts.specs.Adts as form;
 ghost use Rattle.ssr_syntax_forms.specs.Runs.{Runs, RunsAnywhere, RunsFrom};
 
 use crate::params::{field_visibility, generic_params, visibility, wheres};

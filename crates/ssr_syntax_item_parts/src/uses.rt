@@ -1,6 +1,6 @@
 //! The functions that read what is used, and by which names.
 ghost use Rattle.std.specs.Prelude.{◌≡◌};
-ghost use Rattle.ssr_syntax_adts.specs.Uses as form;
+ghost use Rattle.ssr_syntax_item_parts.specs.Uses as form;
 ghost use Rattle.ssr_syntax_forms.specs.Forms.{passes};
 ghost use Rattle.ssr_syntax_forms.specs.Runs.{Runs, RunsAnywhere, RunsFrom};
 

@@ -8,7 +8,7 @@ use Rattle.ssr_syntax_types.specs.declared.goals.ExprPlace.TheVariants.{Anywhere
 use Rattle.ssr_syntax_forms.specs.Forms.{Form, ◌then◌, child, mark, seal, choose, a, at, optional, comma_list}
 use Rattle.ssr_syntax_types.specs.Paths.{name, type_first}
 use Rattle.ssr_syntax_types.specs.TokenTrees.{attrs}
-use Rattle.ssr_syntax_adts.specs.Params.{field_visibility, generic_params, visibility, wheres}
+use Rattle.ssr_syntax_item_parts.specs.Params.{field_visibility, generic_params, visibility, wheres}
 
 abbrev pub record_field_first : List SyntaxKind
 record_field_first = k.IDENT ∷ k.POUND ∷ k.PUB_KW ∷ []

@@ -1,6 +1,6 @@
 //! The functions that read parameters, `where` and visibility.
 ghost use Rattle.std.specs.Prelude.{◌≡◌};
-ghost use Rattle.ssr_syntax_adts.specs.Params as form;
+ghost use Rattle.ssr_syntax_item_parts.specs.Params as form;
 ghost use Rattle.ssr_syntax_forms.specs.Forms.{passes};
 ghost use Rattle.ssr_syntax_forms.specs.Runs.{Runs, RunsAnywhere, RunsFrom};
 

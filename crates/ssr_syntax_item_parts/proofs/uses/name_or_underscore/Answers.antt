@@ -1,6 +1,6 @@
 use Rattle.std.proofs.Common.{rules}
-use Rattle.ssr_syntax_adts.specs.Uses.{name_or_underscore}
-use Rattle.ssr_syntax_adts.proofs.uses.name_or_underscore.Goals as goal
+use Rattle.ssr_syntax_item_parts.specs.Uses.{name_or_underscore}
+use Rattle.ssr_syntax_item_parts.proofs.uses.name_or_underscore.Goals as goal
 
 pub returns-then-at : goal.returns-then-at
 unfolding name_or_underscore

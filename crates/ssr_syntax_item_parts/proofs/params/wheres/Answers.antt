@@ -1,6 +1,6 @@
 use Rattle.std.proofs.Common.{rules}
-use Rattle.ssr_syntax_adts.specs.Params.{wheres}
-use Rattle.ssr_syntax_adts.proofs.params.wheres.Goals as goal
+use Rattle.ssr_syntax_item_parts.specs.Params.{wheres}
+use Rattle.ssr_syntax_item_parts.proofs.params.wheres.Goals as goal
 
 pub returns-then-at : goal.returns-then-at
 unfolding wheres

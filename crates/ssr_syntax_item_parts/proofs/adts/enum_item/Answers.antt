@@ -1,6 +1,6 @@
 use Rattle.std.proofs.Common.{rules}
-use Rattle.ssr_syntax_adts.specs.Adts.{enum_item}
-use Rattle.ssr_syntax_adts.proofs.adts.enum_item.Goals as goal
+use Rattle.ssr_syntax_item_parts.specs.Adts.{enum_item}
+use Rattle.ssr_syntax_item_parts.proofs.adts.enum_item.Goals as goal
 
 pub returns : goal.returns
 unfolding enum_item

@@ -1,7 +1,0 @@
-use Rattle.std.proofs.Common.{rules}
-use Rattle.ssr_syntax_adts.specs.Params.{visibility}
-use Rattle.ssr_syntax_adts.proofs.params.visibility.Goals as goal
-
-pub returns : goal.returns
-unfolding visibility
-returns g c = search rules
