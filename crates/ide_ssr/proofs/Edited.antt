@@ -1,8 +1,8 @@
 -- The edits of a finder are those of what its search comes to.
 use Rattle.std.proofs.Common.{◌≡◌, List, Result, Ok, Err, ap, subst}
 use Rattle.std.specs.BTreeMap.{BTreeMap}
-use Rattle.ssr_base.specs.declared.ids.FileId.{FileId}
-use Rattle.ssr_base.specs.Changes.{Change}
+use Rattle.ssr_base_trees.specs.declared.ids.FileId.{FileId}
+use Rattle.ssr_base_trees.specs.Changes.{Change}
 use Rattle.ide_ssr_resolving.specs.Resolved.{ResolvedKind}
 use Rattle.ide_ssr_nesting.specs.Holding.{Kept}
 use Rattle.ide_ssr_nesting.specs.Lists.{Listing}

@@ -1,7 +1,7 @@
 -- What nested matches bind: each match binds each placeholder of its rule once, to ranges that share no byte.
 use Rattle.std.specs.Prelude.{ℕ, ◌≡◌, ◌≢◌, ◌↔◌, List, Some, map, slice_get, All, AllPairs, Contains}
 use Rattle.ide_ssr_resolving.specs.Resolved.{ResolvedKind}
-use Rattle.ide_ssr_found.specs.Found.{AreDisjoint}
+use Rattle.ide_ssr_bindings.specs.Found.{AreDisjoint}
 use Rattle.ide_ssr.specs.declared.matches.Match.{Match}
 use Rattle.ide_ssr.specs.declared.matches.PlaceholderMatch.{PlaceholderMatch}
 use Rattle.ide_ssr.specs.Matches.{rule_of, placeholders_of, name_of, span_of, inner_of}

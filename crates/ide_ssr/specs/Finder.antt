@@ -1,7 +1,7 @@
 -- What contracts see of a finder: the workspace, the provider, what the search is made for, and the rules in their order.
 use Rattle.std.specs.Prelude.{List}
-use Rattle.ssr_base.specs.Meanings.{Meanings}
-use Rattle.ssr_base.specs.Workspace.{Workspace}
+use Rattle.ssr_base_trees.specs.Meanings.{Meanings}
+use Rattle.ssr_base_trees.specs.Workspace.{Workspace}
 use Rattle.ide_ssr_resolving.specs.Resolved.{ResolvedKind}
 use Rattle.ide_ssr_search.specs.Context.{Context}
 

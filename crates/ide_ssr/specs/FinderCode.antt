@@ -1,10 +1,10 @@
 -- For the logic alone: how it stores a finder. There is nothing to believe here.
 use Rattle.std.specs.Prelude.{ℕ, List, Option, refl}
 use Rattle.std.specs.Coded.{Coded, code_by, coded×, coded_list, coded_option, coded_ℕ}
-use Rattle.ssr_base.specs.declared.ids.NodeId.{NodeId}
-use Rattle.ssr_base.specs.Origins.{Span}
-use Rattle.ssr_base.specs.Workspace.{Workspace, FileSpan}
-use Rattle.ssr_base.specs.WorkspaceCode.{span_code, id_code, workspace_code}
+use Rattle.ssr_base_trees.specs.declared.ids.NodeId.{NodeId}
+use Rattle.ssr_base_trees.specs.Origins.{Span}
+use Rattle.ssr_base_trees.specs.Workspace.{Workspace, FileSpan}
+use Rattle.ssr_base_trees.specs.WorkspaceCode.{span_code, id_code, workspace_code}
 use Rattle.ide_ssr_resolving.specs.Resolved.{ResolvedKind}
 use Rattle.ide_ssr_resolving.specs.ResolvedCode.{resolved_code}
 use Rattle.ide_ssr_search.specs.Context.{Context}

@@ -2,11 +2,11 @@
 use Rattle.std.specs.Prelude.{ℕ, ◌≡◌, List, [], Option, Some, map, slice_index_or, All}
 use Rattle.std.specs.Option.{IsSomeAnd, option_map_or}
 use Rattle.ssr_syntax_tree.specs.Places.{node_of as code_node, text_of as node_text}
-use Rattle.ssr_base.specs.Laws.{LiesInFile}
-use Rattle.ssr_base.specs.Workspace.{Workspace, FileSpan, trees, tree_of, file_span_of, original_range}
+use Rattle.ssr_base_trees.specs.Laws.{LiesInFile}
+use Rattle.ssr_base_trees.specs.Workspace.{Workspace, FileSpan, trees, tree_of, file_span_of, original_range}
 use Rattle.ide_ssr_resolving.specs.Resolved.{ResolvedKind}
-use Rattle.ide_ssr_found.specs.declared.bindings.Binding.{Binding}
-use Rattle.ide_ssr_found.specs.Found.{Found, held_range}
+use Rattle.ide_ssr_bindings.specs.declared.bindings.Binding.{Binding}
+use Rattle.ide_ssr_bindings.specs.Found.{FoundMatch, held_range}
 use Rattle.ide_ssr.specs.declared.matches.Match.{Match}
 use Rattle.ide_ssr.specs.declared.matches.PlaceholderMatch.{PlaceholderMatch}
 use Rattle.ide_ssr.specs.Comments.{comment_spans}
@@ -18,7 +18,7 @@ pub record ComesFrom (w : Workspace) (original : Option FileSpan) (range : FileS
   pub in_file : LiesInFile w range
 
 -- a match has the rule, the node, where it comes from, its text in its own tree, and the comments that it keeps
-pub record HasParts (w : Workspace) (m : Found) (v : Match) : Type 0 where
+pub record HasParts (w : Workspace) (m : FoundMatch) (v : Match) : Type 0 where
   pub rule : rule_of v ≡ m.rule
   pub node : node_of v ≡ m.node
   pub range : ComesFrom w (original_range (trees w) m.node) (file_span_of (range_of v))

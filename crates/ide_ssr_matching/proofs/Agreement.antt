@@ -12,13 +12,13 @@ use Rattle.ssr_syntax_kinds.specs.declared.kinds.SyntaxKind.TheVariants as k
 use Rattle.ssr_syntax_kinds.specs.Kinds.{same_kind}
 use Rattle.ssr_syntax_tree.specs.Syntax.{Token}
 use Rattle.ssr_syntax_tree.specs.Places.{Node, Part, token_part, node_part, parts_of, size_of}
-use Rattle.ssr_base.specs.declared.semantics.Res.{Res}
-use Rattle.ssr_base.specs.Meanings.{Meanings}
+use Rattle.ssr_base_trees.specs.declared.semantics.Res.{Res}
+use Rattle.ssr_base_trees.specs.Meanings.{Meanings}
 use Rattle.ide_ssr_resolving.specs.declared.qualified_calls.QualifiedCall.{QualifiedCall}
 use Rattle.ide_ssr_resolving.specs.Placeholders.{placeholder_at}
 use Rattle.ide_ssr_resolving.specs.Resolved.{ResolvedKind, meets}
-use Rattle.ide_ssr_found.specs.declared.bindings.Binding.{Binding}
-use Rattle.ide_ssr_found.specs.Found.{node_binding}
+use Rattle.ide_ssr_bindings.specs.declared.bindings.Binding.{Binding}
+use Rattle.ide_ssr_bindings.specs.Found.{node_binding}
 use Rattle.ide_ssr_matching.specs.Children.{bare}
 use Rattle.ide_ssr_token_trees.specs.Bindings.{tree_bindings, joined}
 use Rattle.ide_ssr_token_trees.proofs.Shared.{tree_bindings-TreesMatch, TreesMatch-tree_bindings}

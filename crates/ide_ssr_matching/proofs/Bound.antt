@@ -15,8 +15,8 @@ use Rattle.ssr_syntax_tree.specs.declared.number.NodeNo.{NodeNo}
 use Rattle.ssr_syntax_tree.specs.Syntax.{Syntax, Forest, nothing, leaf, branch, token_count, node_count, tokens_in, tokens_of}
 use Rattle.ssr_syntax_tree.specs.Places.{Node, Part, token_part, node_part, node_of, parts_in, parts_of, root_of}
 use Rattle.ssr_syntax_tree.proofs.Shared.{IsOf}
-use Rattle.ssr_base.specs.declared.semantics.Res.{Res}
-use Rattle.ssr_base.specs.Meanings.{Meanings}
+use Rattle.ssr_base_trees.specs.declared.semantics.Res.{Res}
+use Rattle.ssr_base_trees.specs.Meanings.{Meanings}
 use Rattle.ide_ssr_resolving.specs.declared.used.UsedPath.{UsedPath}
 use Rattle.ide_ssr_resolving.specs.Paths.{below_first, first_of_kind, is_arguments, from_arguments as forest_arguments, path_arguments}
 use Rattle.ide_ssr_resolving.proofs.Shared.{tokens_of_node}
@@ -26,7 +26,7 @@ use Rattle.ide_ssr_rules.specs.StandIns.{name_at}
 use Rattle.ide_ssr_resolving.specs.Placeholders.{only_token, placeholder_at}
 use Rattle.ide_ssr_resolving.specs.Resolved.{ResolvedKind}
 use Rattle.ide_ssr_resolving.specs.Used.{is_at, res_at}
-use Rattle.ide_ssr_found.specs.declared.bindings.Binding.{Binding}
+use Rattle.ide_ssr_bindings.specs.declared.bindings.Binding.{Binding}
 use Rattle.ide_ssr_matching.specs.Children.{is_left_out, bare}
 use Rattle.ide_ssr_matching.specs.UsedPaths.{from_arguments, arguments_of, pattern_res}
 use Rattle.ide_ssr_token_trees.specs.Placeholders.{placeholders_from}
@@ -34,8 +34,8 @@ use Rattle.ide_ssr_token_trees.proofs.Shared.{trees_bound}
 use Rattle.ide_ssr_matching.specs.TokenTrees.{is_tree, token_placeholder, has_token_placeholder, is_plain, is_by_parts}
 use Rattle.ide_ssr_matching.specs.Matching.{Matches, bound, token_trees, method, used, alike, Pairs, end, tokens, nodes, named}
 use Rattle.ide_ssr_matching.specs.Bindings.{counted}
-use Rattle.ide_ssr_found.specs.declared.receivers.Receiver.{Receiver}
-use Rattle.ide_ssr_found.specs.Receivers.{is_node, received}
+use Rattle.ide_ssr_bindings.specs.declared.receivers.Receiver.{Receiver}
+use Rattle.ide_ssr_bindings.specs.Receivers.{is_node, received}
 use Rattle.ide_ssr_matching.specs.Sides.{Sides, kept}
 use Rattle.ide_ssr_matching.specs.Calls.{nodes_among, child_nodes, PathCall}
 use Rattle.ide_ssr_matching.proofs.CallParts.{nodes_all, IsCalled, method_match, callee_used}

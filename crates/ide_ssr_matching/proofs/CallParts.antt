@@ -8,11 +8,11 @@ use Rattle.ssr_syntax_kinds.specs.declared.kinds.SyntaxKind.{SyntaxKind}
 use Rattle.ssr_syntax_kinds.specs.declared.kinds.SyntaxKind.TheVariants as k
 use Rattle.ssr_syntax_kinds.specs.Kinds.{same_kind}
 use Rattle.ssr_syntax_tree.specs.Places.{Node, Part, token_part, node_part, parts_of}
-use Rattle.ssr_base.specs.Meanings.{Meanings}
+use Rattle.ssr_base_trees.specs.Meanings.{Meanings}
 use Rattle.ide_ssr_resolving.specs.declared.qualified_calls.QualifiedCall.{QualifiedCall}
 use Rattle.ide_ssr_resolving.specs.Paths.{first_of_kind}
 use Rattle.ide_ssr_resolving.specs.Resolved.{ResolvedKind}
-use Rattle.ide_ssr_found.specs.declared.receivers.Receiver.{Receiver}
+use Rattle.ide_ssr_bindings.specs.declared.receivers.Receiver.{Receiver}
 use Rattle.ide_ssr_matching.specs.Children.{bare}
 use Rattle.ide_ssr_matching.specs.UsedPaths.{arguments_of, pattern_res}
 use Rattle.ide_ssr_matching.specs.Sides.{Sides}

@@ -8,20 +8,20 @@ use Rattle.ssr_syntax_kinds.specs.declared.kinds.SyntaxKind.TheVariants as k
 use Rattle.ssr_syntax_kinds.specs.Kinds.{same_kind}
 use Rattle.ssr_syntax_tree.specs.Syntax.{Syntax, same_token}
 use Rattle.ssr_syntax_tree.specs.Places.{Node, Part, token_part, node_part, node_of, size_of}
-use Rattle.ssr_base.specs.Meanings.{Meanings}
+use Rattle.ssr_base_trees.specs.Meanings.{Meanings}
 use Rattle.ide_ssr_resolving.specs.Placeholders.{placeholder_at}
 use Rattle.ide_ssr_resolving.specs.Resolved.{ResolvedKind, meets}
-use Rattle.ide_ssr_found.specs.declared.bindings.Binding.{Binding}
-use Rattle.ide_ssr_found.specs.declared.bindings.Held.{Held}
-use Rattle.ide_ssr_found.specs.declared.bindings.Held.TheVariants as held
-use Rattle.ide_ssr_found.specs.Found.{node_binding}
+use Rattle.ide_ssr_bindings.specs.declared.bindings.Binding.{Binding}
+use Rattle.ide_ssr_bindings.specs.declared.bindings.Held.{Held}
+use Rattle.ide_ssr_bindings.specs.declared.bindings.Held.TheVariants as held
+use Rattle.ide_ssr_bindings.specs.Found.{node_binding}
 use Rattle.ide_ssr_token_trees.specs.Bindings.{joined, tree_bindings}
 use Rattle.ide_ssr_token_trees.specs.Numbers.{held_later, bound_later}
 use Rattle.ide_ssr_token_trees.proofs.Shared.{bindings_later}
-use Rattle.ide_ssr_found.specs.declared.receivers.Receiver.{Receiver}
+use Rattle.ide_ssr_bindings.specs.declared.receivers.Receiver.{Receiver}
 use Rattle.ide_ssr_matching.specs.Bindings.{Binder, pair_by, pairs_by, sides_by, sides_of, other_by, node_by, step, bindings_by, bindings_of}
 use Rattle.ide_ssr_matching.specs.Matching.{Matches}
-use Rattle.ide_ssr_found.specs.Receivers.{is_node, received}
+use Rattle.ide_ssr_bindings.specs.Receivers.{is_node, received}
 use Rattle.ide_ssr_matching.specs.Sides.{Sides, kept}
 use Rattle.ide_ssr_matching.specs.TokenTrees.{is_tree, token_placeholder, tree_by, is_plain}
 use Rattle.ide_ssr_matching.specs.Trivia.{stripped_below, stripped_tree, AreToldAlike, held_anywhere, bound_anywhere, BindAlike}

@@ -7,7 +7,7 @@ use Rattle.ssr_syntax_tree.specs.Places.{Node, Part, token_part, node_part, part
 use Rattle.ide_ssr_rules.specs.StandIns.{name_at}
 use Rattle.ide_ssr_resolving.specs.Placeholders.{placeholder_at, token_placeholders}
 use Rattle.ide_ssr_resolving.specs.Resolved.{ResolvedKind}
-use Rattle.ide_ssr_found.specs.declared.bindings.Binding.{Binding}
+use Rattle.ide_ssr_bindings.specs.declared.bindings.Binding.{Binding}
 use Rattle.ide_ssr_token_trees.specs.Bindings.{placeholder_in, tree_bindings}
 
 abbrev pub is_tree : Node → Bool

@@ -10,7 +10,7 @@ ghost use Rattle.ide_ssr_matching.specs.Private.Children.{has_kind, solid, sibli
 
 use ide_ssr_resolving::{is_arguments, last_segment};
 use ide_ssr_token_trees::{closes, is_trivia};
-use ssr_base::Res;
+use ssr_base_trees::Res;
 use ssr_syntax_kinds::SyntaxKind;
 use ssr_syntax_tree::{Children, Element, NodeNo, Tree};
 

@@ -3,10 +3,10 @@
 ghost use Rattle.std.specs.Prelude.{◌≡◌, ℕ, List, Some, All, AllPairs};
 ghost use Rattle.ssr_syntax_tree.specs.Syntax.{Syntax};
 ghost use Rattle.ssr_syntax_tree.specs.Places.{Node, HasNode, node_of};
-ghost use Rattle.ssr_base.specs.Meanings.{Meanings};
+ghost use Rattle.ssr_base_trees.specs.Meanings.{Meanings};
 ghost use Rattle.ide_ssr_resolving.specs.Resolved.{ResolvedKind};
-ghost use Rattle.ide_ssr_found.specs.declared.bindings.Binding.{Binding};
-ghost use Rattle.ide_ssr_found.specs.Apart.{IsHeldIn, AreApart};
+ghost use Rattle.ide_ssr_bindings.specs.declared.bindings.Binding.{Binding};
+ghost use Rattle.ide_ssr_bindings.specs.Apart.{IsHeldIn, AreApart};
 ghost use Rattle.ide_ssr_matching.specs.Bindings.{bindings_of};
 ghost use Rattle.ide_ssr_matching.specs.Matching.{Matches};
 ghost use Rattle.ide_ssr_matching.specs.Trivia.{stripped_tree, AreToldAlike, BindAlike};

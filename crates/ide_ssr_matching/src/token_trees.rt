@@ -5,7 +5,7 @@ ghost use Rattle.ssr_syntax_tree.specs.Places.{HasNode, HasElement, node_of, par
 ghost use Rattle.ide_ssr_token_trees.specs.Bindings.{Answers};
 ghost use Rattle.ide_ssr_matching.specs.TokenTrees.{is_tree, tree_by, has_token_placeholder, is_plain};
 
-use ide_ssr_found::Binding;
+use ide_ssr_bindings::Binding;
 use ide_ssr_resolving::ResolvedRule;
 use ide_ssr_token_trees::match_token_trees;
 use ssr_syntax_kinds::SyntaxKind;

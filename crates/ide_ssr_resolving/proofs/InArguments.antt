@@ -16,9 +16,9 @@ use Rattle.ssr_syntax_kinds.specs.declared.kinds.SyntaxKind.TheVariants as k
 use Rattle.ssr_syntax_tree.specs.Places.{Node, HasNode, node_of, nodes_of, root_of}
 use Rattle.ssr_syntax_tree.specs.Syntax.{Token, Forest, nothing, leaf, branch, Syntax, tokens_in}
 use Rattle.ssr_syntax_tree.proofs.Shared.{length-nodes_of, node_is, node_of-number}
-use Rattle.ssr_base.specs.declared.ids.ScopeId.{ScopeId}
-use Rattle.ssr_base.specs.declared.semantics.Res.{Res}
-use Rattle.ssr_base.specs.Meanings.{Meanings}
+use Rattle.ssr_base_trees.specs.declared.ids.ScopeId.{ScopeId}
+use Rattle.ssr_base_trees.specs.declared.semantics.Res.{Res}
+use Rattle.ssr_base_trees.specs.Meanings.{Meanings}
 use Rattle.ide_ssr_rules.specs.Patterns.{placeholders_among}
 use Rattle.ide_ssr_rules.specs.StandIns.{name_at, is_stand_in, stand_in_of}
 use Rattle.ide_ssr_resolving.specs.declared.used.UsedPath.{UsedPath}

@@ -1,7 +1,7 @@
 -- Kinds resolved one by one, and the steps of each.
 use Rattle.std.proofs.Common.{◌≡◌, ℕ, List, [], ◌∷◌, ◌++◌, Result, Ok, Err, refl, ap, ◌∙◌, sym, append-nil, append_assoc}
-use Rattle.ssr_base.specs.declared.ids.ScopeId.{ScopeId}
-use Rattle.ssr_base.specs.Meanings.{Meanings}
+use Rattle.ssr_base_trees.specs.declared.ids.ScopeId.{ScopeId}
+use Rattle.ssr_base_trees.specs.Meanings.{Meanings}
 use Rattle.ide_ssr_constraints.specs.declared.constraints.Constraint.{Constraint}
 use Rattle.ide_ssr_refusals.specs.declared.error.SsrError.{SsrError}
 use Rattle.ide_ssr_rules.specs.declared.kinds.ParsedRule.{ParsedRule}

@@ -12,7 +12,7 @@ use Rattle.std.specs.Option.{is_some, option_map, option_or}
 use Rattle.ssr_syntax_tree.specs.declared.number.NodeNo.{NodeNo}
 use Rattle.ssr_syntax_tree.specs.Places.{HasNode}
 use Rattle.ssr_syntax_tree.specs.Syntax.{Syntax, node_count}
-use Rattle.ssr_base.specs.declared.semantics.Res.{Res}
+use Rattle.ssr_base_trees.specs.declared.semantics.Res.{Res}
 use Rattle.ide_ssr_resolving.specs.declared.used.UsedPath.{UsedPath}
 use Rattle.ide_ssr_resolving.specs.Private.Marks.{TellsRes}
 use Rattle.ide_ssr_resolving.specs.Used.{res_at, is_at, HasPaths}

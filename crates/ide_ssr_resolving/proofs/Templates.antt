@@ -1,8 +1,8 @@
 -- What a rule resolves to has a template in each kind.
 use Rattle.std.proofs.Common.{◌≡◌, ℕ, List, All, Ok, subst}
 use Rattle.std.specs.Prelude.{IsSome}
-use Rattle.ssr_base.specs.declared.ids.ScopeId.{ScopeId}
-use Rattle.ssr_base.specs.Meanings.{Meanings}
+use Rattle.ssr_base_trees.specs.declared.ids.ScopeId.{ScopeId}
+use Rattle.ssr_base_trees.specs.Meanings.{Meanings}
 use Rattle.ide_ssr_rules.specs.Rules.{Rule, rule_reading}
 use Rattle.ide_ssr_rules.proofs.Shared.{HasTemplate, rule_has}
 use Rattle.ide_ssr_resolving.specs.Resolved.{ResolvedKind, resolved_kinds}

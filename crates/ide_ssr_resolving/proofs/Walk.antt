@@ -7,9 +7,9 @@ use Rattle.std.proofs.lemmas.List.Folds.{find-append, list_any_none, list_any-fr
 use Rattle.std.specs.Prelude.{nat_lt, cond}
 use Rattle.std.specs.List.{filter, filter_map, find, cons_option}
 use Rattle.std.specs.Option.{option_map, option_map_or, option_or}
-use Rattle.ssr_base.specs.declared.ids.ScopeId.{ScopeId}
-use Rattle.ssr_base.specs.declared.semantics.Res.{Res}
-use Rattle.ssr_base.specs.Meanings.{Meanings}
+use Rattle.ssr_base_trees.specs.declared.ids.ScopeId.{ScopeId}
+use Rattle.ssr_base_trees.specs.declared.semantics.Res.{Res}
+use Rattle.ssr_base_trees.specs.Meanings.{Meanings}
 use Rattle.ssr_syntax_tree.specs.declared.number.NodeNo.{NodeNo}
 use Rattle.ssr_syntax_tree.specs.Places.{Node, HasNode, node_of, nodes_of, root_of, size_of}
 use Rattle.ssr_syntax_tree.specs.Syntax.{Syntax, node_count}

@@ -8,13 +8,13 @@ use Rattle.ssr_syntax_kinds.specs.Kinds.{same_kind}
 use Rattle.ssr_syntax_tree.specs.declared.number.NodeNo.{NodeNo}
 use Rattle.ssr_syntax_tree.specs.Places.{HasNode, node_of}
 use Rattle.ssr_syntax_tree.specs.Syntax.{Forest, Syntax}
-use Rattle.ssr_base.specs.declared.ids.DefId.{DefId}
-use Rattle.ssr_base.specs.declared.ids.ScopeId.{ScopeId}
-use Rattle.ssr_base.specs.declared.ids.TypeId.{TypeId}
-use Rattle.ssr_base.specs.declared.semantics.DefInfo.{DefInfo}
-use Rattle.ssr_base.specs.declared.semantics.Res.{Res}
-use Rattle.ssr_base.specs.declared.semantics.Res.TheVariants as res
-use Rattle.ssr_base.specs.Meanings.{Meanings}
+use Rattle.ssr_base_trees.specs.declared.ids.DefId.{DefId}
+use Rattle.ssr_base_trees.specs.declared.ids.ScopeId.{ScopeId}
+use Rattle.ssr_base_trees.specs.declared.ids.TypeId.{TypeId}
+use Rattle.ssr_base_trees.specs.declared.semantics.DefInfo.{DefInfo}
+use Rattle.ssr_base_trees.specs.declared.semantics.Res.{Res}
+use Rattle.ssr_base_trees.specs.declared.semantics.Res.TheVariants as res
+use Rattle.ssr_base_trees.specs.Meanings.{Meanings}
 use Rattle.ide_ssr_resolving.specs.declared.qualified_calls.QualifiedCall.{QualifiedCall}
 use Rattle.ide_ssr_resolving.specs.declared.used.UsedPath.{UsedPath}
 use Rattle.ide_ssr_resolving.specs.Paths.{qualifier}

@@ -6,8 +6,8 @@ use Rattle.ssr_syntax_kinds.specs.declared.fragment.Fragment.{Fragment}
 use Rattle.ssr_syntax_tree.specs.declared.number.NodeNo.{NodeNo}
 use Rattle.ssr_syntax_tree.specs.Places.{node_of, text_of}
 use Rattle.ssr_syntax_tree.specs.Syntax.{Syntax}
-use Rattle.ssr_base.specs.declared.ids.ScopeId.{ScopeId}
-use Rattle.ssr_base.specs.Meanings.{Meanings}
+use Rattle.ssr_base_trees.specs.declared.ids.ScopeId.{ScopeId}
+use Rattle.ssr_base_trees.specs.Meanings.{Meanings}
 use Rattle.ide_ssr_constraints.specs.declared.constraints.Constraint.{Constraint}
 use Rattle.ide_ssr_rules.specs.declared.kinds.ParsedRule.{ParsedRule}
 use Rattle.ide_ssr_constraints.specs.Constraints.{are_met}

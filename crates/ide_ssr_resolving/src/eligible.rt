@@ -10,7 +10,7 @@ ghost use Rattle.ide_ssr_resolving.specs.Used.{HasPaths};
 
 use crate::qualified_calls::{QualifiedCall, first_in};
 use crate::used::UsedPath;
-use ssr_base::{DefKind, Res, Semantics};
+use ssr_base_trees::{DefKind, Res, Semantics};
 use ssr_syntax_kinds::SyntaxKind;
 use ssr_syntax_tree::{NodeNo, Tree};
 use std::alloc::{AllocError, Global};

@@ -8,7 +8,7 @@ ghost use Rattle.ide_ssr_resolving.specs.Used.{HasPaths};
 use crate::paths::qualifier;
 use crate::resolving::{adt_of, resolution};
 use crate::used::UsedPath;
-use ssr_base::{DefId, DefInfo, DefKind, Res, ScopeId, Semantics, TypeId};
+use ssr_base_trees::{DefId, DefInfo, DefKind, Res, ScopeId, Semantics, TypeId};
 use ssr_syntax_kinds::SyntaxKind;
 use ssr_syntax_tree::{NodeNo, Tree};
 use std::alloc::{AllocError, Global};

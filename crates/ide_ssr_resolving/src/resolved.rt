@@ -23,7 +23,7 @@ use ide_ssr_refusals::{Refusal, SsrError, Text};
 use ide_ssr_rules::{
     Names, ParsedKinds, ParsedRule, SsrPattern, SsrRule, pattern_kinds, rule_kinds,
 };
-use ssr_base::{Res, ScopeId, Semantics};
+use ssr_base_trees::{Res, ScopeId, Semantics};
 use ssr_syntax::Fragment;
 use ssr_syntax_kinds::SyntaxKind;
 use ssr_syntax_tree::{NodeNo, TokenNo, Tree};

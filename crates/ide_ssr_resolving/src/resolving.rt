@@ -7,7 +7,7 @@ ghost use Rattle.ide_ssr_resolving.specs.Resolving.{adt_of, told, told_member, r
 
 use crate::keys::key_of;
 use crate::paths::{last_name, qualifier};
-use ssr_base::{DefId, DefKind, Res, ScopeId, Semantics};
+use ssr_base_trees::{DefId, DefKind, Res, ScopeId, Semantics};
 use ssr_syntax_tree::{NodeNo, Tree};
 use std::alloc::{AllocError, Global};
 

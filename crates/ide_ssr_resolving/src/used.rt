@@ -11,7 +11,7 @@ use crate::paths::{first_child, last_name, qualifying};
 use crate::resolving::resolution;
 use crate::stand_ins::holds_stand_in;
 use ide_ssr_rules::Names;
-use ssr_base::{DefInfo, DefKind, Res, ScopeId, Semantics};
+use ssr_base_trees::{DefInfo, DefKind, Res, ScopeId, Semantics};
 use ssr_syntax_kinds::SyntaxKind;
 use ssr_syntax_tree::{NodeNo, Tree};
 use std::alloc::{AllocError, AllocFailed, Global};

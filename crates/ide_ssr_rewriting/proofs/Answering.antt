@@ -9,13 +9,13 @@ use Rattle.std.proofs.lemmas.List.Elements.{All-contains, All-filter, All-map, A
 use Rattle.std.proofs.lemmas.List.Filters.{All-dedup}
 use Rattle.std.proofs.lemmas.Option.{same_Some, slice_get-get_or}
 use Rattle.ssr_syntax_tree.specs.Syntax.{Syntax, source_of}
-use Rattle.ssr_base.specs.declared.ids.FileId.{FileId}
-use Rattle.ssr_base.specs.Changes.{Change, FitsText}
-use Rattle.ssr_base.specs.Laws.{LiesInFile, IsSpanOf}
-use Rattle.ssr_base.specs.Texts.{is_boundary}
-use Rattle.ssr_base.specs.Workspace.{Workspace, node_id}
+use Rattle.ssr_base_trees.specs.declared.ids.FileId.{FileId}
+use Rattle.ssr_base_trees.specs.Changes.{Change, FitsText}
+use Rattle.ssr_base_trees.specs.Laws.{LiesInFile, IsSpanOf}
+use Rattle.ssr_base_trees.specs.Texts.{is_boundary}
+use Rattle.ssr_base_trees.specs.Workspace.{Workspace, node_id}
 use Rattle.ide_ssr_resolving.specs.Resolved.{ResolvedKind}
-use Rattle.ide_ssr_found.specs.Found.{Found}
+use Rattle.ide_ssr_bindings.specs.Found.{FoundMatch}
 use Rattle.ide_ssr_nesting.specs.declared.holders.Holder.{Holder}
 use Rattle.ide_ssr_nesting.specs.Holding.{IsKept, Kept}
 use Rattle.ide_ssr_nesting.specs.Lists.{AreLists, Listing, listed}
@@ -33,7 +33,7 @@ use Rattle.ide_ssr_rewriting.proofs.Texts.{list_same, lists_same, one_text}
 known_same : (kept : Kept) (lists : Listing) (rules : List ResolvedKind) → IsNest kept lists → (f g : Texts) → AreTexts kept lists rules f → AreTexts kept lists rules g
     → (holder : Option Holder) (j : ℕ) → Contains (listed lists holder) j → f j ≡ g j
 known_same kept lists rules is f g fs gs holder j here =
-    let nobody : Found = record { rule = 0; node = node_id 0 0; bindings = [] } in
+    let nobody : FoundMatch = record { rule = 0; node = node_id 0 0; bindings = [] } in
     let within = All-contains (λ n. n < length kept.matches) (listed lists holder) j (is.lists holder).within here in
     one_text kept lists rules is f g fs gs j (get_or kept.matches j nobody) (slice_get-get_or kept.matches j nobody within)
 

@@ -6,7 +6,7 @@ use Rattle.std.proofs.lemmas.Bool.{cases_eq, eq-eqb, ne_eqb}
 use Rattle.std.proofs.lemmas.List.Elements.{All-contains, Contains-append_right}
 use Rattle.std.proofs.lemmas.Option.{same_Some, slice_get-get_or, slice_get_within}
 use Rattle.ide_ssr_resolving.specs.Resolved.{ResolvedKind}
-use Rattle.ide_ssr_found.specs.Found.{Found}
+use Rattle.ide_ssr_bindings.specs.Found.{FoundMatch}
 use Rattle.ide_ssr_nesting.specs.declared.holders.Holder.{Holder}
 use Rattle.ide_ssr_nesting.specs.Holding.{Kept}
 use Rattle.ide_ssr_nesting.specs.Lists.{Listing, listed}
@@ -36,7 +36,7 @@ list_same kept f g (n ∷ places) same =
 pub lists_same : (kept : Kept) (listing : Listing) (f g : Texts) (n : ℕ) → ((i j : ℕ) → Contains (under listing n i) j → f j ≡ g j) → list_under kept listing f n ≡ list_under kept listing g n
 lists_same kept listing f g n same = λ t i. list_same kept f g (under listing n i) (same i) t
 
-text_same : (kept : Kept) (listing : Listing) (rules : List ResolvedKind) (f g : Texts) (n : ℕ) (m : Found) → ((i j : ℕ) → Contains (under listing n i) j → f j ≡ g j)
+text_same : (kept : Kept) (listing : Listing) (rules : List ResolvedKind) (f g : Texts) (n : ℕ) (m : FoundMatch) → ((i j : ℕ) → Contains (under listing n i) j → f j ≡ g j)
     → text_by kept.workspace rules m (list_under kept listing f n) ≡ text_by kept.workspace rules m (list_under kept listing g n)
 text_same kept listing rules f g n m same = ap (text_by kept.workspace rules m) (lists_same kept listing f g n same)
 
@@ -86,7 +86,7 @@ are_texts kept listing rules is n m at =
 -- ** There are no others.
 
 agree_from : (kept : Kept) (listing : Listing) (rules : List ResolvedKind) → IsNest kept listing → (f g : Texts) → AreTexts kept listing rules f → AreTexts kept listing rules g
-    → (left n : ℕ) (m : Found) → length kept.matches ≤ n + left → slice_get kept.matches n ≡ Some m → f n ≡ g n
+    → (left n : ℕ) (m : FoundMatch) → length kept.matches ≤ n + left → slice_get kept.matches n ≡ Some m → f n ≡ g n
 agree_from kept listing rules is f g fs gs zero n m le at = let within = slice_get_within kept.matches n m at in absurd (omega arith)
 agree_from kept listing rules is f g fs gs (suc left) n m le at =
     fs n m at
@@ -97,5 +97,5 @@ agree_from kept listing rules is f g fs gs (suc left) n m le at =
     ∙ sym (gs n m at))
 
 pub one_text : (kept : Kept) (listing : Listing) (rules : List ResolvedKind) → IsNest kept listing → (f g : Texts) → AreTexts kept listing rules f → AreTexts kept listing rules g
-    → (n : ℕ) (m : Found) → slice_get kept.matches n ≡ Some m → f n ≡ g n
+    → (n : ℕ) (m : FoundMatch) → slice_get kept.matches n ≡ Some m → f n ≡ g n
 one_text kept listing rules is f g fs gs n m at = agree_from kept listing rules is f g fs gs (length kept.matches) n m (omega arith) at

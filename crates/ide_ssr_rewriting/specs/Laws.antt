@@ -1,11 +1,11 @@
 -- What holds of the edits of kept matches: the words of their laws.
 use Rattle.std.specs.Prelude.{ℕ, ◌≡◌, ◌⊎◌, List, Some, slice_get, Ok, Err}
 use Rattle.std.specs.BTreeMap.{BTreeMap, get}
-use Rattle.ssr_base.specs.declared.ids.FileId.{FileId}
-use Rattle.ssr_base.specs.declared.ids.FileRange.{FileRange}
-use Rattle.ssr_base.specs.Changes.{Change}
+use Rattle.ssr_base_trees.specs.declared.ids.FileId.{FileId}
+use Rattle.ssr_base_trees.specs.declared.ids.FileRange.{FileRange}
+use Rattle.ssr_base_trees.specs.Changes.{Change}
 use Rattle.ide_ssr_resolving.specs.Resolved.{ResolvedKind}
-use Rattle.ide_ssr_found.specs.Found.{Found}
+use Rattle.ide_ssr_bindings.specs.Found.{FoundMatch}
 use Rattle.ide_ssr_nesting.specs.Holding.{Kept}
 use Rattle.ide_ssr_nesting.specs.Lists.{Listing}
 use Rattle.ide_ssr_rewriting.specs.declared.editing.EditError.TheVariants as errors
@@ -18,7 +18,7 @@ TextsExist kept lists rules = (texts : Texts) × AreTexts kept lists rules texts
 -- there are no two choices of texts that stand for the matches
 abbrev pub OneText : Kept → Listing → List ResolvedKind → Type 0
 OneText kept lists rules =
-    (f g : Texts) → AreTexts kept lists rules f → AreTexts kept lists rules g → (n : ℕ) (m : Found) → slice_get kept.matches n ≡ Some m → f n ≡ g n
+    (f g : Texts) → AreTexts kept lists rules f → AreTexts kept lists rules g → (n : ℕ) (m : FoundMatch) → slice_get kept.matches n ≡ Some m → f n ≡ g n
 
 -- there are edits, or a clash is told
 abbrev pub AnswerExists : Kept → Listing → List ResolvedKind → Type 0

@@ -10,7 +10,7 @@ use Rattle.ssr_syntax.specs.declared.syntax_error.SyntaxError.{SyntaxError}
 use Rattle.ssr_syntax.specs.Reading.{fragment_reading, trimmed_front}
 use Rattle.ide_ssr_resolving.specs.Resolved.{ResolvedKind}
 use Rattle.ide_ssr_rules.specs.StandIns.{name_at}
-use Rattle.ide_ssr_found.specs.declared.bindings.Binding.{Binding}
+use Rattle.ide_ssr_bindings.specs.declared.bindings.Binding.{Binding}
 
 -- the piece of the placeholder whose name has the place i, where the bindings have these pieces; a match binds each
 -- placeholder of its rule, so none lacks one

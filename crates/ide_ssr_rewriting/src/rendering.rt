@@ -8,7 +8,7 @@ ghost use Rattle.ssr_syntax_tree.specs.Places.{HasNode, HasToken, node_of, token
 ghost use Rattle.ide_ssr_rules.specs.StandIns.{name_at};
 ghost use Rattle.ide_ssr_rewriting.specs.Rendering.{piece_of, text_for, plain, is_node, wrapped_text, wrapped, takes_parentheses, rendered};
 
-use ide_ssr_found::Binding;
+use ide_ssr_bindings::Binding;
 use ide_ssr_resolving::ResolvedRule;
 use ssr_syntax::{Fragment, SyntaxError, fragment};
 use ssr_syntax_kinds::TextRange;

@@ -17,12 +17,12 @@ use Rattle.ssr_syntax_tree.specs.declared.number.Element.{Element}
 use Rattle.ssr_syntax_tree.specs.declared.number.Element.TheVariants as element
 use Rattle.ssr_syntax_tree.specs.Places.{Node, Part, token_part, node_part, parts_of, part_of, node_of, token_of, elements_of, root_of, HasNode, HasToken, HasElement}
 use Rattle.ssr_syntax_tree.proofs.Shared.{elements_had, parts_of-elements_of}
-use Rattle.ssr_base.specs.Meanings.{Meanings}
-use Rattle.ssr_base.specs.Workspace.{Workspace, trees, node_id}
+use Rattle.ssr_base_trees.specs.Meanings.{Meanings}
+use Rattle.ssr_base_trees.specs.Workspace.{Workspace, trees, node_id}
 use Rattle.ide_ssr_resolving.specs.Resolved.{ResolvedKind}
 use Rattle.ide_ssr_resolving.specs.declared.qualified_calls.QualifiedCall.{QualifiedCall}
 use Rattle.ide_ssr_resolving.specs.Placeholders.{placeholder_at}
-use Rattle.ide_ssr_found.specs.declared.bindings.Binding.{Binding}
+use Rattle.ide_ssr_bindings.specs.declared.bindings.Binding.{Binding}
 use Rattle.ide_ssr_token_trees.specs.Elements.{closes}
 use Rattle.ide_ssr_matching.specs.Children.{is_left_out, bare}
 use Rattle.ide_ssr_matching.specs.Calls.{call_of}
@@ -32,10 +32,10 @@ use Rattle.ide_ssr_search.specs.declared.roots.Root.{Root}
 use Rattle.ide_ssr_search.specs.declared.roots.Root.TheVariants as roots
 use Rattle.ide_ssr_search.specs.declared.roots.KindSet.{KindSet}
 use Rattle.ide_ssr_search.specs.declared.roots.Rules.{Rules}
-use Rattle.ssr_base.specs.Built.{IsMacroCall}
+use Rattle.ssr_base_trees.specs.Built.{IsMacroCall}
 use Rattle.ide_ssr_search.specs.WholeMatches.{IsWholeMatch}
 use Rattle.ide_ssr_search.specs.Private.Shut.{Shuts}
-use Rattle.ide_ssr_found.proofs.Shared.{IsTree, in_tree}
+use Rattle.ide_ssr_bindings.proofs.Shared.{IsTree, in_tree}
 use Rattle.ide_ssr_search.specs.Private.Roots.{counts, first_counted, counts_first, pairs_otherwise, has_asked, token_asked, has_kind, AreTokenKinds, IsRootOf, AreKindsIn}
 
 -- ** Sibling by sibling.

@@ -1,11 +1,11 @@
 -- Which templates can be written for a match: a path in them that names a definition is written as a scope reaches it.
 use Rattle.std.specs.Prelude.{All, IfSome, IsSome}
 use Rattle.std.specs.Option.{IsSomeAnd}
-use Rattle.ssr_base.specs.declared.ids.NodeId.{NodeId}
-use Rattle.ssr_base.specs.declared.ids.ScopeId.{ScopeId}
-use Rattle.ssr_base.specs.declared.semantics.Res.{Res}
-use Rattle.ssr_base.specs.declared.semantics.Res.TheVariants as res
-use Rattle.ssr_base.specs.Meanings.{Meanings}
+use Rattle.ssr_base_trees.specs.declared.ids.NodeId.{NodeId}
+use Rattle.ssr_base_trees.specs.declared.ids.ScopeId.{ScopeId}
+use Rattle.ssr_base_trees.specs.declared.semantics.Res.{Res}
+use Rattle.ssr_base_trees.specs.declared.semantics.Res.TheVariants as res
+use Rattle.ssr_base_trees.specs.Meanings.{Meanings}
 use Rattle.ide_ssr_resolving.specs.Resolved.{ResolvedKind}
 
 -- a scope reaches a definition by some path; what else a path stands for is written as in the template

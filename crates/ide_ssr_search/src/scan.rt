@@ -2,10 +2,10 @@
 ghost use Rattle.std.specs.Prelude.{◌≡◌, ◌+◌, ◌↔◌, IsTrue, IfOk, IfSome, Some, option_map};
 ghost use Rattle.std.specs.Option.{IsSomeAnd};
 ghost use Rattle.ssr_syntax_tree.specs.Places.{HasNode};
-ghost use Rattle.ssr_base.specs.Workspace.{trees, tree_of, node_id};
-ghost use Rattle.ssr_base.specs.Built.{IsBuilt};
+ghost use Rattle.ssr_base_trees.specs.Workspace.{trees, tree_of, node_id};
+ghost use Rattle.ssr_base_trees.specs.Built.{IsBuilt};
 ghost use Rattle.ide_ssr_resolving.specs.Resolved.{ResolvedKind};
-ghost use Rattle.ide_ssr_found.specs.Found.{AreMatches};
+ghost use Rattle.ide_ssr_bindings.specs.Found.{AreMatches};
 ghost use Rattle.ide_ssr_search.specs.Permitted.{IsOpen, IsInFunction, IsPermitted};
 ghost use Rattle.ide_ssr_search.specs.Found.{AreFound};
 ghost use Rattle.ide_ssr_search.specs.Private.Roots.{IsAskedBy, AreRules};
@@ -17,9 +17,9 @@ use crate::context::Context;
 use crate::permitted::{is_at_or_below, is_searched, shuts};
 use crate::roots::{Asked, Rules};
 use crate::whole::whole_match;
-use ide_ssr_found::{Binding, Found};
+use ide_ssr_bindings::{Binding, FoundMatch};
 use ide_ssr_resolving::ResolvedRule;
-use ssr_base::{NodeId, Semantics, Workspace};
+use ssr_base_trees::{NodeId, Semantics, Trees};
 use ssr_syntax_kinds::SyntaxKind;
 use ssr_syntax_tree::{NodeNo, Tree};
 use std::alloc::{AllocError, Global};
@@ -28,7 +28,7 @@ use std::collections::BTreeSet;
 /// A tree that is searched, and what is known before its nodes are tried.
 #[derive(Clone, Copy)]
 struct Ground<'a> {
-    workspace: &'a Workspace,
+    workspace: &'a Trees,
     context: &'a Context,
     tree: &'a Tree,
     number: u32,
@@ -43,7 +43,7 @@ impl<'a> Ground<'a> {
     /// What is known of a tree, where `shut` are the calls of earlier trees that shut in what they stand for, and `inside`
     /// says which of those trees stand below the function.
     fn new(
-        workspace: &'a Workspace,
+        workspace: &'a Trees,
         context: &'a Context,
         tree: &'a Tree,
         number: u32,
@@ -170,7 +170,7 @@ impl<'a> Ground<'a> {
         rule: &ResolvedRule,
         asked: Asked,
         node: NodeNo,
-        found: &mut Vec<Found>,
+        found: &mut Vec<FoundMatch>,
     ) -> Result<(), AllocError>
         requires ground { IsGround self.now }
         requires asked { IsAskedBy rule.now asked }
@@ -179,7 +179,7 @@ impl<'a> Ground<'a> {
         ensures { IfOk result (λ _. Adds self.now.workspace.now (S.meanings semantics.now) self.now.context.now rule.now place (node_id self.now.number node.0) found.old.items found.new.items) }
     {
         if let Some(bindings) = self.match_of(alloc, semantics, rule, asked, node)? {
-            found.push(Found::new(place, self.id(node), bindings))?;
+            found.push(FoundMatch::new(place, self.id(node), bindings))?;
         }
         Ok(())
     }
@@ -191,7 +191,7 @@ impl<'a> Ground<'a> {
         semantics: &S,
         rules: &Rules<'_>,
         node: NodeNo,
-        found: &mut Vec<Found>,
+        found: &mut Vec<FoundMatch>,
     ) -> Result<(), AllocError>
         requires ground { IsGround self.now }
         requires rules { AreRules rules.now }
@@ -222,7 +222,7 @@ impl<'a> Ground<'a> {
         rules: &Rules<'_>,
         node: NodeNo,
         shut: bool,
-        found: &mut Vec<Found>,
+        found: &mut Vec<FoundMatch>,
     ) -> Result<(), AllocError>
         requires ground { IsGround self.now }
         requires rules { AreRules rules.now }
@@ -276,7 +276,7 @@ impl<'a> Ground<'a> {
         semantics: &S,
         rules: &Rules<'_>,
         shut: &mut BTreeSet<NodeId>,
-        found: &mut Vec<Found>,
+        found: &mut Vec<FoundMatch>,
     ) -> Result<(), AllocError>
         requires ground { IsGround self.now }
         requires rules { AreRules rules.now }
@@ -303,12 +303,7 @@ impl<'a> Ground<'a> {
 }
 
 /// Whether the call of a tree, if it has one, shuts in what it stands for.
-fn is_shut(
-    workspace: &Workspace,
-    number: u32,
-    call: Option<NodeId>,
-    shut: &BTreeSet<NodeId>,
-) -> bool
+fn is_shut(workspace: &Trees, number: u32, call: Option<NodeId>, shut: &BTreeSet<NodeId>) -> bool
     requires call { IfSome call (IsEarlierCall workspace.now number) }
     requires shut { KnowsShut workspace.now number 0 shut.now }
     ensures { IsTrue result ↔ IsSomeAnd call (IsShut (trees workspace.now)) }
@@ -321,7 +316,7 @@ fn is_shut(
 
 /// Whether the call of a tree, if it has one, stands in the function around the position.
 fn is_inside(
-    workspace: &Workspace,
+    workspace: &Trees,
     context: &Context,
     number: u32,
     call: Option<NodeId>,
@@ -360,11 +355,11 @@ fn stands_in(function: Option<NodeId>, tree: &Tree, number: u32, inside: bool, n
 /// places of their rules.
 pub fn find_matches<S: Semantics>(
     alloc: Global,
-    workspace: &Workspace,
+    workspace: &Trees,
     semantics: &S,
     context: &Context,
     rules: &[ResolvedRule],
-) -> Result<Vec<Found>, AllocError>
+) -> Result<Vec<FoundMatch>, AllocError>
     ensures found { IfOk result (λ found. AreFound workspace.now (S.meanings semantics.now) context.now rules.now found.items) }
     ensures matches { IfOk result (λ found. AreMatches (trees workspace.now) found.items) }
 {

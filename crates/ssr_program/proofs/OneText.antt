@@ -2,9 +2,9 @@
 use Rattle.std.proofs.Common.{◌≡◌, ℕ, List, [], ap, sym, ◌∙◌, subst, arith}
 use Rattle.std.specs.Prelude.{Some, Ok}
 use Rattle.ssr_syntax_tree.specs.Syntax.{Syntax}
-use Rattle.ssr_base.specs.Meanings.{Meanings}
-use Rattle.ssr_base.specs.Workspace.{Workspace, tree_of}
-use Rattle.ssr_base.proofs.Shared.{tree_of_file}
+use Rattle.ssr_base_trees.specs.Meanings.{Meanings}
+use Rattle.ssr_base_trees.specs.Workspace.{Workspace, tree_of}
+use Rattle.ssr_base_trees.proofs.Shared.{tree_of_file}
 use Rattle.ide_ssr_resolving.specs.Resolved.{ResolvedKind}
 use Rattle.ide_ssr_search.specs.Context.{Context}
 use Rattle.ide_ssr_search.specs.Making.{first_position}

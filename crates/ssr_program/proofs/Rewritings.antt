@@ -12,7 +12,7 @@ use Rattle.ssr_syntax.specs.Reading.{file_reading}
 use Rattle.ide_ssr_refusals.specs.declared.refusals.Refusal.{Refusal}
 use Rattle.ide_ssr_refusals.specs.Refusals.{TellsOf}
 use Rattle.ide_ssr_resolving.specs.Resolved.{ResolvedKind}
-use Rattle.ssr_base.specs.Workspace.{Workspace}
+use Rattle.ssr_base_trees.specs.Workspace.{Workspace}
 use Rattle.ide_ssr_search.specs.Making.{IsContext, first_position}
 use Rattle.ide_ssr.specs.Finder.{Finder, FinderWith}
 use Rattle.ssr_program.specs.declared.unresolved.Unresolved.{Unresolved}

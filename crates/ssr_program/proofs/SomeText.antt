@@ -6,10 +6,11 @@ use Rattle.std.specs.Str.{IsUtf8}
 use Rattle.std.proofs.lemmas.List.Elements.{All-nil}
 use Rattle.ssr_syntax_tree.specs.Syntax.{Syntax, source_of}
 use Rattle.ssr_syntax.specs.Reading.{file_reading}
-use Rattle.ssr_base.specs.Built.{IsBuilt}
-use Rattle.ssr_base.specs.Workspace.{tree_of}
-use Rattle.ssr_base.specs.declared.ids.FileRange.{FileRange}
-use Rattle.ssr_base.proofs.Shared.{and_some, built_none, built_read}
+use Rattle.ssr_base_trees.specs.Built.{IsBuilt}
+use Rattle.ssr_base_trees.specs.Workspace.{tree_of}
+use Rattle.ssr_base_trees.specs.declared.ids.FileRange.{FileRange}
+use Rattle.ssr_base_trees.proofs.Shared.{and_some, built_none}
+use Rattle.ssr_base.proofs.Shared.{built_read}
 use Rattle.ide_ssr_resolving.specs.Resolved.{ResolvedKind}
 use Rattle.ide_ssr_search.specs.Making.{HasFile, LiesInText, first_position}
 use Rattle.ide_ssr_search.proofs.Shared.{context_exists}

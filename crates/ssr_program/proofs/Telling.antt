@@ -5,7 +5,7 @@ use Rattle.ide_ssr_refusals.specs.declared.error.SsrError.TheVariants as errors
 use Rattle.ide_ssr_refusals.specs.declared.refusals.Refusal.{Refusal}
 use Rattle.ide_ssr_refusals.specs.Refusals.{TellsOf, ◌>>=◌}
 use Rattle.ide_ssr_resolving.specs.Resolved.{ResolvedKind, resolved_kinds}
-use Rattle.ssr_base.specs.declared.ids.ScopeId.{ScopeId}
+use Rattle.ssr_base_trees.specs.declared.ids.ScopeId.{ScopeId}
 use Rattle.ssr_program.specs.Unresolved.{nothing_resolves, one_scope}
 use Rattle.ide_ssr_rules.specs.Rules.{Rule, rule_reading}
 use Rattle.ssr_program.specs.Output.{resolved, rule_kinds, rules_reading}

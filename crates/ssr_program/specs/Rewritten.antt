@@ -2,9 +2,9 @@
 use Rattle.std.specs.Prelude.{ℕ, ◌≡◌, List, [], ◌∷◌, length, Option, Some, None, Ok}
 use Rattle.std.specs.BTreeMap.{BTreeMap, get}
 use Rattle.ssr_syntax_tree.specs.Syntax.{Syntax, source_of}
-use Rattle.ssr_base.specs.declared.ids.FileId.{FileId}
-use Rattle.ssr_base.specs.Changes.{Change, replaced}
-use Rattle.ssr_base.specs.Workspace.{Workspace}
+use Rattle.ssr_base_trees.specs.declared.ids.FileId.{FileId}
+use Rattle.ssr_base_trees.specs.Changes.{Change, replaced}
+use Rattle.ssr_base_trees.specs.Workspace.{Workspace}
 use Rattle.ide_ssr_resolving.specs.Resolved.{ResolvedKind}
 use Rattle.ide_ssr_search.specs.Making.{IsContext, first_position}
 use Rattle.ide_ssr_rewriting.specs.Edits.{file_cmp}

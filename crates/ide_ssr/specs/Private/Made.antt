@@ -1,7 +1,7 @@
 -- Private: which nested matches are made, while the kept ones are gone through from the last to the first.
 use Rattle.std.specs.Prelude.{ℕ, ◌≡◌, ◌≢◌, ◌<◌, ◌≤◌, List, length, Option, Some, None, IfSome, slice_get, slice_index_or}
 use Rattle.ide_ssr_resolving.specs.Resolved.{ResolvedKind}
-use Rattle.ide_ssr_found.specs.Found.{Found}
+use Rattle.ide_ssr_bindings.specs.Found.{FoundMatch}
 use Rattle.ide_ssr_nesting.specs.declared.holders.Holder.{Holder}
 use Rattle.ide_ssr_nesting.specs.Holding.{Kept}
 use Rattle.ide_ssr_nesting.specs.Lists.{Listing}
@@ -28,7 +28,7 @@ abbrev pub IsNotHeldBy : Kept → ℕ → ℕ → Type 0
 IsNotHeldBy kept n j = (h : Holder) → slice_get kept.holders j ≡ Some (Some h) → h.place ≢ n
 
 -- placeholders show all bindings of the match m, which has the place n, by where they begin
-pub record ShowPlaceholders (rules : List ResolvedKind) (kept : Kept) (lists : Listing) (n : ℕ) (m : Found) (placeholders : List PlaceholderMatch) : Type 0 where
+pub record ShowPlaceholders (rules : List ResolvedKind) (kept : Kept) (lists : Listing) (n : ℕ) (m : FoundMatch) (placeholders : List PlaceholderMatch) : Type 0 where
   pub order : List ℕ
   pub by_start : AreByStart kept.workspace m order
   pub shown : ShowBindings rules kept lists n m order placeholders

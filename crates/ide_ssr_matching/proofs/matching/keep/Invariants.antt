@@ -1,5 +1,5 @@
 use Rattle.std.proofs.Common.{◌≡◌, ◌++◌, map, take}
-use Rattle.ide_ssr_found.specs.Receivers.{received}
+use Rattle.ide_ssr_bindings.specs.Receivers.{received}
 use Rattle.ide_ssr_matching.proofs.matching.keep.Given as goal
 
 abbrev pub invariant-loop-binding : goal.invariant-loop-binding

@@ -2,8 +2,8 @@ use Rattle.std.proofs.Common.{◌+◌, sym, subst, arith, rules}
 use Rattle.std.proofs.lemmas.Grind.{common_steps}
 use Rattle.std.specs.Prelude.{◌↔◌, IsTrue}
 use Rattle.std.specs.Option.{IsSomeAnd}
-use Rattle.ssr_base.specs.Workspace.{trees, node_id}
-use Rattle.ssr_base.specs.Laws.{IsBelow}
+use Rattle.ssr_base_trees.specs.Workspace.{trees, node_id}
+use Rattle.ssr_base_trees.specs.Laws.{IsBelow}
 use Rattle.ide_ssr_search.specs.Private.Scan.{AreFoundBefore, KnowsShut, KnowsInside}
 use Rattle.ide_ssr_search.proofs.Trees.{tree_within}
 use Rattle.ide_ssr_search.proofs.Calls.{inside_more}

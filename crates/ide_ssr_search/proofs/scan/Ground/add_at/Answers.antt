@@ -1,4 +1,4 @@
-use Rattle.ssr_base.specs.Workspace.{node_id}
+use Rattle.ssr_base_trees.specs.Workspace.{node_id}
 use Rattle.ide_ssr_search.proofs.Opening.{not_shut}
 use Rattle.ide_ssr_search.proofs.Finding.{found_nothing}
 use Rattle.ide_ssr_search.proofs.scan.Ground.add_at.Goals as goal

@@ -1,8 +1,8 @@
 use Rattle.std.proofs.Common.{◌≡◌, max, sym, ap, ◌∙◌, refl, inl, arith}
 use Rattle.ssr_syntax_tree.specs.Places.{HasNode}
-use Rattle.ssr_base.specs.Workspace.{trees, node_id}
+use Rattle.ssr_base_trees.specs.Workspace.{trees, node_id}
 use Rattle.ide_ssr_search.specs.Private.Shut.{IsShutIn, IsShut}
-use Rattle.ide_ssr_found.proofs.Shared.{is_tree}
+use Rattle.ide_ssr_bindings.proofs.Shared.{is_tree}
 use Rattle.ide_ssr_search.specs.Private.Roots.{has_kind}
 use Rattle.ide_ssr_search.proofs.Asked.{unmatched_kind, unshutting_kind, no_call_of_kind}
 use Rattle.ide_ssr_search.proofs.Calls.{shut_kept}

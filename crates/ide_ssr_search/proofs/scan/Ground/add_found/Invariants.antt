@@ -1,4 +1,4 @@
-use Rattle.ssr_base.specs.Workspace.{trees}
+use Rattle.ssr_base_trees.specs.Workspace.{trees}
 use Rattle.ide_ssr_search.specs.Private.Scan.{AreFoundBefore, KnowsShut}
 use Rattle.ide_ssr_search.proofs.Shutting.{IsPast}
 use Rattle.ide_ssr_search.proofs.scan.Ground.add_found.Given as goal

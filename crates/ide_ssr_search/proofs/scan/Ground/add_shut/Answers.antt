@@ -4,10 +4,10 @@ use Rattle.std.specs.BTreeMap.{is_at}
 use Rattle.std.specs.BTreeSet.{contains}
 use Rattle.ssr_syntax_kinds.specs.declared.kinds.SyntaxKind.TheVariants as k
 use Rattle.ssr_syntax_tree.specs.Places.{HasNode, node_of}
-use Rattle.ssr_base.specs.declared.ids.NodeId.{NodeId}
-use Rattle.ssr_base.specs.contracts.ids.NodeIdOrd.TheImpl as id_order
-use Rattle.ssr_base.specs.Workspace.{trees}
-use Rattle.ide_ssr_found.proofs.Shared.{is_tree, of_tree, in_tree}
+use Rattle.ssr_base_trees.specs.declared.ids.NodeId.{NodeId}
+use Rattle.ssr_base_trees.specs.contracts.ids.NodeIdOrd.TheImpl as id_order
+use Rattle.ssr_base_trees.specs.Workspace.{trees}
+use Rattle.ide_ssr_bindings.proofs.Shared.{is_tree, of_tree, in_tree}
 use Rattle.ide_ssr_search.proofs.Calls.{shut_kept, shut_added}
 use Rattle.ide_ssr_search.proofs.scan.Ground.add_shut.Goals as goal
 use Rattle.ide_ssr_search.proofs.scan.Ground.add_shut.Goals.{else-shuts-via-then-shuts+else-is, else-shuts-via-else-shuts}

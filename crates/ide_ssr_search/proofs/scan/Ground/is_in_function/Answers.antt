@@ -1,7 +1,7 @@
 use Rattle.std.proofs.Common.{subst}
 use Rattle.std.specs.Prelude.{◌↔◌, IsTrue}
 use Rattle.ide_ssr_search.specs.Private.Scan.{StandsIn}
-use Rattle.ide_ssr_found.proofs.Shared.{is_tree}
+use Rattle.ide_ssr_bindings.proofs.Shared.{is_tree}
 use Rattle.ide_ssr_search.proofs.Inside.{stands_in}
 use Rattle.ide_ssr_search.proofs.scan.Ground.is_in_function.Goals as goal
 

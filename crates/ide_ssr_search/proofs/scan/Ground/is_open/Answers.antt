@@ -1,10 +1,10 @@
 use Rattle.std.proofs.Common.{◌≡◌, true, false, Some, ap, sym, ◌∙◌, subst, arith}
 use Rattle.std.proofs.lemmas.Bool.{both_ways}
 use Rattle.std.specs.Prelude.{◌↔◌, IsTrue}
-use Rattle.ssr_base.specs.Workspace.{trees, node_id, file_span_of, original_range}
-use Rattle.ide_ssr_found.specs.Found.{HasByte}
+use Rattle.ssr_base_trees.specs.Workspace.{trees, node_id, file_span_of, original_range}
+use Rattle.ide_ssr_bindings.specs.Found.{HasByte}
 use Rattle.ide_ssr_search.specs.Permitted.{IsSearched}
-use Rattle.ide_ssr_found.proofs.Shared.{is_tree}
+use Rattle.ide_ssr_bindings.proofs.Shared.{is_tree}
 use Rattle.ide_ssr_search.proofs.Opening.{opened, not_use, open_range}
 use Rattle.ide_ssr_search.proofs.scan.Ground.is_open.Goals as goal
 

@@ -1,5 +1,5 @@
 use Rattle.std.proofs.Common.{sym, ◌∙◌}
-use Rattle.ide_ssr_found.proofs.Shared.{is_tree}
+use Rattle.ide_ssr_bindings.proofs.Shared.{is_tree}
 use Rattle.ide_ssr_search.proofs.Asked.{unmatched_root}
 use Rattle.ide_ssr_search.proofs.scan.Ground.match_of.Goals as goal
 

@@ -1,5 +1,5 @@
 use Rattle.std.proofs.Common.{◌≡◌, sym}
-use Rattle.ssr_base.specs.Workspace.{trees, above, node_id}
+use Rattle.ssr_base_trees.specs.Workspace.{trees, above, node_id}
 use Rattle.ide_ssr_search.proofs.Calls.{earlier_if, ground_shut, ground_inside}
 use Rattle.ide_ssr_search.proofs.scan.Ground.new.Goals as goal
 
