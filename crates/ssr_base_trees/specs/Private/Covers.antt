@@ -1,12 +1,9 @@
 -- Private: what covers the origins of tokens, as it is stored for each node of a tree.
 use Rattle.std.specs.Prelude.{ℕ, ◌+◌, ◌≡◌, ◌≤◌, List, length, slice_get, Option, Some}
-use Rattle.std.specs.Option.{option_map}
-use Rattle.ssr_syntax_kinds.specs.declared.range.TextRange.{TextRange}
 use Rattle.ssr_syntax_tree.specs.Syntax.{Syntax, node_count}
 use Rattle.ssr_syntax_tree.specs.Places.{node_of}
 use Rattle.ssr_base_trees.specs.declared.covers.Cover.{Cover as Stored}
-use Rattle.ssr_base_trees.specs.declared.covers.Cover.TheVariants as stored
-use Rattle.ssr_base_trees.specs.Origins.{Span, span_of, Cover, no_token, no_origin, covers}
+use Rattle.ssr_base_trees.specs.Origins.{Span, plain_cover}
 use Rattle.ssr_base_trees.specs.Workspace.{cover_below}
 
 -- what is stored of the nodes from a number on covers the origins of their tokens
