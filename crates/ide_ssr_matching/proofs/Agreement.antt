@@ -14,9 +14,9 @@ use Rattle.ssr_syntax_tree.specs.Syntax.{Token}
 use Rattle.ssr_syntax_tree.specs.Places.{Node, Part, token_part, node_part, parts_of, size_of}
 use Rattle.ssr_base_trees.specs.declared.semantics.Res.{Res}
 use Rattle.ssr_base_trees.specs.Meanings.{Meanings}
-use Rattle.ide_ssr_resolving.specs.declared.qualified_calls.QualifiedCall.{QualifiedCall}
-use Rattle.ide_ssr_resolving.specs.Placeholders.{placeholder_at}
-use Rattle.ide_ssr_resolving.specs.Resolved.{ResolvedKind, meets}
+use Rattle.ide_ssr_resolved_rule.specs.declared.qualified_calls.QualifiedCall.{QualifiedCall}
+use Rattle.ide_ssr_resolved_rule.specs.Placeholders.{placeholder_at}
+use Rattle.ide_ssr_resolved_rule.specs.Resolved.{ResolvedRule, meets}
 use Rattle.ide_ssr_bindings.specs.declared.bindings.Binding.{Binding}
 use Rattle.ide_ssr_bindings.specs.Found.{node_binding}
 use Rattle.ide_ssr_matching.specs.Children.{bare}
@@ -33,7 +33,7 @@ use Rattle.ide_ssr_matching.proofs.Pairs.{bindings-placeholder, placeholder-met,
 use Rattle.ide_ssr_matching.proofs.Same.{stands_for-told, told-stands_for}
 use Rattle.ide_ssr_matching.proofs.Steps.{IsSmaller, sides_smaller}
 
-module _ (ms : Meanings) (tree : ℕ) (rule : ResolvedKind) where
+module _ (ms : Meanings) (tree : ℕ) (rule : ResolvedRule) where
   abbrev NodeAgrees : Node → Type 0
   NodeAgrees p = (c : Node) (bs : List Binding) → bindings_of ms tree rule p c ≡ Some bs → Matches ms tree rule p c bs
 

@@ -12,7 +12,7 @@ use Rattle.ssr_syntax_tree.specs.Syntax.{Syntax}
 use Rattle.ssr_syntax_tree.specs.Places.{HasNode, HasElement, Part, IsAbove, elements_of, node_of, parts_of, part_of}
 use Rattle.ssr_syntax_tree.proofs.Shared.{IsChild, children_known, parts_of-elements_of, node_of-number, inside}
 use Rattle.ssr_base_trees.specs.declared.semantics.Res.{Res}
-use Rattle.ide_ssr_resolving.specs.Paths.{first_of_kind}
+use Rattle.ide_ssr_resolved_rule.specs.Paths.{first_of_kind}
 use Rattle.ide_ssr_matching.specs.Bindings.{counted}
 use Rattle.ide_ssr_matching.specs.Children.{bare}
 use Rattle.ide_ssr_matching.specs.UsedPaths.{holds_arguments, from_arguments, arguments_of}

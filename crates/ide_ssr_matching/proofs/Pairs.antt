@@ -17,11 +17,11 @@ use Rattle.ssr_syntax_tree.proofs.Shared.{node_of-number, smaller}
 use Rattle.ssr_base_trees.specs.declared.semantics.Res.{Res}
 use Rattle.ssr_base_trees.specs.Meanings.{Meanings}
 use Rattle.ssr_base_trees.specs.Workspace.{node_id}
-use Rattle.ide_ssr_resolving.specs.declared.qualified_calls.QualifiedCall.{QualifiedCall}
-use Rattle.ide_ssr_resolving.specs.Placeholders.{placeholder_at}
-use Rattle.ide_ssr_resolving.specs.QualifiedCalls.{call_at}
-use Rattle.ide_ssr_resolving.specs.Resolved.{ResolvedKind, meets}
-use Rattle.ide_ssr_resolving.specs.Used.{res_at}
+use Rattle.ide_ssr_resolved_rule.specs.declared.qualified_calls.QualifiedCall.{QualifiedCall}
+use Rattle.ide_ssr_resolved_rule.specs.Placeholders.{placeholder_at}
+use Rattle.ide_ssr_resolved_rule.specs.QualifiedCalls.{call_at}
+use Rattle.ide_ssr_resolved_rule.specs.Resolved.{ResolvedRule, meets}
+use Rattle.ide_ssr_resolved_rule.specs.UsedPaths.{res_at}
 use Rattle.ide_ssr_bindings.specs.declared.bindings.Binding.{Binding}
 use Rattle.ide_ssr_bindings.specs.Found.{node_binding}
 use Rattle.ide_ssr_matching.specs.Children.{bare}
@@ -125,14 +125,14 @@ tested_answer : (same : Bool) (old : List Binding) (b : Bool) → b ≡ same →
 tested_answer true old b is = matched [] is refl (sym (append-nil old))
 tested_answer false old b is = other is refl
 
-pub placeholder-met : (rule : ResolvedKind) (i : ℕ) (c : Node) → meets rule i c.kind ≡ true
+pub placeholder-met : (rule : ResolvedRule) (i : ℕ) (c : Node) → meets rule i c.kind ≡ true
     → placeholder_by rule i c ≡ Some (node_binding i c.number ∷ [])
 placeholder-met rule i c is = rw is refl
 
-pub placeholder-unmet : (rule : ResolvedKind) (i : ℕ) (c : Node) → meets rule i c.kind ≡ false → placeholder_by rule i c ≡ None
+pub placeholder-unmet : (rule : ResolvedRule) (i : ℕ) (c : Node) → meets rule i c.kind ≡ false → placeholder_by rule i c ≡ None
 placeholder-unmet rule i c is = rw is refl
 
-pub placeholder-binds : (rule : ResolvedKind) (code : Syntax) (m : ℕ) (old new : List Binding) (i : ℕ) (ck : SyntaxKind) (b : Bool) → HasNode code m
+pub placeholder-binds : (rule : ResolvedRule) (code : Syntax) (m : ℕ) (old new : List Binding) (i : ℕ) (ck : SyntaxKind) (b : Bool) → HasNode code m
     → ck ≡ (node_of code m).kind → b ≡ meets rule i ck → b ≡ true → new ≡ old ++ node_binding i m ∷ []
     → Answers (placeholder_by rule i (node_of code m)) old new true
 placeholder-binds rule code m old new i ck b has ck_is b_is met new_is =
@@ -143,7 +143,7 @@ placeholder-binds rule code m old new i ck b has ck_is b_is met new_is =
     ∙ ap (λ m. Some (node_binding i m ∷ [])) (node_of-number code m has))
     new_is
 
-pub placeholder-lacks : (rule : ResolvedKind) (code : Syntax) (m : ℕ) (old : List Binding) (i : ℕ) (ck : SyntaxKind) (b : Bool)
+pub placeholder-lacks : (rule : ResolvedRule) (code : Syntax) (m : ℕ) (old : List Binding) (i : ℕ) (ck : SyntaxKind) (b : Bool)
     → ck ≡ (node_of code m).kind → b ≡ meets rule i ck → b ≡ false → Answers (placeholder_by rule i (node_of code m)) old old false
 placeholder-lacks rule code m old i ck b ck_is b_is unmet =
     other refl (placeholder-unmet rule i (node_of code m) (ap (meets rule i) (sym ck_is) ∙ sym b_is ∙ unmet))
@@ -257,7 +257,7 @@ unequal inner (p ∷ ps) (c ∷ cs) differ =
 -- ** Whether a node matches.
 
 -- what is known of a node that is matched by its parts
-pub record IsByParts (rule : ResolvedKind) (p : Node) : Type 0 where
+pub record IsByParts (rule : ResolvedRule) (p : Node) : Type 0 where
   pub none : placeholder_at rule.names p ≡ None
   pub no_tree : is_tree p ≡ false
   pub plain : is_plain rule p ≡ true
@@ -266,18 +266,18 @@ no_placeholder : (o : Option ℕ) → is_none o ≡ true → o ≡ None
 no_placeholder None is = refl
 no_placeholder (Some i) is = let e : false ≡ true = is in cc
 
-pub parts_of_it : (rule : ResolvedKind) (p : Node) → is_by_parts rule p ≡ true → IsByParts rule p
+pub parts_of_it : (rule : ResolvedRule) (p : Node) → is_by_parts rule p ≡ true → IsByParts rule p
 parts_of_it rule p is =
     let first = and_parts (is_none (placeholder_at rule.names p)) (not (is_tree p) && is_plain rule p) is in
     let rest = and_parts (not (is_tree p)) (is_plain rule p) first.1 in
     record { none = no_placeholder (placeholder_at rule.names p) first.0; no_tree = not-true (is_tree p) rest.0; plain = rest.1 }
 
-pub by_parts : (rule : ResolvedKind) (p : Node) → placeholder_at rule.names p ≡ None → is_tree p ≡ false → is_plain rule p ≡ true → is_by_parts rule p ≡ true
+pub by_parts : (rule : ResolvedRule) (p : Node) → placeholder_at rule.names p ≡ None → is_tree p ≡ false → is_plain rule p ≡ true → is_by_parts rule p ≡ true
 by_parts rule p none no_tree plain =
     and_from (is_none (placeholder_at rule.names p)) (not (is_tree p) && is_plain rule p) (ap is_none none)
     (and_from (not (is_tree p)) (is_plain rule p) (ap not no_tree) plain)
 
-module _ (ms : Meanings) (tree : ℕ) (rule : ResolvedKind) where
+module _ (ms : Meanings) (tree : ℕ) (rule : ResolvedRule) where
   -- what is told of a node that is no placeholder
   abbrev rest_of : Node → Node → Option (List Binding)
   rest_of p c = other_by ms tree rule (bindings_of ms tree rule) (is_tree p) (is_plain rule p) p c

@@ -10,9 +10,9 @@ use Rattle.ssr_syntax_tree.specs.Syntax.{Forest, nothing, leaf, branch, token_co
 use Rattle.ssr_syntax_tree.specs.Places.{Node, Part, token_part, node_part, parts_in, parts_of, size_of}
 use Rattle.ssr_base_trees.specs.declared.semantics.Res.{Res}
 use Rattle.ssr_base_trees.specs.Meanings.{Meanings}
-use Rattle.ide_ssr_resolving.specs.declared.qualified_calls.QualifiedCall.{QualifiedCall}
-use Rattle.ide_ssr_resolving.specs.Placeholders.{placeholder_at}
-use Rattle.ide_ssr_resolving.specs.Resolved.{ResolvedKind}
+use Rattle.ide_ssr_resolved_rule.specs.declared.qualified_calls.QualifiedCall.{QualifiedCall}
+use Rattle.ide_ssr_resolved_rule.specs.Placeholders.{placeholder_at}
+use Rattle.ide_ssr_resolved_rule.specs.Resolved.{ResolvedRule}
 use Rattle.ide_ssr_matching.specs.Children.{bare}
 use Rattle.ide_ssr_matching.specs.TokenTrees.{is_tree, is_plain}
 use Rattle.ide_ssr_matching.specs.UsedPaths.{arguments_of, pattern_res}
@@ -98,7 +98,7 @@ module _ (f g : Binder) where
 
 -- ** Steps.
 
-module _ (m : Meanings) (tree : ℕ) (rule : ResolvedKind) where
+module _ (m : Meanings) (tree : ℕ) (rule : ResolvedRule) where
   named_smaller : (p : Node) (sides : Sides) (o : Option (List Node)) → option_map (named_pairs p) o ≡ Some sides → All (IsSmaller (size_of p)) sides.pattern
   named_smaller p sides None is = absurd (none-some sides is)
   named_smaller p sides (Some nodes) is =

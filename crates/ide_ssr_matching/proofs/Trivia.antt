@@ -9,8 +9,8 @@ use Rattle.ssr_syntax_kinds.specs.Kinds.{same_kind}
 use Rattle.ssr_syntax_tree.specs.Syntax.{Syntax, same_token}
 use Rattle.ssr_syntax_tree.specs.Places.{Node, Part, token_part, node_part, node_of, size_of}
 use Rattle.ssr_base_trees.specs.Meanings.{Meanings}
-use Rattle.ide_ssr_resolving.specs.Placeholders.{placeholder_at}
-use Rattle.ide_ssr_resolving.specs.Resolved.{ResolvedKind, meets}
+use Rattle.ide_ssr_resolved_rule.specs.Placeholders.{placeholder_at}
+use Rattle.ide_ssr_resolved_rule.specs.Resolved.{ResolvedRule, meets}
 use Rattle.ide_ssr_bindings.specs.declared.bindings.Binding.{Binding}
 use Rattle.ide_ssr_bindings.specs.declared.bindings.Held.{Held}
 use Rattle.ide_ssr_bindings.specs.declared.bindings.Held.TheVariants as held
@@ -153,7 +153,7 @@ module _ (inner other : Binder) (same : (p c d : Node) → AreAlike c d → anyw
 
 -- ** Nodes.
 
-module _ (rule : ResolvedKind) (ms : Meanings) (tree : ℕ) (other_ms : Meanings) (other_tree : ℕ) (told : AreToldAlike ms tree other_ms other_tree) where
+module _ (rule : ResolvedRule) (ms : Meanings) (tree : ℕ) (other_ms : Meanings) (other_tree : ℕ) (told : AreToldAlike ms tree other_ms other_tree) where
   tokens_alike : (p c d : Node) → AreAlike c d → anywhere (tree_by rule p c) ≡ anywhere (tree_by rule p d)
   tokens_alike p c d alike =
       ap (λ kind. anywhere (cond (same_kind kind k.TOKEN_TREE) (tree_bindings (token_placeholder rule) p c) None)) (kinds_alike c d alike)
@@ -202,7 +202,7 @@ module _ (rule : ResolvedKind) (ms : Meanings) (tree : ℕ) (other_ms : Meanings
       by (Some others) is same =
           (others, bindings_of-Matches other_ms other_tree rule p d others is, same_Some (map bound_anywhere bs) (map bound_anywhere others) same)
 
-pub trivia_left_out : (ms : Meanings) (tree : ℕ) (other_ms : Meanings) (other_tree : ℕ) (rule : ResolvedKind) (code other : Syntax) (p : Node) (n : ℕ) (bs : List Binding)
+pub trivia_left_out : (ms : Meanings) (tree : ℕ) (other_ms : Meanings) (other_tree : ℕ) (rule : ResolvedRule) (code other : Syntax) (p : Node) (n : ℕ) (bs : List Binding)
     → stripped_tree code ≡ stripped_tree other → AreToldAlike ms tree other_ms other_tree → Matches ms tree rule p (node_of code n) bs
     → (others : List Binding) × Matches other_ms other_tree rule p (node_of other n) others × BindAlike bs others
 trivia_left_out ms tree other_ms other_tree rule code other p n bs same told matches =

@@ -8,7 +8,7 @@ ghost use Rattle.ide_ssr_matching.specs.Children.{bare};
 ghost use Rattle.ide_ssr_matching.specs.UsedPaths.{holds_arguments, from_arguments, arguments_of};
 ghost use Rattle.ide_ssr_matching.specs.Private.Children.{has_kind, solid, siblings_left, IsBelow, AreKept};
 
-use ide_ssr_resolving::{is_arguments, last_segment};
+use ide_ssr_resolved_rule::{is_arguments, last_segment};
 use ide_ssr_token_trees::{closes, is_trivia};
 use ssr_base_trees::Res;
 use ssr_syntax_kinds::SyntaxKind;

@@ -19,7 +19,7 @@ use crate::children::Siblings;
 use crate::records::{are_as_many, are_different, counterpart, is_named};
 use crate::token_trees::{is_plain, is_tree, tree_matches};
 use ide_ssr_bindings::{Binding, Receiver};
-use ide_ssr_resolving::{QualifiedCall, ResolvedRule};
+use ide_ssr_resolved_rule::{QualifiedCall, ResolvedRule};
 use ide_ssr_token_trees::tokens_match;
 use ssr_base_trees::{NodeId, Res, Semantics};
 use ssr_syntax_kinds::SyntaxKind;

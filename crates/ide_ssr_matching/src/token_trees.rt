@@ -6,7 +6,7 @@ ghost use Rattle.ide_ssr_token_trees.specs.Bindings.{Answers};
 ghost use Rattle.ide_ssr_matching.specs.TokenTrees.{is_tree, tree_by, has_token_placeholder, is_plain};
 
 use ide_ssr_bindings::Binding;
-use ide_ssr_resolving::ResolvedRule;
+use ide_ssr_resolved_rule::ResolvedRule;
 use ide_ssr_token_trees::match_token_trees;
 use ssr_syntax_kinds::SyntaxKind;
 use ssr_syntax_tree::{Element, NodeNo, Tree};

@@ -4,7 +4,7 @@ ghost use Rattle.std.specs.Option.{IsSomeAnd};
 ghost use Rattle.ssr_syntax_tree.specs.Places.{HasNode};
 ghost use Rattle.ssr_base_trees.specs.Workspace.{trees, tree_of, node_id};
 ghost use Rattle.ssr_base_trees.specs.Built.{IsBuilt};
-ghost use Rattle.ide_ssr_resolving.specs.Resolved.{ResolvedKind};
+ghost use Rattle.ide_ssr_resolved_rule.specs.Resolved.{ResolvedRule as RuleValue};
 ghost use Rattle.ide_ssr_bindings.specs.Found.{AreMatches};
 ghost use Rattle.ide_ssr_search.specs.Permitted.{IsOpen, IsInFunction, IsPermitted};
 ghost use Rattle.ide_ssr_search.specs.Found.{AreFound};
@@ -18,7 +18,7 @@ use crate::permitted::{is_at_or_below, is_searched, shuts};
 use crate::roots::{Asked, Rules};
 use crate::whole::whole_match;
 use ide_ssr_bindings::{Binding, FoundMatch};
-use ide_ssr_resolving::ResolvedRule;
+use ide_ssr_resolved_rule::ResolvedRule;
 use ssr_base_trees::{NodeId, Semantics, Trees};
 use ssr_syntax_kinds::SyntaxKind;
 use ssr_syntax_tree::{NodeNo, Tree};
@@ -123,7 +123,7 @@ impl<'a> Ground<'a> {
         requires ground { IsGround self.now }
         requires has { HasNode self.now.tree.now node.0 }
         requires free { ¬ IsShutIn (trees self.now.workspace.now) (node_id self.now.number node.0) }
-        ensures { (rule : ResolvedKind) → IsAskedBy rule asked → IsTrue result ↔ IsPermitted self.now.workspace.now self.now.context.now rule (node_id self.now.number node.0) }
+        ensures { (rule : RuleValue) → IsAskedBy rule asked → IsTrue result ↔ IsPermitted self.now.workspace.now self.now.context.now rule (node_id self.now.number node.0) }
     {
         self.is_open(node) && (!asked.in_function || self.is_in_function(node))
     }

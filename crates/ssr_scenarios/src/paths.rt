@@ -2,7 +2,8 @@
 
 use crate::lists::separator;
 use crate::told::Told;
-use ide_ssr_resolving::{QualifiedCall, Unresolved, UsedPath, key_of, used_paths};
+use ide_ssr_resolved_rule::{QualifiedCall, UsedPath};
+use ide_ssr_resolving::{Unresolved, key_of, used_paths};
 use ssr_base::{DefId, Res, ScopeId};
 use ssr_facts::TableSemantics;
 use ssr_syntax_kinds::SyntaxKind;

@@ -1,6 +1,6 @@
 //! What a node of a resolved rule stands for.
 
-use ide_ssr_resolving::resolve_rule;
+use ide_ssr_rules::resolve_rule;
 use ide_ssr_rules::SsrRule;
 use ssr_base::{DefId, Res, ScopeId};
 use ssr_facts::read;

@@ -10,7 +10,7 @@ use Rattle.ssr_base_trees.specs.Meanings.{Meanings}
 use Rattle.ssr_base_trees.specs.Workspace.{Workspace, trees, tree_of, node_id}
 use Rattle.ssr_base_trees.specs.Built.{IsNodeOf, IsMacroCall, IsBuilt}
 use Rattle.ssr_base_trees.specs.Laws.{IsEarlier, IsBelow}
-use Rattle.ide_ssr_resolving.specs.Resolved.{ResolvedKind}
+use Rattle.ide_ssr_resolved_rule.specs.Resolved.{ResolvedRule}
 use Rattle.ide_ssr_bindings.specs.declared.bindings.Binding.{Binding}
 use Rattle.ide_ssr_bindings.specs.Found.{FoundMatch}
 use Rattle.ide_ssr_search.specs.declared.scan.Ground.{Ground}
@@ -28,14 +28,14 @@ abbrev pub IsBefore : ℕ → ℕ → ℕ → FoundMatch → Type 0
 IsBefore t n r m = Precedes m (record { rule = r; node = node_id t n; bindings = [] })
 
 -- what is found before the matches of the rule r at the node n of the tree t
-pub record AreFoundBefore (w : Workspace) (m : Meanings) (context : Context) (rules : List ResolvedKind) (t n r : ℕ) (ms : List FoundMatch) : Type 0 where
+pub record AreFoundBefore (w : Workspace) (m : Meanings) (context : Context) (rules : List ResolvedRule) (t n r : ℕ) (ms : List FoundMatch) : Type 0 where
   pub in_order : AllPairs Precedes ms
   pub before : All (IsBefore t n r) ms
   pub are : All (IsFound w m context rules) ms
   pub complete : (found : FoundMatch) → IsFound w m context rules found → IsBefore t n r found → Contains ms found
 
 -- what the placeholders of a rule hold, where it is permitted at a node and matches there as a whole
-abbrev pub TellsMatch : Workspace → Meanings → Context → ResolvedKind → NodeId → Option (List Binding) → Type 0
+abbrev pub TellsMatch : Workspace → Meanings → Context → ResolvedRule → NodeId → Option (List Binding) → Type 0
 TellsMatch w m context rule x None = (bindings : List Binding) → IsPermitted w context rule x → ¬ IsWholeMatch (trees w) m rule x bindings
 TellsMatch w m context rule x (Some bindings) = IsPermitted w context rule x × IsWholeMatch (trees w) m rule x bindings
 
@@ -44,7 +44,7 @@ found_of place x None = []
 found_of place x (Some bindings) = record { rule = place; node = x; bindings = bindings } ∷ []
 
 -- the match of a rule at a node is added, if the rule is permitted there and matches as a whole
-pub record Adds (w : Workspace) (m : Meanings) (context : Context) (rule : ResolvedKind) (place : ℕ) (x : NodeId) (old new : List FoundMatch) : Type 0 where
+pub record Adds (w : Workspace) (m : Meanings) (context : Context) (rule : ResolvedRule) (place : ℕ) (x : NodeId) (old new : List FoundMatch) : Type 0 where
   pub bindings : Option (List Binding)
   pub tells : TellsMatch w m context rule x bindings
   pub added : new ≡ old ++ found_of place x bindings

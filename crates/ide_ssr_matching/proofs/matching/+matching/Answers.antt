@@ -7,8 +7,8 @@ use Rattle.ssr_syntax_kinds.specs.declared.kinds.SyntaxKind.TheVariants as k
 use Rattle.ssr_syntax_kinds.specs.Kinds.{same_kind}
 use Rattle.ssr_syntax_tree.specs.declared.number.Element.TheVariants as element
 use Rattle.ssr_syntax_tree.specs.Places.{HasNode, HasElement, node_of}
-use Rattle.ide_ssr_resolving.specs.QualifiedCalls.{call_at}
-use Rattle.ide_ssr_resolving.specs.Used.{res_at}
+use Rattle.ide_ssr_resolved_rule.specs.QualifiedCalls.{call_at}
+use Rattle.ide_ssr_resolved_rule.specs.UsedPaths.{res_at}
 use Rattle.ide_ssr_matching.specs.Bindings.{bindings_of}
 use Rattle.ide_ssr_matching.specs.TokenTrees.{is_tree}
 use Rattle.ide_ssr_matching.specs.Calls.{child_nodes}
