@@ -30,7 +30,7 @@ use Rattle.ide_ssr_matching.specs.Children.{is_left_out, bare}
 use Rattle.ide_ssr_matching.specs.UsedPaths.{from_arguments, arguments_of, pattern_res}
 use Rattle.ide_ssr_token_trees.specs.Placeholders.{placeholders_from}
 use Rattle.ide_ssr_token_trees.proofs.Shared.{trees_bound}
-use Rattle.ide_ssr_matching.specs.TokenTrees.{is_tree, token_placeholder, has_token_placeholder, is_plain, is_by_parts}
+use Rattle.ide_ssr_matching.specs.TokenTrees.{is_token_tree, token_placeholder, has_token_placeholder, is_plain, is_by_parts}
 use Rattle.ide_ssr_matching.specs.Matching.{Matches, bound, token_trees, method, used, alike, Pairs, end, tokens, nodes, named}
 use Rattle.ide_ssr_matching.specs.Bindings.{counted}
 use Rattle.ide_ssr_bindings.specs.declared.receivers.Receiver.{Receiver}
@@ -170,7 +170,7 @@ module _ (rule : ResolvedRule) where
       (among_mixed parent (1 + n + node_count below) (t + token_count below) next none)
 
   -- below a node that is no token tree, and of which no token of its own is a placeholder
-  plain_below : (p : Node) → is_tree p ≡ false → is_plain rule p ≡ true → placeholders_in rule.names p.children ≡ placeholders_below rule.names p.kind p.children
+  plain_below : (p : Node) → is_token_tree p ≡ false → is_plain rule p ≡ true → placeholders_in rule.names p.children ≡ placeholders_below rule.names p.kind p.children
   plain_below p other plain =
       by (same_kind p.kind k.MACRO_RULES) plain
       ∙ ap (λ b. if b then placeholders_among rule.names (tokens_in p.children) else if same_kind p.kind k.MACRO_RULES then placeholders_mixed rule.names p.children else placeholders_in rule.names p.children) (sym other)

@@ -14,7 +14,7 @@ use Rattle.ide_ssr_resolved_rule.specs.declared.qualified_calls.QualifiedCall.{Q
 use Rattle.ide_ssr_resolved_rule.specs.Placeholders.{placeholder_at}
 use Rattle.ide_ssr_resolved_rule.specs.Resolved.{ResolvedRule}
 use Rattle.ide_ssr_matching.specs.Children.{bare}
-use Rattle.ide_ssr_matching.specs.TokenTrees.{is_tree, is_plain}
+use Rattle.ide_ssr_matching.specs.TokenTrees.{is_token_tree, is_plain}
 use Rattle.ide_ssr_matching.specs.UsedPaths.{arguments_of, pattern_res}
 use Rattle.ide_ssr_matching.specs.Sides.{Sides, kept}
 use Rattle.ide_ssr_matching.specs.Calls.{child_nodes, PathCall, call_of}
@@ -135,7 +135,7 @@ module _ (m : Meanings) (tree : ℕ) (rule : ResolvedRule) where
 
   step_same : (f g : Binder) (p c : Node) → ((q : Node) → size_of q < size_of p → (d : Node) → f q d ≡ g q d)
       → step m tree rule f p c ≡ step m tree rule g p c
-  step_same f g p c same = ap (λ rest. node_by rule (placeholder_at rule.names p) rest c) (by_kind (is_tree p) (is_plain rule p))
+  step_same f g p c same = ap (λ rest. node_by rule (placeholder_at rule.names p) rest c) (by_kind (is_token_tree p) (is_plain rule p))
     where
       is_same : (part : Part) → IsSmaller (size_of p) part → AreSame f g part
       is_same (token_part t token) lt = tt

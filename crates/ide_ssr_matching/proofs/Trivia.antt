@@ -23,7 +23,7 @@ use Rattle.ide_ssr_matching.specs.Bindings.{Binder, pair_by, pairs_by, sides_by,
 use Rattle.ide_ssr_matching.specs.Matching.{Matches}
 use Rattle.ide_ssr_bindings.specs.Receivers.{is_node, received}
 use Rattle.ide_ssr_matching.specs.Sides.{Sides, kept}
-use Rattle.ide_ssr_matching.specs.TokenTrees.{is_tree, token_placeholder, tree_by, is_plain}
+use Rattle.ide_ssr_matching.specs.TokenTrees.{is_token_tree, token_placeholder, tree_by, is_plain}
 use Rattle.ide_ssr_matching.specs.Trivia.{stripped_below, stripped_tree, AreToldAlike, held_anywhere, bound_anywhere, BindAlike}
 use Rattle.ide_ssr_matching.proofs.Agreement.{bindings_of-Matches, Matches-bindings_of}
 use Rattle.ide_ssr_matching.proofs.StrippedNodes.{stripped_node, stripped_part, AreAlike, kinds_alike, numbers_alike, nodes_alike}
@@ -57,7 +57,7 @@ from_zero at p c =
     ∙ ap anywhere (bindings_later c.first at p (record c { first = 0 }))
     ∙ moved_anywhere c.first (tree_bindings at p (record c { first = 0 }))
 
-trees_alike : (at : ℕ → Option ℕ) (p c d : Node) → AreAlike c d → is_tree d ≡ true → anywhere (tree_bindings at p c) ≡ anywhere (tree_bindings at p d)
+trees_alike : (at : ℕ → Option ℕ) (p c d : Node) → AreAlike c d → is_token_tree d ≡ true → anywhere (tree_bindings at p c) ≡ anywhere (tree_bindings at p d)
 trees_alike at p c d alike is =
     from_zero at p c
     ∙ ap (λ kind. anywhere (tree_bindings at p (record c { first = 0; children = stripped_below kind c.children }))) (sym tree ∙ sym (kinds_alike c d alike))
@@ -157,16 +157,16 @@ module _ (rule : ResolvedRule) (ms : Meanings) (tree : ℕ) (other_ms : Meanings
   tokens_alike : (p c d : Node) → AreAlike c d → anywhere (tree_by rule p c) ≡ anywhere (tree_by rule p d)
   tokens_alike p c d alike =
       ap (λ kind. anywhere (cond (same_kind kind k.TOKEN_TREE) (tree_bindings (token_placeholder rule) p c) None)) (kinds_alike c d alike)
-      ∙ by (is_tree d) refl
+      ∙ by (is_token_tree d) refl
     where
-      by : (b : Bool) → is_tree d ≡ b
+      by : (b : Bool) → is_token_tree d ≡ b
           → anywhere (cond b (tree_bindings (token_placeholder rule) p c) None) ≡ anywhere (cond b (tree_bindings (token_placeholder rule) p d) None)
       by true is = trees_alike (token_placeholder rule) p c d alike is
       by false is = refl
 
   step_alike : (inner other : Binder) → ((p c d : Node) → AreAlike c d → anywhere (inner p c) ≡ anywhere (other p d)) → (p c d : Node) → AreAlike c d
       → anywhere (step ms tree rule inner p c) ≡ anywhere (step other_ms other_tree rule other p d)
-  step_alike inner other same p c d alike = by (placeholder_at rule.names p) (is_tree p) (is_plain rule p)
+  step_alike inner other same p c d alike = by (placeholder_at rule.names p) (is_token_tree p) (is_plain rule p)
     where
       by : (o : Option ℕ) (is_tree_node plain : Bool)
           → anywhere (node_by rule o (other_by ms tree rule inner is_tree_node plain p c) c)

@@ -17,7 +17,7 @@ use Rattle.ide_ssr_matching.specs.Children.{bare}
 use Rattle.ide_ssr_matching.specs.Sides.{Sides, kept}
 use Rattle.ide_ssr_matching.specs.Calls.{call_of, method_sides, can_be_call}
 use Rattle.ide_ssr_token_trees.specs.Bindings.{joined}
-use Rattle.ide_ssr_matching.specs.TokenTrees.{is_tree, tree_by, is_plain}
+use Rattle.ide_ssr_matching.specs.TokenTrees.{is_token_tree, tree_by, is_plain}
 use Rattle.ide_ssr_matching.specs.Records.{is_named, named_nodes, named_pairs}
 use Rattle.ide_ssr_matching.specs.UsedPaths.{arguments_of, pattern_res, code_res}
 
@@ -104,7 +104,7 @@ module _ (m : Meanings) (tree : ℕ) (rule : ResolvedRule) where
 
   -- any node of the pattern, where it is told for smaller ones
   abbrev pub step : Binder → Binder
-  step inner p c = node_by rule (placeholder_at rule.names p) (other_by inner (is_tree p) (is_plain rule p) p c) c
+  step inner p c = node_by rule (placeholder_at rule.names p) (other_by inner (is_token_tree p) (is_plain rule p) p c) c
 
   abbrev pub bindings_by : ℕ → Binder
   bindings_by zero p c = None

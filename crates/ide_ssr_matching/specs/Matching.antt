@@ -14,7 +14,7 @@ use Rattle.ide_ssr_matching.specs.Children.{bare}
 use Rattle.ide_ssr_matching.specs.UsedPaths.{arguments_of, pattern_res, code_res}
 use Rattle.ide_ssr_matching.specs.Sides.{Sides, kept}
 use Rattle.ide_ssr_token_trees.specs.TokenTrees.{TreesMatch}
-use Rattle.ide_ssr_matching.specs.TokenTrees.{is_tree, token_placeholder, is_by_parts}
+use Rattle.ide_ssr_matching.specs.TokenTrees.{is_token_tree, token_placeholder, is_by_parts}
 use Rattle.ide_ssr_matching.specs.Calls.{call_of, meets_method, method_sides, can_be_call, child_nodes}
 use Rattle.ide_ssr_matching.specs.Records.{is_named, named_nodes}
 
@@ -29,7 +29,7 @@ mutual
   pub data Matches (m : Meanings) (tree : ℕ) (rule : ResolvedRule) : Node → Node → List Binding → Type 0 where
     bound : (p c : Node) (i : ℕ) → placeholder_at rule.names p ≡ Some i → meets rule i c.kind ≡ true
         → Matches m tree rule p c (node_binding i c.number ∷ [])
-    token_trees : (p c : Node) (bs : List Binding) → placeholder_at rule.names p ≡ None → is_tree p ≡ true → is_tree c ≡ true
+    token_trees : (p c : Node) (bs : List Binding) → placeholder_at rule.names p ≡ None → is_token_tree p ≡ true → is_token_tree c ≡ true
         → TreesMatch (token_placeholder rule) p c bs → Matches m tree rule p c bs
     method : (p c : Node) (call : QualifiedCall) (sides : Sides) (bs : List Binding) → is_by_parts rule p ≡ true
         → call_of rule p ≡ Some call → c.kind ≡ k.METHOD_CALL_EXPR → method_sides m tree rule call p c ≡ Some sides

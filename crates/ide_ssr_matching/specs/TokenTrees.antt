@@ -10,8 +10,8 @@ use Rattle.ide_ssr_resolved_rule.specs.Resolved.{ResolvedRule}
 use Rattle.ide_ssr_bindings.specs.declared.bindings.Binding.{Binding}
 use Rattle.ide_ssr_token_trees.specs.Bindings.{placeholder_in, tree_bindings}
 
-abbrev pub is_tree : Node → Bool
-is_tree node = same_kind node.kind k.TOKEN_TREE
+abbrev pub is_token_tree : Node → Bool
+is_token_tree node = same_kind node.kind k.TOKEN_TREE
 
 -- which placeholder a token of the pattern is, by its number
 abbrev pub token_placeholder : ResolvedRule → ℕ → Option ℕ
@@ -19,7 +19,7 @@ token_placeholder rule = placeholder_in (token_placeholders rule.names rule.patt
 
 -- what the placeholders of a token tree hold where another one matches it
 abbrev pub tree_by : ResolvedRule → Node → Node → Option (List Binding)
-tree_by rule p c = if is_tree c then tree_bindings (token_placeholder rule) p c else None
+tree_by rule p c = if is_token_tree c then tree_bindings (token_placeholder rule) p c else None
 
 -- whether one of these children is a token that is a placeholder
 abbrev pub has_token_placeholder : ResolvedRule → List Part → Bool
@@ -34,4 +34,4 @@ is_plain rule p = not (same_kind p.kind k.MACRO_RULES && has_token_placeholder r
 
 -- whether a node of the pattern is matched by its parts: it is no placeholder and no token tree
 abbrev pub is_by_parts : ResolvedRule → Node → Bool
-is_by_parts rule p = is_none (placeholder_at rule.names p) && (not (is_tree p) && is_plain rule p)
+is_by_parts rule p = is_none (placeholder_at rule.names p) && (not (is_token_tree p) && is_plain rule p)

@@ -13,7 +13,7 @@ use Rattle.ssr_base_trees.specs.Laws.{IsEarlier, IsBelow}
 use Rattle.ide_ssr_resolved_rule.specs.Resolved.{ResolvedRule}
 use Rattle.ide_ssr_bindings.specs.declared.bindings.Binding.{Binding}
 use Rattle.ide_ssr_bindings.specs.Found.{FoundMatch}
-use Rattle.ide_ssr_search.specs.declared.scan.Ground.{Ground}
+use Rattle.ide_ssr_search.specs.declared.scan.TreeScan.{TreeScan}
 use Rattle.ide_ssr_search.specs.Context.{Context}
 use Rattle.ide_ssr_search.specs.Permitted.{IsPermitted}
 use Rattle.ide_ssr_search.specs.WholeMatches.{IsWholeMatch}
@@ -52,12 +52,12 @@ pub record Adds (w : Workspace) (m : Meanings) (context : Context) (rule : Resol
 -- ** What is known of trees.
 
 -- what is known of a tree before its nodes are tried
-pub record IsGround (ground : Ground) : Type 0 where
-  pub built : IsBuilt ground.workspace.now
-  pub tree : tree_of ground.workspace.now ground.number ≡ Some ground.tree.now
-  pub bounds : AreBounds (trees ground.workspace.now) ground.number ground.bounds
-  pub shut : IsTrue ground.shut ↔ IsShutIn (trees ground.workspace.now) (node_id ground.number 0)
-  pub inside : IsTrue ground.inside ↔ IsSomeAnd ground.context.now.function (IsBelow (trees ground.workspace.now) (node_id ground.number 0))
+pub record IsTreeScan (scan : TreeScan) : Type 0 where
+  pub built : IsBuilt scan.workspace.now
+  pub tree : tree_of scan.workspace.now scan.number ≡ Some scan.tree.now
+  pub bounds : AreBounds (trees scan.workspace.now) scan.number scan.bounds
+  pub shut : IsTrue scan.shut ↔ IsShutIn (trees scan.workspace.now) (node_id scan.number 0)
+  pub inside : IsTrue scan.inside ↔ IsSomeAnd scan.context.now.function (IsBelow (trees scan.workspace.now) (node_id scan.number 0))
 
 -- a call before the node n of the tree t shuts in what it stands for
 pub record IsShutCall (w : Workspace) (t n : ℕ) (call : NodeId) : Type 0 where

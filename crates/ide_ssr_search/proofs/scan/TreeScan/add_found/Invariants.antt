@@ -1,7 +1,7 @@
 use Rattle.ssr_base_trees.specs.Workspace.{trees}
 use Rattle.ide_ssr_search.specs.Private.Scan.{AreFoundBefore, KnowsShut}
 use Rattle.ide_ssr_search.proofs.Shutting.{IsPast}
-use Rattle.ide_ssr_search.proofs.scan.Ground.add_found.Given as goal
+use Rattle.ide_ssr_search.proofs.scan.TreeScan.add_found.Given as goal
 
 abbrev pub invariant-loop-number : goal.invariant-loop-number
 invariant-loop-number g l = record {

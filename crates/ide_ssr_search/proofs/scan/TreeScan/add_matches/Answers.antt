@@ -1,18 +1,18 @@
 use Rattle.std.proofs.Common.{length, refl, sym}
 use Rattle.std.proofs.lemmas.Option.{slice_get_read}
 use Rattle.ide_ssr_search.proofs.Finding.{found_more, found_at}
-use Rattle.ide_ssr_search.proofs.scan.Ground.add_matches.Goals as goal
+use Rattle.ide_ssr_search.proofs.scan.TreeScan.add_matches.Goals as goal
 
 pub loop-place-preserved : goal.loop-place-preserved
 loop-place-preserved g c =
-    let ground = c.args.self.now in
-    found_more ground.workspace.now (g.S.Semantics.meanings c.args.semantics.now) ground.context.now c.args.rules.now.rules.now ground.number c.args.node.0 c.loop-place.place ground.tree.now c.rule-item.result
-    c.loop-place.found.items c.add_match.new.found.items c.requires.ground.tree c.loop-place-test.true c.rule-item.is c.loop-place.invariant c.in_ok-add_match.ensures
+    let scan = c.args.self.now in
+    found_more scan.workspace.now (g.S.Semantics.meanings c.args.semantics.now) scan.context.now c.args.rules.now.rules.now scan.number c.args.node.0 c.loop-place.place scan.tree.now c.rule-item.result
+    c.loop-place.found.items c.add_match.new.found.items c.requires.scan.tree c.loop-place-test.true c.rule-item.is c.loop-place.invariant c.in_ok-add_match.ensures
 
 pub returns : goal.returns
 returns g c =
-    let ground = c.args.self.now in
-    found_at ground.workspace.now (g.S.Semantics.meanings c.args.semantics.now) ground.context.now c.args.rules.now.rules.now ground.number c.args.node.0 c.loop-place.place c.loop-place.found.items c.loop-place-test.false c.loop-place.invariant
+    let scan = c.args.self.now in
+    found_at scan.workspace.now (g.S.Semantics.meanings c.args.semantics.now) scan.context.now c.args.rules.now.rules.now scan.number c.args.node.0 c.loop-place.place c.loop-place.found.items c.loop-place-test.false c.loop-place.invariant
 
 pub add_match-requires-clause-asked : goal.add_match-requires-clause-asked
 add_match-requires-clause-asked g c =

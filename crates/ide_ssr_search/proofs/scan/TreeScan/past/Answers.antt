@@ -2,7 +2,7 @@ use Rattle.std.proofs.Common.{inl, refl, sym, subst}
 use Rattle.std.proofs.lemmas.Bool.{both_ways}
 use Rattle.ssr_base_trees.specs.Workspace.{trees}
 use Rattle.ide_ssr_search.specs.Private.Shut.{Shuts}
-use Rattle.ide_ssr_search.proofs.scan.Ground.past.Goals as goal
+use Rattle.ide_ssr_search.proofs.scan.TreeScan.past.Goals as goal
 
 pub returns-else-shuts : goal.returns-else-shuts
 returns-else-shuts c =

@@ -6,14 +6,14 @@ use Rattle.ide_ssr_bindings.specs.Found.{HasByte}
 use Rattle.ide_ssr_search.specs.Permitted.{IsSearched}
 use Rattle.ide_ssr_bindings.proofs.Shared.{is_tree}
 use Rattle.ide_ssr_search.proofs.Opening.{opened, not_use, open_range}
-use Rattle.ide_ssr_search.proofs.scan.Ground.is_open.Goals as goal
+use Rattle.ide_ssr_search.proofs.scan.TreeScan.is_open.Goals as goal
 
 pub returns-then-is : goal.returns-then-is
 returns-then-is c =
     let g = c.args.self.now in
     let w = g.workspace.now in (
       λ h. let e : false ≡ true = h in cc,
-      λ is. absurd (not_use w g.context.now.restrictions g.number c.args.node.0 g.tree.now (is_tree w g.number g.tree.now c.requires.ground.tree)
+      λ is. absurd (not_use w g.context.now.restrictions g.number c.args.node.0 g.tree.now (is_tree w g.number g.tree.now c.requires.scan.tree)
           (sym c.kind.ensures ∙ c.is.ensures.decides.0 c.if-is.true) is),
     )
 
@@ -29,7 +29,7 @@ returns-then-not-is_empty c =
     let differ : range.range.start ≡ range.range.end → ⊥ = λ same. both_ways c.is_empty.result c.if-not-is_empty.true (c.is_empty.ensures.1 same) in
     let byte : HasByte span = omega arith in
     let told = subst (λ rs. IsTrue c.is_searched.result ↔ IsSearched rs span) c.restrictions.ensures c.is_searched.ensures in (
-      λ searched. opened w g.context.now.restrictions g.number c.args.node.0 g.tree.now span (is_tree w g.number g.tree.now c.requires.ground.tree) c.requires.has
+      λ searched. opened w g.context.now.restrictions g.number c.args.node.0 g.tree.now span (is_tree w g.number g.tree.now c.requires.scan.tree) c.requires.has
           (λ kind. both_ways c.is.result c.if-is.false (c.is.ensures.decides.1 (c.kind.ensures ∙ kind)))
           c.requires.free is byte (told.0 searched),
       λ known. told.1 (open_range w g.context.now.restrictions (node_id g.number c.args.node.0) span is known).1,

@@ -1,7 +1,7 @@
 use Rattle.std.proofs.Common.{◌≡◌, sym}
 use Rattle.ssr_base_trees.specs.Workspace.{trees, above, node_id}
 use Rattle.ide_ssr_search.proofs.Calls.{earlier_if, ground_shut, ground_inside}
-use Rattle.ide_ssr_search.proofs.scan.Ground.new.Goals as goal
+use Rattle.ide_ssr_search.proofs.scan.TreeScan.new.Goals as goal
 
 pub is_shut-requires-clause-call : goal.is_shut-requires-clause-call
 is_shut-requires-clause-call c = earlier_if c.args.workspace.now c.requires.built c.args.number c.above-call.result c.above-call.ensures
@@ -9,8 +9,8 @@ is_shut-requires-clause-call c = earlier_if c.args.workspace.now c.requires.buil
 pub is_inside-requires-clause-call : goal.is_inside-requires-clause-call
 is_inside-requires-clause-call c = earlier_if c.args.workspace.now c.requires.built c.args.number c.above-call.result c.above-call.ensures
 
-pub returns-clause-ground : goal.returns-clause-ground
-returns-clause-ground c =
+pub returns-clause-scan : goal.returns-clause-scan
+returns-clause-scan c =
     let ts = trees c.args.workspace.now in
     let root = node_id c.args.number 0 in
     let call = c.above-call.result in

@@ -9,15 +9,15 @@ use Rattle.ssr_base_trees.specs.contracts.ids.NodeIdOrd.TheImpl as id_order
 use Rattle.ssr_base_trees.specs.Workspace.{trees}
 use Rattle.ide_ssr_bindings.proofs.Shared.{is_tree, of_tree, in_tree}
 use Rattle.ide_ssr_search.proofs.Calls.{shut_kept, shut_added}
-use Rattle.ide_ssr_search.proofs.scan.Ground.add_shut.Goals as goal
-use Rattle.ide_ssr_search.proofs.scan.Ground.add_shut.Goals.{else-shuts-via-then-shuts+else-is, else-shuts-via-else-shuts}
+use Rattle.ide_ssr_search.proofs.scan.TreeScan.add_shut.Goals as goal
+use Rattle.ide_ssr_search.proofs.scan.TreeScan.add_shut.Goals.{else-shuts-via-then-shuts+else-is, else-shuts-via-else-shuts}
 
 pub returns-in_ok-insert : goal.returns-in_ok-insert
 returns-in_ok-insert c =
     let g = c.args.self.now in
     let w = g.workspace.now in
     let n = c.args.node.0 in
-    let at = is_tree w g.number g.tree.now c.requires.ground.tree in
+    let at = is_tree w g.number g.tree.now c.requires.scan.tree in
     shut_added w g.number n c.args.shut.now c.insert.new.self
     (of_tree (trees w) g.number g.tree.now (λ s. HasNode s n) at c.requires.has)
     (of_tree (trees w) g.number g.tree.now (λ s. (node_of s n).kind ≡ k.MACRO_CALL) at (sym c.kind.ensures ∙ c.is.ensures.decides.0 c.if-is.true))
@@ -31,7 +31,7 @@ returns-else-shuts c =
     let g = c.args.self.now in
     let w = g.workspace.now in
     let n = c.args.node.0 in
-    let at = is_tree w g.number g.tree.now c.requires.ground.tree in
+    let at = is_tree w g.number g.tree.now c.requires.scan.tree in
     shut_kept w g.number n c.args.shut.now
     (λ is_call shut. elim c.else-shuts.branch [
       | else-shuts-via-then-shuts+else-is v ↦
