@@ -15,7 +15,8 @@ use Rattle.ssr_syntax_kinds.specs.Kinds.{same_kind, is_ident}
 use Rattle.ssr_syntax_kinds.proofs.Shared.{same_kind-equal}
 use Rattle.ssr_syntax_tree.specs.Syntax.{Token, Syntax, tokens_of, spelled, same_token}
 use Rattle.ssr_syntax_kinds.specs.declared.fragment.Fragment.{Fragment}
-use Rattle.ssr_syntax.specs.Reading.{pieces, fragment_reading, FitsFragment}
+use Rattle.ssr_syntax_rows.specs.Solid.{pieces}
+use Rattle.ssr_syntax.specs.Reading.{fragment_reading, FitsFragment}
 use Rattle.ssr_syntax.specs.Identifiers.{idents}
 use Rattle.ssr_syntax.proofs.Shared.{fragment_sound, fragment_idents, fragment_alone, length-token, tiles_within, spelled-pieces, IsUtf8-trim, trim_shorter}
 use Rattle.ide_ssr_rules.specs.declared.elements.Element.{Element}

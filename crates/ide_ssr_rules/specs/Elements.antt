@@ -7,7 +7,7 @@ use Rattle.ssr_syntax_kinds.specs.declared.kinds.SyntaxKind.TheVariants as k
 use Rattle.ssr_syntax_lex.specs.declared.tokens.LexError.TheVariants as errors
 use Rattle.ssr_syntax_lex.specs.Fault.{error_words}
 use Rattle.ssr_syntax_lex.specs.Tokens.{tokens, fault}
-use Rattle.ssr_syntax.specs.Reading.{pieces}
+use Rattle.ssr_syntax_rows.specs.Solid.{pieces}
 use Rattle.ssr_syntax_tree.specs.Syntax.{Token}
 use Rattle.ide_ssr_resolved_rule.specs.declared.constraints.Constraint.{Constraint}
 use Rattle.ide_ssr_rules.specs.declared.elements.Element.{Element}
