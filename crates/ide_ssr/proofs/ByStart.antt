@@ -16,10 +16,10 @@ use Rattle.std.proofs.lemmas.List.Elements.{All-push, Contains-get_or}
 use Rattle.std.proofs.lemmas.List.Sorted.{All-permutation, Contains-permutation, ranks_by, sorted_far}
 use Rattle.std.proofs.lemmas.Map.Keys.{apart_from_distinct, IsDistinct-from_apart, IsDistinct-IsPermutation}
 use Rattle.std.proofs.lemmas.Option.{same_Some, slice_get-get_or}
-use Rattle.ssr_base.specs.declared.ids.NodeId.{NodeId}
-use Rattle.ssr_base.specs.Workspace.{Workspace, trees}
-use Rattle.ide_ssr_found.specs.declared.bindings.Binding.{Binding}
-use Rattle.ide_ssr_found.specs.Found.{Found, held_range}
+use Rattle.ssr_base_trees.specs.declared.ids.NodeId.{NodeId}
+use Rattle.ssr_base_trees.specs.Workspace.{Workspace, trees}
+use Rattle.ide_ssr_bindings.specs.declared.bindings.Binding.{Binding}
+use Rattle.ide_ssr_bindings.specs.Found.{FoundMatch, held_range}
 use Rattle.ide_ssr.specs.declared.starts.Start.{Start}
 use Rattle.ide_ssr.specs.Starts.{start_at, AreByStart}
 use Rattle.ide_ssr.specs.Private.Starts.{IsStartOf, AreStarts, start_key}
@@ -32,7 +32,7 @@ places_of starts = map (λ start. start.place) starts
 
 -- ** The starts, one after another.
 
-pub starts_more : (w : Workspace) (m : Found) (n : ℕ) (old new : List Start) (at : ℕ) → AreStarts w m n old → start_at w m n ≡ Some at
+pub starts_more : (w : Workspace) (m : FoundMatch) (n : ℕ) (old new : List Start) (at : ℕ) → AreStarts w m n old → start_at w m n ≡ Some at
     → new ≡ old ++ record { at = at; place = n } ∷ [] → AreStarts w m (n + 1) new
 starts_more w m n old new at so_far is more =
     let start : Start = record { at = at; place = n } in
@@ -52,7 +52,7 @@ starts_more w m n old new at so_far is more =
     })
 
 -- where the binding begins that stands at a place
-pub start_is : (w : Workspace) (m : Found) (n at : ℕ) (node : NodeId) (bindings : List Binding) (d : Binding) → node ≡ m.node → bindings ≡ m.bindings
+pub start_is : (w : Workspace) (m : FoundMatch) (n at : ℕ) (node : NodeId) (bindings : List Binding) (d : Binding) → node ≡ m.node → bindings ≡ m.bindings
     → n < length bindings → option_map (λ range. range.span.start) (held_range (trees w) node.tree (get_or bindings n d)) ≡ Some at
     → start_at w m n ≡ Some at
 start_is w m n at node bindings d same_node same within is =
@@ -87,7 +87,7 @@ not_behind s t rising differ =
 same_place : Start → Start → Bool
 same_place s t = s.place == t.place
 
-module _ (w : Workspace) (m : Found) (starts sorted : List Start) (are : AreStarts w m (length m.bindings) starts) (moved : IsPermutation starts sorted)
+module _ (w : Workspace) (m : FoundMatch) (starts sorted : List Start) (are : AreStarts w m (length m.bindings) starts) (moved : IsPermutation starts sorted)
     (up : IsSortedByKey start_key (slice_cmp nat_cmp) sorted) where
   starts_differ : IsDistinct same_place starts
   unfolding same_place

@@ -9,14 +9,14 @@ use Rattle.ssr_syntax_tree.specs.declared.number.TokenNo.{TokenNo}
 use Rattle.ssr_syntax_tree.specs.Syntax.{Syntax, source_of}
 use Rattle.ssr_syntax_tree.specs.Places.{HasNode, offset_of}
 use Rattle.ssr_syntax_tree.proofs.Shared.{offset_grows}
-use Rattle.ssr_base.specs.declared.ids.FileRange.{FileRange}
-use Rattle.ssr_base.specs.declared.ids.NodeId.{NodeId}
-use Rattle.ssr_base.specs.Workspace.{Workspace, Planted, FileSpan, of_file, trees, with_number, tree_of, file_span_of}
-use Rattle.ssr_base.specs.Built.{IsNodeOf}
-use Rattle.ssr_base.specs.Laws.{IsSpanOf, LiesInFile}
-use Rattle.ssr_base.proofs.Shared.{and_some, boundary_passes, planted-file, some_and, span_of_text}
-use Rattle.ide_ssr_found.specs.declared.bindings.Binding.{Binding}
-use Rattle.ide_ssr_found.specs.Found.{Found}
+use Rattle.ssr_base_trees.specs.declared.ids.FileRange.{FileRange}
+use Rattle.ssr_base_trees.specs.declared.ids.NodeId.{NodeId}
+use Rattle.ssr_base_trees.specs.Workspace.{Workspace, PlacedTree, FileSpan, of_file, trees, with_number, tree_of, file_span_of}
+use Rattle.ssr_base_trees.specs.Built.{IsNodeOf}
+use Rattle.ssr_base_trees.specs.Laws.{IsSpanOf, LiesInFile}
+use Rattle.ssr_base_trees.proofs.Shared.{and_some, boundary_passes, placed-file, some_and, span_of_text}
+use Rattle.ide_ssr_bindings.specs.declared.bindings.Binding.{Binding}
+use Rattle.ide_ssr_bindings.specs.Found.{FoundMatch}
 use Rattle.ide_ssr_rewriting.specs.Comments.{kept_comments}
 use Rattle.ide_ssr.specs.Comments.{token_span, comment_spans}
 
@@ -26,16 +26,16 @@ use Rattle.ide_ssr.specs.Comments.{token_span, comment_spans}
 pub tree_there : (w : Workspace) (x : NodeId) → IsNodeOf (trees w) x → tree_of w x.tree ≡ None → ⊥
 tree_there w x node is =
     let had = some_and (with_number (trees w) x.tree) (λ p. HasNode p.syntax x.node.0) node in
-    none-some had.0.syntax (sym is ∙ ap (option_map (λ (p : Planted). p.syntax)) had.1)
+    none-some had.0.syntax (sym is ∙ ap (option_map (λ (p : PlacedTree). p.syntax)) had.1)
 
-syntax_of_file : (o : Option Syntax) (s : Syntax) → option_map (λ (p : Planted). p.syntax) (option_map of_file o) ≡ Some s → o ≡ Some s
+syntax_of_file : (o : Option Syntax) (s : Syntax) → option_map (λ (p : PlacedTree). p.syntax) (option_map of_file o) ≡ Some s → o ≡ Some s
 syntax_of_file None s is = absurd (none-some s is)
 syntax_of_file (Some tree) s is = is
 
 -- the tree of a file's number is the file's
 pub file_is : (w : Workspace) (t : ℕ) (s : Syntax) → t < length w.files → tree_of w t ≡ Some s → slice_get w.files t ≡ Some s
 file_is w t s within is =
-    syntax_of_file (slice_get w.files t) s (ap (option_map (λ (p : Planted). p.syntax)) (sym (planted-file w t within)) ∙ is)
+    syntax_of_file (slice_get w.files t) s (ap (option_map (λ (p : PlacedTree). p.syntax)) (sym (placed-file w t within)) ∙ is)
 
 -- ** Spans of a file.
 
@@ -73,7 +73,7 @@ spans_more file tree tokens i d old new range within so_far more is =
     ∙ sym (map-append (token_span file tree) (take i tokens) (get_or tokens i d ∷ []))
     ∙ ap (map (token_span file tree)) (sym (take_more tokens i d within))
 
-pub spans_are : (w : Workspace) (m : Found) (node : NodeId) (tree : Syntax) (bindings : List Binding) (tokens : List TokenNo) (i : ℕ) (ranges : List FileRange)
+pub spans_are : (w : Workspace) (m : FoundMatch) (node : NodeId) (tree : Syntax) (bindings : List Binding) (tokens : List TokenNo) (i : ℕ) (ranges : List FileRange)
     → node ≡ m.node → bindings ≡ m.bindings → slice_get w.files node.tree ≡ Some tree → tokens ≡ kept_comments tree node.node.0 bindings → length tokens ≤ i
     → map file_span_of ranges ≡ map (token_span node.tree tree) (take i tokens) → map file_span_of ranges ≡ comment_spans w m
 spans_are w m node tree bindings tokens i ranges same_node same is tokens_are past so_far =

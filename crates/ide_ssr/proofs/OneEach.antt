@@ -1,10 +1,10 @@
 -- A finder's search comes to one outcome, so it has one edit for each file.
 use Rattle.std.proofs.Common.{◌≡◌, List, [], Contains, Ok, sym, ap, ◌∙◌, subst, arith}
 use Rattle.std.specs.Prelude.{Err}
-use Rattle.ssr_base.specs.declared.ids.FileRange.{FileRange}
-use Rattle.ssr_base.specs.Built.{IsBuilt}
-use Rattle.ssr_base.specs.Workspace.{Workspace, trees}
-use Rattle.ide_ssr_found.specs.Found.{Found}
+use Rattle.ssr_base_trees.specs.declared.ids.FileRange.{FileRange}
+use Rattle.ssr_base_trees.specs.Built.{IsBuilt}
+use Rattle.ssr_base_trees.specs.Workspace.{Workspace, trees}
+use Rattle.ide_ssr_bindings.specs.Found.{FoundMatch}
 use Rattle.ide_ssr_nesting.specs.Holding.{Kept}
 use Rattle.ide_ssr_nesting.specs.Lists.{Listing, AreLists}
 use Rattle.ide_ssr_rewriting.specs.declared.editing.EditError.TheVariants as errors
@@ -25,7 +25,7 @@ one_outcome finder a b s t one other =
     let workspaces : a.workspace ≡ b.workspace = one.workspace ∙ sym other.workspace in
     let matches : a.matches ≡ b.matches =
     one_kept (trees w) (subst IsBuilt one.workspace one.is_kept.built).grown one.found other.found a.matches b.matches (are_matches w finder.meanings finder.context finder.rules one.found one.are_found)
-    (λ m. (subst (λ (ms : List Found). Contains ms m) same, subst (λ (ms : List Found). Contains ms m) (sym same))) one.are_kept other.are_kept in
+    (λ m. (subst (λ (ms : List FoundMatch). Contains ms m) same, subst (λ (ms : List FoundMatch). Contains ms m) (sym same))) one.are_kept other.are_kept in
     let kept : a ≡ b = one_holding a b one.is_kept other.is_kept workspaces matches in
     (kept, one_listing b s t (subst (λ (kept : Kept). AreLists kept s) kept one.are_lists) other.are_lists)
 

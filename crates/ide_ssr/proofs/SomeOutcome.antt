@@ -1,9 +1,9 @@
 -- A finder's search comes to an outcome, and so to edits or a clash.
 use Rattle.std.proofs.Common.{◌≡◌, List, [], Ok, inl, inr}
 use Rattle.std.specs.BTreeMap.{BTreeMap}
-use Rattle.ssr_base.specs.declared.ids.FileId.{FileId}
-use Rattle.ssr_base.specs.Changes.{Change}
-use Rattle.ssr_base.specs.Built.{IsBuilt}
+use Rattle.ssr_base_trees.specs.declared.ids.FileId.{FileId}
+use Rattle.ssr_base_trees.specs.Changes.{Change}
+use Rattle.ssr_base_trees.specs.Built.{IsBuilt}
 use Rattle.ide_ssr_nesting.proofs.Shared.{kept_exist, lists_exist}
 use Rattle.ide_ssr_rewriting.proofs.Shared.{answer_exists}
 use Rattle.ide_ssr_search.proofs.Shared.{are_matches, some_found}

@@ -1,9 +1,9 @@
 -- What the calls of nested matches answer.
 use Rattle.std.specs.Prelude.{ℕ, List, string_bytes}
-use Rattle.ssr_base.specs.declared.ids.FileRange.{FileRange}
-use Rattle.ssr_base.specs.declared.ids.NodeId.{NodeId}
-use Rattle.ssr_base.specs.declared.semantics.SelfKind.{SelfKind}
-use Rattle.ssr_base.specs.Workspace.{FileSpan, file_span_of}
+use Rattle.ssr_base_trees.specs.declared.ids.FileRange.{FileRange}
+use Rattle.ssr_base_trees.specs.declared.ids.NodeId.{NodeId}
+use Rattle.ssr_base_trees.specs.declared.semantics.SelfKind.{SelfKind}
+use Rattle.ssr_base_trees.specs.Workspace.{FileSpan, file_span_of}
 use Rattle.ide_ssr.specs.declared.matches.Match.{Match, out-Match}
 use Rattle.ide_ssr.specs.declared.matches.PlaceholderMatch.{PlaceholderMatch, out-PlaceholderMatch}
 

@@ -1,7 +1,7 @@
 -- What a finder's search comes to: the matches that are found, those of them that are kept, and the lists of these.
 use Rattle.std.specs.Prelude.{◌≡◌, List}
-use Rattle.ssr_base.specs.Workspace.{trees}
-use Rattle.ide_ssr_found.specs.Found.{Found}
+use Rattle.ssr_base_trees.specs.Workspace.{trees}
+use Rattle.ide_ssr_bindings.specs.Found.{FoundMatch}
 use Rattle.ide_ssr_nesting.specs.Holding.{Kept, IsKept}
 use Rattle.ide_ssr_nesting.specs.Kept.{AreKept}
 use Rattle.ide_ssr_nesting.specs.Lists.{Listing, AreLists}
@@ -10,7 +10,7 @@ use Rattle.ide_ssr.specs.Finder.{Finder}
 
 -- there is one outcome, as the law `laws::searching` says
 pub record IsOutcome (finder : Finder) (kept : Kept) (lists : Listing) : Type 0 where
-  pub found : List Found
+  pub found : List FoundMatch
   pub are_found : AreFound finder.workspace finder.meanings finder.context finder.rules found
   pub workspace : kept.workspace ≡ finder.workspace
   pub are_kept : AreKept (trees finder.workspace) found kept.matches

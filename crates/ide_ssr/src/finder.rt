@@ -1,8 +1,8 @@
 //! The finder: a workspace, rules, and what the search for them is made for.
 
 ghost use Rattle.std.specs.Prelude.{◌≡◌, ◌↔◌, ◌++◌, [], All, IfOk, IsTrue, OnErr};
-ghost use Rattle.ide_ssr_resolving.specs.Patterns.{HasEachOnce, AreInArguments};
-ghost use Rattle.ide_ssr_resolving.specs.Resolved.{resolved_kinds};
+ghost use Rattle.ide_ssr_resolved_rule.specs.Patterns.{HasEachOnce, AreInArguments};
+ghost use Rattle.ide_ssr_rules.specs.Resolved.{resolved_kinds};
 ghost use Rattle.ide_ssr_rewriting.specs.Edits.{EditsFit};
 ghost use Rattle.ide_ssr_search.specs.Making.{Makes, MakesFirst};
 ghost use Rattle.ide_ssr.specs.Adding.{Adds};
@@ -17,11 +17,12 @@ use crate::matches::SsrMatches;
 use crate::nesting::nested_matches;
 use ide_ssr_nesting::{KeptMatches, Lists, keep};
 use ide_ssr_refusals::SsrError;
-use ide_ssr_resolving::{ResolvedRule, resolve_pattern, resolve_rule};
+use ide_ssr_resolved_rule::ResolvedRule;
 use ide_ssr_rewriting::{EditError, edits};
-use ide_ssr_rules::{SsrPattern, SsrRule};
+use ide_ssr_rules::{SsrPattern, SsrRule, resolve_pattern, resolve_rule};
 use ide_ssr_search::{Context, ContextError, find_matches};
-use ssr_base::{FileId, FilePosition, FileRange, Semantics, TextEdit, Workspace};
+use ssr_base::Workspace;
+use ssr_base_trees::{FileId, FilePosition, FileRange, Semantics, TextEdit, Trees};
 use std::alloc::{AllocError, Global};
 use std::collections::BTreeMap;
 use std::fmt;
@@ -31,7 +32,7 @@ use std::marker::Model;
 #[derive(Drop)]
 pub struct MatchFinder<'a, S: Semantics> {
     alloc: Global,
-    workspace: &'a Workspace,
+    workspace: &'a Trees,
     semantics: &'a S,
     context: Context,
     rules: Vec<ResolvedRule>,
@@ -39,7 +40,7 @@ pub struct MatchFinder<'a, S: Semantics> {
 
 impl<'a, S: Semantics> Model for MatchFinder<'a, S> {
     ghost use Rattle.std.specs.Prelude.{All};
-    ghost use Rattle.ide_ssr_resolving.specs.Patterns.{HasEachOnce, AreInArguments};
+    ghost use Rattle.ide_ssr_resolved_rule.specs.Patterns.{HasEachOnce, AreInArguments};
     ghost use Rattle.ide_ssr.specs.Finder.{FinderWith};
     ghost use Rattle.ide_ssr.specs.FinderCode.{finder_code};
 
@@ -62,7 +63,7 @@ impl<S: Semantics> fmt::Debug for MatchFinder<'_, S> {
 }
 
 /// The error that tells why there is nothing to make a search for.
-fn told(alloc: Global, refusal: ContextError) -> SsrError
+fn to_error(alloc: Global, refusal: ContextError) -> SsrError
     ensures { TellsRefusal result refusal }
 {
     if let ContextError::Memory = refusal {
@@ -100,9 +101,10 @@ impl<'a, S: Semantics> MatchFinder<'a, S> {
     ) -> Result<MatchFinder<'a, S>, SsrError>
         ensures { MakesFinder workspace.now semantics.now (Makes workspace.now (S.meanings semantics.now) position restrictions.items) result }
     {
-        match Context::at(alloc, workspace, semantics, position, restrictions) {
-            Ok(context) => Ok(MatchFinder::with(alloc, workspace, semantics, context)),
-            Err(refusal) => Err(told(alloc, refusal)),
+        let trees = workspace.trees();
+        match Context::at(alloc, trees, semantics, position, restrictions) {
+            Ok(context) => Ok(MatchFinder::with(alloc, trees, semantics, context)),
+            Err(refusal) => Err(to_error(alloc, refusal)),
         }
     }
 
@@ -116,16 +118,17 @@ impl<'a, S: Semantics> MatchFinder<'a, S> {
     ) -> Result<MatchFinder<'a, S>, SsrError>
         ensures { MakesFinder workspace.now semantics.now (MakesFirst workspace.now (S.meanings semantics.now)) result }
     {
-        match Context::at_first_file(alloc, workspace, semantics) {
-            Ok(context) => Ok(MatchFinder::with(alloc, workspace, semantics, context)),
-            Err(refusal) => Err(told(alloc, refusal)),
+        let trees = workspace.trees();
+        match Context::at_first_file(alloc, trees, semantics) {
+            Ok(context) => Ok(MatchFinder::with(alloc, trees, semantics, context)),
+            Err(refusal) => Err(to_error(alloc, refusal)),
         }
     }
 
     /// A finder without rules.
     fn with(
         alloc: Global,
-        workspace: &'a Workspace,
+        workspace: &'a Trees,
         semantics: &'a S,
         context: Context,
     ) -> MatchFinder<'a, S>

@@ -1,6 +1,6 @@
 //! What holds of the words of the contracts, whatever the code: each function here does nothing, and what
 //! it ensures is a law.
-ghost use Rattle.ssr_base.specs.Built.{IsBuilt};
+ghost use Rattle.ssr_base_trees.specs.Built.{IsBuilt};
 ghost use Rattle.ide_ssr.specs.Finder.{Finder};
 ghost use Rattle.ide_ssr.specs.Laws.{AnswerExists, OneEdit, OneOutcome, OutcomeExists};
 

@@ -4,7 +4,7 @@ ghost use Rattle.std.specs.Prelude.{◌≡◌, IfOk, string_bytes};
 ghost use Rattle.ide_ssr.specs.Matches.{text_of, range_of, node_of, rule_of, placeholders_of, name_of, place_of, deref_count_of, self_kind_of, inner_of, comments_of};
 
 use ide_ssr_rules::Var;
-use ssr_base::{FileRange, NodeId, SelfKind};
+use ssr_base_trees::{FileRange, NodeId, SelfKind};
 use std::alloc::{AllocError, Global};
 
 /// The matches of a search: those that stand in no placeholder of another one, by file, start and end, rule, tree and node. The

@@ -1,7 +1,7 @@
 //! Nesting the kept matches.
 
 ghost use Rattle.std.specs.Prelude.{◌≡◌, ◌<◌, ◌+◌, ℕ, None, Some, IfOk, OnOk, length, slice_get, slice_index_or};
-ghost use Rattle.ide_ssr_found.specs.Found.{Found as FoundMatch};
+ghost use Rattle.ide_ssr_bindings.specs.Found.{FoundMatch};
 ghost use Rattle.ide_ssr_nesting.specs.Holding.{IsKept};
 ghost use Rattle.ide_ssr_nesting.specs.Lists.{AreLists, listed};
 ghost use Rattle.ide_ssr.specs.Nesting.{Show, Shows};
@@ -12,13 +12,13 @@ use crate::made::{none_made, take_list};
 use crate::matches::{Match, PlaceholderMatch};
 use crate::parts::{nested_placeholder, placeholder_name, range_at, text_at};
 use crate::starts::by_start;
-use ide_ssr_found::{Binding, Found};
+use ide_ssr_bindings::{Binding, FoundMatch};
 use ide_ssr_nesting::{KeptMatches, Lists};
-use ide_ssr_resolving::ResolvedRule;
+use ide_ssr_resolved_rule::ResolvedRule;
 use std::alloc::{AllocError, Global};
 
 /// The binding of a match at a place, counted from 0.
-fn binding_at(m: &Found, place: usize) -> Binding
+fn binding_at(m: &FoundMatch, place: usize) -> Binding
     requires { place < length m.now.bindings }
     ensures { slice_get m.now.bindings place ≡ Some result }
 {

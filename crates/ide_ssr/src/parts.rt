@@ -3,17 +3,17 @@
 ghost use Rattle.std.specs.Prelude.{◌≡◌, [], IfOk, IsSome, Some, map, option_map, slice_get, slice_index_or, string_bytes};
 ghost use Rattle.std.specs.Option.{IsSomeAnd};
 ghost use Rattle.ssr_syntax_tree.specs.Places.{node_of, text_of};
-ghost use Rattle.ssr_base.specs.Built.{IsBuilt, IsNodeOf};
-ghost use Rattle.ssr_base.specs.Workspace.{file_span_of, original_range, tree_of, trees};
-ghost use Rattle.ide_ssr_found.specs.Found.{held_range};
+ghost use Rattle.ssr_base_trees.specs.Built.{IsBuilt, IsNodeOf};
+ghost use Rattle.ssr_base_trees.specs.Workspace.{file_span_of, original_range, tree_of, trees};
+ghost use Rattle.ide_ssr_bindings.specs.Found.{held_range};
 ghost use Rattle.ide_ssr.specs.Matches.{deref_count_of, inner_of, name_of, self_kind_of, span_of};
 ghost use Rattle.ide_ssr.specs.Parts.{ComesFrom, placeholder_name};
 
 use crate::matches::{Match, PlaceholderMatch};
-use ide_ssr_found::Binding;
-use ide_ssr_resolving::ResolvedRule;
+use ide_ssr_bindings::Binding;
+use ide_ssr_resolved_rule::ResolvedRule;
 use ide_ssr_rules::Var;
-use ssr_base::{FileId, FileRange, NodeId, Workspace};
+use ssr_base_trees::{FileId, FileRange, NodeId, Trees};
 use ssr_syntax_kinds::TextRange;
 use std::alloc::{AllocError, Global};
 
@@ -38,7 +38,7 @@ pub(crate) fn placeholder_name(rules: &[ResolvedRule], rule: usize, placeholder:
 }
 
 /// The text of a node in its tree.
-pub(crate) fn text_at(workspace: &Workspace, node: NodeId) -> &str
+pub(crate) fn text_at(workspace: &Trees, node: NodeId) -> &str
     requires { IsNodeOf (trees workspace.now) node }
     ensures { IsSomeAnd (tree_of workspace.now node.tree) (λ syntax. result.now ≡ text_of (node_of syntax node.node.0)) }
 {
@@ -63,7 +63,7 @@ fn there(range: Option<FileRange>) -> FileRange
 }
 
 /// Where a node comes from.
-pub(crate) fn range_at(workspace: &Workspace, node: NodeId) -> FileRange
+pub(crate) fn range_at(workspace: &Trees, node: NodeId) -> FileRange
     requires built { IsBuilt workspace.now }
     requires range { IsSome (original_range (trees workspace.now) node) }
     ensures { ComesFrom workspace.now (original_range (trees workspace.now) node) (file_span_of result) }
@@ -72,7 +72,7 @@ pub(crate) fn range_at(workspace: &Workspace, node: NodeId) -> FileRange
 }
 
 /// Where what a binding of a match in the tree holds comes from.
-fn held_range_at(workspace: &Workspace, tree: u32, binding: Binding) -> FileRange
+fn held_range_at(workspace: &Trees, tree: u32, binding: Binding) -> FileRange
     requires built { IsBuilt workspace.now }
     requires range { IsSome (held_range (trees workspace.now) tree binding) }
     ensures { ComesFrom workspace.now (held_range (trees workspace.now) tree binding) (file_span_of result) }
@@ -83,7 +83,7 @@ fn held_range_at(workspace: &Workspace, tree: u32, binding: Binding) -> FileRang
 /// What a placeholder of a match in the tree holds, with the matches in it.
 pub(crate) fn nested_placeholder<'a>(
     alloc: Global,
-    workspace: &Workspace,
+    workspace: &Trees,
     name: &str,
     tree: u32,
     binding: Binding,

@@ -4,13 +4,13 @@ ghost use Rattle.std.specs.Prelude.{◌≡◌, All, IfOk, Some, length};
 ghost use Rattle.std.specs.Cmp.Lexicographic.{slice_cmp};
 ghost use Rattle.std.specs.Option.{option_map};
 ghost use Rattle.std.specs.Ordering.{nat_cmp};
-ghost use Rattle.ssr_base.specs.Workspace.{trees};
-ghost use Rattle.ide_ssr_found.specs.Found.{IsInRange, held_range};
+ghost use Rattle.ssr_base_trees.specs.Workspace.{trees};
+ghost use Rattle.ide_ssr_bindings.specs.Found.{IsInRange, held_range};
 ghost use Rattle.ide_ssr.specs.Starts.{AreByStart};
 ghost use Rattle.ide_ssr.specs.Private.Starts.{AreStarts, start_key};
 
-use ide_ssr_found::{Binding, Found};
-use ssr_base::{NodeId, Workspace};
+use ide_ssr_bindings::{Binding, FoundMatch};
+use ssr_base_trees::{NodeId, Trees};
 use std::alloc::{AllocError, Global};
 use std::cmp::Ordering;
 
@@ -31,8 +31,8 @@ fn compare(one: &Start, other: &Start) -> Ordering
 /// The places of a match's bindings, by where these begin.
 pub(crate) fn by_start(
     alloc: Global,
-    workspace: &Workspace,
-    m: &Found,
+    workspace: &Trees,
+    m: &FoundMatch,
 ) -> Result<Vec<usize>, AllocError>
     requires { All (IsInRange (trees workspace.now) m.now.node) m.now.bindings }
     ensures { IfOk result (λ order. AreByStart workspace.now m.now order.items) }
@@ -47,7 +47,7 @@ pub(crate) fn by_start(
 }
 
 /// Where what the bindings of a match hold begins, in the order of the pattern.
-fn starts(alloc: Global, workspace: &Workspace, m: &Found) -> Result<Vec<Start>, AllocError>
+fn starts(alloc: Global, workspace: &Trees, m: &FoundMatch) -> Result<Vec<Start>, AllocError>
     requires { All (IsInRange (trees workspace.now) m.now.node) m.now.bindings }
     ensures { IfOk result (λ starts. AreStarts workspace.now m.now (length m.now.bindings) starts.items) }
 {
@@ -60,7 +60,7 @@ fn starts(alloc: Global, workspace: &Workspace, m: &Found) -> Result<Vec<Start>,
 }
 
 /// Where what a binding of a match at the node holds begins in its file.
-fn start_of(workspace: &Workspace, node: NodeId, binding: Binding) -> u32
+fn start_of(workspace: &Trees, node: NodeId, binding: Binding) -> u32
     requires { IsInRange (trees workspace.now) node binding }
     ensures { option_map (λ range. range.span.start) (held_range (trees workspace.now) node.tree binding) ≡ Some result }
 {

@@ -9,9 +9,9 @@ use Rattle.ssr_syntax_tree.specs.declared.number.Element.{Element}
 use Rattle.ssr_syntax_tree.specs.declared.number.NodeNo.{NodeNo}
 use Rattle.ssr_syntax_tree.specs.Syntax.{Syntax}
 use Rattle.ssr_syntax_tree.specs.Places.{Part, node_part, part_of, node_of}
-use Rattle.ide_ssr_found.specs.declared.bindings.Binding.{Binding}
-use Rattle.ide_ssr_found.specs.declared.receivers.Receiver.{Receiver}
-use Rattle.ide_ssr_found.specs.Receivers.{received}
+use Rattle.ide_ssr_bindings.specs.declared.bindings.Binding.{Binding}
+use Rattle.ide_ssr_bindings.specs.declared.receivers.Receiver.{Receiver}
+use Rattle.ide_ssr_bindings.specs.Receivers.{received}
 use Rattle.ide_ssr_token_trees.specs.Bindings.{joined, Answers, matched, other}
 use Rattle.ide_ssr_matching.specs.declared.calls.MethodNodes.{MethodNodes}
 use Rattle.ide_ssr_matching.specs.Bindings.{Binder, pair_by, pairs_by, sides_by}

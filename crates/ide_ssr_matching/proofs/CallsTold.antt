@@ -5,14 +5,14 @@ use Rattle.ssr_syntax_tree.specs.declared.number.NodeNo.{NodeNo}
 use Rattle.ssr_syntax_tree.specs.Syntax.{Syntax}
 use Rattle.ssr_syntax_tree.specs.Places.{HasNode, Node, node_of}
 use Rattle.ssr_syntax_tree.proofs.Shared.{node_of-number}
-use Rattle.ssr_base.specs.declared.ids.TypeId.{TypeId}
-use Rattle.ssr_base.specs.declared.semantics.Res.{Res}
-use Rattle.ssr_base.specs.Meanings.{Meanings}
-use Rattle.ssr_base.specs.Workspace.{node_id}
-use Rattle.ide_ssr_resolving.specs.declared.qualified_calls.QualifiedCall.{QualifiedCall}
-use Rattle.ide_ssr_resolving.specs.Resolved.{ResolvedKind}
-use Rattle.ide_ssr_resolving.specs.Used.{res_at}
-use Rattle.ide_ssr_found.specs.declared.receivers.Receiver.{Receiver}
+use Rattle.ssr_base_trees.specs.declared.ids.TypeId.{TypeId}
+use Rattle.ssr_base_trees.specs.declared.semantics.Res.{Res}
+use Rattle.ssr_base_trees.specs.Meanings.{Meanings}
+use Rattle.ssr_base_trees.specs.Workspace.{node_id}
+use Rattle.ide_ssr_resolved_rule.specs.declared.qualified_calls.QualifiedCall.{QualifiedCall}
+use Rattle.ide_ssr_resolved_rule.specs.Resolved.{ResolvedRule}
+use Rattle.ide_ssr_resolved_rule.specs.UsedPaths.{res_at}
+use Rattle.ide_ssr_bindings.specs.declared.receivers.Receiver.{Receiver}
 use Rattle.ide_ssr_matching.specs.declared.calls.CalledNodes.{CalledNodes}
 use Rattle.ide_ssr_matching.specs.declared.calls.MethodNodes.{MethodNodes}
 use Rattle.ide_ssr_matching.specs.Calls.{child_nodes, first_among, arguments_among, PathCall, called, Method, method_call, calls_same, derefs, receiver_by, alike_pairs, method_with, method_sides, takes_first, can_be_call}
@@ -52,7 +52,7 @@ none_told ms number code m o call o_is none =
 
 -- ** A qualified call against a method call.
 
-module _ (ms : Meanings) (number : ℕ) (rule : ResolvedKind) (pattern code : Syntax) (call : QualifiedCall) (n m : ℕ) where
+module _ (ms : Meanings) (number : ℕ) (rule : ResolvedRule) (pattern code : Syntax) (call : QualifiedCall) (n m : ℕ) where
   abbrev sides : Option Sides
   sides = method_sides ms number rule call (node_of pattern n) (node_of code m)
 

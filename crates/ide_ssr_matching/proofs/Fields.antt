@@ -6,7 +6,7 @@ use Rattle.std.specs.Option.{option_and_then, option_map}
 use Rattle.ssr_syntax_tree.specs.declared.number.NodeNo.{NodeNo}
 use Rattle.ssr_syntax_tree.specs.Syntax.{Syntax}
 use Rattle.ssr_syntax_tree.specs.Places.{Node, node_part, node_of}
-use Rattle.ide_ssr_found.specs.declared.bindings.Binding.{Binding}
+use Rattle.ide_ssr_bindings.specs.declared.bindings.Binding.{Binding}
 use Rattle.ide_ssr_token_trees.specs.Bindings.{joined, Answers, other}
 use Rattle.ide_ssr_matching.specs.Bindings.{Binder, pairs_by, sides_by}
 use Rattle.ide_ssr_matching.specs.Calls.{child_nodes}

@@ -7,20 +7,20 @@ use Rattle.ssr_syntax_tree.specs.Syntax.{Syntax}
 use Rattle.ssr_syntax_tree.specs.Places.{HasNode, Node, Part, token_part, node_part, node_of, parts_of}
 use Rattle.ssr_syntax_tree.proofs.Lists.{pairs_none, pairs_head, pairs_tail}
 use Rattle.ssr_syntax_tree.proofs.Shared.{IsOf, node_of-number}
-use Rattle.ssr_base.specs.Laws.{IsAmong}
-use Rattle.ssr_base.specs.Meanings.{Meanings}
-use Rattle.ssr_base.specs.Workspace.{run_of}
-use Rattle.ide_ssr_found.specs.declared.bindings.Binding.{Binding}
-use Rattle.ide_ssr_found.specs.Apart.{tokens_held, IsHeldIn, AreApart}
-use Rattle.ide_ssr_found.specs.Found.{node_binding}
-use Rattle.ide_ssr_resolving.specs.Resolved.{ResolvedKind}
+use Rattle.ssr_base_trees.specs.Laws.{IsAmong}
+use Rattle.ssr_base_trees.specs.Meanings.{Meanings}
+use Rattle.ssr_base_trees.specs.Workspace.{run_of}
+use Rattle.ide_ssr_bindings.specs.declared.bindings.Binding.{Binding}
+use Rattle.ide_ssr_bindings.specs.Apart.{tokens_held, IsHeldIn, AreApart}
+use Rattle.ide_ssr_bindings.specs.Found.{node_binding}
+use Rattle.ide_ssr_resolved_rule.specs.Resolved.{ResolvedRule}
 use Rattle.ide_ssr_matching.specs.Children.{bare}
 use Rattle.ide_ssr_token_trees.specs.TokenTrees.{TreesMatch}
 use Rattle.ide_ssr_token_trees.proofs.Shared.{trees_held, trees_behind}
 use Rattle.ide_ssr_matching.specs.TokenTrees.{token_placeholder}
 use Rattle.ide_ssr_matching.specs.UsedPaths.{arguments_of}
-use Rattle.ide_ssr_found.specs.declared.receivers.Receiver.{Receiver}
-use Rattle.ide_ssr_found.specs.Receivers.{is_node, received}
+use Rattle.ide_ssr_bindings.specs.declared.receivers.Receiver.{Receiver}
+use Rattle.ide_ssr_bindings.specs.Receivers.{is_node, received}
 use Rattle.ide_ssr_matching.specs.Sides.{kept}
 use Rattle.ide_ssr_matching.specs.Matching.{Matches, bound, token_trees, method, used, alike, Pairs, end, tokens, nodes, named}
 use Rattle.ide_ssr_matching.specs.Calls.{child_nodes}
@@ -120,7 +120,7 @@ module _ (code : Syntax) where
     apart = received_apart r bs held.apart;
   }
 
-  module _ (m : Meanings) (tree : ℕ) (rule : ResolvedKind) where
+  module _ (m : Meanings) (tree : ℕ) (rule : ResolvedRule) where
     mutual
       matches_held : (p c : Node) (bs : List Binding) → Matches m tree rule p c bs → IsOf code c → AreHeld c bs
       matches_held _ _ _ (bound p c i at met) is = itself c i is

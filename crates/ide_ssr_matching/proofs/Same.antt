@@ -1,7 +1,7 @@
 -- A used path stands for what is told of a node exactly where the test says so.
 use Rattle.std.proofs.Common.{◌≡◌, true, Option, Some, None}
-use Rattle.ssr_base.specs.declared.semantics.Res.{Res}
-use Rattle.ssr_base.proofs.Shared.{same_res-equal, same_res-itself}
+use Rattle.ssr_base_trees.specs.declared.semantics.Res.{Res}
+use Rattle.ssr_base_trees.proofs.Shared.{same_res-equal, same_res-itself}
 use Rattle.ide_ssr_matching.specs.Bindings.{stands_for}
 
 pub stands_for-told : (r : Res) (told : Option Res) → stands_for r told ≡ true → told ≡ Some r

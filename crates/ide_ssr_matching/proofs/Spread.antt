@@ -8,11 +8,11 @@ use Rattle.ssr_syntax_tree.specs.Syntax.{Syntax, Forest, nothing, leaf, branch, 
 use Rattle.ssr_syntax_tree.specs.Places.{Node, Part, token_part, node_part, parts_in, parts_of}
 use Rattle.ssr_syntax_tree.proofs.Lists.{pairs_none, pairs_head, pairs_tail}
 use Rattle.ssr_syntax_tree.proofs.Shared.{IsOf, IsChild, children_known}
-use Rattle.ssr_base.specs.declared.ids.TokenRun.{TokenRun}
-use Rattle.ssr_base.specs.declared.semantics.Res.{Res}
-use Rattle.ssr_base.specs.Laws.{IsAmong}
-use Rattle.ssr_base.specs.Workspace.{run_of}
-use Rattle.ide_ssr_resolving.specs.Paths.{first_of_kind}
+use Rattle.ssr_base_trees.specs.declared.ids.TokenRun.{TokenRun}
+use Rattle.ssr_base_trees.specs.declared.semantics.Res.{Res}
+use Rattle.ssr_base_trees.specs.Laws.{IsAmong}
+use Rattle.ssr_base_trees.specs.Workspace.{run_of}
+use Rattle.ide_ssr_resolved_rule.specs.Paths.{first_of_kind}
 use Rattle.ide_ssr_matching.specs.Children.{leaves_out, bare}
 use Rattle.ide_ssr_matching.specs.UsedPaths.{holds_arguments, from_arguments, arguments_of}
 use Rattle.ide_ssr_matching.specs.Bindings.{counted}

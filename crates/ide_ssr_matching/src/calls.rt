@@ -4,15 +4,15 @@ ghost use Rattle.std.specs.Prelude.{◌≡◌, ◌++◌, All, IfOk, IfSome, OnOk
 ghost use Rattle.std.specs.List.{position};
 ghost use Rattle.std.specs.Option.{option_and_then};
 ghost use Rattle.ssr_syntax_tree.specs.Places.{HasNode, node_of};
-ghost use Rattle.ssr_base.specs.Workspace.{node_id};
+ghost use Rattle.ssr_base_trees.specs.Workspace.{node_id};
 ghost use Rattle.ide_ssr_matching.specs.Calls.{child_nodes, first_among, first_node, arguments_among, method_call, are_call, called_with, called, same_type, derefs, calls_same, receiver_by, method_sides, can_be_call};
 ghost use Rattle.ide_ssr_matching.specs.Private.Calls.{behind_first, called_at, AreCalledBelow, method_at, arguments_at, HasMethodNodes, sides_at, AreSidesBelow};
 ghost use Rattle.ide_ssr_matching.specs.Private.ChildNodes.{nodes_at, IsNodeBelow};
 
 use crate::child_nodes::{ChildNodes, first_child_node, only_child_node};
-use ide_ssr_found::Receiver;
-use ide_ssr_resolving::{QualifiedCall, ResolvedRule, first_child, last_segment};
-use ssr_base::{NodeId, Res, Semantics, TypeId};
+use ide_ssr_bindings::Receiver;
+use ide_ssr_resolved_rule::{QualifiedCall, ResolvedRule, first_child, last_segment};
+use ssr_base_trees::{NodeId, Res, Semantics, TypeId};
 use ssr_syntax_kinds::SyntaxKind;
 use ssr_syntax_tree::{Element, NodeNo, Tree};
 use std::alloc::{AllocError, Global};

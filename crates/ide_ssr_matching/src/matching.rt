@@ -3,11 +3,11 @@
 ghost use Rattle.std.specs.Prelude.{◌≡◌, ◌++◌, All, IfOk, OnOk, map, option_map};
 ghost use Rattle.std.specs.Option.{option_and_then};
 ghost use Rattle.ssr_syntax_tree.specs.Places.{HasNode, HasElement, node_of, root_of, part_of};
-ghost use Rattle.ssr_base.specs.Workspace.{node_id};
+ghost use Rattle.ssr_base_trees.specs.Workspace.{node_id};
 ghost use Rattle.ide_ssr_matching.specs.Bindings.{placeholder_by, stands_for, pair_by, pairs_by, can_match, like_sides, sides_of, sides_by, bindings_of, like_pairs};
 ghost use Rattle.ide_ssr_matching.specs.Calls.{child_nodes, method_sides};
 ghost use Rattle.ide_ssr_matching.specs.Records.{named_nodes, named_pairs};
-ghost use Rattle.ide_ssr_found.specs.Receivers.{received};
+ghost use Rattle.ide_ssr_bindings.specs.Receivers.{received};
 ghost use Rattle.ide_ssr_token_trees.specs.Bindings.{Answers};
 ghost use Rattle.ide_ssr_matching.specs.Private.Bindings.{counted_by, generics_by, arguments_by};
 ghost use Rattle.ide_ssr_matching.specs.Private.Calls.{method_at, arguments_at, HasMethodNodes};
@@ -17,11 +17,11 @@ use crate::calls::{CalledNodes, MethodArguments, MethodNodes, can_be_call, metho
 use crate::child_nodes::ChildNodes;
 use crate::children::Siblings;
 use crate::records::{are_as_many, are_different, counterpart, is_named};
-use crate::token_trees::{is_plain, is_tree, tree_matches};
-use ide_ssr_found::{Binding, Receiver};
-use ide_ssr_resolving::{QualifiedCall, ResolvedRule};
+use crate::token_trees::{is_plain, is_token_tree, tree_matches};
+use ide_ssr_bindings::{Binding, Receiver};
+use ide_ssr_resolved_rule::{QualifiedCall, ResolvedRule};
 use ide_ssr_token_trees::tokens_match;
-use ssr_base::{NodeId, Res, Semantics};
+use ssr_base_trees::{NodeId, Res, Semantics};
 use ssr_syntax_kinds::SyntaxKind;
 use ssr_syntax_tree::{Element, NodeNo, Tree};
 use std::alloc::{AllocError, Global};
@@ -93,7 +93,11 @@ fn can_match<S: Semantics>(
 }
 
 /// Adds what placeholders bind to `out`: one that holds the receiver keeps how it is taken.
-fn keep(receiver: Receiver, held: &[Binding], out: &mut Vec<Binding>) -> Result<(), AllocError>
+fn push_received(
+    receiver: Receiver,
+    held: &[Binding],
+    out: &mut Vec<Binding>,
+) -> Result<(), AllocError>
     ensures { OnOk result (out.new.items ≡ out.old.items ++ map (received receiver) held.now) }
 {
     for binding in held {
@@ -122,7 +126,7 @@ fn node_matches<S: Semantics>(
     if let Some(placeholder) = rule.placeholder(p) {
         return placeholder_matches(rule, code, placeholder, c, out);
     }
-    if is_tree(rule.pattern(), p) {
+    if is_token_tree(rule.pattern(), p) {
         return tree_matches(rule, code, p, c, out);
     }
     if !is_plain(rule, p) {
@@ -191,7 +195,7 @@ fn method_matches<S: Semantics>(
     )? {
         return Ok(false);
     }
-    keep(sides.receiver, &held, out)?;
+    push_received(sides.receiver, &held, out)?;
     Ok(true)
 }
 

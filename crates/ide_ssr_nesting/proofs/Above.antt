@@ -3,18 +3,18 @@ use Rattle.std.proofs.Common.{◌≡◌, ℕ, zero, suc, ◌<◌, ◌≤◌, inl
 use Rattle.std.proofs.lemmas.Bool.{cases_lt, cases_order}
 use Rattle.std.proofs.lemmas.Option.{option_and_then_some, same_Some}
 use Rattle.std.specs.Option.{option_and_then}
-use Rattle.ssr_base.specs.declared.ids.NodeId.{NodeId}
-use Rattle.ssr_base.specs.Workspace.{Planted, above_in, above}
-use Rattle.ssr_base.specs.Built.{IsNodeOf, CallsAreEarlier}
-use Rattle.ssr_base.specs.Laws.{climbed, IsBelow, IsEarlier}
-use Rattle.ssr_base.proofs.Shared.{is_up}
-use Rattle.ide_ssr_found.proofs.Shared.{told_node}
+use Rattle.ssr_base_trees.specs.declared.ids.NodeId.{NodeId}
+use Rattle.ssr_base_trees.specs.Workspace.{PlacedTree, above_in, above}
+use Rattle.ssr_base_trees.specs.Built.{IsNodeOf, CallsAreEarlier}
+use Rattle.ssr_base_trees.specs.Laws.{climbed, IsBelow, IsEarlier}
+use Rattle.ssr_base_trees.proofs.Shared.{is_up}
+use Rattle.ide_ssr_bindings.proofs.Shared.{told_node}
 use Rattle.ide_ssr_nesting.specs.Order.{place, end_place}
 use Rattle.ide_ssr_nesting.specs.Laws.{BelowIsBetween, OnePlaceEach, OneWayUp}
 use Rattle.ide_ssr_nesting.proofs.Laid.{laid}
 
 -- what is known of a node above another one
-pub record StandsOver (trees : List Planted) (a b : NodeId) : Type 0 where
+pub record StandsOver (trees : List PlacedTree) (a b : NodeId) : Type 0 where
   pub node : IsNodeOf trees a
   pub before : place trees a < place trees b
   pub around : end_place trees b ≤ end_place trees a
@@ -26,7 +26,7 @@ earlier_of a b c (inl x) (inr y) = inl (omega arith)
 earlier_of a b c (inr x) (inl y) = inl (omega arith)
 earlier_of a b c (inr x) (inr y) = inr (omega arith, omega arith)
 
-module _ (trees : List Planted) (grown : CallsAreEarlier trees) where
+module _ (trees : List PlacedTree) (grown : CallsAreEarlier trees) where
   one_up : (a b : NodeId) → above trees b ≡ Some a → StandsOver trees a b
   one_up a b is =
       let up = is_up trees b a grown is in

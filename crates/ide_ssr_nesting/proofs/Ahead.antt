@@ -6,12 +6,12 @@ use Rattle.std.specs.Option.{IsSomeAnd, option_map, option_map_or}
 use Rattle.std.proofs.lemmas.Bool.{cases_order, cases_Bool, cond-true, cond-false, lt-ltb, ltb-true, ltb_from_iff, false≢true}
 use Rattle.std.proofs.lemmas.Option.{same_Some}
 use Rattle.std.proofs.lemmas.Bool.Decides.{nat_tests}
-use Rattle.ssr_base.specs.declared.ids.NodeId.{NodeId}
-use Rattle.ssr_base.specs.Workspace.{Workspace, Planted, trees, with_number, tree_of, has_node}
-use Rattle.ssr_base.specs.Built.{IsNodeOf, CallsAreEarlier}
+use Rattle.ssr_base_trees.specs.declared.ids.NodeId.{NodeId}
+use Rattle.ssr_base_trees.specs.Workspace.{Workspace, PlacedTree, trees, with_number, tree_of, has_node}
+use Rattle.ssr_base_trees.specs.Built.{IsNodeOf, CallsAreEarlier}
 use Rattle.ssr_syntax_tree.specs.Syntax.{Syntax, node_count}
 use Rattle.ssr_syntax_tree.specs.Places.{HasNode}
-use Rattle.ide_ssr_found.specs.Found.{Found}
+use Rattle.ide_ssr_bindings.specs.Found.{FoundMatch}
 use Rattle.ide_ssr_nesting.specs.Order.{count_of, place}
 use Rattle.ide_ssr_nesting.specs.Kept.{ComesBefore}
 use Rattle.ide_ssr_nesting.specs.Private.Sorting.{is_node, first_rank, next_rank, is_ahead}
@@ -19,11 +19,11 @@ use Rattle.ide_ssr_nesting.proofs.Laid.{laid}
 
 -- ** The test by which they are sorted.
 
-pub node_test : (trees : List Planted) (x : NodeId) → is_node trees x ≡ true → IsNodeOf trees x
+pub node_test : (trees : List PlacedTree) (x : NodeId) → is_node trees x ≡ true → IsNodeOf trees x
 unfolding is_node
 node_test trees x is = by (with_number trees x.tree) is
   where
-    by : (o : Option Planted) → option_map_or (λ p. has_node p.syntax x.node.0) o false ≡ true → IsSomeAnd o (λ p. HasNode p.syntax x.node.0)
+    by : (o : Option PlacedTree) → option_map_or (λ p. has_node p.syntax x.node.0) o false ≡ true → IsSomeAnd o (λ p. HasNode p.syntax x.node.0)
     by None is = absurd (false≢true is)
     by (Some p) is = ltb-true x.node.0 (1 + node_count p.syntax.children) is
 
@@ -32,7 +32,7 @@ pub node_told : (w : Workspace) (x : NodeId) (tree : Syntax) (r : Bool) → Some
 unfolding is_node
 node_told w x tree r is told = by (with_number (trees w) x.tree) is
   where
-    by : (o : Option Planted) → Some tree ≡ option_map (λ p. p.syntax) o → r ≡ option_map_or (λ p. has_node p.syntax x.node.0) o false
+    by : (o : Option PlacedTree) → Some tree ≡ option_map (λ p. p.syntax) o → r ≡ option_map_or (λ p. has_node p.syntax x.node.0) o false
     by None is = cc
     by (Some p) is =
         ltb_from_iff told
@@ -42,15 +42,15 @@ pub no_node : (w : Workspace) (x : NodeId) → None ≡ tree_of w x.tree → fal
 unfolding is_node
 no_node w x none = by (with_number (trees w) x.tree) none
   where
-    by : (o : Option Planted) → None ≡ option_map (λ p. p.syntax) o → false ≡ option_map_or (λ p. has_node p.syntax x.node.0) o false
+    by : (o : Option PlacedTree) → None ≡ option_map (λ p. p.syntax) o → false ≡ option_map_or (λ p. has_node p.syntax x.node.0) o false
     by None none = refl
     by (Some p) none = cc
 
-pub test_node : (trees : List Planted) (x : NodeId) → IsNodeOf trees x → is_node trees x ≡ true
+pub test_node : (trees : List PlacedTree) (x : NodeId) → IsNodeOf trees x → is_node trees x ≡ true
 unfolding is_node
 test_node trees x node = by (with_number trees x.tree) node
   where
-    by : (o : Option Planted) → IsSomeAnd o (λ p. HasNode p.syntax x.node.0) → option_map_or (λ p. has_node p.syntax x.node.0) o false ≡ true
+    by : (o : Option PlacedTree) → IsSomeAnd o (λ p. HasNode p.syntax x.node.0) → option_map_or (λ p. has_node p.syntax x.node.0) o false ≡ true
     by None node = absurd node
     by (Some p) node = lt-ltb x.node.0 (1 + node_count p.syntax.children) node
 
@@ -73,31 +73,31 @@ behind_first a r b q h = grind (arith, nat_tests)
 behind_none : (a r b q : ℕ) → a ≡ b → q ≡ 0 → false ≡ (nat_lt a b || (a == b && nat_lt r q))
 behind_none a r b q h z = grind (arith, nat_tests)
 
-pub ahead_order : (trees : List Planted) → IsStrictWeakOrder (is_ahead trees)
+pub ahead_order : (trees : List PlacedTree) → IsStrictWeakOrder (is_ahead trees)
 unfolding is_ahead
 ahead_order trees = record {
   one_way = λ k m h. ahead_once (first_rank trees k) (next_rank trees k) (first_rank trees m) (next_rank trees m) h;
   chain = λ j k m h g. ahead_chain (first_rank trees j) (next_rank trees j) (first_rank trees k) (next_rank trees k) (first_rank trees m) (next_rank trees m) h g;
 }
 
-first_of : (trees : List Planted) (m : Found) → is_node trees m.node ≡ true → first_rank trees m ≡ place trees m.node
+first_of : (trees : List PlacedTree) (m : FoundMatch) → is_node trees m.node ≡ true → first_rank trees m ≡ place trees m.node
 unfolding first_rank
 first_of trees m is = cond-true (is_node trees m.node) (place trees m.node) (count_of trees) is
 
-next_of : (trees : List Planted) (m : Found) → is_node trees m.node ≡ true → next_rank trees m ≡ m.rule
+next_of : (trees : List PlacedTree) (m : FoundMatch) → is_node trees m.node ≡ true → next_rank trees m ≡ m.rule
 unfolding next_rank
 next_of trees m is = cond-true (is_node trees m.node) m.rule 0 is
 
-first_lacking : (trees : List Planted) (m : Found) → is_node trees m.node ≡ false → first_rank trees m ≡ count_of trees
+first_lacking : (trees : List PlacedTree) (m : FoundMatch) → is_node trees m.node ≡ false → first_rank trees m ≡ count_of trees
 unfolding first_rank
 first_lacking trees m is = cond-false (is_node trees m.node) (place trees m.node) (count_of trees) is
 
-next_lacking : (trees : List Planted) (m : Found) → is_node trees m.node ≡ false → next_rank trees m ≡ 0
+next_lacking : (trees : List PlacedTree) (m : FoundMatch) → is_node trees m.node ≡ false → next_rank trees m ≡ 0
 unfolding next_rank
 next_lacking trees m is = cond-false (is_node trees m.node) m.rule 0 is
 
-module _ (trees : List Planted) (grown : CallsAreEarlier trees) where
-  within : (m : Found) → is_node trees m.node ≡ true → place trees m.node < count_of trees
+module _ (trees : List PlacedTree) (grown : CallsAreEarlier trees) where
+  within : (m : FoundMatch) → is_node trees m.node ≡ true → place trees m.node < count_of trees
   within m is =
       let node = node_test trees m.node is in
       let begins = (laid trees grown).begins m.node node in
@@ -105,7 +105,7 @@ module _ (trees : List Planted) (grown : CallsAreEarlier trees) where
       omega arith
 
   -- a match that lacks its node is in front of none
-  pub lacking_behind : (k m : Found) → is_node trees k.node ≡ false → false ≡ is_ahead trees k m
+  pub lacking_behind : (k m : FoundMatch) → is_node trees k.node ≡ false → false ≡ is_ahead trees k m
   unfolding is_ahead
   lacking_behind k m lacks = elim (cases_Bool (is_node trees m.node)) [
     | inl has ↦ behind_first (first_rank trees k) (next_rank trees k) (first_rank trees m) (next_rank trees m)
@@ -114,13 +114,13 @@ module _ (trees : List Planted) (grown : CallsAreEarlier trees) where
         (first_lacking trees k lacks ∙ sym (first_lacking trees m also)) (next_lacking trees m also)
   ]
 
-  pub lacking_last : (k m : Found) → is_node trees k.node ≡ true → is_node trees m.node ≡ false → true ≡ is_ahead trees k m
+  pub lacking_last : (k m : FoundMatch) → is_node trees k.node ≡ true → is_node trees m.node ≡ false → true ≡ is_ahead trees k m
   unfolding is_ahead
   lacking_last k m has lacks =
       sym (ahead_first (first_rank trees k) (next_rank trees k) (first_rank trees m) (next_rank trees m)
       (omega (arith, first_of trees k has, first_lacking trees m lacks, within k has)))
 
-  ahead_is : (k m : Found) → IsNodeOf trees k.node → IsNodeOf trees m.node
+  ahead_is : (k m : FoundMatch) → IsNodeOf trees k.node → IsNodeOf trees m.node
       → is_ahead trees k m ≡ (nat_lt (place trees k.node) (place trees m.node) || (place trees k.node == place trees m.node && nat_lt k.rule m.rule))
   unfolding is_ahead
   ahead_is k m k_in m_in =
@@ -128,7 +128,7 @@ module _ (trees : List Planted) (grown : CallsAreEarlier trees) where
       let m_is = test_node trees m.node m_in in
       rw (first_of trees k k_is, next_of trees k k_is, first_of trees m m_is, next_of trees m m_is) refl
 
-  ahead_before : (k m : Found) → IsNodeOf trees k.node → IsNodeOf trees m.node → is_ahead trees k m ≡ true → ComesBefore trees k m
+  ahead_before : (k m : FoundMatch) → IsNodeOf trees k.node → IsNodeOf trees m.node → is_ahead trees k m ≡ true → ComesBefore trees k m
   ahead_before k m k_in m_in ahead =
       elim (parts (place trees k.node) k.rule (place trees m.node) m.rule (sym (ahead_is k m k_in m_in) ∙ ahead)) [
         | inl less ↦ inl less
@@ -142,14 +142,14 @@ module _ (trees : List Planted) (grown : CallsAreEarlier trees) where
         | inr (inr more) ↦ absurd (grind (arith, nat_tests))
       ]
 
-  pub before_ahead : (k m : Found) → IsNodeOf trees k.node → IsNodeOf trees m.node → ComesBefore trees k m → is_ahead trees k m ≡ true
+  pub before_ahead : (k m : FoundMatch) → IsNodeOf trees k.node → IsNodeOf trees m.node → ComesBefore trees k m → is_ahead trees k m ≡ true
   before_ahead k m k_in m_in before = ahead_is k m k_in m_in ∙ by before
     where
       by : ComesBefore trees k m → (nat_lt (place trees k.node) (place trees m.node) || (place trees k.node == place trees m.node && nat_lt k.rule m.rule)) ≡ true
       by (inl less) = ahead_first (place trees k.node) k.rule (place trees m.node) m.rule less
       by (inr same) = ahead_next (place trees k.node) k.rule (place trees m.node) m.rule (ap (place trees) same.0) same.1
 
-  pub told_ahead : (k m : Found) (r : Bool) → is_node trees k.node ≡ true → is_node trees m.node ≡ true → (r ≡ true) ↔ ComesBefore trees k m → r ≡ is_ahead trees k m
+  pub told_ahead : (k m : FoundMatch) (r : Bool) → is_node trees k.node ≡ true → is_node trees m.node ≡ true → (r ≡ true) ↔ ComesBefore trees k m → r ≡ is_ahead trees k m
   told_ahead k m r k_is m_is told =
       let k_in = node_test trees k.node k_is in
       let m_in = node_test trees m.node m_is in

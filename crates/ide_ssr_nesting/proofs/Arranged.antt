@@ -2,7 +2,7 @@
 use Rattle.std.proofs.Common.{◌≡◌, ◌⊎◌, ◌↔◌, inl, inr, List, [], ◌∷◌, All, AllPairs, Contains, sym, subst}
 use Rattle.std.proofs.lemmas.List.Elements.{All-nil, All-cons, All-head, All-tail, All-contains}
 use Rattle.std.proofs.lemmas.List.Kept.{AllPairs-cons}
-use Rattle.ide_ssr_found.proofs.Deciding.{all_of}
+use Rattle.ide_ssr_bindings.proofs.Deciding.{all_of}
 use Rattle.ssr_syntax_tree.proofs.Lists.{pairs_none, pairs_head, pairs_tail, at_front, at_back, front_or_back}
 
 -- these are the elements in order

@@ -6,12 +6,12 @@ use Rattle.std.specs.Prelude.{IsTrue, nat_lt, nat_le}
 use Rattle.std.specs.Option.{IsSomeAnd, option_map}
 use Rattle.ssr_syntax_tree.specs.Syntax.{Syntax, node_count}
 use Rattle.ssr_syntax_tree.specs.Places.{HasNode, node_of, size_of}
-use Rattle.ssr_base.specs.declared.ids.NodeId.{NodeId}
-use Rattle.ssr_base.specs.Workspace.{Planted, with_number, node_id, same_id, above}
-use Rattle.ssr_base.specs.Built.{IsNodeOf, CallsAreEarlier}
-use Rattle.ssr_base.specs.Laws.{IsBelow}
-use Rattle.ssr_base.proofs.Shared.{is_up, planted_first, planted_earlier, same_nodes}
-use Rattle.ide_ssr_found.specs.Found.{IsAtOrBelow}
+use Rattle.ssr_base_trees.specs.declared.ids.NodeId.{NodeId}
+use Rattle.ssr_base_trees.specs.Workspace.{PlacedTree, with_number, node_id, same_id, above}
+use Rattle.ssr_base_trees.specs.Built.{IsNodeOf, CallsAreEarlier}
+use Rattle.ssr_base_trees.specs.Laws.{IsBelow}
+use Rattle.ssr_base_trees.proofs.Shared.{is_up, placed_first, placed_earlier, same_nodes}
+use Rattle.ide_ssr_bindings.specs.Found.{IsAtOrBelow}
 use Rattle.ide_ssr_nesting.specs.Order.{place, end_place, Precedes}
 use Rattle.ide_ssr_nesting.proofs.Nodes.{first_or_earlier, node_within, above_root, above_earlier, same_numbers}
 use Rattle.ide_ssr_nesting.proofs.Put.{put}
@@ -20,13 +20,13 @@ use Rattle.ide_ssr_nesting.proofs.Above.{below_over, below_is_between, one_place
 
 -- ** In one tree.
 
-pub record LieInOneTree (trees : List Planted) (syntax : Syntax) (a b : NodeId) : Type 0 where
+pub record LieInOneTree (trees : List PlacedTree) (syntax : Syntax) (a b : NodeId) : Type 0 where
   pub before : a.node.0 < b.node.0 → place trees a < place trees b
   pub was_before : place trees a < place trees b → a.node.0 < b.node.0
   pub within : b.node.0 < a.node.0 + size_of (node_of syntax a.node.0) → place trees b < end_place trees a
   pub was_within : place trees b < end_place trees a → b.node.0 < a.node.0 + size_of (node_of syntax a.node.0)
 
-pub in_one_tree : (trees : List Planted) (syntax : Syntax) (a b : NodeId) → CallsAreEarlier trees → option_map (λ p. p.syntax) (with_number trees a.tree) ≡ Some syntax
+pub in_one_tree : (trees : List PlacedTree) (syntax : Syntax) (a b : NodeId) → CallsAreEarlier trees → option_map (λ p. p.syntax) (with_number trees a.tree) ≡ Some syntax
     → a.tree ≡ b.tree → IsNodeOf trees a → IsNodeOf trees b → LieInOneTree trees syntax a b
 in_one_tree [] syntax a b grown is same a_in b_in = absurd a_in
 in_one_tree (p ∷ earlier) syntax a b grown is same a_in b_in =
@@ -35,7 +35,7 @@ in_one_tree (p ∷ earlier) syntax a b grown is same a_in b_in =
       | inl new ↦
           let new_b : b.tree ≡ length earlier = sym same ∙ new.0 in
           let tree : p.syntax ≡ syntax =
-          same_Some p.syntax syntax (ap (option_map (λ (p : Planted). p.syntax)) (sym (planted_first p earlier a.tree new.0)) ∙ is) in
+          same_Some p.syntax syntax (ap (option_map (λ (p : PlacedTree). p.syntax)) (sym (placed_first p earlier a.tree new.0)) ∙ is) in
           let size = ap (λ (s : Syntax). size_of (node_of s a.node.0)) tree in
           let at_a = h.new_place a new.0 in
           let end_a = h.new_end a new.0 in
@@ -51,7 +51,7 @@ in_one_tree (p ∷ earlier) syntax a b grown is same a_in b_in =
           let old_b : IsNodeOf earlier b = elim (first_or_earlier p earlier b b_in) [ inl new ↦ absurd (other_b new.0) | inr there ↦ there.1 ] in
           let rest =
           in_one_tree earlier syntax a b grown.1
-          (ap (option_map (λ (p : Planted). p.syntax)) (sym (planted_earlier p earlier a.tree old.0)) ∙ is) same old.1 old_b in
+          (ap (option_map (λ (p : PlacedTree). p.syntax)) (sym (placed_earlier p earlier a.tree old.0)) ∙ is) same old.1 old_b in
           let at_a = h.old_place a old.0 in
           let end_a = h.old_end a old.0 in
           let at_b = h.old_place b other_b in
@@ -66,7 +66,7 @@ in_one_tree (p ∷ earlier) syntax a b grown is same a_in b_in =
 -- ** In two trees.
 
 -- an earlier node and one of a file come one behind the other
-pub behind_file : (trees : List Planted) (a b : NodeId) → CallsAreEarlier trees → IsNodeOf trees a → IsNodeOf trees b → a.tree < b.tree
+pub behind_file : (trees : List PlacedTree) (a b : NodeId) → CallsAreEarlier trees → IsNodeOf trees a → IsNodeOf trees b → a.tree < b.tree
     → above trees (node_id b.tree 0) ≡ None → end_place trees a ≤ place trees b
 behind_file [] a b grown a_in b_in less none = absurd a_in
 behind_file (p ∷ earlier) a b grown a_in b_in less none =
@@ -91,13 +91,13 @@ behind_file (p ∷ earlier) a b grown a_in b_in less none =
     ]
 
 -- an earlier node lies to one of an expansion as it lies to the call, which itself comes before
-pub record LieByCall (trees : List Planted) (a b call : NodeId) : Type 0 where
+pub record LieByCall (trees : List PlacedTree) (a b call : NodeId) : Type 0 where
   pub before : place trees a ≤ place trees call → place trees a < place trees b
   pub was_before : place trees a < place trees b → place trees a ≤ place trees call
   pub within : place trees call < end_place trees a → place trees b < end_place trees a
   pub was_within : place trees b < end_place trees a → place trees call < end_place trees a
 
-pub by_call : (trees : List Planted) (a b call : NodeId) → CallsAreEarlier trees → IsNodeOf trees a → IsNodeOf trees b → IsNodeOf trees call → a.tree < b.tree → call.tree < b.tree
+pub by_call : (trees : List PlacedTree) (a b call : NodeId) → CallsAreEarlier trees → IsNodeOf trees a → IsNodeOf trees b → IsNodeOf trees call → a.tree < b.tree → call.tree < b.tree
     → above trees (node_id b.tree 0) ≡ Some call → LieByCall trees a b call
 by_call [] a b call grown a_in b_in call_in less call_less is = absurd a_in
 by_call (p ∷ earlier) a b call grown a_in b_in call_in less call_less is =
@@ -164,19 +164,19 @@ pub told_not : {P : Type 0} → (P → ⊥) → IsTrue false ↔ P
 told_not none = ((λ no. absurd (false≢true no)), (λ p. absurd (none p)))
 
 -- a call is an earlier node
-pub call_known : (trees : List Planted) → CallsAreEarlier trees → (t : ℕ) (call : NodeId) → Some call ≡ above trees (node_id t 0) → IsNodeOf trees call × (call.tree < t)
+pub call_known : (trees : List PlacedTree) → CallsAreEarlier trees → (t : ℕ) (call : NodeId) → Some call ≡ above trees (node_id t 0) → IsNodeOf trees call × (call.tree < t)
 call_known trees grown t call is =
     let up = is_up trees (node_id t 0) call grown (sym is) in
     (up.node, elim up.earlier [ inl less ↦ less | inr same ↦ absurd (let low = same.1 in omega arith) ])
 
-module _ (trees : List Planted) (grown : CallsAreEarlier trees) (a b : NodeId) (a_in : IsNodeOf trees a) (b_in : IsNodeOf trees b) where
-  syntax_of : (x : NodeId) → IsNodeOf trees x → (syntax : Syntax) × (option_map (λ (p : Planted). p.syntax) (with_number trees x.tree) ≡ Some syntax)
+module _ (trees : List PlacedTree) (grown : CallsAreEarlier trees) (a b : NodeId) (a_in : IsNodeOf trees a) (b_in : IsNodeOf trees b) where
+  syntax_of : (x : NodeId) → IsNodeOf trees x → (syntax : Syntax) × (option_map (λ (p : PlacedTree). p.syntax) (with_number trees x.tree) ≡ Some syntax)
   syntax_of x node = by (with_number trees x.tree) refl node
     where
-      by : (o : Option Planted) → with_number trees x.tree ≡ o → IsSomeAnd o (λ p. HasNode p.syntax x.node.0)
-          → (syntax : Syntax) × (option_map (λ (p : Planted). p.syntax) (with_number trees x.tree) ≡ Some syntax)
+      by : (o : Option PlacedTree) → with_number trees x.tree ≡ o → IsSomeAnd o (λ p. HasNode p.syntax x.node.0)
+          → (syntax : Syntax) × (option_map (λ (p : PlacedTree). p.syntax) (with_number trees x.tree) ≡ Some syntax)
       by None is known = absurd known
-      by (Some p) is known = (p.syntax, ap (option_map (λ (p : Planted). p.syntax)) is)
+      by (Some p) is known = (p.syntax, ap (option_map (λ (p : PlacedTree). p.syntax)) is)
 
   pub precedes_in_tree : a.tree ≡ b.tree → IsTrue (nat_lt a.node.0 b.node.0) ↔ Precedes trees a b
   precedes_in_tree same =
@@ -228,7 +228,7 @@ module _ (trees : List Planted) (grown : CallsAreEarlier trees) (a b : NodeId) (
 
   -- ** What stands at or above.
 
-  pub holds_in_tree : (syntax : Syntax) → Some syntax ≡ option_map (λ (p : Planted). p.syntax) (with_number trees a.tree) → a.tree ≡ b.tree
+  pub holds_in_tree : (syntax : Syntax) → Some syntax ≡ option_map (λ (p : PlacedTree). p.syntax) (with_number trees a.tree) → a.tree ≡ b.tree
       → a.node.0 ≤ b.node.0 → b.node.0 < a.node.0 + size_of (node_of syntax a.node.0) → IsAtOrBelow trees b a
   holds_in_tree syntax is same low high =
       let lie = in_one_tree trees syntax a b grown (sym is) same a_in b_in in
@@ -237,7 +237,7 @@ module _ (trees : List Planted) (grown : CallsAreEarlier trees) (a b : NodeId) (
         | inr least ↦ inl (same_numbers b a (sym same) (omega arith))
       ]
 
-  pub held_in_tree : (syntax : Syntax) → Some syntax ≡ option_map (λ (p : Planted). p.syntax) (with_number trees a.tree) → a.tree ≡ b.tree
+  pub held_in_tree : (syntax : Syntax) → Some syntax ≡ option_map (λ (p : PlacedTree). p.syntax) (with_number trees a.tree) → a.tree ≡ b.tree
       → IsAtOrBelow trees b a → (a.node.0 ≤ b.node.0) × (b.node.0 < a.node.0 + size_of (node_of syntax a.node.0))
   held_in_tree syntax is same (inl e) = let number = ap (λ (x : NodeId). x.node.0) e in (omega arith, omega arith)
   held_in_tree syntax is same (inr below) =
@@ -246,14 +246,14 @@ module _ (trees : List Planted) (grown : CallsAreEarlier trees) (a b : NodeId) (
       let less = lie.was_before between.0 in
       (omega arith, lie.was_within between.1)
 
-  pub holds_here : (syntax : Syntax) (below : ℕ) → Some syntax ≡ option_map (λ (p : Planted). p.syntax) (with_number trees a.tree) → a.tree ≡ b.tree
+  pub holds_here : (syntax : Syntax) (below : ℕ) → Some syntax ≡ option_map (λ (p : PlacedTree). p.syntax) (with_number trees a.tree) → a.tree ≡ b.tree
       → below ≡ node_count (node_of syntax a.node.0).children → a.node.0 ≤ b.node.0 → IsTrue (nat_le (b.node.0 - a.node.0) below) ↔ IsAtOrBelow trees b a
   holds_here syntax below is same count low = (
     (λ test. let less = leb-true (b.node.0 - a.node.0) below test in holds_in_tree syntax is same low (omega arith)),
     (λ held. let parts = held_in_tree syntax is same held in let high = parts.1 in le-leb (b.node.0 - a.node.0) below (omega arith)),
   )
 
-  pub holds_before : (syntax : Syntax) → Some syntax ≡ option_map (λ (p : Planted). p.syntax) (with_number trees a.tree) → a.tree ≡ b.tree
+  pub holds_before : (syntax : Syntax) → Some syntax ≡ option_map (λ (p : PlacedTree). p.syntax) (with_number trees a.tree) → a.tree ≡ b.tree
       → b.node.0 < a.node.0 → IsTrue (nat_le a.node.0 b.node.0) ↔ IsAtOrBelow trees b a
   holds_before syntax is same less = (
     (λ test. absurd (let low = leb-true a.node.0 b.node.0 test in omega arith)),
@@ -307,7 +307,7 @@ module _ (trees : List Planted) (grown : CallsAreEarlier trees) (a b : NodeId) (
       )
 
 -- a node is not below itself
-pub not_below_itself : (trees : List Planted) (x : NodeId) → CallsAreEarlier trees → IsBelow trees x x → ⊥
+pub not_below_itself : (trees : List PlacedTree) (x : NodeId) → CallsAreEarlier trees → IsBelow trees x x → ⊥
 not_below_itself trees x grown below = let before = (below_over trees grown x x below).before in omega arith
 
 -- ** Two nodes, as they are compared.
@@ -317,11 +317,11 @@ other_read a b other same =
     false≢true (other ∙ and_from (a.tree == b.tree) (a.node.0 == b.node.0) (eq-eqb a.tree b.tree (ap (λ (x : NodeId). x.tree) same))
     (eq-eqb a.node.0 b.node.0 (ap (λ (x : NodeId). x.node.0) same)))
 
-pub above_itself : (trees : List Planted) (a b : NodeId) → CallsAreEarlier trees → true ≡ same_id a b → IsTrue false ↔ IsBelow trees b a
+pub above_itself : (trees : List PlacedTree) (a b : NodeId) → CallsAreEarlier trees → true ≡ same_id a b → IsTrue false ↔ IsBelow trees b a
 above_itself trees a b grown is =
     told_not (λ below. not_below_itself trees a grown (subst (λ x. IsBelow trees x a) (sym (same_nodes a b (sym is))) below))
 
-pub above_other : (trees : List Planted) (a b : NodeId) (r : Bool) → false ≡ same_id a b → IsTrue r ↔ IsAtOrBelow trees b a → IsTrue r ↔ IsBelow trees b a
+pub above_other : (trees : List PlacedTree) (a b : NodeId) (r : Bool) → false ≡ same_id a b → IsTrue r ↔ IsAtOrBelow trees b a → IsTrue r ↔ IsBelow trees b a
 above_other trees a b r other told = (
   (λ yes. elim (told.0 yes) [ inl same ↦ absurd (other_read a b other (sym same)) | inr below ↦ below ]),
   (λ below. told.1 (inr below)),

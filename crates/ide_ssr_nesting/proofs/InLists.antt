@@ -9,8 +9,8 @@ use Rattle.std.proofs.lemmas.Cmp.{nat_cmp_total, nat_list_cmp_total}
 use Rattle.std.proofs.lemmas.List.Elements.{All-contains, All-contains_itself}
 use Rattle.std.proofs.lemmas.List.Kept.{AllPairs-cons}
 use Rattle.std.proofs.lemmas.Option.{same_Some, slice_get_within}
-use Rattle.ssr_base.specs.Workspace.{trees}
-use Rattle.ide_ssr_found.specs.Found.{Found}
+use Rattle.ssr_base_trees.specs.Workspace.{trees}
+use Rattle.ide_ssr_bindings.specs.Found.{FoundMatch}
 use Rattle.ide_ssr_nesting.specs.declared.holders.Holder.{Holder}
 use Rattle.ide_ssr_nesting.specs.Holding.{Kept, IsKept}
 use Rattle.ide_ssr_nesting.specs.Lists.{held, held_place, held_binding, holder_key, listing_key, lists_key, Listing, same_holder, listed, AreLists}
@@ -205,12 +205,12 @@ same_values (x ∷ xs) (y ∷ ys) is =
 -- how each two places in the lists lie
 abbrev Follows : Kept → ℕ → ℕ → Type 0
 Follows kept i j =
-    (k m : Found) (g h : Option Holder)
+    (k m : FoundMatch) (g h : Option Holder)
     → slice_get kept.matches i ≡ Some k → slice_get kept.holders i ≡ Some g → slice_get kept.matches j ≡ Some m → slice_get kept.holders j ≡ Some h
     → slice_cmp nat_cmp (lists_key (trees kept.workspace) k g) (lists_key (trees kept.workspace) m h) ≡ Less
 
 module _ (kept : Kept) (lists : Listing) (are : AreLists kept lists) where
-  match_at : (n : ℕ) → Contains lists.places n → (m : Found) × (slice_get kept.matches n ≡ Some m)
+  match_at : (n : ℕ) → Contains lists.places n → (m : FoundMatch) × (slice_get kept.matches n ≡ Some m)
   match_at n at = stands_at kept.matches n ((are.each n).0 at)
 
   goes_one_way : GoesOneWay (Follows kept) lists.places

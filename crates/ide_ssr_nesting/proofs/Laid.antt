@@ -5,10 +5,10 @@ use Rattle.std.proofs.lemmas.Option.{same_Some}
 use Rattle.std.specs.Prelude.{IfSome}
 use Rattle.ssr_syntax_tree.specs.Places.{HasNode, node_of, size_of}
 use Rattle.ssr_syntax_tree.proofs.Shared.{below_fits, root_size}
-use Rattle.ssr_base.specs.declared.ids.NodeId.{NodeId}
-use Rattle.ssr_base.specs.Workspace.{Planted, node_id, above}
-use Rattle.ssr_base.specs.Built.{IsNodeOf, CallsAreEarlier}
-use Rattle.ssr_base.proofs.Shared.{is_up}
+use Rattle.ssr_base_trees.specs.declared.ids.NodeId.{NodeId}
+use Rattle.ssr_base_trees.specs.Workspace.{PlacedTree, node_id, above}
+use Rattle.ssr_base_trees.specs.Built.{IsNodeOf, CallsAreEarlier}
+use Rattle.ssr_base_trees.proofs.Shared.{is_up}
 use Rattle.ide_ssr_nesting.specs.Order.{count_in, count_of, place, end_place}
 use Rattle.ide_ssr_nesting.proofs.Parents.{has_parent}
 use Rattle.ide_ssr_nesting.proofs.Nodes.{first_or_earlier, node_within, above_root, above_inner, above_earlier, same_numbers}
@@ -16,11 +16,11 @@ use Rattle.ide_ssr_nesting.proofs.Put.{IsLaid, IsPut, put}
 
 -- ** What moves keeps its order.
 
-pub put_least : (p : Planted) (earlier : List Planted) (put : IsPut p earlier) (x y : ℕ) → x ≤ y → put.move x ≤ put.move y
+pub put_least : (p : PlacedTree) (earlier : List PlacedTree) (put : IsPut p earlier) (x y : ℕ) → x ≤ y → put.move x ≤ put.move y
 put_least p earlier put x y low =
     elim (cases_lt (put.move y) (put.move x)) [ inl less ↦ absurd (let back = put.back y x less in omega arith) | inr least ↦ least ]
 
-pub put_one : (p : Planted) (earlier : List Planted) (put : IsPut p earlier) (x y : ℕ) → put.move x ≡ put.move y → x ≡ y
+pub put_one : (p : PlacedTree) (earlier : List PlacedTree) (put : IsPut p earlier) (x y : ℕ) → put.move x ≡ put.move y → x ≡ y
 put_one p earlier put x y same =
     elim (cases_lt x y) [
       | inl less ↦ absurd (let more = put.up x y less in omega arith)
@@ -30,7 +30,7 @@ put_one p earlier put x y same =
       ]
     ]
 
-module _ (p : Planted) (earlier : List Planted) (laid : IsLaid earlier) (grown : CallsAreEarlier (p ∷ earlier)) (h : IsPut p earlier) where
+module _ (p : PlacedTree) (earlier : List PlacedTree) (laid : IsLaid earlier) (grown : CallsAreEarlier (p ∷ earlier)) (h : IsPut p earlier) where
   -- a node that was there lies before the new ones or behind them
   pub apart : (x : NodeId) → IsNodeOf earlier x → (h.move (place earlier x) < h.first) ⊎ (h.first + count_in p ≤ h.move (place earlier x))
   apart x node = by p.call refl
@@ -238,7 +238,7 @@ module _ (p : Planted) (earlier : List Planted) (laid : IsLaid earlier) (grown :
     down = nearest;
   }
 
-pub laid : (trees : List Planted) → CallsAreEarlier trees → IsLaid trees
+pub laid : (trees : List PlacedTree) → CallsAreEarlier trees → IsLaid trees
 laid [] grown = record {
   begins = λ x node. absurd node;
   ends = λ x node. absurd node;

@@ -17,8 +17,8 @@ use Rattle.std.proofs.lemmas.Map.Made.{AllPairs-from_IsDistinct, IsDistinct-from
 use Rattle.std.proofs.lemmas.Map.Text.{is_eq-slice_cmp}
 use Rattle.std.proofs.lemmas.Option.{same_Some}
 use Rattle.std.proofs.lemmas.Slice.Eq.{bytes_eq-Decides}
-use Rattle.ssr_base.specs.Workspace.{trees}
-use Rattle.ide_ssr_found.specs.Found.{Found}
+use Rattle.ssr_base_trees.specs.Workspace.{trees}
+use Rattle.ide_ssr_bindings.specs.Found.{FoundMatch}
 use Rattle.ide_ssr_nesting.specs.declared.holders.Holder.{Holder}
 use Rattle.ide_ssr_nesting.specs.declared.lists.Row.{Row}
 use Rattle.ide_ssr_nesting.specs.Kept.{ComesBefore}
@@ -134,7 +134,7 @@ module _ (kept : Kept) (known : IsKept kept) where
     pub sorted_rows : All (IsRowOf kept) sorted
     sorted_rows = All-permutation (IsRowOf kept) rows sorted moved are
 
-    key_of : (i d : ℕ) (within : i < length sorted) (k : Found) (g : Option Holder) → slice_get kept.matches (get_or (places_of sorted) i d) ≡ Some k
+    key_of : (i d : ℕ) (within : i < length sorted) (k : FoundMatch) (g : Option Holder) → slice_get kept.matches (get_or (places_of sorted) i d) ≡ Some k
         → slice_get kept.holders (get_or (places_of sorted) i d) ≡ Some g → (get_or sorted i row_none).key ≡ lists_key (trees kept.workspace) k g
     key_of i d within k g k_is g_is =
         let ts = trees kept.workspace in
@@ -142,7 +142,7 @@ module _ (kept : Kept) (known : IsKept kept) where
         let at = get_or-map (λ (row : Row). row.place) sorted i row_none d within in
         let match = same_Some one.match k (sym one.stands ∙ ap (slice_get kept.matches) (sym at) ∙ k_is) in
         let holder = same_Some one.holder g (sym one.beside ∙ ap (slice_get kept.holders) (sym at) ∙ g_is) in
-        one.key ∙ ap (λ (m : Found). lists_key ts m one.holder) match ∙ ap (λ (h : Option Holder). lists_key ts k h) holder
+        one.key ∙ ap (λ (m : FoundMatch). lists_key ts m one.holder) match ∙ ap (λ (h : Option Holder). lists_key ts k h) holder
 
     rising : (i j d : ℕ) → i < j → j < length sorted
         → slice_cmp nat_cmp (get_or sorted i row_none).key (get_or sorted j row_none).key ≡ Less
@@ -160,7 +160,7 @@ module _ (kept : Kept) (known : IsKept kept) where
       beside = beside;
       in_order =
           subst
-          (AllPairs (λ i j. (k m : Found) (g h : Option Holder)
+          (AllPairs (λ i j. (k m : FoundMatch) (g h : Option Holder)
           → slice_get kept.matches i ≡ Some k → slice_get kept.holders i ≡ Some g → slice_get kept.matches j ≡ Some m → slice_get kept.holders j ≡ Some h
           → slice_cmp nat_cmp (lists_key (trees kept.workspace) k g) (lists_key (trees kept.workspace) m h) ≡ Less)) (sym is)
           (λ i j d less within k m g h k_is g_is m_is h_is.

@@ -6,9 +6,9 @@ use Rattle.std.proofs.lemmas.Bool.{cases_order}
 use Rattle.std.proofs.lemmas.Option.{slice_get_within, get_or_from_slice_get, same_Some}
 use Rattle.std.proofs.lemmas.List.Elements.{All-contains, All-push, Contains-push_cases}
 use Rattle.std.proofs.lemmas.List.Quantifiers.{all_pairs_push}
-use Rattle.ssr_base.specs.Workspace.{Planted}
-use Rattle.ssr_base.specs.Built.{CallsAreEarlier}
-use Rattle.ide_ssr_found.specs.Found.{Found, IsMatch}
+use Rattle.ssr_base_trees.specs.Workspace.{PlacedTree}
+use Rattle.ssr_base_trees.specs.Built.{CallsAreEarlier}
+use Rattle.ide_ssr_bindings.specs.Found.{FoundMatch, IsMatch}
 use Rattle.ide_ssr_nesting.specs.declared.holders.Holder.{Holder}
 use Rattle.ide_ssr_nesting.specs.Kept.{IsOver, LiesUnder, Fits, ComesBefore}
 use Rattle.ide_ssr_nesting.specs.Holding.{IsOutermost, IsNearest, IsHeld, AreHeld}
@@ -18,25 +18,25 @@ use Rattle.ide_ssr_nesting.proofs.Over.{not_before_itself, not_over, not_over_it
 use Rattle.ide_ssr_nesting.proofs.Under.{under_outer}
 
 -- the last of the matches over m, if there is one, has a place up to this one
-abbrev pub IsPast : List Planted → List Found → Found → Option ℕ → Type 0
+abbrev pub IsPast : List PlacedTree → List FoundMatch → FoundMatch → Option ℕ → Type 0
 IsPast trees kept m None = IsOutermost trees kept m
 IsPast trees kept m (Some p) =
-    (p < length kept) × ((n : ℕ) (k : Found) → p < n → slice_get kept n ≡ Some k → IsOver trees k m → ⊥)
+    (p < length kept) × ((n : ℕ) (k : FoundMatch) → p < n → slice_get kept n ≡ Some k → IsOver trees k m → ⊥)
 
-module _ (trees : List Planted) (grown : CallsAreEarlier trees) (kept : List Found) (holders : List (Option Holder)) (held : AreHeld trees kept holders)
-    (m : Found) (match : IsMatch trees m) (behind : All (λ k. ComesBefore trees k m) kept) where
-  before_at : (n : ℕ) (k : Found) → slice_get kept n ≡ Some k → ComesBefore trees k m
+module _ (trees : List PlacedTree) (grown : CallsAreEarlier trees) (kept : List FoundMatch) (holders : List (Option Holder)) (held : AreHeld trees kept holders)
+    (m : FoundMatch) (match : IsMatch trees m) (behind : All (λ k. ComesBefore trees k m) kept) where
+  before_at : (n : ℕ) (k : FoundMatch) → slice_get kept n ≡ Some k → ComesBefore trees k m
   before_at n k is = all_at (λ k. ComesBefore trees k m) kept n k behind is
 
   -- what is over m is over each match behind it in the list
-  over_later : (i j : ℕ) (a b : Found) → i < j → slice_get kept i ≡ Some a → slice_get kept j ≡ Some b → IsOver trees a m → IsOver trees a b
+  over_later : (i j : ℕ) (a b : FoundMatch) → i < j → slice_get kept i ≡ Some a → slice_get kept j ≡ Some b → IsOver trees a m → IsOver trees a b
   over_later i j a b less a_is b_is over =
       closed trees grown a b m (all_at (IsMatch trees) kept i a held.each a_is).node (all_at (IsMatch trees) kept j b held.each b_is).node match.node
       (pairs_at (ComesBefore trees) kept i j a b held.in_order less a_is b_is) (before_at j b b_is) over
 
   -- at a place behind which none is over m
-  module _ (p : ℕ) (k : Found) (is : slice_get kept p ≡ Some k)
-      (past : (n : ℕ) (j : Found) → p < n → slice_get kept n ≡ Some j → IsOver trees j m → ⊥) where
+  module _ (p : ℕ) (k : FoundMatch) (is : slice_get kept p ≡ Some k)
+      (past : (n : ℕ) (j : FoundMatch) → p < n → slice_get kept n ≡ Some j → IsOver trees j m → ⊥) where
     pub nearest_here : IsOver trees k m → IsNearestAt trees kept m p
     nearest_here over = record {
       nearest = k;
@@ -55,7 +55,7 @@ module _ (trees : List Planted) (grown : CallsAreEarlier trees) (kept : List Fou
     }
 
     -- what is over m is over k, where k isn't over m
-    over_this : (IsOver trees k m → ⊥) → (n : ℕ) (j : Found) → slice_get kept n ≡ Some j → IsOver trees j m → (n < p) × IsOver trees j k
+    over_this : (IsOver trees k m → ⊥) → (n : ℕ) (j : FoundMatch) → slice_get kept n ≡ Some j → IsOver trees j m → (n < p) × IsOver trees j k
     over_this other n j at over =
         elim (cases_order n p) [
           | inl same ↦ absurd (other (subst (λ k. IsOver trees k m) (same_Some j k (sym at ∙ ap (slice_get kept) same ∙ is)) over))
@@ -64,7 +64,7 @@ module _ (trees : List Planted) (grown : CallsAreEarlier trees) (kept : List Fou
         ]
 
     -- a match over k has an earlier place
-    earlier_place : (q : ℕ) (j : Found) → slice_get kept q ≡ Some j → IsOver trees j k → q < p
+    earlier_place : (q : ℕ) (j : FoundMatch) → slice_get kept q ≡ Some j → IsOver trees j k → q < p
     earlier_place q j at over =
         elim (cases_order q p) [
           | inl same ↦ absurd (not_over_itself trees grown k (subst (λ j. IsOver trees j k) (same_Some j k (sym at ∙ ap (slice_get kept) same ∙ is)) over))
@@ -119,7 +119,7 @@ module _ (trees : List Planted) (grown : CallsAreEarlier trees) (kept : List Fou
 
   -- ** One more.
 
-  more_nearest : (k nearest x : Found) → (IsOver trees x k → ⊥) → IsNearest trees kept k nearest → IsNearest trees (kept ++ x ∷ []) k nearest
+  more_nearest : (k nearest x : FoundMatch) → (IsOver trees x k → ⊥) → IsNearest trees kept k nearest → IsNearest trees (kept ++ x ∷ []) k nearest
   more_nearest k nearest x other near = record {
     over = near.over;
     others = λ j at over. elim (Contains-push_cases kept x j at) [
@@ -128,7 +128,7 @@ module _ (trees : List Planted) (grown : CallsAreEarlier trees) (kept : List Fou
     ];
   }
 
-  more_held : (k x : Found) (holder : Option Holder) → (IsOver trees x k → ⊥) → IsHeld trees kept k holder → IsHeld trees (kept ++ x ∷ []) k holder
+  more_held : (k x : FoundMatch) (holder : Option Holder) → (IsOver trees x k → ⊥) → IsHeld trees kept k holder → IsHeld trees (kept ++ x ∷ []) k holder
   more_held k x None other outermost = λ j at over. elim (Contains-push_cases kept x j at) [
     | inl there ↦ outermost j there over
     | inr new ↦ other (subst (λ j. IsOver trees j k) (sym new) over)
@@ -140,14 +140,14 @@ module _ (trees : List Planted) (grown : CallsAreEarlier trees) (kept : List Fou
     under = by.under;
   }
 
-  pub fits_more : (k x : Found) → (IsOver trees x k → ⊥) → Fits trees kept k → Fits trees (kept ++ x ∷ []) k
+  pub fits_more : (k x : FoundMatch) → (IsOver trees x k → ⊥) → Fits trees kept k → Fits trees (kept ++ x ∷ []) k
   fits_more k x other fits j at over = elim (Contains-push_cases kept x j at) [
     | inl there ↦ fits j there over
     | inr new ↦ absurd (other (subst (λ j. IsOver trees j k) (sym new) over))
   ]
 
   -- m isn't over any of them
-  under_none : (k : Found) → Contains kept k → IsOver trees m k → ⊥
+  under_none : (k : FoundMatch) → Contains kept k → IsOver trees m k → ⊥
   under_none k at over = not_over trees grown m k (All-contains (λ k. ComesBefore trees k m) kept k behind at) over
 
   pub held_more : (holder : Option Holder) → Fits trees kept m → IsHeld trees kept m holder → AreHeld trees (kept ++ m ∷ []) (holders ++ holder ∷ [])
@@ -174,13 +174,13 @@ module _ (trees : List Planted) (grown : CallsAreEarlier trees) (kept : List Fou
   }
 
 -- the nearest match, as it is read
-pub read_nearest : (trees : List Planted) (kept : List Found) (m : Found) (p : ℕ) (k : Found) (near : IsNearestAt trees kept m p) → k ≡ get_or kept p k → k ≡ near.nearest
+pub read_nearest : (trees : List PlacedTree) (kept : List FoundMatch) (m : FoundMatch) (p : ℕ) (k : FoundMatch) (near : IsNearestAt trees kept m p) → k ≡ get_or kept p k → k ≡ near.nearest
 read_nearest trees kept m p k near read = read ∙ get_or_from_slice_get kept p near.nearest k near.stands
 
 -- a match that is listed is kept
-pub pushed : (trees : List Planted) (grown : CallsAreEarlier trees) (kept : List Found) (holders : List (Option Holder)) → AreHeld trees kept holders
-    → (m : Found) → IsMatch trees m → All (λ k. ComesBefore trees k m) kept
+pub pushed : (trees : List PlacedTree) (grown : CallsAreEarlier trees) (kept : List FoundMatch) (holders : List (Option Holder)) → AreHeld trees kept holders
+    → (m : FoundMatch) → IsMatch trees m → All (λ k. ComesBefore trees k m) kept
     → (holder : Option Holder) → Fits trees kept m × IsHeld trees kept m holder
-    → (new : List Found) → new ≡ kept ++ m ∷ [] → (beside : List (Option Holder)) → beside ≡ holders ++ holder ∷ [] → AreHeld trees new beside
+    → (new : List FoundMatch) → new ≡ kept ++ m ∷ [] → (beside : List (Option Holder)) → beside ≡ holders ++ holder ∷ [] → AreHeld trees new beside
 pushed trees grown kept holders held m match behind holder fits new new_is beside beside_is =
     rw (new_is, beside_is) (held_more trees grown kept holders held m match behind holder fits.0 fits.1)

@@ -3,9 +3,9 @@ use Rattle.std.proofs.Common.{◌≡◌, ℕ, ◌<◌, inl, inr, List, length, g
 use Rattle.std.proofs.lemmas.Bool.{cases_order}
 use Rattle.std.proofs.lemmas.List.{same_lists}
 use Rattle.std.proofs.lemmas.Option.{same_Some, slice_get_within, slice_get-get_or}
-use Rattle.ssr_base.specs.Workspace.{Workspace, Planted, trees}
-use Rattle.ssr_base.specs.Built.{CallsAreEarlier}
-use Rattle.ide_ssr_found.specs.Found.{Found, IsMatch}
+use Rattle.ssr_base_trees.specs.Workspace.{Workspace, PlacedTree, trees}
+use Rattle.ssr_base_trees.specs.Built.{CallsAreEarlier}
+use Rattle.ide_ssr_bindings.specs.Found.{FoundMatch, IsMatch}
 use Rattle.ide_ssr_nesting.specs.declared.holders.Holder.{Holder}
 use Rattle.ide_ssr_nesting.specs.Kept.{IsOver, ComesBefore, LiesUnder}
 use Rattle.ide_ssr_nesting.specs.Holding.{IsOutermost, IsNearest, IsHeldBy, IsHeld, AreHeld, Kept, IsKept}
@@ -19,8 +19,8 @@ same_holders g h place binding =
     ap (λ (p : ℕ). (let made : Holder = record { place = p; binding = g.binding } in made)) place
     ∙ ap (λ (b : ℕ). (let made : Holder = record { place = h.place; binding = b } in made)) binding
 
-module _ (trees : List Planted) (grown : CallsAreEarlier trees) (kept : List Found) where
-  one_nearest : (m j k : Found) → Contains kept j → Contains kept k → IsNearest trees kept m j → IsNearest trees kept m k → j ≡ k
+module _ (trees : List PlacedTree) (grown : CallsAreEarlier trees) (kept : List FoundMatch) where
+  one_nearest : (m j k : FoundMatch) → Contains kept j → Contains kept k → IsNearest trees kept m j → IsNearest trees kept m k → j ≡ k
   one_nearest m j k j_in k_in first last = elim (first.others k k_in last.over) [
     | inl same ↦ sym same
     | inr k_over ↦ elim (last.others j j_in first.over) [
@@ -31,14 +31,14 @@ module _ (trees : List Planted) (grown : CallsAreEarlier trees) (kept : List Fou
 
   module _ (holders : List (Option Holder)) (held : AreHeld trees kept holders) where
     -- a match over another one has an earlier place
-    over_earlier : (p n : ℕ) (k m : Found) → slice_get kept p ≡ Some k → slice_get kept n ≡ Some m → IsOver trees k m → p < n
+    over_earlier : (p n : ℕ) (k m : FoundMatch) → slice_get kept p ≡ Some k → slice_get kept n ≡ Some m → IsOver trees k m → p < n
     over_earlier p n k m k_is m_is over = elim (cases_order p n) [
       | inl same ↦ absurd (not_over_itself trees grown m (subst (λ k. IsOver trees k m) (same_Some k m (sym k_is ∙ ap (slice_get kept) same ∙ m_is)) over))
       | inr (inl less) ↦ less
       | inr (inr more) ↦ absurd (not_over trees grown k m (pairs_at (ComesBefore trees) kept n p m k held.in_order more m_is k_is) over)
     ]
 
-    held_at : (n : ℕ) (holder : Option Holder) → slice_get holders n ≡ Some holder → (m : Found) × (slice_get kept n ≡ Some m) × IsHeld trees kept m holder
+    held_at : (n : ℕ) (holder : Option Holder) → slice_get holders n ≡ Some holder → (m : FoundMatch) × (slice_get kept n ≡ Some m) × IsHeld trees kept m holder
     held_at n holder is =
         let within = slice_get_within holders n holder is in
         let counted = held.counted in
@@ -52,17 +52,17 @@ module _ (trees : List Planted) (grown : CallsAreEarlier trees) (kept : List Fou
         (over_earlier h.place n by.nearest at.0 by.stands at.1 by.is_nearest.over, slice_get_within kept n at.0 at.1)
 
     -- each match stands at one place
-    one_place : (p q : ℕ) (k : Found) → slice_get kept p ≡ Some k → slice_get kept q ≡ Some k → p ≡ q
+    one_place : (p q : ℕ) (k : FoundMatch) → slice_get kept p ≡ Some k → slice_get kept q ≡ Some k → p ≡ q
     one_place p q k at again = elim (cases_order p q) [
       | inl same ↦ same
       | inr (inl less) ↦ absurd (not_before_itself trees k (pairs_at (ComesBefore trees) kept p q k k held.in_order less at again))
       | inr (inr more) ↦ absurd (not_before_itself trees k (pairs_at (ComesBefore trees) kept q p k k held.in_order more again at))
     ]
 
-    not_outermost : (m : Found) (h : Holder) → IsOutermost trees kept m → IsHeldBy trees kept m h → ⊥
+    not_outermost : (m : FoundMatch) (h : Holder) → IsOutermost trees kept m → IsHeldBy trees kept m h → ⊥
     not_outermost m h outermost by = outermost by.nearest (contains_at kept h.place by.nearest by.stands) by.is_nearest.over
 
-    one_holder : (m : Found) → IsMatch trees m → (g h : Option Holder) → IsHeld trees kept m g → IsHeld trees kept m h → g ≡ h
+    one_holder : (m : FoundMatch) → IsMatch trees m → (g h : Option Holder) → IsHeld trees kept m g → IsHeld trees kept m h → g ≡ h
     one_holder m match None None first last = refl
     one_holder m match None (Some h) first last = absurd (not_outermost m h first last)
     one_holder m match (Some g) None first last = absurd (not_outermost m g last first)
@@ -73,7 +73,7 @@ module _ (trees : List Planted) (grown : CallsAreEarlier trees) (kept : List Fou
         let k_match = all_at (IsMatch trees) kept h.place last.nearest held.each last.stands in
         let under : LiesUnder trees last.nearest m g.binding = subst (λ k. LiesUnder trees k m g.binding) same first.under in
         ap (λ (h : Holder). Some h) (same_holders g h
-        (one_place g.place h.place last.nearest (first.stands ∙ ap (λ (k : Found). Some k) same) last.stands)
+        (one_place g.place h.place last.nearest (first.stands ∙ ap (λ (k : FoundMatch). Some k) same) last.stands)
         (one_placeholder trees last.nearest m g.binding h.binding k_match match under last.under))
 
   one_holders : (holders others : List (Option Holder)) → AreHeld trees kept holders → AreHeld trees kept others → holders ≡ others
@@ -100,5 +100,5 @@ one_holding a b known also workspace matches =
     (subst (λ ms. AreHeld (trees b.workspace) ms b.holders) (sym matches) also.held) in
     let holders = one_holders (trees a.workspace) known.built.grown a.matches a.holders b.holders known.held held in
     ap (λ (w : Workspace). (let made : Kept = record { workspace = w; matches = a.matches; holders = a.holders } in made)) workspace
-    ∙ ap (λ (ms : List Found). (let made : Kept = record { workspace = b.workspace; matches = ms; holders = a.holders } in made)) matches
+    ∙ ap (λ (ms : List FoundMatch). (let made : Kept = record { workspace = b.workspace; matches = ms; holders = a.holders } in made)) matches
     ∙ ap (λ (hs : List (Option Holder)). (let made : Kept = record { workspace = b.workspace; matches = b.matches; holders = hs } in made)) holders

@@ -4,15 +4,15 @@ use Rattle.std.proofs.lemmas.Bool.{cases_lt}
 use Rattle.std.proofs.lemmas.Option.{none-some, same_Some}
 use Rattle.std.specs.Prelude.{IfSome}
 use Rattle.ssr_syntax_tree.specs.Places.{node_of, size_of}
-use Rattle.ssr_base.specs.declared.ids.NodeId.{NodeId}
-use Rattle.ssr_base.specs.Workspace.{Planted, above}
-use Rattle.ssr_base.specs.Built.{IsNodeOf}
+use Rattle.ssr_base_trees.specs.declared.ids.NodeId.{NodeId}
+use Rattle.ssr_base_trees.specs.Workspace.{PlacedTree, above}
+use Rattle.ssr_base_trees.specs.Built.{IsNodeOf}
 use Rattle.ide_ssr_nesting.specs.Order.{count_in, count_of, moved, entry, moved_by, place, end_place}
 use Rattle.ide_ssr_nesting.proofs.Moved.{moved_not, moved_far, moved_up, moved_back}
 
 -- how nodes lie: each has its place and an end behind it; no two have one place; what stands above a node has the smaller
 -- place and the wider interval, and of all whose interval has the node it is the last one
-pub record IsLaid (trees : List Planted) : Type 0 where
+pub record IsLaid (trees : List PlacedTree) : Type 0 where
   pub begins : (x : NodeId) → IsNodeOf trees x → place trees x < end_place trees x
   pub ends : (x : NodeId) → IsNodeOf trees x → end_place trees x ≤ count_of trees
   pub one : (a b : NodeId) → IsNodeOf trees a → IsNodeOf trees b → place trees a ≡ place trees b → a ≡ b
@@ -22,7 +22,7 @@ pub record IsLaid (trees : List Planted) : Type 0 where
       → (up : NodeId) × (above trees b ≡ Some up) × (place trees a ≤ place trees up)
 
 -- what becomes of places: the nodes of the new tree are put in from `first` on, and the others move without changing their order
-pub record IsPut (p : Planted) (earlier : List Planted) : Type 0 where
+pub record IsPut (p : PlacedTree) (earlier : List PlacedTree) : Type 0 where
   pub first : ℕ
   pub move : ℕ → ℕ
   pub new_place : (x : NodeId) → x.tree ≡ length earlier → place (p ∷ earlier) x ≡ first + x.node.0
@@ -38,7 +38,7 @@ pub record IsPut (p : Planted) (earlier : List Planted) : Type 0 where
   pub called : (c : NodeId) → p.call ≡ Some c → 1 + move (place earlier c) ≡ first
   pub past : (c : NodeId) → p.call ≡ Some c → (y : ℕ) → place earlier c < y → first + count_in p ≤ move y
 
-module _ (p : Planted) (earlier : List Planted) where
+module _ (p : PlacedTree) (earlier : List PlacedTree) where
   first_at : (o : Option NodeId) → p.call ≡ o → (x : NodeId) → x.tree ≡ length earlier
       → place (p ∷ earlier) x ≡ entry (place earlier) (count_of earlier) o + x.node.0
   first_at o is x here =
@@ -107,7 +107,7 @@ module _ (p : Planted) (earlier : List Planted) where
         );
   }
 
-pub put : (p : Planted) (earlier : List Planted) → IsLaid earlier → IfSome p.call (IsNodeOf earlier) → IsPut p earlier
+pub put : (p : PlacedTree) (earlier : List PlacedTree) → IsLaid earlier → IfSome p.call (IsNodeOf earlier) → IsPut p earlier
 put p earlier laid node = by p.call refl node
   where
     by : (o : Option NodeId) → p.call ≡ o → IfSome o (IsNodeOf earlier) → IsPut p earlier

@@ -4,12 +4,12 @@ use Rattle.std.proofs.lemmas.Bool.{cases_eq}
 use Rattle.std.proofs.lemmas.List.Elements.{All-contains, All-contains_itself}
 use Rattle.std.proofs.lemmas.Option.{same_Some, slice_get_within}
 use Rattle.ssr_syntax_tree.proofs.Lists.{all_at, place_in, stands_at}
-use Rattle.ssr_base.specs.Workspace.{Workspace, Planted, FileSpan, trees, original_range}
-use Rattle.ssr_base.specs.Built.{IsBuilt, IsNodeOf, CallsAreEarlier}
-use Rattle.ssr_base.specs.Laws.{LiesIn}
-use Rattle.ide_ssr_found.specs.declared.bindings.Binding.{Binding}
-use Rattle.ide_ssr_found.proofs.Deciding.{Decided, both, either, likewise, of_some, last_of, less, lies_in}
-use Rattle.ide_ssr_found.specs.Found.{Found, IsMatch, held_range}
+use Rattle.ssr_base_trees.specs.Workspace.{Workspace, PlacedTree, FileSpan, trees, original_range}
+use Rattle.ssr_base_trees.specs.Built.{IsBuilt, IsNodeOf, CallsAreEarlier}
+use Rattle.ssr_base_trees.specs.Laws.{LiesIn}
+use Rattle.ide_ssr_bindings.specs.declared.bindings.Binding.{Binding}
+use Rattle.ide_ssr_bindings.proofs.Deciding.{Decided, both, either, likewise, of_some, last_of, less, lies_in}
+use Rattle.ide_ssr_bindings.specs.Found.{FoundMatch, IsMatch, held_range}
 use Rattle.ide_ssr_nesting.specs.declared.holders.Holder.{Holder}
 use Rattle.ide_ssr_nesting.specs.Order.{place, end_place}
 use Rattle.ide_ssr_nesting.specs.Kept.{LiesWithin, IsOver, LiesUnder, Fits, ComesBefore, AreKept}
@@ -27,14 +27,14 @@ use Rattle.ide_ssr_nesting.proofs.Keeping.{AreKeptSoFar, kept_starts, kept_ends,
 lies_within : (inner outer : Option FileSpan) → Decided (LiesWithin inner outer)
 lies_within inner outer = of_some (λ i. IsSomeAnd outer (LiesIn i)) (λ i. of_some (LiesIn i) (lies_in i) outer) inner
 
-lies_under : (trees : List Planted) (k m : Found) (n : ℕ) → n < length k.bindings → Decided (LiesUnder trees k m n)
+lies_under : (trees : List PlacedTree) (k m : FoundMatch) (n : ℕ) → n < length k.bindings → Decided (LiesUnder trees k m n)
 lies_under trees k m n within =
     let at = stands_at k.bindings n within in
     likewise (lies_within (original_range trees m.node) (held_range trees k.node.tree at.0)) (λ lies. record { binding = at.0; is = at.1; within = lies })
     (λ under. subst (λ (b : Binding). LiesWithin (original_range trees m.node) (held_range trees k.node.tree b)) (same_Some under.binding at.0 (sym under.is ∙ at.1)) under.within)
 
-module _ (trees : List Planted) (grown : CallsAreEarlier trees) where
-  is_over : (k m : Found) → IsNodeOf trees k.node → IsNodeOf trees m.node → Decided (IsOver trees k m)
+module _ (trees : List PlacedTree) (grown : CallsAreEarlier trees) where
+  is_over : (k m : FoundMatch) → IsNodeOf trees k.node → IsNodeOf trees m.node → Decided (IsOver trees k m)
   is_over k m k_in m_in =
       let between = below_is_between trees grown k.node m.node k_in m_in in
       either (likewise (both (less (place trees k.node) (place trees m.node)) (less (place trees m.node) (end_place trees k.node))) between.1 between.0)
@@ -42,16 +42,16 @@ module _ (trees : List Planted) (grown : CallsAreEarlier trees) where
 
   -- ** One match after another.
 
-  module _ (kept : List Found) (holders : List (Option Holder)) (held : AreHeld trees kept holders) (m : Found) (match : IsMatch trees m)
+  module _ (kept : List FoundMatch) (holders : List (Option Holder)) (held : AreHeld trees kept holders) (m : FoundMatch) (match : IsMatch trees m)
       (behind : All (λ k. ComesBefore trees k m) kept) where
     abbrev IsOverAt : ℕ → Type 0
-    IsOverAt n = (k : Found) × (slice_get kept n ≡ Some k) × IsOver trees k m
+    IsOverAt n = (k : FoundMatch) × (slice_get kept n ≡ Some k) × IsOver trees k m
 
     over_at : (n : ℕ) → n < length kept → Decided (IsOverAt n)
     over_at n within =
         let at = stands_at kept n within in
         likewise (is_over at.0 m (all_at (IsMatch trees) kept n at.0 held.each at.1).node match.node) (λ over. (at.0, at.1, over))
-        (λ is. subst (λ (k : Found). IsOver trees k m) (same_Some is.0 at.0 (sym is.1 ∙ at.1)) is.2)
+        (λ is. subst (λ (k : FoundMatch). IsOver trees k m) (same_Some is.0 at.0 (sym is.1 ∙ at.1)) is.2)
 
     -- it lies in a placeholder of each one over it, so something holds it; or it doesn't
     considered : ((holder : Option Holder) × Fits trees kept m × IsHeld trees kept m holder) ⊎ (Fits trees kept m → ⊥)
@@ -75,11 +75,11 @@ module _ (trees : List Planted) (grown : CallsAreEarlier trees) where
               ]
         ]
 
-  module _ (found : List Found) where
+  module _ (found : List FoundMatch) where
     abbrev AreAll : Type 0
-    AreAll = (kept : List Found) × (holders : List (Option Holder)) × AreKept trees found kept × AreHeld trees kept holders
+    AreAll = (kept : List FoundMatch) × (holders : List (Option Holder)) × AreKept trees found kept × AreHeld trees kept holders
 
-    gone_through : (rest kept : List Found) (holders : List (Option Holder)) → AreKeptSoFar trees found kept holders rest → AreAll
+    gone_through : (rest kept : List FoundMatch) (holders : List (Option Holder)) → AreKeptSoFar trees found kept holders rest → AreAll
     gone_through [] kept holders so_far = (kept, holders, kept_ends trees grown found kept holders so_far, so_far.held)
     gone_through (x ∷ rest) kept holders so_far =
         let match = kept_match trees grown found kept holders x rest so_far in

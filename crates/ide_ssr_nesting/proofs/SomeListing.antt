@@ -9,8 +9,8 @@ use Rattle.std.proofs.lemmas.Cmp.{nat_list_cmp_total}
 use Rattle.std.proofs.lemmas.List.Elements.{Contains-get_or}
 use Rattle.std.proofs.lemmas.Option.{get_or_from_slice_get, slice_get-get_or}
 use Rattle.ssr_syntax_tree.proofs.Lists.{at_front, at_back}
-use Rattle.ssr_base.specs.Workspace.{node_id, trees}
-use Rattle.ide_ssr_found.specs.Found.{Found}
+use Rattle.ssr_base_trees.specs.Workspace.{node_id, trees}
+use Rattle.ide_ssr_bindings.specs.Found.{FoundMatch}
 use Rattle.ide_ssr_nesting.specs.declared.holders.Holder.{Holder}
 use Rattle.ide_ssr_nesting.specs.declared.lists.Row.{Row}
 use Rattle.ide_ssr_nesting.specs.Holding.{Kept, IsKept}
@@ -20,7 +20,7 @@ use Rattle.ide_ssr_nesting.specs.Private.Rows.{IsRowOf}
 use Rattle.ide_ssr_nesting.proofs.Arranged.{arranged}
 use Rattle.ide_ssr_nesting.proofs.Listing.{in_range, same_keys, keys_differ}
 
-nobody : Found
+nobody : FoundMatch
 nobody = record { rule = 0; node = node_id 0 0; bindings = [] }
 
 -- beside each place stands its holder
@@ -77,7 +77,7 @@ module _ (kept : Kept) (known : IsKept kept) where
         },
       )
     where
-      key_of : (n : ℕ) (k : Found) (g : Option Holder) → slice_get kept.matches n ≡ Some k → slice_get kept.holders n ≡ Some g → (row_at n).key ≡ lists_key (trees kept.workspace) k g
+      key_of : (n : ℕ) (k : FoundMatch) (g : Option Holder) → slice_get kept.matches n ≡ Some k → slice_get kept.holders n ≡ Some g → (row_at n).key ≡ lists_key (trees kept.workspace) k g
       key_of n k g k_is g_is =
-          ap (λ (m : Found). lists_key (trees kept.workspace) m (get_or kept.holders n None)) (get_or_from_slice_get kept.matches n k nobody k_is)
+          ap (λ (m : FoundMatch). lists_key (trees kept.workspace) m (get_or kept.holders n None)) (get_or_from_slice_get kept.matches n k nobody k_is)
           ∙ ap (λ (h : Option Holder). lists_key (trees kept.workspace) k h) (get_or_from_slice_get kept.holders n g None g_is)

@@ -6,27 +6,27 @@ use Rattle.std.proofs.lemmas.Bool.{cases_order, and_parts, and_from, false≢tru
 use Rattle.std.proofs.lemmas.List.Elements.{All-cons, All-nil, All-head, All-tail, All-contains_itself}
 use Rattle.std.proofs.lemmas.List.Sorted.{All-permutation, Contains-permutation, IsPermutation-sym}
 use Rattle.std.proofs.lemmas.List.Kept.{AllPairs-cons, Contains-from_dedup}
-use Rattle.ssr_base.specs.declared.ids.NodeId.{NodeId}
-use Rattle.ssr_base.specs.Workspace.{Planted}
-use Rattle.ssr_base.specs.Built.{IsNodeOf, CallsAreEarlier}
-use Rattle.ide_ssr_found.specs.Found.{Found, IsMatch, AreMatches}
+use Rattle.ssr_base_trees.specs.declared.ids.NodeId.{NodeId}
+use Rattle.ssr_base_trees.specs.Workspace.{PlacedTree}
+use Rattle.ssr_base_trees.specs.Built.{IsNodeOf, CallsAreEarlier}
+use Rattle.ide_ssr_bindings.specs.Found.{FoundMatch, IsMatch, AreMatches}
 use Rattle.ide_ssr_nesting.specs.Order.{place}
 use Rattle.ide_ssr_nesting.specs.Kept.{ComesBefore}
 use Rattle.ide_ssr_nesting.specs.Private.Sorting.{is_ahead, is_same}
 use Rattle.ssr_syntax_tree.proofs.Lists.{at_front, at_back, front_or_back}
-use Rattle.ssr_base.proofs.Shared.{same_nodes}
+use Rattle.ssr_base_trees.proofs.Shared.{same_nodes}
 use Rattle.ide_ssr_nesting.proofs.Laid.{laid}
 use Rattle.ide_ssr_nesting.proofs.Over.{before_trans}
 use Rattle.ide_ssr_nesting.proofs.Ahead.{before_ahead}
 
 -- ** Each once.
 
-pub same_parts : (k m : Found) → is_same k m ≡ true → (k.node ≡ m.node) × (k.rule ≡ m.rule)
+pub same_parts : (k m : FoundMatch) → is_same k m ≡ true → (k.node ≡ m.node) × (k.rule ≡ m.rule)
 same_parts k m is =
     let parts = and_parts ((k.node.tree == m.node.tree) && (k.node.node.0 == m.node.node.0)) (k.rule == m.rule) is in
     (same_nodes k.node m.node parts.0, eqb-true k.rule m.rule parts.1)
 
-parts_same : (k m : Found) → k.node ≡ m.node → k.rule ≡ m.rule → is_same k m ≡ true
+parts_same : (k m : FoundMatch) → k.node ≡ m.node → k.rule ≡ m.rule → is_same k m ≡ true
 parts_same k m node rule =
     and_from ((k.node.tree == m.node.tree) && (k.node.node.0 == m.node.node.0)) (k.rule == m.rule)
     (and_from (k.node.tree == m.node.tree) (k.node.node.0 == m.node.node.0)
@@ -34,12 +34,12 @@ parts_same k m node rule =
     (eq-eqb k.rule m.rule rule)
 
 -- the test of repeated ones, of a match and the last one that stays
-abbrev pub repeats : Found → Found → Bool
+abbrev pub repeats : FoundMatch → FoundMatch → Bool
 repeats m k = is_same k m
 
 -- where those of one rule at one node are the same, each is still there
-stays : (all : List Found) → ((k m : Found) → Contains all k → Contains all m → k.node ≡ m.node → k.rule ≡ m.rule → k ≡ m)
-    → (k : Found) (xs : List Found) → All (Contains all) (k ∷ xs) → (m : Found) → Contains (k ∷ xs) m → Contains (dedup_from repeats k xs) m
+stays : (all : List FoundMatch) → ((k m : FoundMatch) → Contains all k → Contains all m → k.node ≡ m.node → k.rule ≡ m.rule → k ≡ m)
+    → (k : FoundMatch) (xs : List FoundMatch) → All (Contains all) (k ∷ xs) → (m : FoundMatch) → Contains (k ∷ xs) m → Contains (dedup_from repeats k xs) m
 stays all one k [] in_all m at = at
 stays all one k (x ∷ xs) in_all m at =
     by (is_same k x) refl (λ here. stays all one k xs (All-cons (Contains all) k xs (All-head (Contains all) k (x ∷ xs) in_all) rest) m here)
@@ -67,44 +67,44 @@ stays all one k (x ∷ xs) in_all m at =
       | inr later ↦ at_back k m (dedup_from repeats x xs) (from_x later)
     ]
 
-pub all_stay : (all xs : List Found) → ((k m : Found) → Contains all k → Contains all m → k.node ≡ m.node → k.rule ≡ m.rule → k ≡ m)
-    → All (Contains all) xs → (m : Found) → Contains xs m → Contains (dedup repeats xs) m
+pub all_stay : (all xs : List FoundMatch) → ((k m : FoundMatch) → Contains all k → Contains all m → k.node ≡ m.node → k.rule ≡ m.rule → k ≡ m)
+    → All (Contains all) xs → (m : FoundMatch) → Contains xs m → Contains (dedup repeats xs) m
 all_stay all [] one in_all m at = at
 all_stay all (x ∷ xs) one in_all m at = stays all one x xs in_all m at
 
 -- ** In order.
 
-module _ (trees : List Planted) where
+module _ (trees : List PlacedTree) where
   -- one that isn't behind another one comes before it, or is of its rule at its node
-  abbrev IsNotBehind : Found → Found → Type 0
+  abbrev IsNotBehind : FoundMatch → FoundMatch → Type 0
   IsNotBehind k m = ComesBefore trees k m ⊎ ((k.node ≡ m.node) × (k.rule ≡ m.rule))
 
   -- one behind another from a match on: each comes before the next one, or isn't behind it
-  abbrev Rises : Found → List Found → Type 0
+  abbrev Rises : FoundMatch → List FoundMatch → Type 0
   Rises k [] = Unit {0}
   Rises k (x ∷ xs) = ComesBefore trees k x × Rises x xs
 
-  abbrev Ascends : Found → List Found → Type 0
+  abbrev Ascends : FoundMatch → List FoundMatch → Type 0
   Ascends k [] = Unit {0}
   Ascends k (x ∷ xs) = IsNotBehind k x × Ascends x xs
 
   -- what the order says of a match, it says of one of its rule at its node
-  from_same : (k x y : Found) → k.node ≡ x.node → k.rule ≡ x.rule → ComesBefore trees x y → ComesBefore trees k y
+  from_same : (k x y : FoundMatch) → k.node ≡ x.node → k.rule ≡ x.rule → ComesBefore trees x y → ComesBefore trees k y
   from_same k x y node rule (inl less) = inl (omega (arith, ap (place trees) node))
   from_same k x y node rule (inr same) = inr (node ∙ same.0, omega arith)
 
-  ascends_from : (k x : Found) (xs : List Found) → k.node ≡ x.node → k.rule ≡ x.rule → Ascends x xs → Ascends k xs
+  ascends_from : (k x : FoundMatch) (xs : List FoundMatch) → k.node ≡ x.node → k.rule ≡ x.rule → Ascends x xs → Ascends k xs
   ascends_from k x [] node rule up = tt
   ascends_from k x (y ∷ xs) node rule (inl before, rest) = (inl (from_same k x y node rule before), rest)
   ascends_from k x (y ∷ xs) node rule (inr same, rest) = (inr (node ∙ same.0, rule ∙ same.1), rest)
 
-  rises_once : (k : Found) (xs : List Found) → Ascends k xs → (ys : List Found) × (dedup_from repeats k xs ≡ k ∷ ys) × Rises k ys
+  rises_once : (k : FoundMatch) (xs : List FoundMatch) → Ascends k xs → (ys : List FoundMatch) × (dedup_from repeats k xs ≡ k ∷ ys) × Rises k ys
   rises_once k [] up = ([], refl, tt)
   rises_once k (x ∷ xs) up = by (is_same k x) refl (rises_once x xs up.1) (λ same rule. rises_once k xs (ascends_from k x xs same rule up.1))
     where
-      by : (b : Bool) → is_same k x ≡ b → (ys : List Found) × (dedup_from repeats x xs ≡ x ∷ ys) × Rises x ys
-          → (k.node ≡ x.node → k.rule ≡ x.rule → (ys : List Found) × (dedup_from repeats k xs ≡ k ∷ ys) × Rises k ys)
-          → (ys : List Found) × (cond b (dedup_from repeats k xs) (k ∷ dedup_from repeats x xs) ≡ k ∷ ys) × Rises k ys
+      by : (b : Bool) → is_same k x ≡ b → (ys : List FoundMatch) × (dedup_from repeats x xs ≡ x ∷ ys) × Rises x ys
+          → (k.node ≡ x.node → k.rule ≡ x.rule → (ys : List FoundMatch) × (dedup_from repeats k xs ≡ k ∷ ys) × Rises k ys)
+          → (ys : List FoundMatch) × (cond b (dedup_from repeats k xs) (k ∷ dedup_from repeats x xs) ≡ k ∷ ys) × Rises k ys
       by true is later here = let parts = same_parts k x is in here parts.0 parts.1
       by false is later here =
           (x ∷ later.0, ap (λ zs. k ∷ zs) later.1, (before up.0, later.2))
@@ -113,28 +113,28 @@ module _ (trees : List Planted) where
           before (inl less) = less
           before (inr same) = absurd (false≢true (sym is ∙ parts_same k x same.0 same.1))
 
-  rises_before : (j k : Found) (xs : List Found) → ComesBefore trees j k → Rises k xs → All (ComesBefore trees j) (k ∷ xs)
+  rises_before : (j k : FoundMatch) (xs : List FoundMatch) → ComesBefore trees j k → Rises k xs → All (ComesBefore trees j) (k ∷ xs)
   rises_before j k [] before up = All-cons (ComesBefore trees j) k [] before (All-nil (ComesBefore trees j))
   rises_before j k (x ∷ xs) before up =
       All-cons (ComesBefore trees j) k (x ∷ xs) before (rises_before j x xs (before_trans trees j k x before up.0) up.1)
 
-  rises_pairs : (k : Found) (xs : List Found) → Rises k xs → AllPairs (ComesBefore trees) (k ∷ xs)
+  rises_pairs : (k : FoundMatch) (xs : List FoundMatch) → Rises k xs → AllPairs (ComesBefore trees) (k ∷ xs)
   rises_pairs k [] up = AllPairs-cons (ComesBefore trees) k [] (All-nil (ComesBefore trees k)) (λ i j d less within. absurd (omega arith))
   rises_pairs k (x ∷ xs) up = AllPairs-cons (ComesBefore trees) k (x ∷ xs) (rises_before k x xs up.0 up.1) (rises_pairs x xs up.1)
 
   -- from neighbours
-  neighbours_rise : (k : Found) (xs : List Found)
-      → ((n : ℕ) (d : Found) → suc n < length (k ∷ xs) → ComesBefore trees (get_or (k ∷ xs) n d) (get_or (k ∷ xs) (suc n) d)) → Rises k xs
+  neighbours_rise : (k : FoundMatch) (xs : List FoundMatch)
+      → ((n : ℕ) (d : FoundMatch) → suc n < length (k ∷ xs) → ComesBefore trees (get_or (k ∷ xs) n d) (get_or (k ∷ xs) (suc n) d)) → Rises k xs
   neighbours_rise k [] near = tt
   neighbours_rise k (x ∷ xs) near = (near 0 k (omega arith), neighbours_rise x xs (λ n d lt. near (suc n) d (omega arith)))
 
-  pub neighbours_in_order : (xs : List Found)
-      → ((n : ℕ) (d : Found) → suc n < length xs → ComesBefore trees (get_or xs n d) (get_or xs (suc n) d)) → AllPairs (ComesBefore trees) xs
+  pub neighbours_in_order : (xs : List FoundMatch)
+      → ((n : ℕ) (d : FoundMatch) → suc n < length xs → ComesBefore trees (get_or xs n d) (get_or xs (suc n) d)) → AllPairs (ComesBefore trees) xs
   neighbours_in_order [] near = λ i j d less within. absurd (omega arith)
   neighbours_in_order (k ∷ xs) near = rises_pairs k xs (neighbours_rise k xs near)
 
   module _ (grown : CallsAreEarlier trees) where
-    not_behind : (k m : Found) → IsNodeOf trees k.node → IsNodeOf trees m.node → is_ahead trees m k ≡ false → IsNotBehind k m
+    not_behind : (k m : FoundMatch) → IsNodeOf trees k.node → IsNodeOf trees m.node → is_ahead trees m k ≡ false → IsNotBehind k m
     not_behind k m k_in m_in other = elim (cases_order (place trees k.node) (place trees m.node)) [
       | inr (inl less) ↦ inl (inl less)
       | inr (inr more) ↦ absurd (false≢true (sym other ∙ before_ahead trees grown m k m_in k_in (inl more)))
@@ -148,7 +148,7 @@ module _ (trees : List Planted) where
           )
     ]
 
-    sorted_ascends : (k : Found) (xs : List Found) → All (IsMatch trees) (k ∷ xs) → IsSortedBy (is_ahead trees) (k ∷ xs) → Ascends k xs
+    sorted_ascends : (k : FoundMatch) (xs : List FoundMatch) → All (IsMatch trees) (k ∷ xs) → IsSortedBy (is_ahead trees) (k ∷ xs) → Ascends k xs
     sorted_ascends k [] each up = tt
     sorted_ascends k (x ∷ xs) each up =
         let later = All-tail (IsMatch trees) k (x ∷ xs) each in (
@@ -159,15 +159,15 @@ module _ (trees : List Planted) where
               (up (suc n) d (omega arith) (omega arith))),
         )
 
-    sorted_in_order : (xs : List Found) → All (IsMatch trees) xs → IsSortedBy (is_ahead trees) xs → AllPairs (ComesBefore trees) (dedup repeats xs)
+    sorted_in_order : (xs : List FoundMatch) → All (IsMatch trees) xs → IsSortedBy (is_ahead trees) xs → AllPairs (ComesBefore trees) (dedup repeats xs)
     sorted_in_order [] each up = λ i j d less within. absurd (omega arith)
     sorted_in_order (k ∷ xs) each up =
         let once = rises_once k xs (sorted_ascends k xs each up) in
         subst (AllPairs (ComesBefore trees)) (sym once.1) (rises_pairs k once.0 once.2)
 
     -- what a sort leaves, each once
-    pub sorted_once : (found sorted : List Found) → AreMatches trees found → IsPermutation found sorted → IsSortedBy (is_ahead trees) sorted
-        → AllPairs (ComesBefore trees) (dedup repeats sorted) × ((m : Found) → Contains (dedup repeats sorted) m ↔ Contains found m)
+    pub sorted_once : (found sorted : List FoundMatch) → AreMatches trees found → IsPermutation found sorted → IsSortedBy (is_ahead trees) sorted
+        → AllPairs (ComesBefore trees) (dedup repeats sorted) × ((m : FoundMatch) → Contains (dedup repeats sorted) m ↔ Contains found m)
     sorted_once found sorted are moved up =
         let back = IsPermutation-sym found sorted moved in (
           sorted_in_order sorted (All-permutation (IsMatch trees) found sorted moved are.each) up,

@@ -4,11 +4,11 @@ use Rattle.std.proofs.lemmas.Bool.{cases_order}
 use Rattle.std.proofs.lemmas.Option.{same_Some, slice_get_within, slice_get-get_or, get_or_from_slice_get}
 use Rattle.std.specs.Prelude.{IsTrue}
 use Rattle.std.specs.Option.{IsSomeAnd}
-use Rattle.ssr_base.specs.declared.ids.NodeId.{NodeId}
-use Rattle.ssr_base.specs.Workspace.{Planted, FileSpan, original_range}
-use Rattle.ssr_base.specs.Laws.{LiesIn}
-use Rattle.ide_ssr_found.specs.declared.bindings.Binding.{Binding}
-use Rattle.ide_ssr_found.specs.Found.{Found, HasByte, ShareNoByte, IsInRange, IsMatch, held_range, node_binding}
+use Rattle.ssr_base_trees.specs.declared.ids.NodeId.{NodeId}
+use Rattle.ssr_base_trees.specs.Workspace.{PlacedTree, FileSpan, original_range}
+use Rattle.ssr_base_trees.specs.Laws.{LiesIn}
+use Rattle.ide_ssr_bindings.specs.declared.bindings.Binding.{Binding}
+use Rattle.ide_ssr_bindings.specs.Found.{FoundMatch, HasByte, ShareNoByte, IsInRange, IsMatch, held_range, node_binding}
 use Rattle.ide_ssr_nesting.specs.Kept.{LiesWithin, LiesUnder}
 use Rattle.ssr_syntax_tree.proofs.Lists.{all_at, pairs_at}
 
@@ -53,9 +53,9 @@ within_trans a b c first next =
       lies = lies_trans x.small x.large y.small y.large x.lies (same_Some x.large y.small (sym x.is_large ∙ y.is_small)) y.lies;
     })
 
-module _ (trees : List Planted) where
+module _ (trees : List PlacedTree) where
   -- what lies in a placeholder of a match lies in whatever that match lies in
-  pub under_outer : (j k m : Found) (i n : ℕ) → IsMatch trees k → LiesUnder trees k m i → LiesUnder trees j k n → LiesUnder trees j m n
+  pub under_outer : (j k m : FoundMatch) (i n : ℕ) → IsMatch trees k → LiesUnder trees k m i → LiesUnder trees j k n → LiesUnder trees j m n
   under_outer j k m i n match inner outer =
       let held = held_range trees k.node.tree inner.binding in
       record {
@@ -69,7 +69,7 @@ module _ (trees : List Planted) where
       }
 
   -- a match lies in one placeholder of another at most
-  not_under_both : (k m : Found) (i n : ℕ) → i < n → IsMatch trees k → IsMatch trees m → LiesUnder trees k m i → LiesUnder trees k m n → ⊥
+  not_under_both : (k m : FoundMatch) (i n : ℕ) → i < n → IsMatch trees k → IsMatch trees m → LiesUnder trees k m i → LiesUnder trees k m n → ⊥
   not_under_both k m i n less match inner a b =
       let first = ranges_of (original_range trees m.node) (held_range trees k.node.tree a.binding) a.within in
       let next = ranges_of (original_range trees m.node) (held_range trees k.node.tree b.binding) b.within in
@@ -82,7 +82,7 @@ module _ (trees : List Planted) where
       let in_next = next.lies in
       omega arith
 
-  pub one_placeholder : (k m : Found) (i n : ℕ) → IsMatch trees k → IsMatch trees m → LiesUnder trees k m i → LiesUnder trees k m n → i ≡ n
+  pub one_placeholder : (k m : FoundMatch) (i n : ℕ) → IsMatch trees k → IsMatch trees m → LiesUnder trees k m i → LiesUnder trees k m n → i ≡ n
   one_placeholder k m i n match inner a b =
       elim (cases_order i n) [
         | inl same ↦ same
@@ -95,7 +95,7 @@ module _ (trees : List Planted) where
   abbrev none_bound : Binding
   none_bound = node_binding 0 0
 
-  binding_tested : (k m : Found) (i : ℕ) (range : FileSpan) (r : Bool) → Some range ≡ original_range trees m.node → i < length k.bindings
+  binding_tested : (k m : FoundMatch) (i : ℕ) (range : FileSpan) (r : Bool) → Some range ≡ original_range trees m.node → i < length k.bindings
       → IsTrue r ↔ IsSomeAnd (held_range trees k.node.tree (get_or k.bindings i none_bound)) (LiesIn range)
       → IsTrue r ↔ LiesUnder trees k m i
   binding_tested k m i range r is within told =
@@ -111,7 +111,7 @@ module _ (trees : List Planted) where
             (subst (λ o. LiesWithin o (held_range trees k.node.tree under.binding)) (sym is) under.within))),
       )
 
-  pub binding_read : (k m : Found) (bs : List Binding) (i : ℕ) (at_m at_k : NodeId) (range : FileSpan) (held : Option FileSpan) (r : Bool)
+  pub binding_read : (k m : FoundMatch) (bs : List Binding) (i : ℕ) (at_m at_k : NodeId) (range : FileSpan) (held : Option FileSpan) (r : Bool)
       → bs ≡ k.bindings → at_m ≡ m.node → at_k ≡ k.node → held ≡ held_range trees at_k.tree (get_or bs i none_bound) → Some range ≡ original_range trees at_m → i < length bs
       → IsTrue r ↔ IsSomeAnd held (LiesIn range) → IsTrue r ↔ LiesUnder trees k m i
   binding_read k m bs i at_m at_k range held r bs_is m_is k_is held_is range_is within told =
@@ -122,7 +122,7 @@ module _ (trees : List Planted) where
       binding_tested k m i range r (range_is ∙ ap (original_range trees) m_is) (subst (λ bs. i < length bs) bs_is within)
       (subst (λ o. IsTrue r ↔ IsSomeAnd o (LiesIn range)) same told)
 
-pub none_so_far : (trees : List Planted) (k m : Found) (i : ℕ) → ((n : ℕ) → n < i → LiesUnder trees k m n → ⊥) → (LiesUnder trees k m i → ⊥)
+pub none_so_far : (trees : List PlacedTree) (k m : FoundMatch) (i : ℕ) → ((n : ℕ) → n < i → LiesUnder trees k m n → ⊥) → (LiesUnder trees k m i → ⊥)
     → (n : ℕ) → n < i + 1 → LiesUnder trees k m n → ⊥
 none_so_far trees k m i before here n less under = elim (cases_order n i) [
   | inl same ↦ here (subst (LiesUnder trees k m) same under)
@@ -130,7 +130,7 @@ none_so_far trees k m i before here n less under = elim (cases_order n i) [
   | inr (inr later) ↦ omega arith
 ]
 
-pub none_at_all : (trees : List Planted) (k m : Found) (bs : List Binding) (i : ℕ) → bs ≡ k.bindings → length bs ≤ i → ((n : ℕ) → n < i → LiesUnder trees k m n → ⊥)
+pub none_at_all : (trees : List PlacedTree) (k m : FoundMatch) (bs : List Binding) (i : ℕ) → bs ≡ k.bindings → length bs ≤ i → ((n : ℕ) → n < i → LiesUnder trees k m n → ⊥)
     → (n : ℕ) → LiesUnder trees k m n → ⊥
 none_at_all trees k m bs i is all before n under =
     before n (let within = slice_get_within k.bindings n under.binding under.is in omega (arith, ap length is)) under

@@ -1,10 +1,10 @@
 -- Which of the matches that are found are kept: those that lie in a placeholder of each kept match over them.
 use Rattle.std.specs.Prelude.{ℕ, ◌≡◌, ◌<◌, ◌↔◌, ◌⊎◌, List, Option, Some, slice_get, AllPairs, Contains}
 use Rattle.std.specs.Option.{IsSomeAnd}
-use Rattle.ssr_base.specs.Workspace.{Planted, FileSpan, original_range}
-use Rattle.ssr_base.specs.Laws.{IsBelow, LiesIn}
-use Rattle.ide_ssr_found.specs.declared.bindings.Binding.{Binding}
-use Rattle.ide_ssr_found.specs.Found.{Found, held_range}
+use Rattle.ssr_base_trees.specs.Workspace.{PlacedTree, FileSpan, original_range}
+use Rattle.ssr_base_trees.specs.Laws.{IsBelow, LiesIn}
+use Rattle.ide_ssr_bindings.specs.declared.bindings.Binding.{Binding}
+use Rattle.ide_ssr_bindings.specs.Found.{FoundMatch, held_range}
 use Rattle.ide_ssr_nesting.specs.Order.{Precedes}
 
 -- there are two ranges, and one lies in the other
@@ -12,27 +12,27 @@ abbrev pub LiesWithin : Option FileSpan → Option FileSpan → Type 0
 LiesWithin inner outer = IsSomeAnd inner (λ i. IsSomeAnd outer (λ o. LiesIn i o))
 
 -- k stands above m, or at the same node with an earlier rule
-abbrev pub IsOver : List Planted → Found → Found → Type 0
+abbrev pub IsOver : List PlacedTree → FoundMatch → FoundMatch → Type 0
 IsOver trees k m = IsBelow trees m.node k.node ⊎ ((k.node ≡ m.node) × (k.rule < m.rule))
 
 -- m lies in the placeholder of k whose binding has this place
-pub record LiesUnder (trees : List Planted) (k m : Found) (place : ℕ) : Type 0 where
+pub record LiesUnder (trees : List PlacedTree) (k m : FoundMatch) (place : ℕ) : Type 0 where
   pub binding : Binding
   pub is : slice_get k.bindings place ≡ Some binding
   pub within : LiesWithin (original_range trees m.node) (held_range trees k.node.tree binding)
 
-abbrev pub LiesInPlaceholder : List Planted → Found → Found → Type 0
+abbrev pub LiesInPlaceholder : List PlacedTree → FoundMatch → FoundMatch → Type 0
 LiesInPlaceholder trees k m = (place : ℕ) × LiesUnder trees k m place
 
 -- m lies in a placeholder of each of these matches that is over it
-abbrev pub Fits : List Planted → List Found → Found → Type 0
-Fits trees kept m = (k : Found) → Contains kept k → IsOver trees k m → LiesInPlaceholder trees k m
+abbrev pub Fits : List PlacedTree → List FoundMatch → FoundMatch → Type 0
+Fits trees kept m = (k : FoundMatch) → Contains kept k → IsOver trees k m → LiesInPlaceholder trees k m
 
 -- k comes before m: in the order of nodes, at a node in that of rules
-abbrev pub ComesBefore : List Planted → Found → Found → Type 0
+abbrev pub ComesBefore : List PlacedTree → FoundMatch → FoundMatch → Type 0
 ComesBefore trees k m = Precedes trees k.node m.node ⊎ ((k.node ≡ m.node) × (k.rule < m.rule))
 
 -- These are the kept ones of the matches that are found, in order. There is one such list, as the law `laws::keeping` says.
-pub record AreKept (trees : List Planted) (found kept : List Found) : Type 0 where
+pub record AreKept (trees : List PlacedTree) (found kept : List FoundMatch) : Type 0 where
   pub in_order : AllPairs (ComesBefore trees) kept
-  pub are : (m : Found) → Contains kept m ↔ (Contains found m × Fits trees kept m)
+  pub are : (m : FoundMatch) → Contains kept m ↔ (Contains found m × Fits trees kept m)

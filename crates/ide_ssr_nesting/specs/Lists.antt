@@ -5,17 +5,17 @@ use Rattle.std.specs.Cmp.Lexicographic.{slice_cmp}
 use Rattle.std.specs.Option.{option_map_or}
 use Rattle.std.specs.Ordering.{nat_cmp}
 use Rattle.std.specs.declared.cmp.Ordering.TheVariants.{Less}
-use Rattle.ssr_base.specs.Workspace.{Planted, FileSpan, trees, original_range}
-use Rattle.ide_ssr_found.specs.Found.{Found}
+use Rattle.ssr_base_trees.specs.Workspace.{PlacedTree, FileSpan, trees, original_range}
+use Rattle.ide_ssr_bindings.specs.Found.{FoundMatch}
 use Rattle.ide_ssr_nesting.specs.declared.holders.Holder.{Holder}
 use Rattle.ide_ssr_nesting.specs.Holding.{Kept}
 
 -- each kept match has an original range
-abbrev pub range_of : List Planted → Found → FileSpan
+abbrev pub range_of : List PlacedTree → FoundMatch → FileSpan
 range_of trees m = unwrap_or (original_range trees m.node) (record { file = 0; span = record { start = 0; end = 0 } })
 
 -- the numbers that are compared, one after another
-abbrev pub listing_key : List Planted → Found → List ℕ
+abbrev pub listing_key : List PlacedTree → FoundMatch → List ℕ
 listing_key trees m =
     (range_of trees m).file ∷ ((range_of trees m).span.start ∷ ((range_of trees m).span.end ∷ (m.rule ∷ (m.node.tree ∷ (m.node.node.0 ∷ [])))))
 
@@ -32,7 +32,7 @@ held_binding holder = option_map_or (λ h. h.binding) holder 0
 abbrev pub holder_key : Option Holder → List ℕ
 holder_key holder = held holder ∷ (held_place holder ∷ (held_binding holder ∷ []))
 
-abbrev pub lists_key : List Planted → Found → Option Holder → List ℕ
+abbrev pub lists_key : List PlacedTree → FoundMatch → Option Holder → List ℕ
 lists_key trees m holder = holder_key holder ++ listing_key trees m
 
 -- places of kept matches, and beside each of them what holds the match
@@ -53,6 +53,6 @@ listed lists holder = map (λ row. row.0) (filter (λ row. same_holder row.1 hol
 pub record AreLists (kept : Kept) (lists : Listing) : Type 0 where
   pub each : (n : ℕ) → Contains lists.places n ↔ (n < length kept.matches)
   pub beside : map Some lists.holders ≡ map (slice_get kept.holders) lists.places
-  pub in_order : AllPairs (λ i j. (k m : Found) (g h : Option Holder)
+  pub in_order : AllPairs (λ i j. (k m : FoundMatch) (g h : Option Holder)
       → slice_get kept.matches i ≡ Some k → slice_get kept.holders i ≡ Some g → slice_get kept.matches j ≡ Some m → slice_get kept.holders j ≡ Some h
       → slice_cmp nat_cmp (lists_key (trees kept.workspace) k g) (lists_key (trees kept.workspace) m h) ≡ Less) lists.places

@@ -2,29 +2,29 @@
 
 ghost use Rattle.std.specs.Prelude.{◌≡◌, ◌<◌, ◌↔◌, ℕ, All, AllPairs, IsTrue, IfOk, MatchOption, option_map, Some};
 ghost use Rattle.std.specs.Option.{IsSomeAnd};
-ghost use Rattle.ssr_base.specs.Workspace.{trees, file_span_of};
-ghost use Rattle.ssr_base.specs.Built.{IsNodeOf, IsBuilt};
-ghost use Rattle.ssr_base.specs.Laws.{LiesIn};
-ghost use Rattle.ide_ssr_found.specs.Found.{IsMatch};
+ghost use Rattle.ssr_base_trees.specs.Workspace.{trees, file_span_of};
+ghost use Rattle.ssr_base_trees.specs.Built.{IsNodeOf, IsBuilt};
+ghost use Rattle.ssr_base_trees.specs.Laws.{LiesIn};
+ghost use Rattle.ide_ssr_bindings.specs.Found.{IsMatch};
 ghost use Rattle.ide_ssr_nesting.specs.Kept.{IsOver, LiesUnder, Fits, ComesBefore, AreKept};
 ghost use Rattle.ide_ssr_nesting.specs.Holding.{IsOutermost, IsHeld, AreHeld};
 ghost use Rattle.ide_ssr_nesting.specs.Private.Nearest.{IsNearestAt, IsKeptIfFits};
 
 use crate::holders::Holder;
 use crate::order::is_above;
-use ide_ssr_found::Found;
-use ssr_base::{FileRange, Workspace};
+use ide_ssr_bindings::FoundMatch;
+use ssr_base_trees::{FileRange, Trees};
 use std::alloc::{AllocError, Global};
 
 /// Kept matches in order, and beside each of them what holds it: nothing, if it is outermost.
 #[derive(Drop)]
 pub(crate) struct Nest {
-    pub(crate) matches: Vec<Found>,
+    pub(crate) matches: Vec<FoundMatch>,
     pub(crate) holders: Vec<Option<Holder>>,
 }
 
 /// Whether `k` stands above the node of `m`, or at it with an earlier rule.
-fn is_over(workspace: &Workspace, k: &Found, m: &Found) -> bool
+fn is_over(workspace: &Trees, k: &FoundMatch, m: &FoundMatch) -> bool
     requires built { IsBuilt workspace.now }
     requires k_in { IsNodeOf (trees workspace.now) k.now.node }
     requires m_in { IsNodeOf (trees workspace.now) m.now.node }
@@ -52,7 +52,7 @@ fn lies_in(range: FileRange, outer: Option<FileRange>) -> bool
 }
 
 /// The place of the binding of `k` in which `m` lies.
-fn binding_over(workspace: &Workspace, k: &Found, m: &Found) -> Option<usize>
+fn binding_over(workspace: &Trees, k: &FoundMatch, m: &FoundMatch) -> Option<usize>
     ensures { MatchOption result ((i : ℕ) → LiesUnder (trees workspace.now) k.now m.now i → ⊥) (λ i. LiesUnder (trees workspace.now) k.now m.now i) }
 {
     let range = workspace.original_range(m.node())?;
@@ -74,7 +74,7 @@ fn place_of(holder: Option<Holder>) -> Option<usize>
 
 impl Nest {
     /// The place of the nearest kept match over `m`, which comes behind all kept ones.
-    fn nearest(&self, workspace: &Workspace, m: &Found) -> Option<usize>
+    fn nearest(&self, workspace: &Trees, m: &FoundMatch) -> Option<usize>
         requires built { IsBuilt workspace.now }
         requires held { AreHeld (trees workspace.now) self.now.matches.items self.now.holders.items }
         requires behind { All (λ k. ComesBefore (trees workspace.now) k m.now) self.now.matches.items }
@@ -92,7 +92,7 @@ impl Nest {
     }
 
     /// What holds a match that comes behind all kept ones, if it lies in a placeholder of each of these over it.
-    fn listed(&self, workspace: &Workspace, m: &Found) -> Option<Option<Holder>>
+    fn listed(&self, workspace: &Trees, m: &FoundMatch) -> Option<Option<Holder>>
         requires built { IsBuilt workspace.now }
         requires held { AreHeld (trees workspace.now) self.now.matches.items self.now.holders.items }
         requires behind { All (λ k. ComesBefore (trees workspace.now) k m.now) self.now.matches.items }
@@ -110,7 +110,7 @@ impl Nest {
     }
 
     /// Keeps a match that comes behind all kept ones, if it lies in a placeholder of each of these over it.
-    fn consider(&mut self, workspace: &Workspace, m: Found) -> Result<(), AllocError>
+    fn consider(&mut self, workspace: &Trees, m: FoundMatch) -> Result<(), AllocError>
         requires built { IsBuilt workspace.now }
         requires held { AreHeld (trees workspace.now) self.old.matches.items self.old.holders.items }
         requires behind { All (λ k. ComesBefore (trees workspace.now) k m) self.old.matches.items }
@@ -129,8 +129,8 @@ impl Nest {
 /// The kept ones among the matches that are found, which come in order, with what holds them.
 pub(crate) fn keep_in_order(
     alloc: Global,
-    workspace: &Workspace,
-    found: Vec<Found>,
+    workspace: &Trees,
+    found: Vec<FoundMatch>,
 ) -> Result<Nest, AllocError>
     requires built { IsBuilt workspace.now }
     requires matches { All (IsMatch (trees workspace.now)) found.items }

@@ -1,8 +1,8 @@
 //! The kept matches of a workspace.
 
 ghost use Rattle.std.specs.Prelude.{◌≡◌, ◌<◌, IfOk, Some, length, slice_get};
-ghost use Rattle.ssr_base.specs.Workspace.{trees};
-ghost use Rattle.ide_ssr_found.specs.Found.{AreMatches};
+ghost use Rattle.ssr_base_trees.specs.Workspace.{trees};
+ghost use Rattle.ide_ssr_bindings.specs.Found.{AreMatches};
 ghost use Rattle.ide_ssr_nesting.specs.Kept.{AreKept};
 ghost use Rattle.ide_ssr_nesting.specs.Holding.{IsKept};
 
@@ -10,16 +10,16 @@ use crate::holders::Holder;
 use crate::kept::keep_in_order;
 use crate::order::is_built;
 use crate::sorting::put_in_order;
-use ide_ssr_found::Found;
-use ssr_base::Workspace;
+use ide_ssr_bindings::FoundMatch;
+use ssr_base_trees::Trees;
 use std::alloc::{AllocError, Global};
 use std::marker::Model;
 
 /// The kept matches of a workspace, in the order of its nodes, at a node in that of rules, and what holds each of them.
 #[derive(Drop)]
 pub struct KeptMatches<'a> {
-    workspace: &'a Workspace,
-    matches: Vec<Found>,
+    workspace: &'a Trees,
+    matches: Vec<FoundMatch>,
     holders: Vec<Option<Holder>>,
 }
 
@@ -39,8 +39,8 @@ impl<'a> Model for KeptMatches<'a> {
 /// The kept ones among the matches that are found, which may come in any order, and more than once.
 pub fn keep<'a>(
     alloc: Global,
-    workspace: &'a Workspace,
-    mut found: Vec<Found>,
+    workspace: &'a Trees,
+    mut found: Vec<FoundMatch>,
 ) -> Result<KeptMatches<'a>, AllocError>
     requires matches { AreMatches (trees workspace.now) found.items }
     ensures workspace { IfOk result (λ kept. kept.workspace ≡ workspace.now) }
@@ -59,7 +59,7 @@ pub fn keep<'a>(
 
 impl<'a> KeptMatches<'a> {
     /// The workspace that the matches are of.
-    pub fn workspace(&self) -> &'a Workspace
+    pub fn workspace(&self) -> &'a Trees
         ensures { result.now ≡ self.now.workspace }
     {
         self.workspace
@@ -74,7 +74,7 @@ impl<'a> KeptMatches<'a> {
     }
 
     /// The match at a place, counted from 0.
-    pub fn get(&self, place: usize) -> &Found
+    pub fn get(&self, place: usize) -> &FoundMatch
         requires { place < length self.now.matches }
         ensures { slice_get self.now.matches place ≡ Some result.now }
     {

@@ -1,6 +1,6 @@
 //! What holds of the words of the contracts, whatever the code: each function here does nothing, and what it ensures is a law.
-ghost use Rattle.ssr_base.specs.Workspace.{Workspace as WorkspaceValue, trees};
-ghost use Rattle.ssr_base.specs.Built.{IsBuilt};
+ghost use Rattle.ssr_base_trees.specs.Workspace.{Workspace as WorkspaceValue, trees};
+ghost use Rattle.ssr_base_trees.specs.Built.{IsBuilt};
 ghost use Rattle.ide_ssr_nesting.specs.Holding.{Kept, IsKept};
 ghost use Rattle.ide_ssr_nesting.specs.Laws.{BelowIsBetween, OnePlaceEach, OneWayUp, KeptExist, OneKept, LiesInOnePlaceholder, ListsWhatIsHeld, ListsInOrder, ListsEachOnce, ListsExist, OneListing, HeldBehind, OneHolding};
 

@@ -11,7 +11,7 @@ ghost use Rattle.ide_ssr_nesting.specs.Private.Rows.{IsRowOf, comes_before};
 
 use crate::holders::Holder;
 use crate::kept_matches::KeptMatches;
-use ssr_base::{FileId, FileRange};
+use ssr_base_trees::{FileId, FileRange};
 use ssr_syntax_kinds::TextRange;
 use std::alloc::{AllocError, Global};
 use std::cmp::Ordering;

@@ -1,24 +1,24 @@
 //! The order of the nodes of a workspace, and which stands above which.
 
 ghost use Rattle.std.specs.Prelude.{◌≡◌, ◌+◌, ◌<◌, ◌↔◌, IsTrue};
-ghost use Rattle.ssr_base.specs.Workspace.{trees, node_id, above};
-ghost use Rattle.ssr_base.specs.Built.{IsNodeOf, IsBuilt};
-ghost use Rattle.ssr_base.specs.Laws.{IsBelow};
-ghost use Rattle.ide_ssr_found.specs.Found.{IsAtOrBelow};
+ghost use Rattle.ssr_base_trees.specs.Workspace.{trees, node_id, above};
+ghost use Rattle.ssr_base_trees.specs.Built.{IsNodeOf, IsBuilt};
+ghost use Rattle.ssr_base_trees.specs.Laws.{IsBelow};
+ghost use Rattle.ide_ssr_bindings.specs.Found.{IsAtOrBelow};
 ghost use Rattle.ide_ssr_nesting.specs.Order.{Precedes};
 
-use ssr_base::{NodeId, Workspace};
+use ssr_base_trees::{NodeId, Trees};
 use ssr_syntax_tree::NodeNo;
 
 /// That each workspace is built as it has to be stands in the contract of its methods: this calls one for that alone.
-pub(crate) fn is_built(workspace: &Workspace)
+pub(crate) fn is_built(workspace: &Trees)
     ensures { IsBuilt workspace.now }
 {
     workspace.file_count();
 }
 
 /// The call that the tree of a number stands for. A file has none.
-fn call_of(workspace: &Workspace, tree: u32) -> Option<NodeId>
+fn call_of(workspace: &Trees, tree: u32) -> Option<NodeId>
     ensures { result ≡ above (trees workspace.now) (node_id tree 0) }
 {
     workspace.above(NodeId {
@@ -29,7 +29,7 @@ fn call_of(workspace: &Workspace, tree: u32) -> Option<NodeId>
 
 /// Whether a node comes before another one: files in order, the nodes of a tree in preorder, and those of an expansion
 /// directly behind its call. Nothing is numbered: two nodes are compared in one tree, else by the call of the later tree.
-pub fn precedes(workspace: &Workspace, a: NodeId, b: NodeId) -> bool
+pub fn precedes(workspace: &Trees, a: NodeId, b: NodeId) -> bool
     requires a_in { IsNodeOf (trees workspace.now) a }
     requires b_in { IsNodeOf (trees workspace.now) b }
     ensures { IsTrue result ↔ Precedes (trees workspace.now) a b }
@@ -52,7 +52,7 @@ pub fn precedes(workspace: &Workspace, a: NodeId, b: NodeId) -> bool
 }
 
 /// Whether a node of a tree is another node of it, or stands below that one.
-fn holds(workspace: &Workspace, a: NodeId, b: NodeId) -> bool
+fn holds(workspace: &Trees, a: NodeId, b: NodeId) -> bool
     requires built { IsBuilt workspace.now }
     requires a_in { IsNodeOf (trees workspace.now) a }
     requires b_in { IsNodeOf (trees workspace.now) b }
@@ -66,7 +66,7 @@ fn holds(workspace: &Workspace, a: NodeId, b: NodeId) -> bool
 }
 
 /// Whether a node is another one, or stands above it. It goes up by calls alone.
-fn is_at_or_above(workspace: &Workspace, a: NodeId, b: NodeId) -> bool
+fn is_at_or_above(workspace: &Trees, a: NodeId, b: NodeId) -> bool
     requires built { IsBuilt workspace.now }
     requires a_in { IsNodeOf (trees workspace.now) a }
     requires b_in { IsNodeOf (trees workspace.now) b }
@@ -86,7 +86,7 @@ fn is_at_or_above(workspace: &Workspace, a: NodeId, b: NodeId) -> bool
 
 /// Whether a node stands above another one: what stands directly above a node is its parent, or, above the root of an
 /// expansion, the call.
-pub fn is_above(workspace: &Workspace, a: NodeId, b: NodeId) -> bool
+pub fn is_above(workspace: &Trees, a: NodeId, b: NodeId) -> bool
     requires a_in { IsNodeOf (trees workspace.now) a }
     requires b_in { IsNodeOf (trees workspace.now) b }
     ensures { IsTrue result ↔ IsBelow (trees workspace.now) b a }

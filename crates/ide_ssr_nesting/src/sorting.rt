@@ -2,20 +2,20 @@
 
 ghost use Rattle.std.specs.Prelude.{◌≡◌, ◌↔◌, All, AllPairs, Contains, IsTrue};
 ghost use Rattle.std.specs.Ordering.{is_lt};
-ghost use Rattle.ssr_base.specs.Workspace.{trees};
-ghost use Rattle.ssr_base.specs.Built.{IsNodeOf, IsBuilt};
-ghost use Rattle.ide_ssr_found.specs.Found.{Found as FoundMatch, IsMatch, AreMatches};
+ghost use Rattle.ssr_base_trees.specs.Workspace.{trees};
+ghost use Rattle.ssr_base_trees.specs.Built.{IsNodeOf, IsBuilt};
+ghost use Rattle.ide_ssr_bindings.specs.Found.{FoundMatch as MatchValue, IsMatch, AreMatches};
 ghost use Rattle.ide_ssr_nesting.specs.Kept.{ComesBefore};
 ghost use Rattle.ide_ssr_nesting.specs.Private.Sorting.{is_node, is_ahead, is_same};
 
 use crate::order::precedes;
-use ide_ssr_found::Found;
-use ssr_base::{NodeId, Workspace};
+use ide_ssr_bindings::FoundMatch;
+use ssr_base_trees::{NodeId, Trees};
 use ssr_syntax_tree::Element;
 use std::cmp::Ordering;
 
 /// Whether the workspace has a node.
-pub(crate) fn is_node(workspace: &Workspace, node: NodeId) -> bool
+pub(crate) fn is_node(workspace: &Trees, node: NodeId) -> bool
     ensures { result ≡ is_node (trees workspace.now) node }
 {
     match workspace.tree(node.tree) {
@@ -25,7 +25,7 @@ pub(crate) fn is_node(workspace: &Workspace, node: NodeId) -> bool
 }
 
 /// Whether `k` comes before `m`: in the order of nodes, at a node in that of rules.
-fn comes_before(workspace: &Workspace, k: &Found, m: &Found) -> bool
+fn comes_before(workspace: &Trees, k: &FoundMatch, m: &FoundMatch) -> bool
     requires built { IsBuilt workspace.now }
     requires k_in { IsNodeOf (trees workspace.now) k.now.node }
     requires m_in { IsNodeOf (trees workspace.now) m.now.node }
@@ -40,7 +40,7 @@ fn comes_before(workspace: &Workspace, k: &Found, m: &Found) -> bool
 
 /// Whether `k` is sorted in front of `m`, where a match at a node that the workspace lacks, which no search finds, comes
 /// behind all others.
-fn is_ahead(workspace: &Workspace, k: &Found, m: &Found) -> bool
+fn is_ahead(workspace: &Trees, k: &FoundMatch, m: &FoundMatch) -> bool
     requires { IsBuilt workspace.now }
     ensures { result ≡ is_ahead (trees workspace.now) k.now m.now }
 {
@@ -53,7 +53,7 @@ fn is_ahead(workspace: &Workspace, k: &Found, m: &Found) -> bool
     comes_before(workspace, k, m)
 }
 
-fn compare(workspace: &Workspace, k: &Found, m: &Found) -> Ordering
+fn compare(workspace: &Trees, k: &FoundMatch, m: &FoundMatch) -> Ordering
     requires { IsBuilt workspace.now }
     ensures { is_lt result ≡ is_ahead (trees workspace.now) k.now m.now }
 {
@@ -67,14 +67,14 @@ fn compare(workspace: &Workspace, k: &Found, m: &Found) -> Ordering
 }
 
 /// Whether two matches are of one rule at one node.
-fn is_same(k: &Found, m: &Found) -> bool
+fn is_same(k: &FoundMatch, m: &FoundMatch) -> bool
     ensures { result ≡ is_same k.now m.now }
 {
     k.node().tree == m.node().tree && k.node().node.0 == m.node().node.0 && k.rule() == m.rule()
 }
 
 /// Whether each match comes before the next one.
-fn are_in_order(workspace: &Workspace, found: &[Found]) -> bool
+fn are_in_order(workspace: &Trees, found: &[FoundMatch]) -> bool
     requires built { IsBuilt workspace.now }
     requires each { All (IsMatch (trees workspace.now)) found.now }
     ensures { IsTrue result → AllPairs (ComesBefore (trees workspace.now)) found.now }
@@ -89,11 +89,11 @@ fn are_in_order(workspace: &Workspace, found: &[Found]) -> bool
 
 /// Puts matches in order and drops repeated ones. Where they are in order, as a search finds them in files alone, nothing is
 /// sorted.
-pub(crate) fn put_in_order(workspace: &Workspace, found: &mut Vec<Found>)
+pub(crate) fn put_in_order(workspace: &Trees, found: &mut Vec<FoundMatch>)
     requires built { IsBuilt workspace.now }
     requires matches { AreMatches (trees workspace.now) found.old.items }
     ensures in_order { AllPairs (ComesBefore (trees workspace.now)) found.new.items }
-    ensures same { (m : FoundMatch) → Contains found.new.items m ↔ Contains found.old.items m }
+    ensures same { (m : MatchValue) → Contains found.new.items m ↔ Contains found.old.items m }
 {
     if are_in_order(workspace, found) {
         return;

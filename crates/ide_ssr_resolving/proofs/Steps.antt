@@ -3,15 +3,15 @@ use Rattle.std.proofs.Common.{◌≡◌, ℕ, Bool, true, false, ◌&&◌, ◌||
 use Rattle.std.specs.Prelude.{if◌then◌else◌}
 use Rattle.std.specs.List.{list_any}
 use Rattle.std.specs.Option.{is_none, is_some, option_and_then, option_map_or}
-use Rattle.ssr_base.specs.declared.ids.ScopeId.{ScopeId}
-use Rattle.ssr_base.specs.declared.semantics.Res.{Res}
-use Rattle.ssr_base.specs.Meanings.{Meanings}
+use Rattle.ssr_base_trees.specs.declared.ids.ScopeId.{ScopeId}
+use Rattle.ssr_base_trees.specs.declared.semantics.Res.{Res}
+use Rattle.ssr_base_trees.specs.Meanings.{Meanings}
 use Rattle.ssr_syntax_tree.specs.Places.{Node}
 use Rattle.ssr_syntax_tree.specs.Syntax.{Forest}
 use Rattle.ide_ssr_resolving.specs.declared.used.Step.{Step}
 use Rattle.ide_ssr_resolving.specs.declared.used.Step.TheVariants as steps
 use Rattle.ide_ssr_resolving.specs.Private.Steps.{step_by, path_step, step_of}
-use Rattle.ide_ssr_resolving.specs.Paths.{qualifying}
+use Rattle.ide_ssr_resolved_rule.specs.Paths.{qualifying}
 use Rattle.ide_ssr_resolving.specs.Resolving.{resolution}
 use Rattle.ide_ssr_resolving.specs.Used.{is_path, ends_in_self, has_generics, holds_stand_in, is_whole, is_usable, used, use_of, stops, is_unresolved}
 

@@ -7,16 +7,16 @@ use Rattle.std.proofs.lemmas.List.Folds.{find-append, list_any_none, list_any-fr
 use Rattle.std.specs.Prelude.{nat_lt, cond}
 use Rattle.std.specs.List.{filter, filter_map, find, cons_option}
 use Rattle.std.specs.Option.{option_map, option_map_or, option_or}
-use Rattle.ssr_base.specs.declared.ids.ScopeId.{ScopeId}
-use Rattle.ssr_base.specs.declared.semantics.Res.{Res}
-use Rattle.ssr_base.specs.Meanings.{Meanings}
+use Rattle.ssr_base_trees.specs.declared.ids.ScopeId.{ScopeId}
+use Rattle.ssr_base_trees.specs.declared.semantics.Res.{Res}
+use Rattle.ssr_base_trees.specs.Meanings.{Meanings}
 use Rattle.ssr_syntax_tree.specs.declared.number.NodeNo.{NodeNo}
 use Rattle.ssr_syntax_tree.specs.Places.{Node, HasNode, node_of, nodes_of, root_of, size_of}
 use Rattle.ssr_syntax_tree.specs.Syntax.{Syntax, node_count}
 use Rattle.ssr_syntax_tree.proofs.Shared.{node_is, node_of-number, length-nodes_of, IsOver, inside, over_within}
 use Rattle.ide_ssr_resolving.specs.declared.used.Step.{Step}
 use Rattle.ide_ssr_resolving.specs.declared.used.Step.TheVariants as steps
-use Rattle.ide_ssr_resolving.specs.declared.used.UsedPath.{UsedPath}
+use Rattle.ide_ssr_resolved_rule.specs.declared.used_paths.UsedPath.{UsedPath}
 use Rattle.ide_ssr_resolving.specs.Private.Steps.{step_of}
 use Rattle.ide_ssr_resolving.specs.Used.{is_above, is_unresolved, use_of, stops, is_reached, reached, used_at, used_path, refused, used_paths}
 use Rattle.ide_ssr_resolving.proofs.Steps.{Says, says}

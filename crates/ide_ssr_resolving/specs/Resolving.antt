@@ -1,15 +1,15 @@
 -- What a path resolves to.
 use Rattle.std.specs.Prelude.{Bool, true, false, Option, Some, None, if◌then◌else◌}
 use Rattle.std.specs.Option.{option_map, option_and_then, option_or}
-use Rattle.ssr_base.specs.declared.ids.DefId.{DefId}
-use Rattle.ssr_base.specs.declared.ids.ScopeId.{ScopeId}
-use Rattle.ssr_base.specs.declared.semantics.Res.{Res}
-use Rattle.ssr_base.specs.declared.semantics.Res.TheVariants as res
-use Rattle.ssr_base.specs.declared.semantics.DefKind.{DefKind}
-use Rattle.ssr_base.specs.declared.semantics.DefKind.TheVariants as kinds
-use Rattle.ssr_base.specs.Meanings.{Meanings}
+use Rattle.ssr_base_trees.specs.declared.ids.DefId.{DefId}
+use Rattle.ssr_base_trees.specs.declared.ids.ScopeId.{ScopeId}
+use Rattle.ssr_base_trees.specs.declared.semantics.Res.{Res}
+use Rattle.ssr_base_trees.specs.declared.semantics.Res.TheVariants as res
+use Rattle.ssr_base_trees.specs.declared.semantics.DefKind.{DefKind}
+use Rattle.ssr_base_trees.specs.declared.semantics.DefKind.TheVariants as kinds
+use Rattle.ssr_base_trees.specs.Meanings.{Meanings}
 use Rattle.ssr_syntax_tree.specs.Syntax.{Forest}
-use Rattle.ide_ssr_resolving.specs.Paths.{qualifier, last_name}
+use Rattle.ide_ssr_resolved_rule.specs.Paths.{qualifier, last_name}
 use Rattle.ide_ssr_resolving.specs.Keys.{key_of}
 
 abbrev pub is_adt : DefKind → Bool

@@ -6,10 +6,10 @@ use Rattle.std.specs.Option.{option_map_or}
 use Rattle.std.specs.List.{dedup, dedup_from}
 use Rattle.std.proofs.lemmas.List.{map-append}
 use Rattle.ssr_syntax_kinds.specs.declared.range.TextRange.{TextRange}
-use Rattle.ssr_base.specs.declared.ids.FileRange.{FileRange}
-use Rattle.ssr_base.specs.Applied.{change_of as pair_change, changes_of}
-use Rattle.ssr_base.specs.Changes.{Change}
-use Rattle.ssr_base.specs.Workspace.{FileSpan, file_span_of}
+use Rattle.ssr_base_trees.specs.declared.ids.FileRange.{FileRange}
+use Rattle.ssr_base_trees.specs.Applied.{change_of as pair_change, changes_of}
+use Rattle.ssr_base_trees.specs.Changes.{Change}
+use Rattle.ssr_base_trees.specs.Workspace.{FileSpan, file_span_of}
 use Rattle.ide_ssr_rewriting.specs.Clashes.{Rewrite, same_range, change_of}
 
 -- those of a list, behind one of the range, that begin another range

@@ -12,12 +12,12 @@ use Rattle.std.proofs.lemmas.Option.{same_Some, slice_get-get_or}
 use Rattle.ssr_syntax_tree.specs.Syntax.{Syntax}
 use Rattle.ssr_syntax_tree.specs.Places.{HasNode, Node, end_of, node_of, size_of, start_of}
 use Rattle.ssr_syntax_tree.proofs.Shared.{ranges_apart}
-use Rattle.ssr_base.specs.declared.ids.NodeId.{NodeId}
-use Rattle.ssr_base.specs.Origins.{Span, covered}
-use Rattle.ssr_base.specs.Built.{CallsAreEarlier, IsNodeOf}
-use Rattle.ssr_base.specs.Workspace.{Expanded, FileSpan, Planted, Workspace, cover_below, file_of, of_expansion, of_file, original, original_in, original_range, own_span, with_number, trees}
-use Rattle.ssr_base.proofs.Shared.{told_is}
-use Rattle.ide_ssr_found.specs.Found.{Found, IsMatch}
+use Rattle.ssr_base_trees.specs.declared.ids.NodeId.{NodeId}
+use Rattle.ssr_base_trees.specs.Origins.{Span, covered}
+use Rattle.ssr_base_trees.specs.Built.{CallsAreEarlier, IsNodeOf}
+use Rattle.ssr_base_trees.specs.Workspace.{Expanded, FileSpan, PlacedTree, Workspace, cover_below, file_of, of_expansion, of_file, original, original_in, original_range, own_span, with_number, trees}
+use Rattle.ssr_base_trees.proofs.Shared.{told_is}
+use Rattle.ide_ssr_bindings.specs.Found.{FoundMatch, IsMatch}
 use Rattle.ide_ssr_nesting.specs.declared.holders.Holder.{Holder}
 use Rattle.ide_ssr_nesting.specs.Kept.{ComesBefore, IsOver}
 use Rattle.ide_ssr_nesting.specs.Holding.{IsHeld, IsKept, Kept}
@@ -32,7 +32,7 @@ use Rattle.ide_ssr_rewriting.proofs.Nests.{is_nest}
 
 -- ** Trees of files alone.
 
-abbrev IsFile : Planted → Type 0
+abbrev IsFile : PlacedTree → Type 0
 IsFile p = p.call ≡ None
 
 files_alone : (w : Workspace) → w.expansions ≡ [] → AllByRecursion IsFile (trees w)
@@ -45,7 +45,7 @@ files_alone w none =
     (All-map IsFile of_file w.files (λ i d within. refl))
     (subst (λ (es : List Expanded). All IsFile (map of_expansion es)) (sym none) (λ i d within. absurd (omega arith)))))
 
-top_itself : (ts : List Planted) → AllByRecursion IsFile ts → (t : ℕ) → file_of ts t ≡ t
+top_itself : (ts : List PlacedTree) → AllByRecursion IsFile ts → (t : ℕ) → file_of ts t ≡ t
 top_itself [] files t = refl
 top_itself (p ∷ earlier) files t = by (t == length earlier) (top_itself earlier files.1 t)
   where
@@ -53,11 +53,11 @@ top_itself (p ∷ earlier) files t = by (t == length earlier) (top_itself earlie
     by true rest = ap (λ (call : Option NodeId). option_map_or (λ call. file_of earlier call.tree) call t) files.0
     by false rest = rest
 
-planted_file : (ts : List Planted) → AllByRecursion IsFile ts → (t : ℕ) (p : Planted) → with_number ts t ≡ Some p → IsFile p
-planted_file [] files t p is = absurd (cc is)
-planted_file (q ∷ earlier) files t p is = by (t == length earlier) (planted_file earlier files.1 t p) is
+placed_file : (ts : List PlacedTree) → AllByRecursion IsFile ts → (t : ℕ) (p : PlacedTree) → with_number ts t ≡ Some p → IsFile p
+placed_file [] files t p is = absurd (cc is)
+placed_file (q ∷ earlier) files t p is = by (t == length earlier) (placed_file earlier files.1 t p) is
   where
-    by : (b : Bool) → (with_number earlier t ≡ Some p → IsFile p) → ◌≡◌ {A = Option Planted} (if b then Some q else with_number earlier t) (Some p) → IsFile p
+    by : (b : Bool) → (with_number earlier t ≡ Some p → IsFile p) → ◌≡◌ {A = Option PlacedTree} (if b then Some q else with_number earlier t) (Some p) → IsFile p
     by true rest here = subst IsFile (same_Some q p here) files.0
     by false rest later = rest later
 
@@ -65,28 +65,28 @@ planted_file (q ∷ earlier) files t p is = by (t == length earlier) (planted_fi
 abbrev own_range : Syntax → NodeId → FileSpan
 own_range syntax x = record { file = x.tree; span = own_span syntax (node_of syntax x.node.0) }
 
-record IsOfFile (ts : List Planted) (x : NodeId) : Type 0 where
+record IsOfFile (ts : List PlacedTree) (x : NodeId) : Type 0 where
   syntax : Syntax
   is : option_map (λ p. p.syntax) (with_number ts x.tree) ≡ Some syntax
   has : HasNode syntax x.node.0
   range : original_range ts x ≡ Some (own_range syntax x)
 
-of_a_file : (ts : List Planted) → AllByRecursion IsFile ts → (x : NodeId) → IsNodeOf ts x → IsOfFile ts x
+of_a_file : (ts : List PlacedTree) → AllByRecursion IsFile ts → (x : NodeId) → IsNodeOf ts x → IsOfFile ts x
 of_a_file ts files x node = at (with_number ts x.tree) refl node
   where
-    own : (p : Planted) (node : Node) → IsFile p → original_in p node ≡ Some (own_span p.syntax node)
+    own : (p : PlacedTree) (node : Node) → IsFile p → original_in p node ≡ Some (own_span p.syntax node)
     own p node file =
         ap (λ (call : Option NodeId). option_map_or (λ call. covered (cover_below p.origins node)) call (Some (own_span p.syntax node))) file
 
-    at : (o : Option Planted) → with_number ts x.tree ≡ o → IsSomeAnd o (λ p. HasNode p.syntax x.node.0) → IsOfFile ts x
+    at : (o : Option PlacedTree) → with_number ts x.tree ≡ o → IsSomeAnd o (λ p. HasNode p.syntax x.node.0) → IsOfFile ts x
     at None is has = absurd has
     at (Some p) is has =
         let inner : Node = node_of p.syntax x.node.0 in
         let span : original ts x ≡ Some (own_span p.syntax inner) =
-        told_is (λ p. original_in p (node_of p.syntax x.node.0)) ts x p is has ∙ own p inner (planted_file ts files x.tree p is) in
+        told_is (λ p. original_in p (node_of p.syntax x.node.0)) ts x p is has ∙ own p inner (placed_file ts files x.tree p is) in
         record {
           syntax = p.syntax;
-          is = ap (option_map (λ (p : Planted). p.syntax)) is;
+          is = ap (option_map (λ (p : PlacedTree). p.syntax)) is;
           has = has;
           range = ap (option_map (λ (span : Span). record { file = file_of ts x.tree; span = span })) span
               ∙ ap (λ (file : ℕ). Some (record { file = file; span = own_span p.syntax inner })) (top_itself ts files x.tree);
@@ -114,9 +114,9 @@ no_byte a b apart share =
     none a b c d (inl behind) less = grind (arith, nat_tests)
     none a b c d (inr behind) less = grind (arith, nat_tests)
 
-module _ (ts : List Planted) (grown : CallsAreEarlier ts) (files : AllByRecursion IsFile ts) where
+module _ (ts : List PlacedTree) (grown : CallsAreEarlier ts) (files : AllByRecursion IsFile ts) where
   -- of two matches of which the first isn't over the second
-  apart : (k m : Found) → IsNodeOf ts k.node → IsNodeOf ts m.node → ComesBefore ts k m → (IsOver ts k m → ⊥)
+  apart : (k m : FoundMatch) → IsNodeOf ts k.node → IsNodeOf ts m.node → ComesBefore ts k m → (IsOver ts k m → ⊥)
       → AreApart (range_of ts k) (range_of ts m)
   apart k m k_in m_in (inr same) not = absurd (not (inr same))
   apart k m k_in m_in (inl before) not =
@@ -128,7 +128,7 @@ module _ (ts : List Planted) (grown : CallsAreEarlier ts) (files : AllByRecursio
         | inr other ↦ inl other
         | inl same ↦
             let tree : of_k.syntax ≡ of_m.syntax =
-            same_Some of_k.syntax of_m.syntax (sym of_k.is ∙ (ap (λ t. option_map (λ (p : Planted). p.syntax) (with_number ts t)) same ∙ of_m.is)) in
+            same_Some of_k.syntax of_m.syntax (sym of_k.is ∙ (ap (λ t. option_map (λ (p : PlacedTree). p.syntax) (with_number ts t)) same ∙ of_m.is)) in
             let lie = in_one_tree ts of_k.syntax k.node m.node grown of_k.is same k_in m_in in
             inr (subst (λ (s : Syntax). end_of of_k.syntax (node_of of_k.syntax k.node.node.0) ≤ start_of s (node_of s m.node.node.0)) tree
             (ranges_apart of_k.syntax k.node.node.0 m.node.node.0 of_k.has (subst (λ (s : Syntax). HasNode s m.node.node.0) (sym tree) of_m.has)
@@ -141,26 +141,26 @@ module _ (ts : List Planted) (grown : CallsAreEarlier ts) (files : AllByRecursio
 -- ** The matches of one list.
 
 module _ (kept : Kept) (is : IsKept kept) where
-  abbrev all_trees : List Planted
+  abbrev all_trees : List PlacedTree
   all_trees = trees kept.workspace
 
   -- what one holder holds isn't over one another
-  beside : (k m : Found) (holder : Option Holder) → Contains kept.matches k → IsHeld all_trees kept.matches k holder → IsHeld all_trees kept.matches m holder → IsOver all_trees k m → ⊥
+  beside : (k m : FoundMatch) (holder : Option Holder) → Contains kept.matches k → IsHeld all_trees kept.matches k holder → IsHeld all_trees kept.matches m holder → IsOver all_trees k m → ⊥
   beside k m None here of_k of_m over = of_m k here over
   beside k m (Some holder) here of_k of_m over =
       let grown = is.built.grown in
       let same : of_m.nearest ≡ of_k.nearest = same_Some of_m.nearest of_k.nearest (sym of_m.stands ∙ of_k.stands) in
       let above = of_k.is_nearest.over in
       elim (of_m.is_nearest.others k here over) [
-        | inl at ↦ not_over_itself all_trees grown k (subst (λ (n : Found). IsOver all_trees n k) (sym (at ∙ same)) above)
+        | inl at ↦ not_over_itself all_trees grown k (subst (λ (n : FoundMatch). IsOver all_trees n k) (sym (at ∙ same)) above)
         | inr below ↦ one_way all_trees k of_k.nearest
-            (over_before all_trees grown k of_k.nearest (subst (λ (n : Found). IsOver all_trees k n) same below))
+            (over_before all_trees grown k of_k.nearest (subst (λ (n : FoundMatch). IsOver all_trees k n) same below))
             (over_before all_trees grown of_k.nearest k above)
       ]
 
   module _ (files : AllByRecursion IsFile all_trees) (holder : Option Holder) where
     -- of two of one list, the one that comes first
-    first_apart : (i j : ℕ) (k m : Found) → i < j → slice_get kept.matches i ≡ Some k → slice_get kept.matches j ≡ Some m
+    first_apart : (i j : ℕ) (k m : FoundMatch) → i < j → slice_get kept.matches i ≡ Some k → slice_get kept.matches j ≡ Some m
         → slice_get kept.holders i ≡ Some holder → slice_get kept.holders j ≡ Some holder → AreApart (range_of all_trees k) (range_of all_trees m)
     first_apart i j k m less k_at m_at k_held m_held =
         let here = contains_at kept.matches i k k_at in
@@ -173,12 +173,12 @@ module _ (kept : Kept) (is : IsKept kept) where
     places_apart : (i j : ℕ) → i < j → i < length kept.matches → j < length kept.matches → slice_get kept.holders i ≡ Some holder → slice_get kept.holders j ≡ Some holder
         → AreApart (range_at kept i) (range_at kept j)
     places_apart i j less i_in j_in i_held j_held =
-        let nobody : Found = record { rule = 0; node = record { tree = 0; node = record { 0 = 0 } }; bindings = [] } in
-        let k : Found = get_or kept.matches i nobody in
-        let m : Found = get_or kept.matches j nobody in
+        let nobody : FoundMatch = record { rule = 0; node = record { tree = 0; node = record { 0 = 0 } }; bindings = [] } in
+        let k : FoundMatch = get_or kept.matches i nobody in
+        let m : FoundMatch = get_or kept.matches j nobody in
         let k_at = slice_get-get_or kept.matches i nobody i_in in
         let m_at = slice_get-get_or kept.matches j nobody j_in in
-        let told : Option Found → FileSpan = λ o. option_map_or (range_of all_trees) o nowhere in
+        let told : Option FoundMatch → FileSpan = λ o. option_map_or (range_of all_trees) o nowhere in
         subst (λ (r : FileSpan). AreApart r (range_at kept j)) (sym (ap told k_at))
         (subst (AreApart (range_of all_trees k)) (sym (ap told m_at)) (first_apart i j k m less k_at m_at i_held j_held))
 
@@ -225,6 +225,6 @@ no_clash kept lists is are none texts =
     λ holder. no_clashes (λ n. record { range = range_at kept n; text = texts n }) (listed lists holder)
     (none_clash kept is (files_alone kept.workspace none) holder texts (listed lists holder) ((is_nest kept lists is are).lists holder)) in
     ap (λ (cs : List Clash). cs ++ flat_map (λ p. clashes_under p.1 (list_under kept lists texts p.0)) (enumerate_from 0 kept.matches)) (in_list None)
-    ∙ nothing_each (λ (p : ℕ × Found). clashes_under p.1 (list_under kept lists texts p.0))
+    ∙ nothing_each (λ (p : ℕ × FoundMatch). clashes_under p.1 (list_under kept lists texts p.0))
     (λ p. nothing_each (λ q. clashes (list_under kept lists texts p.0 q.0)) (λ q. in_list (Some (record { place = p.0; binding = q.0 }))) (enumerate_from 0 p.1.bindings))
     (enumerate_from 0 kept.matches)

@@ -9,7 +9,7 @@ use Rattle.std.proofs.lemmas.Bool.{and_parts, and_cases, and_left, or_parts, eqb
 use Rattle.std.proofs.lemmas.Bool.Decides.{nat_tests}
 use Rattle.std.proofs.lemmas.Slice.Eq.{bytes_eq-Decides}
 use Rattle.std.proofs.lemmas.List.Elements.{All-nil, All-cons, All-head, All-tail, All-append, All-map, All-filter, All-weaker, All-contains, All-contains_itself, Contains-append_left, Contains-append_right}
-use Rattle.ssr_base.specs.Workspace.{FileSpan}
+use Rattle.ssr_base_trees.specs.Workspace.{FileSpan}
 use Rattle.ide_ssr_rewriting.specs.Clashes.{Rewrite, Clash, same_range, share_byte, differ, is_clash, clashes_with, clashes, range_key, clash_le, IsFirst}
 use Rattle.ide_ssr_rewriting.specs.Private.Clashes.{range_le, AreInOrder, stands_for, first_behind, lesser}
 

@@ -5,15 +5,15 @@ use Rattle.std.specs.Option.{IsSomeAnd, option_map_or}
 use Rattle.std.proofs.lemmas.List.Elements.{All-contains, All-contains_itself, All-map, All-weaker}
 use Rattle.ssr_syntax_tree.specs.Syntax.{Syntax, source_of}
 use Rattle.ssr_syntax_tree.proofs.Lists.{all_at}
-use Rattle.ssr_base.specs.Laws.{IsSpanOf, LiesInFile}
-use Rattle.ssr_base.specs.Texts.{is_boundary}
-use Rattle.ssr_base.specs.Workspace.{FileSpan, Workspace, node_id, original_range, trees}
-use Rattle.ssr_base.specs.Built.{IsBuilt}
-use Rattle.ssr_base.proofs.Shared.{lies_in_file, run_lies_in_file}
-use Rattle.ide_ssr_found.specs.declared.bindings.Binding.{Binding}
-use Rattle.ide_ssr_found.specs.declared.bindings.Held.{Held}
-use Rattle.ide_ssr_found.specs.declared.bindings.Held.TheVariants as held
-use Rattle.ide_ssr_found.specs.Found.{Found, HasByte, IsMatch, held_range, range_of_held}
+use Rattle.ssr_base_trees.specs.Laws.{IsSpanOf, LiesInFile}
+use Rattle.ssr_base_trees.specs.Texts.{is_boundary}
+use Rattle.ssr_base_trees.specs.Workspace.{FileSpan, Workspace, node_id, original_range, trees}
+use Rattle.ssr_base_trees.specs.Built.{IsBuilt}
+use Rattle.ssr_base_trees.proofs.Shared.{lies_in_file, run_lies_in_file}
+use Rattle.ide_ssr_bindings.specs.declared.bindings.Binding.{Binding}
+use Rattle.ide_ssr_bindings.specs.declared.bindings.Held.{Held}
+use Rattle.ide_ssr_bindings.specs.declared.bindings.Held.TheVariants as held
+use Rattle.ide_ssr_bindings.specs.Found.{FoundMatch, HasByte, IsMatch, held_range, range_of_held}
 use Rattle.ide_ssr_nesting.specs.Holding.{Kept}
 use Rattle.ide_ssr_nesting.specs.Lists.{Listing, range_of}
 use Rattle.ide_ssr_rewriting.specs.Clashes.{Rewrite}
@@ -41,11 +41,11 @@ held_in_file w t (held.Tokens run) range built is = run_lies_in_file w t run ran
 pub range_in_file : (kept : Kept) (listing : Listing) → IsNest kept listing → (n : ℕ) → n < length kept.matches → LiesInFile kept.workspace (range_at kept n)
 range_in_file kept listing is n lt = at (slice_get kept.matches n) refl
   where
-    ranged : (m : Found) (r : Option FileSpan) → original_range (trees kept.workspace) m.node ≡ r → IsSomeAnd r HasByte → LiesInFile kept.workspace (unwrap_or r nowhere)
+    ranged : (m : FoundMatch) (r : Option FileSpan) → original_range (trees kept.workspace) m.node ≡ r → IsSomeAnd r HasByte → LiesInFile kept.workspace (unwrap_or r nowhere)
     ranged m None e h = absurd h
     ranged m (Some range) e h = lies_in_file kept.workspace m.node range is.built e
 
-    at : (o : Option Found) → slice_get kept.matches n ≡ o → LiesInFile kept.workspace (option_map_or (range_of (trees kept.workspace)) o nowhere)
+    at : (o : Option FoundMatch) → slice_get kept.matches n ≡ o → LiesInFile kept.workspace (option_map_or (range_of (trees kept.workspace)) o nowhere)
     at None e = absurd (let past = none_past kept.matches n e in omega arith)
     at (Some m) e =
         ranged m (original_range (trees kept.workspace) m.node) refl
@@ -54,7 +54,7 @@ range_in_file kept listing is n lt = at (slice_get kept.matches n) refl
 range_fits : (kept : Kept) (listing : Listing) → IsNest kept listing → (n : ℕ) → n < length kept.matches → FitsItsFile kept.workspace (range_at kept n)
 range_fits kept listing is n lt = in_file kept.workspace (range_at kept n) (range_in_file kept listing is n lt)
 
-pub list_fits : (kept : Kept) (listing : Listing) → IsNest kept listing → (n i : ℕ) (m : Found) (binding : Binding) (texts : Texts) (list : List Rewrite) (range : Option FileSpan)
+pub list_fits : (kept : Kept) (listing : Listing) → IsNest kept listing → (n i : ℕ) (m : FoundMatch) (binding : Binding) (texts : Texts) (list : List Rewrite) (range : Option FileSpan)
     → slice_get kept.matches n ≡ Some m → slice_get m.bindings i ≡ Some binding → list ≡ list_at kept texts (under listing n i)
     → range ≡ held_range (trees kept.workspace) m.node.tree binding → IfSome range (λ range. IsOf kept.workspace range list)
 list_fits kept listing is n i m binding texts list range at bound taken e =

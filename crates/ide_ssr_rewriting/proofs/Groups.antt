@@ -7,9 +7,9 @@ use Rattle.std.proofs.lemmas.Bool.{cases_eq, cases_lt, eq-eqb, ne_eqb}
 use Rattle.std.proofs.lemmas.Bool.Decides.{nat_tests}
 use Rattle.std.proofs.lemmas.List.{length-append, reverse-append}
 use Rattle.std.proofs.lemmas.List.Elements.{All-cons, All-head, All-nil, All-tail, All-weaker, filter-append}
-use Rattle.ssr_base.specs.declared.ids.FileId.{FileId}
-use Rattle.ssr_base.specs.Changes.{Change, ChangesInOrder}
-use Rattle.ssr_base.specs.Workspace.{FileSpan}
+use Rattle.ssr_base_trees.specs.declared.ids.FileId.{FileId}
+use Rattle.ssr_base_trees.specs.Changes.{Change, ChangesInOrder}
+use Rattle.ssr_base_trees.specs.Workspace.{FileSpan}
 use Rattle.ide_ssr_rewriting.specs.Clashes.{Rewrite, Clash, change_of, changes_made, clashes, clashes_with, is_clash, same_range, share_byte}
 use Rattle.ide_ssr_rewriting.specs.Edits.{edit_of, file_cmp, some_changes}
 use Rattle.ide_ssr_rewriting.specs.Private.Clashes.{AreInOrder, range_le}

@@ -7,10 +7,10 @@ use Rattle.std.specs.Ordering.{is_le, nat_cmp, ordering_then}
 use Rattle.std.proofs.lemmas.Cmp.{nat_list_cmp_total, tied_itself}
 use Rattle.std.proofs.lemmas.List.Elements.{All-contains_itself, All-weaker}
 use Rattle.std.proofs.lemmas.Option.{same_Some, slice_get-get_or, slice_get_within}
-use Rattle.ssr_base.specs.Laws.{LiesIn}
-use Rattle.ssr_base.specs.Workspace.{FileSpan, Planted, node_id, original_range, trees}
-use Rattle.ide_ssr_found.specs.declared.bindings.Binding.{Binding}
-use Rattle.ide_ssr_found.specs.Found.{Found, held_range}
+use Rattle.ssr_base_trees.specs.Laws.{LiesIn}
+use Rattle.ssr_base_trees.specs.Workspace.{FileSpan, PlacedTree, node_id, original_range, trees}
+use Rattle.ide_ssr_bindings.specs.declared.bindings.Binding.{Binding}
+use Rattle.ide_ssr_bindings.specs.Found.{FoundMatch, held_range}
 use Rattle.ide_ssr_nesting.specs.declared.holders.Holder.{Holder}
 use Rattle.ide_ssr_nesting.specs.Kept.{LiesUnder}
 use Rattle.ide_ssr_nesting.specs.Holding.{IsHeldBy, IsKept, Kept}
@@ -37,7 +37,7 @@ in_order : (r s : FileSpan) (xs ys : List ℕ)
 unfolding range_le
 in_order r s xs ys less = key_le r.file r.span.start r.span.end s.file s.span.start s.span.end xs ys less
 
-range_is : (kept : Kept) (n : ℕ) (m : Found) → slice_get kept.matches n ≡ Some m → range_at kept n ≡ range_of (trees kept.workspace) m
+range_is : (kept : Kept) (n : ℕ) (m : FoundMatch) → slice_get kept.matches n ≡ Some m → range_at kept n ≡ range_of (trees kept.workspace) m
 range_is kept n m at = ap (λ o. option_map_or (range_of (trees kept.workspace)) o nowhere) at
 
 is_list : (kept : Kept) (lists : Listing) → IsKept kept → AreLists kept lists → (holder : Option Holder) → IsList kept holder (listed lists holder)
@@ -50,7 +50,7 @@ is_list kept lists is are holder = record {
       let m = at j d within_j in
       let one : k.0 ≡ m.0 = same_Some k.0 m.0 (sym k.1 ∙ (ap (slice_get kept.matches) same ∙ m.1)) in
       let wrong : Equal ≡ Less =
-      sym (tied_itself nat_list_cmp_total (listing_key ts k.0)) ∙ (ap (λ (m : Found). slice_cmp nat_cmp (listing_key ts k.0) (listing_key ts m)) one ∙ less k.0 m.0 k.1 m.1) in
+      sym (tied_itself nat_list_cmp_total (listing_key ts k.0)) ∙ (ap (λ (m : FoundMatch). slice_cmp nat_cmp (listing_key ts k.0) (listing_key ts m)) one ∙ less k.0 m.0 k.1 m.1) in
       cc;
   ordered = λ i j d lt within_j.
       let k = at i d (omega arith) in
@@ -59,7 +59,7 @@ is_list kept lists is are holder = record {
       (in_order (range_of ts k.0) (range_of ts m.0) (rest_of k.0) (rest_of m.0) (keys i j d lt within_j k.0 m.0 k.1 m.1));
 }
   where
-    ts : List Planted
+    ts : List PlacedTree
     ts = trees kept.workspace
 
     places : List ℕ
@@ -72,34 +72,34 @@ is_list kept lists is are holder = record {
     within = All-weaker (λ n. slice_get kept.holders n ≡ Some holder) (λ n. n < length kept.matches)
         (λ n h. let lt = slice_get_within kept.holders n holder h in let counted = is.held.counted in omega arith) places held
 
-    at : (i d : ℕ) → i < length places → (m : Found) × (slice_get kept.matches (get_or places i d) ≡ Some m)
+    at : (i d : ℕ) → i < length places → (m : FoundMatch) × (slice_get kept.matches (get_or places i d) ≡ Some m)
     at i d lt = (get_or kept.matches (get_or places i d) nobody, slice_get-get_or kept.matches (get_or places i d) nobody (within i d lt))
       where
-        nobody : Found
+        nobody : FoundMatch
         nobody = record { rule = 0; node = node_id 0 0; bindings = [] }
 
     -- what follows on the range among the numbers that are compared
-    rest_of : Found → List ℕ
+    rest_of : FoundMatch → List ℕ
     rest_of m = m.rule ∷ (m.node.tree ∷ (m.node.node.0 ∷ []))
 
-    keys : (i j d : ℕ) → i < j → j < length places → (k m : Found) → slice_get kept.matches (get_or places i d) ≡ Some k → slice_get kept.matches (get_or places j d) ≡ Some m
+    keys : (i j d : ℕ) → i < j → j < length places → (k m : FoundMatch) → slice_get kept.matches (get_or places i d) ≡ Some k → slice_get kept.matches (get_or places j d) ≡ Some m
         → slice_cmp nat_cmp (listing_key ts k) (listing_key ts m) ≡ Less
     keys i j d lt within_j = lists_in_order kept lists holder are i j d lt within_j
 
 -- ** What a placeholder holds.
 
-held_in : (kept : Kept) (lists : Listing) → IsKept kept → AreLists kept lists → (n i j : ℕ) (m : Found) (binding : Binding) (range : FileSpan)
+held_in : (kept : Kept) (lists : Listing) → IsKept kept → AreLists kept lists → (n i j : ℕ) (m : FoundMatch) (binding : Binding) (range : FileSpan)
     → slice_get kept.matches n ≡ Some m → slice_get m.bindings i ≡ Some binding → Contains (under lists n i) j
     → held_range (trees kept.workspace) m.node.tree binding ≡ Some range → LiesIn (range_at kept j) range
 held_in kept lists is are n i j m binding range at bound here ranged =
     let holder : Holder = record { place = n; binding = i } in
     let beside = (lists_what_is_held kept is lists (Some holder) j are).0 here in
     let lt : j < length kept.matches = let lt = slice_get_within kept.holders j (Some holder) beside in let counted = is.held.counted in omega arith in
-    let inner : Found = get_or kept.matches j m in
+    let inner : FoundMatch = get_or kept.matches j m in
     let stands = slice_get-get_or kept.matches j m lt in
     let held : IsHeldBy (trees kept.workspace) kept.matches inner holder = is.held.held j inner (Some holder) stands beside in
     let over : held.nearest ≡ m = same_Some held.nearest m (sym held.stands ∙ at) in
-    let lies : LiesUnder (trees kept.workspace) m inner i = subst (λ (k : Found). LiesUnder (trees kept.workspace) k inner i) over held.under in
+    let lies : LiesUnder (trees kept.workspace) m inner i = subst (λ (k : FoundMatch). LiesUnder (trees kept.workspace) k inner i) over held.under in
     let same : lies.binding ≡ binding = same_Some lies.binding binding (sym lies.is ∙ bound) in
     rw (range_is kept j inner stands)
     (inside (original_range (trees kept.workspace) inner.node)

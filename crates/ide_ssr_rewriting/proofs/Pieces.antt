@@ -10,10 +10,10 @@ use Rattle.std.proofs.lemmas.List.{drop_more, drop_all, get_or-map, length-map}
 use Rattle.std.proofs.lemmas.List.Elements.{All-append, All-contains_itself, All-map, All-weaker, Contains-append_left, Contains-append_right}
 use Rattle.std.proofs.lemmas.Option.{same_Some}
 use Rattle.ssr_syntax_tree.proofs.Lists.{all_at}
-use Rattle.ssr_base.specs.Workspace.{FileSpan, Workspace, original_range, trees}
-use Rattle.ide_ssr_resolving.specs.Resolved.{ResolvedKind}
-use Rattle.ide_ssr_found.specs.declared.bindings.Binding.{Binding}
-use Rattle.ide_ssr_found.specs.Found.{Found, HasByte, IsMatch, held_range}
+use Rattle.ssr_base_trees.specs.Workspace.{FileSpan, Workspace, original_range, trees}
+use Rattle.ide_ssr_resolved_rule.specs.Resolved.{ResolvedRule}
+use Rattle.ide_ssr_bindings.specs.declared.bindings.Binding.{Binding}
+use Rattle.ide_ssr_bindings.specs.Found.{FoundMatch, HasByte, IsMatch, held_range}
 use Rattle.ide_ssr_nesting.specs.declared.holders.Holder.{Holder}
 use Rattle.ide_ssr_nesting.specs.Holding.{Kept}
 use Rattle.ide_ssr_nesting.specs.Lists.{Listing, listed, range_of}
@@ -41,7 +41,7 @@ has_byte (Some range) h = h
 range_byte : (kept : Kept) (listing : Listing) → IsNest kept listing → (n : ℕ) → n < length kept.matches → HasByte (range_at kept n)
 range_byte kept listing is n lt = at (slice_get kept.matches n) refl
   where
-    at : (o : Option Found) → slice_get kept.matches n ≡ o → HasByte (option_map_or (range_of (trees kept.workspace)) o nowhere)
+    at : (o : Option FoundMatch) → slice_get kept.matches n ≡ o → HasByte (option_map_or (range_of (trees kept.workspace)) o nowhere)
     at None e = absurd (let past = none_past kept.matches n e in omega arith)
     at (Some m) e =
         has_byte (original_range (trees kept.workspace) m.node)
@@ -75,18 +75,18 @@ pub record AreLeft (listing : Listing) (n i : ℕ) (old cur : List (Option (Stri
   pub left : (j : ℕ) → ((k : ℕ) → k < i → Contains (under listing n k) j → ⊥) → text_in cur j ≡ text_in old j
 
 -- the pieces of the first i placeholders, and whether all their lists can be made
-pub record AreWritten (w : Workspace) (m : Found) (lists : ℕ → List Rewrite) (i : ℕ) (clean : Bool) (pieces : List (List ℕ)) : Type 0 where
+pub record AreWritten (w : Workspace) (m : FoundMatch) (lists : ℕ → List Rewrite) (i : ℕ) (clean : Bool) (pieces : List (List ℕ)) : Type 0 where
   pub clean_lists : all_clean lists (enumerate_from 0 m.bindings) ≡ (clean && all_clean lists (enumerate_from i (drop i m.bindings)))
   pub written : clean ≡ true → pieces ++ pieces_of w m lists (enumerate_from i (drop i m.bindings)) ≡ pieces_of w m lists (enumerate_from 0 m.bindings)
 
 -- the first clash of the lists of the first i placeholders and of others
-pub record AreNoted (m : Found) (lists : ℕ → List Rewrite) (i : ℕ) (was now : Option Clash) : Type 0 where
+pub record AreNoted (m : FoundMatch) (lists : ℕ → List Rewrite) (i : ℕ) (was now : Option Clash) : Type 0 where
   pub before : List Clash
   pub split : before ++ clashes_in lists (enumerate_from i (drop i m.bindings)) ≡ clashes_in lists (enumerate_from 0 m.bindings)
   pub first : (others : List Clash) → IsFirst others was → IsFirst (before ++ others) now
 
 -- the first i placeholders of the match m of the place n are done
-pub record AreTaken (kept : Kept) (listing : Listing) (m : Found) (n i : ℕ) (old cur : List (Option (String Global))) (clean : Bool) (pieces : List (List ℕ)) (was now : Option Clash) : Type 0 where
+pub record AreTaken (kept : Kept) (listing : Listing) (m : FoundMatch) (n i : ℕ) (old cur : List (Option (String Global))) (clean : Bool) (pieces : List (List ℕ)) (was now : Option Clash) : Type 0 where
   pub texts : AreLeft listing n i old cur
   pub written : AreWritten kept.workspace m (list_under kept listing (text_in old) n) i clean pieces
   pub noted : AreNoted m (list_under kept listing (text_in old) n) i was now
@@ -153,7 +153,7 @@ left-more listing n i old cur new so_far counted others = record {
   left = λ j none. others j (λ h. none i (omega arith) h) ∙ so_far.left j (λ k lt h. none k (omega arith) h);
 }
 
-pub written-more : (w : Workspace) (m : Found) (lists : ℕ → List Rewrite) (i : ℕ) (clean made : Bool) (pieces more : List (List ℕ)) → AreWritten w m lists i clean pieces
+pub written-more : (w : Workspace) (m : FoundMatch) (lists : ℕ → List Rewrite) (i : ℕ) (clean made : Bool) (pieces more : List (List ℕ)) → AreWritten w m lists i clean pieces
     → (b : Binding) → i < length m.bindings → b ≡ get_or m.bindings i b → (o : Option (List ℕ)) → o ≡ (if is_clean (lists i) then Some (piece w (held_range (trees w) m.node.tree b) (lists i)) else None)
     → made ≡ (is_some o && clean) → more ≡ pieces ++ option_to_list o → AreWritten w m lists (i + 1) made more
 written-more w m lists i clean made pieces more so_far b lt at o told made_is more_is =
@@ -167,7 +167,7 @@ written-more w m lists i clean made pieces more so_far b lt at o told made_is mo
           (λ sure. ap (λ (bound : List (ℕ × Binding)). pieces ++ pieces_of w m lists bound) (sym from) ∙ so_far.written sure) told made_is more_is;
     }
 
-pub noted-more : (m : Found) (lists : ℕ → List Rewrite) (i : ℕ) (was now next : Option Clash) → AreNoted m lists i was now → (b : Binding) → i < length m.bindings → b ≡ get_or m.bindings i b
+pub noted-more : (m : FoundMatch) (lists : ℕ → List Rewrite) (i : ℕ) (was now next : Option Clash) → AreNoted m lists i was now → (b : Binding) → i < length m.bindings → b ≡ get_or m.bindings i b
     → (c : Option Clash) → IsFirst (clashes (lists i)) c → next ≡ lesser c now → AreNoted m lists (i + 1) was next
 noted-more m lists i was now next so_far b lt at c first noted =
     let from = bound_from m.bindings i b lt at in
@@ -191,7 +191,7 @@ by_clean : (all clean : Bool) (pieces whole : List (List ℕ)) → all ≡ clean
 by_clean all true pieces whole is same = rw is (ap Some (same refl))
 by_clean all false pieces whole is same = rw is refl
 
-pub taken_pieces : (kept : Kept) (listing : Listing) (m : Found) (n i : ℕ) (old cur : List (Option (String Global))) (clean : Bool) (pieces : List (List ℕ)) (was now : Option Clash)
+pub taken_pieces : (kept : Kept) (listing : Listing) (m : FoundMatch) (n i : ℕ) (old cur : List (Option (String Global))) (clean : Bool) (pieces : List (List ℕ)) (was now : Option Clash)
     → AreTaken kept listing m n i old cur clean pieces was now → length m.bindings ≤ i
     → (if clean then Some pieces else None) ≡ pieces_by kept.workspace m (list_under kept listing (text_in old) n)
 taken_pieces kept listing m n i old cur clean pieces was now all le =
@@ -201,7 +201,7 @@ taken_pieces kept listing m n i old cur clean pieces was now all le =
     (all.written.clean_lists ∙ (ap (λ (bound : List (ℕ × Binding)). clean && all_clean lists bound) none ∙ and-true clean))
     (λ sure. sym (append-nil pieces) ∙ (ap (λ (bound : List (ℕ × Binding)). pieces ++ pieces_of kept.workspace m lists bound) (sym none) ∙ all.written.written sure))
 
-pub taken_clashes : (kept : Kept) (listing : Listing) (m : Found) (n i : ℕ) (old cur : List (Option (String Global))) (clean : Bool) (pieces : List (List ℕ)) (was now : Option Clash)
+pub taken_clashes : (kept : Kept) (listing : Listing) (m : FoundMatch) (n i : ℕ) (old cur : List (Option (String Global))) (clean : Bool) (pieces : List (List ℕ)) (was now : Option Clash)
     → AreTaken kept listing m n i old cur clean pieces was now → length m.bindings ≤ i
     → (others : List Clash) → IsFirst others was → IsFirst (clashes_in (list_under kept listing (text_in old) n) (enumerate_from 0 m.bindings) ++ others) now
 taken_clashes kept listing m n i old cur clean pieces was now all le others h =
@@ -213,7 +213,7 @@ taken_clashes kept listing m n i old cur clean pieces was now all le others h =
 
 -- ** A text of its pieces.
 
-pub text_of_pieces : (w : Workspace) (rules : List ResolvedKind) (m : Found) (lists : ℕ → List Rewrite)
+pub text_of_pieces : (w : Workspace) (rules : List ResolvedRule) (m : FoundMatch) (lists : ℕ → List Rewrite)
     → option_map (text_of_match w rules m) (pieces_by w m lists) ≡ text_by w rules m lists
 text_of_pieces w rules m lists = at (all_clean lists (enumerate_from 0 m.bindings))
   where

@@ -13,12 +13,12 @@ use Rattle.std.proofs.lemmas.Bool.{cases_eq}
 use Rattle.std.proofs.lemmas.Cmp.{nat_cmp_total, nat_list_cmp_total, tied_itself}
 use Rattle.std.proofs.lemmas.List.Elements.{All-nil, All-cons, All-head, All-tail, All-append, All-contains, All-filter, All-map, All-weaker}
 use Rattle.ssr_syntax_tree.proofs.Lists.{all_at, at_front}
-use Rattle.ssr_base.specs.declared.ids.FileId.{FileId}
-use Rattle.ssr_base.specs.declared.ids.FileRange.{FileRange}
-use Rattle.ssr_base.specs.Changes.{Change}
-use Rattle.ssr_base.specs.Workspace.{FileSpan, original_range, trees}
-use Rattle.ide_ssr_resolving.specs.Resolved.{ResolvedKind}
-use Rattle.ide_ssr_found.specs.Found.{Found, HasByte, IsMatch}
+use Rattle.ssr_base_trees.specs.declared.ids.FileId.{FileId}
+use Rattle.ssr_base_trees.specs.declared.ids.FileRange.{FileRange}
+use Rattle.ssr_base_trees.specs.Changes.{Change}
+use Rattle.ssr_base_trees.specs.Workspace.{FileSpan, original_range, trees}
+use Rattle.ide_ssr_resolved_rule.specs.Resolved.{ResolvedRule}
+use Rattle.ide_ssr_bindings.specs.Found.{FoundMatch, HasByte, IsMatch}
 use Rattle.ide_ssr_nesting.specs.Holding.{IsKept, Kept}
 use Rattle.ide_ssr_nesting.specs.Lists.{AreLists, Listing, listed, range_of}
 use Rattle.ide_ssr_rewriting.specs.Clashes.{Rewrite, Clash, IsFirst, changes_made, clash_le, clashes, clashes_with, is_clash, range_key}
@@ -131,7 +131,7 @@ module _ (kept : Kept) (known : IsKept kept) where
       of_range None byte = absurd byte
       of_range (Some range) byte = omega arith
 
-      of_match : (o : Option Found) → slice_get kept.matches n ≡ o → IsForward (option_map_or (range_of (trees kept.workspace)) o nowhere)
+      of_match : (o : Option FoundMatch) → slice_get kept.matches n ≡ o → IsForward (option_map_or (range_of (trees kept.workspace)) o nowhere)
       of_match None is = omega arith
       of_match (Some m) is =
           of_range (original_range (trees kept.workspace) m.node) (all_at (IsMatch (trees kept.workspace)) kept.matches n m known.held.each is).range
@@ -141,7 +141,7 @@ module _ (kept : Kept) (known : IsKept kept) where
       All-append AreForward (clashes (outermost_list kept lists texts))
       (flat_map (λ p. clashes_under p.1 (list_under kept lists texts p.0)) (enumerate_from 0 kept.matches))
       (of_list (listed lists None))
-      (all_flat AreForward (λ (p : ℕ × Found). clashes_under p.1 (list_under kept lists texts p.0))
+      (all_flat AreForward (λ (p : ℕ × FoundMatch). clashes_under p.1 (list_under kept lists texts p.0))
       (λ p. all_flat AreForward (λ q. clashes (list_under kept lists texts p.0 q.0))
       (λ q. of_list (listed lists (Some (record { place = p.0; binding = q.0 })))) (enumerate_from 0 p.1.bindings))
       (enumerate_from 0 kept.matches))
@@ -151,7 +151,7 @@ module _ (kept : Kept) (known : IsKept kept) where
           clashes_forward (list_at kept texts places)
           (All-map (λ r. IsForward r.range) (λ n. record { range = range_at kept n; text = texts n }) places (λ i d within. at_forward _))
 
-  pub answer_exists : (lists : Listing) (rules : List ResolvedKind) → AreLists kept lists → AnswerExists kept lists rules
+  pub answer_exists : (lists : Listing) (rules : List ResolvedRule) → AreLists kept lists → AnswerExists kept lists rules
   answer_exists lists rules are = by (texts_of kept lists rules) (are_texts kept lists rules (is_nest kept lists known are))
     where
       by : (texts : Texts) → AreTexts kept lists rules texts → AnswerExists kept lists rules

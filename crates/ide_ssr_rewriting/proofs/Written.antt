@@ -7,10 +7,10 @@ use Rattle.std.proofs.lemmas.List.{length-map}
 use Rattle.std.proofs.lemmas.List.Elements.{All-map, All-weaker}
 use Rattle.std.proofs.lemmas.List.Filters.{All-dedup}
 use Rattle.ssr_syntax_kinds.specs.declared.range.TextRange.{TextRange}
-use Rattle.ssr_base.specs.Applied.{change_of as pair_change, changes_of}
-use Rattle.ssr_base.specs.Changes.{Change}
-use Rattle.ssr_base.specs.Workspace.{FileSpan, Workspace}
-use Rattle.ssr_base.proofs.Changes.{change_at}
+use Rattle.ssr_base_trees.specs.Applied.{change_of as pair_change, changes_of}
+use Rattle.ssr_base_trees.specs.Changes.{Change}
+use Rattle.ssr_base_trees.specs.Workspace.{FileSpan, Workspace}
+use Rattle.ssr_base_trees.proofs.Changes.{change_at}
 use Rattle.ide_ssr_rewriting.specs.Clashes.{Rewrite, change_of, changes_made, same_range}
 use Rattle.ide_ssr_rewriting.specs.Replacements.{file_text}
 use Rattle.ide_ssr_rewriting.specs.Private.Replacements.{FitsFile, FitsItsFile, IsOf}

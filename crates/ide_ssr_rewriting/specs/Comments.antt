@@ -6,9 +6,9 @@ use Rattle.ssr_syntax_kinds.specs.declared.kinds.SyntaxKind.TheVariants as k
 use Rattle.ssr_syntax_tree.specs.declared.number.TokenNo.{TokenNo}
 use Rattle.ssr_syntax_tree.specs.Syntax.{Syntax, token_count}
 use Rattle.ssr_syntax_tree.specs.Places.{Node, node_of, token_of}
-use Rattle.ssr_base.specs.declared.ids.TokenRun.{TokenRun}
-use Rattle.ide_ssr_found.specs.Apart.{tokens_held}
-use Rattle.ide_ssr_found.specs.declared.bindings.Binding.{Binding}
+use Rattle.ssr_base_trees.specs.declared.ids.TokenRun.{TokenRun}
+use Rattle.ide_ssr_bindings.specs.Apart.{tokens_held}
+use Rattle.ide_ssr_bindings.specs.declared.bindings.Binding.{Binding}
 
 unfoldable pub is_comment : SyntaxKind → Bool
 is_comment k.COMMENT = true

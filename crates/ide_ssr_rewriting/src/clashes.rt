@@ -2,12 +2,12 @@
 
 ghost use Rattle.std.specs.Prelude.{◌≡◌, IfOk, false, is_some, option_map, string_bytes};
 ghost use Rattle.std.specs.Option.{option_map_or};
-ghost use Rattle.ssr_base.specs.Applied.{changes_of};
-ghost use Rattle.ssr_base.specs.Workspace.{file_span_of};
+ghost use Rattle.ssr_base_trees.specs.Applied.{changes_of};
+ghost use Rattle.ssr_base_trees.specs.Workspace.{file_span_of};
 ghost use Rattle.ide_ssr_rewriting.specs.Clashes.{IsFirst, changes_made, clash_of, clashes, differ, is_clash, same_range, share_byte};
 ghost use Rattle.ide_ssr_rewriting.specs.Private.Clashes.{AreInOrder, first_behind, stands_for};
 
-use ssr_base::FileRange;
+use ssr_base_trees::FileRange;
 use ssr_syntax_kinds::TextRange;
 use std::alloc::{AllocError, Global};
 use std::marker::Model;
@@ -21,7 +21,7 @@ pub(crate) struct Rewrite {
 
 impl Model for Rewrite {
     ghost use Rattle.std.specs.Prelude.{option_map, string_bytes};
-    ghost use Rattle.ssr_base.specs.Workspace.{file_span_of};
+    ghost use Rattle.ssr_base_trees.specs.Workspace.{file_span_of};
     ghost use Rattle.ide_ssr_rewriting.specs.Clashes.{Rewrite as RewriteValue};
 
     ghost Value = { RewriteValue };

@@ -2,12 +2,12 @@
 
 ghost use Rattle.std.specs.Prelude.{◌≡◌, ◌++◌, All, IfOk, OnOk, string_bytes};
 ghost use Rattle.ssr_syntax_tree.specs.Places.{HasNode, HasToken, node_of};
-ghost use Rattle.ssr_base.specs.Workspace.{run_of};
-ghost use Rattle.ide_ssr_found.specs.Apart.{HasHeld, tokens_held};
+ghost use Rattle.ssr_base_trees.specs.Workspace.{run_of};
+ghost use Rattle.ide_ssr_bindings.specs.Apart.{HasHeld, tokens_held};
 ghost use Rattle.ide_ssr_rewriting.specs.Comments.{is_comment, is_among, is_bound, is_kept_comment, kept_comments, comment_text, comments_text};
 
-use ide_ssr_found::{Binding, Held};
-use ssr_base::TokenRun;
+use ide_ssr_bindings::{Binding, Held};
+use ssr_base_trees::TokenRun;
 use ssr_syntax_kinds::SyntaxKind;
 use ssr_syntax_tree::{NodeNo, TokenNo, Tree};
 use std::alloc::{AllocError, Global};

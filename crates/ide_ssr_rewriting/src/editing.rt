@@ -5,9 +5,9 @@ ghost use Rattle.std.specs.Cow.{cow_str_bytes};
 ghost use Rattle.std.specs.List.{list_all};
 ghost use Rattle.std.specs.Ordering.{nat_cmp, ordering_then};
 ghost use Rattle.std.specs.BTreeMap.{get};
-ghost use Rattle.ssr_base.specs.declared.ids.FileId.{FileId as FileIdValue};
-ghost use Rattle.ssr_base.specs.Workspace.{file_span_of, trees};
-ghost use Rattle.ide_ssr_found.specs.Found.{IsMatch};
+ghost use Rattle.ssr_base_trees.specs.declared.ids.FileId.{FileId as FileIdValue};
+ghost use Rattle.ssr_base_trees.specs.Workspace.{file_span_of, trees};
+ghost use Rattle.ide_ssr_bindings.specs.Found.{IsMatch};
 ghost use Rattle.ide_ssr_rewriting.specs.Clashes.{Clash, IsFirst, Rewrite as RewriteValue, clash_le, clash_of, clashes, is_clean};
 ghost use Rattle.ide_ssr_nesting.specs.Lists.{AreLists};
 ghost use Rattle.ide_ssr_rewriting.specs.Edits.{Answers, EditsFit, clashes_under, edit_of, file_cmp, list_at, list_under, range_at};
@@ -21,10 +21,10 @@ ghost use Rattle.ide_ssr_rewriting.specs.Replacements.{piece, text_of_match};
 
 use crate::clashes::{Rewrite, changes_made, first_clash};
 use crate::replacements::{piece, text_of_match};
-use ide_ssr_found::Found;
+use ide_ssr_bindings::FoundMatch;
 use ide_ssr_nesting::{KeptMatches, Lists};
-use ide_ssr_resolving::ResolvedRule;
-use ssr_base::{FileId, FileRange, TextEdit, Workspace};
+use ide_ssr_resolved_rule::ResolvedRule;
+use ssr_base_trees::{FileId, FileRange, TextEdit, Trees};
 use ssr_syntax_kinds::TextRange;
 use std::alloc::{AllocError, Global};
 use std::borrow::CowStr;
@@ -160,7 +160,7 @@ fn all_known(list: &[Rewrite]) -> bool
 /// clash in it, and all texts are known.
 fn piece_if_clean<'a>(
     alloc: Global,
-    workspace: &'a Workspace,
+    workspace: &'a Trees,
     range: Option<FileRange>,
     list: Vec<Rewrite>,
     clash: Option<(FileRange, FileRange)>,
@@ -195,9 +195,9 @@ fn push_piece<'a>(
 /// What stands for a match with these pieces, if they are all.
 fn text_of_pieces(
     alloc: Global,
-    workspace: &Workspace,
+    workspace: &Trees,
     rules: &[ResolvedRule],
-    m: &Found,
+    m: &FoundMatch,
     pieces: &[CowStr<'_>],
     are_all: bool,
 ) -> Result<Option<String>, AllocError>
@@ -241,7 +241,7 @@ impl Pending {
         alloc: Global,
         kept: &KeptMatches<'a>,
         lists: &Lists,
-        m: &Found,
+        m: &FoundMatch,
         place: usize,
         pieces: &mut Vec<CowStr<'a>>,
     ) -> Result<bool, AllocError>

@@ -2,26 +2,26 @@
 
 ghost use Rattle.std.specs.Prelude.{◌≡◌, ◌++◌, All, IfOk, IfSome, OnOk, map, option_map, slice_range, string_bytes, true};
 ghost use Rattle.std.specs.Cow.{cow_str_bytes};
-ghost use Rattle.ssr_base.specs.Applied.{changes_of};
-ghost use Rattle.ssr_base.specs.Changes.{replaced};
-ghost use Rattle.ssr_base.specs.Texts.{is_boundary};
-ghost use Rattle.ssr_base.specs.Workspace.{file_span_of, trees};
-ghost use Rattle.ide_ssr_found.specs.Found.{IsMatch};
+ghost use Rattle.ssr_base_trees.specs.Applied.{changes_of};
+ghost use Rattle.ssr_base_trees.specs.Changes.{replaced};
+ghost use Rattle.ssr_base_trees.specs.Texts.{is_boundary};
+ghost use Rattle.ssr_base_trees.specs.Workspace.{file_span_of, trees};
+ghost use Rattle.ide_ssr_bindings.specs.Found.{IsMatch};
 ghost use Rattle.ide_ssr_rewriting.specs.Replacements.{comments_kept, file_text, piece, template_text, text_of_match};
 ghost use Rattle.ide_ssr_rewriting.specs.Private.Replacements.{FitsFile, IsOf};
 
 use crate::clashes::{Rewrite, changes_made};
 use crate::comments::{kept_comments, push_comments};
 use crate::rendering::rendered;
-use ide_ssr_found::Found;
-use ide_ssr_resolving::ResolvedRule;
-use ssr_base::{FileId, FileRange, Workspace};
+use ide_ssr_bindings::FoundMatch;
+use ide_ssr_resolved_rule::ResolvedRule;
+use ssr_base_trees::{FileId, FileRange, Trees};
 use ssr_syntax_kinds::TextRange;
 use std::alloc::{AllocError, Global};
 use std::borrow::CowStr;
 
 /// The bytes of a file from one place to another; none if these places are the other way round.
-fn between(workspace: &Workspace, file: FileId, from: u32, to: u32) -> &str
+fn between(workspace: &Trees, file: FileId, from: u32, to: u32) -> &str
     requires from { is_boundary (file_text workspace.now file.0) from ≡ true }
     requires to { is_boundary (file_text workspace.now file.0) to ≡ true }
     ensures { result.now ≡ slice_range (file_text workspace.now file.0) from to }
@@ -42,7 +42,7 @@ fn between(workspace: &Workspace, file: FileId, from: u32, to: u32) -> &str
 /// The text of a range with changes of its file made.
 fn replaced(
     alloc: Global,
-    workspace: &Workspace,
+    workspace: &Trees,
     range: FileRange,
     changes: &[(TextRange, String)],
 ) -> Result<String, AllocError>
@@ -66,7 +66,7 @@ fn replaced(
 /// file's text.
 pub(crate) fn piece<'a>(
     alloc: Global,
-    workspace: &'a Workspace,
+    workspace: &'a Trees,
     range: Option<FileRange>,
     list: Vec<Rewrite>,
 ) -> Result<CowStr<'a>, AllocError>
@@ -89,7 +89,7 @@ pub(crate) fn piece<'a>(
 fn template_text(
     alloc: Global,
     rules: &[ResolvedRule],
-    m: &Found,
+    m: &FoundMatch,
     pieces: &[CowStr<'_>],
 ) -> Result<String, AllocError>
     ensures { IfOk result (λ text. string_bytes text ≡ template_text rules.now m.now (map cow_str_bytes pieces.now)) }
@@ -103,8 +103,8 @@ fn template_text(
 /// Adds the comments that a match keeps.
 fn push_kept(
     alloc: Global,
-    workspace: &Workspace,
-    m: &Found,
+    workspace: &Trees,
+    m: &FoundMatch,
     text: &mut String,
 ) -> Result<(), AllocError>
     requires { IsMatch (trees workspace.now) m.now }
@@ -121,9 +121,9 @@ fn push_kept(
 #[tactic(auto, unfolding(crate::specs::Replacements::text_of_match))]
 pub(crate) fn text_of_match(
     alloc: Global,
-    workspace: &Workspace,
+    workspace: &Trees,
     rules: &[ResolvedRule],
-    m: &Found,
+    m: &FoundMatch,
     pieces: &[CowStr<'_>],
 ) -> Result<String, AllocError>
     requires { IsMatch (trees workspace.now) m.now }

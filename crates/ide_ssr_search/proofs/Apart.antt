@@ -5,10 +5,10 @@ use Rattle.std.proofs.lemmas.List.Quantifiers.{all_pairs_push}
 use Rattle.std.proofs.lemmas.List.Elements.{All-nil, All-cons, All-head, All-tail}
 use Rattle.std.proofs.lemmas.List.Kept.{AllPairs-cons}
 use Rattle.std.proofs.lemmas.Option.{same_Some}
-use Rattle.ssr_base.specs.declared.ids.FileRange.{FileRange}
-use Rattle.ssr_base.specs.Workspace.{Planted, file_span_of}
-use Rattle.ide_ssr_found.specs.declared.bindings.Binding.{Binding}
-use Rattle.ide_ssr_found.specs.Found.{held_range, AreDisjoint, ShareNoByte}
+use Rattle.ssr_base_trees.specs.declared.ids.FileRange.{FileRange}
+use Rattle.ssr_base_trees.specs.Workspace.{PlacedTree, file_span_of}
+use Rattle.ide_ssr_bindings.specs.declared.bindings.Binding.{Binding}
+use Rattle.ide_ssr_bindings.specs.Found.{held_range, AreDisjoint, ShareNoByte}
 use Rattle.ide_ssr_search.specs.WholeMatches.{IsPlaced}
 use Rattle.ide_ssr_search.specs.Private.Whole.{AreRanges}
 use Rattle.ssr_syntax_tree.proofs.Lists.{pairs_none, pairs_head, pairs_tail}
@@ -18,7 +18,7 @@ use Rattle.ssr_syntax_tree.proofs.Lists.{pairs_none, pairs_head, pairs_tail}
 abbrev pub Disjoint : FileRange → FileRange → Type 0
 Disjoint a b = AreDisjoint (file_span_of a) (file_span_of b)
 
-module _ (ts : List Planted) (t : ℕ) where
+module _ (ts : List PlacedTree) (t : ℕ) where
   abbrev pub HeldApart : Binding → Binding → Type 0
   HeldApart b c = ShareNoByte ts t b c
 

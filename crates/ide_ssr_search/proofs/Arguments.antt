@@ -11,11 +11,11 @@ use Rattle.ssr_syntax_tree.specs.declared.number.Element.TheVariants as element
 use Rattle.ssr_syntax_tree.specs.declared.number.NodeNo.{NodeNo}
 use Rattle.ssr_syntax_tree.specs.Places.{Part, token_part, node_part, HasElement, node_of, part_of}
 use Rattle.ssr_syntax_tree.proofs.Shared.{node_of-number}
-use Rattle.ssr_base.specs.declared.ids.FileRange.{FileRange}
-use Rattle.ssr_base.specs.Workspace.{Workspace, FileSpan, trees, tree_of, node_id, file_span_of}
+use Rattle.ssr_base_trees.specs.declared.ids.FileRange.{FileRange}
+use Rattle.ssr_base_trees.specs.Workspace.{Workspace, FileSpan, trees, tree_of, node_id, file_span_of}
 use Rattle.ide_ssr_search.specs.Permitted.{first_token_tree, arguments_range}
 use Rattle.ide_ssr_search.specs.Private.Shut.{Shuts}
-use Rattle.ide_ssr_found.proofs.Shared.{is_tree, of_tree, in_tree}
+use Rattle.ide_ssr_bindings.proofs.Shared.{is_tree, of_tree, in_tree}
 
 -- ** The first token tree.
 

@@ -11,12 +11,12 @@ use Rattle.std.proofs.lemmas.List.Elements.{All-head, All-tail}
 use Rattle.std.proofs.lemmas.List.{get_or_push}
 use Rattle.std.proofs.Math.ListN.{get_or-append}
 use Rattle.std.proofs.lemmas.Option.{none-some}
-use Rattle.ssr_base.specs.declared.ids.NodeId.{NodeId}
-use Rattle.ssr_base.specs.contracts.ids.NodeIdOrd.TheImpl as id_order
-use Rattle.ssr_base.specs.Workspace.{Expanded, Workspace, Planted, trees, node_id, same_id, above}
-use Rattle.ssr_base.specs.Built.{IsNodeOf, IsMacroCall, IsBuilt}
-use Rattle.ssr_base.specs.Laws.{IsEarlier, IsBelow, climbed}
-use Rattle.ssr_base.proofs.Shared.{is_up, root_found, same_nodes, mapped}
+use Rattle.ssr_base_trees.specs.declared.ids.NodeId.{NodeId}
+use Rattle.ssr_base_trees.specs.contracts.ids.NodeIdOrd.TheImpl as id_order
+use Rattle.ssr_base_trees.specs.Workspace.{Expanded, Workspace, PlacedTree, trees, node_id, same_id, above}
+use Rattle.ssr_base_trees.specs.Built.{IsNodeOf, IsMacroCall, IsBuilt}
+use Rattle.ssr_base_trees.specs.Laws.{IsEarlier, IsBelow, climbed}
+use Rattle.ssr_base_trees.proofs.Shared.{is_up, root_found, same_nodes, mapped}
 use Rattle.ide_ssr_search.specs.Context.{Context}
 use Rattle.ide_ssr_search.specs.Permitted.{IsInFunction}
 use Rattle.ide_ssr_search.specs.Private.Shut.{IsShutIn, IsShut}
@@ -117,7 +117,7 @@ shut_added w t n old new node is_call shut updates known call =
 
 -- ** What a tree is told of by its call.
 
-pub ground_shut : (ts : List Planted) (root : NodeId) (call : Option NodeId) (shut : Bool) → above ts root ≡ call → IsTrue shut ↔ IsSomeAnd call (IsShut ts) → IsTrue shut ↔ IsShutIn ts root
+pub ground_shut : (ts : List PlacedTree) (root : NodeId) (call : Option NodeId) (shut : Bool) → above ts root ≡ call → IsTrue shut ↔ IsSomeAnd call (IsShut ts) → IsTrue shut ↔ IsShutIn ts root
 ground_shut ts root None shut up known = (
   λ is. absurd (known.0 is),
   λ is. let first = then_some (climbed ts is.1.0) (above ts root) is.0 is.1.1 in absurd (none-some first.0 (sym up ∙ first.1)),
@@ -126,7 +126,7 @@ ground_shut ts root (Some call) shut up known =
     let both = root_shut ts root call up in
     (λ is. both.1 (known.0 is), λ is. known.1 (both.0 is))
 
-pub ground_inside : (ts : List Planted) (root : NodeId) (call function : Option NodeId) (inside : Bool) → above ts root ≡ call
+pub ground_inside : (ts : List PlacedTree) (root : NodeId) (call function : Option NodeId) (inside : Bool) → above ts root ≡ call
     → IsTrue inside ↔ IsSomeAnd call (IsInFunction ts function) → IsTrue inside ↔ IsSomeAnd function (IsBelow ts root)
 ground_inside ts root None function inside up known = (λ is. absurd (known.0 is), λ is. absurd (file_outside ts root function up is))
 ground_inside ts root (Some call) function inside up known =

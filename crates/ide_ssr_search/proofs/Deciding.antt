@@ -9,20 +9,20 @@ use Rattle.ssr_syntax_kinds.specs.declared.kinds.SyntaxKind.TheVariants as k
 use Rattle.ssr_syntax_tree.specs.Syntax.{tokens_of}
 use Rattle.ssr_syntax_tree.specs.Places.{node_of}
 use Rattle.ssr_syntax_tree.proofs.Lists.{at_front, at_back, front_or_back}
-use Rattle.ssr_base.specs.declared.ids.NodeId.{NodeId}
-use Rattle.ssr_base.specs.declared.ids.ScopeId.{ScopeId}
-use Rattle.ssr_base.specs.declared.semantics.Res.{Res}
-use Rattle.ssr_base.specs.declared.semantics.Res.TheVariants as res
-use Rattle.ssr_base.specs.Meanings.{Meanings}
-use Rattle.ssr_base.specs.Workspace.{Workspace, Planted, FileSpan, trees, with_number, above, original_range}
-use Rattle.ssr_base.specs.Built.{IsNodeOf, IsMacroCall, IsBuilt}
-use Rattle.ssr_base.specs.Laws.{climbed, IsBelow, LiesIn, file_root}
-use Rattle.ssr_base.proofs.Shared.{reaches_its_file}
-use Rattle.ide_ssr_resolving.specs.declared.used.UsedPath.{UsedPath}
-use Rattle.ide_ssr_resolving.specs.Resolved.{ResolvedKind}
-use Rattle.ide_ssr_found.specs.declared.bindings.Binding.{Binding}
-use Rattle.ide_ssr_found.proofs.Deciding.{Decided, both, likewise, denied, given, of_some, if_some, each, each_two, some_one, all_of, less, at_most, of_kind, lies_in}
-use Rattle.ide_ssr_found.specs.Found.{AreDisjoint, IsAtOrBelow, HasByte, ShareNoByte, held_range}
+use Rattle.ssr_base_trees.specs.declared.ids.NodeId.{NodeId}
+use Rattle.ssr_base_trees.specs.declared.ids.ScopeId.{ScopeId}
+use Rattle.ssr_base_trees.specs.declared.semantics.Res.{Res}
+use Rattle.ssr_base_trees.specs.declared.semantics.Res.TheVariants as res
+use Rattle.ssr_base_trees.specs.Meanings.{Meanings}
+use Rattle.ssr_base_trees.specs.Workspace.{Workspace, PlacedTree, FileSpan, trees, with_number, above, original_range}
+use Rattle.ssr_base_trees.specs.Built.{IsNodeOf, IsMacroCall, IsBuilt}
+use Rattle.ssr_base_trees.specs.Laws.{climbed, IsBelow, LiesIn, file_root}
+use Rattle.ssr_base_trees.proofs.Shared.{reaches_its_file}
+use Rattle.ide_ssr_resolved_rule.specs.declared.used_paths.UsedPath.{UsedPath}
+use Rattle.ide_ssr_resolved_rule.specs.Resolved.{ResolvedRule}
+use Rattle.ide_ssr_bindings.specs.declared.bindings.Binding.{Binding}
+use Rattle.ide_ssr_bindings.proofs.Deciding.{Decided, both, likewise, denied, given, of_some, if_some, each, each_two, some_one, all_of, less, at_most, of_kind, lies_in}
+use Rattle.ide_ssr_bindings.specs.Found.{AreDisjoint, IsAtOrBelow, HasByte, ShareNoByte, held_range}
 use Rattle.ide_ssr_search.specs.Context.{Context}
 use Rattle.ide_ssr_search.specs.Permitted.{IsUse, arguments_range, IsSearched, IsOpen, names_self, IsInFunction, IsPermitted}
 use Rattle.ide_ssr_search.specs.Printing.{IsReached, CanBeWritten}
@@ -48,7 +48,7 @@ is_searched (r ∷ rs) range =
     likewise (some_one (LiesIn range) (lies_in range) (r ∷ rs)) (λ one. inr one)
     (λ searched. elim searched [ inl none ↦ absurd (cc none) | inr one ↦ one ])
 
-is_placed : (ts : List Planted) (t : ℕ) (o : Option FileSpan) → Decided (IsPlaced ts t o)
+is_placed : (ts : List PlacedTree) (t : ℕ) (o : Option FileSpan) → Decided (IsPlaced ts t o)
 is_placed ts t o =
     of_some (LiesInArguments ts t)
     (λ range. of_some (λ p. IfSome p.call (λ call. IsSomeAnd (arguments_range ts call) (LiesIn range)))
@@ -56,7 +56,7 @@ is_placed ts t o =
     (with_number ts t))
     o
 
-share_no_byte : (ts : List Planted) (t : ℕ) (a b : Binding) → Decided (ShareNoByte ts t a b)
+share_no_byte : (ts : List PlacedTree) (t : ℕ) (a b : Binding) → Decided (ShareNoByte ts t a b)
 share_no_byte ts t a b = by (held_range ts t a) (held_range ts t b) refl refl
   where
     by : (o p : Option FileSpan) → held_range ts t a ≡ o → held_range ts t b ≡ p → Decided (ShareNoByte ts t a b)
@@ -68,7 +68,7 @@ share_no_byte ts t a b = by (held_range ts t a) (held_range ts t b) refl refl
         subst (λ (q : FileSpan). AreDisjoint q u) (same_Some r q (sym is_r ∙ first)) (subst (AreDisjoint r) (same_Some s u (sym is_s ∙ second)) low))
         (λ apart. apart r s is_r is_s)
 
-pub is_placed_match : (ts : List Planted) (x : NodeId) (bindings : List Binding) → Decided (IsPlacedMatch ts x bindings)
+pub is_placed_match : (ts : List PlacedTree) (x : NodeId) (bindings : List Binding) → Decided (IsPlacedMatch ts x bindings)
 is_placed_match ts x bindings =
     likewise
     (both (is_placed ts x.tree (original_range ts x))
@@ -87,7 +87,7 @@ is_reached m scope (res.ConstParam n) = inl tt
 is_reached m scope (res.SelfType n) = inl tt
 is_reached m scope (res.Other n) = inl tt
 
-pub can_be_written : (m : Meanings) (rule : ResolvedKind) (x : NodeId) → Decided (CanBeWritten m rule x)
+pub can_be_written : (m : Meanings) (rule : ResolvedRule) (x : NodeId) → Decided (CanBeWritten m rule x)
 can_be_written m rule x =
     if_some (λ _. IsSomeAnd (m.scope x) (λ scope. All (λ path. IsReached m scope path.res) rule.template_paths))
     (λ _. of_some (λ scope. All (λ path. IsReached m scope path.res) rule.template_paths)
@@ -98,7 +98,7 @@ can_be_written m rule x =
 -- ** What stands above.
 
 -- the nodes above a node, from which the way up ends
-nodes_above : (ts : List Planted) (n : ℕ) (x top : NodeId) → climbed ts n x ≡ Some top → above ts top ≡ None
+nodes_above : (ts : List PlacedTree) (n : ℕ) (x top : NodeId) → climbed ts n x ≡ Some top → above ts top ≡ None
     → (xs : List NodeId) × ((a : NodeId) → IsBelow ts x a ↔ Contains xs a)
 nodes_above ts zero x top is none =
     let same : x ≡ top = same_Some x top is in (
@@ -183,7 +183,7 @@ module _ (w : Workspace) (b : IsBuilt w) (x : NodeId) (node : IsNodeOf (trees w)
       (λ up. (f, (up_from f).0 up, refl)))
       function
 
-  pub is_permitted : (context : Context) (rule : ResolvedKind) → Decided (IsPermitted w context rule x)
+  pub is_permitted : (context : Context) (rule : ResolvedRule) → Decided (IsPermitted w context rule x)
   is_permitted context rule =
       likewise (both (is_open context.restrictions) (given (of_bool (names_self (tokens_of rule.pattern))) (in_function context.function)))
       (λ h. record { open_to_all = h.0; own_self = h.1 })

@@ -8,12 +8,12 @@ use Rattle.std.proofs.lemmas.List.Quantifiers.{all_pairs_push}
 use Rattle.std.proofs.lemmas.Option.{none-some, same_Some, slice_get_within, slice_get-get_or}
 use Rattle.ssr_syntax_tree.specs.Syntax.{Syntax, node_count}
 use Rattle.ssr_syntax_tree.specs.Places.{HasNode}
-use Rattle.ssr_base.specs.declared.ids.NodeId.{NodeId}
-use Rattle.ssr_base.specs.Meanings.{Meanings}
-use Rattle.ssr_base.specs.Workspace.{Workspace, Planted, trees, with_number, tree_of, node_id}
-use Rattle.ide_ssr_resolving.specs.Resolved.{ResolvedKind}
-use Rattle.ide_ssr_found.specs.declared.bindings.Binding.{Binding}
-use Rattle.ide_ssr_found.specs.Found.{Found}
+use Rattle.ssr_base_trees.specs.declared.ids.NodeId.{NodeId}
+use Rattle.ssr_base_trees.specs.Meanings.{Meanings}
+use Rattle.ssr_base_trees.specs.Workspace.{Workspace, PlacedTree, trees, with_number, tree_of, node_id}
+use Rattle.ide_ssr_resolved_rule.specs.Resolved.{ResolvedRule}
+use Rattle.ide_ssr_bindings.specs.declared.bindings.Binding.{Binding}
+use Rattle.ide_ssr_bindings.specs.Found.{FoundMatch}
 use Rattle.ide_ssr_search.specs.Context.{Context}
 use Rattle.ide_ssr_search.specs.Permitted.{IsOpen, IsPermitted}
 use Rattle.ide_ssr_search.specs.WholeMatches.{IsWholeMatch}
@@ -21,26 +21,26 @@ use Rattle.ide_ssr_search.specs.Found.{IsFound, Precedes, AreFound}
 use Rattle.ide_ssr_search.specs.Private.Scan.{IsBefore, AreFoundBefore, TellsMatch, found_of, Adds}
 use Rattle.ssr_syntax_tree.proofs.Lists.{pairs_none}
 use Rattle.ide_ssr_search.proofs.Placed.{whole_binds}
-use Rattle.ssr_base.proofs.Shared.{some_and, planted_within}
-use Rattle.ide_ssr_found.proofs.Shared.{is_tree, in_tree}
-use Rattle.ide_ssr_search.proofs.Trees.{planted_there}
+use Rattle.ssr_base_trees.proofs.Shared.{some_and, placed_within}
+use Rattle.ide_ssr_bindings.proofs.Shared.{is_tree, in_tree}
+use Rattle.ide_ssr_search.proofs.Trees.{placed_there}
 
 -- ** Order.
 
-before_rule : (t n r : ℕ) (m : Found) → IsBefore t n r m → IsBefore t n (r + 1) m
+before_rule : (t n r : ℕ) (m : FoundMatch) → IsBefore t n r m → IsBefore t n (r + 1) m
 before_rule t n r m (inl tree) = inl tree
 before_rule t n r m (inr same) = inr (same.0, elim same.1 [ inl node ↦ inl node | inr here ↦ let low = here.1 in inr (here.0, omega arith) ])
 
-before_node : (t n r : ℕ) (m : Found) → IsBefore t n r m → IsBefore t (n + 1) 0 m
+before_node : (t n r : ℕ) (m : FoundMatch) → IsBefore t n r m → IsBefore t (n + 1) 0 m
 before_node t n r m (inl tree) = inl tree
 before_node t n r m (inr same) = inr (same.0, inl (elim same.1 [ inl node ↦ omega arith | inr here ↦ let e = here.0 in omega arith ]))
 
-before_tree : (t n r : ℕ) (m : Found) → IsBefore t n r m → IsBefore (t + 1) 0 0 m
+before_tree : (t n r : ℕ) (m : FoundMatch) → IsBefore t n r m → IsBefore (t + 1) 0 0 m
 before_tree t n r m (inl tree) = inl (omega arith)
 before_tree t n r m (inr same) = let e = same.0 in inl (omega arith)
 
 -- a match before the next rule at a node comes before the rule, or is one of it there
-rule_cases : (t n r : ℕ) (m : Found) → IsBefore t n (r + 1) m → IsBefore t n r m ⊎ ((m.node.tree ≡ t) × (m.node.node.0 ≡ n) × (m.rule ≡ r))
+rule_cases : (t n r : ℕ) (m : FoundMatch) → IsBefore t n (r + 1) m → IsBefore t n r m ⊎ ((m.node.tree ≡ t) × (m.node.node.0 ≡ n) × (m.rule ≡ r))
 rule_cases t n r m (inl tree) = inl (inl tree)
 rule_cases t n r m (inr same) =
     elim same.1 [
@@ -52,7 +52,7 @@ rule_cases t n r m (inr same) =
           ]
     ]
 
-node_cases : (t n : ℕ) (m : Found) → IsBefore t (n + 1) 0 m → IsBefore t n 0 m ⊎ ((m.node.tree ≡ t) × (m.node.node.0 ≡ n))
+node_cases : (t n : ℕ) (m : FoundMatch) → IsBefore t (n + 1) 0 m → IsBefore t n 0 m ⊎ ((m.node.tree ≡ t) × (m.node.node.0 ≡ n))
 node_cases t n m (inl tree) = inl (inl tree)
 node_cases t n m (inr same) =
     elim same.1 [
@@ -64,17 +64,17 @@ node_cases t n m (inr same) =
       | inr none ↦ absurd (omega (arith, none.1))
     ]
 
-tree_cases : (t : ℕ) (m : Found) → IsBefore (t + 1) 0 0 m → (m.node.tree < t) ⊎ (m.node.tree ≡ t)
+tree_cases : (t : ℕ) (m : FoundMatch) → IsBefore (t + 1) 0 0 m → (m.node.tree < t) ⊎ (m.node.tree ≡ t)
 tree_cases t m (inl tree) = elim (cases_lt m.node.tree t) [ inl low ↦ inl low | inr high ↦ inr (omega arith) ]
 tree_cases t m (inr same) = elim same.1 [ inl none ↦ absurd (omega arith) | inr none ↦ absurd (omega (arith, none.1)) ]
 
 pub at_id : (t n : ℕ) (x : NodeId) → x.tree ≡ t → x.node.0 ≡ n → x ≡ node_id t n
 at_id t n x tree node = ap (λ t. node_id t x.node.0) tree ∙ ap (node_id t) node
 
-module _ (w : Workspace) (meanings : Meanings) (context : Context) (rules : List ResolvedKind) where
+module _ (w : Workspace) (meanings : Meanings) (context : Context) (rules : List ResolvedRule) where
   -- what is found stays while no further match is passed
-  passed : (t n r u m q : ℕ) (ms : List Found) → AreFoundBefore w meanings context rules t n r ms → ((f : Found) → IsBefore t n r f → IsBefore u m q f)
-      → ((f : Found) → IsFound w meanings context rules f → IsBefore u m q f → IsBefore t n r f) → AreFoundBefore w meanings context rules u m q ms
+  passed : (t n r u m q : ℕ) (ms : List FoundMatch) → AreFoundBefore w meanings context rules t n r ms → ((f : FoundMatch) → IsBefore t n r f → IsBefore u m q f)
+      → ((f : FoundMatch) → IsFound w meanings context rules f → IsBefore u m q f → IsBefore t n r f) → AreFoundBefore w meanings context rules u m q ms
   passed t n r u m q ms so_far on back = record {
     in_order = so_far.in_order;
     before = All-weaker (IsBefore t n r) (IsBefore u m q) on ms so_far.before;
@@ -96,11 +96,11 @@ module _ (w : Workspace) (meanings : Meanings) (context : Context) (rules : List
 
   -- ** At a node.
 
-  here_rule : (place : ℕ) (rule : ResolvedKind) (f : Found) (is : IsFound w meanings context rules f) → slice_get rules place ≡ Some rule → f.rule ≡ place → is.rule ≡ rule
+  here_rule : (place : ℕ) (rule : ResolvedRule) (f : FoundMatch) (is : IsFound w meanings context rules f) → slice_get rules place ≡ Some rule → f.rule ≡ place → is.rule ≡ rule
   here_rule place rule f is at same = same_Some is.rule rule (sym is.is_rule ∙ ap (slice_get rules) same ∙ at)
 
   -- the match of a rule at a node
-  here_found : (t n place : ℕ) (rule : ResolvedKind) (f : Found) → slice_get rules place ≡ Some rule → IsFound w meanings context rules f
+  here_found : (t n place : ℕ) (rule : ResolvedRule) (f : FoundMatch) → slice_get rules place ≡ Some rule → IsFound w meanings context rules f
       → f.node.tree ≡ t → f.node.node.0 ≡ n → f.rule ≡ place → IsPermitted w context rule (node_id t n) × IsWholeMatch (trees w) meanings rule (node_id t n) f.bindings
   here_found t n place rule f at is tree node same =
       let x = at_id t n f.node tree node in
@@ -110,20 +110,20 @@ module _ (w : Workspace) (meanings : Meanings) (context : Context) (rules : List
       )
 
   -- a rule has one match at a node
-  pub one_match : (f g : Found) → IsFound w meanings context rules f → IsFound w meanings context rules g → f.node ≡ g.node → f.rule ≡ g.rule → f ≡ g
+  pub one_match : (f g : FoundMatch) → IsFound w meanings context rules f → IsFound w meanings context rules g → f.node ≡ g.node → f.rule ≡ g.rule → f ≡ g
   one_match f g is other node rule =
       let x = g.node in
       let at = some_and (with_number (trees w) x.tree) (λ p. HasNode p.syntax x.node.0) other.permitted.open_to_all.node in
       let s = at.0.syntax in
-      let tree : tree_of w x.tree ≡ Some s = ap (option_map (λ (p : Planted). p.syntax)) at.1 in
+      let tree : tree_of w x.tree ≡ Some s = ap (option_map (λ (p : PlacedTree). p.syntax)) at.1 in
       let known = here_found x.tree x.node.0 g.rule other.rule f other.is_rule is (ap (λ (x : NodeId). x.tree) node) (ap (λ (x : NodeId). x.node.0) node) rule in
       let bindings : f.bindings ≡ g.bindings =
       same_Some f.bindings g.bindings
       (sym (whole_binds w meanings s other.rule x f.bindings tree known.1) ∙ whole_binds w meanings s other.rule x g.bindings tree other.whole) in
-      let made : ℕ → NodeId → List Binding → Found = λ rule node bindings. record { rule = rule; node = node; bindings = bindings } in
+      let made : ℕ → NodeId → List Binding → FoundMatch = λ rule node bindings. record { rule = rule; node = node; bindings = bindings } in
       ap (λ r. made r f.node f.bindings) rule ∙ ap (λ x. made g.rule x f.bindings) node ∙ ap (made g.rule x) bindings
 
-  pub added_by : (t n place : ℕ) (s : Syntax) (rule : ResolvedKind) (ms : List Found) (bindings : Option (List Binding)) → tree_of w t ≡ Some s → slice_get rules place ≡ Some rule
+  pub added_by : (t n place : ℕ) (s : Syntax) (rule : ResolvedRule) (ms : List FoundMatch) (bindings : Option (List Binding)) → tree_of w t ≡ Some s → slice_get rules place ≡ Some rule
       → AreFoundBefore w meanings context rules t n place ms → TellsMatch w meanings context rule (node_id t n) bindings
       → AreFoundBefore w meanings context rules t n (place + 1) (ms ++ found_of place (node_id t n) bindings)
   added_by t n place s rule ms None tree at so_far tells =
@@ -137,7 +137,7 @@ module _ (w : Workspace) (meanings : Meanings) (context : Context) (rules : List
             absurd (tells f.bindings known.0 known.1)
       ]))
   added_by t n place s rule ms (Some bindings) tree at so_far tells =
-      let new : Found = record { rule = place; node = node_id t n; bindings = bindings } in
+      let new : FoundMatch = record { rule = place; node = node_id t n; bindings = bindings } in
       let found : IsFound w meanings context rules new = record { rule = rule; is_rule = at; permitted = tells.0; whole = tells.1 } in
       let itself : IsBefore t n (place + 1) new = inr (refl, inr (refl, omega arith)) in
       record {
@@ -152,14 +152,14 @@ module _ (w : Workspace) (meanings : Meanings) (context : Context) (rules : List
             ];
       }
 
-  pub found_more : (t n place : ℕ) (s : Syntax) (rule : ResolvedKind) (old new : List Found) → tree_of w t ≡ Some s → place < length rules → rule ≡ get_or rules place rule
+  pub found_more : (t n place : ℕ) (s : Syntax) (rule : ResolvedRule) (old new : List FoundMatch) → tree_of w t ≡ Some s → place < length rules → rule ≡ get_or rules place rule
       → AreFoundBefore w meanings context rules t n place old → Adds w meanings context rule place (node_id t n) old new → AreFoundBefore w meanings context rules t n (place + 1) new
   found_more t n place s rule old new tree within read so_far adds =
       subst (AreFoundBefore w meanings context rules t n (place + 1)) (sym adds.added)
       (added_by t n place s rule old adds.bindings tree (slice_get-get_or rules place rule within ∙ ap Some (sym read)) so_far adds.tells)
 
   -- all rules are tried
-  pub found_at : (t n place : ℕ) (ms : List Found) → length rules ≤ place → AreFoundBefore w meanings context rules t n place ms → AreFoundBefore w meanings context rules t (n + 1) 0 ms
+  pub found_at : (t n place : ℕ) (ms : List FoundMatch) → length rules ≤ place → AreFoundBefore w meanings context rules t n place ms → AreFoundBefore w meanings context rules t (n + 1) 0 ms
   found_at t n place ms all so_far =
       passed t n place t (n + 1) 0 ms so_far (before_node t n place)
       (λ f is before.
@@ -173,7 +173,7 @@ module _ (w : Workspace) (meanings : Meanings) (context : Context) (rules : List
       ])
 
   -- nothing is found at a node that isn't open
-  pub found_nothing : (t n : ℕ) (ms : List Found) → (IsOpen w context.restrictions (node_id t n) → ⊥) → AreFoundBefore w meanings context rules t n 0 ms → AreFoundBefore w meanings context rules t (n + 1) 0 ms
+  pub found_nothing : (t n : ℕ) (ms : List FoundMatch) → (IsOpen w context.restrictions (node_id t n) → ⊥) → AreFoundBefore w meanings context rules t n 0 ms → AreFoundBefore w meanings context rules t (n + 1) 0 ms
   found_nothing t n ms shut so_far =
       passed t n 0 t (n + 1) 0 ms so_far (before_node t n 0)
       (λ f is before.
@@ -183,8 +183,8 @@ module _ (w : Workspace) (meanings : Meanings) (context : Context) (rules : List
       ])
 
   -- nor at one that no rule matches
-  pub found_unmatched : (t n : ℕ) (ms : List Found)
-      → ((place : ℕ) (rule : ResolvedKind) (bindings : List Binding) → slice_get rules place ≡ Some rule → IsWholeMatch (trees w) meanings rule (node_id t n) bindings → ⊥)
+  pub found_unmatched : (t n : ℕ) (ms : List FoundMatch)
+      → ((place : ℕ) (rule : ResolvedRule) (bindings : List Binding) → slice_get rules place ≡ Some rule → IsWholeMatch (trees w) meanings rule (node_id t n) bindings → ⊥)
       → AreFoundBefore w meanings context rules t n 0 ms → AreFoundBefore w meanings context rules t (n + 1) 0 ms
   found_unmatched t n ms none so_far =
       passed t n 0 t (n + 1) 0 ms so_far (before_node t n 0)
@@ -198,7 +198,7 @@ module _ (w : Workspace) (meanings : Meanings) (context : Context) (rules : List
 
   -- ** At a tree.
 
-  pub found_in : (t n : ℕ) (s : Syntax) (ms : List Found) → tree_of w t ≡ Some s → 1 + node_count s.children ≤ n → AreFoundBefore w meanings context rules t n 0 ms
+  pub found_in : (t n : ℕ) (s : Syntax) (ms : List FoundMatch) → tree_of w t ≡ Some s → 1 + node_count s.children ≤ n → AreFoundBefore w meanings context rules t n 0 ms
       → AreFoundBefore w meanings context rules (t + 1) 0 0 ms
   found_in t n s ms tree all so_far =
       passed t n 0 (t + 1) 0 0 ms so_far (before_tree t n 0)
@@ -213,19 +213,19 @@ module _ (w : Workspace) (meanings : Meanings) (context : Context) (rules : List
 
   -- ** At the end.
 
-  pub found_all : (t : ℕ) (ms : List Found) → None ≡ tree_of w t → AreFoundBefore w meanings context rules t 0 0 ms → AreFound w meanings context rules ms
+  pub found_all : (t : ℕ) (ms : List FoundMatch) → None ≡ tree_of w t → AreFoundBefore w meanings context rules t 0 0 ms → AreFound w meanings context rules ms
   found_all t ms none so_far = record {
     in_order = so_far.in_order;
     are = λ f. (
       λ had. All-contains (IsFound w meanings context rules) ms f so_far.are had,
       λ is.
           let at = some_and (with_number (trees w) f.node.tree) (λ p. HasNode p.syntax f.node.node.0) is.permitted.open_to_all.node in
-          let within = planted_within (trees w) f.node.tree at.0 at.1 in
+          let within = placed_within (trees w) f.node.tree at.0 at.1 in
           so_far.complete f is (inl (elim (cases_lt f.node.tree t) [
             | inl before ↦ before
             | inr behind ↦
-                let there = planted_there (trees w) t (omega arith) in
-                absurd (none-some there.0.syntax (none ∙ ap (option_map (λ (p : Planted). p.syntax)) there.1))
+                let there = placed_there (trees w) t (omega arith) in
+                absurd (none-some there.0.syntax (none ∙ ap (option_map (λ (p : PlacedTree). p.syntax)) there.1))
           ])),
     );
   }

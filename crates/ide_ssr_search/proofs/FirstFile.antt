@@ -4,26 +4,26 @@ use Rattle.std.proofs.lemmas.List.Elements.{All-nil}
 use Rattle.std.proofs.lemmas.Option.{none-some}
 use Rattle.std.specs.Option.{option_map}
 use Rattle.ssr_syntax_tree.specs.Syntax.{source_of}
-use Rattle.ssr_base.specs.declared.ids.FileRange.{FileRange}
-use Rattle.ssr_base.specs.Meanings.{Meanings}
-use Rattle.ssr_base.specs.Workspace.{Workspace, Planted, trees, tree_of}
+use Rattle.ssr_base_trees.specs.declared.ids.FileRange.{FileRange}
+use Rattle.ssr_base_trees.specs.Meanings.{Meanings}
+use Rattle.ssr_base_trees.specs.Workspace.{Workspace, PlacedTree, trees, tree_of}
 use Rattle.ide_ssr_search.specs.declared.context_error.ContextError.{ContextError}
 use Rattle.ide_ssr_search.specs.declared.context_error.ContextError.TheVariants as errors
 use Rattle.ide_ssr_search.specs.Context.{Context}
 use Rattle.ide_ssr_search.specs.Making.{HasFile, LiesInText, AreOfFiles, IsContext, Makes, MakesFirst, first_position}
-use Rattle.ssr_base.proofs.Shared.{and_some, length-trees}
-use Rattle.ide_ssr_search.proofs.Trees.{planted_there}
+use Rattle.ssr_base_trees.proofs.Shared.{and_some, length-trees}
+use Rattle.ide_ssr_search.proofs.Trees.{placed_there}
 
 -- a file has a tree
 pub file_there : (w : Workspace) (file : ℕ) → None ≡ tree_of w file → HasFile w file → ⊥
 file_there w file none has =
-    let there = planted_there (trees w) file (omega (arith, length-trees w)) in
-    none-some there.0.syntax (none ∙ ap (option_map (λ (p : Planted). p.syntax)) there.1)
+    let there = placed_there (trees w) file (omega (arith, length-trees w)) in
+    none-some there.0.syntax (none ∙ ap (option_map (λ (p : PlacedTree). p.syntax)) there.1)
 
 first_in_text : (w : Workspace) → 0 < length w.files → LiesInText w first_position
 first_in_text w has =
-    let there = planted_there (trees w) 0 (omega (arith, length-trees w)) in
-    (has, and_some (tree_of w 0) (λ tree. 0 ≤ length (source_of tree)) there.0.syntax (ap (option_map (λ (p : Planted). p.syntax)) there.1) (omega arith))
+    let there = placed_there (trees w) 0 (omega (arith, length-trees w)) in
+    (has, and_some (tree_of w 0) (λ tree. 0 ≤ length (source_of tree)) there.0.syntax (ap (option_map (λ (p : PlacedTree). p.syntax)) there.1) (omega arith))
 
 pub makes_first : (w : Workspace) (m : Meanings) (restrictions : List FileRange) (made : Result Context ContextError) → restrictions ≡ [] → 0 < length w.files
     → Makes w m first_position restrictions made → MakesFirst w m made

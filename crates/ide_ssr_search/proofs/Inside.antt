@@ -6,15 +6,15 @@ use Rattle.std.specs.Prelude.{◌↔◌, IsTrue}
 use Rattle.std.specs.Option.{IsSomeAnd}
 use Rattle.ssr_syntax_tree.specs.Syntax.{Syntax}
 use Rattle.ssr_syntax_tree.specs.Places.{HasNode}
-use Rattle.ssr_base.specs.declared.ids.NodeId.{NodeId}
-use Rattle.ssr_base.specs.Workspace.{Workspace, Planted, trees, node_id, above}
-use Rattle.ssr_base.specs.Laws.{IsBelow, climbed}
-use Rattle.ssr_base.specs.Built.{IsBuilt}
-use Rattle.ssr_base.proofs.Shared.{is_up}
-use Rattle.ide_ssr_found.specs.Found.{IsAtOrBelow}
+use Rattle.ssr_base_trees.specs.declared.ids.NodeId.{NodeId}
+use Rattle.ssr_base_trees.specs.Workspace.{Workspace, PlacedTree, trees, node_id, above}
+use Rattle.ssr_base_trees.specs.Laws.{IsBelow, climbed}
+use Rattle.ssr_base_trees.specs.Built.{IsBuilt}
+use Rattle.ssr_base_trees.proofs.Shared.{is_up}
+use Rattle.ide_ssr_bindings.specs.Found.{IsAtOrBelow}
 use Rattle.ide_ssr_search.specs.Permitted.{IsInFunction}
 use Rattle.ide_ssr_search.specs.Private.Scan.{StandsIn}
-use Rattle.ide_ssr_found.proofs.Shared.{IsTree}
+use Rattle.ide_ssr_bindings.proofs.Shared.{IsTree}
 use Rattle.ide_ssr_search.proofs.Trees.{then_some, split, over_below, root_below, up_below, below_up}
 
 -- what stands above the root of a tree is no node of it
@@ -68,13 +68,13 @@ module _ (w : Workspace) (b : IsBuilt w) (t : ℕ) (s : Syntax) (at : IsTree (tr
   )
 
 -- the root of a tree stands below the function if its call stands in it
-pub root_inside : (ts : List Planted) (root call : NodeId) (function : Option NodeId) → above ts root ≡ Some call
+pub root_inside : (ts : List PlacedTree) (root call : NodeId) (function : Option NodeId) → above ts root ≡ Some call
     → IsSomeAnd function (IsBelow ts root) ↔ IsInFunction ts function call
 root_inside ts root call None up = (λ no. no, λ no. no)
 root_inside ts root call (Some f) up = (below_up ts root call f up, up_below ts root call f up)
 
 -- that of a file doesn't
-pub file_outside : (ts : List Planted) (root : NodeId) (function : Option NodeId) → above ts root ≡ None → IsSomeAnd function (IsBelow ts root) → ⊥
+pub file_outside : (ts : List PlacedTree) (root : NodeId) (function : Option NodeId) → above ts root ≡ None → IsSomeAnd function (IsBelow ts root) → ⊥
 file_outside ts root None up below = below
 file_outside ts root (Some f) up below =
     let first = then_some (climbed ts below.0) (above ts root) f below.1 in

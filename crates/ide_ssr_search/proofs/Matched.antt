@@ -7,20 +7,20 @@ use Rattle.std.proofs.lemmas.Option.{none-some, same_Some}
 use Rattle.ssr_syntax_tree.specs.declared.number.NodeNo.{NodeNo}
 use Rattle.ssr_syntax_tree.specs.Places.{HasNode, node_of, root_of}
 use Rattle.ssr_syntax_tree.proofs.Lists.{same_rising}
-use Rattle.ssr_base.specs.Meanings.{Meanings}
-use Rattle.ssr_base.specs.Laws.{LiesIn, IsAmong}
-use Rattle.ssr_base.specs.Origins.{Span}
-use Rattle.ssr_base.specs.Workspace.{Workspace, Planted, FileSpan, trees, with_number, node_id, file_of, has_node, original_in, original_range, run_of, has_run, original_run_in}
-use Rattle.ssr_base.proofs.Shared.{some_and, and_some, spans_nest}
-use Rattle.ide_ssr_resolving.specs.Resolved.{ResolvedKind}
-use Rattle.ide_ssr_found.specs.declared.bindings.Binding.{Binding}
-use Rattle.ide_ssr_found.specs.declared.bindings.Held.{Held}
-use Rattle.ide_ssr_found.specs.declared.bindings.Held.TheVariants as held
-use Rattle.ide_ssr_found.specs.Apart.{tokens_held, IsHeldIn}
-use Rattle.ide_ssr_found.specs.Found.{Found, HasByte, IsInRange, IsMatch, AreMatches, range_of_held, held_range}
+use Rattle.ssr_base_trees.specs.Meanings.{Meanings}
+use Rattle.ssr_base_trees.specs.Laws.{LiesIn, IsAmong}
+use Rattle.ssr_base_trees.specs.Origins.{Span}
+use Rattle.ssr_base_trees.specs.Workspace.{Workspace, PlacedTree, FileSpan, trees, with_number, node_id, file_of, has_node, original_in, original_range, run_of, has_run, original_run_in}
+use Rattle.ssr_base_trees.proofs.Shared.{some_and, and_some, spans_nest}
+use Rattle.ide_ssr_resolved_rule.specs.Resolved.{ResolvedRule}
+use Rattle.ide_ssr_bindings.specs.declared.bindings.Binding.{Binding}
+use Rattle.ide_ssr_bindings.specs.declared.bindings.Held.{Held}
+use Rattle.ide_ssr_bindings.specs.declared.bindings.Held.TheVariants as held
+use Rattle.ide_ssr_bindings.specs.Apart.{tokens_held, IsHeldIn}
+use Rattle.ide_ssr_bindings.specs.Found.{FoundMatch, HasByte, IsInRange, IsMatch, AreMatches, range_of_held, held_range}
 use Rattle.ide_ssr_matching.specs.Matching.{Matches}
 use Rattle.ide_ssr_matching.proofs.Shared.{held_in}
-use Rattle.ide_ssr_found.proofs.Shared.{IsTree, in_tree}
+use Rattle.ide_ssr_bindings.proofs.Shared.{IsTree, in_tree}
 use Rattle.ide_ssr_search.specs.Context.{Context}
 use Rattle.ide_ssr_search.specs.WholeMatches.{LiesInArguments, IsPlaced}
 use Rattle.ide_ssr_search.specs.Found.{IsFound, Precedes, AreFound}
@@ -28,7 +28,7 @@ use Rattle.ide_ssr_search.proofs.Finding.{one_match}
 
 -- ** What is held comes from where the match does.
 
-module _ (ts : List Planted) (t : ℕ) (p : Planted) (plants : with_number ts t ≡ Some p) where
+module _ (ts : List PlacedTree) (t : ℕ) (p : PlacedTree) (plants : with_number ts t ≡ Some p) where
   abbrev in_file : Span → FileSpan
   in_file span = record { file = file_of ts t; span = span }
 
@@ -64,8 +64,8 @@ module _ (ts : List Planted) (t : ℕ) (p : Planted) (plants : with_number ts t 
       and_some (held_range ts t b) (λ inner. IsSomeAnd (original_range ts x) (LiesIn inner)) inner.0 inner.1
       (and_some (original_range ts x) (LiesIn inner.0) outer.0 outer.1 (held_lies b.held node inner.0 outer.0 known.among inner.1 outer.1))
 
-module _ (w : Workspace) (meanings : Meanings) (context : Context) (rules : List ResolvedKind) where
-  is_match : (m : Found) → IsFound w meanings context rules m → IsMatch (trees w) m
+module _ (w : Workspace) (meanings : Meanings) (context : Context) (rules : List ResolvedRule) where
+  is_match : (m : FoundMatch) → IsFound w meanings context rules m → IsMatch (trees w) m
   is_match m is =
       let ts = trees w in
       let t = m.node.tree in
@@ -84,7 +84,7 @@ module _ (w : Workspace) (meanings : Meanings) (context : Context) (rules : List
         apart = is.whole.apart;
       }
 
-  pub are_matches : (ms : List Found) → AreFound w meanings context rules ms → AreMatches (trees w) ms
+  pub are_matches : (ms : List FoundMatch) → AreFound w meanings context rules ms → AreMatches (trees w) ms
   are_matches ms found = record {
     each = All-weaker (Contains ms) (IsMatch (trees w)) (λ m at. is_match m ((found.are m).0 at)) ms (All-contains_itself ms);
     one = λ k m at_k at_m. one_match w meanings context rules k m ((found.are k).0 at_k) ((found.are m).0 at_m);
@@ -92,7 +92,7 @@ module _ (w : Workspace) (meanings : Meanings) (context : Context) (rules : List
 
   -- ** One list.
 
-  one_way : (k m : Found) → Precedes k m → Precedes m k → ⊥
+  one_way : (k m : FoundMatch) → Precedes k m → Precedes m k → ⊥
   one_way k m (inl less) (inl more) = omega arith
   one_way k m (inl less) (inr same) = omega (arith, same.0)
   one_way k m (inr same) (inl more) = omega (arith, same.0)
@@ -102,7 +102,7 @@ module _ (w : Workspace) (meanings : Meanings) (context : Context) (rules : List
         | inr here ↦ elim back.1 [ inl more ↦ omega (arith, here.0) | inr there ↦ omega (arith, here.1, there.1) ]
       ]
 
-  pub one_list : (ms ns : List Found) → AreFound w meanings context rules ms → AreFound w meanings context rules ns → ms ≡ ns
+  pub one_list : (ms ns : List FoundMatch) → AreFound w meanings context rules ms → AreFound w meanings context rules ns → ms ≡ ns
   one_list ms ns found again =
       same_rising Precedes one_way ms ns found.in_order again.in_order
       (λ m at. (again.are m).1 ((found.are m).0 at))

@@ -5,15 +5,15 @@ use Rattle.std.specs.Prelude.{IsSome, is_some}
 use Rattle.ssr_syntax_kinds.specs.declared.kinds.SyntaxKind.TheVariants as k
 use Rattle.ssr_syntax_tree.specs.Syntax.{Syntax}
 use Rattle.ssr_syntax_tree.specs.Places.{HasNode, node_of}
-use Rattle.ssr_base.specs.declared.ids.NodeId.{NodeId}
-use Rattle.ssr_base.specs.Workspace.{Workspace, Planted, FileSpan, trees, node_id, original_range}
-use Rattle.ide_ssr_found.specs.Found.{HasByte}
+use Rattle.ssr_base_trees.specs.declared.ids.NodeId.{NodeId}
+use Rattle.ssr_base_trees.specs.Workspace.{Workspace, PlacedTree, FileSpan, trees, node_id, original_range}
+use Rattle.ide_ssr_bindings.specs.Found.{HasByte}
 use Rattle.ide_ssr_search.specs.Permitted.{IsUse, arguments_range, IsSearched, IsOpen}
 use Rattle.ide_ssr_search.specs.Private.Shut.{IsShutIn}
-use Rattle.ssr_base.proofs.Shared.{and_some, some_and}
-use Rattle.ide_ssr_found.proofs.Shared.{IsTree, of_tree, in_tree}
+use Rattle.ssr_base_trees.proofs.Shared.{and_some, some_and}
+use Rattle.ide_ssr_bindings.proofs.Shared.{IsTree, of_tree, in_tree}
 
-some_range : (ts : List Planted) (a : NodeId) (o : Option FileSpan) → arguments_range ts a ≡ o → (arguments_range ts a ≡ None → ⊥) → IsSome (arguments_range ts a)
+some_range : (ts : List PlacedTree) (a : NodeId) (o : Option FileSpan) → arguments_range ts a ≡ o → (arguments_range ts a ≡ None → ⊥) → IsSome (arguments_range ts a)
 some_range ts a None is some = absurd (some is)
 some_range ts a (Some range) is some = ap is_some is
 

@@ -7,22 +7,22 @@ use Rattle.std.proofs.lemmas.Option.{none-some, same_Some}
 use Rattle.ssr_syntax_tree.specs.Syntax.{Syntax}
 use Rattle.ssr_syntax_tree.specs.Places.{node_of, root_of}
 use Rattle.ssr_syntax_tree.proofs.Shared.{offset_grows}
-use Rattle.ssr_base.specs.declared.ids.FileRange.{FileRange}
-use Rattle.ssr_base.specs.declared.ids.NodeId.{NodeId}
-use Rattle.ssr_base.specs.Meanings.{Meanings}
-use Rattle.ssr_base.specs.Origins.{Span, cover_of, covered}
-use Rattle.ssr_base.specs.Workspace.{Workspace, Planted, FileSpan, trees, with_number, tree_of, node_id, file_of, original_in, own_span, original_range, original_run_in, own_run_span, has_run, file_span_of, cover_below}
-use Rattle.ssr_base.specs.Laws.{LiesIn}
-use Rattle.ide_ssr_resolving.specs.Resolved.{ResolvedKind}
-use Rattle.ide_ssr_found.specs.declared.bindings.Binding.{Binding}
-use Rattle.ide_ssr_found.specs.declared.bindings.Held.{Held}
-use Rattle.ide_ssr_found.specs.declared.bindings.Held.TheVariants as held
-use Rattle.ide_ssr_found.specs.Apart.{tokens_held, HasHeld, IsHeldIn, AreApart}
+use Rattle.ssr_base_trees.specs.declared.ids.FileRange.{FileRange}
+use Rattle.ssr_base_trees.specs.declared.ids.NodeId.{NodeId}
+use Rattle.ssr_base_trees.specs.Meanings.{Meanings}
+use Rattle.ssr_base_trees.specs.Origins.{Span, cover_of, covered}
+use Rattle.ssr_base_trees.specs.Workspace.{Workspace, PlacedTree, FileSpan, trees, with_number, tree_of, node_id, file_of, original_in, own_span, original_range, original_run_in, own_run_span, has_run, file_span_of, cover_below}
+use Rattle.ssr_base_trees.specs.Laws.{LiesIn}
+use Rattle.ide_ssr_resolved_rule.specs.Resolved.{ResolvedRule}
+use Rattle.ide_ssr_bindings.specs.declared.bindings.Binding.{Binding}
+use Rattle.ide_ssr_bindings.specs.declared.bindings.Held.{Held}
+use Rattle.ide_ssr_bindings.specs.declared.bindings.Held.TheVariants as held
+use Rattle.ide_ssr_bindings.specs.Apart.{tokens_held, HasHeld, IsHeldIn, AreApart}
 use Rattle.ide_ssr_matching.specs.Bindings.{bindings_of}
-use Rattle.ide_ssr_found.specs.Found.{range_of_held, held_range, AreDisjoint, ShareNoByte}
+use Rattle.ide_ssr_bindings.specs.Found.{range_of_held, held_range, AreDisjoint, ShareNoByte}
 use Rattle.ide_ssr_matching.specs.Matching.{Matches}
 use Rattle.ide_ssr_matching.proofs.Shared.{bindings_of-Matches, Matches-bindings_of, held_in, held_apart}
-use Rattle.ide_ssr_found.proofs.Shared.{is_tree, of_tree, in_tree}
+use Rattle.ide_ssr_bindings.proofs.Shared.{is_tree, of_tree, in_tree}
 use Rattle.ide_ssr_search.specs.declared.bounds.Bounds.{Bounds}
 use Rattle.ide_ssr_search.specs.declared.bounds.Bounds.TheVariants as limits
 use Rattle.ide_ssr_search.specs.Permitted.{arguments_range}
@@ -31,11 +31,11 @@ use Rattle.ide_ssr_search.specs.WholeMatches.{LiesInArguments, IsPlaced, IsWhole
 use Rattle.ide_ssr_search.specs.Private.Bounds.{AreBoundsOf, AreBounds, LiesInBounds}
 use Rattle.ide_ssr_search.specs.Private.Whole.{AreRanges, IsPlacedMatch, IsMatched, TellsWhole}
 use Rattle.ide_ssr_search.proofs.Apart.{Disjoint, ranges_placed, ranges_apart, ranges_disjoint}
-use Rattle.ssr_base.proofs.Shared.{some_and, and_some, told_is}
+use Rattle.ssr_base_trees.proofs.Shared.{some_and, and_some, told_is}
 
 -- ** Bounds.
 
-bounds_hold : (ts : List Planted) (call : Option NodeId) (bounds : Bounds) (range : FileSpan)
+bounds_hold : (ts : List PlacedTree) (call : Option NodeId) (bounds : Bounds) (range : FileSpan)
     → MatchOption call (bounds ≡ limits.Everywhere) (λ call. AreBoundsOf (arguments_range ts call) bounds)
     → LiesInBounds bounds range ↔ IfSome call (λ call. IsSomeAnd (arguments_range ts call) (LiesIn range))
 bounds_hold ts None bounds range are = (λ lies. tt, λ lies. subst (λ b. LiesInBounds b range) (sym are) tt)
@@ -51,10 +51,10 @@ bounds_hold ts (Some call) limits.Nowhere range are = (
 )
 
 -- the bounds of a tree hold what lies in the arguments of its call
-pub in_bounds : (ts : List Planted) (t : ℕ) (bounds : Bounds) (range : FileSpan) → AreBounds ts t bounds → LiesInBounds bounds range ↔ LiesInArguments ts t range
+pub in_bounds : (ts : List PlacedTree) (t : ℕ) (bounds : Bounds) (range : FileSpan) → AreBounds ts t bounds → LiesInBounds bounds range ↔ LiesInArguments ts t range
 in_bounds ts t bounds range are =
-    let Known : Planted → Type 0 = λ p. MatchOption p.call (bounds ≡ limits.Everywhere) (λ call. AreBoundsOf (arguments_range ts call) bounds) in
-    let Lies : Planted → Type 0 = λ p. IfSome p.call (λ call. IsSomeAnd (arguments_range ts call) (LiesIn range)) in
+    let Known : PlacedTree → Type 0 = λ p. MatchOption p.call (bounds ≡ limits.Everywhere) (λ call. AreBoundsOf (arguments_range ts call) bounds) in
+    let Lies : PlacedTree → Type 0 = λ p. IfSome p.call (λ call. IsSomeAnd (arguments_range ts call) (LiesIn range)) in
     let had = some_and (with_number ts t) Known are in
     let both = bounds_hold ts had.0.call bounds range had.2 in (
       λ lies. and_some (with_number ts t) Lies had.0 had.1 (both.0 lies),
@@ -63,7 +63,7 @@ in_bounds ts t bounds range are =
     )
 
 -- a range that is there lies in the bounds of a tree exactly if it is placed
-pub placed_by : (ts : List Planted) (t : ℕ) (bounds : Bounds) (o : Option FileSpan) → AreBounds ts t bounds → IsSomeAnd o (LiesInBounds bounds) ↔ IsPlaced ts t o
+pub placed_by : (ts : List PlacedTree) (t : ℕ) (bounds : Bounds) (o : Option FileSpan) → AreBounds ts t bounds → IsSomeAnd o (LiesInBounds bounds) ↔ IsPlaced ts t o
 placed_by ts t bounds None are = (λ lies. lies, λ placed. placed)
 placed_by ts t bounds (Some range) are = in_bounds ts t bounds range are
 
@@ -78,7 +78,7 @@ none_told None known is = known
 none_told (Some p) known is = let e : true ≡ false = is in cc
 
 -- what is tested of a match in an expansion
-pub placed_match : (ts : List Planted) (x : NodeId) (bindings : List Binding) (ranges tested : List FileRange) (apart : Bool) → IsPlaced ts x.tree (original_range ts x) → AreRanges ts x.tree bindings ranges
+pub placed_match : (ts : List PlacedTree) (x : NodeId) (bindings : List Binding) (ranges tested : List FileRange) (apart : Bool) → IsPlaced ts x.tree (original_range ts x) → AreRanges ts x.tree bindings ranges
     → tested ≡ ranges → IsTrue apart ↔ AllPairs Disjoint tested → IsTrue apart ↔ IsPlacedMatch ts x bindings
 placed_match ts x bindings ranges tested apart placed are same known =
     let both = subst (λ rs. IsTrue apart ↔ AllPairs Disjoint rs) same known in (
@@ -92,7 +92,7 @@ placed_match ts x bindings ranges tested apart placed are same known =
 
 -- ** In a file.
 
-module _ (ts : List Planted) (t : ℕ) (p : Planted) (plants : with_number ts t ≡ Some p) (uncalled : p.call ≡ None) where
+module _ (ts : List PlacedTree) (t : ℕ) (p : PlacedTree) (plants : with_number ts t ≡ Some p) (uncalled : p.call ≡ None) where
   abbrev in_this_file : Span → FileSpan
   in_this_file span = record { file = file_of ts t; span = span }
 
@@ -135,13 +135,13 @@ module _ (ts : List Planted) (t : ℕ) (p : Planted) (plants : with_number ts t 
       (subst (AreDisjoint (own a.held)) (same_Some (own b.held) s (sym (own_range b.held has_b) ∙ second)) (own_apart a b apart))
 
 -- so what placeholders hold there is placed, and no two share a byte
-pub file_placed : (ts : List Planted) (x : NodeId) (bindings : List Binding) → AreBounds ts x.tree limits.Everywhere → IsMatched ts x bindings → IsPlacedMatch ts x bindings
+pub file_placed : (ts : List PlacedTree) (x : NodeId) (bindings : List Binding) → AreBounds ts x.tree limits.Everywhere → IsMatched ts x bindings → IsPlacedMatch ts x bindings
 file_placed ts x bindings are m =
     let p = m.tree in
     let t = x.tree in
     let n = x.node.0 in
     let had = some_and (with_number ts t) (λ p. MatchOption p.call (limits.Everywhere ≡ limits.Everywhere) (λ call. AreBoundsOf (arguments_range ts call) limits.Everywhere)) are in
-    let uncalled : p.call ≡ None = no_call had.0.call p.call (ap (λ (p : Planted). p.call) (same_Some had.0 p (sym had.1 ∙ m.is))) had.2 in
+    let uncalled : p.call ≡ None = no_call had.0.call p.call (ap (λ (p : PlacedTree). p.call) (same_Some had.0 p (sym had.1 ∙ m.is))) had.2 in
     let matches = bindings_of-Matches m.meanings t m.rule (root_of m.rule.pattern) (node_of p.syntax n) bindings m.matches in
     let bound = held_in p.syntax m.meanings t m.rule (root_of m.rule.pattern) n bindings m.has matches in
     let apart = held_apart p.syntax m.meanings t m.rule (root_of m.rule.pattern) n bindings m.has matches in
@@ -159,7 +159,7 @@ file_placed ts x bindings are m =
 
 -- ** Whole matches.
 
-pub whole : (w : Workspace) (meanings : Meanings) (tree : Syntax) (rule : ResolvedKind) (x : NodeId) (bindings : List Binding) → tree_of w x.tree ≡ Some tree
+pub whole : (w : Workspace) (meanings : Meanings) (tree : Syntax) (rule : ResolvedRule) (x : NodeId) (bindings : List Binding) → tree_of w x.tree ≡ Some tree
     → Some bindings ≡ bindings_of meanings x.tree rule (root_of rule.pattern) (node_of tree x.node.0) → IsPlacedMatch (trees w) x bindings → CanBeWritten meanings rule x
     → IsWholeMatch (trees w) meanings rule x bindings
 whole w meanings tree rule x bindings is found placed written =
@@ -175,21 +175,21 @@ whole w meanings tree rule x bindings is found placed written =
     }
 
 -- a whole match binds what is computed
-pub whole_binds : (w : Workspace) (meanings : Meanings) (tree : Syntax) (rule : ResolvedKind) (x : NodeId) (bindings : List Binding) → tree_of w x.tree ≡ Some tree
+pub whole_binds : (w : Workspace) (meanings : Meanings) (tree : Syntax) (rule : ResolvedRule) (x : NodeId) (bindings : List Binding) → tree_of w x.tree ≡ Some tree
     → IsWholeMatch (trees w) meanings rule x bindings → bindings_of meanings x.tree rule (root_of rule.pattern) (node_of tree x.node.0) ≡ Some bindings
 whole_binds w meanings tree rule x bindings is whole =
     Matches-bindings_of meanings x.tree rule (root_of rule.pattern) (node_of tree x.node.0) bindings
     (in_tree (trees w) x.tree tree (λ s. Matches meanings x.tree rule (root_of rule.pattern) (node_of s x.node.0) bindings) (is_tree w x.tree tree is) whole.matches)
 
-pub not_matched : (w : Workspace) (meanings : Meanings) (tree : Syntax) (rule : ResolvedKind) (x : NodeId) → tree_of w x.tree ≡ Some tree
+pub not_matched : (w : Workspace) (meanings : Meanings) (tree : Syntax) (rule : ResolvedRule) (x : NodeId) → tree_of w x.tree ≡ Some tree
     → None ≡ bindings_of meanings x.tree rule (root_of rule.pattern) (node_of tree x.node.0) → TellsWhole (trees w) meanings rule x None
 not_matched w meanings tree rule x is none bindings whole = none-some bindings (none ∙ whole_binds w meanings tree rule x bindings is whole)
 
-pub not_placed : (w : Workspace) (meanings : Meanings) (tree : Syntax) (rule : ResolvedKind) (x : NodeId) (found : List Binding) → tree_of w x.tree ≡ Some tree
+pub not_placed : (w : Workspace) (meanings : Meanings) (tree : Syntax) (rule : ResolvedRule) (x : NodeId) (found : List Binding) → tree_of w x.tree ≡ Some tree
     → Some found ≡ bindings_of meanings x.tree rule (root_of rule.pattern) (node_of tree x.node.0) → (IsPlacedMatch (trees w) x found → ⊥) → TellsWhole (trees w) meanings rule x None
 not_placed w meanings tree rule x found is matches out bindings whole =
     let same : bindings ≡ found = same_Some bindings found (sym (whole_binds w meanings tree rule x bindings is whole) ∙ sym matches) in
     out (subst (IsPlacedMatch (trees w) x) same (record { placed = whole.placed; bindings_placed = whole.bindings_placed; apart = whole.apart }))
 
-pub not_written : (trees : List Planted) (meanings : Meanings) (rule : ResolvedKind) (x : NodeId) → (CanBeWritten meanings rule x → ⊥) → TellsWhole trees meanings rule x None
+pub not_written : (trees : List PlacedTree) (meanings : Meanings) (rule : ResolvedRule) (x : NodeId) → (CanBeWritten meanings rule x → ⊥) → TellsWhole trees meanings rule x None
 not_written trees meanings rule x not bindings whole = not whole.written

@@ -1,9 +1,9 @@
 -- Which ranges are searched.
 use Rattle.std.proofs.Common.{◌≡◌, ℕ, ◌<◌, ◌≤◌, List, [], ◌∷◌, length, map, get_or, sym, ◌∙◌, subst, inl, inr, arith}
 use Rattle.std.proofs.lemmas.List.{get_or-map, length-map}
-use Rattle.ssr_base.specs.declared.ids.FileRange.{FileRange}
-use Rattle.ssr_base.specs.Workspace.{FileSpan, file_span_of}
-use Rattle.ssr_base.specs.Laws.{LiesIn}
+use Rattle.ssr_base_trees.specs.declared.ids.FileRange.{FileRange}
+use Rattle.ssr_base_trees.specs.Workspace.{FileSpan, file_span_of}
+use Rattle.ssr_base_trees.specs.Laws.{LiesIn}
 use Rattle.ide_ssr_search.specs.Permitted.{IsSearched}
 
 pub searched_nowhere : (rs : List FileRange) (range : FileSpan) (n : ℕ) → length rs ≤ n → 0 < length rs

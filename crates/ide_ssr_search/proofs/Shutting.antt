@@ -4,21 +4,21 @@ use Rattle.std.proofs.lemmas.Bool.{cases_lt, ltb-true, lt-ltb}
 use Rattle.std.specs.Prelude.{◌↔◌, nat_lt, IsTrue}
 use Rattle.ssr_syntax_tree.specs.Syntax.{Syntax}
 use Rattle.ssr_syntax_tree.specs.Places.{HasNode, node_of, size_of}
-use Rattle.ssr_base.specs.declared.ids.NodeId.{NodeId}
-use Rattle.ssr_base.specs.Workspace.{Planted, node_id, above}
+use Rattle.ssr_base_trees.specs.declared.ids.NodeId.{NodeId}
+use Rattle.ssr_base_trees.specs.Workspace.{PlacedTree, node_id, above}
 use Rattle.ide_ssr_search.specs.Private.Shut.{Shuts, IsShutIn, IsShut, TellsPast}
-use Rattle.ide_ssr_found.proofs.Shared.{IsTree}
+use Rattle.ide_ssr_bindings.proofs.Shared.{IsTree}
 use Rattle.ide_ssr_search.proofs.Trees.{split, over_below, root_below, up_below, below_up}
 
 -- of the nodes of a tree up to before the number n, one that has the number m among those below it
-abbrev ShutsBefore : List Planted → ℕ → Syntax → ℕ → ℕ → Type 0
+abbrev ShutsBefore : List PlacedTree → ℕ → Syntax → ℕ → ℕ → Type 0
 ShutsBefore trees t syntax n m = (a : ℕ) × (a < n) × Shuts trees (node_id t a) × (m < a + size_of (node_of syntax a))
 
 -- of the nodes from n on, those before `past` are shut in by what stands above the tree, or by a node before n
-pub record IsPast (trees : List Planted) (t : ℕ) (syntax : Syntax) (n past : ℕ) : Type 0 where
+pub record IsPast (trees : List PlacedTree) (t : ℕ) (syntax : Syntax) (n past : ℕ) : Type 0 where
   pub known : (m : ℕ) → n ≤ m → HasNode syntax m → (m < past) ↔ (IsShutIn trees (node_id t 0) ⊎ ShutsBefore trees t syntax n m)
 
-module _ (ts : List Planted) (t : ℕ) (s : Syntax) (at : IsTree ts t s) where
+module _ (ts : List PlacedTree) (t : ℕ) (s : Syntax) (at : IsTree ts t s) where
   -- a node is shut in by what stands above its tree, or by a node of the tree before it
   from_shut : (n : ℕ) → HasNode s n → IsShutIn ts (node_id t n) → IsShutIn ts (node_id t 0) ⊎ ShutsBefore ts t s n n
   from_shut n has shut =
@@ -96,6 +96,6 @@ tested m n P known = (λ is. known.0 (ltb-true m n is), λ p. lt-ltb m n (known.
 -- ** Calls.
 
 -- the root of what a call stands for is shut in as what is directly below the call
-pub root_shut : (ts : List Planted) (root call : NodeId) → above ts root ≡ Some call → IsShutIn ts root ↔ IsShut ts call
+pub root_shut : (ts : List PlacedTree) (root call : NodeId) → above ts root ≡ Some call → IsShutIn ts root ↔ IsShut ts call
 root_shut ts root call up =
     (λ shut. (shut.0, below_up ts root call shut.0 up shut.1, shut.2), λ shut. (shut.0, up_below ts root call shut.0 up shut.1, shut.2))

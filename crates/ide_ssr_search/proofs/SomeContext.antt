@@ -7,15 +7,15 @@ use Rattle.ssr_syntax_kinds.specs.declared.kinds.SyntaxKind.TheVariants as k
 use Rattle.ssr_syntax_tree.specs.Syntax.{Syntax, node_count, token_count, source_of}
 use Rattle.ssr_syntax_tree.specs.Places.{HasNode, HasToken, HoldsByte, node_of, size_of, offset_of}
 use Rattle.ssr_syntax_tree.proofs.Shared.{inside, below_root}
-use Rattle.ssr_base.specs.declared.ids.FilePosition.{FilePosition}
-use Rattle.ssr_base.specs.declared.ids.FileRange.{FileRange}
-use Rattle.ssr_base.specs.Meanings.{Meanings}
-use Rattle.ssr_base.specs.Workspace.{Workspace, tree_of, node_id, file_span_of}
-use Rattle.ssr_base.proofs.Shared.{some_and}
+use Rattle.ssr_base_trees.specs.declared.ids.FilePosition.{FilePosition}
+use Rattle.ssr_base_trees.specs.declared.ids.FileRange.{FileRange}
+use Rattle.ssr_base_trees.specs.Meanings.{Meanings}
+use Rattle.ssr_base_trees.specs.Workspace.{Workspace, tree_of, node_id, file_span_of}
+use Rattle.ssr_base_trees.proofs.Shared.{some_and}
 use Rattle.ide_ssr_search.specs.Laws.{ContextExists}
 use Rattle.ide_ssr_search.specs.Making.{restricting}
 use Rattle.ide_ssr_search.specs.Positions.{EndsAt, HoldsAt, IsNear, IsFirst, IsNextSibling, IsLeftFor, Leads, stays, goes_on, Settles, IsNodeAt, IsFunctionAround, IsInnermost}
-use Rattle.ide_ssr_found.proofs.Deciding.{Decided, both, either, likewise, last_of, less, at_most, of_kind}
+use Rattle.ide_ssr_bindings.proofs.Deciding.{Decided, both, either, likewise, last_of, less, at_most, of_kind}
 use Rattle.ide_ssr_search.proofs.PositionNodes.{Spans, root_spans, is_parent, way, way_shorter}
 
 module _ (s : Syntax) where

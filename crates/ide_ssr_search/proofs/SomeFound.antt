@@ -4,26 +4,26 @@ use Rattle.std.specs.Option.{option_map}
 use Rattle.ssr_syntax_tree.specs.Syntax.{Syntax, node_count}
 use Rattle.ssr_syntax_tree.specs.Places.{HasNode, node_of, root_of}
 use Rattle.ssr_syntax_tree.proofs.Lists.{stands_at}
-use Rattle.ssr_base.specs.Meanings.{Meanings}
-use Rattle.ssr_base.specs.Workspace.{Workspace, Planted, trees, with_number, tree_of, node_id}
-use Rattle.ssr_base.specs.Built.{IsBuilt}
-use Rattle.ssr_base.proofs.Shared.{planted_within}
-use Rattle.ide_ssr_resolving.specs.Resolved.{ResolvedKind}
-use Rattle.ide_ssr_found.specs.declared.bindings.Binding.{Binding}
+use Rattle.ssr_base_trees.specs.Meanings.{Meanings}
+use Rattle.ssr_base_trees.specs.Workspace.{Workspace, PlacedTree, trees, with_number, tree_of, node_id}
+use Rattle.ssr_base_trees.specs.Built.{IsBuilt}
+use Rattle.ssr_base_trees.proofs.Shared.{placed_within}
+use Rattle.ide_ssr_resolved_rule.specs.Resolved.{ResolvedRule}
+use Rattle.ide_ssr_bindings.specs.declared.bindings.Binding.{Binding}
 use Rattle.ide_ssr_matching.specs.Bindings.{bindings_of}
-use Rattle.ide_ssr_found.specs.Found.{Found}
+use Rattle.ide_ssr_bindings.specs.Found.{FoundMatch}
 use Rattle.ide_ssr_search.specs.Context.{Context}
 use Rattle.ide_ssr_search.specs.Found.{AreFound}
 use Rattle.ide_ssr_search.specs.Private.Scan.{AreFoundBefore, TellsMatch, found_of}
-use Rattle.ide_ssr_found.proofs.Shared.{is_tree, of_tree}
-use Rattle.ide_ssr_search.proofs.Trees.{planted_there}
+use Rattle.ide_ssr_bindings.proofs.Shared.{is_tree, of_tree}
+use Rattle.ide_ssr_search.proofs.Trees.{placed_there}
 use Rattle.ide_ssr_search.proofs.Placed.{whole, not_matched, not_placed, not_written}
 use Rattle.ide_ssr_search.proofs.Finding.{found_none, added_by, found_at, found_in, found_all}
 use Rattle.ide_ssr_search.proofs.Deciding.{is_permitted, is_placed_match, can_be_written}
 
-module _ (w : Workspace) (b : IsBuilt w) (meanings : Meanings) (context : Context) (rules : List ResolvedKind) where
+module _ (w : Workspace) (b : IsBuilt w) (meanings : Meanings) (context : Context) (rules : List ResolvedRule) where
   -- what the placeholders of a rule hold at a node, or that it has no match there
-  module _ (rule : ResolvedKind) (t n : ℕ) (s : Syntax) (tree : tree_of w t ≡ Some s) (has : HasNode s n) where
+  module _ (rule : ResolvedRule) (t n : ℕ) (s : Syntax) (tree : tree_of w t ≡ Some s) (has : HasNode s n) where
     abbrev Told : Type 0
     Told = (bindings : Option (List Binding)) × TellsMatch w meanings context rule (node_id t n) bindings
 
@@ -49,10 +49,10 @@ module _ (w : Workspace) (b : IsBuilt w) (meanings : Meanings) (context : Contex
   -- ** One step after another, of which so many are left.
 
   abbrev Further : ℕ → ℕ → Type 0
-  Further t n = (ms : List Found) × AreFoundBefore w meanings context rules t n 0 ms
+  Further t n = (ms : List FoundMatch) × AreFoundBefore w meanings context rules t n 0 ms
 
   module _ (t : ℕ) (s : Syntax) (tree : tree_of w t ≡ Some s) where
-    rules_tried : (n : ℕ) → HasNode s n → (left place : ℕ) → place + left ≡ length rules → (ms : List Found) → AreFoundBefore w meanings context rules t n place ms → Further t (n + 1)
+    rules_tried : (n : ℕ) → HasNode s n → (left place : ℕ) → place + left ≡ length rules → (ms : List FoundMatch) → AreFoundBefore w meanings context rules t n place ms → Further t (n + 1)
     rules_tried n has zero place all ms so_far = (ms, found_at w meanings context rules t n place ms (omega arith) so_far)
     rules_tried n has (suc left) place all ms so_far =
         let rule = stands_at rules place (omega arith) in
@@ -60,22 +60,22 @@ module _ (w : Workspace) (b : IsBuilt w) (meanings : Meanings) (context : Contex
         rules_tried n has left (place + 1) (omega arith) (ms ++ found_of place (node_id t n) match.0)
         (added_by w meanings context rules t n place s rule.0 ms match.0 tree rule.1 so_far match.1)
 
-    nodes_tried : (left n : ℕ) → n + left ≡ 1 + node_count s.children → (ms : List Found) → AreFoundBefore w meanings context rules t n 0 ms → Further (t + 1) 0
+    nodes_tried : (left n : ℕ) → n + left ≡ 1 + node_count s.children → (ms : List FoundMatch) → AreFoundBefore w meanings context rules t n 0 ms → Further (t + 1) 0
     nodes_tried zero n all ms so_far = (ms, found_in w meanings context rules t n s ms tree (omega arith) so_far)
     nodes_tried (suc left) n all ms so_far =
         let next = rules_tried n (omega arith) (length rules) 0 (omega arith) ms so_far in
         nodes_tried left (n + 1) (omega arith) next.0 next.1
 
-  trees_tried : (left t : ℕ) → t + left ≡ length (trees w) → (ms : List Found) → AreFoundBefore w meanings context rules t 0 0 ms → (found : List Found) × AreFound w meanings context rules found
+  trees_tried : (left t : ℕ) → t + left ≡ length (trees w) → (ms : List FoundMatch) → AreFoundBefore w meanings context rules t 0 0 ms → (found : List FoundMatch) × AreFound w meanings context rules found
   trees_tried zero t all ms so_far = (ms, found_all w meanings context rules t ms (none_there (with_number (trees w) t) refl) so_far)
     where
-      none_there : (o : Option Planted) → with_number (trees w) t ≡ o → None ≡ option_map (λ (p : Planted). p.syntax) o
+      none_there : (o : Option PlacedTree) → with_number (trees w) t ≡ o → None ≡ option_map (λ (p : PlacedTree). p.syntax) o
       none_there None is = refl
-      none_there (Some p) is = absurd (omega (arith, planted_within (trees w) t p is))
+      none_there (Some p) is = absurd (omega (arith, placed_within (trees w) t p is))
   trees_tried (suc left) t all ms so_far =
-      let p = planted_there (trees w) t (omega arith) in
-      let next = nodes_tried t p.0.syntax (ap (option_map (λ (p : Planted). p.syntax)) p.1) (1 + node_count p.0.syntax.children) 0 (omega arith) ms so_far in
+      let p = placed_there (trees w) t (omega arith) in
+      let next = nodes_tried t p.0.syntax (ap (option_map (λ (p : PlacedTree). p.syntax)) p.1) (1 + node_count p.0.syntax.children) 0 (omega arith) ms so_far in
       trees_tried left (t + 1) (omega arith) next.0 next.1
 
-  pub some_found : (found : List Found) × AreFound w meanings context rules found
+  pub some_found : (found : List FoundMatch) × AreFound w meanings context rules found
   some_found = trees_tried (length (trees w)) 0 (omega arith) [] (found_none w meanings context rules)

@@ -5,12 +5,12 @@ use Rattle.std.proofs.lemmas.Option.{none-some, same_Some}
 use Rattle.std.specs.Option.{option_and_then}
 use Rattle.ssr_syntax_tree.specs.Syntax.{Syntax}
 use Rattle.ssr_syntax_tree.specs.Places.{HasNode, node_of}
-use Rattle.ssr_base.specs.declared.ids.NodeId.{NodeId}
-use Rattle.ssr_base.specs.Workspace.{Workspace, Planted, trees, with_number, tree_of, node_id, above_in, above}
-use Rattle.ssr_base.specs.Laws.{climbed, IsBelow}
-use Rattle.ssr_base.proofs.Shared.{planted_first, planted_earlier, planted_within, length-trees, told_is, climbed_next}
-use Rattle.ide_ssr_found.specs.Found.{IsAtOrBelow}
-use Rattle.ide_ssr_found.proofs.Shared.{IsTree, is_tree}
+use Rattle.ssr_base_trees.specs.declared.ids.NodeId.{NodeId}
+use Rattle.ssr_base_trees.specs.Workspace.{Workspace, PlacedTree, trees, with_number, tree_of, node_id, above_in, above}
+use Rattle.ssr_base_trees.specs.Laws.{climbed, IsBelow}
+use Rattle.ssr_base_trees.proofs.Shared.{placed_first, placed_earlier, placed_within, length-trees, told_is, climbed_next}
+use Rattle.ide_ssr_bindings.specs.Found.{IsAtOrBelow}
+use Rattle.ide_ssr_bindings.proofs.Shared.{IsTree, is_tree}
 use Rattle.ssr_syntax_tree.proofs.Shared.{IsOver, inside, below_root}
 
 pub then_some : {A B : Type 0} (f : A → Option B) (o : Option A) (y : B) → option_and_then f o ≡ Some y → (x : A) × (o ≡ Some x) × (f x ≡ Some y)
@@ -19,23 +19,23 @@ then_some f (Some x) y is = (x, refl, is)
 
 -- ** Trees.
 
-pub planted_there : (ts : List Planted) (t : ℕ) → t < length ts → (p : Planted) × (with_number ts t ≡ Some p)
-planted_there [] t within = absurd (omega arith)
-planted_there (q ∷ earlier) t within =
+pub placed_there : (ts : List PlacedTree) (t : ℕ) → t < length ts → (p : PlacedTree) × (with_number ts t ≡ Some p)
+placed_there [] t within = absurd (omega arith)
+placed_there (q ∷ earlier) t within =
     elim (cases_eq t (length earlier)) [
-      | inl here ↦ (q, planted_first q earlier t here)
+      | inl here ↦ (q, placed_first q earlier t here)
       | inr other ↦
-          let before = planted_there earlier t (omega arith) in
-          (before.0, planted_earlier q earlier t other ∙ before.1)
+          let before = placed_there earlier t (omega arith) in
+          (before.0, placed_earlier q earlier t other ∙ before.1)
     ]
 
 -- a tree that is there has one of their numbers
 pub tree_within : (w : Workspace) (t : ℕ) (s : Syntax) → Some s ≡ tree_of w t → t < length w.files + length w.expansions
-tree_within w t s is = let at = is_tree w t s (sym is) in omega (arith, planted_within (trees w) t at.tree at.is, length-trees w)
+tree_within w t s is = let at = is_tree w t s (sym is) in omega (arith, placed_within (trees w) t at.tree at.is, length-trees w)
 
 -- ** One step up.
 
-pub above_inner : (ts : List Planted) (t n : ℕ) (s : Syntax) → IsTree ts t s → HasNode s n → 0 < n → above ts (node_id t n) ≡ Some (node_id t (node_of s n).parent)
+pub above_inner : (ts : List PlacedTree) (t n : ℕ) (s : Syntax) → IsTree ts t s → HasNode s n → 0 < n → above ts (node_id t n) ≡ Some (node_id t (node_of s n).parent)
 above_inner ts t n s at has inner =
     let had : HasNode at.tree.syntax n = subst (λ s. HasNode s n) (sym at.same) has in
     told_is (above_in (node_id t n)) ts (node_id t n) at.tree at.is had
@@ -44,7 +44,7 @@ above_inner ts t n s at has inner =
 
 -- ** Further up.
 
-pub below_up : (ts : List Planted) (x y a : NodeId) → above ts x ≡ Some y → IsBelow ts x a → IsAtOrBelow ts y a
+pub below_up : (ts : List PlacedTree) (x y a : NodeId) → above ts x ≡ Some y → IsBelow ts x a → IsAtOrBelow ts y a
 below_up ts x y a up below =
     let first = then_some (climbed ts below.0) (above ts x) a below.1 in
     from below.0 (subst (λ y. climbed ts below.0 y ≡ Some a) (same_Some first.0 y (sym first.1 ∙ up)) first.2)
@@ -53,13 +53,13 @@ below_up ts x y a up below =
     from zero is = inl (same_Some y a is)
     from (suc n) is = inr (n, is)
 
-pub up_below : (ts : List Planted) (x y a : NodeId) → above ts x ≡ Some y → IsAtOrBelow ts y a → IsBelow ts x a
+pub up_below : (ts : List PlacedTree) (x y a : NodeId) → above ts x ≡ Some y → IsAtOrBelow ts y a → IsBelow ts x a
 up_below ts x y a up (inl same) = (0, climbed_next ts 0 x y up ∙ ap Some same)
 up_below ts x y a up (inr below) = (suc below.0, climbed_next ts (suc below.0) x y up ∙ below.1)
 
 -- ** In a tree, by numbers.
 
-module _ (ts : List Planted) (t : ℕ) (s : Syntax) (at : IsTree ts t s) where
+module _ (ts : List PlacedTree) (t : ℕ) (s : Syntax) (at : IsTree ts t s) where
   abbrev IsAbove : ℕ → NodeId → Type 0
   IsAbove n a = ((a.tree ≡ t) × IsOver s a.node.0 n) ⊎ IsBelow ts (node_id t 0) a
 

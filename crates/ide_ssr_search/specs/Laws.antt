@@ -1,9 +1,9 @@
 -- What holds of making a search: the words of its law.
 use Rattle.std.specs.Prelude.{ℕ, List, IsSome}
-use Rattle.ssr_base.specs.declared.ids.FilePosition.{FilePosition}
-use Rattle.ssr_base.specs.declared.ids.FileRange.{FileRange}
-use Rattle.ssr_base.specs.Meanings.{Meanings}
-use Rattle.ssr_base.specs.Workspace.{Workspace, node_id}
+use Rattle.ssr_base_trees.specs.declared.ids.FilePosition.{FilePosition}
+use Rattle.ssr_base_trees.specs.declared.ids.FileRange.{FileRange}
+use Rattle.ssr_base_trees.specs.Meanings.{Meanings}
+use Rattle.ssr_base_trees.specs.Workspace.{Workspace, node_id}
 use Rattle.ide_ssr_search.specs.Context.{Context}
 use Rattle.ide_ssr_search.specs.Making.{LiesInText, AreOfFiles, IsContext}
 

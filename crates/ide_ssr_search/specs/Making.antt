@@ -3,10 +3,10 @@ use Rattle.std.specs.Prelude.{ℕ, ◌≡◌, ◌<◌, ◌≤◌, ◌⊎◌, Lis
 use Rattle.std.specs.List.{filter}
 use Rattle.std.specs.Option.{IsSomeAnd, option_map}
 use Rattle.ssr_syntax_tree.specs.Syntax.{Syntax, source_of}
-use Rattle.ssr_base.specs.declared.ids.FileRange.{FileRange}
-use Rattle.ssr_base.specs.declared.ids.FilePosition.{FilePosition}
-use Rattle.ssr_base.specs.Meanings.{Meanings}
-use Rattle.ssr_base.specs.Workspace.{Workspace, tree_of, node_id, file_span_of}
+use Rattle.ssr_base_trees.specs.declared.ids.FileRange.{FileRange}
+use Rattle.ssr_base_trees.specs.declared.ids.FilePosition.{FilePosition}
+use Rattle.ssr_base_trees.specs.Meanings.{Meanings}
+use Rattle.ssr_base_trees.specs.Workspace.{Workspace, tree_of, node_id, file_span_of}
 use Rattle.ide_ssr_search.specs.declared.context_error.ContextError.{ContextError}
 use Rattle.ide_ssr_search.specs.declared.context_error.ContextError.TheVariants as errors
 use Rattle.ide_ssr_search.specs.Context.{Context}

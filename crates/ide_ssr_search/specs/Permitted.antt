@@ -6,15 +6,15 @@ use Rattle.ssr_syntax_kinds.specs.declared.kinds.SyntaxKind.TheVariants as k
 use Rattle.ssr_syntax_kinds.specs.Kinds.{same_kind, is_trivia}
 use Rattle.ssr_syntax_tree.specs.Syntax.{Token, tokens_of}
 use Rattle.ssr_syntax_tree.specs.Places.{Part, token_part, node_part, node_of, parts_of}
-use Rattle.ssr_base.specs.declared.ids.NodeId.{NodeId}
-use Rattle.ssr_base.specs.Workspace.{Workspace, Planted, FileSpan, trees, with_number, node_id, original_range}
-use Rattle.ssr_base.specs.Built.{IsNodeOf, IsMacroCall}
-use Rattle.ssr_base.specs.Laws.{IsBelow, LiesIn}
-use Rattle.ide_ssr_resolving.specs.Resolved.{ResolvedKind}
-use Rattle.ide_ssr_found.specs.Found.{IsAtOrBelow, HasByte}
+use Rattle.ssr_base_trees.specs.declared.ids.NodeId.{NodeId}
+use Rattle.ssr_base_trees.specs.Workspace.{Workspace, PlacedTree, FileSpan, trees, with_number, node_id, original_range}
+use Rattle.ssr_base_trees.specs.Built.{IsNodeOf, IsMacroCall}
+use Rattle.ssr_base_trees.specs.Laws.{IsBelow, LiesIn}
+use Rattle.ide_ssr_resolved_rule.specs.Resolved.{ResolvedRule}
+use Rattle.ide_ssr_bindings.specs.Found.{IsAtOrBelow, HasByte}
 use Rattle.ide_ssr_search.specs.Context.{Context}
 
-abbrev pub IsUse : List Planted → NodeId → Type 0
+abbrev pub IsUse : List PlacedTree → NodeId → Type 0
 IsUse trees x = IsSomeAnd (with_number trees x.tree) (λ p. (node_of p.syntax x.node.0).kind ≡ k.USE)
 
 -- ** The arguments of a macro call.
@@ -27,14 +27,14 @@ first_token_tree (node_part node ∷ rest) =
     if same_kind node.kind k.TOKEN_TREE then Some node.number else first_token_tree rest
 
 -- a call's first child that is a token tree
-abbrev pub arguments_of : List Planted → NodeId → Option NodeId
+abbrev pub arguments_of : List PlacedTree → NodeId → Option NodeId
 arguments_of trees call =
     option_and_then
     (λ p. option_map (node_id call.tree) (first_token_tree (parts_of (node_of p.syntax call.node.0))))
     (with_number trees call.tree)
 
 -- where the arguments of a macro call come from
-abbrev pub arguments_range : List Planted → NodeId → Option FileSpan
+abbrev pub arguments_range : List PlacedTree → NodeId → Option FileSpan
 arguments_range trees call = option_and_then (original_range trees) (arguments_of trees call)
 
 -- ** What is asked of a node, whatever the rule.
@@ -71,11 +71,11 @@ names_self [] = false
 names_self (token ∷ tokens) = (same_kind token.kind k.SELF_KW && not (goes_on tokens)) || names_self tokens
 
 -- a node stands in the function whose `self` is meant, at its node or below it
-abbrev pub IsInFunction : List Planted → Option NodeId → NodeId → Type 0
+abbrev pub IsInFunction : List PlacedTree → Option NodeId → NodeId → Type 0
 IsInFunction trees function x = IsSomeAnd function (IsAtOrBelow trees x)
 
 -- ** What is asked of it for a rule.
 
-pub record IsPermitted (w : Workspace) (context : Context) (rule : ResolvedKind) (x : NodeId) : Type 0 where
+pub record IsPermitted (w : Workspace) (context : Context) (rule : ResolvedRule) (x : NodeId) : Type 0 where
   pub open_to_all : IsOpen w context.restrictions x
   pub own_self : IsTrue (names_self (tokens_of rule.pattern)) → IsInFunction (trees w) context.function x

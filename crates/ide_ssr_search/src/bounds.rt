@@ -1,12 +1,12 @@
 //! Where matches in a tree have to lie.
 ghost use Rattle.std.specs.Prelude.{◌≡◌, ◌↔◌, IsTrue, IsSome};
-ghost use Rattle.ssr_base.specs.Workspace.{trees, tree_of, file_span_of};
-ghost use Rattle.ssr_base.specs.Built.{IsNodeOf, IsBuilt};
+ghost use Rattle.ssr_base_trees.specs.Workspace.{trees, tree_of, file_span_of};
+ghost use Rattle.ssr_base_trees.specs.Built.{IsNodeOf, IsBuilt};
 ghost use Rattle.ide_ssr_search.specs.Permitted.{arguments_range};
 ghost use Rattle.ide_ssr_search.specs.Private.Bounds.{AreBoundsOf, AreBounds, LiesInBounds};
 
 use crate::permitted::{arguments_range, lies_in};
-use ssr_base::{FileRange, NodeId, Workspace};
+use ssr_base_trees::{FileRange, NodeId, Trees};
 use ssr_syntax_tree::NodeNo;
 
 /// Where the original ranges of matches in a tree have to lie: anywhere in a file, and in a tree that a macro call stands
@@ -20,7 +20,7 @@ pub(crate) enum Bounds {
 
 impl Bounds {
     /// The bounds of the matches in a tree.
-    pub(crate) fn of(workspace: &Workspace, tree: u32) -> Bounds
+    pub(crate) fn of(workspace: &Trees, tree: u32) -> Bounds
         requires built { IsBuilt workspace.now }
         requires has { IsSome (tree_of workspace.now tree) }
         ensures { AreBounds (trees workspace.now) tree result }
@@ -36,7 +36,7 @@ impl Bounds {
     }
 
     /// The bounds of the matches in what a call stands for.
-    fn of_call(workspace: &Workspace, call: NodeId) -> Bounds
+    fn of_call(workspace: &Trees, call: NodeId) -> Bounds
         requires { IsNodeOf (trees workspace.now) call }
         ensures { AreBoundsOf (arguments_range (trees workspace.now) call) result }
     {

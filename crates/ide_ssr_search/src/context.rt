@@ -1,13 +1,13 @@
 //! What a search is made for: where names are looked up, which ranges are searched, and the function around a position.
 ghost use Rattle.std.specs.Prelude.{◌≡◌, ◌↔◌, ◌⊎◌, IsTrue, IfOk, MatchResult, All, map};
-ghost use Rattle.ssr_base.specs.Workspace.{file_span_of};
+ghost use Rattle.ssr_base_trees.specs.Workspace.{file_span_of};
 ghost use Rattle.ide_ssr_search.specs.Making.{restricting, HasFile, LiesInText, Makes, MakesFirst};
 ghost use Rattle.ide_ssr_search.specs.Private.Files.{IsFileAt, IsFunctionAt};
 ghost use Rattle.ssr_syntax_tree.specs.Places.{HasNode};
 
 use crate::context_error::ContextError;
 use crate::positions::{function_around, node_at};
-use ssr_base::{FileId, FilePosition, FileRange, NodeId, ScopeId, Semantics, Workspace};
+use ssr_base_trees::{FileId, FilePosition, FileRange, NodeId, ScopeId, Semantics, Trees};
 use ssr_syntax_tree::{NodeNo, Tree};
 use std::alloc::{AllocError, Global};
 use std::marker::Model;
@@ -26,7 +26,7 @@ impl Model for Context {
 
     ghost Value = { ContextValue };
 
-    ghost use Rattle.ssr_base.specs.Workspace.{file_span_of};
+    ghost use Rattle.ssr_base_trees.specs.Workspace.{file_span_of};
 
     ghost view = { λ c. record { scope = c.scope; restrictions = map file_span_of c.restrictions.items; function = c.function } };
 }
@@ -45,7 +45,7 @@ fn restricting(alloc: Global, restrictions: &[FileRange]) -> Result<Vec<FileRang
 }
 
 /// Whether there are files of the numbers that ranges have.
-fn are_of_files(workspace: &Workspace, ranges: &[FileRange]) -> bool
+fn are_of_files(workspace: &Trees, ranges: &[FileRange]) -> bool
     ensures { IsTrue result ↔ All (λ range. HasFile workspace.now range.file_id.0) ranges.now }
 {
     for range in ranges {
@@ -57,7 +57,7 @@ fn are_of_files(workspace: &Workspace, ranges: &[FileRange]) -> bool
 }
 
 /// The file of a position, which lies in its text or at the end.
-fn file_at(workspace: &Workspace, position: FilePosition) -> Result<&Tree, ContextError>
+fn file_at(workspace: &Trees, position: FilePosition) -> Result<&Tree, ContextError>
     ensures { MatchResult result (λ tree. IsFileAt workspace.now position tree.now) (λ e. (e ≡ ContextError.NoSuchFile × ¬ HasFile workspace.now position.file_id.0) ⊎ (e ≡ ContextError.NoSuchPosition × HasFile workspace.now position.file_id.0 × ¬ LiesInText workspace.now position)) }
 {
     let file = position.file_id.0;
@@ -88,7 +88,7 @@ impl Context {
     /// restriction that isn't empty, no scope of the position's node.
     pub fn at<S: Semantics>(
         alloc: Global,
-        workspace: &Workspace,
+        workspace: &Trees,
         semantics: &S,
         position: FilePosition,
         restrictions: Vec<FileRange>,
@@ -117,7 +117,7 @@ impl Context {
     /// where the position's node has no scope.
     pub fn at_first_file<S: Semantics>(
         alloc: Global,
-        workspace: &Workspace,
+        workspace: &Trees,
         semantics: &S,
     ) -> Result<Context, ContextError>
         ensures { MakesFirst workspace.now (S.meanings semantics.now) result }

@@ -3,12 +3,12 @@ ghost use Rattle.std.specs.Prelude.{◌≡◌, ◌+◌, ◌<◌, ◌≤◌, ◌�
 ghost use Rattle.ssr_syntax_kinds.specs.Kinds.{same_kind, is_trivia};
 ghost use Rattle.ssr_syntax_tree.specs.Syntax.{tokens_of};
 ghost use Rattle.ssr_syntax_tree.specs.Places.{HasNode, HasToken, HasElement, node_of, token_of, part_of, parts_of, size_of};
-ghost use Rattle.ssr_base.specs.Workspace.{trees, tree_of, file_span_of};
-ghost use Rattle.ssr_base.specs.Laws.{LiesIn};
+ghost use Rattle.ssr_base_trees.specs.Workspace.{trees, tree_of, file_span_of};
+ghost use Rattle.ssr_base_trees.specs.Laws.{LiesIn};
 ghost use Rattle.ide_ssr_search.specs.Permitted.{IsSearched, begins_with, first_token_tree, arguments_range, is_double_colon, names_self};
 ghost use Rattle.ide_ssr_search.specs.Private.Shut.{Shuts};
 
-use ssr_base::{FileRange, NodeId, Workspace};
+use ssr_base_trees::{FileRange, NodeId, Trees};
 use ssr_syntax_kinds::SyntaxKind;
 use ssr_syntax_tree::{Element, NodeNo, TokenNo, Tree};
 
@@ -41,7 +41,7 @@ fn arguments(tree: &Tree, call: NodeNo) -> Option<NodeNo>
 }
 
 /// Where the arguments of a macro call come from.
-pub(crate) fn arguments_range(workspace: &Workspace, tree: &Tree, call: NodeId) -> Option<FileRange>
+pub(crate) fn arguments_range(workspace: &Trees, tree: &Tree, call: NodeId) -> Option<FileRange>
     requires tree { tree_of workspace.now call.tree ≡ Some tree.now }
     requires has { HasNode tree.now call.node.0 }
     ensures { option_map file_span_of result ≡ arguments_range (trees workspace.now) call }
@@ -54,7 +54,7 @@ pub(crate) fn arguments_range(workspace: &Workspace, tree: &Tree, call: NodeId) 
 }
 
 /// Whether nothing is tried below a node: it is a USE, or a macro call whose arguments have no original range.
-pub(crate) fn shuts(workspace: &Workspace, tree: &Tree, node: NodeId) -> bool
+pub(crate) fn shuts(workspace: &Trees, tree: &Tree, node: NodeId) -> bool
     requires tree { tree_of workspace.now node.tree ≡ Some tree.now }
     requires has { HasNode tree.now node.node.0 }
     ensures { IsTrue result ↔ Shuts (trees workspace.now) node }

@@ -3,8 +3,8 @@ ghost use Rattle.std.specs.Prelude.{◌↔◌, All, IfOk, IsTrue};
 ghost use Rattle.std.specs.Option.{IsSomeAnd};
 ghost use Rattle.ide_ssr_search.specs.Printing.{CanBeWritten, IsReached};
 
-use ide_ssr_resolving::{ResolvedRule, UsedPath};
-use ssr_base::{NodeId, Res, ScopeId, Semantics};
+use ide_ssr_resolved_rule::{ResolvedRule, UsedPath};
+use ssr_base_trees::{NodeId, Res, ScopeId, Semantics};
 use std::alloc::{AllocError, Global};
 
 /// Whether a scope reaches what a path stands for, if that is a definition.

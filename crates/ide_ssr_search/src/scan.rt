@@ -2,24 +2,24 @@
 ghost use Rattle.std.specs.Prelude.{◌≡◌, ◌+◌, ◌↔◌, IsTrue, IfOk, IfSome, Some, option_map};
 ghost use Rattle.std.specs.Option.{IsSomeAnd};
 ghost use Rattle.ssr_syntax_tree.specs.Places.{HasNode};
-ghost use Rattle.ssr_base.specs.Workspace.{trees, tree_of, node_id};
-ghost use Rattle.ssr_base.specs.Built.{IsBuilt};
-ghost use Rattle.ide_ssr_resolving.specs.Resolved.{ResolvedKind};
-ghost use Rattle.ide_ssr_found.specs.Found.{AreMatches};
+ghost use Rattle.ssr_base_trees.specs.Workspace.{trees, tree_of, node_id};
+ghost use Rattle.ssr_base_trees.specs.Built.{IsBuilt};
+ghost use Rattle.ide_ssr_resolved_rule.specs.Resolved.{ResolvedRule as RuleValue};
+ghost use Rattle.ide_ssr_bindings.specs.Found.{AreMatches};
 ghost use Rattle.ide_ssr_search.specs.Permitted.{IsOpen, IsInFunction, IsPermitted};
 ghost use Rattle.ide_ssr_search.specs.Found.{AreFound};
 ghost use Rattle.ide_ssr_search.specs.Private.Roots.{IsAskedBy, AreRules};
 ghost use Rattle.ide_ssr_search.specs.Private.Shut.{IsShutIn, IsShut, TellsPast};
-ghost use Rattle.ide_ssr_search.specs.Private.Scan.{AreFoundBefore, IsGround, TellsMatch, Adds, KnowsShut, KnowsInside, IsEarlierCall, StandsIn};
+ghost use Rattle.ide_ssr_search.specs.Private.Scan.{AreFoundBefore, IsTreeScan, TellsMatch, Adds, KnowsShut, KnowsInside, IsEarlierCall, StandsIn};
 
 use crate::bounds::Bounds;
 use crate::context::Context;
 use crate::permitted::{is_at_or_below, is_searched, shuts};
 use crate::roots::{Asked, Rules};
 use crate::whole::whole_match;
-use ide_ssr_found::{Binding, Found};
-use ide_ssr_resolving::ResolvedRule;
-use ssr_base::{NodeId, Semantics, Workspace};
+use ide_ssr_bindings::{Binding, FoundMatch};
+use ide_ssr_resolved_rule::ResolvedRule;
+use ssr_base_trees::{NodeId, Semantics, Trees};
 use ssr_syntax_kinds::SyntaxKind;
 use ssr_syntax_tree::{NodeNo, Tree};
 use std::alloc::{AllocError, Global};
@@ -27,8 +27,8 @@ use std::collections::BTreeSet;
 
 /// A tree that is searched, and what is known before its nodes are tried.
 #[derive(Clone, Copy)]
-struct Ground<'a> {
-    workspace: &'a Workspace,
+struct TreeScan<'a> {
+    workspace: &'a Trees,
     context: &'a Context,
     tree: &'a Tree,
     number: u32,
@@ -39,22 +39,22 @@ struct Ground<'a> {
     inside: bool,
 }
 
-impl<'a> Ground<'a> {
+impl<'a> TreeScan<'a> {
     /// What is known of a tree, where `shut` are the calls of earlier trees that shut in what they stand for, and `inside`
     /// says which of those trees stand below the function.
     fn new(
-        workspace: &'a Workspace,
+        workspace: &'a Trees,
         context: &'a Context,
         tree: &'a Tree,
         number: u32,
         shut: &BTreeSet<NodeId>,
         inside: &[bool],
-    ) -> Ground<'a>
+    ) -> TreeScan<'a>
         requires built { IsBuilt workspace.now }
         requires tree { tree_of workspace.now number ≡ Some tree.now }
         requires shut { KnowsShut workspace.now number 0 shut.now }
         requires inside { KnowsInside workspace.now context.now number inside.now }
-        ensures ground { IsGround result }
+        ensures scan { IsTreeScan result }
         ensures workspace { result.workspace.now ≡ workspace.now }
         ensures context { result.context.now ≡ context.now }
         ensures number { result.number ≡ number }
@@ -64,7 +64,7 @@ impl<'a> Ground<'a> {
             node: NodeNo(0),
         };
         let call = workspace.above(root);
-        Ground {
+        TreeScan {
             workspace,
             context,
             tree,
@@ -87,7 +87,7 @@ impl<'a> Ground<'a> {
 
     /// Whether a node that nothing above it shuts in is open to all rules.
     fn is_open(&self, node: NodeNo) -> bool
-        requires ground { IsGround self.now }
+        requires scan { IsTreeScan self.now }
         requires has { HasNode self.now.tree.now node.0 }
         requires free { ¬ IsShutIn (trees self.now.workspace.now) (node_id self.now.number node.0) }
         ensures { IsTrue result ↔ IsOpen self.now.workspace.now self.now.context.now.restrictions (node_id self.now.number node.0) }
@@ -105,7 +105,7 @@ impl<'a> Ground<'a> {
 
     /// Whether a node stands at the function around the position or below it.
     fn is_in_function(&self, node: NodeNo) -> bool
-        requires ground { IsGround self.now }
+        requires scan { IsTreeScan self.now }
         requires has { HasNode self.now.tree.now node.0 }
         ensures { IsTrue result ↔ IsInFunction (trees self.now.workspace.now) self.now.context.now.function (node_id self.now.number node.0) }
     {
@@ -120,10 +120,10 @@ impl<'a> Ground<'a> {
 
     /// Whether a rule that asks this is permitted at a node that nothing above it shuts in.
     fn is_permitted(&self, asked: Asked, node: NodeNo) -> bool
-        requires ground { IsGround self.now }
+        requires scan { IsTreeScan self.now }
         requires has { HasNode self.now.tree.now node.0 }
         requires free { ¬ IsShutIn (trees self.now.workspace.now) (node_id self.now.number node.0) }
-        ensures { (rule : ResolvedKind) → IsAskedBy rule asked → IsTrue result ↔ IsPermitted self.now.workspace.now self.now.context.now rule (node_id self.now.number node.0) }
+        ensures { (rule : RuleValue) → IsAskedBy rule asked → IsTrue result ↔ IsPermitted self.now.workspace.now self.now.context.now rule (node_id self.now.number node.0) }
     {
         self.is_open(node) && (!asked.in_function || self.is_in_function(node))
     }
@@ -138,7 +138,7 @@ impl<'a> Ground<'a> {
         asked: Asked,
         node: NodeNo,
     ) -> Result<Option<Vec<Binding>>, AllocError>
-        requires ground { IsGround self.now }
+        requires scan { IsTreeScan self.now }
         requires asked { IsAskedBy rule.now asked }
         requires has { HasNode self.now.tree.now node.0 }
         requires free { ¬ IsShutIn (trees self.now.workspace.now) (node_id self.now.number node.0) }
@@ -170,16 +170,16 @@ impl<'a> Ground<'a> {
         rule: &ResolvedRule,
         asked: Asked,
         node: NodeNo,
-        found: &mut Vec<Found>,
+        found: &mut Vec<FoundMatch>,
     ) -> Result<(), AllocError>
-        requires ground { IsGround self.now }
+        requires scan { IsTreeScan self.now }
         requires asked { IsAskedBy rule.now asked }
         requires has { HasNode self.now.tree.now node.0 }
         requires free { ¬ IsShutIn (trees self.now.workspace.now) (node_id self.now.number node.0) }
         ensures { IfOk result (λ _. Adds self.now.workspace.now (S.meanings semantics.now) self.now.context.now rule.now place (node_id self.now.number node.0) found.old.items found.new.items) }
     {
         if let Some(bindings) = self.match_of(alloc, semantics, rule, asked, node)? {
-            found.push(Found::new(place, self.id(node), bindings))?;
+            found.push(FoundMatch::new(place, self.id(node), bindings))?;
         }
         Ok(())
     }
@@ -191,9 +191,9 @@ impl<'a> Ground<'a> {
         semantics: &S,
         rules: &Rules<'_>,
         node: NodeNo,
-        found: &mut Vec<Found>,
+        found: &mut Vec<FoundMatch>,
     ) -> Result<(), AllocError>
-        requires ground { IsGround self.now }
+        requires scan { IsTreeScan self.now }
         requires rules { AreRules rules.now }
         requires has { HasNode self.now.tree.now node.0 }
         requires free { ¬ IsShutIn (trees self.now.workspace.now) (node_id self.now.number node.0) }
@@ -222,9 +222,9 @@ impl<'a> Ground<'a> {
         rules: &Rules<'_>,
         node: NodeNo,
         shut: bool,
-        found: &mut Vec<Found>,
+        found: &mut Vec<FoundMatch>,
     ) -> Result<(), AllocError>
-        requires ground { IsGround self.now }
+        requires scan { IsTreeScan self.now }
         requires rules { AreRules rules.now }
         requires has { HasNode self.now.tree.now node.0 }
         requires shut { IsTrue shut ↔ IsShutIn (trees self.now.workspace.now) (node_id self.now.number node.0) }
@@ -239,7 +239,7 @@ impl<'a> Ground<'a> {
 
     /// The number behind a node that shuts in what is below it; of any other node 0.
     fn past(&self, node: NodeNo) -> u32
-        requires ground { IsGround self.now }
+        requires scan { IsTreeScan self.now }
         requires has { HasNode self.now.tree.now node.0 }
         ensures { TellsPast (trees self.now.workspace.now) self.now.number self.now.tree.now node.0 result }
     {
@@ -257,7 +257,7 @@ impl<'a> Ground<'a> {
         shuts: bool,
         shut: &mut BTreeSet<NodeId>,
     ) -> Result<(), AllocError>
-        requires ground { IsGround self.now }
+        requires scan { IsTreeScan self.now }
         requires has { HasNode self.now.tree.now node.0 }
         requires shuts { IsTrue shuts ↔ IsShut (trees self.now.workspace.now) (node_id self.now.number node.0) }
         requires shut { KnowsShut self.now.workspace.now self.now.number node.0 shut.old }
@@ -276,9 +276,9 @@ impl<'a> Ground<'a> {
         semantics: &S,
         rules: &Rules<'_>,
         shut: &mut BTreeSet<NodeId>,
-        found: &mut Vec<Found>,
+        found: &mut Vec<FoundMatch>,
     ) -> Result<(), AllocError>
-        requires ground { IsGround self.now }
+        requires scan { IsTreeScan self.now }
         requires rules { AreRules rules.now }
         requires shut { KnowsShut self.now.workspace.now self.now.number 0 shut.old }
         requires found { AreFoundBefore self.now.workspace.now (S.meanings semantics.now) self.now.context.now rules.now.rules.now self.now.number 0 0 found.old.items }
@@ -303,12 +303,7 @@ impl<'a> Ground<'a> {
 }
 
 /// Whether the call of a tree, if it has one, shuts in what it stands for.
-fn is_shut(
-    workspace: &Workspace,
-    number: u32,
-    call: Option<NodeId>,
-    shut: &BTreeSet<NodeId>,
-) -> bool
+fn is_shut(workspace: &Trees, number: u32, call: Option<NodeId>, shut: &BTreeSet<NodeId>) -> bool
     requires call { IfSome call (IsEarlierCall workspace.now number) }
     requires shut { KnowsShut workspace.now number 0 shut.now }
     ensures { IsTrue result ↔ IsSomeAnd call (IsShut (trees workspace.now)) }
@@ -321,7 +316,7 @@ fn is_shut(
 
 /// Whether the call of a tree, if it has one, stands in the function around the position.
 fn is_inside(
-    workspace: &Workspace,
+    workspace: &Trees,
     context: &Context,
     number: u32,
     call: Option<NodeId>,
@@ -360,11 +355,11 @@ fn stands_in(function: Option<NodeId>, tree: &Tree, number: u32, inside: bool, n
 /// places of their rules.
 pub fn find_matches<S: Semantics>(
     alloc: Global,
-    workspace: &Workspace,
+    workspace: &Trees,
     semantics: &S,
     context: &Context,
     rules: &[ResolvedRule],
-) -> Result<Vec<Found>, AllocError>
+) -> Result<Vec<FoundMatch>, AllocError>
     ensures found { IfOk result (λ found. AreFound workspace.now (S.meanings semantics.now) context.now rules.now found.items) }
     ensures matches { IfOk result (λ found. AreMatches (trees workspace.now) found.items) }
 {
@@ -374,9 +369,9 @@ pub fn find_matches<S: Semantics>(
     let mut inside = Vec::with_capacity(alloc, workspace.file_count() as usize)?;
     let mut number = 0;
     while let Some(tree) = workspace.tree(number) {
-        let ground = Ground::new(workspace, context, tree, number, &shut, &inside);
-        ground.add_found(alloc, semantics, &tried, &mut shut, &mut found)?;
-        inside.push(ground.inside)?;
+        let scan = TreeScan::new(workspace, context, tree, number, &shut, &inside);
+        scan.add_found(alloc, semantics, &tried, &mut shut, &mut found)?;
+        inside.push(scan.inside)?;
         number += 1;
     }
     Ok(found)

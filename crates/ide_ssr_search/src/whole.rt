@@ -2,18 +2,18 @@
 ghost use Rattle.std.specs.Prelude.{◌≡◌, ◌↔◌, IsTrue, IfOk, IfSome, IfNone, MatchOption, Some, All, AllPairs, option_map};
 ghost use Rattle.std.specs.Option.{IsSomeAnd};
 ghost use Rattle.ssr_syntax_tree.specs.Places.{HasNode};
-ghost use Rattle.ssr_base.specs.Workspace.{trees, tree_of, file_span_of};
-ghost use Rattle.ide_ssr_found.specs.Found.{AreDisjoint, held_range};
+ghost use Rattle.ssr_base_trees.specs.Workspace.{trees, tree_of, file_span_of};
+ghost use Rattle.ide_ssr_bindings.specs.Found.{AreDisjoint, held_range};
 ghost use Rattle.ide_ssr_search.specs.WholeMatches.{IsPlaced};
 ghost use Rattle.ide_ssr_search.specs.Private.Bounds.{AreBounds, LiesInBounds};
 ghost use Rattle.ide_ssr_search.specs.Private.Whole.{AreRanges, IsMatched, IsPlacedMatch, TellsWhole};
 
 use crate::bounds::Bounds;
 use crate::printing::can_be_written;
-use ide_ssr_found::Binding;
+use ide_ssr_bindings::Binding;
 use ide_ssr_matching::match_node;
-use ide_ssr_resolving::ResolvedRule;
-use ssr_base::{FileRange, NodeId, Semantics, Workspace};
+use ide_ssr_resolved_rule::ResolvedRule;
+use ssr_base_trees::{FileRange, NodeId, Semantics, Trees};
 use ssr_syntax_tree::Tree;
 use std::alloc::{AllocError, Global};
 
@@ -34,7 +34,7 @@ fn placed(bounds: Bounds, range: Option<FileRange>) -> Option<FileRange>
 /// Where what the placeholders hold comes from, if all of that lies within the bounds of the tree.
 fn held_ranges(
     alloc: Global,
-    workspace: &Workspace,
+    workspace: &Trees,
     bounds: Bounds,
     tree: u32,
     bindings: &[Binding],
@@ -80,7 +80,7 @@ fn are_apart(ranges: &[FileRange]) -> bool
 /// placeholders share a byte.
 fn is_placed_in_call(
     alloc: Global,
-    workspace: &Workspace,
+    workspace: &Trees,
     bounds: Bounds,
     node: NodeId,
     bindings: &[Binding],
@@ -101,7 +101,7 @@ fn is_placed_in_call(
 /// In a file each does: what its placeholders hold stands in the match, one behind another.
 fn is_placed_match(
     alloc: Global,
-    workspace: &Workspace,
+    workspace: &Trees,
     bounds: Bounds,
     node: NodeId,
     bindings: &[Binding],
@@ -120,7 +120,7 @@ fn is_placed_match(
 pub(crate) fn whole_match<S: Semantics>(
     alloc: Global,
     semantics: &S,
-    workspace: &Workspace,
+    workspace: &Trees,
     tree: &Tree,
     bounds: Bounds,
     rule: &ResolvedRule,

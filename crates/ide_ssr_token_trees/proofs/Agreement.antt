@@ -9,9 +9,9 @@ use Rattle.ssr_syntax_kinds.proofs.Shared.{same_kind-equal, equal-same_kind}
 use Rattle.ssr_syntax_kinds.specs.Kinds.{same_kind, is_trivia}
 use Rattle.ssr_syntax_tree.specs.Syntax.{Token}
 use Rattle.ssr_syntax_tree.specs.Places.{Node, Part, token_part, node_part, parts_of, size_of}
-use Rattle.ssr_base.specs.declared.ids.TokenRun.{TokenRun}
-use Rattle.ide_ssr_found.specs.declared.bindings.Binding.{Binding}
-use Rattle.ide_ssr_found.specs.Found.{tokens_binding}
+use Rattle.ssr_base_trees.specs.declared.ids.TokenRun.{TokenRun}
+use Rattle.ide_ssr_bindings.specs.declared.bindings.Binding.{Binding}
+use Rattle.ide_ssr_bindings.specs.Found.{tokens_binding}
 use Rattle.ide_ssr_token_trees.specs.Bindings.{joined, passed, nothing_by, placeholder_by, leaf_by, token_by, tree_by, elements_by, tree_bindings}
 use Rattle.ide_ssr_token_trees.specs.Elements.{without_trivia, is_number, last_comma, next_text, up_to, from, run_over}
 use Rattle.ide_ssr_token_trees.specs.TokenTrees.{is_passed, begins_passed, begins_placeholder, ElementsMatch, ended, placeholder, trivia, comma_of_code, comma_of_pattern, tokens, trees, TreesMatch}

@@ -5,7 +5,7 @@ use Rattle.ssr_syntax_kinds.specs.Kinds.{is_trivia}
 use Rattle.ssr_syntax_tree.specs.Syntax.{Token, Forest, nothing, leaf, branch, token_count, node_count, tokens_in}
 use Rattle.ssr_syntax_tree.specs.Places.{Node, Part, token_part, node_part, parts_in, parts_of}
 use Rattle.ssr_syntax_tree.proofs.Shared.{length-tokens_in}
-use Rattle.ide_ssr_found.specs.declared.bindings.Binding.{Binding}
+use Rattle.ide_ssr_bindings.specs.declared.bindings.Binding.{Binding}
 use Rattle.ide_ssr_token_trees.specs.Elements.{without_trivia, last_comma, next_text, from}
 use Rattle.ide_ssr_token_trees.specs.Placeholders.{placeholders_from}
 use Rattle.ide_ssr_token_trees.specs.TokenTrees.{ElementsMatch, ended, placeholder, trivia, comma_of_code, comma_of_pattern, tokens, trees, TreesMatch}

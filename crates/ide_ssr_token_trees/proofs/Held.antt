@@ -7,12 +7,12 @@ use Rattle.ssr_syntax_tree.specs.Syntax.{Forest, nothing, leaf, branch, Syntax, 
 use Rattle.ssr_syntax_tree.specs.Places.{Node, Part, token_part, HasNode, node_of, parts_in, parts_of}
 use Rattle.ssr_syntax_tree.proofs.Lists.{pairs_none}
 use Rattle.ssr_syntax_tree.proofs.Shared.{IsChild, children_known}
-use Rattle.ssr_base.specs.declared.ids.TokenRun.{TokenRun}
-use Rattle.ssr_base.specs.Laws.{IsAmong}
-use Rattle.ssr_base.specs.Workspace.{run_of}
-use Rattle.ide_ssr_found.specs.Apart.{IsHeldIn, ComesBefore, HasHeld, tokens_held}
-use Rattle.ide_ssr_found.specs.declared.bindings.Binding.{Binding}
-use Rattle.ide_ssr_found.specs.declared.bindings.Held.TheVariants as held
+use Rattle.ssr_base_trees.specs.declared.ids.TokenRun.{TokenRun}
+use Rattle.ssr_base_trees.specs.Laws.{IsAmong}
+use Rattle.ssr_base_trees.specs.Workspace.{run_of}
+use Rattle.ide_ssr_bindings.specs.Apart.{IsHeldIn, ComesBefore, HasHeld, tokens_held}
+use Rattle.ide_ssr_bindings.specs.declared.bindings.Binding.{Binding}
+use Rattle.ide_ssr_bindings.specs.declared.bindings.Held.TheVariants as held
 use Rattle.ide_ssr_token_trees.specs.Elements.{first_text, same_text, first_token, tokens_at, tokens_among, next_text, up_to, from, run_over, without_trivia, last_comma}
 use Rattle.ide_ssr_token_trees.specs.TokenTrees.{ElementsMatch, ended, placeholder, trivia, comma_of_code, comma_of_pattern, tokens, trees, TreesMatch}
 

@@ -6,7 +6,7 @@ use Rattle.ssr_syntax_tree.specs.declared.number.Element.TheVariants as element
 use Rattle.ssr_syntax_tree.specs.Syntax.{Forest, nothing, leaf, branch, Syntax, token_count, node_count}
 use Rattle.ssr_syntax_tree.specs.Places.{Part, token_part, node_part, HasNode, HasToken, HasElement, IsAbove, element_of, elements_of, node_of, part_of, parts_in, parts_of, size_of}
 use Rattle.ssr_syntax_tree.proofs.Shared.{IsChild, children_known, elements_had, parts_of-elements_of, smaller}
-use Rattle.ide_ssr_found.specs.declared.bindings.Binding.{Binding}
+use Rattle.ide_ssr_bindings.specs.declared.bindings.Binding.{Binding}
 use Rattle.ide_ssr_token_trees.specs.declared.siblings.Siblings.{Siblings}
 use Rattle.ide_ssr_token_trees.specs.Bindings.{joined, passed, nothing_by, part_by, elements_by, tree_bindings, Answers, matched, other}
 use Rattle.ide_ssr_token_trees.specs.Elements.{last_comma, next_text, tokens_among, without_trivia}

@@ -8,9 +8,9 @@ use Rattle.ssr_syntax_kinds.specs.declared.kinds.SyntaxKind.TheVariants as k
 use Rattle.ssr_syntax_kinds.specs.Kinds.{same_kind, is_trivia}
 use Rattle.ssr_syntax_tree.specs.Syntax.{Token, same_token, Forest, nothing, leaf, branch, node_count, token_count}
 use Rattle.ssr_syntax_tree.specs.Places.{Node, Part, token_part, node_part, parts_in, parts_of, size_of}
-use Rattle.ssr_base.specs.declared.ids.TokenRun.{TokenRun}
-use Rattle.ide_ssr_found.specs.declared.bindings.Binding.{Binding}
-use Rattle.ide_ssr_found.specs.Found.{tokens_binding}
+use Rattle.ssr_base_trees.specs.declared.ids.TokenRun.{TokenRun}
+use Rattle.ide_ssr_bindings.specs.declared.bindings.Binding.{Binding}
+use Rattle.ide_ssr_bindings.specs.Found.{tokens_binding}
 use Rattle.ide_ssr_token_trees.specs.Bindings.{joined, passed, nothing_by, holding, placeholder_by, token_by, tree_by, leaf_by, elements_by, bounded_by, tree_bindings}
 use Rattle.ide_ssr_token_trees.specs.Elements.{without_trivia, is_closing, closes, last_comma, is_number, first_text, next_text, same_text, up_to, from, first_token, tokens_at, tokens_among, run_over}
 use Rattle.ide_ssr_token_trees.specs.Numbers.{bound_later}

@@ -1,6 +1,6 @@
 -- What a placeholder holds, counted from the left.
 use Rattle.std.proofs.Common.{◌≡◌, ℕ, ◌+◌, ◌<◌, ◌≤◌, Bool, true, false, cond, lt-ltb, List, [], ◌∷◌, map, Option, Some, None, refl, sym, ◌∙◌, ap, arith}
-use Rattle.ssr_base.specs.declared.ids.TokenRun.{TokenRun}
+use Rattle.ssr_base_trees.specs.declared.ids.TokenRun.{TokenRun}
 use Rattle.ssr_syntax_tree.specs.declared.number.Element.{Element}
 use Rattle.ssr_syntax_tree.specs.Syntax.{Syntax}
 use Rattle.ssr_syntax_tree.specs.Places.{Part, part_of}

@@ -7,9 +7,9 @@ use Rattle.ssr_syntax_tree.specs.declared.number.NodeNo.{NodeNo}
 use Rattle.ssr_syntax_tree.specs.declared.number.TokenNo.{TokenNo}
 use Rattle.ssr_syntax_tree.specs.Syntax.{Token, Syntax}
 use Rattle.ssr_syntax_tree.specs.Places.{Part, token_part, node_part, node_of, part_of}
-use Rattle.ssr_base.specs.declared.ids.TokenRun.{TokenRun}
-use Rattle.ide_ssr_found.specs.declared.bindings.Binding.{Binding}
-use Rattle.ide_ssr_found.specs.Found.{tokens_binding}
+use Rattle.ssr_base_trees.specs.declared.ids.TokenRun.{TokenRun}
+use Rattle.ide_ssr_bindings.specs.declared.bindings.Binding.{Binding}
+use Rattle.ide_ssr_bindings.specs.Found.{tokens_binding}
 use Rattle.ide_ssr_token_trees.specs.declared.siblings.Siblings.{Siblings}
 use Rattle.ide_ssr_token_trees.specs.Bindings.{joined, passed, placeholder_by, leaf_by, token_by, tree_by, tree_bindings, Answers, matched, other}
 use Rattle.ide_ssr_token_trees.specs.Elements.{up_to, from, run_over}

@@ -2,9 +2,9 @@
 use Rattle.std.specs.Prelude.{ℕ, ◌≡◌, zero, suc, nat_lt, Bool, true, false, List, [], ◌∷◌, ◌++◌, Option, Some, None, slice_index_or, if◌then◌else◌}
 use Rattle.ssr_syntax_tree.specs.Syntax.{Token, same_token}
 use Rattle.ssr_syntax_tree.specs.Places.{Node, Part, token_part, node_part, parts_of, size_of}
-use Rattle.ssr_base.specs.declared.ids.TokenRun.{TokenRun}
-use Rattle.ide_ssr_found.specs.declared.bindings.Binding.{Binding}
-use Rattle.ide_ssr_found.specs.Found.{tokens_binding}
+use Rattle.ssr_base_trees.specs.declared.ids.TokenRun.{TokenRun}
+use Rattle.ide_ssr_bindings.specs.declared.bindings.Binding.{Binding}
+use Rattle.ide_ssr_bindings.specs.Found.{tokens_binding}
 use Rattle.ide_ssr_token_trees.specs.Elements.{without_trivia, last_comma, is_number, next_text, up_to, from, run_over}
 use Rattle.ide_ssr_token_trees.specs.TokenTrees.{is_passed}
 

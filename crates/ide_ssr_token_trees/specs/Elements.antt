@@ -6,7 +6,7 @@ use Rattle.ssr_syntax_kinds.specs.declared.kinds.SyntaxKind.TheVariants as k
 use Rattle.ssr_syntax_kinds.specs.Kinds.{same_kind, is_trivia}
 use Rattle.ssr_syntax_tree.specs.Syntax.{tokens_in, token_count}
 use Rattle.ssr_syntax_tree.specs.Places.{Part, token_part, node_part}
-use Rattle.ssr_base.specs.declared.ids.TokenRun.{TokenRun}
+use Rattle.ssr_base_trees.specs.declared.ids.TokenRun.{TokenRun}
 
 -- a node is no trivia
 abbrev pub is_trivia_part : Part → Bool

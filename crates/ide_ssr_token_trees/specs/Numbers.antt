@@ -1,8 +1,8 @@
 -- What placeholders hold of a token tree whose tokens have higher numbers.
 use Rattle.std.specs.Prelude.{ℕ, ◌+◌}
-use Rattle.ide_ssr_found.specs.declared.bindings.Binding.{Binding}
-use Rattle.ide_ssr_found.specs.declared.bindings.Held.{Held}
-use Rattle.ide_ssr_found.specs.declared.bindings.Held.TheVariants as held
+use Rattle.ide_ssr_bindings.specs.declared.bindings.Binding.{Binding}
+use Rattle.ide_ssr_bindings.specs.declared.bindings.Held.{Held}
+use Rattle.ide_ssr_bindings.specs.declared.bindings.Held.TheVariants as held
 
 -- the same that is held, where the numbers of tokens are higher by `more`
 abbrev pub held_later : ℕ → Held → Held

@@ -3,8 +3,8 @@
 ghost use Rattle.std.specs.Prelude.{◌≡◌, ◌+◌, ℕ, List, Option, Some, All, AllPairs, map, option_map};
 ghost use Rattle.ssr_syntax_tree.specs.Places.{Node, HasNode, node_of};
 ghost use Rattle.ssr_syntax_tree.specs.Syntax.{Syntax, tokens_in};
-ghost use Rattle.ide_ssr_found.specs.Apart.{IsHeldIn, ComesBefore};
-ghost use Rattle.ide_ssr_found.specs.declared.bindings.Binding.{Binding};
+ghost use Rattle.ide_ssr_bindings.specs.Apart.{IsHeldIn, ComesBefore};
+ghost use Rattle.ide_ssr_bindings.specs.declared.bindings.Binding.{Binding};
 ghost use Rattle.ide_ssr_token_trees.specs.Bindings.{tree_bindings};
 ghost use Rattle.ide_ssr_token_trees.specs.Numbers.{bound_later};
 ghost use Rattle.ide_ssr_token_trees.specs.Placeholders.{placeholders_from};

@@ -3,7 +3,7 @@
 ghost use Rattle.std.specs.Prelude.{◌≡◌, ◌<◌, ◌^◌, [], None, List, Option, ℕ, All, IfOk, if◌then◌else◌};
 ghost use Rattle.std.specs.Option.{option_copied};
 ghost use Rattle.ssr_syntax_tree.specs.Places.{Part, HasNode, HasToken, HasElement, node_of, token_of, part_of};
-ghost use Rattle.ide_ssr_found.specs.declared.bindings.Binding.{Binding};
+ghost use Rattle.ide_ssr_bindings.specs.declared.bindings.Binding.{Binding};
 ghost use Rattle.ide_ssr_token_trees.specs.Bindings.{placeholder_in, placeholder_by, leaf_by, tree_bindings, Answers};
 ghost use Rattle.ide_ssr_token_trees.specs.Elements.{without_trivia, is_number, next_text, tokens_among};
 ghost use Rattle.ide_ssr_token_trees.specs.Private.Matching.{is_same, Steps, ElementSteps};
@@ -11,7 +11,7 @@ ghost use Rattle.ide_ssr_token_trees.specs.Private.Siblings.{siblings_left, part
 
 use crate::elements::tokens_match;
 use crate::siblings::Siblings;
-use ide_ssr_found::Binding;
+use ide_ssr_bindings::Binding;
 use ssr_syntax_tree::{Element, NodeNo, TokenNo, Tree};
 use std::alloc::AllocError;
 

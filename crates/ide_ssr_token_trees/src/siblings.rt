@@ -10,7 +10,7 @@ ghost use Rattle.ide_ssr_token_trees.specs.Private.Siblings.{siblings_left, part
 ghost use Rattle.ide_ssr_token_trees.specs.TokenTrees.{is_passed};
 
 use crate::elements::{closes, is_trivia};
-use ssr_base::TokenRun;
+use ssr_base_trees::TokenRun;
 use ssr_syntax_kinds::SyntaxKind;
 use ssr_syntax_tree::{Children, Element, NodeNo, TokenNo, Tree};
 

@@ -7,12 +7,15 @@ use Rattle.ssr_syntax.specs.declared.syntax_error.SyntaxError.{SyntaxError}
 use Rattle.ssr_syntax.specs.declared.syntax_error.SyntaxError.TheVariants as syntax
 use Rattle.ssr_syntax.specs.Reading.{file_reading}
 use Rattle.ssr_syntax.specs.Expansions.{expansion_reading}
-use Rattle.ssr_base.specs.declared.ids.NodeId.{NodeId}
+use Rattle.ssr_base_trees.specs.declared.ids.NodeId.{NodeId}
 use Rattle.ssr_base.specs.declared.building.Expansion.{Expansion}
 use Rattle.ssr_base.specs.declared.workspace_error.WorkspaceError.{WorkspaceError}
 use Rattle.ssr_base.specs.declared.workspace_error.WorkspaceError.TheVariants as errors
-use Rattle.ssr_base.specs.Workspace.{Workspace, trees, text_at_top, nesting, expansion_of}
-use Rattle.ssr_base.specs.Building.{most_nested, ◌>>=◌, read_as, with_file, fits_origin, origin_of, checked_call, joined_origins, with_tree, with_expansion}
+use Rattle.ssr_base_trees.specs.Workspace.{Workspace, trees, text_at_top, nesting, expansion_of}
+use Rattle.ssr_base_trees.specs.Built.{most_nested}
+use Rattle.ssr_base.specs.Building.{◌>>=◌, read_as, with_file, origin_of, checked_call, joined_origins, with_expansion}
+use Rattle.ssr_base_trees.specs.Origins.{fits_origin}
+use Rattle.ssr_base_trees.specs.Growth.{with_tree}
 use Rattle.ssr_base.proofs.Chosen.{IsChosen, chosen_free}
 use Rattle.ssr_base.proofs.Calls.{accepted}
 

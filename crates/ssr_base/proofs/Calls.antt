@@ -7,15 +7,16 @@ use Rattle.ssr_syntax_kinds.specs.declared.range.TextRange.{TextRange}
 use Rattle.ssr_syntax_tree.specs.Syntax.{Syntax}
 use Rattle.ssr_syntax_tree.specs.Places.{Node, HasNode}
 use Rattle.ssr_syntax.specs.declared.expansions.ExpToken.{ExpToken}
-use Rattle.ssr_base.specs.declared.ids.NodeId.{NodeId}
+use Rattle.ssr_base_trees.specs.declared.ids.NodeId.{NodeId}
 use Rattle.ssr_base.specs.declared.building.Expansion.{Expansion}
 use Rattle.ssr_base.specs.declared.workspace_error.WorkspaceError.{WorkspaceError}
 use Rattle.ssr_base.specs.declared.workspace_error.WorkspaceError.TheVariants as errors
-use Rattle.ssr_base.specs.Workspace.{Workspace, trees, with_number, tree_of, text_at_top, nesting, node_id, expansion_of}
-use Rattle.ssr_base.specs.Building.{most_nested, ◌>>=◌, unless, first_call, if_free, free_call, fits_origin, origin_of, checked_call}
-use Rattle.ssr_base.specs.Private.Built.{IsFree}
-use Rattle.ssr_base.proofs.Trees.{length-trees}
-use Rattle.ssr_base.proofs.Planting.{some_and, planted_within}
+use Rattle.ssr_base_trees.specs.Workspace.{Workspace, trees, with_number, tree_of, text_at_top, nesting, node_id, expansion_of}
+use Rattle.ssr_base_trees.specs.Built.{most_nested}
+use Rattle.ssr_base.specs.Building.{◌>>=◌, unless, first_call, if_free, free_call, origin_of, checked_call}
+use Rattle.ssr_base_trees.specs.Origins.{fits_origin}
+use Rattle.ssr_base_trees.specs.Growth.{IsFree}
+use Rattle.ssr_base_trees.proofs.Shared.{length-trees, some_and, placed_within}
 use Rattle.ssr_base.proofs.Chosen.{chosen_free}
 
 no_tree_no_call : (w : Workspace) (t : ℕ) (range : TextRange) → None ≡ tree_of w t → free_call w t range ≡ None
@@ -125,7 +126,7 @@ checked_free w x call e =
     let chosen = chosen_free w x.call.0 x.call.1 call told.0 in
     let tree = some_and (with_number (trees w) call.tree) (λ p. HasNode p.syntax call.node.0) chosen.0.node in
     record {
-      earlier = omega (arith, planted_within (trees w) call.tree tree.0 tree.1, length-trees w);
+      earlier = omega (arith, placed_within (trees w) call.tree tree.0 tree.1, length-trees w);
       nested = omega (arith, ltb-false most_nested (1 + nesting (trees w) call.tree) told.1);
       free = chosen.1;
     }

@@ -12,11 +12,11 @@ use Rattle.ssr_syntax_kinds.proofs.Shared.{same_kind-equal}
 use Rattle.ssr_syntax_tree.specs.Syntax.{Syntax}
 use Rattle.ssr_syntax_tree.specs.Places.{Node, HasNode, nodes_of, node_of, root_of, start_of, end_of}
 use Rattle.ssr_syntax_tree.proofs.Shared.{node_of-number, length-nodes_of}
-use Rattle.ssr_base.specs.declared.ids.NodeId.{NodeId}
-use Rattle.ssr_base.specs.Workspace.{Workspace, Planted, trees, with_number, tree_of, node_id, expansion_of}
+use Rattle.ssr_base_trees.specs.declared.ids.NodeId.{NodeId}
+use Rattle.ssr_base_trees.specs.Workspace.{Workspace, PlacedTree, trees, with_number, tree_of, node_id, expansion_of}
 use Rattle.ssr_base.specs.Building.{is_call, first_call, if_free, call_at, free_call}
-use Rattle.ssr_base.specs.Built.{IsNodeOf, IsMacroCall}
-use Rattle.ssr_base.proofs.Planting.{and_some, mapped}
+use Rattle.ssr_base_trees.specs.Built.{IsNodeOf, IsMacroCall}
+use Rattle.ssr_base_trees.proofs.Shared.{and_some, mapped}
 
 -- what is found stands in the list, and passes
 found_in : {A : Type 0} (test : A → Bool) (xs : List A) (x : A) → find test xs ≡ Some x → (i : ℕ) × (slice_get xs i ≡ Some x) × (test x ≡ true)
@@ -59,7 +59,7 @@ pub record IsChosen (w : Workspace) (call : NodeId) : Type 0 where
   pub node : IsNodeOf (trees w) call
   pub macro_call : IsMacroCall (trees w) call
 
-chosen_node : (w : Workspace) (t : ℕ) (p : Planted) (node : Node) → with_number (trees w) t ≡ Some p → IsCallOf p.syntax node → IsChosen w (node_id t node.number)
+chosen_node : (w : Workspace) (t : ℕ) (p : PlacedTree) (node : Node) → with_number (trees w) t ≡ Some p → IsCallOf p.syntax node → IsChosen w (node_id t node.number)
 chosen_node w t p node is call = record {
   node = and_some (with_number (trees w) t) (λ p. HasNode p.syntax node.number) p is call.has;
   macro_call = and_some (with_number (trees w) t) (λ p. (node_of p.syntax node.number).kind ≡ k.MACRO_CALL) p is call.macro_call;
@@ -69,7 +69,7 @@ chosen_at : (w : Workspace) (t : ℕ) (range : TextRange) (call : NodeId) → ca
 chosen_at w t range call is =
     option_and_then_some (λ tree. option_map (λ node. node_id t node.number) (first_call tree range)) (tree_of w t) call is
     (λ tree at named.
-    let place = mapped (λ (p : Planted). p.syntax) (with_number (trees w) t) tree at in
+    let place = mapped (λ (p : PlacedTree). p.syntax) (with_number (trees w) t) tree at in
     let found = mapped (λ (node : Node). node_id t node.number) (first_call tree range) call named in
     subst (IsChosen w) found.2
     (chosen_node w t place.0 found.0 place.1 (subst (λ s. IsCallOf s found.0) (sym place.2) (found_call tree range found.0 found.1))))

@@ -11,7 +11,7 @@ use Rattle.ssr_syntax_tree.specs.Places.{Node, HasNode, node_of, nodes_of, size_
 use Rattle.ssr_syntax_tree.proofs.Shared.{node_of-number, node_left, length-nodes_of, start_before_end, start_of-below, ranges_apart}
 use Rattle.std.specs.Option.{option_map}
 use Rattle.ssr_base.specs.Building.{is_call, first_call}
-use Rattle.ssr_base.specs.Private.Built.{NodesBefore, NodesFrom}
+use Rattle.ssr_base.specs.Private.Finding.{NodesBefore, NodesFrom}
 
 -- nodes begin in their order
 pub starts_sorted : (syntax : Syntax) (n m : ℕ) → HasNode syntax m → n ≤ m → start_of syntax (node_of syntax n) ≤ start_of syntax (node_of syntax m)

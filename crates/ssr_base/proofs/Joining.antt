@@ -9,10 +9,9 @@ use Rattle.ssr_syntax_tree.specs.Syntax.{Token, Syntax, tokens_of, token_count}
 use Rattle.ssr_syntax_tree.specs.Places.{HasToken, token_of}
 use Rattle.ssr_syntax_tree.proofs.Shared.{length-tokens_in}
 use Rattle.ssr_syntax.specs.declared.expansions.ExpToken.{ExpToken}
-use Rattle.ssr_base.specs.Origins.{Cover, join, cover_of_one, covered}
+use Rattle.ssr_base_trees.specs.Origins.{Cover, join, cover_of_one, covered, plain_origin}
 use Rattle.ssr_base.specs.Building.{origin_of, count_in, cover_of_tokens, joined_origins}
-use Rattle.ssr_base.specs.Private.Covers.{plain_origin}
-use Rattle.ssr_base.proofs.CoverLaws.{join-assoc}
+use Rattle.ssr_base_trees.proofs.Shared.{join-assoc, fit_covered}
 
 -- ** The tokens that fill so many bytes.
 
@@ -89,3 +88,15 @@ pub length-joined_origins : (joined : List Token) (tokens : List ExpToken) → l
 length-joined_origins [] tokens = refl
 length-joined_origins (token ∷ later) tokens =
     omega (arith, length-joined_origins later (drop (count_in (length token.text) tokens) tokens))
+
+-- the origins of tokens that are joined of others that fit do so too
+pub fit_joined : (text : List ℕ) (joined : List Token) (tokens : List ExpToken) → AllPass (λ token. fits_origin text (origin_of token)) tokens
+    → AllPass (fits_origin text) (joined_origins joined tokens)
+fit_joined text [] tokens fit = All-nil (λ o. fits_origin text o ≡ true)
+fit_joined text (token ∷ later) tokens fit =
+    let fits : ExpToken → Type 0 = λ token. fits_origin text (origin_of token) ≡ true in
+    let count = count_in (length token.text) tokens in
+    All-cons (λ o. fits_origin text o ≡ true) (covered (cover_of (map origin_of (take count tokens)))) (joined_origins later (drop count tokens))
+    (fit_covered text (map origin_of (take count tokens))
+    (All-map (λ o. fits_origin text o ≡ true) origin_of (take count tokens) (All-take fits count tokens fit)))
+    (fit_joined text later (drop count tokens) (All-drop fits count tokens fit))

@@ -24,7 +24,7 @@ use Rattle.ssr_syntax_rows.specs.Lossless.{trivia, behind_trivia, gap, behind_ga
 use Rattle.ssr_syntax_rows.specs.Solid.{pieces, solid_tokens}
 use Rattle.ssr_syntax.specs.Reading.{error_of, unless_misnamed, one_tree, reading, tree_reading, lexed_reading, file_reading}
 use Rattle.ssr_syntax.proofs.Shared.{AreTexts, texts-append, texts_spelled, texts_split, tiled_texts}
-use Rattle.ssr_base.specs.Built.{HasTexts}
+use Rattle.ssr_base_trees.specs.Built.{HasTexts}
 
 -- ** What there is where a reading answers.
 

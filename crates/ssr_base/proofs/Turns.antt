@@ -5,8 +5,10 @@ use Rattle.std.specs.Global.{Global}
 use Rattle.ssr_base.specs.declared.building.Expansion.{Expansion}
 use Rattle.ssr_base.specs.declared.workspace_error.WorkspaceError.{WorkspaceError}
 use Rattle.ssr_base.specs.declared.workspace_error.WorkspaceError.TheVariants as errors
-use Rattle.ssr_base.specs.Workspace.{Workspace}
-use Rattle.ssr_base.specs.Building.{most_trees, ◌>>=◌, unless, in_turn, with_file, with_expansion, no_tree, built, Gives, Answers}
+use Rattle.ssr_base_trees.specs.Workspace.{Workspace}
+use Rattle.ssr_base_trees.specs.Built.{most_trees}
+use Rattle.ssr_base.specs.Building.{◌>>=◌, unless, in_turn, with_file, with_expansion, built, Gives, Answers}
+use Rattle.ssr_base_trees.specs.Growth.{no_tree}
 
 -- a refusal of a part is one of the whole
 gives_refusal : {A B : Type 0} (part : Result A WorkspaceError) (whole : Result B WorkspaceError) (e : WorkspaceError) → (part ≡ Err e → whole ≡ Err e)

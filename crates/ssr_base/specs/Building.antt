@@ -13,20 +13,14 @@ use Rattle.ssr_syntax.specs.Expansions.{expansion_reading}
 use Rattle.ssr_syntax.specs.declared.syntax_error.SyntaxError.{SyntaxError}
 use Rattle.ssr_syntax.specs.declared.syntax_error.SyntaxError.TheVariants as syntax
 use Rattle.ssr_syntax.specs.declared.expansions.ExpToken.{ExpToken}
-use Rattle.ssr_base.specs.declared.ids.NodeId.{NodeId}
+use Rattle.ssr_base_trees.specs.declared.ids.NodeId.{NodeId}
 use Rattle.ssr_base.specs.declared.building.Expansion.{Expansion}
 use Rattle.ssr_base.specs.declared.workspace_error.WorkspaceError.{WorkspaceError}
 use Rattle.ssr_base.specs.declared.workspace_error.WorkspaceError.TheVariants as errors
-use Rattle.ssr_base.specs.Origins.{Span, Cover, span_of, cover_of, covered}
-use Rattle.ssr_base.specs.Workspace.{Workspace, trees, tree_of, text_at_top, nesting, node_id, expansion_of}
-use Rattle.ssr_base.specs.Texts.{is_boundary}
-
-abbrev pub most_trees : ℕ
-most_trees = 65536
-
--- how many calls there may be from an expansion up to its file
-abbrev pub most_nested : ℕ
-most_nested = 32
+use Rattle.ssr_base_trees.specs.Origins.{Span, Cover, span_of, cover_of, covered, fits_origin}
+use Rattle.ssr_base_trees.specs.Workspace.{Workspace, trees, tree_of, text_at_top, nesting, node_id, expansion_of}
+use Rattle.ssr_base_trees.specs.Built.{most_trees, most_nested}
+use Rattle.ssr_base_trees.specs.Growth.{with_tree, no_tree}
 
 infixl 10 ◌>>=◌
 abbrev pub ◌>>=◌ : {A B : Type 0} → Result A WorkspaceError → (A → Result B WorkspaceError) → Result B WorkspaceError
@@ -75,11 +69,6 @@ if_free w call = if is_some (expansion_of w call) then None else Some call
 unfoldable pub free_call : Workspace → ℕ → TextRange → Option NodeId
 free_call w t range = option_and_then (if_free w) (call_at w t range)
 
--- whether a token has no origin, or one that has a byte and lies between characters of a text
-abbrev pub fits_origin : List ℕ → Option Span → Bool
-fits_origin text None = true
-fits_origin text (Some span) = nat_lt span.start span.end && (is_boundary text span.start && is_boundary text span.end)
-
 abbrev pub origin_of : ExpToken → Option Span
 origin_of token = option_map span_of token.origin
 
@@ -107,10 +96,6 @@ checked_call w x = do
   _ ← unless (not (list_all (fits_origin (text_at_top (trees w) call.tree)) (map origin_of x.tokens.items))) (errors.Origin n)
   Ok call
 
-abbrev pub with_tree : Workspace → NodeId → Syntax → List (Option Span) → Workspace
-with_tree w call tree origins =
-    record { files = w.files; expansions = w.expansions ++ record { call = call; syntax = tree; origins = origins } ∷ [] }
-
 abbrev pub with_expansion : Workspace → Expansion → Result Workspace WorkspaceError
 with_expansion w x = do
   call ← checked_call w x
@@ -118,9 +103,6 @@ with_expansion w x = do
   Ok (with_tree w call tree (joined_origins (tokens_of tree) x.tokens.items))
 
 -- ** All.
-
-abbrev pub no_tree : Workspace
-no_tree = record { files = []; expansions = [] }
 
 unfoldable pub built : List (String Global) → List Expansion → Result Workspace WorkspaceError
 built files expansions = do

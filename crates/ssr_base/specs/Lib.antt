@@ -1,11 +1,2 @@
-pub mod Changes
-pub mod Applied
-pub mod Origins
-pub mod Texts
-pub mod Workspace
-pub mod WorkspaceCode
 pub mod Building
-pub mod Built
-pub mod Laws
-pub mod Meanings
 pub mod Private

@@ -1,5 +1,2 @@
--- Words of private functions and of the invariants of private fields. No public clause cites them, and no reader of
--- those has to believe them.
-pub mod Covers
-pub mod Stored
-pub mod Built
+-- Words of private functions. No public clause cites them, and no reader of those has to believe them.
+pub mod Finding

@@ -3,27 +3,26 @@
 ghost use Rattle.std.specs.Prelude.{◌≡◌, ◌+◌, ◌<◌, ◌≤◌, ◌↔◌, IfOk, IfErr, length, map, take, drop, string_bytes};
 ghost use Rattle.std.specs.List.{list_all};
 ghost use Rattle.std.specs.Option.{option_map};
-ghost use Rattle.ssr_syntax_tree.specs.Syntax.{node_count, token_count, tokens_of};
+ghost use Rattle.ssr_syntax_tree.specs.Syntax.{node_count, tokens_of};
 ghost use Rattle.ssr_syntax_tree.specs.Places.{HasNode, node_of};
-ghost use Rattle.ssr_base.specs.Workspace.{trees, text_at_top};
+ghost use Rattle.ssr_base_trees.specs.Workspace.{trees, text_at_top};
 ghost use Rattle.ssr_syntax.specs.Reading.{file_reading};
 ghost use Rattle.ssr_syntax.specs.Expansions.{expansion_reading};
-ghost use Rattle.ssr_base.specs.Origins.{covered};
-ghost use Rattle.ssr_base.specs.Building.{most_trees, read_as, with_file, with_expansion, with_tree, in_turn, no_tree, is_call, first_call, free_call, checked_call, fits_origin, origin_of, count_in, cover_of_tokens, joined_origins, Gives, Answers};
-ghost use Rattle.ssr_base.specs.Private.Covers.{plain_origin};
-ghost use Rattle.ssr_base.specs.Private.Built.{NodesBefore, NodesFrom, IsFree, IsOfCall};
+ghost use Rattle.ssr_base_trees.specs.Origins.{covered, fits_origin, plain_origin};
+ghost use Rattle.ssr_base_trees.specs.Built.{most_trees};
+ghost use Rattle.ssr_base.specs.Building.{read_as, with_file, with_expansion, in_turn, is_call, first_call, free_call, checked_call, origin_of, count_in, cover_of_tokens, joined_origins, Gives, Answers};
+ghost use Rattle.ssr_base_trees.specs.Growth.{no_tree};
+ghost use Rattle.ssr_base.specs.Private.Finding.{NodesBefore, NodesFrom};
 
-use crate::covers::{Cover, covers};
-use crate::ids::NodeId;
-use crate::workspace::{Expanded, Workspace};
+use crate::workspace::Workspace;
 use crate::workspace_error::WorkspaceError;
+use ssr_base_trees::{Cover, NodeId, Trees};
 use ssr_syntax::{
     ExpToken, ExpansionKind, SyntaxError, SyntaxKind, parse_file_owned, parse_tokens,
 };
 use ssr_syntax_kinds::TextRange;
 use ssr_syntax_tree::{NodeNo, TokenNo, Tree};
 use std::alloc::{AllocError, Global};
-use std::collections::BTreeMap;
 
 /// How many files and expansions there may be.
 const MOST_TREES: usize = 65_536;
@@ -187,6 +186,78 @@ fn check_count(files: usize, expansions: usize) -> Result<(), WorkspaceError>
     Ok(())
 }
 
+/// The trees of files.
+fn read_files(alloc: Global, files: Vec<String>) -> Result<Trees, WorkspaceError>
+    requires { length files.items ≤ most_trees }
+    ensures gives { Gives (in_turn with_file no_tree files.items) result }
+    ensures counted { IfOk result (λ w. (length w.files ≡ length files.items) × (length w.expansions ≡ 0)) }
+{
+    let mut trees = Vec::new(alloc);
+    for text in files {
+        let tree = read_file(alloc, trees.len() as u32, text)?;
+        trees.push(tree)?;
+    }
+    Ok(Trees::of_files(alloc, trees))
+}
+
+/// The macro call at a range of a tree, if it has no expansion yet.
+fn free_call(trees: &Trees, tree: u32, range: TextRange) -> Option<NodeId>
+    ensures { result ≡ free_call trees.now tree range }
+{
+    let node = first_call(trees.tree(tree)?, range)?;
+    let call = NodeId { tree, node };
+    match trees.expansion_of(call) {
+        Some(_) => None,
+        None => Some(call),
+    }
+}
+
+/// The text of the file at the top of a tree.
+fn text_at_top(workspace: &Trees, tree: u32) -> &str
+    ensures { result.now ≡ text_at_top (trees workspace.now) tree }
+{
+    match workspace.tree(workspace.file_of(tree)) {
+        Some(file) => file.source(),
+        None => "",
+    }
+}
+
+/// The call that an expansion names, if nothing is in the way of it.
+fn checked_call(trees: &Trees, expansion: &Expansion) -> Result<NodeId, WorkspaceError>
+    ensures { result ≡ checked_call trees.now expansion.now }
+{
+    let number = trees.expansion_count();
+    let (tree, range) = expansion.call;
+    let Some(call) = free_call(trees, tree, range) else {
+        return Err(WorkspaceError::Call(number));
+    };
+    if trees.nesting(call.tree) >= MOST_NESTED {
+        return Err(WorkspaceError::Nested(number));
+    }
+    if !fit_origins(text_at_top(trees, call.tree), &expansion.tokens) {
+        return Err(WorkspaceError::Origin(number));
+    }
+    Ok(call)
+}
+
+/// The trees with that of one expansion more.
+fn with_expansion(
+    trees: Trees,
+    alloc: Global,
+    expansion: Expansion,
+) -> Result<Trees, WorkspaceError>
+    requires { length trees.files + length trees.expansions < most_trees }
+    ensures gives { Gives (with_expansion trees expansion) result }
+    ensures counted { IfOk result (λ w. (length w.files ≡ length trees.files) × (length w.expansions ≡ length trees.expansions + 1)) }
+{
+    let call = checked_call(&trees, &expansion)?;
+    let number = trees.expansion_count();
+    let tree = read_expansion(alloc, number, expansion.kind, &expansion.tokens)?;
+    let origins = joined_origins(alloc, &tree, &expansion.tokens)?;
+    drop(expansion);
+    Ok(trees.with_tree(alloc, call, tree, origins)?)
+}
+
 impl Workspace {
     /// The trees of files and expansions, in their order. Refused, by the first of these that holds: more than 65,536 of
     /// them; the first file without a tree; then the first expansion whose call is none of an earlier tree or has an
@@ -200,125 +271,10 @@ impl Workspace {
         ensures { Answers files.items expansions.items result }
     {
         check_count(files.len(), expansions.len())?;
-        let mut workspace = Workspace::of_files(alloc, files)?;
+        let mut trees = read_files(alloc, files)?;
         for expansion in expansions {
-            workspace = workspace.with_expansion(alloc, expansion)?;
+            trees = with_expansion(trees, alloc, expansion)?;
         }
-        Ok(workspace)
-    }
-
-    /// The trees of files.
-    fn of_files(alloc: Global, files: Vec<String>) -> Result<Workspace, WorkspaceError>
-        requires { length files.items ≤ most_trees }
-        ensures gives { Gives (in_turn with_file no_tree files.items) result }
-        ensures counted { IfOk result (λ w. (length w.files ≡ length files.items) × (length w.expansions ≡ 0)) }
-    {
-        let mut trees = Vec::new(alloc);
-        for text in files {
-            let tree = read_file(alloc, trees.len() as u32, text)?;
-            trees.push(tree)?;
-        }
-        Ok(Workspace {
-            files: trees,
-            expansions: Vec::new(alloc),
-            calls: BTreeMap::new(alloc),
-        })
-    }
-
-    /// The macro call at a range of a tree, if it has no expansion yet.
-    fn free_call(&self, tree: u32, range: TextRange) -> Option<NodeId>
-        ensures { result ≡ free_call self.now tree range }
-    {
-        let node = first_call(self.tree(tree)?, range)?;
-        let call = NodeId { tree, node };
-        match self.expansion_of(call) {
-            Some(_) => None,
-            None => Some(call),
-        }
-    }
-
-    /// The text of the file at the top of a tree.
-    fn text_at_top(&self, tree: u32) -> &str
-        ensures { result.now ≡ text_at_top (trees self.now) tree }
-    {
-        match self.tree(self.file_of(tree)) {
-            Some(file) => file.source(),
-            None => "",
-        }
-    }
-
-    /// The call that an expansion names, if nothing is in the way of it.
-    fn checked_call(&self, expansion: &Expansion) -> Result<NodeId, WorkspaceError>
-        ensures { result ≡ checked_call self.now expansion.now }
-    {
-        let number = self.expansion_count();
-        let (tree, range) = expansion.call;
-        let Some(call) = self.free_call(tree, range) else {
-            return Err(WorkspaceError::Call(number));
-        };
-        if self.nesting(call.tree) >= MOST_NESTED {
-            return Err(WorkspaceError::Nested(number));
-        }
-        if !fit_origins(self.text_at_top(call.tree), &expansion.tokens) {
-            return Err(WorkspaceError::Origin(number));
-        }
-        Ok(call)
-    }
-
-    /// The workspace with one expansion more.
-    fn with_expansion(
-        self,
-        alloc: Global,
-        expansion: Expansion,
-    ) -> Result<Workspace, WorkspaceError>
-        requires { length self.files + length self.expansions < most_trees }
-        ensures gives { Gives (with_expansion self expansion) result }
-        ensures counted { IfOk result (λ w. (length w.files ≡ length self.files) × (length w.expansions ≡ length self.expansions + 1)) }
-    {
-        let call = self.checked_call(&expansion)?;
-        let number = self.expansion_count();
-        let tree = read_expansion(alloc, number, expansion.kind, &expansion.tokens)?;
-        let origins = joined_origins(alloc, &tree, &expansion.tokens)?;
-        drop(expansion);
-        Ok(self.with_tree(alloc, call, tree, origins)?)
-    }
-
-    /// The workspace with the tree of a call of an earlier tree that has no expansion yet.
-    fn with_tree(
-        self,
-        alloc: Global,
-        call: NodeId,
-        tree: Tree,
-        origins: Vec<Option<TextRange>>,
-    ) -> Result<Workspace, AllocError>
-        requires room { length self.files + length self.expansions < most_trees }
-        requires free { IsFree self call }
-        requires of_call { IsOfCall self (record { call = call; syntax = tree; origins = map plain_origin origins.items }) }
-        requires counted { length origins.items ≡ token_count tree.children }
-        ensures { IfOk result (λ w. w ≡ with_tree self call tree (map plain_origin origins.items)) }
-    {
-        let covers = covers(alloc, &tree, &origins)?;
-        let file = self.file_of(call.tree);
-        let nesting = self.nesting(call.tree) + 1;
-        let number = self.expansion_count();
-        let Workspace {
-            files,
-            mut expansions,
-            mut calls,
-        } = self;
-        calls.insert(call, number)?;
-        expansions.push(Expanded {
-            tree,
-            call,
-            origins,
-            covers,
-            file,
-            nesting,
-        })?;
-        Ok(Workspace {
-            files,
-            expansions,
-            calls,
-        })
+        Ok(Workspace { trees })
     }
 }

@@ -1,19 +1,16 @@
-//! Plain values that the crates of search and replace share, edits of a text, the workspace of a search, and what a
-//! provider tells of its names and types.
+//! The workspace of a search: trees of files, and of what macro calls in them stand for, read of their texts. What the
+//! crates of search and replace share beside it stands in `ssr_base_trees`, and is shown here too.
 #![tactic(auto)]
 
 mod building;
-mod covers;
-mod edit;
-mod ids;
 pub mod laws;
-mod semantics;
 mod workspace;
 mod workspace_error;
 
 pub use building::Expansion;
-pub use edit::{ApplyError, TextEdit};
-pub use ids::{DefId, FileId, FilePosition, FileRange, NodeId, ScopeId, TokenRun, TypeId};
-pub use semantics::{DefInfo, DefKind, Res, SelfKind, Semantics};
+pub use ssr_base_trees::{
+    ApplyError, DefId, DefInfo, DefKind, FileId, FilePosition, FileRange, NodeId, Res, ScopeId,
+    SelfKind, Semantics, TextEdit, TokenRun, TypeId,
+};
 pub use workspace::Workspace;
 pub use workspace_error::WorkspaceError;

@@ -6,7 +6,7 @@ use Rattle.std.specs.Result.{IsOkAnd}
 use Rattle.ssr_base.specs.declared.building.Expansion.{Expansion}
 use Rattle.ssr_base.specs.declared.workspace_error.WorkspaceError.{WorkspaceError}
 use Rattle.ssr_base.specs.Building.{built}
-use Rattle.ssr_base.specs.Workspace.{Workspace}
+use Rattle.ssr_base_trees.specs.Workspace.{Workspace}
 use Rattle.ssr_facts_rows.specs.declared.facts.FactRows.{FactRows}
 use Rattle.ssr_facts_rows.specs.declared.sources.FileRow.{FileRow}
 use Rattle.ssr_facts_rows.specs.Sources.{plain_file, plain_expansion}

@@ -5,9 +5,9 @@ use Rattle.std.specs.Prelude.{Vec}
 use Rattle.std.specs.Global.{Global}
 use Rattle.std.specs.Map.{lookup}
 use Rattle.std.specs.Option.{option_or, option_map}
-use Rattle.ssr_base.specs.declared.ids.NodeId.{NodeId}
-use Rattle.ssr_base.specs.declared.ids.TypeId.{TypeId}
-use Rattle.ssr_base.specs.Workspace.{node_id, same_id}
+use Rattle.ssr_base_trees.specs.declared.ids.NodeId.{NodeId}
+use Rattle.ssr_base_trees.specs.declared.ids.TypeId.{TypeId}
+use Rattle.ssr_base_trees.specs.Workspace.{node_id, same_id}
 use Rattle.ssr_facts.specs.Private.Nodes.{told_up_to, types_at}
 use Rattle.ssr_facts.proofs.Lists.{option_or_none, option_or_assoc, option_map-or}
 use Rattle.ssr_facts.proofs.Rows.{lookup_push}

@@ -11,21 +11,21 @@ use Rattle.std.specs.Map.{lookup, IsKeyTest}
 use Rattle.std.specs.Ordering.{nat_cmp, eq_by_cmp}
 use Rattle.std.specs.Str.{bytes_eq}
 use Rattle.std.specs.String.{string_cmp}
-use Rattle.ssr_base.specs.declared.ids.NodeId.{NodeId}
-use Rattle.ssr_base.specs.declared.ids.ScopeId.{ScopeId}
-use Rattle.ssr_base.specs.declared.ids.DefId.{DefId}
-use Rattle.ssr_base.specs.declared.semantics.Res.{Res}
-use Rattle.ssr_base.specs.declared.semantics.Res.TheVariants as res
+use Rattle.ssr_base_trees.specs.declared.ids.NodeId.{NodeId}
+use Rattle.ssr_base_trees.specs.declared.ids.ScopeId.{ScopeId}
+use Rattle.ssr_base_trees.specs.declared.ids.DefId.{DefId}
+use Rattle.ssr_base_trees.specs.declared.semantics.Res.{Res}
+use Rattle.ssr_base_trees.specs.declared.semantics.Res.TheVariants as res
 use Rattle.ssr_facts.specs.declared.tables.NameKey.{NameKey}
 use Rattle.ssr_facts.specs.declared.tables.MemberKey.{MemberKey}
 use Rattle.ssr_facts.specs.declared.tables.PrintedKey.{PrintedKey}
-use Rattle.ssr_base.specs.contracts.ids.NodeIdOrd.TheImpl as id_order
-use Rattle.ssr_base.specs.contracts.semantics.ResOrd.TheImpl as res_order
+use Rattle.ssr_base_trees.specs.contracts.ids.NodeIdOrd.TheImpl as id_order
+use Rattle.ssr_base_trees.specs.contracts.semantics.ResOrd.TheImpl as res_order
 use Rattle.ssr_facts.specs.contracts.tables.NameKeyOrd.TheImpl as name_order
 use Rattle.ssr_facts.specs.contracts.tables.MemberKeyOrd.TheImpl as member_order
 use Rattle.ssr_facts.specs.contracts.tables.PrintedKeyOrd.TheImpl as printed_order
-use Rattle.ssr_base.specs.Workspace.{same_id}
-use Rattle.ssr_base.specs.Meanings.{same_res}
+use Rattle.ssr_base_trees.specs.Workspace.{same_id}
+use Rattle.ssr_base_trees.specs.Meanings.{same_res}
 use Rattle.ssr_facts.specs.Tables.{is_name, is_member, is_printed}
 use Rattle.ssr_facts.proofs.Rows.{lookup_alike}
 

@@ -16,12 +16,14 @@ use Rattle.ssr_syntax.specs.declared.syntax_error.SyntaxError.{SyntaxError}
 use Rattle.ssr_syntax.specs.Expansions.{expansion_text, unless_refused, lone_kind, raw_token, raw_from, goal_of_expansion, expansion_reading}
 use Rattle.ssr_syntax.specs.Reading.{tree_reading, short_reading, file_reading}
 use Rattle.ssr_base.specs.declared.building.Expansion.{Expansion}
-use Rattle.ssr_base.specs.declared.ids.NodeId.{NodeId}
+use Rattle.ssr_base_trees.specs.declared.ids.NodeId.{NodeId}
 use Rattle.ssr_base.specs.declared.workspace_error.WorkspaceError.{WorkspaceError}
 use Rattle.ssr_base.specs.declared.workspace_error.WorkspaceError.TheVariants as errors
-use Rattle.ssr_base.specs.Origins.{Span, span_of, cover_of, covered}
-use Rattle.ssr_base.specs.Workspace.{Workspace, trees, text_at_top, nesting}
-use Rattle.ssr_base.specs.Building.{most_trees, most_nested, ◌>>=◌, unless, read_as, in_turn, with_file, free_call, fits_origin, origin_of, count_in, joined_origins, checked_call, with_tree, with_expansion, no_tree, built}
+use Rattle.ssr_base_trees.specs.Origins.{Span, span_of, cover_of, covered, fits_origin}
+use Rattle.ssr_base_trees.specs.Workspace.{Workspace, trees, text_at_top, nesting}
+use Rattle.ssr_base_trees.specs.Built.{most_trees, most_nested}
+use Rattle.ssr_base.specs.Building.{◌>>=◌, unless, read_as, in_turn, with_file, free_call, origin_of, count_in, joined_origins, checked_call, with_expansion, built}
+use Rattle.ssr_base_trees.specs.Growth.{with_tree, no_tree}
 use Rattle.ssr_facts_rows.specs.declared.places.SpanRow.{SpanRow}
 use Rattle.ssr_facts_rows.specs.declared.sources.ExpansionKindRow.{ExpansionKindRow}
 use Rattle.ssr_facts_rows.specs.declared.sources.ExpansionKindRow.TheVariants as rows

@@ -13,10 +13,10 @@ use Rattle.ssr_syntax_tree.specs.Syntax.{Syntax, node_count}
 use Rattle.ssr_syntax_tree.specs.Places.{Node, HasNode, node_of, nodes_of}
 use Rattle.ssr_syntax_tree.proofs.Lists.{take_between}
 use Rattle.ssr_syntax_tree.proofs.Shared.{node_left, node_of-number}
-use Rattle.ssr_base.specs.declared.ids.NodeId.{NodeId}
-use Rattle.ssr_base.specs.Building.{most_trees}
-use Rattle.ssr_base.specs.Workspace.{Workspace, Planted, trees, with_number, tree_of, node_id, has_node}
-use Rattle.ssr_base.proofs.Shared.{length-trees}
+use Rattle.ssr_base_trees.specs.declared.ids.NodeId.{NodeId}
+use Rattle.ssr_base_trees.specs.Built.{most_trees}
+use Rattle.ssr_base_trees.specs.Workspace.{Workspace, PlacedTree, trees, with_number, tree_of, node_id, has_node}
+use Rattle.ssr_base_trees.proofs.Shared.{length-trees}
 use Rattle.ssr_facts_rows.specs.declared.places.PlaceRow.{PlaceRow}
 use Rattle.ssr_facts_rows.specs.contracts.places.PlaceRowOrd.TheImpl as place_order
 use Rattle.ssr_facts.specs.Nodes.{same_place, place_in, place_of, stands_at, node_at}
@@ -30,30 +30,30 @@ place_ties a b = both_tied _ _ _ _ (unsigned_ties a.tree b.tree) (both_tied _ _ 
 -- ** Trees.
 
 -- from the number of trees on there is none
-planted_past : (ts : List Planted) (t : ℕ) → length ts ≤ t → with_number ts t ≡ None
-planted_past [] t past = refl
-planted_past (p ∷ earlier) t past =
-    ap (λ b. cond b (Some p) (with_number earlier t)) (ne_eqb t (length earlier) (λ e. omega arith)) ∙ planted_past earlier t (omega arith)
+placed_past : (ts : List PlacedTree) (t : ℕ) → length ts ≤ t → with_number ts t ≡ None
+placed_past [] t past = refl
+placed_past (p ∷ earlier) t past =
+    ap (λ b. cond b (Some p) (with_number earlier t)) (ne_eqb t (length earlier) (λ e. omega arith)) ∙ placed_past earlier t (omega arith)
 
 module _ (w : Workspace) (few : length w.files + length w.expansions ≤ most_trees) where
   none_planted : (t : ℕ) → most_trees ≤ t → with_number (trees w) t ≡ None
-  none_planted t past = planted_past (trees w) t (omega (arith, length-trees w))
+  none_planted t past = placed_past (trees w) t (omega (arith, length-trees w))
 
   pub no_node_past : (kind : SyntaxKind) (place : PlaceRow) → most_trees ≤ place.tree → node_at w kind place ≡ None
   no_node_past kind place past =
-      ap (λ o. option_and_then (λ tree. option_map (λ node. node_id place.tree node.number) (find (stands_at kind place tree) (nodes_of tree))) (option_map (λ (p : Planted). p.syntax) o)) (none_planted place.tree past)
+      ap (λ o. option_and_then (λ tree. option_map (λ node. node_id place.tree node.number) (find (stands_at kind place tree) (nodes_of tree))) (option_map (λ (p : PlacedTree). p.syntax) o)) (none_planted place.tree past)
 
   pub no_place_past : (x : NodeId) → most_trees ≤ x.tree → place_of w x ≡ None
   no_place_past x past =
-      ap (option_and_then (λ (p : Planted). if has_node p.syntax x.node.0 then Some (place_at x.tree p.syntax x.node.0) else None)) (none_planted x.tree past)
+      ap (option_and_then (λ (p : PlacedTree). if has_node p.syntax x.node.0 then Some (place_at x.tree p.syntax x.node.0) else None)) (none_planted x.tree past)
 
 -- the place of a node of a tree
 pub place_known : (w : Workspace) (t : ℕ) (tree : Syntax) → tree_of w t ≡ Some tree → (x : NodeId) → x.tree ≡ t
     → place_of w x ≡ (if has_node tree x.node.0 then Some (place_at t tree x.node.0) else None)
 place_known w t tree is x same = by (with_number (trees w) x.tree) (ap (tree_of w) same ∙ is)
   where
-    by : (o : Option Planted) → option_map (λ (p : Planted). p.syntax) o ≡ Some tree
-        → option_and_then (λ (p : Planted). if has_node p.syntax x.node.0 then Some (place_at x.tree p.syntax x.node.0) else None) o
+    by : (o : Option PlacedTree) → option_map (λ (p : PlacedTree). p.syntax) o ≡ Some tree
+        → option_and_then (λ (p : PlacedTree). if has_node p.syntax x.node.0 then Some (place_at x.tree p.syntax x.node.0) else None) o
         ≡ (if has_node tree x.node.0 then Some (place_at t tree x.node.0) else None)
     by None e = cc
     by (Some p) e =
@@ -62,8 +62,8 @@ place_known w t tree is x same = by (with_number (trees w) x.tree) (ap (tree_of 
 pub place_unknown : (w : Workspace) (t : ℕ) → tree_of w t ≡ None → (x : NodeId) → x.tree ≡ t → place_of w x ≡ None
 place_unknown w t is x same = by (with_number (trees w) x.tree) (ap (tree_of w) same ∙ is)
   where
-    by : (o : Option Planted) → option_map (λ (p : Planted). p.syntax) o ≡ None
-        → option_and_then (λ (p : Planted). if has_node p.syntax x.node.0 then Some (place_at x.tree p.syntax x.node.0) else None) o ≡ None
+    by : (o : Option PlacedTree) → option_map (λ (p : PlacedTree). p.syntax) o ≡ None
+        → option_and_then (λ (p : PlacedTree). if has_node p.syntax x.node.0 then Some (place_at x.tree p.syntax x.node.0) else None) o ≡ None
     by None e = refl
     by (Some p) e = cc
 

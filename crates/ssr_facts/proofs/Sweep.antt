@@ -9,7 +9,7 @@ use Rattle.std.specs.Cmp.{unsigned_ties}
 use Rattle.std.specs.List.Sorted.{IsNonDecreasingBy}
 use Rattle.std.specs.Option.{option_map, option_or}
 use Rattle.std.specs.Ordering.{nat_cmp}
-use Rattle.ssr_base.specs.declared.ids.ScopeId.{ScopeId}
+use Rattle.ssr_base_trees.specs.declared.ids.ScopeId.{ScopeId}
 use Rattle.ssr_facts_rows.specs.declared.places.PlaceRow.{PlaceRow}
 use Rattle.ssr_facts.specs.declared.scopes.Scope.{Scope}
 use Rattle.ssr_facts.specs.Private.Scopes.{scopes_in, IsBest, IsKept, IsFirst, id_of}

@@ -8,10 +8,10 @@ use Rattle.std.specs.List.{find, filter_map, cons_option, list_all}
 use Rattle.std.specs.Map.{lookup, keys_of}
 use Rattle.std.specs.Option.{option_map, option_map_or, option_and_then}
 use Rattle.ssr_syntax_kinds.specs.declared.kinds.SyntaxKind.TheVariants as k
-use Rattle.ssr_base.specs.declared.ids.NodeId.{NodeId}
-use Rattle.ssr_base.specs.declared.semantics.Res.TheVariants as res
-use Rattle.ssr_base.specs.declared.semantics.SelfKind.TheVariants as self
-use Rattle.ssr_base.specs.Workspace.{Workspace, same_id}
+use Rattle.ssr_base_trees.specs.declared.ids.NodeId.{NodeId}
+use Rattle.ssr_base_trees.specs.declared.semantics.Res.TheVariants as res
+use Rattle.ssr_base_trees.specs.declared.semantics.SelfKind.TheVariants as self
+use Rattle.ssr_base_trees.specs.Workspace.{Workspace, same_id}
 use Rattle.ssr_facts_rows.specs.declared.facts.FactRows.{FactRows}
 use Rattle.ssr_facts_rows.specs.declared.places.PlaceRow.{PlaceRow}
 use Rattle.ssr_facts_rows.specs.declared.meanings.PrintedRow.{PrintedRow}

@@ -3,10 +3,10 @@ use Rattle.std.proofs.Common.{◌≡◌, List, [], ◌∷◌, ◌++◌, Bool, tr
 use Rattle.std.proofs.lemmas.List.Elements.{filter-append}
 use Rattle.std.specs.Prelude.{if◌then◌else◌, filter}
 use Rattle.std.specs.BTreeMap.{is_at}
-use Rattle.ssr_base.specs.declared.ids.NodeId.{NodeId}
-use Rattle.ssr_base.specs.declared.semantics.Res.{Res}
-use Rattle.ssr_base.specs.contracts.semantics.ResOrd.TheImpl as res_order
-use Rattle.ssr_base.specs.Meanings.{same_res}
+use Rattle.ssr_base_trees.specs.declared.ids.NodeId.{NodeId}
+use Rattle.ssr_base_trees.specs.declared.semantics.Res.{Res}
+use Rattle.ssr_base_trees.specs.contracts.semantics.ResOrd.TheImpl as res_order
+use Rattle.ssr_base_trees.specs.Meanings.{same_res}
 use Rattle.ssr_facts.specs.Tables.{stands_for}
 use Rattle.ssr_facts.proofs.Keys.{res_ties}
 

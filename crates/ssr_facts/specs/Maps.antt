@@ -2,13 +2,13 @@
 use Rattle.std.specs.Prelude.{Option, string_bytes}
 use Rattle.std.specs.Map.{lookup}
 use Rattle.std.specs.Option.{option_map, option_map_or}
-use Rattle.ssr_base.specs.declared.ids.NodeId.{NodeId}
-use Rattle.ssr_base.specs.declared.semantics.Res.{Res}
-use Rattle.ssr_base.specs.declared.semantics.SelfKind.TheVariants as self
+use Rattle.ssr_base_trees.specs.declared.ids.NodeId.{NodeId}
+use Rattle.ssr_base_trees.specs.declared.semantics.Res.{Res}
+use Rattle.ssr_base_trees.specs.declared.semantics.SelfKind.TheVariants as self
 use Rattle.ssr_facts.specs.declared.tables.Method.{Method}
 use Rattle.ssr_facts.specs.declared.maps.Maps.{Maps}
-use Rattle.ssr_base.specs.Meanings.{Meanings}
-use Rattle.ssr_base.specs.Workspace.{same_id}
+use Rattle.ssr_base_trees.specs.Meanings.{Meanings}
+use Rattle.ssr_base_trees.specs.Workspace.{same_id}
 use Rattle.ssr_facts.specs.Tables.{is_name, is_member, is_printed, definition_at}
 use Rattle.ssr_facts.specs.Usages.{uses_of}
 

@@ -2,7 +2,7 @@
 use Rattle.std.specs.Prelude.{ℕ, ◌&&◌, nat_lt, Bool, true, length, is_some}
 use Rattle.std.specs.List.{list_all}
 use Rattle.ssr_syntax_kinds.specs.declared.kinds.SyntaxKind.TheVariants as k
-use Rattle.ssr_base.specs.Workspace.{Workspace, tree_of}
+use Rattle.ssr_base_trees.specs.Workspace.{Workspace, tree_of}
 use Rattle.ssr_facts_rows.specs.declared.meanings.ResolutionRow.{ResolutionRow}
 use Rattle.ssr_facts_rows.specs.declared.meanings.ResolutionRow.TheVariants as resolutions
 use Rattle.ssr_facts_rows.specs.Facts.{PlainFacts}

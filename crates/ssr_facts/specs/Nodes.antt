@@ -6,8 +6,8 @@ use Rattle.ssr_syntax_kinds.specs.Kinds.{same_kind}
 use Rattle.ssr_syntax_kinds.specs.declared.kinds.SyntaxKind.{SyntaxKind}
 use Rattle.ssr_syntax_tree.specs.Syntax.{Syntax}
 use Rattle.ssr_syntax_tree.specs.Places.{Node, node_of, nodes_of, start_of, end_of}
-use Rattle.ssr_base.specs.declared.ids.NodeId.{NodeId}
-use Rattle.ssr_base.specs.Workspace.{Workspace, trees, tree_of, told_of, node_id}
+use Rattle.ssr_base_trees.specs.declared.ids.NodeId.{NodeId}
+use Rattle.ssr_base_trees.specs.Workspace.{Workspace, trees, tree_of, told_of, node_id}
 use Rattle.ssr_facts_rows.specs.declared.places.PlaceRow.{PlaceRow}
 
 abbrev pub same_place : PlaceRow → PlaceRow → Bool

@@ -4,9 +4,9 @@ use Rattle.std.specs.Bool.{MatchBool}
 use Rattle.std.specs.Global.{Global}
 use Rattle.std.specs.Result.{IsOkAnd}
 use Rattle.ssr_base.specs.declared.building.Expansion.{Expansion}
-use Rattle.ssr_base.specs.declared.ids.FilePosition.{FilePosition}
+use Rattle.ssr_base_trees.specs.declared.ids.FilePosition.{FilePosition}
 use Rattle.ssr_base.specs.declared.workspace_error.WorkspaceError.{WorkspaceError}
-use Rattle.ssr_base.specs.Workspace.{Workspace}
+use Rattle.ssr_base_trees.specs.Workspace.{Workspace}
 use Rattle.ssr_base.specs.Building.{built}
 use Rattle.ssr_facts_rows.specs.declared.places.PositionRow.{PositionRow}
 use Rattle.ssr_facts_rows.specs.declared.rows_error.RowsError.{RowsError}

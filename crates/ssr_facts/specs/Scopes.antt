@@ -3,7 +3,7 @@ use Rattle.std.specs.Prelude.{ℕ, ◌-◌, ◌==◌, ◌&&◌, nat_le, Bool, if
 use Rattle.std.specs.List.{enumerate_from}
 use Rattle.std.specs.Option.{option_map}
 use Rattle.ssr_facts_rows.specs.declared.places.PlaceRow.{PlaceRow}
-use Rattle.ssr_base.specs.declared.ids.ScopeId.{ScopeId}
+use Rattle.ssr_base_trees.specs.declared.ids.ScopeId.{ScopeId}
 
 -- whether a scope holds a place
 abbrev pub holds : PlaceRow → PlaceRow → Bool

@@ -6,7 +6,7 @@ use Rattle.ssr_syntax.specs.declared.expansions.ExpToken.{ExpToken}
 use Rattle.ssr_syntax.specs.declared.expansions.ExpansionKind.{ExpansionKind}
 use Rattle.ssr_syntax.specs.declared.expansions.ExpansionKind.TheVariants as kinds
 use Rattle.ssr_base.specs.declared.building.Expansion.{Expansion}
-use Rattle.ssr_base.specs.declared.ids.FileRange.{FileRange}
+use Rattle.ssr_base_trees.specs.declared.ids.FileRange.{FileRange}
 use Rattle.ssr_facts_rows.specs.declared.places.SpanRow.{SpanRow}
 use Rattle.ssr_facts_rows.specs.declared.places.RangeRow.{RangeRow}
 use Rattle.ssr_facts_rows.specs.declared.sources.ExpansionKindRow.{ExpansionKindRow}

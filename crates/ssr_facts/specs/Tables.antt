@@ -4,21 +4,21 @@ use Rattle.std.specs.Cmp.Lexicographic.{pointwise}
 use Rattle.std.specs.Map.{lookup, keys_of}
 use Rattle.std.specs.Option.{option_map, option_map_or}
 use Rattle.std.specs.Str.{bytes_eq}
-use Rattle.ssr_base.specs.declared.ids.NodeId.{NodeId}
-use Rattle.ssr_base.specs.declared.ids.ScopeId.{ScopeId}
-use Rattle.ssr_base.specs.declared.ids.DefId.{DefId}
-use Rattle.ssr_base.specs.declared.semantics.Res.{Res}
-use Rattle.ssr_base.specs.declared.semantics.Res.TheVariants as res
-use Rattle.ssr_base.specs.declared.semantics.DefKind.TheVariants as kinds
-use Rattle.ssr_base.specs.declared.semantics.SelfKind.TheVariants as self
+use Rattle.ssr_base_trees.specs.declared.ids.NodeId.{NodeId}
+use Rattle.ssr_base_trees.specs.declared.ids.ScopeId.{ScopeId}
+use Rattle.ssr_base_trees.specs.declared.ids.DefId.{DefId}
+use Rattle.ssr_base_trees.specs.declared.semantics.Res.{Res}
+use Rattle.ssr_base_trees.specs.declared.semantics.Res.TheVariants as res
+use Rattle.ssr_base_trees.specs.declared.semantics.DefKind.TheVariants as kinds
+use Rattle.ssr_base_trees.specs.declared.semantics.SelfKind.TheVariants as self
 use Rattle.ssr_facts.specs.declared.tables.Definition.{Definition}
 use Rattle.ssr_facts.specs.declared.tables.NameKey.{NameKey}
 use Rattle.ssr_facts.specs.declared.tables.MemberKey.{MemberKey}
 use Rattle.ssr_facts.specs.declared.tables.PrintedKey.{PrintedKey}
 use Rattle.ssr_facts.specs.declared.tables.Method.{Method}
 use Rattle.ssr_facts.specs.declared.tables.Tables.{Tables}
-use Rattle.ssr_base.specs.Meanings.{Meanings, same_res}
-use Rattle.ssr_base.specs.Workspace.{same_id}
+use Rattle.ssr_base_trees.specs.Meanings.{Meanings, same_res}
+use Rattle.ssr_base_trees.specs.Workspace.{same_id}
 
 -- ** Keys: which of them are asked for.
 

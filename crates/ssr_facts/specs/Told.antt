@@ -7,18 +7,18 @@ use Rattle.std.specs.Option.{option_map, option_map_or, option_and_then}
 use Rattle.std.specs.Str.{bytes_eq}
 use Rattle.ssr_syntax_kinds.specs.declared.kinds.SyntaxKind.{SyntaxKind}
 use Rattle.ssr_syntax_kinds.specs.declared.kinds.SyntaxKind.TheVariants as k
-use Rattle.ssr_base.specs.declared.ids.NodeId.{NodeId}
-use Rattle.ssr_base.specs.declared.ids.ScopeId.{ScopeId}
-use Rattle.ssr_base.specs.declared.ids.DefId.{DefId}
-use Rattle.ssr_base.specs.declared.ids.TypeId.{TypeId}
-use Rattle.ssr_base.specs.declared.semantics.Res.{Res}
-use Rattle.ssr_base.specs.declared.semantics.Res.TheVariants as res
-use Rattle.ssr_base.specs.declared.semantics.DefKind.{DefKind}
-use Rattle.ssr_base.specs.declared.semantics.DefKind.TheVariants as kinds
-use Rattle.ssr_base.specs.declared.semantics.SelfKind.{SelfKind}
-use Rattle.ssr_base.specs.declared.semantics.SelfKind.TheVariants as self
-use Rattle.ssr_base.specs.Meanings.{Meanings}
-use Rattle.ssr_base.specs.Workspace.{Workspace, same_id}
+use Rattle.ssr_base_trees.specs.declared.ids.NodeId.{NodeId}
+use Rattle.ssr_base_trees.specs.declared.ids.ScopeId.{ScopeId}
+use Rattle.ssr_base_trees.specs.declared.ids.DefId.{DefId}
+use Rattle.ssr_base_trees.specs.declared.ids.TypeId.{TypeId}
+use Rattle.ssr_base_trees.specs.declared.semantics.Res.{Res}
+use Rattle.ssr_base_trees.specs.declared.semantics.Res.TheVariants as res
+use Rattle.ssr_base_trees.specs.declared.semantics.DefKind.{DefKind}
+use Rattle.ssr_base_trees.specs.declared.semantics.DefKind.TheVariants as kinds
+use Rattle.ssr_base_trees.specs.declared.semantics.SelfKind.{SelfKind}
+use Rattle.ssr_base_trees.specs.declared.semantics.SelfKind.TheVariants as self
+use Rattle.ssr_base_trees.specs.Meanings.{Meanings}
+use Rattle.ssr_base_trees.specs.Workspace.{Workspace, same_id}
 use Rattle.ssr_facts_rows.specs.declared.places.PlaceRow.{PlaceRow}
 use Rattle.ssr_facts_rows.specs.declared.meanings.DefinitionKind.{DefinitionKind}
 use Rattle.ssr_facts_rows.specs.declared.meanings.DefinitionKind.TheVariants as row_kinds

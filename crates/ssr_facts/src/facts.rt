@@ -4,8 +4,8 @@ ghost use Rattle.std.specs.Prelude.{◌≡◌, ◌+◌, ◌≤◌, length, map, 
 ghost use Rattle.std.specs.List.{find, filter_map};
 ghost use Rattle.std.specs.Option.{option_map, option_and_then};
 ghost use Rattle.ssr_syntax_kinds.specs.declared.kinds.SyntaxKind.TheVariants as kinds;
-ghost use Rattle.ssr_base.specs.declared.ids.NodeId.{NodeId as Id};
-ghost use Rattle.ssr_base.specs.Building.{most_trees};
+ghost use Rattle.ssr_base_trees.specs.declared.ids.NodeId.{NodeId as Id};
+ghost use Rattle.ssr_base_trees.specs.Built.{most_trees};
 ghost use Rattle.ssr_facts_rows.specs.Facts.{plain_facts, facts_of};
 ghost use Rattle.ssr_facts_rows.specs.Meanings.{plain_type};
 ghost use Rattle.ssr_facts_rows.specs.declared.places.PlaceRow.{PlaceRow as Place};

@@ -2,7 +2,7 @@
 
 ghost use Rattle.std.specs.Prelude.{◌≡◌, ◌++◌, IfOk, OnOk, filter};
 ghost use Rattle.std.specs.Map.{lookup};
-ghost use Rattle.ssr_base.specs.Workspace.{same_id};
+ghost use Rattle.ssr_base_trees.specs.Workspace.{same_id};
 ghost use Rattle.ssr_facts.specs.Tables.{callee, stands_for};
 ghost use Rattle.ssr_facts.specs.Usages.{uses_of};
 

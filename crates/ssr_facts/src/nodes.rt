@@ -6,7 +6,7 @@ ghost use Rattle.std.specs.List.{filter_map};
 ghost use Rattle.std.specs.Option.{option_map, option_or};
 ghost use Rattle.ssr_facts_rows.specs.declared.places.PlaceRow.{PlaceRow as Place};
 ghost use Rattle.ssr_syntax_tree.specs.Places.{HasNode};
-ghost use Rattle.ssr_base.specs.Building.{most_trees};
+ghost use Rattle.ssr_base_trees.specs.Built.{most_trees};
 ghost use Rattle.ssr_facts.specs.Nodes.{node_at};
 ghost use Rattle.ssr_facts.specs.Private.Nodes.{place_at, found_in, at_place};
 

@@ -2,9 +2,9 @@
 
 ghost use Rattle.std.specs.Prelude.{◌≡◌, ◌+◌, ◌≤◌, length, map, IfOk, OnOk};
 ghost use Rattle.std.specs.Option.{option_map, option_or, option_and_then};
-ghost use Rattle.ssr_base.specs.declared.ids.NodeId.{NodeId as Id};
+ghost use Rattle.ssr_base_trees.specs.declared.ids.NodeId.{NodeId as Id};
 ghost use Rattle.ssr_syntax_tree.specs.Syntax.{node_count};
-ghost use Rattle.ssr_base.specs.Building.{most_trees};
+ghost use Rattle.ssr_base_trees.specs.Built.{most_trees};
 ghost use Rattle.ssr_facts.specs.Nodes.{place_of};
 ghost use Rattle.ssr_facts.specs.Told.{type_of};
 ghost use Rattle.ssr_facts.specs.Private.Nodes.{at_place, told_up_to, types_at, types_of_node};

@@ -1,7 +1,7 @@
 -- A finder for a file is refused for want of memory alone.
 use Rattle.std.proofs.Common.{◌≡◌, length, Ok, Err, String, Global, refl, sym, ap, subst, arith}
 use Rattle.std.proofs.lemmas.Option.{none-some, same_Some}
-use Rattle.ssr_base.specs.Workspace.{Workspace}
+use Rattle.ssr_base_trees.specs.Workspace.{Workspace}
 use Rattle.ide_ssr_refusals.specs.declared.error.SsrError.{SsrError}
 use Rattle.ide_ssr_refusals.specs.declared.error.SsrError.TheVariants as rules
 use Rattle.ide_ssr_search.specs.declared.context_error.ContextError.{ContextError}

@@ -8,7 +8,7 @@ use Rattle.ssr_base.specs.declared.building.Expansion.{Expansion}
 use Rattle.ssr_base.specs.declared.workspace_error.WorkspaceError.{WorkspaceError}
 use Rattle.ssr_base.specs.declared.workspace_error.WorkspaceError.TheVariants as errors
 use Rattle.ssr_base.specs.Building.{Gives, built}
-use Rattle.ssr_base.specs.Workspace.{Workspace}
+use Rattle.ssr_base_trees.specs.Workspace.{Workspace}
 use Rattle.ssr_program.specs.Rewritten.{one_file}
 use Rattle.ssr_program.specs.Private.Rewriting.{AnswersFile}
 

@@ -1,9 +1,9 @@
 -- What the program's provider tells: all code stands in one scope, in which nothing is known.
 use Rattle.std.specs.Prelude.{[], Some, None, false}
-use Rattle.ssr_base.specs.declared.ids.ScopeId.{ScopeId}
-use Rattle.ssr_base.specs.Meanings.{Meanings}
-use Rattle.ssr_base.specs.declared.semantics.DefKind.TheVariants as kinds
-use Rattle.ssr_base.specs.declared.semantics.SelfKind.TheVariants as takes
+use Rattle.ssr_base_trees.specs.declared.ids.ScopeId.{ScopeId}
+use Rattle.ssr_base_trees.specs.Meanings.{Meanings}
+use Rattle.ssr_base_trees.specs.declared.semantics.DefKind.TheVariants as kinds
+use Rattle.ssr_base_trees.specs.declared.semantics.SelfKind.TheVariants as takes
 
 abbrev pub one_scope : ScopeId
 one_scope = record { 0 = 0 }

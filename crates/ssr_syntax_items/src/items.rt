@@ -4,11 +4,13 @@ ghost use Rattle.ssr_syntax_items.specs.Items as form;
 ghost use Rattle.ssr_syntax_forms.specs.Forms.{passes};
 ghost use Rattle.ssr_syntax_forms.specs.Runs.{Runs, RunsAnywhere, RunsFrom};
 
-use ssr_syntax_item_parts::adts::{enum_item, struct_item};
-use ssr_syntax_item_parts::params::{generic_param_list, generic_params, param_list, visibility, wheres};
-use ssr_syntax_item_parts::uses::{MacroPathFirst, name_or_underscore, use_item};
 use ssr_syntax_exprs::blocks::block_expr;
 use ssr_syntax_forms::{Fault, Mark, Parser, TokenSet};
+use ssr_syntax_item_parts::adts::{enum_item, struct_item};
+use ssr_syntax_item_parts::params::{
+    generic_param_list, generic_params, param_list, visibility, wheres,
+};
+use ssr_syntax_item_parts::uses::{MacroPathFirst, name_or_underscore, use_item};
 use ssr_syntax_kinds::SyntaxKind;
 use ssr_syntax_kinds::SyntaxKind::*;
 use ssr_syntax_types::goals::{ExprPlace, Goal, ItemPlace};

@@ -14,7 +14,8 @@ fn compared(workspace: &Workspace, a: NodeId, b: NodeId) -> Option<(bool, bool)>
     if !one.has(Element::Node(a.node)) || !other.has(Element::Node(b.node)) {
         return None;
     }
-    Some((precedes(workspace, a, b), is_above(workspace, a, b)))
+    let trees = workspace.trees();
+    Some((precedes(trees, a, b), is_above(trees, a, b)))
 }
 
 #[test]

@@ -1,8 +1,8 @@
 -- Private: what parts of two nodes bind.
 use Rattle.std.specs.Prelude.{List, Option, map}
 use Rattle.ssr_syntax_tree.specs.Places.{Node, node_part}
-use Rattle.ssr_base.specs.declared.semantics.Res.{Res}
-use Rattle.ide_ssr_found.specs.declared.bindings.Binding.{Binding}
+use Rattle.ssr_base_trees.specs.declared.semantics.Res.{Res}
+use Rattle.ide_ssr_bindings.specs.declared.bindings.Binding.{Binding}
 use Rattle.ide_ssr_matching.specs.Bindings.{Binder, counted_sides, pairs_by}
 use Rattle.ide_ssr_matching.specs.Children.{bare}
 use Rattle.ide_ssr_matching.specs.UsedPaths.{arguments_of}

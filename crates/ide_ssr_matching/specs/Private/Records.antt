@@ -4,7 +4,7 @@ use Rattle.std.specs.List.{find}
 use Rattle.std.specs.Option.{option_and_then}
 use Rattle.ssr_syntax_tree.specs.Syntax.{Syntax, token_count, tokens_of}
 use Rattle.ssr_syntax_tree.specs.Places.{Node}
-use Rattle.ide_ssr_found.specs.declared.bindings.Binding.{Binding}
+use Rattle.ide_ssr_bindings.specs.declared.bindings.Binding.{Binding}
 use Rattle.ide_ssr_token_trees.specs.Bindings.{joined}
 use Rattle.ide_ssr_matching.specs.declared.records.Label.{Label}
 use Rattle.ide_ssr_matching.specs.Bindings.{Binder}

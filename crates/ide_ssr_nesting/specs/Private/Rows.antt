@@ -2,15 +2,15 @@
 use Rattle.std.specs.Prelude.{◌≡◌, Bool, Option, Some, IsSortedByKey, length, slice_get}
 use Rattle.std.specs.Cmp.Lexicographic.{slice_cmp}
 use Rattle.std.specs.Ordering.{is_lt, nat_cmp}
-use Rattle.ssr_base.specs.Workspace.{trees}
-use Rattle.ide_ssr_found.specs.Found.{Found}
+use Rattle.ssr_base_trees.specs.Workspace.{trees}
+use Rattle.ide_ssr_bindings.specs.Found.{FoundMatch}
 use Rattle.ide_ssr_nesting.specs.declared.holders.Holder.{Holder}
 use Rattle.ide_ssr_nesting.specs.declared.lists.Row.{Row}
 use Rattle.ide_ssr_nesting.specs.Holding.{Kept}
 use Rattle.ide_ssr_nesting.specs.Lists.{Listing, holder_key, lists_key}
 
 pub record IsRowOf (kept : Kept) (row : Row) : Type 0 where
-  pub match : Found
+  pub match : FoundMatch
   pub holder : Option Holder
   pub stands : slice_get kept.matches row.place ≡ Some match
   pub beside : slice_get kept.holders row.place ≡ Some holder

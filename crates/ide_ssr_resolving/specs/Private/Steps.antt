@@ -1,9 +1,9 @@
 -- Private: what the walk does at a node.
 use Rattle.std.specs.Prelude.{ℕ, List, if◌then◌else◌}
 use Rattle.std.specs.Option.{option_map_or}
-use Rattle.ssr_base.specs.declared.ids.ScopeId.{ScopeId}
-use Rattle.ssr_base.specs.declared.semantics.Res.{Res}
-use Rattle.ssr_base.specs.Meanings.{Meanings}
+use Rattle.ssr_base_trees.specs.declared.ids.ScopeId.{ScopeId}
+use Rattle.ssr_base_trees.specs.declared.semantics.Res.{Res}
+use Rattle.ssr_base_trees.specs.Meanings.{Meanings}
 use Rattle.ssr_syntax_tree.specs.Places.{Node}
 use Rattle.ssr_syntax_tree.specs.Syntax.{Forest}
 use Rattle.ide_ssr_resolving.specs.declared.used.Step.{Step}

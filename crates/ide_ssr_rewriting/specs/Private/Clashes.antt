@@ -2,7 +2,7 @@
 use Rattle.std.specs.Prelude.{◌≡◌, ◌<◌, ◌&&◌, Bool, true, if◌then◌else◌, List, [], ◌∷◌, Option, Some, None, is_some, All, AllPairs}
 use Rattle.std.specs.Cmp.Lexicographic.{slice_cmp}
 use Rattle.std.specs.Ordering.{is_le, nat_cmp}
-use Rattle.ssr_base.specs.Workspace.{FileSpan}
+use Rattle.ssr_base_trees.specs.Workspace.{FileSpan}
 use Rattle.ide_ssr_rewriting.specs.Clashes.{Rewrite, Clash, clash_le, range_key, same_range, is_clash}
 
 -- a range comes no later than another one

@@ -1,10 +1,10 @@
 -- Private: what is needed of kept matches and their lists so that they can be rewritten.
 use Rattle.std.specs.Prelude.{ℕ, ◌≡◌, ◌<◌, ◌≢◌, true, List, length, slice_get, Option, Some, All, AllPairs, Contains}
-use Rattle.ssr_base.specs.Built.{IsBuilt}
-use Rattle.ssr_base.specs.Laws.{LiesIn}
-use Rattle.ssr_base.specs.Workspace.{FileSpan, trees}
-use Rattle.ide_ssr_found.specs.declared.bindings.Binding.{Binding}
-use Rattle.ide_ssr_found.specs.Found.{Found, IsMatch, held_range}
+use Rattle.ssr_base_trees.specs.Built.{IsBuilt}
+use Rattle.ssr_base_trees.specs.Laws.{LiesIn}
+use Rattle.ssr_base_trees.specs.Workspace.{FileSpan, trees}
+use Rattle.ide_ssr_bindings.specs.declared.bindings.Binding.{Binding}
+use Rattle.ide_ssr_bindings.specs.Found.{FoundMatch, IsMatch, held_range}
 use Rattle.ide_ssr_nesting.specs.declared.holders.Holder.{Holder}
 use Rattle.ide_ssr_nesting.specs.Holding.{Kept}
 use Rattle.ide_ssr_nesting.specs.Lists.{Listing, listed}
@@ -29,6 +29,6 @@ pub record IsNest (kept : Kept) (listing : Listing) : Type 0 where
   pub matches : All (IsMatch (trees kept.workspace)) kept.matches
   pub lists : (holder : Option Holder) → IsList kept holder (listed listing holder)
   pub before : (n i j : ℕ) → Contains (under listing n i) j → n < j
-  pub within : (n i j : ℕ) (m : Found) (binding : Binding) (range : FileSpan)
+  pub within : (n i j : ℕ) (m : FoundMatch) (binding : Binding) (range : FileSpan)
       → slice_get kept.matches n ≡ Some m → slice_get m.bindings i ≡ Some binding → Contains (under listing n i) j
       → held_range (trees kept.workspace) m.node.tree binding ≡ Some range → LiesIn (range_at kept j) range

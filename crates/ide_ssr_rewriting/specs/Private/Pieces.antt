@@ -1,9 +1,9 @@
 -- Private: what the placeholders of a match hold, once the changes of their lists are made.
 use Rattle.std.specs.Prelude.{ℕ, Bool, if◌then◌else◌, List, map, Option, Some, None}
 use Rattle.std.specs.List.{enumerate_from, list_all}
-use Rattle.ssr_base.specs.Workspace.{Workspace, trees}
-use Rattle.ide_ssr_found.specs.declared.bindings.Binding.{Binding}
-use Rattle.ide_ssr_found.specs.Found.{Found, held_range}
+use Rattle.ssr_base_trees.specs.Workspace.{Workspace, trees}
+use Rattle.ide_ssr_bindings.specs.declared.bindings.Binding.{Binding}
+use Rattle.ide_ssr_bindings.specs.Found.{FoundMatch, held_range}
 use Rattle.ide_ssr_rewriting.specs.Clashes.{Rewrite, is_clean}
 use Rattle.ide_ssr_rewriting.specs.Replacements.{piece}
 
@@ -12,11 +12,11 @@ abbrev pub all_clean : (ℕ → List Rewrite) → List (ℕ × Binding) → Bool
 all_clean lists bound = list_all (λ p. is_clean (lists p.0)) bound
 
 -- what placeholders hold, with the changes of their lists made
-abbrev pub pieces_of : Workspace → Found → (ℕ → List Rewrite) → List (ℕ × Binding) → List (List ℕ)
+abbrev pub pieces_of : Workspace → FoundMatch → (ℕ → List Rewrite) → List (ℕ × Binding) → List (List ℕ)
 pieces_of w m lists bound = map (λ p. piece w (held_range (trees w) m.node.tree p.1) (lists p.0)) bound
 
 -- what the placeholders of a match hold, with the changes of their lists made, if all lists can be made
-abbrev pub pieces_by : Workspace → Found → (ℕ → List Rewrite) → Option (List (List ℕ))
+abbrev pub pieces_by : Workspace → FoundMatch → (ℕ → List Rewrite) → Option (List (List ℕ))
 pieces_by w m lists =
     let bound = enumerate_from 0 m.bindings in
     if all_clean lists bound then Some (pieces_of w m lists bound) else None

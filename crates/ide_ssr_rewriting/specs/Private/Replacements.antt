@@ -1,8 +1,8 @@
 -- Private: what is asked of matches and of their lists so that they can be written.
 use Rattle.std.specs.Prelude.{ℕ, ◌≡◌, true, List, All}
-use Rattle.ssr_base.specs.Changes.{Change}
-use Rattle.ssr_base.specs.Texts.{is_boundary}
-use Rattle.ssr_base.specs.Workspace.{FileSpan, Workspace}
+use Rattle.ssr_base_trees.specs.Changes.{Change}
+use Rattle.ssr_base_trees.specs.Texts.{is_boundary}
+use Rattle.ssr_base_trees.specs.Workspace.{FileSpan, Workspace}
 use Rattle.ide_ssr_rewriting.specs.Clashes.{Rewrite}
 use Rattle.ide_ssr_rewriting.specs.Replacements.{file_text}
 

@@ -1,8 +1,8 @@
 -- Private: where matches in a tree have to lie.
 use Rattle.std.specs.Prelude.{ℕ, ◌≡◌, ⊤, List, Option, Some, None, MatchOption}
 use Rattle.std.specs.Option.{IsSomeAnd}
-use Rattle.ssr_base.specs.Workspace.{Planted, FileSpan, with_number, file_span_of}
-use Rattle.ssr_base.specs.Laws.{LiesIn}
+use Rattle.ssr_base_trees.specs.Workspace.{PlacedTree, FileSpan, with_number, file_span_of}
+use Rattle.ssr_base_trees.specs.Laws.{LiesIn}
 use Rattle.ide_ssr_search.specs.declared.bounds.Bounds.{Bounds}
 use Rattle.ide_ssr_search.specs.declared.bounds.Bounds.TheVariants as limits
 use Rattle.ide_ssr_search.specs.Permitted.{arguments_range}
@@ -14,7 +14,7 @@ AreBoundsOf arguments (limits.Within range) = arguments ≡ Some (file_span_of r
 AreBoundsOf arguments limits.Nowhere = arguments ≡ None
 
 -- these are the bounds of a tree
-abbrev pub AreBounds : List Planted → ℕ → Bounds → Type 0
+abbrev pub AreBounds : List PlacedTree → ℕ → Bounds → Type 0
 AreBounds trees t bounds =
     IsSomeAnd (with_number trees t) (λ p. MatchOption p.call (bounds ≡ limits.Everywhere) (λ call. AreBoundsOf (arguments_range trees call) bounds))
 

@@ -1,9 +1,9 @@
 -- Private: the file of a position.
 use Rattle.std.specs.Prelude.{ℕ, ◌≡◌, ◌≤◌, Option, Some, length, option_map}
 use Rattle.ssr_syntax_tree.specs.Syntax.{Syntax, source_of}
-use Rattle.ssr_base.specs.declared.ids.FilePosition.{FilePosition}
-use Rattle.ssr_base.specs.declared.ids.NodeId.{NodeId}
-use Rattle.ssr_base.specs.Workspace.{Workspace, tree_of, node_id}
+use Rattle.ssr_base_trees.specs.declared.ids.FilePosition.{FilePosition}
+use Rattle.ssr_base_trees.specs.declared.ids.NodeId.{NodeId}
+use Rattle.ssr_base_trees.specs.Workspace.{Workspace, tree_of, node_id}
 use Rattle.ide_ssr_search.specs.Making.{HasFile}
 use Rattle.ide_ssr_search.specs.Positions.{IsInnermost}
 

@@ -2,26 +2,26 @@
 use Rattle.std.specs.Prelude.{ℕ, ◌≡◌, ◌+◌, ◌⊎◌, List, None}
 use Rattle.ssr_syntax_tree.specs.Syntax.{Syntax}
 use Rattle.ssr_syntax_tree.specs.Places.{node_of, size_of}
-use Rattle.ssr_base.specs.declared.ids.NodeId.{NodeId}
-use Rattle.ssr_base.specs.Workspace.{Planted, node_id}
-use Rattle.ssr_base.specs.Built.{IsMacroCall}
-use Rattle.ssr_base.specs.Laws.{IsBelow}
-use Rattle.ide_ssr_found.specs.Found.{IsAtOrBelow}
+use Rattle.ssr_base_trees.specs.declared.ids.NodeId.{NodeId}
+use Rattle.ssr_base_trees.specs.Workspace.{PlacedTree, node_id}
+use Rattle.ssr_base_trees.specs.Built.{IsMacroCall}
+use Rattle.ssr_base_trees.specs.Laws.{IsBelow}
+use Rattle.ide_ssr_bindings.specs.Found.{IsAtOrBelow}
 use Rattle.ide_ssr_search.specs.Permitted.{IsUse, arguments_range}
 
 -- what shuts in what is below it: a USE, and a macro call whose arguments have no original range
-abbrev pub Shuts : List Planted → NodeId → Type 0
+abbrev pub Shuts : List PlacedTree → NodeId → Type 0
 Shuts trees a = IsUse trees a ⊎ (IsMacroCall trees a × (arguments_range trees a ≡ None))
 
 -- a node that shuts in what is below it stands above this one
-abbrev pub IsShutIn : List Planted → NodeId → Type 0
+abbrev pub IsShutIn : List PlacedTree → NodeId → Type 0
 IsShutIn trees x = (a : NodeId) × IsBelow trees x a × Shuts trees a
 
 -- a node that shuts in what is below it stands above those directly below this one: it is this one, or stands above it
-abbrev pub IsShut : List Planted → NodeId → Type 0
+abbrev pub IsShut : List PlacedTree → NodeId → Type 0
 IsShut trees x = (a : NodeId) × IsAtOrBelow trees x a × Shuts trees a
 
 -- the number behind a node that shuts in what is below it; of any other node 0
-abbrev pub TellsPast : List Planted → ℕ → Syntax → ℕ → ℕ → Type 0
+abbrev pub TellsPast : List PlacedTree → ℕ → Syntax → ℕ → ℕ → Type 0
 TellsPast trees t syntax n past =
     ((past ≡ 0) × ¬ Shuts trees (node_id t n)) ⊎ ((past ≡ n + size_of (node_of syntax n)) × Shuts trees (node_id t n))

@@ -3,7 +3,7 @@ use Rattle.std.specs.Prelude.{ℕ, ◌≡◌, Bool, true, false, List, ◌++◌,
 use Rattle.ssr_syntax_tree.specs.declared.number.Element.{Element}
 use Rattle.ssr_syntax_tree.specs.Syntax.{Token, Syntax, same_token}
 use Rattle.ssr_syntax_tree.specs.Places.{Part, token_part, node_part, part_of}
-use Rattle.ide_ssr_found.specs.declared.bindings.Binding.{Binding}
+use Rattle.ide_ssr_bindings.specs.declared.bindings.Binding.{Binding}
 use Rattle.ide_ssr_token_trees.specs.declared.siblings.Siblings.{Siblings}
 use Rattle.ide_ssr_token_trees.specs.Bindings.{joined, part_by, tree_bindings}
 use Rattle.ide_ssr_token_trees.specs.Elements.{next_text, without_trivia}

@@ -7,7 +7,7 @@ use Rattle.ssr_syntax_tree.specs.declared.number.Element.{Element}
 use Rattle.ssr_syntax_tree.specs.declared.number.TokenNo.{TokenNo}
 use Rattle.ssr_syntax_tree.specs.Syntax.{Syntax}
 use Rattle.ssr_syntax_tree.specs.Places.{Part, token_part, node_part, part_of}
-use Rattle.ssr_base.specs.declared.ids.TokenRun.{TokenRun}
+use Rattle.ssr_base_trees.specs.declared.ids.TokenRun.{TokenRun}
 use Rattle.ide_ssr_token_trees.specs.declared.siblings.Siblings.{Siblings}
 use Rattle.ide_ssr_token_trees.specs.Elements.{run_over, up_to, from}
 

@@ -8,9 +8,9 @@ use Rattle.std.specs.Option.{option_map}
 use Rattle.ssr_syntax_kinds.specs.declared.kinds.SyntaxKind.{SyntaxKind}
 use Rattle.ssr_syntax_tree.specs.Syntax.{Syntax}
 use Rattle.ssr_syntax_tree.specs.Places.{Node, node_of, nodes_of}
-use Rattle.ssr_base.specs.declared.ids.NodeId.{NodeId}
-use Rattle.ssr_base.specs.declared.ids.TypeId.{TypeId}
-use Rattle.ssr_base.specs.Workspace.{node_id, same_id}
+use Rattle.ssr_base_trees.specs.declared.ids.NodeId.{NodeId}
+use Rattle.ssr_base_trees.specs.declared.ids.TypeId.{TypeId}
+use Rattle.ssr_base_trees.specs.Workspace.{node_id, same_id}
 use Rattle.ssr_facts_rows.specs.declared.places.PlaceRow.{PlaceRow}
 use Rattle.ssr_facts_rows.specs.contracts.places.PlaceRowOrd.TheImpl as place_order
 use Rattle.ssr_facts.specs.Nodes.{place_in, stands_at}

@@ -1,8 +1,8 @@
 -- Private: the rows of a facts file as rows of tables.
 use Rattle.std.specs.Prelude.{ℕ, Vec, String}
 use Rattle.std.specs.Global.{Global}
-use Rattle.ssr_base.specs.declared.ids.DefId.{DefId}
-use Rattle.ssr_base.specs.declared.semantics.Res.{Res}
+use Rattle.ssr_base_trees.specs.declared.ids.DefId.{DefId}
+use Rattle.ssr_base_trees.specs.declared.semantics.Res.{Res}
 use Rattle.ssr_facts_rows.specs.declared.places.PlaceRow.{PlaceRow}
 use Rattle.ssr_facts_rows.specs.declared.meanings.NameRow.{NameRow}
 use Rattle.ssr_facts_rows.specs.declared.meanings.MemberRow.{MemberRow}

@@ -8,9 +8,9 @@ use Rattle.ssr_program.specs.declared.rewriting.RewriteError.{RewriteError}
 use Rattle.ssr_program.specs.declared.rewriting.RewriteError.TheVariants as errors
 use Rattle.ide_ssr_refusals.specs.declared.error.SsrError.{SsrError}
 use Rattle.ide_ssr_refusals.specs.declared.error.SsrError.TheVariants as rules
-use Rattle.ssr_base.specs.declared.ids.FileId.{FileId}
-use Rattle.ssr_base.specs.Changes.{Change}
-use Rattle.ssr_base.specs.Workspace.{Workspace}
+use Rattle.ssr_base_trees.specs.declared.ids.FileId.{FileId}
+use Rattle.ssr_base_trees.specs.Changes.{Change}
+use Rattle.ssr_base_trees.specs.Workspace.{Workspace}
 use Rattle.ide_ssr_search.specs.Making.{IsContext, first_position}
 use Rattle.ide_ssr_rewriting.specs.Edits.{file_cmp}
 use Rattle.ide_ssr.specs.Edits.{Edits}

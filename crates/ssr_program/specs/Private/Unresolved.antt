@@ -1,5 +1,5 @@
 -- Private: where nothing resolves, no usage is left out.
-use Rattle.ssr_base.specs.Meanings.{IsComplete}
+use Rattle.ssr_base_trees.specs.Meanings.{IsComplete}
 use Rattle.ssr_program.specs.Unresolved.{nothing_resolves}
 
 pub is_complete : IsComplete nothing_resolves

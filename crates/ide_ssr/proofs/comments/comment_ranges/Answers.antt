@@ -1,13 +1,13 @@
 use Rattle.std.proofs.Common.{◌≡◌, ◌<◌, ◌++◌, [], ◌∷◌, List, All, length, refl, sym, ap, ◌∙◌, subst, arith}
 use Rattle.std.proofs.lemmas.List.Elements.{All-push}
 use Rattle.ssr_syntax_tree.specs.declared.number.TokenNo.{TokenNo}
-use Rattle.ssr_base.specs.declared.ids.FileRange.{FileRange}
-use Rattle.ssr_base.specs.declared.ids.NodeId.{NodeId}
-use Rattle.ssr_base.specs.Built.{IsNodeOf}
-use Rattle.ssr_base.specs.Laws.{LiesInFile}
-use Rattle.ssr_base.specs.Workspace.{Workspace, trees, tree_of, file_span_of}
-use Rattle.ide_ssr_found.specs.Apart.{HasHeld}
-use Rattle.ide_ssr_found.proofs.Shared.{has_node, has_held}
+use Rattle.ssr_base_trees.specs.declared.ids.FileRange.{FileRange}
+use Rattle.ssr_base_trees.specs.declared.ids.NodeId.{NodeId}
+use Rattle.ssr_base_trees.specs.Built.{IsNodeOf}
+use Rattle.ssr_base_trees.specs.Laws.{LiesInFile}
+use Rattle.ssr_base_trees.specs.Workspace.{Workspace, trees, tree_of, file_span_of}
+use Rattle.ide_ssr_bindings.specs.Apart.{HasHeld}
+use Rattle.ide_ssr_bindings.proofs.Shared.{has_node, has_held}
 use Rattle.ide_ssr.proofs.Files.{file_is, token_in_file, token_span_is, spans_more, spans_are}
 use Rattle.ide_ssr.proofs.comments.comment_ranges.Goals as goal
 

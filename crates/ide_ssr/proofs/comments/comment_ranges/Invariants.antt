@@ -1,6 +1,6 @@
 use Rattle.std.proofs.Common.{◌≡◌, All, map, take}
-use Rattle.ssr_base.specs.Laws.{LiesInFile}
-use Rattle.ssr_base.specs.Workspace.{file_span_of}
+use Rattle.ssr_base_trees.specs.Laws.{LiesInFile}
+use Rattle.ssr_base_trees.specs.Workspace.{file_span_of}
 use Rattle.ide_ssr.specs.Comments.{token_span}
 use Rattle.ide_ssr.proofs.comments.comment_ranges.Given as goal
 

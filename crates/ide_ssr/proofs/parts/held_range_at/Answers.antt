@@ -1,5 +1,5 @@
 use Rattle.std.proofs.Common.{sym, ◌∙◌}
-use Rattle.ssr_base.specs.Workspace.{file_span_of}
+use Rattle.ssr_base_trees.specs.Workspace.{file_span_of}
 use Rattle.ide_ssr_rewriting.proofs.Shared.{held_in_file}
 use Rattle.ide_ssr.proofs.parts.held_range_at.Goals as goal
 

@@ -1,6 +1,6 @@
 use Rattle.std.proofs.Common.{sym, ◌∙◌}
-use Rattle.ssr_base.specs.Workspace.{file_span_of}
-use Rattle.ssr_base.proofs.Shared.{lies_in_file}
+use Rattle.ssr_base_trees.specs.Workspace.{file_span_of}
+use Rattle.ssr_base_trees.proofs.Shared.{lies_in_file}
 use Rattle.ide_ssr.proofs.parts.range_at.Goals as goal
 
 pub returns : goal.returns

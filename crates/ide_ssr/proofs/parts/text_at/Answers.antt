@@ -1,8 +1,8 @@
 use Rattle.std.proofs.Common.{◌≡◌, sym}
 use Rattle.ssr_syntax_tree.specs.Places.{node_of, text_of}
-use Rattle.ssr_base.specs.Workspace.{tree_of}
-use Rattle.ssr_base.proofs.Shared.{and_some}
-use Rattle.ide_ssr_found.proofs.Shared.{has_node}
+use Rattle.ssr_base_trees.specs.Workspace.{tree_of}
+use Rattle.ssr_base_trees.proofs.Shared.{and_some}
+use Rattle.ide_ssr_bindings.proofs.Shared.{has_node}
 use Rattle.ide_ssr.proofs.Files.{tree_there}
 use Rattle.ide_ssr.proofs.parts.text_at.Goals as goal
 

@@ -1,8 +1,8 @@
 use Rattle.std.proofs.Common.{All, get_or, sym, subst}
-use Rattle.ssr_base.specs.declared.ids.NodeId.{NodeId}
-use Rattle.ssr_base.specs.Workspace.{trees}
-use Rattle.ide_ssr_found.specs.declared.bindings.Binding.{Binding}
-use Rattle.ide_ssr_found.specs.Found.{IsInRange, node_binding}
+use Rattle.ssr_base_trees.specs.declared.ids.NodeId.{NodeId}
+use Rattle.ssr_base_trees.specs.Workspace.{trees}
+use Rattle.ide_ssr_bindings.specs.declared.bindings.Binding.{Binding}
+use Rattle.ide_ssr_bindings.specs.Found.{IsInRange, node_binding}
 use Rattle.ide_ssr.proofs.ByStart.{start_is, starts_more}
 use Rattle.ide_ssr.proofs.starts.starts.Goals as goal
 

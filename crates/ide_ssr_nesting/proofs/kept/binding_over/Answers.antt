@@ -1,6 +1,6 @@
 use Rattle.std.proofs.lemmas.Bool.{iff_false}
 use Rattle.std.specs.Prelude.{option_map}
-use Rattle.ssr_base.specs.Workspace.{trees, file_span_of}
+use Rattle.ssr_base_trees.specs.Workspace.{trees, file_span_of}
 use Rattle.ide_ssr_nesting.proofs.Under.{binding_read, none_so_far, none_at_all}
 use Rattle.ide_ssr_nesting.proofs.kept.binding_over.Goals as goal
 

@@ -1,4 +1,4 @@
-use Rattle.ssr_base.specs.Workspace.{trees}
+use Rattle.ssr_base_trees.specs.Workspace.{trees}
 use Rattle.ide_ssr_nesting.proofs.Over.{over_same}
 use Rattle.ide_ssr_nesting.proofs.kept.is_over.Goals as goal
 

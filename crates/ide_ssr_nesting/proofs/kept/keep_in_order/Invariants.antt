@@ -1,4 +1,4 @@
-use Rattle.ssr_base.specs.Workspace.{trees}
+use Rattle.ssr_base_trees.specs.Workspace.{trees}
 use Rattle.ide_ssr_nesting.proofs.Keeping.{AreKeptSoFar}
 use Rattle.ide_ssr_nesting.proofs.kept.keep_in_order.Given as goal
 

@@ -1,4 +1,4 @@
-use Rattle.ssr_base.specs.Workspace.{trees}
+use Rattle.ssr_base_trees.specs.Workspace.{trees}
 use Rattle.ide_ssr_nesting.proofs.OneKept.{one_kept, lies_in_one}
 use Rattle.ide_ssr_nesting.proofs.SomeKept.{kept_exist}
 use Rattle.ide_ssr_nesting.proofs.laws.keeping.Goals as goal

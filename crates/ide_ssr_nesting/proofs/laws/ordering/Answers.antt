@@ -1,4 +1,4 @@
-use Rattle.ssr_base.specs.Workspace.{trees}
+use Rattle.ssr_base_trees.specs.Workspace.{trees}
 use Rattle.ide_ssr_nesting.proofs.Above.{below_is_between, one_place_each, one_way_up}
 use Rattle.ide_ssr_nesting.proofs.laws.ordering.Goals as goal
 

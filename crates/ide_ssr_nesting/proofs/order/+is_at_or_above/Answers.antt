@@ -1,5 +1,5 @@
 use Rattle.std.proofs.Common.{sym, arith}
-use Rattle.ssr_base.specs.Workspace.{trees}
+use Rattle.ssr_base_trees.specs.Workspace.{trees}
 use Rattle.ide_ssr_nesting.proofs.Compared.{call_known, other_tree, told_not, not_in_earlier, not_in_file, holds_call}
 use Rattle.ide_ssr_nesting.proofs.order.+is_at_or_above.Goals as goal
 

@@ -1,5 +1,5 @@
 use Rattle.std.proofs.Common.{arith}
-use Rattle.ssr_base.specs.Workspace.{trees}
+use Rattle.ssr_base_trees.specs.Workspace.{trees}
 use Rattle.ide_ssr_nesting.proofs.Compared.{precedes_in_tree, precedes_file, precedes_not_file, precedes_call, precedes_from_call, call_known, other_tree}
 use Rattle.ide_ssr_nesting.proofs.order.+precedes.Goals as goal
 

@@ -1,4 +1,4 @@
-use Rattle.ssr_base.specs.Workspace.{trees}
+use Rattle.ssr_base_trees.specs.Workspace.{trees}
 use Rattle.ide_ssr_nesting.proofs.Compared.{holds_here, holds_before}
 use Rattle.ide_ssr_nesting.proofs.order.holds.Goals as goal
 

@@ -1,4 +1,4 @@
-use Rattle.ssr_base.specs.Workspace.{trees}
+use Rattle.ssr_base_trees.specs.Workspace.{trees}
 use Rattle.ide_ssr_nesting.proofs.Compared.{above_itself, above_other}
 use Rattle.ide_ssr_nesting.proofs.order.is_above.Goals as goal
 

@@ -1,5 +1,5 @@
 use Rattle.std.proofs.Common.{arith}
-use Rattle.ssr_base.specs.Workspace.{trees}
+use Rattle.ssr_base_trees.specs.Workspace.{trees}
 use Rattle.ide_ssr_nesting.proofs.Sorted.{neighbours_in_order}
 use Rattle.ide_ssr_nesting.proofs.sorting.are_in_order.Goals as goal
 

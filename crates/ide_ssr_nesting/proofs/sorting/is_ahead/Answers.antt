@@ -1,5 +1,5 @@
 use Rattle.std.proofs.Common.{sym, ap, ◌∙◌}
-use Rattle.ssr_base.specs.Workspace.{trees}
+use Rattle.ssr_base_trees.specs.Workspace.{trees}
 use Rattle.ide_ssr_nesting.specs.Private.Sorting.{is_node}
 use Rattle.ide_ssr_nesting.proofs.Ahead.{node_test, lacking_behind, lacking_last, told_ahead}
 use Rattle.ide_ssr_nesting.proofs.sorting.is_ahead.Goals as goal

@@ -1,6 +1,6 @@
 use Rattle.std.proofs.Common.{AllPairs, refl, subst, rules}
 use Rattle.std.proofs.lemmas.Fn.{always_returns_same, dedup_same}
-use Rattle.ssr_base.specs.Workspace.{trees}
+use Rattle.ssr_base_trees.specs.Workspace.{trees}
 use Rattle.ide_ssr_nesting.specs.Kept.{ComesBefore}
 use Rattle.ide_ssr_nesting.specs.Private.Sorting.{is_ahead}
 use Rattle.ide_ssr_nesting.proofs.Ahead.{ahead_order}

@@ -1,7 +1,7 @@
 use Rattle.std.proofs.Common.{◌≡◌, false, refl, sym, ◌∙◌, ap, arith}
 use Rattle.std.proofs.lemmas.List.{nil_from_length}
 use Rattle.std.specs.Option.{option_map_or}
-use Rattle.ssr_base.specs.Workspace.{FileSpan, file_span_of}
+use Rattle.ssr_base_trees.specs.Workspace.{FileSpan, file_span_of}
 use Rattle.ide_ssr_rewriting.specs.Clashes.{same_range}
 use Rattle.ide_ssr_rewriting.proofs.ChangesMade.{goes_past, goes_on, ends, made_change, pushed}
 use Rattle.ide_ssr_rewriting.proofs.clashes.changes_made.Goals as goal

@@ -1,5 +1,5 @@
 use Rattle.std.proofs.Common.{◌≡◌, ◌++◌, map}
-use Rattle.ssr_base.specs.Applied.{changes_of}
+use Rattle.ssr_base_trees.specs.Applied.{changes_of}
 use Rattle.ide_ssr_rewriting.specs.Clashes.{change_of, changes_made}
 use Rattle.ide_ssr_rewriting.proofs.ChangesMade.{fresh}
 use Rattle.ide_ssr_rewriting.proofs.clashes.changes_made.Given as goal

@@ -1,7 +1,7 @@
 use Rattle.std.proofs.Common.{◌∙◌, ap, sym}
 use Rattle.std.specs.Option.{option_map}
-use Rattle.ssr_base.specs.Applied.{changes_of}
-use Rattle.ssr_base.specs.Workspace.{file_span_of}
+use Rattle.ssr_base_trees.specs.Applied.{changes_of}
+use Rattle.ssr_base_trees.specs.Workspace.{file_span_of}
 use Rattle.ide_ssr_rewriting.proofs.Written.{changes_fit}
 use Rattle.ide_ssr_rewriting.proofs.replacements.piece.Goals as goal
 

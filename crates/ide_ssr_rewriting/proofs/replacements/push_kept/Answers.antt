@@ -1,6 +1,6 @@
 use Rattle.std.proofs.Common.{sym, ◌∙◌, ap}
-use Rattle.ssr_base.specs.Workspace.{tree_of}
-use Rattle.ide_ssr_found.proofs.Shared.{has_held}
+use Rattle.ssr_base_trees.specs.Workspace.{tree_of}
+use Rattle.ide_ssr_bindings.proofs.Shared.{has_held}
 use Rattle.ide_ssr_rewriting.proofs.replacements.push_kept.Goals as goal
 
 pub kept_comments-requires-clause-bindings : goal.kept_comments-requires-clause-bindings

@@ -1,5 +1,5 @@
-use Rattle.ssr_base.specs.Applied.{change_of}
-use Rattle.ssr_base.proofs.Changes.{changes_from, one_more}
+use Rattle.ssr_base_trees.specs.Applied.{change_of}
+use Rattle.ssr_base_trees.proofs.Changes.{changes_from, one_more}
 use Rattle.ide_ssr_rewriting.specs.Replacements.{file_text}
 use Rattle.ide_ssr_rewriting.proofs.Written.{fits_here}
 use Rattle.ide_ssr_rewriting.proofs.replacements.replaced.Goals as goal

@@ -1,7 +1,7 @@
 use Rattle.std.proofs.Common.{◌≡◌, ◌++◌, drop, string_bytes, true}
-use Rattle.ssr_base.specs.Changes.{replaced}
-use Rattle.ssr_base.specs.Applied.{changes_of}
-use Rattle.ssr_base.specs.Texts.{is_boundary}
+use Rattle.ssr_base_trees.specs.Changes.{replaced}
+use Rattle.ssr_base_trees.specs.Applied.{changes_of}
+use Rattle.ssr_base_trees.specs.Texts.{is_boundary}
 use Rattle.ide_ssr_rewriting.specs.Replacements.{file_text}
 use Rattle.ide_ssr_rewriting.proofs.replacements.replaced.Given as goal
 

@@ -1,5 +1,5 @@
 use Rattle.std.proofs.Common.{ℕ, ◌<◌, get_or}
-use Rattle.ssr_base.specs.declared.ids.FileRange.{FileRange}
+use Rattle.ssr_base_trees.specs.declared.ids.FileRange.{FileRange}
 use Rattle.ide_ssr_search.specs.Making.{HasFile}
 use Rattle.ide_ssr_search.proofs.context.are_of_files.Given as goal
 

@@ -1,7 +1,7 @@
 use Rattle.std.proofs.Common.{false, true, ◌≡◌, sym, ◌∙◌, arith, length, rules}
 use Rattle.std.proofs.lemmas.Grind.{common_steps}
 use Rattle.std.proofs.lemmas.Bool.{eqb-false}
-use Rattle.ssr_base.specs.Workspace.{file_span_of}
+use Rattle.ssr_base_trees.specs.Workspace.{file_span_of}
 use Rattle.ide_ssr_search.proofs.Searched.{searched_nowhere}
 use Rattle.ide_ssr_search.proofs.permitted.is_searched.Goals as goal
 

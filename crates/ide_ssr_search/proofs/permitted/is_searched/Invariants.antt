@@ -1,7 +1,7 @@
 use Rattle.std.proofs.Common.{ℕ, ◌<◌, get_or}
-use Rattle.ssr_base.specs.declared.ids.FileRange.{FileRange}
-use Rattle.ssr_base.specs.Workspace.{file_span_of}
-use Rattle.ssr_base.specs.Laws.{LiesIn}
+use Rattle.ssr_base_trees.specs.declared.ids.FileRange.{FileRange}
+use Rattle.ssr_base_trees.specs.Workspace.{file_span_of}
+use Rattle.ssr_base_trees.specs.Laws.{LiesIn}
 use Rattle.ide_ssr_search.proofs.permitted.is_searched.Given as goal
 
 abbrev pub invariant-loop-restriction : goal.invariant-loop-restriction

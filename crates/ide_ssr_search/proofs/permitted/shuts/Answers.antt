@@ -1,6 +1,6 @@
 use Rattle.std.proofs.Common.{◌≡◌, false, true, inl, inr, refl, sym, ◌∙◌}
 use Rattle.std.proofs.lemmas.Bool.{both_ways, cases_Bool}
-use Rattle.ssr_base.specs.Workspace.{trees}
+use Rattle.ssr_base_trees.specs.Workspace.{trees}
 use Rattle.ide_ssr_search.specs.Permitted.{arguments_range}
 use Rattle.ide_ssr_search.proofs.Arguments.{shuts_use, shuts_call, shuts_not, none_told}
 use Rattle.ide_ssr_search.proofs.permitted.shuts.Goals as goal

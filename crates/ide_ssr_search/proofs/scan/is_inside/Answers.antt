@@ -3,10 +3,10 @@ use Rattle.std.proofs.lemmas.Option.{MatchOption-at_some}
 use Rattle.std.specs.Option.{IsSomeAnd}
 use Rattle.std.specs.Prelude.{◌↔◌, IsTrue, slice_index_or}
 use Rattle.ssr_syntax_tree.specs.Places.{HasNode}
-use Rattle.ssr_base.specs.Workspace.{trees}
+use Rattle.ssr_base_trees.specs.Workspace.{trees}
 use Rattle.ide_ssr_search.specs.Permitted.{IsInFunction}
 use Rattle.ide_ssr_search.specs.Private.Scan.{IsEarlierCall, StandsIn}
-use Rattle.ide_ssr_found.proofs.Shared.{is_tree, in_tree}
+use Rattle.ide_ssr_bindings.proofs.Shared.{is_tree, in_tree}
 use Rattle.ide_ssr_search.proofs.Inside.{stands_in}
 use Rattle.ide_ssr_search.proofs.scan.is_inside.Goals as goal
 

@@ -1,9 +1,9 @@
 use Rattle.std.proofs.Common.{◌++◌, ◌∷◌, [], get_or, take, sym, ap, ◌∙◌, subst}
 use Rattle.std.specs.Option.{IsSomeAnd, option_map}
 use Rattle.std.proofs.lemmas.List.{take_more}
-use Rattle.ssr_base.specs.Workspace.{trees, file_span_of}
-use Rattle.ide_ssr_found.specs.declared.bindings.Binding.{Binding}
-use Rattle.ide_ssr_found.specs.Found.{held_range, node_binding}
+use Rattle.ssr_base_trees.specs.Workspace.{trees, file_span_of}
+use Rattle.ide_ssr_bindings.specs.declared.bindings.Binding.{Binding}
+use Rattle.ide_ssr_bindings.specs.Found.{held_range, node_binding}
 use Rattle.ide_ssr_search.specs.Private.Bounds.{LiesInBounds}
 use Rattle.ide_ssr_search.specs.Private.Whole.{AreRanges}
 use Rattle.ide_ssr_search.proofs.Apart.{ranges_push}

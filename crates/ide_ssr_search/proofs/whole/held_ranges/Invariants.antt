@@ -1,5 +1,5 @@
 use Rattle.std.proofs.Common.{take}
-use Rattle.ssr_base.specs.Workspace.{trees}
+use Rattle.ssr_base_trees.specs.Workspace.{trees}
 use Rattle.ide_ssr_search.specs.Private.Whole.{AreRanges}
 use Rattle.ide_ssr_search.proofs.whole.held_ranges.Given as goal
 

@@ -1,5 +1,5 @@
 use Rattle.std.proofs.Common.{ℕ, ◌<◌, get_or}
-use Rattle.ssr_base.specs.declared.ids.FileRange.{FileRange}
+use Rattle.ssr_base_trees.specs.declared.ids.FileRange.{FileRange}
 use Rattle.ide_ssr_search.proofs.Apart.{Disjoint}
 use Rattle.ide_ssr_search.proofs.whole.is_apart.Given as goal
 

@@ -1,7 +1,7 @@
 use Rattle.std.proofs.Common.{◌≡◌, true, false, not, ap, sym, ◌∙◌, subst}
 use Rattle.std.specs.Option.{IsSomeAnd}
 use Rattle.std.proofs.lemmas.Option.{MatchOption-at_some}
-use Rattle.ssr_base.specs.Workspace.{trees, original_range}
+use Rattle.ssr_base_trees.specs.Workspace.{trees, original_range}
 use Rattle.ide_ssr_search.specs.Private.Bounds.{LiesInBounds}
 use Rattle.ide_ssr_search.proofs.Placed.{placed_by, placed_match, placed_told, none_told}
 use Rattle.ide_ssr_search.proofs.whole.is_placed_in_call.Goals as goal

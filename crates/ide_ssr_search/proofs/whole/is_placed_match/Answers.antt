@@ -1,5 +1,5 @@
 use Rattle.std.proofs.Common.{refl, subst}
-use Rattle.ssr_base.specs.Workspace.{trees}
+use Rattle.ssr_base_trees.specs.Workspace.{trees}
 use Rattle.ide_ssr_search.specs.Private.Bounds.{AreBounds}
 use Rattle.ide_ssr_search.proofs.Placed.{file_placed}
 use Rattle.ide_ssr_search.proofs.whole.is_placed_match.Goals as goal

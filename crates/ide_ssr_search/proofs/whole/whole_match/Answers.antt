@@ -1,7 +1,7 @@
 use Rattle.std.proofs.Common.{ap, sym, ◌∙◌, subst}
 use Rattle.std.specs.Option.{option_map}
 use Rattle.std.proofs.lemmas.Bool.{both_ways}
-use Rattle.ssr_base.specs.Workspace.{trees}
+use Rattle.ssr_base_trees.specs.Workspace.{trees}
 use Rattle.ide_ssr_search.specs.Private.Whole.{IsPlacedMatch}
 use Rattle.ide_ssr_search.proofs.Placed.{whole, not_matched, not_placed, not_written}
 use Rattle.ide_ssr_search.proofs.whole.whole_match.Goals as goal

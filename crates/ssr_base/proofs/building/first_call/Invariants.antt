@@ -1,6 +1,6 @@
 use Rattle.std.proofs.Common.{◌+◌, ◌-◌, ◌≤◌}
 use Rattle.ssr_syntax_tree.specs.Syntax.{node_count}
-use Rattle.ssr_base.specs.Private.Built.{NodesFrom}
+use Rattle.ssr_base.specs.Private.Finding.{NodesFrom}
 use Rattle.ssr_base.proofs.Finding.{AreLeft}
 use Rattle.ssr_base.proofs.building.first_call.Given as goal
 

@@ -1,6 +1,5 @@
 use Rattle.std.proofs.Common.{◌≡◌, ◌-◌, ◌∙◌, length, string_bytes, ap, rules}
-use Rattle.ssr_base.specs.Private.Covers.{plain_cover}
-use Rattle.ssr_base.specs.Origins.{join}
+use Rattle.ssr_base_trees.specs.Origins.{plain_cover, join}
 use Rattle.ssr_base.proofs.Joining.{cover_next, drop_next}
 use Rattle.ssr_base.proofs.building.joined.Goals as goal
 

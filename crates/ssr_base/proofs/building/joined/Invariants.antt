@@ -1,7 +1,6 @@
 use Rattle.std.proofs.Common.{◌≡◌, length, take, drop}
-use Rattle.ssr_base.specs.Origins.{join}
+use Rattle.ssr_base_trees.specs.Origins.{join, plain_cover}
 use Rattle.ssr_base.specs.Building.{count_in, cover_of_tokens}
-use Rattle.ssr_base.specs.Private.Covers.{plain_cover}
 use Rattle.ssr_base.proofs.building.joined.Given as goal
 
 abbrev pub invariant-loop-left : goal.invariant-loop-left

@@ -1,6 +1,6 @@
 use Rattle.std.proofs.Common.{length, take, drop, arith, ap, ◌∙◌}
 use Rattle.ssr_syntax_tree.specs.Places.{HasToken}
-use Rattle.ssr_base.specs.Origins.{covered}
+use Rattle.ssr_base_trees.specs.Origins.{covered}
 use Rattle.ssr_base.specs.Building.{count_in, cover_of_tokens}
 use Rattle.ssr_base.proofs.Joining.{so_far_next, so_far_all}
 use Rattle.ssr_base.proofs.building.joined_origins.Goals as goal

@@ -1,6 +1,6 @@
 use Rattle.std.proofs.Common.{◌+◌, ◌-◌, ◌≤◌}
 use Rattle.ssr_syntax_tree.specs.Syntax.{node_count}
-use Rattle.ssr_base.specs.Private.Built.{NodesBefore, NodesFrom}
+use Rattle.ssr_base.specs.Private.Finding.{NodesBefore, NodesFrom}
 use Rattle.ssr_base.proofs.building.nodes_before.Given as goal
 
 abbrev pub invariant-loop-low : goal.invariant-loop-low

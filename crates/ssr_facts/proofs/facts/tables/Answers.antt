@@ -2,8 +2,8 @@ use Rattle.std.proofs.Common.{map, ap, ◌∙◌}
 use Rattle.std.specs.List.{filter_map, find}
 use Rattle.std.specs.Option.{option_map, option_and_then}
 use Rattle.ssr_syntax_kinds.specs.declared.kinds.SyntaxKind.TheVariants as k
-use Rattle.ssr_base.specs.declared.ids.NodeId.{NodeId}
-use Rattle.ssr_base.specs.declared.semantics.Res.{Res}
+use Rattle.ssr_base_trees.specs.declared.ids.NodeId.{NodeId}
+use Rattle.ssr_base_trees.specs.declared.semantics.Res.{Res}
 use Rattle.ssr_facts_rows.specs.declared.places.PlaceRow.{PlaceRow}
 use Rattle.ssr_facts_rows.specs.Meanings.{plain_type}
 use Rattle.ssr_facts.specs.declared.tables.Method.{Method}

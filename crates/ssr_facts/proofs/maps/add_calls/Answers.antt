@@ -1,7 +1,7 @@
 use Rattle.std.proofs.Common.{◌∙◌, sym, ap}
 use Rattle.std.specs.Map.{lookup}
-use Rattle.ssr_base.specs.declared.semantics.Res.TheVariants as res
-use Rattle.ssr_base.specs.Workspace.{same_id}
+use Rattle.ssr_base_trees.specs.declared.semantics.Res.TheVariants as res
+use Rattle.ssr_base_trees.specs.Workspace.{same_id}
 use Rattle.ssr_facts.specs.Tables.{callee}
 use Rattle.ssr_facts.specs.Usages.{uses_of}
 use Rattle.ssr_facts.proofs.Uses.{use_more, use_none}

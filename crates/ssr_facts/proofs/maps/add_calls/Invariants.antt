@@ -1,8 +1,8 @@
 use Rattle.std.proofs.Common.{◌≡◌, ◌++◌}
 use Rattle.std.specs.Prelude.{filter}
 use Rattle.std.specs.Map.{lookup}
-use Rattle.ssr_base.specs.declared.semantics.Res.{Res}
-use Rattle.ssr_base.specs.Workspace.{same_id}
+use Rattle.ssr_base_trees.specs.declared.semantics.Res.{Res}
+use Rattle.ssr_base_trees.specs.Workspace.{same_id}
 use Rattle.ssr_facts.specs.Tables.{callee, stands_for}
 use Rattle.ssr_facts.specs.Usages.{uses_of}
 use Rattle.ssr_facts.proofs.maps.add_calls.Given as goal

@@ -1,6 +1,6 @@
 use Rattle.std.proofs.Common.{◌∙◌, sym}
 use Rattle.std.specs.Map.{lookup}
-use Rattle.ssr_base.specs.Workspace.{same_id}
+use Rattle.ssr_base_trees.specs.Workspace.{same_id}
 use Rattle.ssr_facts.specs.Usages.{uses_of}
 use Rattle.ssr_facts.proofs.Uses.{use_more, use_none}
 use Rattle.ssr_facts.proofs.Keys.{found_node}

@@ -6,7 +6,7 @@ use Rattle.std.specs.Option.{option_map}
 use Rattle.std.specs.Ordering.{nat_cmp}
 use Rattle.std.specs.Prelude.{slice_get}
 use Rattle.ssr_syntax_tree.specs.Places.{HasNode, node_of, start_of, end_of}
-use Rattle.ssr_base.specs.Workspace.{node_id, same_id}
+use Rattle.ssr_base_trees.specs.Workspace.{node_id, same_id}
 use Rattle.ssr_base.proofs.Shared.{starts_sorted}
 use Rattle.ssr_facts.specs.declared.scopes.Scope.{Scope}
 use Rattle.ssr_facts.specs.Private.Scopes.{IsBestAt, IsFirst, id_of}

@@ -5,8 +5,8 @@ use Rattle.std.specs.Option.{option_map, option_or}
 use Rattle.std.specs.Ordering.{nat_cmp}
 use Rattle.std.specs.Prelude.{slice_get}
 use Rattle.ssr_syntax_tree.specs.Places.{HasNode, node_of, start_of}
-use Rattle.ssr_base.specs.declared.ids.NodeId.{NodeId}
-use Rattle.ssr_base.specs.Workspace.{same_id}
+use Rattle.ssr_base_trees.specs.declared.ids.NodeId.{NodeId}
+use Rattle.ssr_base_trees.specs.Workspace.{same_id}
 use Rattle.ssr_facts.specs.declared.scopes.Scope.{Scope}
 use Rattle.ssr_facts.specs.Private.Nodes.{told_up_to}
 use Rattle.ssr_facts.specs.Private.Scopes.{IsKept, IsBestAt, id_of}

@@ -3,7 +3,7 @@ use Rattle.std.specs.Map.{lookup}
 use Rattle.std.specs.Option.{option_map, option_or}
 use Rattle.std.specs.Prelude.{IsPermutation}
 use Rattle.ssr_syntax_tree.specs.Syntax.{node_count}
-use Rattle.ssr_base.specs.Workspace.{same_id}
+use Rattle.ssr_base_trees.specs.Workspace.{same_id}
 use Rattle.ssr_facts.specs.Scopes.{scope_of}
 use Rattle.ssr_facts.specs.Private.Nodes.{place_at, told_up_to}
 use Rattle.ssr_facts.specs.Private.Scopes.{scopes_in, IsBest}

@@ -2,7 +2,7 @@ use Rattle.std.proofs.Common.{Some, map, sym, ap, ◌∙◌, ℕ, cond, None}
 use Rattle.std.specs.Prelude.{Vec}
 use Rattle.std.specs.Global.{Global}
 use Rattle.std.specs.Option.{option_map, option_or}
-use Rattle.ssr_base.specs.Workspace.{node_id, same_id}
+use Rattle.ssr_base_trees.specs.Workspace.{node_id, same_id}
 use Rattle.ssr_facts.specs.Told.{type_of}
 use Rattle.ssr_facts.specs.Private.Nodes.{at_place, types_at, types_of_node}
 use Rattle.ssr_facts.proofs.ByTree.{told_more, types_more, nothing_more}

@@ -1,6 +1,6 @@
 use Rattle.std.proofs.Common.{◌≡◌}
 use Rattle.std.specs.Option.{option_or}
-use Rattle.ssr_base.specs.declared.ids.NodeId.{NodeId}
+use Rattle.ssr_base_trees.specs.declared.ids.NodeId.{NodeId}
 use Rattle.ssr_facts.specs.Private.Nodes.{told_up_to, types_at, types_of_node}
 use Rattle.ssr_facts.proofs.types.add_types.Given as goal
 

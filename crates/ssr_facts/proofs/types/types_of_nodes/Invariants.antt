@@ -1,6 +1,6 @@
 use Rattle.std.proofs.Common.{◌≡◌, map, cond, ltb, None}
 use Rattle.std.specs.Option.{option_map, option_and_then}
-use Rattle.ssr_base.specs.declared.ids.NodeId.{NodeId}
+use Rattle.ssr_base_trees.specs.declared.ids.NodeId.{NodeId}
 use Rattle.ssr_facts.specs.Nodes.{place_of}
 use Rattle.ssr_facts.specs.Told.{type_of}
 use Rattle.ssr_facts.specs.Private.Nodes.{at_place, types_at}

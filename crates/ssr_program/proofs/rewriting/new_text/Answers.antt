@@ -2,8 +2,8 @@ use Rattle.std.proofs.Common.{◌≡◌, ℕ, List, All, length, sym, ap, subst,
 use Rattle.std.specs.Prelude.{slice_get}
 use Rattle.std.specs.Option.{IsSomeAnd}
 use Rattle.std.proofs.lemmas.Option.{none-some, same_Some}
-use Rattle.ssr_base.specs.Changes.{FitsText, replaced}
-use Rattle.ssr_base.specs.Workspace.{Workspace}
+use Rattle.ssr_base_trees.specs.Changes.{FitsText, replaced}
+use Rattle.ssr_base_trees.specs.Workspace.{Workspace}
 use Rattle.ssr_syntax_tree.specs.Syntax.{source_of}
 use Rattle.ide_ssr.proofs.Shared.{none_clash}
 use Rattle.ssr_program.specs.Private.Rewriting.{untold}

@@ -1,6 +1,6 @@
 use Rattle.std.proofs.Common.{◌≡◌, ◌∙◌, true, false, sym, subst}
 use Rattle.std.proofs.lemmas.Result.{IfOk-weaker}
-use Rattle.ssr_base.specs.Workspace.{Workspace}
+use Rattle.ssr_base_trees.specs.Workspace.{Workspace}
 use Rattle.ide_ssr_rewriting.specs.Edits.{EditsFit}
 use Rattle.ide_ssr.specs.Edits.{HaveTemplates}
 use Rattle.ide_ssr.specs.Finder.{finder_of}

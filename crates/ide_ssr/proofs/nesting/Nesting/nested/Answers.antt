@@ -1,10 +1,10 @@
 use Rattle.std.proofs.Common.{◌≡◌, ◌∙◌, ℕ, List, All, map, sym, ap, subst}
 use Rattle.std.specs.Option.{IsSomeAnd}
 use Rattle.ssr_syntax_tree.specs.Places.{node_of, text_of}
-use Rattle.ssr_base.specs.declared.ids.FileRange.{FileRange}
-use Rattle.ssr_base.specs.declared.ids.NodeId.{NodeId}
-use Rattle.ssr_base.specs.Laws.{LiesInFile}
-use Rattle.ssr_base.specs.Workspace.{Workspace, file_span_of, original_range, tree_of, trees}
+use Rattle.ssr_base_trees.specs.declared.ids.FileRange.{FileRange}
+use Rattle.ssr_base_trees.specs.declared.ids.NodeId.{NodeId}
+use Rattle.ssr_base_trees.specs.Laws.{LiesInFile}
+use Rattle.ssr_base_trees.specs.Workspace.{Workspace, file_span_of, original_range, tree_of, trees}
 use Rattle.ide_ssr.specs.declared.matches.Match.TheViews.{out-roll-Match}
 use Rattle.ide_ssr.specs.Comments.{comment_spans}
 use Rattle.ide_ssr.specs.Parts.{ComesFrom}

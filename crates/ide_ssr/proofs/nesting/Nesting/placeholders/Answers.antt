@@ -1,7 +1,7 @@
 use Rattle.std.proofs.Common.{◌≡◌, ◌≢◌, ℕ, ◌∙◌, None, Some, All, AllPairs, Contains, get_or, map, sym, ap, subst}
 use Rattle.std.specs.Prelude.{IsSome}
 use Rattle.std.proofs.lemmas.Option.{same_Some}
-use Rattle.ide_ssr_found.specs.Found.{Found}
+use Rattle.ide_ssr_bindings.specs.Found.{FoundMatch}
 use Rattle.ide_ssr_nesting.specs.Lists.{listed}
 use Rattle.ide_ssr.specs.Nesting.{Show}
 use Rattle.ide_ssr.specs.Private.Made.{ShowPlaceholders}
@@ -74,7 +74,7 @@ pub returns-clause-shown : goal.returns-clause-shown
 returns-clause-shown c other is =
     let kept = c.args.self.now.kept.now in
     let m = c.get-m.result.now in
-    subst (λ (m : Found). ShowPlaceholders c.args.self.now.rules.now kept c.args.self.now.lists.now c.args.place m c.loop-index.placeholders.items)
+    subst (λ (m : FoundMatch). ShowPlaceholders c.args.self.now.rules.now kept c.args.self.now.lists.now c.args.place m c.loop-index.placeholders.items)
     (same_Some m other (sym c.get-m.ensures ∙ is))
     (holding_all c.args.self.now.rules.now kept c.args.self.now.lists.now c.args.place m c.deref-index-items.result.now c.loop-index.index-index c.args.made.now.items
     c.loop-index.made.items c.loop-index.placeholders.items c.loop-index.invariant c.loop-index-test.false)

@@ -1,4 +1,4 @@
-use Rattle.ssr_base.specs.Workspace.{trees}
+use Rattle.ssr_base_trees.specs.Workspace.{trees}
 use Rattle.ide_ssr_nesting.proofs.Nearest.{pushed}
 use Rattle.ide_ssr_nesting.proofs.kept.Nest.consider.Goals as goal
 

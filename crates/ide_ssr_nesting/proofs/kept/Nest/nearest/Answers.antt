@@ -1,7 +1,7 @@
 use Rattle.std.proofs.Common.{refl, sym, subst, length}
 use Rattle.std.proofs.lemmas.Bool.{iff_false}
 use Rattle.std.proofs.lemmas.Option.{slice_get_read}
-use Rattle.ssr_base.specs.Workspace.{trees}
+use Rattle.ssr_base_trees.specs.Workspace.{trees}
 use Rattle.ide_ssr_nesting.proofs.Nearest.{IsPast, nearest_here, past_next, next_smaller}
 use Rattle.ide_ssr_nesting.proofs.kept.Nest.nearest.Goals as goal
 

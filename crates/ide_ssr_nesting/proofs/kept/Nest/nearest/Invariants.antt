@@ -1,6 +1,6 @@
 use Rattle.std.proofs.Common.{◌+◌}
 use Rattle.std.specs.Option.{option_map_or}
-use Rattle.ssr_base.specs.Workspace.{trees}
+use Rattle.ssr_base_trees.specs.Workspace.{trees}
 use Rattle.ide_ssr_nesting.proofs.Nearest.{IsPast}
 use Rattle.ide_ssr_nesting.proofs.kept.Nest.nearest.Given as goal
 

@@ -3,7 +3,7 @@ use Rattle.std.specs.Prelude.{None, Some, List, if◌then◌else◌}
 use Rattle.std.specs.Cow.{cow_str_bytes}
 use Rattle.std.specs.Global.{Global}
 use Rattle.std.specs.declared.borrow.CowStr.{CowStr}
-use Rattle.ssr_base.specs.Workspace.{Workspace}
+use Rattle.ssr_base_trees.specs.Workspace.{Workspace}
 use Rattle.ide_ssr_rewriting.specs.Edits.{list_under}
 use Rattle.ide_ssr_rewriting.specs.Replacements.{text_of_match}
 use Rattle.ide_ssr_rewriting.specs.Private.Edits.{text_in}

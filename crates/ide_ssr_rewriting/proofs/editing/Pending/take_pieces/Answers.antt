@@ -3,10 +3,10 @@ use Rattle.std.specs.Cow.{cow_str_bytes}
 use Rattle.std.specs.Prelude.{AllPairs, Contains, None, Some, if◌then◌else◌}
 use Rattle.std.proofs.lemmas.List.{get_or_default}
 use Rattle.std.proofs.lemmas.Option.{slice_get-get_or}
-use Rattle.ssr_base.specs.declared.ids.NodeId.{NodeId}
-use Rattle.ssr_base.specs.Workspace.{FileSpan, Workspace, file_span_of, trees}
-use Rattle.ide_ssr_found.specs.declared.bindings.Binding.{Binding}
-use Rattle.ide_ssr_found.specs.Found.{Found, held_range, node_binding}
+use Rattle.ssr_base_trees.specs.declared.ids.NodeId.{NodeId}
+use Rattle.ssr_base_trees.specs.Workspace.{FileSpan, Workspace, file_span_of, trees}
+use Rattle.ide_ssr_bindings.specs.declared.bindings.Binding.{Binding}
+use Rattle.ide_ssr_bindings.specs.Found.{FoundMatch, held_range, node_binding}
 use Rattle.ide_ssr_nesting.specs.Holding.{Kept}
 use Rattle.ide_ssr_rewriting.specs.Clashes.{IsFirst, Rewrite, clash_of, clashes, is_clean}
 use Rattle.ide_ssr_rewriting.specs.Private.Clashes.{AreInOrder}
@@ -22,7 +22,7 @@ abbrev nobody : Binding
 nobody = node_binding 0 0
 
 -- where what the binding of a place holds comes from, as it is read
-held_read : (kept : Kept) (m : Found) (w : Workspace) (x : NodeId) (bs : List Binding) (i : ℕ) (range : Option FileSpan) → w ≡ kept.workspace → x ≡ m.node → bs ≡ m.bindings
+held_read : (kept : Kept) (m : FoundMatch) (w : Workspace) (x : NodeId) (bs : List Binding) (i : ℕ) (range : Option FileSpan) → w ≡ kept.workspace → x ≡ m.node → bs ≡ m.bindings
     → range ≡ held_range (trees w) x.tree (get_or bs i nobody) → range ≡ held_range (trees kept.workspace) m.node.tree (get_or m.bindings i nobody)
 held_read kept m w x bs i range same_w same_x same_bs is =
     is

@@ -1,6 +1,6 @@
 use Rattle.std.proofs.Common.{sym}
-use Rattle.ssr_base.specs.Workspace.{trees, node_id}
-use Rattle.ssr_base.proofs.Shared.{is_up}
+use Rattle.ssr_base_trees.specs.Workspace.{trees, node_id}
+use Rattle.ssr_base_trees.proofs.Shared.{is_up}
 use Rattle.ide_ssr_search.proofs.bounds.Bounds.of.Goals as goal
 
 pub of_call-requires : goal.of_call-requires

@@ -1,6 +1,6 @@
 use Rattle.std.proofs.Common.{refl, ap, ◌∙◌}
 use Rattle.std.specs.Map.{lookup, keys_of}
-use Rattle.ssr_base.specs.Workspace.{same_id}
+use Rattle.ssr_base_trees.specs.Workspace.{same_id}
 use Rattle.ssr_facts.specs.Tables.{callee}
 use Rattle.ssr_facts.proofs.Same.{index_made}
 use Rattle.ssr_facts.proofs.maps.Maps.new.Goals as goal

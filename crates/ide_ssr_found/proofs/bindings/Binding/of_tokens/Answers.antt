@@ -1,5 +1,0 @@
-use Rattle.std.proofs.Common.{refl}
-use Rattle.ide_ssr_found.proofs.bindings.Binding.of_tokens.Goals as goal
-
-pub returns : goal.returns
-returns c = refl

@@ -1,9 +1,0 @@
-use Rattle.std.proofs.Common.{◌≡◌, drop, map}
-use Rattle.ssr_base.specs.Origins.{join, cover_of}
-use Rattle.ssr_base.specs.Private.Covers.{plain_cover, plain_origin}
-use Rattle.ssr_base.proofs.covers.cover_all.Given as goal
-
--- what covers all is what covers those passed, joined with what covers those left
-abbrev pub invariant-loop-origin : goal.invariant-loop-origin
-invariant-loop-origin l =
-    join (plain_cover l.cover) (cover_of (map plain_origin (drop l.origin-index l.origins))) ≡ cover_of (map plain_origin l.origins)

@@ -1,5 +1,0 @@
-use Rattle.std.proofs.Common.{rules}
-use Rattle.ssr_base.proofs.edit.TextEdit.new.Goals as goal
-
-pub returns : goal.returns
-returns c = search rules steps 200000

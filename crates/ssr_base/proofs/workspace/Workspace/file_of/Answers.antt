@@ -1,6 +1,0 @@
-use Rattle.std.proofs.Common.{sym}
-use Rattle.ssr_base.proofs.Trees.{file_of_file}
-use Rattle.ssr_base.proofs.workspace.Workspace.file_of.Goals as goal
-
-pub returns-in-None : goal.returns-in-None
-returns-in-None c = sym (file_of_file c.args.self.now c.args.tree c.in-None.ensures.none)

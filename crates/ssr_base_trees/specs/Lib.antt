@@ -1,0 +1,11 @@
+pub mod Origins
+pub mod Texts
+pub mod Workspace
+pub mod WorkspaceCode
+pub mod Built
+pub mod Growth
+pub mod Laws
+pub mod Meanings
+pub mod Changes
+pub mod Applied
+pub mod Private
