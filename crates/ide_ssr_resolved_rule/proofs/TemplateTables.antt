@@ -86,11 +86,12 @@ told_none names paths s i table all is = record {
       ∙ ap (token_by s n (unprinted names (token_of s n)) i) (sym (drop_all i paths all));
 }
 
-pub told_more : (names : List (List ℕ)) (paths : List UsedPath) (s : Syntax) (i : ℕ) (d : UsedPath) (old new : List TemplateToken) → i < length paths
-    → TellsFrom names paths s (i + 1) old → length new ≡ length old
+pub told_more : (names : List (List ℕ)) (paths : List UsedPath) (s : Syntax) (i n : ℕ) (d : UsedPath) (old new : List TemplateToken) → i < length paths → n ≡ i + 1
+    → TellsFrom names paths s n old → length new ≡ length old
     → ((n : ℕ) → get_or new n t.Spelled ≡ (if is_printed s n (get_or paths i d) then printed_token (node_of s (get_or paths i d).node.0).first i n else get_or old n t.Spelled))
     → TellsFrom names paths s i new
-told_more names paths s i d old new lt so_far long marks = record {
+told_more names paths s i next d old new lt is before long marks =
+  let so_far : TellsFrom names paths s (i + 1) old = subst (λ n. TellsFrom names paths s n old) is before in record {
   long = long ∙ so_far.long;
   tells = λ n has.
       marks n

@@ -31,7 +31,7 @@ loop-node-preserved c =
           let same = ap (λ v. v.items) w.table-is in
           record {
             long = ap length same ∙ c.loop-node.invariant.long;
-            told = called_on_none names tree n table _ (omega arith) ? c.loop-node.invariant.told same;
+            told = called_on_none names tree n table _ (omega arith) (sym w.in_default.is ∙ c.placeholder_called_on.ensures) c.loop-node.invariant.told same;
           }
     ]
 

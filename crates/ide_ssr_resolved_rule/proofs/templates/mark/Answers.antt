@@ -1,4 +1,4 @@
-use Rattle.std.proofs.Common.{◌≡◌, ◌<◌, ◌∙◌, length, refl, arith}
+use Rattle.std.proofs.Common.{◌<◌, ◌∙◌, length, refl, arith}
 use Rattle.std.proofs.lemmas.List.{length-set}
 use Rattle.ide_ssr_resolved_rule.proofs.TemplateTables.{none_marked, marked_next, marked_all}
 use Rattle.ide_ssr_resolved_rule.proofs.templates.mark.Goals as goal

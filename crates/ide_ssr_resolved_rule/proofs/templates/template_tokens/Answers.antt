@@ -7,4 +7,4 @@ loop-place-init c = told_none c.args.names.now c.args.paths.now c.args.tree.now 
 
 pub loop-place-preserved : goal.loop-place-preserved
 loop-place-preserved c =
-    told_more c.args.names.now c.args.paths.now c.args.tree.now _ _ _ _ (omega arith) c.loop-place.invariant c.mark_path.ensures.long c.mark_path.ensures.marked
+    told_more c.args.names.now c.args.paths.now c.args.tree.now _ _ _ _ _ (omega arith) (omega arith) c.loop-place.invariant c.mark_path.ensures.long c.mark_path.ensures.marked
