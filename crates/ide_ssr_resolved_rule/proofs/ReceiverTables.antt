@@ -10,7 +10,7 @@ use Rattle.ssr_syntax_kinds.specs.declared.kinds.SyntaxKind.TheVariants as k
 use Rattle.ssr_syntax_tree.specs.declared.number.Element.{Element}
 use Rattle.ssr_syntax_tree.specs.declared.number.Element.TheVariants as element
 use Rattle.ssr_syntax_tree.specs.declared.number.NodeNo.{NodeNo}
-use Rattle.ssr_syntax_tree.specs.Places.{HasNode, Node, elements_of, node_of, nodes_of, part_of, parts_of, root_of}
+use Rattle.ssr_syntax_tree.specs.Places.{HasNode, Node, elements_of, node_of, nodes_of, part_of, root_of}
 use Rattle.ssr_syntax_tree.specs.Syntax.{Token, Syntax, node_count}
 use Rattle.ssr_syntax_tree.proofs.Shared.{length-nodes_of, node_is, parts_of-elements_of}
 use Rattle.ide_ssr_resolved_rule.specs.Placeholders.{only_token, placeholder_at}

@@ -1,12 +1,12 @@
 -- The table of what tokens of a template are, one more token or path after the other.
-use Rattle.std.proofs.Common.{◌≡◌, ℕ, ◌+◌, ◌<◌, ◌≤◌, ◌&&◌, Bool, true, false, List, [], ◌∷◌, ◌++◌, Option, Some, None, map, length, take, drop, get_or, set, inl, inr, refl, sym, ap, ◌∙◌, subst, arith}
-use Rattle.std.specs.Prelude.{if◌then◌else◌, nat_le, nat_lt}
+use Rattle.std.proofs.Common.{◌≡◌, ℕ, ◌+◌, ◌<◌, ◌≤◌, Bool, true, false, List, [], ◌∷◌, ◌++◌, Option, Some, None, map, length, take, get_or, set, inl, inr, sym, ap, ◌∙◌, subst, arith}
+use Rattle.std.specs.Prelude.{if◌then◌else◌}
 use Rattle.std.specs.Option.{IfSome, IsSomeAnd}
 use Rattle.std.proofs.lemmas.Bool.{cases_eq}
 use Rattle.std.proofs.lemmas.Bool.Decides.{nat_tests}
 use Rattle.std.proofs.lemmas.List.{drop_all, drop_more, get_or-map, get_or_default, get_or-set_other, get_or-set_same, length-map, map_more, take_all}
 use Rattle.ssr_syntax_tree.specs.Places.{HasToken, node_of, token_of}
-use Rattle.ssr_syntax_tree.specs.Syntax.{Token, Syntax, token_count, tokens_of}
+use Rattle.ssr_syntax_tree.specs.Syntax.{Syntax, token_count, tokens_of}
 use Rattle.ssr_syntax_tree.proofs.Shared.{length-tokens_in}
 use Rattle.ide_ssr_resolved_rule.specs.declared.templates.TemplateToken.{TemplateToken}
 use Rattle.ide_ssr_resolved_rule.specs.declared.templates.TemplateToken.TheVariants as t

@@ -24,7 +24,10 @@ fn taken_as(self_kind: SelfKind) -> &'static str
 pub(crate) fn has_prefix(binding: Binding) -> bool
     ensures { result ≡ false → prefix binding ≡ [] }
 {
-    binding.deref_count > 0 || !matches!(binding.self_kind, SelfKind::Owned)
+    match binding.self_kind {
+        SelfKind::Owned => binding.deref_count > 0,
+        SelfKind::Ref | SelfKind::Mut => true,
+    }
 }
 
 /// Adds so many `*`.

@@ -1,11 +1,30 @@
 //! What used paths of a template are written as for a match.
 
-ghost use Rattle.std.specs.Prelude.{◌≡◌, IfOk, map, string_bytes};
+ghost use Rattle.std.specs.Prelude.{◌≡◌, [], IfOk, map, string_bytes, unwrap_or};
+ghost use Rattle.std.specs.Option.{option_and_then};
 ghost use Rattle.ide_ssr_rewriting.specs.Printing.{printed_as, printed_paths};
 
 use ide_ssr_resolved_rule::{ResolvedRule, UsedPath};
-use ssr_base_trees::{NodeId, Res, ScopeId, Semantics};
+use ssr_base_trees::{DefId, NodeId, Res, ScopeId, Semantics};
 use std::alloc::{AllocError, Global};
+
+/// The path by which a scope reaches a definition, if there is a scope and a path.
+fn path_text<S: Semantics>(
+    alloc: Global,
+    semantics: &S,
+    scope: Option<ScopeId>,
+    def: DefId,
+) -> Result<String, AllocError>
+    ensures { IfOk result (λ text. string_bytes text ≡ unwrap_or (option_and_then (λ scope. (S.meanings semantics.now).path_from scope def) scope) []) }
+{
+    let Some(scope) = scope else {
+        return Ok(String::new(alloc));
+    };
+    match semantics.path_from(alloc, scope, def)? {
+        Some(text) => Ok(text),
+        None => Ok(String::new(alloc)),
+    }
+}
 
 /// The path by which a scope reaches what a used path stands for, if that is a definition.
 fn printed_as<S: Semantics>(
@@ -16,11 +35,8 @@ fn printed_as<S: Semantics>(
 ) -> Result<String, AllocError>
     ensures { IfOk result (λ text. string_bytes text ≡ printed_as (S.meanings semantics.now) scope res) }
 {
-    match (scope, res) {
-        (Some(scope), Res::Def(def)) => {
-            let text = semantics.path_from(alloc, scope, def)?;
-            Ok(text.unwrap_or(String::new(alloc)))
-        }
+    match res {
+        Res::Def(def) => path_text(alloc, semantics, scope, def),
         _ => Ok(String::new(alloc)),
     }
 }

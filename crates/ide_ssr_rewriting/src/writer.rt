@@ -39,12 +39,13 @@ impl<'a, S: Semantics> Writer<'a, S> {
         if !has_prefix(binding) {
             return Ok(held);
         }
-        match self.rules.get(rule) {
-            Some(rule) if !rule.is_receiver(binding.placeholder) => {
-                with_prefix(self.alloc, binding, held)
-            }
-            _ => Ok(held),
+        let Some(rule) = self.rules.get(rule) else {
+            return Ok(held);
+        };
+        if rule.is_receiver(binding.placeholder) {
+            return Ok(held);
         }
+        with_prefix(self.alloc, binding, held)
     }
 
     /// The piece of a placeholder, if what this holds can be made.

@@ -1,5 +1,4 @@
 use Rattle.std.proofs.Common.{◌<◌, length, length-set, sym, ap, ◌∙◌, arith}
-use Rattle.std.specs.Vec.{vec_len}
 use Rattle.ide_ssr_resolved_rule.proofs.ReceiverTables.{called_on_all, called_on_has, called_on_more, called_on_none}
 use Rattle.ssr_syntax_tree.specs.Places.{node_of}
 use Rattle.ide_ssr_resolved_rule.proofs.receivers.receivers.Goals as goal
