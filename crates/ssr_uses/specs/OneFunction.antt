@@ -41,9 +41,10 @@ known name uses = record {
   usages = λ res. uses;
 }
 
--- a node of a tree with this number is a path that is spelled so
-pub record IsPathSpelled (tree : Syntax) (number : ℕ) (spelled : List ℕ) (path : NodeId) : Type 0 where
-  pub tree_is : path.tree ≡ number
-  pub has : HasNode tree path.node.0
-  pub kind : (node_of tree path.node.0).kind ≡ k.PATH
-  pub text : text_of (node_of tree path.node.0) ≡ spelled
+-- a node is a path that is spelled so
+abbrev pub IsPath : Syntax → List ℕ → ℕ → Type 0
+IsPath tree spelled n = ((node_of tree n).kind ≡ k.PATH) × (text_of (node_of tree n) ≡ spelled)
+
+-- the same, of a node of the tree with this number
+abbrev pub IsPathOf : Syntax → ℕ → List ℕ → NodeId → Type 0
+IsPathOf tree number spelled path = (path.tree ≡ number) × HasNode tree path.node.0 × IsPath tree spelled path.node.0

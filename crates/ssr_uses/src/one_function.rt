@@ -1,10 +1,11 @@
 //! A provider that knows one function.
 
-ghost use Rattle.std.specs.Prelude.{◌≡◌, ◌==◌, ◌&&◌, All, IfOk, map, string_bytes};
+ghost use Rattle.std.specs.Prelude.{◌≡◌, ◌↔◌, Contains, IfOk, IsTrue, map, string_bytes};
 ghost use Rattle.std.specs.List.{list_any};
-ghost use Rattle.ssr_syntax_tree.specs.Places.{HasNode, node_of, text_of};
+ghost use Rattle.ssr_syntax_tree.specs.Places.{HasNode};
+ghost use Rattle.ssr_base_trees.specs.declared.ids.NodeId.{NodeId as Id};
 ghost use Rattle.ssr_base_trees.specs.Workspace.{same_id};
-ghost use Rattle.ssr_uses.specs.OneFunction.{IsPathSpelled, is_name};
+ghost use Rattle.ssr_uses.specs.OneFunction.{IsPath, IsPathOf, is_name};
 
 use ssr_base::{DefId, DefInfo, DefKind, NodeId, Res, ScopeId, SelfKind, Semantics, TypeId};
 use ssr_syntax::SyntaxKind;
@@ -112,6 +113,14 @@ impl Semantics for OneFunction {
     }
 }
 
+/// Whether a node is a path that is spelled so.
+fn is_path(tree: &Tree, node: NodeNo, spelled: &str) -> bool
+    requires { HasNode tree.now node.0 }
+    ensures { IsTrue result ↔ IsPath tree.now spelled.now node.0 }
+{
+    tree.kind(node).is(SyntaxKind::PATH) && tree.text(node) == spelled
+}
+
 /// The paths of a tree that are spelled so, as nodes of the tree with this number.
 pub fn paths_spelled(
     alloc: Global,
@@ -119,12 +128,12 @@ pub fn paths_spelled(
     number: u32,
     spelled: &str,
 ) -> Result<Vec<NodeId>, AllocError>
-    ensures { IfOk result (λ paths. All (IsPathSpelled tree.now number spelled.now) paths.items) }
+    ensures { IfOk result (λ paths. (path : Id) → Contains paths.items path ↔ IsPathOf tree.now number spelled.now path) }
 {
     let mut paths = Vec::new(alloc);
     for node in 0..tree.node_count() {
         let node = NodeNo(node);
-        if tree.kind(node).is(SyntaxKind::PATH) && tree.text(node) == spelled {
+        if is_path(tree, node, spelled) {
             paths.push(NodeId { tree: number, node })?;
         }
     }
