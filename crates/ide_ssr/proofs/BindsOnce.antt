@@ -12,9 +12,8 @@ use Rattle.std.proofs.lemmas.Option.{slice_get-get_or}
 use Rattle.std.proofs.lemmas.Slice.Eq.{bytes_eq-Decides}
 use Rattle.ssr_syntax_tree.proofs.Lists.{all_at, pairs_at}
 use Rattle.ssr_base_trees.specs.Workspace.{Workspace, trees}
-use Rattle.ide_ssr_rules.specs.Elements.{has}
-use Rattle.ide_ssr_resolving.specs.Resolved.{ResolvedKind}
-use Rattle.ide_ssr_rules.specs.Uses.{AreNew}
+use Rattle.ide_ssr_resolved_rule.specs.Names.{has, AreNew}
+use Rattle.ide_ssr_resolved_rule.specs.Resolved.{ResolvedRule}
 use Rattle.ide_ssr_bindings.specs.declared.bindings.Binding.{Binding}
 use Rattle.ide_ssr_bindings.specs.Found.{FoundMatch, AreDisjoint, ShareNoByte, IsMatch, held_range, node_binding}
 use Rattle.ide_ssr_matching.proofs.Shared.{placeholders_bound}
@@ -57,8 +56,8 @@ new_differ before (x ∷ names) new =
 -- ** Matches of rules.
 
 -- a match binds the placeholders of its rule, in the order of their names
-pub record IsOfRule (rules : List ResolvedKind) (m : FoundMatch) : Type 0 where
-  pub rule : ResolvedKind
+pub record IsOfRule (rules : List ResolvedRule) (m : FoundMatch) : Type 0 where
+  pub rule : ResolvedRule
   pub is_rule : slice_get rules m.rule ≡ Some rule
   pub numbered : placeholders_bound m.bindings ≡ range_with_len 0 (length rule.names)
   pub different : AreNew [] rule.names
@@ -66,20 +65,20 @@ pub record IsOfRule (rules : List ResolvedKind) (m : FoundMatch) : Type 0 where
 nothing : Binding
 nothing = node_binding 0 0
 
-name_of_binding : List ResolvedKind → FoundMatch → ℕ → List ℕ
+name_of_binding : List ResolvedRule → FoundMatch → ℕ → List ℕ
 name_of_binding rules m i =
     option_map_or (λ (b : Binding). placeholder_name (slice_get rules m.rule) b.placeholder) (slice_get m.bindings i) []
 
-named : (rules : List ResolvedKind) (m : FoundMatch) (i : ℕ) (b : Binding) → slice_get m.bindings i ≡ Some b
+named : (rules : List ResolvedRule) (m : FoundMatch) (i : ℕ) (b : Binding) → slice_get m.bindings i ≡ Some b
     → name_of_binding rules m i ≡ placeholder_name (slice_get rules m.rule) b.placeholder
 unfolding name_of_binding
 named rules m i b is = ap (λ o. option_map_or (λ (b : Binding). placeholder_name (slice_get rules m.rule) b.placeholder) o []) is
 
-bindings_counted : (rules : List ResolvedKind) (m : FoundMatch) (of : IsOfRule rules m) → length m.bindings ≡ length of.rule.names
+bindings_counted : (rules : List ResolvedRule) (m : FoundMatch) (of : IsOfRule rules m) → length m.bindings ≡ length of.rule.names
 bindings_counted rules m of =
     sym (length-map m.bindings (λ (b : Binding). b.placeholder)) ∙ ap length of.numbered ∙ length-range_with_len 0 (length of.rule.names)
 
-name_is : (rules : List ResolvedKind) (m : FoundMatch) (of : IsOfRule rules m) (i : ℕ) → i < length m.bindings → name_of_binding rules m i ≡ get_or of.rule.names i []
+name_is : (rules : List ResolvedRule) (m : FoundMatch) (of : IsOfRule rules m) (i : ℕ) → i < length m.bindings → name_of_binding rules m i ≡ get_or of.rule.names i []
 name_is rules m of i less =
     let b = get_or m.bindings i nothing in
     let count = bindings_counted rules m of in
@@ -89,19 +88,19 @@ name_is rules m of i less =
     ∙ get_or-range_with_len 0 (length of.rule.names) i 0 (omega arith)
     ∙ (let same : 0 + i ≡ i = omega arith in same) in
     named rules m i b (slice_get-get_or m.bindings i nothing less)
-    ∙ ap (λ (rule : Option ResolvedKind). placeholder_name rule b.placeholder) of.is_rule
+    ∙ ap (λ (rule : Option ResolvedRule). placeholder_name rule b.placeholder) of.is_rule
     ∙ ap (λ i. get_or of.rule.names i []) number
 
 -- ** The names that are shown.
 
-names_shown : (rules : List ResolvedKind) (kept : Kept) (lists : Listing) (n : ℕ) (m : FoundMatch) (order : List ℕ) (ps : List PlaceholderMatch)
+names_shown : (rules : List ResolvedRule) (kept : Kept) (lists : Listing) (n : ℕ) (m : FoundMatch) (order : List ℕ) (ps : List PlaceholderMatch)
     → ShowBindings rules kept lists n m order ps → map name_of ps ≡ map (name_of_binding rules m) order
 names_shown rules kept lists _ _ _ _ (nesting.end n m) = refl
 names_shown rules kept lists _ _ _ _ (nesting.bound n m i b order p ps is has inner rest) =
     ap (λ name. name ∷ map name_of ps) (has.name ∙ sym (named rules m i b is))
     ∙ ap (λ names. name_of_binding rules m i ∷ names) (names_shown rules kept lists n m order ps rest)
 
-module _ (rules : List ResolvedKind) (kept : Kept) (m : FoundMatch) (of : IsOfRule rules m) (is_match : IsMatch (trees kept.workspace) m) (order : List ℕ)
+module _ (rules : List ResolvedRule) (kept : Kept) (m : FoundMatch) (of : IsOfRule rules m) (is_match : IsMatch (trees kept.workspace) m) (order : List ℕ)
     (by_start : AreByStart kept.workspace m order) where
   abbrev names : List (List ℕ)
   names = map (name_of_binding rules m) order
@@ -157,14 +156,14 @@ record IsShownAt (w : Workspace) (m : FoundMatch) (i : ℕ) (p : PlaceholderMatc
   is : slice_get m.bindings i ≡ Some binding
   from : ComesFrom w (held_range (trees w) m.node.tree binding) (span_of p)
 
-shown_at : (rules : List ResolvedKind) (kept : Kept) (lists : Listing) (n : ℕ) (m : FoundMatch) (order : List ℕ) (ps : List PlaceholderMatch)
+shown_at : (rules : List ResolvedRule) (kept : Kept) (lists : Listing) (n : ℕ) (m : FoundMatch) (order : List ℕ) (ps : List PlaceholderMatch)
     → ShowBindings rules kept lists n m order ps → (k : ℕ) (d : PlaceholderMatch) → k < length ps → IsShownAt kept.workspace m (get_or order k 0) (get_or ps k d)
 shown_at rules kept lists _ _ _ _ (nesting.end n m) k d less = absurd (omega arith)
 shown_at rules kept lists _ _ _ _ (nesting.bound n m i b order p ps is has inner rest) zero d less = record { binding = b; is = is; from = has.range }
 shown_at rules kept lists _ _ _ _ (nesting.bound n m i b order p ps is has inner rest) (suc k) d less =
     shown_at rules kept lists n m order ps rest k d (omega arith)
 
-shown_counted : (rules : List ResolvedKind) (kept : Kept) (lists : Listing) (n : ℕ) (m : FoundMatch) (order : List ℕ) (ps : List PlaceholderMatch)
+shown_counted : (rules : List ResolvedRule) (kept : Kept) (lists : Listing) (n : ℕ) (m : FoundMatch) (order : List ℕ) (ps : List PlaceholderMatch)
     → ShowBindings rules kept lists n m order ps → length ps ≡ length order
 shown_counted rules kept lists _ _ _ _ (nesting.end n m) = refl
 shown_counted rules kept lists _ _ _ _ (nesting.bound n m i b order p ps is has inner rest) =
@@ -175,7 +174,7 @@ apart_in_order w m is_match i j p q one other less =
     pairs_at (ShareNoByte (trees w) m.node.tree) m.bindings i j one.binding other.binding is_match.apart less
     one.is other.is (span_of p) (span_of q) one.from.is other.from.is
 
-apart_shown : (rules : List ResolvedKind) (kept : Kept) (lists : Listing) (n : ℕ) (m : FoundMatch) (order : List ℕ) (ps : List PlaceholderMatch)
+apart_shown : (rules : List ResolvedRule) (kept : Kept) (lists : Listing) (n : ℕ) (m : FoundMatch) (order : List ℕ) (ps : List PlaceholderMatch)
     → IsMatch (trees kept.workspace) m → AreByStart kept.workspace m order → ShowBindings rules kept lists n m order ps → AllPairs (λ p q. AreDisjoint (span_of p) (span_of q)) ps
 apart_shown rules kept lists n m order ps is_match by_start shown p q d less within =
     let count = shown_counted rules kept lists n m order ps shown in
@@ -191,7 +190,7 @@ apart_shown rules kept lists n m order ps is_match by_start shown p q d less wit
 
 -- ** One match.
 
-shown_once : (rules : List ResolvedKind) (kept : Kept) (lists : Listing) (n : ℕ) (v : Match) → All (IsOfRule rules) kept.matches → IsKept kept
+shown_once : (rules : List ResolvedRule) (kept : Kept) (lists : Listing) (n : ℕ) (v : Match) → All (IsOfRule rules) kept.matches → IsKept kept
     → Shows rules kept lists n v → BindsOnce rules v
 shown_once rules kept lists _ _ of_rules known (nesting.at n m order v is parts by_start bindings) =
     let of = all_at (IsOfRule rules) kept.matches n m of_rules is in
@@ -210,32 +209,32 @@ shown_once rules kept lists _ _ of_rules known (nesting.at n m order v is parts 
 
 -- ** The lists of an answer.
 
-abbrev IsOne : List ResolvedKind → Kept → Listing → Match → Type 0
+abbrev IsOne : List ResolvedRule → Kept → Listing → Match → Type 0
 IsOne rules kept lists v = (n : ℕ) × Shows rules kept lists n v
 
-show_all : (rules : List ResolvedKind) (kept : Kept) (lists : Listing) (ns : List ℕ) (vs : List Match) → Show rules kept lists ns vs → All (IsOne rules kept lists) vs
+show_all : (rules : List ResolvedRule) (kept : Kept) (lists : Listing) (ns : List ℕ) (vs : List Match) → Show rules kept lists ns vs → All (IsOne rules kept lists) vs
 show_all rules kept lists _ _ nesting.none = All-nil (IsOne rules kept lists)
 show_all rules kept lists _ _ (nesting.next n ns v vs first rest) =
     All-cons (IsOne rules kept lists) v vs (n, first) (show_all rules kept lists ns vs rest)
 
 -- kept ones that are listed somewhere
-abbrev IsShown : List ResolvedKind → Kept → Listing → List Match → Type 0
+abbrev IsShown : List ResolvedRule → Kept → Listing → List Match → Type 0
 IsShown rules kept lists vs = (ns : List ℕ) × Show rules kept lists ns vs
 
-inner_all : (rules : List ResolvedKind) (kept : Kept) (lists : Listing) (n : ℕ) (m : FoundMatch) (order : List ℕ) (ps : List PlaceholderMatch)
+inner_all : (rules : List ResolvedRule) (kept : Kept) (lists : Listing) (n : ℕ) (m : FoundMatch) (order : List ℕ) (ps : List PlaceholderMatch)
     → ShowBindings rules kept lists n m order ps → All (λ p. IsShown rules kept lists (inner_of p)) ps
 inner_all rules kept lists _ _ _ _ (nesting.end n m) = All-nil (λ p. IsShown rules kept lists (inner_of p))
 inner_all rules kept lists _ _ _ _ (nesting.bound n m i b order p ps is has inner rest) =
     All-cons (λ p. IsShown rules kept lists (inner_of p)) p ps (listed lists (Some (record { place = n; binding = i })), inner)
     (inner_all rules kept lists n m order ps rest)
 
-inner_shown : (rules : List ResolvedKind) (kept : Kept) (lists : Listing) (n : ℕ) (v : Match) (p : PlaceholderMatch) → Shows rules kept lists n v
+inner_shown : (rules : List ResolvedRule) (kept : Kept) (lists : Listing) (n : ℕ) (v : Match) (p : PlaceholderMatch) → Shows rules kept lists n v
     → Contains (placeholders_of v) p → IsShown rules kept lists (inner_of p)
 inner_shown rules kept lists _ _ p (nesting.at n m order v is parts by_start bindings) at =
     All-contains (λ p. IsShown rules kept lists (inner_of p)) (placeholders_of v) p
     (inner_all rules kept lists n m order (placeholders_of v) bindings) at
 
-list_shown : (rules : List ResolvedKind) (kept : Kept) (lists : Listing) (ns : List ℕ) (answer vs : List Match) → Show rules kept lists ns answer
+list_shown : (rules : List ResolvedRule) (kept : Kept) (lists : Listing) (ns : List ℕ) (answer vs : List Match) → Show rules kept lists ns answer
     → IsListIn answer vs → IsShown rules kept lists vs
 list_shown rules kept lists ns answer _ show bound.own = (ns, show)
 list_shown rules kept lists ns answer _ show (bound.inner vs v p is at held) =
@@ -243,7 +242,7 @@ list_shown rules kept lists ns answer _ show (bound.inner vs v p is at held) =
     let one = All-contains (IsOne rules kept lists) vs v (show_all rules kept lists list.0 vs list.1) at in
     inner_shown rules kept lists one.0 v p one.1 held
 
-pub answer_once : (rules : List ResolvedKind) (kept : Kept) (lists : Listing) (ns : List ℕ) (answer : List Match) → All (IsOfRule rules) kept.matches → IsKept kept
+pub answer_once : (rules : List ResolvedRule) (kept : Kept) (lists : Listing) (ns : List ℕ) (answer : List Match) → All (IsOfRule rules) kept.matches → IsKept kept
     → Show rules kept lists ns answer → BindOnce rules answer
 answer_once rules kept lists ns answer of_rules known show vs is =
     let list = list_shown rules kept lists ns answer vs show is in

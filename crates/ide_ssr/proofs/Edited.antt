@@ -3,7 +3,7 @@ use Rattle.std.proofs.Common.{◌≡◌, List, Result, Ok, Err, ap, subst}
 use Rattle.std.specs.BTreeMap.{BTreeMap}
 use Rattle.ssr_base_trees.specs.declared.ids.FileId.{FileId}
 use Rattle.ssr_base_trees.specs.Changes.{Change}
-use Rattle.ide_ssr_resolving.specs.Resolved.{ResolvedKind}
+use Rattle.ide_ssr_resolved_rule.specs.Resolved.{ResolvedRule}
 use Rattle.ide_ssr_nesting.specs.Holding.{Kept}
 use Rattle.ide_ssr_nesting.specs.Lists.{Listing}
 use Rattle.ide_ssr_rewriting.specs.declared.editing.EditError.{EditError}
@@ -20,10 +20,10 @@ told finder kept lists (Err (errors.Clash earlier later)) have outcome answers =
 told finder kept lists (Err errors.Memory) have outcome answers = have
 told finder kept lists (Err errors.NoTemplate) have outcome answers = absurd answers.2
 
-pub edits_told : (finder : Finder) (kept : Kept) (lists : Listing) (rules : List ResolvedKind) (result : Result (BTreeMap FileId (List Change)) EditError)
+pub edits_told : (finder : Finder) (kept : Kept) (lists : Listing) (rules : List ResolvedRule) (result : Result (BTreeMap FileId (List Change)) EditError)
     → rules ≡ finder.rules → HaveTemplates rules → IsOutcome finder kept lists → Answers kept lists rules result → Edits finder result
 edits_told finder kept lists rules result same have outcome answers =
-    told finder kept lists result (subst HaveTemplates same have) outcome (subst (λ (rules : List ResolvedKind). Answers kept lists rules result) same answers)
+    told finder kept lists result (subst HaveTemplates same have) outcome (subst (λ (rules : List ResolvedRule). Answers kept lists rules result) same answers)
 
 -- equal finders have the same rules
 pub rules_are : {S : Type 0} (one other : FinderWith S) → one ≡ other → one.rules ≡ other.rules

@@ -6,8 +6,8 @@ use Rattle.ssr_syntax_tree.specs.Places.{node_of, root_of}
 use Rattle.ssr_syntax_tree.proofs.Lists.{all_at}
 use Rattle.ssr_base_trees.specs.Meanings.{Meanings}
 use Rattle.ssr_base_trees.specs.Workspace.{Workspace, PlacedTree, with_number, trees}
-use Rattle.ide_ssr_resolving.specs.Patterns.{HasEachOnce, AreInArguments, placeholders_of}
-use Rattle.ide_ssr_resolving.specs.Resolved.{ResolvedKind}
+use Rattle.ide_ssr_resolved_rule.specs.Patterns.{HasEachOnce, AreInArguments, placeholders_of}
+use Rattle.ide_ssr_resolved_rule.specs.Resolved.{ResolvedRule}
 use Rattle.ide_ssr_bindings.specs.declared.bindings.Binding.{Binding}
 use Rattle.ide_ssr_bindings.specs.Found.{FoundMatch}
 use Rattle.ide_ssr_matching.specs.Matching.{Matches}
@@ -21,12 +21,12 @@ use Rattle.ide_ssr.specs.Searching.{IsOutcome}
 use Rattle.ide_ssr.proofs.BindsOnce.{IsOfRule}
 
 -- a match at a node binds the placeholders of the pattern
-bound_at : (m : Meanings) (tree : ℕ) (rule : ResolvedKind) → AreInArguments rule.names rule.pattern rule.pattern_paths → (o : Option PlacedTree) (n : ℕ) (bs : List Binding)
+bound_at : (m : Meanings) (tree : ℕ) (rule : ResolvedRule) → AreInArguments rule.names rule.pattern rule.pattern_paths → (o : Option PlacedTree) (n : ℕ) (bs : List Binding)
     → IsSomeAnd o (λ p. Matches m tree rule (root_of rule.pattern) (node_of p.syntax n) bs) → placeholders_bound bs ≡ placeholders_of rule.names rule.pattern
 bound_at m tree rule in_arguments None n bs matches = absurd matches
 bound_at m tree rule in_arguments (Some p) n bs matches = placeholders_are m tree rule in_arguments (node_of p.syntax n) bs matches
 
-found_of_rule : (w : Workspace) (meanings : Meanings) (context : Context) (rules : List ResolvedKind) (m : FoundMatch) → All (λ rule. HasEachOnce rule.names rule.pattern) rules
+found_of_rule : (w : Workspace) (meanings : Meanings) (context : Context) (rules : List ResolvedRule) (m : FoundMatch) → All (λ rule. HasEachOnce rule.names rule.pattern) rules
     → All (λ rule. AreInArguments rule.names rule.pattern rule.pattern_paths) rules → IsFound w meanings context rules m → IsOfRule rules m
 found_of_rule w meanings context rules m each in_arguments found =
     let rule = found.rule in

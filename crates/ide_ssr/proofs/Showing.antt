@@ -11,7 +11,7 @@ use Rattle.ssr_syntax_tree.proofs.Lists.{all_at}
 use Rattle.ssr_base_trees.specs.declared.ids.NodeId.{NodeId}
 use Rattle.ssr_base_trees.specs.Laws.{LiesIn}
 use Rattle.ssr_base_trees.specs.Workspace.{Workspace, PlacedTree, FileSpan, trees, original_range}
-use Rattle.ide_ssr_resolving.specs.Resolved.{ResolvedKind}
+use Rattle.ide_ssr_resolved_rule.specs.Resolved.{ResolvedRule}
 use Rattle.ide_ssr_bindings.specs.declared.bindings.Binding.{Binding}
 use Rattle.ide_ssr_bindings.specs.Found.{FoundMatch, IsInRange, IsMatch, held_range, node_binding}
 use Rattle.ide_ssr_nesting.specs.declared.holders.Holder.{Holder}
@@ -33,7 +33,7 @@ under n i = Some (record { place = n; binding = i })
 
 -- ** What is taken.
 
-pub show_taken : (rules : List ResolvedKind) (kept : Kept) (lists : Listing) (made : List (Option Match)) (places : List ℕ) (vs : List Match)
+pub show_taken : (rules : List ResolvedRule) (kept : Kept) (lists : Listing) (made : List (Option Match)) (places : List ℕ) (vs : List Match)
     → All (IsMade rules kept lists made) places → map Some vs ≡ map (λ n. get_or made n None) places → Show rules kept lists places vs
 show_taken rules kept lists made [] [] all taken = nesting.none
 show_taken rules kept lists made [] (v ∷ vs) all taken = absurd (let e : Some v ∷ map Some vs ≡ [] = taken in cc)
@@ -46,7 +46,7 @@ show_taken rules kept lists made (n ∷ ns) (v ∷ vs) all taken =
     nesting.next n ns v vs (subst (Shows rules kept lists n) (sym (same_Some v one.0 (first ∙ one.1))) one.2)
     (show_taken rules kept lists made ns vs (All-tail (IsMade rules kept lists made) n ns all) rest)
 
-pub bindings_push : (rules : List ResolvedKind) (kept : Kept) (lists : Listing) (n : ℕ) (m : FoundMatch) (order : List ℕ) (ps : List PlaceholderMatch)
+pub bindings_push : (rules : List ResolvedRule) (kept : Kept) (lists : Listing) (n : ℕ) (m : FoundMatch) (order : List ℕ) (ps : List PlaceholderMatch)
     (i : ℕ) (b : Binding) (p : PlaceholderMatch) → ShowBindings rules kept lists n m order ps → slice_get m.bindings i ≡ Some b
     → HasBinding kept.workspace (slice_get rules m.rule) m.node.tree b p → Show rules kept lists (listed lists (under n i)) (inner_of p)
     → ShowBindings rules kept lists n m (order ++ i ∷ []) (ps ++ p ∷ [])
@@ -56,18 +56,18 @@ bindings_push rules kept lists _ _ _ _ i b p (nesting.bound n m j c order q ps a
 
 -- ** Which are made.
 
-there : (rules : List ResolvedKind) (kept : Kept) (lists : Listing) (made : List (Option Match)) (n : ℕ) → IsMade rules kept lists made n → IsSome (get_or made n None)
+there : (rules : List ResolvedRule) (kept : Kept) (lists : Listing) (made : List (Option Match)) (n : ℕ) → IsMade rules kept lists made n → IsSome (get_or made n None)
 there rules kept lists made n one = ap is_some one.1
 
-pub all_there : (rules : List ResolvedKind) (kept : Kept) (lists : Listing) (made : List (Option Match)) (places : List ℕ)
+pub all_there : (rules : List ResolvedRule) (kept : Kept) (lists : Listing) (made : List (Option Match)) (places : List ℕ)
     → All (IsMade rules kept lists made) places → All (λ n. IsSome (get_or made n None)) places
 all_there rules kept lists made places all = λ k d less. there rules kept lists made (get_or places k d) (all k d less)
 
-made_there : (rules : List ResolvedKind) (kept : Kept) (lists : Listing) (old new : List (Option Match)) (j : ℕ)
+made_there : (rules : List ResolvedRule) (kept : Kept) (lists : Listing) (old new : List (Option Match)) (j : ℕ)
     → IsMade rules kept lists old j → get_or new j None ≡ get_or old j None → IsMade rules kept lists new j
 made_there rules kept lists old new j one same = (one.0, same ∙ one.1, one.2)
 
-pub none_made : (rules : List ResolvedKind) (kept : Kept) (lists : Listing) (n : ℕ) (made : List (Option Match)) → IsKept kept → n ≡ length kept.matches
+pub none_made : (rules : List ResolvedRule) (kept : Kept) (lists : Listing) (n : ℕ) (made : List (Option Match)) → IsKept kept → n ≡ length kept.matches
     → length made ≡ n → AreMade rules kept lists n made
 none_made rules kept lists n made known all counted = record {
   counted = counted ∙ all;
@@ -88,7 +88,7 @@ other_holder n h (Some g) is waits same =
     omega arith
 
 -- one match more is made
-pub made_more : (rules : List ResolvedKind) (kept : Kept) (lists : Listing) (n : ℕ) → n < length kept.matches
+pub made_more : (rules : List ResolvedRule) (kept : Kept) (lists : Listing) (n : ℕ) → n < length kept.matches
     → (old made new : List (Option Match)) (v : Match) → AreMade rules kept lists (n + 1) old → Shows rules kept lists n v
     → ((j : ℕ) → IsNotHeldBy kept n j → get_or made j None ≡ get_or old j None) → length made ≡ length old → new ≡ set made n (Some v)
     → AreMade rules kept lists n new
@@ -110,7 +110,7 @@ made_more rules kept lists n less old made new v are shown left counted more = r
 }
 
 -- at the end all of a list are made
-pub outermost_made : (rules : List ResolvedKind) (kept : Kept) (lists : Listing) (n : ℕ) (made : List (Option Match)) → IsKept kept → AreLists kept lists → n ≡ 0
+pub outermost_made : (rules : List ResolvedRule) (kept : Kept) (lists : Listing) (n : ℕ) (made : List (Option Match)) → IsKept kept → AreLists kept lists → n ≡ 0
     → AreMade rules kept lists n made → All (IsMade rules kept lists made) (listed lists None)
 outermost_made rules kept lists n made known are_lists first are k d less =
     let j = get_or (listed lists None) k d in
@@ -119,7 +119,7 @@ outermost_made rules kept lists n made known are_lists first are k d less =
 -- ** The placeholders of a match.
 
 -- what the first p placeholders of a match in order hold is taken
-pub record IsHolding (rules : List ResolvedKind) (kept : Kept) (lists : Listing) (n : ℕ) (m : FoundMatch) (order : List ℕ) (p : ℕ) (old made : List (Option Match))
+pub record IsHolding (rules : List ResolvedRule) (kept : Kept) (lists : Listing) (n : ℕ) (m : FoundMatch) (order : List ℕ) (p : ℕ) (old made : List (Option Match))
     (placeholders : List PlaceholderMatch) : Type 0 where
   pub is_match : IsMatch (trees kept.workspace) m
   pub by_start : AreByStart kept.workspace m order
@@ -127,7 +127,7 @@ pub record IsHolding (rules : List ResolvedKind) (kept : Kept) (lists : Listing)
   pub others : (j : ℕ) → ((i : ℕ) → Contains (take p order) i → slice_get kept.holders j ≢ Some (under n i)) → get_or made j None ≡ get_or old j None
   pub counted : length made ≡ length old
 
-pub holding_none : (rules : List ResolvedKind) (kept : Kept) (lists : Listing) (n : ℕ) (m : FoundMatch) (order : List ℕ) (made : List (Option Match)) (placeholders : List PlaceholderMatch)
+pub holding_none : (rules : List ResolvedRule) (kept : Kept) (lists : Listing) (n : ℕ) (m : FoundMatch) (order : List ℕ) (made : List (Option Match)) (placeholders : List PlaceholderMatch)
     → IsMatch (trees kept.workspace) m → AreByStart kept.workspace m order → placeholders ≡ [] → IsHolding rules kept lists n m order 0 made made placeholders
 holding_none rules kept lists n m order made placeholders is_match by_start none =
     subst (IsHolding rules kept lists n m order 0 made made) (sym none)
@@ -172,7 +172,7 @@ order_differ kept m order is_match by_start p q d less within =
     (by_start.in_order p q d less within)
 
 -- what the next placeholder holds is made still
-pub held_made : (rules : List ResolvedKind) (kept : Kept) (lists : Listing) (n : ℕ) (m : FoundMatch) (order : List ℕ) (p : ℕ) (old made : List (Option Match))
+pub held_made : (rules : List ResolvedRule) (kept : Kept) (lists : Listing) (n : ℕ) (m : FoundMatch) (order : List ℕ) (p : ℕ) (old made : List (Option Match))
     (placeholders : List PlaceholderMatch) → IsKept kept → AreLists kept lists → AreMade rules kept lists (n + 1) old
     → IsHolding rules kept lists n m order p old made placeholders → p < length order
     → All (IsMade rules kept lists made) (listed lists (under n (get_or order p 0)))
@@ -189,7 +189,7 @@ held_made rules kept lists n m order p old made placeholders known are_lists are
     let same : i ≡ other = ap (λ (h : Holder). h.binding) (same_Some (record { place = n; binding = i }) (record { place = n; binding = other }) one) in
     not_before order p i less refl (order_differ kept m order so_far.is_match so_far.by_start) (subst (Contains (take p order)) (sym same) at)))
 
-pub holding_more : (rules : List ResolvedKind) (kept : Kept) (lists : Listing) (n : ℕ) (m : FoundMatch) (order : List ℕ) (p : ℕ) (old made new : List (Option Match))
+pub holding_more : (rules : List ResolvedRule) (kept : Kept) (lists : Listing) (n : ℕ) (m : FoundMatch) (order : List ℕ) (p : ℕ) (old made new : List (Option Match))
     (placeholders longer : List PlaceholderMatch) (b : Binding) (placeholder : PlaceholderMatch) → IsKept kept → AreLists kept lists
     → IsHolding rules kept lists n m order p old made placeholders → p < length order → slice_get m.bindings (get_or order p 0) ≡ Some b
     → HasBinding kept.workspace (slice_get rules m.rule) m.node.tree b placeholder → Show rules kept lists (listed lists (under n (get_or order p 0))) (inner_of placeholder)
@@ -214,7 +214,7 @@ holding_more rules kept lists n m order p old made new placeholders longer b pla
       counted = counted ∙ so_far.counted;
     }
 
-pub holding_all : (rules : List ResolvedKind) (kept : Kept) (lists : Listing) (n : ℕ) (m : FoundMatch) (order : List ℕ) (p : ℕ) (old made : List (Option Match))
+pub holding_all : (rules : List ResolvedRule) (kept : Kept) (lists : Listing) (n : ℕ) (m : FoundMatch) (order : List ℕ) (p : ℕ) (old made : List (Option Match))
     (placeholders : List PlaceholderMatch) → IsHolding rules kept lists n m order p old made placeholders → length order ≤ p
     → ShowPlaceholders rules kept lists n m placeholders
 holding_all rules kept lists n m order p old made placeholders so_far past = record {
@@ -223,7 +223,7 @@ holding_all rules kept lists n m order p old made placeholders so_far past = rec
   shown = subst (λ order. ShowBindings rules kept lists n m order placeholders) (take_all p order past) so_far.shown;
 }
 
-pub holding_others : (rules : List ResolvedKind) (kept : Kept) (lists : Listing) (n : ℕ) (m : FoundMatch) (order : List ℕ) (p : ℕ) (old made : List (Option Match))
+pub holding_others : (rules : List ResolvedRule) (kept : Kept) (lists : Listing) (n : ℕ) (m : FoundMatch) (order : List ℕ) (p : ℕ) (old made : List (Option Match))
     (placeholders : List PlaceholderMatch) → IsHolding rules kept lists n m order p old made placeholders
     → (j : ℕ) → IsNotHeldBy kept n j → get_or made j None ≡ get_or old j None
 holding_others rules kept lists n m order p old made placeholders so_far j out =
@@ -249,7 +249,7 @@ range_there kept w m node b i is_match same_w same_node is =
     subst (λ (w : Workspace). IsSome (held_range (trees w) node.tree b)) (sym same_w)
     (subst (λ (x : NodeId). IsSome (held_range (trees kept.workspace) x.tree b)) (sym same_node) ranged)
 
-pub binding_shown : (kept : Kept) (w : Workspace) (rules : List ResolvedKind) (m : FoundMatch) (node : NodeId) (rule : ℕ) (b : Binding) (p : PlaceholderMatch) (name : List ℕ)
+pub binding_shown : (kept : Kept) (w : Workspace) (rules : List ResolvedRule) (m : FoundMatch) (node : NodeId) (rule : ℕ) (b : Binding) (p : PlaceholderMatch) (name : List ℕ)
     → w ≡ kept.workspace → node ≡ m.node → rule ≡ m.rule → name_of p ≡ name → name ≡ placeholder_name (slice_get rules rule) b.placeholder
     → ComesFrom w (held_range (trees w) node.tree b) (span_of p) → deref_count_of p ≡ b.deref_count → self_kind_of p ≡ b.self_kind
     → HasBinding kept.workspace (slice_get rules m.rule) m.node.tree b p
@@ -262,7 +262,7 @@ binding_shown kept w rules m node rule b p name same_w same_node same_rule named
   self_kind = kind;
 }
 
-pub show_match : (rules : List ResolvedKind) (kept : Kept) (lists : Listing) (n : ℕ) (m : FoundMatch) (v : Match) (placeholders : List PlaceholderMatch)
+pub show_match : (rules : List ResolvedRule) (kept : Kept) (lists : Listing) (n : ℕ) (m : FoundMatch) (v : Match) (placeholders : List PlaceholderMatch)
     → slice_get kept.matches n ≡ Some m → HasParts kept.workspace m v → ShowPlaceholders rules kept lists n m placeholders → placeholders_of v ≡ placeholders
     → Shows rules kept lists n v
 show_match rules kept lists n m v placeholders is parts show same =

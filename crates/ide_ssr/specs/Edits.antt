@@ -3,7 +3,7 @@ use Rattle.std.specs.Prelude.{List, IsSome, All, Result, Ok, Err}
 use Rattle.std.specs.BTreeMap.{BTreeMap}
 use Rattle.ssr_base_trees.specs.declared.ids.FileId.{FileId}
 use Rattle.ssr_base_trees.specs.Changes.{Change}
-use Rattle.ide_ssr_resolving.specs.Resolved.{ResolvedKind}
+use Rattle.ide_ssr_resolved_rule.specs.Resolved.{ResolvedRule}
 use Rattle.ide_ssr_nesting.specs.Holding.{Kept}
 use Rattle.ide_ssr_nesting.specs.Lists.{Listing}
 use Rattle.ide_ssr_rewriting.specs.declared.editing.EditError.{EditError}
@@ -13,7 +13,7 @@ use Rattle.ide_ssr.specs.Finder.{Finder}
 use Rattle.ide_ssr.specs.Searching.{IsOutcome}
 
 -- each rule has a template
-abbrev pub HaveTemplates : List ResolvedKind → Type 0
+abbrev pub HaveTemplates : List ResolvedRule → Type 0
 HaveTemplates rules = All (λ rule. IsSome rule.template) rules
 
 -- the edits by which the kept matches are rewritten, or the first clash of them

@@ -5,8 +5,8 @@ use Rattle.ssr_base_trees.specs.declared.ids.NodeId.{NodeId}
 use Rattle.ssr_base_trees.specs.Origins.{Span}
 use Rattle.ssr_base_trees.specs.Workspace.{Workspace, FileSpan}
 use Rattle.ssr_base_trees.specs.WorkspaceCode.{span_code, id_code, workspace_code}
-use Rattle.ide_ssr_resolving.specs.Resolved.{ResolvedKind}
-use Rattle.ide_ssr_resolving.specs.ResolvedCode.{resolved_code}
+use Rattle.ide_ssr_resolved_rule.specs.Resolved.{ResolvedRule}
+use Rattle.ide_ssr_resolved_rule.specs.ResolvedCode.{resolved_code}
 use Rattle.ide_ssr_search.specs.Context.{Context}
 use Rattle.ide_ssr.specs.Finder.{FinderWith}
 
@@ -20,6 +20,6 @@ context_code =
 
 abbrev pub finder_code : {S : Type 0} → Coded S → Coded (FinderWith S)
 finder_code {S} semantics =
-    code_by (Workspace × (S × (Context × List ResolvedKind))) (coded× workspace_code (coded× semantics (coded× context_code (coded_list resolved_code))))
+    code_by (Workspace × (S × (Context × List ResolvedRule))) (coded× workspace_code (coded× semantics (coded× context_code (coded_list resolved_code))))
     (λ f. (f.workspace, (f.semantics, (f.context, f.rules))))
     (λ c. record { workspace = c.0; semantics = c.1.0; context = c.1.1.0; rules = c.1.1.1 }) (λ _. refl)

@@ -1,7 +1,7 @@
 -- How nested matches show the kept ones: the outermost ones in the order of their list, and under each placeholder those that
 -- it holds.
 use Rattle.std.specs.Prelude.{ℕ, ◌≡◌, List, [], ◌∷◌, Some, None, slice_get}
-use Rattle.ide_ssr_resolving.specs.Resolved.{ResolvedKind}
+use Rattle.ide_ssr_resolved_rule.specs.Resolved.{ResolvedRule}
 use Rattle.ide_ssr_bindings.specs.declared.bindings.Binding.{Binding}
 use Rattle.ide_ssr_bindings.specs.Found.{FoundMatch}
 use Rattle.ide_ssr_nesting.specs.Holding.{Kept}
@@ -16,18 +16,18 @@ use Rattle.ide_ssr.specs.Starts.{AreByStart}
 
 mutual
   -- nested matches show the kept ones of these places, one by one
-  pub data Show (rules : List ResolvedKind) (kept : Kept) (lists : Listing) : List ℕ → List Match → Type 0 where
+  pub data Show (rules : List ResolvedRule) (kept : Kept) (lists : Listing) : List ℕ → List Match → Type 0 where
     none : Show rules kept lists [] []
     next : (n : ℕ) (ns : List ℕ) (v : Match) (vs : List Match)
         → Shows rules kept lists n v → Show rules kept lists ns vs → Show rules kept lists (n ∷ ns) (v ∷ vs)
 
   -- a nested match shows the kept one of the place n, its placeholders by where they begin
-  pub data Shows (rules : List ResolvedKind) (kept : Kept) (lists : Listing) : ℕ → Match → Type 0 where
+  pub data Shows (rules : List ResolvedRule) (kept : Kept) (lists : Listing) : ℕ → Match → Type 0 where
     at : (n : ℕ) (m : FoundMatch) (order : List ℕ) (v : Match) → slice_get kept.matches n ≡ Some m → HasParts kept.workspace m v
         → AreByStart kept.workspace m order → ShowBindings rules kept lists n m order (placeholders_of v) → Shows rules kept lists n v
 
   -- placeholders of the match m, which has the place n, show its bindings of these places, and what they hold
-  pub data ShowBindings (rules : List ResolvedKind) (kept : Kept) (lists : Listing) : ℕ → FoundMatch → List ℕ → List PlaceholderMatch → Type 0 where
+  pub data ShowBindings (rules : List ResolvedRule) (kept : Kept) (lists : Listing) : ℕ → FoundMatch → List ℕ → List PlaceholderMatch → Type 0 where
     end : (n : ℕ) (m : FoundMatch) → ShowBindings rules kept lists n m [] []
     bound : (n : ℕ) (m : FoundMatch) (i : ℕ) (b : Binding) (order : List ℕ) (p : PlaceholderMatch) (ps : List PlaceholderMatch)
         → slice_get m.bindings i ≡ Some b → HasBinding kept.workspace (slice_get rules m.rule) m.node.tree b p

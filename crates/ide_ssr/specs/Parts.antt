@@ -4,7 +4,7 @@ use Rattle.std.specs.Option.{IsSomeAnd, option_map_or}
 use Rattle.ssr_syntax_tree.specs.Places.{node_of as code_node, text_of as node_text}
 use Rattle.ssr_base_trees.specs.Laws.{LiesInFile}
 use Rattle.ssr_base_trees.specs.Workspace.{Workspace, FileSpan, trees, tree_of, file_span_of, original_range}
-use Rattle.ide_ssr_resolving.specs.Resolved.{ResolvedKind}
+use Rattle.ide_ssr_resolved_rule.specs.Resolved.{ResolvedRule}
 use Rattle.ide_ssr_bindings.specs.declared.bindings.Binding.{Binding}
 use Rattle.ide_ssr_bindings.specs.Found.{FoundMatch, held_range}
 use Rattle.ide_ssr.specs.declared.matches.Match.{Match}
@@ -27,11 +27,11 @@ pub record HasParts (w : Workspace) (m : FoundMatch) (v : Match) : Type 0 where
   pub comments_in_file : All (λ range. LiesInFile w (file_span_of range)) (comments_of v)
 
 -- the name of a placeholder of a rule; the rule of a match is one of the finder's, and its placeholders have names
-abbrev pub placeholder_name : Option ResolvedKind → ℕ → List ℕ
+abbrev pub placeholder_name : Option ResolvedRule → ℕ → List ℕ
 placeholder_name rule i = option_map_or (λ rule. slice_index_or rule.names i []) rule []
 
 -- a placeholder has the name, comes from where what it holds does, and tells how a receiver is taken
-pub record HasBinding (w : Workspace) (rule : Option ResolvedKind) (tree : ℕ) (binding : Binding) (p : PlaceholderMatch) : Type 0 where
+pub record HasBinding (w : Workspace) (rule : Option ResolvedRule) (tree : ℕ) (binding : Binding) (p : PlaceholderMatch) : Type 0 where
   pub name : name_of p ≡ placeholder_name rule binding.placeholder
   pub range : ComesFrom w (held_range (trees w) tree binding) (span_of p)
   pub deref_count : deref_count_of p ≡ binding.deref_count

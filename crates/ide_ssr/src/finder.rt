@@ -1,8 +1,8 @@
 //! The finder: a workspace, rules, and what the search for them is made for.
 
 ghost use Rattle.std.specs.Prelude.{◌≡◌, ◌↔◌, ◌++◌, [], All, IfOk, IsTrue, OnErr};
-ghost use Rattle.ide_ssr_resolving.specs.Patterns.{HasEachOnce, AreInArguments};
-ghost use Rattle.ide_ssr_resolving.specs.Resolved.{resolved_kinds};
+ghost use Rattle.ide_ssr_resolved_rule.specs.Patterns.{HasEachOnce, AreInArguments};
+ghost use Rattle.ide_ssr_rules.specs.Resolved.{resolved_kinds};
 ghost use Rattle.ide_ssr_rewriting.specs.Edits.{EditsFit};
 ghost use Rattle.ide_ssr_search.specs.Making.{Makes, MakesFirst};
 ghost use Rattle.ide_ssr.specs.Adding.{Adds};
@@ -17,9 +17,9 @@ use crate::matches::SsrMatches;
 use crate::nesting::nested_matches;
 use ide_ssr_nesting::{KeptMatches, Lists, keep};
 use ide_ssr_refusals::SsrError;
-use ide_ssr_resolving::{ResolvedRule, resolve_pattern, resolve_rule};
+use ide_ssr_resolved_rule::ResolvedRule;
 use ide_ssr_rewriting::{EditError, edits};
-use ide_ssr_rules::{SsrPattern, SsrRule};
+use ide_ssr_rules::{SsrPattern, SsrRule, resolve_pattern, resolve_rule};
 use ide_ssr_search::{Context, ContextError, find_matches};
 use ssr_base::Workspace;
 use ssr_base_trees::{FileId, FilePosition, FileRange, Semantics, TextEdit, Trees};
@@ -40,7 +40,7 @@ pub struct MatchFinder<'a, S: Semantics> {
 
 impl<'a, S: Semantics> Model for MatchFinder<'a, S> {
     ghost use Rattle.std.specs.Prelude.{All};
-    ghost use Rattle.ide_ssr_resolving.specs.Patterns.{HasEachOnce, AreInArguments};
+    ghost use Rattle.ide_ssr_resolved_rule.specs.Patterns.{HasEachOnce, AreInArguments};
     ghost use Rattle.ide_ssr.specs.Finder.{FinderWith};
     ghost use Rattle.ide_ssr.specs.FinderCode.{finder_code};
 

@@ -14,7 +14,7 @@ use crate::parts::{nested_placeholder, placeholder_name, range_at, text_at};
 use crate::starts::by_start;
 use ide_ssr_bindings::{Binding, FoundMatch};
 use ide_ssr_nesting::{KeptMatches, Lists};
-use ide_ssr_resolving::ResolvedRule;
+use ide_ssr_resolved_rule::ResolvedRule;
 use std::alloc::{AllocError, Global};
 
 /// The binding of a match at a place, counted from 0.

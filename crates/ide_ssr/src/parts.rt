@@ -11,7 +11,7 @@ ghost use Rattle.ide_ssr.specs.Parts.{ComesFrom, placeholder_name};
 
 use crate::matches::{Match, PlaceholderMatch};
 use ide_ssr_bindings::Binding;
-use ide_ssr_resolving::ResolvedRule;
+use ide_ssr_resolved_rule::ResolvedRule;
 use ide_ssr_rules::Var;
 use ssr_base_trees::{FileId, FileRange, NodeId, Trees};
 use ssr_syntax_kinds::TextRange;

@@ -14,15 +14,15 @@ use Rattle.ssr_syntax_tree.specs.Syntax.{Token}
 use Rattle.ssr_syntax_tree.specs.Places.{Node, Part, token_part, node_part, parts_of, size_of}
 use Rattle.ssr_base_trees.specs.declared.semantics.Res.{Res}
 use Rattle.ssr_base_trees.specs.Meanings.{Meanings}
-use Rattle.ide_ssr_resolving.specs.declared.qualified_calls.QualifiedCall.{QualifiedCall}
-use Rattle.ide_ssr_resolving.specs.Placeholders.{placeholder_at}
-use Rattle.ide_ssr_resolving.specs.Resolved.{ResolvedKind, meets}
+use Rattle.ide_ssr_resolved_rule.specs.declared.qualified_calls.QualifiedCall.{QualifiedCall}
+use Rattle.ide_ssr_resolved_rule.specs.Placeholders.{placeholder_at}
+use Rattle.ide_ssr_resolved_rule.specs.Resolved.{ResolvedRule, meets}
 use Rattle.ide_ssr_bindings.specs.declared.bindings.Binding.{Binding}
 use Rattle.ide_ssr_bindings.specs.Found.{node_binding}
 use Rattle.ide_ssr_matching.specs.Children.{bare}
 use Rattle.ide_ssr_token_trees.specs.Bindings.{tree_bindings, joined}
 use Rattle.ide_ssr_token_trees.proofs.Shared.{tree_bindings-TreesMatch, TreesMatch-tree_bindings}
-use Rattle.ide_ssr_matching.specs.TokenTrees.{is_tree, token_placeholder, is_plain, is_by_parts}
+use Rattle.ide_ssr_matching.specs.TokenTrees.{is_token_tree, token_placeholder, is_plain, is_by_parts}
 use Rattle.ide_ssr_matching.specs.UsedPaths.{arguments_of, pattern_res, code_res}
 use Rattle.ide_ssr_matching.specs.Matching.{Matches, bound, token_trees, method, used, alike, Pairs, end, tokens, nodes, named}
 use Rattle.ide_ssr_matching.specs.Bindings.{pairs_by, placeholder_by, counted_sides, can_match, like_sides, sides_in, sides_of, sides_by, bindings_of, like_pairs}
@@ -33,7 +33,7 @@ use Rattle.ide_ssr_matching.proofs.Pairs.{bindings-placeholder, placeholder-met,
 use Rattle.ide_ssr_matching.proofs.Same.{stands_for-told, told-stands_for}
 use Rattle.ide_ssr_matching.proofs.Steps.{IsSmaller, sides_smaller}
 
-module _ (ms : Meanings) (tree : ℕ) (rule : ResolvedKind) where
+module _ (ms : Meanings) (tree : ℕ) (rule : ResolvedRule) where
   abbrev NodeAgrees : Node → Type 0
   NodeAgrees p = (c : Node) (bs : List Binding) → bindings_of ms tree rule p c ≡ Some bs → Matches ms tree rule p c bs
 
@@ -178,19 +178,19 @@ module _ (ms : Meanings) (tree : ℕ) (rule : ResolvedKind) where
           (pairs_by (bindings_of ms tree rule) sides.pattern sides.code) refl
           (sym (bindings-sides ms tree rule p c (Some sides) none is) ∙ h)
 
-      by_tree : (b : Bool) → is_tree c ≡ b → placeholder_at rule.names p ≡ None → is_tree p ≡ true
+      by_tree : (b : Bool) → is_token_tree c ≡ b → placeholder_at rule.names p ≡ None → is_token_tree p ≡ true
           → (if b then tree_bindings (token_placeholder rule) p c else None) ≡ Some bs → Matches ms tree rule p c bs
       by_tree true code_is none is binds = token_trees p c bs none is code_is (tree_bindings-TreesMatch (token_placeholder rule) p c bs binds)
       by_tree false code_is none is binds = absurd (none-some bs binds)
 
-      by_kind : (tree_node plain : Bool) → is_tree p ≡ tree_node → is_plain rule p ≡ plain → placeholder_at rule.names p ≡ None → Matches ms tree rule p c bs
-      by_kind true plain is plain_is none = by_tree (is_tree c) refl none is (sym (bindings-trees ms tree rule p c none is) ∙ h)
+      by_kind : (tree_node plain : Bool) → is_token_tree p ≡ tree_node → is_plain rule p ≡ plain → placeholder_at rule.names p ≡ None → Matches ms tree rule p c bs
+      by_kind true plain is plain_is none = by_tree (is_token_tree c) refl none is (sym (bindings-trees ms tree rule p c none is) ∙ h)
       by_kind false true is plain_is none = by_sides (sides_of ms tree rule p c) refl (by_parts rule p none is plain_is)
       by_kind false false is plain_is none = absurd (none-some bs (sym (bindings-spoiled ms tree rule p c none is plain_is) ∙ h))
 
       by_placeholder : (o : Option ℕ) → placeholder_at rule.names p ≡ o → Matches ms tree rule p c bs
       by_placeholder (Some i) is = placeholder_agrees p c i bs is (sym (bindings-placeholder ms tree rule p c i is) ∙ h)
-      by_placeholder None is = by_kind (is_tree p) (is_plain rule p) refl refl is
+      by_placeholder None is = by_kind (is_token_tree p) (is_plain rule p) refl refl is
 
   nodes_agree : (size : ℕ) (p : Node) → size_of p ≤ size → NodeAgrees p
   nodes_agree zero p within = absurd (omega arith)

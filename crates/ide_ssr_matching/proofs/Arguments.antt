@@ -12,11 +12,11 @@ use Rattle.ssr_syntax_tree.specs.Syntax.{Syntax}
 use Rattle.ssr_syntax_tree.specs.Places.{HasNode, HasElement, Part, IsAbove, elements_of, node_of, parts_of, part_of}
 use Rattle.ssr_syntax_tree.proofs.Shared.{IsChild, children_known, parts_of-elements_of, node_of-number, inside}
 use Rattle.ssr_base_trees.specs.declared.semantics.Res.{Res}
-use Rattle.ide_ssr_resolving.specs.Paths.{first_of_kind}
+use Rattle.ide_ssr_resolved_rule.specs.Paths.{first_of_kind}
 use Rattle.ide_ssr_matching.specs.Bindings.{counted}
 use Rattle.ide_ssr_matching.specs.Children.{bare}
 use Rattle.ide_ssr_matching.specs.UsedPaths.{holds_arguments, from_arguments, arguments_of}
-use Rattle.ide_ssr_matching.specs.Private.Children.{IsBelow, AreKept}
+use Rattle.ide_ssr_matching.specs.Private.Children.{IsElementBelow, AreKept}
 use Rattle.ide_ssr_matching.proofs.Bare.{elements_below, kept-rest, kept-then, tail_has}
 use Rattle.ide_ssr_matching.proofs.Counted.{first_has}
 
@@ -57,7 +57,7 @@ segment_arguments code n segment all left is has all_are left_are =
     ∙ ap (λ o. option_map_or (λ segment. from_arguments (parts_of segment)) o []) is
 
 -- what is below a segment is below its path
-pub below_path : (code : Syntax) (n s : ℕ) → HasNode code n → HasNode code s → IsAbove (node_of code n) s → (x : Element) → IsBelow code s x → IsBelow code n x
+pub below_path : (code : Syntax) (n s : ℕ) → HasNode code n → HasNode code s → IsAbove (node_of code n) s → (x : Element) → IsElementBelow code s x → IsElementBelow code n x
 below_path code n s has there above (element.Node m) below =
     let number_n = node_of-number code n has in
     let number_s = node_of-number code s there in
@@ -69,12 +69,12 @@ below_path code n s has there above (element.Token t) below = below
 
 pub segment_below : (code : Syntax) (n : ℕ) (segment : NodeNo) (all left : List Element) → HasNode code n
     → Some (node_of code segment.0) ≡ first_of_kind k.PATH_SEGMENT (parts_of (node_of code n)) → HasNode code segment.0
-    → all ≡ elements_of (node_of code segment.0) → AreKept all left → All (IsBelow code n) left
+    → all ≡ elements_of (node_of code segment.0) → AreKept all left → All (IsElementBelow code n) left
 segment_below code n segment all left has is there all_are kept =
     let child = first_has (IsChild code n) k.PATH_SEGMENT (parts_of (node_of code n)) (node_of code segment.0) (sym is) (children_known code n has) in
     let above : IsAbove (node_of code n) segment.0 = subst (IsAbove (node_of code n)) (node_of-number code segment.0 there) child.3 in
-    All-weaker (IsBelow code segment.0) (IsBelow code n) (below_path code n segment.0 has there above) left
-    (kept.below code segment.0 (subst (All (IsBelow code segment.0)) (sym all_are) (elements_below code segment.0 there)))
+    All-weaker (IsElementBelow code segment.0) (IsElementBelow code n) (below_path code n segment.0 has there above) left
+    (kept.below code segment.0 (subst (All (IsElementBelow code segment.0)) (sym all_are) (elements_below code segment.0 there)))
 
 -- ** What counts of a node.
 
@@ -86,8 +86,8 @@ pub counted_other : (code : Syntax) (n : ℕ) (o : Option Res) (xs : List Elemen
 counted_other code n o xs arguments has none are =
     ap (map (part_of code)) are ∙ parts_of-elements_of code n has ∙ ap (λ o. counted o arguments (parts_of (node_of code n))) (sym none)
 
-pub all_below : (code : Syntax) (n : ℕ) (xs : List Element) → HasNode code n → xs ≡ elements_of (node_of code n) → All (IsBelow code n) xs
-all_below code n xs has are = subst (All (IsBelow code n)) (sym are) (elements_below code n has)
+pub all_below : (code : Syntax) (n : ℕ) (xs : List Element) → HasNode code n → xs ≡ elements_of (node_of code n) → All (IsElementBelow code n) xs
+all_below code n xs has are = subst (All (IsElementBelow code n)) (sym are) (elements_below code n has)
 
 -- ** Whether there are any.
 

@@ -14,7 +14,7 @@ use Rattle.ssr_syntax_tree.proofs.Shared.{IsChild, children_known}
 use Rattle.ide_ssr_matching.specs.declared.children.Siblings.{Siblings}
 use Rattle.ide_ssr_token_trees.specs.Elements.{closes, closes_part, is_closing, is_trivia_part}
 use Rattle.ide_ssr_matching.specs.Children.{leaves_out, bare}
-use Rattle.ide_ssr_matching.specs.Private.Children.{has_kind, solid, siblings_left, IsBelow, AreKept}
+use Rattle.ide_ssr_matching.specs.Private.Children.{has_kind, solid, siblings_left, IsElementBelow, AreKept}
 
 -- what trivia are left out of
 passed : (b : Bool) (out : List Part) (xs : List Part) (part : Part) → b ≡ true → cond b out (part ∷ xs) ≡ out
@@ -153,7 +153,7 @@ kept-then xs ys zs a b = record {
 pub kept-rest : (x : Element) (xs : List Element) → AreKept (x ∷ xs) xs
 kept-rest x xs = record {
   has = λ code h. tail_has (HasElement code) x xs h;
-  below = λ code n h. tail_has (IsBelow code n) x xs h;
+  below = λ code n h. tail_has (IsElementBelow code n) x xs h;
   fewer = omega arith;
 }
 
@@ -161,7 +161,7 @@ kept-rest x xs = record {
 pub kept-front : (x : Element) (xs ys : List Element) → AreKept xs ys → AreKept (x ∷ xs) (x ∷ ys)
 kept-front x xs ys a = record {
   has = λ code h. front (HasElement code) (h 0 x (omega arith)) (a.has code (tail_has (HasElement code) x xs h));
-  below = λ code n h. front (IsBelow code n) (h 0 x (omega arith)) (a.below code n (tail_has (IsBelow code n) x xs h));
+  below = λ code n h. front (IsElementBelow code n) (h 0 x (omega arith)) (a.below code n (tail_has (IsElementBelow code n) x xs h));
   fewer = let p = a.fewer in omega arith;
 }
   where
@@ -243,25 +243,25 @@ passed-kept code before now came so_far is = subst (AreKept before) is so_far.ke
 
 -- ** The elements of a node's children are below it.
 
-element_below : (code : Syntax) (n : ℕ) (part : Part) → IsChild code n part → IsBelow code n (element_of part)
+element_below : (code : Syntax) (n : ℕ) (part : Part) → IsChild code n part → IsElementBelow code n (element_of part)
 element_below code n (token_part t token) child = child.0
 element_below code n (node_part node) child = (child.0, child.3)
 
-below_cons : (code : Syntax) (n : ℕ) (part : Part) (rest : List Part) → IsChild code n part → All (IsBelow code n) (map element_of rest)
-    → All (IsBelow code n) (element_of part ∷ map element_of rest)
+below_cons : (code : Syntax) (n : ℕ) (part : Part) (rest : List Part) → IsChild code n part → All (IsElementBelow code n) (map element_of rest)
+    → All (IsElementBelow code n) (element_of part ∷ map element_of rest)
 below_cons code n part rest child all zero d lt = element_below code n part child
 below_cons code n part rest child all (suc i) d lt = all i d (omega arith)
 
-below_map : (code : Syntax) (n : ℕ) (parts : List Part) → All (IsChild code n) parts → All (IsBelow code n) (map element_of parts)
+below_map : (code : Syntax) (n : ℕ) (parts : List Part) → All (IsChild code n) parts → All (IsElementBelow code n) (map element_of parts)
 below_map code n [] h = λ i d lt. absurd (omega arith)
 below_map code n (part ∷ rest) h = below_cons code n part rest (h 0 part (omega arith)) (below_map code n rest (λ i d lt. h (suc i) d (omega arith)))
 
-pub elements_below : (code : Syntax) (n : ℕ) → HasNode code n → All (IsBelow code n) (elements_of (node_of code n))
+pub elements_below : (code : Syntax) (n : ℕ) → HasNode code n → All (IsElementBelow code n) (elements_of (node_of code n))
 elements_below code n has = below_map code n (parts_of (node_of code n)) (children_known code n has)
 
-pub below-has : (code : Syntax) (n : ℕ) (x : Element) → IsBelow code n x → HasElement code x
+pub below-has : (code : Syntax) (n : ℕ) (x : Element) → IsElementBelow code n x → HasElement code x
 below-has code n (element.Node m) below = below.0
 below-has code n (element.Token t) below = below
 
-pub below_has : (code : Syntax) (n : ℕ) (xs : List Element) → All (IsBelow code n) xs → All (HasElement code) xs
-below_has code n xs h = All-weaker (IsBelow code n) (HasElement code) (below-has code n) xs h
+pub below_has : (code : Syntax) (n : ℕ) (xs : List Element) → All (IsElementBelow code n) xs → All (HasElement code) xs
+below_has code n xs h = All-weaker (IsElementBelow code n) (HasElement code) (below-has code n) xs h

@@ -17,21 +17,20 @@ use Rattle.ssr_syntax_tree.specs.Places.{Node, Part, token_part, node_part, node
 use Rattle.ssr_syntax_tree.proofs.Shared.{IsOf}
 use Rattle.ssr_base_trees.specs.declared.semantics.Res.{Res}
 use Rattle.ssr_base_trees.specs.Meanings.{Meanings}
-use Rattle.ide_ssr_resolving.specs.declared.used.UsedPath.{UsedPath}
-use Rattle.ide_ssr_resolving.specs.Paths.{below_first, first_of_kind, is_arguments, from_arguments as forest_arguments, path_arguments}
-use Rattle.ide_ssr_resolving.proofs.Shared.{tokens_of_node}
-use Rattle.ide_ssr_resolving.specs.Patterns.{or_below, placeholders_in, placeholders_mixed, placeholders_below, placeholders_of, HasThemInArguments, AreInArguments}
-use Rattle.ide_ssr_rules.specs.Patterns.{placeholders_among}
-use Rattle.ide_ssr_rules.specs.StandIns.{name_at}
-use Rattle.ide_ssr_resolving.specs.Placeholders.{only_token, placeholder_at}
-use Rattle.ide_ssr_resolving.specs.Resolved.{ResolvedKind}
-use Rattle.ide_ssr_resolving.specs.Used.{is_at, res_at}
+use Rattle.ide_ssr_resolved_rule.specs.declared.used_paths.UsedPath.{UsedPath}
+use Rattle.ide_ssr_resolved_rule.specs.Paths.{below_first, first_of_kind, is_arguments, from_arguments as forest_arguments, path_arguments}
+use Rattle.ide_ssr_resolved_rule.proofs.Shared.{tokens_of_node}
+use Rattle.ide_ssr_resolved_rule.specs.Patterns.{or_below, placeholders_in, placeholders_mixed, placeholders_below, placeholders_of, HasThemInArguments, AreInArguments, placeholders_among}
+use Rattle.ide_ssr_resolved_rule.specs.StandIns.{name_at}
+use Rattle.ide_ssr_resolved_rule.specs.Placeholders.{only_token, placeholder_at}
+use Rattle.ide_ssr_resolved_rule.specs.Resolved.{ResolvedRule}
+use Rattle.ide_ssr_resolved_rule.specs.UsedPaths.{is_at, res_at}
 use Rattle.ide_ssr_bindings.specs.declared.bindings.Binding.{Binding}
 use Rattle.ide_ssr_matching.specs.Children.{is_left_out, bare}
 use Rattle.ide_ssr_matching.specs.UsedPaths.{from_arguments, arguments_of, pattern_res}
 use Rattle.ide_ssr_token_trees.specs.Placeholders.{placeholders_from}
 use Rattle.ide_ssr_token_trees.proofs.Shared.{trees_bound}
-use Rattle.ide_ssr_matching.specs.TokenTrees.{is_tree, token_placeholder, has_token_placeholder, is_plain, is_by_parts}
+use Rattle.ide_ssr_matching.specs.TokenTrees.{is_token_tree, token_placeholder, has_token_placeholder, is_plain, is_by_parts}
 use Rattle.ide_ssr_matching.specs.Matching.{Matches, bound, token_trees, method, used, alike, Pairs, end, tokens, nodes, named}
 use Rattle.ide_ssr_matching.specs.Bindings.{counted}
 use Rattle.ide_ssr_bindings.specs.declared.receivers.Receiver.{Receiver}
@@ -157,7 +156,7 @@ no_name : (o : Option ℕ) (rest : List ℕ) → is_some o ≡ false → cons_op
 no_name None rest is = refl
 no_name (Some i) rest is = let e : true ≡ false = is in cc
 
-module _ (rule : ResolvedKind) where
+module _ (rule : ResolvedRule) where
   -- children of which no token is a placeholder
   among_mixed : (parent n t : ℕ) (forest : Forest) → has_token_placeholder rule (parts_in parent n t forest) ≡ false
       → placeholders_mixed rule.names forest ≡ among rule.names (parts_in parent n t forest)
@@ -171,7 +170,7 @@ module _ (rule : ResolvedKind) where
       (among_mixed parent (1 + n + node_count below) (t + token_count below) next none)
 
   -- below a node that is no token tree, and of which no token of its own is a placeholder
-  plain_below : (p : Node) → is_tree p ≡ false → is_plain rule p ≡ true → placeholders_in rule.names p.children ≡ placeholders_below rule.names p.kind p.children
+  plain_below : (p : Node) → is_token_tree p ≡ false → is_plain rule p ≡ true → placeholders_in rule.names p.children ≡ placeholders_below rule.names p.kind p.children
   plain_below p other plain =
       by (same_kind p.kind k.MACRO_RULES) plain
       ∙ ap (λ b. if b then placeholders_among rule.names (tokens_in p.children) else if same_kind p.kind k.MACRO_RULES then placeholders_mixed rule.names p.children else placeholders_in rule.names p.children) (sym other)
@@ -223,7 +222,7 @@ counted_of s o node is =
     (counted_all (IsPartOf s) o node children
     (λ segment found. each_child s segment (first_has (IsPartOf s) k.PATH_SEGMENT (parts_of node) segment found children)))
 
-module _ (m : Meanings) (tree : ℕ) (rule : ResolvedKind) (in_arguments : AreInArguments rule.names rule.pattern rule.pattern_paths) where
+module _ (m : Meanings) (tree : ℕ) (rule : ResolvedRule) (in_arguments : AreInArguments rule.names rule.pattern rule.pattern_paths) where
   used_in_arguments : (p : Node) (r : Res) → IsOf rule.pattern p → pattern_res rule p ≡ Some r → HasThemInArguments rule.names p.children
   used_in_arguments p r is res =
       let P = λ (path : UsedPath). HasThemInArguments rule.names (node_of rule.pattern path.node.0).children in

@@ -14,8 +14,8 @@ use Rattle.ssr_syntax_tree.proofs.Lists.{pairs_none, pairs_head, pairs_tail}
 use Rattle.ssr_syntax_tree.proofs.Shared.{IsOf}
 use Rattle.ssr_base_trees.specs.Meanings.{Meanings}
 use Rattle.ssr_base_trees.specs.Workspace.{run_of}
-use Rattle.ide_ssr_resolving.specs.declared.qualified_calls.QualifiedCall.{QualifiedCall}
-use Rattle.ide_ssr_resolving.specs.Resolved.{ResolvedKind}
+use Rattle.ide_ssr_resolved_rule.specs.declared.qualified_calls.QualifiedCall.{QualifiedCall}
+use Rattle.ide_ssr_resolved_rule.specs.Resolved.{ResolvedRule}
 use Rattle.ide_ssr_matching.specs.Sides.{Sides}
 use Rattle.ide_ssr_matching.specs.Calls.{nodes_among, child_nodes, first_node, Method, method_parts, method_sides}
 use Rattle.ide_ssr_matching.proofs.CallParts.{nodes_all, found_has, HasMethod, has_method, method_match}
@@ -177,7 +177,7 @@ module _ (code : Syntax) where
       (subst (λ arguments. NodesIn c (method.generics ++ method.receiver ∷ arguments)) (sym has.arguments)
       (subst (λ generics. NodesIn c (generics ++ method.receiver ∷ option_map_or child_nodes (first_node k.ARG_LIST behind) [])) (sym has.generics) ordered))
 
-  pub method_sides_are : (m : Meanings) (tree : ℕ) (rule : ResolvedKind) (call : QualifiedCall) (p c : Node) (sides : Sides) → IsOf code c
+  pub method_sides_are : (m : Meanings) (tree : ℕ) (rule : ResolvedRule) (call : QualifiedCall) (p c : Node) (sides : Sides) → IsOf code c
       → method_sides m tree rule call p c ≡ Some sides → AreOf code c sides.code
   method_sides_are m tree rule call p c sides is found =
       let it = method_match m tree rule call p c sides found in

@@ -9,9 +9,9 @@ use Rattle.ssr_syntax_kinds.specs.declared.kinds.SyntaxKind.TheVariants as k
 use Rattle.ssr_syntax_kinds.specs.Kinds.{same_kind}
 use Rattle.ssr_syntax_tree.specs.Places.{Node, Part, token_part, node_part, parts_of}
 use Rattle.ssr_base_trees.specs.Meanings.{Meanings}
-use Rattle.ide_ssr_resolving.specs.declared.qualified_calls.QualifiedCall.{QualifiedCall}
-use Rattle.ide_ssr_resolving.specs.Paths.{first_of_kind}
-use Rattle.ide_ssr_resolving.specs.Resolved.{ResolvedKind}
+use Rattle.ide_ssr_resolved_rule.specs.declared.qualified_calls.QualifiedCall.{QualifiedCall}
+use Rattle.ide_ssr_resolved_rule.specs.Paths.{first_of_kind}
+use Rattle.ide_ssr_resolved_rule.specs.Resolved.{ResolvedRule}
 use Rattle.ide_ssr_bindings.specs.declared.receivers.Receiver.{Receiver}
 use Rattle.ide_ssr_matching.specs.Children.{bare}
 use Rattle.ide_ssr_matching.specs.UsedPaths.{arguments_of, pattern_res}
@@ -113,7 +113,7 @@ module _ (p : Node) (call : PathCall) where
 
 -- ** A qualified call against a method call.
 
-pub record IsMethodMatch (m : Meanings) (tree : ℕ) (rule : ResolvedKind) (call : QualifiedCall) (p c : Node) (sides : Sides) : Type 0 where
+pub record IsMethodMatch (m : Meanings) (tree : ℕ) (rule : ResolvedRule) (call : QualifiedCall) (p c : Node) (sides : Sides) : Type 0 where
   pub called_nodes : PathCall
   pub is_called : IsCalled p called_nodes
   pub method : Method
@@ -122,7 +122,7 @@ pub record IsMethodMatch (m : Meanings) (tree : ℕ) (rule : ResolvedKind) (call
   pub is_received : receiver_with m tree (pattern_res rule called_nodes.path) call.qualifier_type c.number method.receiver.number ≡ Some receiver
   pub same : method_pairs called_nodes method receiver ≡ sides
 
-module _ (m : Meanings) (tree : ℕ) (rule : ResolvedKind) (call : QualifiedCall) (p c : Node) (sides : Sides) where
+module _ (m : Meanings) (tree : ℕ) (rule : ResolvedRule) (call : QualifiedCall) (p c : Node) (sides : Sides) where
   with_receiver : (called_nodes : PathCall) → IsCalled p called_nodes → (method : Method) → method_call c ≡ Some method → (o : Option Receiver)
       → receiver_with m tree (pattern_res rule called_nodes.path) call.qualifier_type c.number method.receiver.number ≡ o
       → option_and_then (alike_pairs called_nodes method) o ≡ Some sides → IsMethodMatch m tree rule call p c sides
@@ -187,7 +187,7 @@ has_method c method is = by (child_nodes c) refl is
         }
 
 -- a callee that stands for something is a used path
-pub callee_used : (m : Meanings) (tree : ℕ) (rule : ResolvedKind) (call : QualifiedCall) (p c : Node) (sides : Sides)
+pub callee_used : (m : Meanings) (tree : ℕ) (rule : ResolvedRule) (call : QualifiedCall) (p c : Node) (sides : Sides)
     → (is : IsMethodMatch m tree rule call p c sides) → pattern_res rule is.called_nodes.path ≡ None → ⊥
 callee_used m tree rule call p c sides is none =
     none-some is.receiver

@@ -9,9 +9,9 @@ use Rattle.ssr_base_trees.specs.declared.ids.TypeId.{TypeId}
 use Rattle.ssr_base_trees.specs.declared.semantics.Res.{Res}
 use Rattle.ssr_base_trees.specs.Meanings.{Meanings}
 use Rattle.ssr_base_trees.specs.Workspace.{node_id}
-use Rattle.ide_ssr_resolving.specs.declared.qualified_calls.QualifiedCall.{QualifiedCall}
-use Rattle.ide_ssr_resolving.specs.Resolved.{ResolvedKind}
-use Rattle.ide_ssr_resolving.specs.Used.{res_at}
+use Rattle.ide_ssr_resolved_rule.specs.declared.qualified_calls.QualifiedCall.{QualifiedCall}
+use Rattle.ide_ssr_resolved_rule.specs.Resolved.{ResolvedRule}
+use Rattle.ide_ssr_resolved_rule.specs.UsedPaths.{res_at}
 use Rattle.ide_ssr_bindings.specs.declared.receivers.Receiver.{Receiver}
 use Rattle.ide_ssr_matching.specs.declared.calls.CalledNodes.{CalledNodes}
 use Rattle.ide_ssr_matching.specs.declared.calls.MethodNodes.{MethodNodes}
@@ -52,7 +52,7 @@ none_told ms number code m o call o_is none =
 
 -- ** A qualified call against a method call.
 
-module _ (ms : Meanings) (number : ℕ) (rule : ResolvedKind) (pattern code : Syntax) (call : QualifiedCall) (n m : ℕ) where
+module _ (ms : Meanings) (number : ℕ) (rule : ResolvedRule) (pattern code : Syntax) (call : QualifiedCall) (n m : ℕ) where
   abbrev sides : Option Sides
   sides = method_sides ms number rule call (node_of pattern n) (node_of code m)
 

@@ -8,19 +8,19 @@ use Rattle.ssr_syntax_tree.specs.Syntax.{Syntax}
 use Rattle.ssr_syntax_tree.specs.Places.{HasNode, part_of, node_of}
 use Rattle.ide_ssr_matching.specs.Calls.{nodes_among}
 use Rattle.ide_ssr_matching.specs.Private.ChildNodes.{numbers_among, nodes_at, IsNodeBelow}
-use Rattle.ide_ssr_matching.specs.Private.Children.{IsBelow}
+use Rattle.ide_ssr_matching.specs.Private.Children.{IsElementBelow}
 
 pub among_at : (tree : Syntax) (children : List Element) → nodes_at tree (numbers_among children) ≡ nodes_among (map (part_of tree) children)
 among_at tree [] = refl
 among_at tree (element.Node node ∷ rest) = ap (λ nodes. node_of tree node.0 ∷ nodes) (among_at tree rest)
 among_at tree (element.Token token ∷ rest) = among_at tree rest
 
-pub among_below : (tree : Syntax) (n : ℕ) (children : List Element) → All (IsBelow tree n) children → All (IsNodeBelow tree n) (numbers_among children)
+pub among_below : (tree : Syntax) (n : ℕ) (children : List Element) → All (IsElementBelow tree n) children → All (IsNodeBelow tree n) (numbers_among children)
 among_below tree n [] all = All-nil (IsNodeBelow tree n)
 among_below tree n (element.Node node ∷ rest) all =
-    All-cons (IsNodeBelow tree n) node (numbers_among rest) (All-head (IsBelow tree n) (element.Node node) rest all)
-    (among_below tree n rest (All-tail (IsBelow tree n) (element.Node node) rest all))
-among_below tree n (element.Token token ∷ rest) all = among_below tree n rest (All-tail (IsBelow tree n) (element.Token token) rest all)
+    All-cons (IsNodeBelow tree n) node (numbers_among rest) (All-head (IsElementBelow tree n) (element.Node node) rest all)
+    (among_below tree n rest (All-tail (IsElementBelow tree n) (element.Node node) rest all))
+among_below tree n (element.Token token ∷ rest) all = among_below tree n rest (All-tail (IsElementBelow tree n) (element.Token token) rest all)
 
 -- what stands below a node is there
 pub nodes_had : (tree : Syntax) (n : ℕ) (nodes : List NodeNo) → All (IsNodeBelow tree n) nodes → All (λ node. HasNode tree node.0) nodes

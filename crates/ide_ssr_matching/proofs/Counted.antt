@@ -9,7 +9,7 @@ use Rattle.ssr_syntax_kinds.specs.declared.kinds.SyntaxKind.TheVariants as k
 use Rattle.ssr_syntax_kinds.specs.Kinds.{same_kind}
 use Rattle.ssr_syntax_tree.specs.Places.{Node, Part, token_part, node_part, parts_of}
 use Rattle.ssr_base_trees.specs.declared.semantics.Res.{Res}
-use Rattle.ide_ssr_resolving.specs.Paths.{first_of_kind}
+use Rattle.ide_ssr_resolved_rule.specs.Paths.{first_of_kind}
 use Rattle.ide_ssr_matching.specs.Bindings.{counted}
 use Rattle.ide_ssr_matching.specs.Children.{leaves_out, bare}
 use Rattle.ide_ssr_matching.specs.UsedPaths.{holds_arguments, from_arguments, arguments_of}

@@ -13,7 +13,7 @@ use Rattle.ssr_base_trees.specs.Workspace.{run_of}
 use Rattle.ide_ssr_bindings.specs.declared.bindings.Binding.{Binding}
 use Rattle.ide_ssr_bindings.specs.Apart.{tokens_held, IsHeldIn, AreApart}
 use Rattle.ide_ssr_bindings.specs.Found.{node_binding}
-use Rattle.ide_ssr_resolving.specs.Resolved.{ResolvedKind}
+use Rattle.ide_ssr_resolved_rule.specs.Resolved.{ResolvedRule}
 use Rattle.ide_ssr_matching.specs.Children.{bare}
 use Rattle.ide_ssr_token_trees.specs.TokenTrees.{TreesMatch}
 use Rattle.ide_ssr_token_trees.proofs.Shared.{trees_held, trees_behind}
@@ -120,7 +120,7 @@ module _ (code : Syntax) where
     apart = received_apart r bs held.apart;
   }
 
-  module _ (m : Meanings) (tree : ℕ) (rule : ResolvedKind) where
+  module _ (m : Meanings) (tree : ℕ) (rule : ResolvedRule) where
     mutual
       matches_held : (p c : Node) (bs : List Binding) → Matches m tree rule p c bs → IsOf code c → AreHeld c bs
       matches_held _ _ _ (bound p c i at met) is = itself c i is

@@ -6,7 +6,7 @@ use Rattle.ssr_syntax_tree.specs.Places.{HasNode, HasToken, node_of, token_of}
 use Rattle.ssr_syntax_tree.specs.Syntax.{Token, Syntax, token_count, tokens_of}
 use Rattle.ide_ssr_matching.specs.Records.{solid_texts, texts_of}
 use Rattle.ide_ssr_matching.specs.Private.Records.{texts_between}
-use Rattle.ide_ssr_resolving.proofs.Shared.{tokens_left, tokens_of_node}
+use Rattle.ide_ssr_resolved_rule.proofs.Shared.{tokens_left, tokens_of_node}
 
 abbrev solid : List Token → List Token
 solid tokens = filter (λ token. not (is_trivia token.kind)) tokens

@@ -7,9 +7,9 @@ use Rattle.ssr_syntax_kinds.specs.declared.kinds.SyntaxKind.{SyntaxKind}
 use Rattle.ssr_syntax_kinds.specs.declared.kinds.SyntaxKind.TheVariants as k
 use Rattle.ssr_syntax_kinds.specs.Kinds.{is_trivia, is_ident}
 use Rattle.ssr_syntax_tree.specs.Syntax.{Token}
-use Rattle.ide_ssr_rules.proofs.Shared.{not_named}
-use Rattle.ide_ssr_rules.specs.Patterns.{placeholders_among}
-use Rattle.ide_ssr_rules.specs.StandIns.{name_at}
+use Rattle.ide_ssr_resolved_rule.proofs.Shared.{not_named}
+use Rattle.ide_ssr_resolved_rule.specs.Patterns.{placeholders_among}
+use Rattle.ide_ssr_resolved_rule.specs.StandIns.{name_at}
 use Rattle.ide_ssr_token_trees.specs.Bindings.{placeholder_in}
 use Rattle.ide_ssr_token_trees.specs.Placeholders.{placeholders_from}
 

@@ -6,11 +6,11 @@ use Rattle.ssr_syntax_tree.specs.Places.{Part, token_part, node_part, part_of, t
 use Rattle.ssr_syntax_tree.specs.declared.number.Element.{Element}
 use Rattle.ssr_syntax_tree.specs.declared.number.Element.TheVariants as element
 use Rattle.ssr_syntax_tree.specs.declared.number.TokenNo.{TokenNo}
-use Rattle.ide_ssr_rules.specs.StandIns.{name_at}
-use Rattle.ide_ssr_resolving.specs.Resolved.{ResolvedKind}
+use Rattle.ide_ssr_resolved_rule.specs.StandIns.{name_at}
+use Rattle.ide_ssr_resolved_rule.specs.Resolved.{ResolvedRule}
 use Rattle.ide_ssr_matching.specs.TokenTrees.{has_token_placeholder}
 
-module _ (rule : ResolvedKind) where
+module _ (rule : ResolvedRule) where
   pub token_here : (part : Part) (rest : List Part) → has_token_placeholder rule (part ∷ []) ≡ true → has_token_placeholder rule (part ∷ rest) ≡ true
   token_here (token_part t token) rest is = here (is_some (name_at rule.names token)) is
     where

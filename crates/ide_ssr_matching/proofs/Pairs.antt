@@ -17,15 +17,15 @@ use Rattle.ssr_syntax_tree.proofs.Shared.{node_of-number, smaller}
 use Rattle.ssr_base_trees.specs.declared.semantics.Res.{Res}
 use Rattle.ssr_base_trees.specs.Meanings.{Meanings}
 use Rattle.ssr_base_trees.specs.Workspace.{node_id}
-use Rattle.ide_ssr_resolving.specs.declared.qualified_calls.QualifiedCall.{QualifiedCall}
-use Rattle.ide_ssr_resolving.specs.Placeholders.{placeholder_at}
-use Rattle.ide_ssr_resolving.specs.QualifiedCalls.{call_at}
-use Rattle.ide_ssr_resolving.specs.Resolved.{ResolvedKind, meets}
-use Rattle.ide_ssr_resolving.specs.Used.{res_at}
+use Rattle.ide_ssr_resolved_rule.specs.declared.qualified_calls.QualifiedCall.{QualifiedCall}
+use Rattle.ide_ssr_resolved_rule.specs.Placeholders.{placeholder_at}
+use Rattle.ide_ssr_resolved_rule.specs.QualifiedCalls.{call_at}
+use Rattle.ide_ssr_resolved_rule.specs.Resolved.{ResolvedRule, meets}
+use Rattle.ide_ssr_resolved_rule.specs.UsedPaths.{res_at}
 use Rattle.ide_ssr_bindings.specs.declared.bindings.Binding.{Binding}
 use Rattle.ide_ssr_bindings.specs.Found.{node_binding}
 use Rattle.ide_ssr_matching.specs.Children.{bare}
-use Rattle.ide_ssr_matching.specs.TokenTrees.{is_tree, tree_by, is_plain, is_by_parts}
+use Rattle.ide_ssr_matching.specs.TokenTrees.{is_token_tree, tree_by, is_plain, is_by_parts}
 use Rattle.ide_ssr_matching.specs.UsedPaths.{arguments_of, pattern_res}
 use Rattle.ide_ssr_matching.specs.Sides.{Sides, kept}
 use Rattle.ide_ssr_matching.specs.Calls.{method_sides, can_be_call}
@@ -34,7 +34,7 @@ use Rattle.ide_ssr_matching.specs.Bindings.{Binder, pair_by, pairs_by, placehold
 use Rattle.ide_ssr_matching.specs.Private.Bindings.{counted_by}
 use Rattle.ide_ssr_matching.specs.Private.ChildNodes.{IsNodeBelow}
 use Rattle.ide_ssr_matching.specs.Records.{is_named, named_nodes, named_pairs}
-use Rattle.ide_ssr_matching.specs.Private.Children.{IsBelow, AreKept}
+use Rattle.ide_ssr_matching.specs.Private.Children.{IsElementBelow, AreKept}
 use Rattle.ide_ssr_matching.proofs.Bare.{below-has}
 use Rattle.ide_ssr_matching.proofs.Steps.{bindings_step}
 
@@ -107,32 +107,32 @@ abbrev pub element_size : Syntax → Element → ℕ
 element_size code (element.Node n) = 1 + node_size code n.0
 element_size code (element.Token t) = 0
 
-pub smaller_below : (code : Syntax) (n : ℕ) (p : Element) → HasNode code n → IsBelow code n p → element_size code p < children_size code n
+pub smaller_below : (code : Syntax) (n : ℕ) (p : Element) → HasNode code n → IsElementBelow code n p → element_size code p < children_size code n
 smaller_below code n (element.Node m) has b = let lt = smaller code n m.0 has b.1 in omega arith
 smaller_below code n (element.Token t) has b = omega arith
 
 pub node-smaller : (code : Syntax) (n : ℕ) (node : NodeNo) → HasNode code n → IsNodeBelow code n node → children_size code node.0 < lists_size code n
 node-smaller code n node has below = let lt = smaller code n node.0 has below.1 in omega arith
 
-pub element-smaller : (code : Syntax) (n : ℕ) (before ps : List Element) (p : Element) → HasNode code n → All (IsBelow code n) before → AreKept before (p ∷ ps)
+pub element-smaller : (code : Syntax) (n : ℕ) (before ps : List Element) (p : Element) → HasNode code n → All (IsElementBelow code n) before → AreKept before (p ∷ ps)
     → element_size code p < children_size code n
 element-smaller code n before ps p has below kept = smaller_below code n p has (kept.below code n below 0 p (omega arith))
 
-pub first-below : (code : Syntax) (n : ℕ) (before ps : List Element) (p : Element) → All (IsBelow code n) before → AreKept before (p ∷ ps) → HasElement code p
+pub first-below : (code : Syntax) (n : ℕ) (before ps : List Element) (p : Element) → All (IsElementBelow code n) before → AreKept before (p ∷ ps) → HasElement code p
 first-below code n before ps p below kept = below-has code n p (kept.below code n below 0 p (omega arith))
 
 tested_answer : (same : Bool) (old : List Binding) (b : Bool) → b ≡ same → Answers (cond same (Some []) None) old old b
 tested_answer true old b is = matched [] is refl (sym (append-nil old))
 tested_answer false old b is = other is refl
 
-pub placeholder-met : (rule : ResolvedKind) (i : ℕ) (c : Node) → meets rule i c.kind ≡ true
+pub placeholder-met : (rule : ResolvedRule) (i : ℕ) (c : Node) → meets rule i c.kind ≡ true
     → placeholder_by rule i c ≡ Some (node_binding i c.number ∷ [])
 placeholder-met rule i c is = rw is refl
 
-pub placeholder-unmet : (rule : ResolvedKind) (i : ℕ) (c : Node) → meets rule i c.kind ≡ false → placeholder_by rule i c ≡ None
+pub placeholder-unmet : (rule : ResolvedRule) (i : ℕ) (c : Node) → meets rule i c.kind ≡ false → placeholder_by rule i c ≡ None
 placeholder-unmet rule i c is = rw is refl
 
-pub placeholder-binds : (rule : ResolvedKind) (code : Syntax) (m : ℕ) (old new : List Binding) (i : ℕ) (ck : SyntaxKind) (b : Bool) → HasNode code m
+pub placeholder-binds : (rule : ResolvedRule) (code : Syntax) (m : ℕ) (old new : List Binding) (i : ℕ) (ck : SyntaxKind) (b : Bool) → HasNode code m
     → ck ≡ (node_of code m).kind → b ≡ meets rule i ck → b ≡ true → new ≡ old ++ node_binding i m ∷ []
     → Answers (placeholder_by rule i (node_of code m)) old new true
 placeholder-binds rule code m old new i ck b has ck_is b_is met new_is =
@@ -143,7 +143,7 @@ placeholder-binds rule code m old new i ck b has ck_is b_is met new_is =
     ∙ ap (λ m. Some (node_binding i m ∷ [])) (node_of-number code m has))
     new_is
 
-pub placeholder-lacks : (rule : ResolvedKind) (code : Syntax) (m : ℕ) (old : List Binding) (i : ℕ) (ck : SyntaxKind) (b : Bool)
+pub placeholder-lacks : (rule : ResolvedRule) (code : Syntax) (m : ℕ) (old : List Binding) (i : ℕ) (ck : SyntaxKind) (b : Bool)
     → ck ≡ (node_of code m).kind → b ≡ meets rule i ck → b ≡ false → Answers (placeholder_by rule i (node_of code m)) old old false
 placeholder-lacks rule code m old i ck b ck_is b_is unmet =
     other refl (placeholder-unmet rule i (node_of code m) (ap (meets rule i) (sym ck_is) ∙ sym b_is ∙ unmet))
@@ -257,36 +257,36 @@ unequal inner (p ∷ ps) (c ∷ cs) differ =
 -- ** Whether a node matches.
 
 -- what is known of a node that is matched by its parts
-pub record IsByParts (rule : ResolvedKind) (p : Node) : Type 0 where
+pub record IsByParts (rule : ResolvedRule) (p : Node) : Type 0 where
   pub none : placeholder_at rule.names p ≡ None
-  pub no_tree : is_tree p ≡ false
+  pub no_tree : is_token_tree p ≡ false
   pub plain : is_plain rule p ≡ true
 
 no_placeholder : (o : Option ℕ) → is_none o ≡ true → o ≡ None
 no_placeholder None is = refl
 no_placeholder (Some i) is = let e : false ≡ true = is in cc
 
-pub parts_of_it : (rule : ResolvedKind) (p : Node) → is_by_parts rule p ≡ true → IsByParts rule p
+pub parts_of_it : (rule : ResolvedRule) (p : Node) → is_by_parts rule p ≡ true → IsByParts rule p
 parts_of_it rule p is =
-    let first = and_parts (is_none (placeholder_at rule.names p)) (not (is_tree p) && is_plain rule p) is in
-    let rest = and_parts (not (is_tree p)) (is_plain rule p) first.1 in
-    record { none = no_placeholder (placeholder_at rule.names p) first.0; no_tree = not-true (is_tree p) rest.0; plain = rest.1 }
+    let first = and_parts (is_none (placeholder_at rule.names p)) (not (is_token_tree p) && is_plain rule p) is in
+    let rest = and_parts (not (is_token_tree p)) (is_plain rule p) first.1 in
+    record { none = no_placeholder (placeholder_at rule.names p) first.0; no_tree = not-true (is_token_tree p) rest.0; plain = rest.1 }
 
-pub by_parts : (rule : ResolvedKind) (p : Node) → placeholder_at rule.names p ≡ None → is_tree p ≡ false → is_plain rule p ≡ true → is_by_parts rule p ≡ true
+pub by_parts : (rule : ResolvedRule) (p : Node) → placeholder_at rule.names p ≡ None → is_token_tree p ≡ false → is_plain rule p ≡ true → is_by_parts rule p ≡ true
 by_parts rule p none no_tree plain =
-    and_from (is_none (placeholder_at rule.names p)) (not (is_tree p) && is_plain rule p) (ap is_none none)
-    (and_from (not (is_tree p)) (is_plain rule p) (ap not no_tree) plain)
+    and_from (is_none (placeholder_at rule.names p)) (not (is_token_tree p) && is_plain rule p) (ap is_none none)
+    (and_from (not (is_token_tree p)) (is_plain rule p) (ap not no_tree) plain)
 
-module _ (ms : Meanings) (tree : ℕ) (rule : ResolvedKind) where
+module _ (ms : Meanings) (tree : ℕ) (rule : ResolvedRule) where
   -- what is told of a node that is no placeholder
   abbrev rest_of : Node → Node → Option (List Binding)
-  rest_of p c = other_by ms tree rule (bindings_of ms tree rule) (is_tree p) (is_plain rule p) p c
+  rest_of p c = other_by ms tree rule (bindings_of ms tree rule) (is_token_tree p) (is_plain rule p) p c
 
   pub bindings-placeholder : (p c : Node) (i : ℕ) → placeholder_at rule.names p ≡ Some i
       → bindings_of ms tree rule p c ≡ placeholder_by rule i c
   bindings-placeholder p c i is = bindings_step ms tree rule p c ∙ ap (λ o. node_by rule o (rest_of p c) c) is
 
-  bindings-other : (p c : Node) (is_tree_node plain : Bool) → placeholder_at rule.names p ≡ None → is_tree p ≡ is_tree_node → is_plain rule p ≡ plain
+  bindings-other : (p c : Node) (is_tree_node plain : Bool) → placeholder_at rule.names p ≡ None → is_token_tree p ≡ is_tree_node → is_plain rule p ≡ plain
       → bindings_of ms tree rule p c ≡ other_by ms tree rule (bindings_of ms tree rule) is_tree_node plain p c
   bindings-other p c is_tree_node plain none tree_is plain_is =
       bindings_step ms tree rule p c
@@ -294,14 +294,14 @@ module _ (ms : Meanings) (tree : ℕ) (rule : ResolvedKind) where
       ∙ ap (λ b. other_by ms tree rule (bindings_of ms tree rule) b (is_plain rule p) p c) tree_is
       ∙ ap (λ b. other_by ms tree rule (bindings_of ms tree rule) is_tree_node b p c) plain_is
 
-  pub bindings-trees : (p c : Node) → placeholder_at rule.names p ≡ None → is_tree p ≡ true → bindings_of ms tree rule p c ≡ tree_by rule p c
+  pub bindings-trees : (p c : Node) → placeholder_at rule.names p ≡ None → is_token_tree p ≡ true → bindings_of ms tree rule p c ≡ tree_by rule p c
   bindings-trees p c none is = bindings-other p c true (is_plain rule p) none is refl
 
-  pub bindings-spoiled : (p c : Node) → placeholder_at rule.names p ≡ None → is_tree p ≡ false → is_plain rule p ≡ false → bindings_of ms tree rule p c ≡ None
+  pub bindings-spoiled : (p c : Node) → placeholder_at rule.names p ≡ None → is_token_tree p ≡ false → is_plain rule p ≡ false → bindings_of ms tree rule p c ≡ None
   bindings-spoiled p c none is plain = bindings-other p c false false none is plain
 
   -- by the parts that have to pair
-  pub bindings-parts : (p c : Node) (o : Option Sides) → placeholder_at rule.names p ≡ None → is_tree p ≡ false → is_plain rule p ≡ true
+  pub bindings-parts : (p c : Node) (o : Option Sides) → placeholder_at rule.names p ≡ None → is_token_tree p ≡ false → is_plain rule p ≡ true
       → sides_of ms tree rule p c ≡ o → bindings_of ms tree rule p c ≡ option_and_then (sides_by (bindings_of ms tree rule)) o
   bindings-parts p c o none is plain sides =
       bindings-other p c false true none is plain ∙ ap (option_and_then (sides_by (bindings_of ms tree rule))) sides
@@ -478,20 +478,20 @@ module _ (ms : Meanings) (tree : ℕ) (rule : ResolvedKind) where
   -- a node that is no placeholder
   module _ (pattern code : Syntax) (n m : ℕ) (old : List Binding) (placeholder : Option ℕ)
       (at : placeholder ≡ placeholder_at rule.names (node_of pattern n)) (none : (i : ℕ) → placeholder ≡ Some i → ⊥) where
-    pub trees-from : {E : Type 0} (result : Result Bool E) (new : List Binding) (b : Bool) → b ≡ is_tree (node_of pattern n) → b ≡ true
+    pub trees-from : {E : Type 0} (result : Result Bool E) (new : List Binding) (b : Bool) → b ≡ is_token_tree (node_of pattern n) → b ≡ true
         → IfOk result (λ b. Answers (tree_by rule (node_of pattern n) (node_of code m)) old new b)
         → IfOk result (λ b. Answers (bindings_of ms tree rule (node_of pattern n) (node_of code m)) old new b)
     trees-from result new b b_is is answers =
         subst (λ o. IfOk result (λ b. Answers o old new b))
         (sym (bindings-trees (node_of pattern n) (node_of code m) (sym at ∙ none_there placeholder none) (sym b_is ∙ is))) answers
 
-    pub spoiled-from : (b d : Bool) → b ≡ is_tree (node_of pattern n) → b ≡ false → d ≡ is_plain rule (node_of pattern n) → d ≡ false
+    pub spoiled-from : (b d : Bool) → b ≡ is_token_tree (node_of pattern n) → b ≡ false → d ≡ is_plain rule (node_of pattern n) → d ≡ false
         → Answers (bindings_of ms tree rule (node_of pattern n) (node_of code m)) old old false
     spoiled-from b d b_is is d_is spoiled =
         other refl
         (bindings-spoiled (node_of pattern n) (node_of code m) (sym at ∙ none_there placeholder none) (sym b_is ∙ is) (sym d_is ∙ spoiled))
 
-    pub parts-from : {E : Type 0} (result : Result Bool E) (new : List Binding) (b d : Bool) → b ≡ is_tree (node_of pattern n) → b ≡ false → d ≡ is_plain rule (node_of pattern n) → d ≡ true
+    pub parts-from : {E : Type 0} (result : Result Bool E) (new : List Binding) (b d : Bool) → b ≡ is_token_tree (node_of pattern n) → b ≡ false → d ≡ is_plain rule (node_of pattern n) → d ≡ true
         → IfOk result (λ b. Answers (option_and_then (sides_by (bindings_of ms tree rule)) (sides_of ms tree rule (node_of pattern n) (node_of code m))) old new b)
         → IfOk result (λ b. Answers (bindings_of ms tree rule (node_of pattern n) (node_of code m)) old new b)
     parts-from result new b d b_is is d_is plain answers =

@@ -12,7 +12,7 @@ use Rattle.ssr_base_trees.specs.declared.ids.TokenRun.{TokenRun}
 use Rattle.ssr_base_trees.specs.declared.semantics.Res.{Res}
 use Rattle.ssr_base_trees.specs.Laws.{IsAmong}
 use Rattle.ssr_base_trees.specs.Workspace.{run_of}
-use Rattle.ide_ssr_resolving.specs.Paths.{first_of_kind}
+use Rattle.ide_ssr_resolved_rule.specs.Paths.{first_of_kind}
 use Rattle.ide_ssr_matching.specs.Children.{leaves_out, bare}
 use Rattle.ide_ssr_matching.specs.UsedPaths.{holds_arguments, from_arguments, arguments_of}
 use Rattle.ide_ssr_matching.specs.Bindings.{counted}

@@ -10,11 +10,11 @@ use Rattle.ssr_syntax_tree.specs.Syntax.{Forest, nothing, leaf, branch, token_co
 use Rattle.ssr_syntax_tree.specs.Places.{Node, Part, token_part, node_part, parts_in, parts_of, size_of}
 use Rattle.ssr_base_trees.specs.declared.semantics.Res.{Res}
 use Rattle.ssr_base_trees.specs.Meanings.{Meanings}
-use Rattle.ide_ssr_resolving.specs.declared.qualified_calls.QualifiedCall.{QualifiedCall}
-use Rattle.ide_ssr_resolving.specs.Placeholders.{placeholder_at}
-use Rattle.ide_ssr_resolving.specs.Resolved.{ResolvedKind}
+use Rattle.ide_ssr_resolved_rule.specs.declared.qualified_calls.QualifiedCall.{QualifiedCall}
+use Rattle.ide_ssr_resolved_rule.specs.Placeholders.{placeholder_at}
+use Rattle.ide_ssr_resolved_rule.specs.Resolved.{ResolvedRule}
 use Rattle.ide_ssr_matching.specs.Children.{bare}
-use Rattle.ide_ssr_matching.specs.TokenTrees.{is_tree, is_plain}
+use Rattle.ide_ssr_matching.specs.TokenTrees.{is_token_tree, is_plain}
 use Rattle.ide_ssr_matching.specs.UsedPaths.{arguments_of, pattern_res}
 use Rattle.ide_ssr_matching.specs.Sides.{Sides, kept}
 use Rattle.ide_ssr_matching.specs.Calls.{child_nodes, PathCall, call_of}
@@ -98,7 +98,7 @@ module _ (f g : Binder) where
 
 -- ** Steps.
 
-module _ (m : Meanings) (tree : ℕ) (rule : ResolvedKind) where
+module _ (m : Meanings) (tree : ℕ) (rule : ResolvedRule) where
   named_smaller : (p : Node) (sides : Sides) (o : Option (List Node)) → option_map (named_pairs p) o ≡ Some sides → All (IsSmaller (size_of p)) sides.pattern
   named_smaller p sides None is = absurd (none-some sides is)
   named_smaller p sides (Some nodes) is =
@@ -135,7 +135,7 @@ module _ (m : Meanings) (tree : ℕ) (rule : ResolvedKind) where
 
   step_same : (f g : Binder) (p c : Node) → ((q : Node) → size_of q < size_of p → (d : Node) → f q d ≡ g q d)
       → step m tree rule f p c ≡ step m tree rule g p c
-  step_same f g p c same = ap (λ rest. node_by rule (placeholder_at rule.names p) rest c) (by_kind (is_tree p) (is_plain rule p))
+  step_same f g p c same = ap (λ rest. node_by rule (placeholder_at rule.names p) rest c) (by_kind (is_token_tree p) (is_plain rule p))
     where
       is_same : (part : Part) → IsSmaller (size_of p) part → AreSame f g part
       is_same (token_part t token) lt = tt

@@ -8,7 +8,7 @@ use Rattle.ssr_syntax_kinds.specs.declared.kinds.SyntaxKind.TheVariants as k
 use Rattle.ssr_syntax_kinds.specs.Kinds.{same_kind, is_trivia}
 use Rattle.ssr_syntax_tree.specs.Syntax.{Token}
 use Rattle.ssr_syntax_tree.specs.Places.{Node, Part, token_part, node_part, parts_of}
-use Rattle.ide_ssr_resolving.specs.Paths.{first_of_kind, is_arguments}
+use Rattle.ide_ssr_resolved_rule.specs.Paths.{first_of_kind, is_arguments}
 use Rattle.ide_ssr_token_trees.specs.Elements.{is_closing, closes}
 use Rattle.ide_ssr_matching.specs.Calls.{nodes_among, child_nodes, first_node, generics_among, arguments_among, Method, method_in, method_call}
 use Rattle.ide_ssr_matching.specs.Children.{bare}

@@ -13,8 +13,8 @@ use Rattle.ssr_base_trees.specs.declared.semantics.Res.{Res}
 use Rattle.ssr_base_trees.specs.declared.semantics.Res.TheVariants as res
 use Rattle.ssr_base_trees.specs.Meanings.{Meanings, same_res}
 use Rattle.ssr_base_trees.specs.Workspace.{node_id}
-use Rattle.ide_ssr_resolving.specs.declared.qualified_calls.QualifiedCall.{QualifiedCall}
-use Rattle.ide_ssr_resolving.specs.Resolved.{ResolvedKind}
+use Rattle.ide_ssr_resolved_rule.specs.declared.qualified_calls.QualifiedCall.{QualifiedCall}
+use Rattle.ide_ssr_resolved_rule.specs.Resolved.{ResolvedRule}
 use Rattle.ide_ssr_bindings.specs.declared.receivers.Receiver.{Receiver}
 use Rattle.ide_ssr_matching.specs.Bindings.{stands_for, counted_sides, can_match, like_pairs, like_sides, sides_in, sides_of}
 use Rattle.ide_ssr_matching.specs.Calls.{child_nodes, arguments_among, Method, method_call, PathCall, called, call_of, same_type, derefs, calls_same, method_parts, alike_pairs, receiver_with, method_with, method_sides, takes_first, can_be_call}
@@ -39,7 +39,7 @@ cond_sides : (b : Bool) (sides : Sides) → cond b (Some (stripped_sides sides))
 cond_sides true sides = refl
 cond_sides false sides = refl
 
-module _ (rule : ResolvedKind) where
+module _ (rule : ResolvedRule) where
   -- ** Method calls.
 
   alike_pairs_left : (call : PathCall) (method : Method) (receiver : Receiver)

@@ -9,8 +9,8 @@ use Rattle.ssr_syntax_kinds.specs.Kinds.{same_kind}
 use Rattle.ssr_syntax_tree.specs.Syntax.{Syntax, same_token}
 use Rattle.ssr_syntax_tree.specs.Places.{Node, Part, token_part, node_part, node_of, size_of}
 use Rattle.ssr_base_trees.specs.Meanings.{Meanings}
-use Rattle.ide_ssr_resolving.specs.Placeholders.{placeholder_at}
-use Rattle.ide_ssr_resolving.specs.Resolved.{ResolvedKind, meets}
+use Rattle.ide_ssr_resolved_rule.specs.Placeholders.{placeholder_at}
+use Rattle.ide_ssr_resolved_rule.specs.Resolved.{ResolvedRule, meets}
 use Rattle.ide_ssr_bindings.specs.declared.bindings.Binding.{Binding}
 use Rattle.ide_ssr_bindings.specs.declared.bindings.Held.{Held}
 use Rattle.ide_ssr_bindings.specs.declared.bindings.Held.TheVariants as held
@@ -23,7 +23,7 @@ use Rattle.ide_ssr_matching.specs.Bindings.{Binder, pair_by, pairs_by, sides_by,
 use Rattle.ide_ssr_matching.specs.Matching.{Matches}
 use Rattle.ide_ssr_bindings.specs.Receivers.{is_node, received}
 use Rattle.ide_ssr_matching.specs.Sides.{Sides, kept}
-use Rattle.ide_ssr_matching.specs.TokenTrees.{is_tree, token_placeholder, tree_by, is_plain}
+use Rattle.ide_ssr_matching.specs.TokenTrees.{is_token_tree, token_placeholder, tree_by, is_plain}
 use Rattle.ide_ssr_matching.specs.Trivia.{stripped_below, stripped_tree, AreToldAlike, held_anywhere, bound_anywhere, BindAlike}
 use Rattle.ide_ssr_matching.proofs.Agreement.{bindings_of-Matches, Matches-bindings_of}
 use Rattle.ide_ssr_matching.proofs.StrippedNodes.{stripped_node, stripped_part, AreAlike, kinds_alike, numbers_alike, nodes_alike}
@@ -57,7 +57,7 @@ from_zero at p c =
     ∙ ap anywhere (bindings_later c.first at p (record c { first = 0 }))
     ∙ moved_anywhere c.first (tree_bindings at p (record c { first = 0 }))
 
-trees_alike : (at : ℕ → Option ℕ) (p c d : Node) → AreAlike c d → is_tree d ≡ true → anywhere (tree_bindings at p c) ≡ anywhere (tree_bindings at p d)
+trees_alike : (at : ℕ → Option ℕ) (p c d : Node) → AreAlike c d → is_token_tree d ≡ true → anywhere (tree_bindings at p c) ≡ anywhere (tree_bindings at p d)
 trees_alike at p c d alike is =
     from_zero at p c
     ∙ ap (λ kind. anywhere (tree_bindings at p (record c { first = 0; children = stripped_below kind c.children }))) (sym tree ∙ sym (kinds_alike c d alike))
@@ -153,20 +153,20 @@ module _ (inner other : Binder) (same : (p c d : Node) → AreAlike c d → anyw
 
 -- ** Nodes.
 
-module _ (rule : ResolvedKind) (ms : Meanings) (tree : ℕ) (other_ms : Meanings) (other_tree : ℕ) (told : AreToldAlike ms tree other_ms other_tree) where
+module _ (rule : ResolvedRule) (ms : Meanings) (tree : ℕ) (other_ms : Meanings) (other_tree : ℕ) (told : AreToldAlike ms tree other_ms other_tree) where
   tokens_alike : (p c d : Node) → AreAlike c d → anywhere (tree_by rule p c) ≡ anywhere (tree_by rule p d)
   tokens_alike p c d alike =
       ap (λ kind. anywhere (cond (same_kind kind k.TOKEN_TREE) (tree_bindings (token_placeholder rule) p c) None)) (kinds_alike c d alike)
-      ∙ by (is_tree d) refl
+      ∙ by (is_token_tree d) refl
     where
-      by : (b : Bool) → is_tree d ≡ b
+      by : (b : Bool) → is_token_tree d ≡ b
           → anywhere (cond b (tree_bindings (token_placeholder rule) p c) None) ≡ anywhere (cond b (tree_bindings (token_placeholder rule) p d) None)
       by true is = trees_alike (token_placeholder rule) p c d alike is
       by false is = refl
 
   step_alike : (inner other : Binder) → ((p c d : Node) → AreAlike c d → anywhere (inner p c) ≡ anywhere (other p d)) → (p c d : Node) → AreAlike c d
       → anywhere (step ms tree rule inner p c) ≡ anywhere (step other_ms other_tree rule other p d)
-  step_alike inner other same p c d alike = by (placeholder_at rule.names p) (is_tree p) (is_plain rule p)
+  step_alike inner other same p c d alike = by (placeholder_at rule.names p) (is_token_tree p) (is_plain rule p)
     where
       by : (o : Option ℕ) (is_tree_node plain : Bool)
           → anywhere (node_by rule o (other_by ms tree rule inner is_tree_node plain p c) c)
@@ -202,7 +202,7 @@ module _ (rule : ResolvedKind) (ms : Meanings) (tree : ℕ) (other_ms : Meanings
       by (Some others) is same =
           (others, bindings_of-Matches other_ms other_tree rule p d others is, same_Some (map bound_anywhere bs) (map bound_anywhere others) same)
 
-pub trivia_left_out : (ms : Meanings) (tree : ℕ) (other_ms : Meanings) (other_tree : ℕ) (rule : ResolvedKind) (code other : Syntax) (p : Node) (n : ℕ) (bs : List Binding)
+pub trivia_left_out : (ms : Meanings) (tree : ℕ) (other_ms : Meanings) (other_tree : ℕ) (rule : ResolvedRule) (code other : Syntax) (p : Node) (n : ℕ) (bs : List Binding)
     → stripped_tree code ≡ stripped_tree other → AreToldAlike ms tree other_ms other_tree → Matches ms tree rule p (node_of code n) bs
     → (others : List Binding) × Matches other_ms other_tree rule p (node_of other n) others × BindAlike bs others
 trivia_left_out ms tree other_ms other_tree rule code other p n bs same told matches =

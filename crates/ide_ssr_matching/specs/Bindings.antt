@@ -8,16 +8,16 @@ use Rattle.ssr_syntax_tree.specs.Syntax.{same_token}
 use Rattle.ssr_syntax_tree.specs.Places.{Node, Part, token_part, node_part, parts_of, size_of}
 use Rattle.ssr_base_trees.specs.declared.semantics.Res.{Res}
 use Rattle.ssr_base_trees.specs.Meanings.{Meanings, same_res}
-use Rattle.ide_ssr_resolving.specs.declared.qualified_calls.QualifiedCall.{QualifiedCall}
-use Rattle.ide_ssr_resolving.specs.Placeholders.{placeholder_at}
-use Rattle.ide_ssr_resolving.specs.Resolved.{ResolvedKind, meets}
+use Rattle.ide_ssr_resolved_rule.specs.declared.qualified_calls.QualifiedCall.{QualifiedCall}
+use Rattle.ide_ssr_resolved_rule.specs.Placeholders.{placeholder_at}
+use Rattle.ide_ssr_resolved_rule.specs.Resolved.{ResolvedRule, meets}
 use Rattle.ide_ssr_bindings.specs.declared.bindings.Binding.{Binding}
 use Rattle.ide_ssr_bindings.specs.Found.{node_binding}
 use Rattle.ide_ssr_matching.specs.Children.{bare}
 use Rattle.ide_ssr_matching.specs.Sides.{Sides, kept}
 use Rattle.ide_ssr_matching.specs.Calls.{call_of, method_sides, can_be_call}
 use Rattle.ide_ssr_token_trees.specs.Bindings.{joined}
-use Rattle.ide_ssr_matching.specs.TokenTrees.{is_tree, tree_by, is_plain}
+use Rattle.ide_ssr_matching.specs.TokenTrees.{is_token_tree, tree_by, is_plain}
 use Rattle.ide_ssr_matching.specs.Records.{is_named, named_nodes, named_pairs}
 use Rattle.ide_ssr_matching.specs.UsedPaths.{arguments_of, pattern_res, code_res}
 
@@ -44,11 +44,11 @@ pairs_by inner (p ∷ ps) (c ∷ cs) = joined (pair_by inner p c) (pairs_by inne
 -- ** Cases.
 
 -- a placeholder against a node, which has to meet its constraints
-abbrev pub placeholder_by : ResolvedKind → ℕ → Node → Option (List Binding)
+abbrev pub placeholder_by : ResolvedRule → ℕ → Node → Option (List Binding)
 placeholder_by rule i c = if meets rule i c.kind then Some (node_binding i c.number ∷ []) else None
 
 -- a node of the pattern that may be a placeholder
-abbrev pub node_by : ResolvedKind → Option ℕ → Option (List Binding) → Node → Option (List Binding)
+abbrev pub node_by : ResolvedRule → Option ℕ → Option (List Binding) → Node → Option (List Binding)
 node_by rule (Some i) rest c = placeholder_by rule i c
 node_by rule None rest c = rest
 
@@ -72,7 +72,7 @@ counted_sides used p c = record {
 abbrev pub sides_by : Binder → Sides → Option (List Binding)
 sides_by inner sides = option_map (kept sides.receiver) (pairs_by inner sides.pattern sides.code)
 
-module _ (m : Meanings) (tree : ℕ) (rule : ResolvedKind) where
+module _ (m : Meanings) (tree : ℕ) (rule : ResolvedRule) where
   -- whether a node of the kind of one of the pattern can match it: where that is a used path it has to stand for the same thing
   abbrev pub can_match : Option Res → Node → Node → Bool
   can_match (Some r) p c = stands_for r (code_res m tree c)
@@ -104,7 +104,7 @@ module _ (m : Meanings) (tree : ℕ) (rule : ResolvedKind) where
 
   -- any node of the pattern, where it is told for smaller ones
   abbrev pub step : Binder → Binder
-  step inner p c = node_by rule (placeholder_at rule.names p) (other_by inner (is_tree p) (is_plain rule p) p c) c
+  step inner p c = node_by rule (placeholder_at rule.names p) (other_by inner (is_token_tree p) (is_plain rule p) p c) c
 
   abbrev pub bindings_by : ℕ → Binder
   bindings_by zero p c = None

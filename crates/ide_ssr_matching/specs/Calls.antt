@@ -12,10 +12,10 @@ use Rattle.ssr_base_trees.specs.declared.semantics.Res.{Res}
 use Rattle.ssr_base_trees.specs.declared.semantics.Res.TheVariants as res
 use Rattle.ssr_base_trees.specs.Meanings.{Meanings, same_res}
 use Rattle.ssr_base_trees.specs.Workspace.{node_id}
-use Rattle.ide_ssr_resolving.specs.declared.qualified_calls.QualifiedCall.{QualifiedCall}
-use Rattle.ide_ssr_resolving.specs.Paths.{first_of_kind}
-use Rattle.ide_ssr_resolving.specs.QualifiedCalls.{call_at}
-use Rattle.ide_ssr_resolving.specs.Resolved.{ResolvedKind}
+use Rattle.ide_ssr_resolved_rule.specs.declared.qualified_calls.QualifiedCall.{QualifiedCall}
+use Rattle.ide_ssr_resolved_rule.specs.Paths.{first_of_kind}
+use Rattle.ide_ssr_resolved_rule.specs.QualifiedCalls.{call_at}
+use Rattle.ide_ssr_resolved_rule.specs.Resolved.{ResolvedRule}
 use Rattle.ide_ssr_matching.specs.Children.{bare}
 use Rattle.ide_ssr_matching.specs.UsedPaths.{arguments_of, pattern_res}
 use Rattle.ide_ssr_bindings.specs.declared.receivers.Receiver.{Receiver}
@@ -87,11 +87,11 @@ called call = called_in (child_nodes call)
 -- ** Which calls match.
 
 -- the qualified call that a node of the pattern is, if it is one
-abbrev pub call_of : ResolvedKind → Node → Option QualifiedCall
+abbrev pub call_of : ResolvedRule → Node → Option QualifiedCall
 call_of rule p = call_at rule.qualified_calls (record { 0 = p.number })
 
 -- whether a qualified call meets a method call
-abbrev pub meets_method : ResolvedKind → Node → Node → Bool
+abbrev pub meets_method : ResolvedRule → Node → Node → Bool
 meets_method rule p c = is_some (call_of rule p) && same_kind c.kind k.METHOD_CALL_EXPR
 
 abbrev pub same_type : TypeId → TypeId → Bool
@@ -136,12 +136,12 @@ module _ (m : Meanings) (tree : ℕ) where
   abbrev pub receiver_with : Option Res → Option TypeId → ℕ → ℕ → Option Receiver
   receiver_with used type c receiver = if calls_same m used (node_id tree c) then receiver_by type c receiver else None
 
-  abbrev pub method_with : ResolvedKind → Option TypeId → Node → PathCall → Method → Option Sides
+  abbrev pub method_with : ResolvedRule → Option TypeId → Node → PathCall → Method → Option Sides
   method_with rule type c called method =
       option_and_then (alike_pairs called method) (receiver_with (pattern_res rule called.path) type c.number method.receiver.number)
 
   -- a qualified call against a method call: none, where that cannot match it
-  abbrev pub method_sides : ResolvedKind → QualifiedCall → Node → Node → Option Sides
+  abbrev pub method_sides : ResolvedRule → QualifiedCall → Node → Node → Option Sides
   method_sides rule call p c =
       option_and_then (λ called. option_and_then (method_with rule call.qualifier_type c called) (method_call c)) (called p)
 

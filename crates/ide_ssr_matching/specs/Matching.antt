@@ -5,16 +5,16 @@ use Rattle.ssr_syntax_tree.specs.Syntax.{Token}
 use Rattle.ssr_syntax_tree.specs.Places.{Node, Part, token_part, node_part, parts_of}
 use Rattle.ssr_base_trees.specs.declared.semantics.Res.{Res}
 use Rattle.ssr_base_trees.specs.Meanings.{Meanings}
-use Rattle.ide_ssr_resolving.specs.declared.qualified_calls.QualifiedCall.{QualifiedCall}
-use Rattle.ide_ssr_resolving.specs.Placeholders.{placeholder_at}
-use Rattle.ide_ssr_resolving.specs.Resolved.{ResolvedKind, meets}
+use Rattle.ide_ssr_resolved_rule.specs.declared.qualified_calls.QualifiedCall.{QualifiedCall}
+use Rattle.ide_ssr_resolved_rule.specs.Placeholders.{placeholder_at}
+use Rattle.ide_ssr_resolved_rule.specs.Resolved.{ResolvedRule, meets}
 use Rattle.ide_ssr_bindings.specs.declared.bindings.Binding.{Binding}
 use Rattle.ide_ssr_bindings.specs.Found.{node_binding}
 use Rattle.ide_ssr_matching.specs.Children.{bare}
 use Rattle.ide_ssr_matching.specs.UsedPaths.{arguments_of, pattern_res, code_res}
 use Rattle.ide_ssr_matching.specs.Sides.{Sides, kept}
 use Rattle.ide_ssr_token_trees.specs.TokenTrees.{TreesMatch}
-use Rattle.ide_ssr_matching.specs.TokenTrees.{is_tree, token_placeholder, is_by_parts}
+use Rattle.ide_ssr_matching.specs.TokenTrees.{is_token_tree, token_placeholder, is_by_parts}
 use Rattle.ide_ssr_matching.specs.Calls.{call_of, meets_method, method_sides, can_be_call, child_nodes}
 use Rattle.ide_ssr_matching.specs.Records.{is_named, named_nodes}
 
@@ -26,10 +26,10 @@ use Rattle.ide_ssr_matching.specs.Records.{is_named, named_nodes}
 -- qualified call with a qualifier type only those calls whose first argument, if there is one, is of that type, maybe after
 -- dereferences.
 mutual
-  pub data Matches (m : Meanings) (tree : ℕ) (rule : ResolvedKind) : Node → Node → List Binding → Type 0 where
+  pub data Matches (m : Meanings) (tree : ℕ) (rule : ResolvedRule) : Node → Node → List Binding → Type 0 where
     bound : (p c : Node) (i : ℕ) → placeholder_at rule.names p ≡ Some i → meets rule i c.kind ≡ true
         → Matches m tree rule p c (node_binding i c.number ∷ [])
-    token_trees : (p c : Node) (bs : List Binding) → placeholder_at rule.names p ≡ None → is_tree p ≡ true → is_tree c ≡ true
+    token_trees : (p c : Node) (bs : List Binding) → placeholder_at rule.names p ≡ None → is_token_tree p ≡ true → is_token_tree c ≡ true
         → TreesMatch (token_placeholder rule) p c bs → Matches m tree rule p c bs
     method : (p c : Node) (call : QualifiedCall) (sides : Sides) (bs : List Binding) → is_by_parts rule p ≡ true
         → call_of rule p ≡ Some call → c.kind ≡ k.METHOD_CALL_EXPR → method_sides m tree rule call p c ≡ Some sides
@@ -45,7 +45,7 @@ mutual
         → p.kind ≡ c.kind → pattern_res rule p ≡ None → can_be_call m tree (call_of rule p) c ≡ true → is_named rule p c ≡ false
         → Pairs m tree rule (bare (parts_of p)) (bare (parts_of c)) bs → Matches m tree rule p c bs
 
-  pub data Pairs (m : Meanings) (tree : ℕ) (rule : ResolvedKind) : List Part → List Part → List Binding → Type 0 where
+  pub data Pairs (m : Meanings) (tree : ℕ) (rule : ResolvedRule) : List Part → List Part → List Binding → Type 0 where
     end : Pairs m tree rule [] [] []
     tokens : (t u : ℕ) (p c : Token) (ps cs : List Part) (bs : List Binding) → p.kind ≡ c.kind → p.text ≡ c.text
         → Pairs m tree rule ps cs bs → Pairs m tree rule (token_part t p ∷ ps) (token_part u c ∷ cs) bs

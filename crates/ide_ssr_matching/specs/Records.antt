@@ -7,8 +7,8 @@ use Rattle.ssr_syntax_kinds.specs.declared.kinds.SyntaxKind.TheVariants as k
 use Rattle.ssr_syntax_kinds.specs.Kinds.{same_kind, is_trivia}
 use Rattle.ssr_syntax_tree.specs.Syntax.{Token, tokens_in}
 use Rattle.ssr_syntax_tree.specs.Places.{Node, node_part}
-use Rattle.ide_ssr_resolving.specs.Placeholders.{placeholder_at}
-use Rattle.ide_ssr_resolving.specs.Resolved.{ResolvedKind}
+use Rattle.ide_ssr_resolved_rule.specs.Placeholders.{placeholder_at}
+use Rattle.ide_ssr_resolved_rule.specs.Resolved.{ResolvedRule}
 use Rattle.ide_ssr_matching.specs.Children.{bare}
 use Rattle.ide_ssr_matching.specs.UsedPaths.{arguments_of}
 use Rattle.ide_ssr_matching.specs.Sides.{Sides}
@@ -45,7 +45,7 @@ abbrev pub is_field : Node → Bool
 is_field node = same_kind node.kind k.RECORD_EXPR_FIELD
 
 -- whether a field of a pattern is named by a placeholder
-abbrev pub is_open : ResolvedKind → Node → Bool
+abbrev pub is_open : ResolvedRule → Node → Bool
 is_open rule node =
     is_field node
     && option_map_or (λ by. is_some (placeholder_at rule.names by)) (named_by (first_node k.NAME_REF (child_nodes node)) (child_nodes node)) false
@@ -86,7 +86,7 @@ are_different nodes = are_new [] nodes
 -- ** Lists that match by labels.
 
 -- whether two lists of fields match by names: where all fields have some, those of the pattern other ones than placeholders
-abbrev pub is_named : ResolvedKind → Node → Node → Bool
+abbrev pub is_named : ResolvedRule → Node → Node → Bool
 is_named rule p c =
     same_kind p.kind k.RECORD_EXPR_FIELD_LIST
     && (not (list_any (is_open rule) (child_nodes p)) && (are_labelled (child_nodes p) && are_labelled (child_nodes c)))

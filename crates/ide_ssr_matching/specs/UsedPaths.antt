@@ -6,9 +6,9 @@ use Rattle.ssr_syntax_tree.specs.Places.{Node, Part, token_part, node_part, part
 use Rattle.ssr_base_trees.specs.declared.semantics.Res.{Res}
 use Rattle.ssr_base_trees.specs.Meanings.{Meanings}
 use Rattle.ssr_base_trees.specs.Workspace.{node_id}
-use Rattle.ide_ssr_resolving.specs.Paths.{first_of_kind, is_arguments}
-use Rattle.ide_ssr_resolving.specs.Resolved.{ResolvedKind}
-use Rattle.ide_ssr_resolving.specs.Used.{res_at}
+use Rattle.ide_ssr_resolved_rule.specs.Paths.{first_of_kind, is_arguments}
+use Rattle.ide_ssr_resolved_rule.specs.Resolved.{ResolvedRule}
+use Rattle.ide_ssr_resolved_rule.specs.UsedPaths.{res_at}
 
 -- whether a child of a segment is generic arguments, arguments in parentheses or a return type
 abbrev pub holds_arguments : Part → Bool
@@ -25,7 +25,7 @@ abbrev pub arguments_of : Node → List Part
 arguments_of path = option_map_or (λ segment. from_arguments (parts_of segment)) (first_of_kind k.PATH_SEGMENT (parts_of path)) []
 
 -- what a node of the pattern stands for, if it is a path that is used
-abbrev pub pattern_res : ResolvedKind → Node → Option Res
+abbrev pub pattern_res : ResolvedRule → Node → Option Res
 pattern_res rule p = res_at rule.pattern_paths (record { 0 = p.number })
 
 -- what a node stands for in the code, which is the tree with this number

@@ -11,7 +11,7 @@ ghost use Rattle.ide_ssr_matching.specs.Private.ChildNodes.{nodes_at, IsNodeBelo
 
 use crate::child_nodes::{ChildNodes, first_child_node, only_child_node};
 use ide_ssr_bindings::Receiver;
-use ide_ssr_resolving::{QualifiedCall, ResolvedRule, first_child, last_segment};
+use ide_ssr_resolved_rule::{QualifiedCall, ResolvedRule, first_child, last_segment};
 use ssr_base_trees::{NodeId, Res, Semantics, TypeId};
 use ssr_syntax_kinds::SyntaxKind;
 use ssr_syntax_tree::{Element, NodeNo, Tree};

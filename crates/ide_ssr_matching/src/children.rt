@@ -6,9 +6,9 @@ ghost use Rattle.ide_ssr_matching.specs.Bindings.{counted};
 ghost use Rattle.ide_ssr_token_trees.specs.Elements.{is_trivia_part};
 ghost use Rattle.ide_ssr_matching.specs.Children.{bare};
 ghost use Rattle.ide_ssr_matching.specs.UsedPaths.{holds_arguments, from_arguments, arguments_of};
-ghost use Rattle.ide_ssr_matching.specs.Private.Children.{has_kind, solid, siblings_left, IsBelow, AreKept};
+ghost use Rattle.ide_ssr_matching.specs.Private.Children.{has_kind, solid, siblings_left, IsElementBelow, AreKept};
 
-use ide_ssr_resolving::{is_arguments, last_segment};
+use ide_ssr_resolved_rule::{is_arguments, last_segment};
 use ide_ssr_token_trees::{closes, is_trivia};
 use ssr_base_trees::Res;
 use ssr_syntax_kinds::SyntaxKind;
@@ -93,7 +93,7 @@ impl<'a> Siblings<'a> {
     pub(crate) fn arguments(tree: &'a Tree, path: NodeNo) -> Siblings<'a>
         requires { HasNode tree.now path.0 }
         ensures gives { map (part_of tree.now) (siblings_left result) ≡ arguments_of (node_of tree.now path.0) }
-        ensures below { All (IsBelow tree.now path.0) (siblings_left result) }
+        ensures below { All (IsElementBelow tree.now path.0) (siblings_left result) }
     {
         let Some(segment) = last_segment(tree, path) else {
             let mut none = Siblings::of(tree, path);
@@ -109,7 +109,7 @@ impl<'a> Siblings<'a> {
     pub(crate) fn counted(tree: &'a Tree, node: NodeNo, used: Option<Res>) -> Siblings<'a>
         requires { HasNode tree.now node.0 }
         ensures gives { map (part_of tree.now) (siblings_left result) ≡ counted used (arguments_of (node_of tree.now node.0)) (parts_of (node_of tree.now node.0)) }
-        ensures below { All (IsBelow tree.now node.0) (siblings_left result) }
+        ensures below { All (IsElementBelow tree.now node.0) (siblings_left result) }
     {
         match used {
             Some(_) => Siblings::arguments(tree, node),

@@ -17,9 +17,9 @@ use crate::calls::{CalledNodes, MethodArguments, MethodNodes, can_be_call, metho
 use crate::child_nodes::ChildNodes;
 use crate::children::Siblings;
 use crate::records::{are_as_many, are_different, counterpart, is_named};
-use crate::token_trees::{is_plain, is_tree, tree_matches};
+use crate::token_trees::{is_plain, is_token_tree, tree_matches};
 use ide_ssr_bindings::{Binding, Receiver};
-use ide_ssr_resolving::{QualifiedCall, ResolvedRule};
+use ide_ssr_resolved_rule::{QualifiedCall, ResolvedRule};
 use ide_ssr_token_trees::tokens_match;
 use ssr_base_trees::{NodeId, Res, Semantics};
 use ssr_syntax_kinds::SyntaxKind;
@@ -93,7 +93,11 @@ fn can_match<S: Semantics>(
 }
 
 /// Adds what placeholders bind to `out`: one that holds the receiver keeps how it is taken.
-fn keep(receiver: Receiver, held: &[Binding], out: &mut Vec<Binding>) -> Result<(), AllocError>
+fn push_received(
+    receiver: Receiver,
+    held: &[Binding],
+    out: &mut Vec<Binding>,
+) -> Result<(), AllocError>
     ensures { OnOk result (out.new.items ≡ out.old.items ++ map (received receiver) held.now) }
 {
     for binding in held {
@@ -122,7 +126,7 @@ fn node_matches<S: Semantics>(
     if let Some(placeholder) = rule.placeholder(p) {
         return placeholder_matches(rule, code, placeholder, c, out);
     }
-    if is_tree(rule.pattern(), p) {
+    if is_token_tree(rule.pattern(), p) {
         return tree_matches(rule, code, p, c, out);
     }
     if !is_plain(rule, p) {
@@ -191,7 +195,7 @@ fn method_matches<S: Semantics>(
     )? {
         return Ok(false);
     }
-    keep(sides.receiver, &held, out)?;
+    push_received(sides.receiver, &held, out)?;
     Ok(true)
 }
 

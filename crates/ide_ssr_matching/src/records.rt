@@ -10,7 +10,7 @@ ghost use Rattle.ide_ssr_matching.specs.Private.Records.{HasTokens, label_texts}
 
 use crate::child_nodes::{ChildNodes, first_child_node, only_child_node};
 use crate::children::lacks_arguments;
-use ide_ssr_resolving::{ResolvedRule, first_child};
+use ide_ssr_resolved_rule::{ResolvedRule, first_child};
 use ssr_syntax_kinds::SyntaxKind;
 use ssr_syntax_tree::{NodeNo, TokenNo, Tree};
 

@@ -3,19 +3,19 @@
 ghost use Rattle.std.specs.Prelude.{◌≡◌, ◌∷◌, [], IfOk};
 ghost use Rattle.ssr_syntax_tree.specs.Places.{HasNode, HasElement, node_of, part_of, parts_of};
 ghost use Rattle.ide_ssr_token_trees.specs.Bindings.{Answers};
-ghost use Rattle.ide_ssr_matching.specs.TokenTrees.{is_tree, tree_by, has_token_placeholder, is_plain};
+ghost use Rattle.ide_ssr_matching.specs.TokenTrees.{is_token_tree, tree_by, has_token_placeholder, is_plain};
 
 use ide_ssr_bindings::Binding;
-use ide_ssr_resolving::ResolvedRule;
+use ide_ssr_resolved_rule::ResolvedRule;
 use ide_ssr_token_trees::match_token_trees;
 use ssr_syntax_kinds::SyntaxKind;
 use ssr_syntax_tree::{Element, NodeNo, Tree};
 use std::alloc::AllocError;
 
 /// Whether a node is a token tree.
-pub(crate) fn is_tree(tree: &Tree, node: NodeNo) -> bool
+pub(crate) fn is_token_tree(tree: &Tree, node: NodeNo) -> bool
     requires { HasNode tree.now node.0 }
-    ensures { result ≡ is_tree (node_of tree.now node.0) }
+    ensures { result ≡ is_token_tree (node_of tree.now node.0) }
 {
     tree.kind(node).is(SyntaxKind::TOKEN_TREE)
 }
@@ -33,7 +33,7 @@ pub(crate) fn tree_matches(
     requires c_in { HasNode code.now c.0 }
     ensures { IfOk result (λ answer. Answers (tree_by rule.now (node_of rule.now.pattern p.0) (node_of code.now c.0)) out.old.items out.new.items answer) }
 {
-    if !is_tree(code, c) {
+    if !is_token_tree(code, c) {
         return Ok(false);
     }
     match_token_trees(rule.token_placeholders(), rule.pattern(), p, code, c, out)

@@ -14,11 +14,11 @@ use Rattle.ssr_syntax_tree.specs.declared.number.NodeNo.{NodeNo}
 use Rattle.ssr_syntax_tree.specs.Places.{Node, HasNode, node_of, nodes_of, root_of, size_of}
 use Rattle.ssr_syntax_tree.specs.Syntax.{Syntax}
 use Rattle.ssr_syntax_tree.proofs.Shared.{node_is, node_of-number, length-nodes_of, IsOver, inside, below_root}
-use Rattle.ide_ssr_resolving.specs.declared.qualified_calls.QualifiedCall.{QualifiedCall}
-use Rattle.ide_ssr_resolving.specs.declared.used.UsedPath.{UsedPath}
+use Rattle.ide_ssr_resolved_rule.specs.declared.qualified_calls.QualifiedCall.{QualifiedCall}
+use Rattle.ide_ssr_resolved_rule.specs.declared.used_paths.UsedPath.{UsedPath}
 use Rattle.ide_ssr_resolving.specs.Eligible.{first_argument_of, is_call, is_first_argument, holds, is_in_first_argument, is_eligible, eligible_paths_of}
 use Rattle.ide_ssr_resolving.specs.QualifiedCalls.{first_in}
-use Rattle.ide_ssr_resolving.specs.Used.{HasPaths}
+use Rattle.ide_ssr_resolved_rule.specs.UsedPaths.{HasPaths}
 use Rattle.ide_ssr_resolving.specs.Private.Marks.{MarksCalls, MarksFirstArguments}
 
 -- ** What a node is the first argument of.

@@ -19,15 +19,14 @@ use Rattle.ssr_syntax_tree.proofs.Shared.{length-nodes_of, node_is, node_of-numb
 use Rattle.ssr_base_trees.specs.declared.ids.ScopeId.{ScopeId}
 use Rattle.ssr_base_trees.specs.declared.semantics.Res.{Res}
 use Rattle.ssr_base_trees.specs.Meanings.{Meanings}
-use Rattle.ide_ssr_rules.specs.Patterns.{placeholders_among}
-use Rattle.ide_ssr_rules.specs.StandIns.{name_at, is_stand_in, stand_in_of}
-use Rattle.ide_ssr_resolving.specs.declared.used.UsedPath.{UsedPath}
-use Rattle.ide_ssr_resolving.specs.Paths.{below_first, qualifying, is_arguments, before_arguments, from_arguments, without_arguments}
-use Rattle.ide_ssr_resolving.specs.Patterns.{or_below, placeholders_in, placeholders_mixed, placeholders_below, HasThemInArguments, AreInArguments}
-use Rattle.ide_ssr_resolving.specs.Placeholders.{only_token}
+use Rattle.ide_ssr_resolved_rule.specs.Patterns.{placeholders_among, or_below, placeholders_in, placeholders_mixed, placeholders_below, HasThemInArguments, AreInArguments}
+use Rattle.ide_ssr_resolved_rule.specs.StandIns.{name_at, is_stand_in, stand_in_of}
+use Rattle.ide_ssr_resolved_rule.specs.declared.used_paths.UsedPath.{UsedPath}
+use Rattle.ide_ssr_resolved_rule.specs.Paths.{below_first, qualifying, is_arguments, before_arguments, from_arguments, without_arguments}
+use Rattle.ide_ssr_resolved_rule.specs.Placeholders.{only_token}
 use Rattle.ide_ssr_resolving.specs.Resolving.{resolution}
 use Rattle.ide_ssr_resolving.specs.Used.{names_placeholder, holds_stand_in, has_generics, ends_in_self, is_whole, is_path, used, use_of, used_at, used_path, is_reached, is_unresolved, reached, refused, used_paths}
-use Rattle.ide_ssr_resolving.proofs.Patterns.{only_one}
+use Rattle.ide_ssr_resolved_rule.proofs.Shared.{only_one}
 
 no_position : (passes : List ℕ → Bool) (i : ℕ) (xs : List (List ℕ)) → list_any passes xs ≡ false → position_from passes i xs ≡ None
 no_position passes i [] none = refl

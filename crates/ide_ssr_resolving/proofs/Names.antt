@@ -8,7 +8,7 @@ use Rattle.ssr_base_trees.specs.declared.semantics.Res.TheVariants as res
 use Rattle.ssr_base_trees.specs.Meanings.{Meanings}
 use Rattle.ssr_syntax_kinds.specs.declared.kinds.SyntaxKind.TheVariants as k
 use Rattle.ssr_syntax_tree.specs.Syntax.{Forest, spelled, tokens_in}
-use Rattle.ide_ssr_resolving.specs.Paths.{below_first, segments, qualifier, last_segment, qualifying, last_name}
+use Rattle.ide_ssr_resolved_rule.specs.Paths.{below_first, segments, qualifier, last_segment, qualifying, last_name}
 use Rattle.ide_ssr_resolving.specs.Resolving.{adt_of, told, told_member, resolution}
 
 module _ (path : Forest) where

@@ -12,7 +12,7 @@ use Rattle.ssr_syntax_tree.specs.Places.{HasNode, HasToken, node_of, token_of}
 use Rattle.ssr_syntax_tree.specs.Syntax.{Token, Forest, Syntax, token_count, tokens_in}
 use Rattle.ide_ssr_resolving.specs.declared.keys.Piece.{Piece}
 use Rattle.ide_ssr_resolving.specs.Keys.{begins_with_colons, pieces, pieces_of, spaced, key_of}
-use Rattle.ide_ssr_resolving.specs.Paths.{qualifying, last_segment, before_arguments}
+use Rattle.ide_ssr_resolved_rule.specs.Paths.{qualifying, last_segment, before_arguments}
 use Rattle.ide_ssr_resolving.specs.Private.Parts.{below}
 use Rattle.ide_ssr_resolving.specs.Private.Pieces.{tokens_at, tokens_between, HasPiece}
 use Rattle.ide_ssr_resolving.proofs.Tokens.{segment_tokens, between_last, colons_some, pieces_plain, pieces_colons, joined}

@@ -11,11 +11,12 @@ use Rattle.ssr_base_trees.specs.Meanings.{Meanings}
 use Rattle.ssr_syntax_kinds.specs.declared.kinds.SyntaxKind.TheVariants as k
 use Rattle.ssr_syntax_tree.specs.Places.{HasNode}
 use Rattle.ssr_syntax_tree.specs.Syntax.{Forest, Syntax}
-use Rattle.ide_ssr_resolving.specs.declared.qualified_calls.QualifiedCall.{QualifiedCall}
-use Rattle.ide_ssr_resolving.specs.declared.used.UsedPath.{UsedPath}
-use Rattle.ide_ssr_resolving.specs.Paths.{qualifier}
+use Rattle.ide_ssr_resolved_rule.specs.declared.qualified_calls.QualifiedCall.{QualifiedCall}
+use Rattle.ide_ssr_resolved_rule.specs.declared.used_paths.UsedPath.{UsedPath}
+use Rattle.ide_ssr_resolved_rule.specs.Paths.{qualifier}
 use Rattle.ide_ssr_resolving.specs.Resolving.{adt_of, resolution}
-use Rattle.ide_ssr_resolving.specs.QualifiedCalls.{first_in, called_by, method_of, qualifier_type, call_of, qualified_call, qualified_calls_of, HasCalls}
+use Rattle.ide_ssr_resolving.specs.QualifiedCalls.{first_in, called_by, method_of, qualifier_type, call_of, qualified_call, qualified_calls_of}
+use Rattle.ide_ssr_resolved_rule.specs.QualifiedCalls.{HasCalls}
 
 pub callee_called : (s : Syntax) (path : ℕ) (callee call : Option ℕ) → callee ≡ first_in s k.PATH_EXPR path
     → call ≡ option_and_then (first_in s k.CALL_EXPR) callee → call ≡ called_by s path

@@ -5,7 +5,7 @@ use Rattle.std.specs.List.{list_any}
 use Rattle.ssr_syntax_kinds.specs.declared.kinds.SyntaxKind.TheVariants as k
 use Rattle.ssr_syntax_tree.specs.Places.{Node, HasNode, HasToken, node_of, parts_of, token_of}
 use Rattle.ssr_syntax_tree.specs.Syntax.{Token, Syntax, token_count, tokens_in}
-use Rattle.ide_ssr_resolving.specs.Paths.{first_of_kind, before_arguments}
+use Rattle.ide_ssr_resolved_rule.specs.Paths.{first_of_kind, before_arguments}
 use Rattle.ide_ssr_resolving.specs.Used.{names_placeholder, holds_stand_in}
 use Rattle.ide_ssr_resolving.specs.Private.Pieces.{tokens_between}
 use Rattle.ide_ssr_resolving.proofs.Tokens.{between_next, between_none, segment_tokens, around_arguments, no_arguments}

@@ -11,7 +11,7 @@ use Rattle.ssr_syntax_tree.specs.Syntax.{Forest}
 use Rattle.ide_ssr_resolving.specs.declared.used.Step.{Step}
 use Rattle.ide_ssr_resolving.specs.declared.used.Step.TheVariants as steps
 use Rattle.ide_ssr_resolving.specs.Private.Steps.{step_by, path_step, step_of}
-use Rattle.ide_ssr_resolving.specs.Paths.{qualifying}
+use Rattle.ide_ssr_resolved_rule.specs.Paths.{qualifying}
 use Rattle.ide_ssr_resolving.specs.Resolving.{resolution}
 use Rattle.ide_ssr_resolving.specs.Used.{is_path, ends_in_self, has_generics, holds_stand_in, is_whole, is_usable, used, use_of, stops, is_unresolved}
 

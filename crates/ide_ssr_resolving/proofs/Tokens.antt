@@ -1,8 +1,8 @@
 -- The tokens of a tree by their numbers, and what a segment is cut to.
-use Rattle.std.proofs.Common.{◌≡◌, ℕ, suc, ◌+◌, ◌-◌, ◌<◌, ◌≤◌, true, false, List, [], ◌∷◌, ◌++◌, All, Bool, Some, append_assoc, length, map, take, drop, None, refl, sym, ap, ◌∙◌, subst, arith, inl, inr}
-use Rattle.std.proofs.lemmas.List.{drop_more, drop-drop, take_at, take-take}
+use Rattle.std.proofs.Common.{◌≡◌, ℕ, ◌+◌, ◌-◌, ◌<◌, ◌≤◌, true, false, List, [], ◌∷◌, ◌++◌, All, Bool, Some, append_assoc, map, take, drop, None, refl, sym, ap, ◌∙◌, subst, arith, inl, inr}
+use Rattle.std.proofs.lemmas.List.{drop-drop, take_at, take-take}
 use Rattle.std.proofs.lemmas.List.Elements.{All-nil, All-cons, All-head, All-tail}
-use Rattle.std.proofs.lemmas.Option.{none-some, same_Some, unwrap_or-slice_get}
+use Rattle.std.proofs.lemmas.Option.{none-some, same_Some}
 use Rattle.std.proofs.lemmas.Bool.{cases_Bool, cases_lt, ltb-true}
 use Rattle.std.specs.Prelude.{if◌then◌else◌, nat_lt}
 use Rattle.std.specs.List.{flat_map, join_by}
@@ -10,52 +10,15 @@ use Rattle.ssr_syntax_kinds.specs.declared.kinds.SyntaxKind.TheVariants as k
 use Rattle.ssr_syntax_kinds.specs.Kinds.{same_kind}
 use Rattle.ssr_syntax_tree.specs.Places.{Node, token_part, node_part, HasNode, HasToken, node_of, token_of, parts_in, parts_of}
 use Rattle.ssr_syntax_tree.specs.Syntax.{Token, Forest, nothing, leaf, branch, Syntax, node_count, token_count, tokens_in, tokens_of}
-use Rattle.ssr_syntax_tree.proofs.Lists.{take_between}
 use Rattle.ssr_syntax_tree.proofs.Shared.{IsChild, children_known, length-tokens_in}
 use Rattle.ide_ssr_resolving.specs.Keys.{begins_with_colons, pieces}
-use Rattle.ide_ssr_resolving.specs.Paths.{first_of_kind, before_arguments, without_arguments}
+use Rattle.ide_ssr_resolved_rule.specs.Paths.{first_of_kind, before_arguments, without_arguments}
 use Rattle.ide_ssr_resolving.specs.Private.Pieces.{tokens_between}
 use Rattle.ide_ssr_resolving.proofs.Children.{before_tokens, before_fewer}
-
-take_one : (x : Token) (xs : List Token) (n m : ℕ) → m ≡ suc n → take m (x ∷ xs) ≡ x ∷ take n xs
-take_one x xs n m is = ap (λ k. take k (x ∷ xs)) is
-
--- ** The tokens of a node.
+use Rattle.ide_ssr_resolved_rule.proofs.Shared.{take_one, take_two, tokens_left, tokens_known, tokens_of_node}
 
 module _ (s : Syntax) where
-  -- the tokens from a number on
-  pub tokens_left : (n : ℕ) → HasToken s n → drop n (tokens_of s) ≡ token_of s n ∷ drop (n + 1) (tokens_of s)
-  unfolding token_of
-  tokens_left n has =
-      let within : n < length (tokens_of s) = omega (arith, length-tokens_in s.children) in
-      let none : Token = record { kind = k.WHITESPACE; text = [] } in
-      drop_more (tokens_of s) n none within ∙ ap (λ token. token ∷ drop (n + 1) (tokens_of s)) (sym (unwrap_or-slice_get (tokens_of s) n none))
-
-  take_two : (xs : List Token) (a b : ℕ) → take (a + b) xs ≡ take a xs ++ take b (drop a xs)
-  take_two xs a b = take_between xs a (a + b) (omega arith) ∙ ap (λ n. take a xs ++ take n (drop a xs)) (omega arith)
-
-  tokens_known : (q p m t : ℕ) (forest : Forest) → All (IsChild s q) (parts_in p m t forest) → take (token_count forest) (drop t (tokens_of s)) ≡ tokens_in forest
-  tokens_known q p m t nothing known = refl
-  tokens_known q p m t (leaf token next) known =
-      let first = All-head (IsChild s q) _ (parts_in p m (1 + t) next) known in
-      let behind : t + 1 ≡ 1 + t = omega arith in
-      ap (take (1 + token_count next)) (tokens_left t first.0)
-      ∙ take_one (token_of s t) (drop (t + 1) (tokens_of s)) (token_count next) (1 + token_count next) (omega arith)
-      ∙ ap (λ n. token_of s t ∷ take (token_count next) (drop n (tokens_of s))) behind
-      ∙ ap (λ x. x ∷ take (token_count next) (drop (1 + t) (tokens_of s))) first.1
-      ∙ ap (λ rest. token ∷ rest) (tokens_known q p m (1 + t) next (All-tail (IsChild s q) _ (parts_in p m (1 + t) next) known))
-  tokens_known q p m t (branch kind inner next) known =
-      let behind = parts_in p (1 + m + node_count inner) (t + token_count inner) next in
-      let first = All-head (IsChild s q) _ behind known in
-      let own = subst (λ (node : Node). All (IsChild s m) (parts_of node)) first.1 (children_known s m first.0) in
-      take_two (drop t (tokens_of s)) (token_count inner) (token_count next)
-      ∙ ap (λ front. front ++ take (token_count next) (drop (token_count inner) (drop t (tokens_of s)))) (tokens_known m m (1 + m) t inner own)
-      ∙ ap (λ rest. tokens_in inner ++ take (token_count next) rest) (drop-drop (token_count inner) t (tokens_of s))
-      ∙ ap (λ rest. tokens_in inner ++ rest) (tokens_known q p (1 + m + node_count inner) (t + token_count inner) next (All-tail (IsChild s q) _ behind known))
-
-  pub tokens_of_node : (n : ℕ) → HasNode s n → take (token_count (node_of s n).children) (drop (node_of s n).first (tokens_of s)) ≡ tokens_in (node_of s n).children
-  tokens_of_node n has =
-      let node = node_of s n in tokens_known n node.number (1 + node.number) node.first node.children (children_known s n has)
+  -- ** The tokens of a node.
 
   -- a whole segment
   pub segment_tokens : (n past : ℕ) → HasNode s n → past ≡ (node_of s n).first + token_count (node_of s n).children
@@ -63,7 +26,7 @@ module _ (s : Syntax) where
   segment_tokens n past has is =
       let node = node_of s n in
       let count : past - node.first ≡ token_count node.children = omega (arith, is) in
-      ap (λ k. take k (drop node.first (tokens_of s))) count ∙ tokens_of_node n has
+      ap (λ k. take k (drop node.first (tokens_of s))) count ∙ tokens_of_node s n has
 
   -- what of it stands before its arguments
   pub name_tokens : (n past : ℕ) → HasNode s n → past ≡ (node_of s n).first + token_count (before_arguments (node_of s n).children)
@@ -75,7 +38,7 @@ module _ (s : Syntax) where
       let split = before_tokens node.children in
       ap (λ k. take k (drop node.first (tokens_of s))) count
       ∙ sym (take-take (token_count front) (token_count node.children) (drop node.first (tokens_of s)) (before_fewer node.children))
-      ∙ ap (take (token_count front)) (tokens_of_node n has ∙ split.1)
+      ∙ ap (take (token_count front)) (tokens_of_node s n has ∙ split.1)
       ∙ take_at (tokens_in front) split.0 (token_count front) (length-tokens_in front)
 
   -- ** Tokens between two numbers.
@@ -85,7 +48,7 @@ module _ (s : Syntax) where
 
   pub between_next : (a b : ℕ) → HasToken s a → a < b → tokens_between s a b ≡ token_of s a ∷ tokens_between s (a + 1) b
   between_next a b has some =
-      ap (take (b - a)) (tokens_left a has)
+      ap (take (b - a)) (tokens_left s a has)
       ∙ take_one (token_of s a) (drop (a + 1) (tokens_of s)) (b - (a + 1)) (b - a) (omega arith)
 
   pub between_last : (a b : ℕ) → HasToken s b → a ≤ b → tokens_between s a (b + 1) ≡ tokens_between s a b ++ token_of s b ∷ []
@@ -95,7 +58,7 @@ module _ (s : Syntax) where
       ∙ take_two (drop a (tokens_of s)) (b - a) 1
       ∙ ap (λ rest. tokens_between s a b ++ take 1 rest) (drop-drop (b - a) a (tokens_of s))
       ∙ ap (λ n. tokens_between s a b ++ take 1 (drop n (tokens_of s))) (let n : a + (b - a) ≡ b = omega arith in n)
-      ∙ ap (λ rest. tokens_between s a b ++ take 1 rest) (tokens_left b has)
+      ∙ ap (λ rest. tokens_between s a b ++ take 1 rest) (tokens_left s b has)
 
   between_both : (a b c : ℕ) → a ≤ b → b ≤ c → tokens_between s a c ≡ tokens_between s a b ++ tokens_between s b c
   between_both a b c le more =
@@ -111,7 +74,7 @@ module _ (s : Syntax) where
       → tokens_between s t past ≡ tokens_in forest
   between_known q p m t past forest known is =
       let count : past - t ≡ token_count forest = omega (arith, is) in
-      ap (λ k. take k (drop t (tokens_of s))) count ∙ tokens_known q p m t forest known
+      ap (λ k. take k (drop t (tokens_of s))) count ∙ tokens_known s q p m t forest known
 
   -- ** Around the arguments of a path.
 

@@ -16,7 +16,7 @@ use Rattle.ssr_syntax_tree.specs.Syntax.{Syntax, node_count}
 use Rattle.ssr_syntax_tree.proofs.Shared.{node_is, node_of-number, length-nodes_of, IsOver, inside, over_within}
 use Rattle.ide_ssr_resolving.specs.declared.used.Step.{Step}
 use Rattle.ide_ssr_resolving.specs.declared.used.Step.TheVariants as steps
-use Rattle.ide_ssr_resolving.specs.declared.used.UsedPath.{UsedPath}
+use Rattle.ide_ssr_resolved_rule.specs.declared.used_paths.UsedPath.{UsedPath}
 use Rattle.ide_ssr_resolving.specs.Private.Steps.{step_of}
 use Rattle.ide_ssr_resolving.specs.Used.{is_above, is_unresolved, use_of, stops, is_reached, reached, used_at, used_path, refused, used_paths}
 use Rattle.ide_ssr_resolving.proofs.Steps.{Says, says}

@@ -11,8 +11,8 @@ use Rattle.ssr_base_trees.specs.declared.semantics.DefKind.TheVariants as kinds
 use Rattle.ssr_base_trees.specs.declared.semantics.Res.{Res}
 use Rattle.ssr_base_trees.specs.declared.semantics.Res.TheVariants as res
 use Rattle.ssr_base_trees.specs.Meanings.{Meanings}
-use Rattle.ide_ssr_resolving.specs.declared.qualified_calls.QualifiedCall.{QualifiedCall}
-use Rattle.ide_ssr_resolving.specs.declared.used.UsedPath.{UsedPath}
+use Rattle.ide_ssr_resolved_rule.specs.declared.qualified_calls.QualifiedCall.{QualifiedCall}
+use Rattle.ide_ssr_resolved_rule.specs.declared.used_paths.UsedPath.{UsedPath}
 use Rattle.ide_ssr_resolving.specs.QualifiedCalls.{first_in}
 
 -- ** Builtin types.

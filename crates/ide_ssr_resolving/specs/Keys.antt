@@ -5,7 +5,7 @@ use Rattle.std.specs.Option.{option_map_or}
 use Rattle.ssr_syntax_kinds.specs.declared.kinds.SyntaxKind.TheVariants as k
 use Rattle.ssr_syntax_kinds.specs.Kinds.{same_kind, is_trivia}
 use Rattle.ssr_syntax_tree.specs.Syntax.{Token, Forest, tokens_in}
-use Rattle.ide_ssr_resolving.specs.Paths.{qualifying, last_segment, before_arguments}
+use Rattle.ide_ssr_resolved_rule.specs.Paths.{qualifying, last_segment, before_arguments}
 
 abbrev pub begins_with_colons : List Token → Bool
 begins_with_colons [] = false

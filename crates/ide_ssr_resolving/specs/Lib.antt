@@ -1,11 +1,6 @@
-pub mod Paths
 pub mod Keys
 pub mod Resolving
 pub mod Used
 pub mod QualifiedCalls
 pub mod Eligible
-pub mod Placeholders
-pub mod Resolved
-pub mod ResolvedCode
-pub mod Patterns
 pub mod Private

@@ -2,5 +2,4 @@
 pub mod Parts
 pub mod Pieces
 pub mod Steps
-pub mod Placeholders
 pub mod Marks

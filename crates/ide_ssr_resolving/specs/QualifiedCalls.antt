@@ -1,12 +1,11 @@
 -- Qualified calls: a call whose callee names an associated function that takes `self` says what a method call can say too.
-use Rattle.std.specs.Prelude.{ℕ, ◌+◌, ◌==◌, All, Bool, ◌&&◌, List, Option, Some, None, if◌then◌else◌}
-use Rattle.std.specs.List.{filter_map, find}
+use Rattle.std.specs.Prelude.{ℕ, ◌+◌, ◌==◌, Bool, ◌&&◌, List, Option, Some, None, if◌then◌else◌}
+use Rattle.std.specs.List.{filter_map}
 use Rattle.std.specs.Option.{option_map, option_and_then}
 use Rattle.ssr_syntax_kinds.specs.declared.kinds.SyntaxKind.{SyntaxKind}
 use Rattle.ssr_syntax_kinds.specs.declared.kinds.SyntaxKind.TheVariants as k
 use Rattle.ssr_syntax_kinds.specs.Kinds.{same_kind}
-use Rattle.ssr_syntax_tree.specs.declared.number.NodeNo.{NodeNo}
-use Rattle.ssr_syntax_tree.specs.Places.{HasNode, node_of}
+use Rattle.ssr_syntax_tree.specs.Places.{node_of}
 use Rattle.ssr_syntax_tree.specs.Syntax.{Forest, Syntax}
 use Rattle.ssr_base_trees.specs.declared.ids.DefId.{DefId}
 use Rattle.ssr_base_trees.specs.declared.ids.ScopeId.{ScopeId}
@@ -15,9 +14,9 @@ use Rattle.ssr_base_trees.specs.declared.semantics.DefInfo.{DefInfo}
 use Rattle.ssr_base_trees.specs.declared.semantics.Res.{Res}
 use Rattle.ssr_base_trees.specs.declared.semantics.Res.TheVariants as res
 use Rattle.ssr_base_trees.specs.Meanings.{Meanings}
-use Rattle.ide_ssr_resolving.specs.declared.qualified_calls.QualifiedCall.{QualifiedCall}
-use Rattle.ide_ssr_resolving.specs.declared.used.UsedPath.{UsedPath}
-use Rattle.ide_ssr_resolving.specs.Paths.{qualifier}
+use Rattle.ide_ssr_resolved_rule.specs.declared.qualified_calls.QualifiedCall.{QualifiedCall}
+use Rattle.ide_ssr_resolved_rule.specs.declared.used_paths.UsedPath.{UsedPath}
+use Rattle.ide_ssr_resolved_rule.specs.Paths.{qualifier}
 use Rattle.ide_ssr_resolving.specs.Resolving.{adt_of, resolution}
 use Rattle.ide_ssr_resolving.specs.Used.{is_function}
 
@@ -64,11 +63,3 @@ module _ (m : Meanings) (scope : ScopeId) where
   -- the qualified calls of all used paths, in the order of the paths, which is that of the calls too
   abbrev pub qualified_calls_of : Syntax → List UsedPath → List QualifiedCall
   qualified_calls_of tree paths = filter_map (qualified_call tree) paths
-
--- qualified calls are nodes of their tree
-abbrev pub HasCalls : Syntax → List QualifiedCall → Type 0
-HasCalls tree calls = All (λ call. HasNode tree call.node.0) calls
-
--- the qualified call that a node is, if it is one of these
-abbrev pub call_at : List QualifiedCall → NodeNo → Option QualifiedCall
-call_at calls node = find (λ call. call.node.0 == node.0) calls

@@ -9,7 +9,7 @@ use Rattle.ssr_base_trees.specs.declared.semantics.DefKind.{DefKind}
 use Rattle.ssr_base_trees.specs.declared.semantics.DefKind.TheVariants as kinds
 use Rattle.ssr_base_trees.specs.Meanings.{Meanings}
 use Rattle.ssr_syntax_tree.specs.Syntax.{Forest}
-use Rattle.ide_ssr_resolving.specs.Paths.{qualifier, last_name}
+use Rattle.ide_ssr_resolved_rule.specs.Paths.{qualifier, last_name}
 use Rattle.ide_ssr_resolving.specs.Keys.{key_of}
 
 abbrev pub is_adt : DefKind → Bool

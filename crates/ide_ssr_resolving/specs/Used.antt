@@ -1,5 +1,5 @@
 -- The paths of a tree that are used: what they resolve to counts, and not how they are spelled.
-use Rattle.std.specs.Prelude.{ℕ, ◌≡◌, ◌+◌, ◌==◌, All, Bool, true, false, not, nat_lt, ◌&&◌, ◌||◌, List, Option, Some, None, Result, Ok, Err, bytes_eq, codes, if◌then◌else◌}
+use Rattle.std.specs.Prelude.{ℕ, ◌≡◌, ◌+◌, Bool, true, false, not, nat_lt, ◌&&◌, ◌||◌, List, Option, Some, None, Result, Ok, Err, bytes_eq, codes, if◌then◌else◌}
 use Rattle.std.specs.List.{filter, filter_map, find, list_any}
 use Rattle.std.specs.Option.{is_none, is_some, option_map, option_map_or, option_and_then}
 use Rattle.ssr_syntax_kinds.specs.declared.kinds.SyntaxKind.TheVariants as k
@@ -14,11 +14,11 @@ use Rattle.ssr_base_trees.specs.declared.semantics.DefInfo.{DefInfo}
 use Rattle.ssr_base_trees.specs.declared.semantics.DefKind.{DefKind}
 use Rattle.ssr_base_trees.specs.declared.semantics.DefKind.TheVariants as kinds
 use Rattle.ssr_base_trees.specs.Meanings.{Meanings}
-use Rattle.ide_ssr_rules.specs.StandIns.{is_stand_in}
-use Rattle.ide_ssr_resolving.specs.declared.used.UsedPath.{UsedPath}
+use Rattle.ide_ssr_resolved_rule.specs.StandIns.{is_stand_in}
+use Rattle.ide_ssr_resolved_rule.specs.declared.used_paths.UsedPath.{UsedPath}
 use Rattle.ide_ssr_resolving.specs.declared.used.Unresolved.{Unresolved}
 use Rattle.ide_ssr_resolving.specs.declared.used.Unresolved.TheVariants as errors
-use Rattle.ide_ssr_resolving.specs.Paths.{below_first, qualifying, last_name, without_arguments}
+use Rattle.ide_ssr_resolved_rule.specs.Paths.{below_first, qualifying, last_name, without_arguments}
 use Rattle.ide_ssr_resolving.specs.Resolving.{resolution}
 
 -- ** Which paths have to resolve.
@@ -110,17 +110,6 @@ module _ (m : Meanings) (scope : ScopeId) (names : List (List ℕ)) where
   -- the first path that has to resolve and doesn't; else those that are used, in order
   unfoldable pub used_paths : Syntax → Result (List UsedPath) NodeNo
   used_paths tree = option_map_or refused (find is_unresolved (reached tree)) (Ok (filter_map used_at (reached tree)))
-
--- used paths are nodes of their tree
-abbrev pub HasPaths : Syntax → List UsedPath → Type 0
-HasPaths tree paths = All (λ path. HasNode tree path.node.0) paths
-
-abbrev pub is_at : NodeNo → UsedPath → Bool
-is_at node path = path.node.0 == node.0
-
--- what a node stands for, if it is one of the used paths
-abbrev pub res_at : List UsedPath → NodeNo → Option Res
-res_at paths node = option_map (λ path. path.res) (find (is_at node) paths)
 
 -- a call answers the used paths, which `seen` tells of its value, or the path that doesn't resolve; want of memory says nothing
 abbrev pub Answers : {A : Type 0} → (A → List UsedPath) → Result A Unresolved → Result (List UsedPath) NodeNo → Type 0

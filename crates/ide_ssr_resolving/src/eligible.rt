@@ -5,11 +5,11 @@ ghost use Rattle.ssr_syntax_tree.specs.Places.{HasNode};
 ghost use Rattle.ssr_syntax_tree.specs.Syntax.{node_count};
 ghost use Rattle.ide_ssr_resolving.specs.Eligible.{is_builtin_type, first_argument_of, eligible_paths_of};
 ghost use Rattle.ide_ssr_resolving.specs.Private.Marks.{MarksCalls, MarksFirstArguments};
-ghost use Rattle.ide_ssr_resolving.specs.QualifiedCalls.{HasCalls};
-ghost use Rattle.ide_ssr_resolving.specs.Used.{HasPaths};
+ghost use Rattle.ide_ssr_resolved_rule.specs.QualifiedCalls.{HasCalls};
+ghost use Rattle.ide_ssr_resolved_rule.specs.UsedPaths.{HasPaths};
 
-use crate::qualified_calls::{QualifiedCall, first_in};
-use crate::used::UsedPath;
+use crate::qualified_calls::first_in;
+use ide_ssr_resolved_rule::{QualifiedCall, UsedPath};
 use ssr_base_trees::{DefKind, Res, Semantics};
 use ssr_syntax_kinds::SyntaxKind;
 use ssr_syntax_tree::{NodeNo, Tree};
@@ -87,7 +87,7 @@ fn is_eligible<S: Semantics>(semantics: &S, marks: &[bool], path: UsedPath) -> b
 }
 
 /// Which of the used paths of a tree with these qualified calls are eligible, in order.
-pub(crate) fn eligible_paths<S: Semantics>(
+pub fn eligible_paths<S: Semantics>(
     alloc: Global,
     semantics: &S,
     tree: &Tree,

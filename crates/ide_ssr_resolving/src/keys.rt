@@ -3,11 +3,12 @@ ghost use Rattle.std.specs.Prelude.{◌≡◌, ◌++◌, All, IfOk, OnOk, map, s
 ghost use Rattle.std.specs.List.{flat_map};
 ghost use Rattle.ssr_syntax_tree.specs.Places.{HasNode, node_of};
 ghost use Rattle.ssr_syntax_tree.specs.Syntax.{tokens_in};
-ghost use Rattle.ide_ssr_resolving.specs.Paths.{qualifying, before_arguments};
+ghost use Rattle.ide_ssr_resolved_rule.specs.Paths.{qualifying, before_arguments};
 ghost use Rattle.ide_ssr_resolving.specs.Keys.{begins_with_colons, pieces, pieces_of, spaced, key_of};
 ghost use Rattle.ide_ssr_resolving.specs.Private.Pieces.{tokens_at, HasPiece};
 
-use crate::paths::{last_segment, name_end, qualifying};
+use crate::paths::{name_end, qualifying};
+use ide_ssr_resolved_rule::last_segment;
 use ssr_syntax_kinds::SyntaxKind;
 use ssr_syntax_tree::{NodeNo, TokenNo, Tree};
 use std::alloc::{AllocError, Global};

@@ -1,25 +1,18 @@
 //! Qualified calls: a call whose callee names an associated function that takes `self` says what a method call can say too.
 ghost use Rattle.std.specs.Prelude.{◌≡◌, IfOk, IfSome};
-ghost use Rattle.std.specs.Option.{option_copied, option_map};
+ghost use Rattle.std.specs.Option.{option_map};
 ghost use Rattle.ssr_syntax_tree.specs.Places.{HasNode, node_of};
-ghost use Rattle.ide_ssr_resolving.specs.QualifiedCalls.{first_in, called_by, is_method, method_of, qualifier_type, qualified_call, qualified_calls_of, HasCalls, call_at};
-ghost use Rattle.ide_ssr_resolving.specs.Used.{HasPaths};
+ghost use Rattle.ide_ssr_resolving.specs.QualifiedCalls.{first_in, called_by, is_method, method_of, qualifier_type, qualified_call, qualified_calls_of};
+ghost use Rattle.ide_ssr_resolved_rule.specs.QualifiedCalls.{HasCalls};
+ghost use Rattle.ide_ssr_resolved_rule.specs.UsedPaths.{HasPaths};
 
 use crate::paths::qualifier;
 use crate::resolving::{adt_of, resolution};
-use crate::used::UsedPath;
+use ide_ssr_resolved_rule::{QualifiedCall, UsedPath};
 use ssr_base_trees::{DefId, DefInfo, DefKind, Res, ScopeId, Semantics, TypeId};
 use ssr_syntax_kinds::SyntaxKind;
 use ssr_syntax_tree::{NodeNo, Tree};
 use std::alloc::{AllocError, Global};
-
-/// A call of an associated function that takes `self`, with the type of the qualifier in front of its name, if that is one.
-#[derive(Clone, Copy, Debug, PartialEq, Eq)]
-pub struct QualifiedCall {
-    pub node: NodeNo,
-    pub function: DefId,
-    pub qualifier_type: Option<TypeId>,
-}
 
 /// The node of this kind in which a node is the first one.
 pub(crate) fn first_in(tree: &Tree, kind: SyntaxKind, node: NodeNo) -> Option<NodeNo>
@@ -112,7 +105,7 @@ fn qualified_call<S: Semantics>(
 }
 
 /// The qualified calls of a tree with these used paths, in order.
-pub(crate) fn qualified_calls<S: Semantics>(
+pub fn qualified_calls_of<S: Semantics>(
     alloc: Global,
     semantics: &S,
     scope: ScopeId,
@@ -130,11 +123,4 @@ pub(crate) fn qualified_calls<S: Semantics>(
         }
     }
     Ok(calls)
-}
-
-/// The qualified call that a node is, if it is one of these.
-pub(crate) fn call_at(calls: &[QualifiedCall], node: NodeNo) -> Option<&QualifiedCall>
-    ensures { option_copied result ≡ call_at calls.now node }
-{
-    calls.iter().find(|call| call.node == node)
 }

@@ -2,7 +2,7 @@
 ghost use Rattle.std.specs.Prelude.{◌≡◌, IfOk, None};
 ghost use Rattle.std.specs.Option.{option_and_then};
 ghost use Rattle.ssr_syntax_tree.specs.Places.{HasNode, node_of};
-ghost use Rattle.ide_ssr_resolving.specs.Paths.{qualifier};
+ghost use Rattle.ide_ssr_resolved_rule.specs.Paths.{qualifier};
 ghost use Rattle.ide_ssr_resolving.specs.Resolving.{adt_of, told, told_member, resolution};
 
 use crate::keys::key_of;

@@ -6,8 +6,8 @@ ghost use Rattle.ide_ssr_resolving.specs.Used.{names_placeholder, holds_stand_in
 ghost use Rattle.ide_ssr_resolving.specs.Private.Pieces.{tokens_at, HasPiece};
 
 use crate::keys::Piece;
-use crate::paths::{last_segment, name_end};
-use ide_ssr_rules::Names;
+use crate::paths::name_end;
+use ide_ssr_resolved_rule::{Names, last_segment};
 use ssr_syntax_kinds::SyntaxKind;
 use ssr_syntax_tree::{NodeNo, TokenNo, Tree};
 

@@ -1,27 +1,20 @@
 //! The paths of a tree that are used: what they resolve to counts, and not how they are spelled.
-ghost use Rattle.std.specs.Prelude.{◌≡◌, IfErr, IfOk, map, string_bytes};
+ghost use Rattle.std.specs.Prelude.{◌≡◌, IfErr, IfOk};
 ghost use Rattle.std.specs.List.{list_any};
 ghost use Rattle.ssr_syntax_tree.specs.Places.{HasNode, node_of};
-ghost use Rattle.ide_ssr_resolving.specs.Paths.{qualifying};
-ghost use Rattle.ide_ssr_resolving.specs.Used.{ends_in_self, has_generics, is_whole, is_usable_def, is_usable, used_paths, Answers, HasPaths, HasRefused};
-ghost use Rattle.ide_ssr_resolving.specs.Private.Marks.{TellsRes};
+ghost use Rattle.ide_ssr_resolved_rule.specs.Paths.{qualifying};
+ghost use Rattle.ide_ssr_resolving.specs.Used.{ends_in_self, has_generics, is_whole, is_usable_def, is_usable, used_paths, Answers, HasRefused};
+ghost use Rattle.ide_ssr_resolved_rule.specs.UsedPaths.{HasPaths};
 ghost use Rattle.ide_ssr_resolving.specs.Private.Steps.{path_step, step_of};
 
-use crate::paths::{first_child, last_name, qualifying};
+use crate::paths::{last_name, qualifying};
 use crate::resolving::resolution;
 use crate::stand_ins::holds_stand_in;
-use ide_ssr_rules::Names;
+use ide_ssr_resolved_rule::{Names, UsedPath, first_child};
 use ssr_base_trees::{DefInfo, DefKind, Res, ScopeId, Semantics};
 use ssr_syntax_kinds::SyntaxKind;
 use ssr_syntax_tree::{NodeNo, Tree};
 use std::alloc::{AllocError, AllocFailed, Global};
-
-/// A path that is used, and what it resolves to.
-#[derive(Clone, Copy, Debug, PartialEq, Eq)]
-pub struct UsedPath {
-    pub node: NodeNo,
-    pub res: Res,
-}
 
 /// Why paths of a tree aren't resolved.
 #[derive(Clone, Copy, Debug, PartialEq, Eq)]
@@ -189,23 +182,6 @@ pub fn used_paths<S: Semantics>(
     alloc: Global,
     semantics: &S,
     scope: ScopeId,
-    names: &[String],
-    tree: &Tree,
-) -> Result<Vec<UsedPath>, Unresolved>
-    ensures has { IfOk result (λ v. HasPaths tree.now v.items) }
-    ensures has_refused { IfErr result (HasRefused tree.now) }
-    ensures answers { Answers (λ v. v.items) result (used_paths (S.meanings semantics.now) scope (map string_bytes names.now) tree.now) }
-{
-    let known = Names::of(alloc, names)?;
-    walked(alloc, semantics, scope, &known, tree)
-}
-
-/// The paths of a tree that are used, in order, or the first one that has to resolve and doesn't, as `used_paths` answers
-/// them. The names are looked up by their texts.
-pub(crate) fn walked<S: Semantics>(
-    alloc: Global,
-    semantics: &S,
-    scope: ScopeId,
     names: &Names<'_>,
     tree: &Tree,
 ) -> Result<Vec<UsedPath>, Unresolved>
@@ -228,23 +204,4 @@ pub(crate) fn walked<S: Semantics>(
         }
     }
     Ok(used)
-}
-
-/// For each node of a tree what it stands for, if it is one of the used paths.
-pub(crate) fn res_by_node(
-    alloc: Global,
-    tree: &Tree,
-    paths: &[UsedPath],
-) -> Result<Vec<Option<Res>>, AllocError>
-    requires { HasPaths tree.now paths.now }
-    ensures { IfOk result (λ table. TellsRes paths.now table.items) }
-{
-    let mut table = vec![in alloc; None; tree.node_count() as usize]?;
-    for path in paths {
-        let place = path.node.0 as usize;
-        if table[place].is_none() {
-            table[place] = Some(path.res);
-        }
-    }
-    Ok(table)
 }

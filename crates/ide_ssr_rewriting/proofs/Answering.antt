@@ -14,7 +14,7 @@ use Rattle.ssr_base_trees.specs.Changes.{Change, FitsText}
 use Rattle.ssr_base_trees.specs.Laws.{LiesInFile, IsSpanOf}
 use Rattle.ssr_base_trees.specs.Texts.{is_boundary}
 use Rattle.ssr_base_trees.specs.Workspace.{Workspace, node_id}
-use Rattle.ide_ssr_resolving.specs.Resolved.{ResolvedKind}
+use Rattle.ide_ssr_resolved_rule.specs.Resolved.{ResolvedRule}
 use Rattle.ide_ssr_bindings.specs.Found.{FoundMatch}
 use Rattle.ide_ssr_nesting.specs.declared.holders.Holder.{Holder}
 use Rattle.ide_ssr_nesting.specs.Holding.{IsKept, Kept}
@@ -30,18 +30,18 @@ use Rattle.ide_ssr_rewriting.proofs.Texts.{list_same, lists_same, one_text}
 -- ** One answer.
 
 -- texts that stand for the matches are the same in each list
-known_same : (kept : Kept) (lists : Listing) (rules : List ResolvedKind) → IsNest kept lists → (f g : Texts) → AreTexts kept lists rules f → AreTexts kept lists rules g
+known_same : (kept : Kept) (lists : Listing) (rules : List ResolvedRule) → IsNest kept lists → (f g : Texts) → AreTexts kept lists rules f → AreTexts kept lists rules g
     → (holder : Option Holder) (j : ℕ) → Contains (listed lists holder) j → f j ≡ g j
 known_same kept lists rules is f g fs gs holder j here =
     let nobody : FoundMatch = record { rule = 0; node = node_id 0 0; bindings = [] } in
     let within = All-contains (λ n. n < length kept.matches) (listed lists holder) j (is.lists holder).within here in
     one_text kept lists rules is f g fs gs j (get_or kept.matches j nobody) (slice_get-get_or kept.matches j nobody within)
 
-outermost_same : (kept : Kept) (lists : Listing) (rules : List ResolvedKind) → IsNest kept lists → (f g : Texts) → AreTexts kept lists rules f → AreTexts kept lists rules g
+outermost_same : (kept : Kept) (lists : Listing) (rules : List ResolvedRule) → IsNest kept lists → (f g : Texts) → AreTexts kept lists rules f → AreTexts kept lists rules g
     → outermost_list kept lists f ≡ outermost_list kept lists g
 outermost_same kept lists rules is f g fs gs = list_same kept f g (listed lists None) (known_same kept lists rules is f g fs gs None)
 
-all_same : (kept : Kept) (lists : Listing) (rules : List ResolvedKind) → IsNest kept lists → (f g : Texts) → AreTexts kept lists rules f → AreTexts kept lists rules g
+all_same : (kept : Kept) (lists : Listing) (rules : List ResolvedRule) → IsNest kept lists → (f g : Texts) → AreTexts kept lists rules f → AreTexts kept lists rules g
     → all_clashes kept lists f ≡ all_clashes kept lists g
 all_same kept lists rules is f g fs gs =
     let each : ◌≡◌ {A = ℕ → ℕ → List Rewrite} (list_under kept lists f) (list_under kept lists g) =
@@ -50,7 +50,7 @@ all_same kept lists rules is f g fs gs =
     ap (λ (list : List Rewrite). clashes list ++ below (list_under kept lists f)) (outermost_same kept lists rules is f g fs gs)
     ∙ ap (λ (under : ℕ → ℕ → List Rewrite). clashes (outermost_list kept lists g) ++ below under) each
 
-pub one_edit : (kept : Kept) (lists : Listing) (rules : List ResolvedKind) → IsKept kept → AreLists kept lists → OneEdit kept lists rules
+pub one_edit : (kept : Kept) (lists : Listing) (rules : List ResolvedRule) → IsKept kept → AreLists kept lists → OneEdit kept lists rules
 one_edit kept lists rules is are a b first second file =
     first.2.1 file
     ∙ (ap (edit_of file.0) (outermost_same kept lists rules (is_nest kept lists is are) first.0 second.0 first.1 second.1) ∙ sym (second.2.1 file))
@@ -58,7 +58,7 @@ one_edit kept lists rules is are a b first second file =
 none_among : (all : List Clash) (c : Clash) → all ≡ [] → Contains all c → ⊥
 none_among all c none h = let here : Contains [] c = subst (λ (all : List Clash). Contains all c) none h in let within = here.1 in omega arith
 
-pub edits_or_clash : (kept : Kept) (lists : Listing) (rules : List ResolvedKind) → IsKept kept → AreLists kept lists → EditsOrClash kept lists rules
+pub edits_or_clash : (kept : Kept) (lists : Listing) (rules : List ResolvedRule) → IsKept kept → AreLists kept lists → EditsOrClash kept lists rules
 edits_or_clash kept lists rules is are edits earlier later first second =
     none_among (all_clashes kept lists second.0) (clash_of (earlier, later))
     (all_same kept lists rules (is_nest kept lists is are) second.0 first.0 second.1 first.1 ∙ first.2.0) second.2.0
@@ -108,7 +108,7 @@ all_in_file w file (c ∷ cs) changes fit is =
     at None fit = absurd (fit 0 c (omega arith))
     at (Some tree) fit = fit
 
-pub edits_fit : (kept : Kept) (lists : Listing) (rules : List ResolvedKind) → IsNest kept lists → (edits : BTreeMap FileId (List Change)) → Answers kept lists rules (Ok edits)
+pub edits_fit : (kept : Kept) (lists : Listing) (rules : List ResolvedRule) → IsNest kept lists → (edits : BTreeMap FileId (List Change)) → Answers kept lists rules (Ok edits)
     → EditsFit kept.workspace edits
 edits_fit kept lists rules is edits answer file changes at =
     all_in_file kept.workspace file.0 _ changes

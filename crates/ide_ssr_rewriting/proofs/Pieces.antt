@@ -11,7 +11,7 @@ use Rattle.std.proofs.lemmas.List.Elements.{All-append, All-contains_itself, All
 use Rattle.std.proofs.lemmas.Option.{same_Some}
 use Rattle.ssr_syntax_tree.proofs.Lists.{all_at}
 use Rattle.ssr_base_trees.specs.Workspace.{FileSpan, Workspace, original_range, trees}
-use Rattle.ide_ssr_resolving.specs.Resolved.{ResolvedKind}
+use Rattle.ide_ssr_resolved_rule.specs.Resolved.{ResolvedRule}
 use Rattle.ide_ssr_bindings.specs.declared.bindings.Binding.{Binding}
 use Rattle.ide_ssr_bindings.specs.Found.{FoundMatch, HasByte, IsMatch, held_range}
 use Rattle.ide_ssr_nesting.specs.declared.holders.Holder.{Holder}
@@ -213,7 +213,7 @@ taken_clashes kept listing m n i old cur clean pieces was now all le others h =
 
 -- ** A text of its pieces.
 
-pub text_of_pieces : (w : Workspace) (rules : List ResolvedKind) (m : FoundMatch) (lists : ℕ → List Rewrite)
+pub text_of_pieces : (w : Workspace) (rules : List ResolvedRule) (m : FoundMatch) (lists : ℕ → List Rewrite)
     → option_map (text_of_match w rules m) (pieces_by w m lists) ≡ text_by w rules m lists
 text_of_pieces w rules m lists = at (all_clean lists (enumerate_from 0 m.bindings))
   where

@@ -11,7 +11,7 @@ use Rattle.std.proofs.lemmas.Option.{get_or_from_slice_get, slice_get_within, sa
 use Rattle.ssr_base_trees.specs.declared.ids.FileId.{FileId}
 use Rattle.ssr_base_trees.specs.declared.ids.FileRange.{FileRange}
 use Rattle.ssr_base_trees.specs.Changes.{Change}
-use Rattle.ide_ssr_resolving.specs.Resolved.{ResolvedKind}
+use Rattle.ide_ssr_resolved_rule.specs.Resolved.{ResolvedRule}
 use Rattle.ide_ssr_bindings.specs.Found.{FoundMatch}
 use Rattle.ide_ssr_nesting.specs.declared.holders.Holder.{Holder}
 use Rattle.ide_ssr_nesting.specs.Holding.{Kept}
@@ -40,7 +40,7 @@ not_outermost kept listing is n i j first second =
     cc
 
 -- what is stored for the lists under a match are the texts
-lists_known : (kept : Kept) (listing : Listing) (rules : List ResolvedKind) → IsNest kept listing → (n : ℕ) (stored : List (Option (String Global))) (clash : Option Clash)
+lists_known : (kept : Kept) (listing : Listing) (rules : List ResolvedRule) → IsNest kept listing → (n : ℕ) (stored : List (Option (String Global))) (clash : Option Clash)
     → IsRun kept listing rules (n + 1) stored clash → list_under kept listing (text_in stored) n ≡ list_under kept listing (texts_of kept listing rules) n
 lists_known kept listing rules is n stored clash run =
     lists_same kept listing (text_in stored) (texts_of kept listing rules) n (λ i j h.
@@ -58,7 +58,7 @@ clashes_here : (kept : Kept) (listing : Listing) (texts : Texts) (n : ℕ) (m : 
     → clashes_from kept listing texts n ≡ clashes_under m (list_under kept listing texts n) ++ clashes_from kept listing texts (n + 1)
 clashes_here kept listing texts n m at = ap (λ (ms : List (ℕ × FoundMatch)). flat_map (λ p. clashes_under p.1 (list_under kept listing texts p.0)) ms) (from_here kept n m at)
 
-pub run-more : (kept : Kept) (listing : Listing) (rules : List ResolvedKind) → IsNest kept listing → (n : ℕ) (m : FoundMatch) (stored cur : List (Option (String Global))) (text : Option (String Global)) (was now : Option Clash)
+pub run-more : (kept : Kept) (listing : Listing) (rules : List ResolvedRule) → IsNest kept listing → (n : ℕ) (m : FoundMatch) (stored cur : List (Option (String Global))) (text : Option (String Global)) (was now : Option Clash)
     → slice_get kept.matches n ≡ Some m → IsRun kept listing rules (n + 1) stored was
     → length cur ≡ length stored → ((j : ℕ) → ((i : ℕ) → Contains (under listing n i) j → ⊥) → text_in cur j ≡ text_in stored j)
     → option_map string_bytes text ≡ text_by kept.workspace rules m (list_under kept listing (text_in stored) n)
@@ -84,7 +84,7 @@ run-more kept listing rules is n m stored cur text was now at run counted left m
           (clash (clashes_from kept listing (texts_of kept listing rules) (n + 1)) run.first));
     }
 
-pub run-starts : (kept : Kept) (listing : Listing) (rules : List ResolvedKind) (n : ℕ) (stored : List (Option (String Global))) (clash : Option Clash)
+pub run-starts : (kept : Kept) (listing : Listing) (rules : List ResolvedRule) (n : ℕ) (stored : List (Option (String Global))) (clash : Option Clash)
     → n ≡ length kept.matches → length stored ≡ n → clash ≡ None → IsRun kept listing rules n stored clash
 run-starts kept listing rules n stored clash all counted none = record {
   counted = counted ∙ all;
@@ -94,7 +94,7 @@ run-starts kept listing rules n stored clash all counted none = record {
 }
 
 -- what is stored for the outermost ones in the end are the texts
-pub outermost_known : (kept : Kept) (listing : Listing) (rules : List ResolvedKind) → IsNest kept listing → (stored : List (Option (String Global))) (clash : Option Clash)
+pub outermost_known : (kept : Kept) (listing : Listing) (rules : List ResolvedRule) → IsNest kept listing → (stored : List (Option (String Global))) (clash : Option Clash)
     → IsRun kept listing rules 0 stored clash → list_at kept (text_in stored) (listed listing None) ≡ outermost_list kept listing (texts_of kept listing rules)
 outermost_known kept listing rules is stored clash run =
     list_same kept (text_in stored) (texts_of kept listing rules) (listed listing None) (λ j h.
@@ -102,7 +102,7 @@ outermost_known kept listing rules is stored clash run =
 
 -- ** The answer.
 
-pub first_of_all : (kept : Kept) (listing : Listing) (rules : List ResolvedKind) → IsNest kept listing → (stored : List (Option (String Global))) (was first now : Option Clash) (list : List Rewrite)
+pub first_of_all : (kept : Kept) (listing : Listing) (rules : List ResolvedRule) → IsNest kept listing → (stored : List (Option (String Global))) (was first now : Option Clash) (list : List Rewrite)
     → IsRun kept listing rules 0 stored was → list ≡ list_at kept (text_in stored) (listed listing None) → IsFirst (clashes list) first → now ≡ lesser first was
     → IsFirst (all_clashes kept listing (texts_of kept listing rules)) now
 first_of_all kept listing rules is stored was first now list run taken told noted =
@@ -111,7 +111,7 @@ first_of_all kept listing rules is stored was first now list run taken told note
     (IsFirst-append (clashes (outermost_list kept listing (texts_of kept listing rules))) (clashes_from kept listing (texts_of kept listing rules) 0) first was
     (subst (λ (list : List Rewrite). IsFirst (clashes list) first) here told) run.first)
 
-pub edited : (kept : Kept) (listing : Listing) (rules : List ResolvedKind) → IsNest kept listing → (stored : List (Option (String Global))) (was now : Option Clash) (list : List Rewrite) (edits : BTreeMap FileId (List Change))
+pub edited : (kept : Kept) (listing : Listing) (rules : List ResolvedRule) → IsNest kept listing → (stored : List (Option (String Global))) (was now : Option Clash) (list : List Rewrite) (edits : BTreeMap FileId (List Change))
     → IsRun kept listing rules 0 stored was → list ≡ list_at kept (text_in stored) (listed listing None) → IsFirst (all_clashes kept listing (texts_of kept listing rules)) now → now ≡ None
     → ((file : FileId) → get file_cmp edits file ≡ edit_of file.0 list) → Answers kept listing rules (Ok edits)
 edited kept listing rules is stored was now list edits run taken first none each = (
@@ -123,10 +123,10 @@ edited kept listing rules is stored was now list edits run taken first none each
   ),
 )
 
-pub clashed : (kept : Kept) (listing : Listing) (rules : List ResolvedKind) → IsNest kept listing → (earlier later : FileRange) (now : Option Clash)
+pub clashed : (kept : Kept) (listing : Listing) (rules : List ResolvedRule) → IsNest kept listing → (earlier later : FileRange) (now : Option Clash)
     → IsFirst (all_clashes kept listing (texts_of kept listing rules)) now → now ≡ Some (clash_of (earlier, later)) → Answers kept listing rules (Err (errors.Clash earlier later))
 clashed kept listing rules is earlier later now first e =
     (texts_of kept listing rules, are_texts kept listing rules is, subst (IsFirst (all_clashes kept listing (texts_of kept listing rules))) e first)
 
-pub no_memory : (kept : Kept) (listing : Listing) (rules : List ResolvedKind) → IsNest kept listing → (result : Result (BTreeMap FileId (List Change)) EditError) → result ≡ Err errors.Memory → Answers kept listing rules result
+pub no_memory : (kept : Kept) (listing : Listing) (rules : List ResolvedRule) → IsNest kept listing → (result : Result (BTreeMap FileId (List Change)) EditError) → result ≡ Err errors.Memory → Answers kept listing rules result
 no_memory kept listing rules is result e = subst (Answers kept listing rules) (sym e) (texts_of kept listing rules, are_texts kept listing rules is, tt)

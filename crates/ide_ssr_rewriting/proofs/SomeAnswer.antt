@@ -17,7 +17,7 @@ use Rattle.ssr_base_trees.specs.declared.ids.FileId.{FileId}
 use Rattle.ssr_base_trees.specs.declared.ids.FileRange.{FileRange}
 use Rattle.ssr_base_trees.specs.Changes.{Change}
 use Rattle.ssr_base_trees.specs.Workspace.{FileSpan, original_range, trees}
-use Rattle.ide_ssr_resolving.specs.Resolved.{ResolvedKind}
+use Rattle.ide_ssr_resolved_rule.specs.Resolved.{ResolvedRule}
 use Rattle.ide_ssr_bindings.specs.Found.{FoundMatch, HasByte, IsMatch}
 use Rattle.ide_ssr_nesting.specs.Holding.{IsKept, Kept}
 use Rattle.ide_ssr_nesting.specs.Lists.{AreLists, Listing, listed, range_of}
@@ -151,7 +151,7 @@ module _ (kept : Kept) (known : IsKept kept) where
           clashes_forward (list_at kept texts places)
           (All-map (λ r. IsForward r.range) (λ n. record { range = range_at kept n; text = texts n }) places (λ i d within. at_forward _))
 
-  pub answer_exists : (lists : Listing) (rules : List ResolvedKind) → AreLists kept lists → AnswerExists kept lists rules
+  pub answer_exists : (lists : Listing) (rules : List ResolvedRule) → AreLists kept lists → AnswerExists kept lists rules
   answer_exists lists rules are = by (texts_of kept lists rules) (are_texts kept lists rules (is_nest kept lists known are))
     where
       by : (texts : Texts) → AreTexts kept lists rules texts → AnswerExists kept lists rules

@@ -9,8 +9,8 @@ use Rattle.ssr_syntax_tree.specs.Syntax.{Syntax, node_count, tokens_of}
 use Rattle.ssr_syntax_tree.specs.Places.{Node, nodes_of, node_of, token_of, start_of, end_of, IsAbove, HasNode, HasToken}
 use Rattle.ssr_syntax_tree.proofs.Shared.{node_of-number, start_of-below, end_of-below, length-nodes_of}
 use Rattle.std.proofs.lemmas.Bool.{cases_lt}
-use Rattle.ide_ssr_resolving.specs.Resolved.{ResolvedKind}
-use Rattle.ide_ssr_rules.specs.StandIns.{name_at}
+use Rattle.ide_ssr_resolved_rule.specs.Resolved.{ResolvedRule}
+use Rattle.ide_ssr_resolved_rule.specs.StandIns.{name_at}
 use Rattle.ide_ssr_rewriting.specs.Rendering.{text_for, plain, is_node, wrapped, wrapped_text}
 use Rattle.ide_ssr_rewriting.proofs.Tokens.{tokens_from}
 
@@ -18,11 +18,11 @@ use Rattle.ide_ssr_rewriting.proofs.Tokens.{tokens_from}
 pub pushed : (old new text left rest whole : List ℕ) → old ++ left ≡ whole → left ≡ text ++ rest → new ≡ old ++ text → new ++ rest ≡ whole
 pushed old new text left rest whole is so e = rw (e, append_assoc, ← so) is
 
-pub plain_from : (rule : ResolvedKind) (piece : ℕ → List ℕ) (tree : Syntax) (t : ℕ) → HasToken tree t
+pub plain_from : (rule : ResolvedRule) (piece : ℕ → List ℕ) (tree : Syntax) (t : ℕ) → HasToken tree t
     → plain rule piece (drop t (tokens_of tree)) ≡ text_for rule piece (token_of tree t) ++ plain rule piece (drop (t + 1) (tokens_of tree))
 plain_from rule piece tree t h = ap (plain rule piece) (tokens_from tree t h)
 
-pub wrapped_from : (read : Syntax) (front : ℕ) (rule : ResolvedKind) (piece : ℕ → List ℕ) (at : ℕ) (tree : Syntax) (t : ℕ) → HasToken tree t
+pub wrapped_from : (read : Syntax) (front : ℕ) (rule : ResolvedRule) (piece : ℕ → List ℕ) (at : ℕ) (tree : Syntax) (t : ℕ) → HasToken tree t
     → wrapped read front rule piece at (drop t (tokens_of tree))
     ≡ wrapped_text read front (is_some (name_at rule.names (token_of tree t))) at (text_for rule piece (token_of tree t))
     ++ wrapped read front rule piece (at + length (text_for rule piece (token_of tree t))) (drop (t + 1) (tokens_of tree))

@@ -9,7 +9,7 @@ use Rattle.ssr_syntax_tree.specs.Syntax.{source_of}
 use Rattle.ssr_base_trees.specs.declared.ids.FileId.{FileId}
 use Rattle.ssr_base_trees.specs.Changes.{Change, FitsText}
 use Rattle.ssr_base_trees.specs.Workspace.{FileSpan, Workspace, trees}
-use Rattle.ide_ssr_resolving.specs.Resolved.{ResolvedKind}
+use Rattle.ide_ssr_resolved_rule.specs.Resolved.{ResolvedRule}
 use Rattle.ide_ssr_bindings.specs.Found.{FoundMatch, held_range}
 use Rattle.ide_ssr_nesting.specs.Holding.{Kept}
 use Rattle.ide_ssr_nesting.specs.Lists.{Listing, listed, range_of}
@@ -48,7 +48,7 @@ outermost_list kept lists texts = list_at kept texts (listed lists None)
 
 -- What stands for a match that has these lists under its placeholders, by the places of their bindings: a text exactly if each of
 -- them can be made, also one under a placeholder that the template doesn't use.
-abbrev pub text_by : Workspace → List ResolvedKind → FoundMatch → (ℕ → List Rewrite) → Option (List ℕ)
+abbrev pub text_by : Workspace → List ResolvedRule → FoundMatch → (ℕ → List Rewrite) → Option (List ℕ)
 text_by w rules m lists =
     let bound = enumerate_from 0 m.bindings in
     if list_all (λ p. is_clean (lists p.0)) bound
@@ -56,7 +56,7 @@ text_by w rules m lists =
     else None
 
 -- The texts are those that stand for the matches. There are such ones, and no others, as the law `laws::rewriting` says.
-abbrev pub AreTexts : Kept → Listing → List ResolvedKind → Texts → Type 0
+abbrev pub AreTexts : Kept → Listing → List ResolvedRule → Texts → Type 0
 AreTexts kept lists rules texts = (n : ℕ) (m : FoundMatch) → slice_get kept.matches n ≡ Some m → texts n ≡ text_by kept.workspace rules m (list_under kept lists texts n)
 
 -- ** The clashes.
@@ -94,7 +94,7 @@ IsAnswer kept lists texts (Err errors.NoTemplate) = ⊥
 IsAnswer kept lists texts (Err errors.Memory) = ⊤
 
 -- the answer to kept matches, their lists and the rules
-abbrev pub Answers : Kept → Listing → List ResolvedKind → Result (BTreeMap FileId (List Change)) EditError → Type 0
+abbrev pub Answers : Kept → Listing → List ResolvedRule → Result (BTreeMap FileId (List Change)) EditError → Type 0
 Answers kept lists rules result = (texts : Texts) × AreTexts kept lists rules texts × IsAnswer kept lists texts result
 
 -- each file with an edit is one of the workspace, and each change of it begins and ends between two characters of its text

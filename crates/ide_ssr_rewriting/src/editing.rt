@@ -23,7 +23,7 @@ use crate::clashes::{Rewrite, changes_made, first_clash};
 use crate::replacements::{piece, text_of_match};
 use ide_ssr_bindings::FoundMatch;
 use ide_ssr_nesting::{KeptMatches, Lists};
-use ide_ssr_resolving::ResolvedRule;
+use ide_ssr_resolved_rule::ResolvedRule;
 use ssr_base_trees::{FileId, FileRange, TextEdit, Trees};
 use ssr_syntax_kinds::TextRange;
 use std::alloc::{AllocError, Global};

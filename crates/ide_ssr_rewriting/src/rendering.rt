@@ -5,11 +5,11 @@ ghost use Rattle.std.specs.Cow.{cow_str_bytes};
 ghost use Rattle.std.specs.List.{position};
 ghost use Rattle.ssr_syntax_tree.specs.Syntax.{node_count, tokens_of};
 ghost use Rattle.ssr_syntax_tree.specs.Places.{HasNode, HasToken, node_of, token_of};
-ghost use Rattle.ide_ssr_rules.specs.StandIns.{name_at};
+ghost use Rattle.ide_ssr_resolved_rule.specs.StandIns.{name_at};
 ghost use Rattle.ide_ssr_rewriting.specs.Rendering.{piece_of, text_for, plain, is_node, wrapped_text, wrapped, takes_parentheses, rendered};
 
 use ide_ssr_bindings::Binding;
-use ide_ssr_resolving::ResolvedRule;
+use ide_ssr_resolved_rule::ResolvedRule;
 use ssr_syntax::{Fragment, SyntaxError, fragment};
 use ssr_syntax_kinds::TextRange;
 use ssr_syntax_tree::{NodeNo, TokenNo, Tree};

@@ -14,7 +14,7 @@ use crate::clashes::{Rewrite, changes_made};
 use crate::comments::{kept_comments, push_comments};
 use crate::rendering::rendered;
 use ide_ssr_bindings::FoundMatch;
-use ide_ssr_resolving::ResolvedRule;
+use ide_ssr_resolved_rule::ResolvedRule;
 use ssr_base_trees::{FileId, FileRange, Trees};
 use ssr_syntax_kinds::TextRange;
 use std::alloc::{AllocError, Global};

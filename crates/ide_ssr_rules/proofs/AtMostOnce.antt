@@ -12,10 +12,12 @@ use Rattle.ssr_syntax.specs.Reading.{fragment_reading}
 use Rattle.ssr_syntax_tree.specs.Syntax.{Syntax}
 use Rattle.ide_ssr_rules.specs.declared.elements.Element.{Element}
 use Rattle.ide_ssr_rules.specs.declared.elements.Element.TheVariants as e
-use Rattle.ide_ssr_rules.specs.Elements.{has, names_of}
-use Rattle.ide_ssr_rules.specs.Patterns.{placeholders_among, HasEachAtMostOnce}
-use Rattle.ide_ssr_rules.specs.StandIns.{stand_in_of, read_as, code_of, name_at, stand_in_text, spelled_stand_in}
-use Rattle.ide_ssr_rules.specs.Uses.{AreNew}
+use Rattle.ide_ssr_resolved_rule.specs.Names.{has, AreNew}
+use Rattle.ide_ssr_rules.specs.Elements.{names_of}
+use Rattle.ide_ssr_resolved_rule.specs.Patterns.{placeholders_among}
+use Rattle.ide_ssr_rules.specs.Patterns.{HasEachAtMostOnce}
+use Rattle.ide_ssr_resolved_rule.specs.StandIns.{stand_in_of, name_at}
+use Rattle.ide_ssr_rules.specs.StandIns.{read_as, code_of, stand_in_text, spelled_stand_in}
 use Rattle.ide_ssr_rules.proofs.Lists.{all_with}
 use Rattle.ide_ssr_rules.proofs.EachOnce.{unnamed, stand_in, neither_of, tree_among, IsSide, side_fits}
 

@@ -7,10 +7,10 @@ use Rattle.std.specs.Prelude.{if◌then◌else◌}
 use Rattle.std.specs.Option.{option_map_or}
 use Rattle.ssr_syntax_kinds.specs.Kinds.{is_ident}
 use Rattle.ssr_syntax_tree.specs.Places.{Part, token_part, node_part}
-use Rattle.ide_ssr_rules.specs.Elements.{has}
+use Rattle.ide_ssr_resolved_rule.specs.Names.{has}
 use Rattle.ide_ssr_rules.specs.MacroCalls.{is_spelled}
 use Rattle.ide_ssr_rules.specs.Private.MacroCalls.{HasAlso, ident_text, in_part}
-use Rattle.ide_ssr_rules.specs.StandIns.{stand_in_of}
+use Rattle.ide_ssr_resolved_rule.specs.StandIns.{stand_in_of}
 
 -- texts are equal in either order
 eq_turned : (a b : List ℕ) → bytes_eq a b ≡ bytes_eq b a

@@ -15,15 +15,18 @@ use Rattle.ssr_syntax_kinds.specs.Kinds.{same_kind, is_ident}
 use Rattle.ssr_syntax_kinds.proofs.Shared.{same_kind-equal}
 use Rattle.ssr_syntax_tree.specs.Syntax.{Token, Syntax, tokens_of, spelled, same_token}
 use Rattle.ssr_syntax_kinds.specs.declared.fragment.Fragment.{Fragment}
-use Rattle.ssr_syntax.specs.Reading.{pieces, fragment_reading, FitsFragment}
+use Rattle.ssr_syntax_rows.specs.Solid.{pieces}
+use Rattle.ssr_syntax.specs.Reading.{fragment_reading, FitsFragment}
 use Rattle.ssr_syntax.specs.Identifiers.{idents}
 use Rattle.ssr_syntax.proofs.Shared.{fragment_sound, fragment_idents, fragment_alone, length-token, tiles_within, spelled-pieces, IsUtf8-trim, trim_shorter}
 use Rattle.ide_ssr_rules.specs.declared.elements.Element.{Element}
 use Rattle.ide_ssr_rules.specs.declared.elements.Element.TheVariants as e
-use Rattle.ide_ssr_rules.specs.Elements.{has, lexed, names_of}
-use Rattle.ide_ssr_rules.specs.Patterns.{placeholders_among, IsReadOnce}
-use Rattle.ide_ssr_rules.specs.StandIns.{stand_in_of, read_as, code_of, first_glued, first_name, glued_placeholder, is_stand_in, name_at, stand_in_text, spelled_stand_in}
-use Rattle.ide_ssr_rules.specs.Uses.{AreNew}
+use Rattle.ide_ssr_resolved_rule.specs.Names.{has, AreNew}
+use Rattle.ide_ssr_rules.specs.Elements.{lexed, names_of}
+use Rattle.ide_ssr_resolved_rule.specs.Patterns.{placeholders_among}
+use Rattle.ide_ssr_rules.specs.Patterns.{IsReadOnce}
+use Rattle.ide_ssr_resolved_rule.specs.StandIns.{stand_in_of, is_stand_in, name_at}
+use Rattle.ide_ssr_rules.specs.StandIns.{read_as, code_of, first_glued, first_name, glued_placeholder, stand_in_text, spelled_stand_in}
 use Rattle.ide_ssr_rules.proofs.Named.{over_idents}
 
 -- ** The tokens are those that are read for the elements.

@@ -15,7 +15,7 @@ use Rattle.ide_ssr_refusals.specs.declared.refusals.Refusal.{Refusal}
 use Rattle.ide_ssr_refusals.specs.Refusals.{◌>>=◌, unless}
 use Rattle.ide_ssr_rules.specs.Rules.{check_sides, written}
 use Rattle.ide_ssr_rules.specs.StandIns.{code_of, glued_placeholder, spelled_stand_in}
-use Rattle.ide_ssr_rules.specs.Uses.{AreNew}
+use Rattle.ide_ssr_resolved_rule.specs.Names.{AreNew}
 use Rattle.ide_ssr_rules.proofs.AtMostOnce.{template_at_most}
 use Rattle.ide_ssr_rules.proofs.EachOnce.{IsSide, pattern_each, stays_trimmed}
 use Rattle.ide_ssr_rules.proofs.KindsRead.{IsTemplateFrom, IsKindFrom, kinds_read}

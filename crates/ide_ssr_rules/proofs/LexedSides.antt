@@ -8,7 +8,8 @@ use Rattle.std.specs.Str.{IsCharBoundary}
 use Rattle.std.proofs.lemmas.Bool.Decides.{nat_tests}
 use Rattle.ssr_syntax_lex.specs.declared.tokens.RawToken.{RawToken}
 use Rattle.ssr_syntax_lex.specs.Tokens.{tokens, fault, HasNoTokens, TellsFault, TilesFrom, Tiles}
-use Rattle.ssr_syntax.specs.Reading.{pieces, IsLexFault}
+use Rattle.ssr_syntax_rows.specs.Solid.{pieces}
+use Rattle.ssr_syntax.specs.Reading.{IsLexFault}
 use Rattle.ssr_syntax.specs.declared.syntax_error.SyntaxError.{SyntaxError}
 use Rattle.ssr_syntax.specs.declared.syntax_error.SyntaxError.TheVariants as unread
 use Rattle.ssr_syntax.proofs.Shared.{boundary, tiles_count}

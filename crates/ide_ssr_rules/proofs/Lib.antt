@@ -7,7 +7,6 @@ mod StandIns
 mod Chains
 mod Uses
 mod Named
-mod NamePlaces
 mod CalledNames
 mod EachOnce
 mod AtMostOnce
@@ -15,4 +14,8 @@ mod Lists
 mod KindsRead
 mod KindUses
 mod Templates
+mod Patterns
+mod KindByKind
+mod ResolvedUses
+mod ResolvedTemplates
 pub mod Shared

@@ -1,15 +1,12 @@
 -- Only identifiers are placeholders.
-use Rattle.std.proofs.Common.{◌≡◌, ℕ, Bool, true, false, cond, List, [], ◌∷◌, None, refl, ◌∙◌, ap}
+use Rattle.std.proofs.Common.{◌≡◌, ℕ, Bool, true, false, cond, List, [], ◌∷◌, refl, ◌∙◌, ap}
 use Rattle.std.specs.List.{cons_option}
 use Rattle.ssr_syntax_tree.specs.Syntax.{Token}
 use Rattle.ssr_syntax_kinds.specs.Kinds.{is_ident}
 use Rattle.ssr_syntax.specs.Identifiers.{idents}
-use Rattle.ide_ssr_rules.specs.Patterns.{placeholders_among}
-use Rattle.ide_ssr_rules.specs.StandIns.{name_at}
-
-pub not_named : (names : List (List ℕ)) (token : Token) → is_ident token.kind ≡ false → name_at names token ≡ None
-unfolding name_at
-not_named names token h = rw h refl
+use Rattle.ide_ssr_resolved_rule.specs.Patterns.{placeholders_among}
+use Rattle.ide_ssr_resolved_rule.specs.StandIns.{name_at}
+use Rattle.ide_ssr_resolved_rule.proofs.Shared.{not_named}
 
 ident_or_not : (names : List (List ℕ)) (token : Token) (found : List Token) (rest : List ℕ) (b : Bool) → is_ident token.kind ≡ b
     → rest ≡ placeholders_among names found → cons_option (name_at names token) rest ≡ placeholders_among names (cond b (token ∷ found) found)

@@ -2,12 +2,12 @@
 use Rattle.std.proofs.Common.{◌≡◌, ℕ, zero, suc, ◌+◌, ◌-◌, ◌≤◌, Bool, true, false, cond, List, [], ◌∷◌, ◌++◌, length, Result, Ok, Err, bytes_eq, codes, refl, sym, ◌∙◌, ap, subst, arith, append_assoc, append-nil}
 use Rattle.ssr_syntax_kinds.specs.Kinds.{is_ident}
 use Rattle.ssr_syntax_tree.specs.Syntax.{Token}
-use Rattle.ide_ssr_constraints.specs.declared.constraints.Constraint.{Constraint}
-use Rattle.ide_ssr_constraints.specs.declared.constraints.Constraint.TheVariants as c
+use Rattle.ide_ssr_resolved_rule.specs.declared.constraints.Constraint.{Constraint}
+use Rattle.ide_ssr_resolved_rule.specs.declared.constraints.Constraint.TheVariants as c
 use Rattle.ide_ssr_refusals.specs.declared.error.SsrError.{SsrError}
 use Rattle.ide_ssr_refusals.specs.declared.error.SsrError.TheVariants as errors
 use Rattle.ide_ssr_refusals.specs.declared.refusals.Refusal.TheVariants as r
-use Rattle.ide_ssr_constraints.specs.Constraints.{contrary}
+use Rattle.ide_ssr_resolved_rule.specs.Constraints.{contrary}
 use Rattle.ide_ssr_rules.specs.Constraints.{Taken, Placeholder, bracket, kind_name, constraint_on, on_kind, by_word, on_not, worded, constraint, most_nots, is_colon, opens, closes, in_front, constraints_within, constraints, named, braced, named_placeholder}
 use Rattle.ide_ssr_refusals.specs.declared.refusals.Refusal.{Refusal}
 use Rattle.ide_ssr_refusals.specs.Refusals.{TellsOf, ◌>>=◌}

@@ -7,7 +7,8 @@ use Rattle.ide_ssr_refusals.specs.declared.error.SsrError.{SsrError}
 use Rattle.ide_ssr_refusals.specs.declared.error.SsrError.TheVariants as errors
 use Rattle.ide_ssr_refusals.specs.declared.refusals.Refusal.TheVariants as r
 use Rattle.ide_ssr_rules.specs.Constraints.{Placeholder, named_placeholder}
-use Rattle.ide_ssr_rules.specs.Elements.{is_dollar, has, with_new_name, new_placeholder, after, elements_within, elements}
+use Rattle.ide_ssr_rules.specs.Elements.{is_dollar, with_new_name, new_placeholder, after, elements_within, elements}
+use Rattle.ide_ssr_resolved_rule.specs.Names.{has}
 use Rattle.ide_ssr_refusals.specs.declared.refusals.Refusal.{Refusal}
 use Rattle.ide_ssr_refusals.specs.Refusals.{TellsOf, ◌>>=◌}
 use Rattle.ide_ssr_rules.proofs.ReadingConstraints.{IsShorter, placeholder_shorter, same_next}

@@ -1,23 +1,14 @@
 -- Elements beside the tokens that are read for them.
-use Rattle.std.proofs.Common.{◌≡◌, ℕ, zero, suc, ◌+◌, ◌<◌, Bool, cond, List, [], ◌∷◌, length, drop, get_or, Option, Some, None, refl, ap, ◌∙◌, sym, arith, true, false, bytes_eq, codes}
+use Rattle.std.proofs.Common.{◌≡◌, ℕ, zero, suc, ◌+◌, ◌<◌, Bool, cond, List, [], ◌∷◌, length, drop, get_or, Option, Some, None, refl, ap, ◌∙◌, sym, arith, true, false}
 use Rattle.std.proofs.Math.Seq.{drop-nil}
 use Rattle.std.proofs.lemmas.List.{drop_more}
-use Rattle.std.proofs.lemmas.Bool.Decides.{same_from_decides}
-use Rattle.std.specs.Bool.{Decides}
 use Rattle.std.specs.List.{slice_get}
-use Rattle.std.proofs.lemmas.Slice.Eq.{bytes_eq-Decides}
 use Rattle.std.specs.Option.{option_map_or}
 use Rattle.std.specs.Str.{trim}
-use Rattle.std.specs.Str.Pattern.{LacksTextAt}
 use Rattle.ssr_syntax_tree.specs.Syntax.{Token, same_token}
 use Rattle.ide_ssr_rules.specs.declared.elements.Element.{Element}
 use Rattle.ide_ssr_rules.specs.Elements.{lexed}
-use Rattle.ide_ssr_rules.specs.StandIns.{code_of, read_as, glued_placeholder, stand_in_of, first_glued, first_name}
-
-pub no_stand_in : (text name : List ℕ) → LacksTextAt (codes "__placeholder_") text 0 → false ≡ bytes_eq text (stand_in_of name)
-no_stand_in text name lacks =
-    let never : Decides false (text ≡ stand_in_of name) = (λ wrong. cc, λ is. absurd (lacks name is)) in
-    same_from_decides false (bytes_eq text (stand_in_of name)) never (bytes_eq-Decides text (stand_in_of name))
+use Rattle.ide_ssr_rules.specs.StandIns.{code_of, read_as, glued_placeholder, first_glued, first_name}
 
 -- ** The placeholders of a text that is lexed.
 

@@ -7,7 +7,8 @@ use Rattle.ide_ssr_rules.specs.declared.elements.Element.TheVariants as e
 use Rattle.ide_ssr_rules.specs.declared.kinds.ParsedRule.{ParsedRule}
 use Rattle.ide_ssr_refusals.specs.declared.refusals.Refusal.TheVariants as r
 use Rattle.ide_ssr_rules.specs.Constraints.{Placeholder, Taken, named_placeholder}
-use Rattle.ide_ssr_rules.specs.Elements.{is_dollar, has, after, with_new_name, new_placeholder, elements_within, elements, lexed, fault_in, side, names_of, constraints_of}
+use Rattle.ide_ssr_rules.specs.Elements.{is_dollar, after, with_new_name, new_placeholder, elements_within, elements, lexed, fault_in, side, names_of, constraints_of}
+use Rattle.ide_ssr_resolved_rule.specs.Names.{has, AreNew}
 use Rattle.ide_ssr_rules.specs.Kinds.{kinds_of, some_kind}
 use Rattle.ide_ssr_rules.specs.MacroCalls.{untested}
 use Rattle.ide_ssr_refusals.specs.declared.refusals.Refusal.{Refusal}
@@ -15,7 +16,7 @@ use Rattle.ide_ssr_refusals.specs.Refusals.{◌>>=◌, unless}
 use Rattle.ide_ssr_rules.specs.Rules.{Rule, rule_of, rule_reading, check_sides, check_uses, check_defined, unconstrained, none_of, lacking, written}
 use Rattle.ide_ssr_rules.specs.Sides.{sides}
 use Rattle.ide_ssr_rules.specs.StandIns.{code_of}
-use Rattle.ide_ssr_rules.specs.Uses.{AreNew, UsesPlaceholdersOnce}
+use Rattle.ide_ssr_rules.specs.Uses.{UsesPlaceholdersOnce}
 use Rattle.ide_ssr_rules.proofs.Chains.{rule_with, after_kinds, after_sides}
 use Rattle.ide_ssr_rules.proofs.ReadingElements.{behind_dollar}
 use Rattle.ide_ssr_refusals.proofs.Shared.{went}

@@ -4,9 +4,9 @@ use Rattle.ssr_syntax_kinds.specs.declared.kinds.SyntaxKind.{SyntaxKind}
 use Rattle.ssr_syntax_kinds.specs.declared.kinds.SyntaxKind.TheVariants as k
 use Rattle.ssr_syntax_kinds.specs.Kinds.{is_ident}
 use Rattle.ssr_syntax_tree.specs.Syntax.{Token}
-use Rattle.ide_ssr_constraints.specs.declared.constraints.Constraint.{Constraint}
-use Rattle.ide_ssr_constraints.specs.declared.constraints.Constraint.TheVariants as c
-use Rattle.ide_ssr_constraints.specs.Constraints.{contrary}
+use Rattle.ide_ssr_resolved_rule.specs.declared.constraints.Constraint.{Constraint}
+use Rattle.ide_ssr_resolved_rule.specs.declared.constraints.Constraint.TheVariants as c
+use Rattle.ide_ssr_resolved_rule.specs.Constraints.{contrary}
 use Rattle.ide_ssr_refusals.specs.declared.refusals.Refusal.TheVariants as r
 use Rattle.ide_ssr_refusals.specs.declared.refusals.Refusal.{Refusal}
 use Rattle.ide_ssr_refusals.specs.Refusals.{◌>>=◌}

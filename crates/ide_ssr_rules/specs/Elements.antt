@@ -1,21 +1,22 @@
 -- The elements of a side: its tokens and placeholders.
-use Rattle.std.specs.Prelude.{ℕ, zero, suc, Bool, true, false, ◌^◌, nat_lt, List, [], ◌∷◌, ◌++◌, length, Option, Some, None, Result, Ok, Err, bytes_eq, unwrap_or, if◌then◌else◌}
-use Rattle.std.specs.List.{list_any, filter_map}
+use Rattle.std.specs.Prelude.{ℕ, zero, suc, Bool, true, false, ◌^◌, nat_lt, List, [], ◌∷◌, ◌++◌, length, Option, Some, None, Result, Ok, Err, unwrap_or, if◌then◌else◌}
+use Rattle.std.specs.List.{filter_map}
 use Rattle.std.specs.Option.{option_map, option_map_or}
 use Rattle.ssr_syntax_kinds.specs.declared.kinds.SyntaxKind.{SyntaxKind}
 use Rattle.ssr_syntax_kinds.specs.declared.kinds.SyntaxKind.TheVariants as k
 use Rattle.ssr_syntax_lex.specs.declared.tokens.LexError.TheVariants as errors
 use Rattle.ssr_syntax_lex.specs.Fault.{error_words}
 use Rattle.ssr_syntax_lex.specs.Tokens.{tokens, fault}
-use Rattle.ssr_syntax.specs.Reading.{pieces}
+use Rattle.ssr_syntax_rows.specs.Solid.{pieces}
 use Rattle.ssr_syntax_tree.specs.Syntax.{Token}
-use Rattle.ide_ssr_constraints.specs.declared.constraints.Constraint.{Constraint}
+use Rattle.ide_ssr_resolved_rule.specs.declared.constraints.Constraint.{Constraint}
 use Rattle.ide_ssr_rules.specs.declared.elements.Element.{Element}
 use Rattle.ide_ssr_rules.specs.declared.elements.Element.TheVariants as e
 use Rattle.ide_ssr_refusals.specs.declared.refusals.Refusal.TheVariants as r
 use Rattle.ide_ssr_rules.specs.Constraints.{Placeholder, Taken, named_placeholder}
 use Rattle.ide_ssr_refusals.specs.declared.refusals.Refusal.{Refusal}
 use Rattle.ide_ssr_refusals.specs.Refusals.{◌>>=◌}
+use Rattle.ide_ssr_resolved_rule.specs.Names.{has}
 
 -- the tokens of a text; none where the lexer refuses it, for its length too
 unfoldable pub lexed : List ℕ → Option (List Token)
@@ -28,9 +29,6 @@ fault_in text = if nat_lt (length text) (2 ^ 32) then unwrap_or (fault text) [] 
 abbrev pub is_dollar : SyntaxKind → Bool
 is_dollar k.DOLLAR = true
 is_dollar _ = false
-
-abbrev pub has : List (List ℕ) → List ℕ → Bool
-has names name = list_any (bytes_eq name) names
 
 abbrev pub after : Element → Result (List Element) Refusal → Result (List Element) Refusal
 after element (Ok elements) = Ok (element ∷ elements)

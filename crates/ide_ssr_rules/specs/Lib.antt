@@ -9,4 +9,5 @@ pub mod Rules
 pub mod RuleCode
 pub mod Uses
 pub mod Patterns
+pub mod Resolved
 pub mod Private

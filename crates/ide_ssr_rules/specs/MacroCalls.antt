@@ -10,7 +10,8 @@ use Rattle.ide_ssr_rules.specs.declared.elements.Element.{Element}
 use Rattle.ide_ssr_rules.specs.declared.elements.Element.TheVariants as e
 use Rattle.ide_ssr_rules.specs.declared.kinds.ParsedRule.{ParsedRule}
 use Rattle.ide_ssr_rules.specs.Elements.{asks}
-use Rattle.ide_ssr_rules.specs.StandIns.{stand_in_of, first_of}
+use Rattle.ide_ssr_resolved_rule.specs.StandIns.{stand_in_of}
+use Rattle.ide_ssr_rules.specs.StandIns.{first_of}
 
 abbrev pub is_token_tree : SyntaxKind → Bool
 is_token_tree k.TOKEN_TREE = true

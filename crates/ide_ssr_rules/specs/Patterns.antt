@@ -1,16 +1,12 @@
 -- Which placeholders stand among the tokens of a kind's trees: each once in the pattern, at most once in the template.
 use Rattle.std.specs.Prelude.{ℕ, ◌≡◌, ◌≢◌, List, [], length, AllPairs, Option}
-use Rattle.std.specs.List.{filter_map, range_with_len}
+use Rattle.std.specs.List.{range_with_len}
 use Rattle.std.specs.Option.{IfSome}
 use Rattle.ssr_syntax.specs.Identifiers.{IdentsAloneIn}
-use Rattle.ssr_syntax_tree.specs.Syntax.{Token, Syntax, tokens_of}
+use Rattle.ssr_syntax_tree.specs.Syntax.{Syntax, tokens_of}
 use Rattle.ide_ssr_rules.specs.declared.kinds.ParsedRule.{ParsedRule}
-use Rattle.ide_ssr_rules.specs.StandIns.{name_at}
-use Rattle.ide_ssr_rules.specs.Uses.{AreNew}
-
--- the placeholders among tokens, in order: the places of their names
-abbrev pub placeholders_among : List (List ℕ) → List Token → List ℕ
-placeholders_among names tokens = filter_map (name_at names) tokens
+use Rattle.ide_ssr_resolved_rule.specs.Names.{AreNew}
+use Rattle.ide_ssr_resolved_rule.specs.Patterns.{placeholders_among}
 
 -- A pattern's tokens have each placeholder once, in the order of their names, and no two have one name. Each of them is a
 -- node as well, but in the nodes that mix identifiers with other tokens.

@@ -5,8 +5,8 @@ use Rattle.ssr_syntax_kinds.specs.contracts.fragment.Fragment as fragment
 use Rattle.ssr_syntax_kinds.specs.declared.fragment.Fragment.{Fragment}
 use Rattle.ssr_syntax_tree.specs.Syntax.{Syntax}
 use Rattle.ssr_syntax_tree.specs.SyntaxCode.{syntax_code}
-use Rattle.ide_ssr_constraints.specs.contracts.constraints.Constraint as constraint
-use Rattle.ide_ssr_constraints.specs.declared.constraints.Constraint.{Constraint}
+use Rattle.ide_ssr_resolved_rule.specs.contracts.constraints.Constraint as constraint
+use Rattle.ide_ssr_resolved_rule.specs.declared.constraints.Constraint.{Constraint}
 use Rattle.ide_ssr_rules.specs.declared.kinds.ParsedRule.{ParsedRule}
 use Rattle.ide_ssr_rules.specs.Rules.{Rule}
 

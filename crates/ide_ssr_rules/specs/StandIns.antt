@@ -1,6 +1,6 @@
 -- Stand-ins: what is read in a placeholder's place.
-use Rattle.std.specs.Prelude.{ℕ, Bool, ◌&&◌, List, [], ◌∷◌, ◌++◌, Option, Some, None, bytes_eq, codes, unwrap_or, if◌then◌else◌}
-use Rattle.std.specs.List.{list_any, flat_map, position_from}
+use Rattle.std.specs.Prelude.{ℕ, ◌&&◌, List, [], ◌∷◌, Option, Some, None, unwrap_or, if◌then◌else◌}
+use Rattle.std.specs.List.{flat_map}
 use Rattle.std.specs.Option.{option_map_or, option_or}
 use Rattle.std.specs.Str.{trim}
 use Rattle.ssr_syntax_kinds.specs.declared.kinds.SyntaxKind.TheVariants as k
@@ -9,9 +9,7 @@ use Rattle.ssr_syntax_kinds.specs.Kinds.{is_ident}
 use Rattle.ide_ssr_rules.specs.declared.elements.Element.{Element}
 use Rattle.ide_ssr_rules.specs.declared.elements.Element.TheVariants as e
 use Rattle.ide_ssr_rules.specs.Elements.{lexed, name_of}
-
-abbrev pub stand_in_of : List ℕ → List ℕ
-stand_in_of name = codes "__placeholder_" ++ name
+use Rattle.ide_ssr_resolved_rule.specs.StandIns.{stand_in_of, is_stand_in}
 
 -- the token that is read for an element
 abbrev pub read_as : Element → Token
@@ -44,13 +42,6 @@ first_glued (element ∷ elements) (token ∷ tokens) =
 -- taken without white space around it, as its kinds are read.
 unfoldable pub glued_placeholder : List Element → Option (List ℕ)
 glued_placeholder elements = option_map_or (first_glued elements) (lexed (trim (code_of elements))) (Some (first_name elements))
-
-abbrev pub is_stand_in : List (List ℕ) → List ℕ → Bool
-is_stand_in names text = list_any (λ name. bytes_eq text (stand_in_of name)) names
-
--- which name's stand-in a token is
-unfoldable pub name_at : List (List ℕ) → Token → Option ℕ
-name_at names token = if is_ident token.kind then position_from (λ name. bytes_eq token.text (stand_in_of name)) 0 names else None
 
 -- an identifier's text, where it is spelled as a stand-in of one of the names
 abbrev pub stand_in_text : List (List ℕ) → Element → Option (List ℕ)

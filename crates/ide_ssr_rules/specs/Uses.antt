@@ -1,14 +1,10 @@
 -- How an accepted rule uses its placeholders: each once in the pattern, at most once in the template.
-use Rattle.std.specs.Prelude.{◌≡◌, ℕ, List, [], ◌∷◌, ◌++◌, false, Ok}
+use Rattle.std.specs.Prelude.{◌≡◌, ℕ, List, [], Ok}
 use Rattle.ide_ssr_rules.specs.declared.elements.Element.{Element}
-use Rattle.ide_ssr_rules.specs.Elements.{has, side, names_of}
+use Rattle.ide_ssr_rules.specs.Elements.{side, names_of}
 use Rattle.ide_ssr_rules.specs.Rules.{Rule, lacking}
 use Rattle.ide_ssr_rules.specs.Sides.{sides}
-
--- no name stands twice among these, and none of them is among the names before
-abbrev pub AreNew : List (List ℕ) → List (List ℕ) → Type 0
-AreNew before [] = Unit {0}
-AreNew before (name ∷ names) = (has before name ≡ false) × AreNew (before ++ name ∷ []) names
+use Rattle.ide_ssr_resolved_rule.specs.Names.{AreNew}
 
 -- the sides of an accepted rule: no placeholder stands twice on one, and the template has none that the pattern lacks
 pub record UsesPlaceholdersOnce (text : List ℕ) (rule : Rule) : Type 0 where

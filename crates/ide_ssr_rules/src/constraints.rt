@@ -3,9 +3,9 @@ ghost use Rattle.std.specs.Prelude.{◌≡◌, IfOk, bytes_eq};
 ghost use Rattle.ide_ssr_rules.specs.Constraints.{bracket, kind_name, on_kind, constraint, constraints, braced, named_placeholder};
 ghost use Rattle.ide_ssr_refusals.specs.Refusals.{AnswersBy};
 
-use crate::tokens::{Name, Tokens};
-use ide_ssr_constraints::{Constraint, ConstraintSet};
+use crate::tokens::Tokens;
 use ide_ssr_refusals::{Refusal, SsrError, Text};
+use ide_ssr_resolved_rule::{Constraint, ConstraintSet, Name};
 use std::alloc::{AllocError, Global};
 use std::marker::Model;
 

@@ -1,4 +1,4 @@
-//! Rules of structural search and replace: rule texts, and the kinds of a rule.
+//! Rules of structural search and replace: rule texts, the kinds of a rule, and what these resolve to.
 #![tactic(auto)]
 
 mod constraints;
@@ -6,7 +6,7 @@ mod elements;
 mod kinds;
 mod listed;
 mod macro_calls;
-mod names;
+mod resolved;
 mod rules;
 mod sides;
 mod stand_ins;
@@ -14,6 +14,6 @@ mod tokens;
 mod var;
 
 pub use kinds::ParsedRule;
-pub use names::Names;
+pub use resolved::{resolve_pattern, resolve_rule};
 pub use rules::{ParsedKinds, SsrPattern, SsrRule, pattern_kinds, rule_kinds};
 pub use var::Var;

@@ -2,7 +2,7 @@
 ghost use Rattle.std.specs.Prelude.{◌≡◌, IfOk, string_bytes};
 ghost use Rattle.ide_ssr_rules.specs.Listed.{mark, listed};
 
-use crate::tokens::Name;
+use ide_ssr_resolved_rule::Name;
 use std::alloc::{AllocError, Global};
 
 /// The names, listed.

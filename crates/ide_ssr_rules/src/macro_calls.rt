@@ -2,15 +2,14 @@
 ghost use Rattle.std.specs.Prelude.{◌≡◌, [], IfOk};
 ghost use Rattle.std.specs.Option.{option_copied};
 ghost use Rattle.ssr_syntax_tree.specs.Places.{HasNode, HasElement, node_of, part_of};
-ghost use Rattle.ide_ssr_rules.specs.Elements.{has};
+ghost use Rattle.ide_ssr_resolved_rule.specs.Names.{has};
 ghost use Rattle.ide_ssr_rules.specs.MacroCalls.{is_token_tree, in_macro_call, untested_name, untested};
 ghost use Rattle.ide_ssr_rules.specs.Private.MacroCalls.{HasAlso, ident_text, in_part, in_node, in_tree};
 ghost use Rattle.ide_ssr_rules.specs.StandIns.{first_of};
 
 use crate::elements::Element;
 use crate::kinds::ParsedRule;
-use crate::names::Names;
-use crate::stand_ins::stand_in_name;
+use ide_ssr_resolved_rule::{Names, stand_in_name};
 use ssr_syntax_kinds::SyntaxKind;
 use ssr_syntax_tree::{Element as Part, NodeNo, Tree};
 use std::alloc::{AllocError, Global};

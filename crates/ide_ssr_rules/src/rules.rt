@@ -9,7 +9,8 @@ ghost use Rattle.ide_ssr_refusals.specs.declared.refusals.Refusal.TheVariants as
 ghost use Rattle.ide_ssr_rules.specs.MacroCalls.{untested};
 ghost use Rattle.ide_ssr_refusals.specs.Refusals.{Answers, AnswersBy, TellsOf, unless};
 ghost use Rattle.ide_ssr_rules.specs.Rules.{lacking, check_sides, check_uses, check_defined, unconstrained, rule_of, rule_reading, pattern_reading};
-ghost use Rattle.ide_ssr_rules.specs.Uses.{AreNew, UsesPlaceholdersOnce};
+ghost use Rattle.ide_ssr_resolved_rule.specs.Names.{AreNew};
+ghost use Rattle.ide_ssr_rules.specs.Uses.{UsesPlaceholdersOnce};
 ghost use Rattle.ide_ssr_rules.specs.StandIns.{code_of, glued_placeholder, spelled_stand_in};
 ghost use Rattle.ide_ssr_rules.specs.Private.Texts.{IsTextOf};
 
@@ -17,12 +18,10 @@ use crate::elements::Element;
 use crate::kinds::{ParsedRule, some_kind};
 use crate::listed::listed;
 use crate::macro_calls::untested;
-use crate::names::Names;
 use crate::sides::{side, sides, with_names};
 use crate::stand_ins::{code_of, first_glued, first_name, spelled_stand_in};
-use crate::tokens::Name;
-use ide_ssr_constraints::ConstraintSet;
 use ide_ssr_refusals::{Refusal, SsrError, Text};
+use ide_ssr_resolved_rule::{ConstraintSet, Name, Names};
 use ssr_syntax::{FragmentText, SyntaxError};
 use std::alloc::{AllocError, Global};
 use std::fmt;

@@ -6,9 +6,9 @@ ghost use Rattle.ide_ssr_rules.specs.Sides.{sides};
 
 use crate::constraints::{Placeholder, read_placeholder};
 use crate::elements::Element;
-use crate::names::Names;
 use crate::tokens::{Token, Tokens, lexed};
 use ide_ssr_refusals::{Fault, Refusal, SsrError, Text};
+use ide_ssr_resolved_rule::Names;
 use ssr_syntax_lex::LexError;
 use std::alloc::{AllocError, Global};
 

@@ -1,30 +1,17 @@
 //! Stand-ins: the identifiers that are read in the place of placeholders.
-ghost use Rattle.std.specs.Prelude.{◌≡◌, ℕ, List, ◌++◌, Some, false, IfOk, OnOk, bytes_eq, slice_get, string_bytes};
+ghost use Rattle.std.specs.Prelude.{◌≡◌, List, ◌++◌, Some, false, IfOk, OnOk, bytes_eq, slice_get, string_bytes};
 ghost use Rattle.std.specs.Option.{option_copied, option_map_or};
 ghost use Rattle.std.specs.Str.{trim};
 ghost use Rattle.ssr_syntax_tree.specs.Syntax.{Token, same_token};
 ghost use Rattle.ide_ssr_rules.specs.Elements.{lexed};
-ghost use Rattle.ide_ssr_rules.specs.StandIns.{stand_in_of, read_as, code_of, first_name, first_glued, stand_in_text, spelled_stand_in};
+ghost use Rattle.ide_ssr_resolved_rule.specs.StandIns.{stand_in_of};
+ghost use Rattle.ide_ssr_rules.specs.StandIns.{read_as, code_of, first_name, first_glued, stand_in_text, spelled_stand_in};
 
 use crate::elements::Element;
-use crate::names::Names;
 use crate::tokens::Token;
+use ide_ssr_resolved_rule::{Names, STAND_IN_PREFIX, stand_in_name};
 use ssr_syntax::FragmentText;
-use ssr_syntax_kinds::SyntaxKind;
 use std::alloc::{AllocError, Global};
-
-/// What stands before a placeholder's name in the identifier that is read in its place.
-const PREFIX: &str = "__placeholder_";
-
-/// The name whose stand-in a text is.
-pub(crate) fn stand_in_name(text: &str) -> Option<&str>
-    ensures { (name : List ℕ) → bytes_eq text.now (stand_in_of name) ≡ option_map_or (λ rest. bytes_eq rest.now name) result false }
-{
-    match text.strip_prefix(PREFIX) {
-        Some(rest) => Some(rest),
-        None => None,
-    }
-}
 
 /// Whether the text is the stand-in of a name.
 pub(crate) fn is_stand_in_of(text: &str, name: &str) -> bool
@@ -44,7 +31,7 @@ impl<'a> Element<'a> {
         match self {
             Element::Token(token) => code.push_str(token.text),
             Element::Placeholder(placeholder) => {
-                code.push_str(PREFIX)?;
+                code.push_str(STAND_IN_PREFIX)?;
                 code.push_str(placeholder.name())
             }
         }

@@ -102,20 +102,6 @@ impl<'a> Tokens<'a> {
     }
 }
 
-/// The name of a placeholder, without its `$`.
-#[derive(Drop)]
-pub(crate) struct Name<'a> {
-    pub(crate) text: &'a str,
-}
-
-impl<'a> Model for Name<'a> {
-    ghost use Rattle.std.specs.Prelude.{List, ℕ};
-
-    ghost Value = { List ℕ };
-
-    ghost view = { λ name. name.text.now };
-}
-
 /// The tokens of a text.
 pub(crate) fn lexed<'a>(alloc: Global, text: &'a str) -> Result<Vec<Token<'a>>, LexError>
     ensures value { IsLexed result text.now }

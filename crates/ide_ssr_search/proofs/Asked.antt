@@ -19,9 +19,9 @@ use Rattle.ssr_syntax_tree.specs.Places.{Node, Part, token_part, node_part, part
 use Rattle.ssr_syntax_tree.proofs.Shared.{elements_had, parts_of-elements_of}
 use Rattle.ssr_base_trees.specs.Meanings.{Meanings}
 use Rattle.ssr_base_trees.specs.Workspace.{Workspace, trees, node_id}
-use Rattle.ide_ssr_resolving.specs.Resolved.{ResolvedKind}
-use Rattle.ide_ssr_resolving.specs.declared.qualified_calls.QualifiedCall.{QualifiedCall}
-use Rattle.ide_ssr_resolving.specs.Placeholders.{placeholder_at}
+use Rattle.ide_ssr_resolved_rule.specs.Resolved.{ResolvedRule}
+use Rattle.ide_ssr_resolved_rule.specs.declared.qualified_calls.QualifiedCall.{QualifiedCall}
+use Rattle.ide_ssr_resolved_rule.specs.Placeholders.{placeholder_at}
 use Rattle.ide_ssr_bindings.specs.declared.bindings.Binding.{Binding}
 use Rattle.ide_ssr_token_trees.specs.Elements.{closes}
 use Rattle.ide_ssr_matching.specs.Children.{is_left_out, bare}
@@ -88,7 +88,7 @@ counted_bare (token_part t token ∷ rest) =
 counted_bare (node_part node ∷ rest) = counted_bare rest
 
 -- two rows that pair have one and the same
-counted_paired : (m : Meanings) (tree : ℕ) (rule : ResolvedKind) (ps cs : List Part) (bs : List Binding) → Pairs m tree rule ps cs bs
+counted_paired : (m : Meanings) (tree : ℕ) (rule : ResolvedRule) (ps cs : List Part) (bs : List Binding) → Pairs m tree rule ps cs bs
     → first_counted ps ≡ first_counted cs
 counted_paired m tree rule _ _ _ end = refl
 counted_paired m tree rule _ _ _ (tokens t u p c ps cs bs same text rest) =
@@ -98,10 +98,10 @@ counted_paired m tree rule _ _ _ (nodes p c ps cs bs rest here behind) = counted
 
 -- ** What is asked.
 
-pub root_of_placeholder : (rule : ResolvedKind) → IsRootOf rule roots.Placeholder
+pub root_of_placeholder : (rule : ResolvedRule) → IsRootOf rule roots.Placeholder
 root_of_placeholder rule m tree c bindings matches = refl
 
-matched_kind : (m : Meanings) (tree : ℕ) (rule : ResolvedKind) (p c : Node) (bs : List Binding) → placeholder_at rule.names p ≡ None → Matches m tree rule p c bs
+matched_kind : (m : Meanings) (tree : ℕ) (rule : ResolvedRule) (p c : Node) (bs : List Binding) → placeholder_at rule.names p ≡ None → Matches m tree rule p c bs
     → (p.kind ≡ c.kind) ⊎ ((call : QualifiedCall) × (call_of rule p ≡ Some call) × (c.kind ≡ k.METHOD_CALL_EXPR))
 matched_kind m tree rule _ _ _ none (bound p c i is met) = absurd (none-some i (sym none ∙ is))
 matched_kind m tree rule _ _ _ none (token_trees p c bs other p_tree c_tree found) =
@@ -111,14 +111,14 @@ matched_kind m tree rule _ _ _ none (used p c r bs other unmet same stands told 
 matched_kind m tree rule _ _ _ none (named p c found bs other unmet same unused can by_names are pairs) = inl same
 matched_kind m tree rule _ _ _ none (alike p c bs other unmet same unused can unnamed children) = inl same
 
-own_kind : (m : Meanings) (tree : ℕ) (rule : ResolvedKind) (p c : Node) (bs : List Binding) → placeholder_at rule.names p ≡ None → call_of rule p ≡ None
+own_kind : (m : Meanings) (tree : ℕ) (rule : ResolvedRule) (p c : Node) (bs : List Binding) → placeholder_at rule.names p ≡ None → call_of rule p ≡ None
     → Matches m tree rule p c bs → p.kind ≡ c.kind
 own_kind m tree rule p c bs none no_call matches = elim (matched_kind m tree rule p c bs none matches) [
   | inl same ↦ same
   | inr called ↦ absurd (none-some called.0 (sym no_call ∙ called.1))
 ]
 
-matched_alike : (m : Meanings) (tree : ℕ) (rule : ResolvedKind) (p c : Node) (bs : List Binding) → placeholder_at rule.names p ≡ None → call_of rule p ≡ None
+matched_alike : (m : Meanings) (tree : ℕ) (rule : ResolvedRule) (p c : Node) (bs : List Binding) → placeholder_at rule.names p ≡ None → call_of rule p ≡ None
     → pattern_res rule p ≡ None → pairs_otherwise p.kind ≡ false → Matches m tree rule p c bs → Pairs m tree rule (bare (parts_of p)) (bare (parts_of c)) bs
 matched_alike m tree rule _ _ _ none no_call unused by_children (bound p c i is met) = absurd (none-some i (sym none ∙ is))
 matched_alike m tree rule _ _ _ none no_call unused by_children (token_trees p c bs other p_tree c_tree found) =
@@ -131,7 +131,7 @@ matched_alike m tree rule _ _ _ none no_call unused by_children (named p c found
 matched_alike m tree rule _ _ _ none no_call unused by_children (alike p c bs other unmet same again can unnamed children) = children
 
 -- a root that is a qualified call asks for its kind, or for a method call
-pub root_of_call : (rule : ResolvedKind) (kind : SyntaxKind) → placeholder_at rule.names (root_of rule.pattern) ≡ None → kind ≡ (root_of rule.pattern).kind
+pub root_of_call : (rule : ResolvedRule) (kind : SyntaxKind) → placeholder_at rule.names (root_of rule.pattern) ≡ None → kind ≡ (root_of rule.pattern).kind
     → IsRootOf rule (roots.Call kind)
 root_of_call rule kind none kind_is m tree c bindings matches =
     elim (matched_kind m tree rule (root_of rule.pattern) c bindings none matches) [
@@ -140,12 +140,12 @@ root_of_call rule kind none kind_is m tree c bindings matches =
     ]
 
 -- a root that is a used path asks for its kind alone
-pub root_of_path : (rule : ResolvedKind) (kind : SyntaxKind) → placeholder_at rule.names (root_of rule.pattern) ≡ None → call_of rule (root_of rule.pattern) ≡ None
+pub root_of_path : (rule : ResolvedRule) (kind : SyntaxKind) → placeholder_at rule.names (root_of rule.pattern) ≡ None → call_of rule (root_of rule.pattern) ≡ None
     → kind ≡ (root_of rule.pattern).kind → IsRootOf rule (roots.Node kind None)
 root_of_path rule kind none no_call kind_is m tree c bindings matches =
     and_from _ _ (equal-same_kind c.kind kind (sym (own_kind m tree rule (root_of rule.pattern) c bindings none no_call matches) ∙ sym kind_is)) refl
 
-pub root_of_node : (rule : ResolvedKind) (kind : SyntaxKind) (token : Option SyntaxKind) → placeholder_at rule.names (root_of rule.pattern) ≡ None
+pub root_of_node : (rule : ResolvedRule) (kind : SyntaxKind) (token : Option SyntaxKind) → placeholder_at rule.names (root_of rule.pattern) ≡ None
     → call_of rule (root_of rule.pattern) ≡ None → pattern_res rule (root_of rule.pattern) ≡ None → pairs_otherwise kind ≡ false
     → kind ≡ (root_of rule.pattern).kind → token ≡ first_counted (parts_of (root_of rule.pattern))
     → IsRootOf rule (roots.Node kind token)
@@ -235,17 +235,17 @@ set_kept false listed i j has =
 
 module _ (w : Workspace) (meanings : Meanings) (t n : ℕ) (s : Syntax) (at : IsTree (trees w) t s) where
   -- what a whole match at a node says of the node
-  matched_there : (rule : ResolvedKind) (bindings : List Binding) → IsWholeMatch (trees w) meanings rule (node_id t n) bindings
+  matched_there : (rule : ResolvedRule) (bindings : List Binding) → IsWholeMatch (trees w) meanings rule (node_id t n) bindings
       → Matches meanings t rule (root_of rule.pattern) (node_of s n) bindings
   matched_there rule bindings whole = in_tree (trees w) t s (λ s. Matches meanings t rule (root_of rule.pattern) (node_of s n) bindings) at whole.matches
 
-  pub unmatched_root : (rule : ResolvedKind) (root : Root) → IsRootOf rule root → has_asked root (node_of s n) ≡ false
+  pub unmatched_root : (rule : ResolvedRule) (root : Root) → IsRootOf rule root → has_asked root (node_of s n) ≡ false
       → (bindings : List Binding) → IsWholeMatch (trees w) meanings rule (node_id t n) bindings → ⊥
   unmatched_root rule root is lacks bindings whole =
       both_ways (has_asked root (node_of s n)) lacks (is meanings t (node_of s n) bindings (matched_there rule bindings whole))
 
   pub unmatched_kind : (rules : Rules) (kinds : KindSet) → AreKindsIn rules s kinds → HasNode s n → has_kind kinds (node_of s n).kind ≡ false
-      → (place : ℕ) (rule : ResolvedKind) (bindings : List Binding) → slice_get rules.rules.now place ≡ Some rule → IsWholeMatch (trees w) meanings rule (node_id t n) bindings → ⊥
+      → (place : ℕ) (rule : ResolvedRule) (bindings : List Binding) → slice_get rules.rules.now place ≡ Some rule → IsWholeMatch (trees w) meanings rule (node_id t n) bindings → ⊥
   unmatched_kind rules kinds are has lacks place rule bindings is whole =
       both_ways (has_kind kinds (node_of s n).kind) lacks (are.matched place rule is meanings t n bindings has (matched_there rule bindings whole))
 

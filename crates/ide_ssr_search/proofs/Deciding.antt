@@ -18,8 +18,8 @@ use Rattle.ssr_base_trees.specs.Workspace.{Workspace, PlacedTree, FileSpan, tree
 use Rattle.ssr_base_trees.specs.Built.{IsNodeOf, IsMacroCall, IsBuilt}
 use Rattle.ssr_base_trees.specs.Laws.{climbed, IsBelow, LiesIn, file_root}
 use Rattle.ssr_base_trees.proofs.Shared.{reaches_its_file}
-use Rattle.ide_ssr_resolving.specs.declared.used.UsedPath.{UsedPath}
-use Rattle.ide_ssr_resolving.specs.Resolved.{ResolvedKind}
+use Rattle.ide_ssr_resolved_rule.specs.declared.used_paths.UsedPath.{UsedPath}
+use Rattle.ide_ssr_resolved_rule.specs.Resolved.{ResolvedRule}
 use Rattle.ide_ssr_bindings.specs.declared.bindings.Binding.{Binding}
 use Rattle.ide_ssr_bindings.proofs.Deciding.{Decided, both, likewise, denied, given, of_some, if_some, each, each_two, some_one, all_of, less, at_most, of_kind, lies_in}
 use Rattle.ide_ssr_bindings.specs.Found.{AreDisjoint, IsAtOrBelow, HasByte, ShareNoByte, held_range}
@@ -87,7 +87,7 @@ is_reached m scope (res.ConstParam n) = inl tt
 is_reached m scope (res.SelfType n) = inl tt
 is_reached m scope (res.Other n) = inl tt
 
-pub can_be_written : (m : Meanings) (rule : ResolvedKind) (x : NodeId) → Decided (CanBeWritten m rule x)
+pub can_be_written : (m : Meanings) (rule : ResolvedRule) (x : NodeId) → Decided (CanBeWritten m rule x)
 can_be_written m rule x =
     if_some (λ _. IsSomeAnd (m.scope x) (λ scope. All (λ path. IsReached m scope path.res) rule.template_paths))
     (λ _. of_some (λ scope. All (λ path. IsReached m scope path.res) rule.template_paths)
@@ -183,7 +183,7 @@ module _ (w : Workspace) (b : IsBuilt w) (x : NodeId) (node : IsNodeOf (trees w)
       (λ up. (f, (up_from f).0 up, refl)))
       function
 
-  pub is_permitted : (context : Context) (rule : ResolvedKind) → Decided (IsPermitted w context rule x)
+  pub is_permitted : (context : Context) (rule : ResolvedRule) → Decided (IsPermitted w context rule x)
   is_permitted context rule =
       likewise (both (is_open context.restrictions) (given (of_bool (names_self (tokens_of rule.pattern))) (in_function context.function)))
       (λ h. record { open_to_all = h.0; own_self = h.1 })

@@ -11,7 +11,7 @@ use Rattle.ssr_syntax_tree.specs.Places.{HasNode}
 use Rattle.ssr_base_trees.specs.declared.ids.NodeId.{NodeId}
 use Rattle.ssr_base_trees.specs.Meanings.{Meanings}
 use Rattle.ssr_base_trees.specs.Workspace.{Workspace, PlacedTree, trees, with_number, tree_of, node_id}
-use Rattle.ide_ssr_resolving.specs.Resolved.{ResolvedKind}
+use Rattle.ide_ssr_resolved_rule.specs.Resolved.{ResolvedRule}
 use Rattle.ide_ssr_bindings.specs.declared.bindings.Binding.{Binding}
 use Rattle.ide_ssr_bindings.specs.Found.{FoundMatch}
 use Rattle.ide_ssr_search.specs.Context.{Context}
@@ -71,7 +71,7 @@ tree_cases t m (inr same) = elim same.1 [ inl none ↦ absurd (omega arith) | in
 pub at_id : (t n : ℕ) (x : NodeId) → x.tree ≡ t → x.node.0 ≡ n → x ≡ node_id t n
 at_id t n x tree node = ap (λ t. node_id t x.node.0) tree ∙ ap (node_id t) node
 
-module _ (w : Workspace) (meanings : Meanings) (context : Context) (rules : List ResolvedKind) where
+module _ (w : Workspace) (meanings : Meanings) (context : Context) (rules : List ResolvedRule) where
   -- what is found stays while no further match is passed
   passed : (t n r u m q : ℕ) (ms : List FoundMatch) → AreFoundBefore w meanings context rules t n r ms → ((f : FoundMatch) → IsBefore t n r f → IsBefore u m q f)
       → ((f : FoundMatch) → IsFound w meanings context rules f → IsBefore u m q f → IsBefore t n r f) → AreFoundBefore w meanings context rules u m q ms
@@ -96,11 +96,11 @@ module _ (w : Workspace) (meanings : Meanings) (context : Context) (rules : List
 
   -- ** At a node.
 
-  here_rule : (place : ℕ) (rule : ResolvedKind) (f : FoundMatch) (is : IsFound w meanings context rules f) → slice_get rules place ≡ Some rule → f.rule ≡ place → is.rule ≡ rule
+  here_rule : (place : ℕ) (rule : ResolvedRule) (f : FoundMatch) (is : IsFound w meanings context rules f) → slice_get rules place ≡ Some rule → f.rule ≡ place → is.rule ≡ rule
   here_rule place rule f is at same = same_Some is.rule rule (sym is.is_rule ∙ ap (slice_get rules) same ∙ at)
 
   -- the match of a rule at a node
-  here_found : (t n place : ℕ) (rule : ResolvedKind) (f : FoundMatch) → slice_get rules place ≡ Some rule → IsFound w meanings context rules f
+  here_found : (t n place : ℕ) (rule : ResolvedRule) (f : FoundMatch) → slice_get rules place ≡ Some rule → IsFound w meanings context rules f
       → f.node.tree ≡ t → f.node.node.0 ≡ n → f.rule ≡ place → IsPermitted w context rule (node_id t n) × IsWholeMatch (trees w) meanings rule (node_id t n) f.bindings
   here_found t n place rule f at is tree node same =
       let x = at_id t n f.node tree node in
@@ -123,7 +123,7 @@ module _ (w : Workspace) (meanings : Meanings) (context : Context) (rules : List
       let made : ℕ → NodeId → List Binding → FoundMatch = λ rule node bindings. record { rule = rule; node = node; bindings = bindings } in
       ap (λ r. made r f.node f.bindings) rule ∙ ap (λ x. made g.rule x f.bindings) node ∙ ap (made g.rule x) bindings
 
-  pub added_by : (t n place : ℕ) (s : Syntax) (rule : ResolvedKind) (ms : List FoundMatch) (bindings : Option (List Binding)) → tree_of w t ≡ Some s → slice_get rules place ≡ Some rule
+  pub added_by : (t n place : ℕ) (s : Syntax) (rule : ResolvedRule) (ms : List FoundMatch) (bindings : Option (List Binding)) → tree_of w t ≡ Some s → slice_get rules place ≡ Some rule
       → AreFoundBefore w meanings context rules t n place ms → TellsMatch w meanings context rule (node_id t n) bindings
       → AreFoundBefore w meanings context rules t n (place + 1) (ms ++ found_of place (node_id t n) bindings)
   added_by t n place s rule ms None tree at so_far tells =
@@ -152,7 +152,7 @@ module _ (w : Workspace) (meanings : Meanings) (context : Context) (rules : List
             ];
       }
 
-  pub found_more : (t n place : ℕ) (s : Syntax) (rule : ResolvedKind) (old new : List FoundMatch) → tree_of w t ≡ Some s → place < length rules → rule ≡ get_or rules place rule
+  pub found_more : (t n place : ℕ) (s : Syntax) (rule : ResolvedRule) (old new : List FoundMatch) → tree_of w t ≡ Some s → place < length rules → rule ≡ get_or rules place rule
       → AreFoundBefore w meanings context rules t n place old → Adds w meanings context rule place (node_id t n) old new → AreFoundBefore w meanings context rules t n (place + 1) new
   found_more t n place s rule old new tree within read so_far adds =
       subst (AreFoundBefore w meanings context rules t n (place + 1)) (sym adds.added)
@@ -184,7 +184,7 @@ module _ (w : Workspace) (meanings : Meanings) (context : Context) (rules : List
 
   -- nor at one that no rule matches
   pub found_unmatched : (t n : ℕ) (ms : List FoundMatch)
-      → ((place : ℕ) (rule : ResolvedKind) (bindings : List Binding) → slice_get rules place ≡ Some rule → IsWholeMatch (trees w) meanings rule (node_id t n) bindings → ⊥)
+      → ((place : ℕ) (rule : ResolvedRule) (bindings : List Binding) → slice_get rules place ≡ Some rule → IsWholeMatch (trees w) meanings rule (node_id t n) bindings → ⊥)
       → AreFoundBefore w meanings context rules t n 0 ms → AreFoundBefore w meanings context rules t (n + 1) 0 ms
   found_unmatched t n ms none so_far =
       passed t n 0 t (n + 1) 0 ms so_far (before_node t n 0)

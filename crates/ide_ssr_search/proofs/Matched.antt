@@ -12,7 +12,7 @@ use Rattle.ssr_base_trees.specs.Laws.{LiesIn, IsAmong}
 use Rattle.ssr_base_trees.specs.Origins.{Span}
 use Rattle.ssr_base_trees.specs.Workspace.{Workspace, PlacedTree, FileSpan, trees, with_number, node_id, file_of, has_node, original_in, original_range, run_of, has_run, original_run_in}
 use Rattle.ssr_base_trees.proofs.Shared.{some_and, and_some, spans_nest}
-use Rattle.ide_ssr_resolving.specs.Resolved.{ResolvedKind}
+use Rattle.ide_ssr_resolved_rule.specs.Resolved.{ResolvedRule}
 use Rattle.ide_ssr_bindings.specs.declared.bindings.Binding.{Binding}
 use Rattle.ide_ssr_bindings.specs.declared.bindings.Held.{Held}
 use Rattle.ide_ssr_bindings.specs.declared.bindings.Held.TheVariants as held
@@ -64,7 +64,7 @@ module _ (ts : List PlacedTree) (t : ℕ) (p : PlacedTree) (plants : with_number
       and_some (held_range ts t b) (λ inner. IsSomeAnd (original_range ts x) (LiesIn inner)) inner.0 inner.1
       (and_some (original_range ts x) (LiesIn inner.0) outer.0 outer.1 (held_lies b.held node inner.0 outer.0 known.among inner.1 outer.1))
 
-module _ (w : Workspace) (meanings : Meanings) (context : Context) (rules : List ResolvedKind) where
+module _ (w : Workspace) (meanings : Meanings) (context : Context) (rules : List ResolvedRule) where
   is_match : (m : FoundMatch) → IsFound w meanings context rules m → IsMatch (trees w) m
   is_match m is =
       let ts = trees w in

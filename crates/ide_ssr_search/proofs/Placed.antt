@@ -13,7 +13,7 @@ use Rattle.ssr_base_trees.specs.Meanings.{Meanings}
 use Rattle.ssr_base_trees.specs.Origins.{Span, cover_of, covered}
 use Rattle.ssr_base_trees.specs.Workspace.{Workspace, PlacedTree, FileSpan, trees, with_number, tree_of, node_id, file_of, original_in, own_span, original_range, original_run_in, own_run_span, has_run, file_span_of, cover_below}
 use Rattle.ssr_base_trees.specs.Laws.{LiesIn}
-use Rattle.ide_ssr_resolving.specs.Resolved.{ResolvedKind}
+use Rattle.ide_ssr_resolved_rule.specs.Resolved.{ResolvedRule}
 use Rattle.ide_ssr_bindings.specs.declared.bindings.Binding.{Binding}
 use Rattle.ide_ssr_bindings.specs.declared.bindings.Held.{Held}
 use Rattle.ide_ssr_bindings.specs.declared.bindings.Held.TheVariants as held
@@ -159,7 +159,7 @@ file_placed ts x bindings are m =
 
 -- ** Whole matches.
 
-pub whole : (w : Workspace) (meanings : Meanings) (tree : Syntax) (rule : ResolvedKind) (x : NodeId) (bindings : List Binding) → tree_of w x.tree ≡ Some tree
+pub whole : (w : Workspace) (meanings : Meanings) (tree : Syntax) (rule : ResolvedRule) (x : NodeId) (bindings : List Binding) → tree_of w x.tree ≡ Some tree
     → Some bindings ≡ bindings_of meanings x.tree rule (root_of rule.pattern) (node_of tree x.node.0) → IsPlacedMatch (trees w) x bindings → CanBeWritten meanings rule x
     → IsWholeMatch (trees w) meanings rule x bindings
 whole w meanings tree rule x bindings is found placed written =
@@ -175,21 +175,21 @@ whole w meanings tree rule x bindings is found placed written =
     }
 
 -- a whole match binds what is computed
-pub whole_binds : (w : Workspace) (meanings : Meanings) (tree : Syntax) (rule : ResolvedKind) (x : NodeId) (bindings : List Binding) → tree_of w x.tree ≡ Some tree
+pub whole_binds : (w : Workspace) (meanings : Meanings) (tree : Syntax) (rule : ResolvedRule) (x : NodeId) (bindings : List Binding) → tree_of w x.tree ≡ Some tree
     → IsWholeMatch (trees w) meanings rule x bindings → bindings_of meanings x.tree rule (root_of rule.pattern) (node_of tree x.node.0) ≡ Some bindings
 whole_binds w meanings tree rule x bindings is whole =
     Matches-bindings_of meanings x.tree rule (root_of rule.pattern) (node_of tree x.node.0) bindings
     (in_tree (trees w) x.tree tree (λ s. Matches meanings x.tree rule (root_of rule.pattern) (node_of s x.node.0) bindings) (is_tree w x.tree tree is) whole.matches)
 
-pub not_matched : (w : Workspace) (meanings : Meanings) (tree : Syntax) (rule : ResolvedKind) (x : NodeId) → tree_of w x.tree ≡ Some tree
+pub not_matched : (w : Workspace) (meanings : Meanings) (tree : Syntax) (rule : ResolvedRule) (x : NodeId) → tree_of w x.tree ≡ Some tree
     → None ≡ bindings_of meanings x.tree rule (root_of rule.pattern) (node_of tree x.node.0) → TellsWhole (trees w) meanings rule x None
 not_matched w meanings tree rule x is none bindings whole = none-some bindings (none ∙ whole_binds w meanings tree rule x bindings is whole)
 
-pub not_placed : (w : Workspace) (meanings : Meanings) (tree : Syntax) (rule : ResolvedKind) (x : NodeId) (found : List Binding) → tree_of w x.tree ≡ Some tree
+pub not_placed : (w : Workspace) (meanings : Meanings) (tree : Syntax) (rule : ResolvedRule) (x : NodeId) (found : List Binding) → tree_of w x.tree ≡ Some tree
     → Some found ≡ bindings_of meanings x.tree rule (root_of rule.pattern) (node_of tree x.node.0) → (IsPlacedMatch (trees w) x found → ⊥) → TellsWhole (trees w) meanings rule x None
 not_placed w meanings tree rule x found is matches out bindings whole =
     let same : bindings ≡ found = same_Some bindings found (sym (whole_binds w meanings tree rule x bindings is whole) ∙ sym matches) in
     out (subst (IsPlacedMatch (trees w) x) same (record { placed = whole.placed; bindings_placed = whole.bindings_placed; apart = whole.apart }))
 
-pub not_written : (trees : List PlacedTree) (meanings : Meanings) (rule : ResolvedKind) (x : NodeId) → (CanBeWritten meanings rule x → ⊥) → TellsWhole trees meanings rule x None
+pub not_written : (trees : List PlacedTree) (meanings : Meanings) (rule : ResolvedRule) (x : NodeId) → (CanBeWritten meanings rule x → ⊥) → TellsWhole trees meanings rule x None
 not_written trees meanings rule x not bindings whole = not whole.written

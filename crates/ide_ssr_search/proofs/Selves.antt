@@ -7,7 +7,7 @@ use Rattle.ssr_syntax_kinds.specs.Kinds.{same_kind, is_trivia}
 use Rattle.ssr_syntax_tree.specs.Syntax.{Token, Syntax, token_count, tokens_of}
 use Rattle.ssr_syntax_tree.specs.Places.{HasToken, token_of}
 use Rattle.ssr_syntax_tree.proofs.Shared.{length-tokens_in}
-use Rattle.ide_ssr_resolving.proofs.Shared.{tokens_left}
+use Rattle.ide_ssr_resolved_rule.proofs.Shared.{tokens_left}
 use Rattle.ide_ssr_search.specs.Permitted.{begins_with, is_double_colon, goes_on, names_self}
 
 -- the answer, where `begun` says whether a `self` has come that trivia alone have followed so far

@@ -8,7 +8,7 @@ use Rattle.ssr_base_trees.specs.Meanings.{Meanings}
 use Rattle.ssr_base_trees.specs.Workspace.{Workspace, PlacedTree, trees, with_number, tree_of, node_id}
 use Rattle.ssr_base_trees.specs.Built.{IsBuilt}
 use Rattle.ssr_base_trees.proofs.Shared.{placed_within}
-use Rattle.ide_ssr_resolving.specs.Resolved.{ResolvedKind}
+use Rattle.ide_ssr_resolved_rule.specs.Resolved.{ResolvedRule}
 use Rattle.ide_ssr_bindings.specs.declared.bindings.Binding.{Binding}
 use Rattle.ide_ssr_matching.specs.Bindings.{bindings_of}
 use Rattle.ide_ssr_bindings.specs.Found.{FoundMatch}
@@ -21,9 +21,9 @@ use Rattle.ide_ssr_search.proofs.Placed.{whole, not_matched, not_placed, not_wri
 use Rattle.ide_ssr_search.proofs.Finding.{found_none, added_by, found_at, found_in, found_all}
 use Rattle.ide_ssr_search.proofs.Deciding.{is_permitted, is_placed_match, can_be_written}
 
-module _ (w : Workspace) (b : IsBuilt w) (meanings : Meanings) (context : Context) (rules : List ResolvedKind) where
+module _ (w : Workspace) (b : IsBuilt w) (meanings : Meanings) (context : Context) (rules : List ResolvedRule) where
   -- what the placeholders of a rule hold at a node, or that it has no match there
-  module _ (rule : ResolvedKind) (t n : ℕ) (s : Syntax) (tree : tree_of w t ≡ Some s) (has : HasNode s n) where
+  module _ (rule : ResolvedRule) (t n : ℕ) (s : Syntax) (tree : tree_of w t ≡ Some s) (has : HasNode s n) where
     abbrev Told : Type 0
     Told = (bindings : Option (List Binding)) × TellsMatch w meanings context rule (node_id t n) bindings
 

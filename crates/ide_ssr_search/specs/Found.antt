@@ -2,15 +2,15 @@
 use Rattle.std.specs.Prelude.{◌≡◌, ◌<◌, ◌⊎◌, ◌↔◌, List, Some, slice_get, AllPairs, Contains}
 use Rattle.ssr_base_trees.specs.Meanings.{Meanings}
 use Rattle.ssr_base_trees.specs.Workspace.{Workspace, trees}
-use Rattle.ide_ssr_resolving.specs.Resolved.{ResolvedKind}
+use Rattle.ide_ssr_resolved_rule.specs.Resolved.{ResolvedRule}
 use Rattle.ide_ssr_bindings.specs.Found.{FoundMatch}
 use Rattle.ide_ssr_search.specs.Context.{Context}
 use Rattle.ide_ssr_search.specs.Permitted.{IsPermitted}
 use Rattle.ide_ssr_search.specs.WholeMatches.{IsWholeMatch}
 
 -- one of the rules matches as a whole at a node that is permitted for it
-pub record IsFound (w : Workspace) (m : Meanings) (context : Context) (rules : List ResolvedKind) (found : FoundMatch) : Type 0 where
-  pub rule : ResolvedKind
+pub record IsFound (w : Workspace) (m : Meanings) (context : Context) (rules : List ResolvedRule) (found : FoundMatch) : Type 0 where
+  pub rule : ResolvedRule
   pub is_rule : slice_get rules found.rule ≡ Some rule
   pub permitted : IsPermitted w context rule found.node
   pub whole : IsWholeMatch (trees w) m rule found.node found.bindings
@@ -23,6 +23,6 @@ Precedes k m =
     × ((k.node.node.0 < m.node.node.0) ⊎ ((k.node.node.0 ≡ m.node.node.0) × (k.rule < m.rule))))
 
 -- exactly what is found, in the order of trees, nodes and rules, and so each once
-pub record AreFound (w : Workspace) (m : Meanings) (context : Context) (rules : List ResolvedKind) (ms : List FoundMatch) : Type 0 where
+pub record AreFound (w : Workspace) (m : Meanings) (context : Context) (rules : List ResolvedRule) (ms : List FoundMatch) : Type 0 where
   pub in_order : AllPairs Precedes ms
   pub are : (found : FoundMatch) → Contains ms found ↔ IsFound w m context rules found

@@ -10,7 +10,7 @@ use Rattle.ssr_base_trees.specs.declared.ids.NodeId.{NodeId}
 use Rattle.ssr_base_trees.specs.Workspace.{Workspace, PlacedTree, FileSpan, trees, with_number, node_id, original_range}
 use Rattle.ssr_base_trees.specs.Built.{IsNodeOf, IsMacroCall}
 use Rattle.ssr_base_trees.specs.Laws.{IsBelow, LiesIn}
-use Rattle.ide_ssr_resolving.specs.Resolved.{ResolvedKind}
+use Rattle.ide_ssr_resolved_rule.specs.Resolved.{ResolvedRule}
 use Rattle.ide_ssr_bindings.specs.Found.{IsAtOrBelow, HasByte}
 use Rattle.ide_ssr_search.specs.Context.{Context}
 
@@ -76,6 +76,6 @@ IsInFunction trees function x = IsSomeAnd function (IsAtOrBelow trees x)
 
 -- ** What is asked of it for a rule.
 
-pub record IsPermitted (w : Workspace) (context : Context) (rule : ResolvedKind) (x : NodeId) : Type 0 where
+pub record IsPermitted (w : Workspace) (context : Context) (rule : ResolvedRule) (x : NodeId) : Type 0 where
   pub open_to_all : IsOpen w context.restrictions x
   pub own_self : IsTrue (names_self (tokens_of rule.pattern)) → IsInFunction (trees w) context.function x

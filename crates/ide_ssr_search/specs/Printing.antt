@@ -6,7 +6,7 @@ use Rattle.ssr_base_trees.specs.declared.ids.ScopeId.{ScopeId}
 use Rattle.ssr_base_trees.specs.declared.semantics.Res.{Res}
 use Rattle.ssr_base_trees.specs.declared.semantics.Res.TheVariants as res
 use Rattle.ssr_base_trees.specs.Meanings.{Meanings}
-use Rattle.ide_ssr_resolving.specs.Resolved.{ResolvedKind}
+use Rattle.ide_ssr_resolved_rule.specs.Resolved.{ResolvedRule}
 
 -- a scope reaches a definition by some path; what else a path stands for is written as in the template
 abbrev pub IsReached : Meanings → ScopeId → Res → Type 0
@@ -15,6 +15,6 @@ IsReached m scope _ = Unit {0}
 
 -- The template of a rule, if it has one, can be written at a node: the node stands in a scope, which reaches what the used
 -- paths of the template stand for. A search pattern asks for nothing.
-abbrev pub CanBeWritten : Meanings → ResolvedKind → NodeId → Type 0
+abbrev pub CanBeWritten : Meanings → ResolvedRule → NodeId → Type 0
 CanBeWritten m rule x =
     IfSome rule.template (λ _. IsSomeAnd (m.scope x) (λ scope. All (λ path. IsReached m scope path.res) rule.template_paths))

@@ -6,7 +6,7 @@ use Rattle.ssr_base_trees.specs.declared.ids.NodeId.{NodeId}
 use Rattle.ssr_base_trees.specs.Meanings.{Meanings}
 use Rattle.ssr_base_trees.specs.Workspace.{PlacedTree, FileSpan, with_number, original_range}
 use Rattle.ssr_base_trees.specs.Laws.{LiesIn}
-use Rattle.ide_ssr_resolving.specs.Resolved.{ResolvedKind}
+use Rattle.ide_ssr_resolved_rule.specs.Resolved.{ResolvedRule}
 use Rattle.ide_ssr_bindings.specs.declared.bindings.Binding.{Binding}
 use Rattle.ide_ssr_bindings.specs.Found.{held_range, ShareNoByte}
 use Rattle.ide_ssr_matching.specs.Matching.{Matches}
@@ -24,7 +24,7 @@ IsPlaced trees t range = IsSomeAnd range (LiesInArguments trees t)
 
 -- The node matches the root of the pattern by what names mean, it and what the placeholders hold are placed, no two
 -- placeholders share a byte, and the template can be written there.
-pub record IsWholeMatch (trees : List PlacedTree) (m : Meanings) (rule : ResolvedKind) (x : NodeId) (bindings : List Binding) : Type 0 where
+pub record IsWholeMatch (trees : List PlacedTree) (m : Meanings) (rule : ResolvedRule) (x : NodeId) (bindings : List Binding) : Type 0 where
   pub matches : IsSomeAnd (with_number trees x.tree) (λ p. Matches m x.tree rule (root_of rule.pattern) (node_of p.syntax x.node.0) bindings)
   pub placed : IsPlaced trees x.tree (original_range trees x)
   pub bindings_placed : All (λ b. IsPlaced trees x.tree (held_range trees x.tree b)) bindings

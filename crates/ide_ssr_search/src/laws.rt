@@ -5,7 +5,7 @@ ghost use Rattle.ssr_base_trees.specs.declared.ids.FileRange.{FileRange};
 ghost use Rattle.ssr_base_trees.specs.Meanings.{Meanings};
 ghost use Rattle.ssr_base_trees.specs.Workspace.{Workspace as WorkspaceValue};
 ghost use Rattle.ssr_base_trees.specs.Built.{IsBuilt};
-ghost use Rattle.ide_ssr_resolving.specs.Resolved.{ResolvedKind};
+ghost use Rattle.ide_ssr_resolved_rule.specs.Resolved.{ResolvedRule};
 ghost use Rattle.ide_ssr_bindings.specs.Found.{FoundMatch};
 ghost use Rattle.ide_ssr_search.specs.Context.{Context as ContextValue};
 ghost use Rattle.ide_ssr_search.specs.Making.{IsContext};
@@ -14,8 +14,8 @@ ghost use Rattle.ide_ssr_search.specs.Laws.{ContextExists};
 
 /// What is found in a workspace that is built is some list, and it is one list, whatever names mean.
 pub fn searching()
-    ensures exist { (w : WorkspaceValue) (m : Meanings) (context : ContextValue) (rules : List ResolvedKind) → IsBuilt w → (found : List FoundMatch) × AreFound w m context rules found }
-    ensures one { (w : WorkspaceValue) (m : Meanings) (context : ContextValue) (rules : List ResolvedKind) (found again : List FoundMatch) → AreFound w m context rules found → AreFound w m context rules again → found ≡ again }
+    ensures exist { (w : WorkspaceValue) (m : Meanings) (context : ContextValue) (rules : List ResolvedRule) → IsBuilt w → (found : List FoundMatch) × AreFound w m context rules found }
+    ensures one { (w : WorkspaceValue) (m : Meanings) (context : ContextValue) (rules : List ResolvedRule) (found again : List FoundMatch) → AreFound w m context rules found → AreFound w m context rules again → found ≡ again }
 {}
 
 /// At a position in a file whose nodes stand in scopes, and for restrictions of files, a search is made for something, and for

@@ -3,7 +3,7 @@ ghost use Rattle.std.specs.Prelude.{◌↔◌, All, IfOk, IsTrue};
 ghost use Rattle.std.specs.Option.{IsSomeAnd};
 ghost use Rattle.ide_ssr_search.specs.Printing.{CanBeWritten, IsReached};
 
-use ide_ssr_resolving::{ResolvedRule, UsedPath};
+use ide_ssr_resolved_rule::{ResolvedRule, UsedPath};
 use ssr_base_trees::{NodeId, Res, ScopeId, Semantics};
 use std::alloc::{AllocError, Global};
 

@@ -4,13 +4,13 @@ ghost use Rattle.std.specs.Option.{IsSomeAnd};
 ghost use Rattle.ssr_syntax_tree.specs.Places.{HasNode};
 ghost use Rattle.ssr_base_trees.specs.Workspace.{trees, tree_of, node_id};
 ghost use Rattle.ssr_base_trees.specs.Built.{IsBuilt};
-ghost use Rattle.ide_ssr_resolving.specs.Resolved.{ResolvedKind};
+ghost use Rattle.ide_ssr_resolved_rule.specs.Resolved.{ResolvedRule as RuleValue};
 ghost use Rattle.ide_ssr_bindings.specs.Found.{AreMatches};
 ghost use Rattle.ide_ssr_search.specs.Permitted.{IsOpen, IsInFunction, IsPermitted};
 ghost use Rattle.ide_ssr_search.specs.Found.{AreFound};
 ghost use Rattle.ide_ssr_search.specs.Private.Roots.{IsAskedBy, AreRules};
 ghost use Rattle.ide_ssr_search.specs.Private.Shut.{IsShutIn, IsShut, TellsPast};
-ghost use Rattle.ide_ssr_search.specs.Private.Scan.{AreFoundBefore, IsGround, TellsMatch, Adds, KnowsShut, KnowsInside, IsEarlierCall, StandsIn};
+ghost use Rattle.ide_ssr_search.specs.Private.Scan.{AreFoundBefore, IsTreeScan, TellsMatch, Adds, KnowsShut, KnowsInside, IsEarlierCall, StandsIn};
 
 use crate::bounds::Bounds;
 use crate::context::Context;
@@ -18,7 +18,7 @@ use crate::permitted::{is_at_or_below, is_searched, shuts};
 use crate::roots::{Asked, Rules};
 use crate::whole::whole_match;
 use ide_ssr_bindings::{Binding, FoundMatch};
-use ide_ssr_resolving::ResolvedRule;
+use ide_ssr_resolved_rule::ResolvedRule;
 use ssr_base_trees::{NodeId, Semantics, Trees};
 use ssr_syntax_kinds::SyntaxKind;
 use ssr_syntax_tree::{NodeNo, Tree};
@@ -27,7 +27,7 @@ use std::collections::BTreeSet;
 
 /// A tree that is searched, and what is known before its nodes are tried.
 #[derive(Clone, Copy)]
-struct Ground<'a> {
+struct TreeScan<'a> {
     workspace: &'a Trees,
     context: &'a Context,
     tree: &'a Tree,
@@ -39,7 +39,7 @@ struct Ground<'a> {
     inside: bool,
 }
 
-impl<'a> Ground<'a> {
+impl<'a> TreeScan<'a> {
     /// What is known of a tree, where `shut` are the calls of earlier trees that shut in what they stand for, and `inside`
     /// says which of those trees stand below the function.
     fn new(
@@ -49,12 +49,12 @@ impl<'a> Ground<'a> {
         number: u32,
         shut: &BTreeSet<NodeId>,
         inside: &[bool],
-    ) -> Ground<'a>
+    ) -> TreeScan<'a>
         requires built { IsBuilt workspace.now }
         requires tree { tree_of workspace.now number ≡ Some tree.now }
         requires shut { KnowsShut workspace.now number 0 shut.now }
         requires inside { KnowsInside workspace.now context.now number inside.now }
-        ensures ground { IsGround result }
+        ensures scan { IsTreeScan result }
         ensures workspace { result.workspace.now ≡ workspace.now }
         ensures context { result.context.now ≡ context.now }
         ensures number { result.number ≡ number }
@@ -64,7 +64,7 @@ impl<'a> Ground<'a> {
             node: NodeNo(0),
         };
         let call = workspace.above(root);
-        Ground {
+        TreeScan {
             workspace,
             context,
             tree,
@@ -87,7 +87,7 @@ impl<'a> Ground<'a> {
 
     /// Whether a node that nothing above it shuts in is open to all rules.
     fn is_open(&self, node: NodeNo) -> bool
-        requires ground { IsGround self.now }
+        requires scan { IsTreeScan self.now }
         requires has { HasNode self.now.tree.now node.0 }
         requires free { ¬ IsShutIn (trees self.now.workspace.now) (node_id self.now.number node.0) }
         ensures { IsTrue result ↔ IsOpen self.now.workspace.now self.now.context.now.restrictions (node_id self.now.number node.0) }
@@ -105,7 +105,7 @@ impl<'a> Ground<'a> {
 
     /// Whether a node stands at the function around the position or below it.
     fn is_in_function(&self, node: NodeNo) -> bool
-        requires ground { IsGround self.now }
+        requires scan { IsTreeScan self.now }
         requires has { HasNode self.now.tree.now node.0 }
         ensures { IsTrue result ↔ IsInFunction (trees self.now.workspace.now) self.now.context.now.function (node_id self.now.number node.0) }
     {
@@ -120,10 +120,10 @@ impl<'a> Ground<'a> {
 
     /// Whether a rule that asks this is permitted at a node that nothing above it shuts in.
     fn is_permitted(&self, asked: Asked, node: NodeNo) -> bool
-        requires ground { IsGround self.now }
+        requires scan { IsTreeScan self.now }
         requires has { HasNode self.now.tree.now node.0 }
         requires free { ¬ IsShutIn (trees self.now.workspace.now) (node_id self.now.number node.0) }
-        ensures { (rule : ResolvedKind) → IsAskedBy rule asked → IsTrue result ↔ IsPermitted self.now.workspace.now self.now.context.now rule (node_id self.now.number node.0) }
+        ensures { (rule : RuleValue) → IsAskedBy rule asked → IsTrue result ↔ IsPermitted self.now.workspace.now self.now.context.now rule (node_id self.now.number node.0) }
     {
         self.is_open(node) && (!asked.in_function || self.is_in_function(node))
     }
@@ -138,7 +138,7 @@ impl<'a> Ground<'a> {
         asked: Asked,
         node: NodeNo,
     ) -> Result<Option<Vec<Binding>>, AllocError>
-        requires ground { IsGround self.now }
+        requires scan { IsTreeScan self.now }
         requires asked { IsAskedBy rule.now asked }
         requires has { HasNode self.now.tree.now node.0 }
         requires free { ¬ IsShutIn (trees self.now.workspace.now) (node_id self.now.number node.0) }
@@ -172,7 +172,7 @@ impl<'a> Ground<'a> {
         node: NodeNo,
         found: &mut Vec<FoundMatch>,
     ) -> Result<(), AllocError>
-        requires ground { IsGround self.now }
+        requires scan { IsTreeScan self.now }
         requires asked { IsAskedBy rule.now asked }
         requires has { HasNode self.now.tree.now node.0 }
         requires free { ¬ IsShutIn (trees self.now.workspace.now) (node_id self.now.number node.0) }
@@ -193,7 +193,7 @@ impl<'a> Ground<'a> {
         node: NodeNo,
         found: &mut Vec<FoundMatch>,
     ) -> Result<(), AllocError>
-        requires ground { IsGround self.now }
+        requires scan { IsTreeScan self.now }
         requires rules { AreRules rules.now }
         requires has { HasNode self.now.tree.now node.0 }
         requires free { ¬ IsShutIn (trees self.now.workspace.now) (node_id self.now.number node.0) }
@@ -224,7 +224,7 @@ impl<'a> Ground<'a> {
         shut: bool,
         found: &mut Vec<FoundMatch>,
     ) -> Result<(), AllocError>
-        requires ground { IsGround self.now }
+        requires scan { IsTreeScan self.now }
         requires rules { AreRules rules.now }
         requires has { HasNode self.now.tree.now node.0 }
         requires shut { IsTrue shut ↔ IsShutIn (trees self.now.workspace.now) (node_id self.now.number node.0) }
@@ -239,7 +239,7 @@ impl<'a> Ground<'a> {
 
     /// The number behind a node that shuts in what is below it; of any other node 0.
     fn past(&self, node: NodeNo) -> u32
-        requires ground { IsGround self.now }
+        requires scan { IsTreeScan self.now }
         requires has { HasNode self.now.tree.now node.0 }
         ensures { TellsPast (trees self.now.workspace.now) self.now.number self.now.tree.now node.0 result }
     {
@@ -257,7 +257,7 @@ impl<'a> Ground<'a> {
         shuts: bool,
         shut: &mut BTreeSet<NodeId>,
     ) -> Result<(), AllocError>
-        requires ground { IsGround self.now }
+        requires scan { IsTreeScan self.now }
         requires has { HasNode self.now.tree.now node.0 }
         requires shuts { IsTrue shuts ↔ IsShut (trees self.now.workspace.now) (node_id self.now.number node.0) }
         requires shut { KnowsShut self.now.workspace.now self.now.number node.0 shut.old }
@@ -278,7 +278,7 @@ impl<'a> Ground<'a> {
         shut: &mut BTreeSet<NodeId>,
         found: &mut Vec<FoundMatch>,
     ) -> Result<(), AllocError>
-        requires ground { IsGround self.now }
+        requires scan { IsTreeScan self.now }
         requires rules { AreRules rules.now }
         requires shut { KnowsShut self.now.workspace.now self.now.number 0 shut.old }
         requires found { AreFoundBefore self.now.workspace.now (S.meanings semantics.now) self.now.context.now rules.now.rules.now self.now.number 0 0 found.old.items }
@@ -369,9 +369,9 @@ pub fn find_matches<S: Semantics>(
     let mut inside = Vec::with_capacity(alloc, workspace.file_count() as usize)?;
     let mut number = 0;
     while let Some(tree) = workspace.tree(number) {
-        let ground = Ground::new(workspace, context, tree, number, &shut, &inside);
-        ground.add_found(alloc, semantics, &tried, &mut shut, &mut found)?;
-        inside.push(ground.inside)?;
+        let scan = TreeScan::new(workspace, context, tree, number, &shut, &inside);
+        scan.add_found(alloc, semantics, &tried, &mut shut, &mut found)?;
+        inside.push(scan.inside)?;
         number += 1;
     }
     Ok(found)

@@ -12,7 +12,7 @@ use crate::bounds::Bounds;
 use crate::printing::can_be_written;
 use ide_ssr_bindings::Binding;
 use ide_ssr_matching::match_node;
-use ide_ssr_resolving::ResolvedRule;
+use ide_ssr_resolved_rule::ResolvedRule;
 use ssr_base_trees::{FileRange, NodeId, Semantics, Trees};
 use ssr_syntax_tree::Tree;
 use std::alloc::{AllocError, Global};

@@ -20,9 +20,9 @@ use Rattle.ssr_syntax.specs.declared.expansions.ExpansionKind.{ExpansionKind}
 use Rattle.ssr_syntax.specs.declared.syntax_error.SyntaxError.{SyntaxError}
 use Rattle.ssr_syntax.specs.declared.syntax_error.SyntaxError.TheVariants as errors
 use Rattle.ssr_syntax.specs.Expansions.{expansion_text, expansion_reading, goal_of_expansion, raw_from, unless_refused}
-use Rattle.ssr_syntax.specs.Lossless.{trivia, behind_trivia, gap, behind_gap, upto, past, before, behind, lossless, whole_tree}
-use Rattle.ssr_syntax.specs.Reading.{pieces, error_of, unless_misnamed, one_tree, reading, tree_reading, lexed_reading, file_reading}
-use Rattle.ssr_syntax.specs.Solid.{solid_tokens}
+use Rattle.ssr_syntax_rows.specs.Lossless.{trivia, behind_trivia, gap, behind_gap, upto, past, before, behind, lossless, whole_tree}
+use Rattle.ssr_syntax_rows.specs.Solid.{pieces, solid_tokens}
+use Rattle.ssr_syntax.specs.Reading.{error_of, unless_misnamed, one_tree, reading, tree_reading, lexed_reading, file_reading}
 use Rattle.ssr_syntax.proofs.Shared.{AreTexts, texts-append, texts_spelled, texts_split, tiled_texts}
 use Rattle.ssr_base_trees.specs.Built.{HasTexts}
 

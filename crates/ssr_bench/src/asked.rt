@@ -2,7 +2,7 @@
 
 ghost use Rattle.ssr_syntax_tree.specs.Places.{HasNode};
 
-use ide_ssr_resolving::first_child;
+use ide_ssr_resolved_rule::first_child;
 use ssr_syntax_kinds::SyntaxKind;
 use ssr_syntax_tree::{NodeNo, Tree};
 use std::alloc::AllocError;

@@ -5,7 +5,7 @@ use Rattle.ssr_syntax_tree.specs.Syntax.{Syntax}
 use Rattle.ssr_base_trees.specs.Meanings.{Meanings}
 use Rattle.ssr_base_trees.specs.Workspace.{Workspace, tree_of}
 use Rattle.ssr_base_trees.proofs.Shared.{tree_of_file}
-use Rattle.ide_ssr_resolving.specs.Resolved.{ResolvedKind}
+use Rattle.ide_ssr_resolved_rule.specs.Resolved.{ResolvedRule}
 use Rattle.ide_ssr_search.specs.Context.{Context}
 use Rattle.ide_ssr_search.specs.Making.{first_position}
 use Rattle.ide_ssr_search.proofs.Shared.{one_context}
@@ -15,9 +15,9 @@ use Rattle.ide_ssr.proofs.Shared.{one_edit_each}
 use Rattle.ssr_program.specs.Rewritten.{IsRewritten, SearchesFile, edited, first_file, one_file}
 use Rattle.ssr_program.specs.Unresolved.{nothing_resolves}
 
-one_finder : (code : Syntax) (kinds : List ResolvedKind) (f g : Finder) → SearchesFile code kinds f → SearchesFile code kinds g → f ≡ g
+one_finder : (code : Syntax) (kinds : List ResolvedRule) (f g : Finder) → SearchesFile code kinds f → SearchesFile code kinds g → f ≡ g
 one_finder code kinds f g one other =
-    let made : Workspace → Meanings → Context → List ResolvedKind → Finder =
+    let made : Workspace → Meanings → Context → List ResolvedRule → Finder =
     λ w m context rules. record { workspace = w; meanings = m; context = context; rules = rules } in
     ap (λ w. made w f.meanings f.context f.rules) (one.workspace ∙ sym other.workspace)
     ∙ ap (λ m. made g.workspace m f.context f.rules) (one.meanings ∙ sym other.meanings)
@@ -25,7 +25,7 @@ one_finder code kinds f g one other =
     (one_context (one_file code) nothing_resolves first_position [] f.context g.context one.context other.context)
     ∙ ap (made g.workspace g.meanings g.context) (one.rules ∙ sym other.rules)
 
-pub one_text : (code : Syntax) (kinds : List ResolvedKind) (text again : List ℕ) → IsRewritten code kinds text → IsRewritten code kinds again → text ≡ again
+pub one_text : (code : Syntax) (kinds : List ResolvedRule) (text again : List ℕ) → IsRewritten code kinds text → IsRewritten code kinds again → text ≡ again
 one_text code kinds text again one other =
     let edits : Edits other.finder (Ok one.edits) =
     subst (λ (f : Finder). Edits f (Ok one.edits)) (one_finder code kinds one.finder other.finder one.searches other.searches) one.are_edits in

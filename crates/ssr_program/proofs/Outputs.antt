@@ -8,7 +8,7 @@ use Rattle.ssr_syntax.specs.Reading.{file_reading}
 use Rattle.ssr_syntax.proofs.Shared.{file_needs_none}
 use Rattle.ide_ssr_refusals.specs.declared.refusals.Refusal.{Refusal}
 use Rattle.ide_ssr_refusals.specs.Refusals.{words}
-use Rattle.ide_ssr_resolving.specs.Resolved.{ResolvedKind}
+use Rattle.ide_ssr_resolved_rule.specs.Resolved.{ResolvedRule}
 use Rattle.ssr_program.specs.Rewritten.{IsRewritten}
 use Rattle.ssr_program.proofs.OneText.{one_text}
 use Rattle.ssr_program.proofs.Replacing.{all_replace}
@@ -17,7 +17,7 @@ use Rattle.ssr_program.specs.Output.{Output, IsOutput, no_text, no_file, no_rule
 
 module _ (rules : List (List ℕ)) (bytes : List ℕ) where
   by_rules : (code : Syntax) → IsUtf8 bytes → file_reading bytes ≡ Ok code
-      → (reading : Result (List ResolvedKind) Refusal) → rules_reading rules ≡ reading → (output : Output) × IsOutput rules bytes output
+      → (reading : Result (List ResolvedRule) Refusal) → rules_reading rules ≡ reading → (output : Output) × IsOutput rules bytes output
   by_rules code text file (Ok kinds) is =
       let new = text_exists bytes code kinds text file (all_replace rules kinds is) in (_, rewritten code kinds new.0 text file is new.1)
   by_rules code text file (Err refusal) is = (_, no_rules code refusal text file is)

@@ -11,7 +11,7 @@ use Rattle.ssr_program.specs.declared.rewriting.RewriteError.TheVariants as erro
 use Rattle.ssr_syntax.specs.Reading.{file_reading}
 use Rattle.ide_ssr_refusals.specs.declared.refusals.Refusal.{Refusal}
 use Rattle.ide_ssr_refusals.specs.Refusals.{TellsOf}
-use Rattle.ide_ssr_resolving.specs.Resolved.{ResolvedKind}
+use Rattle.ide_ssr_resolved_rule.specs.Resolved.{ResolvedRule}
 use Rattle.ssr_base_trees.specs.Workspace.{Workspace}
 use Rattle.ide_ssr_search.specs.Making.{IsContext, first_position}
 use Rattle.ide_ssr.specs.Finder.{Finder, FinderWith}
@@ -28,7 +28,7 @@ one_code : (code other : Syntax) → one_file code ≡ one_file other → code �
 one_code code other is = ap (λ (w : Workspace). get_or w.files 0 code) is
 
 -- a finder that is made for a file and gets the kinds of rules searches the file for these
-pub searches : (code : Syntax) (kinds : List ResolvedKind) (w : Workspace) (made finder : FinderWith Unresolved) → w ≡ one_file code → IsNewFinder w made
+pub searches : (code : Syntax) (kinds : List ResolvedRule) (w : Workspace) (made finder : FinderWith Unresolved) → w ≡ one_file code → IsNewFinder w made
     → finder ≡ record made { rules = made.rules ++ kinds } → SearchesFile code kinds (untold finder)
 searches code kinds w made finder one new is = record {
   workspace = ap (λ (f : FinderWith Unresolved). f.workspace) is ∙ new.workspace ∙ one;
@@ -36,7 +36,7 @@ searches code kinds w made finder one new is = record {
   context =
       subst (IsContext (one_file code) nothing_resolves first_position []) (sym (ap (λ (f : FinderWith Unresolved). f.context) is))
       (subst (λ (w : Workspace). IsContext w nothing_resolves first_position [] made.context) one new.context);
-  rules = ap (λ (f : FinderWith Unresolved). f.rules) is ∙ ap (λ (rules : List ResolvedKind). rules ++ kinds) new.rules;
+  rules = ap (λ (f : FinderWith Unresolved). f.rules) is ∙ ap (λ (rules : List ResolvedRule). rules ++ kinds) new.rules;
 }
 
 module _ (rules : List (List ℕ)) (text : List ℕ) (utf8 : IsUtf8 text) where
@@ -47,7 +47,7 @@ module _ (rules : List (List ℕ)) (text : List ℕ) (utf8 : IsUtf8 text) where
   rewrites_file A syntax.TooLong is = no_file _ (λ same. cc) utf8 is
   rewrites_file A syntax.Memory is = tt
 
-  rewrites_message : (A : Type 0) (code : Syntax) (message : String Global) (reading : Result (List ResolvedKind) Refusal)
+  rewrites_message : (A : Type 0) (code : Syntax) (message : String Global) (reading : Result (List ResolvedRule) Refusal)
       → rules_reading rules ≡ reading → file_reading text ≡ Ok code → TellsOf (rule.Message message) reading
       → Rewrites {A = A} rules text (Err (errors.Rule message))
   rewrites_message A code message (Ok kinds) is file told = elim told [ ]
@@ -59,7 +59,7 @@ module _ (rules : List (List ℕ)) (text : List ℕ) (utf8 : IsUtf8 text) where
   rewrites_rules A code (rule.Message message) file told = rewrites_message A code message (rules_reading rules) refl file told
   rewrites_rules A code rule.Memory file told = (code, file)
 
-  pub rewrites_text : (A : Type 0) (code : Syntax) (kinds : List ResolvedKind) (finder : Finder) (result : Result (String A) RewriteError)
+  pub rewrites_text : (A : Type 0) (code : Syntax) (kinds : List ResolvedRule) (finder : Finder) (result : Result (String A) RewriteError)
       → file_reading text ≡ Ok code → rules_reading rules ≡ Ok kinds → SearchesFile code kinds finder
       → IfOk result (λ new. IsEdited finder (string_bytes new))
       → IfErr result (λ error. error ≡ errors.Memory) → Rewrites rules text result

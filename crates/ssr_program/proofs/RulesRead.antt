@@ -3,10 +3,10 @@ use Rattle.std.proofs.Common.{◌≡◌, ℕ, ◌+◌, ◌<◌, List, [], ◌∷
 use Rattle.std.proofs.lemmas.List.{drop_more, take-append-drop, take_more}
 use Rattle.ssr_program.specs.Output.{both, rule_kinds, rules_reading}
 use Rattle.ide_ssr_refusals.specs.declared.refusals.Refusal.{Refusal}
-use Rattle.ide_ssr_resolving.specs.Resolved.{ResolvedKind}
+use Rattle.ide_ssr_resolved_rule.specs.Resolved.{ResolvedRule}
 
 abbrev Read : Type 0
-Read = Result (List ResolvedKind) Refusal
+Read = Result (List ResolvedRule) Refusal
 
 both-assoc : (a b c : Read) → both a (both b c) ≡ both (both a b) c
 both-assoc (Err e) b c = refl
@@ -27,9 +27,9 @@ rules_reading-append [] ys = sym (nil-both (rules_reading ys))
 rules_reading-append (x ∷ xs) ys =
     ap (both (rule_kinds x)) (rules_reading-append xs ys) ∙ both-assoc (rule_kinds x) (rules_reading xs) (rules_reading ys)
 
-module _ (rules : List (List ℕ)) (i : ℕ) (less : i < length rules) (kinds : List ResolvedKind) (before : rules_reading (take i rules) ≡ Ok kinds) where
+module _ (rules : List (List ℕ)) (i : ℕ) (less : i < length rules) (kinds : List ResolvedRule) (before : rules_reading (take i rules) ≡ Ok kinds) where
   -- one rule more
-  pub read_more : (more : List ResolvedKind) → rule_kinds (get_or rules i []) ≡ Ok more → rules_reading (take (i + 1) rules) ≡ Ok (kinds ++ more)
+  pub read_more : (more : List ResolvedRule) → rule_kinds (get_or rules i []) ≡ Ok more → rules_reading (take (i + 1) rules) ≡ Ok (kinds ++ more)
   read_more more is =
       ap rules_reading (take_more rules i [] less)
       ∙ rules_reading-append (take i rules) (get_or rules i [] ∷ [])

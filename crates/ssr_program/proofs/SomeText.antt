@@ -11,7 +11,7 @@ use Rattle.ssr_base_trees.specs.Workspace.{tree_of}
 use Rattle.ssr_base_trees.specs.declared.ids.FileRange.{FileRange}
 use Rattle.ssr_base_trees.proofs.Shared.{and_some, built_none}
 use Rattle.ssr_base.proofs.Shared.{built_read}
-use Rattle.ide_ssr_resolving.specs.Resolved.{ResolvedKind}
+use Rattle.ide_ssr_resolved_rule.specs.Resolved.{ResolvedRule}
 use Rattle.ide_ssr_search.specs.Making.{HasFile, LiesInText, first_position}
 use Rattle.ide_ssr_search.proofs.Shared.{context_exists}
 use Rattle.ide_ssr_rewriting.specs.Edits.{file_cmp}
@@ -30,7 +30,7 @@ begins code = (
   and_some (tree_of (one_file code) 0) (λ tree. 0 ≤ length (source_of tree)) code (tree_is (one_file code) code refl) (omega arith),
 )
 
-pub text_exists : (bytes : List ℕ) (code : Syntax) (kinds : List ResolvedKind) → IsUtf8 bytes → file_reading bytes ≡ Ok code
+pub text_exists : (bytes : List ℕ) (code : Syntax) (kinds : List ResolvedRule) → IsUtf8 bytes → file_reading bytes ≡ Ok code
     → All (λ kind. IsSome kind.template) kinds → (text : List ℕ) × IsRewritten code kinds text
 text_exists bytes code kinds utf8 read templates =
     let context =

@@ -4,7 +4,8 @@ use Rattle.ide_ssr_refusals.specs.declared.error.SsrError.{SsrError}
 use Rattle.ide_ssr_refusals.specs.declared.error.SsrError.TheVariants as errors
 use Rattle.ide_ssr_refusals.specs.declared.refusals.Refusal.{Refusal}
 use Rattle.ide_ssr_refusals.specs.Refusals.{TellsOf, ◌>>=◌}
-use Rattle.ide_ssr_resolving.specs.Resolved.{ResolvedKind, resolved_kinds}
+use Rattle.ide_ssr_resolved_rule.specs.Resolved.{ResolvedRule}
+use Rattle.ide_ssr_rules.specs.Resolved.{resolved_kinds}
 use Rattle.ssr_base_trees.specs.declared.ids.ScopeId.{ScopeId}
 use Rattle.ssr_program.specs.Unresolved.{nothing_resolves, one_scope}
 use Rattle.ide_ssr_rules.specs.Rules.{Rule, rule_reading}
@@ -29,10 +30,10 @@ pub tells_rule : (error : SsrError) (text : List ℕ) → TellsOf error (rule_re
 tells_rule error text told = tells_both error (rule_reading text) told
 
 -- a reading that is refused is told in the same way as the one that it refuses
-pub tells_as : (error : SsrError) (a b : Result (List ResolvedKind) Refusal)
+pub tells_as : (error : SsrError) (a b : Result (List ResolvedRule) Refusal)
     → ((refusal : Refusal) → a ≡ Err refusal → b ≡ Err refusal) → TellsOf error a → TellsOf error b
 tells_as error (Err refusal) b same told =
-    let P : Result (List ResolvedKind) Refusal → Type 0 = λ r. TellsOf error r in
+    let P : Result (List ResolvedRule) Refusal → Type 0 = λ r. TellsOf error r in
     let is : b ≡ Err refusal = same refusal refl in subst P (sym is) told
 tells_as errors.Memory (Ok kinds) b same told = memory_tells b
 tells_as (errors.Message _) (Ok kinds) b same told = elim told [ ]
@@ -44,12 +45,12 @@ adds_rule old new scope rule text result here is added =
     let In : ScopeId → Type 0 = λ s. Adds old new (resolved_kinds nothing_resolves s rule.names rule.constraints rule.kinds) result in
     let Read : Result Rule Refusal → Type 0 = λ r. Adds old new (r >>= resolved) result in subst Read (sym is) (subst In here added)
 
-module _ (old mid : FinderWith Unresolved) (rules : List (List ℕ)) (i : ℕ) (less : i < length rules) (kinds : List ResolvedKind) (before : rules_reading (take i rules) ≡ Ok kinds) (so_far : mid ≡ record old { rules = old.rules ++ kinds }) (text : List ℕ) (its : text ≡ get_or rules i []) where
+module _ (old mid : FinderWith Unresolved) (rules : List (List ℕ)) (i : ℕ) (less : i < length rules) (kinds : List ResolvedRule) (before : rules_reading (take i rules) ≡ Ok kinds) (so_far : mid ≡ record old { rules = old.rules ++ kinds }) (text : List ℕ) (its : text ≡ get_or rules i []) where
   -- one rule more
   pub adds_more : (new : FinderWith Unresolved) → Adds mid new (rule_kinds text) (Ok tt) → Adds old new (rules_reading (take (i + 1) rules)) (Ok tt)
   adds_more new (more, is, added) =
       let with_more : FinderWith Unresolved → FinderWith Unresolved = λ f. record f { rules = f.rules ++ more } in
-      let with_rules : List ResolvedKind → FinderWith Unresolved = λ all. record old { rules = all } in (
+      let with_rules : List ResolvedRule → FinderWith Unresolved = λ all. record old { rules = all } in (
         kinds ++ more,
         read_more rules i less kinds before more (ap rule_kinds (sym its) ∙ is),
         added ∙ ap with_more so_far ∙ ap with_rules (append_assoc old.rules kinds more),

@@ -5,7 +5,8 @@ use Rattle.ssr_syntax_tree.specs.Syntax.{Syntax}
 use Rattle.ssr_syntax.specs.Reading.{file_reading}
 use Rattle.ide_ssr_refusals.specs.declared.refusals.Refusal.{Refusal}
 use Rattle.ide_ssr_refusals.specs.Refusals.{words, ◌>>=◌}
-use Rattle.ide_ssr_resolving.specs.Resolved.{ResolvedKind, resolved_kinds}
+use Rattle.ide_ssr_resolved_rule.specs.Resolved.{ResolvedRule}
+use Rattle.ide_ssr_rules.specs.Resolved.{resolved_kinds}
 use Rattle.ide_ssr_rules.specs.Rules.{Rule, rule_reading}
 use Rattle.ssr_program.specs.Rewritten.{IsRewritten}
 use Rattle.ssr_program.specs.Unresolved.{nothing_resolves, one_scope}
@@ -59,15 +60,15 @@ both (Ok first) (Err refusal) = Err refusal
 both (Ok first) (Ok second) = Ok (first ++ second)
 
 -- the kinds of a rule, resolved where nothing is known
-abbrev pub resolved : Rule → Result (List ResolvedKind) Refusal
+abbrev pub resolved : Rule → Result (List ResolvedRule) Refusal
 resolved rule = resolved_kinds nothing_resolves one_scope rule.names rule.constraints rule.kinds
 
 -- what a rule says, parsed and resolved
-abbrev pub rule_kinds : List ℕ → Result (List ResolvedKind) Refusal
+abbrev pub rule_kinds : List ℕ → Result (List ResolvedRule) Refusal
 rule_kinds rule = rule_reading rule >>= resolved
 
 -- what the rules say, in their order
-abbrev pub rules_reading : List (List ℕ) → Result (List ResolvedKind) Refusal
+abbrev pub rules_reading : List (List ℕ) → Result (List ResolvedRule) Refusal
 rules_reading [] = Ok []
 rules_reading (rule ∷ rules) = both (rule_kinds rule) (rules_reading rules)
 
@@ -81,6 +82,6 @@ pub data IsOutput (rules : List (List ℕ)) (bytes : List ℕ) : Output → Type
       → IsOutput rules bytes (input_refused (words_of error))
   no_rules : (code : Syntax) (refusal : Refusal) → IsUtf8 bytes → file_reading bytes ≡ Ok code
       → rules_reading rules ≡ Err refusal → IsOutput rules bytes (rule_refused (words refusal))
-  rewritten : (code : Syntax) (kinds : List ResolvedKind) (text : List ℕ) → IsUtf8 bytes → file_reading bytes ≡ Ok code
+  rewritten : (code : Syntax) (kinds : List ResolvedRule) (text : List ℕ) → IsUtf8 bytes → file_reading bytes ≡ Ok code
       → rules_reading rules ≡ Ok kinds → IsRewritten code kinds text
       → IsOutput rules bytes (written text)

@@ -5,7 +5,7 @@ use Rattle.ssr_syntax_tree.specs.Syntax.{Syntax, source_of}
 use Rattle.ssr_base_trees.specs.declared.ids.FileId.{FileId}
 use Rattle.ssr_base_trees.specs.Changes.{Change, replaced}
 use Rattle.ssr_base_trees.specs.Workspace.{Workspace}
-use Rattle.ide_ssr_resolving.specs.Resolved.{ResolvedKind}
+use Rattle.ide_ssr_resolved_rule.specs.Resolved.{ResolvedRule}
 use Rattle.ide_ssr_search.specs.Making.{IsContext, first_position}
 use Rattle.ide_ssr_rewriting.specs.Edits.{file_cmp}
 use Rattle.ide_ssr.specs.Edits.{Edits}
@@ -20,7 +20,7 @@ abbrev pub first_file : FileId
 first_file = record { 0 = 0 }
 
 -- the search of a whole file for these kinds
-pub record SearchesFile (code : Syntax) (kinds : List ResolvedKind) (finder : Finder) : Type 0 where
+pub record SearchesFile (code : Syntax) (kinds : List ResolvedRule) (finder : Finder) : Type 0 where
   pub workspace : finder.workspace ≡ one_file code
   pub meanings : finder.meanings ≡ nothing_resolves
   pub context : IsContext (one_file code) nothing_resolves first_position [] finder.context
@@ -32,7 +32,7 @@ edited code None = source_of code
 edited code (Some changes) = replaced (source_of code) 0 (length (source_of code)) changes
 
 -- the text of a file in which the edits of a search of it for these kinds are made
-pub record IsRewritten (code : Syntax) (kinds : List ResolvedKind) (text : List ℕ) : Type 0 where
+pub record IsRewritten (code : Syntax) (kinds : List ResolvedRule) (text : List ℕ) : Type 0 where
   pub finder : Finder
   pub searches : SearchesFile code kinds finder
   pub edits : BTreeMap FileId (List Change)

@@ -2,7 +2,8 @@
 
 use crate::lists::separator;
 use crate::told::Told;
-use ide_ssr_resolving::{QualifiedCall, Unresolved, UsedPath, key_of, used_paths};
+use ide_ssr_resolved_rule::{Names, QualifiedCall, UsedPath};
+use ide_ssr_resolving::{Unresolved, key_of, used_paths};
 use ssr_base::{DefId, Res, ScopeId};
 use ssr_facts::TableSemantics;
 use ssr_syntax_kinds::SyntaxKind;
@@ -11,15 +12,19 @@ use std::alloc::{AllocError, Global};
 
 /// The used paths of a tree, in which the placeholders `a` and `b` may stand, or the path that doesn't resolve.
 pub(crate) fn write_used(alloc: Global, out: &mut Told, semantics: &TableSemantics, tree: &Tree) {
-    if let Some(names) = out.got(placeholders(alloc)) {
-        match used_paths(alloc, semantics, ScopeId(0), &names, tree) {
-            Ok(paths) => write_paths(out, tree, &paths),
-            Err(Unresolved::Path(node)) => {
-                out.text("unresolved ");
-                out.line(text_at(tree, node));
-            }
-            Err(Unresolved::Memory) => out.lose(),
+    let Some(texts) = out.got(placeholders(alloc)) else {
+        return;
+    };
+    let Some(names) = out.got(Names::of(alloc, &texts)) else {
+        return;
+    };
+    match used_paths(alloc, semantics, ScopeId(0), &names, tree) {
+        Ok(paths) => write_paths(out, tree, &paths),
+        Err(Unresolved::Path(node)) => {
+            out.text("unresolved ");
+            out.line(text_at(tree, node));
         }
+        Err(Unresolved::Memory) => out.lose(),
     }
 }
 

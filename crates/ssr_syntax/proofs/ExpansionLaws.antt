@@ -9,12 +9,12 @@ use Rattle.ssr_syntax.specs.declared.expansions.ExpToken.{ExpToken}
 use Rattle.ssr_syntax.specs.declared.expansions.ExpansionKind.{ExpansionKind}
 use Rattle.ssr_syntax.specs.declared.syntax_error.SyntaxError.{SyntaxError}
 use Rattle.ssr_syntax.specs.declared.syntax_error.SyntaxError.TheVariants as errors
-use Rattle.ssr_syntax.specs.Lossless.{IsTrimmed}
+use Rattle.ssr_syntax_rows.specs.Lossless.{IsTrimmed}
 use Rattle.ssr_syntax.specs.Reading.{tree_reading, Answers, Refuses, FitsTokens, IsThatOrTooDeep}
 use Rattle.ssr_syntax.specs.Expansions.{expansion_text, raw_from, goal_of_expansion, unless_refused, expansion_reading, FitsExpansion, IsTreeOfExpansion}
 use Rattle.ssr_syntax.proofs.ExpansionTokens.{expansion_spells, expansion_outside}
 use Rattle.ssr_syntax.proofs.TextLaws.{Told, tokens_sound, tokens_complete, told_ok, told_err, too_long, short_is, one_tokens}
-use Rattle.ssr_syntax.proofs.Trimmed.{trimmed-root}
+use Rattle.ssr_syntax_rows.proofs.Shared.{trimmed-root}
 
 raw_ok : (read : List RawToken → Result Syntax SyntaxError) (r : Result (List RawToken) SyntaxError) (s : Syntax) → unless_refused read r ≡ Ok s
     → (raw : List RawToken) × (r ≡ Ok raw) × (read raw ≡ Ok s)

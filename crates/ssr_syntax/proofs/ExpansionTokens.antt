@@ -14,12 +14,11 @@ use Rattle.ssr_syntax_lex.specs.Tokens.{tokens as tokens_in, row_of, spell, Tile
 use Rattle.ssr_syntax_lex.proofs.Shared.{tokens_tile, tiles_spell}
 use Rattle.ssr_syntax_forms.specs.declared.tokens.Token.{Token}
 use Rattle.ssr_syntax.specs.declared.expansions.ExpToken.{ExpToken}
-use Rattle.ssr_syntax.specs.Solid.{joined, lengthened, is_joint, joined_two, joined_three, solid_token, solid_tokens}
-use Rattle.ssr_syntax.specs.Reading.{begins_solid}
+use Rattle.ssr_syntax_rows.specs.Solid.{joined, lengthened, is_joint, joined_two, joined_three, solid_token, solid_tokens, begins_solid}
 use Rattle.ssr_syntax.specs.declared.syntax_error.SyntaxError.{SyntaxError}
 use Rattle.ssr_syntax.specs.declared.syntax_error.SyntaxError.TheVariants as errors
 use Rattle.ssr_syntax.specs.Expansions.{expansion_text, unless_refused, kind_of_one, lone_kind, raw_token, raw_from}
-use Rattle.ssr_syntax.specs.Private.SolidKinds.{with_next, two_of, solid_kind, solid_kinds}
+use Rattle.ssr_syntax_rows.specs.SolidKinds.{with_next, two_of, solid_kind, solid_kinds}
 use Rattle.ssr_syntax.specs.Private.Reading.{IsCut}
 use Rattle.ssr_syntax.specs.Private.Gathering.{behind, spaced, IsFront}
 use Rattle.ssr_syntax.proofs.TextRows.{joined_mark, not_joined}

@@ -13,15 +13,12 @@ use Rattle.ssr_syntax_kinds.specs.declared.fragment.Fragment.{Fragment}
 use Rattle.ssr_syntax_types.specs.declared.goals.Goal.{Goal}
 use Rattle.ssr_syntax_forms.specs.Trees as solid
 use Rattle.ssr_syntax.specs.Grammar.{grammar}
-use Rattle.ssr_syntax.specs.Solid.{solid_token, solid_tokens}
-use Rattle.ssr_syntax.specs.Lossless.{trivia, behind_trivia, gap, behind_gap, upto, past, before, behind, lossless, whole_tree}
+use Rattle.ssr_syntax_rows.specs.Solid.{solid_token, solid_tokens, pieces, begins_solid}
+use Rattle.ssr_syntax_rows.specs.Lossless.{trivia, behind_trivia, gap, behind_gap, upto, past, before, behind, lossless, whole_tree}
 use Rattle.ssr_syntax.specs.Identifiers.{idents, has_ident, stand_alone, is_mixing, IdentsAlone, IdentsAloneIn}
-use Rattle.ssr_syntax.specs.Reading.{pieces, trimmed, goal_of, begins_solid, FitsTokens, FitsFragment}
+use Rattle.ssr_syntax.specs.Reading.{trimmed, goal_of, FitsTokens, FitsFragment}
 use Rattle.ssr_syntax_forms.proofs.Shared.{at_some_level, goals_spell}
-use Rattle.ssr_syntax.proofs.Solidity.{AreTaken, goals_taken, AllSolid, leaves_solid}
-use Rattle.ssr_syntax.proofs.SolidLaws.{all_solid}
-use Rattle.ssr_syntax.proofs.Laid.{by_kind, upto-past, trivia-behind}
-use Rattle.ssr_syntax.proofs.Trimmed.{solid_sides}
+use Rattle.ssr_syntax_rows.proofs.Shared.{AreTaken, goals_taken, AllSolid, leaves_solid, all_solid, by_kind, upto-past, trivia-behind, solid_sides}
 use Rattle.ssr_syntax.proofs.Checks.{goal_clean}
 use Rattle.ssr_syntax.proofs.Identifiers.{shows, lone, AllLone, goals_alone}
 use Rattle.ssr_syntax.proofs.IdentTokens.{no_ident, whole_idents}

@@ -13,16 +13,12 @@ use Rattle.ssr_syntax_tree.specs.Syntax as plain
 use Rattle.ssr_syntax_tree.specs.Syntax.{tokens_of}
 use Rattle.ssr_syntax_forms.specs.declared.tokens.Token.{Token}
 use Rattle.ssr_syntax_forms.specs.Trees as solid
-use Rattle.ssr_syntax.specs.Private.Leaves as written
+use Rattle.ssr_syntax_rows.specs.Leaves as written
 use Rattle.ssr_syntax_forms.specs.Forms.{more, taken_as}
-use Rattle.ssr_syntax.specs.Lossless.{trivia, behind_trivia, gap, behind_gap, upto, past, whole_tree}
+use Rattle.ssr_syntax_rows.specs.Lossless.{trivia, behind_trivia, gap, behind_gap, upto, past, whole_tree}
 use Rattle.ssr_syntax.specs.Identifiers.{idents}
-use Rattle.ssr_syntax.specs.Solid.{lengthened, joined_two, joined_three, solid_token, solid_tokens}
-use Rattle.ssr_syntax.specs.Reading.{pieces}
-use Rattle.ssr_syntax.proofs.Laid.{AreSolid, by_kind, upto-zero, upto-add, upto-past, upto-behind_trivia, past-zero, total-leaves, laid, laid-append}
-use Rattle.ssr_syntax.proofs.Solidity.{IsTaken, AreTaken}
-use Rattle.ssr_syntax.proofs.SolidLaws.{is_mark, mark_solid, mark_no_ident, are_joined, kind_of}
-use Rattle.ssr_syntax.proofs.Texts.{whole-tokens}
+use Rattle.ssr_syntax_rows.specs.Solid.{lengthened, joined_two, joined_three, solid_token, solid_tokens, pieces}
+use Rattle.ssr_syntax_rows.proofs.Shared.{AreSolid, by_kind, upto-zero, upto-add, upto-past, upto-behind_trivia, past-zero, total-leaves, laid, laid-append, IsTaken, AreTaken, is_mark, mark_solid, mark_no_ident, are_joined, kind_of, whole-tokens}
 
 -- ** The solid tokens are those of the tokens, as far as they go.
 abbrev pub AreOf : List Token → List plain.Token → Type 0

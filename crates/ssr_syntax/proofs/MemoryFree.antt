@@ -17,11 +17,11 @@ use Rattle.ssr_syntax_types.specs.declared.goals.Goal.TheVariants as goals
 use Rattle.ssr_syntax.specs.declared.syntax_error.SyntaxError.{SyntaxError}
 use Rattle.ssr_syntax.specs.declared.syntax_error.SyntaxError.TheVariants as errors
 use Rattle.ssr_syntax.specs.Grammar.{grammar}
-use Rattle.ssr_syntax.specs.Lossless.{whole_tree}
-use Rattle.ssr_syntax.specs.MacroRules.{misnames_macros}
-use Rattle.ssr_syntax.specs.Solid.{solid_tokens}
+use Rattle.ssr_syntax_rows.specs.Lossless.{whole_tree}
+use Rattle.ssr_syntax_rows.specs.MacroRules.{misnames_macros}
+use Rattle.ssr_syntax_rows.specs.Solid.{solid_tokens, pieces}
 use Rattle.ssr_syntax_forms.proofs.Shared.{IsFree, no_tree, free-bind, free-goal}
-use Rattle.ssr_syntax.specs.Reading.{most_levels, whole, reading, pieces, error_of, unless_misnamed, one_tree, tree_reading, lexed_reading, file_reading}
+use Rattle.ssr_syntax.specs.Reading.{most_levels, whole, reading, error_of, unless_misnamed, one_tree, tree_reading, lexed_reading, file_reading}
 
 -- ** Goals.
 

@@ -6,9 +6,5 @@ pub use Rattle.ssr_syntax.proofs.TextLaws.{fragment_sound}
 pub use Rattle.ssr_syntax.proofs.MemoryFree.{file_needs_none}
 -- identifiers in the tree of a fragment
 pub use Rattle.ssr_syntax.proofs.IdentTexts.{fragment_idents, fragment_alone}
--- the tokens of a text, one behind another
-pub use Rattle.ssr_syntax.proofs.Tiles.{length-token, tiled_texts, tiles_within, tiles_count, boundary, spelled-pieces}
--- tokens that are texts
-pub use Rattle.ssr_syntax.proofs.Texts.{AreTexts, texts-append, texts_spelled, texts_split}
--- a text without the white space around it
-pub use Rattle.ssr_syntax.proofs.Trimming.{IsUtf8-trim, trim_shorter}
+-- the tokens of a text, one behind another; tokens that are texts; a text without the white space around it
+pub use Rattle.ssr_syntax_rows.proofs.Shared.{length-token, tiled_texts, tiles_within, tiles_count, boundary, spelled-pieces, AreTexts, texts-append, texts_spelled, texts_split, IsUtf8-trim, trim_shorter}

@@ -17,18 +17,16 @@ use Rattle.ssr_syntax_forms.specs.declared.fault.Fault.TheVariants as faults
 use Rattle.ssr_syntax.specs.declared.syntax_error.SyntaxError.{SyntaxError}
 use Rattle.ssr_syntax.specs.declared.syntax_error.SyntaxError.TheVariants as errors
 use Rattle.ssr_syntax_forms.specs.Trees.{Forest, done, tree, height}
-use Rattle.ssr_syntax.specs.Private.Leaves.{leaves}
+use Rattle.ssr_syntax_rows.specs.Leaves.{leaves}
 use Rattle.ssr_syntax_forms.proofs.Shared.{IsShallow, shallow_of, goals_by_rules}
-use Rattle.ssr_syntax.specs.Lossless.{whole_tree, IsTrimmed}
-use Rattle.ssr_syntax.specs.Reading.{reading, most_levels, pieces, one_tree, tree_reading, unless_misnamed, lexed_reading, short_reading, file_reading, fragment_reading, trimmed, goal_of, begins_solid, error_of, Answers, AnswersTrimmed, FitsTokens, FitsFile, FitsFragment, IsTreeOfFile, IsTreeOfFragment, IsThatOrTooDeep, IsLexFault, Refuses}
-use Rattle.ssr_syntax.specs.MacroRules.{misnames_macros}
-use Rattle.ssr_syntax.specs.Solid.{solid_tokens}
-use Rattle.ssr_syntax.proofs.Laid.{AreSolid}
-use Rattle.ssr_syntax.proofs.Trimmed.{trimmed-whole, trimmed-root}
-use Rattle.ssr_syntax.proofs.Trimming.{IsUtf8-trim, trim_shorter}
+use Rattle.ssr_syntax_rows.specs.Lossless.{whole_tree, IsTrimmed}
+use Rattle.ssr_syntax.specs.Reading.{reading, most_levels, one_tree, tree_reading, unless_misnamed, lexed_reading, short_reading, file_reading, fragment_reading, trimmed, goal_of, error_of, Answers, AnswersTrimmed, FitsTokens, FitsFile, FitsFragment, IsTreeOfFile, IsTreeOfFragment, IsThatOrTooDeep, IsLexFault, Refuses}
+use Rattle.ssr_syntax_rows.specs.Solid.{pieces, begins_solid, solid_tokens}
+use Rattle.ssr_syntax_rows.specs.MacroRules.{misnames_macros}
+use Rattle.ssr_syntax_rows.proofs.Shared.{AreSolid, trimmed-whole, trimmed-root, IsUtf8-trim, trim_shorter, whole-depth, whole-source}
 use Rattle.ssr_syntax.specs.Grammar.{grammar}
 use Rattle.ssr_syntax.proofs.Whole.{one_fits, reading_fits, reading_complete}
-use Rattle.ssr_syntax.proofs.Texts.{ReadsAs, is_read, read_given, reading_is, read_is, read_ok, read_too_deep, whole-depth, whole-source}
+use Rattle.ssr_syntax.proofs.Texts.{ReadsAs, is_read, read_given, reading_is, read_is, read_ok, read_too_deep}
 
 -- ** What is read fits.
 

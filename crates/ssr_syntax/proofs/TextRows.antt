@@ -13,22 +13,18 @@ use Rattle.ssr_syntax_lex.specs.Tokens.{tokens, row_of, rows_in, begins_with_pun
 use Rattle.ssr_syntax_tree.proofs.Lists.{map-reverse}
 use Rattle.ssr_syntax_kinds.proofs.Shared.{same_kind-equal}
 use Rattle.ssr_syntax_lex.proofs.Shared.{tokens_tile, tiles_spell, AreJoint, tokens_joint, rows_known}
-use Rattle.ssr_syntax.specs.Solid.{twice, joined, lengthened, is_joint, joined_two, joined_three, solid_token, solid_tokens}
-use Rattle.ssr_syntax.specs.Private.SolidKinds.{with_next, two_of, solid_kind, solid_kinds, kinds_begin_solid}
+use Rattle.ssr_syntax_rows.specs.Solid.{twice, joined, lengthened, is_joint, joined_two, joined_three, solid_token, solid_tokens, begins_solid, pieces}
+use Rattle.ssr_syntax_rows.specs.SolidKinds.{kinds_of, with_next, two_of, solid_kind, solid_kinds}
+use Rattle.ssr_syntax.specs.Private.Reading.{kinds_begin_solid, AreTokensOf, IsCut, IsWritten, end_before}
 use Rattle.ssr_syntax_tree.specs.Syntax as plain
-use Rattle.ssr_syntax.specs.Reading.{begins_solid, pieces, reading, trimmed}
-use Rattle.ssr_syntax.specs.Private.Reading.{AreTokensOf, IsCut, IsWritten, end_before}
+use Rattle.ssr_syntax.specs.Reading.{reading, trimmed}
 use Rattle.ssr_syntax_forms.specs.declared.tokens.Token.{Token}
 use Rattle.ssr_syntax_forms.specs.declared.rows.Output.{Output}
 use Rattle.ssr_syntax_forms.specs.Parser.{HasWritten, unwritten}
 use Rattle.ssr_syntax_forms.specs.Trees.{Forest}
 use Rattle.ssr_syntax_forms.specs.Written.{writes}
 use Rattle.ssr_syntax_types.specs.declared.goals.Goal.{Goal}
-use Rattle.ssr_syntax.proofs.Trimming.{IsUtf8-trim}
-use Rattle.ssr_syntax.proofs.Tiles.{boundary, tiles_count, tiles_within}
-
-abbrev pub kinds_of : List TokenRow → List SyntaxKind
-kinds_of rows = map (λ row. row.kind) rows
+use Rattle.ssr_syntax_rows.proofs.Shared.{IsUtf8-trim, boundary, tiles_count, tiles_within}
 
 abbrev pub kinds : List RawToken → List SyntaxKind
 kinds raw = kinds_of (map row_of raw)

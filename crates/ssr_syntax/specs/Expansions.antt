@@ -14,7 +14,7 @@ use Rattle.ssr_syntax.specs.declared.expansions.ExpansionKind.{ExpansionKind}
 use Rattle.ssr_syntax.specs.declared.expansions.ExpansionKind.TheVariants as expansions
 use Rattle.ssr_syntax.specs.declared.syntax_error.SyntaxError.{SyntaxError}
 use Rattle.ssr_syntax.specs.declared.syntax_error.SyntaxError.TheVariants as errors
-use Rattle.ssr_syntax.specs.Lossless.{IsTrimmed}
+use Rattle.ssr_syntax_rows.specs.Lossless.{IsTrimmed}
 use Rattle.ssr_syntax.specs.Reading.{tree_reading, lexed_reading, short_reading, FitsTokens}
 
 -- the text that tokens spell

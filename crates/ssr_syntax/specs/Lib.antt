@@ -1,10 +1,7 @@
 pub mod Grammar
 pub mod Decision
 pub mod Operands
-pub mod Lossless
 pub mod Identifiers
-pub mod Solid
-pub mod MacroRules
 pub mod Reading
 pub mod Expansions
 pub mod Private

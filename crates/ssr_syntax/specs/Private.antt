@@ -1,11 +1,4 @@
 -- Words of private functions and of the invariants of private fields. No public clause cites them, and no reader of
 -- those has to believe them.
-pub mod OpenNodes
-pub mod Turning
-pub mod Packing
-pub mod SolidKinds
-pub mod Leaves
-pub mod TreeTokens
-pub mod Preorder
 pub mod Reading
 pub mod Gathering

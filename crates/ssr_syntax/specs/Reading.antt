@@ -1,11 +1,10 @@
 -- The reading of a list of tokens and of a text, and what fits a text.
-use Rattle.std.specs.Prelude.{◌≡◌, ◌≢◌, ℕ, ◌+◌, ◌-◌, ◌^◌, ◌<◌, ◌≤◌, nat_lt, Bool, true, false, not, ◌&&◌, if◌then◌else◌, List, [], ◌∷◌, length, map, reverse, Some, None, Result, Ok, Err}
+use Rattle.std.specs.Prelude.{◌≡◌, ◌≢◌, ℕ, ◌+◌, ◌-◌, ◌^◌, ◌<◌, ◌≤◌, nat_lt, true, false, ◌&&◌, if◌then◌else◌, List, [], ◌∷◌, length, reverse, Some, None, Result, Ok, Err}
 use Rattle.std.specs.Borrow.{Bor}
 use Rattle.std.specs.Str.{trim, trim_start}
 use Rattle.ssr_syntax_kinds.specs.declared.kinds.SyntaxKind.{SyntaxKind}
 use Rattle.ssr_syntax_lex.specs.declared.tokens.RawToken.{RawToken}
-use Rattle.ssr_syntax_kinds.specs.Kinds.{is_trivia}
-use Rattle.ssr_syntax_lex.specs.Tokens.{tokens, token_text}
+use Rattle.ssr_syntax_lex.specs.Tokens.{tokens}
 use Rattle.ssr_syntax_tree.specs.Syntax as plain
 use Rattle.ssr_syntax_tree.specs.Syntax.{Syntax, depth_of, source_of, most_deep}
 use Rattle.ssr_syntax_types.specs.declared.goals.Goal.TheVariants as goals
@@ -25,9 +24,9 @@ use Rattle.ssr_syntax_forms.specs.Forms.{SoFar, ◌>>=◌}
 use Rattle.ssr_syntax_forms.specs.Levels.{read_goal}
 use Rattle.ssr_syntax_forms.specs.declared.fault.Fault.TheVariants as faults
 use Rattle.ssr_syntax.specs.Grammar.{grammar}
-use Rattle.ssr_syntax.specs.Solid.{solid_tokens}
-use Rattle.ssr_syntax.specs.Lossless.{whole_tree, IsTrimmed}
-use Rattle.ssr_syntax.specs.MacroRules.{misnames_macros}
+use Rattle.ssr_syntax_rows.specs.Solid.{solid_tokens, pieces, begins_solid}
+use Rattle.ssr_syntax_rows.specs.Lossless.{whole_tree, IsTrimmed}
+use Rattle.ssr_syntax_rows.specs.MacroRules.{misnames_macros}
 
 -- A tree is read where no more nodes than these stand above one another: the root, and 1,024 below it.
 abbrev pub most_high : ℕ
@@ -45,10 +44,6 @@ unfoldable pub reading : Goal → List Token → Result Forest Fault
 reading goal tokens = read_goal grammar most_levels goal tokens >>= whole
 
 -- ** The reading of a text.
-
--- a text's tokens, with the bytes of each
-abbrev pub pieces : List ℕ → List RawToken → List plain.Token
-pieces text raw = map (λ t. record { kind = t.kind; text = token_text text t }) raw
 
 abbrev pub error_of : Fault → SyntaxError
 error_of faults.NoTree = errors.NoTree
@@ -98,11 +93,6 @@ goal_of fragments.Ty = goals.Ty
 goal_of fragments.Item = goals.Item InModule
 goal_of fragments.Pat = goals.Pat TopLevel
 goal_of fragments.Stmt = goals.Stmt
-
--- no white space or comment stands in front
-abbrev pub begins_solid : List RawToken → Bool
-begins_solid [] = true
-begins_solid (t ∷ ts) = not (is_trivia t.kind)
 
 -- a fragment, around which no comment stands
 abbrev pub fragment_of : Fragment → List ℕ → Result Syntax SyntaxError

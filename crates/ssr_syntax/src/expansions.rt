@@ -7,9 +7,9 @@ ghost use Rattle.ssr_syntax.specs.Private.Gathering.{IsLoneKind, AreGathered, be
 ghost use Rattle.ssr_syntax_tree.specs.Syntax.{Syntax};
 
 use crate::reading::{read_solid, token_rows};
-use crate::solid::solid_tokens;
 use crate::syntax_error::SyntaxError;
 use ssr_syntax_kinds::{SyntaxKind, TextRange, TokenRow, TokenRows};
+use ssr_syntax_rows::solid::solid_tokens;
 use ssr_syntax_tree::Tree;
 use ssr_syntax_types::goals::{ExprPlace, Goal};
 use std::alloc::{AllocError, Global};

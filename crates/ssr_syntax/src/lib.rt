@@ -7,14 +7,8 @@ mod fragment_text;
 mod fragments;
 mod grammar;
 pub mod laws;
-mod macro_rules;
-mod packing;
-mod preorder;
 mod reading;
-mod solid;
 mod syntax_error;
-mod tree_tokens;
-mod turning;
 
 pub use expansions::{ExpToken, ExpansionKind, parse_tokens};
 pub use fitting::{fits_file, fits_fragment, fits_tokens};

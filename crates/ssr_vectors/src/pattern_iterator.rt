@@ -1,6 +1,6 @@
 //! What a pattern iterator passes over.
 
-use ide_ssr::PatternIterator;
+use ide_ssr_token_trees::PatternIterator;
 use ssr_syntax::parse_file;
 use ssr_syntax_kinds::SyntaxKind;
 use ssr_syntax_tree::{Element, NodeNo};

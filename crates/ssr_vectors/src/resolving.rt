@@ -1,7 +1,6 @@
 //! What a node of a resolved rule stands for.
 
-use ide_ssr_resolving::resolve_rule;
-use ide_ssr_rules::SsrRule;
+use ide_ssr_rules::{SsrRule, resolve_rule};
 use ssr_base::{DefId, Res, ScopeId};
 use ssr_facts::read;
 use ssr_syntax_tree::NodeNo;

@@ -5,7 +5,7 @@ use Rattle.ssr_syntax_tree.specs.declared.number.Element.TheVariants as element
 use Rattle.ssr_syntax_tree.specs.declared.number.NodeNo.{NodeNo}
 use Rattle.ssr_syntax_tree.specs.Syntax.{Syntax}
 use Rattle.ssr_syntax_tree.specs.Places.{Node, node_of}
-use Rattle.ide_ssr_matching.specs.Private.Children.{IsBelow}
+use Rattle.ide_ssr_matching.specs.Private.Children.{IsElementBelow}
 
 -- the nodes among children
 abbrev pub numbers_among : List Element → List NodeNo
@@ -17,7 +17,7 @@ abbrev pub nodes_at : Syntax → List NodeNo → List Node
 nodes_at tree nodes = map (λ node. node_of tree node.0) nodes
 
 abbrev pub IsNodeBelow : Syntax → ℕ → NodeNo → Type 0
-IsNodeBelow tree n node = IsBelow tree n (element.Node node)
+IsNodeBelow tree n node = IsElementBelow tree n (element.Node node)
 
 -- a node, if it is the only one
 abbrev pub only_among : List Node → Option Node

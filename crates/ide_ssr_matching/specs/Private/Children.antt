@@ -23,12 +23,12 @@ abbrev pub siblings_left : Siblings → List Element
 siblings_left siblings = option_to_list siblings.held ++ siblings.left
 
 -- elements that stand below a node
-abbrev pub IsBelow : Syntax → ℕ → Element → Type 0
-IsBelow code n (element.Node m) = HasNode code m.0 × IsAbove (node_of code n) m.0
-IsBelow code n (element.Token t) = HasToken code t.0
+abbrev pub IsElementBelow : Syntax → ℕ → Element → Type 0
+IsElementBelow code n (element.Node m) = HasNode code m.0 × IsAbove (node_of code n) m.0
+IsElementBelow code n (element.Token t) = HasToken code t.0
 
 -- Siblings that are left are among those that were left before: what is true of each of those is true of each of these.
 pub record AreKept (before left : List Element) : Type 0 where
   pub has : (code : Syntax) → All (HasElement code) before → All (HasElement code) left
-  pub below : (code : Syntax) (n : ℕ) → All (IsBelow code n) before → All (IsBelow code n) left
+  pub below : (code : Syntax) (n : ℕ) → All (IsElementBelow code n) before → All (IsElementBelow code n) left
   pub fewer : length left ≤ length before

@@ -1,15 +1,8 @@
 -- Private: tables by the numbers of nodes.
-use Rattle.std.specs.Prelude.{ℕ, ◌≡◌, ◌<◌, Bool, false, List, length, Option, None, slice_index_or}
+use Rattle.std.specs.Prelude.{ℕ, ◌≡◌, ◌<◌, Bool, false, List, length, slice_index_or}
 use Rattle.ssr_syntax_tree.specs.Syntax.{Syntax}
-use Rattle.ssr_base_trees.specs.declared.semantics.Res.{Res}
-use Rattle.ide_ssr_resolving.specs.declared.qualified_calls.QualifiedCall.{QualifiedCall}
-use Rattle.ide_ssr_resolving.specs.declared.used.UsedPath.{UsedPath}
+use Rattle.ide_ssr_resolved_rule.specs.declared.qualified_calls.QualifiedCall.{QualifiedCall}
 use Rattle.ide_ssr_resolving.specs.Eligible.{is_call, is_in_first_argument}
-use Rattle.ide_ssr_resolving.specs.Used.{res_at}
-
--- a table tells what each node stands for
-abbrev pub TellsRes : List UsedPath → List (Option Res) → Type 0
-TellsRes paths table = (n : ℕ) → slice_index_or table n None ≡ res_at paths (record { 0 = n })
 
 -- marks stand at the nodes of the calls
 abbrev pub MarksCalls : List QualifiedCall → List Bool → Type 0

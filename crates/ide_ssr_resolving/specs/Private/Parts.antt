@@ -5,7 +5,7 @@ use Rattle.ssr_syntax_kinds.specs.Kinds.{same_kind}
 use Rattle.ssr_syntax_tree.specs.declared.number.NodeNo.{NodeNo}
 use Rattle.ssr_syntax_tree.specs.Places.{Part, token_part, node_part, node_of}
 use Rattle.ssr_syntax_tree.specs.Syntax.{Forest, Syntax}
-use Rattle.ide_ssr_resolving.specs.Paths.{segments, is_arguments}
+use Rattle.ide_ssr_resolved_rule.specs.Paths.{segments, is_arguments}
 
 -- what stands below the node of a number
 abbrev pub below : Syntax → NodeNo → Forest

@@ -3,9 +3,9 @@ use Rattle.std.specs.Prelude.{ℕ, ◌≡◌, ◌||◌, Bool, List, Option, Some
 use Rattle.ssr_syntax_kinds.specs.Kinds.{is_ident}
 use Rattle.ssr_syntax_tree.specs.Places.{Node, Part, token_part, node_part}
 use Rattle.ssr_syntax_tree.specs.Syntax.{Syntax}
-use Rattle.ide_ssr_rules.specs.Elements.{has}
+use Rattle.ide_ssr_resolved_rule.specs.Names.{has}
 use Rattle.ide_ssr_rules.specs.MacroCalls.{is_spelled, is_tree_with, in_token_tree}
-use Rattle.ide_ssr_rules.specs.StandIns.{stand_in_of}
+use Rattle.ide_ssr_resolved_rule.specs.StandIns.{stand_in_of}
 
 -- the text of a part that is an identifier
 abbrev pub ident_text : Part → Option (List ℕ)

@@ -9,7 +9,7 @@ use Rattle.ssr_syntax_kinds.specs.Kinds.{same_kind, is_trivia}
 use Rattle.ssr_syntax_tree.specs.Syntax.{Syntax, tokens_of}
 use Rattle.ssr_syntax_tree.specs.Places.{Node, Part, token_part, node_part, parts_of, node_of, token_of, root_of, HasNode, HasToken}
 use Rattle.ssr_base_trees.specs.Meanings.{Meanings}
-use Rattle.ide_ssr_resolving.specs.Resolved.{ResolvedKind}
+use Rattle.ide_ssr_resolved_rule.specs.Resolved.{ResolvedRule}
 use Rattle.ide_ssr_bindings.specs.declared.bindings.Binding.{Binding}
 use Rattle.ide_ssr_matching.specs.Matching.{Matches}
 use Rattle.ide_ssr_search.specs.Permitted.{names_self}
@@ -55,12 +55,12 @@ token_asked (roots.Call kind) = None
 token_asked (roots.Node kind token) = token
 
 -- each node of a tree that matches the rule's pattern has what the root asks for, whatever names mean
-abbrev pub IsRootOf : ResolvedKind → Root → Type 0
+abbrev pub IsRootOf : ResolvedRule → Root → Type 0
 IsRootOf rule root =
     (m : Meanings) (tree : ℕ) (c : Node) (bindings : List Binding) → Matches m tree rule (root_of rule.pattern) c bindings → has_asked root c ≡ true
 
 -- what a rule asks
-pub record IsAskedBy (rule : ResolvedKind) (asked : Asked) : Type 0 where
+pub record IsAskedBy (rule : ResolvedRule) (asked : Asked) : Type 0 where
   pub root : IsRootOf rule asked.root
   pub in_function : asked.in_function ≡ names_self (tokens_of rule.pattern)
 
@@ -76,11 +76,11 @@ AreTokenKinds tree kinds = (t : ℕ) → HasToken tree t → has_kind kinds (tok
 -- what is known of the rules of a search
 pub record AreRules (rules : Rules) : Type 0 where
   pub counted : length rules.asked.items ≡ length rules.rules.now
-  pub each : (n : ℕ) (rule : ResolvedKind) (asked : Asked) → slice_get rules.rules.now n ≡ Some rule → slice_get rules.asked.items n ≡ Some asked → IsAskedBy rule asked
+  pub each : (n : ℕ) (rule : ResolvedRule) (asked : Asked) → slice_get rules.rules.now n ≡ Some rule → slice_get rules.asked.items n ≡ Some asked → IsAskedBy rule asked
 
 -- the set has the kinds of all nodes of a tree that one of the rules matches, and of those that may shut in what is below them
 pub record AreKindsIn (rules : Rules) (tree : Syntax) (kinds : KindSet) : Type 0 where
-  pub matched : (place : ℕ) (rule : ResolvedKind) → slice_get rules.rules.now place ≡ Some rule → (m : Meanings) (t n : ℕ) (bindings : List Binding)
+  pub matched : (place : ℕ) (rule : ResolvedRule) → slice_get rules.rules.now place ≡ Some rule → (m : Meanings) (t n : ℕ) (bindings : List Binding)
       → HasNode tree n → Matches m t rule (root_of rule.pattern) (node_of tree n) bindings → has_kind kinds (node_of tree n).kind ≡ true
   pub uses : has_kind kinds k.USE ≡ true
   pub calls : has_kind kinds k.MACRO_CALL ≡ true

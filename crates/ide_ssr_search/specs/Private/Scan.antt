@@ -10,10 +10,10 @@ use Rattle.ssr_base_trees.specs.Meanings.{Meanings}
 use Rattle.ssr_base_trees.specs.Workspace.{Workspace, trees, tree_of, node_id}
 use Rattle.ssr_base_trees.specs.Built.{IsNodeOf, IsMacroCall, IsBuilt}
 use Rattle.ssr_base_trees.specs.Laws.{IsEarlier, IsBelow}
-use Rattle.ide_ssr_resolving.specs.Resolved.{ResolvedKind}
+use Rattle.ide_ssr_resolved_rule.specs.Resolved.{ResolvedRule}
 use Rattle.ide_ssr_bindings.specs.declared.bindings.Binding.{Binding}
 use Rattle.ide_ssr_bindings.specs.Found.{FoundMatch}
-use Rattle.ide_ssr_search.specs.declared.scan.Ground.{Ground}
+use Rattle.ide_ssr_search.specs.declared.scan.TreeScan.{TreeScan}
 use Rattle.ide_ssr_search.specs.Context.{Context}
 use Rattle.ide_ssr_search.specs.Permitted.{IsPermitted}
 use Rattle.ide_ssr_search.specs.WholeMatches.{IsWholeMatch}
@@ -28,14 +28,14 @@ abbrev pub IsBefore : ℕ → ℕ → ℕ → FoundMatch → Type 0
 IsBefore t n r m = Precedes m (record { rule = r; node = node_id t n; bindings = [] })
 
 -- what is found before the matches of the rule r at the node n of the tree t
-pub record AreFoundBefore (w : Workspace) (m : Meanings) (context : Context) (rules : List ResolvedKind) (t n r : ℕ) (ms : List FoundMatch) : Type 0 where
+pub record AreFoundBefore (w : Workspace) (m : Meanings) (context : Context) (rules : List ResolvedRule) (t n r : ℕ) (ms : List FoundMatch) : Type 0 where
   pub in_order : AllPairs Precedes ms
   pub before : All (IsBefore t n r) ms
   pub are : All (IsFound w m context rules) ms
   pub complete : (found : FoundMatch) → IsFound w m context rules found → IsBefore t n r found → Contains ms found
 
 -- what the placeholders of a rule hold, where it is permitted at a node and matches there as a whole
-abbrev pub TellsMatch : Workspace → Meanings → Context → ResolvedKind → NodeId → Option (List Binding) → Type 0
+abbrev pub TellsMatch : Workspace → Meanings → Context → ResolvedRule → NodeId → Option (List Binding) → Type 0
 TellsMatch w m context rule x None = (bindings : List Binding) → IsPermitted w context rule x → ¬ IsWholeMatch (trees w) m rule x bindings
 TellsMatch w m context rule x (Some bindings) = IsPermitted w context rule x × IsWholeMatch (trees w) m rule x bindings
 
@@ -44,7 +44,7 @@ found_of place x None = []
 found_of place x (Some bindings) = record { rule = place; node = x; bindings = bindings } ∷ []
 
 -- the match of a rule at a node is added, if the rule is permitted there and matches as a whole
-pub record Adds (w : Workspace) (m : Meanings) (context : Context) (rule : ResolvedKind) (place : ℕ) (x : NodeId) (old new : List FoundMatch) : Type 0 where
+pub record Adds (w : Workspace) (m : Meanings) (context : Context) (rule : ResolvedRule) (place : ℕ) (x : NodeId) (old new : List FoundMatch) : Type 0 where
   pub bindings : Option (List Binding)
   pub tells : TellsMatch w m context rule x bindings
   pub added : new ≡ old ++ found_of place x bindings
@@ -52,12 +52,12 @@ pub record Adds (w : Workspace) (m : Meanings) (context : Context) (rule : Resol
 -- ** What is known of trees.
 
 -- what is known of a tree before its nodes are tried
-pub record IsGround (ground : Ground) : Type 0 where
-  pub built : IsBuilt ground.workspace.now
-  pub tree : tree_of ground.workspace.now ground.number ≡ Some ground.tree.now
-  pub bounds : AreBounds (trees ground.workspace.now) ground.number ground.bounds
-  pub shut : IsTrue ground.shut ↔ IsShutIn (trees ground.workspace.now) (node_id ground.number 0)
-  pub inside : IsTrue ground.inside ↔ IsSomeAnd ground.context.now.function (IsBelow (trees ground.workspace.now) (node_id ground.number 0))
+pub record IsTreeScan (scan : TreeScan) : Type 0 where
+  pub built : IsBuilt scan.workspace.now
+  pub tree : tree_of scan.workspace.now scan.number ≡ Some scan.tree.now
+  pub bounds : AreBounds (trees scan.workspace.now) scan.number scan.bounds
+  pub shut : IsTrue scan.shut ↔ IsShutIn (trees scan.workspace.now) (node_id scan.number 0)
+  pub inside : IsTrue scan.inside ↔ IsSomeAnd scan.context.now.function (IsBelow (trees scan.workspace.now) (node_id scan.number 0))
 
 -- a call before the node n of the tree t shuts in what it stands for
 pub record IsShutCall (w : Workspace) (t n : ℕ) (call : NodeId) : Type 0 where

@@ -5,7 +5,7 @@ use Rattle.ssr_base_trees.specs.declared.ids.FileRange.{FileRange}
 use Rattle.ssr_base_trees.specs.declared.ids.NodeId.{NodeId}
 use Rattle.ssr_base_trees.specs.Meanings.{Meanings}
 use Rattle.ssr_base_trees.specs.Workspace.{PlacedTree, with_number, original_range, file_span_of}
-use Rattle.ide_ssr_resolving.specs.Resolved.{ResolvedKind}
+use Rattle.ide_ssr_resolved_rule.specs.Resolved.{ResolvedRule}
 use Rattle.ide_ssr_bindings.specs.declared.bindings.Binding.{Binding}
 use Rattle.ide_ssr_matching.specs.Bindings.{bindings_of}
 use Rattle.ide_ssr_bindings.specs.Found.{held_range, ShareNoByte}
@@ -28,13 +28,13 @@ pub record IsPlacedMatch (trees : List PlacedTree) (x : NodeId) (bindings : List
 -- this is what the placeholders of a rule hold where it matches at the node
 pub record IsMatched (trees : List PlacedTree) (x : NodeId) (bindings : List Binding) : Type 0 where
   pub meanings : Meanings
-  pub rule : ResolvedKind
+  pub rule : ResolvedRule
   pub tree : PlacedTree
   pub is : with_number trees x.tree ≡ Some tree
   pub has : HasNode tree.syntax x.node.0
   pub matches : bindings_of meanings x.tree rule (root_of rule.pattern) (node_of tree.syntax x.node.0) ≡ Some bindings
 
 -- what the placeholders hold in a whole match, or that there is none
-abbrev pub TellsWhole : List PlacedTree → Meanings → ResolvedKind → NodeId → Option (List Binding) → Type 0
+abbrev pub TellsWhole : List PlacedTree → Meanings → ResolvedRule → NodeId → Option (List Binding) → Type 0
 TellsWhole trees m rule x None = (bindings : List Binding) → ¬ IsWholeMatch trees m rule x bindings
 TellsWhole trees m rule x (Some bindings) = IsWholeMatch trees m rule x bindings

@@ -1,13 +1,14 @@
 -- Private: what the steps of reading a text give.
-use Rattle.std.specs.Prelude.{◌≡◌, ◌≢◌, ℕ, ◌^◌, ◌<◌, List, length, map, Option, Some, None, Result, Ok, Err}
+use Rattle.std.specs.Prelude.{◌≡◌, ◌≢◌, ℕ, ◌^◌, ◌<◌, Bool, true, not, List, [], ◌∷◌, length, map, Option, Some, None, Result, Ok, Err}
+use Rattle.ssr_syntax_kinds.specs.Kinds.{is_trivia}
 use Rattle.ssr_syntax_kinds.specs.declared.kinds.SyntaxKind.{SyntaxKind}
 use Rattle.ssr_syntax_kinds.specs.declared.token_rows.TokenRow.{TokenRow}
 use Rattle.ssr_syntax_lex.specs.Tokens.{row_of, rows_in, spell, Tiles}
 use Rattle.ssr_syntax_lex.specs.declared.tokens.RawToken.{RawToken}
 use Rattle.ssr_syntax_forms.specs.declared.tokens.Token.{Token}
 use Rattle.ssr_syntax.specs.Reading.{IsLexFault, reading, trimmed}
-use Rattle.ssr_syntax.specs.Private.SolidKinds.{solid_kinds}
-use Rattle.ssr_syntax.specs.Solid.{solid_tokens}
+use Rattle.ssr_syntax_rows.specs.SolidKinds.{solid_kinds}
+use Rattle.ssr_syntax_rows.specs.Solid.{solid_tokens}
 use Rattle.ssr_syntax.specs.declared.syntax_error.SyntaxError.{SyntaxError}
 use Rattle.ssr_syntax_forms.specs.declared.fault.Fault.{Fault}
 use Rattle.ssr_syntax_forms.specs.declared.fault.Fault.TheVariants as faults
@@ -52,3 +53,8 @@ pub record AreTokensOf (text : List ℕ) (rows : List TokenRow) (solid : List To
 abbrev pub end_before : ℕ → Option TokenRow → ℕ
 end_before total None = total
 end_before total (Some next) = next.start
+
+-- no white space or comment stands in front
+abbrev pub kinds_begin_solid : List SyntaxKind → Bool
+kinds_begin_solid [] = true
+kinds_begin_solid (kind ∷ kinds) = not (is_trivia kind)

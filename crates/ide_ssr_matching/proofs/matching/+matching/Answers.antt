@@ -7,15 +7,15 @@ use Rattle.ssr_syntax_kinds.specs.declared.kinds.SyntaxKind.TheVariants as k
 use Rattle.ssr_syntax_kinds.specs.Kinds.{same_kind}
 use Rattle.ssr_syntax_tree.specs.declared.number.Element.TheVariants as element
 use Rattle.ssr_syntax_tree.specs.Places.{HasNode, HasElement, node_of}
-use Rattle.ide_ssr_resolving.specs.QualifiedCalls.{call_at}
-use Rattle.ide_ssr_resolving.specs.Used.{res_at}
+use Rattle.ide_ssr_resolved_rule.specs.QualifiedCalls.{call_at}
+use Rattle.ide_ssr_resolved_rule.specs.UsedPaths.{res_at}
 use Rattle.ide_ssr_matching.specs.Bindings.{bindings_of}
-use Rattle.ide_ssr_matching.specs.TokenTrees.{is_tree}
+use Rattle.ide_ssr_matching.specs.TokenTrees.{is_token_tree}
 use Rattle.ide_ssr_matching.specs.Calls.{child_nodes}
 use Rattle.ide_ssr_matching.specs.Records.{have_same_label}
 use Rattle.ide_ssr_matching.specs.Private.Calls.{called_at, method_at, HasMethodNodes, sides_at, AreSidesBelow}
 use Rattle.ide_ssr_matching.specs.Private.ChildNodes.{nodes_at, IsNodeBelow}
-use Rattle.ide_ssr_matching.specs.Private.Children.{siblings_left, IsBelow}
+use Rattle.ide_ssr_matching.specs.Private.Children.{siblings_left, IsElementBelow}
 use Rattle.ide_ssr_matching.proofs.Bare.{tail_has}
 use Rattle.ide_ssr_matching.proofs.ChildNodes.{node_first, nodes_behind}
 use Rattle.ide_ssr_matching.proofs.Fields.{named-differs, named-matches, fields-starts, fields-turn, fields-end}
@@ -28,20 +28,20 @@ node_matches-returns-in-Some g t c =
     placeholder-from (g.S.Semantics.meanings c.args.semantics.now) c.args.number c.args.rule.now c.placeholder_matches.result c.args.rule.now.pattern c.args.code.now c.args.p.0 c.args.c.0 c.args.out.now.items c.placeholder_matches.new.out.items
     c.in-Some.placeholder c.in-Some.ensures c.placeholder_matches.ensures
 
-pub node_matches-returns-then-is_tree : goal.node_matches-returns-then-is_tree
-node_matches-returns-then-is_tree g t c =
+pub node_matches-returns-then-is_token_tree : goal.node_matches-returns-then-is_token_tree
+node_matches-returns-then-is_token_tree g t c =
     trees-from (g.S.Semantics.meanings c.args.semantics.now) c.args.number c.args.rule.now c.args.rule.now.pattern c.args.code.now c.args.p.0 c.args.c.0 c.args.out.now.items
-    _ c.placeholder.ensures c.in_default.not-Some c.tree_matches.result c.tree_matches.new.out.items _ (c.is_tree.ensures ∙ ap (λ s. is_tree (node_of s c.args.p.0)) c.pattern.ensures) c.if-is_tree.true c.tree_matches.ensures
+    _ c.placeholder.ensures c.in_default.not-Some c.tree_matches.result c.tree_matches.new.out.items _ (c.is_token_tree.ensures ∙ ap (λ s. is_token_tree (node_of s c.args.p.0)) c.pattern.ensures) c.if-is_token_tree.true c.tree_matches.ensures
 
 pub node_matches-returns-then-not-is_plain : goal.node_matches-returns-then-not-is_plain
 node_matches-returns-then-not-is_plain g t c =
     spoiled-from (g.S.Semantics.meanings c.args.semantics.now) c.args.number c.args.rule.now c.args.rule.now.pattern c.args.code.now c.args.p.0 c.args.c.0 c.args.out.now.items
-    _ c.placeholder.ensures c.in_default.not-Some _ _ (c.is_tree.ensures ∙ ap (λ s. is_tree (node_of s c.args.p.0)) c.pattern.ensures) c.if-is_tree.false c.is_plain.ensures c.if-not-is_plain.true
+    _ c.placeholder.ensures c.in_default.not-Some _ _ (c.is_token_tree.ensures ∙ ap (λ s. is_token_tree (node_of s c.args.p.0)) c.pattern.ensures) c.if-is_token_tree.false c.is_plain.ensures c.if-not-is_plain.true
 
 pub node_matches-returns : goal.node_matches-returns
 node_matches-returns g t c =
     parts-from (g.S.Semantics.meanings c.args.semantics.now) c.args.number c.args.rule.now c.args.rule.now.pattern c.args.code.now c.args.p.0 c.args.c.0 c.args.out.now.items
-    _ c.placeholder.ensures c.in_default.not-Some c.parts_match.result c.parts_match.new.out.items _ _ (c.is_tree.ensures ∙ ap (λ s. is_tree (node_of s c.args.p.0)) c.pattern.ensures) c.if-is_tree.false c.is_plain.ensures c.if-not-is_plain.false c.parts_match.ensures
+    _ c.placeholder.ensures c.in_default.not-Some c.parts_match.result c.parts_match.new.out.items _ _ (c.is_token_tree.ensures ∙ ap (λ s. is_token_tree (node_of s c.args.p.0)) c.pattern.ensures) c.if-is_token_tree.false c.is_plain.ensures c.if-not-is_plain.false c.parts_match.ensures
 
 pub parts_match-returns-then-not-is : goal.parts_match-returns-then-not-is
 parts_match-returns-then-not-is g t c =
@@ -170,7 +170,7 @@ children_match-loop-first-init g t c =
           children-start inner pattern c.args.code.now c.args.p.0 c.args.c.0 c.args.used _ _ _ _ c.pattern-pattern.ensures
           c.counted-ps.ensures.gives c.counted-cs.ensures.gives;
       below =
-          subst (λ s. All (IsBelow s c.args.p.0) (siblings_left c.counted-ps.result)) c.pattern-pattern.ensures c.counted-ps.ensures.below;
+          subst (λ s. All (IsElementBelow s c.args.p.0) (siblings_left c.counted-ps.result)) c.pattern-pattern.ensures c.counted-ps.ensures.below;
       beside = c.counted-cs.ensures.below;
     }
 
@@ -215,10 +215,10 @@ children_match-loop-first-preserved g t c =
           c.in_ok-pair_matches.ensures
           c.if-not-branch.false;
       below =
-          tail_has (IsBelow pattern n) c.in-Some.first (siblings_left c.next_bare.new.self)
+          tail_has (IsElementBelow pattern n) c.in-Some.first (siblings_left c.next_bare.new.self)
           (c.in-Some.ensures.kept.below pattern n c.loop-first.invariant.below);
       beside =
-          tail_has (IsBelow code m) c.in-Some-next_bare.other (siblings_left c.next_bare-in-Some.new.self)
+          tail_has (IsElementBelow code m) c.in-Some-next_bare.other (siblings_left c.next_bare-in-Some.new.self)
           (c.in-Some-next_bare.ensures.kept.below code m c.loop-first.invariant.beside);
     }
 
@@ -289,7 +289,7 @@ method_matches-returns g t c =
     both-match (bindings_of (g.S.Semantics.meanings c.args.semantics.now) c.args.number c.args.rule.now) (called_at pattern sides.called)
     (method_at code sides.method) sides.receiver _ (ap (option_and_then (sides_at pattern code)) (sym c.in-Some.is) ∙ c.in_ok-sides.ensures.sides)
     _ _ _ _ _ _ _ c.new-held.ensures.items c.in_ok-generics_match.ensures c.if-not-branch.false c.in_ok-arguments_match.ensures c.if-not-branch-2.false
-    (rw c.deref.ensures.value at c.in_ok-keep.ensures)
+    (rw c.deref.ensures.value at c.in_ok-push_received.ensures)
 
 pub generics_match-loop-first-init : goal.generics_match-loop-first-init
 generics_match-loop-first-init g t c =
@@ -299,7 +299,7 @@ generics_match-loop-first-init g t c =
           generics-start (bindings_of (g.S.Semantics.meanings c.args.semantics.now) c.args.number c.args.rule.now) pattern c.args.code.now _ c.args.called.path.0 c.args.method.generics _ _ c.pattern-pattern.ensures
           c.arguments-arguments.ensures.gives;
       below =
-          subst (λ s. All (IsBelow s c.args.called.path.0) (siblings_left c.arguments-arguments.result)) c.pattern-pattern.ensures
+          subst (λ s. All (IsElementBelow s c.args.called.path.0) (siblings_left c.arguments-arguments.result)) c.pattern-pattern.ensures
           c.arguments-arguments.ensures.below;
       has = c.requires.method_in.generics;
     }
@@ -330,7 +330,7 @@ generics_match-loop-first-preserved g t c =
           c.in_ok-pair_matches.ensures
           c.if-not-branch.false;
       below =
-          tail_has (IsBelow pattern n) c.in-Some.first (siblings_left c.next_bare.new.self)
+          tail_has (IsElementBelow pattern n) c.in-Some.first (siblings_left c.next_bare.new.self)
           (c.in-Some.ensures.kept.below pattern n c.loop-first.invariant.below);
       has = subst (λ o. IfSome o (λ node. HasNode c.args.code.now node.0)) (sym c.in-Some-take.ensures.after) tt;
     }

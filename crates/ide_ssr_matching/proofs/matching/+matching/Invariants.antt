@@ -7,7 +7,7 @@ use Rattle.ide_ssr_matching.specs.Children.{bare}
 use Rattle.ide_ssr_matching.specs.Private.Bindings.{counted_by, generics_by, arguments_by}
 use Rattle.ide_ssr_matching.specs.Private.Calls.{method_at, arguments_at}
 use Rattle.ide_ssr_matching.specs.Private.ChildNodes.{nodes_at, IsNodeBelow}
-use Rattle.ide_ssr_matching.specs.Private.Children.{siblings_left, IsBelow}
+use Rattle.ide_ssr_matching.specs.Private.Children.{siblings_left, IsElementBelow}
 use Rattle.ide_ssr_matching.specs.Private.Records.{fields_by}
 use Rattle.ide_ssr_matching.proofs.Pairs.{IsBoundSoFar, PairedSoFar, children_size, like_size, parts_size, node_size, element_size, lists_size, pairs_size}
 use Rattle.ide_ssr_matching.proofs.matching.+matching.Given as goal
@@ -53,7 +53,7 @@ invariant-generics_match-loop-first g l =
           PairedSoFar inner (generics_by inner (node_of l.rule.pattern l.fn.called.path.0) (method_at l.code l.fn.method).generics)
           (bare (map (part_of l.rule.pattern) (siblings_left l.arguments))) (map node_part (nodes_at l.code (option_to_list l.left)))
           l.fn.out.items l.out.items;
-      below : All (IsBelow l.rule.pattern l.fn.called.path.0) (siblings_left l.arguments);
+      below : All (IsElementBelow l.rule.pattern l.fn.called.path.0) (siblings_left l.arguments);
       has : IfSome l.left (λ node. HasNode l.code node.0);
     }
 
@@ -78,8 +78,8 @@ invariant-children_match-loop-first g l =
       paired :
           PairedSoFar inner (counted_by inner l.fn.used (node_of l.rule.pattern l.fn.p.0) (node_of l.code l.fn.c.0))
           (bare (map (part_of l.rule.pattern) (siblings_left l.ps))) (bare (map (part_of l.code) (siblings_left l.cs))) l.fn.out.items l.out.items;
-      below : All (IsBelow l.rule.pattern l.fn.p.0) (siblings_left l.ps);
-      beside : All (IsBelow l.code l.fn.c.0) (siblings_left l.cs);
+      below : All (IsElementBelow l.rule.pattern l.fn.p.0) (siblings_left l.ps);
+      beside : All (IsElementBelow l.code l.fn.c.0) (siblings_left l.cs);
     }
 
 abbrev pub decreases-children_match-loop-first : goal.decreases-children_match-loop-first

@@ -1,7 +1,7 @@
 use Rattle.std.proofs.Common.{Some, get_or, None, subst}
 use Rattle.std.proofs.lemmas.List.{get_or_default}
 use Rattle.ssr_syntax_tree.specs.Places.{HasElement}
-use Rattle.ide_ssr_resolving.proofs.Shared.{in_table, at_table}
+use Rattle.ide_ssr_resolved_rule.proofs.Shared.{in_table, at_table}
 use Rattle.ide_ssr_matching.proofs.OwnTokens.{token_told}
 use Rattle.ide_ssr_matching.proofs.token_trees.is_token_placeholder.Goals as goal
 

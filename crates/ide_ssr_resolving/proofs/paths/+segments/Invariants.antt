@@ -1,6 +1,6 @@
 use Rattle.std.proofs.Common.{◌*◌, ◌++◌, map}
 use Rattle.ssr_syntax_tree.specs.Places.{node_of, size_of}
-use Rattle.ide_ssr_resolving.specs.Paths.{segments}
+use Rattle.ide_ssr_resolved_rule.specs.Paths.{segments}
 use Rattle.ide_ssr_resolving.specs.Private.Parts.{below}
 use Rattle.ide_ssr_resolving.proofs.Children.{FoundSoFar, element_size}
 use Rattle.ide_ssr_resolving.proofs.paths.+segments.Given as goal

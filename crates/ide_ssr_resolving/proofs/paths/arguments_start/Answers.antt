@@ -1,6 +1,6 @@
 use Rattle.std.proofs.Common.{sym, ap, ◌∙◌}
 use Rattle.std.specs.Prelude.{Some}
-use Rattle.ide_ssr_resolving.specs.Paths.{is_arguments}
+use Rattle.ide_ssr_resolved_rule.specs.Paths.{is_arguments}
 use Rattle.ide_ssr_resolving.proofs.Children.{start_there, start_other}
 use Rattle.ide_ssr_resolving.proofs.paths.arguments_start.Goals as goal
 

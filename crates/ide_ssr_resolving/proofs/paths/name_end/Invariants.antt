@@ -2,7 +2,7 @@ use Rattle.std.proofs.Common.{◌≡◌, ◌+◌, map}
 use Rattle.std.specs.Prelude.{All}
 use Rattle.ssr_syntax_tree.specs.Places.{node_of, part_of, HasElement}
 use Rattle.ssr_syntax_tree.specs.Syntax.{token_count}
-use Rattle.ide_ssr_resolving.specs.Paths.{before_arguments}
+use Rattle.ide_ssr_resolved_rule.specs.Paths.{before_arguments}
 use Rattle.ide_ssr_resolving.proofs.Children.{start_among}
 use Rattle.ide_ssr_resolving.proofs.paths.name_end.Given as goal
 

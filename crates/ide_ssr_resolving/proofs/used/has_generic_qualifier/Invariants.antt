@@ -1,7 +1,7 @@
 use Rattle.std.proofs.Common.{◌≡◌, map, drop}
 use Rattle.std.specs.List.{list_any}
 use Rattle.ssr_syntax_tree.specs.Places.{node_of}
-use Rattle.ide_ssr_resolving.specs.Paths.{qualifying}
+use Rattle.ide_ssr_resolved_rule.specs.Paths.{qualifying}
 use Rattle.ide_ssr_resolving.specs.Used.{has_generics}
 use Rattle.ide_ssr_resolving.specs.Private.Parts.{below}
 use Rattle.ide_ssr_resolving.proofs.used.has_generic_qualifier.Given as goal

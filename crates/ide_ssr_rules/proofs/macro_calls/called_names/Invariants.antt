@@ -1,5 +1,5 @@
 use Rattle.std.proofs.Common.{◌≡◌, ◌||◌, ℕ, List, drop}
-use Rattle.ide_ssr_rules.specs.Elements.{has}
+use Rattle.ide_ssr_resolved_rule.specs.Names.{has}
 use Rattle.ide_ssr_rules.specs.MacroCalls.{in_macro_call}
 use Rattle.ide_ssr_rules.proofs.macro_calls.called_names.Given as goal
 

@@ -1,5 +1,5 @@
 use Rattle.std.proofs.Common.{◌≡◌, drop}
-use Rattle.ide_ssr_rules.specs.Elements.{has}
+use Rattle.ide_ssr_resolved_rule.specs.Names.{has}
 use Rattle.ide_ssr_rules.specs.MacroCalls.{untested_name}
 use Rattle.ide_ssr_rules.specs.StandIns.{first_of}
 use Rattle.ide_ssr_rules.proofs.macro_calls.first_constrained.Given as goal

@@ -3,10 +3,10 @@ use Rattle.std.proofs.lemmas.List.Elements.{All-tail}
 use Rattle.std.specs.List.{All, list_any}
 use Rattle.ssr_syntax_tree.specs.Places.{part_of, HasElement}
 use Rattle.ssr_syntax_tree.proofs.Shared.{elements_had, parts_of-elements_of}
-use Rattle.ide_ssr_rules.specs.Elements.{has}
+use Rattle.ide_ssr_resolved_rule.specs.Names.{has}
 use Rattle.ide_ssr_rules.specs.MacroCalls.{is_spelled}
 use Rattle.ide_ssr_rules.specs.Private.MacroCalls.{in_part}
-use Rattle.ide_ssr_rules.specs.StandIns.{stand_in_of}
+use Rattle.ide_ssr_resolved_rule.specs.StandIns.{stand_in_of}
 use Rattle.ide_ssr_rules.proofs.CalledNames.{also_next}
 use Rattle.ide_ssr_rules.proofs.macro_calls.with_node.Goals as goal
 

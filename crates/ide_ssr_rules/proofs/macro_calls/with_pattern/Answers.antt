@@ -4,10 +4,10 @@ use Rattle.std.proofs.lemmas.List.{drop_all}
 use Rattle.std.specs.List.{list_any}
 use Rattle.ssr_syntax_tree.specs.Places.{node_of, nodes_of}
 use Rattle.ssr_syntax_tree.proofs.Shared.{node_left, length-nodes_of}
-use Rattle.ide_ssr_rules.specs.Elements.{has}
+use Rattle.ide_ssr_resolved_rule.specs.Names.{has}
 use Rattle.ide_ssr_rules.specs.MacroCalls.{is_tree_with, in_token_tree}
 use Rattle.ide_ssr_rules.specs.Private.MacroCalls.{in_node}
-use Rattle.ide_ssr_rules.specs.StandIns.{stand_in_of}
+use Rattle.ide_ssr_resolved_rule.specs.StandIns.{stand_in_of}
 use Rattle.ide_ssr_rules.proofs.CalledNames.{also_next}
 use Rattle.ide_ssr_rules.proofs.macro_calls.with_pattern.Goals as goal
 

@@ -1,9 +1,9 @@
 use Rattle.std.proofs.Common.{◌≡◌, ◌||◌, ℕ, List, drop}
 use Rattle.std.specs.List.{list_any}
 use Rattle.ssr_syntax_tree.specs.Places.{nodes_of}
-use Rattle.ide_ssr_rules.specs.Elements.{has}
+use Rattle.ide_ssr_resolved_rule.specs.Names.{has}
 use Rattle.ide_ssr_rules.specs.MacroCalls.{is_tree_with}
-use Rattle.ide_ssr_rules.specs.StandIns.{stand_in_of}
+use Rattle.ide_ssr_resolved_rule.specs.StandIns.{stand_in_of}
 use Rattle.ide_ssr_rules.proofs.macro_calls.with_pattern.Given as goal
 
 abbrev pub invariant-loop-number : goal.invariant-loop-number

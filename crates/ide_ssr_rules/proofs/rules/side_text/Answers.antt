@@ -2,7 +2,7 @@ use Rattle.std.proofs.Common.{ap, sym, ◌∙◌, subst}
 use Rattle.std.specs.Prelude.{string_bytes}
 use Rattle.std.specs.Str.{trim, IsUtf8}
 use Rattle.std.proofs.lemmas.Str.{IsUtf8-string_bytes}
-use Rattle.ssr_syntax.specs.Reading.{pieces}
+use Rattle.ssr_syntax_rows.specs.Solid.{pieces}
 use Rattle.ide_ssr_refusals.specs.declared.refusals.Refusal.TheVariants as r
 use Rattle.ide_ssr_rules.specs.Elements.{lexed}
 use Rattle.ide_ssr_refusals.specs.Refusals.{unless}

@@ -1,5 +1,5 @@
 use Rattle.std.proofs.Common.{◌≡◌, take}
-use Rattle.ssr_syntax.specs.Reading.{pieces}
+use Rattle.ssr_syntax_rows.specs.Solid.{pieces}
 use Rattle.ide_ssr_rules.proofs.tokens.lexed.Given as goal
 
 abbrev pub invariant-loop-token : goal.invariant-loop-token

@@ -1,6 +1,6 @@
 use Rattle.std.proofs.Common.{◌≡◌, ◌↔◌, ◌∙◌, All, Option, IfOk, IsSomeAnd, IsTrue, true, false, sym, subst}
 use Rattle.ssr_base_trees.specs.declared.ids.ScopeId.{ScopeId}
-use Rattle.ide_ssr_resolving.specs.declared.used.UsedPath.{UsedPath}
+use Rattle.ide_ssr_resolved_rule.specs.declared.used_paths.UsedPath.{UsedPath}
 use Rattle.ide_ssr_search.specs.Printing.{IsReached}
 use Rattle.ide_ssr_search.proofs.printing.are_reached_at.Goals as goal
 

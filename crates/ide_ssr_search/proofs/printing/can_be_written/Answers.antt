@@ -1,6 +1,6 @@
 use Rattle.std.proofs.Common.{◌↔◌, All, List, Option, IfOk, IfSome, IsSomeAnd, IsTrue, subst}
 use Rattle.ssr_syntax_tree.specs.Syntax.{Syntax}
-use Rattle.ide_ssr_resolving.specs.declared.used.UsedPath.{UsedPath}
+use Rattle.ide_ssr_resolved_rule.specs.declared.used_paths.UsedPath.{UsedPath}
 use Rattle.ide_ssr_search.specs.Printing.{IsReached}
 use Rattle.ide_ssr_search.proofs.printing.can_be_written.Goals as goal
 

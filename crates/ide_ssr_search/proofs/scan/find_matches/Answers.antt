@@ -21,25 +21,25 @@ loop-tree-preserved g c =
     let rules = c.args.rules.now in
     let m = g.S.Semantics.meanings c.args.semantics.now in
     let t = c.loop-tree.number in
-    let ground = c.new-ground.result in
-    let known = c.new-ground.ensures in
+    let scan = c.new-scan.result in
+    let known = c.new-scan.ensures in
     let ms = c.add_found.new.found.items in
     record {
       within = omega (arith, tree_within w t c.in-Some.tree.now c.in-Some.ensures);
       found =
           subst (λ w. AreFoundBefore w m context rules (t + 1) 0 0 ms) known.workspace
-          (subst (λ x. AreFoundBefore ground.workspace.now m x rules (t + 1) 0 0 ms) known.context
-          (subst (λ n. AreFoundBefore ground.workspace.now m ground.context.now rules (n + 1) 0 0 ms) known.number
-          (subst (λ rs. AreFoundBefore ground.workspace.now m ground.context.now rs (ground.number + 1) 0 0 ms) c.in_ok-tried.ensures.rules c.in_ok-add_found.ensures.found)));
+          (subst (λ x. AreFoundBefore scan.workspace.now m x rules (t + 1) 0 0 ms) known.context
+          (subst (λ n. AreFoundBefore scan.workspace.now m scan.context.now rules (n + 1) 0 0 ms) known.number
+          (subst (λ rs. AreFoundBefore scan.workspace.now m scan.context.now rs (scan.number + 1) 0 0 ms) c.in_ok-tried.ensures.rules c.in_ok-add_found.ensures.found)));
       shut =
           subst (λ w. KnowsShut w (t + 1) 0 c.add_found.new.shut) known.workspace
-          (subst (λ n. KnowsShut ground.workspace.now (n + 1) 0 c.add_found.new.shut) known.number c.in_ok-add_found.ensures.shut);
+          (subst (λ n. KnowsShut scan.workspace.now (n + 1) 0 c.add_found.new.shut) known.number c.in_ok-add_found.ensures.shut);
       inside =
           subst (KnowsInside w context (t + 1)) (sym c.in_ok-push.ensures.items)
-          (inside_more w context t c.loop-tree.inside.items ground.inside c.loop-tree.invariant.inside
-          (subst (λ w. IsTrue ground.inside ↔ IsSomeAnd context.function (IsBelow (trees w) (node_id t 0))) known.workspace
-          (subst (λ x. IsTrue ground.inside ↔ IsSomeAnd x.function (IsBelow (trees ground.workspace.now) (node_id t 0))) known.context
-          (subst (λ n. IsTrue ground.inside ↔ IsSomeAnd ground.context.now.function (IsBelow (trees ground.workspace.now) (node_id n 0))) known.number known.ground.inside))));
+          (inside_more w context t c.loop-tree.inside.items scan.inside c.loop-tree.invariant.inside
+          (subst (λ w. IsTrue scan.inside ↔ IsSomeAnd context.function (IsBelow (trees w) (node_id t 0))) known.workspace
+          (subst (λ x. IsTrue scan.inside ↔ IsSomeAnd x.function (IsBelow (trees scan.workspace.now) (node_id t 0))) known.context
+          (subst (λ n. IsTrue scan.inside ↔ IsSomeAnd scan.context.now.function (IsBelow (trees scan.workspace.now) (node_id n 0))) known.number known.scan.inside))));
     }
 
 pub returns-clause-found : goal.returns-clause-found
@@ -54,8 +54,8 @@ returns-clause-matches g c =
 pub add_found-requires-clause-shut : goal.add_found-requires-clause-shut
 add_found-requires-clause-shut g c =
     let w = c.args.workspace.now in
-    let known = c.new-ground.ensures in
-    subst (λ w. KnowsShut w c.new-ground.result.number 0 c.loop-tree.shut) (sym known.workspace)
+    let known = c.new-scan.ensures in
+    subst (λ w. KnowsShut w c.new-scan.result.number 0 c.loop-tree.shut) (sym known.workspace)
     (subst (λ n. KnowsShut w n 0 c.loop-tree.shut) (sym known.number) c.loop-tree.invariant.shut)
 
 pub loop-tree-init : goal.loop-tree-init

@@ -3,7 +3,7 @@ use Rattle.std.specs.Prelude.{string_bytes}
 use Rattle.ssr_syntax.specs.Expansions.{expansion_text, expansion_reading}
 use Rattle.ssr_syntax.specs.Reading.{Answers}
 use Rattle.ssr_syntax.specs.Private.Reading.{IsCut}
-use Rattle.ssr_syntax.specs.Private.SolidKinds.{solid_kinds}
+use Rattle.ssr_syntax_rows.specs.SolidKinds.{solid_kinds}
 use Rattle.ssr_syntax.proofs.Texts.{told_on}
 use Rattle.ssr_syntax.proofs.ExpansionTokens.{expansion_cut}
 use Rattle.ssr_syntax.proofs.ExpansionLaws.{expansion_answers, expansion_complete, expansion_too_long, expansion_fault, expansion_given}

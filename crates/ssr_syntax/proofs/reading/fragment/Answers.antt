@@ -6,7 +6,8 @@ use Rattle.ssr_syntax_lex.specs.declared.tokens.RawToken.{RawToken}
 use Rattle.ssr_syntax.specs.declared.syntax_error.SyntaxError.TheVariants as errors
 use Rattle.ssr_syntax.specs.Reading.{fragment_reading, tree_reading, trimmed, IsLexFault}
 use Rattle.ssr_syntax.proofs.TextLaws.{fragment_too_long, fragment_fault, fragment_comment, fragment_read, fragment_sound, trimmed_complete, trimmed_told, as_refused}
-use Rattle.ssr_syntax.proofs.TextRows.{kinds_of, known_rows, outside_same}
+use Rattle.ssr_syntax_rows.specs.SolidKinds.{kinds_of}
+use Rattle.ssr_syntax.proofs.TextRows.{known_rows, outside_same}
 use Rattle.ssr_syntax.proofs.reading.fragment.Goals as goal
 use Rattle.ssr_syntax.proofs.reading.fragment.Goals.{After-goal}
 

@@ -4,7 +4,7 @@ use Rattle.std.proofs.lemmas.Str.{IsUtf8-string_bytes}
 use Rattle.ssr_syntax_lex.specs.declared.tokens.RawToken.{RawToken}
 use Rattle.ssr_syntax_lex.specs.Tokens.{tokens}
 use Rattle.ssr_syntax.specs.Private.Reading.{IsCut}
-use Rattle.ssr_syntax.specs.Private.SolidKinds.{solid_kinds}
+use Rattle.ssr_syntax_rows.specs.SolidKinds.{solid_kinds}
 use Rattle.ssr_syntax.proofs.TextRows.{known_rows, these_rows, cut_of_rows}
 use Rattle.ssr_syntax.proofs.reading.read_tokens.Goals as goal
 use Rattle.ssr_syntax.proofs.reading.read_tokens.Goals.{In_ok-solid}

@@ -4,18 +4,19 @@ use Rattle.std.proofs.lemmas.Str.{IsUtf8-string_bytes}
 use Rattle.ssr_syntax_lex.specs.declared.tokens.RawToken.{RawToken}
 use Rattle.ssr_syntax_lex.specs.Tokens.{row_of}
 use Rattle.ssr_syntax_tree.specs.Parts.{AreParts}
-use Rattle.ssr_syntax.specs.Private.Leaves.{leaves}
+use Rattle.ssr_syntax_rows.specs.Leaves.{leaves}
 use Rattle.ssr_syntax_types.specs.declared.goals.Goal.{Goal}
-use Rattle.ssr_syntax.specs.Lossless.{whole_tree}
-use Rattle.ssr_syntax.specs.MacroRules.{misnames_macros}
+use Rattle.ssr_syntax_rows.specs.Lossless.{whole_tree}
+use Rattle.ssr_syntax_rows.specs.MacroRules.{misnames_macros}
 use Rattle.ssr_syntax.specs.declared.syntax_error.SyntaxError.TheVariants as errors
-use Rattle.ssr_syntax.specs.Private.Preorder.{tree_rows}
+use Rattle.ssr_syntax_rows.specs.Preorder.{tree_rows}
 use Rattle.ssr_syntax.specs.Private.Reading.{IsWritten}
-use Rattle.ssr_syntax.specs.Private.TreeTokens.{joined_rows}
-use Rattle.ssr_syntax.specs.Reading.{pieces, tree_reading}
-use Rattle.ssr_syntax.proofs.Texts.{WrittenOfText, written_read, depth_fault, told_on, whole_parts, count_fits, read_ok, read_misnamed, refused, start_of, tokens_told}
+use Rattle.ssr_syntax_rows.specs.TreeTokens.{joined_rows}
+use Rattle.ssr_syntax_rows.specs.Solid.{pieces}
+use Rattle.ssr_syntax.specs.Reading.{error_of, tree_reading}
+use Rattle.ssr_syntax.proofs.Texts.{WrittenOfText, written_read, depth_fault, told_on, read_ok, read_misnamed, refused, tokens_told}
+use Rattle.ssr_syntax_rows.proofs.Shared.{whole_parts, count_fits, start_of, taken_rows}
 use Rattle.ssr_syntax.proofs.TextRows.{rows_count}
-use Rattle.ssr_syntax.proofs.TreeTokens.{taken_rows}
 use Rattle.ssr_syntax.proofs.reading.written_tree.Goals as goal
 use Rattle.ssr_syntax.proofs.reading.written_tree.Goals.{After-deref, In_ok-nodes}
 
@@ -41,7 +42,7 @@ pub returns-in_err-nodes : goal.returns-in_err-nodes
 returns-in_err-nodes c g raw are =
     let text = string_bytes c.args.text in
     let w = written_is (goal.at.returns-in_err-nodes c).After-deref g raw are in
-    told_on c.in_err-nodes.field-0.0 c.from_residual.result (tree_reading g text raw) text
+    told_on (error_of c.in_err-nodes.field-0.0) c.from_residual.result (tree_reading g text raw) text
     c.from_residual.ensures.0 c.from_residual.ensures.1
     (depth_fault g text raw w.kind w.kids c.in_err-nodes.field-0.0 c.requires.short w.read
     (c.in_err-nodes.ensures w.kind w.kids (start_of raw) w.rows))

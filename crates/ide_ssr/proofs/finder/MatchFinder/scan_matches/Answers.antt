@@ -1,7 +1,7 @@
 use Rattle.std.proofs.Common.{◌≡◌, ◌∙◌, List, None, All, subst, arith, rules}
 use Rattle.std.proofs.lemmas.Grind.{common_steps}
-use Rattle.ide_ssr_resolving.specs.Patterns.{HasEachOnce, AreInArguments}
-use Rattle.ide_ssr_resolving.specs.Resolved.{ResolvedKind}
+use Rattle.ide_ssr_resolved_rule.specs.Patterns.{HasEachOnce, AreInArguments}
+use Rattle.ide_ssr_resolved_rule.specs.Resolved.{ResolvedRule}
 use Rattle.ide_ssr_nesting.specs.Lists.{listed}
 use Rattle.ide_ssr.specs.Finder.{finder_of}
 use Rattle.ide_ssr.specs.Nesting.{Show}
@@ -18,10 +18,10 @@ returns-clause-binds g c =
     let answer = c.in_ok-matches.matches.items in
     let outcome = c.in_ok-kept.ensures in
     let rules = rules_are _ _ c.self.view_is in
-    let each = subst (λ (rules : List ResolvedKind). All (λ rule. HasEachOnce rule.names rule.pattern) rules) rules c.self.invariant.0 in
-    let in_arguments = subst (λ (rules : List ResolvedKind). All (λ rule. AreInArguments rule.names rule.pattern rule.pattern_paths) rules) rules c.self.invariant.1 in
+    let each = subst (λ (rules : List ResolvedRule). All (λ rule. HasEachOnce rule.names rule.pattern) rules) rules c.self.invariant.0 in
+    let in_arguments = subst (λ (rules : List ResolvedRule). All (λ rule. AreInArguments rule.names rule.pattern rule.pattern_paths) rules) rules c.self.invariant.1 in
     let same : c.deref.result.now ≡ finder.rules = c.deref.ensures.value ∙ rules in
-    let shown = subst (λ (rules : List ResolvedKind). Show rules kept lists (listed lists None) answer) same c.in_ok-matches.ensures in
+    let shown = subst (λ (rules : List ResolvedRule). Show rules kept lists (listed lists None) answer) same c.in_ok-matches.ensures in
     answer_once finder.rules kept lists (listed lists None) answer (kept_of_rules finder kept lists each in_arguments outcome) outcome.is_kept shown
 
 pub returns-clause-shows : goal.returns-clause-shows

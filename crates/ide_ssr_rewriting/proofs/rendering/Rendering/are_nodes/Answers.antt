@@ -1,7 +1,7 @@
 use Rattle.std.proofs.Common.{◌≡◌, ◌&&◌, ◌+◌, ◌<◌, ◌^◌, not, false, true, List, Bool, ℕ, length, map, ap, sym, ◌∙◌, arith, subst, rules, is_some}
 use Rattle.std.specs.Cow.{cow_str_bytes}
 use Rattle.ssr_syntax_tree.specs.Places.{HasToken, token_of}
-use Rattle.ide_ssr_rules.specs.StandIns.{name_at}
+use Rattle.ide_ssr_resolved_rule.specs.StandIns.{name_at}
 use Rattle.ide_ssr_rewriting.specs.Rendering.{piece_of, text_for, is_node, wrapped, plain}
 use Rattle.ide_ssr_rewriting.proofs.Tokens.{no_tokens}
 use Rattle.ide_ssr_rewriting.proofs.Templates.{plain_from, wrapped_from, still_within, bounded, unwrapped, stays}

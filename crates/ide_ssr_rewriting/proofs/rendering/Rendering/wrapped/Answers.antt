@@ -2,7 +2,7 @@ use Rattle.std.proofs.Common.{◌≡◌, ◌++◌, ◌+◌, ◌<◌, ◌^◌, []
 use Rattle.std.specs.Cow.{cow_str_bytes}
 use Rattle.ssr_syntax_tree.specs.Syntax.{Token, tokens_of}
 use Rattle.ssr_syntax_tree.specs.Places.{HasToken, token_of}
-use Rattle.ide_ssr_rules.specs.StandIns.{name_at}
+use Rattle.ide_ssr_resolved_rule.specs.StandIns.{name_at}
 use Rattle.ide_ssr_rewriting.specs.Rendering.{piece_of, text_for, wrapped, wrapped_text}
 use Rattle.ide_ssr_rewriting.proofs.Tokens.{no_tokens}
 use Rattle.ide_ssr_rewriting.proofs.Templates.{pushed, plain_from, wrapped_from, still_within, bounded}

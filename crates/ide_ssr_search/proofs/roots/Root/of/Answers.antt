@@ -1,8 +1,8 @@
 use Rattle.std.proofs.Common.{◌≡◌, ℕ, false, Option, None, is_some, sym, ap, ◌∙◌}
 use Rattle.ssr_syntax_tree.specs.Syntax.{Syntax}
 use Rattle.ssr_syntax_tree.specs.Places.{Node, node_of, parts_of, root_of}
-use Rattle.ide_ssr_resolving.specs.Placeholders.{placeholder_at}
-use Rattle.ide_ssr_resolving.specs.Resolved.{ResolvedKind}
+use Rattle.ide_ssr_resolved_rule.specs.Placeholders.{placeholder_at}
+use Rattle.ide_ssr_resolved_rule.specs.Resolved.{ResolvedRule}
 use Rattle.ide_ssr_search.specs.Private.Roots.{first_counted}
 use Rattle.ide_ssr_search.proofs.Asked.{root_of_placeholder, root_of_call, root_of_path, root_of_node, root_node, not_some}
 use Rattle.ide_ssr_search.proofs.roots.Root.of.Goals as goal
@@ -14,7 +14,7 @@ returns-then-is_some c = root_of_placeholder c.args.rule.now
 of_root : {X : Type 0} (P : Node → X) (lent pattern : Syntax) → lent ≡ pattern → P (node_of lent 0) ≡ P (root_of pattern)
 of_root P lent pattern is = ap (λ s. P (node_of s 0)) is ∙ ap P (root_node pattern)
 
-no_placeholder : (rule : ResolvedKind) (found : Option ℕ) → found ≡ placeholder_at rule.names (node_of rule.pattern 0) → is_some found ≡ false
+no_placeholder : (rule : ResolvedRule) (found : Option ℕ) → found ≡ placeholder_at rule.names (node_of rule.pattern 0) → is_some found ≡ false
     → placeholder_at rule.names (root_of rule.pattern) ≡ None
 no_placeholder rule found is none = sym (ap (placeholder_at rule.names) (root_node rule.pattern)) ∙ sym is ∙ not_some found none
 

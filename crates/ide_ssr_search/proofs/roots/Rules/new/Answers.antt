@@ -2,7 +2,7 @@ use Rattle.std.proofs.Common.{◌≡◌, ◌+◌, ◌∷◌, [], length, Some, a
 use Rattle.std.specs.Prelude.{slice_get}
 use Rattle.std.proofs.lemmas.Option.{get_or_from_slice_get}
 use Rattle.ssr_syntax_tree.proofs.Lists.{pushed_at}
-use Rattle.ide_ssr_resolving.specs.Resolved.{ResolvedKind}
+use Rattle.ide_ssr_resolved_rule.specs.Resolved.{ResolvedRule}
 use Rattle.ide_ssr_search.specs.Private.Roots.{IsAskedBy}
 use Rattle.ide_ssr_search.proofs.roots.Rules.new.Goals as goal
 
@@ -14,7 +14,7 @@ loop-rule-preserved c =
     let old = c.loop-rule.asked.items in
     let asked = c.by.result in
     let pushed = c.in_ok-push.ensures.items in
-    let here : (rule : ResolvedKind) → slice_get rules i ≡ Some rule → IsAskedBy rule asked =
+    let here : (rule : ResolvedRule) → slice_get rules i ≡ Some rule → IsAskedBy rule asked =
     λ rule is. subst (λ r. IsAskedBy r asked) (c.rule-item.is ∙ get_or_from_slice_get rules i rule c.rule-item.result is) c.by.ensures in
     record {
       counted = ap length pushed ∙ length-append old (asked ∷ []) ∙ ap (λ n. n + 1) known.counted;

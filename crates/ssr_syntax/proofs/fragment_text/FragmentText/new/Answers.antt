@@ -3,7 +3,7 @@ use Rattle.std.specs.Prelude.{string_bytes}
 use Rattle.std.specs.Str.{trim}
 use Rattle.ssr_syntax_lex.specs.Tokens.{rows_in}
 use Rattle.ssr_syntax_lex.proofs.Shared.{rows_known}
-use Rattle.ssr_syntax.specs.Private.SolidKinds.{solid_kinds}
+use Rattle.ssr_syntax_rows.specs.SolidKinds.{solid_kinds}
 use Rattle.ssr_syntax.specs.Reading.{trimmed}
 use Rattle.ssr_syntax.proofs.fragment_text.FragmentText.new.Goals as goal
 

@@ -6,7 +6,8 @@ use Rattle.std.proofs.lemmas.Str.{IsUtf8-string_bytes}
 use Rattle.ssr_syntax_lex.specs.Tokens.{tokens}
 use Rattle.ssr_syntax_lex.specs.declared.tokens.RawToken.{RawToken}
 use Rattle.ssr_syntax.specs.Private.Reading.{end_before}
-use Rattle.ssr_syntax.specs.Reading.{pieces, trimmed}
+use Rattle.ssr_syntax_rows.specs.Solid.{pieces}
+use Rattle.ssr_syntax.specs.Reading.{trimmed}
 use Rattle.ssr_syntax.proofs.TextRows.{IsTokenAt, kept_count, kept_token}
 use Rattle.ssr_syntax.proofs.fragment_text.FragmentText.token.Goals as goal
 use Rattle.ssr_syntax.proofs.fragment_text.FragmentText.token.Goals.{In_ok-row, After-end_before-end}

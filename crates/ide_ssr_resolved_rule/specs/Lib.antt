@@ -1,0 +1,12 @@
+pub mod Constraints
+pub mod Names
+pub mod StandIns
+pub mod Placeholders
+pub mod Paths
+pub mod UsedPaths
+pub mod QualifiedCalls
+pub mod Patterns
+pub mod Resolved
+pub mod Parts
+pub mod ResolvedCode
+pub mod Private

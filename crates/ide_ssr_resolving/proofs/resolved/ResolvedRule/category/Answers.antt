@@ -1,5 +1,0 @@
-use Rattle.std.proofs.Common.{rules}
-use Rattle.ide_ssr_resolving.proofs.resolved.ResolvedRule.category.Goals as goal
-
-pub returns : goal.returns
-returns c = search rules steps 200000

@@ -1,5 +1,0 @@
-use Rattle.std.proofs.Common.{rules}
-use Rattle.ide_ssr_resolving.proofs.resolved.resolve_rule.Goals as goal
-
-pub returns-clause-kinds : goal.returns-clause-kinds
-returns-clause-kinds g c = search rules steps 1000000

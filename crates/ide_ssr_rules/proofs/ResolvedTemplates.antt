@@ -1,0 +1,19 @@
+-- What a rule resolves to has a template in each kind.
+use Rattle.std.proofs.Common.{◌≡◌, ℕ, List, All, Ok, subst}
+use Rattle.std.specs.Prelude.{IsSome}
+use Rattle.ssr_base_trees.specs.declared.ids.ScopeId.{ScopeId}
+use Rattle.ssr_base_trees.specs.Meanings.{Meanings}
+use Rattle.ide_ssr_rules.specs.Rules.{Rule, rule_reading}
+use Rattle.ide_ssr_rules.proofs.Templates.{HasTemplate, rule_has}
+use Rattle.ide_ssr_resolved_rule.specs.Resolved.{ResolvedRule}
+use Rattle.ide_ssr_rules.specs.Resolved.{resolved_kinds}
+use Rattle.ide_ssr_rules.proofs.ResolvedUses.{resolved_all, resolved_like}
+
+abbrev IsReplacing : ResolvedRule → Type 0
+IsReplacing kind = IsSome kind.template
+
+pub have_templates : (m : Meanings) (scope : ScopeId) (text : List ℕ) (rule : Rule) (kinds : List ResolvedRule) → rule_reading text ≡ Ok rule
+    → resolved_kinds m scope rule.names rule.constraints rule.kinds ≡ Ok kinds → All (λ kind. IsSome kind.template) kinds
+have_templates m scope text rule kinds is resolved =
+    resolved_all m scope rule.names rule.constraints HasTemplate IsReplacing rule.kinds kinds
+    (λ kind one is had. subst IsReplacing (resolved_like m scope rule.names rule.constraints kind one is).same had) resolved (rule_has text rule is)

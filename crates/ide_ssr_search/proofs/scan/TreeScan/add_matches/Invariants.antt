@@ -1,0 +1,5 @@
+use Rattle.ide_ssr_search.specs.Private.Scan.{AreFoundBefore}
+use Rattle.ide_ssr_search.proofs.scan.TreeScan.add_matches.Given as goal
+
+abbrev pub invariant-loop-place : goal.invariant-loop-place
+invariant-loop-place g l = AreFoundBefore l.self.workspace.now (g.S.Semantics.meanings l.semantics) l.self.context.now l.rules.rules.now l.self.number l.fn.node.0 l.place l.found.items
