@@ -23,9 +23,9 @@ module _ {S : Type 0} (meanings : S → Meanings) (w : Workspace) (s : S) where
   searches_one position ranges text rule context before after at is read added =
       let kinds = added.0 in
       let whole : after ≡ record { workspace = w; semantics = s; context = context; rules = kinds } =
-          added.2 ∙ ap (λ (f : FinderWith S). record f { rules = f.rules ++ kinds }) is in
+      added.2 ∙ ap (λ (f : FinderWith S). record f { rules = f.rules ++ kinds }) is in
       let Resolves : FinderWith S → Type 0 =
-          λ f. resolved_kinds (meanings f.semantics) f.context.scope rule.names rule.constraints rule.kinds ≡ Ok kinds in
+      λ f. resolved_kinds (meanings f.semantics) f.context.scope rule.names rule.constraints rule.kinds ≡ Ok kinds in
       let IsSearch : FinderWith S → Type 0 = λ f. Searches w (meanings s) position ranges text (finder_of meanings f) in
       subst IsSearch (sym whole) (record {
         workspace = refl;
