@@ -6,6 +6,9 @@ mod Taking
 mod BindsOnce
 mod Outcome
 mod OneEach
+mod Flattening
+mod EachOnce
+mod Comments
 mod SomeOutcome
 mod Edited
 pub mod Shared

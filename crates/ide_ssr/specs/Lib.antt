@@ -11,5 +11,6 @@ pub mod Parts
 pub mod Nesting
 pub mod BindsOnce
 pub mod Flattened
+pub mod FromComment
 pub mod Laws
 pub mod Private
