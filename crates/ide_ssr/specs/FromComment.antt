@@ -55,7 +55,7 @@ LacksComment w position =
 -- ** Its rule.
 
 -- what a comment begins with: the first of these that fits
-abbrev pub prefixes : List (List ℕ)
+unfoldable pub prefixes : List (List ℕ)
 prefixes =
     codes "/**/"
     ∷ (codes "/***"
@@ -68,11 +68,11 @@ prefixes =
     ∷ (codes "/*" ∷ []))))))))
 
 -- what stands behind a prefix of a text
-abbrev pub behind : List ℕ → List ℕ → Option (List ℕ)
+unfoldable pub behind : List ℕ → List ℕ → Option (List ℕ)
 behind prefix text = if starts_with ◌==◌ text prefix then Some (drop (length prefix) text) else None
 
 -- what stands behind the first of these prefixes that a text has
-abbrev pub behind_first : List (List ℕ) → List ℕ → Option (List ℕ)
+unfoldable pub behind_first : List (List ℕ) → List ℕ → Option (List ℕ)
 behind_first [] text = None
 behind_first (prefix ∷ others) text = if starts_with ◌==◌ text prefix then Some (drop (length prefix) text) else behind_first others text
 

@@ -1,6 +1,6 @@
 //! A finder with the rule that a comment says.
 
-ghost use Rattle.std.specs.Prelude.{◌≡◌, ℕ, None, IfNone, IfOk, IfSome, IsSome, option_map};
+ghost use Rattle.std.specs.Prelude.{◌≡◌, ℕ, None, IfNone, IfOk, IfSome, IsSome, map, option_map};
 ghost use Rattle.std.specs.Option.{option_copied};
 ghost use Rattle.ide_ssr_refusals.specs.Refusals.{message_of};
 ghost use Rattle.ide_ssr_search.specs.Positions.{EndsAt, HoldsAt};
@@ -81,16 +81,23 @@ fn behind<'a>(text: &'a str, prefix: &str) -> Option<&'a str>
     text.strip_prefix(prefix)
 }
 
+/// What stands behind the first of these prefixes that a text has.
+fn behind_first<'a>(text: &'a str, prefixes: &[&str]) -> Option<&'a str>
+    ensures { option_copied result ≡ behind_first (map (λ prefix. prefix.now) prefixes.now) text.now }
+{
+    for prefix in prefixes {
+        if let Some(rest) = behind(text, prefix) {
+            return Some(rest);
+        }
+    }
+    None
+}
+
 /// What stands behind the prefix of a comment.
 fn behind_prefix(comment: &str) -> Option<&str>
     ensures { option_copied result ≡ behind_first prefixes comment.now }
 {
-    for prefix in PREFIXES {
-        if let Some(text) = behind(comment, prefix) {
-            return Some(text);
-        }
-    }
-    None
+    behind_first(comment, &PREFIXES)
 }
 
 /// The rule that a comment says behind its prefix, if it says one.

@@ -5,7 +5,7 @@ use Rattle.ide_ssr.proofs.matches.SsrMatches.flattened.Goals as goal
 pub loop-preserved : goal.loop-preserved
 loop-preserved c =
     flattening_more c.args.self.matches.items c.loop.left.matches.items c.flatten_last.new.left.items c.loop.flat.matches.items c.flatten_last.new.flat.items
-    c.in_ok-flatten_last.field-0 c.loop.invariant c.in_ok-flatten_last.ensures ?
+    c.in_ok-flatten_last.field-0 c.loop.invariant c.in_ok-flatten_last.ensures c.if-not-branch.false
 
 pub returns-then-not-branch-clause-flattens : goal.returns-then-not-branch-clause-flattens
 returns-then-not-branch-clause-flattens c =
