@@ -137,7 +137,8 @@ fn resolved_with<S: Semantics>(
         qualified_calls,
         eligible_paths,
     };
-    ResolvedRule::new(alloc, names, parts)
+    let rule = ResolvedRule::new(alloc, names, parts)?;
+    Ok(rule)
 }
 
 /// The qualified calls of a pattern with these used paths, and which of the paths are eligible.
