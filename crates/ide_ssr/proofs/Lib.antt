@@ -7,6 +7,7 @@ mod BindsOnce
 mod Outcome
 mod OneEach
 mod Flattening
+mod Sizes
 mod EachOnce
 mod Comments
 mod SomeOutcome

@@ -31,14 +31,9 @@ impl<'a> SsrMatches<'a> {
         let mut flat = SsrMatches {
             matches: Vec::new(alloc),
         };
-        // There are no more than memory holds.
-        for _ in 0..u64::MAX {
-            if !flatten_last(&mut left.matches, &mut flat.matches)? {
-                flat.matches.reverse();
-                return Ok(flat);
-            }
-        }
-        Err(AllocError)
+        while flatten_last(&mut left.matches, &mut flat.matches)? {}
+        flat.matches.reverse();
+        Ok(flat)
     }
 }
 
