@@ -163,36 +163,41 @@ text { font: 13px system-ui, sans-serif; fill: #24292f } .small { font-size: 11p
 .ours { fill: #1f6feb } .peer { fill: #b0b7c0 }
 @media (prefers-color-scheme: dark) { text { fill: #e6edf3 } .small { fill: #9198a1 } .ours { fill: #4493f8 } .peer { fill: #6e7681 } }
 """
-LEFT = 330
+LEFT = 310
 WIDE = 300
 STEP = 42
+RIGHT = LEFT + WIDE + 100
 
 
-def bar(kind, y, value, most, label):
-    width = max(1, round(WIDE * value / most))
-    return '<rect class="%s" x="%d" y="%d" width="%d" height="14"/><text class="small" x="%d" y="%d">%s</text>\n' % (
-        kind, LEFT, y, width, LEFT + width + 6, y + 11, label)
+def bar(kind, y, speed, most):
+    """A bar with its speed, as long as its part of the faster one of both."""
+    width = max(1, round(WIDE * speed / most))
+    return '<rect class="%s" x="%d" y="%d" width="%d" height="14"/><text class="small" x="%d" y="%d">%.3g MB/s</text>\n' % (
+        kind, LEFT, y, width, LEFT + width + 6, y + 11, speed)
+
+
+def pair(number, row):
+    """The two bars of a row, to a scale of their own, and how many times as fast `ssr` is."""
+    y = 46 + STEP * number
+    ours, peer = row.speeds()
+    return (
+        '<text x="%d" y="%d" text-anchor="end">%s</text>\n' % (LEFT - 10, y + 20, html.escape(row.name))
+        + bar("ours", y, ours, max(ours, peer)) + bar("peer", y + 16, peer, max(ours, peer))
+        + '<text x="%d" y="%d">%.2g</text>\n' % (RIGHT, y + 20, ours / peer))
 
 
 def drawing(rows, day):
     """The speeds of both programs, a pair of bars for each row."""
-    most = max(speed for row in rows for speed in row.speeds())
-    parts = []
-    for number, row in enumerate(rows):
-        y = 46 + STEP * number
-        ours, peer = row.speeds()
-        parts.append('<text x="%d" y="%d" text-anchor="end">%s</text>\n' % (LEFT - 10, y + 20, html.escape(row.name)))
-        parts.append(bar("ours", y, ours, most, "%.3g MB/s, %.3g times as fast" % (ours, row.times[1] / row.times[0])))
-        parts.append(bar("peer", y + 16, peer, most, "%.3g MB/s" % peer))
-    high = 46 + STEP * len(rows) + 14
-    wide = LEFT + WIDE + 220
+    high = 46 + STEP * len(rows)
+    wide = RIGHT + 110
     return (
         '<svg xmlns="http://www.w3.org/2000/svg" viewBox="0 0 %d %d" width="%d" height="%d" role="img">\n' % (wide, high, wide, high)
         + "<title>ssr beside a rewriter over syn: MB/s of processor time</title>\n<style>%s</style>\n" % STYLE
+        + '<text class="small" x="%d" y="24" text-anchor="end">%s, each pair to its own scale</text>\n' % (LEFT - 10, day)
         + '<rect class="ours" x="%d" y="12" width="14" height="14"/><text x="%d" y="24">ssr</text>\n' % (LEFT, LEFT + 20)
         + '<rect class="peer" x="%d" y="12" width="14" height="14"/><text x="%d" y="24">a rewriter over syn</text>\n' % (LEFT + 60, LEFT + 80)
-        + '<text class="small" x="%d" y="24" text-anchor="end">MB/s of processor time, %s</text>\n' % (LEFT - 10, day)
-        + "".join(parts) + "</svg>\n")
+        + '<text class="small" x="%d" y="24">times as fast</text>\n' % RIGHT
+        + "".join(pair(number, row) for number, row in enumerate(rows)) + "</svg>\n")
 
 
 def main():
