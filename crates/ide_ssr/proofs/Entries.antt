@@ -1,6 +1,6 @@
 -- A finder for the rule of a comment: each step gives one, or tells a refusal.
-use Rattle.std.proofs.Common.{◌≡◌, ℕ, List, [], Option, Some, None, Result, Ok, inl, inr, refl, sym, ap, ◌∙◌, subst}
-use Rattle.std.specs.Prelude.{Err, IsSome, IfNone, IfOk, AllocError}
+use Rattle.std.proofs.Common.{◌≡◌, List, [], Option, Some, None, Result, Ok, inr, refl, ap, subst}
+use Rattle.std.specs.Prelude.{Err, IsSome, IfNone, IfOk}
 use Rattle.std.proofs.lemmas.Bool.{false≢true}
 use Rattle.ssr_base_trees.specs.declared.ids.FilePosition.{FilePosition}
 use Rattle.ssr_base_trees.specs.declared.ids.FileRange.{FileRange}
@@ -12,7 +12,6 @@ use Rattle.ide_ssr_refusals.specs.declared.refusals.Refusal.{Refusal}
 use Rattle.ide_ssr_refusals.specs.Refusals.{TellsOf, message_of}
 use Rattle.ide_ssr_rules.specs.Rules.{Rule}
 use Rattle.ide_ssr_rules.specs.Resolved.{resolved_kinds}
-use Rattle.ide_ssr_search.specs.Context.{Context}
 use Rattle.ide_ssr_search.specs.Making.{Makes}
 use Rattle.ide_ssr.specs.Adding.{Adds}
 use Rattle.ide_ssr.specs.Finder.{FinderWith}
@@ -54,8 +53,8 @@ unresolved {S} meanings w semantics position restrictions rule made finder error
       subst (λ (f : FinderWith S). resolved_kinds (meanings f.semantics) f.context.scope rule.names rule.constraints rule.kinds ≡ Err told.0) makes.2 told.1,
     )
 
-pub not_added : {S X : Type 0} (meanings : S → Meanings) (w : Workspace) (semantics : S) (position : FilePosition) (restrictions : List FileRange) (rule : Rule)
-    (made finder : FinderWith S) (error : SsrError) (result : Result (Option X) AllocError) → restrictions ≡ []
+pub not_added : {S X E : Type 0} (meanings : S → Meanings) (w : Workspace) (semantics : S) (position : FilePosition) (restrictions : List FileRange) (rule : Rule)
+    (made finder : FinderWith S) (error : SsrError) (result : Result (Option X) E) → restrictions ≡ []
     → MakesFinder w semantics (Makes w (meanings semantics) position restrictions) (Ok made)
     → Adds made finder (resolved_kinds (meanings made.semantics) made.context.scope rule.names rule.constraints rule.kinds) (Err error)
     → IfOk result (λ _. IsSome (message_of error)) → IfOk result (λ found. IfNone found (RefusesRule w (meanings semantics) position rule))
