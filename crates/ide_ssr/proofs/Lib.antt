@@ -10,6 +10,7 @@ mod Flattening
 mod Sizes
 mod EachOnce
 mod Comments
+mod Entries
 mod SomeOutcome
 mod Edited
 pub mod Shared

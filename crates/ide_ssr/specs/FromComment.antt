@@ -10,7 +10,7 @@ use Rattle.ssr_base_trees.specs.declared.ids.FilePosition.{FilePosition}
 use Rattle.ssr_base_trees.specs.declared.ids.FileRange.{FileRange}
 use Rattle.ssr_base_trees.specs.Meanings.{Meanings}
 use Rattle.ssr_base_trees.specs.Workspace.{Workspace, tree_of}
-use Rattle.ide_ssr_refusals.specs.Refusals.{Refusal}
+use Rattle.ide_ssr_refusals.specs.declared.refusals.Refusal.{Refusal}
 use Rattle.ide_ssr_rules.specs.Rules.{Rule, rule_reading}
 use Rattle.ide_ssr_rules.specs.Resolved.{resolved_kinds}
 use Rattle.ide_ssr_search.specs.declared.context_error.ContextError.{ContextError}
