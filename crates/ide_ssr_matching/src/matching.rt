@@ -93,7 +93,11 @@ fn can_match<S: Semantics>(
 }
 
 /// Adds what placeholders bind to `out`: one that holds the receiver keeps how it is taken.
-fn push_received(receiver: Receiver, held: &[Binding], out: &mut Vec<Binding>) -> Result<(), AllocError>
+fn push_received(
+    receiver: Receiver,
+    held: &[Binding],
+    out: &mut Vec<Binding>,
+) -> Result<(), AllocError>
     ensures { OnOk result (out.new.items ≡ out.old.items ++ map (received receiver) held.now) }
 {
     for binding in held {

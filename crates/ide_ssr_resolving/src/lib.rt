@@ -11,6 +11,6 @@ mod used;
 
 pub use eligible::eligible_paths;
 pub use keys::key_of;
-pub use qualified_calls::qualified_calls;
+pub use qualified_calls::qualified_calls_of;
 pub use resolving::resolution;
 pub use used::{Unresolved, used_paths};

@@ -105,7 +105,7 @@ fn qualified_call<S: Semantics>(
 }
 
 /// The qualified calls of a tree with these used paths, in order.
-pub fn qualified_calls<S: Semantics>(
+pub fn qualified_calls_of<S: Semantics>(
     alloc: Global,
     semantics: &S,
     scope: ScopeId,

@@ -16,7 +16,7 @@ use ide_ssr_refusals::{Refusal, SsrError, Text};
 use ide_ssr_resolved_rule::{
     ConstraintSet, Names, QualifiedCall, ResolvedRule, RuleParts, UsedPath,
 };
-use ide_ssr_resolving::{Unresolved, eligible_paths, qualified_calls, used_paths};
+use ide_ssr_resolving::{Unresolved, eligible_paths, qualified_calls_of, used_paths};
 use ssr_base_trees::{ScopeId, Semantics};
 use ssr_syntax_tree::Tree;
 use std::alloc::{AllocError, Global};
@@ -137,7 +137,8 @@ fn resolved_with<S: Semantics>(
         qualified_calls,
         eligible_paths,
     };
-    ResolvedRule::new(alloc, names, parts)
+    let rule = ResolvedRule::new(alloc, names, parts)?;
+    Ok(rule)
 }
 
 /// The qualified calls of a pattern with these used paths, and which of the paths are eligible.
@@ -154,7 +155,7 @@ fn lead_candidates<S: Semantics>(
     ensures has_calls { IfOk result (λ found. HasCalls pattern.now found.0.items) }
     ensures has_eligible { IfOk result (λ found. HasPaths pattern.now found.1.items) }
 {
-    let calls = qualified_calls(alloc, semantics, scope, pattern, paths)?;
+    let calls = qualified_calls_of(alloc, semantics, scope, pattern, paths)?;
     let eligible = eligible_paths(alloc, semantics, pattern, &calls, paths)?;
     Ok((calls, eligible))
 }

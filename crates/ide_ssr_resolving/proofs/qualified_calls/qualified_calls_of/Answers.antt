@@ -1,7 +1,7 @@
 use Rattle.std.proofs.Common.{Some, None, sym, ◌∙◌, arith, rules}
 use Rattle.ide_ssr_resolving.proofs.QualifiedCalls.{calls_next, has_next}
-use Rattle.ide_ssr_resolving.proofs.qualified_calls.qualified_calls.Goals as goal
-use Rattle.ide_ssr_resolving.proofs.qualified_calls.qualified_calls.Goals.{in-Some+in_ok-push, in_default}
+use Rattle.ide_ssr_resolving.proofs.qualified_calls.qualified_calls_of.Goals as goal
+use Rattle.ide_ssr_resolving.proofs.qualified_calls.qualified_calls_of.Goals.{in-Some+in_ok-push, in_default}
 
 pub loop-path-preserved : goal.loop-path-preserved
 loop-path-preserved g c =
