@@ -100,7 +100,10 @@ fn parts(
 {
     let mut text = String::new(alloc);
     for file in 0..workspace.file_count() {
-        if let (Some(edit), Some(tree)) = (edits.get(&FileId(file)), workspace.tree(file)) {
+        let Some(tree) = workspace.tree(file) else {
+            unreachable!()
+        };
+        if let Some(edit) = edits.get(&FileId(file)) {
             push_part(alloc, &mut text, name_of(names, file), tree, edit)?;
         }
     }

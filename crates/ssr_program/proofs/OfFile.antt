@@ -1,0 +1,55 @@
+-- From what the middle of the program answers of a file to what a run answers.
+use Rattle.std.proofs.Common.{◌≡◌, ℕ, List, [], refl, Result, Ok, Err, String, Global, string_bytes, ap, subst, sym, ◌∙◌}
+use Rattle.std.specs.Str.{IsUtf8}
+use Rattle.ssr_syntax_tree.specs.Syntax.{Syntax}
+use Rattle.ssr_syntax.specs.Reading.{file_reading}
+use Rattle.ssr_syntax.specs.declared.syntax_error.SyntaxError.{SyntaxError}
+use Rattle.ssr_syntax.specs.declared.syntax_error.SyntaxError.TheVariants as syntax
+use Rattle.ssr_base_trees.specs.declared.ids.FileRange.{FileRange}
+use Rattle.ssr_base_trees.specs.Workspace.{Workspace}
+use Rattle.ide_ssr.proofs.Shared.{none_clash}
+use Rattle.ssr_program.specs.declared.commands.Form.TheVariants as forms
+use Rattle.ssr_program.specs.declared.rewrite_error.RewriteError.TheVariants as errors
+use Rattle.ssr_program.specs.Output.{Output, written}
+use Rattle.ssr_program.specs.OfFile.{IsFile, IsOutputOfFile, file_search, no_file, rewritten, one_file, text_with}
+use Rattle.ssr_program.specs.Searching.{Search, Changes, ComesTo, Outcome, refuses, clashes, changes, no_finder, no_rules, clash, edited}
+use Rattle.ssr_program.specs.Private.Rewriting.{AnswersFile, IsNewText, Rewrites}
+use Rattle.ssr_program.proofs.OneText.{one_code}
+
+pub file_error : (A : Type 0) (rules : List (List ℕ)) (bytes : List ℕ) → IsUtf8 bytes → (error : SyntaxError) → AnswersFile (file_reading bytes) (Err error)
+    → Rewrites {A = A} forms.File rules bytes (Err (errors.File error))
+file_error A rules bytes utf8 syntax.Lex is = no_file _ (λ same. cc) utf8 is
+file_error A rules bytes utf8 syntax.NoTree is = no_file _ (λ same. cc) utf8 is
+file_error A rules bytes utf8 syntax.TooDeep is = no_file _ (λ same. cc) utf8 is
+file_error A rules bytes utf8 syntax.TooLong is = no_file _ (λ same. cc) utf8 is
+file_error A rules bytes utf8 syntax.Memory is = refl
+
+-- ** No clash.
+
+abbrev IsNoClash : Outcome → Type 0
+IsNoClash (refuses message) = Unit {0}
+IsNoClash (clashes earlier later) = ⊥
+IsNoClash (changes new) = Unit {0}
+
+no_clash : (code : Syntax) (rules : List (List ℕ)) (outcome : Outcome) → ComesTo (file_search code) rules outcome → IsNoClash outcome
+no_clash code rules _ (no_finder why other made) = tt
+no_clash code rules _ (no_rules context why made read) = tt
+no_clash code rules _ (clash finder earlier later is told) = none_clash finder (ap (λ (w : Workspace). w.expansions) is.workspace) earlier later told
+no_clash code rules _ (edited finder found is told) = tt
+
+-- without expansions nothing clashes
+pub never_clashes : (code : Syntax) (rules : List (List ℕ)) (earlier later : FileRange) → ComesTo (file_search code) rules (clashes earlier later) → ⊥
+never_clashes code rules earlier later comes = no_clash code rules _ comes
+
+-- ** The new text.
+
+pub new_text_is : (rules : List (List ℕ)) (bytes : List ℕ) (code : Syntax) (w : Workspace) (new : Changes) (text : List ℕ) → IsFile bytes code → w ≡ one_file code
+    → ComesTo (file_search code) rules (changes new) → IsNewText w new text → IsOutputOfFile rules bytes (written text)
+new_text_is rules bytes code w new text file is comes (other, same, made) =
+    let text_is : text_with code (new 0) ≡ text = ap (λ (code : Syntax). text_with code (new 0)) (one_code code other (sym is ∙ same)) ∙ sym made in
+    subst (λ (text : List ℕ). IsOutputOfFile rules bytes (written text)) text_is (rewritten code new file comes)
+
+-- the search of a workspace that is a file is the file's
+pub of_one : (code : Syntax) (w : Workspace) (P : Search → Type 0) → w ≡ one_file code
+    → P (record (file_search code) { workspace = w }) → P (file_search code)
+of_one code w P is = subst (λ (w : Workspace). P (record (file_search code) { workspace = w })) is
