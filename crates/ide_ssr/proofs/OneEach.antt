@@ -10,6 +10,7 @@ use Rattle.ide_ssr_nesting.specs.Lists.{Listing, AreLists}
 use Rattle.ide_ssr_rewriting.specs.declared.editing.EditError.TheVariants as errors
 use Rattle.ide_ssr_rewriting.specs.Clashes.{clash_of}
 use Rattle.ide_ssr_rewriting.specs.Edits.{Answers}
+use Rattle.ide_ssr_rewriting.specs.Replacements.{writing}
 use Rattle.ide_ssr_rewriting.proofs.Shared.{one_edit, no_clash}
 use Rattle.ide_ssr_search.proofs.Shared.{are_matches, one_list}
 use Rattle.ide_ssr.specs.Finder.{Finder}
@@ -40,8 +41,8 @@ pub one_edit_each : (finder : Finder) → OneEdit finder
 one_edit_each finder a b first again =
     let one = first.1 in
     let other = again.1 in
-    one_edit one.0 one.1 finder.rules one.2.is_kept one.2.are_lists a b one.3
-    (answers_again finder one.0 other.0 one.1 other.1 one.2 other.2 (λ kept lists. Answers kept lists finder.rules (Ok b)) other.3)
+    one_edit one.0 one.1 (writing finder.meanings finder.rules) one.2.is_kept one.2.are_lists a b one.3
+    (answers_again finder one.0 other.0 one.1 other.1 one.2 other.2 (λ kept lists. Answers kept lists (writing finder.meanings finder.rules) (Ok b)) other.3)
 
 -- where no macro call stands for anything, no clash is told
 abbrev pub NoClashWithoutExpansions : Finder → Type 0

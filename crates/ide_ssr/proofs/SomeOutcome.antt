@@ -5,6 +5,7 @@ use Rattle.ssr_base_trees.specs.declared.ids.FileId.{FileId}
 use Rattle.ssr_base_trees.specs.Changes.{Change}
 use Rattle.ssr_base_trees.specs.Built.{IsBuilt}
 use Rattle.ide_ssr_nesting.proofs.Shared.{kept_exist, lists_exist}
+use Rattle.ide_ssr_rewriting.specs.Replacements.{writing}
 use Rattle.ide_ssr_rewriting.proofs.Shared.{answer_exists}
 use Rattle.ide_ssr_search.proofs.Shared.{are_matches, some_found}
 use Rattle.ide_ssr.specs.Finder.{Finder}
@@ -28,7 +29,7 @@ answer_exists_each finder built templates =
     let outcome = outcome_exists finder built in
     let kept = outcome.0 in
     let lists = outcome.1 in
-    elim (answer_exists kept outcome.2.is_kept lists finder.rules outcome.2.are_lists) [
+    elim (answer_exists kept outcome.2.is_kept lists (writing finder.meanings finder.rules) outcome.2.are_lists) [
       | inl edits ↦ inl (edits.0, (templates, (kept, lists, outcome.2, edits.1)))
       | inr clash ↦ inr (clash.0, clash.1, (templates, (kept, lists, outcome.2, clash.2)))
     ]

@@ -9,6 +9,7 @@ use Rattle.ide_ssr_nesting.specs.Lists.{Listing}
 use Rattle.ide_ssr_rewriting.specs.declared.editing.EditError.{EditError}
 use Rattle.ide_ssr_rewriting.specs.declared.editing.EditError.TheVariants as errors
 use Rattle.ide_ssr_rewriting.specs.Edits.{Answers}
+use Rattle.ide_ssr_rewriting.specs.Replacements.{writing}
 use Rattle.ide_ssr.specs.Finder.{Finder}
 use Rattle.ide_ssr.specs.Searching.{IsOutcome}
 
@@ -18,7 +19,7 @@ HaveTemplates rules = All (λ rule. IsSome rule.template) rules
 
 -- the edits by which the kept matches are rewritten, or the first clash of them
 abbrev pub AreEdits : Finder → Result (BTreeMap FileId (List Change)) EditError → Type 0
-AreEdits finder result = (kept : Kept) × (lists : Listing) × IsOutcome finder kept lists × Answers kept lists finder.rules result
+AreEdits finder result = (kept : Kept) × (lists : Listing) × IsOutcome finder kept lists × Answers kept lists (writing finder.meanings finder.rules) result
 
 -- that a rule has no template is told before all else, whether it matches or not
 abbrev pub Edits : Finder → Result (BTreeMap FileId (List Change)) EditError → Type 0

@@ -3,7 +3,7 @@
 ghost use Rattle.std.specs.Prelude.{◌≡◌, ◌↔◌, ◌++◌, [], All, IfOk, IsTrue, OnErr};
 ghost use Rattle.ide_ssr_resolved_rule.specs.Patterns.{HasEachOnce, AreInArguments};
 ghost use Rattle.ide_ssr_rules.specs.Resolved.{resolved_kinds};
-ghost use Rattle.ide_ssr_rewriting.specs.Edits.{EditsFit};
+ghost use Rattle.ide_ssr_rewriting.specs.Edits.{EditsFit, EditsInOrder};
 ghost use Rattle.ide_ssr_search.specs.Making.{Makes, MakesFirst};
 ghost use Rattle.ide_ssr.specs.Adding.{Adds};
 ghost use Rattle.ide_ssr.specs.BindsOnce.{BindOnce};
@@ -178,16 +178,17 @@ impl<'a, S: Semantics> MatchFinder<'a, S> {
     /// The edits of the files by their numbers, of those in which something matches: each outermost kept match becomes its
     /// rule's template with what its placeholders hold, in which the matches are rewritten likewise. `NoTemplate` where a
     /// rule has none, whether it matches or not; else `Clash` where two matches of one list share a byte, and their ranges
-    /// or what stands for them differ: the first two.
+    /// or what stands for them differ: the first two. The changes of a file stand in order, and no two share a byte.
     pub fn edits(&self) -> Result<BTreeMap<FileId, TextEdit>, EditError>
         ensures answer { Edits (finder_of S.meanings self.now) result }
         ensures fits { IfOk result (λ edits. EditsFit self.now.workspace edits) }
+        ensures order { IfOk result (λ edits. EditsInOrder edits) }
     {
         if !have_templates(&self.rules) {
             return Err(EditError::NoTemplate);
         }
         let (kept, lists) = self.outcome()?;
-        edits(self.alloc, &kept, &lists, &self.rules)
+        edits(self.alloc, self.semantics, &kept, &lists, &self.rules)
     }
 
     /// The kept matches as `edits` replaces them: the outermost ones, each with what its placeholders hold. A match has each

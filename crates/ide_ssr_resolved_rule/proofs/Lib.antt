@@ -4,4 +4,6 @@ mod NamePlaces
 mod StandIns
 mod Nodes
 mod Marks
+mod TemplateTables
+mod ReceiverTables
 pub mod Shared

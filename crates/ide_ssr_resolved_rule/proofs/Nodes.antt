@@ -35,9 +35,12 @@ table_at names s table n found is has at =
 
 -- ** Tokens by their numbers.
 
-token_is : (s : Syntax) (n : ℕ) → token_of s n ≡ get_or (tokens_of s) n (record { kind = k.WHITESPACE; text = [] })
+abbrev pub no_token : Token
+no_token = record { kind = k.WHITESPACE; text = [] }
+
+pub token_is : (s : Syntax) (n : ℕ) → token_of s n ≡ get_or (tokens_of s) n no_token
 unfolding token_of
-token_is s n = unwrap_or-slice_get (tokens_of s) n (record { kind = k.WHITESPACE; text = [] })
+token_is s n = unwrap_or-slice_get (tokens_of s) n no_token
 
 pub tokens_next : (names : List (List ℕ)) (s : Syntax) (n : ℕ) (old new : List (Option ℕ)) (found : Option ℕ) → HasToken s n → found ≡ name_at names (token_of s n)
     → old ≡ map (name_at names) (take n (tokens_of s)) → new ≡ old ++ found ∷ [] → new ≡ map (name_at names) (take (n + 1) (tokens_of s))
@@ -50,7 +53,7 @@ pub tokens_all : (names : List (List ℕ)) (s : Syntax) (n : ℕ) (table : List 
     → table ≡ map (name_at names) (take n (tokens_of s)) → table ≡ token_placeholders names s
 tokens_all names s n table all so_far = so_far ∙ ap (map (name_at names)) (take_all n (tokens_of s) (omega (arith, all, length-tokens_in s.children)))
 
--- a template's table, where there is a template
+-- the table of a tree, where there is one
 module _ (names : List (List ℕ)) (table : List (Option ℕ)) (n : ℕ) where
   pub in_table : (template : Option Syntax) → IfSome template (λ tree. table ≡ token_placeholders names tree) → IsSomeAnd template (λ tree. HasToken tree n)
       → n < length table
@@ -61,9 +64,8 @@ module _ (names : List (List ℕ)) (table : List (Option ℕ)) (n : ℕ) where
       → found ≡ get_or table n found → IfSome template (λ tree. found ≡ name_at names (token_of tree n))
   at_table None found is has at = tt
   at_table (Some tree) found is has at =
-      let none : Token = record { kind = k.WHITESPACE; text = [] } in
       at ∙ ap (λ t. get_or t n found) is
-      ∙ get_or-map (name_at names) (tokens_of tree) n none found (omega (arith, has, length-tokens_in tree.children))
+      ∙ get_or-map (name_at names) (tokens_of tree) n no_token found (omega (arith, has, length-tokens_in tree.children))
       ∙ ap (name_at names) (sym (token_is tree n))
 
 -- ** Single children.

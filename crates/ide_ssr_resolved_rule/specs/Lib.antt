@@ -7,6 +7,8 @@ pub mod UsedPaths
 pub mod QualifiedCalls
 pub mod Patterns
 pub mod Resolved
+pub mod Templates
+pub mod Receivers
 pub mod Parts
 pub mod ResolvedCode
 pub mod Private

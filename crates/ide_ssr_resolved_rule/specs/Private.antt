@@ -2,3 +2,5 @@
 -- to believe them.
 pub mod Placeholders
 pub mod Marks
+pub mod TemplateTables
+pub mod ReceiverTables

@@ -7,8 +7,10 @@ mod parts;
 mod paths;
 mod placeholders;
 mod qualified_calls;
+mod receivers;
 mod resolved;
 mod stand_ins;
+mod templates;
 mod used_paths;
 
 pub use constraints::{Constraint, ConstraintSet};
@@ -18,4 +20,5 @@ pub use paths::{first_child, is_arguments, last_segment};
 pub use qualified_calls::QualifiedCall;
 pub use resolved::ResolvedRule;
 pub use stand_ins::{STAND_IN_PREFIX, stand_in_name};
+pub use templates::TemplateToken;
 pub use used_paths::UsedPath;

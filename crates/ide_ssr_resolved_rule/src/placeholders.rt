@@ -28,7 +28,7 @@ fn only_token(tree: &Tree, node: NodeNo) -> Option<TokenNo>
 
 /// Which name's stand-in a token is.
 #[tactic(auto, unfolding(crate::specs::StandIns::name_at))]
-fn name_at(names: &Names<'_>, tree: &Tree, token: TokenNo) -> Option<u32>
+pub(crate) fn name_at(names: &Names<'_>, tree: &Tree, token: TokenNo) -> Option<u32>
     requires few { length names.now < 2 ^ 32 }
     requires has { HasToken tree.now token.0 }
     ensures { result ≡ name_at names.now (token_of tree.now token.0) }
@@ -41,7 +41,7 @@ fn name_at(names: &Names<'_>, tree: &Tree, token: TokenNo) -> Option<u32>
 }
 
 /// Which name's stand-in a node is.
-fn placeholder_at(names: &Names<'_>, tree: &Tree, node: NodeNo) -> Option<u32>
+pub(crate) fn placeholder_at(names: &Names<'_>, tree: &Tree, node: NodeNo) -> Option<u32>
     requires few { length names.now < 2 ^ 32 }
     requires has { HasNode tree.now node.0 }
     ensures { result ≡ placeholder_at names.now (node_of tree.now node.0) }

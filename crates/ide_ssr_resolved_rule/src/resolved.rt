@@ -1,11 +1,14 @@
 //! A rule that resolves, as one value: its names, trees and used paths, and where its placeholders stand.
 ghost use Rattle.std.specs.Prelude.{◌≡◌, ◌<◌, ◌^◌, length, map, string_bytes, IfOk};
 ghost use Rattle.std.specs.Option.{IfSome, IsSomeAnd, option_copied};
-ghost use Rattle.ssr_syntax_tree.specs.Places.{HasNode, HasToken, node_of, token_of};
-ghost use Rattle.ide_ssr_resolved_rule.specs.StandIns.{name_at};
+ghost use Rattle.ssr_syntax_tree.specs.Places.{HasNode, HasToken, node_of};
+ghost use Rattle.ide_ssr_resolved_rule.specs.Templates.{template_token};
+ghost use Rattle.ide_ssr_resolved_rule.specs.Receivers.{is_receiver};
 ghost use Rattle.ide_ssr_resolved_rule.specs.Placeholders.{placeholder_at, token_placeholders};
 ghost use Rattle.ide_ssr_resolved_rule.specs.Private.Marks.{TellsRes};
 ghost use Rattle.ide_ssr_resolved_rule.specs.Private.Placeholders.{placeholders};
+ghost use Rattle.ide_ssr_resolved_rule.specs.Private.ReceiverTables.{TellsReceiversOf};
+ghost use Rattle.ide_ssr_resolved_rule.specs.Private.TemplateTables.{TellsTokens};
 ghost use Rattle.ide_ssr_resolved_rule.specs.QualifiedCalls.{HasCalls, call_at};
 ghost use Rattle.ide_ssr_resolved_rule.specs.Resolved.{meets};
 ghost use Rattle.ide_ssr_resolved_rule.specs.UsedPaths.{HasPaths, res_at};
@@ -15,6 +18,8 @@ use crate::names::Names;
 use crate::parts::RuleParts;
 use crate::placeholders::{placeholders, token_placeholders};
 use crate::qualified_calls::{QualifiedCall, call_at};
+use crate::receivers::receivers;
+use crate::templates::{TemplateToken, template_tokens};
 use crate::used_paths::{UsedPath, res_by_node};
 use ssr_base_trees::Res;
 use ssr_syntax_kinds::{Fragment, SyntaxKind};
@@ -29,37 +34,34 @@ struct Tables {
     in_pattern: Vec<Option<u32>>,
     /// Which placeholder each token of the pattern is.
     in_pattern_tokens: Vec<Option<u32>>,
-    /// Which placeholder each token of the template is.
-    in_template: Vec<Option<u32>>,
+    /// What each token of the template is.
+    in_template: Vec<TemplateToken>,
+    /// Which placeholders are receivers of method calls of the template.
+    receivers: Vec<bool>,
     /// What each node of the pattern stands for, if it is a used path.
     res_by_node: Vec<Option<Res>>,
 }
 
 impl Tables {
-    /// The tables of a rule with these names and this pattern, which has these used paths, and with this template.
-    fn of(
-        alloc: Global,
-        names: &Names<'_>,
-        pattern: &Tree,
-        template: Option<&Tree>,
-        paths: &[UsedPath],
-    ) -> Result<Tables, AllocError>
+    /// The tables of a rule with these names and parts.
+    fn of(alloc: Global, names: &Names<'_>, parts: &RuleParts) -> Result<Tables, AllocError>
         requires few { length names.now < 2 ^ 32 }
-        requires has { HasPaths pattern.now paths.now }
-        ensures in_pattern { IfOk result (λ tables. tables.in_pattern.items ≡ placeholders names.now pattern.now) }
-        ensures in_pattern_tokens { IfOk result (λ tables. tables.in_pattern_tokens.items ≡ token_placeholders names.now pattern.now) }
-        ensures in_template { IfOk result (λ tables. IfSome (option_copied template.entry) (λ tree. tables.in_template.items ≡ token_placeholders names.now tree)) }
-        ensures res_by_node { IfOk result (λ tables. TellsRes paths.now tables.res_by_node.items) }
+        requires has { HasPaths parts.now.pattern parts.now.pattern_paths.items }
+        requires has_template { IfSome parts.now.template (λ template. HasPaths template parts.now.template_paths.items) }
+        ensures in_pattern { IfOk result (λ tables. tables.in_pattern.items ≡ placeholders names.now parts.now.pattern) }
+        ensures in_pattern_tokens { IfOk result (λ tables. tables.in_pattern_tokens.items ≡ token_placeholders names.now parts.now.pattern) }
+        ensures in_template { IfOk result (λ tables. IfSome parts.now.template (λ tree. TellsTokens names.now parts.now.template_paths.items tree tables.in_template.items)) }
+        ensures receivers { IfOk result (λ tables. TellsReceiversOf names.now parts.now.template tables.receivers.items) }
+        ensures res_by_node { IfOk result (λ tables. TellsRes parts.now.pattern_paths.items tables.res_by_node.items) }
     {
-        let in_pattern = placeholders(alloc, names, pattern)?;
-        let in_pattern_tokens = token_placeholders(alloc, names, pattern)?;
-        let in_template = template_placeholders(alloc, names, template)?;
-        let res_by_node = res_by_node(alloc, pattern, paths)?;
+        let paths = parts.pattern_paths.as_slice();
+        let template = parts.template.as_ref();
         Ok(Tables {
-            in_pattern,
-            in_pattern_tokens,
-            in_template,
-            res_by_node,
+            in_pattern: placeholders(alloc, names, &parts.pattern)?,
+            in_pattern_tokens: token_placeholders(alloc, names, &parts.pattern)?,
+            in_template: tokens_of_template(alloc, names, template, &parts.template_paths)?,
+            receivers: receivers_of_template(alloc, names, template)?,
+            res_by_node: res_by_node(alloc, &parts.pattern, paths)?,
         })
     }
 }
@@ -79,6 +81,8 @@ impl Model for ResolvedRule {
     ghost use Rattle.ide_ssr_resolved_rule.specs.ResolvedCode.{resolved_code};
     ghost use Rattle.ide_ssr_resolved_rule.specs.Private.Marks.{TellsRes};
     ghost use Rattle.ide_ssr_resolved_rule.specs.Private.Placeholders.{placeholders};
+    ghost use Rattle.ide_ssr_resolved_rule.specs.Private.ReceiverTables.{TellsReceiversOf};
+    ghost use Rattle.ide_ssr_resolved_rule.specs.Private.TemplateTables.{TellsTokens};
     ghost use Rattle.ide_ssr_resolved_rule.specs.Placeholders.{token_placeholders};
     ghost use Rattle.ide_ssr_resolved_rule.specs.QualifiedCalls.{HasCalls};
     ghost use Rattle.ide_ssr_resolved_rule.specs.UsedPaths.{HasPaths};
@@ -92,7 +96,8 @@ impl Model for ResolvedRule {
     ghost invariant = { λ rule. record {
       in_pattern : rule.tables.in_pattern.items ≡ placeholders (map string_bytes rule.parts.names.items) rule.parts.pattern;
       in_pattern_tokens : rule.tables.in_pattern_tokens.items ≡ token_placeholders (map string_bytes rule.parts.names.items) rule.parts.pattern;
-      in_template : IfSome rule.parts.template (λ template. rule.tables.in_template.items ≡ token_placeholders (map string_bytes rule.parts.names.items) template);
+      in_template : IfSome rule.parts.template (λ template. TellsTokens (map string_bytes rule.parts.names.items) rule.parts.template_paths.items template rule.tables.in_template.items);
+      receivers : TellsReceiversOf (map string_bytes rule.parts.names.items) rule.parts.template rule.tables.receivers.items;
       has_pattern : HasPaths rule.parts.pattern rule.parts.pattern_paths.items;
       res_by_node : TellsRes rule.parts.pattern_paths.items rule.tables.res_by_node.items;
       has_template : IfSome rule.parts.template (λ template. HasPaths template rule.parts.template_paths.items);
@@ -116,9 +121,7 @@ impl ResolvedRule {
         requires eligible { HasPaths parts.pattern parts.eligible_paths.items }
         ensures { IfOk result (λ rule. rule ≡ rule_of parts) }
     {
-        let template = parts.template.as_ref();
-        let paths = parts.pattern_paths.as_slice();
-        let tables = Tables::of(alloc, names, &parts.pattern, template, paths)?;
+        let tables = Tables::of(alloc, names, &parts)?;
         Ok(ResolvedRule { parts, tables })
     }
 
@@ -176,12 +179,25 @@ impl ResolvedRule {
         }
     }
 
-    /// Which placeholder a token of the template is: the place of its name among the names.
-    pub fn template_placeholder(&self, token: TokenNo) -> Option<u32>
+    /// What a token of the template is: what is written for it.
+    #[tactic(auto, unfolding(crate::specs::Templates::template_token))]
+    pub fn template_token(&self, token: TokenNo) -> TemplateToken
         requires { IsSomeAnd self.now.template (λ template. HasToken template token.0) }
-        ensures { IfSome self.now.template (λ template. result ≡ name_at self.now.names (token_of template token.0)) }
+        ensures { IfSome self.now.template (λ template. result ≡ template_token self.now template token.0) }
     {
         self.tables.in_template[token.0 as usize]
+    }
+
+    /// Whether the placeholder whose name has this place is alone the receiver of the nearest method call above it in the
+    /// template.
+    #[tactic(auto, unfolding(crate::specs::Receivers::is_receiver))]
+    pub fn is_receiver(&self, placeholder: u32) -> bool
+        ensures { result ≡ is_receiver self.now placeholder }
+    {
+        match self.tables.receivers.get(placeholder as usize) {
+            Some(is_receiver) => *is_receiver,
+            None => false,
+        }
     }
 
     /// The paths of the pattern that are used, in order, each with what it resolves to.
@@ -235,17 +251,34 @@ impl ResolvedRule {
     }
 }
 
-/// Which placeholder each token of a template is; without one there are none.
-fn template_placeholders(
+/// What each token of a template is; without one there are none.
+fn tokens_of_template(
     alloc: Global,
     names: &Names<'_>,
     template: Option<&Tree>,
-) -> Result<Vec<Option<u32>>, AllocError>
-    requires { length names.now < 2 ^ 32 }
-    ensures { IfOk result (λ v. IfSome (option_copied template.entry) (λ tree. v.items ≡ token_placeholders names.now tree)) }
+    paths: &[UsedPath],
+) -> Result<Vec<TemplateToken>, AllocError>
+    requires few { length names.now < 2 ^ 32 }
+    requires has { IfSome (option_copied template) (λ tree. HasPaths tree paths.now) }
+    ensures { IfOk result (λ v. IfSome (option_copied template.entry) (λ tree. TellsTokens names.now paths.now tree v.items)) }
 {
     match template {
-        Some(tree) => token_placeholders(alloc, names, tree),
+        Some(tree) => template_tokens(alloc, names, tree, paths),
+        None => Ok(Vec::new(alloc)),
+    }
+}
+
+/// Which placeholders are receivers of method calls of a template; without one none is.
+fn receivers_of_template(
+    alloc: Global,
+    names: &Names<'_>,
+    template: Option<&Tree>,
+) -> Result<Vec<bool>, AllocError>
+    requires { length names.now < 2 ^ 32 }
+    ensures { IfOk result (λ v. TellsReceiversOf names.now (option_copied template.entry) v.items) }
+{
+    match template {
+        Some(tree) => receivers(alloc, names, tree),
         None => Ok(Vec::new(alloc)),
     }
 }

@@ -14,54 +14,56 @@ use Rattle.ssr_base_trees.specs.Changes.{Change, FitsText}
 use Rattle.ssr_base_trees.specs.Laws.{LiesInFile, IsSpanOf}
 use Rattle.ssr_base_trees.specs.Texts.{is_boundary}
 use Rattle.ssr_base_trees.specs.Workspace.{Workspace, node_id}
-use Rattle.ide_ssr_resolved_rule.specs.Resolved.{ResolvedRule}
 use Rattle.ide_ssr_bindings.specs.Found.{FoundMatch}
 use Rattle.ide_ssr_nesting.specs.declared.holders.Holder.{Holder}
 use Rattle.ide_ssr_nesting.specs.Holding.{IsKept, Kept}
 use Rattle.ide_ssr_nesting.specs.Lists.{AreLists, Listing, listed}
 use Rattle.ide_ssr_rewriting.specs.Clashes.{Clash, Rewrite, change_of, changes_made, clash_of, clashes, same_range}
-use Rattle.ide_ssr_rewriting.specs.Edits.{Answers, AreTexts, EditsFit, Texts, all_clashes, clashes_under, edit_of, list_under, outermost_list, range_at, some_changes}
+use Rattle.ide_ssr_rewriting.specs.Replacements.{Writing}
+use Rattle.ide_ssr_rewriting.specs.Edits.{Answers, AreTexts, EditsFit, EditsInOrder, Texts, all_clashes, clashes_under, edit_of, list_under, outermost_list, range_at, some_changes}
 use Rattle.ide_ssr_rewriting.specs.Laws.{EditsOrClash, OneEdit}
 use Rattle.ide_ssr_rewriting.specs.Private.Nest.{IsNest}
 use Rattle.ide_ssr_rewriting.proofs.Fits.{range_in_file}
+use Rattle.ide_ssr_rewriting.proofs.Groups.{edit_ordered}
 use Rattle.ide_ssr_rewriting.proofs.Nests.{is_nest}
+use Rattle.ide_ssr_rewriting.proofs.Pieces.{list_in_order}
 use Rattle.ide_ssr_rewriting.proofs.Texts.{list_same, lists_same, one_text}
 
 -- ** One answer.
 
 -- texts that stand for the matches are the same in each list
-known_same : (kept : Kept) (lists : Listing) (rules : List ResolvedRule) → IsNest kept lists → (f g : Texts) → AreTexts kept lists rules f → AreTexts kept lists rules g
+known_same : (kept : Kept) (lists : Listing) (by : Writing) → IsNest kept lists → (f g : Texts) → AreTexts kept lists by f → AreTexts kept lists by g
     → (holder : Option Holder) (j : ℕ) → Contains (listed lists holder) j → f j ≡ g j
-known_same kept lists rules is f g fs gs holder j here =
+known_same kept lists by is f g fs gs holder j here =
     let nobody : FoundMatch = record { rule = 0; node = node_id 0 0; bindings = [] } in
     let within = All-contains (λ n. n < length kept.matches) (listed lists holder) j (is.lists holder).within here in
-    one_text kept lists rules is f g fs gs j (get_or kept.matches j nobody) (slice_get-get_or kept.matches j nobody within)
+    one_text kept lists by is f g fs gs j (get_or kept.matches j nobody) (slice_get-get_or kept.matches j nobody within)
 
-outermost_same : (kept : Kept) (lists : Listing) (rules : List ResolvedRule) → IsNest kept lists → (f g : Texts) → AreTexts kept lists rules f → AreTexts kept lists rules g
+outermost_same : (kept : Kept) (lists : Listing) (by : Writing) → IsNest kept lists → (f g : Texts) → AreTexts kept lists by f → AreTexts kept lists by g
     → outermost_list kept lists f ≡ outermost_list kept lists g
-outermost_same kept lists rules is f g fs gs = list_same kept f g (listed lists None) (known_same kept lists rules is f g fs gs None)
+outermost_same kept lists by is f g fs gs = list_same kept f g (listed lists None) (known_same kept lists by is f g fs gs None)
 
-all_same : (kept : Kept) (lists : Listing) (rules : List ResolvedRule) → IsNest kept lists → (f g : Texts) → AreTexts kept lists rules f → AreTexts kept lists rules g
+all_same : (kept : Kept) (lists : Listing) (by : Writing) → IsNest kept lists → (f g : Texts) → AreTexts kept lists by f → AreTexts kept lists by g
     → all_clashes kept lists f ≡ all_clashes kept lists g
-all_same kept lists rules is f g fs gs =
+all_same kept lists by is f g fs gs =
     let each : ◌≡◌ {A = ℕ → ℕ → List Rewrite} (list_under kept lists f) (list_under kept lists g) =
-    λ t n. lists_same kept lists f g n (λ i j h. known_same kept lists rules is f g fs gs (Some (record { place = n; binding = i })) j h) t in
+    λ t n. lists_same kept lists f g n (λ i j h. known_same kept lists by is f g fs gs (Some (record { place = n; binding = i })) j h) t in
     let below : (ℕ → ℕ → List Rewrite) → List Clash = λ under. flat_map (λ p. clashes_under p.1 (under p.0)) (enumerate_from 0 kept.matches) in
-    ap (λ (list : List Rewrite). clashes list ++ below (list_under kept lists f)) (outermost_same kept lists rules is f g fs gs)
+    ap (λ (list : List Rewrite). clashes list ++ below (list_under kept lists f)) (outermost_same kept lists by is f g fs gs)
     ∙ ap (λ (under : ℕ → ℕ → List Rewrite). clashes (outermost_list kept lists g) ++ below under) each
 
-pub one_edit : (kept : Kept) (lists : Listing) (rules : List ResolvedRule) → IsKept kept → AreLists kept lists → OneEdit kept lists rules
-one_edit kept lists rules is are a b first second file =
+pub one_edit : (kept : Kept) (lists : Listing) (by : Writing) → IsKept kept → AreLists kept lists → OneEdit kept lists by
+one_edit kept lists by is are a b first second file =
     first.2.1 file
-    ∙ (ap (edit_of file.0) (outermost_same kept lists rules (is_nest kept lists is are) first.0 second.0 first.1 second.1) ∙ sym (second.2.1 file))
+    ∙ (ap (edit_of file.0) (outermost_same kept lists by (is_nest kept lists is are) first.0 second.0 first.1 second.1) ∙ sym (second.2.1 file))
 
 none_among : (all : List Clash) (c : Clash) → all ≡ [] → Contains all c → ⊥
 none_among all c none h = let here : Contains [] c = subst (λ (all : List Clash). Contains all c) none h in let within = here.1 in omega arith
 
-pub edits_or_clash : (kept : Kept) (lists : Listing) (rules : List ResolvedRule) → IsKept kept → AreLists kept lists → EditsOrClash kept lists rules
-edits_or_clash kept lists rules is are edits earlier later first second =
+pub edits_or_clash : (kept : Kept) (lists : Listing) (by : Writing) → IsKept kept → AreLists kept lists → EditsOrClash kept lists by
+edits_or_clash kept lists by is are edits earlier later first second =
     none_among (all_clashes kept lists second.0) (clash_of (earlier, later))
-    (all_same kept lists rules (is_nest kept lists is are) second.0 first.0 second.1 first.1 ∙ first.2.0) second.2.0
+    (all_same kept lists by (is_nest kept lists is are) second.0 first.0 second.1 first.1 ∙ first.2.0) second.2.0
 
 -- ** Edits fit.
 
@@ -108,11 +110,25 @@ all_in_file w file (c ∷ cs) changes fit is =
     at None fit = absurd (fit 0 c (omega arith))
     at (Some tree) fit = fit
 
-pub edits_fit : (kept : Kept) (lists : Listing) (rules : List ResolvedRule) → IsNest kept lists → (edits : BTreeMap FileId (List Change)) → Answers kept lists rules (Ok edits)
+pub edits_fit : (kept : Kept) (lists : Listing) (by : Writing) → IsNest kept lists → (edits : BTreeMap FileId (List Change)) → Answers kept lists by (Ok edits)
     → EditsFit kept.workspace edits
-edits_fit kept lists rules is edits answer file changes at =
+edits_fit kept lists by is edits answer file changes at =
     all_in_file kept.workspace file.0 _ changes
     (changes_fit kept.workspace file.0 (outermost_list kept lists answer.0)
     (All-map (λ r. LiesInFile kept.workspace r.range) (λ n. record { range = range_at kept n; text = answer.0 n }) (listed lists None)
     (All-weaker (λ n. n < length kept.matches) (λ n. LiesInFile kept.workspace (range_at kept n)) (λ n lt. range_in_file kept lists is n lt) (listed lists None) (is.lists None).within)))
+    (sym (answer.2.1 file) ∙ at)
+
+-- ** Edits are in order.
+
+first_none : (xs ys : List Clash) → xs ++ ys ≡ [] → xs ≡ []
+first_none [] ys e = refl
+first_none (x ∷ xs) ys e = absurd (cc e)
+
+pub edits_ordered : (kept : Kept) (lists : Listing) (by : Writing) → IsNest kept lists → (edits : BTreeMap FileId (List Change)) → Answers kept lists by (Ok edits)
+    → EditsInOrder edits
+edits_ordered kept lists by is edits answer file changes at =
+    edit_ordered file.0 (outermost_list kept lists answer.0) changes
+    (list_in_order kept lists is None answer.0)
+    (first_none (clashes (outermost_list kept lists answer.0)) _ answer.2.0)
     (sym (answer.2.1 file) ∙ at)

@@ -3,10 +3,11 @@ use Rattle.std.proofs.Common.{◌≡◌, ℕ, suc, ◌-◌, ◌<◌, ◌≤◌, 
 use Rattle.std.specs.BTreeMap.{BTreeMap, get, is_at}
 use Rattle.std.specs.Map.{lookup}
 use Rattle.std.specs.Prelude.{if◌then◌else◌}
-use Rattle.std.proofs.lemmas.Bool.{cases_eq, cases_lt, eq-eqb, ne_eqb}
+use Rattle.std.proofs.lemmas.Bool.{cases_eq, cases_lt, eq-eqb, eqb-true, ne_eqb}
 use Rattle.std.proofs.lemmas.Bool.Decides.{nat_tests}
 use Rattle.std.proofs.lemmas.List.{length-append, reverse-append}
-use Rattle.std.proofs.lemmas.List.Elements.{All-cons, All-head, All-nil, All-tail, All-weaker, filter-append}
+use Rattle.std.proofs.lemmas.List.Elements.{All-cons, All-head, All-nil, All-tail, All-filter, All-weaker, filter-append, filter_passes}
+use Rattle.std.proofs.lemmas.Option.{same_Some}
 use Rattle.ssr_base_trees.specs.declared.ids.FileId.{FileId}
 use Rattle.ssr_base_trees.specs.Changes.{Change, ChangesInOrder}
 use Rattle.ssr_base_trees.specs.Workspace.{FileSpan}
@@ -130,6 +131,46 @@ order-back (x ∷ xs) ys h = order-back xs ys h.2
 -- those of a list that lie in a file
 abbrev pub in_file : ℕ → List Rewrite → List Rewrite
 in_file q rs = filter (λ r. r.range.file == q) rs
+
+with_filter : (p : Rewrite → Bool) (x : Rewrite) (ys : List Rewrite) → clashes_with x ys ≡ [] → clashes_with x (filter p ys) ≡ []
+with_filter p x [] e = refl
+with_filter p x (y ∷ ys) e =
+    let parts = none_with x y ys e in by parts.0 (with_filter p x ys parts.1) (p y)
+  where
+    by : is_clash x y ≡ false → clashes_with x (filter p ys) ≡ [] → (b : Bool) → clashes_with x (if b then y ∷ filter p ys else filter p ys) ≡ []
+    by apart rest true =
+        ap (λ (b : Bool). pairs x.range (if b then y ∷ filter (is_clash x) (filter p ys) else filter (is_clash x) (filter p ys))) apart ∙ rest
+    by apart rest false = rest
+
+clashes-filter : (p : Rewrite → Bool) (xs : List Rewrite) → clashes xs ≡ [] → clashes (filter p xs) ≡ []
+clashes-filter p [] e = refl
+clashes-filter p (x ∷ xs) e =
+    let parts = both_none (clashes_with x xs) (clashes xs) e in by (with_filter p x xs parts.0) (clashes-filter p xs parts.1) (p x)
+  where
+    by : clashes_with x (filter p xs) ≡ [] → clashes (filter p xs) ≡ [] → (b : Bool) → clashes (if b then x ∷ filter p xs else filter p xs) ≡ []
+    by own rest true = joined_none (clashes_with x (filter p xs)) (clashes (filter p xs)) own rest
+    by own rest false = rest
+
+order-filter : (p : Rewrite → Bool) (xs : List Rewrite) → InOrder xs → InOrder (filter p xs)
+order-filter p [] order = tt
+order-filter p (x ∷ xs) order =
+    by order.0 (All-filter p (λ s. range_le x.range s.range ≡ true) xs order.1) (order-filter p xs order.2) (p x)
+  where
+    by : x.range.span.start < x.range.span.end → All (λ s. range_le x.range s.range ≡ true) (filter p xs) → InOrder (filter p xs)
+        → (b : Bool) → InOrder (if b then x ∷ filter p xs else filter p xs)
+    by byte first rest true = (byte, first, rest)
+    by byte first rest false = rest
+
+-- the changes of a file are in order
+pub edit_ordered : (file : ℕ) (list : List Rewrite) (changes : List Change) → AreInOrder list → clashes list ≡ [] → edit_of file list ≡ Some changes → ChangesInOrder 0 changes
+edit_ordered file list changes order none is =
+    let here : Rewrite → Bool = λ r. r.range.file == file in
+    some_ordered (changes_made (in_file file list)) is
+    (changes_ordered file (in_file file list) (λ i d lt. eqb-true _ file (filter_passes here list i d lt)) (order-filter here list (in_order list order)) (clashes-filter here list none))
+  where
+    some_ordered : (cs : List Change) → some_changes cs ≡ Some changes → ChangesInOrder 0 cs → ChangesInOrder 0 changes
+    some_ordered [] is order = absurd (cc is)
+    some_ordered (c ∷ cs) is order = subst (ChangesInOrder 0) (same_Some (c ∷ cs) changes is) order
 
 -- a list of which the last part is taken, with no file in both parts
 pub record AreSplit (all left done : List Rewrite) : Type 0 where

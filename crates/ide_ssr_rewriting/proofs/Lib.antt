@@ -7,6 +7,7 @@ mod Written
 mod Texts
 mod Taken
 mod Pieces
+mod Prefixes
 mod Fits
 mod Runs
 mod Groups

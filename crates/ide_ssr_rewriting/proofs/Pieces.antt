@@ -20,7 +20,7 @@ use Rattle.ide_ssr_nesting.specs.Lists.{Listing, listed, range_of}
 use Rattle.ide_ssr_rewriting.specs.Clashes.{Rewrite, Clash, IsFirst, clashes, is_clean}
 use Rattle.ide_ssr_rewriting.specs.Private.Nest.{IsNest, under}
 use Rattle.ide_ssr_rewriting.specs.Edits.{nowhere, range_at, Texts, list_at, list_under, text_by}
-use Rattle.ide_ssr_rewriting.specs.Replacements.{piece, text_of_match}
+use Rattle.ide_ssr_rewriting.specs.Replacements.{Writing, piece, prefix_by, text_of_match}
 use Rattle.ide_ssr_rewriting.specs.Private.Clashes.{AreInOrder, lesser}
 use Rattle.ide_ssr_rewriting.specs.Private.Edits.{text_in}
 use Rattle.ide_ssr_rewriting.specs.Private.Pieces.{all_clean, pieces_by, pieces_of}
@@ -75,9 +75,9 @@ pub record AreLeft (listing : Listing) (n i : ℕ) (old cur : List (Option (Stri
   pub left : (j : ℕ) → ((k : ℕ) → k < i → Contains (under listing n k) j → ⊥) → text_in cur j ≡ text_in old j
 
 -- the pieces of the first i placeholders, and whether all their lists can be made
-pub record AreWritten (w : Workspace) (m : FoundMatch) (lists : ℕ → List Rewrite) (i : ℕ) (clean : Bool) (pieces : List (List ℕ)) : Type 0 where
+pub record AreWritten (w : Workspace) (rules : List ResolvedRule) (m : FoundMatch) (lists : ℕ → List Rewrite) (i : ℕ) (clean : Bool) (pieces : List (List ℕ)) : Type 0 where
   pub clean_lists : all_clean lists (enumerate_from 0 m.bindings) ≡ (clean && all_clean lists (enumerate_from i (drop i m.bindings)))
-  pub written : clean ≡ true → pieces ++ pieces_of w m lists (enumerate_from i (drop i m.bindings)) ≡ pieces_of w m lists (enumerate_from 0 m.bindings)
+  pub written : clean ≡ true → pieces ++ pieces_of w rules m lists (enumerate_from i (drop i m.bindings)) ≡ pieces_of w rules m lists (enumerate_from 0 m.bindings)
 
 -- the first clash of the lists of the first i placeholders and of others
 pub record AreNoted (m : FoundMatch) (lists : ℕ → List Rewrite) (i : ℕ) (was now : Option Clash) : Type 0 where
@@ -86,10 +86,15 @@ pub record AreNoted (m : FoundMatch) (lists : ℕ → List Rewrite) (i : ℕ) (w
   pub first : (others : List Clash) → IsFirst others was → IsFirst (before ++ others) now
 
 -- the first i placeholders of the match m of the place n are done
-pub record AreTaken (kept : Kept) (listing : Listing) (m : FoundMatch) (n i : ℕ) (old cur : List (Option (String Global))) (clean : Bool) (pieces : List (List ℕ)) (was now : Option Clash) : Type 0 where
+pub record AreTaken (kept : Kept) (listing : Listing) (rules : List ResolvedRule) (m : FoundMatch) (n i : ℕ) (old cur : List (Option (String Global))) (clean : Bool) (pieces : List (List ℕ)) (was now : Option Clash) : Type 0 where
   pub texts : AreLeft listing n i old cur
-  pub written : AreWritten kept.workspace m (list_under kept listing (text_in old) n) i clean pieces
+  pub written : AreWritten kept.workspace rules m (list_under kept listing (text_in old) n) i clean pieces
   pub noted : AreNoted m (list_under kept listing (text_in old) n) i was now
+
+-- a piece, where what it holds can be made
+pub piece_of_held : (b : Bool) (prefix text : List ℕ) → option_map (λ text. prefix ++ text) (if b then Some text else None) ≡ (if b then Some (prefix ++ text) else None)
+piece_of_held true prefix text = refl
+piece_of_held false prefix text = refl
 
 -- ** One placeholder more.
 
@@ -153,18 +158,18 @@ left-more listing n i old cur new so_far counted others = record {
   left = λ j none. others j (λ h. none i (omega arith) h) ∙ so_far.left j (λ k lt h. none k (omega arith) h);
 }
 
-pub written-more : (w : Workspace) (m : FoundMatch) (lists : ℕ → List Rewrite) (i : ℕ) (clean made : Bool) (pieces more : List (List ℕ)) → AreWritten w m lists i clean pieces
-    → (b : Binding) → i < length m.bindings → b ≡ get_or m.bindings i b → (o : Option (List ℕ)) → o ≡ (if is_clean (lists i) then Some (piece w (held_range (trees w) m.node.tree b) (lists i)) else None)
-    → made ≡ (is_some o && clean) → more ≡ pieces ++ option_to_list o → AreWritten w m lists (i + 1) made more
-written-more w m lists i clean made pieces more so_far b lt at o told made_is more_is =
+pub written-more : (w : Workspace) (rules : List ResolvedRule) (m : FoundMatch) (lists : ℕ → List Rewrite) (i : ℕ) (clean made : Bool) (pieces more : List (List ℕ)) → AreWritten w rules m lists i clean pieces
+    → (b : Binding) → i < length m.bindings → b ≡ get_or m.bindings i b → (o : Option (List ℕ)) → o ≡ (if is_clean (lists i) then Some (piece w (prefix_by rules m.rule b) (held_range (trees w) m.node.tree b) (lists i)) else None)
+    → made ≡ (is_some o && clean) → more ≡ pieces ++ option_to_list o → AreWritten w rules m lists (i + 1) made more
+written-more w rules m lists i clean made pieces more so_far b lt at o told made_is more_is =
     let from = bound_from m.bindings i b lt at in
     let rest : List (ℕ × Binding) = enumerate_from (i + 1) (drop (i + 1) m.bindings) in
-    let it : List ℕ = piece w (held_range (trees w) m.node.tree b) (lists i) in
+    let it : List ℕ = piece w (prefix_by rules m.rule b) (held_range (trees w) m.node.tree b) (lists i) in
     record {
       clean_lists = clean_more (all_clean lists (enumerate_from 0 m.bindings)) clean (is_clean (lists i)) (all_clean lists rest) made o it
           (so_far.clean_lists ∙ ap (λ (bound : List (ℕ × Binding)). clean && all_clean lists bound) from) told made_is;
-      written = pieces_more (pieces_of w m lists (enumerate_from 0 m.bindings)) (pieces_of w m lists rest) pieces more (is_clean (lists i)) o it clean made
-          (λ sure. ap (λ (bound : List (ℕ × Binding)). pieces ++ pieces_of w m lists bound) (sym from) ∙ so_far.written sure) told made_is more_is;
+      written = pieces_more (pieces_of w rules m lists (enumerate_from 0 m.bindings)) (pieces_of w rules m lists rest) pieces more (is_clean (lists i)) o it clean made
+          (λ sure. ap (λ (bound : List (ℕ × Binding)). pieces ++ pieces_of w rules m lists bound) (sym from) ∙ so_far.written sure) told made_is more_is;
     }
 
 pub noted-more : (m : FoundMatch) (lists : ℕ → List Rewrite) (i : ℕ) (was now next : Option Clash) → AreNoted m lists i was now → (b : Binding) → i < length m.bindings → b ≡ get_or m.bindings i b
@@ -191,20 +196,20 @@ by_clean : (all clean : Bool) (pieces whole : List (List ℕ)) → all ≡ clean
 by_clean all true pieces whole is same = rw is (ap Some (same refl))
 by_clean all false pieces whole is same = rw is refl
 
-pub taken_pieces : (kept : Kept) (listing : Listing) (m : FoundMatch) (n i : ℕ) (old cur : List (Option (String Global))) (clean : Bool) (pieces : List (List ℕ)) (was now : Option Clash)
-    → AreTaken kept listing m n i old cur clean pieces was now → length m.bindings ≤ i
-    → (if clean then Some pieces else None) ≡ pieces_by kept.workspace m (list_under kept listing (text_in old) n)
-taken_pieces kept listing m n i old cur clean pieces was now all le =
+pub taken_pieces : (kept : Kept) (listing : Listing) (rules : List ResolvedRule) (m : FoundMatch) (n i : ℕ) (old cur : List (Option (String Global))) (clean : Bool) (pieces : List (List ℕ)) (was now : Option Clash)
+    → AreTaken kept listing rules m n i old cur clean pieces was now → length m.bindings ≤ i
+    → (if clean then Some pieces else None) ≡ pieces_by kept.workspace rules m (list_under kept listing (text_in old) n)
+taken_pieces kept listing rules m n i old cur clean pieces was now all le =
     let lists : ℕ → List Rewrite = list_under kept listing (text_in old) n in
     let none = bound_none m.bindings i le in
-    by_clean (all_clean lists (enumerate_from 0 m.bindings)) clean pieces (pieces_of kept.workspace m lists (enumerate_from 0 m.bindings))
+    by_clean (all_clean lists (enumerate_from 0 m.bindings)) clean pieces (pieces_of kept.workspace rules m lists (enumerate_from 0 m.bindings))
     (all.written.clean_lists ∙ (ap (λ (bound : List (ℕ × Binding)). clean && all_clean lists bound) none ∙ and-true clean))
-    (λ sure. sym (append-nil pieces) ∙ (ap (λ (bound : List (ℕ × Binding)). pieces ++ pieces_of kept.workspace m lists bound) (sym none) ∙ all.written.written sure))
+    (λ sure. sym (append-nil pieces) ∙ (ap (λ (bound : List (ℕ × Binding)). pieces ++ pieces_of kept.workspace rules m lists bound) (sym none) ∙ all.written.written sure))
 
-pub taken_clashes : (kept : Kept) (listing : Listing) (m : FoundMatch) (n i : ℕ) (old cur : List (Option (String Global))) (clean : Bool) (pieces : List (List ℕ)) (was now : Option Clash)
-    → AreTaken kept listing m n i old cur clean pieces was now → length m.bindings ≤ i
+pub taken_clashes : (kept : Kept) (listing : Listing) (rules : List ResolvedRule) (m : FoundMatch) (n i : ℕ) (old cur : List (Option (String Global))) (clean : Bool) (pieces : List (List ℕ)) (was now : Option Clash)
+    → AreTaken kept listing rules m n i old cur clean pieces was now → length m.bindings ≤ i
     → (others : List Clash) → IsFirst others was → IsFirst (clashes_in (list_under kept listing (text_in old) n) (enumerate_from 0 m.bindings) ++ others) now
-taken_clashes kept listing m n i old cur clean pieces was now all le others h =
+taken_clashes kept listing rules m n i old cur clean pieces was now all le others h =
     let lists : ℕ → List Rewrite = list_under kept listing (text_in old) n in
     let none = bound_none m.bindings i le in
     subst (λ (cs : List Clash). IsFirst (cs ++ others) now)
@@ -213,11 +218,11 @@ taken_clashes kept listing m n i old cur clean pieces was now all le others h =
 
 -- ** A text of its pieces.
 
-pub text_of_pieces : (w : Workspace) (rules : List ResolvedRule) (m : FoundMatch) (lists : ℕ → List Rewrite)
-    → option_map (text_of_match w rules m) (pieces_by w m lists) ≡ text_by w rules m lists
-text_of_pieces w rules m lists = at (all_clean lists (enumerate_from 0 m.bindings))
+pub text_of_pieces : (w : Workspace) (by : Writing) (m : FoundMatch) (lists : ℕ → List Rewrite)
+    → option_map (text_of_match w by m) (pieces_by w by.rules m lists) ≡ text_by w by m lists
+text_of_pieces w by m lists = at (all_clean lists (enumerate_from 0 m.bindings))
   where
-    at : (b : Bool) → option_map (text_of_match w rules m) (if b then Some (pieces_of w m lists (enumerate_from 0 m.bindings)) else None)
-        ≡ (if b then Some (text_of_match w rules m (pieces_of w m lists (enumerate_from 0 m.bindings))) else None)
+    at : (b : Bool) → option_map (text_of_match w by m) (if b then Some (pieces_of w by.rules m lists (enumerate_from 0 m.bindings)) else None)
+        ≡ (if b then Some (text_of_match w by m (pieces_of w by.rules m lists (enumerate_from 0 m.bindings))) else None)
     at true = refl
     at false = refl

@@ -11,7 +11,6 @@ use Rattle.std.proofs.lemmas.Option.{get_or_from_slice_get, slice_get_within, sa
 use Rattle.ssr_base_trees.specs.declared.ids.FileId.{FileId}
 use Rattle.ssr_base_trees.specs.declared.ids.FileRange.{FileRange}
 use Rattle.ssr_base_trees.specs.Changes.{Change}
-use Rattle.ide_ssr_resolved_rule.specs.Resolved.{ResolvedRule}
 use Rattle.ide_ssr_bindings.specs.Found.{FoundMatch}
 use Rattle.ide_ssr_nesting.specs.declared.holders.Holder.{Holder}
 use Rattle.ide_ssr_nesting.specs.Holding.{Kept}
@@ -22,6 +21,7 @@ use Rattle.ide_ssr_rewriting.specs.Clashes.{Rewrite, Clash, IsFirst, clash_of, c
 use Rattle.ide_ssr_rewriting.specs.Private.Clashes.{lesser}
 use Rattle.ide_ssr_rewriting.proofs.FirstClashes.{IsFirst-append}
 use Rattle.ide_ssr_rewriting.specs.Private.Nest.{IsNest, under}
+use Rattle.ide_ssr_rewriting.specs.Replacements.{Writing}
 use Rattle.ide_ssr_rewriting.specs.Edits.{Answers, Texts, all_clashes, clashes_under, edit_of, file_cmp, list_at, list_under, outermost_list, text_by}
 use Rattle.ide_ssr_rewriting.specs.Private.Edits.{IsRun, clashes_from, text_in, texts_of}
 use Rattle.ide_ssr_rewriting.proofs.Texts.{are_texts, one_list, list_same, lists_same}
@@ -40,10 +40,10 @@ not_outermost kept listing is n i j first second =
     cc
 
 -- what is stored for the lists under a match are the texts
-lists_known : (kept : Kept) (listing : Listing) (rules : List ResolvedRule) → IsNest kept listing → (n : ℕ) (stored : List (Option (String Global))) (clash : Option Clash)
-    → IsRun kept listing rules (n + 1) stored clash → list_under kept listing (text_in stored) n ≡ list_under kept listing (texts_of kept listing rules) n
-lists_known kept listing rules is n stored clash run =
-    lists_same kept listing (text_in stored) (texts_of kept listing rules) n (λ i j h.
+lists_known : (kept : Kept) (listing : Listing) (by : Writing) → IsNest kept listing → (n : ℕ) (stored : List (Option (String Global))) (clash : Option Clash)
+    → IsRun kept listing by (n + 1) stored clash → list_under kept listing (text_in stored) n ≡ list_under kept listing (texts_of kept listing by) n
+lists_known kept listing by is n stored clash run =
+    lists_same kept listing (text_in stored) (texts_of kept listing by) n (λ i j h.
     let behind = is.before n i j h in
     let within = All-contains (λ n. n < length kept.matches) (under listing n i) j (is.lists (Some (record { place = n; binding = i }))).within h in
     run.known j (omega arith) within (λ k l le g. let same = one_holder kept listing is n i k l j h g in omega arith))
@@ -58,14 +58,14 @@ clashes_here : (kept : Kept) (listing : Listing) (texts : Texts) (n : ℕ) (m : 
     → clashes_from kept listing texts n ≡ clashes_under m (list_under kept listing texts n) ++ clashes_from kept listing texts (n + 1)
 clashes_here kept listing texts n m at = ap (λ (ms : List (ℕ × FoundMatch)). flat_map (λ p. clashes_under p.1 (list_under kept listing texts p.0)) ms) (from_here kept n m at)
 
-pub run-more : (kept : Kept) (listing : Listing) (rules : List ResolvedRule) → IsNest kept listing → (n : ℕ) (m : FoundMatch) (stored cur : List (Option (String Global))) (text : Option (String Global)) (was now : Option Clash)
-    → slice_get kept.matches n ≡ Some m → IsRun kept listing rules (n + 1) stored was
+pub run-more : (kept : Kept) (listing : Listing) (by : Writing) → IsNest kept listing → (n : ℕ) (m : FoundMatch) (stored cur : List (Option (String Global))) (text : Option (String Global)) (was now : Option Clash)
+    → slice_get kept.matches n ≡ Some m → IsRun kept listing by (n + 1) stored was
     → length cur ≡ length stored → ((j : ℕ) → ((i : ℕ) → Contains (under listing n i) j → ⊥) → text_in cur j ≡ text_in stored j)
-    → option_map string_bytes text ≡ text_by kept.workspace rules m (list_under kept listing (text_in stored) n)
+    → option_map string_bytes text ≡ text_by kept.workspace by m (list_under kept listing (text_in stored) n)
     → ((others : List Clash) → IsFirst others was → IsFirst (clashes_under m (list_under kept listing (text_in stored) n) ++ others) now)
-    → IsRun kept listing rules n (set cur n text) now
-run-more kept listing rules is n m stored cur text was now at run counted left made clash =
-    let same = lists_known kept listing rules is n stored was run in
+    → IsRun kept listing by n (set cur n text) now
+run-more kept listing by is n m stored cur text was now at run counted left made clash =
+    let same = lists_known kept listing by is n stored was run in
     let lt = slice_get_within kept.matches n m at in
     let within : n < length cur = let a = run.counted in omega arith in
     record {
@@ -74,59 +74,59 @@ run-more kept listing rules is n m stored cur text was now at run counted left m
         | inl e ↦
             ap (text_in (set cur n text)) e
             ∙ (ap (option_map string_bytes) (get_or-set_same cur n text None within)
-            ∙ (made ∙ (ap (text_by kept.workspace rules m) same ∙ (sym (are_texts kept listing rules is n m at) ∙ ap (texts_of kept listing rules) (sym e)))))
+            ∙ (made ∙ (ap (text_by kept.workspace by m) same ∙ (sym (are_texts kept listing by is n m at) ∙ ap (texts_of kept listing by) (sym e)))))
         | inr other ↦
             ap (option_map string_bytes) (get_or-set_other cur n j text None other)
             ∙ (left j (λ i h. free n i (omega arith) h) ∙ run.known j (omega arith) lt (λ k i le h. free k i (omega arith) h))
       ];
-      first = subst (λ (cs : List Clash). IsFirst cs now) (sym (clashes_here kept listing (texts_of kept listing rules) n m at))
-          (subst (λ (lists : ℕ → List Rewrite). IsFirst (clashes_under m lists ++ clashes_from kept listing (texts_of kept listing rules) (n + 1)) now) same
-          (clash (clashes_from kept listing (texts_of kept listing rules) (n + 1)) run.first));
+      first = subst (λ (cs : List Clash). IsFirst cs now) (sym (clashes_here kept listing (texts_of kept listing by) n m at))
+          (subst (λ (lists : ℕ → List Rewrite). IsFirst (clashes_under m lists ++ clashes_from kept listing (texts_of kept listing by) (n + 1)) now) same
+          (clash (clashes_from kept listing (texts_of kept listing by) (n + 1)) run.first));
     }
 
-pub run-starts : (kept : Kept) (listing : Listing) (rules : List ResolvedRule) (n : ℕ) (stored : List (Option (String Global))) (clash : Option Clash)
-    → n ≡ length kept.matches → length stored ≡ n → clash ≡ None → IsRun kept listing rules n stored clash
-run-starts kept listing rules n stored clash all counted none = record {
+pub run-starts : (kept : Kept) (listing : Listing) (by : Writing) (n : ℕ) (stored : List (Option (String Global))) (clash : Option Clash)
+    → n ≡ length kept.matches → length stored ≡ n → clash ≡ None → IsRun kept listing by n stored clash
+run-starts kept listing by n stored clash all counted none = record {
   counted = counted ∙ all;
   known = λ j le lt _. absurd (omega arith);
-  first = subst (IsFirst (clashes_from kept listing (texts_of kept listing rules) n)) (sym none)
-      (ap (λ (ms : List FoundMatch). flat_map (λ p. clashes_under p.1 (list_under kept listing (texts_of kept listing rules) p.0)) (enumerate_from n ms)) (drop_all n kept.matches (omega arith)));
+  first = subst (IsFirst (clashes_from kept listing (texts_of kept listing by) n)) (sym none)
+      (ap (λ (ms : List FoundMatch). flat_map (λ p. clashes_under p.1 (list_under kept listing (texts_of kept listing by) p.0)) (enumerate_from n ms)) (drop_all n kept.matches (omega arith)));
 }
 
 -- what is stored for the outermost ones in the end are the texts
-pub outermost_known : (kept : Kept) (listing : Listing) (rules : List ResolvedRule) → IsNest kept listing → (stored : List (Option (String Global))) (clash : Option Clash)
-    → IsRun kept listing rules 0 stored clash → list_at kept (text_in stored) (listed listing None) ≡ outermost_list kept listing (texts_of kept listing rules)
-outermost_known kept listing rules is stored clash run =
-    list_same kept (text_in stored) (texts_of kept listing rules) (listed listing None) (λ j h.
+pub outermost_known : (kept : Kept) (listing : Listing) (by : Writing) → IsNest kept listing → (stored : List (Option (String Global))) (clash : Option Clash)
+    → IsRun kept listing by 0 stored clash → list_at kept (text_in stored) (listed listing None) ≡ outermost_list kept listing (texts_of kept listing by)
+outermost_known kept listing by is stored clash run =
+    list_same kept (text_in stored) (texts_of kept listing by) (listed listing None) (λ j h.
     run.known j (omega arith) (All-contains (λ n. n < length kept.matches) (listed listing None) j (is.lists None).within h) (λ k i _ g. not_outermost kept listing is k i j g h))
 
 -- ** The answer.
 
-pub first_of_all : (kept : Kept) (listing : Listing) (rules : List ResolvedRule) → IsNest kept listing → (stored : List (Option (String Global))) (was first now : Option Clash) (list : List Rewrite)
-    → IsRun kept listing rules 0 stored was → list ≡ list_at kept (text_in stored) (listed listing None) → IsFirst (clashes list) first → now ≡ lesser first was
-    → IsFirst (all_clashes kept listing (texts_of kept listing rules)) now
-first_of_all kept listing rules is stored was first now list run taken told noted =
-    let here : list ≡ outermost_list kept listing (texts_of kept listing rules) = taken ∙ outermost_known kept listing rules is stored was run in
-    subst (IsFirst (all_clashes kept listing (texts_of kept listing rules))) (sym noted)
-    (IsFirst-append (clashes (outermost_list kept listing (texts_of kept listing rules))) (clashes_from kept listing (texts_of kept listing rules) 0) first was
+pub first_of_all : (kept : Kept) (listing : Listing) (by : Writing) → IsNest kept listing → (stored : List (Option (String Global))) (was first now : Option Clash) (list : List Rewrite)
+    → IsRun kept listing by 0 stored was → list ≡ list_at kept (text_in stored) (listed listing None) → IsFirst (clashes list) first → now ≡ lesser first was
+    → IsFirst (all_clashes kept listing (texts_of kept listing by)) now
+first_of_all kept listing by is stored was first now list run taken told noted =
+    let here : list ≡ outermost_list kept listing (texts_of kept listing by) = taken ∙ outermost_known kept listing by is stored was run in
+    subst (IsFirst (all_clashes kept listing (texts_of kept listing by))) (sym noted)
+    (IsFirst-append (clashes (outermost_list kept listing (texts_of kept listing by))) (clashes_from kept listing (texts_of kept listing by) 0) first was
     (subst (λ (list : List Rewrite). IsFirst (clashes list) first) here told) run.first)
 
-pub edited : (kept : Kept) (listing : Listing) (rules : List ResolvedRule) → IsNest kept listing → (stored : List (Option (String Global))) (was now : Option Clash) (list : List Rewrite) (edits : BTreeMap FileId (List Change))
-    → IsRun kept listing rules 0 stored was → list ≡ list_at kept (text_in stored) (listed listing None) → IsFirst (all_clashes kept listing (texts_of kept listing rules)) now → now ≡ None
-    → ((file : FileId) → get file_cmp edits file ≡ edit_of file.0 list) → Answers kept listing rules (Ok edits)
-edited kept listing rules is stored was now list edits run taken first none each = (
-  texts_of kept listing rules,
-  are_texts kept listing rules is,
+pub edited : (kept : Kept) (listing : Listing) (by : Writing) → IsNest kept listing → (stored : List (Option (String Global))) (was now : Option Clash) (list : List Rewrite) (edits : BTreeMap FileId (List Change))
+    → IsRun kept listing by 0 stored was → list ≡ list_at kept (text_in stored) (listed listing None) → IsFirst (all_clashes kept listing (texts_of kept listing by)) now → now ≡ None
+    → ((file : FileId) → get file_cmp edits file ≡ edit_of file.0 list) → Answers kept listing by (Ok edits)
+edited kept listing by is stored was now list edits run taken first none each = (
+  texts_of kept listing by,
+  are_texts kept listing by is,
   (
-    subst (IsFirst (all_clashes kept listing (texts_of kept listing rules))) none first,
-    λ file. each file ∙ ap (edit_of file.0) (taken ∙ outermost_known kept listing rules is stored was run),
+    subst (IsFirst (all_clashes kept listing (texts_of kept listing by))) none first,
+    λ file. each file ∙ ap (edit_of file.0) (taken ∙ outermost_known kept listing by is stored was run),
   ),
 )
 
-pub clashed : (kept : Kept) (listing : Listing) (rules : List ResolvedRule) → IsNest kept listing → (earlier later : FileRange) (now : Option Clash)
-    → IsFirst (all_clashes kept listing (texts_of kept listing rules)) now → now ≡ Some (clash_of (earlier, later)) → Answers kept listing rules (Err (errors.Clash earlier later))
-clashed kept listing rules is earlier later now first e =
-    (texts_of kept listing rules, are_texts kept listing rules is, subst (IsFirst (all_clashes kept listing (texts_of kept listing rules))) e first)
+pub clashed : (kept : Kept) (listing : Listing) (by : Writing) → IsNest kept listing → (earlier later : FileRange) (now : Option Clash)
+    → IsFirst (all_clashes kept listing (texts_of kept listing by)) now → now ≡ Some (clash_of (earlier, later)) → Answers kept listing by (Err (errors.Clash earlier later))
+clashed kept listing by is earlier later now first e =
+    (texts_of kept listing by, are_texts kept listing by is, subst (IsFirst (all_clashes kept listing (texts_of kept listing by))) e first)
 
-pub no_memory : (kept : Kept) (listing : Listing) (rules : List ResolvedRule) → IsNest kept listing → (result : Result (BTreeMap FileId (List Change)) EditError) → result ≡ Err errors.Memory → Answers kept listing rules result
-no_memory kept listing rules is result e = subst (Answers kept listing rules) (sym e) (texts_of kept listing rules, are_texts kept listing rules is, tt)
+pub no_memory : (kept : Kept) (listing : Listing) (by : Writing) → IsNest kept listing → (result : Result (BTreeMap FileId (List Change)) EditError) → result ≡ Err errors.Memory → Answers kept listing by result
+no_memory kept listing by is result e = subst (Answers kept listing by) (sym e) (texts_of kept listing by, are_texts kept listing by is, tt)

@@ -1,4 +1,4 @@
--- There is an answer to kept matches, their lists and rules: edits, or the first clash.
+-- There is an answer to kept matches, their lists and by: edits, or the first clash.
 use Rattle.std.proofs.Common.{◌≡◌, ℕ, ◌≤◌, true, cond, inl, inr, List, [], ◌∷◌, ◌++◌, All, map, filter, flat_map, slice_get, Option, Some, None, IsSomeAnd, refl, sym, ◌∙◌, ap, arith, eq-eqb, ne_eqb}
 use Rattle.std.specs.BTreeMap.{BTreeMap, get, is_at}
 use Rattle.std.specs.Cmp.{IsTotalOrder}
@@ -17,11 +17,11 @@ use Rattle.ssr_base_trees.specs.declared.ids.FileId.{FileId}
 use Rattle.ssr_base_trees.specs.declared.ids.FileRange.{FileRange}
 use Rattle.ssr_base_trees.specs.Changes.{Change}
 use Rattle.ssr_base_trees.specs.Workspace.{FileSpan, original_range, trees}
-use Rattle.ide_ssr_resolved_rule.specs.Resolved.{ResolvedRule}
 use Rattle.ide_ssr_bindings.specs.Found.{FoundMatch, HasByte, IsMatch}
 use Rattle.ide_ssr_nesting.specs.Holding.{IsKept, Kept}
 use Rattle.ide_ssr_nesting.specs.Lists.{AreLists, Listing, listed, range_of}
 use Rattle.ide_ssr_rewriting.specs.Clashes.{Rewrite, Clash, IsFirst, changes_made, clash_le, clashes, clashes_with, is_clash, range_key}
+use Rattle.ide_ssr_rewriting.specs.Replacements.{Writing}
 use Rattle.ide_ssr_rewriting.specs.Edits.{Texts, AreTexts, all_clashes, clashes_under, edit_of, file_cmp, list_at, list_under, nowhere, outermost_list, range_at, some_changes}
 use Rattle.ide_ssr_rewriting.specs.Laws.{AnswerExists}
 use Rattle.ide_ssr_rewriting.specs.Private.Clashes.{lesser}
@@ -151,13 +151,13 @@ module _ (kept : Kept) (known : IsKept kept) where
           clashes_forward (list_at kept texts places)
           (All-map (λ r. IsForward r.range) (λ n. record { range = range_at kept n; text = texts n }) places (λ i d within. at_forward _))
 
-  pub answer_exists : (lists : Listing) (rules : List ResolvedRule) → AreLists kept lists → AnswerExists kept lists rules
-  answer_exists lists rules are = by (texts_of kept lists rules) (are_texts kept lists rules (is_nest kept lists known are))
+  pub answer_exists : (lists : Listing) (by : Writing) → AreLists kept lists → AnswerExists kept lists by
+  answer_exists lists by are = by (texts_of kept lists by) (are_texts kept lists by (is_nest kept lists known are))
     where
-      by : (texts : Texts) → AreTexts kept lists rules texts → AnswerExists kept lists rules
+      by : (texts : Texts) → AreTexts kept lists by texts → AnswerExists kept lists by
       by texts of_these = told (first_exists (all_clashes kept lists texts)).0 (first_exists (all_clashes kept lists texts)).1
         where
-          told : (first : Option Clash) → IsFirst (all_clashes kept lists texts) first → AnswerExists kept lists rules
+          told : (first : Option Clash) → IsFirst (all_clashes kept lists texts) first → AnswerExists kept lists by
           told None none = inl (edits_of (outermost_list kept lists texts), (texts, of_these, (none, edits_are (outermost_list kept lists texts))))
           told (Some c) first =
               let forward = All-contains AreForward (all_clashes kept lists texts) c (all_forward lists texts) first.0 in

@@ -1,32 +1,31 @@
 -- Laws of what a template gives.
-use Rattle.std.proofs.Common.{◌≡◌, ℕ, ◌+◌, ◌^◌, ◌<◌, ◌≤◌, ◌==◌, ◌&&◌, not, inl, inr, nat_le, if◌then◌else◌, Bool, true, false, List, ◌++◌, length, drop, get_or, is_some, refl, sym, ◌∙◌, ap, subst, arith, append_assoc, length-append}
+use Rattle.std.proofs.Common.{◌≡◌, ℕ, ◌+◌, ◌^◌, ◌<◌, ◌≤◌, ◌==◌, ◌&&◌, not, inl, inr, nat_le, if◌then◌else◌, Bool, true, false, List, ◌++◌, length, drop, get_or, refl, sym, ◌∙◌, ap, subst, arith, append_assoc, length-append}
 use Rattle.std.specs.Prelude.{codes}
 use Rattle.std.proofs.lemmas.List.{get_or_default}
 use Rattle.std.proofs.lemmas.List.Folds.{list_any_at, list_any_none}
 use Rattle.std.proofs.lemmas.Option.{unwrap_or-slice_get}
 use Rattle.std.proofs.lemmas.Bool.Decides.{nat_tests}
-use Rattle.ssr_syntax_tree.specs.Syntax.{Syntax, node_count, tokens_of}
-use Rattle.ssr_syntax_tree.specs.Places.{Node, nodes_of, node_of, token_of, start_of, end_of, IsAbove, HasNode, HasToken}
+use Rattle.ssr_syntax_tree.specs.Syntax.{Syntax, node_count}
+use Rattle.ssr_syntax_tree.specs.Places.{Node, nodes_of, node_of, start_of, end_of, IsAbove, HasNode, HasToken}
 use Rattle.ssr_syntax_tree.proofs.Shared.{node_of-number, start_of-below, end_of-below, length-nodes_of}
 use Rattle.std.proofs.lemmas.Bool.{cases_lt}
 use Rattle.ide_ssr_resolved_rule.specs.Resolved.{ResolvedRule}
-use Rattle.ide_ssr_resolved_rule.specs.StandIns.{name_at}
-use Rattle.ide_ssr_rewriting.specs.Rendering.{text_for, plain, is_node, wrapped, wrapped_text}
-use Rattle.ide_ssr_rewriting.proofs.Tokens.{tokens_from}
+use Rattle.ide_ssr_rewriting.specs.Rendering.{Filling, text_for, is_piece, token_numbers, plain, is_node, wrapped, wrapped_text}
+use Rattle.ide_ssr_rewriting.proofs.Tokens.{numbers_from}
 
 -- a token's text is pushed: the rest comes behind it
 pub pushed : (old new text left rest whole : List ℕ) → old ++ left ≡ whole → left ≡ text ++ rest → new ≡ old ++ text → new ++ rest ≡ whole
 pushed old new text left rest whole is so e = rw (e, append_assoc, ← so) is
 
-pub plain_from : (rule : ResolvedRule) (piece : ℕ → List ℕ) (tree : Syntax) (t : ℕ) → HasToken tree t
-    → plain rule piece (drop t (tokens_of tree)) ≡ text_for rule piece (token_of tree t) ++ plain rule piece (drop (t + 1) (tokens_of tree))
-plain_from rule piece tree t h = ap (plain rule piece) (tokens_from tree t h)
+pub plain_from : (rule : ResolvedRule) (filling : Filling) (tree : Syntax) (n : ℕ) → HasToken tree n
+    → plain rule filling tree (drop n (token_numbers tree)) ≡ text_for rule filling tree n ++ plain rule filling tree (drop (n + 1) (token_numbers tree))
+plain_from rule filling tree n h = ap (plain rule filling tree) (numbers_from tree n h)
 
-pub wrapped_from : (read : Syntax) (front : ℕ) (rule : ResolvedRule) (piece : ℕ → List ℕ) (at : ℕ) (tree : Syntax) (t : ℕ) → HasToken tree t
-    → wrapped read front rule piece at (drop t (tokens_of tree))
-    ≡ wrapped_text read front (is_some (name_at rule.names (token_of tree t))) at (text_for rule piece (token_of tree t))
-    ++ wrapped read front rule piece (at + length (text_for rule piece (token_of tree t))) (drop (t + 1) (tokens_of tree))
-wrapped_from read front rule piece at tree t h = ap (wrapped read front rule piece at) (tokens_from tree t h)
+pub wrapped_from : (read : Syntax) (front : ℕ) (rule : ResolvedRule) (filling : Filling) (at : ℕ) (tree : Syntax) (n : ℕ) → HasToken tree n
+    → wrapped read front rule filling tree at (drop n (token_numbers tree))
+    ≡ wrapped_text read front (is_piece rule tree n) at (text_for rule filling tree n)
+    ++ wrapped read front rule filling tree (at + length (text_for rule filling tree n)) (drop (n + 1) (token_numbers tree))
+wrapped_from read front rule filling at tree n h = ap (wrapped read front rule filling tree at) (numbers_from tree n h)
 
 -- what is left of the template without the token is as much shorter
 pub still_within : (at n : ℕ) (left text rest : List ℕ) → at + length left ≡ n → left ≡ text ++ rest → (at + length text) + length rest ≡ n

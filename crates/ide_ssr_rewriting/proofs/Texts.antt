@@ -5,13 +5,13 @@ use Rattle.std.specs.Option.{option_and_then}
 use Rattle.std.proofs.lemmas.Bool.{cases_eq, eq-eqb, ne_eqb}
 use Rattle.std.proofs.lemmas.List.Elements.{All-contains, Contains-append_right}
 use Rattle.std.proofs.lemmas.Option.{same_Some, slice_get-get_or, slice_get_within}
-use Rattle.ide_ssr_resolved_rule.specs.Resolved.{ResolvedRule}
 use Rattle.ide_ssr_bindings.specs.Found.{FoundMatch}
 use Rattle.ide_ssr_nesting.specs.declared.holders.Holder.{Holder}
 use Rattle.ide_ssr_nesting.specs.Holding.{Kept}
 use Rattle.ide_ssr_nesting.specs.Lists.{Listing, listed}
 use Rattle.ide_ssr_rewriting.specs.Clashes.{Rewrite}
 use Rattle.ide_ssr_rewriting.specs.Private.Nest.{IsNest, under}
+use Rattle.ide_ssr_rewriting.specs.Replacements.{Writing}
 use Rattle.ide_ssr_rewriting.specs.Edits.{range_at, Texts, AreTexts, list_at, list_under, text_by}
 use Rattle.ide_ssr_rewriting.specs.Private.Edits.{texts_from, texts_of}
 
@@ -36,18 +36,18 @@ list_same kept f g (n ∷ places) same =
 pub lists_same : (kept : Kept) (listing : Listing) (f g : Texts) (n : ℕ) → ((i j : ℕ) → Contains (under listing n i) j → f j ≡ g j) → list_under kept listing f n ≡ list_under kept listing g n
 lists_same kept listing f g n same = λ t i. list_same kept f g (under listing n i) (same i) t
 
-text_same : (kept : Kept) (listing : Listing) (rules : List ResolvedRule) (f g : Texts) (n : ℕ) (m : FoundMatch) → ((i j : ℕ) → Contains (under listing n i) j → f j ≡ g j)
-    → text_by kept.workspace rules m (list_under kept listing f n) ≡ text_by kept.workspace rules m (list_under kept listing g n)
-text_same kept listing rules f g n m same = ap (text_by kept.workspace rules m) (lists_same kept listing f g n same)
+text_same : (kept : Kept) (listing : Listing) (by : Writing) (f g : Texts) (n : ℕ) (m : FoundMatch) → ((i j : ℕ) → Contains (under listing n i) j → f j ≡ g j)
+    → text_by kept.workspace by m (list_under kept listing f n) ≡ text_by kept.workspace by m (list_under kept listing g n)
+text_same kept listing by f g n m same = ap (text_by kept.workspace by m) (lists_same kept listing f g n same)
 
 -- ** There are such texts.
 
-abbrev stands_at : Kept → Listing → List ResolvedRule → Texts → ℕ → Option (List ℕ)
-stands_at kept listing rules texts n = option_and_then (λ m. text_by kept.workspace rules m (list_under kept listing texts n)) (slice_get kept.matches n)
+abbrev stands_at : Kept → Listing → Writing → Texts → ℕ → Option (List ℕ)
+stands_at kept listing by texts n = option_and_then (λ m. text_by kept.workspace by m (list_under kept listing texts n)) (slice_get kept.matches n)
 
-stands_same : (kept : Kept) (listing : Listing) (rules : List ResolvedRule) (f g : Texts) (n : ℕ) → ((i j : ℕ) → Contains (under listing n i) j → f j ≡ g j)
-    → stands_at kept listing rules f n ≡ stands_at kept listing rules g n
-stands_same kept listing rules f g n same = ap (λ (lists : ℕ → List Rewrite). option_and_then (λ m. text_by kept.workspace rules m lists) (slice_get kept.matches n)) (lists_same kept listing f g n same)
+stands_same : (kept : Kept) (listing : Listing) (by : Writing) (f g : Texts) (n : ℕ) → ((i j : ℕ) → Contains (under listing n i) j → f j ≡ g j)
+    → stands_at kept listing by f n ≡ stands_at kept listing by g n
+stands_same kept listing by f g n same = ap (λ (lists : ℕ → List Rewrite). option_and_then (λ m. text_by kept.workspace by m lists) (slice_get kept.matches n)) (lists_same kept listing f g n same)
 
 at_first : (n from : ℕ) (x y : Option (List ℕ)) → n ≡ from → (if n == from then x else y) ≡ x
 at_first n from x y e = rw (eq-eqb n from e) refl
@@ -56,46 +56,46 @@ past_first : (n from : ℕ) (x y : Option (List ℕ)) → (n ≡ from → ⊥) �
 past_first n from x y e = rw (ne_eqb n from e) refl
 
 -- the match of the first place doesn't change what stands behind it
-later_same : (kept : Kept) (listing : Listing) (rules : List ResolvedRule) (left from j : ℕ) → from < j
-    → texts_from kept listing rules left (1 + from) j ≡ texts_from kept listing rules (suc left) from j
-later_same kept listing rules left from j lt = sym (past_first j from _ _ (λ e. omega arith))
+later_same : (kept : Kept) (listing : Listing) (by : Writing) (left from j : ℕ) → from < j
+    → texts_from kept listing by left (1 + from) j ≡ texts_from kept listing by (suc left) from j
+later_same kept listing by left from j lt = sym (past_first j from _ _ (λ e. omega arith))
 
-pub stands_from : (kept : Kept) (listing : Listing) (rules : List ResolvedRule) → IsNest kept listing → (left from n : ℕ) → from ≤ n → n < from + left
-    → texts_from kept listing rules left from n ≡ stands_at kept listing rules (texts_from kept listing rules left from) n
-stands_from kept listing rules is zero from n le lt = absurd (omega arith)
-stands_from kept listing rules is (suc left) from n le lt =
-    let later : Texts = texts_from kept listing rules left (1 + from) in
-    let all : Texts = texts_from kept listing rules (suc left) from in
-    let same : stands_at kept listing rules later n ≡ stands_at kept listing rules all n =
-    stands_same kept listing rules later all n (λ i j h. later_same kept listing rules left from j (let behind = is.before n i j h in omega arith)) in
+pub stands_from : (kept : Kept) (listing : Listing) (by : Writing) → IsNest kept listing → (left from n : ℕ) → from ≤ n → n < from + left
+    → texts_from kept listing by left from n ≡ stands_at kept listing by (texts_from kept listing by left from) n
+stands_from kept listing by is zero from n le lt = absurd (omega arith)
+stands_from kept listing by is (suc left) from n le lt =
+    let later : Texts = texts_from kept listing by left (1 + from) in
+    let all : Texts = texts_from kept listing by (suc left) from in
+    let same : stands_at kept listing by later n ≡ stands_at kept listing by all n =
+    stands_same kept listing by later all n (λ i j h. later_same kept listing by left from j (let behind = is.before n i j h in omega arith)) in
     elim (cases_eq n from) [
       | inl e ↦
-          at_first n from (stands_at kept listing rules later from) (later n) e
-          ∙ (ap (stands_at kept listing rules later) (sym e) ∙ same)
+          at_first n from (stands_at kept listing by later from) (later n) e
+          ∙ (ap (stands_at kept listing by later) (sym e) ∙ same)
       | inr other ↦
-          past_first n from (stands_at kept listing rules later from) (later n) other
-          ∙ (stands_from kept listing rules is left (1 + from) n (omega arith) (omega arith) ∙ same)
+          past_first n from (stands_at kept listing by later from) (later n) other
+          ∙ (stands_from kept listing by is left (1 + from) n (omega arith) (omega arith) ∙ same)
     ]
 
-pub are_texts : (kept : Kept) (listing : Listing) (rules : List ResolvedRule) → IsNest kept listing → AreTexts kept listing rules (texts_of kept listing rules)
+pub are_texts : (kept : Kept) (listing : Listing) (by : Writing) → IsNest kept listing → AreTexts kept listing by (texts_of kept listing by)
 unfolding texts_of
-are_texts kept listing rules is n m at =
-    stands_from kept listing rules is (length kept.matches) 0 n (omega arith) (let within = slice_get_within kept.matches n m at in omega arith)
-    ∙ ap (option_and_then (λ m. text_by kept.workspace rules m (list_under kept listing (texts_of kept listing rules) n))) at
+are_texts kept listing by is n m at =
+    stands_from kept listing by is (length kept.matches) 0 n (omega arith) (let within = slice_get_within kept.matches n m at in omega arith)
+    ∙ ap (option_and_then (λ m. text_by kept.workspace by m (list_under kept listing (texts_of kept listing by) n))) at
 
 -- ** There are no others.
 
-agree_from : (kept : Kept) (listing : Listing) (rules : List ResolvedRule) → IsNest kept listing → (f g : Texts) → AreTexts kept listing rules f → AreTexts kept listing rules g
+agree_from : (kept : Kept) (listing : Listing) (by : Writing) → IsNest kept listing → (f g : Texts) → AreTexts kept listing by f → AreTexts kept listing by g
     → (left n : ℕ) (m : FoundMatch) → length kept.matches ≤ n + left → slice_get kept.matches n ≡ Some m → f n ≡ g n
-agree_from kept listing rules is f g fs gs zero n m le at = let within = slice_get_within kept.matches n m at in absurd (omega arith)
-agree_from kept listing rules is f g fs gs (suc left) n m le at =
+agree_from kept listing by is f g fs gs zero n m le at = let within = slice_get_within kept.matches n m at in absurd (omega arith)
+agree_from kept listing by is f g fs gs (suc left) n m le at =
     fs n m at
-    ∙ (text_same kept listing rules f g n m (λ i j h.
+    ∙ (text_same kept listing by f g n m (λ i j h.
     let behind = is.before n i j h in
     let within = All-contains (λ n. n < length kept.matches) (under listing n i) j (is.lists (Some (record { place = n; binding = i }))).within h in
-    agree_from kept listing rules is f g fs gs left j (get_or kept.matches j m) (omega arith) (slice_get-get_or kept.matches j m within))
+    agree_from kept listing by is f g fs gs left j (get_or kept.matches j m) (omega arith) (slice_get-get_or kept.matches j m within))
     ∙ sym (gs n m at))
 
-pub one_text : (kept : Kept) (listing : Listing) (rules : List ResolvedRule) → IsNest kept listing → (f g : Texts) → AreTexts kept listing rules f → AreTexts kept listing rules g
+pub one_text : (kept : Kept) (listing : Listing) (by : Writing) → IsNest kept listing → (f g : Texts) → AreTexts kept listing by f → AreTexts kept listing by g
     → (n : ℕ) (m : FoundMatch) → slice_get kept.matches n ≡ Some m → f n ≡ g n
-one_text kept listing rules is f g fs gs n m at = agree_from kept listing rules is f g fs gs (length kept.matches) n m (omega arith) at
+one_text kept listing by is f g fs gs n m at = agree_from kept listing by is f g fs gs (length kept.matches) n m (omega arith) at

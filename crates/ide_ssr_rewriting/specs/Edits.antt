@@ -7,16 +7,15 @@ use Rattle.std.specs.Ordering.{nat_cmp}
 use Rattle.std.specs.declared.cmp.Ordering.{Ordering}
 use Rattle.ssr_syntax_tree.specs.Syntax.{source_of}
 use Rattle.ssr_base_trees.specs.declared.ids.FileId.{FileId}
-use Rattle.ssr_base_trees.specs.Changes.{Change, FitsText}
+use Rattle.ssr_base_trees.specs.Changes.{Change, ChangesInOrder, FitsText}
 use Rattle.ssr_base_trees.specs.Workspace.{FileSpan, Workspace, trees}
-use Rattle.ide_ssr_resolved_rule.specs.Resolved.{ResolvedRule}
 use Rattle.ide_ssr_bindings.specs.Found.{FoundMatch, held_range}
 use Rattle.ide_ssr_nesting.specs.Holding.{Kept}
 use Rattle.ide_ssr_nesting.specs.Lists.{Listing, listed, range_of}
 use Rattle.ide_ssr_rewriting.specs.declared.editing.EditError.{EditError}
 use Rattle.ide_ssr_rewriting.specs.declared.editing.EditError.TheVariants as errors
 use Rattle.ide_ssr_rewriting.specs.Clashes.{Rewrite, Clash, IsFirst, changes_made, clash_of, clashes, is_clean}
-use Rattle.ide_ssr_rewriting.specs.Replacements.{piece, text_of_match}
+use Rattle.ide_ssr_rewriting.specs.Replacements.{Writing, piece, prefix_by, text_of_match}
 
 -- texts for the matches by their places, some of which may be missing
 abbrev pub Texts : Type 0
@@ -48,16 +47,16 @@ outermost_list kept lists texts = list_at kept texts (listed lists None)
 
 -- What stands for a match that has these lists under its placeholders, by the places of their bindings: a text exactly if each of
 -- them can be made, also one under a placeholder that the template doesn't use.
-abbrev pub text_by : Workspace → List ResolvedRule → FoundMatch → (ℕ → List Rewrite) → Option (List ℕ)
-text_by w rules m lists =
+abbrev pub text_by : Workspace → Writing → FoundMatch → (ℕ → List Rewrite) → Option (List ℕ)
+text_by w by m lists =
     let bound = enumerate_from 0 m.bindings in
     if list_all (λ p. is_clean (lists p.0)) bound
-    then Some (text_of_match w rules m (map (λ p. piece w (held_range (trees w) m.node.tree p.1) (lists p.0)) bound))
+    then Some (text_of_match w by m (map (λ p. piece w (prefix_by by.rules m.rule p.1) (held_range (trees w) m.node.tree p.1) (lists p.0)) bound))
     else None
 
 -- The texts are those that stand for the matches. There are such ones, and no others, as the law `laws::rewriting` says.
-abbrev pub AreTexts : Kept → Listing → List ResolvedRule → Texts → Type 0
-AreTexts kept lists rules texts = (n : ℕ) (m : FoundMatch) → slice_get kept.matches n ≡ Some m → texts n ≡ text_by kept.workspace rules m (list_under kept lists texts n)
+abbrev pub AreTexts : Kept → Listing → Writing → Texts → Type 0
+AreTexts kept lists by texts = (n : ℕ) (m : FoundMatch) → slice_get kept.matches n ≡ Some m → texts n ≡ text_by kept.workspace by m (list_under kept lists texts n)
 
 -- ** The clashes.
 
@@ -93,12 +92,16 @@ IsAnswer kept lists texts (Err (errors.Clash earlier later)) = IsFirst (all_clas
 IsAnswer kept lists texts (Err errors.NoTemplate) = ⊥
 IsAnswer kept lists texts (Err errors.Memory) = ⊤
 
--- the answer to kept matches, their lists and the rules
-abbrev pub Answers : Kept → Listing → List ResolvedRule → Result (BTreeMap FileId (List Change)) EditError → Type 0
-Answers kept lists rules result = (texts : Texts) × AreTexts kept lists rules texts × IsAnswer kept lists texts result
+-- the answer to kept matches, their lists, and what they are written by
+abbrev pub Answers : Kept → Listing → Writing → Result (BTreeMap FileId (List Change)) EditError → Type 0
+Answers kept lists by result = (texts : Texts) × AreTexts kept lists by texts × IsAnswer kept lists texts result
 
 -- each file with an edit is one of the workspace, and each change of it begins and ends between two characters of its text
 abbrev pub EditsFit : Workspace → BTreeMap FileId (List Change) → Type 0
 EditsFit w edits =
     (file : FileId) (changes : List Change) → get file_cmp edits file ≡ Some changes
     → IsSomeAnd (slice_get w.files file.0) (λ tree. All (FitsText (source_of tree)) changes)
+
+-- the changes of each file with an edit stand in order, and no two of them share a byte
+abbrev pub EditsInOrder : BTreeMap FileId (List Change) → Type 0
+EditsInOrder edits = (file : FileId) (changes : List Change) → get file_cmp edits file ≡ Some changes → ChangesInOrder 0 changes

@@ -1,4 +1,5 @@
 pub mod Rendering
+pub mod Printing
 pub mod Comments
 pub mod Clashes
 pub mod Replacements

@@ -6,25 +6,25 @@ ghost use Rattle.std.specs.List.{list_all};
 ghost use Rattle.std.specs.Ordering.{nat_cmp, ordering_then};
 ghost use Rattle.std.specs.BTreeMap.{get};
 ghost use Rattle.ssr_base_trees.specs.declared.ids.FileId.{FileId as FileIdValue};
-ghost use Rattle.ssr_base_trees.specs.Workspace.{file_span_of, trees};
-ghost use Rattle.ide_ssr_bindings.specs.Found.{IsMatch};
+ghost use Rattle.ssr_base_trees.specs.Workspace.{file_span_of};
 ghost use Rattle.ide_ssr_rewriting.specs.Clashes.{Clash, IsFirst, Rewrite as RewriteValue, clash_le, clash_of, clashes, is_clean};
 ghost use Rattle.ide_ssr_nesting.specs.Lists.{AreLists};
-ghost use Rattle.ide_ssr_rewriting.specs.Edits.{Answers, EditsFit, clashes_under, edit_of, file_cmp, list_at, list_under, range_at};
+ghost use Rattle.ide_ssr_rewriting.specs.Edits.{Answers, EditsFit, EditsInOrder, clashes_under, edit_of, file_cmp, list_at, list_under, range_at};
 ghost use Rattle.ide_ssr_rewriting.specs.Private.Nest.{IsNest, under};
 ghost use Rattle.ide_ssr_rewriting.specs.Private.Clashes.{AreInOrder, lesser};
 ghost use Rattle.ide_ssr_rewriting.specs.Private.Edits.{IsRun, text_in};
 ghost use Rattle.ide_ssr_rewriting.specs.Private.Groups.{IsGroup, LastElsewhere};
 ghost use Rattle.ide_ssr_rewriting.specs.Private.Pieces.{pieces_by};
 ghost use Rattle.ide_ssr_rewriting.specs.Private.Replacements.{IsOf};
-ghost use Rattle.ide_ssr_rewriting.specs.Replacements.{piece, text_of_match};
+ghost use Rattle.ide_ssr_rewriting.specs.Replacements.{held_text, writing};
 
 use crate::clashes::{Rewrite, changes_made, first_clash};
-use crate::replacements::{piece, text_of_match};
+use crate::replacements::held_text;
+use crate::writer::Writer;
 use ide_ssr_bindings::FoundMatch;
 use ide_ssr_nesting::{KeptMatches, Lists};
 use ide_ssr_resolved_rule::ResolvedRule;
-use ssr_base_trees::{FileId, FileRange, TextEdit, Trees};
+use ssr_base_trees::{FileId, FileRange, Semantics, TextEdit, Trees};
 use ssr_syntax_kinds::TextRange;
 use std::alloc::{AllocError, Global};
 use std::borrow::CowStr;
@@ -158,7 +158,7 @@ fn all_known(list: &[Rewrite]) -> bool
 
 /// What a placeholder holds, which comes from this range, with the changes of a list made, if it can be made: there is no
 /// clash in it, and all texts are known.
-fn piece_if_clean<'a>(
+fn held_if_clean<'a>(
     alloc: Global,
     workspace: &'a Trees,
     range: Option<FileRange>,
@@ -167,12 +167,12 @@ fn piece_if_clean<'a>(
 ) -> Result<Option<CowStr<'a>>, AllocError>
     requires clash { IsFirst (clashes list.items) (option_map clash_of clash) }
     requires list { IfSome (option_map file_span_of range) (λ range. IsOf workspace.now range list.items) }
-    ensures { IfOk result (λ text. option_map cow_str_bytes text ≡ (if is_clean list.items then Some (piece workspace.now (option_map file_span_of range) list.items) else None)) }
+    ensures { IfOk result (λ text. option_map cow_str_bytes text ≡ (if is_clean list.items then Some (held_text workspace.now (option_map file_span_of range) list.items) else None)) }
 {
     if clash.is_some() || !all_known(&list) {
         return Ok(None);
     }
-    Ok(Some(piece(alloc, workspace, range, list)?))
+    Ok(Some(held_text(alloc, workspace, range, list)?))
 }
 
 /// Pushes a piece, if there is one; answers whether there was.
@@ -190,24 +190,6 @@ fn push_piece<'a>(
         }
         None => Ok(false),
     }
-}
-
-/// What stands for a match with these pieces, if they are all.
-fn text_of_pieces(
-    alloc: Global,
-    workspace: &Trees,
-    rules: &[ResolvedRule],
-    m: &FoundMatch,
-    pieces: &[CowStr<'_>],
-    are_all: bool,
-) -> Result<Option<String>, AllocError>
-    requires { IsMatch (trees workspace.now) m.now }
-    ensures { IfOk result (λ text. option_map string_bytes text ≡ option_map (text_of_match workspace.now rules.now m.now) (if are_all then Some (map cow_str_bytes pieces.now) else None)) }
-{
-    if !are_all {
-        return Ok(None);
-    }
-    Ok(Some(text_of_match(alloc, workspace, rules, m, pieces)?))
 }
 
 impl Pending {
@@ -236,9 +218,9 @@ impl Pending {
 
     /// Takes the lists under the placeholders of the match of a place, and notes their first clash. The pieces become those
     /// of these placeholders, in the place of another match's; answers whether they are all: all lists can be made.
-    fn take_pieces<'a>(
+    fn take_pieces<'a, S: Semantics>(
         &mut self,
-        alloc: Global,
+        writer: &Writer<'_, S>,
         kept: &KeptMatches<'a>,
         lists: &Lists,
         m: &FoundMatch,
@@ -248,7 +230,7 @@ impl Pending {
         requires nest { IsNest kept.now lists.now }
         requires m { slice_get kept.now.matches place ≡ Some m.now }
         requires counted { length self.old.texts.items ≡ length kept.now.matches }
-        ensures pieces { IfOk result (λ are_all. (if are_all then Some (map cow_str_bytes pieces.new.items) else None) ≡ pieces_by kept.now.workspace m.now (list_under kept.now lists.now (text_in self.old.texts.items) place)) }
+        ensures pieces { IfOk result (λ are_all. (if are_all then Some (map cow_str_bytes pieces.new.items) else None) ≡ pieces_by kept.now.workspace writer.now.rules.now m.now (list_under kept.now lists.now (text_in self.old.texts.items) place)) }
         ensures clash { OnOk result ((others : List Clash) → IsFirst others (option_map clash_of self.old.clash) → IsFirst (clashes_under m.now (list_under kept.now lists.now (text_in self.old.texts.items) place) ++ others) (option_map clash_of self.new.clash)) }
         ensures left { OnOk result ((j : ℕ) → ((i : ℕ) → Contains (under lists.now place i) j → ⊥) → text_in self.new.texts.items j ≡ text_in self.old.texts.items j) }
         ensures counted { OnOk result (length self.new.texts.items ≡ length self.old.texts.items) }
@@ -257,61 +239,53 @@ impl Pending {
         let mut are_all = true;
         for (index, binding) in m.bindings().iter().enumerate() {
             let range = binding.original_range(kept.workspace(), m.node().tree);
-            let (list, first) = self.take_list(alloc, kept, lists.under(place, index))?;
-            let piece = piece_if_clean(alloc, kept.workspace(), range, list, first)?;
+            let (list, first) = self.take_list(writer.alloc, kept, lists.under(place, index))?;
+            let held = held_if_clean(writer.alloc, kept.workspace(), range, list, first)?;
+            let piece = writer.piece(m.rule(), *binding, held)?;
             are_all = push_piece(pieces, piece)? && are_all;
         }
         Ok(are_all)
     }
 
     /// Rewrites the match of a place, where those behind it are gone through; the pieces become its own.
-    fn rewrite_at<'a>(
+    fn rewrite_at<'a, S: Semantics>(
         &mut self,
-        alloc: Global,
+        writer: &Writer<'_, S>,
         kept: &KeptMatches<'a>,
         lists: &Lists,
-        rules: &[ResolvedRule],
         place: usize,
         pieces: &mut Vec<CowStr<'a>>,
     ) -> Result<(), AllocError>
         requires nest { IsNest kept.now lists.now }
         requires place { place < length kept.now.matches }
-        requires run { IsRun kept.now lists.now rules.now (place + 1) self.old.texts.items (option_map clash_of self.old.clash) }
-        ensures { OnOk result (IsRun kept.now lists.now rules.now place self.new.texts.items (option_map clash_of self.new.clash)) }
+        requires run { IsRun kept.now lists.now (writing (S.meanings writer.now.semantics.now) writer.now.rules.now) (place + 1) self.old.texts.items (option_map clash_of self.old.clash) }
+        ensures { OnOk result (IsRun kept.now lists.now (writing (S.meanings writer.now.semantics.now) writer.now.rules.now) place self.new.texts.items (option_map clash_of self.new.clash)) }
     {
         let m = kept.get(place);
-        let are_all = self.take_pieces(alloc, kept, lists, m, place, pieces)?;
-        let text = text_of_pieces(
-            alloc,
-            kept.workspace(),
-            rules,
-            m,
-            pieces.as_slice(),
-            are_all,
-        )?;
+        let are_all = self.take_pieces(writer, kept, lists, m, place, pieces)?;
+        let text = writer.text_of_pieces(kept.workspace(), m, pieces.as_slice(), are_all)?;
         self.texts[place] = text;
         Ok(())
     }
 }
 
 /// Goes through all matches, from the last one to the first.
-fn run(
-    alloc: Global,
+fn run<S: Semantics>(
+    writer: &Writer<'_, S>,
     kept: &KeptMatches<'_>,
     lists: &Lists,
-    rules: &[ResolvedRule],
 ) -> Result<Pending, AllocError>
     requires { AreLists kept.now lists.now }
     ensures nest { IsNest kept.now lists.now }
-    ensures run { IfOk result (λ pending. IsRun kept.now lists.now rules.now 0 pending.texts.items (option_map clash_of pending.clash)) }
+    ensures run { IfOk result (λ pending. IsRun kept.now lists.now (writing (S.meanings writer.now.semantics.now) writer.now.rules.now) 0 pending.texts.items (option_map clash_of pending.clash)) }
 {
     let count = kept.len();
-    let texts = none_known(alloc, count)?;
+    let texts = none_known(writer.alloc, count)?;
     let mut pending = Pending { texts, clash: None };
     // One list serves all matches, one after another.
-    let mut pieces = Vec::new(alloc);
+    let mut pieces = Vec::new(writer.alloc);
     for place in (0..count).rev() {
-        pending.rewrite_at(alloc, kept, lists, rules, place, &mut pieces)?;
+        pending.rewrite_at(writer, kept, lists, place, &mut pieces)?;
     }
     Ok(pending)
 }
@@ -386,17 +360,24 @@ fn file_edits(
 /// The edits of the files in which kept matches lie: each outermost one becomes its rule's template with what its
 /// placeholders hold, in which the matches are rewritten likewise. `Clash` where two matches of one list share a byte, and
 /// their ranges or what stands for them differ: the first two.
-pub fn edits(
+pub fn edits<S: Semantics>(
     alloc: Global,
+    semantics: &S,
     kept: &KeptMatches<'_>,
     lists: &Lists,
     rules: &[ResolvedRule],
 ) -> Result<BTreeMap<FileId, TextEdit>, EditError>
     requires lists { AreLists kept.now lists.now }
-    ensures answer { Answers kept.now lists.now rules.now result }
+    ensures answer { Answers kept.now lists.now (writing (S.meanings semantics.now) rules.now) result }
     ensures fits { IfOk result (λ edits. EditsFit kept.now.workspace edits) }
+    ensures order { IfOk result (λ edits. EditsInOrder edits) }
 {
-    let mut pending = run(alloc, kept, lists, rules)?;
+    let writer = Writer {
+        alloc,
+        semantics,
+        rules,
+    };
+    let mut pending = run(&writer, kept, lists)?;
     let (outermost, _) = pending.take_list(alloc, kept, lists.outermost())?;
     if let Some((earlier, later)) = pending.clash {
         return Err(EditError::Clash(earlier, later));

@@ -5,9 +5,11 @@ mod clashes;
 mod comments;
 mod editing;
 pub mod laws;
+mod prefixes;
+mod printing;
 mod rendering;
 mod replacements;
+mod writer;
 
 pub use comments::{kept_comments, push_comments};
 pub use editing::{EditError, edits};
-pub use rendering::rendered;

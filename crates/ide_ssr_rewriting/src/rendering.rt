@@ -1,15 +1,15 @@
 //! The text that a template gives for a match.
 
-ghost use Rattle.std.specs.Prelude.{◌≡◌, ◌+◌, ◌++◌, ◌^◌, ◌<◌, ◌≤◌, ◌==◌, ◌&&◌, ℕ, if◌then◌else◌, nat_le, not, IfOk, IsTrue, Some, length, map, string_bytes};
+ghost use Rattle.std.specs.Prelude.{◌≡◌, ◌+◌, ◌++◌, ◌^◌, ◌<◌, ◌≤◌, ◌==◌, ◌&&◌, ℕ, [], if◌then◌else◌, nat_le, not, IfOk, IsTrue, Some, length, map, slice_index_or, string_bytes};
 ghost use Rattle.std.specs.Cow.{cow_str_bytes};
 ghost use Rattle.std.specs.List.{position};
-ghost use Rattle.ssr_syntax_tree.specs.Syntax.{node_count, tokens_of};
-ghost use Rattle.ssr_syntax_tree.specs.Places.{HasNode, HasToken, node_of, token_of};
-ghost use Rattle.ide_ssr_resolved_rule.specs.StandIns.{name_at};
-ghost use Rattle.ide_ssr_rewriting.specs.Rendering.{piece_of, text_for, plain, is_node, wrapped_text, wrapped, takes_parentheses, rendered};
+ghost use Rattle.ssr_syntax_tree.specs.Syntax.{node_count};
+ghost use Rattle.ssr_syntax_tree.specs.Places.{HasNode, HasToken, node_of};
+ghost use Rattle.ide_ssr_resolved_rule.specs.Templates.{template_token};
+ghost use Rattle.ide_ssr_rewriting.specs.Rendering.{piece_of, filling_of, text_for, is_piece, token_numbers, plain, is_node, wrapped_text, wrapped, takes_parentheses, rendered};
 
 use ide_ssr_bindings::Binding;
-use ide_ssr_resolved_rule::ResolvedRule;
+use ide_ssr_resolved_rule::{ResolvedRule, TemplateToken};
 use ssr_syntax::{Fragment, SyntaxError, fragment};
 use ssr_syntax_kinds::TextRange;
 use ssr_syntax_tree::{NodeNo, TokenNo, Tree};
@@ -17,14 +17,15 @@ use std::alloc::{AllocError, Global};
 use std::borrow::CowStr;
 
 /// The text that the rule's template gives for a match with these bindings, each of which has its piece: a part of a file's
-/// text, or a text of its own.
-pub fn rendered(
+/// text, or a text of its own. The used paths of the template are printed as these texts.
+pub(crate) fn rendered(
     alloc: Global,
     rule: &ResolvedRule,
     bindings: &[Binding],
     pieces: &[CowStr<'_>],
+    printed: &[String],
 ) -> Result<String, AllocError>
-    ensures { IfOk result (λ text. string_bytes text ≡ rendered rule.now (piece_of bindings.now (map cow_str_bytes pieces.now))) }
+    ensures { IfOk result (λ text. string_bytes text ≡ rendered rule.now (filling_of bindings.now (map cow_str_bytes pieces.now) (map string_bytes printed.now))) }
 {
     let Some(template) = rule.template() else {
         return Ok(String::new(alloc));
@@ -34,6 +35,7 @@ pub fn rendered(
         template,
         bindings,
         pieces,
+        printed,
     };
     let plain = rendering.plain(alloc)?;
     if !takes_parentheses(rule.category()) {
@@ -81,41 +83,63 @@ fn piece<'a>(bindings: &[Binding], pieces: &'a [CowStr<'_>], placeholder: u32) -
     }
 }
 
-/// A rule's template, and what its placeholders become.
+/// The text for the used path with this place.
+fn printed_at(printed: &[String], place: usize) -> &str
+    ensures { result.now ≡ slice_index_or (map string_bytes printed.now) place [] }
+{
+    match printed.get(place) {
+        Some(text) => text.as_str(),
+        None => "",
+    }
+}
+
+/// A rule's template, and what its placeholders and used paths become.
 #[derive(Clone, Copy)]
 struct Rendering<'a> {
     rule: &'a ResolvedRule,
     template: &'a Tree,
     bindings: &'a [Binding],
     pieces: &'a [CowStr<'a>],
+    printed: &'a [String],
 }
 
 impl<'a> Rendering<'a> {
-    /// Which placeholder a token of the template is.
-    fn placeholder(&self, token: TokenNo) -> Option<u32>
+    /// What a token of the template is.
+    fn token(&self, token: TokenNo) -> TemplateToken
         requires template { self.now.rule.now.template ≡ Some self.now.template.now }
         requires has { HasToken self.now.template.now token.0 }
-        ensures { result ≡ name_at self.now.rule.now.names (token_of self.now.template.now token.0) }
+        ensures { result ≡ template_token self.now.rule.now self.now.template.now token.0 }
     {
-        self.rule.template_placeholder(token)
+        self.rule.template_token(token)
+    }
+
+    /// Whether a piece stands for the token of the template.
+    fn is_piece(&self, token: TokenNo) -> bool
+        requires template { self.now.rule.now.template ≡ Some self.now.template.now }
+        requires has { HasToken self.now.template.now token.0 }
+        ensures { result ≡ is_piece self.now.rule.now self.now.template.now token.0 }
+    {
+        matches!(self.token(token), TemplateToken::Placeholder(_))
     }
 
     /// What stands for the token of the template.
     fn text_for(&self, token: TokenNo) -> &'a str
         requires template { self.now.rule.now.template ≡ Some self.now.template.now }
         requires has { HasToken self.now.template.now token.0 }
-        ensures { result.now ≡ text_for self.now.rule.now (piece_of self.now.bindings.now (map cow_str_bytes self.now.pieces.now)) (token_of self.now.template.now token.0) }
+        ensures { result.now ≡ text_for self.now.rule.now (filling_of self.now.bindings.now (map cow_str_bytes self.now.pieces.now) (map string_bytes self.now.printed.now)) self.now.template.now token.0 }
     {
-        match self.placeholder(token) {
-            Some(place) => piece(self.bindings, self.pieces, place),
-            None => self.template.token_text(token),
+        match self.token(token) {
+            TemplateToken::Spelled => self.template.token_text(token),
+            TemplateToken::Placeholder(place) => piece(self.bindings, self.pieces, place),
+            TemplateToken::Path(place) => printed_at(self.printed, place),
+            TemplateToken::InPath => "",
         }
     }
 
-    /// The template with its pieces. At first it gets the room of the template, whose stand-ins are as long as most pieces.
+    /// The filled template. At first it gets the room of the template, whose stand-ins are as long as most pieces.
     fn plain(&self, alloc: Global) -> Result<String, AllocError>
         requires { self.now.rule.now.template ≡ Some self.now.template.now }
-        ensures { IfOk result (λ text. string_bytes text ≡ plain self.now.rule.now (piece_of self.now.bindings.now (map cow_str_bytes self.now.pieces.now)) (tokens_of self.now.template.now)) }
+        ensures { IfOk result (λ text. string_bytes text ≡ plain self.now.rule.now (filling_of self.now.bindings.now (map cow_str_bytes self.now.pieces.now) (map string_bytes self.now.printed.now)) self.now.template.now (token_numbers self.now.template.now)) }
     {
         let mut text = String::with_capacity(alloc, self.template.source().len())?;
         for token in 0..self.template.token_count() {
@@ -124,17 +148,17 @@ impl<'a> Rendering<'a> {
         Ok(text)
     }
 
-    /// Whether no piece stands in parentheses: each is a node of the tree that was read of the template with its pieces,
+    /// Whether no piece stands in parentheses: each is a node of the tree that was read of the filled template,
     /// without the first `front` bytes.
     fn are_nodes(&self, tree: &Tree, front: u32) -> bool
         requires template { self.now.rule.now.template ≡ Some self.now.template.now }
-        requires length { length (plain self.now.rule.now (piece_of self.now.bindings.now (map cow_str_bytes self.now.pieces.now)) (tokens_of self.now.template.now)) < 2 ^ 64 }
-        ensures { IsTrue result → wrapped tree.now front self.now.rule.now (piece_of self.now.bindings.now (map cow_str_bytes self.now.pieces.now)) 0 (tokens_of self.now.template.now) ≡ plain self.now.rule.now (piece_of self.now.bindings.now (map cow_str_bytes self.now.pieces.now)) (tokens_of self.now.template.now) }
+        requires length { length (plain self.now.rule.now (filling_of self.now.bindings.now (map cow_str_bytes self.now.pieces.now) (map string_bytes self.now.printed.now)) self.now.template.now (token_numbers self.now.template.now)) < 2 ^ 64 }
+        ensures { IsTrue result → wrapped tree.now front self.now.rule.now (filling_of self.now.bindings.now (map cow_str_bytes self.now.pieces.now) (map string_bytes self.now.printed.now)) self.now.template.now 0 (token_numbers self.now.template.now) ≡ plain self.now.rule.now (filling_of self.now.bindings.now (map cow_str_bytes self.now.pieces.now) (map string_bytes self.now.printed.now)) self.now.template.now (token_numbers self.now.template.now) }
     {
         let mut at = 0;
         for token in 0..self.template.token_count() {
             let text = self.text_for(TokenNo(token));
-            let is_piece = self.placeholder(TokenNo(token)).is_some();
+            let is_piece = self.is_piece(TokenNo(token));
             if is_wrapped(tree, front, is_piece, at, text) {
                 return false;
             }
@@ -143,18 +167,18 @@ impl<'a> Rendering<'a> {
         true
     }
 
-    /// The template with its pieces, of which `tree` was read without the first `front` bytes: a piece that is no
+    /// The filled template, of which `tree` was read without the first `front` bytes: a piece that is no
     /// node of it stands in parentheses.
     fn wrapped(&self, alloc: Global, tree: &Tree, front: u32) -> Result<String, AllocError>
         requires template { self.now.rule.now.template ≡ Some self.now.template.now }
-        requires length { length (plain self.now.rule.now (piece_of self.now.bindings.now (map cow_str_bytes self.now.pieces.now)) (tokens_of self.now.template.now)) < 2 ^ 64 }
-        ensures { IfOk result (λ text. string_bytes text ≡ wrapped tree.now front self.now.rule.now (piece_of self.now.bindings.now (map cow_str_bytes self.now.pieces.now)) 0 (tokens_of self.now.template.now)) }
+        requires length { length (plain self.now.rule.now (filling_of self.now.bindings.now (map cow_str_bytes self.now.pieces.now) (map string_bytes self.now.printed.now)) self.now.template.now (token_numbers self.now.template.now)) < 2 ^ 64 }
+        ensures { IfOk result (λ text. string_bytes text ≡ wrapped tree.now front self.now.rule.now (filling_of self.now.bindings.now (map cow_str_bytes self.now.pieces.now) (map string_bytes self.now.printed.now)) self.now.template.now 0 (token_numbers self.now.template.now)) }
     {
         let mut wrapped = String::with_capacity(alloc, self.template.source().len())?;
         let mut at = 0;
         for token in 0..self.template.token_count() {
             let text = self.text_for(TokenNo(token));
-            let is_piece = self.placeholder(TokenNo(token)).is_some();
+            let is_piece = self.is_piece(TokenNo(token));
             push_wrapped(&mut wrapped, tree, front, is_piece, at, text)?;
             at += text.len();
         }
@@ -162,7 +186,7 @@ impl<'a> Rendering<'a> {
     }
 }
 
-/// Whether the text of a token at a place of the template with its pieces stands in parentheses: it is a piece and no node.
+/// Whether the text of a token at a place of the filled template stands in parentheses: it is a piece and no node.
 fn is_wrapped(tree: &Tree, front: u32, is_piece: bool, at: usize, text: &str) -> bool
     requires { at + length text.now < 2 ^ 64 }
     ensures { result ≡ (is_piece && not (is_node tree.now front at (at + length text.now))) }
@@ -170,7 +194,7 @@ fn is_wrapped(tree: &Tree, front: u32, is_piece: bool, at: usize, text: &str) ->
     is_piece && !is_node(tree, front, at, at + text.len())
 }
 
-/// Pushes the text of a token at a place of the template with its pieces, in parentheses if it is a piece and no node.
+/// Pushes the text of a token at a place of the filled template, in parentheses if it is a piece and no node.
 fn push_wrapped(
     out: &mut String,
     tree: &Tree,

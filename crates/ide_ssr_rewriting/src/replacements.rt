@@ -1,20 +1,18 @@
-//! What is written for a match whose placeholders' lists can be made.
+//! What files and their comments give to what is written for a match.
 
-ghost use Rattle.std.specs.Prelude.{◌≡◌, ◌++◌, All, IfOk, IfSome, OnOk, map, option_map, slice_range, string_bytes, true};
+ghost use Rattle.std.specs.Prelude.{◌≡◌, ◌++◌, All, IfOk, IfSome, OnOk, option_map, slice_range, string_bytes, true};
 ghost use Rattle.std.specs.Cow.{cow_str_bytes};
 ghost use Rattle.ssr_base_trees.specs.Applied.{changes_of};
 ghost use Rattle.ssr_base_trees.specs.Changes.{replaced};
 ghost use Rattle.ssr_base_trees.specs.Texts.{is_boundary};
 ghost use Rattle.ssr_base_trees.specs.Workspace.{file_span_of, trees};
 ghost use Rattle.ide_ssr_bindings.specs.Found.{IsMatch};
-ghost use Rattle.ide_ssr_rewriting.specs.Replacements.{comments_kept, file_text, piece, template_text, text_of_match};
+ghost use Rattle.ide_ssr_rewriting.specs.Replacements.{comments_kept, file_text, held_text};
 ghost use Rattle.ide_ssr_rewriting.specs.Private.Replacements.{FitsFile, IsOf};
 
 use crate::clashes::{Rewrite, changes_made};
 use crate::comments::{kept_comments, push_comments};
-use crate::rendering::rendered;
 use ide_ssr_bindings::FoundMatch;
-use ide_ssr_resolved_rule::ResolvedRule;
 use ssr_base_trees::{FileId, FileRange, Trees};
 use ssr_syntax_kinds::TextRange;
 use std::alloc::{AllocError, Global};
@@ -64,14 +62,14 @@ fn replaced(
 
 /// What a placeholder holds, which comes from this range, with the changes of a list made. Without a list it is a part of its
 /// file's text.
-pub(crate) fn piece<'a>(
+pub(crate) fn held_text<'a>(
     alloc: Global,
     workspace: &'a Trees,
     range: Option<FileRange>,
     list: Vec<Rewrite>,
 ) -> Result<CowStr<'a>, AllocError>
     requires { IfSome (option_map file_span_of range) (λ range. IsOf workspace.now range list.items) }
-    ensures { IfOk result (λ text. cow_str_bytes text ≡ piece workspace.now (option_map file_span_of range) list.items) }
+    ensures { IfOk result (λ text. cow_str_bytes text ≡ held_text workspace.now (option_map file_span_of range) list.items) }
 {
     let Some(range) = range else {
         return Ok(CowStr::Borrowed(""));
@@ -85,23 +83,8 @@ pub(crate) fn piece<'a>(
     Ok(CowStr::Owned(text))
 }
 
-/// What the template of the match's rule gives with these pieces.
-fn template_text(
-    alloc: Global,
-    rules: &[ResolvedRule],
-    m: &FoundMatch,
-    pieces: &[CowStr<'_>],
-) -> Result<String, AllocError>
-    ensures { IfOk result (λ text. string_bytes text ≡ template_text rules.now m.now (map cow_str_bytes pieces.now)) }
-{
-    match rules.get(m.rule()) {
-        Some(rule) => rendered(alloc, rule, m.bindings(), pieces),
-        None => Ok(String::new(alloc)),
-    }
-}
-
 /// Adds the comments that a match keeps.
-fn push_kept(
+pub(crate) fn push_kept(
     alloc: Global,
     workspace: &Trees,
     m: &FoundMatch,
@@ -115,21 +98,4 @@ fn push_kept(
     };
     let comments = kept_comments(alloc, tree, m.node().node, m.bindings())?;
     push_comments(text, tree, &comments)
-}
-
-/// What stands for a match whose placeholders have these pieces.
-#[tactic(auto, unfolding(crate::specs::Replacements::text_of_match))]
-pub(crate) fn text_of_match(
-    alloc: Global,
-    workspace: &Trees,
-    rules: &[ResolvedRule],
-    m: &FoundMatch,
-    pieces: &[CowStr<'_>],
-) -> Result<String, AllocError>
-    requires { IsMatch (trees workspace.now) m.now }
-    ensures { IfOk result (λ text. string_bytes text ≡ text_of_match workspace.now rules.now m.now (map cow_str_bytes pieces.now)) }
-{
-    let mut text = template_text(alloc, rules, m, pieces)?;
-    push_kept(alloc, workspace, m, &mut text)?;
-    Ok(text)
 }

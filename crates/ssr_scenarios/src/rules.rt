@@ -4,7 +4,7 @@ use crate::lists::separator;
 use crate::paths::{write_calls, write_paths};
 use crate::told::Told;
 use ide_ssr::{SsrError, SsrPattern, SsrRule};
-use ide_ssr_resolved_rule::ResolvedRule;
+use ide_ssr_resolved_rule::{ResolvedRule, TemplateToken};
 use ide_ssr_rules::{resolve_pattern, resolve_rule};
 use ssr_base::ScopeId;
 use ssr_facts::TableSemantics;
@@ -129,10 +129,18 @@ fn write_template(out: &mut Told, kind: &ResolvedRule) {
     for number in 0..template.token_count() {
         let token = TokenNo(number);
         if template.has(Element::Token(token)) {
-            write_placeholder(out, " token ", number, kind.template_placeholder(token));
+            write_placeholder(out, " token ", number, placeholder_of(kind, token));
         }
     }
     out.text("\n");
+}
+
+/// Which placeholder a token of the template is.
+fn placeholder_of(kind: &ResolvedRule, token: TokenNo) -> Option<u32> {
+    match kind.template_token(token) {
+        TemplateToken::Placeholder(placeholder) => Some(placeholder),
+        _ => None,
+    }
 }
 
 /// That the node or token of a number is a placeholder, if it is one.

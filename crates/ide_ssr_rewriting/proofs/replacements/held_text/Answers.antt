@@ -3,7 +3,7 @@ use Rattle.std.specs.Option.{option_map}
 use Rattle.ssr_base_trees.specs.Applied.{changes_of}
 use Rattle.ssr_base_trees.specs.Workspace.{file_span_of}
 use Rattle.ide_ssr_rewriting.proofs.Written.{changes_fit}
-use Rattle.ide_ssr_rewriting.proofs.replacements.piece.Goals as goal
+use Rattle.ide_ssr_rewriting.proofs.replacements.held_text.Goals as goal
 
 pub replaced-requires-clause-changes : goal.replaced-requires-clause-changes
 replaced-requires-clause-changes c =

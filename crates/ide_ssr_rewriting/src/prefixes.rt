@@ -1,0 +1,58 @@
+//! What is written in front of what a placeholder holds.
+
+ghost use Rattle.std.specs.Prelude.{◌≡◌, ◌++◌, [], false, IfOk, OnOk, replicate, string_bytes};
+ghost use Rattle.std.specs.Cow.{cow_str_bytes};
+ghost use Rattle.ide_ssr_rewriting.specs.Replacements.{prefix, taken_as};
+
+use ide_ssr_bindings::Binding;
+use ssr_base_trees::SelfKind;
+use std::alloc::{AllocError, Global};
+use std::borrow::CowStr;
+
+/// How a method takes what it is called on.
+fn taken_as(self_kind: SelfKind) -> &'static str
+    ensures { result.now ≡ taken_as self_kind }
+{
+    match self_kind {
+        SelfKind::Owned => "",
+        SelfKind::Ref => "&",
+        SelfKind::Mut => "&mut ",
+    }
+}
+
+/// Whether anything is written in front of what a binding holds.
+pub(crate) fn has_prefix(binding: Binding) -> bool
+    ensures { result ≡ false → prefix binding ≡ [] }
+{
+    match binding.self_kind {
+        SelfKind::Owned => binding.deref_count > 0,
+        SelfKind::Ref | SelfKind::Mut => true,
+    }
+}
+
+/// Adds so many `*`.
+fn push_stars(text: &mut String, count: usize) -> Result<(), AllocError>
+    ensures { OnOk result (string_bytes text.new ≡ string_bytes text.old ++ replicate count 42) }
+{
+    for _ in 0..count {
+        text.push_str("*")?;
+    }
+    Ok(())
+}
+
+/// The text with what a binding has in front of it.
+pub(crate) fn with_prefix<'a>(
+    alloc: Global,
+    binding: Binding,
+    held: CowStr<'a>,
+) -> Result<CowStr<'a>, AllocError>
+    ensures { IfOk result (λ text. cow_str_bytes text ≡ prefix binding ++ cow_str_bytes held.entry) }
+{
+    if !has_prefix(binding) {
+        return Ok(held);
+    }
+    let mut text = String::from_str(alloc, taken_as(binding.self_kind))?;
+    push_stars(&mut text, binding.deref_count)?;
+    text.push_str(held.as_str())?;
+    Ok(CowStr::Owned(text))
+}
