@@ -12,3 +12,5 @@ mod Told
 mod Ordered
 mod Answered
 mod OneWorkspace
+mod OneAnswer
+pub mod Shared

@@ -31,10 +31,17 @@ module _ (words : Option (List (List ℕ))) (old new : Given) (form : Form) (rul
   answered_file syntax.Memory is = no_memory_in forms.File is
 
   pub answered_facts : (error : FactsError) → Rewrites {A = ℕ} form rules input (Err (errors.Facts error)) → Answers (input_refused forms.Facts (facts_words error))
-  answered_facts facts.NotJson is = told form rules input _ asked read is
-  answered_facts facts.Shape is = told form rules input _ asked read is
-  answered_facts (facts.Workspace refusal) is = told form rules input _ asked read is
-  answered_facts facts.Memory is = no_memory_in forms.Facts is
+  answered_facts facts.NotJson is = told form rules input _ asked read is.1
+  answered_facts facts.Shape is = told form rules input _ asked read is.1
+  answered_facts (facts.Workspace refusal) is = told form rules input _ asked read is.1
+  answered_facts facts.Memory is = no_memory_in forms.Facts is.0
+
+  -- there may be no memory to tell why there are no facts
+  pub answered_no_facts : (error : FactsError) → Rewrites {A = ℕ} form rules input (Err (errors.Facts error)) → Answers (input_refused forms.Facts (codes "out of memory"))
+  answered_no_facts facts.NotJson is = no_memory_in forms.Facts is.0
+  answered_no_facts facts.Shape is = no_memory_in forms.Facts is.0
+  answered_no_facts (facts.Workspace refusal) is = no_memory_in forms.Facts is.0
+  answered_no_facts facts.Memory is = no_memory_in forms.Facts is.0
 
 -- outputs that are equal go out in the same way
 pub goes_as : (old new : Taken) (output output' : Output) (status : ℕ) → output ≡ output' → Goes old new output status → Goes old new output' status

@@ -12,7 +12,7 @@ use Rattle.ssr_program.specs.Private.Rewriting.{Rewrites}
 
 pub facts_error : (A : Type 0) (rules : List (List ℕ)) (bytes : List ℕ) (error : FactsError) → Answers (facts_of bytes) (Err error)
     → Rewrites {A = A} forms.Facts rules bytes (Err (errors.Facts error))
-facts_error A rules bytes facts.NotJson is = no_facts facts.NotJson (λ same. cc) is
-facts_error A rules bytes facts.Shape is = no_facts facts.Shape (λ same. cc) is
-facts_error A rules bytes (facts.Workspace refusal) is = no_facts (facts.Workspace refusal) (λ same. cc) is
-facts_error A rules bytes facts.Memory is = refl
+facts_error A rules bytes facts.NotJson is = (refl, no_facts facts.NotJson (λ same. cc) is)
+facts_error A rules bytes facts.Shape is = (refl, no_facts facts.Shape (λ same. cc) is)
+facts_error A rules bytes (facts.Workspace refusal) is = (refl, no_facts (facts.Workspace refusal) (λ same. cc) is)
+facts_error A rules bytes facts.Memory is = (refl, tt)

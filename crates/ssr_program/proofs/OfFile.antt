@@ -5,9 +5,9 @@ use Rattle.ssr_syntax_tree.specs.Syntax.{Syntax}
 use Rattle.ssr_syntax.specs.Reading.{file_reading}
 use Rattle.ssr_syntax.specs.declared.syntax_error.SyntaxError.{SyntaxError}
 use Rattle.ssr_syntax.specs.declared.syntax_error.SyntaxError.TheVariants as syntax
-use Rattle.ssr_base_trees.specs.declared.ids.FileRange.{FileRange}
 use Rattle.ssr_base_trees.specs.Workspace.{Workspace}
 use Rattle.ide_ssr.proofs.Shared.{none_clash}
+use Rattle.ide_ssr_rewriting.specs.Clashes.{Clash}
 use Rattle.ssr_program.specs.declared.commands.Form.TheVariants as forms
 use Rattle.ssr_program.specs.declared.rewrite_error.RewriteError.TheVariants as errors
 use Rattle.ssr_program.specs.Output.{Output, written}
@@ -28,7 +28,7 @@ file_error A rules bytes utf8 syntax.Memory is = refl
 
 abbrev IsNoClash : Outcome → Type 0
 IsNoClash (refuses message) = Unit {0}
-IsNoClash (clashes earlier later) = ⊥
+IsNoClash (clashes two) = ⊥
 IsNoClash (changes new) = Unit {0}
 
 no_clash : (code : Syntax) (rules : List (List ℕ)) (outcome : Outcome) → ComesTo (file_search code) rules outcome → IsNoClash outcome
@@ -38,8 +38,8 @@ no_clash code rules _ (clash finder earlier later is told) = none_clash finder (
 no_clash code rules _ (edited finder found is told) = tt
 
 -- without expansions nothing clashes
-pub never_clashes : (code : Syntax) (rules : List (List ℕ)) (earlier later : FileRange) → ComesTo (file_search code) rules (clashes earlier later) → ⊥
-never_clashes code rules earlier later comes = no_clash code rules _ comes
+pub never_clashes : (code : Syntax) (rules : List (List ℕ)) (two : Clash) → ComesTo (file_search code) rules (clashes two) → ⊥
+never_clashes code rules two comes = no_clash code rules _ comes
 
 -- ** The new text.
 

@@ -3,9 +3,10 @@ use Rattle.std.specs.Prelude.{ℕ, ◌≡◌, ◌≢◌, List, [], ◌∷◌, �
 use Rattle.std.specs.List.{ends_with, enumerate_from}
 use Rattle.std.specs.Option.{option_map_or}
 use Rattle.ssr_syntax_tree.specs.Syntax.{Syntax}
-use Rattle.ssr_base_trees.specs.declared.ids.FileRange.{FileRange}
+use Rattle.ssr_base_trees.specs.Workspace.{FileSpan}
 use Rattle.ssr_base.specs.declared.workspace_error.WorkspaceError.{WorkspaceError}
 use Rattle.ssr_base.specs.declared.workspace_error.WorkspaceError.TheVariants as w
+use Rattle.ide_ssr_rewriting.specs.Clashes.{Clash}
 use Rattle.ssr_facts_rows.specs.Facts.{facts_of}
 use Rattle.ssr_facts.specs.declared.facts.Facts.{Facts}
 use Rattle.ssr_facts.specs.declared.facts_error.FactsError.{FactsError}
@@ -57,13 +58,13 @@ names_of facts = map string_bytes facts.names.items
 abbrev pub name_at : List (List ℕ) → ℕ → List ℕ
 name_at names file = slice_index_or names file []
 
-abbrev pub span_words : FileRange → List ℕ
-span_words range = decimal range.range.start ++ (codes ".." ++ decimal range.range.end)
+abbrev pub range_words : FileSpan → List ℕ
+range_words range = decimal range.span.start ++ (codes ".." ++ decimal range.span.end)
 
 -- that the replacements of two matches of a file clash
-abbrev pub clash_words : List (List ℕ) → FileRange → FileRange → List ℕ
-clash_words names earlier later =
-    codes "replacements clash in " ++ (name_at names earlier.file_id.0 ++ (codes " at " ++ (span_words earlier ++ (codes " and " ++ span_words later))))
+abbrev pub clash_words : List (List ℕ) → Clash → List ℕ
+clash_words names clash =
+    codes "replacements clash in " ++ (name_at names clash.earlier.file ++ (codes " at " ++ (range_words clash.earlier ++ (codes " and " ++ range_words clash.later))))
 
 -- a text with a line break behind it, unless it ends with one
 abbrev pub closed : List ℕ → List ℕ
@@ -91,7 +92,7 @@ pub data IsOutputOfFacts (rules : List (List ℕ)) (bytes : List ℕ) : Output �
       → IsOutputOfFacts rules bytes (input_refused forms.Facts (facts_words error))
   no_search : (facts : Facts) (message : List ℕ) → AreFacts bytes facts → ComesTo (facts_search facts) rules (refuses message)
       → IsOutputOfFacts rules bytes (search_refused message)
-  clash : (facts : Facts) (earlier later : FileRange) → AreFacts bytes facts → ComesTo (facts_search facts) rules (clashes earlier later)
-      → IsOutputOfFacts rules bytes (refused (clash_words (names_of facts) earlier later))
+  clash : (facts : Facts) (two : Clash) → AreFacts bytes facts → ComesTo (facts_search facts) rules (clashes two)
+      → IsOutputOfFacts rules bytes (refused (clash_words (names_of facts) two))
   rewritten : (facts : Facts) (new : Changes) → AreFacts bytes facts → ComesTo (facts_search facts) rules (changes new)
       → IsOutputOfFacts rules bytes (written (parts (names_of facts) facts.workspace.files new))

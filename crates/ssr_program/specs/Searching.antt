@@ -19,6 +19,7 @@ use Rattle.ide_ssr_search.specs.declared.context_error.ContextError.TheVariants 
 use Rattle.ide_ssr_search.specs.Context.{Context}
 use Rattle.ide_ssr_search.specs.Making.{Makes, error_words}
 use Rattle.ide_ssr_rewriting.specs.declared.editing.EditError.TheVariants as edits
+use Rattle.ide_ssr_rewriting.specs.Clashes.{Clash, clash_of}
 use Rattle.ide_ssr_rewriting.specs.Edits.{file_cmp}
 use Rattle.ide_ssr.specs.Edits.{Edits}
 use Rattle.ide_ssr.specs.Finder.{Finder}
@@ -81,7 +82,7 @@ new_text code changes = replaced (source_of code) 0 (length (source_of code)) ch
 -- a refusal with its message, two matches whose replacements clash, or changes of files
 pub data Outcome : Type 0 where
   refuses : List ℕ → Outcome
-  clashes : FileRange → FileRange → Outcome
+  clashes : Clash → Outcome
   changes : Changes → Outcome
 
 -- first the finder is made, then the rules are added in their order, and then there are edits or a clash
@@ -90,6 +91,6 @@ pub data ComesTo (s : Search) (rules : List (List ℕ)) : Outcome → Type 0 whe
   no_rules : (context : Context) (why : Refusal) → MakesFor s (Ok context)
       → rules_reading s.meanings context.scope rules ≡ Err why → ComesTo s rules (refuses (words why))
   clash : (finder : Finder) (earlier later : FileRange) → IsFinder s rules finder
-      → Edits finder (Err (edits.Clash earlier later)) → ComesTo s rules (clashes earlier later)
+      → Edits finder (Err (edits.Clash earlier later)) → ComesTo s rules (clashes (clash_of (earlier, later)))
   edited : (finder : Finder) (found : BTreeMap FileId (List Change)) → IsFinder s rules finder
       → Edits finder (Ok found) → ComesTo s rules (changes (changes_in found))

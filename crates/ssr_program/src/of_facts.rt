@@ -2,6 +2,7 @@
 ghost use Rattle.std.specs.Prelude.{◌≡◌, ◌++◌, All, IfOk, OnOk, map, string_bytes};
 ghost use Rattle.ssr_syntax_tree.specs.Syntax.{source_of};
 ghost use Rattle.ssr_base_trees.specs.Changes.{FitsText};
+ghost use Rattle.ide_ssr_rewriting.specs.Clashes.{clash_of};
 ghost use Rattle.ide_ssr_rewriting.specs.Edits.{EditsFit};
 ghost use Rattle.ssr_program.specs.OfFacts.{clash_words as words_of_clash, name_at, part, parts as parts_of};
 ghost use Rattle.ssr_program.specs.Searching.{changes_in, new_text};

@@ -28,7 +28,8 @@ told_of errors.Memory = refused (codes "out of memory")
 abbrev pub Rewrites : {A : Type 0} → Form → List (List ℕ) → List ℕ → Result (String A) RewriteError → Type 0
 Rewrites form rules bytes (Ok new) = IsOutput form rules bytes (written (string_bytes new))
 Rewrites form rules bytes (Err (errors.File syntax.Memory)) = form ≡ forms.File
-Rewrites form rules bytes (Err (errors.Facts facts.Memory)) = form ≡ forms.Facts
+Rewrites form rules bytes (Err (errors.Facts facts.Memory)) = (form ≡ forms.Facts) × Unit {0}
+Rewrites form rules bytes (Err (errors.Facts error)) = (form ≡ forms.Facts) × IsOutput form rules bytes (told_of (errors.Facts error))
 Rewrites form rules bytes (Err errors.Memory) = IsSearchable form bytes
 Rewrites form rules bytes (Err error) = IsOutput form rules bytes (told_of error)
 

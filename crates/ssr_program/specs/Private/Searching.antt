@@ -5,6 +5,7 @@ use Rattle.ssr_base_trees.specs.declared.ids.FileId.{FileId}
 use Rattle.ssr_base_trees.specs.Changes.{Change}
 use Rattle.ide_ssr_refusals.specs.declared.error.SsrError.{SsrError}
 use Rattle.ide_ssr_refusals.specs.declared.error.SsrError.TheVariants as ssr
+use Rattle.ide_ssr_rewriting.specs.Clashes.{clash_of}
 use Rattle.ssr_program.specs.declared.searching.SearchError.{SearchError}
 use Rattle.ssr_program.specs.declared.searching.SearchError.TheVariants as errors
 use Rattle.ssr_program.specs.Searching.{Search, ComesTo, refuses, clashes, changes, changes_in}
@@ -13,7 +14,7 @@ use Rattle.ssr_program.specs.Searching.{Search, ComesTo, refuses, clashes, chang
 abbrev pub Reaches : Search → List (List ℕ) → Result (BTreeMap FileId (List Change)) SearchError → Type 0
 Reaches s rules (Ok edits) = ComesTo s rules (changes (changes_in edits))
 Reaches s rules (Err (errors.Refused message)) = ComesTo s rules (refuses (string_bytes message))
-Reaches s rules (Err (errors.Clash earlier later)) = ComesTo s rules (clashes earlier later)
+Reaches s rules (Err (errors.Clash earlier later)) = ComesTo s rules (clashes (clash_of (earlier, later)))
 Reaches s rules (Err errors.Memory) = Unit {0}
 
 -- the error of a finder or of a rule, as the reason why a search comes to nothing
