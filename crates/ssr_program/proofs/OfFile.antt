@@ -5,7 +5,9 @@ use Rattle.ssr_syntax_tree.specs.Syntax.{Syntax}
 use Rattle.ssr_syntax.specs.Reading.{file_reading}
 use Rattle.ssr_syntax.specs.declared.syntax_error.SyntaxError.{SyntaxError}
 use Rattle.ssr_syntax.specs.declared.syntax_error.SyntaxError.TheVariants as syntax
+use Rattle.ssr_base_trees.specs.declared.ids.FileRange.{FileRange}
 use Rattle.ssr_base_trees.specs.Workspace.{Workspace}
+use Rattle.ide_ssr_search.specs.Making.{first_position}
 use Rattle.ide_ssr.proofs.Shared.{none_clash}
 use Rattle.ide_ssr_rewriting.specs.Clashes.{Clash}
 use Rattle.ssr_program.specs.declared.commands.Form.TheVariants as forms
@@ -14,6 +16,7 @@ use Rattle.ssr_program.specs.Output.{Output, written}
 use Rattle.ssr_program.specs.OfFile.{IsFile, IsOutputOfFile, file_search, no_file, rewritten, one_file, text_with}
 use Rattle.ssr_program.specs.Searching.{Search, Changes, ComesTo, Outcome, refuses, clashes, changes, no_finder, no_rules, clash, edited}
 use Rattle.ssr_program.specs.Private.Rewriting.{AnswersFile, IsNewText, Rewrites}
+use Rattle.ssr_program.specs.Unresolved.{nothing_resolves}
 use Rattle.ssr_program.proofs.OneText.{one_code}
 
 pub file_error : (A : Type 0) (rules : List (List ℕ)) (bytes : List ℕ) → IsUtf8 bytes → (error : SyntaxError) → AnswersFile (file_reading bytes) (Err error)
@@ -50,6 +53,9 @@ new_text_is rules bytes code w new text file is comes (other, same, made) =
     subst (λ (text : List ℕ). IsOutputOfFile rules bytes (written text)) text_is (rewritten code new file comes)
 
 -- the search of a workspace that is a file is the file's
-pub of_one : (code : Syntax) (w : Workspace) (P : Search → Type 0) → w ≡ one_file code
-    → P (record (file_search code) { workspace = w }) → P (file_search code)
-of_one code w P is = subst (λ (w : Workspace). P (record (file_search code) { workspace = w })) is
+pub of_one : (code : Syntax) (w : Workspace) (ranges : List FileRange) (P : Search → Type 0) → w ≡ one_file code → ranges ≡ []
+    → P (record { workspace = w; meanings = nothing_resolves; position = first_position; ranges = ranges }) → P (file_search code)
+of_one code w ranges P one none h =
+    let made : Workspace → List FileRange → Search =
+    λ w ranges. record { workspace = w; meanings = nothing_resolves; position = first_position; ranges = ranges } in
+    subst (λ ranges. P (made (one_file code) ranges)) none (subst (λ w. P (made w ranges)) one h)
