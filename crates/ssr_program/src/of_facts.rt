@@ -4,7 +4,7 @@ ghost use Rattle.ssr_syntax_tree.specs.Syntax.{source_of};
 ghost use Rattle.ssr_base_trees.specs.Changes.{FitsText};
 ghost use Rattle.ide_ssr_rewriting.specs.Clashes.{clash_of};
 ghost use Rattle.ide_ssr_rewriting.specs.Edits.{EditsFit};
-ghost use Rattle.ssr_program.specs.OfFacts.{clash_words as words_of_clash, name_at, part, parts as parts_of};
+ghost use Rattle.ssr_program.specs.OfFacts.{clash_words as words_of_clash, closed, name_at, part, parts as parts_of};
 ghost use Rattle.ssr_program.specs.Searching.{changes_in, new_text};
 ghost use Rattle.ssr_program.specs.Private.Rewriting.{Rewrites};
 ghost use Rattle.ssr_program.specs.declared.commands.Form.TheVariants as forms;
@@ -67,6 +67,17 @@ fn clash_words(
     format!(in alloc; "replacements clash in {name} at {}..{} and {}..{}", earlier.start, earlier.end, later.start, later.end)
 }
 
+/// Adds a text, and a line break unless it ends with one.
+fn push_closed(text: &mut String, new: &str) -> Result<(), AllocError>
+    ensures { OnOk result (string_bytes text.new ≡ string_bytes text.old ++ closed new.now) }
+{
+    text.push_str(new)?;
+    if new.ends_with("\n") {
+        return Ok(());
+    }
+    text.push_str("\n")
+}
+
 /// Adds a line with the name of a file, and its text with an edit made that fits it.
 fn push_part(
     alloc: Global,
@@ -82,11 +93,7 @@ fn push_part(
     text.push_str("== ")?;
     text.push_str(name)?;
     text.push_str("\n")?;
-    text.push_str(new.as_str())?;
-    if !new.ends_with("\n") {
-        text.push_str("\n")?;
-    }
-    Ok(())
+    push_closed(text, new.as_str())
 }
 
 /// The new texts of the files that have an edit, in their order, each behind a line with its name.
