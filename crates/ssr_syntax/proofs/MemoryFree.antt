@@ -10,7 +10,7 @@ use Rattle.ssr_syntax_forms.specs.declared.fault.Fault.{Fault}
 use Rattle.ssr_syntax_forms.specs.declared.fault.Fault.TheVariants as faults
 use Rattle.ssr_syntax_forms.specs.declared.tokens.Token.{Token}
 use Rattle.ssr_syntax_forms.specs.Trees.{Forest, done, leaf, tree}
-use Rattle.ssr_syntax_forms.specs.Forms.{so_far, ◌>>=◌}
+use Rattle.ssr_syntax_forms.specs.Forms.{so_far}
 use Rattle.ssr_syntax_forms.specs.Levels.{read_goal}
 use Rattle.ssr_syntax_types.specs.declared.goals.Goal.{Goal}
 use Rattle.ssr_syntax_types.specs.declared.goals.Goal.TheVariants as goals

@@ -32,7 +32,7 @@ use Rattle.ssr_syntax_rows.specs.TreeTokens.{joined_rows}
 use Rattle.ssr_syntax_rows.specs.MacroRules.{misnames_macros}
 use Rattle.ssr_syntax.proofs.Whole.{reading_fits, reading_spells}
 use Rattle.ssr_syntax_forms.proofs.Shared.{goals_lone}
-use Rattle.ssr_syntax_rows.proofs.Shared.{joined_of, writes_parts, AreSolid, total, total-leaves, AreTaken, goals_taken, AllSolid, leaves_solid, all_solid, taken_rows, behind_nothing, joined_taken}
+use Rattle.ssr_syntax_rows.proofs.Shared.{joined_of, writes_parts, AreSolid, total, total-leaves, AreTaken, goals_taken, AllSolid, leaves_solid, all_solid, taken_rows, behind_nothing, joined_taken, whole-depth, start_of}
 
 -- ** The reading of tokens: what the trees of a goal are.
 

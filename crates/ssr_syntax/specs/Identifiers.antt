@@ -1,6 +1,6 @@
 -- Identifiers: those of a list of tokens, and trees in which they stand alone, each as the only child of its node, but
 -- for the nodes that are made to mix them with other tokens.
-use Rattle.std.specs.Prelude.{◌≡◌, ⊤, Bool, true, not, ◌||◌, List, [], ◌∷◌, filter}
+use Rattle.std.specs.Prelude.{◌≡◌, ⊤, Bool, true, false, not, ◌||◌, List, [], ◌∷◌, filter}
 use Rattle.ssr_syntax_kinds.specs.Kinds.{is_ident}
 use Rattle.ssr_syntax_kinds.specs.declared.kinds.SyntaxKind.{SyntaxKind}
 use Rattle.ssr_syntax_kinds.specs.declared.kinds.SyntaxKind.TheVariants.{TOKEN_TREE, MACRO_RULES}
