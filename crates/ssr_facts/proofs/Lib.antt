@@ -9,7 +9,6 @@ mod Best
 mod Shortest
 mod Sweep
 mod Told
-mod Ordered
 mod Answered
 mod OneWorkspace
 mod OneAnswer
