@@ -8,9 +8,8 @@ use Rattle.ssr_base.specs.Building.{built}
 use Rattle.ssr_base.specs.declared.workspace_error.WorkspaceError.{WorkspaceError}
 use Rattle.ssr_base.proofs.Shared.{is_built}
 use Rattle.ssr_base_trees.specs.Built.{IsBuilt}
-use Rattle.ssr_base_trees.specs.Workspace.{Workspace}
+use Rattle.ssr_base_trees.specs.Workspace.{Workspace, FileSpan, file_span_of}
 use Rattle.ssr_base_trees.specs.declared.ids.FileRange.{FileRange}
-use Rattle.ssr_facts_rows.specs.declared.places.RangeRow.{RangeRow}
 use Rattle.ssr_facts_rows.specs.declared.rows_error.RowsError.{RowsError}
 use Rattle.ssr_facts_rows.specs.declared.rows_error.RowsError.TheVariants as refused
 use Rattle.ssr_facts_rows.specs.Facts.{PlainFacts}
@@ -20,7 +19,6 @@ use Rattle.ssr_facts.specs.declared.facts_error.FactsError.TheVariants as errors
 use Rattle.ssr_facts.specs.Naming.{all_named}
 use Rattle.ssr_facts.specs.Provider.{provided}
 use Rattle.ssr_facts.specs.Reading.{AreTold, AnswersOf, AnswersRows, IsDue, Answers}
-use Rattle.ssr_facts.specs.Sources.{row_of_range}
 use Rattle.ssr_facts.proofs.OneWorkspace.{one_workspace, range_same}
 
 -- two tell the same
@@ -33,18 +31,18 @@ pub record TellAlike (a b : Facts) : Type 0 where
 
 -- ** Ranges.
 
-range_alike : (a b : FileRange) → row_of_range a ≡ row_of_range b → a ≡ b
+range_alike : (a b : FileRange) → file_span_of a ≡ file_span_of b → a ≡ b
 range_alike a b same =
     let made : ℕ → TextRange → FileRange = λ file range. record { file_id = record { 0 = file }; range = range } in
-    ap (λ file. made file a.range) (ap (λ (r : RangeRow). r.file) same)
-    ∙ ap (made b.file_id.0) (range_same a.range b.range (ap (λ (r : RangeRow). r.start) same) (ap (λ (r : RangeRow). r.end) same))
+    ap (λ file. made file a.range) (ap (λ (r : FileSpan). r.file) same)
+    ∙ ap (made b.file_id.0) (range_same a.range b.range (ap (λ (r : FileSpan). r.span.start) same) (ap (λ (r : FileSpan). r.span.end) same))
 
-ranges_alike : (xs ys : List FileRange) → map row_of_range xs ≡ map row_of_range ys → xs ≡ ys
+ranges_alike : (xs ys : List FileRange) → map file_span_of xs ≡ map file_span_of ys → xs ≡ ys
 ranges_alike [] [] same = refl
 ranges_alike [] (y ∷ ys) same = absurd (omega (arith, ap length same))
 ranges_alike (x ∷ xs) [] same = absurd (omega (arith, ap length same))
 ranges_alike (x ∷ xs) (y ∷ ys) same =
-    ap (λ z. z ∷ xs) (range_alike x y (ap (λ rs. get_or rs 0 (row_of_range x)) same)) ∙ ap (λ zs. y ∷ zs) (ranges_alike xs ys (ap (λ rs. drop 1 rs) same))
+    ap (λ z. z ∷ xs) (range_alike x y (ap (λ rs. get_or rs 0 (file_span_of x)) same)) ∙ ap (λ zs. y ∷ zs) (ranges_alike xs ys (ap (λ rs. drop 1 rs) same))
 
 told_alike : (rows : PlainFacts) (w : Workspace) (a b : Facts) → AreTold rows w a → AreTold rows w b → TellAlike a b
 told_alike rows w a b one other = record {
