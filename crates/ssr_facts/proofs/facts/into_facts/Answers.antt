@@ -42,7 +42,7 @@ returns-in-Some c =
           names_are rows c.in_ok-names.names.items
           (c.in_ok-names.ensures.names ∙ ap (λ v. map (λ (file : FileRow). file.name) v.items) c.taken-2.ensures);
       position = c.unwrap_or-position.ensures;
-      ranges = ap (λ v. map file_span_of v.items) c.taken-3.ensures;
+      ranges = ap (λ v. map file_span_of v.items) c.taken-ranges.ensures;
     })
 
 pub returns-in-None : goal.returns-in-None
