@@ -1,5 +1,5 @@
 -- From what the middle of the program answers of a file to what a run answers.
-use Rattle.std.proofs.Common.{◌≡◌, ℕ, List, [], refl, Result, Ok, Err, String, Global, string_bytes, ap, subst, sym, ◌∙◌}
+use Rattle.std.proofs.Common.{◌≡◌, ◌≢◌, ℕ, List, [], refl, Result, Ok, Err, String, Global, string_bytes, ap, subst, sym, ◌∙◌}
 use Rattle.std.specs.Str.{IsUtf8}
 use Rattle.ssr_syntax_tree.specs.Syntax.{Syntax}
 use Rattle.ssr_syntax.specs.Reading.{file_reading}
@@ -12,20 +12,28 @@ use Rattle.ide_ssr.proofs.Shared.{none_clash}
 use Rattle.ide_ssr_rewriting.specs.Clashes.{Clash}
 use Rattle.ssr_program.specs.declared.commands.Form.TheVariants as forms
 use Rattle.ssr_program.specs.declared.rewrite_error.RewriteError.TheVariants as errors
-use Rattle.ssr_program.specs.Output.{Output, written}
-use Rattle.ssr_program.specs.OfFile.{IsFile, IsOutputOfFile, file_search, no_file, rewritten, one_file, text_with}
+use Rattle.ssr_program.specs.Output.{written, input_refused}
+use Rattle.ssr_program.specs.OfFile.{IsFile, IsOutputOfFile, file_search, no_file, rewritten, one_file, text_with, words_of}
 use Rattle.ssr_program.specs.Searching.{Search, Changes, ComesTo, Outcome, refuses, clashes, changes, no_finder, no_rules, clash, edited}
 use Rattle.ssr_program.specs.Private.Rewriting.{AnswersFile, IsNewText, Rewrites}
 use Rattle.ssr_program.specs.Unresolved.{nothing_resolves}
 use Rattle.ssr_program.proofs.OneText.{one_code}
 
-pub file_error : (A : Type 0) (rules : List (List ℕ)) (bytes : List ℕ) → IsUtf8 bytes → (error : SyntaxError) → AnswersFile (file_reading bytes) (Err error)
-    → Rewrites {A = A} forms.File rules bytes (Err (errors.File error))
-file_error A rules bytes utf8 syntax.Lex is = no_file _ (λ same. cc) utf8 is
-file_error A rules bytes utf8 syntax.NoTree is = no_file _ (λ same. cc) utf8 is
-file_error A rules bytes utf8 syntax.TooDeep is = no_file _ (λ same. cc) utf8 is
-file_error A rules bytes utf8 syntax.TooLong is = no_file _ (λ same. cc) utf8 is
-file_error A rules bytes utf8 syntax.Memory is = refl
+module _ (text bytes : List ℕ) (same : text ≡ bytes) (utf8 : IsUtf8 text) where
+  pub is_file : (code : Syntax) → file_reading text ≡ Ok code → IsFile bytes code
+  is_file code is = record { text = subst IsUtf8 same utf8; read = ap file_reading (sym same) ∙ is }
+
+  told_as : (rules : List (List ℕ)) (error : SyntaxError) → error ≢ syntax.Memory → file_reading text ≡ Err error
+      → IsOutputOfFile rules bytes (input_refused forms.File (words_of error))
+  told_as rules error some is = no_file error some (subst IsUtf8 same utf8) (ap file_reading (sym same) ∙ is)
+
+  pub file_error : (A : Type 0) (rules : List (List ℕ)) (error : SyntaxError) → AnswersFile (file_reading text) (Err error)
+      → Rewrites {A = A} forms.File rules bytes (Err (errors.File error))
+  file_error A rules syntax.Lex is = told_as rules syntax.Lex (λ same. cc) is
+  file_error A rules syntax.NoTree is = told_as rules syntax.NoTree (λ same. cc) is
+  file_error A rules syntax.TooDeep is = told_as rules syntax.TooDeep (λ same. cc) is
+  file_error A rules syntax.TooLong is = told_as rules syntax.TooLong (λ same. cc) is
+  file_error A rules syntax.Memory is = refl
 
 -- ** No clash.
 
