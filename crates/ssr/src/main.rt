@@ -21,7 +21,12 @@ fn main(rt: HostRuntime) -> ExitCode {
 
 /// The status of a run over a source and standard output.
 fn status<R: Source + Drop>(rt: &HostRuntime, words: Option<&[String]>, mut source: R) -> u8 {
-    run(rt.alloc(), words, &mut source, &mut CountedSink::new(io::writer(rt)))
+    run(
+        rt.alloc(),
+        words,
+        &mut source,
+        &mut CountedSink::new(io::writer(rt)),
+    )
 }
 
 /// The words behind the program's name, if they can be read.

@@ -11,7 +11,6 @@ pub(crate) enum Form {
     Facts,
 }
 
-
 /// The path of the facts file that these words name: the second word, if the first one is `--facts` and a rule stands behind
 /// it.
 pub fn facts_path(words: &[String]) -> Option<&str>

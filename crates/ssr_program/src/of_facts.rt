@@ -19,11 +19,7 @@ use std::collections::BTreeMap;
 
 /// The new texts of the files that facts tell, with the rules applied: of those with an edit, in their order, each behind a
 /// line with its name.
-pub(crate) fn rewrite(
-    alloc: Global,
-    rules: &[String],
-    bytes: &[u8],
-) -> Result<String, RewriteError>
+pub(crate) fn rewrite(alloc: Global, rules: &[String], bytes: &[u8]) -> Result<String, RewriteError>
     ensures { Rewrites forms.Facts (map string_bytes rules.now) bytes.now result }
 {
     let Facts {
@@ -64,7 +60,10 @@ fn clash_words(
 {
     let name = name_of(names, earlier.file_id.0);
     let (earlier, later) = (earlier.range, later.range);
-    format!(in alloc; "replacements clash in {name} at {}..{} and {}..{}", earlier.start, earlier.end, later.start, later.end)
+    format!(in alloc;
+        "replacements clash in {name} at {}..{} and {}..{}",
+        earlier.start, earlier.end, later.start, later.end
+    )
 }
 
 /// Adds a text, and a line break unless it ends with one.

@@ -31,7 +31,14 @@ pub(crate) fn rewrite(
         file_id: FileId(0),
         offset: 0,
     };
-    match edits(alloc, &workspace, &Unresolved, start, Vec::new(alloc), rules) {
+    match edits(
+        alloc,
+        &workspace,
+        &Unresolved,
+        start,
+        Vec::new(alloc),
+        rules,
+    ) {
         Ok(edits) => Ok(new_text(alloc, &workspace, &edits)?),
         Err(SearchError::Refused(message)) => Err(RewriteError::Search(message)),
         Err(SearchError::Memory) => Err(RewriteError::Memory),

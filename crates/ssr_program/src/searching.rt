@@ -8,9 +8,7 @@ ghost use Rattle.ssr_program.specs.Searching.{new_text, rule_kinds, rules_readin
 ghost use Rattle.ssr_program.specs.Private.Searching.{Reaches};
 
 use ide_ssr::{EditError, MatchFinder, SsrError, SsrRule};
-use ssr_base::{
-    ApplyError, FileId, FilePosition, FileRange, Semantics, TextEdit, Workspace,
-};
+use ssr_base::{ApplyError, FileId, FilePosition, FileRange, Semantics, TextEdit, Workspace};
 use ssr_syntax::Tree;
 use std::alloc::{AllocError, Global};
 use std::collections::BTreeMap;

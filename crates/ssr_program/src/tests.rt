@@ -12,7 +12,8 @@ const SWAP: &str = "$a + $b ==>> $b + $a";
 const SUM: &str = "fn f() {1 + 2}";
 
 /// The facts of two files, whose nodes stand in one scope each.
-const FACTS: &str = "{\"files\":[{\"name\":\"a.rs\",\"text\":\"fn g() {3}\\n\"},{\"name\":\"b.rs\",\"text\":\"fn f() {1 + 2}\"}],\"scopes\":[[0,0,11],[1,0,14]]}";
+const FACTS: &str =
+    "{\"files\":[{\"name\":\"a.rs\",\"text\":\"fn g() {3}\\n\"},{\"name\":\"b.rs\",\"text\":\"fn f() {1 + 2}\"}],\"scopes\":[[0,0,11],[1,0,14]]}";
 
 /// More reads or writes than a run here makes, and more bytes than one of them takes.
 const MANY: usize = 1_000_000;
@@ -59,6 +60,11 @@ impl Write for TextOut {
     fn flush(&mut self) -> io::Result<()> {
         Ok(())
     }
+}
+
+/// The words of a command that names facts and a rule.
+fn with_facts(rule: &str) -> [&str; 3] {
+    ["--facts", "f.json", rule]
 }
 
 /// The status of a run with these words, of which `None` are words that cannot be read.
@@ -149,13 +155,14 @@ fn what_cannot_be_done_is_told(rt: HostRuntime) -> Result<(), Fail> {
     Ok(())
 }
 
-/// What is written where a source fails after so many reads.
-fn told_after(
+/// Whether this is written, with status 1, where a source fails after so many reads.
+fn tells(
     rt: &HostRuntime,
     words: &[&str],
     input: &str,
     good_reads: usize,
-) -> Result<Vec<u8>, Fail> {
+    line: &str,
+) -> Result<bool, Fail> {
     let given = TextIn {
         rest: input.as_bytes(),
         good_reads,
@@ -166,18 +173,20 @@ fn told_after(
         good_writes: MANY,
     };
     let status = status_of(rt, Some(words), given, &mut taken)?;
-    assert_eq!(rt; status, 1, "{good_reads}");
-    Ok(taken.bytes)
+    Ok(status == 1 && taken.bytes.as_slice() == line.as_bytes())
 }
 
 #[test]
 fn failed_reads_are_told(rt: HostRuntime) -> Result<(), Fail> {
-    // the third read is the first that finds the end
+    // the third read is the first that finds the end of the file
     for good_reads in 0..3 {
-        let told = told_after(&rt, &[SWAP], SUM, good_reads)?;
-        assert_eq!(rt; told.as_slice(), b"error: standard input: cannot be read\n".as_slice(), "{good_reads}");
-        let told = told_after(&rt, &["--facts", "f.json", SWAP], FACTS, good_reads)?;
-        assert_eq!(rt; told.as_slice(), b"error: facts: cannot be read\n".as_slice(), "{good_reads}");
+        let line = "error: standard input: cannot be read\n";
+        assert!(rt; tells(&rt, &[SWAP], SUM, good_reads, line)?, "{good_reads}");
+        let line = "error: facts: cannot be read\n";
+        assert!(rt;
+            tells(&rt, &with_facts(SWAP), FACTS, good_reads, line)?,
+            "{good_reads}"
+        );
     }
     Ok(())
 }
@@ -195,15 +204,18 @@ fn what_cannot_be_opened_fails_at_its_first_read(rt: HostRuntime) -> Result<(), 
         good_writes: MANY,
     };
     let mut source = CountedSource::new(Unopened);
-    let status = run(rt.alloc(), Some(words.as_slice()), &mut source, &mut CountedSink::new(&mut taken));
+    let status = run(
+        rt.alloc(),
+        Some(words.as_slice()),
+        &mut source,
+        &mut CountedSink::new(&mut taken),
+    );
     assert_eq!(rt; status, 1);
-    assert_eq!(rt; taken.bytes.as_slice(), b"error: facts: cannot be read\n".as_slice());
+    assert_eq!(rt;
+        taken.bytes.as_slice(),
+        b"error: facts: cannot be read\n".as_slice()
+    );
     Ok(())
-}
-
-/// The words of a command that names facts and a rule.
-fn with_facts(rule: &str) -> [&str; 3] {
-    ["--facts", "f.json", rule]
 }
 
 #[test]
@@ -212,10 +224,16 @@ fn files_of_facts_are_rewritten(rt: HostRuntime) -> Result<(), Fail> {
         // the file that changes alone, and a line break behind its text
         ("$a + $b ==>> $b + $a", "== b.rs\nfn f() {2 + 1}\n"),
         // both, in their order, and no further line break behind one
-        ("fn $n() {$e} ==>> fn $n() {[$e]}", "== a.rs\nfn g() {[3]}\n== b.rs\nfn f() {[1 + 2]}\n"),
+        (
+            "fn $n() {$e} ==>> fn $n() {[$e]}",
+            "== a.rs\nfn g() {[3]}\n== b.rs\nfn f() {[1 + 2]}\n",
+        ),
         ("$a * $b ==>> $b * $a", ""),
     ] {
-        assert!(rt; gives(&rt, Some(&with_facts(rule)), FACTS, new, 0)?, "{rule}");
+        assert!(rt;
+            gives(&rt, Some(&with_facts(rule)), FACTS, new, 0)?,
+            "{rule}"
+        );
     }
     Ok(())
 }
@@ -225,15 +243,32 @@ fn what_is_wrong_with_facts_is_told(rt: HostRuntime) -> Result<(), Fail> {
     for (facts, told) in [
         ("{", "not JSON"),
         ("{\"file\":[]}", "wrong shape"),
-        ("{\"files\":[{\"name\":\"a.rs\",\"text\":\"\"},{\"name\":\"b.rs\",\"text\":\"fn\"}]}", "file 1 refused"),
-        ("{\"expansions\":[{\"call\":[0,0,1],\"kind\":\"expr\",\"tokens\":[]}]}", "expansion 0 refused"),
+        (
+            "{\"files\":[{\"name\":\"a.rs\",\"text\":\"\"},{\"name\":\"b.rs\",\"text\":\"fn\"}]}",
+            "file 1 refused",
+        ),
+        (
+            "{\"expansions\":[{\"call\":[0,0,1],\"kind\":\"expr\",\"tokens\":[]}]}",
+            "expansion 0 refused",
+        ),
     ] {
         let line = format!(in rt.alloc(); "error: facts: {told}\n")?;
         // it is told before what is wrong with the rule
-        assert!(rt; gives(&rt, Some(&with_facts("no rule")), facts, line.as_str(), 1)?, "{told}");
+        assert!(rt;
+            gives(&rt, Some(&with_facts("no rule")), facts, line.as_str(), 1)?,
+            "{told}"
+        );
     }
     // there is no file to search, which is told before what is wrong with the rule
-    assert!(rt; gives(&rt, Some(&with_facts("no rule")), "{}", "error: Parse error: No such file\n", 1)?);
+    assert!(rt;
+        gives(
+            &rt,
+            Some(&with_facts("no rule")),
+            "{}",
+            "error: Parse error: No such file\n",
+            1
+        )?
+    );
     let no_path = "error: Parse error: Failed to resolve path `bar`\n";
     assert!(rt; gives(&rt, Some(&with_facts("foo ==>> bar")), FACTS, no_path, 1)?);
     let usage = "usage: ssr [--facts FILE] RULE..\n";

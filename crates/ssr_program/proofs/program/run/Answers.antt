@@ -50,15 +50,15 @@ returns-in-Err-Facts g c =
     let is = rw c.in-Err-Facts.field-0-is at c.in-Err-Facts.ensures in
     elim c.refuse_facts.ensures [
       | inl goes ↦ record {
-          output = input_refused forms.Facts _;
-          answered = answered_facts _ _ _ _ _ _ (sym c.in-Some.ensures) c.in-Ok.ensures c.in-Err-Facts.error is;
-          goes = goes;
-        }
+        output = input_refused forms.Facts _;
+        answered = answered_facts _ _ _ _ _ _ (sym c.in-Some.ensures) c.in-Ok.ensures c.in-Err-Facts.error is;
+        goes = goes;
+      }
       | inr goes ↦ record {
-          output = input_refused forms.Facts _;
-          answered = answered_no_facts _ _ _ _ _ _ (sym c.in-Some.ensures) c.in-Ok.ensures c.in-Err-Facts.error is;
-          goes = goes;
-        }
+        output = input_refused forms.Facts _;
+        answered = answered_no_facts _ _ _ _ _ _ (sym c.in-Some.ensures) c.in-Ok.ensures c.in-Err-Facts.error is;
+        goes = goes;
+      }
     ]
 
 pub returns-in-Err-Search : goal.returns-in-Err-Search
