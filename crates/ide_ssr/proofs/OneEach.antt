@@ -1,7 +1,10 @@
 -- A finder's search comes to one outcome, so it has one edit for each file.
 use Rattle.std.proofs.Common.{◌≡◌, List, [], Contains, Ok, sym, ap, ◌∙◌, subst, arith}
 use Rattle.std.specs.Prelude.{Err}
+use Rattle.std.specs.BTreeMap.{BTreeMap}
+use Rattle.ssr_base_trees.specs.declared.ids.FileId.{FileId}
 use Rattle.ssr_base_trees.specs.declared.ids.FileRange.{FileRange}
+use Rattle.ssr_base_trees.specs.Changes.{Change}
 use Rattle.ssr_base_trees.specs.Built.{IsBuilt}
 use Rattle.ssr_base_trees.specs.Workspace.{Workspace, trees}
 use Rattle.ide_ssr_bindings.specs.Found.{FoundMatch}
@@ -11,7 +14,7 @@ use Rattle.ide_ssr_rewriting.specs.declared.editing.EditError.TheVariants as err
 use Rattle.ide_ssr_rewriting.specs.Clashes.{clash_of}
 use Rattle.ide_ssr_rewriting.specs.Edits.{Answers}
 use Rattle.ide_ssr_rewriting.specs.Replacements.{writing}
-use Rattle.ide_ssr_rewriting.proofs.Shared.{one_edit, no_clash}
+use Rattle.ide_ssr_rewriting.proofs.Shared.{edits_or_clash, one_clash, one_edit, no_clash}
 use Rattle.ide_ssr_search.proofs.Shared.{are_matches, one_list}
 use Rattle.ide_ssr.specs.Finder.{Finder}
 use Rattle.ide_ssr.specs.Edits.{Edits}
@@ -43,6 +46,30 @@ one_edit_each finder a b first again =
     let other = again.1 in
     one_edit one.0 one.1 (writing finder.meanings finder.rules) one.2.is_kept one.2.are_lists a b one.3
     (answers_again finder one.0 other.0 one.1 other.1 one.2 other.2 (λ kept lists. Answers kept lists (writing finder.meanings finder.rules) (Ok b)) other.3)
+
+-- two answers with a clash have the same one
+abbrev pub OneClash : Finder → Type 0
+OneClash finder =
+    (a b c d : FileRange) → Edits finder (Err (errors.Clash a b)) → Edits finder (Err (errors.Clash c d)) → clash_of (a, b) ≡ clash_of (c, d)
+
+pub one_clash_each : (finder : Finder) → OneClash finder
+one_clash_each finder a b c d first again =
+    let one = first.1 in
+    let other = again.1 in
+    one_clash one.0 one.1 (writing finder.meanings finder.rules) one.2.is_kept one.2.are_lists a b c d one.3
+    (answers_again finder one.0 other.0 one.1 other.1 one.2 other.2 (λ kept lists. Answers kept lists (writing finder.meanings finder.rules) (Err (errors.Clash c d))) other.3)
+
+-- where there are edits, no clash is told
+abbrev pub EditsOrClash : Finder → Type 0
+EditsOrClash finder =
+    (edits : BTreeMap FileId (List Change)) (earlier later : FileRange) → Edits finder (Ok edits) → Edits finder (Err (errors.Clash earlier later)) → ⊥
+
+pub edits_or_clash_each : (finder : Finder) → EditsOrClash finder
+edits_or_clash_each finder edits earlier later first again =
+    let one = first.1 in
+    let other = again.1 in
+    edits_or_clash one.0 one.1 (writing finder.meanings finder.rules) one.2.is_kept one.2.are_lists edits earlier later one.3
+    (answers_again finder one.0 other.0 one.1 other.1 one.2 other.2 (λ kept lists. Answers kept lists (writing finder.meanings finder.rules) (Err (errors.Clash earlier later))) other.3)
 
 -- where no macro call stands for anything, no clash is told
 abbrev pub NoClashWithoutExpansions : Finder → Type 0

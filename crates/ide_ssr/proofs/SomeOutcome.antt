@@ -1,17 +1,12 @@
 -- A finder's search comes to an outcome, and so to edits or a clash.
-use Rattle.std.proofs.Common.{◌≡◌, List, [], Ok, inl, inr}
-use Rattle.std.specs.BTreeMap.{BTreeMap}
-use Rattle.ssr_base_trees.specs.declared.ids.FileId.{FileId}
-use Rattle.ssr_base_trees.specs.Changes.{Change}
+use Rattle.std.proofs.Common.{inl, inr}
 use Rattle.ssr_base_trees.specs.Built.{IsBuilt}
 use Rattle.ide_ssr_nesting.proofs.Shared.{kept_exist, lists_exist}
 use Rattle.ide_ssr_rewriting.specs.Replacements.{writing}
 use Rattle.ide_ssr_rewriting.proofs.Shared.{answer_exists}
 use Rattle.ide_ssr_search.proofs.Shared.{are_matches, some_found}
 use Rattle.ide_ssr.specs.Finder.{Finder}
-use Rattle.ide_ssr.specs.Edits.{HaveTemplates, Edits}
 use Rattle.ide_ssr.specs.Laws.{AnswerExists, OutcomeExists}
-use Rattle.ide_ssr.proofs.OneEach.{none_clash}
 
 pub outcome_exists : (finder : Finder) → IsBuilt finder.workspace → OutcomeExists finder
 outcome_exists finder built =
@@ -33,12 +28,3 @@ answer_exists_each finder built templates =
       | inl edits ↦ inl (edits.0, (templates, (kept, lists, outcome.2, edits.1)))
       | inr clash ↦ inr (clash.0, clash.1, (templates, (kept, lists, outcome.2, clash.2)))
     ]
-
--- there are edits where besides no macro call stands for anything
-abbrev pub EditsExist : Finder → Type 0
-EditsExist finder =
-    HaveTemplates finder.rules → finder.workspace.expansions ≡ [] → (edits : BTreeMap FileId (List Change)) × Edits finder (Ok edits)
-
-pub edits_exist : (finder : Finder) → IsBuilt finder.workspace → EditsExist finder
-edits_exist finder built templates alone =
-    elim (answer_exists_each finder built templates) [ inl edits ↦ edits | inr clash ↦ absurd (none_clash finder alone clash.0 clash.1 clash.2) ]

@@ -43,7 +43,7 @@ outermost_same : (kept : Kept) (lists : Listing) (by : Writing) → IsNest kept 
     → outermost_list kept lists f ≡ outermost_list kept lists g
 outermost_same kept lists by is f g fs gs = list_same kept f g (listed lists None) (known_same kept lists by is f g fs gs None)
 
-all_same : (kept : Kept) (lists : Listing) (by : Writing) → IsNest kept lists → (f g : Texts) → AreTexts kept lists by f → AreTexts kept lists by g
+pub all_same : (kept : Kept) (lists : Listing) (by : Writing) → IsNest kept lists → (f g : Texts) → AreTexts kept lists by f → AreTexts kept lists by g
     → all_clashes kept lists f ≡ all_clashes kept lists g
 all_same kept lists by is f g fs gs =
     let each : ◌≡◌ {A = ℕ → ℕ → List Rewrite} (list_under kept lists f) (list_under kept lists g) =

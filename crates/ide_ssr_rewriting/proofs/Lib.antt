@@ -14,6 +14,7 @@ mod Runs
 mod Groups
 mod Nests
 mod Answering
+mod OneClash
 mod SomeAnswer
 mod Clashless
 pub mod Shared

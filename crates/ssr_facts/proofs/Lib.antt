@@ -11,3 +11,5 @@ mod Sweep
 mod Told
 mod Answered
 mod OneWorkspace
+mod OneAnswer
+pub mod Shared

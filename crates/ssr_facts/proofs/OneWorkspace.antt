@@ -151,7 +151,7 @@ unfolding bytes_from
 same_ends s t e f o starts ends = subst (λ (x : ℕ). (p : x ≤ f) → bytes_from s e o ≡ bytes_from x f p) starts (same_end s e f o ends)
 
 -- a range is known by its ends
-range_same : (a b : TextRange) → a.start ≡ b.start → a.end ≡ b.end → a ≡ b
+pub range_same : (a b : TextRange) → a.start ≡ b.start → a.end ≡ b.end → a ≡ b
 unfolding bytes_from
 range_same a b starts ends = same_ends a.start b.start a.end b.end a.ordered starts ends b.ordered
 
