@@ -1,7 +1,7 @@
--- At one position a search is made for one thing.
-use Rattle.std.proofs.Common.{◌≡◌, ℕ, ◌-◌, List, Option, Some, None, ◌⊎◌, inl, inr, refl, sym, ap, ◌∙◌, subst, arith}
+-- At one position a search is made for one thing, or refused in one way.
+use Rattle.std.proofs.Common.{◌≡◌, ◌≢◌, ℕ, ◌-◌, List, Result, Ok, Err, Option, Some, None, ◌⊎◌, inl, inr, refl, sym, ap, ◌∙◌, subst, arith}
 use Rattle.std.specs.Option.{option_map}
-use Rattle.std.proofs.lemmas.Option.{same_Some}
+use Rattle.std.proofs.lemmas.Option.{none-some, same_Some}
 use Rattle.ssr_syntax_kinds.specs.declared.kinds.SyntaxKind.{SyntaxKind}
 use Rattle.ssr_syntax_kinds.specs.declared.kinds.SyntaxKind.TheVariants as k
 use Rattle.ssr_syntax_tree.specs.Syntax.{Syntax}
@@ -13,7 +13,9 @@ use Rattle.ssr_base_trees.specs.declared.ids.ScopeId.{ScopeId}
 use Rattle.ssr_base_trees.specs.Meanings.{Meanings}
 use Rattle.ssr_base_trees.specs.Workspace.{Workspace, FileSpan, node_id}
 use Rattle.ide_ssr_search.specs.Context.{Context}
-use Rattle.ide_ssr_search.specs.Making.{IsContext}
+use Rattle.ide_ssr_search.specs.declared.context_error.ContextError.{ContextError}
+use Rattle.ide_ssr_search.specs.declared.context_error.ContextError.TheVariants as errors
+use Rattle.ide_ssr_search.specs.Making.{AreOfFiles, HasFile, IsContext, IsPlace, LiesInText, Makes}
 use Rattle.ide_ssr_search.specs.Positions.{IsNear, IsFirst, IsLeftFor, Leads, stays, goes_on, Settles, IsNodeAt, IsInnermost}
 use Rattle.ide_ssr_search.proofs.PositionNodes.{one_token}
 use Rattle.ide_ssr_search.proofs.TokenParents.{one_parent}
@@ -94,3 +96,62 @@ one_context w m position restrictions c d is other =
     ap (λ scope. made scope c.restrictions c.function) (same_Some c.scope d.scope (sym is.scope ∙ ap (λ n. m.scope (node_id file n)) node ∙ other.scope))
     ∙ ap (λ ranges. made d.scope ranges c.function) (is.restricted ∙ sym other.restricted)
     ∙ ap (made d.scope d.restrictions) (is.function ∙ ap (option_map (node_id file)) around ∙ sym other.function)
+
+-- ** What is answered.
+
+module _ (w : Workspace) (m : Meanings) (position : FilePosition) (restrictions : List FileRange) where
+  abbrev Answer : Type 0
+  Answer = Result Context ContextError
+
+  abbrev Made : Answer → Type 0
+  Made = Makes w m position restrictions
+
+  -- a position has one node
+  one_place : (s t : Syntax) (n l : ℕ) → IsPlace w position restrictions s n → IsPlace w position restrictions t l → n ≡ l
+  one_place s t n l is other =
+      let tree : s ≡ t = same_Some s t (sym is.is ∙ other.is) in
+      one_node t position.offset n l (subst (λ (s : Syntax). IsNodeAt s position.offset n) tree is.node) other.node
+
+  -- a context has a scope
+  no_scope : (c : Context) → Made (Ok c) → Made (Err errors.NoScope) → ⊥
+  no_scope c is (tree, n, place, none) =
+      let file = position.file_id.0 in
+      let same = one_place tree is.tree n is.node place is.place in
+      none-some c.scope (sym none ∙ ap (λ n. m.scope (node_id file n)) same ∙ is.scope)
+
+  -- where the files and the position are there, no file is missing
+  no_file : LiesInText w position → AreOfFiles w restrictions → Made (Err errors.NoSuchFile) → ⊥
+  no_file text files (inl none) = none text.0
+  no_file text files (inr other) = other.1 files
+
+  no_file_of : Made (Err errors.NoSuchPosition) → Made (Err errors.NoSuchFile) → ⊥
+  no_file_of past (inl none) = none past.0
+  no_file_of past (inr other) = past.1 other.0
+
+  pub one_making : (a b : Answer) → a ≢ Err errors.Memory → b ≢ Err errors.Memory → Made a → Made b → a ≡ b
+  one_making (Err errors.Memory) b some other is again = absurd (some refl)
+  one_making (Err errors.NoFiles) b some other is again = absurd is
+  one_making (Ok c) (Ok d) some other is again = ap Ok (one_context w m position restrictions c d is again)
+  one_making (Ok c) (Err errors.NoSuchFile) some other is again = absurd (no_file is.place.in_text is.place.of_files again)
+  one_making (Ok c) (Err errors.NoSuchPosition) some other is again = absurd (again.1 is.place.in_text)
+  one_making (Ok c) (Err errors.NoScope) some other is again = absurd (no_scope c is again)
+  one_making (Ok c) (Err errors.NoFiles) some other is again = absurd again
+  one_making (Ok c) (Err errors.Memory) some other is again = absurd (other refl)
+  one_making (Err errors.NoSuchFile) (Ok d) some other is again = absurd (no_file again.place.in_text again.place.of_files is)
+  one_making (Err errors.NoSuchFile) (Err errors.NoSuchFile) some other is again = refl
+  one_making (Err errors.NoSuchFile) (Err errors.NoSuchPosition) some other is again = absurd (no_file_of again is)
+  one_making (Err errors.NoSuchFile) (Err errors.NoScope) some other is again = absurd (no_file again.2.in_text again.2.of_files is)
+  one_making (Err errors.NoSuchFile) (Err errors.NoFiles) some other is again = absurd again
+  one_making (Err errors.NoSuchFile) (Err errors.Memory) some other is again = absurd (other refl)
+  one_making (Err errors.NoSuchPosition) (Ok d) some other is again = absurd (is.1 again.place.in_text)
+  one_making (Err errors.NoSuchPosition) (Err errors.NoSuchFile) some other is again = absurd (no_file_of is again)
+  one_making (Err errors.NoSuchPosition) (Err errors.NoSuchPosition) some other is again = refl
+  one_making (Err errors.NoSuchPosition) (Err errors.NoScope) some other is again = absurd (is.1 again.2.in_text)
+  one_making (Err errors.NoSuchPosition) (Err errors.NoFiles) some other is again = absurd again
+  one_making (Err errors.NoSuchPosition) (Err errors.Memory) some other is again = absurd (other refl)
+  one_making (Err errors.NoScope) (Ok d) some other is again = absurd (no_scope d again is)
+  one_making (Err errors.NoScope) (Err errors.NoSuchFile) some other is again = absurd (no_file is.2.in_text is.2.of_files again)
+  one_making (Err errors.NoScope) (Err errors.NoSuchPosition) some other is again = absurd (again.1 is.2.in_text)
+  one_making (Err errors.NoScope) (Err errors.NoScope) some other is again = refl
+  one_making (Err errors.NoScope) (Err errors.NoFiles) some other is again = absurd again
+  one_making (Err errors.NoScope) (Err errors.Memory) some other is again = absurd (other refl)

@@ -1,5 +1,5 @@
--- A search can be made at each position of a file's text, where its nodes stand in scopes.
-use Rattle.std.proofs.Common.{◌≡◌, ℕ, zero, suc, ◌+◌, ◌-◌, ◌<◌, ◌≤◌, ◌⊎◌, inl, inr, List, map, length, Option, Some, None, IfSome, refl, subst, arith}
+-- A search can be made at each position of a file's text, where its nodes stand in scopes; elsewhere it is refused.
+use Rattle.std.proofs.Common.{◌≡◌, ◌≢◌, ℕ, Result, Ok, Err, zero, suc, ◌+◌, ◌-◌, ◌<◌, ◌≤◌, ◌⊎◌, inl, inr, List, map, length, Option, Some, None, IfSome, refl, subst, arith}
 use Rattle.std.specs.Prelude.{IsSome}
 use Rattle.std.specs.Option.{option_map}
 use Rattle.std.proofs.lemmas.Bool.{cases_eq, cases_lt, false≢true}
@@ -9,13 +9,17 @@ use Rattle.ssr_syntax_tree.specs.Places.{HasNode, HasToken, HoldsByte, node_of, 
 use Rattle.ssr_syntax_tree.proofs.Shared.{inside, below_root}
 use Rattle.ssr_base_trees.specs.declared.ids.FilePosition.{FilePosition}
 use Rattle.ssr_base_trees.specs.declared.ids.FileRange.{FileRange}
+use Rattle.ssr_base_trees.specs.declared.ids.ScopeId.{ScopeId}
 use Rattle.ssr_base_trees.specs.Meanings.{Meanings}
 use Rattle.ssr_base_trees.specs.Workspace.{Workspace, tree_of, node_id, file_span_of}
 use Rattle.ssr_base_trees.proofs.Shared.{some_and}
 use Rattle.ide_ssr_search.specs.Laws.{ContextExists}
-use Rattle.ide_ssr_search.specs.Making.{restricting}
+use Rattle.ide_ssr_search.specs.declared.context_error.ContextError.{ContextError}
+use Rattle.ide_ssr_search.specs.declared.context_error.ContextError.TheVariants as errors
+use Rattle.ide_ssr_search.specs.Context.{Context}
+use Rattle.ide_ssr_search.specs.Making.{AreOfFiles, HasFile, IsPlace, LiesInText, Makes, restricting}
 use Rattle.ide_ssr_search.specs.Positions.{EndsAt, HoldsAt, IsNear, IsFirst, IsNextSibling, IsLeftFor, Leads, stays, goes_on, Settles, IsNodeAt, IsFunctionAround, IsInnermost}
-use Rattle.ide_ssr_bindings.proofs.Deciding.{Decided, both, either, likewise, last_of, less, at_most, of_kind}
+use Rattle.ide_ssr_bindings.proofs.Deciding.{Decided, both, each, either, likewise, last_of, less, at_most, of_kind, of_some}
 use Rattle.ide_ssr_search.proofs.PositionNodes.{Spans, root_spans, is_parent, way, way_shorter}
 
 module _ (s : Syntax) where
@@ -137,3 +141,40 @@ context_exists w m position restrictions in_text of_files scoped =
         function = refl;
       },
     )
+
+module _ (w : Workspace) (m : Meanings) (position : FilePosition) (restrictions : List FileRange) where
+  -- there is something that a search is made for, or a refusal
+  abbrev pub MakingExists : Type 0
+  MakingExists = (made : Result Context ContextError) × (made ≢ Err errors.Memory) × Makes w m position restrictions made
+
+  in_files : LiesInText w position → AreOfFiles w restrictions → MakingExists
+  in_files in_text of_files =
+      let file = position.file_id.0 in
+      let tree = some_and (tree_of w file) (λ tree. position.offset ≤ length (source_of tree)) in_text.1 in
+      let node = node_there tree.0 position.offset in
+      let around = innermost tree.0 node.0 in
+      let place : IsPlace w position restrictions tree.0 node.0 = record { in_text = in_text; of_files = of_files; is = tree.1; node = node.1 } in
+      let by_scope : (scope : Option ScopeId) → m.scope (node_id file node.0) ≡ scope → MakingExists =
+      λ scope. elim scope as (λ scope. m.scope (node_id file node.0) ≡ scope → MakingExists) [
+        | None ↦ λ is. (Err errors.NoScope, (λ e. cc), (tree.0, node.0, place, is))
+        | Some scope ↦ λ is. (
+          Ok (record { scope = scope; restrictions = map file_span_of (restricting restrictions); function = option_map (node_id file) around.0 }),
+          (λ e. cc),
+          record { tree = tree.0; node = node.0; place = place; scope = is; restricted = refl; around = around.0; innermost = around.1; function = refl },
+        )
+      ] in
+      by_scope (m.scope (node_id file node.0)) refl
+
+  pub making_exists : MakingExists
+  making_exists =
+      let file = position.file_id.0 in
+      elim (less file (length w.files)) [
+        | inr none ↦ (Err errors.NoSuchFile, (λ e. cc), inl none)
+        | inl has ↦ elim (of_some (λ tree. position.offset ≤ length (source_of tree)) (λ tree. at_most position.offset (length (source_of tree))) (tree_of w file)) [
+          | inr past ↦ (Err errors.NoSuchPosition, (λ e. cc), (has, (λ text. past text.1)))
+          | inl within ↦ elim (each (λ (range : FileRange). HasFile w range.file_id.0) (λ (range : FileRange). less range.file_id.0 (length w.files)) (restricting restrictions)) [
+            | inr other ↦ (Err errors.NoSuchFile, (λ e. cc), inr ((has, within), other))
+            | inl of_files ↦ in_files (has, within) of_files
+          ]
+        ]
+      ]

@@ -21,13 +21,13 @@ use Rattle.ssr_base_trees.specs.Workspace.{Expanded, Workspace, trees, text_at_t
 use Rattle.ssr_base_trees.specs.Built.{most_trees, IsBuilt}
 use Rattle.ssr_base.specs.Building.{◌>>=◌, unless, in_turn, read_as, checked_call, origin_of, joined_origins, with_file, with_expansion, built}
 use Rattle.ssr_base_trees.specs.Origins.{fits_origin}
-use Rattle.ssr_base.proofs.Joining.{length-joined_origins}
-use Rattle.ssr_base.proofs.Joining.{fit_joined}
+use Rattle.ssr_base.proofs.Joining.{length-joined_origins, fit_joined}
 use Rattle.ssr_base.proofs.Readings.{file_shallow, expansion_shallow, file_texts}
 use Rattle.ssr_base.proofs.Chosen.{IsChosen, chosen_free}
 use Rattle.ssr_base.proofs.Calls.{accepted}
 use Rattle.ssr_base.proofs.Added.{and_then, was_read, adds_file, adds_expansion}
 use Rattle.ssr_base_trees.specs.Growth.{only_files, no_tree, IsOfCall}
+use Rattle.ssr_base_trees.proofs.Shared.{built_none, built_file, built_expansion}
 
 -- ** Files.
 

@@ -1,7 +1,9 @@
 -- How the origins of a tree's tokens are put together.
-use Rattle.std.proofs.Common.{◌≡◌, ℕ, suc, ◌+◌, ◌-◌, ◌<◌, ◌≤◌, List, [], ◌∷◌, ◌++◌, length, map, take, drop, string_bytes, Option, refl, sym, ap, ◌∙◌, arith, ne_eqb, append_assoc}
+use Rattle.std.proofs.Common.{◌≡◌, ℕ, suc, ◌+◌, ◌-◌, ◌<◌, ◌≤◌, List, [], ◌∷◌, ◌++◌, length, map, take, drop, string_bytes, Option, true, refl, sym, ap, ◌∙◌, arith, ne_eqb, append_assoc}
 use Rattle.std.proofs.lemmas.List.{drop_more, drop_all, map-append, append-nil}
 use Rattle.std.proofs.lemmas.Option.{unwrap_or-slice_get}
+use Rattle.std.proofs.lemmas.List.Elements.{All-nil, All-cons, All-take, All-drop, All-map}
+use Rattle.std.specs.List.{AllPass}
 use Rattle.std.specs.Prelude.{if◌then◌else◌}
 use Rattle.ssr_syntax_kinds.specs.declared.kinds.SyntaxKind.TheVariants as k
 use Rattle.ssr_syntax_kinds.specs.declared.range.TextRange.{TextRange}
@@ -9,7 +11,7 @@ use Rattle.ssr_syntax_tree.specs.Syntax.{Token, Syntax, tokens_of, token_count}
 use Rattle.ssr_syntax_tree.specs.Places.{HasToken, token_of}
 use Rattle.ssr_syntax_tree.proofs.Shared.{length-tokens_in}
 use Rattle.ssr_syntax.specs.declared.expansions.ExpToken.{ExpToken}
-use Rattle.ssr_base_trees.specs.Origins.{Cover, join, cover_of_one, covered, plain_origin}
+use Rattle.ssr_base_trees.specs.Origins.{Cover, join, cover_of, cover_of_one, covered, fits_origin, plain_origin}
 use Rattle.ssr_base.specs.Building.{origin_of, count_in, cover_of_tokens, joined_origins}
 use Rattle.ssr_base_trees.proofs.Shared.{join-assoc, fit_covered}
 

@@ -17,8 +17,7 @@ use Rattle.ssr_facts.specs.declared.facts_error.FactsError.TheVariants as errors
 use Rattle.ssr_facts.specs.Naming.{all_named}
 use Rattle.ssr_facts.specs.Reading.{AreTold, AnswersOf, AnswersRows, Answers}
 use Rattle.ssr_facts.specs.Sources.{row_of_expansion, AreSources}
-use Rattle.ssr_facts.specs.Private.Reading.{AreOrdered, Builds}
-use Rattle.ssr_facts.specs.Private.Sources.{expansion_mended, expansion_told}
+use Rattle.ssr_facts.specs.Private.Reading.{Builds}
 use Rattle.ssr_facts.proofs.Lists.{map_of_map}
 
 module _ (rows : PlainFacts) (files : List (String Global)) (expansions : List Expansion) (sources : AreSources rows files expansions) where
@@ -54,13 +53,13 @@ module _ (rows : PlainFacts) (files : List (String Global)) (expansions : List E
     answered_shape unnamed = answered false (Err errors.Shape) unnamed refl
 
 -- what is handed in to be built is what rows tell
-pub sources_are : (rows : FactRows) → AreOrdered (plain_facts rows) → (texts : List (String Global)) (expansions : List Expansion) → texts ≡ map (λ (file : FileRow). file.text) rows.files.items
-    → map row_of_expansion expansions ≡ map expansion_told rows.expansions.items → AreSources (plain_facts rows) texts expansions
-sources_are rows ordered texts expansions files calls = record {
+pub sources_are : (rows : FactRows) (texts : List (String Global)) (expansions : List Expansion) → texts ≡ map (λ (file : FileRow). file.text) rows.files.items
+    → map row_of_expansion expansions ≡ map plain_expansion rows.expansions.items → AreSources (plain_facts rows) texts expansions
+sources_are rows texts expansions files calls = record {
   texts =
       ap (map string_bytes) files ∙ map_of_map (λ (file : FileRow). file.text) string_bytes rows.files.items
       ∙ sym (map_of_map plain_file (λ file. file.text) rows.files.items);
-  rows = calls ∙ sym (map_of_map plain_expansion expansion_mended rows.expansions.items) ∙ ordered.expansions;
+  rows = calls;
 }
 
 pub names_are : (rows : FactRows) (names : List (String Global)) → names ≡ map (λ (file : FileRow). file.name) rows.files.items

@@ -16,14 +16,14 @@ use Rattle.ssr_base_trees.specs.declared.ids.ScopeId.{ScopeId}
 use Rattle.ssr_base_trees.specs.declared.ids.DefId.{DefId}
 use Rattle.ssr_base_trees.specs.declared.semantics.Res.{Res}
 use Rattle.ssr_base_trees.specs.declared.semantics.Res.TheVariants as res
-use Rattle.ssr_facts.specs.declared.tables.NameKey.{NameKey}
-use Rattle.ssr_facts.specs.declared.tables.MemberKey.{MemberKey}
-use Rattle.ssr_facts.specs.declared.tables.PrintedKey.{PrintedKey}
+use Rattle.ssr_facts_rows.specs.declared.meanings.NameKey.{NameKey}
+use Rattle.ssr_facts_rows.specs.declared.meanings.MemberKey.{MemberKey}
+use Rattle.ssr_facts_rows.specs.declared.meanings.PrintedKey.{PrintedKey}
 use Rattle.ssr_base_trees.specs.contracts.ids.NodeIdOrd.TheImpl as id_order
 use Rattle.ssr_base_trees.specs.contracts.semantics.ResOrd.TheImpl as res_order
-use Rattle.ssr_facts.specs.contracts.tables.NameKeyOrd.TheImpl as name_order
-use Rattle.ssr_facts.specs.contracts.tables.MemberKeyOrd.TheImpl as member_order
-use Rattle.ssr_facts.specs.contracts.tables.PrintedKeyOrd.TheImpl as printed_order
+use Rattle.ssr_facts_rows.specs.contracts.meanings.NameKeyOrd.TheImpl as name_order
+use Rattle.ssr_facts_rows.specs.contracts.meanings.MemberKeyOrd.TheImpl as member_order
+use Rattle.ssr_facts_rows.specs.contracts.meanings.PrintedKeyOrd.TheImpl as printed_order
 use Rattle.ssr_base_trees.specs.Workspace.{same_id}
 use Rattle.ssr_base_trees.specs.Meanings.{same_res}
 use Rattle.ssr_facts.specs.Tables.{is_name, is_member, is_printed}

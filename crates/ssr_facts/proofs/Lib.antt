@@ -9,6 +9,5 @@ mod Best
 mod Shortest
 mod Sweep
 mod Told
-mod Ordered
 mod Answered
 mod OneWorkspace

@@ -1,10 +1,10 @@
 -- What is built hangs on the rows of texts and expansions alone.
-use Rattle.std.proofs.Common.{◌≡◌, ℕ, ◌+◌, ◌-◌, ◌≤◌, ◌==◌, if◌then◌else◌, List, [], ◌∷◌, ◌++◌, length, map, take, drop, get_or, Option, Some, None, Ok, Err, refl, sym, ◌∙◌, ap, subst, arith, le-add_right}
+use Rattle.std.proofs.Common.{◌≡◌, ℕ, ◌+◌, ◌-◌, ◌≤◌, ◌==◌, if◌then◌else◌, List, [], ◌∷◌, ◌++◌, length, map, take, drop, get_or, Option, Ok, Err, refl, sym, ◌∙◌, ap, subst, arith, le-add_right}
 use Rattle.std.specs.Prelude.{Result, String, string_bytes, nat_lt, not}
 use Rattle.std.specs.Coded.{le_prop}
 use Rattle.std.specs.Global.{Global}
 use Rattle.std.specs.List.{list_all}
-use Rattle.std.specs.Option.{option_map, ok_or}
+use Rattle.std.specs.Option.{ok_or}
 use Rattle.std.proofs.lemmas.List.{length-map, take-map, drop-map}
 use Rattle.ssr_syntax_kinds.specs.declared.kinds.SyntaxKind.{SyntaxKind}
 use Rattle.ssr_syntax_kinds.specs.declared.range.TextRange.{TextRange}
@@ -19,18 +19,17 @@ use Rattle.ssr_base.specs.declared.building.Expansion.{Expansion}
 use Rattle.ssr_base_trees.specs.declared.ids.NodeId.{NodeId}
 use Rattle.ssr_base.specs.declared.workspace_error.WorkspaceError.{WorkspaceError}
 use Rattle.ssr_base.specs.declared.workspace_error.WorkspaceError.TheVariants as errors
-use Rattle.ssr_base_trees.specs.Origins.{Span, span_of, cover_of, covered, fits_origin}
+use Rattle.ssr_base_trees.specs.Origins.{Span, cover_of, covered, fits_origin}
 use Rattle.ssr_base_trees.specs.Workspace.{Workspace, trees, text_at_top, nesting}
 use Rattle.ssr_base_trees.specs.Built.{most_trees, most_nested}
 use Rattle.ssr_base.specs.Building.{◌>>=◌, unless, read_as, in_turn, with_file, free_call, origin_of, count_in, joined_origins, checked_call, with_expansion, built}
 use Rattle.ssr_base_trees.specs.Growth.{with_tree, no_tree}
-use Rattle.ssr_facts_rows.specs.declared.places.SpanRow.{SpanRow}
 use Rattle.ssr_facts_rows.specs.declared.sources.ExpansionKindRow.{ExpansionKindRow}
 use Rattle.ssr_facts_rows.specs.declared.sources.ExpansionKindRow.TheVariants as rows
 use Rattle.ssr_facts_rows.specs.Sources.{PlainToken, PlainExpansion}
 use Rattle.ssr_facts_rows.specs.Facts.{PlainFacts}
 use Rattle.ssr_facts.specs.Laws.{OneWorkspace}
-use Rattle.ssr_facts.specs.Sources.{row_of_origin, row_of_token, row_of_kind, row_of_expansion}
+use Rattle.ssr_facts.specs.Sources.{row_of_token, row_of_kind, row_of_expansion}
 
 -- ** Lists with the same rows.
 
@@ -104,15 +103,8 @@ reading_same kind ts us same =
     ap (λ raw. short_reading (unless_refused (tree_reading (goal_of_expansion kind) (expansion_text ts)) raw) (expansion_text ts)) (raw_same 0 ts us same)
     ∙ ap (λ text. short_reading (unless_refused (tree_reading (goal_of_expansion kind) text) (raw_from 0 us)) text) (texts_same ts us same)
 
-abbrev span_of_row : SpanRow → Span
-span_of_row row = record { start = row.start; end = row.end }
-
-by_row : (origin : Option TextRange) → option_map span_of origin ≡ option_map span_of_row (option_map row_of_origin origin)
-by_row None = refl
-by_row (Some range) = refl
-
 origin_same : (t u : ExpToken) → row_of_token t ≡ row_of_token u → origin_of t ≡ origin_of u
-origin_same t u same = by_row t.origin ∙ ap (λ (r : PlainToken). option_map span_of_row r.origin) same ∙ sym (by_row u.origin)
+origin_same t u same = ap (λ (r : PlainToken). r.origin) same
 
 origins_same : (ts us : List ExpToken) → map row_of_token ts ≡ map row_of_token us → map origin_of ts ≡ map origin_of us
 origins_same [] [] same = refl

@@ -16,14 +16,14 @@ use Rattle.ssr_base_trees.specs.declared.ids.DefId.{DefId}
 use Rattle.ssr_base_trees.specs.declared.semantics.Res.{Res}
 use Rattle.ssr_base_trees.specs.declared.semantics.Res.TheVariants as res
 use Rattle.ssr_base_trees.specs.declared.semantics.SelfKind.TheVariants as self
-use Rattle.ssr_facts.specs.declared.tables.PrintedKey.{PrintedKey}
+use Rattle.ssr_facts_rows.specs.declared.meanings.PrintedKey.{PrintedKey}
 use Rattle.ssr_facts.specs.declared.tables.Tables.{Tables}
 use Rattle.ssr_facts.specs.declared.maps.Maps.{Maps}
 use Rattle.ssr_base_trees.specs.contracts.ids.NodeIdOrd.TheImpl as id_order
 use Rattle.ssr_base_trees.specs.contracts.semantics.ResOrd.TheImpl as res_order
-use Rattle.ssr_facts.specs.contracts.tables.NameKeyOrd.TheImpl as name_order
-use Rattle.ssr_facts.specs.contracts.tables.MemberKeyOrd.TheImpl as member_order
-use Rattle.ssr_facts.specs.contracts.tables.PrintedKeyOrd.TheImpl as printed_order
+use Rattle.ssr_facts_rows.specs.contracts.meanings.NameKeyOrd.TheImpl as name_order
+use Rattle.ssr_facts_rows.specs.contracts.meanings.MemberKeyOrd.TheImpl as member_order
+use Rattle.ssr_facts_rows.specs.contracts.meanings.PrintedKeyOrd.TheImpl as printed_order
 use Rattle.ssr_base_trees.specs.Workspace.{same_id}
 use Rattle.ssr_base_trees.proofs.Shared.{same_res-itself}
 use Rattle.ssr_facts.specs.Tables.{is_name, is_member, is_printed, definition_at, path_of, method_of, callee, stands_for, nodes_for, meanings_of}

@@ -5,7 +5,7 @@ use Rattle.std.specs.Option.{option_map, option_map_or}
 use Rattle.ssr_base_trees.specs.declared.ids.NodeId.{NodeId}
 use Rattle.ssr_base_trees.specs.declared.semantics.Res.{Res}
 use Rattle.ssr_base_trees.specs.declared.semantics.SelfKind.TheVariants as self
-use Rattle.ssr_facts.specs.declared.tables.Method.{Method}
+use Rattle.ssr_facts_rows.specs.declared.meanings.Method.{Method}
 use Rattle.ssr_facts.specs.declared.maps.Maps.{Maps}
 use Rattle.ssr_base_trees.specs.Meanings.{Meanings}
 use Rattle.ssr_base_trees.specs.Workspace.{same_id}

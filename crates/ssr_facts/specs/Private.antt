@@ -2,8 +2,6 @@
 -- believe them.
 pub mod Maps
 pub mod Complete
-pub mod Sources
 pub mod Nodes
 pub mod Scopes
-pub mod Rows
 pub mod Reading

@@ -1,14 +1,13 @@
 -- What is answered of the bytes of a facts file.
-use Rattle.std.specs.Prelude.{◌≡◌, List, map, Option, Some, None, Result, Ok, Err, String, string_bytes}
+use Rattle.std.specs.Prelude.{◌≡◌, List, map, Option, Result, Ok, Err, String, string_bytes, unwrap_or}
 use Rattle.std.specs.Bool.{MatchBool}
 use Rattle.std.specs.Global.{Global}
 use Rattle.std.specs.Result.{IsOkAnd}
 use Rattle.ssr_base.specs.declared.building.Expansion.{Expansion}
 use Rattle.ssr_base_trees.specs.declared.ids.FilePosition.{FilePosition}
 use Rattle.ssr_base.specs.declared.workspace_error.WorkspaceError.{WorkspaceError}
-use Rattle.ssr_base_trees.specs.Workspace.{Workspace}
+use Rattle.ssr_base_trees.specs.Workspace.{Workspace, file_span_of}
 use Rattle.ssr_base.specs.Building.{built}
-use Rattle.ssr_facts_rows.specs.declared.places.PositionRow.{PositionRow}
 use Rattle.ssr_facts_rows.specs.declared.rows_error.RowsError.{RowsError}
 use Rattle.ssr_facts_rows.specs.declared.rows_error.RowsError.TheVariants as refused
 use Rattle.ssr_facts_rows.specs.Facts.{PlainFacts}
@@ -17,13 +16,12 @@ use Rattle.ssr_facts.specs.declared.facts_error.FactsError.{FactsError}
 use Rattle.ssr_facts.specs.declared.facts_error.FactsError.TheVariants as errors
 use Rattle.ssr_facts.specs.Naming.{all_named}
 use Rattle.ssr_facts.specs.Provider.{provided}
-use Rattle.ssr_facts.specs.Sources.{row_of_range, AreSources}
+use Rattle.ssr_facts.specs.Sources.{AreSources}
 use Rattle.ssr_facts.specs.Told.{meanings_told}
 
 -- the beginning of file 0, where no row tells a position
-abbrev pub position_of : Option PositionRow → FilePosition
-position_of None = record { file_id = record { 0 = 0 }; offset = 0 }
-position_of (Some row) = record { file_id = record { 0 = row.file }; offset = row.offset }
+abbrev pub position_of : Option FilePosition → FilePosition
+position_of row = unwrap_or row (record { file_id = record { 0 = 0 }; offset = 0 })
 
 -- what rows tell of the workspace that is built of their files and expansions
 pub record AreTold (rows : PlainFacts) (w : Workspace) (facts : Facts) : Type 0 where
@@ -31,7 +29,7 @@ pub record AreTold (rows : PlainFacts) (w : Workspace) (facts : Facts) : Type 0 
   pub meanings : provided facts.semantics ≡ meanings_told w rows
   pub names : map string_bytes facts.names.items ≡ map (λ file. file.name) rows.files
   pub position : facts.position ≡ position_of rows.position
-  pub ranges : map row_of_range facts.ranges.items ≡ rows.ranges
+  pub ranges : map file_span_of facts.ranges.items ≡ rows.ranges
 
 -- the answer where a workspace is built, or refused: then that, or where a number names nothing or a row no such node, another shape
 abbrev pub AnswersOf : PlainFacts → Result Workspace WorkspaceError → Result Facts FactsError → Type 0

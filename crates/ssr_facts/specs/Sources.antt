@@ -1,29 +1,21 @@
 -- Files and expansions as a workspace is built of them, and as a facts file tells them.
-use Rattle.std.specs.Prelude.{◌≡◌, List, map, option_map, String, string_bytes}
+use Rattle.std.specs.Prelude.{◌≡◌, List, map, String, string_bytes}
 use Rattle.std.specs.Global.{Global}
-use Rattle.ssr_syntax_kinds.specs.declared.range.TextRange.{TextRange}
 use Rattle.ssr_syntax.specs.declared.expansions.ExpToken.{ExpToken}
 use Rattle.ssr_syntax.specs.declared.expansions.ExpansionKind.{ExpansionKind}
 use Rattle.ssr_syntax.specs.declared.expansions.ExpansionKind.TheVariants as kinds
 use Rattle.ssr_base.specs.declared.building.Expansion.{Expansion}
-use Rattle.ssr_base_trees.specs.declared.ids.FileRange.{FileRange}
-use Rattle.ssr_facts_rows.specs.declared.places.SpanRow.{SpanRow}
-use Rattle.ssr_facts_rows.specs.declared.places.RangeRow.{RangeRow}
+use Rattle.ssr_base_trees.specs.Origins.{plain_origin}
 use Rattle.ssr_facts_rows.specs.declared.sources.ExpansionKindRow.{ExpansionKindRow}
 use Rattle.ssr_facts_rows.specs.declared.sources.ExpansionKindRow.TheVariants as rows
+use Rattle.ssr_facts_rows.specs.Places.{call_place}
 use Rattle.ssr_facts_rows.specs.Sources.{PlainToken, PlainExpansion}
 use Rattle.ssr_facts_rows.specs.Facts.{PlainFacts}
 
 -- ** The rows of what is handed in.
 
-abbrev pub row_of_range : FileRange → RangeRow
-row_of_range range = record { file = range.file_id.0; start = range.range.start; end = range.range.end }
-
-abbrev pub row_of_origin : TextRange → SpanRow
-row_of_origin range = record { start = range.start; end = range.end }
-
 abbrev pub row_of_token : ExpToken → PlainToken
-row_of_token token = record { text = string_bytes token.text; joint = token.joint; origin = option_map row_of_origin token.origin }
+row_of_token token = record { text = string_bytes token.text; joint = token.joint; origin = plain_origin token.origin }
 
 abbrev pub row_of_kind : ExpansionKind → ExpansionKindRow
 row_of_kind kinds.Expr = rows.Expr
@@ -32,7 +24,7 @@ row_of_kind kinds.Stmts = rows.Stmts
 
 abbrev pub row_of_expansion : Expansion → PlainExpansion
 row_of_expansion x = record {
-  call = record { tree = x.call.0; start = x.call.1.start; end = x.call.1.end };
+  call = call_place x.call;
   kind = row_of_kind x.kind;
   tokens = map row_of_token x.tokens.items;
 }

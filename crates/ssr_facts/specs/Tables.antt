@@ -11,11 +11,11 @@ use Rattle.ssr_base_trees.specs.declared.semantics.Res.{Res}
 use Rattle.ssr_base_trees.specs.declared.semantics.Res.TheVariants as res
 use Rattle.ssr_base_trees.specs.declared.semantics.DefKind.TheVariants as kinds
 use Rattle.ssr_base_trees.specs.declared.semantics.SelfKind.TheVariants as self
-use Rattle.ssr_facts.specs.declared.tables.Definition.{Definition}
-use Rattle.ssr_facts.specs.declared.tables.NameKey.{NameKey}
-use Rattle.ssr_facts.specs.declared.tables.MemberKey.{MemberKey}
-use Rattle.ssr_facts.specs.declared.tables.PrintedKey.{PrintedKey}
-use Rattle.ssr_facts.specs.declared.tables.Method.{Method}
+use Rattle.ssr_facts_rows.specs.declared.meanings.Definition.{Definition}
+use Rattle.ssr_facts_rows.specs.declared.meanings.NameKey.{NameKey}
+use Rattle.ssr_facts_rows.specs.declared.meanings.MemberKey.{MemberKey}
+use Rattle.ssr_facts_rows.specs.declared.meanings.PrintedKey.{PrintedKey}
+use Rattle.ssr_facts_rows.specs.declared.meanings.Method.{Method}
 use Rattle.ssr_facts.specs.declared.tables.Tables.{Tables}
 use Rattle.ssr_base_trees.specs.Meanings.{Meanings, same_res}
 use Rattle.ssr_base_trees.specs.Workspace.{same_id}

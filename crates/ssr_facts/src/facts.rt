@@ -1,22 +1,21 @@
 //! A facts file read to a workspace and its provider.
 
 ghost use Rattle.std.specs.Prelude.{◌≡◌, ◌+◌, ◌≤◌, length, map, IfOk, Ok};
-ghost use Rattle.std.specs.List.{find, filter_map};
+ghost use Rattle.std.specs.Map.{lookup};
 ghost use Rattle.std.specs.Option.{option_map, option_and_then};
 ghost use Rattle.ssr_syntax_kinds.specs.declared.kinds.SyntaxKind.TheVariants as kinds;
 ghost use Rattle.ssr_base_trees.specs.declared.ids.NodeId.{NodeId as Id};
 ghost use Rattle.ssr_base_trees.specs.Built.{most_trees};
 ghost use Rattle.ssr_facts_rows.specs.Facts.{plain_facts, facts_of};
-ghost use Rattle.ssr_facts_rows.specs.Meanings.{plain_type};
+ghost use Rattle.ssr_facts_rows.specs.Meanings.{plain_types};
 ghost use Rattle.ssr_facts_rows.specs.declared.places.PlaceRow.{PlaceRow as Place};
 ghost use Rattle.ssr_facts.specs.Nodes.{node_at, place_of, same_place};
 ghost use Rattle.ssr_facts.specs.Provider.{provided};
-ghost use Rattle.ssr_facts.specs.Reading.{position_of, Answers};
+ghost use Rattle.ssr_facts.specs.Reading.{Answers};
 ghost use Rattle.ssr_facts.specs.Tables.{meanings_of};
-ghost use Rattle.ssr_facts.specs.Told.{meanings_told, type_of};
+ghost use Rattle.ssr_facts.specs.Told.{meanings_told};
 ghost use Rattle.ssr_facts.specs.Private.Nodes.{at_place, types_at};
-ghost use Rattle.ssr_facts.specs.Private.Rows.{path_told, method_told};
-ghost use Rattle.ssr_facts.specs.Private.Reading.{AreOrdered, Builds, IsToldIfNamed};
+ghost use Rattle.ssr_facts.specs.Private.Reading.{Builds, IsToldIfNamed};
 
 use crate::facts_error::FactsError;
 use crate::grouping::first_rows;
@@ -24,14 +23,13 @@ use crate::naming::all_named;
 use crate::nodes::{at_nodes, nodes_by_place};
 use crate::provider::TableSemantics;
 use crate::scopes::scopes_of_nodes;
-use crate::sources::{expansions, file_ranges, names_and_texts};
-use crate::table_rows;
-use crate::tables::{Method, Tables};
+use crate::sources::{expansions, names_and_texts};
+use crate::tables::Tables;
 use crate::types::types_of_nodes;
 use ssr_base::{
-    Expansion, FileId, FilePosition, FileRange, NodeId, Res, TypeId, Workspace, WorkspaceError,
+    Expansion, FileId, FilePosition, FileRange, NodeId, TypeId, Workspace, WorkspaceError,
 };
-use ssr_facts_rows::{FactRows, MethodRow, PathRow, PlaceRow, PositionRow, TypeRow, read_rows};
+use ssr_facts_rows::{FactRows, PlaceRow, read_rows};
 use ssr_syntax_kinds::SyntaxKind;
 use std::alloc::{AllocError, Global};
 use std::collections::BTreeMap;
@@ -51,22 +49,6 @@ pub struct Facts {
     pub ranges: Vec<FileRange>,
 }
 
-/// The place in a file at which names are looked up.
-fn position(row: Option<PositionRow>) -> FilePosition
-    ensures { result ≡ position_of row }
-{
-    match row {
-        Some(PositionRow { file, offset }) => FilePosition {
-            file_id: FileId(file),
-            offset,
-        },
-        None => FilePosition {
-            file_id: FileId(0),
-            offset: 0,
-        },
-    }
-}
-
 /// The values of a list, which is empty then.
 fn taken<T: Drop>(alloc: Global, list: &mut Vec<T>) -> Vec<T>
     ensures { result ≡ list.old }
@@ -74,40 +56,16 @@ fn taken<T: Drop>(alloc: Global, list: &mut Vec<T>) -> Vec<T>
     mem::replace(list, Vec::new(alloc))
 }
 
-/// What paths stand for, by the nodes at their places.
-fn paths_of_nodes(
-    alloc: Global,
-    nodes: &BTreeMap<PlaceRow, NodeId>,
-    rows: &[PathRow],
-) -> Result<Vec<(NodeId, Res)>, AllocError>
-    ensures { IfOk result (λ told. told.items ≡ filter_map (λ row. option_map (λ node. (node, row.1)) (at_place nodes.now row.0)) (map path_told rows.now)) }
-{
-    let rows = table_rows::paths(alloc, rows)?;
-    at_nodes(alloc, nodes, &rows)
-}
-
-/// What method calls call, by the nodes at their places.
-fn methods_of_nodes(
-    alloc: Global,
-    nodes: &BTreeMap<PlaceRow, NodeId>,
-    rows: &[MethodRow],
-) -> Result<Vec<(NodeId, Method)>, AllocError>
-    ensures { IfOk result (λ told. told.items ≡ filter_map (λ row. option_map (λ node. (node, row.1)) (at_place nodes.now row.0)) (map method_told rows.now)) }
-{
-    let rows = table_rows::methods(alloc, rows)?;
-    at_nodes(alloc, nodes, &rows)
-}
-
 /// The types of nodes, of several rows of a place those of the first one.
 fn types_by_nodes(
     alloc: Global,
     workspace: &Workspace,
-    rows: Vec<TypeRow>,
+    rows: Vec<(PlaceRow, Vec<TypeId>)>,
 ) -> Result<Vec<(NodeId, Vec<TypeId>)>, AllocError>
     requires { length workspace.now.files + length workspace.now.expansions ≤ most_trees }
-    ensures { IfOk result (λ told. (x : Id) → types_at told.items x ≡ option_and_then (λ place. option_map (λ row. map type_of row.types) (find (λ row. same_place place row.place) (map plain_type rows.items))) (place_of workspace.now x)) }
+    ensures { IfOk result (λ told. (x : Id) → types_at told.items x ≡ option_and_then (λ place. lookup (same_place place) (map plain_types rows.items)) (place_of workspace.now x)) }
 {
-    let by_place = first_rows(alloc, table_rows::types(alloc, rows)?)?;
+    let by_place = first_rows(alloc, rows)?;
     types_of_nodes(alloc, workspace, &by_place)
 }
 
@@ -115,7 +73,7 @@ fn types_by_nodes(
 fn tables(
     alloc: Global,
     workspace: &Workspace,
-    mut rows: FactRows,
+    rows: FactRows,
     path_nodes: &BTreeMap<PlaceRow, NodeId>,
     call_nodes: &BTreeMap<PlaceRow, NodeId>,
 ) -> Result<Tables, AllocError>
@@ -125,14 +83,14 @@ fn tables(
     ensures { IfOk result (λ tables. meanings_of tables ≡ meanings_told workspace.now (plain_facts rows)) }
 {
     Ok(Tables {
-        definitions: table_rows::definitions(alloc, &rows.definitions)?,
+        definitions: rows.definitions,
         scopes: scopes_of_nodes(alloc, workspace, &rows.scopes)?,
-        names: table_rows::names(alloc, taken(alloc, &mut rows.names))?,
-        members: table_rows::members(alloc, taken(alloc, &mut rows.members))?,
-        paths: paths_of_nodes(alloc, path_nodes, &rows.paths)?,
-        methods: methods_of_nodes(alloc, call_nodes, &rows.methods)?,
-        types: types_by_nodes(alloc, workspace, taken(alloc, &mut rows.types))?,
-        printed: table_rows::printed(alloc, taken(alloc, &mut rows.printed))?,
+        names: rows.names,
+        members: rows.members,
+        paths: at_nodes(alloc, path_nodes, &rows.paths)?,
+        methods: at_nodes(alloc, call_nodes, &rows.methods)?,
+        types: types_by_nodes(alloc, workspace, rows.types)?,
+        printed: rows.printed,
     })
 }
 
@@ -169,16 +127,18 @@ fn workspace(
     }
 }
 
-/// What rows tell. No start of theirs stands above its end.
-fn told(alloc: Global, mut rows: FactRows) -> Result<Facts, FactsError>
-    requires { AreOrdered (plain_facts rows) }
+/// What rows tell.
+fn into_facts(alloc: Global, mut rows: FactRows) -> Result<Facts, FactsError>
     ensures { Answers (Ok (plain_facts rows)) result }
 {
     let expansions = expansions(alloc, taken(alloc, &mut rows.expansions))?;
     let (names, texts) = names_and_texts(alloc, taken(alloc, &mut rows.files))?;
     let workspace = workspace(alloc, texts, expansions)?;
-    let position = position(rows.position);
-    let ranges = file_ranges(alloc, &rows.ranges)?;
+    let position = rows.position.unwrap_or(FilePosition {
+        file_id: FileId(0),
+        offset: 0,
+    });
+    let ranges = taken(alloc, &mut rows.ranges);
     match semantics(alloc, &workspace, rows)? {
         Some(semantics) => Ok(Facts {
             workspace,
@@ -198,5 +158,5 @@ fn told(alloc: Global, mut rows: FactRows) -> Result<Facts, FactsError>
 pub fn read(alloc: Global, bytes: &[u8]) -> Result<Facts, FactsError>
     ensures { Answers (facts_of bytes.now) result }
 {
-    told(alloc, read_rows(alloc, bytes)?)
+    into_facts(alloc, read_rows(alloc, bytes)?)
 }

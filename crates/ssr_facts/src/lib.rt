@@ -13,11 +13,11 @@ mod nodes;
 mod provider;
 mod scopes;
 mod sources;
-mod table_rows;
 mod tables;
 mod types;
 
 pub use facts::{Facts, read};
 pub use facts_error::FactsError;
 pub use provider::TableSemantics;
-pub use tables::{Definition, MemberKey, Method, NameKey, PrintedKey, Tables};
+pub use ssr_facts_rows::{Definition, MemberKey, Method, NameKey, PrintedKey};
+pub use tables::Tables;

@@ -7,8 +7,9 @@ ghost use Rattle.ssr_facts.specs.Tables.{callee, stands_for};
 ghost use Rattle.ssr_facts.specs.Usages.{uses_of};
 
 use crate::grouping::{add, first_rows, keys};
-use crate::tables::{Definition, MemberKey, Method, NameKey, PrintedKey, Tables};
+use crate::tables::Tables;
 use ssr_base::{DefId, NodeId, Res, ScopeId, TypeId};
+use ssr_facts_rows::{Definition, MemberKey, Method, NameKey, PrintedKey};
 use std::alloc::{AllocError, Global};
 use std::collections::BTreeMap;
 

@@ -7,8 +7,8 @@ ghost use Rattle.ssr_facts.specs.Naming.{is_tree, is_scope, is_definition, is_re
 ghost use Rattle.ssr_facts.specs.Private.Nodes.{at_place};
 ghost use Rattle.ssr_facts.specs.Private.Reading.{rows_named};
 
-use ssr_base::{NodeId, Workspace};
-use ssr_facts_rows::{FactRows, PlaceRow, ResolutionRow};
+use ssr_base::{DefId, NodeId, Res, ScopeId, Workspace};
+use ssr_facts_rows::{FactRows, PlaceRow};
 use std::collections::BTreeMap;
 
 /// Whether there is a tree of this number.
@@ -22,25 +22,25 @@ fn is_tree(workspace: &Workspace, tree: u32) -> bool
 }
 
 /// Whether there is a scope of this number.
-fn is_scope(rows: &FactRows, scope: u32) -> bool
+fn is_scope(rows: &FactRows, scope: ScopeId) -> bool
     ensures { result ≡ is_scope (plain_facts rows.now) scope }
 {
-    (scope as usize) < rows.scopes.len()
+    (scope.0 as usize) < rows.scopes.len()
 }
 
 /// Whether there is a definition of this number.
-fn is_definition(rows: &FactRows, definition: u32) -> bool
-    ensures { result ≡ is_definition (plain_facts rows.now) definition }
+fn is_definition(rows: &FactRows, def: DefId) -> bool
+    ensures { result ≡ is_definition (plain_facts rows.now) def }
 {
-    (definition as usize) < rows.definitions.len()
+    (def.0 as usize) < rows.definitions.len()
 }
 
 /// Whether what is told to be a definition is one.
-fn is_resolution(rows: &FactRows, resolution: ResolutionRow) -> bool
-    ensures { result ≡ is_resolution (plain_facts rows.now) resolution }
+fn is_resolution(rows: &FactRows, res: Res) -> bool
+    ensures { result ≡ is_resolution (plain_facts rows.now) res }
 {
-    match resolution {
-        ResolutionRow::Definition(definition) => is_definition(rows, definition),
+    match res {
+        Res::Def(def) => is_definition(rows, def),
         _ => true,
     }
 }
@@ -54,52 +54,46 @@ fn scopes_named(workspace: &Workspace, rows: &FactRows) -> bool
 
 /// Whether each scope in which a path has a name is there, and what it stands for.
 fn names_named(rows: &FactRows) -> bool
-    ensures { result ≡ list_all (λ row. is_scope (plain_facts rows.now) row.scope && is_resolution (plain_facts rows.now) row.resolution) rows.now.names.items }
+    ensures { result ≡ list_all (λ row. is_scope (plain_facts rows.now) row.0.scope && is_resolution (plain_facts rows.now) row.1) rows.now.names.items }
 {
-    rows.names.iter().all(|row| is_scope(rows, row.scope) && is_resolution(rows, row.resolution))
+    rows.names.iter().all(|row| is_scope(rows, row.0.scope) && is_resolution(rows, row.1))
 }
 
 /// Whether each scope and the definitions of each member are there.
 fn members_named(rows: &FactRows) -> bool
-    ensures { result ≡ list_all (λ row. is_scope (plain_facts rows.now) row.scope && (is_definition (plain_facts rows.now) row.definition && is_definition (plain_facts rows.now) row.member)) rows.now.members.items }
+    ensures { result ≡ list_all (λ row. is_scope (plain_facts rows.now) row.0.scope && (is_definition (plain_facts rows.now) row.0.adt && is_definition (plain_facts rows.now) row.1)) rows.now.members.items }
 {
     rows.members.iter().all(|row| {
-        is_scope(rows, row.scope)
-            && is_definition(rows, row.definition)
-            && is_definition(rows, row.member)
+        is_scope(rows, row.0.scope) && is_definition(rows, row.0.adt) && is_definition(rows, row.1)
     })
 }
 
 /// Whether each path's place is that of one of these nodes, and what it stands for is there.
 fn paths_named(rows: &FactRows, nodes: &BTreeMap<PlaceRow, NodeId>) -> bool
-    ensures { result ≡ list_all (λ row. is_some (at_place nodes.now row.place) && is_resolution (plain_facts rows.now) row.resolution) rows.now.paths.items }
+    ensures { result ≡ list_all (λ row. is_some (at_place nodes.now row.0) && is_resolution (plain_facts rows.now) row.1) rows.now.paths.items }
 {
-    rows.paths.iter().all(|row| nodes.contains_key(&row.place)
-        && is_resolution(rows, row.resolution))
+    rows.paths.iter().all(|row| nodes.contains_key(&row.0) && is_resolution(rows, row.1))
 }
 
 /// Whether each method call's place is that of one of these nodes, and what it calls is there.
 fn methods_named(rows: &FactRows, nodes: &BTreeMap<PlaceRow, NodeId>) -> bool
-    ensures { result ≡ list_all (λ row. is_some (at_place nodes.now row.place) && is_definition (plain_facts rows.now) row.definition) rows.now.methods.items }
+    ensures { result ≡ list_all (λ row. is_some (at_place nodes.now row.0) && is_definition (plain_facts rows.now) row.1.def) rows.now.methods.items }
 {
-    rows.methods.iter().all(|row| nodes.contains_key(&row.place)
-        && is_definition(rows, row.definition))
+    rows.methods.iter().all(|row| nodes.contains_key(&row.0) && is_definition(rows, row.1.def))
 }
 
 /// Whether the tree of each expression with types is there.
 fn types_named(workspace: &Workspace, rows: &FactRows) -> bool
-    ensures { result ≡ list_all (λ row. is_tree workspace.now row.place.tree) rows.now.types.items }
+    ensures { result ≡ list_all (λ row. is_tree workspace.now row.0.tree) rows.now.types.items }
 {
-    rows.types
-        .iter()
-        .all(|row| is_tree(workspace, row.place.tree))
+    rows.types.iter().all(|row| is_tree(workspace, row.0.tree))
 }
 
 /// Whether each scope and definition that a path is printed for is there.
 fn printed_named(rows: &FactRows) -> bool
-    ensures { result ≡ list_all (λ row. is_scope (plain_facts rows.now) row.scope && is_definition (plain_facts rows.now) row.definition) rows.now.printed.items }
+    ensures { result ≡ list_all (λ row. is_scope (plain_facts rows.now) row.0.scope && is_definition (plain_facts rows.now) row.0.def) rows.now.printed.items }
 {
-    rows.printed.iter().all(|row| is_scope(rows, row.scope) && is_definition(rows, row.definition))
+    rows.printed.iter().all(|row| is_scope(rows, row.0.scope) && is_definition(rows, row.0.def))
 }
 
 /// Whether each number names something, where these are the paths and the method calls of the workspace.

@@ -4,8 +4,9 @@ ghost use Rattle.std.specs.Prelude.{◌≡◌, IfOk, map, string_bytes};
 ghost use Rattle.ssr_facts.specs.Private.Maps.{IsIndexed};
 
 use crate::maps::Maps;
-use crate::tables::{Definition, MemberKey, NameKey, PrintedKey, Tables};
+use crate::tables::Tables;
 use ssr_base::{DefId, DefInfo, DefKind, NodeId, Res, ScopeId, SelfKind, Semantics, TypeId};
+use ssr_facts_rows::{Definition, MemberKey, NameKey, PrintedKey};
 use std::alloc::{AllocError, Global};
 
 /// A provider that answers what tables say: each question by a look-up of a map, usages too.

@@ -1,22 +1,13 @@
 //! The files and expansions of a facts file, as a workspace is built of them. What rows have is moved.
 
-ghost use Rattle.std.specs.Prelude.{◌≡◌, max, map, IfOk};
-ghost use Rattle.ssr_facts.specs.Sources.{row_of_range, row_of_token, row_of_kind, row_of_expansion};
-ghost use Rattle.ssr_facts.specs.Private.Sources.{token_told, expansion_told, range_told};
+ghost use Rattle.std.specs.Prelude.{◌≡◌, map, IfOk};
+ghost use Rattle.ssr_facts_rows.specs.Sources.{plain_token, plain_expansion};
+ghost use Rattle.ssr_facts.specs.Sources.{row_of_token, row_of_kind, row_of_expansion};
 
-use ssr_base::{Expansion, FileId, FileRange};
-use ssr_facts_rows::{ExpansionKindRow, ExpansionRow, FileRow, RangeRow, SpanRow, TokenRow};
+use ssr_base::Expansion;
+use ssr_facts_rows::{ExpansionKindRow, ExpansionRow, ExpansionToken, FileRow};
 use ssr_syntax::{ExpToken, ExpansionKind};
-use ssr_syntax_kinds::TextRange;
 use std::alloc::{AllocError, Global};
-
-/// The bytes from a start up to an end. No row that is read has a start above its end.
-fn text_range(start: u32, end: u32) -> TextRange
-    ensures start { result.start ≡ start }
-    ensures end { result.end ≡ max start end }
-{
-    TextRange::new(start, end.max(start))
-}
 
 /// The names of files, and their texts.
 pub(crate) fn names_and_texts(
@@ -36,22 +27,19 @@ pub(crate) fn names_and_texts(
 }
 
 /// A token, as it is handed in.
-fn token(row: TokenRow) -> ExpToken
-    ensures { row_of_token result ≡ token_told row }
+fn token(row: ExpansionToken) -> ExpToken
+    ensures { row_of_token result ≡ plain_token row }
 {
     ExpToken {
         text: row.text,
         joint: row.joint,
-        origin: match row.origin {
-            Some(SpanRow { start, end }) => Some(text_range(start, end)),
-            None => None,
-        },
+        origin: row.origin,
     }
 }
 
 /// Tokens, as they are handed in.
-fn tokens(alloc: Global, rows: Vec<TokenRow>) -> Result<Vec<ExpToken>, AllocError>
-    ensures { IfOk result (λ tokens. map row_of_token tokens.items ≡ map token_told rows.items) }
+fn tokens(alloc: Global, rows: Vec<ExpansionToken>) -> Result<Vec<ExpToken>, AllocError>
+    ensures { IfOk result (λ tokens. map row_of_token tokens.items ≡ map plain_token rows.items) }
 {
     let mut tokens = Vec::with_capacity(alloc, rows.len())?;
     for row in rows {
@@ -73,11 +61,10 @@ fn kind(row: ExpansionKindRow) -> ExpansionKind
 
 /// An expansion, as it is handed in.
 fn expansion(alloc: Global, row: ExpansionRow) -> Result<Expansion, AllocError>
-    ensures { IfOk result (λ x. row_of_expansion x ≡ expansion_told row) }
+    ensures { IfOk result (λ x. row_of_expansion x ≡ plain_expansion row) }
 {
-    let call = row.call;
     Ok(Expansion {
-        call: (call.tree, text_range(call.start, call.end)),
+        call: row.call,
         kind: kind(row.kind),
         tokens: tokens(alloc, row.tokens)?,
     })
@@ -88,32 +75,11 @@ pub(crate) fn expansions(
     alloc: Global,
     rows: Vec<ExpansionRow>,
 ) -> Result<Vec<Expansion>, AllocError>
-    ensures { IfOk result (λ xs. map row_of_expansion xs.items ≡ map expansion_told rows.items) }
+    ensures { IfOk result (λ xs. map row_of_expansion xs.items ≡ map plain_expansion rows.items) }
 {
     let mut expansions = Vec::with_capacity(alloc, rows.len())?;
     for row in rows {
         expansions.push(expansion(alloc, row)?)?;
     }
     Ok(expansions)
-}
-
-/// The bytes of a file.
-fn file_range(row: &RangeRow) -> FileRange
-    ensures { row_of_range result ≡ range_told row.now }
-{
-    FileRange {
-        file_id: FileId(row.file),
-        range: text_range(row.start, row.end),
-    }
-}
-
-/// The bytes of files.
-pub(crate) fn file_ranges(alloc: Global, rows: &[RangeRow]) -> Result<Vec<FileRange>, AllocError>
-    ensures { IfOk result (λ ranges. map row_of_range ranges.items ≡ map range_told rows.now) }
-{
-    let mut ranges = Vec::with_capacity(alloc, rows.len())?;
-    for row in rows {
-        ranges.push(file_range(row))?;
-    }
-    Ok(ranges)
 }

@@ -1,42 +1,7 @@
 //! Tables of what is known of names, types and scopes.
 
-use ssr_base::{DefId, DefInfo, NodeId, Res, ScopeId, SelfKind, TypeId};
-
-/// What is known of a definition, and the type that it declares.
-#[derive(Clone, Copy, Debug, PartialEq, Eq)]
-pub struct Definition {
-    pub info: DefInfo,
-    pub adt_type: TypeId,
-}
-
-/// A path, as the texts of its segments, that is written in a scope.
-#[derive(Debug, PartialEq, Eq, PartialOrd, Ord, Drop)]
-pub struct NameKey {
-    pub scope: ScopeId,
-    pub path: Vec<String>,
-}
-
-/// The name of a member of a type, as a scope sees it.
-#[derive(Debug, PartialEq, Eq, PartialOrd, Ord, Drop)]
-pub struct MemberKey {
-    pub scope: ScopeId,
-    pub adt: DefId,
-    pub name: String,
-}
-
-/// A definition, as a scope reaches it.
-#[derive(Clone, Copy, Debug, PartialEq, Eq, PartialOrd, Ord)]
-pub struct PrintedKey {
-    pub scope: ScopeId,
-    pub def: DefId,
-}
-
-/// What a method call calls, and how that takes the value that it is called on.
-#[derive(Clone, Copy, Debug, PartialEq, Eq)]
-pub struct Method {
-    pub def: DefId,
-    pub self_kind: SelfKind,
-}
+use ssr_base::{DefId, NodeId, Res, ScopeId, TypeId};
+use ssr_facts_rows::{Definition, MemberKey, Method, NameKey, PrintedKey};
 
 /// What is known of names, types and scopes, as tables. A row is a key and what is known of it; of the rows of a table with
 /// one key the first one counts. Definitions have their place as key.

@@ -4,16 +4,19 @@ use Rattle.std.specs.Option.{ok_or}
 use Rattle.std.specs.Str.{is_utf8}
 use Rattle.serde_json.specs.Data.{Data}
 use Rattle.serde_json.specs.Read.{read}
+use Rattle.ssr_base_trees.specs.declared.ids.DefId.{DefId}
+use Rattle.ssr_base_trees.specs.declared.ids.FilePosition.{FilePosition}
+use Rattle.ssr_base_trees.specs.declared.ids.TypeId.{TypeId}
+use Rattle.ssr_base_trees.specs.declared.semantics.Res.{Res}
+use Rattle.ssr_base_trees.specs.Workspace.{FileSpan, file_span_of}
 use Rattle.ssr_facts_rows.specs.Fields.{◌>>=◌, has_only, optional, rows_at}
-use Rattle.ssr_facts_rows.specs.Places.{place_row, range_row, position_row}
+use Rattle.ssr_facts_rows.specs.Places.{place_row, file_span, file_position}
 use Rattle.ssr_facts_rows.specs.Sources.{PlainFile, plain_file, file_row, PlainExpansion, plain_expansion, expansion_row}
-use Rattle.ssr_facts_rows.specs.Meanings.{definition_row, PlainName, plain_name, name_row, PlainMember, plain_member, member_row, path_row, method_row, PlainType, plain_type, type_row, PlainPrinted, plain_printed, printed_row}
+use Rattle.ssr_facts_rows.specs.Meanings.{definition, PlainNameKey, plain_name, name_row, PlainMemberKey, plain_member, member_row, path_row, method_row, plain_types, type_row, plain_printed, printed_row}
 use Rattle.ssr_facts_rows.specs.declared.places.PlaceRow.{PlaceRow}
-use Rattle.ssr_facts_rows.specs.declared.places.RangeRow.{RangeRow}
-use Rattle.ssr_facts_rows.specs.declared.places.PositionRow.{PositionRow}
-use Rattle.ssr_facts_rows.specs.declared.meanings.DefinitionRow.{DefinitionRow}
-use Rattle.ssr_facts_rows.specs.declared.meanings.PathRow.{PathRow}
-use Rattle.ssr_facts_rows.specs.declared.meanings.MethodRow.{MethodRow}
+use Rattle.ssr_facts_rows.specs.declared.meanings.Definition.{Definition}
+use Rattle.ssr_facts_rows.specs.declared.meanings.Method.{Method}
+use Rattle.ssr_facts_rows.specs.declared.meanings.PrintedKey.{PrintedKey}
 use Rattle.ssr_facts_rows.specs.declared.facts.FactRows.{FactRows}
 use Rattle.ssr_facts_rows.specs.declared.rows_error.RowsError.{RowsError}
 use Rattle.ssr_facts_rows.specs.declared.rows_error.RowsError.TheVariants.{NotJson, Shape, Memory}
@@ -21,16 +24,16 @@ use Rattle.ssr_facts_rows.specs.declared.rows_error.RowsError.TheVariants.{NotJs
 pub record PlainFacts : Type 0 where
   pub files : List PlainFile
   pub expansions : List PlainExpansion
-  pub definitions : List DefinitionRow
+  pub definitions : List Definition
   pub scopes : List PlaceRow
-  pub names : List PlainName
-  pub members : List PlainMember
-  pub paths : List PathRow
-  pub methods : List MethodRow
-  pub types : List PlainType
-  pub printed : List PlainPrinted
-  pub position : Option PositionRow
-  pub ranges : List RangeRow
+  pub names : List (PlainNameKey × Res)
+  pub members : List (PlainMemberKey × DefId)
+  pub paths : List (PlaceRow × Res)
+  pub methods : List (PlaceRow × Method)
+  pub types : List (PlaceRow × List TypeId)
+  pub printed : List (PrintedKey × List ℕ)
+  pub position : Option FilePosition
+  pub ranges : List FileSpan
 
 abbrev pub plain_facts : FactRows → PlainFacts
 plain_facts rows = record {
@@ -42,10 +45,10 @@ plain_facts rows = record {
   members = map plain_member rows.members.items;
   paths = rows.paths.items;
   methods = rows.methods.items;
-  types = map plain_type rows.types.items;
+  types = map plain_types rows.types.items;
   printed = map plain_printed rows.printed.items;
   position = rows.position;
-  ranges = rows.ranges.items;
+  ranges = map file_span_of rows.ranges.items;
 }
 
 abbrev pub fact_keys : List (List ℕ)
@@ -59,7 +62,7 @@ rows_of d = do
   _ ← has_only fact_keys d
   files ← rows_at (codes "files") file_row d
   expansions ← rows_at (codes "expansions") expansion_row d
-  definitions ← rows_at (codes "defs") definition_row d
+  definitions ← rows_at (codes "defs") definition d
   scopes ← rows_at (codes "scopes") place_row d
   names ← rows_at (codes "names") name_row d
   members ← rows_at (codes "members") member_row d
@@ -67,8 +70,8 @@ rows_of d = do
   methods ← rows_at (codes "methods") method_row d
   types ← rows_at (codes "types") type_row d
   printed ← rows_at (codes "printed") printed_row d
-  position ← optional (codes "position") position_row d
-  ranges ← rows_at (codes "ranges") range_row d
+  position ← optional (codes "position") file_position d
+  ranges ← rows_at (codes "ranges") file_span d
   Some (record {
     files = files;
     expansions = expansions;

@@ -1,4 +1,5 @@
 pub mod Fields
+pub mod Ids
 pub mod Places
 pub mod Sources
 pub mod Meanings

@@ -1,28 +1,31 @@
--- What names mean, and which types expressions have.
-use Rattle.std.specs.Prelude.{ℕ, false, List, [], ◌∷◌, map, Option, Some, codes, string_bytes}
+-- What names mean, and which types expressions have. A row is a key, or the place of a node, and what is known of it.
+use Rattle.std.specs.Prelude.{ℕ, false, List, [], ◌∷◌, map, Option, Some, codes, Vec, String, string_bytes}
+use Rattle.std.specs.Global.{Global}
 use Rattle.serde_json.specs.Data.{Data}
 use Rattle.serde_json.specs.Find.{as_str, as_bool}
+use Rattle.ssr_base_trees.specs.declared.ids.ScopeId.{ScopeId}
+use Rattle.ssr_base_trees.specs.declared.ids.DefId.{DefId}
+use Rattle.ssr_base_trees.specs.declared.ids.TypeId.{TypeId}
+use Rattle.ssr_base_trees.specs.declared.semantics.DefKind.{DefKind}
+use Rattle.ssr_base_trees.specs.declared.semantics.DefKind.TheVariants as kinds
+use Rattle.ssr_base_trees.specs.declared.semantics.Res.{Res}
+use Rattle.ssr_base_trees.specs.declared.semantics.Res.TheVariants as things
+use Rattle.ssr_base_trees.specs.declared.semantics.SelfKind.{SelfKind}
+use Rattle.ssr_base_trees.specs.declared.semantics.SelfKind.TheVariants as self_kinds
 use Rattle.ssr_facts_rows.specs.Fields.{◌>>=◌, number, meaning, two, three, four, five, rows, has_only, required, defaulted}
+use Rattle.ssr_facts_rows.specs.Ids.{scope_id, def_id, type_id}
 use Rattle.ssr_facts_rows.specs.Places.{place}
 use Rattle.ssr_facts_rows.specs.declared.places.PlaceRow.{PlaceRow}
-use Rattle.ssr_facts_rows.specs.declared.meanings.DefinitionKind.{DefinitionKind}
-use Rattle.ssr_facts_rows.specs.declared.meanings.DefinitionKind.TheVariants as kinds
-use Rattle.ssr_facts_rows.specs.declared.meanings.DefinitionRow.{DefinitionRow}
-use Rattle.ssr_facts_rows.specs.declared.meanings.ResolutionRow.{ResolutionRow}
-use Rattle.ssr_facts_rows.specs.declared.meanings.ResolutionRow.TheVariants as resolutions
-use Rattle.ssr_facts_rows.specs.declared.meanings.NameRow.{NameRow}
-use Rattle.ssr_facts_rows.specs.declared.meanings.MemberRow.{MemberRow}
-use Rattle.ssr_facts_rows.specs.declared.meanings.PathRow.{PathRow}
-use Rattle.ssr_facts_rows.specs.declared.meanings.SelfKindRow.{SelfKindRow}
-use Rattle.ssr_facts_rows.specs.declared.meanings.SelfKindRow.TheVariants as self_kinds
-use Rattle.ssr_facts_rows.specs.declared.meanings.MethodRow.{MethodRow}
-use Rattle.ssr_facts_rows.specs.declared.meanings.TypeRow.{TypeRow}
-use Rattle.ssr_facts_rows.specs.declared.meanings.PrintedRow.{PrintedRow}
+use Rattle.ssr_facts_rows.specs.declared.meanings.Definition.{Definition}
+use Rattle.ssr_facts_rows.specs.declared.meanings.NameKey.{NameKey}
+use Rattle.ssr_facts_rows.specs.declared.meanings.MemberKey.{MemberKey}
+use Rattle.ssr_facts_rows.specs.declared.meanings.PrintedKey.{PrintedKey}
+use Rattle.ssr_facts_rows.specs.declared.meanings.Method.{Method}
 
 -- ** Definitions.
 
-abbrev pub definition_kind : Data → Option DefinitionKind
-definition_kind = meaning
+abbrev pub def_kind : Data → Option DefKind
+def_kind = meaning
     (("module", kinds.Module) ∷
     ("function", kinds.Function) ∷
     ("adt", kinds.Adt) ∷
@@ -31,130 +34,125 @@ definition_kind = meaning
     ("static", kinds.Static) ∷
     ("trait", kinds.Trait) ∷
     ("type_alias", kinds.TypeAlias) ∷
-    ("builtin", kinds.Builtin) ∷
+    ("builtin", kinds.BuiltinType) ∷
     ("macro", kinds.Macro) ∷
     [])
 
 -- {"kind": kind, "assoc": flag, "self": flag, "type": number}, of which only the kind has to stand
-abbrev pub definition_row : Data → Option DefinitionRow
-definition_row d = do
+abbrev pub definition : Data → Option Definition
+definition d = do
   _ ← has_only (codes "kind" ∷ codes "assoc" ∷ codes "self" ∷ codes "type" ∷ []) d
-  kind ← required (codes "kind") definition_kind d
-  associated ← defaulted (codes "assoc") as_bool false d
+  kind ← required (codes "kind") def_kind d
+  assoc ← defaulted (codes "assoc") as_bool false d
   takes_self ← defaulted (codes "self") as_bool false d
-  type_number ← defaulted (codes "type") number 0 d
-  Some (record { kind = kind; associated = associated; takes_self = takes_self; type_number = type_number })
+  adt_type ← defaulted (codes "type") type_id (record { 0 = 0 }) d
+  Some (record { info = record { kind = kind; assoc = assoc; takes_self = takes_self }; adt_type = adt_type })
 
--- ** Resolutions.
+-- ** What paths stand for.
 
-abbrev pub resolution_kind : Data → Option (ℕ → ResolutionRow)
-resolution_kind = meaning
-    (("def", resolutions.Definition) ∷
-    ("local", resolutions.Local) ∷
-    ("typeparam", resolutions.TypeParameter) ∷
-    ("constparam", resolutions.ConstParameter) ∷
-    ("selftype", resolutions.SelfType) ∷
-    ("other", resolutions.Other) ∷
+abbrev pub res_kind : Data → Option (ℕ → Res)
+res_kind = meaning
+    (("def", λ n. things.Def (record { 0 = n })) ∷
+    ("local", things.Local) ∷
+    ("typeparam", things.TypeParam) ∷
+    ("constparam", things.ConstParam) ∷
+    ("selftype", things.SelfType) ∷
+    ("other", things.Other) ∷
     [])
 
 -- [kind, number]
-abbrev pub resolution_row : Data → Option ResolutionRow
-resolution_row d = do
+abbrev pub res : Data → Option Res
+res d = do
   (kind, number_of) ← two d
-  resolved ← resolution_kind kind
+  thing ← res_kind kind
   n ← number number_of
-  Some (resolved n)
+  Some (thing n)
 
 -- ** Names.
 
-pub record PlainName : Type 0 where
-  pub scope : ℕ
+pub record PlainNameKey : Type 0 where
+  pub scope : ScopeId
   pub path : List (List ℕ)
-  pub resolution : ResolutionRow
 
-abbrev pub plain_name : NameRow → PlainName
-plain_name row = record { scope = row.scope; path = map string_bytes row.path.items; resolution = row.resolution }
+abbrev pub plain_name_key : NameKey → PlainNameKey
+plain_name_key key = record { scope = key.scope; path = map string_bytes key.path.items }
+
+abbrev pub plain_name : NameKey × Res → PlainNameKey × Res
+plain_name row = (plain_name_key row.0, row.1)
 
 -- [scope, [text, ..], resolution]
-abbrev pub name_row : Data → Option PlainName
+abbrev pub name_row : Data → Option (PlainNameKey × Res)
 name_row d = do
-  (scope, path, resolution) ← three d
-  s ← number scope
+  (scope, path, thing) ← three d
+  s ← scope_id scope
   p ← rows as_str path
-  r ← resolution_row resolution
-  Some (record { scope = s; path = p; resolution = r })
+  r ← res thing
+  Some (record { scope = s; path = p }, r)
 
-pub record PlainMember : Type 0 where
-  pub scope : ℕ
-  pub definition : ℕ
+pub record PlainMemberKey : Type 0 where
+  pub scope : ScopeId
+  pub adt : DefId
   pub name : List ℕ
-  pub member : ℕ
 
-abbrev pub plain_member : MemberRow → PlainMember
-plain_member row = record { scope = row.scope; definition = row.definition; name = string_bytes row.name; member = row.member }
+abbrev pub plain_member_key : MemberKey → PlainMemberKey
+plain_member_key key = record { scope = key.scope; adt = key.adt; name = string_bytes key.name }
+
+abbrev pub plain_member : MemberKey × DefId → PlainMemberKey × DefId
+plain_member row = (plain_member_key row.0, row.1)
 
 -- [scope, definition, name, member]
-abbrev pub member_row : Data → Option PlainMember
+abbrev pub member_row : Data → Option (PlainMemberKey × DefId)
 member_row d = do
-  (scope, definition, name, member) ← four d
-  s ← number scope
-  o ← number definition
+  (scope, adt, name, member) ← four d
+  s ← scope_id scope
+  a ← def_id adt
   n ← as_str name
-  m ← number member
-  Some (record { scope = s; definition = o; name = n; member = m })
+  m ← def_id member
+  Some (record { scope = s; adt = a; name = n }, m)
 
 -- ** Nodes of trees.
 
 -- [tree, start, end, resolution]
-abbrev pub path_row : Data → Option PathRow
+abbrev pub path_row : Data → Option (PlaceRow × Res)
 path_row d = do
-  (tree, start, end, resolution) ← four d
+  (tree, start, end, thing) ← four d
   p ← place tree start end
-  r ← resolution_row resolution
-  Some (record { place = p; resolution = r })
+  r ← res thing
+  Some (p, r)
 
-abbrev pub self_kind : Data → Option SelfKindRow
+abbrev pub self_kind : Data → Option SelfKind
 self_kind = meaning (("owned", self_kinds.Owned) ∷ ("ref", self_kinds.Ref) ∷ ("mut", self_kinds.Mut) ∷ [])
 
 -- [tree, start, end, definition, self]
-abbrev pub method_row : Data → Option MethodRow
+abbrev pub method_row : Data → Option (PlaceRow × Method)
 method_row d = do
-  (tree, start, end, definition, receiver) ← five d
+  (tree, start, end, def, receiver) ← five d
   p ← place tree start end
-  m ← number definition
+  m ← def_id def
   s ← self_kind receiver
-  Some (record { place = p; definition = m; self_kind = s })
+  Some (p, record { def = m; self_kind = s })
 
-pub record PlainType : Type 0 where
-  pub place : PlaceRow
-  pub types : List ℕ
-
-abbrev pub plain_type : TypeRow → PlainType
-plain_type row = record { place = row.place; types = row.types.items }
+abbrev pub plain_types : PlaceRow × Vec TypeId Global → PlaceRow × List TypeId
+plain_types row = (row.0, row.1.items)
 
 -- [tree, start, end, [number, ..]]
-abbrev pub type_row : Data → Option PlainType
+abbrev pub type_row : Data → Option (PlaceRow × List TypeId)
 type_row d = do
   (tree, start, end, types) ← four d
   p ← place tree start end
-  ts ← rows number types
-  Some (record { place = p; types = ts })
+  ts ← rows type_id types
+  Some (p, ts)
 
 -- ** Printed paths.
 
-pub record PlainPrinted : Type 0 where
-  pub scope : ℕ
-  pub definition : ℕ
-  pub text : List ℕ
-
-abbrev pub plain_printed : PrintedRow → PlainPrinted
-plain_printed row = record { scope = row.scope; definition = row.definition; text = string_bytes row.text }
+abbrev pub plain_printed : PrintedKey × String Global → PrintedKey × List ℕ
+plain_printed row = (row.0, string_bytes row.1)
 
 -- [scope, definition, text]
-abbrev pub printed_row : Data → Option PlainPrinted
+abbrev pub printed_row : Data → Option (PrintedKey × List ℕ)
 printed_row d = do
-  (scope, definition, text) ← three d
-  s ← number scope
-  o ← number definition
+  (scope, def, text) ← three d
+  s ← scope_id scope
+  o ← def_id def
   t ← as_str text
-  Some (record { scope = s; definition = o; text = t })
+  Some (record { scope = s; def = o }, t)

@@ -1,14 +1,15 @@
 -- Places in trees and in files.
-use Rattle.std.specs.Prelude.{nat_le, Option, Some}
+use Rattle.std.specs.Prelude.{ℕ, nat_le, Option, Some}
 use Rattle.serde_json.specs.Data.{Data}
+use Rattle.ssr_syntax_kinds.specs.declared.range.TextRange.{TextRange}
+use Rattle.ssr_base_trees.specs.Origins.{Span}
+use Rattle.ssr_base_trees.specs.Workspace.{FileSpan}
+use Rattle.ssr_base_trees.specs.declared.ids.FilePosition.{FilePosition}
 use Rattle.ssr_facts_rows.specs.Fields.{◌>>=◌, when, number, two, three}
-use Rattle.ssr_facts_rows.specs.declared.places.SpanRow.{SpanRow}
 use Rattle.ssr_facts_rows.specs.declared.places.PlaceRow.{PlaceRow}
-use Rattle.ssr_facts_rows.specs.declared.places.PositionRow.{PositionRow}
-use Rattle.ssr_facts_rows.specs.declared.places.RangeRow.{RangeRow}
 
 -- a start, and an end that is not below it
-abbrev pub span : Data → Data → Option SpanRow
+abbrev pub span : Data → Data → Option Span
 span start end = do
   s ← number start
   e ← number end
@@ -28,18 +29,22 @@ place_row d = do
   (tree, start, end) ← three d
   place tree start end
 
+-- the bytes of a tree that are a macro call
+abbrev pub call_place : ℕ × TextRange → PlaceRow
+call_place call = record { tree = call.0; start = call.1.start; end = call.1.end }
+
 -- [file, start, end]
-abbrev pub range_row : Data → Option RangeRow
-range_row d = do
+abbrev pub file_span : Data → Option FileSpan
+file_span d = do
   (file, start, end) ← three d
   f ← number file
   range ← span start end
-  Some (record { file = f; start = range.start; end = range.end })
+  Some (record { file = f; span = range })
 
 -- [file, offset]
-abbrev pub position_row : Data → Option PositionRow
-position_row d = do
+abbrev pub file_position : Data → Option FilePosition
+file_position d = do
   (file, offset) ← two d
   f ← number file
   o ← number offset
-  Some (record { file = f; offset = o })
+  Some (record { file_id = record { 0 = f }; offset = o })

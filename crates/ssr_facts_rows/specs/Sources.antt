@@ -2,12 +2,12 @@
 use Rattle.std.specs.Prelude.{ℕ, Bool, List, [], ◌∷◌, map, Option, Some, None, codes, string_bytes}
 use Rattle.serde_json.specs.Data.{Data}
 use Rattle.serde_json.specs.Find.{as_str, as_bool}
+use Rattle.ssr_base_trees.specs.Origins.{Span, plain_origin}
 use Rattle.ssr_facts_rows.specs.Fields.{◌>>=◌, meaning, items, rows, has_only, required}
-use Rattle.ssr_facts_rows.specs.Places.{span, place_row}
-use Rattle.ssr_facts_rows.specs.declared.places.SpanRow.{SpanRow}
+use Rattle.ssr_facts_rows.specs.Places.{span, call_place, place_row}
 use Rattle.ssr_facts_rows.specs.declared.places.PlaceRow.{PlaceRow}
 use Rattle.ssr_facts_rows.specs.declared.sources.FileRow.{FileRow}
-use Rattle.ssr_facts_rows.specs.declared.sources.TokenRow.{TokenRow}
+use Rattle.ssr_facts_rows.specs.declared.sources.ExpansionToken.{ExpansionToken}
 use Rattle.ssr_facts_rows.specs.declared.sources.ExpansionRow.{ExpansionRow}
 use Rattle.ssr_facts_rows.specs.declared.sources.ExpansionKindRow.{ExpansionKindRow}
 use Rattle.ssr_facts_rows.specs.declared.sources.ExpansionKindRow.TheVariants as kinds
@@ -34,12 +34,12 @@ file_row d = do
 pub record PlainToken : Type 0 where
   pub text : List ℕ
   pub joint : Bool
-  pub origin : Option SpanRow
+  pub origin : Option Span
 
-abbrev pub plain_token : TokenRow → PlainToken
-plain_token row = record { text = string_bytes row.text; joint = row.joint; origin = row.origin }
+abbrev pub plain_token : ExpansionToken → PlainToken
+plain_token row = record { text = string_bytes row.text; joint = row.joint; origin = plain_origin row.origin }
 
-abbrev pub token : Data → Data → Option SpanRow → Option PlainToken
+abbrev pub token : Data → Data → Option Span → Option PlainToken
 token text joint origin = do
   t ← as_str text
   j ← as_bool joint
@@ -63,7 +63,7 @@ pub record PlainExpansion : Type 0 where
   pub tokens : List PlainToken
 
 abbrev pub plain_expansion : ExpansionRow → PlainExpansion
-plain_expansion row = record { call = row.call; kind = row.kind; tokens = map plain_token row.tokens.items }
+plain_expansion row = record { call = call_place row.call; kind = row.kind; tokens = map plain_token row.tokens.items }
 
 -- {"call": [tree, start, end], "kind": kind, "tokens": [token, ..]}
 abbrev pub expansion_row : Data → Option PlainExpansion

@@ -4,11 +4,12 @@ ghost use Rattle.ssr_facts_rows.specs.Facts.{facts_of, Tells};
 
 use crate::fields::has_only;
 use crate::from_json::{FromJson, optional, rows_at};
-use crate::meanings::{DefinitionRow, MemberRow, MethodRow, NameRow, PathRow, PrintedRow, TypeRow};
-use crate::places::{PlaceRow, PositionRow, RangeRow};
+use crate::meanings::{Definition, MemberKey, Method, NameKey, PrintedKey};
+use crate::places::PlaceRow;
 use crate::rows_error::RowsError;
 use crate::sources::{ExpansionRow, FileRow};
 use serde_json::Value;
+use ssr_base_trees::{DefId, FilePosition, FileRange, Res, TypeId};
 use std::alloc::Global;
 
 /// All rows of a facts file.
@@ -16,16 +17,19 @@ use std::alloc::Global;
 pub struct FactRows {
     pub files: Vec<FileRow>,
     pub expansions: Vec<ExpansionRow>,
-    pub definitions: Vec<DefinitionRow>,
+    pub definitions: Vec<Definition>,
     pub scopes: Vec<PlaceRow>,
-    pub names: Vec<NameRow>,
-    pub members: Vec<MemberRow>,
-    pub paths: Vec<PathRow>,
-    pub methods: Vec<MethodRow>,
-    pub types: Vec<TypeRow>,
-    pub printed: Vec<PrintedRow>,
-    pub position: Option<PositionRow>,
-    pub ranges: Vec<RangeRow>,
+    pub names: Vec<(NameKey, Res)>,
+    pub members: Vec<(MemberKey, DefId)>,
+    /// What paths stand for, by their places.
+    pub paths: Vec<(PlaceRow, Res)>,
+    /// What method calls call, by their places.
+    pub methods: Vec<(PlaceRow, Method)>,
+    /// The types of expressions, by their places.
+    pub types: Vec<(PlaceRow, Vec<TypeId>)>,
+    pub printed: Vec<(PrintedKey, String)>,
+    pub position: Option<FilePosition>,
+    pub ranges: Vec<FileRange>,
 }
 
 /// The keys of a facts file.

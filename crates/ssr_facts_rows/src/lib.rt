@@ -29,16 +29,14 @@
 mod facts;
 mod fields;
 mod from_json;
+mod ids;
 mod meanings;
 mod places;
 mod rows_error;
 mod sources;
 
 pub use facts::{FactRows, read_rows};
-pub use meanings::{
-    DefinitionKind, DefinitionRow, MemberRow, MethodRow, NameRow, PathRow, PrintedRow,
-    ResolutionRow, SelfKindRow, TypeRow,
-};
-pub use places::{PlaceRow, PositionRow, RangeRow, SpanRow};
+pub use meanings::{Definition, MemberKey, Method, NameKey, PrintedKey};
+pub use places::PlaceRow;
 pub use rows_error::RowsError;
-pub use sources::{ExpansionKindRow, ExpansionRow, FileRow, TokenRow};
+pub use sources::{ExpansionKindRow, ExpansionRow, ExpansionToken, FileRow};

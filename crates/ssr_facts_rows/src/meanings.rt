@@ -1,309 +1,267 @@
-//! What names mean, and which types expressions have.
+//! What names mean, and which types expressions have. A row is a key, or the place of a node, and what is known of it.
 
 use crate::fields::{five, four, has_only, text, three, two};
 use crate::from_json::{FromJson, defaulted, required};
 use crate::places::{PlaceRow, place};
 use crate::rows_error::RowsError;
 use serde_json::Value;
+use ssr_base_trees::{DefId, DefInfo, DefKind, Res, ScopeId, SelfKind, TypeId};
 use std::alloc::Global;
 
-/// What a definition is.
-#[derive(Clone, Copy, Debug)]
-pub enum DefinitionKind {
-    Module,
-    Function,
-    Adt,
-    Variant,
-    Const,
-    Static,
-    Trait,
-    TypeAlias,
-    Builtin,
-    Macro,
+/// What is known of a definition, and the type that it declares.
+#[derive(Clone, Copy, Debug, PartialEq, Eq)]
+pub struct Definition {
+    pub info: DefInfo,
+    pub adt_type: TypeId,
 }
 
-/// A definition.
-#[derive(Clone, Copy, Debug)]
-pub struct DefinitionRow {
-    pub kind: DefinitionKind,
-    /// Whether the definition is an associated item.
-    pub associated: bool,
-    /// Whether the definition takes `self`.
-    pub takes_self: bool,
-    /// The number of the type that goes with the definition.
-    pub type_number: u32,
-}
-
-/// What a name means.
-#[derive(Clone, Copy, Debug)]
-pub enum ResolutionRow {
-    Definition(u32),
-    Local(u32),
-    TypeParameter(u32),
-    ConstParameter(u32),
-    SelfType(u32),
-    Other(u32),
-}
-
-/// What a path means in a scope.
-#[derive(Debug, Drop)]
-pub struct NameRow {
-    pub scope: u32,
+/// A path, as the texts of its segments, that is written in a scope.
+#[derive(Debug, PartialEq, Eq, PartialOrd, Ord, Drop)]
+pub struct NameKey {
+    pub scope: ScopeId,
     pub path: Vec<String>,
-    pub resolution: ResolutionRow,
 }
 
-/// The member of a name that a definition has, seen from a scope.
-#[derive(Debug, Drop)]
-pub struct MemberRow {
-    pub scope: u32,
-    pub definition: u32,
+/// The name of a member of a type, as a scope sees it.
+#[derive(Debug, PartialEq, Eq, PartialOrd, Ord, Drop)]
+pub struct MemberKey {
+    pub scope: ScopeId,
+    pub adt: DefId,
     pub name: String,
-    pub member: u32,
 }
 
-/// What the path at a place means.
-#[derive(Clone, Copy, Debug)]
-pub struct PathRow {
-    pub place: PlaceRow,
-    pub resolution: ResolutionRow,
+/// A definition, as a scope reaches it.
+#[derive(Clone, Copy, Debug, PartialEq, Eq, PartialOrd, Ord)]
+pub struct PrintedKey {
+    pub scope: ScopeId,
+    pub def: DefId,
 }
 
-/// How a method takes `self`: as a value, by `&` or by `&mut`.
-#[derive(Clone, Copy, Debug)]
-pub enum SelfKindRow {
-    Owned,
-    Ref,
-    Mut,
+/// What a method call calls, and how that takes the value that it is called on.
+#[derive(Clone, Copy, Debug, PartialEq, Eq)]
+pub struct Method {
+    pub def: DefId,
+    pub self_kind: SelfKind,
 }
 
-/// Which method the call at a place calls.
-#[derive(Clone, Copy, Debug)]
-pub struct MethodRow {
-    pub place: PlaceRow,
-    pub definition: u32,
-    pub self_kind: SelfKindRow,
-}
+impl FromJson for DefKind {
+    ghost use Rattle.ssr_base_trees.specs.declared.semantics.DefKind.{DefKind};
+    ghost use Rattle.ssr_facts_rows.specs.Meanings.{def_kind};
 
-/// The numbers of the types of the expression at a place.
-#[derive(Debug, Drop)]
-pub struct TypeRow {
-    pub place: PlaceRow,
-    pub types: Vec<u32>,
-}
-
-/// The path by which a scope names a definition.
-#[derive(Debug, Drop)]
-pub struct PrintedRow {
-    pub scope: u32,
-    pub definition: u32,
-    pub text: String,
-}
-
-impl FromJson for DefinitionKind {
-    ghost use Rattle.ssr_facts_rows.specs.declared.meanings.DefinitionKind.{DefinitionKind};
-    ghost use Rattle.ssr_facts_rows.specs.Meanings.{definition_kind};
-
-    ghost Plain = { DefinitionKind };
+    ghost Plain = { DefKind };
 
     ghost plain = { λ kind. kind };
 
-    ghost reading = { definition_kind };
+    ghost reading = { def_kind };
 
-    fn from_json(_alloc: Global, value: &Value) -> Result<DefinitionKind, RowsError> {
+    fn from_json(_alloc: Global, value: &Value) -> Result<DefKind, RowsError> {
         match text(value)? {
-            "module" => Ok(DefinitionKind::Module),
-            "function" => Ok(DefinitionKind::Function),
-            "adt" => Ok(DefinitionKind::Adt),
-            "variant" => Ok(DefinitionKind::Variant),
-            "const" => Ok(DefinitionKind::Const),
-            "static" => Ok(DefinitionKind::Static),
-            "trait" => Ok(DefinitionKind::Trait),
-            "type_alias" => Ok(DefinitionKind::TypeAlias),
-            "builtin" => Ok(DefinitionKind::Builtin),
-            "macro" => Ok(DefinitionKind::Macro),
+            "module" => Ok(DefKind::Module),
+            "function" => Ok(DefKind::Function),
+            "adt" => Ok(DefKind::Adt),
+            "variant" => Ok(DefKind::Variant),
+            "const" => Ok(DefKind::Const),
+            "static" => Ok(DefKind::Static),
+            "trait" => Ok(DefKind::Trait),
+            "type_alias" => Ok(DefKind::TypeAlias),
+            "builtin" => Ok(DefKind::BuiltinType),
+            "macro" => Ok(DefKind::Macro),
             _ => Err(RowsError::Shape),
         }
     }
 }
 
-impl FromJson for DefinitionRow {
-    ghost use Rattle.ssr_facts_rows.specs.declared.meanings.DefinitionRow.{DefinitionRow};
-    ghost use Rattle.ssr_facts_rows.specs.Meanings.{definition_row};
+impl FromJson for Definition {
+    ghost use Rattle.ssr_facts_rows.specs.declared.meanings.Definition.{Definition};
+    ghost use Rattle.ssr_facts_rows.specs.Meanings.{definition};
 
-    ghost Plain = { DefinitionRow };
+    ghost Plain = { Definition };
 
     ghost plain = { λ row. row };
 
-    ghost reading = { definition_row };
+    ghost reading = { definition };
 
-    fn from_json(alloc: Global, value: &Value) -> Result<DefinitionRow, RowsError> {
+    fn from_json(alloc: Global, value: &Value) -> Result<Definition, RowsError> {
         has_only(&["kind", "assoc", "self", "type"], value)?;
-        Ok(DefinitionRow {
-            kind: required(alloc, value, "kind")?,
-            associated: defaulted(alloc, value, "assoc", false)?,
-            takes_self: defaulted(alloc, value, "self", false)?,
-            type_number: defaulted(alloc, value, "type", 0)?,
+        Ok(Definition {
+            info: DefInfo {
+                kind: required(alloc, value, "kind")?,
+                assoc: defaulted(alloc, value, "assoc", false)?,
+                takes_self: defaulted(alloc, value, "self", false)?,
+            },
+            adt_type: defaulted(alloc, value, "type", TypeId(0))?,
         })
     }
 }
 
-impl FromJson for ResolutionRow {
-    ghost use Rattle.ssr_facts_rows.specs.declared.meanings.ResolutionRow.{ResolutionRow};
-    ghost use Rattle.ssr_facts_rows.specs.Meanings.{resolution_row};
+impl FromJson for Res {
+    ghost use Rattle.ssr_base_trees.specs.declared.semantics.Res.{Res};
+    ghost use Rattle.ssr_facts_rows.specs.Meanings.{res};
 
-    ghost Plain = { ResolutionRow };
+    ghost Plain = { Res };
 
-    ghost plain = { λ resolution. resolution };
+    ghost plain = { λ res. res };
 
-    ghost reading = { resolution_row };
+    ghost reading = { res };
 
-    fn from_json(alloc: Global, value: &Value) -> Result<ResolutionRow, RowsError> {
+    fn from_json(alloc: Global, value: &Value) -> Result<Res, RowsError> {
         let (kind, number) = two(value)?;
         let number = u32::from_json(alloc, number)?;
         match text(kind)? {
-            "def" => Ok(ResolutionRow::Definition(number)),
-            "local" => Ok(ResolutionRow::Local(number)),
-            "typeparam" => Ok(ResolutionRow::TypeParameter(number)),
-            "constparam" => Ok(ResolutionRow::ConstParameter(number)),
-            "selftype" => Ok(ResolutionRow::SelfType(number)),
-            "other" => Ok(ResolutionRow::Other(number)),
+            "def" => Ok(Res::Def(DefId(number))),
+            "local" => Ok(Res::Local(number)),
+            "typeparam" => Ok(Res::TypeParam(number)),
+            "constparam" => Ok(Res::ConstParam(number)),
+            "selftype" => Ok(Res::SelfType(number)),
+            "other" => Ok(Res::Other(number)),
             _ => Err(RowsError::Shape),
         }
     }
 }
 
-impl FromJson for NameRow {
-    ghost use Rattle.ssr_facts_rows.specs.Meanings.{PlainName, plain_name, name_row};
+/// What a path stands for in a scope.
+impl FromJson for (NameKey, Res) {
+    ghost use Rattle.ssr_base_trees.specs.declared.semantics.Res.{Res};
+    ghost use Rattle.ssr_facts_rows.specs.Meanings.{PlainNameKey, plain_name, name_row};
 
-    ghost Plain = { PlainName };
+    ghost Plain = { PlainNameKey × Res };
 
     ghost plain = { plain_name };
 
     ghost reading = { name_row };
 
-    fn from_json(alloc: Global, value: &Value) -> Result<NameRow, RowsError> {
-        let (scope, path, resolution) = three(value)?;
-        Ok(NameRow {
-            scope: u32::from_json(alloc, scope)?,
+    fn from_json(alloc: Global, value: &Value) -> Result<(NameKey, Res), RowsError> {
+        let (scope, path, res) = three(value)?;
+        let key = NameKey {
+            scope: ScopeId::from_json(alloc, scope)?,
             path: Vec::from_json(alloc, path)?,
-            resolution: ResolutionRow::from_json(alloc, resolution)?,
-        })
+        };
+        Ok((key, Res::from_json(alloc, res)?))
     }
 }
 
-impl FromJson for MemberRow {
-    ghost use Rattle.ssr_facts_rows.specs.Meanings.{PlainMember, plain_member, member_row};
+/// The member of a name that a type has, seen from a scope.
+impl FromJson for (MemberKey, DefId) {
+    ghost use Rattle.ssr_base_trees.specs.declared.ids.DefId.{DefId};
+    ghost use Rattle.ssr_facts_rows.specs.Meanings.{PlainMemberKey, plain_member, member_row};
 
-    ghost Plain = { PlainMember };
+    ghost Plain = { PlainMemberKey × DefId };
 
     ghost plain = { plain_member };
 
     ghost reading = { member_row };
 
-    fn from_json(alloc: Global, value: &Value) -> Result<MemberRow, RowsError> {
-        let (scope, definition, name, member) = four(value)?;
-        Ok(MemberRow {
-            scope: u32::from_json(alloc, scope)?,
-            definition: u32::from_json(alloc, definition)?,
+    fn from_json(alloc: Global, value: &Value) -> Result<(MemberKey, DefId), RowsError> {
+        let (scope, adt, name, member) = four(value)?;
+        let key = MemberKey {
+            scope: ScopeId::from_json(alloc, scope)?,
+            adt: DefId::from_json(alloc, adt)?,
             name: String::from_json(alloc, name)?,
-            member: u32::from_json(alloc, member)?,
-        })
+        };
+        Ok((key, DefId::from_json(alloc, member)?))
     }
 }
 
-impl FromJson for PathRow {
-    ghost use Rattle.ssr_facts_rows.specs.declared.meanings.PathRow.{PathRow};
+/// What the path at a place stands for.
+impl FromJson for (PlaceRow, Res) {
+    ghost use Rattle.ssr_base_trees.specs.declared.semantics.Res.{Res};
+    ghost use Rattle.ssr_facts_rows.specs.declared.places.PlaceRow.{PlaceRow};
     ghost use Rattle.ssr_facts_rows.specs.Meanings.{path_row};
 
-    ghost Plain = { PathRow };
+    ghost Plain = { PlaceRow × Res };
 
     ghost plain = { λ row. row };
 
     ghost reading = { path_row };
 
-    fn from_json(alloc: Global, value: &Value) -> Result<PathRow, RowsError> {
-        let (tree, start, end, resolution) = four(value)?;
-        Ok(PathRow {
-            place: place(alloc, tree, start, end)?,
-            resolution: ResolutionRow::from_json(alloc, resolution)?,
-        })
+    fn from_json(alloc: Global, value: &Value) -> Result<(PlaceRow, Res), RowsError> {
+        let (tree, start, end, res) = four(value)?;
+        let place = place(alloc, tree, start, end)?;
+        Ok((place, Res::from_json(alloc, res)?))
     }
 }
 
-impl FromJson for SelfKindRow {
-    ghost use Rattle.ssr_facts_rows.specs.declared.meanings.SelfKindRow.{SelfKindRow};
+impl FromJson for SelfKind {
+    ghost use Rattle.ssr_base_trees.specs.declared.semantics.SelfKind.{SelfKind};
     ghost use Rattle.ssr_facts_rows.specs.Meanings.{self_kind};
 
-    ghost Plain = { SelfKindRow };
+    ghost Plain = { SelfKind };
 
     ghost plain = { λ kind. kind };
 
     ghost reading = { self_kind };
 
-    fn from_json(_alloc: Global, value: &Value) -> Result<SelfKindRow, RowsError> {
+    fn from_json(_alloc: Global, value: &Value) -> Result<SelfKind, RowsError> {
         match text(value)? {
-            "owned" => Ok(SelfKindRow::Owned),
-            "ref" => Ok(SelfKindRow::Ref),
-            "mut" => Ok(SelfKindRow::Mut),
+            "owned" => Ok(SelfKind::Owned),
+            "ref" => Ok(SelfKind::Ref),
+            "mut" => Ok(SelfKind::Mut),
             _ => Err(RowsError::Shape),
         }
     }
 }
 
-impl FromJson for MethodRow {
-    ghost use Rattle.ssr_facts_rows.specs.declared.meanings.MethodRow.{MethodRow};
+/// Which method the call at a place calls.
+impl FromJson for (PlaceRow, Method) {
+    ghost use Rattle.ssr_facts_rows.specs.declared.meanings.Method.{Method};
+    ghost use Rattle.ssr_facts_rows.specs.declared.places.PlaceRow.{PlaceRow};
     ghost use Rattle.ssr_facts_rows.specs.Meanings.{method_row};
 
-    ghost Plain = { MethodRow };
+    ghost Plain = { PlaceRow × Method };
 
     ghost plain = { λ row. row };
 
     ghost reading = { method_row };
 
-    fn from_json(alloc: Global, value: &Value) -> Result<MethodRow, RowsError> {
-        let (tree, start, end, definition, self_kind) = five(value)?;
-        Ok(MethodRow {
-            place: place(alloc, tree, start, end)?,
-            definition: u32::from_json(alloc, definition)?,
-            self_kind: SelfKindRow::from_json(alloc, self_kind)?,
-        })
+    fn from_json(alloc: Global, value: &Value) -> Result<(PlaceRow, Method), RowsError> {
+        let (tree, start, end, def, self_kind) = five(value)?;
+        let place = place(alloc, tree, start, end)?;
+        let method = Method {
+            def: DefId::from_json(alloc, def)?,
+            self_kind: SelfKind::from_json(alloc, self_kind)?,
+        };
+        Ok((place, method))
     }
 }
 
-impl FromJson for TypeRow {
-    ghost use Rattle.ssr_facts_rows.specs.Meanings.{PlainType, plain_type, type_row};
+/// The types of the expression at a place.
+impl FromJson for (PlaceRow, Vec<TypeId>) {
+    ghost use Rattle.std.specs.Prelude.{List};
+    ghost use Rattle.ssr_base_trees.specs.declared.ids.TypeId.{TypeId};
+    ghost use Rattle.ssr_facts_rows.specs.declared.places.PlaceRow.{PlaceRow};
+    ghost use Rattle.ssr_facts_rows.specs.Meanings.{plain_types, type_row};
 
-    ghost Plain = { PlainType };
+    ghost Plain = { PlaceRow × List TypeId };
 
-    ghost plain = { plain_type };
+    ghost plain = { plain_types };
 
     ghost reading = { type_row };
 
-    fn from_json(alloc: Global, value: &Value) -> Result<TypeRow, RowsError> {
+    fn from_json(alloc: Global, value: &Value) -> Result<(PlaceRow, Vec<TypeId>), RowsError> {
         let (tree, start, end, types) = four(value)?;
-        Ok(TypeRow {
-            place: place(alloc, tree, start, end)?,
-            types: Vec::from_json(alloc, types)?,
-        })
+        let place = place(alloc, tree, start, end)?;
+        Ok((place, Vec::from_json(alloc, types)?))
     }
 }
 
-impl FromJson for PrintedRow {
-    ghost use Rattle.ssr_facts_rows.specs.Meanings.{PlainPrinted, plain_printed, printed_row};
+/// The path by which a scope reaches a definition.
+impl FromJson for (PrintedKey, String) {
+    ghost use Rattle.std.specs.Prelude.{List, ℕ};
+    ghost use Rattle.ssr_facts_rows.specs.declared.meanings.PrintedKey.{PrintedKey};
+    ghost use Rattle.ssr_facts_rows.specs.Meanings.{plain_printed, printed_row};
 
-    ghost Plain = { PlainPrinted };
+    ghost Plain = { PrintedKey × List ℕ };
 
     ghost plain = { plain_printed };
 
     ghost reading = { printed_row };
 
-    fn from_json(alloc: Global, value: &Value) -> Result<PrintedRow, RowsError> {
-        let (scope, definition, text) = three(value)?;
-        Ok(PrintedRow {
-            scope: u32::from_json(alloc, scope)?,
-            definition: u32::from_json(alloc, definition)?,
-            text: String::from_json(alloc, text)?,
-        })
+    fn from_json(alloc: Global, value: &Value) -> Result<(PrintedKey, String), RowsError> {
+        let (scope, def, text) = three(value)?;
+        let key = PrintedKey {
+            scope: ScopeId::from_json(alloc, scope)?,
+            def: DefId::from_json(alloc, def)?,
+        };
+        Ok((key, String::from_json(alloc, text)?))
     }
 }

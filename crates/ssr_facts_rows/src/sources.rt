@@ -2,14 +2,16 @@
 
 ghost use Rattle.std.specs.Prelude.{Option};
 ghost use Rattle.serde_json.specs.View.{view};
+ghost use Rattle.ssr_base_trees.specs.Origins.{plain_origin};
 ghost use Rattle.ssr_facts_rows.specs.Private.Answers.{Gives};
 ghost use Rattle.ssr_facts_rows.specs.Sources.{plain_token, token};
 
 use crate::fields::{has_only, items, text};
 use crate::from_json::{FromJson, required};
-use crate::places::{PlaceRow, SpanRow, span};
+use crate::places::span;
 use crate::rows_error::RowsError;
 use serde_json::Value;
+use ssr_syntax_kinds::TextRange;
 use std::alloc::Global;
 
 /// A file.
@@ -21,11 +23,11 @@ pub struct FileRow {
 
 /// A token of an expansion, and whence in the file at the top it comes, if from there.
 #[derive(Debug, Drop)]
-pub struct TokenRow {
+pub struct ExpansionToken {
     pub text: String,
     /// Whether the next token follows with nothing in between.
     pub joint: bool,
-    pub origin: Option<SpanRow>,
+    pub origin: Option<TextRange>,
 }
 
 /// What a macro call stands for.
@@ -39,9 +41,10 @@ pub enum ExpansionKindRow {
 /// A macro call, and the tokens that it stands for.
 #[derive(Debug, Drop)]
 pub struct ExpansionRow {
-    pub call: PlaceRow,
+    /// The tree of the call, and the call's range in it.
+    pub call: (u32, TextRange),
     pub kind: ExpansionKindRow,
-    pub tokens: Vec<TokenRow>,
+    pub tokens: Vec<ExpansionToken>,
 }
 
 impl FromJson for FileRow {
@@ -67,18 +70,18 @@ fn token(
     alloc: Global,
     text: &Value,
     joint: &Value,
-    origin: Option<SpanRow>,
-) -> Result<TokenRow, RowsError>
-    ensures { Gives plain_token (token (view text.now) (view joint.now) origin) result }
+    origin: Option<TextRange>,
+) -> Result<ExpansionToken, RowsError>
+    ensures { Gives plain_token (token (view text.now) (view joint.now) (plain_origin origin)) result }
 {
-    Ok(TokenRow {
+    Ok(ExpansionToken {
         text: String::from_json(alloc, text)?,
         joint: bool::from_json(alloc, joint)?,
         origin,
     })
 }
 
-impl FromJson for TokenRow {
+impl FromJson for ExpansionToken {
     ghost use Rattle.ssr_facts_rows.specs.Sources.{PlainToken, plain_token, token_row};
 
     ghost Plain = { PlainToken };
@@ -87,7 +90,7 @@ impl FromJson for TokenRow {
 
     ghost reading = { token_row };
 
-    fn from_json(alloc: Global, value: &Value) -> Result<TokenRow, RowsError> {
+    fn from_json(alloc: Global, value: &Value) -> Result<ExpansionToken, RowsError> {
         match items(value)? {
             [text, joint] => token(alloc, text, joint, None),
             [text, joint, start, end] => {

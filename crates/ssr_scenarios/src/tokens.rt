@@ -3,7 +3,7 @@
 use crate::lists::separator;
 use crate::told::Told;
 use anyhow::{Result, bail};
-use ssr_facts_rows::{TokenRow, read_rows};
+use ssr_facts_rows::{ExpansionToken, read_rows};
 use ssr_syntax::{ExpToken, RawToken, lex};
 use ssr_syntax_kinds::TextRange;
 use std::alloc::{AllocError, Global};
@@ -83,7 +83,7 @@ fn expansion(alloc: Global, told: &str) -> Result<String, AllocError> {
     )
 }
 
-fn tokens_of(alloc: Global, told: &[TokenRow]) -> Result<Vec<ExpToken>, AllocError> {
+fn tokens_of(alloc: Global, told: &[ExpansionToken]) -> Result<Vec<ExpToken>, AllocError> {
     let mut tokens = Vec::new(alloc);
     for token in told {
         tokens.push(token_of(alloc, token.text.as_str(), token.joint)?)?;

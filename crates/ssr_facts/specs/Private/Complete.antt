@@ -8,7 +8,7 @@ use Rattle.std.specs.Option.{option_map}
 use Rattle.ssr_base_trees.specs.declared.ids.NodeId.{NodeId}
 use Rattle.ssr_base_trees.specs.declared.ids.DefId.{DefId}
 use Rattle.ssr_base_trees.specs.declared.semantics.Res.TheVariants as res
-use Rattle.ssr_facts.specs.declared.tables.Method.{Method}
+use Rattle.ssr_facts_rows.specs.declared.meanings.Method.{Method}
 use Rattle.ssr_facts.specs.declared.maps.Maps.{Maps}
 use Rattle.ssr_base_trees.specs.Meanings.{IsComplete}
 use Rattle.ssr_base_trees.specs.Workspace.{same_id}

@@ -1,5 +1,5 @@
 -- Private: what is found or told of the nodes of one tree.
-use Rattle.std.specs.Prelude.{ℕ, ◌==◌, ◌&&◌, nat_lt, if◌then◌else◌, List, map, Vec, Option, None}
+use Rattle.std.specs.Prelude.{ℕ, ◌==◌, ◌&&◌, nat_lt, if◌then◌else◌, List, Vec, Option, None}
 use Rattle.std.specs.Global.{Global}
 use Rattle.std.specs.BTreeMap.{BTreeMap, get}
 use Rattle.std.specs.List.{find}
@@ -14,7 +14,6 @@ use Rattle.ssr_base_trees.specs.Workspace.{node_id, same_id}
 use Rattle.ssr_facts_rows.specs.declared.places.PlaceRow.{PlaceRow}
 use Rattle.ssr_facts_rows.specs.contracts.places.PlaceRowOrd.TheImpl as place_order
 use Rattle.ssr_facts.specs.Nodes.{place_in, stands_at}
-use Rattle.ssr_facts.specs.Told.{type_of}
 
 -- what a map has at a place
 abbrev pub at_place : {V : Type 0} → BTreeMap PlaceRow V → PlaceRow → Option V
@@ -41,5 +40,5 @@ abbrev pub types_at : List (NodeId × Vec TypeId Global) → NodeId → Option (
 types_at told x = option_map (λ v. v.items) (lookup (same_id x) told)
 
 -- the types of the node of a number, by its place
-abbrev pub types_of_node : BTreeMap PlaceRow (Vec ℕ Global) → ℕ → Syntax → ℕ → Option (List TypeId)
-types_of_node types t tree n = option_map (λ v. map type_of v.items) (at_place types (place_at t tree n))
+abbrev pub types_of_node : BTreeMap PlaceRow (Vec TypeId Global) → ℕ → Syntax → ℕ → Option (List TypeId)
+types_of_node types t tree n = option_map (λ v. v.items) (at_place types (place_at t tree n))

@@ -1,5 +1,5 @@
 -- Private: steps of reading a facts file.
-use Rattle.std.specs.Prelude.{◌≡◌, ◌&&◌, Bool, true, false, List, map, Option, Some, None, is_some, Result, Ok, Err, String}
+use Rattle.std.specs.Prelude.{◌≡◌, ◌&&◌, Bool, true, false, List, Option, Some, None, is_some, Result, Ok, Err, String}
 use Rattle.std.specs.Global.{Global}
 use Rattle.std.specs.List.{list_all}
 use Rattle.ssr_base.specs.declared.building.Expansion.{Expansion}
@@ -14,12 +14,6 @@ use Rattle.ssr_facts.specs.declared.facts_error.FactsError.{FactsError}
 use Rattle.ssr_facts.specs.declared.facts_error.FactsError.TheVariants as errors
 use Rattle.ssr_facts.specs.Naming.{is_tree, is_scope, is_definition, is_resolution, all_named}
 use Rattle.ssr_facts.specs.Told.{meanings_told}
-use Rattle.ssr_facts.specs.Private.Sources.{expansion_mended, range_told}
-
--- no start of a range of bytes stands above its end
-pub record AreOrdered (facts : PlainFacts) : Type 0 where
-  pub expansions : map expansion_mended facts.expansions ≡ facts.expansions
-  pub ranges : map range_told facts.ranges ≡ facts.ranges
 
 -- an answer is what is built; want of memory says nothing
 abbrev pub Builds : List (String Global) → List Expansion → Result Workspace FactsError → Type 0
@@ -38,9 +32,9 @@ abbrev pub rows_named : Workspace → FactRows → (PlaceRow → Option NodeId) 
 rows_named w rows path call =
     let facts = plain_facts rows in
     list_all (λ row. is_tree w row.tree) rows.scopes.items
-    && (list_all (λ row. is_scope facts row.scope && is_resolution facts row.resolution) rows.names.items
-    && (list_all (λ row. is_scope facts row.scope && (is_definition facts row.definition && is_definition facts row.member)) rows.members.items
-    && (list_all (λ row. is_some (path row.place) && is_resolution facts row.resolution) rows.paths.items
-    && (list_all (λ row. is_some (call row.place) && is_definition facts row.definition) rows.methods.items
-    && (list_all (λ row. is_tree w row.place.tree) rows.types.items
-    && list_all (λ row. is_scope facts row.scope && is_definition facts row.definition) rows.printed.items)))))
+    && (list_all (λ row. is_scope facts row.0.scope && is_resolution facts row.1) rows.names.items
+    && (list_all (λ row. is_scope facts row.0.scope && (is_definition facts row.0.adt && is_definition facts row.1)) rows.members.items
+    && (list_all (λ row. is_some (path row.0) && is_resolution facts row.1) rows.paths.items
+    && (list_all (λ row. is_some (call row.0) && is_definition facts row.1.def) rows.methods.items
+    && (list_all (λ row. is_tree w row.0.tree) rows.types.items
+    && list_all (λ row. is_scope facts row.0.scope && is_definition facts row.0.def) rows.printed.items)))))

@@ -1,9 +1,9 @@
-use Rattle.std.proofs.Common.{ℕ, map, sym, ap, ◌∙◌}
+use Rattle.std.proofs.Common.{sym, ap, ◌∙◌}
 use Rattle.std.specs.Prelude.{Vec}
 use Rattle.std.specs.Global.{Global}
 use Rattle.std.specs.Option.{option_map}
+use Rattle.ssr_base_trees.specs.declared.ids.TypeId.{TypeId}
 use Rattle.ssr_facts_rows.specs.declared.places.PlaceRow.{PlaceRow}
-use Rattle.ssr_facts.specs.Told.{type_of}
 use Rattle.ssr_facts.specs.Private.Nodes.{at_place, types_at}
 use Rattle.ssr_facts.proofs.Places.{nodes_told, nodes_untold, all_told}
 use Rattle.ssr_facts.proofs.types.types_of_nodes.Goals as goal
@@ -11,7 +11,7 @@ use Rattle.ssr_facts.proofs.types.types_of_nodes.Goals.{in-Some+in_ok-add_types,
 
 pub loop-number-preserved : goal.loop-number-preserved
 loop-number-preserved c =
-    let tell = λ (place : PlaceRow). option_map (λ (v : Vec ℕ Global). map type_of v.items) (at_place c.args.by_place.now place) in
+    let tell = λ (place : PlaceRow). option_map (λ (v : Vec TypeId Global). v.items) (at_place c.args.by_place.now place) in
     λ x. elim c.match-tree.branch [
       | in-Some+in_ok-add_types w ↦
           nodes_told c.args.workspace.now c.loop-number.number tell x (types_at c.loop-number.told.items x) (types_at c.match-tree.told.items x) (c.loop-number.invariant x)
@@ -23,5 +23,5 @@ loop-number-preserved c =
 
 pub returns : goal.returns
 returns c =
-    λ x. all_told c.args.workspace.now c.requires (λ (place : PlaceRow). option_map (λ (v : Vec ℕ Global). map type_of v.items) (at_place c.args.by_place.now place)) x c.loop-number.number
+    λ x. all_told c.args.workspace.now c.requires (λ (place : PlaceRow). option_map (λ (v : Vec TypeId Global). v.items) (at_place c.args.by_place.now place)) x c.loop-number.number
     (types_at c.loop-number.told.items x) c.loop-number-test.false (c.loop-number.invariant x)

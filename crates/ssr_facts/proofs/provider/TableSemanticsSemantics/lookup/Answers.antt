@@ -1,6 +1,6 @@
 use Rattle.std.proofs.Common.{sym, ap, ◌∙◌}
 use Rattle.std.specs.Map.{lookup}
-use Rattle.ssr_facts.specs.declared.tables.NameKey.{NameKey}
+use Rattle.ssr_facts_rows.specs.declared.meanings.NameKey.{NameKey}
 use Rattle.ssr_facts.specs.Tables.{is_name}
 use Rattle.ssr_facts.proofs.Keys.{found_name}
 use Rattle.ssr_facts.proofs.provider.TableSemanticsSemantics.lookup.Goals as goal

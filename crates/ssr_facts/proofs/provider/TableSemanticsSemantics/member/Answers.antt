@@ -1,6 +1,6 @@
 use Rattle.std.proofs.Common.{sym, ap, ◌∙◌}
 use Rattle.std.specs.Map.{lookup}
-use Rattle.ssr_facts.specs.declared.tables.MemberKey.{MemberKey}
+use Rattle.ssr_facts_rows.specs.declared.meanings.MemberKey.{MemberKey}
 use Rattle.ssr_facts.specs.Tables.{is_member}
 use Rattle.ssr_facts.proofs.Keys.{found_member}
 use Rattle.ssr_facts.proofs.provider.TableSemanticsSemantics.member.Goals as goal
