@@ -10,6 +10,7 @@ use crate::flattened::flatten_last;
 use ide_ssr_rules::Var;
 use ssr_base_trees::{FileRange, NodeId, SelfKind};
 use std::alloc::{AllocError, Global};
+use std::mem;
 
 /// The matches of a search: those that stand in no placeholder of another one, by file, start and end, rule, tree and node. The
 /// others stand below them.
@@ -37,39 +38,42 @@ impl<'a> SsrMatches<'a> {
     }
 }
 
-/// Moves the matches in the placeholders to those that are left.
-fn leave_inner<'a>(placeholders: Vec<PlaceholderMatch<'a>>, left: &mut Vec<Match<'a>>) {
-    for placeholder in placeholders {
-        let PlaceholderMatch {
-            var: _,
-            range: _,
-            deref_count: _,
-            self_kind: _,
-            mut inner,
-        } = placeholder;
-        // Where there is no memory for them they are dropped here, level by level on the stack. One alone always
-        // has the place of the match that held it.
-        let _ = left.append(&mut inner);
+/// Moves the matches in the placeholders of a match to those that are left, as far as there is memory for them.
+fn leave_inner<'a>(m: &mut Match<'a>, left: &mut Vec<Match<'a>>) {
+    for placeholder in m.placeholders.iter_mut() {
+        let _ = left.append(&mut placeholder.inner);
     }
 }
 
-/// Drops the matches one by one, and those in them.
+/// Exchanges the matches in the first placeholder of a match that has some with those that are left. Says whether there is one.
+fn exchange_inner<'a>(m: &mut Match<'a>, left: &mut Vec<Match<'a>>) -> bool {
+    for placeholder in m.placeholders.iter_mut() {
+        if !placeholder.inner.is_empty() {
+            mem::swap(&mut placeholder.inner, left);
+            return true;
+        }
+    }
+    false
+}
+
+/// Drops the matches one by one, and those in them. Where there is no memory for the list of those that are left, a match
+/// waits among the ones in it, in the place of the last of them, and has what was left in their place.
 fn drop_nested(matches: Vec<Match<'_>>) {
     let mut left = matches;
+    let Some(mut m) = left.pop() else {
+        return;
+    };
     // There are no more than memory holds.
     for _ in 0..u64::MAX {
-        let Some(m) = left.pop() else {
+        leave_inner(&mut m, &mut left);
+        let waits = exchange_inner(&mut m, &mut left);
+        let Some(last) = left.pop() else {
             return;
         };
-        let Match {
-            text: _,
-            range: _,
-            node: _,
-            rule_index: _,
-            placeholders,
-            comments: _,
-        } = m;
-        leave_inner(placeholders, &mut left);
+        let first = mem::replace(&mut m, last);
+        if waits {
+            let _ = left.push(first);
+        }
     }
 }
 
