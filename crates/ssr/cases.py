@@ -4,13 +4,16 @@
     crates/ssr/cases.py [PROGRAM..]
 
 The programs are those that `rt ci` leaves in crates/ssr/out, unless others are named. Nothing may come on standard error.
+The commands that the pages show are run as well, and what pages say of files is looked up there.
 The last line is 'N passed, M failed'.
 """
 
 import contextlib
 import json
 import os
+import re
 import resource
+import shutil
 import signal
 import socket
 import subprocess
@@ -345,6 +348,130 @@ def failed_writes_leave_a_beginning(program):
             _, ended = answer(program, [SWAP], SUM, stdout=file, preexec_fn=limited(resource.RLIMIT_FSIZE, count))
             file.seek(0)
             yield (file.read(), ended) == (as_bytes(SWAPPED[:count]), status)
+
+
+# ** The pages: their commands are run, and what they say of the sources is so.
+
+TOP = Path(__file__).resolve().parents[2]
+PAGES = ["README.md", "docs/program.md", "docs/EMBEDDING.md"]
+
+# Commands of these pages that are not run here, each with the reason.
+NOT_RUN = {
+    "(cd crates/ssr && printf 'fn f() {1 + 2 + 3 + 4}' | rt try -- '$a + $b ==>> $b + $a')\n": "it builds the program anew; "
+    "the stored run of crates/ssr has the same words and the same file",
+    "./install\n": "it proves the program; it is tried below, with a stand-in for rt",
+    "./test\n": "it runs this",
+}
+
+
+def blocks(page, language):
+    """The blocks of code that a page has in a language."""
+    return re.findall(rf"^```{language}\n(.*?)^```$", (TOP / page).read_text(), re.M | re.S)
+
+
+def commands(page):
+    """The commands that a page shows, each with what is written then."""
+    for block in blocks(page, "console"):
+        for shown in re.split(r"^\$ ", block, flags=re.M)[1:]:
+            lines = shown.splitlines(keepends=True)
+            more = next((place for place, line in enumerate(lines[1:], 1) if not line.startswith("> ")), len(lines))
+            yield "".join([lines[0], *(line[2:] for line in lines[1:more])]), "".join(lines[more:])
+
+
+def shell(command, program, room):
+    """What a command writes where the program is on the path, and its status."""
+    links = Path(room) / "bin"
+    links.mkdir(exist_ok=True)
+    if not (links / "ssr").exists():
+        (links / "ssr").symlink_to(program)
+    path = {**os.environ, "PATH": f"{links}:{os.environ['PATH']}"}
+    done = subprocess.run(["bash", "-c", command], cwd=room, env=path, capture_output=True, text=True, timeout=120)
+    written = done.stdout + done.stderr
+    return written if not written or written.endswith("\n") else f"{written}\n", done.returncode
+
+
+def table(heading):
+    """The rows of the first table below a heading of the README, without the `of code in a cell of its own."""
+    text = (TOP / "README.md").read_text().split(f"\n## {heading}\n")[1]
+    rows = re.search(r"^\|(?:.*\|\n)+", text, re.M)[0].splitlines()[2:]
+    for row in rows:
+        cells = [cell.strip().replace("\\|", "|") for cell in re.split(r"(?<!\\)\|", row)[1:-1]]
+        yield [re.sub(r"^`([^`]*)`$", r"\1", cell) for cell in cells]
+
+
+@example
+def commands_of_pages_write_what_is_shown(program):
+    for page in PAGES:
+        with tempfile.TemporaryDirectory() as room:
+            for command, shown in commands(page):
+                yield shell(command, program, room)[0] == shown
+            for script in blocks(page, "sh"):
+                yield script in NOT_RUN or shell(script, program, room)[1] == 0
+
+
+@example
+def the_first_command_is_the_stored_run(_):
+    words, given = ((TOP / "crates/ssr" / name).read_text().rstrip("\n") for name in ("args", "stdin"))
+    yield f"printf '{given}' | rt try -- '{words}'" in blocks("README.md", "sh")[0]
+
+
+@example
+def migrations_are_as_the_table_says(program):
+    scenarios = (TOP / "crates/ssr_scenarios/data/migrations.txt").read_text()
+    rows = list(table("Ten migrations"))
+    yield len(rows) == scenarios.count("\nedits\n") == 10
+    for rule, before, after in rows:
+        file, new = f"fn f() {{ {before} }}", f"fn f() {{ {after} }}"
+        yield gives(program, [rule], file, new)
+        yield f"\nfile {file}\nrule {rule}\nedits\n  0 {new}\n" in scenarios
+
+
+@example
+def promises_have_their_clauses(_):
+    for _, clauses, link in table("What is proved"):
+        text = (TOP / re.search(r"\((.*)\)", link)[1]).read_text()
+        for clause in clauses.replace("`", "").split(", "):
+            yield bool(re.search(rf"(ensures .*|pub fn )\b{clause}\b|pub record {clause}\b", text))
+
+
+@example
+def quotes_stand_in_the_sources(_):
+    sources = [path.read_text() for path in (TOP / "crates/ssr_uses/src").glob("*.rt")]
+    for page in PAGES:
+        for block in blocks(page, "rust"):
+            yield any(block in source for source in sources)
+
+
+@example
+def links_lead_somewhere(_):
+    pages = {path: path.read_text() for path in [TOP / "README.md", *(TOP / "docs").glob("*.md")]}
+    for page, text in pages.items():
+        for file, heading in re.findall(r"\]\(([^):#]*)(?:#([^)]*))?\)", text):
+            path = (page.parent / file).resolve() if file else page
+            headings = re.findall(r"^#+ (.*)$", pages.get(path, ""), re.M)
+            names = [re.sub(r"[^\w -]", "", it.lower()).replace(" ", "-") for it in headings]
+            is_there = path.exists() and (not heading or heading in names)
+            if not is_there:
+                print(f"{page.relative_to(TOP)}: a link leads nowhere: {file}#{heading}")
+            yield is_there
+
+
+@example
+def install_puts_the_program_on_the_path(program):
+    with tempfile.TemporaryDirectory() as room:
+        room = Path(room)
+        (room / "crates/ssr").mkdir(parents=True)
+        (room / "bin").mkdir()
+        shutil.copy(TOP / "install", room)
+        # in the place of a proof and a build, the built program
+        stand_in = room / "bin/rt"
+        stand_in.write_text(f'#!/bin/sh\n[ "$1" = run ] && mkdir -p out && cp "{program}" out/ssr\n')
+        stand_in.chmod(0o755)
+        environment = {**os.environ, "HOME": str(room / "home"), "PATH": f"{room / 'bin'}:{os.environ['PATH']}"}
+        for words, place in [([], room / "home/.local/bin/ssr"), (["there"], room / "there/ssr")]:
+            done = subprocess.run([room / "install", *words], cwd=room, env=environment, capture_output=True, text=True)
+            yield done.returncode == 0 and f"installed {place}\n" in done.stdout
+            yield gives(str(place), [SWAP], SUM, SWAPPED)
 
 
 def built_programs():

@@ -6,6 +6,11 @@ mod Taking
 mod BindsOnce
 mod Outcome
 mod OneEach
+mod Flattening
+mod Sizes
+mod EachOnce
+mod Comments
+mod Entries
 mod SomeOutcome
 mod Edited
 pub mod Shared

@@ -10,5 +10,7 @@ pub mod Starts
 pub mod Parts
 pub mod Nesting
 pub mod BindsOnce
+pub mod Flattened
+pub mod FromComment
 pub mod Laws
 pub mod Private

@@ -1,2 +1,3 @@
+pub mod Flattening
 pub mod Made
 pub mod Starts

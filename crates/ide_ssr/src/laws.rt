@@ -1,8 +1,14 @@
-//! What holds of the words of the contracts, whatever the code: each function here does nothing, and what
-//! it ensures is a law.
+//! What holds of the words of the contracts, whatever the code: each function here does nothing, and what it ensures is a law;
+//! but for `equality`, which compares. Those of what is found, of kept matches and their lists, of white space and comments and
+//! of errors stand in the crates of their words.
 ghost use Rattle.ssr_base_trees.specs.Built.{IsBuilt};
 ghost use Rattle.ide_ssr.specs.Finder.{Finder};
 ghost use Rattle.ide_ssr.specs.Laws.{AnswerExists, OneEdit, OneOutcome, OutcomeExists};
+
+pub use ide_ssr_matching::laws::trivia;
+pub use ide_ssr_nesting::laws::{holding, keeping, listing, ordering};
+pub use ide_ssr_refusals::laws::equality;
+pub use ide_ssr_search::laws::finding;
 
 /// A finder's search comes to an outcome, and to one: there is one list of kept matches, and one way to list them.
 pub fn searching()

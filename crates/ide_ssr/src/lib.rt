@@ -3,6 +3,8 @@
 
 mod comments;
 mod finder;
+mod flattened;
+mod from_comment;
 pub mod laws;
 mod made;
 mod matches;
@@ -12,6 +14,7 @@ mod shown;
 mod starts;
 
 pub use finder::MatchFinder;
+pub use from_comment::ssr_from_comment;
 pub use ide_ssr_refusals::SsrError;
 pub use ide_ssr_rewriting::EditError;
 pub use ide_ssr_rules::{SsrPattern, SsrRule, Var};

@@ -1,8 +1,12 @@
 //! What a caller sees of kept matches: those in no other one, with the others nested in their placeholders.
 
-ghost use Rattle.std.specs.Prelude.{◌≡◌, IfOk, string_bytes};
+ghost use Rattle.std.specs.Prelude.{◌≡◌, All, IfOk, string_bytes};
+ghost use Rattle.ide_ssr.specs.Finder.{Finder};
+ghost use Rattle.ide_ssr.specs.Flattened.{Flattens, HasNoneInside, ShowEachOnce};
 ghost use Rattle.ide_ssr.specs.Matches.{text_of, range_of, node_of, rule_of, placeholders_of, name_of, place_of, deref_count_of, self_kind_of, inner_of, comments_of};
+ghost use Rattle.ide_ssr.specs.Nesting.{ShowKept};
 
+use crate::flattened::flatten_last;
 use ide_ssr_rules::Var;
 use ssr_base_trees::{FileRange, NodeId, SelfKind};
 use std::alloc::{AllocError, Global};
@@ -11,6 +15,26 @@ use std::alloc::{AllocError, Global};
 /// others stand below them.
 pub struct SsrMatches<'a> {
     pub matches: Vec<Match<'a>>,
+}
+
+impl<'a> SsrMatches<'a> {
+    /// The same matches in one list, none with others in its placeholders: those that stood in a match come before it, by the
+    /// places of its placeholders. It goes through them in a loop, since they can nest deeper than the stack.
+    pub fn flattened(self, alloc: Global) -> Result<SsrMatches<'a>, AllocError>
+        ensures flattens { IfOk result (λ flat. Flattens self.entry.matches.items flat.matches.items) }
+        ensures none_inside { IfOk result (λ flat. All HasNoneInside flat.matches.items) }
+
+        // Of what a finder finds each kept match is there once.
+        ensures each_once { IfOk result (λ flat. (finder : Finder) → ShowKept finder self.entry.matches.items → ShowEachOnce finder flat.matches.items) }
+    {
+        let mut left = self;
+        let mut flat = SsrMatches {
+            matches: Vec::new(alloc),
+        };
+        while flatten_last(&mut left.matches, &mut flat.matches)? {}
+        flat.matches.reverse();
+        Ok(flat)
+    }
 }
 
 /// Moves the matches in the placeholders to those that are left.

@@ -91,13 +91,13 @@ pub told_more : (names : List (List ℕ)) (paths : List UsedPath) (s : Syntax) (
     → ((n : ℕ) → get_or new n t.Spelled ≡ (if is_printed s n (get_or paths i d) then printed_token (node_of s (get_or paths i d).node.0).first i n else get_or old n t.Spelled))
     → TellsFrom names paths s i new
 told_more names paths s i next d old new lt is before long marks =
-  let so_far : TellsFrom names paths s (i + 1) old = subst (λ n. TellsFrom names paths s n old) is before in record {
-  long = long ∙ so_far.long;
-  tells = λ n has.
-      marks n
-      ∙ ap (λ x. if is_printed s n (get_or paths i d) then printed_token (node_of s (get_or paths i d).node.0).first i n else x) (so_far.tells n has)
-      ∙ ap (token_by s n (unprinted names (token_of s n)) i) (sym (drop_more paths i d lt));
-}
+    let so_far : TellsFrom names paths s (i + 1) old = subst (λ n. TellsFrom names paths s n old) is before in record {
+      long = long ∙ so_far.long;
+      tells = λ n has.
+          marks n
+          ∙ ap (λ x. if is_printed s n (get_or paths i d) then printed_token (node_of s (get_or paths i d).node.0).first i n else x) (so_far.tells n has)
+          ∙ ap (token_by s n (unprinted names (token_of s n)) i) (sym (drop_more paths i d lt));
+    }
 
 -- ** The table of a template.
 

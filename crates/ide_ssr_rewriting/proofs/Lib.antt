@@ -7,7 +7,8 @@ mod Written
 mod Texts
 mod Taken
 mod Pieces
-mod Prefixes
+mod NoPrefix
+mod Filled
 mod Fits
 mod Runs
 mod Groups

@@ -152,10 +152,10 @@ module _ (kept : Kept) (known : IsKept kept) where
           (All-map (λ r. IsForward r.range) (λ n. record { range = range_at kept n; text = texts n }) places (λ i d within. at_forward _))
 
   pub answer_exists : (lists : Listing) (by : Writing) → AreLists kept lists → AnswerExists kept lists by
-  answer_exists lists by are = by (texts_of kept lists by) (are_texts kept lists by (is_nest kept lists known are))
+  answer_exists lists by are = with_texts (texts_of kept lists by) (are_texts kept lists by (is_nest kept lists known are))
     where
-      by : (texts : Texts) → AreTexts kept lists by texts → AnswerExists kept lists by
-      by texts of_these = told (first_exists (all_clashes kept lists texts)).0 (first_exists (all_clashes kept lists texts)).1
+      with_texts : (texts : Texts) → AreTexts kept lists by texts → AnswerExists kept lists by
+      with_texts texts of_these = told (first_exists (all_clashes kept lists texts)).0 (first_exists (all_clashes kept lists texts)).1
         where
           told : (first : Option Clash) → IsFirst (all_clashes kept lists texts) first → AnswerExists kept lists by
           told None none = inl (edits_of (outermost_list kept lists texts), (texts, of_these, (none, edits_are (outermost_list kept lists texts))))

@@ -158,10 +158,10 @@ module _ (w : Workspace) (m : Meanings) (position : FilePosition) (restrictions 
       λ scope. elim scope as (λ scope. m.scope (node_id file node.0) ≡ scope → MakingExists) [
         | None ↦ λ is. (Err errors.NoScope, (λ e. cc), (tree.0, node.0, place, is))
         | Some scope ↦ λ is. (
-            Ok (record { scope = scope; restrictions = map file_span_of (restricting restrictions); function = option_map (node_id file) around.0 }),
-            (λ e. cc),
-            record { tree = tree.0; node = node.0; place = place; scope = is; restricted = refl; around = around.0; innermost = around.1; function = refl },
-          )
+          Ok (record { scope = scope; restrictions = map file_span_of (restricting restrictions); function = option_map (node_id file) around.0 }),
+          (λ e. cc),
+          record { tree = tree.0; node = node.0; place = place; scope = is; restricted = refl; around = around.0; innermost = around.1; function = refl },
+        )
       ] in
       by_scope (m.scope (node_id file node.0)) refl
 

@@ -3,10 +3,10 @@ ghost use Rattle.std.specs.Prelude.{◌≡◌, List};
 ghost use Rattle.ssr_base_trees.specs.declared.ids.FilePosition.{FilePosition};
 ghost use Rattle.ssr_base_trees.specs.declared.ids.FileRange.{FileRange};
 ghost use Rattle.ssr_base_trees.specs.Meanings.{Meanings};
-ghost use Rattle.ssr_base_trees.specs.Workspace.{Workspace as WorkspaceValue};
+ghost use Rattle.ssr_base_trees.specs.Workspace.{Workspace as WorkspaceValue, trees};
 ghost use Rattle.ssr_base_trees.specs.Built.{IsBuilt};
 ghost use Rattle.ide_ssr_resolved_rule.specs.Resolved.{ResolvedRule};
-ghost use Rattle.ide_ssr_bindings.specs.Found.{FoundMatch};
+ghost use Rattle.ide_ssr_bindings.specs.Found.{AreMatches, FoundMatch};
 ghost use Rattle.ide_ssr_search.specs.Context.{Context as ContextValue};
 ghost use Rattle.ide_ssr_search.specs.Making.{IsContext};
 ghost use Rattle.ide_ssr_search.specs.Found.{AreFound};
@@ -23,4 +23,9 @@ pub fn searching()
 pub fn making()
     ensures exist { (w : WorkspaceValue) (m : Meanings) (position : FilePosition) (restrictions : List FileRange) → ContextExists w m position restrictions }
     ensures one { (w : WorkspaceValue) (m : Meanings) (position : FilePosition) (restrictions : List FileRange) (c d : ContextValue) → IsContext w m position restrictions c → IsContext w m position restrictions d → c ≡ d }
+{}
+
+/// What is found meets what is asked of matches of which some are to be kept: the laws of kept matches speak of what is found.
+pub fn finding()
+    ensures { (w : WorkspaceValue) (m : Meanings) (context : ContextValue) (rules : List ResolvedRule) (found : List FoundMatch) → AreFound w m context rules found → AreMatches (trees w) found }
 {}

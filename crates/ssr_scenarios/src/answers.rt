@@ -10,9 +10,12 @@ use crate::tokens::write_tokens;
 use crate::told::Told;
 use crate::trees::{goal_of, write_tree};
 use anyhow::Result;
-use ide_ssr::{EditError, MatchFinder, SsrError, SsrMatches, SsrPattern, SsrRule};
-use ssr_base::{FileId, TextEdit, Workspace};
+use ide_ssr::{
+    EditError, MatchFinder, SsrError, SsrMatches, SsrPattern, SsrRule, ssr_from_comment,
+};
+use ssr_base::{FileId, FileRange, TextEdit, Workspace};
 use ssr_facts::{Facts, TableSemantics};
+use ssr_syntax_kinds::TextRange;
 use std::alloc::{AllocError, Global};
 use std::collections::BTreeMap;
 
@@ -108,9 +111,28 @@ fn write_answer(
         "rows" => write_rows(alloc, out, text),
         "reads" => write_facts(alloc, out, text),
         "nodes" => write_nodes(alloc, out, facts),
+        "comment" => write_comment(alloc, out, facts, text)?,
         _ => return of_search(alloc, out, &facts.workspace, finder, word, text),
     }
     Ok(true)
+}
+
+/// Where the comment at an offset of the first file stands, and the outermost matches of the rule that it says.
+fn write_comment(alloc: Global, out: &mut Told, facts: &Facts, offset: &str) -> Result<()> {
+    let start = offset.parse()?;
+    let range = FileRange {
+        file_id: FileId(0),
+        range: TextRange::new(start, start),
+    };
+    let entry = ssr_from_comment(alloc, &facts.workspace, &facts.semantics, range)?;
+    if let Some((finder, place)) = entry {
+        out.shown(&place.start());
+        out.text("..");
+        out.shown(&place.end());
+        out.text("\n");
+        write_matches(alloc, out, &facts.workspace, "finds", finder.matches());
+    }
+    Ok(())
 }
 
 /// What a question asks of a search. Says whether the word asks that.
@@ -154,9 +176,15 @@ fn of_finder(
             finder.matches(),
         ),
         "scans" => write_matches(alloc, out, workspace, word, finder.scan_matches()),
+        "flattened" => write_matches(alloc, out, workspace, "holds", flattened(alloc, finder)),
         _ => return Ok(false),
     }
     Ok(true)
+}
+
+/// All matches in one list.
+fn flattened<'a>(alloc: Global, finder: &Finder<'a>) -> Result<SsrMatches<'a>, AllocError> {
+    finder.matches()?.flattened(alloc)
 }
 
 fn add_rule(alloc: Global, finder: &mut Finder<'_>, text: &str) -> Result<(), SsrError> {

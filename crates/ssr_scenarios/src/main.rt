@@ -27,8 +27,10 @@
 //! | `rule TEXT`, `pattern TEXT` | adds a rule or a search pattern, and asks whether that is accepted: nothing, or why not |
 //! | `finds`, `scans` | the texts of the outermost matches |
 //! | `holds` | the same, with what each placeholder holds, how often it is dereferenced and how it is taken |
+//! | `flattened` | all matches in one list, told likewise |
 //! | `places` | where the outermost matches, their comments and what their placeholders hold stand |
 //! | `edits` | the new texts of files, or why there are none |
+//! | `comment OFFSET` | where the comment at the offset of the first file stands, and the outermost matches of the rule that it says: nothing, where there is none |
 //! | `nodes` | the nodes of all trees, where each comes from, what stands above it, what it stands for as a macro call, and what facts tell of it |
 //!
 //! What is asked of a text:

@@ -1,4 +1,4 @@
-use Rattle.std.proofs.Common.{◌≡◌, ◌++◌, [], ◌∷◌, List, ℕ, sym, ap, ◌∙◌, append_assoc, string_bytes}
+use Rattle.std.proofs.Common.{◌++◌, [], ◌∷◌, List, ℕ, ap, ◌∙◌, append_assoc, string_bytes}
 use Rattle.std.proofs.lemmas.List.{replicate_more}
 use Rattle.ide_ssr_rewriting.proofs.prefixes.push_stars.Goals as goal
 

@@ -1,7 +1,7 @@
 use Rattle.std.proofs.Common.{◌≡◌, ◌&&◌, ◌+◌, ◌<◌, ◌^◌, not, false, true, List, Bool, ℕ, length, map, ap, sym, ◌∙◌, arith, subst, rules, string_bytes}
 use Rattle.std.specs.Cow.{cow_str_bytes}
 use Rattle.ssr_syntax_tree.specs.Places.{HasToken}
-use Rattle.ide_ssr_rewriting.specs.Rendering.{filling_of, token_numbers, text_for, is_piece, is_node, wrapped, plain}
+use Rattle.ide_ssr_rewriting.specs.Rendering.{filling_of, text_for, is_piece, is_node, wrapped, plain}
 use Rattle.ide_ssr_rewriting.proofs.Tokens.{no_numbers}
 use Rattle.ide_ssr_rewriting.proofs.Templates.{plain_from, wrapped_from, still_within, bounded, unwrapped, stays}
 use Rattle.ide_ssr_rewriting.proofs.rendering.Rendering.are_nodes.Goals as goal
@@ -33,7 +33,7 @@ loop-token-preserved c =
     let n = c.loop-token.token in
     let has : HasToken template n = omega arith in
     let text : c.text_for-text.result.now ≡ text_for rule filling template n = c.text_for-text.ensures in
-    let piece : c.is_piece.result ≡ is_piece rule template n = c.is_piece.ensures in
+    let piece : c.is_piece-is_piece.result ≡ is_piece rule template n = c.is_piece-is_piece.ensures in
     let off : (is_piece rule template n && not (is_node tree front at (at + length (text_for rule filling template n)))) ≡ false =
     subst (λ (t : List ℕ). (is_piece rule template n && not (is_node tree front at (at + length t))) ≡ false) text
     (subst (λ (b : Bool). (b && not (is_node tree front at (at + length c.text_for-text.result.now))) ≡ false) piece (sym c.is_wrapped.ensures ∙ c.if-is_wrapped.false)) in

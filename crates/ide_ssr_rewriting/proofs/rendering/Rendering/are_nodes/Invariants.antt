@@ -1,4 +1,4 @@
-use Rattle.std.proofs.Common.{◌≡◌, ◌+◌, length, drop, map}
+use Rattle.std.proofs.Common.{◌≡◌, ◌+◌, length, drop, map, string_bytes}
 use Rattle.std.specs.Cow.{cow_str_bytes}
 use Rattle.ide_ssr_rewriting.specs.Rendering.{filling_of, token_numbers, plain, wrapped}
 use Rattle.ide_ssr_rewriting.proofs.rendering.Rendering.are_nodes.Given as goal

@@ -23,7 +23,7 @@ pub loop-token-preserved : goal.loop-token-preserved
 loop-token-preserved c =
     let has : HasToken c.args.self.now.template.now c.loop-token.token = omega arith in
     let text : c.text_for-text.result.now ≡ text_for c.args.self.now.rule.now (filling_of c.args.self.now.bindings.now (map cow_str_bytes c.args.self.now.pieces.now) (map string_bytes c.args.self.now.printed.now)) c.args.self.now.template.now c.loop-token.token = c.text_for-text.ensures in
-    let piece : c.is_piece.result ≡ is_piece c.args.self.now.rule.now c.args.self.now.template.now c.loop-token.token = c.is_piece.ensures in
+    let piece : c.is_piece-is_piece.result ≡ is_piece c.args.self.now.rule.now c.args.self.now.template.now c.loop-token.token = c.is_piece-is_piece.ensures in
     rw text record {
       spelled = pushed _ _ _ _ _ _ c.loop-token.invariant.spelled
           (wrapped_from c.args.tree.now c.args.front c.args.self.now.rule.now (filling_of c.args.self.now.bindings.now (map cow_str_bytes c.args.self.now.pieces.now) (map string_bytes c.args.self.now.printed.now)) c.loop-token.at c.args.self.now.template.now c.loop-token.token has)

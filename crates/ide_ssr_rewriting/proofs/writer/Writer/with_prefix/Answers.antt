@@ -1,6 +1,6 @@
 use Rattle.std.proofs.Common.{◌≡◌, ◌++◌, List, ℕ, ap, sym}
 use Rattle.std.specs.Cow.{cow_str_bytes}
-use Rattle.ide_ssr_rewriting.proofs.Prefixes.{no_prefix}
+use Rattle.ide_ssr_rewriting.proofs.NoPrefix.{no_prefix}
 use Rattle.ide_ssr_rewriting.proofs.writer.Writer.with_prefix.Goals as goal
 
 pub returns-then-not-has_prefix : goal.returns-then-not-has_prefix

@@ -7,7 +7,7 @@ use Rattle.ide_ssr_resolved_rule.specs.Resolved.{ResolvedRule}
 use Rattle.ide_ssr_bindings.specs.declared.bindings.Binding.{Binding}
 use Rattle.ide_ssr_rewriting.specs.Replacements.{prefix, prefix_by}
 
-pub no_stars : (n : ℕ) → n ≤ 0 → replicate n 42 ≡ []
+pub no_stars : (n : ℕ) → n ≤ 0 → replicate {A = ℕ} n 42 ≡ []
 no_stars zero le = refl
 no_stars (suc n) le = absurd (omega arith)
 

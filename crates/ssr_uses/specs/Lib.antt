@@ -1,0 +1,5 @@
+pub mod Rewriting
+pub mod Findings
+pub mod ByFacts
+pub mod OneFunction
+pub mod Private
