@@ -6,4 +6,4 @@ pub returns-in-Ok : goal.returns-in-Ok
 returns-in-Ok g c = first_of (search rules steps 110000, grind (arith, common_steps) steps 110000)
 
 pub returns-in-Err : goal.returns-in-Err
-returns-in-Err g c = first_of (search rules steps 110000, grind (arith, common_steps) steps 110000)
+returns-in-Err g c = (c.in-Err.refusal, c.in-Err.ensures, c.to_error.ensures)
