@@ -9,7 +9,7 @@ mod OneEach
 mod Flattening
 mod Sizes
 mod EachOnce
-mod Comments
+mod CommentTokens
 mod Entries
 mod SomeOutcome
 mod Edited

@@ -1,4 +1,4 @@
-use Rattle.ide_ssr.proofs.Comments.{behind_is}
+use Rattle.ide_ssr.proofs.CommentTokens.{behind_is}
 use Rattle.ide_ssr.proofs.from_comment.behind.Goals as goal
 
 pub returns : goal.returns

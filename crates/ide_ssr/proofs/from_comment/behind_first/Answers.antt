@@ -1,5 +1,5 @@
 use Rattle.std.proofs.Common.{◌∙◌}
-use Rattle.ide_ssr.proofs.Comments.{behind_here, behind_more, behind_none}
+use Rattle.ide_ssr.proofs.CommentTokens.{behind_here, behind_more, behind_none}
 use Rattle.ide_ssr.proofs.from_comment.behind_first.Goals as goal
 
 pub returns-in-Some : goal.returns-in-Some
