@@ -60,11 +60,11 @@ abbrev pub MakesFor : Search → Result Context ContextError → Type 0
 MakesFor s = Makes s.workspace s.meanings s.position s.ranges
 
 -- the finder of a search, to which the rules are added
-pub record IsFinder (s : Search) (rules : List (List ℕ)) (finder : Finder) : Type 0 where
+pub record IsFinder (s : Search) (texts : List (List ℕ)) (finder : Finder) : Type 0 where
   pub workspace : finder.workspace ≡ s.workspace
   pub meanings : finder.meanings ≡ s.meanings
   pub context : MakesFor s (Ok finder.context)
-  pub rules : rules_reading s.meanings finder.context.scope rules ≡ Ok finder.rules
+  pub rules : rules_reading s.meanings finder.context.scope texts ≡ Ok finder.rules
 
 -- ** The edits.
 

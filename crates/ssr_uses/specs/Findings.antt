@@ -5,7 +5,7 @@ use Rattle.ide_ssr.specs.declared.matches.Match.{Match}
 use Rattle.ide_ssr.specs.Finder.{Finder}
 use Rattle.ide_ssr.specs.Matches.{range_of, rule_of, text_of}
 use Rattle.ide_ssr.specs.Nesting.{ShowKept}
-use Rattle.ssr_uses.specs.declared.findings.Finding.{Finding}
+use Rattle.ssr_uses.specs.declared.listing.Finding.{Finding}
 
 -- what is told of a match
 pub record Told : Type 0 where

@@ -3,13 +3,13 @@
 
 mod by_facts;
 mod error;
-mod findings;
+mod listing;
 mod one_function;
 mod rewriting;
 
 pub use by_facts::edits_by_facts;
 pub use error::UseError;
-pub use findings::{Finding, findings};
+pub use listing::{Finding, findings};
 pub use one_function::{OneFunction, paths_spelled};
 pub use rewriting::{edits, new_text};
 
