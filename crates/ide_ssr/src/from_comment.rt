@@ -10,7 +10,7 @@ use crate::finder::MatchFinder;
 use ide_ssr_refusals::SsrError;
 use ide_ssr_rules::SsrRule;
 use ssr_base::Workspace;
-use ssr_base_trees::{FilePosition, FileRange, Semantics};
+use ssr_base_trees::{FilePosition, FileRange, Semantics, Trees};
 use ssr_syntax_kinds::{SyntaxKind, TextRange};
 use ssr_syntax_tree::{TokenNo, Tree};
 use std::alloc::{AllocError, Global};
@@ -61,7 +61,7 @@ fn comment_at(tree: &Tree, offset: u32) -> Option<TokenNo>
 }
 
 /// The text of the comment at a position, and where it stands.
-fn comment_of(workspace: &Workspace, position: FilePosition) -> Option<(&str, TextRange)>
+fn comment_of(workspace: &Trees, position: FilePosition) -> Option<(&str, TextRange)>
     ensures some { IfSome result (λ comment. IsCommentOf workspace.now position comment.0.now comment.1) }
     ensures none { IfNone result (LacksComment workspace.now position) }
 {
@@ -164,7 +164,7 @@ pub fn ssr_from_comment<'a, S: Semantics>(
         file_id: range.file_id,
         offset: range.range.start,
     };
-    let Some((comment, place)) = comment_of(workspace, position) else {
+    let Some((comment, place)) = comment_of(workspace.trees(), position) else {
         return Ok(None);
     };
     let Some(rule) = comment_rule(alloc, comment)? else {
