@@ -1,9 +1,6 @@
 pub mod Streams
-pub mod Commands
-pub mod Output
-pub mod Searching
 pub mod Unresolved
-pub mod OfFile
-pub mod OfFacts
+pub mod Rewritten
+pub mod Output
 pub mod Running
 pub mod Private

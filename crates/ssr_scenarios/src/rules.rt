@@ -1,5 +1,8 @@
 //! The kinds of rules.
 
+ghost use Rattle.std.specs.Option.{IsSomeAnd};
+ghost use Rattle.ssr_syntax_tree.specs.Places.{HasToken};
+
 use crate::lists::separator;
 use crate::paths::{write_calls, write_paths};
 use crate::told::Told;
@@ -136,7 +139,9 @@ fn write_template(out: &mut Told, kind: &ResolvedRule) {
 }
 
 /// Which placeholder a token of the template is.
-fn placeholder_of(kind: &ResolvedRule, token: TokenNo) -> Option<u32> {
+fn placeholder_of(kind: &ResolvedRule, token: TokenNo) -> Option<u32>
+    requires { IsSomeAnd kind.now.template (λ template. HasToken template token.0) }
+{
     match kind.template_token(token) {
         TemplateToken::Placeholder(placeholder) => Some(placeholder),
         _ => None,

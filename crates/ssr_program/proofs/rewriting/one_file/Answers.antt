@@ -1,6 +1,6 @@
 use Rattle.std.proofs.Common.{Err, ap, ◌∙◌}
 use Rattle.ssr_program.proofs.OneFile.{one_given, file_told, of_file, refusal_told}
-use Rattle.ssr_program.proofs.of_file.one_file.Goals as goal
+use Rattle.ssr_program.proofs.rewriting.one_file.Goals as goal
 
 pub returns-in-Ok-build : goal.returns-in-Ok-build
 returns-in-Ok-build c =
