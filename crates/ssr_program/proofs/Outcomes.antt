@@ -61,7 +61,7 @@ module _ (s : Search) (rules : List (List ℕ)) where
       let made : Workspace → Meanings → Context → List ResolvedRule → Finder =
       λ w m context rules. record { workspace = w; meanings = m; context = context; rules = rules } in
       let kinds : f.rules ≡ g.rules =
-      let same : Ok f.rules ≡ Ok g.rules = sym one.rules ∙ same_rules f.context g.context one.context other.context ∙ other.rules in cc in
+      let same : Ok f.rules ≡ Ok g.rules = sym one.kinds ∙ same_rules f.context g.context one.context other.context ∙ other.kinds in cc in
       ap (λ w. made w f.meanings f.context f.rules) (one.workspace ∙ sym other.workspace)
       ∙ ap (λ m. made g.workspace m f.context f.rules) (one.meanings ∙ sym other.meanings)
       ∙ ap (λ context. made g.workspace g.meanings context f.rules) (same_context f.context g.context one.context other.context)
@@ -69,7 +69,7 @@ module _ (s : Search) (rules : List (List ℕ)) where
 
   found_or_refused : (c : Context) (why : Refusal) (f : Finder) → MakesFor s (Ok c) → reading c ≡ Err why → IsFinder s rules f → ⊥
   found_or_refused c why f made refused is =
-      let same : Err why ≡ Ok f.rules = sym refused ∙ same_rules c f.context made is.context ∙ is.rules in cc
+      let same : Err why ≡ Ok f.rules = sym refused ∙ same_rules c f.context made is.context ∙ is.kinds in cc
 
   same_words : (c d : Context) (why other : Refusal) → MakesFor s (Ok c) → MakesFor s (Ok d) → reading c ≡ Err why → reading d ≡ Err other → why ≡ other
   same_words c d why other made again refused as_well =
@@ -115,7 +115,7 @@ module _ (s : Search) (rules : List (List ℕ)) where
   by_rules built c made (Err why) is = (_, no_rules c why made is)
   by_rules built c made (Ok kinds) is =
       let finder : Finder = record { workspace = s.workspace; meanings = s.meanings; context = c; rules = kinds } in
-      let its : IsFinder s rules finder = record { workspace = refl; meanings = refl; context = made; rules = is } in
+      let its : IsFinder s rules finder = record { workspace = refl; meanings = refl; context = made; kinds = is } in
       elim (answer_exists_each finder built (finder_replaces s rules finder its)) [
         | inl found ↦ (_, edited finder found.0 its found.1)
         | inr two ↦ (_, clash finder two.0 two.1 its two.2)

@@ -19,7 +19,7 @@ use Rattle.ssr_program.proofs.Replacing.{all_replace}
 
 -- rules that are added have templates
 pub finder_replaces : (s : Search) (rules : List (List ℕ)) (finder : Finder) → IsFinder s rules finder → HaveTemplates finder.rules
-finder_replaces s rules finder is = all_replace s.meanings finder.context.scope rules finder.rules is.rules
+finder_replaces s rules finder is = all_replace s.meanings finder.context.scope rules finder.rules is.kinds
 
 module _ {S : Type 0} (told_by : S → Meanings) (w : Workspace) (semantics : S) (position : FilePosition) (ranges : List FileRange) (rules : List (List ℕ)) where
   abbrev s : Search
@@ -52,4 +52,4 @@ module _ {S : Type 0} (told_by : S → Meanings) (w : Workspace) (semantics : S)
     finder_is finder (kinds, read, added) =
         let all : finder ≡ record { workspace = w; semantics = semantics; context = is.0; rules = kinds } =
         added ∙ ap (λ (f : FinderWith S). record f { rules = f.rules ++ kinds }) is.2 in
-        subst (λ (f : FinderWith S). IsFinder s rules (finder_of told_by f)) (sym all) (record { workspace = refl; meanings = refl; context = is.1; rules = sym due_is ∙ read })
+        subst (λ (f : FinderWith S). IsFinder s rules (finder_of told_by f)) (sym all) (record { workspace = refl; meanings = refl; context = is.1; kinds = sym due_is ∙ read })

@@ -64,7 +64,7 @@ pub record IsFinder (s : Search) (rules : List (List ℕ)) (finder : Finder) : T
   pub workspace : finder.workspace ≡ s.workspace
   pub meanings : finder.meanings ≡ s.meanings
   pub context : MakesFor s (Ok finder.context)
-  pub rules : rules_reading s.meanings finder.context.scope rules ≡ Ok finder.rules
+  pub kinds : rules_reading s.meanings finder.context.scope rules ≡ Ok finder.rules
 
 -- ** The edits.
 

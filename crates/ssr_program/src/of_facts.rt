@@ -74,7 +74,8 @@ fn push_closed(text: &mut String, new: &str) -> Result<(), AllocError>
     if new.ends_with("\n") {
         return Ok(());
     }
-    text.push_str("\n")
+    text.push_str("\n")?;
+    Ok(())
 }
 
 /// Adds a line with the name of a file, and its text with an edit made that fits it.

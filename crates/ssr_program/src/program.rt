@@ -1,7 +1,7 @@
 //! The program, whatever it reads from and writes to.
 ghost use Rattle.std.specs.Prelude.{◌≡◌, ◌⊎◌, IfOk, map, codes, string_bytes, option_map};
 ghost use Rattle.std.specs.List.{flat_map};
-ghost use Rattle.ssr_program.specs.Output.{input_refused, input_of};
+ghost use Rattle.ssr_program.specs.Output.{input_refused};
 ghost use Rattle.ssr_program.specs.OfFile.{words_of};
 ghost use Rattle.ssr_program.specs.OfFacts.{facts_words as words_of_facts, numbered};
 ghost use Rattle.ssr_program.specs.Running.{Ran, Goes};
@@ -123,21 +123,14 @@ fn refuse_facts<W: Sink>(alloc: Global, sink: &mut W, error: FactsError) -> u8
     }
 }
 
-/// What is read, in words.
-fn input_name(form: Form) -> &'static str
-    ensures { result.now ≡ input_of form }
-{
-    match form {
-        Form::File => "standard input",
-        Form::Facts => "facts",
-    }
-}
-
 /// Says what is wrong with what was read.
 fn refuse_input<W: Sink>(sink: &mut W, form: Form, words: &str) -> u8
     ensures { Goes (W.taken sink.old) (W.taken sink.new) (input_refused form words.now) result }
 {
-    send(sink, &["error: ", input_name(form), ": ", words, "\n"], 1)
+    match form {
+        Form::File => send(sink, &["error: standard input: ", words, "\n"], 1),
+        Form::Facts => send(sink, &["error: facts: ", words, "\n"], 1),
+    }
 }
 
 /// Writes an output in pieces, and answers its status, or 1 where not all went out.

@@ -23,13 +23,6 @@ returns-in-Ok-edits c =
     (of_one read.0 _ _ (λ s. ComesTo s _ (changes (changes_in c.in-Ok-edits.edits))) read.2 c.new.ensures.items c.in-Ok-edits.ensures.answer)
     c.in_ok-new_text.ensures
 
-pub returns-in_err-new_text : goal.returns-in_err-new_text
-returns-in_err-new_text c =
-    let p = err_from_is_err_and c.from_residual-in_err-new_text.result c.from_residual-in_err-new_text.ensures.1 in
-    let same : string_bytes c.in-Ok.text ≡ c.args.bytes.items = ap (λ v. v.items) c.in-Ok.ensures.ok in
-    let read = c.in_ok-workspace.ensures in
-    rw (p.1, p.2) (read.0, is_file _ _ same (IsUtf8-string_bytes c.in-Ok.text) read.0 read.1)
-
 pub returns-in-Err-Refused : goal.returns-in-Err-Refused
 returns-in-Err-Refused c =
     let same : string_bytes c.in-Ok.text ≡ c.args.bytes.items = ap (λ v. v.items) c.in-Ok.ensures.ok in
