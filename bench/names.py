@@ -8,11 +8,13 @@ given), and takes the first files that lie inside of the language until they hav
 Of these a facts file is made that tells for each path and method call of theirs a definition by its text, and it is searched:
 with a rule that names no path and matches nothing; with a record, a qualified call and a macro call, each alone, and with all
 three; and with the same rules where placeholders stand in the place of their paths, so that they match whatever is spelled
-there. Then comes a facts file of one text with many macro calls, 1,000 if not said, each with its expansion, that is searched
+there. Each rule with paths is searched where usages lead and by a scan of all nodes, and rewritten. Then comes a facts file of one text with many macro calls, 1,000 if not said, each with its expansion, that is searched
 with a rule that matches in each of them.
 
 Printed are the processor time of searching alone, as the program tells it, the least of some runs, MB/s, how many matches
-there are, and how many times as long it takes as the rule that matches nothing, and as the same rule without paths.
+there are, and how many times as long it takes as the rule that matches nothing, and as the same rule without paths; for a
+scan how many times as long as where usages lead; for rewriting, as rewriting by a rule that is led to nothing, and below
+that how many times as long rewriting takes with paths as without.
 
 Needs python 3, the commands rt, apt-get and dpkg, and a list of packages (`apt-get update`). It is no test: nothing here
 fails on a slow machine.
@@ -40,6 +42,14 @@ OPEN_RECORD = "$r {start: $a, end: $b} ==>> $r {start: $b, end: $a}"
 OPEN_CALL = "$f($v, $x) ==>> $f($v, ($x))"
 OPEN_MACRO = "$m!($a, $b) ==>> $m!($b, $a)"
 # rules with paths, and the same with placeholders in their place
+LED = [
+    ("record", [RECORD], [OPEN_RECORD]),
+    ("qualified call", [CALL], [OPEN_CALL]),
+    ("macro call", [MACRO], [OPEN_MACRO]),
+    ("a path alone", ["Vec ==>> Range"], []),
+]
+# what has the usages of a method, none of which leads to a match
+LED_TO_NOTHING = ["Vec::push($v, 123456789) ==>> $v"]
 RULES = [
     ("record", [RECORD], [OPEN_RECORD]),
     ("qualified call", [CALL], [OPEN_CALL]),
@@ -120,7 +130,7 @@ def time_one(program, path, repeat, rules):
 
 def told(name, size, matches, time, *times):
     """A line of the table."""
-    print("%-24s %10d %8d %10.2f %8.1f" % (name, size, matches, time / 1e6, 1000 * size / time), *["%9.2f" % it for it in times], flush=True)
+    print("%-31s %10d %8d %10.2f %8.1f" % (name, size, matches, time / 1e6, 1000 * size / time), *["%9.2f" % it for it in times], flush=True)
 
 
 def time_rules(program, path, size, repeat):
@@ -132,6 +142,22 @@ def time_rules(program, path, size, repeat):
         told(name + ", no path", size, matches, alone, alone / nothing)
         matches, time = time_one(program, path, repeat, rules)
         told(name, size, matches, time, time / nothing, time / alone)
+
+
+def time_led(program, path, size, repeat):
+    """Lines for rules that are searched where usages lead, by a scan, and rewritten."""
+    matches, nothing = time_one(program, path, repeat, ["--edits", *LED_TO_NOTHING])
+    told("edits, led to nothing", size, matches, nothing)
+    for name, rules, others in LED:
+        matches, led = time_one(program, path, repeat, rules)
+        told(name + ", led", size, matches, led)
+        matches, scanned = time_one(program, path, repeat, ["--scan", *rules])
+        told(name + ", scanned", size, matches, scanned, scanned / led)
+        files, edited = time_one(program, path, repeat, ["--edits", *rules])
+        told(name + ", edits", size, files, edited, edited / nothing)
+        if others:
+            files, open_edited = time_one(program, path, repeat, ["--edits", *others])
+            told(name + ", edits, no path", size, files, open_edited, edited / open_edited)
 
 
 def expanded(count):
@@ -178,12 +204,13 @@ def main():
         fetch(packages, options.packages)
         files = unpack(packages, options.packages, os.path.join(folder, "source"))
         paths = modules(program, files, folder)
-        print("%-24s %10s %8s %10s %8s %9s %9s" % ("rules", "bytes", "matches", "search ms", "MB/s", "nothing", "no path"))
+        print("%-31s %10s %8s %10s %8s %9s %9s" % ("rules", "bytes", "matches", "search ms", "MB/s", "nothing", "no path"))
         for megabytes in options.megabytes:
             taken = some_files(paths, 1e6 * megabytes)
             texts = [text_of(path) for path in taken]
             path = written(facts(program, taken, texts), folder)
             time_rules(program, path, sum(len(text) for text in texts), options.repeat)
+            time_led(program, path, sum(len(text) for text in texts), options.repeat)
         print("%-16s %10s %8s %10s %8s %7s" % ("rule", "expansions", "matches", "search ms", "", "times"))
         time_expansions(program, options.expansions, folder, options.repeat)
 

@@ -9,6 +9,7 @@ The last line is 'N passed, M failed'.
 """
 
 import contextlib
+import json
 import os
 import re
 import resource
@@ -85,7 +86,7 @@ def earlier_rules_come_first(program):
 
 @example
 def wrong_words_are_refused(program):
-    for words in [[], ["--facts", "f.json", SWAP], [SWAP, b"\xff"]]:
+    for words in [[], ["--facts"], ["--facts", SWAP], [SWAP, b"\xff"]]:
         yield gives(program, words, SUM, USAGE, 2)
         # nor is anything read
         with folder() as stream:
@@ -139,6 +140,90 @@ def every_beginning_is_answered(program):
         yield all(is_answer(*answer(program, [SWAP], file)) for file in beginnings)
         yield all(is_answer(*answer(program, [rule], SUM)) for rule in beginnings)
         yield gives(program, [SWAP], text, output, status)
+
+
+# ** Facts: rules and the facts file that they are run on, and what is written with which status.
+
+FOO_AND_BAR = {
+    "files": [{"name": "a.rs", "text": "fn foo() {} fn bar() {} fn main() { foo(1+2); }"}],
+    "defs": [{"kind": "function"}, {"kind": "function"}],
+    "scopes": [[0, 0, 47]],
+    "names": [[0, ["foo"], ["def", 0]], [0, ["bar"], ["def", 1]]],
+    "paths": [[0, 36, 39, ["def", 0]]],
+    "printed": [[0, 1, "bar"]],
+}
+
+# the expansion has the 2 twice
+TWICE = {
+    "files": [{"name": "a.rs", "text": "fn f() { m!(1 + 2 + 3) }"}],
+    "expansions": [
+        {
+            "call": [0, 9, 22],
+            "kind": "expr",
+            "tokens": [
+                ["(", False],
+                ["1", False, 12, 13],
+                ["+", False, 14, 15],
+                ["2", False, 16, 17],
+                [",", False],
+                ["2", False, 16, 17],
+                ["+", False, 18, 19],
+                ["3", False, 20, 21],
+                [")", False],
+            ],
+        }
+    ],
+    "scopes": [[0, 0, 24], [1, 0, 9]],
+}
+
+
+def files(*texts, **more):
+    """The facts of files a.rs, b.rs, .. whose nodes stand in one scope each."""
+    rows = [{"name": f"{chr(97 + n)}.rs", "text": text} for n, text in enumerate(texts)]
+    return {"files": rows, "scopes": [[n, 0, len(text)] for n, text in enumerate(texts)], **more}
+
+
+NO_CALL = {"call": [0, 0, 2], "kind": "expr", "tokens": []}
+
+NO_NAME = "error: Parse error: Failed to resolve path `foo`\n"
+
+WITH_FACTS = [
+    (["foo($x) ==>> bar($x)"], FOO_AND_BAR, "== a.rs\nfn foo() {} fn bar() {} fn main() { bar(1+2); }\n", 0),
+    # no path stands for what `bar` does
+    (["bar($x) ==>> bar($x)"], FOO_AND_BAR, "", 0),
+    ([SWAP], TWICE, "error: replacements clash in a.rs at 12..17 and 16..21\n", 1),
+    # files with an edit alone, in their order, each with a line break behind it
+    ([SWAP], files(SUM, "fn g() {}", f"{SUM}\n"), f"== a.rs\n{SWAPPED}\n== c.rs\n{SWAPPED}\n", 0),
+    # what is searched, and where the names of rules are looked up
+    ([SWAP], files(SUM, SUM, ranges=[[1, 0, 14]]), f"== b.rs\n{SWAPPED}\n", 0),
+    ([SWAP], files(SUM, SUM, ranges=[[1, 3, 3]]), f"== a.rs\n{SWAPPED}\n== b.rs\n{SWAPPED}\n", 0),
+    (["foo ==>> foo"], files("f!(foo);", "", names=[[1, ["foo"], ["other", 0]]]), NO_NAME, 1),
+    (["foo ==>> foo"], files("f!(foo);", "", names=[[1, ["foo"], ["other", 0]]], position=[1, 0]), "", 0),
+    # the facts come first, then the finder, then the rules in their order
+    (["no rule"], {"file": []}, "error: facts: wrong shape\n", 1),
+    (["no rule"], files("fn"), "error: facts: file 0 refused\n", 1),
+    (["no rule"], files(SUM, expansions=[NO_CALL]), "error: facts: expansion 0 refused\n", 1),
+    (["no rule"], {}, "error: Parse error: No such file\n", 1),
+    (["no rule"], files(SUM, position=[0, 15]), "error: Parse error: No such position\n", 1),
+    (["no rule"], files(SUM, ranges=[[1, 0, 1]]), "error: Parse error: No such file\n", 1),
+    (["no rule"], files(SUM, scopes=[]), "error: Parse error: no resolution scope for file\n", 1),
+    ([SWAP, "foo ==>> 1", "no rule"], files(SUM), NO_NAME, 1),
+]
+
+
+@example
+def facts_are_read(program):
+    with tempfile.TemporaryDirectory() as place:
+        path = os.path.join(place, "facts.json")
+        for rules, facts, written, status in WITH_FACTS:
+            Path(path).write_text(json.dumps(facts))
+            yield gives(program, ["--facts", path, *rules], "", written, status)
+        for given, told in [("{", "not JSON"), (b'{"files":[],"\xff":[]}', "not JSON")]:
+            Path(path).write_bytes(as_bytes(given))
+            yield gives(program, ["--facts", path, "no rule"], "", f"error: facts: {told}\n", 1)
+        # what is no file can't be read, and what isn't there can't be opened, which is told alike
+        for path in [place, os.path.join(place, "none.json")]:
+            yield gives(program, ["--facts", path, "no rule"], "", "error: facts: cannot be read\n", 1)
 
 
 # ** Depth and size.
@@ -318,8 +403,9 @@ def table(heading):
 def commands_of_pages_write_what_is_shown(program):
     for page in PAGES:
         with tempfile.TemporaryDirectory() as room:
-            # the facts file that the commands name
+            # the facts files that the commands name
             (Path(room) / "facts.json").write_text(blocks("docs/facts.md", "")[0])
+            shutil.copytree(TOP / "docs/queue", Path(room) / "queue")
             for command, shown in commands(page):
                 is_shown = shell(command, program, room)[0] == shown
                 if not is_shown:
@@ -360,6 +446,15 @@ def promises_have_their_clauses(_):
             if not is_there:
                 print(f"README.md: {clause} is not in {link}")
             yield is_there
+
+
+@example
+def the_crate_of_the_page_on_facts_is_that_of_its_facts(_):
+    crate = TOP / "docs/queue"
+    facts = (crate / "facts.json").read_text()
+    for file in json.loads(facts)["files"]:
+        yield (crate / file["name"]).read_text() == file["text"]
+    yield all(block in facts for block in blocks("docs/facts.md", "json"))
 
 
 @example

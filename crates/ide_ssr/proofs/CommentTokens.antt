@@ -1,5 +1,5 @@
 -- The comment at a position, and what stands behind its prefix.
-use Rattle.std.proofs.Common.{◌≡◌, ℕ, ◌+◌, ◌<◌, ◌≤◌, ◌==◌, Bool, true, false, cond, List, [], ◌∷◌, ◌++◌, length, map, drop, get_or, Option, Some, None, Bor, refl, sym, ◌∙◌, ap, subst, arith}
+use Rattle.std.proofs.Common.{◌≡◌, ℕ, ◌+◌, ◌<◌, ◌≤◌, ◌==◌, Bool, true, false, cond, List, ◌∷◌, length, map, drop, get_or, Option, Some, None, Bor, refl, sym, ◌∙◌, ap}
 use Rattle.std.specs.Prelude.{MatchOption}
 use Rattle.std.specs.List.{starts_with}
 use Rattle.std.specs.Option.{option_copied}

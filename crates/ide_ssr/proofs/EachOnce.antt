@@ -3,9 +3,8 @@ use Rattle.std.proofs.Common.{◌≡◌, ◌≢◌, ℕ, zero, suc, ◌+◌, ◌
 use Rattle.std.specs.Prelude.{count_by}
 use Rattle.std.specs.List.{flat_map}
 use Rattle.std.specs.Option.{IsSomeAnd}
-use Rattle.std.proofs.lemmas.Bool.{cases_eq, cond-true, cond-false}
+use Rattle.std.proofs.lemmas.Bool.{cases_eq}
 use Rattle.std.proofs.lemmas.Bool.Decides.{Decides-eqb}
-use Rattle.std.proofs.lemmas.List.{append_assoc}
 use Rattle.std.proofs.lemmas.List.Sums.{sum_by-append, sum_by-cons}
 use Rattle.std.proofs.lemmas.Option.{same_Some, slice_get_within}
 use Rattle.ssr_syntax_tree.specs.Places.{node_of as code_node, text_of as node_text}
@@ -14,14 +13,13 @@ use Rattle.ssr_base_trees.specs.declared.ids.FileRange.{FileRange}
 use Rattle.ssr_base_trees.specs.Laws.{LiesInFile}
 use Rattle.ssr_base_trees.specs.Workspace.{Workspace, file_span_of, original_range, tree_of, trees}
 use Rattle.ide_ssr_resolved_rule.specs.Resolved.{ResolvedRule}
-use Rattle.ide_ssr_bindings.specs.Found.{FoundMatch, IsMatch}
+use Rattle.ide_ssr_bindings.specs.Found.{FoundMatch}
 use Rattle.ide_ssr_nesting.specs.declared.holders.Holder.{Holder}
 use Rattle.ide_ssr_nesting.specs.Holding.{Kept, IsKept}
 use Rattle.ide_ssr_nesting.specs.Lists.{Listing, AreLists, listed}
 use Rattle.ide_ssr_nesting.proofs.Shared.{lists_what_is_held}
 use Rattle.ide_ssr.specs.declared.matches.Match.{Match}
 use Rattle.ide_ssr.specs.declared.matches.PlaceholderMatch.{PlaceholderMatch}
-use Rattle.ide_ssr.specs.Comments.{comment_spans}
 use Rattle.ide_ssr.specs.Finder.{Finder}
 use Rattle.ide_ssr.specs.Flattened.{inside, IsAlone, Flattens, ShowAlone, ShowEachOnce}
 use Rattle.ide_ssr.specs.Flattened as flattened

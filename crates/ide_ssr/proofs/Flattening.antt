@@ -1,15 +1,12 @@
 -- Nested matches are flattened one by one, from the last to the first.
-use Rattle.std.proofs.Common.{◌≡◌, Bool, true, false, ℕ, ◌+◌, ◌<◌, ◌≤◌, List, [], ◌∷◌, ◌++◌, inl, inr, length, map, take, reverse, get_or, All, refl, sym, ◌∙◌, ap, subst, arith}
+use Rattle.std.proofs.Common.{◌≡◌, Bool, true, false, ℕ, ◌<◌, ◌≤◌, List, [], ◌∷◌, ◌++◌, length, map, take, reverse, get_or, All, refl, sym, ◌∙◌, ap, subst, arith}
 use Rattle.std.specs.List.{flat_map}
-use Rattle.std.proofs.Math.Seq.{take_all}
-use Rattle.std.proofs.lemmas.Bool.{cases_eq, cases_lt}
-use Rattle.std.proofs.lemmas.List.{append-nil, append_assoc, reverse-append, take_more, same_lists, get_or-map, length-map, get_or_default}
-use Rattle.std.proofs.lemmas.List.Concat.{flat_map-append}
+use Rattle.std.proofs.lemmas.List.{append-nil, append_assoc, reverse-append, same_lists, get_or-map, length-map}
 use Rattle.std.proofs.lemmas.List.Elements.{All-nil, All-cons, All-append}
 use Rattle.ssr_syntax_tree.proofs.Lists.{stands_at}
 use Rattle.ide_ssr.specs.declared.matches.Match.{Match}
 use Rattle.ide_ssr.specs.declared.matches.PlaceholderMatch.{PlaceholderMatch}
-use Rattle.ide_ssr.specs.Flattened.{Told, inside, told_of, IsEmpty, HasNoneInside, IsAlone, Flattens, nothing, next}
+use Rattle.ide_ssr.specs.Flattened.{Told, inside, told_of, IsEmpty, HasNoneInside, Flattens, nothing, next}
 use Rattle.ide_ssr.specs.Matches.{inner_of}
 use Rattle.ide_ssr.specs.Private.Flattening.{MovesLast, FlattensLast}
 

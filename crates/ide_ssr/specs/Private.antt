@@ -1,3 +1,4 @@
 pub mod Flattening
 pub mod Made
 pub mod Starts
+pub mod Found

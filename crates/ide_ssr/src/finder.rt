@@ -1,7 +1,8 @@
 //! The finder: a workspace, rules, and what the search for them is made for.
 
-ghost use Rattle.std.specs.Prelude.{◌≡◌, ◌↔◌, ◌++◌, [], All, IfOk, IsTrue, OnErr};
+ghost use Rattle.std.specs.Prelude.{ℕ, ◌≡◌, ◌↔◌, ◌≤◌, ◌+◌, ◌++◌, [], All, IfOk, IsTrue, OnErr};
 ghost use Rattle.ide_ssr_resolved_rule.specs.Patterns.{HasEachOnce, AreInArguments};
+ghost use Rattle.ide_ssr_resolving.specs.Resolved.{IsResolvedBy};
 ghost use Rattle.ide_ssr_rules.specs.Resolved.{resolved_kinds};
 ghost use Rattle.ide_ssr_rewriting.specs.Edits.{EditsFit, EditsInOrder};
 ghost use Rattle.ide_ssr_search.specs.Making.{Makes, MakesFirst};
@@ -11,10 +12,15 @@ ghost use Rattle.ide_ssr.specs.Edits.{Edits, HaveTemplates};
 ghost use Rattle.ide_ssr.specs.Finder.{finder_of};
 ghost use Rattle.ide_ssr.specs.Making.{MakesFinder, TellsRefusal};
 ghost use Rattle.ide_ssr.specs.Nesting.{ShowKept};
+ghost use Rattle.ide_ssr.specs.Private.Found.{IsAllFound};
 ghost use Rattle.ide_ssr.specs.Searching.{IsOutcome};
+ghost use Rattle.ide_ssr_leading.specs.Tries.{IsMost};
 
-use crate::matches::SsrMatches;
+use crate::matches::{Match, SsrMatches};
 use crate::nesting::nested_matches;
+use ide_ssr_bindings::FoundMatch;
+use ide_ssr_leading::find_led;
+use ide_ssr_matching::Tries;
 use ide_ssr_nesting::{KeptMatches, Lists, keep};
 use ide_ssr_refusals::SsrError;
 use ide_ssr_resolved_rule::ResolvedRule;
@@ -31,16 +37,17 @@ use std::marker::Model;
 /// Finds what matches rules in a workspace, and rewrites it.
 #[derive(Drop)]
 pub struct MatchFinder<'a, S: Semantics> {
-    alloc: Global,
-    workspace: &'a Trees,
-    semantics: &'a S,
+    pub(crate) alloc: Global,
+    pub(crate) workspace: &'a Trees,
+    pub(crate) semantics: &'a S,
     context: Context,
-    rules: Vec<ResolvedRule>,
+    pub(crate) rules: Vec<ResolvedRule>,
 }
 
 impl<'a, S: Semantics> Model for MatchFinder<'a, S> {
     ghost use Rattle.std.specs.Prelude.{All};
     ghost use Rattle.ide_ssr_resolved_rule.specs.Patterns.{HasEachOnce, AreInArguments};
+    ghost use Rattle.ide_ssr_resolving.specs.Resolved.{IsResolvedBy};
     ghost use Rattle.ide_ssr.specs.Finder.{FinderWith};
     ghost use Rattle.ide_ssr.specs.FinderCode.{finder_code};
 
@@ -50,7 +57,7 @@ impl<'a, S: Semantics> Model for MatchFinder<'a, S> {
 
     ghost view = { λ finder. record { workspace = finder.workspace.now; semantics = finder.semantics.now; context = finder.context; rules = finder.rules.items } };
 
-    ghost invariant = { λ finder. All (λ rule. HasEachOnce rule.names rule.pattern) finder.rules.items × All (λ rule. AreInArguments rule.names rule.pattern rule.pattern_paths) finder.rules.items };
+    ghost invariant = { λ finder. All (λ rule. HasEachOnce rule.names rule.pattern) finder.rules.items × All (λ rule. AreInArguments rule.names rule.pattern rule.pattern_paths) finder.rules.items × All (IsResolvedBy (S.meanings finder.semantics.now)) finder.rules.items };
 }
 
 /// Tells how many rules there are, a text without a promise.
@@ -169,6 +176,7 @@ impl<'a, S: Semantics> MatchFinder<'a, S> {
     fn add_kinds(&mut self, mut kinds: Vec<ResolvedRule>) -> Result<(), AllocError>
         requires each { All (λ kind. HasEachOnce kind.names kind.pattern) kinds.items }
         requires in_arguments { All (λ kind. AreInArguments kind.names kind.pattern kind.pattern_paths) kinds.items }
+        requires known { All (IsResolvedBy (S.meanings self.old.semantics)) kinds.items }
         ensures added { IfOk result (λ _. self.new ≡ record self.old { rules = self.old.rules ++ kinds.items }) }
         ensures unchanged { OnErr result (self.new ≡ self.old) }
     {
@@ -187,32 +195,30 @@ impl<'a, S: Semantics> MatchFinder<'a, S> {
         if !have_templates(&self.rules) {
             return Err(EditError::NoTemplate);
         }
-        let (kept, lists) = self.outcome()?;
+        let found = self.found_where_led(&mut Tries::none())?;
+        let (kept, lists) = self.outcome(found)?;
         edits(self.alloc, self.semantics, &kept, &lists, &self.rules)
     }
 
     /// The kept matches as `edits` replaces them: the outermost ones, each with what its placeholders hold. A match has each
-    /// placeholder of its rule once, and their ranges share no byte.
+    /// placeholder of its rule once, and their ranges share no byte. A rule that a path leads is tried only where
+    /// usages of what this path stands for lead, at no more nodes than there are usages; any other rule at each node where it
+    /// is permitted.
     pub fn matches(&self) -> Result<SsrMatches<'a>, AllocError>
         ensures shows { IfOk result (λ found. ShowKept (finder_of S.meanings self.now) found.matches.items) }
         ensures binds { IfOk result (λ found. BindOnce self.now.rules found.matches.items) }
+        ensures count { IfOk result (λ found. (most : ℕ) → IsMost self.now.workspace (S.meanings self.now.semantics) self.now.context self.now.rules most → found.tries ≤ most) }
     {
-        self.scan_matches()
+        let mut tries = Tries::none();
+        let found = self.found_where_led(&mut tries)?;
+        let matches = self.nested(found)?;
+        Ok(SsrMatches { matches, tries })
     }
 
     /// The kept matches, as `matches` lists them, always found by trying every node at which a rule is permitted.
     pub fn scan_matches(&self) -> Result<SsrMatches<'a>, AllocError>
         ensures shows { IfOk result (λ found. ShowKept (finder_of S.meanings self.now) found.matches.items) }
         ensures binds { IfOk result (λ found. BindOnce self.now.rules found.matches.items) }
-    {
-        let (kept, lists) = self.outcome()?;
-        let matches = nested_matches(self.alloc, &kept, &lists, &self.rules)?;
-        Ok(SsrMatches { matches })
-    }
-
-    /// The kept ones among the matches of all rules, and their lists.
-    fn outcome(&self) -> Result<(KeptMatches<'a>, Lists), AllocError>
-        ensures { IfOk result (λ outcome. IsOutcome (finder_of S.meanings self.now) outcome.0 outcome.1) }
     {
         let found = find_matches(
             self.alloc,
@@ -221,6 +227,43 @@ impl<'a, S: Semantics> MatchFinder<'a, S> {
             &self.context,
             &self.rules,
         )?;
+        let matches = self.nested(found)?;
+        Ok(SsrMatches {
+            matches,
+            tries: Tries::none(),
+        })
+    }
+
+    /// All matches of the rules, found where usages lead.
+    fn found_where_led(&self, tries: &mut Tries) -> Result<Vec<FoundMatch>, AllocError>
+        ensures found { IfOk result (λ found. IsAllFound (finder_of S.meanings self.now) found.items) }
+        ensures count { IfOk result (λ _. (most : ℕ) → IsMost self.now.workspace (S.meanings self.now.semantics) self.now.context self.now.rules most → tries.new ≤ tries.old + most) }
+    {
+        find_led(
+            self.alloc,
+            self.workspace,
+            self.semantics,
+            &self.context,
+            &self.rules,
+            tries,
+        )
+    }
+
+    /// What is found, with the kept ones nested.
+    fn nested(&self, found: Vec<FoundMatch>) -> Result<Vec<Match<'a>>, AllocError>
+        requires { IsAllFound (finder_of S.meanings self.now) found.items }
+        ensures shows { IfOk result (λ matches. ShowKept (finder_of S.meanings self.now) matches.items) }
+        ensures binds { IfOk result (λ matches. BindOnce self.now.rules matches.items) }
+    {
+        let (kept, lists) = self.outcome(found)?;
+        nested_matches(self.alloc, &kept, &lists, &self.rules)
+    }
+
+    /// The kept ones of all matches of the rules, and their lists.
+    fn outcome(&self, found: Vec<FoundMatch>) -> Result<(KeptMatches<'a>, Lists), AllocError>
+        requires { IsAllFound (finder_of S.meanings self.now) found.items }
+        ensures { IfOk result (λ outcome. IsOutcome (finder_of S.meanings self.now) outcome.0 outcome.1) }
+    {
         let kept = keep(self.alloc, self.workspace, found)?;
         let lists = Lists::new(self.alloc, &kept)?;
         Ok((kept, lists))

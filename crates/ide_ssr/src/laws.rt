@@ -1,11 +1,12 @@
 //! What holds of the words of the contracts, whatever the code: each function here does nothing, and what it ensures is a law;
-//! but for `equality`, which compares. Those of what is found, of kept matches and their lists, of white space and comments and
-//! of errors stand in the crates of their words.
+//! but for `equality`, which compares, and `first_phase`, which runs the matcher's first phase alone. Those of what is found, of
+//! kept matches and their lists, of shapes, of white space and comments and of errors stand in the crates of their words.
 ghost use Rattle.ssr_base_trees.specs.Built.{IsBuilt};
 ghost use Rattle.ide_ssr.specs.Finder.{Finder};
 ghost use Rattle.ide_ssr.specs.Laws.{AnswerExists, OneEdit, OneOutcome, OutcomeExists};
 
-pub use ide_ssr_matching::laws::trivia;
+pub use ide_ssr_leading::laws::leading;
+pub use ide_ssr_matching::laws::{first_phase, shape, trivia};
 pub use ide_ssr_nesting::laws::{holding, keeping, listing, ordering};
 pub use ide_ssr_refusals::laws::equality;
 pub use ide_ssr_search::laws::finding;

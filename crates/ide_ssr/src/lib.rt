@@ -2,6 +2,7 @@
 #![tactic(auto)]
 
 mod comments;
+mod debugging;
 mod finder;
 mod flattened;
 mod from_comment;
@@ -15,6 +16,8 @@ mod starts;
 
 pub use finder::MatchFinder;
 pub use from_comment::ssr_from_comment;
+pub use ide_ssr_debugging::MatchDebugInfo;
+pub use ide_ssr_matching::Tries;
 pub use ide_ssr_refusals::SsrError;
 pub use ide_ssr_rewriting::EditError;
 pub use ide_ssr_rules::{SsrPattern, SsrRule, Var};

@@ -7,6 +7,7 @@ ghost use Rattle.ide_ssr.specs.Matches.{text_of, range_of, node_of, rule_of, pla
 ghost use Rattle.ide_ssr.specs.Nesting.{ShowKept};
 
 use crate::flattened::flatten_last;
+use ide_ssr_matching::Tries;
 use ide_ssr_rules::Var;
 use ssr_base_trees::{FileRange, NodeId, SelfKind};
 use std::alloc::{AllocError, Global};
@@ -16,6 +17,8 @@ use std::mem;
 /// others stand below them.
 pub struct SsrMatches<'a> {
     pub matches: Vec<Match<'a>>,
+    /// How often rules were tried at nodes, in what `MatchFinder::matches` answers. It is for contracts alone and has no bytes.
+    pub tries: Tries,
 }
 
 impl<'a> SsrMatches<'a> {
@@ -31,6 +34,7 @@ impl<'a> SsrMatches<'a> {
         let mut left = self;
         let mut flat = SsrMatches {
             matches: Vec::new(alloc),
+            tries: mem::replace(&mut left.tries, Tries::none()),
         };
         while flatten_last(&mut left.matches, &mut flat.matches)? {}
         flat.matches.reverse();
@@ -80,7 +84,7 @@ fn drop_nested(matches: Vec<Match<'_>>) {
 impl Drop for SsrMatches<'_> {
     /// A loop: matches nest as deep as the tree times the number of rules, which can be more than the stack holds.
     fn drop(self) {
-        let SsrMatches { matches } = self;
+        let SsrMatches { matches, tries: _ } = self;
         drop_nested(matches);
     }
 }

@@ -31,7 +31,7 @@ use Rattle.ide_ssr_matching.specs.UsedPaths.{from_arguments, arguments_of, patte
 use Rattle.ide_ssr_token_trees.specs.Placeholders.{placeholders_from}
 use Rattle.ide_ssr_token_trees.proofs.Shared.{trees_bound}
 use Rattle.ide_ssr_matching.specs.TokenTrees.{is_token_tree, token_placeholder, has_token_placeholder, is_plain, is_by_parts}
-use Rattle.ide_ssr_matching.specs.Matching.{Matches, bound, token_trees, method, used, alike, Pairs, end, tokens, nodes, named}
+use Rattle.ide_ssr_matching.specs.Matching.{Matches, Relates, bound, token_trees, method, used, alike, PairsRelate, end, tokens, nodes, named}
 use Rattle.ide_ssr_matching.specs.Bindings.{counted}
 use Rattle.ide_ssr_bindings.specs.declared.receivers.Receiver.{Receiver}
 use Rattle.ide_ssr_bindings.specs.Receivers.{is_node, received}
@@ -222,7 +222,7 @@ counted_of s o node is =
     (counted_all (IsPartOf s) o node children
     (λ segment found. each_child s segment (first_has (IsPartOf s) k.PATH_SEGMENT (parts_of node) segment found children)))
 
-module _ (m : Meanings) (tree : ℕ) (rule : ResolvedRule) (in_arguments : AreInArguments rule.names rule.pattern rule.pattern_paths) where
+module _ (names : Bool) (m : Meanings) (tree : ℕ) (rule : ResolvedRule) (in_arguments : AreInArguments rule.names rule.pattern rule.pattern_paths) where
   used_in_arguments : (p : Node) (r : Res) → IsOf rule.pattern p → pattern_res rule p ≡ Some r → HasThemInArguments rule.names p.children
   used_in_arguments p r is res =
       let P = λ (path : UsedPath). HasThemInArguments rule.names (node_of rule.pattern path.node.0).children in
@@ -337,7 +337,7 @@ module _ (m : Meanings) (tree : ℕ) (rule : ResolvedRule) (in_arguments : AreIn
       (tokens_of_node rule.pattern p.number is.0))
 
   mutual
-    matches_bind : (p c : Node) (bs : List Binding) → Matches m tree rule p c bs → IsOf rule.pattern p → placeholders_bound bs ≡ at_node rule.names p
+    matches_bind : (p c : Node) (bs : List Binding) → Relates names m tree rule p c bs → IsOf rule.pattern p → placeholders_bound bs ≡ at_node rule.names p
     matches_bind _ _ _ (bound p c i at met) is = at_placeholder rule.names p i at
     matches_bind _ _ _ (token_trees p c bs none tree_node code_tree found) is =
         trees_bound (token_placeholder rule) p c bs found
@@ -370,7 +370,7 @@ module _ (m : Meanings) (tree : ℕ) (rule : ResolvedRule) (in_arguments : AreIn
         ∙ among_children rule.names p.number (1 + p.number) p.first p.children
         ∙ at_parts p by_parts
 
-    pairs_bind : (ps cs : List Part) (bs : List Binding) → Pairs m tree rule ps cs bs → All (IsPartOf rule.pattern) ps → placeholders_bound bs ≡ among rule.names ps
+    pairs_bind : (ps cs : List Part) (bs : List Binding) → PairsRelate names m tree rule ps cs bs → All (IsPartOf rule.pattern) ps → placeholders_bound bs ≡ among rule.names ps
     pairs_bind _ _ _ end all = refl
     pairs_bind _ _ _ (tokens t u p c ps cs bs kinds texts behind) all =
         pairs_bind ps cs bs behind (All-tail (IsPartOf rule.pattern) (token_part t p) ps all)
@@ -383,8 +383,12 @@ module _ (m : Meanings) (tree : ℕ) (rule : ResolvedRule) (in_arguments : AreIn
   unfolding node_of
   root_is = (omega arith, refl)
 
-  pub placeholders_are : (c : Node) (bs : List Binding) → Matches m tree rule (root_of rule.pattern) c bs
+  pub placeholders_related : (c : Node) (bs : List Binding) → Relates names m tree rule (root_of rule.pattern) c bs
       → placeholders_bound bs ≡ placeholders_of rule.names rule.pattern
   unfolding placeholder_at
-  placeholders_are c bs matches =
+  placeholders_related c bs matches =
       matches_bind (root_of rule.pattern) c bs matches root_is ∙ sym (append-nil (at_node rule.names (root_of rule.pattern)))
+
+pub placeholders_are : (m : Meanings) (tree : ℕ) (rule : ResolvedRule) → AreInArguments rule.names rule.pattern rule.pattern_paths → (c : Node) (bs : List Binding)
+    → Matches m tree rule (root_of rule.pattern) c bs → placeholders_bound bs ≡ placeholders_of rule.names rule.pattern
+placeholders_are = placeholders_related true

@@ -13,6 +13,7 @@ use Rattle.ide_ssr_bindings.specs.declared.bindings.Binding.{Binding}
 use Rattle.ide_ssr_bindings.specs.declared.receivers.Receiver.{Receiver}
 use Rattle.ide_ssr_bindings.specs.Receivers.{received}
 use Rattle.ide_ssr_token_trees.specs.Bindings.{joined, Answers, matched, other}
+use Rattle.ide_ssr_token_trees.specs.Recording.{Recorded, emptied, recorded, recorded_with}
 use Rattle.ide_ssr_matching.specs.declared.calls.MethodNodes.{MethodNodes}
 use Rattle.ide_ssr_matching.specs.Bindings.{Binder, pair_by, pairs_by, sides_by}
 use Rattle.ide_ssr_matching.specs.Calls.{child_nodes, PathCall, Method, method_pairs, alike_pairs}
@@ -30,7 +31,7 @@ node_parts tree nodes = map node_part (nodes_at tree nodes)
 
 -- ** Generic arguments, of which the code has one list or none.
 
-pub generics-start : (inner : Binder) (pattern code lent : Syntax) (n : ℕ) (generics : Option NodeNo) (ps : List Element) (old : List Binding) → lent ≡ pattern
+pub generics-start : (inner : Binder) (pattern code lent : Syntax) (n : ℕ) (generics : Option NodeNo) (ps : List Element) (old : Recorded) → lent ≡ pattern
     → map (part_of lent) ps ≡ arguments_of (node_of lent n)
     → PairedSoFar inner (generics_by inner (node_of pattern n) (nodes_at code (option_to_list generics))) (bare (map (part_of pattern) ps))
     (node_parts code (option_to_list generics)) old old
@@ -50,7 +51,7 @@ generics-taken code left after node left_is none =
 
 -- ** Arguments.
 
-pub arguments-start : (inner : Binder) (pattern code lent : Syntax) (n : ℕ) (method : MethodNodes) (ps cs : List NodeNo) (old : List Binding) → lent ≡ pattern
+pub arguments-start : (inner : Binder) (pattern code lent : Syntax) (n : ℕ) (method : MethodNodes) (ps cs : List NodeNo) (old : Recorded) → lent ≡ pattern
     → nodes_at lent ps ≡ child_nodes (node_of lent n) → nodes_at code cs ≡ arguments_at code method
     → PairedSoFar inner (arguments_by inner (child_nodes (node_of pattern n)) (arguments_at code method)) (node_parts pattern ps) (node_parts code cs) old old
 arguments-start inner pattern code lent n method ps cs old lent_is ps_are cs_are =
@@ -62,7 +63,7 @@ pub nodes-next : (tree : Syntax) (left behind : List NodeNo) (node : NodeNo) →
     → node_parts tree left ≡ node_part (node_of tree node.0) ∷ node_parts tree behind
 nodes-next tree left behind node steps = ap (node_parts tree) steps
 
-module _ (inner : Binder) (whole : Option (List Binding)) (before beside : List Part) (old out : List Binding)
+module _ (inner : Binder) (whole : Option (List Binding)) (before beside : List Part) (old out : Recorded)
     (so_far : PairedSoFar inner whole before beside old out) (none : before ≡ []) (code : Syntax) where
   -- the pattern has nothing more
   pub nodes-end : (came : Option NodeNo) (left behind : List NodeNo) (b : Bool) → beside ≡ node_parts code left → YieldsFirst (λ left. left) left came behind
@@ -89,6 +90,12 @@ pairs_behind inner (p ∷ ps) more_ps [] more_cs same = cc
 pairs_behind inner (p ∷ ps) more_ps (c ∷ cs) more_cs same =
     ap (joined (pair_by inner p c)) (pairs_behind inner ps more_ps cs more_cs (let e : length ps ≡ length cs = cc in e))
     ∙ sym (joined_assoc (pair_by inner p c) (pairs_by inner ps cs) (pairs_by inner more_ps more_cs))
+
+-- what is held comes behind what was bound before
+kept_behind : (receiver : Receiver) (old : Recorded) (gs bs : List Binding)
+    → recorded_with receiver old (recorded (recorded (emptied old) gs) bs) ≡ recorded old (map (received receiver) (gs ++ bs))
+kept_behind receiver None gs bs = refl
+kept_behind receiver (Some before) gs bs = refl
 
 module _ (inner : Binder) (called : PathCall) (method : Method) (receiver : Receiver) (o : Option Sides) (o_is : alike_pairs called method receiver ≡ o) where
   abbrev generics : Option (List Binding)
@@ -118,28 +125,28 @@ module _ (inner : Binder) (called : PathCall) (method : Method) (receiver : Rece
           (unequal inner ps (map node_part method.generics)
           (λ same. let e : true ≡ false = sym (eq-eqb (length ps) (length method.generics) (same ∙ length-map method.generics node_part)) ∙ differ in cc)))
 
-  pub generics-differ : (old none held : List Binding) (b : Bool) → Answers generics none held b → b ≡ false
+  pub generics-differ : (old start held : Recorded) (b : Bool) → Answers generics start held b → b ≡ false
       → Answers (option_and_then (sides_by inner) o) old old false
-  generics-differ old none held b answers failed =
-      other refl (in_two ∙ ap (λ o. option_map (kept (Some receiver)) (joined o arguments)) (unmatched generics none held b failed answers))
+  generics-differ old start held b answers failed =
+      other refl (in_two ∙ ap (λ o. option_map (kept (Some receiver)) (joined o arguments)) (unmatched generics start held b failed answers))
 
-  pub arguments-differ : (old none held : List Binding) (b : Bool) → Answers arguments none held b → b ≡ false
+  pub arguments-differ : (old start held : Recorded) (b : Bool) → Answers arguments start held b → b ≡ false
       → Answers (option_and_then (sides_by inner) o) old old false
-  arguments-differ old none held b answers failed =
+  arguments-differ old start held b answers failed =
       other refl
       (in_two
-      ∙ ap (λ o. option_map (kept (Some receiver)) (joined generics o)) (unmatched arguments none held b failed answers)
+      ∙ ap (λ o. option_map (kept (Some receiver)) (joined generics o)) (unmatched arguments start held b failed answers)
       ∙ ap (option_map (kept (Some receiver))) (lacking generics))
 
   -- what is held is kept
-  pub both-match : (old new none held all : List Binding) (b d : Bool) → none ≡ [] → Answers generics none held b → b ≡ true
-      → Answers arguments held all d → d ≡ true → new ≡ old ++ map (received receiver) all
+  pub both-match : (old new start held all : Recorded) (b d : Bool) → start ≡ emptied old → Answers generics start held b → b ≡ true
+      → Answers arguments held all d → d ≡ true → new ≡ recorded_with receiver old all
       → Answers (option_and_then (sides_by inner) o) old new true
-  both-match old new none held all b d is_none (matched gs is found held_is) generics_matched (matched bs is_too found_too all_is) arguments_matched new_is =
+  both-match old new start held all b d start_is (matched gs is found held_is) generics_matched (matched bs is_too found_too all_is) arguments_matched new_is =
       matched (map (received receiver) (gs ++ bs)) refl
       (in_two ∙ ap (λ o. option_map (kept (Some receiver)) (joined o arguments)) found
       ∙ ap (λ o. option_map (kept (Some receiver)) (joined (Some gs) o)) found_too)
-      (new_is ∙ ap (λ all. old ++ map (received receiver) all) (all_is ∙ ap (λ held. held ++ bs) (held_is ∙ ap (λ none. none ++ gs) is_none)))
-  both-match old new none held all b d is_none (matched gs is found held_is) generics_matched (other is_too lacks) arguments_matched new_is =
+      (new_is ∙ ap (recorded_with receiver old) (all_is ∙ ap (λ held. recorded held bs) (held_is ∙ ap (λ start. recorded start gs) start_is)) ∙ kept_behind receiver old gs bs)
+  both-match old new start held all b d start_is (matched gs is found held_is) generics_matched (other is_too lacks) arguments_matched new_is =
       let e : true ≡ false = sym arguments_matched ∙ is_too in cc
-  both-match old new none held all b d is_none (other is lacks) generics_matched answers arguments_matched new_is = let e : true ≡ false = sym generics_matched ∙ is in cc
+  both-match old new start held all b d start_is (other is lacks) generics_matched answers arguments_matched new_is = let e : true ≡ false = sym generics_matched ∙ is in cc

@@ -2,6 +2,7 @@
 use Rattle.std.proofs.Common.{◌≡◌, ℕ, Bool, true, false, cond, List, [], ◌∷◌, length, All, Option, Some, None, refl, sym, ◌∙◌, ap, subst, option_to_list}
 use Rattle.std.specs.Prelude.{◌==◌}
 use Rattle.std.specs.Option.{option_map, option_map_or, option_and_then}
+use Rattle.std.proofs.lemmas.Bool.{eqb-true}
 use Rattle.std.proofs.lemmas.List.Elements.{All-nil, All-cons, All-head, All-tail}
 use Rattle.std.proofs.lemmas.Option.{none-some, same_Some}
 use Rattle.ssr_syntax_kinds.specs.declared.kinds.SyntaxKind.{SyntaxKind}
@@ -120,6 +121,7 @@ pub record IsMethodMatch (m : Meanings) (tree : ℕ) (rule : ResolvedRule) (call
   pub is_method : method_call c ≡ Some method
   pub receiver : Receiver
   pub is_received : receiver_with m tree (pattern_res rule called_nodes.path) call.qualifier_type c.number method.receiver.number ≡ Some receiver
+  pub even : length (bare (arguments_of called_nodes.path)) ≡ length method.generics
   pub same : method_pairs called_nodes method receiver ≡ sides
 
 module _ (m : Meanings) (tree : ℕ) (rule : ResolvedRule) (call : QualifiedCall) (p c : Node) (sides : Sides) where
@@ -128,20 +130,22 @@ module _ (m : Meanings) (tree : ℕ) (rule : ResolvedRule) (call : QualifiedCall
       → option_and_then (alike_pairs called_nodes method) o ≡ Some sides → IsMethodMatch m tree rule call p c sides
   with_receiver called_nodes is_call method is_method None none is = absurd (none-some sides is)
   with_receiver called_nodes is_call method is_method (Some receiver) receives is =
-      by (length (bare (arguments_of called_nodes.path)) == length method.generics) is
+      by (length (bare (arguments_of called_nodes.path)) == length method.generics) refl is
     where
-      by : (b : Bool) → ◌≡◌ {A = Option Sides} (cond b (Some (method_pairs called_nodes method receiver)) None) (Some sides)
+      by : (b : Bool) → (length (bare (arguments_of called_nodes.path)) == length method.generics) ≡ b
+          → ◌≡◌ {A = Option Sides} (cond b (Some (method_pairs called_nodes method receiver)) None) (Some sides)
           → IsMethodMatch m tree rule call p c sides
-      by true is = record {
+      by true even is = record {
         called_nodes = called_nodes;
         is_called = is_call;
         method = method;
         is_method = is_method;
         receiver = receiver;
         is_received = receives;
+        even = eqb-true (length (bare (arguments_of called_nodes.path))) (length method.generics) even;
         same = same_Some (method_pairs called_nodes method receiver) sides is;
       }
-      by false is = absurd (none-some sides is)
+      by false uneven is = absurd (none-some sides is)
 
   with_called : (called_nodes : PathCall) → IsCalled p called_nodes → (o : Option Method) → method_call c ≡ o
       → option_and_then (method_with m tree rule call.qualifier_type c called_nodes) o ≡ Some sides → IsMethodMatch m tree rule call p c sides

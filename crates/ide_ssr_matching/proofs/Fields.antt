@@ -8,6 +8,7 @@ use Rattle.ssr_syntax_tree.specs.Syntax.{Syntax}
 use Rattle.ssr_syntax_tree.specs.Places.{Node, node_part, node_of}
 use Rattle.ide_ssr_bindings.specs.declared.bindings.Binding.{Binding}
 use Rattle.ide_ssr_token_trees.specs.Bindings.{joined, Answers, other}
+use Rattle.ide_ssr_token_trees.specs.Recording.{Recorded}
 use Rattle.ide_ssr_matching.specs.Bindings.{Binder, pairs_by, sides_by}
 use Rattle.ide_ssr_matching.specs.Calls.{child_nodes}
 use Rattle.ide_ssr_matching.specs.Records.{all_some, have_same_label, are_different, named_nodes, named_pairs}
@@ -63,7 +64,7 @@ module _ (inner : Binder) where
         by true = fields_paired (child_nodes c) (child_nodes p)
         by false = refl
 
-  module _ (pattern code : Syntax) (n m : ℕ) (old new : List Binding) where
+  module _ (pattern code : Syntax) (n m : ℕ) (old new : Recorded) where
     abbrev ps : List Node
     ps = child_nodes (node_of pattern n)
 
@@ -106,13 +107,13 @@ module _ (inner : Binder) where
   -- ** Fields one after the other.
 
   module _ (pattern : Syntax) (cs : List Node) where
-    pub fields-starts : (n : ℕ) (left : List NodeNo) (old : List Binding) → nodes_at pattern left ≡ child_nodes (node_of pattern n)
+    pub fields-starts : (n : ℕ) (left : List NodeNo) (old : Recorded) → nodes_at pattern left ≡ child_nodes (node_of pattern n)
         → IsBoundSoFar (fields_by inner (child_nodes (node_of pattern n)) cs) (fields_by inner (nodes_at pattern left) cs) old old
     fields-starts n left old are =
         let whole = fields_by inner (child_nodes (node_of pattern n)) cs in
         subst (λ rest. IsBoundSoFar whole rest old old) (ap (λ ps. fields_by inner ps cs) (sym are)) (bound-starts whole old)
 
-    module _ (whole : Option (List Binding)) (old out : List Binding) where
+    module _ (whole : Option (List Binding)) (old out : Recorded) where
       module _ (field : NodeNo) (left behind : List NodeNo) (steps : left ≡ field ∷ behind)
           (so_far : IsBoundSoFar whole (fields_by inner (nodes_at pattern left) cs) old out) where
         at_front : (o : Option Node) → o ≡ find (have_same_label (node_of pattern field.0)) cs
@@ -123,7 +124,7 @@ module _ (inner : Binder) where
             ∙ ap (λ o. joined (option_and_then (inner (node_of pattern field.0)) o) (fields_by inner (nodes_at pattern behind) cs)) (sym is))
             so_far
 
-        module _ (c : Node) (is : Some c ≡ find (have_same_label (node_of pattern field.0)) cs) (new : List Binding) (b : Bool)
+        module _ (c : Node) (is : Some c ≡ find (have_same_label (node_of pattern field.0)) cs) (new : Recorded) (b : Bool)
             (answers : Answers (inner (node_of pattern field.0) c) out new b) where
           pub fields-turn : b ≡ true → IsBoundSoFar whole (fields_by inner (nodes_at pattern behind) cs) old new
           fields-turn holds = bound-turns whole old out (inner (node_of pattern field.0) c) (fields_by inner (nodes_at pattern behind) cs) new b (at_front (Some c) is) answers holds

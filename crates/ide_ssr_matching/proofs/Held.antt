@@ -22,7 +22,7 @@ use Rattle.ide_ssr_matching.specs.UsedPaths.{arguments_of}
 use Rattle.ide_ssr_bindings.specs.declared.receivers.Receiver.{Receiver}
 use Rattle.ide_ssr_bindings.specs.Receivers.{is_node, received}
 use Rattle.ide_ssr_matching.specs.Sides.{kept}
-use Rattle.ide_ssr_matching.specs.Matching.{Matches, bound, token_trees, method, used, alike, Pairs, end, tokens, nodes, named}
+use Rattle.ide_ssr_matching.specs.Matching.{Matches, Relates, bound, token_trees, method, used, alike, PairsRelate, end, tokens, nodes, named}
 use Rattle.ide_ssr_matching.specs.Calls.{child_nodes}
 use Rattle.ide_ssr_matching.proofs.CallNodes.{method_sides_are}
 use Rattle.ide_ssr_matching.proofs.NamedNodes.{named_nodes_are}
@@ -120,9 +120,9 @@ module _ (code : Syntax) where
     apart = received_apart r bs held.apart;
   }
 
-  module _ (m : Meanings) (tree : ℕ) (rule : ResolvedRule) where
+  module _ (names : Bool) (m : Meanings) (tree : ℕ) (rule : ResolvedRule) where
     mutual
-      matches_held : (p c : Node) (bs : List Binding) → Matches m tree rule p c bs → IsOf code c → AreHeld c bs
+      matches_held : (p c : Node) (bs : List Binding) → Relates names m tree rule p c bs → IsOf code c → AreHeld c bs
       matches_held _ _ _ (bound p c i at met) is = itself c i is
       matches_held _ _ _ (token_trees p c bs none tree_node code_tree found) is =
           let there = subst (λ node. TreesMatch (token_placeholder rule) p node bs) (sym is.1) found in
@@ -148,7 +148,7 @@ module _ (code : Syntax) where
           in_parts c (bare (parts_of c)) bs
           (pairs_held c (bare (parts_of p)) (bare (parts_of c)) bs children are.each are.among are.apart)
 
-      pairs_held : (c : Node) (ps cs : List Part) (bs : List Binding) → Pairs m tree rule ps cs bs
+      pairs_held : (c : Node) (ps cs : List Part) (bs : List Binding) → PairsRelate names m tree rule ps cs bs
           → All (IsPartOf code) cs → All (IsAmongNode c) cs → AllPairs PartsApart cs → AreHeldIn c cs bs
       pairs_held c _ _ _ end each among apart =
           record { each = All-nil (IsHeldIn code c); apart = pairs_none (AreApart code); beside = λ x clear. All-nil (IsBeside x) }
@@ -167,15 +167,23 @@ module _ (code : Syntax) where
           (pairs_held c ps cs rest behind (All-tail (IsPartOf code) (node_part q) cs each) (All-tail (IsAmongNode c) (node_part q) cs among)
           (pairs_tail PartsApart (node_part q) cs apart))
 
-    held_there : (p : Node) (n : ℕ) (bs : List Binding) → HasNode code n → Matches m tree rule p (node_of code n) bs → AreHeld (node_of code n) bs
+    held_there : (p : Node) (n : ℕ) (bs : List Binding) → HasNode code n → Relates names m tree rule p (node_of code n) bs → AreHeld (node_of code n) bs
     held_there p n bs has matches =
         let number = node_of-number code n has in
         matches_held p (node_of code n) bs matches (subst (HasNode code) (sym number) has, ap (node_of code) number)
 
-    pub held_in : (p : Node) (n : ℕ) (bs : List Binding) → HasNode code n → Matches m tree rule p (node_of code n) bs
+    pub related_in : (p : Node) (n : ℕ) (bs : List Binding) → HasNode code n → Relates names m tree rule p (node_of code n) bs
         → All (IsHeldIn code (node_of code n)) bs
-    held_in p n bs has matches = (held_there p n bs has matches).each
+    related_in p n bs has matches = (held_there p n bs has matches).each
 
-    pub held_apart : (p : Node) (n : ℕ) (bs : List Binding) → HasNode code n → Matches m tree rule p (node_of code n) bs
+    pub related_apart : (p : Node) (n : ℕ) (bs : List Binding) → HasNode code n → Relates names m tree rule p (node_of code n) bs
         → AllPairs (AreApart code) bs
-    held_apart p n bs has matches = (held_there p n bs has matches).apart
+    related_apart p n bs has matches = (held_there p n bs has matches).apart
+
+pub held_in : (code : Syntax) (m : Meanings) (tree : ℕ) (rule : ResolvedRule) (p : Node) (n : ℕ) (bs : List Binding) → HasNode code n
+    → Matches m tree rule p (node_of code n) bs → All (IsHeldIn code (node_of code n)) bs
+held_in code = related_in code true
+
+pub held_apart : (code : Syntax) (m : Meanings) (tree : ℕ) (rule : ResolvedRule) (p : Node) (n : ℕ) (bs : List Binding) → HasNode code n
+    → Matches m tree rule p (node_of code n) bs → AllPairs (AreApart code) bs
+held_apart code = related_apart code true

@@ -22,6 +22,7 @@ mod Numbered
 mod Bound
 mod Held
 mod Roots
+mod Shapes
 mod Stripped
 mod StrippedNodes
 mod StrippedParts

@@ -19,7 +19,7 @@ use Rattle.ide_ssr_matching.specs.UsedPaths.{arguments_of, pattern_res}
 use Rattle.ide_ssr_matching.specs.Sides.{Sides, kept}
 use Rattle.ide_ssr_matching.specs.Calls.{child_nodes, PathCall, call_of}
 use Rattle.ide_ssr_token_trees.specs.Bindings.{joined}
-use Rattle.ide_ssr_matching.specs.Bindings.{Binder, pair_by, pairs_by, counted, counted_sides, can_match, like_sides, sides_in, sides_of, sides_by, other_by, node_by, step, bindings_by, bindings_of, like_pairs}
+use Rattle.ide_ssr_matching.specs.Bindings.{Binder, pair_by, pairs_by, counted, counted_sides, can_match, like_sides, sides_in, sides_of, sides_by, other_by, node_by, step, bindings_by, bindings_in, like_pairs}
 use Rattle.ide_ssr_matching.specs.Records.{is_named, named_nodes, named_pairs}
 use Rattle.ide_ssr_matching.proofs.CallParts.{nodes_all, IsCalled, method_match}
 use Rattle.ide_ssr_matching.proofs.Counted.{bare_all, first_has, last_arguments_all}
@@ -98,14 +98,14 @@ module _ (f g : Binder) where
 
 -- ** Steps.
 
-module _ (m : Meanings) (tree : ℕ) (rule : ResolvedRule) where
+module _ (names : Bool) (m : Meanings) (tree : ℕ) (rule : ResolvedRule) where
   named_smaller : (p : Node) (sides : Sides) (o : Option (List Node)) → option_map (named_pairs p) o ≡ Some sides → All (IsSmaller (size_of p)) sides.pattern
   named_smaller p sides None is = absurd (none-some sides is)
   named_smaller p sides (Some nodes) is =
       subst (λ (s : Sides). All (IsSmaller (size_of p)) s.pattern) (same_Some (named_pairs p nodes) sides is)
       (All-map (IsSmaller (size_of p)) node_part (child_nodes p) (nodes_smaller (size_of p) p (omega arith)))
 
-  pairs_smaller : (p c : Node) (sides : Sides) (used : Option Res) → like_pairs m tree rule used p c ≡ Some sides → All (IsSmaller (size_of p)) sides.pattern
+  pairs_smaller : (p c : Node) (sides : Sides) (used : Option Res) → like_pairs names m tree rule used p c ≡ Some sides → All (IsSmaller (size_of p)) sides.pattern
   pairs_smaller p c sides (Some r) is =
       subst (λ (s : Sides). All (IsSmaller (size_of p)) s.pattern) (same_Some (counted_sides (Some r) p c) sides is) (counted_smaller (Some r) p)
   pairs_smaller p c sides None is = by (is_named rule p c) is
@@ -116,17 +116,17 @@ module _ (m : Meanings) (tree : ℕ) (rule : ResolvedRule) where
       by false is =
           subst (λ (s : Sides). All (IsSmaller (size_of p)) s.pattern) (same_Some (counted_sides None p c) sides is) (counted_smaller None p)
 
-  like_smaller : (p c : Node) (sides : Sides) → like_sides m tree rule p c ≡ Some sides → All (IsSmaller (size_of p)) sides.pattern
-  like_smaller p c sides is = by_test (same_kind p.kind c.kind && can_match m tree rule (pattern_res rule p) p c) is
+  like_smaller : (p c : Node) (sides : Sides) → like_sides names m tree rule p c ≡ Some sides → All (IsSmaller (size_of p)) sides.pattern
+  like_smaller p c sides is = by_test (same_kind p.kind c.kind && can_match names m tree rule (pattern_res rule p) p c) is
     where
-      by_test : (b : Bool) → cond b (like_pairs m tree rule (pattern_res rule p) p c) None ≡ Some sides → All (IsSmaller (size_of p)) sides.pattern
+      by_test : (b : Bool) → cond b (like_pairs names m tree rule (pattern_res rule p) p c) None ≡ Some sides → All (IsSmaller (size_of p)) sides.pattern
       by_test true is = pairs_smaller p c sides (pattern_res rule p) is
       by_test false is = absurd (none-some sides is)
 
-  pub sides_smaller : (p c : Node) (sides : Sides) → sides_of m tree rule p c ≡ Some sides → All (IsSmaller (size_of p)) sides.pattern
+  pub sides_smaller : (p c : Node) (sides : Sides) → sides_of names m tree rule p c ≡ Some sides → All (IsSmaller (size_of p)) sides.pattern
   sides_smaller p c sides is = by (call_of rule p) (same_kind c.kind k.METHOD_CALL_EXPR) is
     where
-      by : (o : Option QualifiedCall) (b : Bool) → sides_in m tree rule o b p c ≡ Some sides → All (IsSmaller (size_of p)) sides.pattern
+      by : (o : Option QualifiedCall) (b : Bool) → sides_in names m tree rule o b p c ≡ Some sides → All (IsSmaller (size_of p)) sides.pattern
       by (Some call) true is =
           let it = method_match m tree rule call p c sides is in
           subst (λ (s : Sides). All (IsSmaller (size_of p)) s.pattern) it.same (call_smaller p it.called_nodes it.is_called)
@@ -134,7 +134,7 @@ module _ (m : Meanings) (tree : ℕ) (rule : ResolvedRule) where
       by None b is = like_smaller p c sides is
 
   step_same : (f g : Binder) (p c : Node) → ((q : Node) → size_of q < size_of p → (d : Node) → f q d ≡ g q d)
-      → step m tree rule f p c ≡ step m tree rule g p c
+      → step names m tree rule f p c ≡ step names m tree rule g p c
   step_same f g p c same = ap (λ rest. node_by rule (placeholder_at rule.names p) rest c) (by_kind (is_token_tree p) (is_plain rule p))
     where
       is_same : (part : Part) → IsSmaller (size_of p) part → AreSame f g part
@@ -149,20 +149,20 @@ module _ (m : Meanings) (tree : ℕ) (rule : ResolvedRule) where
           (pairs_same f g sides.pattern sides.code
           (All-weaker (IsSmaller (size_of p)) (AreSame f g) is_same sides.pattern (smaller sides refl)))
 
-      by_kind : (tree_node plain : Bool) → other_by m tree rule f tree_node plain p c ≡ other_by m tree rule g tree_node plain p c
+      by_kind : (tree_node plain : Bool) → other_by names m tree rule f tree_node plain p c ≡ other_by names m tree rule g tree_node plain p c
       by_kind true plain = refl
-      by_kind false true = by (sides_of m tree rule p c) (sides_smaller p c)
+      by_kind false true = by (sides_of names m tree rule p c) (sides_smaller p c)
       by_kind false false = refl
 
-  more_steps : (n k : ℕ) (p c : Node) → size_of p ≤ n → size_of p ≤ k → bindings_by m tree rule n p c ≡ bindings_by m tree rule k p c
+  more_steps : (n k : ℕ) (p c : Node) → size_of p ≤ n → size_of p ≤ k → bindings_by names m tree rule n p c ≡ bindings_by names m tree rule k p c
   more_steps zero k p c low high = absurd (omega arith)
   more_steps (suc n) zero p c low high = absurd (omega arith)
   more_steps (suc n) (suc k) p c low high =
-      step_same (bindings_by m tree rule n) (bindings_by m tree rule k) p c (λ q lt d. more_steps n k q d (omega arith) (omega arith))
+      step_same (bindings_by names m tree rule n) (bindings_by names m tree rule k) p c (λ q lt d. more_steps n k q d (omega arith) (omega arith))
 
-  pub bindings_step : (p c : Node) → bindings_of m tree rule p c ≡ step m tree rule (bindings_of m tree rule) p c
-  unfolding bindings_of
+  pub bindings_step : (p c : Node) → bindings_in names m tree rule p c ≡ step names m tree rule (bindings_in names m tree rule) p c
+  unfolding bindings_in
   bindings_step p c =
       more_steps (size_of p) (suc (node_count p.children)) p c (omega arith) (omega arith)
-      ∙ step_same (bindings_by m tree rule (node_count p.children)) (bindings_of m tree rule) p c
+      ∙ step_same (bindings_by names m tree rule (node_count p.children)) (bindings_in names m tree rule) p c
       (λ q lt d. more_steps (node_count p.children) (size_of q) q d (omega arith) (omega arith))

@@ -16,7 +16,7 @@ use Rattle.ssr_base_trees.specs.Workspace.{node_id}
 use Rattle.ide_ssr_resolved_rule.specs.declared.qualified_calls.QualifiedCall.{QualifiedCall}
 use Rattle.ide_ssr_resolved_rule.specs.Resolved.{ResolvedRule}
 use Rattle.ide_ssr_bindings.specs.declared.receivers.Receiver.{Receiver}
-use Rattle.ide_ssr_matching.specs.Bindings.{stands_for, counted_sides, can_match, like_pairs, like_sides, sides_in, sides_of}
+use Rattle.ide_ssr_matching.specs.Bindings.{stands_if, counted_sides, can_match, like_pairs, like_sides, sides_in, sides_of}
 use Rattle.ide_ssr_matching.specs.Calls.{child_nodes, arguments_among, Method, method_call, PathCall, called, call_of, same_type, derefs, calls_same, method_parts, alike_pairs, receiver_with, method_with, method_sides, takes_first, can_be_call}
 use Rattle.ide_ssr_matching.specs.Children.{bare}
 use Rattle.ide_ssr_matching.specs.Records.{is_open, are_labelled, named_nodes, named_pairs}
@@ -39,7 +39,7 @@ cond_sides : (b : Bool) (sides : Sides) → cond b (Some (stripped_sides sides))
 cond_sides true sides = refl
 cond_sides false sides = refl
 
-module _ (rule : ResolvedRule) where
+module _ (names : Bool) (rule : ResolvedRule) where
   -- ** Method calls.
 
   alike_pairs_left : (call : PathCall) (method : Method) (receiver : Receiver)
@@ -138,9 +138,9 @@ module _ (rule : ResolvedRule) where
           first_told call.qualifier_type (arguments_among (child_nodes c)) (arguments_among (child_nodes d))
           (arguments_among_alike (child_nodes c) (child_nodes d) (child_nodes_alike c d alike))
 
-      can_alike : (used : Option Res) → can_match ms tree rule used p c ≡ can_match other_ms other_tree rule used p d
+      can_alike : (used : Option Res) → can_match names ms tree rule used p c ≡ can_match names other_ms other_tree rule used p d
       can_alike (Some r) =
-          ap (stands_for r) (told.path c.number ∙ ap (λ n. other_ms.path (node_id other_tree n)) (numbers_alike c d alike))
+          ap (stands_if names r) (told.path c.number ∙ ap (λ n. other_ms.path (node_id other_tree n)) (numbers_alike c d alike))
       can_alike None = calls_alike (call_of rule p)
 
       -- ** Their parts.
@@ -159,7 +159,7 @@ module _ (rule : ResolvedRule) where
           ap (λ code. Some (record { pattern = map node_part (child_nodes p); code = code; receiver = None })) (sym (nodes_stripped nodes))
 
       pairs_alike : (used : Option Res)
-          → option_map stripped_sides (like_pairs ms tree rule used p c) ≡ option_map stripped_sides (like_pairs other_ms other_tree rule used p d)
+          → option_map stripped_sides (like_pairs names ms tree rule used p c) ≡ option_map stripped_sides (like_pairs names other_ms other_tree rule used p d)
       pairs_alike (Some r) = ap Some (counted_alike (Some r))
       pairs_alike None =
           ap (λ labelled. option_map stripped_sides (cond (named labelled) (option_map (named_pairs p) (named_nodes p c)) (Some (counted_sides None p c))))
@@ -177,29 +177,29 @@ module _ (rule : ResolvedRule) where
           by true = named_stripped (named_nodes p c) ∙ ap (option_map (named_pairs p)) (named_alike p c d alike) ∙ sym (named_stripped (named_nodes p d))
           by false = ap Some (counted_alike None)
 
-      likes_alike : option_map stripped_sides (like_sides ms tree rule p c) ≡ option_map stripped_sides (like_sides other_ms other_tree rule p d)
+      likes_alike : option_map stripped_sides (like_sides names ms tree rule p c) ≡ option_map stripped_sides (like_sides names other_ms other_tree rule p d)
       likes_alike =
-          ap (λ kind. if_like (same_kind p.kind kind && can_match ms tree rule used p c)) (kinds_alike c d alike)
+          ap (λ kind. if_like (same_kind p.kind kind && can_match names ms tree rule used p c)) (kinds_alike c d alike)
           ∙ ap (λ can. if_like (same_kind p.kind d.kind && can)) (can_alike used)
-          ∙ by (same_kind p.kind d.kind && can_match other_ms other_tree rule used p d)
+          ∙ by (same_kind p.kind d.kind && can_match names other_ms other_tree rule used p d)
         where
           used : Option Res
           used = pattern_res rule p
 
           if_like : Bool → Option Sides
-          if_like b = option_map stripped_sides (cond b (like_pairs ms tree rule used p c) None)
+          if_like b = option_map stripped_sides (cond b (like_pairs names ms tree rule used p c) None)
 
-          by : (b : Bool) → if_like b ≡ option_map stripped_sides (cond b (like_pairs other_ms other_tree rule used p d) None)
+          by : (b : Bool) → if_like b ≡ option_map stripped_sides (cond b (like_pairs names other_ms other_tree rule used p d) None)
           by true = pairs_alike used
           by false = refl
 
-      pub sides_alike : option_map stripped_sides (sides_of ms tree rule p c) ≡ option_map stripped_sides (sides_of other_ms other_tree rule p d)
+      pub sides_alike : option_map stripped_sides (sides_of names ms tree rule p c) ≡ option_map stripped_sides (sides_of names other_ms other_tree rule p d)
       sides_alike =
-          ap (λ kind. option_map stripped_sides (sides_in ms tree rule (call_of rule p) (same_kind kind k.METHOD_CALL_EXPR) p c)) (kinds_alike c d alike)
+          ap (λ kind. option_map stripped_sides (sides_in names ms tree rule (call_of rule p) (same_kind kind k.METHOD_CALL_EXPR) p c)) (kinds_alike c d alike)
           ∙ by (call_of rule p) (same_kind d.kind k.METHOD_CALL_EXPR)
         where
           by : (o : Option QualifiedCall) (b : Bool)
-              → option_map stripped_sides (sides_in ms tree rule o b p c) ≡ option_map stripped_sides (sides_in other_ms other_tree rule o b p d)
+              → option_map stripped_sides (sides_in names ms tree rule o b p c) ≡ option_map stripped_sides (sides_in names other_ms other_tree rule o b p d)
           by (Some call) true = methods_alike call
           by (Some call) false = likes_alike
           by None b = likes_alike

@@ -19,13 +19,13 @@ use Rattle.ide_ssr_token_trees.specs.Bindings.{joined, tree_bindings}
 use Rattle.ide_ssr_token_trees.specs.Numbers.{held_later, bound_later}
 use Rattle.ide_ssr_token_trees.proofs.Shared.{bindings_later}
 use Rattle.ide_ssr_bindings.specs.declared.receivers.Receiver.{Receiver}
-use Rattle.ide_ssr_matching.specs.Bindings.{Binder, pair_by, pairs_by, sides_by, sides_of, other_by, node_by, step, bindings_by, bindings_of}
-use Rattle.ide_ssr_matching.specs.Matching.{Matches}
+use Rattle.ide_ssr_matching.specs.Bindings.{Binder, pair_by, pairs_by, sides_by, sides_of, other_by, node_by, step, bindings_by, bindings_in}
+use Rattle.ide_ssr_matching.specs.Matching.{Matches, Relates}
 use Rattle.ide_ssr_bindings.specs.Receivers.{is_node, received}
 use Rattle.ide_ssr_matching.specs.Sides.{Sides, kept}
 use Rattle.ide_ssr_matching.specs.TokenTrees.{is_token_tree, token_placeholder, tree_by, is_plain}
 use Rattle.ide_ssr_matching.specs.Trivia.{stripped_below, stripped_tree, AreToldAlike, held_anywhere, bound_anywhere, BindAlike}
-use Rattle.ide_ssr_matching.proofs.Agreement.{bindings_of-Matches, Matches-bindings_of}
+use Rattle.ide_ssr_matching.proofs.Agreement.{bindings_in-Relates, Relates-bindings_in}
 use Rattle.ide_ssr_matching.proofs.StrippedNodes.{stripped_node, stripped_part, AreAlike, kinds_alike, numbers_alike, nodes_alike}
 use Rattle.ide_ssr_matching.proofs.StrippedSides.{stripped_sides, sides_alike}
 
@@ -153,7 +153,7 @@ module _ (inner other : Binder) (same : (p c d : Node) → AreAlike c d → anyw
 
 -- ** Nodes.
 
-module _ (rule : ResolvedRule) (ms : Meanings) (tree : ℕ) (other_ms : Meanings) (other_tree : ℕ) (told : AreToldAlike ms tree other_ms other_tree) where
+module _ (names : Bool) (rule : ResolvedRule) (ms : Meanings) (tree : ℕ) (other_ms : Meanings) (other_tree : ℕ) (told : AreToldAlike ms tree other_ms other_tree) where
   tokens_alike : (p c d : Node) → AreAlike c d → anywhere (tree_by rule p c) ≡ anywhere (tree_by rule p d)
   tokens_alike p c d alike =
       ap (λ kind. anywhere (cond (same_kind kind k.TOKEN_TREE) (tree_bindings (token_placeholder rule) p c) None)) (kinds_alike c d alike)
@@ -165,45 +165,50 @@ module _ (rule : ResolvedRule) (ms : Meanings) (tree : ℕ) (other_ms : Meanings
       by false is = refl
 
   step_alike : (inner other : Binder) → ((p c d : Node) → AreAlike c d → anywhere (inner p c) ≡ anywhere (other p d)) → (p c d : Node) → AreAlike c d
-      → anywhere (step ms tree rule inner p c) ≡ anywhere (step other_ms other_tree rule other p d)
+      → anywhere (step names ms tree rule inner p c) ≡ anywhere (step names other_ms other_tree rule other p d)
   step_alike inner other same p c d alike = by (placeholder_at rule.names p) (is_token_tree p) (is_plain rule p)
     where
       by : (o : Option ℕ) (is_tree_node plain : Bool)
-          → anywhere (node_by rule o (other_by ms tree rule inner is_tree_node plain p c) c)
-          ≡ anywhere (node_by rule o (other_by other_ms other_tree rule other is_tree_node plain p d) d)
+          → anywhere (node_by rule o (other_by names ms tree rule inner is_tree_node plain p c) c)
+          ≡ anywhere (node_by rule o (other_by names other_ms other_tree rule other is_tree_node plain p d) d)
       by (Some i) is_tree_node plain =
           ap (λ kind. anywhere (cond (meets rule i kind) (Some (node_binding i c.number ∷ [])) None)) (kinds_alike c d alike)
           ∙ ap (λ n. anywhere (cond (meets rule i d.kind) (Some (node_binding i n ∷ [])) None)) (numbers_alike c d alike)
       by None true plain = tokens_alike p c d alike
       by None false true =
-          either_sides inner other same (sides_of ms tree rule p c) (sides_of other_ms other_tree rule p d)
-          (sides_alike rule ms tree other_ms other_tree told p c d alike)
+          either_sides inner other same (sides_of names ms tree rule p c) (sides_of names other_ms other_tree rule p d)
+          (sides_alike names rule ms tree other_ms other_tree told p c d alike)
       by None false false = refl
 
   steps_alike : (steps : ℕ) (p c d : Node) → AreAlike c d
-      → anywhere (bindings_by ms tree rule steps p c) ≡ anywhere (bindings_by other_ms other_tree rule steps p d)
+      → anywhere (bindings_by names ms tree rule steps p c) ≡ anywhere (bindings_by names other_ms other_tree rule steps p d)
   steps_alike zero p c d alike = refl
   steps_alike (suc steps) p c d alike =
-      step_alike (bindings_by ms tree rule steps) (bindings_by other_ms other_tree rule steps) (steps_alike steps) p c d alike
+      step_alike (bindings_by names ms tree rule steps) (bindings_by names other_ms other_tree rule steps) (steps_alike steps) p c d alike
 
-  bindings_alike : (p c d : Node) → AreAlike c d → anywhere (bindings_of ms tree rule p c) ≡ anywhere (bindings_of other_ms other_tree rule p d)
-  unfolding bindings_of
+  bindings_alike : (p c d : Node) → AreAlike c d → anywhere (bindings_in names ms tree rule p c) ≡ anywhere (bindings_in names other_ms other_tree rule p d)
+  unfolding bindings_in
   bindings_alike p c d alike = steps_alike (size_of p) p c d alike
 
-  matches_alike : (p c d : Node) (bs : List Binding) → AreAlike c d → Matches ms tree rule p c bs
-      → (others : List Binding) × Matches other_ms other_tree rule p d others × BindAlike bs others
+  matches_alike : (p c d : Node) (bs : List Binding) → AreAlike c d → Relates names ms tree rule p c bs
+      → (others : List Binding) × Relates names other_ms other_tree rule p d others × BindAlike bs others
   matches_alike p c d bs alike matches =
-      by (bindings_of other_ms other_tree rule p d) refl
-      (ap anywhere (sym (Matches-bindings_of ms tree rule p c bs matches)) ∙ bindings_alike p c d alike)
+      by (bindings_in names other_ms other_tree rule p d) refl
+      (ap anywhere (sym (Relates-bindings_in names ms tree rule p c bs matches)) ∙ bindings_alike p c d alike)
     where
-      by : (o : Option (List Binding)) → bindings_of other_ms other_tree rule p d ≡ o → Some (map bound_anywhere bs) ≡ anywhere o
-          → (others : List Binding) × Matches other_ms other_tree rule p d others × BindAlike bs others
+      by : (o : Option (List Binding)) → bindings_in names other_ms other_tree rule p d ≡ o → Some (map bound_anywhere bs) ≡ anywhere o
+          → (others : List Binding) × Relates names other_ms other_tree rule p d others × BindAlike bs others
       by None is same = absurd (none-some (map bound_anywhere bs) (sym same))
       by (Some others) is same =
-          (others, bindings_of-Matches other_ms other_tree rule p d others is, same_Some (map bound_anywhere bs) (map bound_anywhere others) same)
+          (others, bindings_in-Relates names other_ms other_tree rule p d others is, same_Some (map bound_anywhere bs) (map bound_anywhere others) same)
+
+trivia_related : (names : Bool) (ms : Meanings) (tree : ℕ) (other_ms : Meanings) (other_tree : ℕ) (rule : ResolvedRule) (code other : Syntax) (p : Node) (n : ℕ) (bs : List Binding)
+    → stripped_tree code ≡ stripped_tree other → AreToldAlike ms tree other_ms other_tree → Relates names ms tree rule p (node_of code n) bs
+    → (others : List Binding) × Relates names other_ms other_tree rule p (node_of other n) others × BindAlike bs others
+trivia_related names ms tree other_ms other_tree rule code other p n bs same told matches =
+    matches_alike names rule ms tree other_ms other_tree told p (node_of code n) (node_of other n) bs (nodes_alike code other same n) matches
 
 pub trivia_left_out : (ms : Meanings) (tree : ℕ) (other_ms : Meanings) (other_tree : ℕ) (rule : ResolvedRule) (code other : Syntax) (p : Node) (n : ℕ) (bs : List Binding)
     → stripped_tree code ≡ stripped_tree other → AreToldAlike ms tree other_ms other_tree → Matches ms tree rule p (node_of code n) bs
     → (others : List Binding) × Matches other_ms other_tree rule p (node_of other n) others × BindAlike bs others
-trivia_left_out ms tree other_ms other_tree rule code other p n bs same told matches =
-    matches_alike rule ms tree other_ms other_tree told p (node_of code n) (node_of other n) bs (nodes_alike code other same n) matches
+trivia_left_out = trivia_related true

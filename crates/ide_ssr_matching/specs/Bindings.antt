@@ -1,4 +1,5 @@
--- The bindings of a match, computed: those of the relation of `Matching`, as the law `laws::matching` says. A node of the
+-- The bindings of a match, computed: those of the relation of `Matching`, as the law `laws::matching` says, with names asked or
+-- without. A node of the
 -- pattern asks only for smaller ones, so that as many steps as it has nodes are enough.
 use Rattle.std.specs.Prelude.{ℕ, zero, suc, ◌&&◌, Bool, true, false, if◌then◌else◌, List, [], ◌∷◌, Option, Some, None}
 use Rattle.std.specs.Option.{option_and_then, option_map, option_map_or}
@@ -56,6 +57,11 @@ node_by rule None rest c = rest
 abbrev pub stands_for : Res → Option Res → Bool
 stands_for r told = option_map_or (same_res r) told false
 
+-- the same where it is asked at all
+abbrev pub stands_if : Bool → Res → Option Res → Bool
+stands_if true r told = stands_for r told
+stands_if false r told = true
+
 -- what counts of a used path, or else of a node
 abbrev pub counted : {A : Type 0} → Option Res → A → A → A
 counted (Some r) arguments children = arguments
@@ -72,10 +78,11 @@ counted_sides used p c = record {
 abbrev pub sides_by : Binder → Sides → Option (List Binding)
 sides_by inner sides = option_map (kept sides.receiver) (pairs_by inner sides.pattern sides.code)
 
-module _ (m : Meanings) (tree : ℕ) (rule : ResolvedRule) where
-  -- whether a node of the kind of one of the pattern can match it: where that is a used path it has to stand for the same thing
+module _ (names : Bool) (m : Meanings) (tree : ℕ) (rule : ResolvedRule) where
+  -- whether a node of the kind of one of the pattern can match it: where that is a used path it has to stand for the
+  -- same thing, if names are asked
   abbrev pub can_match : Option Res → Node → Node → Bool
-  can_match (Some r) p c = stands_for r (code_res m tree c)
+  can_match (Some r) p c = stands_if names r (code_res m tree c)
   can_match None p c = can_be_call m tree (call_of rule p) c
 
   -- lists of fields with names pair by the names
@@ -110,6 +117,10 @@ module _ (m : Meanings) (tree : ℕ) (rule : ResolvedRule) where
   bindings_by zero p c = None
   bindings_by (suc steps) p c = step (bindings_by steps) p c
 
-  -- what the placeholders of the pattern's node p bind where c matches it
-  unfoldable pub bindings_of : Node → Node → Option (List Binding)
-  bindings_of p c = bindings_by (size_of p) p c
+  -- what the placeholders of the pattern's node p bind where c matches it, with names asked or without
+  unfoldable pub bindings_in : Binder
+  bindings_in p c = bindings_by (size_of p) p c
+
+-- what the placeholders of a node of the pattern bind where one of the code matches it
+abbrev pub bindings_of : Meanings → ℕ → ResolvedRule → Binder
+bindings_of m tree rule = bindings_in true m tree rule

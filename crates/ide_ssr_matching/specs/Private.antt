@@ -5,3 +5,4 @@ pub mod ChildNodes
 pub mod Calls
 pub mod Records
 pub mod Bindings
+pub mod Matcher

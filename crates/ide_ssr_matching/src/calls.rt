@@ -5,17 +5,19 @@ ghost use Rattle.std.specs.List.{position};
 ghost use Rattle.std.specs.Option.{option_and_then};
 ghost use Rattle.ssr_syntax_tree.specs.Places.{HasNode, node_of};
 ghost use Rattle.ssr_base_trees.specs.Workspace.{node_id};
-ghost use Rattle.ide_ssr_matching.specs.Calls.{child_nodes, first_among, first_node, arguments_among, method_call, are_call, called_with, called, same_type, derefs, calls_same, receiver_by, method_sides, can_be_call};
+ghost use Rattle.ide_ssr_matching.specs.Calls.{child_nodes, first_among, first_node, arguments_among, method_call, are_call, called_with, called, same_type, derefs, calls_same, receiver_by, can_be_call};
 ghost use Rattle.ide_ssr_matching.specs.Private.Calls.{behind_first, called_at, AreCalledBelow, method_at, arguments_at, HasMethodNodes, sides_at, AreSidesBelow};
+ghost use Rattle.ide_ssr_matching.specs.Private.Matcher.{call_sides};
 ghost use Rattle.ide_ssr_matching.specs.Private.ChildNodes.{nodes_at, IsNodeBelow};
 
 use crate::child_nodes::{ChildNodes, first_child_node, only_child_node};
+use crate::matcher::Matcher;
 use ide_ssr_bindings::Receiver;
-use ide_ssr_resolved_rule::{QualifiedCall, ResolvedRule, first_child, last_segment};
-use ssr_base_trees::{NodeId, Res, Semantics, TypeId};
+use ide_ssr_resolved_rule::{QualifiedCall, first_child, last_segment};
+use ssr_base_trees::{Res, Semantics, TypeId};
 use ssr_syntax_kinds::SyntaxKind;
 use ssr_syntax_tree::{Element, NodeNo, Tree};
-use std::alloc::{AllocError, Global};
+use std::alloc::AllocError;
 use std::marker::Model;
 
 /// A call of the pattern: the path that is its callee, and the list of its arguments.
@@ -187,113 +189,6 @@ fn place_of(types: &[TypeId], wanted: TypeId) -> Option<usize>
     types.iter().position(|ty| *ty == wanted)
 }
 
-/// How often the node of the tree with the number `number` is dereferenced to be of a type, if it can be; without a type,
-/// never.
-fn derefs<S: Semantics>(
-    alloc: Global,
-    semantics: &S,
-    wanted: Option<TypeId>,
-    number: u32,
-    node: NodeNo,
-) -> Result<Option<usize>, AllocError>
-    ensures { IfOk result (λ count. count ≡ derefs (S.meanings semantics.now) wanted (node_id number node.0)) }
-{
-    let Some(wanted) = wanted else {
-        return Ok(Some(0));
-    };
-    let place = NodeId { tree: number, node };
-    match semantics.types(alloc, place)? {
-        Some(types) => Ok(place_of(&types, wanted)),
-        None => Ok(None),
-    }
-}
-
-/// Whether the method call `c` of the tree with the number `number` calls what a callee stands for.
-fn calls_same<S: Semantics>(
-    alloc: Global,
-    semantics: &S,
-    used: Option<Res>,
-    number: u32,
-    c: NodeNo,
-) -> Result<bool, AllocError>
-    ensures { IfOk result (λ same. same ≡ calls_same (S.meanings semantics.now) used (node_id number c.0)) }
-{
-    let Some(res) = used else {
-        return Ok(false);
-    };
-    let call = NodeId {
-        tree: number,
-        node: c,
-    };
-    match semantics.resolve_method(alloc, call)? {
-        Some(function) => Ok(res == Res::Def(function)),
-        None => Ok(false),
-    }
-}
-
-/// How the method call `c` takes the node `receiver`, if that can be of the qualifier's type.
-fn receiver_by<S: Semantics>(
-    alloc: Global,
-    semantics: &S,
-    wanted: Option<TypeId>,
-    number: u32,
-    c: NodeNo,
-    receiver: NodeNo,
-) -> Result<Option<Receiver>, AllocError>
-    ensures { IfOk result (λ found. found ≡ receiver_by (S.meanings semantics.now) number wanted c.0 receiver.0) }
-{
-    let Some(deref_count) = derefs(alloc, semantics, wanted, number, receiver)? else {
-        return Ok(None);
-    };
-    let call = NodeId {
-        tree: number,
-        node: c,
-    };
-    Ok(Some(Receiver {
-        node: receiver,
-        deref_count,
-        self_kind: semantics.self_kind(call),
-    }))
-}
-
-/// The nodes of a qualified call of the pattern and of a method call, whose parts have to pair so that they match; none, where
-/// they cannot.
-pub(crate) fn method_sides<S: Semantics>(
-    alloc: Global,
-    semantics: &S,
-    rule: &ResolvedRule,
-    call: QualifiedCall,
-    number: u32,
-    code: &Tree,
-    p: NodeNo,
-    c: NodeNo,
-) -> Result<Option<MethodSides>, AllocError>
-    requires p_in { HasNode rule.now.pattern p.0 }
-    requires c_in { HasNode code.now c.0 }
-    ensures sides { IfOk result (λ sides. option_and_then (sides_at rule.now.pattern code.now) sides ≡ method_sides (S.meanings semantics.now) number rule.now call (node_of rule.now.pattern p.0) (node_of code.now c.0)) }
-    ensures below { IfOk result (λ sides. IfSome sides (AreSidesBelow rule.now.pattern code.now p.0)) }
-{
-    let Some(called) = called(rule.pattern(), p) else {
-        return Ok(None);
-    };
-    let used = rule.pattern_res(called.path);
-    if !calls_same(alloc, semantics, used, number, c)? {
-        return Ok(None);
-    }
-    let Some(method) = method_call(code, c) else {
-        return Ok(None);
-    };
-    let wanted = call.qualifier_type;
-    let Some(receiver) = receiver_by(alloc, semantics, wanted, number, c, method.receiver)? else {
-        return Ok(None);
-    };
-    Ok(Some(MethodSides {
-        called,
-        method,
-        receiver,
-    }))
-}
-
 /// The first argument of a call.
 #[tactic(auto, using(crate::proofs::CallParts::first_among_nodes))]
 fn first_argument(tree: &Tree, call: NodeNo) -> Option<NodeNo>
@@ -305,27 +200,105 @@ fn first_argument(tree: &Tree, call: NodeNo) -> Option<NodeNo>
     first_child_node(tree, list)
 }
 
-/// Whether the call `c` of the tree with the number `number` can be a qualified call of the pattern: its first argument, if
-/// there is one, has to be of the qualifier's type, maybe after dereferences.
-pub(crate) fn can_be_call<S: Semantics>(
-    alloc: Global,
-    semantics: &S,
-    call: Option<QualifiedCall>,
-    number: u32,
-    code: &Tree,
-    c: NodeNo,
-) -> Result<bool, AllocError>
-    requires { HasNode code.now c.0 }
-    ensures { IfOk result (λ can. can ≡ can_be_call (S.meanings semantics.now) number call (node_of code.now c.0)) }
-{
-    let Some(call) = call else {
-        return Ok(true);
-    };
-    match first_argument(code, c) {
-        Some(first) => {
-            let count = derefs(alloc, semantics, call.qualifier_type, number, first)?;
-            Ok(count.is_some())
+impl<'a, S: Semantics> Matcher<'a, S> {
+    /// How often a node of the code is dereferenced to be of a type, if it can be; without a type, never.
+    fn derefs(&self, wanted: Option<TypeId>, node: NodeNo) -> Result<Option<usize>, AllocError>
+        ensures { IfOk result (λ count. count ≡ derefs (S.meanings self.now.semantics.now) wanted (node_id self.now.number node.0)) }
+    {
+        let Some(wanted) = wanted else {
+            return Ok(Some(0));
+        };
+        match self.semantics.types(self.alloc, self.place(node))? {
+            Some(types) => Ok(place_of(&types, wanted)),
+            None => Ok(None),
         }
-        None => Ok(true),
+    }
+
+    /// Whether the method call `c` of the code calls what a callee stands for.
+    fn calls_same(&self, used: Option<Res>, c: NodeNo) -> Result<bool, AllocError>
+        ensures { IfOk result (λ same. same ≡ calls_same (S.meanings self.now.semantics.now) used (node_id self.now.number c.0)) }
+    {
+        let Some(res) = used else {
+            return Ok(false);
+        };
+        match self.semantics.resolve_method(self.alloc, self.place(c))? {
+            Some(function) => Ok(res == Res::Def(function)),
+            None => Ok(false),
+        }
+    }
+
+    /// How the method call `c` takes the node `receiver`, if that can be of the qualifier's type.
+    fn receiver_by(
+        &self,
+        wanted: Option<TypeId>,
+        c: NodeNo,
+        receiver: NodeNo,
+    ) -> Result<Option<Receiver>, AllocError>
+        ensures { IfOk result (λ found. found ≡ receiver_by (S.meanings self.now.semantics.now) self.now.number wanted c.0 receiver.0) }
+    {
+        let Some(deref_count) = self.derefs(wanted, receiver)? else {
+            return Ok(None);
+        };
+        Ok(Some(Receiver {
+            node: receiver,
+            deref_count,
+            self_kind: self.semantics.self_kind(self.place(c)),
+        }))
+    }
+
+    /// The nodes of a qualified call of the pattern and of a method call, whose parts have to pair so that they match; none,
+    /// where they cannot.
+    pub(crate) fn method_sides(
+        &self,
+        call: QualifiedCall,
+        p: NodeNo,
+        c: NodeNo,
+    ) -> Result<Option<MethodSides>, AllocError>
+        requires p_in { HasNode self.now.rule.now.pattern p.0 }
+        requires c_in { HasNode self.now.code.now c.0 }
+        ensures sides { IfOk result (λ sides. option_and_then (sides_at self.now.rule.now.pattern self.now.code.now) sides ≡ call_sides S.meanings self.now call p c) }
+        ensures below { IfOk result (λ sides. IfSome sides (AreSidesBelow self.now.rule.now.pattern self.now.code.now p.0)) }
+    {
+        let Some(called) = called(self.rule.pattern(), p) else {
+            return Ok(None);
+        };
+        let used = self.rule.pattern_res(called.path);
+        if !self.calls_same(used, c)? {
+            return Ok(None);
+        }
+        let Some(method) = method_call(self.code, c) else {
+            return Ok(None);
+        };
+        let wanted = call.qualifier_type;
+        let Some(receiver) = self.receiver_by(wanted, c, method.receiver)? else {
+            return Ok(None);
+        };
+        Ok(Some(MethodSides {
+            called,
+            method,
+            receiver,
+        }))
+    }
+
+    /// Whether the call `c` of the code can be a qualified call of the pattern: its first argument, if there is one, has to be
+    /// of the qualifier's type, maybe after dereferences.
+    pub(crate) fn can_be_call(
+        &self,
+        call: Option<QualifiedCall>,
+        c: NodeNo,
+    ) -> Result<bool, AllocError>
+        requires { HasNode self.now.code.now c.0 }
+        ensures { IfOk result (λ can. can ≡ can_be_call (S.meanings self.now.semantics.now) self.now.number call (node_of self.now.code.now c.0)) }
+    {
+        let Some(call) = call else {
+            return Ok(true);
+        };
+        match first_argument(self.code, c) {
+            Some(first) => {
+                let count = self.derefs(call.qualifier_type, first)?;
+                Ok(count.is_some())
+            }
+            None => Ok(true),
+        }
     }
 }

@@ -1,15 +1,21 @@
-//! What holds of the words of the contracts, whatever the code: each function here does nothing, and what
-//! it ensures is a law.
-ghost use Rattle.std.specs.Prelude.{◌≡◌, ℕ, List, Some, All, AllPairs};
+//! What holds of the words of the contracts, whatever the code: each function here but `first_phase` does nothing, and
+//! what it ensures is a law.
+ghost use Rattle.std.specs.Prelude.{◌≡◌, ◌↔◌, ℕ, List, Some, All, AllPairs, IfOk, IsTrue};
 ghost use Rattle.ssr_syntax_tree.specs.Syntax.{Syntax};
-ghost use Rattle.ssr_syntax_tree.specs.Places.{Node, HasNode, node_of};
+ghost use Rattle.ssr_syntax_tree.specs.Places.{Node, HasNode, node_of, root_of};
 ghost use Rattle.ssr_base_trees.specs.Meanings.{Meanings};
 ghost use Rattle.ide_ssr_resolved_rule.specs.Resolved.{ResolvedRule};
 ghost use Rattle.ide_ssr_bindings.specs.declared.bindings.Binding.{Binding};
 ghost use Rattle.ide_ssr_bindings.specs.Apart.{IsHeldIn, AreApart};
 ghost use Rattle.ide_ssr_matching.specs.Bindings.{bindings_of};
-ghost use Rattle.ide_ssr_matching.specs.Matching.{Matches};
+ghost use Rattle.ide_ssr_matching.specs.Matching.{Matches, HasShape};
 ghost use Rattle.ide_ssr_matching.specs.Trivia.{stripped_tree, AreToldAlike, BindAlike};
+
+use crate::matching::has_shape;
+use ide_ssr_resolved_rule::ResolvedRule;
+use ssr_base_trees::{NodeId, Semantics};
+use ssr_syntax_tree::Tree;
+use std::alloc::{AllocError, Global};
 
 /// The bindings that are computed for a match are those with which the node matches, and the other way
 /// round, whatever names mean.
@@ -17,6 +23,26 @@ pub fn matching()
     ensures found { (m : Meanings) (tree : ℕ) (rule : ResolvedRule) (p c : Node) (bs : List Binding) → bindings_of m tree rule p c ≡ Some bs → Matches m tree rule p c bs }
     ensures complete { (m : Meanings) (tree : ℕ) (rule : ResolvedRule) (p c : Node) (bs : List Binding) → Matches m tree rule p c bs → bindings_of m tree rule p c ≡ Some bs }
 {}
+
+/// The first phase refuses no node that matches.
+pub fn shape()
+    ensures { (m : Meanings) (tree : ℕ) (rule : ResolvedRule) (p c : Node) (bs : List Binding) → Matches m tree rule p c bs → HasShape m tree rule p c }
+{}
+
+/// The first phase alone: it accepts the nodes that have the shape of the rule's pattern. No placeholder is bound, and no path
+/// is asked about. The node is one of `tree`.
+pub fn first_phase<S: Semantics>(
+    alloc: Global,
+    semantics: &S,
+    rule: &ResolvedRule,
+    tree: &Tree,
+    node: NodeId,
+) -> Result<bool, AllocError>
+    requires { HasNode tree.now node.node.0 }
+    ensures { IfOk result (λ accepts. IsTrue accepts ↔ HasShape (S.meanings semantics.now) node.tree rule.now (root_of rule.now.pattern) (node_of tree.now node.node.0)) }
+{
+    has_shape(alloc, semantics, rule, tree, node)
+}
 
 /// What the placeholders of a pattern hold where a node of a tree matches it are tokens of that node. No two of them hold
 /// a common token: of two bindings one ends before the other begins, in the one order or in the other.

@@ -5,8 +5,11 @@ mod calls;
 mod child_nodes;
 mod children;
 pub mod laws;
+mod matcher;
 mod matching;
 mod records;
 mod token_trees;
+mod tries;
 
 pub use matching::match_node;
+pub use tries::Tries;

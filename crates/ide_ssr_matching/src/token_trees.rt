@@ -5,9 +5,8 @@ ghost use Rattle.ssr_syntax_tree.specs.Places.{HasNode, HasElement, node_of, par
 ghost use Rattle.ide_ssr_token_trees.specs.Bindings.{Answers};
 ghost use Rattle.ide_ssr_matching.specs.TokenTrees.{is_token_tree, tree_by, has_token_placeholder, is_plain};
 
-use ide_ssr_bindings::Binding;
 use ide_ssr_resolved_rule::ResolvedRule;
-use ide_ssr_token_trees::match_token_trees;
+use ide_ssr_token_trees::{Record, match_token_trees};
 use ssr_syntax_kinds::SyntaxKind;
 use ssr_syntax_tree::{Element, NodeNo, Tree};
 use std::alloc::AllocError;
@@ -27,11 +26,11 @@ pub(crate) fn tree_matches(
     code: &Tree,
     p: NodeNo,
     c: NodeNo,
-    out: &mut Vec<Binding>,
+    out: &mut Record,
 ) -> Result<bool, AllocError>
     requires p_in { HasNode rule.now.pattern p.0 }
     requires c_in { HasNode code.now c.0 }
-    ensures { IfOk result (λ answer. Answers (tree_by rule.now (node_of rule.now.pattern p.0) (node_of code.now c.0)) out.old.items out.new.items answer) }
+    ensures { IfOk result (λ answer. Answers (tree_by rule.now (node_of rule.now.pattern p.0) (node_of code.now c.0)) out.old out.new answer) }
 {
     if !is_token_tree(code, c) {
         return Ok(false);

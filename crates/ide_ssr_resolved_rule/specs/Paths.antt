@@ -7,6 +7,7 @@ use Rattle.ssr_syntax_kinds.specs.declared.kinds.SyntaxKind.TheVariants as k
 use Rattle.ssr_syntax_kinds.specs.Kinds.{same_kind}
 use Rattle.ssr_syntax_tree.specs.Places.{Node, Part, token_part, node_part}
 use Rattle.ssr_syntax_tree.specs.Syntax.{Forest, nothing, leaf, branch, tokens_in, spelled}
+pub use Rattle.ssr_syntax_tree.specs.ClearPaths.{is_arguments}
 
 -- what is below the first node of a kind among siblings
 abbrev pub below_first : SyntaxKind → Forest → Option Forest
@@ -41,12 +42,6 @@ qualifying path = option_map_or segments (qualifier path) []
 unfoldable pub last_name : Forest → Option (List ℕ)
 last_name path =
     option_map (λ name. spelled (tokens_in name)) (option_and_then (below_first k.NAME_REF) (last_segment path))
-
-abbrev pub is_arguments : SyntaxKind → Bool
-is_arguments k.GENERIC_ARG_LIST = true
-is_arguments k.PARENTHESIZED_ARG_LIST = true
-is_arguments k.RET_TYPE = true
-is_arguments _ = false
 
 -- a segment without its generic arguments, or without those in parentheses and the return type behind them
 abbrev pub before_arguments : Forest → Forest

@@ -52,12 +52,12 @@ module _ (s : Syntax) (calls : List QualifiedCall) where
   holds_it n node = holds node n && is_first_argument s calls node.number
 
   -- a first argument that is a node or stands above it
-  record IsIn (n : ℕ) : Type 0 where
-    at : ℕ
-    has : HasNode s at
-    low : at ≤ n
-    high : n < at + size_of (node_of s at)
-    first : is_first_argument s calls at ≡ true
+  pub record IsIn (n : ℕ) : Type 0 where
+    pub at : ℕ
+    pub has : HasNode s at
+    pub low : at ≤ n
+    pub high : n < at + size_of (node_of s at)
+    pub first : is_first_argument s calls at ≡ true
 
   told : (n : ℕ) → is_in_first_argument s calls n ≡ true → IsIn n
   unfolding is_in_first_argument
@@ -80,7 +80,7 @@ module _ (s : Syntax) (calls : List QualifiedCall) where
         first = ap (is_first_argument s calls) (sym number) ∙ parts.1;
       }
 
-  shown : (n : ℕ) → IsIn n → is_in_first_argument s calls n ≡ true
+  pub shown : (n : ℕ) → IsIn n → is_in_first_argument s calls n ≡ true
   unfolding is_in_first_argument
   shown n is =
       let node = node_of s is.at in

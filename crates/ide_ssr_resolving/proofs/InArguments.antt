@@ -1,32 +1,28 @@
 -- A used path has what placeholders it has in its arguments.
-use Rattle.std.proofs.Common.{◌≡◌, ℕ, ◌+◌, Bool, true, false, ◌&&◌, not, List, [], ◌∷◌, ◌++◌, All, get_or, Option, Some, None, Ok, refl, sym, ◌∙◌, ap, subst, append-nil, arith}
+use Rattle.std.proofs.Common.{◌≡◌, ℕ, ◌+◌, Bool, true, false, ◌&&◌, not, List, [], ◌∷◌, ◌++◌, Option, Some, None, Ok, refl, sym, ◌∙◌, ap, append-nil}
 use Rattle.std.specs.Prelude.{if◌then◌else◌}
-use Rattle.std.specs.List.{cons_option, filter_map, find, list_any, position_from}
+use Rattle.std.specs.List.{cons_option, list_any, position_from}
 use Rattle.std.specs.Str.{bytes_eq}
-use Rattle.std.specs.Option.{option_and_then, option_map, option_map_or}
+use Rattle.std.specs.Option.{option_and_then, option_map_or}
 use Rattle.std.proofs.lemmas.Bool.{and_parts, not-true, or_parts}
-use Rattle.std.proofs.lemmas.List.{get_or_default}
-use Rattle.std.proofs.lemmas.List.Elements.{All-nil, All-cons, All-head, All-tail, All-filter}
+use Rattle.std.proofs.lemmas.List.Elements.{All-weaker}
 use Rattle.std.proofs.lemmas.List.Folds.{list_any-append}
-use Rattle.std.proofs.lemmas.Option.{none-some, same_Some}
 use Rattle.ssr_syntax_kinds.specs.declared.kinds.SyntaxKind.{SyntaxKind}
 use Rattle.ssr_syntax_kinds.specs.Kinds.{same_kind, is_ident}
 use Rattle.ssr_syntax_kinds.proofs.Shared.{same_kind-equal}
 use Rattle.ssr_syntax_kinds.specs.declared.kinds.SyntaxKind.TheVariants as k
-use Rattle.ssr_syntax_tree.specs.Places.{Node, HasNode, node_of, nodes_of, root_of}
+use Rattle.ssr_syntax_tree.specs.Places.{node_of}
 use Rattle.ssr_syntax_tree.specs.Syntax.{Token, Forest, nothing, leaf, branch, Syntax, tokens_in}
-use Rattle.ssr_syntax_tree.proofs.Shared.{length-nodes_of, node_is, node_of-number}
 use Rattle.ssr_base_trees.specs.declared.ids.ScopeId.{ScopeId}
-use Rattle.ssr_base_trees.specs.declared.semantics.Res.{Res}
 use Rattle.ssr_base_trees.specs.Meanings.{Meanings}
 use Rattle.ide_ssr_resolved_rule.specs.Patterns.{placeholders_among, or_below, placeholders_in, placeholders_mixed, placeholders_below, HasThemInArguments, AreInArguments}
 use Rattle.ide_ssr_resolved_rule.specs.StandIns.{name_at, is_stand_in, stand_in_of}
 use Rattle.ide_ssr_resolved_rule.specs.declared.used_paths.UsedPath.{UsedPath}
 use Rattle.ide_ssr_resolved_rule.specs.Paths.{below_first, qualifying, is_arguments, before_arguments, from_arguments, without_arguments}
 use Rattle.ide_ssr_resolved_rule.specs.Placeholders.{only_token}
-use Rattle.ide_ssr_resolving.specs.Resolving.{resolution}
-use Rattle.ide_ssr_resolving.specs.Used.{names_placeholder, holds_stand_in, has_generics, ends_in_self, is_whole, is_path, used, use_of, used_at, used_path, is_reached, is_unresolved, reached, refused, used_paths}
+use Rattle.ide_ssr_resolving.specs.Used.{names_placeholder, holds_stand_in, has_generics, is_whole, used_paths}
 use Rattle.ide_ssr_resolved_rule.proofs.Shared.{only_one}
+use Rattle.ide_ssr_resolving.proofs.UsedNodes.{IsUsed, all_used, use_whole}
 
 no_position : (passes : List ℕ → Bool) (i : ℕ) (xs : List (List ℕ)) → list_any passes xs ≡ false → position_from passes i xs ≡ None
 no_position passes i [] none = refl
@@ -39,7 +35,7 @@ module _ (names : List (List ℕ)) where
   abbrev HasNone : Forest → Type 0
   HasNone forest = list_any (names_placeholder names) (tokens_in forest) ≡ false
 
-  names_none : (token : Token) → names_placeholder names token ≡ false → name_at names token ≡ None
+  pub names_none : (token : Token) → names_placeholder names token ≡ false → name_at names token ≡ None
   unfolding name_at
   names_none token none = by (is_ident token.kind) none
     where
@@ -173,56 +169,14 @@ module _ (names : List (List ℕ)) where
 
 -- ** The used paths of a tree.
 
-filter_map_all : {X Y : Type 0} (P : X → Type 0) (Q : Y → Type 0) (f : X → Option Y) (xs : List X) → ((x : X) (y : Y) → P x → f x ≡ Some y → Q y) → All P xs
-    → All Q (filter_map f xs)
-filter_map_all P Q f [] each all = All-nil Q
-filter_map_all {X} {Y} P Q f (x ∷ xs) each all = by (f x) refl (filter_map_all P Q f xs each (All-tail P x xs all))
-  where
-    by : (o : Option Y) → f x ≡ o → All Q (filter_map f xs) → All Q (cons_option o (filter_map f xs))
-    by None is behind = behind
-    by (Some y) is behind = All-cons Q y (filter_map f xs) (each x y (All-head P x xs all) is) behind
-
--- a node as the tree has it under its number
-abbrev IsNodeIn : Syntax → Node → Type 0
-IsNodeIn tree node = node_of tree node.number ≡ node
-
-all_nodes : (tree : Syntax) → All (IsNodeIn tree) (nodes_of tree)
-all_nodes tree n d within =
-    let has : HasNode tree n = omega (arith, within, length-nodes_of tree) in
-    let is : node_of tree n ≡ get_or (nodes_of tree) n d = node_is tree n has ∙ get_or_default (nodes_of tree) n (root_of tree) d within in
-    subst (IsNodeIn tree) is (ap (node_of tree) (node_of-number tree n has))
-
 module _ (m : Meanings) (scope : ScopeId) (names : List (List ℕ)) (tree : Syntax) where
   abbrev IsInArguments : UsedPath → Type 0
   IsInArguments path = HasThemInArguments names (node_of tree path.node.0).children
 
-  use_whole : (node : Node) (r : Res) → use_of m scope names node ≡ Some r → is_whole names node.children ≡ true
-  unfolding use_of
-  use_whole node r is = by (is_path node) (ends_in_self node.children) (is_whole names node.children) is
-    where
-      by : (path own whole : Bool) → (if path && (not own && whole) then option_and_then (used m) (resolution m scope node.children) else None) ≡ Some r → whole ≡ true
-      by true false true is = refl
-      by true false false is = absurd (none-some r is)
-      by true true whole is = absurd (none-some r is)
-      by false own whole is = absurd (none-some r is)
-
-  used_in : (node : Node) (path : UsedPath) → IsNodeIn tree node → used_at m scope names node ≡ Some path → IsInArguments path
-  used_in node path there is = by (use_of m scope names node) refl is
-    where
-      by : (o : Option Res) → use_of m scope names node ≡ o → option_map (used_path node) o ≡ Some path → IsInArguments path
-      by None none is = absurd (none-some path is)
-      by (Some r) used_is is =
-          subst IsInArguments (same_Some (used_path node r) path is)
-          (subst (λ (node : Node). HasThemInArguments names node.children) (sym there) (whole_in_arguments names node.children (use_whole node r used_is)))
+  used_in : (path : UsedPath) → IsUsed m scope names tree path → IsInArguments path
+  used_in path known =
+      let node = node_of tree path.node.0 in
+      whole_in_arguments names node.children (use_whole m scope names node path.res known.is)
 
   pub are_in_arguments : (paths : List UsedPath) → used_paths m scope names tree ≡ Ok paths → AreInArguments names tree paths
-  unfolding used_paths
-  are_in_arguments paths is = by (find (is_unresolved m scope names) (reached m scope names tree)) is
-    where
-      by : (o : Option Node) → option_map_or refused o (Ok (filter_map (used_at m scope names) (reached m scope names tree))) ≡ Ok paths → AreInArguments names tree paths
-      by (Some node) is = cc
-      by None is =
-          let same : filter_map (used_at m scope names) (reached m scope names tree) ≡ paths = cc in
-          subst (All IsInArguments) same
-          (filter_map_all (IsNodeIn tree) IsInArguments (used_at m scope names) (reached m scope names tree) used_in
-          (All-filter (is_reached m scope names tree) (IsNodeIn tree) (nodes_of tree) (all_nodes tree)))
+  are_in_arguments paths is = All-weaker (IsUsed m scope names tree) IsInArguments used_in paths (all_used m scope names tree paths is)

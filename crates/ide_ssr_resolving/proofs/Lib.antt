@@ -7,5 +7,8 @@ mod Steps
 mod Walk
 mod QualifiedCalls
 mod FirstArguments
+mod UsedNodes
 mod InArguments
+mod Alone
+mod Callees
 pub mod Shared

@@ -91,7 +91,7 @@ module _ (m : Meanings) (scope : ScopeId) (names : List (List ℕ)) (s : Syntax)
       let high = over.1 in
       omega arith))))
 
-  hidden : (a n : ℕ) → HasNode s a → IsOver s a n → stops m scope names (node_of s a) ≡ true → is_reached m scope names s (node_of s n) ≡ false
+  pub hidden : (a n : ℕ) → HasNode s a → IsOver s a n → stops m scope names (node_of s a) ≡ true → is_reached m scope names s (node_of s n) ≡ false
   hidden a n has over stopped =
       let hides : Node → Bool = λ upper. is_above upper (node_of s n) && stops m scope names upper in
       let within : a < length (nodes_of s) = omega (arith, has, length-nodes_of s) in

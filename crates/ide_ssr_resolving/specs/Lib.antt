@@ -3,4 +3,5 @@ pub mod Resolving
 pub mod Used
 pub mod QualifiedCalls
 pub mod Eligible
+pub mod Resolved
 pub mod Private

@@ -18,7 +18,7 @@ use Rattle.ssr_syntax_kinds.specs.declared.fragment.Fragment.{Fragment}
 use Rattle.ssr_syntax_rows.specs.Solid.{pieces}
 use Rattle.ssr_syntax.specs.Reading.{fragment_reading, FitsFragment}
 use Rattle.ssr_syntax.specs.Identifiers.{idents}
-use Rattle.ssr_syntax.proofs.Shared.{fragment_sound, fragment_idents, fragment_alone, length-token, tiles_within, spelled-pieces, IsUtf8-trim, trim_shorter}
+use Rattle.ssr_syntax.proofs.Shared.{fragment_sound, fragment_idents, fragment_alone, fragment_clear, length-token, tiles_within, spelled-pieces, IsUtf8-trim, trim_shorter}
 use Rattle.ide_ssr_rules.specs.declared.elements.Element.{Element}
 use Rattle.ide_ssr_rules.specs.declared.elements.Element.TheVariants as e
 use Rattle.ide_ssr_resolved_rule.specs.Names.{has, AreNew}
@@ -227,5 +227,6 @@ pattern_each category es others tree is read =
     record {
       each = tree_among category es names tree is.utf8 is.is_trimmed is.same fits ∙ each_from es [] names others refl is.new is.free;
       alone = fragment_alone category text tree fits;
+      clear = fragment_clear category text tree fits;
       different = is.new;
     }

@@ -1,5 +1,5 @@
--- Kinds that are resolved use their placeholders once, as those that are read do.
-use Rattle.std.proofs.Common.{◌≡◌, ℕ, List, [], ◌∷◌, All, Result, Ok, Err, ap, subst}
+-- Kinds that are resolved use their placeholders once, as those that are read do, and are what is told by their patterns.
+use Rattle.std.proofs.Common.{◌≡◌, ℕ, List, [], ◌∷◌, All, Result, Ok, Err, ap, refl, subst}
 use Rattle.std.proofs.lemmas.List.Elements.{All-nil, All-cons, All-head, All-tail}
 use Rattle.ssr_syntax_tree.specs.declared.number.NodeNo.{NodeNo}
 use Rattle.ssr_syntax_tree.specs.Syntax.{Syntax}
@@ -13,6 +13,7 @@ use Rattle.ide_ssr_refusals.specs.Refusals.{◌>>=◌}
 use Rattle.ide_ssr_refusals.proofs.Shared.{went, ok_same}
 use Rattle.ide_ssr_resolved_rule.specs.declared.used_paths.UsedPath.{UsedPath}
 use Rattle.ide_ssr_resolved_rule.specs.Patterns.{HasEachOnce, AreInArguments}
+use Rattle.ide_ssr_resolving.specs.Resolved.{IsResolvedBy}
 use Rattle.ide_ssr_resolving.specs.Used.{used_paths}
 use Rattle.ide_ssr_resolved_rule.specs.Resolved.{ResolvedRule}
 use Rattle.ide_ssr_rules.specs.Resolved.{or_refusal, paths_in, paths_in_template, resolved_kind, resolved_kinds, resolved_with}
@@ -72,3 +73,12 @@ module _ (m : Meanings) (scope : ScopeId) (names : List (List ℕ)) (asked : Lis
   pub resolved_once : (kinds : List ParsedRule) (found : List ResolvedRule) → resolved_kinds m scope names asked kinds ≡ Ok found
       → All (AreReadOnce names) kinds → All IsUsedOnce found
   resolved_once kinds found h all = resolved_all (AreReadOnce names) IsUsedOnce kinds found used_once h all
+
+  told_by : (kind : ParsedRule) (found : ResolvedRule) → resolved_kind m scope names asked kind ≡ Ok found → AreReadOnce names kind → IsResolvedBy m found
+  told_by kind found h read =
+      let is = resolved_like kind found h in
+      subst (IsResolvedBy m) is.same (record { scope = scope; clear = read.0.clear; paths = is.told; calls = refl; eligible = refl })
+
+  pub resolved_known : (kinds : List ParsedRule) (found : List ResolvedRule) → resolved_kinds m scope names asked kinds ≡ Ok found
+      → All (AreReadOnce names) kinds → All (IsResolvedBy m) found
+  resolved_known kinds found h all = resolved_all (AreReadOnce names) (IsResolvedBy m) kinds found told_by h all

@@ -3,16 +3,18 @@ use Rattle.std.specs.Prelude.{ℕ, ◌≡◌, ◌≢◌, List, [], length, AllPa
 use Rattle.std.specs.List.{range_with_len}
 use Rattle.std.specs.Option.{IfSome}
 use Rattle.ssr_syntax.specs.Identifiers.{IdentsAloneIn}
+use Rattle.ssr_syntax_tree.specs.ClearPaths.{HasClearPaths}
 use Rattle.ssr_syntax_tree.specs.Syntax.{Syntax, tokens_of}
 use Rattle.ide_ssr_rules.specs.declared.kinds.ParsedRule.{ParsedRule}
 use Rattle.ide_ssr_resolved_rule.specs.Names.{AreNew}
 use Rattle.ide_ssr_resolved_rule.specs.Patterns.{placeholders_among}
 
 -- A pattern's tokens have each placeholder once, in the order of their names, and no two have one name. Each of them is a
--- node as well, but in the nodes that mix identifiers with other tokens.
+-- node as well, but in the nodes that mix identifiers with other tokens. The pattern's paths can be told.
 pub record IsReadOnce (names : List (List ℕ)) (pattern : Syntax) : Type 0 where
   pub each : placeholders_among names (tokens_of pattern) ≡ range_with_len 0 (length names)
   pub alone : IdentsAloneIn pattern
+  pub clear : HasClearPaths pattern
   pub different : AreNew [] names
 
 -- a template, if there is one, has no placeholder twice

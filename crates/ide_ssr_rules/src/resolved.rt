@@ -7,6 +7,7 @@ ghost use Rattle.ide_ssr_resolved_rule.specs.Patterns.{HasEachOnce, AreInArgumen
 ghost use Rattle.ide_ssr_resolving.specs.Eligible.{eligible_paths_of};
 ghost use Rattle.ide_ssr_resolved_rule.specs.QualifiedCalls.{HasCalls};
 ghost use Rattle.ide_ssr_resolving.specs.QualifiedCalls.{qualified_calls_of};
+ghost use Rattle.ide_ssr_resolving.specs.Resolved.{IsResolvedBy};
 ghost use Rattle.ide_ssr_rules.specs.Resolved.{paths_in, paths_in_template, resolved_kind, resolved_kinds, resolved_with};
 ghost use Rattle.ide_ssr_resolved_rule.specs.UsedPaths.{HasPaths};
 
@@ -23,7 +24,7 @@ use std::alloc::{AllocError, Global};
 
 /// The kinds of a rule in their order, with what their paths stand for that are written in the scope; or why it doesn't
 /// resolve: which of its paths doesn't. The pattern of each kind has each placeholder once, in a used path only among its
-/// arguments, and the template at most once.
+/// arguments, and the template at most once. What each kind has of its paths is what its pattern tells.
 pub fn resolve_rule<S: Semantics>(
     alloc: Global,
     semantics: &S,
@@ -34,13 +35,14 @@ pub fn resolve_rule<S: Semantics>(
     ensures each { IfOk result (λ v. All (λ kind. HasEachOnce kind.names kind.pattern) v.items) }
     ensures in_arguments { IfOk result (λ v. All (λ kind. AreInArguments kind.names kind.pattern kind.pattern_paths) v.items) }
     ensures at_most_once { IfOk result (λ v. All (λ kind. HasEachAtMostOnce kind.names kind.template) v.items) }
+    ensures known { IfOk result (λ v. All (IsResolvedBy (S.meanings semantics.now)) v.items) }
 {
     resolve(alloc, semantics, scope, rule_kinds(rule))
 }
 
 /// The kinds of a search pattern in their order, with what their paths stand for that are written in the scope; or why it
 /// doesn't resolve: which of its paths doesn't. The pattern of each kind has each placeholder once, in a used path only among
-/// its arguments.
+/// its arguments. What each kind has of its paths is what its pattern tells.
 pub fn resolve_pattern<S: Semantics>(
     alloc: Global,
     semantics: &S,
@@ -50,6 +52,7 @@ pub fn resolve_pattern<S: Semantics>(
     ensures kinds { AnswersBy (λ v. v.items) result (resolved_kinds (S.meanings semantics.now) scope pattern.names pattern.constraints pattern.kinds) }
     ensures each { IfOk result (λ v. All (λ kind. HasEachOnce kind.names kind.pattern) v.items) }
     ensures in_arguments { IfOk result (λ v. All (λ kind. AreInArguments kind.names kind.pattern kind.pattern_paths) v.items) }
+    ensures known { IfOk result (λ v. All (IsResolvedBy (S.meanings semantics.now)) v.items) }
 {
     resolve(alloc, semantics, scope, pattern_kinds(pattern))
 }
@@ -65,6 +68,7 @@ fn resolve<S: Semantics>(
     ensures each { IfOk result (λ v. All (λ kind. HasEachOnce kind.names kind.pattern) v.items) }
     ensures in_arguments { IfOk result (λ v. All (λ kind. AreInArguments kind.names kind.pattern kind.pattern_paths) v.items) }
     ensures at_most_once { IfOk result (λ v. All (λ kind. HasEachAtMostOnce kind.names kind.template) v.items) }
+    ensures known { IfOk result (λ v. All (IsResolvedBy (S.meanings semantics.now)) v.items) }
 {
     let (names, constraints, kinds) = parsed.into_parts();
     let known = Names::of(alloc, names.as_slice())?;

@@ -33,6 +33,7 @@ use Rattle.ide_ssr_search.specs.declared.roots.Root.TheVariants as roots
 use Rattle.ide_ssr_search.specs.declared.roots.KindSet.{KindSet}
 use Rattle.ide_ssr_search.specs.declared.roots.Rules.{Rules}
 use Rattle.ssr_base_trees.specs.Built.{IsMacroCall}
+use Rattle.ide_ssr_search.specs.Found.{IsWanted}
 use Rattle.ide_ssr_search.specs.WholeMatches.{IsWholeMatch}
 use Rattle.ide_ssr_search.specs.Private.Shut.{Shuts}
 use Rattle.ide_ssr_bindings.proofs.Shared.{IsTree, in_tree}
@@ -245,9 +246,9 @@ module _ (w : Workspace) (meanings : Meanings) (t n : ℕ) (s : Syntax) (at : Is
       both_ways (has_asked root (node_of s n)) lacks (is meanings t (node_of s n) bindings (matched_there rule bindings whole))
 
   pub unmatched_kind : (rules : Rules) (kinds : KindSet) → AreKindsIn rules s kinds → HasNode s n → has_kind kinds (node_of s n).kind ≡ false
-      → (place : ℕ) (rule : ResolvedRule) (bindings : List Binding) → slice_get rules.rules.now place ≡ Some rule → IsWholeMatch (trees w) meanings rule (node_id t n) bindings → ⊥
-  unmatched_kind rules kinds are has lacks place rule bindings is whole =
-      both_ways (has_kind kinds (node_of s n).kind) lacks (are.matched place rule is meanings t n bindings has (matched_there rule bindings whole))
+      → (place : ℕ) (rule : ResolvedRule) (bindings : List Binding) → slice_get rules.rules.now place ≡ Some rule → IsWanted rules.wanted.now place → IsWholeMatch (trees w) meanings rule (node_id t n) bindings → ⊥
+  unmatched_kind rules kinds are has lacks place rule bindings is flag whole =
+      both_ways (has_kind kinds (node_of s n).kind) lacks (are.matched place rule is flag meanings t n bindings has (matched_there rule bindings whole))
 
 module _ (w : Workspace) (t n : ℕ) (s : Syntax) (at : IsTree (trees w) t s) where
   -- a node of a kind that concerns nothing shuts in nothing

@@ -15,7 +15,7 @@ use Rattle.ssr_base_trees.specs.Workspace.{Workspace, FileSpan, node_id}
 use Rattle.ide_ssr_search.specs.Context.{Context}
 use Rattle.ide_ssr_search.specs.declared.context_error.ContextError.{ContextError}
 use Rattle.ide_ssr_search.specs.declared.context_error.ContextError.TheVariants as errors
-use Rattle.ide_ssr_search.specs.Making.{AreOfFiles, HasFile, IsContext, IsPlace, LiesInText, Makes}
+use Rattle.ide_ssr_search.specs.Making.{AreOfFiles, IsContext, IsPlace, LiesInText, Makes}
 use Rattle.ide_ssr_search.specs.Positions.{IsNear, IsFirst, IsLeftFor, Leads, stays, goes_on, Settles, IsNodeAt, IsInnermost}
 use Rattle.ide_ssr_search.proofs.PositionNodes.{one_token}
 use Rattle.ide_ssr_search.proofs.TokenParents.{one_parent}

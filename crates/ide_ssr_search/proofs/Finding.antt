@@ -1,9 +1,10 @@
 -- What a search has found, step by step.
-use Rattle.std.proofs.Common.{◌≡◌, ℕ, ◌+◌, ◌<◌, ◌≤◌, List, [], ◌∷◌, ◌++◌, length, get_or, Option, Some, None, refl, sym, ap, ◌∙◌, subst, inl, inr, ◌⊎◌, arith, append-nil}
-use Rattle.std.specs.Prelude.{slice_get, Contains}
+use Rattle.std.proofs.Common.{Bool, true, false, ◌≡◌, ℕ, ◌+◌, ◌<◌, ◌≤◌, List, [], ◌∷◌, ◌++◌, length, get_or, Option, Some, None, refl, sym, ap, ◌∙◌, subst, inl, inr, ◌⊎◌, arith, append-nil}
+use Rattle.std.specs.Prelude.{slice_get, replicate, Contains}
 use Rattle.std.specs.Option.{option_map}
 use Rattle.std.proofs.lemmas.Bool.{cases_lt}
 use Rattle.std.proofs.lemmas.List.Elements.{All-nil, All-push, All-weaker, All-contains, Contains-append_left, Contains-push}
+use Rattle.std.proofs.lemmas.List.{length-replicate, get_or-replicate}
 use Rattle.std.proofs.lemmas.List.Quantifiers.{all_pairs_push}
 use Rattle.std.proofs.lemmas.Option.{none-some, same_Some, slice_get_within, slice_get-get_or}
 use Rattle.ssr_syntax_tree.specs.Syntax.{Syntax, node_count}
@@ -17,7 +18,7 @@ use Rattle.ide_ssr_bindings.specs.Found.{FoundMatch}
 use Rattle.ide_ssr_search.specs.Context.{Context}
 use Rattle.ide_ssr_search.specs.Permitted.{IsOpen, IsPermitted}
 use Rattle.ide_ssr_search.specs.WholeMatches.{IsWholeMatch}
-use Rattle.ide_ssr_search.specs.Found.{IsFound, Precedes, AreFound}
+use Rattle.ide_ssr_search.specs.Found.{IsFound, IsWanted, IsFoundOf, Precedes, AreFound, AreFoundOf}
 use Rattle.ide_ssr_search.specs.Private.Scan.{IsBefore, AreFoundBefore, TellsMatch, found_of, Adds}
 use Rattle.ssr_syntax_tree.proofs.Lists.{pairs_none}
 use Rattle.ide_ssr_search.proofs.Placed.{whole_binds}
@@ -71,31 +72,9 @@ tree_cases t m (inr same) = elim same.1 [ inl none ↦ absurd (omega arith) | in
 pub at_id : (t n : ℕ) (x : NodeId) → x.tree ≡ t → x.node.0 ≡ n → x ≡ node_id t n
 at_id t n x tree node = ap (λ t. node_id t x.node.0) tree ∙ ap (node_id t) node
 
+-- ** Matches of one rule at one node.
+
 module _ (w : Workspace) (meanings : Meanings) (context : Context) (rules : List ResolvedRule) where
-  -- what is found stays while no further match is passed
-  passed : (t n r u m q : ℕ) (ms : List FoundMatch) → AreFoundBefore w meanings context rules t n r ms → ((f : FoundMatch) → IsBefore t n r f → IsBefore u m q f)
-      → ((f : FoundMatch) → IsFound w meanings context rules f → IsBefore u m q f → IsBefore t n r f) → AreFoundBefore w meanings context rules u m q ms
-  passed t n r u m q ms so_far on back = record {
-    in_order = so_far.in_order;
-    before = All-weaker (IsBefore t n r) (IsBefore u m q) on ms so_far.before;
-    are = so_far.are;
-    complete = λ f is before. so_far.complete f is (back f is before);
-  }
-
-  pub found_none : AreFoundBefore w meanings context rules 0 0 0 []
-  found_none = record {
-    in_order = pairs_none Precedes;
-    before = All-nil (IsBefore 0 0 0);
-    are = All-nil (IsFound w meanings context rules);
-    complete = λ f is before.
-        elim before [
-          | inl tree ↦ absurd (omega arith)
-          | inr same ↦ elim same.1 [ inl none ↦ absurd (omega arith) | inr none ↦ absurd (omega (arith, none.1)) ]
-        ];
-  }
-
-  -- ** At a node.
-
   here_rule : (place : ℕ) (rule : ResolvedRule) (f : FoundMatch) (is : IsFound w meanings context rules f) → slice_get rules place ≡ Some rule → f.rule ≡ place → is.rule ≡ rule
   here_rule place rule f is at same = same_Some is.rule rule (sym is.is_rule ∙ ap (slice_get rules) same ∙ at)
 
@@ -123,43 +102,75 @@ module _ (w : Workspace) (meanings : Meanings) (context : Context) (rules : List
       let made : ℕ → NodeId → List Binding → FoundMatch = λ rule node bindings. record { rule = rule; node = node; bindings = bindings } in
       ap (λ r. made r f.node f.bindings) rule ∙ ap (λ x. made g.rule x f.bindings) node ∙ ap (made g.rule x) bindings
 
-  pub added_by : (t n place : ℕ) (s : Syntax) (rule : ResolvedRule) (ms : List FoundMatch) (bindings : Option (List Binding)) → tree_of w t ≡ Some s → slice_get rules place ≡ Some rule
-      → AreFoundBefore w meanings context rules t n place ms → TellsMatch w meanings context rule (node_id t n) bindings
-      → AreFoundBefore w meanings context rules t n (place + 1) (ms ++ found_of place (node_id t n) bindings)
-  added_by t n place s rule ms None tree at so_far tells =
-      subst (AreFoundBefore w meanings context rules t n (place + 1)) (sym (append-nil ms))
+module _ (w : Workspace) (meanings : Meanings) (context : Context) (rules : List ResolvedRule) (wanted : List Bool) where
+  -- what is found stays while no further match is passed
+  passed : (t n r u m q : ℕ) (ms : List FoundMatch) → AreFoundBefore w meanings context rules wanted t n r ms → ((f : FoundMatch) → IsBefore t n r f → IsBefore u m q f)
+      → ((f : FoundMatch) → IsFoundOf w meanings context rules wanted f → IsBefore u m q f → IsBefore t n r f) → AreFoundBefore w meanings context rules wanted u m q ms
+  passed t n r u m q ms so_far on back = record {
+    in_order = so_far.in_order;
+    before = All-weaker (IsBefore t n r) (IsBefore u m q) on ms so_far.before;
+    are = so_far.are;
+    complete = λ f is before. so_far.complete f is (back f is before);
+  }
+
+  pub found_none : AreFoundBefore w meanings context rules wanted 0 0 0 []
+  found_none = record {
+    in_order = pairs_none Precedes;
+    before = All-nil (IsBefore 0 0 0);
+    are = All-nil (IsFoundOf w meanings context rules wanted);
+    complete = λ f is before.
+        elim before [
+          | inl tree ↦ absurd (omega arith)
+          | inr same ↦ elim same.1 [ inl none ↦ absurd (omega arith) | inr none ↦ absurd (omega (arith, none.1)) ]
+        ];
+  }
+
+  -- ** At a node.
+
+  pub added_by : (t n place : ℕ) (s : Syntax) (rule : ResolvedRule) (ms : List FoundMatch) (bindings : Option (List Binding)) → tree_of w t ≡ Some s → slice_get rules place ≡ Some rule → IsWanted wanted place
+      → AreFoundBefore w meanings context rules wanted t n place ms → TellsMatch w meanings context rule (node_id t n) bindings
+      → AreFoundBefore w meanings context rules wanted t n (place + 1) (ms ++ found_of place (node_id t n) bindings)
+  added_by t n place s rule ms None tree at flag so_far tells =
+      subst (AreFoundBefore w meanings context rules wanted t n (place + 1)) (sym (append-nil ms))
       (passed t n place t n (place + 1) ms so_far (before_rule t n place)
       (λ f is before.
       elim (rule_cases t n place f before) [
         | inl earlier ↦ earlier
         | inr here ↦
-            let known = here_found t n place rule f at is here.0 here.1 here.2 in
+            let known = here_found w meanings context rules t n place rule f at is.0 here.0 here.1 here.2 in
             absurd (tells f.bindings known.0 known.1)
       ]))
-  added_by t n place s rule ms (Some bindings) tree at so_far tells =
+  added_by t n place s rule ms (Some bindings) tree at flag so_far tells =
       let new : FoundMatch = record { rule = place; node = node_id t n; bindings = bindings } in
       let found : IsFound w meanings context rules new = record { rule = rule; is_rule = at; permitted = tells.0; whole = tells.1 } in
       let itself : IsBefore t n (place + 1) new = inr (refl, inr (refl, omega arith)) in
       record {
         in_order = all_pairs_push Precedes ms new so_far.in_order (λ k d low. so_far.before k d low);
         before = All-push (IsBefore t n (place + 1)) ms new (All-weaker (IsBefore t n place) (IsBefore t n (place + 1)) (before_rule t n place) ms so_far.before) itself;
-        are = All-push (IsFound w meanings context rules) ms new so_far.are found;
+        are = All-push (IsFoundOf w meanings context rules wanted) ms new so_far.are (found, flag);
         complete = λ f is before.
             elim (rule_cases t n place f before) [
               | inl earlier ↦ Contains-append_left ms (new ∷ []) f (so_far.complete f is earlier)
               | inr here ↦
-                  subst (Contains (ms ++ new ∷ [])) (one_match new f found is (sym (at_id t n f.node here.0 here.1)) (sym here.2)) (Contains-push ms new)
+                  subst (Contains (ms ++ new ∷ [])) (one_match w meanings context rules new f found is.0 (sym (at_id t n f.node here.0 here.1)) (sym here.2)) (Contains-push ms new)
             ];
       }
 
-  pub found_more : (t n place : ℕ) (s : Syntax) (rule : ResolvedRule) (old new : List FoundMatch) → tree_of w t ≡ Some s → place < length rules → rule ≡ get_or rules place rule
-      → AreFoundBefore w meanings context rules t n place old → Adds w meanings context rule place (node_id t n) old new → AreFoundBefore w meanings context rules t n (place + 1) new
-  found_more t n place s rule old new tree within read so_far adds =
-      subst (AreFoundBefore w meanings context rules t n (place + 1)) (sym adds.added)
-      (added_by t n place s rule old adds.bindings tree (slice_get-get_or rules place rule within ∙ ap Some (sym read)) so_far adds.tells)
+  pub found_more : (t n place : ℕ) (s : Syntax) (rule : ResolvedRule) (old new : List FoundMatch) → tree_of w t ≡ Some s → place < length rules → rule ≡ get_or rules place rule → IsWanted wanted place
+      → AreFoundBefore w meanings context rules wanted t n place old → Adds w meanings context rule place (node_id t n) old new → AreFoundBefore w meanings context rules wanted t n (place + 1) new
+  found_more t n place s rule old new tree within read flag so_far adds =
+      subst (AreFoundBefore w meanings context rules wanted t n (place + 1)) (sym adds.added)
+      (added_by t n place s rule old adds.bindings tree (slice_get-get_or rules place rule within ∙ ap Some (sym read)) flag so_far adds.tells)
+
+  -- a rule that isn't wanted is passed over
+  pub found_unwanted : (t n place : ℕ) (ms : List FoundMatch) → (IsWanted wanted place → ⊥) → AreFoundBefore w meanings context rules wanted t n place ms → AreFoundBefore w meanings context rules wanted t n (place + 1) ms
+  found_unwanted t n place ms unwanted so_far =
+      passed t n place t n (place + 1) ms so_far (before_rule t n place)
+      (λ f is before.
+      elim (rule_cases t n place f before) [ inl earlier ↦ earlier | inr here ↦ absurd (unwanted (subst (IsWanted wanted) here.2 is.1)) ])
 
   -- all rules are tried
-  pub found_at : (t n place : ℕ) (ms : List FoundMatch) → length rules ≤ place → AreFoundBefore w meanings context rules t n place ms → AreFoundBefore w meanings context rules t (n + 1) 0 ms
+  pub found_at : (t n place : ℕ) (ms : List FoundMatch) → length rules ≤ place → AreFoundBefore w meanings context rules wanted t n place ms → AreFoundBefore w meanings context rules wanted t (n + 1) 0 ms
   found_at t n place ms all so_far =
       passed t n place t (n + 1) 0 ms so_far (before_node t n place)
       (λ f is before.
@@ -169,37 +180,37 @@ module _ (w : Workspace) (meanings : Meanings) (context : Context) (rules : List
               | inl tree ↦ inl tree
               | inr same ↦ inr (same.0, elim same.1 [ inl node ↦ inl node | inr none ↦ absurd (omega (arith, none.1)) ])
             ]
-        | inr here ↦ inr (here.0, inr (here.1, omega (arith, slice_get_within rules f.rule is.rule is.is_rule)))
+        | inr here ↦ inr (here.0, inr (here.1, omega (arith, slice_get_within rules f.rule is.0.rule is.0.is_rule)))
       ])
 
   -- nothing is found at a node that isn't open
-  pub found_nothing : (t n : ℕ) (ms : List FoundMatch) → (IsOpen w context.restrictions (node_id t n) → ⊥) → AreFoundBefore w meanings context rules t n 0 ms → AreFoundBefore w meanings context rules t (n + 1) 0 ms
+  pub found_nothing : (t n : ℕ) (ms : List FoundMatch) → (IsOpen w context.restrictions (node_id t n) → ⊥) → AreFoundBefore w meanings context rules wanted t n 0 ms → AreFoundBefore w meanings context rules wanted t (n + 1) 0 ms
   found_nothing t n ms shut so_far =
       passed t n 0 t (n + 1) 0 ms so_far (before_node t n 0)
       (λ f is before.
       elim (node_cases t n f before) [
         | inl earlier ↦ earlier
-        | inr here ↦ absurd (shut (subst (IsOpen w context.restrictions) (at_id t n f.node here.0 here.1) is.permitted.open_to_all))
+        | inr here ↦ absurd (shut (subst (IsOpen w context.restrictions) (at_id t n f.node here.0 here.1) is.0.permitted.open_to_all))
       ])
 
   -- nor at one that no rule matches
   pub found_unmatched : (t n : ℕ) (ms : List FoundMatch)
-      → ((place : ℕ) (rule : ResolvedRule) (bindings : List Binding) → slice_get rules place ≡ Some rule → IsWholeMatch (trees w) meanings rule (node_id t n) bindings → ⊥)
-      → AreFoundBefore w meanings context rules t n 0 ms → AreFoundBefore w meanings context rules t (n + 1) 0 ms
+      → ((place : ℕ) (rule : ResolvedRule) (bindings : List Binding) → slice_get rules place ≡ Some rule → IsWanted wanted place → IsWholeMatch (trees w) meanings rule (node_id t n) bindings → ⊥)
+      → AreFoundBefore w meanings context rules wanted t n 0 ms → AreFoundBefore w meanings context rules wanted t (n + 1) 0 ms
   found_unmatched t n ms none so_far =
       passed t n 0 t (n + 1) 0 ms so_far (before_node t n 0)
       (λ f is before.
       elim (node_cases t n f before) [
         | inl earlier ↦ earlier
         | inr here ↦
-            absurd (none f.rule is.rule f.bindings is.is_rule
-            (subst (λ x. IsWholeMatch (trees w) meanings is.rule x f.bindings) (at_id t n f.node here.0 here.1) is.whole))
+            absurd (none f.rule is.0.rule f.bindings is.0.is_rule is.1
+            (subst (λ x. IsWholeMatch (trees w) meanings is.0.rule x f.bindings) (at_id t n f.node here.0 here.1) is.0.whole))
       ])
 
   -- ** At a tree.
 
-  pub found_in : (t n : ℕ) (s : Syntax) (ms : List FoundMatch) → tree_of w t ≡ Some s → 1 + node_count s.children ≤ n → AreFoundBefore w meanings context rules t n 0 ms
-      → AreFoundBefore w meanings context rules (t + 1) 0 0 ms
+  pub found_in : (t n : ℕ) (s : Syntax) (ms : List FoundMatch) → tree_of w t ≡ Some s → 1 + node_count s.children ≤ n → AreFoundBefore w meanings context rules wanted t n 0 ms
+      → AreFoundBefore w meanings context rules wanted (t + 1) 0 0 ms
   found_in t n s ms tree all so_far =
       passed t n 0 (t + 1) 0 0 ms so_far (before_tree t n 0)
       (λ f is before.
@@ -207,19 +218,19 @@ module _ (w : Workspace) (meanings : Meanings) (context : Context) (rules : List
         | inl earlier ↦ inl earlier
         | inr here ↦
             let at = is_tree w f.node.tree s (ap (tree_of w) here ∙ tree) in
-            let has = in_tree (trees w) f.node.tree s (λ s. HasNode s f.node.node.0) at is.permitted.open_to_all.node in
+            let has = in_tree (trees w) f.node.tree s (λ s. HasNode s f.node.node.0) at is.0.permitted.open_to_all.node in
             inr (here, inl (omega arith))
       ])
 
   -- ** At the end.
 
-  pub found_all : (t : ℕ) (ms : List FoundMatch) → None ≡ tree_of w t → AreFoundBefore w meanings context rules t 0 0 ms → AreFound w meanings context rules ms
+  pub found_all : (t : ℕ) (ms : List FoundMatch) → None ≡ tree_of w t → AreFoundBefore w meanings context rules wanted t 0 0 ms → AreFoundOf w meanings context rules wanted ms
   found_all t ms none so_far = record {
     in_order = so_far.in_order;
     are = λ f. (
-      λ had. All-contains (IsFound w meanings context rules) ms f so_far.are had,
+      λ had. All-contains (IsFoundOf w meanings context rules wanted) ms f so_far.are had,
       λ is.
-          let at = some_and (with_number (trees w) f.node.tree) (λ p. HasNode p.syntax f.node.node.0) is.permitted.open_to_all.node in
+          let at = some_and (with_number (trees w) f.node.tree) (λ p. HasNode p.syntax f.node.node.0) is.0.permitted.open_to_all.node in
           let within = placed_within (trees w) f.node.tree at.0 at.1 in
           so_far.complete f is (inl (elim (cases_lt f.node.tree t) [
             | inl before ↦ before
@@ -229,3 +240,19 @@ module _ (w : Workspace) (meanings : Meanings) (context : Context) (rules : List
           ])),
     );
   }
+
+-- ** Of all rules.
+
+pub all_wanted : (n place : ℕ) → place < n → IsWanted (replicate n true) place
+all_wanted n place within = slice_get-get_or (replicate n true) place false (omega (arith, length-replicate n true)) ∙ ap Some (get_or-replicate n place true false within)
+
+-- what is found of rules that are all wanted is what is found
+pub found_of_all : (w : Workspace) (meanings : Meanings) (context : Context) (rules : List ResolvedRule) (ms : List FoundMatch)
+    → AreFoundOf w meanings context rules (replicate (length rules) true) ms → AreFound w meanings context rules ms
+found_of_all w meanings context rules ms found = record {
+  in_order = found.in_order;
+  are = λ f. (
+    λ had. ((found.are f).0 had).0,
+    λ is. (found.are f).1 (is, all_wanted (length rules) f.rule (slice_get_within rules f.rule is.rule is.is_rule)),
+  );
+}

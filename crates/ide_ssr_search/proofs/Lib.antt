@@ -11,9 +11,11 @@ mod Apart
 mod Placed
 mod Asked
 mod Finding
+mod Counting
 mod Matched
 mod Deciding
 mod SomeFound
+mod SomePermitted
 mod PositionNodes
 mod TokenParents
 mod Contexts

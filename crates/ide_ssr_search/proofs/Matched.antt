@@ -84,11 +84,15 @@ module _ (w : Workspace) (meanings : Meanings) (context : Context) (rules : List
         apart = is.whole.apart;
       }
 
-  pub are_matches : (ms : List FoundMatch) → AreFound w meanings context rules ms → AreMatches (trees w) ms
-  are_matches ms found = record {
-    each = All-weaker (Contains ms) (IsMatch (trees w)) (λ m at. is_match m ((found.are m).0 at)) ms (All-contains_itself ms);
-    one = λ k m at_k at_m. one_match w meanings context rules k m ((found.are k).0 at_k) ((found.are m).0 at_m);
+  -- found matches are matches, in any order
+  pub are_matches_of : (ms : List FoundMatch) → ((m : FoundMatch) → Contains ms m → IsFound w meanings context rules m) → AreMatches (trees w) ms
+  are_matches_of ms are = record {
+    each = All-weaker (Contains ms) (IsMatch (trees w)) (λ m at. is_match m (are m at)) ms (All-contains_itself ms);
+    one = λ k m at_k at_m. one_match w meanings context rules k m (are k at_k) (are m at_m);
   }
+
+  pub are_matches : (ms : List FoundMatch) → AreFound w meanings context rules ms → AreMatches (trees w) ms
+  are_matches ms found = are_matches_of ms (λ m at. (found.are m).0 at)
 
   -- ** One list.
 

@@ -1,6 +1,6 @@
 -- Matches that are placed: where they lie, and that in a file each does.
-use Rattle.std.proofs.Common.{◌≡◌, ℕ, ◌+◌, inl, inr, List, get_or, AllPairs, Bool, true, false, Option, Some, None, sym, ap, ◌∙◌, subst, arith}
-use Rattle.std.specs.Prelude.{◌↔◌, take, drop, is_some, if◌then◌else◌, IsTrue, IfNone, IfSome, MatchOption}
+use Rattle.std.proofs.Common.{◌≡◌, ℕ, ◌+◌, ◌<◌, length, refl, inl, inr, List, get_or, AllPairs, Bool, true, false, Option, Some, None, sym, ap, ◌∙◌, subst, arith}
+use Rattle.std.specs.Prelude.{◌↔◌, take, drop, is_some, IsSome, slice_get, if◌then◌else◌, IsTrue, IfNone, IfSome, MatchOption}
 use Rattle.std.specs.Option.{IsSomeAnd, option_and_then, option_map, option_map_or}
 use Rattle.std.proofs.lemmas.List.Elements.{All-weaker}
 use Rattle.std.proofs.lemmas.Option.{none-some, same_Some}
@@ -11,7 +11,7 @@ use Rattle.ssr_base_trees.specs.declared.ids.FileRange.{FileRange}
 use Rattle.ssr_base_trees.specs.declared.ids.NodeId.{NodeId}
 use Rattle.ssr_base_trees.specs.Meanings.{Meanings}
 use Rattle.ssr_base_trees.specs.Origins.{Span, cover_of, covered}
-use Rattle.ssr_base_trees.specs.Workspace.{Workspace, PlacedTree, FileSpan, trees, with_number, tree_of, node_id, file_of, original_in, own_span, original_range, original_run_in, own_run_span, has_run, file_span_of, cover_below}
+use Rattle.ssr_base_trees.specs.Workspace.{Workspace, PlacedTree, FileSpan, trees, of_file, with_number, tree_of, node_id, file_of, original_in, own_span, original_range, original_run_in, own_run_span, has_run, file_span_of, cover_below}
 use Rattle.ssr_base_trees.specs.Laws.{LiesIn}
 use Rattle.ide_ssr_resolved_rule.specs.Resolved.{ResolvedRule}
 use Rattle.ide_ssr_bindings.specs.declared.bindings.Binding.{Binding}
@@ -27,11 +27,11 @@ use Rattle.ide_ssr_search.specs.declared.bounds.Bounds.{Bounds}
 use Rattle.ide_ssr_search.specs.declared.bounds.Bounds.TheVariants as limits
 use Rattle.ide_ssr_search.specs.Permitted.{arguments_range}
 use Rattle.ide_ssr_search.specs.Printing.{CanBeWritten}
-use Rattle.ide_ssr_search.specs.WholeMatches.{LiesInArguments, IsPlaced, IsWholeMatch}
+use Rattle.ide_ssr_search.specs.WholeMatches.{LiesInArguments, IsPlaced, IsWholeMatch, TellsWhole}
 use Rattle.ide_ssr_search.specs.Private.Bounds.{AreBoundsOf, AreBounds, LiesInBounds}
-use Rattle.ide_ssr_search.specs.Private.Whole.{AreRanges, IsPlacedMatch, IsMatched, TellsWhole}
+use Rattle.ide_ssr_search.specs.Private.Whole.{AreRanges, IsPlacedMatch, IsMatched}
 use Rattle.ide_ssr_search.proofs.Apart.{Disjoint, ranges_placed, ranges_apart, ranges_disjoint}
-use Rattle.ssr_base_trees.proofs.Shared.{some_and, and_some, told_is}
+use Rattle.ssr_base_trees.proofs.Shared.{some_and, and_some, told_is, placed-file, tree_of_file}
 
 -- ** Bounds.
 
@@ -61,6 +61,17 @@ in_bounds ts t bounds range are =
       λ lies. let other = some_and (with_number ts t) Lies lies in
           both.1 (subst Lies (same_Some other.0 had.0 (sym other.1 ∙ had.1)) other.2),
     )
+
+-- in a file matches lie anywhere
+pub file_bounds : (w : Workspace) (t : ℕ) → t < length w.files → IsSome (tree_of w t) → AreBounds (trees w) t limits.Everywhere
+file_bounds w t within some =
+    subst (λ o. IsSomeAnd o (λ p. MatchOption p.call (limits.Everywhere ≡ limits.Everywhere) (λ call. AreBoundsOf (arguments_range (trees w) call) limits.Everywhere)))
+    (sym (placed-file w t within)) (at (slice_get w.files t) (subst IsSome (tree_of_file w t within) some))
+  where
+    at : (o : Option Syntax) → IsSome o
+        → IsSomeAnd (option_map of_file o) (λ p. MatchOption p.call (limits.Everywhere ≡ limits.Everywhere) (λ call. AreBoundsOf (arguments_range (trees w) call) limits.Everywhere))
+    at None none = let e : false ≡ true = none in cc
+    at (Some s) some = refl
 
 -- a range that is there lies in the bounds of a tree exactly if it is placed
 pub placed_by : (ts : List PlacedTree) (t : ℕ) (bounds : Bounds) (o : Option FileSpan) → AreBounds ts t bounds → IsSomeAnd o (LiesInBounds bounds) ↔ IsPlaced ts t o

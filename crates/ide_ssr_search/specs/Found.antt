@@ -1,5 +1,5 @@
 -- What a search finds.
-use Rattle.std.specs.Prelude.{◌≡◌, ◌<◌, ◌⊎◌, ◌↔◌, List, Some, slice_get, AllPairs, Contains}
+use Rattle.std.specs.Prelude.{ℕ, ◌≡◌, ◌<◌, ◌⊎◌, ◌↔◌, Bool, true, List, Some, slice_get, AllPairs, Contains}
 use Rattle.ssr_base_trees.specs.Meanings.{Meanings}
 use Rattle.ssr_base_trees.specs.Workspace.{Workspace, trees}
 use Rattle.ide_ssr_resolved_rule.specs.Resolved.{ResolvedRule}
@@ -26,3 +26,18 @@ Precedes k m =
 pub record AreFound (w : Workspace) (m : Meanings) (context : Context) (rules : List ResolvedRule) (ms : List FoundMatch) : Type 0 where
   pub in_order : AllPairs Precedes ms
   pub are : (found : FoundMatch) → Contains ms found ↔ IsFound w m context rules found
+
+-- ** What is found of some of the rules.
+
+-- the flag of a rule, which has this place among the rules, is set
+abbrev pub IsWanted : List Bool → ℕ → Type 0
+IsWanted wanted place = slice_get wanted place ≡ Some true
+
+-- one of the wanted rules matches as a whole at a node that is permitted for it
+abbrev pub IsFoundOf : Workspace → Meanings → Context → List ResolvedRule → List Bool → FoundMatch → Type 0
+IsFoundOf w m context rules wanted found = IsFound w m context rules found × IsWanted wanted found.rule
+
+-- exactly what is found of the wanted rules, in the order of trees, nodes and rules, and so each once
+pub record AreFoundOf (w : Workspace) (m : Meanings) (context : Context) (rules : List ResolvedRule) (wanted : List Bool) (ms : List FoundMatch) : Type 0 where
+  pub in_order : AllPairs Precedes ms
+  pub are : (found : FoundMatch) → Contains ms found ↔ IsFoundOf w m context rules wanted found

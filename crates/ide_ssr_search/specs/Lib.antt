@@ -5,5 +5,6 @@ pub mod Permitted
 pub mod Printing
 pub mod WholeMatches
 pub mod Found
+pub mod Tries
 pub mod Laws
 pub mod Private

@@ -37,6 +37,10 @@ arguments_of trees call =
 abbrev pub arguments_range : List PlacedTree → NodeId → Option FileSpan
 arguments_range trees call = option_and_then (original_range trees) (arguments_of trees call)
 
+-- what shuts in what is below it: a USE, and a macro call whose arguments have no original range
+abbrev pub Shuts : List PlacedTree → NodeId → Type 0
+Shuts trees a = IsUse trees a ⊎ (IsMacroCall trees a × (arguments_range trees a ≡ None))
+
 -- ** What is asked of a node, whatever the rule.
 
 -- without restrictions all files are searched, else what lies in one of them

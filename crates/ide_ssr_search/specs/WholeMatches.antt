@@ -1,5 +1,5 @@
 -- When a rule matches as a whole at a node.
-use Rattle.std.specs.Prelude.{ℕ, List, Option, All, AllPairs, IfSome}
+use Rattle.std.specs.Prelude.{ℕ, List, Option, Some, None, All, AllPairs, IfSome}
 use Rattle.std.specs.Option.{IsSomeAnd}
 use Rattle.ssr_syntax_tree.specs.Places.{node_of, root_of}
 use Rattle.ssr_base_trees.specs.declared.ids.NodeId.{NodeId}
@@ -30,3 +30,8 @@ pub record IsWholeMatch (trees : List PlacedTree) (m : Meanings) (rule : Resolve
   pub bindings_placed : All (λ b. IsPlaced trees x.tree (held_range trees x.tree b)) bindings
   pub apart : AllPairs (ShareNoByte trees x.tree) bindings
   pub written : CanBeWritten m rule x
+
+-- what the placeholders hold in a whole match, or that there is none
+abbrev pub TellsWhole : List PlacedTree → Meanings → ResolvedRule → NodeId → Option (List Binding) → Type 0
+TellsWhole trees m rule x None = (bindings : List Binding) → ¬ IsWholeMatch trees m rule x bindings
+TellsWhole trees m rule x (Some bindings) = IsWholeMatch trees m rule x bindings

@@ -1,7 +1,7 @@
 //! Where matches in a tree have to lie.
 ghost use Rattle.std.specs.Prelude.{◌≡◌, ◌↔◌, IsTrue, IsSome};
 ghost use Rattle.ssr_base_trees.specs.Workspace.{trees, tree_of, file_span_of};
-ghost use Rattle.ssr_base_trees.specs.Built.{IsNodeOf, IsBuilt};
+ghost use Rattle.ssr_base_trees.specs.Built.{IsNodeOf};
 ghost use Rattle.ide_ssr_search.specs.Permitted.{arguments_range};
 ghost use Rattle.ide_ssr_search.specs.Private.Bounds.{AreBoundsOf, AreBounds, LiesInBounds};
 
@@ -21,10 +21,12 @@ pub(crate) enum Bounds {
 impl Bounds {
     /// The bounds of the matches in a tree.
     pub(crate) fn of(workspace: &Trees, tree: u32) -> Bounds
-        requires built { IsBuilt workspace.now }
-        requires has { IsSome (tree_of workspace.now tree) }
+        requires { IsSome (tree_of workspace.now tree) }
         ensures { AreBounds (trees workspace.now) tree result }
     {
+        if tree < workspace.file_count() {
+            return Bounds::Everywhere;
+        }
         let root = NodeId {
             tree,
             node: NodeNo(0),

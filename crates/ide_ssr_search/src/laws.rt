@@ -2,6 +2,7 @@
 ghost use Rattle.std.specs.Prelude.{◌≡◌, List};
 ghost use Rattle.ssr_base_trees.specs.declared.ids.FilePosition.{FilePosition};
 ghost use Rattle.ssr_base_trees.specs.declared.ids.FileRange.{FileRange};
+ghost use Rattle.ssr_base_trees.specs.declared.ids.NodeId.{NodeId};
 ghost use Rattle.ssr_base_trees.specs.Meanings.{Meanings};
 ghost use Rattle.ssr_base_trees.specs.Workspace.{Workspace as WorkspaceValue, trees};
 ghost use Rattle.ssr_base_trees.specs.Built.{IsBuilt};
@@ -11,11 +12,14 @@ ghost use Rattle.ide_ssr_search.specs.Context.{Context as ContextValue};
 ghost use Rattle.ide_ssr_search.specs.Making.{IsContext};
 ghost use Rattle.ide_ssr_search.specs.Found.{AreFound};
 ghost use Rattle.ide_ssr_search.specs.Laws.{ContextExists};
+ghost use Rattle.ide_ssr_search.specs.Tries.{ArePermitted};
 
-/// What is found in a workspace that is built is some list, and it is one list, whatever names mean.
+/// What is found in a workspace that is built is some list, and it is one list, whatever names mean. The nodes that are
+/// permitted for a rule are those of some list too.
 pub fn searching()
     ensures exist { (w : WorkspaceValue) (m : Meanings) (context : ContextValue) (rules : List ResolvedRule) → IsBuilt w → (found : List FoundMatch) × AreFound w m context rules found }
     ensures one { (w : WorkspaceValue) (m : Meanings) (context : ContextValue) (rules : List ResolvedRule) (found again : List FoundMatch) → AreFound w m context rules found → AreFound w m context rules again → found ≡ again }
+    ensures permitted { (w : WorkspaceValue) (context : ContextValue) (rule : ResolvedRule) → IsBuilt w → (xs : List NodeId) × ArePermitted w context rule xs }
 {}
 
 /// At a position in a file whose nodes stand in scopes, and for restrictions of files, a search is made for something, and for

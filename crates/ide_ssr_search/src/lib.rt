@@ -14,4 +14,6 @@ mod whole;
 
 pub use context::Context;
 pub use context_error::ContextError;
-pub use scan::find_matches;
+pub use permitted::{is_searched, names_self, shuts};
+pub use scan::{find_matches, find_wanted};
+pub use whole::match_whole;

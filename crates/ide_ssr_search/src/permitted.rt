@@ -5,8 +5,7 @@ ghost use Rattle.ssr_syntax_tree.specs.Syntax.{tokens_of};
 ghost use Rattle.ssr_syntax_tree.specs.Places.{HasNode, HasToken, HasElement, node_of, token_of, part_of, parts_of, size_of};
 ghost use Rattle.ssr_base_trees.specs.Workspace.{trees, tree_of, file_span_of};
 ghost use Rattle.ssr_base_trees.specs.Laws.{LiesIn};
-ghost use Rattle.ide_ssr_search.specs.Permitted.{IsSearched, begins_with, first_token_tree, arguments_range, is_double_colon, names_self};
-ghost use Rattle.ide_ssr_search.specs.Private.Shut.{Shuts};
+ghost use Rattle.ide_ssr_search.specs.Permitted.{IsSearched, begins_with, first_token_tree, arguments_range, Shuts, is_double_colon, names_self};
 
 use ssr_base_trees::{FileRange, NodeId, Trees};
 use ssr_syntax_kinds::SyntaxKind;
@@ -54,7 +53,7 @@ pub(crate) fn arguments_range(workspace: &Trees, tree: &Tree, call: NodeId) -> O
 }
 
 /// Whether nothing is tried below a node: it is a USE, or a macro call whose arguments have no original range.
-pub(crate) fn shuts(workspace: &Trees, tree: &Tree, node: NodeId) -> bool
+pub fn shuts(workspace: &Trees, tree: &Tree, node: NodeId) -> bool
     requires tree { tree_of workspace.now node.tree ≡ Some tree.now }
     requires has { HasNode tree.now node.node.0 }
     ensures { IsTrue result ↔ Shuts (trees workspace.now) node }
@@ -79,7 +78,7 @@ pub(crate) fn lies_in(inner: FileRange, outer: FileRange) -> bool
 }
 
 /// Whether a range is searched: without restrictions each is, else one that lies in one of them.
-pub(crate) fn is_searched(restrictions: &[FileRange], range: FileRange) -> bool
+pub fn is_searched(restrictions: &[FileRange], range: FileRange) -> bool
     ensures { IsTrue result ↔ IsSearched (map file_span_of restrictions.now) (file_span_of range) }
 {
     if restrictions.is_empty() {
@@ -128,7 +127,7 @@ fn stays_begun(begun: bool, kind: SyntaxKind) -> bool
 }
 
 /// Whether a tree has a token `self` that isn't followed, trivia aside, by `::`.
-pub(crate) fn names_self(tree: &Tree) -> bool
+pub fn names_self(tree: &Tree) -> bool
     ensures { result ≡ names_self (tokens_of tree.now) }
 {
     // Whether a `self` has come that trivia alone have followed so far.

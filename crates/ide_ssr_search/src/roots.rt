@@ -1,9 +1,10 @@
 //! What rules ask of a node, before it is asked whether it matches: most nodes lack it.
-ghost use Rattle.std.specs.Prelude.{◌≡◌, ℕ, ◌&&◌, ◌∷◌, [], true, false, is_some, IfOk};
+ghost use Rattle.std.specs.Prelude.{◌≡◌, ℕ, ◌&&◌, ◌∷◌, ◌↔◌, [], true, false, is_some, IfOk, IsTrue};
 ghost use Rattle.std.specs.Option.{option_map_or};
 ghost use Rattle.ssr_syntax_kinds.specs.declared.kinds.SyntaxKind.{SyntaxKind as Kind};
 ghost use Rattle.ssr_syntax_tree.specs.Syntax.{Syntax};
 ghost use Rattle.ssr_syntax_tree.specs.Places.{Node, HasNode, HasElement, node_of, part_of, parts_of};
+ghost use Rattle.ide_ssr_search.specs.Found.{IsWanted};
 ghost use Rattle.ide_ssr_search.specs.Private.Roots.{first_counted, counts_first, pairs_otherwise, has_asked, token_asked, has_kind, AreTokenKinds, IsRootOf, IsAskedBy, AreRules, AreKindsIn};
 
 use crate::permitted::names_self;
@@ -231,32 +232,56 @@ impl KindSet {
 #[derive(Drop)]
 pub(crate) struct Rules<'a> {
     pub(crate) rules: &'a [ResolvedRule],
+    /// Which of the rules are wanted, by their places. The others are passed over.
+    pub(crate) wanted: &'a [bool],
     /// What each of the rules asks.
     pub(crate) asked: Vec<Asked>,
 }
 
 impl<'a> Rules<'a> {
     /// What rules ask.
-    pub(crate) fn new(alloc: Global, rules: &'a [ResolvedRule]) -> Result<Rules<'a>, AllocError>
+    pub(crate) fn new(
+        alloc: Global,
+        rules: &'a [ResolvedRule],
+        wanted: &'a [bool],
+    ) -> Result<Rules<'a>, AllocError>
         ensures rules { IfOk result (λ made. made.rules.now ≡ rules.now) }
+        ensures wanted { IfOk result (λ made. made.wanted.now ≡ wanted.now) }
         ensures are { IfOk result AreRules }
     {
         let mut asked = Vec::new(alloc);
         for rule in rules {
             asked.push(Asked::by(rule))?;
         }
-        Ok(Rules { rules, asked })
+        Ok(Rules {
+            rules,
+            wanted,
+            asked,
+        })
     }
 
-    /// The kinds of a tree's nodes that one of the rules may match, and of those that may shut in what is below them. A rule
-    /// that asks for a token of a kind that the tree doesn't have matches none.
+    /// Whether the rule that has this place among the rules is wanted.
+    pub(crate) fn wants(&self, place: usize) -> bool
+        ensures { IsTrue result ↔ IsWanted self.now.wanted.now place }
+    {
+        match self.wanted.get(place) {
+            Some(wanted) => *wanted,
+            None => false,
+        }
+    }
+
+    /// The kinds of a tree's nodes that one of the wanted rules may match, and of those that may shut in what is below them. A
+    /// rule that asks for a token of a kind that the tree doesn't have matches none.
     pub(crate) fn kinds_in(&self, tree: &Tree) -> KindSet
         requires { AreRules self.now }
         ensures { AreKindsIn self.now tree.now result }
     {
         let tokens = KindSet::of_tokens(tree);
         let mut kinds = KindSet::shutting();
-        for asked in &self.asked {
+        for (place, asked) in self.asked.iter().enumerate() {
+            if !self.wants(place) {
+                continue;
+            }
             kinds.add_asked_in(&tokens, asked.root);
         }
         kinds

@@ -1,5 +1,5 @@
 //! All matches of rules, found by trying every node.
-ghost use Rattle.std.specs.Prelude.{◌≡◌, ◌+◌, ◌↔◌, IsTrue, IfOk, IfSome, Some, option_map};
+ghost use Rattle.std.specs.Prelude.{ℕ, ◌≡◌, ◌+◌, ◌≤◌, ◌↔◌, IsTrue, IfOk, IfSome, Some, option_map};
 ghost use Rattle.std.specs.Option.{IsSomeAnd};
 ghost use Rattle.ssr_syntax_tree.specs.Places.{HasNode};
 ghost use Rattle.ssr_base_trees.specs.Workspace.{trees, tree_of, node_id};
@@ -7,17 +7,19 @@ ghost use Rattle.ssr_base_trees.specs.Built.{IsBuilt};
 ghost use Rattle.ide_ssr_resolved_rule.specs.Resolved.{ResolvedRule as RuleValue};
 ghost use Rattle.ide_ssr_bindings.specs.Found.{AreMatches};
 ghost use Rattle.ide_ssr_search.specs.Permitted.{IsOpen, IsInFunction, IsPermitted};
-ghost use Rattle.ide_ssr_search.specs.Found.{AreFound};
+ghost use Rattle.ide_ssr_search.specs.Found.{AreFound, AreFoundOf};
+ghost use Rattle.ide_ssr_search.specs.Tries.{IsMostOf};
 ghost use Rattle.ide_ssr_search.specs.Private.Roots.{IsAskedBy, AreRules};
 ghost use Rattle.ide_ssr_search.specs.Private.Shut.{IsShutIn, IsShut, TellsPast};
-ghost use Rattle.ide_ssr_search.specs.Private.Scan.{AreFoundBefore, IsTreeScan, TellsMatch, Adds, KnowsShut, KnowsInside, IsEarlierCall, StandsIn};
+ghost use Rattle.ide_ssr_search.specs.Private.Scan.{AreFoundBefore, CountsTry, KeepsLimits, IsTreeScan, TellsMatch, Adds, KnowsShut, KnowsInside, IsEarlierCall, StandsIn};
 
 use crate::bounds::Bounds;
 use crate::context::Context;
 use crate::permitted::{is_at_or_below, is_searched, shuts};
 use crate::roots::{Asked, Rules};
-use crate::whole::whole_match;
+use crate::whole::{Ground, match_in};
 use ide_ssr_bindings::{Binding, FoundMatch};
+use ide_ssr_matching::Tries;
 use ide_ssr_resolved_rule::ResolvedRule;
 use ssr_base_trees::{NodeId, Semantics, Trees};
 use ssr_syntax_kinds::SyntaxKind;
@@ -137,12 +139,15 @@ impl<'a> TreeScan<'a> {
         rule: &ResolvedRule,
         asked: Asked,
         node: NodeNo,
+        tries: &mut Tries,
     ) -> Result<Option<Vec<Binding>>, AllocError>
         requires scan { IsTreeScan self.now }
         requires asked { IsAskedBy rule.now asked }
         requires has { HasNode self.now.tree.now node.0 }
         requires free { ¬ IsShutIn (trees self.now.workspace.now) (node_id self.now.number node.0) }
-        ensures { IfOk result (λ found. TellsMatch self.now.workspace.now (S.meanings semantics.now) self.now.context.now rule.now (node_id self.now.number node.0) (option_map (λ v. v.items) found)) }
+        ensures count { CountsTry self.now.workspace.now self.now.context.now rule.now (node_id self.now.number node.0) tries.old tries.new }
+        ensures counted { IfOk result (λ found. IfSome found (λ _. tries.new ≡ tries.old + 1)) }
+        ensures found { IfOk result (λ found. TellsMatch self.now.workspace.now (S.meanings semantics.now) self.now.context.now rule.now (node_id self.now.number node.0) (option_map (λ v. v.items) found)) }
     {
         if !asked.root.is_met(self.tree, node) {
             return Ok(None);
@@ -150,15 +155,12 @@ impl<'a> TreeScan<'a> {
         if !self.is_permitted(asked, node) {
             return Ok(None);
         }
-        whole_match(
-            alloc,
-            semantics,
-            self.workspace,
-            self.tree,
-            self.bounds,
-            rule,
-            self.id(node),
-        )
+        let ground = Ground {
+            workspace: self.workspace,
+            tree: self.tree,
+            bounds: self.bounds,
+        };
+        match_in(alloc, semantics, ground, rule, self.id(node), tries)
     }
 
     /// Adds the match of a rule, which has this place among the rules, at a node that nothing above it shuts in.
@@ -170,37 +172,44 @@ impl<'a> TreeScan<'a> {
         rule: &ResolvedRule,
         asked: Asked,
         node: NodeNo,
+        tries: &mut Tries,
         found: &mut Vec<FoundMatch>,
     ) -> Result<(), AllocError>
         requires scan { IsTreeScan self.now }
         requires asked { IsAskedBy rule.now asked }
         requires has { HasNode self.now.tree.now node.0 }
         requires free { ¬ IsShutIn (trees self.now.workspace.now) (node_id self.now.number node.0) }
-        ensures { IfOk result (λ _. Adds self.now.workspace.now (S.meanings semantics.now) self.now.context.now rule.now place (node_id self.now.number node.0) found.old.items found.new.items) }
+        ensures count { CountsTry self.now.workspace.now self.now.context.now rule.now (node_id self.now.number node.0) tries.old tries.new }
+        ensures added { IfOk result (λ _. Adds self.now.workspace.now (S.meanings semantics.now) self.now.context.now rule.now place (node_id self.now.number node.0) found.old.items found.new.items) }
     {
-        if let Some(bindings) = self.match_of(alloc, semantics, rule, asked, node)? {
+        if let Some(bindings) = self.match_of(alloc, semantics, rule, asked, node, tries)? {
             found.push(FoundMatch::new(place, self.id(node), bindings))?;
         }
         Ok(())
     }
 
-    /// Adds the matches of all rules at a node that nothing above it shuts in.
+    /// Adds the matches of the wanted rules at a node that nothing above it shuts in.
     fn add_matches<S: Semantics>(
         &self,
         alloc: Global,
         semantics: &S,
         rules: &Rules<'_>,
         node: NodeNo,
+        tries: &mut Tries,
         found: &mut Vec<FoundMatch>,
     ) -> Result<(), AllocError>
         requires scan { IsTreeScan self.now }
         requires rules { AreRules rules.now }
         requires has { HasNode self.now.tree.now node.0 }
         requires free { ¬ IsShutIn (trees self.now.workspace.now) (node_id self.now.number node.0) }
-        requires found { AreFoundBefore self.now.workspace.now (S.meanings semantics.now) self.now.context.now rules.now.rules.now self.now.number node.0 0 found.old.items }
-        ensures { IfOk result (λ _. AreFoundBefore self.now.workspace.now (S.meanings semantics.now) self.now.context.now rules.now.rules.now self.now.number (node.0 + 1) 0 found.new.items) }
+        requires found { AreFoundBefore self.now.workspace.now (S.meanings semantics.now) self.now.context.now rules.now.rules.now rules.now.wanted.now self.now.number node.0 0 found.old.items }
+        ensures found { IfOk result (λ _. AreFoundBefore self.now.workspace.now (S.meanings semantics.now) self.now.context.now rules.now.rules.now rules.now.wanted.now self.now.number (node.0 + 1) 0 found.new.items) }
+        ensures count { IfOk result (λ _. KeepsLimits self.now.workspace.now self.now.context.now rules.now.rules.now rules.now.wanted.now self.now.number node.0 self.now.number (node.0 + 1) 0 tries.old tries.new) }
     {
         for (place, rule) in rules.rules.iter().enumerate() {
+            if !rules.wants(place) {
+                continue;
+            }
             self.add_match(
                 alloc,
                 semantics,
@@ -208,6 +217,7 @@ impl<'a> TreeScan<'a> {
                 rule,
                 rules.asked[place],
                 node,
+                tries,
                 found,
             )?;
         }
@@ -222,19 +232,21 @@ impl<'a> TreeScan<'a> {
         rules: &Rules<'_>,
         node: NodeNo,
         shut: bool,
+        tries: &mut Tries,
         found: &mut Vec<FoundMatch>,
     ) -> Result<(), AllocError>
         requires scan { IsTreeScan self.now }
         requires rules { AreRules rules.now }
         requires has { HasNode self.now.tree.now node.0 }
         requires shut { IsTrue shut ↔ IsShutIn (trees self.now.workspace.now) (node_id self.now.number node.0) }
-        requires found { AreFoundBefore self.now.workspace.now (S.meanings semantics.now) self.now.context.now rules.now.rules.now self.now.number node.0 0 found.old.items }
-        ensures { IfOk result (λ _. AreFoundBefore self.now.workspace.now (S.meanings semantics.now) self.now.context.now rules.now.rules.now self.now.number (node.0 + 1) 0 found.new.items) }
+        requires found { AreFoundBefore self.now.workspace.now (S.meanings semantics.now) self.now.context.now rules.now.rules.now rules.now.wanted.now self.now.number node.0 0 found.old.items }
+        ensures found { IfOk result (λ _. AreFoundBefore self.now.workspace.now (S.meanings semantics.now) self.now.context.now rules.now.rules.now rules.now.wanted.now self.now.number (node.0 + 1) 0 found.new.items) }
+        ensures count { IfOk result (λ _. KeepsLimits self.now.workspace.now self.now.context.now rules.now.rules.now rules.now.wanted.now self.now.number node.0 self.now.number (node.0 + 1) 0 tries.old tries.new) }
     {
         if shut {
             return Ok(());
         }
-        self.add_matches(alloc, semantics, rules, node, found)
+        self.add_matches(alloc, semantics, rules, node, tries, found)
     }
 
     /// The number behind a node that shuts in what is below it; of any other node 0.
@@ -276,14 +288,16 @@ impl<'a> TreeScan<'a> {
         semantics: &S,
         rules: &Rules<'_>,
         shut: &mut BTreeSet<NodeId>,
+        tries: &mut Tries,
         found: &mut Vec<FoundMatch>,
     ) -> Result<(), AllocError>
         requires scan { IsTreeScan self.now }
         requires rules { AreRules rules.now }
         requires shut { KnowsShut self.now.workspace.now self.now.number 0 shut.old }
-        requires found { AreFoundBefore self.now.workspace.now (S.meanings semantics.now) self.now.context.now rules.now.rules.now self.now.number 0 0 found.old.items }
+        requires found { AreFoundBefore self.now.workspace.now (S.meanings semantics.now) self.now.context.now rules.now.rules.now rules.now.wanted.now self.now.number 0 0 found.old.items }
         ensures shut { IfOk result (λ _. KnowsShut self.now.workspace.now (self.now.number + 1) 0 shut.new) }
-        ensures found { IfOk result (λ _. AreFoundBefore self.now.workspace.now (S.meanings semantics.now) self.now.context.now rules.now.rules.now (self.now.number + 1) 0 0 found.new.items) }
+        ensures found { IfOk result (λ _. AreFoundBefore self.now.workspace.now (S.meanings semantics.now) self.now.context.now rules.now.rules.now rules.now.wanted.now (self.now.number + 1) 0 0 found.new.items) }
+        ensures count { IfOk result (λ _. KeepsLimits self.now.workspace.now self.now.context.now rules.now.rules.now rules.now.wanted.now self.now.number 0 (self.now.number + 1) 0 0 tries.old tries.new) }
     {
         let count = self.tree.node_count();
         let kinds = rules.kinds_in(self.tree);
@@ -294,7 +308,7 @@ impl<'a> TreeScan<'a> {
             if !kinds.has(self.tree.kind(node)) {
                 continue;
             }
-            self.add_at(alloc, semantics, rules, node, number < past, found)?;
+            self.add_at(alloc, semantics, rules, node, number < past, tries, found)?;
             past = self.past(node).max(past);
             self.add_shut(node, number < past, shut)?;
         }
@@ -363,14 +377,35 @@ pub fn find_matches<S: Semantics>(
     ensures found { IfOk result (λ found. AreFound workspace.now (S.meanings semantics.now) context.now rules.now found.items) }
     ensures matches { IfOk result (λ found. AreMatches (trees workspace.now) found.items) }
 {
-    let tried = Rules::new(alloc, rules)?;
+    let wanted = vec![in alloc; true; rules.len()]?;
+    let mut tries = Tries::none();
+    find_wanted(
+        alloc, workspace, semantics, context, rules, &wanted, &mut tries,
+    )
+}
+
+/// The matches of the wanted rules alone, in the order of `find_matches`: `wanted` has a flag for each rule. The others are
+/// passed over. Each wanted rule is tried once at most at a node, and only where it is permitted.
+pub fn find_wanted<S: Semantics>(
+    alloc: Global,
+    workspace: &Trees,
+    semantics: &S,
+    context: &Context,
+    rules: &[ResolvedRule],
+    wanted: &[bool],
+    tries: &mut Tries,
+) -> Result<Vec<FoundMatch>, AllocError>
+    ensures found { IfOk result (λ found. AreFoundOf workspace.now (S.meanings semantics.now) context.now rules.now wanted.now found.items) }
+    ensures count { IfOk result (λ _. (most : ℕ) → IsMostOf workspace.now context.now rules.now wanted.now most → tries.new ≤ tries.old + most) }
+{
+    let tried = Rules::new(alloc, rules, wanted)?;
     let mut found = Vec::new(alloc);
     let mut shut = BTreeSet::new(alloc);
     let mut inside = Vec::with_capacity(alloc, workspace.file_count() as usize)?;
     let mut number = 0;
     while let Some(tree) = workspace.tree(number) {
         let scan = TreeScan::new(workspace, context, tree, number, &shut, &inside);
-        scan.add_found(alloc, semantics, &tried, &mut shut, &mut found)?;
+        scan.add_found(alloc, semantics, &tried, &mut shut, tries, &mut found)?;
         inside.push(scan.inside)?;
         number += 1;
     }

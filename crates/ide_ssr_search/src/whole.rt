@@ -1,17 +1,18 @@
 //! Whether a rule matches as a whole at a node.
-ghost use Rattle.std.specs.Prelude.{◌≡◌, ◌↔◌, IsTrue, IfOk, IfSome, IfNone, MatchOption, Some, All, AllPairs, option_map};
+ghost use Rattle.std.specs.Prelude.{◌≡◌, ◌+◌, ◌↔◌, IsTrue, IfOk, IfSome, IfNone, MatchOption, Some, All, AllPairs, option_map};
 ghost use Rattle.std.specs.Option.{IsSomeAnd};
 ghost use Rattle.ssr_syntax_tree.specs.Places.{HasNode};
 ghost use Rattle.ssr_base_trees.specs.Workspace.{trees, tree_of, file_span_of};
 ghost use Rattle.ide_ssr_bindings.specs.Found.{AreDisjoint, held_range};
-ghost use Rattle.ide_ssr_search.specs.WholeMatches.{IsPlaced};
+ghost use Rattle.ssr_base_trees.specs.Built.{IsNodeOf};
+ghost use Rattle.ide_ssr_search.specs.WholeMatches.{IsPlaced, TellsWhole};
 ghost use Rattle.ide_ssr_search.specs.Private.Bounds.{AreBounds, LiesInBounds};
-ghost use Rattle.ide_ssr_search.specs.Private.Whole.{AreRanges, IsMatched, IsPlacedMatch, TellsWhole};
+ghost use Rattle.ide_ssr_search.specs.Private.Whole.{AreRanges, IsMatched, IsPlacedMatch};
 
 use crate::bounds::Bounds;
 use crate::printing::can_be_written;
 use ide_ssr_bindings::Binding;
-use ide_ssr_matching::match_node;
+use ide_ssr_matching::{Tries, match_node};
 use ide_ssr_resolved_rule::ResolvedRule;
 use ssr_base_trees::{FileRange, NodeId, Semantics, Trees};
 use ssr_syntax_tree::Tree;
@@ -116,25 +117,33 @@ fn is_placed_match(
     is_placed_in_call(alloc, workspace, bounds, node, bindings)
 }
 
-/// What the placeholders of a rule hold where it matches as a whole at a node of a tree with these bounds.
-pub(crate) fn whole_match<S: Semantics>(
+/// A tree at whose nodes rules are tried.
+#[derive(Clone, Copy)]
+pub(crate) struct Ground<'a> {
+    pub(crate) workspace: &'a Trees,
+    pub(crate) tree: &'a Tree,
+    pub(crate) bounds: Bounds,
+}
+
+/// What the placeholders of a rule hold where it matches as a whole at a node of a tree. It counts as one try.
+pub(crate) fn match_in<S: Semantics>(
     alloc: Global,
     semantics: &S,
-    workspace: &Trees,
-    tree: &Tree,
-    bounds: Bounds,
+    ground: Ground<'_>,
     rule: &ResolvedRule,
     node: NodeId,
+    tries: &mut Tries,
 ) -> Result<Option<Vec<Binding>>, AllocError>
-    requires tree { tree_of workspace.now node.tree ≡ Some tree.now }
-    requires has { HasNode tree.now node.node.0 }
-    requires bounds { AreBounds (trees workspace.now) node.tree bounds }
-    ensures { IfOk result (λ found. TellsWhole (trees workspace.now) (S.meanings semantics.now) rule.now node (option_map (λ v. v.items) found)) }
+    requires tree { tree_of ground.workspace.now node.tree ≡ Some ground.tree.now }
+    requires has { HasNode ground.tree.now node.node.0 }
+    requires bounds { AreBounds (trees ground.workspace.now) node.tree ground.bounds }
+    ensures count { tries.new ≡ tries.old + 1 }
+    ensures found { IfOk result (λ found. TellsWhole (trees ground.entry.workspace.now) (S.meanings semantics.now) rule.now node (option_map (λ v. v.items) found)) }
 {
-    let Some(bindings) = match_node(alloc, semantics, rule, tree, node)? else {
+    let Some(bindings) = match_node(alloc, semantics, rule, ground.tree, node, tries)? else {
         return Ok(None);
     };
-    if !is_placed_match(alloc, workspace, bounds, node, &bindings)? {
+    if !is_placed_match(alloc, ground.workspace, ground.bounds, node, &bindings)? {
         return Ok(None);
     }
     if can_be_written(alloc, semantics, rule, node)? {
@@ -142,4 +151,28 @@ pub(crate) fn whole_match<S: Semantics>(
     } else {
         Ok(None)
     }
+}
+
+/// What the placeholders of a rule hold where it matches as a whole at a node of the workspace. It counts as one try.
+pub fn match_whole<S: Semantics>(
+    alloc: Global,
+    semantics: &S,
+    workspace: &Trees,
+    rule: &ResolvedRule,
+    node: NodeId,
+    tries: &mut Tries,
+) -> Result<Option<Vec<Binding>>, AllocError>
+    requires node { IsNodeOf (trees workspace.now) node }
+    ensures count { tries.new ≡ tries.old + 1 }
+    ensures found { IfOk result (λ found. TellsWhole (trees workspace.now) (S.meanings semantics.now) rule.now node (option_map (λ v. v.items) found)) }
+{
+    let Some(tree) = workspace.tree(node.tree) else {
+        return Ok(None);
+    };
+    let ground = Ground {
+        workspace,
+        tree,
+        bounds: Bounds::of(workspace, node.tree),
+    };
+    match_in(alloc, semantics, ground, rule, node, tries)
 }

@@ -1,3 +1,4 @@
+mod Appended
 mod Solid
 mod Rests
 mod Commas

@@ -9,9 +9,11 @@ use Rattle.ssr_syntax_tree.proofs.Shared.{IsChild, children_known, elements_had,
 use Rattle.ide_ssr_bindings.specs.declared.bindings.Binding.{Binding}
 use Rattle.ide_ssr_token_trees.specs.declared.siblings.Siblings.{Siblings}
 use Rattle.ide_ssr_token_trees.specs.Bindings.{joined, passed, nothing_by, part_by, elements_by, tree_bindings, Answers, matched, other}
+use Rattle.ide_ssr_token_trees.specs.Recording.{Recorded, recorded}
 use Rattle.ide_ssr_token_trees.specs.Elements.{last_comma, next_text, tokens_among, without_trivia}
 use Rattle.ide_ssr_token_trees.specs.Private.Matching.{goes_on, differs, ElementSteps}
 use Rattle.ide_ssr_token_trees.specs.Private.Siblings.{siblings_left, parts_left, number_of, IsRest}
+use Rattle.ide_ssr_token_trees.proofs.Appended.{recorded-nil, recorded-append}
 use Rattle.ide_ssr_token_trees.proofs.Rests.{rest_all, rest_few}
 use Rattle.ide_ssr_token_trees.proofs.Sizes.{Behind, tree_step}
 use Rattle.ide_ssr_token_trees.proofs.Steps.{joined_none}
@@ -66,16 +68,16 @@ module _ (at : ℕ → Option ℕ) (pattern code : Syntax) where
   left_by ps cs =
       elements_by at (tree_bindings at) (number_of ps.comma) (number_of cs.comma) (without_trivia (parts_left pattern ps)) (parts_left code cs)
 
-  pub record MatchedSoFar (p c : ℕ) (ps cs : Siblings) (old new : List Binding) : Type 0 where
+  pub record MatchedSoFar (p c : ℕ) (ps cs : Siblings) (old new : Recorded) : Type 0 where
     pub found : List Binding
-    pub new_is : new ≡ old ++ found
+    pub new_is : new ≡ recorded old found
     pub whole : tree_bindings at (node_of pattern p) (node_of code c) ≡ joined (Some found) (left_by ps cs)
     pub below : All (IsBelow pattern p) (siblings_left ps)
     pub has : All (HasElement code) (siblings_left cs)
     pub few : tokens_among (parts_left code cs) < 2 ^ 32
 
   module _ (p c : ℕ) where
-    pub match_starts : (ps cs : Siblings) (out : List Binding) → HasNode pattern p → HasNode code c
+    pub match_starts : (ps cs : Siblings) (out : Recorded) → HasNode pattern p → HasNode code c
         → siblings_left ps ≡ elements_of (node_of pattern p) → number_of ps.comma ≡ last_comma (parts_of (node_of pattern p))
         → siblings_left cs ≡ elements_of (node_of code c) → number_of cs.comma ≡ last_comma (parts_of (node_of code c))
         → token_count (node_of code c).children < 2 ^ 32 → MatchedSoFar p c ps cs out out
@@ -87,7 +89,7 @@ module _ (at : ℕ → Option ℕ) (pattern code : Syntax) where
         in
         record {
           found = [];
-          new_is = sym (append-nil out);
+          new_is = sym (recorded-nil out);
           whole =
               tree_step at (node_of pattern p) (node_of code c)
               ∙ ap (λ x. elements_by at (tree_bindings at) x (last_comma (parts_of (node_of code c))) (without_trivia (parts_of (node_of pattern p))) (parts_of (node_of code c))) (sym p_comma)
@@ -101,7 +103,7 @@ module _ (at : ℕ → Option ℕ) (pattern code : Syntax) where
         }
 
     -- the next element of the pattern came, of which `qs` are left
-    module _ (ps qs cs : Siblings) (x : Element) (old new : List Binding) (so_far : MatchedSoFar p c ps cs old new)
+    module _ (ps qs cs : Siblings) (x : Element) (old new : Recorded) (so_far : MatchedSoFar p c ps cs old new)
         (gives : without_trivia (parts_left pattern ps) ≡ part_of pattern x ∷ without_trivia (parts_left pattern qs)) (rest : IsRest ps (x ∷ []) qs) where
       pub came_below : IsBelow pattern p x
       came_below = rest_all (IsBelow pattern p) ps qs (x ∷ []) rest so_far.below 0 x (omega arith)
@@ -122,7 +124,7 @@ module _ (at : ℕ → Option ℕ) (pattern code : Syntax) where
           ap (λ comma. elements_by at (tree_bindings at) (number_of comma) (number_of cs.comma) (without_trivia (parts_left pattern ps)) (parts_left code cs)) rest.comma
           ∙ ap (λ parts. elements_by at (tree_bindings at) (number_of qs.comma) (number_of cs.comma) parts (parts_left code cs)) gives
 
-      pub match_turns : (rs ds : Siblings) (newer : List Binding) → ElementSteps at pattern x qs code cs ds new newer true
+      pub match_turns : (rs ds : Siblings) (newer : Recorded) → ElementSteps at pattern x qs code cs ds new newer true
           → without_trivia (parts_left pattern rs) ≡ without_trivia (parts_left pattern qs) → IsRest qs [] rs → IsRest cs [] ds
           → MatchedSoFar p c rs ds old newer
       unfolding behind_it
@@ -131,7 +133,7 @@ module _ (at : ℕ → Option ℕ) (pattern code : Syntax) where
             | goes_on bs is whole newer_is ↦
                 record {
                   found = so_far.found ++ bs;
-                  new_is = newer_is ∙ ap (λ new. new ++ bs) so_far.new_is ∙ append_assoc old so_far.found bs;
+                  new_is = newer_is ∙ ap (λ new. recorded new bs) so_far.new_is ∙ recorded-append old so_far.found bs;
                   whole =
                       so_far.whole
                       ∙ ap (joined (Some so_far.found)) (first_is ∙ whole)
@@ -146,7 +148,7 @@ module _ (at : ℕ → Option ℕ) (pattern code : Syntax) where
             | differs is whole ↦ cc
           ]
 
-      pub match_differs : (ds : Siblings) (newer : List Binding) → ElementSteps at pattern x qs code cs ds new newer false
+      pub match_differs : (ds : Siblings) (newer : Recorded) → ElementSteps at pattern x qs code cs ds new newer false
           → Answers (tree_bindings at (node_of pattern p) (node_of code c)) old newer false
       unfolding behind_it
       match_differs ds newer steps =
@@ -156,7 +158,7 @@ module _ (at : ℕ → Option ℕ) (pattern code : Syntax) where
           ]
 
     -- nothing more of the pattern
-    pub match_ends : (ps qs cs ds : Siblings) (old new : List Binding) (next : Option Element) (answer : Bool) → MatchedSoFar p c ps cs old new
+    pub match_ends : (ps qs cs ds : Siblings) (old new : Recorded) (next : Option Element) (answer : Bool) → MatchedSoFar p c ps cs old new
         → without_trivia (parts_left pattern ps) ≡ without_trivia (parts_left pattern qs) → siblings_left qs ≡ []
         → passed (number_of cs.comma) (parts_left code cs) ≡ map (part_of code) (option_to_list next ++ siblings_left ds)
         → IfNone next (siblings_left ds ≡ []) → is_some next ≡ not answer

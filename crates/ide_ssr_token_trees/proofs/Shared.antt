@@ -2,6 +2,8 @@
 
 -- the relation and what is computed
 pub use Rattle.ide_ssr_token_trees.proofs.Agreement.{tree_bindings-TreesMatch, TreesMatch-tree_bindings}
+-- what is recorded
+pub use Rattle.ide_ssr_token_trees.proofs.Appended.{recorded-nil, recorded-append}
 -- what is held, and which placeholders are bound
 pub use Rattle.ide_ssr_token_trees.proofs.Held.{trees_held, trees_behind}
 pub use Rattle.ide_ssr_token_trees.proofs.Bound.{trees_bound}

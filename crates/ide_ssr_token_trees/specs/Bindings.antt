@@ -6,6 +6,7 @@ use Rattle.ssr_base_trees.specs.declared.ids.TokenRun.{TokenRun}
 use Rattle.ide_ssr_bindings.specs.declared.bindings.Binding.{Binding}
 use Rattle.ide_ssr_bindings.specs.Found.{tokens_binding}
 use Rattle.ide_ssr_token_trees.specs.Elements.{without_trivia, last_comma, is_number, next_text, up_to, from, run_over}
+use Rattle.ide_ssr_token_trees.specs.Recording.{Recorded, recorded}
 use Rattle.ide_ssr_token_trees.specs.TokenTrees.{is_passed}
 
 -- which placeholder a token of the pattern is, by a table of them
@@ -79,7 +80,7 @@ module _ (at : ℕ → Option ℕ) where
   unfoldable pub tree_bindings : Node → Node → Option (List Binding)
   tree_bindings p c = bounded_by (size_of p) p c
 
--- How a test of a pattern answers: bindings that are added to those before, or that there is no match
-pub data Answers (bindings : Option (List Binding)) (old new : List Binding) (answer : Bool) : Type 0 where
-  matched : (bs : List Binding) → answer ≡ true → bindings ≡ Some bs → new ≡ old ++ bs → Answers bindings old new answer
+-- How a test of a pattern answers: bindings that come behind those before, where these are recorded, or that there is no match
+pub data Answers (bindings : Option (List Binding)) (old new : Recorded) (answer : Bool) : Type 0 where
+  matched : (bs : List Binding) → answer ≡ true → bindings ≡ Some bs → new ≡ recorded old bs → Answers bindings old new answer
   other : answer ≡ false → bindings ≡ None → Answers bindings old new answer

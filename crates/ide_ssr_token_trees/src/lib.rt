@@ -5,8 +5,10 @@ mod elements;
 pub mod laws;
 mod matching;
 mod pattern_iterator;
+mod recording;
 mod siblings;
 
 pub use elements::{closes, is_trivia, tokens_match};
 pub use matching::match_token_trees;
 pub use pattern_iterator::PatternIterator;
+pub use recording::Record;

@@ -10,6 +10,7 @@ ghost use Rattle.ide_ssr_token_trees.specs.Private.Matching.{is_same, Steps, Ele
 ghost use Rattle.ide_ssr_token_trees.specs.Private.Siblings.{siblings_left, parts_left, number_of, IsRest};
 
 use crate::elements::tokens_match;
+use crate::recording::Record;
 use crate::siblings::Siblings;
 use ide_ssr_bindings::Binding;
 use ssr_syntax_tree::{Element, NodeNo, TokenNo, Tree};
@@ -44,17 +45,17 @@ fn holds(
     text: Option<&str>,
     code: &Tree,
     cs: &mut Siblings<'_>,
-    out: &mut Vec<Binding>,
+    out: &mut Record,
 ) -> Result<bool, AllocError>
     requires cs_in { All (HasElement code.now) (siblings_left cs.old) }
     requires few { tokens_among (parts_left code.now cs.old) < 2 ^ 32 }
-    ensures steps { IfOk result (λ answer. (behind : List Part → Option (List Binding)) → Steps (placeholder_by placeholder (option_copied text.entry) behind (parts_left code.now cs.old)) (behind (parts_left code.now cs.new)) out.old.items out.new.items answer) }
+    ensures steps { IfOk result (λ answer. (behind : List Part → Option (List Binding)) → Steps (placeholder_by placeholder (option_copied text.entry) behind (parts_left code.now cs.old)) (behind (parts_left code.now cs.new)) out.old out.new answer) }
     ensures rest { IsRest cs.old [] cs.new }
 {
     let Some(run) = cs.take_run(code, text) else {
         return Ok(false);
     };
-    out.push(Binding::of_tokens(placeholder, run))?;
+    out.add(Binding::of_tokens(placeholder, run))?;
     Ok(true)
 }
 
@@ -91,13 +92,13 @@ fn token_matches(
     ps: &mut Siblings<'_>,
     code: &Tree,
     cs: &mut Siblings<'_>,
-    out: &mut Vec<Binding>,
+    out: &mut Record,
 ) -> Result<bool, AllocError>
     requires p_in { HasToken pattern.now token.0 }
     requires ps_in { All (HasElement pattern.now) (siblings_left ps.old) }
     requires cs_in { All (HasElement code.now) (siblings_left cs.old) }
     requires few { tokens_among (parts_left code.now cs.old) < 2 ^ 32 }
-    ensures steps { IfOk result (λ answer. (behind : List Part → Option (List Binding)) → Steps (leaf_by (number_of cs.old.comma) (placeholder_in placeholders.now token.0) (is_number (number_of ps.old.comma) token.0) (token_of pattern.now token.0) (next_text (without_trivia (parts_left pattern.now ps.old))) behind (parts_left code.now cs.old)) (behind (parts_left code.now cs.new)) out.old.items out.new.items answer) }
+    ensures steps { IfOk result (λ answer. (behind : List Part → Option (List Binding)) → Steps (leaf_by (number_of cs.old.comma) (placeholder_in placeholders.now token.0) (is_number (number_of ps.old.comma) token.0) (token_of pattern.now token.0) (next_text (without_trivia (parts_left pattern.now ps.old))) behind (parts_left code.now cs.old)) (behind (parts_left code.now cs.new)) out.old out.new answer) }
     ensures same { without_trivia (parts_left pattern.now ps.new) ≡ without_trivia (parts_left pattern.now ps.old) }
     ensures ps_rest { IsRest ps.old [] ps.new }
     ensures cs_rest { IsRest cs.old [] cs.new }
@@ -121,13 +122,13 @@ fn element_matches(
     ps: &mut Siblings<'_>,
     code: &Tree,
     cs: &mut Siblings<'_>,
-    out: &mut Vec<Binding>,
+    out: &mut Record,
 ) -> Result<bool, AllocError>
     requires p_in { HasElement pattern.now p }
     requires ps_in { All (HasElement pattern.now) (siblings_left ps.old) }
     requires cs_in { All (HasElement code.now) (siblings_left cs.old) }
     requires few { tokens_among (parts_left code.now cs.old) < 2 ^ 32 }
-    ensures steps { IfOk result (ElementSteps (placeholder_in placeholders.now) pattern.now p ps.old code.now cs.old cs.new out.old.items out.new.items) }
+    ensures steps { IfOk result (ElementSteps (placeholder_in placeholders.now) pattern.now p ps.old code.now cs.old cs.new out.old out.new) }
     ensures same { without_trivia (parts_left pattern.now ps.new) ≡ without_trivia (parts_left pattern.now ps.old) }
     ensures ps_rest { IsRest ps.old [] ps.new }
     ensures cs_rest { IsRest cs.old [] cs.new }
@@ -156,11 +157,11 @@ pub fn match_token_trees(
     p: NodeNo,
     code: &Tree,
     c: NodeNo,
-    out: &mut Vec<Binding>,
+    out: &mut Record,
 ) -> Result<bool, AllocError>
     requires p_in { HasNode pattern.now p.0 }
     requires c_in { HasNode code.now c.0 }
-    ensures { IfOk result (λ answer. Answers (tree_bindings (placeholder_in placeholders.now) (node_of pattern.now p.0) (node_of code.now c.0)) out.old.items out.new.items answer) }
+    ensures { IfOk result (λ answer. Answers (tree_bindings (placeholder_in placeholders.now) (node_of pattern.now p.0) (node_of code.now c.0)) out.old out.new answer) }
 {
     let mut ps = Siblings::of(pattern, p);
     let mut cs = Siblings::of(code, c);

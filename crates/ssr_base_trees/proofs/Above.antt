@@ -79,7 +79,7 @@ is_up ts x up grown is =
           })
     ]
 
-above_inner : (ts : List PlacedTree) (t n : ℕ) (p : PlacedTree) → with_number ts t ≡ Some p → HasNode p.syntax n → 0 < n → above ts (node_id t n) ≡ Some (node_id t (node_of p.syntax n).parent)
+pub above_inner : (ts : List PlacedTree) (t n : ℕ) (p : PlacedTree) → with_number ts t ≡ Some p → HasNode p.syntax n → 0 < n → above ts (node_id t n) ≡ Some (node_id t (node_of p.syntax n).parent)
 above_inner ts t n p is has inner =
     told_is (above_in (node_id t n)) ts (node_id t n) p is has
     ∙ cond-false (n == 0) p.call (Some (node_id t (node_of p.syntax n).parent)) (ne_eqb n 0 (λ e. omega arith))
@@ -92,7 +92,7 @@ above_root ts t p is = told_is (above_in (node_id t 0)) ts (node_id t 0) p is (o
 pub climbed_next : (ts : List PlacedTree) (n : ℕ) (x y : NodeId) → above ts x ≡ Some y → climbed ts (suc n) x ≡ climbed ts n y
 climbed_next ts n x y is = ap (option_and_then (climbed ts n)) is
 
-climbed_on : (ts : List PlacedTree) (n m : ℕ) (x y z : NodeId) → climbed ts n x ≡ Some y → climbed ts m y ≡ Some z → climbed ts (n + m) x ≡ Some z
+pub climbed_on : (ts : List PlacedTree) (n m : ℕ) (x y z : NodeId) → climbed ts n x ≡ Some y → climbed ts m y ≡ Some z → climbed ts (n + m) x ≡ Some z
 climbed_on ts zero m x y z first second =
     ap (λ k. climbed ts k x) (let same : 0 + m ≡ m = omega arith in same) ∙ ap (climbed ts m) (same_Some x y first) ∙ second
 climbed_on ts (suc n) m x y z first second =

@@ -11,7 +11,7 @@ pub use Rattle.ssr_base_trees.proofs.Placing.{placed_within}
 pub use Rattle.ssr_base_trees.proofs.CoverLaws.{join-assoc}
 pub use Rattle.ssr_base_trees.proofs.CoverSpans.{fit_covered}
 -- what stands above nodes
-pub use Rattle.ssr_base_trees.proofs.Above.{is_up, reaches_its_file, root_found, told_is, climbed_next}
+pub use Rattle.ssr_base_trees.proofs.Above.{is_up, reaches_its_file, root_found, told_is, climbed_next, above_inner, climbed_on}
 -- what a path stands for
 pub use Rattle.ssr_base_trees.proofs.SameRes.{same_res-equal, same_res-itself}
 -- what options hold

@@ -7,7 +7,8 @@
 //! With the word `--asked` it tells which nodes of the files a provider is asked about.
 //!
 //! With the words `--facts` and a path it reads that facts file, and tells how many files and bytes it has and what
-//! processor time reading it took; further words are rules, for which it is searched, as it stands.
+//! processor time reading it took; further words are rules, for which it is searched, as it stands. Behind a word `--scan`
+//! every node is tried, and behind a word `--edits` the matches are rewritten, and the files with an edit are counted.
 #![tactic(auto)]
 
 mod asked;
@@ -66,9 +67,13 @@ fn time_facts(rt: &HostRuntime, path: &str, rules: &[String]) -> Result<()> {
 }
 
 /// Searches what a facts file tells of.
-fn time_rules(rt: &HostRuntime, facts: &Facts, rules: &[String]) -> Result<()> {
+fn time_rules(rt: &HostRuntime, facts: &Facts, words: &[String]) -> Result<()> {
     let start = rt.process_cpu_time()?;
-    let count = matches(rt.alloc(), &facts.workspace, &facts.semantics, rules)?;
+    let count = match words.split_first() {
+        Some((first, rules)) if first.as_str() == "--scan" => scanned(rt.alloc(), facts, rules)?,
+        Some((first, rules)) if first.as_str() == "--edits" => edited(rt.alloc(), facts, rules)?,
+        _ => matches(rt.alloc(), &facts.workspace, &facts.semantics, words)?,
+    };
     let searching = between(start, rt.process_cpu_time()?);
     println!(rt; "{count} matches, searched in {searching} ns")?;
     Ok(())
@@ -127,6 +132,20 @@ fn texts(rt: &HostRuntime) -> io::Result<Vec<String>> {
     Ok(texts)
 }
 
+/// A finder for rules.
+fn finder<'a>(
+    alloc: Global,
+    workspace: &'a Workspace,
+    semantics: &'a TableSemantics,
+    rules: &[String],
+) -> Result<MatchFinder<'a, TableSemantics>> {
+    let mut finder = MatchFinder::at_first_file(alloc, workspace, semantics)?;
+    for rule in rules {
+        finder.add_rule(SsrRule::parse(alloc, rule.as_str())?)?;
+    }
+    Ok(finder)
+}
+
 /// How many outermost matches rules have.
 fn matches(
     alloc: Global,
@@ -134,9 +153,25 @@ fn matches(
     semantics: &TableSemantics,
     rules: &[String],
 ) -> Result<usize> {
-    let mut finder = MatchFinder::at_first_file(alloc, workspace, semantics)?;
-    for rule in rules {
-        finder.add_rule(SsrRule::parse(alloc, rule.as_str())?)?;
-    }
-    Ok(finder.matches()?.matches.len())
+    Ok(
+        finder(alloc, workspace, semantics, rules)?
+            .matches()?
+            .matches
+            .len(),
+    )
+}
+
+/// How many outermost matches rules have, found by trying every node.
+fn scanned(alloc: Global, facts: &Facts, rules: &[String]) -> Result<usize> {
+    let finder = finder(alloc, &facts.workspace, &facts.semantics, rules)?;
+    Ok(finder.scan_matches()?.matches.len())
+}
+
+/// In how many files rules have an edit.
+fn edited(alloc: Global, facts: &Facts, rules: &[String]) -> Result<usize> {
+    Ok(
+        finder(alloc, &facts.workspace, &facts.semantics, rules)?
+            .edits()?
+            .len(),
+    )
 }

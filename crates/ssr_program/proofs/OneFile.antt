@@ -9,7 +9,7 @@ use Rattle.ssr_base.specs.declared.workspace_error.WorkspaceError.{WorkspaceErro
 use Rattle.ssr_base.specs.declared.workspace_error.WorkspaceError.TheVariants as errors
 use Rattle.ssr_base.specs.Building.{Gives, built}
 use Rattle.ssr_base_trees.specs.Workspace.{Workspace}
-use Rattle.ssr_program.specs.Rewritten.{one_file}
+use Rattle.ssr_program.specs.OfFile.{one_file}
 use Rattle.ssr_program.specs.Private.Rewriting.{AnswersFile}
 
 abbrev pub Reading : Type 0

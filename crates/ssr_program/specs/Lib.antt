@@ -1,6 +1,9 @@
 pub mod Streams
-pub mod Unresolved
-pub mod Rewritten
+pub mod Commands
 pub mod Output
+pub mod Searching
+pub mod Unresolved
+pub mod OfFile
+pub mod OfFacts
 pub mod Running
 pub mod Private

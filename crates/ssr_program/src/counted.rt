@@ -5,8 +5,18 @@ ghost use Rattle.ssr_program.specs.Private.Noted.{bytes_of};
 
 use crate::streams::{Failed, Sink, Source};
 use http_server::Log;
-use std::io::{Read, Write};
-use std::mem;
+use std::io::{Error, ErrorKind, Read, Write};
+use std::{io, mem};
+
+/// What could not be opened, as a reader: each read fails.
+#[derive(Clone, Copy, Debug)]
+pub struct Unopened;
+
+impl Read for Unopened {
+    fn read(&mut self, _: &mut [u8]) -> io::Result<usize> {
+        Err(Error::from(ErrorKind::NotFound))
+    }
+}
 
 /// A reader as a source.
 #[derive(Drop)]

@@ -1,17 +1,20 @@
 //! What is asked in scenarios.
 
+use crate::leads::write_leads;
 use crate::lines::Line;
-use crate::matches::{write_held, write_places, write_texts};
+use crate::matches::{write_debug_info, write_held, write_places, write_texts};
 use crate::nodes::write_nodes;
 use crate::rows::{write_facts, write_rows};
 use crate::rules::write_rule;
+use crate::shapes::write_shapes;
 use crate::texts::text_of;
 use crate::tokens::write_tokens;
 use crate::told::Told;
 use crate::trees::{goal_of, write_tree};
 use anyhow::Result;
 use ide_ssr::{
-    EditError, MatchFinder, SsrError, SsrMatches, SsrPattern, SsrRule, ssr_from_comment,
+    EditError, MatchDebugInfo, MatchFinder, SsrError, SsrMatches, SsrPattern, SsrRule,
+    ssr_from_comment,
 };
 use ssr_base::{FileId, FileRange, TextEdit, Workspace};
 use ssr_facts::{Facts, TableSemantics};
@@ -108,6 +111,8 @@ fn write_answer(
         "kinds" | "parts" | "used" | "calls" | "eligible" => {
             write_rule(alloc, out, semantics, word, text);
         }
+        "leads" => write_leads(alloc, out, facts, text),
+        "shapes" => write_shapes(alloc, out, facts, text),
         "rows" => write_rows(alloc, out, text),
         "reads" => write_facts(alloc, out, text),
         "nodes" => write_nodes(alloc, out, facts),
@@ -168,18 +173,59 @@ fn of_finder(
         "rule" => write_refusal(out, &add_rule(alloc, finder, text)),
         "pattern" => write_refusal(out, &add_pattern(alloc, finder, text)),
         "edits" => write_edits(alloc, out, workspace, finder.edits())?,
-        "finds" | "holds" | "places" => write_matches(
-            alloc,
+        "finds" | "holds" | "places" => write_both(alloc, out, workspace, finder, word)?,
+        "scans" => write_matches(alloc, out, workspace, word, finder.scan_matches()),
+        "debug" => write_debug(
             out,
             workspace,
-            word,
-            finder.matches(),
+            finder.debug_where_text_equal(FileId(0), text),
         ),
-        "scans" => write_matches(alloc, out, workspace, word, finder.scan_matches()),
+        "debug-missing" => write_debug(
+            out,
+            workspace,
+            finder.debug_where_text_equal(FileId(99), text),
+        ),
         "flattened" => write_matches(alloc, out, workspace, "holds", flattened(alloc, finder)),
         _ => return Ok(false),
     }
     Ok(true)
+}
+
+/// What a word asks of the matches of a search that is led by usages, and of a scan, where that answers otherwise.
+fn write_both(
+    alloc: Global,
+    out: &mut Told,
+    workspace: &Workspace,
+    finder: &Finder<'_>,
+    word: &str,
+) -> Result<()> {
+    let mut led = Told::nothing(alloc);
+    write_matches(alloc, &mut led, workspace, word, finder.matches());
+    let led = led.end()?;
+    let mut scanned = Told::nothing(alloc);
+    write_matches(alloc, &mut scanned, workspace, word, finder.scan_matches());
+    let scanned = scanned.end()?;
+    out.text(led.as_str());
+    if led.as_str() != scanned.as_str() {
+        out.line("a scan finds:");
+        out.text(scanned.as_str());
+    }
+    Ok(())
+}
+
+/// What is told at the nodes that a snippet shows, a line each: the range, the node by its tree and number, the rule, and whether
+/// it matches.
+fn write_debug(
+    out: &mut Told,
+    workspace: &Workspace,
+    told: Result<Vec<MatchDebugInfo>, AllocError>,
+) {
+    let Some(told) = out.got(told) else {
+        return;
+    };
+    for info in &told {
+        write_debug_info(out, workspace, info);
+    }
 }
 
 /// All matches in one list.

@@ -25,12 +25,14 @@
 //! |---|---|
 //! | `opens` | whether there is such a search: nothing, or why not |
 //! | `rule TEXT`, `pattern TEXT` | adds a rule or a search pattern, and asks whether that is accepted: nothing, or why not |
-//! | `finds`, `scans` | the texts of the outermost matches |
+//! | `finds`, `scans` | the texts of the outermost matches. `finds`, `holds` and `places` ask a scan too, and tell if it answers otherwise |
 //! | `holds` | the same, with what each placeholder holds, how often it is dereferenced and how it is taken |
 //! | `flattened` | all matches in one list, told likewise |
 //! | `places` | where the outermost matches, their comments and what their placeholders hold stand |
 //! | `edits` | the new texts of files, or why there are none |
 //! | `comment OFFSET` | where the comment at the offset of the first file stands, and the outermost matches of the rule that it says: nothing, where there is none |
+//! | `debug TEXT` | what is told of the rules at the nodes of the first file that the text shows: the range, the node, the rule, and whether it matches |
+//! | `debug-missing TEXT` | the same of a file that there is not |
 //! | `nodes` | the nodes of all trees, where each comes from, what stands above it, what it stands for as a macro call, and what facts tell of it |
 //!
 //! What is asked of a text:
@@ -45,6 +47,8 @@
 //! | `kinds TEXT` | the kinds of a rule, or of a search pattern, where the text has no delimiter, or why it is refused |
 //! | `parts TEXT` | the placeholders of its first kind, its pattern and its template, and which nodes and tokens are placeholders |
 //! | `used TEXT`, `calls TEXT`, `eligible TEXT` | the used paths of its first kind, of the template too, its qualified calls, or its eligible paths |
+//! | `leads TEXT` | the path that leads the search for its first kind, how deep that stands in the pattern, and where its usages lead |
+//! | `shapes TEXT` | the texts of the nodes of the first file that the first phase of matching accepts for its first kind |
 //! | `rows TEXT` | the rows of a facts file, or why there are none |
 //! | `reads TEXT` | whether it is a facts file: nothing, or why not |
 //! | `fronts QUESTION TEXT` | what that question answers to each front of the text, a line for each run of equal answers |
@@ -66,6 +70,7 @@
 
 mod answers;
 mod facts;
+mod leads;
 mod lines;
 mod lists;
 mod matches;
@@ -73,6 +78,7 @@ mod nodes;
 mod paths;
 mod rows;
 mod rules;
+mod shapes;
 mod texts;
 mod tokens;
 mod told;

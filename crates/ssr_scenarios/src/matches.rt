@@ -1,7 +1,7 @@
 //! What is told of matches.
 
 use crate::told::Told;
-use ide_ssr::{Match, PlaceholderMatch};
+use ide_ssr::{Match, MatchDebugInfo, PlaceholderMatch};
 use ssr_base::{FileRange, Workspace};
 use std::alloc::Global;
 
@@ -98,4 +98,20 @@ pub(crate) fn write_range(out: &mut Told, range: FileRange) {
     out.shown(&range.range.start());
     out.text("..");
     out.shown(&range.range.end());
+}
+
+/// What is told of a rule at a node: the range, the node, the rule, and why it doesn't match, or that it does.
+pub(crate) fn write_debug_info(out: &mut Told, workspace: &Workspace, info: &MatchDebugInfo) {
+    let node = info.node();
+    if let Some(range) = workspace.original_range(node) {
+        write_range(out, range);
+    }
+    out.text(" node ");
+    out.shown(&node.tree);
+    out.text(":");
+    out.shown(&node.node.0);
+    out.text(" rule ");
+    out.shown(&info.rule_index());
+    out.text(" ");
+    out.line(info.match_failure_reason().unwrap_or("matched"));
 }

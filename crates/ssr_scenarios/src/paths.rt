@@ -37,7 +37,7 @@ fn placeholders(alloc: Global) -> Result<Vec<String>, AllocError> {
 }
 
 /// The text of a node.
-fn text_at(tree: &Tree, node: NodeNo) -> &str {
+pub(crate) fn text_at(tree: &Tree, node: NodeNo) -> &str {
     if tree.has(Element::Node(node)) {
         tree.text(node)
     } else {

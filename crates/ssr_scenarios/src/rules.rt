@@ -49,7 +49,7 @@ fn write_asked(out: &mut Told, word: &str, kinds: &[ResolvedRule]) {
 }
 
 /// The kinds of a rule in the first scope; without a delimiter the text is a search pattern.
-fn kinds_of(
+pub(crate) fn kinds_of(
     alloc: Global,
     semantics: &TableSemantics,
     text: &str,

@@ -40,6 +40,7 @@ use Rattle.ssr_syntax.specs.Grammar.{grammar}
 use Rattle.ssr_syntax_forms.proofs.Shared.{Tables, keeps, makes_node, lone_marks, remembers, covered, lower_ranks}
 use Rattle.ssr_syntax.proofs.Operands as operands
 use Rattle.ssr_syntax.proofs.Identifiers as idents
+use Rattle.ssr_syntax.proofs.ClearPaths as paths
 
 -- what may stand behind an expression, a pattern or what USE names, where no block does
 abbrev ends : List SyntaxKind
@@ -136,6 +137,7 @@ checks t goal form =
     && lone_marks form
     && operands.is_bounded (operands.made operands.bound form operands.start) (operands.bound goal)
     && idents.is_clean (idents.sketch_behind form idents.empty)
+    && paths.keeps_goal goal (paths.sketch_behind form paths.nothing_yet)
 
 checked : (goal : Goal) → checks tables goal (grammar goal) ≡ true
 unfolding grammar comma_list as_long_as lits.literals lits.literal path.name path.name_ref path.number_ref path.path_name path.lifetime path.path_first path.type_first path.expr_generics path.type_arg path.parenthesized_arg_list path.ret_type path.function_generics path.colon_generics path.type_generics path.generics path.path_segment path.first_segment path.anchored_type path.type_anchor path.longer_path path.anchored_path path.plain_path path.shortest_path path.path path.simple_path types.path_type types.ref_type types.ptr_type types.never_type types.infer_type types.unit_type types.paren_type types.tuple_type types.paren_or_tuple_type types.type_in_parentheses types.array_type types.slice_type types.type_in_brackets types.lifetime_bound types.trait_bound types.type_bound types.further_bound types.type_bound_list types.dyn_trait_type types.impl_trait_type types.worded_type types.any_type trees.opening trees.words trees.punctuation trees.joined_punctuation trees.loose trees.tree_first trees.token_tree_item trees.curly_tree trees.paren_tree trees.bracket_tree trees.paren_or_bracket_tree trees.token_tree trees.attr trees.inner_attr trees.attrs sets.ranges sets.literal_pat_first sets.bound_first sets.pat_marks sets.single_pat_first sets.pat_first pats.unit_pat pats.paren_pat pats.pats pats.tuple_pat pats.paren_or_tuple_pat pats.pat_in_parentheses pats.wildcard_pat pats.slice_pat pats.ref_pat_mut pats.ref_pat pats.literal_pat pats.bound_path pats.range_bound pats.range_pat_to pats.range_pat_to_inclusive pats.range_pat_behind_bound pats.range_pat_end pats.range_pat_to_bound pats.rest_or_range_pat_to pats.range_pat_without_start pats.rest_pat pats.rest_or_range_pat pats.literal_or_range_pat pats.pat_field_first pats.pat_field_or_rest pats.ident_pat pats.tuple_struct_pat pats.named_pat_field pats.numbered_pat_field pats.shorthand_pat_field pats.record_pat_field pats.record_pat_item pats.record_pat_rest pats.record_pat_field_list pats.record_pat pats.bare_path_pat pats.path_pat_end pats.path_pat pats.path_but_no_name pats.name_or_path_pat pats.named_pat pats.single_pat pats.next_pat pats.or_pat pats.single_or_pats pats.any_pat pats.pat block.block_words block.block_first block.arm_first block.block_expr block.label block.unsafe_or_plain_block block.loop_expr block.while_expr block.for_expr block.block_or_loop block.labelled block.if_or_block block.else_branch block.if_expr block.match_arm_list block.match_expr block.block_like atom.leaving_first atom.operand_marks atom.braceless_first atom.operand_first atom.expr_first atom.field_value_first atom.unit_expr atom.paren_expr atom.tuple_expr atom.paren_or_tuple_expr atom.expr_in_parentheses atom.empty_array atom.repeated_item atom.array_items atom.array_of_items atom.array_expr atom.named_field atom.numbered_field atom.shorthand_field atom.record_expr_field atom.record_item atom.record_base atom.record_expr_field_list atom.record_expr atom.path_or_record atom.macro_expr atom.path_expr atom.continue_expr atom.return_expr atom.break_target atom.break_expr atom.closure_param atom.closure_param_list atom.typed_closure atom.plain_closure atom.closure_body atom.closure_expr atom.leaving_expr expr.assignments expr.atom expr.arg_list expr.call_expr expr.index_expr expr.try_expr expr.field_expr expr.method_call_expr expr.generic_method_call_expr expr.generic_method_call_or_field expr.named_member expr.numbered_member expr.member expr.postfix expr.postfixes expr.postfix_expr expr.ref_expr expr.prefix_expr expr.unary expr.cast_expr expr.casts expr.operators expr.operation expr.operations expr.climb expr.operand expr.ends_first expr.range_end expr.to_range expr.to_inclusive_range expr.range expr.assignment expr.range_or_assignment expr.leading_range expr.ranked expr.expr cond.let_expr cond.let_operand cond.tighter_operand cond.let_or_operand cond.and_let cond.lets cond.let_chain cond.looser cond.first_let cond.lets_behind cond.conjunction_end cond.conjunction cond.condition_of cond.condition args.lifetime_arg args.literal_arg args.negative_literal args.negative_arg args.block_arg args.assoc_type_arg args.generic_arg args.generic_arg_marks args.generic_arg_first args.generic_arg_list params.type_bound_first params.where_pred_first params.lifetime_param params.const_param params.bounds_or_none params.type_param params.generic_param params.generic_param_list params.generic_params params.lifetime_or_type params.where_pred params.where_clause params.wheres params.self_name params.self_reference params.self_param params.param params.params params.params_behind_self params.any_params params.param_list params.own_name params.own_segment params.own_path params.in_path params.restricting_path params.restriction params.visibility params.field_restriction params.field_visibility uses.macro_path_first item.named_item_first item.stmt_item_first item.module_item_first item.trait_item_words item.impl_item_words item.impl_item_first item.trait_item_first adt.tuple_field_first uses.use_first item.block_or_none item.fn_body item.function adt.record_field adt.record_field_list adt.tuple_field adt.tuple_field_list adt.tuple_struct adt.fields_or_none adt.record_struct adt.struct_rest adt.struct_item adt.variant_fields adt.variant adt.variant_list adt.enum_item item.impl_item_list item.trait_item_list item.negative_impl item.positive_impl item.impl_types item.impl_params item.impl_item item.trait_rest item.trait_item item.type_alias uses.name_or_underscore item.const_item item.static_item item.item_list item.items_or_none item.mod_item uses.rename uses.use_tree_list uses.star_or_list uses.further_use uses.use_tree_end uses.use_tree_of_path uses.use_tree_of_all uses.use_tree uses.use_item item.curly_macro_end item.other_macro_end item.macro_end item.macro_item item.macro_rules_rest item.macro_rules item.macro_rules_or_module_item item.macro_rules_or_visible_item item.type_or_value_item item.named_item item.visible_item item.assoc_value_or_type item.assoc_item item.visible_assoc_item item.module_item item.item_in_module item.item_as_stmt item.item_in_impl item.item_in_trait item.item_behind_attrs item.item item.source_file item.macro_items stmts.leading_first stmts.stmt_first stmts.expr_stmt stmts.lone_expr_stmt stmts.stmt_or_tail stmts.ending stmts.bare_stmt_or_tail stmts.block_stmt_or_tail stmts.block_end stmts.going_on stmts.continued stmts.behind_block stmts.block_leading stmts.curly_macro_expr stmts.other_macro_expr stmts.curly_macro stmts.other_macro stmts.leading_path stmts.path_leading stmts.other_leading stmts.leading stmts.match_guard stmts.match_arm stmts.let_else_block stmts.let_else stmts.initializer stmts.let_end stmts.let_rest stmts.let_stmt stmts.expr_or_item_stmt stmts.stmt stmts.stmt_list stmts.macro_stmts stmts.lone_expr_or_item stmts.lone_stmt
@@ -191,10 +193,13 @@ record Passed (goal : Goal) : Type 0 where
   bounded : operands.is_bounded (operands.made operands.bound (grammar goal) operands.start) (operands.bound goal) ≡ true
   -- its identifiers stand alone
   clean : idents.is_clean (idents.sketch_behind (grammar goal) idents.empty) ≡ true
+  -- its paths can be told
+  clear : paths.keeps_goal goal (paths.sketch_behind (grammar goal) paths.nothing_yet) ≡ true
 
 passed : (goal : Goal) → Passed goal
 passed goal =
-    let clean = and_parts _ _ (checked goal) in
+    let clear = and_parts _ _ (checked goal) in
+    let clean = and_parts _ _ clear.0 in
     let bounded = and_parts _ _ clean.0 in
     let lone = and_parts _ _ bounded.0 in
     let remembered = and_parts _ _ lone.0 in
@@ -211,6 +216,7 @@ passed goal =
       lone = lone.1;
       bounded = bounded.1;
       clean = clean.1;
+      clear = clear.1;
     }
 
 pub goal_keeps : (goal : Goal) → keeps tables goal (grammar goal) ≡ true
@@ -236,3 +242,6 @@ goal_bounded goal = (passed goal).bounded
 
 pub goal_clean : idents.AllClean
 goal_clean goal = (passed goal).clean
+
+pub goal_clear : paths.AllKept
+goal_clear goal = (passed goal).clear

@@ -23,7 +23,7 @@ use Rattle.ssr_syntax.proofs.Checks.{goal_clean}
 use Rattle.ssr_syntax.proofs.Identifiers.{shows, lone, AllLone, goals_alone}
 use Rattle.ssr_syntax.proofs.IdentTokens.{no_ident, whole_idents}
 
-abbrev AreTrivia : List plain.Token → Type 0
+abbrev pub AreTrivia : List plain.Token → Type 0
 AreTrivia [] = ⊤
 AreTrivia (t ∷ ts) = (is_trivia t.kind ≡ true) × AreTrivia ts
 
@@ -31,7 +31,7 @@ are_trivia : (ts : List plain.Token) → AreTrivia (trivia ts)
 are_trivia [] = tt
 are_trivia (t ∷ ts) = by_kind (λ b. AreTrivia (if b then t ∷ trivia ts else [])) t (λ e. (e, are_trivia ts)) (λ e. tt)
 
-gap_trivia : (n : ℕ) (ts : List plain.Token) → AreTrivia (gap n ts)
+pub gap_trivia : (n : ℕ) (ts : List plain.Token) → AreTrivia (gap n ts)
 gap_trivia zero ts = tt
 gap_trivia (suc n) ts = are_trivia ts
 
@@ -138,13 +138,13 @@ none_first (suc n) [] e = refl
 none_first (suc n) (t ∷ ts) e = ap (λ b. if b then behind_trivia ts else t ∷ ts) e
 
 -- what is known of a tree that fits
-record WholeTree (text : List ℕ) (raw : List RawToken) (kind : SyntaxKind) (kids : solid.Forest) : Type 0 where
-  spells : solid.spell kids ≡ solid_tokens raw
-  taken : AreTaken kids
-  children_alone : (is_mixing kind || lone kids) ≡ true
-  all_alone : AllLone kids
+pub record WholeTree (text : List ℕ) (raw : List RawToken) (kind : SyntaxKind) (kids : solid.Forest) : Type 0 where
+  pub spells : solid.spell kids ≡ solid_tokens raw
+  pub taken : AreTaken kids
+  pub children_alone : (is_mixing kind || lone kids) ≡ true
+  pub all_alone : AllLone kids
 
-whole_of : (goal : Goal) (text : List ℕ) (raw : List RawToken) (s : Syntax) (fits : FitsTokens goal text raw s) → WholeTree text raw fits.0 fits.1
+pub whole_of : (goal : Goal) (text : List ℕ) (raw : List RawToken) (s : Syntax) (fits : FitsTokens goal text raw s) → WholeTree text raw fits.0 fits.1
 whole_of goal text raw s (kind, kids, ruled, is, named) =
     let us = solid_tokens raw in
     let z : solid.Forest = solid.tree kind kids solid.done in
@@ -161,7 +161,7 @@ whole_of goal text raw s (kind, kids, ruled, is, named) =
     }
 
 -- the children of the root are those of its solid tokens
-children_are : (text : List ℕ) (raw : List RawToken) (kind : SyntaxKind) (kids : solid.Forest) → WholeTree text raw kind kids
+pub children_are : (text : List ℕ) (raw : List RawToken) (kind : SyntaxKind) (kids : solid.Forest) → WholeTree text raw kind kids
     → (begins_solid raw && begins_solid (reverse raw)) ≡ true
     → plain.Syntax.children (whole_tree kind kids (pieces text raw)) ≡ lossless kids (behind_gap (length (solid.spell kids)) (pieces text raw))
 children_are text raw kind kids whole outside =

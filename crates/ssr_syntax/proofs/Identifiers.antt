@@ -141,7 +141,7 @@ beside clean x y z same at none all = subst (IsAt clean) (sym same) (shows_join 
 beside either x y z same at none all = subst (IsAt crowded) (sym same) (tt, lone_join x y at.1 all)
 beside crowded x y z same at none all = subst (IsAt crowded) (sym same) (tt, lone_join x y at.1 all)
 
-not_ident : (kind : SyntaxKind) → mem kind (IDENT ∷ []) ≡ false → is_ident kind ≡ false
+pub not_ident : (kind : SyntaxKind) → mem kind (IDENT ∷ []) ≡ false → is_ident kind ≡ false
 not_ident IDENT h = cc
 not_ident _ h = refl
 
@@ -176,7 +176,7 @@ clean_at clean x e at = at
 clean_at either x e at = cc
 clean_at crowded x e at = cc
 
-under : (b : Bool) (o : Option Sketch) (q : Sketch) → (if b then o else None) ≡ Some q → (b ≡ true) × (o ≡ Some q)
+pub under : {X : Type 0} (b : Bool) (o : Option X) (q : X) → (if b then o else None) ≡ Some q → (b ≡ true) × (o ≡ Some q)
 under true o q e = (refl, e)
 under false o q e = cc
 
@@ -221,11 +221,12 @@ wider_right either either x s = s
 wider_right either crowded x s = tt
 wider_right crowded b x s = tt
 
-repeats_at : (p : Sketch) (step : Step) → ((x z : Forest) (us rest : List Token) → step x z us rest → IsAt p x → IsAt p z)
-    → (n : ℕ) (x z : Forest) (us rest : List Token) → Repeats n step x z us rest → IsAt p x → IsAt p z
-repeats_at p step on zero x z us rest f at = subst (IsAt p) (sym f.1) at
-repeats_at p step on (suc n) x z us rest f at =
-    repeats_at p step on n f.0 z f.2 rest f.5 (on x f.0 f.1 (f.2 ++ rest) f.4 at)
+-- what each turn keeps
+pub repeats_at : (P : Forest → Type 0) (step : Step) → ((x z : Forest) (us rest : List Token) → step x z us rest → P x → P z)
+    → (n : ℕ) (x z : Forest) (us rest : List Token) → Repeats n step x z us rest → P x → P z
+repeats_at P step on zero x z us rest f at = subst P (sym f.1) at
+repeats_at P step on (suc n) x z us rest f at =
+    repeats_at P step on n f.0 z f.2 rest f.5 (on x f.0 f.1 (f.2 ++ rest) f.4 at)
 
 some_turn : (b : Bool) (o : Option Sketch) (q : Sketch) → b ≡ false → turned b o ≡ Some q → (m : Sketch) × (o ≡ Some m) × (crowded ≡ q)
 some_turn true o q off e = cc
@@ -273,12 +274,12 @@ keeps fits h (many test g) p q e x z us rest f at =
           let turn : (x z : Forest) (us rest : List Token) → FitsForm fits g x z us rest → IsAt clean x → IsAt clean z =
           λ x z us rest f at. (let y = keeps fits h g clean c.0 c.1 x z us rest f at in (c.2 z y.0, y.1)) in
           at_sketch clean q z (sym (ap (λ b. turned b (sketch_behind g crowded)) stays) ∙ e)
-          (repeats_at clean (FitsForm fits g) turn f.0 x z us rest f.1 (clean_at p x both.0 at))
+          (repeats_at (IsAt clean) (FitsForm fits g) turn f.0 x z us rest f.1 (clean_at p x both.0 at))
       | inr other ↦
           let m = some_turn (is_clean (Some p) && is_clean (sketch_behind g clean)) (sketch_behind g crowded) q other e in
           let turn : (x z : Forest) (us rest : List Token) → FitsForm fits g x z us rest → IsAt crowded x → IsAt crowded z =
           λ x z us rest f at. (tt, (keeps fits h g crowded m.0 m.1 x z us rest f at).1) in
-          subst (λ r. IsAt r z) m.2 (repeats_at crowded (FitsForm fits g) turn f.0 x z us rest f.1 (tt, at.1))
+          subst (λ r. IsAt r z) m.2 (repeats_at (IsAt crowded) (FitsForm fits g) turn f.0 x z us rest f.1 (tt, at.1))
     ]
 keeps fits h (look want test) p q e x z us rest f at = at_sketch p q z e (subst (IsAt p) (sym f.1) at)
 keeps fits h (check condition) p q e x z us rest f at = at_sketch p q z e (subst (IsAt p) (sym f.1) at)

@@ -13,4 +13,6 @@ mod ExpansionLaws
 mod Identifiers
 mod IdentTokens
 mod IdentTexts
+mod ClearPaths
+mod ClearTexts
 mod Decided

@@ -6,5 +6,7 @@ pub use Rattle.ssr_syntax.proofs.TextLaws.{fragment_sound}
 pub use Rattle.ssr_syntax.proofs.MemoryFree.{file_needs_none}
 -- identifiers in the tree of a fragment
 pub use Rattle.ssr_syntax.proofs.IdentTexts.{fragment_idents, fragment_alone}
+-- paths in the tree of a fragment can be told
+pub use Rattle.ssr_syntax.proofs.ClearTexts.{fragment_clear}
 -- the tokens of a text, one behind another; tokens that are texts; a text without the white space around it
 pub use Rattle.ssr_syntax_rows.proofs.Shared.{length-token, tiled_texts, tiles_within, tiles_count, boundary, spelled-pieces, AreTexts, texts-append, texts_spelled, texts_split, IsUtf8-trim, trim_shorter}

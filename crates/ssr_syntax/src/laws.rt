@@ -3,6 +3,7 @@
 ghost use Rattle.std.specs.Prelude.{◌≡◌, ◌↔◌, ℕ, List, Some, IsTrue};
 ghost use Rattle.ssr_syntax_lex.specs.declared.tokens.RawToken.{RawToken};
 ghost use Rattle.ssr_syntax_lex.specs.Tokens.{tokens};
+ghost use Rattle.ssr_syntax_tree.specs.ClearPaths.{HasClearPaths};
 ghost use Rattle.ssr_syntax_tree.specs.Syntax.{Syntax, tokens_of};
 ghost use Rattle.ssr_syntax.specs.declared.expansions.ExpToken.{ExpToken};
 ghost use Rattle.ssr_syntax.specs.declared.expansions.ExpansionKind.{ExpansionKind};
@@ -28,12 +29,14 @@ pub fn files()
 
 /// At most one tree fits a fragment. A tree that fits has the identifiers of the text without the white
 /// space around it, in order, and each is the only child of its node, but in the nodes that are made to mix
-/// identifiers with other tokens.
+/// identifiers with other tokens. Its token trees have no nodes but token trees, and the arguments of its paths begin
+/// with a token that is no identifier.
 pub fn fragments()
     ensures one { (fragment : Fragment) (text : List ℕ) (a b : Syntax) → FitsFragment fragment text a → FitsFragment fragment text b → a ≡ b }
     ensures idents { (fragment : Fragment) (text : List ℕ) (syntax : Syntax) → FitsFragment fragment text syntax
         → (raw : List RawToken) × (tokens (trimmed text) ≡ Some raw) × (idents (tokens_of syntax) ≡ idents (pieces (trimmed text) raw)) }
     ensures alone { (fragment : Fragment) (text : List ℕ) (syntax : Syntax) → FitsFragment fragment text syntax → IdentsAloneIn syntax }
+    ensures clear { (fragment : Fragment) (text : List ℕ) (syntax : Syntax) → FitsFragment fragment text syntax → HasClearPaths syntax }
 {}
 
 /// At most one tree fits what a macro call stands for.

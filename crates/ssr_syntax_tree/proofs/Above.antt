@@ -7,20 +7,20 @@ use Rattle.ssr_syntax_tree.proofs.Places.{node_of-number, below_fits, smaller, I
 use Rattle.ssr_syntax_tree.proofs.Lists.{all_at}
 
 -- the sibling that is the node n or has it below
-record Holding (parts : List Part) (n past : ℕ) : Type 0 where
-  place : ℕ
-  child : Node
-  is : slice_get parts place ≡ Some (node_part child)
-  low : child.number ≤ n
-  high : n < child.number + size_of child
-  ends : child.number + size_of child ≤ past
+pub record Holding (parts : List Part) (n past : ℕ) : Type 0 where
+  pub place : ℕ
+  pub child : Node
+  pub is : slice_get parts place ≡ Some (node_part child)
+  pub low : child.number ≤ n
+  pub high : n < child.number + size_of child
+  pub ends : child.number + size_of child ≤ past
 
 further : (part : Part) (parts : List Part) (n past more : ℕ) → past ≤ more → Holding parts n past → Holding (part ∷ parts) n more
 further part parts n past more le h =
     let e = h.ends in
     record { place = suc h.place; child = h.child; is = h.is; low = h.low; high = h.high; ends = omega arith }
 
-holding : (parent m t n : ℕ) (forest : Forest) → m ≤ n → n < m + node_count forest → Holding (parts_in parent m t forest) n (m + node_count forest)
+pub holding : (parent m t n : ℕ) (forest : Forest) → m ≤ n → n < m + node_count forest → Holding (parts_in parent m t forest) n (m + node_count forest)
 holding parent m t n nothing low high = absurd (omega arith)
 holding parent m t n (leaf token next) low high =
     further _ (parts_in parent m (1 + t) next) n (m + node_count next) (m + node_count next) (omega arith) (holding parent m (1 + t) n next low high)

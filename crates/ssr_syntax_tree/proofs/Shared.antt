@@ -9,7 +9,8 @@ pub use Rattle.ssr_syntax_tree.proofs.RowLaws.{length-nodes_of}
 -- the texts of tokens
 pub use Rattle.ssr_syntax_tree.proofs.RowLaws.{spelled-texts}
 -- nodes above one another
-pub use Rattle.ssr_syntax_tree.proofs.Above.{IsOver, IsInside, inside, root_size, below_root, over_within}
+pub use Rattle.ssr_syntax_tree.proofs.Above.{IsOver, IsInside, inside, root_size, below_root, over_within, Holding, holding}
+pub use Rattle.ssr_syntax_tree.proofs.Places.{depth_at-root, depth_at-parent}
 -- the children of a node
 pub use Rattle.ssr_syntax_tree.proofs.Places.{IsChild, children_known, elements_had, parts_of-elements_of}
 -- ranges

@@ -296,7 +296,7 @@ impl Tree {
     }
 
     /// How many nodes are above a node.
-    fn depth(&self, node: NodeNo) -> u32
+    pub fn depth(&self, node: NodeNo) -> u32
         requires { HasNode self.now node.0 }
         ensures { result ≡ depth_at self.now node.0 }
     {

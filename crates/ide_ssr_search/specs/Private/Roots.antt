@@ -13,6 +13,7 @@ use Rattle.ide_ssr_resolved_rule.specs.Resolved.{ResolvedRule}
 use Rattle.ide_ssr_bindings.specs.declared.bindings.Binding.{Binding}
 use Rattle.ide_ssr_matching.specs.Matching.{Matches}
 use Rattle.ide_ssr_search.specs.Permitted.{names_self}
+use Rattle.ide_ssr_search.specs.Found.{IsWanted}
 use Rattle.ide_ssr_search.specs.declared.roots.Asked.{Asked}
 use Rattle.ide_ssr_search.specs.declared.roots.Root.{Root}
 use Rattle.ide_ssr_search.specs.declared.roots.Root.TheVariants as roots
@@ -78,9 +79,9 @@ pub record AreRules (rules : Rules) : Type 0 where
   pub counted : length rules.asked.items ≡ length rules.rules.now
   pub each : (n : ℕ) (rule : ResolvedRule) (asked : Asked) → slice_get rules.rules.now n ≡ Some rule → slice_get rules.asked.items n ≡ Some asked → IsAskedBy rule asked
 
--- the set has the kinds of all nodes of a tree that one of the rules matches, and of those that may shut in what is below them
+-- the set has the kinds of all nodes of a tree that one of the wanted rules matches, and of those that may shut in what is below them
 pub record AreKindsIn (rules : Rules) (tree : Syntax) (kinds : KindSet) : Type 0 where
-  pub matched : (place : ℕ) (rule : ResolvedRule) → slice_get rules.rules.now place ≡ Some rule → (m : Meanings) (t n : ℕ) (bindings : List Binding)
+  pub matched : (place : ℕ) (rule : ResolvedRule) → slice_get rules.rules.now place ≡ Some rule → IsWanted rules.wanted.now place → (m : Meanings) (t n : ℕ) (bindings : List Binding)
       → HasNode tree n → Matches m t rule (root_of rule.pattern) (node_of tree n) bindings → has_kind kinds (node_of tree n).kind ≡ true
   pub uses : has_kind kinds k.USE ≡ true
   pub calls : has_kind kinds k.MACRO_CALL ≡ true

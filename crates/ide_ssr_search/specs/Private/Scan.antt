@@ -1,5 +1,5 @@
 -- Private: what a search has found, and what it knows, as it goes over trees and nodes.
-use Rattle.std.specs.Prelude.{ℕ, ◌≡◌, ◌≢◌, ◌+◌, ◌<◌, ◌≤◌, ◌⊎◌, ◌↔◌, Bool, false, IsTrue, List, [], ◌∷◌, ◌++◌, length, slice_index_or, Option, Some, None, All, AllPairs, Contains}
+use Rattle.std.specs.Prelude.{ℕ, ◌≡◌, ◌≢◌, ◌+◌, ◌<◌, ◌≤◌, ◌⊎◌, ◌↔◌, Bool, false, IsTrue, List, [], ◌∷◌, ◌++◌, length, slice_get, slice_index_or, Option, Some, None, All, AllPairs, Contains}
 use Rattle.std.specs.BTreeSet.{BTreeSet, contains}
 use Rattle.std.specs.Option.{IsSomeAnd}
 use Rattle.ssr_syntax_tree.specs.Syntax.{Syntax}
@@ -17,7 +17,7 @@ use Rattle.ide_ssr_search.specs.declared.scan.TreeScan.{TreeScan}
 use Rattle.ide_ssr_search.specs.Context.{Context}
 use Rattle.ide_ssr_search.specs.Permitted.{IsPermitted}
 use Rattle.ide_ssr_search.specs.WholeMatches.{IsWholeMatch}
-use Rattle.ide_ssr_search.specs.Found.{IsFound, Precedes}
+use Rattle.ide_ssr_search.specs.Found.{IsWanted, IsFoundOf, Precedes}
 use Rattle.ide_ssr_search.specs.Private.Shut.{IsShutIn, IsShut}
 use Rattle.ide_ssr_search.specs.Private.Bounds.{AreBounds}
 
@@ -27,12 +27,12 @@ use Rattle.ide_ssr_search.specs.Private.Bounds.{AreBounds}
 abbrev pub IsBefore : ℕ → ℕ → ℕ → FoundMatch → Type 0
 IsBefore t n r m = Precedes m (record { rule = r; node = node_id t n; bindings = [] })
 
--- what is found before the matches of the rule r at the node n of the tree t
-pub record AreFoundBefore (w : Workspace) (m : Meanings) (context : Context) (rules : List ResolvedRule) (t n r : ℕ) (ms : List FoundMatch) : Type 0 where
+-- what is found of the wanted rules before the matches of the rule r at the node n of the tree t
+pub record AreFoundBefore (w : Workspace) (m : Meanings) (context : Context) (rules : List ResolvedRule) (wanted : List Bool) (t n r : ℕ) (ms : List FoundMatch) : Type 0 where
   pub in_order : AllPairs Precedes ms
   pub before : All (IsBefore t n r) ms
-  pub are : All (IsFound w m context rules) ms
-  pub complete : (found : FoundMatch) → IsFound w m context rules found → IsBefore t n r found → Contains ms found
+  pub are : All (IsFoundOf w m context rules wanted) ms
+  pub complete : (found : FoundMatch) → IsFoundOf w m context rules wanted found → IsBefore t n r found → Contains ms found
 
 -- what the placeholders of a rule hold, where it is permitted at a node and matches there as a whole
 abbrev pub TellsMatch : Workspace → Meanings → Context → ResolvedRule → NodeId → Option (List Binding) → Type 0
@@ -48,6 +48,26 @@ pub record Adds (w : Workspace) (m : Meanings) (context : Context) (rule : Resol
   pub bindings : Option (List Binding)
   pub tells : TellsMatch w m context rule x bindings
   pub added : new ≡ old ++ found_of place x bindings
+
+-- ** How often rules are tried.
+
+-- a try of a rule at a node is counted, if there is one, and then the rule is permitted there
+abbrev pub CountsTry : Workspace → Context → ResolvedRule → NodeId → ℕ → ℕ → Type 0
+CountsTry w context rule x old new = (new ≡ old) ⊎ (IsPermitted w context rule x × (new ≡ old + 1))
+
+-- Limits of what is counted in front of the rule r at the node n of the tree t: they grow by one where a wanted rule is permitted,
+-- and never fall.
+pub record AreLimits (w : Workspace) (context : Context) (rules : List ResolvedRule) (wanted : List Bool) (limit : ℕ → ℕ → ℕ → ℕ) : Type 0 where
+  pub tried : (t n r : ℕ) (rule : ResolvedRule) → slice_get rules r ≡ Some rule → IsWanted wanted r → IsPermitted w context rule (node_id t n)
+      → limit t n r + 1 ≤ limit t n (r + 1)
+  pub next_rule : (t n r : ℕ) → limit t n r ≤ limit t n (r + 1)
+  pub next_node : (t n r : ℕ) → limit t n r ≤ limit t (n + 1) 0
+  pub next_tree : (t n : ℕ) → limit t n 0 ≤ limit (t + 1) 0 0
+
+-- from the node n of the tree t to the rule r at the node m of the tree u, what is counted keeps to each limit
+abbrev pub KeepsLimits : Workspace → Context → List ResolvedRule → List Bool → ℕ → ℕ → ℕ → ℕ → ℕ → ℕ → ℕ → Type 0
+KeepsLimits w context rules wanted t n u m r old new =
+    (limit : ℕ → ℕ → ℕ → ℕ) → AreLimits w context rules wanted limit → new + limit t n 0 ≤ old + limit u m r
 
 -- ** What is known of trees.
 

@@ -1,17 +1,12 @@
 -- Private: nodes below which nothing is tried.
-use Rattle.std.specs.Prelude.{ℕ, ◌≡◌, ◌+◌, ◌⊎◌, List, None}
+use Rattle.std.specs.Prelude.{ℕ, ◌≡◌, ◌+◌, ◌⊎◌, List}
 use Rattle.ssr_syntax_tree.specs.Syntax.{Syntax}
 use Rattle.ssr_syntax_tree.specs.Places.{node_of, size_of}
 use Rattle.ssr_base_trees.specs.declared.ids.NodeId.{NodeId}
 use Rattle.ssr_base_trees.specs.Workspace.{PlacedTree, node_id}
-use Rattle.ssr_base_trees.specs.Built.{IsMacroCall}
 use Rattle.ssr_base_trees.specs.Laws.{IsBelow}
 use Rattle.ide_ssr_bindings.specs.Found.{IsAtOrBelow}
-use Rattle.ide_ssr_search.specs.Permitted.{IsUse, arguments_range}
-
--- what shuts in what is below it: a USE, and a macro call whose arguments have no original range
-abbrev pub Shuts : List PlacedTree → NodeId → Type 0
-Shuts trees a = IsUse trees a ⊎ (IsMacroCall trees a × (arguments_range trees a ≡ None))
+pub use Rattle.ide_ssr_search.specs.Permitted.{Shuts}
 
 -- a node that shuts in what is below it stands above this one
 abbrev pub IsShutIn : List PlacedTree → NodeId → Type 0

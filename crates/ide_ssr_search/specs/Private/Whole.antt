@@ -1,5 +1,5 @@
 -- Private: what the steps of a whole match tell.
-use Rattle.std.specs.Prelude.{ℕ, ◌≡◌, List, [], ◌∷◌, Option, Some, None, All, AllPairs}
+use Rattle.std.specs.Prelude.{ℕ, ◌≡◌, List, [], ◌∷◌, Some, All, AllPairs}
 use Rattle.ssr_syntax_tree.specs.Places.{HasNode, node_of, root_of}
 use Rattle.ssr_base_trees.specs.declared.ids.FileRange.{FileRange}
 use Rattle.ssr_base_trees.specs.declared.ids.NodeId.{NodeId}
@@ -9,7 +9,7 @@ use Rattle.ide_ssr_resolved_rule.specs.Resolved.{ResolvedRule}
 use Rattle.ide_ssr_bindings.specs.declared.bindings.Binding.{Binding}
 use Rattle.ide_ssr_matching.specs.Bindings.{bindings_of}
 use Rattle.ide_ssr_bindings.specs.Found.{held_range, ShareNoByte}
-use Rattle.ide_ssr_search.specs.WholeMatches.{IsPlaced, IsWholeMatch}
+use Rattle.ide_ssr_search.specs.WholeMatches.{IsPlaced}
 
 -- what placeholders hold is placed, and comes from these ranges
 abbrev pub AreRanges : List PlacedTree → ℕ → List Binding → List FileRange → Type 0
@@ -33,8 +33,3 @@ pub record IsMatched (trees : List PlacedTree) (x : NodeId) (bindings : List Bin
   pub is : with_number trees x.tree ≡ Some tree
   pub has : HasNode tree.syntax x.node.0
   pub matches : bindings_of meanings x.tree rule (root_of rule.pattern) (node_of tree.syntax x.node.0) ≡ Some bindings
-
--- what the placeholders hold in a whole match, or that there is none
-abbrev pub TellsWhole : List PlacedTree → Meanings → ResolvedRule → NodeId → Option (List Binding) → Type 0
-TellsWhole trees m rule x None = (bindings : List Binding) → ¬ IsWholeMatch trees m rule x bindings
-TellsWhole trees m rule x (Some bindings) = IsWholeMatch trees m rule x bindings

@@ -1,37 +1,37 @@
 -- Private: what the middle of the program answers.
-use Rattle.std.specs.Prelude.{ℕ, ◌≡◌, List, [], Result, Ok, Err, String, string_bytes}
-use Rattle.std.specs.BTreeMap.{BTreeMap, get}
+use Rattle.std.specs.Prelude.{ℕ, ◌≡◌, List, Result, Ok, Err, String, string_bytes, codes}
 use Rattle.ssr_syntax_tree.specs.Syntax.{Syntax}
 use Rattle.ssr_syntax.specs.declared.syntax_error.SyntaxError.{SyntaxError}
 use Rattle.ssr_syntax.specs.declared.syntax_error.SyntaxError.TheVariants as syntax
-use Rattle.ssr_program.specs.declared.rewriting.RewriteError.{RewriteError}
-use Rattle.ssr_program.specs.declared.rewriting.RewriteError.TheVariants as errors
-use Rattle.ide_ssr_refusals.specs.declared.error.SsrError.{SsrError}
-use Rattle.ide_ssr_refusals.specs.declared.error.SsrError.TheVariants as rules
-use Rattle.ssr_base_trees.specs.declared.ids.FileId.{FileId}
-use Rattle.ssr_base_trees.specs.Changes.{Change}
 use Rattle.ssr_base_trees.specs.Workspace.{Workspace}
-use Rattle.ide_ssr_search.specs.Making.{IsContext, first_position}
-use Rattle.ide_ssr_rewriting.specs.Edits.{file_cmp}
-use Rattle.ide_ssr.specs.Edits.{Edits}
-use Rattle.ide_ssr.specs.Finder.{Finder, FinderWith, finder_of}
-use Rattle.ssr_program.specs.declared.unresolved.Unresolved.{Unresolved}
-use Rattle.ssr_program.specs.Unresolved.{nothing_resolves}
-use Rattle.ssr_program.specs.Rewritten.{edited, first_file, one_file}
-use Rattle.ssr_program.specs.Output.{written, rule_refused, input_refused, words_of, IsFile, IsOutput}
+use Rattle.ssr_facts.specs.declared.facts_error.FactsError.TheVariants as facts
+use Rattle.ssr_program.specs.declared.commands.Form.{Form}
+use Rattle.ssr_program.specs.declared.commands.Form.TheVariants as forms
+use Rattle.ssr_program.specs.declared.rewrite_error.RewriteError.{RewriteError}
+use Rattle.ssr_program.specs.declared.rewrite_error.RewriteError.TheVariants as errors
+use Rattle.ssr_program.specs.Output.{Output, written, refused, input_refused, search_refused}
+use Rattle.ssr_program.specs.OfFile.{one_file, text_with, words_of}
+use Rattle.ssr_program.specs.OfFacts.{facts_words}
+use Rattle.ssr_program.specs.Running.{IsOutput, IsSearchable}
+use Rattle.ssr_program.specs.Searching.{Changes}
 
--- a new text or a refusal is the output of the rules and of the bytes; only want of memory leaves it open
-abbrev pub Rewrites : {A : Type 0} → List (List ℕ) → List ℕ → Result (String A) RewriteError → Type 0
-Rewrites texts bytes (Ok new) = IsOutput texts bytes (written (string_bytes new))
-Rewrites texts bytes (Err (errors.File syntax.Memory)) = Unit {0}
-Rewrites texts bytes (Err (errors.File error)) = IsOutput texts bytes (input_refused (words_of error))
-Rewrites texts bytes (Err (errors.Rule message)) = IsOutput texts bytes (rule_refused (string_bytes message))
-Rewrites texts bytes (Err errors.Memory) = IsFile bytes
+-- what is written for an error
+abbrev pub told_of : RewriteError → Output
+told_of errors.NoText = input_refused forms.File (codes "not UTF-8")
+told_of (errors.File error) = input_refused forms.File (words_of error)
+told_of (errors.Facts error) = input_refused forms.Facts (facts_words error)
+told_of (errors.Search message) = search_refused (string_bytes message)
+told_of (errors.Clash words) = refused (string_bytes words)
+told_of errors.Memory = refused (codes "out of memory")
 
--- a rule's error as the reason why there is no new text
-abbrev pub refusal_of : SsrError → RewriteError
-refusal_of (rules.Message message) = errors.Rule message
-refusal_of rules.Memory = errors.Memory
+-- a new text or an error is the output; only want of memory leaves it open
+abbrev pub Rewrites : {A : Type 0} → Form → List (List ℕ) → List ℕ → Result (String A) RewriteError → Type 0
+Rewrites form rules bytes (Ok new) = IsOutput form rules bytes (written (string_bytes new))
+Rewrites form rules bytes (Err (errors.File syntax.Memory)) = form ≡ forms.File
+Rewrites form rules bytes (Err (errors.Facts facts.Memory)) = (form ≡ forms.Facts) × Unit {0}
+Rewrites form rules bytes (Err (errors.Facts error)) = (form ≡ forms.Facts) × IsOutput form rules bytes (told_of (errors.Facts error))
+Rewrites form rules bytes (Err errors.Memory) = IsSearchable form bytes
+Rewrites form rules bytes (Err error) = IsOutput form rules bytes (told_of error)
 
 -- the workspace of a file that is read, or why it isn't one
 abbrev pub AnswersFile : Result Syntax SyntaxError → Result Workspace SyntaxError → Type 0
@@ -43,20 +43,6 @@ AnswersFile reading (Err error) = reading ≡ Err error
 abbrev pub IsOneFile : Workspace → Type 0
 IsOneFile w = (code : Syntax) × (w ≡ one_file code)
 
--- the program's finder, which is told nothing
-abbrev pub untold : FinderWith Unresolved → Finder
-untold finder = finder_of (λ _. nothing_resolves) finder
-
--- a finder for a workspace, at its first byte, without rules
-pub record IsNewFinder (w : Workspace) (finder : FinderWith Unresolved) : Type 0 where
-  pub workspace : finder.workspace ≡ w
-  pub context : IsContext w nothing_resolves first_position [] finder.context
-  pub rules : finder.rules ≡ []
-
--- the text of a finder's one file with its edits made
-pub record IsEdited (finder : Finder) (text : List ℕ) : Type 0 where
-  pub code : Syntax
-  pub workspace : finder.workspace ≡ one_file code
-  pub edits : BTreeMap FileId (List Change)
-  pub are_edits : Edits finder (Ok edits)
-  pub is : text ≡ edited code (get file_cmp edits first_file)
+-- the text of a workspace's one file with its changes made
+abbrev pub IsNewText : Workspace → Changes → List ℕ → Type 0
+IsNewText w new text = (code : Syntax) × (w ≡ one_file code) × (text ≡ text_with code (new 0))

@@ -1,8 +1,8 @@
-use Rattle.ide_ssr_matching.proofs.Roots.{bindings-found, bindings-not_found}
+use Rattle.ssr_syntax_tree.specs.Places.{node_of, root_of}
+use Rattle.ide_ssr_matching.proofs.Shapes.{shapeless}
 use Rattle.ide_ssr_matching.proofs.matching.match_node.Goals as goal
 
-pub returns-then-branch : goal.returns-then-branch
-returns-then-branch g c = bindings-found _ _ _ _ _ _ _ _ c.new-bindings.ensures.items c.in_ok-node_matches.ensures c.if-branch.true
-
-pub returns-else-branch : goal.returns-else-branch
-returns-else-branch g c = bindings-not_found _ _ _ _ _ _ _ _ c.in_ok-node_matches.ensures c.if-branch.false
+pub returns-then-not-branch-clause-bindings : goal.returns-then-not-branch-clause-bindings
+returns-then-not-branch-clause-bindings g c =
+    shapeless (g.S.Semantics.meanings c.args.semantics.now) c.args.node.tree c.args.rule.now (root_of c.args.rule.now.pattern)
+    (node_of c.args.tree.now c.args.node.node.0) _ c.in_ok-has_shape.ensures c.if-not-branch.true

@@ -12,8 +12,8 @@ use Rattle.ide_ssr_rules.specs.Patterns.{HasEachAtMostOnce, AreReadOnce}
 use Rattle.ide_ssr_rules.specs.Rules.{Rule}
 use Rattle.ide_ssr_resolved_rule.specs.Patterns.{HasEachOnce, AreInArguments}
 use Rattle.ide_ssr_resolved_rule.specs.Resolved.{ResolvedRule}
-use Rattle.ide_ssr_rules.specs.Resolved.{resolved_kind}
-use Rattle.ide_ssr_rules.proofs.ResolvedUses.{IsUsedOnce, resolved_once}
+use Rattle.ide_ssr_rules.specs.Resolved.{resolved_kind, resolved_kinds}
+use Rattle.ide_ssr_rules.proofs.ResolvedUses.{IsUsedOnce, resolved_once, resolved_known}
 use Rattle.ide_ssr_rules.proofs.KindByKind.{Resolves, resolves_all, resolves_next}
 use Rattle.ide_ssr_rules.proofs.resolved.resolve.Goals as goal
 
@@ -58,6 +58,17 @@ returns-clause-in_arguments g c =
     All-weaker IsUsedOnce (λ kind. AreInArguments kind.names kind.pattern kind.pattern_paths) (λ kind is. is.2) c.loop-kind.resolved.items
     (all_once (g.S.Semantics.meanings c.args.semantics.now) c.args.scope c.args.parsed (into_iter_items c.loop-kind.kind-iterator) c.loop-kind.resolved.items
     c.loop-kind.invariant (sym c.loop-kind.kind-iterator.rest.ok.0 ∙ c.in-None.ensures.steps.0) c.into_parts-names.ensures.once)
+
+pub returns-clause-known : goal.returns-clause-known
+returns-clause-known g c =
+    let m = g.S.Semantics.meanings c.args.semantics.now in
+    let rule = c.args.parsed in
+    let left = into_iter_items c.loop-kind.kind-iterator in
+    let found = c.loop-kind.resolved.items in
+    let none : length left ≡ 0 = sym c.loop-kind.kind-iterator.rest.ok.0 ∙ c.in-None.ensures.steps.0 in
+    let all : resolved_kinds m c.args.scope rule.names rule.constraints rule.kinds ≡ Ok found =
+    resolves_all m c.args.scope rule.names rule.constraints rule.kinds left found c.loop-kind.invariant (nil_from_length left none) in
+    resolved_known m c.args.scope rule.names rule.constraints rule.kinds found all c.into_parts-names.ensures.once
 
 pub resolved_kind-requires : goal.resolved_kind-requires
 resolved_kind-requires g c =

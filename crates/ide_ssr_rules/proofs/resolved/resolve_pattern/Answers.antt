@@ -1,5 +1,5 @@
 use Rattle.std.proofs.Common.{rules}
 use Rattle.ide_ssr_rules.proofs.resolved.resolve_pattern.Goals as goal
 
-pub returns : goal.returns
-returns g c = search rules steps 200000
+pub returns-clause-kinds : goal.returns-clause-kinds
+returns-clause-kinds g c = search rules steps 200000

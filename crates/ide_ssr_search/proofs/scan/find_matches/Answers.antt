@@ -1,62 +1,35 @@
-use Rattle.std.proofs.Common.{◌+◌, sym, subst, arith, rules}
-use Rattle.std.proofs.lemmas.Grind.{common_steps}
-use Rattle.std.specs.Prelude.{◌↔◌, IsTrue}
-use Rattle.std.specs.Option.{IsSomeAnd}
-use Rattle.ssr_base_trees.specs.Workspace.{trees, node_id}
-use Rattle.ssr_base_trees.specs.Laws.{IsBelow}
-use Rattle.ide_ssr_search.specs.Private.Scan.{AreFoundBefore, KnowsShut, KnowsInside}
-use Rattle.ide_ssr_search.proofs.Trees.{tree_within}
-use Rattle.ide_ssr_search.proofs.Calls.{inside_more}
-use Rattle.ide_ssr_search.proofs.Finding.{found_all}
+use Rattle.std.proofs.Common.{◌≡◌, true, length, replicate, ◌∙◌, subst}
+use Rattle.std.proofs.lemmas.Result.{IfOk-weaker}
+use Rattle.ssr_base_trees.specs.Workspace.{trees}
+use Rattle.ide_ssr_bindings.specs.Found.{AreMatches}
+use Rattle.ide_ssr_search.specs.Found.{AreFound, AreFoundOf}
+use Rattle.ide_ssr_search.proofs.Finding.{found_of_all}
 use Rattle.ide_ssr_search.proofs.Matched.{are_matches}
 use Rattle.ide_ssr_search.proofs.scan.find_matches.Goals as goal
 
-pub loop-tree-smaller : goal.loop-tree-smaller
-loop-tree-smaller g c = omega (arith, tree_within c.args.workspace.now c.loop-tree.number c.in-Some.tree.now c.in-Some.ensures)
-
-pub loop-tree-preserved : goal.loop-tree-preserved
-loop-tree-preserved g c =
-    let w = c.args.workspace.now in
-    let context = c.args.context.now in
-    let rules = c.args.rules.now in
-    let m = g.S.Semantics.meanings c.args.semantics.now in
-    let t = c.loop-tree.number in
-    let scan = c.new-scan.result in
-    let known = c.new-scan.ensures in
-    let ms = c.add_found.new.found.items in
-    record {
-      within = omega (arith, tree_within w t c.in-Some.tree.now c.in-Some.ensures);
-      found =
-          subst (λ w. AreFoundBefore w m context rules (t + 1) 0 0 ms) known.workspace
-          (subst (λ x. AreFoundBefore scan.workspace.now m x rules (t + 1) 0 0 ms) known.context
-          (subst (λ n. AreFoundBefore scan.workspace.now m scan.context.now rules (n + 1) 0 0 ms) known.number
-          (subst (λ rs. AreFoundBefore scan.workspace.now m scan.context.now rs (scan.number + 1) 0 0 ms) c.in_ok-tried.ensures.rules c.in_ok-add_found.ensures.found)));
-      shut =
-          subst (λ w. KnowsShut w (t + 1) 0 c.add_found.new.shut) known.workspace
-          (subst (λ n. KnowsShut scan.workspace.now (n + 1) 0 c.add_found.new.shut) known.number c.in_ok-add_found.ensures.shut);
-      inside =
-          subst (KnowsInside w context (t + 1)) (sym c.in_ok-push.ensures.items)
-          (inside_more w context t c.loop-tree.inside.items scan.inside c.loop-tree.invariant.inside
-          (subst (λ w. IsTrue scan.inside ↔ IsSomeAnd context.function (IsBelow (trees w) (node_id t 0))) known.workspace
-          (subst (λ x. IsTrue scan.inside ↔ IsSomeAnd x.function (IsBelow (trees scan.workspace.now) (node_id t 0))) known.context
-          (subst (λ n. IsTrue scan.inside ↔ IsSomeAnd scan.context.now.function (IsBelow (trees scan.workspace.now) (node_id n 0))) known.number known.scan.inside))));
-    }
-
 pub returns-clause-found : goal.returns-clause-found
 returns-clause-found g c =
-    found_all c.args.workspace.now (g.S.Semantics.meanings c.args.semantics.now) c.args.context.now c.args.rules.now c.loop-tree.number c.loop-tree.found.items c.in_default.ensures c.loop-tree.invariant.found
+    let w = c.args.workspace.now in
+    let m = g.S.Semantics.meanings c.args.semantics.now in
+    let context = c.args.context.now in
+    let rules = c.args.rules.now in
+    let all : c.in_ok-wanted.wanted.items ≡ replicate (length rules) true = c.in_ok-wanted.ensures.items_if_clones_equal (λ y is. is) in
+    IfOk-weaker c.find_wanted.result (λ found. AreFoundOf w m context rules c.deref.result.now found.items) (λ found. AreFound w m context rules found.items)
+    (λ found are.
+    found_of_all w m context rules found.items
+    (subst (λ wanted. AreFoundOf w m context rules wanted found.items) (c.deref.ensures.value ∙ all) are))
+    c.find_wanted.ensures.found
 
 pub returns-clause-matches : goal.returns-clause-matches
 returns-clause-matches g c =
-    are_matches c.args.workspace.now (g.S.Semantics.meanings c.args.semantics.now) c.args.context.now c.args.rules.now c.loop-tree.found.items
-    (found_all c.args.workspace.now (g.S.Semantics.meanings c.args.semantics.now) c.args.context.now c.args.rules.now c.loop-tree.number c.loop-tree.found.items c.in_default.ensures c.loop-tree.invariant.found)
-
-pub add_found-requires-clause-shut : goal.add_found-requires-clause-shut
-add_found-requires-clause-shut g c =
     let w = c.args.workspace.now in
-    let known = c.new-scan.ensures in
-    subst (λ w. KnowsShut w c.new-scan.result.number 0 c.loop-tree.shut) (sym known.workspace)
-    (subst (λ n. KnowsShut w n 0 c.loop-tree.shut) (sym known.number) c.loop-tree.invariant.shut)
-
-pub loop-tree-init : goal.loop-tree-init
-loop-tree-init g c = first_of (search rules steps 1000000, grind (arith, common_steps) steps 1000000)
+    let m = g.S.Semantics.meanings c.args.semantics.now in
+    let context = c.args.context.now in
+    let rules = c.args.rules.now in
+    let all : c.in_ok-wanted.wanted.items ≡ replicate (length rules) true = c.in_ok-wanted.ensures.items_if_clones_equal (λ y is. is) in
+    IfOk-weaker c.find_wanted.result (λ found. AreFoundOf w m context rules c.deref.result.now found.items) (λ found. AreMatches (trees w) found.items)
+    (λ found are.
+    are_matches w m context rules found.items
+    (found_of_all w m context rules found.items
+    (subst (λ wanted. AreFoundOf w m context rules wanted found.items) (c.deref.ensures.value ∙ all) are)))
+    c.find_wanted.ensures.found

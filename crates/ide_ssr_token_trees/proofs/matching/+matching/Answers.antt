@@ -13,7 +13,7 @@ use Rattle.ide_ssr_token_trees.proofs.matching.+matching.Goals as goal
 
 pub match_token_trees-loop-first-init : goal.match_token_trees-loop-first-init
 match_token_trees-loop-first-init t c =
-    match_starts (placeholder_in c.args.placeholders.now) c.args.pattern.now c.args.code.now c.args.p.0 c.args.c.0 c.of-ps.result c.of-cs.result c.args.out.now.items
+    match_starts (placeholder_in c.args.placeholders.now) c.args.pattern.now c.args.code.now c.args.p.0 c.args.c.0 c.of-ps.result c.of-cs.result c.args.out.now
     c.requires.p_in c.requires.c_in c.of-ps.ensures.left c.of-ps.ensures.comma c.of-cs.ensures.left c.of-cs.ensures.comma c.of-cs.ensures.few
 
 pub match_token_trees-next_solid-requires : goal.match_token_trees-next_solid-requires
@@ -39,18 +39,18 @@ match_token_trees-element_matches-requires t c =
 pub match_token_trees-loop-first-preserved : goal.match_token_trees-loop-first-preserved
 match_token_trees-loop-first-preserved t c =
     match_turns _ _ _ _ _ _ c.next_solid.new.self _ c.in-Some.first _ _ c.loop-first.invariant c.in-Some.ensures.gives c.in-Some.ensures.rest
-    c.element_matches.new.ps c.element_matches.new.cs c.element_matches.new.out.items
+    c.element_matches.new.ps c.element_matches.new.cs c.element_matches.new.out
     (subst
-    (ElementSteps (placeholder_in c.args.placeholders.now) c.args.pattern.now c.in-Some.first c.next_solid.new.self c.args.code.now c.loop-first.cs c.element_matches.new.cs c.loop-first.out.items c.element_matches.new.out.items)
+    (ElementSteps (placeholder_in c.args.placeholders.now) c.args.pattern.now c.in-Some.first c.next_solid.new.self c.args.code.now c.loop-first.cs c.element_matches.new.cs c.loop-first.out c.element_matches.new.out)
     c.if-not-branch.false c.in_ok-element_matches.ensures.steps)
     c.in_ok-element_matches.ensures.same c.in_ok-element_matches.ensures.ps_rest c.in_ok-element_matches.ensures.cs_rest
 
 pub match_token_trees-returns-then-not-branch : goal.match_token_trees-returns-then-not-branch
 match_token_trees-returns-then-not-branch t c =
     match_differs _ _ _ _ _ _ c.next_solid.new.self _ c.in-Some.first _ _ c.loop-first.invariant c.in-Some.ensures.gives c.in-Some.ensures.rest
-    c.element_matches.new.cs c.element_matches.new.out.items
+    c.element_matches.new.cs c.element_matches.new.out
     (subst
-    (ElementSteps (placeholder_in c.args.placeholders.now) c.args.pattern.now c.in-Some.first c.next_solid.new.self c.args.code.now c.loop-first.cs c.element_matches.new.cs c.loop-first.out.items c.element_matches.new.out.items)
+    (ElementSteps (placeholder_in c.args.placeholders.now) c.args.pattern.now c.in-Some.first c.next_solid.new.self c.args.code.now c.loop-first.cs c.element_matches.new.cs c.loop-first.out c.element_matches.new.out)
     c.if-not-branch.true c.in_ok-element_matches.ensures.steps)
 
 pub match_token_trees-returns : goal.match_token_trees-returns
@@ -63,7 +63,7 @@ match_token_trees-returns t c =
 pub element_matches-returns-in-Token-clause-steps : goal.element_matches-returns-in-Token-clause-steps
 element_matches-returns-in-Token-clause-steps t c =
     subst
-    (λ p. IfOk c.token_matches.result (ElementSteps (placeholder_in c.args.placeholders.now) c.args.pattern.now p c.args.ps.now c.args.code.now c.args.cs.now c.token_matches.new.cs c.args.out.now.items c.token_matches.new.out.items))
+    (λ p. IfOk c.token_matches.result (ElementSteps (placeholder_in c.args.placeholders.now) c.args.pattern.now p c.args.ps.now c.args.code.now c.args.cs.now c.token_matches.new.cs c.args.out.now c.token_matches.new.out))
     (sym c.in-Token.is) c.token_matches.ensures.steps
 
 pub element_matches-match_token_trees-requires : goal.element_matches-match_token_trees-requires
@@ -89,8 +89,8 @@ element_matches-returns-in-Token-next-clause-steps t c =
 pub element_matches-returns-in-Node-next-clause-steps : goal.element_matches-returns-in-Node-next-clause-steps
 element_matches-returns-in-Node-next-clause-steps t c =
     IfOk-weaker c.match_token_trees.result
-    (Answers (tree_bindings (placeholder_in c.args.placeholders.now) (node_of c.args.pattern.now c.in-Node.p.0) (node_of c.args.code.now c.in-Node-next.c.0)) c.args.out.now.items c.match_token_trees.new.out.items)
-    (ElementSteps (placeholder_in c.args.placeholders.now) c.args.pattern.now c.args.p c.args.ps.now c.args.code.now c.args.cs.now c.next_counted.new.self c.args.out.now.items c.match_token_trees.new.out.items)
+    (Answers (tree_bindings (placeholder_in c.args.placeholders.now) (node_of c.args.pattern.now c.in-Node.p.0) (node_of c.args.code.now c.in-Node-next.c.0)) c.args.out.now c.match_token_trees.new.out)
+    (ElementSteps (placeholder_in c.args.placeholders.now) c.args.pattern.now c.args.p c.args.ps.now c.args.code.now c.args.cs.now c.next_counted.new.self c.args.out.now c.match_token_trees.new.out)
     (λ answer answers.
     node_steps (placeholder_in c.args.placeholders.now) c.args.pattern.now c.args.p c.in-Node.p c.args.ps.now c.args.code.now c.args.cs.now c.next_counted.new.self _ _ answer
     c.in-Some.next c.in-Node-next.c c.in-Node.is c.in-Some.ensures.gives c.in-Node-next.is answers)

@@ -13,7 +13,7 @@ decreases-element_matches l = element_size l.pattern.now l.p
 
 abbrev pub invariant-match_token_trees-loop-first : goal.invariant-match_token_trees-loop-first
 invariant-match_token_trees-loop-first l =
-    MatchedSoFar (placeholder_in l.placeholders) l.pattern l.code l.fn.p.0 l.fn.c.0 l.ps l.cs l.fn.out.items l.out.items
+    MatchedSoFar (placeholder_in l.placeholders) l.pattern l.code l.fn.p.0 l.fn.c.0 l.ps l.cs l.fn.out l.out
 
 abbrev pub decreases-match_token_trees-loop-first : goal.decreases-match_token_trees-loop-first
 decreases-match_token_trees-loop-first l = length (siblings_left l.ps)

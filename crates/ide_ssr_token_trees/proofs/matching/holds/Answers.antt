@@ -10,4 +10,4 @@ returns-in_default-clause-steps c = λ behind. lacks_step c.args.placeholder (op
 pub returns-clause-steps : goal.returns-clause-steps
 returns-clause-steps c = λ behind.
     holds_step c.args.placeholder (option_copied c.args.text) behind (parts_left c.args.code.now c.args.cs.now) _ _ _ c.in-Some.run' _ _ c.take_run.ensures.run c.in-Some.is c.in-Some.ensures.gives
-    c.of_tokens.ensures c.in_ok-push.ensures.items
+    c.of_tokens.ensures c.in_ok-add.ensures

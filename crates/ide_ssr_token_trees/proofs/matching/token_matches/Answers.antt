@@ -18,12 +18,12 @@ returns-in-Some-clause-steps c =
     let cs = parts_left c.args.code.now c.args.cs.now in
     IfOk-weaker c.holds.result
     (λ answer. (behind : Behind) → Steps (placeholder_by c.in-Some.placeholder (option_copied c.next_text-text.result) behind cs)
-    (behind (parts_left c.args.code.now c.holds.new.cs)) c.args.out.now.items c.holds.new.out.items answer)
+    (behind (parts_left c.args.code.now c.holds.new.cs)) c.args.out.now c.holds.new.out answer)
     (λ answer. (behind : Behind) → Steps (leaf_by y (placeholder_in c.args.placeholders.now c.args.token.0) comma token text behind cs)
-    (behind (parts_left c.args.code.now c.holds.new.cs)) c.args.out.now.items c.holds.new.out.items answer)
+    (behind (parts_left c.args.code.now c.holds.new.cs)) c.args.out.now c.holds.new.out answer)
     (λ answer steps behind.
     placeholder_step y (placeholder_in c.args.placeholders.now c.args.token.0) comma token text (option_copied c.next_text-text.result) behind cs
-    (behind (parts_left c.args.code.now c.holds.new.cs)) c.args.out.now.items c.holds.new.out.items answer c.in-Some.placeholder
+    (behind (parts_left c.args.code.now c.holds.new.cs)) c.args.out.now c.holds.new.out answer c.in-Some.placeholder
     c.placeholder_at.result c.placeholder_at.ensures c.in-Some.is c.next_text-text.ensures.text (steps behind))
     c.holds.ensures.steps
 
@@ -32,6 +32,6 @@ returns-in-None-clause-steps c = λ behind.
     plain_step (number_of c.args.cs.now.comma) (placeholder_in c.args.placeholders.now c.args.token.0)
     (is_number (number_of c.args.ps.now.comma) c.args.token.0) (token_of c.args.pattern.now c.args.token.0)
     (next_text (without_trivia (parts_left c.args.pattern.now c.args.ps.now))) behind (parts_left c.args.code.now c.args.cs.now)
-    (behind (parts_left c.args.code.now c.plain_matches.new.cs)) c.args.out.now.items c.plain_matches.result
+    (behind (parts_left c.args.code.now c.plain_matches.new.cs)) c.args.out.now c.plain_matches.result
     c.placeholder_at.result c.placeholder_at.ensures c.in-None.is
     (c.plain_matches.ensures.steps (next_text (without_trivia (parts_left c.args.pattern.now c.args.ps.now))) behind)

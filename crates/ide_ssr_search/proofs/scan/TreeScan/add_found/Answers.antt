@@ -1,4 +1,4 @@
-use Rattle.std.proofs.Common.{◌≡◌, max, sym, ap, ◌∙◌, refl, inl, arith}
+use Rattle.std.proofs.Common.{◌≡◌, ◌+◌, max, sym, ap, ◌∙◌, refl, inl, arith}
 use Rattle.ssr_syntax_tree.specs.Places.{HasNode}
 use Rattle.ssr_base_trees.specs.Workspace.{trees, node_id}
 use Rattle.ide_ssr_search.specs.Private.Shut.{IsShutIn, IsShut}
@@ -7,6 +7,7 @@ use Rattle.ide_ssr_search.specs.Private.Roots.{has_kind}
 use Rattle.ide_ssr_search.proofs.Asked.{unmatched_kind, unshutting_kind, no_call_of_kind}
 use Rattle.ide_ssr_search.proofs.Calls.{shut_kept}
 use Rattle.ide_ssr_search.proofs.Finding.{found_in, found_unmatched}
+use Rattle.ide_ssr_search.proofs.Counting.{kept_on, kept_node, kept_tree}
 use Rattle.ide_ssr_search.proofs.Shutting.{past_now, past_turn, past_call, tested}
 use Rattle.ide_ssr_search.proofs.scan.TreeScan.add_found.Goals as goal
 
@@ -36,7 +37,10 @@ loop-number-preserved g c =
     let n = c.loop-number.number in
     let has : HasNode scan.tree.now n = omega arith in
     record {
-      found = c.in_ok-add_at.ensures;
+      found = c.in_ok-add_at.ensures.found;
+      count =
+          kept_on w scan.context.now c.args.rules.now.rules.now c.args.rules.now.wanted.now scan.number 0 scan.number n scan.number (n + 1) 0 c.args.tries.now c.loop-number.tries c.add_at.new.tries
+          c.loop-number.invariant.count c.in_ok-add_at.ensures.count;
       shut = c.in_ok-add_shut.ensures;
       past =
           past_turn (trees w) scan.number scan.tree.now (is_tree w scan.number scan.tree.now c.requires.scan.tree) n c.past.result c.loop-number.past c.max-past.result has
@@ -57,8 +61,10 @@ loop-number-preserved-then-not-has g c =
     let lacks = ap (has_kind kinds) (sym c.kind.ensures) ∙ sym c.has.ensures ∙ c.if-not-has.true in
     record {
       found =
-          found_unmatched w (g.S.Semantics.meanings c.args.semantics.now) scan.context.now rules.rules.now scan.number n c.loop-number.found.items
+          found_unmatched w (g.S.Semantics.meanings c.args.semantics.now) scan.context.now rules.rules.now rules.wanted.now scan.number n c.loop-number.found.items
           (unmatched_kind w (g.S.Semantics.meanings c.args.semantics.now) scan.number n scan.tree.now at rules kinds are has lacks) c.loop-number.invariant.found;
+      count =
+          kept_node w scan.context.now rules.rules.now rules.wanted.now scan.number 0 scan.number n 0 c.args.tries.now c.loop-number.tries c.loop-number.invariant.count;
       shut =
           shut_kept w scan.number n c.loop-number.shut (λ call _. no_call_of_kind w scan.number n scan.tree.now at rules kinds are lacks call)
           c.loop-number.invariant.shut;
@@ -70,5 +76,10 @@ loop-number-preserved-then-not-has g c =
 pub returns-clause-found : goal.returns-clause-found
 returns-clause-found g c =
     let scan = c.args.self.now in
-    found_in scan.workspace.now (g.S.Semantics.meanings c.args.semantics.now) scan.context.now c.args.rules.now.rules.now scan.number c.loop-number.number scan.tree.now
+    found_in scan.workspace.now (g.S.Semantics.meanings c.args.semantics.now) scan.context.now c.args.rules.now.rules.now c.args.rules.now.wanted.now scan.number c.loop-number.number scan.tree.now
     c.loop-number.found.items c.requires.scan.tree (omega arith) c.loop-number.invariant.found
+
+pub returns-clause-count : goal.returns-clause-count
+returns-clause-count g c =
+    let scan = c.args.self.now in
+    kept_tree scan.workspace.now scan.context.now c.args.rules.now.rules.now c.args.rules.now.wanted.now scan.number 0 scan.number c.loop-number.number c.args.tries.now c.loop-number.tries c.loop-number.invariant.count

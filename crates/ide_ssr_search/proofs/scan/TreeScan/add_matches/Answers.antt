@@ -1,18 +1,56 @@
 use Rattle.std.proofs.Common.{length, refl, sym}
+use Rattle.std.proofs.lemmas.Bool.{both_ways}
 use Rattle.std.proofs.lemmas.Option.{slice_get_read}
-use Rattle.ide_ssr_search.proofs.Finding.{found_more, found_at}
+use Rattle.ide_ssr_search.proofs.Finding.{found_more, found_unwanted, found_at}
+use Rattle.ide_ssr_search.proofs.Counting.{kept_none, kept_try, kept_rule, kept_node}
 use Rattle.ide_ssr_search.proofs.scan.TreeScan.add_matches.Goals as goal
+
+pub loop-place-init : goal.loop-place-init
+loop-place-init g c =
+    let scan = c.args.self.now in
+    record {
+      found = c.requires.found;
+      count = kept_none scan.workspace.now scan.context.now c.args.rules.now.rules.now c.args.rules.now.wanted.now scan.number c.args.node.0 c.args.tries.now;
+    }
 
 pub loop-place-preserved : goal.loop-place-preserved
 loop-place-preserved g c =
     let scan = c.args.self.now in
-    found_more scan.workspace.now (g.S.Semantics.meanings c.args.semantics.now) scan.context.now c.args.rules.now.rules.now scan.number c.args.node.0 c.loop-place.place scan.tree.now c.rule-item.result
-    c.loop-place.found.items c.add_match.new.found.items c.requires.scan.tree c.loop-place-test.true c.rule-item.is c.loop-place.invariant c.in_ok-add_match.ensures
+    let rules = c.args.rules.now in
+    let p = c.loop-place.place in
+    let wanted = c.wants.ensures.0 c.if-not-wants.false in
+    record {
+      found =
+          found_more scan.workspace.now (g.S.Semantics.meanings c.args.semantics.now) scan.context.now rules.rules.now rules.wanted.now scan.number c.args.node.0 p scan.tree.now c.rule-item.result
+          c.loop-place.found.items c.add_match.new.found.items c.requires.scan.tree c.loop-place-test.true c.rule-item.is wanted c.loop-place.invariant.found c.in_ok-add_match.ensures.added;
+      count =
+          kept_try scan.workspace.now scan.context.now rules.rules.now rules.wanted.now scan.number c.args.node.0 p c.rule-item.result c.args.tries.now c.loop-place.tries c.add_match.new.tries
+          (slice_get_read rules.rules.now (length rules.rules.now) p c.rule-item.result refl c.loop-place-test.true c.rule-item.is) wanted c.loop-place.invariant.count c.in_ok-add_match.ensures.count;
+    }
 
-pub returns : goal.returns
-returns g c =
+pub loop-place-preserved-then-not-wants : goal.loop-place-preserved-then-not-wants
+loop-place-preserved-then-not-wants g c =
     let scan = c.args.self.now in
-    found_at scan.workspace.now (g.S.Semantics.meanings c.args.semantics.now) scan.context.now c.args.rules.now.rules.now scan.number c.args.node.0 c.loop-place.place c.loop-place.found.items c.loop-place-test.false c.loop-place.invariant
+    let rules = c.args.rules.now in
+    record {
+      found =
+          found_unwanted scan.workspace.now (g.S.Semantics.meanings c.args.semantics.now) scan.context.now rules.rules.now rules.wanted.now scan.number c.args.node.0 c.loop-place.place
+          c.loop-place.found.items (λ wanted. both_ways c.wants.result c.if-not-wants.true (c.wants.ensures.1 wanted)) c.loop-place.invariant.found;
+      count =
+          kept_rule scan.workspace.now scan.context.now rules.rules.now rules.wanted.now scan.number c.args.node.0 c.loop-place.place c.args.tries.now c.loop-place.tries c.loop-place.invariant.count;
+    }
+
+pub returns-clause-found : goal.returns-clause-found
+returns-clause-found g c =
+    let scan = c.args.self.now in
+    found_at scan.workspace.now (g.S.Semantics.meanings c.args.semantics.now) scan.context.now c.args.rules.now.rules.now c.args.rules.now.wanted.now scan.number c.args.node.0 c.loop-place.place c.loop-place.found.items
+    c.loop-place-test.false c.loop-place.invariant.found
+
+pub returns-clause-count : goal.returns-clause-count
+returns-clause-count g c =
+    let scan = c.args.self.now in
+    kept_node scan.workspace.now scan.context.now c.args.rules.now.rules.now c.args.rules.now.wanted.now scan.number c.args.node.0 scan.number c.args.node.0 c.loop-place.place c.args.tries.now c.loop-place.tries
+    c.loop-place.invariant.count
 
 pub add_match-requires-clause-asked : goal.add_match-requires-clause-asked
 add_match-requires-clause-asked g c =

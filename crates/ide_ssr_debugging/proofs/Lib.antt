@@ -1,0 +1,5 @@
+mod Ahead
+mod Once
+mod Sorted
+mod Showing
+mod Telling

@@ -1,0 +1,16 @@
+mod Climbing
+mod Adding
+mod ByRule
+mod Together
+mod Naming
+mod Facts
+mod Way
+mod Within
+mod ClearNodes
+mod Finds
+mod Sound
+mod Climb
+mod Partners
+mod MatchUsages
+mod NothingMissed
+mod Bound

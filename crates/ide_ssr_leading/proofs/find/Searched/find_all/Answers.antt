@@ -1,0 +1,27 @@
+use Rattle.std.proofs.Common.{◌≡◌, ◌∙◌, sym, subst, arith}
+use Rattle.std.specs.Prelude.{◌↔◌, Contains}
+use Rattle.ide_ssr_search.specs.Found.{AreFoundOf}
+use Rattle.ide_ssr_search.specs.Tries.{IsMostOf}
+use Rattle.ide_ssr_leading.specs.Found.{IsLedFound}
+use Rattle.ide_ssr_leading.specs.Private.Finding.{are_others}
+use Rattle.ide_ssr_leading.proofs.Together.{together, most_split}
+use Rattle.ide_ssr_leading.proofs.find.Searched.find_all.Goals as goal
+
+pub returns-clause-count : goal.returns-clause-count
+returns-clause-count g c = λ most is.
+    let s = c.args.self.now in
+    let m = g.S.Semantics.meanings c.args.semantics.now in
+    let flags : c.deref.result.now ≡ are_others s.rules.now = c.deref.ensures.value ∙ c.in_ok-led.ensures.others in
+    let split = most_split s.workspace.now m s.context.now s.rules.now most is in
+    let more = c.in_ok-rest.ensures.count split.0 (subst (λ fs. IsMostOf s.workspace.now s.context.now s.rules.now fs split.0) (sym flags) split.1) in
+    omega (arith, more, split.2, c.in_ok-led.ensures.count)
+
+pub returns-clause-led : goal.returns-clause-led
+returns-clause-led g c = λ found.
+    let s = c.args.self.now in
+    let m = g.S.Semantics.meanings c.args.semantics.now in
+    let flags : c.deref.result.now ≡ are_others s.rules.now = c.deref.ensures.value ∙ c.in_ok-led.ensures.others in
+    let rest = c.in_ok-rest.rest.items in
+    subst (λ ms. Contains ms found ↔ IsLedFound s.workspace.now m s.context.now s.rules.now found) (sym c.in_ok-append.ensures.items)
+    (together s.workspace.now m s.context.now s.rules.now c.in_ok-led.led.found.items rest c.in_ok-led.ensures.found
+    (subst (λ fs. AreFoundOf s.workspace.now m s.context.now s.rules.now fs rest) flags c.in_ok-rest.ensures.found) found)

@@ -1,0 +1,4 @@
+pub mod Leading
+pub mod Found
+pub mod Tries
+pub mod Private
