@@ -242,6 +242,13 @@ def files_are_read_to_a_depth_of_1024(program):
         ("1 + " * 1020 + "1", True),
         ("1 + " * 1021 + "1", False),
         ("1 + " * 100_000 + "1", False),
+        # each block has a list of statements below it
+        ("{" * 510 + "1" + "}" * 510, True),
+        ("{" * 510 + "(1)" + "}" * 510, False),
+        (f"let _: {nested(1019, '_')};", True),
+        (f"let _: {nested(1020, '_')};", False),
+        (f"let {nested(1019, '_')};", True),
+        (f"let {nested(1020, '_')};", False),
     ]:
         file = f"fn f() {{{body}}}"
         yield gives(program, ["2 ==>> 3"], file, file if fits else TOO_DEEP, 0 if fits else 1)
@@ -258,6 +265,16 @@ def rules_are_read_to_a_depth_of_1024(program):
 def matches_go_to_a_depth_of_1024(program):
     file = f"fn f() {{{nested(1020, '1')}}}"
     yield gives(program, [nested(1020, "$a") + " ==>> $a"], file, "fn f() {1}")
+
+
+@example
+def made_texts_are_read_to_a_depth_of_1024(program):
+    # the sum in brackets loses its place as an operand, which parentheses mend as long as the made text is read
+    deep = nested(1000, "1")
+    file = f"fn f() {{[{deep} + 1]}}"
+    for pairs, made in [(22, f"2 * ({deep} + 1)"), (23, f"2 * {deep} + 1")]:
+        rule = f"[$a] ==>> {nested(pairs, '2 * $a')}"
+        yield gives(program, [rule], file, f"fn f() {{{nested(pairs, made)}}}")
 
 
 @example
