@@ -1,10 +1,5 @@
 pub mod Sending
 pub mod Reading
-pub mod RulesRead
-pub mod Telling
-pub mod Replacing
-pub mod Reaching
-pub mod Outcomes
 pub mod OneFile
 pub mod OneText
 pub mod OfFile

@@ -16,7 +16,7 @@ use Rattle.ssr_program.specs.declared.commands.Form.TheVariants as forms
 use Rattle.ssr_program.specs.declared.rewrite_error.RewriteError.TheVariants as errors
 use Rattle.ssr_program.specs.Output.{written, refused, search_refused}
 use Rattle.ssr_program.specs.OfFacts.{AreFacts, IsOutputOfFacts, facts_search, names_of, name_at, range_words, clash_words, parts, no_facts, no_search, clash, rewritten}
-use Rattle.ssr_program.specs.Searching.{Changes, ComesTo, refuses, clashes, changes}
+use Rattle.ssr_searching.specs.Searching.{Changes, ComesTo, refuses, clashes, changes}
 use Rattle.ssr_program.specs.Private.Rewriting.{Rewrites}
 
 -- the words of a clash, in the pieces in which they are written

@@ -14,9 +14,9 @@ use Rattle.ssr_program.specs.declared.commands.Form.TheVariants as forms
 use Rattle.ssr_program.specs.declared.rewrite_error.RewriteError.TheVariants as errors
 use Rattle.ssr_program.specs.Output.{written, input_refused, search_refused}
 use Rattle.ssr_program.specs.OfFile.{IsFile, IsOutputOfFile, file_search, no_file, no_search, rewritten, one_file, text_with, words_of}
-use Rattle.ssr_program.specs.Searching.{Search, Changes, ComesTo, Outcome, refuses, clashes, changes, no_finder, no_rules, clash, edited}
+use Rattle.ssr_searching.specs.Searching.{Search, Changes, ComesTo, Outcome, refuses, clashes, changes, no_finder, no_rules, clash, edited}
 use Rattle.ssr_program.specs.Private.Rewriting.{AnswersFile, IsNewText, Rewrites}
-use Rattle.ssr_program.specs.Unresolved.{nothing_resolves}
+use Rattle.ssr_searching.specs.Unresolved.{nothing_resolves}
 use Rattle.ssr_program.proofs.OneText.{one_code}
 
 module _ (text bytes : List ℕ) (same : text ≡ bytes) (utf8 : IsUtf8 text) where

@@ -11,7 +11,7 @@ use Rattle.ssr_base_trees.specs.Workspace.{Workspace, tree_of}
 use Rattle.ssr_base_trees.proofs.Shared.{tree_of_file}
 use Rattle.ide_ssr_rewriting.specs.Edits.{EditsFit, file_cmp}
 use Rattle.ssr_program.specs.OfFile.{one_file, text_with}
-use Rattle.ssr_program.specs.Searching.{Changes}
+use Rattle.ssr_searching.specs.Searching.{Changes}
 use Rattle.ssr_program.specs.Private.Rewriting.{IsNewText}
 
 -- it has one tree

@@ -26,9 +26,9 @@ use Rattle.ssr_program.specs.OfFile.{IsFile, IsOutputOfFile, file_search, no_tex
 use Rattle.ssr_program.specs.OfFacts.{AreFacts, IsOutputOfFacts, facts_search, facts_words, names_of, clash_words, parts}
 use Rattle.ssr_program.specs.OfFacts as facts
 use Rattle.ssr_program.specs.Running.{IsOutput}
-use Rattle.ssr_program.specs.Searching.{Search, Outcome, refuses, clashes, changes, ComesTo}
+use Rattle.ssr_searching.specs.Searching.{Search, Outcome, refuses, clashes, changes, ComesTo}
 use Rattle.ssr_program.proofs.OfFile.{never_clashes}
-use Rattle.ssr_program.proofs.Outcomes.{one_outcome, outcome_exists}
+use Rattle.ssr_searching.proofs.Shared.{one_outcome, outcome_exists}
 
 module _ (rules : List (List ℕ)) (bytes : List ℕ) where
   -- ** Of a file.

@@ -13,7 +13,7 @@ use Rattle.ssr_base_trees.specs.Workspace.{Workspace, tree_of}
 use Rattle.ssr_base_trees.proofs.Shared.{tree_of_file}
 use Rattle.ide_ssr_rewriting.specs.Edits.{EditsFit, file_cmp}
 use Rattle.ssr_program.specs.OfFacts.{name_at, part, part_of, parts}
-use Rattle.ssr_program.specs.Searching.{Changes, new_text}
+use Rattle.ssr_searching.specs.Searching.{Changes, new_text}
 
 -- what is written of the files from this number on
 abbrev pub left : List (List ℕ) → List Syntax → Changes → ℕ → List ℕ

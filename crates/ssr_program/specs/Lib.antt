@@ -1,8 +1,6 @@
 pub mod Streams
 pub mod Commands
 pub mod Output
-pub mod Searching
-pub mod Unresolved
 pub mod OfFile
 pub mod OfFacts
 pub mod Running

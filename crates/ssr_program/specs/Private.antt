@@ -1,6 +1,4 @@
 -- Words of private functions, and of how private fields are seen. No public clause cites them, and no reader of those has to believe them.
 pub mod Noted
-pub mod Searching
 pub mod Rewriting
 pub mod Transfer
-pub mod Unresolved

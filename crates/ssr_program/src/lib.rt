@@ -9,12 +9,10 @@ mod of_facts;
 mod of_file;
 mod program;
 mod rewrite_error;
-mod searching;
 mod streams;
 #[cfg(test)]
 mod tests;
 mod transfer;
-mod unresolved;
 
 pub use commands::facts_path;
 pub use counted::{CountedSink, CountedSource, Unopened};

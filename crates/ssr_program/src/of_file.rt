@@ -3,14 +3,13 @@ ghost use Rattle.std.specs.Prelude.{◌≡◌, IfOk, map, string_bytes};
 ghost use Rattle.ssr_syntax.specs.Reading.{file_reading};
 ghost use Rattle.ide_ssr_rewriting.specs.Edits.{EditsFit};
 ghost use Rattle.ssr_program.specs.OfFile.{one_file, text_with};
-ghost use Rattle.ssr_program.specs.Searching.{changes_in};
+ghost use Rattle.ssr_searching.specs.Searching.{changes_in};
 ghost use Rattle.ssr_program.specs.Private.Rewriting.{AnswersFile, IsNewText, IsOneFile, Rewrites};
 ghost use Rattle.ssr_program.specs.declared.commands.Form.TheVariants as forms;
 
 use crate::rewrite_error::RewriteError;
-use crate::searching::{SearchError, edited, edits};
-use crate::unresolved::Unresolved;
 use ssr_base::{FileId, FilePosition, TextEdit, Workspace, WorkspaceError};
+use ssr_searching::{SearchError, Unresolved, edited, edits};
 use ssr_syntax::SyntaxError;
 use std::alloc::{AllocError, Global};
 use std::collections::BTreeMap;

@@ -1,6 +1,5 @@
 //! Why there is no new text.
 
-use crate::searching::SearchError;
 use ssr_facts::FactsError;
 use ssr_syntax::SyntaxError;
 use std::alloc::AllocError;

@@ -1,11 +1,13 @@
 //! What is asked in scenarios.
 
+use crate::counts::write_counts;
 use crate::leads::write_leads;
 use crate::lines::Line;
 use crate::matches::{write_debug_info, write_held, write_places, write_texts};
 use crate::nodes::write_nodes;
 use crate::rows::{write_facts, write_rows};
 use crate::rules::write_rule;
+use crate::searches::Searches;
 use crate::shapes::write_shapes;
 use crate::texts::text_of;
 use crate::tokens::write_tokens;
@@ -16,36 +18,34 @@ use ide_ssr::{
     EditError, MatchDebugInfo, MatchFinder, SsrError, SsrMatches, SsrPattern, SsrRule,
     ssr_from_comment,
 };
-use ssr_base::{FileId, FileRange, TextEdit, Workspace};
-use ssr_facts::{Facts, TableSemantics};
+use ssr_base::{FileId, FileRange, Semantics, TextEdit, Workspace};
+use ssr_facts::Facts;
 use ssr_syntax_kinds::TextRange;
 use std::alloc::{AllocError, Global};
 use std::collections::BTreeMap;
-
-type Finder<'a> = MatchFinder<'a, TableSemantics>;
 
 /// What the line asks, if it asks something.
 pub(crate) fn answer(
     alloc: Global,
     facts: &Facts,
-    finder: &mut Result<Finder<'_>, SsrError>,
+    searches: &mut Result<Searches<'_>, SsrError>,
     way: &str,
     line: &Line<'_>,
 ) -> Result<Option<String>> {
     if line.word == "fronts" {
         let (word, written) = line.rest.split_once(' ').unwrap_or((line.rest, ""));
         let text = text_of(alloc, written)?;
-        return Ok(Some(fronts(alloc, facts, finder, way, word, text.as_str())?));
+        return Ok(Some(fronts(alloc, facts, searches, way, word, text.as_str())?));
     }
     let text = text_of(alloc, line.rest)?;
-    asked(alloc, facts, finder, way, line.word, text.as_str())
+    asked(alloc, facts, searches, way, line.word, text.as_str())
 }
 
 /// What a question answers to each front of a text: a line where the answer changes, with how long the front is.
 fn fronts(
     alloc: Global,
     facts: &Facts,
-    finder: &mut Result<Finder<'_>, SsrError>,
+    searches: &mut Result<Searches<'_>, SsrError>,
     way: &str,
     word: &str,
     text: &str,
@@ -54,7 +54,9 @@ fn fronts(
     let mut last = String::new(alloc);
     for end in 0..=text.len() {
         if let Some(front) = text.get(..end) {
-            let told = asked(alloc, facts, finder, way, word, front)?.unwrap_or(String::new(alloc));
+            let told = asked(alloc, facts, searches, way, word, front)?.unwrap_or(String::new(
+                alloc,
+            ));
             if end == 0 || told.as_str() != last.as_str() {
                 write_front(&mut out, end, told.as_str().trim_end());
                 last = told;
@@ -78,13 +80,13 @@ fn write_front(out: &mut Told, end: usize, answer: &str) {
 fn asked(
     alloc: Global,
     facts: &Facts,
-    finder: &mut Result<Finder<'_>, SsrError>,
+    searches: &mut Result<Searches<'_>, SsrError>,
     way: &str,
     word: &str,
     text: &str,
 ) -> Result<Option<String>> {
     let mut out = Told::nothing(alloc);
-    if write_answer(alloc, &mut out, facts, finder, way, word, text)? {
+    if write_answer(alloc, &mut out, facts, searches, way, word, text)? {
         Ok(Some(out.end()?))
     } else {
         Ok(None)
@@ -96,7 +98,7 @@ fn write_answer(
     alloc: Global,
     out: &mut Told,
     facts: &Facts,
-    finder: &mut Result<Finder<'_>, SsrError>,
+    searches: &mut Result<Searches<'_>, SsrError>,
     way: &str,
     word: &str,
     text: &str,
@@ -116,8 +118,9 @@ fn write_answer(
         "rows" => write_rows(alloc, out, text),
         "reads" => write_facts(alloc, out, text),
         "nodes" => write_nodes(alloc, out, facts),
+        "counts" => write_counts(alloc, out, text)?,
         "comment" => write_comment(alloc, out, facts, text)?,
-        _ => return of_search(alloc, out, &facts.workspace, finder, word, text),
+        _ => return of_search(alloc, out, &facts.workspace, searches, word, text),
     }
     Ok(true)
 }
@@ -140,17 +143,17 @@ fn write_comment(alloc: Global, out: &mut Told, facts: &Facts, offset: &str) -> 
     Ok(())
 }
 
-/// What a question asks of a search. Says whether the word asks that.
+/// What a question asks of searches. Says whether the word asks that.
 fn of_search(
     alloc: Global,
     out: &mut Told,
     workspace: &Workspace,
-    finder: &mut Result<Finder<'_>, SsrError>,
+    searches: &mut Result<Searches<'_>, SsrError>,
     word: &str,
     text: &str,
 ) -> Result<bool> {
-    match finder {
-        Ok(finder) => of_finder(alloc, out, workspace, finder, word, text),
+    match searches {
+        Ok(searches) => of_searches(alloc, out, workspace, searches, word, text),
         Err(error) if word == "opens" => {
             write_error(out, error);
             Ok(true)
@@ -159,21 +162,21 @@ fn of_search(
     }
 }
 
-/// What a question asks of a search that there is. Says whether the word asks that.
-fn of_finder(
+/// What a question asks of searches that there are. Says whether the word asks that.
+fn of_searches(
     alloc: Global,
     out: &mut Told,
     workspace: &Workspace,
-    finder: &mut Finder<'_>,
+    searches: &mut Searches<'_>,
     word: &str,
     text: &str,
 ) -> Result<bool> {
+    let finder = &searches.told;
     match word {
         "opens" => {}
-        "rule" => write_refusal(out, &add_rule(alloc, finder, text)),
-        "pattern" => write_refusal(out, &add_pattern(alloc, finder, text)),
+        "rule" | "pattern" => write_added(alloc, out, searches, word, text)?,
         "edits" => write_edits(alloc, out, workspace, finder.edits())?,
-        "finds" | "holds" | "places" => write_both(alloc, out, workspace, finder, word)?,
+        "finds" | "holds" | "places" => write_found(alloc, out, workspace, searches, word)?,
         "scans" => write_matches(alloc, out, workspace, word, finder.scan_matches()),
         "debug" => write_debug(
             out,
@@ -185,32 +188,83 @@ fn of_finder(
             workspace,
             finder.debug_where_text_equal(FileId(99), text),
         ),
-        "flattened" => write_matches(alloc, out, workspace, "holds", flattened(alloc, finder)),
+        "flattened" => write_matches(
+            alloc,
+            out,
+            workspace,
+            "holds",
+            flattened(alloc, finder.matches()),
+        ),
         _ => return Ok(false),
     }
     Ok(true)
 }
 
-/// What a word asks of the matches of a search that is led by usages, and of a scan, where that answers otherwise.
-fn write_both(
+/// Adds a rule or a search pattern to both searches, and tells why it is refused, if it is.
+fn write_added(
+    alloc: Global,
+    out: &mut Told,
+    searches: &mut Searches<'_>,
+    word: &str,
+    text: &str,
+) -> Result<()> {
+    let told = refusal(alloc, &add(alloc, &mut searches.told, word, text))?;
+    let careless = refusal(alloc, &add(alloc, &mut searches.careless, word, text))?;
+    out.text(told.as_str());
+    write_other(
+        out,
+        told.as_str(),
+        "by a careless provider:",
+        careless.as_str(),
+    );
+    Ok(())
+}
+
+/// What a word asks of the matches of a search that is led by usages; and of those of a scan and of a careless provider, where
+/// these are others.
+fn write_found(
     alloc: Global,
     out: &mut Told,
     workspace: &Workspace,
-    finder: &Finder<'_>,
+    searches: &Searches<'_>,
     word: &str,
 ) -> Result<()> {
-    let mut led = Told::nothing(alloc);
-    write_matches(alloc, &mut led, workspace, word, finder.matches());
-    let led = led.end()?;
-    let mut scanned = Told::nothing(alloc);
-    write_matches(alloc, &mut scanned, workspace, word, finder.scan_matches());
-    let scanned = scanned.end()?;
-    out.text(led.as_str());
-    if led.as_str() != scanned.as_str() {
-        out.line("a scan finds:");
-        out.text(scanned.as_str());
-    }
+    let Searches { told, careless } = searches;
+    let led = found_text(alloc, workspace, word, told.matches())?;
+    let scanned = found_text(alloc, workspace, word, told.scan_matches())?;
+    let misled = found_text(alloc, workspace, word, careless.matches())?;
+    let scanned_too = found_text(alloc, workspace, word, careless.scan_matches())?;
+    let led = led.as_str();
+    out.text(led);
+    write_other(out, led, "a scan finds:", scanned.as_str());
+    write_other(out, led, "led by a careless provider:", misled.as_str());
+    write_other(
+        out,
+        led,
+        "a scan by a careless provider finds:",
+        scanned_too.as_str(),
+    );
     Ok(())
+}
+
+/// What a word asks of matches, as a text.
+fn found_text(
+    alloc: Global,
+    workspace: &Workspace,
+    word: &str,
+    found: Result<SsrMatches<'_>, AllocError>,
+) -> Result<String, AllocError> {
+    let mut out = Told::nothing(alloc);
+    write_matches(alloc, &mut out, workspace, word, found);
+    out.end()
+}
+
+/// Tells another answer than the first one, behind words that say whose it is.
+fn write_other(out: &mut Told, first: &str, whose: &str, other: &str) {
+    if other != first {
+        out.line(whose);
+        out.text(other);
+    }
 }
 
 /// What is told at the nodes that a snippet shows, a line each: the range, the node by its tree and number, the rule, and whether
@@ -229,23 +283,34 @@ fn write_debug(
 }
 
 /// All matches in one list.
-fn flattened<'a>(alloc: Global, finder: &Finder<'a>) -> Result<SsrMatches<'a>, AllocError> {
-    finder.matches()?.flattened(alloc)
+fn flattened(
+    alloc: Global,
+    found: Result<SsrMatches<'_>, AllocError>,
+) -> Result<SsrMatches<'_>, AllocError> {
+    found?.flattened(alloc)
 }
 
-fn add_rule(alloc: Global, finder: &mut Finder<'_>, text: &str) -> Result<(), SsrError> {
-    finder.add_rule(SsrRule::parse(alloc, text)?)
-}
-
-fn add_pattern(alloc: Global, finder: &mut Finder<'_>, text: &str) -> Result<(), SsrError> {
-    finder.add_search_pattern(SsrPattern::parse(alloc, text)?)
+/// Adds a rule or a search pattern, as the word says.
+fn add<S: Semantics>(
+    alloc: Global,
+    finder: &mut MatchFinder<'_, S>,
+    word: &str,
+    text: &str,
+) -> Result<(), SsrError> {
+    if word == "rule" {
+        finder.add_rule(SsrRule::parse(alloc, text)?)
+    } else {
+        finder.add_search_pattern(SsrPattern::parse(alloc, text)?)
+    }
 }
 
 /// Why something is refused, if it is.
-fn write_refusal(out: &mut Told, added: &Result<(), SsrError>) {
+fn refusal(alloc: Global, added: &Result<(), SsrError>) -> Result<String, AllocError> {
+    let mut out = Told::nothing(alloc);
     if let Err(error) = added {
-        write_error(out, error);
+        write_error(&mut out, error);
     }
+    out.end()
 }
 
 fn write_error(out: &mut Told, error: &SsrError) {

@@ -25,7 +25,7 @@
 //! |---|---|
 //! | `opens` | whether there is such a search: nothing, or why not |
 //! | `rule TEXT`, `pattern TEXT` | adds a rule or a search pattern, and asks whether that is accepted: nothing, or why not |
-//! | `finds`, `scans` | the texts of the outermost matches. `finds`, `holds` and `places` ask a scan too, and tell if it answers otherwise |
+//! | `finds`, `scans` | the texts of the outermost matches. `finds`, `holds` and `places` also ask a scan, and a provider that tells all nodes as usages of each thing, and tell if these answer otherwise |
 //! | `holds` | the same, with what each placeholder holds, how often it is dereferenced and how it is taken |
 //! | `flattened` | all matches in one list, told likewise |
 //! | `places` | where the outermost matches, their comments and what their placeholders hold stand |
@@ -52,6 +52,7 @@
 //! | `rows TEXT` | the rows of a facts file, or why there are none |
 //! | `reads TEXT` | whether it is a facts file: nothing, or why not |
 //! | `fronts QUESTION TEXT` | what that question answers to each front of the text, a line for each run of equal answers |
+//! | `counts TEXT` | how many fronts of the text, read as a file, each fragment and a rule, are read, and how many refused, for each reason |
 //!
 //! Ways to tell a tree:
 //!
@@ -69,6 +70,7 @@
 #![tactic(auto)]
 
 mod answers;
+mod counts;
 mod facts;
 mod leads;
 mod lines;
@@ -78,7 +80,9 @@ mod nodes;
 mod paths;
 mod rows;
 mod rules;
+mod searches;
 mod shapes;
+mod strays;
 mod texts;
 mod tokens;
 mod told;
@@ -87,10 +91,11 @@ mod trees;
 use crate::answers::answer;
 use crate::facts::facts_text;
 use crate::lines::{Line, lines_of, rest_of};
+use crate::searches::searches_of;
+use crate::strays::strays_of;
 use anyhow::Result;
-use ide_ssr::{MatchFinder, SsrError};
+use ssr_careless::Careless;
 use ssr_facts::{Facts, TableSemantics, read};
-use std::alloc::Global;
 use std::{env, fs};
 
 fn main(rt: HostRuntime) -> Result<()> {
@@ -142,40 +147,33 @@ fn try_all(rt: &HostRuntime, text: &str) -> Result<Tally> {
 
 /// Tries a scenario, where there are these keys of facts.
 fn try_one(rt: &HostRuntime, names: &str, lines: &[Line<'_>]) -> Result<Tally> {
-    let text = facts_text(rt.alloc(), names, lines)?;
-    let facts = read(rt.alloc(), text.as_str().as_bytes())?;
-    try_lines(rt, &facts, lines)
+    let alloc = rt.alloc();
+    let text = facts_text(alloc, names, lines)?;
+    let facts = read(alloc, text.as_str().as_bytes())?;
+    let careless = Careless {
+        told: &facts.semantics,
+        strays: strays_of(alloc, &facts.workspace)?,
+    };
+    try_lines(rt, &facts, &careless, lines)
 }
 
-/// Tries what the lines of a scenario ask, where there are these facts.
-fn try_lines(rt: &HostRuntime, facts: &Facts, lines: &[Line<'_>]) -> Result<Tally> {
+/// Tries what the lines of a scenario ask, where there are these facts, and a careless provider of them.
+fn try_lines(
+    rt: &HostRuntime,
+    facts: &Facts,
+    careless: &Careless<'_, TableSemantics>,
+    lines: &[Line<'_>],
+) -> Result<Tally> {
     let alloc = rt.alloc();
-    let mut finder = finder_of(alloc, facts, lines);
+    let mut searches = searches_of(alloc, facts, careless, lines);
     let way = rest_of(lines, "shows").unwrap_or("");
     let mut tally = NOTHING;
     for line in lines {
-        if let Some(answer) = answer(alloc, facts, &mut finder, way, line)? {
+        if let Some(answer) = answer(alloc, facts, &mut searches, way, line)? {
             tally = tally.with(compared(rt, line, answer.as_str())?);
         }
     }
     Ok(tally)
-}
-
-/// The search of a scenario.
-fn finder_of<'a>(
-    alloc: Global,
-    facts: &'a Facts,
-    lines: &[Line<'_>],
-) -> Result<MatchFinder<'a, TableSemantics>, SsrError> {
-    let (workspace, semantics) = (&facts.workspace, &facts.semantics);
-    if rest_of(lines, "context").is_none() {
-        return MatchFinder::at_first_file(alloc, workspace, semantics);
-    }
-    let mut ranges = Vec::new(alloc);
-    for range in &facts.ranges {
-        ranges.push(*range)?;
-    }
-    MatchFinder::in_context(alloc, workspace, semantics, facts.position, ranges)
 }
 
 /// Tells of an answer that is another one than is wanted.

@@ -77,6 +77,15 @@ fn in_front(tree: Result<Tree, SyntaxError>) -> Read {
     Ok((tree?, 0))
 }
 
+/// Whether a text is read, or why not.
+pub(crate) fn write_reading(alloc: Global, out: &mut Told, goal: Goal, text: &str) -> Result<()> {
+    match read(alloc, goal, text)? {
+        Ok(_) => out.text("read"),
+        Err(error) => out.debug(&error),
+    }
+    Ok(())
+}
+
 /// What is asked of the tree of a text, in the way that a word says, or why there is none.
 pub(crate) fn write_tree(
     alloc: Global,

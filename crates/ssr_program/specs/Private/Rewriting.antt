@@ -13,7 +13,7 @@ use Rattle.ssr_program.specs.Output.{Output, written, refused, input_refused, se
 use Rattle.ssr_program.specs.OfFile.{one_file, text_with, words_of}
 use Rattle.ssr_program.specs.OfFacts.{facts_words}
 use Rattle.ssr_program.specs.Running.{IsOutput, IsSearchable}
-use Rattle.ssr_program.specs.Searching.{Changes}
+use Rattle.ssr_searching.specs.Searching.{Changes}
 
 -- what is written for an error
 abbrev pub told_of : RewriteError → Output

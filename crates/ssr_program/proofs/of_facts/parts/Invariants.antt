@@ -1,6 +1,6 @@
 use Rattle.std.proofs.Common.{◌≡◌, ◌++◌, map, string_bytes}
 use Rattle.ssr_program.specs.OfFacts.{parts}
-use Rattle.ssr_program.specs.Searching.{changes_in}
+use Rattle.ssr_searching.specs.Searching.{changes_in}
 use Rattle.ssr_program.proofs.Parts.{left}
 use Rattle.ssr_program.proofs.of_facts.parts.Given as goal
 

@@ -2,7 +2,7 @@ use Rattle.std.proofs.Common.{List, String, Global, map, string_bytes, ap, â—Œâˆ
 use Rattle.std.proofs.lemmas.Result.{err_from_is_err_and}
 use Rattle.ide_ssr_rewriting.specs.Clashes.{clash_of}
 use Rattle.ssr_program.specs.OfFacts.{clash_words, parts}
-use Rattle.ssr_program.specs.Searching.{changes_in}
+use Rattle.ssr_searching.specs.Searching.{changes_in}
 use Rattle.ssr_program.proofs.OfFacts.{facts_error, message_told, clash_told, files_written}
 use Rattle.ssr_program.proofs.of_facts.rewrite.Goals as goal
 

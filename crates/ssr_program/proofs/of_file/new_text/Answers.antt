@@ -3,7 +3,7 @@ use Rattle.std.proofs.lemmas.Option.{none-some, same_Some}
 use Rattle.ssr_syntax_tree.specs.Syntax.{Syntax, source_of}
 use Rattle.ssr_base_trees.specs.Changes.{FitsText}
 use Rattle.ssr_program.specs.OfFile.{text_with}
-use Rattle.ssr_program.specs.Searching.{changes_in, new_text}
+use Rattle.ssr_searching.specs.Searching.{changes_in, new_text}
 use Rattle.ssr_program.proofs.OneText.{tree_is, fit_one, new_if}
 use Rattle.ssr_program.proofs.of_file.new_text.Goals as goal
 

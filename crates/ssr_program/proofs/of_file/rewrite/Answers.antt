@@ -3,7 +3,7 @@ use Rattle.std.proofs.lemmas.Str.{IsUtf8-string_bytes}
 use Rattle.std.proofs.lemmas.Result.{err_from_is_err_and}
 use Rattle.ide_ssr_rewriting.specs.Clashes.{clash_of}
 use Rattle.ssr_program.specs.OfFile.{no_text}
-use Rattle.ssr_program.specs.Searching.{ComesTo, clashes, changes, changes_in}
+use Rattle.ssr_searching.specs.Searching.{ComesTo, clashes, changes, changes_in}
 use Rattle.ssr_program.proofs.OfFile.{is_file, file_error, message_told, never_clashes, new_text_is, of_one}
 use Rattle.ssr_program.proofs.of_file.rewrite.Goals as goal
 

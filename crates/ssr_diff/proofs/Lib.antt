@@ -1,0 +1,4 @@
+mod LinesOf
+mod SameLines
+mod WritingLaws
+mod HunkLaws

@@ -1,0 +1,13 @@
+//! Unified diffs: what `diff -u` writes of a file's text before and after an edit, and `git apply` takes.
+#![tactic(auto)]
+
+mod cuts;
+mod diff;
+mod hunks;
+mod lines;
+mod places;
+mod trimming;
+mod writing;
+
+pub use diff::unified_diff;
+pub use lines::Lines;

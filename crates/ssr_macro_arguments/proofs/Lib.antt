@@ -1,0 +1,3 @@
+mod Tops
+mod Spelled
+mod Values

@@ -1,0 +1,7 @@
+use Rattle.ssr_macro_arguments.proofs.expanding.add_nested.Goals as goal
+
+pub loop-next-preserved : goal.loop-next-preserved
+loop-next-preserved c = record {
+  expansions = λ texts count are. c.in_ok-add_below.ensures.expansions texts count (c.loop-next.invariant.expansions texts count are);
+  few = c.in_ok-add_below.ensures.few;
+}

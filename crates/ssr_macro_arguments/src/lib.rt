@@ -1,0 +1,14 @@
+//! What the calls of the standard library's macros stand for whose arguments are expressions: expansions for a workspace, so
+//! that a search finds what stands in the arguments.
+#![tactic(auto)]
+
+mod arguments;
+mod expanding;
+mod forms;
+mod macros;
+mod own_names;
+#[cfg(test)]
+mod tests;
+mod writer;
+
+pub use expanding::macro_arguments;

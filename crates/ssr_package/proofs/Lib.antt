@@ -1,0 +1,2 @@
+mod PathLaws
+mod CandidateLaws

@@ -1,0 +1,9 @@
+pub mod Paths
+pub mod Marks
+pub mod Notes
+pub mod Errors
+pub mod Tokens
+pub mod Places
+pub mod Manifest
+pub mod Globs
+pub mod Candidates

@@ -1,0 +1,175 @@
+//! The files that a package's targets begin with.
+
+use crate::manifest::{is_off, items_at, library_path, package_name, table_at, text_at};
+use crate::notes::Trouble;
+use crate::package_error::PackageError;
+use crate::paths::{normal_path, within};
+use crate::places::default_target;
+use crate::reading::Reading;
+use crate::root::Standing;
+use std::rt::Files;
+use toml::{Table, Value};
+
+/// A kind of targets of which a package may have many.
+#[derive(Drop)]
+struct TargetKind {
+    /// The key of their tables in the manifest.
+    key: &'static str,
+    /// The folder that they lie in unless they have a path.
+    folder: &'static str,
+    /// The key by which those are left out that the manifest doesn't list.
+    switch: &'static str,
+}
+
+const BINARIES: TargetKind = TargetKind {
+    key: "bin",
+    folder: "src/bin",
+    switch: "autobins",
+};
+
+const EXAMPLES: TargetKind = TargetKind {
+    key: "example",
+    folder: "examples",
+    switch: "autoexamples",
+};
+
+const TESTS: TargetKind = TargetKind {
+    key: "test",
+    folder: "tests",
+    switch: "autotests",
+};
+
+const BENCHES: TargetKind = TargetKind {
+    key: "bench",
+    folder: "benches",
+    switch: "autobenches",
+};
+
+/// A package: its folder, a name of the run, and its manifest.
+#[derive(Drop)]
+pub(crate) struct Package {
+    pub folder: String,
+    pub manifest: Table,
+}
+
+impl<R: Files + AllocGlobal> Reading<'_, R> {
+    /// Reaches the files that a package's targets begin with.
+    pub(crate) fn reach_targets(&mut self, package: &Package) -> Result<(), PackageError> {
+        let folder = package.folder.as_str();
+        self.reach_library(package)?;
+        self.reach_build_script(package)?;
+        self.reach_kind(package, &BINARIES)?;
+        self.reach_kind(package, &EXAMPLES)?;
+        self.reach_kind(package, &TESTS)?;
+        self.reach_kind(package, &BENCHES)?;
+        if !is_off_in_package(&package.manifest, BINARIES.switch) {
+            self.reach_default(folder, "src/main.rs")?;
+        }
+        Ok(())
+    }
+
+    fn reach_library(&mut self, package: &Package) -> Result<(), PackageError> {
+        let folder = package.folder.as_str();
+        match library_path(&package.manifest) {
+            Some(path) => self.reach_path(folder, path),
+            None => self.reach_default(folder, "src/lib.rs"),
+        }
+    }
+
+    fn reach_build_script(&mut self, package: &Package) -> Result<(), PackageError> {
+        let folder = package.folder.as_str();
+        let Some(table) = table_at(&package.manifest, "package") else {
+            return Ok(());
+        };
+        match text_at(table, "build") {
+            Some(path) => self.reach_path(folder, path),
+            None if is_off(table, "build") => Ok(()),
+            None => self.reach_default(folder, "build.rs"),
+        }
+    }
+
+    /// Reaches the targets of a kind: those that the manifest lists, and those that lie in the kind's folder.
+    fn reach_kind(&mut self, package: &Package, kind: &TargetKind) -> Result<(), PackageError> {
+        for target in items_at(&package.manifest, kind.key) {
+            self.reach_listed(package, kind, target)?;
+        }
+        if is_off_in_package(&package.manifest, kind.switch) {
+            return Ok(());
+        }
+        let folder = within(self.alloc(), package.folder.as_str(), kind.folder)?;
+        self.reach_folder(folder.as_str())
+    }
+
+    /// Reaches a target that the manifest lists: at its path, or else at the default places of its name.
+    fn reach_listed(
+        &mut self,
+        package: &Package,
+        kind: &TargetKind,
+        target: &Value,
+    ) -> Result<(), PackageError> {
+        let Some(target) = target.as_table() else {
+            return Ok(());
+        };
+        let folder = package.folder.as_str();
+        if let Some(path) = text_at(target, "path") {
+            return self.reach_path(folder, path);
+        }
+        let Some(name) = text_at(target, "name") else {
+            return Ok(());
+        };
+        let alloc = self.alloc();
+        let place = within(alloc, kind.folder, name)?;
+        self.reach_default(folder, format!(in alloc; "{place}.rs")?.as_str())?;
+        self.reach_default(folder, format!(in alloc; "{place}/main.rs")?.as_str())?;
+        if kind.key == BINARIES.key && package_name(&package.manifest) == Some(name) {
+            self.reach_default(folder, "src/main.rs")?;
+        }
+        Ok(())
+    }
+
+    /// Reaches the targets that lie in a folder of targets.
+    fn reach_folder(&mut self, folder: &str) -> Result<(), PackageError> {
+        if self.root().standing(folder)? != Standing::Folder {
+            return Ok(());
+        }
+        let entries = match self.root().entries(folder)? {
+            Ok(entries) => entries,
+            Err(trouble) => return self.note(folder, trouble),
+        };
+        for entry in &entries {
+            if let Some(name) = default_target(self.alloc(), folder, entry)? {
+                self.reach(name, true)?;
+            }
+        }
+        Ok(())
+    }
+
+    /// Reaches a file at a path that the manifest gives, or notes that it is not there.
+    fn reach_path(&mut self, folder: &str, path: &str) -> Result<(), PackageError> {
+        let Some(name) = normal_path(self.alloc(), folder, path)? else {
+            return self.note(path, Trouble::Outside);
+        };
+        let copy = String::from_str(self.alloc(), name.as_str())?;
+        if self.reach(name, true)? {
+            Ok(())
+        } else {
+            self.note(copy.as_str(), Trouble::Missing)
+        }
+    }
+
+    /// Reaches a file at a place below a package's folder, if it is there.
+    fn reach_default(&mut self, folder: &str, place: &str) -> Result<(), PackageError> {
+        if let Some(name) = normal_path(self.alloc(), folder, place)? {
+            self.reach(name, true)?;
+        }
+        Ok(())
+    }
+}
+
+/// Whether `[package]` says `key = false`.
+fn is_off_in_package(manifest: &Table, key: &str) -> bool {
+    match table_at(manifest, "package") {
+        Some(package) => is_off(package, key),
+        None => false,
+    }
+}

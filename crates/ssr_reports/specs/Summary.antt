@@ -1,0 +1,19 @@
+-- The line that ends a run.
+use Rattle.std.specs.Prelude.{ℕ, ◌==◌, if◌then◌else◌, List, [], ◌++◌, codes, decimal}
+use Rattle.ssr_reports.specs.declared.summary.Summary.{Summary}
+
+-- a number, with the word for one or for many
+abbrev pub counted : ℕ → List ℕ → List ℕ → List ℕ
+counted count one many = decimal count ++ (codes " " ++ (if count == 1 then one else many))
+
+-- the same behind a front; nothing of none
+abbrev pub some_counted : List ℕ → ℕ → List ℕ → List ℕ → List ℕ
+some_counted front count one many = if count == 0 then [] else front ++ counted count one many
+
+abbrev pub summary_text : Summary → List ℕ
+summary_text summary =
+    counted summary.matches (codes "match") (codes "matches")
+    ++ (some_counted (codes " in ") summary.files (codes "file") (codes "files")
+    ++ (some_counted (codes ": ") summary.edits (codes "edit") (codes "edits")
+    ++ (some_counted (codes "; ") summary.set_aside (codes "holds what is set aside") (codes "hold what is set aside")
+    ++ (some_counted (codes "; ") summary.left_out (codes "file left out") (codes "files left out") ++ codes "\n"))))

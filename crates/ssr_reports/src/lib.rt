@@ -1,0 +1,12 @@
+//! What a run of search and replace tells besides diffs: places, matches as text and as JSON, a summary, and a diff in colours.
+#![tactic(auto)]
+
+mod colors;
+mod json_lines;
+mod places;
+mod summary;
+
+pub use colors::colored;
+pub use json_lines::{Held, MatchReport, match_json, summary_json};
+pub use places::{LinePlace, line_place, place_line};
+pub use summary::{Summary, summary_line};

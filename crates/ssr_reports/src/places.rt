@@ -1,0 +1,87 @@
+//! Lines and columns.
+ghost use Rattle.std.specs.Prelude.{◌≡◌, ◌+◌, ◌<◌, ◌≤◌, ◌^◌, IfOk, length, count_by, string_bytes};
+ghost use Rattle.ssr_reports.specs.Places.{is_line_break, begins_character, last_line, first_line as first_line_of, mark_of, line_of, column_of, place_text};
+
+use std::alloc::{AllocError, Global};
+
+/// A place in a text: its line, and its column in characters, both from 1.
+#[derive(Clone, Copy, Debug, PartialEq, Eq)]
+pub struct LinePlace {
+    pub line: usize,
+    pub column: usize,
+}
+
+/// The line and the column of a byte of a text; it goes over the text up to there.
+pub fn line_place(text: &str, offset: usize) -> LinePlace
+    requires { offset ≤ length text.now }
+    ensures line { result.line ≡ line_of text.now offset }
+    ensures column { result.column ≡ column_of text.now offset }
+{
+    let before = &text.as_bytes()[..offset];
+    LinePlace {
+        line: line_breaks(before) + 1,
+        column: characters_of_last_line(before) + 1,
+    }
+}
+
+fn line_breaks(bytes: &[u8]) -> usize
+    ensures count { result ≡ count_by is_line_break bytes.now }
+    ensures bound { result < 2 ^ 63 }
+{
+    bytes.iter().filter(|byte| **byte == b'\n').count()
+}
+
+fn characters_of_last_line(bytes: &[u8]) -> usize
+    ensures count { result ≡ count_by begins_character (last_line bytes.now) }
+    ensures bound { result < 2 ^ 63 }
+{
+    bytes
+        .iter()
+        .rev()
+        .take_while(|byte| **byte != b'\n')
+        .filter(|byte| **byte < 128 || **byte >= 192)
+        .count()
+}
+
+/// `src/lib.rs:12:9: text` and a line break, of what is found at a place of a file; of several lines the first one, and ` ..` behind it.
+pub fn place_line(
+    alloc: Global,
+    file: &str,
+    place: LinePlace,
+    found: &str,
+) -> Result<String, AllocError>
+    ensures { IfOk result (λ line. string_bytes line ≡ place_text file.now place found.now) }
+{
+    let line = place.line;
+    let column = place.column;
+    let (first, mark) = first_line(found);
+    format!(in alloc; "{file}:{line}:{column}: {first}{mark}\n")
+}
+
+/// A text up to its first line break, and a mark where there is one.
+fn first_line(text: &str) -> (&str, &'static str)
+    ensures first { result.0.now ≡ first_line_of text.now }
+    ensures mark { result.1.now ≡ mark_of text.now }
+{
+    match text.split_once('\n') {
+        Some((first, _)) => (first, " .."),
+        None => (text, ""),
+    }
+}
+
+#[cfg(test)]
+mod tests {
+    use super::*;
+    use std::test::Fail;
+
+    #[test]
+    fn a_place_is_told(rt: HostRuntime) -> Result<(), Fail> {
+        let place = LinePlace {
+            line: 12,
+            column: 9,
+        };
+        let line = place_line(rt.alloc(), "src/lib.rs", place, "a(\nb)")?;
+        assert_eq!(rt; line.as_str(), "src/lib.rs:12:9: a( ..\n");
+        Ok(())
+    }
+}

@@ -1,0 +1,71 @@
+-- Errors that tell refusals.
+use Rattle.std.proofs.Common.{◌≡◌, List, [], ℕ, ◌+◌, ◌<◌, ◌++◌, length, take, get_or, Result, Ok, Err, refl, ap, subst, sym, ◌∙◌, append_assoc}
+use Rattle.ide_ssr_refusals.specs.declared.error.SsrError.{SsrError}
+use Rattle.ide_ssr_refusals.specs.declared.error.SsrError.TheVariants as errors
+use Rattle.ide_ssr_refusals.specs.declared.refusals.Refusal.{Refusal}
+use Rattle.ide_ssr_refusals.specs.Refusals.{TellsOf, ◌>>=◌}
+use Rattle.ide_ssr_resolved_rule.specs.Resolved.{ResolvedRule}
+use Rattle.ssr_base_trees.specs.declared.ids.ScopeId.{ScopeId}
+use Rattle.ssr_base_trees.specs.Meanings.{Meanings}
+use Rattle.ide_ssr_rules.specs.Rules.{Rule, rule_reading}
+use Rattle.ssr_searching.specs.Searching.{resolved, rule_kinds, rules_reading}
+use Rattle.ide_ssr.specs.Finder.{FinderWith}
+use Rattle.ide_ssr.specs.Adding.{Adds}
+use Rattle.ssr_searching.proofs.RulesRead.{read_more, read_refused}
+
+-- want of memory tells any reading
+memory_tells : {A : Type 0} (reading : Result A Refusal) → TellsOf errors.Memory reading
+memory_tells (Ok value) = tt
+memory_tells (Err refusal) = tt
+
+-- a reading that is refused is told in the same way as the one that it refuses
+tells_as : (error : SsrError) (a b : Result (List ResolvedRule) Refusal)
+    → ((refusal : Refusal) → a ≡ Err refusal → b ≡ Err refusal) → TellsOf error a → TellsOf error b
+tells_as error (Err refusal) b same told =
+    let P : Result (List ResolvedRule) Refusal → Type 0 = λ r. TellsOf error r in
+    let is : b ≡ Err refusal = same refusal refl in subst P (sym is) told
+tells_as errors.Memory (Ok kinds) b same told = memory_tells b
+tells_as (errors.Message _) (Ok kinds) b same told = elim told [ ]
+
+module _ (meanings : Meanings) (scope : ScopeId) where
+  -- what tells that a rule is refused tells that it has no kinds
+  tells_both : (error : SsrError) (reading : Result Rule Refusal) → TellsOf error reading → TellsOf error (reading >>= resolved meanings scope)
+  tells_both error (Err refusal) told = told
+  tells_both errors.Memory (Ok rule) told = memory_tells (resolved meanings scope rule)
+  tells_both (errors.Message _) (Ok rule) told = elim told [ ]
+
+  pub tells_rule : (error : SsrError) (text : List ℕ) → TellsOf error (rule_reading text) → TellsOf error (rule_kinds meanings scope text)
+  tells_rule error text told = tells_both error (rule_reading text) told
+
+  pub adds_rule : {S : Type 0} (old new : FinderWith S) (rule : Rule) (text : List ℕ) (result : Result (Unit {0}) SsrError)
+      → rule_reading text ≡ Ok rule → Adds old new (resolved meanings scope rule) result → Adds old new (rule_kinds meanings scope text) result
+  adds_rule {S} old new rule text result is added =
+      let Read : Result Rule Refusal → Type 0 = λ r. Adds old new (r >>= resolved meanings scope) result in subst Read (sym is) added
+
+module _ {S : Type 0} (told_by : S → Meanings) (old mid : FinderWith S) (rules : List (List ℕ)) (i : ℕ) (less : i < length rules) (kinds : List ResolvedRule) (before : rules_reading (told_by old.semantics) old.context.scope (take i rules) ≡ Ok kinds) (so_far : mid ≡ record old { rules = old.rules ++ kinds }) (text : List ℕ) (its : text ≡ get_or rules i []) where
+  abbrev m : Meanings
+  m = told_by old.semantics
+
+  abbrev scope : ScopeId
+  scope = old.context.scope
+
+  -- one rule more
+  pub adds_more : (new : FinderWith S) → Adds mid new (rule_kinds (told_by mid.semantics) mid.context.scope text) (Ok tt)
+      → Adds old new (rules_reading m scope (take (i + 1) rules)) (Ok tt)
+  adds_more new added =
+      let here : Adds mid new (rule_kinds m scope text) (Ok tt) =
+      subst (λ (f : FinderWith S). Adds mid new (rule_kinds (told_by f.semantics) f.context.scope text) (Ok tt)) so_far added in
+      let with_more : FinderWith S → FinderWith S = λ f. record f { rules = f.rules ++ here.0 } in
+      let with_rules : List ResolvedRule → FinderWith S = λ all. record old { rules = all } in (
+        kinds ++ here.0,
+        read_more m scope rules i less kinds before here.0 (ap (rule_kinds m scope) (sym its) ∙ here.1),
+        here.2 ∙ ap with_more so_far ∙ ap with_rules (append_assoc old.rules kinds here.0),
+      )
+
+  -- a rule that is refused
+  pub refuses_more : (error : SsrError) → TellsOf error (rule_kinds (told_by mid.semantics) mid.context.scope text) → TellsOf error (rules_reading m scope rules)
+  refuses_more error told =
+      let here : TellsOf error (rule_kinds m scope text) =
+      subst (λ (f : FinderWith S). TellsOf error (rule_kinds (told_by f.semantics) f.context.scope text)) so_far told in
+      tells_as error (rule_kinds m scope text) (rules_reading m scope rules)
+      (λ refusal is. read_refused m scope rules i less kinds before refusal (ap (rule_kinds m scope) (sym its) ∙ is)) here

@@ -1,0 +1,3 @@
+pub mod Searching
+pub mod Unresolved
+pub mod Private

@@ -1,0 +1,8 @@
+//! A search for rules in a workspace: from their texts to the edits that it comes to, or to why it comes to none.
+#![tactic(auto)]
+
+mod searching;
+mod unresolved;
+
+pub use searching::{SearchError, edited, edits};
+pub use unresolved::Unresolved;

@@ -1,0 +1,3 @@
+pub mod SetAside
+pub mod Sparing
+pub mod Private
