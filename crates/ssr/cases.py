@@ -372,6 +372,9 @@ def failed_writes_leave_a_beginning(program):
 TOP = Path(__file__).resolve().parents[2]
 PAGES = ["README.md", *sorted(f"docs/{path.name}" for path in (TOP / "docs").glob("*.md"))]
 
+# The page of the other program, whose commands crates/cargo_ssr/page.py runs, like those of the README for it.
+PAGE_OF_CARGO = "docs/cargo-ssr.md"
+
 # Commands of the README that are not run here, each with the reason.
 NOT_RUN = {
     "(cd crates/ssr && printf 'fn f() {1 + 2 + 3 + 4}' | rt try -- '$a + $b ==>> $b + $a')\n": "it builds the program anew; "
@@ -419,11 +422,15 @@ def table(heading):
 @example
 def commands_of_pages_write_what_is_shown(program):
     for page in PAGES:
+        if page == PAGE_OF_CARGO:
+            continue
         with tempfile.TemporaryDirectory() as room:
             # the facts files that the commands name
             (Path(room) / "facts.json").write_text(blocks("docs/facts.md", "")[0])
             shutil.copytree(TOP / "docs/queue", Path(room) / "queue")
             for command, shown in commands(page):
+                if command.startswith("cargo ssr "):
+                    continue
                 is_shown = shell(command, program, room)[0] == shown
                 if not is_shown:
                     print(f"{page}: another text is written by {command}", end="")
@@ -500,17 +507,18 @@ def links_lead_somewhere(_):
 def install_puts_the_program_on_the_path(program):
     with tempfile.TemporaryDirectory() as room:
         room = Path(room)
-        (room / "crates/ssr").mkdir(parents=True)
+        for crate in ["ssr", "cargo_ssr"]:
+            (room / "crates" / crate).mkdir(parents=True)
         (room / "bin").mkdir()
         shutil.copy(TOP / "install", room)
-        # in the place of a proof and a build, the built program
+        # in the place of a proof and a build, the built program, under the name of each crate
         stand_in = room / "bin/rt"
-        stand_in.write_text(f'#!/bin/sh\n[ "$1" = run ] && mkdir -p out && cp "{program}" out/ssr\n')
+        stand_in.write_text(f'#!/bin/sh\n[ "$1" = run ] && mkdir -p out && cp "{program}" "out/$(basename "$PWD")"\n')
         stand_in.chmod(0o755)
         environment = {**os.environ, "HOME": str(room / "home"), "PATH": f"{room / 'bin'}:{os.environ['PATH']}"}
         for words, place in [([], room / "home/.local/bin/ssr"), (["there"], room / "there/ssr")]:
             done = subprocess.run([room / "install", *words], cwd=room, env=environment, capture_output=True, text=True)
-            yield done.returncode == 0 and f"installed {place}\n" in done.stdout
+            yield done.returncode == 0 and f"installed {place}\n" in done.stdout and (place.parent / "cargo-ssr").is_file()
             yield gives(str(place), [SWAP], SUM, SWAPPED)
 
 

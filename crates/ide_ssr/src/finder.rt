@@ -12,7 +12,7 @@ ghost use Rattle.ide_ssr.specs.Edits.{Edits, HaveTemplates};
 ghost use Rattle.ide_ssr.specs.Finder.{finder_of};
 ghost use Rattle.ide_ssr.specs.Making.{MakesFinder, TellsRefusal};
 ghost use Rattle.ide_ssr.specs.Nesting.{ShowKept};
-ghost use Rattle.ide_ssr.specs.Private.Found.{IsAllFound};
+ghost use Rattle.ide_ssr.specs.Private.Found.{IsEnoughFound};
 ghost use Rattle.ide_ssr.specs.Searching.{IsOutcome};
 ghost use Rattle.ide_ssr_leading.specs.Tries.{IsMost};
 
@@ -234,9 +234,9 @@ impl<'a, S: Semantics> MatchFinder<'a, S> {
         })
     }
 
-    /// All matches of the rules, found where usages lead.
+    /// All matches of the rules that may be kept, found where usages lead.
     fn found_where_led(&self, tries: &mut Tries) -> Result<Vec<FoundMatch>, AllocError>
-        ensures found { IfOk result (λ found. IsAllFound (finder_of S.meanings self.now) found.items) }
+        ensures found { IfOk result (λ found. IsEnoughFound (finder_of S.meanings self.now) found.items) }
         ensures count { IfOk result (λ _. (most : ℕ) → IsMost self.now.workspace (S.meanings self.now.semantics) self.now.context self.now.rules most → tries.new ≤ tries.old + most) }
     {
         find_led(
@@ -251,7 +251,7 @@ impl<'a, S: Semantics> MatchFinder<'a, S> {
 
     /// What is found, with the kept ones nested.
     fn nested(&self, found: Vec<FoundMatch>) -> Result<Vec<Match<'a>>, AllocError>
-        requires { IsAllFound (finder_of S.meanings self.now) found.items }
+        requires { IsEnoughFound (finder_of S.meanings self.now) found.items }
         ensures shows { IfOk result (λ matches. ShowKept (finder_of S.meanings self.now) matches.items) }
         ensures binds { IfOk result (λ matches. BindOnce self.now.rules matches.items) }
     {
@@ -261,7 +261,7 @@ impl<'a, S: Semantics> MatchFinder<'a, S> {
 
     /// The kept ones of all matches of the rules, and their lists.
     fn outcome(&self, found: Vec<FoundMatch>) -> Result<(KeptMatches<'a>, Lists), AllocError>
-        requires { IsAllFound (finder_of S.meanings self.now) found.items }
+        requires { IsEnoughFound (finder_of S.meanings self.now) found.items }
         ensures { IfOk result (λ outcome. IsOutcome (finder_of S.meanings self.now) outcome.0 outcome.1) }
     {
         let kept = keep(self.alloc, self.workspace, found)?;

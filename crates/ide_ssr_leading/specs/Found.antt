@@ -1,5 +1,5 @@
 -- What a search that is led by usages tries and finds.
-use Rattle.std.specs.Prelude.{ℕ, ◌≡◌, ◌↔◌, ◌+◌, ◌<◌, ◌^◌, List, Some, IfSome, slice_get, Contains}
+use Rattle.std.specs.Prelude.{ℕ, ◌≡◌, ◌+◌, ◌<◌, ◌^◌, List, Some, IfSome, slice_get}
 use Rattle.ssr_syntax_tree.specs.Syntax.{node_count}
 use Rattle.ssr_base_trees.specs.declared.ids.NodeId.{NodeId}
 use Rattle.ssr_base_trees.specs.Meanings.{Meanings}
@@ -9,7 +9,6 @@ use Rattle.ide_ssr_resolving.specs.Resolved.{IsResolvedBy}
 use Rattle.ide_ssr_bindings.specs.declared.bindings.Binding.{Binding}
 use Rattle.ide_ssr_bindings.specs.Found.{FoundMatch}
 use Rattle.ide_ssr_search.specs.Context.{Context}
-use Rattle.ide_ssr_search.specs.Found.{IsFound}
 use Rattle.ide_ssr_search.specs.Permitted.{IsPermitted}
 use Rattle.ide_ssr_search.specs.WholeMatches.{IsWholeMatch}
 use Rattle.ide_ssr_leading.specs.Leading.{picked_path, IsLedTo}
@@ -36,7 +35,3 @@ abbrev pub LedIsComplete : Workspace → Meanings → Context → Type 0
 LedIsComplete w m context =
     (rule : ResolvedRule) (x : NodeId) (bindings : List Binding)
     → IsResolvedBy m rule → IsPermitted w context rule x → IsWholeMatch (trees w) m rule x bindings → IsTried w m context rule x
-
--- exactly what is found, in any order
-abbrev pub FindAll : Workspace → Meanings → Context → List ResolvedRule → List FoundMatch → Type 0
-FindAll w m context rules ms = (found : FoundMatch) → Contains ms found ↔ IsFound w m context rules found

@@ -1,12 +1,13 @@
 //! All matches of rules, found at the nodes that usages lead to, and where no path leads the search by the scan.
-ghost use Rattle.std.specs.Prelude.{ℕ, ◌≡◌, ◌+◌, ◌≤◌, ◌↔◌, false, IsTrue, All, Contains, IfOk, OnOk, length};
+ghost use Rattle.std.specs.Prelude.{ℕ, ◌≡◌, ◌+◌, ◌≤◌, false, IsTrue, All, IfOk, OnOk, length};
 ghost use Rattle.ssr_base_trees.specs.Workspace.{trees};
 ghost use Rattle.ssr_base_trees.specs.Built.{IsBuilt};
-ghost use Rattle.ide_ssr_bindings.specs.Found.{FoundMatch as MatchValue, AreMatches};
+ghost use Rattle.ide_ssr_bindings.specs.Found.{AreMatches};
+ghost use Rattle.ide_ssr_nesting.specs.Kept.{AreEnough};
 ghost use Rattle.ide_ssr_resolving.specs.Resolved.{IsResolvedBy};
-ghost use Rattle.ide_ssr_search.specs.Found.{AreFoundOf};
+ghost use Rattle.ide_ssr_search.specs.Found.{IsFound, IsFoundOf};
 ghost use Rattle.ide_ssr_search.specs.Tries.{IsMostOf};
-ghost use Rattle.ide_ssr_leading.specs.Found.{IsLedFound, FindAll};
+ghost use Rattle.ide_ssr_leading.specs.Found.{IsLedFound};
 ghost use Rattle.ide_ssr_leading.specs.Tries.{IsMost};
 ghost use Rattle.ide_ssr_leading.specs.Private.Finding.{AreLedFoundTo, are_others, usages_in};
 
@@ -90,7 +91,7 @@ impl<'a> Searched<'a> {
         Ok(LedMatches { found, others })
     }
 
-    /// The matches of the rules that no path leads. Where each is led no node is gone through.
+    /// The matches of the rules that no path leads, but for shadowed ones. Where each is led no node is gone through.
     fn find_others<S: Semantics>(
         &self,
         alloc: Global,
@@ -98,7 +99,7 @@ impl<'a> Searched<'a> {
         others: &[bool],
         tries: &mut Tries,
     ) -> Result<Vec<FoundMatch>, AllocError>
-        ensures found { IfOk result (λ found. AreFoundOf self.now.workspace.now (S.meanings semantics.now) self.now.context.now self.now.rules.now others.now found.items) }
+        ensures found { IfOk result (λ found. AreEnough (trees self.now.workspace.now) (IsFoundOf self.now.workspace.now (S.meanings semantics.now) self.now.context.now self.now.rules.now others.now) found.items) }
         ensures count { IfOk result (λ _. (most : ℕ) → IsMostOf self.now.workspace.now self.now.context.now self.now.rules.now others.now most → tries.new ≤ tries.old + most) }
     {
         if are_unset(others) {
@@ -115,7 +116,7 @@ impl<'a> Searched<'a> {
         )
     }
 
-    /// All that the search finds: the matches of the rules that a path leads, and behind them those of the others.
+    /// All that the search finds, but for shadowed ones: the matches of the rules that a path leads, and behind them those of the others.
     fn find_all<S: Semantics>(
         &self,
         alloc: Global,
@@ -124,7 +125,7 @@ impl<'a> Searched<'a> {
     ) -> Result<Vec<FoundMatch>, AllocError>
         requires { IsBuilt self.now.workspace.now }
         ensures count { IfOk result (λ _. (most : ℕ) → IsMost self.now.workspace.now (S.meanings semantics.now) self.now.context.now self.now.rules.now most → tries.new ≤ tries.old + most) }
-        ensures led { IfOk result (λ all. (found : MatchValue) → Contains all.items found ↔ IsLedFound self.now.workspace.now (S.meanings semantics.now) self.now.context.now self.now.rules.now found) }
+        ensures led { IfOk result (λ all. AreEnough (trees self.now.workspace.now) (IsLedFound self.now.workspace.now (S.meanings semantics.now) self.now.context.now self.now.rules.now) all.items) }
     {
         let led = self.find_by_usages(alloc, semantics, tries)?;
         let LedMatches { mut found, others } = led;
@@ -134,8 +135,9 @@ impl<'a> Searched<'a> {
     }
 }
 
-/// All matches of the rules in a workspace, whose paths stand for what the provider tells. A rule is tried where usages of its
-/// picked path lead; without one, at each node where it is permitted. The matches come in no order of use.
+/// All matches of the rules in a workspace, whose paths stand for what the provider tells, but for some that are shadowed and so
+/// never kept. A rule is tried where usages of its picked path lead; without one, at each node where it is permitted. The
+/// matches come in no order of use.
 pub fn find_led<S: Semantics>(
     alloc: Global,
     workspace: &Trees,
@@ -145,7 +147,7 @@ pub fn find_led<S: Semantics>(
     tries: &mut Tries,
 ) -> Result<Vec<FoundMatch>, AllocError>
     requires known { All (IsResolvedBy (S.meanings semantics.now)) rules.now }
-    ensures found { IfOk result (λ all. FindAll workspace.now (S.meanings semantics.now) context.now rules.now all.items) }
+    ensures found { IfOk result (λ all. AreEnough (trees workspace.now) (IsFound workspace.now (S.meanings semantics.now) context.now rules.now) all.items) }
     ensures matches { IfOk result (λ all. AreMatches (trees workspace.now) all.items) }
     ensures count { IfOk result (λ _. (most : ℕ) → IsMost workspace.now (S.meanings semantics.now) context.now rules.now most → tries.new ≤ tries.old + most) }
 {

@@ -14,6 +14,7 @@ mod Keeping
 mod Ahead
 mod Sorted
 mod OneKept
+mod Shadowed
 mod Listing
 mod Listed
 mod OneHolding

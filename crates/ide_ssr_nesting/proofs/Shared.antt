@@ -7,6 +7,8 @@ pub use Rattle.ide_ssr_nesting.proofs.Over.{one_way, over_before, not_over_itsel
 -- the kept matches, and what holds them
 pub use Rattle.ide_ssr_nesting.proofs.OneKept.{one_kept}
 pub use Rattle.ide_ssr_nesting.proofs.SomeKept.{kept_exist}
+-- what is shadowed is never kept
+pub use Rattle.ide_ssr_nesting.proofs.Shadowed.{lies_at_node, kept_of_enough}
 pub use Rattle.ide_ssr_nesting.proofs.OneHolding.{held_behind, one_holding}
 -- their lists
 pub use Rattle.ide_ssr_nesting.proofs.SomeListing.{lists_exist}

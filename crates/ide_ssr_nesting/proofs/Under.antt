@@ -1,8 +1,8 @@
 -- Matches in placeholders of others.
-use Rattle.std.proofs.Common.{◌≡◌, ℕ, ◌+◌, ◌<◌, ◌≤◌, ◌↔◌, inl, inr, Bool, List, length, get_or, Option, Some, None, refl, sym, ap, ◌∙◌, subst, arith}
+use Rattle.std.proofs.Common.{◌≡◌, ℕ, ◌+◌, ◌<◌, ◌≤◌, ◌↔◌, inl, inr, Bool, true, false, List, length, get_or, Option, Some, None, refl, sym, ap, ◌∙◌, subst, arith}
 use Rattle.std.proofs.lemmas.Bool.{cases_order}
 use Rattle.std.proofs.lemmas.Option.{same_Some, slice_get_within, slice_get-get_or, get_or_from_slice_get}
-use Rattle.std.specs.Prelude.{IsTrue}
+use Rattle.std.specs.Prelude.{IsTrue, MatchOption, is_some}
 use Rattle.std.specs.Option.{IsSomeAnd}
 use Rattle.ssr_base_trees.specs.declared.ids.NodeId.{NodeId}
 use Rattle.ssr_base_trees.specs.Workspace.{PlacedTree, FileSpan, original_range}
@@ -134,3 +134,8 @@ pub none_at_all : (trees : List PlacedTree) (k m : FoundMatch) (bs : List Bindin
     → (n : ℕ) → LiesUnder trees k m n → ⊥
 none_at_all trees k m bs i is all before n under =
     before n (let within = slice_get_within k.bindings n under.binding under.is in omega (arith, ap length is)) under
+
+-- there is such a place exactly if one is told
+pub some_place : (P : ℕ → Type 0) (place : Option ℕ) → MatchOption place ((i : ℕ) → P i → ⊥) P → IsTrue (is_some place) ↔ ((i : ℕ) × P i)
+some_place P None none = (λ is. (let e : false ≡ true = is in cc), λ at. absurd (none at.0 at.1))
+some_place P (Some i) at = (λ is. (i, at), λ _. refl)

@@ -36,3 +36,19 @@ ComesBefore trees k m = Precedes trees k.node m.node ⊎ ((k.node ≡ m.node) ×
 pub record AreKept (trees : List PlacedTree) (found kept : List FoundMatch) : Type 0 where
   pub in_order : AllPairs (ComesBefore trees) kept
   pub are : (m : FoundMatch) → Contains kept m ↔ (Contains found m × Fits trees kept m)
+
+-- ** What need not be found.
+
+-- m stands at the node of k, which has an earlier rule, and in none of its placeholders
+pub record IsShadowedBy (trees : List PlacedTree) (k m : FoundMatch) : Type 0 where
+  pub node : k.node ≡ m.node
+  pub rule : k.rule < m.rule
+  pub outside : LiesInPlaceholder trees k m → ⊥
+
+abbrev pub IsShadowed : List PlacedTree → List FoundMatch → FoundMatch → Type 0
+IsShadowed trees ms m = (k : FoundMatch) × Contains ms k × IsShadowedBy trees k m
+
+-- These are found, and what else is found is shadowed by one of these. That is never kept, as the law `laws::keeping` says.
+pub record AreEnough (trees : List PlacedTree) (IsFound : FoundMatch → Type 0) (ms : List FoundMatch) : Type 0 where
+  pub found : (m : FoundMatch) → Contains ms m → IsFound m
+  pub enough : (m : FoundMatch) → IsFound m → Contains ms m ⊎ IsShadowed trees ms m

@@ -10,7 +10,7 @@ use Rattle.ssr_base_trees.specs.Laws.{IsBelow}
 use Rattle.ide_ssr_bindings.specs.Found.{FoundMatch, AreMatches}
 use Rattle.ide_ssr_nesting.specs.declared.holders.Holder.{Holder}
 use Rattle.ide_ssr_nesting.specs.Order.{place, end_place}
-use Rattle.ide_ssr_nesting.specs.Kept.{AreKept, IsOver, LiesUnder}
+use Rattle.ide_ssr_nesting.specs.Kept.{AreKept, AreEnough, IsOver, LiesUnder}
 use Rattle.ide_ssr_nesting.specs.Holding.{Kept, IsKept}
 use Rattle.ide_ssr_nesting.specs.Lists.{listing_key, Listing, listed, AreLists}
 
@@ -41,6 +41,12 @@ OneKept trees =
     (found again kept other : List FoundMatch)
     → AreMatches trees found → ((m : FoundMatch) → Contains found m ↔ Contains again m)
     → AreKept trees found kept → AreKept trees again other → kept ≡ other
+
+-- of matches that are enough the same ones are kept as of all that are found
+abbrev pub KeptOfEnough : List PlacedTree → Type 0
+KeptOfEnough trees =
+    (found enough kept : List FoundMatch)
+    → AreEnough trees (Contains found) enough → AreKept trees enough kept ↔ AreKept trees found kept
 
 -- a kept match lies in exactly one placeholder of each kept match over it
 abbrev pub LiesInOnePlaceholder : List PlacedTree → Type 0

@@ -6,7 +6,7 @@ ghost use Rattle.ssr_base_trees.specs.Workspace.{trees, file_span_of};
 ghost use Rattle.ssr_base_trees.specs.Built.{IsNodeOf, IsBuilt};
 ghost use Rattle.ssr_base_trees.specs.Laws.{LiesIn};
 ghost use Rattle.ide_ssr_bindings.specs.Found.{IsMatch};
-ghost use Rattle.ide_ssr_nesting.specs.Kept.{IsOver, LiesUnder, Fits, ComesBefore, AreKept};
+ghost use Rattle.ide_ssr_nesting.specs.Kept.{IsOver, LiesUnder, LiesInPlaceholder, Fits, ComesBefore, AreKept};
 ghost use Rattle.ide_ssr_nesting.specs.Holding.{IsOutermost, IsHeld, AreHeld};
 ghost use Rattle.ide_ssr_nesting.specs.Private.Nearest.{IsNearestAt, IsKeptIfFits};
 
@@ -63,6 +63,13 @@ fn binding_over(workspace: &Trees, k: &FoundMatch, m: &FoundMatch) -> Option<usi
         }
     }
     None
+}
+
+/// Whether a placeholder of the match holds all of its node. Only then is what a later rule matches at this node ever kept.
+pub fn holds_own_node(workspace: &Trees, m: &FoundMatch) -> bool
+    ensures { IsTrue result ↔ LiesInPlaceholder (trees workspace.now) m.now m.now }
+{
+    binding_over(workspace, m, m).is_some()
 }
 
 /// The place of the match that a holder names.

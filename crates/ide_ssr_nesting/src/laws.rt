@@ -2,7 +2,7 @@
 ghost use Rattle.ssr_base_trees.specs.Workspace.{Workspace as WorkspaceValue, trees};
 ghost use Rattle.ssr_base_trees.specs.Built.{IsBuilt};
 ghost use Rattle.ide_ssr_nesting.specs.Holding.{Kept, IsKept};
-ghost use Rattle.ide_ssr_nesting.specs.Laws.{BelowIsBetween, OnePlaceEach, OneWayUp, KeptExist, OneKept, LiesInOnePlaceholder, ListsWhatIsHeld, ListsInOrder, ListsEachOnce, ListsExist, OneListing, HeldBehind, OneHolding};
+ghost use Rattle.ide_ssr_nesting.specs.Laws.{BelowIsBetween, OnePlaceEach, OneWayUp, KeptExist, OneKept, KeptOfEnough, LiesInOnePlaceholder, ListsWhatIsHeld, ListsInOrder, ListsEachOnce, ListsExist, OneListing, HeldBehind, OneHolding};
 
 /// What stands below a node are the nodes between its place and its end, and no two nodes have one place. Of two nodes above a
 /// third one, one stands above the other, or they are the same.
@@ -13,10 +13,11 @@ pub fn ordering()
 {}
 
 /// Of matches that are found some are kept. Which ones doesn't depend on the order in which they are found, nor on finding one
-/// twice. A kept match lies in exactly one placeholder of each kept match over it.
+/// twice, nor on finding what is shadowed. A kept match lies in exactly one placeholder of each kept match over it.
 pub fn keeping()
     ensures exist { (w : WorkspaceValue) → IsBuilt w → KeptExist w }
     ensures one_kept { (w : WorkspaceValue) → IsBuilt w → OneKept (trees w) }
+    ensures of_enough { (w : WorkspaceValue) → KeptOfEnough (trees w) }
     ensures one_placeholder { (w : WorkspaceValue) → IsBuilt w → LiesInOnePlaceholder (trees w) }
 {}
 

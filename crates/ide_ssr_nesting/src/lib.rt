@@ -11,6 +11,7 @@ mod order;
 mod sorting;
 
 pub use holders::Holder;
+pub use kept::holds_own_node;
 pub use kept_matches::{KeptMatches, keep};
 pub use lists::Lists;
 pub use order::{is_above, precedes};

@@ -1,6 +1,6 @@
 -- What a search has found, step by step.
 use Rattle.std.proofs.Common.{Bool, true, false, ◌≡◌, ℕ, ◌+◌, ◌<◌, ◌≤◌, List, [], ◌∷◌, ◌++◌, length, get_or, Option, Some, None, refl, sym, ap, ◌∙◌, subst, inl, inr, ◌⊎◌, arith, append-nil}
-use Rattle.std.specs.Prelude.{slice_get, replicate, Contains}
+use Rattle.std.specs.Prelude.{◌↔◌, IsTrue, not, slice_get, replicate, Contains}
 use Rattle.std.specs.Option.{option_map}
 use Rattle.std.proofs.lemmas.Bool.{cases_lt}
 use Rattle.std.proofs.lemmas.List.Elements.{All-nil, All-push, All-weaker, All-contains, Contains-append_left, Contains-push}
@@ -15,11 +15,13 @@ use Rattle.ssr_base_trees.specs.Workspace.{Workspace, PlacedTree, trees, with_nu
 use Rattle.ide_ssr_resolved_rule.specs.Resolved.{ResolvedRule}
 use Rattle.ide_ssr_bindings.specs.declared.bindings.Binding.{Binding}
 use Rattle.ide_ssr_bindings.specs.Found.{FoundMatch}
+use Rattle.ide_ssr_nesting.specs.Kept.{LiesInPlaceholder, IsShadowed, AreEnough}
+use Rattle.ide_ssr_nesting.proofs.Shared.{lies_at_node}
 use Rattle.ide_ssr_search.specs.Context.{Context}
 use Rattle.ide_ssr_search.specs.Permitted.{IsOpen, IsPermitted}
 use Rattle.ide_ssr_search.specs.WholeMatches.{IsWholeMatch}
-use Rattle.ide_ssr_search.specs.Found.{IsFound, IsWanted, IsFoundOf, Precedes, AreFound, AreFoundOf}
-use Rattle.ide_ssr_search.specs.Private.Scan.{IsBefore, AreFoundBefore, TellsMatch, found_of, Adds}
+use Rattle.ide_ssr_search.specs.Found.{IsFound, IsWanted, IsFoundOf, Precedes, AreFound}
+use Rattle.ide_ssr_search.specs.Private.Scan.{IsBefore, AreFoundBut, AreFoundBefore, ShadowLater, TellsMatch, found_of, Adds}
 use Rattle.ssr_syntax_tree.proofs.Lists.{pairs_none}
 use Rattle.ide_ssr_search.proofs.Placed.{whole_binds}
 use Rattle.ssr_base_trees.proofs.Shared.{some_and, placed_within}
@@ -31,6 +33,10 @@ use Rattle.ide_ssr_search.proofs.Trees.{placed_there}
 before_rule : (t n r : ℕ) (m : FoundMatch) → IsBefore t n r m → IsBefore t n (r + 1) m
 before_rule t n r m (inl tree) = inl tree
 before_rule t n r m (inr same) = inr (same.0, elim same.1 [ inl node ↦ inl node | inr here ↦ let low = here.1 in inr (here.0, omega arith) ])
+
+any_rule : (t n r : ℕ) (m : FoundMatch) → IsBefore t n 0 m → IsBefore t n r m
+any_rule t n r m (inl tree) = inl tree
+any_rule t n r m (inr same) = inr (same.0, elim same.1 [ inl node ↦ inl node | inr none ↦ absurd (omega (arith, none.1)) ])
 
 before_node : (t n r : ℕ) (m : FoundMatch) → IsBefore t n r m → IsBefore t (n + 1) 0 m
 before_node t n r m (inl tree) = inl tree
@@ -102,10 +108,11 @@ module _ (w : Workspace) (meanings : Meanings) (context : Context) (rules : List
       let made : ℕ → NodeId → List Binding → FoundMatch = λ rule node bindings. record { rule = rule; node = node; bindings = bindings } in
       ap (λ r. made r f.node f.bindings) rule ∙ ap (λ x. made g.rule x f.bindings) node ∙ ap (made g.rule x) bindings
 
-module _ (w : Workspace) (meanings : Meanings) (context : Context) (rules : List ResolvedRule) (wanted : List Bool) where
+module _ (w : Workspace) (meanings : Meanings) (context : Context) (rules : List ResolvedRule) (wanted : List Bool) (IsLeftOut : List FoundMatch → FoundMatch → Type 0)
+    (stays_out : (ms : List FoundMatch) (new f : FoundMatch) → IsLeftOut ms f → IsLeftOut (ms ++ new ∷ []) f) where
   -- what is found stays while no further match is passed
-  passed : (t n r u m q : ℕ) (ms : List FoundMatch) → AreFoundBefore w meanings context rules wanted t n r ms → ((f : FoundMatch) → IsBefore t n r f → IsBefore u m q f)
-      → ((f : FoundMatch) → IsFoundOf w meanings context rules wanted f → IsBefore u m q f → IsBefore t n r f) → AreFoundBefore w meanings context rules wanted u m q ms
+  passed : (t n r u m q : ℕ) (ms : List FoundMatch) → AreFoundBut IsLeftOut w meanings context rules wanted t n r ms → ((f : FoundMatch) → IsBefore t n r f → IsBefore u m q f)
+      → ((f : FoundMatch) → IsFoundOf w meanings context rules wanted f → IsBefore u m q f → IsBefore t n r f) → AreFoundBut IsLeftOut w meanings context rules wanted u m q ms
   passed t n r u m q ms so_far on back = record {
     in_order = so_far.in_order;
     before = All-weaker (IsBefore t n r) (IsBefore u m q) on ms so_far.before;
@@ -113,7 +120,7 @@ module _ (w : Workspace) (meanings : Meanings) (context : Context) (rules : List
     complete = λ f is before. so_far.complete f is (back f is before);
   }
 
-  pub found_none : AreFoundBefore w meanings context rules wanted 0 0 0 []
+  pub found_none : AreFoundBut IsLeftOut w meanings context rules wanted 0 0 0 []
   found_none = record {
     in_order = pairs_none Precedes;
     before = All-nil (IsBefore 0 0 0);
@@ -128,10 +135,10 @@ module _ (w : Workspace) (meanings : Meanings) (context : Context) (rules : List
   -- ** At a node.
 
   pub added_by : (t n place : ℕ) (s : Syntax) (rule : ResolvedRule) (ms : List FoundMatch) (bindings : Option (List Binding)) → tree_of w t ≡ Some s → slice_get rules place ≡ Some rule → IsWanted wanted place
-      → AreFoundBefore w meanings context rules wanted t n place ms → TellsMatch w meanings context rule (node_id t n) bindings
-      → AreFoundBefore w meanings context rules wanted t n (place + 1) (ms ++ found_of place (node_id t n) bindings)
+      → AreFoundBut IsLeftOut w meanings context rules wanted t n place ms → TellsMatch w meanings context rule (node_id t n) bindings
+      → AreFoundBut IsLeftOut w meanings context rules wanted t n (place + 1) (ms ++ found_of place (node_id t n) bindings)
   added_by t n place s rule ms None tree at flag so_far tells =
-      subst (AreFoundBefore w meanings context rules wanted t n (place + 1)) (sym (append-nil ms))
+      subst (AreFoundBut IsLeftOut w meanings context rules wanted t n (place + 1)) (sym (append-nil ms))
       (passed t n place t n (place + 1) ms so_far (before_rule t n place)
       (λ f is before.
       elim (rule_cases t n place f before) [
@@ -150,27 +157,31 @@ module _ (w : Workspace) (meanings : Meanings) (context : Context) (rules : List
         are = All-push (IsFoundOf w meanings context rules wanted) ms new so_far.are (found, flag);
         complete = λ f is before.
             elim (rule_cases t n place f before) [
-              | inl earlier ↦ Contains-append_left ms (new ∷ []) f (so_far.complete f is earlier)
+              | inl earlier ↦
+                  elim (so_far.complete f is earlier) [
+                    | inl had ↦ inl (Contains-append_left ms (new ∷ []) f had)
+                    | inr out ↦ inr (stays_out ms new f out)
+                  ]
               | inr here ↦
-                  subst (Contains (ms ++ new ∷ [])) (one_match w meanings context rules new f found is.0 (sym (at_id t n f.node here.0 here.1)) (sym here.2)) (Contains-push ms new)
+                  inl (subst (Contains (ms ++ new ∷ [])) (one_match w meanings context rules new f found is.0 (sym (at_id t n f.node here.0 here.1)) (sym here.2)) (Contains-push ms new))
             ];
       }
 
   pub found_more : (t n place : ℕ) (s : Syntax) (rule : ResolvedRule) (old new : List FoundMatch) → tree_of w t ≡ Some s → place < length rules → rule ≡ get_or rules place rule → IsWanted wanted place
-      → AreFoundBefore w meanings context rules wanted t n place old → Adds w meanings context rule place (node_id t n) old new → AreFoundBefore w meanings context rules wanted t n (place + 1) new
+      → AreFoundBut IsLeftOut w meanings context rules wanted t n place old → Adds w meanings context rule place (node_id t n) old new → AreFoundBut IsLeftOut w meanings context rules wanted t n (place + 1) new
   found_more t n place s rule old new tree within read flag so_far adds =
-      subst (AreFoundBefore w meanings context rules wanted t n (place + 1)) (sym adds.added)
+      subst (AreFoundBut IsLeftOut w meanings context rules wanted t n (place + 1)) (sym adds.added)
       (added_by t n place s rule old adds.bindings tree (slice_get-get_or rules place rule within ∙ ap Some (sym read)) flag so_far adds.tells)
 
   -- a rule that isn't wanted is passed over
-  pub found_unwanted : (t n place : ℕ) (ms : List FoundMatch) → (IsWanted wanted place → ⊥) → AreFoundBefore w meanings context rules wanted t n place ms → AreFoundBefore w meanings context rules wanted t n (place + 1) ms
+  pub found_unwanted : (t n place : ℕ) (ms : List FoundMatch) → (IsWanted wanted place → ⊥) → AreFoundBut IsLeftOut w meanings context rules wanted t n place ms → AreFoundBut IsLeftOut w meanings context rules wanted t n (place + 1) ms
   found_unwanted t n place ms unwanted so_far =
       passed t n place t n (place + 1) ms so_far (before_rule t n place)
       (λ f is before.
       elim (rule_cases t n place f before) [ inl earlier ↦ earlier | inr here ↦ absurd (unwanted (subst (IsWanted wanted) here.2 is.1)) ])
 
   -- all rules are tried
-  pub found_at : (t n place : ℕ) (ms : List FoundMatch) → length rules ≤ place → AreFoundBefore w meanings context rules wanted t n place ms → AreFoundBefore w meanings context rules wanted t (n + 1) 0 ms
+  pub found_at : (t n place : ℕ) (ms : List FoundMatch) → length rules ≤ place → AreFoundBut IsLeftOut w meanings context rules wanted t n place ms → AreFoundBut IsLeftOut w meanings context rules wanted t (n + 1) 0 ms
   found_at t n place ms all so_far =
       passed t n place t (n + 1) 0 ms so_far (before_node t n place)
       (λ f is before.
@@ -183,8 +194,26 @@ module _ (w : Workspace) (meanings : Meanings) (context : Context) (rules : List
         | inr here ↦ inr (here.0, inr (here.1, omega (arith, slice_get_within rules f.rule is.0.rule is.0.is_rule)))
       ])
 
+  -- all rules behind the last one are left out
+  pub found_last : (t n place : ℕ) (ms : List FoundMatch) → ((m : FoundMatch) → node_id t n ≡ m.node → place < m.rule → IsLeftOut ms m)
+      → AreFoundBut IsLeftOut w meanings context rules wanted t n (place + 1) ms → AreFoundBut IsLeftOut w meanings context rules wanted t (n + 1) 0 ms
+  found_last t n place ms out so_far = record {
+    in_order = so_far.in_order;
+    before = All-weaker (IsBefore t n (place + 1)) (IsBefore t (n + 1) 0) (before_node t n (place + 1)) ms so_far.before;
+    are = so_far.are;
+    complete = λ f is before.
+        elim (node_cases t n f before) [
+          | inl earlier ↦ so_far.complete f is (any_rule t n (place + 1) f earlier)
+          | inr here ↦
+              elim (cases_lt place f.rule) [
+                | inl later ↦ inr (out f (sym (at_id t n f.node here.0 here.1)) later)
+                | inr tried ↦ so_far.complete f is (inr (here.0, inr (here.1, omega arith)))
+              ]
+        ];
+  }
+
   -- nothing is found at a node that isn't open
-  pub found_nothing : (t n : ℕ) (ms : List FoundMatch) → (IsOpen w context.restrictions (node_id t n) → ⊥) → AreFoundBefore w meanings context rules wanted t n 0 ms → AreFoundBefore w meanings context rules wanted t (n + 1) 0 ms
+  pub found_nothing : (t n : ℕ) (ms : List FoundMatch) → (IsOpen w context.restrictions (node_id t n) → ⊥) → AreFoundBut IsLeftOut w meanings context rules wanted t n 0 ms → AreFoundBut IsLeftOut w meanings context rules wanted t (n + 1) 0 ms
   found_nothing t n ms shut so_far =
       passed t n 0 t (n + 1) 0 ms so_far (before_node t n 0)
       (λ f is before.
@@ -196,7 +225,7 @@ module _ (w : Workspace) (meanings : Meanings) (context : Context) (rules : List
   -- nor at one that no rule matches
   pub found_unmatched : (t n : ℕ) (ms : List FoundMatch)
       → ((place : ℕ) (rule : ResolvedRule) (bindings : List Binding) → slice_get rules place ≡ Some rule → IsWanted wanted place → IsWholeMatch (trees w) meanings rule (node_id t n) bindings → ⊥)
-      → AreFoundBefore w meanings context rules wanted t n 0 ms → AreFoundBefore w meanings context rules wanted t (n + 1) 0 ms
+      → AreFoundBut IsLeftOut w meanings context rules wanted t n 0 ms → AreFoundBut IsLeftOut w meanings context rules wanted t (n + 1) 0 ms
   found_unmatched t n ms none so_far =
       passed t n 0 t (n + 1) 0 ms so_far (before_node t n 0)
       (λ f is before.
@@ -209,8 +238,8 @@ module _ (w : Workspace) (meanings : Meanings) (context : Context) (rules : List
 
   -- ** At a tree.
 
-  pub found_in : (t n : ℕ) (s : Syntax) (ms : List FoundMatch) → tree_of w t ≡ Some s → 1 + node_count s.children ≤ n → AreFoundBefore w meanings context rules wanted t n 0 ms
-      → AreFoundBefore w meanings context rules wanted (t + 1) 0 0 ms
+  pub found_in : (t n : ℕ) (s : Syntax) (ms : List FoundMatch) → tree_of w t ≡ Some s → 1 + node_count s.children ≤ n → AreFoundBut IsLeftOut w meanings context rules wanted t n 0 ms
+      → AreFoundBut IsLeftOut w meanings context rules wanted (t + 1) 0 0 ms
   found_in t n s ms tree all so_far =
       passed t n 0 (t + 1) 0 0 ms so_far (before_tree t n 0)
       (λ f is before.
@@ -224,21 +253,48 @@ module _ (w : Workspace) (meanings : Meanings) (context : Context) (rules : List
 
   -- ** At the end.
 
-  pub found_all : (t : ℕ) (ms : List FoundMatch) → None ≡ tree_of w t → AreFoundBefore w meanings context rules wanted t 0 0 ms → AreFoundOf w meanings context rules wanted ms
-  found_all t ms none so_far = record {
-    in_order = so_far.in_order;
-    are = λ f. (
-      λ had. All-contains (IsFoundOf w meanings context rules wanted) ms f so_far.are had,
-      λ is.
-          let at = some_and (with_number (trees w) f.node.tree) (λ p. HasNode p.syntax f.node.node.0) is.0.permitted.open_to_all.node in
-          let within = placed_within (trees w) f.node.tree at.0 at.1 in
-          so_far.complete f is (inl (elim (cases_lt f.node.tree t) [
-            | inl before ↦ before
-            | inr behind ↦
-                let there = placed_there (trees w) t (omega arith) in
-                absurd (none-some there.0.syntax (none ∙ ap (option_map (λ (p : PlacedTree). p.syntax)) there.1))
-          ])),
-    );
+  pub found_all : (t : ℕ) (ms : List FoundMatch) → None ≡ tree_of w t → AreFoundBut IsLeftOut w meanings context rules wanted t 0 0 ms
+      → (f : FoundMatch) → IsFoundOf w meanings context rules wanted f → Contains ms f ⊎ IsLeftOut ms f
+  found_all t ms none so_far f is =
+      let at = some_and (with_number (trees w) f.node.tree) (λ p. HasNode p.syntax f.node.node.0) is.0.permitted.open_to_all.node in
+      let within = placed_within (trees w) f.node.tree at.0 at.1 in
+      so_far.complete f is (inl (elim (cases_lt f.node.tree t) [
+        | inl before ↦ before
+        | inr behind ↦
+            let there = placed_there (trees w) t (omega arith) in
+            absurd (none-some there.0.syntax (none ∙ ap (option_map (λ (p : PlacedTree). p.syntax)) there.1))
+      ]))
+
+  pub found_each : (t n r : ℕ) (ms : List FoundMatch) → AreFoundBut IsLeftOut w meanings context rules wanted t n r ms
+      → (f : FoundMatch) → Contains ms f → IsFoundOf w meanings context rules wanted f
+  found_each t n r ms so_far f had = All-contains (IsFoundOf w meanings context rules wanted) ms f so_far.are had
+
+-- ** What is shadowed.
+
+module _ (w : Workspace) where
+  pub stays_shadowed : (ms : List FoundMatch) (new f : FoundMatch) → IsShadowed (trees w) ms f → IsShadowed (trees w) (ms ++ new ∷ []) f
+  stays_shadowed ms new f shadowed = (shadowed.0, Contains-append_left ms (new ∷ []) shadowed.0 shadowed.1, shadowed.2)
+
+  -- a match that is added and whose placeholders don't hold its node shadows those of later rules
+  added_shadows : (ms : List FoundMatch) (k : FoundMatch) → (LiesInPlaceholder (trees w) k k → ⊥) → ShadowLater w k.node k.rule (ms ++ k ∷ [])
+  added_shadows ms k holds m node rule =
+      (k, Contains-push ms k, record { node = node; rule = rule; outside = λ lies. holds (lies_at_node (trees w) k k m node lies) })
+
+  not_both : (b : Bool) → IsTrue (not b) → IsTrue b → ⊥
+  not_both true is holds = let e : false ≡ true = is in cc
+  not_both false is holds = let e : false ≡ true = holds in cc
+
+  pub shadows_later : (old new : List FoundMatch) (k : FoundMatch) (x : NodeId) (place : ℕ) (holds : Bool) → new ≡ old ++ k ∷ [] → k.node ≡ x → k.rule ≡ place
+      → IsTrue holds ↔ LiesInPlaceholder (trees w) k k → IsTrue (not holds) → ShadowLater w x place new
+  shadows_later old new k x place holds new_is node rule test is =
+      subst (ShadowLater w x place) (sym new_is)
+      (λ m at later. added_shadows old k (λ lies. not_both holds is (test.1 lies)) m (node ∙ at) (subst (λ r. r < m.rule) (sym rule) later))
+
+  pub found_enough : (meanings : Meanings) (context : Context) (rules : List ResolvedRule) (wanted : List Bool) (t : ℕ) (ms : List FoundMatch) → None ≡ tree_of w t
+      → AreFoundBefore w meanings context rules wanted t 0 0 ms → AreEnough (trees w) (IsFoundOf w meanings context rules wanted) ms
+  found_enough meanings context rules wanted t ms none so_far = record {
+    found = found_each w meanings context rules wanted (IsShadowed (trees w)) stays_shadowed t 0 0 ms so_far;
+    enough = found_all w meanings context rules wanted (IsShadowed (trees w)) stays_shadowed t ms none so_far;
   }
 
 -- ** Of all rules.
@@ -246,13 +302,30 @@ module _ (w : Workspace) (meanings : Meanings) (context : Context) (rules : List
 pub all_wanted : (n place : ℕ) → place < n → IsWanted (replicate n true) place
 all_wanted n place within = slice_get-get_or (replicate n true) place false (omega (arith, length-replicate n true)) ∙ ap Some (get_or-replicate n place true false within)
 
--- what is found of rules that are all wanted is what is found
-pub found_of_all : (w : Workspace) (meanings : Meanings) (context : Context) (rules : List ResolvedRule) (ms : List FoundMatch)
-    → AreFoundOf w meanings context rules (replicate (length rules) true) ms → AreFound w meanings context rules ms
-found_of_all w meanings context rules ms found = record {
-  in_order = found.in_order;
-  are = λ f. (
-    λ had. ((found.are f).0 had).0,
-    λ is. (found.are f).1 (is, all_wanted (length rules) f.rule (slice_get_within rules f.rule is.rule is.is_rule)),
-  );
+wanted_all : (w : Workspace) (meanings : Meanings) (context : Context) (rules : List ResolvedRule) (f : FoundMatch)
+    → IsFound w meanings context rules f → IsFoundOf w meanings context rules (replicate (length rules) true) f
+wanted_all w meanings context rules f is = (is, all_wanted (length rules) f.rule (slice_get_within rules f.rule is.rule is.is_rule))
+
+-- what is enough of rules that are all wanted is enough of what is found
+pub enough_of_all : (w : Workspace) (meanings : Meanings) (context : Context) (rules : List ResolvedRule) (ms : List FoundMatch)
+    → AreEnough (trees w) (IsFoundOf w meanings context rules (replicate (length rules) true)) ms → AreEnough (trees w) (IsFound w meanings context rules) ms
+enough_of_all w meanings context rules ms are = record {
+  found = λ f had. (are.found f had).0;
+  enough = λ f is. are.enough f (wanted_all w meanings context rules f is);
 }
+
+-- where nothing is left out, what is found of rules that are all wanted is what is found
+pub found_of_all : (w : Workspace) (meanings : Meanings) (context : Context) (rules : List ResolvedRule) (t : ℕ) (ms : List FoundMatch) → None ≡ tree_of w t
+    → AreFoundBut (λ ms f. ⊥) w meanings context rules (replicate (length rules) true) t 0 0 ms → AreFound w meanings context rules ms
+found_of_all w meanings context rules t ms none so_far =
+    let wanted = replicate (length rules) true in
+    record {
+      in_order = so_far.in_order;
+      are = λ f. (
+        λ had. (found_each w meanings context rules wanted (λ ms f. ⊥) (λ ms new f out. out) t 0 0 ms so_far f had).0,
+        λ is. elim (found_all w meanings context rules wanted (λ ms f. ⊥) (λ ms new f out. out) t ms none so_far f (wanted_all w meanings context rules f is)) [
+          | inl had ↦ had
+          | inr out ↦ absurd out
+        ],
+      );
+    }

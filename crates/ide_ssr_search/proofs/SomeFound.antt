@@ -1,5 +1,5 @@
 -- What is found in a workspace that is built is some list: its trees, their nodes and the rules are gone through in order.
-use Rattle.std.proofs.Common.{Bool, true, ◌≡◌, ℕ, zero, suc, ◌+◌, inl, inr, List, [], ◌++◌, length, Option, Some, None, refl, sym, ap, arith}
+use Rattle.std.proofs.Common.{Bool, true, ◌≡◌, ℕ, zero, suc, ◌+◌, inl, inr, List, [], ◌∷◌, ◌++◌, length, Option, Some, None, refl, sym, ap, arith}
 use Rattle.std.specs.Prelude.{replicate}
 use Rattle.std.specs.Option.{option_map}
 use Rattle.ssr_syntax_tree.specs.Syntax.{Syntax, node_count}
@@ -15,11 +15,11 @@ use Rattle.ide_ssr_matching.specs.Bindings.{bindings_of}
 use Rattle.ide_ssr_bindings.specs.Found.{FoundMatch}
 use Rattle.ide_ssr_search.specs.Context.{Context}
 use Rattle.ide_ssr_search.specs.Found.{AreFound}
-use Rattle.ide_ssr_search.specs.Private.Scan.{AreFoundBefore, TellsMatch, found_of}
+use Rattle.ide_ssr_search.specs.Private.Scan.{AreFoundBut, TellsMatch, found_of}
 use Rattle.ide_ssr_bindings.proofs.Shared.{is_tree, of_tree}
 use Rattle.ide_ssr_search.proofs.Trees.{placed_there}
 use Rattle.ide_ssr_search.proofs.Placed.{whole, not_matched, not_placed, not_written}
-use Rattle.ide_ssr_search.proofs.Finding.{found_none, added_by, found_at, found_in, found_all, all_wanted, found_of_all}
+use Rattle.ide_ssr_search.proofs.Finding.{found_none, added_by, found_at, found_in, all_wanted, found_of_all}
 use Rattle.ide_ssr_search.proofs.Deciding.{is_permitted, is_placed_match, can_be_written}
 
 module _ (w : Workspace) (b : IsBuilt w) (meanings : Meanings) (context : Context) (rules : List ResolvedRule) where
@@ -52,26 +52,33 @@ module _ (w : Workspace) (b : IsBuilt w) (meanings : Meanings) (context : Contex
   abbrev wanted : List Bool
   wanted = replicate (length rules) true
 
+  -- nothing is left out
+  abbrev Never : List FoundMatch → FoundMatch → Type 0
+  Never ms f = ⊥
+
+  stays_never : (ms : List FoundMatch) (new f : FoundMatch) → Never ms f → Never (ms ++ new ∷ []) f
+  stays_never ms new f out = out
+
   abbrev Further : ℕ → ℕ → Type 0
-  Further t n = (ms : List FoundMatch) × AreFoundBefore w meanings context rules wanted t n 0 ms
+  Further t n = (ms : List FoundMatch) × AreFoundBut Never w meanings context rules wanted t n 0 ms
 
   module _ (t : ℕ) (s : Syntax) (tree : tree_of w t ≡ Some s) where
-    rules_tried : (n : ℕ) → HasNode s n → (left place : ℕ) → place + left ≡ length rules → (ms : List FoundMatch) → AreFoundBefore w meanings context rules wanted t n place ms → Further t (n + 1)
-    rules_tried n has zero place all ms so_far = (ms, found_at w meanings context rules wanted t n place ms (omega arith) so_far)
+    rules_tried : (n : ℕ) → HasNode s n → (left place : ℕ) → place + left ≡ length rules → (ms : List FoundMatch) → AreFoundBut Never w meanings context rules wanted t n place ms → Further t (n + 1)
+    rules_tried n has zero place all ms so_far = (ms, found_at w meanings context rules wanted Never stays_never t n place ms (omega arith) so_far)
     rules_tried n has (suc left) place all ms so_far =
         let rule = stands_at rules place (omega arith) in
         let match = told rule.0 t n s tree has in
         rules_tried n has left (place + 1) (omega arith) (ms ++ found_of place (node_id t n) match.0)
-        (added_by w meanings context rules wanted t n place s rule.0 ms match.0 tree rule.1 (all_wanted (length rules) place (omega arith)) so_far match.1)
+        (added_by w meanings context rules wanted Never stays_never t n place s rule.0 ms match.0 tree rule.1 (all_wanted (length rules) place (omega arith)) so_far match.1)
 
-    nodes_tried : (left n : ℕ) → n + left ≡ 1 + node_count s.children → (ms : List FoundMatch) → AreFoundBefore w meanings context rules wanted t n 0 ms → Further (t + 1) 0
-    nodes_tried zero n all ms so_far = (ms, found_in w meanings context rules wanted t n s ms tree (omega arith) so_far)
+    nodes_tried : (left n : ℕ) → n + left ≡ 1 + node_count s.children → (ms : List FoundMatch) → AreFoundBut Never w meanings context rules wanted t n 0 ms → Further (t + 1) 0
+    nodes_tried zero n all ms so_far = (ms, found_in w meanings context rules wanted Never stays_never t n s ms tree (omega arith) so_far)
     nodes_tried (suc left) n all ms so_far =
         let next = rules_tried n (omega arith) (length rules) 0 (omega arith) ms so_far in
         nodes_tried left (n + 1) (omega arith) next.0 next.1
 
-  trees_tried : (left t : ℕ) → t + left ≡ length (trees w) → (ms : List FoundMatch) → AreFoundBefore w meanings context rules wanted t 0 0 ms → (found : List FoundMatch) × AreFound w meanings context rules found
-  trees_tried zero t all ms so_far = (ms, found_of_all w meanings context rules ms (found_all w meanings context rules wanted t ms (none_there (with_number (trees w) t) refl) so_far))
+  trees_tried : (left t : ℕ) → t + left ≡ length (trees w) → (ms : List FoundMatch) → AreFoundBut Never w meanings context rules wanted t 0 0 ms → (found : List FoundMatch) × AreFound w meanings context rules found
+  trees_tried zero t all ms so_far = (ms, found_of_all w meanings context rules t ms (none_there (with_number (trees w) t) refl) so_far)
     where
       none_there : (o : Option PlacedTree) → with_number (trees w) t ≡ o → None ≡ option_map (λ (p : PlacedTree). p.syntax) o
       none_there None is = refl
@@ -82,4 +89,4 @@ module _ (w : Workspace) (b : IsBuilt w) (meanings : Meanings) (context : Contex
       trees_tried left (t + 1) (omega arith) next.0 next.1
 
   pub some_found : (found : List FoundMatch) × AreFound w meanings context rules found
-  some_found = trees_tried (length (trees w)) 0 (omega arith) [] (found_none w meanings context rules wanted)
+  some_found = trees_tried (length (trees w)) 0 (omega arith) [] (found_none w meanings context rules wanted Never stays_never)

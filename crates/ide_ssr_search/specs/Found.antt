@@ -36,8 +36,3 @@ IsWanted wanted place = slice_get wanted place ≡ Some true
 -- one of the wanted rules matches as a whole at a node that is permitted for it
 abbrev pub IsFoundOf : Workspace → Meanings → Context → List ResolvedRule → List Bool → FoundMatch → Type 0
 IsFoundOf w m context rules wanted found = IsFound w m context rules found × IsWanted wanted found.rule
-
--- exactly what is found of the wanted rules, in the order of trees, nodes and rules, and so each once
-pub record AreFoundOf (w : Workspace) (m : Meanings) (context : Context) (rules : List ResolvedRule) (wanted : List Bool) (ms : List FoundMatch) : Type 0 where
-  pub in_order : AllPairs Precedes ms
-  pub are : (found : FoundMatch) → Contains ms found ↔ IsFoundOf w m context rules wanted found

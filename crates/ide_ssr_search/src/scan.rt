@@ -1,17 +1,18 @@
 //! All matches of rules, found by trying every node.
-ghost use Rattle.std.specs.Prelude.{ℕ, ◌≡◌, ◌+◌, ◌≤◌, ◌↔◌, IsTrue, IfOk, IfSome, Some, option_map};
+ghost use Rattle.std.specs.Prelude.{ℕ, ◌≡◌, ◌+◌, ◌≤◌, ◌↔◌, IsTrue, IfOk, IfSome, AllPairs, Some, option_map};
 ghost use Rattle.std.specs.Option.{IsSomeAnd};
 ghost use Rattle.ssr_syntax_tree.specs.Places.{HasNode};
 ghost use Rattle.ssr_base_trees.specs.Workspace.{trees, tree_of, node_id};
 ghost use Rattle.ssr_base_trees.specs.Built.{IsBuilt};
 ghost use Rattle.ide_ssr_resolved_rule.specs.Resolved.{ResolvedRule as RuleValue};
 ghost use Rattle.ide_ssr_bindings.specs.Found.{AreMatches};
+ghost use Rattle.ide_ssr_nesting.specs.Kept.{AreEnough};
 ghost use Rattle.ide_ssr_search.specs.Permitted.{IsOpen, IsInFunction, IsPermitted};
-ghost use Rattle.ide_ssr_search.specs.Found.{AreFound, AreFoundOf};
+ghost use Rattle.ide_ssr_search.specs.Found.{IsFound, IsFoundOf, Precedes};
 ghost use Rattle.ide_ssr_search.specs.Tries.{IsMostOf};
 ghost use Rattle.ide_ssr_search.specs.Private.Roots.{IsAskedBy, AreRules};
 ghost use Rattle.ide_ssr_search.specs.Private.Shut.{IsShutIn, IsShut, TellsPast};
-ghost use Rattle.ide_ssr_search.specs.Private.Scan.{AreFoundBefore, CountsTry, KeepsLimits, IsTreeScan, TellsMatch, Adds, KnowsShut, KnowsInside, IsEarlierCall, StandsIn};
+ghost use Rattle.ide_ssr_search.specs.Private.Scan.{AreFoundBefore, ShadowLater, CountsTry, KeepsLimits, IsTreeScan, TellsMatch, Adds, KnowsShut, KnowsInside, IsEarlierCall, StandsIn};
 
 use crate::bounds::Bounds;
 use crate::context::Context;
@@ -20,6 +21,7 @@ use crate::roots::{Asked, Rules};
 use crate::whole::{Ground, match_in};
 use ide_ssr_bindings::{Binding, FoundMatch};
 use ide_ssr_matching::Tries;
+use ide_ssr_nesting::holds_own_node;
 use ide_ssr_resolved_rule::ResolvedRule;
 use ssr_base_trees::{NodeId, Semantics, Trees};
 use ssr_syntax_kinds::SyntaxKind;
@@ -163,7 +165,8 @@ impl<'a> TreeScan<'a> {
         match_in(alloc, semantics, ground, rule, self.id(node), tries)
     }
 
-    /// Adds the match of a rule, which has this place among the rules, at a node that nothing above it shuts in.
+    /// Adds the match of a rule, which has this place among the rules, at a node that nothing above it shuts in. Tells whether
+    /// it shadows all matches of later rules there: the search then keeps none of these.
     fn add_match<S: Semantics>(
         &self,
         alloc: Global,
@@ -174,21 +177,26 @@ impl<'a> TreeScan<'a> {
         node: NodeNo,
         tries: &mut Tries,
         found: &mut Vec<FoundMatch>,
-    ) -> Result<(), AllocError>
+    ) -> Result<bool, AllocError>
         requires scan { IsTreeScan self.now }
         requires asked { IsAskedBy rule.now asked }
         requires has { HasNode self.now.tree.now node.0 }
         requires free { ¬ IsShutIn (trees self.now.workspace.now) (node_id self.now.number node.0) }
         ensures count { CountsTry self.now.workspace.now self.now.context.now rule.now (node_id self.now.number node.0) tries.old tries.new }
         ensures added { IfOk result (λ _. Adds self.now.workspace.now (S.meanings semantics.now) self.now.context.now rule.now place (node_id self.now.number node.0) found.old.items found.new.items) }
+        ensures shadows { IfOk result (λ shadows. IsTrue shadows → ShadowLater self.now.workspace.now (node_id self.now.number node.0) place found.new.items) }
     {
-        if let Some(bindings) = self.match_of(alloc, semantics, rule, asked, node, tries)? {
-            found.push(FoundMatch::new(place, self.id(node), bindings))?;
-        }
-        Ok(())
+        let Some(bindings) = self.match_of(alloc, semantics, rule, asked, node, tries)? else {
+            return Ok(false);
+        };
+        let one = FoundMatch::new(place, self.id(node), bindings);
+        let shadows = !holds_own_node(self.workspace, &one);
+        found.push(one)?;
+        Ok(shadows)
     }
 
-    /// Adds the matches of the wanted rules at a node that nothing above it shuts in.
+    /// Adds the matches of the wanted rules at a node that nothing above it shuts in. Where one of them shadows those of all
+    /// later rules, these are not tried: many rules that match at the same nodes would fill the memory for nothing.
     fn add_matches<S: Semantics>(
         &self,
         alloc: Global,
@@ -210,7 +218,7 @@ impl<'a> TreeScan<'a> {
             if !rules.wants(place) {
                 continue;
             }
-            self.add_match(
+            let shadows = self.add_match(
                 alloc,
                 semantics,
                 place,
@@ -220,6 +228,9 @@ impl<'a> TreeScan<'a> {
                 tries,
                 found,
             )?;
+            if shadows {
+                return Ok(());
+            }
         }
         Ok(())
     }
@@ -364,9 +375,9 @@ fn stands_in(function: Option<NodeId>, tree: &Tree, number: u32, inside: bool, n
     is_at_or_below(tree, node, function.node)
 }
 
-/// All matches of the rules in a workspace, whose paths stand for what the provider tells: each node of each tree is tried at
-/// which a rule is permitted. They come by the numbers of their trees, in a tree by those of their nodes, and at a node by the
-/// places of their rules.
+/// All matches of the rules in a workspace, whose paths stand for what the provider tells, but for those that are shadowed: each
+/// node of each tree is tried at which a rule is permitted. They come by the numbers of their trees, in a tree by those of their
+/// nodes, and at a node by the places of their rules.
 pub fn find_matches<S: Semantics>(
     alloc: Global,
     workspace: &Trees,
@@ -374,7 +385,8 @@ pub fn find_matches<S: Semantics>(
     context: &Context,
     rules: &[ResolvedRule],
 ) -> Result<Vec<FoundMatch>, AllocError>
-    ensures found { IfOk result (λ found. AreFound workspace.now (S.meanings semantics.now) context.now rules.now found.items) }
+    ensures found { IfOk result (λ found. AreEnough (trees workspace.now) (IsFound workspace.now (S.meanings semantics.now) context.now rules.now) found.items) }
+    ensures in_order { IfOk result (λ found. AllPairs Precedes found.items) }
     ensures matches { IfOk result (λ found. AreMatches (trees workspace.now) found.items) }
 {
     let wanted = vec![in alloc; true; rules.len()]?;
@@ -395,7 +407,8 @@ pub fn find_wanted<S: Semantics>(
     wanted: &[bool],
     tries: &mut Tries,
 ) -> Result<Vec<FoundMatch>, AllocError>
-    ensures found { IfOk result (λ found. AreFoundOf workspace.now (S.meanings semantics.now) context.now rules.now wanted.now found.items) }
+    ensures found { IfOk result (λ found. AreEnough (trees workspace.now) (IsFoundOf workspace.now (S.meanings semantics.now) context.now rules.now wanted.now) found.items) }
+    ensures in_order { IfOk result (λ found. AllPairs Precedes found.items) }
     ensures count { IfOk result (λ _. (most : ℕ) → IsMostOf workspace.now context.now rules.now wanted.now most → tries.new ≤ tries.old + most) }
 {
     let tried = Rules::new(alloc, rules, wanted)?;

@@ -14,7 +14,6 @@ use Rattle.ssr_syntax_tree.specs.Places.{Node, HasNode, node_of, nodes_of}
 use Rattle.ssr_syntax_tree.proofs.Lists.{take_between}
 use Rattle.ssr_syntax_tree.proofs.Shared.{node_left, node_of-number}
 use Rattle.ssr_base_trees.specs.declared.ids.NodeId.{NodeId}
-use Rattle.ssr_base_trees.specs.Built.{most_trees}
 use Rattle.ssr_base_trees.specs.Workspace.{Workspace, PlacedTree, trees, with_number, tree_of, node_id, has_node}
 use Rattle.ssr_base_trees.proofs.Shared.{length-trees}
 use Rattle.ssr_facts_rows.specs.declared.places.PlaceRow.{PlaceRow}
@@ -35,15 +34,15 @@ placed_past [] t past = refl
 placed_past (p ∷ earlier) t past =
     ap (λ b. cond b (Some p) (with_number earlier t)) (ne_eqb t (length earlier) (λ e. omega arith)) ∙ placed_past earlier t (omega arith)
 
-module _ (w : Workspace) (few : length w.files + length w.expansions ≤ most_trees) where
-  none_planted : (t : ℕ) → most_trees ≤ t → with_number (trees w) t ≡ None
+module _ (w : Workspace) where
+  none_planted : (t : ℕ) → length w.files + length w.expansions ≤ t → with_number (trees w) t ≡ None
   none_planted t past = placed_past (trees w) t (omega (arith, length-trees w))
 
-  pub no_node_past : (kind : SyntaxKind) (place : PlaceRow) → most_trees ≤ place.tree → node_at w kind place ≡ None
+  pub no_node_past : (kind : SyntaxKind) (place : PlaceRow) → length w.files + length w.expansions ≤ place.tree → node_at w kind place ≡ None
   no_node_past kind place past =
       ap (λ o. option_and_then (λ tree. option_map (λ node. node_id place.tree node.number) (find (stands_at kind place tree) (nodes_of tree))) (option_map (λ (p : PlacedTree). p.syntax) o)) (none_planted place.tree past)
 
-  pub no_place_past : (x : NodeId) → most_trees ≤ x.tree → place_of w x ≡ None
+  pub no_place_past : (x : NodeId) → length w.files + length w.expansions ≤ x.tree → place_of w x ≡ None
   no_place_past x past =
       ap (option_and_then (λ (p : PlacedTree). if has_node p.syntax x.node.0 then Some (place_at x.tree p.syntax x.node.0) else None)) (none_planted x.tree past)
 
@@ -184,7 +183,7 @@ module _ (w : Workspace) (t : ℕ) {A : Type 0} (tell : PlaceRow → Option A) (
       stays ∙ tree_none x.tree t (option_and_then tell (place_of w x)) old before (λ same. ap (option_and_then tell) (place_unknown w t none x same))
 
 -- all trees
-pub all_told : (w : Workspace) → length w.files + length w.expansions ≤ most_trees → {A : Type 0} (tell : PlaceRow → Option A) (x : NodeId) (t : ℕ) (old : Option A) → most_trees ≤ t
+pub all_told : (w : Workspace) → {A : Type 0} (tell : PlaceRow → Option A) (x : NodeId) (t : ℕ) (old : Option A) → length w.files + length w.expansions ≤ t
     → old ≡ cond (ltb x.tree t) (option_and_then tell (place_of w x)) None → old ≡ option_and_then tell (place_of w x)
-all_told w few tell x t old past before =
-    tree_all x.tree t (option_and_then tell (place_of w x)) old before (λ behind. ap (option_and_then tell) (no_place_past w few x (omega (arith, past, behind))))
+all_told w tell x t old past before =
+    tree_all x.tree t (option_and_then tell (place_of w x)) old before (λ behind. ap (option_and_then tell) (no_place_past w x (omega (arith, past, behind))))

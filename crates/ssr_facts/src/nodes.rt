@@ -18,8 +18,13 @@ use ssr_syntax_tree::{NodeNo, Tree};
 use std::alloc::{AllocError, Global};
 use std::collections::BTreeMap;
 
-/// How many trees there may be in a workspace.
-pub(crate) const MOST_TREES: u32 = 65_536;
+/// How many trees there are.
+pub(crate) fn tree_count(workspace: &Workspace) -> u32
+    requires { length workspace.now.files + length workspace.now.expansions ≤ most_trees }
+    ensures { result ≡ length workspace.now.files + length workspace.now.expansions }
+{
+    workspace.file_count() + workspace.trees().expansion_count()
+}
 
 /// The place of a node of the tree with this number.
 pub(crate) fn place(number: u32, tree: &Tree, node: NodeNo) -> PlaceRow
@@ -63,7 +68,8 @@ pub(crate) fn nodes_by_place(
     ensures { IfOk result (λ nodes. (place : Place) → at_place nodes place ≡ node_at workspace.now kind place) }
 {
     let mut nodes = BTreeMap::new(alloc);
-    for number in 0..MOST_TREES {
+    let count = tree_count(workspace);
+    for number in 0..count {
         if let Some(tree) = workspace.tree(number) {
             add_nodes(&mut nodes, number, tree, kind)?;
         }

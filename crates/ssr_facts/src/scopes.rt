@@ -18,7 +18,7 @@ ghost use Rattle.ssr_facts.specs.Private.Scopes.{scopes_in, IsBestAt, id_of, AsG
 
 use crate::grouping::add;
 use crate::kept::{first_from, keep_begun};
-use crate::nodes::MOST_TREES;
+use crate::nodes::tree_count;
 use ssr_base::{NodeId, ScopeId, Workspace};
 use ssr_facts_rows::PlaceRow;
 use ssr_syntax_tree::{NodeNo, Tree};
@@ -124,7 +124,8 @@ pub(crate) fn scopes_of_nodes(
 {
     let by_tree = scopes_by_tree(alloc, rows)?;
     let mut told = Vec::new(alloc);
-    for number in 0..MOST_TREES {
+    let count = tree_count(workspace);
+    for number in 0..count {
         if let Some(tree) = workspace.tree(number) {
             let scopes = sorted_scopes(alloc, &by_tree, number)?;
             add_scopes(alloc, &mut told, number, tree, &scopes)?;

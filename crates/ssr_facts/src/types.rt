@@ -8,7 +8,7 @@ ghost use Rattle.ssr_base_trees.specs.Built.{most_trees};
 ghost use Rattle.ssr_facts.specs.Nodes.{place_of};
 ghost use Rattle.ssr_facts.specs.Private.Nodes.{at_place, told_up_to, types_at, types_of_node};
 
-use crate::nodes::{MOST_TREES, place};
+use crate::nodes::{place, tree_count};
 use ssr_base::{NodeId, TypeId, Workspace};
 use ssr_facts_rows::PlaceRow;
 use ssr_syntax_tree::{NodeNo, Tree};
@@ -45,7 +45,8 @@ pub(crate) fn types_of_nodes(
     ensures { IfOk result (λ told. (x : Id) → types_at told.items x ≡ option_and_then (λ place. option_map (λ v. v.items) (at_place by_place.now place)) (place_of workspace.now x)) }
 {
     let mut told = Vec::new(alloc);
-    for number in 0..MOST_TREES {
+    let count = tree_count(workspace);
+    for number in 0..count {
         if let Some(tree) = workspace.tree(number) {
             add_types(alloc, &mut told, number, tree, by_place)?;
         }

@@ -29,6 +29,9 @@ impl<R: Files + AllocGlobal> Reading<'_, R> {
         let Some(name) = self.given_name(path)? else {
             return Err(PackageError::Outside(String::from_str(self.alloc(), path)?));
         };
+        if is_target(name.as_str()) {
+            return self.note(name.as_str(), Trouble::NotOurs);
+        }
         match self.root().standing(name.as_str())? {
             Standing::File => self.read_alone(name),
             Standing::Folder => self.read_folder(name),
@@ -96,6 +99,11 @@ impl<R: Files + AllocGlobal> Reading<'_, R> {
             return Ok(true);
         }
         let tag = within(self.alloc(), name, "CACHEDIR.TAG")?;
-        Ok(name != "target" && self.root().standing(tag.as_str())? == Standing::Missing)
+        Ok(!is_target(name) && self.root().standing(tag.as_str())? == Standing::Missing)
     }
+}
+
+/// Whether a name is `target`, or lies below it.
+fn is_target(name: &str) -> bool {
+    name == "target" || name.starts_with("target/")
 }

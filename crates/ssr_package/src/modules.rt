@@ -16,6 +16,9 @@ pub(crate) struct Declared<'a> {
     pub in_macro: bool,
 }
 
+/// How many bytes a path has at most: none that is longer is opened.
+const LONGEST_PATH: usize = 4096;
+
 /// What a `{` that is open belongs to.
 #[derive(Clone, Copy)]
 enum Block {
@@ -158,11 +161,15 @@ impl<'a> ModuleReader<'a> {
         self.said = Said::new(self.alloc);
     }
 
-    /// The folder of an inline module's modules.
+    /// The folder of an inline module's modules, unless its path is too long for any file to be there.
     fn inner_folder(&self, name: &str) -> Result<Option<String>, AllocError> {
-        match self.said.paths.first() {
-            Some(path) => at_path(self.alloc, self.path_folder(), path),
-            None => at_name(self.alloc, self.name_folder(), name, ""),
+        let folder = match self.said.paths.first() {
+            Some(path) => at_path(self.alloc, self.path_folder(), path)?,
+            None => at_name(self.alloc, self.name_folder(), name, "")?,
+        };
+        match folder {
+            Some(folder) if folder.len() > LONGEST_PATH => Ok(None),
+            folder => Ok(folder),
         }
     }
 

@@ -1,3 +1,4 @@
 mod Joined
 mod Marks
 mod Gaining
+mod Behind

@@ -3,6 +3,7 @@ ghost use Rattle.std.specs.Prelude.{◌≡◌, ◌+◌, ◌<◌, ◌≤◌, ◌^
 ghost use Rattle.ssr_reports.specs.Places.{is_line_break, begins_character, last_line, first_line as first_line_of, mark_of, line_of, column_of, place_text};
 
 use std::alloc::{AllocError, Global};
+use std::marker::Model;
 
 /// A place in a text: its line, and its column in characters, both from 1.
 #[derive(Clone, Copy, Debug, PartialEq, Eq)]
@@ -21,6 +22,78 @@ pub fn line_place(text: &str, offset: usize) -> LinePlace
     LinePlace {
         line: line_breaks(before) + 1,
         column: characters_of_last_line(before) + 1,
+    }
+}
+
+/// The places of bytes of a text, each found from the one before: bytes in their order take one pass over the text.
+#[derive(Drop)]
+pub struct Places<'a> {
+    text: &'a str,
+    /// The byte that was asked for last.
+    at: usize,
+    /// Its place.
+    place: LinePlace,
+}
+
+impl<'a> Model for Places<'a> {
+    ghost use Rattle.std.specs.Prelude.{ℕ, ◌≡◌, ◌≤◌, List, length};
+    ghost use Rattle.ssr_reports.specs.Places.{line_of, column_of};
+
+    ghost Value = { List ℕ };
+
+    ghost view = { λ p. p.text.now };
+
+    ghost invariant = { λ p. (p.at ≤ length p.text.now) × (p.place.line ≡ line_of p.text.now p.at) × (p.place.column ≡ column_of p.text.now p.at) };
+}
+
+impl<'a> Places<'a> {
+    /// Those of this text.
+    pub fn new(text: &'a str) -> Places<'a>
+        ensures { result ≡ text.now }
+    {
+        Places {
+            text,
+            at: 0,
+            place: LinePlace { line: 1, column: 1 },
+        }
+    }
+
+    /// The line and the column of a byte, or of the end where there is no such byte.
+    pub fn place(&mut self, offset: usize) -> LinePlace
+        ensures line { result.line ≡ line_of self.old offset }
+        ensures column { result.column ≡ column_of self.old offset }
+        ensures text { self.new ≡ self.old }
+    {
+        let at = offset.min(self.text.len());
+        self.place = if at < self.at {
+            line_place(self.text, at)
+        } else {
+            place_behind(self.text, self.at, self.place, at)
+        };
+        self.at = at;
+        self.place
+    }
+}
+
+/// The place of a byte that stands at or behind another one, from the place of that one.
+fn place_behind(text: &str, at: usize, place: LinePlace, offset: usize) -> LinePlace
+    requires order { at ≤ offset }
+    requires inside { offset ≤ length text.now }
+    requires line { place.line ≡ line_of text.now at }
+    requires column { place.column ≡ column_of text.now at }
+    ensures line { result.line ≡ line_of text.now offset }
+    ensures column { result.column ≡ column_of text.now offset }
+{
+    let between = &text.as_bytes()[at..offset];
+    let lines = line_breaks(between);
+    let characters = characters_of_last_line(between);
+    LinePlace {
+        line: place.line + lines,
+        column: if lines == 0 {
+            place.column + characters
+        } else {
+            characters + 1
+        },
     }
 }
 
@@ -82,6 +155,18 @@ mod tests {
         };
         let line = place_line(rt.alloc(), "src/lib.rs", place, "a(\nb)")?;
         assert_eq!(rt; line.as_str(), "src/lib.rs:12:9: a( ..\n");
+        Ok(())
+    }
+
+    #[test]
+    fn places_come_in_any_order(rt: HostRuntime) -> Result<(), Fail> {
+        let mut places = Places::new("ab\né c\n\nd");
+        assert_eq!(rt; places.place(1), LinePlace { line: 1, column: 2 });
+        assert_eq!(rt; places.place(5), LinePlace { line: 2, column: 2 });
+        assert_eq!(rt; places.place(6), LinePlace { line: 2, column: 3 });
+        assert_eq!(rt; places.place(9), LinePlace { line: 4, column: 1 });
+        assert_eq!(rt; places.place(3), LinePlace { line: 2, column: 1 });
+        assert_eq!(rt; places.place(99), LinePlace { line: 4, column: 2 });
         Ok(())
     }
 }

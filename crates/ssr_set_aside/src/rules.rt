@@ -3,7 +3,7 @@
 use crate::draft::{Draft, Span};
 use crate::treatment::Treatment;
 use crate::treatment::Treatment::{
-    AnyType, Blank, Const, FnTrait, Inclusive, Kept, Module, Name, Unit, Use,
+    AnyType, Blank, Const, Field, FnTrait, Inclusive, Kept, Label, Module, Move, Name, Unit, Use,
 };
 use ssr_syntax_kinds::SyntaxKind;
 use ssr_syntax_kinds::SyntaxKind::*;
@@ -35,7 +35,8 @@ fn of_unsafe(rest: &[SyntaxKind]) -> &'static [Treatment] {
 /// What becomes of tokens that begin with `const`.
 fn of_const(rest: &[SyntaxKind]) -> &'static [Treatment] {
     match rest {
-        [_, L_CURLY | TRAIT_KW | IMPL_KW, ..] => &[Blank],
+        [_, L_CURLY, ..] => &[Label],
+        [_, TRAIT_KW | IMPL_KW, ..] => &[Blank],
         [_, IDENT, COLON, IDENT, EQ, MINUS, _, COMMA | R_ANGLE, ..] => {
             &[Kept, Kept, Kept, Kept, Blank, Blank, Blank]
         }
@@ -43,6 +44,17 @@ fn of_const(rest: &[SyntaxKind]) -> &'static [Treatment] {
             &[Kept, Kept, Kept, Kept, Blank, Blank]
         }
         _ => &[],
+    }
+}
+
+/// What becomes of tokens that begin with `async`: what stands for it in front of a block or a closure is part of that.
+fn of_async(rest: &[SyntaxKind]) -> &'static [Treatment] {
+    match rest {
+        [_, L_CURLY, ..] => &[Label],
+        [_, MOVE_KW, L_CURLY, ..] => &[Label, Blank],
+        [_, PIPE, ..] => &[Move],
+        [_, MOVE_KW, PIPE, ..] => &[Move, Blank],
+        _ => &[Blank],
     }
 }
 
@@ -70,7 +82,7 @@ fn of_name(rest: &[SyntaxKind]) -> &'static [Treatment] {
 /// What becomes of tokens that begin with a dot, where this token stands in front.
 fn of_dot(before: SyntaxKind, rest: &[SyntaxKind]) -> &'static [Treatment] {
     match rest {
-        [_, AWAIT_KW, ..] => &[Blank, Blank],
+        [_, AWAIT_KW, ..] => &[Kept, Field],
         [_, DOT, DOT, ..] => match before {
             COMMA | L_PAREN => &[Blank, Blank, Blank],
             COLON => &[AnyType, Blank, Blank],
@@ -88,9 +100,9 @@ fn of_tokens(before: SyntaxKind, rest: &[SyntaxKind]) -> &'static [Treatment] {
         [CONST_KW, ..] => of_const(rest),
         [AMP, ..] => of_ampersand(rest),
         [IDENT, ..] => of_name(rest),
+        [TRY_KW, BANG, ..] => &[Name],
         [DOT, ..] => of_dot(before, rest),
-        [ASYNC_KW, MOVE_KW, L_CURLY, ..] => &[Blank, Blank],
-        [ASYNC_KW, ..] => &[Blank],
+        [ASYNC_KW, ..] => of_async(rest),
         [FN_KW, L_PAREN, ..] => &[FnTrait],
         [IMPL_KW, CONST_KW, ..] => &[Kept, Blank],
         [TILDE | QUESTION, CONST_KW, ..] => &[Blank, Blank],
@@ -179,7 +191,10 @@ impl Draft<'_> {
                 Some(self.blank_up_to(place, self.behind_angle(place)))
             }
             [PLUS, USE_KW, L_ANGLE, ..] => {
-                Some(self.blank_up_to(place, self.behind_angle(place)))
+                let bound = place.saturating_add(1);
+                let end = self.blank_up_to(bound, self.behind_angle(place));
+                self.treat(bound, Name);
+                Some(end)
             }
             _ => None,
         }

@@ -126,9 +126,9 @@ mod tests {
     fn sets_little_aside(rt: HostRuntime) -> Result<(), Fail> {
         let text = "extern crate alloc;\nasync fn load() { get().await.unwrap(); }\n";
         let made = set_aside(rt.alloc(), text)?;
-        let searched = "use          alloc;\n      fn load() { get()      .unwrap(); }\n";
+        let searched = "use          alloc;\n      fn load() { get()._wait.unwrap(); }\n";
         assert_eq!(rt; made.searched(), searched);
-        assert_eq!(rt; made.aside().iter().count(), 5);
+        assert_eq!(rt; made.aside().iter().count(), 4);
         Ok(())
     }
 }

@@ -19,12 +19,18 @@ pub(crate) enum Treatment {
     Const,
     /// `()`, for `return` and `break` without a value, where they aren't read.
     Unit,
-    /// `x`, for the `_` that is assigned to.
+    /// `x`, for the `_` that is assigned to, and for the `try` of `try!(..)`.
     Name,
     /// `_`, for the first dot of a parameter's type `...`.
     AnyType,
     /// `=`, for the last dot of a pattern's `...`.
     Inclusive,
+    /// `_wait`, for `await`: a field is read behind the same expression.
+    Field,
+    /// `'a:`, for `async` and `const` in front of a block: a label is part of the block.
+    Label,
+    /// `move`, for `async` in front of a closure: it is part of the closure.
+    Move,
 }
 
 impl Treatment {
@@ -40,6 +46,9 @@ impl Treatment {
             Treatment::Name => "x",
             Treatment::AnyType => "_",
             Treatment::Inclusive => "=",
+            Treatment::Field => "_wait",
+            Treatment::Label => "'a:",
+            Treatment::Move => "move",
         }
     }
 }

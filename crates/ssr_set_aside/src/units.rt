@@ -157,11 +157,11 @@ impl Draft<'_> {
         if !matches!(self.kind_before(place, 1), IDENT | SELF_TYPE_KW | R_ANGLE) {
             return false;
         }
-        match self.rest(place) {
-            [_, IDENT, COLON, COLON, ..] => false,
-            [_, IDENT, COLON | COMMA, ..] | [_, DOT, DOT, ..] => true,
-            [_, IDENT, R_CURLY, EQ, ..] => true,
-            [_, REF_KW | MUT_KW, ..] => true,
+        match self.rest(self.behind_attributes(place.saturating_add(1))) {
+            [IDENT, COLON, COLON, ..] => false,
+            [IDENT, COLON | COMMA, ..] | [DOT, DOT, ..] => true,
+            [IDENT, R_CURLY, EQ, ..] => true,
+            [REF_KW | MUT_KW, ..] => true,
             _ => false,
         }
     }

@@ -43,7 +43,7 @@ pub(crate) fn create<R: Files + AllocGlobal>(rt: &R, path: &str) -> Result<R::Fi
     }
 }
 
-/// Puts a text into a new file, gives the file its permissions, and waits until it is on the disk.
+/// Gives a new file its permissions, puts a text into it, and waits until it is on the disk.
 pub(crate) fn fill<F: Write + OpenFile>(
     file: &mut F,
     text: &str,
@@ -51,8 +51,8 @@ pub(crate) fn fill<F: Write + OpenFile>(
 ) -> io::Result<()>
     ensures { OnOk result (Appends (F.contents file.old) (F.contents file.new) text.now) }
 {
-    file.write_all(text.as_bytes())?;
     file.set_permissions(permissions)?;
+    file.write_all(text.as_bytes())?;
     file.sync_all()
 }
 

@@ -13,6 +13,7 @@ use Rattle.ssr_base_trees.specs.Laws.{IsEarlier, IsBelow}
 use Rattle.ide_ssr_resolved_rule.specs.Resolved.{ResolvedRule}
 use Rattle.ide_ssr_bindings.specs.declared.bindings.Binding.{Binding}
 use Rattle.ide_ssr_bindings.specs.Found.{FoundMatch}
+use Rattle.ide_ssr_nesting.specs.Kept.{IsShadowed}
 use Rattle.ide_ssr_search.specs.declared.scan.TreeScan.{TreeScan}
 use Rattle.ide_ssr_search.specs.Context.{Context}
 use Rattle.ide_ssr_search.specs.Permitted.{IsPermitted}
@@ -27,12 +28,20 @@ use Rattle.ide_ssr_search.specs.Private.Bounds.{AreBounds}
 abbrev pub IsBefore : ℕ → ℕ → ℕ → FoundMatch → Type 0
 IsBefore t n r m = Precedes m (record { rule = r; node = node_id t n; bindings = [] })
 
--- what is found of the wanted rules before the matches of the rule r at the node n of the tree t
-pub record AreFoundBefore (w : Workspace) (m : Meanings) (context : Context) (rules : List ResolvedRule) (wanted : List Bool) (t n r : ℕ) (ms : List FoundMatch) : Type 0 where
+-- what is found of the wanted rules before the matches of the rule r at the node n of the tree t; some may be left out
+pub record AreFoundBut (IsLeftOut : List FoundMatch → FoundMatch → Type 0) (w : Workspace) (m : Meanings) (context : Context) (rules : List ResolvedRule) (wanted : List Bool) (t n r : ℕ) (ms : List FoundMatch) : Type 0 where
   pub in_order : AllPairs Precedes ms
   pub before : All (IsBefore t n r) ms
   pub are : All (IsFoundOf w m context rules wanted) ms
-  pub complete : (found : FoundMatch) → IsFoundOf w m context rules wanted found → IsBefore t n r found → Contains ms found
+  pub complete : (found : FoundMatch) → IsFoundOf w m context rules wanted found → IsBefore t n r found → Contains ms found ⊎ IsLeftOut ms found
+
+-- what is shadowed is left out
+abbrev pub AreFoundBefore : Workspace → Meanings → Context → List ResolvedRule → List Bool → ℕ → ℕ → ℕ → List FoundMatch → Type 0
+AreFoundBefore w m context rules wanted t n r ms = AreFoundBut (IsShadowed (trees w)) w m context rules wanted t n r ms
+
+-- what is left out at a node: all matches of rules behind this one
+abbrev pub ShadowLater : Workspace → NodeId → ℕ → List FoundMatch → Type 0
+ShadowLater w x place ms = (m : FoundMatch) → x ≡ m.node → place < m.rule → IsShadowed (trees w) ms m
 
 -- what the placeholders of a rule hold, where it is permitted at a node and matches there as a whole
 abbrev pub TellsMatch : Workspace → Meanings → Context → ResolvedRule → NodeId → Option (List Binding) → Type 0

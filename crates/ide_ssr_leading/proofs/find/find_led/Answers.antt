@@ -1,7 +1,8 @@
-use Rattle.std.specs.Prelude.{◌↔◌, Vec, Contains}
+use Rattle.std.specs.Prelude.{Vec}
 use Rattle.std.specs.Global.{Global}
 use Rattle.ssr_base_trees.specs.Workspace.{trees}
 use Rattle.ide_ssr_bindings.specs.Found.{FoundMatch, AreMatches}
+use Rattle.ide_ssr_nesting.specs.Kept.{AreEnough}
 use Rattle.ide_ssr_search.specs.Found.{IsFound}
 use Rattle.ide_ssr_search.proofs.Shared.{are_matches_of}
 use Rattle.ide_ssr_leading.specs.Found.{IsLedFound}
@@ -16,8 +17,8 @@ returns-clause-found g c =
     let context = c.args.context.now in
     let rules = c.args.rules.now in
     let same = λ (f : FoundMatch). same_found w m context rules f c.are_named.ensures.named (g.met.S.Semantics.complete c.args.semantics.now) c.requires.known in
-    if_ok (λ (all : Vec FoundMatch Global). (f : FoundMatch) → Contains all.items f ↔ IsLedFound w m context rules f) (λ (all : Vec FoundMatch Global). (f : FoundMatch) → Contains all.items f ↔ IsFound w m context rules f)
-    (λ all known f. (λ had. (same f).1 ((known f).0 had), λ is. (known f).1 ((same f).0 is)))
+    if_ok (λ (all : Vec FoundMatch Global). AreEnough (trees w) (IsLedFound w m context rules) all.items) (λ (all : Vec FoundMatch Global). AreEnough (trees w) (IsFound w m context rules) all.items)
+    (λ all known. record { found = λ f had. (same f).1 (known.found f had); enough = λ f is. known.enough f ((same f).0 is) })
     c.find_all.result c.find_all.ensures.led
 
 pub returns-clause-matches : goal.returns-clause-matches
@@ -27,8 +28,8 @@ returns-clause-matches g c =
     let context = c.args.context.now in
     let rules = c.args.rules.now in
     let same = λ (f : FoundMatch). same_found w m context rules f c.are_named.ensures.named (g.met.S.Semantics.complete c.args.semantics.now) c.requires.known in
-    if_ok (λ (all : Vec FoundMatch Global). (f : FoundMatch) → Contains all.items f ↔ IsLedFound w m context rules f) (λ (all : Vec FoundMatch Global). AreMatches (trees w) all.items)
-    (λ all known. are_matches_of w m context rules all.items (λ f had. (same f).1 ((known f).0 had)))
+    if_ok (λ (all : Vec FoundMatch Global). AreEnough (trees w) (IsLedFound w m context rules) all.items) (λ (all : Vec FoundMatch Global). AreMatches (trees w) all.items)
+    (λ all known. are_matches_of w m context rules all.items (λ f had. (same f).1 (known.found f had)))
     c.find_all.result c.find_all.ensures.led
 
 pub returns-clause-count : goal.returns-clause-count

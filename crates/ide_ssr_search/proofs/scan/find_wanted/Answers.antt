@@ -7,7 +7,7 @@ use Rattle.ssr_base_trees.specs.Laws.{IsBelow}
 use Rattle.ide_ssr_search.specs.Private.Scan.{AreFoundBefore, KeepsLimits, KnowsShut, KnowsInside}
 use Rattle.ide_ssr_search.proofs.Trees.{tree_within}
 use Rattle.ide_ssr_search.proofs.Calls.{inside_more}
-use Rattle.ide_ssr_search.proofs.Finding.{found_all}
+use Rattle.ide_ssr_search.proofs.Finding.{found_enough}
 use Rattle.ide_ssr_search.proofs.Counting.{kept_on, kept_all}
 use Rattle.ide_ssr_search.proofs.scan.find_wanted.Goals as goal
 
@@ -55,8 +55,11 @@ loop-tree-preserved g c =
 
 pub returns-clause-found : goal.returns-clause-found
 returns-clause-found g c =
-    found_all c.args.workspace.now (g.S.Semantics.meanings c.args.semantics.now) c.args.context.now c.args.rules.now c.args.wanted.now c.loop-tree.number c.loop-tree.found.items
+    found_enough c.args.workspace.now (g.S.Semantics.meanings c.args.semantics.now) c.args.context.now c.args.rules.now c.args.wanted.now c.loop-tree.number c.loop-tree.found.items
     c.in_default.ensures c.loop-tree.invariant.found
+
+pub returns-clause-in_order : goal.returns-clause-in_order
+returns-clause-in_order g c = c.loop-tree.invariant.found.in_order
 
 pub returns-clause-count : goal.returns-clause-count
 returns-clause-count g c = λ most is.

@@ -1,4 +1,4 @@
-use Rattle.std.proofs.Common.{◌+◌, sym, ap, subst, ◌∙◌}
+use Rattle.std.proofs.Common.{◌+◌, arith, sym, ap, subst, ◌∙◌}
 use Rattle.std.specs.Map.{lookup}
 use Rattle.std.specs.Option.{option_map, option_or}
 use Rattle.std.specs.Prelude.{IsPermutation}
@@ -36,5 +36,5 @@ loop-number-preserved c =
 
 pub returns : goal.returns
 returns c =
-    λ x. all_told c.args.workspace.now c.requires (scope_of c.args.rows.now) x c.loop-number.number (lookup (same_id x) c.loop-number.told.items) c.loop-number-test.false
-    (c.loop-number.invariant x)
+    λ x. all_told c.args.workspace.now (scope_of c.args.rows.now) x c.loop-number.number (lookup (same_id x) c.loop-number.told.items)
+    (omega (arith, c.loop-number-test.false, c.tree_count-count.ensures)) (c.loop-number.invariant x)

@@ -1,4 +1,4 @@
-use Rattle.std.proofs.Common.{sym, ap, ◌∙◌}
+use Rattle.std.proofs.Common.{arith, sym, ap, ◌∙◌}
 use Rattle.std.specs.Prelude.{Vec}
 use Rattle.std.specs.Global.{Global}
 use Rattle.std.specs.Option.{option_map}
@@ -23,5 +23,5 @@ loop-number-preserved c =
 
 pub returns : goal.returns
 returns c =
-    λ x. all_told c.args.workspace.now c.requires (λ (place : PlaceRow). option_map (λ (v : Vec TypeId Global). v.items) (at_place c.args.by_place.now place)) x c.loop-number.number
-    (types_at c.loop-number.told.items x) c.loop-number-test.false (c.loop-number.invariant x)
+    λ x. all_told c.args.workspace.now (λ (place : PlaceRow). option_map (λ (v : Vec TypeId Global). v.items) (at_place c.args.by_place.now place)) x c.loop-number.number
+    (types_at c.loop-number.told.items x) (omega (arith, c.loop-number-test.false, c.tree_count-count.ensures)) (c.loop-number.invariant x)

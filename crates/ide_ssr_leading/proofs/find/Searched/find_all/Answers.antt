@@ -1,6 +1,7 @@
 use Rattle.std.proofs.Common.{◌≡◌, ◌∙◌, sym, subst, arith}
-use Rattle.std.specs.Prelude.{◌↔◌, Contains}
-use Rattle.ide_ssr_search.specs.Found.{AreFoundOf}
+use Rattle.ssr_base_trees.specs.Workspace.{trees}
+use Rattle.ide_ssr_nesting.specs.Kept.{AreEnough}
+use Rattle.ide_ssr_search.specs.Found.{IsFoundOf}
 use Rattle.ide_ssr_search.specs.Tries.{IsMostOf}
 use Rattle.ide_ssr_leading.specs.Found.{IsLedFound}
 use Rattle.ide_ssr_leading.specs.Private.Finding.{are_others}
@@ -17,11 +18,11 @@ returns-clause-count g c = λ most is.
     omega (arith, more, split.2, c.in_ok-led.ensures.count)
 
 pub returns-clause-led : goal.returns-clause-led
-returns-clause-led g c = λ found.
+returns-clause-led g c =
     let s = c.args.self.now in
     let m = g.S.Semantics.meanings c.args.semantics.now in
     let flags : c.deref.result.now ≡ are_others s.rules.now = c.deref.ensures.value ∙ c.in_ok-led.ensures.others in
     let rest = c.in_ok-rest.rest.items in
-    subst (λ ms. Contains ms found ↔ IsLedFound s.workspace.now m s.context.now s.rules.now found) (sym c.in_ok-append.ensures.items)
+    subst (AreEnough (trees s.workspace.now) (IsLedFound s.workspace.now m s.context.now s.rules.now)) (sym c.in_ok-append.ensures.items)
     (together s.workspace.now m s.context.now s.rules.now c.in_ok-led.led.found.items rest c.in_ok-led.ensures.found
-    (subst (λ fs. AreFoundOf s.workspace.now m s.context.now s.rules.now fs rest) flags c.in_ok-rest.ensures.found) found)
+    (subst (λ fs. AreEnough (trees s.workspace.now) (IsFoundOf s.workspace.now m s.context.now s.rules.now fs) rest) flags c.in_ok-rest.ensures.found))

@@ -1,5 +1,7 @@
 use Rattle.std.proofs.Common.{sym, subst}
-use Rattle.ide_ssr_search.specs.Found.{AreFoundOf}
+use Rattle.ssr_base_trees.specs.Workspace.{trees}
+use Rattle.ide_ssr_nesting.specs.Kept.{AreEnough}
+use Rattle.ide_ssr_search.specs.Found.{IsFoundOf}
 use Rattle.ide_ssr_leading.proofs.Together.{none_wanted}
 use Rattle.ide_ssr_leading.proofs.find.Searched.find_others.Goals as goal
 
@@ -7,5 +9,5 @@ pub returns-then-are_unset-clause-found : goal.returns-then-are_unset-clause-fou
 returns-then-are_unset-clause-found g c =
     let s = c.args.self.now in
     let m = g.S.Semantics.meanings c.args.semantics.now in
-    subst (AreFoundOf s.workspace.now m s.context.now s.rules.now c.args.others.now) (sym c.new.ensures.items)
+    subst (AreEnough (trees s.workspace.now) (IsFoundOf s.workspace.now m s.context.now s.rules.now c.args.others.now)) (sym c.new.ensures.items)
     (none_wanted s.workspace.now m s.context.now s.rules.now c.args.others.now (c.are_unset.ensures c.if-are_unset.true))

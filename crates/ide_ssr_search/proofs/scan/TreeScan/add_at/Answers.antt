@@ -1,6 +1,7 @@
-use Rattle.ssr_base_trees.specs.Workspace.{node_id}
+use Rattle.ssr_base_trees.specs.Workspace.{trees, node_id}
+use Rattle.ide_ssr_nesting.specs.Kept.{IsShadowed}
 use Rattle.ide_ssr_search.proofs.Opening.{not_shut}
-use Rattle.ide_ssr_search.proofs.Finding.{found_nothing}
+use Rattle.ide_ssr_search.proofs.Finding.{found_nothing, stays_shadowed}
 use Rattle.ide_ssr_search.proofs.Counting.{kept_none, kept_node}
 use Rattle.ide_ssr_search.proofs.scan.TreeScan.add_at.Goals as goal
 
@@ -8,7 +9,7 @@ pub returns-then-shut-clause-found : goal.returns-then-shut-clause-found
 returns-then-shut-clause-found g c =
     let scan = c.args.self.now in
     let w = scan.workspace.now in
-    found_nothing w (g.S.Semantics.meanings c.args.semantics.now) scan.context.now c.args.rules.now.rules.now c.args.rules.now.wanted.now scan.number c.args.node.0 c.args.found.now.items
+    found_nothing w (g.S.Semantics.meanings c.args.semantics.now) scan.context.now c.args.rules.now.rules.now c.args.rules.now.wanted.now (IsShadowed (trees w)) (stays_shadowed w) scan.number c.args.node.0 c.args.found.now.items
     (λ is. not_shut w scan.context.now.restrictions (node_id scan.number c.args.node.0) is (c.requires.shut.0 c.if-shut.true)) c.requires.found
 
 pub returns-then-shut-clause-count : goal.returns-then-shut-clause-count

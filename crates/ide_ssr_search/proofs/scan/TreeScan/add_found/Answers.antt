@@ -2,11 +2,12 @@ use Rattle.std.proofs.Common.{◌≡◌, ◌+◌, max, sym, ap, ◌∙◌, refl,
 use Rattle.ssr_syntax_tree.specs.Places.{HasNode}
 use Rattle.ssr_base_trees.specs.Workspace.{trees, node_id}
 use Rattle.ide_ssr_search.specs.Private.Shut.{IsShutIn, IsShut}
+use Rattle.ide_ssr_nesting.specs.Kept.{IsShadowed}
 use Rattle.ide_ssr_bindings.proofs.Shared.{is_tree}
 use Rattle.ide_ssr_search.specs.Private.Roots.{has_kind}
 use Rattle.ide_ssr_search.proofs.Asked.{unmatched_kind, unshutting_kind, no_call_of_kind}
 use Rattle.ide_ssr_search.proofs.Calls.{shut_kept}
-use Rattle.ide_ssr_search.proofs.Finding.{found_in, found_unmatched}
+use Rattle.ide_ssr_search.proofs.Finding.{found_in, found_unmatched, stays_shadowed}
 use Rattle.ide_ssr_search.proofs.Counting.{kept_on, kept_node, kept_tree}
 use Rattle.ide_ssr_search.proofs.Shutting.{past_now, past_turn, past_call, tested}
 use Rattle.ide_ssr_search.proofs.scan.TreeScan.add_found.Goals as goal
@@ -61,7 +62,7 @@ loop-number-preserved-then-not-has g c =
     let lacks = ap (has_kind kinds) (sym c.kind.ensures) ∙ sym c.has.ensures ∙ c.if-not-has.true in
     record {
       found =
-          found_unmatched w (g.S.Semantics.meanings c.args.semantics.now) scan.context.now rules.rules.now rules.wanted.now scan.number n c.loop-number.found.items
+          found_unmatched w (g.S.Semantics.meanings c.args.semantics.now) scan.context.now rules.rules.now rules.wanted.now (IsShadowed (trees w)) (stays_shadowed w) scan.number n c.loop-number.found.items
           (unmatched_kind w (g.S.Semantics.meanings c.args.semantics.now) scan.number n scan.tree.now at rules kinds are has lacks) c.loop-number.invariant.found;
       count =
           kept_node w scan.context.now rules.rules.now rules.wanted.now scan.number 0 scan.number n 0 c.args.tries.now c.loop-number.tries c.loop-number.invariant.count;
@@ -76,7 +77,7 @@ loop-number-preserved-then-not-has g c =
 pub returns-clause-found : goal.returns-clause-found
 returns-clause-found g c =
     let scan = c.args.self.now in
-    found_in scan.workspace.now (g.S.Semantics.meanings c.args.semantics.now) scan.context.now c.args.rules.now.rules.now c.args.rules.now.wanted.now scan.number c.loop-number.number scan.tree.now
+    found_in scan.workspace.now (g.S.Semantics.meanings c.args.semantics.now) scan.context.now c.args.rules.now.rules.now c.args.rules.now.wanted.now (IsShadowed (trees scan.workspace.now)) (stays_shadowed scan.workspace.now) scan.number c.loop-number.number scan.tree.now
     c.loop-number.found.items c.requires.scan.tree (omega arith) c.loop-number.invariant.found
 
 pub returns-clause-count : goal.returns-clause-count

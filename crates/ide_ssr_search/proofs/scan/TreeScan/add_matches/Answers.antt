@@ -1,7 +1,9 @@
-use Rattle.std.proofs.Common.{length, refl, sym}
+use Rattle.std.proofs.Common.{◌+◌, length, refl, sym}
 use Rattle.std.proofs.lemmas.Bool.{both_ways}
 use Rattle.std.proofs.lemmas.Option.{slice_get_read}
-use Rattle.ide_ssr_search.proofs.Finding.{found_more, found_unwanted, found_at}
+use Rattle.ssr_base_trees.specs.Workspace.{trees}
+use Rattle.ide_ssr_nesting.specs.Kept.{IsShadowed}
+use Rattle.ide_ssr_search.proofs.Finding.{found_more, found_unwanted, found_at, found_last, stays_shadowed}
 use Rattle.ide_ssr_search.proofs.Counting.{kept_none, kept_try, kept_rule, kept_node}
 use Rattle.ide_ssr_search.proofs.scan.TreeScan.add_matches.Goals as goal
 
@@ -21,11 +23,11 @@ loop-place-preserved g c =
     let wanted = c.wants.ensures.0 c.if-not-wants.false in
     record {
       found =
-          found_more scan.workspace.now (g.S.Semantics.meanings c.args.semantics.now) scan.context.now rules.rules.now rules.wanted.now scan.number c.args.node.0 p scan.tree.now c.rule-item.result
-          c.loop-place.found.items c.add_match.new.found.items c.requires.scan.tree c.loop-place-test.true c.rule-item.is wanted c.loop-place.invariant.found c.in_ok-add_match.ensures.added;
+          found_more scan.workspace.now (g.S.Semantics.meanings c.args.semantics.now) scan.context.now rules.rules.now rules.wanted.now (IsShadowed (trees scan.workspace.now)) (stays_shadowed scan.workspace.now) scan.number c.args.node.0 p scan.tree.now c.rule-item.result
+          c.loop-place.found.items c.add_match.new.found.items c.requires.scan.tree c.loop-place-test.true c.rule-item.is wanted c.loop-place.invariant.found c.in_ok-shadows.ensures.added;
       count =
           kept_try scan.workspace.now scan.context.now rules.rules.now rules.wanted.now scan.number c.args.node.0 p c.rule-item.result c.args.tries.now c.loop-place.tries c.add_match.new.tries
-          (slice_get_read rules.rules.now (length rules.rules.now) p c.rule-item.result refl c.loop-place-test.true c.rule-item.is) wanted c.loop-place.invariant.count c.in_ok-add_match.ensures.count;
+          (slice_get_read rules.rules.now (length rules.rules.now) p c.rule-item.result refl c.loop-place-test.true c.rule-item.is) wanted c.loop-place.invariant.count c.in_ok-shadows.ensures.count;
     }
 
 pub loop-place-preserved-then-not-wants : goal.loop-place-preserved-then-not-wants
@@ -34,7 +36,7 @@ loop-place-preserved-then-not-wants g c =
     let rules = c.args.rules.now in
     record {
       found =
-          found_unwanted scan.workspace.now (g.S.Semantics.meanings c.args.semantics.now) scan.context.now rules.rules.now rules.wanted.now scan.number c.args.node.0 c.loop-place.place
+          found_unwanted scan.workspace.now (g.S.Semantics.meanings c.args.semantics.now) scan.context.now rules.rules.now rules.wanted.now (IsShadowed (trees scan.workspace.now)) (stays_shadowed scan.workspace.now) scan.number c.args.node.0 c.loop-place.place
           c.loop-place.found.items (λ wanted. both_ways c.wants.result c.if-not-wants.true (c.wants.ensures.1 wanted)) c.loop-place.invariant.found;
       count =
           kept_rule scan.workspace.now scan.context.now rules.rules.now rules.wanted.now scan.number c.args.node.0 c.loop-place.place c.args.tries.now c.loop-place.tries c.loop-place.invariant.count;
@@ -43,7 +45,7 @@ loop-place-preserved-then-not-wants g c =
 pub returns-clause-found : goal.returns-clause-found
 returns-clause-found g c =
     let scan = c.args.self.now in
-    found_at scan.workspace.now (g.S.Semantics.meanings c.args.semantics.now) scan.context.now c.args.rules.now.rules.now c.args.rules.now.wanted.now scan.number c.args.node.0 c.loop-place.place c.loop-place.found.items
+    found_at scan.workspace.now (g.S.Semantics.meanings c.args.semantics.now) scan.context.now c.args.rules.now.rules.now c.args.rules.now.wanted.now (IsShadowed (trees scan.workspace.now)) (stays_shadowed scan.workspace.now) scan.number c.args.node.0 c.loop-place.place c.loop-place.found.items
     c.loop-place-test.false c.loop-place.invariant.found
 
 pub returns-clause-count : goal.returns-clause-count
@@ -51,6 +53,31 @@ returns-clause-count g c =
     let scan = c.args.self.now in
     kept_node scan.workspace.now scan.context.now c.args.rules.now.rules.now c.args.rules.now.wanted.now scan.number c.args.node.0 scan.number c.args.node.0 c.loop-place.place c.args.tries.now c.loop-place.tries
     c.loop-place.invariant.count
+
+pub returns-then-shadows-clause-found : goal.returns-then-shadows-clause-found
+returns-then-shadows-clause-found g c =
+    let scan = c.args.self.now in
+    let w = scan.workspace.now in
+    let m = g.S.Semantics.meanings c.args.semantics.now in
+    let rules = c.args.rules.now in
+    let p = c.loop-place.place in
+    found_last w m scan.context.now rules.rules.now rules.wanted.now (IsShadowed (trees w)) (stays_shadowed w) scan.number c.args.node.0 p c.add_match.new.found.items
+    (c.in_ok-shadows.ensures.shadows c.if-shadows.true)
+    (found_more w m scan.context.now rules.rules.now rules.wanted.now (IsShadowed (trees w)) (stays_shadowed w) scan.number c.args.node.0 p scan.tree.now c.rule-item.result
+    c.loop-place.found.items c.add_match.new.found.items c.requires.scan.tree c.loop-place-test.true c.rule-item.is (c.wants.ensures.0 c.if-not-wants.false) c.loop-place.invariant.found
+    c.in_ok-shadows.ensures.added)
+
+pub returns-then-shadows-clause-count : goal.returns-then-shadows-clause-count
+returns-then-shadows-clause-count g c =
+    let scan = c.args.self.now in
+    let w = scan.workspace.now in
+    let rules = c.args.rules.now in
+    let n = c.args.node.0 in
+    let p = c.loop-place.place in
+    kept_node w scan.context.now rules.rules.now rules.wanted.now scan.number n scan.number n (p + 1) c.args.tries.now c.add_match.new.tries
+    (kept_try w scan.context.now rules.rules.now rules.wanted.now scan.number n p c.rule-item.result c.args.tries.now c.loop-place.tries c.add_match.new.tries
+    (slice_get_read rules.rules.now (length rules.rules.now) p c.rule-item.result refl c.loop-place-test.true c.rule-item.is) (c.wants.ensures.0 c.if-not-wants.false)
+    c.loop-place.invariant.count c.in_ok-shadows.ensures.count)
 
 pub add_match-requires-clause-asked : goal.add_match-requires-clause-asked
 add_match-requires-clause-asked g c =

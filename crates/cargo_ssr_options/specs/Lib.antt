@@ -1,0 +1,4 @@
+pub mod Given
+pub mod Place
+pub mod Private
+pub mod RulesFile

@@ -1,0 +1,180 @@
+//! What a run searches.
+
+use crate::console::Console;
+use crate::failure::Failure;
+use crate::positions::position_at;
+use crate::rules::read_text;
+use cargo_ssr_options::{Chosen, Options, Place};
+use ssr_base::{FileId, FilePosition, FileRange, Workspace};
+use ssr_changes::{Searchable, Unread};
+use ssr_facts::{Facts, TableSemantics, read};
+use ssr_package::{PackageError, PackageFiles, find_manifest, given_files, package_files};
+use ssr_searching::Unresolved;
+use ssr_syntax::SyntaxError;
+use std::alloc::{AllocError, Global};
+use std::io::Write;
+use std::rt::Files;
+
+/// Files, and what is known of their names.
+#[derive(Drop)]
+pub(crate) struct Input<S> {
+    /// The folder from which the files are named.
+    pub(crate) folder: String,
+    pub(crate) files: Searchable,
+    pub(crate) semantics: S,
+    /// Where the names of rules are looked up.
+    pub(crate) position: FilePosition,
+    /// What is searched: all, if there are none.
+    pub(crate) ranges: Vec<FileRange>,
+    /// How many files are left out.
+    pub(crate) left_out: usize,
+}
+
+impl<S> Input<S> {
+    /// The ranges once more.
+    pub(crate) fn ranges(&self, alloc: Global) -> Result<Vec<FileRange>, AllocError> {
+        Vec::from_slice(alloc, &self.ranges)
+    }
+}
+
+/// Where names are looked up, if no place is told: at the beginning of the first file.
+const BEGINNING: FilePosition = FilePosition {
+    file_id: FileId(0),
+    offset: 0,
+};
+
+/// The files of a package, or of paths. What is left out of them is told.
+pub(crate) fn of_files<R: Files + AllocGlobal, W: Write, E: Write>(
+    rt: &R,
+    here: &str,
+    options: &Options,
+    console: &mut Console<W, E>,
+) -> Result<Input<Unresolved>, Failure> {
+    let alloc = rt.alloc();
+    let PackageFiles {
+        folder,
+        files,
+        notes,
+    } = chosen_files(rt, here, &options.files)?;
+    for note in &notes {
+        console.tell(note.to_string(alloc)?.as_str());
+    }
+    let (files, unread) = Searchable::of_files(alloc, files, options.macros)?;
+    for file in &unread {
+        console.tell(unread_words(alloc, file)?.as_str());
+    }
+    let position = position_at(alloc, &files, options.place.as_ref(), BEGINNING)?;
+    Ok(Input {
+        folder,
+        files,
+        semantics: Unresolved,
+        position,
+        ranges: Vec::new(alloc),
+        left_out: unread.len(),
+    })
+}
+
+/// The files that are chosen, as they stand on the disk.
+fn chosen_files<R: Files + AllocGlobal>(
+    rt: &R,
+    here: &str,
+    chosen: &Chosen,
+) -> Result<PackageFiles, Failure> {
+    let found = match chosen {
+        Chosen::Paths(paths) => paths_files(rt, here, paths)?,
+        Chosen::Package { name, manifest } => {
+            let name = name.as_ref().map(|name| name.as_str());
+            let manifest = manifest.as_ref().map(|manifest| manifest.as_str());
+            package(rt, here, name, manifest)
+        }
+        Chosen::Facts(_) => Ok(PackageFiles {
+            folder: String::new(rt.alloc()),
+            files: Vec::new(rt.alloc()),
+            notes: Vec::new(rt.alloc()),
+        }),
+    };
+    match found {
+        Ok(found) => Ok(found),
+        Err(error) => Err(package_failure(rt.alloc(), &error)?),
+    }
+}
+
+/// The files at paths.
+fn paths_files<R: Files + AllocGlobal>(
+    rt: &R,
+    here: &str,
+    paths: &[String],
+) -> Result<Result<PackageFiles, PackageError>, AllocError> {
+    let mut texts = Vec::with_capacity(rt.alloc(), paths.len())?;
+    for path in paths {
+        texts.push(path.as_str())?;
+    }
+    Ok(given_files(rt, here, &texts))
+}
+
+/// The files of a package.
+fn package<R: Files + AllocGlobal>(
+    rt: &R,
+    here: &str,
+    name: Option<&str>,
+    manifest: Option<&str>,
+) -> Result<PackageFiles, PackageError> {
+    match manifest {
+        Some(manifest) => package_files(rt, manifest, name),
+        None => {
+            let manifest = find_manifest(rt, here)?;
+            package_files(rt, manifest.as_str(), name)
+        }
+    }
+}
+
+/// Why no files are told.
+fn package_failure(alloc: Global, error: &PackageError) -> Result<Failure, AllocError> {
+    match error {
+        PackageError::Memory => Ok(Failure::Memory),
+        error => Ok(Failure::Told(error.to_string(alloc)?)),
+    }
+}
+
+/// Tells that a file is left out.
+fn unread_words(alloc: Global, file: &Unread) -> Result<String, AllocError> {
+    let why = match file.why {
+        SyntaxError::Lex => "not tokens of the language",
+        SyntaxError::NoTree => "not read as a file",
+        SyntaxError::TooDeep => "nested too deeply",
+        SyntaxError::TooLong => "too long",
+        SyntaxError::Memory => "out of memory",
+    };
+    format!(in alloc; "{}: left out: {why}", file.name)
+}
+
+/// The files of a facts file, with what it tells of their names.
+pub(crate) fn of_facts<R: Files + AllocGlobal>(
+    rt: &R,
+    here: &str,
+    path: &str,
+    place: Option<&Place>,
+) -> Result<Input<TableSemantics>, Failure> {
+    let alloc = rt.alloc();
+    let bytes = read_text(rt, here, path)?;
+    let Facts {
+        workspace,
+        semantics,
+        names,
+        position,
+        ranges,
+    } = match read(alloc, bytes.as_bytes()) {
+        Ok(facts) => facts,
+        Err(error) => return Err(Failure::Told(format!(in alloc; "{path}: {error}")?)),
+    };
+    let files = Searchable::of_workspace(alloc, workspace, names)?;
+    let position = position_at(alloc, &files, place, position)?;
+    Ok(Input {
+        folder: String::from_str(alloc, here)?,
+        files,
+        semantics,
+        position,
+        ranges,
+        left_out: 0,
+    })
+}

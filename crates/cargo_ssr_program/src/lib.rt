@@ -1,0 +1,20 @@
+//! The command `cargo ssr`, from its words to its status, over any file system and any writers: which files are searched, what
+//! rules change in them, and what of that is shown, told and written.
+#![tactic(auto)]
+
+mod console;
+mod counting;
+mod debugging;
+mod failure;
+mod finding;
+mod input;
+mod naming;
+mod positions;
+mod program;
+mod rewriting;
+mod rules;
+mod telling;
+mod writing;
+
+pub use console::Console;
+pub use program::run;

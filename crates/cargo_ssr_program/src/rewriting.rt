@@ -1,0 +1,213 @@
+//! What rules change: shown, told and written.
+ghost use Rattle.std.specs.Prelude.{All, IfOk, length, slice_get, string_bytes};
+ghost use Rattle.std.specs.Option.{IsSomeAnd};
+ghost use Rattle.ssr_base_trees.specs.Changes.{replaced};
+ghost use Rattle.ssr_changes.specs.Changing.{FitsIn};
+ghost use Rattle.ssr_diff.specs.Patch.{IsDiff};
+
+use crate::console::Console;
+use crate::counting::counts_of_changes;
+use crate::failure::Failure;
+use crate::finding::{Listed, show_json, tell_summary};
+use crate::input::Input;
+use crate::telling::{is_colored, search_failure};
+use crate::writing::write;
+use cargo_ssr_options::{Mode, Options};
+use ssr_base::Semantics;
+use ssr_changes::{FileChange, Searchable, changes, check_new, rule_matches};
+use ssr_diff::unified_diff;
+use ssr_reports::{LinePlace, Places, Summary, colored};
+use std::alloc::{AllocError, Global};
+use std::io::Write;
+use std::rt::Files;
+
+/// Shows what rules change, or writes it; whether there is something.
+pub(crate) fn rewrite<R: Files + AllocGlobal, W: Write, E: Write, S: Semantics>(
+    rt: &R,
+    input: &Input<S>,
+    options: &Options,
+    console: &mut Console<W, E>,
+) -> Result<bool, Failure> {
+    let alloc = rt.alloc();
+    let made = changes_of(alloc, input, options)?;
+    refuse_unread(alloc, &input.files, &made)?;
+    let counts = counts_of_changes(&made, input.left_out);
+    let is_write = matches!(options.mode, Mode::Write);
+    if options.json {
+        show_matches(alloc, input, options, &made, counts, console)?;
+    } else if !is_write {
+        show_diffs(alloc, &input.files, options, &made, console)?;
+    }
+    tell_set_aside(alloc, &input.files, &made, console)?;
+    if is_write {
+        let written = write(rt, input, &made)?;
+        tell_written(alloc, written, options, console)?;
+    }
+    if !options.json {
+        tell_summary(alloc, counts, options, console)?;
+    }
+    Ok(is_any_changed(&input.files, &made))
+}
+
+/// Whether a file's text changes: a replacement may be the text that stood there.
+#[tactic(auto, using(crate::proofs::InFiles::each_is_there))]
+fn is_any_changed(files: &Searchable, made: &[FileChange]) -> bool
+    requires { All (FitsIn files.now.files) made.now }
+{
+    for change in made {
+        if change.new.as_str() != files.text(change.file) {
+            return true;
+        }
+    }
+    false
+}
+
+/// What the rules change.
+fn changes_of<S: Semantics>(
+    alloc: Global,
+    input: &Input<S>,
+    options: &Options,
+) -> Result<Vec<FileChange>, Failure>
+    ensures { IfOk result (λ made. All (FitsIn input.now.files.files) made.items) }
+{
+    let ranges = input.ranges(alloc)?;
+    let made = changes(
+        alloc,
+        &input.files,
+        &input.semantics,
+        input.position,
+        ranges,
+        &options.rules,
+    );
+    match made {
+        Ok(made) => Ok(made),
+        Err(error) => Err(search_failure(alloc, &input.files, error)?),
+    }
+}
+
+/// Refuses changes after which a file isn't read any more.
+fn refuse_unread(alloc: Global, files: &Searchable, made: &[FileChange]) -> Result<(), Failure> {
+    let Some(file) = check_new(alloc, files, made)? else {
+        return Ok(());
+    };
+    let name = if file < files.file_count() {
+        files.name(file)
+    } else {
+        ""
+    };
+    Err(Failure::Told(format!(in alloc; "{name}: can't be read with what the rules put there")?))
+}
+
+/// Shows the diffs of all files that change.
+#[tactic(auto, using(crate::proofs::InFiles::each_fits))]
+fn show_diffs<W: Write, E: Write>(
+    alloc: Global,
+    files: &Searchable,
+    options: &Options,
+    made: &[FileChange],
+    console: &mut Console<W, E>,
+) -> Result<(), Failure>
+    requires { All (FitsIn files.now.files) made.now }
+{
+    let is_colored = is_colored(options.color, console.is_terminal());
+    for change in made {
+        let diff = diff(alloc, files, change)?;
+        if is_colored {
+            console.show(colored(alloc, diff.as_str())?.as_str())?;
+        } else {
+            console.show(diff.as_str())?;
+        }
+    }
+    Ok(())
+}
+
+/// The diff of a file's text and what its changes make of it.
+#[tactic(auto, using(crate::proofs::InFiles::is_there, crate::proofs::InFiles::fits_text, crate::proofs::InFiles::diff_there))]
+fn diff(alloc: Global, files: &Searchable, change: &FileChange) -> Result<String, AllocError>
+    requires { FitsIn files.now.files change.now }
+    ensures { IfOk result (λ diff. IsSomeAnd (slice_get files.now.files change.now.file) (λ file. IsDiff file.name file.text (replaced file.text 0 (length file.text) change.now.edit) (string_bytes diff))) }
+{
+    let (name, old) = (files.name(change.file), files.text(change.file));
+    unified_diff(alloc, name, old, &change.edit)
+}
+
+/// Shows the matches of the rules as JSON.
+fn show_matches<W: Write, E: Write, S: Semantics>(
+    alloc: Global,
+    input: &Input<S>,
+    options: &Options,
+    made: &[FileChange],
+    counts: Summary,
+    console: &mut Console<W, E>,
+) -> Result<(), Failure> {
+    let found = rule_matches(
+        alloc,
+        &input.files,
+        &input.semantics,
+        input.position,
+        input.ranges(alloc)?,
+        &options.rules,
+    );
+    let places = match found {
+        Ok(places) => places,
+        Err(error) => return Err(search_failure(alloc, &input.files, error)?),
+    };
+    let listed = Listed {
+        files: &input.files,
+        places: &places,
+        changes: made,
+    };
+    show_json(alloc, &listed, counts, console)
+}
+
+/// Tells the matches that stay because they hold what is set aside.
+#[tactic(auto, using(crate::proofs::InFiles::each_fits))]
+fn tell_set_aside<W: Write, E: Write>(
+    alloc: Global,
+    files: &Searchable,
+    made: &[FileChange],
+    console: &mut Console<W, E>,
+) -> Result<(), Failure>
+    requires { All (FitsIn files.now.files) made.now }
+{
+    for change in made {
+        tell_of_file(alloc, files, change, console)?;
+    }
+    Ok(())
+}
+
+/// Tells those of a file.
+#[tactic(auto, using(crate::proofs::InFiles::is_there))]
+fn tell_of_file<W: Write, E: Write>(
+    alloc: Global,
+    files: &Searchable,
+    change: &FileChange,
+    console: &mut Console<W, E>,
+) -> Result<(), Failure>
+    requires { FitsIn files.now.files change.now }
+{
+    let name = files.name(change.file);
+    let mut places = Places::new(files.text(change.file));
+    for range in &change.told {
+        let LinePlace { line, column } = places.place(range.start as usize);
+        console.tell(format!(in alloc;
+            "{name}:{line}:{column}: left as it is: it holds what is set aside"
+        )?.as_str());
+    }
+    Ok(())
+}
+
+/// Tells how many files were written, unless it isn't wanted.
+fn tell_written<W: Write, E: Write>(
+    alloc: Global,
+    written: usize,
+    options: &Options,
+    console: &mut Console<W, E>,
+) -> Result<(), Failure> {
+    if options.quiet {
+        return Ok(());
+    }
+    let files = if written == 1 { "file" } else { "files" };
+    console.tell(format!(in alloc; "{written} {files} written")?.as_str());
+    Ok(())
+}

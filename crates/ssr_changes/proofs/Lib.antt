@@ -1,0 +1,7 @@
+mod Spelled
+mod Built
+mod FileLists
+mod Sorted
+mod InFiles
+mod Texts
+mod Matches

@@ -1,0 +1,112 @@
+-- Files that are sorted one by one.
+use Rattle.std.proofs.Common.{◌≡◌, ℕ, ◌+◌, ◌<◌, ◌≤◌, List, [], ◌∷◌, ◌++◌, length, map, All, Result, Ok, Err, String, Global, string_bytes, refl, sym, ◌∙◌, ap, subst, append_assoc, append-nil, arith}
+use Rattle.std.specs.Prelude.{◌≢◌, ◌⊎◌, OnOk}
+use Rattle.std.specs.declared.alloc.AllocError.{AllocError}
+use Rattle.std.proofs.lemmas.List.{length-append, map-append}
+use Rattle.std.proofs.lemmas.List.Elements.{All-push}
+use Rattle.ssr_syntax_tree.specs.Syntax.{Syntax}
+use Rattle.ssr_syntax.specs.Reading.{file_reading}
+use Rattle.ssr_syntax.specs.declared.syntax_error.SyntaxError.{SyntaxError}
+use Rattle.ssr_syntax.specs.declared.syntax_error.SyntaxError.TheVariants as errors
+use Rattle.ssr_base_trees.specs.Built.{most_trees}
+use Rattle.ssr_base_trees.specs.Changes.{Change}
+use Rattle.ssr_set_aside.specs.SetAside.{SetAside, IsSetAside, IsRead}
+use Rattle.ssr_set_aside.specs.declared.source_file.SourceFile.{SourceFile}
+use Rattle.ssr_changes.specs.declared.sorting.Sorted.{Sorted}
+use Rattle.ssr_changes.specs.declared.sorting.Unread.{Unread}
+use Rattle.ssr_changes.specs.Files.{File, AreMadeOf, IsMadeOf}
+use Rattle.ssr_changes.specs.Sorting.{AreSorted, IsFileOf, none, read, told}
+use Rattle.ssr_changes.specs.Private.Building.{Adds, IsFile, as_read, as_told}
+use Rattle.ssr_changes.proofs.FileLists.{made_more}
+
+-- what is sorted so far, with any that are left
+abbrev pub SortedSoFar : List SourceFile → List SourceFile → Sorted → Type 0
+SortedSoFar all left so_far =
+    (files : List File) (unread : List Unread) → AreSorted (length so_far.files.items) left files unread
+    → AreSorted 0 all (so_far.files.items ++ files) (so_far.unread.items ++ unread)
+
+pub sorted_more : (all left sources : List SourceFile) (source : SourceFile) (old new : Sorted) → left ≡ source ∷ sources → Adds old new source
+    → SortedSoFar all left old → SortedSoFar all sources new
+sorted_more all left sources source old new step (as_read text file its made is few _ grown same) so_far files unread rest =
+    let n = length old.files.items in
+    let more : length new.files.items ≡ n + 1 = omega (arith, ap length grown, length-append old.files.items (file ∷ [])) in
+    let behind : AreSorted (n + 1) sources files unread = subst (λ k. AreSorted k sources files unread) more rest in
+    let next : AreSorted n left (file ∷ files) unread =
+    subst (λ (l : List SourceFile). AreSorted n l (file ∷ files) unread) (sym step) (read n source sources file files unread its behind) in
+    let one : new.files.items ++ files ≡ old.files.items ++ (file ∷ files) = ap (λ (l : List File). l ++ files) grown ∙ append_assoc old.files.items (file ∷ []) files in
+    subst (λ (l : List File). AreSorted 0 all l (new.unread.items ++ unread)) (sym one)
+    (subst (λ (l : List Unread). AreSorted 0 all (old.files.items ++ (file ∷ files)) (l ++ unread)) (sym same) (so_far (file ∷ files) unread next))
+sorted_more all left sources source old new step (as_told one its _ same grown) so_far files unread rest =
+    let n = length old.files.items in
+    let behind : AreSorted n sources files unread = subst (λ (l : List File). AreSorted (length l) sources files unread) same rest in
+    let next : AreSorted n left files (one ∷ unread) =
+    subst (λ (l : List SourceFile). AreSorted n l files (one ∷ unread)) (sym step) (told n source sources files one unread its behind) in
+    let more : new.unread.items ++ unread ≡ old.unread.items ++ (one ∷ unread) = ap (λ (l : List Unread). l ++ unread) grown ∙ append_assoc old.unread.items (one ∷ []) unread in
+    subst (λ (l : List Unread). AreSorted 0 all (new.files.items ++ files) l) (sym more)
+    (subst (λ (l : List File). AreSorted 0 all (l ++ files) (old.unread.items ++ (one ∷ unread))) (sym same) (so_far files (one ∷ unread) next))
+
+pub all_sorted : (all left : List SourceFile) (so_far : Sorted) → left ≡ [] → SortedSoFar all left so_far
+    → AreSorted 0 all so_far.files.items so_far.unread.items
+all_sorted all left so_far nothing sorted =
+    let n = length so_far.files.items in
+    subst (λ (l : List File). AreSorted 0 all l so_far.unread.items) (append-nil so_far.files.items)
+    (subst (λ (l : List Unread). AreSorted 0 all (so_far.files.items ++ []) l) (append-nil so_far.unread.items)
+    (sorted [] [] (subst (λ (l : List SourceFile). AreSorted n l [] []) (sym nothing) (none n))))
+
+-- ** A file that is added.
+
+pub set_aside_is : (source : SourceFile) (now : List ℕ) (made : SetAside) (text : String Global) (aside : List Change) (file : File) → now ≡ string_bytes source.text
+    → file ≡ record { name = string_bytes source.name; text = string_bytes source.text; aside = aside } → string_bytes text ≡ made.searched → aside ≡ made.aside
+    → IsSetAside now made → IsRead made → ((code : Syntax) → file_reading now ≡ Ok code → made.aside ≡ [])
+    → IsFileOf source file × IsMadeOf (string_bytes text) file × IsFile text
+set_aside_is source now made text aside file its is searched its_aside set is_file whole =
+    let file_text : file.text ≡ now = ap (λ (f : File). f.text) is ∙ sym its in
+    let file_aside : file.aside ≡ made.aside = ap (λ (f : File). f.aside) is ∙ its_aside in
+    let Set : List ℕ → List ℕ → List Change → Type 0 = λ now searched aside. IsSetAside now (record { searched = searched; aside = aside }) in
+    let one : Set file.text made.searched made.aside = subst (λ now. Set now made.searched made.aside) (sym file_text) set in
+    let two : Set file.text (string_bytes text) made.aside = subst (λ searched. Set file.text searched made.aside) (sym searched) one in (
+      record {
+        name = ap (λ (f : File). f.name) is;
+        text = ap (λ (f : File). f.text) is;
+        as_it_stands = λ code reads. file_aside ∙ whole code (ap file_reading (sym file_text) ∙ reads);
+      },
+      subst (λ aside. Set file.text (string_bytes text) aside) (sym file_aside) two,
+      (is_file.0, ap file_reading searched ∙ is_file.1),
+    )
+
+-- a file that is told
+pub is_told : (old new : Sorted) (source : SourceFile) (why : SyntaxError)
+    → (why ≢ errors.Memory → (file_reading (string_bytes source.text) ≡ Err why) ⊎ ((why ≡ errors.TooLong) × (most_trees ≤ length old.files.items)))
+    → (result : Result (Unit {0}) AllocError) → OnOk result (why ≢ errors.Memory)
+    → OnOk result (new.unread.items ≡ old.unread.items ++ record { name = source.name; why = why } ∷ []) → new.searched ≡ old.searched → new.files ≡ old.files
+    → OnOk result (Adds old new source)
+is_told old new source why reason (Ok done) other grown same_texts same =
+    let texts : new.searched.items ≡ old.searched.items = ap (λ v. v.items) same_texts in
+    let files : new.files.items ≡ old.files.items = ap (λ v. v.items) same in
+    as_told (record { name = source.name; why = why }) (record { name = refl; why = reason other }) texts files grown
+is_told old new source why reason (Err e) other grown same_texts same = tt
+
+-- ** The texts that are searched.
+
+texts_more : (texts more : List (String Global)) (text : String Global) → more ≡ texts ++ text ∷ [] → map string_bytes more ≡ map string_bytes texts ++ string_bytes text ∷ []
+texts_more texts more text is = ap (map string_bytes) is ∙ map-append string_bytes texts (text ∷ [])
+
+pub made_of : (old new : Sorted) (source : SourceFile) → Adds old new source → AreMadeOf (map string_bytes old.searched.items) old.files.items
+    → AreMadeOf (map string_bytes new.searched.items) new.files.items
+made_of old new source (as_read text file its made is few grown_texts grown same) so_far =
+    subst (λ (l : List File). AreMadeOf (map string_bytes new.searched.items) l) (sym grown)
+    (subst (λ (l : List (List ℕ)). AreMadeOf l (old.files.items ++ file ∷ [])) (sym (texts_more old.searched.items new.searched.items text grown_texts))
+    (made_more (map string_bytes old.searched.items) old.files.items (string_bytes text) file so_far made))
+made_of old new source (as_told one its same_texts same grown) so_far =
+    subst (λ (l : List File). AreMadeOf (map string_bytes new.searched.items) l) (sym same)
+    (subst (λ (l : List (String Global)). AreMadeOf (map string_bytes l) old.files.items) (sym same_texts) so_far)
+
+pub are_files : (old new : Sorted) (source : SourceFile) → Adds old new source → All IsFile old.searched.items → All IsFile new.searched.items
+are_files old new source (as_read text file its made is few grown_texts grown same) so_far =
+    subst (All IsFile) (sym grown_texts) (All-push IsFile old.searched.items text so_far is)
+are_files old new source (as_told one its same_texts same grown) so_far = subst (All IsFile) (sym same_texts) so_far
+
+pub are_few : (old new : Sorted) (source : SourceFile) → Adds old new source → length old.files.items ≤ most_trees → length new.files.items ≤ most_trees
+are_few old new source (as_read text file its made is few grown_texts grown same) so_far =
+    omega (arith, ap length grown, length-append old.files.items (file ∷ []))
+are_few old new source (as_told one its same_texts same grown) so_far = omega (arith, ap length same)

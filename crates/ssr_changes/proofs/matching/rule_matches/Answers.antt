@@ -1,0 +1,17 @@
+use Rattle.std.proofs.Common.{List, ℕ, map, ap, ◌∙◌}
+use Rattle.ide_ssr.specs.declared.matches.Match.{Match}
+use Rattle.ide_ssr.specs.Nesting.{ShowKept}
+use Rattle.ssr_changes.specs.declared.finding.Form.TheVariants as forms
+use Rattle.ssr_changes.specs.Matching.{found_of}
+use Rattle.ssr_changes.proofs.Matches.{are_found}
+use Rattle.ssr_changes.proofs.matching.rule_matches.Goals as goal
+
+pub returns : goal.returns
+returns g c =
+    let files = c.args.files.now.files in
+    let owners = c.in_ok-owners.owners.items in
+    are_found g.S.Semantics.meanings forms.Rules c.args.semantics.now c.args.position c.args.ranges.items ShowKept c.workspace.result.now c.args.files.now.workspace _
+    files c.in_ok-finder.finder c.add_all.new.finder owners c.in_ok-found.found.matches.items _ c.workspace.ensures.workspace c.in_ok-finder.ensures
+    c.in_ok-owners.ensures c.in_ok-found.ensures.shows
+    (c.in_ok-places.ensures ∙ ap (λ (os : List ℕ). map (found_of os files) c.deref-2.result.now) c.deref.ensures.value
+    ∙ ap (λ (ms : List Match). map (found_of owners files) ms) c.deref-2.ensures.value)

@@ -1,0 +1,26 @@
+use Rattle.std.proofs.Common.{◌<◌, ◌≤◌, length, sym, ap, ◌∙◌, inl, inr, refl, arith}
+use Rattle.std.proofs.lemmas.Grind.{common_steps}
+use Rattle.ssr_syntax.specs.Reading.{file_reading}
+use Rattle.ssr_syntax.specs.declared.syntax_error.SyntaxError.TheVariants as errors
+use Rattle.ssr_base_trees.specs.Built.{most_trees}
+use Rattle.ssr_changes.specs.Private.Building.{as_read}
+use Rattle.ssr_changes.proofs.Sorted.{is_told, set_aside_is}
+use Rattle.ssr_changes.proofs.sorting.Sorted.add.Goals as goal
+
+pub returns-then-len-ge-MOST_FILES : goal.returns-then-len-ge-MOST_FILES
+returns-then-len-ge-MOST_FILES c =
+    let full : most_trees ≤ length c.args.self.now.files.items = grind (arith, common_steps) in
+    is_told c.args.self.now _ c.args.file errors.TooLong (λ other. inr (refl, full)) c.tell.result c.tell.ensures.why c.tell.ensures.told c.tell.ensures.searched c.tell.ensures.files
+
+pub returns-in_ok-push-in-Ok-2 : goal.returns-in_ok-push-in-Ok-2
+returns-in_ok-push-in-Ok-2 c =
+    let room : length c.args.self.now.files.items < most_trees = grind (arith, common_steps) in
+    let known = set_aside_is c.args.file c.as_str.result.now c.in-Ok.made c.into_parts-searched.result.0 c.into_parts-searched.result.1 c.new.result
+    c.as_str.ensures.value c.new.ensures c.into_parts-searched.ensures.searched c.into_parts-searched.ensures.aside c.in-Ok.ensures.aside c.in-Ok.ensures.read
+    c.in-Ok.ensures.as_it_stands in
+    as_read c.into_parts-searched.result.0 c.new.result known.0 known.1 known.2 room c.in_ok-push-in-Ok.ensures.items c.in_ok-push-in-Ok-2.ensures.items refl
+
+pub returns-in-Err : goal.returns-in-Err
+returns-in-Err c =
+    is_told c.args.self.now _ c.args.file c.in-Err.why (λ other. inl (ap file_reading (sym c.as_str.ensures.value) ∙ c.in-Err.ensures.error other))
+    c.tell-in-Err.result c.tell-in-Err.ensures.why c.tell-in-Err.ensures.told c.tell-in-Err.ensures.searched c.tell-in-Err.ensures.files

@@ -1,0 +1,135 @@
+//! What rules change in the files on the disk.
+ghost use Rattle.std.specs.Prelude.{◌≡◌, ◌<◌, All, IfErr, IfOk, length, map, string_bytes};
+ghost use Rattle.ide_ssr_rewriting.specs.Edits.{EditsFit};
+ghost use Rattle.ssr_searching.specs.Searching.{changes_in};
+ghost use Rattle.ssr_changes.specs.Changing.{AreChanges, CheckAnswers, FitsIn, IsWhy, all_changed, shown};
+ghost use Rattle.ssr_changes.specs.Private.Changing.{FitsTree, IsChangeOf, IsWhetherRead};
+
+use crate::searchable::Searchable;
+use ssr_base::{ApplyError, FileId, FilePosition, FileRange, Semantics, TextEdit, Workspace};
+use ssr_searching::{SearchError, edits};
+use ssr_set_aside::{Spared, spare};
+use ssr_syntax::{SyntaxError, TextRange, parse_file_owned};
+use std::alloc::{AllocError, Global};
+use std::collections::BTreeMap;
+
+/// What changes in a file.
+#[derive(Debug, Drop)]
+pub struct FileChange {
+    /// The file's number.
+    pub file: usize,
+    /// The changes of its text on the disk; none where all are told.
+    pub edit: TextEdit,
+    /// The text with these made.
+    pub new: String,
+    /// The ranges of the other changes: they hold a byte that is set aside, and are not made.
+    pub told: Vec<TextRange>,
+}
+
+/// What rules change, in the order of the files: of each file in which something is replaced, be it made or told. The names of
+/// the rules are looked up at the position; without ranges all is searched. The error is that of the search.
+pub fn changes<S: Semantics>(
+    alloc: Global,
+    files: &Searchable,
+    semantics: &S,
+    position: FilePosition,
+    ranges: Vec<FileRange>,
+    rules: &[String],
+) -> Result<Vec<FileChange>, SearchError>
+    ensures changes { IfOk result (λ made. AreChanges (record { workspace = files.now.workspace; meanings = S.meanings semantics.now; position = position; ranges = ranges.items }) (map string_bytes rules.now) files.now.files (map shown made.items)) }
+    ensures fit { IfOk result (λ made. All (FitsIn files.now.files) made.items) }
+    ensures refused { IfErr result (IsWhy (record { workspace = files.now.workspace; meanings = S.meanings semantics.now; position = position; ranges = ranges.items }) (map string_bytes rules.now)) }
+{
+    let edits = edits(alloc, files.workspace(), semantics, position, ranges, rules)?;
+    Ok(all_changed(alloc, files, edits)?)
+}
+
+/// What the edits of the searched texts come to in the files, of those that have one, in their order.
+fn all_changed(
+    alloc: Global,
+    files: &Searchable,
+    edits: BTreeMap<FileId, TextEdit>,
+) -> Result<Vec<FileChange>, AllocError>
+    requires { EditsFit files.now.workspace edits }
+    ensures changes { IfOk result (λ made. map shown made.items ≡ all_changed (changes_in edits) files.now.files) }
+    ensures fit { IfOk result (λ made. All (FitsIn files.now.files) made.items) }
+{
+    let mut left = edits;
+    let mut made = Vec::new(alloc);
+    for file in 0..files.workspace().file_count() {
+        if let Some(edit) = left.remove(&FileId(file)) {
+            made.push(changed(alloc, files, file as usize, edit)?)?;
+        }
+    }
+    Ok(made)
+}
+
+/// What an edit of a file's searched text comes to in the file.
+fn changed(
+    alloc: Global,
+    files: &Searchable,
+    file: usize,
+    edit: TextEdit,
+) -> Result<FileChange, AllocError>
+    requires there { file < length files.now.files }
+    requires fits { FitsTree files.now.workspace file edit }
+    ensures change { IfOk result (IsChangeOf files.now.files file edit) }
+    ensures fits { IfOk result (FitsIn files.now.files) }
+{
+    let there = files.file(file);
+    let Spared { edit, told } = spare(alloc, edit, there.aside())?;
+    let new = match edit.apply(alloc, there.text()) {
+        Ok(new) => new,
+        Err(ApplyError::Memory) => return Err(AllocError),
+        // what touches nothing set aside fits the file as it does the searched text
+        Err(ApplyError::Range) => unreachable!(),
+    };
+    Ok(FileChange {
+        file,
+        edit,
+        new,
+        told,
+    })
+}
+
+/// The file of the first of these changes with which its searched text isn't read any more.
+pub fn check_new(
+    alloc: Global,
+    files: &Searchable,
+    changes: &[FileChange],
+) -> Result<Option<usize>, AllocError>
+    ensures { IfOk result (CheckAnswers files.now.workspace changes.now) }
+{
+    for change in changes {
+        if !is_read_with(alloc, files.workspace(), change)? {
+            return Ok(Some(change.file));
+        }
+    }
+    Ok(None)
+}
+
+/// Whether a file's searched text is read with a change made.
+fn is_read_with(
+    alloc: Global,
+    workspace: &Workspace,
+    change: &FileChange,
+) -> Result<bool, AllocError>
+    ensures { IfOk result (IsWhetherRead workspace.now change.now) }
+{
+    let Ok(file) = u32::try_from(change.file) else {
+        return Ok(false);
+    };
+    let Some(tree) = workspace.tree(file) else {
+        return Ok(false);
+    };
+    let new = match change.edit.apply(alloc, tree.source()) {
+        Ok(new) => new,
+        Err(ApplyError::Range) => return Ok(false),
+        Err(ApplyError::Memory) => return Err(AllocError),
+    };
+    match parse_file_owned(alloc, new) {
+        Ok(_) => Ok(true),
+        Err(SyntaxError::Memory) => Err(AllocError),
+        Err(_) => Ok(false),
+    }
+}

@@ -1,0 +1,48 @@
+//! A file's text on the disk, and what of it is set aside.
+ghost use Rattle.std.specs.Prelude.{◌≡◌, string_bytes};
+
+use ssr_base_trees::TextEdit;
+use std::marker::Model;
+
+/// A file's name, its text on the disk, and the changes of that which make the text that is searched.
+#[derive(Debug, Drop)]
+pub(crate) struct FileText {
+    name: String,
+    text: String,
+    aside: TextEdit,
+}
+
+impl Model for FileText {
+    ghost use Rattle.std.specs.Prelude.{string_bytes};
+    ghost use Rattle.ssr_changes.specs.Files.{File};
+
+    ghost Value = { File };
+
+    ghost view = { λ file. record { name = string_bytes file.name; text = string_bytes file.text; aside = file.aside } };
+}
+
+impl FileText {
+    pub(crate) fn new(name: String, text: String, aside: TextEdit) -> FileText
+        ensures { result ≡ record { name = string_bytes name; text = string_bytes text; aside = aside } }
+    {
+        FileText { name, text, aside }
+    }
+
+    pub(crate) fn name(&self) -> &str
+        ensures { result.now ≡ self.now.name }
+    {
+        self.name.as_str()
+    }
+
+    pub(crate) fn text(&self) -> &str
+        ensures { result.now ≡ self.now.text }
+    {
+        self.text.as_str()
+    }
+
+    pub(crate) fn aside(&self) -> &TextEdit
+        ensures { result.now ≡ self.now.aside }
+    {
+        &self.aside
+    }
+}

@@ -1,0 +1,20 @@
+//! The files of a package as they are searched, and what rules change in them. What the language leaves out of a file is set
+//! aside where it is searched: a change that touches none of that is made in the file, any other one is told.
+#![tactic(auto)]
+
+mod building;
+mod changing;
+mod debugging;
+mod file_text;
+mod finding;
+mod matching;
+mod searchable;
+mod sorting;
+#[cfg(test)]
+mod tests;
+
+pub use changing::{FileChange, changes, check_new};
+pub use debugging::{DebugEntry, debug};
+pub use matching::{FoundPlace, FoundPlaceholder, pattern_matches, rule_matches};
+pub use searchable::Searchable;
+pub use sorting::Unread;
