@@ -5,6 +5,7 @@ mod bounds;
 mod context;
 mod context_error;
 pub mod laws;
+mod names;
 mod permitted;
 mod positions;
 mod printing;

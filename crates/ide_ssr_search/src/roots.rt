@@ -1,12 +1,13 @@
 //! What rules ask of a node, before it is asked whether it matches: most nodes lack it.
-ghost use Rattle.std.specs.Prelude.{◌≡◌, ℕ, ◌&&◌, ◌∷◌, ◌↔◌, [], true, false, is_some, IfOk, IsTrue};
-ghost use Rattle.std.specs.Option.{option_map_or};
+ghost use Rattle.std.specs.Prelude.{◌≡◌, ℕ, ◌&&◌, ◌∷◌, ◌↔◌, ◌⊎◌, [], true, false, is_some, IfOk, IsTrue};
+ghost use Rattle.std.specs.Option.{option_copied, option_map_or};
 ghost use Rattle.ssr_syntax_kinds.specs.declared.kinds.SyntaxKind.{SyntaxKind as Kind};
 ghost use Rattle.ssr_syntax_tree.specs.Syntax.{Syntax};
 ghost use Rattle.ssr_syntax_tree.specs.Places.{Node, HasNode, HasElement, node_of, part_of, parts_of};
 ghost use Rattle.ide_ssr_search.specs.Found.{IsWanted};
-ghost use Rattle.ide_ssr_search.specs.Private.Roots.{first_counted, counts_first, pairs_otherwise, has_asked, token_asked, has_kind, AreTokenKinds, IsRootOf, IsAskedBy, AreRules, AreKindsIn};
+ghost use Rattle.ide_ssr_search.specs.Private.Roots.{counts, first_counted, counts_first, pairs_otherwise, has_asked, token_asked, has_kind, AreTokenKinds, IsRootOf, AsksOther, IsAskedBy, AreRules, AreKindsIn};
 
+use crate::names::name_asked;
 use crate::permitted::names_self;
 use ide_ssr_resolved_rule::ResolvedRule;
 use ssr_syntax_kinds::SyntaxKind;
@@ -26,7 +27,14 @@ pub(crate) enum Root {
     Node(SyntaxKind, Option<SyntaxKind>),
 }
 
-/// The kind of a child, if it is a token that counts for each match: no trivia, and no comma.
+/// Whether a token of a kind counts for each match: no trivia, and no comma.
+pub(crate) fn counts(kind: SyntaxKind) -> bool
+    ensures { result ≡ counts kind }
+{
+    !kind.is_trivia() && !kind.is(SyntaxKind::COMMA)
+}
+
+/// The kind of a child, if it is a token that counts for each match.
 fn counted_token(tree: &Tree, child: Element) -> Option<SyntaxKind>
     requires { HasElement tree.now child }
     ensures { result ≡ first_counted (part_of tree.now child ∷ []) }
@@ -35,11 +43,7 @@ fn counted_token(tree: &Tree, child: Element) -> Option<SyntaxKind>
         return None;
     };
     let kind = tree.token_kind(token);
-    if kind.is_trivia() || kind.is(SyntaxKind::COMMA) {
-        None
-    } else {
-        Some(kind)
-    }
+    if counts(kind) { Some(kind) } else { None }
 }
 
 /// The kind of the first child of a node that is a token that counts for each match.
@@ -67,7 +71,7 @@ fn counts_first(tree: &Tree, kind: Option<SyntaxKind>, node: NodeNo) -> bool
 }
 
 /// Whether nodes of a kind match by other things than their children, one by one.
-fn pairs_otherwise(kind: SyntaxKind) -> bool
+pub(crate) fn pairs_otherwise(kind: SyntaxKind) -> bool
     ensures { result ≡ pairs_otherwise kind }
 {
     kind.is(SyntaxKind::TOKEN_TREE) || kind.is(SyntaxKind::RECORD_EXPR_FIELD_LIST)
@@ -133,19 +137,33 @@ impl Root {
 
 /// What a rule asks of each node at which it is tried.
 #[derive(Clone, Copy)]
-pub(crate) struct Asked {
+pub(crate) struct Asked<'a> {
     pub(crate) root: Root,
+    /// The name that the rule asks for, if it asks for one.
+    pub(crate) name: Option<&'a str>,
     /// Whether the rule asks that the node stands in the function around the position, since its pattern names the own `self`.
     pub(crate) in_function: bool,
 }
 
-impl Asked {
-    fn by(rule: &ResolvedRule) -> Asked
+impl<'a> Asked<'a> {
+    fn by(rule: &'a ResolvedRule) -> Asked<'a>
         ensures { IsAskedBy rule.now result }
     {
         Asked {
             root: Root::of(rule),
+            name: name_asked(rule),
             in_function: names_self(rule.pattern()),
+        }
+    }
+
+    /// Whether a node of this name has the one that is asked for, if one is.
+    pub(crate) fn allows(self, name: Option<&str>) -> bool
+        ensures { IsTrue result ⊎ AsksOther (option_copied self.name) (option_copied name) }
+    {
+        match (self.name, name) {
+            (Some(asked), Some(own)) => asked == own,
+            (Some(_), None) => false,
+            (None, _) => true,
         }
     }
 }
@@ -235,7 +253,7 @@ pub(crate) struct Rules<'a> {
     /// Which of the rules are wanted, by their places. The others are passed over.
     pub(crate) wanted: &'a [bool],
     /// What each of the rules asks.
-    pub(crate) asked: Vec<Asked>,
+    pub(crate) asked: Vec<Asked<'a>>,
 }
 
 impl<'a> Rules<'a> {

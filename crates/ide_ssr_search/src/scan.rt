@@ -16,6 +16,7 @@ ghost use Rattle.ide_ssr_search.specs.Private.Scan.{AreFoundBefore, ShadowLater,
 
 use crate::bounds::Bounds;
 use crate::context::Context;
+use crate::names::name_in;
 use crate::permitted::{is_at_or_below, is_searched, shuts};
 use crate::roots::{Asked, Rules};
 use crate::whole::{Ground, match_in};
@@ -123,7 +124,7 @@ impl<'a> TreeScan<'a> {
     }
 
     /// Whether a rule that asks this is permitted at a node that nothing above it shuts in.
-    fn is_permitted(&self, asked: Asked, node: NodeNo) -> bool
+    fn is_permitted(&self, asked: Asked<'_>, node: NodeNo) -> bool
         requires scan { IsTreeScan self.now }
         requires has { HasNode self.now.tree.now node.0 }
         requires free { ¬ IsShutIn (trees self.now.workspace.now) (node_id self.now.number node.0) }
@@ -139,7 +140,7 @@ impl<'a> TreeScan<'a> {
         alloc: Global,
         semantics: &S,
         rule: &ResolvedRule,
-        asked: Asked,
+        asked: Asked<'_>,
         node: NodeNo,
         tries: &mut Tries,
     ) -> Result<Option<Vec<Binding>>, AllocError>
@@ -173,7 +174,7 @@ impl<'a> TreeScan<'a> {
         semantics: &S,
         place: usize,
         rule: &ResolvedRule,
-        asked: Asked,
+        asked: Asked<'_>,
         node: NodeNo,
         tries: &mut Tries,
         found: &mut Vec<FoundMatch>,
@@ -214,8 +215,13 @@ impl<'a> TreeScan<'a> {
         ensures found { IfOk result (λ _. AreFoundBefore self.now.workspace.now (S.meanings semantics.now) self.now.context.now rules.now.rules.now rules.now.wanted.now self.now.number (node.0 + 1) 0 found.new.items) }
         ensures count { IfOk result (λ _. KeepsLimits self.now.workspace.now self.now.context.now rules.now.rules.now rules.now.wanted.now self.now.number node.0 self.now.number (node.0 + 1) 0 tries.old tries.new) }
     {
+        let name = name_in(self.tree, node);
         for (place, rule) in rules.rules.iter().enumerate() {
             if !rules.wants(place) {
+                continue;
+            }
+            let asked = rules.asked[place];
+            if !asked.allows(name) {
                 continue;
             }
             let shadows = self.add_match(
@@ -223,7 +229,7 @@ impl<'a> TreeScan<'a> {
                 semantics,
                 place,
                 rule,
-                rules.asked[place],
+                asked,
                 node,
                 tries,
                 found,

@@ -1,6 +1,6 @@
 -- Private: what rules ask of a node, so that it need not be asked whether each node matches.
 use Rattle.std.specs.Prelude.{ℕ, ◌≡◌, ◌&&◌, ◌||◌, not, Bool, true, false, if◌then◌else◌, List, [], ◌∷◌, length, slice_get, slice_index_or, Option, Some, None}
-use Rattle.std.specs.Option.{option_map_or}
+use Rattle.std.specs.Option.{option_copied, option_map_or, option_and_then}
 use denote.Enum.Declared.{tag_of}
 use Rattle.ssr_syntax_kinds.specs.contracts.kinds.SyntaxKind.{the_type}
 use Rattle.ssr_syntax_kinds.specs.declared.kinds.SyntaxKind.{SyntaxKind}
@@ -9,9 +9,12 @@ use Rattle.ssr_syntax_kinds.specs.Kinds.{same_kind, is_trivia}
 use Rattle.ssr_syntax_tree.specs.Syntax.{Syntax, tokens_of}
 use Rattle.ssr_syntax_tree.specs.Places.{Node, Part, token_part, node_part, parts_of, node_of, token_of, root_of, HasNode, HasToken}
 use Rattle.ssr_base_trees.specs.Meanings.{Meanings}
+use Rattle.ide_ssr_resolved_rule.specs.Placeholders.{placeholder_at}
 use Rattle.ide_ssr_resolved_rule.specs.Resolved.{ResolvedRule}
 use Rattle.ide_ssr_bindings.specs.declared.bindings.Binding.{Binding}
+use Rattle.ide_ssr_matching.specs.Calls.{call_of}
 use Rattle.ide_ssr_matching.specs.Matching.{Matches}
+use Rattle.ide_ssr_matching.specs.UsedPaths.{pattern_res}
 use Rattle.ide_ssr_search.specs.Permitted.{names_self}
 use Rattle.ide_ssr_search.specs.Found.{IsWanted}
 use Rattle.ide_ssr_search.specs.declared.roots.Asked.{Asked}
@@ -32,6 +35,23 @@ first_counted [] = None
 first_counted (token_part t token ∷ rest) = if counts token.kind then Some token.kind else first_counted rest
 first_counted (node_part node ∷ rest) = first_counted rest
 
+-- the text of the first token among siblings that counts for a match
+abbrev pub first_text : List Part → Option (List ℕ)
+first_text [] = None
+first_text (token_part t token ∷ rest) = if counts token.kind then Some token.text else first_text rest
+first_text (node_part node ∷ rest) = first_text rest
+
+-- the first node among siblings behind such a token, where it is known whether one came before
+abbrev pub node_behind : Bool → List Part → Option Node
+node_behind counted [] = None
+node_behind counted (token_part t token ∷ rest) = node_behind (counted || counts token.kind) rest
+node_behind true (node_part node ∷ rest) = Some node
+node_behind false (node_part node ∷ rest) = node_behind false rest
+
+-- the first such text in that node, as the name in `x.name(1)`
+abbrev pub name_in : Node → Option (List ℕ)
+name_in c = option_and_then (λ node. first_text (parts_of node)) (node_behind false (parts_of c))
+
 -- whether the first token among siblings that counts for a match is of this kind
 abbrev pub counts_first : SyntaxKind → List Part → Bool
 counts_first kind parts = option_map_or (λ own. same_kind own kind) (first_counted parts) false
@@ -42,6 +62,13 @@ counts_first kind parts = option_map_or (λ own. same_kind own kind) (first_coun
 -- record fields by names
 abbrev pub pairs_otherwise : SyntaxKind → Bool
 pairs_otherwise kind = same_kind kind k.TOKEN_TREE || same_kind kind k.RECORD_EXPR_FIELD_LIST
+
+-- a node of a rule's pattern matches others by its children, one by one
+pub record IsByChildren (rule : ResolvedRule) (p : Node) : Type 0 where
+  pub no_placeholder : placeholder_at rule.names p ≡ None
+  pub no_call : call_of rule p ≡ None
+  pub no_path : pattern_res rule p ≡ None
+  pub each : pairs_otherwise p.kind ≡ false
 
 -- whether a node has what a root asks for
 abbrev pub has_asked : Root → Node → Bool
@@ -60,9 +87,20 @@ abbrev pub IsRootOf : ResolvedRule → Root → Type 0
 IsRootOf rule root =
     (m : Meanings) (tree : ℕ) (c : Node) (bindings : List Binding) → Matches m tree rule (root_of rule.pattern) c bindings → has_asked root c ≡ true
 
+-- each node of a tree that matches the rule's pattern has this name, if there is one
+abbrev pub IsNameOf : ResolvedRule → Option (List ℕ) → Type 0
+IsNameOf rule name =
+    (text : List ℕ) → name ≡ Some text
+    → (m : Meanings) (tree : ℕ) (c : Node) (bindings : List Binding) → Matches m tree rule (root_of rule.pattern) c bindings → name_in c ≡ Some text
+
+-- a name is asked for, and a node that has this name lacks it
+abbrev pub AsksOther : Option (List ℕ) → Option (List ℕ) → Type 0
+AsksOther asked own = (text : List ℕ) × (asked ≡ Some text) × (own ≡ Some text → ⊥)
+
 -- what a rule asks
 pub record IsAskedBy (rule : ResolvedRule) (asked : Asked) : Type 0 where
   pub root : IsRootOf rule asked.root
+  pub name : IsNameOf rule (option_copied asked.name)
   pub in_function : asked.in_function ≡ names_self (tokens_of rule.pattern)
 
 -- ** By kinds.
