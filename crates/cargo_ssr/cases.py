@@ -15,6 +15,10 @@ import sys
 import tempfile
 from pathlib import Path
 
+sys.dont_write_bytecode = True
+sys.path.append(str(Path(__file__).resolve().parents[1] / "ssr"))
+from worked import built_programs, try_all
+
 MANIFEST = '[package]\nname = "little"\nversion = "0.1.0"\nedition = "2021"\n'
 LIB = "mod inner;\n\npub fn f(a: Option<u8>) -> u8 {\n    a.unwrap()\n}\n"
 INNER = "pub fn g(b: Option<u8>) -> u8 {\n    // b is there\n    b.unwrap() + 1\n}\n\npub fn h() {}"
@@ -310,23 +314,5 @@ def colours_are_asked_for(program):
         yield package.run(program, RULE, "--color", "never")[1] == plain
 
 
-def built_programs():
-    out = Path(__file__).resolve().parent / "out"
-    # (the second is there only where Rattle's own compiler compiles it)
-    return [out / "cargo_ssr", *out.glob("cargo_ssr.by-rattle")]
-
-
-def main(words):
-    passed = failed = 0
-    for program in words or built_programs():
-        for runs in EXAMPLES:
-            for number, is_well in enumerate(runs(os.path.abspath(program)), 1):
-                passed, failed = passed + bool(is_well), failed + (not is_well)
-                if not is_well:
-                    print(f"{program}: {runs.__name__}, run {number}: FAILED")
-    print(f"{passed} passed, {failed} failed")
-    return 1 if failed or not passed else 0
-
-
 if __name__ == "__main__":
-    sys.exit(main(sys.argv[1:]))
+    sys.exit(try_all(sys.argv[1:] or built_programs("cargo_ssr"), EXAMPLES))

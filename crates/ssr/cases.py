@@ -22,6 +22,9 @@ import tempfile
 import time
 from pathlib import Path
 
+sys.dont_write_bytecode = True
+from worked import TOP, blocks, built_programs, commands, table, try_all
+
 SWAP = "$a + $b ==>> $b + $a"
 SUM = "fn f() {1 + 2}"
 SWAPPED = "fn f() {2 + 1}"
@@ -369,7 +372,6 @@ def failed_writes_leave_a_beginning(program):
 
 # ** The pages: their commands are run, and what they say of the sources is so.
 
-TOP = Path(__file__).resolve().parents[2]
 PAGES = ["README.md", *sorted(f"docs/{path.name}" for path in (TOP / "docs").glob("*.md"))]
 
 # The page of the other program, whose commands crates/cargo_ssr/page.py runs, like those of the README for it.
@@ -384,20 +386,6 @@ NOT_RUN = {
 }
 
 
-def blocks(page, language):
-    """The blocks of code that a page has in a language."""
-    return re.findall(rf"^```{language}\n(.*?)^```$", (TOP / page).read_text(), re.M | re.S)
-
-
-def commands(page):
-    """The commands that a page shows, each with what is written then."""
-    for block in blocks(page, "console"):
-        for shown in re.split(r"^\$ ", block, flags=re.M)[1:]:
-            lines = shown.splitlines(keepends=True)
-            more = next((place for place, line in enumerate(lines[1:], 1) if not line.startswith("> ")), len(lines))
-            yield "".join([lines[0], *(line[2:] for line in lines[1:more])]), "".join(lines[more:])
-
-
 def shell(command, program, room):
     """What a command writes where the program is on the path, and its status."""
     links = Path(room) / "bin"
@@ -408,15 +396,6 @@ def shell(command, program, room):
     done = subprocess.run(["bash", "-c", command], cwd=room, env=path, capture_output=True, text=True, timeout=120)
     written = done.stdout + done.stderr
     return written if not written or written.endswith("\n") else f"{written}\n", done.returncode
-
-
-def table(heading):
-    """The rows of the first table below a heading of the README, without the `of code in a cell of its own."""
-    text = (TOP / "README.md").read_text().split(f"\n## {heading}\n")[1]
-    rows = re.search(r"^\|(?:.*\|\n)+", text, re.M)[0].splitlines()[2:]
-    for row in rows:
-        cells = [cell.strip().replace("\\|", "|") for cell in re.split(r"(?<!\\)\|", row)[1:-1]]
-        yield [re.sub(r"^`([^`]*)`$", r"\1", cell) for cell in cells]
 
 
 @example
@@ -452,7 +431,7 @@ def the_first_command_is_the_stored_run(_):
 @example
 def migrations_are_as_the_table_says(program):
     scenarios = (TOP / "crates/ssr_scenarios/data/migrations.txt").read_text()
-    rows = list(table("Ten migrations"))
+    rows = list(table("README.md", "Ten migrations"))
     yield len(rows) == scenarios.count("\nedits\n") == 10
     for rule, before, after in rows:
         file, new = f"fn f() {{ {before} }}", f"fn f() {{ {after} }}"
@@ -462,7 +441,7 @@ def migrations_are_as_the_table_says(program):
 
 @example
 def promises_have_their_clauses(_):
-    for _, clauses, link in table("What is proved"):
+    for _, clauses, link in table("README.md", "What is proved"):
         path = TOP / re.search(r"\((.*)\)", link)[1]
         text = path.read_text() if path.exists() else ""
         for clause in clauses.replace("`", "").split(", "):
@@ -522,23 +501,5 @@ def install_puts_the_program_on_the_path(program):
             yield gives(str(place), [SWAP], SUM, SWAPPED)
 
 
-def built_programs():
-    out = Path(__file__).resolve().parent / "out"
-    # (the second is there only where Rattle's own compiler compiles it)
-    return [out / "ssr", *out.glob("ssr.by-rattle")]
-
-
-def main(words):
-    passed = failed = 0
-    for program in words or built_programs():
-        for runs in EXAMPLES:
-            for number, is_well in enumerate(runs(os.path.abspath(program)), 1):
-                passed, failed = passed + is_well, failed + (not is_well)
-                if not is_well:
-                    print(f"{program}: {runs.__name__}, run {number}: FAILED")
-    print(f"{passed} passed, {failed} failed")
-    return 1 if failed else 0
-
-
 if __name__ == "__main__":
-    sys.exit(main(sys.argv[1:]))
+    sys.exit(try_all(sys.argv[1:] or built_programs("ssr"), EXAMPLES))

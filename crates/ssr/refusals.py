@@ -16,7 +16,8 @@ import tempfile
 from pathlib import Path
 
 sys.dont_write_bytecode = True
-from cases import FOO_AND_BAR, NO_FILE, NO_READ, SWAP, USAGE, built_programs, files
+from cases import FOO_AND_BAR, NO_FILE, NO_READ, SWAP, USAGE, files
+from worked import built_programs, count
 
 HERE = Path(__file__).resolve().parent
 
@@ -140,17 +141,10 @@ def failed_writes(trial, name, run):
 
 
 def main(words):
-    passed = failed = 0
     with tempfile.TemporaryDirectory() as room:
-        trial = Trial(words[0] if words else built_programs()[0], room)
-        for name, run in RUNS.items():
-            for tries in [refused_requests, failed_reads, failed_writes]:
-                for number, is_well in enumerate(tries(trial, name, run), 1):
-                    passed, failed = passed + is_well, failed + (not is_well)
-                    if not is_well:
-                        print(f"{name}: {tries.__name__}, {number}: FAILED")
-    print(f"{passed} passed, {failed} failed")
-    return 1 if failed else 0
+        trial = Trial(words[0] if words else built_programs("ssr")[0], room)
+        tries = [refused_requests, failed_reads, failed_writes]
+        return count((f"{name}: {fails.__name__}", fails(trial, name, run)) for name, run in RUNS.items() for fails in tries)
 
 
 if __name__ == "__main__":
