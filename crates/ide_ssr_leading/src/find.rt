@@ -116,7 +116,8 @@ impl<'a> Searched<'a> {
         )
     }
 
-    /// All that the search finds, but for shadowed ones: the matches of the rules that a path leads, and behind them those of the others.
+    /// All that the search finds, but for some shadowed matches: those of the rules that a path leads, and behind them those of
+    /// the others.
     fn find_all<S: Semantics>(
         &self,
         alloc: Global,

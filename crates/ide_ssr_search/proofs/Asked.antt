@@ -1,6 +1,6 @@
 -- What the root of a rule's pattern asks of a node has each node that matches.
 use Rattle.std.proofs.Common.{◌≡◌, ℕ, ◌≤◌, Bool, true, false, ◌||◌, ◌&&◌, not, List, [], ◌∷◌, Option, Some, None, refl, sym, ap, ◌∙◌, subst, inl, inr, ◌⊎◌, get_or, length, map, arith}
-use Rattle.std.specs.Prelude.{if◌then◌else◌, is_some, slice_get, slice_index_or, slice_set}
+use Rattle.std.specs.Prelude.{IsTrue, if◌then◌else◌, is_some, slice_get, slice_index_or, slice_set}
 use Rattle.std.proofs.lemmas.Grind.{get_or-set_at}
 use Rattle.std.proofs.lemmas.List.{get_or_past, get_or-set_other}
 use Rattle.std.proofs.lemmas.List.Elements.{All-tail}
@@ -37,7 +37,8 @@ use Rattle.ide_ssr_search.specs.Found.{IsWanted}
 use Rattle.ide_ssr_search.specs.WholeMatches.{IsWholeMatch}
 use Rattle.ide_ssr_search.specs.Private.Shut.{Shuts}
 use Rattle.ide_ssr_bindings.proofs.Shared.{IsTree, in_tree}
-use Rattle.ide_ssr_search.specs.Private.Roots.{counts, first_counted, counts_first, pairs_otherwise, has_asked, token_asked, has_kind, AreTokenKinds, IsRootOf, AreKindsIn}
+use Rattle.ide_ssr_search.specs.Private.Words.{counts, pairs_otherwise, word_of, IsWordOf, LacksWord}
+use Rattle.ide_ssr_search.specs.Private.Roots.{first_counted, counts_first, has_asked, token_asked, has_kind, AreTokenKinds, IsRootOf, AreKindsIn}
 
 -- ** Sibling by sibling.
 
@@ -59,7 +60,7 @@ counted_behind (node_part node) rest is = refl
 
 -- ** The first token that counts is one that a match compares.
 
-counted_kept : (kind : SyntaxKind) (rest : List Part) → counts kind ≡ true → is_left_out kind rest ≡ false
+pub counted_kept : (kind : SyntaxKind) (rest : List Part) → counts kind ≡ true → is_left_out kind rest ≡ false
 counted_kept kind rest counted = by_parts (is_trivia kind) (same_kind kind k.COMMA) counted
   where
     by_parts : (a b : Bool) → (not a && not b) ≡ true → (a || (b && closes rest)) ≡ false
@@ -119,7 +120,7 @@ own_kind m tree rule p c bs none no_call matches = elim (matched_kind m tree rul
   | inr called ↦ absurd (none-some called.0 (sym no_call ∙ called.1))
 ]
 
-matched_alike : (m : Meanings) (tree : ℕ) (rule : ResolvedRule) (p c : Node) (bs : List Binding) → placeholder_at rule.names p ≡ None → call_of rule p ≡ None
+pub matched_alike : (m : Meanings) (tree : ℕ) (rule : ResolvedRule) (p c : Node) (bs : List Binding) → placeholder_at rule.names p ≡ None → call_of rule p ≡ None
     → pattern_res rule p ≡ None → pairs_otherwise p.kind ≡ false → Matches m tree rule p c bs → Pairs m tree rule (bare (parts_of p)) (bare (parts_of c)) bs
 matched_alike m tree rule _ _ _ none no_call unused by_children (bound p c i is met) = absurd (none-some i (sym none ∙ is))
 matched_alike m tree rule _ _ _ none no_call unused by_children (token_trees p c bs other p_tree c_tree found) =
@@ -234,6 +235,10 @@ set_kept false listed i j has =
 
 -- ** Nodes that lack it.
 
+pub not_met : (b : Bool) (asked own : Option (List ℕ)) → IsTrue b ⊎ LacksWord asked own → b ≡ false → LacksWord asked own
+not_met b asked own (inl is) other = absurd (both_ways b other is)
+not_met b asked own (inr lacks) other = lacks
+
 module _ (w : Workspace) (meanings : Meanings) (t n : ℕ) (s : Syntax) (at : IsTree (trees w) t s) where
   -- what a whole match at a node says of the node
   matched_there : (rule : ResolvedRule) (bindings : List Binding) → IsWholeMatch (trees w) meanings rule (node_id t n) bindings
@@ -244,6 +249,12 @@ module _ (w : Workspace) (meanings : Meanings) (t n : ℕ) (s : Syntax) (at : Is
       → (bindings : List Binding) → IsWholeMatch (trees w) meanings rule (node_id t n) bindings → ⊥
   unmatched_root rule root is lacks bindings whole =
       both_ways (has_asked root (node_of s n)) lacks (is meanings t (node_of s n) bindings (matched_there rule bindings whole))
+
+  -- a node of another word has no match
+  pub unmatched_word : (rule : ResolvedRule) (asked own : Option (List ℕ)) → IsWordOf rule asked → own ≡ word_of (node_of s n) → LacksWord asked own
+      → (bindings : List Binding) → IsWholeMatch (trees w) meanings rule (node_id t n) bindings → ⊥
+  unmatched_word rule asked own is own_is lacks bindings whole =
+      lacks.2 (own_is ∙ is lacks.0 lacks.1 meanings t (node_of s n) bindings (matched_there rule bindings whole))
 
   pub unmatched_kind : (rules : Rules) (kinds : KindSet) → AreKindsIn rules s kinds → HasNode s n → has_kind kinds (node_of s n).kind ≡ false
       → (place : ℕ) (rule : ResolvedRule) (bindings : List Binding) → slice_get rules.rules.now place ≡ Some rule → IsWanted rules.wanted.now place → IsWholeMatch (trees w) meanings rule (node_id t n) bindings → ⊥

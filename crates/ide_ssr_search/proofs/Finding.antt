@@ -180,6 +180,18 @@ module _ (w : Workspace) (meanings : Meanings) (context : Context) (rules : List
       (λ f is before.
       elim (rule_cases t n place f before) [ inl earlier ↦ earlier | inr here ↦ absurd (unwanted (subst (IsWanted wanted) here.2 is.1)) ])
 
+  -- and so is one that has no match at a node
+  pub found_other : (t n place : ℕ) (rule : ResolvedRule) (ms : List FoundMatch) → slice_get rules place ≡ Some rule
+      → ((bindings : List Binding) → IsWholeMatch (trees w) meanings rule (node_id t n) bindings → ⊥)
+      → AreFoundBut IsLeftOut w meanings context rules wanted t n place ms → AreFoundBut IsLeftOut w meanings context rules wanted t n (place + 1) ms
+  found_other t n place rule ms at none so_far =
+      passed t n place t n (place + 1) ms so_far (before_rule t n place)
+      (λ f is before.
+      elim (rule_cases t n place f before) [
+        | inl earlier ↦ earlier
+        | inr here ↦ absurd (none f.bindings (here_found w meanings context rules t n place rule f at is.0 here.0 here.1 here.2).1)
+      ])
+
   -- all rules are tried
   pub found_at : (t n place : ℕ) (ms : List FoundMatch) → length rules ≤ place → AreFoundBut IsLeftOut w meanings context rules wanted t n place ms → AreFoundBut IsLeftOut w meanings context rules wanted t (n + 1) 0 ms
   found_at t n place ms all so_far =

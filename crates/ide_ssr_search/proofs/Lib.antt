@@ -10,6 +10,7 @@ mod Calls
 mod Apart
 mod Placed
 mod Asked
+mod AskedWords
 mod Finding
 mod Counting
 mod Matched

@@ -3,6 +3,7 @@
 pub mod Shut
 pub mod Bounds
 pub mod Whole
+pub mod Words
 pub mod Roots
 pub mod Scan
 pub mod Files

@@ -11,6 +11,7 @@ mod printing;
 mod roots;
 mod scan;
 mod whole;
+mod words;
 
 pub use context::Context;
 pub use context_error::ContextError;

@@ -1,13 +1,15 @@
 //! What rules ask of a node, before it is asked whether it matches: most nodes lack it.
-ghost use Rattle.std.specs.Prelude.{◌≡◌, ℕ, ◌&&◌, ◌∷◌, ◌↔◌, [], true, false, is_some, IfOk, IsTrue};
-ghost use Rattle.std.specs.Option.{option_map_or};
+ghost use Rattle.std.specs.Prelude.{◌≡◌, ℕ, ◌&&◌, ◌∷◌, ◌↔◌, ◌⊎◌, [], true, false, is_some, IfOk, IsTrue};
+ghost use Rattle.std.specs.Option.{option_copied, option_map_or};
 ghost use Rattle.ssr_syntax_kinds.specs.declared.kinds.SyntaxKind.{SyntaxKind as Kind};
 ghost use Rattle.ssr_syntax_tree.specs.Syntax.{Syntax};
 ghost use Rattle.ssr_syntax_tree.specs.Places.{Node, HasNode, HasElement, node_of, part_of, parts_of};
 ghost use Rattle.ide_ssr_search.specs.Found.{IsWanted};
-ghost use Rattle.ide_ssr_search.specs.Private.Roots.{first_counted, counts_first, pairs_otherwise, has_asked, token_asked, has_kind, AreTokenKinds, IsRootOf, IsAskedBy, AreRules, AreKindsIn};
+ghost use Rattle.ide_ssr_search.specs.Private.Words.{LacksWord};
+ghost use Rattle.ide_ssr_search.specs.Private.Roots.{first_counted, counts_first, has_asked, token_asked, has_kind, AreTokenKinds, IsRootOf, IsAskedBy, AreRules, AreKindsIn};
 
 use crate::permitted::names_self;
+use crate::words::{counts, pairs_otherwise, word_asked};
 use ide_ssr_resolved_rule::ResolvedRule;
 use ssr_syntax_kinds::SyntaxKind;
 use ssr_syntax_tree::{Element, NodeNo, TokenNo, Tree};
@@ -26,7 +28,7 @@ pub(crate) enum Root {
     Node(SyntaxKind, Option<SyntaxKind>),
 }
 
-/// The kind of a child, if it is a token that counts for each match: no trivia, and no comma.
+/// The kind of a child, if it is a token that counts for each match.
 fn counted_token(tree: &Tree, child: Element) -> Option<SyntaxKind>
     requires { HasElement tree.now child }
     ensures { result ≡ first_counted (part_of tree.now child ∷ []) }
@@ -35,11 +37,7 @@ fn counted_token(tree: &Tree, child: Element) -> Option<SyntaxKind>
         return None;
     };
     let kind = tree.token_kind(token);
-    if kind.is_trivia() || kind.is(SyntaxKind::COMMA) {
-        None
-    } else {
-        Some(kind)
-    }
+    if counts(kind) { Some(kind) } else { None }
 }
 
 /// The kind of the first child of a node that is a token that counts for each match.
@@ -64,13 +62,6 @@ fn counts_first(tree: &Tree, kind: Option<SyntaxKind>, node: NodeNo) -> bool
         Some(kind) => first_counted(tree, node).is_some_and(|own| own.is(kind)),
         None => true,
     }
-}
-
-/// Whether nodes of a kind match by other things than their children, one by one.
-fn pairs_otherwise(kind: SyntaxKind) -> bool
-    ensures { result ≡ pairs_otherwise kind }
-{
-    kind.is(SyntaxKind::TOKEN_TREE) || kind.is(SyntaxKind::RECORD_EXPR_FIELD_LIST)
 }
 
 impl Root {
@@ -133,19 +124,35 @@ impl Root {
 
 /// What a rule asks of each node at which it is tried.
 #[derive(Clone, Copy)]
-pub(crate) struct Asked {
+pub(crate) struct Asked<'a> {
     pub(crate) root: Root,
+    /// The word of each node that matches, if it is known.
+    pub(crate) word: Option<&'a str>,
     /// Whether the rule asks that the node stands in the function around the position, since its pattern names the own `self`.
     pub(crate) in_function: bool,
 }
 
-impl Asked {
-    fn by(rule: &ResolvedRule) -> Asked
+impl<'a> Asked<'a> {
+    fn by(rule: &'a ResolvedRule) -> Asked<'a>
         ensures { IsAskedBy rule.now result }
     {
         Asked {
             root: Root::of(rule),
+            word: word_asked(rule),
             in_function: names_self(rule.pattern()),
+        }
+    }
+
+    /// Whether a node of this word has the one that is asked for, if one is.
+    pub(crate) fn allows(self, word: Option<&str>) -> bool
+        ensures { IsTrue result ⊎ LacksWord (option_copied self.entry.word) (option_copied word.entry) }
+    {
+        let Some(asked) = self.word else {
+            return true;
+        };
+        match word {
+            Some(own) => asked == own,
+            None => false,
         }
     }
 }
@@ -235,7 +242,7 @@ pub(crate) struct Rules<'a> {
     /// Which of the rules are wanted, by their places. The others are passed over.
     pub(crate) wanted: &'a [bool],
     /// What each of the rules asks.
-    pub(crate) asked: Vec<Asked>,
+    pub(crate) asked: Vec<Asked<'a>>,
 }
 
 impl<'a> Rules<'a> {

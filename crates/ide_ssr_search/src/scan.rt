@@ -19,6 +19,7 @@ use crate::context::Context;
 use crate::permitted::{is_at_or_below, is_searched, shuts};
 use crate::roots::{Asked, Rules};
 use crate::whole::{Ground, match_in};
+use crate::words::word_of;
 use ide_ssr_bindings::{Binding, FoundMatch};
 use ide_ssr_matching::Tries;
 use ide_ssr_nesting::holds_own_node;
@@ -123,11 +124,11 @@ impl<'a> TreeScan<'a> {
     }
 
     /// Whether a rule that asks this is permitted at a node that nothing above it shuts in.
-    fn is_permitted(&self, asked: Asked, node: NodeNo) -> bool
+    fn is_permitted(&self, asked: Asked<'_>, node: NodeNo) -> bool
         requires scan { IsTreeScan self.now }
         requires has { HasNode self.now.tree.now node.0 }
         requires free { ¬ IsShutIn (trees self.now.workspace.now) (node_id self.now.number node.0) }
-        ensures { (rule : RuleValue) → IsAskedBy rule asked → IsTrue result ↔ IsPermitted self.now.workspace.now self.now.context.now rule (node_id self.now.number node.0) }
+        ensures { (rule : RuleValue) → IsAskedBy rule asked.entry → IsTrue result ↔ IsPermitted self.now.workspace.now self.now.context.now rule (node_id self.now.number node.0) }
     {
         self.is_open(node) && (!asked.in_function || self.is_in_function(node))
     }
@@ -139,7 +140,7 @@ impl<'a> TreeScan<'a> {
         alloc: Global,
         semantics: &S,
         rule: &ResolvedRule,
-        asked: Asked,
+        asked: Asked<'_>,
         node: NodeNo,
         tries: &mut Tries,
     ) -> Result<Option<Vec<Binding>>, AllocError>
@@ -173,7 +174,7 @@ impl<'a> TreeScan<'a> {
         semantics: &S,
         place: usize,
         rule: &ResolvedRule,
-        asked: Asked,
+        asked: Asked<'_>,
         node: NodeNo,
         tries: &mut Tries,
         found: &mut Vec<FoundMatch>,
@@ -196,7 +197,8 @@ impl<'a> TreeScan<'a> {
     }
 
     /// Adds the matches of the wanted rules at a node that nothing above it shuts in. Where one of them shadows those of all
-    /// later rules, these are not tried: many rules that match at the same nodes would fill the memory for nothing.
+    /// later rules, these are not tried: many rules that match at the same nodes would fill the memory for nothing. Nor is a rule
+    /// that asks for another word than the node's.
     fn add_matches<S: Semantics>(
         &self,
         alloc: Global,
@@ -214,20 +216,16 @@ impl<'a> TreeScan<'a> {
         ensures found { IfOk result (λ _. AreFoundBefore self.now.workspace.now (S.meanings semantics.now) self.now.context.now rules.now.rules.now rules.now.wanted.now self.now.number (node.0 + 1) 0 found.new.items) }
         ensures count { IfOk result (λ _. KeepsLimits self.now.workspace.now self.now.context.now rules.now.rules.now rules.now.wanted.now self.now.number node.0 self.now.number (node.0 + 1) 0 tries.old tries.new) }
     {
+        let word = word_of(self.tree, node);
         for (place, rule) in rules.rules.iter().enumerate() {
             if !rules.wants(place) {
                 continue;
             }
-            let shadows = self.add_match(
-                alloc,
-                semantics,
-                place,
-                rule,
-                rules.asked[place],
-                node,
-                tries,
-                found,
-            )?;
+            let asked = rules.asked[place];
+            if !asked.allows(word) {
+                continue;
+            }
+            let shadows = self.add_match(alloc, semantics, place, rule, asked, node, tries, found)?;
             if shadows {
                 return Ok(());
             }
@@ -375,9 +373,9 @@ fn stands_in(function: Option<NodeId>, tree: &Tree, number: u32, inside: bool, n
     is_at_or_below(tree, node, function.node)
 }
 
-/// All matches of the rules in a workspace, whose paths stand for what the provider tells, but for those that are shadowed: each
-/// node of each tree is tried at which a rule is permitted. They come by the numbers of their trees, in a tree by those of their
-/// nodes, and at a node by the places of their rules.
+/// All matches of the rules in a workspace, whose paths stand for what the provider tells, but for some that are shadowed, and so
+/// never kept: each node of each tree is looked at, and a rule is tried there if it is permitted and no earlier one shadows it.
+/// They come by the numbers of their trees, in a tree by those of their nodes, and at a node by the places of their rules.
 pub fn find_matches<S: Semantics>(
     alloc: Global,
     workspace: &Trees,

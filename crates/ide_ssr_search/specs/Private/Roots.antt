@@ -1,11 +1,11 @@
 -- Private: what rules ask of a node, so that it need not be asked whether each node matches.
-use Rattle.std.specs.Prelude.{ℕ, ◌≡◌, ◌&&◌, ◌||◌, not, Bool, true, false, if◌then◌else◌, List, [], ◌∷◌, length, slice_get, slice_index_or, Option, Some, None}
-use Rattle.std.specs.Option.{option_map_or}
+use Rattle.std.specs.Prelude.{ℕ, ◌≡◌, ◌&&◌, ◌||◌, Bool, true, false, if◌then◌else◌, List, [], ◌∷◌, length, slice_get, slice_index_or, Option, Some, None}
+use Rattle.std.specs.Option.{option_copied, option_map_or}
 use denote.Enum.Declared.{tag_of}
 use Rattle.ssr_syntax_kinds.specs.contracts.kinds.SyntaxKind.{the_type}
 use Rattle.ssr_syntax_kinds.specs.declared.kinds.SyntaxKind.{SyntaxKind}
 use Rattle.ssr_syntax_kinds.specs.declared.kinds.SyntaxKind.TheVariants as k
-use Rattle.ssr_syntax_kinds.specs.Kinds.{same_kind, is_trivia}
+use Rattle.ssr_syntax_kinds.specs.Kinds.{same_kind}
 use Rattle.ssr_syntax_tree.specs.Syntax.{Syntax, tokens_of}
 use Rattle.ssr_syntax_tree.specs.Places.{Node, Part, token_part, node_part, parts_of, node_of, token_of, root_of, HasNode, HasToken}
 use Rattle.ssr_base_trees.specs.Meanings.{Meanings}
@@ -14,6 +14,7 @@ use Rattle.ide_ssr_bindings.specs.declared.bindings.Binding.{Binding}
 use Rattle.ide_ssr_matching.specs.Matching.{Matches}
 use Rattle.ide_ssr_search.specs.Permitted.{names_self}
 use Rattle.ide_ssr_search.specs.Found.{IsWanted}
+use Rattle.ide_ssr_search.specs.Private.Words.{counts, IsWordOf}
 use Rattle.ide_ssr_search.specs.declared.roots.Asked.{Asked}
 use Rattle.ide_ssr_search.specs.declared.roots.Root.{Root}
 use Rattle.ide_ssr_search.specs.declared.roots.Root.TheVariants as roots
@@ -21,10 +22,6 @@ use Rattle.ide_ssr_search.specs.declared.roots.KindSet.{KindSet}
 use Rattle.ide_ssr_search.specs.declared.roots.Rules.{Rules}
 
 -- ** Tokens among siblings.
-
--- a token of this kind counts for a match whatever stands behind it: it is no trivia, and no comma
-abbrev pub counts : SyntaxKind → Bool
-counts kind = not (is_trivia kind) && not (same_kind kind k.COMMA)
 
 -- the kind of the first token among siblings that counts for a match
 abbrev pub first_counted : List Part → Option SyntaxKind
@@ -37,11 +34,6 @@ abbrev pub counts_first : SyntaxKind → List Part → Bool
 counts_first kind parts = option_map_or (λ own. same_kind own kind) (first_counted parts) false
 
 -- ** What is asked.
-
--- whether nodes of a kind match by other things than their children, one by one: token trees by their tokens, lists of
--- record fields by names
-abbrev pub pairs_otherwise : SyntaxKind → Bool
-pairs_otherwise kind = same_kind kind k.TOKEN_TREE || same_kind kind k.RECORD_EXPR_FIELD_LIST
 
 -- whether a node has what a root asks for
 abbrev pub has_asked : Root → Node → Bool
@@ -63,6 +55,7 @@ IsRootOf rule root =
 -- what a rule asks
 pub record IsAskedBy (rule : ResolvedRule) (asked : Asked) : Type 0 where
   pub root : IsRootOf rule asked.root
+  pub word : IsWordOf rule (option_copied asked.word)
   pub in_function : asked.in_function ≡ names_self (tokens_of rule.pattern)
 
 -- ** By kinds.

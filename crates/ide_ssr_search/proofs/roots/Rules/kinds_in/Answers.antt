@@ -1,4 +1,4 @@
-use Rattle.std.proofs.Common.{◌≡◌, ◌<◌, false, true, List, length, get_or, Some, sym, subst, inl, inr, arith}
+use Rattle.std.proofs.Common.{None, ◌≡◌, ◌<◌, false, true, List, length, get_or, Some, sym, subst, inl, inr, arith}
 use Rattle.std.specs.Prelude.{slice_get}
 use Rattle.std.proofs.lemmas.Bool.{cases_lt, both_ways}
 use Rattle.std.proofs.lemmas.Option.{slice_get_within, slice_get-get_or, get_or_from_slice_get}
@@ -48,7 +48,7 @@ loop-place-preserved-then-not-wants c =
     }
 
 abbrev nothing_asked : Asked
-nothing_asked = record { root = roots.Placeholder; in_function = false }
+nothing_asked = record { root = roots.Placeholder; word = None; in_function = false }
 
 pub returns : goal.returns
 returns c =

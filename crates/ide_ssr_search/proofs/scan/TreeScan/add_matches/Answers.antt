@@ -1,9 +1,12 @@
 use Rattle.std.proofs.Common.{◌+◌, length, refl, sym}
 use Rattle.std.proofs.lemmas.Bool.{both_ways}
 use Rattle.std.proofs.lemmas.Option.{slice_get_read}
+use Rattle.std.specs.Option.{option_copied}
 use Rattle.ssr_base_trees.specs.Workspace.{trees}
 use Rattle.ide_ssr_nesting.specs.Kept.{IsShadowed}
-use Rattle.ide_ssr_search.proofs.Finding.{found_more, found_unwanted, found_at, found_last, stays_shadowed}
+use Rattle.ide_ssr_bindings.proofs.Shared.{is_tree}
+use Rattle.ide_ssr_search.proofs.Asked.{unmatched_word, not_met}
+use Rattle.ide_ssr_search.proofs.Finding.{found_more, found_unwanted, found_other, found_at, found_last, stays_shadowed}
 use Rattle.ide_ssr_search.proofs.Counting.{kept_none, kept_try, kept_rule, kept_node}
 use Rattle.ide_ssr_search.proofs.scan.TreeScan.add_matches.Goals as goal
 
@@ -40,6 +43,29 @@ loop-place-preserved-then-not-wants g c =
           c.loop-place.found.items (λ wanted. both_ways c.wants.result c.if-not-wants.true (c.wants.ensures.1 wanted)) c.loop-place.invariant.found;
       count =
           kept_rule scan.workspace.now scan.context.now rules.rules.now rules.wanted.now scan.number c.args.node.0 c.loop-place.place c.args.tries.now c.loop-place.tries c.loop-place.invariant.count;
+    }
+
+pub loop-place-preserved-then-not-allows : goal.loop-place-preserved-then-not-allows
+loop-place-preserved-then-not-allows g c =
+    let scan = c.args.self.now in
+    let w = scan.workspace.now in
+    let m = g.S.Semantics.meanings c.args.semantics.now in
+    let rules = c.args.rules.now in
+    let n = c.args.node.0 in
+    let p = c.loop-place.place in
+    let rule = c.rule-item.result in
+    let is_rule = slice_get_read rules.rules.now (length rules.rules.now) p rule refl c.loop-place-test.true c.rule-item.is in
+    let asked = c.index-asked.result.now in
+    let is_asked =
+    c.requires.rules.each p rule asked is_rule
+    (slice_get_read rules.asked.items (length rules.rules.now) p asked (sym c.requires.rules.counted) c.loop-place-test.true c.index-asked.ensures) in
+    record {
+      found =
+          found_other w m scan.context.now rules.rules.now rules.wanted.now (IsShadowed (trees w)) (stays_shadowed w) scan.number n p rule c.loop-place.found.items is_rule
+          (unmatched_word w m scan.number n scan.tree.now (is_tree w scan.number scan.tree.now c.requires.scan.tree) rule (option_copied asked.word)
+          (option_copied c.word_of-word.result) is_asked.word c.word_of-word.ensures (not_met c.allows.result _ _ c.allows.ensures c.if-not-allows.true))
+          c.loop-place.invariant.found;
+      count = kept_rule w scan.context.now rules.rules.now rules.wanted.now scan.number n p c.args.tries.now c.loop-place.tries c.loop-place.invariant.count;
     }
 
 pub returns-clause-found : goal.returns-clause-found
@@ -83,6 +109,6 @@ pub add_match-requires-clause-asked : goal.add_match-requires-clause-asked
 add_match-requires-clause-asked g c =
     let rules = c.args.rules.now in
     let p = c.loop-place.place in
-    c.requires.rules.each p c.rule-item.result c.index.result.now
+    c.requires.rules.each p c.rule-item.result c.index-asked.result.now
     (slice_get_read rules.rules.now (length rules.rules.now) p c.rule-item.result refl c.loop-place-test.true c.rule-item.is)
-    (slice_get_read rules.asked.items (length rules.rules.now) p c.index.result.now (sym c.requires.rules.counted) c.loop-place-test.true c.index.ensures)
+    (slice_get_read rules.asked.items (length rules.rules.now) p c.index-asked.result.now (sym c.requires.rules.counted) c.loop-place-test.true c.index-asked.ensures)
