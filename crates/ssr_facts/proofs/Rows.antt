@@ -57,6 +57,12 @@ lookup_push test (first ∷ rows) row =
       | false ↦ lookup_push test rows row
     ]
 
+or_else_more : {V : Type 0} (found : Option V) (b : Bool) (value : V) (rest : Option V)
+    → option_or found (cond b (Some value) rest) ≡ option_or (option_or found (cond b (Some value) None)) rest
+or_else_more (Some first) b value rest = refl
+or_else_more None true value rest = refl
+or_else_more None false value rest = refl
+
 module _ {K V : Type 0} {R : K → K → Ordering} (total : IsTotalOrder R) where
   -- keys that aren't told apart have the same value
   pub get_alike : (map : BTreeMap K V) (key other : K) → is_at (R key) other ≡ true → get R map other ≡ get R map key
@@ -90,14 +96,16 @@ module _ {K V : Type 0} {R : K → K → Ordering} (total : IsTotalOrder R) wher
             ∙ ap (λ b. option_or (get R map q) (cond b (Some value) None)) (sym other)
       ]
 
-  -- what a map has goes on being what the rows say
-  pub has_next_row : (map more : BTreeMap K V) (rows : List (K × V)) (key : K) (value : V) → ((q : K) → get R map q ≡ lookup (is_at (R q)) rows)
-      → ((q : K) → get R more q ≡ option_or (get R map q) (cond (is_at (R key) q) (Some value) None))
-      → (q : K) → get R more q ≡ lookup (is_at (R q)) (rows ++ (key, value) ∷ [])
-  has_next_row map more rows key value says adds q =
-      adds q ∙ ap (λ o. option_or o (cond (is_at (R key) q) (Some value) None)) (says q)
-      ∙ ap (λ b. option_or (lookup (is_at (R q)) rows) (cond b (Some value) None)) (flipped total key q)
-      ∙ sym (lookup_push (is_at (R q)) rows (key, value))
+  -- what rows find first, or else the map, stays as it was where the last row is put into the map
+  pub last_row_put : (map more : BTreeMap K V) (rows left all : List (K × V)) (key : K) (value : V) → rows ≡ left ++ (key, value) ∷ []
+      → ((q : K) → get R more q ≡ cond (is_at (R key) q) (Some value) (get R map q))
+      → ((q : K) → option_or (lookup (is_at (R q)) rows) (get R map q) ≡ lookup (is_at (R q)) all)
+      → (q : K) → option_or (lookup (is_at (R q)) left) (get R more q) ≡ lookup (is_at (R q)) all
+  last_row_put map more rows left all key value is puts says q =
+      ap (option_or (lookup (is_at (R q)) left)) (puts q ∙ ap (λ b. cond b (Some value) (get R map q)) (flipped total key q))
+      ∙ or_else_more (lookup (is_at (R q)) left) (is_at (R q) key) value (get R map q)
+      ∙ ap (λ found. option_or found (get R map q)) (sym (lookup_push (is_at (R q)) left (key, value)))
+      ∙ ap (λ rows. option_or (lookup (is_at (R q)) rows) (get R map q)) (sym is) ∙ says q
 
 -- the list that a map has of each key, after the list of one key was taken out and put in again
 pub group_more : {K V : Type 0} {R : K → K → Ordering} → IsTotalOrder R → (old without new : BTreeMap K (Vec V Global)) (key : K) (group : Vec V Global) (value : V)

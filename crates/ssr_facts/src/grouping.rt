@@ -26,13 +26,14 @@ pub(crate) fn add_first<K: Ord + Drop, V: Drop>(
 /// What rows say: of those with one key the first.
 pub(crate) fn first_rows<K: Ord + Drop, V: Drop>(
     alloc: Global,
-    rows: Vec<(K, V)>,
+    mut rows: Vec<(K, V)>,
 ) -> Result<BTreeMap<K, V>, AllocError>
     ensures { IfOk result (λ map. (key : K) → get K.cmp map key ≡ lookup (is_at (K.cmp key)) rows.items) }
 {
     let mut map = BTreeMap::new(alloc);
-    for (key, value) in rows {
-        add_first(&mut map, key, value)?;
+    // From the last row on, so that a row takes the place of later ones, and no key is looked for.
+    while let Some((key, value)) = rows.pop() {
+        map.insert(key, value)?;
     }
     Ok(map)
 }
