@@ -8,7 +8,8 @@ bytes that are written, the processor time of one run, and the peak of its memor
 with the exponents of time and memory between a size and the one before, where 1.0 is linear in what grows.
 
     copies      copies of one rule, over functions that all match
-    rules       rules of one shape, none of which matches, over 100 KB of method calls
+    rules       rules that differ by the name of a method, none of which matches, over 100 KB of method calls
+    alike       rules that differ by the last argument alone, none of which matches, over 120 KB of calls of that method
     chains      one chain of nested matches, each of which is written anew
     deep        a pattern as deep as the code, whose last part does not match
     templates   a long template, for each of many matches
@@ -42,6 +43,11 @@ def rules(count):
     return ["$a.m%d($b) ==>> $a.n%d($b)" % (number, number) for number in range(count)], calls, None
 
 
+def alike(count):
+    calls = "".join("fn f%d() {x.m(1, %d)}\n" % (number, 10_000 + number) for number in range(4_600))
+    return ["$a.m($b, %d) ==>> $a" % number for number in range(count)], calls, None
+
+
 def chains(count):
     return [SWAP], functions(1, " + ".join("t%d" % number for number in range(count))), None
 
@@ -73,6 +79,7 @@ def facts(count):
 PARTS = {
     "copies": (copies, [500, 5_000, 50_000]),
     "rules": (rules, [100, 1_000, 10_000]),
+    "alike": (alike, [10, 100, 1_000]),
     "chains": (chains, [125, 250, 500, 1_000]),
     "deep": (deep, [100, 300, 1_000]),
     "templates": (templates, [100, 1_000, 10_000]),

@@ -57,6 +57,10 @@ def is_refused(edit):
 
 
 def main():
+    with tempfile.TemporaryDirectory() as room:
+        if written(copy_of_crates(room)) != ((HERE / "stdout").read_bytes(), 0):
+            print("the program without an edit writes something else\n0 passed, 1 failed")
+            return 1
     found = [is_refused(edit) for edit in sorted(HERE.glob("wrong-bodies/*.edit"))]
     print(f"{sum(found)} passed, {len(found) - sum(found)} failed")
     return 1 if not all(found) or not found else 0
