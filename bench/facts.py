@@ -3,7 +3,7 @@
 
     bench/facts.py [--megabytes N ..] [--program FILE]
 
-Builds the program of `crates/ssr_bench` by `rt run` (unless it is given), and makes facts files of these sizes, of 1, 10
+Builds the program of `crates/ssr_scenarios` by `rt run` (unless it is given), and makes facts files of these sizes, of 1, 10
 and 50 megabytes if not said: files of functions, each of which calls a function and a method, with rows for the scope of
 each function, for what each of its names, paths and methods stands for, for the types of its expressions, and for how the
 called function is printed. Printed are how many rows a file has, the processor time of reading alone, as the program
@@ -86,7 +86,7 @@ def main():
     options.add_argument("--megabytes", type=float, nargs="*", default=[1, 10, 50])
     options.add_argument("--program")
     options = options.parse_args()
-    program = options.program or build("ssr_bench", b"data/none.rs\n")
+    program = options.program or build("ssr_scenarios")
     print("%12s %10s %10s %8s %12s" % ("bytes", "rows", "ms", "MB/s", "memory/byte"))
     for megabytes in options.megabytes:
         facts = made(megabytes * 1e6)

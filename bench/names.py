@@ -3,7 +3,7 @@
 
     bench/names.py [--megabytes N ..] [--expansions N] [--repeat N] [--program FILE] [--keep FOLDER] [PACKAGE ..]
 
-Fetches and unpacks packages as `lex_debian.py` does, builds the program of `crates/ssr_bench` by `rt run` (unless it is
+Fetches and unpacks packages as `lex_debian.py` does, builds the program of `crates/ssr_scenarios` by `rt run` (unless it is
 given), and takes the first files that lie inside of the language until they have so many megabytes, 1 and 10 if not said.
 Of these a facts file is made that tells for each path and method call of theirs a definition by its text, and it is searched:
 with a rule that names no path and matches nothing; with a record, a qualified call and a macro call, each alone, and with all
@@ -199,7 +199,7 @@ def main():
     options.add_argument("packages", nargs="*", default=PACKAGES)
     options = options.parse_args()
     with tempfile.TemporaryDirectory() as folder:
-        program = options.program or build("ssr_bench", b"data/none.rs\n")
+        program = options.program or build("ssr_scenarios")
         packages = options.keep or os.path.join(folder, "packages")
         fetch(packages, options.packages)
         files = unpack(packages, options.packages, os.path.join(folder, "source"))

@@ -98,18 +98,18 @@ def build():
     return os.path.join(folder, "out", "ssr")
 
 
-def start(program, rule, text):
-    """The running program, reading the text and writing to a file that is thrown away."""
+def start(words, text):
+    """The running command, reading the text and writing to a file that is thrown away."""
     given = tempfile.TemporaryFile()
     given.write(text)
     given.seek(0)
     with given, tempfile.TemporaryFile() as taken:
-        return subprocess.Popen([program, rule], stdin=given, stdout=taken)
+        return subprocess.Popen(words, stdin=given, stdout=taken)
 
 
 def run_seconds(program, rule, text, wanted):
     """The processor time of one run."""
-    process = start(program, rule, text)
+    process = start([program, rule], text)
     _, status, usage = os.wait4(process.pid, 0)
     process.returncode = os.waitstatus_to_exitcode(status)
     if process.returncode != wanted:
@@ -133,8 +133,8 @@ def seconds_of_both(programs, rule, text, wanted):
     return [min(column) for column in zip(*times)]
 
 
-def peak(program, rule, text):
-    return peak_of(start(program, rule, text))
+def peak(words, text):
+    return peak_of(start(words, text))
 
 
 def peak_of(process):
@@ -153,7 +153,7 @@ def peak_of(process):
 
 
 def memory_for_a_byte(program, rule, text):
-    return peak(program, rule, text) / len(text)
+    return peak([program, rule], text) / len(text)
 
 
 def compare(programs, most):

@@ -3,7 +3,7 @@
 
     bench/workspace.py [--files N] [--megabytes N] [--repeat N] [--program FILE] [--beside FILE] [--keep FOLDER] [PACKAGE ..]
 
-Fetches and unpacks packages as `lex_debian.py` does, builds the program of `crates/ssr_bench` and the program `ssr` by
+Fetches and unpacks packages as `lex_debian.py` does, builds the programs of `crates/ssr_scenarios` and `crates/ssr` by
 `rt run` (unless they are given: the first by `--program`, the second by `--beside`), and takes those files that lie inside of the
 language where they stand in a module. Of these, by their size, it takes N that follow each other, 1,000 if not said: the
 smallest ones that have so many megabytes together, 10 if not said. It writes each of them as a module in a file of its own,
@@ -31,10 +31,10 @@ from run import NOTHING, NO_RULE, SWAP, peak, run_seconds
 TIMES = re.compile(r"(\d+) files, (\d+) bytes, (\d+) matches\nbuilt in (\d+) ns, searched in (\d+) ns\n")
 
 
-def build(name, given):
-    """The program of a crate, built where it stands, where it runs once with this standard input."""
+def build(name, *words):
+    """The program of a crate, built where it stands, where it runs once with these words."""
     folder = os.path.join(ROOT, "crates", name)
-    subprocess.run(["rt", "run", "--", NOTHING], cwd=folder, input=given, check=True, stdout=sys.stderr)
+    subprocess.run(["rt", "run", "--", *words], cwd=folder, input=b"", check=True, stdout=sys.stderr)
     return os.path.join(folder, "out", name)
 
 
@@ -45,7 +45,7 @@ def module(number, text):
 def is_read(program, path):
     """Whether the program builds a workspace of the file alone."""
     given = (path + "\n").encode()
-    run = subprocess.run([program], input=given, stdout=subprocess.DEVNULL, stderr=subprocess.DEVNULL)
+    run = subprocess.run([program, "--times"], input=given, stdout=subprocess.DEVNULL, stderr=subprocess.DEVNULL)
     return run.returncode == 0
 
 
@@ -98,7 +98,7 @@ def compare(program, many, one, rule, repeat):
         built = min(row[3] for row in column)
         searched = min(row[4] for row in column)
         costs.append((built / size, searched / size))
-        memory = peak(program, rule, names) / size
+        memory = peak([program, "--times", rule], names) / size
         print("%-24s %6d %10d %8d %9.1f %7.1f %9.1f %7.1f %8.1f" % (
             rule, files, size, matches, built / 1e6, 1000 * size / built, searched / 1e6, 1000 * size / searched, memory),
             flush=True)
@@ -117,8 +117,8 @@ def main():
     options.add_argument("packages", nargs="*", default=PACKAGES)
     options = options.parse_args()
     with tempfile.TemporaryDirectory() as folder:
-        program = options.program or build("ssr_bench", b"data/none.rs\n")
-        beside = options.beside or build("ssr", b"")
+        program = options.program or build("ssr_scenarios")
+        beside = options.beside or build("ssr", NOTHING)
         packages = options.keep or os.path.join(folder, "packages")
         fetch(packages, options.packages)
         files = unpack(packages, options.packages, os.path.join(folder, "source"))

@@ -16,7 +16,7 @@ import tempfile
 from pathlib import Path
 
 sys.dont_write_bytecode = True
-sys.path.append(str(Path(__file__).resolve().parents[1] / "ssr"))
+sys.path.append(str(Path(__file__).resolve().parents[2] / "scripts"))
 from worked import built_programs, try_all
 
 MANIFEST = '[package]\nname = "little"\nversion = "0.1.0"\nedition = "2021"\n'
@@ -104,6 +104,18 @@ def matches_are_listed(program):
 
 
 @example
+def matches_stand_in_matches(program):
+    rule = "$a + $b ==>> $b + $a"
+    with Package({"one.rs": "fn f() { 4 + (5 + 6) }\n"}) as package:
+        status, out, _ = package.run(program, "--search", "$a + $b", "--", "one.rs")
+        yield (status, out) == (0, "one.rs:1:10: 4 + (5 + 6)\none.rs:1:15: 5 + 6\n")
+        # the outermost one, and the summary
+        yield len(package.run(program, "--json", rule, "--", "one.rs")[1].splitlines()) == 2
+        yield package.run(program, "-q", "--write", rule, "--", "one.rs") == (0, "", "")
+        yield package.read("one.rs") == "fn f() { (6 + 5) + 4 }\n"
+
+
+@example
 def matches_are_told_as_json(program):
     with Package() as package:
         before = package.texts()
@@ -123,11 +135,22 @@ def matches_are_told_as_json(program):
 
 @example
 def rules_come_from_a_file_too(program):
-    files = {"Cargo.toml": MANIFEST, "src/lib.rs": "fn f() { x.a(); y.b(); }\n", "rules": "# two\n$x.a() ==>>\n$x.b()\n\n$x.b() ==>> $x.c()\n"}
+    files = {"Cargo.toml": MANIFEST, "src/lib.rs": "fn f() { x.a(); y.b(); }\n", "rules": "# two\n$x.a() ==>>\n  $x.b()\n\n\t\n$x.b() ==>> $x.c()\n# end\n"}
     with Package(files) as package:
         status, _, _ = package.run(program, "--rules", "rules", "--write")
         yield status == 0 and package.read("src/lib.rs") == "fn f() { x.b(); y.c(); }\n"
         yield package.run(program, "--rules", "none")[0] == 3
+
+
+@example
+def modules_are_followed(program):
+    lib = 'mod a;\nmod inner { mod b; }\n#[path = "odd.rs"] mod c;\nmod lost;\nmod linked;\n'
+    files = {"src/a.rs": "mod deep;\n", "src/a/deep.rs": "", "src/inner/b.rs": "", "src/lib.rs": lib, "src/odd.rs": "", "src/other.rs": ""}
+    with Package({"Cargo.toml": '[package]\nname = "one"\n', **{name: f"fn f() {{ a.unwrap() }}\n{text}" for name, text in files.items()}}) as package:
+        (package.folder / "src/linked.rs").symlink_to(package.folder / "src/odd.rs")
+        status, out, told = package.run(program, "--search", "$a.unwrap()")
+        yield (status, out) == (0, "".join(f"{name}:1:10: a.unwrap()\n" for name in files if name != "src/other.rs"))
+        yield told == "src/lib.rs: no file for mod lost\nsrc/linked.rs: reached through a link\n5 matches in 5 files\n"
 
 
 @example
@@ -137,14 +160,17 @@ def paths_are_searched(program):
         status, _, _ = package.run(program, RULE, "--write", "--", "one.rs", "more")
         yield status == 0 and "expect" in package.read("one.rs") and "expect" in package.read("more/two.rs")
         yield package.read("three.rs") == files["three.rs"]
+        yield package.run(program, RULE, "--", "../one.rs")[:2] == (3, "")
+        yield package.run(program, "-q", "--check", RULE, "--in", "three.rs:1:3", "--", "three.rs")[0] == 1
 
 
 @example
 def what_is_left_out_is_set_aside(program):
-    text = "async fn f() { a.unwrap(); b().await.unwrap(); }\n"
+    text = 'extern crate alloc;\nasync fn f() { a.unwrap(); b().await.unwrap(); println!("{}", a.unwrap()) }\n'
     with Package({"one.rs": text}) as package:
         status, _, told = package.run(program, RULE, "--write", "--", "one.rs")
-        yield status == 0 and "one.rs:1:28" in told and "set aside" in told
+        yield status == 0 and "one.rs:2:28: left as it is: it holds what is set aside\n" in told
+        yield told.endswith("3 matches in 1 file: 2 edits; 1 left as it is\n")
         yield package.read("one.rs") == text.replace("a.unwrap()", 'a.expect("set")')
 
 
@@ -155,6 +181,80 @@ def what_binds_an_operand_stays_with_it(program):
         yield (status, out) == (0, "") and "one.rs:1:24" in told
         status, out, _ = package.run(program, "{ $a } ==>> $a", "--", "one.rs")
         yield (status, out) == (0, "")
+
+
+# What `diff -u` writes, but for the heads, and the colour of each line.
+DIFF = """--- a/a b.rs\t
++++ b/a b.rs\t
+@@ -1,4 +1,3 @@
+ fn f() {
+-    ("é", [1,
+- "2"])
++    ("é", ["2", 1])
+ }
+\\ No newline at end of file
+"""
+COLORS = [1, 1, 36, None, 31, 31, 32, None, None]
+
+
+@example
+def texts_are_as_they_should_be_to_the_byte(program):
+    painted = [f"\x1b[{color}m{line}\x1b[0m" if color else line for color, line in zip(COLORS, DIFF.splitlines(keepends=True))]
+    with Package({"a b.rs": 'fn f() {\n    ("é", [1,\n "2"])\n}'}) as package:
+        words = ["-q", "[$a, $b] ==>> [$b, $a]", "--", "a b.rs"]
+        yield package.run(program, *words) == (0, DIFF, "")
+        yield package.run(program, "--color", "always", *words) == (0, "".join(painted), "")
+        words = ["-q", "--search", "[$a, $b]", "--", "a b.rs"]
+        yield package.run(program, *words) == (0, "a b.rs:2:11: [1, ..\n", "")
+        first = json.loads(package.run(program, "--json", *words)[1].splitlines()[0])
+        yield (first["line"], first["column"], first["old"], first["new"]) == (2, 11, '[1,\n "2"]', None)
+
+
+@example
+def a_placeholder_alone_is_replaced_once(program):
+    text = "fn f() { match x { _ => b(\"c\") } }\n"
+    rule = "${s:kind(literal)} ==>> $s.to_owned()"
+    with Package({"one.rs": text}) as package:
+        _, out, _ = package.run(program, "--json", rule, "--", "one.rs")
+        yield [json.loads(line)["old"] for line in out.splitlines()[:-1]] == ["\"c\""]
+        status, _, _ = package.run(program, "--write", rule, "--", "one.rs")
+        yield status == 0 and package.read("one.rs") == text.replace("\"c\"", "\"c\".to_owned()")
+
+
+# A text, the words of a run, where it tells that a match is left as it is and why, and the text then.
+HOLDS, BEHIND, AHEAD = "it holds what is set aside", "what stands behind it belongs to it", "what stands in front of it belongs to it"
+FUNCTIONS = "async fn f() { g() }\nextern \"C\" fn h() { g() }\nfn k() { g() }\n"
+BORROWS = "fn f() { x.await; h(&|x| x + 1); k(&raw const a.b) }\n"
+MACRO_TYPES = "fn g(x: *const Token![,], y: *const u8) {}\n"
+LET = "fn f() { #[cfg(unix)] let x = a.unwrap(); }\n"
+FIELDS = "async fn r(){ x.await; if let S {a, b} = x { a.unwrap(); } }\n"
+BESIDE = [
+    ("async fn f(){ g(2 + FOO!(1)).await }\n", ["$a + $b ==>> $b + $a"], [("1:17", BEHIND)], None),
+    (FUNCTIONS, ["fn $f() { $b } ==>> pub fn $f() { $b }"], [("1:7", AHEAD), ("2:12", AHEAD)], FUNCTIONS.replace("\nfn k", "\npub fn k")),
+    ("auto trait T {}\n", ["trait $f {} ==>> pub trait $f {}"], [("1:6", AHEAD)], None),
+    ("unsafe mod m {}\n", ["mod $f {} ==>> pub mod $f {}"], [("1:8", AHEAD)], None),
+    ("async fn f() { for<'a> |x| x.len() }\n", ["|$x| $b ==>> move |$x| $b"], [("1:24", AHEAD)], None),
+    (BORROWS, ["|$x| $b ==>> move |$x| $b", "$a.b ==>> $a.c"], [], BORROWS.replace("|x|", "move |x|").replace("a.b", "a.c")),
+    (LET, ["let $a = $b; ==>> $b;"], [("1:23", AHEAD)], None),
+    (LET, ["$a.unwrap() ==>> $a?"], [], LET.replace(".unwrap()", "?")),
+    (MACRO_TYPES, ["*const $t ==>> *mut $t"], [("1:9", BEHIND)], MACRO_TYPES.replace("*const u8", "*mut u8")),
+    (FIELDS, ["$a.unwrap() ==>> $a.expect(\"x\")"], [], FIELDS.replace("unwrap()", 'expect("x")')),
+    ("async fn f() { async { p } - q; }\n", ["-$x ==>> !$x"], [], None),
+    ("async fn f() { let x = 1 + b.await; }\n", ["$a + $b ==>> $b + $a"], [("1:24", HOLDS)], None),
+]
+
+
+@example
+def what_belongs_to_a_match_is_not_taken_from_it(program):
+    for text, rules, told_at, new in BESIDE:
+        lines = "".join(f"one.rs:{place}: left as it is: {why}\n" for place, why in told_at)
+        with Package({"one.rs": text, "rules": "\n\n".join(rules)}) as package:
+            status, _, told = package.run(program, "-q", "--rules", "rules", "--write", "--", "one.rs")
+            yield (status, told) == (0, lines) and package.read("one.rs") == (new or text)
+        with Package({"one.rs": text, "rules": "\n\n".join(rules)}) as package:
+            _, _, told = package.run(program, "--rules", "rules", "--", "one.rs")
+            left = {0: "", 1: "; 1 left as it is"}.get(len(told_at), f"; {len(told_at)} left as they are")
+            yield told.splitlines()[-1].endswith(left) if told_at else "left" not in told
 
 
 @example
@@ -173,12 +273,28 @@ def what_lies_below_target_is_passed_over(program):
 
 @example
 def arguments_of_macros_are_searched(program):
-    text = "fn f() { println!(\"{}\", a.unwrap()); }\n"
+    text = "fn f() { println!(\"{}\", a.unwrap()); assert!(vec![b.unwrap()].len() == 1) }\n"
     with Package({"one.rs": text}) as package:
         _, out, _ = package.run(program, RULE, "--no-macros", "--", "one.rs")
         yield out == ""
+        _, out, _ = package.run(program, "--search", "$a.unwrap()", "--", "one.rs")
+        yield out == "one.rs:1:25: a.unwrap()\none.rs:1:51: b.unwrap()\n"
         _, _, _ = package.run(program, RULE, "--write", "--", "one.rs")
-        yield package.read("one.rs") == text.replace("a.unwrap()", 'a.expect("set")')
+        yield package.read("one.rs") == text.replace("unwrap()", 'expect("set")')
+
+
+@example
+def format_strings_are_no_arguments(program):
+    text = 'fn f() { println!("set"); println!("{}", "set"); assert!(a, "set"); vec!["set"] }\n'
+    with Package({"one.rs": text}) as package:
+        _, _, told = package.run(program, '"set" ==>> ("set")', "--write", "--", "one.rs")
+        yield "2 edits" in told
+        yield package.read("one.rs") == text.replace('"{}", "set"', '"{}", ("set")').replace('vec!["set"]', 'vec![("set")]')
+    text = 'fn f() { write!("set", "set", "set"); assert_eq!("set", b, "set"); panic!("set", a = "set"); dbg!("set") }\n'
+    with Package({"one.rs": text}) as package:
+        _, _, told = package.run(program, '"set" ==>> 7', "--write", "--", "one.rs")
+        yield "5 edits" in told
+        yield package.read("one.rs") == 'fn f() { write!(7, "set", 7); assert_eq!(7, b, "set"); panic!("set", a = 7); dbg!(7) }\n'
 
 
 @example
@@ -186,6 +302,16 @@ def files_that_cannot_be_read_are_told(program):
     with Package({"good.rs": "fn f() { a.unwrap(); }\n", "bad.rs": "fn f( {'\n", "bytes.rs": b"fn f() {\xff}"}) as package:
         status, out, told = package.run(program, RULE, "--", "good.rs", "bad.rs", "bytes.rs")
         yield status == 0 and "good.rs" in out and "bad.rs" in told and "bytes.rs" in told
+        yield told.endswith("1 match in 1 file: 1 edit; 1 file left out\n")
+
+
+@example
+def what_cannot_be_read_again_is_not_written(program):
+    # the new text is nested too deeply
+    text = f"fn f() {{ {'(' * 1000}a.unwrap(){')' * 1000} }}\n"
+    with Package({"one.rs": text}) as package:
+        status, _, told = package.run(program, f"$a.unwrap() ==>> {'!' * 30}$a", "--write", "--", "one.rs")
+        yield status == 3 and "one.rs" in told and len(told.splitlines()) == 1 and package.read("one.rs") == text
 
 
 @example

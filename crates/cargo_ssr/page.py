@@ -1,6 +1,6 @@
 #!/usr/bin/env python3
 """Runs the commands of `cargo ssr` that docs/cargo-ssr.md and the README show and the page's migrations, and compares what is
-written.
+written. The README's list of migrations has to be the rules of that table.
 
     crates/cargo_ssr/page.py [PROGRAM..]
 
@@ -16,8 +16,8 @@ import tempfile
 from pathlib import Path
 
 sys.dont_write_bytecode = True
-sys.path.append(str(Path(__file__).resolve().parents[1] / "ssr"))
-from worked import TOP, built_programs, commands, table, try_all
+sys.path.append(str(Path(__file__).resolve().parents[2] / "scripts"))
+from worked import TOP, blocks, built_programs, commands, table, try_all
 
 PAGE = "docs/cargo-ssr.md"
 
@@ -70,7 +70,7 @@ def migrations_are_as_the_table_says(program):
             if not is_so:
                 print(f"{PAGE}: the row of {rule} gives {file.read_text()}{done.stderr}", end="")
             yield is_so
-    yield len(rows) == 10
+    yield len(rows) == 10 and blocks("README.md", "text")[0].splitlines() == [rule for rule, _, _ in rows]
 
 
 if __name__ == "__main__":

@@ -23,6 +23,7 @@ import time
 from pathlib import Path
 
 sys.dont_write_bytecode = True
+sys.path.append(str(Path(__file__).resolve().parents[2] / "scripts"))
 from worked import TOP, blocks, built_programs, commands, table, try_all
 
 SWAP = "$a + $b ==>> $b + $a"
@@ -74,6 +75,15 @@ def example(runs):
 def rewrites_files(program):
     yield gives(program, [SWAP], "fn f() {1 + 2 + 3 + 4}", "fn f() {4 + (3 + (2 + 1))}")
     yield gives(program, [SWAP], "", "")
+    for rule, file, new in [
+        (SWAP, "fn f() {\"é\" + x}", "fn f() {x + \"é\"}"),
+        ("$a - $b ==>> $b - $a", "fn f() {1 - 2 - 3}", "fn f() {3 - (2 - 1)}"),
+        ("$a * $b ==>> $b * $a", "fn f() {(1 + 2) * 3}", "fn f() {3 * (1 + 2)}"),
+        ("$a + 1 ==>> $a", "fn f() {2 * (x + 1)}", "fn f() {2 * (x)}"),
+        ("$a + 1 ==>> $a", "fn f() {x /* k */ + 1}", "fn f() {x/* k */}"),
+        ("$a + $b ==>> $a", "fn f() {1 + 2} fn g() {3}", "fn f() {1} fn g() {3}"),
+    ]:
+        yield gives(program, [rule], file, new)
     file, new = "fn  f ( )\n{\n  1\t+ 2 }\r\n", "fn  f ( )\n{\n  2-1 }\r\n"
     yield gives(program, ["$a+$b==>>$b-$a"], file, new)
 
@@ -431,7 +441,7 @@ def the_first_command_is_the_stored_run(_):
 @example
 def migrations_are_as_the_table_says(program):
     scenarios = (TOP / "crates/ssr_scenarios/data/migrations.txt").read_text()
-    rows = list(table("README.md", "Ten migrations"))
+    rows = list(table("docs/program.md", "Ten rules"))
     yield len(rows) == scenarios.count("\nedits\n") == 10
     for rule, before, after in rows:
         file, new = f"fn f() {{ {before} }}", f"fn f() {{ {after} }}"

@@ -16,6 +16,7 @@ import tempfile
 from pathlib import Path
 
 sys.dont_write_bytecode = True
+sys.path.append(str(Path(__file__).resolve().parents[2] / "scripts"))
 from cases import FOO_AND_BAR, NO_FILE, NO_READ, SWAP, USAGE, files
 from worked import built_programs, count
 

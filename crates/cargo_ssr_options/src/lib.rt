@@ -7,8 +7,6 @@ mod given;
 mod options;
 mod place;
 mod rules_file;
-#[cfg(test)]
-mod tests;
 
 pub use command::read_options;
 pub use given::{Given, Mismatch};

@@ -3,15 +3,17 @@
 use crate::console::Console;
 use crate::failure::Failure;
 use crate::positions::position_at;
-use crate::rules::read_text;
 use cargo_ssr_options::{Chosen, Options, Place};
 use ssr_base::{FileId, FilePosition, FileRange, Workspace};
 use ssr_changes::{Searchable, Unread};
 use ssr_facts::{Facts, TableSemantics, read};
-use ssr_package::{PackageError, PackageFiles, find_manifest, given_files, package_files};
+use ssr_package::{
+    ModuleTree, PackageError, PackageFiles, find_manifest, given_files, package_files, path_in,
+};
 use ssr_searching::Unresolved;
 use ssr_syntax::SyntaxError;
 use std::alloc::{AllocError, Global};
+use std::fs;
 use std::io::Write;
 use std::rt::Files;
 
@@ -54,6 +56,7 @@ pub(crate) fn of_files<R: Files + AllocGlobal, W: Write, E: Write>(
     let PackageFiles {
         folder,
         files,
+        modules: _,
         notes,
     } = chosen_files(rt, here, &options.files)?;
     for note in &notes {
@@ -62,6 +65,9 @@ pub(crate) fn of_files<R: Files + AllocGlobal, W: Write, E: Write>(
     let (files, unread) = Searchable::of_files(alloc, files, options.macros)?;
     for file in &unread {
         console.tell(unread_words(alloc, file)?.as_str());
+    }
+    if files.refused_calls() > 0 {
+        console.tell(refused_words(alloc, files.refused_calls())?.as_str());
     }
     let position = position_at(alloc, &files, options.place.as_ref(), BEGINNING)?;
     Ok(Input {
@@ -90,6 +96,7 @@ fn chosen_files<R: Files + AllocGlobal>(
         Chosen::Facts(_) => Ok(PackageFiles {
             folder: String::new(rt.alloc()),
             files: Vec::new(rt.alloc()),
+            modules: ModuleTree::new(rt.alloc()),
             notes: Vec::new(rt.alloc()),
         }),
     };
@@ -148,6 +155,15 @@ fn unread_words(alloc: Global, file: &Unread) -> Result<String, AllocError> {
     format!(in alloc; "{}: left out: {why}", file.name)
 }
 
+/// Tells how many calls of macros aren't searched.
+fn refused_words(alloc: Global, calls: usize) -> Result<String, AllocError> {
+    if calls == 1 {
+        String::from_str(alloc, "the arguments of 1 macro call are not searched")
+    } else {
+        format!(in alloc; "the arguments of {calls} macro calls are not searched")
+    }
+}
+
 /// The files of a facts file, with what it tells of their names.
 pub(crate) fn of_facts<R: Files + AllocGlobal>(
     rt: &R,
@@ -177,4 +193,18 @@ pub(crate) fn of_facts<R: Files + AllocGlobal>(
         ranges,
         left_out: 0,
     })
+}
+
+/// The text of a file.
+pub(crate) fn read_text<R: Files + AllocGlobal>(
+    rt: &R,
+    here: &str,
+    name: &str,
+) -> Result<String, Failure> {
+    let alloc = rt.alloc();
+    let path = path_in(alloc, here, name)?;
+    match fs::read_to_string(rt, path.as_str()) {
+        Ok(text) => Ok(text),
+        Err(error) => Err(Failure::Told(format!(in alloc; "{name}: {error}")?)),
+    }
 }

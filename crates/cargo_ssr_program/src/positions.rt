@@ -7,6 +7,7 @@ use crate::naming::without_dot;
 use cargo_ssr_options::Place;
 use ssr_base::{FileId, FilePosition};
 use ssr_changes::Searchable;
+use ssr_reports::{LinePlace, byte_at};
 use std::alloc::Global;
 
 /// The position that a place names, or else this one.
@@ -50,32 +51,16 @@ fn file_named(files: &Searchable, name: &str) -> Option<usize>
 fn position_in(files: &Searchable, file: usize, place: &Place) -> Option<FilePosition>
     requires { file < length files.now.files }
 {
-    let offset = offset_of(files.text(file), place.line, place.column)?;
-    match u32::try_from(file) {
-        Ok(file) => Some(FilePosition {
+    let asked = LinePlace {
+        line: place.line as usize,
+        column: place.column as usize,
+    };
+    let offset = byte_at(files.text(file), asked)?;
+    match (u32::try_from(file), u32::try_from(offset)) {
+        (Ok(file), Ok(offset)) => Some(FilePosition {
             file_id: FileId(file),
             offset,
         }),
-        Err(_) => None,
+        _ => None,
     }
-}
-
-/// Where a line's column stands in a text, both counted from 1, the column in characters; it may stand behind the line's last
-/// character.
-fn offset_of(text: &str, line: u32, column: u32) -> Option<u32> {
-    let mut at = (1u32, 1u32);
-    for (offset, c) in text.char_indices() {
-        if at == (line, column) {
-            return u32::try_from(offset).ok();
-        }
-        at = if c == '\n' {
-            (at.0.saturating_add(1), 1)
-        } else {
-            (at.0, at.1.saturating_add(1))
-        };
-    }
-    if at == (line, column) {
-        return u32::try_from(text.len()).ok();
-    }
-    None
 }

@@ -10,7 +10,7 @@ use crate::counting::counts_of_changes;
 use crate::failure::Failure;
 use crate::finding::{Listed, show_json, tell_summary};
 use crate::input::Input;
-use crate::telling::{is_colored, search_failure};
+use crate::telling::{is_colored, search_failure, why_left};
 use crate::writing::write;
 use cargo_ssr_options::{Mode, Options};
 use ssr_base::Semantics;
@@ -160,7 +160,7 @@ fn show_matches<W: Write, E: Write, S: Semantics>(
     show_json(alloc, &listed, counts, console)
 }
 
-/// Tells the matches that stay because they hold what is set aside.
+/// Tells the matches that stay because of what is set aside.
 #[tactic(auto, using(crate::proofs::InFiles::each_fits))]
 fn tell_set_aside<W: Write, E: Write>(
     alloc: Global,
@@ -188,11 +188,12 @@ fn tell_of_file<W: Write, E: Write>(
 {
     let name = files.name(change.file);
     let mut places = Places::new(files.text(change.file));
+    let aside = files.aside(change.file).iter().as_slice();
+    let reaches = files.reaches(change.file).ranges();
     for range in &change.told {
         let LinePlace { line, column } = places.place(range.start as usize);
-        console.tell(format!(in alloc;
-            "{name}:{line}:{column}: left as it is: it holds what is set aside"
-        )?.as_str());
+        let why = why_left(aside, reaches, *range);
+        console.tell(format!(in alloc; "{name}:{line}:{column}: left as it is: {why}")?.as_str());
     }
     Ok(())
 }

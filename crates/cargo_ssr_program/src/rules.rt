@@ -1,9 +1,8 @@
 //! The rules of a run.
 
 use crate::failure::Failure;
-use crate::naming::path_in;
+use crate::input::read_text;
 use cargo_ssr_options::{Options, rules_of};
-use std::fs;
 use std::rt::Files;
 
 /// The options with the rules of the file of rules behind those among the words.
@@ -23,18 +22,4 @@ pub(crate) fn with_all_rules<R: Files + AllocGlobal>(
     }
     options.rules.append(&mut rules)?;
     Ok(options)
-}
-
-/// The text of a file.
-pub(crate) fn read_text<R: Files + AllocGlobal>(
-    rt: &R,
-    here: &str,
-    name: &str,
-) -> Result<String, Failure> {
-    let alloc = rt.alloc();
-    let path = path_in(alloc, here, name)?;
-    match fs::read_to_string(rt, path.as_str()) {
-        Ok(text) => Ok(text),
-        Err(error) => Err(Failure::Told(format!(in alloc; "{name}: {error}")?)),
-    }
 }

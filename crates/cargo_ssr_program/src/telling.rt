@@ -63,3 +63,28 @@ pub(crate) fn text_in(text: &str, range: TextRange) -> &str {
         None => "",
     }
 }
+
+/// Why a match stays that touches the reach of a part set aside. The changes that set parts aside stand in order, and each has its
+/// reach.
+pub(crate) fn why_left(
+    aside: &[(TextRange, String)],
+    reaches: &[TextRange],
+    range: TextRange,
+) -> &'static str {
+    let next = match aside.binary_search_by_key(&range.start, |part| part.0.end) {
+        Ok(before) => before.saturating_add(1),
+        Err(next) => next,
+    };
+    if begins_before(aside.get(next).map(|part| part.0), range.end) {
+        "it holds what is set aside"
+    } else if begins_before(reaches.get(next).copied(), range.end) {
+        "what stands behind it belongs to it"
+    } else {
+        "what stands in front of it belongs to it"
+    }
+}
+
+/// Whether there is a range, and it begins before a place.
+fn begins_before(range: Option<TextRange>, place: u32) -> bool {
+    range.is_some_and(|range| range.start < place)
+}

@@ -4,9 +4,10 @@ ghost use Rattle.ssr_changes.specs.Changing.{FitsIn};
 
 use crate::failure::Failure;
 use crate::input::Input;
-use crate::naming::{is_inside, path_in, without_dot};
+use crate::naming::{is_inside, without_dot};
 use ssr_changes::FileChange;
-use ssr_writing::{NewText, WriteError, write_all};
+use ssr_package::path_in;
+use ssr_writing::{NewText, OnDisk, WriteError, write_all};
 use std::alloc::{AllocError, Global};
 use std::rt::Files;
 
@@ -35,7 +36,7 @@ pub(crate) fn write<R: Files + AllocGlobal, S>(
             })?;
         }
     }
-    match write_all(rt, &texts) {
+    match write_all(alloc, &mut OnDisk::new(rt), &texts) {
         Ok(()) => Ok(texts.len()),
         Err(error) => Err(write_failure(alloc, &texts, &error)?),
     }

@@ -4,6 +4,7 @@ mod Holders
 mod Showing
 mod Taking
 mod BindsOnce
+mod Few
 mod Outcome
 mod OneEach
 mod Flattening

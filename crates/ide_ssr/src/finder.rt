@@ -1,9 +1,10 @@
 //! The finder: a workspace, rules, and what the search for them is made for.
 
-ghost use Rattle.std.specs.Prelude.{ℕ, ◌≡◌, ◌↔◌, ◌≤◌, ◌+◌, ◌++◌, [], All, IfOk, IsTrue, OnErr};
+ghost use Rattle.std.specs.Prelude.{ℕ, ◌≡◌, ◌↔◌, ◌≤◌, ◌+◌, ◌++◌, [], All, IfOk, IsTrue, OnErr, length};
 ghost use Rattle.ide_ssr_resolved_rule.specs.Patterns.{HasEachOnce, AreInArguments};
 ghost use Rattle.ide_ssr_resolving.specs.Resolved.{IsResolvedBy};
 ghost use Rattle.ide_ssr_rules.specs.Resolved.{resolved_kinds};
+ghost use Rattle.ide_ssr_rules.specs.Rules.{once};
 ghost use Rattle.ide_ssr_rewriting.specs.Edits.{EditsFit, EditsInOrder};
 ghost use Rattle.ide_ssr_search.specs.Making.{Makes, MakesFirst};
 ghost use Rattle.ide_ssr.specs.Adding.{Adds};
@@ -161,6 +162,15 @@ impl<'a, S: Semantics> MatchFinder<'a, S> {
         Ok(self.add_kinds(kinds)?)
     }
 
+    /// Adds a rule as `add_rule` does, but of one whose pattern is a placeholder alone the first kind only: by each of its kinds it
+    /// matches the same nodes, and one replacement would stand in another.
+    pub fn add_rule_once(&mut self, rule: SsrRule) -> Result<(), SsrError>
+        ensures answer { Adds self.old self.new (resolved_kinds (S.meanings self.old.semantics) self.old.context.scope (once rule).names (once rule).constraints (once rule).kinds) result }
+        ensures unchanged { OnErr result (self.new ≡ self.old) }
+    {
+        self.add_rule(rule.once())
+    }
+
     /// Adds all kinds of a search pattern, in their order, with what their paths stand for where the finder's position stands.
     /// They have no template: a finder that has such a kind has no edits. It is refused for the first path that has to resolve
     /// and doesn't. A refused pattern, or one that there is no memory for, leaves the finder as it was.
@@ -208,6 +218,9 @@ impl<'a, S: Semantics> MatchFinder<'a, S> {
         ensures shows { IfOk result (λ found. ShowKept (finder_of S.meanings self.now) found.matches.items) }
         ensures binds { IfOk result (λ found. BindOnce self.now.rules found.matches.items) }
         ensures count { IfOk result (λ found. (most : ℕ) → IsMost self.now.workspace (S.meanings self.now.semantics) self.now.context self.now.rules most → found.tries ≤ most) }
+
+        // The counter is that of the search: each match was tried.
+        ensures tried { IfOk result (λ found. length found.matches.items ≤ found.tries) }
     {
         let mut tries = Tries::none();
         let found = self.found_where_led(&mut tries)?;
@@ -219,18 +232,20 @@ impl<'a, S: Semantics> MatchFinder<'a, S> {
     pub fn scan_matches(&self) -> Result<SsrMatches<'a>, AllocError>
         ensures shows { IfOk result (λ found. ShowKept (finder_of S.meanings self.now) found.matches.items) }
         ensures binds { IfOk result (λ found. BindOnce self.now.rules found.matches.items) }
+        ensures tried { IfOk result (λ found. length found.matches.items ≤ found.tries) }
     {
+        let mut tries = Tries::none();
         let found = find_matches(
             self.alloc,
             self.workspace,
             self.semantics,
             &self.context,
             &self.rules,
+            &mut tries,
         )?;
-        let matches = self.nested(found)?;
         Ok(SsrMatches {
-            matches,
-            tries: Tries::none(),
+            matches: self.nested(found)?,
+            tries,
         })
     }
 
@@ -238,6 +253,7 @@ impl<'a, S: Semantics> MatchFinder<'a, S> {
     fn found_where_led(&self, tries: &mut Tries) -> Result<Vec<FoundMatch>, AllocError>
         ensures found { IfOk result (λ found. IsEnoughFound (finder_of S.meanings self.now) found.items) }
         ensures count { IfOk result (λ _. (most : ℕ) → IsMost self.now.workspace (S.meanings self.now.semantics) self.now.context self.now.rules most → tries.new ≤ tries.old + most) }
+        ensures tried { IfOk result (λ found. tries.old + length found.items ≤ tries.new) }
     {
         find_led(
             self.alloc,
@@ -254,6 +270,7 @@ impl<'a, S: Semantics> MatchFinder<'a, S> {
         requires { IsEnoughFound (finder_of S.meanings self.now) found.items }
         ensures shows { IfOk result (λ matches. ShowKept (finder_of S.meanings self.now) matches.items) }
         ensures binds { IfOk result (λ matches. BindOnce self.now.rules matches.items) }
+        ensures few { IfOk result (λ matches. length matches.items ≤ length found.items) }
     {
         let (kept, lists) = self.outcome(found)?;
         nested_matches(self.alloc, &kept, &lists, &self.rules)
@@ -262,7 +279,8 @@ impl<'a, S: Semantics> MatchFinder<'a, S> {
     /// The kept ones of all matches of the rules, and their lists.
     fn outcome(&self, found: Vec<FoundMatch>) -> Result<(KeptMatches<'a>, Lists), AllocError>
         requires { IsEnoughFound (finder_of S.meanings self.now) found.items }
-        ensures { IfOk result (λ outcome. IsOutcome (finder_of S.meanings self.now) outcome.0 outcome.1) }
+        ensures comes { IfOk result (λ outcome. IsOutcome (finder_of S.meanings self.now) outcome.0 outcome.1) }
+        ensures few { IfOk result (λ outcome. length outcome.0.matches ≤ length found.items) }
     {
         let kept = keep(self.alloc, self.workspace, found)?;
         let lists = Lists::new(self.alloc, &kept)?;

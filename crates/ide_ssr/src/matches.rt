@@ -17,7 +17,8 @@ use std::mem;
 /// others stand below them.
 pub struct SsrMatches<'a> {
     pub matches: Vec<Match<'a>>,
-    /// How often rules were tried at nodes, in what `MatchFinder::matches` answers. It is for contracts alone and has no bytes.
+    /// How often rules were tried at nodes, in what `MatchFinder::matches` and `scan_matches` answer. It is for contracts alone and
+    /// has no bytes.
     pub tries: Tries,
 }
 

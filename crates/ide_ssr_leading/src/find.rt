@@ -18,7 +18,7 @@ use crate::usages::know_usages;
 use ide_ssr_bindings::FoundMatch;
 use ide_ssr_matching::Tries;
 use ide_ssr_resolved_rule::ResolvedRule;
-use ide_ssr_search::{Context, find_wanted};
+use ide_ssr_search::{Context, Wanted, find_wanted};
 use ssr_base_trees::{Semantics, Trees};
 use std::alloc::{AllocError, Global};
 use std::collections::BTreeMap;
@@ -62,6 +62,7 @@ impl<'a> Searched<'a> {
         ensures count { OnOk result (tries.new ≤ tries.old + usages_in (S.meanings semantics.now) self.now.rules.now) }
         ensures found { IfOk result (λ led. AreLedFoundTo self.now.workspace.now (S.meanings semantics.now) self.now.context.now self.now.rules.now (length self.now.rules.now) led.found.items) }
         ensures others { IfOk result (λ led. led.others.items ≡ are_others self.now.rules.now) }
+        ensures tried { IfOk result (λ led. tries.old + length led.found.items ≤ tries.new) }
     {
         let mut known = BTreeMap::new(alloc);
         let mut found = Vec::new(alloc);
@@ -91,18 +92,20 @@ impl<'a> Searched<'a> {
         Ok(LedMatches { found, others })
     }
 
-    /// The matches of the rules that no path leads, but for shadowed ones. Where each is led no node is gone through.
+    /// The matches of the rules that no path leads, which are the wanted ones, but for shadowed ones. Where each is led no node is
+    /// gone through.
     fn find_others<S: Semantics>(
         &self,
         alloc: Global,
         semantics: &S,
-        others: &[bool],
+        others: Wanted<'_, '_>,
         tries: &mut Tries,
     ) -> Result<Vec<FoundMatch>, AllocError>
-        ensures found { IfOk result (λ found. AreEnough (trees self.now.workspace.now) (IsFoundOf self.now.workspace.now (S.meanings semantics.now) self.now.context.now self.now.rules.now others.now) found.items) }
-        ensures count { IfOk result (λ _. (most : ℕ) → IsMostOf self.now.workspace.now self.now.context.now self.now.rules.now others.now most → tries.new ≤ tries.old + most) }
+        ensures found { IfOk result (λ found. AreEnough (trees self.now.workspace.now) (IsFoundOf self.now.workspace.now (S.meanings semantics.now) self.now.context.now others.entry.rules.now others.entry.flags.now) found.items) }
+        ensures count { IfOk result (λ _. (most : ℕ) → IsMostOf self.now.workspace.now self.now.context.now others.entry.rules.now others.entry.flags.now most → tries.new ≤ tries.old + most) }
+        ensures tried { IfOk result (λ found. tries.old + length found.items ≤ tries.new) }
     {
-        if are_unset(others) {
+        if are_unset(others.flags) {
             return Ok(Vec::new(alloc));
         }
         find_wanted(
@@ -110,7 +113,6 @@ impl<'a> Searched<'a> {
             self.workspace,
             semantics,
             self.context,
-            self.rules,
             others,
             tries,
         )
@@ -127,18 +129,23 @@ impl<'a> Searched<'a> {
         requires { IsBuilt self.now.workspace.now }
         ensures count { IfOk result (λ _. (most : ℕ) → IsMost self.now.workspace.now (S.meanings semantics.now) self.now.context.now self.now.rules.now most → tries.new ≤ tries.old + most) }
         ensures led { IfOk result (λ all. AreEnough (trees self.now.workspace.now) (IsLedFound self.now.workspace.now (S.meanings semantics.now) self.now.context.now self.now.rules.now) all.items) }
+        ensures tried { IfOk result (λ all. tries.old + length all.items ≤ tries.new) }
     {
         let led = self.find_by_usages(alloc, semantics, tries)?;
         let LedMatches { mut found, others } = led;
-        let mut rest = self.find_others(alloc, semantics, &others, tries)?;
+        let wanted = Wanted {
+            rules: self.rules,
+            flags: &others,
+        };
+        let mut rest = self.find_others(alloc, semantics, wanted, tries)?;
         found.append(&mut rest)?;
         Ok(found)
     }
 }
 
 /// All matches of the rules in a workspace, whose paths stand for what the provider tells, but for some that are shadowed and so
-/// never kept. A rule is tried where usages of its picked path lead; without one, at each node where it is permitted. The
-/// matches come in no order of use.
+/// never kept. A rule is tried where usages of its picked path lead; without one, at each node where it is permitted. Each
+/// match was tried, as the counter tells. The matches come in no order of use.
 pub fn find_led<S: Semantics>(
     alloc: Global,
     workspace: &Trees,
@@ -151,6 +158,7 @@ pub fn find_led<S: Semantics>(
     ensures found { IfOk result (λ all. AreEnough (trees workspace.now) (IsFound workspace.now (S.meanings semantics.now) context.now rules.now) all.items) }
     ensures matches { IfOk result (λ all. AreMatches (trees workspace.now) all.items) }
     ensures count { IfOk result (λ _. (most : ℕ) → IsMost workspace.now (S.meanings semantics.now) context.now rules.now most → tries.new ≤ tries.old + most) }
+    ensures tried { IfOk result (λ all. tries.old + length all.items ≤ tries.new) }
 {
     are_named(workspace);
     let searched = Searched {

@@ -1,9 +1,10 @@
 //! The search for the matches of one rule that a path leads.
-ghost use Rattle.std.specs.Prelude.{◌≡◌, ◌+◌, ◌≤◌, false, [], ◌∷◌, IfOk, length, option_map};
+ghost use Rattle.std.specs.Prelude.{◌≡◌, ◌+◌, ◌≤◌, false, [], ◌∷◌, IfOk, IfSome, length, option_map};
 ghost use Rattle.ssr_syntax_tree.specs.Syntax.{tokens_of};
 ghost use Rattle.ssr_base_trees.specs.Workspace.{trees};
 ghost use Rattle.ssr_base_trees.specs.Built.{IsBuilt};
 ghost use Rattle.ide_ssr_search.specs.Permitted.{names_self};
+ghost use Rattle.ide_ssr_search.specs.Tries.{AreTried};
 ghost use Rattle.ide_ssr_leading.specs.Private.LedRules.{AreLedTo, TellsMatch, AreFoundAt, AreFoundBy};
 
 use crate::led::led_to;
@@ -62,6 +63,8 @@ impl<'a> LedRule<'a> {
         requires built { IsBuilt self.now.workspace.now }
         requires led { names_self (tokens_of self.now.rule.now.pattern) ≡ false }
         ensures count { tries.new ≤ tries.old + 1 }
+        ensures counted { IfOk result (λ found. IfSome found (λ _. tries.new ≡ tries.old + 1)) }
+        ensures grows { tries.old ≤ tries.new }
         ensures found { IfOk result (λ found. TellsMatch self.now.workspace.now (S.meanings semantics.now) self.now.context.now self.now.rule.now node (option_map (λ v. v.items) found)) }
     {
         if !is_open(self.workspace, self.context.restrictions(), node) {
@@ -82,6 +85,7 @@ impl<'a> LedRule<'a> {
         requires built { IsBuilt self.now.workspace.now }
         requires led { names_self (tokens_of self.now.rule.now.pattern) ≡ false }
         ensures count { tries.new ≤ tries.old + 1 }
+        ensures tried { IfOk result (λ _. AreTried found.old.items found.new.items tries.old tries.new) }
         ensures found { IfOk result (λ _. AreFoundAt self.now.workspace.now (S.meanings semantics.now) self.now.context.now self.now.rule.now self.now.place (node ∷ []) found.old.items found.new.items) }
     {
         let Some(bindings) = self.match_at(alloc, semantics, node, tries)? else {
@@ -103,6 +107,7 @@ impl<'a> LedRule<'a> {
         requires built { IsBuilt self.now.workspace.now }
         requires led { names_self (tokens_of self.now.rule.now.pattern) ≡ false }
         ensures count { tries.new ≤ tries.old + length usages.now }
+        ensures tried { IfOk result (λ _. AreTried found.old.items found.new.items tries.old tries.new) }
         ensures found { IfOk result (λ _. AreFoundBy self.now.workspace.now (S.meanings semantics.now) self.now.context.now self.now.rule.now self.now.place self.now.depth usages.now found.old.items found.new.items) }
     {
         for node in &nodes_led_to(alloc, self.workspace, self.depth, usages)? {

@@ -18,4 +18,5 @@ mod Patterns
 mod KindByKind
 mod ResolvedUses
 mod ResolvedTemplates
+mod Once
 pub mod Shared

@@ -12,8 +12,12 @@ use Rattle.ide_ssr_rules.proofs.ResolvedUses.{resolved_all, resolved_like}
 abbrev IsReplacing : ResolvedRule → Type 0
 IsReplacing kind = IsSome kind.template
 
+pub kinds_have_templates : (m : Meanings) (scope : ScopeId) (rule : Rule) (kinds : List ResolvedRule)
+    → resolved_kinds m scope rule.names rule.constraints rule.kinds ≡ Ok kinds → All HasTemplate rule.kinds → All (λ kind. IsSome kind.template) kinds
+kinds_have_templates m scope rule kinds resolved have =
+    resolved_all m scope rule.names rule.constraints HasTemplate IsReplacing rule.kinds kinds
+    (λ kind one is had. subst IsReplacing (resolved_like m scope rule.names rule.constraints kind one is).same had) resolved have
+
 pub have_templates : (m : Meanings) (scope : ScopeId) (text : List ℕ) (rule : Rule) (kinds : List ResolvedRule) → rule_reading text ≡ Ok rule
     → resolved_kinds m scope rule.names rule.constraints rule.kinds ≡ Ok kinds → All (λ kind. IsSome kind.template) kinds
-have_templates m scope text rule kinds is resolved =
-    resolved_all m scope rule.names rule.constraints HasTemplate IsReplacing rule.kinds kinds
-    (λ kind one is had. subst IsReplacing (resolved_like m scope rule.names rule.constraints kind one is).same had) resolved (rule_has text rule is)
+have_templates m scope text rule kinds is resolved = kinds_have_templates m scope rule kinds resolved (rule_has text rule is)

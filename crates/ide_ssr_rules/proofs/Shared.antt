@@ -2,3 +2,4 @@
 
 -- what a rule resolves to has a template in each kind
 pub use Rattle.ide_ssr_rules.proofs.ResolvedTemplates.{have_templates}
+pub use Rattle.ide_ssr_rules.proofs.Once.{have_templates_once}

@@ -1,9 +1,10 @@
 -- Rules: the names of their placeholders, what each of these asks, and a pattern and a template for each kind that they can be read as. A search
 -- pattern is a rule without a template.
-use Rattle.std.specs.Prelude.{ℕ, not, List, [], ◌∷◌, ◌++◌, Option, Some, None, Result, Ok, Err, unwrap_or, if◌then◌else◌}
+use Rattle.std.specs.Prelude.{ℕ, ◌==◌, ◌&&◌, not, Bool, false, List, [], ◌∷◌, ◌++◌, length, take, Option, Some, None, Result, Ok, Err, unwrap_or, if◌then◌else◌}
 use Rattle.std.specs.List.{filter, list_any}
 use Rattle.std.specs.Option.{option_map}
 use Rattle.std.specs.Str.{trim}
+use Rattle.ssr_syntax_tree.specs.Syntax.{token_count}
 use Rattle.ide_ssr_resolved_rule.specs.declared.constraints.Constraint.{Constraint}
 use Rattle.ide_ssr_rules.specs.declared.elements.Element.{Element}
 use Rattle.ide_ssr_rules.specs.declared.kinds.ParsedRule.{ParsedRule}
@@ -22,6 +23,15 @@ pub record Rule : Type 0 where
   pub names : List (List ℕ)
   pub constraints : List (List Constraint)
   pub kinds : List ParsedRule
+
+-- whether the pattern is a placeholder alone: it has one token and one placeholder, and each placeholder is one of its tokens
+abbrev pub is_placeholder : List (List ℕ) → List ParsedRule → Bool
+is_placeholder names [] = false
+is_placeholder names (kind ∷ kinds) = (length names == 1) && (token_count kind.pattern.children == 1)
+
+-- By each of its kinds a pattern that is a placeholder alone matches the same nodes. It is searched once by its first kind alone.
+abbrev pub once : Rule → Rule
+once rule = record rule { kinds = if is_placeholder rule.names rule.kinds then take 1 rule.kinds else rule.kinds }
 
 -- names that a template uses and the pattern lacks
 abbrev pub lacking : List (List ℕ) → List (List ℕ) → List (List ℕ)
@@ -72,6 +82,10 @@ rule_reading text = do
   pattern ← side texts.0
   template ← side texts.1
   rule_of pattern (Some template)
+
+-- the same rule, as it is searched once
+abbrev pub once_reading : List ℕ → Result Rule Refusal
+once_reading text = rule_reading text >>= λ rule. Ok (once rule)
 
 -- the search pattern that a text says, or its first refusal: one side, trimmed, without a template
 unfoldable pub pattern_reading : List ℕ → Result Rule Refusal

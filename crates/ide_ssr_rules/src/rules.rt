@@ -8,7 +8,7 @@ ghost use Rattle.ide_ssr_rules.specs.Elements.{names_of, constraints_of, is_cons
 ghost use Rattle.ide_ssr_refusals.specs.declared.refusals.Refusal.TheVariants as r;
 ghost use Rattle.ide_ssr_rules.specs.MacroCalls.{untested};
 ghost use Rattle.ide_ssr_refusals.specs.Refusals.{Answers, AnswersBy, TellsOf, unless};
-ghost use Rattle.ide_ssr_rules.specs.Rules.{lacking, check_sides, check_uses, check_defined, unconstrained, rule_of, rule_reading, pattern_reading};
+ghost use Rattle.ide_ssr_rules.specs.Rules.{is_placeholder, once, lacking, check_sides, check_uses, check_defined, unconstrained, rule_of, rule_reading, pattern_reading};
 ghost use Rattle.ide_ssr_resolved_rule.specs.Names.{AreNew};
 ghost use Rattle.ide_ssr_rules.specs.Uses.{UsesPlaceholdersOnce};
 ghost use Rattle.ide_ssr_rules.specs.StandIns.{code_of, glued_placeholder, spelled_stand_in};
@@ -106,6 +106,34 @@ impl SsrRule {
         let parsed = rule_of_text(alloc, text)?;
         Ok(SsrRule { parsed })
     }
+
+    /// The rule with its first kind alone, if its pattern is a placeholder alone: by each of its kinds such a pattern matches
+    /// the same nodes. Any other rule is left as it is.
+    pub fn once(self) -> SsrRule
+        ensures { result ≡ once self }
+    {
+        let (names, constraints, mut kinds) = self.parsed.into_parts();
+        if is_placeholder(&names, &kinds) {
+            kinds.truncate(1);
+        }
+        SsrRule {
+            parsed: ParsedKinds {
+                names,
+                constraints,
+                kinds,
+            },
+        }
+    }
+}
+
+/// Whether the pattern of kinds with these names is a placeholder alone.
+fn is_placeholder(names: &[String], kinds: &[ParsedRule]) -> bool
+    ensures { result ≡ is_placeholder (map string_bytes names.now) kinds.now }
+{
+    let Some(kind) = kinds.first() else {
+        return false;
+    };
+    names.len() == 1 && kind.pattern.token_count() == 1
 }
 
 /// A search pattern, which is searched for and never replaced: one side of a rule, for each kind that it can be read as.

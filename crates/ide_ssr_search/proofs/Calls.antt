@@ -20,7 +20,7 @@ use Rattle.ssr_base_trees.proofs.Shared.{is_up, root_found, same_nodes, mapped}
 use Rattle.ide_ssr_search.specs.Context.{Context}
 use Rattle.ide_ssr_search.specs.Permitted.{IsInFunction}
 use Rattle.ide_ssr_search.specs.Private.Shut.{IsShutIn, IsShut}
-use Rattle.ide_ssr_search.specs.Private.Scan.{IsShutCall, KnowsShut, KnowsInside, IsEarlierCall}
+use Rattle.ide_ssr_search.specs.Private.KnownTrees.{IsShutCall, KnowsShut, KnowsInside, IsEarlierCall}
 use Rattle.ide_ssr_search.proofs.Trees.{then_some}
 use Rattle.ide_ssr_search.proofs.Shutting.{root_shut}
 use Rattle.ide_ssr_search.proofs.Inside.{root_inside, file_outside}

@@ -13,7 +13,7 @@ use Rattle.ssr_base_trees.specs.Built.{IsBuilt}
 use Rattle.ssr_base_trees.proofs.Shared.{is_up}
 use Rattle.ide_ssr_bindings.specs.Found.{IsAtOrBelow}
 use Rattle.ide_ssr_search.specs.Permitted.{IsInFunction}
-use Rattle.ide_ssr_search.specs.Private.Scan.{StandsIn}
+use Rattle.ide_ssr_search.specs.Private.KnownTrees.{StandsIn}
 use Rattle.ide_ssr_bindings.proofs.Shared.{IsTree}
 use Rattle.ide_ssr_search.proofs.Trees.{then_some, split, over_below, root_below, up_below, below_up}
 

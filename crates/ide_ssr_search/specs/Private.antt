@@ -5,5 +5,6 @@ pub mod Bounds
 pub mod Whole
 pub mod Words
 pub mod Roots
+pub mod KnownTrees
 pub mod Scan
 pub mod Files

@@ -1,8 +1,9 @@
--- How often a search tries rules at nodes, at most.
-use Rattle.std.specs.Prelude.{ℕ, ◌≡◌, ◌≢◌, ◌↔◌, ◌+◌, Bool, true, false, List, [], ◌∷◌, length, AllPairs, Contains}
+-- How often a search tries rules at nodes, at most and at least.
+use Rattle.std.specs.Prelude.{ℕ, ◌≡◌, ◌≢◌, ◌↔◌, ◌+◌, ◌≤◌, Bool, true, false, List, [], ◌∷◌, length, AllPairs, Contains}
 use Rattle.ssr_base_trees.specs.declared.ids.NodeId.{NodeId}
 use Rattle.ssr_base_trees.specs.Workspace.{Workspace}
 use Rattle.ide_ssr_resolved_rule.specs.Resolved.{ResolvedRule}
+use Rattle.ide_ssr_bindings.specs.Found.{FoundMatch}
 use Rattle.ide_ssr_search.specs.Context.{Context}
 use Rattle.ide_ssr_search.specs.Permitted.{IsPermitted}
 
@@ -23,3 +24,7 @@ module _ (w : Workspace) (context : Context) where
   IsMostOf (rule ∷ rules) [] most = most ≡ 0
   IsMostOf (rule ∷ rules) (flag ∷ wanted) most =
       (own : ℕ) × (others : ℕ) × IsMostWanted rule flag own × IsMostOf rules wanted others × (most ≡ own + others)
+
+-- each match that is added was tried: what is counted grows by one at least for each
+abbrev pub AreTried : List FoundMatch → List FoundMatch → ℕ → ℕ → Type 0
+AreTried found longer old new = old + length longer ≤ new + length found

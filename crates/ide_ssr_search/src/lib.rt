@@ -4,6 +4,7 @@
 mod bounds;
 mod context;
 mod context_error;
+mod known_tree;
 pub mod laws;
 mod permitted;
 mod positions;
@@ -16,5 +17,5 @@ mod words;
 pub use context::Context;
 pub use context_error::ContextError;
 pub use permitted::{is_searched, names_self, shuts};
-pub use scan::{find_matches, find_wanted};
+pub use scan::{Wanted, find_matches, find_wanted};
 pub use whole::match_whole;

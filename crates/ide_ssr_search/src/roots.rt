@@ -237,21 +237,21 @@ impl KindSet {
 
 /// The rules of a search, and what they ask.
 #[derive(Drop)]
-pub(crate) struct Rules<'a> {
+pub(crate) struct Rules<'a, 'f> {
     pub(crate) rules: &'a [ResolvedRule],
     /// Which of the rules are wanted, by their places. The others are passed over.
-    pub(crate) wanted: &'a [bool],
+    pub(crate) wanted: &'f [bool],
     /// What each of the rules asks.
     pub(crate) asked: Vec<Asked<'a>>,
 }
 
-impl<'a> Rules<'a> {
+impl<'a, 'f> Rules<'a, 'f> {
     /// What rules ask.
     pub(crate) fn new(
         alloc: Global,
         rules: &'a [ResolvedRule],
-        wanted: &'a [bool],
-    ) -> Result<Rules<'a>, AllocError>
+        wanted: &'f [bool],
+    ) -> Result<Rules<'a, 'f>, AllocError>
         ensures rules { IfOk result (λ made. made.rules.now ≡ rules.now) }
         ensures wanted { IfOk result (λ made. made.wanted.now ≡ wanted.now) }
         ensures are { IfOk result AreRules }

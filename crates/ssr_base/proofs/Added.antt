@@ -1,5 +1,6 @@
 -- What building adds to a workspace.
-use Rattle.std.proofs.Common.{◌≡◌, ◌+◌, ◌≤◌, true, [], ◌∷◌, ◌++◌, length, map, Result, Ok, Err, String, string_bytes, refl, None, ltb-false}
+use Rattle.std.proofs.Common.{◌≡◌, ◌+◌, ◌≤◌, true, [], ◌∷◌, ◌++◌, length, map, Result, Ok, Err, String, string_bytes, refl, sym, ap, None, ltb-false}
+use Rattle.std.specs.Prelude.{nat_lt}
 use Rattle.std.specs.Global.{Global}
 use Rattle.std.specs.List.{list_all}
 use Rattle.ssr_syntax_tree.specs.Syntax.{Syntax, tokens_of}
@@ -12,8 +13,8 @@ use Rattle.ssr_base.specs.declared.building.Expansion.{Expansion}
 use Rattle.ssr_base.specs.declared.workspace_error.WorkspaceError.{WorkspaceError}
 use Rattle.ssr_base.specs.declared.workspace_error.WorkspaceError.TheVariants as errors
 use Rattle.ssr_base_trees.specs.Workspace.{Workspace, trees, text_at_top, nesting, expansion_of}
-use Rattle.ssr_base_trees.specs.Built.{most_nested}
-use Rattle.ssr_base.specs.Building.{◌>>=◌, read_as, with_file, origin_of, checked_call, joined_origins, with_expansion}
+use Rattle.ssr_base_trees.specs.Built.{most_trees, most_nested}
+use Rattle.ssr_base.specs.Building.{◌>>=◌, unless, added, read_as, with_file, origin_of, checked_call, joined_origins, with_expansion}
 use Rattle.ssr_base_trees.specs.Origins.{fits_origin}
 use Rattle.ssr_base_trees.specs.Growth.{with_tree}
 use Rattle.ssr_base.proofs.Chosen.{IsChosen, chosen_free}
@@ -80,3 +81,9 @@ adds_expansion w next x is =
       read = was_read why (expansion_reading x.kind x.tokens.items) read.0 read.1;
       is = cc (read.2);
     }
+
+-- an expansion leaves the files as they are
+pub added_files : (w next : Workspace) (x : Expansion) → added w x ≡ Ok next → next.files ≡ w.files
+added_files w next x is =
+    let few = and_then (unless (nat_lt most_trees (length w.files + length w.expansions + 1)) errors.TooManyTrees) (λ _. with_expansion w x) next is in
+    sym (ap (λ (w : Workspace). w.files) (adds_expansion w next x few.2).is)

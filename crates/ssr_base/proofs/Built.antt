@@ -1,6 +1,7 @@
 -- What building establishes.
-use Rattle.std.proofs.Common.{◌≡◌, ℕ, ◌+◌, ◌≤◌, Bool, true, false, List, [], ◌∷◌, ◌++◌, All, length, map, Ok, String, string_bytes, refl, sym, ap, ◌∙◌, subst, arith, ltb-false}
-use Rattle.std.proofs.lemmas.List.{length-append}
+use Rattle.std.proofs.Common.{◌≡◌, ℕ, ◌+◌, ◌≤◌, Bool, true, false, List, [], ◌∷◌, ◌++◌, All, length, map, Ok, String, string_bytes, refl, sym, ap, ◌∙◌, subst, arith, ltb-false, append_assoc}
+use Rattle.std.proofs.lemmas.List.{append-nil, length-append}
+use Rattle.std.proofs.lemmas.List.Elements.{All-head, All-tail}
 use Rattle.std.proofs.lemmas.List.Folds.{list_all-map}
 use Rattle.std.proofs.lemmas.List.Sums.{AllPass-from_list_all}
 use Rattle.std.proofs.lemmas.Str.{IsUtf8-string_bytes}
@@ -8,24 +9,23 @@ use Rattle.std.specs.Prelude.{nat_lt}
 use Rattle.std.specs.Global.{Global}
 use Rattle.std.specs.List.{list_all}
 use Rattle.std.specs.Str.{IsUtf8}
-use Rattle.ssr_syntax_tree.specs.Syntax.{Syntax, tokens_of}
+use Rattle.ssr_syntax_tree.specs.Syntax.{Syntax, source_of, tokens_of}
 use Rattle.ssr_syntax_tree.proofs.Shared.{length-tokens_in}
-use Rattle.ssr_syntax.specs.declared.expansions.ExpToken.{ExpToken}
-use Rattle.ssr_syntax.specs.Reading.{file_reading}
+use Rattle.ssr_syntax.specs.Reading.{IsRead, file_reading}
 use Rattle.ssr_syntax.specs.Expansions.{expansion_reading}
+use Rattle.ssr_syntax.proofs.Shared.{file_sound, file_texts, expansion_sound}
 use Rattle.ssr_base_trees.specs.declared.ids.NodeId.{NodeId}
 use Rattle.ssr_base.specs.declared.building.Expansion.{Expansion}
 use Rattle.ssr_base.specs.declared.workspace_error.WorkspaceError.{WorkspaceError}
 use Rattle.ssr_base.specs.declared.workspace_error.WorkspaceError.TheVariants as errors
 use Rattle.ssr_base_trees.specs.Workspace.{Expanded, Workspace, trees, text_at_top}
 use Rattle.ssr_base_trees.specs.Built.{most_trees, IsBuilt}
-use Rattle.ssr_base.specs.Building.{◌>>=◌, unless, in_turn, read_as, checked_call, origin_of, joined_origins, with_file, with_expansion, built}
+use Rattle.ssr_base.specs.Building.{◌>>=◌, unless, in_turn, checked_call, origin_of, joined_origins, with_file, with_expansion, built}
 use Rattle.ssr_base_trees.specs.Origins.{fits_origin}
 use Rattle.ssr_base.proofs.Joining.{length-joined_origins, fit_joined}
-use Rattle.ssr_base.proofs.Readings.{file_shallow, expansion_shallow, file_texts}
 use Rattle.ssr_base.proofs.Chosen.{IsChosen, chosen_free}
 use Rattle.ssr_base.proofs.Calls.{accepted}
-use Rattle.ssr_base.proofs.Added.{and_then, was_read, adds_file, adds_expansion}
+use Rattle.ssr_base.proofs.Added.{and_then, adds_file, adds_expansion}
 use Rattle.ssr_base_trees.specs.Growth.{only_files, no_tree, IsOfCall}
 use Rattle.ssr_base_trees.proofs.Shared.{built_none, built_file, built_expansion}
 
@@ -34,7 +34,20 @@ use Rattle.ssr_base_trees.proofs.Shared.{built_none, built_file, built_expansion
 -- one file more that is read
 pub built_read : (files : List Syntax) (text : List ℕ) (tree : Syntax) → length files + 1 ≤ most_trees → IsUtf8 text → file_reading text ≡ Ok tree
     → IsBuilt (only_files files) → IsBuilt (only_files (files ++ tree ∷ []))
-built_read files text tree room utf8 read b = built_file files tree room b (file_shallow text tree read) (file_texts text tree utf8 read)
+built_read files text tree room utf8 read b = built_file files tree room b (file_sound text tree utf8 read).shallow (file_texts text tree utf8 read)
+
+built_from : (files trees : List Syntax) → length files + length trees ≤ most_trees → All IsRead trees → IsBuilt (only_files files)
+    → IsBuilt (only_files (files ++ trees))
+built_from files [] few read b = subst (λ (files : List Syntax). IsBuilt (only_files files)) (sym (append-nil files)) b
+built_from files (tree ∷ trees) few read b =
+    let first = All-head IsRead tree trees read in
+    let next = built_read files (source_of tree) tree (omega arith) first.text first.reading b in
+    subst (λ (files : List Syntax). IsBuilt (only_files files)) (append_assoc files (tree ∷ []) trees)
+    (built_from (files ++ tree ∷ []) trees (omega (arith, length-append files (tree ∷ []))) (All-tail IsRead tree trees read) next)
+
+-- the workspace of trees that are read
+pub built_trees : (trees : List Syntax) → length trees ≤ most_trees → All IsRead trees → IsBuilt (only_files trees)
+built_trees trees few read = built_from [] trees (omega arith) read built_none
 
 -- the workspace of the files that are read
 record OfFiles (count : ℕ) (w : Workspace) : Type 0 where
@@ -74,16 +87,14 @@ is_of_call w x call tree chosen fitting read =
             fit_joined text (tokens_of tree) tokens
             (AllPass-from_list_all (λ token. fits_origin text (origin_of token)) tokens (sym (list_all-map (fits_origin text) origin_of tokens) ∙ fitting));
       };
-      shallow = expansion_shallow x.kind tokens tree read;
+      shallow = (expansion_sound x.kind tokens tree read).shallow;
     }
 
-pub read_of_call : (w : Workspace) (x : Expansion) (call : NodeId) (tree : Syntax) (number : ℕ) (tokens : List ExpToken) → checked_call w x ≡ Ok call
-    → tokens ≡ x.tokens.items → read_as (errors.Expansion number) (expansion_reading x.kind tokens) ≡ Ok tree
+pub read_of_call : (w : Workspace) (x : Expansion) (call : NodeId) (tree : Syntax) → checked_call w x ≡ Ok call → expansion_reading x.kind x.tokens.items ≡ Ok tree
     → IsOfCall w (record { call = call; syntax = tree; origins = joined_origins (tokens_of tree) x.tokens.items })
-read_of_call w x call tree number tokens checked same read =
+read_of_call w x call tree checked read =
     let known = accepted w x call checked in
-    is_of_call w x call tree (chosen_free w x.call.0 x.call.1 call known.0).0 known.2
-    (ap (expansion_reading x.kind) (sym same) ∙ was_read (errors.Expansion number) (expansion_reading x.kind tokens) tree read)
+    is_of_call w x call tree (chosen_free w x.call.0 x.call.1 call known.0).0 known.2 read
 
 of_expansions : (w : Workspace) (xs : List Expansion) (last : Workspace) → length w.files + length w.expansions + length xs ≤ most_trees → IsBuilt w
     → in_turn with_expansion w xs ≡ Ok last → IsBuilt last

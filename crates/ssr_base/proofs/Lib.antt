@@ -4,6 +4,6 @@ mod Joining
 mod Chosen
 mod Calls
 mod Turns
-mod Readings
 mod Added
+mod Adding
 mod Built

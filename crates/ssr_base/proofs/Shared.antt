@@ -2,5 +2,7 @@
 
 -- what each workspace keeps that is built
 pub use Rattle.ssr_base.proofs.Built.{built_read, is_built}
+-- what is added leaves the files as they are
+pub use Rattle.ssr_base.proofs.Added.{added_files}
 -- nodes begin in their order
 pub use Rattle.ssr_base.proofs.Finding.{starts_sorted}

@@ -1,5 +1,5 @@
 -- What is built of the texts of files and of expansions: a workspace, or the first refusal.
-use Rattle.std.specs.Prelude.{ℕ, ◌+◌, ◌-◌, ◌≡◌, ◌≤◌, ◌==◌, ◌&&◌, not, nat_lt, Bool, true, if◌then◌else◌, List, [], ◌∷◌, ◌++◌, length, map, take, drop, Option, Some, None, is_some, Result, Ok, Err, String, string_bytes}
+use Rattle.std.specs.Prelude.{ℕ, ◌+◌, ◌-◌, ◌≡◌, ◌≤◌, ◌==◌, ◌&&◌, not, nat_lt, Bool, true, if◌then◌else◌, List, [], ◌∷◌, ◌++◌, All, length, map, take, drop, Option, Some, None, is_some, Result, Ok, Err, String, string_bytes}
 use Rattle.std.specs.Global.{Global}
 use Rattle.std.specs.List.{find, list_all}
 use Rattle.std.specs.Option.{option_map, option_and_then, ok_or}
@@ -8,7 +8,7 @@ use Rattle.ssr_syntax_kinds.specs.declared.kinds.SyntaxKind.TheVariants as k
 use Rattle.ssr_syntax_kinds.specs.declared.range.TextRange.{TextRange}
 use Rattle.ssr_syntax_tree.specs.Syntax.{Token, Syntax, tokens_of}
 use Rattle.ssr_syntax_tree.specs.Places.{Node, nodes_of, start_of, end_of}
-use Rattle.ssr_syntax.specs.Reading.{file_reading}
+use Rattle.ssr_syntax.specs.Reading.{IsRead, file_reading}
 use Rattle.ssr_syntax.specs.Expansions.{expansion_reading}
 use Rattle.ssr_syntax.specs.declared.syntax_error.SyntaxError.{SyntaxError}
 use Rattle.ssr_syntax.specs.declared.syntax_error.SyntaxError.TheVariants as syntax
@@ -47,6 +47,10 @@ abbrev pub with_file : Workspace → String Global → Result Workspace Workspac
 with_file w text = do
   tree ← read_as (errors.File (length w.files)) (file_reading (string_bytes text))
   Ok (record { files = w.files ++ tree ∷ []; expansions = w.expansions })
+
+-- each file's tree is the reading of the file's text
+abbrev pub AreRead : Workspace → Type 0
+AreRead w = All IsRead w.files
 
 -- ** Expansions.
 
@@ -101,6 +105,12 @@ with_expansion w x = do
   call ← checked_call w x
   tree ← read_as (errors.Expansion (length w.expansions)) (expansion_reading x.kind x.tokens.items)
   Ok (with_tree w call tree (joined_origins (tokens_of tree) x.tokens.items))
+
+-- an expansion is added, unless there are as many trees as there may be
+abbrev pub added : Workspace → Expansion → Result Workspace WorkspaceError
+added w x = do
+  _ ← unless (nat_lt most_trees (length w.files + length w.expansions + 1)) errors.TooManyTrees
+  with_expansion w x
 
 -- ** All.
 

@@ -1,17 +1,18 @@
 //! How a workspace is built.
 
-ghost use Rattle.std.specs.Prelude.{◌≡◌, ◌+◌, ◌<◌, ◌≤◌, ◌↔◌, IfOk, IfErr, length, map, take, drop, string_bytes};
+ghost use Rattle.std.specs.Prelude.{◌≡◌, ◌≢◌, ◌+◌, ◌<◌, ◌≤◌, ◌↔◌, All, Ok, Err, IfOk, IfErr, IsOk, OnErr, length, map, take, drop, string_bytes};
 ghost use Rattle.std.specs.List.{list_all};
 ghost use Rattle.std.specs.Option.{option_map};
 ghost use Rattle.ssr_syntax_tree.specs.Syntax.{node_count, tokens_of};
 ghost use Rattle.ssr_syntax_tree.specs.Places.{HasNode, node_of};
 ghost use Rattle.ssr_base_trees.specs.Workspace.{trees, text_at_top};
-ghost use Rattle.ssr_syntax.specs.Reading.{file_reading};
+ghost use Rattle.ssr_syntax.specs.Reading.{IsRead, file_reading};
 ghost use Rattle.ssr_syntax.specs.Expansions.{expansion_reading};
 ghost use Rattle.ssr_base_trees.specs.Origins.{covered, fits_origin, plain_origin};
 ghost use Rattle.ssr_base_trees.specs.Built.{most_trees};
-ghost use Rattle.ssr_base.specs.Building.{read_as, with_file, with_expansion, in_turn, is_call, first_call, free_call, checked_call, origin_of, count_in, cover_of_tokens, joined_origins, Gives, Answers};
-ghost use Rattle.ssr_base_trees.specs.Growth.{no_tree};
+ghost use Rattle.ssr_base.specs.Building.{read_as, with_file, with_expansion, in_turn, is_call, first_call, free_call, checked_call, origin_of, count_in, cover_of_tokens, joined_origins, added, Gives, Answers};
+ghost use Rattle.ssr_base_trees.specs.Growth.{no_tree, only_files};
+ghost use Rattle.ssr_base.specs.declared.workspace_error.WorkspaceError.TheVariants as errors;
 ghost use Rattle.ssr_base.specs.Private.Finding.{NodesBefore, NodesFrom};
 
 use crate::workspace::Workspace;
@@ -25,10 +26,10 @@ use ssr_syntax_tree::{NodeNo, TokenNo, Tree};
 use std::alloc::{AllocError, Global};
 
 /// How many files and expansions there may be.
-const MOST_TREES: usize = 65_536;
+pub const MOST_TREES: usize = 65_536;
 
 /// How many calls there may be from an expansion up to its file.
-const MOST_NESTED: u32 = 32;
+pub const MOST_NESTED: u32 = 32;
 
 /// What a macro call stands for, as it is handed in.
 #[derive(Debug, PartialEq, Eq, Drop)]
@@ -150,7 +151,8 @@ fn joined_origins(
 
 /// The tree of a file.
 fn read_file(alloc: Global, number: u32, text: String) -> Result<Tree, WorkspaceError>
-    ensures { Gives (read_as (WorkspaceError.File number) (file_reading (string_bytes text))) result }
+    ensures gives { Gives (read_as (WorkspaceError.File number) (file_reading (string_bytes text))) result }
+    ensures read { IfOk result IsRead }
 {
     match parse_file_owned(alloc, text) {
         Ok(tree) => Ok(tree),
@@ -166,7 +168,8 @@ fn read_expansion(
     kind: ExpansionKind,
     tokens: &[ExpToken],
 ) -> Result<Tree, WorkspaceError>
-    ensures { Gives (read_as (WorkspaceError.Expansion number) (expansion_reading kind tokens.now)) result }
+    ensures gives { Gives (read_as (WorkspaceError.Expansion number) (expansion_reading kind tokens.now)) result }
+    ensures read { IfOk result (λ tree. expansion_reading kind tokens.now ≡ Ok tree) }
 {
     match parse_tokens(alloc, kind, tokens) {
         Ok(tree) => Ok(tree),
@@ -186,8 +189,8 @@ fn check_count(files: usize, expansions: usize) -> Result<(), WorkspaceError>
     Ok(())
 }
 
-/// The trees of files.
-fn read_files(alloc: Global, files: Vec<String>) -> Result<Trees, WorkspaceError>
+/// The workspace of files alone.
+fn read_files(alloc: Global, files: Vec<String>) -> Result<Workspace, WorkspaceError>
     requires { length files.items ≤ most_trees }
     ensures gives { Gives (in_turn with_file no_tree files.items) result }
     ensures counted { IfOk result (λ w. (length w.files ≡ length files.items) × (length w.expansions ≡ 0)) }
@@ -197,7 +200,7 @@ fn read_files(alloc: Global, files: Vec<String>) -> Result<Trees, WorkspaceError
         let tree = read_file(alloc, trees.len() as u32, text)?;
         trees.push(tree)?;
     }
-    Ok(Trees::of_files(alloc, trees))
+    Ok(Workspace::of_trees(alloc, trees))
 }
 
 /// The macro call at a range of a tree, if it has no expansion yet.
@@ -240,24 +243,6 @@ fn checked_call(trees: &Trees, expansion: &Expansion) -> Result<NodeId, Workspac
     Ok(call)
 }
 
-/// The trees with that of one expansion more.
-fn with_expansion(
-    trees: Trees,
-    alloc: Global,
-    expansion: Expansion,
-) -> Result<Trees, WorkspaceError>
-    requires { length trees.files + length trees.expansions < most_trees }
-    ensures gives { Gives (with_expansion trees expansion) result }
-    ensures counted { IfOk result (λ w. (length w.files ≡ length trees.files) × (length w.expansions ≡ length trees.expansions + 1)) }
-{
-    let call = checked_call(&trees, &expansion)?;
-    let number = trees.expansion_count();
-    let tree = read_expansion(alloc, number, expansion.kind, &expansion.tokens)?;
-    let origins = joined_origins(alloc, &tree, &expansion.tokens)?;
-    drop(expansion);
-    Ok(trees.with_tree(alloc, call, tree, origins)?)
-}
-
 impl Workspace {
     /// The trees of files and expansions, in their order. Refused, by the first of these that holds: more than 65,536 of
     /// them; the first file without a tree; then the first expansion whose call is none of an earlier tree or has an
@@ -271,10 +256,73 @@ impl Workspace {
         ensures { Answers files.items expansions.items result }
     {
         check_count(files.len(), expansions.len())?;
-        let mut trees = read_files(alloc, files)?;
+        let mut workspace = read_files(alloc, files)?;
         for expansion in expansions {
-            trees = with_expansion(trees, alloc, expansion)?;
+            workspace.add_read(alloc, &expansion)?;
         }
-        Ok(Workspace { trees })
+        Ok(workspace)
+    }
+
+    /// The workspace of files alone, whose trees these are: each the reading of its text.
+    pub fn of_trees(alloc: Global, trees: Vec<Tree>) -> Workspace
+        requires few { length trees.items ≤ most_trees }
+        requires read { All IsRead trees.items }
+        ensures { result ≡ only_files trees.items }
+    {
+        Workspace {
+            trees: Trees::of_files(alloc, trees),
+        }
+    }
+
+    /// Adds an expansion behind the others, with the tree that its tokens are read as. Refused, by the first of these that
+    /// holds: there are 65,536 files and expansions; its call is none of an earlier tree or has an expansion already; it is
+    /// nested more than 32 calls deep; it has an origin which is empty or isn't between characters of the file at the top.
+    /// Want of memory is told only where nothing refuses it. Where it isn't added, the workspace is as it was.
+    pub fn add(
+        &mut self,
+        alloc: Global,
+        expansion: &Expansion,
+        tree: Tree,
+    ) -> Result<(), WorkspaceError>
+        requires { expansion_reading expansion.now.kind expansion.now.tokens.items ≡ Ok tree }
+        ensures added { IfOk result (λ _. added self.old expansion.now ≡ Ok self.new) }
+        ensures refused { IfErr result (λ e. e ≢ errors.Memory → added self.old expansion.now ≡ Err e) }
+        ensures memory { result ≡ Err errors.Memory → IsOk (added self.old expansion.now) }
+        ensures unchanged { OnErr result (self.new ≡ self.old) }
+    {
+        let files = self.trees.file_count() as usize;
+        check_count(files + self.trees.expansion_count() as usize, 1)?;
+        let call = checked_call(&self.trees, expansion)?;
+        Ok(self.add_at(alloc, call, expansion, tree)?)
+    }
+
+    /// Adds an expansion behind the others, of which the tokens are read here.
+    fn add_read(&mut self, alloc: Global, expansion: &Expansion) -> Result<(), WorkspaceError>
+        requires { length self.old.files + length self.old.expansions < most_trees }
+        ensures added { IfOk result (λ _. with_expansion self.old expansion.now ≡ Ok self.new) }
+        ensures refused { IfErr result (λ e. Gives (with_expansion self.old expansion.now) (Err e)) }
+    {
+        let call = checked_call(&self.trees, expansion)?;
+        let number = self.trees.expansion_count();
+        let tree = read_expansion(alloc, number, expansion.kind, &expansion.tokens)?;
+        Ok(self.add_at(alloc, call, expansion, tree)?)
+    }
+
+    /// Adds an expansion of a call that has been checked, with the tree of its tokens.
+    fn add_at(
+        &mut self,
+        alloc: Global,
+        call: NodeId,
+        expansion: &Expansion,
+        tree: Tree,
+    ) -> Result<(), AllocError>
+        requires room { length self.old.files + length self.old.expansions < most_trees }
+        requires call { checked_call self.old expansion.now ≡ Ok call }
+        requires read { expansion_reading expansion.now.kind expansion.now.tokens.items ≡ Ok tree }
+        ensures added { IfOk result (λ _. with_expansion self.old expansion.now ≡ Ok self.new) }
+        ensures unchanged { OnErr result (self.new ≡ self.old) }
+    {
+        let origins = joined_origins(alloc, &tree, &expansion.tokens)?;
+        self.trees.add_tree(alloc, call, tree, origins)
     }
 }

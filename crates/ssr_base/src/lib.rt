@@ -3,11 +3,13 @@
 #![tactic(auto)]
 
 mod building;
+mod editing;
 pub mod laws;
 mod workspace;
 mod workspace_error;
 
-pub use building::Expansion;
+pub use building::{Expansion, MOST_NESTED, MOST_TREES};
+pub use editing::edited;
 pub use ssr_base_trees::{
     ApplyError, DefId, DefInfo, DefKind, FileId, FilePosition, FileRange, NodeId, Res, ScopeId,
     SelfKind, Semantics, TextEdit, TokenRun, TypeId,

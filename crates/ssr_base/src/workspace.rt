@@ -3,6 +3,7 @@ ghost use Rattle.std.specs.Prelude.{◌≡◌, length};
 ghost use Rattle.std.specs.Option.{option_copied, option_map};
 ghost use Rattle.ssr_base_trees.specs.Workspace.{trees, tree_of, text_of, above, expansion_of, original_range, run_range, file_span_of};
 ghost use Rattle.ssr_base_trees.specs.Built.{IsBuilt};
+ghost use Rattle.ssr_base.specs.Building.{AreRead};
 
 use ssr_base_trees::{FileRange, NodeId, TokenRun, Trees};
 use ssr_syntax_tree::Tree;
@@ -24,12 +25,17 @@ impl Model for Workspace {
     ghost coded = { workspace_code };
 
     ghost view = { λ w. w.trees };
+
+    ghost use Rattle.ssr_base.specs.Building.{AreRead};
+
+    ghost invariant = { λ w. AreRead w.trees };
 }
 
 impl Workspace {
-    /// The same, as the crates of the search take it.
+    /// The same, as the crates of the search take it. The tree of each file is the reading of the file's text.
     pub fn trees(&self) -> &Trees
-        ensures { result.now ≡ self.now }
+        ensures same { result.now ≡ self.now }
+        ensures read { AreRead self.now }
     {
         &self.trees
     }

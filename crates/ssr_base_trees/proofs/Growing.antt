@@ -4,6 +4,7 @@ use Rattle.std.proofs.lemmas.Bool.{cases_lt, cases_order, cases_Bool}
 use Rattle.std.proofs.lemmas.List.{map-append, length-map, length-append}
 use Rattle.std.proofs.lemmas.Option.{slice_get-map, slice_get_within, same_Some}
 use Rattle.std.specs.BTreeMap.{BTreeMap, get, is_at}
+use Rattle.std.specs.Map.{lookup}
 use Rattle.std.specs.List.{position_from}
 use Rattle.std.specs.Option.{option_map}
 use Rattle.std.specs.Ordering.{nat_cmp, ordering_then, is_eq}
@@ -183,6 +184,23 @@ no_place files es call none = placed (place_of call es) none
     placed (Some n) e = cc
 
 -- ** All of it.
+
+-- what holds of what is stored holds where the same is stored
+pub stored_same : (a b : Inside) → IsStored a → b.files.items ≡ a.files.items → b.expansions.items ≡ a.expansions.items → b.calls.entries ≡ a.calls.entries → IsStored b
+stored_same a b stored files expansions calls =
+    let Each : List Syntax → List Stored → Type 0 = λ fs es. (t : ℕ) (e : Stored) → length fs ≤ t → slice_get es (t - length fs) ≡ Some e → IsStoredAt (shown fs es) t e in
+    let view : workspace_of b ≡ workspace_of a = ap (λ (fs : List Syntax). shown fs b.expansions.items) files ∙ ap (shown a.files.items) expansions in
+    record {
+      built = subst IsBuilt (sym view) stored.built;
+      few = omega (arith, ap length files, ap length expansions, stored.few);
+      each =
+          subst (λ (fs : List Syntax). Each fs b.expansions.items) (sym files)
+          (subst (Each a.files.items) (sym expansions) stored.each);
+      calls = λ q.
+          ap (λ (entries : List (NodeId × ℕ)). lookup (is_at ((id_order.ghosts).cmp q)) entries) calls
+          ∙ stored.calls q
+          ∙ ap (place_of q) (sym expansions);
+    }
 
 pub stored_more : (a b : Inside) (w : Workspace) (new : Stored) (number : ℕ) → IsStored a → workspace_of a ≡ w
     → b.files.items ≡ a.files.items → b.expansions.items ≡ a.expansions.items ++ new ∷ []

@@ -4,10 +4,13 @@ use Rattle.std.proofs.lemmas.Bool.{cases_lt, cases_eq, and_parts, and_from}
 use Rattle.std.proofs.lemmas.Grind.{reverse_onto}
 use Rattle.std.proofs.lemmas.List.{reverse-append, reverse-reverse, length-reverse, length-append, length-map, map-append, append_assoc}
 use Rattle.std.proofs.lemmas.Option.{slice_get_past, slice_get-map, slice_get-get_or, none-some, same_Some}
+use Rattle.std.specs.BTreeMap.{is_at}
+use Rattle.std.specs.Cmp.{unsigned_ties, both_tied}
 use Rattle.std.specs.Slice.{IsItemAt}
 use Rattle.std.specs.Option.{option_copied, option_map, option_and_then, option_map_or}
 use Rattle.ssr_syntax_tree.specs.Syntax.{Syntax}
 use Rattle.ssr_base_trees.specs.declared.ids.NodeId.{NodeId}
+use Rattle.ssr_base_trees.specs.contracts.ids.NodeIdOrd.TheImpl as id_order
 use Rattle.ssr_base_trees.specs.Workspace.{Expanded, Workspace, PlacedTree, of_file, of_expansion, trees, with_number, tree_of, file_of, nesting, node_id, same_id}
 
 -- ** Elements of lists by their numbers.
@@ -193,3 +196,7 @@ same_nodes a b is =
 
 pub same_id-itself : (a : NodeId) → same_id a a ≡ true
 same_id-itself a = and_from (a.tree == a.tree) (a.node.0 == a.node.0) (eq-eqb a.tree a.tree refl) (eq-eqb a.node.0 a.node.0 refl)
+
+-- nodes that their order doesn't tell apart are the same
+pub id_ties : (a b : NodeId) → same_id a b ≡ is_at ((id_order.ghosts).cmp a) b
+id_ties a b = both_tied _ _ _ _ (unsigned_ties a.tree b.tree) (unsigned_ties a.node.0 b.node.0)

@@ -1,15 +1,15 @@
 -- Laws of trees by their numbers, where the call of each is a node of an earlier one.
 use Rattle.std.proofs.Common.{◌≡◌, ◌≢◌, ℕ, ◌+◌, ◌-◌, ◌<◌, ◌≤◌, List, [], ◌∷◌, length, slice_get, Option, Some, None, refl, sym, ap, ◌∙◌, subst, inl, inr, arith, eq-eqb, ne_eqb}
 use Rattle.std.proofs.lemmas.Bool.{cases_eq, cases_lt}
-use Rattle.std.proofs.lemmas.Option.{none-some, same_Some}
+use Rattle.std.proofs.lemmas.Option.{none-some, same_Some, slice_get-get_or}
 use Rattle.std.specs.Prelude.{IfSome}
 use Rattle.std.specs.Option.{IsSomeAnd, option_map, option_map_or}
 use Rattle.ssr_syntax_tree.specs.Syntax.{Syntax, source_of}
 use Rattle.ssr_syntax_tree.specs.Places.{HasNode}
 use Rattle.ssr_base_trees.specs.declared.ids.NodeId.{NodeId}
-use Rattle.ssr_base_trees.specs.Workspace.{Expanded, Workspace, PlacedTree, of_file, of_expansion, trees, with_number, file_of, nesting, text_at_top}
+use Rattle.ssr_base_trees.specs.Workspace.{Expanded, Workspace, PlacedTree, of_file, of_expansion, trees, with_number, tree_of, file_of, nesting, text_at_top}
 use Rattle.ssr_base_trees.specs.Built.{IsNodeOf, CallsAreEarlier}
-use Rattle.ssr_base_trees.proofs.Numbers.{placed_first, placed_earlier, placed-file, placed-expansion, file_of-earlier, file_of_file}
+use Rattle.ssr_base_trees.proofs.Numbers.{placed_first, placed_earlier, placed-file, placed-expansion, length-trees, tree_of_file, file_of-earlier, file_of_file}
 
 -- what is known of the value that there is
 pub some_and : {A : Type 0} (o : Option A) (P : A → Type 0) → IsSomeAnd o P → (x : A) × (o ≡ Some x) × P x
@@ -25,6 +25,16 @@ placed_within (q ∷ earlier) t p is =
     elim (cases_eq t (length earlier)) [
       | inl here ↦ omega arith
       | inr other ↦ omega (arith, placed_within earlier t p (sym (placed_earlier q earlier t other) ∙ is))
+    ]
+
+pub placed_there : (ts : List PlacedTree) (t : ℕ) → t < length ts → (p : PlacedTree) × (with_number ts t ≡ Some p)
+placed_there [] t within = absurd (omega arith)
+placed_there (q ∷ earlier) t within =
+    elim (cases_eq t (length earlier)) [
+      | inl here ↦ (q, placed_first q earlier t here)
+      | inr other ↦
+          let before = placed_there earlier t (omega arith) in
+          (before.0, placed_earlier q earlier t other ∙ before.1)
     ]
 
 -- a tree that was there before
@@ -176,3 +186,20 @@ uncalled_within w t p is none =
 
 pub own_file : (w : Workspace) (t : ℕ) → t < length w.files → file_of (trees w) t ≡ t
 own_file w t within = file_of_file w t (λ behind. absurd (omega arith))
+
+-- there is a tree of each file
+pub file_there : (w : Workspace) (n : ℕ) (tree : Syntax) → n < length w.files → Some tree ≡ tree_of w n → slice_get w.files n ≡ Some tree
+file_there w n tree less is = sym (is ∙ tree_of_file w n less)
+
+pub none_there : (w : Workspace) (n : ℕ) → n < length w.files → None ≡ tree_of w n → ⊥
+none_there w n less is = no_tree w.files n less (sym (is ∙ tree_of_file w n less))
+  where
+    no_tree : (trees : List Syntax) (n : ℕ) → n < length trees → slice_get trees n ≡ None → ⊥
+    no_tree [] n less none = absurd (omega arith)
+    no_tree (tree ∷ trees) n less none = none-some _ (sym none ∙ slice_get-get_or (tree ∷ trees) n tree less)
+
+-- a tree that is there has one of their numbers
+pub tree_within : (w : Workspace) (t : ℕ) (s : Syntax) → Some s ≡ tree_of w t → t < length w.files + length w.expansions
+tree_within w t s is =
+    let at = mapped (λ (p : PlacedTree). p.syntax) (with_number (trees w) t) s (sym is) in
+    omega (arith, placed_within (trees w) t at.0 at.1, length-trees w)

@@ -5,8 +5,8 @@ pub use Rattle.ssr_base_trees.proofs.Built.{built_none, built_file, built_expans
 -- original ranges
 pub use Rattle.ssr_base_trees.proofs.Ranges.{lies_in_file, run_lies_in_file, spans_nest, boundary_passes, span_of_text}
 -- trees and nodes by their numbers
-pub use Rattle.ssr_base_trees.proofs.Numbers.{placed_first, placed_earlier, length-trees, placed-file, tree_of_file, same_nodes}
-pub use Rattle.ssr_base_trees.proofs.Placing.{placed_within}
+pub use Rattle.ssr_base_trees.proofs.Numbers.{placed_first, placed_earlier, length-trees, placed-file, tree_of_file, same_nodes, id_ties}
+pub use Rattle.ssr_base_trees.proofs.Placing.{placed_within, placed_there, tree_within, file_there, none_there}
 -- covers of origins
 pub use Rattle.ssr_base_trees.proofs.CoverLaws.{join-assoc}
 pub use Rattle.ssr_base_trees.proofs.CoverSpans.{fit_covered}

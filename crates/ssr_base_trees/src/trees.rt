@@ -1,6 +1,6 @@
 //! The trees of a workspace: those of files, and of what macro calls in them stand for.
 
-ghost use Rattle.std.specs.Prelude.{is_some, ◌≡◌, ◌+◌, ◌<◌, ◌≤◌, ◌↔◌, IfOk, IfSome, IfNone, Some, None, if◌then◌else◌, length, map};
+ghost use Rattle.std.specs.Prelude.{is_some, ◌≡◌, ◌+◌, ◌<◌, ◌≤◌, ◌↔◌, IfOk, IfSome, IfNone, OnErr, Some, None, if◌then◌else◌, length, map};
 ghost use Rattle.ssr_base_trees.specs.Origins.{span_of, plain_origin};
 ghost use Rattle.ssr_syntax_tree.specs.Syntax.{token_count};
 ghost use Rattle.ssr_syntax_tree.specs.Places.{HasToken, node_of};
@@ -117,43 +117,39 @@ impl Trees {
         }
     }
 
-    /// These, and the tree of a call of an earlier tree that has no expansion yet.
-    pub fn with_tree(
-        self,
+    /// Adds the tree of a call of an earlier tree that has no expansion yet. Where there is no memory for it, all stays as it
+    /// was.
+    pub fn add_tree(
+        &mut self,
         alloc: Global,
         call: NodeId,
         tree: Tree,
         origins: Vec<Option<TextRange>>,
-    ) -> Result<Trees, AllocError>
-        requires room { length self.files + length self.expansions < most_trees }
-        requires free { IsFree self call }
-        requires of_call { IsOfCall self (record { call = call; syntax = tree; origins = map plain_origin origins.items }) }
+    ) -> Result<(), AllocError>
+        requires room { length self.old.files + length self.old.expansions < most_trees }
+        requires free { IsFree self.old call }
+        requires of_call { IsOfCall self.old (record { call = call; syntax = tree; origins = map plain_origin origins.items }) }
         requires counted { length origins.items ≡ token_count tree.children }
-        ensures { IfOk result (λ w. w ≡ with_tree self call tree (map plain_origin origins.items)) }
+        ensures added { IfOk result (λ _. self.new ≡ with_tree self.old call tree (map plain_origin origins.items)) }
+        ensures unchanged { OnErr result (self.new ≡ self.old) }
     {
         let covers = covers(alloc, &tree, &origins)?;
-        let file = self.file_of(call.tree);
-        let nesting = self.nesting(call.tree) + 1;
-        let number = self.expansion_count();
-        let Trees {
-            files,
-            mut expansions,
-            mut calls,
-        } = self;
-        calls.insert(call, number)?;
-        expansions.push(Expanded {
+        let expanded = Expanded {
             tree,
             call,
             origins,
             covers,
-            file,
-            nesting,
-        })?;
-        Ok(Trees {
-            files,
-            expansions,
-            calls,
-        })
+            file: self.file_of(call.tree),
+            nesting: self.nesting(call.tree) + 1,
+        };
+        let number = self.expansion_count();
+        // with room for the expansion, nothing fails behind the call
+        self.expansions.reserve(1)?;
+        self.calls.insert(call, number)?;
+        match self.expansions.push(expanded) {
+            Ok(()) => Ok(()),
+            Err(_) => unreachable!(),
+        }
     }
 
     /// How many files there are.

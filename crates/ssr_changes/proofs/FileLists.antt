@@ -1,4 +1,4 @@
--- Texts and the files that they are made of, one by one.
+-- Trees and the files that they are searched for, one by one.
 use Rattle.std.proofs.Common.{◌≡◌, ℕ, zero, suc, ◌+◌, ◌<◌, ◌≤◌, List, [], ◌∷◌, ◌++◌, length, map, drop, All, Option, Some, None, refl, sym, ◌∙◌, ap, subst, append_assoc, append-nil, arith}
 use Rattle.std.specs.Prelude.{slice_get, slice_index_or}
 use Rattle.std.specs.List.{enumerate_from}
@@ -7,28 +7,26 @@ use Rattle.std.proofs.lemmas.List.Elements.{All-nil}
 use Rattle.std.proofs.lemmas.Option.{get_or_from_slice_get, none-some, slice_get-get_or}
 use Rattle.ssr_syntax_tree.specs.Syntax.{Syntax, source_of}
 use Rattle.ssr_base_trees.specs.Changes.{Change, FitsText, same}
+use Rattle.ssr_base_trees.specs.Origins.{Span}
 use Rattle.ssr_base_trees.specs.Workspace.{Workspace, tree_of}
 use Rattle.ssr_base_trees.proofs.Shared.{tree_of_file}
 use Rattle.ssr_set_aside.specs.SetAside.{IsSetAside, KeepsLength}
-use Rattle.ssr_changes.specs.Files.{File, AreMadeOf, AreSearched, IsMadeOf, IsSearched, as_it_is, as_they_are}
+use Rattle.ssr_changes.specs.Files.{File, AreSearched, IsSearched, as_it_is, as_they_are}
 
 -- one more
-pub made_more : (texts : List (List ℕ)) (files : List File) (text : List ℕ) (file : File) → AreMadeOf texts files → IsMadeOf text file
-    → AreMadeOf (texts ++ text ∷ []) (files ++ file ∷ [])
-made_more [] [] text file all one = (one, tt)
-made_more [] (f ∷ fs) text file all one = absurd all
-made_more (t ∷ ts) [] text file all one = absurd all
-made_more (t ∷ ts) (f ∷ fs) text file all one = (all.0, made_more ts fs text file all.1 one)
+pub searched_more : (trees : List Syntax) (files : List File) (tree : Syntax) (file : File) → AreSearched trees files → IsSearched tree file
+    → AreSearched (trees ++ tree ∷ []) (files ++ file ∷ [])
+searched_more [] [] tree file all one = (one, tt)
+searched_more [] (f ∷ fs) tree file all one = absurd all
+searched_more (t ∷ ts) [] tree file all one = absurd all
+searched_more (t ∷ ts) (f ∷ fs) tree file all one = (all.0, searched_more ts fs tree file all.1 one)
 
 -- there are as many
-pub made_length : (texts : List (List ℕ)) (files : List File) → AreMadeOf texts files → length texts ≡ length files
-made_length [] [] all = refl
-made_length [] (f ∷ fs) all = absurd all
-made_length (t ∷ ts) [] all = absurd all
-made_length (t ∷ ts) (f ∷ fs) all = let rest = made_length ts fs all.1 in omega arith
-
 pub searched_length : (trees : List Syntax) (files : List File) → AreSearched trees files → length trees ≡ length files
-searched_length trees files all = let same = made_length (map source_of trees) files all in omega (arith, length-map trees source_of)
+searched_length [] [] all = refl
+searched_length [] (f ∷ fs) all = absurd all
+searched_length (t ∷ ts) [] all = absurd all
+searched_length (t ∷ ts) (f ∷ fs) all = let rest = searched_length ts fs all.1 in omega arith
 
 -- the one of a place
 pub searched_at : (trees : List Syntax) (files : List File) (n : ℕ) (file : File) → AreSearched trees files → slice_get files n ≡ Some file
@@ -58,6 +56,7 @@ it_is_made names n tree = record {
   fits = All-nil (FitsText (source_of tree));
   lengths = All-nil KeepsLength;
   replaced = same 0 (source_of tree);
+  covered = tt;
 }
 
 made_from : (names : List (List ℕ)) (n : ℕ) (trees : List Syntax) → AreSearched trees (map (as_it_is names) (enumerate_from n trees))
@@ -67,13 +66,15 @@ made_from names n (tree ∷ trees) = (it_is_made names n tree, made_from names (
 pub they_are_made : (names : List (List ℕ)) (trees : List Syntax) → AreSearched trees (as_they_are names trees)
 they_are_made names trees = made_from names 0 trees
 
-pub it_is : (names : List (List ℕ)) (n : ℕ) (tree : Syntax) (name text : List ℕ) (aside : List Change) (file : File)
-    → file ≡ record { name = name; text = text; aside = aside } → name ≡ slice_index_or names n [] → text ≡ source_of tree → aside ≡ []
-    → file ≡ as_it_is names (n, tree)
-it_is names n tree name text aside file is its_name its_text none =
-    let made : List ℕ → List ℕ → List Change → File = λ name text aside. record { name = name; text = text; aside = aside } in
-    is ∙ ap (λ name. made name text aside) its_name ∙ ap (λ text. made (slice_index_or names n []) text aside) its_text
-    ∙ ap (made (slice_index_or names n []) (source_of tree)) none
+pub it_is : (names : List (List ℕ)) (n : ℕ) (tree : Syntax) (name text : List ℕ) (aside : List Change) (reaches : List Span) (file : File)
+    → file ≡ record { name = name; text = text; aside = aside; reaches = reaches } → name ≡ slice_index_or names n [] → text ≡ source_of tree
+    → aside ≡ [] → reaches ≡ [] → file ≡ as_it_is names (n, tree)
+it_is names n tree name text aside reaches file is its_name its_text none no_reach =
+    let made : List ℕ → List ℕ → List Change → List Span → File =
+    λ name text aside reaches. record { name = name; text = text; aside = aside; reaches = reaches } in
+    is ∙ ap (λ name. made name text aside reaches) its_name ∙ ap (λ text. made (slice_index_or names n []) text aside reaches) its_text
+    ∙ ap (λ (aside : List Change). made (slice_index_or names n []) (source_of tree) aside reaches) none
+    ∙ ap (made (slice_index_or names n []) (source_of tree) []) no_reach
 
 -- there is a tree of each file
 pub tree_there : (w : Workspace) (n : ℕ) (tree : Syntax) → n < length w.files → Some tree ≡ tree_of w n → slice_get w.files n ≡ Some tree

@@ -19,7 +19,7 @@ use Rattle.ssr_base_trees.specs.declared.ids.FilePosition.{FilePosition}
 use Rattle.ssr_base_trees.specs.declared.ids.FileRange.{FileRange}
 use Rattle.ssr_base_trees.proofs.Shared.{and_some, some_and}
 use Rattle.ide_ssr_rewriting.specs.Edits.{EditsFit, file_cmp}
-use Rattle.ssr_searching.specs.Searching.{Search, Changes, ComesTo, changes, changes_in, Reaches}
+use Rattle.ssr_searching.specs.Searching.{Search, Changes, ComesToOnce, changes, changes_in, ReachesOnce}
 use Rattle.ssr_searching.specs.declared.searching.SearchError.{SearchError}
 use Rattle.ssr_searching.specs.declared.searching.SearchError.TheVariants as errors
 use Rattle.ssr_changes.specs.declared.changing.FileChange.{FileChange}
@@ -97,7 +97,7 @@ all_more P xs i x less is all here =
 
 -- ** What is told in their place.
 
-pub why_is : (s : Search) (rules : List (List ℕ)) (e : SearchError) → Reaches s rules (Err e) → IsWhy s rules e
+pub why_is : (s : Search) (rules : List (List ℕ)) (e : SearchError) → ReachesOnce s rules (Err e) → IsWhy s rules e
 why_is s rules (errors.Refused message) comes = comes
 why_is s rules (errors.Clash earlier later) comes = comes
 why_is s rules errors.Memory comes = tt
@@ -108,15 +108,15 @@ abbrev pub search_in : Workspace → Meanings → FilePosition → List FileRang
 search_in w m position ranges = record { workspace = w; meanings = m; position = position; ranges = ranges }
 
 pub are_changes : (w v : Workspace) (m : Meanings) (position : FilePosition) (ranges : List FileRange) (rules : List (List ℕ)) (files : List File)
-    (found : BTreeMap FileId (List Change)) (made : List Changed) → w ≡ v → Reaches (search_in w m position ranges) rules (Ok found)
+    (found : BTreeMap FileId (List Change)) (made : List Changed) → w ≡ v → ReachesOnce (search_in w m position ranges) rules (Ok found)
     → made ≡ all_changed (changes_in found) files → AreChanges (search_in v m position ranges) rules files made
 are_changes w v m position ranges rules files found made same comes are = record {
   new = changes_in found;
-  comes = subst (λ (w : Workspace). ComesTo (search_in w m position ranges) rules (changes (changes_in found))) same comes;
+  comes = subst (λ (w : Workspace). ComesToOnce (search_in w m position ranges) rules (changes (changes_in found))) same comes;
   are = are;
 }
 
 pub why_in : (w v : Workspace) (m : Meanings) (position : FilePosition) (ranges : List FileRange) (rules : List (List ℕ)) (e : SearchError) → w ≡ v
-    → Reaches (search_in w m position ranges) rules (Err e) → IsWhy (search_in v m position ranges) rules e
+    → ReachesOnce (search_in w m position ranges) rules (Err e) → IsWhy (search_in v m position ranges) rules e
 why_in w v m position ranges rules e same comes =
     subst (λ (w : Workspace). IsWhy (search_in w m position ranges) rules e) same (why_is (search_in w m position ranges) rules e comes)

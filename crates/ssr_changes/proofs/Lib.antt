@@ -1,4 +1,3 @@
-mod Spelled
 mod Built
 mod FileLists
 mod Sorted

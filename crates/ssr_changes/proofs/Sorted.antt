@@ -1,23 +1,24 @@
 -- Files that are sorted one by one.
-use Rattle.std.proofs.Common.{◌≡◌, ℕ, ◌+◌, ◌<◌, ◌≤◌, List, [], ◌∷◌, ◌++◌, length, map, All, Result, Ok, Err, String, Global, string_bytes, refl, sym, ◌∙◌, ap, subst, append_assoc, append-nil, arith}
+use Rattle.std.proofs.Common.{◌≡◌, ℕ, ◌+◌, ◌<◌, ◌≤◌, List, [], ◌∷◌, ◌++◌, length, All, Result, Ok, Err, string_bytes, refl, sym, ◌∙◌, ap, subst, append_assoc, append-nil, arith}
 use Rattle.std.specs.Prelude.{◌≢◌, ◌⊎◌, OnOk}
 use Rattle.std.specs.declared.alloc.AllocError.{AllocError}
-use Rattle.std.proofs.lemmas.List.{length-append, map-append}
+use Rattle.std.proofs.lemmas.List.{length-append}
 use Rattle.std.proofs.lemmas.List.Elements.{All-push}
 use Rattle.ssr_syntax_tree.specs.Syntax.{Syntax}
-use Rattle.ssr_syntax.specs.Reading.{file_reading}
+use Rattle.ssr_syntax.specs.Reading.{IsRead, file_reading}
 use Rattle.ssr_syntax.specs.declared.syntax_error.SyntaxError.{SyntaxError}
 use Rattle.ssr_syntax.specs.declared.syntax_error.SyntaxError.TheVariants as errors
 use Rattle.ssr_base_trees.specs.Built.{most_trees}
 use Rattle.ssr_base_trees.specs.Changes.{Change}
-use Rattle.ssr_set_aside.specs.SetAside.{SetAside, IsSetAside, IsRead}
-use Rattle.ssr_set_aside.specs.declared.source_file.SourceFile.{SourceFile}
+use Rattle.ssr_base_trees.specs.Origins.{Span}
+use Rattle.ssr_set_aside.specs.SetAside.{SetAside, IsSetAside}
+use Rattle.ssr_package.specs.declared.source_file.SourceFile.{SourceFile}
 use Rattle.ssr_changes.specs.declared.sorting.Sorted.{Sorted}
 use Rattle.ssr_changes.specs.declared.sorting.Unread.{Unread}
-use Rattle.ssr_changes.specs.Files.{File, AreMadeOf, IsMadeOf}
+use Rattle.ssr_changes.specs.Files.{File, AreSearched, IsSearched}
 use Rattle.ssr_changes.specs.Sorting.{AreSorted, IsFileOf, none, read, told}
-use Rattle.ssr_changes.specs.Private.Building.{Adds, IsFile, as_read, as_told}
-use Rattle.ssr_changes.proofs.FileLists.{made_more}
+use Rattle.ssr_changes.specs.Private.Building.{Adds, as_read, as_told}
+use Rattle.ssr_changes.proofs.FileLists.{searched_more}
 
 -- what is sorted so far, with any that are left
 abbrev pub SortedSoFar : List SourceFile → List SourceFile → Sorted → Type 0
@@ -27,7 +28,7 @@ SortedSoFar all left so_far =
 
 pub sorted_more : (all left sources : List SourceFile) (source : SourceFile) (old new : Sorted) → left ≡ source ∷ sources → Adds old new source
     → SortedSoFar all left old → SortedSoFar all sources new
-sorted_more all left sources source old new step (as_read text file its made is few _ grown same) so_far files unread rest =
+sorted_more all left sources source old new step (as_read tree file its searched is few _ grown same) so_far files unread rest =
     let n = length old.files.items in
     let more : length new.files.items ≡ n + 1 = omega (arith, ap length grown, length-append old.files.items (file ∷ [])) in
     let behind : AreSorted (n + 1) sources files unread = subst (λ k. AreSorted k sources files unread) more rest in
@@ -55,58 +56,59 @@ all_sorted all left so_far nothing sorted =
 
 -- ** A file that is added.
 
-pub set_aside_is : (source : SourceFile) (now : List ℕ) (made : SetAside) (text : String Global) (aside : List Change) (file : File) → now ≡ string_bytes source.text
-    → file ≡ record { name = string_bytes source.name; text = string_bytes source.text; aside = aside } → string_bytes text ≡ made.searched → aside ≡ made.aside
-    → IsSetAside now made → IsRead made → ((code : Syntax) → file_reading now ≡ Ok code → made.aside ≡ [])
-    → IsFileOf source file × IsMadeOf (string_bytes text) file × IsFile text
-set_aside_is source now made text aside file its is searched its_aside set is_file whole =
+pub set_aside_is : (source : SourceFile) (now : List ℕ) (made : SetAside) (tree : Syntax) (aside : List Change) (reaches : List Span) (file : File)
+    → now ≡ string_bytes source.text
+    → file ≡ record { name = string_bytes source.name; text = string_bytes source.text; aside = aside; reaches = reaches }
+    → tree ≡ made.tree → aside ≡ made.aside → reaches ≡ made.reaches → IsSetAside now made → IsRead made.tree
+    → ((code : Syntax) → file_reading now ≡ Ok code → made.aside ≡ []) → IsFileOf source file × IsSearched tree file × IsRead tree
+set_aside_is source now made tree aside reaches file its is its_tree its_aside its_reaches set is_read whole =
     let file_text : file.text ≡ now = ap (λ (f : File). f.text) is ∙ sym its in
     let file_aside : file.aside ≡ made.aside = ap (λ (f : File). f.aside) is ∙ its_aside in
-    let Set : List ℕ → List ℕ → List Change → Type 0 = λ now searched aside. IsSetAside now (record { searched = searched; aside = aside }) in
-    let one : Set file.text made.searched made.aside = subst (λ now. Set now made.searched made.aside) (sym file_text) set in
-    let two : Set file.text (string_bytes text) made.aside = subst (λ searched. Set file.text searched made.aside) (sym searched) one in (
+    let file_reaches : file.reaches ≡ made.reaches = ap (λ (f : File). f.reaches) is ∙ its_reaches in
+    let Set : List ℕ → Syntax → List Change → List Span → Type 0 =
+    λ now tree aside reaches. IsSetAside now (record { tree = tree; aside = aside; reaches = reaches }) in
+    let one : Set file.text made.tree made.aside made.reaches = subst (λ now. Set now made.tree made.aside made.reaches) (sym file_text) set in
+    let two : Set file.text tree made.aside made.reaches = subst (λ (tree : Syntax). Set file.text tree made.aside made.reaches) (sym its_tree) one in
+    let three : Set file.text tree file.aside made.reaches = subst (λ (aside : List Change). Set file.text tree aside made.reaches) (sym file_aside) two in (
       record {
         name = ap (λ (f : File). f.name) is;
         text = ap (λ (f : File). f.text) is;
         as_it_stands = λ code reads. file_aside ∙ whole code (ap file_reading (sym file_text) ∙ reads);
       },
-      subst (λ aside. Set file.text (string_bytes text) aside) (sym file_aside) two,
-      (is_file.0, ap file_reading searched ∙ is_file.1),
+      subst (λ (reaches : List Span). Set file.text tree file.aside reaches) (sym file_reaches) three,
+      subst IsRead (sym its_tree) is_read,
     )
 
 -- a file that is told
 pub is_told : (old new : Sorted) (source : SourceFile) (why : SyntaxError)
     → (why ≢ errors.Memory → (file_reading (string_bytes source.text) ≡ Err why) ⊎ ((why ≡ errors.TooLong) × (most_trees ≤ length old.files.items)))
     → (result : Result (Unit {0}) AllocError) → OnOk result (why ≢ errors.Memory)
-    → OnOk result (new.unread.items ≡ old.unread.items ++ record { name = source.name; why = why } ∷ []) → new.searched ≡ old.searched → new.files ≡ old.files
+    → OnOk result (new.unread.items ≡ old.unread.items ++ record { name = source.name; why = why } ∷ []) → new.trees ≡ old.trees → new.files ≡ old.files
     → OnOk result (Adds old new source)
-is_told old new source why reason (Ok done) other grown same_texts same =
-    let texts : new.searched.items ≡ old.searched.items = ap (λ v. v.items) same_texts in
+is_told old new source why reason (Ok done) other grown same_trees same =
+    let trees : new.trees.items ≡ old.trees.items = ap (λ v. v.items) same_trees in
     let files : new.files.items ≡ old.files.items = ap (λ v. v.items) same in
-    as_told (record { name = source.name; why = why }) (record { name = refl; why = reason other }) texts files grown
-is_told old new source why reason (Err e) other grown same_texts same = tt
+    as_told (record { name = source.name; why = why }) (record { name = refl; why = reason other }) trees files grown
+is_told old new source why reason (Err e) other grown same_trees same = tt
 
--- ** The texts that are searched.
+-- ** The trees that are searched.
 
-texts_more : (texts more : List (String Global)) (text : String Global) → more ≡ texts ++ text ∷ [] → map string_bytes more ≡ map string_bytes texts ++ string_bytes text ∷ []
-texts_more texts more text is = ap (map string_bytes) is ∙ map-append string_bytes texts (text ∷ [])
+pub are_searched : (old new : Sorted) (source : SourceFile) → Adds old new source → AreSearched old.trees.items old.files.items
+    → AreSearched new.trees.items new.files.items
+are_searched old new source (as_read tree file its searched is few grown_trees grown same) so_far =
+    subst (λ (l : List File). AreSearched new.trees.items l) (sym grown)
+    (subst (λ (l : List Syntax). AreSearched l (old.files.items ++ file ∷ [])) (sym grown_trees)
+    (searched_more old.trees.items old.files.items tree file so_far searched))
+are_searched old new source (as_told one its same_trees same grown) so_far =
+    subst (λ (l : List File). AreSearched new.trees.items l) (sym same)
+    (subst (λ (l : List Syntax). AreSearched l old.files.items) (sym same_trees) so_far)
 
-pub made_of : (old new : Sorted) (source : SourceFile) → Adds old new source → AreMadeOf (map string_bytes old.searched.items) old.files.items
-    → AreMadeOf (map string_bytes new.searched.items) new.files.items
-made_of old new source (as_read text file its made is few grown_texts grown same) so_far =
-    subst (λ (l : List File). AreMadeOf (map string_bytes new.searched.items) l) (sym grown)
-    (subst (λ (l : List (List ℕ)). AreMadeOf l (old.files.items ++ file ∷ [])) (sym (texts_more old.searched.items new.searched.items text grown_texts))
-    (made_more (map string_bytes old.searched.items) old.files.items (string_bytes text) file so_far made))
-made_of old new source (as_told one its same_texts same grown) so_far =
-    subst (λ (l : List File). AreMadeOf (map string_bytes new.searched.items) l) (sym same)
-    (subst (λ (l : List (String Global)). AreMadeOf (map string_bytes l) old.files.items) (sym same_texts) so_far)
-
-pub are_files : (old new : Sorted) (source : SourceFile) → Adds old new source → All IsFile old.searched.items → All IsFile new.searched.items
-are_files old new source (as_read text file its made is few grown_texts grown same) so_far =
-    subst (All IsFile) (sym grown_texts) (All-push IsFile old.searched.items text so_far is)
-are_files old new source (as_told one its same_texts same grown) so_far = subst (All IsFile) (sym same_texts) so_far
+pub are_read : (old new : Sorted) (source : SourceFile) → Adds old new source → All IsRead old.trees.items → All IsRead new.trees.items
+are_read old new source (as_read tree file its searched is few grown_trees grown same) so_far =
+    subst (All IsRead) (sym grown_trees) (All-push IsRead old.trees.items tree so_far is)
+are_read old new source (as_told one its same_trees same grown) so_far = subst (All IsRead) (sym same_trees) so_far
 
 pub are_few : (old new : Sorted) (source : SourceFile) → Adds old new source → length old.files.items ≤ most_trees → length new.files.items ≤ most_trees
-are_few old new source (as_read text file its made is few grown_texts grown same) so_far =
+are_few old new source (as_read tree file its searched is few grown_trees grown same) so_far =
     omega (arith, ap length grown, length-append old.files.items (file ∷ []))
-are_few old new source (as_told one its same_texts same grown) so_far = omega (arith, ap length same)
+are_few old new source (as_told one its same_trees same grown) so_far = omega (arith, ap length same)

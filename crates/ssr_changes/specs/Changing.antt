@@ -10,7 +10,8 @@ use Rattle.ide_ssr_rewriting.specs.Clashes.{clash_of}
 use Rattle.ssr_set_aside.specs.Sparing.{bounds, spared, told}
 use Rattle.ssr_searching.specs.declared.searching.SearchError.{SearchError}
 use Rattle.ssr_searching.specs.declared.searching.SearchError.TheVariants as errors
-use Rattle.ssr_searching.specs.Searching.{Search, Changes, ComesTo, refuses, clashes, changes, new_text}
+use Rattle.ssr_base.specs.Editing.{new_text}
+use Rattle.ssr_searching.specs.Searching.{Search, Changes, ComesToOnce, refuses, clashes, changes}
 use Rattle.ssr_changes.specs.declared.changing.FileChange.{FileChange}
 use Rattle.ssr_changes.specs.Files.{File}
 
@@ -24,13 +25,13 @@ pub record Changed : Type 0 where
 abbrev pub shown : FileChange → Changed
 shown c = record { file = c.file; edit = c.edit; new = string_bytes c.new; told = map bounds c.told.items }
 
--- Of the changes of a file's searched text those are made in the file that touch nothing set aside; the others are told.
+-- Of the changes of a file's searched text those are made in the file that touch no reach of a part set aside; the others are told.
 abbrev pub changed : ℕ → File → List Change → Changed
 changed n file cs = record {
   file = n;
-  edit = spared file.aside cs;
-  new = replaced file.text 0 (length file.text) (spared file.aside cs);
-  told = told file.aside cs;
+  edit = spared file.reaches cs;
+  new = replaced file.text 0 (length file.text) (spared file.reaches cs);
+  told = told file.reaches cs;
 }
 
 -- what changes in a file, if a search has changes of it
@@ -44,13 +45,13 @@ all_changed new files = flat_map (change_in new) (enumerate_from 0 files)
 -- the search for the rules comes to changes of the searched texts, and these are what they come to in the files
 pub record AreChanges (s : Search) (rules : List (List ℕ)) (files : List File) (made : List Changed) : Type 0 where
   pub new : Changes
-  pub comes : ComesTo s rules (changes new)
+  pub comes : ComesToOnce s rules (changes new)
   pub are : made ≡ all_changed new files
 
 -- why there are none: what the search comes to; want of memory says nothing
 abbrev pub IsWhy : Search → List (List ℕ) → SearchError → Type 0
-IsWhy s rules (errors.Refused message) = ComesTo s rules (refuses (string_bytes message))
-IsWhy s rules (errors.Clash earlier later) = ComesTo s rules (clashes (clash_of (earlier, later)))
+IsWhy s rules (errors.Refused message) = ComesToOnce s rules (refuses (string_bytes message))
+IsWhy s rules (errors.Clash earlier later) = ComesToOnce s rules (clashes (clash_of (earlier, later)))
 IsWhy s rules errors.Memory = Unit {0}
 
 -- the file is there, and each change begins and ends between two characters of its text

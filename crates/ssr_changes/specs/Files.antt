@@ -3,33 +3,28 @@ use Rattle.std.specs.Prelude.{ℕ, List, [], ◌∷◌, map, slice_index_or}
 use Rattle.std.specs.List.{enumerate_from}
 use Rattle.ssr_syntax_tree.specs.Syntax.{Syntax, source_of}
 use Rattle.ssr_base_trees.specs.Changes.{Change}
+use Rattle.ssr_base_trees.specs.Origins.{Span}
 use Rattle.ssr_base_trees.specs.Workspace.{Workspace}
 use Rattle.ssr_set_aside.specs.SetAside.{IsSetAside}
 
--- a file: its name, its text on the disk, and the changes of that which make the text that is searched
+-- a file: its name, its text on the disk, the changes of that which make the text that is searched, and of each the bytes that no
+-- match may touch
 pub record File : Type 0 where
   pub name : List ℕ
   pub text : List ℕ
   pub aside : List Change
-
--- the text is the file's with what is set aside
-abbrev pub IsMadeOf : List ℕ → File → Type 0
-IsMadeOf text file = IsSetAside file.text (record { searched = text; aside = file.aside })
+  pub reaches : List Span
 
 -- the tree is that of the file's text with what is set aside
 abbrev pub IsSearched : Syntax → File → Type 0
-IsSearched tree file = IsMadeOf (source_of tree) file
-
--- these texts are those of the files with what is set aside, one by one
-abbrev pub AreMadeOf : List (List ℕ) → List File → Type 0
-AreMadeOf [] [] = Unit {0}
-AreMadeOf [] (file ∷ files) = ⊥
-AreMadeOf (text ∷ texts) [] = ⊥
-AreMadeOf (text ∷ texts) (file ∷ files) = IsMadeOf text file × AreMadeOf texts files
+IsSearched tree file = IsSetAside file.text (record { tree = tree; aside = file.aside; reaches = file.reaches })
 
 -- each file has its tree, in their order
 abbrev pub AreSearched : List Syntax → List File → Type 0
-AreSearched trees files = AreMadeOf (map source_of trees) files
+AreSearched [] [] = Unit {0}
+AreSearched [] (file ∷ files) = ⊥
+AreSearched (tree ∷ trees) [] = ⊥
+AreSearched (tree ∷ trees) (file ∷ files) = IsSearched tree file × AreSearched trees files
 
 -- the files as they are searched
 pub record Searchable : Type 0 where
@@ -38,7 +33,7 @@ pub record Searchable : Type 0 where
 
 -- a file of which nothing is set aside; one behind the last name has none
 abbrev pub as_it_is : List (List ℕ) → ℕ × Syntax → File
-as_it_is names numbered = record { name = slice_index_or names numbered.0 []; text = source_of numbered.1; aside = [] }
+as_it_is names numbered = record { name = slice_index_or names numbered.0 []; text = source_of numbered.1; aside = []; reaches = [] }
 
 -- the files of trees, of which nothing is set aside
 abbrev pub as_they_are : List (List ℕ) → List Syntax → List File

@@ -2,8 +2,9 @@
 use Rattle.std.specs.Prelude.{ℕ, List, refl}
 use Rattle.std.specs.Coded.{Coded, code_by, coded×, coded_list, coded_ℕ}
 use Rattle.ssr_base_trees.specs.Changes.{Change}
+use Rattle.ssr_base_trees.specs.Origins.{Span}
 use Rattle.ssr_base_trees.specs.Workspace.{Workspace}
-use Rattle.ssr_base_trees.specs.WorkspaceCode.{workspace_code}
+use Rattle.ssr_base_trees.specs.WorkspaceCode.{span_code, workspace_code}
 use Rattle.ssr_changes.specs.Files.{File, Searchable}
 
 abbrev pub change_code : Coded Change
@@ -13,8 +14,9 @@ change_code =
 
 abbrev pub file_code : Coded File
 file_code =
-    code_by (List ℕ × (List ℕ × List Change)) (coded× (coded_list coded_ℕ) (coded× (coded_list coded_ℕ) (coded_list change_code)))
-    (λ f. (f.name, (f.text, f.aside))) (λ c. record { name = c.0; text = c.1.0; aside = c.1.1 }) (λ _. refl)
+    code_by (List ℕ × (List ℕ × (List Change × List Span)))
+    (coded× (coded_list coded_ℕ) (coded× (coded_list coded_ℕ) (coded× (coded_list change_code) (coded_list span_code))))
+    (λ f. (f.name, (f.text, (f.aside, f.reaches)))) (λ c. record { name = c.0; text = c.1.0; aside = c.1.1.0; reaches = c.1.1.1 }) (λ _. refl)
 
 abbrev pub searchable_code : Coded Searchable
 searchable_code =

@@ -5,15 +5,15 @@ use Rattle.ssr_base_trees.specs.Meanings.{Meanings}
 use Rattle.ide_ssr_refusals.specs.declared.refusals.Refusal.{Refusal}
 use Rattle.ide_ssr_refusals.specs.Refusals.{◌>>=◌}
 use Rattle.ide_ssr_resolved_rule.specs.Resolved.{ResolvedRule}
-use Rattle.ide_ssr_rules.specs.Rules.{Rule, rule_reading, pattern_reading}
+use Rattle.ide_ssr_rules.specs.Rules.{Rule, once_reading, pattern_reading}
 use Rattle.ide_ssr.specs.Finder.{Finder, FinderWith}
 use Rattle.ssr_searching.specs.Searching.{Search, MakesFor, both, resolved}
 use Rattle.ssr_changes.specs.declared.finding.Form.{Form}
 use Rattle.ssr_changes.specs.declared.finding.Form.TheVariants as forms
 
--- what a text is read as
+-- what a text is read as: a rule as it is searched once
 abbrev pub reading_of : Form → List ℕ → Result Rule Refusal
-reading_of forms.Rules text = rule_reading text
+reading_of forms.Rules text = once_reading text
 reading_of forms.Patterns text = pattern_reading text
 
 -- what a text says, parsed and resolved

@@ -19,17 +19,18 @@ pub record Held : Type 0 where
   pub name : List ℕ
   pub range : FileRange
 
--- a match: the place of the text that it is found for, where it stands, what its placeholders hold, and whether a byte of it is set aside
+-- a match: the place of the text that it is found for, where it stands, what its placeholders hold, and whether it touches the reach of a
+-- part set aside
 pub record Found : Type 0 where
   pub rule : ℕ
   pub range : FileRange
   pub placeholders : List Held
   pub holds_aside : Bool
 
--- a byte of a range is set aside in its file
+-- a range touches the reach of a part set aside in its file
 abbrev pub is_aside : List File → FileRange → Bool
 is_aside files range =
-    option_map_or (λ file. touches_aside file.aside (record { start = range.range.start; end = range.range.end; text = [] })) (slice_get files range.file_id.0) false
+    option_map_or (λ file. touches_aside file.reaches (record { start = range.range.start; end = range.range.end; text = [] })) (slice_get files range.file_id.0) false
 
 -- what is told of a match, where the kinds of the finder come from texts of these numbers
 abbrev pub held_of : PlaceholderMatch → Held

@@ -4,7 +4,7 @@ use Rattle.ssr_syntax_tree.specs.Syntax.{Syntax}
 use Rattle.ssr_syntax.specs.Reading.{file_reading}
 use Rattle.ssr_syntax.specs.declared.syntax_error.SyntaxError.TheVariants as errors
 use Rattle.ssr_base_trees.specs.Built.{most_trees}
-use Rattle.ssr_set_aside.specs.declared.source_file.SourceFile.{SourceFile}
+use Rattle.ssr_package.specs.declared.source_file.SourceFile.{SourceFile}
 use Rattle.ssr_changes.specs.declared.sorting.Unread.{Unread}
 use Rattle.ssr_changes.specs.Files.{File}
 

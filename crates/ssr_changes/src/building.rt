@@ -1,62 +1,136 @@
-//! The workspace of texts that are read.
-ghost use Rattle.std.specs.Prelude.{◌≡◌, ◌≤◌, All, IfOk, length, map, string_bytes};
-ghost use Rattle.ssr_syntax_tree.specs.Syntax.{source_of};
+//! The workspace of trees that are read, and of what macro calls in them stand for.
+ghost use Rattle.std.specs.Prelude.{◌≡◌, ◌+◌, ◌≤◌, All, IfOk, OnOk, Ok, length};
+ghost use Rattle.ssr_syntax.specs.Expansions.{expansion_reading};
+ghost use Rattle.ssr_syntax.specs.Reading.{IsRead};
 ghost use Rattle.ssr_base_trees.specs.Built.{most_trees};
-ghost use Rattle.ssr_changes.specs.Private.Building.{IsFile};
+ghost use Rattle.ssr_macro_arguments.specs.Arguments.{HasItsTree};
+ghost use Rattle.ssr_changes.specs.Private.Building.{IsAdded, IsOneMore, missing};
 
-use ssr_base::{Workspace, WorkspaceError};
-use ssr_macro_arguments::macro_arguments;
+use ssr_base::{Expansion, Workspace, WorkspaceError};
+use ssr_macro_arguments::{ReadExpansion, macro_arguments};
+use ssr_syntax::Tree;
 use std::alloc::{AllocError, Global};
 
-/// The workspace of texts, each of which is read.
-fn without_macros(alloc: Global, texts: Vec<String>) -> Result<Workspace, AllocError>
-    requires read { All IsFile texts.items }
-    requires few { length texts.items ≤ most_trees }
-    ensures { IfOk result (λ w. map source_of w.files ≡ map string_bytes texts.items) }
+/// A workspace, and how many calls of macros aren't searched in it.
+#[derive(Drop)]
+pub(crate) struct Built {
+    pub(crate) workspace: Workspace,
+    pub(crate) refused: usize,
+}
+
+/// The number that a tree has in the workspace, if it is there. The files come first; then `places` tells of each expansion where
+/// its tree stands.
+fn there(files: u32, places: &[Option<u32>], tree: u32) -> Option<u32> {
+    match tree.checked_sub(files) {
+        Some(place) => places.get(place as usize).copied().flatten(),
+        None => Some(tree),
+    }
+}
+
+/// The same expansion, of a call in the tree of this number.
+fn moved(expansion: Expansion, tree: u32) -> Expansion
+    ensures kind { result.kind ≡ expansion.kind }
+    ensures tokens { result.tokens ≡ expansion.tokens }
+    ensures call { result.call ≡ (tree, expansion.call.1) }
 {
-    match Workspace::build(alloc, texts, Vec::new(alloc)) {
-        Ok(workspace) => Ok(workspace),
+    let Expansion { call, kind, tokens } = expansion;
+    Expansion {
+        call: (tree, call.1),
+        kind,
+        tokens,
+    }
+}
+
+/// Adds an expansion with its tree, and gives the number of the tree, unless the expansion is refused.
+fn add(
+    alloc: Global,
+    workspace: &mut Workspace,
+    expansion: &Expansion,
+    tree: Tree,
+) -> Result<Option<u32>, AllocError>
+    requires { expansion_reading expansion.now.kind expansion.now.tokens.items ≡ Ok tree }
+    ensures { IfOk result (IsAdded workspace.old expansion.now workspace.new) }
+{
+    let trees = workspace.trees();
+    let number = trees.file_count() + trees.expansion_count();
+    match workspace.add(alloc, expansion, tree) {
+        Ok(()) => Ok(Some(number)),
         Err(error) => match error {
             WorkspaceError::Memory => Err(AllocError),
-            // each text is read, there are not too many, and there are no expansions
-            _ => unreachable!(),
+            _ => Ok(None),
         },
     }
 }
 
-/// Copies of texts.
-fn copies(alloc: Global, texts: &[String]) -> Result<Vec<String>, AllocError>
-    ensures { IfOk result (λ copies. map string_bytes copies.items ≡ map string_bytes texts.now) }
+/// Adds an expansion with its tree, if the tree of its call is there, and gives the number that its own tree has then.
+fn add_there(
+    alloc: Global,
+    workspace: &mut Workspace,
+    there: Option<u32>,
+    made: ReadExpansion,
+) -> Result<Option<u32>, AllocError>
+    requires { HasItsTree made }
+    ensures { IfOk result (IsOneMore workspace.old workspace.new) }
 {
-    let mut copies = Vec::with_capacity(alloc, texts.len())?;
-    for text in texts {
-        copies.push(String::from_str(alloc, text.as_str())?)?;
-    }
-    Ok(copies)
+    let Some(number) = there else {
+        return Ok(None);
+    };
+    let ReadExpansion { expansion, tree } = made;
+    add(alloc, workspace, &moved(expansion, number), tree)
 }
 
-/// The workspace of texts, each of which is read. With macros, what the calls of the standard library's macros in them stand for
-/// is searched too, unless that is refused: then none of it is.
-pub(crate) fn build(
-    alloc: Global,
-    texts: Vec<String>,
-    macros: bool,
-) -> Result<Workspace, AllocError>
-    requires read { All IsFile texts.items }
-    requires few { length texts.items ≤ most_trees }
-    ensures { IfOk result (λ w. map source_of w.files ≡ map string_bytes texts.items) }
+/// How many trees aren't there: one or none.
+fn missing(number: Option<u32>) -> usize
+    ensures { result ≡ missing number }
 {
-    if !macros {
-        return without_macros(alloc, texts);
+    match number {
+        Some(_) => 0,
+        None => 1,
     }
-    let expansions = macro_arguments(alloc, &texts)?;
-    if expansions.is_empty() {
-        return without_macros(alloc, texts);
+}
+
+/// Adds expansions with their trees, and tells how many aren't added: those that are refused, and those in their arguments.
+fn add_all(
+    alloc: Global,
+    workspace: &mut Workspace,
+    made: Vec<ReadExpansion>,
+) -> Result<usize, AllocError>
+    requires { All HasItsTree made.items }
+    ensures files { OnOk result (workspace.new.files ≡ workspace.old.files) }
+    ensures counted { IfOk result (λ refused. length workspace.new.expansions + refused ≡ length workspace.old.expansions + length made.items) }
+{
+    let files = workspace.file_count();
+    let mut places = Vec::with_capacity(alloc, made.len())?;
+    let mut refused = 0usize;
+    for one in made {
+        let there = there(files, &places, one.expansion.call.0);
+        let added = add_there(alloc, workspace, there, one)?;
+        refused += missing(added);
+        places.push(added)?;
     }
-    let copies = copies(alloc, &texts)?;
-    match Workspace::build(alloc, texts, expansions) {
-        Ok(workspace) => Ok(workspace),
-        Err(WorkspaceError::Memory) => Err(AllocError),
-        Err(_) => without_macros(alloc, copies),
+    Ok(refused)
+}
+
+/// What calls of the standard library's macros in files with these trees stand for, if that is asked for; else nothing.
+fn expansions(alloc: Global, trees: &[Tree], macros: bool) -> Result<Vec<ReadExpansion>, AllocError>
+    ensures { IfOk result (λ made. All HasItsTree made.items) }
+{
+    if macros {
+        macro_arguments(alloc, trees)
+    } else {
+        Ok(Vec::new(alloc))
     }
+}
+
+/// The workspace of files with these trees. With macros, what the calls of the standard library's macros in them stand for is
+/// searched too. One that is refused is left out, with those in its arguments.
+pub(crate) fn build(alloc: Global, trees: Vec<Tree>, macros: bool) -> Result<Built, AllocError>
+    requires read { All IsRead trees.items }
+    requires few { length trees.items ≤ most_trees }
+    ensures { IfOk result (λ built. built.workspace.files ≡ trees.items) }
+{
+    let made = expansions(alloc, &trees, macros)?;
+    let mut workspace = Workspace::of_trees(alloc, trees);
+    let refused = add_all(alloc, &mut workspace, made)?;
+    Ok(Built { workspace, refused })
 }

@@ -7,7 +7,7 @@ ghost use Rattle.ssr_changes.specs.Private.Changing.{FitsTree, IsChangeOf, IsWhe
 
 use crate::searchable::Searchable;
 use ssr_base::{ApplyError, FileId, FilePosition, FileRange, Semantics, TextEdit, Workspace};
-use ssr_searching::{SearchError, edits};
+use ssr_searching::{SearchError, edits_once};
 use ssr_set_aside::{Spared, spare};
 use ssr_syntax::{SyntaxError, TextRange, parse_file_owned};
 use std::alloc::{AllocError, Global};
@@ -22,12 +22,13 @@ pub struct FileChange {
     pub edit: TextEdit,
     /// The text with these made.
     pub new: String,
-    /// The ranges of the other changes: they hold a byte that is set aside, and are not made.
+    /// The ranges of the other changes: they touch the reach of a part set aside, and are not made.
     pub told: Vec<TextRange>,
 }
 
 /// What rules change, in the order of the files: of each file in which something is replaced, be it made or told. The names of
-/// the rules are looked up at the position; without ranges all is searched. The error is that of the search.
+/// the rules are looked up at the position; without ranges all is searched. A rule whose pattern is a placeholder alone is searched
+/// by its first kind alone. The error is that of the search.
 pub fn changes<S: Semantics>(
     alloc: Global,
     files: &Searchable,
@@ -40,7 +41,7 @@ pub fn changes<S: Semantics>(
     ensures fit { IfOk result (λ made. All (FitsIn files.now.files) made.items) }
     ensures refused { IfErr result (IsWhy (record { workspace = files.now.workspace; meanings = S.meanings semantics.now; position = position; ranges = ranges.items }) (map string_bytes rules.now)) }
 {
-    let edits = edits(alloc, files.workspace(), semantics, position, ranges, rules)?;
+    let edits = edits_once(alloc, files.workspace(), semantics, position, ranges, rules)?;
     Ok(all_changed(alloc, files, edits)?)
 }
 
@@ -77,11 +78,11 @@ fn changed(
     ensures fits { IfOk result (FitsIn files.now.files) }
 {
     let there = files.file(file);
-    let Spared { edit, told } = spare(alloc, edit, there.aside())?;
+    let Spared { edit, told } = spare(alloc, edit, there.reaches())?;
     let new = match edit.apply(alloc, there.text()) {
         Ok(new) => new,
         Err(ApplyError::Memory) => return Err(AllocError),
-        // what touches nothing set aside fits the file as it does the searched text
+        // what touches no reach fits the file as it does the searched text
         Err(ApplyError::Range) => unreachable!(),
     };
     Ok(FileChange {

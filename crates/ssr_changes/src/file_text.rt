@@ -1,15 +1,17 @@
-//! A file's text on the disk, and what of it is set aside.
+//! A file's text on the disk, what of it is set aside, and what no match may touch for that.
 ghost use Rattle.std.specs.Prelude.{◌≡◌, string_bytes};
 
 use ssr_base_trees::TextEdit;
+use ssr_set_aside::Reaches;
 use std::marker::Model;
 
-/// A file's name, its text on the disk, and the changes of that which make the text that is searched.
+/// A file's name, its text on the disk, the changes of that which make the text that is searched, and their reaches.
 #[derive(Debug, Drop)]
 pub(crate) struct FileText {
     name: String,
     text: String,
     aside: TextEdit,
+    reaches: Reaches,
 }
 
 impl Model for FileText {
@@ -18,14 +20,19 @@ impl Model for FileText {
 
     ghost Value = { File };
 
-    ghost view = { λ file. record { name = string_bytes file.name; text = string_bytes file.text; aside = file.aside } };
+    ghost view = { λ file. record { name = string_bytes file.name; text = string_bytes file.text; aside = file.aside; reaches = file.reaches } };
 }
 
 impl FileText {
-    pub(crate) fn new(name: String, text: String, aside: TextEdit) -> FileText
-        ensures { result ≡ record { name = string_bytes name; text = string_bytes text; aside = aside } }
+    pub(crate) fn new(name: String, text: String, aside: TextEdit, reaches: Reaches) -> FileText
+        ensures { result ≡ record { name = string_bytes name; text = string_bytes text; aside = aside; reaches = reaches } }
     {
-        FileText { name, text, aside }
+        FileText {
+            name,
+            text,
+            aside,
+            reaches,
+        }
     }
 
     pub(crate) fn name(&self) -> &str
@@ -44,5 +51,11 @@ impl FileText {
         ensures { result.now ≡ self.now.aside }
     {
         &self.aside
+    }
+
+    pub(crate) fn reaches(&self) -> &Reaches
+        ensures { result.now ≡ self.now.reaches }
+    {
+        &self.reaches
     }
 }

@@ -12,7 +12,7 @@ use std::alloc::Global;
 /// What is searched for.
 #[derive(Clone, Copy, Debug, PartialEq, Eq)]
 pub(crate) enum Form {
-    /// What rules replace.
+    /// What rules replace, each searched once.
     Rules,
     /// What search patterns match.
     Patterns,
@@ -23,7 +23,7 @@ fn kind_count(alloc: Global, form: Form, text: &str) -> Result<usize, SsrError>
     ensures { IfOk result (λ count. count ≡ count_of (reading_of form text.now)) }
 {
     let parsed = match form {
-        Form::Rules => rule_kinds(SsrRule::parse(alloc, text)?),
+        Form::Rules => rule_kinds(SsrRule::parse(alloc, text)?.once()),
         Form::Patterns => pattern_kinds(SsrPattern::parse(alloc, text)?),
     };
     let (_, _, kinds) = parsed.into_parts();
@@ -42,7 +42,7 @@ fn add<S: Semantics>(
     match form {
         Form::Rules => {
             let rule = SsrRule::parse(alloc, text)?;
-            finder.add_rule(rule)
+            finder.add_rule_once(rule)
         }
         Form::Patterns => {
             let pattern = SsrPattern::parse(alloc, text)?;

@@ -10,8 +10,6 @@ mod finding;
 mod matching;
 mod searchable;
 mod sorting;
-#[cfg(test)]
-mod tests;
 
 pub use changing::{FileChange, changes, check_new};
 pub use debugging::{DebugEntry, debug};

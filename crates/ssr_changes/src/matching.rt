@@ -9,8 +9,9 @@ ghost use Rattle.ssr_changes.specs.Matching.{AreFound, found_by, found_of, held_
 use crate::finding::{Form, add_all};
 use crate::searchable::Searchable;
 use ide_ssr::{Match, MatchFinder, PlaceholderMatch};
-use ssr_base::{FilePosition, FileRange, Semantics, TextEdit};
+use ssr_base::{FilePosition, FileRange, Semantics};
 use ssr_searching::SearchError;
+use ssr_set_aside::Reaches;
 use ssr_syntax::TextRange;
 use std::alloc::{AllocError, Global};
 
@@ -23,7 +24,7 @@ pub struct FoundPlace {
     pub range: FileRange,
     /// What the placeholders hold, by where it begins.
     pub placeholders: Vec<FoundPlaceholder>,
-    /// Whether a byte of it is set aside, so that it isn't replaced.
+    /// Whether it touches the reach of a part set aside, so that it isn't replaced.
     pub holds_aside: bool,
 }
 
@@ -135,12 +136,12 @@ fn placeholders(
     Ok(told)
 }
 
-/// Whether a byte of a range is set aside in its file.
+/// Whether a range touches the reach of a part set aside in its file.
 fn holds_aside(files: &Searchable, range: FileRange) -> bool
     ensures { result ≡ is_aside files.now.files range }
 {
     let file = range.file_id.0 as usize;
-    file < files.file_count() && touches(files.file(file).aside(), range.range)
+    file < files.file_count() && touches(files.file(file).reaches(), range.range)
 }
 
 /// Whether two ranges share a byte, or the one stands between two bytes of the other.
@@ -150,13 +151,12 @@ fn touch(one: TextRange, other: TextRange) -> bool
     one.start < other.end && other.start < one.end
 }
 
-/// Whether a range touches a change.
-fn touches(aside: &TextEdit, range: TextRange) -> bool
-    ensures { result ≡ touches_aside aside.now (record { start = range.start; end = range.end; text = [] }) }
+/// Whether a range touches a reach.
+fn touches(reaches: &Reaches, range: TextRange) -> bool
+    ensures { result ≡ touches_aside reaches.now (record { start = range.start; end = range.end; text = [] }) }
 {
-    let changes = aside.iter().as_slice();
-    for (change, _) in changes {
-        if touch(range, *change) {
+    for reach in reaches.ranges() {
+        if touch(range, *reach) {
             return true;
         }
     }

@@ -5,11 +5,12 @@ ghost use Rattle.ssr_syntax_tree.specs.Syntax.{Syntax};
 ghost use Rattle.ssr_changes.specs.Files.{AreSearched, IsSearched, as_they_are};
 ghost use Rattle.ssr_changes.specs.Sorting.{AreSorted};
 
-use crate::building::build;
+use crate::building::{Built, build};
 use crate::file_text::FileText;
 use crate::sorting::{Sorted, Unread, sort_out};
 use ssr_base::{TextEdit, Workspace};
-use ssr_set_aside::SourceFile;
+use ssr_package::SourceFile;
+use ssr_set_aside::Reaches;
 use std::alloc::{AllocError, Global};
 use std::marker::Model;
 
@@ -19,6 +20,7 @@ use std::marker::Model;
 pub struct Searchable {
     workspace: Workspace,
     files: Vec<FileText>,
+    refused: usize,
 }
 
 impl Model for Searchable {
@@ -45,12 +47,17 @@ impl Searchable {
         ensures { IfOk result (λ answer. AreSorted 0 files.items answer.0.files answer.1.items) }
     {
         let Sorted {
-            searched,
+            trees,
             files,
             unread,
         } = sort_out(alloc, files)?;
-        let workspace = build(alloc, searched, macros)?;
-        Ok((Searchable { workspace, files }, unread))
+        let Built { workspace, refused } = build(alloc, trees, macros)?;
+        let searchable = Searchable {
+            workspace,
+            files,
+            refused,
+        };
+        Ok((searchable, unread))
     }
 
     /// The files of a workspace as they are: nothing is set aside. A file behind the last of the names has none.
@@ -62,7 +69,11 @@ impl Searchable {
         ensures { IfOk result (λ s. s ≡ record { workspace = workspace; files = as_they_are (map string_bytes names.items) workspace.files }) }
     {
         let files = as_they_are(alloc, &workspace, &names)?;
-        Ok(Searchable { workspace, files })
+        Ok(Searchable {
+            workspace,
+            files,
+            refused: 0,
+        })
     }
 
     /// The workspace that is searched.
@@ -71,6 +82,11 @@ impl Searchable {
         ensures searched { AreSearched self.now.workspace.files self.now.files }
     {
         &self.workspace
+    }
+
+    /// How many calls of macros are not searched: those whose expansion the workspace refuses, and those in their arguments.
+    pub fn refused_calls(&self) -> usize {
+        self.refused
     }
 
     /// How many files there are.
@@ -112,6 +128,14 @@ impl Searchable {
     {
         self.file(file).aside()
     }
+
+    /// Of each of these changes the bytes that no match may touch.
+    pub fn reaches(&self, file: usize) -> &Reaches
+        requires { file < length self.now.files }
+        ensures { option_map (λ file. file.reaches) (slice_get self.now.files file) ≡ Some result.now }
+    {
+        self.file(file).reaches()
+    }
 }
 
 /// The name of a file.
@@ -139,7 +163,9 @@ fn as_they_are(
         };
         let name = String::from_str(alloc, name_of(names, file))?;
         let text = String::from_str(alloc, tree.source())?;
-        files.push(FileText::new(name, text, TextEdit::new(Vec::new(alloc))))?;
+        let aside = TextEdit::new(Vec::new(alloc));
+        let reaches = Reaches::new(Vec::new(alloc));
+        files.push(FileText::new(name, text, aside, reaches))?;
     }
     Ok(files)
 }

@@ -1,18 +1,18 @@
 //! Which files are read, with what the language leaves out set aside, and which are not.
-ghost use Rattle.std.specs.Prelude.{◌≡◌, ◌≢◌, ◌≤◌, [], ◌∷◌, ◌++◌, All, IfOk, OnOk, length, map, string_bytes};
+ghost use Rattle.std.specs.Prelude.{◌≡◌, ◌≢◌, ◌≤◌, [], ◌∷◌, ◌++◌, All, IfOk, OnOk, length};
+ghost use Rattle.ssr_syntax.specs.Reading.{IsRead};
 ghost use Rattle.ssr_syntax.specs.declared.syntax_error.SyntaxError.TheVariants as errors;
 ghost use Rattle.ssr_base_trees.specs.Built.{most_trees};
-ghost use Rattle.ssr_changes.specs.Files.{AreMadeOf};
+ghost use Rattle.ssr_changes.specs.Files.{AreSearched};
 ghost use Rattle.ssr_changes.specs.Sorting.{AreSorted};
-ghost use Rattle.ssr_changes.specs.Private.Building.{Adds, IsFile};
+ghost use Rattle.ssr_changes.specs.Private.Building.{Adds};
 
 use crate::file_text::FileText;
-use ssr_set_aside::{SourceFile, set_aside};
-use ssr_syntax::SyntaxError;
+use ssr_base::MOST_TREES;
+use ssr_package::SourceFile;
+use ssr_set_aside::set_aside;
+use ssr_syntax::{SyntaxError, Tree};
 use std::alloc::{AllocError, Global};
-
-/// How many files a workspace may have.
-const MOST_FILES: usize = 65_536;
 
 /// A file that isn't searched.
 #[derive(Debug, PartialEq, Eq, Drop)]
@@ -26,8 +26,8 @@ pub struct Unread {
 /// Files by whether they are read, in their order.
 #[derive(Drop)]
 pub(crate) struct Sorted {
-    /// The texts of those that are read, with what is set aside.
-    pub(crate) searched: Vec<String>,
+    /// The trees of those that are read, with what is set aside.
+    pub(crate) trees: Vec<Tree>,
     /// The same files as they are on the disk.
     pub(crate) files: Vec<FileText>,
     /// The others.
@@ -39,7 +39,7 @@ impl Sorted {
     fn tell(&mut self, name: String, why: SyntaxError) -> Result<(), AllocError>
         ensures why { OnOk result (why ≢ errors.Memory) }
         ensures told { OnOk result (self.new.unread.items ≡ self.old.unread.items ++ record { name = name; why = why } ∷ []) }
-        ensures searched { self.new.searched ≡ self.old.searched }
+        ensures trees { self.new.trees ≡ self.old.trees }
         ensures files { self.new.files ≡ self.old.files }
     {
         match why {
@@ -54,14 +54,14 @@ impl Sorted {
         ensures { OnOk result (Adds self.old self.new file) }
     {
         let SourceFile { name, text } = file;
-        if self.files.len() >= MOST_FILES {
+        if self.files.len() >= MOST_TREES {
             return self.tell(name, SyntaxError::TooLong);
         }
         match set_aside(alloc, text.as_str()) {
             Ok(made) => {
-                let (searched, aside) = made.into_parts();
-                self.searched.push(searched)?;
-                self.files.push(FileText::new(name, text, aside))?;
+                let (tree, aside, reaches) = made.into_parts();
+                self.trees.push(tree)?;
+                self.files.push(FileText::new(name, text, aside, reaches))?;
                 Ok(())
             }
             Err(why) => self.tell(name, why),
@@ -72,12 +72,12 @@ impl Sorted {
 /// Which files are read, with what the language leaves out set aside, and which are not.
 pub(crate) fn sort_out(alloc: Global, files: Vec<SourceFile>) -> Result<Sorted, AllocError>
     ensures sorted { IfOk result (λ sorted. AreSorted 0 files.items sorted.files.items sorted.unread.items) }
-    ensures made { IfOk result (λ sorted. AreMadeOf (map string_bytes sorted.searched.items) sorted.files.items) }
-    ensures read { IfOk result (λ sorted. All IsFile sorted.searched.items) }
-    ensures few { IfOk result (λ sorted. length sorted.searched.items ≤ most_trees) }
+    ensures made { IfOk result (λ sorted. AreSearched sorted.trees.items sorted.files.items) }
+    ensures read { IfOk result (λ sorted. All IsRead sorted.trees.items) }
+    ensures few { IfOk result (λ sorted. length sorted.trees.items ≤ most_trees) }
 {
     let mut sorted = Sorted {
-        searched: Vec::new(alloc),
+        trees: Vec::new(alloc),
         files: Vec::new(alloc),
         unread: Vec::new(alloc),
     };

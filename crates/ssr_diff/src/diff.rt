@@ -91,25 +91,3 @@ fn name_end(name: &str) -> &'static str
         "\n"
     }
 }
-
-#[cfg(test)]
-mod tests {
-    use super::*;
-    use ssr_syntax_kinds::TextRange;
-    use std::test::Fail;
-
-    // what `diff -u` writes, with these heads
-    #[test]
-    fn a_line_is_replaced(rt: HostRuntime) -> Result<(), Fail> {
-        let alloc = rt.alloc();
-        let mut changes = Vec::new(alloc);
-        changes.push((TextRange::new(2, 3), String::from_str(alloc, "x")?))?;
-        let edit = TextEdit::new(changes);
-        let diff = unified_diff(alloc, "a b.rs", "a\nb\nc", &edit)?;
-        let wanted =
-            "--- a/a b.rs\t\n+++ b/a b.rs\t\n@@ -1,3 +1,3 @@\n a\n-b\n+x\n c\n\\ No newline at end of file\n";
-        assert_eq!(rt; diff.as_str(), wanted);
-        assert_eq!(rt; Lines::of_text(alloc, "a\nb")?.len(), 2);
-        Ok(())
-    }
-}

@@ -26,13 +26,11 @@ use Rattle.ssr_facts_rows.specs.contracts.meanings.MemberKeyOrd.TheImpl as membe
 use Rattle.ssr_facts_rows.specs.contracts.meanings.PrintedKeyOrd.TheImpl as printed_order
 use Rattle.ssr_base_trees.specs.Workspace.{same_id}
 use Rattle.ssr_base_trees.specs.Meanings.{same_res}
+use Rattle.ssr_base_trees.proofs.Shared.{id_ties}
 use Rattle.ssr_facts.specs.Tables.{is_name, is_member, is_printed}
 use Rattle.ssr_facts.proofs.Rows.{lookup_alike}
 
 -- ** Plain tests say what the orders say.
-
-pub id_ties : (a b : NodeId) → same_id a b ≡ is_at ((id_order.ghosts).cmp a) b
-id_ties a b = both_tied _ _ _ _ (unsigned_ties a.tree b.tree) (unsigned_ties a.node.0 b.node.0)
 
 pub printed_ties : (a b : PrintedKey) → is_printed a.scope a.def b ≡ is_at ((printed_order.ghosts).cmp a) b
 printed_ties a b = both_tied _ _ _ _ (unsigned_ties a.scope.0 b.scope.0) (unsigned_ties a.def.0 b.def.0)

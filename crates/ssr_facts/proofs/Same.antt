@@ -31,7 +31,8 @@ use Rattle.ssr_facts.specs.Usages.{uses_of}
 use Rattle.ssr_facts.specs.Maps.{path_in, method_in, meanings_in}
 use Rattle.ssr_facts.specs.Private.Maps.{IsIndexed, AreMade}
 use Rattle.ssr_facts.specs.Private.Complete.{same_nodes}
-use Rattle.ssr_facts.proofs.Keys.{id_ties, printed_ties, name_test, member_test, found_node}
+use Rattle.ssr_base_trees.proofs.Shared.{id_ties}
+use Rattle.ssr_facts.proofs.Keys.{printed_ties, name_test, member_test, found_node}
 use Rattle.ssr_facts.proofs.Rows.{lookup_alike, found_alike}
 
 -- ** One table.

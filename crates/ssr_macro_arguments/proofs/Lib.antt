@@ -1,3 +1,4 @@
 mod Tops
 mod Spelled
 mod Values
+mod FormatStrings

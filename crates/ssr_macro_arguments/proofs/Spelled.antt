@@ -9,7 +9,7 @@ use Rattle.ssr_macro_arguments.specs.declared.arguments.ArgumentToken.{ArgumentT
 use Rattle.ssr_macro_arguments.specs.declared.macros.Form.{Form}
 use Rattle.ssr_macro_arguments.specs.declared.macros.Form.TheVariants as forms
 use Rattle.ssr_macro_arguments.specs.Private.Tokens.{argument_piece, pieces, mark, AreSpelled, AreSpelledArguments}
-use Rattle.ssr_macro_arguments.specs.Private.Forms.{depth_behind, is_outer, front_length, name_length, values_from, values, ends_with_comma, without_comma, closing, in_tuple, array_of, head_of, match_of, tuple_of, arms, expansion_of}
+use Rattle.ssr_macro_arguments.specs.Private.Forms.{depth_behind, is_outer, front_length, name_length, values_from, values, ends_with_comma, without_comma, closing, in_tuple, array_of, head_of, match_of, tuple_of, arms, expansion_of, first_length, lone_string_length, without_string, searched}
 
 abbrev AreSpelledPieces : List ℕ → List Piece → Type 0
 AreSpelledPieces text ps = All (Spells text) ps
@@ -97,7 +97,7 @@ tuple_spelled text ts all = in_tuple_spelled text ts (pieces ts) (of_pieces text
 
 pub expansion_spelled : (text : List ℕ) (form : Form) (ts : List ArgumentToken) → AreSpelledArguments text ts → AreSpelledPieces text (expansion_of form ts)
 unfolding expansion_of
-expansion_spelled text forms.Named ts all =
+expansion_spelled text (forms.Formatted before) ts all =
     in_tuple_spelled text ts (pieces (values ts)) (of_pieces text (values ts) (values_spelled text (name_length ts) 0 ts all))
 expansion_spelled text forms.Values ts all = tuple_spelled text ts all
 expansion_spelled text forms.Elements ts all =
@@ -109,6 +109,22 @@ expansion_spelled text forms.Matched ts all =
     (match_spelled text (take comma ts) (without_comma (drop (comma + 1) ts)) (All-take P comma ts all)
     (without_comma_spelled text (drop (comma + 1) ts) (All-drop P (comma + 1) ts all)))
     (tuple_spelled text ts all)
+
+-- ** Arguments without their format string.
+
+without_string_spelled : (text : List ℕ) (before : ℕ) (ts : List ArgumentToken) → AreSpelledArguments text ts → AreSpelledArguments text (without_string before ts)
+without_string_spelled text zero ts all = All-drop (λ t. Spells text (argument_piece t)) (lone_string_length ts) ts all
+without_string_spelled text (suc before) ts all =
+    let P : ArgumentToken → Type 0 = λ t. Spells text (argument_piece t) in
+    let n : ℕ = first_length ts in
+    All-append P (take n ts) (without_string before (drop n ts)) (All-take P n ts all)
+    (without_string_spelled text before (drop n ts) (All-drop P n ts all))
+
+pub searched_spelled : (text : List ℕ) (form : Form) (ts : List ArgumentToken) → AreSpelledArguments text ts → AreSpelledArguments text (searched form ts)
+searched_spelled text (forms.Formatted before) ts all = without_string_spelled text before ts all
+searched_spelled text forms.Values ts all = all
+searched_spelled text forms.Elements ts all = all
+searched_spelled text forms.Matched ts all = all
 
 -- ** Tokens that have the same pieces.
 

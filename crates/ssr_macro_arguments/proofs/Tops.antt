@@ -1,16 +1,19 @@
 -- The files at the top of trees, and the expansions of one tree more.
-use Rattle.std.proofs.Common.{◌≡◌, ℕ, zero, suc, ◌+◌, ◌<◌, List, [], ◌∷◌, ◌++◌, length, map, get_or, refl, ap, sym, ◌∙◌, subst, arith, length-append, Option, Some, IfSome, String, string_bytes}
-use Rattle.std.specs.Global.{Global}
+use Rattle.std.proofs.Common.{◌≡◌, ℕ, zero, suc, ◌+◌, ◌<◌, List, [], ◌∷◌, ◌++◌, length, map, get_or, refl, ap, sym, ◌∙◌, subst, arith, length-append, Option, Some, IfSome, Ok}
 use Rattle.std.proofs.lemmas.List.{get_or_append_left, get_or_push, map-append, get_or-map, length-map}
+use Rattle.std.proofs.lemmas.Simd.{map-map}
 use Rattle.std.proofs.lemmas.List.Elements.{All-head, All-tail, All-map, All-append, All-cons, All-nil}
 use Rattle.std.specs.List.{All}
 use Rattle.ssr_base.specs.declared.building.Expansion.{Expansion}
-use Rattle.ssr_syntax_tree.specs.Syntax.{source_of}
-use Rattle.ssr_macro_arguments.specs.declared.expanding.FileTree.{FileTree}
+use Rattle.ssr_syntax.specs.Expansions.{expansion_reading}
+use Rattle.ssr_syntax.specs.declared.expansions.ExpToken.{ExpToken}
+use Rattle.ssr_syntax.specs.declared.expansions.ExpansionKind.TheVariants.{Expr}
+use Rattle.ssr_syntax_tree.specs.Syntax.{Syntax, source_of}
 use Rattle.ssr_macro_arguments.specs.declared.expanding.Made.{Made}
+use Rattle.ssr_macro_arguments.specs.declared.expanding.ReadExpansion.{ReadExpansion}
 use Rattle.ssr_macro_arguments.specs.Private.Tokens.{AreSpelled}
-use Rattle.ssr_macro_arguments.specs.Private.Made.{IsReadOf, expansions_of, AreExpansionsIn}
-use Rattle.ssr_macro_arguments.specs.Arguments.{Spells, piece_of, IsExpansionIn, top_of, tops_behind, AreArguments}
+use Rattle.ssr_macro_arguments.specs.Private.Made.{expansions_made, IsMadeIn, AreMadeIn, IsTextAt, AreMade}
+use Rattle.ssr_macro_arguments.specs.Arguments.{Spells, piece_of, IsExpansionIn, top_of, tops_behind, AreArguments, HasItsTree, expansions_of}
 
 pub length-tops_behind : (tops : List (List ℕ)) (xs : List Expansion) → length (tops_behind tops xs) ≡ length tops + length xs
 length-tops_behind tops [] = omega arith
@@ -67,72 +70,98 @@ spelled_at tops (x ∷ xs) (suc j) d are within =
 
 -- ** Expansions with their trees.
 
-pub one_more : (tree : ℕ) (text : List ℕ) (made later : List Made) (one : Made) → later ≡ made ++ one ∷ [] → AreExpansionsIn tree text made
-    → IsExpansionIn tree text one.expansion → AreExpansionsIn tree text later
+pub one_more : (tree : ℕ) (text : List ℕ) (made later : List Made) (one : Made) → later ≡ made ++ one ∷ [] → AreMadeIn tree text made
+    → IsMadeIn tree text one → AreMadeIn tree text later
 one_more tree text made later one is all own =
-    let P : Made → Type 0 = λ one. IsExpansionIn tree text one.expansion in
+    let P : Made → Type 0 = IsMadeIn tree text in
     subst (All P) (sym is) (All-append P made (one ∷ []) all (All-cons P one [] own (All-nil P)))
 
--- the expansions of the calls in one tree, behind others
-with_made : (texts : List (List ℕ)) (made new later : List Made) (tree : ℕ) (text : List ℕ) → later ≡ made ++ new → AreArguments texts (expansions_of made)
-    → tree < length texts + length made → get_or (tops_behind texts (expansions_of made)) tree [] ≡ text → AreExpansionsIn tree text new
-    → AreArguments texts (expansions_of later)
-with_made texts made new later tree text is are within top all =
-    let both : expansions_of later ≡ expansions_of made ++ expansions_of new = ap expansions_of is ∙ map-append (λ (one : Made). one.expansion) made new in
-    subst (AreArguments texts) (sym both)
-    (with_one_tree texts (expansions_of made) (expansions_of new) tree text are
-    (omega (arith, length-tops_behind texts (expansions_of made), length-map made (λ (one : Made). one.expansion)))
-    top
-    (All-map (IsExpansionIn tree text) (λ (one : Made). one.expansion) new all))
+expansions_in : (tree : ℕ) (text : List ℕ) (made : List Made) → AreMadeIn tree text made → All (IsExpansionIn tree text) (expansions_made made)
+expansions_in tree text [] all = All-nil (IsExpansionIn tree text)
+expansions_in tree text (one ∷ made) all =
+    let P : Made → Type 0 = IsMadeIn tree text in
+    All-cons (IsExpansionIn tree text) one.read.expansion (expansions_made made) (let own : P one = All-head P one made all in own.expansion)
+    (expansions_in tree text made (All-tail P one made all))
 
-pub with_file : (texts : List (List ℕ)) (made new later : List Made) (file : FileTree) → later ≡ made ++ new → IsReadOf texts file
-    → AreArguments texts (expansions_of made) → AreExpansionsIn file.file (source_of file.tree) new → AreArguments texts (expansions_of later)
-with_file texts made new later file is read are all =
-    let within : file.file < length texts = read.within in
-    with_made texts made new later file.file (source_of file.tree) is are (omega arith)
-    (top_kept texts (expansions_of made) file.file within ∙ sym read.spells) all
+reads_in : (tree : ℕ) (text : List ℕ) (made : List Made) → AreMadeIn tree text made → All (λ one. HasItsTree one.read) made
+reads_in tree text [] all = All-nil (λ (one : Made). HasItsTree one.read)
+reads_in tree text (one ∷ made) all =
+    let P : Made → Type 0 = IsMadeIn tree text in
+    All-cons (λ (one : Made). HasItsTree one.read) one made (let own : P one = All-head P one made all in own.read)
+    (reads_in tree text made (All-tail P one made all))
+
+-- the expansions of the calls in one tree, behind others
+with_made : (texts : List (List ℕ)) (made new later : List Made) (tree : ℕ) (text : List ℕ) → later ≡ made ++ new → AreMade texts made
+    → tree < length texts + length made → get_or (tops_behind texts (expansions_made made)) tree [] ≡ text → AreMadeIn tree text new
+    → AreMade texts later
+with_made texts made new later tree text is are within top all =
+    let both : expansions_made later ≡ expansions_made made ++ expansions_made new =
+    ap expansions_made is ∙ map-append (λ (one : Made). one.read.expansion) made new in
+    record {
+      arguments =
+          subst (AreArguments texts) (sym both)
+          (with_one_tree texts (expansions_made made) (expansions_made new) tree text are.arguments
+          (omega (arith, length-tops_behind texts (expansions_made made), length-map made (λ (one : Made). one.read.expansion)))
+          top (expansions_in tree text new all));
+      read =
+          subst (All (λ one. HasItsTree one.read)) (sym is)
+          (All-append (λ (one : Made). HasItsTree one.read) made new are.read (reads_in tree text new all));
+    }
+
+pub with_file : (texts : List (List ℕ)) (made new later : List Made) (file : ℕ) (text : List ℕ) → later ≡ made ++ new → IsTextAt texts file text
+    → AreMade texts made → AreMadeIn file text new → AreMade texts later
+with_file texts made new later file text is at are all =
+    let within : file < length texts = at.within in
+    with_made texts made new later file text is are (omega arith)
+    (top_kept texts (expansions_made made) file within ∙ at.there) all
 
 pub with_nested : (texts : List (List ℕ)) (made new later : List Made) (files next number : ℕ) (above : Made) → later ≡ made ++ new → length texts ≡ files
-    → number ≡ files + next → next < length made → above ≡ get_or made next above → AreArguments texts (expansions_of made)
-    → ((text : List ℕ) → AreSpelled text above.expansion.tokens.items → AreExpansionsIn number text new) → AreArguments texts (expansions_of later)
+    → number ≡ files + next → next < length made → above ≡ get_or made next above → AreMade texts made
+    → ((text : List ℕ) → AreSpelled text above.read.expansion.tokens.items → AreMadeIn number text new) → AreMade texts later
 with_nested texts made new later files next number above is count place within found are all =
-    let text : List ℕ = get_or (tops_behind texts (expansions_of made)) number [] in
+    let text : List ℕ = get_or (tops_behind texts (expansions_made made)) number [] in
     let at : length texts + next ≡ number = omega arith in
-    let its : get_or (expansions_of made) next above.expansion ≡ above.expansion =
-    get_or-map (λ (one : Made). one.expansion) made next above above.expansion within ∙ ap (λ (one : Made). one.expansion) (sym found) in
-    let there : AreSpelled (get_or (tops_behind texts (expansions_of made)) (length texts + next) []) (get_or (expansions_of made) next above.expansion).tokens.items =
-    spelled_at texts (expansions_of made) next above.expansion are (omega (arith, length-map made (λ (one : Made). one.expansion))) in
-    let spelled : AreSpelled text above.expansion.tokens.items =
-    subst (λ (n : ℕ). AreSpelled (get_or (tops_behind texts (expansions_of made)) n []) above.expansion.tokens.items) at
-    (subst (λ (x : Expansion). AreSpelled (get_or (tops_behind texts (expansions_of made)) (length texts + next) []) x.tokens.items) its there) in
+    let its : get_or (expansions_made made) next above.read.expansion ≡ above.read.expansion =
+    get_or-map (λ (one : Made). one.read.expansion) made next above above.read.expansion within ∙ ap (λ (one : Made). one.read.expansion) (sym found) in
+    let there : AreSpelled (get_or (tops_behind texts (expansions_made made)) (length texts + next) []) (get_or (expansions_made made) next above.read.expansion).tokens.items =
+    spelled_at texts (expansions_made made) next above.read.expansion are.arguments (omega (arith, length-map made (λ (one : Made). one.read.expansion))) in
+    let spelled : AreSpelled text above.read.expansion.tokens.items =
+    subst (λ (n : ℕ). AreSpelled (get_or (tops_behind texts (expansions_made made)) n []) above.read.expansion.tokens.items) at
+    (subst (λ (x : Expansion). AreSpelled (get_or (tops_behind texts (expansions_made made)) (length texts + next) []) x.tokens.items) its there) in
     with_made texts made new later number text is are (omega arith) refl (all text spelled)
-
--- the tree of one file more
-pub read_more : (texts : List (List ℕ)) (trees later : List FileTree) (one : FileTree) → later ≡ trees ++ one ∷ [] → All (IsReadOf texts) trees
-    → IsReadOf texts one → All (IsReadOf texts) later
-read_more texts trees later one is all own =
-    subst (All (IsReadOf texts)) (sym is) (All-append (IsReadOf texts) trees (one ∷ []) all (All-cons (IsReadOf texts) one [] own (All-nil (IsReadOf texts))))
 
 -- an expansion more, if there is one
 pub call_added : (tree : ℕ) (text : List ℕ) (made later : List Made) (found : Option Made) (one : Made) → found ≡ Some one → later ≡ made ++ one ∷ []
-    → AreExpansionsIn tree text made → IfSome found (λ one. IsExpansionIn tree text one.expansion) → AreExpansionsIn tree text later
+    → AreMadeIn tree text made → IfSome found (IsMadeIn tree text) → AreMadeIn tree text later
 call_added tree text made later found one is put all own =
-    one_more tree text made later one put all
-    (subst (λ (o : Option Made). IfSome o (λ one. IsExpansionIn tree text one.expansion)) is own)
+    one_more tree text made later one put all (subst (λ (o : Option Made). IfSome o (IsMadeIn tree text)) is own)
 
--- the tree of a file more, if it has one
-pub file_added : (texts : List (List ℕ)) (trees later : List FileTree) (read : Option FileTree) (one : FileTree) → read ≡ Some one → later ≡ trees ++ one ∷ []
-    → (file : ℕ) (text : List ℕ) → file < length texts → get_or texts file [] ≡ text → All (IsReadOf texts) trees
-    → IfSome read (λ one. (one.file ≡ file) × (source_of one.tree ≡ text)) → All (IsReadOf texts) later
-file_added texts trees later read one is put file text within there all own =
-    let its : (one.file ≡ file) × (source_of one.tree ≡ text) =
-    subst (λ (o : Option FileTree). IfSome o (λ one. (one.file ≡ file) × (source_of one.tree ≡ text))) is own in
-    read_more texts trees later one put all
-    (record {
-      within = subst (λ (n : ℕ). n < length texts) (sym its.0) within;
-      spells = its.1 ∙ (sym there ∙ ap (λ n. get_or texts n []) (sym its.0));
-    })
+-- the text of a file's tree
+pub text_at : (files : List Syntax) (i : ℕ) (tree : Syntax) → i < length files → tree ≡ get_or files i tree
+    → IsTextAt (map source_of files) i (source_of tree)
+text_at files i tree within is = record {
+  within = omega (arith, length-map files source_of);
+  there = get_or-map source_of files i tree [] within ∙ ap source_of (sym is);
+}
 
-pub text_at : (files : List (String Global)) (i : ℕ) (text : String Global) → i < length files → text ≡ get_or files i text
-    → get_or (map string_bytes files) i [] ≡ string_bytes text
-text_at files i text within is = get_or-map string_bytes files i text [] within ∙ ap string_bytes (sym is)
+-- nothing is made yet
+pub none_made : (texts : List (List ℕ)) (made : List Made) → made ≡ [] → AreMade texts made
+none_made texts made none =
+    subst (AreMade texts) (sym none) (record { arguments = tt; read = All-nil (λ (one : Made). HasItsTree one.read) })
+
+-- the tree that tokens are read as
+pub read_tree : (tokens now : List ExpToken) (found : Option Syntax) (tree : Syntax) → found ≡ Some tree → now ≡ tokens
+    → IfSome found (λ tree. expansion_reading Expr now ≡ Ok tree) → expansion_reading Expr tokens ≡ Ok tree
+read_tree tokens now found tree is same read =
+    ap (expansion_reading Expr) (sym same) ∙ subst (λ (o : Option Syntax). IfSome o (λ tree. expansion_reading Expr now ≡ Ok tree)) is read
+
+-- ** The expansions with their trees alone.
+
+pub reads_arguments : (texts : List (List ℕ)) (made : List Made) (reads : List ReadExpansion) → reads ≡ map (λ one. one.read) made → AreMade texts made
+    → AreArguments texts (expansions_of reads)
+reads_arguments texts made reads is are =
+    subst (AreArguments texts) (sym (ap expansions_of is ∙ map-map (λ (one : ReadExpansion). one.expansion) (λ (one : Made). one.read) made)) are.arguments
+
+pub reads_read : (texts : List (List ℕ)) (made : List Made) (reads : List ReadExpansion) → reads ≡ map (λ one. one.read) made → AreMade texts made
+    → All HasItsTree reads
+reads_read texts made reads is are = subst (All HasItsTree) (sym is) (All-map HasItsTree (λ (one : Made). one.read) made are.read)

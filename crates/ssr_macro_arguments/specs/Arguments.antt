@@ -1,9 +1,11 @@
--- The expansions of macro calls whose arguments are expressions, and what their tokens spell.
-use Rattle.std.specs.Prelude.{ℕ, ◌≡◌, ◌<◌, ◌++◌, Bool, List, [], ◌∷◌, length, All, Contains, Option, MatchOption, slice_index_or, slice_range, string_bytes, codes}
+-- The expansions of macro calls whose arguments are expressions, what their tokens spell, and their trees.
+use Rattle.std.specs.Prelude.{ℕ, ◌≡◌, ◌<◌, ◌++◌, Bool, List, [], ◌∷◌, length, map, All, Contains, Option, MatchOption, Ok, slice_index_or, slice_range, string_bytes, codes}
 use Rattle.ssr_syntax_kinds.specs.declared.range.TextRange.{TextRange}
+use Rattle.ssr_syntax.specs.Expansions.{expansion_reading}
 use Rattle.ssr_syntax.specs.declared.expansions.ExpToken.{ExpToken}
 use Rattle.ssr_syntax.specs.declared.expansions.ExpansionKind.TheVariants.{Expr}
 use Rattle.ssr_base.specs.declared.building.Expansion.{Expansion}
+use Rattle.ssr_macro_arguments.specs.declared.expanding.ReadExpansion.{ReadExpansion}
 
 -- a token that is handed in, told by its bytes
 pub record Piece : Type 0 where
@@ -44,3 +46,12 @@ abbrev pub AreArguments : List (List ℕ) → List Expansion → Type 0
 AreArguments tops [] = Unit {0}
 AreArguments tops (x ∷ xs) =
     (x.call.0 < length tops) × IsExpansionIn x.call.0 (top_of tops x) x × AreArguments (tops ++ top_of tops x ∷ []) xs
+
+-- ** With their trees.
+
+abbrev pub expansions_of : List ReadExpansion → List Expansion
+expansions_of made = map (λ one. one.expansion) made
+
+-- its tree is what its tokens are read as
+abbrev pub HasItsTree : ReadExpansion → Type 0
+HasItsTree one = expansion_reading one.expansion.kind one.expansion.tokens.items ≡ Ok one.tree

@@ -1,43 +1,40 @@
 //! The expansions of the calls in files, and of those in these expansions.
-ghost use Rattle.std.specs.Prelude.{◌≡◌, ◌+◌, ◌<◌, ◌≤◌, ℕ, List, All, IfOk, OnOk, IfSome, length, map, string_bytes, slice_index_or, []};
+ghost use Rattle.std.specs.Prelude.{◌≡◌, ◌+◌, ◌<◌, ◌≤◌, ℕ, List, All, Ok, IfOk, OnOk, IfSome, length, map};
 ghost use Rattle.ssr_syntax_tree.specs.Syntax.{source_of};
 ghost use Rattle.ssr_syntax_tree.specs.Places.{HasNode};
+ghost use Rattle.ssr_syntax.specs.Expansions.{expansion_reading};
+ghost use Rattle.ssr_syntax.specs.declared.expansions.ExpansionKind.TheVariants.{Expr};
 ghost use Rattle.ssr_base_trees.specs.Built.{most_trees};
-ghost use Rattle.ssr_macro_arguments.specs.Arguments.{IsExpansionIn, AreArguments};
+ghost use Rattle.ssr_macro_arguments.specs.Arguments.{AreArguments, HasItsTree, expansions_of, piece_of};
+ghost use Rattle.ssr_macro_arguments.specs.Private.Forms.{expansion_of, searched};
 ghost use Rattle.ssr_macro_arguments.specs.Private.Tokens.{AreSpelled, AreSpelledArguments};
-ghost use Rattle.ssr_macro_arguments.specs.Private.Made.{IsReadOf, expansions_of, AreExpansionsIn};
+ghost use Rattle.ssr_macro_arguments.specs.Private.Made.{IsMadeIn, AreMadeIn, IsTextAt, AreMade};
 
 use crate::arguments::{
     ArgumentToken, arguments_in_expansion, arguments_in_file, starts_of, tokens_behind,
 };
+use crate::format_strings::searched;
 use crate::forms::expansion_tokens;
 use crate::macros::{Form, form_of, name_in_std};
 use crate::own_names::OwnNames;
 use ide_ssr_resolved_rule::first_child;
-use ssr_base::Expansion;
-use ssr_syntax::{ExpToken, ExpansionKind, SyntaxError, parse_file, parse_tokens};
+use ssr_base::{Expansion, MOST_NESTED, MOST_TREES};
+use ssr_syntax::{ExpToken, ExpansionKind, SyntaxError, parse_tokens};
 use ssr_syntax_kinds::{SyntaxKind, TextRange};
 use ssr_syntax_tree::{NodeNo, Tree};
 use std::alloc::{AllocError, Global};
 
-/// How many files and expansions there may be.
-const MOST_TREES: usize = 65_536;
-
-/// How many calls there may be from an expansion up to its file.
-const MOST_NESTED: u32 = 32;
-
-/// The tree of a file.
+/// An expansion, and the tree that its tokens are read as.
 #[derive(Drop)]
-pub(crate) struct FileTree {
-    pub(crate) file: u32,
-    pub(crate) tree: Tree,
+pub struct ReadExpansion {
+    pub expansion: Expansion,
+    pub tree: Tree,
 }
 
-/// An expansion, its tree, and how many calls there are up to its file.
+/// An expansion that is read, and how many calls there are up to its file.
 #[derive(Drop)]
 pub(crate) struct Made {
-    pub(crate) expansion: Expansion,
-    pub(crate) tree: Tree,
+    pub(crate) read: ReadExpansion,
     pub(crate) nesting: u32,
     /// Where its tokens begin in their text.
     pub(crate) starts: Vec<usize>,
@@ -79,7 +76,9 @@ fn call_at(tree: &Tree, node: NodeNo, own: &OwnNames) -> Option<Call>
 }
 
 /// The tree of tokens that are read as an expression, if they can be.
-fn expression(alloc: Global, tokens: &[ExpToken]) -> Result<Option<Tree>, AllocError> {
+fn expression(alloc: Global, tokens: &[ExpToken]) -> Result<Option<Tree>, AllocError>
+    ensures { IfOk result (λ read. IfSome read (λ tree. expansion_reading Expr tokens.now ≡ Ok tree)) }
+{
     match parse_tokens(alloc, ExpansionKind::Expr, tokens) {
         Ok(tree) => Ok(Some(tree)),
         Err(SyntaxError::Memory) => Err(AllocError),
@@ -92,26 +91,31 @@ fn made_of(
     alloc: Global,
     tree: u32,
     call: Call,
-    arguments: &[ArgumentToken],
+    arguments: Vec<ArgumentToken>,
     nesting: u32,
 ) -> Result<Option<Made>, AllocError>
-    ensures { IfOk result (λ made. (text : List ℕ) → AreSpelledArguments text arguments.now → IfSome made (λ one. IsExpansionIn tree text one.expansion)) }
+    ensures made { IfOk result (λ made. (text : List ℕ) → AreSpelledArguments text arguments.items → IfSome made (IsMadeIn tree text)) }
+    ensures tokens { IfOk result (λ made. IfSome made (λ one. map piece_of one.read.expansion.tokens.items ≡ expansion_of call.form (searched call.form arguments.items))) }
 {
-    if arguments.is_empty() {
+    let values = searched(call.form, arguments);
+    if values.is_empty() {
         return Ok(None);
     }
-    let tokens = expansion_tokens(alloc, call.form, arguments)?;
+    let tokens = expansion_tokens(alloc, call.form, values.as_slice())?;
     let starts = starts_of(alloc, tokens.as_slice())?;
     let Some(read) = expression(alloc, tokens.as_slice())? else {
         return Ok(None);
     };
+    let expansion = Expansion {
+        call: (tree, call.range),
+        kind: ExpansionKind::Expr,
+        tokens,
+    };
     Ok(Some(Made {
-        expansion: Expansion {
-            call: (tree, call.range),
-            kind: ExpansionKind::Expr,
-            tokens,
+        read: ReadExpansion {
+            expansion,
+            tree: read,
         },
-        tree: read,
         nesting,
         starts,
     }))
@@ -119,7 +123,7 @@ fn made_of(
 
 /// Adds an expansion, if there is one.
 fn add_made(made: &mut Vec<Made>, found: Option<Made>) -> Result<(), AllocError>
-    ensures expansions { OnOk result ((tree : ℕ) (text : List ℕ) → AreExpansionsIn tree text made.old.items → IfSome found (λ one. IsExpansionIn tree text one.expansion) → AreExpansionsIn tree text made.new.items) }
+    ensures made { OnOk result ((tree : ℕ) (text : List ℕ) → AreMadeIn tree text made.old.items → IfSome found (IsMadeIn tree text) → AreMadeIn tree text made.new.items) }
     ensures few { OnOk result (length made.new.items ≤ length made.old.items + 1) }
 {
     let Some(one) = found else {
@@ -129,43 +133,45 @@ fn add_made(made: &mut Vec<Made>, found: Option<Made>) -> Result<(), AllocError>
     Ok(())
 }
 
-/// Adds the expansion of the call that a node of a file is.
+/// Adds the expansion of the call that a node of a file's tree is.
 fn add_call_in_file(
     alloc: Global,
-    file: &FileTree,
+    file: u32,
+    tree: &Tree,
     node: NodeNo,
     own: &OwnNames,
     made: &mut Vec<Made>,
 ) -> Result<(), AllocError>
-    requires { HasNode file.now.tree node.0 }
-    ensures expansions { OnOk result (AreExpansionsIn file.now.file (source_of file.now.tree) made.old.items → AreExpansionsIn file.now.file (source_of file.now.tree) made.new.items) }
+    requires { HasNode tree.now node.0 }
+    ensures made { OnOk result (AreMadeIn file (source_of tree.now) made.old.items → AreMadeIn file (source_of tree.now) made.new.items) }
     ensures few { OnOk result (length made.new.items ≤ length made.old.items + 1) }
 {
-    let Some(call) = call_at(&file.tree, node, own) else {
+    let Some(call) = call_at(tree, node, own) else {
         return Ok(());
     };
-    let arguments = arguments_in_file(alloc, &file.tree, call.brackets)?;
-    let found = made_of(alloc, file.file, call, arguments.as_slice(), 1)?;
+    let arguments = arguments_in_file(alloc, tree, call.brackets)?;
+    let found = made_of(alloc, file, call, arguments, 1)?;
     add_made(made, found)?;
     Ok(())
 }
 
-/// The expansions of the calls in a file, at most `room`.
+/// The expansions of the calls in a file with this tree, at most `room`.
 fn made_in_file(
     alloc: Global,
-    file: &FileTree,
+    file: u32,
+    tree: &Tree,
     own: &OwnNames,
     room: usize,
 ) -> Result<Vec<Made>, AllocError>
-    ensures expansions { IfOk result (λ made. AreExpansionsIn file.now.file (source_of file.now.tree) made.items) }
+    ensures made { IfOk result (λ made. AreMadeIn file (source_of tree.now) made.items) }
     ensures few { IfOk result (λ made. length made.items ≤ room) }
 {
     let mut made = Vec::new(alloc);
-    for number in 0..file.tree.node_count() {
+    for number in 0..tree.node_count() {
         if made.len() >= room {
             break;
         }
-        add_call_in_file(alloc, file, NodeNo(number), own, &mut made)?;
+        add_call_in_file(alloc, file, tree, NodeNo(number), own, &mut made)?;
     }
     Ok(made)
 }
@@ -176,16 +182,16 @@ fn arguments_below(
     above: &Made,
     brackets: NodeNo,
 ) -> Result<Vec<ArgumentToken>, AllocError>
-    requires { HasNode above.now.tree brackets.0 }
-    ensures { IfOk result (λ tokens. (text : List ℕ) → AreSpelled text above.now.expansion.tokens.items → AreSpelledArguments text tokens.items) }
+    requires { HasNode above.now.read.tree brackets.0 }
+    ensures { IfOk result (λ tokens. (text : List ℕ) → AreSpelled text above.now.read.expansion.tokens.items → AreSpelledArguments text tokens.items) }
 {
-    let below = above.tree.tokens_below(brackets);
+    let below = above.read.tree.tokens_below(brackets);
     let first = below.start.saturating_add(1).min(below.end);
     let most = (below.end - first).saturating_sub(1) as usize;
-    let start = above.tree.range(brackets).start as usize;
-    let tokens = above.expansion.tokens.as_slice();
+    let start = above.read.tree.range(brackets).start as usize;
+    let tokens = above.read.expansion.tokens.as_slice();
     let handed_in = tokens_behind(tokens, above.starts.as_slice(), start, most);
-    let copies = arguments_in_expansion(alloc, &above.tree, first, handed_in)?;
+    let copies = arguments_in_expansion(alloc, &above.read.tree, first, handed_in)?;
     Ok(copies)
 }
 
@@ -198,16 +204,16 @@ fn add_call_below(
     own: &OwnNames,
     made: &mut Vec<Made>,
 ) -> Result<(), AllocError>
-    requires { HasNode above.now.tree node.0 }
-    ensures expansions { OnOk result ((text : List ℕ) → AreSpelled text above.now.expansion.tokens.items → AreExpansionsIn number text made.old.items → AreExpansionsIn number text made.new.items) }
+    requires { HasNode above.now.read.tree node.0 }
+    ensures made { OnOk result ((text : List ℕ) → AreSpelled text above.now.read.expansion.tokens.items → AreMadeIn number text made.old.items → AreMadeIn number text made.new.items) }
     ensures few { OnOk result (length made.new.items ≤ length made.old.items + 1) }
 {
-    let Some(call) = call_at(&above.tree, node, own) else {
+    let Some(call) = call_at(&above.read.tree, node, own) else {
         return Ok(());
     };
     let arguments = arguments_below(alloc, above, call.brackets)?;
     let nesting = above.nesting.saturating_add(1);
-    let found = made_of(alloc, number, call, arguments.as_slice(), nesting)?;
+    let found = made_of(alloc, number, call, arguments, nesting)?;
     add_made(made, found)?;
     Ok(())
 }
@@ -220,11 +226,11 @@ fn made_below(
     own: &OwnNames,
     room: usize,
 ) -> Result<Vec<Made>, AllocError>
-    ensures expansions { IfOk result (λ made. (text : List ℕ) → AreSpelled text above.now.expansion.tokens.items → AreExpansionsIn number text made.items) }
+    ensures made { IfOk result (λ made. (text : List ℕ) → AreSpelled text above.now.read.expansion.tokens.items → AreMadeIn number text made.items) }
     ensures few { IfOk result (λ made. length made.items ≤ room) }
 {
     let mut made = Vec::new(alloc);
-    for node in 0..above.tree.node_count() {
+    for node in 0..above.read.tree.node_count() {
         if made.len() >= room {
             break;
         }
@@ -233,50 +239,11 @@ fn made_below(
     Ok(made)
 }
 
-/// The tree of a file, if it has one.
-fn read_file(alloc: Global, file: u32, text: &str) -> Result<Option<FileTree>, AllocError>
-    ensures { IfOk result (λ read. IfSome read (λ one. (one.file ≡ file) × (source_of one.tree ≡ text.now))) }
-{
-    match parse_file(alloc, text) {
-        Ok(tree) => Ok(Some(FileTree { file, tree })),
-        Err(SyntaxError::Memory) => Err(AllocError),
-        Err(_) => Ok(None),
-    }
-}
-
-/// Adds the tree of a file, if it has one.
-fn add_read(
-    alloc: Global,
-    file: u32,
-    text: &str,
-    trees: &mut Vec<FileTree>,
-) -> Result<(), AllocError>
-    ensures { OnOk result ((texts : List (List ℕ)) → file < length texts → slice_index_or texts file [] ≡ text.now → All (IsReadOf texts) trees.old.items → All (IsReadOf texts) trees.new.items) }
-{
-    let Some(one) = read_file(alloc, file, text)? else {
-        return Ok(());
-    };
-    trees.push(one)?;
-    Ok(())
-}
-
-/// The trees of the files that have one.
-fn read_files(alloc: Global, files: &[String]) -> Result<Vec<FileTree>, AllocError>
-    requires { length files.now ≤ most_trees }
-    ensures { IfOk result (λ trees. All (IsReadOf (map string_bytes files.now)) trees.items) }
-{
-    let mut trees = Vec::new(alloc);
-    for (file, text) in files.iter().enumerate() {
-        add_read(alloc, file as u32, text.as_str(), &mut trees)?;
-    }
-    Ok(trees)
-}
-
 /// The macros of the standard library in whose place the files have others.
-fn own_names(alloc: Global, trees: &[FileTree]) -> Result<OwnNames, AllocError> {
+fn own_names(alloc: Global, files: &[Tree]) -> Result<OwnNames, AllocError> {
     let mut own = OwnNames::new(alloc);
-    for file in trees {
-        own.add_file(&file.tree)?;
+    for tree in files {
+        own.add_file(tree)?;
     }
     Ok(own)
 }
@@ -284,33 +251,36 @@ fn own_names(alloc: Global, trees: &[FileTree]) -> Result<OwnNames, AllocError> 
 /// Adds the expansions of the calls in a file, at most so many with those before.
 fn add_file(
     alloc: Global,
-    file: &FileTree,
+    file: u32,
+    tree: &Tree,
     own: &OwnNames,
     most: usize,
     made: &mut Vec<Made>,
 ) -> Result<(), AllocError>
     requires { length made.old.items ≤ most }
-    ensures expansions { OnOk result ((texts : List (List ℕ)) → IsReadOf texts file.now → AreArguments texts (expansions_of made.old.items) → AreArguments texts (expansions_of made.new.items)) }
+    ensures made { OnOk result ((texts : List (List ℕ)) → IsTextAt texts file (source_of tree.now) → AreMade texts made.old.items → AreMade texts made.new.items) }
     ensures few { OnOk result (length made.new.items ≤ most) }
 {
-    let mut new = made_in_file(alloc, file, own, most - made.len())?;
+    let mut new = made_in_file(alloc, file, tree, own, most - made.len())?;
     made.append(&mut new)?;
     Ok(())
 }
 
 /// The expansions of the calls in files, at most so many.
+#[tactic(auto, using(crate::proofs::Tops::none_made))]
 fn made_in_files(
     alloc: Global,
-    trees: &[FileTree],
+    files: &[Tree],
     own: &OwnNames,
     most: usize,
 ) -> Result<Vec<Made>, AllocError>
-    ensures expansions { IfOk result (λ made. (texts : List (List ℕ)) → All (IsReadOf texts) trees.now → AreArguments texts (expansions_of made.items)) }
+    requires { length files.now ≤ most_trees }
+    ensures made { IfOk result (λ made. AreMade (map source_of files.now) made.items) }
     ensures few { IfOk result (λ made. length made.items ≤ most) }
 {
     let mut made = Vec::new(alloc);
-    for file in trees {
-        add_file(alloc, file, own, most, &mut made)?;
+    for (file, tree) in files.iter().enumerate() {
+        add_file(alloc, file as u32, tree, own, most, &mut made)?;
     }
     Ok(made)
 }
@@ -327,7 +297,7 @@ fn add_below(
     requires next { next < length made.old.items }
     requires few { length made.old.items ≤ most }
     requires numbers { files + most ≤ most_trees }
-    ensures expansions { OnOk result ((texts : List (List ℕ)) → length texts ≡ files → AreArguments texts (expansions_of made.old.items) → AreArguments texts (expansions_of made.new.items)) }
+    ensures made { OnOk result ((texts : List (List ℕ)) → length texts ≡ files → AreMade texts made.old.items → AreMade texts made.new.items) }
     ensures few { OnOk result (length made.new.items ≤ most) }
 {
     if made[next].nesting >= MOST_NESTED {
@@ -349,7 +319,7 @@ fn add_nested(
 ) -> Result<(), AllocError>
     requires few { length made.old.items ≤ most }
     requires numbers { files + most ≤ most_trees }
-    ensures expansions { OnOk result ((texts : List (List ℕ)) → length texts ≡ files → AreArguments texts (expansions_of made.old.items) → AreArguments texts (expansions_of made.new.items)) }
+    ensures made { OnOk result ((texts : List (List ℕ)) → length texts ≡ files → AreMade texts made.old.items → AreMade texts made.new.items) }
     ensures few { OnOk result (length made.new.items ≤ most) }
 {
     let mut next = 0;
@@ -360,37 +330,39 @@ fn add_nested(
     Ok(())
 }
 
-/// The expansions alone.
-fn without_trees(alloc: Global, made: Vec<Made>) -> Result<Vec<Expansion>, AllocError>
-    ensures { IfOk result (λ expansions. expansions.items ≡ expansions_of made.items) }
+/// The expansions with their trees alone.
+fn reads(alloc: Global, made: Vec<Made>) -> Result<Vec<ReadExpansion>, AllocError>
+    ensures { IfOk result (λ reads. reads.items ≡ map (λ one. one.read) made.items) }
 {
-    let mut expansions = Vec::with_capacity(alloc, made.len())?;
+    let mut reads = Vec::with_capacity(alloc, made.len())?;
     for one in made {
-        expansions.push(one.expansion)?;
+        reads.push(one.read)?;
     }
-    Ok(expansions)
+    Ok(reads)
 }
 
 /// What the calls of the standard library's macros stand for whose arguments are expressions: expansions for a workspace of files
-/// with these texts. Calls in the arguments of others have theirs too. File number i has tree i there.
+/// with these trees, each with the tree that it is read as. Calls in the arguments of others have theirs too. File number i has
+/// tree i there.
 ///
-/// `println!("{}", a)` stands for the tuple `("{}",a,)`, `vec![a; n]` for `[a;n]`, and `matches!(a, p)` for
-/// `match a{p=>true,_=>false}`. Only the arguments' tokens have origins, so a match stands in an argument. A call has none whose
-/// arguments can't be read so, nor where a file defines a macro of that name or brings one in that isn't the standard library's.
+/// `println!("{}", a)` stands for the tuple `(a,)`, `vec![a; n]` for `[a;n]`, and `matches!(a, p)` for
+/// `match a{p=>true,_=>false}`. Only the arguments' tokens have origins, so a match stands in an argument. A format string that
+/// is one token is no argument. A call has no expansion without arguments, where they can't be read so, nor where a file defines
+/// a macro of that name or brings one in that isn't the standard library's.
 ///
 /// A workspace has at most 65,536 trees, and at most 32 calls above one: calls beyond that have none.
-pub fn macro_arguments(alloc: Global, files: &[String]) -> Result<Vec<Expansion>, AllocError>
-    ensures arguments { IfOk result (λ expansions. AreArguments (map string_bytes files.now) expansions.items) }
-    ensures few { IfOk result (λ expansions. length files.now ≤ most_trees → length files.now + length expansions.items ≤ most_trees) }
+pub fn macro_arguments(alloc: Global, files: &[Tree]) -> Result<Vec<ReadExpansion>, AllocError>
+    ensures arguments { IfOk result (λ made. AreArguments (map source_of files.now) (expansions_of made.items)) }
+    ensures read { IfOk result (λ made. All HasItsTree made.items) }
+    ensures few { IfOk result (λ made. length files.now ≤ most_trees → length files.now + length made.items ≤ most_trees) }
 {
     if files.len() > MOST_TREES {
         return Ok(Vec::new(alloc));
     }
     let most = MOST_TREES - files.len();
-    let trees = read_files(alloc, files)?;
-    let own = own_names(alloc, trees.as_slice())?;
-    let mut made = made_in_files(alloc, trees.as_slice(), &own, most)?;
+    let own = own_names(alloc, files)?;
+    let mut made = made_in_files(alloc, files, &own, most)?;
     add_nested(alloc, files.len(), &own, most, &mut made)?;
-    let expansions = without_trees(alloc, made)?;
-    Ok(expansions)
+    let reads = reads(alloc, made)?;
+    Ok(reads)
 }

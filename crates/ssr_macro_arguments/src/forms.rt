@@ -48,7 +48,7 @@ fn is_outer(mark: SyntaxKind, depth: usize, kind: SyntaxKind) -> bool
 }
 
 /// How many tokens stand in front of the first one of a kind that stands outside of brackets; all, where there is none.
-fn front_length(mark: SyntaxKind, arguments: &[ArgumentToken]) -> usize
+pub(crate) fn front_length(mark: SyntaxKind, arguments: &[ArgumentToken]) -> usize
     ensures value { result ≡ front_length mark 0 arguments.now }
     ensures within { result ≤ length arguments.now }
 {
@@ -213,7 +213,7 @@ fn write_expansion(
     ensures { OnOk result (written writer.new ≡ written writer.old ++ expansion_of form arguments.now) }
 {
     match form {
-        Form::Named => write_named(writer, arguments),
+        Form::Formatted(_) => write_named(writer, arguments),
         Form::Values => write_values(writer, arguments),
         Form::Elements => {
             if front_length(SyntaxKind::SEMICOLON, arguments) < arguments.len() {

@@ -4,11 +4,10 @@
 
 mod arguments;
 mod expanding;
+mod format_strings;
 mod forms;
 mod macros;
 mod own_names;
-#[cfg(test)]
-mod tests;
 mod writer;
 
-pub use expanding::macro_arguments;
+pub use expanding::{ReadExpansion, macro_arguments};

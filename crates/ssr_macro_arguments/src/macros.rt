@@ -3,8 +3,8 @@
 /// How the arguments of a macro are read.
 #[derive(Clone, Copy)]
 pub(crate) enum Form {
-    /// Values, of which one may have a name and `=` in front: `println!("{a}", a = 1)`.
-    Named,
+    /// So many values, a format string, and values that may have a name and `=` in front: `println!("{a}", a = 1)`.
+    Formatted(usize),
     /// Values.
     Values,
     /// Values, or a value, `;` and how often it stands there.
@@ -16,12 +16,13 @@ pub(crate) enum Form {
 /// How the arguments of the macro with this name are read.
 pub(crate) fn form_of(name: &str) -> Option<Form> {
     match name {
-        "assert" | "assert_eq" | "assert_ne" | "debug_assert" | "debug_assert_eq" => {
-            Some(Form::Named)
+        "print" | "println" | "eprint" | "eprintln" => Some(Form::Formatted(0)),
+        "format" | "format_args" => Some(Form::Formatted(0)),
+        "panic" | "todo" | "unimplemented" | "unreachable" => Some(Form::Formatted(0)),
+        "write" | "writeln" | "assert" | "debug_assert" => Some(Form::Formatted(1)),
+        "assert_eq" | "assert_ne" | "debug_assert_eq" | "debug_assert_ne" => {
+            Some(Form::Formatted(2))
         }
-        "debug_assert_ne" | "print" | "println" | "eprint" | "eprintln" => Some(Form::Named),
-        "format" | "format_args" | "write" | "writeln" => Some(Form::Named),
-        "panic" | "todo" | "unimplemented" | "unreachable" => Some(Form::Named),
         "dbg" => Some(Form::Values),
         "vec" => Some(Form::Elements),
         "matches" => Some(Form::Matched),

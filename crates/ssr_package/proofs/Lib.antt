@@ -1,2 +1,5 @@
 mod PathLaws
 mod CandidateLaws
+mod Fronts
+mod CrateNames
+mod Trees

@@ -7,3 +7,5 @@ pub mod Places
 pub mod Manifest
 pub mod Globs
 pub mod Candidates
+pub mod Crates
+pub mod ModuleTree

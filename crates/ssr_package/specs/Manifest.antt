@@ -18,6 +18,10 @@ is_off key table = option_map_or not (option_and_then as_bool (get_member key ta
 abbrev pub package_name : Members → Option (List ℕ)
 package_name manifest = option_and_then (text_at (codes "name")) (table_at (codes "package") manifest)
 
+-- `name` of `[lib]`
+abbrev pub library_name : Members → Option (List ℕ)
+library_name manifest = option_and_then (text_at (codes "name")) (table_at (codes "lib") manifest)
+
 -- `path` of `[lib]`
 abbrev pub library_path : Members → Option (List ℕ)
 library_path manifest = option_and_then (text_at (codes "path")) (table_at (codes "lib") manifest)

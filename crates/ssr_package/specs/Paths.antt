@@ -1,6 +1,6 @@
 -- Paths as texts: parts with slashes between them.
-use Rattle.std.specs.Prelude.{ℕ, ◌-◌, ◌==◌, ◌||◌, Bool, if◌then◌else◌, List, [], ◌∷◌, ◌++◌, Option, Some, None, Vec, length, map, fold, take, codes, slice_index, option_map}
-use Rattle.std.specs.List.{slice_split}
+use Rattle.std.specs.Prelude.{ℕ, ◌-◌, ◌==◌, ◌||◌, nat_eq, Bool, if◌then◌else◌, List, [], ◌∷◌, ◌++◌, Option, Some, None, Vec, length, map, fold, take, codes, slice_index, option_map}
+use Rattle.std.specs.List.{slice_split, ends_with}
 use Rattle.std.specs.Str.{bytes_eq}
 use Rattle.std.specs.declared.alloc.Global.{Global}
 use denote.Ref.{Bor}
@@ -43,6 +43,12 @@ walked folder path = fold step folder path
 
 abbrev pub is_absolute : Text → Bool
 is_absolute path = slice_index path 0 == 47
+
+-- the path of a name in a folder of the file system
+abbrev pub path_in : Text → Text → Text
+path_in folder name =
+    if is_absolute name then name else
+    if ends_with nat_eq folder (codes "/") then folder ++ name else within folder name
 
 -- the path without empty parts, `.` and `..` that a path stands for from a folder on, if it stays inside
 abbrev pub normal : Text → Text → Option Text

@@ -2,8 +2,8 @@
 
 use crate::package_error::PackageError;
 use crate::packages::MANIFEST;
+use crate::paths::path_in;
 use crate::places::parent;
-use crate::root::path_in;
 use std::alloc::AllocError;
 use std::fs;
 use std::rt::Files;

@@ -2,12 +2,14 @@
 #![tactic(auto)]
 
 mod candidates;
+mod crates;
 mod finding;
 mod given;
 mod globs;
 mod manifest;
 mod marks;
 mod members;
+mod module_tree;
 mod modules;
 mod notes;
 mod package_error;
@@ -16,14 +18,17 @@ mod paths;
 mod places;
 mod reading;
 mod root;
+mod source_file;
 mod targets;
-#[cfg(test)]
-mod tests;
 mod tokens;
 
+pub use crates::{Crate, Edition};
 pub use finding::find_manifest;
 pub use given::given_files;
+pub use module_tree::{Declaration, Module, ModuleTree, Origin};
 pub use notes::{Note, Trouble};
 pub use package_error::PackageError;
 pub use packages::package_files;
+pub use paths::path_in;
 pub use reading::PackageFiles;
+pub use source_file::SourceFile;

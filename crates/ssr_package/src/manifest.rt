@@ -59,6 +59,16 @@ pub(crate) fn package_name(manifest: &Table) -> Option<&str>
     }
 }
 
+/// The name of a manifest's library, where it gives one.
+pub(crate) fn library_name(manifest: &Table) -> Option<&str>
+    ensures { option_map (λ s. s.now) result ≡ spec.library_name (table_view manifest.now) }
+{
+    match table_at(manifest, "lib") {
+        Some(library) => text_at(library, "name"),
+        None => None,
+    }
+}
+
 /// The path of a manifest's library, where it gives one.
 pub(crate) fn library_path(manifest: &Table) -> Option<&str>
     ensures { option_map (λ s. s.now) result ≡ spec.library_path (table_view manifest.now) }

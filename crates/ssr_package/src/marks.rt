@@ -15,7 +15,7 @@ pub(crate) enum Mark {
     Macro,
     /// `#[key = "value"]`: the key and the value, with its quotes.
     Attribute(TextRange, TextRange),
-    /// `, key = "value"`, as in `#[cfg_attr(test, path = "value")]`: the key and the value, with its quotes.
+    /// `, key = "value"`, as in `#[cfg_attr(unix, path = "value")]`: the key and the value, with its quotes.
     Condition(TextRange, TextRange),
     /// `{`
     Opens,

@@ -1,5 +1,6 @@
 //! The members of a workspace.
 
+use crate::crates::{Edition, package_edition, workspace_edition};
 use crate::globs::fits;
 use crate::manifest::{items_at, package_name, table_at};
 use crate::notes::Trouble;
@@ -20,20 +21,23 @@ impl<R: Files + AllocGlobal> Reading<'_, R> {
         let Some(workspace) = table_at(manifest, "workspace") else {
             return Ok(packages);
         };
+        let edition = workspace_edition(manifest);
         for member in items_at(workspace, "members") {
             if let Some(pattern) = member.as_str() {
-                self.add_members(&mut packages, pattern, items_at(workspace, "exclude"))?;
+                let excluded = items_at(workspace, "exclude");
+                self.add_members(&mut packages, pattern, excluded, edition)?;
             }
         }
         Ok(packages)
     }
 
-    /// Adds the members of a path, or of a path whose last part is a pattern.
+    /// Adds the members of a path, or of a path whose last part is a pattern. The edition is that of the workspace.
     fn add_members(
         &mut self,
         packages: &mut Vec<Package>,
         pattern: &str,
         excluded: &[Value],
+        edition: Option<Edition>,
     ) -> Result<(), PackageError> {
         let Some(path) = normal_path(self.alloc(), "", pattern)? else {
             return self.note(pattern, Trouble::Outside);
@@ -41,7 +45,7 @@ impl<R: Files + AllocGlobal> Reading<'_, R> {
         let folder = file_folder(path.as_str());
         let last = last_part(path.as_str());
         if !last.contains('*') {
-            return self.add_member(packages, path.as_str(), true);
+            return self.add_member(packages, path.as_str(), true, edition);
         }
         if self.root().standing(folder)? != Standing::Folder {
             return self.note(folder, Trouble::Missing);
@@ -53,7 +57,7 @@ impl<R: Files + AllocGlobal> Reading<'_, R> {
         for entry in &entries {
             if self.is_member(folder, last, entry, excluded)? {
                 let name = within(self.alloc(), folder, entry.name.as_str())?;
-                self.add_member(packages, name.as_str(), false)?;
+                self.add_member(packages, name.as_str(), false, edition)?;
             }
         }
         Ok(())
@@ -99,6 +103,7 @@ impl<R: Files + AllocGlobal> Reading<'_, R> {
         packages: &mut Vec<Package>,
         folder: &str,
         must: bool,
+        edition: Option<Edition>,
     ) -> Result<(), PackageError> {
         let name = within(self.alloc(), folder, "Cargo.toml")?;
         if !self.is_new(name.as_str())? {
@@ -112,7 +117,12 @@ impl<R: Files + AllocGlobal> Reading<'_, R> {
         let manifest = read_manifest(self.root(), name.as_str())?;
         if package_name(&manifest).is_some() {
             let folder = String::from_str(self.alloc(), folder)?;
-            packages.push(Package { folder, manifest })?;
+            let edition = package_edition(&manifest, edition);
+            packages.push(Package {
+                folder,
+                manifest,
+                edition,
+            })?;
         }
         Ok(())
     }

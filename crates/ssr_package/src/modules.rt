@@ -10,6 +10,8 @@ use std::alloc::{AllocError, Global};
 pub(crate) struct Declared<'a> {
     /// The module's name.
     pub name: &'a str,
+    /// The names of the modules with a body that it stands in, from the outermost.
+    pub around: Vec<&'a str>,
     /// The files that it may be.
     pub candidates: Vec<Candidate>,
     /// Whether it stands in a macro's braces, where it may stand for no module.
@@ -26,6 +28,14 @@ enum Block {
     Module,
     /// A macro's braces, or anything else.
     Other,
+}
+
+/// A module with a body.
+#[derive(Drop)]
+struct Inline<'a> {
+    name: &'a str,
+    /// The folder of its modules; `None` is one that lies outside.
+    folder: Option<String>,
 }
 
 /// What was said since the last `;`, `{` or `}`.
@@ -64,8 +74,8 @@ struct ModuleReader<'a> {
     below: &'a str,
     /// What the braces that are open belong to, from the outermost.
     blocks: Vec<Block>,
-    /// The folders of the inline modules that are open, from the outermost; `None` is one that lies outside.
-    folders: Vec<Option<String>>,
+    /// The modules with a body that are open, from the outermost.
+    inlines: Vec<Inline<'a>>,
     /// How many braces are open around the outermost macro's.
     around_macro: Option<usize>,
     said: Said<'a>,
@@ -86,7 +96,7 @@ pub(crate) fn declared_modules<'a>(
         beside,
         below,
         blocks: Vec::new(alloc),
-        folders: Vec::new(alloc),
+        inlines: Vec::new(alloc),
         around_macro: None,
         said: Said::new(alloc),
         declared: Vec::new(alloc),
@@ -139,7 +149,7 @@ impl<'a> ModuleReader<'a> {
     fn open(&mut self) -> Result<(), AllocError> {
         if let Some(name) = self.said.module {
             let folder = self.inner_folder(name)?;
-            self.folders.push(folder)?;
+            self.inlines.push(Inline { name, folder })?;
             self.blocks.push(Block::Module)?;
         } else {
             if self.said.is_macro && self.around_macro.is_none() {
@@ -153,7 +163,7 @@ impl<'a> ModuleReader<'a> {
 
     fn close(&mut self) {
         if matches!(self.blocks.pop(), Some(Block::Module)) {
-            let _ = self.folders.pop();
+            let _ = self.inlines.pop();
         }
         if self.around_macro == Some(self.blocks.len()) {
             self.around_macro = None;
@@ -161,7 +171,7 @@ impl<'a> ModuleReader<'a> {
         self.said = Said::new(self.alloc);
     }
 
-    /// The folder of an inline module's modules, unless its path is too long for any file to be there.
+    /// The folder of the modules of a module with a body, unless its path is too long for any file to be there.
     fn inner_folder(&self, name: &str) -> Result<Option<String>, AllocError> {
         let folder = match self.said.paths.first() {
             Some(path) => at_path(self.alloc, self.path_folder(), path)?,
@@ -185,8 +195,10 @@ impl<'a> ModuleReader<'a> {
                 paths,
                 is_certain,
             )?;
+            let around = self.around()?;
             self.declared.push(Declared {
                 name,
+                around,
                 candidates,
                 in_macro: self.around_macro.is_some(),
             })?;
@@ -195,21 +207,33 @@ impl<'a> ModuleReader<'a> {
         Ok(())
     }
 
+    /// The names of the modules with a body that are open.
+    fn around(&self) -> Result<Vec<&'a str>, AllocError> {
+        let mut names = Vec::with_capacity(self.alloc, self.inlines.len())?;
+        for inline in &self.inlines {
+            names.push(inline.name)?;
+        }
+        Ok(names)
+    }
+
     /// The folder that a `path` counts from.
     fn path_folder(&self) -> Option<&str> {
-        match self.folders.last() {
-            Some(Some(folder)) => Some(folder.as_str()),
-            Some(None) => None,
-            None => Some(self.beside),
-        }
+        self.inner_or(self.beside)
     }
 
     /// The folder that names are looked for in.
     fn name_folder(&self) -> Option<&str> {
-        match self.folders.last() {
-            Some(Some(folder)) => Some(folder.as_str()),
-            Some(None) => None,
-            None => Some(self.below),
+        self.inner_or(self.below)
+    }
+
+    /// The folder of the innermost module with a body, or else this one.
+    fn inner_or<'s>(&'s self, outer: &'s str) -> Option<&'s str> {
+        match self.inlines.last() {
+            Some(inline) => match &inline.folder {
+                Some(folder) => Some(folder.as_str()),
+                None => None,
+            },
+            None => Some(outer),
         }
     }
 }

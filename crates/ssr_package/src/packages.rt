@@ -1,11 +1,13 @@
 //! The files of a package, or of all packages of a workspace.
 
+use crate::crates::{package_edition, workspace_edition};
 use crate::finding::{absolute, manifest_above};
 use crate::manifest::{package_name, table_at};
 use crate::package_error::PackageError;
+use crate::paths::path_in;
 use crate::places::{file_folder, last_part, parent};
 use crate::reading::{PackageFiles, Reading};
-use crate::root::{Root, path_in};
+use crate::root::Root;
 use crate::targets::Package;
 use std::alloc::Global;
 use std::rt::Files;
@@ -43,9 +45,11 @@ fn own_files<R: Files + AllocGlobal>(
 ) -> Result<PackageFiles, PackageError> {
     let mut reading = Reading::new(root);
     if package_name(&table).is_some() {
+        let edition = package_edition(&table, workspace_edition(&table));
         let package = Package {
             folder: String::new(alloc),
             manifest: table,
+            edition,
         };
         reading.reach_targets(&package)?;
     } else if table_at(&table, "workspace").is_some() {

@@ -16,6 +16,22 @@ pub(crate) fn within(alloc: Global, folder: &str, name: &str) -> Result<String, 
     Ok(path)
 }
 
+/// The path of a name in a folder of the file system; an absolute name is its own path, and the empty folder is the current one.
+#[tactic(auto, using(std::proofs::lemmas::Str::Pattern::ends_text))]
+pub fn path_in(alloc: Global, folder: &str, name: &str) -> Result<String, AllocError>
+    ensures { IfOk result (λ path. string_bytes path ≡ spec.path_in folder.now name.now) }
+{
+    if is_absolute(name) {
+        return String::from_str(alloc, name);
+    }
+    if !folder.ends_with("/") {
+        return within(alloc, folder, name);
+    }
+    let mut path = String::from_str(alloc, folder)?;
+    path.push_str(name)?;
+    Ok(path)
+}
+
 /// The path, without empty parts, `.` and `..`, that a path stands for from a folder on. `None`: it leads out of the folder that
 /// paths count from, or it is absolute.
 pub(crate) fn normal_path(

@@ -38,6 +38,16 @@ pub(crate) fn last_part(path: &str) -> &str
     }
 }
 
+/// The last part of a path without its ending.
+pub(crate) fn stem(path: &str) -> &str
+    ensures { result.now ≡ spec.stem path.now }
+{
+    match Path::new(path).file_stem() {
+        Some(stem) => stem,
+        None => "",
+    }
+}
+
 /// The folder of a file's modules: `src` of `src/lib.rs` and `src/mod.rs`, which own their folders, `src/a` of `src/a.rs`.
 pub(crate) fn module_folder(
     alloc: Global,
@@ -50,10 +60,7 @@ pub(crate) fn module_folder(
     if owns_folder {
         return String::from_str(alloc, folder);
     }
-    match Path::new(name).file_stem() {
-        Some(stem) => within(alloc, folder, stem),
-        None => within(alloc, folder, ""),
-    }
+    within(alloc, folder, stem(name))
 }
 
 /// Whether a name lies neither below `target` nor below `vendor`.
@@ -87,4 +94,12 @@ pub(crate) fn default_target(
     } else {
         Ok(None)
     }
+}
+
+/// The name of the target that a file or a folder in a folder of targets makes.
+pub(crate) fn target_name(entry: &Entry) -> &str
+    ensures { result.now ≡ spec.target_name (string_bytes entry.now.name) entry.now.is_folder }
+{
+    let name = entry.name.as_str();
+    if entry.is_folder { name } else { stem(name) }
 }

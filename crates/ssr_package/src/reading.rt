@@ -1,15 +1,17 @@
 //! The files of a run, as they are reached.
 
+use crate::crates::Crate;
 use crate::marks::marks;
+use crate::module_tree::ModuleTree;
 use crate::modules::{Declared, declared_modules};
 use crate::notes::{Note, Trouble};
 use crate::package_error::PackageError;
 use crate::places::{file_folder, is_ours, module_folder};
 use crate::root::{Root, Standing};
-use crate::tokens::solid_tokens;
-use ssr_set_aside::SourceFile;
-use std::alloc::Global;
-use std::collections::{BTreeMap, BTreeSet, VecDeque};
+use crate::source_file::SourceFile;
+use crate::tokens::{behind_front, solid_tokens};
+use std::alloc::{AllocError, Global};
+use std::collections::{BTreeMap, BTreeSet};
 use std::rt::Files;
 
 /// The most files and folders that a run looks at.
@@ -22,24 +24,29 @@ pub struct PackageFiles {
     pub folder: String,
     /// The files that were read, in the order of their names.
     pub files: Vec<SourceFile>,
+    /// The modules that have files, and which declares which.
+    pub modules: ModuleTree,
     /// What was passed over.
     pub notes: Vec<Note>,
 }
 
-/// A file that is to be read.
-#[derive(Drop)]
-struct Reached {
-    name: String,
-    /// Whether its modules lie in its own folder.
-    owns_folder: bool,
+/// What stands at a name that is reached.
+#[derive(Clone, Copy, Debug, PartialEq, Eq)]
+enum Found {
+    /// A file that is to be read.
+    New,
+    /// Something that was reached before, or that is passed over.
+    Old,
+    Nothing,
 }
 
-/// A run: the files that were reached, those of them that are still to be read, and the texts of the others.
+/// A run: the names that were reached, the modules that have files, of which some are still to be read, and the texts of the
+/// others.
 #[derive(Drop)]
 pub(crate) struct Reading<'r, R> {
     root: Root<'r, R>,
     reached: BTreeSet<String>,
-    work: VecDeque<Reached>,
+    modules: ModuleTree,
     texts: BTreeMap<String, String>,
     notes: Vec<Note>,
 }
@@ -51,7 +58,7 @@ impl<'r, R: Files + AllocGlobal> Reading<'r, R> {
         Reading {
             root,
             reached: BTreeSet::new(alloc),
-            work: VecDeque::new(alloc),
+            modules: ModuleTree::new(alloc),
             texts: BTreeMap::new(alloc),
             notes: Vec::new(alloc),
         }
@@ -76,6 +83,7 @@ impl<'r, R: Files + AllocGlobal> Reading<'r, R> {
         Ok(PackageFiles {
             folder,
             files,
+            modules: self.modules,
             notes: self.notes,
         })
     }
@@ -97,7 +105,7 @@ impl<'r, R: Files + AllocGlobal> Reading<'r, R> {
         Ok(true)
     }
 
-    /// Reads a file, unless it was reached before, and not what its `mod` items reach.
+    /// Reads a file of no crate that is known, unless it was reached before, and not what its `mod` items reach.
     pub(crate) fn read_alone(&mut self, name: String) -> Result<(), PackageError> {
         if !self.is_new(name.as_str())? {
             return Ok(());
@@ -107,6 +115,8 @@ impl<'r, R: Files + AllocGlobal> Reading<'r, R> {
         }
         match self.root.text(name.as_str())? {
             Ok(text) => {
+                let copy = String::from_str(self.alloc(), name.as_str())?;
+                self.modules.add_root(copy, None)?;
                 self.texts.insert(name, text)?;
                 Ok(())
             }
@@ -114,68 +124,81 @@ impl<'r, R: Files + AllocGlobal> Reading<'r, R> {
         }
     }
 
-    /// Reaches a file, if one is there: tells whether something is.
-    pub(crate) fn reach(&mut self, name: String, owns_folder: bool) -> Result<bool, PackageError> {
-        let standing = self.root.standing(name.as_str())?;
-        if matches!(standing, Standing::Missing | Standing::Folder) {
-            return Ok(false);
+    /// Reaches the file that a crate begins with, if one is there: tells whether something is.
+    pub(crate) fn reach_root(&mut self, name: String, of: Crate) -> Result<bool, PackageError> {
+        let found = self.look(name.as_str())?;
+        if found == Found::New {
+            self.modules.add_root(name, Some(of))?;
         }
-        if !self.is_new(name.as_str())? {
-            return Ok(true);
+        Ok(found != Found::Nothing)
+    }
+
+    /// Looks what stands at a name, which is then reached. Why a file is passed over is noted.
+    fn look(&mut self, name: &str) -> Result<Found, PackageError> {
+        let standing = self.root.standing(name)?;
+        if matches!(standing, Standing::Missing | Standing::Folder) {
+            return Ok(Found::Nothing);
+        }
+        if !self.is_new(name)? {
+            return Ok(Found::Old);
         }
         match standing.trouble() {
-            Some(trouble) => self.note(name.as_str(), trouble)?,
-            None if !is_ours(name.as_str()) => self.note(name.as_str(), Trouble::NotOurs)?,
-            None => self.work.push_back(Reached { name, owns_folder })?,
+            Some(trouble) => self.note(name, trouble)?,
+            None if !is_ours(name) => self.note(name, Trouble::NotOurs)?,
+            None => return Ok(Found::New),
         }
-        Ok(true)
+        Ok(Found::Old)
     }
 
     /// Reads the files that were reached, and those that they reach.
     pub(crate) fn read_reached(&mut self) -> Result<(), PackageError> {
         for _ in 0..LIMIT {
-            match self.work.pop_front() {
-                Some(file) => self.read(file)?,
-                None => return Ok(()),
+            if !self.modules.go_on() {
+                return Ok(());
             }
+            self.read_here()?;
         }
         Err(PackageError::TooMany)
     }
 
-    fn read(&mut self, file: Reached) -> Result<(), PackageError> {
-        match self.root.text(file.name.as_str())? {
+    /// Reads the file of the module that the run has come to.
+    fn read_here(&mut self) -> Result<(), PackageError> {
+        let alloc = self.alloc();
+        let Some(module) = self.modules.here() else {
+            return Ok(());
+        };
+        let name = String::from_str(alloc, module.file.as_str())?;
+        let below = module_folder(alloc, name.as_str(), module.owns_folder)?;
+        match self.root.text(name.as_str())? {
             Ok(text) => {
-                self.follow(&file, text.as_str())?;
-                self.texts.insert(file.name, text)?;
+                self.follow(name.as_str(), below.as_str(), text.as_str())?;
+                self.texts.insert(name, text)?;
                 Ok(())
             }
-            Err(trouble) => self.note(file.name.as_str(), trouble),
+            Err(trouble) => self.note(name.as_str(), trouble),
         }
     }
 
-    /// Reaches the files of a file's `mod` items.
-    fn follow(&mut self, file: &Reached, text: &str) -> Result<(), PackageError> {
+    /// Reaches the files of a file's `mod` items. Those of its modules lie in the folder `below`.
+    fn follow(&mut self, name: &str, below: &str, text: &str) -> Result<(), PackageError> {
         let alloc = self.alloc();
-        let name = file.name.as_str();
+        let text = behind_front(text);
         let tokens = solid_tokens(alloc, text)?;
         let marks = marks(alloc, &tokens)?;
-        let below = module_folder(alloc, name, file.owns_folder)?;
-        let declared = declared_modules(alloc, text, file_folder(name), below.as_str(), &marks)?;
-        for module in declared {
+        for module in &declared_modules(alloc, text, file_folder(name), below, &marks)? {
             self.reach_module(name, module)?;
         }
         Ok(())
     }
 
     /// Reaches the files of a `mod` item, or notes that none is there.
-    fn reach_module(&mut self, name: &str, module: Declared<'_>) -> Result<(), PackageError> {
+    fn reach_module(&mut self, name: &str, module: &Declared<'_>) -> Result<(), PackageError> {
         let mut is_there = false;
         let mut is_outside = false;
-        for candidate in module.candidates {
-            let owns_folder = candidate.owns_folder;
-            match candidate.name {
+        for candidate in &module.candidates {
+            match &candidate.name {
                 Some(file) => {
-                    if self.reach(file, owns_folder)? {
+                    if self.reach_declared(file.as_str(), candidate.owns_folder, module)? {
                         is_there = true;
                     }
                 }
@@ -192,4 +215,31 @@ impl<'r, R: Files + AllocGlobal> Reading<'r, R> {
             self.note(name, Trouble::NoModule(module))
         }
     }
+
+    /// Reaches a file that a `mod` item may stand for, if one is there: tells whether something is.
+    fn reach_declared(
+        &mut self,
+        file: &str,
+        owns_folder: bool,
+        module: &Declared<'_>,
+    ) -> Result<bool, PackageError> {
+        let found = self.look(file)?;
+        if found == Found::New {
+            let alloc = self.alloc();
+            let file = String::from_str(alloc, file)?;
+            let around = copies(alloc, &module.around)?;
+            let name = String::from_str(alloc, module.name)?;
+            self.modules.add_declared(file, owns_folder, around, name)?;
+        }
+        Ok(found != Found::Nothing)
+    }
+}
+
+/// Texts once more.
+fn copies(alloc: Global, texts: &[&str]) -> Result<Vec<String>, AllocError> {
+    let mut copies = Vec::with_capacity(alloc, texts.len())?;
+    for text in texts {
+        copies.push(String::from_str(alloc, text)?)?;
+    }
+    Ok(copies)
 }

@@ -1,6 +1,7 @@
 //! A folder of a file system, in which names are looked up.
 
 use crate::notes::Trouble;
+use crate::paths::path_in;
 use std::alloc::{AllocError, Global};
 use std::collections::BTreeMap;
 use std::io::ErrorKind;
@@ -135,16 +136,6 @@ impl<'r, R: Files + AllocGlobal> Root<'r, R> {
         }
         path_in(self.alloc(), self.folder, name)
     }
-}
-
-/// The path of a name in a folder of the file system.
-pub(crate) fn path_in(alloc: Global, folder: &str, name: &str) -> Result<String, AllocError> {
-    let mut path = String::from_str(alloc, folder)?;
-    if !folder.is_empty() && !folder.ends_with('/') {
-        path.push('/')?;
-    }
-    path.push_str(name)?;
-    Ok(path)
 }
 
 /// The entries of a folder, given by their names and whether each is a folder.

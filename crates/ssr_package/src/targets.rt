@@ -1,12 +1,16 @@
 //! The files that a package's targets begin with.
 
-use crate::manifest::{is_off, items_at, library_path, package_name, table_at, text_at};
+use crate::crates::{Crate, Edition, crate_name};
+use crate::manifest::{
+    is_off, items_at, library_name, library_path, package_name, table_at, text_at,
+};
 use crate::notes::Trouble;
 use crate::package_error::PackageError;
 use crate::paths::{normal_path, within};
-use crate::places::default_target;
+use crate::places::{default_target, stem, target_name};
 use crate::reading::Reading;
 use crate::root::Standing;
+use std::alloc::{AllocError, Global};
 use std::rt::Files;
 use toml::{Table, Value};
 
@@ -20,6 +24,9 @@ struct TargetKind {
     /// The key by which those are left out that the manifest doesn't list.
     switch: &'static str,
 }
+
+/// The name of the target that a build script is.
+const BUILD_SCRIPT: &str = "build-script-build";
 
 const BINARIES: TargetKind = TargetKind {
     key: "bin",
@@ -45,17 +52,32 @@ const BENCHES: TargetKind = TargetKind {
     switch: "autobenches",
 };
 
-/// A package: its folder, a name of the run, and its manifest.
+/// A package: its folder, a name of the run, its manifest, and its edition, where that is known.
 #[derive(Drop)]
 pub(crate) struct Package {
     pub folder: String,
     pub manifest: Table,
+    pub edition: Option<Edition>,
+}
+
+impl Package {
+    fn name(&self) -> &str {
+        package_name(&self.manifest).unwrap_or("")
+    }
+
+    /// The crate of the target of a name.
+    fn target(&self, alloc: Global, name: &str) -> Result<Crate, AllocError> {
+        let name = crate_name(alloc, name)?;
+        Ok(Crate {
+            name,
+            edition: self.edition,
+        })
+    }
 }
 
 impl<R: Files + AllocGlobal> Reading<'_, R> {
     /// Reaches the files that a package's targets begin with.
     pub(crate) fn reach_targets(&mut self, package: &Package) -> Result<(), PackageError> {
-        let folder = package.folder.as_str();
         self.reach_library(package)?;
         self.reach_build_script(package)?;
         self.reach_kind(package, &BINARIES)?;
@@ -63,28 +85,27 @@ impl<R: Files + AllocGlobal> Reading<'_, R> {
         self.reach_kind(package, &TESTS)?;
         self.reach_kind(package, &BENCHES)?;
         if !is_off_in_package(&package.manifest, BINARIES.switch) {
-            self.reach_default(folder, "src/main.rs")?;
+            self.reach_default(package, "src/main.rs", package.name())?;
         }
         Ok(())
     }
 
     fn reach_library(&mut self, package: &Package) -> Result<(), PackageError> {
-        let folder = package.folder.as_str();
+        let name = library_name(&package.manifest).unwrap_or(package.name());
         match library_path(&package.manifest) {
-            Some(path) => self.reach_path(folder, path),
-            None => self.reach_default(folder, "src/lib.rs"),
+            Some(path) => self.reach_path(package, path, name),
+            None => self.reach_default(package, "src/lib.rs", name),
         }
     }
 
     fn reach_build_script(&mut self, package: &Package) -> Result<(), PackageError> {
-        let folder = package.folder.as_str();
         let Some(table) = table_at(&package.manifest, "package") else {
             return Ok(());
         };
         match text_at(table, "build") {
-            Some(path) => self.reach_path(folder, path),
+            Some(path) => self.reach_path(package, path, BUILD_SCRIPT),
             None if is_off(table, "build") => Ok(()),
-            None => self.reach_default(folder, "build.rs"),
+            None => self.reach_default(package, "build.rs", BUILD_SCRIPT),
         }
     }
 
@@ -97,7 +118,7 @@ impl<R: Files + AllocGlobal> Reading<'_, R> {
             return Ok(());
         }
         let folder = within(self.alloc(), package.folder.as_str(), kind.folder)?;
-        self.reach_folder(folder.as_str())
+        self.reach_folder(package, folder.as_str())
     }
 
     /// Reaches a target that the manifest lists: at its path, or else at the default places of its name.
@@ -110,25 +131,29 @@ impl<R: Files + AllocGlobal> Reading<'_, R> {
         let Some(target) = target.as_table() else {
             return Ok(());
         };
-        let folder = package.folder.as_str();
+        let name = text_at(target, "name");
         if let Some(path) = text_at(target, "path") {
-            return self.reach_path(folder, path);
+            return self.reach_path(package, path, name.unwrap_or(stem(path)));
         }
-        let Some(name) = text_at(target, "name") else {
+        let Some(name) = name else {
             return Ok(());
         };
         let alloc = self.alloc();
         let place = within(alloc, kind.folder, name)?;
-        self.reach_default(folder, format!(in alloc; "{place}.rs")?.as_str())?;
-        self.reach_default(folder, format!(in alloc; "{place}/main.rs")?.as_str())?;
-        if kind.key == BINARIES.key && package_name(&package.manifest) == Some(name) {
-            self.reach_default(folder, "src/main.rs")?;
+        self.reach_default(package, format!(in alloc; "{place}.rs")?.as_str(), name)?;
+        self.reach_default(
+            package,
+            format!(in alloc; "{place}/main.rs")?.as_str(),
+            name,
+        )?;
+        if kind.key == BINARIES.key && package.name() == name {
+            self.reach_default(package, "src/main.rs", name)?;
         }
         Ok(())
     }
 
     /// Reaches the targets that lie in a folder of targets.
-    fn reach_folder(&mut self, folder: &str) -> Result<(), PackageError> {
+    fn reach_folder(&mut self, package: &Package, folder: &str) -> Result<(), PackageError> {
         if self.root().standing(folder)? != Standing::Folder {
             return Ok(());
         }
@@ -137,30 +162,43 @@ impl<R: Files + AllocGlobal> Reading<'_, R> {
             Err(trouble) => return self.note(folder, trouble),
         };
         for entry in &entries {
-            if let Some(name) = default_target(self.alloc(), folder, entry)? {
-                self.reach(name, true)?;
+            if let Some(file) = default_target(self.alloc(), folder, entry)? {
+                let of = package.target(self.alloc(), target_name(entry))?;
+                self.reach_root(file, of)?;
             }
         }
         Ok(())
     }
 
-    /// Reaches a file at a path that the manifest gives, or notes that it is not there.
-    fn reach_path(&mut self, folder: &str, path: &str) -> Result<(), PackageError> {
-        let Some(name) = normal_path(self.alloc(), folder, path)? else {
+    /// Reaches the file of a target at a path that the manifest gives, or notes that it is not there.
+    fn reach_path(
+        &mut self,
+        package: &Package,
+        path: &str,
+        name: &str,
+    ) -> Result<(), PackageError> {
+        let Some(file) = normal_path(self.alloc(), package.folder.as_str(), path)? else {
             return self.note(path, Trouble::Outside);
         };
-        let copy = String::from_str(self.alloc(), name.as_str())?;
-        if self.reach(name, true)? {
+        let copy = String::from_str(self.alloc(), file.as_str())?;
+        let of = package.target(self.alloc(), name)?;
+        if self.reach_root(file, of)? {
             Ok(())
         } else {
             self.note(copy.as_str(), Trouble::Missing)
         }
     }
 
-    /// Reaches a file at a place below a package's folder, if it is there.
-    fn reach_default(&mut self, folder: &str, place: &str) -> Result<(), PackageError> {
-        if let Some(name) = normal_path(self.alloc(), folder, place)? {
-            self.reach(name, true)?;
+    /// Reaches the file of a target at a place below the package's folder, if it is there.
+    fn reach_default(
+        &mut self,
+        package: &Package,
+        place: &str,
+        name: &str,
+    ) -> Result<(), PackageError> {
+        if let Some(file) = normal_path(self.alloc(), package.folder.as_str(), place)? {
+            let of = package.target(self.alloc(), name)?;
+            self.reach_root(file, of)?;
         }
         Ok(())
     }

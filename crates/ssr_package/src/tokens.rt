@@ -2,29 +2,12 @@
 ghost use Rattle.std.specs.Prelude.{◌≡◌, IfOk};
 ghost use Rattle.ssr_package.specs.Tokens as spec;
 
-use ssr_set_aside::set_aside;
-use ssr_syntax::SyntaxError;
 use ssr_syntax_lex::{LexError, RawToken, lex};
 use std::alloc::{AllocError, Global};
 
-/// The tokens of a text without white space and comments. A text that has no tokens is cut as it is searched, with what the
-/// language leaves out set aside; where it isn't read then either, there are none.
+/// The tokens of a text without white space and comments; none, where the text can't be cut into tokens.
 pub(crate) fn solid_tokens(alloc: Global, text: &str) -> Result<Vec<RawToken>, AllocError> {
     match lex(alloc, text) {
-        Ok(tokens) => solid(alloc, &tokens),
-        Err(LexError::Memory) => Err(AllocError),
-        Err(_) => searched_tokens(alloc, text),
-    }
-}
-
-/// The tokens without white space and comments of a text as it is searched; none, where it isn't read.
-fn searched_tokens(alloc: Global, text: &str) -> Result<Vec<RawToken>, AllocError> {
-    let read = match set_aside(alloc, text) {
-        Ok(read) => read,
-        Err(SyntaxError::Memory) => return Err(AllocError),
-        Err(_) => return Ok(Vec::new(alloc)),
-    };
-    match lex(alloc, read.searched()) {
         Ok(tokens) => solid(alloc, &tokens),
         Err(LexError::Memory) => Err(AllocError),
         Err(_) => Ok(Vec::new(alloc)),
@@ -44,4 +27,49 @@ fn solid(alloc: Global, tokens: &[RawToken]) -> Result<Vec<RawToken>, AllocError
         rest = after;
     }
     Ok(kept)
+}
+
+/// What of a text is cut into tokens: not a byte order mark in front, and not a first line that names an interpreter.
+pub(crate) fn behind_front(text: &str) -> &str
+    ensures { result.now ≡ spec.behind_front text.now }
+{
+    let text = unmarked(text);
+    if names_interpreter(text) {
+        behind_line(text)
+    } else {
+        text
+    }
+}
+
+/// A text without a byte order mark in front.
+#[tactic(auto, using(crate::proofs::Fronts::stripped))]
+fn unmarked(text: &str) -> &str
+    ensures { result.now ≡ spec.unmarked text.now }
+{
+    match text.strip_prefix("\u{feff}") {
+        Some(rest) => rest,
+        None => text,
+    }
+}
+
+/// Whether a text begins with `#!` and no attribute: a `[` may stand behind white space.
+#[tactic(auto, using(crate::proofs::Fronts::stripped))]
+fn names_interpreter(text: &str) -> bool
+    ensures { result ≡ spec.names_interpreter text.now }
+{
+    match text.strip_prefix("#!") {
+        Some(rest) => !rest.trim_start().starts_with('['),
+        None => false,
+    }
+}
+
+/// A text from its second line on.
+#[tactic(auto, using(std::proofs::lemmas::Str::Pattern::split_once_first))]
+fn behind_line(text: &str) -> &str
+    ensures { result.now ≡ spec.behind_line text.now }
+{
+    match text.split_once('\n') {
+        Some((_, rest)) => rest,
+        None => "",
+    }
 }

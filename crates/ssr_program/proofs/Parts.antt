@@ -5,30 +5,19 @@ use Rattle.std.specs.BTreeMap.{BTreeMap, get}
 use Rattle.std.specs.List.{enumerate_from}
 use Rattle.std.specs.Option.{IsSomeAnd, option_map_or}
 use Rattle.std.proofs.lemmas.List.{drop_more, drop_all}
-use Rattle.std.proofs.lemmas.Option.{get_or_from_slice_get, none-some, slice_get-get_or}
+use Rattle.std.proofs.lemmas.Option.{get_or_from_slice_get}
 use Rattle.ssr_syntax_tree.specs.Syntax.{Syntax, source_of}
 use Rattle.ssr_base_trees.specs.declared.ids.FileId.{FileId}
 use Rattle.ssr_base_trees.specs.Changes.{Change, FitsText}
-use Rattle.ssr_base_trees.specs.Workspace.{Workspace, tree_of}
-use Rattle.ssr_base_trees.proofs.Shared.{tree_of_file}
+use Rattle.ssr_base_trees.specs.Workspace.{Workspace}
 use Rattle.ide_ssr_rewriting.specs.Edits.{EditsFit, file_cmp}
 use Rattle.ssr_program.specs.OfFacts.{name_at, part, part_of, parts}
-use Rattle.ssr_searching.specs.Searching.{Changes, new_text}
+use Rattle.ssr_base.specs.Editing.{new_text}
+use Rattle.ssr_searching.specs.Searching.{Changes}
 
 -- what is written of the files from this number on
 abbrev pub left : List (List ℕ) → List Syntax → Changes → ℕ → List ℕ
 left names files new n = flat_map (part_of names new) (enumerate_from n (drop n files))
-
--- there is a tree of each file
-pub file_there : (w : Workspace) (n : ℕ) (code : Syntax) → n < length w.files → Some code ≡ tree_of w n → slice_get w.files n ≡ Some code
-file_there w n code less is = sym (is ∙ tree_of_file w n less)
-
-pub none_there : (w : Workspace) (n : ℕ) → n < length w.files → None ≡ tree_of w n → ⊥
-none_there w n less is = no_file w.files n less (sym (is ∙ tree_of_file w n less))
-  where
-    no_file : (files : List Syntax) (n : ℕ) → n < length files → slice_get files n ≡ None → ⊥
-    no_file [] n less none = absurd (omega arith)
-    no_file (code ∷ files) n less none = none-some _ (sym none ∙ slice_get-get_or (code ∷ files) n code less)
 
 module _ (names : List (List ℕ)) (files : List Syntax) (new : Changes) (n : ℕ) (code : Syntax) (less : n < length files) (there : slice_get files n ≡ Some code) where
   here : left names files new n ≡ part_of names new (n, code) ++ left names files new (n + 1)

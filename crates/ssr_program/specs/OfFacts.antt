@@ -15,7 +15,8 @@ use Rattle.ssr_facts.specs.Provider.{provided}
 use Rattle.ssr_facts.specs.Reading.{Answers}
 use Rattle.ssr_program.specs.declared.commands.Form.TheVariants as forms
 use Rattle.ssr_program.specs.Output.{Output, line_break, written, refused, input_refused, search_refused}
-use Rattle.ssr_searching.specs.Searching.{Search, Changes, ComesTo, refuses, clashes, changes, new_text}
+use Rattle.ssr_base.specs.Editing.{new_text}
+use Rattle.ssr_searching.specs.Searching.{Search, Changes, ComesTo, refuses, clashes, changes}
 
 -- ** Refusals.
 

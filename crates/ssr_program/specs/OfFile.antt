@@ -9,7 +9,8 @@ use Rattle.ssr_base_trees.specs.Workspace.{Workspace}
 use Rattle.ide_ssr_search.specs.Making.{first_position}
 use Rattle.ssr_program.specs.declared.commands.Form.TheVariants as forms
 use Rattle.ssr_program.specs.Output.{Output, written, input_refused, search_refused}
-use Rattle.ssr_searching.specs.Searching.{Search, Changes, ComesTo, refuses, changes, new_text}
+use Rattle.ssr_base.specs.Editing.{new_text}
+use Rattle.ssr_searching.specs.Searching.{Search, Changes, ComesTo, refuses, changes}
 use Rattle.ssr_searching.specs.Unresolved.{nothing_resolves}
 
 -- the workspace of one file, in which no macro call stands for anything

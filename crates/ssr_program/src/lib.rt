@@ -10,8 +10,6 @@ mod of_file;
 mod program;
 mod rewrite_error;
 mod streams;
-#[cfg(test)]
-mod tests;
 mod transfer;
 
 pub use commands::facts_path;

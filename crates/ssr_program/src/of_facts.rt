@@ -5,14 +5,15 @@ ghost use Rattle.ssr_base_trees.specs.Changes.{FitsText};
 ghost use Rattle.ide_ssr_rewriting.specs.Clashes.{clash_of};
 ghost use Rattle.ide_ssr_rewriting.specs.Edits.{EditsFit};
 ghost use Rattle.ssr_program.specs.OfFacts.{clash_words as words_of_clash, closed, name_at, part, parts as parts_of};
-ghost use Rattle.ssr_searching.specs.Searching.{changes_in, new_text};
+ghost use Rattle.ssr_searching.specs.Searching.{changes_in};
+ghost use Rattle.ssr_base.specs.Editing.{new_text};
 ghost use Rattle.ssr_program.specs.Private.Rewriting.{Rewrites};
 ghost use Rattle.ssr_program.specs.declared.commands.Form.TheVariants as forms;
 
 use crate::rewrite_error::RewriteError;
-use ssr_base::{FileId, FileRange, TextEdit, Workspace};
+use ssr_base::{FileId, FileRange, TextEdit, Workspace, edited};
 use ssr_facts::{Facts, read};
-use ssr_searching::{SearchError, edited, edits};
+use ssr_searching::{SearchError, edits};
 use ssr_syntax::Tree;
 use std::alloc::{AllocError, Global};
 use std::collections::BTreeMap;

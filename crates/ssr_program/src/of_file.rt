@@ -8,8 +8,8 @@ ghost use Rattle.ssr_program.specs.Private.Rewriting.{AnswersFile, IsNewText, Is
 ghost use Rattle.ssr_program.specs.declared.commands.Form.TheVariants as forms;
 
 use crate::rewrite_error::RewriteError;
-use ssr_base::{FileId, FilePosition, TextEdit, Workspace, WorkspaceError};
-use ssr_searching::{SearchError, Unresolved, edited, edits};
+use ssr_base::{FileId, FilePosition, TextEdit, Workspace, WorkspaceError, edited};
+use ssr_searching::{SearchError, Unresolved, edits};
 use ssr_syntax::SyntaxError;
 use std::alloc::{AllocError, Global};
 use std::collections::BTreeMap;

@@ -1,6 +1,7 @@
 -- Lines and columns of a text.
-use Rattle.std.specs.Prelude.{ℕ, ◌+◌, ◌==◌, ◌||◌, Bool, not, nat_lt, nat_le, if◌then◌else◌, List, [], ◌++◌, length, reverse, take, take_while, count_by, codes, decimal}
+use Rattle.std.specs.Prelude.{ℕ, ◌+◌, ◌==◌, ◌||◌, ◌≡◌, Bool, not, nat_lt, nat_le, if◌then◌else◌, List, [], ◌++◌, length, reverse, take, take_while, count_by, codes, decimal}
 use Rattle.std.specs.List.{before_first, position_or_len}
+use Rattle.std.specs.Str.{IsCharBoundary}
 use Rattle.ssr_reports.specs.declared.places.LinePlace.{LinePlace}
 
 abbrev pub is_line_break : ℕ → Bool
@@ -21,6 +22,16 @@ line_of text offset = count_by is_line_break (take offset text) + 1
 -- one more than the characters between it and the last line break before it
 abbrev pub column_of : List ℕ → ℕ → ℕ
 column_of text offset = count_by begins_character (last_line (take offset text)) + 1
+
+-- A byte at which a character begins, or the end of the text, stands at a place.
+pub record IsAt (text : List ℕ) (place : LinePlace) (offset : ℕ) : Type 0 where
+  pub between : IsCharBoundary text offset
+  pub line : line_of text offset ≡ place.line
+  pub column : column_of text offset ≡ place.column
+
+-- none stands there
+abbrev pub HasNone : List ℕ → LinePlace → Type 0
+HasNone text place = (offset : ℕ) → IsAt text place offset → ⊥
 
 -- a text up to its first line break
 abbrev pub first_line : List ℕ → List ℕ

@@ -41,19 +41,3 @@ fn paint_of(line: &str) -> Option<&'static str> {
         None
     }
 }
-
-#[cfg(test)]
-mod tests {
-    use super::*;
-    use std::test::Fail;
-
-    #[test]
-    fn changes_have_colours(rt: HostRuntime) -> Result<(), Fail> {
-        let text = colored(rt.alloc(), " a\n-b\n+c\n")?;
-        assert_eq!(rt;
-            text.as_str(),
-            " a\n\u{1b}[31m-b\n\u{1b}[0m\u{1b}[32m+c\n\u{1b}[0m"
-        );
-        Ok(())
-    }
-}

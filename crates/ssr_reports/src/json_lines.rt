@@ -179,31 +179,3 @@ fn push_text(writer: &mut Writer, name: &str, text: &str) -> Result<(), AllocErr
     writer.key(name)?;
     writer.string(text)
 }
-
-#[cfg(test)]
-mod tests {
-    use super::*;
-    use std::test::Fail;
-
-    #[test]
-    fn matches_are_objects(rt: HostRuntime) -> Result<(), Fail> {
-        let place = LinePlace { line: 2, column: 1 };
-        let report = MatchReport {
-            rule: 0,
-            file: "a.rs",
-            range: TextRange::new(3, 4),
-            place,
-            old: "\"",
-            new: None,
-            set_aside: false,
-            placeholders: [].as_slice(),
-        };
-        let wanted =
-            b"{\"rule\":0,\"file\":\"a.rs\",\"start\":3,\"end\":4,\"line\":2,\"column\":1,\"old\":\"\\\"\",\"new\":null,\"set_aside\":false,\"placeholders\":[]}\n";
-        assert_eq!(rt;
-            match_json(rt.alloc(), &report)?.as_slice(),
-            wanted.as_slice()
-        );
-        Ok(())
-    }
-}

@@ -1,6 +1,6 @@
 //! Lines and columns.
-ghost use Rattle.std.specs.Prelude.{◌≡◌, ◌+◌, ◌<◌, ◌≤◌, ◌^◌, IfOk, length, count_by, string_bytes};
-ghost use Rattle.ssr_reports.specs.Places.{is_line_break, begins_character, last_line, first_line as first_line_of, mark_of, line_of, column_of, place_text};
+ghost use Rattle.std.specs.Prelude.{◌≡◌, ◌+◌, ◌<◌, ◌≤◌, ◌^◌, IfOk, MatchOption, length, count_by, string_bytes};
+ghost use Rattle.ssr_reports.specs.Places.{is_line_break, begins_character, last_line, first_line as first_line_of, mark_of, line_of, column_of, IsAt, HasNone, place_text};
 
 use std::alloc::{AllocError, Global};
 use std::marker::Model;
@@ -22,6 +22,24 @@ pub fn line_place(text: &str, offset: usize) -> LinePlace
     LinePlace {
         line: line_breaks(before) + 1,
         column: characters_of_last_line(before) + 1,
+    }
+}
+
+/// The byte of a text at a line and a column; its end has a place too. None where no character begins at the place.
+pub fn byte_at(text: &str, place: LinePlace) -> Option<usize>
+    ensures { MatchOption result (HasNone text.now place) (λ offset. IsAt text.now place offset) }
+{
+    let mut here = LinePlace { line: 1, column: 1 };
+    for offset in 0..text.len() {
+        if here == place && text.is_char_boundary(offset) {
+            return Some(offset);
+        }
+        here = place_behind(text, offset, here, offset + 1);
+    }
+    if here == place {
+        Some(text.len())
+    } else {
+        None
     }
 }
 
@@ -139,34 +157,5 @@ fn first_line(text: &str) -> (&str, &'static str)
     match text.split_once('\n') {
         Some((first, _)) => (first, " .."),
         None => (text, ""),
-    }
-}
-
-#[cfg(test)]
-mod tests {
-    use super::*;
-    use std::test::Fail;
-
-    #[test]
-    fn a_place_is_told(rt: HostRuntime) -> Result<(), Fail> {
-        let place = LinePlace {
-            line: 12,
-            column: 9,
-        };
-        let line = place_line(rt.alloc(), "src/lib.rs", place, "a(\nb)")?;
-        assert_eq!(rt; line.as_str(), "src/lib.rs:12:9: a( ..\n");
-        Ok(())
-    }
-
-    #[test]
-    fn places_come_in_any_order(rt: HostRuntime) -> Result<(), Fail> {
-        let mut places = Places::new("ab\né c\n\nd");
-        assert_eq!(rt; places.place(1), LinePlace { line: 1, column: 2 });
-        assert_eq!(rt; places.place(5), LinePlace { line: 2, column: 2 });
-        assert_eq!(rt; places.place(6), LinePlace { line: 2, column: 3 });
-        assert_eq!(rt; places.place(9), LinePlace { line: 4, column: 1 });
-        assert_eq!(rt; places.place(3), LinePlace { line: 2, column: 1 });
-        assert_eq!(rt; places.place(99), LinePlace { line: 4, column: 2 });
-        Ok(())
     }
 }

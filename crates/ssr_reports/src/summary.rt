@@ -4,7 +4,7 @@ ghost use Rattle.ssr_reports.specs.Summary.{summary_text, counted, some_counted}
 
 use std::alloc::{AllocError, Global};
 
-/// How many files were searched, matches found, edits made, matches that hold what is set aside, and files left out.
+/// How many files were searched, matches found, edits made, matches left as they are, and files left out.
 #[derive(Clone, Copy, Debug, PartialEq, Eq)]
 pub struct Summary {
     pub files: usize,
@@ -14,7 +14,7 @@ pub struct Summary {
     pub left_out: usize,
 }
 
-/// `61 matches in 4 files: 58 edits; 3 hold what is set aside; 2 files left out` and a line break. Of what is none but the matches,
+/// `61 matches in 4 files: 58 edits; 3 left as they are; 2 files left out` and a line break. Of what is none but the matches,
 /// nothing is said.
 pub fn summary_line(alloc: Global, summary: Summary) -> Result<String, AllocError>
     ensures { IfOk result (λ line. string_bytes line ≡ summary_text summary) }
@@ -27,8 +27,8 @@ pub fn summary_line(alloc: Global, summary: Summary) -> Result<String, AllocErro
         &mut text,
         "; ",
         summary.set_aside,
-        "holds what is set aside",
-        "hold what is set aside",
+        "left as it is",
+        "left as they are",
     )?;
     push_some(
         &mut text,
@@ -63,27 +63,4 @@ fn push_counted(text: &mut String, count: usize, one: &str, many: &str) -> Resul
 {
     let words = if count == 1 { one } else { many };
     write!(text, "{count} {words}")
-}
-
-#[cfg(test)]
-mod tests {
-    use super::*;
-    use std::test::Fail;
-
-    #[test]
-    fn a_summary_is_told(rt: HostRuntime) -> Result<(), Fail> {
-        let summary = Summary {
-            files: 1,
-            matches: 61,
-            edits: 58,
-            set_aside: 0,
-            left_out: 2,
-        };
-        let line = summary_line(rt.alloc(), summary)?;
-        assert_eq!(rt;
-            line.as_str(),
-            "61 matches in 1 file: 58 edits; 2 files left out\n"
-        );
-        Ok(())
-    }
 }

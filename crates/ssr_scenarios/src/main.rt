@@ -67,6 +67,15 @@
 //! | `key` | the key of its first path |
 //!
 //! The program tells how many answers of each file are as wanted, and each that isn't.
+//!
+//! It measures, too. Of these words the first two go with names of files on standard input, one a line; times are processor time,
+//! in nanoseconds:
+//!
+//! | Words | What is told |
+//! |---|---|
+//! | `--times RULE..` | how many files, bytes and outermost matches there are, and the times of building and of searching; the rules have no paths |
+//! | `--asked` | which nodes of the files a provider is asked about |
+//! | `--facts FILE RULE..` | how many files and bytes a facts file has, and the time of reading it; where there are rules, also how many matches, and the time of searching. Behind `--scan` every node is tried; behind `--edits` the matches are rewritten, and files with an edit are counted |
 #![tactic(auto)]
 
 mod answers;
@@ -76,6 +85,7 @@ mod leads;
 mod lines;
 mod lists;
 mod matches;
+mod measuring;
 mod nodes;
 mod paths;
 mod rows;
@@ -91,6 +101,7 @@ mod trees;
 use crate::answers::answer;
 use crate::facts::facts_text;
 use crate::lines::{Line, lines_of, rest_of};
+use crate::measuring::measure;
 use crate::searches::searches_of;
 use crate::strays::strays_of;
 use anyhow::Result;
@@ -100,8 +111,11 @@ use std::{env, fs};
 
 fn main(rt: HostRuntime) -> Result<()> {
     let alloc = rt.alloc();
-    let paths: Vec<String> = env::args(&rt)?.skip(1).collect(alloc)?;
-    for path in &paths {
+    let words: Vec<String> = env::args(&rt)?.skip(1).collect(alloc)?;
+    if measure(&rt, &words)? {
+        return Ok(());
+    }
+    for path in &words {
         let text = fs::read_to_string(&rt, path.as_str())?;
         let tally = try_all(&rt, text.as_str())?;
         let Tally { asked, wanted } = tally;

@@ -16,11 +16,14 @@ use Rattle.ide_ssr_search.specs.declared.context_error.ContextError.TheVariants 
 use Rattle.ide_ssr_search.specs.Context.{Context}
 use Rattle.ide_ssr_search.specs.Making.{error_words}
 use Rattle.ide_ssr_search.proofs.Shared.{one_making, making_exists}
+use Rattle.ide_ssr_rules.specs.Rules.{rule_reading}
 use Rattle.ide_ssr.specs.Edits.{Edits}
 use Rattle.ide_ssr.specs.Finder.{Finder}
 use Rattle.ide_ssr.proofs.Shared.{one_edit_each, one_clash_each, edits_or_clash_each, answer_exists_each}
 use Rattle.ssr_searching.specs.Searching.{Search, MakesFor, IsFinder, changes_in, Outcome, refuses, clashes, changes, ComesTo, no_finder, no_rules, clash, edited, rules_reading}
+use Rattle.ssr_searching.specs.declared.searching.Kinds.TheVariants as searched
 use Rattle.ssr_searching.proofs.Reaching.{finder_replaces}
+use Rattle.ssr_searching.proofs.Replacing.{each_has}
 
 module _ (s : Search) (rules : List (List ℕ)) where
   abbrev Answer : Type 0
@@ -51,12 +54,12 @@ module _ (s : Search) (rules : List (List ℕ)) where
   -- ** Its rules.
 
   abbrev reading : Context → Result (List ResolvedRule) Refusal
-  reading c = rules_reading s.meanings c.scope rules
+  reading c = rules_reading rule_reading s.meanings c.scope rules
 
   same_rules : (c d : Context) → MakesFor s (Ok c) → MakesFor s (Ok d) → reading c ≡ reading d
   same_rules c d made again = ap reading (same_context c d made again)
 
-  same_finder : (f g : Finder) → IsFinder s rules f → IsFinder s rules g → f ≡ g
+  same_finder : (f g : Finder) → IsFinder rule_reading s rules f → IsFinder rule_reading s rules g → f ≡ g
   same_finder f g one other =
       let made : Workspace → Meanings → Context → List ResolvedRule → Finder =
       λ w m context rules. record { workspace = w; meanings = m; context = context; rules = rules } in
@@ -67,7 +70,7 @@ module _ (s : Search) (rules : List (List ℕ)) where
       ∙ ap (λ context. made g.workspace g.meanings context f.rules) (same_context f.context g.context one.context other.context)
       ∙ ap (made g.workspace g.meanings g.context) kinds
 
-  found_or_refused : (c : Context) (why : Refusal) (f : Finder) → MakesFor s (Ok c) → reading c ≡ Err why → IsFinder s rules f → ⊥
+  found_or_refused : (c : Context) (why : Refusal) (f : Finder) → MakesFor s (Ok c) → reading c ≡ Err why → IsFinder rule_reading s rules f → ⊥
   found_or_refused c why f made refused is =
       let same : Err why ≡ Ok f.rules = sym refused ∙ same_rules c f.context made is.context ∙ is.kinds in cc
 
@@ -77,13 +80,13 @@ module _ (s : Search) (rules : List (List ℕ)) where
 
   -- ** Its outcome.
 
-  same_edits : (f g : Finder) (a b : BTreeMap FileId (List Change)) → IsFinder s rules f → IsFinder s rules g → Edits f (Ok a) → Edits g (Ok b)
+  same_edits : (f g : Finder) (a b : BTreeMap FileId (List Change)) → IsFinder rule_reading s rules f → IsFinder rule_reading s rules g → Edits f (Ok a) → Edits g (Ok b)
       → changes_in a ≡ changes_in b
   same_edits f g a b one other first again =
       let here : Edits g (Ok a) = subst (λ (f : Finder). Edits f (Ok a)) (same_finder f g one other) first in
       λ t n. one_edit_each g a b here again (record { 0 = n }) t
 
-  clash_or_edits : (f g : Finder) (earlier later : FileRange) (found : BTreeMap FileId (List Change)) → IsFinder s rules f → IsFinder s rules g
+  clash_or_edits : (f g : Finder) (earlier later : FileRange) (found : BTreeMap FileId (List Change)) → IsFinder rule_reading s rules f → IsFinder rule_reading s rules g
       → Edits f (Err (edits.Clash earlier later)) → Edits g (Ok found) → ⊥
   clash_or_edits f g earlier later found one other told is =
       edits_or_clash_each g found earlier later is (subst (λ (f : Finder). Edits f (Err (edits.Clash earlier later))) (same_finder f g one other) told)
@@ -115,8 +118,8 @@ module _ (s : Search) (rules : List (List ℕ)) where
   by_rules built c made (Err why) is = (_, no_rules c why made is)
   by_rules built c made (Ok kinds) is =
       let finder : Finder = record { workspace = s.workspace; meanings = s.meanings; context = c; rules = kinds } in
-      let its : IsFinder s rules finder = record { workspace = refl; meanings = refl; context = made; kinds = is } in
-      elim (answer_exists_each finder built (finder_replaces s rules finder its)) [
+      let its : IsFinder rule_reading s rules finder = record { workspace = refl; meanings = refl; context = made; kinds = is } in
+      elim (answer_exists_each finder built (finder_replaces rule_reading (each_has searched.Each) s rules finder its)) [
         | inl found ↦ (_, edited finder found.0 its found.1)
         | inr two ↦ (_, clash finder two.0 two.1 its two.2)
       ]

@@ -1,16 +1,19 @@
 -- What rules are read as has templates.
-use Rattle.std.proofs.Common.{◌≡◌, ℕ, List, [], ◌∷◌, Result, Ok, Err, refl, subst}
+use Rattle.std.proofs.Common.{◌≡◌, ℕ, List, [], ◌∷◌, Result, Ok, Err, refl, sym, subst}
 use Rattle.std.specs.Prelude.{IsSome}
 use Rattle.std.proofs.lemmas.List.Elements.{All-nil, All-append}
 use Rattle.ide_ssr_refusals.specs.declared.refusals.Refusal.{Refusal}
 use Rattle.ide_ssr_refusals.specs.Refusals.{◌>>=◌}
 use Rattle.ide_ssr_resolved_rule.specs.Resolved.{ResolvedRule}
-use Rattle.ide_ssr_rules.specs.Rules.{Rule, rule_reading}
-use Rattle.ide_ssr_rules.proofs.Shared.{have_templates}
+use Rattle.ide_ssr_rules.specs.Rules.{Rule, rule_reading, once}
+use Rattle.ide_ssr_rules.proofs.Shared.{have_templates, have_templates_once}
 use Rattle.ide_ssr.specs.Edits.{HaveTemplates}
 use Rattle.ssr_base_trees.specs.declared.ids.ScopeId.{ScopeId}
 use Rattle.ssr_base_trees.specs.Meanings.{Meanings}
-use Rattle.ssr_searching.specs.Searching.{both, resolved, rule_kinds, rules_reading}
+use Rattle.ssr_searching.specs.Searching.{Reading, both, resolved, rule_kinds, rules_reading}
+use Rattle.ssr_searching.specs.declared.searching.Kinds.{Kinds}
+use Rattle.ssr_searching.specs.declared.searching.Kinds.TheVariants as searched
+use Rattle.ssr_searching.specs.Private.Searching.{reading_of}
 
 abbrev Replace : Result (List ResolvedRule) Refusal → Type 0
 Replace (Ok kinds) = HaveTemplates kinds
@@ -21,20 +24,37 @@ both_replace (Err refusal) second one other = tt
 both_replace (Ok first) (Err refusal) one other = tt
 both_replace (Ok first) (Ok second) one other = All-append (λ kind. IsSome kind.template) first second one other
 
-module _ (meanings : Meanings) (scope : ScopeId) where
-  resolved_replace : (text : List ℕ) (rule : Rule) → rule_reading text ≡ Ok rule → (kinds : Result (List ResolvedRule) Refusal)
-      → resolved meanings scope rule ≡ kinds → Replace kinds
-  resolved_replace text rule is (Err refusal) read = tt
-  resolved_replace text rule is (Ok kinds) read = have_templates meanings scope text rule kinds is read
+-- what a reading makes of a rule's text has templates once it resolves
+abbrev pub HasTemplates : Reading → Type 0
+HasTemplates read =
+    (meanings : Meanings) (scope : ScopeId) (text : List ℕ) (rule : Rule) (kinds : List ResolvedRule)
+    → read text ≡ Ok rule → resolved meanings scope rule ≡ Ok kinds → HaveTemplates kinds
 
-  rule_replaces : (text : List ℕ) (reading : Result Rule Refusal) → rule_reading text ≡ reading → Replace (reading >>= resolved meanings scope)
+once_has : (text : List ℕ) (reading : Result Rule Refusal) → rule_reading text ≡ reading → (meanings : Meanings) (scope : ScopeId) (rule : Rule) (kinds : List ResolvedRule)
+    → (reading >>= λ rule. Ok (once rule)) ≡ Ok rule → resolved meanings scope rule ≡ Ok kinds → HaveTemplates kinds
+once_has text (Err refusal) is meanings scope rule kinds read resolves = cc
+once_has text (Ok whole) is meanings scope rule kinds read resolves =
+    let same : once whole ≡ rule = cc in
+    have_templates_once meanings scope text whole kinds is (subst (λ rule. resolved meanings scope rule ≡ Ok kinds) (sym same) resolves)
+
+pub each_has : (kinds : Kinds) → HasTemplates (reading_of kinds)
+each_has searched.Each meanings scope text rule kinds is resolves = have_templates meanings scope text rule kinds is resolves
+each_has searched.Once meanings scope text rule kinds is resolves = once_has text (rule_reading text) refl meanings scope rule kinds is resolves
+
+module _ (read : Reading) (has : HasTemplates read) (meanings : Meanings) (scope : ScopeId) where
+  resolved_replace : (text : List ℕ) (rule : Rule) → read text ≡ Ok rule → (kinds : Result (List ResolvedRule) Refusal)
+      → resolved meanings scope rule ≡ kinds → Replace kinds
+  resolved_replace text rule is (Err refusal) resolves = tt
+  resolved_replace text rule is (Ok kinds) resolves = has meanings scope text rule kinds is resolves
+
+  rule_replaces : (text : List ℕ) (reading : Result Rule Refusal) → read text ≡ reading → Replace (reading >>= resolved meanings scope)
   rule_replaces text (Err refusal) is = tt
   rule_replaces text (Ok rule) is = resolved_replace text rule is (resolved meanings scope rule) refl
 
-  rules_replace : (rules : List (List ℕ)) → Replace (rules_reading meanings scope rules)
+  rules_replace : (rules : List (List ℕ)) → Replace (rules_reading read meanings scope rules)
   rules_replace [] = All-nil (λ kind. IsSome kind.template)
   rules_replace (rule ∷ rules) =
-      both_replace (rule_kinds meanings scope rule) (rules_reading meanings scope rules) (rule_replaces rule (rule_reading rule) refl) (rules_replace rules)
+      both_replace (rule_kinds read meanings scope rule) (rules_reading read meanings scope rules) (rule_replaces rule (read rule) refl) (rules_replace rules)
 
-  pub all_replace : (rules : List (List ℕ)) (kinds : List ResolvedRule) → rules_reading meanings scope rules ≡ Ok kinds → HaveTemplates kinds
+  pub all_replace : (rules : List (List ℕ)) (kinds : List ResolvedRule) → rules_reading read meanings scope rules ≡ Ok kinds → HaveTemplates kinds
   all_replace rules kinds is = subst Replace is (rules_replace rules)

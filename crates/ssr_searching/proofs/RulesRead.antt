@@ -3,7 +3,7 @@ use Rattle.std.proofs.Common.{◌≡◌, ℕ, ◌+◌, ◌<◌, List, [], ◌∷
 use Rattle.std.proofs.lemmas.List.{drop_more, take-append-drop, take_more}
 use Rattle.ssr_base_trees.specs.declared.ids.ScopeId.{ScopeId}
 use Rattle.ssr_base_trees.specs.Meanings.{Meanings}
-use Rattle.ssr_searching.specs.Searching.{both, rule_kinds, rules_reading}
+use Rattle.ssr_searching.specs.Searching.{Reading, both, rule_kinds, rules_reading}
 use Rattle.ide_ssr_refusals.specs.declared.refusals.Refusal.{Refusal}
 use Rattle.ide_ssr_resolved_rule.specs.Resolved.{ResolvedRule}
 
@@ -24,12 +24,12 @@ nil-both : (a : Read) → both (Ok []) a ≡ a
 nil-both (Err e) = refl
 nil-both (Ok a) = refl
 
-module _ (meanings : Meanings) (scope : ScopeId) where
+module _ (read : Reading) (meanings : Meanings) (scope : ScopeId) where
   abbrev kinds_of : List ℕ → Read
-  kinds_of = rule_kinds meanings scope
+  kinds_of = rule_kinds read meanings scope
 
   abbrev reading : List (List ℕ) → Read
-  reading = rules_reading meanings scope
+  reading = rules_reading read meanings scope
 
   reading-append : (xs ys : List (List ℕ)) → reading (xs ++ ys) ≡ both (reading xs) (reading ys)
   reading-append [] ys = sym (nil-both (reading ys))

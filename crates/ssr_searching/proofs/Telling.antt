@@ -7,10 +7,13 @@ use Rattle.ide_ssr_refusals.specs.Refusals.{TellsOf, ◌>>=◌}
 use Rattle.ide_ssr_resolved_rule.specs.Resolved.{ResolvedRule}
 use Rattle.ssr_base_trees.specs.declared.ids.ScopeId.{ScopeId}
 use Rattle.ssr_base_trees.specs.Meanings.{Meanings}
-use Rattle.ide_ssr_rules.specs.Rules.{Rule, rule_reading}
-use Rattle.ssr_searching.specs.Searching.{resolved, rule_kinds, rules_reading}
+use Rattle.ide_ssr_rules.specs.Rules.{Rule, rule_reading, once, once_reading}
+use Rattle.ssr_searching.specs.Searching.{Reading, resolved, rule_kinds, rules_reading}
 use Rattle.ide_ssr.specs.Finder.{FinderWith}
 use Rattle.ide_ssr.specs.Adding.{Adds}
+use Rattle.ssr_searching.specs.declared.searching.Kinds.{Kinds}
+use Rattle.ssr_searching.specs.declared.searching.Kinds.TheVariants as searched
+use Rattle.ssr_searching.specs.Private.Searching.{reading_of}
 use Rattle.ssr_searching.proofs.RulesRead.{read_more, read_refused}
 
 -- want of memory tells any reading
@@ -34,15 +37,22 @@ module _ (meanings : Meanings) (scope : ScopeId) where
   tells_both errors.Memory (Ok rule) told = memory_tells (resolved meanings scope rule)
   tells_both (errors.Message _) (Ok rule) told = elim told [ ]
 
-  pub tells_rule : (error : SsrError) (text : List ℕ) → TellsOf error (rule_reading text) → TellsOf error (rule_kinds meanings scope text)
-  tells_rule error text told = tells_both error (rule_reading text) told
+  -- and tells that of it as it is searched once
+  tells_once : (error : SsrError) (reading : Result Rule Refusal) → TellsOf error reading → TellsOf error (reading >>= λ rule. Ok (once rule))
+  tells_once error (Err refusal) told = told
+  tells_once errors.Memory (Ok rule) told = tt
+  tells_once (errors.Message _) (Ok rule) told = elim told [ ]
 
-  pub adds_rule : {S : Type 0} (old new : FinderWith S) (rule : Rule) (text : List ℕ) (result : Result (Unit {0}) SsrError)
-      → rule_reading text ≡ Ok rule → Adds old new (resolved meanings scope rule) result → Adds old new (rule_kinds meanings scope text) result
-  adds_rule {S} old new rule text result is added =
+  pub tells_rule : (error : SsrError) (kinds : Kinds) (text : List ℕ) → TellsOf error (rule_reading text) → TellsOf error (rule_kinds (reading_of kinds) meanings scope text)
+  tells_rule error searched.Each text told = tells_both error (rule_reading text) told
+  tells_rule error searched.Once text told = tells_both error (once_reading text) (tells_once error (rule_reading text) told)
+
+  pub adds_rule : {S : Type 0} (read : Reading) (old new : FinderWith S) (rule : Rule) (text : List ℕ) (result : Result (Unit {0}) SsrError)
+      → read text ≡ Ok rule → Adds old new (resolved meanings scope rule) result → Adds old new (rule_kinds read meanings scope text) result
+  adds_rule {S} read old new rule text result is added =
       let Read : Result Rule Refusal → Type 0 = λ r. Adds old new (r >>= resolved meanings scope) result in subst Read (sym is) added
 
-module _ {S : Type 0} (told_by : S → Meanings) (old mid : FinderWith S) (rules : List (List ℕ)) (i : ℕ) (less : i < length rules) (kinds : List ResolvedRule) (before : rules_reading (told_by old.semantics) old.context.scope (take i rules) ≡ Ok kinds) (so_far : mid ≡ record old { rules = old.rules ++ kinds }) (text : List ℕ) (its : text ≡ get_or rules i []) where
+module _ {S : Type 0} (told_by : S → Meanings) (read : Reading) (old mid : FinderWith S) (rules : List (List ℕ)) (i : ℕ) (less : i < length rules) (kinds : List ResolvedRule) (before : rules_reading read (told_by old.semantics) old.context.scope (take i rules) ≡ Ok kinds) (so_far : mid ≡ record old { rules = old.rules ++ kinds }) (text : List ℕ) (its : text ≡ get_or rules i []) where
   abbrev m : Meanings
   m = told_by old.semantics
 
@@ -50,22 +60,22 @@ module _ {S : Type 0} (told_by : S → Meanings) (old mid : FinderWith S) (rules
   scope = old.context.scope
 
   -- one rule more
-  pub adds_more : (new : FinderWith S) → Adds mid new (rule_kinds (told_by mid.semantics) mid.context.scope text) (Ok tt)
-      → Adds old new (rules_reading m scope (take (i + 1) rules)) (Ok tt)
+  pub adds_more : (new : FinderWith S) → Adds mid new (rule_kinds read (told_by mid.semantics) mid.context.scope text) (Ok tt)
+      → Adds old new (rules_reading read m scope (take (i + 1) rules)) (Ok tt)
   adds_more new added =
-      let here : Adds mid new (rule_kinds m scope text) (Ok tt) =
-      subst (λ (f : FinderWith S). Adds mid new (rule_kinds (told_by f.semantics) f.context.scope text) (Ok tt)) so_far added in
+      let here : Adds mid new (rule_kinds read m scope text) (Ok tt) =
+      subst (λ (f : FinderWith S). Adds mid new (rule_kinds read (told_by f.semantics) f.context.scope text) (Ok tt)) so_far added in
       let with_more : FinderWith S → FinderWith S = λ f. record f { rules = f.rules ++ here.0 } in
       let with_rules : List ResolvedRule → FinderWith S = λ all. record old { rules = all } in (
         kinds ++ here.0,
-        read_more m scope rules i less kinds before here.0 (ap (rule_kinds m scope) (sym its) ∙ here.1),
+        read_more read m scope rules i less kinds before here.0 (ap (rule_kinds read m scope) (sym its) ∙ here.1),
         here.2 ∙ ap with_more so_far ∙ ap with_rules (append_assoc old.rules kinds here.0),
       )
 
   -- a rule that is refused
-  pub refuses_more : (error : SsrError) → TellsOf error (rule_kinds (told_by mid.semantics) mid.context.scope text) → TellsOf error (rules_reading m scope rules)
+  pub refuses_more : (error : SsrError) → TellsOf error (rule_kinds read (told_by mid.semantics) mid.context.scope text) → TellsOf error (rules_reading read m scope rules)
   refuses_more error told =
-      let here : TellsOf error (rule_kinds m scope text) =
-      subst (λ (f : FinderWith S). TellsOf error (rule_kinds (told_by f.semantics) f.context.scope text)) so_far told in
-      tells_as error (rule_kinds m scope text) (rules_reading m scope rules)
-      (λ refusal is. read_refused m scope rules i less kinds before refusal (ap (rule_kinds m scope) (sym its) ∙ is)) here
+      let here : TellsOf error (rule_kinds read m scope text) =
+      subst (λ (f : FinderWith S). TellsOf error (rule_kinds read (told_by f.semantics) f.context.scope text)) so_far told in
+      tells_as error (rule_kinds read m scope text) (rules_reading read m scope rules)
+      (λ refusal is. read_refused read m scope rules i less kinds before refusal (ap (rule_kinds read m scope) (sym its) ∙ is)) here

@@ -1,19 +1,18 @@
 -- A search for rules: what it is made in, and what it comes to.
-use Rattle.std.specs.Prelude.{ℕ, ◌≡◌, ◌≢◌, List, [], ◌∷◌, ◌++◌, length, Option, Result, Ok, Err, string_bytes}
+use Rattle.std.specs.Prelude.{ℕ, ◌≡◌, ◌≢◌, List, [], ◌∷◌, ◌++◌, Option, Result, Ok, Err, string_bytes}
 use Rattle.std.specs.BTreeMap.{BTreeMap, get}
-use Rattle.ssr_syntax_tree.specs.Syntax.{Syntax, source_of}
 use Rattle.ssr_base_trees.specs.declared.ids.FileId.{FileId}
 use Rattle.ssr_base_trees.specs.declared.ids.FilePosition.{FilePosition}
 use Rattle.ssr_base_trees.specs.declared.ids.FileRange.{FileRange}
 use Rattle.ssr_base_trees.specs.declared.ids.ScopeId.{ScopeId}
-use Rattle.ssr_base_trees.specs.Changes.{Change, replaced}
+use Rattle.ssr_base_trees.specs.Changes.{Change}
 use Rattle.ssr_base_trees.specs.Meanings.{Meanings}
 use Rattle.ssr_base_trees.specs.Workspace.{Workspace}
 use Rattle.ide_ssr_refusals.specs.declared.refusals.Refusal.{Refusal}
 use Rattle.ide_ssr_refusals.specs.Refusals.{words, ◌>>=◌}
 use Rattle.ide_ssr_resolved_rule.specs.Resolved.{ResolvedRule}
 use Rattle.ide_ssr_rules.specs.Resolved.{resolved_kinds}
-use Rattle.ide_ssr_rules.specs.Rules.{Rule, rule_reading}
+use Rattle.ide_ssr_rules.specs.Rules.{Rule, rule_reading, once_reading}
 use Rattle.ide_ssr_search.specs.declared.context_error.ContextError.{ContextError}
 use Rattle.ide_ssr_search.specs.declared.context_error.ContextError.TheVariants as contexts
 use Rattle.ide_ssr_search.specs.Context.{Context}
@@ -46,14 +45,18 @@ both (Ok first) (Ok second) = Ok (first ++ second)
 abbrev pub resolved : Meanings → ScopeId → Rule → Result (List ResolvedRule) Refusal
 resolved meanings scope rule = resolved_kinds meanings scope rule.names rule.constraints rule.kinds
 
+-- how the text of a rule is read: with each of its kinds by `rule_reading`, searched once by `once_reading`
+abbrev pub Reading : Type 0
+Reading = List ℕ → Result Rule Refusal
+
 -- what a rule says, parsed and resolved
-abbrev pub rule_kinds : Meanings → ScopeId → List ℕ → Result (List ResolvedRule) Refusal
-rule_kinds meanings scope rule = rule_reading rule >>= resolved meanings scope
+abbrev pub rule_kinds : Reading → Meanings → ScopeId → List ℕ → Result (List ResolvedRule) Refusal
+rule_kinds read meanings scope rule = read rule >>= resolved meanings scope
 
 -- what the rules say, in their order
-abbrev pub rules_reading : Meanings → ScopeId → List (List ℕ) → Result (List ResolvedRule) Refusal
-rules_reading meanings scope [] = Ok []
-rules_reading meanings scope (rule ∷ rules) = both (rule_kinds meanings scope rule) (rules_reading meanings scope rules)
+abbrev pub rules_reading : Reading → Meanings → ScopeId → List (List ℕ) → Result (List ResolvedRule) Refusal
+rules_reading read meanings scope [] = Ok []
+rules_reading read meanings scope (rule ∷ rules) = both (rule_kinds read meanings scope rule) (rules_reading read meanings scope rules)
 
 -- ** The finder.
 
@@ -62,11 +65,11 @@ abbrev pub MakesFor : Search → Result Context ContextError → Type 0
 MakesFor s = Makes s.workspace s.meanings s.position s.ranges
 
 -- the finder of a search, to which the rules are added
-pub record IsFinder (s : Search) (rules : List (List ℕ)) (finder : Finder) : Type 0 where
+pub record IsFinder (read : Reading) (s : Search) (rules : List (List ℕ)) (finder : Finder) : Type 0 where
   pub workspace : finder.workspace ≡ s.workspace
   pub meanings : finder.meanings ≡ s.meanings
   pub context : MakesFor s (Ok finder.context)
-  pub kinds : rules_reading s.meanings finder.context.scope rules ≡ Ok finder.rules
+  pub kinds : rules_reading read s.meanings finder.context.scope rules ≡ Ok finder.rules
 
 -- ** The edits.
 
@@ -77,10 +80,6 @@ Changes = ℕ → Option (List Change)
 abbrev pub changes_in : BTreeMap FileId (List Change) → Changes
 changes_in edits file = get file_cmp edits (record { 0 = file })
 
--- the text of a file with changes made
-abbrev pub new_text : Syntax → List Change → List ℕ
-new_text code changes = replaced (source_of code) 0 (length (source_of code)) changes
-
 -- a refusal with its message, two matches whose replacements clash, or changes of files
 pub data Outcome : Type 0 where
   refuses : List ℕ → Outcome
@@ -88,20 +87,34 @@ pub data Outcome : Type 0 where
   changes : Changes → Outcome
 
 -- first the finder is made, then the rules are added in their order, and then there are edits or a clash
-pub data ComesTo (s : Search) (rules : List (List ℕ)) : Outcome → Type 0 where
-  no_finder : (why : ContextError) → why ≢ contexts.Memory → MakesFor s (Err why) → ComesTo s rules (refuses (error_words why))
+pub data ComesToBy (read : Reading) (s : Search) (rules : List (List ℕ)) : Outcome → Type 0 where
+  no_finder : (why : ContextError) → why ≢ contexts.Memory → MakesFor s (Err why) → ComesToBy read s rules (refuses (error_words why))
   no_rules : (context : Context) (why : Refusal) → MakesFor s (Ok context)
-      → rules_reading s.meanings context.scope rules ≡ Err why → ComesTo s rules (refuses (words why))
-  clash : (finder : Finder) (earlier later : FileRange) → IsFinder s rules finder
-      → Edits finder (Err (edits.Clash earlier later)) → ComesTo s rules (clashes (clash_of (earlier, later)))
-  edited : (finder : Finder) (found : BTreeMap FileId (List Change)) → IsFinder s rules finder
-      → Edits finder (Ok found) → ComesTo s rules (changes (changes_in found))
+      → rules_reading read s.meanings context.scope rules ≡ Err why → ComesToBy read s rules (refuses (words why))
+  clash : (finder : Finder) (earlier later : FileRange) → IsFinder read s rules finder
+      → Edits finder (Err (edits.Clash earlier later)) → ComesToBy read s rules (clashes (clash_of (earlier, later)))
+  edited : (finder : Finder) (found : BTreeMap FileId (List Change)) → IsFinder read s rules finder
+      → Edits finder (Ok found) → ComesToBy read s rules (changes (changes_in found))
+
+-- what a search comes to for all kinds of the rules
+abbrev pub ComesTo : Search → List (List ℕ) → Outcome → Type 0
+ComesTo = ComesToBy rule_reading
+
+-- what it comes to where a rule whose pattern is a placeholder alone is searched once
+abbrev pub ComesToOnce : Search → List (List ℕ) → Outcome → Type 0
+ComesToOnce = ComesToBy once_reading
 
 -- ** What is answered.
 
 -- an answer is what the search comes to; want of memory says nothing
+abbrev pub ReachesBy : Reading → Search → List (List ℕ) → Result (BTreeMap FileId (List Change)) SearchError → Type 0
+ReachesBy read s rules (Ok edits) = ComesToBy read s rules (changes (changes_in edits))
+ReachesBy read s rules (Err (errors.Refused message)) = ComesToBy read s rules (refuses (string_bytes message))
+ReachesBy read s rules (Err (errors.Clash earlier later)) = ComesToBy read s rules (clashes (clash_of (earlier, later)))
+ReachesBy read s rules (Err errors.Memory) = Unit {0}
+
 abbrev pub Reaches : Search → List (List ℕ) → Result (BTreeMap FileId (List Change)) SearchError → Type 0
-Reaches s rules (Ok edits) = ComesTo s rules (changes (changes_in edits))
-Reaches s rules (Err (errors.Refused message)) = ComesTo s rules (refuses (string_bytes message))
-Reaches s rules (Err (errors.Clash earlier later)) = ComesTo s rules (clashes (clash_of (earlier, later)))
-Reaches s rules (Err errors.Memory) = Unit {0}
+Reaches = ReachesBy rule_reading
+
+abbrev pub ReachesOnce : Search → List (List ℕ) → Result (BTreeMap FileId (List Change)) SearchError → Type 0
+ReachesOnce = ReachesBy once_reading

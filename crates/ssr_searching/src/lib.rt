@@ -4,5 +4,5 @@
 mod searching;
 mod unresolved;
 
-pub use searching::{SearchError, edited, edits};
+pub use searching::{SearchError, edits, edits_once};
 pub use unresolved::Unresolved;

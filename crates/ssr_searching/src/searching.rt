@@ -1,14 +1,12 @@
 //! A search for rules, from its finder to the edits.
-ghost use Rattle.std.specs.Prelude.{◌≡◌, All, IfOk, map, string_bytes};
-ghost use Rattle.ssr_syntax_tree.specs.Syntax.{source_of};
-ghost use Rattle.ssr_base_trees.specs.Changes.{FitsText};
+ghost use Rattle.std.specs.Prelude.{◌≡◌, IfOk, map, string_bytes};
 ghost use Rattle.ide_ssr.specs.Adding.{Adds};
 ghost use Rattle.ide_ssr_rewriting.specs.Edits.{EditsFit};
-ghost use Rattle.ssr_searching.specs.Searching.{Reaches, new_text, rule_kinds, rules_reading};
+ghost use Rattle.ssr_searching.specs.Searching.{Reaches, ReachesBy, ReachesOnce, rule_kinds, rules_reading};
+ghost use Rattle.ssr_searching.specs.Private.Searching.{reading_of};
 
 use ide_ssr::{EditError, MatchFinder, SsrError, SsrRule};
-use ssr_base::{ApplyError, FileId, FilePosition, FileRange, Semantics, TextEdit, Workspace};
-use ssr_syntax::Tree;
+use ssr_base::{FileId, FilePosition, FileRange, Semantics, TextEdit, Workspace};
 use std::alloc::{AllocError, Global};
 use std::collections::BTreeMap;
 
@@ -48,30 +46,75 @@ impl From<AllocError> for SearchError {
     }
 }
 
+/// Which kinds of a rule are searched.
+#[derive(Clone, Copy)]
+enum Kinds {
+    /// Each of them.
+    Each,
+    /// The first one alone, where the pattern is a placeholder alone; else each of them.
+    Once,
+}
+
+/// Where names of rules are looked up, and the ranges to search in.
+#[derive(Drop)]
+struct Place {
+    position: FilePosition,
+    ranges: Vec<FileRange>,
+}
+
 /// Adds the rule that a text says.
 fn add_rule<S: Semantics>(
     alloc: Global,
     finder: &mut MatchFinder<'_, S>,
+    kinds: Kinds,
     text: &str,
 ) -> Result<(), SsrError>
-    ensures { Adds finder.old finder.new (rule_kinds (S.meanings finder.old.semantics) finder.old.context.scope text.now) result }
+    ensures { Adds finder.old finder.new (rule_kinds (reading_of kinds) (S.meanings finder.old.semantics) finder.old.context.scope text.now) result }
 {
     let rule = SsrRule::parse(alloc, text)?;
-    finder.add_rule(rule)
+    match kinds {
+        Kinds::Each => finder.add_rule(rule),
+        Kinds::Once => finder.add_rule_once(rule),
+    }
 }
 
 /// Adds the rules, in their order, up to the first refusal.
 fn add_rules<S: Semantics>(
     alloc: Global,
     finder: &mut MatchFinder<'_, S>,
+    kinds: Kinds,
     rules: &[String],
 ) -> Result<(), SsrError>
-    ensures { Adds finder.old finder.new (rules_reading (S.meanings finder.old.semantics) finder.old.context.scope (map string_bytes rules.now)) result }
+    ensures { Adds finder.old finder.new (rules_reading (reading_of kinds) (S.meanings finder.old.semantics) finder.old.context.scope (map string_bytes rules.now)) result }
 {
     for rule in rules {
-        add_rule(alloc, finder, rule.as_str())?;
+        add_rule(alloc, finder, kinds, rule.as_str())?;
     }
     Ok(())
+}
+
+/// The edits that a search for these kinds of rules comes to.
+fn edits_by<S: Semantics>(
+    alloc: Global,
+    workspace: &Workspace,
+    semantics: &S,
+    place: Place,
+    kinds: Kinds,
+    rules: &[String],
+) -> Result<BTreeMap<FileId, TextEdit>, SearchError>
+    ensures answer { ReachesBy (reading_of kinds) (record { workspace = workspace.now; meanings = S.meanings semantics.now; position = place.position; ranges = place.ranges.items }) (map string_bytes rules.now) result }
+    ensures fits { IfOk result (λ edits. EditsFit workspace.now edits) }
+{
+    let Place { position, ranges } = place;
+    let mut finder = MatchFinder::in_context(alloc, workspace, semantics, position, ranges)?;
+    add_rules(alloc, &mut finder, kinds, rules)?;
+    match finder.edits() {
+        Ok(edits) => Ok(edits),
+        Err(EditError::Clash(earlier, later)) => Err(SearchError::Clash(earlier, later)),
+        Err(EditError::Memory) => Err(SearchError::Memory),
+        // each rule has a template
+        Err(EditError::NoTemplate) => unreachable!(),
+    }
 }
 
 /// The edits that a search for rules comes to: in a workspace, with a provider, at a position and in ranges, without any of which
@@ -87,25 +130,23 @@ pub fn edits<S: Semantics>(
     ensures answer { Reaches (record { workspace = workspace.now; meanings = S.meanings semantics.now; position = position; ranges = ranges.items }) (map string_bytes rules.now) result }
     ensures fits { IfOk result (λ edits. EditsFit workspace.now edits) }
 {
-    let mut finder = MatchFinder::in_context(alloc, workspace, semantics, position, ranges)?;
-    add_rules(alloc, &mut finder, rules)?;
-    match finder.edits() {
-        Ok(edits) => Ok(edits),
-        Err(EditError::Clash(earlier, later)) => Err(SearchError::Clash(earlier, later)),
-        Err(EditError::Memory) => Err(SearchError::Memory),
-        // each rule has a template
-        Err(EditError::NoTemplate) => unreachable!(),
-    }
+    let place = Place { position, ranges };
+    edits_by(alloc, workspace, semantics, place, Kinds::Each, rules)
 }
 
-/// The text of a file with an edit made that fits it.
-pub fn edited(alloc: Global, tree: &Tree, edit: &TextEdit) -> Result<String, AllocError>
-    requires { All (FitsText (source_of tree.now)) edit.now }
-    ensures { IfOk result (λ new. string_bytes new ≡ new_text tree.now edit.now) }
+/// The edits as `edits` gives them, but that a rule whose pattern is a placeholder alone is searched by its first kind alone: by
+/// each of its kinds it matches the same nodes, and one replacement would stand in another.
+pub fn edits_once<S: Semantics>(
+    alloc: Global,
+    workspace: &Workspace,
+    semantics: &S,
+    position: FilePosition,
+    ranges: Vec<FileRange>,
+    rules: &[String],
+) -> Result<BTreeMap<FileId, TextEdit>, SearchError>
+    ensures answer { ReachesOnce (record { workspace = workspace.now; meanings = S.meanings semantics.now; position = position; ranges = ranges.items }) (map string_bytes rules.now) result }
+    ensures fits { IfOk result (λ edits. EditsFit workspace.now edits) }
 {
-    match edit.apply(alloc, tree.source()) {
-        Ok(new) => Ok(new),
-        Err(ApplyError::Memory) => Err(AllocError),
-        Err(ApplyError::Range) => unreachable!(),
-    }
+    let place = Place { position, ranges };
+    edits_by(alloc, workspace, semantics, place, Kinds::Once, rules)
 }

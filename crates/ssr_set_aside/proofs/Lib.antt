@@ -1,3 +1,4 @@
 mod Left
 mod Places
 mod KeptPlaces
+mod Beside

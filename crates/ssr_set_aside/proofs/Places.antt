@@ -1,13 +1,15 @@
 -- Places of a searched text that are places of the file's.
-use Rattle.std.proofs.Common.{◌≡◌, ℕ, suc, ◌+◌, ◌-◌, ◌<◌, ◌≤◌, ◌⊎◌, inl, inr, Bool, true, false, List, [], ◌∷◌, ◌++◌, length, get_or, refl, sym, ◌∙◌, ap, subst, arith}
-use Rattle.std.specs.Prelude.{◌&&◌, ◌||◌, not, nat_lt, if◌then◌else◌, filter}
+use Rattle.std.proofs.Common.{◌≡◌, ℕ, suc, ◌+◌, ◌-◌, ◌<◌, ◌≤◌, ◌⊎◌, inl, inr, Bool, true, false, List, [], ◌∷◌, ◌++◌, length, get_or, refl, sym, ◌∙◌, subst, arith}
+use Rattle.std.specs.Prelude.{◌||◌, not, nat_lt, if◌then◌else◌}
 use Rattle.std.specs.List.{All, list_any}
 use Rattle.std.specs.Str.{IsCharBoundary}
-use Rattle.std.proofs.lemmas.Bool.{cases_order, cases_lt, lt-ltb, ltb-false}
+use Rattle.std.proofs.lemmas.Bool.{cases_order, cases_lt, lt-ltb}
 use Rattle.std.proofs.lemmas.List.{get_or_append_left, get_or-append_right, length-append}
 use Rattle.std.proofs.lemmas.List.Elements.{All-cons, All-nil}
 use Rattle.ssr_base_trees.specs.Changes.{Change, ChangesInOrder, FitsText, IsReplaced, same, next}
-use Rattle.ssr_set_aside.specs.SetAside.{SetAside, IsSetAside, KeepsLength}
+use Rattle.ssr_base_trees.specs.Origins.{Span}
+use Rattle.ssr_syntax_tree.specs.Syntax.{source_of}
+use Rattle.ssr_set_aside.specs.SetAside.{SetAside, AreCovered, Covers, IsSetAside, KeepsLength}
 use Rattle.ssr_set_aside.specs.Sparing.{touches, touches_aside, spared}
 
 -- a place lies strictly inside of none of the changes
@@ -27,23 +29,25 @@ both_false : (x y : Bool) → (x || y) ≡ false → (x ≡ false) × (y ≡ fal
 both_false true y e = absurd (cc)
 both_false false y e = (refl, e)
 
--- a place of a change lies strictly inside of none that it doesn't touch
-not_over : (c a : Change) (p : ℕ) → c.start ≤ p → p ≤ c.end → touches c a ≡ false → a.start < p → a.end ≤ p
-not_over c a p from to e h = by (cases_lt p a.end)
+-- a place of a change lies strictly inside of none whose reach it doesn't touch
+not_over : (c a : Change) (reach : Span) (p : ℕ) → c.start ≤ p → p ≤ c.end → Covers reach a → touches c reach ≡ false → a.start < p → a.end ≤ p
+not_over c a reach p from to over e h = by (cases_lt p a.end)
   where
     by : (p < a.end) ⊎ (a.end ≤ p) → a.end ≤ p
     by (inl l) =
-        let first : nat_lt c.start a.end ≡ true = lt-ltb c.start a.end (omega arith) in
-        let second : nat_lt a.start c.end ≡ true = lt-ltb a.start c.end (omega arith) in
-        let yes : touches c a ≡ true = rw (first, second) refl in
+        let first : nat_lt c.start reach.end ≡ true = lt-ltb c.start reach.end (omega (arith, over.1)) in
+        let second : nat_lt reach.start c.end ≡ true = lt-ltb reach.start c.end (omega (arith, over.0)) in
+        let yes : touches c reach ≡ true = rw (first, second) refl in
         absurd (let no : true ≡ false = sym yes ∙ e in cc)
     by (inr l) = l
 
-none_over : (c : Change) (p : ℕ) (aside : List Change) → c.start ≤ p → p ≤ c.end → touches_aside aside c ≡ false → NoneOver p aside
-none_over c p [] from to e = tt
-none_over c p (a ∷ more) from to e =
-    let parts = both_false (touches c a) (list_any (touches c) more) e in
-    (not_over c a p from to parts.0, none_over c p more from to parts.1)
+none_over : (c : Change) (p : ℕ) (aside : List Change) (reaches : List Span) → c.start ≤ p → p ≤ c.end → AreCovered aside reaches
+    → touches_aside reaches c ≡ false → NoneOver p aside
+none_over c p [] reaches from to over e = tt
+none_over c p (a ∷ more) [] from to over e = absurd over
+none_over c p (a ∷ more) (reach ∷ reaches) from to over e =
+    let parts = both_false (touches c reach) (list_any (touches c) reaches) e in
+    (not_over c a reach p from to over.0 parts.0, none_over c p more reaches from to over.1 parts.1)
 
 -- the texts are of one length
 same_length : (at : ℕ) (before after : List ℕ) (cs : List Change) → IsReplaced at before cs after → All KeepsLength cs → length before ≡ length after
@@ -88,34 +92,35 @@ begins_or_outside text p (a ∷ more) fit none = by (cases_order a.start p) (beg
     by (inr (inr l)) (inr out) = inr ((λ h. absurd (omega arith)), out)
 
 -- a place between two characters of the searched text, strictly inside of nothing set aside, is one of the file's text
-place_stays : (text searched : List ℕ) (aside : List Change) (p : ℕ) → IsSetAside text (record { searched = searched; aside = aside })
-    → NoneOver p aside → IsCharBoundary searched p → IsCharBoundary text p
-place_stays text searched aside p is none bound = by (begins_or_outside text p aside is.fits none)
+place_stays : (text : List ℕ) (made : SetAside) (p : ℕ) → IsSetAside text made → NoneOver p made.aside
+    → IsCharBoundary (source_of made.tree) p → IsCharBoundary text p
+place_stays text made p is none bound = by (begins_or_outside text p made.aside is.fits none)
   where
-    by : IsCharBoundary text p ⊎ Outside p aside → IsCharBoundary text p
+    by : IsCharBoundary text p ⊎ Outside p made.aside → IsCharBoundary text p
     by (inl here) = here
     by (inr out) =
-        let long : length text ≡ length searched = same_length 0 text searched aside is.replaced is.lengths in
-        let out' : Outside (0 + p) aside = subst (λ q. Outside q aside) (omega arith) out in
-        let byte : get_or text p 0 ≡ get_or searched p 0 = same_byte 0 text searched aside is.replaced is.lengths p out' in
+        let searched : List ℕ = source_of made.tree in
+        let long : length text ≡ length searched = same_length 0 text searched made.aside is.replaced is.lengths in
+        let out' : Outside (0 + p) made.aside = subst (λ q. Outside q made.aside) (omega arith) out in
+        let byte : get_or text p 0 ≡ get_or searched p 0 = same_byte 0 text searched made.aside is.replaced is.lengths p out' in
         (omega (arith, bound.0, long), λ l h. rw byte (bound.1 (omega (arith, long, l)) (rw (← byte) h)))
 
--- a change that touches nothing set aside fits the file's text if it fits the searched one
-fit_one : (text searched : List ℕ) (aside : List Change) (c : Change) → IsSetAside text (record { searched = searched; aside = aside })
-    → c.start ≤ c.end → touches_aside aside c ≡ false → FitsText searched c → FitsText text c
-fit_one text searched aside c is h e fit = (
-  place_stays text searched aside c.start is (none_over c c.start aside (omega arith) h e) fit.0,
-  place_stays text searched aside c.end is (none_over c c.end aside h (omega arith) e) fit.1,
+-- a change that touches no reach fits the file's text if it fits the searched one
+fit_one : (text : List ℕ) (made : SetAside) (c : Change) → IsSetAside text made → c.start ≤ c.end
+    → touches_aside made.reaches c ≡ false → FitsText (source_of made.tree) c → FitsText text c
+fit_one text made c is h e fit = (
+  place_stays text made c.start is (none_over c c.start made.aside made.reaches (omega arith) h is.covered e) fit.0,
+  place_stays text made c.end is (none_over c c.end made.aside made.reaches h (omega arith) is.covered e) fit.1,
 )
 
 -- so do all of them
-pub fit-spared : (text searched : List ℕ) (aside : List Change) → IsSetAside text (record { searched = searched; aside = aside })
-    → (at : ℕ) (edit : List Change) → ChangesInOrder at edit → All (FitsText searched) edit → All (FitsText text) (spared aside edit)
-fit-spared text searched aside is at [] o fit = All-nil (FitsText text)
-fit-spared text searched aside is at (c ∷ cs) o fit =
-    by (touches_aside aside c) refl (fit-spared text searched aside is c.end cs o.2 (all_behind (FitsText searched) c cs fit))
+pub fit-spared : (text : List ℕ) (made : SetAside) → IsSetAside text made → (at : ℕ) (edit : List Change) → ChangesInOrder at edit
+    → All (FitsText (source_of made.tree)) edit → All (FitsText text) (spared made.reaches edit)
+fit-spared text made is at [] o fit = All-nil (FitsText text)
+fit-spared text made is at (c ∷ cs) o fit =
+    by (touches_aside made.reaches c) refl (fit-spared text made is c.end cs o.2 (all_behind (FitsText (source_of made.tree)) c cs fit))
   where
-    by : (b : Bool) → touches_aside aside c ≡ b → All (FitsText text) (spared aside cs)
-        → All (FitsText text) (if not b then c ∷ spared aside cs else spared aside cs)
+    by : (b : Bool) → touches_aside made.reaches c ≡ b → All (FitsText text) (spared made.reaches cs)
+        → All (FitsText text) (if not b then c ∷ spared made.reaches cs else spared made.reaches cs)
     by true e i = i
-    by false e i = All-cons (FitsText text) c (spared aside cs) (fit_one text searched aside c is o.1 e (fit 0 c (omega arith))) i
+    by false e i = All-cons (FitsText text) c (spared made.reaches cs) (fit_one text made c is o.1 e (fit 0 c (omega arith))) i

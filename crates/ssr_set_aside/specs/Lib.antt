@@ -1,3 +1,5 @@
 pub mod SetAside
+pub mod SetAsideCode
 pub mod Sparing
+pub mod Beside
 pub mod Private

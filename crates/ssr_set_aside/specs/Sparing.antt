@@ -3,18 +3,19 @@ use Rattle.std.specs.Prelude.{ℕ, ◌&&◌, Bool, nat_lt, not, List, map, filte
 use Rattle.std.specs.List.{list_any}
 use Rattle.ssr_syntax_kinds.specs.declared.range.TextRange.{TextRange}
 use Rattle.ssr_base_trees.specs.Changes.{Change}
+use Rattle.ssr_base_trees.specs.Origins.{Span}
 
--- A change touches another one if they share a byte, or if it stands between two bytes of it.
-abbrev pub touches : Change → Change → Bool
-touches c other = nat_lt c.start other.end && nat_lt other.start c.end
+-- A change touches the reach of a part set aside if they share a byte, or if it stands between two bytes of that.
+abbrev pub touches : Change → Span → Bool
+touches c reach = nat_lt c.start reach.end && nat_lt reach.start c.end
 
--- a change touches what is set aside
-abbrev pub touches_aside : List Change → Change → Bool
-touches_aside aside c = list_any (touches c) aside
+-- a change touches one of the reaches
+abbrev pub touches_aside : List Span → Change → Bool
+touches_aside reaches c = list_any (touches c) reaches
 
--- the changes that touch nothing set aside
-abbrev pub spared : List Change → List Change → List Change
-spared aside changes = filter (λ c. not (touches_aside aside c)) changes
+-- the changes that touch none
+abbrev pub spared : List Span → List Change → List Change
+spared reaches changes = filter (λ c. not (touches_aside reaches c)) changes
 
 -- from which byte up to before which one a change goes, and a range
 abbrev pub bounds_of : Change → ℕ × ℕ
@@ -24,5 +25,5 @@ abbrev pub bounds : TextRange → ℕ × ℕ
 bounds range = (range.start, range.end)
 
 -- the bytes of the others
-abbrev pub told : List Change → List Change → List (ℕ × ℕ)
-told aside changes = map bounds_of (filter (touches_aside aside) changes)
+abbrev pub told : List Span → List Change → List (ℕ × ℕ)
+told reaches changes = map bounds_of (filter (touches_aside reaches) changes)

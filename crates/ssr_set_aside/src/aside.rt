@@ -1,40 +1,56 @@
 //! A text as it is searched, and what of it is set aside.
-ghost use Rattle.std.specs.Prelude.{◌≡◌, string_bytes};
+ghost use Rattle.std.specs.Prelude.{◌≡◌};
+ghost use Rattle.ssr_syntax_tree.specs.Syntax.{source_of};
 
+use crate::reaches::Reaches;
 use ssr_base_trees::TextEdit;
+use ssr_syntax::Tree;
 use std::marker::Model;
 
-/// A text as it is searched, and the changes that made it of a file's text. Each change has a text of as many bytes as it
-/// replaces, so what stands in the one text at a place stands in the other at the same place.
-#[derive(Debug, Drop)]
+/// The tree of a text as it is searched, the changes that made that text of a file's, and their reaches. Each change has a text of
+/// as many bytes as it replaces, so what stands in the one text at a place stands in the other at the same place.
+#[derive(Drop)]
 pub struct SetAside {
-    searched: String,
+    tree: Tree,
     aside: TextEdit,
+    reaches: Reaches,
 }
 
 impl Model for SetAside {
-    ghost use Rattle.std.specs.Prelude.{string_bytes};
     ghost use Rattle.ssr_set_aside.specs.SetAside.{SetAside as SetAsideValue};
+    ghost use Rattle.ssr_set_aside.specs.SetAsideCode.{set_aside_code};
 
     ghost Value = { SetAsideValue };
 
-    ghost view = { λ text. record { searched = string_bytes text.searched; aside = text.aside } };
+    ghost coded = { set_aside_code };
+
+    ghost view = { λ made. record { tree = made.tree; aside = made.aside; reaches = made.reaches } };
 }
 
 impl SetAside {
-    /// The text that is searched, and the changes that made it.
-    pub(crate) fn new(searched: String, aside: TextEdit) -> SetAside
-        ensures searched { result.searched ≡ string_bytes searched }
-        ensures aside { result.aside ≡ aside }
+    /// The tree of the text that is searched, the changes that made that text, and their reaches.
+    pub(crate) fn new(tree: Tree, aside: TextEdit, reaches: Reaches) -> SetAside
+        ensures { result ≡ record { tree = tree; aside = aside; reaches = reaches } }
     {
-        SetAside { searched, aside }
+        SetAside {
+            tree,
+            aside,
+            reaches,
+        }
+    }
+
+    /// The tree of the text that is searched.
+    pub fn tree(&self) -> &Tree
+        ensures { result.now ≡ self.now.tree }
+    {
+        &self.tree
     }
 
     /// The text that is searched.
     pub fn searched(&self) -> &str
-        ensures { result.now ≡ self.now.searched }
+        ensures { result.now ≡ source_of self.now.tree }
     {
-        self.searched.as_str()
+        self.tree.source()
     }
 
     /// The changes of the file's text that made it: none where the file is read as it stands.
@@ -44,12 +60,24 @@ impl SetAside {
         &self.aside
     }
 
-    /// The text that is searched, and the changes.
-    pub fn into_parts(self) -> (String, TextEdit)
-        ensures searched { string_bytes result.0 ≡ self.searched }
-        ensures aside { result.1 ≡ self.aside }
+    /// The bytes that no match may touch.
+    pub fn reaches(&self) -> &Reaches
+        ensures { result.now ≡ self.now.reaches }
     {
-        let SetAside { searched, aside } = self;
-        (searched, aside)
+        &self.reaches
+    }
+
+    /// The tree of the text that is searched, the changes, and their reaches.
+    pub fn into_parts(self) -> (Tree, TextEdit, Reaches)
+        ensures tree { result.0 ≡ self.tree }
+        ensures aside { result.1 ≡ self.aside }
+        ensures reaches { result.2 ≡ self.reaches }
+    {
+        let SetAside {
+            tree,
+            aside,
+            reaches,
+        } = self;
+        (tree, aside, reaches)
     }
 }

@@ -1,8 +1,9 @@
-//! Changes that keep the place of each byte outside of them.
-ghost use Rattle.std.specs.Prelude.{IsTrue, All};
+//! Changes that keep the place of each byte outside of them, and their reaches.
+ghost use Rattle.std.specs.Prelude.{IsTrue, All, map};
 ghost use Rattle.ssr_base_trees.specs.Changes.{ChangesInOrder};
 ghost use Rattle.ssr_base_trees.specs.Applied.{changes_of};
-ghost use Rattle.ssr_set_aside.specs.SetAside.{KeepsLength};
+ghost use Rattle.ssr_base_trees.specs.Origins.{span_of};
+ghost use Rattle.ssr_set_aside.specs.SetAside.{AreCovered, BeginInOrder, KeepsLength};
 
 use ssr_syntax_kinds::TextRange;
 
@@ -19,4 +20,24 @@ pub(crate) fn keep_places(changes: &[(TextRange, String)]) -> bool
         end = range.end;
     }
     true
+}
+
+/// Whether each change has its reach, which covers it, and the reaches are in the order of where they begin.
+pub(crate) fn cover(changes: &[(TextRange, String)], reaches: &[TextRange]) -> bool
+    ensures covered { IsTrue result → AreCovered (changes_of changes.now) (map span_of reaches.now) }
+    ensures order { IsTrue result → BeginInOrder 0 (map span_of reaches.now) }
+{
+    let mut left = reaches;
+    let mut from = 0;
+    for (range, _) in changes {
+        let Some((reach, others)) = left.split_first() else {
+            return false;
+        };
+        if reach.start < from || range.start < reach.start || reach.end < range.end {
+            return false;
+        }
+        from = reach.start;
+        left = others;
+    }
+    left.is_empty()
 }

@@ -3,17 +3,13 @@
 #![tactic(auto)]
 
 mod aside;
-mod draft;
 mod keeping;
-mod rules;
+pub mod laws;
+mod reaches;
 mod setting;
-mod settling;
-mod source_file;
 mod sparing;
-mod treatment;
-mod units;
 
 pub use aside::SetAside;
+pub use reaches::Reaches;
 pub use setting::set_aside;
-pub use source_file::SourceFile;
 pub use sparing::{Spared, spare};

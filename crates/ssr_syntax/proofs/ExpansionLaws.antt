@@ -26,7 +26,7 @@ short_was : (read : Result Syntax SyntaxError) (text : List ℕ) (s : Syntax) (b
 short_was read text s true e h = (ltb-true (length text) (2 ^ 32) e, h)
 short_was read text s false e h = cc
 
-expansion_sound : (kind : ExpansionKind) (tokens : List ExpToken) (s : Syntax) → expansion_reading kind tokens ≡ Ok s → IsTreeOfExpansion kind tokens s
+pub expansion_sound : (kind : ExpansionKind) (tokens : List ExpToken) (s : Syntax) → expansion_reading kind tokens ≡ Ok s → IsTreeOfExpansion kind tokens s
 unfolding expansion_reading
 expansion_sound kind tokens s e =
     let text : List ℕ = expansion_text tokens in

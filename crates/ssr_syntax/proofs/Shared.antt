@@ -1,7 +1,8 @@
 -- The laws of texts and their trees that the crates above may cite. The other files of lemmas here are this crate's own.
 
--- a fragment that is read has a tree that fits
-pub use Rattle.ssr_syntax.proofs.TextLaws.{fragment_sound}
+-- what is read has a tree that fits, and the tokens of a file's tree are texts
+pub use Rattle.ssr_syntax.proofs.TextLaws.{file_sound, file_texts, file_read, fragment_sound}
+pub use Rattle.ssr_syntax.proofs.ExpansionLaws.{expansion_sound}
 -- why a file isn't read
 pub use Rattle.ssr_syntax.proofs.MemoryFree.{file_needs_none}
 -- identifiers in the tree of a fragment

@@ -1,6 +1,6 @@
 -- Laws of the reading of texts: its trees fit and spell the text, and what fits is read.
 use Rattle.std.proofs.Common.{◌≡◌, ℕ, suc, ◌^◌, ◌<◌, ◌≤◌, Bool, true, false, ◌&&◌, if◌then◌else◌, List, [], length, Some, None, ◌⊎◌, inl, inr, refl, sym, ◌∙◌, ap, subst, arith}
-use Rattle.std.specs.Prelude.{nat_lt, reverse, Option, Result, Ok, Err, IfOk}
+use Rattle.std.specs.Prelude.{All, nat_lt, reverse, Option, Result, Ok, Err, IfOk}
 use Rattle.std.specs.Result.{IsErr, IsErrAnd}
 use Rattle.std.specs.Str.{IsUtf8}
 use Rattle.std.proofs.lemmas.Bool.{ltb-true, ltb-false, lt-ltb, le-ltb}
@@ -8,7 +8,7 @@ use Rattle.ssr_syntax_kinds.specs.declared.kinds.SyntaxKind.{SyntaxKind}
 use Rattle.ssr_syntax_lex.specs.declared.tokens.RawToken.{RawToken}
 use Rattle.ssr_syntax_lex.specs.Tokens.{tokens, spell as spelled_by}
 use Rattle.ssr_syntax_lex.proofs.Shared.{tokens_tile, tiles_spell}
-use Rattle.ssr_syntax_tree.specs.Syntax.{Syntax, nothing, branch, depth_of, source_of, most_deep}
+use Rattle.ssr_syntax_tree.specs.Syntax.{Syntax, nothing, branch, depth_of, source_of, tokens_of, most_deep}
 use Rattle.ssr_syntax_kinds.specs.declared.fragment.Fragment.{Fragment}
 use Rattle.ssr_syntax_types.specs.declared.goals.Goal.{Goal}
 use Rattle.ssr_syntax_types.specs.declared.goals.Goal.TheVariants as goals
@@ -20,10 +20,10 @@ use Rattle.ssr_syntax_forms.specs.Trees.{Forest, done, tree, height}
 use Rattle.ssr_syntax_rows.specs.Leaves.{leaves}
 use Rattle.ssr_syntax_forms.proofs.Shared.{IsShallow, shallow_of, goals_by_rules}
 use Rattle.ssr_syntax_rows.specs.Lossless.{whole_tree, IsTrimmed}
-use Rattle.ssr_syntax.specs.Reading.{reading, most_levels, one_tree, tree_reading, unless_misnamed, lexed_reading, short_reading, file_reading, fragment_reading, trimmed, goal_of, error_of, Answers, AnswersTrimmed, FitsTokens, FitsFile, FitsFragment, IsTreeOfFile, IsTreeOfFragment, IsThatOrTooDeep, IsLexFault, Refuses}
+use Rattle.ssr_syntax.specs.Reading.{reading, most_levels, IsRead, one_tree, tree_reading, unless_misnamed, lexed_reading, short_reading, file_reading, fragment_reading, trimmed, goal_of, error_of, Answers, AnswersTrimmed, FitsTokens, FitsFile, FitsFragment, IsTreeOfFile, IsTreeOfFragment, IsThatOrTooDeep, IsLexFault, Refuses}
 use Rattle.ssr_syntax_rows.specs.Solid.{pieces, begins_solid, solid_tokens}
 use Rattle.ssr_syntax_rows.specs.MacroRules.{misnames_macros}
-use Rattle.ssr_syntax_rows.proofs.Shared.{AreSolid, trimmed-whole, trimmed-root, IsUtf8-trim, trim_shorter, whole-depth, whole-source}
+use Rattle.ssr_syntax_rows.proofs.Shared.{AreSolid, trimmed-whole, trimmed-root, IsUtf8-trim, trim_shorter, whole-depth, whole-source, whole-texts}
 use Rattle.ssr_syntax.specs.Grammar.{grammar}
 use Rattle.ssr_syntax.proofs.Whole.{one_fits, reading_fits, reading_complete}
 use Rattle.ssr_syntax.proofs.Texts.{ReadsAs, is_read, read_given, reading_is, read_is, read_ok, read_too_deep}
@@ -170,6 +170,25 @@ file_sound text s utf8 e =
       shallow = t.2;
       trimmed_nodes = subst (λ v. IsTrimmed v.children) t.3.3 (trimmed-whole t.3.0 t.3.1 (pieces text raw) t.3.2);
     }
+
+-- each token of the tree is a text
+pub file_texts : (text : List ℕ) (s : Syntax) → IsUtf8 text → file_reading text ≡ Ok s → All (λ token. IsUtf8 token.text) (tokens_of s)
+unfolding file_reading
+file_texts text s utf8 e =
+    let l = short_ok (tree_reading goals.File text) text text s (nat_lt (length text) (2 ^ 32)) refl e in
+    let raw : List RawToken = l.1.0 in
+    let whole = (tokens_sound goals.File text raw s (spells_text text raw utf8 l.1.1) l.1.2).3 in
+    subst (λ v. All (λ token. IsUtf8 token.text) (tokens_of v)) whole.3
+    (whole-texts text raw whole.0 whole.1 utf8 (tokens_tile text raw utf8 l.1.1) whole.2)
+
+pub file_read : (text : List ℕ) (s : Syntax) → IsUtf8 text → file_reading text ≡ Ok s → IsRead s
+file_read text s utf8 e =
+    let spells = (file_sound text s utf8 e).spells in
+    record { text = subst IsUtf8 (sym spells) utf8; reading = ap file_reading spells ∙ e }
+
+pub file_answers_read : (text : List ℕ) (r : Result Syntax SyntaxError) → IsUtf8 text → Answers r (file_reading text) text → IfOk r IsRead
+file_answers_read text (Ok s) utf8 h = file_read text s utf8 h
+file_answers_read text (Err e) utf8 h = tt
 
 pub file_answers : (text : List ℕ) (r : Result Syntax SyntaxError) → IsUtf8 text → Answers r (file_reading text) text → IfOk r (IsTreeOfFile text)
 file_answers text (Ok s) utf8 h = file_sound text s utf8 h

@@ -1,7 +1,7 @@
 -- The reading of a list of tokens and of a text, and what fits a text.
 use Rattle.std.specs.Prelude.{◌≡◌, ◌≢◌, ℕ, ◌+◌, ◌-◌, ◌^◌, ◌<◌, ◌≤◌, nat_lt, true, false, ◌&&◌, if◌then◌else◌, List, [], ◌∷◌, length, reverse, Some, None, Result, Ok, Err}
 use Rattle.std.specs.Borrow.{Bor}
-use Rattle.std.specs.Str.{trim, trim_start}
+use Rattle.std.specs.Str.{IsUtf8, trim, trim_start}
 use Rattle.ssr_syntax_kinds.specs.declared.kinds.SyntaxKind.{SyntaxKind}
 use Rattle.ssr_syntax_lex.specs.declared.tokens.RawToken.{RawToken}
 use Rattle.ssr_syntax_lex.specs.Tokens.{tokens}
@@ -174,6 +174,11 @@ pub record IsTreeOfFragment (fragment : Fragment) (text : List ℕ) (syntax : Sy
   pub spells : source_of syntax ≡ trimmed text
   pub shallow : depth_of syntax ≤ most_deep
   pub trimmed_nodes : IsTrimmed (plain.branch syntax.kind syntax.children plain.nothing)
+
+-- a tree is the reading of the text that it spells
+pub record IsRead (syntax : Syntax) : Type 0 where
+  pub text : IsUtf8 (source_of syntax)
+  pub reading : file_reading (source_of syntax) ≡ Ok syntax
 
 -- The answer is this tree, or the tree is too deep and that is told. Want of memory says nothing.
 abbrev pub IsThatOrTooDeep : {R : Type 0} → (R → Syntax) → Syntax → Result R SyntaxError → Type 0

@@ -2,7 +2,7 @@
 ghost use Rattle.std.specs.Prelude.{◌≡◌, ◌<◌, ◌≤◌, ◌^◌, List, length, Some, IfOk, IfErr, string_bytes};
 ghost use Rattle.ssr_syntax.specs.declared.syntax_error.SyntaxError.TheVariants.{TooLong};
 ghost use Rattle.ssr_syntax_lex.specs.Tokens.{tokens, rows_in};
-ghost use Rattle.ssr_syntax.specs.Reading.{Answers, AnswersTrimmed, tree_reading, file_reading, fragment_reading, FitsFile, FitsFragment, IsTreeOfFile, IsTreeOfFragment, IsThatOrTooDeep};
+ghost use Rattle.ssr_syntax.specs.Reading.{Answers, AnswersTrimmed, tree_reading, file_reading, fragment_reading, FitsFile, FitsFragment, IsRead, IsTreeOfFile, IsTreeOfFragment, IsThatOrTooDeep};
 ghost use Rattle.ssr_syntax.specs.Private.Reading.{IsLexed, IsCut, IsWritten};
 ghost use Rattle.ssr_syntax_lex.specs.declared.tokens.RawToken.{RawToken};
 ghost use Rattle.ssr_syntax_types.specs.declared.goals.Goal.{Goal};
@@ -106,6 +106,7 @@ pub(crate) fn written_tree(
 pub fn parse_file(alloc: Global, text: &str) -> Result<Tree, SyntaxError>
     ensures answers { Answers result (file_reading text.now) text.now }
     ensures sound { IfOk result (λ tree. IsTreeOfFile text.now tree) }
+    ensures read { IfOk result IsRead }
     ensures complete { (syntax : Syntax) → length text.now < 2 ^ 32 → FitsFile text.now syntax → IsThatOrTooDeep (λ tree. tree) syntax result }
 {
     check_length(text)?;
@@ -116,6 +117,7 @@ pub fn parse_file(alloc: Global, text: &str) -> Result<Tree, SyntaxError>
 pub fn parse_file_owned(alloc: Global, text: String) -> Result<Tree, SyntaxError>
     ensures answers { Answers result (file_reading (string_bytes text)) (string_bytes text) }
     ensures sound { IfOk result (λ tree. IsTreeOfFile (string_bytes text) tree) }
+    ensures read { IfOk result IsRead }
     ensures complete { (syntax : Syntax) → length (string_bytes text) < 2 ^ 32 → FitsFile (string_bytes text) syntax
         → IsThatOrTooDeep (λ tree. tree) syntax result }
 {

@@ -17,6 +17,6 @@ pub use Rattle.ssr_syntax_rows.proofs.TreeTokens.{taken_rows, behind_nothing, jo
 -- tokens that are texts
 pub use Rattle.ssr_syntax_rows.proofs.Wholes.{AreTexts, texts-append, texts_spelled, texts_split}
 -- the whole tree of a text
-pub use Rattle.ssr_syntax_rows.proofs.Wholes.{whole-tokens, whole-depth, whole-source, start_of, whole_parts, count_fits}
+pub use Rattle.ssr_syntax_rows.proofs.Wholes.{whole-tokens, whole-depth, whole-source, whole-texts, start_of, whole_parts, count_fits}
 -- where white space and comments don't stand
 pub use Rattle.ssr_syntax_rows.proofs.Trimmed.{solid_sides, trimmed-whole, trimmed-root}

@@ -126,6 +126,14 @@ texts_laid (u ∷ us) ts h =
     (texts-append (gap n ts) (token_of u ts ∷ all_laid us (past n ts)) here.0
     (texts_spelled (upto n (behind_gap n ts)) here.1, texts_laid us (past n ts) sides.1))
 
+pub whole-texts : (text : List ℕ) (raw : List RawToken) (kind : SyntaxKind) (kids : Forest) → IsUtf8 text → Tiles text raw → AreSolid (leaves kids)
+    → All (λ token. IsUtf8 token.text) (tokens_of (whole_tree kind kids (pieces text raw)))
+whole-texts text raw kind kids utf8 tiles are =
+    let ts = pieces text raw in
+    subst (All (λ token. IsUtf8 token.text)) (sym (whole-tokens kind kids ts are))
+    (All-from_recursion (λ token. IsUtf8 token.text) (all_laid (leaves kids) ts)
+    (texts_laid (leaves kids) ts (tiled_texts text 0 raw utf8 tiles)))
+
 -- the parts of the flat tree
 pub whole_parts : (text : List ℕ) (raw : List RawToken) (kind : SyntaxKind) (kids : Forest) (source : List ℕ) (tokens : List TokenRow) (rows : List NodeRow)
     → IsUtf8 text → length text < 2 ^ 32 → Tiles text raw → spell text raw ≡ text
@@ -138,9 +146,7 @@ whole_parts text raw kind kids source tokens rows utf8 short tiles spells are fe
     let all : tokens_of (whole_tree kind kids ts) ≡ all_laid (leaves kids) ts = whole-tokens kind kids ts are in
     record {
       spells = source_is ∙ sym (whole-source text raw kind kids are spells);
-      texts = subst (All (λ token. IsUtf8 token.text)) (sym all)
-          (All-from_recursion (λ token. IsUtf8 token.text) (all_laid (leaves kids) ts)
-          (texts_laid (leaves kids) ts (tiled_texts text 0 raw utf8 tiles)));
+      texts = whole-texts text raw kind kids utf8 tiles are;
       tokens_are = tokens_is ∙ laid_rows text (leaves kids) raw tiles are few ∙ ap (token_rows 0) (sym all);
       nodes_are = rows_is ∙ whole-rows text raw kind kids tiles are few;
       short = omega (arith, ap length source_is);

@@ -1,256 +1,31 @@
-//! A file system in memory, of whose calls one fails.
+//! What new texts are written to. What it was asked is known to proofs alone.
+ghost use Rattle.std.specs.Prelude.{◌≡◌, List, [], ◌∷◌, ◌++◌, OnErr, OnOk};
+ghost use Rattle.ssr_writing.specs.Disk.{Call, Made, Missed, NotMade, NotRenamed, Removed, Renamed, Saw};
 
-use std::alloc::{Allocator, Global};
-use std::cell::{Cell, RefCell};
-use std::fs::{Metadata, OpenFile, OpenOptions, Permissions};
-use std::io;
-use std::io::{Empty, ErrorKind, Read, Seek, SeekFrom, Write};
-use std::rt::Files;
+use crate::faults::WriteFault;
+use std::fs::Permissions;
 
-/// A file or a link. One that was removed has no path.
-#[derive(Drop)]
-struct Node {
-    path: Option<String>,
-    bytes: Vec<u8>,
-    is_link: bool,
-}
+/// A disk. Others may write to it at any time, so it tells what it was asked, and not what it has.
+pub trait Disk {
+    // The calls so far, the latest last.
+    ghost calls: { Self → List Call };
 
-/// Files in memory. As many calls as `left` succeed, then one fails, and all later ones succeed.
-#[derive(Drop)]
-pub(crate) struct Disk {
-    alloc: Global,
-    nodes: RefCell<Vec<Node>>,
-    left: Cell<usize>,
-}
+    /// The permissions of a regular file, reached through no link, that has exactly this text.
+    fn see(&mut self, path: &str, text: &str) -> Result<Permissions, WriteFault>
+        ensures ok { OnOk result (calls self.new ≡ calls self.old ++ Saw path.now text.now ∷ []) }
+        ensures err { OnErr result (calls self.new ≡ calls self.old ++ Missed path.now ∷ []) };
 
-impl Disk {
-    pub(crate) fn new(alloc: Global, left: usize) -> Disk {
-        Disk {
-            alloc,
-            nodes: RefCell::new(Vec::new(alloc)),
-            left: Cell::new(left),
-        }
-    }
+    /// Makes a new file with this text, whole and lasting. Where that fails it isn't there.
+    fn make(&mut self, path: &str, text: &str, permissions: Permissions) -> Result<(), WriteFault>
+        ensures ok { OnOk result (calls self.new ≡ calls self.old ++ Made path.now text.now ∷ []) }
+        ensures err { OnErr result (calls self.new ≡ calls self.old ++ NotMade path.now ∷ []) };
 
-    /// Puts a file there, or a link, and tells its number.
-    pub(crate) fn add(&self, path: &str, text: &str, is_link: bool) -> io::Result<usize> {
-        let path = Some(String::from_str(self.alloc, path)?);
-        let bytes = text.as_bytes().to_vec(self.alloc)?;
-        let mut nodes = self.nodes.try_borrow_mut()?;
-        let number = nodes.len();
-        nodes.push(Node {
-            path,
-            bytes,
-            is_link,
-        })?;
-        Ok(number)
-    }
+    /// Puts a file in the place of another.
+    fn rename(&mut self, from: &str, to: &str) -> Result<(), WriteFault>
+        ensures ok { OnOk result (calls self.new ≡ calls self.old ++ Renamed from.now to.now ∷ []) }
+        ensures err { OnErr result (calls self.new ≡ calls self.old ++ NotRenamed from.now to.now ∷ []) };
 
-    /// How many files and links there are.
-    pub(crate) fn count(&self) -> io::Result<usize> {
-        let nodes = self.nodes.try_borrow()?;
-        Ok(nodes.iter().filter(|node| node.path.is_some()).count())
-    }
-
-    /// Whether a file has this text.
-    pub(crate) fn has(&self, path: &str, text: &str) -> io::Result<bool> {
-        let number = self.find(path)?;
-        let nodes = self.nodes.try_borrow()?;
-        match nodes.get(number) {
-            Some(node) => Ok(node.bytes.as_slice() == text.as_bytes()),
-            None => Ok(false),
-        }
-    }
-
-    /// Counts a call, which may be the one that fails.
-    fn call(&self) -> io::Result<()> {
-        let left = self.left.get();
-        if left == 0 {
-            self.left.set(usize::MAX);
-            return Err(io::Error::other("it fails"));
-        }
-        self.left.set(left - 1);
-        Ok(())
-    }
-
-    fn find(&self, path: &str) -> io::Result<usize> {
-        let nodes = self.nodes.try_borrow()?;
-        for (number, node) in nodes.iter().enumerate() {
-            if let Some(own) = &node.path {
-                if own.as_str() == path {
-                    return Ok(number);
-                }
-            }
-        }
-        Err(io::Error::from(ErrorKind::NotFound))
-    }
-
-    /// Gives a node another path, or none.
-    fn name(&self, number: usize, path: Option<String>) -> io::Result<()> {
-        let mut nodes = self.nodes.try_borrow_mut()?;
-        if let Some(node) = nodes.get_mut(number) {
-            node.path = path;
-        }
-        Ok(())
-    }
-}
-
-/// The disk as a runtime.
-#[derive(Clone, Copy)]
-pub(crate) struct OfDisk<'a>(pub(crate) &'a Disk);
-
-impl Alloc for OfDisk<'_> {
-    type A = Global;
-
-    fn alloc(&self) -> Global {
-        self.0.alloc
-    }
-}
-
-/// An open file. A call reads or writes one byte.
-#[derive(Drop)]
-pub(crate) struct Handle<'a> {
-    disk: &'a Disk,
-    number: usize,
-    at: usize,
-}
-
-impl Read for Handle<'_> {
-    fn read(&mut self, buf: &mut [u8]) -> io::Result<usize> {
-        self.disk.call()?;
-        let nodes = self.disk.nodes.try_borrow()?;
-        let Some(node) = nodes.get(self.number) else {
-            return Ok(0);
-        };
-        match (node.bytes.get(self.at), buf.first_mut()) {
-            (Some(byte), Some(place)) => {
-                *place = *byte;
-                self.at = self.at.saturating_add(1);
-                Ok(1)
-            }
-            _ => Ok(0),
-        }
-    }
-}
-
-impl Write for Handle<'_> {
-    fn write(&mut self, buf: &[u8]) -> io::Result<usize> {
-        self.disk.call()?;
-        let mut nodes = self.disk.nodes.try_borrow_mut()?;
-        match (nodes.get_mut(self.number), buf.first()) {
-            (Some(node), Some(byte)) => {
-                node.bytes.push(*byte)?;
-                Ok(1)
-            }
-            _ => Ok(0),
-        }
-    }
-
-    fn flush(&mut self) -> io::Result<()> {
-        Ok(())
-    }
-}
-
-fn unsupported() -> io::Error {
-    io::Error::from(ErrorKind::Unsupported)
-}
-
-impl Seek for Handle<'_> {
-    fn seek(&mut self, _to: SeekFrom) -> io::Result<u64> {
-        Err(unsupported())
-    }
-}
-
-impl OpenFile for Handle<'_> {
-    fn metadata(&self) -> io::Result<Metadata> {
-        Err(unsupported())
-    }
-
-    fn set_len(&self, _size: u64) -> io::Result<()> {
-        Err(unsupported())
-    }
-
-    fn sync_all(&self) -> io::Result<()> {
-        self.disk.call()
-    }
-
-    fn sync_data(&self) -> io::Result<()> {
-        Err(unsupported())
-    }
-
-    fn set_permissions(&self, _perm: Permissions) -> io::Result<()> {
-        self.disk.call()
-    }
-}
-
-impl<'a> Files for OfDisk<'a> {
-    type File = Handle<'a>;
-
-    type Dir = Empty;
-
-    fn open_file(&self, how: &OpenOptions, path: &str) -> io::Result<Handle<'a>> {
-        let disk = self.0;
-        how.check()?;
-        disk.call()?;
-        let number = match disk.find(path) {
-            Ok(_) if how.asks_create_new() => return Err(io::Error::from(ErrorKind::AlreadyExists)),
-            Ok(number) => number,
-            Err(_) if how.asks_create_new() => disk.add(path, "", false)?,
-            Err(error) => return Err(error),
-        };
-        Ok(Handle {
-            disk,
-            number,
-            at: 0,
-        })
-    }
-
-    fn open_dir(&self, _path: &str) -> io::Result<Empty> {
-        Err(unsupported())
-    }
-
-    fn metadata(&self, _path: &str) -> io::Result<Metadata> {
-        Err(unsupported())
-    }
-
-    fn symlink_metadata(&self, path: &str) -> io::Result<Metadata> {
-        self.0.call()?;
-        let number = self.0.find(path)?;
-        let nodes = self.0.nodes.try_borrow()?;
-        match nodes.get(number) {
-            Some(node) if !node.is_link => Ok(Metadata::of_file(node.bytes.len() as u64)),
-            _ => Ok(Metadata::of_symlink(0)),
-        }
-    }
-
-    fn copy(&self, _from: &str, _to: &str) -> io::Result<u64> {
-        Err(unsupported())
-    }
-
-    fn rename(&self, from: &str, to: &str) -> io::Result<()> {
-        self.0.call()?;
-        let number = self.0.find(from)?;
-        if let Ok(other) = self.0.find(to) {
-            self.0.name(other, None)?;
-        }
-        self.0
-            .name(number, Some(String::from_str(self.0.alloc, to)?))
-    }
-
-    fn remove_file(&self, path: &str) -> io::Result<()> {
-        self.0.call()?;
-        self.0.name(self.0.find(path)?, None)
-    }
-
-    fn create_dir(&self, _path: &str) -> io::Result<()> {
-        Err(unsupported())
-    }
-
-    fn remove_dir(&self, _path: &str) -> io::Result<()> {
-        Err(unsupported())
-    }
-
-    fn remove_dir_all<B: Allocator>(&self, _alloc: B, _path: &str) -> io::Result<()> {
-        Err(unsupported())
-    }
+    /// Removes a file. One that can't be removed stays, since nothing more can be done.
+    fn remove(&mut self, path: &str)
+        ensures { calls self.new ≡ calls self.old ++ Removed path.now ∷ [] };
 }

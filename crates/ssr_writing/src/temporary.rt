@@ -7,10 +7,10 @@ ghost use Rattle.ssr_writing.specs.Temporary.{temporary_path};
 use crate::faults::WriteFault;
 use std::alloc::{AllocError, Global};
 use std::fs::{File, OpenFile, Permissions};
+use std::io;
 use std::io::{ErrorKind, Read, Write};
 use std::path::Path;
 use std::rt::Files;
-use std::{fs, io};
 
 /// The path of the temporary file: for `src/lib.rs` it is `src/.lib.rs.ssr-tmp`.
 pub(crate) fn temporary_path(alloc: Global, path: &str) -> Result<String, AllocError>
@@ -54,11 +54,4 @@ pub(crate) fn fill<F: Write + OpenFile>(
     file.set_permissions(permissions)?;
     file.write_all(text.as_bytes())?;
     file.sync_all()
-}
-
-/// Removes temporary files. One that can't be removed stays, since nothing more can be done.
-pub(crate) fn remove_all<R: Files>(rt: &R, paths: &[String]) {
-    for path in paths {
-        let _ = fs::remove_file(rt, path.as_str());
-    }
 }

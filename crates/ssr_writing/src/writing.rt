@@ -1,13 +1,11 @@
 //! New texts for the files of a run.
-ghost use Rattle.std.specs.Prelude.{◌≡◌, ◌<◌, IfOk, IfErr, length, map, string_bytes};
-ghost use Rattle.ssr_writing.specs.Temporary.{temporary_path};
+ghost use Rattle.std.specs.Prelude.{◌≡◌, ◌<◌, ◌++◌, IfOk, IfErr, OnErr, OnOk, flat_map, length, map, string_bytes};
+ghost use Rattle.ssr_writing.specs.Disk.{Asks, Failing, Removed, Stops, StopsMaking, StopsReplacing, fails_to_make, fails_to_replace, makes, replaces, temporary_of, writes};
 
+use crate::disk::Disk;
 use crate::faults::{WriteError, WriteFault};
-use crate::temporary::{create, fill, reads_as, remove_all, temporary_path};
+use crate::temporary::temporary_path;
 use std::alloc::{AllocError, Global};
-use std::fs;
-use std::fs::Permissions;
-use std::rt::Files;
 
 /// A file that gets a new text, where it still has the old one.
 #[derive(Clone, Copy, Debug)]
@@ -17,43 +15,42 @@ pub struct NewText<'a> {
     pub new: &'a str,
 }
 
-/// The permissions of a file that gets a new text, if it is a regular file that has its old one.
-fn permissions_of<R: Files + AllocGlobal>(
-    rt: &R,
-    file: &NewText<'_>,
-) -> Result<Permissions, WriteFault> {
-    let metadata = fs::symlink_metadata(rt, file.path)?;
-    if !metadata.is_file() {
-        return Err(WriteFault::NoRegularFile);
-    }
-    let mut reader = fs::open(rt, file.path)?;
-    if !reads_as(rt.alloc(), &mut reader, file.old)? {
-        return Err(WriteFault::Changed);
-    }
-    Ok(metadata.permissions())
+/// Makes a file's temporary file, where the file has its old text.
+fn prepare<D: Disk>(disk: &mut D, file: &NewText<'_>, temporary: &str) -> Result<(), WriteFault>
+    requires { temporary.now ≡ temporary_of file.now }
+    ensures ok { OnOk result (D.calls disk.new ≡ D.calls disk.old ++ makes file.now) }
+    ensures err { OnErr result ((how : Failing) × (D.calls disk.new ≡ D.calls disk.old ++ fails_to_make how file.now)) }
+{
+    let permissions = disk.see(file.path, file.old)?;
+    disk.make(temporary, file.new, permissions)?;
+    Ok(())
 }
 
-/// Makes a file's temporary file, whole and on the disk. Where that fails it isn't there.
-fn prepare<R: Files + AllocGlobal>(
-    rt: &R,
-    file: &NewText<'_>,
-    temporary: &str,
-) -> Result<(), WriteFault> {
-    let permissions = permissions_of(rt, file)?;
-    let mut made = create(rt, temporary)?;
-    match fill(&mut made, file.new, permissions) {
-        Ok(()) => Ok(()),
-        Err(error) => {
-            let _ = fs::remove_file(rt, temporary);
-            Err(WriteFault::Io(error))
-        }
+/// Puts a file's temporary file in its place, where the file still has its old text. Between the two calls another program may
+/// save the file: no system offers both as one.
+fn replace<D: Disk>(disk: &mut D, file: &NewText<'_>, temporary: &str) -> Result<(), WriteFault>
+    requires { temporary.now ≡ temporary_of file.now }
+    ensures ok { OnOk result (D.calls disk.new ≡ D.calls disk.old ++ replaces file.now) }
+    ensures err { OnErr result ((how : Failing) × (D.calls disk.new ≡ D.calls disk.old ++ fails_to_replace how file.now)) }
+{
+    disk.see(file.path, file.old)?;
+    disk.rename(temporary, file.path)?;
+    Ok(())
+}
+
+/// Removes temporary files.
+fn remove_all<D: Disk>(disk: &mut D, paths: &[String])
+    ensures { D.calls disk.new ≡ D.calls disk.old ++ map (λ path. Removed (string_bytes path)) paths.now }
+{
+    for path in paths {
+        disk.remove(path.as_str());
     }
 }
 
 /// The paths of the temporary files.
 fn temporary_paths(alloc: Global, files: &[NewText<'_>]) -> Result<Vec<String>, AllocError>
     ensures count { IfOk result (λ paths. length paths.items ≡ length files.now) }
-    ensures beside { IfOk result (λ paths. map string_bytes paths.items ≡ map (λ file. temporary_path file.path.now) files.now) }
+    ensures beside { IfOk result (λ paths. map string_bytes paths.items ≡ map temporary_of files.now) }
 {
     let mut paths = Vec::with_capacity(alloc, files.len())?;
     for file in files {
@@ -63,18 +60,19 @@ fn temporary_paths(alloc: Global, files: &[NewText<'_>]) -> Result<Vec<String>, 
 }
 
 /// Makes all temporary files, or none.
-fn prepare_all<R: Files + AllocGlobal>(
-    rt: &R,
+fn prepare_all<D: Disk>(
+    disk: &mut D,
     files: &[NewText<'_>],
     temporaries: &[String],
 ) -> Result<(), WriteError>
-    requires { length temporaries.now ≡ length files.now }
-    ensures failed { IfErr result (λ e. e.failed < length files.now) }
+    requires { map string_bytes temporaries.now ≡ map temporary_of files.now }
+    ensures ok { OnOk result (D.calls disk.new ≡ D.calls disk.old ++ flat_map makes files.now) }
+    ensures err { IfErr result (λ e. Asks (D.calls disk.old) (D.calls disk.new) (StopsMaking files.now e.failed)) }
     ensures written { IfErr result (λ e. e.written ≡ 0) }
 {
     for (index, file) in files.iter().enumerate() {
-        if let Err(why) = prepare(rt, file, temporaries[index].as_str()) {
-            remove_all(rt, &temporaries[..index]);
+        if let Err(why) = prepare(disk, file, temporaries[index].as_str()) {
+            remove_all(disk, &temporaries[..index]);
             return Err(WriteError {
                 written: 0,
                 failed: index,
@@ -86,22 +84,23 @@ fn prepare_all<R: Files + AllocGlobal>(
 }
 
 /// Puts the temporary files in the places of the files, one by one.
-fn rename_all<R: Files>(
-    rt: &R,
+fn replace_all<D: Disk>(
+    disk: &mut D,
     files: &[NewText<'_>],
     temporaries: &[String],
 ) -> Result<(), WriteError>
-    requires { length temporaries.now ≡ length files.now }
-    ensures failed { IfErr result (λ e. e.failed < length files.now) }
+    requires { map string_bytes temporaries.now ≡ map temporary_of files.now }
+    ensures ok { OnOk result (D.calls disk.new ≡ D.calls disk.old ++ flat_map replaces files.now) }
+    ensures err { IfErr result (λ e. Asks (D.calls disk.old) (D.calls disk.new) (StopsReplacing files.now e.failed)) }
     ensures written { IfErr result (λ e. e.written ≡ e.failed) }
 {
     for (index, file) in files.iter().enumerate() {
-        if let Err(error) = fs::rename(rt, temporaries[index].as_str(), file.path) {
-            remove_all(rt, &temporaries[index..]);
+        if let Err(why) = replace(disk, file, temporaries[index].as_str()) {
+            remove_all(disk, &temporaries[index..]);
             return Err(WriteError {
                 written: index,
                 failed: index,
-                why: WriteFault::Io(error),
+                why,
             });
         }
     }
@@ -110,10 +109,17 @@ fn rename_all<R: Files>(
 
 /// Gives each file its new text, where all are regular files that still have their old ones. A new text is first written to a
 /// temporary file beside its file, with the file's permissions: for `src/lib.rs` that is `src/.lib.rs.ssr-tmp`, which must not
-/// lie there yet. Only when all of these are on the disk do they take the places of the files, one by one.
+/// lie there yet. Only when all of these are on the disk do they take the places of the files, one by one, each directly after
+/// another look at its file.
 ///
 /// A failure before that leaves each file as it was, and no temporary file but what can't be removed.
-pub fn write_all<R: Files + AllocGlobal>(rt: &R, files: &[NewText<'_>]) -> Result<(), WriteError>
+pub fn write_all<D: Disk>(
+    alloc: Global,
+    disk: &mut D,
+    files: &[NewText<'_>],
+) -> Result<(), WriteError>
+    ensures ok { OnOk result (D.calls disk.new ≡ D.calls disk.old ++ writes files.now) }
+    ensures err { IfErr result (λ e. Asks (D.calls disk.old) (D.calls disk.new) (Stops files.now e.written e.failed)) }
     // No file is told that wasn't given.
     ensures failed { IfErr result (λ e. e.failed < length files.now) }
     // Nothing is written before all can be, and then each file before the one that fails.
@@ -122,10 +128,11 @@ pub fn write_all<R: Files + AllocGlobal>(rt: &R, files: &[NewText<'_>]) -> Resul
     if files.is_empty() {
         return Ok(());
     }
-    match temporary_paths(rt.alloc(), files) {
+    match temporary_paths(alloc, files) {
         Ok(temporaries) => {
-            prepare_all(rt, files, temporaries.as_slice())?;
-            rename_all(rt, files, temporaries.as_slice())
+            prepare_all(disk, files, temporaries.as_slice())?;
+            replace_all(disk, files, temporaries.as_slice())?;
+            Ok(())
         }
         Err(AllocError) => Err(WriteError {
             written: 0,

@@ -1,15 +1,8 @@
--- Private: what a search has found, and what it knows, as it goes over trees and nodes.
-use Rattle.std.specs.Prelude.{ℕ, ◌≡◌, ◌≢◌, ◌+◌, ◌<◌, ◌≤◌, ◌⊎◌, ◌↔◌, Bool, false, IsTrue, List, [], ◌∷◌, ◌++◌, length, slice_get, slice_index_or, Option, Some, None, All, AllPairs, Contains}
-use Rattle.std.specs.BTreeSet.{BTreeSet, contains}
-use Rattle.std.specs.Option.{IsSomeAnd}
-use Rattle.ssr_syntax_tree.specs.Syntax.{Syntax}
-use Rattle.ssr_syntax_tree.specs.Places.{HasNode, node_of, size_of}
+-- Private: what a search has found as it goes over trees and nodes, and how often it has tried rules.
+use Rattle.std.specs.Prelude.{ℕ, ◌≡◌, ◌+◌, ◌<◌, ◌≤◌, ◌⊎◌, Bool, List, [], ◌∷◌, ◌++◌, slice_get, Option, Some, None, All, AllPairs, Contains}
 use Rattle.ssr_base_trees.specs.declared.ids.NodeId.{NodeId}
-use Rattle.ssr_base_trees.specs.contracts.ids.NodeIdOrd.TheImpl as id_order
 use Rattle.ssr_base_trees.specs.Meanings.{Meanings}
-use Rattle.ssr_base_trees.specs.Workspace.{Workspace, trees, tree_of, node_id}
-use Rattle.ssr_base_trees.specs.Built.{IsNodeOf, IsMacroCall, IsBuilt}
-use Rattle.ssr_base_trees.specs.Laws.{IsEarlier, IsBelow}
+use Rattle.ssr_base_trees.specs.Workspace.{Workspace, trees, node_id}
 use Rattle.ide_ssr_resolved_rule.specs.Resolved.{ResolvedRule}
 use Rattle.ide_ssr_bindings.specs.declared.bindings.Binding.{Binding}
 use Rattle.ide_ssr_bindings.specs.Found.{FoundMatch}
@@ -19,8 +12,6 @@ use Rattle.ide_ssr_search.specs.Context.{Context}
 use Rattle.ide_ssr_search.specs.Permitted.{IsPermitted}
 use Rattle.ide_ssr_search.specs.WholeMatches.{IsWholeMatch}
 use Rattle.ide_ssr_search.specs.Found.{IsWanted, IsFoundOf, Precedes}
-use Rattle.ide_ssr_search.specs.Private.Shut.{IsShutIn, IsShut}
-use Rattle.ide_ssr_search.specs.Private.Bounds.{AreBounds}
 
 -- ** What is found.
 
@@ -78,41 +69,26 @@ abbrev pub KeepsLimits : Workspace → Context → List ResolvedRule → List Bo
 KeepsLimits w context rules wanted t n u m r old new =
     (limit : ℕ → ℕ → ℕ → ℕ) → AreLimits w context rules wanted limit → new + limit t n 0 ≤ old + limit u m r
 
--- ** What is known of trees.
+-- ** What a scan goes over, and for what.
 
--- what is known of a tree before its nodes are tried
-pub record IsTreeScan (scan : TreeScan) : Type 0 where
-  pub built : IsBuilt scan.workspace.now
-  pub tree : tree_of scan.workspace.now scan.number ≡ Some scan.tree.now
-  pub bounds : AreBounds (trees scan.workspace.now) scan.number scan.bounds
-  pub shut : IsTrue scan.shut ↔ IsShutIn (trees scan.workspace.now) (node_id scan.number 0)
-  pub inside : IsTrue scan.inside ↔ IsSomeAnd scan.context.now.function (IsBelow (trees scan.workspace.now) (node_id scan.number 0))
+pub record Scanned : Type 0 where
+  pub workspace : Workspace
+  pub meanings : Meanings
+  pub context : Context
+  pub rules : List ResolvedRule
+  pub wanted : List Bool
 
--- a call before the node n of the tree t shuts in what it stands for
-pub record IsShutCall (w : Workspace) (t n : ℕ) (call : NodeId) : Type 0 where
-  pub earlier : IsEarlier call (node_id t n)
-  pub node : IsNodeOf (trees w) call
-  pub is_call : IsMacroCall (trees w) call
-  pub shut : IsShut (trees w) call
+abbrev pub scanned : {S : Type 0} → (S → Meanings) → TreeScan S → Scanned
+scanned meanings scan = record {
+  workspace = scan.known.workspace.now;
+  meanings = meanings scan.semantics.now;
+  context = scan.known.context.now;
+  rules = scan.rules.now.rules.now;
+  wanted = scan.rules.now.wanted.now;
+}
 
--- these are all calls before the node n of the tree t that shut in what they stand for
-abbrev pub KnowsShut : Workspace → ℕ → ℕ → BTreeSet NodeId → Type 0
-KnowsShut w t n shut = (call : NodeId) → IsTrue (contains ((id_order.ghosts).cmp) shut call) ↔ IsShutCall w t n call
+abbrev pub AreScanned : Scanned → ℕ → ℕ → ℕ → List FoundMatch → Type 0
+AreScanned s t n r ms = AreFoundBefore s.workspace s.meanings s.context s.rules s.wanted t n r ms
 
--- which of the trees before t stand below the function
-pub record KnowsInside (w : Workspace) (context : Context) (t : ℕ) (inside : List Bool) : Type 0 where
-  pub counted : length inside ≡ t
-  pub known : (s : ℕ) → s < t → IsTrue (slice_index_or inside s false) ↔ IsSomeAnd context.function (IsBelow (trees w) (node_id s 0))
-
--- a macro call of a tree before the tree t, as the call of t is
-pub record IsEarlierCall (w : Workspace) (t : ℕ) (call : NodeId) : Type 0 where
-  pub earlier : call.tree < t
-  pub node : IsNodeOf (trees w) call
-  pub is_call : IsMacroCall (trees w) call
-
--- a node of a tree stands in the function, where it is known whether the tree stands below it
-abbrev pub StandsIn : Option NodeId → Syntax → ℕ → Bool → ℕ → Type 0
-StandsIn None syntax t inside n = ⊥
-StandsIn (Some f) syntax t inside n =
-    ((f.tree ≢ t) × IsTrue inside)
-    ⊎ ((f.tree ≡ t) × HasNode syntax f.node.0 × (f.node.0 ≤ n) × (n < f.node.0 + size_of (node_of syntax f.node.0)))
+abbrev pub KeepsTo : Scanned → ℕ → ℕ → ℕ → ℕ → ℕ → ℕ → ℕ → Type 0
+KeepsTo s t n u m r old new = KeepsLimits s.workspace s.context s.rules s.wanted t n u m r old new

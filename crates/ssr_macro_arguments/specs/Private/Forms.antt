@@ -51,10 +51,37 @@ values_from zero depth (t ∷ ts) =
 abbrev pub values : List ArgumentToken → List ArgumentToken
 values arguments = values_from (name_length arguments) 0 arguments
 
--- ** The forms.
+-- ** Format strings.
 
 abbrev pub is_comma : ArgumentToken → Bool
 is_comma t = same_kind t.kind k.COMMA
+
+abbrev pub is_string : ArgumentToken → Bool
+is_string t = same_kind t.kind k.STRING
+
+-- how many tokens the first argument takes, with the comma behind it
+abbrev pub first_length : List ArgumentToken → ℕ
+first_length ts = let front = front_length k.COMMA 0 ts in if nat_lt front (length ts) then front + 1 else front
+
+-- the same where the first argument is one string; none, where it is another one
+abbrev pub lone_string_length : List ArgumentToken → ℕ
+lone_string_length [] = 0
+lone_string_length (t ∷ []) = if is_string t then 1 else 0
+lone_string_length (t ∷ (u ∷ ts)) = if is_string t && is_comma u then 2 else 0
+
+-- the arguments without the one behind so many others, where that is one string
+abbrev pub without_string : ℕ → List ArgumentToken → List ArgumentToken
+without_string zero ts = drop (lone_string_length ts) ts
+without_string (suc before) ts = take (first_length ts) ts ++ without_string before (drop (first_length ts) ts)
+
+-- the arguments that are searched: a format string isn't
+abbrev pub searched : Form → List ArgumentToken → List ArgumentToken
+searched (forms.Formatted before) arguments = without_string before arguments
+searched forms.Values arguments = arguments
+searched forms.Elements arguments = arguments
+searched forms.Matched arguments = arguments
+
+-- ** The forms.
 
 abbrev pub ends_with_comma : List ArgumentToken → Bool
 ends_with_comma arguments = option_map_or is_comma (slice_get arguments (length arguments - 1)) false
@@ -87,7 +114,7 @@ abbrev pub tuple_of : List ArgumentToken → List Piece
 tuple_of arguments = in_tuple arguments (pieces arguments)
 
 unfoldable pub expansion_of : Form → List ArgumentToken → List Piece
-expansion_of forms.Named arguments = in_tuple arguments (pieces (values arguments))
+expansion_of (forms.Formatted before) arguments = in_tuple arguments (pieces (values arguments))
 expansion_of forms.Values arguments = tuple_of arguments
 expansion_of forms.Elements arguments =
     if nat_lt (front_length k.SEMICOLON 0 arguments) (length arguments) then array_of arguments else tuple_of arguments

@@ -1,13 +1,13 @@
--- The changes set aside that a change may still touch.
+-- The reaches that a change may still touch.
 use Rattle.std.specs.Prelude.{ℕ, nat_lt, Bool, false, if◌then◌else◌, List, [], ◌∷◌}
-use Rattle.ssr_base_trees.specs.Changes.{Change}
+use Rattle.ssr_base_trees.specs.Origins.{Span}
 
--- the changes from the first one on that ends behind a place
-abbrev pub behind : ℕ → List Change → List Change
+-- the reaches from the first one on that ends behind a place
+abbrev pub behind : ℕ → List Span → List Span
 behind place [] = []
-behind place (c ∷ cs) = if nat_lt place c.end then c ∷ cs else behind place cs
+behind place (r ∷ rs) = if nat_lt place r.end then r ∷ rs else behind place rs
 
--- whether the first change begins before a place
-abbrev pub begins_before : ℕ → List Change → Bool
+-- whether the first reach begins before a place
+abbrev pub begins_before : ℕ → List Span → Bool
 begins_before place [] = false
-begins_before place (c ∷ cs) = nat_lt c.start place
+begins_before place (r ∷ rs) = nat_lt r.start place

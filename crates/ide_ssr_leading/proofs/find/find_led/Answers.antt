@@ -34,3 +34,6 @@ returns-clause-matches g c =
 
 pub returns-clause-count : goal.returns-clause-count
 returns-clause-count g c = c.find_all.ensures.count
+
+pub returns-clause-tried : goal.returns-clause-tried
+returns-clause-tried g c = c.find_all.ensures.tried

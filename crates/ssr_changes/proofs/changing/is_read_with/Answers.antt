@@ -2,7 +2,7 @@ use Rattle.std.proofs.Common.{rules, ◌≡◌, ◌<◌, ◌^◌, ℕ, List, sub
 use Rattle.ssr_syntax_tree.specs.Syntax.{source_of}
 use Rattle.ssr_syntax.specs.Reading.{file_reading}
 use Rattle.ssr_base_trees.specs.Changes.{FitsText}
-use Rattle.ssr_searching.specs.Searching.{new_text}
+use Rattle.ssr_base.specs.Editing.{new_text}
 use Rattle.ssr_changes.specs.Changing.{IsReadWith}
 use Rattle.ssr_changes.specs.Private.Changing.{IsWhetherRead}
 use Rattle.ssr_changes.proofs.changing.is_read_with.Goals as goal

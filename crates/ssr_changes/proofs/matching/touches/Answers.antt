@@ -1,29 +1,30 @@
-use Rattle.std.proofs.Common.{[], List, String, Global, sym, ap, ◌∙◌}
+use Rattle.std.proofs.Common.{[], List, sym, ap, ◌∙◌}
 use Rattle.std.specs.List.{list_any}
 use Rattle.std.proofs.lemmas.List.{take_all}
 use Rattle.ssr_syntax_kinds.specs.declared.range.TextRange.{TextRange}
-use Rattle.ssr_base_trees.specs.Applied.{change_of, changes_of}
+use Rattle.std.specs.Prelude.{map}
+use Rattle.ssr_base_trees.specs.Origins.{Span, span_of}
 use Rattle.ssr_base_trees.specs.Changes.{Change}
 use Rattle.ssr_set_aside.specs.Sparing.{touches}
 use Rattle.ssr_changes.proofs.Matches.{one_fails, one_passes}
 use Rattle.ssr_changes.proofs.matching.touches.Goals as goal
 
-pub loop-change-preserved : goal.loop-change-preserved
-loop-change-preserved c =
+pub loop-reach-preserved : goal.loop-reach-preserved
+loop-reach-preserved c =
     let here : Change = record { start = c.args.range.start; end = c.args.range.end; text = [] } in
-    one_fails (touches here) change_of c.as_slice-changes.result.now c.loop-change.change-index c.loop-change-item.result c.loop-change-test.true c.loop-change-item.is
-    c.loop-change.invariant (sym c.if-touch.ensures)
+    one_fails (touches here) span_of c.ranges-reach-items.result.now c.loop-reach.reach-index c.reach-item.result c.loop-reach-test.true c.reach-item.is
+    c.loop-reach.invariant (sym c.if-touch.ensures)
 
 pub returns-then-touch : goal.returns-then-touch
 returns-then-touch c =
     let here : Change = record { start = c.args.range.start; end = c.args.range.end; text = [] } in
-    sym (one_passes (touches here) change_of c.as_slice-changes.result.now c.loop-change.change-index c.loop-change-item.result c.loop-change-test.true c.loop-change-item.is
+    sym (one_passes (touches here) span_of c.ranges-reach-items.result.now c.loop-reach.reach-index c.reach-item.result c.loop-reach-test.true c.reach-item.is
     (sym c.if-touch.ensures))
-    ∙ ap (λ (ps : List (TextRange × String Global)). list_any (touches here) (changes_of ps)) c.as_slice-changes.ensures.value ∙ ap (list_any (touches here)) c.iter.ensures.items
+    ∙ ap (list_any (touches here)) c.ranges-reach-items.ensures.ranges
 
 pub returns : goal.returns
 returns c =
     let here : Change = record { start = c.args.range.start; end = c.args.range.end; text = [] } in
-    sym c.loop-change.invariant
-    ∙ ap (λ (ps : List (TextRange × String Global)). list_any (touches here) (changes_of ps)) (take_all _ c.as_slice-changes.result.now c.loop-change-test.false ∙ c.as_slice-changes.ensures.value)
-    ∙ ap (list_any (touches here)) c.iter.ensures.items
+    sym c.loop-reach.invariant
+    ∙ ap (λ (rs : List TextRange). list_any (touches here) (map span_of rs)) (take_all _ c.ranges-reach-items.result.now c.loop-reach-test.false)
+    ∙ ap (list_any (touches here)) c.ranges-reach-items.ensures.ranges

@@ -1,18 +1,18 @@
-use Rattle.std.proofs.Common.{◌≡◌, [], Global, string_bytes, arith}
+use Rattle.std.proofs.Common.{◌≡◌, [], Global, arith}
 use Rattle.std.specs.Vec.Iter.{into_iter_items}
 use Rattle.std.proofs.lemmas.Grind.{common_steps}
-use Rattle.std.proofs.lemmas.List.{length-map, nil_from_length}
-use Rattle.ssr_set_aside.specs.declared.source_file.SourceFile.{SourceFile}
-use Rattle.ssr_changes.proofs.FileLists.{made_length}
-use Rattle.ssr_changes.proofs.Sorted.{all_sorted, are_few, are_files, made_of, sorted_more}
+use Rattle.std.proofs.lemmas.List.{nil_from_length}
+use Rattle.ssr_package.specs.declared.source_file.SourceFile.{SourceFile}
+use Rattle.ssr_changes.proofs.FileLists.{searched_length}
+use Rattle.ssr_changes.proofs.Sorted.{all_sorted, are_few, are_read, are_searched, sorted_more}
 use Rattle.ssr_changes.proofs.sorting.sort_out.Goals as goal
 
 pub loop-file-preserved : goal.loop-file-preserved
 loop-file-preserved c =
     let adds = c.in_ok-add.ensures in record {
       sorted = sorted_more _ _ _ _ _ _ c.in-Some.ensures.steps.0 adds c.loop-file.invariant.sorted;
-      made = made_of _ _ _ adds c.loop-file.invariant.made;
-      read = are_files _ _ _ adds c.loop-file.invariant.read;
+      made = are_searched _ _ _ adds c.loop-file.invariant.made;
+      read = are_read _ _ _ adds c.loop-file.invariant.read;
       few = are_few _ _ _ adds c.loop-file.invariant.few;
     }
 
@@ -23,4 +23,4 @@ returns-clause-sorted c =
 
 pub returns-clause-few : goal.returns-clause-few
 returns-clause-few c =
-    omega (arith, length-map c.loop-file.sorted.searched.items (string_bytes {Z = Global}), made_length _ _ c.loop-file.invariant.made, c.loop-file.invariant.few)
+    omega (arith, searched_length _ _ c.loop-file.invariant.made, c.loop-file.invariant.few)

@@ -1,12 +1,10 @@
 use Rattle.std.proofs.Common.{ℕ, List, ◌≡◌, ◌≤◌, ◌-◌, length}
-use Rattle.ssr_macro_arguments.specs.Arguments.{AreArguments}
-use Rattle.ssr_macro_arguments.specs.Private.Made.{expansions_of}
+use Rattle.ssr_macro_arguments.specs.Private.Made.{AreMade}
 use Rattle.ssr_macro_arguments.proofs.expanding.add_nested.Given as goal
 
 abbrev pub invariant-loop-next : goal.invariant-loop-next
 invariant-loop-next l = record {
-  expansions : (texts : List (List ℕ)) → length texts ≡ l.files → AreArguments texts (expansions_of l.initial.made.items)
-      → AreArguments texts (expansions_of l.made.items);
+  made : (texts : List (List ℕ)) → length texts ≡ l.files → AreMade texts l.initial.made.items → AreMade texts l.made.items;
   few : length l.made.items ≤ l.most;
 }
 

@@ -3,6 +3,6 @@ use Rattle.ssr_macro_arguments.proofs.expanding.made_below.Goals as goal
 
 pub loop-node-preserved : goal.loop-node-preserved
 loop-node-preserved c = record {
-  expansions = λ text spelled. c.in_ok-add_call_below.ensures.expansions text spelled (c.loop-node.invariant.expansions text spelled);
+  made = λ text spelled. c.in_ok-add_call_below.ensures.made text spelled (c.loop-node.invariant.made text spelled);
   few = omega (arith, c.in_ok-add_call_below.ensures.few);
 }

@@ -1,6 +1,7 @@
 use Rattle.std.proofs.Common.{ℕ, ◌<◌, List, ◌++◌, length, map, sym, ap, ◌∙◌, string_bytes, arith}
 use Rattle.ssr_searching.specs.Searching.{changes_in}
-use Rattle.ssr_program.proofs.Parts.{left, file_there, none_there, fit_file, none_more, some_more}
+use Rattle.ssr_base_trees.proofs.Shared.{file_there, none_there}
+use Rattle.ssr_program.proofs.Parts.{left, fit_file, none_more, some_more}
 use Rattle.ssr_program.proofs.of_facts.parts.Goals as goal
 use Rattle.ssr_program.proofs.of_facts.parts.Goals.{in-Some-get+in_ok-push_part, in_default-get}
 

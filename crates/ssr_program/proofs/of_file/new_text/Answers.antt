@@ -2,8 +2,9 @@ use Rattle.std.proofs.Common.{◌≡◌, All, sym, ap, subst, ◌∙◌}
 use Rattle.std.proofs.lemmas.Option.{none-some, same_Some}
 use Rattle.ssr_syntax_tree.specs.Syntax.{Syntax, source_of}
 use Rattle.ssr_base_trees.specs.Changes.{FitsText}
+use Rattle.ssr_base.specs.Editing.{new_text}
 use Rattle.ssr_program.specs.OfFile.{text_with}
-use Rattle.ssr_searching.specs.Searching.{changes_in, new_text}
+use Rattle.ssr_searching.specs.Searching.{changes_in}
 use Rattle.ssr_program.proofs.OneText.{tree_is, fit_one, new_if}
 use Rattle.ssr_program.proofs.of_file.new_text.Goals as goal
 

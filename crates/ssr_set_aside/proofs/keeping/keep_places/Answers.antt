@@ -1,4 +1,4 @@
-use Rattle.std.proofs.Common.{◌≤◌, arith}
+use Rattle.std.proofs.Common.{arith}
 use Rattle.ssr_base_trees.specs.Applied.{change_of}
 use Rattle.ssr_base_trees.proofs.Changes.{changes_from}
 use Rattle.ssr_set_aside.specs.SetAside.{KeepsLength}

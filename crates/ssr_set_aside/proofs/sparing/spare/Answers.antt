@@ -6,6 +6,7 @@ use Rattle.std.proofs.lemmas.List.{length-map, map-append, take_all}
 use Rattle.ssr_syntax_kinds.specs.declared.range.TextRange.{TextRange}
 use Rattle.ssr_base_trees.specs.Changes.{Change, ChangesInOrder, FitsText}
 use Rattle.ssr_base_trees.specs.Applied.{change_of, changes_of}
+use Rattle.ssr_base_trees.specs.Origins.{Span, span_of}
 use Rattle.ssr_base_trees.proofs.Changes.{change_at, changes_from, shown}
 use Rattle.ssr_set_aside.specs.Sparing.{touches_aside, spared, bounds}
 use Rattle.ssr_set_aside.specs.Private.Sparing.{begins_before}
@@ -16,7 +17,7 @@ use Rattle.ssr_set_aside.proofs.sparing.spare.Goals.{then-begins_before+in_ok-pu
 
 pub loop-range-preserved : goal.loop-range-preserved
 loop-range-preserved c =
-    let aside : List Change = c.args.aside.now in
+    let aside : List Span = c.args.reaches.now in
     let pairs = c.as_slice-range-items.result.now in
     let cs : List Change = changes_of pairs in
     let i : ℕ = c.loop-range.range-index in
@@ -27,7 +28,7 @@ loop-range-preserved c =
     let place = c.loop-range.invariant.place in
     let order : ChangesInOrder place.0 (d ∷ drop (i + 1) cs) = subst (ChangesInOrder place.0) from place.1 in
     let touched : touches_aside aside d ≡ c.begins_before.result =
-    touches_first aside (changes_of c.loop-range.left.now) place.0 d (drop (i + 1) cs) order place.2
+    touches_first aside (map span_of c.loop-range.left.now) place.0 d (drop (i + 1) cs) order place.2
     ∙ ap (begins_before d.end) (sym c.behind-left.ensures) ∙ sym c.begins_before.ensures in
     record {
       made =
@@ -55,7 +56,7 @@ loop-range-preserved c =
       place = (
         d.end,
         order.2,
-        rw c.behind-left.ensures (left_behind aside (changes_of c.loop-range.left.now) place.0 d (drop (i + 1) cs) order place.2),
+        rw c.behind-left.ensures (left_behind aside (map span_of c.loop-range.left.now) place.0 d (drop (i + 1) cs) order place.2),
       );
     }
 
@@ -64,17 +65,18 @@ new-requires c =
     let pairs = c.as_slice-range-items.result.now in
     let cs : List Change = changes_of pairs in
     let order : ChangesInOrder 0 cs =
-    subst (ChangesInOrder 0) (sym (shown c.as_slice-range-items.ensures.value c.iter-2.ensures.items)) c.iter-2.ensures.order in
+    subst (ChangesInOrder 0) (sym (shown c.as_slice-range-items.ensures.value c.iter.ensures.items)) c.iter.ensures.order in
     let all : take c.loop-range.range-index cs ≡ cs = take_all c.loop-range.range-index cs (omega (arith, length-map pairs change_of)) in
-    subst (ChangesInOrder 0) (sym (c.loop-range.invariant.made ∙ ap (spared c.args.aside.now) all))
-    (order-filter (λ d. not (touches_aside c.args.aside.now d)) 0 cs order)
+    subst (ChangesInOrder 0) (sym (c.loop-range.invariant.made ∙ ap (spared c.args.reaches.now) all))
+    (order-filter (λ d. not (touches_aside c.args.reaches.now d)) 0 cs order)
 
 pub returns-clause-fits : goal.returns-clause-fits
-returns-clause-fits c = λ text searched is fit.
+returns-clause-fits c = λ text made same is fit.
     let pairs = c.as_slice-range-items.result.now in
     let cs : List Change = changes_of pairs in
     let all : take c.loop-range.range-index cs ≡ cs = take_all c.loop-range.range-index cs (omega (arith, length-map pairs change_of)) in
     subst (All (FitsText text))
     (sym (c.new.ensures ∙ c.loop-range.invariant.made
-    ∙ ap (spared c.args.aside.now) (all ∙ shown c.as_slice-range-items.ensures.value c.iter-2.ensures.items)))
-    (fit-spared text searched c.args.aside.now is 0 c.args.edit c.iter-2.ensures.order fit)
+    ∙ ap (spared c.args.reaches.now) (all ∙ shown c.as_slice-range-items.ensures.value c.iter.ensures.items)))
+    (subst (λ (reaches : List Span). All (FitsText text) (spared reaches c.args.edit)) same
+    (fit-spared text made is 0 c.args.edit c.iter.ensures.order fit))

@@ -10,6 +10,6 @@ returns-in-Ok g c = first_of (search rules steps 110000, grind (arith, common_st
 pub returns-in-Err : goal.returns-in-Err
 returns-in-Err g c = (
   c.in-Err.refusal,
-  subst (λ (w : Workspace). MakesFirst w (g.S.Semantics.meanings c.args.semantics.now) (Err c.in-Err.refusal)) c.trees-trees.ensures c.in-Err.ensures,
+  subst (λ (w : Workspace). MakesFirst w (g.S.Semantics.meanings c.args.semantics.now) (Err c.in-Err.refusal)) c.trees-trees.ensures.same c.in-Err.ensures,
   c.to_error.ensures,
 )

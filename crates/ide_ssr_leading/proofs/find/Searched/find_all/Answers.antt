@@ -1,4 +1,4 @@
-use Rattle.std.proofs.Common.{◌≡◌, ◌∙◌, sym, subst, arith}
+use Rattle.std.proofs.Common.{◌≡◌, ◌∙◌, length, sym, ap, subst, arith, length-append}
 use Rattle.ssr_base_trees.specs.Workspace.{trees}
 use Rattle.ide_ssr_nesting.specs.Kept.{AreEnough}
 use Rattle.ide_ssr_search.specs.Found.{IsFoundOf}
@@ -26,3 +26,7 @@ returns-clause-led g c =
     subst (AreEnough (trees s.workspace.now) (IsLedFound s.workspace.now m s.context.now s.rules.now)) (sym c.in_ok-append.ensures.items)
     (together s.workspace.now m s.context.now s.rules.now c.in_ok-led.led.found.items rest c.in_ok-led.ensures.found
     (subst (λ fs. AreEnough (trees s.workspace.now) (IsFoundOf s.workspace.now m s.context.now s.rules.now fs) rest) flags c.in_ok-rest.ensures.found))
+
+pub returns-clause-tried : goal.returns-clause-tried
+returns-clause-tried g c =
+    omega (arith, ap length c.in_ok-append.ensures.items, length-append c.in_ok-led.led.found.items c.in_ok-rest.rest.items, c.in_ok-led.ensures.tried, c.in_ok-rest.ensures.tried)

@@ -32,6 +32,7 @@ loop-place-preserved-in_default g c =
           ∙ ap (λ fs. fs ++ true ∷ []) l.invariant.others
           ∙ sym (others_more rules l.place rule within (sym c.rule-item.is) ∙ ap (λ o. are_others (take l.place rules) ++ not (is_some o) ∷ []) none);
       count = omega (arith, l.invariant.count, usages_more rules l.place rule within (sym c.rule-item.is) m);
+      tried = l.invariant.tried;
     }
 
 pub add_led-requires-clause-led : goal.add_led-requires-clause-led
@@ -69,6 +70,7 @@ loop-place-preserved g c =
           ∙ sym (others_more rules l.place rule within (sym c.rule-item.is) ∙ ap (λ o. are_others (take l.place rules) ++ not (is_some o) ∷ []) path.1);
       count =
           omega (arith, l.invariant.count, c.in_ok-add_led.ensures.count, usages_more rules l.place rule within (sym c.rule-item.is) m, own, ap length told);
+      tried = omega (arith, l.invariant.tried, c.in_ok-add_led.ensures.tried);
     }
 
 pub returns-clause-found : goal.returns-clause-found

@@ -9,5 +9,5 @@ pub returns-then-are_unset-clause-found : goal.returns-then-are_unset-clause-fou
 returns-then-are_unset-clause-found g c =
     let s = c.args.self.now in
     let m = g.S.Semantics.meanings c.args.semantics.now in
-    subst (AreEnough (trees s.workspace.now) (IsFoundOf s.workspace.now m s.context.now s.rules.now c.args.others.now)) (sym c.new.ensures.items)
-    (none_wanted s.workspace.now m s.context.now s.rules.now c.args.others.now (c.are_unset.ensures c.if-are_unset.true))
+    subst (AreEnough (trees s.workspace.now) (IsFoundOf s.workspace.now m s.context.now c.args.others.rules.now c.args.others.flags.now)) (sym c.new.ensures.items)
+    (none_wanted s.workspace.now m s.context.now c.args.others.rules.now c.args.others.flags.now (c.are_unset.ensures c.if-are_unset.true))

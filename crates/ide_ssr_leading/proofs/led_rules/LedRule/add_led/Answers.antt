@@ -21,6 +21,7 @@ loop-node-preserved g c =
           c.args.found.now.items l.found.items c.add_at.new.found.items within (get_again nodes l.node-index none node within)
           l.invariant.found c.in_ok-add_at.ensures.found;
       count = omega (arith, c.add_at.ensures.count, l.invariant.count);
+      tried = omega (arith, c.in_ok-add_at.ensures.tried, l.invariant.tried);
     }
 
 pub returns-clause-found : goal.returns-clause-found

@@ -6,7 +6,7 @@ use Rattle.ide_ssr_search.proofs.scan.TreeScan.add_match.Goals as goal
 
 pub returns-clause-shadows : goal.returns-clause-shadows
 returns-clause-shadows g c =
-    let scan = c.args.self.now in
-    let one = c.new-one.result in
-    shadows_later scan.workspace.now c.args.found.now.items c.push.new.self.items one (node_id scan.number c.args.node.0) c.args.place c.holds_own_node-shadows.result c.in_ok-push.ensures.items
-    (ap (λ (m : FoundMatch). m.node) c.new-one.ensures ∙ c.id.ensures) (ap (λ (m : FoundMatch). m.rule) c.new-one.ensures) c.holds_own_node-shadows.ensures
+    let scan = c.args.self.now.known in
+    let one = c.new-m.result in
+    shadows_later scan.workspace.now c.args.found.now.items c.push.new.self.items one (node_id scan.number c.args.node.0) c.args.one.place c.holds_own_node-shadows.result c.in_ok-push.ensures.items
+    (ap (λ (m : FoundMatch). m.node) c.new-m.ensures ∙ c.id.ensures) (ap (λ (m : FoundMatch). m.rule) c.new-m.ensures) c.holds_own_node-shadows.ensures

@@ -14,26 +14,26 @@ returns-in_err-check_count c =
     omega (arith, c.len.ensures, c.len-2.ensures, c.args.files.ok.0, c.args.expansions.ok.0, many.1) in
     answers_by files expansions c.from_residual.result e c.from_residual.ensures.1 (answers_many files expansions e many.0 count)
 
-pub returns-in_err-trees : goal.returns-in_err-trees
-returns-in_err-trees c =
+pub returns-in_err-workspace : goal.returns-in_err-workspace
+returns-in_err-workspace c =
     let files = c.args.files.items in
     let expansions = c.args.expansions.items in
-    let e = c.in_err-trees.field-0.0 in
+    let e = c.in_err-workspace.field-0.0 in
     let few : length files + length expansions ≤ most_trees =
     omega (arith, c.len.ensures, c.len-2.ensures, c.args.files.ok.0, c.args.expansions.ok.0, c.in_ok-check_count.ensures.few) in
-    answers_by files expansions c.from_residual-in_err-trees.result e c.from_residual-in_err-trees.ensures.1
-    (answers_files files expansions e few c.in_err-trees.ensures.gives)
+    answers_by files expansions c.from_residual-in_err-workspace.result e c.from_residual-in_err-workspace.ensures.1
+    (answers_files files expansions e few c.in_err-workspace.ensures.gives)
 
 pub loop-expansion-init : goal.loop-expansion-init
 loop-expansion-init c =
     let files = c.args.files.items in
     let expansions = c.args.expansions.items in
-    let w = c.in_ok-trees.trees in
+    let w = c.in_ok-workspace.workspace in
     let all = c.into_iter-expansion-iterator.ensures.into_iter_gives.0 in
     let few : length files + length expansions ≤ most_trees =
     omega (arith, c.len.ensures, c.len-2.ensures, c.args.files.ok.0, c.args.expansions.ok.0, c.in_ok-check_count.ensures.few) in
-    let counted = c.in_ok-trees.ensures.counted in
+    let counted = c.in_ok-workspace.ensures.counted in
     record {
       room = omega (arith, few, counted.0, counted.1, ap length all);
-      left = left_first files expansions w few c.in_ok-trees.ensures.gives ∙ ap (in_turn with_expansion w) (sym all);
+      left = left_first files expansions w few c.in_ok-workspace.ensures.gives ∙ ap (in_turn with_expansion w) (sym all);
     }

@@ -6,6 +6,6 @@ use Rattle.ssr_base.proofs.workspace.Workspace.build.Given as goal
 
 abbrev pub invariant-loop-expansion : goal.invariant-loop-expansion
 invariant-loop-expansion l = record {
-  room : length l.trees.files + length l.trees.expansions + length (into_iter_items l.expansion-iterator) ≤ most_trees;
-  left : built l.fn.files.items l.fn.expansions.items ≡ in_turn with_expansion l.trees (into_iter_items l.expansion-iterator);
+  room : length l.workspace.files + length l.workspace.expansions + length (into_iter_items l.expansion-iterator) ≤ most_trees;
+  left : built l.fn.files.items l.fn.expansions.items ≡ in_turn with_expansion l.workspace (into_iter_items l.expansion-iterator);
 }

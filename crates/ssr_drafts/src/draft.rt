@@ -1,0 +1,251 @@
+//! A text that isn't read, by its tokens, and the forms that they are part of.
+
+use crate::finding::Parts;
+use crate::form::{Form, Side, filled};
+use ssr_syntax_kinds::SyntaxKind::*;
+use ssr_syntax_kinds::{SyntaxKind, TextRange};
+use ssr_syntax_lex::{LexError, RawToken, lex};
+use std::alloc::{AllocError, Global};
+
+/// Tokens of a draft that follow each other: from the place `from` up to before `to`.
+#[derive(Clone, Copy, Debug, PartialEq, Eq)]
+pub(crate) struct Span {
+    pub(crate) from: usize,
+    pub(crate) to: usize,
+}
+
+/// A text by its tokens without white space and comments, and the form that each is part of. The columns have an entry a token.
+#[derive(Drop)]
+pub(crate) struct Draft<'a> {
+    text: &'a str,
+    pub(crate) kinds: Vec<SyntaxKind>,
+    tokens: Vec<RawToken>,
+    brackets: Brackets,
+    forms: Vec<Form>,
+}
+
+/// How brackets pair. The columns have an entry a token.
+#[derive(Drop)]
+struct Brackets {
+    /// The place of the bracket that pairs with this one; of any other token its own place.
+    partners: Vec<usize>,
+    /// The place of the bracket that a token stands in directly, if there is one.
+    parents: Vec<Option<usize>>,
+}
+
+/// The tokens of a text without white space and comments; none where it can't be cut into tokens.
+fn solid_tokens(alloc: Global, text: &str) -> Result<Vec<RawToken>, AllocError> {
+    match lex(alloc, text) {
+        Ok(raw) => raw
+            .iter()
+            .copied()
+            .filter(|token| !token.kind.is_trivia())
+            .collect(alloc),
+        Err(LexError::Memory) => Err(AllocError),
+        Err(_) => Ok(Vec::new(alloc)),
+    }
+}
+
+/// The bracket that closes what this one opens.
+fn closing(kind: SyntaxKind) -> Option<SyntaxKind> {
+    match kind {
+        L_PAREN => Some(R_PAREN),
+        L_BRACK => Some(R_BRACK),
+        L_CURLY => Some(R_CURLY),
+        _ => None,
+    }
+}
+
+fn is_closing(kind: SyntaxKind) -> bool {
+    matches!(kind, R_PAREN | R_BRACK | R_CURLY)
+}
+
+/// How the brackets pair, if each has its own.
+fn paired(alloc: Global, kinds: &[SyntaxKind]) -> Result<Option<Brackets>, AllocError> {
+    let mut partners: Vec<usize> = Vec::with_capacity(alloc, kinds.len())?;
+    let mut parents = Vec::with_capacity(alloc, kinds.len())?;
+    let mut open: Vec<(usize, SyntaxKind)> = Vec::new(alloc);
+    for (place, kind) in kinds.iter().enumerate() {
+        let mut partner = place;
+        if is_closing(*kind) {
+            match open.pop() {
+                Some((start, close)) if close == *kind => partner = start,
+                _ => return Ok(None),
+            }
+            if let Some(of_start) = partners.get_mut(partner) {
+                *of_start = place;
+            }
+        }
+        partners.push(partner)?;
+        parents.push(open.last().map(|(start, _)| *start))?;
+        if let Some(close) = closing(*kind) {
+            open.push((place, close))?;
+        }
+    }
+    Ok(if open.is_empty() {
+        Some(Brackets { partners, parents })
+    } else {
+        None
+    })
+}
+
+impl<'a> Draft<'a> {
+    /// The draft of a text of which all stays, if it can be cut into tokens and its brackets pair.
+    pub(crate) fn new(alloc: Global, text: &'a str) -> Result<Option<Draft<'a>>, AllocError> {
+        let tokens = solid_tokens(alloc, text)?;
+        let kinds: Vec<SyntaxKind> = tokens.iter().map(|token| token.kind).collect(alloc)?;
+        let Some(brackets) = paired(alloc, &kinds)? else {
+            return Ok(None);
+        };
+        let forms = vec![in alloc; Form::Kept; tokens.len()]?;
+        Ok(Some(Draft {
+            text,
+            kinds,
+            tokens,
+            brackets,
+            forms,
+        }))
+    }
+
+    pub(crate) fn len(&self) -> usize {
+        self.kinds.len()
+    }
+
+    /// The kinds of the tokens from a place on.
+    pub(crate) fn rest(&self, place: usize) -> &[SyntaxKind] {
+        self.kinds.get(place..).unwrap_or(&[])
+    }
+
+    /// The kind of the token at a place; where there is none, that of white space, which no token of a draft has.
+    pub(crate) fn kind(&self, place: usize) -> SyntaxKind {
+        self.kinds.get(place).copied().unwrap_or(WHITESPACE)
+    }
+
+    /// The kind of the token so many places in front of another one.
+    pub(crate) fn kind_before(&self, place: usize, count: usize) -> SyntaxKind {
+        match place.checked_sub(count) {
+            Some(before) => self.kind(before),
+            None => WHITESPACE,
+        }
+    }
+
+    /// The place behind a token; behind an opening bracket, that behind the one that closes it.
+    pub(crate) fn behind(&self, place: usize) -> usize {
+        let partner = self.brackets.partners.get(place).copied().unwrap_or(place);
+        partner.max(place).saturating_add(1)
+    }
+
+    /// The place of the bracket that a token stands in directly.
+    pub(crate) fn parent(&self, place: usize) -> Option<usize> {
+        self.brackets.parents.get(place).copied().flatten()
+    }
+
+    /// Whether punctuation follows a token directly.
+    pub(crate) fn is_joint(&self, place: usize) -> bool {
+        self.tokens.get(place).is_some_and(|token| token.joint)
+    }
+
+    /// The text of a token.
+    pub(crate) fn token_text(&self, place: usize) -> &'a str {
+        match self.tokens.get(place) {
+            Some(token) => self.text_between(token.range.start, token.range.end),
+            None => "",
+        }
+    }
+
+    fn text_between(&self, start: u32, end: u32) -> &'a str {
+        self.text.get(start as usize..end as usize).unwrap_or("")
+    }
+
+    /// Says which form a token is part of. What is set aside whole stays so.
+    pub(crate) fn treat(&mut self, place: usize, form: Form) {
+        if let Some(old) = self.forms.get_mut(place) {
+            if *old != Form::Whole {
+                *old = form;
+            }
+        }
+    }
+
+    /// Says which forms the tokens from a place on are part of; those that are read keep what they have.
+    pub(crate) fn treat_all(&mut self, place: usize, forms: &[Form]) {
+        for (offset, form) in forms.iter().enumerate() {
+            if *form != Form::Kept {
+                self.treat(place.saturating_add(offset), *form);
+            }
+        }
+    }
+
+    /// Says which form the tokens of a span are part of.
+    pub(crate) fn treat_span(&mut self, span: Span, form: Form) {
+        for place in span.from..span.to {
+            self.treat(place, form);
+        }
+    }
+
+    /// Writes the tokens of a span as they are treated, apart by a blank where they stand apart.
+    pub(crate) fn write(&self, span: Span, new: &mut String) -> Result<(), AllocError> {
+        let mut end = 0;
+        for place in span.from..span.to {
+            let (Some(token), Some(form)) = (self.tokens.get(place), self.forms.get(place)) else {
+                break;
+            };
+            if token.range.start != end {
+                new.push(' ')?;
+            }
+            match (*form, form.word()) {
+                (Form::Kept, _) => new.push_str(self.token_text(place))?,
+                (_, "") => new.push(' ')?,
+                (_, word) => new.push_str(word)?,
+            }
+            end = token.range.end;
+        }
+        Ok(())
+    }
+
+    /// The parts that are set aside, in order.
+    pub(crate) fn parts(&self, alloc: Global) -> Result<Parts, AllocError> {
+        let nexts = self.next_kept(alloc)?;
+        let mut changes = Vec::new(alloc);
+        let mut reaches = Vec::new(alloc);
+        let mut last = u32::MAX;
+        for (place, form) in self.forms.iter().enumerate() {
+            let (Some(token), Some(next)) = (self.tokens.get(place), nexts.get(place)) else {
+                break;
+            };
+            if *form == Form::Kept {
+                last = token.range.end.saturating_sub(1);
+                continue;
+            }
+            let new = filled(alloc, form.word(), self.token_text(place))?;
+            changes.push((token.range, new))?;
+            reaches.push(reach(form.side(), token.range, last, *next))?;
+        }
+        Ok(Parts { changes, reaches })
+    }
+
+    /// For each token the byte behind the first one of the next token that stays; 0 where none does.
+    fn next_kept(&self, alloc: Global) -> Result<Vec<u32>, AllocError> {
+        let mut nexts = vec![in alloc; 0; self.len()]?;
+        let mut next = 0;
+        for (place, of_place) in nexts.iter_mut().enumerate().rev() {
+            *of_place = next;
+            if let (Some(Form::Kept), Some(token)) = (
+                self.forms.get(place),
+                self.tokens.get(place),
+            ) {
+                next = token.range.start.saturating_add(1);
+            }
+        }
+        Ok(nexts)
+    }
+}
+
+/// The bytes of a part that no match may touch: its own, and one of the token next to it that the part belongs to. `last` is the
+/// last byte of the token in front that stays, `next` the place behind the first one of the token behind.
+fn reach(side: Side, range: TextRange, last: u32, next: u32) -> TextRange {
+    match side {
+        Side::Inside => range,
+        Side::Ahead => TextRange::new(range.start, range.end.max(next)),
+        Side::Behind => TextRange::new(range.start.min(last), range.end),
+    }
+}
