@@ -16,13 +16,22 @@ use ide_ssr_bindings::Binding;
 use ssr_syntax_tree::{Element, NodeNo, TokenNo, Tree};
 use std::alloc::AllocError;
 
-/// Which placeholder a token of the pattern is.
-fn placeholder_at(placeholders: &[Option<u32>], token: TokenNo) -> Option<u32>
-    ensures { result ≡ placeholder_in placeholders.now token.0 }
-{
-    match placeholders.get(token.0 as usize) {
-        Some(placeholder) => *placeholder,
-        None => None,
+/// The tree of a pattern, and of each of its tokens which placeholder it is, if any.
+#[derive(Drop)]
+struct Pattern<'a> {
+    tree: &'a Tree,
+    placeholders: &'a [Option<u32>],
+}
+
+impl<'a> Pattern<'a> {
+    /// Which placeholder a token is.
+    fn placeholder_at(&self, token: TokenNo) -> Option<u32>
+        ensures { result ≡ placeholder_in self.now.placeholders.now token.0 }
+    {
+        match self.placeholders.get(token.0 as usize) {
+            Some(placeholder) => *placeholder,
+            None => None,
+        }
     }
 }
 
@@ -86,29 +95,28 @@ fn plain_matches(
 /// Whether a token of the pattern, before the elements `ps`, matches at the front of the elements `cs` of the code; if so, `out`
 /// gets what it binds.
 fn token_matches(
-    placeholders: &[Option<u32>],
-    pattern: &Tree,
+    pattern: &Pattern<'_>,
     token: TokenNo,
     ps: &mut Siblings<'_>,
     code: &Tree,
     cs: &mut Siblings<'_>,
     out: &mut Record,
 ) -> Result<bool, AllocError>
-    requires p_in { HasToken pattern.now token.0 }
-    requires ps_in { All (HasElement pattern.now) (siblings_left ps.old) }
+    requires p_in { HasToken pattern.now.tree.now token.0 }
+    requires ps_in { All (HasElement pattern.now.tree.now) (siblings_left ps.old) }
     requires cs_in { All (HasElement code.now) (siblings_left cs.old) }
     requires few { tokens_among (parts_left code.now cs.old) < 2 ^ 32 }
-    ensures steps { IfOk result (λ answer. (behind : List Part → Option (List Binding)) → Steps (leaf_by (number_of cs.old.comma) (placeholder_in placeholders.now token.0) (is_number (number_of ps.old.comma) token.0) (token_of pattern.now token.0) (next_text (without_trivia (parts_left pattern.now ps.old))) behind (parts_left code.now cs.old)) (behind (parts_left code.now cs.new)) out.old out.new answer) }
-    ensures same { without_trivia (parts_left pattern.now ps.new) ≡ without_trivia (parts_left pattern.now ps.old) }
+    ensures steps { IfOk result (λ answer. (behind : List Part → Option (List Binding)) → Steps (leaf_by (number_of cs.old.comma) (placeholder_in pattern.now.placeholders.now token.0) (is_number (number_of ps.old.comma) token.0) (token_of pattern.now.tree.now token.0) (next_text (without_trivia (parts_left pattern.now.tree.now ps.old))) behind (parts_left code.now cs.old)) (behind (parts_left code.now cs.new)) out.old out.new answer) }
+    ensures same { without_trivia (parts_left pattern.now.tree.now ps.new) ≡ without_trivia (parts_left pattern.now.tree.now ps.old) }
     ensures ps_rest { IsRest ps.old [] ps.new }
     ensures cs_rest { IsRest cs.old [] cs.new }
 {
-    match placeholder_at(placeholders, token) {
+    match pattern.placeholder_at(token) {
         Some(placeholder) => {
-            let text = ps.next_text(pattern);
+            let text = ps.next_text(pattern.tree);
             holds(placeholder, text, code, cs, out)
         }
-        None => Ok(plain_matches(pattern, token, ps, code, cs)),
+        None => Ok(plain_matches(pattern.tree, token, ps, code, cs)),
     }
 }
 
@@ -116,26 +124,25 @@ fn token_matches(
 /// `out` gets what it binds.
 #[cycle(matching)]
 fn element_matches(
-    placeholders: &[Option<u32>],
-    pattern: &Tree,
+    pattern: &Pattern<'_>,
     p: Element,
     ps: &mut Siblings<'_>,
     code: &Tree,
     cs: &mut Siblings<'_>,
     out: &mut Record,
 ) -> Result<bool, AllocError>
-    requires p_in { HasElement pattern.now p }
-    requires ps_in { All (HasElement pattern.now) (siblings_left ps.old) }
+    requires p_in { HasElement pattern.now.tree.now p }
+    requires ps_in { All (HasElement pattern.now.tree.now) (siblings_left ps.old) }
     requires cs_in { All (HasElement code.now) (siblings_left cs.old) }
     requires few { tokens_among (parts_left code.now cs.old) < 2 ^ 32 }
-    ensures steps { IfOk result (ElementSteps (placeholder_in placeholders.now) pattern.now p ps.old code.now cs.old cs.new out.old out.new) }
-    ensures same { without_trivia (parts_left pattern.now ps.new) ≡ without_trivia (parts_left pattern.now ps.old) }
+    ensures steps { IfOk result (ElementSteps (placeholder_in pattern.now.placeholders.now) pattern.now.tree.now p ps.old code.now cs.old cs.new out.old out.new) }
+    ensures same { without_trivia (parts_left pattern.now.tree.now ps.new) ≡ without_trivia (parts_left pattern.now.tree.now ps.old) }
     ensures ps_rest { IsRest ps.old [] ps.new }
     ensures cs_rest { IsRest cs.old [] cs.new }
 {
     let p = match p {
         Element::Token(token) => {
-            return token_matches(placeholders, pattern, token, ps, code, cs, out);
+            return token_matches(pattern, token, ps, code, cs, out);
         }
         Element::Node(p) => p,
     };
@@ -143,7 +150,7 @@ fn element_matches(
         return Ok(false);
     };
     match next {
-        Element::Node(c) => match_token_trees(placeholders, pattern, p, code, c, out),
+        Element::Node(c) => match_token_trees(pattern.placeholders, pattern.tree, p, code, c, out),
         Element::Token(_) => Ok(false),
     }
 }
@@ -165,8 +172,12 @@ pub fn match_token_trees(
 {
     let mut ps = Siblings::of(pattern, p);
     let mut cs = Siblings::of(code, c);
+    let whole = Pattern {
+        tree: pattern,
+        placeholders,
+    };
     while let Some(first) = ps.next_solid(pattern) {
-        if !element_matches(placeholders, pattern, first, &mut ps, code, &mut cs, out)? {
+        if !element_matches(&whole, first, &mut ps, code, &mut cs, out)? {
             return Ok(false);
         }
     }

@@ -63,36 +63,36 @@ match_token_trees-returns t c =
 pub element_matches-returns-in-Token-clause-steps : goal.element_matches-returns-in-Token-clause-steps
 element_matches-returns-in-Token-clause-steps t c =
     subst
-    (λ p. IfOk c.token_matches.result (ElementSteps (placeholder_in c.args.placeholders.now) c.args.pattern.now p c.args.ps.now c.args.code.now c.args.cs.now c.token_matches.new.cs c.args.out.now c.token_matches.new.out))
+    (λ p. IfOk c.token_matches.result (ElementSteps (placeholder_in c.args.pattern.now.placeholders.now) c.args.pattern.now.tree.now p c.args.ps.now c.args.code.now c.args.cs.now c.token_matches.new.cs c.args.out.now c.token_matches.new.out))
     (sym c.in-Token.is) c.token_matches.ensures.steps
 
 pub element_matches-match_token_trees-requires : goal.element_matches-match_token_trees-requires
 element_matches-match_token_trees-requires t c =
-    let size : element_size c.args.pattern.now c.args.p ≡ 1 + 2 * size_of (node_of c.args.pattern.now c.in-Node.p.0) = ap (element_size c.args.pattern.now) c.in-Node.is in (
+    let size : element_size c.args.pattern.now.tree.now c.args.p ≡ 1 + 2 * size_of (node_of c.args.pattern.now.tree.now c.in-Node.p.0) = ap (element_size c.args.pattern.now.tree.now) c.in-Node.is in (
       omega arith,
       (
-        subst (HasElement c.args.pattern.now) c.in-Node.is c.requires.p_in,
+        subst (HasElement c.args.pattern.now.tree.now) c.in-Node.is c.requires.p_in,
         subst (HasElement c.args.code.now) c.in-Node-next.is (rest_first (HasElement c.args.code.now) _ _ c.in-Some.next c.in-Some.ensures.rest c.requires.cs_in),
       ),
     )
 
 pub element_matches-returns-in_default-clause-steps : goal.element_matches-returns-in_default-clause-steps
 element_matches-returns-in_default-clause-steps t c =
-    none_steps (placeholder_in c.args.placeholders.now) c.args.pattern.now c.args.p c.in-Node.p c.args.ps.now c.args.code.now c.args.cs.now c.next_counted.new.self _
+    none_steps (placeholder_in c.args.pattern.now.placeholders.now) c.args.pattern.now.tree.now c.args.p c.in-Node.p c.args.ps.now c.args.code.now c.args.cs.now c.next_counted.new.self _
     c.in-Node.is c.in_default.ensures.gives c.in_default.ensures.none
 
 pub element_matches-returns-in-Token-next-clause-steps : goal.element_matches-returns-in-Token-next-clause-steps
 element_matches-returns-in-Token-next-clause-steps t c =
-    token_steps (placeholder_in c.args.placeholders.now) c.args.pattern.now c.args.p c.in-Node.p c.args.ps.now c.args.code.now c.args.cs.now c.next_counted.new.self _
+    token_steps (placeholder_in c.args.pattern.now.placeholders.now) c.args.pattern.now.tree.now c.args.p c.in-Node.p c.args.ps.now c.args.code.now c.args.cs.now c.next_counted.new.self _
     c.in-Some.next c.in-Token-next.field-0 c.in-Node.is c.in-Some.ensures.gives c.in-Token-next.is
 
 pub element_matches-returns-in-Node-next-clause-steps : goal.element_matches-returns-in-Node-next-clause-steps
 element_matches-returns-in-Node-next-clause-steps t c =
     IfOk-weaker c.match_token_trees.result
-    (Answers (tree_bindings (placeholder_in c.args.placeholders.now) (node_of c.args.pattern.now c.in-Node.p.0) (node_of c.args.code.now c.in-Node-next.c.0)) c.args.out.now c.match_token_trees.new.out)
-    (ElementSteps (placeholder_in c.args.placeholders.now) c.args.pattern.now c.args.p c.args.ps.now c.args.code.now c.args.cs.now c.next_counted.new.self c.args.out.now c.match_token_trees.new.out)
+    (Answers (tree_bindings (placeholder_in c.args.pattern.now.placeholders.now) (node_of c.args.pattern.now.tree.now c.in-Node.p.0) (node_of c.args.code.now c.in-Node-next.c.0)) c.args.out.now c.match_token_trees.new.out)
+    (ElementSteps (placeholder_in c.args.pattern.now.placeholders.now) c.args.pattern.now.tree.now c.args.p c.args.ps.now c.args.code.now c.args.cs.now c.next_counted.new.self c.args.out.now c.match_token_trees.new.out)
     (λ answer answers.
-    node_steps (placeholder_in c.args.placeholders.now) c.args.pattern.now c.args.p c.in-Node.p c.args.ps.now c.args.code.now c.args.cs.now c.next_counted.new.self _ _ answer
+    node_steps (placeholder_in c.args.pattern.now.placeholders.now) c.args.pattern.now.tree.now c.args.p c.in-Node.p c.args.ps.now c.args.code.now c.args.cs.now c.next_counted.new.self _ _ answer
     c.in-Some.next c.in-Node-next.c c.in-Node.is c.in-Some.ensures.gives c.in-Node-next.is answers)
     c.match_token_trees.ensures
 

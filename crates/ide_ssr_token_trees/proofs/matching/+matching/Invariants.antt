@@ -9,7 +9,7 @@ abbrev pub decreases-match_token_trees : goal.decreases-match_token_trees
 decreases-match_token_trees l = 2 * size_of (node_of l.pattern.now l.p.0)
 
 abbrev pub decreases-element_matches : goal.decreases-element_matches
-decreases-element_matches l = element_size l.pattern.now l.p
+decreases-element_matches l = element_size l.pattern.now.tree.now l.p
 
 abbrev pub invariant-match_token_trees-loop-first : goal.invariant-match_token_trees-loop-first
 invariant-match_token_trees-loop-first l =

@@ -13,25 +13,25 @@ pub returns-in-Some-clause-steps : goal.returns-in-Some-clause-steps
 returns-in-Some-clause-steps c =
     let y = number_of c.args.cs.now.comma in
     let comma = is_number (number_of c.args.ps.now.comma) c.args.token.0 in
-    let token = token_of c.args.pattern.now c.args.token.0 in
-    let text = next_text (without_trivia (parts_left c.args.pattern.now c.args.ps.now)) in
+    let token = token_of c.args.pattern.now.tree.now c.args.token.0 in
+    let text = next_text (without_trivia (parts_left c.args.pattern.now.tree.now c.args.ps.now)) in
     let cs = parts_left c.args.code.now c.args.cs.now in
     IfOk-weaker c.holds.result
     (λ answer. (behind : Behind) → Steps (placeholder_by c.in-Some.placeholder (option_copied c.next_text-text.result) behind cs)
     (behind (parts_left c.args.code.now c.holds.new.cs)) c.args.out.now c.holds.new.out answer)
-    (λ answer. (behind : Behind) → Steps (leaf_by y (placeholder_in c.args.placeholders.now c.args.token.0) comma token text behind cs)
+    (λ answer. (behind : Behind) → Steps (leaf_by y (placeholder_in c.args.pattern.now.placeholders.now c.args.token.0) comma token text behind cs)
     (behind (parts_left c.args.code.now c.holds.new.cs)) c.args.out.now c.holds.new.out answer)
     (λ answer steps behind.
-    placeholder_step y (placeholder_in c.args.placeholders.now c.args.token.0) comma token text (option_copied c.next_text-text.result) behind cs
+    placeholder_step y (placeholder_in c.args.pattern.now.placeholders.now c.args.token.0) comma token text (option_copied c.next_text-text.result) behind cs
     (behind (parts_left c.args.code.now c.holds.new.cs)) c.args.out.now c.holds.new.out answer c.in-Some.placeholder
     c.placeholder_at.result c.placeholder_at.ensures c.in-Some.is c.next_text-text.ensures.text (steps behind))
     c.holds.ensures.steps
 
 pub returns-in-None-clause-steps : goal.returns-in-None-clause-steps
 returns-in-None-clause-steps c = λ behind.
-    plain_step (number_of c.args.cs.now.comma) (placeholder_in c.args.placeholders.now c.args.token.0)
-    (is_number (number_of c.args.ps.now.comma) c.args.token.0) (token_of c.args.pattern.now c.args.token.0)
-    (next_text (without_trivia (parts_left c.args.pattern.now c.args.ps.now))) behind (parts_left c.args.code.now c.args.cs.now)
+    plain_step (number_of c.args.cs.now.comma) (placeholder_in c.args.pattern.now.placeholders.now c.args.token.0)
+    (is_number (number_of c.args.ps.now.comma) c.args.token.0) (token_of c.args.pattern.now.tree.now c.args.token.0)
+    (next_text (without_trivia (parts_left c.args.pattern.now.tree.now c.args.ps.now))) behind (parts_left c.args.code.now c.args.cs.now)
     (behind (parts_left c.args.code.now c.plain_matches.new.cs)) c.args.out.now c.plain_matches.result
     c.placeholder_at.result c.placeholder_at.ensures c.in-None.is
-    (c.plain_matches.ensures.steps (next_text (without_trivia (parts_left c.args.pattern.now c.args.ps.now))) behind)
+    (c.plain_matches.ensures.steps (next_text (without_trivia (parts_left c.args.pattern.now.tree.now c.args.ps.now))) behind)
