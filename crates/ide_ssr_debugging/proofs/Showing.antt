@@ -2,7 +2,7 @@
 use Rattle.std.proofs.Common.{◌≡◌, ℕ, ◌+◌, ◌<◌, ◌≤◌, ◌≢◌, ◌⊎◌, ◌↔◌, inl, inr, Bool, List, [], ◌∷◌, ◌++◌, length, get_or, All, AllPairs, Contains, Option, Some, None, refl, sym, ap, ◌∙◌, subst, arith}
 use Rattle.std.specs.Prelude.{IsTrue, slice_get}
 use Rattle.std.specs.Option.{IsSomeAnd, option_map, option_and_then}
-use Rattle.std.proofs.lemmas.Bool.{cases_lt, cases_eq}
+use Rattle.std.proofs.lemmas.Bool.{cases_lt}
 use Rattle.std.proofs.lemmas.List.Elements.{All-weaker, All-contains_itself, Contains-append_left, Contains-push, Contains-push_cases}
 use Rattle.std.proofs.lemmas.List.Quantifiers.{all_pairs_push}
 use Rattle.std.proofs.lemmas.Option.{none-some, same_Some}
@@ -17,8 +17,8 @@ use Rattle.ssr_base_trees.specs.Texts.{text_between}
 use Rattle.ssr_base_trees.specs.Workspace.{Workspace, PlacedTree, FileSpan, trees, with_number, tree_of, file_of, text_of, node_id, original, original_range, file_span_of}
 use Rattle.ssr_base_trees.specs.Built.{IsNodeOf}
 use Rattle.ssr_base_trees.specs.Laws.{IsEarlier}
-use Rattle.ssr_base_trees.proofs.Shared.{some_and, mapped, placed_first, placed_earlier, placed_within, length-trees}
-use Rattle.ide_ssr_bindings.proofs.Shared.{is_tree, has_node}
+use Rattle.ssr_base_trees.proofs.Shared.{some_and, mapped, placed_within, placed_there}
+use Rattle.ide_ssr_bindings.proofs.Shared.{has_node}
 use Rattle.ide_ssr_debugging.specs.Debugging.{IsShown}
 use Rattle.ide_ssr_debugging.specs.Private.Shown.{AreShownBefore}
 
@@ -61,20 +61,6 @@ module _ (w : Workspace) (file : FileId) (snippet : List ℕ) (x : NodeId) where
 
 id_at : (t n : ℕ) (x : NodeId) → x.tree ≡ t → x.node.0 ≡ n → x ≡ node_id t n
 id_at t n x tree node = ap (λ t. node_id t x.node.0) tree ∙ ap (node_id t) node
-
-placed_there : (ts : List PlacedTree) (t : ℕ) → t < length ts → (p : PlacedTree) × (with_number ts t ≡ Some p)
-placed_there [] t within = absurd (omega arith)
-placed_there (q ∷ earlier) t within =
-    elim (cases_eq t (length earlier)) [
-      | inl here ↦ (q, placed_first q earlier t here)
-      | inr other ↦
-          let before = placed_there earlier t (omega arith) in
-          (before.0, placed_earlier q earlier t other ∙ before.1)
-    ]
-
--- a tree that is there has one of their numbers
-pub tree_within : (w : Workspace) (t : ℕ) (s : Syntax) → Some s ≡ tree_of w t → t < length w.files + length w.expansions
-tree_within w t s is = let at = is_tree w t s (sym is) in omega (arith, placed_within (trees w) t at.tree at.is, length-trees w)
 
 module _ (w : Workspace) (file : FileId) (snippet : List ℕ) where
   -- what is found stays while no further node is passed that is shown

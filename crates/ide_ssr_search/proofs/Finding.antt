@@ -24,9 +24,8 @@ use Rattle.ide_ssr_search.specs.Found.{IsFound, IsWanted, IsFoundOf, Precedes, A
 use Rattle.ide_ssr_search.specs.Private.Scan.{IsBefore, AreFoundBut, AreFoundBefore, ShadowLater, TellsMatch, found_of, Adds}
 use Rattle.ssr_syntax_tree.proofs.Lists.{pairs_none}
 use Rattle.ide_ssr_search.proofs.Placed.{whole_binds}
-use Rattle.ssr_base_trees.proofs.Shared.{some_and, placed_within}
+use Rattle.ssr_base_trees.proofs.Shared.{some_and, placed_within, placed_there}
 use Rattle.ide_ssr_bindings.proofs.Shared.{is_tree, in_tree}
-use Rattle.ide_ssr_search.proofs.Trees.{placed_there}
 
 -- ** Order.
 

@@ -11,8 +11,7 @@ use Rattle.ide_ssr_search.specs.declared.context_error.ContextError.{ContextErro
 use Rattle.ide_ssr_search.specs.declared.context_error.ContextError.TheVariants as errors
 use Rattle.ide_ssr_search.specs.Context.{Context}
 use Rattle.ide_ssr_search.specs.Making.{HasFile, LiesInText, AreOfFiles, IsContext, Makes, MakesFirst, first_position}
-use Rattle.ssr_base_trees.proofs.Shared.{and_some, length-trees}
-use Rattle.ide_ssr_search.proofs.Trees.{placed_there}
+use Rattle.ssr_base_trees.proofs.Shared.{and_some, length-trees, placed_there}
 
 -- a file has a tree
 pub file_there : (w : Workspace) (file : ℕ) → None ≡ tree_of w file → HasFile w file → ⊥

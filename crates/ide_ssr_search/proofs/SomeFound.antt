@@ -8,7 +8,7 @@ use Rattle.ssr_syntax_tree.proofs.Lists.{stands_at}
 use Rattle.ssr_base_trees.specs.Meanings.{Meanings}
 use Rattle.ssr_base_trees.specs.Workspace.{Workspace, PlacedTree, trees, with_number, tree_of, node_id}
 use Rattle.ssr_base_trees.specs.Built.{IsBuilt}
-use Rattle.ssr_base_trees.proofs.Shared.{placed_within}
+use Rattle.ssr_base_trees.proofs.Shared.{placed_within, placed_there}
 use Rattle.ide_ssr_resolved_rule.specs.Resolved.{ResolvedRule}
 use Rattle.ide_ssr_bindings.specs.declared.bindings.Binding.{Binding}
 use Rattle.ide_ssr_matching.specs.Bindings.{bindings_of}
@@ -17,7 +17,6 @@ use Rattle.ide_ssr_search.specs.Context.{Context}
 use Rattle.ide_ssr_search.specs.Found.{AreFound}
 use Rattle.ide_ssr_search.specs.Private.Scan.{AreFoundBut, TellsMatch, found_of}
 use Rattle.ide_ssr_bindings.proofs.Shared.{is_tree, of_tree}
-use Rattle.ide_ssr_search.proofs.Trees.{placed_there}
 use Rattle.ide_ssr_search.proofs.Placed.{whole, not_matched, not_placed, not_written}
 use Rattle.ide_ssr_search.proofs.Finding.{found_none, added_by, found_at, found_in, all_wanted, found_of_all}
 use Rattle.ide_ssr_search.proofs.Deciding.{is_permitted, is_placed_match, can_be_written}

@@ -12,13 +12,12 @@ use Rattle.ssr_syntax_tree.proofs.Lists.{pairs_none}
 use Rattle.ssr_base_trees.specs.declared.ids.NodeId.{NodeId}
 use Rattle.ssr_base_trees.specs.Workspace.{Workspace, PlacedTree, trees, with_number, tree_of, node_id}
 use Rattle.ssr_base_trees.specs.Built.{IsBuilt}
-use Rattle.ssr_base_trees.proofs.Shared.{placed_within, some_and}
+use Rattle.ssr_base_trees.proofs.Shared.{placed_within, placed_there, some_and}
 use Rattle.ide_ssr_bindings.proofs.Shared.{is_tree, of_tree}
 use Rattle.ide_ssr_resolved_rule.specs.Resolved.{ResolvedRule}
 use Rattle.ide_ssr_search.specs.Context.{Context}
 use Rattle.ide_ssr_search.specs.Permitted.{IsPermitted}
 use Rattle.ide_ssr_search.specs.Tries.{ArePermitted}
-use Rattle.ide_ssr_search.proofs.Trees.{placed_there}
 use Rattle.ide_ssr_search.proofs.Deciding.{is_permitted}
 
 -- a node of an earlier tree, or one before a number in this tree

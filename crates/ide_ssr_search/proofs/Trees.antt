@@ -1,37 +1,21 @@
 -- What stands above a node of a workspace: nodes of its tree, or what stands above the tree's root.
-use Rattle.std.proofs.Common.{◌≡◌, ℕ, zero, suc, ◌+◌, ◌<◌, ◌≤◌, ◌==◌, List, [], ◌∷◌, length, Option, Some, None, refl, sym, ap, ◌∙◌, subst, inl, inr, ◌⊎◌, arith, ne_eqb}
+use Rattle.std.proofs.Common.{◌≡◌, ℕ, zero, suc, ◌<◌, ◌≤◌, ◌==◌, List, Option, Some, None, refl, sym, ap, ◌∙◌, subst, inl, inr, ◌⊎◌, arith, ne_eqb}
 use Rattle.std.proofs.lemmas.Bool.{cases_eq, cond-false}
 use Rattle.std.proofs.lemmas.Option.{none-some, same_Some}
 use Rattle.std.specs.Option.{option_and_then}
 use Rattle.ssr_syntax_tree.specs.Syntax.{Syntax}
 use Rattle.ssr_syntax_tree.specs.Places.{HasNode, node_of}
 use Rattle.ssr_base_trees.specs.declared.ids.NodeId.{NodeId}
-use Rattle.ssr_base_trees.specs.Workspace.{Workspace, PlacedTree, trees, with_number, tree_of, node_id, above_in, above}
+use Rattle.ssr_base_trees.specs.Workspace.{PlacedTree, node_id, above_in, above}
 use Rattle.ssr_base_trees.specs.Laws.{climbed, IsBelow}
-use Rattle.ssr_base_trees.proofs.Shared.{placed_first, placed_earlier, placed_within, length-trees, told_is, climbed_next}
+use Rattle.ssr_base_trees.proofs.Shared.{told_is, climbed_next}
 use Rattle.ide_ssr_bindings.specs.Found.{IsAtOrBelow}
-use Rattle.ide_ssr_bindings.proofs.Shared.{IsTree, is_tree}
+use Rattle.ide_ssr_bindings.proofs.Shared.{IsTree}
 use Rattle.ssr_syntax_tree.proofs.Shared.{IsOver, inside, below_root}
 
 pub then_some : {A B : Type 0} (f : A → Option B) (o : Option A) (y : B) → option_and_then f o ≡ Some y → (x : A) × (o ≡ Some x) × (f x ≡ Some y)
 then_some f None y is = absurd (none-some y is)
 then_some f (Some x) y is = (x, refl, is)
-
--- ** Trees.
-
-pub placed_there : (ts : List PlacedTree) (t : ℕ) → t < length ts → (p : PlacedTree) × (with_number ts t ≡ Some p)
-placed_there [] t within = absurd (omega arith)
-placed_there (q ∷ earlier) t within =
-    elim (cases_eq t (length earlier)) [
-      | inl here ↦ (q, placed_first q earlier t here)
-      | inr other ↦
-          let before = placed_there earlier t (omega arith) in
-          (before.0, placed_earlier q earlier t other ∙ before.1)
-    ]
-
--- a tree that is there has one of their numbers
-pub tree_within : (w : Workspace) (t : ℕ) (s : Syntax) → Some s ≡ tree_of w t → t < length w.files + length w.expansions
-tree_within w t s is = let at = is_tree w t s (sym is) in omega (arith, placed_within (trees w) t at.tree at.is, length-trees w)
 
 -- ** One step up.
 

@@ -1,7 +1,8 @@
 use Rattle.std.proofs.Common.{◌≡◌, ◌+◌, ◌≢◌, sym, ◌∙◌, subst, arith}
 use Rattle.ssr_base_trees.specs.Workspace.{trees, file_of}
+use Rattle.ssr_base_trees.proofs.Shared.{tree_within}
 use Rattle.ide_ssr_debugging.specs.Private.Shown.{AreShownBefore}
-use Rattle.ide_ssr_debugging.proofs.Showing.{tree_within, shown_none, shown_elsewhere, shown_all}
+use Rattle.ide_ssr_debugging.proofs.Showing.{shown_none, shown_elsewhere, shown_all}
 use Rattle.ide_ssr_debugging.proofs.shown.found_nodes.Goals as goal
 use Rattle.ide_ssr_debugging.proofs.shown.found_nodes.Goals.{then-file_of-file+in_ok-add_shown, else-file_of-file}
 

@@ -4,9 +4,9 @@ use Rattle.std.specs.Prelude.{◌↔◌, IsTrue}
 use Rattle.std.specs.Option.{IsSomeAnd}
 use Rattle.ssr_base_trees.specs.Workspace.{trees, node_id}
 use Rattle.ssr_base_trees.specs.Laws.{IsBelow}
+use Rattle.ssr_base_trees.proofs.Shared.{tree_within}
 use Rattle.ide_ssr_search.specs.Private.KnownTrees.{KnowsShut, KnowsInside}
 use Rattle.ide_ssr_search.specs.Private.Scan.{AreFoundBefore, KeepsLimits}
-use Rattle.ide_ssr_search.proofs.Trees.{tree_within}
 use Rattle.ide_ssr_search.proofs.Calls.{inside_more}
 use Rattle.ide_ssr_search.proofs.Finding.{found_enough}
 use Rattle.ide_ssr_search.proofs.Counting.{kept_on, kept_all}
