@@ -1,5 +1,5 @@
 -- What is written in front of what a placeholder holds.
-use Rattle.std.proofs.Common.{◌≡◌, ℕ, zero, suc, ◌≤◌, Bool, true, false, List, [], Option, Some, None, refl, ap, ◌∙◌, arith}
+use Rattle.std.proofs.Common.{◌≡◌, ℕ, zero, suc, ◌≤◌, Bool, true, false, List, [], Option, Some, None, refl, arith}
 use Rattle.std.specs.Prelude.{if◌then◌else◌, replicate, slice_get}
 use Rattle.std.specs.Option.{option_map_or}
 use Rattle.ide_ssr_resolved_rule.specs.Receivers.{is_receiver}

@@ -1,5 +1,5 @@
 -- One clash is told: the first one of all.
-use Rattle.std.proofs.Common.{◌≡◌, ◌∙◌, ℕ, true, List, ◌++◌, Some, Err, refl, ap, subst, sym, Ordering, Less, Equal, Greater, get_or}
+use Rattle.std.proofs.Common.{◌≡◌, ◌∙◌, ℕ, true, List, ◌++◌, Some, Err, refl, ap, subst, Ordering, Less, Equal, Greater, get_or}
 use Rattle.std.specs.Cmp.Lexicographic.{slice_cmp}
 use Rattle.std.specs.FinMap.{nat_cmp-IsAntisymmetric, slice_cmp-IsAntisymmetric}
 use Rattle.std.specs.Ordering.{is_le, nat_cmp, ordering_reverse}

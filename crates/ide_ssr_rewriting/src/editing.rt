@@ -89,6 +89,13 @@ fn lesser(
     }
 }
 
+/// Kept matches, and their lists.
+#[derive(Drop)]
+struct Nest<'n, 'a> {
+    kept: &'n KeptMatches<'a>,
+    lists: &'n Lists,
+}
+
 /// The texts that are known of the matches that were gone through, from the last one on, and the first clash of their
 /// lists.
 #[derive(Drop)]
@@ -221,26 +228,29 @@ impl Pending {
     fn take_pieces<'a, S: Semantics>(
         &mut self,
         writer: &Writer<'_, S>,
-        kept: &KeptMatches<'a>,
-        lists: &Lists,
+        nest: &Nest<'_, 'a>,
         m: &FoundMatch,
         place: usize,
         pieces: &mut Vec<CowStr<'a>>,
     ) -> Result<bool, AllocError>
-        requires nest { IsNest kept.now lists.now }
-        requires m { slice_get kept.now.matches place ≡ Some m.now }
-        requires counted { length self.old.texts.items ≡ length kept.now.matches }
-        ensures pieces { IfOk result (λ are_all. (if are_all then Some (map cow_str_bytes pieces.new.items) else None) ≡ pieces_by kept.now.workspace writer.now.rules.now m.now (list_under kept.now lists.now (text_in self.old.texts.items) place)) }
-        ensures clash { OnOk result ((others : List Clash) → IsFirst others (option_map clash_of self.old.clash) → IsFirst (clashes_under m.now (list_under kept.now lists.now (text_in self.old.texts.items) place) ++ others) (option_map clash_of self.new.clash)) }
-        ensures left { OnOk result ((j : ℕ) → ((i : ℕ) → Contains (under lists.now place i) j → ⊥) → text_in self.new.texts.items j ≡ text_in self.old.texts.items j) }
+        requires nest { IsNest nest.now.kept.now nest.now.lists.now }
+        requires m { slice_get nest.now.kept.now.matches place ≡ Some m.now }
+        requires counted { length self.old.texts.items ≡ length nest.now.kept.now.matches }
+        ensures pieces { IfOk result (λ are_all. (if are_all then Some (map cow_str_bytes pieces.new.items) else None) ≡ pieces_by nest.now.kept.now.workspace writer.now.rules.now m.now (list_under nest.now.kept.now nest.now.lists.now (text_in self.old.texts.items) place)) }
+        ensures clash { OnOk result ((others : List Clash) → IsFirst others (option_map clash_of self.old.clash) → IsFirst (clashes_under m.now (list_under nest.now.kept.now nest.now.lists.now (text_in self.old.texts.items) place) ++ others) (option_map clash_of self.new.clash)) }
+        ensures left { OnOk result ((j : ℕ) → ((i : ℕ) → Contains (under nest.now.lists.now place i) j → ⊥) → text_in self.new.texts.items j ≡ text_in self.old.texts.items j) }
         ensures counted { OnOk result (length self.new.texts.items ≡ length self.old.texts.items) }
     {
         pieces.clear();
         let mut are_all = true;
         for (index, binding) in m.bindings().iter().enumerate() {
-            let range = binding.original_range(kept.workspace(), m.node().tree);
-            let (list, first) = self.take_list(writer.alloc, kept, lists.under(place, index))?;
-            let held = held_if_clean(writer.alloc, kept.workspace(), range, list, first)?;
+            let range = binding.original_range(nest.kept.workspace(), m.node().tree);
+            let (list, first) = self.take_list(
+                writer.alloc,
+                nest.kept,
+                nest.lists.under(place, index),
+            )?;
+            let held = held_if_clean(writer.alloc, nest.kept.workspace(), range, list, first)?;
             let piece = writer.piece(m.rule(), *binding, held)?;
             are_all = push_piece(pieces, piece)? && are_all;
         }
@@ -251,19 +261,18 @@ impl Pending {
     fn rewrite_at<'a, S: Semantics>(
         &mut self,
         writer: &Writer<'_, S>,
-        kept: &KeptMatches<'a>,
-        lists: &Lists,
+        nest: &Nest<'_, 'a>,
         place: usize,
         pieces: &mut Vec<CowStr<'a>>,
     ) -> Result<(), AllocError>
-        requires nest { IsNest kept.now lists.now }
-        requires place { place < length kept.now.matches }
-        requires run { IsRun kept.now lists.now (writing (S.meanings writer.now.semantics.now) writer.now.rules.now) (place + 1) self.old.texts.items (option_map clash_of self.old.clash) }
-        ensures { OnOk result (IsRun kept.now lists.now (writing (S.meanings writer.now.semantics.now) writer.now.rules.now) place self.new.texts.items (option_map clash_of self.new.clash)) }
+        requires nest { IsNest nest.now.kept.now nest.now.lists.now }
+        requires place { place < length nest.now.kept.now.matches }
+        requires run { IsRun nest.now.kept.now nest.now.lists.now (writing (S.meanings writer.now.semantics.now) writer.now.rules.now) (place + 1) self.old.texts.items (option_map clash_of self.old.clash) }
+        ensures { OnOk result (IsRun nest.now.kept.now nest.now.lists.now (writing (S.meanings writer.now.semantics.now) writer.now.rules.now) place self.new.texts.items (option_map clash_of self.new.clash)) }
     {
-        let m = kept.get(place);
-        let are_all = self.take_pieces(writer, kept, lists, m, place, pieces)?;
-        let text = writer.text_of_pieces(kept.workspace(), m, pieces.as_slice(), are_all)?;
+        let m = nest.kept.get(place);
+        let are_all = self.take_pieces(writer, nest, m, place, pieces)?;
+        let text = writer.text_of_pieces(nest.kept.workspace(), m, pieces.as_slice(), are_all)?;
         self.texts[place] = text;
         Ok(())
     }
@@ -281,11 +290,12 @@ fn run<S: Semantics>(
 {
     let count = kept.len();
     let texts = none_known(writer.alloc, count)?;
+    let nest = Nest { kept, lists };
     let mut pending = Pending { texts, clash: None };
     // One list serves all matches, one after another.
     let mut pieces = Vec::new(writer.alloc);
     for place in (0..count).rev() {
-        pending.rewrite_at(writer, kept, lists, place, &mut pieces)?;
+        pending.rewrite_at(writer, &nest, place, &mut pieces)?;
     }
     Ok(pending)
 }

@@ -40,15 +40,15 @@ held_read kept m w x bs i range same_w same_x same_bs is =
 
 pub take_list-requires-clause-within : goal.take_list-requires-clause-within
 take_list-requires-clause-within g c =
-    subst (All (λ n. n < length c.args.kept.now.matches)) (sym c.under.ensures) (c.requires.nest.lists (Some (record { place = c.args.place; binding = c.loop-index.index }))).within
+    subst (All (λ n. n < length c.args.nest.now.kept.now.matches)) (sym c.under.ensures) (c.requires.nest.lists (Some (record { place = c.args.place; binding = c.loop-index.index }))).within
 
 pub take_list-requires-clause-once : goal.take_list-requires-clause-once
 take_list-requires-clause-once g c = subst (λ (xs : List ℕ). AllPairs ◌≢◌ xs) (sym c.under.ensures) (c.requires.nest.lists (Some (record { place = c.args.place; binding = c.loop-index.index }))).once
 
 pub take_list-requires-clause-order : goal.take_list-requires-clause-order
 take_list-requires-clause-order g c =
-    subst (λ (xs : List ℕ). AreInOrder (list_at c.args.kept.now (text_in c.loop-index.self.texts.items) xs)) (sym c.under.ensures)
-    (list_in_order c.args.kept.now c.args.lists.now c.requires.nest (Some (record { place = c.args.place; binding = c.loop-index.index })) (text_in c.loop-index.self.texts.items))
+    subst (λ (xs : List ℕ). AreInOrder (list_at c.args.nest.now.kept.now (text_in c.loop-index.self.texts.items) xs)) (sym c.under.ensures)
+    (list_in_order c.args.nest.now.kept.now c.args.nest.now.lists.now c.requires.nest (Some (record { place = c.args.place; binding = c.loop-index.index })) (text_in c.loop-index.self.texts.items))
 
 pub held_if_clean-requires-clause-list : goal.held_if_clean-requires-clause-list
 held_if_clean-requires-clause-list g c =
@@ -57,15 +57,15 @@ held_if_clean-requires-clause-list g c =
     let b = get_or m.bindings i nobody in
     let lt : i < length m.bindings = omega (arith, ap (λ (bs : List Binding). length bs) c.bindings-binding-items.ensures) in
     rw c.workspace-in-loop-index.ensures
-    (list_fits c.args.kept.now c.args.lists.now c.requires.nest c.args.place i m b (text_in c.loop-index.self.texts.items) c.in_ok-list.list.items _
+    (list_fits c.args.nest.now.kept.now c.args.nest.now.lists.now c.requires.nest c.args.place i m b (text_in c.loop-index.self.texts.items) c.in_ok-list.list.items _
     c.requires.m (slice_get-get_or m.bindings i nobody lt)
-    (c.in_ok-list.ensures.list ∙ ap (list_at c.args.kept.now (text_in c.loop-index.self.texts.items)) c.under.ensures)
-    (held_read c.args.kept.now m c.workspace.result.now c.node.result c.bindings-binding-items.result.now i _ c.workspace.ensures c.node.ensures c.bindings-binding-items.ensures
+    (c.in_ok-list.ensures.list ∙ ap (list_at c.args.nest.now.kept.now (text_in c.loop-index.self.texts.items)) c.under.ensures)
+    (held_read c.args.nest.now.kept.now m c.workspace.result.now c.node.result c.bindings-binding-items.result.now i _ c.workspace.ensures c.node.ensures c.bindings-binding-items.ensures
     c.original_range-range.ensures))
 
 pub loop-index-preserved : goal.loop-index-preserved
 loop-index-preserved g c =
-    let kept = c.args.kept.now in
+    let kept = c.args.nest.now.kept.now in
     let rules = c.args.writer.now.rules.now in
     let m = c.args.m.now in
     let i = c.loop-index.index in
@@ -80,14 +80,14 @@ loop-index-preserved g c =
       | then-branch w ↦ w.are_all-is ∙ ap (λ (t : Bool). t && c.loop-index.are_all) (sym (sym c.in_ok-are_all.ensures.there ∙ w.if-branch.true))
       | else-branch w ↦ w.are_all-is ∙ (w.if-branch.false ∙ ap (λ (t : Bool). t && c.loop-index.are_all) (sym (sym c.in_ok-are_all.ensures.there ∙ w.if-branch.false)))
     ] in
-    let here : list ≡ list_under kept c.args.lists.now (text_in c.args.self.now.texts.items) c.args.place i =
+    let here : list ≡ list_under kept c.args.nest.now.lists.now (text_in c.args.self.now.texts.items) c.args.place i =
     c.in_ok-list.ensures.list
     ∙ (ap (list_at kept (text_in c.loop-index.self.texts.items)) c.under.ensures
-    ∙ list_left kept c.args.lists.now c.requires.nest c.args.place i _ _ c.loop-index.invariant.texts.left) in
-    let lists = list_under kept c.args.lists.now (text_in c.args.self.now.texts.items) c.args.place in
+    ∙ list_left kept c.args.nest.now.lists.now c.requires.nest c.args.place i _ _ c.loop-index.invariant.texts.left) in
+    let lists = list_under kept c.args.nest.now.lists.now (text_in c.args.self.now.texts.items) c.args.place in
     let at = get_or_default m.bindings i nobody b lt in
     record {
-      texts = left-more c.args.lists.now c.args.place i _ _ _ c.loop-index.invariant.texts c.in_ok-list.ensures.counted
+      texts = left-more c.args.nest.now.lists.now c.args.place i _ _ _ c.loop-index.invariant.texts c.in_ok-list.ensures.counted
           (λ j none. c.in_ok-list.ensures.others j (λ h. none (subst (λ (xs : List ℕ). Contains xs j) c.under.ensures h)));
       written = written-more kept.workspace rules m _ i _ _ _ _ c.loop-index.invariant.written b lt at (option_map cow_str_bytes c.in_ok-piece.piece)
           (c.in_ok-piece.ensures

@@ -6,5 +6,5 @@ use Rattle.ide_ssr_rewriting.proofs.editing.Pending.take_pieces.Given as goal
 
 abbrev pub invariant-loop-index : goal.invariant-loop-index
 invariant-loop-index g l =
-    AreTaken l.kept l.lists l.writer.rules.now l.m l.place l.index l.initial.self.texts.items l.self.texts.items l.are_all (map cow_str_bytes l.pieces.items)
+    AreTaken l.nest.kept.now l.nest.lists.now l.writer.rules.now l.m l.place l.index l.initial.self.texts.items l.self.texts.items l.are_all (map cow_str_bytes l.pieces.items)
     (option_map clash_of l.initial.self.clash) (option_map clash_of l.self.clash)

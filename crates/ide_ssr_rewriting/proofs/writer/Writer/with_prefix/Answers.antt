@@ -1,4 +1,4 @@
-use Rattle.std.proofs.Common.{◌≡◌, ◌++◌, List, ℕ, ap, sym}
+use Rattle.std.proofs.Common.{◌++◌, List, ℕ, ap, sym}
 use Rattle.std.specs.Cow.{cow_str_bytes}
 use Rattle.ide_ssr_rewriting.proofs.NoPrefix.{no_prefix}
 use Rattle.ide_ssr_rewriting.proofs.writer.Writer.with_prefix.Goals as goal
