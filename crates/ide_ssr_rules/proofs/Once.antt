@@ -1,5 +1,5 @@
 -- Rules that are searched once.
-use Rattle.std.proofs.Common.{◌≡◌, ℕ, List, All, Ok, true, false, take, subst}
+use Rattle.std.proofs.Common.{◌≡◌, ℕ, List, All, Ok, true, false, take}
 use Rattle.std.specs.Prelude.{IsSome, if◌then◌else◌}
 use Rattle.std.proofs.lemmas.List.Elements.{All-take}
 use Rattle.ssr_base_trees.specs.declared.ids.ScopeId.{ScopeId}

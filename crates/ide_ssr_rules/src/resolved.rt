@@ -22,6 +22,25 @@ use ssr_base_trees::{ScopeId, Semantics};
 use ssr_syntax_tree::Tree;
 use std::alloc::{AllocError, Global};
 
+/// The placeholders of a rule: their names, and what each of these asks.
+#[derive(Drop)]
+struct Placeholders<'p, 'n> {
+    names: &'p Names<'n>,
+    constraints: &'p [ConstraintSet],
+}
+
+impl<'p, 'n> Placeholders<'p, 'n> {
+    /// The names and what each of these asks, once more.
+    fn copied(&self, alloc: Global) -> Result<(Vec<String>, Vec<ConstraintSet>), AllocError>
+        ensures names { IfOk result (λ copies. map string_bytes copies.0.items ≡ self.now.names.now) }
+        ensures constraints { IfOk result (λ copies. copies.1.items ≡ self.now.constraints.now) }
+    {
+        let names = self.names.owned(alloc)?;
+        let constraints = copied_constraints(alloc, self.constraints)?;
+        Ok((names, constraints))
+    }
+}
+
 /// The kinds of a rule in their order, with what their paths stand for that are written in the scope; or why it doesn't
 /// resolve: which of its paths doesn't. The pattern of each kind has each placeholder once, in a used path only among its
 /// arguments, and the template at most once. What each kind has of its paths is what its pattern tells.
@@ -72,16 +91,13 @@ fn resolve<S: Semantics>(
 {
     let (names, constraints, kinds) = parsed.into_parts();
     let known = Names::of(alloc, names.as_slice())?;
+    let placeholders = Placeholders {
+        names: &known,
+        constraints: constraints.as_slice(),
+    };
     let mut resolved = Vec::new(alloc);
     for kind in kinds {
-        resolved.push(resolved_kind(
-            alloc,
-            semantics,
-            scope,
-            &known,
-            constraints.as_slice(),
-            kind,
-        )?)?;
+        resolved.push(resolved_kind(alloc, semantics, scope, &placeholders, kind)?)?;
     }
     Ok(resolved)
 }
@@ -91,18 +107,18 @@ fn resolved_kind<S: Semantics>(
     alloc: Global,
     semantics: &S,
     scope: ScopeId,
-    names: &Names<'_>,
-    constraints: &[ConstraintSet],
+    placeholders: &Placeholders<'_, '_>,
     kind: ParsedRule,
 ) -> Result<ResolvedRule, SsrError>
-    requires { length names.now < 2 ^ 32 }
-    ensures { Answers result (resolved_kind (S.meanings semantics.now) scope names.now constraints.now kind) }
+    requires { length placeholders.now.names.now < 2 ^ 32 }
+    ensures { Answers result (resolved_kind (S.meanings semantics.now) scope placeholders.now.names.now placeholders.now.constraints.now kind) }
 {
+    let names = placeholders.names;
     let template = kind.template.as_ref();
     let template_paths = paths_in_template(alloc, semantics, scope, names, template)?;
     let pattern_paths = paths_in(alloc, semantics, scope, names, &kind.pattern)?;
     let paths = (template_paths, pattern_paths);
-    Ok(resolved_with(alloc, semantics, scope, names, constraints, kind, paths)?)
+    Ok(resolved_with(alloc, semantics, scope, placeholders, kind, paths)?)
 }
 
 /// What a kind resolves to, with the used paths of its template and of its pattern.
@@ -110,15 +126,14 @@ fn resolved_with<S: Semantics>(
     alloc: Global,
     semantics: &S,
     scope: ScopeId,
-    names: &Names<'_>,
-    constraints: &[ConstraintSet],
+    placeholders: &Placeholders<'_, '_>,
     kind: ParsedRule,
     paths: (Vec<UsedPath>, Vec<UsedPath>),
 ) -> Result<ResolvedRule, AllocError>
-    requires few { length names.now < 2 ^ 32 }
+    requires few { length placeholders.now.names.now < 2 ^ 32 }
     requires has_pattern { HasPaths kind.pattern paths.1.items }
     requires has_template { IfSome kind.template (λ template. HasPaths template paths.0.items) }
-    ensures { IfOk result (λ rule. rule ≡ resolved_with (S.meanings semantics.now) scope names.now constraints.now kind paths.0.items paths.1.items) }
+    ensures { IfOk result (λ rule. rule ≡ resolved_with (S.meanings semantics.now) scope placeholders.now.names.now placeholders.now.constraints.now kind paths.0.items paths.1.items) }
 {
     let (template_paths, pattern_paths) = paths;
     let used = pattern_paths.as_slice();
@@ -129,9 +144,9 @@ fn resolved_with<S: Semantics>(
         &kind.pattern,
         used,
     )?;
-    let (owned, constraints) = copied(alloc, names, constraints)?;
+    let (names, constraints) = placeholders.copied(alloc)?;
     let parts = RuleParts {
-        names: owned,
+        names,
         constraints,
         category: kind.category,
         pattern: kind.pattern,
@@ -141,7 +156,7 @@ fn resolved_with<S: Semantics>(
         qualified_calls,
         eligible_paths,
     };
-    let rule = ResolvedRule::new(alloc, names, parts)?;
+    let rule = ResolvedRule::new(alloc, placeholders.names, parts)?;
     Ok(rule)
 }
 
@@ -162,20 +177,6 @@ fn lead_candidates<S: Semantics>(
     let calls = qualified_calls_of(alloc, semantics, scope, pattern, paths)?;
     let eligible = eligible_paths(alloc, semantics, pattern, &calls, paths)?;
     Ok((calls, eligible))
-}
-
-/// The names of a rule's placeholders and what each of these asks, once more.
-fn copied(
-    alloc: Global,
-    names: &Names<'_>,
-    constraints: &[ConstraintSet],
-) -> Result<(Vec<String>, Vec<ConstraintSet>), AllocError>
-    ensures names { IfOk result (λ copies. map string_bytes copies.0.items ≡ names.now) }
-    ensures constraints { IfOk result (λ copies. copies.1.items ≡ constraints.now) }
-{
-    let names = names.owned(alloc)?;
-    let constraints = copied_constraints(alloc, constraints)?;
-    Ok((names, constraints))
 }
 
 /// The constraints of a rule's placeholders, once more.

@@ -35,7 +35,7 @@ loop-kind-preserved g c =
     c.in_ok-known.ensures ∙ ap (map string_bytes) c.as_slice.ensures.value ∙ c.into_parts-names.ensures.names in
     let resolved : resolved_kind m c.args.scope c.args.parsed.names asked kind ≡ Ok c.in_ok-resolved_kind.field-0 =
     ap (λ ns. resolved_kind m c.args.scope ns asked kind) (sym named)
-    ∙ ap (λ asks. resolved_kind m c.args.scope known asks kind) (sym (c.as_slice-in-loop-kind.ensures.value ∙ c.into_parts-names.ensures.constraints))
+    ∙ ap (λ asks. resolved_kind m c.args.scope known asks kind) (sym (c.as_slice-2.ensures.value ∙ c.into_parts-names.ensures.constraints))
     ∙ c.in_ok-resolved_kind.ensures in
     resolves_next m c.args.scope c.args.parsed.names asked c.args.parsed.kinds (into_iter_items c.loop-kind.kind-iterator) (into_iter_items c.next.new.self)
     c.loop-kind.resolved.items c.push.new.self.items kind c.in_ok-resolved_kind.field-0 c.loop-kind.invariant c.in-Some.ensures.steps.0

@@ -7,5 +7,5 @@ returns g c =
     let called = rw c.as_slice-used.ensures.value at c.in_ok-qualified_calls.ensures.calls in
     let leading = rw c.as_slice-used.ensures.value at c.in_ok-qualified_calls.ensures.eligible in
     c.in_ok-rule.ensures
-    ∙ kind_made (g.S.Semantics.meanings c.args.semantics.now) c.args.scope _ _ c.args.kind _ _ _ _ _ _ c.in_ok-owned.ensures.names c.in_ok-owned.ensures.constraints
+    ∙ kind_made (g.S.Semantics.meanings c.args.semantics.now) c.args.scope _ _ c.args.kind _ _ _ _ _ _ c.in_ok-names.ensures.names c.in_ok-names.ensures.constraints
     called leading
