@@ -15,6 +15,7 @@ pub(crate) fn counts_of_changes(changes: &[FileChange], left_out: usize) -> Summ
         matches: 0,
         edits: 0,
         set_aside: 0,
+        unread: 0,
         left_out,
     };
     for change in changes {
@@ -42,6 +43,7 @@ pub(crate) fn counts_of_places(places: &[FoundPlace], left_out: usize) -> Summar
         matches: places.len(),
         edits: 0,
         set_aside: places.iter().filter(|place| place.holds_aside).count(),
+        unread: 0,
         left_out,
     }
 }

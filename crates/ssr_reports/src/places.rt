@@ -2,6 +2,7 @@
 ghost use Rattle.std.specs.Prelude.{◌≡◌, ◌+◌, ◌<◌, ◌≤◌, ◌^◌, IfOk, MatchOption, length, count_by, string_bytes};
 ghost use Rattle.ssr_reports.specs.Places.{is_line_break, begins_character, last_line, first_line as first_line_of, mark_of, line_of, column_of, IsAt, HasNone, place_text};
 
+use ssr_diff::quoted;
 use std::alloc::{AllocError, Global};
 use std::marker::Model;
 
@@ -134,7 +135,8 @@ fn characters_of_last_line(bytes: &[u8]) -> usize
         .count()
 }
 
-/// `src/lib.rs:12:9: text` and a line break, of what is found at a place of a file; of several lines the first one, and ` ..` behind it.
+/// `src/lib.rs:12:9: text` and a line break, of what is found at a place of a file, whose name is [`quoted`]; of several lines the first
+/// one, and ` ..` behind it.
 pub fn place_line(
     alloc: Global,
     file: &str,
@@ -146,7 +148,8 @@ pub fn place_line(
     let line = place.line;
     let column = place.column;
     let (first, mark) = first_line(found);
-    format!(in alloc; "{file}:{line}:{column}: {first}{mark}\n")
+    let name = quoted(alloc, file)?;
+    format!(in alloc; "{name}:{line}:{column}: {first}{mark}\n")
 }
 
 /// A text up to its first line break, and a mark where there is one.

@@ -1,10 +1,11 @@
 use Rattle.std.proofs.Common.{◌≡◌, List, ℕ, ◌++◌, subst, rules, codes, decimal, IfOk, string_bytes}
+use Rattle.ssr_diff.specs.Names.{quoted}
 use Rattle.ssr_reports.specs.Places.{first_line}
 use Rattle.ssr_reports.proofs.places.place_line.Goals as goal
 
 pub returns : goal.returns
 returns c =
-    let file = c.args.file.now in
+    let file = quoted c.args.file.now in
     let place = c.args.place in
     let parts = c.first_line.result in
     let written : IfOk c.format.result (λ line. string_bytes line ≡ file ++ (codes ":" ++ (decimal place.line ++ (codes ":" ++ (decimal place.column
