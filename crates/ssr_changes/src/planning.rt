@@ -110,11 +110,7 @@ fn planned<'a>(
 }
 
 /// Looks whether each file planned may be written, and none comes twice.
-fn check_names(
-    alloc: Global,
-    files: &Searchable,
-    plan: &[Planned<'_>],
-) -> Result<(), PlanError>
+fn check_names(alloc: Global, files: &Searchable, plan: &[Planned<'_>]) -> Result<(), PlanError>
     ensures { MatchResult result (λ _. HaveNames files.now.files plan.now) (IsNameFault files.now.files plan.now) }
 {
     let mut names = BTreeMap::new(alloc);
