@@ -79,7 +79,7 @@ fn all_planned<'a>(
 {
     let mut plan = Vec::new(alloc);
     for change in made {
-        if let Some(planned) = planned(alloc, files, change)? {
+        if let Some(planned) = planned_of(alloc, files, change)? {
             plan.push(planned)?;
         }
     }
@@ -87,7 +87,7 @@ fn all_planned<'a>(
 }
 
 /// What is planned of a change; nothing where its file keeps its text or isn't there.
-fn planned<'a>(
+fn planned_of<'a>(
     alloc: Global,
     files: &Searchable,
     change: &'a FileChange,
