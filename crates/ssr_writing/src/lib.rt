@@ -1,6 +1,7 @@
 //! New texts on the disk: all files of a run get theirs, or, as far as a file system lets, none.
 #![tactic(auto)]
 
+mod apart;
 mod disk;
 mod faults;
 mod on_disk;
