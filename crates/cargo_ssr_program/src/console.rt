@@ -12,7 +12,7 @@ pub struct Console<W, E> {
 }
 
 impl<W: Write, E: Write> Console<W, E> {
-    /// Standard output and standard error, and whether a terminal shows the first.
+    /// Standard output and standard error, and whether a terminal shows the first, and colours on it are wanted.
     pub fn new(out: W, err: E, terminal: bool) -> Console<W, E> {
         Console { out, err, terminal }
     }

@@ -7,6 +7,7 @@ use crate::telling::search_failure;
 use cargo_ssr_options::Options;
 use ssr_base::{FileRange, Semantics};
 use ssr_changes::{DebugEntry, Searchable, debug};
+use ssr_diff::quoted;
 use ssr_reports::{LinePlace, Places};
 use std::alloc::{AllocError, Global};
 use std::io::Write;
@@ -30,14 +31,20 @@ pub(crate) fn show_debug<W: Write, E: Write, S: Semantics>(
     );
     let entries = match told {
         Ok(entries) => entries,
-        Err(error) => return Err(search_failure(alloc, files, error)?),
+        Err(error) => return Err(search_failure(alloc, input, options, error)?),
     };
     if entries.is_empty() && !options.quiet {
         console.tell("no rule asks for what the text shows");
     }
     let mut places = FilePlaces::new(files);
+    let mut last = String::new(alloc);
     for entry in &entries {
-        console.show(entry_line(alloc, &mut places, entry)?.as_str())?;
+        let line = entry_line(alloc, &mut places, entry)?;
+        // two kinds of a rule have one number, and often one reason
+        if line.as_str() != last.as_str() {
+            console.show(line.as_str())?;
+            last = line;
+        }
     }
     Ok(())
 }
@@ -72,7 +79,8 @@ impl<'a> FilePlaces<'a> {
             self.places = Places::new(files.text(file));
         }
         let LinePlace { line, column } = self.places.place(range.range.start as usize);
-        format!(in alloc; "{}:{line}:{column}", files.name(file))
+        let name = quoted(alloc, files.name(file))?;
+        format!(in alloc; "{name}:{line}:{column}")
     }
 }
 

@@ -35,7 +35,7 @@ pub(crate) fn search<W: Write, E: Write, S: Semantics>(
     );
     let mut places = match found {
         Ok(places) => places,
-        Err(error) => return Err(search_failure(alloc, &input.files, error)?),
+        Err(error) => return Err(search_failure(alloc, input, options, error)?),
     };
     // of nested matches the inner ones come first
     places.sort_by_key(place_key)?;

@@ -6,6 +6,7 @@ use crate::positions::position_at;
 use cargo_ssr_options::{Chosen, Options, Place};
 use ssr_base::{FileId, FilePosition, FileRange, Workspace};
 use ssr_changes::{Searchable, Unread};
+use ssr_diff::quoted;
 use ssr_facts::{Facts, TableSemantics, read};
 use ssr_package::{
     ModuleTree, PackageError, PackageFiles, find_manifest, given_files, package_files, path_in,
@@ -152,7 +153,8 @@ fn unread_words(alloc: Global, file: &Unread) -> Result<String, AllocError> {
         SyntaxError::TooLong => "too long",
         SyntaxError::Memory => "out of memory",
     };
-    format!(in alloc; "{}: left out: {why}", file.name)
+    let name = quoted(alloc, file.name.as_str())?;
+    format!(in alloc; "{name}: left out: {why}")
 }
 
 /// Tells how many calls of macros aren't searched.

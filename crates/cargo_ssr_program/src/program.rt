@@ -78,22 +78,38 @@ fn tell_words<W: Write, E: Write>(alloc: Global, told: &Error, console: &mut Con
     }
 }
 
-/// Does what the options ask for.
+/// Does what the options ask for. A rule that is refused is told by where it stands.
 fn perform<R: Files + AllocGlobal, W: Write, E: Write>(
     rt: &R,
     here: &str,
     options: Options,
     console: &mut Console<W, E>,
 ) -> Result<Outcome, Failure> {
-    let options = with_all_rules(rt, here, options)?;
+    let (options, places) = with_all_rules(rt, here, options)?;
+    match perform_with(rt, here, &options, console) {
+        Err(Failure::Rule(rule, why)) => {
+            let rule = places.words(rt.alloc(), rule)?;
+            Err(Failure::Told(format!(in rt.alloc(); "{rule}: {why}")?))
+        }
+        outcome => outcome,
+    }
+}
+
+/// Does it with all rules.
+fn perform_with<R: Files + AllocGlobal, W: Write, E: Write>(
+    rt: &R,
+    here: &str,
+    options: &Options,
+    console: &mut Console<W, E>,
+) -> Result<Outcome, Failure> {
     match &options.files {
         Chosen::Facts(path) => {
             let input = of_facts(rt, here, path.as_str(), options.place.as_ref())?;
-            act(rt, &input, &options, console)
+            act(rt, &input, options, console)
         }
         _ => {
-            let input = of_files(rt, here, &options, console)?;
-            act(rt, &input, &options, console)
+            let input = of_files(rt, here, options, console)?;
+            act(rt, &input, options, console)
         }
     }
 }

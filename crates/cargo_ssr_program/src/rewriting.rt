@@ -15,6 +15,7 @@ use ssr_base::Semantics;
 use ssr_changes::{
     FileChange, PlanError, Planned, Searchable, changes, check_new, plan, rule_matches,
 };
+use ssr_diff::quoted;
 use ssr_reports::{LinePlace, Places, Summary, colored};
 use std::alloc::{AllocError, Global};
 use std::io::Write;
@@ -68,7 +69,7 @@ fn changes_of<S: Semantics>(
     );
     match made {
         Ok(made) => Ok(made),
-        Err(error) => Err(search_failure(alloc, &input.files, error)?),
+        Err(error) => Err(search_failure(alloc, input, options, error)?),
     }
 }
 
@@ -155,7 +156,7 @@ fn show_matches<W: Write, E: Write, S: Semantics>(
     );
     let places = match found {
         Ok(places) => places,
-        Err(error) => return Err(search_failure(alloc, &input.files, error)?),
+        Err(error) => return Err(search_failure(alloc, input, options, error)?),
     };
     let listed = Listed {
         files: &input.files,
@@ -191,7 +192,7 @@ fn tell_of_file<W: Write, E: Write>(
 ) -> Result<(), Failure>
     requires { FitsIn files.now.files change.now }
 {
-    let name = files.name(change.file);
+    let name = quoted(alloc, files.name(change.file))?;
     let mut places = Places::new(files.text(change.file));
     let aside = files.aside(change.file).iter().as_slice();
     let reaches = files.reaches(change.file).ranges();

@@ -1,9 +1,11 @@
 //! What is told of matches and of a search.
 
 use crate::failure::Failure;
-use cargo_ssr_options::Color;
-use ssr_base::FileRange;
-use ssr_changes::Searchable;
+use crate::input::Input;
+use cargo_ssr_options::{Chosen, Color, Mode, Options};
+use ssr_base::{FileRange, Semantics};
+use ssr_changes::{Searchable, refused_pattern, refused_rule};
+use ssr_diff::quoted;
 use ssr_reports::{LinePlace, line_place};
 use ssr_searching::SearchError;
 use ssr_syntax_kinds::TextRange;
@@ -19,22 +21,53 @@ pub(crate) fn is_colored(color: Color, terminal: bool) -> bool {
 }
 
 /// Why a search comes to nothing.
-pub(crate) fn search_failure(
+pub(crate) fn search_failure<S: Semantics>(
     alloc: Global,
-    files: &Searchable,
+    input: &Input<S>,
+    options: &Options,
     error: SearchError,
 ) -> Result<Failure, AllocError> {
     match error {
-        SearchError::Refused(message) => {
-            Ok(Failure::Told(format!(in alloc; "Parse error: {message}")?))
-        }
+        SearchError::Refused(message) => refusal(alloc, input, options, message.as_str()),
         SearchError::Clash(earlier, later) => {
-            let earlier = place_words(alloc, files, earlier)?;
-            let later = place_words(alloc, files, later)?;
+            let earlier = place_words(alloc, &input.files, earlier)?;
+            let later = place_words(alloc, &input.files, later)?;
             Ok(Failure::Told(format!(in alloc; "replacements clash at {earlier} and {later}")?))
         }
         SearchError::Memory => Ok(Failure::Memory),
     }
+}
+
+/// Which rule or pattern is refused, and why.
+fn refusal<S: Semantics>(
+    alloc: Global,
+    input: &Input<S>,
+    options: &Options,
+    message: &str,
+) -> Result<Failure, AllocError> {
+    let (files, semantics, position) = (&input.files, &input.semantics, input.position);
+    let why = refusal_words(alloc, options, message)?;
+    if let Mode::Search(patterns) = &options.mode {
+        return match refused_pattern(alloc, files, semantics, position, patterns) {
+            Some(number) => Ok(Failure::Told(format!(in alloc; "pattern {number}: {why}")?)),
+            None => Ok(Failure::Told(why)),
+        };
+    }
+    match refused_rule(alloc, files, semantics, position, &options.rules) {
+        Some(rule) => Ok(Failure::Rule(rule, why)),
+        None => Ok(Failure::Told(why)),
+    }
+}
+
+/// Why a rule is refused, with its placeholders as it spells them. Where a path doesn't resolve and nothing is known of names, what
+/// they need is said.
+fn refusal_words(alloc: Global, options: &Options, message: &str) -> Result<String, AllocError> {
+    let mut words = message.replace(alloc, "__placeholder_", "$")?;
+    let has_facts = matches!(options.files, Chosen::Facts(_));
+    if !has_facts && message.starts_with("Failed to resolve path") {
+        words.push_str(": names need --facts FILE")?;
+    }
+    Ok(words)
 }
 
 /// Where a range begins, as FILE:LINE:COLUMN.
@@ -48,7 +81,8 @@ pub(crate) fn place_words(
         return Ok(String::new(alloc));
     }
     let LinePlace { line, column } = place_of(files.text(file), range.range.start);
-    format!(in alloc; "{}:{line}:{column}", files.name(file))
+    let name = quoted(alloc, files.name(file))?;
+    format!(in alloc; "{name}:{line}:{column}")
 }
 
 /// The line and the column of a byte of a text, or those of its end.

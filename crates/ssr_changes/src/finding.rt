@@ -31,7 +31,7 @@ fn kind_count(alloc: Global, form: Form, text: &str) -> Result<usize, SsrError>
 }
 
 /// Adds what a text says.
-fn add<S: Semantics>(
+pub(crate) fn add<S: Semantics>(
     alloc: Global,
     finder: &mut MatchFinder<'_, S>,
     form: Form,

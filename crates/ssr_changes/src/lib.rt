@@ -10,6 +10,7 @@ mod finding;
 mod matching;
 mod naming;
 mod planning;
+mod refused;
 mod searchable;
 mod sorting;
 
@@ -18,5 +19,6 @@ pub use debugging::{DebugEntry, debug};
 pub use matching::{FoundPlace, FoundPlaceholder, pattern_matches, rule_matches};
 pub use naming::without_dot;
 pub use planning::{PlanError, Planned, plan};
+pub use refused::{refused_pattern, refused_rule};
 pub use searchable::Searchable;
 pub use sorting::Unread;
