@@ -9,6 +9,7 @@ The last line is 'N passed, M failed'.
 
 import json
 import os
+import pty
 import shutil
 import subprocess
 import sys
@@ -324,6 +325,40 @@ def rules_are_refused(program):
 
 
 @example
+def refused_rules_are_named_by_where_they_stand(program):
+    rules = "$a.len() == 0 ==>> $a.is_empty()\n\n# $a\n\n$b ==> c\n"
+    why = "Cannot find delimiter `==>>`\n"
+    with Package({"one.rs": "fn f() {}\n", "bad.rules": rules, "good.rules": "\n# one\n\n$a.b()\n# two\n==>> $a\n"}) as package:
+        yield package.run(program, RULE, "no rule", "--", "one.rs") == (3, "", f"error: rule 1: {why}")
+        yield package.run(program, RULE, "--rules", "bad.rules", "--", "one.rs") == (3, "", f"error: bad.rules:5: {why}")
+        yield package.run(program, "$b ==> c", "--rules", "bad.rules", "--", "one.rs") == (3, "", f"error: rule 0: {why}")
+        yield package.run(program, "-q", "--rules", "good.rules", "--", "one.rs") == (0, "", "")
+        yield package.run(program, "--search", "$a", "--search", "$ a", "--", "one.rs")[2].startswith("error: pattern 1: Placeholders should")
+        unknown = "names need --facts FILE\n"
+        yield package.run(program, "f($a) ==>> $a", "--", "one.rs") == (3, "", f"error: rule 0: Failed to resolve path `f`: {unknown}")
+        yield package.run(program, "F::<$t>::f() ==>> $t", "--", "one.rs") == (3, "", f"error: rule 0: Failed to resolve path `F::<$t>::f`: {unknown}")
+
+
+@example
+def names_are_quoted_as_git_quotes_them(program):
+    name, quoted = "src/a\t\"b\\\x01 é.rs", r"src/a\t\"b\\\001 é.rs"
+    with Package({name: "fn f() { a.unwrap(); }\nasync fn g() { b.await.unwrap(); }\n"}) as package:
+        _, diff, told = package.run(program, "-q", RULE, "--", "src")
+        yield diff.startswith(f'--- "a/{quoted}"\t\n+++ "b/{quoted}"\t\n')
+        yield told == f'"{quoted}":2:16: left as it is: it holds what is set aside\n'
+        yield package.run(program, "-q", "--search", "a.unwrap()", "--", "src") == (0, f'"{quoted}":1:10: a.unwrap()\n', "")
+        applied = subprocess.run(["git", "apply", "-"], input=diff.encode(), cwd=package.folder)
+        yield applied.returncode == 0 and 'a.expect("set")' in package.read(name)
+
+
+@example
+def a_reason_is_shown_once(program):
+    with Package({"one.rs": "fn f() { match x { _ => a.b() } }\n"}) as package:
+        _, out, _ = package.run(program, "--debug", "a.b()", "$a.c() ==>> $a", "--", "one.rs")
+        yield len(out.splitlines()) == len(set(out.splitlines())) > 0
+
+
+@example
 def wrong_words_are_refused(program):
     with Package() as package:
         for words in [[], [RULE, "--write", "--check"], ["--search", "$a", RULE], ["--color", "red", RULE], ["--none"], [RULE, "--in", "x"],
@@ -432,9 +467,24 @@ def names_are_looked_up_at_a_place(program):
         yield status == 3 and "src/none.rs:1:1" in told
 
 
+def on_a_terminal(package, program, *words, **variables):
+    """What comes on standard output where that is a terminal."""
+    ours, its = pty.openpty()
+    environment = {name: value for name, value in os.environ.items() if name != "NO_COLOR"}
+    subprocess.run([program, "ssr", *words], cwd=package.folder, stdin=subprocess.DEVNULL, stdout=its, stderr=subprocess.DEVNULL, env={**environment, **variables}, timeout=120)
+    os.close(its)
+    text = os.read(ours, 1 << 16).decode()
+    os.close(ours)
+    return text
+
+
 @example
 def colours_are_asked_for(program):
     with Package() as package:
+        yield "\x1b[32m+" in on_a_terminal(package, program, RULE)
+        yield "\x1b[32m+" in on_a_terminal(package, program, RULE, NO_COLOR="")
+        yield "\x1b" not in on_a_terminal(package, program, RULE, NO_COLOR="1")
+        yield "\x1b[32m+" in on_a_terminal(package, program, "--color", "always", RULE, NO_COLOR="1")
         plain, colored = package.run(program, RULE)[1], package.run(program, RULE, "--color", "always")[1]
         yield "\x1b[32m+" in colored and "\x1b" not in plain
         yield package.run(program, RULE, "--color", "never")[1] == plain

@@ -5,8 +5,8 @@ use Rattle.std.specs.Str.{bytes_eq}
 use Rattle.ssr_diff.specs.Patch.{IsDiff}
 use Rattle.ssr_changes.specs.declared.changing.FileChange.{FileChange}
 use Rattle.ssr_changes.specs.declared.planning.Planned.{Planned}
-use Rattle.ssr_changes.specs.declared.planning.PlanError.{PlanError}
-use Rattle.ssr_changes.specs.declared.planning.PlanError.TheVariants as errors
+use Rattle.ssr_changes.specs.declared.plan_error.PlanError.{PlanError}
+use Rattle.ssr_changes.specs.declared.plan_error.PlanError.TheVariants as errors
 use Rattle.ssr_changes.specs.Files.{File}
 use Rattle.ssr_changes.specs.Naming.{is_below_target, is_inside, without_dot}
 

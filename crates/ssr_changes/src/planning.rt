@@ -5,11 +5,11 @@ ghost use Rattle.ssr_changes.specs.Private.Planning.{ArePlanned, HaveNames, IsNa
 
 use crate::changing::FileChange;
 use crate::naming::{is_below_target, is_inside, without_dot};
+use crate::plan_error::PlanError;
 use crate::searchable::Searchable;
 use ssr_diff::diff_between;
-use std::alloc::{AllocError, AllocFailed, Global};
+use std::alloc::{AllocError, Global};
 use std::collections::BTreeMap;
-use thiserror::Error;
 
 /// A file whose text changes.
 #[derive(Debug, Drop)]
@@ -20,35 +20,6 @@ pub struct Planned<'a> {
     pub new: &'a str,
     /// The unified diff of its text on the disk and the new one.
     pub diff: String,
-}
-
-/// Why there is no plan. The number is that of a file whose text changes.
-#[derive(Debug, PartialEq, Eq, Drop, Error)]
-pub enum PlanError {
-    /// Its name leads out of the folder.
-    #[error("outside of the folder")]
-    Outside(usize),
-    /// Its name leads below the folder `target`.
-    #[error("below target")]
-    BelowTarget(usize),
-    /// Another change, of a file with the same name, stands in front.
-    #[error("comes twice")]
-    Twice(usize),
-    /// Memory ran out.
-    #[error("out of memory")]
-    Memory,
-}
-
-impl From<AllocError> for PlanError {
-    fn from(_: AllocError) -> PlanError {
-        PlanError::Memory
-    }
-}
-
-impl<T: Drop> From<AllocFailed<T>> for PlanError {
-    fn from(_: AllocFailed<T>) -> PlanError {
-        PlanError::Memory
-    }
 }
 
 /// The plan of changes: in their order, of each that gives its file another text the number of the file, the new text, and the

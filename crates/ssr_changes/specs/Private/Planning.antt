@@ -2,8 +2,8 @@
 use Rattle.std.specs.Prelude.{ℕ, ◌≡◌, ◌≢◌, true, false, List, All, AllPairs, Contains, Option, Some, None, map}
 use Rattle.ssr_changes.specs.declared.changing.FileChange.{FileChange}
 use Rattle.ssr_changes.specs.declared.planning.Planned.{Planned}
-use Rattle.ssr_changes.specs.declared.planning.PlanError.{PlanError}
-use Rattle.ssr_changes.specs.declared.planning.PlanError.TheVariants as errors
+use Rattle.ssr_changes.specs.declared.plan_error.PlanError.{PlanError}
+use Rattle.ssr_changes.specs.declared.plan_error.PlanError.TheVariants as errors
 use Rattle.ssr_changes.specs.Files.{File}
 use Rattle.ssr_changes.specs.Naming.{is_below_target, is_inside}
 use Rattle.ssr_changes.specs.Planning.{ComesTwice, HasDiff, giving_another, is_another, name_in, text_by, text_of}
