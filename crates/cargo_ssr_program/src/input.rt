@@ -2,17 +2,16 @@
 
 use crate::console::Console;
 use crate::failure::Failure;
+use crate::left_out::left_out_words;
 use crate::positions::position_at;
 use cargo_ssr_options::{Chosen, Options, Place};
 use ssr_base::{FileId, FilePosition, FileRange, Workspace};
-use ssr_changes::{Searchable, Unread};
-use ssr_diff::quoted;
+use ssr_changes::Searchable;
 use ssr_facts::{Facts, TableSemantics, read};
 use ssr_package::{
     ModuleTree, PackageError, PackageFiles, find_manifest, given_files, package_files, path_in,
 };
 use ssr_searching::Unresolved;
-use ssr_syntax::SyntaxError;
 use std::alloc::{AllocError, Global};
 use std::fs;
 use std::io::Write;
@@ -65,7 +64,7 @@ pub(crate) fn of_files<R: Files + AllocGlobal, W: Write, E: Write>(
     }
     let (files, unread) = Searchable::of_files(alloc, files, options.macros)?;
     for file in &unread {
-        console.tell(unread_words(alloc, file)?.as_str());
+        console.tell(left_out_words(alloc, file)?.as_str());
     }
     if files.refused_calls() > 0 {
         console.tell(refused_words(alloc, files.refused_calls())?.as_str());
@@ -142,19 +141,6 @@ fn package_failure(alloc: Global, error: &PackageError) -> Result<Failure, Alloc
         PackageError::Memory => Ok(Failure::Memory),
         error => Ok(Failure::Told(error.to_string(alloc)?)),
     }
-}
-
-/// Tells that a file is left out.
-fn unread_words(alloc: Global, file: &Unread) -> Result<String, AllocError> {
-    let why = match file.why {
-        SyntaxError::Lex => "not tokens of the language",
-        SyntaxError::NoTree => "not read as a file",
-        SyntaxError::TooDeep => "nested too deeply",
-        SyntaxError::TooLong => "too long",
-        SyntaxError::Memory => "out of memory",
-    };
-    let name = quoted(alloc, file.name.as_str())?;
-    format!(in alloc; "{name}: left out: {why}")
 }
 
 /// Tells how many calls of macros aren't searched.

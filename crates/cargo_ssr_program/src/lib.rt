@@ -8,6 +8,7 @@ mod debugging;
 mod failure;
 mod finding;
 mod input;
+mod left_out;
 mod positions;
 mod program;
 mod rewriting;
