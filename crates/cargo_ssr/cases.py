@@ -306,6 +306,23 @@ def files_that_cannot_be_read_are_told(program):
         yield told.endswith("1 match in 1 file: 1 edit; 1 file left out\n")
 
 
+# A text that isn't read, and what is reported of it behind its name.
+LEFT_OUT = [
+    ("fn f( {\n", ":1:7: left out: { is not closed"),
+    ("fn f() {}\n  }\n", ":2:3: left out: } closes nothing"),
+    ("fn f() { g([1) }\n", ":1:12: left out: [ is not closed"),
+    ("fn f() { \"a }\n", ": left out: a string that is not closed"),
+    ("fn f() {\n<<<<<<< ours\n    g(\n=======\n>>>>>>> theirs\n", ":2:1: left out: a merge conflict"),
+]
+
+
+@example
+def a_file_that_is_left_out_is_told_with_the_place(program):
+    for text, told in LEFT_OUT:
+        with Package({"bad.rs": text, "good.rs": "fn f() {}\n"}) as package:
+            yield package.run(program, RULE, "--", "bad.rs", "good.rs") == (0, "", f"bad.rs{told}\n0 matches; 1 file left out\n")
+
+
 @example
 def what_cannot_be_read_again_is_not_written(program):
     # the new text is nested too deeply
@@ -336,7 +353,7 @@ def refused_rules_are_named_by_where_they_stand(program):
         yield package.run(program, "--search", "$a", "--search", "$ a", "--", "one.rs")[2].startswith("error: pattern 1: Placeholders should")
         unknown = "names need --facts FILE\n"
         yield package.run(program, "f($a) ==>> $a", "--", "one.rs") == (3, "", f"error: rule 0: Failed to resolve path `f`: {unknown}")
-        yield package.run(program, "F::<$t>::f() ==>> $t", "--", "one.rs") == (3, "", f"error: rule 0: Failed to resolve path `F::<$t>::f`: {unknown}")
+        yield package.run(program, "F::<$t>::f() ==>> $t", "--", "one.rs") == (3, "", f"error: rule 0: Failed to resolve path `F::<$t>`: {unknown}")
 
 
 @example
@@ -346,7 +363,8 @@ def names_are_quoted_as_git_quotes_them(program):
         _, diff, told = package.run(program, "-q", RULE, "--", "src")
         yield diff.startswith(f'--- "a/{quoted}"\t\n+++ "b/{quoted}"\t\n')
         yield told == f'"{quoted}":2:16: left as it is: it holds what is set aside\n'
-        yield package.run(program, "-q", "--search", "a.unwrap()", "--", "src") == (0, f'"{quoted}":1:10: a.unwrap()\n', "")
+        out = package.run(program, "-q", "--search", "$a.unwrap()", "--", "src")[1]
+        yield out.splitlines()[0] == f'"{quoted}":1:10: a.unwrap()'
         applied = subprocess.run(["git", "apply", "-"], input=diff.encode(), cwd=package.folder)
         yield applied.returncode == 0 and 'a.expect("set")' in package.read(name)
 
