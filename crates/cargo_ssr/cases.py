@@ -370,6 +370,19 @@ def names_are_quoted_as_git_quotes_them(program):
 
 
 @example
+def self_needs_a_method(program):
+    text = "impl A {\n    fn f(&self) { self.b.unwrap(); }\n    fn g(&self) { self.b.unwrap(); }\n}\n"
+    why = "self matches only with --in FILE:LINE, inside of a method\n"
+    rule = "self.$b.unwrap() ==>> self.$b?"
+    with Package({"one.rs": text, "rules": f"# self\n{rule}\n"}) as package:
+        yield package.run(program, "-q", rule, "--", "one.rs") == (0, "", f"rule 0: {why}")
+        yield package.run(program, "-q", "--rules", "rules", "--", "one.rs") == (0, "", f"rules:2: {why}")
+        yield package.run(program, "-q", "--search", "$a", "--search", "self.$b", "--", "one.rs")[2] == f"pattern 1: {why}"
+        yield package.run(program, "-q", rule, "--write", "--in", "one.rs:2:19", "--", "one.rs") == (0, "", "")
+        yield package.read("one.rs") == text.replace(".unwrap()", "?", 1)
+
+
+@example
 def a_reason_is_shown_once(program):
     with Package({"one.rs": "fn f() { match x { _ => a.b() } }\n"}) as package:
         _, out, _ = package.run(program, "--debug", "a.b()", "$a.c() ==>> $a", "--", "one.rs")

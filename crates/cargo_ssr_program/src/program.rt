@@ -9,7 +9,7 @@ use crate::failure::Failure;
 use crate::finding::{search, tell_summary};
 use crate::input::{Input, of_facts, of_files};
 use crate::rewriting::rewrite;
-use crate::rules::with_all_rules;
+use crate::rules::{tell_self, with_all_rules};
 use cargo_ssr_options::{Chosen, Mode, Options, read_options};
 use clap::Error;
 use ssr_base::Semantics;
@@ -86,6 +86,7 @@ fn perform<R: Files + AllocGlobal, W: Write, E: Write>(
     console: &mut Console<W, E>,
 ) -> Result<Outcome, Failure> {
     let (options, places) = with_all_rules(rt, here, options)?;
+    tell_self(rt.alloc(), &options, &places, console)?;
     match perform_with(rt, here, &options, console) {
         Err(Failure::Rule(rule, why)) => {
             let rule = places.words(rt.alloc(), rule)?;

@@ -1,9 +1,13 @@
 //! The rules of a run.
 
+use crate::console::Console;
 use crate::failure::Failure;
 use crate::input::read_text;
-use cargo_ssr_options::{Options, rule_lines, rules_of};
+use crate::telling::searched_for;
+use cargo_ssr_options::{Chosen, Options, rule_lines, rules_of};
+use ssr_changes::{Form, first_with_self};
 use std::alloc::{AllocError, Global};
+use std::io::Write;
 use std::rt::Files;
 
 /// Where the rules of a run stand: so many among its words, and those behind them in a file, where they begin on these lines.
@@ -26,6 +30,30 @@ impl RulePlaces {
             None => format!(in alloc; "rule {rule}"),
         }
     }
+}
+
+/// Tells of the first rule or pattern that names `self`, where no method is given in which it can match.
+pub(crate) fn tell_self<W: Write, E: Write>(
+    alloc: Global,
+    options: &Options,
+    places: &RulePlaces,
+    console: &mut Console<W, E>,
+) -> Result<(), AllocError> {
+    // a facts file may say a position
+    if options.place.is_some() || matches!(options.files, Chosen::Facts(_)) {
+        return Ok(());
+    }
+    let (form, texts) = searched_for(options);
+    let Some(number) = first_with_self(alloc, form, texts) else {
+        return Ok(());
+    };
+    let which = match form {
+        Form::Rules => places.words(alloc, number)?,
+        Form::Patterns => format!(in alloc; "pattern {number}")?,
+    };
+    let why = "self matches only with --in FILE:LINE, inside of a method";
+    console.tell(format!(in alloc; "{which}: {why}")?.as_str());
+    Ok(())
 }
 
 /// The options with the rules of the file of rules behind those among the words, and where the rules stand.

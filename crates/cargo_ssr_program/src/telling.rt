@@ -4,7 +4,7 @@ use crate::failure::Failure;
 use crate::input::Input;
 use cargo_ssr_options::{Chosen, Color, Mode, Options};
 use ssr_base::{FileRange, Semantics};
-use ssr_changes::{Searchable, refused_pattern, refused_rule};
+use ssr_changes::{Form, Searchable, first_refused};
 use ssr_diff::quoted;
 use ssr_reports::{LinePlace, line_place};
 use ssr_searching::SearchError;
@@ -46,16 +46,23 @@ fn refusal<S: Semantics>(
     message: &str,
 ) -> Result<Failure, AllocError> {
     let (files, semantics, position) = (&input.files, &input.semantics, input.position);
+    let (form, texts) = searched_for(options);
     let why = refusal_words(alloc, options, message)?;
-    if let Mode::Search(patterns) = &options.mode {
-        return match refused_pattern(alloc, files, semantics, position, patterns) {
-            Some(number) => Ok(Failure::Told(format!(in alloc; "pattern {number}: {why}")?)),
-            None => Ok(Failure::Told(why)),
-        };
-    }
-    match refused_rule(alloc, files, semantics, position, &options.rules) {
-        Some(rule) => Ok(Failure::Rule(rule, why)),
+    match first_refused(alloc, files, semantics, position, form, texts) {
+        Some(number) => match form {
+            Form::Rules => Ok(Failure::Rule(number, why)),
+            Form::Patterns => Ok(Failure::Told(format!(in alloc; "pattern {number}: {why}")?)),
+        },
+        // there is no finder
         None => Ok(Failure::Told(why)),
+    }
+}
+
+/// What is searched for: patterns, or rules.
+pub(crate) fn searched_for(options: &Options) -> (Form, &[String]) {
+    match &options.mode {
+        Mode::Search(patterns) => (Form::Patterns, patterns),
+        _ => (Form::Rules, &options.rules),
     }
 }
 

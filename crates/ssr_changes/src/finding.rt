@@ -11,7 +11,7 @@ use std::alloc::Global;
 
 /// What is searched for.
 #[derive(Clone, Copy, Debug, PartialEq, Eq)]
-pub(crate) enum Form {
+pub enum Form {
     /// What rules replace, each searched once.
     Rules,
     /// What search patterns match.
