@@ -311,7 +311,7 @@ LEFT_OUT = [
     ("fn f( {\n", ":1:7: left out: { is not closed"),
     ("fn f() {}\n  }\n", ":2:3: left out: } closes nothing"),
     ("fn f() { g([1) }\n", ":1:12: left out: [ is not closed"),
-    ("fn f() { \"a }\n", ": left out: a string that is not closed"),
+    ("fn f() { \"a }\n", ": left out: a string that is not closed, at byte 9"),
     ("fn f() {\n<<<<<<< ours\n    g(\n=======\n>>>>>>> theirs\n", ":2:1: left out: a merge conflict"),
 ]
 
