@@ -390,6 +390,15 @@ def a_reason_is_shown_once(program):
 
 
 @example
+def a_name_that_is_not_known_is_told_as_such(program):
+    text = "fn foo() {} fn main() { foo(1) }"
+    facts = {"files": [{"name": "a.rs", "text": text}], "defs": [{"kind": "function"}], "scopes": [[0, 0, len(text)]], "names": [[0, ["foo"], ["def", 0]]]}
+    with Package({"facts.json": json.dumps(facts)}) as package:
+        status, out, _ = package.run(program, "--facts", "facts.json", "--debug", "foo(1)", "foo($a) ==>> $a")
+        yield (status, out) == (0, "a.rs:1:25: rule 0: no name known for `foo`\n")
+
+
+@example
 def wrong_words_are_refused(program):
     with Package() as package:
         for words in [[], [RULE, "--write", "--check"], ["--search", "$a", RULE], ["--color", "red", RULE], ["--none"], [RULE, "--in", "x"],

@@ -96,11 +96,18 @@ fn entry_line(
     };
     let rule = entry.rule;
     match &entry.reason {
-        // a placeholder as the rule spells it
         Some(reason) => {
-            let reason = reason.replace(alloc, "__placeholder_", "$")?;
+            let reason = reason_words(alloc, reason.as_str())?;
             format!(in alloc; "{place}: rule {rule}: {reason}\n")
         }
         None => format!(in alloc; "{place}: rule {rule}: matches\n"),
+    }
+}
+
+/// Why a rule doesn't match, with its placeholders as it spells them. That the code's name isn't known is said as such.
+fn reason_words(alloc: Global, reason: &str) -> Result<String, AllocError> {
+    match reason.strip_prefix("Failed to resolve path") {
+        Some(path) => format!(in alloc; "no name known for{path}"),
+        None => reason.replace(alloc, "__placeholder_", "$"),
     }
 }
