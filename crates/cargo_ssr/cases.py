@@ -499,6 +499,26 @@ def facts_are_read(program):
         yield status == 3 and "link/b.rs" in told and other.read("b.rs") == text
 
 
+# Malformed facts, and where they are so.
+MALFORMED = [
+    ({"members": [[0, 3, "new", 4], [0, 3, "new"]]}, "row 1 of members"),
+    ({"files": [{"name": "a.rs", "text": ""}], "defs": [{"kind": "function", "colour": 1}]}, "row 0 of defs"),
+    ({"position": [0]}, "key position"),
+    ({"colours": [1]}, "key colours"),
+    ({"scopes": 1}, "key scopes"),
+    ([], "no object"),
+    ({"files": [{"name": "a.rs", "text": ""}], "scopes": [[7, 0, 0]]}, "a number names nothing, or a row no node"),
+]
+
+
+@example
+def malformed_facts_are_told_with_their_place(program):
+    for facts, where in MALFORMED:
+        with Package({"facts.json": json.dumps(facts)}) as package:
+            told = package.run(program, RULE, "--facts", "facts.json")
+            yield told == (3, "", f"error: facts.json: wrong shape: {where}\n")
+
+
 @example
 def names_are_looked_up_at_a_place(program):
     with Package() as package:

@@ -3,11 +3,12 @@
 use crate::console::Console;
 use crate::failure::Failure;
 use crate::left_out::left_out_words;
+use crate::malformed::malformed_words;
 use crate::positions::position_at;
 use cargo_ssr_options::{Chosen, Options, Place};
 use ssr_base::{FileId, FilePosition, FileRange, Workspace};
 use ssr_changes::Searchable;
-use ssr_facts::{Facts, TableSemantics, read};
+use ssr_facts::{Facts, FactsError, TableSemantics, read};
 use ssr_package::{
     ModuleTree, PackageError, PackageFiles, find_manifest, given_files, package_files, path_in,
 };
@@ -169,7 +170,7 @@ pub(crate) fn of_facts<R: Files + AllocGlobal>(
         ranges,
     } = match read(alloc, bytes.as_bytes()) {
         Ok(facts) => facts,
-        Err(error) => return Err(Failure::Told(format!(in alloc; "{path}: {error}")?)),
+        Err(error) => return Err(facts_failure(alloc, path, bytes.as_bytes(), &error)?),
     };
     let files = Searchable::of_workspace(alloc, workspace, names)?;
     let position = position_at(alloc, &files, place, position)?;
@@ -181,6 +182,24 @@ pub(crate) fn of_facts<R: Files + AllocGlobal>(
         ranges,
         left_out: 0,
     })
+}
+
+/// Why there are no facts.
+fn facts_failure(
+    alloc: Global,
+    path: &str,
+    facts: &[u8],
+    error: &FactsError,
+) -> Result<Failure, AllocError> {
+    let words = format!(in alloc; "{path}: {error}")?;
+    match error {
+        FactsError::Memory => Ok(Failure::Memory),
+        FactsError::Shape => {
+            let place = malformed_words(alloc, facts)?;
+            Ok(Failure::Told(format!(in alloc; "{words}: {place}")?))
+        }
+        _ => Ok(Failure::Told(words)),
+    }
 }
 
 /// The text of a file.

@@ -9,6 +9,7 @@ mod failure;
 mod finding;
 mod input;
 mod left_out;
+mod malformed;
 mod positions;
 mod program;
 mod rewriting;
