@@ -94,7 +94,10 @@ apart_each (file ∷ files) apart =
 apart_front : (front back : List NewText) → Apart (front ++ back) → Apart front
 apart_front [] back apart = tt
 apart_front (file ∷ front) back apart = (
-    apart.0, places_front file.path.now front back apart.1, places_front (temporary_of file) front back apart.2, apart_front front back apart.3,
+  apart.0,
+  places_front file.path.now front back apart.1,
+  places_front (temporary_of file) front back apart.2,
+  apart_front front back apart.3,
 )
   where
     places_front : (path : List ℕ) (front back : List NewText) → IsAbsent path (flat_map places (front ++ back)) → IsAbsent path (flat_map places front)
@@ -158,9 +161,9 @@ made_new : (files : List NewText) (texts : Texts) → Apart files
     → Each (λ file. after (flat_map makes files) texts (temporary_of file) ≡ Some file.new.now) files
 made_new [] texts apart = tt
 made_new (file ∷ files) texts apart = (
-    made_other files (with texts (temporary_of file) (Some file.new.now)) (temporary_of file) (temporaries_among (temporary_of file) files apart.2)
-    ∙ with_same texts (temporary_of file) (Some file.new.now),
-    made_new files (with texts (temporary_of file) (Some file.new.now)) apart.3,
+  made_other files (with texts (temporary_of file) (Some file.new.now)) (temporary_of file) (temporaries_among (temporary_of file) files apart.2)
+      ∙ with_same texts (temporary_of file) (Some file.new.now),
+  made_new files (with texts (temporary_of file) (Some file.new.now)) apart.3,
 )
 
 -- one file's temporary takes its place
@@ -180,28 +183,28 @@ still_made : (files : List NewText) (texts : Texts) (file : NewText) → IsAbsen
     → Each (λ other. replaced texts file (temporary_of other) ≡ Some other.new.now) files
 still_made [] texts file own beside made = tt
 still_made (other ∷ files) texts file own beside made = (
-    with_other (with texts (temporary_of file) None) file.path.now (texts (temporary_of file)) (temporary_of other) (λ same. own.1.0 (sym same))
-    ∙ with_other texts (temporary_of file) None (temporary_of other) (λ same. beside.1.0 (sym same)) ∙ made.0,
-    still_made files texts file own.1.1 beside.1.1 made.1,
+  with_other (with texts (temporary_of file) None) file.path.now (texts (temporary_of file)) (temporary_of other) (λ same. own.1.0 (sym same))
+      ∙ with_other texts (temporary_of file) None (temporary_of other) (λ same. beside.1.0 (sym same)) ∙ made.0,
+  still_made files texts file own.1.1 beside.1.1 made.1,
 )
 
 replaced_new : (files : List NewText) (texts : Texts) → Apart files → Each (λ file. texts (temporary_of file) ≡ Some file.new.now) files
     → Each (λ file. after (flat_map replaces files) texts file.path.now ≡ Some file.new.now) files
 replaced_new [] texts apart made = tt
 replaced_new (file ∷ files) texts apart made = (
-    replaced_other files (replaced texts file) file.path.now apart.1
-    ∙ with_same (with texts (temporary_of file) None) file.path.now (texts (temporary_of file)) ∙ made.0,
-    replaced_new files (replaced texts file) apart.3 (still_made files texts file apart.1 apart.2 made.1),
+  replaced_other files (replaced texts file) file.path.now apart.1
+      ∙ with_same (with texts (temporary_of file) None) file.path.now (texts (temporary_of file)) ∙ made.0,
+  replaced_new files (replaced texts file) apart.3 (still_made files texts file apart.1 apart.2 made.1),
 )
 
 replaced_gone : (files : List NewText) (texts : Texts) → Apart files
     → Each (λ file. after (flat_map replaces files) texts (temporary_of file) ≡ None) files
 replaced_gone [] texts apart = tt
 replaced_gone (file ∷ files) texts apart = (
-    replaced_other files (replaced texts file) (temporary_of file) apart.2
-    ∙ with_other (with texts (temporary_of file) None) file.path.now (texts (temporary_of file)) (temporary_of file) apart.0
-    ∙ with_same texts (temporary_of file) None,
-    replaced_gone files (replaced texts file) apart.3,
+  replaced_other files (replaced texts file) (temporary_of file) apart.2
+      ∙ with_other (with texts (temporary_of file) None) file.path.now (texts (temporary_of file)) (temporary_of file) apart.0
+      ∙ with_same texts (temporary_of file) None,
+  replaced_gone files (replaced texts file) apart.3,
 )
 
 removed_other : (files : List NewText) (texts : Texts) (path : List ℕ) → IsAbsent path (temporaries files)
@@ -215,15 +218,15 @@ removed_still [] texts path gone = gone
 removed_still (file ∷ files) texts path gone =
     removed_still files (with texts (temporary_of file) None) path
     (elim (cases_Bool (bytes_eq (temporary_of file) path)) [
-       | inl here ↦ update_same bytes_eq texts (temporary_of file) None path here
-       | inr elsewhere ↦ update_other bytes_eq texts (temporary_of file) None path elsewhere ∙ gone
-     ])
+      | inl here ↦ update_same bytes_eq texts (temporary_of file) None path here
+      | inr elsewhere ↦ update_other bytes_eq texts (temporary_of file) None path elsewhere ∙ gone
+    ])
 
 removed_gone : (files : List NewText) (texts : Texts) → Each (λ file. after (map removes files) texts (temporary_of file) ≡ None) files
 removed_gone [] texts = tt
 removed_gone (file ∷ files) texts = (
-    removed_still files (with texts (temporary_of file) None) (temporary_of file) (with_same texts (temporary_of file) None),
-    removed_gone files (with texts (temporary_of file) None),
+  removed_still files (with texts (temporary_of file) None) (temporary_of file) (with_same texts (temporary_of file) None),
+  removed_gone files (with texts (temporary_of file) None),
 )
 
 -- ---- whole runs
@@ -236,10 +239,10 @@ given_up files texts free =
     record {
       files_written = All-nil (λ file. after (map removes files) made file.path.now ≡ Some file.new.now);
       others_kept = λ path _.
-        elim (gone_or_absent files texts (after (map removes files) made) path (removed_gone files made) free) [
-          | inl kept ↦ kept
-          | inr absent ↦ removed_other files made path absent ∙ made_other files texts path absent
-        ];
+          elim (gone_or_absent files texts (after (map removes files) made) path (removed_gone files made) free) [
+            | inl kept ↦ kept
+            | inr absent ↦ removed_other files made path absent ∙ made_other files texts path absent
+          ];
     }
 
 still_new : (front back : List NewText) (texts : Texts) → Each (λ file. IsAbsent file.path.now (temporaries back)) front
@@ -263,17 +266,17 @@ module _ (front back : List NewText) (texts : Texts) (apart : Apart (front ++ ba
             all_from_each (λ file. after (map removes back) given file.path.now ≡ Some file.new.now) front
             (still_new front back given (front_apart front back apart) (replaced_new front made first ready));
         others_kept = λ path lacks.
-          elim (gone_or_absent back texts (after (map removes back) given) path (removed_gone back given) (each_back P front back free)) [
-            | inl kept ↦ kept
-            | inr behind ↦
-                removed_other back given path behind
-                ∙ elim (gone_or_absent front texts given path (replaced_gone front made first) (each_front P front back free)) [
+            elim (gone_or_absent back texts (after (map removes back) given) path (removed_gone back given) (each_back P front back free)) [
+              | inl kept ↦ kept
+              | inr behind ↦
+                  removed_other back given path behind
+                  ∙ elim (gone_or_absent front texts given path (replaced_gone front made first) (each_front P front back free)) [
                     | inl kept ↦ kept
                     | inr ahead ↦
                         replaced_other front made path (all_places path front (not_contained path (map (λ file. file.path.now) front) lacks) ahead)
                         ∙ made_other (front ++ back) texts path (both_parts path front back ahead behind)
                   ]
-          ];
+            ];
       }
 
 -- the same of files that are cut in two
@@ -281,8 +284,8 @@ written_cut : (files front back : List NewText) (texts : Texts) → front ++ bac
     → AreWritten front texts (after (map removes back) (after (flat_map replaces front) (after (flat_map makes files) texts)))
 written_cut files front back texts cut apart free =
     let P : List NewText → Type 0 =
-        λ all. Apart all → Each (λ file. texts (temporary_of file) ≡ None) all
-          → AreWritten front texts (after (map removes back) (after (flat_map replaces front) (after (flat_map makes all) texts))) in
+    λ all. Apart all → Each (λ file. texts (temporary_of file) ≡ None) all
+    → AreWritten front texts (after (map removes back) (after (flat_map replaces front) (after (flat_map makes all) texts))) in
     subst P cut (written_front front back texts) (apart_each files apart) (each_from_all (λ file. texts (temporary_of file) ≡ None) files free)
 
 pub ends_well : (files : List NewText) (texts : Texts) → AreApart files → HasNoTemporaries files texts → AreWritten files texts (after (writes files) texts)
@@ -311,7 +314,7 @@ fails_making files texts failed asked free stops =
     let cut : front ++ drop failed files ≡ files = take-append-drop failed files in
     let all : Each P (front ++ drop failed files) = subst (Each P) (sym cut) (each_from_all P files free) in
     let left = ap (λ calls. after calls texts) stops.3
-        ∙ in_turn (flat_map makes front) (fails_to_make stops.1 stops.0) (map removes front) texts (idle_making stops.1 stops.0 _) in
+    ∙ in_turn (flat_map makes front) (fails_to_make stops.1 stops.0) (map removes front) texts (idle_making stops.1 stops.0 _) in
     subst (AreWritten [] texts) (sym left) (given_up front texts (each_front P front (drop failed files) all))
 
 fails_replacing : (files : List NewText) (texts : Texts) (failed : ℕ) (asked replacing : List Call) → AreApart files → HasNoTemporaries files texts
@@ -320,7 +323,7 @@ fails_replacing files texts failed asked replacing apart free both stops =
     let front = take failed files in
     let made = after (flat_map makes files) texts in
     let left = ap (λ calls. after calls texts) both ∙ after-append (flat_map makes files) replacing texts ∙ ap (λ calls. after calls made) stops.3
-        ∙ in_turn (flat_map replaces front) (fails_to_replace stops.1 stops.0) (map removes (drop failed files)) made (idle_replacing stops.1 stops.0 _) in
+    ∙ in_turn (flat_map replaces front) (fails_to_replace stops.1 stops.0) (map removes (drop failed files)) made (idle_replacing stops.1 stops.0 _) in
     subst (AreWritten front texts) (sym left) (written_cut files front (drop failed files) texts (take-append-drop failed files) apart free)
 
 nothing_asked : (files : List NewText) (texts : Texts) (asked : List Call) → asked ≡ [] → AreWritten [] texts (after asked texts)
