@@ -8,7 +8,6 @@ mod debugging;
 mod failure;
 mod finding;
 mod input;
-mod naming;
 mod positions;
 mod program;
 mod rewriting;

@@ -1,9 +1,7 @@
 //! What rules change: shown, told and written.
-ghost use Rattle.std.specs.Prelude.{All, IfOk, length, slice_get, string_bytes};
-ghost use Rattle.std.specs.Option.{IsSomeAnd};
-ghost use Rattle.ssr_base_trees.specs.Changes.{replaced};
+ghost use Rattle.std.specs.Prelude.{All, IfOk};
 ghost use Rattle.ssr_changes.specs.Changing.{FitsIn};
-ghost use Rattle.ssr_diff.specs.Patch.{IsDiff};
+ghost use Rattle.ssr_changes.specs.Planning.{IsPlan};
 
 use crate::console::Console;
 use crate::counting::counts_of_changes;
@@ -14,8 +12,9 @@ use crate::telling::{is_colored, search_failure, why_left};
 use crate::writing::write;
 use cargo_ssr_options::{Mode, Options};
 use ssr_base::Semantics;
-use ssr_changes::{FileChange, Searchable, changes, check_new, rule_matches};
-use ssr_diff::unified_diff;
+use ssr_changes::{
+    FileChange, PlanError, Planned, Searchable, changes, check_new, plan, rule_matches,
+};
 use ssr_reports::{LinePlace, Places, Summary, colored};
 use std::alloc::{AllocError, Global};
 use std::io::Write;
@@ -31,35 +30,23 @@ pub(crate) fn rewrite<R: Files + AllocGlobal, W: Write, E: Write, S: Semantics>(
     let alloc = rt.alloc();
     let made = changes_of(alloc, input, options)?;
     refuse_unread(alloc, &input.files, &made)?;
+    let plan = plan_of(alloc, &input.files, &made)?;
     let counts = counts_of_changes(&made, input.left_out);
     let is_write = matches!(options.mode, Mode::Write);
     if options.json {
         show_matches(alloc, input, options, &made, counts, console)?;
     } else if !is_write {
-        show_diffs(alloc, &input.files, options, &made, console)?;
+        show_diffs(alloc, &plan, options, console)?;
     }
     tell_set_aside(alloc, &input.files, &made, console)?;
     if is_write {
-        let written = write(rt, input, &made)?;
+        let written = write(rt, input, &plan)?;
         tell_written(alloc, written, options, console)?;
     }
     if !options.json {
         tell_summary(alloc, counts, options, console)?;
     }
-    Ok(is_any_changed(&input.files, &made))
-}
-
-/// Whether a file's text changes: a replacement may be the text that stood there.
-#[tactic(auto, using(crate::proofs::InFiles::each_is_there))]
-fn is_any_changed(files: &Searchable, made: &[FileChange]) -> bool
-    requires { All (FitsIn files.now.files) made.now }
-{
-    for change in made {
-        if change.new.as_str() != files.text(change.file) {
-            return true;
-        }
-    }
-    false
+    Ok(!plan.is_empty())
 }
 
 /// What the rules change.
@@ -98,37 +85,55 @@ fn refuse_unread(alloc: Global, files: &Searchable, made: &[FileChange]) -> Resu
     Err(Failure::Told(format!(in alloc; "{name}: can't be read with what the rules put there")?))
 }
 
-/// Shows the diffs of all files that change.
-#[tactic(auto, using(crate::proofs::InFiles::each_fits))]
-fn show_diffs<W: Write, E: Write>(
+/// The plan of what the rules change. There is none where a file that changes may not be written.
+fn plan_of<'a>(
     alloc: Global,
     files: &Searchable,
-    options: &Options,
-    made: &[FileChange],
-    console: &mut Console<W, E>,
-) -> Result<(), Failure>
-    requires { All (FitsIn files.now.files) made.now }
+    made: &'a [FileChange],
+) -> Result<Vec<Planned<'a>>, Failure>
+    ensures { IfOk result (λ plan. IsPlan files.now.files made.now plan.items) }
 {
+    match plan(alloc, files, made) {
+        Ok(plan) => Ok(plan),
+        Err(error) => Err(plan_failure(alloc, files, &error)?),
+    }
+}
+
+/// Why there is no plan.
+fn plan_failure(
+    alloc: Global,
+    files: &Searchable,
+    error: &PlanError,
+) -> Result<Failure, AllocError> {
+    let file = match error {
+        PlanError::Outside(file) | PlanError::BelowTarget(file) | PlanError::Twice(file) => *file,
+        PlanError::Memory => return Ok(Failure::Memory),
+    };
+    let name = if file < files.file_count() {
+        files.name(file)
+    } else {
+        ""
+    };
+    Ok(Failure::Told(format!(in alloc; "{name}: {error}")?))
+}
+
+/// Shows the diffs of a plan.
+fn show_diffs<W: Write, E: Write>(
+    alloc: Global,
+    plan: &[Planned<'_>],
+    options: &Options,
+    console: &mut Console<W, E>,
+) -> Result<(), Failure> {
     let is_colored = is_colored(options.color, console.is_terminal());
-    for change in made {
-        let diff = diff(alloc, files, change)?;
+    for planned in plan {
+        let diff = planned.diff.as_str();
         if is_colored {
-            console.show(colored(alloc, diff.as_str())?.as_str())?;
+            console.show(colored(alloc, diff)?.as_str())?;
         } else {
-            console.show(diff.as_str())?;
+            console.show(diff)?;
         }
     }
     Ok(())
-}
-
-/// The diff of a file's text and what its changes make of it.
-#[tactic(auto, using(crate::proofs::InFiles::is_there, crate::proofs::InFiles::fits_text, crate::proofs::InFiles::diff_there))]
-fn diff(alloc: Global, files: &Searchable, change: &FileChange) -> Result<String, AllocError>
-    requires { FitsIn files.now.files change.now }
-    ensures { IfOk result (λ diff. IsSomeAnd (slice_get files.now.files change.now.file) (λ file. IsDiff file.name file.text (replaced file.text 0 (length file.text) change.now.edit) (string_bytes diff))) }
-{
-    let (name, old) = (files.name(change.file), files.text(change.file));
-    unified_diff(alloc, name, old, &change.edit)
 }
 
 /// Shows the matches of the rules as JSON.

@@ -1,40 +1,36 @@
 //! New texts on the disk.
 ghost use Rattle.std.specs.Prelude.{All};
-ghost use Rattle.ssr_changes.specs.Changing.{FitsIn};
+ghost use Rattle.ssr_changes.specs.Planning.{HasDiff};
 
 use crate::failure::Failure;
 use crate::input::Input;
-use crate::naming::{is_inside, without_dot};
-use ssr_changes::FileChange;
+use ssr_changes::Planned;
 use ssr_package::path_in;
 use ssr_writing::{NewText, OnDisk, WriteError, write_all};
 use std::alloc::{AllocError, Global};
 use std::rt::Files;
 
-/// Writes the new texts of the files that change, and tells how many there are.
+/// Writes the new texts of a plan, and tells how many there are.
 #[tactic(auto, using(crate::proofs::InFiles::each_is_there))]
 pub(crate) fn write<R: Files + AllocGlobal, S>(
     rt: &R,
     input: &Input<S>,
-    made: &[FileChange],
+    plan: &[Planned<'_>],
 ) -> Result<usize, Failure>
-    requires { All (FitsIn input.now.files.files) made.now }
+    requires { All (HasDiff input.now.files.files) plan.now }
 {
     let alloc = rt.alloc();
-    let paths = paths(rt, input, made)?;
+    let paths = paths(rt, input, plan)?;
     let mut texts = Vec::new(alloc);
-    for (place, change) in made.iter().enumerate() {
+    for (place, planned) in plan.iter().enumerate() {
         let Some(path) = paths.get(place) else {
             continue;
         };
-        let old = input.files.text(change.file);
-        if change.new.as_str() != old {
-            texts.push(NewText {
-                path: path.as_str(),
-                old,
-                new: change.new.as_str(),
-            })?;
-        }
+        texts.push(NewText {
+            path: path.as_str(),
+            old: input.files.text(planned.file),
+            new: planned.new,
+        })?;
     }
     match write_all(alloc, &mut OnDisk::new(rt), &texts) {
         Ok(()) => Ok(texts.len()),
@@ -42,25 +38,19 @@ pub(crate) fn write<R: Files + AllocGlobal, S>(
     }
 }
 
-/// The paths of the files that change. None is written where one leads out of the folder, through a link or below `target`.
+/// The paths of the files of a plan. None is written where one leads through a link.
 #[tactic(auto, using(crate::proofs::InFiles::each_is_there))]
 fn paths<R: Files + AllocGlobal, S>(
     rt: &R,
     input: &Input<S>,
-    made: &[FileChange],
+    plan: &[Planned<'_>],
 ) -> Result<Vec<String>, Failure>
-    requires { All (FitsIn input.now.files.files) made.now }
+    requires { All (HasDiff input.now.files.files) plan.now }
 {
     let alloc = rt.alloc();
-    let mut paths = Vec::with_capacity(alloc, made.len())?;
-    for change in made {
-        let name = input.files.name(change.file);
-        if !is_inside(name) {
-            return Err(Failure::Told(format!(in alloc; "{name}: outside of the folder")?));
-        }
-        if without_dot(name).starts_with("target/") {
-            return Err(Failure::Told(format!(in alloc; "{name}: below target")?));
-        }
+    let mut paths = Vec::with_capacity(alloc, plan.len())?;
+    for planned in plan {
+        let name = input.files.name(planned.file);
         if is_behind_link(rt, input.folder.as_str(), name)? {
             return Err(Failure::Told(format!(in alloc; "{name}: reached through a link")?));
         }

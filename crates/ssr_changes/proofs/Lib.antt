@@ -4,3 +4,5 @@ mod Sorted
 mod InFiles
 mod Texts
 mod Matches
+mod Names
+mod Plans

@@ -5,4 +5,6 @@ pub mod Changing
 pub mod Finding
 pub mod Matching
 pub mod Debugging
+pub mod Naming
+pub mod Planning
 pub mod Private

@@ -8,11 +8,17 @@ mod debugging;
 mod file_text;
 mod finding;
 mod matching;
+mod naming;
+mod plan_error;
+mod planning;
 mod searchable;
 mod sorting;
 
 pub use changing::{FileChange, changes, check_new};
 pub use debugging::{DebugEntry, debug};
 pub use matching::{FoundPlace, FoundPlaceholder, pattern_matches, rule_matches};
+pub use naming::without_dot;
+pub use plan_error::PlanError;
+pub use planning::{Planned, plan};
 pub use searchable::Searchable;
 pub use sorting::Unread;

@@ -31,8 +31,9 @@ pub fn unified_diff(
     }
 }
 
-/// The diff of two texts. An edit that makes the one of the other says where they may differ.
-fn diff_between(
+/// The unified diff of two texts of a file, as that of an edit. Where the edit makes the new text of the old one, what differs is
+/// told in short hunks; else the hunks are longer.
+pub fn diff_between(
     alloc: Global,
     name: &str,
     old: &str,

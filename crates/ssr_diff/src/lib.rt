@@ -9,5 +9,5 @@ mod places;
 mod trimming;
 mod writing;
 
-pub use diff::unified_diff;
+pub use diff::{diff_between, unified_diff};
 pub use lines::Lines;
