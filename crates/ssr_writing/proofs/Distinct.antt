@@ -1,5 +1,5 @@
 -- Paths of which no two are the same, and a set that has them.
-use Rattle.std.proofs.Common.{◌≡◌, ◌≢◌, ℕ, ◌+◌, ◌<◌, ◌||◌, Bool, Bor, List, [], ◌∷◌, ◌++◌, bytes_eq, cond, length, get_or, nat_cmp, refl, sym, true, false, ap, ◌∙◌, arith, append_assoc, subst, take, inl, inr}
+use Rattle.std.proofs.Common.{◌≡◌, ◌≢◌, ℕ, ◌+◌, ◌<◌, Bor, List, [], ◌∷◌, ◌++◌, bytes_eq, cond, length, get_or, nat_cmp, refl, sym, true, false, ap, ◌∙◌, arith, append_assoc, subst, take, inl, inr}
 use Rattle.std.proofs.lemmas.Bool.Decides.{same_from_decides}
 use Rattle.std.proofs.lemmas.Grind.{common_steps}
 use Rattle.std.proofs.lemmas.List.Folds.{Any-from_list_any, list_any-append, list_any_at}

@@ -4,6 +4,7 @@
 mod apart;
 mod disk;
 mod faults;
+pub mod laws;
 mod on_disk;
 mod temporary;
 mod writing;
