@@ -7,8 +7,7 @@ use crate::telling::search_failure;
 use cargo_ssr_options::Options;
 use ssr_base::{FileRange, Semantics};
 use ssr_changes::{DebugEntry, Searchable, debug};
-use ssr_diff::quoted;
-use ssr_reports::{LinePlace, Places};
+use ssr_reports::{Places, place_words};
 use std::alloc::{AllocError, Global};
 use std::io::Write;
 
@@ -78,9 +77,8 @@ impl<'a> FilePlaces<'a> {
             self.file = Some(file);
             self.places = Places::new(files.text(file));
         }
-        let LinePlace { line, column } = self.places.place(range.range.start as usize);
-        let name = quoted(alloc, files.name(file))?;
-        format!(in alloc; "{name}:{line}:{column}")
+        let place = self.places.place(range.range.start as usize);
+        place_words(alloc, files.name(file), place)
     }
 }
 

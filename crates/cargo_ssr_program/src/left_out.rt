@@ -3,7 +3,7 @@
 use crate::telling::{place_of, text_in};
 use ssr_changes::Unread;
 use ssr_diff::quoted;
-use ssr_reports::LinePlace;
+use ssr_reports::place_words;
 use ssr_syntax::SyntaxError;
 use ssr_syntax_kinds::{SyntaxKind, TextRange};
 use ssr_syntax_lex::{LexError, RawToken, lex};
@@ -21,16 +21,13 @@ struct Fault {
 
 /// Tells that a file is left out: `src/lib.rs:1:7: left out: { is not closed`.
 pub(crate) fn left_out_words(alloc: Global, file: &Unread) -> Result<String, AllocError> {
-    let name = quoted(alloc, file.name.as_str())?;
-    let text = file.text.as_str();
+    let (name, text) = (file.name.as_str(), file.text.as_str());
     let Fault { at, why } = fault_of(alloc, text, file.why)?;
-    match at {
-        Some(at) => {
-            let LinePlace { line, column } = place_of(text, at);
-            format!(in alloc; "{name}:{line}:{column}: left out: {why}")
-        }
-        None => format!(in alloc; "{name}: left out: {why}"),
-    }
+    let place = match at {
+        Some(at) => place_words(alloc, name, place_of(text, at))?,
+        None => quoted(alloc, name)?,
+    };
+    format!(in alloc; "{place}: left out: {why}")
 }
 
 /// What is wrong with a text, where this is why it isn't read.

@@ -15,8 +15,7 @@ use ssr_base::Semantics;
 use ssr_changes::{
     FileChange, PlanError, Planned, Searchable, changes, check_new, plan, rule_matches,
 };
-use ssr_diff::quoted;
-use ssr_reports::{LinePlace, Places, Summary, colored};
+use ssr_reports::{Places, Summary, colored, place_words};
 use std::alloc::{AllocError, Global};
 use std::io::Write;
 use std::rt::Files;
@@ -192,14 +191,14 @@ fn tell_of_file<W: Write, E: Write>(
 ) -> Result<(), Failure>
     requires { FitsIn files.now.files change.now }
 {
-    let name = quoted(alloc, files.name(change.file))?;
+    let name = files.name(change.file);
     let mut places = Places::new(files.text(change.file));
     let aside = files.aside(change.file).iter().as_slice();
     let reaches = files.reaches(change.file).ranges();
     for range in &change.told {
-        let LinePlace { line, column } = places.place(range.start as usize);
+        let place = place_words(alloc, name, places.place(range.start as usize))?;
         let why = why_left(aside, reaches, *range);
-        console.tell(format!(in alloc; "{name}:{line}:{column}: left as it is: {why}")?.as_str());
+        console.tell(format!(in alloc; "{place}: left as it is: {why}")?.as_str());
     }
     Ok(())
 }

@@ -5,8 +5,7 @@ use crate::input::Input;
 use cargo_ssr_options::{Chosen, Color, Mode, Options};
 use ssr_base::{FileRange, Semantics};
 use ssr_changes::{Form, Searchable, first_refused};
-use ssr_diff::quoted;
-use ssr_reports::{LinePlace, line_place};
+use ssr_reports::{LinePlace, line_place, place_words};
 use ssr_searching::SearchError;
 use ssr_syntax_kinds::TextRange;
 use std::alloc::{AllocError, Global};
@@ -30,8 +29,8 @@ pub(crate) fn search_failure<S: Semantics>(
     match error {
         SearchError::Refused(message) => refusal(alloc, input, options, message.as_str()),
         SearchError::Clash(earlier, later) => {
-            let earlier = place_words(alloc, &input.files, earlier)?;
-            let later = place_words(alloc, &input.files, later)?;
+            let earlier = start_words(alloc, &input.files, earlier)?;
+            let later = start_words(alloc, &input.files, later)?;
             Ok(Failure::Told(format!(in alloc; "replacements clash at {earlier} and {later}")?))
         }
         SearchError::Memory => Ok(Failure::Memory),
@@ -78,18 +77,13 @@ fn refusal_words(alloc: Global, options: &Options, message: &str) -> Result<Stri
 }
 
 /// Where a range begins, as FILE:LINE:COLUMN.
-pub(crate) fn place_words(
-    alloc: Global,
-    files: &Searchable,
-    range: FileRange,
-) -> Result<String, AllocError> {
+fn start_words(alloc: Global, files: &Searchable, range: FileRange) -> Result<String, AllocError> {
     let file = range.file_id.0 as usize;
     if file >= files.file_count() {
         return Ok(String::new(alloc));
     }
-    let LinePlace { line, column } = place_of(files.text(file), range.range.start);
-    let name = quoted(alloc, files.name(file))?;
-    format!(in alloc; "{name}:{line}:{column}")
+    let place = place_of(files.text(file), range.range.start);
+    place_words(alloc, files.name(file), place)
 }
 
 /// The line and the column of a byte of a text, or those of its end.

@@ -42,6 +42,10 @@ first_line text = before_first is_line_break text
 abbrev pub mark_of : List ℕ → List ℕ
 mark_of text = if position_or_len is_line_break text == length text then [] else codes " .."
 
+-- a place of a file
+abbrev pub place_words : List ℕ → LinePlace → List ℕ
+place_words file place = quoted file ++ (codes ":" ++ (decimal place.line ++ (codes ":" ++ decimal place.column)))
+
+-- what is found there
 abbrev pub place_text : List ℕ → LinePlace → List ℕ → List ℕ
-place_text file place found =
-    quoted file ++ (codes ":" ++ (decimal place.line ++ (codes ":" ++ (decimal place.column ++ (codes ": " ++ (first_line found ++ (mark_of found ++ codes "\n")))))))
+place_text file place found = place_words file place ++ (codes ": " ++ (first_line found ++ (mark_of found ++ codes "\n")))
