@@ -8,6 +8,11 @@ fn edit_count(change: &FileChange) -> usize {
     change.edit.iter().count()
 }
 
+/// How many matches of a file stay as they are.
+fn left_count(change: &FileChange) -> usize {
+    change.told.len().saturating_add(change.unread.len())
+}
+
 /// The counts of what changes.
 pub(crate) fn counts_of_changes(changes: &[FileChange], left_out: usize) -> Summary {
     let mut counts = Summary {
@@ -20,7 +25,7 @@ pub(crate) fn counts_of_changes(changes: &[FileChange], left_out: usize) -> Summ
     for change in changes {
         let edits = edit_count(change);
         counts.edits = counts.edits.saturating_add(edits);
-        counts.set_aside = counts.set_aside.saturating_add(change.told.len());
+        counts.set_aside = counts.set_aside.saturating_add(left_count(change));
     }
     counts.matches = counts.edits.saturating_add(counts.set_aside);
     counts

@@ -13,8 +13,9 @@ mod plan_error;
 mod planning;
 mod searchable;
 mod sorting;
+mod standing;
 
-pub use changing::{FileChange, changes, check_new};
+pub use changing::{FileChange, changes};
 pub use debugging::{DebugEntry, debug};
 pub use matching::{FoundPlace, FoundPlaceholder, pattern_matches, rule_matches};
 pub use naming::without_dot;
