@@ -323,13 +323,28 @@ def a_file_that_is_left_out_is_told_with_the_place(program):
             yield package.run(program, RULE, "--", "bad.rs", "good.rs") == (0, "", f"bad.rs{told}\n0 matches; 1 file left out\n")
 
 
+# A text, a rule, the place of the match with which the text can't be read, and the text with the others replaced.
+ARMS = 'fn f() { match x { "a" => b("c"), _ => d } }\n'
+CONDITIONS = "fn f() { if a { b } if let C = d { e } }\n"
+DEEP = f"fn f() {{ a.unwrap(); {'(' * 1000}b.unwrap(){')' * 1000} }}\n"
+UNREAD = [
+    (ARMS, "${s:kind(literal)} ==>> $s.to_owned()", "1:20", ARMS.replace('b("c")', 'b("c".to_owned())')),
+    (CONDITIONS, "if $c { $b } ==>> if ($c) { $b }", "1:21", CONDITIONS.replace("if a {", "if (a) {")),
+    (DEEP, f"$a.unwrap() ==>> {'!' * 30}$a", "1:1022", DEEP.replace("a.unwrap()", "!" * 30 + "a")),
+]
+
+
 @example
-def what_cannot_be_read_again_is_not_written(program):
-    # the new text is nested too deeply
-    text = f"fn f() {{ {'(' * 1000}a.unwrap(){')' * 1000} }}\n"
-    with Package({"one.rs": text}) as package:
-        status, _, told = package.run(program, f"$a.unwrap() ==>> {'!' * 30}$a", "--write", "--", "one.rs")
-        yield status == 3 and "one.rs" in told and len(told.splitlines()) == 1 and package.read("one.rs") == text
+def what_cannot_be_read_again_is_told_alone(program):
+    for text, rule, place, new in UNREAD:
+        with Package({"one.rs": text}) as package:
+            told_alone = f"one.rs:{place}: left as it is: the file can't be read with it\n"
+            status, out, _ = package.run(program, "--json", rule, "--", "one.rs")
+            shown = [(f"{line['line']}:{line['column']}", line["new"]) for line in map(json.loads, out.splitlines()[:-1])]
+            yield status == 0 and [at for at, new_text in shown if new_text is None] == [place]
+            status, _, told = package.run(program, "--check", rule, "--", "one.rs")
+            yield status == 1 and told.startswith(told_alone) and told.endswith("2 matches in 1 file: 1 edit; 1 left as it is\n")
+            yield package.run(program, "-q", "--write", rule, "--", "one.rs") == (0, "", told_alone) and package.read("one.rs") == new
 
 
 @example

@@ -22,8 +22,10 @@ pub(crate) fn counts_of_changes(changes: &[FileChange], left_out: usize) -> Summ
         let edits = edit_count(change);
         counts.edits = counts.edits.saturating_add(edits);
         counts.set_aside = counts.set_aside.saturating_add(change.told.len());
+        counts.unread = counts.unread.saturating_add(change.unread.len());
     }
-    counts.matches = counts.edits.saturating_add(counts.set_aside);
+    let left = counts.set_aside.saturating_add(counts.unread);
+    counts.matches = counts.edits.saturating_add(left);
     counts
 }
 

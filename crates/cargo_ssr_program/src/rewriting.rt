@@ -12,10 +12,9 @@ use crate::telling::{is_colored, search_failure, why_left};
 use crate::writing::write;
 use cargo_ssr_options::{Mode, Options};
 use ssr_base::Semantics;
-use ssr_changes::{
-    FileChange, PlanError, Planned, Searchable, changes, check_new, plan, rule_matches,
-};
+use ssr_changes::{FileChange, PlanError, Planned, Searchable, changes, plan, rule_matches};
 use ssr_reports::{Places, Summary, colored, place_words};
+use ssr_syntax_kinds::TextRange;
 use std::alloc::{AllocError, Global};
 use std::io::Write;
 use std::rt::Files;
@@ -29,7 +28,6 @@ pub(crate) fn rewrite<R: Files + AllocGlobal, W: Write, E: Write, S: Semantics>(
 ) -> Result<bool, Failure> {
     let alloc = rt.alloc();
     let made = changes_of(alloc, input, options)?;
-    refuse_unread(alloc, &input.files, &made)?;
     let plan = plan_of(alloc, &input.files, &made)?;
     let counts = counts_of_changes(&made, input.left_out);
     let is_write = matches!(options.mode, Mode::Write);
@@ -38,7 +36,7 @@ pub(crate) fn rewrite<R: Files + AllocGlobal, W: Write, E: Write, S: Semantics>(
     } else if !is_write {
         show_diffs(alloc, &plan, options, console)?;
     }
-    tell_set_aside(alloc, &input.files, &made, console)?;
+    tell_left(alloc, &input.files, &made, console)?;
     if is_write {
         let written = write(rt, input, &plan)?;
         tell_written(alloc, written, options, console)?;
@@ -70,19 +68,6 @@ fn changes_of<S: Semantics>(
         Ok(made) => Ok(made),
         Err(error) => Err(search_failure(alloc, input, options, error)?),
     }
-}
-
-/// Refuses changes after which a file isn't read any more.
-fn refuse_unread(alloc: Global, files: &Searchable, made: &[FileChange]) -> Result<(), Failure> {
-    let Some(file) = check_new(alloc, files, made)? else {
-        return Ok(());
-    };
-    let name = if file < files.file_count() {
-        files.name(file)
-    } else {
-        ""
-    };
-    Err(Failure::Told(format!(in alloc; "{name}: can't be read with what the rules put there")?))
 }
 
 /// The plan of what the rules change. There is none where a file that changes may not be written.
@@ -165,9 +150,9 @@ fn show_matches<W: Write, E: Write, S: Semantics>(
     show_json(alloc, &listed, counts, console)
 }
 
-/// Tells the matches that stay because of what is set aside.
+/// Tells the matches that stay as they are.
 #[tactic(auto, using(crate::proofs::InFiles::each_fits))]
-fn tell_set_aside<W: Write, E: Write>(
+fn tell_left<W: Write, E: Write>(
     alloc: Global,
     files: &Searchable,
     made: &[FileChange],
@@ -181,7 +166,7 @@ fn tell_set_aside<W: Write, E: Write>(
     Ok(())
 }
 
-/// Tells those of a file.
+/// Tells those of a file, in the order of their places.
 #[tactic(auto, using(crate::proofs::InFiles::is_there))]
 fn tell_of_file<W: Write, E: Write>(
     alloc: Global,
@@ -195,10 +180,46 @@ fn tell_of_file<W: Write, E: Write>(
     let mut places = Places::new(files.text(change.file));
     let aside = files.aside(change.file).iter().as_slice();
     let reaches = files.reaches(change.file).ranges();
-    for range in &change.told {
-        let place = place_words(alloc, name, places.place(range.start as usize))?;
-        let why = why_left(aside, reaches, *range);
+    for left in all_left(alloc, change)? {
+        let place = place_words(alloc, name, places.place(left.range.start as usize))?;
+        let why = match left.why {
+            Why::Aside => why_left(aside, reaches, left.range),
+            Why::Unread => "the file can't be read with it",
+        };
         console.tell(format!(in alloc; "{place}: left as it is: {why}")?.as_str());
+    }
+    Ok(())
+}
+
+/// Why a match stays as it is.
+#[derive(Clone, Copy, Debug, PartialEq, Eq)]
+enum Why {
+    /// It touches the reach of a part set aside.
+    Aside,
+    /// The file isn't read with it.
+    Unread,
+}
+
+/// A match that stays as it is.
+#[derive(Clone, Copy, Debug, PartialEq, Eq)]
+struct Left {
+    range: TextRange,
+    why: Why,
+}
+
+/// The matches of a file that stay as they are, by their places.
+fn all_left(alloc: Global, change: &FileChange) -> Result<Vec<Left>, AllocError> {
+    let mut left = Vec::with_capacity(alloc, change.told.len())?;
+    push_left(&mut left, &change.told, Why::Aside)?;
+    push_left(&mut left, &change.unread, Why::Unread)?;
+    left.sort_by_key(|one| one.range.start)?;
+    Ok(left)
+}
+
+/// Adds matches that stay for a reason.
+fn push_left(left: &mut Vec<Left>, ranges: &[TextRange], why: Why) -> Result<(), AllocError> {
+    for range in ranges {
+        left.push(Left { range: *range, why })?;
     }
     Ok(())
 }

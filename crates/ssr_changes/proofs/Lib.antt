@@ -6,3 +6,4 @@ mod Texts
 mod Matches
 mod Names
 mod Plans
+mod Standings

@@ -1,6 +1,7 @@
 pub mod Files
 pub mod FilesCode
 pub mod Sorting
+pub mod Standing
 pub mod Changing
 pub mod Finding
 pub mod Matching

@@ -15,8 +15,9 @@ mod planning;
 mod refused;
 mod searchable;
 mod sorting;
+mod standing;
 
-pub use changing::{FileChange, changes, check_new};
+pub use changing::{FileChange, changes};
 pub use debugging::{DebugEntry, debug};
 pub use finding::Form;
 pub use matching::{FoundPlace, FoundPlaceholder, pattern_matches, rule_matches};
