@@ -51,9 +51,9 @@ impl<R: Read> Source for CountedSource<R> {
                 self.given = noted(mem::replace(&mut self.given, Log::new()), &buf[..count]);
                 Ok(count)
             }
-            Err(_) => {
+            Err(error) => {
                 self.failed = self.failed.and(&(), &());
-                Err(Failed)
+                Err(failed(&error))
             }
         }
     }
@@ -92,11 +92,18 @@ impl<W: Write> Sink for CountedSink<W> {
                 }
                 Ok(count)
             }
-            Err(_) => {
+            Err(error) => {
                 self.failed = self.failed.and(&(), &());
-                Err(Failed)
+                Err(failed(&error))
             }
         }
+    }
+}
+
+/// What is known of a failure.
+fn failed(error: &Error) -> Failed {
+    Failed {
+        is_closed: error.kind() == ErrorKind::BrokenPipe,
     }
 }
 

@@ -4,7 +4,10 @@ ghost use Rattle.ssr_streams.specs.Streams.{Given, Taken, Gives, GivesNothing, T
 
 /// A read or a write that failed.
 #[derive(Clone, Copy, Debug, PartialEq, Eq)]
-pub struct Failed;
+pub struct Failed {
+    /// Whether nobody is at the other end any more.
+    pub is_closed: bool,
+}
 
 /// Where bytes come from.
 pub trait Source {

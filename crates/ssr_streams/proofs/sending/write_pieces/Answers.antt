@@ -4,13 +4,13 @@ use Rattle.std.proofs.lemmas.List.{take_all}
 use Rattle.ssr_streams.proofs.Pieces.{piece_part, piece_whole, sent_whole}
 use Rattle.ssr_streams.proofs.sending.write_pieces.Goals as goal
 
-pub returns-then-not-write_all : goal.returns-then-not-write_all
-returns-then-not-write_all g c =
-    piece_part _ c.args.pieces.now _ _ c.loop-piece-test.true _ _ _ _ c.as_bytes.ensures.value c.loop-piece.invariant c.if-not-write_all.ensures
+pub returns-in-Err : goal.returns-in-Err
+returns-in-Err g c =
+    piece_part _ c.args.pieces.now _ _ c.loop-piece-test.true _ _ _ _ c.as_bytes.ensures.value c.loop-piece.invariant c.in-Err.ensures
 
 pub loop-piece-preserved : goal.loop-piece-preserved
 loop-piece-preserved g c =
-    piece_whole _ c.args.pieces.now _ _ c.loop-piece-test.true _ _ _ _ c.as_bytes.ensures.value c.loop-piece.invariant c.if-not-write_all.ensures
+    piece_whole _ c.args.pieces.now _ _ c.loop-piece-test.true _ _ _ _ c.as_bytes.ensures.value c.loop-piece.invariant c.in-Ok.ensures
 
 pub returns : goal.returns
 returns g c =
