@@ -342,6 +342,7 @@ def what_cannot_be_read_again_is_told_alone(program):
             status, out, _ = package.run(program, "--json", rule, "--", "one.rs")
             shown = [(f"{line['line']}:{line['column']}", line["new"]) for line in map(json.loads, out.splitlines()[:-1])]
             yield status == 0 and [at for at, new_text in shown if new_text is None] == [place]
+            yield json.loads(out.splitlines()[-1])["summary"] == {"files": 1, "matches": 2, "edits": 1, "set_aside": 0, "unread": 1, "left_out": 0}
             status, _, told = package.run(program, "--check", rule, "--", "one.rs")
             yield status == 1 and told.startswith(told_alone) and told.endswith("2 matches in 1 file: 1 edit; 1 left as it is\n")
             yield package.run(program, "-q", "--write", rule, "--", "one.rs") == (0, "", told_alone) and package.read("one.rs") == new
