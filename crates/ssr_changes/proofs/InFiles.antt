@@ -82,7 +82,8 @@ none_left w new files n made all so_far =
 
 -- whether changes stand is whether they do in the file's tree
 pub stands_there : (w : Workspace) (n : ℕ) (tree : Syntax) → slice_get w.files n ≡ Some tree → stands_in w n ≡ stands tree
-stands_there w n tree there = ap (λ (o : Option Syntax) (cs : List Change). option_map_or (λ (t : Syntax). stands t cs) o false) there
+stands_there w n tree there =
+    let by : Option Syntax → List Change → Bool = λ o cs. option_map_or (λ t. stands t cs) o false in ap by there
 
 -- what comes of a file's changes is what changes in it
 pub change_is : (w : Workspace) (n : ℕ) (file : File) (tree : Syntax) (cs left : List Change) (c : FileChange) → slice_get w.files n ≡ Some tree → c.file ≡ n
