@@ -1,10 +1,10 @@
 -- What the edits of the searched texts come to in the files, one file after another.
-use Rattle.std.proofs.Common.{◌≡◌, ℕ, ◌+◌, ◌<◌, ◌≤◌, List, [], ◌∷◌, ◌++◌, length, map, drop, All, Option, Some, None, Ok, Err, Bool, false, refl, sym, ◌∙◌, ap, subst, append_assoc, append-nil, arith}
+use Rattle.std.proofs.Common.{◌≡◌, ℕ, ◌+◌, ◌<◌, ◌≤◌, List, [], ◌∷◌, ◌++◌, length, map, drop, All, Option, Some, None, Ok, Err, Bool, false, sym, ◌∙◌, ap, subst, append_assoc, append-nil}
 use Rattle.std.specs.Prelude.{flat_map, slice_get, string_bytes}
-use Rattle.std.specs.BTreeMap.{BTreeMap, UpdatesBy, get}
+use Rattle.std.specs.BTreeMap.{BTreeMap, UpdatesBy}
 use Rattle.std.specs.Cmp.{nat_cmp_is}
 use Rattle.std.specs.List.{enumerate_from}
-use Rattle.std.specs.Option.{IsSomeAnd, option_map_or}
+use Rattle.std.specs.Option.{option_map_or}
 use Rattle.std.specs.Ordering.{is_eq, nat_cmp}
 use Rattle.std.specs.declared.cmp.Ordering.TheVariants as ord
 use Rattle.std.proofs.lemmas.List.{drop_more, drop_all, map-append}
@@ -82,7 +82,8 @@ none_left w new files n made all so_far =
 
 -- whether changes stand is whether they do in the file's tree
 pub stands_there : (w : Workspace) (n : ℕ) (tree : Syntax) → slice_get w.files n ≡ Some tree → stands_in w n ≡ stands tree
-stands_there w n tree there = ap (λ (o : Option Syntax) (cs : List Change). option_map_or (λ (t : Syntax). stands t cs) o false) there
+stands_there w n tree there =
+    let by : Option Syntax → List Change → Bool = λ o cs. option_map_or (λ t. stands t cs) o false in ap by there
 
 -- what comes of a file's changes is what changes in it
 pub change_is : (w : Workspace) (n : ℕ) (file : File) (tree : Syntax) (cs left : List Change) (c : FileChange) → slice_get w.files n ≡ Some tree → c.file ≡ n

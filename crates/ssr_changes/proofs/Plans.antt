@@ -1,6 +1,6 @@
 -- What is planned of changes, one after the other, and the names of files that are planned.
-use Rattle.std.proofs.Common.{◌≡◌, ◌≢◌, ℕ, ◌+◌, ◌<◌, ◌||◌, cond, Bool, true, false, is_some, List, [], ◌∷◌, ◌++◌, length, get_or, take, drop, map, filter, All, Option, Some, None, Bor, refl, ap, sym, subst, ◌∙◌, append-nil, arith}
-use Rattle.std.specs.Prelude.{Contains, AllPairs}
+use Rattle.std.proofs.Common.{◌≡◌, ◌≢◌, ℕ, ◌+◌, ◌<◌, ◌||◌, cond, Bool, true, false, is_some, List, [], ◌∷◌, ◌++◌, length, get_or, take, drop, map, All, Option, Some, None, Bor, refl, ap, sym, subst, ◌∙◌, append-nil, arith}
+use Rattle.std.specs.Prelude.{Contains}
 use Rattle.std.specs.BTreeMap.{BTreeMap, UpdatesBy, get_by}
 use Rattle.std.specs.Cmp.Lexicographic.{slice_cmp}
 use Rattle.std.specs.List.{list_any}

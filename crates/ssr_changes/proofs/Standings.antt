@@ -1,12 +1,12 @@
 -- Changes that are made, and the others.
-use Rattle.std.proofs.Common.{◌≡◌, ℕ, zero, suc, ◌+◌, ◌<◌, ◌≤◌, cond, Bool, true, false, List, [], ◌∷◌, ◌++◌, length, map, get_or, take, All, sym, ◌∙◌, ap, subst, append-nil, arith, String, string_bytes}
-use Rattle.std.specs.Prelude.{not, filter, if◌then◌else◌}
+use Rattle.std.proofs.Common.{◌≡◌, ℕ, zero, suc, ◌+◌, ◌<◌, ◌≤◌, cond, Bool, true, false, List, [], ◌∷◌, ◌++◌, length, get_or, take, All, ◌∙◌, ap, subst, append-nil, arith, String, string_bytes}
+use Rattle.std.specs.Prelude.{filter, if◌then◌else◌}
 use Rattle.std.specs.Global.{Global}
 use Rattle.std.proofs.lemmas.List.{map-append}
-use Rattle.std.proofs.lemmas.List.Elements.{All-cons, All-filter, All-nil, filter_more}
+use Rattle.std.proofs.lemmas.List.Elements.{All-filter, All-nil, filter_more}
 use Rattle.ssr_syntax_kinds.specs.declared.range.TextRange.{TextRange}
 use Rattle.ssr_base_trees.specs.Applied.{change_of, changes_of}
-use Rattle.ssr_base_trees.specs.Changes.{Change, ChangesInOrder, FitsText}
+use Rattle.ssr_base_trees.specs.Changes.{Change, ChangesInOrder}
 use Rattle.ssr_changes.specs.Standing.{alone, falling, not_alone, standing}
 
 -- ** Order.

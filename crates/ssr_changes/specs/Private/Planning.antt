@@ -1,5 +1,5 @@
 -- Private: the steps to a plan.
-use Rattle.std.specs.Prelude.{ℕ, ◌≡◌, ◌≢◌, true, false, List, All, AllPairs, Contains, Option, Some, None, map}
+use Rattle.std.specs.Prelude.{◌≡◌, ◌≢◌, true, false, List, All, AllPairs, Contains, Option, Some, None, map}
 use Rattle.ssr_changes.specs.declared.changing.FileChange.{FileChange}
 use Rattle.ssr_changes.specs.declared.planning.Planned.{Planned}
 use Rattle.ssr_changes.specs.declared.plan_error.PlanError.{PlanError}
