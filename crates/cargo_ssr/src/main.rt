@@ -2,14 +2,26 @@
 #![tactic(auto)]
 
 use cargo_ssr_program::{Console, run};
+use ssr_streams::CountedSink;
+use ssr_writing::OnDisk;
 use std::io::{IsTerminal, Write};
 use std::process::ExitCode;
 use std::{env, io};
 
 fn main(rt: HostRuntime) -> ExitCode {
-    let mut console = Console::new(rt.stdout(), rt.stderr(), rt.stdout().is_terminal());
+    let mut console = Console::new(
+        CountedSink::new(rt.stdout()),
+        rt.stderr(),
+        rt.stdout().is_terminal(),
+    );
     let status = match (words(&rt), env::current_dir(&rt)) {
-        (Some(words), Ok(here)) => run(&rt, here.as_str(), &words, &mut console),
+        (Some(words), Ok(here)) => run(
+            &rt,
+            &mut OnDisk::new(&rt),
+            here.as_str(),
+            &words,
+            &mut console,
+        ),
         _ => {
             let _ = rt.stderr().write_all(
                 b"error: the words or the current folder can't be read as UTF-8\n",

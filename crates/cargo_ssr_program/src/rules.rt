@@ -1,4 +1,5 @@
 //! The rules of a run.
+ghost use Rattle.std.specs.Prelude.{◌≡◌, IfOk};
 
 use crate::failure::Failure;
 use crate::input::read_text;
@@ -10,7 +11,9 @@ pub(crate) fn with_all_rules<R: Files + AllocGlobal>(
     rt: &R,
     here: &str,
     mut options: Options,
-) -> Result<Options, Failure> {
+) -> Result<Options, Failure>
+    ensures { IfOk result (λ all. (all.mode ≡ options.mode) × (all.json ≡ options.json) × (all.color ≡ options.color)) }
+{
     let alloc = rt.alloc();
     let Some(name) = &options.rules_file else {
         return Ok(options);
