@@ -349,6 +349,14 @@ def what_cannot_be_read_again_is_told_alone(program):
 
 
 @example
+def a_run_without_a_file_fails(program):
+    with Package({"bad.rs": "fn f( {\n"}) as package:
+        for words in [[RULE], [RULE, "--check"], [RULE, "--write"], [RULE, "--json"], ["--search", "$a.unwrap()"]]:
+            status, out, told = package.run(program, *words, "--", "bad.rs")
+            yield (status, out) == (3, "") and told.splitlines()[-1] == "error: no file was searched" and len(told.splitlines()) == 2
+
+
+@example
 def rules_are_refused(program):
     with Package() as package:
         before = package.texts()

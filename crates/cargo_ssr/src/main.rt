@@ -2,6 +2,8 @@
 #![tactic(auto)]
 
 use cargo_ssr_program::{Console, run};
+use ssr_streams::CountedSink;
+use ssr_writing::OnDisk;
 use std::env::VarError;
 use std::io::{IsTerminal, Write};
 use std::process::ExitCode;
@@ -9,9 +11,15 @@ use std::{env, io};
 
 fn main(rt: HostRuntime) -> ExitCode {
     let has_colors = rt.stdout().is_terminal() && !is_color_unwanted(&rt);
-    let mut console = Console::new(rt.stdout(), rt.stderr(), has_colors);
+    let mut console = Console::new(CountedSink::new(rt.stdout()), rt.stderr(), has_colors);
     let status = match (words(&rt), env::current_dir(&rt)) {
-        (Some(words), Ok(here)) => run(&rt, here.as_str(), &words, &mut console),
+        (Some(words), Ok(here)) => run(
+            &rt,
+            &mut OnDisk::new(&rt),
+            here.as_str(),
+            &words,
+            &mut console,
+        ),
         _ => {
             let _ = rt.stderr().write_all(
                 b"error: the words or the current folder can't be read as UTF-8\n",

@@ -1,6 +1,7 @@
 -- Files in which changes are made, and which are planned.
-use Rattle.std.proofs.Common.{ℕ, ◌≡◌, ◌<◌, List, length, All, Option, Some, None, slice_get, get_or, refl, string_bytes}
-use Rattle.std.specs.Option.{IsSomeAnd}
+use Rattle.std.proofs.Common.{ℕ, ◌≡◌, ◌+◌, ◌<◌, List, [], ◌∷◌, ◌++◌, length, map, take, All, Option, Some, None, slice_get, get_or, refl, sym, ap, ◌∙◌, arith, string_bytes}
+use Rattle.std.specs.Option.{IsSomeAnd, option_map, option_map_or}
+use Rattle.std.proofs.lemmas.List.{get_or-map, length-map, map-append, take_more}
 use Rattle.std.proofs.lemmas.List.Elements.{All-get_or}
 use Rattle.std.proofs.lemmas.Option.{slice_get_within}
 use Rattle.ssr_base_trees.specs.Changes.{FitsText}
@@ -28,3 +29,23 @@ planned_there files p h = within_if_some (λ file. IsDiff file.name file.text p.
 
 pub each_is_there : (files : List File) (plan : List Planned) (i : ℕ) (d : Planned) → i < length plan → All (HasDiff files) plan → (get_or plan i d).file < length files
 each_is_there files plan i d lt h = planned_there files (get_or plan i d) (All-get_or (HasDiff files) plan i d lt h)
+
+-- a part of a file that is there
+pub part_there : (o : Option File) (part : File → List ℕ) (text : List ℕ) → option_map part o ≡ Some text → option_map_or part o [] ≡ text
+part_there (Some file) part text e = cc
+part_there None part text e = let none : ⊥ = cc in absurd none
+
+-- one item more on both sides
+pub map_more : {A B C : Type 0} (f : A → C) (g : B → C) (xs : List B) (ys : List A) (i : ℕ) (d : B) (y : A) → i < length xs
+    → map f ys ≡ map g (take i xs) → f y ≡ g (get_or xs i d) → map f (ys ++ y ∷ []) ≡ map g (take (i + 1) xs)
+map_more f g xs ys i d y within so_far same =
+    map-append f ys (y ∷ []) ∙ ap (λ front. front ++ f y ∷ []) so_far ∙ ap (λ last. map g (take i xs) ++ last ∷ []) same
+    ∙ sym (ap (map g) (take_more xs i d within) ∙ map-append g (take i xs) (get_or xs i d ∷ []))
+
+-- an item that both lists have
+pub at_both : {A B C : Type 0} (f : A → C) (g : B → C) (xs : List A) (ys : List B) (i : ℕ) (d : A) (e : B) → map f xs ≡ map g ys → i < length ys
+    → f (get_or xs i d) ≡ g (get_or ys i e)
+at_both f g xs ys i d e same within =
+    let long : length (map f xs) ≡ length (map g ys) = ap length same in
+    let inside : i < length xs = omega (arith, long, length-map xs f, length-map ys g) in
+    sym (get_or-map f xs i d (f d) inside) ∙ ap (λ all. get_or all i (f d)) same ∙ get_or-map g ys i e (f d) within

@@ -8,11 +8,12 @@ use cargo_ssr_options::Options;
 use ssr_base::{FileRange, Semantics};
 use ssr_changes::{DebugEntry, Searchable, debug};
 use ssr_reports::{Places, place_words};
+use ssr_streams::Sink;
 use std::alloc::{AllocError, Global};
 use std::io::Write;
 
 /// Tells of each rule that asks for a node that the snippet shows whether it matches there, and why not.
-pub(crate) fn show_debug<W: Write, E: Write, S: Semantics>(
+pub(crate) fn show_debug<W: Sink, E: Write, S: Semantics>(
     alloc: Global,
     input: &Input<S>,
     snippet: &str,

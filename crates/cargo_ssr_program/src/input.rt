@@ -1,4 +1,5 @@
 //! What a run searches.
+ghost use Rattle.cargo_ssr_program.specs.Private.Telling.{TellsOnly};
 
 use crate::console::Console;
 use crate::failure::Failure;
@@ -7,12 +8,13 @@ use crate::malformed::malformed_words;
 use crate::positions::position_at;
 use cargo_ssr_options::{Chosen, Options, Place};
 use ssr_base::{FileId, FilePosition, FileRange, Workspace};
-use ssr_changes::Searchable;
+use ssr_changes::{Searchable, Unread};
 use ssr_facts::{Facts, FactsError, TableSemantics, read};
 use ssr_package::{
     ModuleTree, PackageError, PackageFiles, find_manifest, given_files, package_files, path_in,
 };
 use ssr_searching::Unresolved;
+use ssr_streams::Sink;
 use std::alloc::{AllocError, Global};
 use std::fs;
 use std::io::Write;
@@ -47,12 +49,14 @@ const BEGINNING: FilePosition = FilePosition {
 };
 
 /// The files of a package, or of paths. What is left out of them is told.
-pub(crate) fn of_files<R: Files + AllocGlobal, W: Write, E: Write>(
+pub(crate) fn of_files<R: Files + AllocGlobal, W: Sink, E: Write>(
     rt: &R,
     here: &str,
     options: &Options,
     console: &mut Console<W, E>,
-) -> Result<Input<Unresolved>, Failure> {
+) -> Result<Input<Unresolved>, Failure>
+    ensures { TellsOnly console.old console.new }
+{
     let alloc = rt.alloc();
     let PackageFiles {
         folder,
@@ -60,13 +64,9 @@ pub(crate) fn of_files<R: Files + AllocGlobal, W: Write, E: Write>(
         modules: _,
         notes,
     } = chosen_files(rt, here, &options.files)?;
-    for note in &notes {
-        console.tell(note.to_string(alloc)?.as_str());
-    }
+    tell_notes(alloc, &notes, console)?;
     let (files, unread) = Searchable::of_files(alloc, files, options.macros)?;
-    for file in &unread {
-        console.tell(left_out_words(alloc, file)?.as_str());
-    }
+    tell_unread(alloc, &unread, console)?;
     if files.refused_calls() > 0 {
         console.tell(refused_words(alloc, files.refused_calls())?.as_str());
     }
@@ -79,6 +79,34 @@ pub(crate) fn of_files<R: Files + AllocGlobal, W: Write, E: Write>(
         ranges: Vec::new(alloc),
         left_out: unread.len(),
     })
+}
+
+/// Tells what is to be said of a package.
+fn tell_notes<W: Sink, E: Write>(
+    alloc: Global,
+    notes: &[Note],
+    console: &mut Console<W, E>,
+) -> Result<(), AllocError>
+    ensures { TellsOnly console.old console.new }
+{
+    for note in notes {
+        console.tell(note.to_string(alloc)?.as_str());
+    }
+    Ok(())
+}
+
+/// Tells the files that are left out.
+fn tell_unread<W: Sink, E: Write>(
+    alloc: Global,
+    unread: &[Unread],
+    console: &mut Console<W, E>,
+) -> Result<(), AllocError>
+    ensures { TellsOnly console.old console.new }
+{
+    for file in unread {
+        console.tell(left_out_words(alloc, file)?.as_str());
+    }
+    Ok(())
 }
 
 /// The files that are chosen, as they stand on the disk.

@@ -1,7 +1,11 @@
 //! What rules change: shown, told and written.
-ghost use Rattle.std.specs.Prelude.{All, IfOk};
-ghost use Rattle.ssr_changes.specs.Changing.{FitsIn};
+ghost use Rattle.std.specs.Prelude.{◌≡◌, All, IfOk, List, OnOk, false, map, string_bytes, true};
+ghost use Rattle.cargo_ssr_program.specs.Planned.{IsPlanOf, IsShown, IsWritten, diffs_of, is_colored};
+ghost use Rattle.cargo_ssr_program.specs.Private.Tasks.{search_of, task_of};
+ghost use Rattle.cargo_ssr_program.specs.Private.Telling.{TellsOnly};
+ghost use Rattle.ssr_changes.specs.Changing.{AreChanges, FitsIn, shown};
 ghost use Rattle.ssr_changes.specs.Planning.{IsPlan};
+ghost use Rattle.ssr_streams.specs.Streams.{Sent};
 
 use crate::console::Console;
 use crate::counting::counts_of_changes;
@@ -10,41 +14,64 @@ use crate::finding::{Listed, show_json, tell_summary};
 use crate::input::Input;
 use crate::telling::{is_colored, search_failure, why_left};
 use crate::writing::write;
-use cargo_ssr_options::{Mode, Options};
+use cargo_ssr_options::{Color, Options};
 use ssr_base::Semantics;
 use ssr_changes::{FileChange, PlanError, Planned, Searchable, changes, plan, rule_matches};
 use ssr_reports::{Places, Summary, colored, place_words};
+use ssr_streams::Sink;
 use ssr_syntax_kinds::TextRange;
+use ssr_writing::Disk;
 use std::alloc::{AllocError, Global};
 use std::io::Write;
 use std::rt::Files;
 
-/// Shows what rules change, or writes it; whether there is something.
-pub(crate) fn rewrite<R: Files + AllocGlobal, W: Write, E: Write, S: Semantics>(
-    rt: &R,
+/// Shows what rules change; whether there is something.
+pub(crate) fn show_changes<W: Sink, E: Write, S: Semantics>(
+    alloc: Global,
     input: &Input<S>,
     options: &Options,
     console: &mut Console<W, E>,
-) -> Result<bool, Failure> {
+) -> Result<bool, Failure>
+    ensures { IfOk result (IsShown (task_of (S.meanings input.now.semantics) input.now options.now) options.now.json (is_colored options.now.color console.old.terminal) (W.taken console.old.out) (W.taken console.new.out)) }
+{
+    let made = changes_of(alloc, input, options)?;
+    let plan = plan_of(alloc, &input.files, &made)?;
+    let counts = counts_of_changes(&made, input.left_out);
+    if options.json {
+        show_matches(alloc, input, options, &made, counts, console)?;
+        tell_left(alloc, &input.files, &made, console)?;
+    } else {
+        show_diffs(alloc, &plan, options.color, console)?;
+        tell_left(alloc, &input.files, &made, console)?;
+        tell_summary(alloc, counts, options, console)?;
+    }
+    Ok(!plan.is_empty())
+}
+
+/// Writes what rules change.
+pub(crate) fn write_changes<R: Files + AllocGlobal, D: Disk, W: Sink, E: Write, S: Semantics>(
+    rt: &R,
+    disk: &mut D,
+    input: &Input<S>,
+    options: &Options,
+    console: &mut Console<W, E>,
+) -> Result<(), Failure>
+    ensures { OnOk result ((plan : List Planned) × IsPlanOf (task_of (S.meanings input.now.semantics) input.now options.now) plan × IsWritten (string_bytes input.now.folder) input.now.files.files plan (D.calls disk.old) (D.calls disk.new)) }
+{
     let alloc = rt.alloc();
     let made = changes_of(alloc, input, options)?;
     let plan = plan_of(alloc, &input.files, &made)?;
     let counts = counts_of_changes(&made, input.left_out);
-    let is_write = matches!(options.mode, Mode::Write);
     if options.json {
         show_matches(alloc, input, options, &made, counts, console)?;
-    } else if !is_write {
-        show_diffs(alloc, &plan, options, console)?;
     }
     tell_left(alloc, &input.files, &made, console)?;
-    if is_write {
-        let written = write(rt, input, &plan)?;
-        tell_written(alloc, written, options, console)?;
-    }
+    let written = write(rt, disk, input, &plan)?;
+    tell_written(alloc, written, options, console)?;
     if !options.json {
         tell_summary(alloc, counts, options, console)?;
     }
-    Ok(!plan.is_empty())
+    Ok(())
 }
 
 /// What the rules change.
@@ -53,7 +80,8 @@ fn changes_of<S: Semantics>(
     input: &Input<S>,
     options: &Options,
 ) -> Result<Vec<FileChange>, Failure>
-    ensures { IfOk result (λ made. All (FitsIn input.now.files.files) made.items) }
+    ensures changes { IfOk result (λ made. AreChanges (search_of (S.meanings input.now.semantics) input.now) (map string_bytes options.now.rules.items) input.now.files.files (map shown made.items)) }
+    ensures fit { IfOk result (λ made. All (FitsIn input.now.files.files) made.items) }
 {
     let ranges = input.ranges(alloc)?;
     let made = changes(
@@ -67,6 +95,15 @@ fn changes_of<S: Semantics>(
     match made {
         Ok(made) => Ok(made),
         Err(error) => Err(search_failure(alloc, input, options, error)?),
+    }
+}
+
+/// The name of a file; none where it isn't there.
+fn name_of(files: &Searchable, file: usize) -> &str {
+    if file < files.file_count() {
+        files.name(file)
+    } else {
+        ""
     }
 }
 
@@ -94,35 +131,53 @@ fn plan_failure(
         PlanError::Outside(file) | PlanError::BelowTarget(file) | PlanError::Twice(file) => *file,
         PlanError::Memory => return Ok(Failure::Memory),
     };
-    let name = if file < files.file_count() {
-        files.name(file)
-    } else {
-        ""
-    };
+    let name = name_of(files, file);
     Ok(Failure::Told(format!(in alloc; "{name}: {error}")?))
 }
 
 /// Shows the diffs of a plan.
-fn show_diffs<W: Write, E: Write>(
+fn show_diffs<W: Sink, E: Write>(
     alloc: Global,
     plan: &[Planned<'_>],
-    options: &Options,
+    color: Color,
+    console: &mut Console<W, E>,
+) -> Result<(), Failure>
+    ensures { is_colored color console.old.terminal ≡ false → OnOk result (Sent (W.taken console.old.out) (W.taken console.new.out) (diffs_of plan.now) true) }
+{
+    if is_colored(color, console.terminal) {
+        show_colored(alloc, plan, console)
+    } else {
+        show_plain(plan, console)
+    }
+}
+
+/// Shows them as they are.
+fn show_plain<W: Sink, E: Write>(
+    plan: &[Planned<'_>],
+    console: &mut Console<W, E>,
+) -> Result<(), Failure>
+    ensures { OnOk result (Sent (W.taken console.old.out) (W.taken console.new.out) (diffs_of plan.now) true) }
+{
+    for planned in plan {
+        console.show(planned.diff.as_str())?;
+    }
+    Ok(())
+}
+
+/// Shows them in colours.
+fn show_colored<W: Sink, E: Write>(
+    alloc: Global,
+    plan: &[Planned<'_>],
     console: &mut Console<W, E>,
 ) -> Result<(), Failure> {
-    let is_colored = is_colored(options.color, console.is_terminal());
     for planned in plan {
-        let diff = planned.diff.as_str();
-        if is_colored {
-            console.show(colored(alloc, diff)?.as_str())?;
-        } else {
-            console.show(diff)?;
-        }
+        console.show(colored(alloc, planned.diff.as_str())?.as_str())?;
     }
     Ok(())
 }
 
 /// Shows the matches of the rules as JSON.
-fn show_matches<W: Write, E: Write, S: Semantics>(
+fn show_matches<W: Sink, E: Write, S: Semantics>(
     alloc: Global,
     input: &Input<S>,
     options: &Options,
@@ -152,13 +207,14 @@ fn show_matches<W: Write, E: Write, S: Semantics>(
 
 /// Tells the matches that stay as they are.
 #[tactic(auto, using(crate::proofs::InFiles::each_fits))]
-fn tell_left<W: Write, E: Write>(
+fn tell_left<W: Sink, E: Write>(
     alloc: Global,
     files: &Searchable,
     made: &[FileChange],
     console: &mut Console<W, E>,
 ) -> Result<(), Failure>
     requires { All (FitsIn files.now.files) made.now }
+    ensures { TellsOnly console.old console.new }
 {
     for change in made {
         tell_of_file(alloc, files, change, console)?;
@@ -168,13 +224,14 @@ fn tell_left<W: Write, E: Write>(
 
 /// Tells those of a file, in the order of their places.
 #[tactic(auto, using(crate::proofs::InFiles::is_there))]
-fn tell_of_file<W: Write, E: Write>(
+fn tell_of_file<W: Sink, E: Write>(
     alloc: Global,
     files: &Searchable,
     change: &FileChange,
     console: &mut Console<W, E>,
 ) -> Result<(), Failure>
     requires { FitsIn files.now.files change.now }
+    ensures { TellsOnly console.old console.new }
 {
     let name = files.name(change.file);
     let mut places = Places::new(files.text(change.file));
@@ -225,7 +282,7 @@ fn push_left(left: &mut Vec<Left>, ranges: &[TextRange], why: Why) -> Result<(),
 }
 
 /// Tells how many files were written, unless it isn't wanted.
-fn tell_written<W: Write, E: Write>(
+fn tell_written<W: Sink, E: Write>(
     alloc: Global,
     written: usize,
     options: &Options,

@@ -1,4 +1,6 @@
 //! The rules of a run.
+ghost use Rattle.std.specs.Prelude.{◌≡◌, IfOk};
+ghost use Rattle.cargo_ssr_program.specs.Private.Telling.{TellsOnly};
 
 use crate::console::Console;
 use crate::failure::Failure;
@@ -6,6 +8,7 @@ use crate::input::read_text;
 use crate::telling::searched_for;
 use cargo_ssr_options::{Chosen, Options, rule_lines, rules_of};
 use ssr_changes::{Form, first_with_self};
+use ssr_streams::Sink;
 use std::alloc::{AllocError, Global};
 use std::io::Write;
 use std::rt::Files;
@@ -33,12 +36,14 @@ impl RulePlaces {
 }
 
 /// Tells of the first rule or pattern that names `self`, where no method is given in which it can match.
-pub(crate) fn tell_self<W: Write, E: Write>(
+pub(crate) fn tell_self<W: Sink, E: Write>(
     alloc: Global,
     options: &Options,
     places: &RulePlaces,
     console: &mut Console<W, E>,
-) -> Result<(), AllocError> {
+) -> Result<(), AllocError>
+    ensures { TellsOnly console.old console.new }
+{
     // a facts file may say a position
     if options.place.is_some() || matches!(options.files, Chosen::Facts(_)) {
         return Ok(());
@@ -61,7 +66,9 @@ pub(crate) fn with_all_rules<R: Files + AllocGlobal>(
     rt: &R,
     here: &str,
     mut options: Options,
-) -> Result<(Options, RulePlaces), Failure> {
+) -> Result<(Options, RulePlaces), Failure>
+    ensures { IfOk result (λ all. (all.0.mode ≡ options.mode) × (all.0.json ≡ options.json) × (all.0.color ≡ options.color)) }
+{
     let alloc = rt.alloc();
     let mut places = RulePlaces {
         among_words: options.rules.len(),

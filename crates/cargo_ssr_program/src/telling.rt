@@ -1,4 +1,6 @@
 //! What is told of matches and of a search.
+ghost use Rattle.std.specs.Prelude.{◌≡◌};
+ghost use Rattle.cargo_ssr_program.specs.Planned.{is_colored};
 
 use crate::failure::Failure;
 use crate::input::Input;
@@ -11,7 +13,9 @@ use ssr_syntax_kinds::TextRange;
 use std::alloc::{AllocError, Global};
 
 /// Whether a diff is shown in colours.
-pub(crate) fn is_colored(color: Color, terminal: bool) -> bool {
+pub(crate) fn is_colored(color: Color, terminal: bool) -> bool
+    ensures { result ≡ is_colored color terminal }
+{
     match color {
         Color::Auto => terminal,
         Color::Always => true,
