@@ -11,7 +11,8 @@ use ssr_base::{FileId, FilePosition, FileRange, Workspace};
 use ssr_changes::{Searchable, Unread};
 use ssr_facts::{Facts, FactsError, TableSemantics, read};
 use ssr_package::{
-    ModuleTree, PackageError, PackageFiles, find_manifest, given_files, package_files, path_in,
+    ModuleTree, Note, PackageError, PackageFiles, find_manifest, given_files, package_files,
+    path_in,
 };
 use ssr_searching::Unresolved;
 use ssr_streams::Sink;
