@@ -269,7 +269,7 @@ def what_lies_below_target_is_passed_over(program):
     with Package({"target/one.rs": "fn f() { a.unwrap(); }\n"}) as package:
         for path in ["target", "target/one.rs"]:
             status, out, told = package.run(program, RULE, "--", path)
-            yield (status, out) == (0, "") and path + ": below target" in told
+            yield (status, out) == (3, "") and path + ": below target" in told and told.endswith("error: no file was searched\n")
 
 
 @example
