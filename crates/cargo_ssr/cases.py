@@ -9,6 +9,7 @@ The last line is 'N passed, M failed'.
 
 import json
 import os
+import pty
 import shutil
 import subprocess
 import sys
@@ -268,7 +269,7 @@ def what_lies_below_target_is_passed_over(program):
     with Package({"target/one.rs": "fn f() { a.unwrap(); }\n"}) as package:
         for path in ["target", "target/one.rs"]:
             status, out, told = package.run(program, RULE, "--", path)
-            yield (status, out) == (0, "") and path + ": below target" in told
+            yield (status, out) == (3, "") and path + ": below target" in told and told.endswith("error: no file was searched\n")
 
 
 @example
@@ -305,13 +306,54 @@ def files_that_cannot_be_read_are_told(program):
         yield told.endswith("1 match in 1 file: 1 edit; 1 file left out\n")
 
 
+# A text that isn't read, and what is reported of it behind its name.
+LEFT_OUT = [
+    ("fn f( {\n", ":1:7: left out: { is not closed"),
+    ("fn f() {}\n  }\n", ":2:3: left out: } closes nothing"),
+    ("fn f() { g([1) }\n", ":1:12: left out: [ is not closed"),
+    ("fn f() { \"a }\n", ": left out: a string that is not closed, at byte 9"),
+    ("fn f() {\n<<<<<<< ours\n    g(\n=======\n>>>>>>> theirs\n", ":2:1: left out: a merge conflict"),
+]
+
+
 @example
-def what_cannot_be_read_again_is_not_written(program):
-    # the new text is nested too deeply
-    text = f"fn f() {{ {'(' * 1000}a.unwrap(){')' * 1000} }}\n"
-    with Package({"one.rs": text}) as package:
-        status, _, told = package.run(program, f"$a.unwrap() ==>> {'!' * 30}$a", "--write", "--", "one.rs")
-        yield status == 3 and "one.rs" in told and len(told.splitlines()) == 1 and package.read("one.rs") == text
+def a_file_that_is_left_out_is_told_with_the_place(program):
+    for text, told in LEFT_OUT:
+        with Package({"bad.rs": text, "good.rs": "fn f() {}\n"}) as package:
+            yield package.run(program, RULE, "--", "bad.rs", "good.rs") == (0, "", f"bad.rs{told}\n0 matches; 1 file left out\n")
+
+
+# A text, a rule, the place of the match with which the text can't be read, and the text with the others replaced.
+ARMS = 'fn f() { match x { "a" => b("c"), _ => d } }\n'
+CONDITIONS = "fn f() { if a { b } if let C = d { e } }\n"
+DEEP = f"fn f() {{ a.unwrap(); {'(' * 1000}b.unwrap(){')' * 1000} }}\n"
+UNREAD = [
+    (ARMS, "${s:kind(literal)} ==>> $s.to_owned()", "1:20", ARMS.replace('b("c")', 'b("c".to_owned())')),
+    (CONDITIONS, "if $c { $b } ==>> if ($c) { $b }", "1:21", CONDITIONS.replace("if a {", "if (a) {")),
+    (DEEP, f"$a.unwrap() ==>> {'!' * 30}$a", "1:1022", DEEP.replace("a.unwrap()", "!" * 30 + "a")),
+]
+
+
+@example
+def what_cannot_be_read_again_is_told_alone(program):
+    for text, rule, place, new in UNREAD:
+        with Package({"one.rs": text}) as package:
+            told_alone = f"one.rs:{place}: left as it is: the file can't be read with it\n"
+            status, out, _ = package.run(program, "--json", rule, "--", "one.rs")
+            shown = [(f"{line['line']}:{line['column']}", line["new"]) for line in map(json.loads, out.splitlines()[:-1])]
+            yield status == 0 and [at for at, new_text in shown if new_text is None] == [place]
+            yield json.loads(out.splitlines()[-1])["summary"] == {"files": 1, "matches": 2, "edits": 1, "set_aside": 0, "unread": 1, "left_out": 0}
+            status, _, told = package.run(program, "--check", rule, "--", "one.rs")
+            yield status == 1 and told.startswith(told_alone) and told.endswith("2 matches in 1 file: 1 edit; 1 left as it is\n")
+            yield package.run(program, "-q", "--write", rule, "--", "one.rs") == (0, "", told_alone) and package.read("one.rs") == new
+
+
+@example
+def a_run_without_a_file_fails(program):
+    with Package({"bad.rs": "fn f( {\n"}) as package:
+        for words in [[RULE], [RULE, "--check"], [RULE, "--write"], [RULE, "--json"], ["--search", "$a.unwrap()"]]:
+            status, out, told = package.run(program, *words, "--", "bad.rs")
+            yield (status, out) == (3, "") and told.splitlines()[-1] == "error: no file was searched" and len(told.splitlines()) == 2
 
 
 @example
@@ -321,6 +363,63 @@ def rules_are_refused(program):
         for rule in ["no rule", "$a ==>> $b"]:
             status, out, told = package.run(program, rule, "--write")
             yield (status, out) == (3, "") and len(told.splitlines()) == 1 and package.texts() == before
+
+
+@example
+def refused_rules_are_named_by_where_they_stand(program):
+    rules = "$a.len() == 0 ==>> $a.is_empty()\n\n# $a\n\n$b ==> c\n"
+    why = "Cannot find delimiter `==>>`\n"
+    with Package({"one.rs": "fn f() {}\n", "bad.rules": rules, "good.rules": "\n# one\n\n$a.b()\n# two\n==>> $a\n"}) as package:
+        yield package.run(program, RULE, "no rule", "--", "one.rs") == (3, "", f"error: rule 1: {why}")
+        yield package.run(program, RULE, "--rules", "bad.rules", "--", "one.rs") == (3, "", f"error: bad.rules:5: {why}")
+        yield package.run(program, "$b ==> c", "--rules", "bad.rules", "--", "one.rs") == (3, "", f"error: rule 0: {why}")
+        yield package.run(program, "-q", "--rules", "good.rules", "--", "one.rs") == (0, "", "")
+        yield package.run(program, "--search", "$a", "--search", "$ a", "--", "one.rs")[2].startswith("error: pattern 1: Placeholders should")
+        unknown = "names need --facts FILE\n"
+        yield package.run(program, "f($a) ==>> $a", "--", "one.rs") == (3, "", f"error: rule 0: Failed to resolve path `f`: {unknown}")
+        yield package.run(program, "F::<$t>::f() ==>> $t", "--", "one.rs") == (3, "", f"error: rule 0: Failed to resolve path `F::<$t>`: {unknown}")
+
+
+@example
+def names_are_quoted_as_git_quotes_them(program):
+    name, quoted = "src/a\t\"b\\\x01 é.rs", r"src/a\t\"b\\\001 é.rs"
+    with Package({name: "fn f() { a.unwrap(); }\nasync fn g() { b.await.unwrap(); }\n"}) as package:
+        _, diff, told = package.run(program, "-q", RULE, "--", "src")
+        yield diff.startswith(f'--- "a/{quoted}"\t\n+++ "b/{quoted}"\t\n')
+        yield told == f'"{quoted}":2:16: left as it is: it holds what is set aside\n'
+        out = package.run(program, "-q", "--search", "$a.unwrap()", "--", "src")[1]
+        yield out.splitlines()[0] == f'"{quoted}":1:10: a.unwrap()'
+        applied = subprocess.run(["git", "apply", "-"], input=diff.encode(), cwd=package.folder)
+        yield applied.returncode == 0 and 'a.expect("set")' in package.read(name)
+
+
+@example
+def self_needs_a_method(program):
+    text = "impl A {\n    fn f(&self) { self.b.unwrap(); }\n    fn g(&self) { self.b.unwrap(); }\n}\n"
+    why = "self matches only with --in FILE:LINE, inside of a method\n"
+    rule = "self.$b.unwrap() ==>> self.$b?"
+    with Package({"one.rs": text, "rules": f"# self\n{rule}\n"}) as package:
+        yield package.run(program, "-q", rule, "--", "one.rs") == (0, "", f"rule 0: {why}")
+        yield package.run(program, "-q", "--rules", "rules", "--", "one.rs") == (0, "", f"rules:2: {why}")
+        yield package.run(program, "-q", "--search", "$a", "--search", "self.$b", "--", "one.rs")[2] == f"pattern 1: {why}"
+        yield package.run(program, "-q", rule, "--write", "--in", "one.rs:2:19", "--", "one.rs") == (0, "", "")
+        yield package.read("one.rs") == text.replace(".unwrap()", "?", 1)
+
+
+@example
+def a_reason_is_shown_once(program):
+    with Package({"one.rs": "fn f() { match x { _ => a.b() } }\n"}) as package:
+        _, out, _ = package.run(program, "--debug", "a.b()", "$a.c() ==>> $a", "--", "one.rs")
+        yield len(out.splitlines()) == len(set(out.splitlines())) > 0
+
+
+@example
+def a_name_that_is_not_known_is_told_as_such(program):
+    text = "fn foo() {} fn main() { foo(1) }"
+    facts = {"files": [{"name": "a.rs", "text": text}], "defs": [{"kind": "function"}], "scopes": [[0, 0, len(text)]], "names": [[0, ["foo"], ["def", 0]]]}
+    with Package({"facts.json": json.dumps(facts)}) as package:
+        status, out, _ = package.run(program, "--facts", "facts.json", "--debug", "foo(1)", "foo($a) ==>> $a")
+        yield (status, out) == (0, "a.rs:1:25: rule 0: no name known for `foo`\n")
 
 
 @example
@@ -424,6 +523,26 @@ def facts_are_read(program):
         yield status == 3 and "link/b.rs" in told and other.read("b.rs") == text
 
 
+# Malformed facts, and where they are so.
+MALFORMED = [
+    ({"members": [[0, 3, "new", 4], [0, 3, "new"]]}, "row 1 of members"),
+    ({"files": [{"name": "a.rs", "text": ""}], "defs": [{"kind": "function", "colour": 1}]}, "row 0 of defs"),
+    ({"position": [0]}, "key position"),
+    ({"colours": [1]}, "key colours"),
+    ({"scopes": 1}, "key scopes"),
+    ([], "no object"),
+    ({"files": [{"name": "a.rs", "text": ""}], "scopes": [[7, 0, 0]]}, "a number names nothing, or a row no node"),
+]
+
+
+@example
+def malformed_facts_are_told_with_their_place(program):
+    for facts, where in MALFORMED:
+        with Package({"facts.json": json.dumps(facts)}) as package:
+            told = package.run(program, RULE, "--facts", "facts.json")
+            yield told == (3, "", f"error: facts.json: wrong shape: {where}\n")
+
+
 @example
 def names_are_looked_up_at_a_place(program):
     with Package() as package:
@@ -432,9 +551,24 @@ def names_are_looked_up_at_a_place(program):
         yield status == 3 and "src/none.rs:1:1" in told
 
 
+def on_a_terminal(package, program, *words, **variables):
+    """What comes on standard output where that is a terminal."""
+    ours, its = pty.openpty()
+    environment = {name: value for name, value in os.environ.items() if name != "NO_COLOR"}
+    subprocess.run([program, "ssr", *words], cwd=package.folder, stdin=subprocess.DEVNULL, stdout=its, stderr=subprocess.DEVNULL, env={**environment, **variables}, timeout=120)
+    os.close(its)
+    text = os.read(ours, 1 << 16).decode()
+    os.close(ours)
+    return text
+
+
 @example
 def colours_are_asked_for(program):
     with Package() as package:
+        yield "\x1b[32m+" in on_a_terminal(package, program, RULE)
+        yield "\x1b[32m+" in on_a_terminal(package, program, RULE, NO_COLOR="")
+        yield "\x1b" not in on_a_terminal(package, program, RULE, NO_COLOR="1")
+        yield "\x1b[32m+" in on_a_terminal(package, program, "--color", "always", RULE, NO_COLOR="1")
         plain, colored = package.run(program, RULE)[1], package.run(program, RULE, "--color", "always")[1]
         yield "\x1b[32m+" in colored and "\x1b" not in plain
         yield package.run(program, RULE, "--color", "never")[1] == plain

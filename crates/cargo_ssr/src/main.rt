@@ -2,14 +2,24 @@
 #![tactic(auto)]
 
 use cargo_ssr_program::{Console, run};
+use ssr_streams::CountedSink;
+use ssr_writing::OnDisk;
+use std::env::VarError;
 use std::io::{IsTerminal, Write};
 use std::process::ExitCode;
 use std::{env, io};
 
 fn main(rt: HostRuntime) -> ExitCode {
-    let mut console = Console::new(rt.stdout(), rt.stderr(), rt.stdout().is_terminal());
+    let has_colors = rt.stdout().is_terminal() && !is_color_unwanted(&rt);
+    let mut console = Console::new(CountedSink::new(rt.stdout()), rt.stderr(), has_colors);
     let status = match (words(&rt), env::current_dir(&rt)) {
-        (Some(words), Ok(here)) => run(&rt, here.as_str(), &words, &mut console),
+        (Some(words), Ok(here)) => run(
+            &rt,
+            &mut OnDisk::new(&rt),
+            here.as_str(),
+            &words,
+            &mut console,
+        ),
         _ => {
             let _ = rt.stderr().write_all(
                 b"error: the words or the current folder can't be read as UTF-8\n",
@@ -18,6 +28,15 @@ fn main(rt: HostRuntime) -> ExitCode {
         }
     };
     ExitCode::from(status)
+}
+
+/// Whether the variable `NO_COLOR` is set and not empty.
+fn is_color_unwanted(rt: &HostRuntime) -> bool {
+    match env::var(rt, "NO_COLOR") {
+        Ok(value) => !value.is_empty(),
+        Err(VarError::NotPresent) => false,
+        Err(_) => true,
+    }
 }
 
 /// The words of the command, if they can be read.

@@ -1,2 +1,3 @@
 mod Colons
 mod Paragraphs
+mod Together

@@ -1,6 +1,7 @@
 //! The command's words, by the parser of command lines.
-ghost use Rattle.std.specs.Prelude.{◌≡◌, IfOk, option_map, string_bytes};
+ghost use Rattle.std.specs.Prelude.{◌≡◌, Some, IfOk, codes, map, option_map, string_bytes};
 ghost use Rattle.clap.specs.Words.{first_value, found_of};
+ghost use Rattle.cargo_ssr_options.specs.Command.{AreOptionsOf, IsGiven, IsPlaceIn, color_or_auto, is_set, own_words, texts_in, values_of};
 
 use crate::given::{Given, Mismatch};
 use crate::options::{Color, Options};
@@ -17,7 +18,9 @@ Status: 0 done; 1 something would change, with --check; 2 wrong words; 3 a refus
 
 /// What the words of the command say, the first of which is the program's name. The error is what is told in its place: of
 /// wrong words, or the help or version that is asked for.
-pub fn read_options(alloc: Global, words: &[String]) -> Result<Options, Error> {
+pub fn read_options(alloc: Global, words: &[String]) -> Result<Options, Error>
+    ensures { IfOk result (AreOptionsOf (map string_bytes words.now)) }
+{
     let matches = command(alloc)?.try_get_matches_from(own_words(words))?;
     let place = match place_in(alloc, &matches)? {
         Ok(place) => place,
@@ -33,7 +36,9 @@ pub fn read_options(alloc: Global, words: &[String]) -> Result<Options, Error> {
 }
 
 /// The words without the name of the command that cargo puts in front.
-fn own_words(words: &[String]) -> &[String] {
+fn own_words(words: &[String]) -> &[String]
+    ensures { map string_bytes result.now ≡ own_words (map string_bytes words.now) }
+{
     match words.split_first() {
         Some((_, others)) => match others.first() {
             Some(first) if first.as_str() == "ssr" => others,
@@ -174,17 +179,20 @@ fn given(
     matches: &ArgMatches<'_>,
     place: Option<Place>,
     color: Color,
-) -> Result<Given, AllocError> {
+) -> Result<Given, AllocError>
+    ensures { IfOk result (λ given. IsPlaceIn (first_value (found_of matches.now) (codes "in")) place
+        → Some color ≡ color_or_auto (first_value (found_of matches.now) (codes "color")) → IsGiven (found_of matches.now) given) }
+{
     Ok(Given {
         rules: texts(alloc, matches, "rule")?,
         rules_file: text(alloc, matches, "rules")?,
         patterns: texts(alloc, matches, "search")?,
         snippet: text(alloc, matches, "debug")?,
-        write: matches.get_flag("write"),
-        check: matches.get_flag("check"),
-        json: matches.get_flag("json"),
-        no_macros: matches.get_flag("no-macros"),
-        quiet: matches.get_flag("quiet"),
+        write: is_set(matches, "write"),
+        check: is_set(matches, "check"),
+        json: is_set(matches, "json"),
+        no_macros: is_set(matches, "no-macros"),
+        quiet: is_set(matches, "quiet"),
         color,
         place,
         paths: texts(alloc, matches, "path")?,
@@ -195,7 +203,9 @@ fn given(
 }
 
 /// When diffs are shown in colours, if that is told in one of its words or not at all.
-fn color_in(matches: &ArgMatches<'_>) -> Option<Color> {
+fn color_in(matches: &ArgMatches<'_>) -> Option<Color>
+    ensures { result ≡ color_or_auto (first_value (found_of matches.now) (codes "color")) }
+{
     match matches.get_str("color") {
         None | Some("auto") => Some(Color::Auto),
         Some("always") => Some(Color::Always),
@@ -208,13 +218,25 @@ fn color_in(matches: &ArgMatches<'_>) -> Option<Color> {
 fn place_in(
     alloc: Global,
     matches: &ArgMatches<'_>,
-) -> Result<Result<Option<Place>, &'static str>, AllocError> {
+) -> Result<Result<Option<Place>, &'static str>, AllocError>
+    ensures { IfOk result (λ told. IfOk told (IsPlaceIn (first_value (found_of matches.now) (codes "in")))) }
+{
     let Some(text) = matches.get_str("in") else {
         return Ok(Ok(None));
     };
     match read_place(alloc, text)? {
         Some(place) => Ok(Ok(Some(place))),
         None => Ok(Err("--in takes FILE:LINE or FILE:LINE:COL")),
+    }
+}
+
+/// Whether a flag is given.
+fn is_set(matches: &ArgMatches<'_>, name: &str) -> bool
+    ensures { result ≡ is_set (found_of matches.now) name.now }
+{
+    match matches.get_str(name) {
+        Some(text) => text == "true",
+        None => false,
     }
 }
 
@@ -229,12 +251,15 @@ fn text(alloc: Global, matches: &ArgMatches<'_>, name: &str) -> Result<Option<St
 }
 
 /// The values of an argument.
-fn texts(alloc: Global, matches: &ArgMatches<'_>, name: &str) -> Result<Vec<String>, AllocError> {
+fn texts(alloc: Global, matches: &ArgMatches<'_>, name: &str) -> Result<Vec<String>, AllocError>
+    ensures { IfOk result (λ texts. texts_in texts ≡ values_of (found_of matches.now) name.now) }
+{
     let mut texts = Vec::new(alloc);
-    if let Some(given) = matches.get_strs(name) {
-        for text in given {
-            texts.push(String::from_str(alloc, text)?)?;
-        }
+    let Some(given) = matches.get_strs(name) else {
+        return Ok(texts);
+    };
+    for text in given {
+        texts.push(String::from_str(alloc, text)?)?;
     }
     Ok(texts)
 }

@@ -12,4 +12,4 @@ pub use command::read_options;
 pub use given::{Given, Mismatch};
 pub use options::{Chosen, Color, Mode, Options};
 pub use place::{Place, read_place};
-pub use rules_file::rules_of;
+pub use rules_file::{rule_lines, rules_of};

@@ -16,6 +16,23 @@ pub fn rules_of(alloc: Global, text: &str) -> Result<Vec<String>, AllocError>
     paragraphs(alloc, &lines)
 }
 
+/// The numbers of the lines, from 1, on which the rules of a text begin.
+pub fn rule_lines(alloc: Global, text: &str) -> Result<Vec<usize>, AllocError> {
+    let mut numbers = Vec::new(alloc);
+    let mut is_in_rule = false;
+    for (index, line) in text.lines().enumerate() {
+        if is_comment(line) {
+            continue;
+        }
+        let is_blank = is_blank(line);
+        if !is_blank && !is_in_rule {
+            numbers.push(index + 1)?;
+        }
+        is_in_rule = !is_blank;
+    }
+    Ok(numbers)
+}
+
 /// The lines of a text.
 fn lines_of(alloc: Global, text: &str) -> Result<Vec<&str>, AllocError>
     ensures { IfOk result (λ found. map (λ line. line.now) found.items ≡ lines text.now) }

@@ -1,12 +1,15 @@
--- Files in which changes are made.
-use Rattle.std.proofs.Common.{ℕ, ◌≡◌, ◌<◌, List, length, All, Option, Some, None, slice_get, get_or, refl, subst}
-use Rattle.std.specs.Option.{IsSomeAnd, option_map}
+-- Files in which changes are made, and which are planned.
+use Rattle.std.proofs.Common.{ℕ, ◌≡◌, ◌+◌, ◌<◌, List, [], ◌∷◌, ◌++◌, length, map, take, All, Option, Some, None, slice_get, get_or, refl, sym, ap, ◌∙◌, arith, string_bytes}
+use Rattle.std.specs.Option.{IsSomeAnd, option_map, option_map_or}
+use Rattle.std.proofs.lemmas.List.{get_or-map, length-map, map-append, take_more}
 use Rattle.std.proofs.lemmas.List.Elements.{All-get_or}
 use Rattle.std.proofs.lemmas.Option.{slice_get_within}
-use Rattle.ssr_base_trees.specs.Changes.{Change, FitsText, replaced}
+use Rattle.ssr_base_trees.specs.Changes.{FitsText}
 use Rattle.ssr_changes.specs.Changing.{FitsIn}
 use Rattle.ssr_changes.specs.Files.{File}
+use Rattle.ssr_changes.specs.Planning.{HasDiff}
 use Rattle.ssr_changes.specs.declared.changing.FileChange.{FileChange}
+use Rattle.ssr_changes.specs.declared.planning.Planned.{Planned}
 use Rattle.ssr_diff.specs.Patch.{IsDiff}
 
 within_if_some : {X : Type 0} (P : X → Type 0) (xs : List X) (n : ℕ) (o : Option X) → slice_get xs n ≡ o → IsSomeAnd o P → n < length xs
@@ -17,25 +20,32 @@ within_if_some P xs n None e h = absurd h
 pub is_there : (files : List File) (c : FileChange) → FitsIn files c → c.file < length files
 is_there files c h = within_if_some (λ file. All (FitsText file.text) c.edit) files c.file (slice_get files c.file) refl h
 
-pub each_is_there : (files : List File) (made : List FileChange) (i : ℕ) (d : FileChange) → i < length made → All (FitsIn files) made → (get_or made i d).file < length files
-each_is_there files made i d lt h = is_there files (get_or made i d) (All-get_or (FitsIn files) made i d lt h)
-
 pub each_fits : (files : List File) (made : List FileChange) (i : ℕ) (d : FileChange) → i < length made → All (FitsIn files) made → FitsIn files (get_or made i d)
 each_fits files made i d lt h = All-get_or (FitsIn files) made i d lt h
 
-fits_if_some : (o : Option File) (text : List ℕ) (edit : List Change) → IsSomeAnd o (λ file. All (FitsText file.text) edit) → option_map (λ file. file.text) o ≡ Some text → All (FitsText text) edit
-fits_if_some (Some file) text edit h e = let same : file.text ≡ text = cc in subst (λ t. All (FitsText t) edit) same h
-fits_if_some None text edit h e = absurd h
+-- a file that is planned is there
+planned_there : (files : List File) (p : Planned) → HasDiff files p → p.file < length files
+planned_there files p h = within_if_some (λ file. IsDiff file.name file.text p.new.now (string_bytes p.diff)) files p.file (slice_get files p.file) refl h
 
--- they fit the file's text
-pub fits_text : (files : List File) (c : FileChange) (text : List ℕ) → FitsIn files c → option_map (λ file. file.text) (slice_get files c.file) ≡ Some text → All (FitsText text) c.edit
-fits_text files c text h e = fits_if_some (slice_get files c.file) text c.edit h e
+pub each_is_there : (files : List File) (plan : List Planned) (i : ℕ) (d : Planned) → i < length plan → All (HasDiff files) plan → (get_or plan i d).file < length files
+each_is_there files plan i d lt h = planned_there files (get_or plan i d) (All-get_or (HasDiff files) plan i d lt h)
 
--- a diff of a file's text under its name
-pub diff_there : (o : Option File) (name text diff : List ℕ) (edit : List Change) → option_map (λ file. file.name) o ≡ Some name → option_map (λ file. file.text) o ≡ Some text
-    → IsDiff name text (replaced text 0 (length text) edit) diff → IsSomeAnd o (λ file. IsDiff file.name file.text (replaced file.text 0 (length file.text) edit) diff)
-diff_there (Some file) name text diff edit n t h =
-    let named : name ≡ file.name = cc in
-    let same : text ≡ file.text = cc in
-    subst (λ s. IsDiff file.name s (replaced s 0 (length s) edit) diff) same (subst (λ s. IsDiff s text (replaced text 0 (length text) edit) diff) named h)
-diff_there None name text diff edit n t h = let none : ⊥ = cc in absurd none
+-- a part of a file that is there
+pub part_there : (o : Option File) (part : File → List ℕ) (text : List ℕ) → option_map part o ≡ Some text → option_map_or part o [] ≡ text
+part_there (Some file) part text e = cc
+part_there None part text e = let none : ⊥ = cc in absurd none
+
+-- one item more on both sides
+pub map_more : {A B C : Type 0} (f : A → C) (g : B → C) (xs : List B) (ys : List A) (i : ℕ) (d : B) (y : A) → i < length xs
+    → map f ys ≡ map g (take i xs) → f y ≡ g (get_or xs i d) → map f (ys ++ y ∷ []) ≡ map g (take (i + 1) xs)
+map_more f g xs ys i d y within so_far same =
+    map-append f ys (y ∷ []) ∙ ap (λ front. front ++ f y ∷ []) so_far ∙ ap (λ last. map g (take i xs) ++ last ∷ []) same
+    ∙ sym (ap (map g) (take_more xs i d within) ∙ map-append g (take i xs) (get_or xs i d ∷ []))
+
+-- an item that both lists have
+pub at_both : {A B C : Type 0} (f : A → C) (g : B → C) (xs : List A) (ys : List B) (i : ℕ) (d : A) (e : B) → map f xs ≡ map g ys → i < length ys
+    → f (get_or xs i d) ≡ g (get_or ys i e)
+at_both f g xs ys i d e same within =
+    let long : length (map f xs) ≡ length (map g ys) = ap length same in
+    let inside : i < length xs = omega (arith, long, length-map xs f, length-map ys g) in
+    sym (get_or-map f xs i d (f d) inside) ∙ ap (λ all. get_or all i (f d)) same ∙ get_or-map g ys i e (f d) within

@@ -1,1 +1,4 @@
+pub mod Planned
+pub mod Private
+pub mod Running
 pub mod Status

@@ -15,14 +15,17 @@ pub(crate) fn counts_of_changes(changes: &[FileChange], left_out: usize) -> Summ
         matches: 0,
         edits: 0,
         set_aside: 0,
+        unread: 0,
         left_out,
     };
     for change in changes {
         let edits = edit_count(change);
         counts.edits = counts.edits.saturating_add(edits);
         counts.set_aside = counts.set_aside.saturating_add(change.told.len());
+        counts.unread = counts.unread.saturating_add(change.unread.len());
     }
-    counts.matches = counts.edits.saturating_add(counts.set_aside);
+    let left = counts.set_aside.saturating_add(counts.unread);
+    counts.matches = counts.edits.saturating_add(left);
     counts
 }
 
@@ -42,6 +45,7 @@ pub(crate) fn counts_of_places(places: &[FoundPlace], left_out: usize) -> Summar
         matches: places.len(),
         edits: 0,
         set_aside: places.iter().filter(|place| place.holds_aside).count(),
+        unread: 0,
         left_out,
     }
 }

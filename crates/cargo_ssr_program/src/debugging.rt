@@ -7,12 +7,13 @@ use crate::telling::search_failure;
 use cargo_ssr_options::Options;
 use ssr_base::{FileRange, Semantics};
 use ssr_changes::{DebugEntry, Searchable, debug};
-use ssr_reports::{LinePlace, Places};
+use ssr_reports::{Places, place_words};
+use ssr_streams::Sink;
 use std::alloc::{AllocError, Global};
 use std::io::Write;
 
 /// Tells of each rule that asks for a node that the snippet shows whether it matches there, and why not.
-pub(crate) fn show_debug<W: Write, E: Write, S: Semantics>(
+pub(crate) fn show_debug<W: Sink, E: Write, S: Semantics>(
     alloc: Global,
     input: &Input<S>,
     snippet: &str,
@@ -30,14 +31,20 @@ pub(crate) fn show_debug<W: Write, E: Write, S: Semantics>(
     );
     let entries = match told {
         Ok(entries) => entries,
-        Err(error) => return Err(search_failure(alloc, files, error)?),
+        Err(error) => return Err(search_failure(alloc, input, options, error)?),
     };
     if entries.is_empty() && !options.quiet {
         console.tell("no rule asks for what the text shows");
     }
     let mut places = FilePlaces::new(files);
+    let mut last = String::new(alloc);
     for entry in &entries {
-        console.show(entry_line(alloc, &mut places, entry)?.as_str())?;
+        let line = entry_line(alloc, &mut places, entry)?;
+        // two kinds of a rule have one number, and often one reason
+        if line.as_str() != last.as_str() {
+            console.show(line.as_str())?;
+            last = line;
+        }
     }
     Ok(())
 }
@@ -71,8 +78,8 @@ impl<'a> FilePlaces<'a> {
             self.file = Some(file);
             self.places = Places::new(files.text(file));
         }
-        let LinePlace { line, column } = self.places.place(range.range.start as usize);
-        format!(in alloc; "{}:{line}:{column}", files.name(file))
+        let place = self.places.place(range.range.start as usize);
+        place_words(alloc, files.name(file), place)
     }
 }
 
@@ -88,11 +95,18 @@ fn entry_line(
     };
     let rule = entry.rule;
     match &entry.reason {
-        // a placeholder as the rule spells it
         Some(reason) => {
-            let reason = reason.replace(alloc, "__placeholder_", "$")?;
+            let reason = reason_words(alloc, reason.as_str())?;
             format!(in alloc; "{place}: rule {rule}: {reason}\n")
         }
         None => format!(in alloc; "{place}: rule {rule}: matches\n"),
+    }
+}
+
+/// Why a rule doesn't match, with its placeholders as it spells them. That the code's name isn't known is said as such.
+fn reason_words(alloc: Global, reason: &str) -> Result<String, AllocError> {
+    match reason.strip_prefix("Failed to resolve path") {
+        Some(path) => format!(in alloc; "no name known for{path}"),
+        None => reason.replace(alloc, "__placeholder_", "$"),
     }
 }

@@ -7,6 +7,8 @@ use std::alloc::{AllocError, AllocFailed};
 pub(crate) enum Failure {
     /// For this reason.
     Told(String),
+    /// A rule is refused, by its number among all rules, for this reason.
+    Rule(usize, String),
     /// Standard output takes no more.
     Output,
     /// Nobody reads standard output any more.
@@ -19,7 +21,7 @@ impl Failure {
     /// What is told of it.
     pub(crate) fn words(&self) -> &str {
         match self {
-            Failure::Told(words) => words.as_str(),
+            Failure::Told(words) | Failure::Rule(_, words) => words.as_str(),
             Failure::Output => "standard output can't be written",
             Failure::Closed => "nobody reads standard output any more",
             Failure::Memory => "out of memory",

@@ -1,5 +1,6 @@
 //! Matches that are listed.
 ghost use Rattle.std.specs.Prelude.{◌≤◌, length};
+ghost use Rattle.cargo_ssr_program.specs.Private.Telling.{TellsOnly};
 
 use crate::console::Console;
 use crate::counting::counts_of_places;
@@ -13,12 +14,13 @@ use ssr_reports::{
     Held, LinePlace, MatchReport, Places, Summary, match_json, place_line, summary_json,
     summary_line,
 };
+use ssr_streams::Sink;
 use ssr_syntax_kinds::TextRange;
 use std::alloc::{AllocError, Global};
 use std::io::Write;
 
 /// Lists what matches patterns.
-pub(crate) fn search<W: Write, E: Write, S: Semantics>(
+pub(crate) fn search<W: Sink, E: Write, S: Semantics>(
     alloc: Global,
     input: &Input<S>,
     patterns: &[String],
@@ -35,7 +37,7 @@ pub(crate) fn search<W: Write, E: Write, S: Semantics>(
     );
     let mut places = match found {
         Ok(places) => places,
-        Err(error) => return Err(search_failure(alloc, &input.files, error)?),
+        Err(error) => return Err(search_failure(alloc, input, options, error)?),
     };
     // of nested matches the inner ones come first
     places.sort_by_key(place_key)?;
@@ -60,12 +62,14 @@ fn place_key(found: &FoundPlace) -> (u32, u32, u32) {
 }
 
 /// Tells the summary, unless it isn't wanted.
-pub(crate) fn tell_summary<W: Write, E: Write>(
+pub(crate) fn tell_summary<W: Sink, E: Write>(
     alloc: Global,
     counts: Summary,
     options: &Options,
     console: &mut Console<W, E>,
-) -> Result<(), Failure> {
+) -> Result<(), Failure>
+    ensures { TellsOnly console.old console.new }
+{
     if !options.quiet {
         let line = summary_line(alloc, counts)?;
         console.tell(line.as_str().trim_end());
@@ -74,7 +78,7 @@ pub(crate) fn tell_summary<W: Write, E: Write>(
 }
 
 /// Shows matches as lines of JSON, and the counts.
-pub(crate) fn show_json<W: Write, E: Write>(
+pub(crate) fn show_json<W: Sink, E: Write>(
     alloc: Global,
     listed: &Listed<'_>,
     counts: Summary,

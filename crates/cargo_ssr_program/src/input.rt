@@ -1,17 +1,21 @@
 //! What a run searches.
+ghost use Rattle.cargo_ssr_program.specs.Private.Telling.{TellsOnly};
 
 use crate::console::Console;
 use crate::failure::Failure;
+use crate::left_out::left_out_words;
+use crate::malformed::malformed_words;
 use crate::positions::position_at;
 use cargo_ssr_options::{Chosen, Options, Place};
 use ssr_base::{FileId, FilePosition, FileRange, Workspace};
 use ssr_changes::{Searchable, Unread};
-use ssr_facts::{Facts, TableSemantics, read};
+use ssr_facts::{Facts, FactsError, TableSemantics, read};
 use ssr_package::{
-    ModuleTree, PackageError, PackageFiles, find_manifest, given_files, package_files, path_in,
+    ModuleTree, Note, PackageError, PackageFiles, find_manifest, given_files, package_files,
+    path_in,
 };
 use ssr_searching::Unresolved;
-use ssr_syntax::SyntaxError;
+use ssr_streams::Sink;
 use std::alloc::{AllocError, Global};
 use std::fs;
 use std::io::Write;
@@ -46,12 +50,14 @@ const BEGINNING: FilePosition = FilePosition {
 };
 
 /// The files of a package, or of paths. What is left out of them is told.
-pub(crate) fn of_files<R: Files + AllocGlobal, W: Write, E: Write>(
+pub(crate) fn of_files<R: Files + AllocGlobal, W: Sink, E: Write>(
     rt: &R,
     here: &str,
     options: &Options,
     console: &mut Console<W, E>,
-) -> Result<Input<Unresolved>, Failure> {
+) -> Result<Input<Unresolved>, Failure>
+    ensures { TellsOnly console.old console.new }
+{
     let alloc = rt.alloc();
     let PackageFiles {
         folder,
@@ -59,13 +65,9 @@ pub(crate) fn of_files<R: Files + AllocGlobal, W: Write, E: Write>(
         modules: _,
         notes,
     } = chosen_files(rt, here, &options.files)?;
-    for note in &notes {
-        console.tell(note.to_string(alloc)?.as_str());
-    }
+    tell_notes(alloc, &notes, console)?;
     let (files, unread) = Searchable::of_files(alloc, files, options.macros)?;
-    for file in &unread {
-        console.tell(unread_words(alloc, file)?.as_str());
-    }
+    tell_unread(alloc, &unread, console)?;
     if files.refused_calls() > 0 {
         console.tell(refused_words(alloc, files.refused_calls())?.as_str());
     }
@@ -78,6 +80,34 @@ pub(crate) fn of_files<R: Files + AllocGlobal, W: Write, E: Write>(
         ranges: Vec::new(alloc),
         left_out: unread.len(),
     })
+}
+
+/// Tells what is to be said of a package.
+fn tell_notes<W: Sink, E: Write>(
+    alloc: Global,
+    notes: &[Note],
+    console: &mut Console<W, E>,
+) -> Result<(), AllocError>
+    ensures { TellsOnly console.old console.new }
+{
+    for note in notes {
+        console.tell(note.to_string(alloc)?.as_str());
+    }
+    Ok(())
+}
+
+/// Tells the files that are left out.
+fn tell_unread<W: Sink, E: Write>(
+    alloc: Global,
+    unread: &[Unread],
+    console: &mut Console<W, E>,
+) -> Result<(), AllocError>
+    ensures { TellsOnly console.old console.new }
+{
+    for file in unread {
+        console.tell(left_out_words(alloc, file)?.as_str());
+    }
+    Ok(())
 }
 
 /// The files that are chosen, as they stand on the disk.
@@ -143,18 +173,6 @@ fn package_failure(alloc: Global, error: &PackageError) -> Result<Failure, Alloc
     }
 }
 
-/// Tells that a file is left out.
-fn unread_words(alloc: Global, file: &Unread) -> Result<String, AllocError> {
-    let why = match file.why {
-        SyntaxError::Lex => "not tokens of the language",
-        SyntaxError::NoTree => "not read as a file",
-        SyntaxError::TooDeep => "nested too deeply",
-        SyntaxError::TooLong => "too long",
-        SyntaxError::Memory => "out of memory",
-    };
-    format!(in alloc; "{}: left out: {why}", file.name)
-}
-
 /// Tells how many calls of macros aren't searched.
 fn refused_words(alloc: Global, calls: usize) -> Result<String, AllocError> {
     if calls == 1 {
@@ -181,7 +199,7 @@ pub(crate) fn of_facts<R: Files + AllocGlobal>(
         ranges,
     } = match read(alloc, bytes.as_bytes()) {
         Ok(facts) => facts,
-        Err(error) => return Err(Failure::Told(format!(in alloc; "{path}: {error}")?)),
+        Err(error) => return Err(facts_failure(alloc, path, bytes.as_bytes(), &error)?),
     };
     let files = Searchable::of_workspace(alloc, workspace, names)?;
     let position = position_at(alloc, &files, place, position)?;
@@ -193,6 +211,24 @@ pub(crate) fn of_facts<R: Files + AllocGlobal>(
         ranges,
         left_out: 0,
     })
+}
+
+/// Why there are no facts.
+fn facts_failure(
+    alloc: Global,
+    path: &str,
+    facts: &[u8],
+    error: &FactsError,
+) -> Result<Failure, AllocError> {
+    let words = format!(in alloc; "{path}: {error}")?;
+    match error {
+        FactsError::Memory => Ok(Failure::Memory),
+        FactsError::Shape => {
+            let place = malformed_words(alloc, facts)?;
+            Ok(Failure::Told(format!(in alloc; "{words}: {place}")?))
+        }
+        _ => Ok(Failure::Told(words)),
+    }
 }
 
 /// The text of a file.

@@ -3,10 +3,9 @@
 ghost use Rattle.std.specs.Prelude.{◌<◌, IfSome, length};
 
 use crate::failure::Failure;
-use crate::naming::without_dot;
 use cargo_ssr_options::Place;
 use ssr_base::{FileId, FilePosition};
-use ssr_changes::Searchable;
+use ssr_changes::{Searchable, without_dot};
 use ssr_reports::{LinePlace, byte_at};
 use std::alloc::Global;
 

@@ -1,19 +1,22 @@
 //! The command, whatever it runs on.
-ghost use Rattle.std.specs.Prelude.{◌≡◌, ◌≤◌};
+ghost use Rattle.std.specs.Prelude.{◌≡◌, ◌≤◌, ◌⊎◌, IfOk, map, string_bytes};
+ghost use Rattle.cargo_ssr_program.specs.Planned.{Task, is_colored};
+ghost use Rattle.cargo_ssr_program.specs.Private.Tasks.{task_of};
+ghost use Rattle.cargo_ssr_program.specs.Running.{EndsWell, IsAskedToWrite, Ran};
 ghost use Rattle.cargo_ssr_program.specs.Status.{status_of};
 
 use crate::console::Console;
-use crate::counting::counts_of_changes;
 use crate::debugging::show_debug;
 use crate::failure::Failure;
-use crate::finding::{search, tell_summary};
+use crate::finding::search;
 use crate::input::{Input, of_facts, of_files};
-use crate::rewriting::rewrite;
-use crate::rules::with_all_rules;
+use crate::rewriting::{show_changes, write_changes};
+use crate::rules::{tell_self, with_all_rules};
 use cargo_ssr_options::{Chosen, Mode, Options, read_options};
 use clap::Error;
 use ssr_base::Semantics;
-use ssr_reports::summary_json;
+use ssr_streams::Sink;
+use ssr_writing::Disk;
 use std::alloc::{AllocError, Global};
 use std::io::Write;
 use std::rt::Files;
@@ -28,17 +31,19 @@ pub(crate) enum Outcome {
 
 /// Runs the command with these words, the first of which is the program's name, in the folder `here`, and answers its status: 0,
 /// or 1 if something would change and that is asked, 2 for wrong words, 3 where the run ends without what it is asked for.
-pub fn run<R: Files + AllocGlobal, W: Write, E: Write>(
+pub fn run<R: Files + AllocGlobal, D: Disk, W: Sink, E: Write>(
     rt: &R,
+    disk: &mut D,
     here: &str,
     words: &[String],
     console: &mut Console<W, E>,
 ) -> u8
-    ensures { result ≤ 3 }
+    ensures bound { result ≤ 3 }
+    ensures ran { Ran (map string_bytes words.now) console.old.terminal (record { calls = D.calls disk.old; taken = W.taken console.old.out }) (record { calls = D.calls disk.new; taken = W.taken console.new.out }) result }
 {
     match read_options(rt.alloc(), words) {
         Ok(options) => {
-            let outcome = perform(rt, here, options, console);
+            let outcome = perform(rt, disk, here, options, console);
             if let Err(failure) = &outcome {
                 console.tell_failure(failure);
             }
@@ -61,8 +66,8 @@ fn status(outcome: &Result<Outcome, Failure>) -> u8
 }
 
 /// Tells what is wrong with the words, or shows the help or version that is asked for.
-fn tell_words<W: Write, E: Write>(alloc: Global, told: &Error, console: &mut Console<W, E>) -> u8
-    ensures { result ≤ 3 }
+fn tell_words<W: Sink, E: Write>(alloc: Global, told: &Error, console: &mut Console<W, E>) -> u8
+    ensures { (result ≡ 0) ⊎ ((result ≡ 2) ⊎ (result ≡ 3)) }
 {
     let Ok(words) = told.to_string(alloc) else {
         console.tell_failure(&Failure::Memory);
@@ -78,61 +83,89 @@ fn tell_words<W: Write, E: Write>(alloc: Global, told: &Error, console: &mut Con
     }
 }
 
-/// Does what the options ask for.
-fn perform<R: Files + AllocGlobal, W: Write, E: Write>(
+/// Does what the options ask for. A rule that is refused is told by where it stands.
+fn perform<R: Files + AllocGlobal, D: Disk, W: Sink, E: Write>(
     rt: &R,
+    disk: &mut D,
     here: &str,
     options: Options,
     console: &mut Console<W, E>,
-) -> Result<Outcome, Failure> {
-    let options = with_all_rules(rt, here, options)?;
+) -> Result<Outcome, Failure>
+    ensures disk { IsAskedToWrite options.mode (D.calls disk.old) (D.calls disk.new) }
+    ensures ends { IfOk result (λ outcome. (task : Task) × EndsWell options.mode task options.json (is_colored options.color console.old.terminal) (record { calls = D.calls disk.old; taken = W.taken console.old.out }) (record { calls = D.calls disk.new; taken = W.taken console.new.out }) outcome) }
+{
+    let (options, places) = with_all_rules(rt, here, options)?;
+    tell_self(rt.alloc(), &options, &places, console)?;
+    match perform_with(rt, disk, here, &options, console) {
+        Err(Failure::Rule(rule, why)) => {
+            let rule = places.words(rt.alloc(), rule)?;
+            Err(Failure::Told(format!(in rt.alloc(); "{rule}: {why}")?))
+        }
+        outcome => outcome,
+    }
+}
+
+/// Does it with all rules.
+fn perform_with<R: Files + AllocGlobal, D: Disk, W: Sink, E: Write>(
+    rt: &R,
+    disk: &mut D,
+    here: &str,
+    options: &Options,
+    console: &mut Console<W, E>,
+) -> Result<Outcome, Failure>
+    ensures disk { IsAskedToWrite options.now.mode (D.calls disk.old) (D.calls disk.new) }
+    ensures ends { IfOk result (λ outcome. (task : Task) × EndsWell options.now.mode task options.now.json (is_colored options.now.color console.old.terminal) (record { calls = D.calls disk.old; taken = W.taken console.old.out }) (record { calls = D.calls disk.new; taken = W.taken console.new.out }) outcome) }
+{
     match &options.files {
         Chosen::Facts(path) => {
             let input = of_facts(rt, here, path.as_str(), options.place.as_ref())?;
-            act(rt, &input, &options, console)
+            act(rt, disk, &input, options, console)
         }
         _ => {
-            let input = of_files(rt, here, &options, console)?;
-            act(rt, &input, &options, console)
+            let input = of_files(rt, here, options, console)?;
+            act(rt, disk, &input, options, console)
         }
     }
-}
-
-/// Tells that there is no file to search.
-fn tell_nothing<W: Write, E: Write>(
-    alloc: Global,
-    left_out: usize,
-    options: &Options,
-    console: &mut Console<W, E>,
-) -> Result<Outcome, Failure> {
-    let counts = counts_of_changes(&[], left_out);
-    if options.json {
-        console.show_bytes(&summary_json(alloc, counts)?)?;
-    } else {
-        tell_summary(alloc, counts, options, console)?;
-    }
-    Ok(Outcome::Done)
 }
 
 /// Does it with these files.
-fn act<R: Files + AllocGlobal, W: Write, E: Write, S: Semantics>(
+fn act<R: Files + AllocGlobal, D: Disk, W: Sink, E: Write, S: Semantics>(
     rt: &R,
+    disk: &mut D,
     input: &Input<S>,
     options: &Options,
     console: &mut Console<W, E>,
-) -> Result<Outcome, Failure> {
+) -> Result<Outcome, Failure>
+    ensures disk { IsAskedToWrite options.now.mode (D.calls disk.old) (D.calls disk.new) }
+    ensures ends { IfOk result (EndsWell options.now.mode (task_of (S.meanings input.now.semantics) input.now options.now) options.now.json (is_colored options.now.color console.old.terminal) (record { calls = D.calls disk.old; taken = W.taken console.old.out }) (record { calls = D.calls disk.new; taken = W.taken console.new.out })) }
+{
+    let alloc = rt.alloc();
     if input.files.file_count() == 0 {
-        return tell_nothing(rt.alloc(), input.left_out, options, console);
+        return Err(Failure::Told(String::from_str(alloc, "no file was searched")?));
     }
     match &options.mode {
-        Mode::Search(patterns) => search(rt.alloc(), input, patterns, options, console)?,
-        Mode::Debug(snippet) => show_debug(rt.alloc(), input, snippet.as_str(), options, console)?,
-        mode => {
-            let changes = rewrite(rt, input, options, console)?;
-            if changes && matches!(mode, Mode::Check) {
-                return Ok(Outcome::WouldChange);
+        Mode::Diff => {
+            show_changes(alloc, input, options, console)?;
+            Ok(Outcome::Done)
+        }
+        Mode::Check => {
+            if show_changes(alloc, input, options, console)? {
+                Ok(Outcome::WouldChange)
+            } else {
+                Ok(Outcome::Done)
             }
         }
+        Mode::Write => {
+            write_changes(rt, disk, input, options, console)?;
+            Ok(Outcome::Done)
+        }
+        Mode::Search(patterns) => {
+            search(alloc, input, patterns, options, console)?;
+            Ok(Outcome::Done)
+        }
+        Mode::Debug(snippet) => {
+            show_debug(alloc, input, snippet.as_str(), options, console)?;
+            Ok(Outcome::Done)
+        }
     }
-    Ok(Outcome::Done)
 }

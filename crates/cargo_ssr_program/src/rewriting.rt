@@ -1,9 +1,11 @@
 //! What rules change: shown, told and written.
-ghost use Rattle.std.specs.Prelude.{All, IfOk, length, slice_get, string_bytes};
-ghost use Rattle.std.specs.Option.{IsSomeAnd};
-ghost use Rattle.ssr_base_trees.specs.Changes.{replaced};
-ghost use Rattle.ssr_changes.specs.Changing.{FitsIn};
-ghost use Rattle.ssr_diff.specs.Patch.{IsDiff};
+ghost use Rattle.std.specs.Prelude.{◌≡◌, All, IfOk, List, OnOk, false, map, string_bytes, true};
+ghost use Rattle.cargo_ssr_program.specs.Planned.{IsPlanOf, IsShown, IsWritten, diffs_of, is_colored};
+ghost use Rattle.cargo_ssr_program.specs.Private.Tasks.{search_of, task_of};
+ghost use Rattle.cargo_ssr_program.specs.Private.Telling.{TellsOnly};
+ghost use Rattle.ssr_changes.specs.Changing.{AreChanges, FitsIn, shown};
+ghost use Rattle.ssr_changes.specs.Planning.{IsPlan};
+ghost use Rattle.ssr_streams.specs.Streams.{Sent};
 
 use crate::console::Console;
 use crate::counting::counts_of_changes;
@@ -12,54 +14,64 @@ use crate::finding::{Listed, show_json, tell_summary};
 use crate::input::Input;
 use crate::telling::{is_colored, search_failure, why_left};
 use crate::writing::write;
-use cargo_ssr_options::{Mode, Options};
+use cargo_ssr_options::{Color, Options};
 use ssr_base::Semantics;
-use ssr_changes::{FileChange, Searchable, changes, check_new, rule_matches};
-use ssr_diff::unified_diff;
-use ssr_reports::{LinePlace, Places, Summary, colored};
+use ssr_changes::{FileChange, PlanError, Planned, Searchable, changes, plan, rule_matches};
+use ssr_reports::{Places, Summary, colored, place_words};
+use ssr_streams::Sink;
+use ssr_syntax_kinds::TextRange;
+use ssr_writing::Disk;
 use std::alloc::{AllocError, Global};
 use std::io::Write;
 use std::rt::Files;
 
-/// Shows what rules change, or writes it; whether there is something.
-pub(crate) fn rewrite<R: Files + AllocGlobal, W: Write, E: Write, S: Semantics>(
-    rt: &R,
+/// Shows what rules change; whether there is something.
+pub(crate) fn show_changes<W: Sink, E: Write, S: Semantics>(
+    alloc: Global,
     input: &Input<S>,
     options: &Options,
     console: &mut Console<W, E>,
-) -> Result<bool, Failure> {
-    let alloc = rt.alloc();
+) -> Result<bool, Failure>
+    ensures { IfOk result (IsShown (task_of (S.meanings input.now.semantics) input.now options.now) options.now.json (is_colored options.now.color console.old.terminal) (W.taken console.old.out) (W.taken console.new.out)) }
+{
     let made = changes_of(alloc, input, options)?;
-    refuse_unread(alloc, &input.files, &made)?;
+    let plan = plan_of(alloc, &input.files, &made)?;
     let counts = counts_of_changes(&made, input.left_out);
-    let is_write = matches!(options.mode, Mode::Write);
     if options.json {
         show_matches(alloc, input, options, &made, counts, console)?;
-    } else if !is_write {
-        show_diffs(alloc, &input.files, options, &made, console)?;
+        tell_left(alloc, &input.files, &made, console)?;
+    } else {
+        show_diffs(alloc, &plan, options.color, console)?;
+        tell_left(alloc, &input.files, &made, console)?;
+        tell_summary(alloc, counts, options, console)?;
     }
-    tell_set_aside(alloc, &input.files, &made, console)?;
-    if is_write {
-        let written = write(rt, input, &made)?;
-        tell_written(alloc, written, options, console)?;
+    Ok(!plan.is_empty())
+}
+
+/// Writes what rules change.
+pub(crate) fn write_changes<R: Files + AllocGlobal, D: Disk, W: Sink, E: Write, S: Semantics>(
+    rt: &R,
+    disk: &mut D,
+    input: &Input<S>,
+    options: &Options,
+    console: &mut Console<W, E>,
+) -> Result<(), Failure>
+    ensures { OnOk result ((plan : List Planned) × IsPlanOf (task_of (S.meanings input.now.semantics) input.now options.now) plan × IsWritten (string_bytes input.now.folder) input.now.files.files plan (D.calls disk.old) (D.calls disk.new)) }
+{
+    let alloc = rt.alloc();
+    let made = changes_of(alloc, input, options)?;
+    let plan = plan_of(alloc, &input.files, &made)?;
+    let counts = counts_of_changes(&made, input.left_out);
+    if options.json {
+        show_matches(alloc, input, options, &made, counts, console)?;
     }
+    tell_left(alloc, &input.files, &made, console)?;
+    let written = write(rt, disk, input, &plan)?;
+    tell_written(alloc, written, options, console)?;
     if !options.json {
         tell_summary(alloc, counts, options, console)?;
     }
-    Ok(is_any_changed(&input.files, &made))
-}
-
-/// Whether a file's text changes: a replacement may be the text that stood there.
-#[tactic(auto, using(crate::proofs::InFiles::each_is_there))]
-fn is_any_changed(files: &Searchable, made: &[FileChange]) -> bool
-    requires { All (FitsIn files.now.files) made.now }
-{
-    for change in made {
-        if change.new.as_str() != files.text(change.file) {
-            return true;
-        }
-    }
-    false
+    Ok(())
 }
 
 /// What the rules change.
@@ -68,7 +80,8 @@ fn changes_of<S: Semantics>(
     input: &Input<S>,
     options: &Options,
 ) -> Result<Vec<FileChange>, Failure>
-    ensures { IfOk result (λ made. All (FitsIn input.now.files.files) made.items) }
+    ensures changes { IfOk result (λ made. AreChanges (search_of (S.meanings input.now.semantics) input.now) (map string_bytes options.now.rules.items) input.now.files.files (map shown made.items)) }
+    ensures fit { IfOk result (λ made. All (FitsIn input.now.files.files) made.items) }
 {
     let ranges = input.ranges(alloc)?;
     let made = changes(
@@ -81,58 +94,90 @@ fn changes_of<S: Semantics>(
     );
     match made {
         Ok(made) => Ok(made),
-        Err(error) => Err(search_failure(alloc, &input.files, error)?),
+        Err(error) => Err(search_failure(alloc, input, options, error)?),
     }
 }
 
-/// Refuses changes after which a file isn't read any more.
-fn refuse_unread(alloc: Global, files: &Searchable, made: &[FileChange]) -> Result<(), Failure> {
-    let Some(file) = check_new(alloc, files, made)? else {
-        return Ok(());
-    };
-    let name = if file < files.file_count() {
+/// The name of a file; none where it isn't there.
+fn name_of(files: &Searchable, file: usize) -> &str {
+    if file < files.file_count() {
         files.name(file)
     } else {
         ""
-    };
-    Err(Failure::Told(format!(in alloc; "{name}: can't be read with what the rules put there")?))
+    }
 }
 
-/// Shows the diffs of all files that change.
-#[tactic(auto, using(crate::proofs::InFiles::each_fits))]
-fn show_diffs<W: Write, E: Write>(
+/// The plan of what the rules change. There is none where a file that changes may not be written.
+fn plan_of<'a>(
     alloc: Global,
     files: &Searchable,
-    options: &Options,
-    made: &[FileChange],
+    made: &'a [FileChange],
+) -> Result<Vec<Planned<'a>>, Failure>
+    ensures { IfOk result (λ plan. IsPlan files.now.files made.now plan.items) }
+{
+    match plan(alloc, files, made) {
+        Ok(plan) => Ok(plan),
+        Err(error) => Err(plan_failure(alloc, files, &error)?),
+    }
+}
+
+/// Why there is no plan.
+fn plan_failure(
+    alloc: Global,
+    files: &Searchable,
+    error: &PlanError,
+) -> Result<Failure, AllocError> {
+    let file = match error {
+        PlanError::Outside(file) | PlanError::BelowTarget(file) | PlanError::Twice(file) => *file,
+        PlanError::Memory => return Ok(Failure::Memory),
+    };
+    let name = name_of(files, file);
+    Ok(Failure::Told(format!(in alloc; "{name}: {error}")?))
+}
+
+/// Shows the diffs of a plan.
+fn show_diffs<W: Sink, E: Write>(
+    alloc: Global,
+    plan: &[Planned<'_>],
+    color: Color,
     console: &mut Console<W, E>,
 ) -> Result<(), Failure>
-    requires { All (FitsIn files.now.files) made.now }
+    ensures { is_colored color console.old.terminal ≡ false → OnOk result (Sent (W.taken console.old.out) (W.taken console.new.out) (diffs_of plan.now) true) }
 {
-    let is_colored = is_colored(options.color, console.is_terminal());
-    for change in made {
-        let diff = diff(alloc, files, change)?;
-        if is_colored {
-            console.show(colored(alloc, diff.as_str())?.as_str())?;
-        } else {
-            console.show(diff.as_str())?;
-        }
+    if is_colored(color, console.terminal) {
+        show_colored(alloc, plan, console)
+    } else {
+        show_plain(plan, console)
+    }
+}
+
+/// Shows them as they are.
+fn show_plain<W: Sink, E: Write>(
+    plan: &[Planned<'_>],
+    console: &mut Console<W, E>,
+) -> Result<(), Failure>
+    ensures { OnOk result (Sent (W.taken console.old.out) (W.taken console.new.out) (diffs_of plan.now) true) }
+{
+    for planned in plan {
+        console.show(planned.diff.as_str())?;
     }
     Ok(())
 }
 
-/// The diff of a file's text and what its changes make of it.
-#[tactic(auto, using(crate::proofs::InFiles::is_there, crate::proofs::InFiles::fits_text, crate::proofs::InFiles::diff_there))]
-fn diff(alloc: Global, files: &Searchable, change: &FileChange) -> Result<String, AllocError>
-    requires { FitsIn files.now.files change.now }
-    ensures { IfOk result (λ diff. IsSomeAnd (slice_get files.now.files change.now.file) (λ file. IsDiff file.name file.text (replaced file.text 0 (length file.text) change.now.edit) (string_bytes diff))) }
-{
-    let (name, old) = (files.name(change.file), files.text(change.file));
-    unified_diff(alloc, name, old, &change.edit)
+/// Shows them in colours.
+fn show_colored<W: Sink, E: Write>(
+    alloc: Global,
+    plan: &[Planned<'_>],
+    console: &mut Console<W, E>,
+) -> Result<(), Failure> {
+    for planned in plan {
+        console.show(colored(alloc, planned.diff.as_str())?.as_str())?;
+    }
+    Ok(())
 }
 
 /// Shows the matches of the rules as JSON.
-fn show_matches<W: Write, E: Write, S: Semantics>(
+fn show_matches<W: Sink, E: Write, S: Semantics>(
     alloc: Global,
     input: &Input<S>,
     options: &Options,
@@ -150,7 +195,7 @@ fn show_matches<W: Write, E: Write, S: Semantics>(
     );
     let places = match found {
         Ok(places) => places,
-        Err(error) => return Err(search_failure(alloc, &input.files, error)?),
+        Err(error) => return Err(search_failure(alloc, input, options, error)?),
     };
     let listed = Listed {
         files: &input.files,
@@ -160,15 +205,16 @@ fn show_matches<W: Write, E: Write, S: Semantics>(
     show_json(alloc, &listed, counts, console)
 }
 
-/// Tells the matches that stay because of what is set aside.
+/// Tells the matches that stay as they are.
 #[tactic(auto, using(crate::proofs::InFiles::each_fits))]
-fn tell_set_aside<W: Write, E: Write>(
+fn tell_left<W: Sink, E: Write>(
     alloc: Global,
     files: &Searchable,
     made: &[FileChange],
     console: &mut Console<W, E>,
 ) -> Result<(), Failure>
     requires { All (FitsIn files.now.files) made.now }
+    ensures { TellsOnly console.old console.new }
 {
     for change in made {
         tell_of_file(alloc, files, change, console)?;
@@ -176,30 +222,67 @@ fn tell_set_aside<W: Write, E: Write>(
     Ok(())
 }
 
-/// Tells those of a file.
+/// Tells those of a file, in the order of their places.
 #[tactic(auto, using(crate::proofs::InFiles::is_there))]
-fn tell_of_file<W: Write, E: Write>(
+fn tell_of_file<W: Sink, E: Write>(
     alloc: Global,
     files: &Searchable,
     change: &FileChange,
     console: &mut Console<W, E>,
 ) -> Result<(), Failure>
     requires { FitsIn files.now.files change.now }
+    ensures { TellsOnly console.old console.new }
 {
     let name = files.name(change.file);
     let mut places = Places::new(files.text(change.file));
     let aside = files.aside(change.file).iter().as_slice();
     let reaches = files.reaches(change.file).ranges();
-    for range in &change.told {
-        let LinePlace { line, column } = places.place(range.start as usize);
-        let why = why_left(aside, reaches, *range);
-        console.tell(format!(in alloc; "{name}:{line}:{column}: left as it is: {why}")?.as_str());
+    for left in all_left(alloc, change)? {
+        let place = place_words(alloc, name, places.place(left.range.start as usize))?;
+        let why = match left.why {
+            Why::Aside => why_left(aside, reaches, left.range),
+            Why::Unread => "the file can't be read with it",
+        };
+        console.tell(format!(in alloc; "{place}: left as it is: {why}")?.as_str());
+    }
+    Ok(())
+}
+
+/// Why a match stays as it is.
+#[derive(Clone, Copy, Debug, PartialEq, Eq)]
+enum Why {
+    /// It touches the reach of a part set aside.
+    Aside,
+    /// The file isn't read with it.
+    Unread,
+}
+
+/// A match that stays as it is.
+#[derive(Clone, Copy, Debug, PartialEq, Eq)]
+struct Left {
+    range: TextRange,
+    why: Why,
+}
+
+/// The matches of a file that stay as they are, by their places.
+fn all_left(alloc: Global, change: &FileChange) -> Result<Vec<Left>, AllocError> {
+    let mut left = Vec::with_capacity(alloc, change.told.len())?;
+    push_left(&mut left, &change.told, Why::Aside)?;
+    push_left(&mut left, &change.unread, Why::Unread)?;
+    left.sort_by_key(|one| one.range.start)?;
+    Ok(left)
+}
+
+/// Adds matches that stay for a reason.
+fn push_left(left: &mut Vec<Left>, ranges: &[TextRange], why: Why) -> Result<(), AllocError> {
+    for range in ranges {
+        left.push(Left { range: *range, why })?;
     }
     Ok(())
 }
 
 /// Tells how many files were written, unless it isn't wanted.
-fn tell_written<W: Write, E: Write>(
+fn tell_written<W: Sink, E: Write>(
     alloc: Global,
     written: usize,
     options: &Options,

@@ -1,16 +1,21 @@
 //! What is told of matches and of a search.
+ghost use Rattle.std.specs.Prelude.{◌≡◌};
+ghost use Rattle.cargo_ssr_program.specs.Planned.{is_colored};
 
 use crate::failure::Failure;
-use cargo_ssr_options::Color;
-use ssr_base::FileRange;
-use ssr_changes::Searchable;
-use ssr_reports::{LinePlace, line_place};
+use crate::input::Input;
+use cargo_ssr_options::{Chosen, Color, Mode, Options};
+use ssr_base::{FileRange, Semantics};
+use ssr_changes::{Form, Searchable, first_refused};
+use ssr_reports::{LinePlace, line_place, place_words};
 use ssr_searching::SearchError;
 use ssr_syntax_kinds::TextRange;
 use std::alloc::{AllocError, Global};
 
 /// Whether a diff is shown in colours.
-pub(crate) fn is_colored(color: Color, terminal: bool) -> bool {
+pub(crate) fn is_colored(color: Color, terminal: bool) -> bool
+    ensures { result ≡ is_colored color terminal }
+{
     match color {
         Color::Auto => terminal,
         Color::Always => true,
@@ -19,36 +24,70 @@ pub(crate) fn is_colored(color: Color, terminal: bool) -> bool {
 }
 
 /// Why a search comes to nothing.
-pub(crate) fn search_failure(
+pub(crate) fn search_failure<S: Semantics>(
     alloc: Global,
-    files: &Searchable,
+    input: &Input<S>,
+    options: &Options,
     error: SearchError,
 ) -> Result<Failure, AllocError> {
     match error {
-        SearchError::Refused(message) => {
-            Ok(Failure::Told(format!(in alloc; "Parse error: {message}")?))
-        }
+        SearchError::Refused(message) => refusal(alloc, input, options, message.as_str()),
         SearchError::Clash(earlier, later) => {
-            let earlier = place_words(alloc, files, earlier)?;
-            let later = place_words(alloc, files, later)?;
+            let earlier = start_words(alloc, &input.files, earlier)?;
+            let later = start_words(alloc, &input.files, later)?;
             Ok(Failure::Told(format!(in alloc; "replacements clash at {earlier} and {later}")?))
         }
         SearchError::Memory => Ok(Failure::Memory),
     }
 }
 
-/// Where a range begins, as FILE:LINE:COLUMN.
-pub(crate) fn place_words(
+/// Which rule or pattern is refused, and why.
+fn refusal<S: Semantics>(
     alloc: Global,
-    files: &Searchable,
-    range: FileRange,
-) -> Result<String, AllocError> {
+    input: &Input<S>,
+    options: &Options,
+    message: &str,
+) -> Result<Failure, AllocError> {
+    let (files, semantics, position) = (&input.files, &input.semantics, input.position);
+    let (form, texts) = searched_for(options);
+    let why = refusal_words(alloc, options, message)?;
+    match first_refused(alloc, files, semantics, position, form, texts) {
+        Some(number) => match form {
+            Form::Rules => Ok(Failure::Rule(number, why)),
+            Form::Patterns => Ok(Failure::Told(format!(in alloc; "pattern {number}: {why}")?)),
+        },
+        // there is no finder
+        None => Ok(Failure::Told(why)),
+    }
+}
+
+/// What is searched for: patterns, or rules.
+pub(crate) fn searched_for(options: &Options) -> (Form, &[String]) {
+    match &options.mode {
+        Mode::Search(patterns) => (Form::Patterns, patterns),
+        _ => (Form::Rules, &options.rules),
+    }
+}
+
+/// Why a rule is refused, with its placeholders as it spells them. Where a path doesn't resolve and nothing is known of names, what
+/// they need is said.
+fn refusal_words(alloc: Global, options: &Options, message: &str) -> Result<String, AllocError> {
+    let mut words = message.replace(alloc, "__placeholder_", "$")?;
+    let has_facts = matches!(options.files, Chosen::Facts(_));
+    if !has_facts && message.starts_with("Failed to resolve path") {
+        words.push_str(": names need --facts FILE")?;
+    }
+    Ok(words)
+}
+
+/// Where a range begins, as FILE:LINE:COLUMN.
+fn start_words(alloc: Global, files: &Searchable, range: FileRange) -> Result<String, AllocError> {
     let file = range.file_id.0 as usize;
     if file >= files.file_count() {
         return Ok(String::new(alloc));
     }
-    let LinePlace { line, column } = place_of(files.text(file), range.range.start);
-    format!(in alloc; "{}:{line}:{column}", files.name(file))
+    let place = place_of(files.text(file), range.range.start);
+    place_words(alloc, files.name(file), place)
 }
 
 /// The line and the column of a byte of a text, or those of its end.

@@ -1,72 +1,94 @@
 //! New texts on the disk.
-ghost use Rattle.std.specs.Prelude.{All};
-ghost use Rattle.ssr_changes.specs.Changing.{FitsIn};
+ghost use Rattle.std.specs.Prelude.{◌≡◌, All, IfOk, OnOk, length, map, string_bytes};
+ghost use Rattle.cargo_ssr_program.specs.Planned.{IsWritten, path_planned, text_of, text_planned};
+ghost use Rattle.ssr_changes.specs.Planning.{HasDiff};
 
 use crate::failure::Failure;
 use crate::input::Input;
-use crate::naming::{is_inside, without_dot};
-use ssr_changes::FileChange;
+use ssr_changes::Planned;
 use ssr_package::path_in;
-use ssr_writing::{NewText, OnDisk, WriteError, write_all};
+use ssr_writing::{Disk, NewText, WriteError, write_all};
 use std::alloc::{AllocError, Global};
 use std::rt::Files;
 
-/// Writes the new texts of the files that change, and tells how many there are.
-#[tactic(auto, using(crate::proofs::InFiles::each_is_there))]
-pub(crate) fn write<R: Files + AllocGlobal, S>(
+/// Writes the new texts of a plan, and tells how many there are. None is written where a file is reached through a link.
+pub(crate) fn write<R: Files + AllocGlobal, D: Disk, S>(
     rt: &R,
+    disk: &mut D,
     input: &Input<S>,
-    made: &[FileChange],
+    plan: &[Planned<'_>],
 ) -> Result<usize, Failure>
-    requires { All (FitsIn input.now.files.files) made.now }
+    requires { All (HasDiff input.now.files.files) plan.now }
+    ensures { OnOk result (IsWritten (string_bytes input.now.folder) input.now.files.files plan.now (D.calls disk.old) (D.calls disk.new)) }
 {
     let alloc = rt.alloc();
-    let paths = paths(rt, input, made)?;
-    let mut texts = Vec::new(alloc);
-    for (place, change) in made.iter().enumerate() {
-        let Some(path) = paths.get(place) else {
-            continue;
-        };
-        let old = input.files.text(change.file);
-        if change.new.as_str() != old {
-            texts.push(NewText {
-                path: path.as_str(),
-                old,
-                new: change.new.as_str(),
-            })?;
-        }
-    }
-    match write_all(alloc, &mut OnDisk::new(rt), &texts) {
+    refuse_links(rt, input, plan)?;
+    let paths = paths(alloc, input, plan)?;
+    let texts = new_texts(alloc, input, plan, &paths)?;
+    match write_all(alloc, disk, &texts) {
         Ok(()) => Ok(texts.len()),
-        Err(error) => Err(write_failure(alloc, &texts, &error)?),
+        Err(error) => Err(write_failure(alloc, input, plan, &error)?),
     }
 }
 
-/// The paths of the files that change. None is written where one leads out of the folder, through a link or below `target`.
+/// Fails where a file of a plan is reached through a link.
 #[tactic(auto, using(crate::proofs::InFiles::each_is_there))]
-fn paths<R: Files + AllocGlobal, S>(
+fn refuse_links<R: Files + AllocGlobal, S>(
     rt: &R,
     input: &Input<S>,
-    made: &[FileChange],
-) -> Result<Vec<String>, Failure>
-    requires { All (FitsIn input.now.files.files) made.now }
+    plan: &[Planned<'_>],
+) -> Result<(), Failure>
+    requires { All (HasDiff input.now.files.files) plan.now }
 {
     let alloc = rt.alloc();
-    let mut paths = Vec::with_capacity(alloc, made.len())?;
-    for change in made {
-        let name = input.files.name(change.file);
-        if !is_inside(name) {
-            return Err(Failure::Told(format!(in alloc; "{name}: outside of the folder")?));
-        }
-        if without_dot(name).starts_with("target/") {
-            return Err(Failure::Told(format!(in alloc; "{name}: below target")?));
-        }
+    for planned in plan {
+        let name = input.files.name(planned.file);
         if is_behind_link(rt, input.folder.as_str(), name)? {
             return Err(Failure::Told(format!(in alloc; "{name}: reached through a link")?));
         }
+    }
+    Ok(())
+}
+
+/// The paths of the files of a plan.
+#[tactic(auto, using(crate::proofs::InFiles::each_is_there))]
+fn paths<S>(
+    alloc: Global,
+    input: &Input<S>,
+    plan: &[Planned<'_>],
+) -> Result<Vec<String>, AllocError>
+    requires { All (HasDiff input.now.files.files) plan.now }
+    ensures { IfOk result (λ paths. map string_bytes paths.items ≡ map (path_planned (string_bytes input.now.folder) input.now.files.files) plan.now) }
+{
+    let mut paths = Vec::with_capacity(alloc, plan.len())?;
+    for planned in plan {
+        let name = input.files.name(planned.file);
         paths.push(path_in(alloc, input.folder.as_str(), name)?)?;
     }
     Ok(paths)
+}
+
+/// What is written for a plan whose files have these paths.
+#[tactic(auto, using(crate::proofs::InFiles::each_is_there))]
+fn new_texts<'a, S>(
+    alloc: Global,
+    input: &'a Input<S>,
+    plan: &'a [Planned<'a>],
+    paths: &'a [String],
+) -> Result<Vec<NewText<'a>>, AllocError>
+    requires there { All (HasDiff input.now.files.files) plan.now }
+    requires paths { map string_bytes paths.now ≡ map (path_planned (string_bytes input.now.folder) input.now.files.files) plan.now }
+    ensures { IfOk result (λ texts. map text_of texts.items ≡ map (text_planned (string_bytes input.now.folder) input.now.files.files) plan.now) }
+{
+    let mut texts = Vec::with_capacity(alloc, plan.len())?;
+    for (place, planned) in plan.iter().enumerate() {
+        texts.push(NewText {
+            path: paths[place].as_str(),
+            old: input.files.text(planned.file),
+            new: planned.new,
+        })?;
+    }
+    Ok(texts)
 }
 
 /// Whether a file of a folder is a link, or a folder on the way to it is one.
@@ -86,19 +108,20 @@ fn is_behind_link<R: Files + AllocGlobal>(
     Ok(false)
 }
 
-/// Why not all new texts were written.
-fn write_failure(
+/// Why not all new texts were written. Files have the names by which they were searched.
+fn write_failure<S>(
     alloc: Global,
-    texts: &[NewText<'_>],
+    input: &Input<S>,
+    plan: &[Planned<'_>],
     error: &WriteError,
 ) -> Result<Failure, AllocError> {
-    let path = match texts.get(error.failed) {
-        Some(text) => text.path,
-        None => "",
+    let name = match plan.get(error.failed) {
+        Some(planned) if planned.file < input.files.file_count() => input.files.name(planned.file),
+        _ => "",
     };
     let why = &error.why;
     Ok(Failure::Told(match error.written {
-        0 => format!(in alloc; "{path}: {why}; no file was written")?,
-        written => format!(in alloc; "{path}: {why}; the first {written} files were written")?,
+        0 => format!(in alloc; "{name}: {why}; no file was written")?,
+        written => format!(in alloc; "{name}: {why}; the first {written} files were written")?,
     }))
 }

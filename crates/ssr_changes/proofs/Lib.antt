@@ -4,3 +4,6 @@ mod Sorted
 mod InFiles
 mod Texts
 mod Matches
+mod Names
+mod Plans
+mod Standings

@@ -83,12 +83,12 @@ set_aside_is source now made tree aside reaches file its is its_tree its_aside i
 pub is_told : (old new : Sorted) (source : SourceFile) (why : SyntaxError)
     → (why ≢ errors.Memory → (file_reading (string_bytes source.text) ≡ Err why) ⊎ ((why ≡ errors.TooLong) × (most_trees ≤ length old.files.items)))
     → (result : Result (Unit {0}) AllocError) → OnOk result (why ≢ errors.Memory)
-    → OnOk result (new.unread.items ≡ old.unread.items ++ record { name = source.name; why = why } ∷ []) → new.trees ≡ old.trees → new.files ≡ old.files
+    → OnOk result (new.unread.items ≡ old.unread.items ++ record { name = source.name; text = source.text; why = why } ∷ []) → new.trees ≡ old.trees → new.files ≡ old.files
     → OnOk result (Adds old new source)
 is_told old new source why reason (Ok done) other grown same_trees same =
     let trees : new.trees.items ≡ old.trees.items = ap (λ v. v.items) same_trees in
     let files : new.files.items ≡ old.files.items = ap (λ v. v.items) same in
-    as_told (record { name = source.name; why = why }) (record { name = refl; why = reason other }) trees files grown
+    as_told (record { name = source.name; text = source.text; why = why }) (record { name = refl; text = refl; why = reason other }) trees files grown
 is_told old new source why reason (Err e) other grown same_trees same = tt
 
 -- ** The trees that are searched.

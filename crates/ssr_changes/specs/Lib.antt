@@ -1,8 +1,11 @@
 pub mod Files
 pub mod FilesCode
 pub mod Sorting
+pub mod Standing
 pub mod Changing
 pub mod Finding
 pub mod Matching
 pub mod Debugging
+pub mod Naming
+pub mod Planning
 pub mod Private

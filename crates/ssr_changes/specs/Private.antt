@@ -2,3 +2,4 @@
 pub mod Building
 pub mod Changing
 pub mod Finding
+pub mod Planning

@@ -17,6 +17,7 @@ pub record IsFileOf (source : SourceFile) (file : File) : Type 0 where
 -- a file that isn't searched: it isn't read as it stands, or there are as many before it as there may be
 pub record IsToldOf (before : ℕ) (source : SourceFile) (unread : Unread) : Type 0 where
   pub name : string_bytes unread.name ≡ string_bytes source.name
+  pub text : string_bytes unread.text ≡ string_bytes source.text
   pub why : (file_reading (string_bytes source.text) ≡ Err unread.why) ⊎ ((unread.why ≡ errors.TooLong) × (most_trees ≤ before))
 
 -- Of files the ones are searched and the others are told, both in their order. So many are searched that stand before them.

@@ -2,14 +2,15 @@
 ghost use Rattle.std.specs.Prelude.{◌≡◌, ◌<◌, All, IfErr, IfOk, length, map, string_bytes};
 ghost use Rattle.ide_ssr_rewriting.specs.Edits.{EditsFit};
 ghost use Rattle.ssr_searching.specs.Searching.{changes_in};
-ghost use Rattle.ssr_changes.specs.Changing.{AreChanges, CheckAnswers, FitsIn, IsWhy, all_changed, shown};
-ghost use Rattle.ssr_changes.specs.Private.Changing.{FitsTree, IsChangeOf, IsWhetherRead};
+ghost use Rattle.ssr_changes.specs.Changing.{AreChanges, FitsIn, IsWhy, all_changed, shown};
+ghost use Rattle.ssr_changes.specs.Private.Changing.{FitsTree, IsChangeOf};
 
 use crate::searchable::Searchable;
-use ssr_base::{ApplyError, FileId, FilePosition, FileRange, Semantics, TextEdit, Workspace};
+use crate::standing::{Tried, standing};
+use ssr_base::{ApplyError, FileId, FilePosition, FileRange, Semantics, TextEdit};
 use ssr_searching::{SearchError, edits_once};
 use ssr_set_aside::{Spared, spare};
-use ssr_syntax::{SyntaxError, TextRange, parse_file_owned};
+use ssr_syntax::TextRange;
 use std::alloc::{AllocError, Global};
 use std::collections::BTreeMap;
 
@@ -22,11 +23,14 @@ pub struct FileChange {
     pub edit: TextEdit,
     /// The text with these made.
     pub new: String,
-    /// The ranges of the other changes: they touch the reach of a part set aside, and are not made.
+    /// The ranges of changes that are not made, since they touch the reach of a part set aside.
     pub told: Vec<TextRange>,
+    /// The ranges of changes that are not made, since the file isn't read with them.
+    pub unread: Vec<TextRange>,
 }
 
-/// What rules change, in the order of the files: of each file in which something is replaced, be it made or told. The names of
+/// What rules change, in the order of the files: of each file in which something is replaced, be it made or told. Where a file isn't
+/// read with all of its changes made, those are told that don't stand alone; if it isn't read with the others either, all. The names of
 /// the rules are looked up at the position; without ranges all is searched. A rule whose pattern is a placeholder alone is searched
 /// by its first kind alone. The error is that of the search.
 pub fn changes<S: Semantics>(
@@ -52,14 +56,14 @@ fn all_changed(
     edits: BTreeMap<FileId, TextEdit>,
 ) -> Result<Vec<FileChange>, AllocError>
     requires { EditsFit files.now.workspace edits }
-    ensures changes { IfOk result (λ made. map shown made.items ≡ all_changed (changes_in edits) files.now.files) }
+    ensures changes { IfOk result (λ made. map shown made.items ≡ all_changed files.now.workspace (changes_in edits) files.now.files) }
     ensures fit { IfOk result (λ made. All (FitsIn files.now.files) made.items) }
 {
     let mut left = edits;
     let mut made = Vec::new(alloc);
     for file in 0..files.workspace().file_count() {
         if let Some(edit) = left.remove(&FileId(file)) {
-            made.push(changed(alloc, files, file as usize, edit)?)?;
+            made.push(changed(alloc, files, file, edit)?)?;
         }
     }
     Ok(made)
@@ -69,16 +73,20 @@ fn all_changed(
 fn changed(
     alloc: Global,
     files: &Searchable,
-    file: usize,
+    file: u32,
     edit: TextEdit,
 ) -> Result<FileChange, AllocError>
     requires there { file < length files.now.files }
     requires fits { FitsTree files.now.workspace file edit }
-    ensures change { IfOk result (IsChangeOf files.now.files file edit) }
+    ensures change { IfOk result (IsChangeOf files.now file edit) }
     ensures fits { IfOk result (FitsIn files.now.files) }
 {
-    let there = files.file(file);
+    let there = files.file(file as usize);
+    let Some(tree) = files.workspace().tree(file) else {
+        unreachable!()
+    };
     let Spared { edit, told } = spare(alloc, edit, there.reaches())?;
+    let Tried { edit, unread } = standing(alloc, tree, edit)?;
     let new = match edit.apply(alloc, there.text()) {
         Ok(new) => new,
         Err(ApplyError::Memory) => return Err(AllocError),
@@ -86,51 +94,10 @@ fn changed(
         Err(ApplyError::Range) => unreachable!(),
     };
     Ok(FileChange {
-        file,
+        file: file as usize,
         edit,
         new,
         told,
+        unread,
     })
-}
-
-/// The file of the first of these changes with which its searched text isn't read any more.
-pub fn check_new(
-    alloc: Global,
-    files: &Searchable,
-    changes: &[FileChange],
-) -> Result<Option<usize>, AllocError>
-    ensures { IfOk result (CheckAnswers files.now.workspace changes.now) }
-{
-    for change in changes {
-        if !is_read_with(alloc, files.workspace(), change)? {
-            return Ok(Some(change.file));
-        }
-    }
-    Ok(None)
-}
-
-/// Whether a file's searched text is read with a change made.
-fn is_read_with(
-    alloc: Global,
-    workspace: &Workspace,
-    change: &FileChange,
-) -> Result<bool, AllocError>
-    ensures { IfOk result (IsWhetherRead workspace.now change.now) }
-{
-    let Ok(file) = u32::try_from(change.file) else {
-        return Ok(false);
-    };
-    let Some(tree) = workspace.tree(file) else {
-        return Ok(false);
-    };
-    let new = match change.edit.apply(alloc, tree.source()) {
-        Ok(new) => new,
-        Err(ApplyError::Range) => return Ok(false),
-        Err(ApplyError::Memory) => return Err(AllocError),
-    };
-    match parse_file_owned(alloc, new) {
-        Ok(_) => Ok(true),
-        Err(SyntaxError::Memory) => Err(AllocError),
-        Err(_) => Ok(false),
-    }
 }

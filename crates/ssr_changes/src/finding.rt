@@ -11,7 +11,7 @@ use std::alloc::Global;
 
 /// What is searched for.
 #[derive(Clone, Copy, Debug, PartialEq, Eq)]
-pub(crate) enum Form {
+pub enum Form {
     /// What rules replace, each searched once.
     Rules,
     /// What search patterns match.
@@ -31,7 +31,7 @@ fn kind_count(alloc: Global, form: Form, text: &str) -> Result<usize, SsrError>
 }
 
 /// Adds what a text says.
-fn add<S: Semantics>(
+pub(crate) fn add<S: Semantics>(
     alloc: Global,
     finder: &mut MatchFinder<'_, S>,
     form: Form,

@@ -1,6 +1,6 @@
 //! The files of a package as they are searched.
 ghost use Rattle.std.specs.Prelude.{◌≡◌, ◌<◌, [], IfOk, Some, length, map, slice_get, slice_index_or, string_bytes};
-ghost use Rattle.std.specs.Option.{option_map};
+ghost use Rattle.std.specs.Option.{option_copied, option_map};
 ghost use Rattle.ssr_syntax_tree.specs.Syntax.{Syntax};
 ghost use Rattle.ssr_changes.specs.Files.{AreSearched, IsSearched, as_they_are};
 ghost use Rattle.ssr_changes.specs.Sorting.{AreSorted};
@@ -103,6 +103,13 @@ impl Searchable {
         ensures searched { (tree : Syntax) → slice_get self.now.workspace.files file ≡ Some tree → IsSearched tree result.now }
     {
         &self.files[file]
+    }
+
+    /// A file, by its number, if it is there.
+    pub(crate) fn get(&self, file: usize) -> Option<&FileText>
+        ensures { option_copied result ≡ slice_get self.now.files file }
+    {
+        self.files.get(file)
     }
 
     /// The name of a file.

@@ -19,6 +19,8 @@ use std::alloc::{AllocError, Global};
 pub struct Unread {
     /// Its name.
     pub name: String,
+    /// Its text.
+    pub text: String,
     /// Why it isn't read, as it stands; `TooLong` also where there are 65,536 others before it.
     pub why: SyntaxError,
 }
@@ -36,15 +38,15 @@ pub(crate) struct Sorted {
 
 impl Sorted {
     /// Adds a file that isn't read. Want of memory is no reason of the file's.
-    fn tell(&mut self, name: String, why: SyntaxError) -> Result<(), AllocError>
+    fn tell(&mut self, name: String, text: String, why: SyntaxError) -> Result<(), AllocError>
         ensures why { OnOk result (why ≢ errors.Memory) }
-        ensures told { OnOk result (self.new.unread.items ≡ self.old.unread.items ++ record { name = name; why = why } ∷ []) }
+        ensures told { OnOk result (self.new.unread.items ≡ self.old.unread.items ++ record { name = name; text = text; why = why } ∷ []) }
         ensures trees { self.new.trees ≡ self.old.trees }
         ensures files { self.new.files ≡ self.old.files }
     {
         match why {
             SyntaxError::Memory => return Err(AllocError),
-            _ => self.unread.push(Unread { name, why })?,
+            _ => self.unread.push(Unread { name, text, why })?,
         }
         Ok(())
     }
@@ -55,7 +57,7 @@ impl Sorted {
     {
         let SourceFile { name, text } = file;
         if self.files.len() >= MOST_TREES {
-            return self.tell(name, SyntaxError::TooLong);
+            return self.tell(name, text, SyntaxError::TooLong);
         }
         match set_aside(alloc, text.as_str()) {
             Ok(made) => {
@@ -64,7 +66,7 @@ impl Sorted {
                 self.files.push(FileText::new(name, text, aside, reaches))?;
                 Ok(())
             }
-            Err(why) => self.tell(name, why),
+            Err(why) => self.tell(name, text, why),
         }
     }
 }

@@ -1,15 +1,15 @@
 -- Laws of hunks: what they make of a text, and how an begun one grows.
-use Rattle.std.proofs.Common.{◌≡◌, ℕ, zero, suc, ◌+◌, ◌-◌, ◌<◌, ◌≤◌, min, List, [], ◌∷◌, ◌++◌, length, map, take, drop, refl, sym, ◌∙◌, ap, subst, arith, codes, string_bytes, Option, Some, None}
+use Rattle.std.proofs.Common.{◌≡◌, ℕ, ◌+◌, ◌-◌, ◌<◌, ◌≤◌, min, List, [], ◌∷◌, ◌++◌, length, map, refl, sym, ◌∙◌, ap, subst, arith, codes, string_bytes, Option, Some, None}
 use Rattle.std.specs.List.{slice_range, flat_map, All, concat}
-use Rattle.std.proofs.lemmas.List.{append_assoc, append-nil, length-append, map-append, flat_map_more, length_push}
+use Rattle.std.proofs.lemmas.List.{append_assoc, append-nil, length-append, flat_map_more}
 use Rattle.std.proofs.lemmas.List.Elements.{All-push, All-nil}
 use Rattle.std.proofs.lemmas.Grind.{flat_map-append}
 use Rattle.ssr_diff.specs.declared.places.Place.{Place}
 use Rattle.ssr_diff.specs.declared.hunks.OpenHunk.{OpenHunk}
-use Rattle.ssr_diff.specs.Patch.{Line, Kept, Removed, Added, Hunk, old_lines, new_lines, old_end, new_end, Patches, same, next, IsChange, BeginsWithChange, EndsWithChange, IsContext, HasContext, line_text, hunk_text, hunk_head, span_text, lines_of, file_head, IsDiff}
-use Rattle.ssr_diff.specs.Private.Writing.{Text, AreInOrder, SameLines, open_text, Extends, Shows, BeginsInContext, AreWritten, IsOpen, IsReady, IsWritingParts, AreHunks, AreClosed, end_of_context, origin}
+use Rattle.ssr_diff.specs.Patch.{Line, Kept, Removed, Added, Hunk, old_lines, new_lines, old_end, new_end, Patches, same, next, BeginsWithChange, EndsWithChange, HasContext, line_text, hunk_text, span_text, lines_of, file_head, IsDiff}
+use Rattle.ssr_diff.specs.Private.Writing.{Text, AreInOrder, SameLines, open_text, Extends, Shows, AreWritten, IsOpen, IsReady, IsWritingParts, AreHunks, AreClosed, end_of_context, origin}
 use Rattle.ssr_diff.proofs.LinesOf.{concat-lines_of}
-use Rattle.ssr_diff.proofs.SameLines.{slice_none, slice_all, slice_join, length_slice, same_none, same_join, same_up_to, same_from}
+use Rattle.ssr_diff.proofs.SameLines.{slice_all, slice_join, length_slice, same_none, same_join, same_up_to, same_from}
 
 -- the sides of lines
 

@@ -1,10 +1,10 @@
 -- Laws of lines that are written one by one.
-use Rattle.std.proofs.Common.{◌≡◌, ℕ, ◌+◌, ◌-◌, ◌≤◌, ◌==◌, false, List, [], ◌∷◌, ◌++◌, length, map, slice_get, slice_index, Some, sym, ◌∙◌, ap, codes, append_assoc}
+use Rattle.std.proofs.Common.{◌≡◌, ℕ, ◌+◌, ◌-◌, ◌≤◌, ◌==◌, false, List, ◌++◌, length, map, slice_get, slice_index, Some, sym, ◌∙◌, ap, codes, append_assoc}
 use Rattle.std.specs.List.{slice_range, flat_map}
 use Rattle.std.proofs.lemmas.List.{flat_map_more}
 use Rattle.std.proofs.lemmas.List.Folds.{flat_map-map}
 use Rattle.std.proofs.lemmas.Grind.{flat_map-append}
-use Rattle.ssr_diff.specs.Patch.{Line, Kept, Removed, Added, line_text, signed_line}
+use Rattle.ssr_diff.specs.Patch.{Kept, Removed, Added, line_text, signed_line}
 use Rattle.ssr_diff.specs.Private.Writing.{Text}
 use Rattle.ssr_diff.proofs.SameLines.{slice_more}
 

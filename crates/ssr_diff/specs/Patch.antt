@@ -1,6 +1,7 @@
 -- Unified diffs: what they make of a text, and how they are written.
 use Rattle.std.specs.Prelude.{ℕ, ◌≡◌, ◌↔◌, ◌+◌, ◌-◌, ◌<◌, ◌≤◌, ◌==◌, if◌then◌else◌, List, [], ◌∷◌, ◌++◌, length, map, flat_map, slice_index, codes, decimal, All}
 use Rattle.std.specs.List.{list_any}
+use Rattle.ssr_diff.specs.Names.{quoted}
 
 -- a byte that isn't a line break, in front of the first line
 abbrev pub with_front : ℕ → List (List ℕ) → List (List ℕ)
@@ -113,7 +114,8 @@ abbrev pub name_end : List ℕ → List ℕ
 name_end name = if list_any (λ b. b == 32) name then codes "\t\n" else codes "\n"
 
 abbrev pub file_head : List ℕ → List ℕ
-file_head name = codes "--- a/" ++ (name ++ (name_end name ++ (codes "+++ b/" ++ (name ++ name_end name))))
+file_head name =
+    codes "--- " ++ (quoted (codes "a/" ++ name) ++ (name_end name ++ (codes "+++ " ++ (quoted (codes "b/" ++ name) ++ name_end name))))
 
 -- the diff of these hunks of a file: nothing where there are none
 abbrev pub diff_text : List ℕ → List Hunk → List ℕ

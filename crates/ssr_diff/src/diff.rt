@@ -7,14 +7,14 @@ ghost use Rattle.ssr_diff.specs.Private.Writing.{AreHunks};
 use crate::cuts::cuts;
 use crate::hunks::Hunks;
 use crate::lines::{Lines, Texts};
+use crate::names::quoted;
 use crate::places::Place;
 use ssr_base_trees::TextEdit;
 use std::alloc::{AllocError, Global};
 
 /// The unified diff of a file's text and what an edit makes of it, with three lines around each change; empty where nothing changes.
 ///
-/// The heads are `--- a/NAME` and `+++ b/NAME`, and a tab ends a name that has a blank. A name with a tab or a line break isn't
-/// quoted, so no program reads its diff.
+/// The heads are `--- a/NAME` and `+++ b/NAME`, each name [`quoted`] with what stands in front of it, and a tab ends one that has a blank.
 pub fn unified_diff(
     alloc: Global,
     name: &str,
@@ -31,8 +31,9 @@ pub fn unified_diff(
     }
 }
 
-/// The diff of two texts. An edit that makes the one of the other says where they may differ.
-fn diff_between(
+/// The unified diff of two texts of a file, as that of an edit. Where the edit makes the new text of the old one, what differs is
+/// told in short hunks; else the hunks are longer.
+pub fn diff_between(
     alloc: Global,
     name: &str,
     old: &str,
@@ -78,7 +79,9 @@ fn head(alloc: Global, name: &str) -> Result<String, AllocError>
     ensures { IfOk result (λ head. string_bytes head ≡ file_head name.now) }
 {
     let end = name_end(name);
-    format!(in alloc; "--- a/{name}{end}+++ b/{name}{end}")
+    let old = quoted(alloc, format!(in alloc; "a/{name}")?.as_str())?;
+    let new = quoted(alloc, format!(in alloc; "b/{name}")?.as_str())?;
+    format!(in alloc; "--- {old}{end}+++ {new}{end}")
 }
 
 /// What stands behind a name.

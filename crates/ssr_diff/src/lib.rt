@@ -5,9 +5,11 @@ mod cuts;
 mod diff;
 mod hunks;
 mod lines;
+mod names;
 mod places;
 mod trimming;
 mod writing;
 
-pub use diff::unified_diff;
+pub use diff::{diff_between, unified_diff};
 pub use lines::Lines;
+pub use names::quoted;

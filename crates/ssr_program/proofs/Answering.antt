@@ -8,7 +8,7 @@ use Rattle.ssr_program.specs.declared.commands.Form.{Form}
 use Rattle.ssr_program.specs.declared.commands.Form.TheVariants as forms
 use Rattle.ssr_program.specs.declared.rewrite_error.RewriteError.{RewriteError}
 use Rattle.ssr_program.specs.declared.rewrite_error.RewriteError.TheVariants as errors
-use Rattle.ssr_program.specs.Streams.{Given, Taken, IsRead}
+use Rattle.ssr_streams.specs.Streams.{Given, Taken, IsRead}
 use Rattle.ssr_program.specs.Commands.{command_of}
 use Rattle.ssr_program.specs.Output.{Output, input_refused}
 use Rattle.ssr_program.specs.OfFile.{words_of}

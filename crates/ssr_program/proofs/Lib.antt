@@ -1,4 +1,3 @@
-pub mod Sending
 pub mod Reading
 pub mod OneFile
 pub mod OneText

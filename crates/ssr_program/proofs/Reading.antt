@@ -1,7 +1,7 @@
 -- Texts that are read in parts.
 use Rattle.std.proofs.Common.{◌≡◌, ℕ, List, ◌++◌}
 use Rattle.std.specs.Io.KnownBytes.{Consumes}
-use Rattle.ssr_program.specs.Streams.{Given}
+use Rattle.ssr_streams.specs.Streams.{Given}
 
 -- what came so far, without a failure
 pub record HasRead (old mid : Given) (input : List ℕ) : Type 0 where

@@ -1,4 +1,3 @@
-pub mod Streams
 pub mod Commands
 pub mod Output
 pub mod OfFile

@@ -1,4 +1,3 @@
--- Words of private functions, and of how private fields are seen. No public clause cites them, and no reader of those has to believe them.
-pub mod Noted
+-- Words of private functions. No public clause cites them, and no reader of those has to believe them.
 pub mod Rewriting
 pub mod Transfer

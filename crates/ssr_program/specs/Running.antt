@@ -4,7 +4,7 @@ use Rattle.ssr_syntax_tree.specs.Syntax.{Syntax}
 use Rattle.ssr_facts.specs.declared.facts.Facts.{Facts}
 use Rattle.ssr_program.specs.declared.commands.Form.{Form}
 use Rattle.ssr_program.specs.declared.commands.Form.TheVariants as forms
-use Rattle.ssr_program.specs.Streams.{Given, Taken, IsRead, Sent}
+use Rattle.ssr_streams.specs.Streams.{Given, Taken, IsRead, Sent}
 use Rattle.ssr_program.specs.Commands.{command_of}
 use Rattle.ssr_program.specs.Output.{Output, usage, refused, input_refused}
 use Rattle.ssr_program.specs.OfFile.{IsFile, IsOutputOfFile}

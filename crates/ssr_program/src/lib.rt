@@ -3,16 +3,13 @@
 #![tactic(auto)]
 
 mod commands;
-mod counted;
 pub mod laws;
 mod of_facts;
 mod of_file;
 mod program;
 mod rewrite_error;
-mod streams;
 mod transfer;
 
 pub use commands::facts_path;
-pub use counted::{CountedSink, CountedSource, Unopened};
 pub use program::run;
-pub use streams::{Failed, Sink, Source};
+pub use ssr_streams::{CountedSink, CountedSource, Failed, Sink, Source, Unopened};

@@ -10,11 +10,11 @@ ghost use Rattle.ssr_program.specs.declared.commands.Form.TheVariants as forms;
 
 use crate::commands::{Form, command};
 use crate::rewrite_error::RewriteError;
-use crate::streams::{Sink, Source};
-use crate::transfer::{ReadError, read_all, write_pieces};
+use crate::transfer::{ReadError, read_all};
 use crate::{of_facts, of_file};
 use ssr_base::WorkspaceError;
 use ssr_facts::FactsError;
+use ssr_streams::{Sink, Source, write_pieces};
 use ssr_syntax::SyntaxError;
 use std::alloc::{AllocError, Global};
 

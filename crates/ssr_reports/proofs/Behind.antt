@@ -1,6 +1,6 @@
 -- Places behind a place.
-use Rattle.std.proofs.Common.{ℕ, ◌≡◌, ◌+◌, ◌-◌, ◌≤◌, Bool, true, false, not, List, [], ◌∷◌, ◌++◌, length, reverse, take, drop, count_by, refl, sym, ◌∙◌, ap, arith, append-nil}
-use Rattle.std.specs.List.{sum_by, take_while}
+use Rattle.std.proofs.Common.{ℕ, ◌≡◌, ◌+◌, ◌-◌, ◌≤◌, Bool, true, false, not, List, [], ◌∷◌, ◌++◌, reverse, take, drop, count_by, refl, sym, ◌∙◌, ap, arith, append-nil}
+use Rattle.std.specs.List.{take_while}
 use Rattle.std.proofs.Math.Bool.{cond}
 use Rattle.std.proofs.Math.Seq.{take-add}
 use Rattle.std.proofs.lemmas.List.{reverse-append}

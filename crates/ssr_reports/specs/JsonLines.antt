@@ -63,7 +63,8 @@ summary_tokens summary =
     ++ (number_field (codes "matches") summary.matches
     ++ (number_field (codes "edits") summary.edits
     ++ (number_field (codes "set_aside") summary.set_aside
-    ++ (number_field (codes "left_out") summary.left_out ++ end_object ∷ end_object ∷ [])))))
+    ++ (number_field (codes "unread") summary.unread
+    ++ (number_field (codes "left_out") summary.left_out ++ end_object ∷ end_object ∷ []))))))
 
 -- a line of JSON: the text of these tokens, which reads back as they are, and a line break
 pub record IsLineOf (written : List Token) (line : Vec ℕ Global) : Type 0 where

@@ -2,6 +2,7 @@
 use Rattle.std.specs.Prelude.{ℕ, ◌+◌, ◌==◌, ◌||◌, ◌≡◌, Bool, not, nat_lt, nat_le, if◌then◌else◌, List, [], ◌++◌, length, reverse, take, take_while, count_by, codes, decimal}
 use Rattle.std.specs.List.{before_first, position_or_len}
 use Rattle.std.specs.Str.{IsCharBoundary}
+use Rattle.ssr_diff.specs.Names.{quoted}
 use Rattle.ssr_reports.specs.declared.places.LinePlace.{LinePlace}
 
 abbrev pub is_line_break : ℕ → Bool
@@ -41,6 +42,10 @@ first_line text = before_first is_line_break text
 abbrev pub mark_of : List ℕ → List ℕ
 mark_of text = if position_or_len is_line_break text == length text then [] else codes " .."
 
+-- a place of a file
+abbrev pub place_words : List ℕ → LinePlace → List ℕ
+place_words file place = quoted file ++ (codes ":" ++ (decimal place.line ++ (codes ":" ++ decimal place.column)))
+
+-- what is found there
 abbrev pub place_text : List ℕ → LinePlace → List ℕ → List ℕ
-place_text file place found =
-    file ++ (codes ":" ++ (decimal place.line ++ (codes ":" ++ (decimal place.column ++ (codes ": " ++ (first_line found ++ (mark_of found ++ codes "\n")))))))
+place_text file place found = place_words file place ++ (codes ": " ++ (first_line found ++ (mark_of found ++ codes "\n")))

@@ -1,5 +1,5 @@
 -- The line that ends a run.
-use Rattle.std.specs.Prelude.{ℕ, ◌==◌, if◌then◌else◌, List, [], ◌++◌, codes, decimal}
+use Rattle.std.specs.Prelude.{ℕ, ◌+◌, ◌==◌, if◌then◌else◌, List, [], ◌++◌, codes, decimal}
 use Rattle.ssr_reports.specs.declared.summary.Summary.{Summary}
 
 -- a number, with the word for one or for many
@@ -15,5 +15,5 @@ summary_text summary =
     counted summary.matches (codes "match") (codes "matches")
     ++ (some_counted (codes " in ") summary.files (codes "file") (codes "files")
     ++ (some_counted (codes ": ") summary.edits (codes "edit") (codes "edits")
-    ++ (some_counted (codes "; ") summary.set_aside (codes "left as it is") (codes "left as they are")
+    ++ (some_counted (codes "; ") (summary.set_aside + summary.unread) (codes "left as it is") (codes "left as they are")
     ++ (some_counted (codes "; ") summary.left_out (codes "file left out") (codes "files left out") ++ codes "\n"))))

@@ -90,6 +90,7 @@ fn push_summary(writer: &mut Writer, summary: Summary) -> Result<(), AllocError>
     push_number(writer, "matches", summary.matches)?;
     push_number(writer, "edits", summary.edits)?;
     push_number(writer, "set_aside", summary.set_aside)?;
+    push_number(writer, "unread", summary.unread)?;
     push_number(writer, "left_out", summary.left_out)?;
     writer.end_object()?;
     writer.end_object()?;

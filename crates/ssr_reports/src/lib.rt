@@ -8,5 +8,5 @@ mod summary;
 
 pub use colors::colored;
 pub use json_lines::{Held, MatchReport, match_json, summary_json};
-pub use places::{LinePlace, Places, byte_at, line_place, place_line};
+pub use places::{LinePlace, Places, byte_at, line_place, place_line, place_words};
 pub use summary::{Summary, summary_line};

@@ -1,7 +1,8 @@
 //! Lines and columns.
 ghost use Rattle.std.specs.Prelude.{◌≡◌, ◌+◌, ◌<◌, ◌≤◌, ◌^◌, IfOk, MatchOption, length, count_by, string_bytes};
-ghost use Rattle.ssr_reports.specs.Places.{is_line_break, begins_character, last_line, first_line as first_line_of, mark_of, line_of, column_of, IsAt, HasNone, place_text};
+ghost use Rattle.ssr_reports.specs.Places.{is_line_break, begins_character, last_line, first_line as first_line_of, mark_of, line_of, column_of, IsAt, HasNone, place_words as words_of_place, place_text};
 
+use ssr_diff::quoted;
 use std::alloc::{AllocError, Global};
 use std::marker::Model;
 
@@ -134,6 +135,15 @@ fn characters_of_last_line(bytes: &[u8]) -> usize
         .count()
 }
 
+/// `src/lib.rs:12:9`: a place of a file, whose name is [`quoted`].
+pub fn place_words(alloc: Global, file: &str, place: LinePlace) -> Result<String, AllocError>
+    ensures { IfOk result (λ words. string_bytes words ≡ words_of_place file.now place) }
+{
+    let name = quoted(alloc, file)?;
+    let LinePlace { line, column } = place;
+    format!(in alloc; "{name}:{line}:{column}")
+}
+
 /// `src/lib.rs:12:9: text` and a line break, of what is found at a place of a file; of several lines the first one, and ` ..` behind it.
 pub fn place_line(
     alloc: Global,
@@ -143,10 +153,9 @@ pub fn place_line(
 ) -> Result<String, AllocError>
     ensures { IfOk result (λ line. string_bytes line ≡ place_text file.now place found.now) }
 {
-    let line = place.line;
-    let column = place.column;
+    let place = place_words(alloc, file, place)?;
     let (first, mark) = first_line(found);
-    format!(in alloc; "{file}:{line}:{column}: {first}{mark}\n")
+    format!(in alloc; "{place}: {first}{mark}\n")
 }
 
 /// A text up to its first line break, and a mark where there is one.

@@ -4,13 +4,15 @@ ghost use Rattle.ssr_reports.specs.Summary.{summary_text, counted, some_counted}
 
 use std::alloc::{AllocError, Global};
 
-/// How many files were searched, matches found, edits made, matches left as they are, and files left out.
+/// How many files have matches, how many matches there are and how many edits are made; how many matches stay because of what is set
+/// aside, and how many because the file can't be read with what stands for them; and how many files are left out.
 #[derive(Clone, Copy, Debug, PartialEq, Eq)]
 pub struct Summary {
     pub files: usize,
     pub matches: usize,
     pub edits: usize,
     pub set_aside: usize,
+    pub unread: usize,
     pub left_out: usize,
 }
 
@@ -20,20 +22,16 @@ pub fn summary_line(alloc: Global, summary: Summary) -> Result<String, AllocErro
     ensures { IfOk result (λ line. string_bytes line ≡ summary_text summary) }
 {
     let mut text = String::new(alloc);
-    push_counted(&mut text, summary.matches, "match", "matches")?;
-    push_some(&mut text, " in ", summary.files, "file", "files")?;
-    push_some(&mut text, ": ", summary.edits, "edit", "edits")?;
+    push_counted(&mut text, summary.matches as u128, "match", "matches")?;
+    push_some(&mut text, " in ", summary.files as u128, "file", "files")?;
+    push_some(&mut text, ": ", summary.edits as u128, "edit", "edits")?;
+    // two counts together, which need not fit their type
+    let left = summary.set_aside as u128 + summary.unread as u128;
+    push_some(&mut text, "; ", left, "left as it is", "left as they are")?;
     push_some(
         &mut text,
         "; ",
-        summary.set_aside,
-        "left as it is",
-        "left as they are",
-    )?;
-    push_some(
-        &mut text,
-        "; ",
-        summary.left_out,
+        summary.left_out as u128,
         "file left out",
         "files left out",
     )?;
@@ -45,7 +43,7 @@ pub fn summary_line(alloc: Global, summary: Summary) -> Result<String, AllocErro
 fn push_some(
     text: &mut String,
     front: &str,
-    count: usize,
+    count: u128,
     one: &str,
     many: &str,
 ) -> Result<(), AllocError>
@@ -58,7 +56,7 @@ fn push_some(
     push_counted(text, count, one, many)
 }
 
-fn push_counted(text: &mut String, count: usize, one: &str, many: &str) -> Result<(), AllocError>
+fn push_counted(text: &mut String, count: u128, one: &str, many: &str) -> Result<(), AllocError>
     ensures { OnOk result (string_bytes text.new ≡ string_bytes text.old ++ counted count one.now many.now) }
 {
     let words = if count == 1 { one } else { many };

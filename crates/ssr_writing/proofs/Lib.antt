@@ -1,1 +1,3 @@
+pub mod Calm
+pub mod Distinct
 pub mod Turns

@@ -4,14 +4,15 @@ use Rattle.std.proofs.lemmas.Grind.{flat_map-append}
 use Rattle.std.proofs.lemmas.List.{append-nil, drop-map, get_or-map, length-drop, length-map, take-map, take_all, take_more}
 use Rattle.std.proofs.lemmas.Option.{slice_get-get_or}
 use Rattle.std.specs.Prelude.{flat_map}
+use Rattle.ssr_writing.specs.declared.faults.WriteError.{WriteError}
 use Rattle.ssr_writing.specs.declared.writing.NewText.{NewText}
-use Rattle.ssr_writing.specs.Disk.{Call, Failing, Removed, Stops, StopsMaking, StopsReplacing, Asks, fails_to_make, fails_to_replace, makes, removes, replaces, temporary_of}
+use Rattle.ssr_writing.specs.Disk.{AreApart, Asks, Call, Failing, Removed, Stops, StopsAtOnce, StopsMaking, StopsReplacing, fails_to_make, fails_to_replace, makes, removes, replaces, temporary_of}
 
 -- two stretches of calls are one
 pub joined : (old mid new a b : List Call) → mid ≡ old ++ a → new ≡ mid ++ b → new ≡ old ++ (a ++ b)
 joined old mid new a b p q = q ∙ ap (λ calls. calls ++ b) p ∙ append_assoc old a b
 
-turns_more : (f : NewText → List Call) (files : List NewText) (i : ℕ) (d : NewText) → i < length files
+pub turns_more : {A : Type 0} (f : NewText → List A) (files : List NewText) (i : ℕ) (d : NewText) → i < length files
     → flat_map f (take (i + 1) files) ≡ flat_map f (take i files) ++ f (get_or files i d)
 turns_more f files i d within =
     ap (flat_map f) (take_more files i d within) ∙ flat_map-append f (take i files) (get_or files i d ∷ [])
@@ -78,14 +79,14 @@ module _ (files : List NewText) (i : ℕ) (d : NewText) (within : i < length fil
 
 -- ---- the whole run
 
-pub stopped_early : (files : List NewText) (written failed : ℕ) (old : List Call) → written ≡ 0 → Asks old old (Stops files written failed)
-stopped_early files written failed old none = ([], sym (append-nil old), inl (none, refl))
+pub stopped_early : (files : List NewText) (e : WriteError) (old : List Call) → StopsAtOnce files e → Asks old old (Stops files e)
+stopped_early files e old why = ([], sym (append-nil old), inl (refl, why))
 
-pub stopped_making : (files : List NewText) (written failed : ℕ) (old new : List Call) → written ≡ 0 → Asks old new (StopsMaking files failed)
-    → Asks old new (Stops files written failed)
-stopped_making files written failed old new none h = (h.0, h.1, inr (inl (none, h.2)))
+pub stopped_making : (files : List NewText) (e : WriteError) (old new : List Call) → AreApart files → e.written ≡ 0
+    → Asks old new (StopsMaking files e.failed) → Asks old new (Stops files e)
+stopped_making files e old new apart none h = (h.0, h.1, inr (apart, inl (none, h.2)))
 
-pub stopped_replacing : (files : List NewText) (written failed : ℕ) (old mid new : List Call) → mid ≡ old ++ flat_map makes files → written ≡ failed
-    → Asks mid new (StopsReplacing files failed) → Asks old new (Stops files written failed)
-stopped_replacing files written failed old mid new made some h =
-    (flat_map makes files ++ h.0, joined old mid new (flat_map makes files) h.0 made h.1, inr (inr (h.0, some, refl, h.2)))
+pub stopped_replacing : (files : List NewText) (e : WriteError) (old mid new : List Call) → AreApart files → mid ≡ old ++ flat_map makes files
+    → e.written ≡ e.failed → Asks mid new (StopsReplacing files e.failed) → Asks old new (Stops files e)
+stopped_replacing files e old mid new apart made some h =
+    (flat_map makes files ++ h.0, joined old mid new (flat_map makes files) h.0 made h.1, inr (apart, inr (h.0, some, refl, h.2)))

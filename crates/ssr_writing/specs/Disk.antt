@@ -1,5 +1,7 @@
 -- What a disk is asked, and what a run that gives files new texts asks of it.
-use Rattle.std.specs.Prelude.{◌≡◌, ℕ, List, [], ◌∷◌, ◌++◌, ◌⊎◌, Some, map, take, drop, flat_map, slice_get}
+use Rattle.std.specs.Prelude.{◌≡◌, ◌≢◌, ℕ, ◌+◌, List, [], ◌∷◌, ◌++◌, ◌⊎◌, Some, AllPairs, map, take, drop, flat_map, slice_get}
+use Rattle.ssr_writing.specs.declared.faults.WriteError.{WriteError}
+use Rattle.ssr_writing.specs.declared.faults.WriteFault.TheVariants.{Clash, Memory}
 use Rattle.ssr_writing.specs.declared.writing.NewText.{NewText}
 use Rattle.ssr_writing.specs.Temporary.{temporary_path}
 
@@ -16,6 +18,22 @@ pub data Call : Type 0 where
 -- the path of a file's temporary
 abbrev pub temporary_of : NewText → List ℕ
 temporary_of file = temporary_path file.path.now
+
+-- no two paths are the same
+abbrev pub AreDistinct : List (List ℕ) → Type 0
+AreDistinct = AllPairs (λ one other. one ≢ other)
+
+-- the paths of a file's turn: its own, and its temporary's
+abbrev pub places : NewText → List (List ℕ)
+places file = file.path.now ∷ temporary_of file ∷ []
+
+-- no file is given twice, and none is another's temporary
+abbrev pub AreApart : List NewText → Type 0
+AreApart files = AreDistinct (flat_map places files)
+
+-- the first file that isn't apart from those in front of it
+abbrev pub ClashesFirst : List NewText → ℕ → Type 0
+ClashesFirst files failed = AreApart (take failed files) × ¬ AreApart (take (failed + 1) files)
 
 -- the file is seen with its old text
 abbrev pub seen : NewText → Call
@@ -64,12 +82,19 @@ StopsReplacing files failed asked =
     (file : NewText) × (how : Failing) × (slice_get files failed ≡ Some file)
     × (asked ≡ flat_map replaces (take failed files) ++ fails_to_replace how file ++ map removes (drop failed files))
 
--- a run that fails: before the first call, or while no file has its new text, or when each in front of the failed one has it
-abbrev pub Stops : List NewText → ℕ → ℕ → List Call → Type 0
-Stops files written failed asked =
-    ((written ≡ 0) × (asked ≡ []))
-    ⊎ (((written ≡ 0) × StopsMaking files failed asked)
-    ⊎ ((replacing : List Call) × (written ≡ failed) × (asked ≡ flat_map makes files ++ replacing) × StopsReplacing files failed replacing))
+-- a run that fails before the first call: two files want one path, or there is no memory
+abbrev pub StopsAtOnce : List NewText → WriteError → Type 0
+StopsAtOnce files e = (e.written ≡ 0) × ((e.why ≡ Memory) ⊎ ((e.why ≡ Clash) × ClashesFirst files e.failed))
+
+-- a run that the disk fails: while no file has its new text, or when each in front of the failed one has it
+abbrev pub StopsLater : List NewText → WriteError → List Call → Type 0
+StopsLater files e asked =
+    ((e.written ≡ 0) × StopsMaking files e.failed asked)
+    ⊎ ((replacing : List Call) × (e.written ≡ e.failed) × (asked ≡ flat_map makes files ++ replacing) × StopsReplacing files e.failed replacing)
+
+-- a run that fails: the disk is asked nothing, or all files are apart
+abbrev pub Stops : List NewText → WriteError → List Call → Type 0
+Stops files e asked = ((asked ≡ []) × StopsAtOnce files e) ⊎ (AreApart files × StopsLater files e asked)
 
 -- the calls since then
 abbrev pub Asks : List Call → List Call → (List Call → Type 0) → Type 0

@@ -1,3 +1,4 @@
 pub mod Disk
 pub mod Private
+pub mod Replay
 pub mod Temporary

@@ -16,6 +16,9 @@ pub enum WriteFault {
     /// The temporary file beside it, with this path, lies there already.
     #[error("needs the place of {0}, which lies there already")]
     LeftOver(String),
+    /// The file is given twice, or is the temporary file of another one, or has one that is.
+    #[error("takes the place of another file, or of a temporary one")]
+    Clash,
     /// The file system refuses a step.
     #[error("{0}")]
     Io(io::Error),

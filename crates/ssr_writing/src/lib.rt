@@ -1,8 +1,10 @@
 //! New texts on the disk: all files of a run get theirs, or, as far as a file system lets, none.
 #![tactic(auto)]
 
+mod apart;
 mod disk;
 mod faults;
+pub mod laws;
 mod on_disk;
 mod temporary;
 mod writing;

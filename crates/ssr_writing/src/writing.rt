@@ -1,7 +1,8 @@
 //! New texts for the files of a run.
 ghost use Rattle.std.specs.Prelude.{◌≡◌, ◌<◌, ◌++◌, IfOk, IfErr, OnErr, OnOk, flat_map, length, map, string_bytes};
-ghost use Rattle.ssr_writing.specs.Disk.{Asks, Failing, Removed, Stops, StopsMaking, StopsReplacing, fails_to_make, fails_to_replace, makes, replaces, temporary_of, writes};
+ghost use Rattle.ssr_writing.specs.Disk.{AreApart, Asks, Failing, Removed, Stops, StopsMaking, StopsReplacing, fails_to_make, fails_to_replace, makes, replaces, temporary_of, writes};
 
+use crate::apart::keep_apart;
 use crate::disk::Disk;
 use crate::faults::{WriteError, WriteFault};
 use crate::temporary::temporary_path;
@@ -112,14 +113,16 @@ fn replace_all<D: Disk>(
 /// lie there yet. Only when all of these are on the disk do they take the places of the files, one by one, each directly after
 /// another look at its file.
 ///
-/// A failure before that leaves each file as it was, and no temporary file but what can't be removed.
+/// Where a file is given twice, or is another's temporary file, the disk isn't asked anything. A failure before the first new
+/// text leaves each file as it was, and no temporary file but what can't be removed.
 pub fn write_all<D: Disk>(
     alloc: Global,
     disk: &mut D,
     files: &[NewText<'_>],
 ) -> Result<(), WriteError>
     ensures ok { OnOk result (D.calls disk.new ≡ D.calls disk.old ++ writes files.now) }
-    ensures err { IfErr result (λ e. Asks (D.calls disk.old) (D.calls disk.new) (Stops files.now e.written e.failed)) }
+    ensures apart { OnOk result (AreApart files.now) }
+    ensures err { IfErr result (λ e. Asks (D.calls disk.old) (D.calls disk.new) (Stops files.now e)) }
     // No file is told that wasn't given.
     ensures failed { IfErr result (λ e. e.failed < length files.now) }
     // Nothing is written before all can be, and then each file before the one that fails.
@@ -130,6 +133,7 @@ pub fn write_all<D: Disk>(
     }
     match temporary_paths(alloc, files) {
         Ok(temporaries) => {
+            keep_apart(alloc, files, temporaries.as_slice())?;
             prepare_all(disk, files, temporaries.as_slice())?;
             replace_all(disk, files, temporaries.as_slice())?;
             Ok(())

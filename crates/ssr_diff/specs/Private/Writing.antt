@@ -1,12 +1,11 @@
 -- Places in two texts, and hunks of them that are being written.
-use Rattle.std.specs.Prelude.{ℕ, ◌≡◌, ◌+◌, ◌-◌, ◌<◌, ◌≤◌, List, [], ◌∷◌, ◌++◌, length, map, flat_map, min, All, Option, Some, None, String, string_bytes, codes}
+use Rattle.std.specs.Prelude.{ℕ, ◌≡◌, ◌+◌, ◌-◌, ◌<◌, ◌≤◌, List, [], ◌++◌, length, map, flat_map, min, All, Option, Some, None, string_bytes, codes}
 use Rattle.std.specs.List.{slice_range}
-use Rattle.std.specs.Global.{Global}
 use Rattle.ssr_diff.specs.declared.places.Place.{Place}
 use Rattle.ssr_diff.specs.declared.places.Block.{Block}
 use Rattle.ssr_diff.specs.declared.hunks.OpenHunk.{OpenHunk}
 use Rattle.ssr_diff.specs.declared.hunks.Hunks.{Hunks}
-use Rattle.ssr_diff.specs.Patch.{Line, Kept, Removed, Added, Hunk, old_lines, new_lines, Patches, HasContext, BeginsWithChange, EndsWithChange, IsContext, line_text, span_text, hunk_text}
+use Rattle.ssr_diff.specs.Patch.{Line, Kept, Hunk, old_lines, new_lines, Patches, HasContext, BeginsWithChange, EndsWithChange, IsContext, line_text, span_text, hunk_text}
 
 abbrev pub Text : Type 0
 Text = List (List ℕ)

@@ -2,7 +2,7 @@
 use Rattle.std.specs.Prelude.{◌≡◌, ℕ, ◌+◌, Result, Ok, Err, Vec}
 use Rattle.ssr_program.specs.declared.transfer.ReadError.{ReadError}
 use Rattle.ssr_program.specs.declared.transfer.ReadError.TheVariants.{Failed, Memory}
-use Rattle.ssr_program.specs.Streams.{Given, IsRead}
+use Rattle.ssr_streams.specs.Streams.{Given, IsRead}
 
 -- all bytes that a source had left were read; or there was no memory; or a read failed
 abbrev pub ReadsAll : {A : Type 0} → Given → Given → Result (Vec ℕ A) ReadError → Type 0

@@ -23,6 +23,7 @@ pub loop-file-preserved : goal.loop-file-preserved
 loop-file-preserved c =
     let files = c.args.files.now.files in
     let new = changes_in c.args.edits in
+    let space = c.args.files.now.workspace in
     let n = c.loop-file.file in
     let same = searched_length c.args.files.now.workspace.files files c.workspace.ensures.searched in
     let less : n < length files =
@@ -33,12 +34,12 @@ loop-file-preserved c =
           elim c.match-remove.branch [
             | in-Some+in_ok-changed+in_ok-push w ↦
                 let change = w.in_ok-changed.ensures.change in
-                some_more new files n change.0 less change.1 c.loop-file.made.items c.match-remove.made.items w.in_ok-changed.field-0 w.in-Some.edit _
+                some_more space new files n change.0 less change.1 c.loop-file.made.items c.match-remove.made.items w.in_ok-changed.field-0 w.in-Some.edit _
                 (here ∙ sym w.in-Some.ensures.value) change.2 (ap (λ v. v.items) w.made-is ∙ w.in_ok-push.ensures.items) c.loop-file.invariant.made
             | in_default w ↦
                 let there = some_at files n less in
-                none_more new files n there.0 less there.1 (map shown c.match-remove.made.items) _ (here ∙ sym w.in_default.ensures.value)
-                (ap (λ v. map shown v.items ++ left_from new files n) w.made-is ∙ c.loop-file.invariant.made)
+                none_more space new files n there.0 less there.1 (map shown c.match-remove.made.items) _ (here ∙ sym w.in_default.ensures.value)
+                (ap (λ v. map shown v.items ++ left_from space new files n) w.made-is ∙ c.loop-file.invariant.made)
           ];
       fit =
           elim c.match-remove.branch [
@@ -54,4 +55,4 @@ returns-clause-changes c =
     let same = searched_length c.args.files.now.workspace.files c.args.files.now.files c.workspace.ensures.searched in
     let all : length c.args.files.now.files ≤ c.loop-file.file =
     omega (arith, c.file_count-file-end.ensures.count, ap (λ (w : Workspace). length w.files) c.workspace.ensures.workspace, same, c.loop-file-test.false) in
-    none_left (changes_in c.args.edits) c.args.files.now.files c.loop-file.file (map shown c.loop-file.made.items) all c.loop-file.invariant.made
+    none_left c.args.files.now.workspace (changes_in c.args.edits) c.args.files.now.files c.loop-file.file (map shown c.loop-file.made.items) all c.loop-file.invariant.made

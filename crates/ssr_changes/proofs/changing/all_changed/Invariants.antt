@@ -7,6 +7,6 @@ use Rattle.ssr_changes.proofs.changing.all_changed.Given as goal
 abbrev pub invariant-loop-file : goal.invariant-loop-file
 invariant-loop-file l = record {
   same : (k : ℕ) → l.file ≤ k → changes_in l.left k ≡ changes_in l.fn.edits k;
-  made : map shown l.made.items ++ left_from (changes_in l.fn.edits) l.files.files l.file ≡ all_changed (changes_in l.fn.edits) l.files.files;
+  made : map shown l.made.items ++ left_from l.files.workspace (changes_in l.fn.edits) l.files.files l.file ≡ all_changed l.files.workspace (changes_in l.fn.edits) l.files.files;
   fit : All (FitsIn l.files.files) l.made.items;
 }

@@ -1,4 +1,4 @@
-use Rattle.std.proofs.Common.{◌≡◌, ◌+◌, ◌<◌, ◌≤◌, length, refl, arith, rules, slice_get}
+use Rattle.std.proofs.Common.{◌≡◌, ◌<◌, length, refl, arith, rules, slice_get}
 use Rattle.ssr_diff.proofs.SameLines.{same_none, same_join, same_one}
 use Rattle.ssr_diff.proofs.trimming.behind_same.Goals as goal
 

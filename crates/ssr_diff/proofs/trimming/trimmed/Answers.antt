@@ -1,4 +1,4 @@
-use Rattle.std.proofs.Common.{refl, arith}
+use Rattle.std.proofs.Common.{refl}
 use Rattle.ssr_diff.proofs.SameLines.{same_join, same_empty, some_line}
 use Rattle.ssr_diff.proofs.trimming.trimmed.Goals as goal
 

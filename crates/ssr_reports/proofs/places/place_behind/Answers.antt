@@ -1,4 +1,4 @@
-use Rattle.std.proofs.Common.{◌≡◌, ◌+◌, ap, ◌∙◌, sym, arith}
+use Rattle.std.proofs.Common.{◌∙◌, sym, arith}
 use Rattle.ssr_reports.proofs.Behind.{line_behind, column_on, column_anew}
 use Rattle.ssr_reports.proofs.places.place_behind.Goals as goal
 

@@ -1,4 +1,4 @@
-use Rattle.std.proofs.Common.{refl, ap, arith}
+use Rattle.std.proofs.Common.{ap}
 use Rattle.std.proofs.lemmas.Result.{IfOk-weaker}
 use Rattle.ssr_diff.specs.declared.places.Place.{Place}
 use Rattle.ssr_diff.proofs.HunkLaws.{writing_fits, hunks_none, hunks_closed}

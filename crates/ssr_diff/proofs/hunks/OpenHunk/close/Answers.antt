@@ -1,4 +1,4 @@
-use Rattle.std.proofs.Common.{ℕ, ◌+◌, ◌≤◌, ap, arith}
+use Rattle.std.proofs.Common.{ℕ, ◌+◌, ap, arith}
 use Rattle.ssr_diff.specs.declared.places.Place.{Place}
 use Rattle.ssr_diff.proofs.HunkLaws.{closed_more}
 use Rattle.ssr_diff.proofs.hunks.OpenHunk.close.Goals as goal

@@ -1,4 +1,4 @@
-use Rattle.std.proofs.Common.{List, ℕ, Bor, map, sym, ◌∙◌, ap, subst, lit<}
+use Rattle.std.proofs.Common.{List, ℕ, Bor, map, ◌∙◌, ap, subst, lit<}
 use Rattle.std.specs.Str.Iter.{split_inclusive_text, IsSplitInclusiveRun}
 use Rattle.ssr_diff.proofs.LinesOf.{lines_of_run}
 use Rattle.ssr_diff.proofs.lines.Lines.of_text.Goals as goal

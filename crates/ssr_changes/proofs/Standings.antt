@@ -1,0 +1,90 @@
+-- Changes that are made, and the others.
+use Rattle.std.proofs.Common.{◌≡◌, ℕ, zero, suc, ◌+◌, ◌<◌, ◌≤◌, cond, Bool, true, false, List, [], ◌∷◌, ◌++◌, length, get_or, take, All, ◌∙◌, ap, subst, append-nil, arith, String, string_bytes}
+use Rattle.std.specs.Prelude.{filter, if◌then◌else◌}
+use Rattle.std.specs.Global.{Global}
+use Rattle.std.proofs.lemmas.List.{map-append}
+use Rattle.std.proofs.lemmas.List.Elements.{All-filter, All-nil, filter_more}
+use Rattle.ssr_syntax_kinds.specs.declared.range.TextRange.{TextRange}
+use Rattle.ssr_base_trees.specs.Applied.{change_of, changes_of}
+use Rattle.ssr_base_trees.specs.Changes.{Change, ChangesInOrder}
+use Rattle.ssr_changes.specs.Standing.{alone, falling, not_alone, standing}
+
+-- ** Order.
+
+-- a change begins before its end
+pub in_order_at : (cs : List Change) (at i : ℕ) (d : Change) → ChangesInOrder at cs → i < length cs → get_or cs i d ≡ d → d.start ≤ d.end
+in_order_at [] at i d order less its = absurd (omega arith)
+in_order_at (c ∷ cs) at zero d order less its = subst (λ (c : Change). c.start ≤ c.end) its order.1
+in_order_at (c ∷ cs) at (suc i) d order less its = in_order_at cs c.end i d order.2 (omega arith) its
+
+earlier : (at from : ℕ) (cs : List Change) → at ≤ from → ChangesInOrder from cs → ChangesInOrder at cs
+earlier at from [] less order = tt
+earlier at from (c ∷ cs) less order = (omega (arith, order.0), order.1, order.2)
+
+-- changes that are left out leave the others in order
+pub order-filter : (p : Change → Bool) (at : ℕ) (cs : List Change) → ChangesInOrder at cs → ChangesInOrder at (filter p cs)
+order-filter p at [] order = tt
+order-filter p at (c ∷ cs) order = by (p c) (order-filter p c.end cs order.2)
+  where
+    by : (b : Bool) → ChangesInOrder c.end (filter p cs) → ChangesInOrder at (if b then c ∷ filter p cs else filter p cs)
+    by true rest = (order.0, order.1, rest)
+    by false rest = earlier at c.end (filter p cs) (omega (arith, order.0, order.1)) rest
+
+-- ** One change more.
+
+module _ (p : Change → Bool) (cs : List Change) (i : ℕ) (d : Change) (less : i < length cs) (its : get_or cs i d ≡ d) where
+  more : (b : Bool) → p d ≡ b → filter p (take (i + 1) cs) ≡ filter p (take i cs) ++ cond b (d ∷ []) []
+  more b is =
+      filter_more p cs i d less
+      ∙ ap (λ (x : Change). filter p (take i cs) ++ cond (p x) (x ∷ []) []) its
+      ∙ ap (λ b. filter p (take i cs) ++ cond b (d ∷ []) []) is
+
+  pub kept : p d ≡ true → filter p (take (i + 1) cs) ≡ filter p (take i cs) ++ d ∷ []
+  kept is = more true is
+
+  pub left_out : p d ≡ false → filter p (take (i + 1) cs) ≡ filter p (take i cs)
+  left_out is = more false is ∙ append-nil (filter p (take i cs))
+
+-- a copy of a change behind others
+pub copy_behind : (made new : List (TextRange × String Global)) (range : TextRange) (copy text : String Global) (bytes : List ℕ)
+    → new ≡ made ++ (range, copy) ∷ [] → string_bytes copy ≡ bytes → bytes ≡ string_bytes text → changes_of new ≡ changes_of made ++ change_of (range, text) ∷ []
+copy_behind made new range copy text bytes is copied same =
+    ap changes_of is ∙ map-append change_of made ((range, copy) ∷ [])
+    ∙ ap (λ (bytes : List ℕ). changes_of made ++ record { start = range.start; end = range.end; text = bytes } ∷ []) (copied ∙ same)
+
+-- ** What is made.
+
+module _ (stands : List Change → Bool) (cs : List Change) where
+  pub all_made : stands cs ≡ true → standing stands cs ≡ cs
+  all_made all = ap (λ b. if b then cs else if stands (alone stands cs) then alone stands cs else []) all
+
+  pub none_fall : stands cs ≡ true → falling stands cs ≡ []
+  none_fall all = ap (λ b. if b then [] else if stands (alone stands cs) then not_alone stands cs else cs) all
+
+  pub alone_made : stands cs ≡ false → stands (alone stands cs) ≡ true → standing stands cs ≡ alone stands cs
+  alone_made all some =
+      ap (λ b. if b then cs else if stands (alone stands cs) then alone stands cs else []) all ∙ ap (λ b. if b then alone stands cs else []) some
+
+  pub others_fall : stands cs ≡ false → stands (alone stands cs) ≡ true → falling stands cs ≡ not_alone stands cs
+  others_fall all some =
+      ap (λ b. if b then [] else if stands (alone stands cs) then not_alone stands cs else cs) all ∙ ap (λ b. if b then not_alone stands cs else cs) some
+
+  pub none_made : stands cs ≡ false → stands (alone stands cs) ≡ false → standing stands cs ≡ []
+  none_made all some =
+      ap (λ b. if b then cs else if stands (alone stands cs) then alone stands cs else []) all ∙ ap (λ b. if b then alone stands cs else []) some
+
+  pub all_fall : stands cs ≡ false → stands (alone stands cs) ≡ false → falling stands cs ≡ cs
+  all_fall all some =
+      ap (λ b. if b then [] else if stands (alone stands cs) then not_alone stands cs else cs) all ∙ ap (λ b. if b then not_alone stands cs else cs) some
+
+  -- what holds of all changes holds of those that are made
+  pub All-standing : (P : Change → Type 0) → All P cs → All P (standing stands cs)
+  All-standing P all = by (stands cs)
+    where
+      or_none : (b : Bool) → All P (if b then alone stands cs else [])
+      or_none true = All-filter (λ c. stands (c ∷ [])) P cs all
+      or_none false = All-nil P
+
+      by : (b : Bool) → All P (if b then cs else if stands (alone stands cs) then alone stands cs else [])
+      by true = all
+      by false = or_none (stands (alone stands cs))

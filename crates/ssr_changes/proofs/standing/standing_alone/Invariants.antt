@@ -1,0 +1,11 @@
+use Rattle.std.proofs.Common.{◌≡◌, map, take}
+use Rattle.ssr_base_trees.specs.Applied.{changes_of}
+use Rattle.ssr_set_aside.specs.Sparing.{bounds, bounds_of}
+use Rattle.ssr_changes.specs.Standing.{alone, not_alone, stands}
+use Rattle.ssr_changes.proofs.standing.standing_alone.Given as goal
+
+abbrev pub invariant-loop-range : goal.invariant-loop-range
+invariant-loop-range l = record {
+  made : changes_of l.made.items ≡ alone (stands l.tree) (take l.range-index (changes_of l.range-items));
+  unread : map bounds l.unread.items ≡ map bounds_of (not_alone (stands l.tree) (take l.range-index (changes_of l.range-items)));
+}

@@ -1,0 +1,32 @@
+//! Which rule or search pattern names `self`.
+
+use crate::finding::Form;
+use ide_ssr::{SsrError, SsrPattern, SsrRule};
+use ide_ssr_rules::{ParsedRule, pattern_kinds, rule_kinds};
+use ide_ssr_search::names_self;
+use std::alloc::Global;
+
+/// The number of the first rule or search pattern that names `self` as a value, if one does. It matches in the function around
+/// the position alone.
+pub fn first_with_self(alloc: Global, form: Form, texts: &[String]) -> Option<usize> {
+    for (number, text) in texts.iter().enumerate() {
+        // one that is refused names nothing
+        let Ok(kinds) = kinds(alloc, form, text.as_str()) else {
+            continue;
+        };
+        if kinds.iter().any(|kind| names_self(&kind.pattern)) {
+            return Some(number);
+        }
+    }
+    None
+}
+
+/// What a text is read as.
+fn kinds(alloc: Global, form: Form, text: &str) -> Result<Vec<ParsedRule>, SsrError> {
+    let parsed = match form {
+        Form::Rules => rule_kinds(SsrRule::parse(alloc, text)?.once()),
+        Form::Patterns => pattern_kinds(SsrPattern::parse(alloc, text)?),
+    };
+    let (_, _, kinds) = parsed.into_parts();
+    Ok(kinds)
+}

@@ -1,0 +1,8 @@
+use Rattle.std.proofs.Common.{rules, tests}
+use Rattle.std.proofs.lemmas.Iterator.{YieldsList-from_chars}
+use Rattle.std.proofs.lemmas.Iterator.Search.{any_from_yields_List}
+use Rattle.ssr_diff.specs.Names.{is_escaped}
+use Rattle.ssr_diff.proofs.names.has_escapes.Goals as goal
+
+pub returns : goal.returns
+returns c = any_from_yields_List is_escaped _ _ _ c.any.ensures.ran (YieldsList-from_chars c.args.name.now c.utf8.name cc) (λ x b q k. search (rules, tests))

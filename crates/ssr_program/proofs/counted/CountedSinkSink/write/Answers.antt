@@ -1,5 +1,0 @@
-use Rattle.std.proofs.Common.{rules}
-use Rattle.ssr_program.proofs.counted.CountedSinkSink.write.Goals as goal
-
-pub returns-else-count-eq0-clause-ok : goal.returns-else-count-eq0-clause-ok
-returns-else-count-eq0-clause-ok g c = search rules steps 2000000

@@ -1,5 +1,0 @@
-use Rattle.std.proofs.Common.{rules}
-use Rattle.ssr_program.proofs.counted.CountedSource.new.Goals as goal
-
-pub returns : goal.returns
-returns g c = search rules steps 200000

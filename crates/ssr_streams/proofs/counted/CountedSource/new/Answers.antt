@@ -1,0 +1,5 @@
+use Rattle.std.proofs.Common.{rules}
+use Rattle.ssr_streams.proofs.counted.CountedSource.new.Goals as goal
+
+pub returns : goal.returns
+returns g c = search rules steps 200000
