@@ -458,6 +458,31 @@ def a_package_is_found_from_below(program):
 
 
 @example
+def members_are_found_by_patterns(program):
+    files = {"Cargo.toml": '[workspace]\nmembers = ["deep/*/x", "all/**", "a[b]", "no/*/y"]\nexclude = ["all/old"]\n'}
+    for folder in "all/b/c", "all/old/d", "deep/k/x", "deep/x":
+        files |= {f"{folder}/Cargo.toml": MANIFEST, f"{folder}/src/lib.rs": "fn f() { a.unwrap() }\n"}
+    with Package(files) as package:
+        status, out, told = package.run(program, "--search", "$a.unwrap()")
+        yield (status, out) == (0, "".join(f"{folder}/src/lib.rs:1:10: a.unwrap()\n" for folder in ("all/b/c", "deep/k/x")))
+        yield told == 'members "a[b]": [ isn\'t read\nmembers "no/*/y": no folder fits\n2 matches in 2 files\n'
+
+
+@example
+def dependencies_by_path_are_members(program):
+    needs = {"one": 'two = { path = "../two" }\nlog = "0.4"', "two": "three = { workspace = true }", "three": 'four = { path = "../../four" }'}
+    files = {"Cargo.toml": '[workspace]\nmembers = ["one"]\n\n[workspace.dependencies]\nthree = { path = "three" }\n'}
+    for name, needed in needs.items():
+        files[f"{name}/Cargo.toml"] = f'[package]\nname = "{name}"\n\n[dependencies]\n{needed}\n'
+        files[f"{name}/src/lib.rs"] = "fn f() { a.unwrap() }\n"
+    with Package(files) as package:
+        status, out, _ = package.run(program, "--search", "$a.unwrap()")
+        yield (status, out) == (0, "".join(f"{name}/src/lib.rs:1:10: a.unwrap()\n" for name in sorted(needs)))
+        status, out, _ = package.run(program, "--search", "$a.unwrap()", "-p", "three")
+        yield (status, out) == (0, "three/src/lib.rs:1:10: a.unwrap()\n")
+
+
+@example
 def links_are_not_followed(program):
     with Package() as package, Package({"inner.rs": INNER}) as other:
         (package.folder / "src/inner.rs").unlink()

@@ -15,6 +15,8 @@ trouble_words t.Link = Some (codes "reached through a link")
 trouble_words t.NotOurs = Some (codes "below target or vendor")
 trouble_words t.NotAFile = Some (codes "no file")
 trouble_words t.NotText = Some (codes "not UTF-8")
+trouble_words t.NoFolder = Some (codes "no folder fits")
+trouble_words (t.Unread mark) = Some (mark.now ++ codes " isn't read")
 trouble_words (t.Unreadable kind) = None
 
 -- a file's name, and why it is passed over

@@ -1,4 +1,4 @@
-//! Patterns of names, with one `*` at most.
+//! Patterns of names, with one `*` at most, and what isn't read in them.
 ghost use Rattle.std.specs.Prelude.{◌≡◌};
 ghost use Rattle.ssr_package.specs.Globs as spec;
 
@@ -20,4 +20,15 @@ fn is_around(front: &str, back: &str, name: &str) -> bool
 {
     let has_room = back.len() <= name.len().saturating_sub(front.len());
     has_room && name.starts_with(front) && name.ends_with(back)
+}
+
+/// What makes a path a pattern that isn't read, if something does.
+pub(crate) fn unread_mark(path: &str) -> Option<&'static str> {
+    if path.contains('[') {
+        Some("[")
+    } else if path.contains('?') {
+        Some("?")
+    } else {
+        None
+    }
 }

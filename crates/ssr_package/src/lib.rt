@@ -3,7 +3,9 @@
 
 mod candidates;
 mod crates;
+mod dependencies;
 mod finding;
+mod folders;
 mod given;
 mod globs;
 mod manifest;

@@ -1,21 +1,19 @@
 //! The members of a workspace.
 
 use crate::crates::{Edition, package_edition, workspace_edition};
-use crate::globs::fits;
+use crate::globs::unread_mark;
 use crate::manifest::{items_at, package_name, table_at};
 use crate::notes::Trouble;
 use crate::package_error::PackageError;
 use crate::packages::read_manifest;
 use crate::paths::{normal_path, within};
-use crate::places::{file_folder, last_part};
 use crate::reading::Reading;
-use crate::root::{Entry, Standing};
 use crate::targets::Package;
 use std::rt::Files;
 use toml::{Table, Value};
 
 impl<R: Files + AllocGlobal> Reading<'_, R> {
-    /// The packages that a workspace's manifest lists as its members.
+    /// The packages that a workspace's manifest lists as its members, and those in its folder that they depend on by paths.
     pub(crate) fn members(&mut self, manifest: &Table) -> Result<Vec<Package>, PackageError> {
         let mut packages = Vec::new(self.alloc());
         let Some(workspace) = table_at(manifest, "workspace") else {
@@ -28,10 +26,11 @@ impl<R: Files + AllocGlobal> Reading<'_, R> {
                 self.add_members(&mut packages, pattern, excluded, edition)?;
             }
         }
+        self.add_dependencies(&mut packages, manifest)?;
         Ok(packages)
     }
 
-    /// Adds the members of a path, or of a path whose last part is a pattern. The edition is that of the workspace.
+    /// Adds the members of a path, of which parts may be patterns. The edition is that of the workspace.
     fn add_members(
         &mut self,
         packages: &mut Vec<Package>,
@@ -42,45 +41,42 @@ impl<R: Files + AllocGlobal> Reading<'_, R> {
         let Some(path) = normal_path(self.alloc(), "", pattern)? else {
             return self.note(pattern, Trouble::Outside);
         };
-        let folder = file_folder(path.as_str());
-        let last = last_part(path.as_str());
-        if !last.contains('*') {
+        if let Some(mark) = unread_mark(path.as_str()) {
+            return self.note_pattern(pattern, Trouble::Unread(mark));
+        }
+        if !path.as_str().contains('*') {
             return self.add_member(packages, path.as_str(), true, edition);
         }
-        if self.root().standing(folder)? != Standing::Folder {
-            return self.note(folder, Trouble::Missing);
+        let folders = self.folders_at(path.as_str())?;
+        if folders.is_empty() {
+            return self.note_pattern(pattern, Trouble::NoFolder);
         }
-        let entries = match self.root().entries(folder)? {
-            Ok(entries) => entries,
-            Err(trouble) => return self.note(folder, trouble),
-        };
-        for entry in &entries {
-            if self.is_member(folder, last, entry, excluded)? {
-                let name = within(self.alloc(), folder, entry.name.as_str())?;
-                self.add_member(packages, name.as_str(), false, edition)?;
+        for folder in folders {
+            if !self.is_excluded(folder.as_str(), excluded)? {
+                self.add_member(packages, folder.as_str(), false, edition)?;
             }
         }
         Ok(())
     }
 
-    /// Whether a pattern of members takes what is in its folder.
-    fn is_member(
+    /// Notes something of a pattern of members.
+    fn note_pattern(&mut self, pattern: &str, trouble: Trouble) -> Result<(), PackageError> {
+        let name = format!(in self.alloc(); "members \"{pattern}\"")?;
+        self.note(name.as_str(), trouble)
+    }
+
+    /// Whether a folder is left out of the members: it is one of these paths, or lies below one.
+    pub(crate) fn is_excluded(
         &self,
         folder: &str,
-        pattern: &str,
-        entry: &Entry,
         excluded: &[Value],
     ) -> Result<bool, PackageError> {
-        if !entry.is_folder || !fits(pattern, entry.name.as_str()) {
-            return Ok(false);
-        }
-        let name = within(self.alloc(), folder, entry.name.as_str())?;
         for path in excluded {
-            if self.is_below(name.as_str(), path)? {
-                return Ok(false);
+            if self.is_below(folder, path)? {
+                return Ok(true);
             }
         }
-        Ok(true)
+        Ok(false)
     }
 
     /// Whether a name is that of a path, or lies below it.
@@ -98,7 +94,7 @@ impl<R: Files + AllocGlobal> Reading<'_, R> {
     }
 
     /// Adds the package of a folder, if it has a manifest. Where it must have one, it is noted that it has none.
-    fn add_member(
+    pub(crate) fn add_member(
         &mut self,
         packages: &mut Vec<Package>,
         folder: &str,

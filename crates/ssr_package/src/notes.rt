@@ -22,6 +22,10 @@ pub enum Trouble {
     NotAFile,
     /// It is not UTF-8.
     NotText,
+    /// No folder fits a pattern of members.
+    NoFolder,
+    /// A pattern of members has a mark that isn't read.
+    Unread(&'static str),
     /// It can't be read.
     Unreadable(ErrorKind),
 }
@@ -44,6 +48,8 @@ impl fmt::Display for Trouble {
             Trouble::NotOurs => f.write_str("below target or vendor"),
             Trouble::NotAFile => f.write_str("no file"),
             Trouble::NotText => f.write_str("not UTF-8"),
+            Trouble::NoFolder => f.write_str("no folder fits"),
+            Trouble::Unread(mark) => write!(f, "{mark} isn't read"),
             Trouble::Unreadable(kind) => write!(f, "can't be read: {kind}"),
         }
     }
