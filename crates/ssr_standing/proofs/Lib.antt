@@ -1,2 +1,2 @@
 mod Passed
-mod Marks
+mod Siblings

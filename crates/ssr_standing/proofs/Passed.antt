@@ -1,12 +1,10 @@
 -- Places that are passed from one byte to a later one, and the table of how many are at each token.
 use Rattle.std.proofs.Common.{◌≡◌, ℕ, suc, ◌+◌, ◌<◌, ◌≤◌, Bool, true, false, List, [], ◌∷◌, ◌++◌, length, get_or, drop, map, refl, sym, ap, ◌∙◌, subst, inl, inr, arith, add-one, length-append}
-use Rattle.std.specs.Prelude.{nat_lt, if◌then◌else◌, slice_get, Some, None}
-use Rattle.std.specs.Option.{option_map}
+use Rattle.std.specs.Prelude.{nat_lt, if◌then◌else◌}
 use Rattle.std.proofs.Math.ListN.{get_or-append}
 use Rattle.std.proofs.Math.Seq.{get_or-append_seam}
 use Rattle.std.proofs.lemmas.Bool.{ltb-false, le-ltb, lt-ltb, cases_eq}
-use Rattle.std.proofs.lemmas.List.{drop_more}
-use Rattle.std.proofs.lemmas.Option.{slice_get-map, slice_get_within, get_or_from_slice_get}
+use Rattle.std.proofs.lemmas.List.{drop_more, drop-map}
 use Rattle.ssr_syntax_kinds.specs.declared.range.TextRange.{TextRange}
 use Rattle.ssr_syntax_tree.specs.Syntax.{Syntax, token_count}
 use Rattle.ssr_syntax_tree.specs.Places.{node_of, offset_of, end_of}
@@ -21,38 +19,38 @@ drop_front place places n = rw add-one refl
 pub passed_on : (places : List Span) (byte later : ℕ) → byte ≤ later
     → passed places byte + passed (drop (passed places byte) places) later ≡ passed places later
 passed_on [] byte later h = refl
-passed_on (place ∷ places) byte later h = by (nat_lt byte place.end) refl
+passed_on (place ∷ places) byte later h = by (nat_lt byte place.end) refl (passed_on places byte later h)
   where
-    by : (b : Bool) → nat_lt byte place.end ≡ b
+    by : (b : Bool) → nat_lt byte place.end ≡ b → passed places byte + passed (drop (passed places byte) places) later ≡ passed places later
         → (if b then 0 else passed places byte + 1) + passed (drop (if b then 0 else passed places byte + 1) (place ∷ places)) later
         ≡ passed (place ∷ places) later
-    by true e = omega arith
-    by false e =
+    by true e i = omega arith
+    by false e i =
         rw (le-ltb later place.end (omega (arith, ltb-false byte place.end e)))
-        (omega (arith, passed_on places byte later h, ap (λ left. passed left later) (drop_front place places (passed places byte))))
+        (omega (arith, i, ap (λ left. passed left later) (drop_front place places (passed places byte))))
 
 -- the places from a number on
-pub places_at : (places : List TextRange) (n : ℕ) (place : TextRange) → slice_get places n ≡ Some place
+places_at : (places : List TextRange) (n : ℕ) (place : TextRange) → n < length places → place ≡ get_or places n place
     → drop n (map span_of places) ≡ span_of place ∷ drop (n + 1) (map span_of places)
-places_at places n place e =
-    let here : slice_get (map span_of places) n ≡ Some (span_of place) = slice_get-map span_of places n ∙ ap (option_map span_of) e in
-    drop_more (map span_of places) n (span_of place) (slice_get_within (map span_of places) n (span_of place) here)
-    ∙ ap (λ first. first ∷ drop (n + 1) (map span_of places)) (get_or_from_slice_get (map span_of places) n (span_of place) (span_of place) here)
+places_at places n place within is =
+    drop-map span_of n places ∙ ap (map span_of) (drop_more places n place within)
+    ∙ ap (λ (p : TextRange). span_of p ∷ map span_of (drop (n + 1) places)) (sym is)
+    ∙ ap (λ left. span_of place ∷ left) (sym (drop-map span_of (n + 1) places))
 
 -- a place more is passed
-pub one_passed : (places : List TextRange) (n byte whole : ℕ) (place : TextRange) → slice_get places n ≡ Some place → place.end ≤ byte
+pub one_passed : (places : List TextRange) (n byte whole : ℕ) (place : TextRange) → n < length places → place ≡ get_or places n place → place.end ≤ byte
     → n + passed (drop n (map span_of places)) byte ≡ whole → (n + 1) + passed (drop (n + 1) (map span_of places)) byte ≡ whole
-one_passed places n byte whole place e behind so =
+one_passed places n byte whole place within is behind so =
     let left : passed (drop n (map span_of places)) byte ≡ passed (drop (n + 1) (map span_of places)) byte + 1 =
-    ap (λ left. passed left byte) (places_at places n place e) ∙ rw (le-ltb byte place.end behind) refl in
+    ap (λ left. passed left byte) (places_at places n place within is) ∙ rw (le-ltb byte place.end behind) refl in
     omega arith
 
 -- the next one isn't
-pub none_passed : (places : List TextRange) (n byte whole : ℕ) (place : TextRange) → slice_get places n ≡ Some place → byte < place.end
+pub none_passed : (places : List TextRange) (n byte whole : ℕ) (place : TextRange) → n < length places → place ≡ get_or places n place → byte < place.end
     → n + passed (drop n (map span_of places)) byte ≡ whole → n ≡ whole
-none_passed places n byte whole place e ahead so =
+none_passed places n byte whole place within is ahead so =
     let left : passed (drop n (map span_of places)) byte ≡ 0 =
-    ap (λ left. passed left byte) (places_at places n place e) ∙ rw (lt-ltb byte place.end ahead) refl in
+    ap (λ left. passed left byte) (places_at places n place within is) ∙ rw (lt-ltb byte place.end ahead) refl in
     omega arith
 
 -- a token more in the table
@@ -61,13 +59,13 @@ pub one_known : (tree : Syntax) (places : List Span) (n m count : ℕ) (table : 
 one_known tree places n m count table next is known = record {
   counted = omega (arith, length-append table (count ∷ []), known.counted);
   each = λ t within. elim (cases_eq t n) [
-      | inl same ↦
-          let here : t ≡ length table = omega (arith, known.counted) in
-          ap (get_or (table ++ count ∷ []) t) refl ∙ ap (λ i. get_or (table ++ count ∷ []) i 0) here
-          ∙ get_or-append_seam table count [] 0 ∙ is ∙ ap (λ i. passed places (offset_of tree i)) (sym same)
-      | inr other ↦
-          get_or-append table (count ∷ []) 0 t (omega (arith, known.counted)) ∙ known.each t (omega arith)
-    ];
+    | inl same ↦
+        let here : t ≡ length table = omega (arith, known.counted) in
+        ap (λ i. get_or (table ++ count ∷ []) i 0) here
+        ∙ get_or-append_seam table count [] 0 ∙ is ∙ ap (λ i. passed places (offset_of tree i)) (sym same)
+    | inr other ↦
+        get_or-append table (count ∷ []) 0 t (omega (arith, known.counted)) ∙ known.each t (omega arith)
+  ];
 }
 
 pub end_of_root : (tree : Syntax) → end_of tree (node_of tree 0) ≡ offset_of tree (token_count tree.children)

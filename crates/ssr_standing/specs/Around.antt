@@ -67,7 +67,7 @@ outlined places tree node =
     option_map_or (λ _. []) (hole_of places tree (node_part node)) (node_mark node.kind ∷ marks_behind places tree None (parts_of node))
 
 -- The outline of a tree around places: its nodes that lie in none of them, in order, each with its children.
-abbrev pub around : Syntax → List Span → List Mark
+unfoldable pub around : Syntax → List Span → List Mark
 around tree places = flat_map (outlined places tree) (nodes_of tree)
 
 -- Two trees are the same around their places: the nodes, the tokens and the holes, and what stands below what.

@@ -46,12 +46,7 @@ fn kept(tree: &Tree, part: Element) -> Mark
 }
 
 /// The mark of a part that lies in a place, if it does, behind one that lies in another, if it does.
-fn mark_of(
-    tree: &Tree,
-    before: Option<usize>,
-    hole: Option<usize>,
-    part: Element,
-) -> Option<Mark>
+fn mark_of(tree: &Tree, before: Option<usize>, hole: Option<usize>, part: Element) -> Option<Mark>
     requires { HasElement tree.now part }
     ensures shown { map (shown tree.now) (option_to_list result) ≡ marks_of before hole (part_of tree.now part) }
     ensures had { IfSome result (IsMarkOf tree.now) }
@@ -136,8 +131,7 @@ impl<'a> Outline<'a> {
         tree: &'a Tree,
         places: &[TextRange],
     ) -> Result<Outline<'a>, AllocError>
-        ensures tree { IfOk result (λ outline. outline.tree.now ≡ tree.entry.now) }
-        ensures marks { IfOk result (λ outline. map (shown tree.entry.now) outline.marks.items ≡ around tree.entry.now (map span_of places.now)) }
+        ensures { IfOk result (λ outline. map (shown outline.tree.now) outline.marks.items ≡ around tree.entry.now (map span_of places.now)) }
     {
         let holes = Holes::new(alloc, tree, places)?;
         let mut marks = Vec::new(alloc);
@@ -155,7 +149,12 @@ impl<'a> Outline<'a> {
             return false;
         }
         for number in 0..self.marks.len() {
-            if !is_same_mark(self.tree, self.marks[number], other.tree, other.marks[number]) {
+            if !is_same_mark(
+                self.tree,
+                self.marks[number],
+                other.tree,
+                other.marks[number],
+            ) {
                 return false;
             }
         }
