@@ -1,2 +1,4 @@
 mod Passed
 mod Siblings
+mod Outlines
+mod Places

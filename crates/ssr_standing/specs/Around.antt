@@ -1,9 +1,10 @@
 -- What stands in a tree around the places of its text that are replaced.
-use Rattle.std.specs.Prelude.{ℕ, ◌+◌, ◌≡◌, ◌&&◌, nat_lt, nat_le, nat_eq, Bool, false, List, [], ◌∷◌, ◌++◌, Option, Some, None, flat_map, slice_get, if◌then◌else◌}
+use Rattle.std.specs.Prelude.{ℕ, ◌+◌, ◌==◌, ◌&&◌, nat_lt, nat_le, nat_eq, Bool, true, false, List, [], ◌∷◌, ◌++◌, Option, Some, None, flat_map, slice_get, if◌then◌else◌}
 use Rattle.std.specs.Option.{option_map_or}
+use Rattle.std.specs.Cmp.Lexicographic.{pointwise}
 use Rattle.ssr_syntax_kinds.specs.declared.kinds.SyntaxKind.{SyntaxKind}
-use Rattle.ssr_syntax_kinds.specs.Kinds.{is_trivia}
-use Rattle.ssr_syntax_tree.specs.Syntax.{Token, Syntax}
+use Rattle.ssr_syntax_kinds.specs.Kinds.{is_trivia, same_kind}
+use Rattle.ssr_syntax_tree.specs.Syntax.{Token, Syntax, same_token}
 use Rattle.ssr_syntax_tree.specs.Places.{Node, Part, token_part, node_part, nodes_of, parts_of, offset_of, start_of, end_of}
 use Rattle.ssr_base_trees.specs.Origins.{Span}
 
@@ -70,6 +71,14 @@ outlined places tree node =
 unfoldable pub around : Syntax → List Span → List Mark
 around tree places = flat_map (outlined places tree) (nodes_of tree)
 
--- Two trees are the same around their places: the nodes, the tokens and the holes, and what stands below what.
-abbrev pub Agree : Syntax → List Span → Syntax → List Span → Type 0
-Agree old olds new news = around old olds ≡ around new news
+-- whether two marks are the same
+abbrev pub same_mark : Mark → Mark → Bool
+same_mark (node_mark a) (node_mark b) = same_kind a b
+same_mark (token_mark a) (token_mark b) = same_token a b
+same_mark child_mark child_mark = true
+same_mark (hole_mark m) (hole_mark n) = m == n
+same_mark a b = false
+
+-- Whether two trees agree around their places: the outlines are the same.
+abbrev pub agree : Syntax → List Span → Syntax → List Span → Bool
+agree old olds new news = pointwise same_mark (around old olds) (around new news)

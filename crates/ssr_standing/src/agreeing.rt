@@ -1,7 +1,7 @@
 //! Whether two trees are the same around the places that are replaced.
-ghost use Rattle.std.specs.Prelude.{◌↔◌, IfOk, IsTrue, map};
+ghost use Rattle.std.specs.Prelude.{◌≡◌, ◌↔◌, IfOk, IsTrue, map};
 ghost use Rattle.ssr_base_trees.specs.Origins.{span_of};
-ghost use Rattle.ssr_standing.specs.Around.{Agree};
+ghost use Rattle.ssr_standing.specs.Around.{agree, around};
 
 use crate::marks::Outline;
 use ssr_syntax_kinds::TextRange;
@@ -20,7 +20,8 @@ pub fn agree(
     new: &Tree,
     news: &[TextRange],
 ) -> Result<bool, AllocError>
-    ensures { IfOk result (λ same. IsTrue same ↔ Agree old.now (map span_of olds.now) new.now (map span_of news.now)) }
+    ensures value { IfOk result (λ same. same ≡ agree old.now (map span_of olds.now) new.now (map span_of news.now)) }
+    ensures same { IfOk result (λ same. IsTrue same ↔ (around old.now (map span_of olds.now) ≡ around new.now (map span_of news.now))) }
 {
     let one = Outline::new(alloc, old, olds)?;
     let other = Outline::new(alloc, new, news)?;

@@ -5,5 +5,7 @@
 mod agreeing;
 mod holes;
 mod marks;
+mod ranges;
 
 pub use agreeing::agree;
+pub use ranges::{new_ranges, old_ranges};
