@@ -2,3 +2,4 @@ mod Passed
 mod Siblings
 mod Outlines
 mod Places
+mod Standings

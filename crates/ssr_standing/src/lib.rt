@@ -6,6 +6,8 @@ mod agreeing;
 mod holes;
 mod marks;
 mod ranges;
+mod standing;
 
 pub use agreeing::agree;
 pub use ranges::{new_ranges, old_ranges};
+pub use standing::stands;

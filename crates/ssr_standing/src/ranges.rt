@@ -1,6 +1,6 @@
 //! The ranges that an edit replaces, and those of what it writes.
 ghost use Rattle.std.specs.Prelude.{◌≡◌, ℕ, List, All, IfOk, length, map};
-ghost use Rattle.ssr_base_trees.specs.Changes.{FitsText, replaced};
+ghost use Rattle.ssr_base_trees.specs.Changes.{ChangesInOrder, FitsText, replaced};
 ghost use Rattle.ssr_base_trees.specs.Origins.{span_of};
 ghost use Rattle.ssr_standing.specs.Ranges.{AreWritten, IsShort, new_places, old_place};
 
@@ -10,7 +10,8 @@ use std::alloc::{AllocError, Global};
 
 /// The ranges that an edit replaces, in bytes of the old text.
 pub fn old_ranges(alloc: Global, edit: &TextEdit) -> Result<Vec<TextRange>, AllocError>
-    ensures { IfOk result (λ ranges. map span_of ranges.items ≡ map old_place edit.now) }
+    ensures ranges { IfOk result (λ ranges. map span_of ranges.items ≡ map old_place edit.now) }
+    ensures order { IfOk result (λ _. ChangesInOrder 0 edit.now) }
 {
     let mut ranges = Vec::new(alloc);
     for (range, _) in edit.iter().as_slice() {

@@ -12,8 +12,8 @@ loop-range-preserved c =
     one_old c.as_slice-range-items.result.now c.loop-range.range-index c.loop-range-item.result c.loop-range.ranges.items c.push.new.self.items
     c.loop-range-test.true c.loop-range-item.is c.in_ok-push.ensures.items c.loop-range.invariant
 
-pub returns : goal.returns
-returns c =
+pub returns-clause-ranges : goal.returns-clause-ranges
+returns-clause-ranges c =
     let pairs = c.as_slice-range-items.result.now in
     c.loop-range.invariant
     ∙ ap (map old_place) (take_all c.loop-range.range-index (changes_of pairs) (omega (arith, length-map pairs change_of))
