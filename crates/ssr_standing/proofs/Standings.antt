@@ -3,7 +3,6 @@ use Rattle.std.proofs.Common.{◌≡◌, ◌<◌, ◌^◌, ◌∙◌, ℕ, ◌+�
 use Rattle.std.specs.Prelude.{All, IfOk, Result, Ok, Err}
 use Rattle.std.proofs.lemmas.List.Elements.{All-weaker}
 use Rattle.ssr_base_trees.specs.Changes.{Change, ChangesInOrder, FitsText, replaced}
-use Rattle.ssr_base_trees.specs.Origins.{Span}
 use Rattle.ssr_standing.specs.Ranges.{IsShort, new_places}
 use Rattle.ssr_standing.proofs.Places.{ends_within}
 

@@ -1,5 +1,4 @@
-use Rattle.std.proofs.Common.{◌≡◌, ◌∙◌, List, map, sym}
-use Rattle.std.specs.Prelude.{◌↔◌, IsTrue}
+use Rattle.std.proofs.Common.{◌∙◌, map, sym}
 use Rattle.ssr_base_trees.specs.Origins.{span_of}
 use Rattle.ssr_standing.specs.Around.{around}
 use Rattle.ssr_standing.proofs.Outlines.{told_by}

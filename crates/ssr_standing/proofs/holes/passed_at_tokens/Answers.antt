@@ -1,4 +1,4 @@
-use Rattle.std.proofs.Common.{◌≡◌, ℕ, ◌+◌, ◌≤◌, List, drop, map, sym, ap, ◌∙◌, subst, arith, rules}
+use Rattle.std.proofs.Common.{◌≡◌, ℕ, ◌+◌, List, drop, map, sym, ap, ◌∙◌, subst, arith}
 use Rattle.ssr_syntax_tree.specs.Syntax.{token_count}
 use Rattle.ssr_syntax_tree.specs.Places.{offset_of}
 use Rattle.ssr_syntax_tree.proofs.Shared.{offset_grows}
@@ -39,5 +39,5 @@ returns c =
     let same : token_count tree.children ≡ n = omega arith in
     let count : c.passed_from.result ≡ passed places (offset_of tree n) =
     c.passed_from.ensures ∙ ap (passed places) (c.range.ensures.end ∙ end_of_root tree ∙ ap (offset_of tree) same) in
-    subst (ArePassed tree places (1 + token_count tree.children)) (sym c.in_ok-push-2.ensures.items)
+    subst (ArePassed tree places (1 + token_count tree.children)) (sym {A = List ℕ} c.in_ok-push-2.ensures.items)
     (one_known tree places n (1 + token_count tree.children) c.passed_from.result c.loop-number.table.items (omega arith) count c.loop-number.invariant.table)

@@ -1,14 +1,14 @@
 use Rattle.std.proofs.Common.{◌≡◌, ◌∙◌, ◌++◌, [], ◌∷◌, true, false, List, ap, map, sym, subst}
-use Rattle.std.specs.Prelude.{Option, Some, None, All, option_to_list}
+use Rattle.std.specs.Prelude.{Option, None, All, option_to_list}
 use Rattle.std.proofs.lemmas.List.{map-append, append-nil}
 use Rattle.std.proofs.lemmas.List.Elements.{All-push, All-tail}
 use Rattle.ssr_syntax_tree.specs.declared.number.Element.{Element}
 use Rattle.ssr_syntax_tree.specs.Syntax.{Syntax}
-use Rattle.ssr_syntax_tree.specs.Places.{Part, node_of, part_of, parts_of, elements_of, HasElement}
+use Rattle.ssr_syntax_tree.specs.Places.{Part, node_of, part_of, elements_of, HasElement}
 use Rattle.ssr_syntax_tree.proofs.Shared.{elements_had, parts_of-elements_of}
 use Rattle.ssr_base_trees.specs.Origins.{Span, span_of}
 use Rattle.ssr_standing.specs.declared.marks.Mark.{Mark as Stored}
-use Rattle.ssr_standing.specs.Around.{Mark, hole_of, is_trivia_part, marks_behind, marks_of}
+use Rattle.ssr_standing.specs.Around.{Mark, is_trivia_part, marks_behind, marks_of}
 use Rattle.ssr_standing.specs.Private.Marks.{IsMarkOf, shown}
 use Rattle.ssr_standing.proofs.Siblings.{behind_trivia, behind_part}
 use Rattle.ssr_standing.proofs.marks.add_children.Goals as goal
