@@ -1,0 +1,5 @@
+mod Passed
+mod Siblings
+mod Outlines
+mod Places
+mod Standings

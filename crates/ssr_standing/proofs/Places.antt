@@ -1,0 +1,84 @@
+-- Where the texts of changes stand, change by change.
+use Rattle.std.proofs.Common.{◌≡◌, ◌∙◌, ℕ, ◌+◌, ◌-◌, ◌<◌, ◌≤◌, List, [], ◌∷◌, ◌++◌, length, get_or, take, drop, map, sym, ap, subst, append_assoc, length-append, arith, String}
+use Rattle.std.specs.Prelude.{All, slice_range}
+use Rattle.std.specs.Global.{Global}
+use Rattle.std.proofs.lemmas.List.{map-append, take_more, length-map, length-drop, length-take-le, take_at, drop_at}
+use Rattle.std.proofs.lemmas.List.Elements.{All-nil, All-cons, All-head, All-tail, All-weaker}
+use Rattle.ssr_syntax_kinds.specs.declared.range.TextRange.{TextRange}
+use Rattle.ssr_base_trees.specs.Changes.{Change, ChangesInOrder, FitsText, replaced}
+use Rattle.ssr_base_trees.specs.Applied.{change_of, changes_of}
+use Rattle.ssr_base_trees.specs.Origins.{Span, span_of}
+use Rattle.ssr_base_trees.proofs.Changes.{change_at}
+use Rattle.ssr_standing.specs.Ranges.{AreWritten, new_places, old_place}
+
+length_between : (text : List ℕ) (at start : ℕ) → at ≤ start → start ≤ length text → length (slice_range text at start) ≡ start - at
+length_between text at start h l = length-take-le (start - at) (drop at text) (omega (arith, length-drop at text))
+
+-- a change more
+pub one_old : (pairs : List (TextRange × String Global)) (i : ℕ) (pair : TextRange × String Global) (old new : List TextRange)
+    → i < length pairs → pair ≡ get_or pairs i pair → new ≡ old ++ pair.0 ∷ []
+    → map span_of old ≡ map old_place (take i (changes_of pairs)) → map span_of new ≡ map old_place (take (i + 1) (changes_of pairs))
+one_old pairs i pair old new h e more so =
+    ap (map span_of) more ∙ map-append span_of old (pair.0 ∷ [])
+    ∙ ap (λ (front : List Span). front ++ span_of pair.0 ∷ []) so
+    ∙ sym (map-append old_place (take i (changes_of pairs)) (change_of pair ∷ []))
+    ∙ ap (λ (c : Change). map old_place (take i (changes_of pairs) ++ c ∷ [])) (sym (change_at pairs i pair (change_of pair) h e))
+    ∙ ap (map old_place) (sym (take_more (changes_of pairs) i (change_of pair) (omega (arith, length-map pairs change_of))))
+
+-- a text more is put
+pub one_new : (ranges more : List TextRange) (range : TextRange) (at from : ℕ) (c : Change) (cs left : List Change) (whole : List Span)
+    → left ≡ c ∷ cs → more ≡ ranges ++ range ∷ [] → range.start ≡ at + (c.start - from) → range.end ≡ at + (c.start - from) + length c.text
+    → map span_of ranges ++ new_places at from left ≡ whole
+    → map span_of more ++ new_places (at + (c.start - from) + length c.text) c.end cs ≡ whole
+one_new ranges more range at from c cs left whole e m start end so =
+    let behind = new_places (at + (c.start - from) + length c.text) c.end cs in
+    ap (λ (rs : List TextRange). map span_of rs ++ behind) m
+    ∙ ap (λ (places : List Span). places ++ behind) (map-append span_of ranges (range ∷ []))
+    ∙ append_assoc (map span_of ranges) (span_of range ∷ []) behind
+    ∙ ap (λ (n : ℕ). map span_of ranges ++ record { start = n; end = range.end } ∷ behind) start
+    ∙ ap (λ (n : ℕ). map span_of ranges ++ record { start = at + (c.start - from); end = n } ∷ behind) end
+    ∙ ap (λ (cs : List Change). map span_of ranges ++ new_places at from cs) (sym e) ∙ so
+
+-- none of them ends behind the new text
+pub ends_within : (text : List ℕ) (at from : ℕ) (cs : List Change) → ChangesInOrder from cs → All (FitsText text) cs → from ≤ length text
+    → All (λ place. place.end ≤ at + length (replaced text from (length text) cs)) (new_places at from cs)
+ends_within text at from [] order fit within = All-nil (λ place. place.end ≤ at + length (replaced text from (length text) []))
+ends_within text at from (c ∷ cs) order fit within =
+    let fits : FitsText text c = All-head (FitsText text) c cs fit in
+    let end = at + (c.start - from) + length c.text in
+    let rest = replaced text c.end (length text) cs in
+    let whole : length (replaced text from (length text) (c ∷ cs)) ≡ (c.start - from) + (length c.text + length rest) =
+    omega (
+      arith,
+      length-append (slice_range text from c.start) (c.text ++ rest),
+      length-append c.text rest,
+      length_between text from c.start order.0 fits.0.0,
+    ) in
+    All-cons (λ place. place.end ≤ at + length (replaced text from (length text) (c ∷ cs))) _ (new_places end c.end cs) (omega arith)
+    (All-weaker (λ place. place.end ≤ end + length rest) (λ place. place.end ≤ at + length (replaced text from (length text) (c ∷ cs)))
+    (λ place h. omega arith) (new_places end c.end cs)
+    (ends_within text end c.end cs order.2 (All-tail (FitsText text) c cs fit) fits.1.0))
+
+-- a text that stands behind others, and where it ends
+stands_there : (front text behind : List ℕ) (start : ℕ) → length front ≡ start → slice_range (front ++ (text ++ behind)) start (start + length text) ≡ text
+stands_there front text behind start e =
+    ap (take ((start + length text) - start)) (drop_at front (text ++ behind) start e) ∙ take_at text behind ((start + length text) - start) (omega arith)
+
+-- each text stands in its place, where what is in front of them is known
+pub written : (front text : List ℕ) (at from : ℕ) (cs : List Change) → length front ≡ at → ChangesInOrder from cs → All (FitsText text) cs
+    → from ≤ length text → AreWritten (front ++ replaced text from (length text) cs) (new_places at from cs) cs
+written front text at from [] e order fit within = tt
+written front text at from (c ∷ cs) e order fit within =
+    let fits : FitsText text c = All-head (FitsText text) c cs fit in
+    let kept = slice_range text from c.start in
+    let start = at + (c.start - from) in
+    let rest = replaced text c.end (length text) cs in
+    let so_far : length (front ++ kept) ≡ start =
+    omega (arith, length-append front kept, length_between text from c.start order.0 fits.0.0) in
+    let same : (front ++ kept) ++ (c.text ++ rest) ≡ front ++ (kept ++ (c.text ++ rest)) = append_assoc front kept (c.text ++ rest) in
+    let further : ((front ++ kept) ++ c.text) ++ rest ≡ front ++ (kept ++ (c.text ++ rest)) = append_assoc (front ++ kept) c.text rest ∙ same in (
+      ap (λ (new : List ℕ). slice_range new start (start + length c.text)) (sym same) ∙ stands_there (front ++ kept) c.text rest start so_far,
+      subst (λ (new : List ℕ). AreWritten new (new_places (start + length c.text) c.end cs) cs) further
+          (written ((front ++ kept) ++ c.text) text (start + length c.text) c.end cs
+          (omega (arith, length-append (front ++ kept) c.text, so_far)) order.2 (All-tail (FitsText text) c cs fit) fits.1.0),
+    )

@@ -1,0 +1,4 @@
+pub mod Around
+pub mod Ranges
+pub mod Standing
+pub mod Private

@@ -1,0 +1,29 @@
+//! Whether two trees are the same around the places that are replaced.
+ghost use Rattle.std.specs.Prelude.{◌≡◌, ◌↔◌, IfOk, IsTrue, map};
+ghost use Rattle.ssr_base_trees.specs.Origins.{span_of};
+ghost use Rattle.ssr_standing.specs.Around.{agree, around};
+
+use crate::marks::Outline;
+use ssr_syntax_kinds::TextRange;
+use ssr_syntax_tree::Tree;
+use std::alloc::{AllocError, Global};
+
+/// Whether two trees are the same around the places of their texts that are replaced, in bytes: those of the old text, and beside
+/// each the place of the new text that has what was written for it. White space and comments don't count. What lies in a place is
+/// a hole, be it one part of the tree or several side by side. What lies partly in a place is kept.
+///
+/// A place that only white space or comments are written to has no hole in the new tree, so the trees differ.
+pub fn agree(
+    alloc: Global,
+    old: &Tree,
+    olds: &[TextRange],
+    new: &Tree,
+    news: &[TextRange],
+) -> Result<bool, AllocError>
+    ensures value { IfOk result (λ same. same ≡ agree old.now (map span_of olds.now) new.now (map span_of news.now)) }
+    ensures same { IfOk result (λ same. IsTrue same ↔ (around old.now (map span_of olds.now) ≡ around new.now (map span_of news.now))) }
+{
+    let one = Outline::new(alloc, old, olds)?;
+    let other = Outline::new(alloc, new, news)?;
+    Ok(one.is_same(&other))
+}
