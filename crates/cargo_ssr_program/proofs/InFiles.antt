@@ -5,6 +5,7 @@ use Rattle.std.proofs.lemmas.List.{get_or-map, length-map, map-append, take_more
 use Rattle.std.proofs.lemmas.List.Elements.{All-get_or}
 use Rattle.std.proofs.lemmas.Option.{slice_get_within}
 use Rattle.ssr_base_trees.specs.Changes.{FitsText}
+use Rattle.cargo_ssr_program.specs.Planned.{path_planned, text_planned}
 use Rattle.ssr_changes.specs.Changing.{FitsIn}
 use Rattle.ssr_changes.specs.Files.{File}
 use Rattle.ssr_changes.specs.Planning.{HasDiff}
@@ -49,3 +50,13 @@ at_both f g xs ys i d e same within =
     let long : length (map f xs) ≡ length (map g ys) = ap length same in
     let inside : i < length xs = omega (arith, long, length-map xs f, length-map ys g) in
     sym (get_or-map f xs i d (f d) inside) ∙ ap (λ all. get_or all i (f d)) same ∙ get_or-map g ys i e (f d) within
+
+-- what is written for a file that is planned
+pub text_there : (folder : List ℕ) (files : List File) (p : Planned) (path old : List ℕ) → path ≡ path_planned folder files p
+    → option_map (λ file. file.text) (slice_get files p.file) ≡ Some old → (path, old, p.new.now) ≡ text_planned folder files p
+text_there folder files p path old its there =
+    let same = part_there (slice_get files p.file) (λ file. file.text) old there in
+    let T : Type 0 = List ℕ × List ℕ × List ℕ in
+    let a : List ℕ → T = λ q. (q, old, p.new.now) in
+    let b : List ℕ → T = λ o. (path_planned folder files p, o, p.new.now) in
+    ap a its ∙ ap b (sym same)

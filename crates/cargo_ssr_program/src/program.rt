@@ -129,6 +129,7 @@ fn perform_with<R: Files + AllocGlobal, D: Disk, W: Sink, E: Write>(
 }
 
 /// Does it with these files.
+#[tactic(auto, using(crate::proofs::Endings::asked_nothing, crate::proofs::Endings::asked_to_write))]
 fn act<R: Files + AllocGlobal, D: Disk, W: Sink, E: Write, S: Semantics>(
     rt: &R,
     disk: &mut D,

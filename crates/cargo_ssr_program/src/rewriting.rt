@@ -37,15 +37,16 @@ pub(crate) fn show_changes<W: Sink, E: Write, S: Semantics>(
     let made = changes_of(alloc, input, options)?;
     let plan = plan_of(alloc, &input.files, &made)?;
     let counts = counts_of_changes(&made, input.left_out);
+    let changes = !plan.is_empty();
     if options.json {
         show_matches(alloc, input, options, &made, counts, console)?;
         tell_left(alloc, &input.files, &made, console)?;
-    } else {
-        show_diffs(alloc, &plan, options.color, console)?;
-        tell_left(alloc, &input.files, &made, console)?;
-        tell_summary(alloc, counts, options, console)?;
+        return Ok(changes);
     }
-    Ok(!plan.is_empty())
+    show_diffs(alloc, &plan, options.color, console)?;
+    tell_left(alloc, &input.files, &made, console)?;
+    tell_summary(alloc, counts, options, console)?;
+    Ok(changes)
 }
 
 /// Writes what rules change.
