@@ -8,6 +8,11 @@ mod PointLaws
 mod NumberCases
 mod Fronts
 mod Ranges
+mod SeamScans
+mod SeamTests
+mod SeamNumbers
+mod SeamToken
+mod SeamRuns
 mod Cutting
 mod Tiling
 mod Joints
