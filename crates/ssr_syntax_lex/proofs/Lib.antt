@@ -15,5 +15,8 @@ mod SeamToken
 mod SeamRuns
 mod Cutting
 mod Tiling
+mod SeamLines
+mod SeamCuts
+mod SeamLaws
 mod Joints
 mod FromRows

@@ -137,7 +137,7 @@ seam_first fuel start dots c b seam =
     ∙ ap (λ n. option_map (in_front known.0 (range_of start n)) (tokens_from fuel (start + n) (dots_behind dots known.0) b)) (one_byte c b seam)
     ∙ ap (λ x. option_map (in_front known.0 (range_of start 1)) (tokens_from fuel (start + 1) (if x then dots + 1 else 0) b)) known.2
 
-any_dots : (fuel start dots c : ℕ) (b : Chars) → is_seam c ≡ true → tokens_from fuel start dots (c ∷ b) ≡ tokens_from fuel start 0 (c ∷ b)
+pub any_dots : (fuel start dots c : ℕ) (b : Chars) → is_seam c ≡ true → tokens_from fuel start dots (c ∷ b) ≡ tokens_from fuel start 0 (c ∷ b)
 any_dots zero start dots c b seam = refl
 any_dots (suc fuel) start dots c b seam = seam_first fuel start dots c b seam ∙ sym (seam_first fuel start 0 c b seam)
 
@@ -174,7 +174,7 @@ ends_inside cs goes line = some_left (past is_in_line cs) (sym (ap (λ x. x && (
     some_left (d ∷ rest) e = omega arith
 
 -- ** With a seam and more behind them.
-size_append : (xs ys : Chars) → size (xs ++ ys) ≡ size xs + size ys
+pub size_append : (xs ys : Chars) → size (xs ++ ys) ≡ size xs + size ys
 size_append xs ys = ap length (encodes-append xs ys) ∙ length-append (encode_utf8_all xs) (encode_utf8_all ys)
 
 pub same_count : (d : ℕ) (cs rest more : Chars) → size (d ∷ (cs ++ more)) - size (rest ++ more) ≡ size (d ∷ cs) - size rest

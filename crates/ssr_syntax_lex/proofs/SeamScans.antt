@@ -36,8 +36,11 @@ pub so_true : (b : Bool) → not b ≡ false → b ≡ true
 so_true true e = refl
 so_true false e = sym e
 
+pub seam_small : (c : ℕ) → is_seam c ≡ true → nat_lt c 128 ≡ true
+seam_small c seam = so_true (nat_lt c 128) (fails (λ d. not (nat_lt d 128)) refl c seam)
+
 pub seam_ascii : (c : ℕ) → is_seam c ≡ true → c < 128
-seam_ascii c seam = ltb-true c 128 (so_true (nat_lt c 128) (fails (λ d. not (nat_lt d 128)) refl c seam))
+seam_ascii c seam = ltb-true c 128 (seam_small c seam)
 
 pub seam_no_word : (c : ℕ) → is_seam c ≡ true → continues_word c ≡ false
 seam_no_word c seam =
