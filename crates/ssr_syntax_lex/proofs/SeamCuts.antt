@@ -1,7 +1,7 @@
 -- A text is cut at a bracket, a comma or `;` where one of its tokens begins there; and one does where no comment to the end
 -- of a line takes the last character.
 use Rattle.std.proofs.Common.{◌≡◌, ◌⊎◌, inl, inr, ℕ, suc, zero, ◌+◌, ◌-◌, ◌<◌, ◌≤◌, ◌==◌, Bool, true, false, not, ◌&&◌, ◌||◌, List, [], ◌∷◌, ◌++◌, if◌then◌else◌, length, drop, refl, sym, ap, subst, ◌∙◌, arith, length-append, eqb-true, ne_eqb}
-use Rattle.std.specs.Prelude.{Option, Some, None, encode_utf8_all}
+use Rattle.std.specs.Prelude.{Option, Some, None}
 use Rattle.std.specs.Option.{option_map, option_map_or}
 use Rattle.std.proofs.Math.Seq.{drop-append_seam, drop-append-add}
 use Rattle.std.proofs.Math.Bool.{or-true}

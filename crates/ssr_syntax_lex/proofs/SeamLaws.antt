@@ -1,6 +1,6 @@
 -- The tokens of two texts side by side at a bracket, a comma or `;`.
-use Rattle.std.proofs.Common.{◌≡◌, ℕ, suc, zero, ◌+◌, ◌-◌, ◌<◌, ◌≤◌, Bool, true, false, List, [], ◌∷◌, ◌++◌, length, map, refl, sym, ap, subst, ◌∙◌, arith, length-append, lit<}
-use Rattle.std.specs.Prelude.{Option, Some, None, cond, nat_lt, encode_utf8_all}
+use Rattle.std.proofs.Common.{◌≡◌, ℕ, suc, zero, ◌+◌, ◌-◌, ◌≤◌, true, false, List, [], ◌∷◌, ◌++◌, length, map, refl, sym, ap, subst, ◌∙◌, arith, length-append, lit<}
+use Rattle.std.specs.Prelude.{Option, Some, None, cond, nat_lt}
 use Rattle.std.specs.Option.{option_map}
 use Rattle.std.specs.Str.{chars, chars_after, IsUtf8, IsAscii}
 use Rattle.std.proofs.lemmas.Option.{same_Some}

@@ -1,5 +1,5 @@
 -- Where a text ends in a comment to the end of a line, by its tokens and by its characters.
-use Rattle.std.proofs.Common.{◌≡◌, ℕ, suc, zero, ◌+◌, ◌-◌, ◌<◌, ◌≤◌, ◌==◌, Bool, true, false, ◌&&◌, ◌||◌, List, [], ◌∷◌, ◌++◌, length, take, drop, get_or, refl, sym, ap, subst, ◌∙◌, arith, length-append, eqb-true}
+use Rattle.std.proofs.Common.{◌≡◌, ℕ, suc, zero, ◌+◌, ◌-◌, ◌<◌, ◌≤◌, ◌==◌, Bool, true, false, ◌&&◌, ◌||◌, List, [], ◌∷◌, ◌++◌, length, take, drop, refl, sym, ap, ◌∙◌, arith, length-append, eqb-true}
 use Rattle.std.specs.Prelude.{Option, Some, None, encode_utf8, encode_utf8_all, slice_range}
 use Rattle.std.specs.Option.{option_map, option_map_or}
 use Rattle.std.proofs.Math.Seq.{drop-append_seam, take-length}
@@ -7,7 +7,7 @@ use Rattle.std.proofs.lemmas.Bool.{and_right}
 use Rattle.std.proofs.lemmas.Option.{same_Some}
 use Rattle.std.proofs.lemmas.Str.{encode_ascii, length-encode, len_utf8_bounds, byte_from_char, char_from_byte}
 use Rattle.ssr_syntax_lex.specs.Cursor.{Chars, passes_at, begins, past}
-use Rattle.ssr_syntax_lex.specs.Characters.{◌∈◌, the_char, is_in_line}
+use Rattle.ssr_syntax_lex.specs.Characters.{the_char, is_in_line}
 use Rattle.ssr_syntax_lex.specs.Raw.{Taken, token}
 use Rattle.ssr_syntax_lex.specs.Tokens.{size, range_of, begins_with_punctuation, in_front, dots_behind, tokens_from, token_text}
 use Rattle.ssr_syntax_lex.specs.Seams.{ends_in_line_comment}

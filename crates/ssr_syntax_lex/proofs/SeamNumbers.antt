@@ -1,10 +1,10 @@
 -- A number stays what it was where a bracket, a comma or `;` stands behind the text.
-use Rattle.std.proofs.Common.{◌≡◌, ℕ, suc, zero, ◌+◌, ◌<◌, ◌≤◌, ◌==◌, Bool, true, false, not, ◌&&◌, ◌||◌, if◌then◌else◌, [], ◌∷◌, ◌++◌, length, take, drop, refl, sym, ap, subst, ◌∙◌, arith}
+use Rattle.std.proofs.Common.{◌≡◌, ℕ, ◌≤◌, ◌==◌, Bool, true, false, not, ◌&&◌, ◌||◌, if◌then◌else◌, [], ◌∷◌, ◌++◌, length, take, drop, refl, ap, ◌∙◌, arith}
 use Rattle.std.specs.List.{list_all}
 use Rattle.std.proofs.lemmas.Bool.{and_parts}
 use Rattle.std.proofs.lemmas.List.{drop-append-le, take-append-le}
-use Rattle.ssr_syntax_lex.specs.Cursor.{Chars, passes_at, is_at, begins, run, past}
-use Rattle.ssr_syntax_lex.specs.Characters.{◌∈◌, the_char, is_digit, is_digit_or_underscore, starts_word, continues_word}
+use Rattle.ssr_syntax_lex.specs.Cursor.{Chars, begins, run, past}
+use Rattle.ssr_syntax_lex.specs.Characters.{the_char, is_digit, is_digit_or_underscore, starts_word, continues_word}
 use Rattle.ssr_syntax_lex.specs.Numbers.{Part, with_run, has_radix, ends_with_exponent_mark, takes_point, is_signed_digit, takes_sign, has_exponent, whole_run, with_point, with_sign, number_kind, number}
 use Rattle.ssr_syntax_lex.specs.Raw.{Taken}
 use Rattle.ssr_syntax_lex.specs.Seams.{is_seam}

@@ -1,11 +1,9 @@
 -- The tests on what comes next answer the same where a bracket, a comma or `;` stands behind the text.
-use Rattle.std.proofs.Common.{◌≡◌, ℕ, suc, zero, ◌+◌, ◌<◌, ◌≤◌, ◌==◌, Bool, true, false, not, ◌&&◌, ◌||◌, [], ◌∷◌, ◌++◌, length, drop, refl, sym, ap, ◌∙◌, arith}
-use Rattle.std.specs.Option.{option_map_or}
-use Rattle.std.specs.Prelude.{slice_get}
+use Rattle.std.proofs.Common.{◌≡◌, ℕ, suc, zero, ◌≤◌, ◌==◌, Bool, true, false, not, ◌&&◌, ◌||◌, [], ◌∷◌, ◌++◌, length, refl, ap, ◌∙◌, arith}
 use Rattle.std.proofs.lemmas.Bool.{and_parts}
-use Rattle.ssr_syntax_lex.specs.Cursor.{Chars, passes_at, stand_at, is_at, begins, past}
+use Rattle.ssr_syntax_lex.specs.Cursor.{Chars, passes_at, stand_at, begins, past}
 use Rattle.ssr_syntax_lex.specs.Characters.{◌∈◌, the_char, is_hash, starts_word, continues_word}
-use Rattle.ssr_syntax_lex.specs.Raw.{begins_raw_string, begins_string, begins_raw_identifier, begins_lifetime_behind, begins_lifetime}
+use Rattle.ssr_syntax_lex.specs.Raw.{begins_raw_string, begins_string, begins_raw_identifier, begins_lifetime}
 use Rattle.ssr_syntax_lex.specs.Seams.{is_seam}
 use Rattle.ssr_syntax_lex.proofs.SeamScans.{fails, seam_no_word, seam_no_start, past_on}
 

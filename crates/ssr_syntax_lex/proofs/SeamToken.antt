@@ -1,23 +1,22 @@
 -- The token at the front stays what it was where a bracket, a comma or `;` stands behind the text, unless it is a comment
 -- to the end of a line that goes to the end of the text.
-use Rattle.std.proofs.Common.{◌≡◌, ℕ, suc, zero, ◌+◌, ◌<◌, ◌≤◌, ◌==◌, Bool, true, false, not, ◌&&◌, ◌||◌, if◌then◌else◌, [], ◌∷◌, ◌++◌, length, drop, refl, sym, ap, subst, ◌∙◌, arith, eqb-true}
+use Rattle.std.proofs.Common.{◌≡◌, ℕ, ◌<◌, ◌≤◌, ◌==◌, Bool, true, false, ◌&&◌, if◌then◌else◌, [], ◌∷◌, ◌++◌, length, drop, refl, ap, subst, ◌∙◌, arith, eqb-true}
 use Rattle.std.specs.Prelude.{Option, Some, None, encode_utf8_all, slice_get}
-use Rattle.std.specs.Option.{option_map, option_map_or}
+use Rattle.std.specs.Option.{option_map}
 use Rattle.std.proofs.lemmas.Bool.{and_parts}
 use Rattle.std.proofs.lemmas.List.{drop-append-le}
 use Rattle.std.proofs.lemmas.Option.{same_Some}
-use Rattle.ssr_syntax_lex.specs.Cursor.{Chars, passes_at, begins, is_at, run, past}
+use Rattle.ssr_syntax_lex.specs.Cursor.{Chars, passes_at, begins, is_at, past}
 use Rattle.ssr_syntax_lex.specs.Characters.{◌∈◌, the_char, is_whitespace, is_digit, starts_word, continues_word, is_in_line}
 use Rattle.ssr_syntax_lex.specs.Words.{word_kind, mark_kind}
-use Rattle.ssr_syntax_lex.specs.Numbers.{number}
 use Rattle.ssr_syntax_lex.specs.Scan.{past_comments, past_quoted, past_raw_string, past_char}
-use Rattle.ssr_syntax_lex.specs.Raw.{Taken, kind_of_word, past_word, begins_string, past_string, begins_raw_identifier, begins_lifetime, punctuation, closed, token}
+use Rattle.ssr_syntax_lex.specs.Raw.{Taken, past_word, begins_string, past_string, begins_raw_identifier, begins_lifetime, punctuation, closed, token}
 use Rattle.ssr_syntax_lex.specs.Seams.{is_seam}
 use Rattle.ssr_syntax_kinds.specs.declared.kinds.SyntaxKind.{SyntaxKind}
 use Rattle.ssr_syntax_kinds.specs.declared.kinds.SyntaxKind.TheVariants as k
 use Rattle.ssr_syntax_lex.proofs.FirstCharacters.{token_slash}
-use Rattle.ssr_syntax_lex.proofs.SeamScans.{fails, seam_no_word, seam_no_start, Within, within_quoted, within_comments, within_raw_string, within_char, Meets, meets_by, past_on, run_on, quoted_on, comments_on, raw_string_on, char_on, behind_on}
-use Rattle.ssr_syntax_lex.proofs.SeamTests.{and_same, is_there, passes_on, pair_on, string_begins_on, raw_identifier_on, lifetime_on}
+use Rattle.ssr_syntax_lex.proofs.SeamScans.{fails, seam_no_word, within_quoted, within_comments, within_raw_string, within_char, Meets, meets_by, past_on, run_on, quoted_on, comments_on, raw_string_on, char_on, behind_on}
+use Rattle.ssr_syntax_lex.proofs.SeamTests.{is_there, passes_on, pair_on, string_begins_on, raw_identifier_on, lifetime_on}
 use Rattle.ssr_syntax_lex.proofs.SeamNumbers.{number_on}
 
 -- The token of a text, and that of the text with a character and others behind it: the same, with these behind what

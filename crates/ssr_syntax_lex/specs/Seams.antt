@@ -1,11 +1,11 @@
 -- Where the tokens of two texts side by side are those of both: at a bracket, a comma or a `;`.
-use Rattle.std.specs.Prelude.{ℕ, ◌≡◌, ◌+◌, ◌==◌, ◌&&◌, Bool, false, List, [], ◌∷◌, ◌++◌, Some, length, map, IsTrue}
+use Rattle.std.specs.Prelude.{ℕ, ◌+◌, ◌==◌, ◌&&◌, Bool, false, List, [], ◌∷◌, map}
 use Rattle.std.specs.List.{list_any}
 use Rattle.std.proofs.Math.Nat.{add-le-add, le_refl}
 use Rattle.ssr_syntax_kinds.specs.Kinds.{same_kind}
 use Rattle.ssr_syntax_lex.specs.Characters.{◌∈◌}
 use Rattle.ssr_syntax_lex.specs.Cursor.{begins}
-use Rattle.ssr_syntax_lex.specs.Tokens.{in_front, tokens, token_text}
+use Rattle.ssr_syntax_lex.specs.Tokens.{in_front, token_text}
 use Rattle.ssr_syntax_kinds.specs.declared.kinds.SyntaxKind.TheVariants as k
 use Rattle.ssr_syntax_kinds.specs.declared.range.TextRange.{TextRange}
 use Rattle.ssr_syntax_lex.specs.declared.tokens.RawToken.{RawToken}
