@@ -127,9 +127,9 @@ module _ (c : ℕ) (b : Chars) (seam : is_seam c ≡ true) where
         us = cut.us;
         front = one_more fuel start dots d cs taken.0 taken.1 is ∙ ap (option_map (in_front taken.0 (range_of start count))) cut.front;
         inside =
-          ap (λ x. x || option_map_or (λ (t : Taken). runs_out fuel (dots_behind dots t.0) t.1) (token dots (d ∷ cs)) false) line
-          ∙ ap (λ o. option_map_or (λ (t : Taken). runs_out fuel (dots_behind dots t.0) t.1) o false) is
-          ∙ cut.inside;
+            ap (λ x. x || option_map_or (λ (t : Taken). runs_out fuel (dots_behind dots t.0) t.1) (token dots (d ∷ cs)) false) line
+            ∙ ap (λ o. option_map_or (λ (t : Taken). runs_out fuel (dots_behind dots t.0) t.1) o false) is
+            ∙ cut.inside;
         behind = λ f n h. ap (λ s. tokens_from f s n (c ∷ b)) place ∙ cut.behind f n h;
         whole = sym same ∙ ap (in_front taken.0 (range_of start count)) cut.whole;
       }
@@ -203,8 +203,8 @@ module _ (c : ℕ) (b : Chars) (seam : is_seam c ≡ true) where
         front = refl;
         inside = refl;
         behind = λ f n h.
-          ap (λ s. tokens_from f s n (c ∷ b)) place ∙ any_dots f start n c b seam ∙ any_fuel f fuel start 0 (c ∷ b) h enough
-          ∙ sym (any_dots fuel start dots c b seam) ∙ e;
+            ap (λ s. tokens_from f s n (c ∷ b)) place ∙ any_dots f start n c b seam ∙ any_fuel f fuel start 0 (c ∷ b) h enough
+            ∙ sym (any_dots fuel start dots c b seam) ∙ e;
         whole = refl;
       }
   cut zero start dots (d ∷ cs) ws enough e found = absurd (cc)

@@ -11,9 +11,10 @@ use Rattle.ssr_syntax_lex.specs.Characters.{◌∈◌, the_char, is_in_line}
 use Rattle.ssr_syntax_lex.specs.Words.{mark_kind}
 use Rattle.ssr_syntax_lex.specs.Raw.{Taken, token}
 use Rattle.ssr_syntax_lex.specs.Tokens.{size, range_of, begins_with_punctuation, in_front, dots_behind, tokens_from}
-use Rattle.ssr_syntax_lex.specs.Seams.{is_seam, range_moved, moved, all_in_front}
+use Rattle.ssr_syntax_lex.specs.Seams.{is_seam, is_seam_kind, range_moved, moved, all_in_front}
 use Rattle.ssr_syntax_lex.specs.Private.Steps.{IsPlain}
 use Rattle.ssr_syntax_kinds.specs.Kinds.{same_kind}
+use Rattle.ssr_syntax_kinds.proofs.Shared.{same_kind-equal}
 use Rattle.ssr_syntax_kinds.specs.declared.kinds.SyntaxKind.{SyntaxKind}
 use Rattle.ssr_syntax_kinds.specs.declared.kinds.SyntaxKind.TheVariants as k
 use Rattle.ssr_syntax_kinds.specs.declared.range.TextRange.{TextRange}
@@ -96,14 +97,17 @@ shifted n zero start dots (d ∷ cs) = refl
 shifted n (suc f) start dots (d ∷ cs) = token_shifted n f start dots d cs (token dots (d ∷ cs)) refl (shifted n f)
 
 -- ** The seam itself.
-kind_there : (o : Option SyntaxKind) → option_map_or (λ kind. not (same_kind kind k.DOT)) o false ≡ true → (kind : SyntaxKind) × (o ≡ Some kind) × (same_kind kind k.DOT ≡ false)
+kind_there : (o : Option SyntaxKind) → option_map_or is_seam_kind o false ≡ true → (kind : SyntaxKind) × (o ≡ Some kind) × (is_seam_kind kind ≡ true)
 kind_there None e = absurd (cc)
-kind_there (Some kind) e = (kind, refl, not-true (same_kind kind k.DOT) e)
+kind_there (Some kind) e = (kind, refl, e)
 
-seam_kind : (c : ℕ) → is_seam c ≡ true → (kind : SyntaxKind) × (mark_kind c ≡ Some kind) × (same_kind kind k.DOT ≡ false)
+seam_kind : (c : ℕ) → is_seam c ≡ true → (kind : SyntaxKind) × (mark_kind c ≡ Some kind) × (is_seam_kind kind ≡ true)
 unfolding mark_kind
-seam_kind c seam =
-    kind_there (mark_kind c) (so_true _ (fails (λ d. not (option_map_or (λ kind. not (same_kind kind k.DOT)) (mark_kind d) false)) refl c seam))
+seam_kind c seam = kind_there (mark_kind c) (so_true _ (fails (λ d. not (option_map_or is_seam_kind (mark_kind d) false)) refl c seam))
+
+no_dot : (kind : SyntaxKind) (x : Bool) → is_seam_kind kind ≡ true → same_kind kind k.DOT ≡ x → x ≡ false
+no_dot kind true seam e = let clash : false ≡ true = sym (ap is_seam_kind (same_kind-equal kind k.DOT e)) ∙ seam in absurd (cc)
+no_dot kind false seam e = refl
 
 apart : (test : ℕ → Bool) (c d : ℕ) → test c ≡ false → test d ≡ true → c ≢ d
 apart test c d one other e = let clash : false ≡ true = sym one ∙ ap test e ∙ other in absurd (cc)
@@ -128,6 +132,10 @@ one_byte c b seam =
 pub kind_at : (c : ℕ) → is_seam c ≡ true → SyntaxKind
 kind_at c seam = (seam_kind c seam).0
 
+pub kind_at-seam : (c : ℕ) (seam : is_seam c ≡ true) → is_seam_kind (kind_at c seam) ≡ true
+unfolding kind_at
+kind_at-seam c seam = (seam_kind c seam).2
+
 -- a bracket, a comma or `;` is a token, and what follows doesn't know what stands in front of it
 pub seam_first : (fuel start dots c : ℕ) (b : Chars) (seam : is_seam c ≡ true) → tokens_from (suc fuel) start dots (c ∷ b) ≡ option_map (in_front (kind_at c seam) (range_of start 1)) (tokens_from fuel (start + 1) 0 b)
 unfolding kind_at
@@ -135,7 +143,7 @@ seam_first fuel start dots c b seam =
     let known = seam_kind c seam in
     one_more fuel start dots c b known.0 b (token_mark dots c (c ∷ b) known.0 refl (seam_plain c seam) known.1)
     ∙ ap (λ n. option_map (in_front known.0 (range_of start n)) (tokens_from fuel (start + n) (dots_behind dots known.0) b)) (one_byte c b seam)
-    ∙ ap (λ x. option_map (in_front known.0 (range_of start 1)) (tokens_from fuel (start + 1) (if x then dots + 1 else 0) b)) known.2
+    ∙ ap (λ x. option_map (in_front known.0 (range_of start 1)) (tokens_from fuel (start + 1) (if x then dots + 1 else 0) b)) (no_dot known.0 _ known.2 refl)
 
 pub any_dots : (fuel start dots c : ℕ) (b : Chars) → is_seam c ≡ true → tokens_from fuel start dots (c ∷ b) ≡ tokens_from fuel start 0 (c ∷ b)
 any_dots zero start dots c b seam = refl

@@ -136,9 +136,12 @@ comments_behind c (e ∷ b) depth slash star =
 pub within_raw_string : (cs : Chars) → Within cs (past_raw_string cs)
 within_raw_string cs rest e =
     let hashes : ℕ = length (run is_hash cs) in
-    omega (arith, within_raw hashes (drop 1 (past is_hash cs)) rest e,
-    follows_le (past is_hash cs) (drop 1 (past is_hash cs)) (follows_drop 1 (past is_hash cs)),
-    follows_le cs (past is_hash cs) (follows_past is_hash cs))
+    omega (
+      arith,
+      within_raw hashes (drop 1 (past is_hash cs)) rest e,
+      follows_le (past is_hash cs) (drop 1 (past is_hash cs)) (follows_drop 1 (past is_hash cs)),
+      follows_le cs (past is_hash cs) (follows_past is_hash cs),
+    )
 
 within_in_char : (cs : Chars) → Within cs (past_apostrophe (past is_in_char cs))
 within_in_char [] = within_none []

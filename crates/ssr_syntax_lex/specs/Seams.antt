@@ -1,11 +1,12 @@
 -- Where the tokens of two texts side by side are those of both: at a bracket, a comma or a `;`.
-use Rattle.std.specs.Prelude.{ℕ, ◌+◌, ◌==◌, ◌&&◌, Bool, false, List, [], ◌∷◌, map}
+use Rattle.std.specs.Prelude.{ℕ, ◌+◌, ◌==◌, ◌&&◌, Bool, true, false, List, [], ◌∷◌, map}
 use Rattle.std.specs.List.{list_any}
 use Rattle.std.proofs.Math.Nat.{add-le-add, le_refl}
 use Rattle.ssr_syntax_kinds.specs.Kinds.{same_kind}
 use Rattle.ssr_syntax_lex.specs.Characters.{◌∈◌}
 use Rattle.ssr_syntax_lex.specs.Cursor.{begins}
 use Rattle.ssr_syntax_lex.specs.Tokens.{in_front, token_text}
+use Rattle.ssr_syntax_kinds.specs.declared.kinds.SyntaxKind.{SyntaxKind}
 use Rattle.ssr_syntax_kinds.specs.declared.kinds.SyntaxKind.TheVariants as k
 use Rattle.ssr_syntax_kinds.specs.declared.range.TextRange.{TextRange}
 use Rattle.ssr_syntax_lex.specs.declared.tokens.RawToken.{RawToken}
@@ -13,6 +14,27 @@ use Rattle.ssr_syntax_lex.specs.declared.tokens.RawToken.{RawToken}
 -- a bracket, a comma or `;`: a token of its own, which ends the one in front, and beyond which no other looks
 abbrev pub is_seam : ℕ → Bool
 is_seam c = c ∈ "()[]{},;"
+
+-- the kinds of these characters
+abbrev pub is_seam_kind : SyntaxKind → Bool
+is_seam_kind k.L_PAREN = true
+is_seam_kind k.R_PAREN = true
+is_seam_kind k.L_BRACK = true
+is_seam_kind k.R_BRACK = true
+is_seam_kind k.L_CURLY = true
+is_seam_kind k.R_CURLY = true
+is_seam_kind k.COMMA = true
+is_seam_kind k.SEMICOLON = true
+is_seam_kind _ = false
+
+abbrev pub begins_at_seam : List RawToken → Bool
+begins_at_seam [] = false
+begins_at_seam (t ∷ ts) = is_seam_kind t.kind
+
+abbrev pub ends_at_seam : List RawToken → Bool
+ends_at_seam [] = false
+ends_at_seam (t ∷ []) = is_seam_kind t.kind
+ends_at_seam (t ∷ u ∷ us) = ends_at_seam (u ∷ us)
 
 -- a range so many bytes further on
 abbrev pub range_moved : ℕ → TextRange → TextRange

@@ -1,5 +1,12 @@
-use Rattle.ssr_syntax_lex.proofs.SeamLaws.{before_seam, behind_seam, cut_at_seam}
+use Rattle.ssr_syntax_lex.proofs.SeamLaws.{before_seam, behind_seam, cut_before_seam, cut_behind_seam, seam_begins, seam_ends}
 use Rattle.ssr_syntax_lex.proofs.laws.seams.Goals as goal
 
 pub returns : goal.returns
-returns c = record { before = before_seam; behind = behind_seam; cut = cut_at_seam }
+returns c = record {
+  before = before_seam;
+  behind = behind_seam;
+  cut_before = cut_before_seam;
+  cut_behind = cut_behind_seam;
+  first = seam_begins;
+  last = seam_ends;
+}
