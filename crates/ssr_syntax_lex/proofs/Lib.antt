@@ -18,5 +18,6 @@ mod Tiling
 mod SeamLines
 mod SeamCuts
 mod SeamLaws
+mod SeamPlaces
 mod Joints
 mod FromRows

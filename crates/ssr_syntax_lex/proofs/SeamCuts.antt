@@ -107,6 +107,28 @@ module _ (c : ℕ) (b : Chars) (seam : is_seam c ≡ true) where
       (tokens_from fuel (start + count) (dots_behind dots taken.0) taken.1) after before refl
       (sym (one_more fuel start dots d (cs ++ c ∷ b) taken.0 taken.1 is) ∙ e) there
 
+  -- the first token in front of what is cut
+  cut_longer : (fuel start dots d : ℕ) (cs : Chars) (ws vs : List RawToken) (taken : Taken) → token dots (d ∷ cs) ≡ Some taken
+      → (begins "//" (d ∷ cs) && (length (past is_in_line (d ∷ cs)) == 0)) ≡ false
+      → in_front taken.0 (range_of start (size (d ∷ cs) - size taken.1)) vs ≡ ws
+      → CutAt c b fuel (start + (size (d ∷ cs) - size taken.1)) (dots_behind dots taken.0) taken.1 vs
+      → CutAt c b (suc fuel) start dots (d ∷ cs) ws
+  cut_longer fuel start dots d cs ws vs taken is line same there =
+      let count : ℕ = size (d ∷ cs) - size taken.1 in
+      let less = rest_shorter dots d cs taken is in
+      let place : start + size (d ∷ cs) ≡ (start + count) + size taken.1 = omega (arith, less.1) in
+      record {
+        ts = in_front taken.0 (range_of start count) there.ts;
+        us = there.us;
+        front = one_more fuel start dots d cs taken.0 taken.1 is ∙ ap (option_map (in_front taken.0 (range_of start count))) there.front;
+        inside =
+            ap (λ x. x || option_map_or (λ (t : Taken). runs_out fuel (dots_behind dots t.0) t.1) (token dots (d ∷ cs)) false) line
+            ∙ ap (λ o. option_map_or (λ (t : Taken). runs_out fuel (dots_behind dots t.0) t.1) o false) is
+            ∙ there.inside;
+        behind = λ f n h. ap (λ s. tokens_from f s n (c ∷ b)) place ∙ there.behind f n h;
+        whole = sym same ∙ ap (in_front taken.0 (range_of start count)) there.whole;
+      }
+
   cut_found : (fuel start dots d : ℕ) (cs : Chars) (ws vs : List RawToken) (taken : Taken) → Cuts c b fuel → length (cs ++ c ∷ b) ≤ fuel → token dots (d ∷ cs) ≡ Some taken
       → (begins "//" (d ∷ cs) && (length (past is_in_line (d ∷ cs)) == 0)) ≡ false
       → tokens_from fuel (start + (size (d ∷ cs) - size taken.1)) (dots_behind dots taken.0) (taken.1 ++ c ∷ b) ≡ Some vs
@@ -120,19 +142,8 @@ module _ (c : ℕ) (b : Chars) (seam : is_seam c ≡ true) where
       let after : start < start + size (d ∷ cs) = omega (arith, some_bytes d cs) in
       let inner : has_token_at (start + size (d ∷ cs)) vs ≡ true =
       not_first start (start + size (d ∷ cs)) vs after (subst (λ (xs : List RawToken). has_token_at (start + size (d ∷ cs)) xs ≡ true) (sym same) there) in
-      let cut : CutAt c b fuel (start + count) (dots_behind dots taken.0) taken.1 vs =
-      cuts (start + count) (dots_behind dots taken.0) taken.1 vs fits e (subst (λ n. has_token_at n vs ≡ true) place inner) in
-      record {
-        ts = in_front taken.0 (range_of start count) cut.ts;
-        us = cut.us;
-        front = one_more fuel start dots d cs taken.0 taken.1 is ∙ ap (option_map (in_front taken.0 (range_of start count))) cut.front;
-        inside =
-            ap (λ x. x || option_map_or (λ (t : Taken). runs_out fuel (dots_behind dots t.0) t.1) (token dots (d ∷ cs)) false) line
-            ∙ ap (λ o. option_map_or (λ (t : Taken). runs_out fuel (dots_behind dots t.0) t.1) o false) is
-            ∙ cut.inside;
-        behind = λ f n h. ap (λ s. tokens_from f s n (c ∷ b)) place ∙ cut.behind f n h;
-        whole = sym same ∙ ap (in_front taken.0 (range_of start count)) cut.whole;
-      }
+      cut_longer fuel start dots d cs ws vs taken is line same
+      (cuts (start + count) (dots_behind dots taken.0) taken.1 vs fits e (subst (λ n. has_token_at n vs ≡ true) place inner))
 
   cut_rest : (fuel start dots d : ℕ) (cs : Chars) (ws : List RawToken) (taken : Taken) (o : Option (List RawToken)) → Cuts c b fuel → length (cs ++ c ∷ b) ≤ fuel → token dots (d ∷ cs) ≡ Some taken
       → (begins "//" (d ∷ cs) && (length (past is_in_line (d ∷ cs)) == 0)) ≡ false
