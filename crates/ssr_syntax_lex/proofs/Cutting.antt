@@ -47,7 +47,7 @@ started text total e = record {
 }
 
 -- the first token of what is left, in front of the others
-one_more : (fuel start dots c : ℕ) (cs : Chars) (kind : SyntaxKind) (rest : Chars) → token dots (c ∷ cs) ≡ Some (kind, rest) → tokens_from (suc fuel) start dots (c ∷ cs) ≡ option_map (in_front kind (range_of start (size (c ∷ cs) - size rest))) (tokens_from fuel (start + (size (c ∷ cs) - size rest)) (dots_behind dots kind) rest)
+pub one_more : (fuel start dots c : ℕ) (cs : Chars) (kind : SyntaxKind) (rest : Chars) → token dots (c ∷ cs) ≡ Some (kind, rest) → tokens_from (suc fuel) start dots (c ∷ cs) ≡ option_map (in_front kind (range_of start (size (c ∷ cs) - size rest))) (tokens_from fuel (start + (size (c ∷ cs) - size rest)) (dots_behind dots kind) rest)
 one_more fuel start dots c cs kind rest e =
     ap (option_and_then (λ (taken : Taken). let count : ℕ = size (c ∷ cs) - size taken.1 in
     option_map (in_front taken.0 (range_of start count)) (tokens_from fuel (start + count) (dots_behind dots taken.0) taken.1))) e

@@ -22,19 +22,19 @@ use Rattle.ssr_syntax_lex.proofs.Eaten.{run-past}
 abbrev pub Follows : Chars → Chars → Type 0
 Follows cs rest = (taken : Chars) × (cs ≡ taken ++ rest)
 
-follows_itself : (cs : Chars) → Follows cs cs
+pub follows_itself : (cs : Chars) → Follows cs cs
 follows_itself cs = ([], refl)
 
-follows_on : (cs ds es : Chars) → Follows cs ds → Follows ds es → Follows cs es
+pub follows_on : (cs ds es : Chars) → Follows cs ds → Follows ds es → Follows cs es
 follows_on cs ds es (xs, e) (ys, f) = (xs ++ ys, e ∙ (ap (λ zs. xs ++ zs) f ∙ sym (append_assoc xs ys es)))
 
-follows_drop : (n : ℕ) (cs : Chars) → Follows cs (drop n cs)
+pub follows_drop : (n : ℕ) (cs : Chars) → Follows cs (drop n cs)
 follows_drop n cs = (take n cs, sym (take-append-drop n cs))
 
-follows_past : (test : ℕ → Bool) (cs : Chars) → Follows cs (past test cs)
+pub follows_past : (test : ℕ → Bool) (cs : Chars) → Follows cs (past test cs)
 follows_past test cs = (run test cs, sym (run-past test cs))
 
-follows_past_drop : (test : ℕ → Bool) (n : ℕ) (cs : Chars) → Follows cs (past test (drop n cs))
+pub follows_past_drop : (test : ℕ → Bool) (n : ℕ) (cs : Chars) → Follows cs (past test (drop n cs))
 follows_past_drop test n cs = follows_on cs (drop n cs) _ (follows_drop n cs) (follows_past test (drop n cs))
 
 -- a run takes its first character
@@ -112,26 +112,26 @@ leaves_punctuation c cs =
     ]
 
 -- whatever an option holds is an end of these characters
-abbrev Ends : Chars → Option Chars → Type 0
+abbrev pub Ends : Chars → Option Chars → Type 0
 Ends cs o = (rest : Chars) → o ≡ Some rest → Follows cs rest
 
-ends_none : (cs : Chars) → Ends cs None
+pub ends_none : (cs : Chars) → Ends cs None
 ends_none cs rest e = absurd (cc)
 
-ends_some : (cs rest : Chars) → Follows cs rest → Ends cs (Some rest)
+pub ends_some : (cs rest : Chars) → Follows cs rest → Ends cs (Some rest)
 ends_some cs rest follows other e = subst (Follows cs) (ap (λ o. option_map_or (λ (xs : Chars). xs) o cs) e) follows
 
-ends_if : (cs : Chars) (b : Bool) (o p : Option Chars) → Ends cs o → Ends cs p → Ends cs (if b then o else p)
+pub ends_if : (cs : Chars) (b : Bool) (o p : Option Chars) → Ends cs o → Ends cs p → Ends cs (if b then o else p)
 ends_if cs true o p holds fails = holds
 ends_if cs false o p holds fails = fails
 
-ends_on : (cs ds : Chars) (o : Option Chars) → Follows cs ds → Ends ds o → Ends cs o
+pub ends_on : (cs ds : Chars) (o : Option Chars) → Follows cs ds → Ends ds o → Ends cs o
 ends_on cs ds o follows ends rest e = follows_on cs ds rest follows (ends rest e)
 
 follows_next : (c : ℕ) (cs : Chars) → Follows (c ∷ cs) cs
 follows_next c cs = (c ∷ [], refl)
 
-ends_comments : (depth : ℕ) (cs : Chars) → Ends cs (past_comments depth cs)
+pub ends_comments : (depth : ℕ) (cs : Chars) → Ends cs (past_comments depth cs)
 ends_comments zero cs = ends_some cs cs (follows_itself cs)
 ends_comments (suc depth) [] = ends_none []
 ends_comments (suc depth) (c ∷ []) = ends_none (c ∷ [])
@@ -141,21 +141,21 @@ ends_comments (suc depth) (c ∷ d ∷ cs) =
     (ends_if (c ∷ d ∷ cs) (begins "*/" (c ∷ d ∷ cs)) _ _ (ends_on (c ∷ d ∷ cs) cs _ two (ends_comments depth cs))
     (ends_on (c ∷ d ∷ cs) (d ∷ cs) _ (follows_next c (d ∷ cs)) (ends_comments (suc depth) (d ∷ cs))))
 
-ends_quoted : (escaped : Bool) (cs : Chars) → Ends cs (past_quoted escaped cs)
+pub ends_quoted : (escaped : Bool) (cs : Chars) → Ends cs (past_quoted escaped cs)
 ends_quoted escaped [] = ends_none []
 ends_quoted escaped (c ∷ cs) =
     ends_if (c ∷ cs) escaped _ _ (ends_on (c ∷ cs) cs _ (follows_next c cs) (ends_quoted false cs))
     (ends_if (c ∷ cs) (c ∈ "\"") _ _ (ends_some (c ∷ cs) cs (follows_next c cs))
     (ends_on (c ∷ cs) cs _ (follows_next c cs) (ends_quoted (c ∈ "\\") cs)))
 
-ends_raw : (hashes : ℕ) (cs : Chars) → Ends cs (past_raw hashes cs)
+pub ends_raw : (hashes : ℕ) (cs : Chars) → Ends cs (past_raw hashes cs)
 ends_raw hashes [] = ends_none []
 ends_raw hashes (c ∷ cs) =
     ends_if (c ∷ cs) (c ∈ "\"" && begins_with_hashes hashes cs) _ _
     (ends_some (c ∷ cs) (drop hashes cs) (follows_on (c ∷ cs) cs _ (follows_next c cs) (follows_drop hashes cs)))
     (ends_on (c ∷ cs) cs _ (follows_next c cs) (ends_raw hashes cs))
 
-ends_raw_string : (cs : Chars) → Ends cs (past_raw_string cs)
+pub ends_raw_string : (cs : Chars) → Ends cs (past_raw_string cs)
 ends_raw_string cs =
     ends_on cs (drop 1 (past is_hash cs)) _ (follows_on cs (past is_hash cs) _ (follows_past is_hash cs) (follows_drop 1 (past is_hash cs)))
     (ends_raw (length (run is_hash cs)) (drop 1 (past is_hash cs)))
@@ -164,13 +164,13 @@ slash_in_line : (c : ℕ) → (c ∈ "/") ≡ true → is_in_line c ≡ true
 slash_in_line c slash = ap is_in_line (eqb-true c (the_char "/") slash)
 
 -- a string takes its first character
-ends_string : (c : ℕ) (cs : Chars) → Ends cs (past_string (c ∷ cs))
+pub ends_string : (c : ℕ) (cs : Chars) → Ends cs (past_string (c ∷ cs))
 ends_string c cs = ends_if cs (begins "\"" (c ∷ cs)) _ _ (ends_quoted false cs) (ends_raw_string cs)
 
-ends_apostrophe : (cs : Chars) → Ends cs (past_apostrophe cs)
+pub ends_apostrophe : (cs : Chars) → Ends cs (past_apostrophe cs)
 ends_apostrophe cs = ends_if cs (begins "'" cs) _ _ (ends_some cs (drop 1 cs) (follows_drop 1 cs)) (ends_none cs)
 
-ends_char : (cs : Chars) → Ends cs (past_char cs)
+pub ends_char : (cs : Chars) → Ends cs (past_char cs)
 ends_char cs =
     ends_if cs (begins "\\" cs) _ _ (ends_on cs (past is_in_char (drop 2 cs)) _ (follows_past_drop is_in_char 2 cs) (ends_apostrophe (past is_in_char (drop 2 cs))))
     (ends_if cs (passes_at 0 is_in_char cs) _ _ (ends_on cs (drop 1 cs) _ (follows_drop 1 cs) (ends_apostrophe (drop 1 cs)))
@@ -181,7 +181,7 @@ leaves_closed cs kind None ends = leaves_none cs
 leaves_closed cs kind (Some rest) ends = leaves_some cs kind rest (ends rest refl)
 
 -- behind a prefix
-ends_behind : (n : ℕ) (cs : Chars) (o : Option Chars) → Ends (drop n cs) o → Ends cs o
+pub ends_behind : (n : ℕ) (cs : Chars) (o : Option Chars) → Ends (drop n cs) o → Ends cs o
 ends_behind n cs o ends = ends_on cs (drop n cs) o (follows_drop n cs) ends
 
 prefixed_string : (cs : Chars) → Ends cs (past_string cs)

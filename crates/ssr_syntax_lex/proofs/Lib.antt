@@ -8,7 +8,16 @@ mod PointLaws
 mod NumberCases
 mod Fronts
 mod Ranges
+mod SeamScans
+mod SeamTests
+mod SeamNumbers
+mod SeamToken
+mod SeamRuns
 mod Cutting
 mod Tiling
+mod SeamLines
+mod SeamCuts
+mod SeamLaws
+mod SeamPlaces
 mod Joints
 mod FromRows

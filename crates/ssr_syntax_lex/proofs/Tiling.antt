@@ -41,7 +41,7 @@ some_bytes start here left h = omega arith
 further : (start front here took left : ℕ) → front ≡ start → here ≡ took + left → front + took ≡ start + (here - left)
 further start front here took left f h = omega arith
 
-ends_further : (text : List ℕ) (start c : ℕ) (cs rest : Chars) → EndsAt text start (c ∷ cs) → Follows cs rest → EndsAt text (start + (size (c ∷ cs) - size rest)) rest
+pub ends_further : (text : List ℕ) (start c : ℕ) (cs rest : Chars) → EndsAt text start (c ∷ cs) → Follows cs rest → EndsAt text (start + (size (c ∷ cs) - size rest)) rest
 ends_further text start c cs rest ends (taken, e) =
     let whole : encode_utf8_all (c ∷ cs) ≡ encode_utf8_all (c ∷ taken) ++ encode_utf8_all rest =
     ap (λ xs. encode_utf8_all (c ∷ xs)) e ∙ encodes-append (c ∷ taken) rest in

@@ -5,5 +5,6 @@ pub mod Numbers
 pub mod Scan
 pub mod Raw
 pub mod Tokens
+pub mod Seams
 pub mod Fault
 pub mod Private

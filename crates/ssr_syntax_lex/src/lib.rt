@@ -4,6 +4,7 @@
 mod characters;
 mod cursor;
 mod fault;
+pub mod laws;
 mod numbers;
 mod raw;
 mod scan;

@@ -10,3 +10,4 @@ mod Wholes
 mod Trimmed
 mod Trimming
 mod MacroNames
+mod Seams

@@ -6,6 +6,8 @@ pub use Rattle.ssr_syntax_rows.proofs.Tiles.{length-token, tiled_texts, tiles_wi
 pub use Rattle.ssr_syntax_rows.proofs.Trimming.{IsUtf8-trim, trim_shorter}
 -- solid tokens, and what they are joined from
 pub use Rattle.ssr_syntax_rows.proofs.SolidLaws.{is_mark, mark_solid, mark_no_ident, AreJoined, are_joined, kind_of, all_solid}
+-- those of texts side by side at a bracket, a comma or `;`
+pub use Rattle.ssr_syntax_rows.proofs.Seams.{solid_seam, pieces_seam}
 -- what is taken in the trees of a grammar
 pub use Rattle.ssr_syntax_rows.proofs.Solidity.{IsTaken, AreTaken, goals_taken, AllSolid, leaves_solid}
 -- tokens that were taken, laid over those of a text

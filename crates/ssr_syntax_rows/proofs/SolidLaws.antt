@@ -70,7 +70,7 @@ unlike : (b : Bool) (next kind : SyntaxKind) → same_kind kind next ≡ b → t
 unlike true next kind e none = ap twice (same_kind-equal kind next e) ∙ none
 unlike false next kind e none = refl
 
-never_joined : (next kind : SyntaxKind) → ends_joined next ≡ false → joined next kind ≡ None
+pub never_joined : (next kind : SyntaxKind) → ends_joined next ≡ false → joined next kind ≡ None
 never_joined k.EQ kind e = cc
 never_joined k.R_ANGLE kind e = cc
 never_joined k.COLON kind e = cc

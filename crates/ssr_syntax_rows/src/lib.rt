@@ -2,6 +2,7 @@
 //! comments, to those of lossless trees.
 #![tactic(auto)]
 
+pub mod laws;
 pub mod macro_rules;
 mod packing;
 pub mod preorder;
