@@ -24,6 +24,13 @@ use ssr_syntax_kinds::TextRange;
 use std::alloc::{AllocError, Global};
 use std::collections::BTreeMap;
 
+/// A question: its word, and in which way trees are told.
+#[derive(Clone, Copy)]
+struct Question<'a> {
+    word: &'a str,
+    way: &'a str,
+}
+
 /// What the line asks, if it asks something.
 pub(crate) fn answer(
     alloc: Global,
@@ -35,10 +42,15 @@ pub(crate) fn answer(
     if line.word == "fronts" {
         let (word, written) = line.rest.split_once(' ').unwrap_or((line.rest, ""));
         let text = text_of(alloc, written)?;
-        return Ok(Some(fronts(alloc, facts, searches, way, word, text.as_str())?));
+        let question = Question { word, way };
+        return Ok(Some(fronts(alloc, facts, searches, question, text.as_str())?));
     }
+    let question = Question {
+        word: line.word,
+        way,
+    };
     let text = text_of(alloc, line.rest)?;
-    asked(alloc, facts, searches, way, line.word, text.as_str())
+    asked(alloc, facts, searches, question, text.as_str())
 }
 
 /// What a question answers to each front of a text: a line where the answer changes, with how long the front is.
@@ -46,15 +58,14 @@ fn fronts(
     alloc: Global,
     facts: &Facts,
     searches: &mut Result<Searches<'_>, SsrError>,
-    way: &str,
-    word: &str,
+    question: Question<'_>,
     text: &str,
 ) -> Result<String> {
     let mut out = Told::nothing(alloc);
     let mut last = String::new(alloc);
     for end in 0..=text.len() {
         if let Some(front) = text.get(..end) {
-            let told = asked(alloc, facts, searches, way, word, front)?.unwrap_or(String::new(
+            let told = asked(alloc, facts, searches, question, front)?.unwrap_or(String::new(
                 alloc,
             ));
             if end == 0 || told.as_str() != last.as_str() {
@@ -81,12 +92,11 @@ fn asked(
     alloc: Global,
     facts: &Facts,
     searches: &mut Result<Searches<'_>, SsrError>,
-    way: &str,
-    word: &str,
+    question: Question<'_>,
     text: &str,
 ) -> Result<Option<String>> {
     let mut out = Told::nothing(alloc);
-    if write_answer(alloc, &mut out, facts, searches, way, word, text)? {
+    if write_answer(alloc, &mut out, facts, searches, question, text)? {
         Ok(Some(out.end()?))
     } else {
         Ok(None)
@@ -99,19 +109,18 @@ fn write_answer(
     out: &mut Told,
     facts: &Facts,
     searches: &mut Result<Searches<'_>, SsrError>,
-    way: &str,
-    word: &str,
+    question: Question<'_>,
     text: &str,
 ) -> Result<bool> {
     let semantics = &facts.semantics;
-    if let Some(goal) = goal_of(word) {
-        write_tree(alloc, out, semantics, goal, way, text)?;
+    if let Some(goal) = goal_of(question.word) {
+        write_tree(alloc, out, semantics, goal, question.way, text)?;
         return Ok(true);
     }
-    match word {
+    match question.word {
         "lexes" => write_tokens(alloc, out, text),
         "kinds" | "parts" | "used" | "calls" | "eligible" => {
-            write_rule(alloc, out, semantics, word, text);
+            write_rule(alloc, out, semantics, question.word, text);
         }
         "leads" => write_leads(alloc, out, facts, text),
         "shapes" => write_shapes(alloc, out, facts, text),
@@ -120,7 +129,7 @@ fn write_answer(
         "nodes" => write_nodes(alloc, out, facts),
         "counts" => write_counts(alloc, out, text)?,
         "comment" => write_comment(alloc, out, facts, text)?,
-        _ => return of_search(alloc, out, &facts.workspace, searches, word, text),
+        _ => return of_search(alloc, out, &facts.workspace, searches, question.word, text),
     }
     Ok(true)
 }
