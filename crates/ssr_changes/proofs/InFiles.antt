@@ -26,7 +26,8 @@ use Rattle.ssr_changes.specs.declared.changing.FileChange.{FileChange}
 use Rattle.ssr_changes.specs.Changing.{AreChanges, Changed, FitsIn, IsWhy, all_changed, change_in, changed, shown}
 use Rattle.ssr_changes.specs.Files.{File}
 use Rattle.ssr_changes.specs.Private.Changing.{FitsTree}
-use Rattle.ssr_changes.specs.Standing.{falling, standing, stands, stands_in}
+use Rattle.ssr_standing.specs.Standing.{stands}
+use Rattle.ssr_changes.specs.Standing.{falling, standing, stands_in}
 
 -- ** The edits that are left.
 

@@ -7,7 +7,7 @@ use Rattle.std.proofs.lemmas.List.Elements.{All-filter, All-nil, filter_more}
 use Rattle.ssr_syntax_kinds.specs.declared.range.TextRange.{TextRange}
 use Rattle.ssr_base_trees.specs.Applied.{change_of, changes_of}
 use Rattle.ssr_base_trees.specs.Changes.{Change, ChangesInOrder}
-use Rattle.ssr_changes.specs.Standing.{alone, falling, not_alone, standing}
+use Rattle.ssr_changes.specs.Standing.{alone, falling, fitted, in_parentheses, not_alone, standing}
 
 -- ** Order.
 
@@ -29,6 +29,23 @@ order-filter p at (c ∷ cs) order = by (p c) (order-filter p c.end cs order.2)
     by : (b : Bool) → ChangesInOrder c.end (filter p cs) → ChangesInOrder at (if b then c ∷ filter p cs else filter p cs)
     by true rest = (order.0, order.1, rest)
     by false rest = earlier at c.end (filter p cs) (omega (arith, order.0, order.1)) rest
+
+-- parentheses leave changes in order
+pub order-fitted : (stands : List Change → Bool) (at : ℕ) (cs : List Change) → ChangesInOrder at cs → ChangesInOrder at (map (fitted stands) cs)
+order-fitted stands at [] order = tt
+order-fitted stands at (c ∷ cs) order = by (stands (c ∷ [])) (order-fitted stands c.end cs order.2)
+  where
+    by : (b : Bool) → ChangesInOrder c.end (map (fitted stands) cs) → ChangesInOrder at ((if b then c else in_parentheses c) ∷ map (fitted stands) cs)
+    by true rest = (order.0, order.1, rest)
+    by false rest = (order.0, order.1, rest)
+
+-- and in the text that they fit
+fits_fitted : (stands : List Change → Bool) (text : List ℕ) (c : Change) → FitsText text c → FitsText text (fitted stands c)
+fits_fitted stands text c fit = by (stands (c ∷ []))
+  where
+    by : (b : Bool) → FitsText text (if b then c else in_parentheses c)
+    by true = fit
+    by false = fit
 
 -- ** One change more.
 
@@ -77,14 +94,23 @@ module _ (stands : List Change → Bool) (cs : List Change) where
   all_fall all some =
       ap (λ b. if b then [] else if stands (alone stands cs) then not_alone stands cs else cs) all ∙ ap (λ b. if b then not_alone stands cs else cs) some
 
-  -- what holds of all changes holds of those that are made
-  pub All-standing : (P : Change → Type 0) → All P cs → All P (standing stands cs)
-  All-standing P all = by (stands cs)
+  -- where all changes fit a text, those that are made do
+  pub fits_standing : (text : List ℕ) → All (FitsText text) cs → All (FitsText text) (standing stands cs)
+  fits_standing text all = by (stands cs)
     where
-      or_none : (b : Bool) → All P (if b then alone stands cs else [])
-      or_none true = All-filter (λ c. stands (c ∷ [])) P cs all
-      or_none false = All-nil P
+      each : All (FitsText text) (map (fitted stands) cs)
+      each = All-map (FitsText text) (fitted stands) cs (λ k d less. fits_fitted stands text (get_or cs k d) (all k d less))
 
-      by : (b : Bool) → All P (if b then cs else if stands (alone stands cs) then alone stands cs else [])
+      or_none : (b : Bool) → All (FitsText text) (if b then alone stands cs else [])
+      or_none true = All-filter (λ c. stands (c ∷ [])) (FitsText text) (map (fitted stands) cs) each
+      or_none false = All-nil (FitsText text)
+
+      by : (b : Bool) → All (FitsText text) (if b then cs else if stands (alone stands cs) then alone stands cs else [])
       by true = all
       by false = or_none (stands (alone stands cs))
+
+-- where all changes fit a text, those that stand alone do
+pub fits_alone : (stands : List Change → Bool) (cs : List Change) (text : List ℕ) → All (FitsText text) cs → All (FitsText text) (alone stands cs)
+fits_alone stands cs text all =
+    All-filter (λ c. stands (c ∷ [])) (FitsText text) (map (fitted stands) cs)
+    (All-map (FitsText text) (fitted stands) cs (λ k d less. fits_fitted stands text (get_or cs k d) (all k d less)))

@@ -1,28 +1,31 @@
--- Which changes of a file are made: those with which it is read.
-use Rattle.std.specs.Prelude.{ℕ, Bool, false, not, is_ok, if◌then◌else◌, List, [], ◌∷◌, filter, slice_get}
+-- Which changes of a file are made: those that stand, in parentheses where they stand only so.
+use Rattle.std.specs.Prelude.{ℕ, Bool, false, not, if◌then◌else◌, List, [], ◌∷◌, ◌++◌, codes, filter, map, slice_get}
 use Rattle.std.specs.Option.{option_map_or}
-use Rattle.ssr_syntax_tree.specs.Syntax.{Syntax}
-use Rattle.ssr_syntax.specs.Reading.{file_reading}
-use Rattle.ssr_base.specs.Editing.{new_text}
 use Rattle.ssr_base_trees.specs.Changes.{Change}
 use Rattle.ssr_base_trees.specs.Workspace.{Workspace}
+use Rattle.ssr_standing.specs.Standing.{stands}
 
--- a tree's text is read with these changes of it made
-abbrev pub stands : Syntax → List Change → Bool
-stands tree cs = is_ok (file_reading (new_text tree cs))
-
--- the searched text of a file is
+-- with these changes made the searched text of a file is read, and groups as it did
 abbrev pub stands_in : Workspace → ℕ → List Change → Bool
 stands_in w n cs = option_map_or (λ tree. stands tree cs) (slice_get w.files n) false
 
--- the changes that stand alone, and the others
+-- a change with its text in parentheses
+abbrev pub in_parentheses : Change → Change
+in_parentheses c = record { start = c.start; end = c.end; text = codes "(" ++ (c.text ++ codes ")") }
+
+-- a change as it is, if it stands alone, else in parentheses
+abbrev pub fitted : (List Change → Bool) → Change → Change
+fitted stands c = if stands (c ∷ []) then c else in_parentheses c
+
+-- the changes so, if they stand alone
 abbrev pub alone : (List Change → Bool) → List Change → List Change
-alone stands cs = filter (λ c. stands (c ∷ [])) cs
+alone stands cs = filter (λ c. stands (c ∷ [])) (map (fitted stands) cs)
 
+-- those that don't
 abbrev pub not_alone : (List Change → Bool) → List Change → List Change
-not_alone stands cs = filter (λ c. not (stands (c ∷ []))) cs
+not_alone stands cs = filter (λ c. not (stands (fitted stands c ∷ []))) cs
 
--- The changes that are made: all, if they stand together; else those that stand alone, if these stand together; else none.
+-- The changes that are made: all as they are, if they stand together; else those that stand alone, if these stand together; else none.
 abbrev pub standing : (List Change → Bool) → List Change → List Change
 standing stands cs = if stands cs then cs else if stands (alone stands cs) then alone stands cs else []
 

@@ -1,12 +1,16 @@
-//! Which changes of a file are made: those with which it is read.
-ghost use Rattle.std.specs.Prelude.{◌≡◌, ◌≤◌, [], ◌∷◌, All, IfOk, map};
+//! Which changes of a file are made: those with which it is read and groups as it did.
+ghost use Rattle.std.specs.Prelude.{◌≡◌, ◌≤◌, [], ◌∷◌, All, IfOk, map, string_bytes};
+ghost use Rattle.std.specs.Option.{option_map};
 ghost use Rattle.ssr_syntax_tree.specs.Syntax.{source_of};
 ghost use Rattle.ssr_base_trees.specs.Changes.{FitsText};
 ghost use Rattle.ssr_set_aside.specs.Sparing.{bounds, bounds_of};
-ghost use Rattle.ssr_changes.specs.Standing.{alone, falling, not_alone, standing, stands};
+ghost use Rattle.ssr_standing.specs.Standing.{stands};
+ghost use Rattle.ssr_changes.specs.Standing.{alone, falling, not_alone, standing};
+ghost use Rattle.ssr_changes.specs.Private.Standing.{IsFitted, change_with};
 
-use ssr_base::{ApplyError, TextEdit};
-use ssr_syntax::{SyntaxError, TextRange, Tree, parse_file_owned};
+use ssr_base::TextEdit;
+use ssr_standing::stands;
+use ssr_syntax::{TextRange, Tree};
 use std::alloc::{AllocError, Global};
 
 /// What trying an edit comes to.
@@ -18,8 +22,8 @@ pub(crate) struct Tried {
     pub(crate) unread: Vec<TextRange>,
 }
 
-/// Which changes of a searched text are made. Where it isn't read with all of them, each is tried alone, and those that stand alone
-/// are tried together.
+/// Which changes of a searched text are made. Where it isn't read as before with all of them, each is tried alone, as it is and then
+/// in parentheses, and those that stand alone are tried together.
 pub(crate) fn standing(alloc: Global, tree: &Tree, edit: TextEdit) -> Result<Tried, AllocError>
     requires { All (FitsText (source_of tree.now)) edit }
     ensures made { IfOk result (λ answer. answer.edit ≡ standing (stands tree.now) edit) }
@@ -41,23 +45,6 @@ pub(crate) fn standing(alloc: Global, tree: &Tree, edit: TextEdit) -> Result<Tri
     })
 }
 
-/// Whether a text is read with an edit of it made.
-fn stands(alloc: Global, tree: &Tree, edit: &TextEdit) -> Result<bool, AllocError>
-    requires { All (FitsText (source_of tree.now)) edit.now }
-    ensures { IfOk result (λ answer. answer ≡ stands tree.now edit.now) }
-{
-    let new = match edit.apply(alloc, tree.source()) {
-        Ok(new) => new,
-        Err(ApplyError::Memory) => return Err(AllocError),
-        Err(ApplyError::Range) => unreachable!(),
-    };
-    match parse_file_owned(alloc, new) {
-        Ok(_) => Ok(true),
-        Err(SyntaxError::Memory) => Err(AllocError),
-        Err(_) => Ok(false),
-    }
-}
-
 /// The changes of an edit that stand alone, and the others.
 fn standing_alone(alloc: Global, tree: &Tree, edit: &TextEdit) -> Result<Tried, AllocError>
     requires { All (FitsText (source_of tree.now)) edit.now }
@@ -67,11 +54,9 @@ fn standing_alone(alloc: Global, tree: &Tree, edit: &TextEdit) -> Result<Tried, 
     let mut made = Vec::new(alloc);
     let mut unread = Vec::new(alloc);
     for (range, text) in edit.iter().as_slice() {
-        let one = single(alloc, *range, text.as_str())?;
-        if stands(alloc, tree, &one)? {
-            made.push((*range, String::from_str(alloc, text.as_str())?))?;
-        } else {
-            unread.push(*range)?;
+        match fitted(alloc, tree, *range, text.as_str())? {
+            Some(text) => made.push((*range, text))?,
+            None => unread.push(*range)?,
         }
     }
     Ok(Tried {
@@ -80,10 +65,45 @@ fn standing_alone(alloc: Global, tree: &Tree, edit: &TextEdit) -> Result<Tried, 
     })
 }
 
+/// The text of a change as it stands alone, if it does: as it is, or else in parentheses.
+fn fitted(
+    alloc: Global,
+    tree: &Tree,
+    range: TextRange,
+    text: &str,
+) -> Result<Option<String>, AllocError>
+    requires order { range.start ≤ range.end }
+    requires fits { FitsText (source_of tree.now) (change_with range text.now) }
+    ensures { IfOk result (λ fitted. IsFitted (stands tree.now) (change_with range text.now) (option_map string_bytes fitted)) }
+{
+    if stands_with(alloc, tree, range, text)? {
+        return Ok(Some(String::from_str(alloc, text)?));
+    }
+    let wrapped = format!(in alloc; "({text})")?;
+    if stands_with(alloc, tree, range, wrapped.as_str())? {
+        return Ok(Some(wrapped));
+    }
+    Ok(None)
+}
+
+/// Whether one change stands.
+fn stands_with(
+    alloc: Global,
+    tree: &Tree,
+    range: TextRange,
+    text: &str,
+) -> Result<bool, AllocError>
+    requires order { range.start ≤ range.end }
+    requires fits { FitsText (source_of tree.now) (change_with range text.now) }
+    ensures { IfOk result (λ answer. answer ≡ stands tree.now (change_with range text.now ∷ [])) }
+{
+    stands(alloc, tree, &single(alloc, range, text)?)
+}
+
 /// The edit that makes one change.
 fn single(alloc: Global, range: TextRange, text: &str) -> Result<TextEdit, AllocError>
     requires { range.start ≤ range.end }
-    ensures { IfOk result (λ edit. edit ≡ record { start = range.start; end = range.end; text = text.now } ∷ []) }
+    ensures { IfOk result (λ edit. edit ≡ change_with range text.now ∷ []) }
 {
     let mut changes = Vec::with_capacity(alloc, 1)?;
     changes.push((range, String::from_str(alloc, text)?))?;

@@ -7,10 +7,10 @@ use Rattle.ssr_base_trees.specs.Changes.{FitsText, replaced}
 use Rattle.ssr_base_trees.specs.Workspace.{Workspace, tree_of}
 use Rattle.ssr_set_aside.specs.Sparing.{spared, told, touches_aside}
 use Rattle.ssr_changes.specs.declared.changing.FileChange.{FileChange}
-use Rattle.ssr_changes.specs.Standing.{stands}
+use Rattle.ssr_standing.specs.Standing.{stands}
 use Rattle.ssr_changes.proofs.FileLists.{none_there, tree_there}
 use Rattle.ssr_changes.proofs.InFiles.{change_is, fits_in}
-use Rattle.ssr_changes.proofs.Standings.{All-standing}
+use Rattle.ssr_changes.proofs.Standings.{fits_standing}
 use Rattle.ssr_changes.proofs.changing.changed.Goals as goal
 
 pub unreachable-requires : goal.unreachable-requires
@@ -42,7 +42,7 @@ unreachable-requires-in-Err-Range c =
     c.in_ok-edit.ensures.fits there.text (record { tree = c.requires.fits.0; aside = there.aside; reaches = there.reaches }) (sym c.reaches.ensures)
     (c.file-there.ensures.searched c.requires.fits.0 c.requires.fits.1) c.requires.fits.2 in
     let made : All (FitsText there.text) c.in_ok-edit-2.field-0.edit =
-    subst (All (FitsText there.text)) (sym c.in_ok-edit-2.ensures.made) (All-standing (stands c.in-Some.tree.now) left (FitsText there.text) fit) in
+    subst (All (FitsText there.text)) (sym c.in_ok-edit-2.ensures.made) (fits_standing (stands c.in-Some.tree.now) left there.text fit) in
     (rw c.in-Err-Range.field-0-is at c.in-Err-Range.ensures).answer (subst (λ (text : List ℕ). All (FitsText text) c.in_ok-edit-2.field-0.edit) (sym c.text.ensures) made)
 
 pub returns-clause-change : goal.returns-clause-change
@@ -74,4 +74,4 @@ returns-clause-fits c =
     c.in_ok-edit.ensures.fits there.text (record { tree = c.requires.fits.0; aside = there.aside; reaches = there.reaches }) (sym c.reaches.ensures)
     (c.file-there.ensures.searched c.requires.fits.0 c.requires.fits.1) c.requires.fits.2 in
     fits_in c.args.files.now.files c.args.file there all refl c.file-there.ensures.there
-    (subst (All (FitsText there.text)) (sym c.in_ok-edit-2.ensures.made) (All-standing (stands c.in-Some.tree.now) left (FitsText there.text) fit))
+    (subst (All (FitsText there.text)) (sym c.in_ok-edit-2.ensures.made) (fits_standing (stands c.in-Some.tree.now) left there.text fit))

@@ -1,12 +1,11 @@
-use Rattle.std.proofs.Common.{All, [], ◌∷◌, subst, sym}
-use Rattle.std.proofs.lemmas.List.Elements.{All-filter}
+use Rattle.std.proofs.Common.{All, subst, sym}
 use Rattle.ssr_syntax_tree.specs.Syntax.{source_of}
 use Rattle.ssr_base_trees.specs.Changes.{FitsText}
-use Rattle.ssr_changes.specs.Standing.{stands}
+use Rattle.ssr_standing.specs.Standing.{stands}
+use Rattle.ssr_changes.proofs.Standings.{fits_alone}
 use Rattle.ssr_changes.proofs.standing.standing.Goals as goal
 
 pub stands-requires-2 : goal.stands-requires-2
 stands-requires-2 c =
     let source = source_of c.args.tree.now in
-    subst (All (FitsText source)) (sym c.in_ok-alone.ensures.made)
-    (All-filter (λ e. stands c.args.tree.now (e ∷ [])) (FitsText source) c.args.edit c.requires)
+    subst (All (FitsText source)) (sym c.in_ok-alone.ensures.made) (fits_alone (stands c.args.tree.now) c.args.edit source c.requires)

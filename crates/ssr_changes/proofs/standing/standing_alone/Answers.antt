@@ -9,7 +9,8 @@ use Rattle.ssr_base_trees.specs.Changes.{Change, ChangesInOrder, FitsText}
 use Rattle.ssr_base_trees.specs.Applied.{change_of, changes_of}
 use Rattle.ssr_base_trees.proofs.Changes.{change_at, fits_here, shown}
 use Rattle.ssr_set_aside.specs.Sparing.{bounds, bounds_of}
-use Rattle.ssr_changes.specs.Standing.{alone, not_alone, stands}
+use Rattle.ssr_standing.specs.Standing.{stands}
+use Rattle.ssr_changes.specs.Standing.{alone, not_alone}
 use Rattle.ssr_changes.proofs.Standings.{copy_behind, in_order_at, kept, left_out, order-filter}
 use Rattle.ssr_changes.proofs.standing.standing_alone.Goals as goal
 use Rattle.ssr_changes.proofs.standing.standing_alone.Goals.{then-branch+in_ok-from_str+in_ok-push, else-branch+in_ok-push-2}

@@ -1,7 +1,8 @@
 use Rattle.std.proofs.Common.{◌≡◌, map, take}
 use Rattle.ssr_base_trees.specs.Applied.{changes_of}
 use Rattle.ssr_set_aside.specs.Sparing.{bounds, bounds_of}
-use Rattle.ssr_changes.specs.Standing.{alone, not_alone, stands}
+use Rattle.ssr_standing.specs.Standing.{stands}
+use Rattle.ssr_changes.specs.Standing.{alone, not_alone}
 use Rattle.ssr_changes.proofs.standing.standing_alone.Given as goal
 
 abbrev pub invariant-loop-range : goal.invariant-loop-range
