@@ -1,13 +1,14 @@
 -- Changes that are made, and the others.
-use Rattle.std.proofs.Common.{◌≡◌, ℕ, zero, suc, ◌+◌, ◌<◌, ◌≤◌, cond, Bool, true, false, List, [], ◌∷◌, ◌++◌, length, get_or, take, All, ◌∙◌, ap, subst, append-nil, arith, String, string_bytes}
-use Rattle.std.specs.Prelude.{filter, if◌then◌else◌}
+use Rattle.std.proofs.Common.{◌≡◌, ℕ, zero, suc, ◌+◌, ◌<◌, ◌≤◌, cond, Bool, true, false, List, [], ◌∷◌, ◌++◌, length, get_or, take, All, ◌∙◌, ap, subst, append-nil, arith, String, string_bytes, map, sym, Some, None}
+use Rattle.std.specs.Prelude.{filter, not, if◌then◌else◌}
 use Rattle.std.specs.Global.{Global}
-use Rattle.std.proofs.lemmas.List.{map-append}
-use Rattle.std.proofs.lemmas.List.Elements.{All-filter, All-nil, filter_more}
+use Rattle.std.proofs.lemmas.List.{get_or-map, length-map, map-append, take-map}
+use Rattle.std.proofs.lemmas.List.Elements.{All-filter, All-map, All-nil, filter_more}
 use Rattle.ssr_syntax_kinds.specs.declared.range.TextRange.{TextRange}
 use Rattle.ssr_base_trees.specs.Applied.{change_of, changes_of}
-use Rattle.ssr_base_trees.specs.Changes.{Change, ChangesInOrder}
+use Rattle.ssr_base_trees.specs.Changes.{Change, ChangesInOrder, FitsText}
 use Rattle.ssr_changes.specs.Standing.{alone, falling, fitted, in_parentheses, not_alone, standing}
+use Rattle.ssr_changes.specs.Private.Standing.{IsFitted}
 
 -- ** Order.
 
@@ -62,12 +63,35 @@ module _ (p : Change → Bool) (cs : List Change) (i : ℕ) (d : Change) (less :
   pub left_out : p d ≡ false → filter p (take (i + 1) cs) ≡ filter p (take i cs)
   left_out is = more false is ∙ append-nil (filter p (take i cs))
 
--- a copy of a change behind others
-pub copy_behind : (made new : List (TextRange × String Global)) (range : TextRange) (copy text : String Global) (bytes : List ℕ)
-    → new ≡ made ++ (range, copy) ∷ [] → string_bytes copy ≡ bytes → bytes ≡ string_bytes text → changes_of new ≡ changes_of made ++ change_of (range, text) ∷ []
-copy_behind made new range copy text bytes is copied same =
-    ap changes_of is ∙ map-append change_of made ((range, copy) ∷ [])
-    ∙ ap (λ (bytes : List ℕ). changes_of made ++ record { start = range.start; end = range.end; text = bytes } ∷ []) (copied ∙ same)
+-- one change more, as it stands alone
+module _ (stands : List Change → Bool) (cs : List Change) (i : ℕ) (d : Change) (less : i < length cs) (its : get_or cs i d ≡ d) where
+  abbrev by : Change → Bool
+  by c = stands (c ∷ [])
+
+  more_fitted : (b : Bool) → by (fitted stands d) ≡ b → alone stands (take (i + 1) cs) ≡ alone stands (take i cs) ++ cond b (fitted stands d ∷ []) []
+  more_fitted b is =
+      ap (filter by) (sym (take-map (fitted stands) (i + 1) cs))
+      ∙ more by (map (fitted stands) cs) i (fitted stands d) (omega (arith, length-map cs (fitted stands)))
+        (get_or-map (fitted stands) cs i d (fitted stands d) less ∙ ap (fitted stands) its) b is
+      ∙ ap (λ (xs : List Change). filter by xs ++ cond b (fitted stands d ∷ []) []) (take-map (fitted stands) i cs)
+
+  pub fitted_made : (text : List ℕ) → IsFitted stands d (Some text)
+      → alone stands (take (i + 1) cs) ≡ alone stands (take i cs) ++ record { start = d.start; end = d.end; text = text } ∷ []
+  fitted_made text is = more_fitted true is.1 ∙ ap (λ (c : Change). alone stands (take i cs) ++ c ∷ []) is.0
+
+  pub fitted_stays : (text : List ℕ) → IsFitted stands d (Some text) → not_alone stands (take (i + 1) cs) ≡ not_alone stands (take i cs)
+  fitted_stays text is = left_out (λ c. not (by (fitted stands c))) cs i d less its (ap not is.1)
+
+  pub unfit_left : IsFitted stands d None → alone stands (take (i + 1) cs) ≡ alone stands (take i cs)
+  unfit_left is = more_fitted false is ∙ append-nil (alone stands (take i cs))
+
+  pub unfit_falls : IsFitted stands d None → not_alone stands (take (i + 1) cs) ≡ not_alone stands (take i cs) ++ d ∷ []
+  unfit_falls is = kept (λ c. not (by (fitted stands c))) cs i d less its (ap not is)
+
+-- a change with another text behind others
+pub text_behind : (made new : List (TextRange × String Global)) (range : TextRange) (text : String Global)
+    → new ≡ made ++ (range, text) ∷ [] → changes_of new ≡ changes_of made ++ record { start = range.start; end = range.end; text = string_bytes text } ∷ []
+text_behind made new range text is = ap changes_of is ∙ map-append change_of made ((range, text) ∷ [])
 
 -- ** What is made.
 
