@@ -323,6 +323,25 @@ def a_file_that_is_left_out_is_told_with_the_place(program):
             yield package.run(program, RULE, "--", "bad.rs", "good.rs") == (0, "", f"bad.rs{told}\n0 matches; 1 file left out\n")
 
 
+# A text, a rule, and the text with its matches replaced: in parentheses where they would group otherwise.
+GROUPED = [
+    ("fn f() { 2 * 7; f(7); }\n", "7 ==>> 3 + 4", "fn f() { 2 * (3 + 4); f(3 + 4); }\n"),
+    ("fn f() { v.get(i).unwrap(); g(v.get(i)); }\n", "$a.get($i) ==>> *$a.at($i)", "fn f() { (*v.at(i)).unwrap(); g(*v.at(i)); }\n"),
+    ("fn f() { x&(&y); (a.b)(c); ((z)) }\n", "($a) ==>> $a", "fn f() { x&(&y); (a.b)(c); z }\n"),
+    ("fn f() { match x { &7 => 2 * 7, _ => 0 } }\n", "7 ==>> 3 | 4", "fn f() { match x { &(3 | 4) => 2 * (3 | 4), _ => 0 } }\n"),
+    ("fn f() { 2 * 7 + 7 }\n", "7 ==>> 3 * 4 /* c */", "fn f() { 2 * (3 * 4) + 3 * 4 }\n"),
+    # a macro's tokens aren't judged
+    ("fn f() { assert!(2 * 7 == x); }\n", "7 ==>> 3 + 4", "fn f() { assert!(2 * 3 + 4 == x); }\n"),
+]
+
+
+@example
+def a_replacement_groups_as_the_match_did(program):
+    for text, rule, new in GROUPED:
+        with Package({"one.rs": text}) as package:
+            yield package.run(program, "-q", "--write", rule, "--", "one.rs") == (0, "", "") and package.read("one.rs") == new
+
+
 # A text, a rule, the place of the match with which the text can't be read, and the text with the others replaced.
 ARMS = 'fn f() { match x { "a" => b("c"), _ => d } }\n'
 CONDITIONS = "fn f() { if a { b } if let C = d { e } }\n"
