@@ -1,5 +1,8 @@
+use Rattle.ssr_macro_arguments.specs.Calls.{its_tree}
 use Rattle.ssr_macro_arguments.proofs.expanding.add_call_below.Goals as goal
 
 pub returns-clause-made : goal.returns-clause-made
 returns-clause-made c = λ text spelled all.
-    c.in_ok-add_made.ensures.made c.args.number text all (c.in_ok-found.ensures.made text (c.in_ok-arguments.ensures text spelled))
+    let place = its_tree c.args.above.now.read in
+    c.in_ok-add_made.ensures.made place c.args.number text all
+    (c.in_ok-found.ensures.made place text c.in-Some.ensures.call c.in-Some-2.ensures.all (c.in-Some-2.ensures.spelled text spelled))
