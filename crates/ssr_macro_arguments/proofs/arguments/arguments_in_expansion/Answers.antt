@@ -8,9 +8,9 @@ pub loop-number-preserved : goal.loop-number-preserved
 loop-number-preserved c = record {
   all =
       zip_next (IsArgumentAt (its_tree c.args.above.now.read)) _ _ _ c.loop-number.number-index _ (omega arith) c.in_ok-push.ensures.items
-      c.loop-number.invariant.all c.in-Some.ensures.argument;
+      c.loop-number.invariant.all (rw c.in-Some.is at c.in_ok-token.ensures.argument);
   spelled = λ text all.
-      more_spelled text _ _ _ c.in_ok-push.ensures.items (c.loop-number.invariant.spelled text all) (c.in-Some.ensures.spells text all);
+      more_spelled text _ _ _ c.in_ok-push.ensures.items (c.loop-number.invariant.spelled text all) ((rw c.in-Some.is at c.in_ok-token.ensures.spells) text all);
 }
 
 pub returns-clause-all : goal.returns-clause-all

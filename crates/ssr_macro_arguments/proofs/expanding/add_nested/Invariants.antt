@@ -1,4 +1,4 @@
-use Rattle.std.proofs.Common.{ℕ, List, ◌≡◌, ◌≤◌, ◌-◌, length}
+use Rattle.std.proofs.Common.{List, ◌≡◌, ◌≤◌, ◌-◌, length}
 use Rattle.ssr_syntax_tree.specs.Syntax.{Syntax}
 use Rattle.ssr_macro_arguments.specs.Private.Made.{AreMade}
 use Rattle.ssr_macro_arguments.proofs.expanding.add_nested.Given as goal
