@@ -2,7 +2,7 @@
 use Rattle.std.proofs.Common.{◌≡◌, ℕ, suc, ◌+◌, ◌-◌, ◌≤◌, List, ◌++◌, length, take, drop, ap, sym, ◌∙◌, arith, append_assoc, take-add, take_at, drop_at, drop-drop, length-take-le}
 use Rattle.std.proofs.lemmas.List.{take_rest}
 use Rattle.ssr_macro_arguments.specs.declared.arguments.ArgumentToken.{ArgumentToken}
-use Rattle.ssr_macro_arguments.specs.Private.Forms.{first_length, lone_string_length, without_string}
+use Rattle.ssr_macro_arguments.specs.Forms.{first_length, lone_string_length, without_string}
 
 -- one argument more stands in front of the place
 pub argument_more : (ts whole : List ArgumentToken) (place first next left : ℕ) → first ≡ first_length (drop place ts) → next ≡ place + first

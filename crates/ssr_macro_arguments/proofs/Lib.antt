@@ -1,4 +1,5 @@
 mod Tops
+mod Between
 mod Spelled
 mod Values
 mod FormatStrings

@@ -4,12 +4,12 @@ use Rattle.std.proofs.lemmas.List.Elements.{All-nil, All-cons, All-head, All-tai
 use Rattle.std.specs.List.{All}
 use Rattle.ssr_syntax_kinds.specs.declared.kinds.SyntaxKind.TheVariants as k
 use Rattle.ssr_syntax.specs.declared.expansions.ExpToken.{ExpToken}
-use Rattle.ssr_macro_arguments.specs.Arguments.{Piece, piece_of, Spells}
+use Rattle.ssr_macro_arguments.specs.Arguments.{Piece, piece_of, Spells, argument_piece, pieces, mark}
 use Rattle.ssr_macro_arguments.specs.declared.arguments.ArgumentToken.{ArgumentToken}
 use Rattle.ssr_macro_arguments.specs.declared.macros.Form.{Form}
 use Rattle.ssr_macro_arguments.specs.declared.macros.Form.TheVariants as forms
-use Rattle.ssr_macro_arguments.specs.Private.Tokens.{argument_piece, pieces, mark, AreSpelled, AreSpelledArguments}
-use Rattle.ssr_macro_arguments.specs.Private.Forms.{depth_behind, is_outer, front_length, name_length, values_from, values, ends_with_comma, without_comma, closing, in_tuple, array_of, head_of, match_of, tuple_of, arms, expansion_of, first_length, lone_string_length, without_string, searched}
+use Rattle.ssr_macro_arguments.specs.Private.Tokens.{AreSpelled, AreSpelledArguments}
+use Rattle.ssr_macro_arguments.specs.Forms.{depth_behind, is_outer, front_length, name_length, values_from, values, ends_with_comma, without_comma, closing, in_tuple, array_of, head_of, match_of, tuple_of, arms, expansion_of, first_length, lone_string_length, without_string, searched}
 
 abbrev AreSpelledPieces : List ℕ → List Piece → Type 0
 AreSpelledPieces text ps = All (Spells text) ps
@@ -139,18 +139,8 @@ pub handed_in_spelled : (text : List ℕ) (form : Form) (ts : List ArgumentToken
 handed_in_spelled text form ts tokens are all =
     unmapped text piece_of tokens (subst (AreSpelledPieces text) (sym are) (expansion_spelled text form ts all))
 
-pub copies_spelled : (text : List ℕ) (tokens : List ExpToken) (copies : List ArgumentToken) → map argument_piece copies ≡ map piece_of tokens
-    → AreSpelled text tokens → AreSpelledArguments text copies
-copies_spelled text tokens copies are all =
-    unmapped text argument_piece copies (subst (AreSpelledPieces text) (sym are) (All-map (Spells text) piece_of tokens all))
-
 pub more_spelled : (text : List ℕ) (ts later : List ArgumentToken) (t : ArgumentToken) → later ≡ ts ++ t ∷ [] → AreSpelledArguments text ts
     → Spells text (argument_piece t) → AreSpelledArguments text later
 more_spelled text ts later t is all one =
     let P : ArgumentToken → Type 0 = λ t. Spells text (argument_piece t) in
     subst (All P) (sym is) (All-append P ts (t ∷ []) all (All-cons P t [] one (All-nil P)))
-
-pub part_spelled : (text : List ℕ) (tokens : List ExpToken) (first count : ℕ) → AreSpelled text tokens → AreSpelled text (take count (drop first tokens))
-part_spelled text tokens first count all =
-    let P : ExpToken → Type 0 = λ token. Spells text (piece_of token) in
-    All-take P count (drop first tokens) (All-drop P first tokens all)

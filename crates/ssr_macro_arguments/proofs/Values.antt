@@ -2,9 +2,8 @@
 use Rattle.std.proofs.Common.{◌≡◌, ℕ, zero, suc, Bool, if◌then◌else◌, List, [], ◌∷◌, ◌++◌, drop, refl, ap, sym, ◌∙◌, append_assoc}
 use Rattle.ssr_syntax_kinds.specs.declared.kinds.SyntaxKind.TheVariants as k
 use Rattle.ssr_macro_arguments.specs.declared.arguments.ArgumentToken.{ArgumentToken}
-use Rattle.ssr_macro_arguments.specs.Arguments.{Piece}
-use Rattle.ssr_macro_arguments.specs.Private.Tokens.{argument_piece, pieces}
-use Rattle.ssr_macro_arguments.specs.Private.Forms.{depth_behind, is_outer, name_length, values_from}
+use Rattle.ssr_macro_arguments.specs.Arguments.{Piece, argument_piece, pieces}
+use Rattle.ssr_macro_arguments.specs.Forms.{depth_behind, is_outer, name_length, values_from}
 
 -- the first ones are left out
 pub values_from-drop : (left depth : ℕ) (ts : List ArgumentToken) → values_from 0 depth (drop left ts) ≡ values_from left depth ts

@@ -1,10 +1,11 @@
 -- The expansions of macro calls whose arguments are expressions, what their tokens spell, and their trees.
-use Rattle.std.specs.Prelude.{ℕ, ◌≡◌, ◌<◌, ◌++◌, Bool, List, [], ◌∷◌, length, map, All, Contains, Option, MatchOption, Ok, slice_index_or, slice_range, string_bytes, codes}
+use Rattle.std.specs.Prelude.{ℕ, ◌≡◌, ◌<◌, ◌++◌, Bool, List, [], ◌∷◌, length, map, All, Contains, Option, None, MatchOption, Ok, bytes_eq, slice_index_or, slice_range, string_bytes, codes}
 use Rattle.ssr_syntax_kinds.specs.declared.range.TextRange.{TextRange}
 use Rattle.ssr_syntax.specs.Expansions.{expansion_reading}
 use Rattle.ssr_syntax.specs.declared.expansions.ExpToken.{ExpToken}
 use Rattle.ssr_syntax.specs.declared.expansions.ExpansionKind.TheVariants.{Expr}
 use Rattle.ssr_base.specs.declared.building.Expansion.{Expansion}
+use Rattle.ssr_macro_arguments.specs.declared.arguments.ArgumentToken.{ArgumentToken}
 use Rattle.ssr_macro_arguments.specs.declared.expanding.ReadExpansion.{ReadExpansion}
 
 -- a token that is handed in, told by its bytes
@@ -15,6 +16,16 @@ pub record Piece : Type 0 where
 
 abbrev pub piece_of : ExpToken → Piece
 piece_of token = record { text = string_bytes token.text; joint = token.joint; origin = token.origin }
+
+abbrev pub argument_piece : ArgumentToken → Piece
+argument_piece token = piece_of token.token
+
+abbrev pub pieces : List ArgumentToken → List Piece
+pieces tokens = map argument_piece tokens
+
+-- a token that comes from nowhere; an `=` is joined with what follows
+abbrev pub mark : List ℕ → Piece
+mark text = record { text = text; joint = bytes_eq text (codes "="); origin = None }
 
 -- what is put around arguments and behind them
 abbrev pub marks : List (List ℕ)

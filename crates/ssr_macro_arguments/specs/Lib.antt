@@ -1,2 +1,4 @@
 pub mod Arguments
+pub mod Forms
+pub mod Calls
 pub mod Private

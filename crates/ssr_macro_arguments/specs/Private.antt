@@ -1,4 +1,4 @@
 -- Words of private functions. No public clause cites them, and no reader of those has to believe them.
 pub mod Tokens
-pub mod Forms
+pub mod Starts
 pub mod Made

@@ -1,14 +1,21 @@
 //! The tokens of a macro call's arguments.
-ghost use Rattle.std.specs.Prelude.{◌≡◌, ◌+◌, ◌≤◌, ℕ, List, IfOk, OnOk, length, map};
+ghost use Rattle.std.specs.Prelude.{◌≡◌, ◌+◌, ◌-◌, ◌<◌, ◌≤◌, ◌^◌, ◌++◌, if◌then◌else◌, ℕ, List, [], ◌∷◌, All, IfOk, IfSome, OnOk, length};
+ghost use Rattle.std.specs.List.{range_with_len};
+ghost use Rattle.ssr_syntax_kinds.specs.Kinds.{is_trivia};
 ghost use Rattle.ssr_syntax_tree.specs.Syntax.{source_of, token_count};
-ghost use Rattle.ssr_syntax_tree.specs.Places.{HasNode, HasToken};
-ghost use Rattle.ssr_macro_arguments.specs.Arguments.{Spells, piece_of};
-ghost use Rattle.ssr_macro_arguments.specs.Private.Tokens.{argument_piece, AreSpelled, AreSpelledArguments};
+ghost use Rattle.ssr_syntax_tree.specs.Places.{node_of, token_of, HasNode, HasToken};
+ghost use Rattle.ssr_syntax.specs.Expansions.{expansion_text};
+ghost use Rattle.ssr_macro_arguments.specs.Arguments.{Spells, argument_piece, piece_of};
+ghost use Rattle.ssr_macro_arguments.specs.Calls.{file, its_tree, solid_between, IsArgumentAt, AreArgumentsOf};
+ghost use Rattle.ssr_macro_arguments.specs.Private.Tokens.{AreSpelled, AreSpelledArguments};
+ghost use Rattle.ssr_macro_arguments.specs.Private.Starts.{starts_of};
 
+use crate::made::Made;
 use ssr_syntax::ExpToken;
 use ssr_syntax_kinds::SyntaxKind;
 use ssr_syntax_tree::{Element, NodeNo, TokenNo, Tree};
 use std::alloc::{AllocError, Global};
+use std::ops::Range;
 
 /// A token of a macro call's arguments, with the kind that it has in its tree.
 #[derive(Drop)]
@@ -40,10 +47,52 @@ fn is_joint(tree: &Tree, kind: SyntaxKind, next: u32) -> bool {
     tree.has(Element::Token(token)) && joins(kind, tree.token_kind(token))
 }
 
+/// The numbers of the tokens between a node's first and its last one.
+fn tokens_between(tree: &Tree, node: NodeNo) -> Range<u32>
+    requires { HasNode tree.now node.0 }
+    ensures ordered { result.start ≤ result.end }
+    ensures within { result.end ≤ token_count tree.now.children }
+    ensures numbers { range_with_len result.start (result.end - result.start) ≡ range_with_len (1 + (node_of tree.now node.0).first) (token_count (node_of tree.now node.0).children - 2) }
+{
+    let below = tree.tokens_below(node);
+    if below.end - below.start >= 2 {
+        below.start + 1..below.end - 1
+    } else {
+        below.start..below.start
+    }
+}
+
+/// Adds the number of a token, unless that is white space or a comment.
+fn add_solid(tree: &Tree, number: u32, numbers: &mut Vec<u32>) -> Result<(), AllocError>
+    requires { HasToken tree.now number }
+    ensures { OnOk result (numbers.new.items ≡ (if is_trivia (token_of tree.now number).kind then numbers.old.items else numbers.old.items ++ number ∷ [])) }
+{
+    if tree.token_kind(TokenNo(number)).is_trivia() {
+        return Ok(());
+    }
+    numbers.push(number)?;
+    Ok(())
+}
+
+/// The numbers of the tokens between a node's first and its last one, white space and comments aside.
+fn solid_between(alloc: Global, tree: &Tree, node: NodeNo) -> Result<Vec<u32>, AllocError>
+    requires { HasNode tree.now node.0 }
+    ensures numbers { IfOk result (λ numbers. numbers.items ≡ solid_between tree.now (node_of tree.now node.0)) }
+    ensures has { IfOk result (λ numbers. All (HasToken tree.now) numbers.items) }
+{
+    let between = tokens_between(tree, node);
+    let mut numbers = Vec::new(alloc);
+    for number in between.start..between.end {
+        add_solid(tree, number, &mut numbers)?;
+    }
+    Ok(numbers)
+}
+
 /// A token of a file's tree.
 fn located(alloc: Global, tree: &Tree, number: u32) -> Result<ArgumentToken, AllocError>
     requires { HasToken tree.now number }
-    ensures { IfOk result (λ token. Spells (source_of tree.now) (argument_piece token)) }
+    ensures argument { IfOk result (IsArgumentAt (file tree.now) number) }
+    ensures spells { IfOk result (λ token. Spells (source_of tree.now) (argument_piece token)) }
 {
     let range = tree.token_range(TokenNo(number));
     let kind = tree.token_kind(TokenNo(number));
@@ -61,24 +110,6 @@ fn located(alloc: Global, tree: &Tree, number: u32) -> Result<ArgumentToken, All
     })
 }
 
-/// Adds a token of a file's tree, unless it is white space or a comment.
-fn add_located(
-    alloc: Global,
-    tree: &Tree,
-    number: u32,
-    tokens: &mut Vec<ArgumentToken>,
-) -> Result<(), AllocError>
-    requires { HasToken tree.now number }
-    ensures { OnOk result (AreSpelledArguments (source_of tree.now) tokens.old.items → AreSpelledArguments (source_of tree.now) tokens.new.items) }
-{
-    if tree.token_kind(TokenNo(number)).is_trivia() {
-        return Ok(());
-    }
-    let token = located(alloc, tree, number)?;
-    tokens.push(token)?;
-    Ok(())
-}
-
 /// The tokens between the brackets of a token tree of a file.
 pub(crate) fn arguments_in_file(
     alloc: Global,
@@ -86,19 +117,22 @@ pub(crate) fn arguments_in_file(
     brackets: NodeNo,
 ) -> Result<Vec<ArgumentToken>, AllocError>
     requires { HasNode tree.now brackets.0 }
-    ensures { IfOk result (λ tokens. AreSpelledArguments (source_of tree.now) tokens.items) }
+    ensures all { IfOk result (λ tokens. AreArgumentsOf (file tree.now) (node_of tree.now brackets.0) tokens.items) }
+    ensures spelled { IfOk result (λ tokens. AreSpelledArguments (source_of tree.now) tokens.items) }
 {
-    let below = tree.tokens_below(brackets);
-    let mut tokens = Vec::new(alloc);
-    for number in below.start.saturating_add(1)..below.end.saturating_sub(1) {
-        add_located(alloc, tree, number, &mut tokens)?;
+    let numbers = solid_between(alloc, tree, brackets)?;
+    let mut tokens = Vec::with_capacity(alloc, numbers.len())?;
+    for number in &numbers {
+        let token = located(alloc, tree, *number)?;
+        tokens.push(token)?;
     }
     Ok(tokens)
 }
 
-/// A token of an expansion, with the kind that it has in the tree.
+/// A token that was handed in, with the kind that it has in the tree.
 fn copied(alloc: Global, token: &ExpToken, kind: SyntaxKind) -> Result<ArgumentToken, AllocError>
-    ensures { IfOk result (λ copy. argument_piece copy ≡ piece_of token.now) }
+    ensures kind { IfOk result (λ copy. copy.kind ≡ kind) }
+    ensures token { IfOk result (λ copy. argument_piece copy ≡ piece_of token.now) }
 {
     Ok(ArgumentToken {
         kind,
@@ -110,59 +144,60 @@ fn copied(alloc: Global, token: &ExpToken, kind: SyntaxKind) -> Result<ArgumentT
     })
 }
 
-/// Tokens of an expansion, with the kinds that they have in the tree, of which the first has there the number `first`.
-pub(crate) fn arguments_in_expansion(
+/// The token that was handed in for one of an expansion's tree; none, where no token with its text begins there.
+fn handed_in_at(
     alloc: Global,
-    tree: &Tree,
-    first: u32,
-    handed_in: &[ExpToken],
-) -> Result<Vec<ArgumentToken>, AllocError>
-    requires { first + length handed_in.now ≤ token_count tree.now.children }
-    ensures { IfOk result (λ tokens. map argument_piece tokens.items ≡ map piece_of handed_in.now) }
+    above: &Made,
+    number: u32,
+) -> Result<Option<ArgumentToken>, AllocError>
+    requires { HasToken above.now.read.tree number }
+    ensures argument { IfOk result (λ found. IfSome found (IsArgumentAt (its_tree above.now.read) number)) }
+    ensures spells { IfOk result (λ found. IfSome found (λ token. (text : List ℕ) → AreSpelled text above.now.read.expansion.tokens.items → Spells text (argument_piece token))) }
 {
-    let past = tree.token_count();
-    let mut number = first;
-    let mut tokens = Vec::new(alloc);
-    for token in handed_in {
-        let kind = tree.token_kind(TokenNo(number));
-        let copy = copied(alloc, token, kind)?;
-        tokens.push(copy)?;
-        number = number.saturating_add(1).min(past);
+    let tree = &above.read.tree;
+    let range = tree.token_range(TokenNo(number));
+    let Ok(place) = above.starts.binary_search(&(range.start as usize)) else {
+        return Ok(None);
+    };
+    let token = &above.read.expansion.tokens[place];
+    if token.text.as_str() != &tree.source()[range.start as usize..range.end as usize] {
+        return Ok(None);
     }
-    Ok(tokens)
+    let copy = copied(alloc, token, tree.token_kind(TokenNo(number)))?;
+    Ok(Some(copy))
 }
 
-/// Where tokens begin in their text, and where it ends.
-pub(crate) fn starts_of(alloc: Global, tokens: &[ExpToken]) -> Result<Vec<usize>, AllocError> {
+/// The tokens between the brackets of a token tree of an expansion; none, where one of them isn't a token that was handed in.
+pub(crate) fn arguments_in_expansion(
+    alloc: Global,
+    above: &Made,
+    brackets: NodeNo,
+) -> Result<Option<Vec<ArgumentToken>>, AllocError>
+    requires { HasNode above.now.read.tree brackets.0 }
+    ensures all { IfOk result (λ found. IfSome found (λ tokens. AreArgumentsOf (its_tree above.now.read) (node_of above.now.read.tree brackets.0) tokens.items)) }
+    ensures spelled { IfOk result (λ found. IfSome found (λ tokens. (text : List ℕ) → AreSpelled text above.now.read.expansion.tokens.items → AreSpelledArguments text tokens.items)) }
+{
+    let numbers = solid_between(alloc, &above.read.tree, brackets)?;
+    let mut tokens = Vec::with_capacity(alloc, numbers.len())?;
+    for number in &numbers {
+        let Some(token) = handed_in_at(alloc, above, *number)? else {
+            return Ok(None);
+        };
+        tokens.push(token)?;
+    }
+    Ok(Some(tokens))
+}
+
+/// Where tokens begin in the text that they spell.
+pub(crate) fn starts_of(alloc: Global, tokens: &[ExpToken]) -> Result<Vec<usize>, AllocError>
+    requires { length (expansion_text tokens.now) < 2 ^ 32 }
+    ensures { IfOk result (λ starts. starts.items ≡ starts_of tokens.now) }
+{
     let mut starts = Vec::with_capacity(alloc, tokens.len())?;
     let mut start = 0usize;
     for token in tokens {
         starts.push(start)?;
-        start = start.saturating_add(token.text.len());
+        start += token.text.len();
     }
     Ok(starts)
-}
-
-/// How many tokens stand in front of the one behind that which begins at a byte; all, where none begins there.
-fn count_with(starts: &[usize], start: usize) -> usize {
-    match starts.binary_search(&start) {
-        Ok(number) => number.saturating_add(1),
-        Err(_) => starts.len(),
-    }
-}
-
-/// At most `most` of the tokens behind that which begins at a byte.
-pub(crate) fn tokens_behind<'a>(
-    tokens: &'a [ExpToken],
-    starts: &[usize],
-    start: usize,
-    most: usize,
-) -> &'a [ExpToken]
-    ensures few { length result.now ≤ most }
-    ensures spelled { (text : List ℕ) → AreSpelled text tokens.now → AreSpelled text result.now }
-{
-    let first = count_with(starts, start).min(tokens.len());
-    let rest = &tokens[first..];
-    let count = most.min(rest.len());
-    &rest[..count]
 }

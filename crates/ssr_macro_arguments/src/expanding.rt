@@ -1,21 +1,21 @@
 //! The expansions of the calls in files, and of those in these expansions.
-ghost use Rattle.std.specs.Prelude.{◌≡◌, ◌+◌, ◌<◌, ◌≤◌, ℕ, List, All, Ok, IfOk, OnOk, IfSome, length, map};
-ghost use Rattle.ssr_syntax_tree.specs.Syntax.{source_of};
-ghost use Rattle.ssr_syntax_tree.specs.Places.{HasNode};
-ghost use Rattle.ssr_syntax.specs.Expansions.{expansion_reading};
+ghost use Rattle.std.specs.Prelude.{◌≡◌, ◌+◌, ◌<◌, ◌≤◌, ◌^◌, ℕ, List, All, Ok, Some, IfOk, OnOk, IfSome, length, map, slice_get};
+ghost use Rattle.ssr_syntax_tree.specs.Syntax.{Syntax, source_of};
+ghost use Rattle.ssr_syntax_tree.specs.Places.{node_of, HasNode};
+ghost use Rattle.ssr_syntax.specs.Expansions.{expansion_text, expansion_reading};
 ghost use Rattle.ssr_syntax.specs.declared.expansions.ExpansionKind.TheVariants.{Expr};
 ghost use Rattle.ssr_base_trees.specs.Built.{most_trees};
 ghost use Rattle.ssr_macro_arguments.specs.Arguments.{AreArguments, HasItsTree, expansions_of, piece_of};
-ghost use Rattle.ssr_macro_arguments.specs.Private.Forms.{expansion_of, searched};
+ghost use Rattle.ssr_macro_arguments.specs.Calls.{Searched, file as in_file, its_tree, tree_of, trees_of, AreArgumentsOf, IsOfItsCall};
+ghost use Rattle.ssr_macro_arguments.specs.Forms.{expansion_of, searched};
 ghost use Rattle.ssr_macro_arguments.specs.Private.Tokens.{AreSpelled, AreSpelledArguments};
-ghost use Rattle.ssr_macro_arguments.specs.Private.Made.{IsMadeIn, AreMadeIn, IsTextAt, AreMade};
+ghost use Rattle.ssr_macro_arguments.specs.Private.Made.{IsCallIn, IsMadeIn, AreMadeIn, AreMade, reads_of};
 
-use crate::arguments::{
-    ArgumentToken, arguments_in_expansion, arguments_in_file, starts_of, tokens_behind,
-};
+use crate::arguments::{ArgumentToken, arguments_in_expansion, arguments_in_file, starts_of};
 use crate::format_strings::searched;
 use crate::forms::expansion_tokens;
 use crate::macros::{Form, form_of, name_in_std};
+use crate::made::{Call, Made};
 use crate::own_names::OwnNames;
 use ide_ssr_resolved_rule::first_child;
 use ssr_base::{Expansion, MOST_NESTED, MOST_TREES};
@@ -31,23 +31,6 @@ pub struct ReadExpansion {
     pub tree: Tree,
 }
 
-/// An expansion that is read, and how many calls there are up to its file.
-#[derive(Drop)]
-pub(crate) struct Made {
-    pub(crate) read: ReadExpansion,
-    pub(crate) nesting: u32,
-    /// Where its tokens begin in their text.
-    pub(crate) starts: Vec<usize>,
-}
-
-/// A call of a macro of the standard library: where it stands in its tree, how its arguments are read, and their brackets.
-#[derive(Clone, Copy)]
-pub(crate) struct Call {
-    pub(crate) range: TextRange,
-    pub(crate) form: Form,
-    pub(crate) brackets: NodeNo,
-}
-
 /// How the arguments of the macro with this path are read.
 fn form_of_path(path: &str, own: &OwnNames) -> Option<Form> {
     match name_in_std(path) {
@@ -60,7 +43,8 @@ fn form_of_path(path: &str, own: &OwnNames) -> Option<Form> {
 /// The call of a macro of the standard library that a node is.
 fn call_at(tree: &Tree, node: NodeNo, own: &OwnNames) -> Option<Call>
     requires { HasNode tree.now node.0 }
-    ensures { IfSome result (λ call. HasNode tree.now call.brackets.0) }
+    ensures call { IfSome result (IsCallIn tree.now) }
+    ensures has { IfSome result (λ call. HasNode tree.now call.brackets.0) }
 {
     if !tree.kind(node).is(SyntaxKind::MACRO_CALL) {
         return None;
@@ -77,7 +61,8 @@ fn call_at(tree: &Tree, node: NodeNo, own: &OwnNames) -> Option<Call>
 
 /// The tree of tokens that are read as an expression, if they can be.
 fn expression(alloc: Global, tokens: &[ExpToken]) -> Result<Option<Tree>, AllocError>
-    ensures { IfOk result (λ read. IfSome read (λ tree. expansion_reading Expr tokens.now ≡ Ok tree)) }
+    ensures read { IfOk result (λ read. IfSome read (λ tree. expansion_reading Expr tokens.now ≡ Ok tree)) }
+    ensures short { IfOk result (λ read. IfSome read (λ _. length (expansion_text tokens.now) < 2 ^ 32)) }
 {
     match parse_tokens(alloc, ExpansionKind::Expr, tokens) {
         Ok(tree) => Ok(Some(tree)),
@@ -94,7 +79,8 @@ fn made_of(
     arguments: Vec<ArgumentToken>,
     nesting: u32,
 ) -> Result<Option<Made>, AllocError>
-    ensures made { IfOk result (λ made. (text : List ℕ) → AreSpelledArguments text arguments.items → IfSome made (IsMadeIn tree text)) }
+    ensures made { IfOk result (λ made. (place : Searched) (text : List ℕ) → IsCallIn (tree_of place) call
+        → AreArgumentsOf place (node_of (tree_of place) call.brackets.0) arguments.items → AreSpelledArguments text arguments.items → IfSome made (IsMadeIn place tree text)) }
     ensures tokens { IfOk result (λ made. IfSome made (λ one. map piece_of one.read.expansion.tokens.items ≡ expansion_of call.form (searched call.form arguments.items))) }
 {
     let values = searched(call.form, arguments);
@@ -102,10 +88,11 @@ fn made_of(
         return Ok(None);
     }
     let tokens = expansion_tokens(alloc, call.form, values.as_slice())?;
-    let starts = starts_of(alloc, tokens.as_slice())?;
-    let Some(read) = expression(alloc, tokens.as_slice())? else {
+    let handed_in = tokens.as_slice();
+    let Some(read) = expression(alloc, handed_in)? else {
         return Ok(None);
     };
+    let starts = starts_of(alloc, handed_in)?;
     let expansion = Expansion {
         call: (tree, call.range),
         kind: ExpansionKind::Expr,
@@ -123,7 +110,7 @@ fn made_of(
 
 /// Adds an expansion, if there is one.
 fn add_made(made: &mut Vec<Made>, found: Option<Made>) -> Result<(), AllocError>
-    ensures made { OnOk result ((tree : ℕ) (text : List ℕ) → AreMadeIn tree text made.old.items → IfSome found (IsMadeIn tree text) → AreMadeIn tree text made.new.items) }
+    ensures made { OnOk result ((place : Searched) (tree : ℕ) (text : List ℕ) → AreMadeIn place tree text made.old.items → IfSome found (IsMadeIn place tree text) → AreMadeIn place tree text made.new.items) }
     ensures few { OnOk result (length made.new.items ≤ length made.old.items + 1) }
 {
     let Some(one) = found else {
@@ -143,7 +130,7 @@ fn add_call_in_file(
     made: &mut Vec<Made>,
 ) -> Result<(), AllocError>
     requires { HasNode tree.now node.0 }
-    ensures made { OnOk result (AreMadeIn file (source_of tree.now) made.old.items → AreMadeIn file (source_of tree.now) made.new.items) }
+    ensures made { OnOk result (AreMadeIn (in_file tree.now) file (source_of tree.now) made.old.items → AreMadeIn (in_file tree.now) file (source_of tree.now) made.new.items) }
     ensures few { OnOk result (length made.new.items ≤ length made.old.items + 1) }
 {
     let Some(call) = call_at(tree, node, own) else {
@@ -163,7 +150,7 @@ fn made_in_file(
     own: &OwnNames,
     room: usize,
 ) -> Result<Vec<Made>, AllocError>
-    ensures made { IfOk result (λ made. AreMadeIn file (source_of tree.now) made.items) }
+    ensures made { IfOk result (λ made. AreMadeIn (in_file tree.now) file (source_of tree.now) made.items) }
     ensures few { IfOk result (λ made. length made.items ≤ room) }
 {
     let mut made = Vec::new(alloc);
@@ -176,25 +163,6 @@ fn made_in_file(
     Ok(made)
 }
 
-/// The arguments of a call in the tree of an expansion.
-fn arguments_below(
-    alloc: Global,
-    above: &Made,
-    brackets: NodeNo,
-) -> Result<Vec<ArgumentToken>, AllocError>
-    requires { HasNode above.now.read.tree brackets.0 }
-    ensures { IfOk result (λ tokens. (text : List ℕ) → AreSpelled text above.now.read.expansion.tokens.items → AreSpelledArguments text tokens.items) }
-{
-    let below = above.read.tree.tokens_below(brackets);
-    let first = below.start.saturating_add(1).min(below.end);
-    let most = (below.end - first).saturating_sub(1) as usize;
-    let start = above.read.tree.range(brackets).start as usize;
-    let tokens = above.read.expansion.tokens.as_slice();
-    let handed_in = tokens_behind(tokens, above.starts.as_slice(), start, most);
-    let copies = arguments_in_expansion(alloc, &above.read.tree, first, handed_in)?;
-    Ok(copies)
-}
-
 /// Adds the expansion of the call that a node of an expansion is, whose tree has this number.
 fn add_call_below(
     alloc: Global,
@@ -205,13 +173,15 @@ fn add_call_below(
     made: &mut Vec<Made>,
 ) -> Result<(), AllocError>
     requires { HasNode above.now.read.tree node.0 }
-    ensures made { OnOk result ((text : List ℕ) → AreSpelled text above.now.read.expansion.tokens.items → AreMadeIn number text made.old.items → AreMadeIn number text made.new.items) }
+    ensures made { OnOk result ((text : List ℕ) → AreSpelled text above.now.read.expansion.tokens.items → AreMadeIn (its_tree above.now.read) number text made.old.items → AreMadeIn (its_tree above.now.read) number text made.new.items) }
     ensures few { OnOk result (length made.new.items ≤ length made.old.items + 1) }
 {
     let Some(call) = call_at(&above.read.tree, node, own) else {
         return Ok(());
     };
-    let arguments = arguments_below(alloc, above, call.brackets)?;
+    let Some(arguments) = arguments_in_expansion(alloc, above, call.brackets)? else {
+        return Ok(());
+    };
     let nesting = above.nesting.saturating_add(1);
     let found = made_of(alloc, number, call, arguments, nesting)?;
     add_made(made, found)?;
@@ -226,7 +196,7 @@ fn made_below(
     own: &OwnNames,
     room: usize,
 ) -> Result<Vec<Made>, AllocError>
-    ensures made { IfOk result (λ made. (text : List ℕ) → AreSpelled text above.now.read.expansion.tokens.items → AreMadeIn number text made.items) }
+    ensures made { IfOk result (λ made. (text : List ℕ) → AreSpelled text above.now.read.expansion.tokens.items → AreMadeIn (its_tree above.now.read) number text made.items) }
     ensures few { IfOk result (λ made. length made.items ≤ room) }
 {
     let mut made = Vec::new(alloc);
@@ -258,7 +228,7 @@ fn add_file(
     made: &mut Vec<Made>,
 ) -> Result<(), AllocError>
     requires { length made.old.items ≤ most }
-    ensures made { OnOk result ((texts : List (List ℕ)) → IsTextAt texts file (source_of tree.now) → AreMade texts made.old.items → AreMade texts made.new.items) }
+    ensures made { OnOk result ((files : List Syntax) → slice_get files file ≡ Some tree.now → AreMade files made.old.items → AreMade files made.new.items) }
     ensures few { OnOk result (length made.new.items ≤ most) }
 {
     let mut new = made_in_file(alloc, file, tree, own, most - made.len())?;
@@ -275,7 +245,7 @@ fn made_in_files(
     most: usize,
 ) -> Result<Vec<Made>, AllocError>
     requires { length files.now ≤ most_trees }
-    ensures made { IfOk result (λ made. AreMade (map source_of files.now) made.items) }
+    ensures made { IfOk result (λ made. AreMade files.now made.items) }
     ensures few { IfOk result (λ made. length made.items ≤ most) }
 {
     let mut made = Vec::new(alloc);
@@ -297,7 +267,7 @@ fn add_below(
     requires next { next < length made.old.items }
     requires few { length made.old.items ≤ most }
     requires numbers { files + most ≤ most_trees }
-    ensures made { OnOk result ((texts : List (List ℕ)) → length texts ≡ files → AreMade texts made.old.items → AreMade texts made.new.items) }
+    ensures made { OnOk result ((trees : List Syntax) → length trees ≡ files → AreMade trees made.old.items → AreMade trees made.new.items) }
     ensures few { OnOk result (length made.new.items ≤ most) }
 {
     if made[next].nesting >= MOST_NESTED {
@@ -319,7 +289,7 @@ fn add_nested(
 ) -> Result<(), AllocError>
     requires few { length made.old.items ≤ most }
     requires numbers { files + most ≤ most_trees }
-    ensures made { OnOk result ((texts : List (List ℕ)) → length texts ≡ files → AreMade texts made.old.items → AreMade texts made.new.items) }
+    ensures made { OnOk result ((trees : List Syntax) → length trees ≡ files → AreMade trees made.old.items → AreMade trees made.new.items) }
     ensures few { OnOk result (length made.new.items ≤ most) }
 {
     let mut next = 0;
@@ -332,7 +302,7 @@ fn add_nested(
 
 /// The expansions with their trees alone.
 fn reads(alloc: Global, made: Vec<Made>) -> Result<Vec<ReadExpansion>, AllocError>
-    ensures { IfOk result (λ reads. reads.items ≡ map (λ one. one.read) made.items) }
+    ensures { IfOk result (λ reads. reads.items ≡ reads_of made.items) }
 {
     let mut reads = Vec::with_capacity(alloc, made.len())?;
     for one in made {
@@ -353,6 +323,7 @@ fn reads(alloc: Global, made: Vec<Made>) -> Result<Vec<ReadExpansion>, AllocErro
 /// A workspace has at most 65,536 trees, and at most 32 calls above one: calls beyond that have none.
 pub fn macro_arguments(alloc: Global, files: &[Tree]) -> Result<Vec<ReadExpansion>, AllocError>
     ensures arguments { IfOk result (λ made. AreArguments (map source_of files.now) (expansions_of made.items)) }
+    ensures calls { IfOk result (λ made. All (IsOfItsCall (trees_of files.now made.items)) made.items) }
     ensures read { IfOk result (λ made. All HasItsTree made.items) }
     ensures few { IfOk result (λ made. length files.now ≤ most_trees → length files.now + length made.items ≤ most_trees) }
 {

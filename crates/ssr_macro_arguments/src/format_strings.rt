@@ -1,6 +1,6 @@
 //! Format strings, which are no values of their own.
 ghost use Rattle.std.specs.Prelude.{◌≡◌, ◌≤◌, ◌++◌, length, take, drop};
-ghost use Rattle.ssr_macro_arguments.specs.Private.Forms.{first_length, lone_string_length, without_string, searched};
+ghost use Rattle.ssr_macro_arguments.specs.Forms.{first_length, lone_string_length, without_string, searched};
 
 use crate::arguments::ArgumentToken;
 use crate::forms::front_length;

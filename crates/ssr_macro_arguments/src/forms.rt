@@ -1,8 +1,8 @@
 //! What arguments are read as: a tuple, an array or a `match`.
 ghost use Rattle.std.specs.Prelude.{◌≡◌, ◌+◌, ◌≤◌, ◌<◌, ◌^◌, ◌++◌, OnOk, IfOk, length, map, drop, if◌then◌else◌};
-ghost use Rattle.ssr_macro_arguments.specs.Arguments.{piece_of};
-ghost use Rattle.ssr_macro_arguments.specs.Private.Tokens.{pieces, written};
-ghost use Rattle.ssr_macro_arguments.specs.Private.Forms.{opens, closes, depth_behind, is_outer, front_length, begins_with_name, name_length, values, ends_with_comma, without_comma, closing, in_tuple, array_of, head_of, arms, match_of, expansion_of};
+ghost use Rattle.ssr_macro_arguments.specs.Arguments.{piece_of, pieces};
+ghost use Rattle.ssr_macro_arguments.specs.Private.Tokens.{written};
+ghost use Rattle.ssr_macro_arguments.specs.Forms.{opens, closes, depth_behind, is_outer, front_length, begins_with_name, name_length, values, ends_with_comma, without_comma, closing, in_tuple, array_of, head_of, arms, match_of, expansion_of};
 
 use crate::arguments::ArgumentToken;
 use crate::macros::Form;
@@ -204,7 +204,7 @@ fn write_match(
 }
 
 /// The tokens as which arguments are read.
-#[tactic(auto, unfolding(crate::specs::Private::Forms::expansion_of))]
+#[tactic(auto, unfolding(crate::specs::Forms::expansion_of))]
 fn write_expansion(
     writer: &mut Writer,
     form: Form,

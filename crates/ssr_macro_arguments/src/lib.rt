@@ -7,6 +7,7 @@ mod expanding;
 mod format_strings;
 mod forms;
 mod macros;
+mod made;
 mod own_names;
 mod writer;
 

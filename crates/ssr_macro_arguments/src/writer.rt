@@ -1,6 +1,7 @@
 //! How the tokens of an expansion are put together.
 ghost use Rattle.std.specs.Prelude.{◌≡◌, [], ◌∷◌, ◌++◌, OnOk, map};
-ghost use Rattle.ssr_macro_arguments.specs.Private.Tokens.{mark, argument_piece, pieces, written};
+ghost use Rattle.ssr_macro_arguments.specs.Private.Tokens.{written};
+ghost use Rattle.ssr_macro_arguments.specs.Arguments.{mark, argument_piece, pieces};
 
 use crate::arguments::ArgumentToken;
 use ssr_syntax::ExpToken;

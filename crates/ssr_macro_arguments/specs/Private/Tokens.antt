@@ -1,19 +1,9 @@
 -- Tokens of arguments, and those that are put together.
-use Rattle.std.specs.Prelude.{ℕ, List, map, All, None, bytes_eq, codes}
+use Rattle.std.specs.Prelude.{ℕ, List, map, All}
 use Rattle.ssr_syntax.specs.declared.expansions.ExpToken.{ExpToken}
 use Rattle.ssr_macro_arguments.specs.declared.arguments.ArgumentToken.{ArgumentToken}
 use Rattle.ssr_macro_arguments.specs.declared.writer.Writer.{Writer}
-use Rattle.ssr_macro_arguments.specs.Arguments.{Piece, Spells, piece_of}
-
-abbrev pub argument_piece : ArgumentToken → Piece
-argument_piece token = piece_of token.token
-
-abbrev pub pieces : List ArgumentToken → List Piece
-pieces tokens = map argument_piece tokens
-
--- a token that comes from nowhere; an `=` is joined with what follows
-abbrev pub mark : List ℕ → Piece
-mark text = record { text = text; joint = bytes_eq text (codes "="); origin = None }
+use Rattle.ssr_macro_arguments.specs.Arguments.{Piece, Spells, argument_piece, piece_of}
 
 -- what is put together so far
 abbrev pub written : Writer → List Piece

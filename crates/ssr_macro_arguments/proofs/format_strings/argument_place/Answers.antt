@@ -1,6 +1,6 @@
 use Rattle.std.proofs.Common.{◌≡◌, ◌+◌, ◌-◌, ◌++◌, suc, take, drop, refl, sym, ap, ◌∙◌, arith, length-drop}
 use Rattle.std.proofs.lemmas.List.{take_rest}
-use Rattle.ssr_macro_arguments.specs.Private.Forms.{first_length, without_string}
+use Rattle.ssr_macro_arguments.specs.Forms.{first_length, without_string}
 use Rattle.ssr_macro_arguments.proofs.FormatStrings.{argument_more}
 use Rattle.ssr_macro_arguments.proofs.format_strings.argument_place.Goals as goal
 

@@ -1,5 +1,5 @@
 use Rattle.std.proofs.Common.{◌≡◌, ◌-◌, ◌≤◌, ◌++◌, length, take, drop}
-use Rattle.ssr_macro_arguments.specs.Private.Forms.{without_string}
+use Rattle.ssr_macro_arguments.specs.Forms.{without_string}
 use Rattle.ssr_macro_arguments.proofs.format_strings.argument_place.Given as goal
 
 abbrev pub invariant-loop : goal.invariant-loop

@@ -1,5 +1,5 @@
 use Rattle.std.proofs.Common.{◌≡◌, drop, arith}
-use Rattle.ssr_macro_arguments.specs.Private.Forms.{lone_string_length}
+use Rattle.ssr_macro_arguments.specs.Forms.{lone_string_length}
 use Rattle.ssr_macro_arguments.proofs.FormatStrings.{lone_length, string_gone, token_less}
 use Rattle.ssr_macro_arguments.proofs.format_strings.without_string.Goals as goal
 

@@ -1,5 +1,5 @@
 use Rattle.std.proofs.Common.{◌≡◌, ◌+◌, ◌≤◌, ◌++◌, take, drop}
-use Rattle.ssr_macro_arguments.specs.Private.Forms.{lone_string_length}
+use Rattle.ssr_macro_arguments.specs.Forms.{lone_string_length}
 use Rattle.ssr_macro_arguments.proofs.format_strings.without_string.Given as goal
 
 abbrev pub invariant-loop : goal.invariant-loop

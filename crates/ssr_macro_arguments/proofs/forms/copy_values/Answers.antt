@@ -1,7 +1,8 @@
 use Rattle.std.proofs.Common.{◌∙◌, ◌++◌, length, ap, arith, length-drop, if◌then◌else◌}
 use Rattle.ssr_macro_arguments.specs.declared.arguments.ArgumentToken.{ArgumentToken}
-use Rattle.ssr_macro_arguments.specs.Private.Tokens.{pieces, written}
-use Rattle.ssr_macro_arguments.specs.Private.Forms.{name_length, values_from}
+use Rattle.ssr_macro_arguments.specs.Private.Tokens.{written}
+use Rattle.ssr_macro_arguments.specs.Arguments.{pieces}
+use Rattle.ssr_macro_arguments.specs.Forms.{name_length, values_from}
 use Rattle.ssr_macro_arguments.proofs.Values.{values_from-drop, value_step}
 use Rattle.ssr_macro_arguments.proofs.forms.copy_values.Goals as goal
 

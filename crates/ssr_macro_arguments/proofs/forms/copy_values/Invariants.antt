@@ -1,6 +1,7 @@
 use Rattle.std.proofs.Common.{◌≡◌, ◌+◌, ◌≤◌, ◌++◌, length}
-use Rattle.ssr_macro_arguments.specs.Private.Tokens.{pieces, written}
-use Rattle.ssr_macro_arguments.specs.Private.Forms.{values_from, values}
+use Rattle.ssr_macro_arguments.specs.Private.Tokens.{written}
+use Rattle.ssr_macro_arguments.specs.Arguments.{pieces}
+use Rattle.ssr_macro_arguments.specs.Forms.{values_from, values}
 use Rattle.ssr_macro_arguments.proofs.forms.copy_values.Given as goal
 
 abbrev pub invariant-loop-token : goal.invariant-loop-token

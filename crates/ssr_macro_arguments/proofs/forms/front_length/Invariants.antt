@@ -1,5 +1,5 @@
 use Rattle.std.proofs.Common.{◌≡◌, ◌+◌, ◌≤◌, length}
-use Rattle.ssr_macro_arguments.specs.Private.Forms.{front_length}
+use Rattle.ssr_macro_arguments.specs.Forms.{front_length}
 use Rattle.ssr_macro_arguments.proofs.forms.front_length.Given as goal
 
 abbrev pub invariant-loop-token : goal.invariant-loop-token

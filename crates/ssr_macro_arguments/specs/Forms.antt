@@ -7,8 +7,7 @@ use Rattle.ssr_syntax_kinds.specs.declared.kinds.SyntaxKind.TheVariants as k
 use Rattle.ssr_macro_arguments.specs.declared.arguments.ArgumentToken.{ArgumentToken}
 use Rattle.ssr_macro_arguments.specs.declared.macros.Form.{Form}
 use Rattle.ssr_macro_arguments.specs.declared.macros.Form.TheVariants as forms
-use Rattle.ssr_macro_arguments.specs.Arguments.{Piece}
-use Rattle.ssr_macro_arguments.specs.Private.Tokens.{pieces, mark}
+use Rattle.ssr_macro_arguments.specs.Arguments.{Piece, pieces, mark}
 
 abbrev pub opens : SyntaxKind → Bool
 opens kind = same_kind kind k.L_PAREN || same_kind kind k.L_CURLY || same_kind kind k.L_BRACK
