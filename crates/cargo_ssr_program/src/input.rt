@@ -1,4 +1,5 @@
 //! What a run searches.
+ghost use Rattle.std.specs.Prelude.{◌≡◌, IfOk};
 ghost use Rattle.cargo_ssr_program.specs.Private.Telling.{TellsOnly};
 
 use crate::console::Console;
@@ -38,7 +39,9 @@ pub(crate) struct Input<S> {
 
 impl<S> Input<S> {
     /// The ranges once more.
-    pub(crate) fn ranges(&self, alloc: Global) -> Result<Vec<FileRange>, AllocError> {
+    pub(crate) fn ranges(&self, alloc: Global) -> Result<Vec<FileRange>, AllocError>
+        ensures { IfOk result (λ ranges. ranges.items ≡ self.now.ranges.items) }
+    {
         Vec::from_slice(alloc, &self.ranges)
     }
 }
