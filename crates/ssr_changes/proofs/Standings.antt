@@ -72,7 +72,7 @@ module _ (stands : List Change → Bool) (cs : List Change) (i : ℕ) (d : Chang
   more_fitted b is =
       ap (filter by) (sym (take-map (fitted stands) (i + 1) cs))
       ∙ more by (map (fitted stands) cs) i (fitted stands d) (omega (arith, length-map cs (fitted stands)))
-        (get_or-map (fitted stands) cs i d (fitted stands d) less ∙ ap (fitted stands) its) b is
+      (get_or-map (fitted stands) cs i d (fitted stands d) less ∙ ap (fitted stands) its) b is
       ∙ ap (λ (xs : List Change). filter by xs ++ cond b (fitted stands d ∷ []) []) (take-map (fitted stands) i cs)
 
   pub fitted_made : (text : List ℕ) → IsFitted stands d (Some text)

@@ -87,12 +87,7 @@ fn fitted(
 }
 
 /// Whether one change stands.
-fn stands_with(
-    alloc: Global,
-    tree: &Tree,
-    range: TextRange,
-    text: &str,
-) -> Result<bool, AllocError>
+fn stands_with(alloc: Global, tree: &Tree, range: TextRange, text: &str) -> Result<bool, AllocError>
     requires order { range.start ≤ range.end }
     requires fits { FitsText (source_of tree.now) (change_with range text.now) }
     ensures { IfOk result (λ answer. answer ≡ stands tree.now (change_with range text.now ∷ [])) }
