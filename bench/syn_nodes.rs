@@ -7,7 +7,7 @@
 use std::io::{self, Read, Write};
 use std::process::exit;
 
-use proc_macro2::{LineColumn, TokenStream};
+use proc_macro2::{LineColumn, TokenStream, TokenTree};
 use quote::ToTokens;
 use syn::visit::{self, Visit};
 
@@ -36,11 +36,23 @@ struct Nodes<'a> {
 }
 
 impl Nodes<'_> {
+    /// Lists what has these tokens, and once more without the doc comments in front, which a rule's node doesn't have.
     fn add(&mut self, what: char, tokens: TokenStream) {
-        let mut spans = tokens.into_iter().map(|tree| tree.span());
-        let Some(first) = spans.next() else { return };
-        let last = spans.last().unwrap_or(first);
-        let (start, end) = (self.lines.byte(first.start()), self.lines.byte(last.end()));
+        let trees: Vec<TokenTree> = tokens.into_iter().collect();
+        self.add_range(what, &trees);
+        let mut rest = &trees[..];
+        while let [TokenTree::Punct(mark), TokenTree::Group(attribute), behind @ ..] = rest {
+            if mark.as_char() != '#' || !attribute.stream().to_string().starts_with("doc =") {
+                break;
+            }
+            rest = behind;
+            self.add_range(what, rest);
+        }
+    }
+
+    fn add_range(&mut self, what: char, trees: &[TokenTree]) {
+        let (Some(first), Some(last)) = (trees.first(), trees.last()) else { return };
+        let (start, end) = (self.lines.byte(first.span().start()), self.lines.byte(last.span().end()));
         writeln!(self.out, "{what} {start} {end}").expect("memory takes it");
     }
 }
