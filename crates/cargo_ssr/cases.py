@@ -14,6 +14,7 @@ import shutil
 import subprocess
 import sys
 import tempfile
+import time
 from pathlib import Path
 
 sys.dont_write_bytecode = True
@@ -240,7 +241,6 @@ BESIDE = [
     (LET, ["$a.unwrap() ==>> $a?"], [], LET.replace(".unwrap()", "?")),
     (MACRO_TYPES, ["*const $t ==>> *mut $t"], [("1:9", BEHIND)], MACRO_TYPES.replace("*const u8", "*mut u8")),
     (FIELDS, ["$a.unwrap() ==>> $a.expect(\"x\")"], [], FIELDS.replace("unwrap()", 'expect("x")')),
-    ("async fn f() { async { p } - q; }\n", ["-$x ==>> !$x"], [], None),
     ("async fn f() { let x = 1 + b.await; }\n", ["$a + $b ==>> $b + $a"], [("1:24", HOLDS)], None),
 ]
 
@@ -362,10 +362,82 @@ def what_cannot_be_read_again_is_told_alone(program):
             status, out, _ = package.run(program, "--json", rule, "--", "one.rs")
             shown = [(f"{line['line']}:{line['column']}", line["new"]) for line in map(json.loads, out.splitlines()[:-1])]
             yield status == 0 and [at for at, new_text in shown if new_text is None] == [place]
-            yield json.loads(out.splitlines()[-1])["summary"] == {"files": 1, "matches": 2, "edits": 1, "set_aside": 0, "unread": 1, "left_out": 0}
+            yield json.loads(out.splitlines()[-1])["summary"] == {"files": 1, "matches": 2, "edits": 1, "set_aside": 0, "unread": 1, "left_out": 0, "not_searched": 0}
             status, _, told = package.run(program, "--check", rule, "--", "one.rs")
             yield status == 1 and told.startswith(told_alone) and told.endswith("2 matches in 1 file: 1 edit; 1 left as it is\n")
             yield package.run(program, "-q", "--write", rule, "--", "one.rs") == (0, "", told_alone) and package.read("one.rs") == new
+
+
+# A text, the words of a run, what is reported of the text as not searched behind its name, and the text then.
+HEAD = "fn t() -> T<P: D> { a.unwrap() }\n"
+BOUNDS = "pub fn t<T: I<P: D>>(t: T) -> u8 where T: I<P: D> { a.unwrap() }\n"
+SIGNATURE = "trait R { fn t() -> T<P: D>; fn u() { a.unwrap() } }\n"
+STATEMENT = "fn f() {\n    (c, _) =\n        b.unwrap();\n    a.unwrap()\n}\n"
+ITEMS = "union U { a: u8 }\n// of it\nunion V { a: u8 }\nfn f() { a.unwrap() }\nunion W { a: u8 }\nfn g() { (c, _) = e; }\n"
+IN_BLOCKS = f"fn f() {{ {'{ ' * 60}(c, _) = b.unwrap(); a.unwrap() {'}' * 60} }}\n"
+NOT_SEARCHED = [
+    (HEAD, [RULE], "1:8: not searched: 1 line that isn't read", HEAD),
+    (BOUNDS, [RULE], "1:9: not searched: 1 line that isn't read, and 1 more place", BOUNDS),
+    (SIGNATURE, [RULE], "1:18: not searched: 1 line that isn't read", SIGNATURE),
+    (STATEMENT, [RULE], "2:5: not searched: 2 lines that aren't read", STATEMENT),
+    (ITEMS, [RULE], "1:1: not searched: 3 lines that aren't read, and 2 more places", ITEMS),
+    (IN_BLOCKS, [RULE], "1:130: not searched: 1 line that isn't read", IN_BLOCKS),
+    ("async fn f() { async { p } - q; }\n", ["--rules", "rules"], "1:16: not searched: 1 line that isn't read", ""),
+]
+
+
+@example
+def what_is_not_searched_is_told(program):
+    for text, words, told_at, with_match in NOT_SEARCHED:
+        line = f"one.rs:{told_at}\n"
+        new = "a.expect(\"set\")".join(text.rsplit("a.unwrap()", 1)) if with_match else text
+        counts = ("1 match in 1 file: 1 edit" if with_match else "0 matches") + "; 1 file not searched whole\n"
+        with Package({"one.rs": text, "rules": "-$x ==>> !$x"}) as package:
+            status, out, told = package.run(program, *words, "--", "one.rs")
+            yield (status, bool(out), told) == (0, bool(with_match), line + counts)
+            yield package.run(program, "-q", "--check", *words, "--", "one.rs")[::2] == (1 if with_match else 0, line)
+            yield package.run(program, "-q", "--write", *words, "--", "one.rs") == (0, "", line) and package.read("one.rs") == new
+
+
+@example
+def what_is_not_searched_is_told_in_each_mode(program):
+    text = STATEMENT + "union U { a: u8 }\n"
+    line = "two.rs:2:5: not searched: 2 lines that aren't read, and 1 more place\n"
+    with Package({"one.rs": "fn f() { b.ok() }\n", "two.rs": text}) as package:
+        paths = ["--", "one.rs", "two.rs"]
+        found = package.run(program, "--search", "$a.unwrap()", *paths)
+        yield found == (0, "two.rs:4:5: a.unwrap()\n", line + "1 match in 1 file; 1 file not searched whole\n")
+        status, out, told = package.run(program, "--debug", "a.unwrap()", RULE, *paths)
+        yield (status, out, told) == (0, "two.rs:4:5: rule 0: matches\n", line)
+        for words in [[RULE], ["--search", "$a.unwrap()"]]:
+            status, out, told = package.run(program, "--json", *words, *paths)
+            lines = [json.loads(one) for one in out.splitlines()]
+            ranges = [one["not_searched"] for one in lines[1:-1]]
+            yield (status, told) == (0, line) and lines[0]["old"] == "a.unwrap()" and lines[-1]["summary"]["not_searched"] == 1
+            yield [text[one["start"]:one["end"]] for one in ranges] == [text[text.index("(c"):text.index(";") + 1], "union U { a: u8 }"]
+            yield [(one["file"], one["line"], one["column"]) for one in ranges] == [("two.rs", 2, 5), ("two.rs", 6, 1)]
+    with Package({"one.rs": STATEMENT, "two.rs": STATEMENT}) as package:
+        told = package.run(program, "$a.ok() ==>> $a.err()", "--", "one.rs", "two.rs")[2]
+        yield told.endswith("0 matches; 2 files not searched whole\n") and len(told.splitlines()) == 3
+
+
+@example
+def a_file_of_which_nothing_is_read_is_left_out(program):
+    with Package({"bad.rs": "this is no rust at all\n", "good.rs": "fn f() {}\n"}) as package:
+        line = "bad.rs:1:1: left out: nothing of it is read\n"
+        yield package.run(program, RULE, "--", "bad.rs", "good.rs") == (0, "", line + "0 matches; 1 file left out\n")
+        for words in [[RULE], [RULE, "--check"], ["-q", RULE, "--write"], [RULE, "--json"], ["--search", "$a.unwrap()"]]:
+            yield package.run(program, *words, "--", "bad.rs") == (3, "", line + "error: no file was searched\n")
+
+
+@example
+def code_that_is_not_read_may_stand_deep(program):
+    # each of the blocks that hold it is read again
+    text = f"fn f() {{ {'{ ' * 60}(c, _) = e; {'a.unwrap(); ' * 8500}{'}' * 60} }}\n"
+    with Package({"one.rs": text}) as package:
+        started = time.monotonic()
+        status, out, told = package.run(program, "--search", "$a.unwrap()", "--", "one.rs")
+        yield status == 0 and told.endswith("8500 matches in 1 file; 1 file not searched whole\n") and time.monotonic() - started < 10
 
 
 @example

@@ -1,5 +1,6 @@
 //! How many matches and edits a run comes to.
 
+use crate::passed_over::PassedOver;
 use ssr_changes::{FileChange, FoundPlace};
 use ssr_reports::Summary;
 
@@ -9,14 +10,15 @@ fn edit_count(change: &FileChange) -> usize {
 }
 
 /// The counts of what changes.
-pub(crate) fn counts_of_changes(changes: &[FileChange], left_out: usize) -> Summary {
+pub(crate) fn counts_of_changes(changes: &[FileChange], passed_over: PassedOver) -> Summary {
     let mut counts = Summary {
         files: changes.len(),
         matches: 0,
         edits: 0,
         set_aside: 0,
         unread: 0,
-        left_out,
+        left_out: passed_over.left_out,
+        not_searched: passed_over.not_searched,
     };
     for change in changes {
         let edits = edit_count(change);
@@ -30,7 +32,7 @@ pub(crate) fn counts_of_changes(changes: &[FileChange], left_out: usize) -> Summ
 }
 
 /// The counts of matches, which stand in the order of their files.
-pub(crate) fn counts_of_places(places: &[FoundPlace], left_out: usize) -> Summary {
+pub(crate) fn counts_of_places(places: &[FoundPlace], passed_over: PassedOver) -> Summary {
     let mut files = 0usize;
     let mut last = None;
     for place in places {
@@ -46,6 +48,7 @@ pub(crate) fn counts_of_places(places: &[FoundPlace], left_out: usize) -> Summar
         edits: 0,
         set_aside: places.iter().filter(|place| place.holds_aside).count(),
         unread: 0,
-        left_out,
+        left_out: passed_over.left_out,
+        not_searched: passed_over.not_searched,
     }
 }

@@ -6,6 +6,7 @@ use crate::console::Console;
 use crate::counting::counts_of_places;
 use crate::failure::Failure;
 use crate::input::Input;
+use crate::passed_over::unsearched_json;
 use crate::telling::{search_failure, text_in};
 use cargo_ssr_options::Options;
 use ssr_base::{FileRange, Semantics, TextEdit};
@@ -41,7 +42,7 @@ pub(crate) fn search<W: Sink, E: Write, S: Semantics>(
     };
     // of nested matches the inner ones come first
     places.sort_by_key(place_key)?;
-    let counts = counts_of_places(&places, input.left_out);
+    let counts = counts_of_places(&places, input.passed_over);
     let listed = Listed {
         files: &input.files,
         places: &places,
@@ -77,7 +78,7 @@ pub(crate) fn tell_summary<W: Sink, E: Write>(
     Ok(())
 }
 
-/// Shows matches as lines of JSON, and the counts.
+/// Shows matches as lines of JSON, what isn't searched, and the counts.
 pub(crate) fn show_json<W: Sink, E: Write>(
     alloc: Global,
     listed: &Listed<'_>,
@@ -86,6 +87,7 @@ pub(crate) fn show_json<W: Sink, E: Write>(
 ) -> Result<(), Failure> {
     let lines = lines_of(alloc, listed, Form::Json)?;
     console.show_bytes(&lines)?;
+    console.show_bytes(&unsearched_json(alloc, listed.files)?)?;
     console.show_bytes(&summary_json(alloc, counts)?)
 }
 

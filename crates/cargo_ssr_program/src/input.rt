@@ -6,6 +6,7 @@ use crate::console::Console;
 use crate::failure::Failure;
 use crate::left_out::left_out_words;
 use crate::malformed::malformed_words;
+use crate::passed_over::{PassedOver, tell_unsearched, unsearched_files};
 use crate::positions::position_at;
 use cargo_ssr_options::{Chosen, Options, Place};
 use ssr_base::{FileId, FilePosition, FileRange, Workspace};
@@ -33,8 +34,8 @@ pub(crate) struct Input<S> {
     pub(crate) position: FilePosition,
     /// What is searched: all, if there are none.
     pub(crate) ranges: Vec<FileRange>,
-    /// How many files are left out.
-    pub(crate) left_out: usize,
+    /// How many files aren't searched, or not whole.
+    pub(crate) passed_over: PassedOver,
 }
 
 impl<S> Input<S> {
@@ -71,17 +72,22 @@ pub(crate) fn of_files<R: Files + AllocGlobal, W: Sink, E: Write>(
     tell_notes(alloc, &notes, console)?;
     let (files, unread) = Searchable::of_files(alloc, files, options.macros)?;
     tell_unread(alloc, &unread, console)?;
+    tell_unsearched(alloc, &files, console)?;
     if files.refused_calls() > 0 {
         console.tell(refused_words(alloc, files.refused_calls())?.as_str());
     }
     let position = position_at(alloc, &files, options.place.as_ref(), BEGINNING)?;
+    let passed_over = PassedOver {
+        left_out: unread.len(),
+        not_searched: unsearched_files(&files),
+    };
     Ok(Input {
         folder,
         files,
         semantics: Unresolved,
         position,
         ranges: Vec::new(alloc),
-        left_out: unread.len(),
+        passed_over,
     })
 }
 
@@ -212,7 +218,7 @@ pub(crate) fn of_facts<R: Files + AllocGlobal>(
         semantics,
         position,
         ranges,
-        left_out: 0,
+        passed_over: PassedOver::NONE,
     })
 }
 

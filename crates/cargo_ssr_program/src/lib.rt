@@ -10,6 +10,7 @@ mod finding;
 mod input;
 mod left_out;
 mod malformed;
+mod passed_over;
 mod positions;
 mod program;
 mod rewriting;

@@ -36,7 +36,7 @@ pub(crate) fn show_changes<W: Sink, E: Write, S: Semantics>(
 {
     let made = changes_of(alloc, input, options)?;
     let plan = plan_of(alloc, &input.files, &made)?;
-    let counts = counts_of_changes(&made, input.left_out);
+    let counts = counts_of_changes(&made, input.passed_over);
     let changes = !plan.is_empty();
     if options.json {
         show_matches(alloc, input, options, &made, counts, console)?;
@@ -62,7 +62,7 @@ pub(crate) fn write_changes<R: Files + AllocGlobal, D: Disk, W: Sink, E: Write, 
     let alloc = rt.alloc();
     let made = changes_of(alloc, input, options)?;
     let plan = plan_of(alloc, &input.files, &made)?;
-    let counts = counts_of_changes(&made, input.left_out);
+    let counts = counts_of_changes(&made, input.passed_over);
     if options.json {
         show_matches(alloc, input, options, &made, counts, console)?;
     }

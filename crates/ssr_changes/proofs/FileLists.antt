@@ -10,7 +10,7 @@ use Rattle.ssr_base_trees.specs.Changes.{Change, FitsText, same}
 use Rattle.ssr_base_trees.specs.Origins.{Span}
 use Rattle.ssr_base_trees.specs.Workspace.{Workspace, tree_of}
 use Rattle.ssr_base_trees.proofs.Shared.{tree_of_file}
-use Rattle.ssr_set_aside.specs.SetAside.{IsSetAside, KeepsLength}
+use Rattle.ssr_set_aside.specs.SetAside.{IsSetAside, KeepsLength, none}
 use Rattle.ssr_changes.specs.Files.{File, AreSearched, IsSearched, as_it_is, as_they_are}
 
 -- one more
@@ -57,6 +57,7 @@ it_is_made names n tree = record {
   lengths = All-nil KeepsLength;
   replaced = same 0 (source_of tree);
   covered = tt;
+  blanks = none;
 }
 
 made_from : (names : List (List ℕ)) (n : ℕ) (trees : List Syntax) → AreSearched trees (map (as_it_is names) (enumerate_from n trees))
@@ -66,15 +67,16 @@ made_from names n (tree ∷ trees) = (it_is_made names n tree, made_from names (
 pub they_are_made : (names : List (List ℕ)) (trees : List Syntax) → AreSearched trees (as_they_are names trees)
 they_are_made names trees = made_from names 0 trees
 
-pub it_is : (names : List (List ℕ)) (n : ℕ) (tree : Syntax) (name text : List ℕ) (aside : List Change) (reaches : List Span) (file : File)
-    → file ≡ record { name = name; text = text; aside = aside; reaches = reaches } → name ≡ slice_index_or names n [] → text ≡ source_of tree
-    → aside ≡ [] → reaches ≡ [] → file ≡ as_it_is names (n, tree)
-it_is names n tree name text aside reaches file is its_name its_text none no_reach =
-    let made : List ℕ → List ℕ → List Change → List Span → File =
-    λ name text aside reaches. record { name = name; text = text; aside = aside; reaches = reaches } in
-    is ∙ ap (λ name. made name text aside reaches) its_name ∙ ap (λ text. made (slice_index_or names n []) text aside reaches) its_text
-    ∙ ap (λ (aside : List Change). made (slice_index_or names n []) (source_of tree) aside reaches) none
-    ∙ ap (made (slice_index_or names n []) (source_of tree) []) no_reach
+pub it_is : (names : List (List ℕ)) (n : ℕ) (tree : Syntax) (name text : List ℕ) (aside : List Change) (reaches unsearched : List Span) (file : File)
+    → file ≡ record { name = name; text = text; aside = aside; reaches = reaches; unsearched = unsearched } → name ≡ slice_index_or names n []
+    → text ≡ source_of tree → aside ≡ [] → reaches ≡ [] → unsearched ≡ [] → file ≡ as_it_is names (n, tree)
+it_is names n tree name text aside reaches unsearched file is its_name its_text nothing no_reach all =
+    let made : List ℕ → List ℕ → List Change → List Span → List Span → File =
+    λ name text aside reaches unsearched. record { name = name; text = text; aside = aside; reaches = reaches; unsearched = unsearched } in
+    is ∙ ap (λ name. made name text aside reaches unsearched) its_name ∙ ap (λ text. made (slice_index_or names n []) text aside reaches unsearched) its_text
+    ∙ ap (λ (aside : List Change). made (slice_index_or names n []) (source_of tree) aside reaches unsearched) nothing
+    ∙ ap (λ (reaches : List Span). made (slice_index_or names n []) (source_of tree) [] reaches unsearched) no_reach
+    ∙ ap (made (slice_index_or names n []) (source_of tree) [] []) all
 
 -- there is a tree of each file
 pub tree_there : (w : Workspace) (n : ℕ) (tree : Syntax) → n < length w.files → Some tree ≡ tree_of w n → slice_get w.files n ≡ Some tree

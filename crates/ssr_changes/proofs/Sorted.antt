@@ -56,26 +56,31 @@ all_sorted all left so_far nothing sorted =
 
 -- ** A file that is added.
 
-pub set_aside_is : (source : SourceFile) (now : List ℕ) (made : SetAside) (tree : Syntax) (aside : List Change) (reaches : List Span) (file : File)
+pub set_aside_is : (source : SourceFile) (now : List ℕ) (made : SetAside) (tree : Syntax) (aside : List Change) (reaches unsearched : List Span) (file : File)
     → now ≡ string_bytes source.text
-    → file ≡ record { name = string_bytes source.name; text = string_bytes source.text; aside = aside; reaches = reaches }
-    → tree ≡ made.tree → aside ≡ made.aside → reaches ≡ made.reaches → IsSetAside now made → IsRead made.tree
+    → file ≡ record { name = string_bytes source.name; text = string_bytes source.text; aside = aside; reaches = reaches; unsearched = unsearched }
+    → tree ≡ made.tree → aside ≡ made.aside → reaches ≡ made.reaches → unsearched ≡ made.unsearched → IsSetAside now made → IsRead made.tree
     → ((code : Syntax) → file_reading now ≡ Ok code → made.aside ≡ []) → IsFileOf source file × IsSearched tree file × IsRead tree
-set_aside_is source now made tree aside reaches file its is its_tree its_aside its_reaches set is_read whole =
+set_aside_is source now made tree aside reaches unsearched file its is its_tree its_aside its_reaches its_unsearched set is_read whole =
     let file_text : file.text ≡ now = ap (λ (f : File). f.text) is ∙ sym its in
     let file_aside : file.aside ≡ made.aside = ap (λ (f : File). f.aside) is ∙ its_aside in
     let file_reaches : file.reaches ≡ made.reaches = ap (λ (f : File). f.reaches) is ∙ its_reaches in
-    let Set : List ℕ → Syntax → List Change → List Span → Type 0 =
-    λ now tree aside reaches. IsSetAside now (record { tree = tree; aside = aside; reaches = reaches }) in
-    let one : Set file.text made.tree made.aside made.reaches = subst (λ now. Set now made.tree made.aside made.reaches) (sym file_text) set in
-    let two : Set file.text tree made.aside made.reaches = subst (λ (tree : Syntax). Set file.text tree made.aside made.reaches) (sym its_tree) one in
-    let three : Set file.text tree file.aside made.reaches = subst (λ (aside : List Change). Set file.text tree aside made.reaches) (sym file_aside) two in (
+    let file_unsearched : file.unsearched ≡ made.unsearched = ap (λ (f : File). f.unsearched) is ∙ its_unsearched in
+    let Set : List ℕ → Syntax → List Change → List Span → List Span → Type 0 =
+    λ now tree aside reaches unsearched. IsSetAside now (record { tree = tree; aside = aside; reaches = reaches; unsearched = unsearched }) in
+    let one : Set file.text made.tree made.aside made.reaches made.unsearched = subst (λ now. Set now made.tree made.aside made.reaches made.unsearched) (sym file_text) set in
+    let two : Set file.text tree made.aside made.reaches made.unsearched =
+    subst (λ (tree : Syntax). Set file.text tree made.aside made.reaches made.unsearched) (sym its_tree) one in
+    let three : Set file.text tree file.aside made.reaches made.unsearched =
+    subst (λ (aside : List Change). Set file.text tree aside made.reaches made.unsearched) (sym file_aside) two in
+    let four : Set file.text tree file.aside file.reaches made.unsearched =
+    subst (λ (reaches : List Span). Set file.text tree file.aside reaches made.unsearched) (sym file_reaches) three in (
       record {
         name = ap (λ (f : File). f.name) is;
         text = ap (λ (f : File). f.text) is;
         as_it_stands = λ code reads. file_aside ∙ whole code (ap file_reading (sym file_text) ∙ reads);
       },
-      subst (λ (reaches : List Span). Set file.text tree file.aside reaches) (sym file_reaches) three,
+      subst (Set file.text tree file.aside file.reaches) (sym file_unsearched) four,
       subst IsRead (sym its_tree) is_read,
     )
 

@@ -14,9 +14,10 @@ change_code =
 
 abbrev pub file_code : Coded File
 file_code =
-    code_by (List ℕ × (List ℕ × (List Change × List Span)))
-    (coded× (coded_list coded_ℕ) (coded× (coded_list coded_ℕ) (coded× (coded_list change_code) (coded_list span_code))))
-    (λ f. (f.name, (f.text, (f.aside, f.reaches)))) (λ c. record { name = c.0; text = c.1.0; aside = c.1.1.0; reaches = c.1.1.1 }) (λ _. refl)
+    code_by (List ℕ × (List ℕ × (List Change × (List Span × List Span))))
+    (coded× (coded_list coded_ℕ) (coded× (coded_list coded_ℕ) (coded× (coded_list change_code) (coded× (coded_list span_code) (coded_list span_code)))))
+    (λ f. (f.name, (f.text, (f.aside, (f.reaches, f.unsearched)))))
+    (λ c. record { name = c.0; text = c.1.0; aside = c.1.1.0; reaches = c.1.1.1.0; unsearched = c.1.1.1.1 }) (λ _. refl)
 
 abbrev pub searchable_code : Coded Searchable
 searchable_code =

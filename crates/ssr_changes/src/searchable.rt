@@ -2,6 +2,7 @@
 ghost use Rattle.std.specs.Prelude.{◌≡◌, ◌<◌, [], IfOk, Some, length, map, slice_get, slice_index_or, string_bytes};
 ghost use Rattle.std.specs.Option.{option_copied, option_map};
 ghost use Rattle.ssr_syntax_tree.specs.Syntax.{Syntax};
+ghost use Rattle.ssr_base_trees.specs.Origins.{span_of};
 ghost use Rattle.ssr_changes.specs.Files.{AreSearched, IsSearched, as_they_are};
 ghost use Rattle.ssr_changes.specs.Sorting.{AreSorted};
 
@@ -11,6 +12,7 @@ use crate::sorting::{Sorted, Unread, sort_out};
 use ssr_base::{TextEdit, Workspace};
 use ssr_package::SourceFile;
 use ssr_set_aside::Reaches;
+use ssr_syntax_kinds::TextRange;
 use std::alloc::{AllocError, Global};
 use std::marker::Model;
 
@@ -143,6 +145,14 @@ impl Searchable {
     {
         self.file(file).reaches()
     }
+
+    /// The bytes of a file of which nothing is searched, in order: what isn't read is set aside whole there.
+    pub fn unsearched(&self, file: usize) -> &[TextRange]
+        requires { file < length self.now.files }
+        ensures { option_map (λ file. file.unsearched) (slice_get self.now.files file) ≡ Some (map span_of result.now) }
+    {
+        self.file(file).unsearched()
+    }
 }
 
 /// The name of a file.
@@ -172,7 +182,8 @@ fn as_they_are(
         let text = String::from_str(alloc, tree.source())?;
         let aside = TextEdit::new(Vec::new(alloc));
         let reaches = Reaches::new(Vec::new(alloc));
-        files.push(FileText::new(name, text, aside, reaches))?;
+        let unsearched = Vec::new(alloc);
+        files.push(FileText::new(name, text, aside, reaches, unsearched))?;
     }
     Ok(files)
 }

@@ -61,9 +61,10 @@ impl Sorted {
         }
         match set_aside(alloc, text.as_str()) {
             Ok(made) => {
-                let (tree, aside, reaches) = made.into_parts();
+                let (tree, aside, reaches, unsearched) = made.into_parts();
                 self.trees.push(tree)?;
-                self.files.push(FileText::new(name, text, aside, reaches))?;
+                self.files
+                    .push(FileText::new(name, text, aside, reaches, unsearched))?;
                 Ok(())
             }
             Err(why) => self.tell(name, text, why),

@@ -22,6 +22,8 @@ pub(crate) struct Draft<'a> {
     tokens: Vec<RawToken>,
     brackets: Brackets,
     forms: Vec<Form>,
+    /// How often a token has come to be part of another form.
+    treated: usize,
 }
 
 /// How brackets pair. The columns have an entry a token.
@@ -104,6 +106,7 @@ impl<'a> Draft<'a> {
             tokens,
             brackets,
             forms,
+            treated: 0,
         }))
     }
 
@@ -157,11 +160,17 @@ impl<'a> Draft<'a> {
         self.text.get(start as usize..end as usize).unwrap_or("")
     }
 
-    /// Says which form a token is part of. What is set aside whole stays so.
+    /// How often a token has come to be part of another form: as often as before, where nothing has changed since.
+    pub(crate) fn treated(&self) -> usize {
+        self.treated
+    }
+
+    /// Says which form a token is part of. What isn't searched stays so.
     pub(crate) fn treat(&mut self, place: usize, form: Form) {
         if let Some(old) = self.forms.get_mut(place) {
-            if *old != Form::Whole {
+            if *old != form && !old.is_unsearched() {
                 *old = form;
+                self.treated = self.treated.saturating_add(1);
             }
         }
     }
@@ -202,25 +211,60 @@ impl<'a> Draft<'a> {
         Ok(())
     }
 
-    /// The parts that are set aside, in order.
+    /// The parts that are set aside, in order: tokens, and of what isn't searched all tokens that follow each other.
     pub(crate) fn parts(&self, alloc: Global) -> Result<Parts, AllocError> {
         let nexts = self.next_kept(alloc)?;
-        let mut changes = Vec::new(alloc);
-        let mut reaches = Vec::new(alloc);
+        let mut parts = Parts::new(alloc);
         let mut last = u32::MAX;
+        let mut behind = 0;
         for (place, form) in self.forms.iter().enumerate() {
             let (Some(token), Some(next)) = (self.tokens.get(place), nexts.get(place)) else {
                 break;
             };
-            if *form == Form::Kept {
-                last = token.range.end.saturating_sub(1);
+            if place < behind {
                 continue;
             }
-            let new = filled(alloc, form.word(), self.token_text(place))?;
-            changes.push((token.range, new))?;
-            reaches.push(reach(form.side(), token.range, last, *next))?;
+            if *form == Form::Kept {
+                last = token.range.end.saturating_sub(1);
+            } else if form.is_unsearched() {
+                behind = self.behind_unsearched(place);
+                self.push_unsearched(alloc, place, behind, &mut parts)?;
+            } else {
+                let new = filled(alloc, form.word(), self.token_text(place))?;
+                parts.changes.push((token.range, new))?;
+                parts
+                    .reaches
+                    .push(reach(form.side(), token.range, last, *next))?;
+            }
         }
-        Ok(Parts { changes, reaches })
+        Ok(parts)
+    }
+
+    /// The place behind the tokens from a place on that aren't searched.
+    pub(crate) fn behind_unsearched(&self, place: usize) -> usize {
+        let rest = self.forms.get(place..).unwrap_or(&[]);
+        let count = rest.iter().position(|form| !form.is_unsearched());
+        place.saturating_add(count.unwrap_or(rest.len()))
+    }
+
+    /// Adds a part of all bytes from the token at a place up to before another one, which aren't searched.
+    fn push_unsearched(
+        &self,
+        alloc: Global,
+        place: usize,
+        behind: usize,
+        parts: &mut Parts,
+    ) -> Result<(), AllocError> {
+        let last = self.tokens.get(behind.saturating_sub(1));
+        if let (Some(first), Some(last)) = (self.tokens.get(place), last) {
+            let end = first.range.end.max(last.range.end);
+            let range = TextRange::new(first.range.start, end);
+            let new = filled(alloc, "", self.text_between(range.start, range.end))?;
+            parts.changes.push((range, new))?;
+            parts.reaches.push(range)?;
+            parts.unsearched.push(range)?;
+        }
+        Ok(())
     }
 
     /// For each token the byte behind the first one of the next token that stays; 0 where none does.

@@ -22,25 +22,38 @@ pub struct Parts {
     /// Of each change the bytes that no match may touch: its own, and where the part belongs to what begins behind it or ends in
     /// front of it, up to the first byte of that or from the last one.
     pub reaches: Vec<TextRange>,
+    /// The ranges of those of the changes that set aside what isn't read, where blanks alone are left to search.
+    pub unsearched: Vec<TextRange>,
 }
 
-/// The parts of a text to set aside, as far as the tokens tell that: none, where it can't be cut into tokens or its brackets don't
-/// pair.
-pub fn found(alloc: Global, text: &str, care: Care) -> Result<Parts, AllocError> {
+impl Parts {
+    /// No parts.
+    pub(crate) fn new(alloc: Global) -> Parts {
+        Parts {
+            changes: Vec::new(alloc),
+            reaches: Vec::new(alloc),
+            unsearched: Vec::new(alloc),
+        }
+    }
+}
+
+/// The parts of a text to set aside, as far as the tokens tell that. There are none where it can't be cut into tokens, where its
+/// brackets don't pair, or where none of its items would be left.
+pub fn found(alloc: Global, text: &str, care: Care) -> Result<Option<Parts>, AllocError> {
     let front = text.get(..front_len(text)).unwrap_or("");
     let mut lexed = filled(alloc, "", front)?;
     lexed.push_str(text.get(front.len()..).unwrap_or(""))?;
     let Some(mut draft) = Draft::new(alloc, lexed.as_str())? else {
-        return Ok(Parts {
-            changes: Vec::new(alloc),
-            reaches: Vec::new(alloc),
-        });
+        return Ok(None);
     };
     match care {
         Care::Fine => draft.settle_finely(alloc)?,
         Care::Coarse => draft.settle_coarsely(alloc)?,
     }
-    with_front(alloc, front, draft.parts(alloc)?)
+    if draft.is_set_aside_whole() {
+        return Ok(None);
+    }
+    Ok(Some(with_front(alloc, front, draft.parts(alloc)?)?))
 }
 
 /// The parts, and in front of them that of the text in front of the tokens.
@@ -48,6 +61,7 @@ fn with_front(alloc: Global, front: &str, parts: Parts) -> Result<Parts, AllocEr
     let Parts {
         mut changes,
         mut reaches,
+        unsearched,
     } = parts;
     match u32::try_from(front.len()) {
         Ok(end) if end > 0 => {
@@ -57,7 +71,11 @@ fn with_front(alloc: Global, front: &str, parts: Parts) -> Result<Parts, AllocEr
         }
         _ => {}
     }
-    Ok(Parts { changes, reaches })
+    Ok(Parts {
+        changes,
+        reaches,
+        unsearched,
+    })
 }
 
 /// How many bytes of a text stand in front of its tokens: a byte order mark, and a line that names an interpreter.

@@ -19,6 +19,8 @@ pub(crate) enum Form {
     Inner,
     /// What has a word that stands for it.
     Word(Word),
+    /// The generics, the return type or the conditions of a function that isn't read with them.
+    Part,
     /// An item, a statement or an arm that isn't read.
     Whole,
 }
@@ -75,8 +77,13 @@ impl Form {
         match self {
             Form::Modifier | Form::Attribute | Form::Binder => Side::Ahead,
             Form::TypeMacro => Side::Behind,
-            Form::Kept | Form::Inner | Form::Word(_) | Form::Whole => Side::Inside,
+            Form::Kept | Form::Inner | Form::Word(_) | Form::Part | Form::Whole => Side::Inside,
         }
+    }
+
+    /// Whether the token is part of something that isn't read, and so is not searched.
+    pub(crate) fn is_unsearched(self) -> bool {
+        matches!(self, Form::Part | Form::Whole)
     }
 }
 

@@ -5,6 +5,7 @@
 mod draft;
 mod finding;
 mod form;
+mod heads;
 mod rules;
 mod settling;
 mod units;

@@ -7,8 +7,9 @@ use ssr_syntax::{SyntaxError, parse_file};
 use ssr_syntax_kinds::SyntaxKind::*;
 use std::alloc::{AllocError, Global};
 
-/// How deep a unit that isn't read is looked into: a body in a body, and so on.
-const MOST_LEVELS: u32 = 8;
+/// How deep a unit that isn't read is looked into: a body in a body, and so on. Each level may read
+/// the text of the unit again, which happens four times at most.
+const MOST_LEVELS: u32 = 64;
 
 /// Whether a text is read as a file.
 fn is_read(alloc: Global, text: &str) -> Result<bool, AllocError> {
@@ -22,10 +23,32 @@ fn is_read(alloc: Global, text: &str) -> Result<bool, AllocError> {
 impl Draft<'_> {
     /// Whether a unit is read alone, as it is treated.
     fn reads(&self, alloc: Global, unit: Span, kind: UnitKind) -> Result<bool, AllocError> {
-        let mut text = String::from_str(alloc, kind.front())?;
-        self.write(unit, &mut text)?;
-        text.push_str(kind.back())?;
+        self.reads_between(alloc, unit, kind.front(), kind.back())
+    }
+
+    /// Whether the tokens of a span are read as they are treated, behind a text and in front of another one.
+    pub(crate) fn reads_between(
+        &self,
+        alloc: Global,
+        span: Span,
+        front: &str,
+        back: &str,
+    ) -> Result<bool, AllocError> {
+        let mut text = String::from_str(alloc, front)?;
+        self.write(span, &mut text)?;
+        text.push_str(back)?;
         is_read(alloc, text.as_str())
+    }
+
+    /// Whether a unit that wasn't read is read now: tokens have come to be part of another form since so many had.
+    fn reads_since(
+        &self,
+        alloc: Global,
+        unit: Span,
+        kind: UnitKind,
+        treated: usize,
+    ) -> Result<bool, AllocError> {
+        Ok(self.treated() != treated && self.reads(alloc, unit, kind)?)
     }
 
     /// The items of the file, without the inner attributes in front.
@@ -74,10 +97,13 @@ impl Draft<'_> {
         if self.reads(alloc, unit, kind)? {
             return Ok(());
         }
+        let treated = self.treated();
         self.treat_outside(alloc, unit)?;
-        if self.reads(alloc, unit, kind)? {
+        self.treat_head(alloc, unit)?;
+        if self.reads_since(alloc, unit, kind, treated)? {
             return Ok(());
         }
+        let treated = self.treated();
         if levels > 0 {
             for body in self.bodies(alloc, unit)? {
                 for part in self.units(alloc, body)? {
@@ -85,19 +111,26 @@ impl Draft<'_> {
                 }
             }
         }
+        if self.reads_since(alloc, unit, kind, treated)? {
+            return Ok(());
+        }
         self.finish(alloc, unit, kind)
     }
 
-    /// Sees that a unit is read of which the bodies are settled: by the rules for all its tokens, or whole.
+    /// Sees that a unit is read that isn't with its bodies settled: by the rules for all its tokens, or whole.
     fn finish(&mut self, alloc: Global, unit: Span, kind: UnitKind) -> Result<(), AllocError> {
-        if self.reads(alloc, unit, kind)? {
-            return Ok(());
-        }
+        let treated = self.treated();
         self.treat_by_rules(unit);
-        if !self.reads(alloc, unit, kind)? {
+        if !self.reads_since(alloc, unit, kind, treated)? {
             self.treat_span(unit, Form::Whole);
         }
         Ok(())
+    }
+
+    /// Whether the file has items, and each of them is set aside whole.
+    pub(crate) fn is_set_aside_whole(&self) -> bool {
+        let from = self.file_body().span.from;
+        from < self.len() && self.behind_unsearched(from) >= self.len()
     }
 
     /// Sees that each item of the file is read, with as little set aside as that takes.

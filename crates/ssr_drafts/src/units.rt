@@ -85,7 +85,7 @@ fn is_qualifier(rest: &[SyntaxKind]) -> bool {
 
 impl Draft<'_> {
     /// The place of the first token of a unit that is neither an attribute nor a word in front of what it is.
-    fn head(&self, from: usize) -> usize {
+    pub(crate) fn head(&self, from: usize) -> usize {
         let mut next = from;
         for place in from..self.len() {
             if place < next {

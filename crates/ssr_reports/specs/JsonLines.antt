@@ -1,4 +1,4 @@
--- Matches and the summary as the tokens of objects of JSON.
+-- Matches, what isn't searched, and the summary as the tokens of objects of JSON.
 use Rattle.std.specs.Prelude.{ℕ, ◌≡◌, Bool, List, [], ◌∷◌, ◌++◌, flat_map, Option, Some, None, Vec, codes, decimal}
 use Rattle.std.specs.Global.{Global}
 use denote.Ref.{Bor}
@@ -8,6 +8,9 @@ use Rattle.json.specs.Lex.{tokens}
 use Rattle.json.specs.Print.{print}
 use Rattle.ssr_reports.specs.declared.json_lines.Held.{Held}
 use Rattle.ssr_reports.specs.declared.json_lines.MatchReport.{MatchReport}
+use Rattle.ssr_reports.specs.declared.json_lines.NotSearched.{NotSearched}
+use Rattle.ssr_reports.specs.declared.places.LinePlace.{LinePlace}
+use Rattle.ssr_syntax_kinds.specs.declared.range.TextRange.{TextRange}
 use Rattle.ssr_reports.specs.declared.summary.Summary.{Summary}
 
 -- these tokens are written behind others
@@ -32,14 +35,16 @@ abbrev pub new_field : Option (Bor (List ℕ)) → List Token
 new_field (Some text) = text_field (codes "new") text.now
 new_field None = null_field (codes "new")
 
+-- bytes of a file, and where they begin
+abbrev pub range_fields : List ℕ → TextRange → LinePlace → List Token
+range_fields file range place =
+    text_field (codes "file") file
+    ++ (number_field (codes "start") range.start
+    ++ (number_field (codes "end") range.end ++ (number_field (codes "line") place.line ++ number_field (codes "column") place.column)))
+
 -- which rule matches, and where
 abbrev pub place_fields : MatchReport → List Token
-place_fields report =
-    number_field (codes "rule") report.rule
-    ++ (text_field (codes "file") report.file.now
-    ++ (number_field (codes "start") report.range.start
-    ++ (number_field (codes "end") report.range.end
-    ++ (number_field (codes "line") report.place.line ++ number_field (codes "column") report.place.column))))
+place_fields report = number_field (codes "rule") report.rule ++ range_fields report.file.now report.range report.place
 
 -- what a placeholder holds
 abbrev pub held_tokens : Held → List Token
@@ -57,6 +62,10 @@ match_tokens report =
     ++ ((text_field (codes "old") report.old.now ++ (new_field report.new ++ flag_field (codes "set_aside") report.set_aside))
     ++ (placeholders_tokens report.placeholders.now ++ end_object ∷ [])))
 
+abbrev pub not_searched_tokens : NotSearched → List Token
+not_searched_tokens report =
+    begin_object ∷ key (codes "not_searched") ∷ begin_object ∷ (range_fields report.file.now report.range report.place ++ end_object ∷ end_object ∷ [])
+
 abbrev pub summary_tokens : Summary → List Token
 summary_tokens summary =
     begin_object ∷ key (codes "summary") ∷ begin_object ∷ (number_field (codes "files") summary.files
@@ -64,7 +73,8 @@ summary_tokens summary =
     ++ (number_field (codes "edits") summary.edits
     ++ (number_field (codes "set_aside") summary.set_aside
     ++ (number_field (codes "unread") summary.unread
-    ++ (number_field (codes "left_out") summary.left_out ++ end_object ∷ end_object ∷ []))))))
+    ++ (number_field (codes "left_out") summary.left_out
+    ++ (number_field (codes "not_searched") summary.not_searched ++ end_object ∷ end_object ∷ [])))))))
 
 -- a line of JSON: the text of these tokens, which reads back as they are, and a line break
 pub record IsLineOf (written : List Token) (line : Vec ℕ Global) : Type 0 where

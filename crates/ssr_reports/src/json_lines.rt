@@ -1,8 +1,8 @@
-//! Matches and the summary as lines of JSON.
+//! Matches, what isn't searched, and the summary as lines of JSON.
 ghost use Rattle.std.specs.Prelude.{◌≡◌, ◌∷◌, [], ◌++◌, IfOk, OnOk, flat_map, codes};
 ghost use Rattle.json.specs.Lex.{tokens};
 ghost use Rattle.json.specs.Print.{print};
-ghost use Rattle.ssr_reports.specs.JsonLines.{Gains, number_field, text_field, new_field, null_field, flag_field, place_fields, placeholders_tokens, match_tokens, summary_tokens, IsLineOf, held_tokens};
+ghost use Rattle.ssr_reports.specs.JsonLines.{Gains, number_field, text_field, new_field, null_field, flag_field, place_fields, range_fields, not_searched_tokens, placeholders_tokens, match_tokens, summary_tokens, IsLineOf, held_tokens};
 
 use crate::places::LinePlace;
 use crate::summary::Summary;
@@ -30,6 +30,14 @@ pub struct MatchReport<'a> {
     pub new: Option<&'a str>,
     pub set_aside: bool,
     pub placeholders: &'a [Held<'a>],
+}
+
+/// Bytes of a file that aren't searched, with the place where they begin.
+#[derive(Clone, Copy, Debug)]
+pub struct NotSearched<'a> {
+    pub file: &'a str,
+    pub range: TextRange,
+    pub place: LinePlace,
 }
 
 /// A match as an object of JSON, and a line break. Its bytes are UTF-8.
@@ -71,6 +79,27 @@ fn push_all_held(writer: &mut Writer, placeholders: &[Held<'_>]) -> Result<(), A
     Ok(())
 }
 
+/// Bytes that aren't searched as an object of JSON, and a line break.
+pub fn not_searched_json(alloc: Global, report: &NotSearched<'_>) -> Result<Vec<u8>, AllocError>
+    ensures { IfOk result (IsLineOf (not_searched_tokens report.now)) }
+{
+    let mut writer = Writer::new(Vec::new(alloc));
+    push_not_searched(&mut writer, report)?;
+    ended(writer)
+}
+
+fn push_not_searched(writer: &mut Writer, report: &NotSearched<'_>) -> Result<(), AllocError>
+    ensures { OnOk result (Gains writer.old writer.new (not_searched_tokens report.now)) }
+{
+    writer.begin_object()?;
+    writer.key("not_searched")?;
+    writer.begin_object()?;
+    push_range(writer, report.file, report.range, report.place)?;
+    writer.end_object()?;
+    writer.end_object()?;
+    Ok(())
+}
+
 /// The summary as an object of JSON, and a line break.
 pub fn summary_json(alloc: Global, summary: Summary) -> Result<Vec<u8>, AllocError>
     ensures { IfOk result (IsLineOf (summary_tokens summary)) }
@@ -92,6 +121,7 @@ fn push_summary(writer: &mut Writer, summary: Summary) -> Result<(), AllocError>
     push_number(writer, "set_aside", summary.set_aside)?;
     push_number(writer, "unread", summary.unread)?;
     push_number(writer, "left_out", summary.left_out)?;
+    push_number(writer, "not_searched", summary.not_searched)?;
     writer.end_object()?;
     writer.end_object()?;
     Ok(())
@@ -112,11 +142,24 @@ fn push_found(writer: &mut Writer, report: &MatchReport<'_>) -> Result<(), Alloc
     ensures { OnOk result (Gains writer.old writer.new (place_fields report.now)) }
 {
     push_number(writer, "rule", report.rule)?;
-    push_text(writer, "file", report.file)?;
-    push_number(writer, "start", report.range.start as usize)?;
-    push_number(writer, "end", report.range.end as usize)?;
-    push_number(writer, "line", report.place.line)?;
-    push_number(writer, "column", report.place.column)?;
+    push_range(writer, report.file, report.range, report.place)?;
+    Ok(())
+}
+
+/// Bytes of a file, and where they begin.
+fn push_range(
+    writer: &mut Writer,
+    file: &str,
+    range: TextRange,
+    place: LinePlace,
+) -> Result<(), AllocError>
+    ensures { OnOk result (Gains writer.old writer.new (range_fields file.now range place)) }
+{
+    push_text(writer, "file", file)?;
+    push_number(writer, "start", range.start as usize)?;
+    push_number(writer, "end", range.end as usize)?;
+    push_number(writer, "line", place.line)?;
+    push_number(writer, "column", place.column)?;
     Ok(())
 }
 

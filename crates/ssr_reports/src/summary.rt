@@ -1,11 +1,13 @@
-//! The line that ends a run.
+//! The line that ends a run, and the one that tells what of a file isn't searched.
 ghost use Rattle.std.specs.Prelude.{◌≡◌, ◌++◌, IfOk, OnOk, string_bytes};
-ghost use Rattle.ssr_reports.specs.Summary.{summary_text, counted, some_counted};
+ghost use Rattle.ssr_reports.specs.Summary.{summary_text, counted, some_counted, not_searched_text};
 
+use crate::places::{LinePlace, place_words};
 use std::alloc::{AllocError, Global};
 
 /// How many files have matches, how many matches there are and how many edits are made; how many matches stay because of what is set
-/// aside, and how many because the file can't be read with what stands for them; and how many files are left out.
+/// aside, and how many because the file can't be read with what stands for them; how many files are left out, and how many more
+/// aren't searched whole.
 #[derive(Clone, Copy, Debug, PartialEq, Eq)]
 pub struct Summary {
     pub files: usize,
@@ -14,10 +16,11 @@ pub struct Summary {
     pub set_aside: usize,
     pub unread: usize,
     pub left_out: usize,
+    pub not_searched: usize,
 }
 
-/// `61 matches in 4 files: 58 edits; 3 left as they are; 2 files left out` and a line break. Of what is none but the matches,
-/// nothing is said.
+/// `61 matches in 4 files: 58 edits; 3 left as they are; 2 files left out; 1 file not searched whole` and a line break. Of what is
+/// none but the matches, nothing is said.
 pub fn summary_line(alloc: Global, summary: Summary) -> Result<String, AllocError>
     ensures { IfOk result (λ line. string_bytes line ≡ summary_text summary) }
 {
@@ -35,7 +38,43 @@ pub fn summary_line(alloc: Global, summary: Summary) -> Result<String, AllocErro
         "file left out",
         "files left out",
     )?;
+    push_some(
+        &mut text,
+        "; ",
+        summary.not_searched as u128,
+        "file not searched whole",
+        "files not searched whole",
+    )?;
     text.push_str("\n")?;
+    Ok(text)
+}
+
+/// `src/a.rs:3:5: not searched: 2 lines that aren't read, and 4 more places`: of what isn't searched of a file the first place, how
+/// many lines it has there, and how many more places there are.
+pub fn not_searched_words(
+    alloc: Global,
+    file: &str,
+    place: LinePlace,
+    lines: usize,
+    more: usize,
+) -> Result<String, AllocError>
+    ensures { IfOk result (λ words. string_bytes words ≡ not_searched_text file.now place lines more) }
+{
+    let mut text = place_words(alloc, file, place)?;
+    text.push_str(": not searched: ")?;
+    push_counted(
+        &mut text,
+        lines as u128,
+        "line that isn't read",
+        "lines that aren't read",
+    )?;
+    push_some(
+        &mut text,
+        ", and ",
+        more as u128,
+        "more place",
+        "more places",
+    )?;
     Ok(text)
 }
 

@@ -1,12 +1,14 @@
 -- Laws of changes that keep the place of each byte outside of them.
-use Rattle.std.proofs.Common.{◌≡◌, ℕ, ◌≤◌, List, [], ◌∷◌, Ok, subst, sym}
-use Rattle.std.specs.List.{All}
+use Rattle.std.proofs.Common.{◌≡◌, ℕ, ◌≤◌, Bool, true, List, [], ◌∷◌, Ok, map, ap, subst, sym, ◌∙◌}
+use Rattle.std.specs.Prelude.{IsTrue}
+use Rattle.std.specs.List.{All, list_all}
 use Rattle.std.proofs.lemmas.List.Elements.{All-cons, All-nil}
 use Rattle.ssr_base_trees.specs.Changes.{Change, ChangesInOrder, FitsText, IsReplaced, same}
-use Rattle.ssr_base_trees.specs.Origins.{Span}
+use Rattle.ssr_syntax_kinds.specs.declared.range.TextRange.{TextRange}
+use Rattle.ssr_base_trees.specs.Origins.{Span, span_of}
 use Rattle.ssr_syntax_tree.specs.Syntax.{Syntax, source_of}
 use Rattle.ssr_syntax.specs.Reading as reading
-use Rattle.ssr_set_aside.specs.SetAside.{SetAside, AreCovered, BeginInOrder, Covers, IsRead, IsSetAside, KeepsLength}
+use Rattle.ssr_set_aside.specs.SetAside.{SetAside, AreCovered, BeginInOrder, Covers, AreBlanked, is_blank, IsRead, IsSetAside, KeepsLength, none, other, one}
 
 -- the changes from some place on are in order if those from the next one on are
 pub order_from : (at : ℕ) (c : Change) (cs left : List Change) → left ≡ c ∷ cs → at ≤ c.start → c.start ≤ c.end
@@ -25,14 +27,32 @@ pub begin_from : (from : ℕ) (reach : Span) (others reaches : List Span) → re
     → BeginInOrder reach.start others → BeginInOrder from reaches
 begin_from from reach others reaches are h o = rw are (h, o)
 
+-- the changes from some place on replace these spans if they do so once they are written as the first of them and the others
+pub all_from : (cs left : List Change) (spans : List Span) → left ≡ cs → AreBlanked cs spans → AreBlanked left spans
+all_from cs left spans is are = subst (λ (left : List Change). AreBlanked left spans) (sym is) are
+
+-- the first change replaces the first range by blanks, or another one does
+pub blanked_from : (c : Change) (cs : List Change) (first : TextRange) (others ranges : List TextRange) (text : List ℕ) (b : Bool)
+    → ranges ≡ first ∷ others → first.start ≡ c.start → first.end ≡ c.end → text ≡ c.text → b ≡ list_all is_blank text → b ≡ true
+    → AreBlanked cs (map span_of others) → AreBlanked (c ∷ cs) (map span_of ranges)
+blanked_from c cs first others ranges text b is start end same blank yes all =
+    let blanks : IsTrue (list_all is_blank c.text) = ap (list_all is_blank) (sym same) ∙ sym blank ∙ yes in
+    let here : AreBlanked (c ∷ cs) (span_of first ∷ map span_of others) = one c cs (span_of first) (map span_of others) (record { start = start; end = end; blank = blanks }) all in
+    rw is here
+
+pub blanked_later : (c : Change) (cs : List Change) (spans : List Span) → AreBlanked cs spans → AreBlanked (c ∷ cs) spans
+blanked_later c cs spans all = other c cs spans all
+
 -- nothing is set aside of a text that is searched as it stands
-pub as_it_stands : (text : List ℕ) (made : SetAside) → source_of made.tree ≡ text → made.aside ≡ [] → made.reaches ≡ [] → IsSetAside text made
-as_it_stands text made is none no_reach = record {
-  order = subst (ChangesInOrder 0) (sym none) tt;
-  fits = subst (All (FitsText text)) (sym none) (All-nil (FitsText text));
-  lengths = subst (All KeepsLength) (sym none) (All-nil KeepsLength);
-  replaced = subst (λ (cs : List Change). IsReplaced 0 text cs (source_of made.tree)) (sym none) (subst (IsReplaced 0 text []) (sym is) (same 0 text));
-  covered = rw (none, no_reach) tt;
+pub as_it_stands : (text : List ℕ) (made : SetAside) → source_of made.tree ≡ text → made.aside ≡ [] → made.reaches ≡ [] → made.unsearched ≡ []
+    → IsSetAside text made
+as_it_stands text made is empty no_reach all = record {
+  order = subst (ChangesInOrder 0) (sym empty) tt;
+  fits = subst (All (FitsText text)) (sym empty) (All-nil (FitsText text));
+  lengths = subst (All KeepsLength) (sym empty) (All-nil KeepsLength);
+  replaced = subst (λ (cs : List Change). IsReplaced 0 text cs (source_of made.tree)) (sym empty) (subst (IsReplaced 0 text []) (sym is) (same 0 text));
+  covered = rw (empty, no_reach) tt;
+  blanks = rw (empty, all) none;
 }
 
 -- what is set aside keeps the tree that is read

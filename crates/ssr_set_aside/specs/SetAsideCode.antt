@@ -15,5 +15,6 @@ change_code =
 
 abbrev pub set_aside_code : Coded SetAside
 set_aside_code =
-    code_by (Syntax × (List Change × List Span)) (coded× syntax_code (coded× (coded_list change_code) (coded_list span_code)))
-    (λ m. (m.tree, (m.aside, m.reaches))) (λ c. record { tree = c.0; aside = c.1.0; reaches = c.1.1 }) (λ _. refl)
+    code_by (Syntax × (List Change × (List Span × List Span)))
+    (coded× syntax_code (coded× (coded_list change_code) (coded× (coded_list span_code) (coded_list span_code))))
+    (λ m. (m.tree, (m.aside, (m.reaches, m.unsearched)))) (λ c. record { tree = c.0; aside = c.1.0; reaches = c.1.1.0; unsearched = c.1.1.1 }) (λ _. refl)

@@ -1,9 +1,10 @@
-//! Changes that keep the place of each byte outside of them, and their reaches.
-ghost use Rattle.std.specs.Prelude.{IsTrue, All, map};
-ghost use Rattle.ssr_base_trees.specs.Changes.{ChangesInOrder};
-ghost use Rattle.ssr_base_trees.specs.Applied.{changes_of};
+//! Changes that keep the place of each byte outside of them, their reaches, and those that leave blanks.
+ghost use Rattle.std.specs.Prelude.{◌≡◌, ◌∷◌, IsTrue, List, All, map};
+ghost use Rattle.std.specs.List.{list_all};
+ghost use Rattle.ssr_base_trees.specs.Changes.{Change, ChangesInOrder};
+ghost use Rattle.ssr_base_trees.specs.Applied.{change_of, changes_of};
 ghost use Rattle.ssr_base_trees.specs.Origins.{span_of};
-ghost use Rattle.ssr_set_aside.specs.SetAside.{AreCovered, BeginInOrder, KeepsLength};
+ghost use Rattle.ssr_set_aside.specs.SetAside.{AreBlanked, AreCovered, BeginInOrder, KeepsLength, is_blank as is_blank_of};
 
 use ssr_syntax_kinds::TextRange;
 
@@ -40,4 +41,42 @@ pub(crate) fn cover(changes: &[(TextRange, String)], reaches: &[TextRange]) -> b
         left = others;
     }
     left.is_empty()
+}
+
+/// Whether each of these ranges is that of a change that leaves blanks, in the order of the changes.
+pub(crate) fn are_blanked(changes: &[(TextRange, String)], ranges: &[TextRange]) -> bool
+    ensures { IsTrue result → AreBlanked (changes_of changes.now) (map span_of ranges.now) }
+{
+    let mut wanted = ranges;
+    for change in changes {
+        wanted = behind_blanked(wanted, change);
+    }
+    wanted.is_empty()
+}
+
+/// The ranges behind the first one, if this change leaves blanks there; else all of them.
+#[tactic(auto, using(crate::proofs::KeptPlaces::blanked_from, crate::proofs::KeptPlaces::blanked_later))]
+fn behind_blanked<'a>(ranges: &'a [TextRange], change: &(TextRange, String)) -> &'a [TextRange]
+    ensures { (cs : List Change) → AreBlanked cs (map span_of result.now) → AreBlanked (change_of change.now ∷ cs) (map span_of ranges.now) }
+{
+    let (range, text) = change;
+    match ranges.split_first() {
+        Some((first, others)) if first.start == range.start && first.end == range.end => {
+            if is_blank(text.as_str()) {
+                others
+            } else {
+                ranges
+            }
+        }
+        _ => ranges,
+    }
+}
+
+/// Whether a text has no bytes but blanks and line breaks.
+fn is_blank(text: &str) -> bool
+    ensures { result ≡ list_all is_blank_of text.now }
+{
+    text.as_bytes()
+        .iter()
+        .all(|byte| *byte == b' ' || *byte == b'\n')
 }

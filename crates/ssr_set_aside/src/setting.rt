@@ -6,7 +6,7 @@ ghost use Rattle.ssr_syntax.specs.declared.syntax_error.SyntaxError.TheVariants 
 ghost use Rattle.ssr_set_aside.specs.SetAside.{IsSetAside, IsRead};
 
 use crate::aside::SetAside;
-use crate::keeping::{cover, keep_places};
+use crate::keeping::{are_blanked, cover, keep_places};
 use crate::reaches::Reaches;
 use ssr_base_trees::{ApplyError, TextEdit};
 use ssr_drafts::{Care, Parts, found};
@@ -14,7 +14,7 @@ use ssr_syntax::{SyntaxError, Tree, parse_file, parse_file_owned};
 use std::alloc::{AllocError, Global};
 
 /// A file's text with as little set aside as it takes to read it: nothing, where it is read as it stands. The error is that of
-/// the file as it stands, where it isn't read with all set aside that can be, or `Memory`.
+/// the file as it stands, where it isn't read with all set aside that can be or none of its items is left then, or `Memory`.
 pub fn set_aside(alloc: Global, text: &str) -> Result<SetAside, SyntaxError>
     ensures aside { IfOk result (λ made. IsSetAside text.now made) }
     ensures read { IfOk result IsRead }
@@ -29,7 +29,9 @@ pub fn set_aside(alloc: Global, text: &str) -> Result<SetAside, SyntaxError>
         return Err(error);
     }
     for care in [Care::Fine, Care::Coarse] {
-        let parts = found(alloc, text, care)?;
+        let Some(parts) = found(alloc, text, care)? else {
+            return Err(error);
+        };
         if let Some(made) = made_by(alloc, text, parts)? {
             return Ok(made);
         }
@@ -42,21 +44,28 @@ fn as_it_stands(alloc: Global, tree: Tree) -> SetAside
     ensures tree { result.tree ≡ tree }
     ensures aside { result.aside ≡ [] }
     ensures reaches { result.reaches ≡ [] }
+    ensures unsearched { result.unsearched ≡ [] }
 {
     SetAside::new(
         tree,
         TextEdit::new(Vec::new(alloc)),
         Reaches::new(Vec::new(alloc)),
+        Vec::new(alloc),
     )
 }
 
-/// The text with the changes made, if they keep the place of each byte, have their reaches, and it is read then.
+/// The text with the changes made, if they keep the place of each byte, have their reaches, leave blanks where nothing is searched,
+/// and it is read then.
 fn made_by(alloc: Global, text: &str, parts: Parts) -> Result<Option<SetAside>, AllocError>
     ensures aside { IfOk result (λ answer. IfSome answer (λ made. IsSetAside text.now made)) }
     ensures read { IfOk result (λ answer. IfSome answer IsRead) }
 {
-    let Parts { changes, reaches } = parts;
-    if !keep_places(&changes) || !cover(&changes, &reaches) {
+    let Parts {
+        changes,
+        reaches,
+        unsearched,
+    } = parts;
+    if !keep_places(&changes) || !cover(&changes, &reaches) || !are_blanked(&changes, &unsearched) {
         return Ok(None);
     }
     let aside = TextEdit::new(changes);
@@ -66,7 +75,7 @@ fn made_by(alloc: Global, text: &str, parts: Parts) -> Result<Option<SetAside>, 
         Err(ApplyError::Memory) => return Err(AllocError),
     };
     match parse_file_owned(alloc, searched) {
-        Ok(tree) => Ok(Some(SetAside::new(tree, aside, Reaches::new(reaches)))),
+        Ok(tree) => Ok(Some(SetAside::new(tree, aside, Reaches::new(reaches), unsearched))),
         Err(SyntaxError::Memory) => Err(AllocError),
         Err(_) => Ok(None),
     }

@@ -39,7 +39,7 @@ unreachable-requires-in-Err-Range c =
     let there = c.file-there.result.now in
     let left = c.in_ok-edit.field-0.edit in
     let fit : All (FitsText there.text) left =
-    c.in_ok-edit.ensures.fits there.text (record { tree = c.requires.fits.0; aside = there.aside; reaches = there.reaches }) (sym c.reaches.ensures)
+    c.in_ok-edit.ensures.fits there.text (record { tree = c.requires.fits.0; aside = there.aside; reaches = there.reaches; unsearched = there.unsearched }) (sym c.reaches.ensures)
     (c.file-there.ensures.searched c.requires.fits.0 c.requires.fits.1) c.requires.fits.2 in
     let made : All (FitsText there.text) c.in_ok-edit-2.field-0.edit =
     subst (All (FitsText there.text)) (sym c.in_ok-edit-2.ensures.made) (fits_standing (stands c.in-Some.tree.now) left there.text fit) in
@@ -71,7 +71,7 @@ returns-clause-fits c =
     let all : FileChange =
     record { file = c.args.file; edit = c.in_ok-edit-2.field-0.edit; new = c.in-Ok.new; told = c.in_ok-edit.field-0.told; unread = c.in_ok-edit-2.field-0.unread } in
     let fit : All (FitsText there.text) left =
-    c.in_ok-edit.ensures.fits there.text (record { tree = c.requires.fits.0; aside = there.aside; reaches = there.reaches }) (sym c.reaches.ensures)
+    c.in_ok-edit.ensures.fits there.text (record { tree = c.requires.fits.0; aside = there.aside; reaches = there.reaches; unsearched = there.unsearched }) (sym c.reaches.ensures)
     (c.file-there.ensures.searched c.requires.fits.0 c.requires.fits.1) c.requires.fits.2 in
     fits_in c.args.files.now.files c.args.file there all refl c.file-there.ensures.there
     (subst (All (FitsText there.text)) (sym c.in_ok-edit-2.ensures.made) (fits_standing (stands c.in-Some.tree.now) left there.text fit))

@@ -18,7 +18,7 @@ loop-file-preserved c =
     let file = c.new-in-loop-file-2.result in
     one_less names c.args.workspace.now.files n tree c.loop-file.files.items c.push.new.self.items file less
     (tree_there c.args.workspace.now n tree less c.in-Some.ensures)
-    (it_is names n tree (string_bytes c.in_ok-name.name) (string_bytes c.in_ok-text.text) c.new-aside.result c.new-reaches.result file c.new-in-loop-file-2.ensures
+    (it_is names n tree (string_bytes c.in_ok-name.name) (string_bytes c.in_ok-text.text) c.new-aside.result c.new-reaches.result (map span_of c.new-unsearched.result.items) file c.new-in-loop-file-2.ensures
     (c.in_ok-name.ensures.ok ∙ c.name_of.ensures) (c.in_ok-text.ensures.ok ∙ c.source.ensures) (c.new-aside.ensures ∙ ap changes_of c.new.ensures.items)
-    (c.new-reaches.ensures ∙ ap (map span_of) c.new-in-loop-file.ensures.items))
+    (c.new-reaches.ensures ∙ ap (map span_of) c.new-in-loop-file.ensures.items) (ap (map span_of) c.new-unsearched.ensures.items))
     c.in_ok-push.ensures.items c.loop-file.invariant

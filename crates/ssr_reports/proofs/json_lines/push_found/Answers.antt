@@ -2,4 +2,4 @@ use Rattle.ssr_reports.proofs.Gaining.{gains_join}
 use Rattle.ssr_reports.proofs.json_lines.push_found.Goals as goal
 
 pub returns : goal.returns
-returns c = gains_join _ _ _ _ _ c.in_ok-push_number.ensures (gains_join _ _ _ _ _ c.in_ok-push_text.ensures (gains_join _ _ _ _ _ c.in_ok-push_number-2.ensures (gains_join _ _ _ _ _ c.in_ok-push_number-3.ensures (gains_join _ _ _ _ _ c.in_ok-push_number-4.ensures (c.in_ok-push_number-5.ensures)))))
+returns c = gains_join _ _ _ _ _ c.in_ok-push_number.ensures c.in_ok-push_range.ensures

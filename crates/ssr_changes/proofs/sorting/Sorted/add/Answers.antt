@@ -1,8 +1,9 @@
-use Rattle.std.proofs.Common.{◌<◌, ◌≤◌, length, sym, ap, ◌∙◌, inl, inr, refl, arith}
+use Rattle.std.proofs.Common.{◌<◌, ◌≤◌, length, map, sym, ap, ◌∙◌, inl, inr, refl, arith}
 use Rattle.std.proofs.lemmas.Grind.{common_steps}
 use Rattle.ssr_syntax.specs.Reading.{file_reading}
 use Rattle.ssr_syntax.specs.declared.syntax_error.SyntaxError.TheVariants as errors
 use Rattle.ssr_base_trees.specs.Built.{most_trees}
+use Rattle.ssr_base_trees.specs.Origins.{span_of}
 use Rattle.ssr_changes.specs.Private.Building.{as_read}
 use Rattle.ssr_changes.proofs.Sorted.{is_told, set_aside_is}
 use Rattle.ssr_changes.proofs.sorting.Sorted.add.Goals as goal
@@ -16,7 +17,7 @@ pub returns-in_ok-push-in-Ok-2 : goal.returns-in_ok-push-in-Ok-2
 returns-in_ok-push-in-Ok-2 c =
     let room : length c.args.self.now.files.items < most_trees = grind (arith, common_steps) in
     let known = set_aside_is c.args.file c.as_str.result.now c.in-Ok.made c.into_parts-tree.result.0 c.into_parts-tree.result.1 c.into_parts-tree.result.2
-    c.new.result c.as_str.ensures.value c.new.ensures c.into_parts-tree.ensures.tree c.into_parts-tree.ensures.aside c.into_parts-tree.ensures.reaches
+    (map span_of c.into_parts-tree.result.3.items) c.new.result c.as_str.ensures.value c.new.ensures c.into_parts-tree.ensures.tree c.into_parts-tree.ensures.aside c.into_parts-tree.ensures.reaches c.into_parts-tree.ensures.unsearched
     c.in-Ok.ensures.aside c.in-Ok.ensures.read c.in-Ok.ensures.as_it_stands in
     as_read c.into_parts-tree.result.0 c.new.result known.0 known.1 known.2 room c.in_ok-push-in-Ok.ensures.items c.in_ok-push-in-Ok-2.ensures.items refl
 
