@@ -561,6 +561,62 @@ def members_are_found_by_patterns(program):
 
 
 @example
+def a_pattern_has_any_number_of_marks(program):
+    found = ("a1b", "aéb", "xay", "ax", "xaybz", "xyz")
+    patterns = {"a?b": ["a1b", "aéb"], "*a*": ["a1b", "ax", "aéb", "xay", "xaybz"], "x*y*": ["xay", "xaybz", "xyz"], "?a?b?": ["xaybz"], "**/?????": ["xaybz"],
+                "a?": ["ax"], "*z*z": [], "*a*" * 40 + "?": []}
+    for pattern, folders in patterns.items():
+        files = {"Cargo.toml": f'[workspace]\nmembers = ["{pattern}"]\n'}
+        for folder in found:
+            files |= {f"{folder}/Cargo.toml": MANIFEST, f"{folder}/src/lib.rs": "fn f() { a.unwrap() }\n"}
+        with Package(files) as package:
+            out = package.run(program, "--search", "$a.unwrap()")[1]
+            yield out == "".join(f"{folder}/src/lib.rs:1:10: a.unwrap()\n" for folder in folders)
+
+
+@example
+def files_that_nothing_reaches_are_told(program):
+    files = {"Cargo.toml": MANIFEST, "src/lib.rs": "fn f() {}\n", "src/bin/one.rs": "fn main() {}\n", "src/b.rs": "", "other.rs": ""}
+    with Package(files) as package:
+        yield package.run(program, "-q", RULE)[2] == "1 file below src is reached by no mod item: src/b.rs; -- src searches it\n"
+        yield package.run(program, "-q", RULE, "--", "src/lib.rs") == (0, "", "")
+    with Package(files | {"src/.hidden.rs": "", "src/.git/x.rs": "", "src/a/c.rs": "", "src/a.rs": ""}) as package:
+        (package.folder / "src/link.rs").symlink_to(package.folder / "other.rs")
+        told = "3 files below src are reached by no mod item: src/a.rs, src/a/c.rs, src/b.rs; -- src searches them\n"
+        yield package.run(program, "-q", RULE) == (0, "", told)
+        (package.folder / "src/z.rs").write_text("")
+        yield package.run(program, "-q", RULE)[2].startswith("4 files below src are reached by no mod item: src/a.rs, src/a/c.rs, src/b.rs, ..; -- src")
+    # of two packages one has such a file, and a third one isn't searched
+    files = {"Cargo.toml": '[workspace]\nmembers = ["one", "two"]\n'}
+    for folder in "one", "two", "three":
+        files |= {f"{folder}/Cargo.toml": MANIFEST.replace("little", folder), f"{folder}/src/lib.rs": "mod a;\n", f"{folder}/src/a.rs": ""}
+    with Package(files | {"two/src/b.rs": "", "three/src/b.rs": ""}) as package:
+        told = "1 file below two/src is reached by no mod item: two/src/b.rs; -- two/src searches it\n"
+        yield package.run(program, "-q", RULE) == (0, "", told)
+        yield package.run(program, "-q", RULE, "-p", "one") == (0, "", "")
+
+
+@example
+def included_files_are_told(program):
+    why = "isn't searched; name it behind --\n"
+    texts = {
+        'include!("b.rs");\n': f"src/lib.rs:1:1: include!: b.rs {why}",
+        '\ufeff\n#[cfg(a)]\ninclude! { r"b.rs", }\n': f"src/lib.rs:3:1: include!: b.rs {why}",
+        'fn f() { g(); include!["../b.rs"]; }\n': f"src/lib.rs:1:15: include!: ../b.rs {why}",
+        # this one is searched
+        'mod a;\ninclude!("a.rs");\n': "",
+        'fn f() -> &str { include_str!("b.rs"); let a = include!("b.rs"); // include!("b.rs");\n  include!(concat!("b", ".rs")); include!("b.rs") }\n': "",
+        'include!("b.rs"); ' * 5: "".join(f"src/lib.rs:1:{at}: include!: b.rs {why}" for at in (1, 19, 37)) + "src/lib.rs: include!: ..\n",
+    }
+    for text, told in texts.items():
+        with Package({"Cargo.toml": MANIFEST, "src/lib.rs": text, "b.rs": ""} | ({"src/a.rs": ""} if "mod a" in text else {})) as package:
+            yield package.run(program, "-q", RULE) == (0, "", told)
+            yield package.run(program, "-q", RULE, "--", "src") == (0, "", told)
+    with Package({"src/lib.rs": 'include!("../b.rs");\n', "b.rs": ""}) as package:
+        yield package.run(program, "-q", RULE, "--", "src", "b.rs") == (0, "", "")
+
+
+@example
 def dependencies_by_path_are_members(program):
     needs = {"one": 'two = { path = "../two" }\nlog = "0.4"', "two": "three = { workspace = true }", "three": 'four = { path = "../../four" }'}
     files = {"Cargo.toml": '[workspace]\nmembers = ["one"]\n\n[workspace.dependencies]\nthree = { path = "three" }\n'}
@@ -638,6 +694,26 @@ def facts_are_read(program):
         (package.folder / "link").symlink_to(other.folder)
         status, _, told = package.run(program, "--facts", "facts.json", "$a + $b ==>> $b + $a", "--write")
         yield status == 3 and "link/b.rs" in told and other.read("b.rs") == text
+
+
+@example
+def files_of_facts_go_by_their_normal_names(program):
+    text = "fn f() { 1 + 2 }"
+    rule = "$a + $b ==>> $b + $a"
+    facts = {"files": [{"name": ".//src/./b.rs", "text": text}], "scopes": [[0, 0, 16]]}
+    with Package({"src/b.rs": text, "facts.json": json.dumps(facts)}) as package:
+        _, diff, _ = package.run(program, "--facts", "facts.json", rule)
+        yield diff.startswith("--- a/src/b.rs\n+++ b/src/b.rs\n")
+        applied = subprocess.run(["git", "apply", "-"], input=diff.encode(), cwd=package.folder)
+        yield applied.returncode == 0 and package.read("src/b.rs") == "fn f() { 2 + 1 }"
+        out = package.run(program, "--facts", "facts.json", "--search", "$a + $b", "--in", "src//./b.rs:1")[1]
+        yield out == "src/b.rs:1:10: 1 + 2\n"
+    # below target, and one file by two names
+    for names, told in [["././target/x.rs"], "target/x.rs: below target"], [["b.rs", ".//b.rs"], "b.rs: comes twice"], [["a/../b.rs"], "a/../b.rs: outside of the folder"]:
+        facts = {"files": [{"name": name, "text": text} for name in names], "scopes": [[number, 0, 16] for number in range(len(names))]}
+        with Package({"b.rs": text, "target/x.rs": text, "a/x": "", "facts.json": json.dumps(facts)}) as package:
+            before = package.texts()
+            yield package.run(program, "--facts", "facts.json", rule, "--write") == (3, "", f"error: {told}\n") and package.texts() == before
 
 
 # Malformed facts, and where they are so.

@@ -8,6 +8,7 @@ use Rattle.ssr_base_trees.specs.Changes.{FitsText}
 use Rattle.cargo_ssr_program.specs.Planned.{path_planned, text_planned}
 use Rattle.ssr_changes.specs.Changing.{FitsIn}
 use Rattle.ssr_changes.specs.Files.{File}
+use Rattle.ssr_changes.specs.Naming.{normal}
 use Rattle.ssr_changes.specs.Planning.{HasDiff}
 use Rattle.ssr_changes.specs.declared.changing.FileChange.{FileChange}
 use Rattle.ssr_changes.specs.declared.planning.Planned.{Planned}
@@ -26,7 +27,7 @@ each_fits files made i d lt h = All-get_or (FitsIn files) made i d lt h
 
 -- a file that is planned is there
 planned_there : (files : List File) (p : Planned) → HasDiff files p → p.file < length files
-planned_there files p h = within_if_some (λ file. IsDiff file.name file.text p.new.now (string_bytes p.diff)) files p.file (slice_get files p.file) refl h
+planned_there files p h = within_if_some (λ file. IsDiff (normal file.name) file.text p.new.now (string_bytes p.diff)) files p.file (slice_get files p.file) refl h
 
 pub each_is_there : (files : List File) (plan : List Planned) (i : ℕ) (d : Planned) → i < length plan → All (HasDiff files) plan → (get_or plan i d).file < length files
 each_is_there files plan i d lt h = planned_there files (get_or plan i d) (All-get_or (HasDiff files) plan i d lt h)

@@ -4,13 +4,14 @@ ghost use Rattle.cargo_ssr_program.specs.Private.Telling.{TellsOnly};
 
 use crate::console::Console;
 use crate::failure::Failure;
+use crate::includes::tell_includes;
 use crate::left_out::left_out_words;
 use crate::malformed::malformed_words;
 use crate::passed_over::{PassedOver, tell_unsearched, unsearched_files};
 use crate::positions::position_at;
 use cargo_ssr_options::{Chosen, Options, Place};
 use ssr_base::{FileId, FilePosition, FileRange, Workspace};
-use ssr_changes::{Searchable, Unread};
+use ssr_changes::{Searchable, Unread, normal_names};
 use ssr_facts::{Facts, FactsError, TableSemantics, read};
 use ssr_package::{
     ModuleTree, Note, PackageError, PackageFiles, find_manifest, given_files, package_files,
@@ -70,6 +71,7 @@ pub(crate) fn of_files<R: Files + AllocGlobal, W: Sink, E: Write>(
         notes,
     } = chosen_files(rt, here, &options.files)?;
     tell_notes(alloc, &notes, console)?;
+    tell_includes(alloc, &files, console)?;
     let (files, unread) = Searchable::of_files(alloc, files, options.macros)?;
     tell_unread(alloc, &unread, console)?;
     tell_unsearched(alloc, &files, console)?;
@@ -210,6 +212,7 @@ pub(crate) fn of_facts<R: Files + AllocGlobal>(
         Ok(facts) => facts,
         Err(error) => return Err(facts_failure(alloc, path, bytes.as_bytes(), &error)?),
     };
+    let names = normal_names(alloc, &names)?;
     let files = Searchable::of_workspace(alloc, workspace, names)?;
     let position = position_at(alloc, &files, place, position)?;
     Ok(Input {

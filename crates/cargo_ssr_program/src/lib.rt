@@ -7,6 +7,7 @@ mod counting;
 mod debugging;
 mod failure;
 mod finding;
+mod includes;
 mod input;
 mod left_out;
 mod malformed;

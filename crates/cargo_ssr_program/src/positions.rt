@@ -5,7 +5,7 @@ ghost use Rattle.std.specs.Prelude.{◌<◌, IfSome, length};
 use crate::failure::Failure;
 use cargo_ssr_options::Place;
 use ssr_base::{FileId, FilePosition};
-use ssr_changes::{Searchable, without_dot};
+use ssr_changes::{Searchable, normal_name};
 use ssr_reports::{LinePlace, byte_at};
 use std::alloc::Global;
 
@@ -19,7 +19,8 @@ pub(crate) fn position_at(
     let Some(place) = place else {
         return Ok(other);
     };
-    let found = match file_named(files, without_dot(place.file.as_str())) {
+    let name = normal_name(alloc, place.file.as_str())?;
+    let found = match file_named(files, name.as_str()) {
         Some(file) => position_in(files, file, place),
         None => None,
     };

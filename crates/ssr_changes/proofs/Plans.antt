@@ -1,16 +1,18 @@
 -- What is planned of changes, one after the other, and the names of files that are planned.
-use Rattle.std.proofs.Common.{◌≡◌, ◌≢◌, ℕ, ◌+◌, ◌<◌, ◌||◌, cond, Bool, true, false, is_some, List, [], ◌∷◌, ◌++◌, length, get_or, take, drop, map, All, Option, Some, None, Bor, refl, ap, sym, subst, ◌∙◌, append-nil, arith}
-use Rattle.std.specs.Prelude.{Contains}
-use Rattle.std.specs.BTreeMap.{BTreeMap, UpdatesBy, get_by}
+use Rattle.std.proofs.Common.{◌≡◌, ◌≢◌, ℕ, ◌+◌, ◌<◌, ◌||◌, cond, Bool, true, false, is_some, List, [], ◌∷◌, ◌++◌, length, get_or, take, drop, map, All, Option, Some, None, string_bytes, refl, ap, sym, subst, ◌∙◌, append-nil, arith}
+use Rattle.std.specs.Prelude.{Contains, String}
+use Rattle.std.specs.BTreeMap.{BTreeMap, UpdatesBy, get_by_text}
 use Rattle.std.specs.Cmp.Lexicographic.{slice_cmp}
 use Rattle.std.specs.List.{list_any}
 use Rattle.std.specs.Ordering.{nat_cmp}
 use Rattle.std.specs.Str.{bytes_eq}
+use Rattle.std.specs.String.{string_cmp}
+use Rattle.std.specs.declared.alloc.Global.{Global}
 use Rattle.std.proofs.lemmas.List.{drop_more, get_or-map, length-map, map-append, take_more, take-append-drop}
 use Rattle.std.proofs.lemmas.List.Elements.{All-push, filter_more}
 use Rattle.std.proofs.lemmas.List.Folds.{list_any-append, list_any_at}
 use Rattle.std.proofs.lemmas.List.Quantifiers.{all_pairs_push}
-use Rattle.std.proofs.lemmas.Map.Text.{btree_map_updates_str}
+use Rattle.std.proofs.lemmas.Map.Text.{btree_map_updates_text}
 use Rattle.std.proofs.lemmas.Map.Views.{Contains-from_any}
 use Rattle.std.proofs.lemmas.Simd.{map-map}
 use Rattle.std.proofs.lemmas.Slice.Eq.{bytes_eq-Decides}
@@ -64,8 +66,8 @@ abbrev pub is_among : List (List ℕ) → List ℕ → Bool
 is_among names name = list_any (λ other. bytes_eq other name) names
 
 -- a map has a name
-abbrev pub knows : {X : Type 0} → BTreeMap (Bor (List ℕ)) X → List ℕ → Bool
-knows names name = is_some (get_by (λ k. slice_cmp nat_cmp name k.now) names)
+abbrev pub knows : {X : Type 0} → BTreeMap (String Global) X → List ℕ → Bool
+knows names name = is_some (get_by_text names name)
 
 some_or : {X : Type 0} (b : Bool) (u : X) (o : Option X) → is_some (cond b (Some u) o) ≡ (is_some o || (b || false))
 some_or true u (Some x) = refl
@@ -74,12 +76,12 @@ some_or false u (Some x) = refl
 some_or false u None = refl
 
 -- one name more
-pub knows_more : {X : Type 0} (old new : BTreeMap (Bor (List ℕ)) X) (u : X) (name : List ℕ) (all : List (List ℕ))
-    → UpdatesBy (λ x y. slice_cmp nat_cmp x.now y.now) (λ k. slice_cmp nat_cmp name k.now) old new (Some u)
+pub knows_more : {X : Type 0} (old new : BTreeMap (String Global) X) (u : X) (name : List ℕ) (all : List (List ℕ))
+    → UpdatesBy string_cmp (λ k. slice_cmp nat_cmp name (string_bytes k)) old new (Some u)
     → ((other : List ℕ) → knows old other ≡ is_among all other) → (other : List ℕ) → knows new other ≡ is_among (all ++ name ∷ []) other
 knows_more old new u name all updates so_far other =
-    ap is_some (btree_map_updates_str name old new (Some u) updates other)
-    ∙ some_or (bytes_eq name other) u (get_by (λ k. slice_cmp nat_cmp other k.now) old)
+    ap is_some (btree_map_updates_text name old new (Some u) updates other)
+    ∙ some_or (bytes_eq name other) u (get_by_text old other)
     ∙ ap (λ b. b || (bytes_eq name other || false)) (so_far other)
     ∙ sym (list_any-append (λ n. bytes_eq n other) all (name ∷ []))
 
@@ -114,8 +116,8 @@ module _ (files : List File) (plan : List Planned) (i : ℕ) (p : Planned) (less
   })
 
   -- the names that are known then
-  pub among_more : {X : Type 0} (old new : BTreeMap (Bor (List ℕ)) X) (u : X) (name : List ℕ) → name ≡ name_in files p.file
-      → UpdatesBy (λ x y. slice_cmp nat_cmp x.now y.now) (λ k. slice_cmp nat_cmp name k.now) old new (Some u)
+  pub among_more : {X : Type 0} (old new : BTreeMap (String Global) X) (u : X) (name : List ℕ) → name ≡ name_in files p.file
+      → UpdatesBy string_cmp (λ k. slice_cmp nat_cmp name (string_bytes k)) old new (Some u)
       → ((other : List ℕ) → knows old other ≡ is_among (names_of files (take i plan)) other)
       → (other : List ℕ) → knows new other ≡ is_among (names_of files (take (i + 1) plan)) other
   among_more old new u name is updates so_far other =

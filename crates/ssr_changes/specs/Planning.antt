@@ -8,11 +8,11 @@ use Rattle.ssr_changes.specs.declared.planning.Planned.{Planned}
 use Rattle.ssr_changes.specs.declared.plan_error.PlanError.{PlanError}
 use Rattle.ssr_changes.specs.declared.plan_error.PlanError.TheVariants as errors
 use Rattle.ssr_changes.specs.Files.{File}
-use Rattle.ssr_changes.specs.Naming.{is_below_target, is_inside, without_dot}
+use Rattle.ssr_changes.specs.Naming.{is_below_target, is_inside, normal}
 
--- the name of a file, without `./` in front
+-- the normal name of a file
 abbrev pub name_in : List File → ℕ → List ℕ
-name_in files n = option_map_or (λ file. without_dot file.name) (slice_get files n) []
+name_in files n = option_map_or (λ file. normal file.name) (slice_get files n) []
 
 -- a change gives its file another text
 abbrev pub is_another : List File → FileChange → Bool
@@ -29,12 +29,12 @@ text_by c = (c.file, string_bytes c.new)
 abbrev pub text_of : Planned → ℕ × List ℕ
 text_of p = (p.file, p.new.now)
 
--- the diff is that of the file's text and the new one
+-- the diff is that of the file's text and the new one, under the file's normal name
 abbrev pub HasDiff : List File → Planned → Type 0
-HasDiff files p = IsSomeAnd (slice_get files p.file) (λ file. IsDiff file.name file.text p.new.now (string_bytes p.diff))
+HasDiff files p = IsSomeAnd (slice_get files p.file) (λ file. IsDiff (normal file.name) file.text p.new.now (string_bytes p.diff))
 
--- The plan of changes: in their order, the file and the new text of each that gives its file another one, with the diff. The names
--- lead into the folder and not below `target`, and no two are the same.
+-- The plan of changes: in their order, the file and the new text of each that gives its file another one, with the diff. The normal
+-- names lead into the folder and not below `target`, and no two are the same.
 pub record IsPlan (files : List File) (made : List FileChange) (plan : List Planned) : Type 0 where
   pub texts : map text_of plan ≡ map text_by (giving_another files made)
   pub diffs : All (HasDiff files) plan
@@ -46,7 +46,7 @@ pub record IsPlan (files : List File) (made : List FileChange) (plan : List Plan
 abbrev pub numbers : List File → List FileChange → List ℕ
 numbers files made = map (λ c. c.file) (giving_another files made)
 
--- in front of a number stands that of a file with the same name
+-- in front of a number stands that of a file with the same normal name
 abbrev pub ComesTwice : List File → List ℕ → ℕ → Type 0
 ComesTwice files ns n = (front behind : List ℕ) × (ns ≡ front ++ n ∷ behind) × Contains (map (name_in files) front) (name_in files n)
 

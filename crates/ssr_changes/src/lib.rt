@@ -21,7 +21,7 @@ pub use changing::{FileChange, changes};
 pub use debugging::{DebugEntry, debug};
 pub use finding::Form;
 pub use matching::{FoundPlace, FoundPlaceholder, pattern_matches, rule_matches};
-pub use naming::without_dot;
+pub use naming::{normal_name, normal_names};
 pub use naming_self::first_with_self;
 pub use plan_error::PlanError;
 pub use planning::{Planned, plan};

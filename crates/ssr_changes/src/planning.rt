@@ -1,10 +1,10 @@
 //! Which files get new texts, and what is shown of that.
-ghost use Rattle.std.specs.Prelude.{◌≡◌, IfErr, IfOk, MatchResult};
+ghost use Rattle.std.specs.Prelude.{◌≡◌, IfErr, IfOk, MatchResult, string_bytes};
 ghost use Rattle.ssr_changes.specs.Planning.{IsFault, IsPlan, name_in};
 ghost use Rattle.ssr_changes.specs.Private.Planning.{ArePlanned, HaveNames, IsNameFault, IsPlannedOf};
 
 use crate::changing::FileChange;
-use crate::naming::{is_below_target, is_inside, without_dot};
+use crate::naming::{is_below_target, is_inside, normal_name};
 use crate::plan_error::PlanError;
 use crate::searchable::Searchable;
 use ssr_diff::diff_between;
@@ -25,8 +25,8 @@ pub struct Planned<'a> {
 /// The plan of changes: in their order, of each that gives its file another text the number of the file, the new text, and the
 /// diff of the old text and that. What is shown and what is written are both read off this plan.
 ///
-/// The name of each file planned leads into the folder and not below `target`, and no two have the same name; `./` in front of a
-/// name doesn't count. A change of a file that isn't there is no part of the plan.
+/// The normal name of each file planned leads into the folder and not below `target`, and no two have the same one. The diff names
+/// the file by it. A change of a file that isn't there is no part of the plan.
 pub fn plan<'a>(
     alloc: Global,
     files: &Searchable,
@@ -72,7 +72,8 @@ fn planned_of<'a>(
     if new == old {
         return Ok(None);
     }
-    let diff = diff_between(alloc, there.name(), old, new, &change.edit)?;
+    let name = normal_name(alloc, there.name())?;
+    let diff = diff_between(alloc, name.as_str(), old, new, &change.edit)?;
     Ok(Some(Planned {
         file: change.file,
         new,
@@ -86,11 +87,11 @@ fn check_names(alloc: Global, files: &Searchable, plan: &[Planned<'_>]) -> Resul
 {
     let mut names = BTreeMap::new(alloc);
     for planned in plan {
-        let name = name_in(files, planned.file);
-        if !is_inside(name) {
+        let name = name_in(alloc, files, planned.file)?;
+        if !is_inside(name.as_str()) {
             return Err(PlanError::Outside(planned.file));
         }
-        if is_below_target(name) {
+        if is_below_target(name.as_str()) {
             return Err(PlanError::BelowTarget(planned.file));
         }
         if names.insert(name, ())?.is_some() {
@@ -100,12 +101,12 @@ fn check_names(alloc: Global, files: &Searchable, plan: &[Planned<'_>]) -> Resul
     Ok(())
 }
 
-/// The name of a file, without `./` in front; none where the file isn't there.
-fn name_in(files: &Searchable, file: usize) -> &str
-    ensures { result.now ≡ name_in files.now.files file }
+/// The normal name of a file; none where the file isn't there.
+fn name_in(alloc: Global, files: &Searchable, file: usize) -> Result<String, AllocError>
+    ensures { IfOk result (λ name. string_bytes name ≡ name_in files.now.files file) }
 {
     match files.get(file) {
-        Some(there) => without_dot(there.name()),
-        None => "",
+        Some(there) => normal_name(alloc, there.name()),
+        None => Ok(String::new(alloc)),
     }
 }

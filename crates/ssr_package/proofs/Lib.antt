@@ -3,3 +3,4 @@ mod CandidateLaws
 mod Fronts
 mod CrateNames
 mod Trees
+mod GlobLaws

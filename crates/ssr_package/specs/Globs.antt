@@ -1,18 +1,24 @@
--- Patterns of names, with one `*` at most.
-use Rattle.std.specs.Prelude.{ℕ, ◌==◌, ◌&&◌, ◌-◌, nat_eq, nat_le, nat_lt, Bool, if◌then◌else◌, List, length}
-use Rattle.std.specs.List.{starts_with, ends_with, before_first, after_first, position_or_len}
-use Rattle.std.specs.Str.{bytes_eq}
+-- Patterns of names, character by character.
+use Rattle.std.specs.Prelude.{ℕ, ◌==◌, ◌&&◌, ◌||◌, Bool, false, if◌then◌else◌, List, [], ◌∷◌, length}
 
 abbrev pub is_star : ℕ → Bool
-is_star b = b == 42
+is_star p = p == 42
 
--- the name begins with the front and ends with the back, and has room for both
-abbrev pub is_around : List ℕ → List ℕ → List ℕ → Bool
-is_around front back name =
-    (nat_le (length back) (length name - length front) && starts_with nat_eq name front) && ends_with nat_eq name back
+-- a character of a pattern stands for one of a name: `?` for any, each other one for itself
+abbrev pub stands_for : ℕ → ℕ → Bool
+stands_for p c = p == 63 || p == c
 
--- whether a name fits a pattern, of which the first `*` stands for any text
+-- a name begins with a character for which this one stands, and its rest passes
+abbrev pub begins : ℕ → (List ℕ → Bool) → List ℕ → Bool
+begins p passes [] = false
+begins p passes (c ∷ name) = stands_for p c && passes name
+
+-- some end of a name passes, be it all of it or nothing
+abbrev pub some_end : (List ℕ → Bool) → List ℕ → Bool
+some_end passes [] = passes []
+some_end passes (c ∷ name) = passes (c ∷ name) || some_end passes name
+
+-- whether a name fits a pattern, in which `*` stands for any text, also none, and `?` for one character
 abbrev pub fits : List ℕ → List ℕ → Bool
-fits pattern name =
-    if nat_lt (position_or_len is_star pattern) (length pattern) then is_around (before_first is_star pattern) (after_first is_star pattern) name
-    else bytes_eq name pattern
+fits [] name = length name == 0
+fits (p ∷ pattern) name = if is_star p then some_end (fits pattern) name else begins p (fits pattern) name

@@ -9,3 +9,4 @@ pub mod Globs
 pub mod Candidates
 pub mod Crates
 pub mod ModuleTree
+pub mod Private

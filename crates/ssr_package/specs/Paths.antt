@@ -30,11 +30,15 @@ abbrev pub above : List Text → Option (List Text)
 above [] = None
 above (name ∷ names) = Some (take (length (name ∷ names) - 1) (name ∷ names))
 
+-- a part that is empty or `.` leads nowhere
+abbrev pub leads_nowhere : Text → Bool
+leads_nowhere part = bytes_eq part [] || bytes_eq part (codes ".")
+
 -- one part further from a folder
 abbrev pub step : Option (List Text) → Text → Option (List Text)
 step None part = None
 step (Some folder) part =
-    if bytes_eq part [] || bytes_eq part (codes ".") then Some folder else
+    if leads_nowhere part then Some folder else
     if bytes_eq part (codes "..") then above folder else Some (folder ++ part ∷ [])
 
 -- where parts lead from a folder

@@ -1,6 +1,6 @@
 //! The folders that fit a path of patterns.
 
-use crate::globs::fits;
+use crate::globs::{fits, is_pattern};
 use crate::package_error::PackageError;
 use crate::packages::MANIFEST;
 use crate::paths::within;
@@ -11,8 +11,8 @@ use std::collections::BTreeSet;
 use std::rt::Files;
 
 impl<R: Files + AllocGlobal> Reading<'_, R> {
-    /// The folders that fit a path. In a part of it the first `*` stands for any text, and `**` for folders however deep, also
-    /// for none. A link is no folder.
+    /// The folders that fit a path. In a part of it `*` stands for any text and `?` for one character; a part `**` stands for
+    /// folders however deep, also for none. A link is no folder.
     pub(crate) fn folders_at(&self, path: &str) -> Result<BTreeSet<String>, PackageError> {
         let mut folders = BTreeSet::new(self.alloc());
         folders.insert(String::new(self.alloc()))?;
@@ -32,7 +32,7 @@ impl<R: Files + AllocGlobal> Reading<'_, R> {
         for folder in above {
             if part == "**" {
                 self.add_all_below(&mut folders, folder)?;
-            } else if part.contains('*') {
+            } else if is_pattern(part) {
                 self.add_fitting(&mut folders, folder.as_str(), part)?;
             } else {
                 self.add_folder(&mut folders, folder.as_str(), part)?;
@@ -63,7 +63,7 @@ impl<R: Files + AllocGlobal> Reading<'_, R> {
         pattern: &str,
     ) -> Result<(), PackageError> {
         for entry in &self.entries_in(folder)? {
-            if entry.is_folder && fits(pattern, entry.name.as_str()) {
+            if entry.is_folder && fits(self.alloc(), pattern, entry.name.as_str())? {
                 folders.insert(within(self.alloc(), folder, entry.name.as_str())?)?;
             }
         }

@@ -62,19 +62,33 @@ impl<R: Files + AllocGlobal> Reading<'_, R> {
 
     /// Reads the `.rs` files below a folder.
     fn read_folder(&mut self, folder: String) -> Result<(), PackageError> {
+        for name in self.files_below(folder)? {
+            self.read_alone(name)?;
+        }
+        Ok(())
+    }
+
+    /// The `.rs` files below a folder, without those in links, hidden folders and `target`. A folder that can't be read is noted.
+    pub(crate) fn files_below(&mut self, folder: String) -> Result<Vec<String>, PackageError> {
+        let mut files = Vec::new(self.alloc());
         let mut open = Vec::new(self.alloc());
         open.push(folder)?;
         for _ in 0..LIMIT {
             let Some(folder) = open.pop() else {
-                return Ok(());
+                return Ok(files);
             };
-            self.read_entries(folder.as_str(), &mut open)?;
+            self.add_entries(folder.as_str(), &mut open, &mut files)?;
         }
         Err(PackageError::TooMany)
     }
 
-    /// Reads the `.rs` files in a folder, and adds its folders to those that are open.
-    fn read_entries(&mut self, folder: &str, open: &mut Vec<String>) -> Result<(), PackageError> {
+    /// Adds the folders in a folder to those that are open, and its `.rs` files to the files.
+    fn add_entries(
+        &mut self,
+        folder: &str,
+        open: &mut Vec<String>,
+        files: &mut Vec<String>,
+    ) -> Result<(), PackageError> {
         let entries = match self.root().entries(folder)? {
             Ok(entries) => entries,
             Err(trouble) => return self.note(folder, trouble),
@@ -84,7 +98,7 @@ impl<R: Files + AllocGlobal> Reading<'_, R> {
             if entry.is_folder && self.is_searched(name.as_str(), entry)? {
                 open.push(name)?;
             } else if !entry.is_folder && entry.name.as_str().ends_with(".rs") {
-                self.read_alone(name)?;
+                files.push(name)?;
             }
         }
         Ok(())

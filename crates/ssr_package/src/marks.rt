@@ -121,7 +121,7 @@ fn assignment(rest: &[RawToken]) -> Option<(TextRange, TextRange)>
 }
 
 /// Where tokens begin with one of this kind: its range, and the tokens behind it.
-fn eat(kind: SyntaxKind, tokens: &[RawToken]) -> Option<(TextRange, &[RawToken])>
+pub(crate) fn eat(kind: SyntaxKind, tokens: &[RawToken]) -> Option<(TextRange, &[RawToken])>
     ensures { option_map (λ found. (found.0, found.1.now)) result ≡ spec.eat kind tokens.now }
 {
     let (first, rest) = tokens.split_first()?;

@@ -1,7 +1,7 @@
 //! The members of a workspace.
 
 use crate::crates::{Edition, package_edition, workspace_edition};
-use crate::globs::unread_mark;
+use crate::globs::{is_pattern, unread_mark};
 use crate::manifest::{items_at, package_name, table_at};
 use crate::notes::Trouble;
 use crate::package_error::PackageError;
@@ -44,7 +44,7 @@ impl<R: Files + AllocGlobal> Reading<'_, R> {
         if let Some(mark) = unread_mark(path.as_str()) {
             return self.note_pattern(pattern, Trouble::Unread(mark));
         }
-        if !path.as_str().contains('*') {
+        if !is_pattern(path.as_str()) {
             return self.add_member(packages, path.as_str(), true, edition);
         }
         let folders = self.folders_at(path.as_str())?;

@@ -239,7 +239,7 @@ impl<'a> ModuleReader<'a> {
 }
 
 /// A part of a text; nothing, where the text has no such part.
-fn slice(text: &str, range: TextRange) -> &str {
+pub(crate) fn slice(text: &str, range: TextRange) -> &str {
     text.get(range.start as usize..range.end as usize)
         .unwrap_or("")
 }
@@ -250,7 +250,7 @@ fn plain_name(name: &str) -> &str {
 }
 
 /// What stands between the quotes of a string with no escape in it.
-fn unquoted(text: &str) -> Option<&str> {
+pub(crate) fn unquoted(text: &str) -> Option<&str> {
     let (_, rest) = text.split_once('"')?;
     let (inside, _) = rest.rsplit_once('"')?;
     if inside.contains('\\') {

@@ -11,6 +11,7 @@ use crate::root::Root;
 use crate::targets::Package;
 use std::alloc::Global;
 use std::rt::Files;
+use std::slice;
 use toml::Table;
 
 /// The name of a manifest in its folder.
@@ -44,23 +45,35 @@ fn own_files<R: Files + AllocGlobal>(
     manifest: &str,
 ) -> Result<PackageFiles, PackageError> {
     let mut reading = Reading::new(root);
+    let mut packages = Vec::new(alloc);
     if package_name(&table).is_some() {
         let edition = package_edition(&table, workspace_edition(&table));
-        let package = Package {
+        packages.push(Package {
             folder: String::new(alloc),
             manifest: table,
             edition,
-        };
-        reading.reach_targets(&package)?;
+        })?;
     } else if table_at(&table, "workspace").is_some() {
-        for package in &reading.members(&table)? {
-            reading.reach_targets(package)?;
-        }
+        packages = reading.members(&table)?;
     } else {
         return Err(PackageError::NoPackage(String::from_str(alloc, manifest)?));
     }
-    reading.read_reached()?;
+    reading.read_packages(&packages)?;
     reading.finish()
+}
+
+impl<R: Files + AllocGlobal> Reading<'_, R> {
+    /// Reads the files of packages, and notes those that nothing reaches.
+    fn read_packages(&mut self, packages: &[Package]) -> Result<(), PackageError> {
+        for package in packages {
+            self.reach_targets(package)?;
+        }
+        self.read_reached()?;
+        for package in packages {
+            self.note_unreached(package)?;
+        }
+        Ok(())
+    }
 }
 
 /// The files of the member of a name, of the workspace of a manifest or else of the nearest one above.
@@ -104,8 +117,7 @@ fn member_files<R: Files + AllocGlobal>(
     let mut reading = Reading::new(root);
     for package in &reading.members(table)? {
         if package_name(&package.manifest) == Some(name) {
-            reading.reach_targets(package)?;
-            reading.read_reached()?;
+            reading.read_packages(slice::from_ref(package))?;
             return reading.finish();
         }
     }

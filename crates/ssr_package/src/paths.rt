@@ -34,11 +34,7 @@ pub fn path_in(alloc: Global, folder: &str, name: &str) -> Result<String, AllocE
 
 /// The path, without empty parts, `.` and `..`, that a path stands for from a folder on. `None`: it leads out of the folder that
 /// paths count from, or it is absolute.
-pub(crate) fn normal_path(
-    alloc: Global,
-    folder: &str,
-    path: &str,
-) -> Result<Option<String>, AllocError>
+pub fn normal_path(alloc: Global, folder: &str, path: &str) -> Result<Option<String>, AllocError>
     ensures { IfOk result (λ found. option_map string_bytes found ≡ spec.normal folder.now path.now) }
 {
     if is_absolute(path) {

@@ -95,6 +95,11 @@ impl<'r, R: Files + AllocGlobal> Reading<'r, R> {
         Ok(())
     }
 
+    /// Whether a name was reached.
+    pub(crate) fn is_reached(&self, name: &str) -> bool {
+        self.reached.contains(name)
+    }
+
     /// Whether a name is reached for the first time. It is then taken for reached.
     pub(crate) fn is_new(&mut self, name: &str) -> Result<bool, PackageError> {
         if self.reached.contains(name) {

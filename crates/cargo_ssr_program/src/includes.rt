@@ -1,0 +1,60 @@
+//! Files that `include!` puts into those that are searched, and that aren't searched themselves.
+ghost use Rattle.cargo_ssr_program.specs.Private.Telling.{TellsOnly};
+
+use crate::console::Console;
+use ssr_diff::quoted;
+use ssr_package::{Include, SourceFile, unsearched_includes};
+use ssr_reports::{line_place, place_words};
+use ssr_streams::Sink;
+use std::alloc::{AllocError, Global};
+use std::io::Write;
+
+/// How many calls of a file are told.
+const TOLD: usize = 3;
+
+/// Tells the calls of `include!` whose files aren't searched, the first ones of each file.
+pub(crate) fn tell_includes<W: Sink, E: Write>(
+    alloc: Global,
+    files: &[SourceFile],
+    console: &mut Console<W, E>,
+) -> Result<(), AllocError>
+    ensures { TellsOnly console.old console.new }
+{
+    let mut last = None;
+    let mut earlier = 0usize;
+    for include in &unsearched_includes(alloc, files)? {
+        earlier = if last == Some(include.file) {
+            earlier.saturating_add(1)
+        } else {
+            0
+        };
+        last = Some(include.file);
+        if earlier <= TOLD {
+            console.tell(include_words(alloc, files, include, earlier)?.as_str());
+        }
+    }
+    Ok(())
+}
+
+/// `src/a.rs:1:1: include!: b.rs isn't searched; name it behind --`, and behind the last that is told `src/a.rs: include!: ..`.
+fn include_words(
+    alloc: Global,
+    files: &[SourceFile],
+    include: &Include,
+    earlier: usize,
+) -> Result<String, AllocError> {
+    let Some(file) = files.get(include.file) else {
+        return Ok(String::new(alloc));
+    };
+    let (name, text, path) = (
+        file.name.as_str(),
+        file.text.as_str(),
+        include.path.as_str(),
+    );
+    if earlier >= TOLD {
+        let name = quoted(alloc, name)?;
+        return format!(in alloc; "{name}: include!: ..");
+    }
+    let place = place_words(alloc, name, line_place(text, include.at.min(text.len())))?;
+    format!(in alloc; "{place}: include!: {path} isn't searched; name it behind --")
+}

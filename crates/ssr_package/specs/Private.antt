@@ -1,0 +1,2 @@
+-- Words of private functions. No public clause cites them, and no reader of those has to believe them.
+pub mod Globs
