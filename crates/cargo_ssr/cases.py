@@ -331,8 +331,16 @@ GROUPED = [
     ("fn f() { match x { &7 => 2 * 7, _ => 0 } }\n", "7 ==>> 3 | 4", "fn f() { match x { &(3 | 4) => 2 * (3 | 4), _ => 0 } }\n"),
     ("fn f() { 2 * 7 + 7 }\n", "7 ==>> 3 * 4", "fn f() { 2 * (3 * 4) + 3 * 4 }\n"),
     ("fn f() { 2 * x /* c */.g(); }\n", "$a.g() ==>> $a + 1", "fn f() { 2 * (x + 1/* c */); }\n"),
-    # what macros take isn't judged
-    ("fn f() { assert!(2 * 7 == x); }\n", "7 ==>> 3 + 4", "fn f() { assert!(2 * 3 + 4 == x); }\n"),
+    # what macros take groups as before
+    ("fn f() { assert!(2 * 7 == x); }\n", "7 ==>> 3 + 4", "fn f() { assert!(2 * (3 + 4) == x); }\n"),
+    ('fn f() { assert_eq!(7, x, "{}", 7); }\n', "7 ==>> 3 + 4", 'fn f() { assert_eq!(3 + 4, x, "{}", 3 + 4); }\n'),
+    ('fn f() { println!("{} {a}", 2 * 7, a = 7); }\n', "7 ==>> 3 + 4", 'fn f() { println!("{} {a}", 2 * (3 + 4), a = 3 + 4); }\n'),
+    ('fn f() { println!("{}", format!("{}", 2 * 7)); }\n', "7 ==>> 3 + 4", 'fn f() { println!("{}", format!("{}", 2 * (3 + 4))); }\n'),
+    ("fn f() { g(vec![2 * 7; 7]); matches!(7, 7); }\n", "7 ==>> 3 | 4", "fn f() { g(vec![2 * (3 | 4); 3 | 4]); matches!(3 | 4, 3 | 4); }\n"),
+    ("fn f() { assert!(x&(&y)); dbg!(2 * 7); }\n", "($a) ==>> $a", "fn f() { assert!(x&(&y)); dbg!(2 * 7); }\n"),
+    ("fn f() { assert!(a.b(7)); }\n", "a.b($x) ==>> *c.d($x)", "fn f() { assert!(*c.d(7)); }\n"),
+    # what stands for an expression is one
+    ("fn f() { 7 }\n", "7 ==>> { 1 } - 1", "fn f() { ({ 1 } - 1) }\n"),
 ]
 
 

@@ -1,5 +1,5 @@
 -- What the edits of the searched texts come to in the files, one file after another.
-use Rattle.std.proofs.Common.{◌≡◌, ℕ, ◌+◌, ◌<◌, ◌≤◌, List, [], ◌∷◌, ◌++◌, length, map, drop, All, Option, Some, None, Ok, Err, Bool, false, sym, ◌∙◌, ap, subst, append_assoc, append-nil}
+use Rattle.std.proofs.Common.{◌≡◌, ℕ, ◌+◌, ◌<◌, ◌≤◌, List, [], ◌∷◌, ◌++◌, length, map, drop, All, Option, Some, None, Ok, Err, false, sym, ◌∙◌, ap, subst, append_assoc, append-nil}
 use Rattle.std.specs.Prelude.{flat_map, slice_get, string_bytes}
 use Rattle.std.specs.BTreeMap.{BTreeMap, UpdatesBy}
 use Rattle.std.specs.Cmp.{nat_cmp_is}
@@ -26,8 +26,8 @@ use Rattle.ssr_changes.specs.declared.changing.FileChange.{FileChange}
 use Rattle.ssr_changes.specs.Changing.{AreChanges, Changed, FitsIn, IsWhy, all_changed, change_in, changed, shown}
 use Rattle.ssr_changes.specs.Files.{File}
 use Rattle.ssr_changes.specs.Private.Changing.{FitsTree}
-use Rattle.ssr_standing.specs.Standing.{stands}
-use Rattle.ssr_changes.specs.Standing.{falling, standing, stands_in}
+use Rattle.ssr_standing.specs.Expansions.{stands_in}
+use Rattle.ssr_changes.specs.Standing.{falling, standing}
 
 -- ** The edits that are left.
 
@@ -81,23 +81,18 @@ none_left w new files n made all so_far =
     let empty : left_from w new files n ≡ [] = ap (λ (rest : List File). flat_map (change_in w new) (enumerate_from n rest)) (drop_all n files all) in
     sym (append-nil made) ∙ ap (λ (rest : List Changed). made ++ rest) (sym empty) ∙ so_far
 
--- whether changes stand is whether they do in the file's tree
-pub stands_there : (w : Workspace) (n : ℕ) (tree : Syntax) → slice_get w.files n ≡ Some tree → stands_in w n ≡ stands tree
-stands_there w n tree there =
-    let by : Option Syntax → List Change → Bool = λ o cs. option_map_or (λ t. stands t cs) o false in ap by there
-
 -- what comes of a file's changes is what changes in it
-pub change_is : (w : Workspace) (n : ℕ) (file : File) (tree : Syntax) (cs left : List Change) (c : FileChange) → slice_get w.files n ≡ Some tree → c.file ≡ n
-    → left ≡ spared file.reaches cs → c.edit ≡ standing (stands tree) left → string_bytes c.new ≡ replaced file.text 0 (length file.text) c.edit
-    → map bounds c.told.items ≡ told file.reaches cs → map bounds c.unread.items ≡ map bounds_of (falling (stands tree) left)
+pub change_is : (w v : Workspace) (n : ℕ) (file : File) (cs left : List Change) (c : FileChange) → v ≡ w → c.file ≡ n
+    → left ≡ spared file.reaches cs → c.edit ≡ standing (stands_in v n) left → string_bytes c.new ≡ replaced file.text 0 (length file.text) c.edit
+    → map bounds c.told.items ≡ told file.reaches cs → map bounds c.unread.items ≡ map bounds_of (falling (stands_in v n) left)
     → shown c ≡ changed w n file cs
-change_is w n file tree cs left c there numbered spares edits text tells unread =
+change_is w v n file cs left c same numbered spares edits text tells unread =
     let rest : List Change = spared file.reaches cs in
     let made : List Change = standing (stands_in w n) rest in
-    let by : stands tree ≡ stands_in w n = sym (stands_there w n tree there) in
-    let edited : c.edit ≡ made = edits ∙ ap (standing (stands tree)) spares ∙ ap (λ (s : List Change → Bool). standing s rest) by in
+    let edited : c.edit ≡ made = edits ∙ ap (standing (stands_in v n)) spares ∙ ap (λ (w : Workspace). standing (stands_in w n) rest) same in
     let fell : map bounds c.unread.items ≡ map bounds_of (falling (stands_in w n) rest) =
-    unread ∙ ap (λ (cs : List Change). map bounds_of (falling (stands tree) cs)) spares ∙ ap (λ (s : List Change → Bool). map bounds_of (falling s rest)) by in
+    unread ∙ ap (λ (cs : List Change). map bounds_of (falling (stands_in v n) cs)) spares
+    ∙ ap (λ (w : Workspace). map bounds_of (falling (stands_in w n) rest)) same in
     let of : ℕ → List Change → List ℕ → List (ℕ × ℕ) → List (ℕ × ℕ) → Changed =
     λ n edit new told unread. record { file = n; edit = edit; new = new; told = told; unread = unread } in
     ap (λ n. of n c.edit (string_bytes c.new) (map bounds c.told.items) (map bounds c.unread.items)) numbered

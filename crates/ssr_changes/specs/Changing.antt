@@ -11,7 +11,8 @@ use Rattle.ssr_searching.specs.declared.searching.SearchError.TheVariants as err
 use Rattle.ssr_searching.specs.Searching.{Search, Changes, ComesToOnce, refuses, clashes, changes}
 use Rattle.ssr_changes.specs.declared.changing.FileChange.{FileChange}
 use Rattle.ssr_changes.specs.Files.{File}
-use Rattle.ssr_changes.specs.Standing.{falling, standing, stands_in}
+use Rattle.ssr_standing.specs.Expansions.{stands_in}
+use Rattle.ssr_changes.specs.Standing.{falling, standing}
 
 -- What changes in a file: the changes of its text, the text with them made, and the ranges of those that are not made: of those that
 -- touch the reach of a part set aside, and of those with which the file isn't read.

@@ -1,13 +1,6 @@
 -- Which changes of a file are made: those that stand, in parentheses where they stand only so.
-use Rattle.std.specs.Prelude.{ℕ, Bool, false, not, if◌then◌else◌, List, [], ◌∷◌, ◌++◌, codes, filter, map, slice_get}
-use Rattle.std.specs.Option.{option_map_or}
+use Rattle.std.specs.Prelude.{Bool, not, if◌then◌else◌, List, [], ◌∷◌, ◌++◌, codes, filter, map}
 use Rattle.ssr_base_trees.specs.Changes.{Change}
-use Rattle.ssr_base_trees.specs.Workspace.{Workspace}
-use Rattle.ssr_standing.specs.Standing.{stands}
-
--- with these changes made the searched text of a file is read, and groups as it did
-abbrev pub stands_in : Workspace → ℕ → List Change → Bool
-stands_in w n cs = option_map_or (λ tree. stands tree cs) (slice_get w.files n) false
 
 -- a change with its text in parentheses
 abbrev pub in_parentheses : Change → Change

@@ -10,6 +10,7 @@ use crate::standing::{Tried, standing};
 use ssr_base::{ApplyError, FileId, FilePosition, FileRange, Semantics, TextEdit};
 use ssr_searching::{SearchError, edits_once};
 use ssr_set_aside::{Spared, spare};
+use ssr_standing::SearchedFile;
 use ssr_syntax::TextRange;
 use std::alloc::{AllocError, Global};
 use std::collections::BTreeMap;
@@ -82,11 +83,17 @@ fn changed(
     ensures fits { IfOk result (FitsIn files.now.files) }
 {
     let there = files.file(file as usize);
-    let Some(tree) = files.workspace().tree(file) else {
+    let workspace = files.workspace();
+    let Some(tree) = workspace.tree(file) else {
         unreachable!()
     };
+    let searched = SearchedFile {
+        trees: workspace.trees(),
+        number: file,
+        tree,
+    };
     let Spared { edit, told } = spare(alloc, edit, there.reaches())?;
-    let Tried { edit, unread } = standing(alloc, tree, edit)?;
+    let Tried { edit, unread } = standing(alloc, &searched, edit)?;
     let new = match edit.apply(alloc, there.text()) {
         Ok(new) => new,
         Err(ApplyError::Memory) => return Err(AllocError),

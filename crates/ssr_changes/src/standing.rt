@@ -4,13 +4,13 @@ ghost use Rattle.std.specs.Option.{option_map};
 ghost use Rattle.ssr_syntax_tree.specs.Syntax.{source_of};
 ghost use Rattle.ssr_base_trees.specs.Changes.{FitsText};
 ghost use Rattle.ssr_set_aside.specs.Sparing.{bounds, bounds_of};
-ghost use Rattle.ssr_standing.specs.Standing.{stands};
+ghost use Rattle.ssr_standing.specs.Expansions.{stands_in};
 ghost use Rattle.ssr_changes.specs.Standing.{alone, falling, not_alone, standing};
 ghost use Rattle.ssr_changes.specs.Private.Standing.{IsFitted, change_with};
 
 use ssr_base::TextEdit;
-use ssr_standing::stands;
-use ssr_syntax::{TextRange, Tree};
+use ssr_standing::SearchedFile;
+use ssr_syntax::TextRange;
 use std::alloc::{AllocError, Global};
 
 /// What trying an edit comes to.
@@ -24,19 +24,23 @@ pub(crate) struct Tried {
 
 /// Which changes of a searched text are made. Where it isn't read as before with all of them, each is tried alone, as it is and then
 /// in parentheses, and those that stand alone are tried together.
-pub(crate) fn standing(alloc: Global, tree: &Tree, edit: TextEdit) -> Result<Tried, AllocError>
-    requires { All (FitsText (source_of tree.now)) edit }
-    ensures made { IfOk result (λ answer. answer.edit ≡ standing (stands tree.now) edit) }
-    ensures unread { IfOk result (λ answer. map bounds answer.unread.items ≡ map bounds_of (falling (stands tree.now) edit)) }
+pub(crate) fn standing(
+    alloc: Global,
+    file: &SearchedFile<'_>,
+    edit: TextEdit,
+) -> Result<Tried, AllocError>
+    requires { All (FitsText (source_of file.now.tree.now)) edit }
+    ensures made { IfOk result (λ answer. answer.edit ≡ standing (stands_in file.now.trees.now file.now.number) edit) }
+    ensures unread { IfOk result (λ answer. map bounds answer.unread.items ≡ map bounds_of (falling (stands_in file.now.trees.now file.now.number) edit)) }
 {
-    if stands(alloc, tree, &edit)? {
+    if file.stands(alloc, &edit)? {
         return Ok(Tried {
             edit,
             unread: Vec::new(alloc),
         });
     }
-    let alone = standing_alone(alloc, tree, &edit)?;
-    if stands(alloc, tree, &alone.edit)? {
+    let alone = standing_alone(alloc, file, &edit)?;
+    if file.stands(alloc, &alone.edit)? {
         return Ok(alone);
     }
     Ok(Tried {
@@ -46,15 +50,19 @@ pub(crate) fn standing(alloc: Global, tree: &Tree, edit: TextEdit) -> Result<Tri
 }
 
 /// The changes of an edit that stand alone, and the others.
-fn standing_alone(alloc: Global, tree: &Tree, edit: &TextEdit) -> Result<Tried, AllocError>
-    requires { All (FitsText (source_of tree.now)) edit.now }
-    ensures made { IfOk result (λ answer. answer.edit ≡ alone (stands tree.now) edit.now) }
-    ensures unread { IfOk result (λ answer. map bounds answer.unread.items ≡ map bounds_of (not_alone (stands tree.now) edit.now)) }
+fn standing_alone(
+    alloc: Global,
+    file: &SearchedFile<'_>,
+    edit: &TextEdit,
+) -> Result<Tried, AllocError>
+    requires { All (FitsText (source_of file.now.tree.now)) edit.now }
+    ensures made { IfOk result (λ answer. answer.edit ≡ alone (stands_in file.now.trees.now file.now.number) edit.now) }
+    ensures unread { IfOk result (λ answer. map bounds answer.unread.items ≡ map bounds_of (not_alone (stands_in file.now.trees.now file.now.number) edit.now)) }
 {
     let mut made = Vec::new(alloc);
     let mut unread = Vec::new(alloc);
     for (range, text) in edit.iter().as_slice() {
-        match fitted(alloc, tree, *range, text.as_str())? {
+        match fitted(alloc, file, *range, text.as_str())? {
             Some(text) => made.push((*range, text))?,
             None => unread.push(*range)?,
         }
@@ -68,31 +76,36 @@ fn standing_alone(alloc: Global, tree: &Tree, edit: &TextEdit) -> Result<Tried, 
 /// The text of a change as it stands alone, if it does: as it is, or else in parentheses.
 fn fitted(
     alloc: Global,
-    tree: &Tree,
+    file: &SearchedFile<'_>,
     range: TextRange,
     text: &str,
 ) -> Result<Option<String>, AllocError>
     requires order { range.start ≤ range.end }
-    requires fits { FitsText (source_of tree.now) (change_with range text.now) }
-    ensures { IfOk result (λ fitted. IsFitted (stands tree.now) (change_with range text.now) (option_map string_bytes fitted)) }
+    requires fits { FitsText (source_of file.now.tree.now) (change_with range text.now) }
+    ensures { IfOk result (λ fitted. IsFitted (stands_in file.now.trees.now file.now.number) (change_with range text.now) (option_map string_bytes fitted)) }
 {
-    if stands_with(alloc, tree, range, text)? {
+    if stands_with(alloc, file, range, text)? {
         return Ok(Some(String::from_str(alloc, text)?));
     }
     let wrapped = format!(in alloc; "({text})")?;
-    if stands_with(alloc, tree, range, wrapped.as_str())? {
+    if stands_with(alloc, file, range, wrapped.as_str())? {
         return Ok(Some(wrapped));
     }
     Ok(None)
 }
 
 /// Whether one change stands.
-fn stands_with(alloc: Global, tree: &Tree, range: TextRange, text: &str) -> Result<bool, AllocError>
+fn stands_with(
+    alloc: Global,
+    file: &SearchedFile<'_>,
+    range: TextRange,
+    text: &str,
+) -> Result<bool, AllocError>
     requires order { range.start ≤ range.end }
-    requires fits { FitsText (source_of tree.now) (change_with range text.now) }
-    ensures { IfOk result (λ answer. answer ≡ stands tree.now (change_with range text.now ∷ [])) }
+    requires fits { FitsText (source_of file.now.tree.now) (change_with range text.now) }
+    ensures { IfOk result (λ answer. answer ≡ stands_in file.now.trees.now file.now.number (change_with range text.now ∷ [])) }
 {
-    stands(alloc, tree, &single(alloc, range, text)?)
+    file.stands(alloc, &single(alloc, range, text)?)
 }
 
 /// The edit that makes one change.

@@ -3,3 +3,5 @@ mod Siblings
 mod Outlines
 mod Places
 mod Standings
+mod Spelled
+mod Calls

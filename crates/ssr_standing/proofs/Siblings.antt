@@ -14,42 +14,42 @@ use Rattle.ssr_syntax_tree.proofs.Shared.{node_is, length-nodes_of}
 use Rattle.ssr_base_trees.specs.Origins.{Span, span_of}
 use Rattle.ssr_standing.specs.declared.marks.Mark.{Mark as Stored}
 use Rattle.ssr_standing.specs.declared.marks.Mark.TheVariants as stored
-use Rattle.ssr_standing.specs.Around.{Mark, node_mark, around, hole_of, is_trivia_part, marks_behind, marks_of, outlined}
+use Rattle.ssr_standing.specs.Around.{Mark, node_mark, around, hole_of, holds_tokens, is_trivia_part, marks_behind, marks_of, outlined}
 use Rattle.ssr_standing.specs.Private.Marks.{Adds, IsMarkOf, shown}
 
-module _ (places : List Span) (tree : Syntax) where
+module _ (places : List Span) (tree : Syntax) (joined : Bool) where
   -- white space or a comment is passed
   pub trivia_passed : (before : Option ℕ) (part : Part) (rest : List Part) → is_trivia_part part ≡ true
-      → marks_behind places tree before (part ∷ rest) ≡ marks_behind places tree before rest
+      → marks_behind places tree joined before (part ∷ rest) ≡ marks_behind places tree joined before rest
   trivia_passed before part rest e = rw e refl
 
   -- any other part has its marks
   pub part_marked : (before : Option ℕ) (part : Part) (rest : List Part) → is_trivia_part part ≡ false
-      → marks_behind places tree before (part ∷ rest)
-      ≡ marks_of before (hole_of places tree part) part ++ marks_behind places tree (hole_of places tree part) rest
+      → marks_behind places tree joined before (part ∷ rest)
+      ≡ marks_of joined before (hole_of places tree part) part ++ marks_behind places tree joined (hole_of places tree part) rest
   part_marked before part rest e = rw e refl
 
   -- what is stored and what is left say the same behind a part that is passed
   pub behind_trivia : (front whole : List Mark) (before : Option ℕ) (child : Element) (left behind : List Element)
       → left ≡ child ∷ behind → is_trivia_part (part_of tree child) ≡ true
-      → front ++ marks_behind places tree before (map (part_of tree) left) ≡ whole
-      → front ++ marks_behind places tree before (map (part_of tree) behind) ≡ whole
+      → front ++ marks_behind places tree joined before (map (part_of tree) left) ≡ whole
+      → front ++ marks_behind places tree joined before (map (part_of tree) behind) ≡ whole
   behind_trivia front whole before child left behind steps trivia so_far =
       ap (λ marks. front ++ marks) (sym (trivia_passed before (part_of tree child) (map (part_of tree) behind) trivia))
-      ∙ ap (λ (es : List Element). front ++ marks_behind places tree before (map (part_of tree) es)) (sym steps) ∙ so_far
+      ∙ ap (λ (es : List Element). front ++ marks_behind places tree joined before (map (part_of tree) es)) (sym steps) ∙ so_far
 
   -- behind one that has marks
   pub behind_part : (front new whole : List Mark) (before hole : Option ℕ) (child : Element) (left behind : List Element)
       → left ≡ child ∷ behind → is_trivia_part (part_of tree child) ≡ false → hole ≡ hole_of places tree (part_of tree child)
-      → new ≡ front ++ marks_of before hole (part_of tree child)
-      → front ++ marks_behind places tree before (map (part_of tree) left) ≡ whole
-      → new ++ marks_behind places tree hole (map (part_of tree) behind) ≡ whole
+      → new ≡ front ++ marks_of joined before hole (part_of tree child)
+      → front ++ marks_behind places tree joined before (map (part_of tree) left) ≡ whole
+      → new ++ marks_behind places tree joined hole (map (part_of tree) behind) ≡ whole
   behind_part front new whole before hole child left behind steps solid is more so_far =
-      ap (λ marks. marks ++ marks_behind places tree hole (map (part_of tree) behind)) more
-      ∙ append_assoc front (marks_of before hole (part_of tree child)) (marks_behind places tree hole (map (part_of tree) behind))
-      ∙ ap (λ h. front ++ (marks_of before h (part_of tree child) ++ marks_behind places tree h (map (part_of tree) behind))) is
+      ap (λ marks. marks ++ marks_behind places tree joined hole (map (part_of tree) behind)) more
+      ∙ append_assoc front (marks_of joined before hole (part_of tree child)) (marks_behind places tree joined hole (map (part_of tree) behind))
+      ∙ ap (λ h. front ++ (marks_of joined before h (part_of tree child) ++ marks_behind places tree joined h (map (part_of tree) behind))) is
       ∙ ap (λ marks. front ++ marks) (sym (part_marked before (part_of tree child) (map (part_of tree) behind) solid))
-      ∙ ap (λ (es : List Element). front ++ marks_behind places tree before (map (part_of tree) es)) (sym steps) ∙ so_far
+      ∙ ap (λ (es : List Element). front ++ marks_behind places tree joined before (map (part_of tree) es)) (sym steps) ∙ so_far
 
 -- no place, where none is told
 pub none_told : (hole : Option ℕ) (told : Bool) → told ≡ is_some hole → told ≡ false → hole ≡ None
@@ -62,14 +62,15 @@ on_ok (Ok v) f h = f h
 on_ok (Err e) f h = h
 
 -- the marks of a node that lies in no place
-pub node_added : (places : List Span) (tree : Syntax) (node : Node) (kind : SyntaxKind) (old pushed new : List Stored)
-    → hole_of places tree (node_part node) ≡ None → kind ≡ node.kind → pushed ≡ old ++ stored.Node kind ∷ []
-    → Adds tree (marks_behind places tree None (parts_of node)) pushed new → Adds tree (outlined places tree node) old new
-node_added places tree node kind old pushed new none is more added =
+pub node_added : (places : List Span) (tree : Syntax) (node : Node) (kind : SyntaxKind) (joined : Bool) (old pushed new : List Stored)
+    → hole_of places tree (node_part node) ≡ None → kind ≡ node.kind → joined ≡ holds_tokens node.kind → pushed ≡ old ++ stored.Node kind ∷ []
+    → Adds tree (marks_behind places tree joined None (parts_of node)) pushed new → Adds tree (outlined places tree node) old new
+node_added places tree node kind joined old pushed new none is same more adds =
     let front : map (shown tree) pushed ≡ map (shown tree) old ++ node_mark node.kind ∷ [] =
     ap (map (shown tree)) more ∙ map-append (shown tree) old (stored.Node kind ∷ [])
     ∙ ap (λ (k : SyntaxKind). map (shown tree) old ++ node_mark k ∷ []) is in
-    let behind = marks_behind places tree None (parts_of node) in
+    let behind = marks_behind places tree (holds_tokens node.kind) None (parts_of node) in
+    let added : Adds tree behind pushed new = subst (λ (j : Bool). Adds tree (marks_behind places tree j None (parts_of node)) pushed new) same adds in
     record {
       marks =
           added.marks ∙ ap (λ (marks : List Mark). marks ++ behind) front

@@ -3,6 +3,7 @@ use Rattle.std.specs.Prelude.{ℕ, ◌+◌, ◌==◌, ◌&&◌, nat_lt, nat_le, 
 use Rattle.std.specs.Option.{option_map_or}
 use Rattle.std.specs.Cmp.Lexicographic.{pointwise}
 use Rattle.ssr_syntax_kinds.specs.declared.kinds.SyntaxKind.{SyntaxKind}
+use Rattle.ssr_syntax_kinds.specs.declared.kinds.SyntaxKind.TheVariants as k
 use Rattle.ssr_syntax_kinds.specs.Kinds.{is_trivia, same_kind}
 use Rattle.ssr_syntax_tree.specs.Syntax.{Token, Syntax, same_token}
 use Rattle.ssr_syntax_tree.specs.Places.{Node, Part, token_part, node_part, nodes_of, parts_of, offset_of, start_of, end_of}
@@ -49,23 +50,30 @@ kept (node_part node) = child_mark
 abbrev pub is_number : ℕ → Option ℕ → Bool
 is_number n before = option_map_or (nat_eq n) before false
 
--- The mark of a part that lies in this place, behind one that lies in another, if they do: siblings in one place are one hole.
-abbrev pub marks_of : Option ℕ → Option ℕ → Part → List Mark
-marks_of before None part = kept part ∷ []
-marks_of before (Some n) part = if is_number n before then [] else hole_mark n ∷ []
+-- The mark of a part that lies in this place, behind one that lies in another, if they do. Siblings in one place are holes of their
+-- own, or, where they are joined, one hole.
+abbrev pub marks_of : Bool → Option ℕ → Option ℕ → Part → List Mark
+marks_of joined before None part = kept part ∷ []
+marks_of joined before (Some n) part = if joined && is_number n before then [] else hole_mark n ∷ []
 
 -- the marks of siblings behind one that lies in a place, if it does; white space and comments have none
-abbrev pub marks_behind : List Span → Syntax → Option ℕ → List Part → List Mark
-marks_behind places tree before [] = []
-marks_behind places tree before (part ∷ rest) =
+abbrev pub marks_behind : List Span → Syntax → Bool → Option ℕ → List Part → List Mark
+marks_behind places tree joined before [] = []
+marks_behind places tree joined before (part ∷ rest) =
     if is_trivia_part part
-    then marks_behind places tree before rest
-    else marks_of before (hole_of places tree part) part ++ marks_behind places tree (hole_of places tree part) rest
+    then marks_behind places tree joined before rest
+    else marks_of joined before (hole_of places tree part) part ++ marks_behind places tree joined (hole_of places tree part) rest
+
+-- a macro's brackets hold tokens, of which many may stand for one
+abbrev pub holds_tokens : SyntaxKind → Bool
+holds_tokens kind = same_kind kind k.TOKEN_TREE
 
 -- a node that lies in no place, and its children
 abbrev pub outlined : List Span → Syntax → Node → List Mark
 outlined places tree node =
-    option_map_or (λ _. []) (hole_of places tree (node_part node)) (node_mark node.kind ∷ marks_behind places tree None (parts_of node))
+    option_map_or (λ _. [])
+    (hole_of places tree (node_part node))
+    (node_mark node.kind ∷ marks_behind places tree (holds_tokens node.kind) None (parts_of node))
 
 -- The outline of a tree around places: its nodes that lie in none of them, in order, each with its children.
 unfoldable pub around : Syntax → List Span → List Mark

@@ -1,4 +1,5 @@
 pub mod Around
 pub mod Ranges
 pub mod Standing
+pub mod Expansions
 pub mod Private

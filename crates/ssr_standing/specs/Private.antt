@@ -1,3 +1,5 @@
 -- Words of private functions. No public clause cites them, and no reader of those has to believe them.
 pub mod Holes
 pub mod Marks
+pub mod Spelling
+pub mod Expansions

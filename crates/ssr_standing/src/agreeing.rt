@@ -9,8 +9,9 @@ use ssr_syntax_tree::Tree;
 use std::alloc::{AllocError, Global};
 
 /// Whether two trees are the same around the places of their texts that are replaced, in bytes: those of the old text, and beside
-/// each the place of the new text that has what was written for it. White space and comments don't count. What lies in a place is
-/// a hole, be it one part of the tree or several side by side. What lies partly in a place is kept.
+/// each the place of the new text that has what was written for it. White space and comments don't count. Each part of the tree that
+/// lies in a place is a hole, so one part stands for one. In a macro's brackets, which hold tokens, several side by side are one hole.
+/// What lies partly in a place is kept.
 ///
 /// A place that only white space or comments are written to has no hole in the new tree, so the trees differ.
 pub fn agree(

@@ -21,7 +21,7 @@ pub(crate) struct Holes<'a> {
 }
 
 /// How many places are passed at a byte, where so many are known to be.
-fn passed_from(places: &[TextRange], known: usize, byte: u32) -> usize
+pub(crate) fn passed_from(places: &[TextRange], known: usize, byte: u32) -> usize
     requires { known + passed (drop known (map span_of places.now)) byte ≡ passed (map span_of places.now) byte }
     ensures { result ≡ passed (map span_of places.now) byte }
 {
@@ -33,6 +33,19 @@ fn passed_from(places: &[TextRange], known: usize, byte: u32) -> usize
         count += 1;
     }
     count
+}
+
+/// The number of the place in which the bytes of a range lie, at whose beginning so many are passed.
+pub(crate) fn hole_behind(places: &[TextRange], number: usize, range: TextRange) -> Option<usize>
+    requires { number ≡ passed (map span_of places.now) range.start }
+    ensures { result ≡ hole_at (map span_of places.now) range.start range.end }
+{
+    let place = places.get(number)?;
+    if place.start <= range.start && range.end <= place.end {
+        Some(number)
+    } else {
+        None
+    }
 }
 
 /// How many places are passed where each token begins, and where the text ends.
@@ -84,13 +97,7 @@ impl<'a> Holes<'a> {
         requires start { range.start ≡ offset_of self.now.tree.now first }
         ensures { result ≡ hole_at (map span_of self.now.places.now) range.start range.end }
     {
-        let number = self.passed[first as usize];
-        let place = self.places.get(number)?;
-        if place.start <= range.start && range.end <= place.end {
-            Some(number)
-        } else {
-            None
-        }
+        hole_behind(self.places, self.passed[first as usize], range)
     }
 
     /// The number of the place in which a part of the tree lies as a whole.

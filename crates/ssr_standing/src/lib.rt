@@ -1,13 +1,17 @@
 //! Whether what is written into a text groups as what stood there did: outside of the places that are replaced, the tree of the new
-//! text is that of the old one.
+//! text is that of the old one, and so are the trees of what calls of macros stand for.
 #![tactic(auto)]
 
 mod agreeing;
+mod expansions;
 mod holes;
 mod marks;
+mod passing;
 mod ranges;
+mod spelling;
 mod standing;
 
 pub use agreeing::agree;
+pub use expansions::SearchedFile;
 pub use ranges::{new_ranges, old_ranges};
 pub use standing::stands;

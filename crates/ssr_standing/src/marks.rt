@@ -45,25 +45,37 @@ fn kept(tree: &Tree, part: Element) -> Mark
     }
 }
 
-/// The mark of a part that lies in a place, if it does, behind one that lies in another, if it does.
-fn mark_of(tree: &Tree, before: Option<usize>, hole: Option<usize>, part: Element) -> Option<Mark>
+/// The mark of a part that lies in a place, if it does, behind one that lies in another, if it does. Those that are joined have one
+/// mark for their place.
+fn mark_of(
+    tree: &Tree,
+    joined: bool,
+    before: Option<usize>,
+    hole: Option<usize>,
+    part: Element,
+) -> Option<Mark>
     requires { HasElement tree.now part }
-    ensures shown { map (shown tree.now) (option_to_list result) ≡ marks_of before hole (part_of tree.now part) }
+    ensures shown { map (shown tree.now) (option_to_list result) ≡ marks_of joined before hole (part_of tree.now part) }
     ensures had { IfSome result (IsMarkOf tree.now) }
 {
     let Some(number) = hole else {
         return Some(kept(tree, part));
     };
-    if before == Some(number) {
+    if joined && before == Some(number) {
         return None;
     }
     Some(Mark::Hole(number))
 }
 
-/// Adds the marks of a node's children.
-fn add_children(holes: &Holes<'_>, node: NodeNo, marks: &mut Vec<Mark>) -> Result<(), AllocError>
+/// Adds the marks of a node's children, of which those in one place may be joined.
+fn add_children(
+    holes: &Holes<'_>,
+    node: NodeNo,
+    joined: bool,
+    marks: &mut Vec<Mark>,
+) -> Result<(), AllocError>
     requires { HasNode holes.now.tree.now node.0 }
-    ensures { OnOk result (Adds holes.now.tree.now (marks_behind (map span_of holes.now.places.now) holes.now.tree.now None (parts_of (node_of holes.now.tree.now node.0))) marks.old.items marks.new.items) }
+    ensures { OnOk result (Adds holes.now.tree.now (marks_behind (map span_of holes.now.places.now) holes.now.tree.now joined None (parts_of (node_of holes.now.tree.now node.0))) marks.old.items marks.new.items) }
 {
     let mut before = None;
     for child in holes.tree().children(node) {
@@ -71,7 +83,7 @@ fn add_children(holes: &Holes<'_>, node: NodeNo, marks: &mut Vec<Mark>) -> Resul
             continue;
         }
         let hole = holes.hole_of(child);
-        if let Some(mark) = mark_of(holes.tree(), before, hole, child) {
+        if let Some(mark) = mark_of(holes.tree(), joined, before, hole, child) {
             marks.push(mark)?;
         }
         before = hole;
@@ -87,8 +99,9 @@ fn add_node(holes: &Holes<'_>, node: NodeNo, marks: &mut Vec<Mark>) -> Result<()
     if holes.hole_of(Element::Node(node)).is_some() {
         return Ok(());
     }
-    marks.push(Mark::Node(holes.tree().kind(node)))?;
-    add_children(holes, node, marks)
+    let kind = holes.tree().kind(node);
+    marks.push(Mark::Node(kind))?;
+    add_children(holes, node, kind.is(SyntaxKind::TOKEN_TREE), marks)
 }
 
 /// Whether two marks are the same: of tokens their kinds and their texts count.

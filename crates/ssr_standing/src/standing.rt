@@ -41,7 +41,7 @@ fn read_with(alloc: Global, tree: &Tree, edit: &TextEdit) -> Result<Option<Tree>
 /// Whether an edit of a tree's text stands: the text is read with it made, and groups as it did. The new tree is the old one around
 /// the changes, as `agree` says. So `2 * 7` doesn't stand as `2 * 3 + 4`, and `f(7)` stands as `f(3 + 4)`.
 ///
-/// What stands in a macro's brackets are tokens for it, as the trees have them.
+/// What stands in a macro's brackets are tokens for it, as the trees have them: `SearchedFile::stands` looks at what they stand for.
 pub fn stands(alloc: Global, tree: &Tree, edit: &TextEdit) -> Result<bool, AllocError>
     requires { All (FitsText (source_of tree.now)) edit.now }
     ensures { IfOk result (λ answer. answer ≡ stands tree.now edit.now) }

@@ -7,7 +7,7 @@ use Rattle.ssr_base_trees.specs.Changes.{FitsText, replaced}
 use Rattle.ssr_base_trees.specs.Workspace.{Workspace, tree_of}
 use Rattle.ssr_set_aside.specs.Sparing.{spared, told, touches_aside}
 use Rattle.ssr_changes.specs.declared.changing.FileChange.{FileChange}
-use Rattle.ssr_standing.specs.Standing.{stands}
+use Rattle.ssr_standing.specs.Expansions.{stands_in}
 use Rattle.ssr_changes.proofs.FileLists.{none_there, tree_there}
 use Rattle.ssr_changes.proofs.InFiles.{change_is, fits_in}
 use Rattle.ssr_changes.proofs.Standings.{fits_standing}
@@ -42,7 +42,7 @@ unreachable-requires-in-Err-Range c =
     c.in_ok-edit.ensures.fits there.text (record { tree = c.requires.fits.0; aside = there.aside; reaches = there.reaches; unsearched = there.unsearched }) (sym c.reaches.ensures)
     (c.file-there.ensures.searched c.requires.fits.0 c.requires.fits.1) c.requires.fits.2 in
     let made : All (FitsText there.text) c.in_ok-edit-2.field-0.edit =
-    subst (All (FitsText there.text)) (sym c.in_ok-edit-2.ensures.made) (fits_standing (stands c.in-Some.tree.now) left there.text fit) in
+    subst (All (FitsText there.text)) (sym c.in_ok-edit-2.ensures.made) (fits_standing (stands_in c.trees.result.now c.args.file) left there.text fit) in
     (rw c.in-Err-Range.field-0-is at c.in-Err-Range.ensures).answer (subst (λ (text : List ℕ). All (FitsText text) c.in_ok-edit-2.field-0.edit) (sym c.text.ensures) made)
 
 pub returns-clause-change : goal.returns-clause-change
@@ -50,15 +50,11 @@ returns-clause-change c =
     let space = c.args.files.now.workspace in
     let n = c.args.file in
     let there = c.file-there.result.now in
-    let tree = c.in-Some.tree.now in
-    let less = slice_get_within space.files n c.requires.fits.0 c.requires.fits.1 in
-    let here : slice_get space.files n ≡ Some tree =
-    tree_there space n tree less (c.in-Some.ensures ∙ ap (λ (w : Workspace). tree_of w n) c.workspace.ensures.workspace) in
     let all : FileChange =
     record { file = n; edit = c.in_ok-edit-2.field-0.edit; new = c.in-Ok.new; told = c.in_ok-edit.field-0.told; unread = c.in_ok-edit-2.field-0.unread } in (
       there,
       c.file-there.ensures.there,
-      change_is space n there tree c.args.edit c.in_ok-edit.field-0.edit all here refl
+      change_is space c.trees.result.now n there c.args.edit c.in_ok-edit.field-0.edit all (c.trees.ensures.same ∙ c.workspace.ensures.workspace) refl
           (c.in_ok-edit.ensures.edit ∙ ap (λ reaches. spared reaches c.args.edit) c.reaches.ensures) c.in_ok-edit-2.ensures.made
           (c.in-Ok.ensures.text ∙ ap (λ (text : List ℕ). replaced text 0 (length text) c.in_ok-edit-2.field-0.edit) c.text.ensures)
           (c.in_ok-edit.ensures.told ∙ ap (λ reaches. told reaches c.args.edit) c.reaches.ensures) c.in_ok-edit-2.ensures.unread,
@@ -74,4 +70,4 @@ returns-clause-fits c =
     c.in_ok-edit.ensures.fits there.text (record { tree = c.requires.fits.0; aside = there.aside; reaches = there.reaches; unsearched = there.unsearched }) (sym c.reaches.ensures)
     (c.file-there.ensures.searched c.requires.fits.0 c.requires.fits.1) c.requires.fits.2 in
     fits_in c.args.files.now.files c.args.file there all refl c.file-there.ensures.there
-    (subst (All (FitsText there.text)) (sym c.in_ok-edit-2.ensures.made) (fits_standing (stands c.in-Some.tree.now) left there.text fit))
+    (subst (All (FitsText there.text)) (sym c.in_ok-edit-2.ensures.made) (fits_standing (stands_in c.trees.result.now c.args.file) left there.text fit))

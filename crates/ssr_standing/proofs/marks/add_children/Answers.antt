@@ -22,8 +22,8 @@ loop-child-init c =
     c.into_iter-child-iterator.ensures.into_iter_gives ∙ c.children-child-items.ensures.elements
     ∙ ap (λ (s : Syntax). elements_of (node_of s c.args.node.0)) c.tree.ensures in
     record {
-      so_far = ap (λ (es : List Element). front ++ marks_behind places tree None (map (part_of tree) es)) are
-          ∙ ap (λ (ps : List Part). front ++ marks_behind places tree None ps) (parts_of-elements_of tree c.args.node.0 c.requires);
+      so_far = ap (λ (es : List Element). front ++ marks_behind places tree c.args.joined None (map (part_of tree) es)) are
+          ∙ ap (λ (ps : List Part). front ++ marks_behind places tree c.args.joined None ps) (parts_of-elements_of tree c.args.node.0 c.requires);
       had = λ h. h;
       left = subst (All (HasElement tree)) (sym are) (elements_had tree c.args.node.0 c.requires);
     }
@@ -35,7 +35,7 @@ loop-child-preserved-then-is_trivia c =
     let trivia : is_trivia_part (part_of tree c.in-Some.child) ≡ true =
     ap (λ (s : Syntax). is_trivia_part (part_of s c.in-Some.child)) (sym c.tree-in-loop-child.ensures) ∙ sym c.is_trivia.ensures ∙ c.if-is_trivia.true in
     record {
-      so_far = behind_trivia places tree (map (shown tree) c.loop-child.marks.items) _ c.loop-child.before c.in-Some.child
+      so_far = behind_trivia places tree c.args.joined (map (shown tree) c.loop-child.marks.items) _ c.loop-child.before c.in-Some.child
           c.loop-child.child-iterator c.next.new.self c.in-Some.ensures.steps trivia c.loop-child.invariant.so_far;
       had = c.loop-child.invariant.had;
       left = All-tail (HasElement tree) c.in-Some.child c.next.new.self (subst (All (HasElement tree)) c.in-Some.ensures.steps c.loop-child.invariant.left);
@@ -50,13 +50,13 @@ loop-child-preserved-in_ok-push c =
     let front : List Mark = map (shown tree) c.loop-child.marks.items in
     let solid : is_trivia_part (part_of tree child) ≡ false =
     ap (λ (s : Syntax). is_trivia_part (part_of s child)) (sym c.tree-in-loop-child.ensures) ∙ sym c.is_trivia.ensures ∙ c.if-is_trivia.false in
-    let marked : map (shown tree) (mark ∷ []) ≡ marks_of c.loop-child.before c.hole_of-hole.result (part_of tree child) =
-    subst (λ (s : Syntax). map (shown s) (mark ∷ []) ≡ marks_of c.loop-child.before c.hole_of-hole.result (part_of s child))
+    let marked : map (shown tree) (mark ∷ []) ≡ marks_of c.args.joined c.loop-child.before c.hole_of-hole.result (part_of tree child) =
+    subst (λ (s : Syntax). map (shown s) (mark ∷ []) ≡ marks_of c.args.joined c.loop-child.before c.hole_of-hole.result (part_of s child))
     c.tree-in-loop-child-2.ensures c.in-Some-mark_of.ensures.shown in
     let had : IsMarkOf tree mark =
     subst (λ (s : Syntax). IsMarkOf s mark) c.tree-in-loop-child-2.ensures c.in-Some-mark_of.ensures.had in
     record {
-      so_far = behind_part places tree front (map (shown tree) c.push.new.self.items) _ c.loop-child.before c.hole_of-hole.result child
+      so_far = behind_part places tree c.args.joined front (map (shown tree) c.push.new.self.items) _ c.loop-child.before c.hole_of-hole.result child
           c.loop-child.child-iterator c.next.new.self c.in-Some.ensures.steps solid c.hole_of-hole.ensures
           (ap (map (shown tree)) c.in_ok-push.ensures.items ∙ map-append (shown tree) c.loop-child.marks.items (mark ∷ [])
           ∙ ap (λ (marks : List Mark). front ++ marks) marked)
@@ -74,13 +74,13 @@ loop-child-preserved c =
     let front : List Mark = map (shown tree) c.loop-child.marks.items in
     let solid : is_trivia_part (part_of tree child) ≡ false =
     ap (λ (s : Syntax). is_trivia_part (part_of s child)) (sym c.tree-in-loop-child.ensures) ∙ sym c.is_trivia.ensures ∙ c.if-is_trivia.false in
-    let marked : map (shown tree) (option_to_list c.mark_of.result) ≡ marks_of c.loop-child.before c.hole_of-hole.result (part_of tree child) =
-    subst (λ (s : Syntax). map (shown s) (option_to_list c.mark_of.result) ≡ marks_of c.loop-child.before c.hole_of-hole.result (part_of s child))
+    let marked : map (shown tree) (option_to_list c.mark_of.result) ≡ marks_of c.args.joined c.loop-child.before c.hole_of-hole.result (part_of tree child) =
+    subst (λ (s : Syntax). map (shown s) (option_to_list c.mark_of.result) ≡ marks_of c.args.joined c.loop-child.before c.hole_of-hole.result (part_of s child))
     c.tree-in-loop-child-2.ensures c.mark_of.ensures.shown in
-    let none : [] ≡ marks_of c.loop-child.before c.hole_of-hole.result (part_of tree child) =
+    let none : [] ≡ marks_of c.args.joined c.loop-child.before c.hole_of-hole.result (part_of tree child) =
     ap (λ (found : Option Stored). map (shown tree) (option_to_list found)) (sym c.in_default.is) ∙ marked in
     record {
-      so_far = behind_part places tree front front _ c.loop-child.before c.hole_of-hole.result child
+      so_far = behind_part places tree c.args.joined front front _ c.loop-child.before c.hole_of-hole.result child
           c.loop-child.child-iterator c.next.new.self c.in-Some.ensures.steps solid c.hole_of-hole.ensures
           (sym (append-nil front) ∙ ap (λ (marks : List Mark). front ++ marks) none)
           c.loop-child.invariant.so_far;
@@ -95,7 +95,7 @@ returns c =
     let front : List Mark = map (shown tree) c.loop-child.marks.items in
     record {
       marks = sym (append-nil front)
-          ∙ ap (λ (es : List Element). front ++ marks_behind places tree c.loop-child.before (map (part_of tree) es)) (sym c.in-None.ensures.steps.0)
+          ∙ ap (λ (es : List Element). front ++ marks_behind places tree c.args.joined c.loop-child.before (map (part_of tree) es)) (sym c.in-None.ensures.steps.0)
           ∙ c.loop-child.invariant.so_far;
       had = c.loop-child.invariant.had;
     }

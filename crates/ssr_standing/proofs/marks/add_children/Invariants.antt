@@ -11,8 +11,8 @@ invariant-loop-child l =
     let tree = l.holes.tree.now in
     let places = map span_of l.holes.places.now in
     record {
-      so_far : map (shown tree) l.marks.items ++ marks_behind places tree l.before (map (part_of tree) l.child-iterator)
-          ≡ map (shown tree) l.initial.marks.items ++ marks_behind places tree None (parts_of (node_of tree l.fn.node.0));
+      so_far : map (shown tree) l.marks.items ++ marks_behind places tree l.joined l.before (map (part_of tree) l.child-iterator)
+          ≡ map (shown tree) l.initial.marks.items ++ marks_behind places tree l.fn.joined None (parts_of (node_of tree l.fn.node.0));
       had : All (IsMarkOf tree) l.initial.marks.items → All (IsMarkOf tree) l.marks.items;
       left : All (HasElement tree) l.child-iterator;
     }

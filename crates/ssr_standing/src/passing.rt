@@ -1,0 +1,87 @@
+//! In which of the places that are replaced bytes lie that are asked for one after the other.
+ghost use Rattle.std.specs.Prelude.{◌≡◌, map};
+ghost use Rattle.ssr_base_trees.specs.Origins.{plain_origin, span_of};
+ghost use Rattle.ssr_standing.specs.Around.{passed};
+ghost use Rattle.ssr_standing.specs.Expansions.{change_of, has_change, is_inside};
+
+use crate::holes::{hole_behind, passed_from};
+use ssr_syntax_kinds::TextRange;
+
+/// Places, and how many of them are passed at a byte.
+#[derive(Drop)]
+pub(crate) struct Passing<'a> {
+    places: &'a [TextRange],
+    byte: u32,
+    count: usize,
+    ghost known: { count ≡ passed (map span_of places.now) byte },
+}
+
+/// Whether a call has this place in it, and more.
+fn is_inside(call: TextRange, place: TextRange) -> bool
+    ensures { result ≡ is_inside (span_of call) (span_of place) }
+{
+    call.start <= place.start
+        && place.end <= call.end
+        && !(place.start <= call.start && call.end <= place.end)
+}
+
+impl<'a> Passing<'a> {
+    /// The places, at the beginning of the text.
+    pub(crate) fn new(places: &'a [TextRange]) -> Passing<'a>
+        ensures { result.places.now ≡ places.entry.now }
+    {
+        let count = passed_from(places, 0, 0);
+        Passing {
+            places,
+            byte: 0,
+            count,
+        }
+    }
+
+    /// How many places are passed at a byte. Those in front of the last byte that was asked for are looked at again only where this
+    /// one stands in front of it.
+    fn counted(&self, byte: u32) -> usize
+        ensures { result ≡ passed (map span_of self.now.places.now) byte }
+    {
+        if byte < self.byte {
+            return passed_from(self.places, 0, byte);
+        }
+        passed_from(self.places, self.count, byte)
+    }
+
+    /// The same, and the byte is the last one then.
+    fn passed(&mut self, byte: u32) -> usize
+        ensures count { result ≡ passed (map span_of self.new.places.now) byte }
+        ensures places { self.new.places.now ≡ self.old.places.now }
+    {
+        let count = self.counted(byte);
+        *self = Passing {
+            places: self.places,
+            byte,
+            count,
+        };
+        count
+    }
+
+    /// The number of the place that has the origin of a token.
+    pub(crate) fn change_of(&mut self, origin: Option<TextRange>) -> Option<usize>
+        ensures answer { result ≡ change_of (map span_of self.new.places.now) (plain_origin origin) }
+        ensures places { self.new.places.now ≡ self.old.places.now }
+    {
+        let range = origin?;
+        let number = self.passed(range.start);
+        hole_behind(self.places, number, range)
+    }
+
+    /// Whether a call has one of the places in it, and more.
+    pub(crate) fn has_change(&mut self, call: TextRange) -> bool
+        ensures answer { result ≡ has_change (map span_of self.new.places.now) (span_of call) }
+        ensures places { self.new.places.now ≡ self.old.places.now }
+    {
+        let number = self.passed(call.start);
+        match self.places.get(number) {
+            Some(place) => is_inside(call, *place),
+            None => false,
+        }
+    }
+}
