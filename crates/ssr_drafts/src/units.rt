@@ -9,6 +9,8 @@ use std::alloc::{AllocError, Global};
 #[derive(Clone, Copy, Debug, PartialEq, Eq)]
 pub(crate) enum UnitKind {
     Items,
+    /// Items of a trait, of which functions need no body.
+    Members,
     Statements,
     Arms,
 }
@@ -18,6 +20,7 @@ impl UnitKind {
     pub(crate) fn front(self) -> &'static str {
         match self {
             UnitKind::Items => "use a; ",
+            UnitKind::Members => "trait T { ",
             UnitKind::Statements => "fn f() { ",
             UnitKind::Arms => "fn f() { match x { ",
         }
@@ -27,7 +30,7 @@ impl UnitKind {
     pub(crate) fn back(self) -> &'static str {
         match self {
             UnitKind::Items => "",
-            UnitKind::Statements => " }",
+            UnitKind::Members | UnitKind::Statements => " }",
             UnitKind::Arms => " } }",
         }
     }
@@ -143,7 +146,7 @@ impl Draft<'_> {
         // `=`, `|` and `in` follow the fields of a pattern
         let goes_on = matches!(behind, DOT | QUESTION | ELSE_KW | COMMA | EQ | PIPE | IN_KW);
         match kind {
-            UnitKind::Items => !ends_with_semicolon(head),
+            UnitKind::Items | UnitKind::Members => !ends_with_semicolon(head),
             UnitKind::Statements => {
                 !goes_on && (is_block_like(head) || self.kind_before(place, 1) == BANG)
             }
@@ -179,7 +182,8 @@ impl Draft<'_> {
     ) -> Option<UnitKind> {
         match head {
             STRUCT_KW | ENUM_KW | USE_KW => None,
-            IMPL_KW | TRAIT_KW | MOD_KW | EXTERN_KW => Some(UnitKind::Items),
+            TRAIT_KW => Some(UnitKind::Members),
+            IMPL_KW | MOD_KW | EXTERN_KW => Some(UnitKind::Items),
             _ if self.opens_fields(place) => None,
             _ if control == MATCH_KW => Some(UnitKind::Arms),
             _ => Some(UnitKind::Statements),

@@ -1,14 +1,16 @@
 -- Laws of changes that keep the place of each byte outside of them.
-use Rattle.std.proofs.Common.{◌≡◌, ℕ, ◌≤◌, Bool, true, List, [], ◌∷◌, Ok, map, ap, subst, sym, ◌∙◌}
-use Rattle.std.specs.Prelude.{IsTrue}
-use Rattle.std.specs.List.{All, list_all}
+use Rattle.std.proofs.Common.{arith, ◌≡◌, ℕ, ◌≤◌, Bool, true, false, List, [], ◌∷◌, Ok, length, map, drop, subst, sym, ◌∙◌}
+use Rattle.std.specs.Prelude.{◌==◌}
+use Rattle.std.specs.List.{All}
+use Rattle.std.proofs.lemmas.Bool.{eqb-true}
+use Rattle.std.proofs.lemmas.List.{drop_all}
 use Rattle.std.proofs.lemmas.List.Elements.{All-cons, All-nil}
 use Rattle.ssr_base_trees.specs.Changes.{Change, ChangesInOrder, FitsText, IsReplaced, same}
 use Rattle.ssr_syntax_kinds.specs.declared.range.TextRange.{TextRange}
 use Rattle.ssr_base_trees.specs.Origins.{Span, span_of}
 use Rattle.ssr_syntax_tree.specs.Syntax.{Syntax, source_of}
 use Rattle.ssr_syntax.specs.Reading as reading
-use Rattle.ssr_set_aside.specs.SetAside.{SetAside, AreCovered, BeginInOrder, Covers, AreBlanked, is_blank, IsRead, IsSetAside, KeepsLength, none, other, one}
+use Rattle.ssr_set_aside.specs.SetAside.{SetAside, AreCovered, BeginInOrder, Covers, AreBlanked, IsBlanked, IsRead, IsSetAside, KeepsLength, none, other, one}
 
 -- the changes from some place on are in order if those from the next one on are
 pub order_from : (at : ℕ) (c : Change) (cs left : List Change) → left ≡ c ∷ cs → at ≤ c.start → c.start ≤ c.end
@@ -31,14 +33,19 @@ begin_from from reach others reaches are h o = rw are (h, o)
 pub all_from : (cs left : List Change) (spans : List Span) → left ≡ cs → AreBlanked cs spans → AreBlanked left spans
 all_from cs left spans is are = subst (λ (left : List Change). AreBlanked left spans) (sym is) are
 
+-- no change is left, and no range
+pub blanked_none : (cs : List Change) (i : ℕ) (left : List TextRange) (b : Bool) → length cs ≤ i → b ≡ (length left == 0) → b ≡ true
+    → AreBlanked (drop i cs) (map span_of left)
+blanked_none cs i [] b h is holds = rw (drop_all i cs h) none
+blanked_none cs i (first ∷ others) b h is holds =
+    let nothing : length (first ∷ others) ≡ 0 = eqb-true (length (first ∷ others)) 0 (sym is ∙ holds) in absurd (omega (arith, nothing))
+
 -- the first change replaces the first range by blanks, or another one does
-pub blanked_from : (c : Change) (cs : List Change) (first : TextRange) (others ranges : List TextRange) (text : List ℕ) (b : Bool)
-    → ranges ≡ first ∷ others → first.start ≡ c.start → first.end ≡ c.end → text ≡ c.text → b ≡ list_all is_blank text → b ≡ true
-    → AreBlanked cs (map span_of others) → AreBlanked (c ∷ cs) (map span_of ranges)
-blanked_from c cs first others ranges text b is start end same blank yes all =
-    let blanks : IsTrue (list_all is_blank c.text) = ap (list_all is_blank) (sym same) ∙ sym blank ∙ yes in
-    let here : AreBlanked (c ∷ cs) (span_of first ∷ map span_of others) = one c cs (span_of first) (map span_of others) (record { start = start; end = end; blank = blanks }) all in
-    rw is here
+pub blanked_from : (c : Change) (cs : List Change) (first : TextRange) (others ranges : List TextRange) → ranges ≡ first ∷ others
+    → IsBlanked (span_of first) c → AreBlanked cs (map span_of others) → AreBlanked (c ∷ cs) (map span_of ranges)
+blanked_from c cs first others ranges are blanked all =
+    let here : AreBlanked (c ∷ cs) (span_of first ∷ map span_of others) = one c cs (span_of first) (map span_of others) blanked all in
+    rw are here
 
 pub blanked_later : (c : Change) (cs : List Change) (spans : List Span) → AreBlanked cs spans → AreBlanked (c ∷ cs) spans
 blanked_later c cs spans all = other c cs spans all

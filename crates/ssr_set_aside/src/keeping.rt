@@ -4,7 +4,7 @@ ghost use Rattle.std.specs.List.{list_all};
 ghost use Rattle.ssr_base_trees.specs.Changes.{Change, ChangesInOrder};
 ghost use Rattle.ssr_base_trees.specs.Applied.{change_of, changes_of};
 ghost use Rattle.ssr_base_trees.specs.Origins.{span_of};
-ghost use Rattle.ssr_set_aside.specs.SetAside.{AreBlanked, AreCovered, BeginInOrder, KeepsLength, is_blank as is_blank_of};
+ghost use Rattle.ssr_set_aside.specs.SetAside.{AreBlanked, AreCovered, BeginInOrder, IsBlanked, KeepsLength, is_blank as is_blank_of};
 
 use ssr_syntax_kinds::TextRange;
 
@@ -59,17 +59,18 @@ pub(crate) fn are_blanked(changes: &[(TextRange, String)], ranges: &[TextRange])
 fn behind_blanked<'a>(ranges: &'a [TextRange], change: &(TextRange, String)) -> &'a [TextRange]
     ensures { (cs : List Change) → AreBlanked cs (map span_of result.now) → AreBlanked (change_of change.now ∷ cs) (map span_of ranges.now) }
 {
-    let (range, text) = change;
     match ranges.split_first() {
-        Some((first, others)) if first.start == range.start && first.end == range.end => {
-            if is_blank(text.as_str()) {
-                others
-            } else {
-                ranges
-            }
-        }
+        Some((first, others)) if leaves_blanks(change, first) => others,
         _ => ranges,
     }
+}
+
+/// Whether a change replaces these bytes, by blanks alone.
+fn leaves_blanks(change: &(TextRange, String), bytes: &TextRange) -> bool
+    ensures { IsTrue result → IsBlanked (span_of bytes.now) (change_of change.now) }
+{
+    let (range, text) = change;
+    bytes.start == range.start && bytes.end == range.end && is_blank(text.as_str())
 }
 
 /// Whether a text has no bytes but blanks and line breaks.

@@ -1,11 +1,13 @@
 -- Whether what calls stand for groups as before, one call after the other.
 use Rattle.std.proofs.Common.{◌≡◌, ◌∙◌, ℕ, zero, suc, ◌+◌, ◌<◌, Bool, true, false, List, length, refl, sym, ap, add-one, inl, inr, arith}
-use Rattle.std.specs.Prelude.{◌&&◌}
+use Rattle.std.specs.Prelude.{◌&&◌, Option, Some, slice_get, if◌then◌else◌}
+use Rattle.std.specs.Option.{option_map_or}
 use Rattle.std.proofs.lemmas.Bool.{cases_eq}
 use Rattle.ssr_syntax_tree.specs.Syntax.{Syntax}
 use Rattle.ssr_base_trees.specs.Changes.{Change}
-use Rattle.ssr_base_trees.specs.Workspace.{Workspace}
-use Rattle.ssr_standing.specs.Expansions.{first_stand, stands_for}
+use Rattle.ssr_base_trees.specs.Workspace.{Workspace, tree_of}
+use Rattle.ssr_standing.specs.Expansions.{as_they_are, both_agree, call_of, first_stand, is_changed, read_with, stands_for, stands_in}
+use Rattle.ssr_standing.specs.Standing.{stands}
 
 and_false : (b : Bool) → (b && false) ≡ false
 and_false true = refl
@@ -29,3 +31,35 @@ module _ (w : Workspace) (n : ℕ) (file : Syntax) (cs : List Change) where
     | inr other ↦
         ap (λ (b : Bool). b && stands_for w n file cs (length w.files + count)) (one_falls i count (omega arith) falls)
   ]
+
+-- by whether something in a call is replaced and by its tree, whether what it stands for groups as before
+abbrev pub told_of : Workspace → Syntax → List Change → ℕ → Bool → Option Syntax → Bool
+told_of w file cs t changed tree =
+    if changed then option_map_or (λ one. both_agree (read_with w (as_they_are file cs) t one) (read_with w cs t one)) tree false else true
+
+module _ (w : Workspace) (n : ℕ) (file : Syntax) (cs : List Change) where
+  -- the two decide
+  pub told_is : (t : ℕ) (changed told : Bool) (tree found : Option Syntax) → changed ≡ option_map_or (is_changed n cs) (call_of w t) false → changed ≡ told
+      → found ≡ tree_of w t → found ≡ tree → told_of w file cs t told tree ≡ stands_for w n file cs t
+  told_is t changed told tree found is e of f =
+      ap (λ (b : Bool). told_of w file cs t b tree) (sym e ∙ is) ∙ ap (told_of w file cs t (option_map_or (is_changed n cs) (call_of w t) false)) (sym f ∙ of)
+
+  -- where nothing is replaced, no tree is looked at
+  pub unchanged_stands : (t : ℕ) (changed : Bool) → changed ≡ option_map_or (is_changed n cs) (call_of w t) false → changed ≡ false
+      → true ≡ stands_for w n file cs t
+  unchanged_stands t changed is e = told_is t changed false (tree_of w t) (tree_of w t) is e refl refl
+
+  -- the file is there
+  at_file : slice_get w.files n ≡ Some file → stands_in w n cs ≡ (stands file cs && first_stand w n file cs (length w.expansions))
+  at_file there = ap (λ (o : Option Syntax). option_map_or (λ one. stands one cs && first_stand w n one cs (length w.expansions)) o false) there
+
+  -- its text doesn't stand
+  pub text_falls : (text_stands : Bool) → slice_get w.files n ≡ Some file → text_stands ≡ stands file cs → text_stands ≡ false → false ≡ stands_in w n cs
+  text_falls text_stands there is e =
+      sym (at_file there ∙ ap (λ (b : Bool). b && first_stand w n file cs (length w.expansions)) (sym is ∙ e))
+
+  -- its text stands, so the calls decide
+  pub calls_decide : (text_stands : Bool) → slice_get w.files n ≡ Some file → text_stands ≡ stands file cs → text_stands ≡ true
+      → first_stand w n file cs (length w.expansions) ≡ stands_in w n cs
+  calls_decide text_stands there is e =
+      sym (at_file there ∙ ap (λ (b : Bool). b && first_stand w n file cs (length w.expansions)) (sym is ∙ e))

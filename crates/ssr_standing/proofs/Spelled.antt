@@ -77,7 +77,8 @@ pub one_token : (w : Workspace) (cs : List Change) (t : ℕ) (tree : Syntax) (s 
     → new ≡ option_map_or (λ k. with_change_at cs k old) change (with_token origin text old)
     → old ≡ with_first w cs t tree s n → new ≡ with_first w cs t tree s (n + 1)
 one_token w cs t tree s n old new text origin change spells from at is so_far =
-    let next : with_first w cs t tree s (n + 1) ≡ with_first w cs t tree s (suc n) = rw add-one refl in
+    let more : n + 1 ≡ suc n = omega arith in
+    let next : with_first w cs t tree s (n + 1) ≡ with_first w cs t tree s (suc n) = ap (λ (k : ℕ). with_first w cs t tree s k) more in
     is
     ∙ ap (λ (c : Option ℕ). option_map_or (λ k. with_change_at cs k old) c (with_token origin text old)) at
     ∙ ap (λ (o : Option Span). with_next cs o text old) from

@@ -232,7 +232,9 @@ impl<'a> Edited<'a> {
         let first = self.file.trees.file_count();
         let mut passing = Passing::new(self.ranges);
         for number in 0..self.file.trees.expansion_count() {
-            if !self.stands_for(alloc, &mut passing, first + number)? {
+            let tree = first + number;
+            let stands = self.stands_for(alloc, &mut passing, tree)?;
+            if !stands {
                 return Ok(false);
             }
         }
@@ -248,7 +250,8 @@ impl<'a> SearchedFile<'a> {
         requires { All (FitsText (source_of self.now.tree.now)) edit.now }
         ensures { IfOk result (λ answer. answer ≡ stands_in self.now.trees.now self.now.number edit.now) }
     {
-        if !stands(alloc, self.tree, edit)? {
+        let text_stands = stands(alloc, self.tree, edit)?;
+        if !text_stands {
             return Ok(false);
         }
         let ranges = old_ranges(alloc, edit)?;

@@ -11,9 +11,9 @@ returns c =
     let tree = c.args.holes.now.tree.now in
     let places : List Span = map span_of c.args.holes.now.places.now in
     let node = node_of tree c.args.node.0 in
-    let kind : c.kind.result ≡ node.kind = c.kind.ensures ∙ ap (λ (s : Syntax). (node_of s c.args.node.0).kind) c.tree.ensures in
+    let kind : c.kind-kind.result ≡ node.kind = c.kind-kind.ensures ∙ ap (λ (s : Syntax). (node_of s c.args.node.0).kind) c.tree.ensures in
     on_ok c.add_children.result
-    (node_added places tree node c.kind.result c.is.result c.args.marks.now.items c.push.new.self.items c.add_children.new.marks.items
+    (node_added places tree node c.kind-kind.result c.is.result c.args.marks.now.items c.push.new.self.items c.add_children.new.marks.items
     (sym c.hole_of.ensures ∙ none_told c.hole_of.result c.is_some.result c.is_some.ensures c.if-is_some.false)
     kind (c.is.ensures.same ∙ ap holds_tokens kind) c.in_ok-push.ensures.items)
     c.add_children.ensures

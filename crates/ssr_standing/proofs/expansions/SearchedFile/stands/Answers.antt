@@ -1,0 +1,26 @@
+use Rattle.std.proofs.Common.{◌∙◌, length, ap, map}
+use Rattle.ssr_base_trees.specs.Origins.{span_of}
+use Rattle.ssr_standing.specs.Expansions.{first_stand, stands_in}
+use Rattle.ssr_standing.proofs.Calls.{calls_decide, text_falls}
+use Rattle.ssr_standing.proofs.Standings.{if_ok_same}
+use Rattle.ssr_standing.proofs.expansions.SearchedFile.stands.Goals as goal
+
+pub returns-then-not-text_stands : goal.returns-then-not-text_stands
+returns-then-not-text_stands c =
+    text_falls c.args.self.now.trees.now c.args.self.now.number c.args.self.now.tree.now c.args.edit.now c.in_ok-text_stands.text_stands
+    c.args.self.now.there c.in_ok-text_stands.ensures (cc)
+
+pub invariant_of-edited : goal.invariant_of-edited
+invariant_of-edited c = record {
+  placed = ap (map span_of) c.deref.ensures.value ∙ c.in_ok-ranges.ensures.ranges;
+  unchanged = c.in_ok-old.ensures;
+}
+
+pub returns : goal.returns
+returns c =
+    let w = c.args.self.now.trees.now in
+    let n = c.args.self.now.number in
+    let file = c.args.self.now.tree.now in
+    let cs = c.args.edit.now in
+    if_ok_same c.all_stand.result (first_stand w n file cs (length w.expansions)) (stands_in w n cs) c.all_stand.ensures
+    (calls_decide w n file cs c.in_ok-text_stands.text_stands c.args.self.now.there c.in_ok-text_stands.ensures (cc))
