@@ -13,4 +13,4 @@ pub use eligible::eligible_paths;
 pub use keys::key_of;
 pub use qualified_calls::qualified_calls_of;
 pub use resolving::resolution;
-pub use used::{Unresolved, used_paths};
+pub use used::{Unresolved, has_to_resolve, used_paths};

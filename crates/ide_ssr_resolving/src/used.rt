@@ -3,7 +3,7 @@ ghost use Rattle.std.specs.Prelude.{◌≡◌, IfErr, IfOk};
 ghost use Rattle.std.specs.List.{list_any};
 ghost use Rattle.ssr_syntax_tree.specs.Places.{HasNode, node_of};
 ghost use Rattle.ide_ssr_resolved_rule.specs.Paths.{qualifying};
-ghost use Rattle.ide_ssr_resolving.specs.Used.{ends_in_self, has_generics, is_whole, is_usable_def, is_usable, used_paths, Answers, HasRefused};
+ghost use Rattle.ide_ssr_resolving.specs.Used.{ends_in_self, has_generics, is_whole, has_to_resolve, is_usable_def, is_usable, used_paths, Answers, HasRefused};
 ghost use Rattle.ide_ssr_resolved_rule.specs.UsedPaths.{HasPaths};
 ghost use Rattle.ide_ssr_resolving.specs.Private.Steps.{path_step, step_of};
 
@@ -101,6 +101,22 @@ fn is_whole(alloc: Global, names: &Names<'_>, tree: &Tree, path: NodeNo) -> Resu
         return Ok(false);
     }
     Ok(!holds_stand_in(names, tree, path))
+}
+
+/// Whether a path has to resolve: it doesn't end in `self`, and resolves as a whole.
+pub fn has_to_resolve(
+    alloc: Global,
+    names: &Names<'_>,
+    tree: &Tree,
+    path: NodeNo,
+) -> Result<bool, AllocError>
+    requires { HasNode tree.now path.0 }
+    ensures { IfOk result (λ has. has ≡ has_to_resolve names.now (node_of tree.now path.0).children) }
+{
+    if ends_in_self(tree, path) {
+        return Ok(false);
+    }
+    is_whole(alloc, names, tree, path)
 }
 
 /// Whether a definition is none of an associated constant, an associated type, and an associated function that doesn't

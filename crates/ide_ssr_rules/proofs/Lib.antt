@@ -15,6 +15,7 @@ mod KindsRead
 mod KindUses
 mod Templates
 mod Patterns
+mod PathPlaces
 mod KindByKind
 mod ResolvedUses
 mod ResolvedTemplates

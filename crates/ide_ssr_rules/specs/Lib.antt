@@ -10,4 +10,5 @@ pub mod RuleCode
 pub mod Uses
 pub mod Patterns
 pub mod Resolved
+pub mod Paths
 pub mod Private

@@ -6,6 +6,7 @@ mod elements;
 mod kinds;
 mod listed;
 mod macro_calls;
+mod paths;
 mod resolved;
 mod rules;
 mod sides;
@@ -14,6 +15,7 @@ mod tokens;
 mod var;
 
 pub use kinds::ParsedRule;
+pub use paths::{PathPlace, RulePath};
 pub use resolved::{resolve_pattern, resolve_rule};
 pub use rules::{ParsedKinds, SsrPattern, SsrRule, pattern_kinds, rule_kinds};
 pub use var::Var;

@@ -11,6 +11,7 @@ ghost use Rattle.ide_ssr_refusals.specs.Refusals.{Answers, AnswersBy, TellsOf, u
 ghost use Rattle.ide_ssr_rules.specs.Rules.{is_placeholder, once, lacking, check_sides, check_uses, check_defined, unconstrained, rule_of, rule_reading, pattern_reading};
 ghost use Rattle.ide_ssr_resolved_rule.specs.Names.{AreNew};
 ghost use Rattle.ide_ssr_rules.specs.Uses.{UsesPlaceholdersOnce};
+ghost use Rattle.ide_ssr_rules.specs.Paths.{told_path, paths_of_kinds};
 ghost use Rattle.ide_ssr_rules.specs.StandIns.{code_of, glued_placeholder, spelled_stand_in};
 ghost use Rattle.ide_ssr_rules.specs.Private.Texts.{IsTextOf};
 
@@ -18,6 +19,7 @@ use crate::elements::Element;
 use crate::kinds::{ParsedRule, some_kind};
 use crate::listed::listed;
 use crate::macro_calls::untested;
+use crate::paths::{RulePath, paths_of_kinds};
 use crate::sides::{side, sides, with_names};
 use crate::stand_ins::{code_of, first_glued, first_name, spelled_stand_in};
 use ide_ssr_refusals::{Refusal, SsrError, Text};
@@ -67,6 +69,15 @@ impl ParsedKinds {
         ensures once { All (AreReadOnce self.names) self.kinds }
     {
         (self.names, self.constraints, self.kinds)
+    }
+
+    /// The paths that have to resolve, kind by kind: under which keys a provider is asked for them, and at which places they
+    /// stand. The path in front of another one is among them, since a provider may be asked for it.
+    pub fn paths(&self, alloc: Global) -> Result<Vec<RulePath>, AllocError>
+        ensures { IfOk result (λ paths. map told_path paths.items ≡ paths_of_kinds self.now.names self.now.kinds) }
+    {
+        let names = Names::of(alloc, &self.names)?;
+        paths_of_kinds(alloc, &names, &self.kinds)
     }
 }
 
