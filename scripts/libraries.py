@@ -5,17 +5,21 @@
 
     scripts/libraries.py --lanes 3 ../lanes ssr_changes
 
-Each lane works in a clone of its own below FOLDER, since `rt` locks the folders of all crates below the one that it builds. What
-they prove later checks take over, in any clone on this machine. With names, those crates and the ones below them are built. A crate is
-begun once all below it are built, and of these the one with the longest chain above it. A line is printed for each crate.
+Each lane works in a clone of its own below FOLDER, since `rt` locks the folders of all crates below the one that it builds. A library
+that is built is handed on to the other lanes and to this repository, by hard links: `rt` takes it in each clone in which the texts are
+the same. With names, those crates and the ones below them are built. A crate is begun once all below it are built, and of these the one
+with the longest chain above it. A line is printed for each crate.
 
 `rt check` of a crate high up does the same in the end. But it first reads all the sources below, which takes minutes and
 gigabytes where no library is built, and it builds one library after the other. Ends with status 1 if a library is not built.
 
-Needs python 3, git and `rt`. The clones keep what was proved, some 200 MB a 1,000 lines; remove FOLDER when it is done with.
+Needs python 3, git and `rt`, and FOLDER on the repository's file system. The clones keep what was proved, some 200 MB a 1,000 lines;
+remove FOLDER when it is done with.
 """
 import argparse
+import fcntl
 import os
+import shutil
 import subprocess
 import sys
 import threading
@@ -109,10 +113,39 @@ def build(name, clone):
     return run.returncode == 0
 
 
-def lane(work, clone):
+def stamp(clone, name):
+    """What the texts are that a crate's library was built of, if there is one."""
+    try:
+        with open(os.path.join(clone, "crates", name, "out", "rlib", "stamp")) as file:
+            return file.read()
+    except OSError:
+        return None
+
+
+def hand_on(name, source, target):
+    """Puts a library that is built in one clone into another one, unless it is there or a run of `rt` works with it."""
+    folder = os.path.join(target, "crates", name)
+    if stamp(target, name) == stamp(source, name):
+        return
+    held = os.open(folder, os.O_RDONLY)
+    try:
+        fcntl.flock(held, fcntl.LOCK_EX | fcntl.LOCK_NB)
+    except BlockingIOError:
+        return
+    else:
+        library = os.path.join(folder, "out", "rlib")
+        shutil.rmtree(library, ignore_errors=True)
+        shutil.copytree(os.path.join(source, "crates", name, "out", "rlib"), library, copy_function=os.link)
+    finally:
+        os.close(held)
+
+
+def lane(work, clone, others):
     while (name := work.next()) is not None:
         start = time.monotonic()
         is_built = build(name, clone)
+        for other in others if is_built else []:
+            hand_on(name, clone, other)
         work.end(name, is_built)
         print("%-24s %s %4d s" % (name, "built" if is_built else "NOT BUILT", time.monotonic() - start), flush=True)
 
@@ -128,7 +161,8 @@ def main():
     clones = [os.path.join(folder, "lane%d" % number) for number in range(options.lanes)]
     for clone in clones:
         subprocess.run(["git", "clone", "-q", ROOT, clone], check=True)
-    lanes = [threading.Thread(target=lane, args=(work, clone)) for clone in clones]
+    all_clones = {ROOT, *clones}
+    lanes = [threading.Thread(target=lane, args=(work, clone, all_clones - {clone})) for clone in clones]
     for one in lanes:
         one.start()
     for one in lanes:
