@@ -11,7 +11,7 @@ use Rattle.cargo_ssr_program.specs.declared.failure.Failure.{Failure}
 use Rattle.cargo_ssr_program.specs.Status.{status_of}
 use Rattle.ssr_streams.specs.Streams.{Taken}
 use Rattle.cargo_ssr_program.specs.Planned.{IsPlanOf, IsShown, IsWritten, Task, is_colored}
-use Rattle.cargo_ssr_program.specs.Running.{EndsWell, IsAskedToWrite, Ran, Sides, ended, failed, helped, no_help, outcome_of, wrong_words}
+use Rattle.cargo_ssr_program.specs.Running.{EndsWell, IsAskedToWrite, IsTaskOf, Ran, Sides, ended, failed, helped, no_help, outcome_of, wrong_words}
 use Rattle.ssr_changes.specs.declared.planning.Planned.{Planned}
 use Rattle.ssr_writing.specs.Disk.{Call}
 
@@ -48,16 +48,16 @@ ran_without words terminal old new status same (inr (inr is)) = subst (Ran words
 -- words that say options
 by_options : (words : List (List ℕ)) (terminal : Bool) (options : Options) (old new : Sides) (result : Result Outcome Failure)
     → AreOptionsOf words options → IsAskedToWrite options.mode old.calls new.calls
-    → IfOk result (λ outcome. (task : Task) × EndsWell options.mode task options.json (is_colored options.color terminal) old new outcome)
+    → IfOk result (λ outcome. (task : Task) × IsTaskOf options task × EndsWell options.mode task options.json (is_colored options.color terminal) old new outcome)
     → Ran words terminal old new (status_of result)
-by_options words terminal options old new (Ok Done) said asked ends = ended options ends.0 Done said ends.1 asked
-by_options words terminal options old new (Ok WouldChange) said asked ends = ended options ends.0 WouldChange said ends.1 asked
+by_options words terminal options old new (Ok Done) said asked ends = ended options ends.0 Done said ends.1 ends.2 asked
+by_options words terminal options old new (Ok WouldChange) said asked ends = ended options ends.0 WouldChange said ends.1 ends.2 asked
 by_options words terminal options old new (Err failure) said asked ends = failed options said asked
 
 -- what is told behind that sends nothing
 pub ran_by_options : (words : List (List ℕ)) (terminal : Bool) (options : Options) (old : Sides) (calls : List Call) (taken taken' : Taken)
     (result : Result Outcome Failure) (status : ℕ) → AreOptionsOf words options → IsAskedToWrite options.mode old.calls calls
-    → IfOk result (λ outcome. (task : Task) × EndsWell options.mode task options.json (is_colored options.color terminal) old (record { calls = calls; taken = taken }) outcome)
+    → IfOk result (λ outcome. (task : Task) × IsTaskOf options task × EndsWell options.mode task options.json (is_colored options.color terminal) old (record { calls = calls; taken = taken }) outcome)
     → taken' ≡ taken → status ≡ status_of result → Ran words terminal old (record { calls = calls; taken = taken' }) status
 ran_by_options words terminal options old calls taken taken' result status said asked ends same is =
     let P : Taken → Type 0 = λ t. Ran words terminal old (record { calls = calls; taken = t }) status in

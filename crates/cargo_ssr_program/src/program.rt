@@ -1,8 +1,8 @@
 //! The command, whatever it runs on.
 ghost use Rattle.std.specs.Prelude.{◌≡◌, ◌≤◌, ◌⊎◌, IfOk, map, string_bytes};
 ghost use Rattle.cargo_ssr_program.specs.Planned.{Task, is_colored};
-ghost use Rattle.cargo_ssr_program.specs.Private.Tasks.{task_of};
-ghost use Rattle.cargo_ssr_program.specs.Running.{EndsWell, IsAskedToWrite, Ran};
+ghost use Rattle.cargo_ssr_program.specs.Private.Tasks.{IsTaskWith, task_of};
+ghost use Rattle.cargo_ssr_program.specs.Running.{EndsWell, IsAskedToWrite, IsTaskOf, Ran};
 ghost use Rattle.cargo_ssr_program.specs.Status.{status_of};
 
 use crate::console::Console;
@@ -92,7 +92,7 @@ fn perform<R: Files + AllocGlobal, D: Disk, W: Sink, E: Write>(
     console: &mut Console<W, E>,
 ) -> Result<Outcome, Failure>
     ensures disk { IsAskedToWrite options.mode (D.calls disk.old) (D.calls disk.new) }
-    ensures ends { IfOk result (λ outcome. (task : Task) × EndsWell options.mode task options.json (is_colored options.color console.old.terminal) (record { calls = D.calls disk.old; taken = W.taken console.old.out }) (record { calls = D.calls disk.new; taken = W.taken console.new.out }) outcome) }
+    ensures ends { IfOk result (λ outcome. (task : Task) × IsTaskOf options task × EndsWell options.mode task options.json (is_colored options.color console.old.terminal) (record { calls = D.calls disk.old; taken = W.taken console.old.out }) (record { calls = D.calls disk.new; taken = W.taken console.new.out }) outcome) }
 {
     let (options, places) = with_all_rules(rt, here, options)?;
     tell_self(rt.alloc(), &options, &places, console)?;
@@ -114,7 +114,7 @@ fn perform_with<R: Files + AllocGlobal, D: Disk, W: Sink, E: Write>(
     console: &mut Console<W, E>,
 ) -> Result<Outcome, Failure>
     ensures disk { IsAskedToWrite options.now.mode (D.calls disk.old) (D.calls disk.new) }
-    ensures ends { IfOk result (λ outcome. (task : Task) × EndsWell options.now.mode task options.now.json (is_colored options.now.color console.old.terminal) (record { calls = D.calls disk.old; taken = W.taken console.old.out }) (record { calls = D.calls disk.new; taken = W.taken console.new.out }) outcome) }
+    ensures ends { IfOk result (λ outcome. (task : Task) × IsTaskWith (map string_bytes options.now.rules.items) task × EndsWell options.now.mode task options.now.json (is_colored options.now.color console.old.terminal) (record { calls = D.calls disk.old; taken = W.taken console.old.out }) (record { calls = D.calls disk.new; taken = W.taken console.new.out }) outcome) }
 {
     match &options.files {
         Chosen::Facts(path) => {

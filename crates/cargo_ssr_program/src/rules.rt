@@ -1,6 +1,7 @@
 //! The rules of a run.
-ghost use Rattle.std.specs.Prelude.{◌≡◌, IfOk};
+ghost use Rattle.std.specs.Prelude.{◌≡◌, IfOk, map, string_bytes};
 ghost use Rattle.cargo_ssr_program.specs.Private.Telling.{TellsOnly};
+ghost use Rattle.cargo_ssr_program.specs.Running.{AreRulesOf};
 
 use crate::console::Console;
 use crate::failure::Failure;
@@ -67,7 +68,8 @@ pub(crate) fn with_all_rules<R: Files + AllocGlobal>(
     here: &str,
     mut options: Options,
 ) -> Result<(Options, RulePlaces), Failure>
-    ensures { IfOk result (λ all. (all.0.mode ≡ options.mode) × (all.0.json ≡ options.json) × (all.0.color ≡ options.color)) }
+    ensures same { IfOk result (λ all. (all.0.mode ≡ options.mode) × (all.0.json ≡ options.json) × (all.0.color ≡ options.color)) }
+    ensures rules { IfOk result (λ all. AreRulesOf options (map string_bytes all.0.rules.items)) }
 {
     let alloc = rt.alloc();
     let mut places = RulePlaces {

@@ -1,9 +1,10 @@
 -- Private: the task of an input and options.
-use Rattle.std.specs.Prelude.{map, string_bytes}
+use Rattle.std.specs.Prelude.{◌≡◌, ℕ, List, map, string_bytes}
 use Rattle.cargo_ssr_options.specs.declared.options.Options.{Options}
 use Rattle.cargo_ssr_program.specs.declared.input.Input.{Input}
 use Rattle.cargo_ssr_program.specs.Planned.{Task}
 use Rattle.ssr_base_trees.specs.Meanings.{Meanings}
+use Rattle.ssr_changes.specs.Files.{AreSearched}
 use Rattle.ssr_searching.specs.Searching.{Search}
 
 abbrev pub search_of : {S : Type 0} → Meanings → Input S → Search
@@ -17,3 +18,8 @@ task_of meanings input options = record {
   folder = string_bytes input.folder;
   files = input.files.files;
 }
+
+-- a task with these rules, which searches its files
+pub record IsTaskWith (rules : List (List ℕ)) (task : Task) : Type 0 where
+  pub rules_are : task.rules ≡ rules
+  pub searched : AreSearched task.search.workspace.files task.files
