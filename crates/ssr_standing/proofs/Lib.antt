@@ -5,3 +5,4 @@ mod Places
 mod Standings
 mod Spelled
 mod Calls
+mod Below

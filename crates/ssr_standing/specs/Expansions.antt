@@ -12,6 +12,7 @@ use Rattle.ssr_syntax.specs.Reading.{fragment_reading}
 use Rattle.ssr_base_trees.specs.Changes.{Change}
 use Rattle.ssr_base_trees.specs.Origins.{Span}
 use Rattle.ssr_base_trees.specs.Workspace.{FileSpan, Workspace, above, node_id, original_range, run_range, tree_of, trees}
+use Rattle.ssr_standing.specs.ArgumentNames.{names_arguments}
 use Rattle.ssr_standing.specs.Around.{agree, has, hole_at, is_number, passed}
 use Rattle.ssr_standing.specs.Ranges.{old_place}
 use Rattle.ssr_standing.specs.Standing.{stands}
@@ -86,7 +87,7 @@ opening kind = if is_in_braces kind then codes "{" else codes "("
 abbrev pub closing : SyntaxKind → List ℕ
 closing kind = if is_in_braces kind then codes "}" else codes ")"
 
--- the tokens of a tree with changes made: an expression in parentheses, anything else in braces
+-- the tokens of a tree with changes made: statements and items in braces, anything else in parentheses
 abbrev pub spelled_with : Workspace → List Change → ℕ → Syntax → Spelled
 spelled_with w cs t tree =
     with_first w cs t tree (record { text = opening tree.kind; places = []; behind = None; change = None }) (token_count tree.children)
@@ -106,9 +107,9 @@ as_it_is text c = record { start = c.start; end = c.end; text = slice_range text
 abbrev pub as_they_are : Syntax → List Change → List Change
 as_they_are file cs = map (as_it_is (source_of file)) cs
 
--- two trees agree around their places
+-- two trees agree around their places, and nothing that is put into the second one is taken for an argument with a name
 abbrev pub agree_both : Syntax × List Span → Syntax × List Span → Bool
-agree_both old new = agree old.0 old.1 new.0 new.1
+agree_both old new = agree old.0 old.1 new.0 new.1 && not (names_arguments new.0 new.1)
 
 -- both are there, and agree
 abbrev pub both_agree : Option (Syntax × List Span) → Option (Syntax × List Span) → Bool
@@ -145,7 +146,3 @@ first_stand w n file cs (suc i) = first_stand w n file cs i && stands_for w n fi
 -- The text of a file is read with the changes made, and groups as it did, and so does what each call of a macro in it stands for.
 abbrev pub stands_in : Workspace → ℕ → List Change → Bool
 stands_in w n cs = option_map_or (λ file. stands file cs && first_stand w n file cs (length w.expansions)) (slice_get w.files n) false
-
--- the text of a file
-abbrev pub text_in : Workspace → ℕ → List ℕ
-text_in w n = option_map_or source_of (slice_get w.files n) []

@@ -1,3 +1,4 @@
+pub mod ArgumentNames
 pub mod Around
 pub mod Ranges
 pub mod Standing

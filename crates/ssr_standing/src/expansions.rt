@@ -13,6 +13,7 @@ ghost use Rattle.ssr_standing.specs.Ranges.{old_place};
 ghost use Rattle.ssr_standing.specs.Private.Spelling.{place_of, shown};
 
 use crate::agreeing::agree;
+use crate::argument_names::names_arguments;
 use crate::passing::Passing;
 use crate::ranges::old_ranges;
 use crate::spelling::{Place, Speller};
@@ -153,7 +154,7 @@ fn read_with(
     Ok(Some(ReadWith { tree: new, places }))
 }
 
-/// Whether both are read, and agree around their places.
+/// Whether both are read and agree around their places, and nothing in the second one is taken for an argument with a name.
 fn both_agree(
     alloc: Global,
     old: Option<ReadWith>,
@@ -162,7 +163,11 @@ fn both_agree(
     ensures { IfOk result (λ answer. answer ≡ both_agree (option_map read_of old) (option_map read_of new)) }
 {
     match (old, new) {
-        (Some(old), Some(new)) => agree(alloc, &old.tree, &old.places, &new.tree, &new.places),
+        (Some(old), Some(new)) => {
+            let same = agree(alloc, &old.tree, &old.places, &new.tree, &new.places)?;
+            let named = names_arguments(alloc, &new.tree, &new.places)?;
+            Ok(same && !named)
+        }
         _ => Ok(false),
     }
 }

@@ -3,6 +3,7 @@
 #![tactic(auto)]
 
 mod agreeing;
+mod argument_names;
 mod expansions;
 mod holes;
 mod marks;
