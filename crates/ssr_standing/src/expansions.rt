@@ -79,20 +79,19 @@ fn closing(kind: SyntaxKind) -> &'static str
     if is_in_braces(kind) { "}" } else { ")" }
 }
 
-/// What the tokens of a tree with this number spell with the changes made, which replace these ranges, without the closing bracket.
+/// What the tokens of a tree with this number spell with the changes made, which replace these places, without the closing bracket.
 fn spelled(
     alloc: Global,
     trees: &Trees,
     number: u32,
     tree: &Tree,
     edit: &TextEdit,
-    olds: &[TextRange],
+    mut passing: Passing<'_>,
 ) -> Result<Speller, AllocError>
-    requires { map span_of olds.now ≡ map old_place edit.now }
+    requires { map span_of passing.places.now ≡ map old_place edit.now }
     ensures { IfOk result (λ speller. shown speller ≡ spelled_with trees.now edit.now number tree.now) }
 {
     let mut speller = Speller::new(alloc, opening(tree.kind(NodeNo(0))))?;
-    let mut passing = Passing::new(olds);
     for token in 0..tree.token_count() {
         let origin = origin_of(trees, number, token);
         let change = passing.change_of(origin);
@@ -132,19 +131,19 @@ struct ReadWith {
     places: Vec<TextRange>,
 }
 
-/// What is read of the tokens of a tree with this number with the changes made, which replace these ranges.
+/// What is read of the tokens of a tree with this number with the changes made, which replace these places.
 fn read_with(
     alloc: Global,
     trees: &Trees,
     number: u32,
     tree: &Tree,
     edit: &TextEdit,
-    olds: &[TextRange],
+    passing: Passing<'_>,
 ) -> Result<Option<ReadWith>, AllocError>
-    requires { map span_of olds.now ≡ map old_place edit.now }
+    requires { map span_of passing.places.now ≡ map old_place edit.now }
     ensures { IfOk result (λ read. option_map read_of read ≡ read_with trees.now edit.now number tree.now) }
 {
-    let mut speller = spelled(alloc, trees, number, tree, edit, olds)?;
+    let mut speller = spelled(alloc, trees, number, tree, edit, passing)?;
     speller.text.push_str(closing(tree.kind(NodeNo(0))))?;
     let read = expression(alloc, speller.text.as_str())?;
     let Some(new) = read else {
@@ -225,8 +224,8 @@ impl<'a> Edited<'a> {
         let Some(tree) = trees.tree(number) else {
             return Ok(false);
         };
-        let old = read_with(alloc, trees, number, tree, self.old, self.ranges)?;
-        let new = read_with(alloc, trees, number, tree, self.edit, self.ranges)?;
+        let old = read_with(alloc, trees, number, tree, self.old, *passing)?;
+        let new = read_with(alloc, trees, number, tree, self.edit, *passing)?;
         both_agree(alloc, old, new)
     }
 

@@ -8,7 +8,7 @@ use crate::holes::{hole_behind, passed_from};
 use ssr_syntax_kinds::TextRange;
 
 /// Places, and how many of them are passed at a byte.
-#[derive(Drop)]
+#[derive(Clone, Copy)]
 pub(crate) struct Passing<'a> {
     places: &'a [TextRange],
     byte: u32,

@@ -16,20 +16,21 @@ pub loop-token-init : goal.loop-token-init
 unfolding with_text
 loop-token-init c = record {
   so_far = c.in_ok-speller.ensures ∙ ap with_text (c.opening.ensures ∙ ap opening (c.kind.ensures ∙ root_kind c.args.tree.now));
-  places = c.new-passing.ensures;
+  places = c.requires;
 }
 
 pub loop-token-preserved : goal.loop-token-preserved
 unfolding with_text
 loop-token-preserved c =
-    let same : c.change_of-change.new.self.places.now ≡ c.args.olds.now = c.change_of-change.ensures.places ∙ c.loop-token.invariant.places in
+    let same : map span_of c.change_of-change.new.self.places.now ≡ map old_place c.args.edit.now =
+    ap (map span_of) c.change_of-change.ensures.places ∙ c.loop-token.invariant.places in
     record {
       so_far =
           one_token c.args.trees.now c.args.edit.now c.args.number c.args.tree.now (with_text (opening c.args.tree.now.kind)) c.loop-token.token
           (shown c.loop-token.speller) (shown c.add.new.self) c.token_text.result.now (plain_origin c.origin_of-origin.result) c.change_of-change.result
           c.token_text.ensures c.origin_of-origin.ensures
           (c.change_of-change.ensures.answer
-          ∙ ap (λ (ps : List Span). change_of ps (plain_origin c.origin_of-origin.result)) (ap (map span_of) same ∙ c.requires))
+          ∙ ap (λ (ps : List Span). change_of ps (plain_origin c.origin_of-origin.result)) same)
           c.in_ok-add.ensures c.loop-token.invariant.so_far;
       places = same;
     }

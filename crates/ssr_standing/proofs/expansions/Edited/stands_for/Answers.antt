@@ -3,7 +3,7 @@ use Rattle.std.specs.Prelude.{Option, None, Some}
 use Rattle.std.specs.Option.{option_map}
 use Rattle.ssr_syntax_tree.specs.Syntax.{Syntax, source_of}
 use Rattle.ssr_base_trees.specs.Changes.{Change}
-use Rattle.ssr_base_trees.specs.Origins.{Span}
+use Rattle.ssr_base_trees.specs.Origins.{Span, span_of}
 use Rattle.ssr_standing.specs.Expansions.{as_they_are, both_agree, read_with, stands_for}
 use Rattle.ssr_standing.specs.Private.Expansions.{read_of}
 use Rattle.ssr_standing.specs.Ranges.{old_place}
@@ -24,8 +24,11 @@ returns-in_default-clause-answer c =
 
 pub read_with-requires : goal.read_with-requires
 read_with-requires c =
-    c.args.self.now.placed
+    ap (map span_of) c.is_changed.ensures.places ∙ c.requires
     ∙ sym (ap (λ (cs : List Change). map old_place cs) c.args.self.now.unchanged ∙ same_places (source_of c.args.self.now.file.now.tree.now) c.args.self.now.edit.now)
+
+pub read_with-requires-2 : goal.read_with-requires-2
+read_with-requires-2 c = ap (map span_of) c.is_changed.ensures.places ∙ c.requires
 
 pub returns-clause-answer : goal.returns-clause-answer
 returns-clause-answer c =
