@@ -1,5 +1,5 @@
 -- What fits a pattern, from its end on.
-use Rattle.std.proofs.Common.{◌≡◌, ℕ, ◌+◌, ◌-◌, ◌<◌, ◌≤◌, ◌&&◌, ◌||◌, if◌then◌else◌, Bool, true, false, List, [], ◌∷◌, ◌++◌, length, get_or, drop, take, Result, IfOk, refl, ap, sym, subst, ◌∙◌, below_more, arith}
+use Rattle.std.proofs.Common.{◌≡◌, ℕ, ◌+◌, ◌-◌, ◌<◌, ◌&&◌, ◌||◌, if◌then◌else◌, Bool, true, false, List, [], ◌∷◌, ◌++◌, length, get_or, drop, take, Result, IfOk, refl, ap, sym, subst, ◌∙◌, below_more, arith}
 use Rattle.std.proofs.lemmas.List.{drop-drop, drop_more, get_or_append_left, get_or_push, get_or_read, length-append, take_rest}
 use Rattle.ssr_package.specs.Globs.{begins, fits, is_star, some_end, stands_for}
 use Rattle.ssr_package.specs.Private.Globs.{AreFits, IsRow, fits_last}

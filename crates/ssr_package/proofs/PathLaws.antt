@@ -1,10 +1,10 @@
 -- The parts of a path, one after the other.
-use Rattle.std.proofs.Common.{◌≡◌, ◌≢◌, ℕ, suc, ◌+◌, ◌<◌, eqb, false, List, [], ◌∷◌, ◌++◌, length, get_or, map, take, fold, Option, Some, None, option_map, Result, IfOk, Bool, if◌then◌else◌, subst, MatchOption, Bor, refl, ap, sym, ◌∙◌, lit<, rules, arith}
+use Rattle.std.proofs.Common.{◌≡◌, ◌≢◌, ℕ, suc, ◌+◌, ◌<◌, eqb, false, List, [], ◌∷◌, ◌++◌, length, get_or, map, take, fold, Option, Some, None, option_map, Result, IfOk, Bool, if◌then◌else◌, subst, MatchOption, Bor, refl, ap, sym, ◌∙◌, lit<, arith}
 use Rattle.std.proofs.lemmas.Bool.{ne_eqb}
 use Rattle.std.proofs.lemmas.List.{take_more}
 use Rattle.std.proofs.lemmas.List.Splits.{slice_split-cons_no, slice_split_first}
 use Rattle.std.proofs.lemmas.Str.Pattern.{IsSplitOnceResult, split_parts, split_once_first}
-use Rattle.ssr_package.specs.Paths.{Text, parts, within, joined, step, walked, is_absolute, normal}
+use Rattle.ssr_package.specs.Paths.{Text, parts, within, joined, walked, is_absolute, normal}
 
 -- a text without a slash is one part
 parts-none : (bs : Text) → ((i : ℕ) → i < length bs → get_or bs i 0 ≢ 47) → parts bs ≡ bs ∷ []

@@ -1,5 +1,5 @@
 -- The files that a `mod` item without a body may stand for.
-use Rattle.std.specs.Prelude.{Bool, true, false, if◌then◌else◌, List, [], ◌∷◌, ◌++◌, Option, Some, None, map, codes, string_bytes, option_map}
+use Rattle.std.specs.Prelude.{Bool, true, false, if◌then◌else◌, List, [], ◌∷◌, ◌++◌, Option, map, codes, string_bytes, option_map}
 use Rattle.std.specs.Option.{option_and_then}
 use Rattle.ssr_package.specs.declared.candidates.Candidate.{Candidate}
 use Rattle.ssr_package.specs.Paths.{Text, within, normal}

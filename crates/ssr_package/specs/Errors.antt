@@ -1,5 +1,5 @@
 -- The words of errors.
-use Rattle.std.specs.Prelude.{ℕ, List, ◌++◌, Option, Some, None, codes, string_bytes, option_map}
+use Rattle.std.specs.Prelude.{ℕ, List, ◌++◌, Option, Some, codes, string_bytes, option_map}
 use Rattle.ssr_package.specs.declared.package_error.PackageError.{PackageError}
 use Rattle.ssr_package.specs.declared.package_error.PackageError.TheVariants as e
 use Rattle.ssr_package.specs.Notes.{trouble_words}

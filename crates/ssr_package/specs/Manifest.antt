@@ -1,7 +1,7 @@
 -- What a manifest says.
 use Rattle.std.specs.Prelude.{ℕ, Bool, false, not, List, Option, codes}
 use Rattle.std.specs.Option.{option_map_or, option_and_then}
-use Rattle.toml.specs.Data.{Data, Members, as_str, as_bool, as_table, get_member}
+use Rattle.toml.specs.Data.{Members, as_str, as_bool, as_table, get_member}
 
 -- the string, and the table, at a key of a table
 abbrev pub text_at : List ℕ → Members → Option (List ℕ)

@@ -1,5 +1,5 @@
 -- The modules of a run, and which declares which.
-use Rattle.std.specs.Prelude.{ℕ, ◌+◌, ◌<◌, nat_lt, Bool, true, List, [], ◌∷◌, ◌++◌, Option, Some, None, Vec, String, IfSome, length, slice_get, option_map}
+use Rattle.std.specs.Prelude.{ℕ, ◌+◌, ◌<◌, nat_lt, Bool, true, List, [], ◌∷◌, ◌++◌, Option, Some, None, Vec, String, IfSome, length, slice_get}
 use Rattle.std.specs.Option.{option_map_or, option_and_then}
 use Rattle.std.specs.declared.alloc.Global.{Global}
 use Rattle.ssr_package.specs.declared.crates.Crate.{Crate}

@@ -1,5 +1,5 @@
 -- The places of files.
-use Rattle.std.specs.Prelude.{ℕ, ◌||◌, ◌==◌, not, nat_eq, Bool, true, false, if◌then◌else◌, List, [], Option, Some, None, codes, slice_index, unwrap_or}
+use Rattle.std.specs.Prelude.{◌||◌, ◌==◌, not, nat_eq, Bool, if◌then◌else◌, [], Option, Some, None, codes, slice_index, unwrap_or}
 use Rattle.std.specs.Path.{path_parent, path_file_name, path_file_stem}
 use Rattle.std.specs.List.{starts_with, ends_with}
 use Rattle.ssr_package.specs.Paths.{Text, within}

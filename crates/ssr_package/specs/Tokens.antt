@@ -1,5 +1,5 @@
 -- The tokens by which a text's modules are found.
-use Rattle.std.specs.Prelude.{ℕ, ◌&&◌, ◌==◌, nat_eq, Bool, not, if◌then◌else◌, List, [], ◌∷◌, codes, drop, filter, slice_index}
+use Rattle.std.specs.Prelude.{◌&&◌, ◌==◌, nat_eq, Bool, not, if◌then◌else◌, List, [], ◌∷◌, codes, drop, filter, slice_index}
 use Rattle.std.specs.List.{starts_with, after_first}
 use Rattle.std.specs.Str.{trim_start}
 use Rattle.ssr_syntax_kinds.specs.Kinds.{is_trivia}

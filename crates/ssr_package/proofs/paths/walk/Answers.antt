@@ -1,4 +1,4 @@
-use Rattle.std.proofs.Common.{◌≡◌, true, false, Some, None, ◌∷◌, length, ap, sym, ◌∙◌, rules, arith}
+use Rattle.std.proofs.Common.{◌≡◌, true, false, Some, length, ap, sym, ◌∙◌, rules, arith}
 use Rattle.ssr_package.specs.Paths as spec
 use Rattle.ssr_package.proofs.PathLaws.{parts_once, walked_none, same_place}
 use Rattle.ssr_package.proofs.paths.walk.Goals as goal
