@@ -130,12 +130,15 @@ def hand_on(name, source, target):
     held = os.open(folder, os.O_RDONLY)
     try:
         fcntl.flock(held, fcntl.LOCK_EX | fcntl.LOCK_NB)
-    except BlockingIOError:
-        return
-    else:
         library = os.path.join(folder, "out", "rlib")
+        beside = library + ".new"
+        shutil.rmtree(beside, ignore_errors=True)
+        shutil.copytree(os.path.join(source, "crates", name, "out", "rlib"), beside, copy_function=os.link)
         shutil.rmtree(library, ignore_errors=True)
-        shutil.copytree(os.path.join(source, "crates", name, "out", "rlib"), library, copy_function=os.link)
+        os.rename(beside, library)
+    except OSError:
+        # a run of `rt` works there, or it is another file system: `rt` builds the library once more
+        pass
     finally:
         os.close(held)
 

@@ -14,7 +14,6 @@ import shutil
 import subprocess
 import sys
 import tempfile
-import time
 from pathlib import Path
 
 sys.dont_write_bytecode = True
@@ -333,6 +332,9 @@ GROUPED = [
     ("fn f() { 2 * x /* c */.g(); }\n", "$a.g() ==>> $a + 1", "fn f() { 2 * (x + 1/* c */); }\n"),
     # what macros take groups as before
     ("fn f() { assert!(2 * 7 == x); }\n", "7 ==>> 3 + 4", "fn f() { assert!(2 * (3 + 4) == x); }\n"),
+    ('fn f() { println!("{:?}", a.set(b)); }\n', "$a.set($b) ==>> $a = $b", 'fn f() { println!("{:?}", (a = b)); }\n'),
+    ('fn f() { println!("{}", a.set(b) == 1); }\n', "$a.set($b) ==>> $a + $b", 'fn f() { println!("{}", a + b == 1); }\n'),
+    ("fn f() { assert!(g(a.set(b))); }\n", "$a.set($b) ==>> $a = $b", "fn f() { assert!(g(a = b)); }\n"),
     ('fn f() { assert_eq!(7, x, "{}", 7); }\n', "7 ==>> 3 + 4", 'fn f() { assert_eq!(3 + 4, x, "{}", 3 + 4); }\n'),
     ('fn f() { println!("{} {a}", 2 * 7, a = 7); }\n', "7 ==>> 3 + 4", 'fn f() { println!("{} {a}", 2 * (3 + 4), a = 3 + 4); }\n'),
     ('fn f() { println!("{}", format!("{}", 2 * 7)); }\n', "7 ==>> 3 + 4", 'fn f() { println!("{}", format!("{}", 2 * (3 + 4))); }\n'),
@@ -443,9 +445,10 @@ def code_that_is_not_read_may_stand_deep(program):
     # each of the blocks that hold it is read again
     text = f"fn f() {{ {'{ ' * 60}(c, _) = e; {'a.unwrap(); ' * 8500}{'}' * 60} }}\n"
     with Package({"one.rs": text}) as package:
-        started = time.monotonic()
+        before = os.times().children_user
         status, out, told = package.run(program, "--search", "$a.unwrap()", "--", "one.rs")
-        yield status == 0 and told.endswith("8500 matches in 1 file; 1 file not searched whole\n") and time.monotonic() - started < 10
+        spent = os.times().children_user - before
+        yield status == 0 and told.endswith("8500 matches in 1 file; 1 file not searched whole\n") and spent < 10
 
 
 @example
@@ -586,11 +589,11 @@ def a_pattern_has_any_number_of_marks(program):
 def files_that_nothing_reaches_are_told(program):
     files = {"Cargo.toml": MANIFEST, "src/lib.rs": "fn f() {}\n", "src/bin/one.rs": "fn main() {}\n", "src/b.rs": "", "other.rs": ""}
     with Package(files) as package:
-        yield package.run(program, "-q", RULE)[2] == "1 file below src is reached by no mod item: src/b.rs; -- src searches it\n"
+        yield package.run(program, "-q", RULE)[2] == "1 file below src is reached by no mod item: src/b.rs; name it behind --\n"
         yield package.run(program, "-q", RULE, "--", "src/lib.rs") == (0, "", "")
     with Package(files | {"src/.hidden.rs": "", "src/.git/x.rs": "", "src/a/c.rs": "", "src/a.rs": ""}) as package:
         (package.folder / "src/link.rs").symlink_to(package.folder / "other.rs")
-        told = "3 files below src are reached by no mod item: src/a.rs, src/a/c.rs, src/b.rs; -- src searches them\n"
+        told = "3 files below src are reached by no mod item: src/a.rs, src/a/c.rs, src/b.rs; name them behind --\n"
         yield package.run(program, "-q", RULE) == (0, "", told)
         (package.folder / "src/z.rs").write_text("")
         yield package.run(program, "-q", RULE)[2].startswith("4 files below src are reached by no mod item: src/a.rs, src/a/c.rs, src/b.rs, ..; -- src")
@@ -599,14 +602,14 @@ def files_that_nothing_reaches_are_told(program):
     for folder in "one", "two", "three":
         files |= {f"{folder}/Cargo.toml": MANIFEST.replace("little", folder), f"{folder}/src/lib.rs": "mod a;\n", f"{folder}/src/a.rs": ""}
     with Package(files | {"two/src/b.rs": "", "three/src/b.rs": ""}) as package:
-        told = "1 file below two/src is reached by no mod item: two/src/b.rs; -- two/src searches it\n"
+        told = "1 file below two/src is reached by no mod item: two/src/b.rs; name it behind --\n"
         yield package.run(program, "-q", RULE) == (0, "", told)
         yield package.run(program, "-q", RULE, "-p", "one") == (0, "", "")
 
 
 @example
 def included_files_are_told(program):
-    why = "isn't searched; name it behind --\n"
+    why = "isn't searched; name that file behind --\n"
     texts = {
         'include!("b.rs");\n': f"src/lib.rs:1:1: include!: b.rs {why}",
         '\ufeff\n#[cfg(a)]\ninclude! { r"b.rs", }\n': f"src/lib.rs:3:1: include!: b.rs {why}",

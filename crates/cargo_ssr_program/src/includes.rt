@@ -36,7 +36,7 @@ pub(crate) fn tell_includes<W: Sink, E: Write>(
     Ok(())
 }
 
-/// `src/a.rs:1:1: include!: b.rs isn't searched; name it behind --`, and behind the last that is told `src/a.rs: include!: ..`.
+/// `src/a.rs:1:1: include!: b.rs isn't searched; name that file behind --`, and behind the last that is told `src/a.rs: include!: ..`.
 fn include_words(
     alloc: Global,
     files: &[SourceFile],
@@ -56,5 +56,6 @@ fn include_words(
         return format!(in alloc; "{name}: include!: ..");
     }
     let place = place_words(alloc, name, line_place(text, include.at.min(text.len())))?;
-    format!(in alloc; "{place}: include!: {path} isn't searched; name it behind --")
+    let path = quoted(alloc, path)?;
+    format!(in alloc; "{place}: include!: {path} isn't searched; name that file behind --")
 }

@@ -17,8 +17,8 @@ trouble_words t.NotAFile = Some (codes "no file")
 trouble_words t.NotText = Some (codes "not UTF-8")
 trouble_words t.NoFolder = Some (codes "no folder fits")
 trouble_words (t.Unread mark) = Some (mark.now ++ codes " isn't read")
-trouble_words (t.Unreached files folder) = Some (string_bytes files ++ (codes "; -- " ++ (string_bytes folder ++ codes " searches them")))
-trouble_words (t.OneUnreached file folder) = Some (string_bytes file ++ (codes "; -- " ++ (string_bytes folder ++ codes " searches it")))
+trouble_words (t.Unreached files) = Some (string_bytes files ++ codes "; name them behind --")
+trouble_words (t.OneUnreached file) = Some (string_bytes file ++ codes "; name it behind --")
 trouble_words (t.Unreadable kind) = None
 
 -- a file's name, and why it is passed over

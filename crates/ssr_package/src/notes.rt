@@ -26,10 +26,10 @@ pub enum Trouble {
     NoFolder,
     /// A pattern of members has a mark that isn't read.
     Unread(&'static str),
-    /// Files that no `mod` item reaches: the first of their names, and the folder that they lie below.
-    Unreached(String, String),
+    /// Files that no `mod` item reaches: the first of their names.
+    Unreached(String),
     /// The same of one file.
-    OneUnreached(String, String),
+    OneUnreached(String),
     /// It can't be read.
     Unreadable(ErrorKind),
 }
@@ -54,8 +54,8 @@ impl fmt::Display for Trouble {
             Trouble::NotText => f.write_str("not UTF-8"),
             Trouble::NoFolder => f.write_str("no folder fits"),
             Trouble::Unread(mark) => write!(f, "{mark} isn't read"),
-            Trouble::Unreached(files, folder) => write!(f, "{files}; -- {folder} searches them"),
-            Trouble::OneUnreached(file, folder) => write!(f, "{file}; -- {folder} searches it"),
+            Trouble::Unreached(files) => write!(f, "{files}; name them behind --"),
+            Trouble::OneUnreached(file) => write!(f, "{file}; name it behind --"),
             Trouble::Unreadable(kind) => write!(f, "can't be read: {kind}"),
         }
     }

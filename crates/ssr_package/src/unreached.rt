@@ -30,9 +30,9 @@ impl<R: Files + AllocGlobal> Reading<'_, R> {
         };
         let files = first_names(alloc, &unreached)?;
         let trouble = if unreached.len() == 1 {
-            Trouble::OneUnreached(files, folder)
+            Trouble::OneUnreached(files)
         } else {
-            Trouble::Unreached(files, folder)
+            Trouble::Unreached(files)
         };
         self.note(name.as_str(), trouble)
     }
