@@ -86,8 +86,8 @@ pub none_there : (w : Workspace) (n : ℕ) → n < length w.files → None ≡ t
 none_there w n less is = no_tree w.files n less (sym (is ∙ tree_of_file w n less))
   where
     no_tree : (trees : List Syntax) (n : ℕ) → n < length trees → slice_get trees n ≡ None → ⊥
-    no_tree [] n less none = absurd (omega arith)
-    no_tree (tree ∷ trees) n less none = none-some _ (sym none ∙ slice_get-get_or (tree ∷ trees) n tree less)
+    no_tree [] n less e = absurd (omega arith)
+    no_tree (tree ∷ trees) n less e = none-some _ (sym e ∙ slice_get-get_or (tree ∷ trees) n tree less)
 
 -- those from this number on
 abbrev pub left_from : List (List ℕ) → List Syntax → ℕ → List File

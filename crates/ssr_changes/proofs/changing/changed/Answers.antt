@@ -18,7 +18,19 @@ unreachable-requires c =
     let space = c.args.files.now.workspace in
     let n = c.args.file in
     none_there space n (slice_get_within space.files n c.requires.fits.0 c.requires.fits.1)
-    (c.in_default.ensures ∙ ap (λ (w : Workspace). tree_of w n) c.workspace.ensures.workspace)
+    (c.in_default.ensures ∙ ap (λ (w : Workspace). tree_of w n) c.workspace-workspace.ensures.workspace)
+
+-- the file's tree is there
+pub invariant_of-searched : goal.invariant_of-searched
+invariant_of-searched c =
+    let space = c.args.files.now.workspace in
+    let n = c.args.file in
+    let tree = c.in-Some.tree.now in
+    let same : c.trees.result.now ≡ space = c.trees.ensures.same ∙ c.workspace-workspace.ensures.workspace in
+    let less = slice_get_within space.files n c.requires.fits.0 c.requires.fits.1 in
+    let here : slice_get space.files n ≡ Some tree =
+    tree_there space n tree less (c.in-Some.ensures ∙ ap (λ (w : Workspace). tree_of w n) c.workspace-workspace.ensures.workspace) in
+    record { there = subst (λ (w : Workspace). slice_get w.files n ≡ Some tree) (sym same) here }
 
 pub standing-requires : goal.standing-requires
 standing-requires c =
@@ -27,7 +39,7 @@ standing-requires c =
     let tree = c.in-Some.tree.now in
     let less = slice_get_within space.files n c.requires.fits.0 c.requires.fits.1 in
     let here : slice_get space.files n ≡ Some tree =
-    tree_there space n tree less (c.in-Some.ensures ∙ ap (λ (w : Workspace). tree_of w n) c.workspace.ensures.workspace) in
+    tree_there space n tree less (c.in-Some.ensures ∙ ap (λ (w : Workspace). tree_of w n) c.workspace-workspace.ensures.workspace) in
     let same : c.requires.fits.0 ≡ tree = cc (sym c.requires.fits.1 ∙ here) in
     let fit : All (FitsText (source_of tree)) c.args.edit = subst (λ (t : Syntax). All (FitsText (source_of t)) c.args.edit) same c.requires.fits.2 in
     subst (All (FitsText (source_of tree))) (sym c.in_ok-edit.ensures.edit)
@@ -54,7 +66,7 @@ returns-clause-change c =
     record { file = n; edit = c.in_ok-edit-2.field-0.edit; new = c.in-Ok.new; told = c.in_ok-edit.field-0.told; unread = c.in_ok-edit-2.field-0.unread } in (
       there,
       c.file-there.ensures.there,
-      change_is space c.trees.result.now n there c.args.edit c.in_ok-edit.field-0.edit all (c.trees.ensures.same ∙ c.workspace.ensures.workspace) refl
+      change_is space c.trees.result.now n there c.args.edit c.in_ok-edit.field-0.edit all (c.trees.ensures.same ∙ c.workspace-workspace.ensures.workspace) refl
           (c.in_ok-edit.ensures.edit ∙ ap (λ reaches. spared reaches c.args.edit) c.reaches.ensures) c.in_ok-edit-2.ensures.made
           (c.in-Ok.ensures.text ∙ ap (λ (text : List ℕ). replaced text 0 (length text) c.in_ok-edit-2.field-0.edit) c.text.ensures)
           (c.in_ok-edit.ensures.told ∙ ap (λ reaches. told reaches c.args.edit) c.reaches.ensures) c.in_ok-edit-2.ensures.unread,

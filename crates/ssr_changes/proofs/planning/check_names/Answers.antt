@@ -33,7 +33,7 @@ loop-planned-preserved c =
       have =
           names_more files plan i p c.loop-planned-test.true c.planned-item.is
           (subst (λ name. is_inside name ≡ true) c.in_ok-name.ensures (ap is_inside (sym c.as_str.ensures.value) ∙ sym c.is_inside.ensures ∙ inside))
-          (subst (λ name. is_below_target name ≡ false) c.in_ok-name.ensures (ap is_below_target (sym c.as_str-2.ensures.value) ∙ sym c.is_below_target.ensures ∙ beside)) new c.loop-planned.invariant.have;
+          (subst (λ name. is_below_target name ≡ false) c.in_ok-name.ensures (ap is_below_target (sym c.as_str-in-loop-planned.ensures.value) ∙ sym c.is_below_target.ensures ∙ beside)) new c.loop-planned.invariant.have;
       known =
           among_more files plan i p c.loop-planned-test.true c.planned-item.is c.loop-planned.names c.insert.new.self tt name c.in_ok-name.ensures
           c.in_ok-insert.ensures.updates c.loop-planned.invariant.known;
