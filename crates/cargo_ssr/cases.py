@@ -596,7 +596,7 @@ def files_that_nothing_reaches_are_told(program):
         told = "3 files below src are reached by no mod item: src/a.rs, src/a/c.rs, src/b.rs; name them behind --\n"
         yield package.run(program, "-q", RULE) == (0, "", told)
         (package.folder / "src/z.rs").write_text("")
-        yield package.run(program, "-q", RULE)[2].startswith("4 files below src are reached by no mod item: src/a.rs, src/a/c.rs, src/b.rs, ..; -- src")
+        yield package.run(program, "-q", RULE)[2].startswith("4 files below src are reached by no mod item: src/a.rs, src/a/c.rs, src/b.rs, ..; name them behind --")
     # of two packages one has such a file, and a third one isn't searched
     files = {"Cargo.toml": '[workspace]\nmembers = ["one", "two"]\n'}
     for folder in "one", "two", "three":
