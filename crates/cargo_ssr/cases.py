@@ -151,7 +151,8 @@ def modules_are_followed(program):
         (package.folder / "src/linked.rs").symlink_to(package.folder / "src/odd.rs")
         status, out, told = package.run(program, "--search", "$a.unwrap()")
         yield (status, out) == (0, "".join(f"{name}:1:10: a.unwrap()\n" for name in files if name != "src/other.rs"))
-        yield told == "src/lib.rs: no file for mod lost\nsrc/linked.rs: reached through a link\n5 matches in 5 files\n"
+        unreached = "1 file below src is reached by no mod item: src/other.rs; name it behind --\n"
+        yield told == "src/lib.rs: no file for mod lost\nsrc/linked.rs: reached through a link\n" + unreached + "5 matches in 5 files\n"
 
 
 @example
@@ -340,7 +341,7 @@ GROUPED = [
     ('fn f() { println!("{}", format!("{}", 2 * 7)); }\n', "7 ==>> 3 + 4", 'fn f() { println!("{}", format!("{}", 2 * (3 + 4))); }\n'),
     ("fn f() { g(vec![2 * 7; 7]); matches!(7, 7); }\n", "7 ==>> 3 | 4", "fn f() { g(vec![2 * (3 | 4); 3 | 4]); matches!(3 | 4, 3 | 4); }\n"),
     ("fn f() { assert!(x&(&y)); dbg!(2 * 7); }\n", "($a) ==>> $a", "fn f() { assert!(x&(&y)); dbg!(2 * 7); }\n"),
-    ("fn f() { assert!(a.b(7)); }\n", "a.b($x) ==>> *c.d($x)", "fn f() { assert!(*c.d(7)); }\n"),
+    ("fn f() { assert!(a.b(7)); }\n", "$a.b($x) ==>> *$a.d($x)", "fn f() { assert!(*a.d(7)); }\n"),
     # what stands for an expression is one
     ("fn f() { 7 }\n", "7 ==>> { 1 } - 1", "fn f() { ({ 1 } - 1) }\n"),
 ]
