@@ -14,8 +14,8 @@ use ssr_base::{FileId, FilePosition, FileRange, Workspace};
 use ssr_changes::{Searchable, Unread, normal_names};
 use ssr_facts::{Facts, FactsError, TableSemantics, read};
 use ssr_package::{
-    ModuleTree, Note, PackageError, PackageFiles, find_manifest, given_files, package_files,
-    path_in,
+    ModuleTree, Note, OnFiles, PackageError, PackageFiles, find_manifest, given_files,
+    package_files, path_in,
 };
 use ssr_searching::Unresolved;
 use ssr_streams::Sink;
@@ -157,7 +157,8 @@ fn paths_files<R: Files + AllocGlobal>(
     for path in paths {
         texts.push(path.as_str())?;
     }
-    Ok(given_files(rt, here, &texts))
+    let mut reader = OnFiles::new(rt);
+    Ok(given_files(&mut reader, here, &texts))
 }
 
 /// The files of a package.
@@ -167,11 +168,12 @@ fn package<R: Files + AllocGlobal>(
     name: Option<&str>,
     manifest: Option<&str>,
 ) -> Result<PackageFiles, PackageError> {
+    let mut reader = OnFiles::new(rt);
     match manifest {
-        Some(manifest) => package_files(rt, manifest, name),
+        Some(manifest) => package_files(&mut reader, manifest, name),
         None => {
-            let manifest = find_manifest(rt, here)?;
-            package_files(rt, manifest.as_str(), name)
+            let manifest = find_manifest(&reader, here)?;
+            package_files(&mut reader, manifest.as_str(), name)
         }
     }
 }

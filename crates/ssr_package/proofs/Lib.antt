@@ -4,3 +4,4 @@ mod Fronts
 mod CrateNames
 mod Trees
 mod GlobLaws
+mod TextLaws

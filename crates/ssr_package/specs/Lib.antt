@@ -1,4 +1,5 @@
 pub mod Paths
+pub mod Reads
 pub mod Marks
 pub mod Notes
 pub mod Errors

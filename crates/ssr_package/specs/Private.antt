@@ -1,2 +1,3 @@
 -- Words of private functions. No public clause cites them, and no reader of those has to believe them.
 pub mod Globs
+pub mod Texts

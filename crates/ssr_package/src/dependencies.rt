@@ -7,37 +7,39 @@ use crate::packages::MANIFEST;
 use crate::paths::{normal_path, within};
 use crate::places::is_ours;
 use crate::reading::{LIMIT, Reading};
+use crate::reads::Reads;
 use crate::targets::Package;
 use std::alloc::{AllocError, Global};
-use std::rt::Files;
 use toml::{Table, Value};
 
 /// The tables of a manifest that list dependencies.
 const TABLES: [&str; 3] = ["dependencies", "dev-dependencies", "build-dependencies"];
 
-impl<R: Files + AllocGlobal> Reading<'_, R> {
+impl Reading<'_> {
     /// Adds the packages on which a workspace's packages depend by paths, and those on which these depend so.
-    pub(crate) fn add_dependencies(
+    pub(crate) fn add_dependencies<F: Reads>(
         &mut self,
+        reader: &mut F,
         packages: &mut Vec<Package>,
         workspace: &Table,
     ) -> Result<(), PackageError> {
         let own = folders_of(self.alloc(), "", workspace, workspace)?;
-        self.add_folders(packages, workspace, own)?;
+        self.add_folders(reader, packages, workspace, own)?;
         for next in 0..LIMIT as usize {
             let Some(package) = packages.get(next) else {
                 return Ok(());
             };
             let folder = package.folder.as_str();
             let folders = folders_of(self.alloc(), folder, &package.manifest, workspace)?;
-            self.add_folders(packages, workspace, folders)?;
+            self.add_folders(reader, packages, workspace, folders)?;
         }
         Err(PackageError::TooMany)
     }
 
     /// Adds the packages of folders, but for those that the workspace leaves out.
-    fn add_folders(
+    fn add_folders<F: Reads>(
         &mut self,
+        reader: &mut F,
         packages: &mut Vec<Package>,
         workspace: &Table,
         folders: Vec<String>,
@@ -50,7 +52,7 @@ impl<R: Files + AllocGlobal> Reading<'_, R> {
         for folder in folders {
             let name = within(self.alloc(), folder.as_str(), MANIFEST)?;
             if is_ours(name.as_str()) && !self.is_excluded(folder.as_str(), excluded)? {
-                self.add_member(packages, folder.as_str(), false, edition)?;
+                self.add_member(reader, packages, folder.as_str(), false, edition)?;
             }
         }
         Ok(())

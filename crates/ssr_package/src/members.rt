@@ -8,13 +8,17 @@ use crate::package_error::PackageError;
 use crate::packages::read_manifest;
 use crate::paths::{normal_path, within};
 use crate::reading::Reading;
+use crate::reads::Reads;
 use crate::targets::Package;
-use std::rt::Files;
 use toml::{Table, Value};
 
-impl<R: Files + AllocGlobal> Reading<'_, R> {
+impl Reading<'_> {
     /// The packages that a workspace's manifest lists as its members, and those in its folder that they depend on by paths.
-    pub(crate) fn members(&mut self, manifest: &Table) -> Result<Vec<Package>, PackageError> {
+    pub(crate) fn members<F: Reads>(
+        &mut self,
+        reader: &mut F,
+        manifest: &Table,
+    ) -> Result<Vec<Package>, PackageError> {
         let mut packages = Vec::new(self.alloc());
         let Some(workspace) = table_at(manifest, "workspace") else {
             return Ok(packages);
@@ -23,16 +27,17 @@ impl<R: Files + AllocGlobal> Reading<'_, R> {
         for member in items_at(workspace, "members") {
             if let Some(pattern) = member.as_str() {
                 let excluded = items_at(workspace, "exclude");
-                self.add_members(&mut packages, pattern, excluded, edition)?;
+                self.add_members(reader, &mut packages, pattern, excluded, edition)?;
             }
         }
-        self.add_dependencies(&mut packages, manifest)?;
+        self.add_dependencies(reader, &mut packages, manifest)?;
         Ok(packages)
     }
 
     /// Adds the members of a path, of which parts may be patterns. The edition is that of the workspace.
-    fn add_members(
+    fn add_members<F: Reads>(
         &mut self,
+        reader: &mut F,
         packages: &mut Vec<Package>,
         pattern: &str,
         excluded: &[Value],
@@ -45,15 +50,15 @@ impl<R: Files + AllocGlobal> Reading<'_, R> {
             return self.note_pattern(pattern, Trouble::Unread(mark));
         }
         if !is_pattern(path.as_str()) {
-            return self.add_member(packages, path.as_str(), true, edition);
+            return self.add_member(reader, packages, path.as_str(), true, edition);
         }
-        let folders = self.folders_at(path.as_str())?;
+        let folders = self.folders_at(reader, path.as_str())?;
         if folders.is_empty() {
             return self.note_pattern(pattern, Trouble::NoFolder);
         }
         for folder in folders {
             if !self.is_excluded(folder.as_str(), excluded)? {
-                self.add_member(packages, folder.as_str(), false, edition)?;
+                self.add_member(reader, packages, folder.as_str(), false, edition)?;
             }
         }
         Ok(())
@@ -94,8 +99,9 @@ impl<R: Files + AllocGlobal> Reading<'_, R> {
     }
 
     /// Adds the package of a folder, if it has a manifest. Where it must have one, it is noted that it has none.
-    pub(crate) fn add_member(
+    pub(crate) fn add_member<F: Reads>(
         &mut self,
+        reader: &mut F,
         packages: &mut Vec<Package>,
         folder: &str,
         must: bool,
@@ -105,12 +111,12 @@ impl<R: Files + AllocGlobal> Reading<'_, R> {
         if !self.is_new(name.as_str())? {
             return Ok(());
         }
-        match self.root().standing(name.as_str())?.trouble() {
+        match self.root().standing(reader, name.as_str())?.trouble() {
             None => {}
             Some(Trouble::Missing) if !must => return Ok(()),
             Some(trouble) => return self.note(name.as_str(), trouble),
         }
-        let manifest = read_manifest(self.root(), name.as_str())?;
+        let manifest = read_manifest(reader, self.root().folder(), name.as_str())?;
         if package_name(&manifest).is_some() {
             let folder = String::from_str(self.alloc(), folder)?;
             let edition = package_edition(&manifest, edition);

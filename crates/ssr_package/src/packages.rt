@@ -1,4 +1,7 @@
 //! The files of a package, or of all packages of a workspace.
+ghost use Rattle.std.specs.Prelude.{IfOk, string_bytes};
+ghost use Rattle.ssr_package.specs.Private.Texts.{AreKept};
+ghost use Rattle.ssr_package.specs.Reads.{AreInOrder, AreRead};
 
 use crate::crates::{package_edition, workspace_edition};
 use crate::finding::{absolute, manifest_above};
@@ -7,10 +10,10 @@ use crate::package_error::PackageError;
 use crate::paths::path_in;
 use crate::places::{file_folder, last_part, parent};
 use crate::reading::{PackageFiles, Reading};
-use crate::root::Root;
+use crate::reads::Reads;
+use crate::root::{Root, text_in};
 use crate::targets::Package;
-use std::alloc::Global;
-use std::rt::Files;
+use crate::texts::Texts;
 use std::slice;
 use toml::Table;
 
@@ -22,29 +25,36 @@ pub(crate) const MANIFEST: &str = "Cargo.toml";
 /// own, or a member of the workspace of the manifest or of the nearest workspace above. A manifest is given by its path.
 ///
 /// `#[cfg]` is not looked at. No file outside of the folder is read, none through a link, and none below `target` or `vendor`.
-pub fn package_files<R: Files + AllocGlobal>(
-    rt: &R,
+pub fn package_files<F: Reads>(
+    reader: &mut F,
     manifest: &str,
     package: Option<&str>,
-) -> Result<PackageFiles, PackageError> {
-    let alloc = rt.alloc();
+) -> Result<PackageFiles, PackageError>
+    ensures read { IfOk result (λ found. AreRead (F.gave reader.new) (string_bytes found.folder) found.files.items) }
+    ensures order { IfOk result (λ found. AreInOrder found.files.items) }
+{
     let folder = file_folder(manifest);
-    let root = Root::new(rt, folder);
-    let table = read_manifest(&root, last_part(manifest))?;
+    let table = read_manifest(reader, folder, last_part(manifest))?;
     match package {
-        Some(name) if package_name(&table) != Some(name) => named_files(rt, folder, table, name),
-        _ => own_files(alloc, root, table, manifest),
+        Some(name) if package_name(&table) != Some(name) => {
+            named_files(reader, folder, table, name)
+        }
+        _ => own_files(reader, folder, table, manifest),
     }
 }
 
 /// The files of a manifest's own package, or of all members where it has none.
-fn own_files<R: Files + AllocGlobal>(
-    alloc: Global,
-    root: Root<'_, R>,
+fn own_files<F: Reads>(
+    reader: &mut F,
+    folder: &str,
     table: Table,
     manifest: &str,
-) -> Result<PackageFiles, PackageError> {
-    let mut reading = Reading::new(root);
+) -> Result<PackageFiles, PackageError>
+    ensures read { IfOk result (λ found. AreRead (F.gave reader.new) (string_bytes found.folder) found.files.items) }
+    ensures order { IfOk result (λ found. AreInOrder found.files.items) }
+{
+    let alloc = reader.alloc();
+    let mut reading = Reading::new(alloc, Root::new(folder));
     let mut packages = Vec::new(alloc);
     if package_name(&table).is_some() {
         let edition = package_edition(&table, workspace_edition(&table));
@@ -54,84 +64,100 @@ fn own_files<R: Files + AllocGlobal>(
             edition,
         })?;
     } else if table_at(&table, "workspace").is_some() {
-        packages = reading.members(&table)?;
+        packages = reading.members(reader, &table)?;
     } else {
         return Err(PackageError::NoPackage(String::from_str(alloc, manifest)?));
     }
-    reading.read_packages(&packages)?;
-    reading.finish()
+    let mut texts = Texts::new(reader, folder)?;
+    reading.read_packages(reader, &mut texts, &packages)?;
+    reading.finish(reader, texts)
 }
 
-impl<R: Files + AllocGlobal> Reading<'_, R> {
+impl Reading<'_> {
     /// Reads the files of packages, and notes those that nothing reaches.
-    fn read_packages(&mut self, packages: &[Package]) -> Result<(), PackageError> {
+    fn read_packages<F: Reads>(
+        &mut self,
+        reader: &mut F,
+        texts: &mut Texts,
+        packages: &[Package],
+    ) -> Result<(), PackageError>
+        requires { AreKept (F.gave reader.old) texts.old }
+        ensures { AreKept (F.gave reader.new) texts.new }
+    {
         for package in packages {
-            self.reach_targets(package)?;
+            self.reach_targets(reader, package)?;
         }
-        self.read_reached()?;
+        self.read_reached(reader, texts)?;
         for package in packages {
-            self.note_unreached(package)?;
+            self.note_unreached(reader, package)?;
         }
         Ok(())
     }
 }
 
 /// The files of the member of a name, of the workspace of a manifest or else of the nearest one above.
-fn named_files<R: Files + AllocGlobal>(
-    rt: &R,
+fn named_files<F: Reads>(
+    reader: &mut F,
     folder: &str,
     table: Table,
     name: &str,
-) -> Result<PackageFiles, PackageError> {
+) -> Result<PackageFiles, PackageError>
+    ensures read { IfOk result (λ found. AreRead (F.gave reader.new) (string_bytes found.folder) found.files.items) }
+    ensures order { IfOk result (λ found. AreInOrder found.files.items) }
+{
     if table_at(&table, "workspace").is_some() {
-        return member_files(Root::new(rt, folder), &table, name);
+        return member_files(reader, folder, &table, name);
     }
-    let start = absolute(rt, folder)?;
+    let start = absolute(reader, folder)?;
     let mut here = parent(start.as_str());
     for _ in 0..start.len() {
         let Some(folder) = here else { break };
-        let Some(folder) = manifest_above(rt, folder)? else {
+        let Some(folder) = manifest_above(reader, folder)? else {
             break
         };
-        let root = Root::new(rt, folder);
-        let table = read_manifest(&root, MANIFEST)?;
+        let table = read_manifest(reader, folder, MANIFEST)?;
         if table_at(&table, "workspace").is_some() {
-            return if package_name(&table) == Some(name) {
-                own_files(rt.alloc(), root, table, folder)
-            } else {
-                member_files(root, &table, name)
-            };
+            if package_name(&table) == Some(name) {
+                return own_files(reader, folder, table, folder);
+            }
+            return member_files(reader, folder, &table, name);
         }
         here = parent(folder);
     }
-    Err(PackageError::NoSuchPackage(String::from_str(rt.alloc(), name)?))
+    Err(PackageError::NoSuchPackage(String::from_str(reader.alloc(), name)?))
 }
 
 /// The files of the member of a name.
-fn member_files<R: Files + AllocGlobal>(
-    root: Root<'_, R>,
+fn member_files<F: Reads>(
+    reader: &mut F,
+    folder: &str,
     table: &Table,
     name: &str,
-) -> Result<PackageFiles, PackageError> {
-    let alloc = root.alloc();
-    let mut reading = Reading::new(root);
-    for package in &reading.members(table)? {
+) -> Result<PackageFiles, PackageError>
+    ensures read { IfOk result (λ found. AreRead (F.gave reader.new) (string_bytes found.folder) found.files.items) }
+    ensures order { IfOk result (λ found. AreInOrder found.files.items) }
+{
+    let alloc = reader.alloc();
+    let mut reading = Reading::new(alloc, Root::new(folder));
+    for package in &reading.members(reader, table)? {
         if package_name(&package.manifest) == Some(name) {
-            reading.read_packages(slice::from_ref(package))?;
-            return reading.finish();
+            let mut texts = Texts::new(reader, folder)?;
+            reading.read_packages(reader, &mut texts, slice::from_ref(package))?;
+            return reading.finish(reader, texts);
         }
     }
     Err(PackageError::NoSuchPackage(String::from_str(alloc, name)?))
 }
 
-/// Reads a manifest.
-pub(crate) fn read_manifest<R: Files + AllocGlobal>(
-    root: &Root<'_, R>,
+/// Reads a manifest of a folder.
+pub(crate) fn read_manifest<F: Reads>(
+    reader: &mut F,
+    folder: &str,
     name: &str,
 ) -> Result<Table, PackageError> {
-    let alloc = root.alloc();
-    let path = path_in(alloc, root.folder(), name)?;
-    let text = match root.text(name)? {
+    let alloc = reader.alloc();
+    let path = path_in(alloc, folder, name)?;
+    let text = match text_in(reader, folder, name)? {
         Ok(text) => text,
         Err(trouble) => return Err(PackageError::Unreadable(path, trouble)),
     };

@@ -1,6 +1,7 @@
 //! Paths as texts: parts with slashes between them.
 ghost use Rattle.std.specs.Prelude.{◌≡◌, Some, None, if◌then◌else◌, string_bytes, option_map, IfOk};
 ghost use Rattle.ssr_package.specs.Paths as spec;
+ghost use Rattle.ssr_package.specs.Reads as reads;
 
 use std::alloc::{AllocError, Global};
 
@@ -30,6 +31,16 @@ pub fn path_in(alloc: Global, folder: &str, name: &str) -> Result<String, AllocE
     let mut path = String::from_str(alloc, folder)?;
     path.push_str(name)?;
     Ok(path)
+}
+
+/// The path of the file system that a name in a folder stands for.
+pub(crate) fn place(alloc: Global, folder: &str, name: &str) -> Result<String, AllocError>
+    ensures { IfOk result (λ path. string_bytes path ≡ reads.place folder.now name.now) }
+{
+    if folder.is_empty() && name.is_empty() {
+        return String::from_str(alloc, ".");
+    }
+    path_in(alloc, folder, name)
 }
 
 /// The path, without empty parts, `.` and `..`, that a path stands for from a folder on. `None`: it leads out of the folder that

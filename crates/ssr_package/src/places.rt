@@ -4,7 +4,7 @@ ghost use Rattle.std.specs.Path.{path_parent};
 ghost use Rattle.ssr_package.specs.Places as spec;
 
 use crate::paths::within;
-use crate::root::Entry;
+use crate::reads::Entry;
 use std::alloc::{AllocError, Global};
 use std::path::Path;
 

@@ -1,4 +1,7 @@
 //! The files of a run, as they are reached.
+ghost use Rattle.std.specs.Prelude.{IfOk, string_bytes};
+ghost use Rattle.ssr_package.specs.Private.Texts.{AreKept};
+ghost use Rattle.ssr_package.specs.Reads.{AreInOrder, AreRead};
 
 use crate::crates::Crate;
 use crate::marks::marks;
@@ -7,12 +10,13 @@ use crate::modules::{Declared, declared_modules};
 use crate::notes::{Note, Trouble};
 use crate::package_error::PackageError;
 use crate::places::{file_folder, is_ours, module_folder};
-use crate::root::{Root, Standing};
+use crate::reads::{Reads, Standing};
+use crate::root::Root;
 use crate::source_file::SourceFile;
+use crate::texts::{Texts, in_order};
 use crate::tokens::{behind_front, solid_tokens};
 use std::alloc::{AllocError, Global};
-use std::collections::{BTreeMap, BTreeSet};
-use std::rt::Files;
+use std::collections::BTreeSet;
 
 /// The most files and folders that a run looks at.
 pub(crate) const LIMIT: u32 = 1 << 20;
@@ -40,46 +44,48 @@ enum Found {
     Nothing,
 }
 
-/// A run: the names that were reached, the modules that have files, of which some are still to be read, and the texts of the
-/// others.
+/// A run: the names that were reached, and the modules that have files, of which some are still to be read.
 #[derive(Drop)]
-pub(crate) struct Reading<'r, R> {
-    root: Root<'r, R>,
+pub(crate) struct Reading<'r> {
+    alloc: Global,
+    root: Root<'r>,
     reached: BTreeSet<String>,
     modules: ModuleTree,
-    texts: BTreeMap<String, String>,
     notes: Vec<Note>,
 }
 
-impl<'r, R: Files + AllocGlobal> Reading<'r, R> {
+impl<'r> Reading<'r> {
     /// A run that has reached no file.
-    pub(crate) fn new(root: Root<'r, R>) -> Self {
-        let alloc = root.alloc();
+    pub(crate) fn new(alloc: Global, root: Root<'r>) -> Self {
         Reading {
+            alloc,
             root,
             reached: BTreeSet::new(alloc),
             modules: ModuleTree::new(alloc),
-            texts: BTreeMap::new(alloc),
             notes: Vec::new(alloc),
         }
     }
 
     pub(crate) fn alloc(&self) -> Global {
-        self.root.alloc()
+        self.alloc
     }
 
-    pub(crate) fn root(&self) -> &Root<'r, R> {
-        &self.root
+    pub(crate) fn root(&self) -> Root<'r> {
+        self.root
     }
 
     /// What was read and passed over.
-    pub(crate) fn finish(self) -> Result<PackageFiles, PackageError> {
-        let alloc = self.alloc();
-        let folder = String::from_str(alloc, self.root.folder())?;
-        let mut files = Vec::new(alloc);
-        for (name, text) in self.texts {
-            files.push(SourceFile { name, text })?;
-        }
+    pub(crate) fn finish<F: Reads>(
+        self,
+        reader: &F,
+        texts: Texts,
+    ) -> Result<PackageFiles, PackageError>
+        requires { AreKept (F.gave reader.now) texts }
+        ensures read { IfOk result (λ found. AreRead (F.gave reader.now) (string_bytes found.folder) found.files.items) }
+        ensures order { IfOk result (λ found. AreInOrder found.files.items) }
+    {
+        let Texts { folder, by_name } = texts;
+        let files = in_order(reader.alloc(), by_name)?;
         Ok(PackageFiles {
             folder,
             files,
@@ -111,18 +117,26 @@ impl<'r, R: Files + AllocGlobal> Reading<'r, R> {
     }
 
     /// Reads a file of no crate that is known, unless it was reached before, and not what its `mod` items reach.
-    pub(crate) fn read_alone(&mut self, name: String) -> Result<(), PackageError> {
+    pub(crate) fn read_alone<F: Reads>(
+        &mut self,
+        reader: &mut F,
+        texts: &mut Texts,
+        name: String,
+    ) -> Result<(), PackageError>
+        requires { AreKept (F.gave reader.old) texts.old }
+        ensures { AreKept (F.gave reader.new) texts.new }
+    {
         if !self.is_new(name.as_str())? {
             return Ok(());
         }
-        if let Some(trouble) = self.root.standing(name.as_str())?.trouble() {
+        if let Some(trouble) = self.root.standing(reader, name.as_str())?.trouble() {
             return self.note(name.as_str(), trouble);
         }
-        match self.root.text(name.as_str())? {
+        match texts.read(reader, name.as_str())? {
             Ok(text) => {
                 let copy = String::from_str(self.alloc(), name.as_str())?;
                 self.modules.add_root(copy, None)?;
-                self.texts.insert(name, text)?;
+                texts.add(name, text)?;
                 Ok(())
             }
             Err(trouble) => self.note(name.as_str(), trouble),
@@ -130,8 +144,13 @@ impl<'r, R: Files + AllocGlobal> Reading<'r, R> {
     }
 
     /// Reaches the file that a crate begins with, if one is there: tells whether something is.
-    pub(crate) fn reach_root(&mut self, name: String, of: Crate) -> Result<bool, PackageError> {
-        let found = self.look(name.as_str())?;
+    pub(crate) fn reach_root<F: Reads>(
+        &mut self,
+        reader: &F,
+        name: String,
+        of: Crate,
+    ) -> Result<bool, PackageError> {
+        let found = self.look(reader, name.as_str())?;
         if found == Found::New {
             self.modules.add_root(name, Some(of))?;
         }
@@ -139,8 +158,8 @@ impl<'r, R: Files + AllocGlobal> Reading<'r, R> {
     }
 
     /// Looks what stands at a name, which is then reached. Why a file is passed over is noted.
-    fn look(&mut self, name: &str) -> Result<Found, PackageError> {
-        let standing = self.root.standing(name)?;
+    fn look<F: Reads>(&mut self, reader: &F, name: &str) -> Result<Found, PackageError> {
+        let standing = self.root.standing(reader, name)?;
         if matches!(standing, Standing::Missing | Standing::Folder) {
             return Ok(Found::Nothing);
         }
@@ -156,28 +175,38 @@ impl<'r, R: Files + AllocGlobal> Reading<'r, R> {
     }
 
     /// Reads the files that were reached, and those that they reach.
-    pub(crate) fn read_reached(&mut self) -> Result<(), PackageError> {
+    pub(crate) fn read_reached<F: Reads>(
+        &mut self,
+        reader: &mut F,
+        texts: &mut Texts,
+    ) -> Result<(), PackageError>
+        requires { AreKept (F.gave reader.old) texts.old }
+        ensures { AreKept (F.gave reader.new) texts.new }
+    {
         for _ in 0..LIMIT {
             if !self.modules.go_on() {
                 return Ok(());
             }
-            self.read_here()?;
+            self.read_here(reader, texts)?;
         }
         Err(PackageError::TooMany)
     }
 
     /// Reads the file of the module that the run has come to.
-    fn read_here(&mut self) -> Result<(), PackageError> {
+    fn read_here<F: Reads>(&mut self, reader: &mut F, texts: &mut Texts) -> Result<(), PackageError>
+        requires { AreKept (F.gave reader.old) texts.old }
+        ensures { AreKept (F.gave reader.new) texts.new }
+    {
         let alloc = self.alloc();
         let Some(module) = self.modules.here() else {
             return Ok(());
         };
         let name = String::from_str(alloc, module.file.as_str())?;
         let below = module_folder(alloc, name.as_str(), module.owns_folder)?;
-        match self.root.text(name.as_str())? {
+        match texts.read(reader, name.as_str())? {
             Ok(text) => {
-                self.follow(name.as_str(), below.as_str(), text.as_str())?;
-                self.texts.insert(name, text)?;
+                self.follow(reader, name.as_str(), below.as_str(), text.as_str())?;
+                texts.add(name, text)?;
                 Ok(())
             }
             Err(trouble) => self.note(name.as_str(), trouble),
@@ -185,25 +214,36 @@ impl<'r, R: Files + AllocGlobal> Reading<'r, R> {
     }
 
     /// Reaches the files of a file's `mod` items. Those of its modules lie in the folder `below`.
-    fn follow(&mut self, name: &str, below: &str, text: &str) -> Result<(), PackageError> {
+    fn follow<F: Reads>(
+        &mut self,
+        reader: &F,
+        name: &str,
+        below: &str,
+        text: &str,
+    ) -> Result<(), PackageError> {
         let alloc = self.alloc();
         let text = behind_front(text);
         let tokens = solid_tokens(alloc, text)?;
         let marks = marks(alloc, &tokens)?;
         for module in &declared_modules(alloc, text, file_folder(name), below, &marks)? {
-            self.reach_module(name, module)?;
+            self.reach_module(reader, name, module)?;
         }
         Ok(())
     }
 
     /// Reaches the files of a `mod` item, or notes that none is there.
-    fn reach_module(&mut self, name: &str, module: &Declared<'_>) -> Result<(), PackageError> {
+    fn reach_module<F: Reads>(
+        &mut self,
+        reader: &F,
+        name: &str,
+        module: &Declared<'_>,
+    ) -> Result<(), PackageError> {
         let mut is_there = false;
         let mut is_outside = false;
         for candidate in &module.candidates {
             match &candidate.name {
                 Some(file) => {
-                    if self.reach_declared(file.as_str(), candidate.owns_folder, module)? {
+                    if self.reach_declared(reader, file.as_str(), candidate.owns_folder, module)? {
                         is_there = true;
                     }
                 }
@@ -222,13 +262,14 @@ impl<'r, R: Files + AllocGlobal> Reading<'r, R> {
     }
 
     /// Reaches a file that a `mod` item may stand for, if one is there: tells whether something is.
-    fn reach_declared(
+    fn reach_declared<F: Reads>(
         &mut self,
+        reader: &F,
         file: &str,
         owns_folder: bool,
         module: &Declared<'_>,
     ) -> Result<bool, PackageError> {
-        let found = self.look(file)?;
+        let found = self.look(reader, file)?;
         if found == Found::New {
             let alloc = self.alloc();
             let file = String::from_str(alloc, file)?;

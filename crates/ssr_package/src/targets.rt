@@ -9,9 +9,8 @@ use crate::package_error::PackageError;
 use crate::paths::{normal_path, within};
 use crate::places::{default_target, stem, target_name};
 use crate::reading::Reading;
-use crate::root::Standing;
+use crate::reads::{Reads, Standing};
 use std::alloc::{AllocError, Global};
-use std::rt::Files;
 use toml::{Table, Value};
 
 /// A kind of targets of which a package may have many.
@@ -75,55 +74,73 @@ impl Package {
     }
 }
 
-impl<R: Files + AllocGlobal> Reading<'_, R> {
+impl Reading<'_> {
     /// Reaches the files that a package's targets begin with.
-    pub(crate) fn reach_targets(&mut self, package: &Package) -> Result<(), PackageError> {
-        self.reach_library(package)?;
-        self.reach_build_script(package)?;
-        self.reach_kind(package, &BINARIES)?;
-        self.reach_kind(package, &EXAMPLES)?;
-        self.reach_kind(package, &TESTS)?;
-        self.reach_kind(package, &BENCHES)?;
+    pub(crate) fn reach_targets<F: Reads>(
+        &mut self,
+        reader: &F,
+        package: &Package,
+    ) -> Result<(), PackageError> {
+        self.reach_library(reader, package)?;
+        self.reach_build_script(reader, package)?;
+        self.reach_kind(reader, package, &BINARIES)?;
+        self.reach_kind(reader, package, &EXAMPLES)?;
+        self.reach_kind(reader, package, &TESTS)?;
+        self.reach_kind(reader, package, &BENCHES)?;
         if !is_off_in_package(&package.manifest, BINARIES.switch) {
-            self.reach_default(package, "src/main.rs", package.name())?;
+            self.reach_default(reader, package, "src/main.rs", package.name())?;
         }
         Ok(())
     }
 
-    fn reach_library(&mut self, package: &Package) -> Result<(), PackageError> {
+    fn reach_library<F: Reads>(
+        &mut self,
+        reader: &F,
+        package: &Package,
+    ) -> Result<(), PackageError> {
         let name = library_name(&package.manifest).unwrap_or(package.name());
         match library_path(&package.manifest) {
-            Some(path) => self.reach_path(package, path, name),
-            None => self.reach_default(package, "src/lib.rs", name),
+            Some(path) => self.reach_path(reader, package, path, name),
+            None => self.reach_default(reader, package, "src/lib.rs", name),
         }
     }
 
-    fn reach_build_script(&mut self, package: &Package) -> Result<(), PackageError> {
+    fn reach_build_script<F: Reads>(
+        &mut self,
+        reader: &F,
+        package: &Package,
+    ) -> Result<(), PackageError> {
         let Some(table) = table_at(&package.manifest, "package") else {
             return Ok(());
         };
         match text_at(table, "build") {
-            Some(path) => self.reach_path(package, path, BUILD_SCRIPT),
+            Some(path) => self.reach_path(reader, package, path, BUILD_SCRIPT),
             None if is_off(table, "build") => Ok(()),
-            None => self.reach_default(package, "build.rs", BUILD_SCRIPT),
+            None => self.reach_default(reader, package, "build.rs", BUILD_SCRIPT),
         }
     }
 
     /// Reaches the targets of a kind: those that the manifest lists, and those that lie in the kind's folder.
-    fn reach_kind(&mut self, package: &Package, kind: &TargetKind) -> Result<(), PackageError> {
+    fn reach_kind<F: Reads>(
+        &mut self,
+        reader: &F,
+        package: &Package,
+        kind: &TargetKind,
+    ) -> Result<(), PackageError> {
         for target in items_at(&package.manifest, kind.key) {
-            self.reach_listed(package, kind, target)?;
+            self.reach_listed(reader, package, kind, target)?;
         }
         if is_off_in_package(&package.manifest, kind.switch) {
             return Ok(());
         }
         let folder = within(self.alloc(), package.folder.as_str(), kind.folder)?;
-        self.reach_folder(package, folder.as_str())
+        self.reach_folder(reader, package, folder.as_str())
     }
 
     /// Reaches a target that the manifest lists: at its path, or else at the default places of its name.
-    fn reach_listed(
+    fn reach_listed<F: Reads>(
         &mut self,
+        reader: &F,
         package: &Package,
         kind: &TargetKind,
         target: &Value,
@@ -133,46 +150,58 @@ impl<R: Files + AllocGlobal> Reading<'_, R> {
         };
         let name = text_at(target, "name");
         if let Some(path) = text_at(target, "path") {
-            return self.reach_path(package, path, name.unwrap_or(stem(path)));
+            return self.reach_path(reader, package, path, name.unwrap_or(stem(path)));
         }
         let Some(name) = name else {
             return Ok(());
         };
         let alloc = self.alloc();
         let place = within(alloc, kind.folder, name)?;
-        self.reach_default(package, format!(in alloc; "{place}.rs")?.as_str(), name)?;
         self.reach_default(
+            reader,
+            package,
+            format!(in alloc; "{place}.rs")?.as_str(),
+            name,
+        )?;
+        self.reach_default(
+            reader,
             package,
             format!(in alloc; "{place}/main.rs")?.as_str(),
             name,
         )?;
         if kind.key == BINARIES.key && package.name() == name {
-            self.reach_default(package, "src/main.rs", name)?;
+            self.reach_default(reader, package, "src/main.rs", name)?;
         }
         Ok(())
     }
 
     /// Reaches the targets that lie in a folder of targets.
-    fn reach_folder(&mut self, package: &Package, folder: &str) -> Result<(), PackageError> {
-        if self.root().standing(folder)? != Standing::Folder {
+    fn reach_folder<F: Reads>(
+        &mut self,
+        reader: &F,
+        package: &Package,
+        folder: &str,
+    ) -> Result<(), PackageError> {
+        if self.root().standing(reader, folder)? != Standing::Folder {
             return Ok(());
         }
-        let entries = match self.root().entries(folder)? {
+        let entries = match self.root().entries(reader, folder)? {
             Ok(entries) => entries,
             Err(trouble) => return self.note(folder, trouble),
         };
         for entry in &entries {
             if let Some(file) = default_target(self.alloc(), folder, entry)? {
                 let of = package.target(self.alloc(), target_name(entry))?;
-                self.reach_root(file, of)?;
+                self.reach_root(reader, file, of)?;
             }
         }
         Ok(())
     }
 
     /// Reaches the file of a target at a path that the manifest gives, or notes that it is not there.
-    fn reach_path(
+    fn reach_path<F: Reads>(
         &mut self,
+        reader: &F,
         package: &Package,
         path: &str,
         name: &str,
@@ -182,7 +211,7 @@ impl<R: Files + AllocGlobal> Reading<'_, R> {
         };
         let copy = String::from_str(self.alloc(), file.as_str())?;
         let of = package.target(self.alloc(), name)?;
-        if self.reach_root(file, of)? {
+        if self.reach_root(reader, file, of)? {
             Ok(())
         } else {
             self.note(copy.as_str(), Trouble::Missing)
@@ -190,15 +219,16 @@ impl<R: Files + AllocGlobal> Reading<'_, R> {
     }
 
     /// Reaches the file of a target at a place below the package's folder, if it is there.
-    fn reach_default(
+    fn reach_default<F: Reads>(
         &mut self,
+        reader: &F,
         package: &Package,
         place: &str,
         name: &str,
     ) -> Result<(), PackageError> {
         if let Some(file) = normal_path(self.alloc(), package.folder.as_str(), place)? {
             let of = package.target(self.alloc(), name)?;
-            self.reach_root(file, of)?;
+            self.reach_root(reader, file, of)?;
         }
         Ok(())
     }
