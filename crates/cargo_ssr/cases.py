@@ -151,7 +151,8 @@ def modules_are_followed(program):
         (package.folder / "src/linked.rs").symlink_to(package.folder / "src/odd.rs")
         status, out, told = package.run(program, "--search", "$a.unwrap()")
         yield (status, out) == (0, "".join(f"{name}:1:10: a.unwrap()\n" for name in files if name != "src/other.rs"))
-        yield told == "src/lib.rs: no file for mod lost\nsrc/linked.rs: reached through a link\n5 matches in 5 files\n"
+        unreached = "1 file below src is reached by no mod item: src/other.rs; -- src searches it\n"
+        yield told == "src/lib.rs: no file for mod lost\nsrc/linked.rs: reached through a link\n" + unreached + "5 matches in 5 files\n"
 
 
 @example
@@ -340,7 +341,7 @@ GROUPED = [
     ('fn f() { println!("{}", format!("{}", 2 * 7)); }\n', "7 ==>> 3 + 4", 'fn f() { println!("{}", format!("{}", 2 * (3 + 4))); }\n'),
     ("fn f() { g(vec![2 * 7; 7]); matches!(7, 7); }\n", "7 ==>> 3 | 4", "fn f() { g(vec![2 * (3 | 4); 3 | 4]); matches!(3 | 4, 3 | 4); }\n"),
     ("fn f() { assert!(x&(&y)); dbg!(2 * 7); }\n", "($a) ==>> $a", "fn f() { assert!(x&(&y)); dbg!(2 * 7); }\n"),
-    ("fn f() { assert!(a.b(7)); }\n", "a.b($x) ==>> *c.d($x)", "fn f() { assert!(*c.d(7)); }\n"),
+    ("fn f() { assert!(a.b(7)); }\n", "$a.b($x) ==>> *$a.d($x)", "fn f() { assert!(*a.d(7)); }\n"),
     # what stands for an expression is one
     ("fn f() { 7 }\n", "7 ==>> { 1 } - 1", "fn f() { ({ 1 } - 1) }\n"),
 ]
@@ -372,7 +373,7 @@ def what_cannot_be_read_again_is_told_alone(program):
             status, out, _ = package.run(program, "--json", rule, "--", "one.rs")
             shown = [(f"{line['line']}:{line['column']}", line["new"]) for line in map(json.loads, out.splitlines()[:-1])]
             yield status == 0 and [at for at, new_text in shown if new_text is None] == [place]
-            yield json.loads(out.splitlines()[-1])["summary"] == {"files": 1, "matches": 2, "edits": 1, "set_aside": 0, "unread": 1, "left_out": 0, "not_searched": 0}
+            yield json.loads(out.splitlines()[-1])["summary"] == {"files": 1, "matches": 2, "edits": 1, "set_aside": 0, "unread": 1, "undecided": 0, "left_out": 0, "not_searched": 0}
             status, _, told = package.run(program, "--check", rule, "--", "one.rs")
             yield status == 1 and told.startswith(told_alone) and told.endswith("2 matches in 1 file: 1 edit; 1 left as it is\n")
             yield package.run(program, "-q", "--write", rule, "--", "one.rs") == (0, "", told_alone) and package.read("one.rs") == new
@@ -478,9 +479,9 @@ def refused_rules_are_named_by_where_they_stand(program):
         yield package.run(program, "$b ==> c", "--rules", "bad.rules", "--", "one.rs") == (3, "", f"error: rule 0: {why}")
         yield package.run(program, "-q", "--rules", "good.rules", "--", "one.rs") == (0, "", "")
         yield package.run(program, "--search", "$a", "--search", "$ a", "--", "one.rs")[2].startswith("error: pattern 1: Placeholders should")
-        unknown = "names need --facts FILE\n"
-        yield package.run(program, "f($a) ==>> $a", "--", "one.rs") == (3, "", f"error: rule 0: Failed to resolve path `f`: {unknown}")
-        yield package.run(program, "F::<$t>::f() ==>> $t", "--", "one.rs") == (3, "", f"error: rule 0: Failed to resolve path `F::<$t>`: {unknown}")
+        unknown = "names are looked up in one.rs, or where --in says\n"
+        yield package.run(program, "g($a) ==>> $a", "--", "one.rs") == (3, "", f"error: rule 0: Failed to resolve path `g`\n{unknown}")
+        yield package.run(program, "F::<$t>::f() ==>> $t", "--", "one.rs") == (3, "", f"error: rule 0: Failed to resolve path `F::<$t>`\n{unknown}")
 
 
 @example
@@ -507,6 +508,125 @@ def self_needs_a_method(program):
         yield package.run(program, "-q", "--search", "$a", "--search", "self.$b", "--", "one.rs")[2] == f"pattern 1: {why}"
         yield package.run(program, "-q", rule, "--write", "--in", "one.rs:2:19", "--", "one.rs") == (0, "", "")
         yield package.read("one.rs") == text.replace(".unwrap()", "?", 1)
+
+
+# What a file is, a rule, and how the summary of its search begins. In each file another thing of the name might be taken.
+SOURCES_WITH_TRAPS = [
+    # a name under one configuration is imported, under the other one declared
+    (
+        '#[cfg(feature = "std")]\nuse std::mem::drop as end;\n#[cfg(not(feature = "std"))]\nfn end(_: u32) {}\npub fn f(x: u32) { end(x) }\n',
+        "std::mem::drop($a) ==>> $a",
+        "0 matches; 1 undecided",
+    ),
+    # a macro brings in names by `*`
+    (
+        "macro_rules! all { () => { use crate::own::*; } }\nmod own { pub fn drop(_: u32) {} }\nmod inner { all!(); pub fn g(x: u32) { drop(x) } }\npub fn g(x: u32) { drop(x) }\n",
+        "std::mem::drop($a) ==>> $a",
+        "1 match in 1 file: 1 edit; 1 undecided",
+    ),
+    # a macro of another function
+    (
+        "pub fn a() { macro_rules! assert { ($x:expr) => { if !$x { return; } } } assert!(true); }\npub fn b(x: bool) { assert!(x); }\n",
+        "std::assert!($a) ==>> $a",
+        "0 matches; 1 undecided",
+    ),
+    # a file that isn't read
+    ('include!("other.rs");\npub fn f(x: u32) { drop(x) }\n', "std::mem::drop($a) ==>> $a", "0 matches; 1 undecided"),
+    # a name that a pattern in a macro's arguments binds
+    (
+        "pub fn f(x: Option<usize>) -> bool { matches!(x, Some(size_of) if size_of > 0) && size_of::<u32>() == 4 }\npub fn g() -> usize { size_of::<u32>() }\n",
+        "std::mem::size_of::<$t>() ==>> 0",
+        "1 match in 1 file: 1 edit; 1 undecided",
+    ),
+    # a value and a type of one name
+    (
+        "pub struct Job(pub u32);\npub mod m { #[allow(non_snake_case)] pub fn Job(_: u32) {} }\npub fn f() { m::Job(1); Job(2); }\n",
+        "m::Job($a) ==>> $a",
+        "1 match in 1 file: 1 edit",
+    ),
+    # modules that bring in each other's names
+    (
+        "pub mod a { pub use crate::b::*; pub fn one(_: u32) {} }\npub mod b { pub use crate::a::*; pub fn two(_: u32) {} }\npub fn f() { a::two(1); b::two(2); b::one(3); }\n",
+        "b::two($a) ==>> $a",
+        "2 matches in 1 file: 2 edits",
+    ),
+    # an item hides what comes in by `*`, and a private one isn't seen
+    (
+        "mod a { fn one(_: u32) {} pub fn two(_: u32) {} }\nuse a::*;\nfn one(_: u32) {}\npub fn f() { one(1); two(2); a::two(3); }\n",
+        "a::two($a) ==>> $a",
+        "2 matches in 1 file: 2 edits",
+    ),
+    # variants in the place of those of the prelude
+    (
+        "use Sort::*;\npub enum Sort { None, Up(u32) }\nuse Sort as S;\npub fn f() -> [Sort; 3] { [None, Up(3), S::Up(4)] }\n",
+        "Sort::Up($a) ==>> Sort::None",
+        "2 matches in 1 file: 2 edits",
+    ),
+    # a generic parameter of a type's name
+    (
+        "pub fn f<Vec: Default>() -> Vec { Vec::default() }\npub fn g() -> Vec<u32> { Vec::default() }\n",
+        "Vec::default() ==>> Vec::new()",
+        "1 match in 1 file: 1 edit; 1 undecided",
+    ),
+    # a module named as the standard library
+    (
+        "mod std { pub mod mem { pub fn drop(_: u32) {} } }\npub fn f(x: u32) { std::mem::drop(x); ::std::mem::drop(x) }\n",
+        "::std::mem::drop($a) ==>> $a",
+        "1 match in 1 file: 1 edit",
+    ),
+    # functions in blocks
+    (
+        "fn drop(_: u32) {}\npub fn f() { { fn drop(_: u8) {} drop(3); } drop(4); }\npub fn g() { use std::mem::drop; drop(3); { fn h() { drop(4) } } }\n",
+        "std::mem::drop($a) ==>> $a",
+        "2 matches in 1 file: 2 edits",
+    ),
+    # a module of the standard library that is named as a builtin type
+    (
+        "use std::u32;\npub fn f() -> u32 { u32::MAX - std::u32::MAX - u32::max_value() }\n",
+        "std::u32::MAX ==>> 7",
+        "2 matches in 1 file: 2 edits",
+    ),
+    # `Self`; a path that names an alias of a type is another one
+    (
+        "pub struct A;\npub struct B;\nimpl A { pub fn new(_: u32) -> Self { A } pub fn two() { Self::new(1); A::new(2); B::new(3); } }\nimpl B { pub fn new(_: u32) {} pub fn two() { Self::new(4); } }\npub type C = A;\npub fn f() { C::new(5); }\n",
+        "A::new($a) ==>> $a",
+        "2 matches in 1 file: 2 edits",
+    ),
+    # a type under other names
+    (
+        "use std::collections::HashMap as Map;\nuse std::collections::hash_map;\nmod m { pub use super::Map as Again; }\npub fn f() { Map::<u32, u32>::new(); hash_map::HashMap::<u32, u32>::new(); m::Again::<u32, u32>::new(); }\n",
+        "std::collections::HashMap::<$k, $v>::new() ==>> 0",
+        "3 matches in 1 file: 3 edits",
+    ),
+    # names that functions bind
+    (
+        "fn put(_: u32) {}\nconst LIMIT: u32 = 3;\npub fn f(put: fn(u32)) { put(3) }\npub fn g(x: u32) { match x { LIMIT => put(1), put => drop(put) } }\npub fn h() { put(2) }\n",
+        "put($a) ==>> $a",
+        "1 match in 1 file: 1 edit; 2 undecided",
+    ),
+    # an import of what isn't there
+    (
+        "use crate::nowhere::thing;\nuse crate::own as made;\nmod own { pub fn thing(_: u32) {} }\npub fn f() { thing(1); made::thing(2); }\n",
+        "own::thing($a) ==>> $a",
+        "1 match in 1 file: 1 edit; 1 undecided",
+    ),
+]
+OLD = '[package]\nname = "little"\nversion = "0.1.0"\n'
+OLD_LIB = "mod m { use mem::take; use std::mem; pub fn f(x: &mut u32) { mem::replace(x, 3); ::std::mem::replace(x, 4); take(5) } }\nmod mem { pub fn take(_: u32) {} }\npub fn g() { ::mem::take(6); mem::take(7) }\n"
+
+
+@example
+def names_mean_what_they_do_in_the_code(program):
+    for text, rule, summary in SOURCES_WITH_TRAPS:
+        with Package({"Cargo.toml": MANIFEST, "src/lib.rs": text}) as package:
+            yield package.run(program, rule)[2].splitlines()[-1].startswith(summary)
+
+
+@example
+def paths_of_imports_begin_in_the_root_in_the_first_edition(program):
+    with Package({"Cargo.toml": OLD, "src/lib.rs": OLD_LIB}) as package:
+        yield "3 matches in 1 file: 3 edits" in package.run(program, "mem::take($a) ==>> $a")[2]
+        yield "2 matches in 1 file: 2 edits" in package.run(program, "std::mem::replace($a, $b) ==>> $b")[2]
 
 
 @example
@@ -753,6 +873,213 @@ def names_are_looked_up_at_a_place(program):
         yield package.run(program, RULE, "--in", "src/lib.rs:3:1")[0] == 0
         status, _, told = package.run(program, RULE, "--in", "src/none.rs:1")
         yield status == 3 and "src/none.rs:1:1" in told
+
+
+# ** Names: a package with a function that is imported, one of its own of the same name, and a glob of a crate that isn't read.
+
+DEPOT = {
+    "Cargo.toml": MANIFEST.replace("little", "depot") + "\n[dependencies]\nrayon = \"1\"\n",
+    "src/lib.rs": """\
+use std::mem;
+mod pool;
+pub mod queue;
+pub fn clear(slot: &mut Option<u32>) -> Option<u32> { mem::replace(slot, None) }
+pub fn attempt(job: u32) -> bool { job < u32::max_value() }
+""",
+    "src/queue.rs": """\
+use crate::attempt;
+use std::mem::replace as put;
+pub struct Queue { pub jobs: Vec<u32>, pub last: Option<u32> }
+impl Queue {
+    pub fn last(&mut self) -> bool { assert!(put(&mut self.last, None).is_some()); self.ready() == 0 }
+    pub fn ready(&self) -> usize { self.jobs.iter().filter(|job| attempt(**job)).count() }
+}
+pub fn start(job: u32) -> bool { job > 0 }
+fn replace(old: u32, new: Option<u32>) -> u32 { new.unwrap_or(old) }
+pub fn own(n: u32) -> bool { let attempt = |n: u32| n == 2; attempt(replace(n, None)) }
+""",
+    "src/pool.rs": """\
+use crate::queue::Queue;
+use rayon::prelude::*;
+pub fn reset(q: &mut Queue) -> bool {
+    std::mem::replace(&mut q.last, None);
+    q.jobs.par_iter().all(|job| crate::attempt(*job))
+}
+""",
+}
+TAKE = "std::mem::replace($a, None) ==>> $a.take()"
+UNDECIDED = "src/pool.rs:4:5: undecided by `None`: std::mem::replace(&mut q.last, None)\n"
+
+# Words of the command, the lines that a diff adds, and what is told.
+DEPOT_RUNS = [
+    (
+        [TAKE],
+        [
+            "pub fn clear(slot: &mut Option<u32>) -> Option<u32> { slot.take() }",
+            "    pub fn last(&mut self) -> bool { assert!((&mut self.last).take().is_some()); self.ready() == 0 }",
+        ],
+        "2 matches in 2 files: 2 edits; 1 undecided\n",
+    ),
+    (
+        ["attempt($j) ==>> queue::start($j)"],
+        [
+            "    q.jobs.par_iter().all(|job| crate::queue::start(*job))",
+            "    pub fn ready(&self) -> usize { self.jobs.iter().filter(|job| start(**job)).count() }",
+        ],
+        "2 matches in 2 files: 2 edits; 1 undecided\n",
+    ),
+    (
+        ["std::mem::replace($a, $b) ==>> std::mem::take($a)"],
+        [
+            "pub fn clear(slot: &mut Option<u32>) -> Option<u32> { mem::take(slot) }",
+            "    std::mem::take(&mut q.last);",
+            "    pub fn last(&mut self) -> bool { assert!(std::mem::take(&mut self.last).is_some()); self.ready() == 0 }",
+        ],
+        "3 matches in 3 files: 3 edits\n",
+    ),
+    (["u32::max_value() ==>> u32::MAX"], ["pub fn attempt(job: u32) -> bool { job < u32::MAX }"], "1 match in 1 file: 1 edit\n"),
+    (
+        ["--in", "src/queue.rs:1", "replace($a, $b) ==>> $b"],
+        ["pub fn own(n: u32) -> bool { let attempt = |n: u32| n == 2; attempt(None) }"],
+        "1 match in 1 file: 1 edit\n",
+    ),
+    (["queue::Queue::ready($q) ==>> $q.jobs.len()"], [], "0 matches; 1 undecided\n"),
+]
+
+
+def added(diff):
+    """The lines that a diff adds, by the files' names."""
+    return sorted(line[1:] for line in diff.splitlines() if line.startswith("+") and not line.startswith("+++"))
+
+
+@example
+def names_are_known_by_the_sources(program):
+    with Package(DEPOT) as package:
+        for words, lines, told in DEPOT_RUNS:
+            status, diff, err = package.run(program, *words)
+            is_so = (status, added(diff), err) == (0, sorted(lines), told)
+            if not is_so:
+                print(f"{words}: status {status}\n{diff}{err}", end="")
+            yield is_so
+
+
+@example
+def undecided_places_are_listed(program):
+    with Package(DEPOT) as package:
+        _, shown, told = package.run(program, TAKE)
+        yield package.run(program, TAKE, "--undecided") == (0, shown, UNDECIDED + told)
+        yield package.run(program, TAKE, "--undecided", "-q") == (0, shown, UNDECIDED)
+        lines = package.run(program, TAKE, "--json")[1].splitlines()
+        yield len(lines) == 3 and json.loads(lines[2])["summary"]["undecided"] == 1
+        _, listed, told = package.run(program, "--search", "attempt($j)", "--undecided")
+        yield [line.split(" ")[0] for line in listed.splitlines()] == ["src/pool.rs:5:33:", "src/queue.rs:6:66:"]
+        yield told == "src/queue.rs:10:61: undecided by `attempt`: attempt(replace(n, None))\n2 matches in 2 files; 1 undecided\n"
+        yield package.run(program, TAKE, "--write", "-q")[0] == 0 and "    std::mem::replace(&mut q.last, None);\n" in package.read("src/pool.rs")
+
+
+@example
+def paths_are_searched_with_the_names_of_their_package(program):
+    with Package(DEPOT) as package:
+        status, diff, told = package.run(program, "attempt($j) ==>> queue::start($j)", "--", "src/queue.rs")
+        yield status == 0 and added(diff) == [DEPOT_RUNS[1][1][1]] and told == "1 match in 1 file: 1 edit; 1 undecided\n"
+        yield package.run(program, "attempt($j) ==>> queue::start($j)", "--", "queue.rs", within="src") == (0, diff, told)
+        yield package.run(program, TAKE, "--", "src/pool.rs") == (0, "", "0 matches; 1 undecided\n")
+        yield package.run(program, TAKE, "--", "src/none.rs")[0] == 3
+    with Package({**DEPOT, "src/empty.rs": ""}) as package:
+        yield package.run(program, TAKE, "--", "src/empty.rs") == (0, "", "0 matches\n")
+    with Package({"one.rs": "fn f() { std::mem::replace(a, None); }\n"}) as package:
+        status, diff, told = package.run(program, TAKE, "--", "one.rs")
+        yield status == 0 and added(diff) == ["fn f() { a.take(); }"] and told == "1 match in 1 file: 1 edit\n"
+
+
+@example
+def paths_that_do_not_resolve_are_told_with_what_ends_so(program):
+    here = "names are looked up in src/lib.rs, or where --in says\n"
+    with Package(DEPOT) as package:
+        refused = "error: rule 0: Failed to resolve path"
+        yield package.run(program, "reset($q) ==>> $q") == (3, "", f"{refused} `reset`\ncrate::pool::reset ends so; {here}")
+        yield package.run(program, "nothing($q) ==>> $q") == (3, "", f"{refused} `nothing`\n{here}")
+        status, _, told = package.run(program, "--in", "src/pool.rs:1", "start($q) ==>> $q")
+        yield (status, told) == (3, f"{refused} `start`\ncrate::queue::start ends so; names are looked up where --in says\n")
+        yield package.run(program, "--in", "src/pool.rs:1", "reset($q) ==>> $q")[0] == 0
+    two = {"Cargo.toml": MANIFEST, "src/lib.rs": "mod p {}\nfn p() -> u8 { 1 }\nfn f() { p(); }\n"}
+    with Package(two) as package:
+        yield package.run(program, "p() ==>> 2")[2] == "1 match in 1 file: 1 edit\n"
+        yield package.run(program, "p ==>> ()")[2] == "error: rule 0: Failed to resolve path `p`: p is a function and a module\n"
+
+
+# ** Names that are easily taken for others: what each file is, the words of the command, the lines that a diff adds, and what is told.
+
+EDITION_2015 = MANIFEST.replace("2021", "2015")
+DROP = "std::mem::drop($a) ==>> free($a)"
+OWN_FREE = "pub fn free<T>(_: T) {}\n"
+
+TRAPS = [
+    # what a function binds is no item there
+    ("fn g(a: u8) -> u8 { a }\nfn f(g: fn(u8) -> u8) -> u8 { g(1) }\nfn h() -> u8 { g(2) }\n", "g($a) ==>> $a", ["fn h() -> u8 { 2 }"], "1 match in 1 file: 1 edit; 1 undecided\n"),
+    ("fn g(a: u8) -> u8 { a }\nfn f() -> u8 { if let Some(g) = k() { g(1) } else { 0 } }\n", "g($a) ==>> $a", [], "0 matches; 1 undecided\n"),
+    # a function in a function hides the one around
+    ("fn g(a: u8) -> u8 { a }\nfn f() -> u8 { fn g(a: u8) -> u8 { a + 1 } g(1) }\nfn h() -> u8 { g(2) }\n", "g($a) ==>> $a", ["fn h() -> u8 { 2 }"], "1 match in 1 file: 1 edit\n"),
+    # a type, a function and a macro may have one name
+    ("mod log { pub fn log(a: u8) -> u8 { a } }\nuse log::log;\nfn f() -> u8 { log(1) + log::log(2) }\n", "log::log($a) ==>> $a", ["fn f() -> u8 { 1 + 2 }"], "2 matches in 1 file: 2 edits\n"),
+    # imports in a circle
+    ("mod a { pub use crate::b::*; pub fn g(a: u8) -> u8 { a } }\nmod b { pub use crate::a::*; }\nfn f() -> u8 { b::g(1) + a::g(2) }\n", "a::g($a) ==>> $a", ["fn f() -> u8 { 1 + 2 }"], "2 matches in 1 file: 2 edits\n"),
+    # an item hides what a glob brings in
+    ("mod a { pub fn g(a: u8) -> u8 { a } }\nuse a::*;\nfn g(a: u8) -> u8 { a + 1 }\nfn f() -> u8 { g(1) }\n", "a::g($a) ==>> $a", [], "0 matches\n"),
+    # one that is private isn't seen from outside
+    ("mod a { fn drop(a: u8) -> u8 { a } pub fn b() {} }\nuse a::*;\nfn free(a: u8) {}\nfn f() { drop(1) }\n", DROP, ["fn f() { free(1) }"], "1 match in 1 file: 1 edit\n"),
+    # under one condition imported, under the other one declared
+    ("#[cfg(unix)] use std::mem::drop as g;\n#[cfg(not(unix))] fn g(a: u8) {}\nfn free(a: u8) {}\nfn f() { g(1) }\n", DROP, [], "0 matches; 1 undecided\n"),
+    # what an import under a condition brings in counts beside the prelude
+    ("mod a { pub fn drop(a: u8) {} }\n#[cfg(unix)] use a::drop;\nfn free(a: u8) {}\nfn f() { drop(1) }\n", DROP, [], "0 matches; 1 undecided\n"),
+    # a macro of the package may bring in anything by a glob
+    ("mod a { pub fn drop(a: u8) {} }\nmacro_rules! all { () => { use a::*; } }\nall!();\nfn free(a: u8) {}\nfn f() { drop(1) }\n", DROP, [], "0 matches; 1 undecided\n"),
+    # so may a file that is included
+    ("include!(\"b.rs\");\nfn free(a: u8) {}\nfn f() { drop(1) }\n", DROP, [], "0 matches; 1 undecided\n"),
+    # a macro of one function is none of another one
+    ("fn f(a: u8) { macro_rules! assert { ($e:expr) => {} } assert!(a == 1); }\nfn g(a: u8) { assert!(a == 2); }\n", "std::assert!($a == $b) ==>> std::assert_eq!($a, $b)", None, None),
+    # `self` and `Self`
+    ("pub struct A;\nimpl A { pub fn new() -> A { A } fn b() -> A { Self::new() } }\nfn f() -> A { A::new() }\n", "A::new() ==>> A", None, "2 matches in 1 file: 2 edits\n"),
+    # another name for it
+    ("use std::mem as m;\nuse m::drop as g;\nfn free(a: u8) {}\nfn f() { g(1); m::drop(2) }\n", DROP, ["fn f() { free(1); free(2) }"], "2 matches in 1 file: 2 edits\n"),
+]
+
+
+@example
+def names_are_not_taken_for_others(program):
+    for text, rule, lines, wanted in TRAPS:
+        included = {"src/b.rs": "fn drop(a: u8) {}\n"} if "include!" in text else {}
+        with Package({"Cargo.toml": MANIFEST, "src/lib.rs": text, **included}) as package:
+            status, diff, told = package.run(program, rule)
+            is_so = status == 0 and (lines is None or added(diff) == sorted(lines)) and (wanted is None or told.endswith(wanted))
+            if not is_so:
+                print(f"{text}{rule}: status {status}\n{diff}{told}", end="")
+            yield is_so
+
+
+@example
+def editions_look_names_up_otherwise(program):
+    text = "mod a { pub fn g(a: u8) -> u8 { a } pub fn h() -> u8 { ::a::g(1) } }\nuse a::g;\nfn f() -> u8 { g(2) }\n"
+    with Package({"Cargo.toml": EDITION_2015, "src/lib.rs": text}) as package:
+        yield package.run(program, "a::g($a) ==>> $a")[2] == "2 matches in 1 file: 2 edits\n"
+    with Package({"Cargo.toml": MANIFEST, "src/lib.rs": text}) as package:
+        yield package.run(program, "a::g($a) ==>> $a")[2] == "1 match in 1 file: 1 edit\n"
+
+
+@example
+def files_of_several_crates_know_each_other(program):
+    files = {
+        "Cargo.toml": MANIFEST,
+        "src/lib.rs": "pub fn g(a: u8) -> u8 { a }\n",
+        "src/main.rs": "use little::g;\nfn main() { g(1); }\n",
+        "tests/one.rs": "mod common;\nfn f() { little::g(2); common::g(3); }\n",
+        "tests/two.rs": "mod common;\nfn f() { little::g(4); }\n",
+        "tests/common/mod.rs": "pub fn g(a: u8) -> u8 { a }\n",
+    }
+    with Package(files) as package:
+        status, diff, told = package.run(program, "g($a) ==>> $a")
+        yield added(diff) == ["fn f() { 2; common::g(3); }", "fn f() { 4; }", "fn main() { 1; }"]
+        yield (status, told) == (0, "3 matches in 3 files: 3 edits\n")
 
 
 def on_a_terminal(package, program, *words, **variables):

@@ -51,7 +51,7 @@ pub(crate) fn show_debug<W: Sink, E: Write, S: Semantics>(
 
 /// Places in files: those of a file that follow each other in their order take one pass over its text.
 #[derive(Drop)]
-struct FilePlaces<'a> {
+pub(crate) struct FilePlaces<'a> {
     files: &'a Searchable,
     /// The file of the last place.
     file: Option<usize>,
@@ -59,7 +59,7 @@ struct FilePlaces<'a> {
 }
 
 impl<'a> FilePlaces<'a> {
-    fn new(files: &'a Searchable) -> FilePlaces<'a> {
+    pub(crate) fn new(files: &'a Searchable) -> FilePlaces<'a> {
         FilePlaces {
             files,
             file: None,
@@ -68,7 +68,7 @@ impl<'a> FilePlaces<'a> {
     }
 
     /// Where a range begins, as FILE:LINE:COLUMN.
-    fn words(&mut self, alloc: Global, range: FileRange) -> Result<String, AllocError> {
+    pub(crate) fn words(&mut self, alloc: Global, range: FileRange) -> Result<String, AllocError> {
         let files = self.files;
         let file = range.file_id.0 as usize;
         if file >= files.file_count() {

@@ -1,13 +1,14 @@
 //! What a run searches.
-ghost use Rattle.std.specs.Prelude.{◌≡◌, IfOk};
+ghost use Rattle.std.specs.Prelude.{◌≡◌, ◌<◌, IfOk, length};
 ghost use Rattle.cargo_ssr_program.specs.Private.Telling.{TellsOnly};
 
 use crate::console::Console;
 use crate::failure::Failure;
 use crate::includes::tell_includes;
+use crate::known_names::KnownNames;
 use crate::left_out::left_out_words;
 use crate::malformed::malformed_words;
-use crate::passed_over::{PassedOver, tell_unsearched, unsearched_files};
+use crate::passed_over::{PassedOver, is_among, tell_unsearched, unsearched_files};
 use crate::positions::position_at;
 use cargo_ssr_options::{Chosen, Options, Place};
 use ssr_base::{FileId, FilePosition, FileRange, Workspace};
@@ -19,7 +20,9 @@ use ssr_package::{
 };
 use ssr_searching::Unresolved;
 use ssr_streams::Sink;
+use ssr_syntax_kinds::TextRange;
 use std::alloc::{AllocError, Global};
+use std::collections::BTreeSet;
 use std::fs;
 use std::io::Write;
 use std::rt::Files;
@@ -35,8 +38,12 @@ pub(crate) struct Input<S> {
     pub(crate) position: FilePosition,
     /// What is searched: all, if there are none.
     pub(crate) ranges: Vec<FileRange>,
-    /// How many files aren't searched, or not whole.
+    /// Which files aren't searched, or not whole.
     pub(crate) passed_over: PassedOver,
+    /// How many places match if names that aren't known stand for what rules mean.
+    pub(crate) undecided: usize,
+    /// What the sources tell of names, where rules have some.
+    pub(crate) known: Option<KnownNames>,
 }
 
 impl<S> Input<S> {
@@ -46,6 +53,23 @@ impl<S> Input<S> {
     {
         Vec::from_slice(alloc, &self.ranges)
     }
+
+    /// The same with what is known of names.
+    pub(crate) fn knowing<T>(self, known: KnownNames, semantics: T) -> Input<T>
+    where
+        S: Drop,
+    {
+        Input {
+            folder: self.folder,
+            files: self.files,
+            semantics,
+            position: self.position,
+            ranges: self.ranges,
+            passed_over: self.passed_over,
+            undecided: self.undecided,
+            known: Some(known),
+        }
+    }
 }
 
 /// Where names are looked up, if no place is told: at the beginning of the first file.
@@ -54,43 +78,92 @@ const BEGINNING: FilePosition = FilePosition {
     offset: 0,
 };
 
-/// The files of a package, or of paths. What is left out of them is told.
-pub(crate) fn of_files<R: Files + AllocGlobal, W: Sink, E: Write>(
-    rt: &R,
-    here: &str,
+/// The files of a package, or of paths, of which those with some names are searched, or all. What is left out of these is told.
+pub(crate) fn of_files<W: Sink, E: Write>(
+    alloc: Global,
+    found: PackageFiles,
+    searched: Option<&BTreeSet<String>>,
     options: &Options,
     console: &mut Console<W, E>,
 ) -> Result<Input<Unresolved>, Failure>
     ensures { TellsOnly console.old console.new }
 {
-    let alloc = rt.alloc();
     let PackageFiles {
         folder,
         files,
         modules: _,
+        dependencies: _,
         notes,
-    } = chosen_files(rt, here, &options.files)?;
+    } = found;
     tell_notes(alloc, &notes, console)?;
-    tell_includes(alloc, &files, console)?;
-    let (files, unread) = Searchable::of_files(alloc, files, options.macros)?;
+    tell_includes(alloc, &files, searched, console)?;
+    let (files, mut unread) = Searchable::of_files(alloc, files, options.macros)?;
+    unread.retain(|file| is_among(searched, file.name.as_str()));
     tell_unread(alloc, &unread, console)?;
-    tell_unsearched(alloc, &files, console)?;
+    let not_searched = unsearched_files(alloc, &files, searched)?;
+    tell_unsearched(alloc, &files, &not_searched, console)?;
     if files.refused_calls() > 0 {
         console.tell(refused_words(alloc, files.refused_calls())?.as_str());
     }
     let position = position_at(alloc, &files, options.place.as_ref(), BEGINNING)?;
+    let ranges = ranges_of(alloc, &files, searched)?;
     let passed_over = PassedOver {
         left_out: unread.len(),
-        not_searched: unsearched_files(&files),
+        not_searched,
     };
     Ok(Input {
         folder,
         files,
         semantics: Unresolved,
         position,
-        ranges: Vec::new(alloc),
+        ranges,
         passed_over,
+        undecided: 0,
+        known: None,
     })
+}
+
+/// The texts of the files with these names as ranges; without names there are none. Fails where no byte is searched.
+fn ranges_of(
+    alloc: Global,
+    files: &Searchable,
+    names: Option<&BTreeSet<String>>,
+) -> Result<Vec<FileRange>, Failure> {
+    let mut ranges = Vec::new(alloc);
+    if names.is_none() {
+        return Ok(ranges);
+    }
+    for file in 0..files.file_count() {
+        if let Some(range) = text_range(files, file)
+            && is_among(names, files.name(file))
+        {
+            ranges.push(range)?;
+        }
+    }
+    if ranges.is_empty() {
+        return Err(nothing_searched(alloc)?);
+    }
+    Ok(ranges)
+}
+
+/// The text of a file as a range, if it isn't empty.
+fn text_range(files: &Searchable, file: usize) -> Option<FileRange>
+    requires { file < length files.now.files }
+{
+    let end = u32::try_from(files.text(file).len()).ok()?;
+    let file = u32::try_from(file).ok()?;
+    if end == 0 {
+        return None;
+    }
+    Some(FileRange {
+        file_id: FileId(file),
+        range: TextRange { start: 0, end },
+    })
+}
+
+/// That no file was searched.
+pub(crate) fn nothing_searched(alloc: Global) -> Result<Failure, AllocError> {
+    Ok(Failure::Told(String::from_str(alloc, "no file was searched")?))
 }
 
 /// Tells what is to be said of a package.
@@ -122,7 +195,7 @@ fn tell_unread<W: Sink, E: Write>(
 }
 
 /// The files that are chosen, as they stand on the disk.
-fn chosen_files<R: Files + AllocGlobal>(
+pub(crate) fn chosen_files<R: Files + AllocGlobal>(
     rt: &R,
     here: &str,
     chosen: &Chosen,
@@ -138,6 +211,7 @@ fn chosen_files<R: Files + AllocGlobal>(
             folder: String::new(rt.alloc()),
             files: Vec::new(rt.alloc()),
             modules: ModuleTree::new(rt.alloc()),
+            dependencies: Vec::new(rt.alloc()),
             notes: Vec::new(rt.alloc()),
         }),
     };
@@ -153,11 +227,16 @@ fn paths_files<R: Files + AllocGlobal>(
     here: &str,
     paths: &[String],
 ) -> Result<Result<PackageFiles, PackageError>, AllocError> {
-    let mut texts = Vec::with_capacity(rt.alloc(), paths.len())?;
-    for path in paths {
-        texts.push(path.as_str())?;
+    Ok(given_files(rt, here, &texts_of(rt.alloc(), paths)?))
+}
+
+/// Texts as they are lent.
+pub(crate) fn texts_of(alloc: Global, strings: &[String]) -> Result<Vec<&str>, AllocError> {
+    let mut texts = Vec::with_capacity(alloc, strings.len())?;
+    for text in strings {
+        texts.push(text.as_str())?;
     }
-    Ok(given_files(rt, here, &texts))
+    Ok(texts)
 }
 
 /// The files of a package.
@@ -177,7 +256,7 @@ fn package<R: Files + AllocGlobal>(
 }
 
 /// Why no files are told.
-fn package_failure(alloc: Global, error: &PackageError) -> Result<Failure, AllocError> {
+pub(crate) fn package_failure(alloc: Global, error: &PackageError) -> Result<Failure, AllocError> {
     match error {
         PackageError::Memory => Ok(Failure::Memory),
         error => Ok(Failure::Told(error.to_string(alloc)?)),
@@ -221,7 +300,9 @@ pub(crate) fn of_facts<R: Files + AllocGlobal>(
         semantics,
         position,
         ranges,
-        passed_over: PassedOver::NONE,
+        passed_over: PassedOver::none(alloc),
+        undecided: 0,
+        known: None,
     })
 }
 

@@ -5,18 +5,24 @@
 mod console;
 mod counting;
 mod debugging;
+mod endings;
 mod failure;
 mod finding;
 mod includes;
 mod input;
+mod known_names;
 mod left_out;
 mod malformed;
+mod names_input;
 mod passed_over;
 mod positions;
 mod program;
+mod refusals;
 mod rewriting;
 mod rules;
+mod sources;
 mod telling;
+mod undecided;
 mod writing;
 
 pub use console::Console;

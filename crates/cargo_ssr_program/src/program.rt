@@ -9,12 +9,15 @@ use crate::console::Console;
 use crate::debugging::show_debug;
 use crate::failure::Failure;
 use crate::finding::search;
-use crate::input::{Input, of_facts, of_files};
+use crate::input::{Input, chosen_files, nothing_searched, of_facts, of_files};
+use crate::names_input::of_names;
 use crate::rewriting::{show_changes, write_changes};
 use crate::rules::{tell_self, with_all_rules};
+use crate::telling::searched_for;
 use cargo_ssr_options::{Chosen, Mode, Options, read_options};
 use clap::Error;
 use ssr_base::Semantics;
+use ssr_changes::{Sought, asked_paths};
 use ssr_streams::Sink;
 use ssr_writing::Disk;
 use std::alloc::{AllocError, Global};
@@ -121,10 +124,31 @@ fn perform_with<R: Files + AllocGlobal, D: Disk, W: Sink, E: Write>(
             let input = of_facts(rt, here, path.as_str(), options.place.as_ref())?;
             act(rt, disk, &input, options, console)
         }
-        _ => {
-            let input = of_files(rt, here, options, console)?;
-            act(rt, disk, &input, options, console)
-        }
+        _ => perform_by_sources(rt, disk, here, options, console),
+    }
+}
+
+/// Does it with the files of a package or of paths. What their sources tell of names is looked at where a rule has names.
+fn perform_by_sources<R: Files + AllocGlobal, D: Disk, W: Sink, E: Write>(
+    rt: &R,
+    disk: &mut D,
+    here: &str,
+    options: &Options,
+    console: &mut Console<W, E>,
+) -> Result<Outcome, Failure>
+    ensures disk { IsAskedToWrite options.now.mode (D.calls disk.old) (D.calls disk.new) }
+    ensures ends { IfOk result (λ outcome. (task : Task) × EndsWell options.now.mode task options.now.json (is_colored options.now.color console.old.terminal) (record { calls = D.calls disk.old; taken = W.taken console.old.out }) (record { calls = D.calls disk.new; taken = W.taken console.new.out }) outcome) }
+{
+    let alloc = rt.alloc();
+    let (form, texts) = searched_for(options);
+    let asked = asked_paths(alloc, Sought { form, texts })?;
+    if asked.is_empty() {
+        let found = chosen_files(rt, here, &options.files)?;
+        let input = of_files(alloc, found, None, options, console)?;
+        act(rt, disk, &input, options, console)
+    } else {
+        let input = of_names(rt, here, options, asked, console)?;
+        act(rt, disk, &input, options, console)
     }
 }
 
@@ -142,7 +166,7 @@ fn act<R: Files + AllocGlobal, D: Disk, W: Sink, E: Write, S: Semantics>(
 {
     let alloc = rt.alloc();
     if input.files.file_count() == 0 {
-        return Err(Failure::Told(String::from_str(alloc, "no file was searched")?));
+        return Err(nothing_searched(alloc)?);
     }
     match &options.mode {
         Mode::Diff => {

@@ -36,7 +36,7 @@ pub(crate) fn show_changes<W: Sink, E: Write, S: Semantics>(
 {
     let made = changes_of(alloc, input, options)?;
     let plan = plan_of(alloc, &input.files, &made)?;
-    let counts = counts_of_changes(&made, input.passed_over);
+    let counts = counts_of_changes(&made, input);
     let changes = !plan.is_empty();
     if options.json {
         show_matches(alloc, input, options, &made, counts, console)?;
@@ -62,7 +62,7 @@ pub(crate) fn write_changes<R: Files + AllocGlobal, D: Disk, W: Sink, E: Write, 
     let alloc = rt.alloc();
     let made = changes_of(alloc, input, options)?;
     let plan = plan_of(alloc, &input.files, &made)?;
-    let counts = counts_of_changes(&made, input.passed_over);
+    let counts = counts_of_changes(&made, input);
     if options.json {
         show_matches(alloc, input, options, &made, counts, console)?;
     }
@@ -202,6 +202,7 @@ fn show_matches<W: Sink, E: Write, S: Semantics>(
         files: &input.files,
         places: &places,
         changes: made,
+        not_searched: &input.passed_over.not_searched,
     };
     show_json(alloc, &listed, counts, console)
 }

@@ -25,7 +25,7 @@ pub fn given_files<R: Files + AllocGlobal>(
 
 impl<R: Files + AllocGlobal> Reading<'_, R> {
     /// Reads the files of a given path.
-    fn give(&mut self, path: &str) -> Result<(), PackageError> {
+    pub(crate) fn give(&mut self, path: &str) -> Result<(), PackageError> {
         let Some(name) = self.given_name(path)? else {
             return Err(PackageError::Outside(String::from_str(self.alloc(), path)?));
         };

@@ -9,7 +9,6 @@ use crate::places::{file_folder, last_part, parent};
 use crate::reading::{PackageFiles, Reading};
 use crate::root::Root;
 use crate::targets::Package;
-use std::alloc::Global;
 use std::rt::Files;
 use std::slice;
 use toml::Table;
@@ -27,48 +26,62 @@ pub fn package_files<R: Files + AllocGlobal>(
     manifest: &str,
     package: Option<&str>,
 ) -> Result<PackageFiles, PackageError> {
-    let alloc = rt.alloc();
     let folder = file_folder(manifest);
     let root = Root::new(rt, folder);
     let table = read_manifest(&root, last_part(manifest))?;
     match package {
         Some(name) if package_name(&table) != Some(name) => named_files(rt, folder, table, name),
-        _ => own_files(alloc, root, table, manifest),
+        _ => own_files(root, table, manifest),
     }
 }
 
 /// The files of a manifest's own package, or of all members where it has none.
 fn own_files<R: Files + AllocGlobal>(
-    alloc: Global,
     root: Root<'_, R>,
     table: Table,
     manifest: &str,
 ) -> Result<PackageFiles, PackageError> {
     let mut reading = Reading::new(root);
-    let mut packages = Vec::new(alloc);
-    if package_name(&table).is_some() {
-        let edition = package_edition(&table, workspace_edition(&table));
-        packages.push(Package {
-            folder: String::new(alloc),
-            manifest: table,
-            edition,
-        })?;
-    } else if table_at(&table, "workspace").is_some() {
-        packages = reading.members(&table)?;
-    } else {
-        return Err(PackageError::NoPackage(String::from_str(alloc, manifest)?));
-    }
+    let packages = reading.own_packages(table, manifest)?;
     reading.read_packages(&packages)?;
     reading.finish()
 }
 
 impl<R: Files + AllocGlobal> Reading<'_, R> {
-    /// Reads the files of packages, and notes those that nothing reaches.
-    fn read_packages(&mut self, packages: &[Package]) -> Result<(), PackageError> {
+    /// A manifest's own package, or all members where it has none.
+    pub(crate) fn own_packages(
+        &mut self,
+        table: Table,
+        manifest: &str,
+    ) -> Result<Vec<Package>, PackageError> {
+        let alloc = self.alloc();
+        if package_name(&table).is_none() {
+            if table_at(&table, "workspace").is_some() {
+                return self.members(&table);
+            }
+            return Err(PackageError::NoPackage(String::from_str(alloc, manifest)?));
+        }
+        let edition = package_edition(&table, workspace_edition(&table));
+        let mut packages = Vec::new(alloc);
+        packages.push(Package {
+            folder: String::new(alloc),
+            manifest: table,
+            edition,
+        })?;
+        Ok(packages)
+    }
+
+    /// Reads the files of packages.
+    pub(crate) fn read_files(&mut self, packages: &[Package]) -> Result<(), PackageError> {
         for package in packages {
             self.reach_targets(package)?;
         }
-        self.read_reached()?;
+        self.read_reached()
+    }
+
+    /// Reads the files of packages, and notes those that nothing reaches.
+    fn read_packages(&mut self, packages: &[Package]) -> Result<(), PackageError> {
+        self.read_files(packages)?;
         for package in packages {
             self.note_unreached(package)?;
         }
@@ -97,7 +110,7 @@ fn named_files<R: Files + AllocGlobal>(
         let table = read_manifest(&root, MANIFEST)?;
         if table_at(&table, "workspace").is_some() {
             return if package_name(&table) == Some(name) {
-                own_files(rt.alloc(), root, table, folder)
+                own_files(root, table, folder)
             } else {
                 member_files(root, &table, name)
             };

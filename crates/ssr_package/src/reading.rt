@@ -2,7 +2,7 @@
 
 use crate::crates::Crate;
 use crate::marks::marks;
-use crate::module_tree::ModuleTree;
+use crate::module_tree::{ModuleTree, Origin};
 use crate::modules::{Declared, declared_modules};
 use crate::notes::{Note, Trouble};
 use crate::package_error::PackageError;
@@ -26,6 +26,8 @@ pub struct PackageFiles {
     pub files: Vec<SourceFile>,
     /// The modules that have files, and which declares which.
     pub modules: ModuleTree,
+    /// The crates on which the packages depend, by the names that code gives them: sorted, each once.
+    pub dependencies: Vec<String>,
     /// What was passed over.
     pub notes: Vec<Note>,
 }
@@ -35,8 +37,10 @@ pub struct PackageFiles {
 enum Found {
     /// A file that is to be read.
     New,
-    /// Something that was reached before, or that is passed over.
+    /// What was reached before.
     Old,
+    /// What is passed over.
+    PassedOver,
     Nothing,
 }
 
@@ -48,7 +52,10 @@ pub(crate) struct Reading<'r, R> {
     reached: BTreeSet<String>,
     modules: ModuleTree,
     texts: BTreeMap<String, String>,
-    notes: Vec<Note>,
+    pub(crate) dependencies: BTreeSet<String>,
+    /// The names of the files at given paths.
+    pub(crate) given: BTreeSet<String>,
+    pub(crate) notes: Vec<Note>,
 }
 
 impl<'r, R: Files + AllocGlobal> Reading<'r, R> {
@@ -60,6 +67,8 @@ impl<'r, R: Files + AllocGlobal> Reading<'r, R> {
             reached: BTreeSet::new(alloc),
             modules: ModuleTree::new(alloc),
             texts: BTreeMap::new(alloc),
+            dependencies: BTreeSet::new(alloc),
+            given: BTreeSet::new(alloc),
             notes: Vec::new(alloc),
         }
     }
@@ -84,6 +93,7 @@ impl<'r, R: Files + AllocGlobal> Reading<'r, R> {
             folder,
             files,
             modules: self.modules,
+            dependencies: self.dependencies.into_iter().collect(alloc)?,
             notes: self.notes,
         })
     }
@@ -112,6 +122,7 @@ impl<'r, R: Files + AllocGlobal> Reading<'r, R> {
 
     /// Reads a file of no crate that is known, unless it was reached before, and not what its `mod` items reach.
     pub(crate) fn read_alone(&mut self, name: String) -> Result<(), PackageError> {
+        self.given.insert(name.clone()?)?;
         if !self.is_new(name.as_str())? {
             return Ok(());
         }
@@ -132,8 +143,12 @@ impl<'r, R: Files + AllocGlobal> Reading<'r, R> {
     /// Reaches the file that a crate begins with, if one is there: tells whether something is.
     pub(crate) fn reach_root(&mut self, name: String, of: Crate) -> Result<bool, PackageError> {
         let found = self.look(name.as_str())?;
-        if found == Found::New {
-            self.modules.add_root(name, Some(of))?;
+        match found {
+            Found::New => self.modules.add_root(name, Some(of))?,
+            Found::Old => self
+                .modules
+                .add_further(name, true, Origin::Root(Some(of)))?,
+            Found::PassedOver | Found::Nothing => {}
         }
         Ok(found != Found::Nothing)
     }
@@ -152,7 +167,7 @@ impl<'r, R: Files + AllocGlobal> Reading<'r, R> {
             None if !is_ours(name) => self.note(name, Trouble::NotOurs)?,
             None => return Ok(Found::New),
         }
-        Ok(Found::Old)
+        Ok(Found::PassedOver)
     }
 
     /// Reads the files that were reached, and those that they reach.
@@ -229,12 +244,17 @@ impl<'r, R: Files + AllocGlobal> Reading<'r, R> {
         module: &Declared<'_>,
     ) -> Result<bool, PackageError> {
         let found = self.look(file)?;
-        if found == Found::New {
+        if matches!(found, Found::New | Found::Old) {
             let alloc = self.alloc();
             let file = String::from_str(alloc, file)?;
             let around = copies(alloc, &module.around)?;
             let name = String::from_str(alloc, module.name)?;
-            self.modules.add_declared(file, owns_folder, around, name)?;
+            if found == Found::New {
+                self.modules.add_declared(file, owns_folder, around, name)?;
+            } else {
+                let origin = self.modules.origin(around, name);
+                self.modules.add_further(file, owns_folder, origin)?;
+            }
         }
         Ok(found != Found::Nothing)
     }

@@ -1,0 +1,248 @@
+//! Calls of macros in the place of items and statements.
+
+use crate::code::Code;
+use crate::heads::{Head, HeadKind, Heads, spelled};
+use crate::macros::Called;
+use crate::reader::{Place, Reader, Visit};
+use crate::table::{Name, Namespace, Owner, Thing, Visibility};
+use ssr_syntax_kinds::SyntaxKind;
+use ssr_syntax_tree::NodeNo;
+use std::alloc::AllocError;
+use std::collections::BTreeSet;
+
+/// Whether a token begins an item.
+fn begins_item(kind: SyntaxKind) -> bool {
+    matches!(
+        kind,
+        SyntaxKind::FN_KW
+            | SyntaxKind::STRUCT_KW
+            | SyntaxKind::ENUM_KW
+            | SyntaxKind::TRAIT_KW
+            | SyntaxKind::TYPE_KW
+            | SyntaxKind::MACRO_KW
+    ) || matches!(
+        kind,
+        SyntaxKind::CONST_KW
+            | SyntaxKind::STATIC_KW
+            | SyntaxKind::MOD_KW
+            | SyntaxKind::USE_KW
+            | SyntaxKind::EXTERN_KW
+    )
+}
+
+/// Whether the tokens below a node have one that begins an item.
+fn has_item_word(code: Code<'_>, node: NodeNo) -> bool {
+    let tokens = code.tokens(node);
+    for token in tokens.start..tokens.end {
+        if begins_item(code.token_kind(token)) {
+            return true;
+        }
+    }
+    false
+}
+
+/// Whether the argument of a call stands in braces.
+fn has_braces(code: Code<'_>, call: NodeNo) -> bool {
+    match code.child(call, SyntaxKind::TOKEN_TREE) {
+        Some(argument) => code
+            .token_kind(code.tokens(argument).start)
+            .is(SyntaxKind::L_CURLY),
+        None => false,
+    }
+}
+
+/// Whether a call stands where an item or a statement may.
+fn is_item_place(code: Code<'_>, call: NodeNo) -> bool {
+    match code.parent_kind(call) {
+        SyntaxKind::SOURCE_FILE | SyntaxKind::ITEM_LIST | SyntaxKind::MACRO_ITEMS => true,
+        SyntaxKind::MACRO_EXPR => match code.parent(call) {
+            Some(expression) => match code.parent_kind(expression) {
+                SyntaxKind::EXPR_STMT => true,
+                // without braces it is the value of a block
+                SyntaxKind::STMT_LIST | SyntaxKind::MACRO_STMTS => has_braces(code, call),
+                _ => false,
+            },
+            None => false,
+        },
+        _ => false,
+    }
+}
+
+impl<'a> Reader<'a> {
+    /// The name of a call's macro among the macros of files.
+    fn name_of_call(&self, code: Code<'_>, call: NodeNo) -> Option<Name> {
+        let path = code.child(call, SyntaxKind::PATH)?;
+        let last = code.tokens(path).end.saturating_sub(1);
+        self.names.number(code.token_text(last))
+    }
+
+    /// Whether a call that is a statement may make items of its block.
+    pub(crate) fn call_may_make_items(&self, code: Code<'_>, expression: NodeNo) -> bool {
+        let Some(call) = code.child(expression, SyntaxKind::MACRO_CALL) else {
+            return false;
+        };
+        if !is_item_place(code, call) {
+            return false;
+        }
+        match self.macros.called(&self.names, code, call) {
+            Called::Plain => false,
+            Called::Own => {
+                has_item_word(code, call)
+                    || match self.name_of_call(code, call) {
+                        Some(name) => self.macros.may_declare(name),
+                        None => true,
+                    }
+            }
+            _ => true,
+        }
+    }
+
+    /// Reads a call of a macro.
+    pub(crate) fn read_call(
+        &mut self,
+        visit: Visit<'a>,
+        call: NodeNo,
+        place: Place,
+    ) -> Result<(), AllocError> {
+        let code = visit.code;
+        if let Some(root) = self.sources.trees.expansion_of(code.id(call)) {
+            self.expansions.push((root.tree, place))?;
+        }
+        if !is_item_place(code, call) {
+            return Ok(());
+        }
+        let called = self.macros.called(&self.names, code, call);
+        if called == Called::Anything {
+            self.modules.open(place.module);
+        }
+        let Some(argument) = code.child(call, SyntaxKind::TOKEN_TREE) else {
+            return Ok(());
+        };
+        if matches!(called, Called::Plain | Called::Anything) {
+            return Ok(());
+        }
+        let alloc = self.alloc;
+        let found = spelled(alloc, &mut self.names, code, code.tokens(argument))?;
+        let deepest = if called == Called::Alternatives { 2 } else { 1 };
+        self.declare(visit, call, place, &found, deepest)?;
+        self.follow(code, call, place, &found)?;
+        if called == Called::Unread {
+            self.add_words(code, argument, place, found.heads.as_slice())?;
+        }
+        Ok(())
+    }
+
+    /// Adds what the argument of a call spells.
+    fn declare(
+        &mut self,
+        visit: Visit<'a>,
+        call: NodeNo,
+        place: Place,
+        found: &Heads,
+        deepest: u32,
+    ) -> Result<(), AllocError> {
+        let mut own = place;
+        own.owner = Owner::Module;
+        own.is_sure = false;
+        for head in &found.heads {
+            if head.depth > deepest {
+                self.add_unknown(own.module, head.name)?;
+            } else {
+                self.declare_head(visit, call, own, *head)?;
+            }
+        }
+        if found.has_glob {
+            self.modules.open(own.module);
+        }
+        Ok(())
+    }
+
+    /// Adds an item that the argument of a call spells.
+    fn declare_head(
+        &mut self,
+        visit: Visit<'a>,
+        call: NodeNo,
+        own: Place,
+        head: Head,
+    ) -> Result<(), AllocError> {
+        let HeadKind::Item(kind) = head.kind else {
+            let seen = Visibility::Public;
+            if head.kind == HeadKind::Module && self.add_files(visit, call, head.name, own, seen)? {
+                return Ok(());
+            }
+            return self.add_unknown(own.module, head.name);
+        };
+        let node = visit.code.id(call);
+        let item = self.add_item(node, head.name, kind, own)?;
+        self.add_entry(
+            own,
+            head.name,
+            kind.namespace(),
+            Thing::Item(item),
+            Visibility::Public,
+        )?;
+        // its fields aren't read
+        if kind.namespace() == Namespace::Type {
+            let unknown = Thing::Unknown;
+            self.add_entry(
+                own,
+                head.name,
+                Namespace::Value,
+                unknown,
+                Visibility::Public,
+            )?;
+        }
+        Ok(())
+    }
+
+    /// Adds what the macros of files may declare that a call leads to.
+    fn follow(
+        &mut self,
+        code: Code<'_>,
+        call: NodeNo,
+        place: Place,
+        found: &Heads,
+    ) -> Result<(), AllocError> {
+        let mut calls = Vec::from_slice(self.alloc, found.calls.as_slice())?;
+        if let Some(name) = self.name_of_call(code, call) {
+            calls.push(name)?;
+        }
+        let effects = self.macros.effects(calls.as_slice())?;
+        for name in &effects.names {
+            self.add_unknown(place.module, *name)?;
+        }
+        if effects.opens || (effects.uses_words && found.has_star) {
+            self.modules.open(place.module);
+        }
+        if effects.names_words || effects.uses_words {
+            if let Some(argument) = code.child(call, SyntaxKind::TOKEN_TREE) {
+                self.add_words(code, argument, place, &[])?;
+            }
+        }
+        Ok(())
+    }
+
+    /// Adds the words of an argument as names that may be there, but for those of some heads.
+    fn add_words(
+        &mut self,
+        code: Code<'_>,
+        argument: NodeNo,
+        place: Place,
+        but: &[Head],
+    ) -> Result<(), AllocError> {
+        let mut known = BTreeSet::new(self.alloc);
+        for head in but {
+            known.insert(head.name)?;
+        }
+        let tokens = code.tokens(argument);
+        for token in tokens.start..tokens.end {
+            if code.token_kind(token).is(SyntaxKind::IDENT) {
+                let name = self.names.add(code.token_text(token))?;
+                if known.insert(name)? {
+                    self.add_unknown(place.module, name)?;
+                }
+            }
+        }
+        Ok(())
+    }
+}
