@@ -178,13 +178,18 @@ fn type_names(alloc: Global, table: &Table) -> Result<Vec<Name>, AllocError> {
     Ok(names)
 }
 
+/// The first item that stands where an item does.
+fn first_of(firsts: &[ItemNo], item: ItemNo) -> Option<ItemNo> {
+    firsts.get(item.0 as usize).copied()
+}
+
 /// An item as a member of the item that it is a part of.
 fn member_at(firsts: &[ItemNo], item: &Item, place: usize) -> Option<Member> {
     let Owner::Item(of) = item.owner else {
         return None;
     };
     Some(Member {
-        of: *firsts.get(of.0 as usize)?,
+        of: first_of(firsts, of)?,
         name: item.name,
         item: *firsts.get(place)?,
     })
