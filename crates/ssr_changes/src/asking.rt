@@ -16,7 +16,7 @@ pub fn asked_paths(alloc: Global, sought: Sought<'_>) -> Result<Vec<RulePath>, A
                 asked.append(&mut paths)?;
             }
             Err(SsrError::Memory) => return Err(AllocError),
-            Err(SsrError::Message(_)) => {}
+            Err(SsrError::Message(_message)) => {}
         }
     }
     Ok(asked)
