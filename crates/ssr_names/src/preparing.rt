@@ -4,12 +4,41 @@ use crate::copies::{first_items, module_places};
 use crate::definitions::{Definition, Meaning, OutsideNo};
 use crate::outside::OutsidePaths;
 use crate::space::{Answers, Glob, Known, Member, Space};
-use crate::std_names::{BUILTIN_TYPES, PRELUDE, SECOND_PATHS, SecondPath, is_std};
+use crate::std_names::{BUILTIN_TYPES, PRELUDE, PreludeName, SECOND_PATHS, SecondPath, is_std};
 use ssr_names_items::{
     Brings, CrateKind, ImportNo, Item, ItemKind, ItemNo, Name, Names, Namespace, Owner, Table,
     Thing,
 };
 use std::alloc::{AllocError, Global};
+
+/// Adds names.
+fn add_texts(names: &mut Names, texts: &[&'static str]) -> Result<(), AllocError> {
+    for text in texts {
+        names.add(*text)?;
+    }
+    Ok(())
+}
+
+/// Adds the names that the prelude has, and those of what they stand in.
+fn add_prelude(names: &mut Names, prelude: &[PreludeName]) -> Result<(), AllocError> {
+    for known in prelude {
+        names.add(known.name)?;
+        names.add(known.module)?;
+        names.add(known.of.unwrap_or(""))?;
+    }
+    Ok(())
+}
+
+/// Adds the names that second paths are made of.
+fn add_second_names(names: &mut Names, seconds: &[SecondPath]) -> Result<(), AllocError> {
+    for second in seconds {
+        names.add(second.modules.0)?;
+        names.add(second.modules.1)?;
+        names.add(second.name)?;
+        names.add(second.first)?;
+    }
+    Ok(())
+}
 
 /// Adds the names that the standard library is known by, so that they have numbers.
 pub(crate) fn add_std_names(names: &mut Names) -> Result<(), AllocError> {
@@ -17,21 +46,9 @@ pub(crate) fn add_std_names(names: &mut Names) -> Result<(), AllocError> {
     names.add("std")?;
     names.add("core")?;
     names.add("Self")?;
-    for known in PRELUDE.iter() {
-        names.add(known.name)?;
-        names.add(known.module)?;
-        names.add(known.of.unwrap_or(""))?;
-    }
-    for name in BUILTIN_TYPES.iter() {
-        names.add(*name)?;
-    }
-    for second in SECOND_PATHS.iter() {
-        names.add(second.modules.0)?;
-        names.add(second.modules.1)?;
-        names.add(second.name)?;
-        names.add(second.first)?;
-    }
-    Ok(())
+    add_prelude(names, &PRELUDE[..])?;
+    add_texts(names, &BUILTIN_TYPES[..])?;
+    add_second_names(names, &SECOND_PATHS[..])
 }
 
 /// The number of a name that is there.
@@ -52,6 +69,19 @@ fn add_second(
     let name = number(names, second.name);
     let same = outside.child(Some(first), name)?;
     outside.alias(inner, name, same)
+}
+
+/// Lets the second path of each of these things of the standard library be the first one.
+fn add_seconds(
+    outside: &mut OutsidePaths,
+    names: &Names,
+    std: OutsideNo,
+    seconds: &[SecondPath],
+) -> Result<(), AllocError> {
+    for second in seconds {
+        add_second(outside, names, std, second)?;
+    }
+    Ok(())
 }
 
 /// The builtin types.
@@ -178,18 +208,13 @@ fn type_names(alloc: Global, table: &Table) -> Result<Vec<Name>, AllocError> {
     Ok(names)
 }
 
-/// The first item that stands where an item does.
-fn first_of(firsts: &[ItemNo], item: ItemNo) -> Option<ItemNo> {
-    firsts.get(item.0 as usize).copied()
-}
-
 /// An item as a member of the item that it is a part of.
 fn member_at(firsts: &[ItemNo], item: &Item, place: usize) -> Option<Member> {
-    let Owner::Item(of) = item.owner else {
+    let Owner::Item(ItemNo(of)) = item.owner else {
         return None;
     };
     Some(Member {
-        of: first_of(firsts, of)?,
+        of: *firsts.get(of as usize)?,
         name: item.name,
         item: *firsts.get(place)?,
     })
@@ -235,9 +260,7 @@ impl<'a> Space<'a> {
         manifests: &[Name],
     ) -> Result<Space<'a>, AllocError> {
         let std = outside.child(None, number(&table.names, "std"))?;
-        for second in SECOND_PATHS.iter() {
-            add_second(outside, &table.names, std, second)?;
-        }
+        add_seconds(outside, &table.names, std, &SECOND_PATHS[..])?;
         let firsts = first_items(alloc, table)?;
         let unanswered = Answers::all(Meaning::Nothing);
         Ok(Space {
