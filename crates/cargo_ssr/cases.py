@@ -151,7 +151,7 @@ def modules_are_followed(program):
         (package.folder / "src/linked.rs").symlink_to(package.folder / "src/odd.rs")
         status, out, told = package.run(program, "--search", "$a.unwrap()")
         yield (status, out) == (0, "".join(f"{name}:1:10: a.unwrap()\n" for name in files if name != "src/other.rs"))
-        unreached = "1 file below src is reached by no mod item: src/other.rs; -- src searches it\n"
+        unreached = "1 file below src is reached by no mod item: src/other.rs; name it behind --\n"
         yield told == "src/lib.rs: no file for mod lost\nsrc/linked.rs: reached through a link\n" + unreached + "5 matches in 5 files\n"
 
 
@@ -716,7 +716,7 @@ def files_that_nothing_reaches_are_told(program):
         told = "3 files below src are reached by no mod item: src/a.rs, src/a/c.rs, src/b.rs; name them behind --\n"
         yield package.run(program, "-q", RULE) == (0, "", told)
         (package.folder / "src/z.rs").write_text("")
-        yield package.run(program, "-q", RULE)[2].startswith("4 files below src are reached by no mod item: src/a.rs, src/a/c.rs, src/b.rs, ..; -- src")
+        yield package.run(program, "-q", RULE)[2].startswith("4 files below src are reached by no mod item: src/a.rs, src/a/c.rs, src/b.rs, ..; name them behind --")
     # of two packages one has such a file, and a third one isn't searched
     files = {"Cargo.toml": '[workspace]\nmembers = ["one", "two"]\n'}
     for folder in "one", "two", "three":
