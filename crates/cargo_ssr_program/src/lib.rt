@@ -5,7 +5,7 @@
 mod console;
 mod counting;
 mod debugging;
-mod endings;
+mod ending_paths;
 mod failure;
 mod finding;
 mod includes;

@@ -1,6 +1,6 @@
 //! What is told of a rule's path that doesn't resolve.
 
-use crate::endings::endings;
+use crate::ending_paths::endings;
 use crate::failure::Failure;
 use crate::input::Input;
 use crate::telling::searched_for;
