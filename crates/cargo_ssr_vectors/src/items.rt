@@ -103,6 +103,7 @@ item spelled Function Module
 ];
 
 /// A file, its text on the disk and its text as it is searched.
+#[derive(Drop)]
 struct File {
     name: &'static str,
     text: &'static str,
