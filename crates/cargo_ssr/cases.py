@@ -354,6 +354,25 @@ def a_replacement_groups_as_the_match_did(program):
             yield package.run(program, "-q", "--write", rule, "--", "one.rs") == (0, "", "") and package.read("one.rs") == new
 
 
+# Rules, a text, and the text with their matches replaced: inside of another match, too, they group as they did.
+IN_OTHERS = [
+    (["$a.f() ==>> $a.g()", "7 ==>> 3 + 4"], "fn f() { (2 * 7).f(); 2 * h(7).f(); }\n", "fn f() { (2 * (3 + 4)).g(); 2 * h(3 + 4).g(); }\n"),
+    (["$a.f() ==>> $a + 1", "7 ==>> 3 + 4"], "fn f() { 2 * (2 * 7).f(); }\n", "fn f() { 2 * ((2 * (3 + 4)) + 1); }\n"),
+    (
+        ["foo($a) ==>> $a + 1", "bar($x) ==>> baz($x)"],
+        "fn foo(n: u8) -> u8 { n }\nfn bar(n: u8) {}\nfn baz(n: u8) {}\nfn f() { bar(2 * foo(3)); }\n",
+        "fn foo(n: u8) -> u8 { n }\nfn bar(n: u8) {}\nfn baz(n: u8) {}\nfn f() { baz(2 * (3 + 1)); }\n",
+    ),
+]
+
+
+@example
+def a_replacement_in_another_one_groups_as_the_match_did(program):
+    for rules, text, new in IN_OTHERS:
+        with Package({"Cargo.toml": MANIFEST, "src/lib.rs": text}) as package:
+            yield package.run(program, "-q", "--write", *rules) == (0, "", "") and package.read("src/lib.rs") == new
+
+
 # A text, a rule, the place of the match with which the text can't be read, and the text with the others replaced.
 ARMS = 'fn f() { match x { "a" => b("c"), _ => d } }\n'
 CONDITIONS = "fn f() { if a { b } if let C = d { e } }\n"
@@ -373,7 +392,7 @@ def what_cannot_be_read_again_is_told_alone(program):
             status, out, _ = package.run(program, "--json", rule, "--", "one.rs")
             shown = [(f"{line['line']}:{line['column']}", line["new"]) for line in map(json.loads, out.splitlines()[:-1])]
             yield status == 0 and [at for at, new_text in shown if new_text is None] == [place]
-            yield json.loads(out.splitlines()[-1])["summary"] == {"files": 1, "matches": 2, "edits": 1, "set_aside": 0, "unread": 1, "left_out": 0, "not_searched": 0}
+            yield json.loads(out.splitlines()[-1])["summary"] == {"files": 1, "matches": 2, "edits": 1, "set_aside": 0, "unread": 1, "undecided": 0, "left_out": 0, "not_searched": 0}
             status, _, told = package.run(program, "--check", rule, "--", "one.rs")
             yield status == 1 and told.startswith(told_alone) and told.endswith("2 matches in 1 file: 1 edit; 1 left as it is\n")
             yield package.run(program, "-q", "--write", rule, "--", "one.rs") == (0, "", told_alone) and package.read("one.rs") == new
@@ -479,9 +498,9 @@ def refused_rules_are_named_by_where_they_stand(program):
         yield package.run(program, "$b ==> c", "--rules", "bad.rules", "--", "one.rs") == (3, "", f"error: rule 0: {why}")
         yield package.run(program, "-q", "--rules", "good.rules", "--", "one.rs") == (0, "", "")
         yield package.run(program, "--search", "$a", "--search", "$ a", "--", "one.rs")[2].startswith("error: pattern 1: Placeholders should")
-        unknown = "names need --facts FILE\n"
-        yield package.run(program, "f($a) ==>> $a", "--", "one.rs") == (3, "", f"error: rule 0: Failed to resolve path `f`: {unknown}")
-        yield package.run(program, "F::<$t>::f() ==>> $t", "--", "one.rs") == (3, "", f"error: rule 0: Failed to resolve path `F::<$t>`: {unknown}")
+        unknown = "names are looked up in one.rs, or where --in says\n"
+        yield package.run(program, "g($a) ==>> $a", "--", "one.rs") == (3, "", f"error: rule 0: Failed to resolve path `g`\n{unknown}")
+        yield package.run(program, "F::<$t>::f() ==>> $t", "--", "one.rs") == (3, "", f"error: rule 0: Failed to resolve path `F::<$t>`\n{unknown}")
 
 
 @example
@@ -508,6 +527,125 @@ def self_needs_a_method(program):
         yield package.run(program, "-q", "--search", "$a", "--search", "self.$b", "--", "one.rs")[2] == f"pattern 1: {why}"
         yield package.run(program, "-q", rule, "--write", "--in", "one.rs:2:19", "--", "one.rs") == (0, "", "")
         yield package.read("one.rs") == text.replace(".unwrap()", "?", 1)
+
+
+# What a file is, a rule, and how the summary of its search begins. In each file another thing of the name might be taken.
+SOURCES_WITH_TRAPS = [
+    # a name under one configuration is imported, under the other one declared
+    (
+        '#[cfg(feature = "std")]\nuse std::mem::drop as end;\n#[cfg(not(feature = "std"))]\nfn end(_: u32) {}\npub fn f(x: u32) { end(x) }\n',
+        "std::mem::drop($a) ==>> $a",
+        "0 matches; 1 undecided",
+    ),
+    # a macro brings in names by `*`
+    (
+        "macro_rules! all { () => { use crate::own::*; } }\nmod own { pub fn drop(_: u32) {} }\nmod inner { all!(); pub fn g(x: u32) { drop(x) } }\npub fn g(x: u32) { drop(x) }\n",
+        "std::mem::drop($a) ==>> $a",
+        "1 match in 1 file: 1 edit; 1 undecided",
+    ),
+    # a macro of another function
+    (
+        "pub fn a() { macro_rules! assert { ($x:expr) => { if !$x { return; } } } assert!(true); }\npub fn b(x: bool) { assert!(x); }\n",
+        "std::assert!($a) ==>> $a",
+        "0 matches; 1 undecided",
+    ),
+    # a file that isn't read
+    ('include!("other.rs");\npub fn f(x: u32) { drop(x) }\n', "std::mem::drop($a) ==>> $a", "0 matches; 1 undecided"),
+    # a name that a pattern in a macro's arguments binds
+    (
+        "pub fn f(x: Option<usize>) -> bool { matches!(x, Some(size_of) if size_of > 0) && size_of::<u32>() == 4 }\npub fn g() -> usize { size_of::<u32>() }\n",
+        "std::mem::size_of::<$t>() ==>> 0",
+        "1 match in 1 file: 1 edit; 1 undecided",
+    ),
+    # a value and a type of one name
+    (
+        "pub struct Job(pub u32);\npub mod m { #[allow(non_snake_case)] pub fn Job(_: u32) {} }\npub fn f() { m::Job(1); Job(2); }\n",
+        "m::Job($a) ==>> $a",
+        "1 match in 1 file: 1 edit",
+    ),
+    # modules that bring in each other's names
+    (
+        "pub mod a { pub use crate::b::*; pub fn one(_: u32) {} }\npub mod b { pub use crate::a::*; pub fn two(_: u32) {} }\npub fn f() { a::two(1); b::two(2); b::one(3); }\n",
+        "b::two($a) ==>> $a",
+        "2 matches in 1 file: 2 edits",
+    ),
+    # an item hides what comes in by `*`, and a private one isn't seen
+    (
+        "mod a { fn one(_: u32) {} pub fn two(_: u32) {} }\nuse a::*;\nfn one(_: u32) {}\npub fn f() { one(1); two(2); a::two(3); }\n",
+        "a::two($a) ==>> $a",
+        "2 matches in 1 file: 2 edits",
+    ),
+    # variants in the place of those of the prelude
+    (
+        "use Sort::*;\npub enum Sort { None, Up(u32) }\nuse Sort as S;\npub fn f() -> [Sort; 3] { [None, Up(3), S::Up(4)] }\n",
+        "Sort::Up($a) ==>> Sort::None",
+        "2 matches in 1 file: 2 edits",
+    ),
+    # a generic parameter of a type's name
+    (
+        "pub fn f<Vec: Default>() -> Vec { Vec::default() }\npub fn g() -> Vec<u32> { Vec::default() }\n",
+        "Vec::default() ==>> Vec::new()",
+        "1 match in 1 file: 1 edit; 1 undecided",
+    ),
+    # a module named as the standard library
+    (
+        "mod std { pub mod mem { pub fn drop(_: u32) {} } }\npub fn f(x: u32) { std::mem::drop(x); ::std::mem::drop(x) }\n",
+        "::std::mem::drop($a) ==>> $a",
+        "1 match in 1 file: 1 edit",
+    ),
+    # functions in blocks
+    (
+        "fn drop(_: u32) {}\npub fn f() { { fn drop(_: u8) {} drop(3); } drop(4); }\npub fn g() { use std::mem::drop; drop(3); { fn h() { drop(4) } } }\n",
+        "std::mem::drop($a) ==>> $a",
+        "2 matches in 1 file: 2 edits",
+    ),
+    # a module of the standard library that is named as a builtin type
+    (
+        "use std::u32;\npub fn f() -> u32 { u32::MAX - std::u32::MAX - u32::max_value() }\n",
+        "std::u32::MAX ==>> 7",
+        "2 matches in 1 file: 2 edits",
+    ),
+    # `Self`; a path that names an alias of a type is another one
+    (
+        "pub struct A;\npub struct B;\nimpl A { pub fn new(_: u32) -> Self { A } pub fn two() { Self::new(1); A::new(2); B::new(3); } }\nimpl B { pub fn new(_: u32) {} pub fn two() { Self::new(4); } }\npub type C = A;\npub fn f() { C::new(5); }\n",
+        "A::new($a) ==>> $a",
+        "2 matches in 1 file: 2 edits",
+    ),
+    # a type under other names
+    (
+        "use std::collections::HashMap as Map;\nuse std::collections::hash_map;\nmod m { pub use super::Map as Again; }\npub fn f() { Map::<u32, u32>::new(); hash_map::HashMap::<u32, u32>::new(); m::Again::<u32, u32>::new(); }\n",
+        "std::collections::HashMap::<$k, $v>::new() ==>> 0",
+        "3 matches in 1 file: 3 edits",
+    ),
+    # names that functions bind
+    (
+        "fn put(_: u32) {}\nconst LIMIT: u32 = 3;\npub fn f(put: fn(u32)) { put(3) }\npub fn g(x: u32) { match x { LIMIT => put(1), put => drop(put) } }\npub fn h() { put(2) }\n",
+        "put($a) ==>> $a",
+        "1 match in 1 file: 1 edit; 2 undecided",
+    ),
+    # an import of what isn't there
+    (
+        "use crate::nowhere::thing;\nuse crate::own as made;\nmod own { pub fn thing(_: u32) {} }\npub fn f() { thing(1); made::thing(2); }\n",
+        "own::thing($a) ==>> $a",
+        "1 match in 1 file: 1 edit; 1 undecided",
+    ),
+]
+OLD = '[package]\nname = "little"\nversion = "0.1.0"\n'
+OLD_LIB = "mod m { use mem::take; use std::mem; pub fn f(x: &mut u32) { mem::replace(x, 3); ::std::mem::replace(x, 4); take(5) } }\nmod mem { pub fn take(_: u32) {} }\npub fn g() { ::mem::take(6); mem::take(7) }\n"
+
+
+@example
+def names_mean_what_they_do_in_the_code(program):
+    for text, rule, summary in SOURCES_WITH_TRAPS:
+        with Package({"Cargo.toml": MANIFEST, "src/lib.rs": text}) as package:
+            yield package.run(program, rule)[2].splitlines()[-1].startswith(summary)
+
+
+@example
+def paths_of_imports_begin_in_the_root_in_the_first_edition(program):
+    with Package({"Cargo.toml": OLD, "src/lib.rs": OLD_LIB}) as package:
+        yield "3 matches in 1 file: 3 edits" in package.run(program, "mem::take($a) ==>> $a")[2]
+        yield "2 matches in 1 file: 2 edits" in package.run(program, "std::mem::replace($a, $b) ==>> $b")[2]
 
 
 @example
@@ -754,6 +892,368 @@ def names_are_looked_up_at_a_place(program):
         yield package.run(program, RULE, "--in", "src/lib.rs:3:1")[0] == 0
         status, _, told = package.run(program, RULE, "--in", "src/none.rs:1")
         yield status == 3 and "src/none.rs:1:1" in told
+
+
+# ** Names: a package with a function that is imported, one of its own of the same name, and a glob of a crate that isn't read.
+
+DEPOT = {
+    "Cargo.toml": MANIFEST.replace("little", "depot") + "\n[dependencies]\nrayon = \"1\"\n",
+    "src/lib.rs": """\
+use std::mem;
+mod pool;
+pub mod queue;
+pub fn clear(slot: &mut Option<u32>) -> Option<u32> { mem::replace(slot, None) }
+pub fn attempt(job: u32) -> bool { job < u32::max_value() }
+""",
+    "src/queue.rs": """\
+use crate::attempt;
+use std::mem::replace as put;
+pub struct Queue { pub jobs: Vec<u32>, pub last: Option<u32> }
+impl Queue {
+    pub fn last(&mut self) -> bool { assert!(put(&mut self.last, None).is_some()); self.ready() == 0 }
+    pub fn ready(&self) -> usize { self.jobs.iter().filter(|job| attempt(**job)).count() }
+}
+pub fn start(job: u32) -> bool { job > 0 }
+fn replace(old: u32, new: Option<u32>) -> u32 { new.unwrap_or(old) }
+pub fn own(n: u32) -> bool { let attempt = |n: u32| n == 2; attempt(replace(n, None)) }
+""",
+    "src/pool.rs": """\
+use crate::queue::Queue;
+use rayon::prelude::*;
+pub fn reset(q: &mut Queue) -> bool {
+    std::mem::replace(&mut q.last, None);
+    q.jobs.par_iter().all(|job| crate::attempt(*job))
+}
+""",
+}
+TAKE = "std::mem::replace($a, None) ==>> $a.take()"
+UNDECIDED = "src/pool.rs:4:5: undecided by `None`: std::mem::replace(&mut q.last, None)\n"
+
+# Words of the command, the lines that a diff adds, and what is told.
+DEPOT_RUNS = [
+    (
+        [TAKE],
+        [
+            "pub fn clear(slot: &mut Option<u32>) -> Option<u32> { slot.take() }",
+            "    pub fn last(&mut self) -> bool { assert!((&mut self.last).take().is_some()); self.ready() == 0 }",
+        ],
+        "2 matches in 2 files: 2 edits; 1 undecided\n",
+    ),
+    (
+        ["attempt($j) ==>> queue::start($j)"],
+        [
+            "    q.jobs.par_iter().all(|job| crate::queue::start(*job))",
+            "    pub fn ready(&self) -> usize { self.jobs.iter().filter(|job| start(**job)).count() }",
+        ],
+        "2 matches in 2 files: 2 edits; 1 undecided\n",
+    ),
+    (
+        ["std::mem::replace($a, $b) ==>> std::mem::take($a)"],
+        [
+            "pub fn clear(slot: &mut Option<u32>) -> Option<u32> { mem::take(slot) }",
+            "    std::mem::take(&mut q.last);",
+            "    pub fn last(&mut self) -> bool { assert!(std::mem::take(&mut self.last).is_some()); self.ready() == 0 }",
+        ],
+        "3 matches in 3 files: 3 edits\n",
+    ),
+    (["u32::max_value() ==>> u32::MAX"], ["pub fn attempt(job: u32) -> bool { job < u32::MAX }"], "1 match in 1 file: 1 edit\n"),
+    (
+        ["--in", "src/queue.rs:1", "replace($a, $b) ==>> $b"],
+        ["pub fn own(n: u32) -> bool { let attempt = |n: u32| n == 2; attempt(None) }"],
+        "1 match in 1 file: 1 edit\n",
+    ),
+    (["queue::Queue::ready($q) ==>> $q.jobs.len()"], [], "0 matches; 1 undecided\n"),
+]
+
+
+def added(diff):
+    """The lines that a diff adds, by the files' names."""
+    return sorted(line[1:] for line in diff.splitlines() if line.startswith("+") and not line.startswith("+++"))
+
+
+@example
+def names_are_known_by_the_sources(program):
+    with Package(DEPOT) as package:
+        for words, lines, told in DEPOT_RUNS:
+            status, diff, err = package.run(program, *words)
+            is_so = (status, added(diff), err) == (0, sorted(lines), told)
+            if not is_so:
+                print(f"{words}: status {status}\n{diff}{err}", end="")
+            yield is_so
+
+
+@example
+def undecided_places_are_listed(program):
+    with Package(DEPOT) as package:
+        _, shown, told = package.run(program, TAKE)
+        yield package.run(program, TAKE, "--undecided") == (0, shown, UNDECIDED + told)
+        yield package.run(program, TAKE, "--undecided", "-q") == (0, shown, UNDECIDED)
+        lines = package.run(program, TAKE, "--json")[1].splitlines()
+        yield len(lines) == 3 and json.loads(lines[2])["summary"]["undecided"] == 1
+        _, listed, told = package.run(program, "--search", "attempt($j)", "--undecided")
+        yield [line.split(" ")[0] for line in listed.splitlines()] == ["src/pool.rs:5:33:", "src/queue.rs:6:66:"]
+        yield told == "src/queue.rs:10:61: undecided by `attempt`: attempt(replace(n, None))\n2 matches in 2 files; 1 undecided\n"
+        yield package.run(program, TAKE, "--write", "-q")[0] == 0 and "    std::mem::replace(&mut q.last, None);\n" in package.read("src/pool.rs")
+
+
+@example
+def paths_are_searched_with_the_names_of_their_package(program):
+    with Package(DEPOT) as package:
+        status, diff, told = package.run(program, "attempt($j) ==>> queue::start($j)", "--", "src/queue.rs")
+        yield status == 0 and added(diff) == [DEPOT_RUNS[1][1][1]] and told == "1 match in 1 file: 1 edit; 1 undecided\n"
+        yield package.run(program, "attempt($j) ==>> queue::start($j)", "--", "queue.rs", within="src") == (0, diff, told)
+        yield package.run(program, TAKE, "--", "src/pool.rs") == (0, "", "0 matches; 1 undecided\n")
+        yield package.run(program, TAKE, "--", "src/none.rs")[0] == 3
+    with Package({**DEPOT, "src/empty.rs": ""}) as package:
+        yield package.run(program, TAKE, "--", "src/empty.rs") == (0, "", "0 matches\n")
+    with Package({"one.rs": "fn f() { std::mem::replace(a, None); }\n"}) as package:
+        status, diff, told = package.run(program, TAKE, "--", "one.rs")
+        yield status == 0 and added(diff) == ["fn f() { a.take(); }"] and told == "1 match in 1 file: 1 edit\n"
+
+
+@example
+def paths_that_do_not_resolve_are_told_with_what_ends_so(program):
+    here = "names are looked up in src/lib.rs, or where --in says\n"
+    with Package(DEPOT) as package:
+        refused = "error: rule 0: Failed to resolve path"
+        yield package.run(program, "reset($q) ==>> $q") == (3, "", f"{refused} `reset`\ncrate::pool::reset ends so; {here}")
+        yield package.run(program, "nothing($q) ==>> $q") == (3, "", f"{refused} `nothing`\n{here}")
+        status, _, told = package.run(program, "--in", "src/pool.rs:1", "start($q) ==>> $q")
+        yield (status, told) == (3, f"{refused} `start`\ncrate::queue::start ends so; names are looked up where --in says\n")
+        yield package.run(program, "--in", "src/pool.rs:1", "reset($q) ==>> $q")[0] == 0
+    two = {"Cargo.toml": MANIFEST, "src/lib.rs": "mod p {}\nfn p() -> u8 { 1 }\nfn f() { p(); }\n"}
+    with Package(two) as package:
+        yield package.run(program, "p() ==>> 2")[2] == "1 match in 1 file: 1 edit\n"
+        yield package.run(program, "p ==>> ()")[2] == "error: rule 0: Failed to resolve path `p`: p is a function and a module\n"
+
+
+# ** Names that are easily taken for others: what each file is, the words of the command, the lines that a diff adds, and what is told.
+
+EDITION_2015 = MANIFEST.replace("2021", "2015")
+DROP = "std::mem::drop($a) ==>> free($a)"
+OWN_FREE = "pub fn free<T>(_: T) {}\n"
+
+TRAPS = [
+    # a macro of the package may bring in a file
+    ("macro_rules! load { () => { include!(\"b.rs\"); } }\nload!();\nfn free(a: u8) {}\nfn f() { drop(1) }\n", DROP, [], "0 matches; 1 undecided\n"),
+    # so may a macro of another crate, as its name says, or since nothing in its argument could be the name of an item
+    ("pub mod b { foreign::include_proto!(\"p\"); }\nuse b::*;\nfn free(a: u8) {}\nfn f() { drop(1) }\n", DROP, [], "0 matches; 1 undecided\n"),
+    ("foreign::bindings!(\"p\");\nfn free(a: u8) {}\nfn f() { drop(1) }\n", DROP, [], "0 matches; 1 undecided\n"),
+    # words that a macro of the package passes on to one that isn't read
+    ("macro_rules! m { ($($n:ident)*) => { foreign::make! { $($n)* } } }\nm!(drop);\nfn free(a: u8) {}\nfn f() { drop(1) }\n", DROP, [], "0 matches; 1 undecided\n"),
+    ("macro_rules! m { () => { foreign::make! { drop } } }\nm!();\nfn free(a: u8) {}\nfn f() { drop(1) }\n", DROP, [], "0 matches; 1 undecided\n"),
+    ("macro_rules! same { ($($t:tt)*) => { $($t)* } }\nsame!(foreign::make!(drop););\nfn free(a: u8) {}\nfn f() { drop(1) }\n", DROP, [], "0 matches; 1 undecided\n"),
+    # or to another one of the package
+    ("macro_rules! a { ($n:ident) => { fn $n(_: u8) {} } }\nmacro_rules! b { () => { a!(drop); } }\nb!();\nfn free(a: u8) {}\nfn f() { drop(1) }\n", DROP, [], "0 matches; 1 undecided\n"),
+    # what a function in such a macro calls declares nothing around it
+    ("struct Job;\nimpl Job { fn a() -> u8 { 1 } }\nmacro_rules! m { ($t:ident) => { impl $t { fn b() { foreign::say!(\"b\") } } } }\nm!(Job);\nfn f() -> u8 { Job::a() }\n", "Job::a() ==>> 7", ["fn f() -> u8 { 7 }"], "1 match in 1 file: 1 edit\n"),
+    # a name that a macro puts together
+    ("macro_rules! m { ($n:ident) => { foreign::paste! { fn [<dr $n>](a: u8) {} } } }\nm!(op);\nfn free(a: u8) {}\nfn f() { drop(1) }\n", DROP, [], "0 matches; 1 undecided\n"),
+    # another crate's macro with the name of one of the package
+    ("macro_rules! make { () => {} }\nforeign::make!(drop);\nfn free(a: u8) {}\nfn f() { drop(1) }\n", DROP, [], "0 matches; 1 undecided\n"),
+    # imported or declared, by the compiler's version
+    ("#[rustversion::since(1.40)] use std::mem::drop as g;\n#[rustversion::before(1.40)] fn g(a: u8) {}\nfn free(a: u8) {}\nfn f() { g(1) }\n", DROP, [], "0 matches; 1 undecided\n"),
+    # a module that says inside that it stands under a condition
+    ("mod std { #![cfg(unix)] pub mod mem { pub fn drop(_: u8) {} } }\nfn free(a: u8) {}\nfn f() { std::mem::drop(1) }\n", "::std::mem::drop($a) ==>> free($a)", [], "0 matches; 1 undecided\n"),
+    # generics that aren't read hide a name in their function; which functions of a module have such isn't known
+    (
+        "mod m { pub struct Job; impl Job { pub fn make() -> u8 { 1 } } }\nuse m::Job;\ntrait Make { fn make() -> u8; }\nfn load<Job: Make, I: Iterator<Item: Into<u8>>>(i: I) -> u8 { Job::make() }\nfn f() -> u8 { m::Job::make() }\n",
+        "m::Job::make() ==>> 7",
+        ["fn f() -> u8 { 7 }"],
+        "1 match in 1 file: 1 edit; 1 undecided; 1 file not searched whole\n",
+    ),
+    # an item that isn't read
+    # what isn't read hides no name of a rule, but one of the code
+    ("foreign::bindings!(\"p\");\nmod m { fn g() { Vec::new(); } }\nfn f() { Vec::new(); }\n", "Vec::new() ==>> Vec::default()", ["mod m { fn g() { Vec::default(); } }"], "1 match in 1 file: 1 edit; 1 undecided\n"),
+    ("foreign::doctest!(\"../README.md\");\nfn f() { Vec::new(); }\n", "Vec::new() ==>> Vec::default()", ["fn f() { Vec::default(); }"], "1 match in 1 file: 1 edit\n"),
+    ("union Vec { a: u8 }\nfn f() { Vec::new(); std::vec::Vec::new(); }\n", "std::vec::Vec::new() ==>> 7", ["fn f() { Vec::new(); 7; }"], "1 match in 1 file: 1 edit; 1 undecided; 1 file not searched whole\n"),
+    # what a function binds is no item there
+    ("fn g(a: u8) -> u8 { a }\nfn f(g: fn(u8) -> u8) -> u8 { g(1) }\nfn h() -> u8 { g(2) }\n", "g($a) ==>> $a", ["fn h() -> u8 { 2 }"], "1 match in 1 file: 1 edit; 1 undecided\n"),
+    ("fn g(a: u8) -> u8 { a }\nfn f() -> u8 { if let Some(g) = k() { g(1) } else { 0 } }\n", "g($a) ==>> $a", [], "0 matches; 1 undecided\n"),
+    # a function in a function hides the one around
+    ("fn g(a: u8) -> u8 { a }\nfn f() -> u8 { fn g(a: u8) -> u8 { a + 1 } g(1) }\nfn h() -> u8 { g(2) }\n", "g($a) ==>> $a", ["fn h() -> u8 { 2 }"], "1 match in 1 file: 1 edit\n"),
+    # a type, a function and a macro may have one name
+    ("mod log { pub fn log(a: u8) -> u8 { a } }\nuse log::log;\nfn f() -> u8 { log(1) + log::log(2) }\n", "log::log($a) ==>> $a", ["fn f() -> u8 { 1 + 2 }"], "2 matches in 1 file: 2 edits\n"),
+    # imports in a circle
+    ("mod a { pub use crate::b::*; pub fn g(a: u8) -> u8 { a } }\nmod b { pub use crate::a::*; }\nfn f() -> u8 { b::g(1) + a::g(2) }\n", "a::g($a) ==>> $a", ["fn f() -> u8 { 1 + 2 }"], "2 matches in 1 file: 2 edits\n"),
+    # an item hides what a glob brings in
+    ("mod a { pub fn g(a: u8) -> u8 { a } }\nuse a::*;\nfn g(a: u8) -> u8 { a + 1 }\nfn f() -> u8 { g(1) }\n", "a::g($a) ==>> $a", [], "0 matches\n"),
+    # one that is private isn't seen from outside
+    ("mod a { fn drop(a: u8) -> u8 { a } pub fn b() {} }\nuse a::*;\nfn free(a: u8) {}\nfn f() { drop(1) }\n", DROP, ["fn f() { free(1) }"], "1 match in 1 file: 1 edit\n"),
+    # under one condition imported, under the other one declared
+    ("#[cfg(unix)] use std::mem::drop as g;\n#[cfg(not(unix))] fn g(a: u8) {}\nfn free(a: u8) {}\nfn f() { g(1) }\n", DROP, [], "0 matches; 1 undecided\n"),
+    # what an import under a condition brings in counts beside the prelude
+    ("mod a { pub fn drop(a: u8) {} }\n#[cfg(unix)] use a::drop;\nfn free(a: u8) {}\nfn f() { drop(1) }\n", DROP, [], "0 matches; 1 undecided\n"),
+    # a macro of the package may bring in anything by a glob
+    ("mod a { pub fn drop(a: u8) {} }\nmacro_rules! all { () => { use a::*; } }\nall!();\nfn free(a: u8) {}\nfn f() { drop(1) }\n", DROP, [], "0 matches; 1 undecided\n"),
+    # so may a file that is included
+    ("include!(\"b.rs\");\nfn free(a: u8) {}\nfn f() { drop(1) }\n", DROP, [], "0 matches; 1 undecided\n"),
+    # a macro of one function is none of another one
+    ("fn f(a: u8) { macro_rules! assert { ($e:expr) => {} } assert!(a == 1); }\nfn g(a: u8) { assert!(a == 2); }\n", "std::assert!($a == $b) ==>> std::assert_eq!($a, $b)", None, None),
+    # `self` and `Self`
+    ("pub struct A;\nimpl A { pub fn new() -> A { A } fn b() -> A { Self::new() } }\nfn f() -> A { A::new() }\n", "A::new() ==>> A", None, "2 matches in 1 file: 2 edits\n"),
+    # another name for it
+    ("use std::mem as m;\nuse m::drop as g;\nfn free(a: u8) {}\nfn f() { g(1); m::drop(2) }\n", DROP, ["fn f() { free(1); free(2) }"], "2 matches in 1 file: 2 edits\n"),
+    # another crate may bring in a macro of the standard library's name, but for crates that are known to have none
+    ("#[macro_use] extern crate pretty_assertions;\nfn f(a: bool) { assert!(a); }\n", "std::assert!($a) ==>> $a", [], "0 matches; 1 undecided\n"),
+    ("#[macro_use] extern crate log;\nfn f(a: bool) { assert!(a); }\n", "std::assert!($a) ==>> $a", ["fn f(a: bool) { a; }"], "1 match in 1 file: 1 edit\n"),
+    ("use defmt::*;\nfn f(a: bool) { assert!(a); }\n", "std::assert!($a) ==>> $a", [], "0 matches; 1 undecided\n"),
+    # so may a macro that declares macros, in the modules below too
+    ("macro_rules! make { () => { macro_rules! assert { ($e:expr) => {} } } }\nmake!();\nmod inner { fn f(a: bool) { assert!(a); } }\n", "std::assert!($a) ==>> $a", [], "0 matches; 1 undecided\n"),
+    # a macro isn't seen in front of its own item
+    ("fn f(a: bool) { assert!(a); }\nmacro_rules! assert { ($e:expr) => {} }\nfn g(a: bool) { assert!(a); }\n", "std::assert!($a) ==>> $a", [], "0 matches; 1 undecided\n"),
+    # a function of a macro's name is no macro
+    ("use std::ptr::write;\nfn f(a: &mut String) { write!(a, \"b\"); }\n", "std::write!($a, $b) ==>> $b", [], "0 matches; 1 undecided\n"),
+    # a block in a macro's argument has its own names
+    ("use std::mem::drop;\nfn free(a: u8) {}\nfn f() { assert!({ fn drop(a: u8) -> bool { a == 1 } drop(1) }) }\n", DROP, [], "0 matches\n"),
+    # what is written isn't captured by a generic parameter
+    ("pub struct Old;\npub struct Key;\nfn f<Key>(a: Old, k: Key) {}\n", "Old ==>> Key", ["fn f<Key>(a: crate::Key, k: Key) {}"], "1 match in 1 file: 1 edit\n"),
+    # nor does it begin with what is there under a condition alone
+    ("#[cfg(test)] use std::mem;\nfn f(a: &mut Vec<u8>) { std::mem::replace(a, Vec::new()); }\n", "std::mem::replace($a, Vec::new()) ==>> std::mem::take($a)", ["fn f(a: &mut Vec<u8>) { std::mem::take(a); }"], "1 match in 1 file: 1 edit\n"),
+    # it keeps the path of the rule, and words of the language as names
+    ("#![no_std]\nfn f(a: &mut u8) { core::mem::replace(a, 0); }\n", "core::mem::replace($a, $b) ==>> core::mem::swap($a, &mut $b)", ["fn f(a: &mut u8) { core::mem::swap(a, &mut 0); }"], "1 match in 1 file: 1 edit\n"),
+    ("fn f() -> usize { std::mem::align_of::<u8>() }\n", "std::mem::align_of::<$t>() ==>> std::mem::size_of::<$t>()", ["fn f() -> usize { std::mem::size_of::<u8>() }"], "1 match in 1 file: 1 edit\n"),
+    ("fn g(a: u8) -> u8 { a }\npub mod r#match { pub fn h(a: u8) -> u8 { a } }\nfn f() -> u8 { g(1) }\n", "g($a) ==>> r#match::h($a)", ["fn f() -> u8 { r#match::h(1) }"], "1 match in 1 file: 1 edit\n"),
+    # an item in an item has a `Self` of its own
+    ("pub struct A { pub a: u8 }\npub struct B { pub a: u8 }\nimpl A { pub fn f() { struct C { c: Option<Box<Self>> } } }\n", "A ==>> B", ["impl B { pub fn f() { struct C { c: Option<Box<Self>> } } }"], "1 match in 1 file: 1 edit; 1 undecided\n"),
+    # a field alone names the field too
+    ("fn g() {}\npub mod m { pub fn h() {} }\nstruct A { g: fn() }\nfn f() -> A { A { g } }\n", "g ==>> m::h", [], "0 matches; 1 undecided\n"),
+    # aliases under different conditions may be those of different types
+    ("pub mod a { pub enum K { Up, Down } }\npub mod b { pub enum K { Up } }\n#[cfg(unix)] type E = a::K;\n#[cfg(not(unix))] type E = b::K;\nfn f() -> E { E::Up }\n", "a::K::Up ==>> a::K::Down", [], "0 matches; 1 undecided\n"),
+    # a module of another crate is no function
+    ("pub fn time() {}\npub fn now() {}\nmod work { use super::*; use std::time; fn f() { time() } }\n", "time() ==>> now()", [], "0 matches; 1 undecided\n"),
+    # a private name hides what a glob brings in there
+    ("mod m { use std::mem::take as drop; pub use crate::a::*; }\nmod a { pub fn drop(a: u8) {} }\nfn now(a: u8) {}\nmod n { use crate::m::*; fn f() { drop(1) } }\n", "a::drop($a) ==>> now($a)", [], "0 matches; 1 undecided\n"),
+    # a variant under a condition
+    ("pub enum K { #[cfg(unix)] None, Up }\nuse K::*;\nfn f() -> Option<u8> { None }\n", "std::option::Option::None ==>> std::option::Option::Some(1)", [], "0 matches; 1 undecided\n"),
+    # a constant in a pattern of a macro's argument binds nothing
+    ("fn free(a: u8) {}\nfn f(a: Option<u8>) -> bool { matches!(a, None) && g(None) }\nfn g(a: Option<u8>) -> bool { true }\nfn h(a: Option<u8>) -> bool { false }\n", "g(None) ==>> h(None)", ["fn f(a: Option<u8>) -> bool { matches!(a, None) && h(None) }"], "1 match in 1 file: 1 edit\n"),
+]
+
+
+@example
+def names_are_not_taken_for_others(program):
+    for text, rule, lines, wanted in TRAPS:
+        included = {"src/b.rs": "fn drop(a: u8) {}\n"} if "include!" in text else {}
+        with Package({"Cargo.toml": MANIFEST, "src/lib.rs": text, **included}) as package:
+            status, diff, told = package.run(program, rule)
+            is_so = status == 0 and (lines is None or added(diff) == sorted(lines)) and (wanted is None or told.endswith(wanted))
+            if not is_so:
+                print(f"{text}{rule}: status {status}\n{diff}{told}", end="")
+            yield is_so
+
+
+# Packages, the words of the command, the lines that a diff adds, and what is told.
+PACKAGES_WITH_TRAPS = [
+    # a test that is named as a dependency
+    (
+        {"Cargo.toml": MANIFEST + '\n[dependencies]\nserde = "1"\n', "src/lib.rs": "pub fn f() { serde::to(1) }\n", "tests/serde.rs": "pub fn to(a: u8) {}\n"},
+        ["serde::to($a) ==>> $a"],
+        ["pub fn f() { 1 }"],
+        "1 match in 1 file: 1 edit\n",
+    ),
+    # a file of two crates: each has one of its own
+    (
+        {
+            "src/lib.rs": "pub mod counter;\n",
+            "src/main.rs": "mod counter;\nmod cli;\nfn main() {}\n",
+            "src/counter.rs": "pub fn old() {}\npub fn bump() {}\n",
+            "src/cli.rs": "pub fn f() { crate::counter::old() }\n",
+        },
+        ["counter::old() ==>> counter::bump()"],
+        ["pub fn f() { crate::counter::bump() }"],
+        "1 match in 1 file: 1 edit\n",
+    ),
+    # below a file of two crates
+    (
+        {
+            "tests/a.rs": "mod common;\nfn helper(a: u8) {}\n",
+            "tests/b.rs": "mod common;\nfn helper(a: u8) {}\n",
+            "tests/common/mod.rs": "pub mod inner;\n",
+            "tests/common/inner.rs": "pub fn f() { crate::helper(1) }\n",
+        },
+        ["--in", "tests/a.rs:1", "helper($a) ==>> $a"],
+        [],
+        "0 matches; 1 undecided\n",
+    ),
+    # what is private is reached by an import, or not at all
+    (
+        {
+            "src/lib.rs": "mod queue;\npub use queue::start;\npub fn attempt(a: u8) -> bool { a > 0 }\n",
+            "src/queue.rs": "pub fn start(a: u8) -> bool { a > 0 }\n",
+            "tests/one.rs": "fn f() { little::attempt(1); }\n",
+        },
+        ["attempt($a) ==>> queue::start($a)"],
+        ["fn f() { little::start(1); }"],
+        "1 match in 1 file: 1 edit\n",
+    ),
+    (
+        {
+            "src/lib.rs": "mod queue;\npub fn attempt(a: u8) -> bool { a > 0 }\n",
+            "src/queue.rs": "pub fn start(a: u8) -> bool { a > 0 }\n",
+            "tests/one.rs": "fn f() { little::attempt(1); }\n",
+        },
+        ["attempt($a) ==>> queue::start($a)"],
+        [],
+        "0 matches; 1 undecided\n",
+    ),
+]
+
+
+@example
+def crates_and_their_files_are_not_taken_for_others(program):
+    for files, words, lines, told in PACKAGES_WITH_TRAPS:
+        with Package({"Cargo.toml": MANIFEST, **files}) as package:
+            status, diff, err = package.run(program, *words)
+            is_so = (status, added(diff), err) == (0, sorted(lines), told)
+            if not is_so:
+                print(f"{words}: status {status}\n{diff}{err}", end="")
+            yield is_so
+
+
+@example
+def editions_look_names_up_otherwise(program):
+    text = "mod a { pub fn g(a: u8) -> u8 { a } pub fn h() -> u8 { ::a::g(1) } }\nuse a::g;\nfn f() -> u8 { g(2) }\n"
+    with Package({"Cargo.toml": EDITION_2015, "src/lib.rs": text}) as package:
+        yield package.run(program, "a::g($a) ==>> $a")[2] == "2 matches in 1 file: 2 edits\n"
+    with Package({"Cargo.toml": MANIFEST, "src/lib.rs": text}) as package:
+        yield package.run(program, "a::g($a) ==>> $a")[2] == "1 match in 1 file: 1 edit; 1 undecided\n"
+
+
+@example
+def files_of_several_crates_know_each_other(program):
+    files = {
+        "Cargo.toml": MANIFEST,
+        "src/lib.rs": "pub fn g(a: u8) -> u8 { a }\n",
+        "src/main.rs": "use little::g;\nfn main() { g(1); }\n",
+        "tests/one.rs": "mod common;\nfn f() { little::g(2); common::g(3); }\n",
+        "tests/two.rs": "mod common;\nfn f() { little::g(4); }\n",
+        "tests/common/mod.rs": "pub fn g(a: u8) -> u8 { a }\n",
+    }
+    with Package(files) as package:
+        status, diff, told = package.run(program, "g($a) ==>> $a")
+        yield added(diff) == ["fn f() { 2; common::g(3); }", "fn f() { 4; }", "fn main() { 1; }"]
+        yield (status, told) == (0, "3 matches in 3 files: 3 edits\n")
+
+
+@example
+def names_of_several_files_are_known(program):
+    """What each file is, a rule, and the lines that it makes."""
+    macro = {"src/lib.rs": "#[macro_export]\nmacro_rules! mac { ($a:expr) => { $a } }\n", "tests/one.rs": "fn f() { little::mac!(1); }\n"}
+    # one file under two conditions, and two files
+    one = {"src/lib.rs": "#[cfg(unix)] pub mod d;\n#[cfg(not(unix))] mod d;\nfn f() { d::g(1); }\n", "src/d.rs": "pub fn g(a: u8) -> u8 { a }\n"}
+    two = {"src/lib.rs": "#[cfg(unix)] #[path = \"a.rs\"] mod d;\n#[cfg(not(unix))] mod d;\nmod e { pub use crate::d::g; }\nfn f() { e::g(1); a::g(2); }\nmod a { pub fn g(_: u8) {} }\n", "src/a.rs": "pub fn g(a: u8) -> u8 { a }\n"}
+    for files, rule, lines, told in [
+        (macro, "mac!($a) ==>> $a", ["fn f() { 1; }"], "1 match in 1 file: 1 edit\n"),
+        (one, "d::g($a) ==>> $a", ["fn f() { 1; }"], "1 match in 1 file: 1 edit\n"),
+        (two, "a::g($a) ==>> $a", ["fn f() { e::g(1); 2; }"], "1 match in 1 file: 1 edit; 1 undecided\n"),
+    ]:
+        with Package({"Cargo.toml": MANIFEST, **files}) as package:
+            status, diff, err = package.run(program, rule)
+            is_so = status == 0 and added(diff) == lines and err.endswith(told)
+            if not is_so:
+                print(f"{files}{rule}: status {status}\n{diff}{err}", end="")
+            yield is_so
 
 
 def on_a_terminal(package, program, *words, **variables):

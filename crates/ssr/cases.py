@@ -88,6 +88,32 @@ def rewrites_files(program):
     yield gives(program, ["$a+$b==>>$b-$a"], file, new)
 
 
+# Rules, an expression, and what becomes of it: what a placeholder holds groups as before, with the matches in it replaced.
+SEVEN = ["$a.f() ==>> $a.g()", "7 ==>> 3 + 4"]
+TURNED = ["$a * $b ==>> $b * $a", "$a.foo() ==>> $a + 1"]
+IN_OTHERS = [
+    (SEVEN, "(2 * 7).f()", "(2 * (3 + 4)).g()"),
+    (SEVEN, "(2 + 7 * 7).f()", "(2 + (3 + 4) * (3 + 4)).g()"),
+    (SEVEN, "(7 + 2 * 7).f()", "(3 + 4 + 2 * (3 + 4)).g()"),
+    (SEVEN, "h(7, [7]).f()", "h(3 + 4, [3 + 4]).g()"),
+    (SEVEN, "7.f()", "(3 + 4).g()"),
+    (SEVEN, "(2 * (7)).f()", "(2 * (3 + 4)).g()"),
+    (SEVEN, "(2 * (3 * 7).f()).f()", "(2 * (3 * (3 + 4)).g()).g()"),
+    (TURNED, "x * -y.foo()", "-(y + 1) * x"),
+    (TURNED, "x * y.foo()", "(y + 1) * x"),
+    (TURNED, "x * -y /* k */.foo()", "-(y + 1/* k */) * x"),
+    (TURNED, "x * g(y.foo())", "g(y + 1) * x"),
+    (TURNED, "x * g(y.foo() /* k */)", "g(y + 1 /* k */) * x"),
+    (["let $p = $x; ==>> let $p = ($x);", "7 ==>> 3 | 4"], "let &7 = x;", "let &(3 | 4) = (x);"),
+]
+
+
+@example
+def what_placeholders_hold_groups_as_before(program):
+    for rules, code, new in IN_OTHERS:
+        yield gives(program, rules, f"fn f() {{{code}}}", f"fn f() {{{new}}}")
+
+
 @example
 def earlier_rules_come_first(program):
     rules = ["$a + 1 ==>> $a * 7", "$a + $b ==>> $a - $b", "true ==>> false"]

@@ -2,6 +2,7 @@
 #![tactic(auto)]
 
 use cargo_ssr_program::{Console, run};
+use ssr_package::OnFiles;
 use ssr_streams::CountedSink;
 use ssr_writing::OnDisk;
 use std::env::VarError;
@@ -14,7 +15,7 @@ fn main(rt: HostRuntime) -> ExitCode {
     let mut console = Console::new(CountedSink::new(rt.stdout()), rt.stderr(), has_colors);
     let status = match (words(&rt), env::current_dir(&rt)) {
         (Some(words), Ok(here)) => run(
-            &rt,
+            &mut OnFiles::new(&rt),
             &mut OnDisk::new(&rt),
             here.as_str(),
             &words,

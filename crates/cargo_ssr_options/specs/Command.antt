@@ -57,6 +57,7 @@ pub record IsGiven (found : Found) (given : Given) : Type 0 where
   pub write : given.write ≡ is_set found (codes "write")
   pub check : given.check ≡ is_set found (codes "check")
   pub json : given.json ≡ is_set found (codes "json")
+  pub undecided : given.undecided ≡ is_set found (codes "undecided")
   pub no_macros : given.no_macros ≡ is_set found (codes "no-macros")
   pub quiet : given.quiet ≡ is_set found (codes "quiet")
   pub color : Some given.color ≡ color_or_auto (first_value found (codes "color"))

@@ -62,6 +62,7 @@ options_of given = record {
   place = given.place;
   macros = not given.no_macros;
   json = given.json;
+  undecided = given.undecided;
   color = given.color;
   quiet = given.quiet;
 }

@@ -169,6 +169,11 @@ fn with_shown<'a>(alloc: Global, command: Command<'a>) -> Result<Command<'a>, Al
     );
     command
         .arg(flag(alloc, "json", "Tell each match as a line of JSON"))?
+        .arg(flag(
+            alloc,
+            "undecided",
+            "List what would match if names meant what the rule means",
+        ))?
         .arg(color)?
         .arg(flag(alloc, "quiet", "Tell no summary").short('q'))
 }
@@ -191,6 +196,7 @@ fn given(
         write: is_set(matches, "write"),
         check: is_set(matches, "check"),
         json: is_set(matches, "json"),
+        undecided: is_set(matches, "undecided"),
         no_macros: is_set(matches, "no-macros"),
         quiet: is_set(matches, "quiet"),
         color,

@@ -15,6 +15,7 @@ pub struct Given {
     pub write: bool,
     pub check: bool,
     pub json: bool,
+    pub undecided: bool,
     pub no_macros: bool,
     pub quiet: bool,
     pub color: Color,
@@ -111,6 +112,7 @@ impl Given {
             write,
             check,
             json,
+            undecided,
             no_macros,
             quiet,
             color,
@@ -128,6 +130,7 @@ impl Given {
             place,
             macros: !no_macros,
             json,
+            undecided,
             color,
             quiet,
         })

@@ -56,6 +56,8 @@ pub struct Options {
     pub macros: bool,
     /// Whether matches are told as JSON.
     pub json: bool,
+    /// Whether the places are listed that would match if their names meant what the rule means, and of which that isn't known.
+    pub undecided: bool,
     pub color: Color,
     /// Whether there is no summary.
     pub quiet: bool,

@@ -1,4 +1,5 @@
 pub mod Planned
 pub mod Private
+pub mod Providers
 pub mod Running
 pub mod Status

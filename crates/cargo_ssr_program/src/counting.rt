@@ -1,6 +1,6 @@
 //! How many matches and edits a run comes to.
 
-use crate::passed_over::PassedOver;
+use crate::input::Input;
 use ssr_changes::{FileChange, FoundPlace};
 use ssr_reports::Summary;
 
@@ -10,15 +10,16 @@ fn edit_count(change: &FileChange) -> usize {
 }
 
 /// The counts of what changes.
-pub(crate) fn counts_of_changes(changes: &[FileChange], passed_over: PassedOver) -> Summary {
+pub(crate) fn counts_of_changes(changes: &[FileChange], input: &Input) -> Summary {
     let mut counts = Summary {
         files: changes.len(),
         matches: 0,
         edits: 0,
         set_aside: 0,
         unread: 0,
-        left_out: passed_over.left_out,
-        not_searched: passed_over.not_searched,
+        undecided: input.undecided,
+        left_out: input.passed_over.left_out,
+        not_searched: input.passed_over.not_searched.len(),
     };
     for change in changes {
         let edits = edit_count(change);
@@ -32,7 +33,7 @@ pub(crate) fn counts_of_changes(changes: &[FileChange], passed_over: PassedOver)
 }
 
 /// The counts of matches, which stand in the order of their files.
-pub(crate) fn counts_of_places(places: &[FoundPlace], passed_over: PassedOver) -> Summary {
+pub(crate) fn counts_of_places(places: &[FoundPlace], input: &Input) -> Summary {
     let mut files = 0usize;
     let mut last = None;
     for place in places {
@@ -48,7 +49,8 @@ pub(crate) fn counts_of_places(places: &[FoundPlace], passed_over: PassedOver) -
         edits: 0,
         set_aside: places.iter().filter(|place| place.holds_aside).count(),
         unread: 0,
-        left_out: passed_over.left_out,
-        not_searched: passed_over.not_searched,
+        undecided: input.undecided,
+        left_out: input.passed_over.left_out,
+        not_searched: input.passed_over.not_searched.len(),
     }
 }

@@ -5,7 +5,7 @@ use crate::failure::Failure;
 use crate::input::Input;
 use crate::telling::search_failure;
 use cargo_ssr_options::Options;
-use ssr_base::{FileRange, Semantics};
+use ssr_base::FileRange;
 use ssr_changes::{DebugEntry, Searchable, debug};
 use ssr_reports::{Places, place_words};
 use ssr_streams::Sink;
@@ -13,9 +13,9 @@ use std::alloc::{AllocError, Global};
 use std::io::Write;
 
 /// Tells of each rule that asks for a node that the snippet shows whether it matches there, and why not.
-pub(crate) fn show_debug<W: Sink, E: Write, S: Semantics>(
+pub(crate) fn show_debug<W: Sink, E: Write>(
     alloc: Global,
-    input: &Input<S>,
+    input: &Input,
     snippet: &str,
     options: &Options,
     console: &mut Console<W, E>,
@@ -51,7 +51,7 @@ pub(crate) fn show_debug<W: Sink, E: Write, S: Semantics>(
 
 /// Places in files: those of a file that follow each other in their order take one pass over its text.
 #[derive(Drop)]
-struct FilePlaces<'a> {
+pub(crate) struct FilePlaces<'a> {
     files: &'a Searchable,
     /// The file of the last place.
     file: Option<usize>,
@@ -59,7 +59,7 @@ struct FilePlaces<'a> {
 }
 
 impl<'a> FilePlaces<'a> {
-    fn new(files: &'a Searchable) -> FilePlaces<'a> {
+    pub(crate) fn new(files: &'a Searchable) -> FilePlaces<'a> {
         FilePlaces {
             files,
             file: None,
@@ -68,7 +68,7 @@ impl<'a> FilePlaces<'a> {
     }
 
     /// Where a range begins, as FILE:LINE:COLUMN.
-    fn words(&mut self, alloc: Global, range: FileRange) -> Result<String, AllocError> {
+    pub(crate) fn words(&mut self, alloc: Global, range: FileRange) -> Result<String, AllocError> {
         let files = self.files;
         let file = range.file_id.0 as usize;
         if file >= files.file_count() {

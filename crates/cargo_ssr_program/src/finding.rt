@@ -9,7 +9,7 @@ use crate::input::Input;
 use crate::passed_over::unsearched_json;
 use crate::telling::{search_failure, text_in};
 use cargo_ssr_options::Options;
-use ssr_base::{FileRange, Semantics, TextEdit};
+use ssr_base::{FileRange, TextEdit};
 use ssr_changes::{FileChange, FoundPlace, Searchable, pattern_matches};
 use ssr_reports::{
     Held, LinePlace, MatchReport, Places, Summary, match_json, place_line, summary_json,
@@ -21,9 +21,9 @@ use std::alloc::{AllocError, Global};
 use std::io::Write;
 
 /// Lists what matches patterns.
-pub(crate) fn search<W: Sink, E: Write, S: Semantics>(
+pub(crate) fn search<W: Sink, E: Write>(
     alloc: Global,
-    input: &Input<S>,
+    input: &Input,
     patterns: &[String],
     options: &Options,
     console: &mut Console<W, E>,
@@ -42,11 +42,12 @@ pub(crate) fn search<W: Sink, E: Write, S: Semantics>(
     };
     // of nested matches the inner ones come first
     places.sort_by_key(place_key)?;
-    let counts = counts_of_places(&places, input.passed_over);
+    let counts = counts_of_places(&places, input);
     let listed = Listed {
         files: &input.files,
         places: &places,
         changes: &[],
+        not_searched: &input.passed_over.not_searched,
     };
     if options.json {
         return show_json(alloc, &listed, counts, console);
@@ -57,7 +58,7 @@ pub(crate) fn search<W: Sink, E: Write, S: Semantics>(
 }
 
 /// Where a match stands: its file, where it begins, and where it ends.
-fn place_key(found: &FoundPlace) -> (u32, u32, u32) {
+pub(crate) fn place_key(found: &FoundPlace) -> (u32, u32, u32) {
     let FileRange { file_id, range } = found.range;
     (file_id.0, range.start, range.end)
 }
@@ -87,7 +88,7 @@ pub(crate) fn show_json<W: Sink, E: Write>(
 ) -> Result<(), Failure> {
     let lines = lines_of(alloc, listed, Form::Json)?;
     console.show_bytes(&lines)?;
-    console.show_bytes(&unsearched_json(alloc, listed.files)?)?;
+    console.show_bytes(&unsearched_json(alloc, listed.files, listed.not_searched)?)?;
     console.show_bytes(&summary_json(alloc, counts)?)
 }
 
@@ -104,6 +105,8 @@ pub(crate) struct Listed<'a> {
     pub(crate) files: &'a Searchable,
     pub(crate) places: &'a [FoundPlace],
     pub(crate) changes: &'a [FileChange],
+    /// The files that aren't searched whole.
+    pub(crate) not_searched: &'a [usize],
 }
 
 /// A line for each match.

@@ -5,18 +5,25 @@
 mod console;
 mod counting;
 mod debugging;
+mod ending_paths;
 mod failure;
 mod finding;
 mod includes;
 mod input;
+mod known_names;
 mod left_out;
 mod malformed;
+mod names_input;
 mod passed_over;
 mod positions;
 mod program;
+mod provider;
+mod refusals;
 mod rewriting;
 mod rules;
+mod sources;
 mod telling;
+mod undecided;
 mod writing;
 
 pub use console::Console;

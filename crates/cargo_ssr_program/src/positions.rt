@@ -1,12 +1,14 @@
 //! Where names are looked up.
 
 ghost use Rattle.std.specs.Prelude.{◌<◌, IfSome, length};
+ghost use Rattle.ssr_syntax_tree.specs.Places.{HasToken};
 
 use crate::failure::Failure;
 use cargo_ssr_options::Place;
-use ssr_base::{FileId, FilePosition};
+use ssr_base::{FileId, FilePosition, NodeId};
 use ssr_changes::{Searchable, normal_name};
 use ssr_reports::{LinePlace, byte_at};
+use ssr_syntax_tree::{NodeNo, TokenNo, Tree};
 use std::alloc::Global;
 
 /// The position that a place names, or else this one.
@@ -36,7 +38,7 @@ pub(crate) fn position_at(
 }
 
 /// The number of the file with this name.
-fn file_named(files: &Searchable, name: &str) -> Option<usize>
+pub(crate) fn file_named(files: &Searchable, name: &str) -> Option<usize>
     ensures { IfSome result (λ file. file < length files.now.files) }
 {
     for file in 0..files.file_count() {
@@ -62,5 +64,39 @@ fn position_in(files: &Searchable, file: usize, place: &Place) -> Option<FilePos
             offset,
         }),
         _ => None,
+    }
+}
+
+/// The node of which the scope is that of a position: the last one that has the token which ends there, or else stands there.
+pub(crate) fn node_of(files: &Searchable, position: FilePosition) -> NodeId {
+    let file = position.file_id.0;
+    let node = match files.workspace().tree(file) {
+        Some(tree) => covering_node(tree, position.offset),
+        None => None,
+    };
+    NodeId {
+        tree: file,
+        node: node.unwrap_or(NodeNo(0)),
+    }
+}
+
+/// The last node of a tree that has the token which ends at an offset, or else stands there.
+fn covering_node(tree: &Tree, offset: u32) -> Option<NodeNo> {
+    let token = match ending_token(tree, offset) {
+        Some(token) => token,
+        None => tree.token_at(offset)?,
+    };
+    tree.covering(tree.token_range(token))
+}
+
+/// The token that ends at an offset.
+fn ending_token(tree: &Tree, offset: u32) -> Option<TokenNo>
+    ensures { IfSome result (λ token. HasToken tree.now token.0) }
+{
+    let token = tree.token_at(offset.checked_sub(1)?)?;
+    if tree.token_range(token).end == offset {
+        Some(token)
+    } else {
+        None
     }
 }

@@ -9,17 +9,19 @@ use crate::console::Console;
 use crate::debugging::show_debug;
 use crate::failure::Failure;
 use crate::finding::search;
-use crate::input::{Input, of_facts, of_files};
+use crate::input::{Input, chosen_files, nothing_searched, of_facts, of_files};
+use crate::names_input::of_names;
 use crate::rewriting::{show_changes, write_changes};
 use crate::rules::{tell_self, with_all_rules};
+use crate::telling::searched_for;
 use cargo_ssr_options::{Chosen, Mode, Options, read_options};
 use clap::Error;
-use ssr_base::Semantics;
+use ssr_changes::{Sought, asked_paths};
+use ssr_package::Reads;
 use ssr_streams::Sink;
 use ssr_writing::Disk;
 use std::alloc::{AllocError, Global};
 use std::io::Write;
-use std::rt::Files;
 
 /// How a run ends that does what it is asked for.
 #[derive(Clone, Copy, Debug, PartialEq, Eq)]
@@ -31,8 +33,8 @@ pub(crate) enum Outcome {
 
 /// Runs the command with these words, the first of which is the program's name, in the folder `here`, and answers its status: 0,
 /// or 1 if something would change and that is asked, 2 for wrong words, 3 where the run ends without what it is asked for.
-pub fn run<R: Files + AllocGlobal, D: Disk, W: Sink, E: Write>(
-    rt: &R,
+pub fn run<F: Reads, D: Disk, W: Sink, E: Write>(
+    reader: &mut F,
     disk: &mut D,
     here: &str,
     words: &[String],
@@ -41,15 +43,16 @@ pub fn run<R: Files + AllocGlobal, D: Disk, W: Sink, E: Write>(
     ensures bound { result ≤ 3 }
     ensures ran { Ran (map string_bytes words.now) console.old.terminal (record { calls = D.calls disk.old; taken = W.taken console.old.out }) (record { calls = D.calls disk.new; taken = W.taken console.new.out }) result }
 {
-    match read_options(rt.alloc(), words) {
+    let alloc = reader.alloc();
+    match read_options(alloc, words) {
         Ok(options) => {
-            let outcome = perform(rt, disk, here, options, console);
+            let outcome = perform(reader, disk, here, options, console);
             if let Err(failure) = &outcome {
                 console.tell_failure(failure);
             }
             status(&outcome)
         }
-        Err(told) => tell_words(rt.alloc(), &told, console),
+        Err(told) => tell_words(alloc, &told, console),
     }
 }
 
@@ -84,8 +87,8 @@ fn tell_words<W: Sink, E: Write>(alloc: Global, told: &Error, console: &mut Cons
 }
 
 /// Does what the options ask for. A rule that is refused is told by where it stands.
-fn perform<R: Files + AllocGlobal, D: Disk, W: Sink, E: Write>(
-    rt: &R,
+fn perform<F: Reads, D: Disk, W: Sink, E: Write>(
+    reader: &mut F,
     disk: &mut D,
     here: &str,
     options: Options,
@@ -94,20 +97,21 @@ fn perform<R: Files + AllocGlobal, D: Disk, W: Sink, E: Write>(
     ensures disk { IsAskedToWrite options.mode (D.calls disk.old) (D.calls disk.new) }
     ensures ends { IfOk result (λ outcome. (task : Task) × IsTaskOf options task × EndsWell options.mode task options.json (is_colored options.color console.old.terminal) (record { calls = D.calls disk.old; taken = W.taken console.old.out }) (record { calls = D.calls disk.new; taken = W.taken console.new.out }) outcome) }
 {
-    let (options, places) = with_all_rules(rt, here, options)?;
-    tell_self(rt.alloc(), &options, &places, console)?;
-    match perform_with(rt, disk, here, &options, console) {
+    let alloc = reader.alloc();
+    let (options, places) = with_all_rules(reader, here, options)?;
+    tell_self(alloc, &options, &places, console)?;
+    match perform_with(reader, disk, here, &options, console) {
         Err(Failure::Rule(rule, why)) => {
-            let rule = places.words(rt.alloc(), rule)?;
-            Err(Failure::Told(format!(in rt.alloc(); "{rule}: {why}")?))
+            let rule = places.words(alloc, rule)?;
+            Err(Failure::Told(format!(in alloc; "{rule}: {why}")?))
         }
         outcome => outcome,
     }
 }
 
 /// Does it with all rules.
-fn perform_with<R: Files + AllocGlobal, D: Disk, W: Sink, E: Write>(
-    rt: &R,
+fn perform_with<F: Reads, D: Disk, W: Sink, E: Write>(
+    reader: &mut F,
     disk: &mut D,
     here: &str,
     options: &Options,
@@ -118,31 +122,52 @@ fn perform_with<R: Files + AllocGlobal, D: Disk, W: Sink, E: Write>(
 {
     match &options.files {
         Chosen::Facts(path) => {
-            let input = of_facts(rt, here, path.as_str(), options.place.as_ref())?;
-            act(rt, disk, &input, options, console)
+            let input = of_facts(reader, here, path.as_str(), options.place.as_ref())?;
+            act(reader, disk, &input, options, console)
         }
-        _ => {
-            let input = of_files(rt, here, options, console)?;
-            act(rt, disk, &input, options, console)
-        }
+        _ => perform_by_sources(reader, disk, here, options, console),
+    }
+}
+
+/// Does it with the files of a package or of paths. What their sources tell of names is looked at where a rule has names.
+fn perform_by_sources<F: Reads, D: Disk, W: Sink, E: Write>(
+    reader: &mut F,
+    disk: &mut D,
+    here: &str,
+    options: &Options,
+    console: &mut Console<W, E>,
+) -> Result<Outcome, Failure>
+    ensures disk { IsAskedToWrite options.now.mode (D.calls disk.old) (D.calls disk.new) }
+    ensures ends { IfOk result (λ outcome. (task : Task) × IsTaskWith (map string_bytes options.now.rules.items) task × EndsWell options.now.mode task options.now.json (is_colored options.now.color console.old.terminal) (record { calls = D.calls disk.old; taken = W.taken console.old.out }) (record { calls = D.calls disk.new; taken = W.taken console.new.out }) outcome) }
+{
+    let alloc = reader.alloc();
+    let (form, texts) = searched_for(options);
+    let asked = asked_paths(alloc, Sought { form, texts })?;
+    if asked.is_empty() {
+        let found = chosen_files(reader, here, &options.files)?;
+        let input = of_files(alloc, found, None, options, console)?;
+        act(reader, disk, &input, options, console)
+    } else {
+        let input = of_names(reader, here, options, asked, console)?;
+        act(reader, disk, &input, options, console)
     }
 }
 
 /// Does it with these files.
 #[tactic(auto, using(crate::proofs::Endings::asked_nothing, crate::proofs::Endings::asked_to_write))]
-fn act<R: Files + AllocGlobal, D: Disk, W: Sink, E: Write, S: Semantics>(
-    rt: &R,
+fn act<F: Reads, D: Disk, W: Sink, E: Write>(
+    reader: &F,
     disk: &mut D,
-    input: &Input<S>,
+    input: &Input,
     options: &Options,
     console: &mut Console<W, E>,
 ) -> Result<Outcome, Failure>
     ensures disk { IsAskedToWrite options.now.mode (D.calls disk.old) (D.calls disk.new) }
-    ensures ends { IfOk result (EndsWell options.now.mode (task_of (S.meanings input.now.semantics) input.now options.now) options.now.json (is_colored options.now.color console.old.terminal) (record { calls = D.calls disk.old; taken = W.taken console.old.out }) (record { calls = D.calls disk.new; taken = W.taken console.new.out })) }
+    ensures ends { IfOk result (EndsWell options.now.mode (task_of input.now options.now) options.now.json (is_colored options.now.color console.old.terminal) (record { calls = D.calls disk.old; taken = W.taken console.old.out }) (record { calls = D.calls disk.new; taken = W.taken console.new.out })) }
 {
-    let alloc = rt.alloc();
+    let alloc = reader.alloc();
     if input.files.file_count() == 0 {
-        return Err(Failure::Told(String::from_str(alloc, "no file was searched")?));
+        return Err(nothing_searched(alloc)?);
     }
     match &options.mode {
         Mode::Diff => {
@@ -157,7 +182,7 @@ fn act<R: Files + AllocGlobal, D: Disk, W: Sink, E: Write, S: Semantics>(
             }
         }
         Mode::Write => {
-            write_changes(rt, disk, input, options, console)?;
+            write_changes(reader, disk, input, options, console)?;
             Ok(Outcome::Done)
         }
         Mode::Search(patterns) => {

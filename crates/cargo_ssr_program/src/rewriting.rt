@@ -15,28 +15,27 @@ use crate::input::Input;
 use crate::telling::{is_colored, search_failure, why_left};
 use crate::writing::write;
 use cargo_ssr_options::{Color, Options};
-use ssr_base::Semantics;
 use ssr_changes::{FileChange, PlanError, Planned, Searchable, changes, plan, rule_matches};
+use ssr_package::Reads;
 use ssr_reports::{Places, Summary, colored, place_words};
 use ssr_streams::Sink;
 use ssr_syntax_kinds::TextRange;
 use ssr_writing::Disk;
 use std::alloc::{AllocError, Global};
 use std::io::Write;
-use std::rt::Files;
 
 /// Shows what rules change; whether there is something.
-pub(crate) fn show_changes<W: Sink, E: Write, S: Semantics>(
+pub(crate) fn show_changes<W: Sink, E: Write>(
     alloc: Global,
-    input: &Input<S>,
+    input: &Input,
     options: &Options,
     console: &mut Console<W, E>,
 ) -> Result<bool, Failure>
-    ensures { IfOk result (IsShown (task_of (S.meanings input.now.semantics) input.now options.now) options.now.json (is_colored options.now.color console.old.terminal) (W.taken console.old.out) (W.taken console.new.out)) }
+    ensures { IfOk result (IsShown (task_of input.now options.now) options.now.json (is_colored options.now.color console.old.terminal) (W.taken console.old.out) (W.taken console.new.out)) }
 {
     let made = changes_of(alloc, input, options)?;
     let plan = plan_of(alloc, &input.files, &made)?;
-    let counts = counts_of_changes(&made, input.passed_over);
+    let counts = counts_of_changes(&made, input);
     let changes = !plan.is_empty();
     if options.json {
         show_matches(alloc, input, options, &made, counts, console)?;
@@ -50,24 +49,24 @@ pub(crate) fn show_changes<W: Sink, E: Write, S: Semantics>(
 }
 
 /// Writes what rules change.
-pub(crate) fn write_changes<R: Files + AllocGlobal, D: Disk, W: Sink, E: Write, S: Semantics>(
-    rt: &R,
+pub(crate) fn write_changes<F: Reads, D: Disk, W: Sink, E: Write>(
+    reader: &F,
     disk: &mut D,
-    input: &Input<S>,
+    input: &Input,
     options: &Options,
     console: &mut Console<W, E>,
 ) -> Result<(), Failure>
-    ensures { OnOk result ((plan : List Planned) × IsPlanOf (task_of (S.meanings input.now.semantics) input.now options.now) plan × IsWritten (string_bytes input.now.folder) input.now.files.files plan (D.calls disk.old) (D.calls disk.new)) }
+    ensures { OnOk result ((plan : List Planned) × IsPlanOf (task_of input.now options.now) plan × IsWritten (string_bytes input.now.folder) input.now.files.files plan (D.calls disk.old) (D.calls disk.new)) }
 {
-    let alloc = rt.alloc();
+    let alloc = reader.alloc();
     let made = changes_of(alloc, input, options)?;
     let plan = plan_of(alloc, &input.files, &made)?;
-    let counts = counts_of_changes(&made, input.passed_over);
+    let counts = counts_of_changes(&made, input);
     if options.json {
         show_matches(alloc, input, options, &made, counts, console)?;
     }
     tell_left(alloc, &input.files, &made, console)?;
-    let written = write(rt, disk, input, &plan)?;
+    let written = write(reader, disk, input, &plan)?;
     tell_written(alloc, written, options, console)?;
     if !options.json {
         tell_summary(alloc, counts, options, console)?;
@@ -76,12 +75,8 @@ pub(crate) fn write_changes<R: Files + AllocGlobal, D: Disk, W: Sink, E: Write, 
 }
 
 /// What the rules change.
-fn changes_of<S: Semantics>(
-    alloc: Global,
-    input: &Input<S>,
-    options: &Options,
-) -> Result<Vec<FileChange>, Failure>
-    ensures changes { IfOk result (λ made. AreChanges (search_of (S.meanings input.now.semantics) input.now) (map string_bytes options.now.rules.items) input.now.files.files (map shown made.items)) }
+fn changes_of(alloc: Global, input: &Input, options: &Options) -> Result<Vec<FileChange>, Failure>
+    ensures changes { IfOk result (λ made. AreChanges (search_of input.now) (map string_bytes options.now.rules.items) input.now.files.files (map shown made.items)) }
     ensures fit { IfOk result (λ made. All (FitsIn input.now.files.files) made.items) }
 {
     let ranges = input.ranges(alloc)?;
@@ -178,9 +173,9 @@ fn show_colored<W: Sink, E: Write>(
 }
 
 /// Shows the matches of the rules as JSON.
-fn show_matches<W: Sink, E: Write, S: Semantics>(
+fn show_matches<W: Sink, E: Write>(
     alloc: Global,
-    input: &Input<S>,
+    input: &Input,
     options: &Options,
     made: &[FileChange],
     counts: Summary,
@@ -202,6 +197,7 @@ fn show_matches<W: Sink, E: Write, S: Semantics>(
         files: &input.files,
         places: &places,
         changes: made,
+        not_searched: &input.passed_over.not_searched,
     };
     show_json(alloc, &listed, counts, console)
 }

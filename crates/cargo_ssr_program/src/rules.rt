@@ -9,10 +9,10 @@ use crate::input::read_text;
 use crate::telling::searched_for;
 use cargo_ssr_options::{Chosen, Options, rule_lines, rules_of};
 use ssr_changes::{Form, first_with_self};
+use ssr_package::Reads;
 use ssr_streams::Sink;
 use std::alloc::{AllocError, Global};
 use std::io::Write;
-use std::rt::Files;
 
 /// Where the rules of a run stand: so many among its words, and those behind them in a file, where they begin on these lines.
 #[derive(Drop)]
@@ -63,15 +63,15 @@ pub(crate) fn tell_self<W: Sink, E: Write>(
 }
 
 /// The options with the rules of the file of rules behind those among the words, and where the rules stand.
-pub(crate) fn with_all_rules<R: Files + AllocGlobal>(
-    rt: &R,
+pub(crate) fn with_all_rules<F: Reads>(
+    reader: &mut F,
     here: &str,
     mut options: Options,
 ) -> Result<(Options, RulePlaces), Failure>
     ensures same { IfOk result (λ all. (all.0.mode ≡ options.mode) × (all.0.json ≡ options.json) × (all.0.color ≡ options.color)) }
     ensures rules { IfOk result (λ all. AreRulesOf options (map string_bytes all.0.rules.items)) }
 {
-    let alloc = rt.alloc();
+    let alloc = reader.alloc();
     let mut places = RulePlaces {
         among_words: options.rules.len(),
         file: String::new(alloc),
@@ -80,7 +80,7 @@ pub(crate) fn with_all_rules<R: Files + AllocGlobal>(
     let Some(name) = &options.rules_file else {
         return Ok((options, places));
     };
-    let text = read_text(rt, here, name.as_str())?;
+    let text = read_text(reader, here, name.as_str())?;
     let mut rules = rules_of(alloc, text.as_str())?;
     if options.rules.is_empty() && rules.is_empty() {
         return Err(Failure::Told(format!(in alloc; "{name}: no rules")?));

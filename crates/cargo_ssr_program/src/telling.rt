@@ -4,8 +4,9 @@ ghost use Rattle.cargo_ssr_program.specs.Planned.{is_colored};
 
 use crate::failure::Failure;
 use crate::input::Input;
-use cargo_ssr_options::{Chosen, Color, Mode, Options};
-use ssr_base::{FileRange, Semantics};
+use crate::refusals::{refusal_hint, refused};
+use cargo_ssr_options::{Color, Mode, Options};
+use ssr_base::FileRange;
 use ssr_changes::{Form, Searchable, first_refused};
 use ssr_reports::{LinePlace, line_place, place_words};
 use ssr_searching::SearchError;
@@ -24,9 +25,9 @@ pub(crate) fn is_colored(color: Color, terminal: bool) -> bool
 }
 
 /// Why a search comes to nothing.
-pub(crate) fn search_failure<S: Semantics>(
+pub(crate) fn search_failure(
     alloc: Global,
-    input: &Input<S>,
+    input: &Input,
     options: &Options,
     error: SearchError,
 ) -> Result<Failure, AllocError> {
@@ -42,20 +43,17 @@ pub(crate) fn search_failure<S: Semantics>(
 }
 
 /// Which rule or pattern is refused, and why.
-fn refusal<S: Semantics>(
+fn refusal(
     alloc: Global,
-    input: &Input<S>,
+    input: &Input,
     options: &Options,
     message: &str,
 ) -> Result<Failure, AllocError> {
     let (files, semantics, position) = (&input.files, &input.semantics, input.position);
     let (form, texts) = searched_for(options);
-    let why = refusal_words(alloc, options, message)?;
+    let why = refusal_words(alloc, input, options, message)?;
     match first_refused(alloc, files, semantics, position, form, texts) {
-        Some(number) => match form {
-            Form::Rules => Ok(Failure::Rule(number, why)),
-            Form::Patterns => Ok(Failure::Told(format!(in alloc; "pattern {number}: {why}")?)),
-        },
+        Some(number) => refused(alloc, form, number, why),
         // there is no finder
         None => Ok(Failure::Told(why)),
     }
@@ -69,14 +67,15 @@ pub(crate) fn searched_for(options: &Options) -> (Form, &[String]) {
     }
 }
 
-/// Why a rule is refused, with its placeholders as it spells them. Where a path doesn't resolve and nothing is known of names, what
-/// they need is said.
-fn refusal_words(alloc: Global, options: &Options, message: &str) -> Result<String, AllocError> {
+/// Why a rule is refused, with its placeholders as it spells them, and what is known of a path in it that doesn't resolve.
+fn refusal_words(
+    alloc: Global,
+    input: &Input,
+    options: &Options,
+    message: &str,
+) -> Result<String, AllocError> {
     let mut words = message.replace(alloc, "__placeholder_", "$")?;
-    let has_facts = matches!(options.files, Chosen::Facts(_));
-    if !has_facts && message.starts_with("Failed to resolve path") {
-        words.push_str(": names need --facts FILE")?;
-    }
+    words.push_str(refusal_hint(alloc, input, options, message)?.as_str())?;
     Ok(words)
 }
 

@@ -6,23 +6,22 @@ ghost use Rattle.ssr_changes.specs.Planning.{HasDiff};
 use crate::failure::Failure;
 use crate::input::Input;
 use ssr_changes::Planned;
-use ssr_package::path_in;
+use ssr_package::{Reads, Standing, path_in};
 use ssr_writing::{Disk, NewText, WriteError, write_all};
 use std::alloc::{AllocError, Global};
-use std::rt::Files;
 
 /// Writes the new texts of a plan, and tells how many there are. None is written where a file is reached through a link.
-pub(crate) fn write<R: Files + AllocGlobal, D: Disk, S>(
-    rt: &R,
+pub(crate) fn write<F: Reads, D: Disk>(
+    reader: &F,
     disk: &mut D,
-    input: &Input<S>,
+    input: &Input,
     plan: &[Planned<'_>],
 ) -> Result<usize, Failure>
     requires { All (HasDiff input.now.files.files) plan.now }
     ensures { OnOk result (IsWritten (string_bytes input.now.folder) input.now.files.files plan.now (D.calls disk.old) (D.calls disk.new)) }
 {
-    let alloc = rt.alloc();
-    refuse_links(rt, input, plan)?;
+    let alloc = reader.alloc();
+    refuse_links(reader, input, plan)?;
     let paths = paths(alloc, input, plan)?;
     let texts = new_texts(alloc, input, plan, &paths)?;
     match write_all(alloc, disk, &texts) {
@@ -33,17 +32,13 @@ pub(crate) fn write<R: Files + AllocGlobal, D: Disk, S>(
 
 /// Fails where a file of a plan is reached through a link.
 #[tactic(auto, using(crate::proofs::InFiles::each_is_there))]
-fn refuse_links<R: Files + AllocGlobal, S>(
-    rt: &R,
-    input: &Input<S>,
-    plan: &[Planned<'_>],
-) -> Result<(), Failure>
+fn refuse_links<F: Reads>(reader: &F, input: &Input, plan: &[Planned<'_>]) -> Result<(), Failure>
     requires { All (HasDiff input.now.files.files) plan.now }
 {
-    let alloc = rt.alloc();
+    let alloc = reader.alloc();
     for planned in plan {
         let name = input.files.name(planned.file);
-        if is_behind_link(rt, input.folder.as_str(), name)? {
+        if is_behind_link(reader, input.folder.as_str(), name)? {
             return Err(Failure::Told(format!(in alloc; "{name}: reached through a link")?));
         }
     }
@@ -52,11 +47,7 @@ fn refuse_links<R: Files + AllocGlobal, S>(
 
 /// The paths of the files of a plan.
 #[tactic(auto, using(crate::proofs::InFiles::each_is_there))]
-fn paths<S>(
-    alloc: Global,
-    input: &Input<S>,
-    plan: &[Planned<'_>],
-) -> Result<Vec<String>, AllocError>
+fn paths(alloc: Global, input: &Input, plan: &[Planned<'_>]) -> Result<Vec<String>, AllocError>
     requires { All (HasDiff input.now.files.files) plan.now }
     ensures { IfOk result (λ paths. map string_bytes paths.items ≡ map (path_planned (string_bytes input.now.folder) input.now.files.files) plan.now) }
 {
@@ -70,9 +61,9 @@ fn paths<S>(
 
 /// What is written for a plan whose files have these paths.
 #[tactic(auto, using(crate::proofs::InFiles::each_is_there))]
-fn new_texts<'a, S>(
+fn new_texts<'a>(
     alloc: Global,
-    input: &'a Input<S>,
+    input: &'a Input,
     plan: &'a [Planned<'a>],
     paths: &'a [String],
 ) -> Result<Vec<NewText<'a>>, AllocError>
@@ -92,26 +83,22 @@ fn new_texts<'a, S>(
 }
 
 /// Whether a file of a folder is a link, or a folder on the way to it is one.
-fn is_behind_link<R: Files + AllocGlobal>(
-    rt: &R,
-    folder: &str,
-    name: &str,
-) -> Result<bool, AllocError> {
-    let mut path = String::from_str(rt.alloc(), folder)?;
+fn is_behind_link<F: Reads>(reader: &F, folder: &str, name: &str) -> Result<bool, AllocError> {
+    let alloc = reader.alloc();
+    let mut path = String::from_str(alloc, folder)?;
     for part in name.split('/') {
-        path = path_in(rt.alloc(), path.as_str(), part)?;
-        match rt.symlink_metadata(path.as_str()) {
-            Ok(found) if found.is_symlink() => return Ok(true),
-            _ => {}
+        path = path_in(alloc, path.as_str(), part)?;
+        if reader.standing(path.as_str()) == Standing::Link {
+            return Ok(true);
         }
     }
     Ok(false)
 }
 
 /// Why not all new texts were written. Files have the names by which they were searched.
-fn write_failure<S>(
+fn write_failure(
     alloc: Global,
-    input: &Input<S>,
+    input: &Input,
     plan: &[Planned<'_>],
     error: &WriteError,
 ) -> Result<Failure, AllocError> {

@@ -5,7 +5,7 @@ use Rattle.std.specs.Option.{IsSomeAnd, option_map_or}
 use Rattle.std.proofs.lemmas.List.Elements.{All-contains, All-contains_itself, All-map, All-weaker}
 use Rattle.ssr_syntax_tree.specs.Syntax.{Syntax, source_of}
 use Rattle.ssr_syntax_tree.proofs.Lists.{all_at}
-use Rattle.ssr_base_trees.specs.Laws.{IsSpanOf, LiesInFile}
+use Rattle.ssr_base_trees.specs.Laws.{IsSpanOf, LiesIn, LiesInFile}
 use Rattle.ssr_base_trees.specs.Texts.{is_boundary}
 use Rattle.ssr_base_trees.specs.Workspace.{FileSpan, Workspace, node_id, original_range, trees}
 use Rattle.ssr_base_trees.specs.Built.{IsBuilt}
@@ -67,9 +67,9 @@ list_fits kept listing is n i m binding texts list range at bound taken e =
     stands : ℕ → Rewrite
     stands j = record { range = range_at kept j; text = texts j }
 
-    one : (range : FileSpan) → there ≡ Some range → (j : ℕ) → Contains (under listing n i) j → ((stands j).range.file ≡ range.file) × FitsItsFile kept.workspace (stands j).range
+    one : (range : FileSpan) → there ≡ Some range → (j : ℕ) → Contains (under listing n i) j → LiesIn (stands j).range range × FitsItsFile kept.workspace (stands j).range
     one range e j h = (
-      (is.within n i j m binding range at bound h e).file,
+      is.within n i j m binding range at bound h e,
       range_fits kept listing is j (All-contains (λ j. j < length kept.matches) (under listing n i) j (is.lists (Some (record { place = n; binding = i }))).within h),
     )
 
@@ -77,6 +77,6 @@ list_fits kept listing is n i m binding texts list range at bound taken e =
     of None e = tt
     of (Some range) e = record {
       fits = in_file kept.workspace range (held_in_file kept.workspace m.node.tree binding.held range is.built e);
-      each = All-map (λ r. (r.range.file ≡ range.file) × FitsItsFile kept.workspace r.range) stands (under listing n i)
-          (All-weaker (Contains (under listing n i)) (λ j. ((stands j).range.file ≡ range.file) × FitsItsFile kept.workspace (stands j).range) (one range e) (under listing n i) (All-contains_itself (under listing n i)));
+      each = All-map (λ r. LiesIn r.range range × FitsItsFile kept.workspace r.range) stands (under listing n i)
+          (All-weaker (Contains (under listing n i)) (λ j. LiesIn (stands j).range range × FitsItsFile kept.workspace (stands j).range) (one range e) (under listing n i) (All-contains_itself (under listing n i)));
     }

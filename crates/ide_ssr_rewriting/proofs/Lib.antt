@@ -4,6 +4,7 @@ mod Passed
 mod FirstClashes
 mod ChangesMade
 mod Written
+mod Fittings
 mod Texts
 mod Taken
 mod Pieces

@@ -2,6 +2,7 @@ pub mod Rendering
 pub mod Printing
 pub mod Comments
 pub mod Clashes
+pub mod Fitting
 pub mod Replacements
 pub mod Edits
 pub mod Laws

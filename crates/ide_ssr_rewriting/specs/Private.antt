@@ -5,3 +5,4 @@ pub mod Nest
 pub mod Edits
 pub mod Pieces
 pub mod Groups
+pub mod Fitting

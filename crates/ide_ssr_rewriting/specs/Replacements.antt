@@ -13,6 +13,7 @@ use Rattle.ide_ssr_bindings.specs.declared.bindings.Binding.{Binding}
 use Rattle.ide_ssr_bindings.specs.Found.{FoundMatch}
 use Rattle.ide_ssr_rewriting.specs.Clashes.{Rewrite, changes_made}
 use Rattle.ide_ssr_rewriting.specs.Comments.{comments_text, kept_comments}
+use Rattle.ide_ssr_rewriting.specs.Fitting.{fitted_between}
 use Rattle.ide_ssr_rewriting.specs.Printing.{printed_paths}
 use Rattle.ide_ssr_rewriting.specs.Rendering.{filling_of, rendered}
 
@@ -28,14 +29,17 @@ writing meanings rules = record { meanings = meanings; rules = rules }
 abbrev pub file_text : Workspace → ℕ → List ℕ
 file_text w file = option_map_or source_of (slice_get w.files file) []
 
--- the text of a range with the changes of a list made
-abbrev pub rewritten : Workspace → FileSpan → List Rewrite → List ℕ
-rewritten w range list = replaced (file_text w range.file) range.span.start range.span.end (changes_made list)
+-- The text of a range with the changes of a list made, some of them in parentheses so that it groups as before behind the text in
+-- front.
+abbrev pub rewritten : Workspace → List ℕ → FileSpan → List Rewrite → List ℕ
+rewritten w front range list =
+    let text = file_text w range.file in
+    replaced text range.span.start range.span.end (fitted_between front text range.span.start range.span.end (changes_made list))
 
 -- what a placeholder holds, which comes from this range, with the changes of a list made; in a match that a search finds,
 -- each has a range
-abbrev pub held_text : Workspace → Option FileSpan → List Rewrite → List ℕ
-held_text w range list = option_map_or (λ range. rewritten w range list) range []
+abbrev pub held_text : Workspace → List ℕ → Option FileSpan → List Rewrite → List ℕ
+held_text w front range list = option_map_or (λ range. rewritten w front range list) range []
 
 -- how a method takes what it is called on
 abbrev pub taken_as : SelfKind → List ℕ
@@ -55,7 +59,7 @@ prefix_by rules r b = option_map_or (λ rule. if is_receiver rule b.placeholder 
 
 -- what is written for a placeholder
 abbrev pub piece : Workspace → List ℕ → Option FileSpan → List Rewrite → List ℕ
-piece w prefix range list = prefix ++ held_text w range list
+piece w prefix range list = prefix ++ held_text w prefix range list
 
 -- what the template of a match's rule gives, where its placeholders have these pieces; the rule of a match that is found
 -- is one of the rules

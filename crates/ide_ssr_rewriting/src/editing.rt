@@ -19,6 +19,7 @@ ghost use Rattle.ide_ssr_rewriting.specs.Private.Replacements.{IsOf};
 ghost use Rattle.ide_ssr_rewriting.specs.Replacements.{held_text, writing};
 
 use crate::clashes::{Rewrite, changes_made, first_clash};
+use crate::prefixes::with_prefix;
 use crate::replacements::held_text;
 use crate::writer::Writer;
 use ide_ssr_bindings::FoundMatch;
@@ -163,23 +164,24 @@ fn all_known(list: &[Rewrite]) -> bool
     true
 }
 
-/// What a placeholder holds, which comes from this range, with the changes of a list made, if it can be made: there is no
-/// clash in it, and all texts are known.
+/// What a placeholder holds behind the text in front, which comes from this range, with the changes of a list made, if it can be made:
+/// there is no clash in it, and all texts are known.
 fn held_if_clean<'a>(
     alloc: Global,
     workspace: &'a Trees,
+    front: &str,
     range: Option<FileRange>,
     list: Vec<Rewrite>,
     clash: Option<(FileRange, FileRange)>,
 ) -> Result<Option<CowStr<'a>>, AllocError>
     requires clash { IsFirst (clashes list.items) (option_map clash_of clash) }
     requires list { IfSome (option_map file_span_of range) (λ range. IsOf workspace.now range list.items) }
-    ensures { IfOk result (λ text. option_map cow_str_bytes text ≡ (if is_clean list.items then Some (held_text workspace.now (option_map file_span_of range) list.items) else None)) }
+    ensures { IfOk result (λ text. option_map cow_str_bytes text ≡ (if is_clean list.items then Some (held_text workspace.now front.now (option_map file_span_of range) list.items) else None)) }
 {
     if clash.is_some() || !all_known(&list) {
         return Ok(None);
     }
-    Ok(Some(held_text(alloc, workspace, range, list)?))
+    Ok(Some(held_text(alloc, workspace, front, range, list)?))
 }
 
 /// Pushes a piece, if there is one; answers whether there was.
@@ -250,8 +252,16 @@ impl Pending {
                 nest.kept,
                 nest.lists.under(place, index),
             )?;
-            let held = held_if_clean(writer.alloc, nest.kept.workspace(), range, list, first)?;
-            let piece = writer.piece(m.rule(), *binding, held)?;
+            let prefix = writer.prefix(m.rule(), *binding)?;
+            let held = held_if_clean(
+                writer.alloc,
+                nest.kept.workspace(),
+                prefix.as_str(),
+                range,
+                list,
+                first,
+            )?;
+            let piece = with_prefix(prefix, held)?;
             are_all = push_piece(pieces, piece)? && are_all;
         }
         Ok(are_all)

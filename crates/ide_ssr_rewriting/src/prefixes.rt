@@ -1,6 +1,6 @@
 //! What is written in front of what a placeholder holds.
 
-ghost use Rattle.std.specs.Prelude.{◌≡◌, ◌++◌, [], false, IfOk, OnOk, replicate, string_bytes};
+ghost use Rattle.std.specs.Prelude.{◌≡◌, ◌++◌, [], false, IfOk, OnOk, option_map, replicate, string_bytes};
 ghost use Rattle.std.specs.Cow.{cow_str_bytes};
 ghost use Rattle.ide_ssr_rewriting.specs.Replacements.{prefix, taken_as};
 
@@ -40,19 +40,36 @@ fn push_stars(text: &mut String, count: usize) -> Result<(), AllocError>
     Ok(())
 }
 
-/// The text with what a binding has in front of it.
-pub(crate) fn with_prefix<'a>(
-    alloc: Global,
-    binding: Binding,
-    held: CowStr<'a>,
-) -> Result<CowStr<'a>, AllocError>
-    ensures { IfOk result (λ text. cow_str_bytes text ≡ prefix binding ++ cow_str_bytes held.entry) }
+/// What is written in front of what a binding holds.
+pub(crate) fn prefix(alloc: Global, binding: Binding) -> Result<String, AllocError>
+    ensures { IfOk result (λ text. string_bytes text ≡ prefix binding) }
 {
-    if !has_prefix(binding) {
-        return Ok(held);
-    }
     let mut text = String::from_str(alloc, taken_as(binding.self_kind))?;
     push_stars(&mut text, binding.deref_count)?;
+    Ok(text)
+}
+
+/// A text with another one in front of it.
+fn behind(prefix: String, held: CowStr<'_>) -> Result<CowStr<'_>, AllocError>
+    ensures { IfOk result (λ text. cow_str_bytes text ≡ string_bytes prefix ++ cow_str_bytes held.entry) }
+{
+    if prefix.is_empty() {
+        return Ok(held);
+    }
+    let mut text = prefix;
     text.push_str(held.as_str())?;
     Ok(CowStr::Owned(text))
+}
+
+/// What a placeholder holds, if it can be made, with a text in front of it.
+pub(crate) fn with_prefix(
+    prefix: String,
+    held: Option<CowStr<'_>>,
+) -> Result<Option<CowStr<'_>>, AllocError>
+    ensures { IfOk result (λ piece. option_map cow_str_bytes piece ≡ option_map (λ text. string_bytes prefix ++ text) (option_map cow_str_bytes held.entry)) }
+{
+    match held {
+        Some(held) => Ok(Some(behind(prefix, held)?)),
+        None => Ok(None),
+    }
 }

@@ -12,6 +12,7 @@ ghost use Rattle.ide_ssr_rewriting.specs.Private.Replacements.{FitsFile, IsOf};
 
 use crate::clashes::{Rewrite, changes_made};
 use crate::comments::{kept_comments, push_comments};
+use crate::fitting::fitted;
 use ide_ssr_bindings::FoundMatch;
 use ssr_base_trees::{FileId, FileRange, Trees};
 use ssr_syntax_kinds::TextRange;
@@ -19,7 +20,7 @@ use std::alloc::{AllocError, Global};
 use std::borrow::CowStr;
 
 /// The bytes of a file from one place to another; none if these places are the other way round.
-fn between(workspace: &Trees, file: FileId, from: u32, to: u32) -> &str
+pub(crate) fn between(workspace: &Trees, file: FileId, from: u32, to: u32) -> &str
     requires from { is_boundary (file_text workspace.now file.0) from ≡ true }
     requires to { is_boundary (file_text workspace.now file.0) to ≡ true }
     ensures { result.now ≡ slice_range (file_text workspace.now file.0) from to }
@@ -38,7 +39,7 @@ fn between(workspace: &Trees, file: FileId, from: u32, to: u32) -> &str
 }
 
 /// The text of a range with changes of its file made.
-fn replaced(
+pub(crate) fn replaced(
     alloc: Global,
     workspace: &Trees,
     range: FileRange,
@@ -60,16 +61,17 @@ fn replaced(
     Ok(text)
 }
 
-/// What a placeholder holds, which comes from this range, with the changes of a list made. Without a list it is a part of its
-/// file's text.
+/// What a placeholder holds, which comes from this range, with the changes of a list made, some of them in parentheses so that it
+/// groups as before behind the text in front. Without a list it is a part of its file's text.
 pub(crate) fn held_text<'a>(
     alloc: Global,
     workspace: &'a Trees,
+    front: &str,
     range: Option<FileRange>,
     list: Vec<Rewrite>,
 ) -> Result<CowStr<'a>, AllocError>
     requires { IfSome (option_map file_span_of range) (λ range. IsOf workspace.now range list.items) }
-    ensures { IfOk result (λ text. cow_str_bytes text ≡ held_text workspace.now (option_map file_span_of range) list.items) }
+    ensures { IfOk result (λ text. cow_str_bytes text ≡ held_text workspace.now front.now (option_map file_span_of range) list.items) }
 {
     let Some(range) = range else {
         return Ok(CowStr::Borrowed(""));
@@ -78,7 +80,8 @@ pub(crate) fn held_text<'a>(
         let text = between(workspace, range.file_id, range.range.start, range.range.end);
         return Ok(CowStr::Borrowed(text));
     }
-    let changes = changes_made(alloc, list)?;
+    let made = changes_made(alloc, list)?;
+    let changes = fitted(alloc, workspace, front, range, made)?;
     let text = replaced(alloc, workspace, range, &changes)?;
     Ok(CowStr::Owned(text))
 }

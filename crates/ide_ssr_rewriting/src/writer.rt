@@ -6,7 +6,7 @@ ghost use Rattle.ssr_base_trees.specs.Workspace.{trees};
 ghost use Rattle.ide_ssr_bindings.specs.Found.{IsMatch};
 ghost use Rattle.ide_ssr_rewriting.specs.Replacements.{prefix_by, template_text, text_of_match, writing};
 
-use crate::prefixes::{has_prefix, with_prefix};
+use crate::prefixes::{has_prefix, prefix};
 use crate::printing::printed_paths;
 use crate::rendering::rendered;
 use crate::replacements::push_kept;
@@ -25,42 +25,22 @@ pub(crate) struct Writer<'a, S: Semantics> {
 }
 
 impl<'a, S: Semantics> Writer<'a, S> {
-    /// What a placeholder of a match of the rule with this place holds, with what is written in front of it.
+    /// What is written in front of what a placeholder of a match of the rule with this place holds.
     #[tactic(auto, unfolding(crate::specs::Replacements::prefix_by))]
-    fn with_prefix<'b>(
-        &self,
-        rule: usize,
-        binding: Binding,
-        held: CowStr<'b>,
-    ) -> Result<CowStr<'b>, AllocError>
-        ensures { IfOk result (λ text. cow_str_bytes text ≡ prefix_by self.now.rules.now rule binding ++ cow_str_bytes held.entry) }
+    pub(crate) fn prefix(&self, rule: usize, binding: Binding) -> Result<String, AllocError>
+        ensures { IfOk result (λ text. string_bytes text ≡ prefix_by self.now.rules.now rule binding) }
     {
         // Most placeholders hold no receiver, and then the rule isn't asked.
         if !has_prefix(binding) {
-            return Ok(held);
+            return Ok(String::new(self.alloc));
         }
         let Some(rule) = self.rules.get(rule) else {
-            return Ok(held);
+            return Ok(String::new(self.alloc));
         };
         if rule.is_receiver(binding.placeholder) {
-            return Ok(held);
+            return Ok(String::new(self.alloc));
         }
-        with_prefix(self.alloc, binding, held)
-    }
-
-    /// The piece of a placeholder, if what this holds can be made.
-    pub(crate) fn piece<'b>(
-        &self,
-        rule: usize,
-        binding: Binding,
-        held: Option<CowStr<'b>>,
-    ) -> Result<Option<CowStr<'b>>, AllocError>
-        ensures { IfOk result (λ piece. option_map cow_str_bytes piece ≡ option_map (λ text. prefix_by self.now.rules.now rule binding ++ text) (option_map cow_str_bytes held.entry)) }
-    {
-        match held {
-            Some(held) => Ok(Some(self.with_prefix(rule, binding, held)?)),
-            None => Ok(None),
-        }
+        prefix(self.alloc, binding)
     }
 
     /// What the template of the match's rule gives with these pieces.

@@ -1,16 +1,9 @@
 -- Which changes of a file are made: those that stand, in parentheses where they stand only so.
-use Rattle.std.specs.Prelude.{Bool, not, if◌then◌else◌, List, [], ◌∷◌, ◌++◌, codes, filter, map}
+use Rattle.std.specs.Prelude.{Bool, not, if◌then◌else◌, List, [], ◌∷◌, filter, map}
 use Rattle.ssr_base_trees.specs.Changes.{Change}
+use Rattle.ssr_standing.specs.Fitted.{fitted}
 
--- a change with its text in parentheses
-abbrev pub in_parentheses : Change → Change
-in_parentheses c = record { start = c.start; end = c.end; text = codes "(" ++ (c.text ++ codes ")") }
-
--- a change as it is, if it stands alone, else in parentheses
-abbrev pub fitted : (List Change → Bool) → Change → Change
-fitted stands c = if stands (c ∷ []) then c else in_parentheses c
-
--- the changes so, if they stand alone
+-- the changes, in parentheses where they stand only so, if they stand alone
 abbrev pub alone : (List Change → Bool) → List Change → List Change
 alone stands cs = filter (λ c. stands (c ∷ [])) (map (fitted stands) cs)
 

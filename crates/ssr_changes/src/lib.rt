@@ -2,11 +2,13 @@
 //! aside where it is searched: a change that touches none of that is made in the file, any other one is told.
 #![tactic(auto)]
 
+mod asking;
 mod building;
 mod changing;
 mod debugging;
 mod file_text;
 mod finding;
+mod further;
 mod matching;
 mod naming;
 mod naming_self;
@@ -17,10 +19,14 @@ mod searchable;
 mod sorting;
 mod standing;
 
+pub use asking::asked_paths;
 pub use changing::{FileChange, changes};
 pub use debugging::{DebugEntry, debug};
 pub use finding::Form;
-pub use matching::{FoundPlace, FoundPlaceholder, pattern_matches, rule_matches};
+pub use further::further_matches;
+pub use matching::{
+    FoundPlace, FoundPlaceholder, Sought, all_matches, pattern_matches, rule_matches,
+};
 pub use naming::{normal_name, normal_names};
 pub use naming_self::first_with_self;
 pub use plan_error::PlanError;

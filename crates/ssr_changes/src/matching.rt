@@ -61,6 +61,13 @@ pub fn rule_matches<S: Semantics>(
     Ok(places(alloc, files, &owners, &found.matches)?)
 }
 
+/// Texts that are searched for.
+#[derive(Clone, Copy)]
+pub struct Sought<'a> {
+    pub form: Form,
+    pub texts: &'a [String],
+}
+
 /// The matches of search patterns, each once, and those in a placeholder of another one before that. The names of the patterns
 /// are looked up at the position; without ranges all is searched. The error is that of the search.
 pub fn pattern_matches<S: Semantics>(
@@ -73,6 +80,25 @@ pub fn pattern_matches<S: Semantics>(
 ) -> Result<Vec<FoundPlace>, SearchError>
     ensures { IfOk result (λ places. AreFound ShowEachOnce forms.Patterns (record { workspace = files.now.workspace; meanings = S.meanings semantics.now; position = position; ranges = ranges.items }) (map string_bytes patterns.now) files.now.files (map found_by places.items)) }
 {
+    let sought = Sought {
+        form: Form::Patterns,
+        texts: patterns,
+    };
+    all_matches(alloc, files, semantics, position, ranges, sought)
+}
+
+/// The matches of what is sought, each once, and those in a placeholder of another one before that. Names are looked up at the
+/// position; without ranges all is searched. The error is that of the search.
+pub fn all_matches<S: Semantics>(
+    alloc: Global,
+    files: &Searchable,
+    semantics: &S,
+    position: FilePosition,
+    ranges: Vec<FileRange>,
+    sought: Sought<'_>,
+) -> Result<Vec<FoundPlace>, SearchError>
+    ensures { IfOk result (λ places. AreFound ShowEachOnce sought.entry.form (record { workspace = files.now.workspace; meanings = S.meanings semantics.now; position = position; ranges = ranges.items }) (map string_bytes sought.entry.texts.now) files.now.files (map found_by places.items)) }
+{
     let mut finder = MatchFinder::in_context(
         alloc,
         files.workspace(),
@@ -80,7 +106,7 @@ pub fn pattern_matches<S: Semantics>(
         position,
         ranges,
     )?;
-    let owners = add_all(alloc, &mut finder, Form::Patterns, patterns)?;
+    let owners = add_all(alloc, &mut finder, sought.form, sought.texts)?;
     let nested = finder.matches()?;
     let found = nested.flattened(alloc)?;
     Ok(places(alloc, files, &owners, &found.matches)?)

@@ -2,7 +2,7 @@
 
 use crate::finding::Form;
 use ide_ssr::{SsrError, SsrPattern, SsrRule};
-use ide_ssr_rules::{ParsedRule, pattern_kinds, rule_kinds};
+use ide_ssr_rules::{ParsedKinds, ParsedRule, pattern_kinds, rule_kinds};
 use ide_ssr_search::names_self;
 use std::alloc::Global;
 
@@ -21,12 +21,16 @@ pub fn first_with_self(alloc: Global, form: Form, texts: &[String]) -> Option<us
     None
 }
 
-/// What a text is read as.
+/// What a text is read as, kind by kind.
 fn kinds(alloc: Global, form: Form, text: &str) -> Result<Vec<ParsedRule>, SsrError> {
-    let parsed = match form {
-        Form::Rules => rule_kinds(SsrRule::parse(alloc, text)?.once()),
-        Form::Patterns => pattern_kinds(SsrPattern::parse(alloc, text)?),
-    };
-    let (_, _, kinds) = parsed.into_parts();
+    let (_, _, kinds) = parsed(alloc, form, text)?.into_parts();
     Ok(kinds)
+}
+
+/// What a text is read as.
+pub(crate) fn parsed(alloc: Global, form: Form, text: &str) -> Result<ParsedKinds, SsrError> {
+    match form {
+        Form::Rules => Ok(rule_kinds(SsrRule::parse(alloc, text)?.once())),
+        Form::Patterns => Ok(pattern_kinds(SsrPattern::parse(alloc, text)?)),
+    }
 }

@@ -5,8 +5,9 @@ ghost use Rattle.ssr_syntax_tree.specs.Syntax.{source_of};
 ghost use Rattle.ssr_base_trees.specs.Changes.{FitsText};
 ghost use Rattle.ssr_set_aside.specs.Sparing.{bounds, bounds_of};
 ghost use Rattle.ssr_standing.specs.Expansions.{stands_in};
+ghost use Rattle.ssr_standing.specs.Fitted.{change_with};
 ghost use Rattle.ssr_changes.specs.Standing.{alone, falling, not_alone, standing};
-ghost use Rattle.ssr_changes.specs.Private.Standing.{IsFitted, change_with};
+ghost use Rattle.ssr_changes.specs.Private.Standing.{IsFitted};
 
 use ssr_base::TextEdit;
 use ssr_standing::SearchedFile;

@@ -14,6 +14,16 @@ pub struct Crate {
     pub name: String,
     /// Its edition; `None`: that of a workspace of which the manifest isn't read.
     pub edition: Option<Edition>,
+    pub kind: CrateKind,
+}
+
+/// What a crate is to its package.
+#[derive(Clone, Copy, Debug, PartialEq, Eq)]
+pub enum CrateKind {
+    Library,
+    Program,
+    /// A build script, an example, a test or a benchmark.
+    Other,
 }
 
 /// An edition of the language.

@@ -67,29 +67,35 @@ fn folders_of(
     workspace: &Table,
 ) -> Result<Vec<String>, AllocError> {
     let mut folders = Vec::new(alloc);
-    add_listed(alloc, folder, manifest, workspace, &mut folders)?;
-    let Some(targets) = table_at(manifest, "target") else {
-        return Ok(folders);
-    };
-    for (_, target) in targets {
-        if let Some(table) = target.as_table() {
-            add_listed(alloc, folder, table, workspace, &mut folders)?;
-        }
+    for table in dependency_tables(alloc, manifest)? {
+        add_table(alloc, folder, table, workspace, &mut folders)?;
     }
     Ok(folders)
 }
 
-/// Adds the folders of the dependencies that the tables of a manifest, or those for one platform, list.
-fn add_listed(
+/// The tables of a manifest that list dependencies, those for one platform among them.
+pub(crate) fn dependency_tables(
     alloc: Global,
-    folder: &str,
     manifest: &Table,
-    workspace: &Table,
-    folders: &mut Vec<String>,
-) -> Result<(), AllocError> {
+) -> Result<Vec<&Table>, AllocError> {
+    let mut tables = Vec::new(alloc);
+    push_tables(manifest, &mut tables)?;
+    let Some(targets) = table_at(manifest, "target") else {
+        return Ok(tables);
+    };
+    for (_, target) in targets {
+        if let Some(table) = target.as_table() {
+            push_tables(table, &mut tables)?;
+        }
+    }
+    Ok(tables)
+}
+
+/// Adds the tables of dependencies of a manifest, or of its part for one platform.
+fn push_tables<'a>(manifest: &'a Table, tables: &mut Vec<&'a Table>) -> Result<(), AllocError> {
     for key in TABLES {
         if let Some(table) = table_at(manifest, key) {
-            add_table(alloc, folder, table, workspace, folders)?;
+            tables.push(table)?;
         }
     }
     Ok(())

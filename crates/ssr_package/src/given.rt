@@ -34,7 +34,7 @@ pub fn given_files<F: Reads>(
 
 impl Reading<'_> {
     /// Reads the files of a given path.
-    fn give<F: Reads>(
+    pub(crate) fn give<F: Reads>(
         &mut self,
         reader: &mut F,
         texts: &mut Texts,

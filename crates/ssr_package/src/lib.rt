@@ -1,7 +1,9 @@
 //! The files of a run: those of a package's targets and the files that their `mod` items reach, or given files and folders.
 #![tactic(auto)]
 
+mod around;
 mod candidates;
+mod crate_names;
 mod crates;
 mod dependencies;
 mod finding;
@@ -29,7 +31,8 @@ mod texts;
 mod tokens;
 mod unreached;
 
-pub use crates::{Crate, Edition};
+pub use around::{FilesAround, files_around};
+pub use crates::{Crate, CrateKind, Edition};
 pub use finding::find_manifest;
 pub use given::given_files;
 pub use includes::{Include, unsearched_includes};

@@ -1,5 +1,5 @@
 //! The modules of a run, and which declares which.
-ghost use Rattle.std.specs.Prelude.{◌≡◌, [], ◌∷◌, ◌++◌, None, Some, IfOk, OnOk, if◌then◌else◌, slice_get, option_copied};
+ghost use Rattle.std.specs.Prelude.{◌≡◌, ◌<◌, [], ◌∷◌, ◌++◌, None, Some, IfOk, IfSome, OnOk, if◌then◌else◌, length, slice_get, option_copied};
 ghost use Rattle.ssr_package.specs.ModuleTree as spec;
 
 use crate::crates::Crate;
@@ -43,6 +43,8 @@ pub struct ModuleTree {
     modules: Vec<Module>,
     /// The module whose file is read, which declares what is declared.
     here: Option<usize>,
+    /// The further modules whose files are those of others.
+    further: Vec<Module>,
 }
 
 impl Model for ModuleTree {
@@ -66,6 +68,7 @@ impl ModuleTree {
         ModuleTree {
             modules: Vec::new(alloc),
             here: None,
+            further: Vec::new(alloc),
         }
     }
 
@@ -75,6 +78,12 @@ impl ModuleTree {
         ensures tree { spec.IsTree result.now }
     {
         &self.modules
+    }
+
+    /// The further modules of files: each has the file of one of the modules, or of one that was passed over, which another `mod`
+    /// item or another target names as well. An item that is there twice, as under two conditions, is one of them too.
+    pub fn further(&self) -> &[Module] {
+        &self.further
     }
 
     /// The module whose file is read.
@@ -130,15 +139,41 @@ impl ModuleTree {
         ensures modules { OnOk result (self.new.modules ≡ self.old.modules ++ record { file = file; owns_folder = owns_folder; origin = spec.origin self.old.here around name } ∷ []) }
         ensures here { self.new.here ≡ self.old.here }
     {
-        let origin = match self.here {
+        let origin = self.origin(around, name);
+        self.modules.push(Module {
+            file,
+            owns_folder,
+            origin,
+        })?;
+        Ok(())
+    }
+
+    /// Where a module comes from that the one declares whose file is read.
+    pub(crate) fn origin(&self, around: Vec<String>, name: String) -> Origin
+        ensures origin { result ≡ spec.origin self.now.here around name }
+        ensures behind { IfSome (spec.declarer_of result) (λ number. number < length self.now.modules) }
+    {
+        match self.here {
             Some(declarer) => Origin::Declared(Declaration {
                 declarer,
                 around,
                 name,
             }),
             None => Origin::Root(None),
-        };
-        self.modules.push(Module {
+        }
+    }
+
+    /// Adds a further module, with a file that was reached before.
+    pub(crate) fn add_further(
+        &mut self,
+        file: String,
+        owns_folder: bool,
+        origin: Origin,
+    ) -> Result<(), AllocError>
+        ensures modules { self.new.modules ≡ self.old.modules }
+        ensures here { self.new.here ≡ self.old.here }
+    {
+        self.further.push(Module {
             file,
             owns_folder,
             origin,

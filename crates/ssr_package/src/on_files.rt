@@ -121,6 +121,7 @@ fn trouble(error: &io::Error) -> Result<Trouble, AllocError> {
     match error.kind() {
         ErrorKind::OutOfMemory => Err(AllocError),
         ErrorKind::InvalidData => Ok(Trouble::NotText),
+        ErrorKind::NotFound => Ok(Trouble::Missing),
         kind => Ok(Trouble::Unreadable(kind)),
     }
 }

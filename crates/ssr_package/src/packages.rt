@@ -53,29 +53,40 @@ fn own_files<F: Reads>(
     ensures read { IfOk result (λ found. AreRead (F.gave reader.new) (string_bytes found.folder) found.files.items) }
     ensures order { IfOk result (λ found. AreInOrder found.files.items) }
 {
-    let alloc = reader.alloc();
-    let mut reading = Reading::new(alloc, Root::new(folder));
-    let mut packages = Vec::new(alloc);
-    if package_name(&table).is_some() {
-        let edition = package_edition(&table, workspace_edition(&table));
-        packages.push(Package {
-            folder: String::new(alloc),
-            manifest: table,
-            edition,
-        })?;
-    } else if table_at(&table, "workspace").is_some() {
-        packages = reading.members(reader, &table)?;
-    } else {
-        return Err(PackageError::NoPackage(String::from_str(alloc, manifest)?));
-    }
+    let mut reading = Reading::new(reader.alloc(), Root::new(folder));
+    let packages = reading.own_packages(reader, table, manifest)?;
     let mut texts = Texts::new(reader, folder)?;
     reading.read_packages(reader, &mut texts, &packages)?;
     reading.finish(reader, texts)
 }
 
 impl Reading<'_> {
-    /// Reads the files of packages, and notes those that nothing reaches.
-    fn read_packages<F: Reads>(
+    /// A manifest's own package, or all members where it has none.
+    pub(crate) fn own_packages<F: Reads>(
+        &mut self,
+        reader: &mut F,
+        table: Table,
+        manifest: &str,
+    ) -> Result<Vec<Package>, PackageError> {
+        let alloc = self.alloc();
+        if package_name(&table).is_none() {
+            if table_at(&table, "workspace").is_some() {
+                return self.members(reader, &table);
+            }
+            return Err(PackageError::NoPackage(String::from_str(alloc, manifest)?));
+        }
+        let edition = package_edition(&table, workspace_edition(&table));
+        let mut packages = Vec::new(alloc);
+        packages.push(Package {
+            folder: String::new(alloc),
+            manifest: table,
+            edition,
+        })?;
+        Ok(packages)
+    }
+
+    /// Reads the files of packages.
+    pub(crate) fn read_files<F: Reads>(
         &mut self,
         reader: &mut F,
         texts: &mut Texts,
@@ -87,7 +98,20 @@ impl Reading<'_> {
         for package in packages {
             self.reach_targets(reader, package)?;
         }
-        self.read_reached(reader, texts)?;
+        self.read_reached(reader, texts)
+    }
+
+    /// Reads the files of packages, and notes those that nothing reaches.
+    fn read_packages<F: Reads>(
+        &mut self,
+        reader: &mut F,
+        texts: &mut Texts,
+        packages: &[Package],
+    ) -> Result<(), PackageError>
+        requires { AreKept (F.gave reader.old) texts.old }
+        ensures { AreKept (F.gave reader.new) texts.new }
+    {
+        self.read_files(reader, texts, packages)?;
         for package in packages {
             self.note_unreached(reader, package)?;
         }

@@ -5,7 +5,7 @@ ghost use Rattle.ssr_package.specs.Reads.{AreInOrder, AreRead};
 
 use crate::crates::Crate;
 use crate::marks::marks;
-use crate::module_tree::ModuleTree;
+use crate::module_tree::{ModuleTree, Origin};
 use crate::modules::{Declared, declared_modules};
 use crate::notes::{Note, Trouble};
 use crate::package_error::PackageError;
@@ -30,6 +30,8 @@ pub struct PackageFiles {
     pub files: Vec<SourceFile>,
     /// The modules that have files, and which declares which.
     pub modules: ModuleTree,
+    /// The crates on which the packages depend, by the names that code gives them: sorted, each once.
+    pub dependencies: Vec<String>,
     /// What was passed over.
     pub notes: Vec<Note>,
 }
@@ -39,8 +41,10 @@ pub struct PackageFiles {
 enum Found {
     /// A file that is to be read.
     New,
-    /// Something that was reached before, or that is passed over.
+    /// What was reached before.
     Old,
+    /// What is passed over.
+    PassedOver,
     Nothing,
 }
 
@@ -51,7 +55,10 @@ pub(crate) struct Reading<'r> {
     root: Root<'r>,
     reached: BTreeSet<String>,
     modules: ModuleTree,
-    notes: Vec<Note>,
+    pub(crate) dependencies: BTreeSet<String>,
+    /// The names of the files at given paths.
+    pub(crate) given: BTreeSet<String>,
+    pub(crate) notes: Vec<Note>,
 }
 
 impl<'r> Reading<'r> {
@@ -62,6 +69,8 @@ impl<'r> Reading<'r> {
             root,
             reached: BTreeSet::new(alloc),
             modules: ModuleTree::new(alloc),
+            dependencies: BTreeSet::new(alloc),
+            given: BTreeSet::new(alloc),
             notes: Vec::new(alloc),
         }
     }
@@ -84,12 +93,14 @@ impl<'r> Reading<'r> {
         ensures read { IfOk result (λ found. AreRead (F.gave reader.now) (string_bytes found.folder) found.files.items) }
         ensures order { IfOk result (λ found. AreInOrder found.files.items) }
     {
+        let alloc = reader.alloc();
         let Texts { folder, by_name } = texts;
-        let files = in_order(reader.alloc(), by_name)?;
+        let files = in_order(alloc, by_name)?;
         Ok(PackageFiles {
             folder,
             files,
             modules: self.modules,
+            dependencies: self.dependencies.into_iter().collect(alloc)?,
             notes: self.notes,
         })
     }
@@ -126,6 +137,7 @@ impl<'r> Reading<'r> {
         requires { AreKept (F.gave reader.old) texts.old }
         ensures { AreKept (F.gave reader.new) texts.new }
     {
+        self.given.insert(name.clone()?)?;
         if !self.is_new(name.as_str())? {
             return Ok(());
         }
@@ -151,8 +163,12 @@ impl<'r> Reading<'r> {
         of: Crate,
     ) -> Result<bool, PackageError> {
         let found = self.look(reader, name.as_str())?;
-        if found == Found::New {
-            self.modules.add_root(name, Some(of))?;
+        match found {
+            Found::New => self.modules.add_root(name, Some(of))?,
+            Found::Old => self
+                .modules
+                .add_further(name, true, Origin::Root(Some(of)))?,
+            Found::PassedOver | Found::Nothing => {}
         }
         Ok(found != Found::Nothing)
     }
@@ -171,7 +187,7 @@ impl<'r> Reading<'r> {
             None if !is_ours(name) => self.note(name, Trouble::NotOurs)?,
             None => return Ok(Found::New),
         }
-        Ok(Found::Old)
+        Ok(Found::PassedOver)
     }
 
     /// Reads the files that were reached, and those that they reach.
@@ -270,12 +286,17 @@ impl<'r> Reading<'r> {
         module: &Declared<'_>,
     ) -> Result<bool, PackageError> {
         let found = self.look(reader, file)?;
-        if found == Found::New {
+        if matches!(found, Found::New | Found::Old) {
             let alloc = self.alloc();
             let file = String::from_str(alloc, file)?;
             let around = copies(alloc, &module.around)?;
             let name = String::from_str(alloc, module.name)?;
-            self.modules.add_declared(file, owns_folder, around, name)?;
+            if found == Found::New {
+                self.modules.add_declared(file, owns_folder, around, name)?;
+            } else {
+                let origin = self.modules.origin(around, name);
+                self.modules.add_further(file, owns_folder, origin)?;
+            }
         }
         Ok(found != Found::Nothing)
     }

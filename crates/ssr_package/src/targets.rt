@@ -1,6 +1,6 @@
 //! The files that a package's targets begin with.
 
-use crate::crates::{Crate, Edition, crate_name};
+use crate::crates::{Crate, CrateKind, Edition, crate_name};
 use crate::manifest::{
     is_off, items_at, library_name, library_path, package_name, table_at, text_at,
 };
@@ -22,33 +22,48 @@ struct TargetKind {
     folder: &'static str,
     /// The key by which those are left out that the manifest doesn't list.
     switch: &'static str,
+    kind: CrateKind,
 }
 
-/// The name of the target that a build script is.
-const BUILD_SCRIPT: &str = "build-script-build";
+/// The name of a target, and what its crate is to the package.
+#[derive(Clone, Copy)]
+struct Target<'a> {
+    name: &'a str,
+    kind: CrateKind,
+}
+
+/// The target that a build script is.
+const BUILD_SCRIPT: Target<'static> = Target {
+    name: "build-script-build",
+    kind: CrateKind::Other,
+};
 
 const BINARIES: TargetKind = TargetKind {
     key: "bin",
     folder: "src/bin",
     switch: "autobins",
+    kind: CrateKind::Program,
 };
 
 const EXAMPLES: TargetKind = TargetKind {
     key: "example",
     folder: "examples",
     switch: "autoexamples",
+    kind: CrateKind::Other,
 };
 
 const TESTS: TargetKind = TargetKind {
     key: "test",
     folder: "tests",
     switch: "autotests",
+    kind: CrateKind::Other,
 };
 
 const BENCHES: TargetKind = TargetKind {
     key: "bench",
     folder: "benches",
     switch: "autobenches",
+    kind: CrateKind::Other,
 };
 
 /// A package: its folder, a name of the run, its manifest, and its edition, where that is known.
@@ -64,12 +79,13 @@ impl Package {
         package_name(&self.manifest).unwrap_or("")
     }
 
-    /// The crate of the target of a name.
-    fn target(&self, alloc: Global, name: &str) -> Result<Crate, AllocError> {
-        let name = crate_name(alloc, name)?;
+    /// The crate of a target.
+    fn crate_of(&self, alloc: Global, target: Target<'_>) -> Result<Crate, AllocError> {
+        let name = crate_name(alloc, target.name)?;
         Ok(Crate {
             name,
             edition: self.edition,
+            kind: target.kind,
         })
     }
 }
@@ -81,6 +97,7 @@ impl Reading<'_> {
         reader: &F,
         package: &Package,
     ) -> Result<(), PackageError> {
+        self.take_dependencies(&package.manifest)?;
         self.reach_library(reader, package)?;
         self.reach_build_script(reader, package)?;
         self.reach_kind(reader, package, &BINARIES)?;
@@ -88,7 +105,11 @@ impl Reading<'_> {
         self.reach_kind(reader, package, &TESTS)?;
         self.reach_kind(reader, package, &BENCHES)?;
         if !is_off_in_package(&package.manifest, BINARIES.switch) {
-            self.reach_default(reader, package, "src/main.rs", package.name())?;
+            let target = Target {
+                name: package.name(),
+                kind: CrateKind::Program,
+            };
+            self.reach_default(reader, package, "src/main.rs", target)?;
         }
         Ok(())
     }
@@ -98,10 +119,13 @@ impl Reading<'_> {
         reader: &F,
         package: &Package,
     ) -> Result<(), PackageError> {
-        let name = library_name(&package.manifest).unwrap_or(package.name());
+        let target = Target {
+            name: library_name(&package.manifest).unwrap_or(package.name()),
+            kind: CrateKind::Library,
+        };
         match library_path(&package.manifest) {
-            Some(path) => self.reach_path(reader, package, path, name),
-            None => self.reach_default(reader, package, "src/lib.rs", name),
+            Some(path) => self.reach_path(reader, package, path, target),
+            None => self.reach_default(reader, package, "src/lib.rs", target),
         }
     }
 
@@ -134,7 +158,7 @@ impl Reading<'_> {
             return Ok(());
         }
         let folder = within(self.alloc(), package.folder.as_str(), kind.folder)?;
-        self.reach_folder(reader, package, folder.as_str())
+        self.reach_folder(reader, package, kind, folder.as_str())
     }
 
     /// Reaches a target that the manifest lists: at its path, or else at the default places of its name.
@@ -143,43 +167,63 @@ impl Reading<'_> {
         reader: &F,
         package: &Package,
         kind: &TargetKind,
-        target: &Value,
+        listed: &Value,
     ) -> Result<(), PackageError> {
-        let Some(target) = target.as_table() else {
+        let Some(table) = listed.as_table() else {
             return Ok(());
         };
-        let name = text_at(target, "name");
-        if let Some(path) = text_at(target, "path") {
-            return self.reach_path(reader, package, path, name.unwrap_or(stem(path)));
+        let name = text_at(table, "name");
+        if let Some(path) = text_at(table, "path") {
+            let target = Target {
+                name: name.unwrap_or(stem(path)),
+                kind: kind.kind,
+            };
+            return self.reach_path(reader, package, path, target);
         }
-        let Some(name) = name else {
-            return Ok(());
-        };
+        match name {
+            Some(name) => self.reach_named(reader, package, kind, name),
+            None => Ok(()),
+        }
+    }
+
+    /// Reaches a target of a kind at the default places of its name.
+    fn reach_named<F: Reads>(
+        &mut self,
+        reader: &F,
+        package: &Package,
+        kind: &TargetKind,
+        name: &str,
+    ) -> Result<(), PackageError> {
         let alloc = self.alloc();
+        let target = Target {
+            name,
+            kind: kind.kind,
+        };
         let place = within(alloc, kind.folder, name)?;
         self.reach_default(
             reader,
             package,
             format!(in alloc; "{place}.rs")?.as_str(),
-            name,
+            target,
         )?;
         self.reach_default(
             reader,
             package,
             format!(in alloc; "{place}/main.rs")?.as_str(),
-            name,
+            target,
         )?;
         if kind.key == BINARIES.key && package.name() == name {
-            self.reach_default(reader, package, "src/main.rs", name)?;
+            self.reach_default(reader, package, "src/main.rs", target)?;
         }
         Ok(())
     }
 
-    /// Reaches the targets that lie in a folder of targets.
+    /// Reaches the targets of a kind that lie in a folder.
     fn reach_folder<F: Reads>(
         &mut self,
         reader: &F,
         package: &Package,
+        kind: &TargetKind,
         folder: &str,
     ) -> Result<(), PackageError> {
         if self.root().standing(reader, folder)? != Standing::Folder {
@@ -191,7 +235,11 @@ impl Reading<'_> {
         };
         for entry in &entries {
             if let Some(file) = default_target(self.alloc(), folder, entry)? {
-                let of = package.target(self.alloc(), target_name(entry))?;
+                let target = Target {
+                    name: target_name(entry),
+                    kind: kind.kind,
+                };
+                let of = package.crate_of(self.alloc(), target)?;
                 self.reach_root(reader, file, of)?;
             }
         }
@@ -204,13 +252,13 @@ impl Reading<'_> {
         reader: &F,
         package: &Package,
         path: &str,
-        name: &str,
+        target: Target<'_>,
     ) -> Result<(), PackageError> {
         let Some(file) = normal_path(self.alloc(), package.folder.as_str(), path)? else {
             return self.note(path, Trouble::Outside);
         };
         let copy = String::from_str(self.alloc(), file.as_str())?;
-        let of = package.target(self.alloc(), name)?;
+        let of = package.crate_of(self.alloc(), target)?;
         if self.reach_root(reader, file, of)? {
             Ok(())
         } else {
@@ -224,10 +272,10 @@ impl Reading<'_> {
         reader: &F,
         package: &Package,
         place: &str,
-        name: &str,
+        target: Target<'_>,
     ) -> Result<(), PackageError> {
         if let Some(file) = normal_path(self.alloc(), package.folder.as_str(), place)? {
-            let of = package.target(self.alloc(), name)?;
+            let of = package.crate_of(self.alloc(), target)?;
             self.reach_root(reader, file, of)?;
         }
         Ok(())

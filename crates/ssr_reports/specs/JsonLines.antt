@@ -62,6 +62,10 @@ match_tokens report =
     ++ ((text_field (codes "old") report.old.now ++ (new_field report.new ++ flag_field (codes "set_aside") report.set_aside))
     ++ (placeholders_tokens report.placeholders.now ++ end_object ∷ [])))
 
+-- how many places aren't changed for other reasons than what is set aside
+abbrev pub unchanged_tokens : Summary → List Token
+unchanged_tokens summary = number_field (codes "unread") summary.unread ++ number_field (codes "undecided") summary.undecided
+
 abbrev pub not_searched_tokens : NotSearched → List Token
 not_searched_tokens report =
     begin_object ∷ key (codes "not_searched") ∷ begin_object ∷ (range_fields report.file.now report.range report.place ++ end_object ∷ end_object ∷ [])
@@ -72,7 +76,7 @@ summary_tokens summary =
     ++ (number_field (codes "matches") summary.matches
     ++ (number_field (codes "edits") summary.edits
     ++ (number_field (codes "set_aside") summary.set_aside
-    ++ (number_field (codes "unread") summary.unread
+    ++ (unchanged_tokens summary
     ++ (number_field (codes "left_out") summary.left_out
     ++ (number_field (codes "not_searched") summary.not_searched ++ end_object ∷ end_object ∷ [])))))))
 

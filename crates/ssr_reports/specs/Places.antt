@@ -49,3 +49,7 @@ place_words file place = quoted file ++ (codes ":" ++ (decimal place.line ++ (co
 -- what is found there
 abbrev pub place_text : List ℕ → LinePlace → List ℕ → List ℕ
 place_text file place found = place_words file place ++ (codes ": " ++ (first_line found ++ (mark_of found ++ codes "\n")))
+
+-- what may match at a place, if a name stands for what is meant
+abbrev pub undecided_text : List ℕ → List ℕ → List ℕ → List ℕ
+undecided_text place name found = place ++ (codes ": undecided by `" ++ (name ++ (codes "`: " ++ (first_line found ++ mark_of found))))

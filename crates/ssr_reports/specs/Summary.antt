@@ -12,12 +12,18 @@ counted count one many = decimal count ++ (codes " " ++ (if count == 1 then one 
 abbrev pub some_counted : List ℕ → ℕ → List ℕ → List ℕ → List ℕ
 some_counted front count one many = if count == 0 then [] else front ++ counted count one many
 
+-- the places that aren't changed
+abbrev pub unchanged_text : Summary → List ℕ
+unchanged_text summary =
+    some_counted (codes "; ") (summary.set_aside + summary.unread) (codes "left as it is") (codes "left as they are")
+    ++ some_counted (codes "; ") summary.undecided (codes "undecided") (codes "undecided")
+
 abbrev pub summary_text : Summary → List ℕ
 summary_text summary =
     counted summary.matches (codes "match") (codes "matches")
     ++ (some_counted (codes " in ") summary.files (codes "file") (codes "files")
     ++ (some_counted (codes ": ") summary.edits (codes "edit") (codes "edits")
-    ++ (some_counted (codes "; ") (summary.set_aside + summary.unread) (codes "left as it is") (codes "left as they are")
+    ++ (unchanged_text summary
     ++ (some_counted (codes "; ") summary.left_out (codes "file left out") (codes "files left out")
     ++ (some_counted (codes "; ") summary.not_searched (codes "file not searched whole") (codes "files not searched whole") ++ codes "\n")))))
 

@@ -2,7 +2,7 @@
 ghost use Rattle.std.specs.Prelude.{◌≡◌, ◌∷◌, [], ◌++◌, IfOk, OnOk, flat_map, codes};
 ghost use Rattle.json.specs.Lex.{tokens};
 ghost use Rattle.json.specs.Print.{print};
-ghost use Rattle.ssr_reports.specs.JsonLines.{Gains, number_field, text_field, new_field, null_field, flag_field, place_fields, range_fields, not_searched_tokens, placeholders_tokens, match_tokens, summary_tokens, IsLineOf, held_tokens};
+ghost use Rattle.ssr_reports.specs.JsonLines.{Gains, number_field, text_field, new_field, null_field, flag_field, place_fields, range_fields, not_searched_tokens, placeholders_tokens, match_tokens, summary_tokens, unchanged_tokens, IsLineOf, held_tokens};
 
 use crate::places::LinePlace;
 use crate::summary::Summary;
@@ -119,11 +119,20 @@ fn push_summary(writer: &mut Writer, summary: Summary) -> Result<(), AllocError>
     push_number(writer, "matches", summary.matches)?;
     push_number(writer, "edits", summary.edits)?;
     push_number(writer, "set_aside", summary.set_aside)?;
-    push_number(writer, "unread", summary.unread)?;
+    push_unchanged(writer, summary)?;
     push_number(writer, "left_out", summary.left_out)?;
     push_number(writer, "not_searched", summary.not_searched)?;
     writer.end_object()?;
     writer.end_object()?;
+    Ok(())
+}
+
+/// Adds how many places aren't changed for other reasons than what is set aside.
+fn push_unchanged(writer: &mut Writer, summary: Summary) -> Result<(), AllocError>
+    ensures { OnOk result (Gains writer.old writer.new (unchanged_tokens summary)) }
+{
+    push_number(writer, "unread", summary.unread)?;
+    push_number(writer, "undecided", summary.undecided)?;
     Ok(())
 }
 

@@ -8,5 +8,7 @@ mod summary;
 
 pub use colors::colored;
 pub use json_lines::{Held, MatchReport, NotSearched, match_json, not_searched_json, summary_json};
-pub use places::{LinePlace, Places, byte_at, line_place, place_line, place_words};
+pub use places::{
+    LinePlace, Places, byte_at, line_place, place_line, place_words, undecided_words,
+};
 pub use summary::{Summary, not_searched_words, summary_line};

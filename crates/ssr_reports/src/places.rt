@@ -1,6 +1,6 @@
 //! Lines and columns.
 ghost use Rattle.std.specs.Prelude.{◌≡◌, ◌+◌, ◌<◌, ◌≤◌, ◌^◌, IfOk, MatchOption, length, count_by, string_bytes};
-ghost use Rattle.ssr_reports.specs.Places.{is_line_break, begins_character, last_line, first_line as first_line_of, mark_of, line_of, column_of, IsAt, HasNone, place_words as words_of_place, place_text};
+ghost use Rattle.ssr_reports.specs.Places.{is_line_break, begins_character, last_line, first_line as first_line_of, mark_of, line_of, column_of, IsAt, HasNone, place_words as words_of_place, place_text, undecided_text};
 
 use ssr_diff::quoted;
 use std::alloc::{AllocError, Global};
@@ -156,6 +156,19 @@ pub fn place_line(
     let place = place_words(alloc, file, place)?;
     let (first, mark) = first_line(found);
     format!(in alloc; "{place}: {first}{mark}\n")
+}
+
+/// ``src/lib.rs:12:9: undecided by `name`: text``, of what may match at a place, since it isn't known what a name stands for.
+pub fn undecided_words(
+    alloc: Global,
+    place: &str,
+    name: &str,
+    found: &str,
+) -> Result<String, AllocError>
+    ensures { IfOk result (λ line. string_bytes line ≡ undecided_text place.now name.now found.now) }
+{
+    let (first, mark) = first_line(found);
+    format!(in alloc; "{place}: undecided by `{name}`: {first}{mark}")
 }
 
 /// A text up to its first line break, and a mark where there is one.

@@ -1,13 +1,13 @@
 //! The line that ends a run, and the one that tells what of a file isn't searched.
 ghost use Rattle.std.specs.Prelude.{◌≡◌, ◌++◌, IfOk, OnOk, string_bytes};
-ghost use Rattle.ssr_reports.specs.Summary.{summary_text, counted, some_counted, not_searched_text};
+ghost use Rattle.ssr_reports.specs.Summary.{summary_text, counted, some_counted, unchanged_text, not_searched_text};
 
 use crate::places::{LinePlace, place_words};
 use std::alloc::{AllocError, Global};
 
 /// How many files have matches, how many matches there are and how many edits are made; how many matches stay because of what is set
-/// aside, and how many because the file can't be read with what stands for them; how many files are left out, and how many more
-/// aren't searched whole.
+/// aside, and how many because the file can't be read with what stands for them; of how many places it isn't known whether they match;
+/// how many files are left out, and how many more aren't searched whole.
 #[derive(Clone, Copy, Debug, PartialEq, Eq)]
 pub struct Summary {
     pub files: usize,
@@ -15,12 +15,13 @@ pub struct Summary {
     pub edits: usize,
     pub set_aside: usize,
     pub unread: usize,
+    pub undecided: usize,
     pub left_out: usize,
     pub not_searched: usize,
 }
 
-/// `61 matches in 4 files: 58 edits; 3 left as they are; 2 files left out; 1 file not searched whole` and a line break. Of what is
-/// none but the matches, nothing is said.
+/// `61 matches in 4 files: 58 edits; 3 left as they are; 1 undecided; 2 files left out; 1 file not searched whole` and a line break. Of
+/// what is none but the matches, nothing is said.
 pub fn summary_line(alloc: Global, summary: Summary) -> Result<String, AllocError>
     ensures { IfOk result (λ line. string_bytes line ≡ summary_text summary) }
 {
@@ -28,9 +29,7 @@ pub fn summary_line(alloc: Global, summary: Summary) -> Result<String, AllocErro
     push_counted(&mut text, summary.matches as u128, "match", "matches")?;
     push_some(&mut text, " in ", summary.files as u128, "file", "files")?;
     push_some(&mut text, ": ", summary.edits as u128, "edit", "edits")?;
-    // two counts together, which need not fit their type
-    let left = summary.set_aside as u128 + summary.unread as u128;
-    push_some(&mut text, "; ", left, "left as it is", "left as they are")?;
+    push_unchanged(&mut text, summary)?;
     push_some(
         &mut text,
         "; ",
@@ -47,6 +46,17 @@ pub fn summary_line(alloc: Global, summary: Summary) -> Result<String, AllocErro
     )?;
     text.push_str("\n")?;
     Ok(text)
+}
+
+/// `; 3 left as they are; 1 undecided`: the places that aren't changed.
+fn push_unchanged(text: &mut String, summary: Summary) -> Result<(), AllocError>
+    ensures { OnOk result (string_bytes text.new ≡ string_bytes text.old ++ unchanged_text summary) }
+{
+    // two counts together, which need not fit their type
+    let left = summary.set_aside as u128 + summary.unread as u128;
+    push_some(text, "; ", left, "left as it is", "left as they are")?;
+    let undecided = summary.undecided as u128;
+    push_some(text, "; ", undecided, "undecided", "undecided")
 }
 
 /// `src/a.rs:3:5: not searched: 2 lines that aren't read, and 4 more places`: of what isn't searched of a file the first place, how

@@ -6,3 +6,4 @@ mod Standings
 mod Spelled
 mod Calls
 mod Below
+pub mod Shared

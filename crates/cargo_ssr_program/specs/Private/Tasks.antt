@@ -3,17 +3,17 @@ use Rattle.std.specs.Prelude.{◌≡◌, ℕ, List, map, string_bytes}
 use Rattle.cargo_ssr_options.specs.declared.options.Options.{Options}
 use Rattle.cargo_ssr_program.specs.declared.input.Input.{Input}
 use Rattle.cargo_ssr_program.specs.Planned.{Task}
-use Rattle.ssr_base_trees.specs.Meanings.{Meanings}
+use Rattle.cargo_ssr_program.specs.Providers.{meanings_of}
 use Rattle.ssr_changes.specs.Files.{AreSearched}
 use Rattle.ssr_searching.specs.Searching.{Search}
 
-abbrev pub search_of : {S : Type 0} → Meanings → Input S → Search
-search_of meanings input =
-    record { workspace = input.files.workspace; meanings = meanings; position = input.position; ranges = input.ranges.items }
+abbrev pub search_of : Input → Search
+search_of input =
+    record { workspace = input.files.workspace; meanings = meanings_of input.semantics; position = input.position; ranges = input.ranges.items }
 
-abbrev pub task_of : {S : Type 0} → Meanings → Input S → Options → Task
-task_of meanings input options = record {
-  search = search_of meanings input;
+abbrev pub task_of : Input → Options → Task
+task_of input options = record {
+  search = search_of input;
   rules = map string_bytes options.rules.items;
   folder = string_bytes input.folder;
   files = input.files.files;

@@ -1,12 +1,7 @@
 -- Private: one change that is tried.
 use Rattle.std.specs.Prelude.{ℕ, ◌≡◌, Bool, true, false, List, [], ◌∷◌, Option, Some, None}
-use Rattle.ssr_syntax_kinds.specs.declared.range.TextRange.{TextRange}
 use Rattle.ssr_base_trees.specs.Changes.{Change}
-use Rattle.ssr_changes.specs.Standing.{fitted}
-
--- the change that puts a text in the place of a range
-abbrev pub change_with : TextRange → List ℕ → Change
-change_with range text = record { start = range.start; end = range.end; text = text }
+use Rattle.ssr_standing.specs.Fitted.{fitted}
 
 -- the text of a change as it stands alone; none where it doesn't
 abbrev pub IsFitted : (List Change → Bool) → Change → Option (List ℕ) → Type 0

@@ -4,7 +4,7 @@ use Rattle.cargo_ssr_program.proofs.InFiles.{at_both, map_more, text_there}
 use Rattle.cargo_ssr_program.proofs.writing.new_texts.Goals as goal
 
 pub loop-place-preserved : goal.loop-place-preserved
-loop-place-preserved g c =
+loop-place-preserved c =
     let folder = string_bytes c.args.input.now.folder in
     let files = c.args.input.now.files.files in
     let plan = c.args.plan.now in

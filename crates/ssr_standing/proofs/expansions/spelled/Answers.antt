@@ -1,7 +1,6 @@
 use Rattle.std.proofs.Common.{◌≡◌, ◌∙◌, ℕ, List, [], ap, map, arith}
 use Rattle.std.specs.Prelude.{None}
 use Rattle.ssr_syntax_tree.specs.Syntax.{token_count}
-use Rattle.ssr_base_trees.specs.Changes.{Change}
 use Rattle.ssr_base_trees.specs.Origins.{Span, plain_origin, span_of}
 use Rattle.ssr_standing.specs.Expansions.{Spelled, change_of, opening, with_first}
 use Rattle.ssr_standing.specs.Ranges.{old_place}

@@ -1,4 +1,4 @@
-use Rattle.std.proofs.Common.{◌∙◌, map, ap, arith}
+use Rattle.std.proofs.Common.{◌∙◌, map, refl, ap, arith}
 use Rattle.std.proofs.lemmas.List.{length-map, take_all}
 use Rattle.ssr_base_trees.specs.Applied.{change_of, changes_of}
 use Rattle.ssr_base_trees.proofs.Changes.{shown}
@@ -8,8 +8,8 @@ use Rattle.ssr_standing.proofs.ranges.old_ranges.Goals as goal
 
 pub loop-range-preserved : goal.loop-range-preserved
 loop-range-preserved c =
-    one_old c.as_slice-range-items.result.now c.loop-range.range-index c.loop-range-item.result c.loop-range.ranges.items c.push.new.self.items
-    c.loop-range-test.true c.loop-range-item.is c.in_ok-push.ensures.items c.loop-range.invariant
+    one_old old_place c.as_slice-range-items.result.now c.loop-range.range-index c.loop-range-item.result c.loop-range-item.result.0
+    c.loop-range.ranges.items c.push.new.self.items c.loop-range-test.true c.loop-range-item.is c.in_ok-push.ensures.items refl c.loop-range.invariant
 
 pub returns-clause-ranges : goal.returns-clause-ranges
 returns-clause-ranges c =

@@ -11,7 +11,7 @@ use Rattle.ssr_standing.proofs.standing.stands.Goals as goal
 
 pub new_ranges-requires : goal.new_ranges-requires
 new_ranges-requires c =
-    all_short (source_of c.args.tree.now) c.args.edit.now c.in_ok-olds.ensures.order c.requires
+    all_short (source_of c.args.tree.now) c.args.edit.now c.requires
     (subst (λ (new : Option Syntax). IfSome new (λ _. length (changed_text c.args.tree.now c.args.edit.now) < 2 ^ 32)) c.in-Some.is c.in_ok-found.ensures.short)
 
 pub returns : goal.returns

@@ -1,4 +1,4 @@
-use Rattle.std.proofs.Common.{◌≡◌, ◌≢◌, ◌&&◌, ◌++◌, ◌<◌, Bool, List, Option, ℕ, All, get_or, length, option_map, is_some, sym, ◌∙◌, ap, subst, arith}
+use Rattle.std.proofs.Common.{◌≡◌, ◌≢◌, ◌&&◌, ◌++◌, ◌<◌, Bool, List, Option, ℕ, All, get_or, length, option_map, is_some, string_bytes, sym, ◌∙◌, ap, subst, arith}
 use Rattle.std.specs.Cow.{cow_str_bytes}
 use Rattle.std.specs.Prelude.{AllPairs, Contains, None, Some, if◌then◌else◌}
 use Rattle.std.proofs.lemmas.List.{get_or_default}
@@ -86,18 +86,21 @@ loop-index-preserved g c =
     ∙ list_left kept c.args.nest.now.lists.now c.requires.nest c.args.place i _ _ c.loop-index.invariant.texts.left) in
     let lists = list_under kept c.args.nest.now.lists.now (text_in c.args.self.now.texts.items) c.args.place in
     let at = get_or_default m.bindings i nobody b lt in
+    let prefixed : string_bytes c.in_ok-prefix.prefix ≡ prefix_by rules m.rule b =
+    c.in_ok-prefix.ensures ∙ prefix_read rules m c.rule.result c.bindings-binding-items.result.now i c.rule.ensures c.bindings-binding-items.ensures in
     record {
       texts = left-more c.args.nest.now.lists.now c.args.place i _ _ _ c.loop-index.invariant.texts c.in_ok-list.ensures.counted
           (λ j none. c.in_ok-list.ensures.others j (λ h. none (subst (λ (xs : List ℕ). Contains xs j) c.under.ensures h)));
       written = written-more kept.workspace rules m _ i _ _ _ _ c.loop-index.invariant.written b lt at (option_map cow_str_bytes c.in_ok-piece.piece)
           (c.in_ok-piece.ensures
-          ∙ ap (λ (prefix : List ℕ). option_map (λ text. prefix ++ text) (option_map cow_str_bytes c.in_ok-held.held))
-          (prefix_read rules m c.rule.result c.bindings-binding-items.result.now i c.rule.ensures c.bindings-binding-items.ensures)
+          ∙ ap (λ (prefix : List ℕ). option_map (λ text. prefix ++ text) (option_map cow_str_bytes c.in_ok-held.held)) prefixed
           ∙ ap (option_map (λ text. prefix_by rules m.rule b ++ text)) (c.in_ok-held.ensures
-          ∙ (ap (λ (w : Workspace). if is_clean list then Some (held_text w (option_map file_span_of c.original_range-range.result) list) else None) c.workspace-in-loop-index.ensures
-          ∙ (ap (λ (range : Option FileSpan). if is_clean list then Some (held_text kept.workspace range list) else None) held
-          ∙ ap (λ (list : List Rewrite). if is_clean list then Some (held_text kept.workspace (held_range (trees kept.workspace) m.node.tree b) list) else None) here)))
-          ∙ piece_of_held (is_clean (lists i)) (prefix_by rules m.rule b) (held_text kept.workspace (held_range (trees kept.workspace) m.node.tree b) (lists i)))
+          ∙ (ap (λ (front : List ℕ). if is_clean list then Some (held_text c.workspace-in-loop-index.result.now front (option_map file_span_of c.original_range-range.result) list) else None)
+          (c.as_str.ensures.value ∙ prefixed)
+          ∙ (ap (λ (w : Workspace). if is_clean list then Some (held_text w (prefix_by rules m.rule b) (option_map file_span_of c.original_range-range.result) list) else None) c.workspace-in-loop-index.ensures
+          ∙ (ap (λ (range : Option FileSpan). if is_clean list then Some (held_text kept.workspace (prefix_by rules m.rule b) range list) else None) held
+          ∙ ap (λ (list : List Rewrite). if is_clean list then Some (held_text kept.workspace (prefix_by rules m.rule b) (held_range (trees kept.workspace) m.node.tree b) list) else None) here))))
+          ∙ piece_of_held (is_clean (lists i)) (prefix_by rules m.rule b) (held_text kept.workspace (prefix_by rules m.rule b) (held_range (trees kept.workspace) m.node.tree b) (lists i)))
           made c.in_ok-are_all.ensures.pieces;
       noted = noted-more m _ i _ _ _ c.loop-index.invariant.noted b lt at (option_map clash_of c.in_ok-list.first)
           (subst (λ (list : List Rewrite). IsFirst (clashes list) (option_map clash_of c.in_ok-list.first)) here c.in_ok-list.ensures.first) c.in_ok-list.ensures.clash;

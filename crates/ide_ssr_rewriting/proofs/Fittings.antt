@@ -1,0 +1,199 @@
+-- Changes in a part of a text, in parentheses or not.
+use Rattle.std.proofs.Common.{◌≡◌, ℕ, ◌+◌, ◌-◌, ◌<◌, ◌≤◌, ◌^◌, ◌==◌, ◌&&◌, Bool, true, false, List, [], ◌∷◌, ◌++◌, All, get_or, length, map, take, drop, Option, Some, None, option_map, refl, sym, ◌∙◌, ap, subst, arith, String}
+use Rattle.std.specs.Prelude.{if◌then◌else◌, ◌||◌, nat_le, nat_lt, slice_get, slice_index, slice_range}
+use Rattle.std.specs.Global.{Global}
+use Rattle.std.proofs.lemmas.Bool.{and_parts, leb-true}
+use Rattle.std.specs.Option.{option_map_or}
+use Rattle.ssr_syntax_tree.specs.Syntax.{Syntax}
+use Rattle.std.proofs.lemmas.Option.{same_Some}
+use Rattle.std.proofs.lemmas.List.{length-drop, length-map, length-take-le, map-append, take_more}
+use Rattle.std.proofs.lemmas.List.Elements.{All-map, All-weaker}
+use Rattle.ssr_syntax_kinds.specs.declared.range.TextRange.{TextRange}
+use Rattle.ssr_base_trees.specs.declared.ids.FileRange.{FileRange}
+use Rattle.ssr_base_trees.specs.Applied.{change_of, changes_of}
+use Rattle.ssr_base_trees.specs.Changes.{Change, replaced}
+use Rattle.ssr_base_trees.proofs.Changes.{change_at}
+use Rattle.ssr_base_trees.specs.Texts.{is_boundary}
+use Rattle.ssr_base_trees.specs.Workspace.{Workspace, file_span_of}
+use Rattle.ssr_standing.specs.Fitted.{fitted, in_parentheses}
+use Rattle.ssr_standing.specs.Ranges.{IsShort, old_places, place_from}
+use Rattle.ssr_standing.proofs.Shared.{BeginsIn}
+use Rattle.ide_ssr_rewriting.specs.Fitting.{agrees_after, all_fitted, expression_of, fitted_alone, fitted_between, is_alone, stands_between}
+use Rattle.ide_ssr_rewriting.specs.Clashes.{Rewrite}
+use Rattle.ide_ssr_rewriting.specs.Replacements.{held_text}
+use Rattle.ide_ssr_rewriting.specs.Private.Fitting.{ChangeFits, text_around}
+use Rattle.ide_ssr_rewriting.specs.Private.Replacements.{FitsFile}
+
+-- ** Parentheses leave the ranges of changes.
+
+fits_fitted : (stands : List Change → Bool) (text : List ℕ) (c : Change) → FitsFile text c → FitsFile text (fitted stands c)
+fits_fitted stands text c fit = by (stands (c ∷ []))
+  where
+    by : (b : Bool) → FitsFile text (if b then c else in_parentheses c)
+    by true = fit
+    by false = record { begins = fit.begins; ends = fit.ends }
+
+fits_alone : (stands : List Change → Bool) (text : List ℕ) (c : Change) → FitsFile text c → FitsFile text (fitted_alone stands c)
+fits_alone stands text c fit = by (stands (fitted stands c ∷ []))
+  where
+    by : (b : Bool) → FitsFile text (if b then fitted stands c else c)
+    by true = fits_fitted stands text c fit
+    by false = fit
+
+pub fits_between : (front text : List ℕ) (from to : ℕ) (cs : List Change) → All (FitsFile text) cs → All (FitsFile text) (fitted_between front text from to cs)
+unfolding fitted_between
+fits_between front text from to cs all = by (is_alone front from to cs)
+  where
+    stands : List Change → Bool
+    stands cs = stands_between front text from to cs
+
+    or_each : (b : Bool) → All (FitsFile text) (if b then cs else map (fitted_alone stands) cs)
+    or_each true = all
+    or_each false = All-map (FitsFile text) (fitted_alone stands) cs (λ k d less. fits_alone stands text (get_or cs k d) (all k d less))
+
+    by : (b : Bool) → All (FitsFile text) (if b then cs else all_fitted stands cs)
+    by true = all
+    by false = or_each (stands cs)
+
+-- ** Changes of a range.
+
+pub in_file : (w : Workspace) (range : FileRange) (cs : List Change) → All (ChangeFits w range) cs → All (FitsFile (text_around w range)) cs
+in_file w range cs all = All-weaker (ChangeFits w range) (FitsFile (text_around w range)) (λ c h. record { begins = h.begins; ends = h.ends }) cs all
+
+within_text : (text : List ℕ) (i : ℕ) → is_boundary text i ≡ true → i ≤ length text
+within_text text i is =
+    leb-true i (length text) (and_parts (nat_le i (length text)) (nat_lt (slice_index text i) 128 || nat_le 192 (slice_index text i)) is).0
+
+pub begin_in : (w : Workspace) (range : FileRange) (cs : List Change) → All (ChangeFits w range) cs → All (BeginsIn (text_around w range)) cs
+begin_in w range cs all =
+    All-weaker (ChangeFits w range) (BeginsIn (text_around w range)) (λ c h. within_text (text_around w range) c.start h.begins) cs all
+
+-- what is replaced in a range that is short enough to be read, in parentheses
+pub old_short : (w : Workspace) (range : FileRange) (cs : List Change) → All (ChangeFits w range) cs
+    → is_boundary (text_around w range) range.range.end ≡ true → (at : ℕ) → at + length (slice_range (text_around w range) range.range.start range.range.end) < 2 ^ 32
+    → All IsShort (old_places at range.range.start cs)
+old_short w range cs all ends at short =
+    All-map IsShort (place_from at range.range.start) cs (λ k d less. ends_early (get_or cs k d) (all k d less))
+  where
+    text : List ℕ
+    text = text_around w range
+
+    long : length (slice_range text range.range.start range.range.end) ≡ range.range.end - range.range.start
+    long =
+        length-take-le (range.range.end - range.range.start) (drop range.range.start text)
+        (omega (arith, length-drop range.range.start text, within_text text range.range.end ends))
+
+    ends_early : (c : Change) → ChangeFits w range c → IsShort (place_from at range.range.start c)
+    ends_early c fits = omega (arith, fits.within, long, short)
+
+-- one change fits where all do
+pub fits_here : (w : Workspace) (range : FileRange) (pairs : List (TextRange × String Global)) (i : ℕ) (pair : TextRange × String Global)
+    → i < length pairs → pair ≡ get_or pairs i pair → All (ChangeFits w range) (changes_of pairs) → ChangeFits w range (change_of pair)
+fits_here w range pairs i pair h e all =
+    subst (ChangeFits w range) (change_at pairs i pair (change_of pair) h e) (all i (change_of pair) (omega (arith, length-map pairs change_of)))
+
+-- one change more that is fitted
+pub one_fitted : (fit : Change → Change) (pairs : List (TextRange × String Global)) (i : ℕ) (pair : TextRange × String Global) (text : String Global)
+    → (old new : List (TextRange × String Global)) → i < length pairs → pair ≡ get_or pairs i pair → new ≡ old ++ (pair.0, text) ∷ []
+    → change_of (pair.0, text) ≡ fit (change_of pair)
+    → changes_of old ≡ map fit (take i (changes_of pairs)) → changes_of new ≡ map fit (take (i + 1) (changes_of pairs))
+one_fitted fit pairs i pair text old new h e more is so =
+    ap changes_of more ∙ map-append change_of old ((pair.0, text) ∷ [])
+    ∙ ap (λ (cs : List Change). cs ++ change_of (pair.0, text) ∷ []) so
+    ∙ ap (λ (c : Change). map fit (take i (changes_of pairs)) ++ c ∷ []) is
+    ∙ sym (map-append fit (take i (changes_of pairs)) (change_of pair ∷ []))
+    ∙ ap (λ (c : Change). map fit (take i (changes_of pairs) ++ c ∷ [])) (sym (change_at pairs i pair (change_of pair) h e))
+    ∙ ap (map fit) (sym (take_more (changes_of pairs) i (change_of pair) (omega (arith, length-map pairs change_of))))
+
+-- ** Whether changes stand.
+
+-- they stand in a part that is read if what is read with them agrees
+pub stands_as : (front text : List ℕ) (from to : ℕ) (cs : List Change) (old : Syntax) (new : Option Syntax)
+    → expression_of front (slice_range text from to) ≡ Some old → new ≡ expression_of front (replaced text from to cs)
+    → option_map_or (agrees_after (1 + length front) from cs old) new false ≡ stands_between front text from to cs
+stands_as front text from to cs old new read is =
+    ap (λ (new : Option Syntax). option_map_or (agrees_after (1 + length front) from cs old) new false) is
+    ∙ ap (λ (o : Option Syntax). option_map_or (λ old. option_map_or (agrees_after (1 + length front) from cs old) (expression_of front (replaced text from to cs)) false) o false)
+    (sym read)
+
+-- ** What is made.
+
+pub none_fitted : (front text : List ℕ) (from to : ℕ) → fitted_between front text from to [] ≡ []
+unfolding fitted_between
+none_fitted front text from to = refl
+
+-- what is held, without changes
+pub empty_held : (w : Workspace) (front : List ℕ) (range : FileRange) (o : Option FileRange) (list : List Rewrite) → o ≡ Some range → length list ≡ 0
+    → slice_range (text_around w range) range.range.start range.range.end ≡ held_text w front (option_map file_span_of o) list
+empty_held w front range o [] is h =
+    ap (replaced (text_around w range) range.range.start range.range.end) (sym (none_fitted front (text_around w range) range.range.start range.range.end))
+    ∙ ap (λ (o : Option FileRange). held_text w front (option_map file_span_of o) []) (sym is)
+empty_held w front range o (r ∷ rs) is h = absurd (omega arith)
+
+pub alone_fitted : (front text : List ℕ) (from to : ℕ) (cs : List Change) → is_alone front from to cs ≡ true → fitted_between front text from to cs ≡ cs
+unfolding fitted_between
+alone_fitted front text from to cs whole = ap (λ b. if b then cs else all_fitted (stands_between front text from to) cs) whole
+
+pub standing_fitted : (front text : List ℕ) (from to : ℕ) (cs : List Change) → is_alone front from to cs ≡ false → stands_between front text from to cs ≡ true
+    → fitted_between front text from to cs ≡ cs
+unfolding fitted_between
+standing_fitted front text from to cs whole stand =
+    ap (λ b. if b then cs else all_fitted (stands_between front text from to) cs) whole
+    ∙ ap (λ b. if b then cs else map (fitted_alone (stands_between front text from to)) cs) stand
+
+pub each_fitted : (front text : List ℕ) (from to : ℕ) (cs : List Change) → is_alone front from to cs ≡ false → stands_between front text from to cs ≡ false
+    → fitted_between front text from to cs ≡ map (fitted_alone (stands_between front text from to)) cs
+unfolding fitted_between
+each_fitted front text from to cs whole fall =
+    ap (λ b. if b then cs else all_fitted (stands_between front text from to) cs) whole
+    ∙ ap (λ b. if b then cs else map (fitted_alone (stands_between front text from to)) cs) fall
+
+-- where nothing stands, all changes stay as they are
+none_stand : (stands : List Change → Bool) (cs : List Change) → ((cs : List Change) → stands cs ≡ false) → map (fitted_alone stands) cs ≡ cs
+none_stand stands [] none = refl
+none_stand stands (c ∷ cs) none =
+    ap (λ b. (if b then fitted stands c else c) ∷ map (fitted_alone stands) cs) (none (fitted stands c ∷ []))
+    ∙ ap (λ (cs : List Change). c ∷ cs) (none_stand stands cs none)
+
+pub unread_fitted : (front text : List ℕ) (from to : ℕ) (cs : List Change) → is_alone front from to cs ≡ false → expression_of front (slice_range text from to) ≡ None
+    → fitted_between front text from to cs ≡ cs
+unread_fitted front text from to cs whole unread =
+    each_fitted front text from to cs whole (fall cs) ∙ none_stand (stands_between front text from to) cs fall
+  where
+    fall : (cs : List Change) → stands_between front text from to cs ≡ false
+    fall cs = ap (λ (old : Option Syntax). option_map_or (λ old. option_map_or (agrees_after (1 + length front) from cs old) (expression_of front (replaced text from to cs)) false) old false) unread
+
+-- ** One change alone.
+
+pub stays : (stands : List Change → Bool) (c : Change) → stands (c ∷ []) ≡ true → fitted_alone stands c ≡ c
+stays stands c is =
+    let same : fitted stands c ≡ c = ap (λ b. if b then c else in_parentheses c) is in
+    ap (λ (d : Change). if stands (d ∷ []) then d else c) same ∙ ap (λ b. if b then c else c) is
+
+module _ (stands : List Change → Bool) (c : Change) (fall : stands (c ∷ []) ≡ false) where
+  in_them : fitted stands c ≡ in_parentheses c
+  in_them = ap (λ b. if b then c else in_parentheses c) fall
+
+  pub closed : stands (in_parentheses c ∷ []) ≡ true → fitted_alone stands c ≡ in_parentheses c
+  closed is = ap (λ (d : Change). if stands (d ∷ []) then d else c) in_them ∙ ap (λ b. if b then in_parentheses c else c) is
+
+  pub stays_open : stands (in_parentheses c ∷ []) ≡ false → fitted_alone stands c ≡ c
+  stays_open is = ap (λ (d : Change). if stands (d ∷ []) then d else c) in_them ∙ ap (λ b. if b then in_parentheses c else c) is
+
+-- ** Whether nothing stands around changes.
+
+pub many_alone : (front : List ℕ) (from to : ℕ) (cs : List Change) → 1 < length cs → is_alone front from to cs ≡ false
+many_alone front from to [] h = absurd (omega arith)
+many_alone front from to (c ∷ []) h = absurd (omega arith)
+many_alone front from to (c ∷ d ∷ cs) h = refl
+
+pub one_alone : (front : List ℕ) (from to : ℕ) (pairs : List (TextRange × String Global)) (pair : TextRange × String Global) → length pairs ≤ 1
+    → slice_get pairs 0 ≡ Some pair → is_alone front from to (changes_of pairs) ≡ (length front == 0 && (pair.0.start == from && pair.0.end == to))
+one_alone front from to [] pair h e = absurd (cc e)
+one_alone front from to (p ∷ []) pair h e =
+    ap (λ (q : TextRange × String Global). length front == 0 && (q.0.start == from && q.0.end == to)) (same_Some p pair e)
+one_alone front from to (p ∷ q ∷ ps) pair h e = absurd (omega arith)
+
+pub none_alone : (front : List ℕ) (from to : ℕ) (pairs : List (TextRange × String Global)) → slice_get pairs 0 ≡ None → is_alone front from to (changes_of pairs) ≡ true
+none_alone front from to [] e = refl
+none_alone front from to (p ∷ ps) e = absurd (cc e)

@@ -1,0 +1,60 @@
+use Rattle.std.proofs.Common.{◌≡◌, ◌∙◌, ◌+◌, ◌<◌, ◌^◌, List, ℕ, ap, length, map, subst, sym, arith}
+use Rattle.std.specs.Prelude.{IfSome, Option, Some, None}
+use Rattle.ssr_syntax_tree.specs.Syntax.{Syntax}
+use Rattle.ssr_base_trees.specs.Applied.{changes_of}
+use Rattle.ssr_base_trees.specs.Changes.{Change, replaced}
+use Rattle.ssr_base_trees.specs.Origins.{Span, span_of}
+use Rattle.ssr_standing.specs.Around.{agree}
+use Rattle.ssr_standing.specs.Ranges.{new_places, old_places}
+use Rattle.ssr_standing.proofs.Shared.{if_ok_same, part_short}
+use Rattle.ide_ssr_rewriting.specs.Fitting.{expression_of}
+use Rattle.ide_ssr_rewriting.specs.Private.Fitting.{stands_in, text_around}
+use Rattle.ide_ssr_rewriting.proofs.Fittings.{begin_in, in_file, old_short, stands_as}
+use Rattle.ide_ssr_rewriting.proofs.fitting.Part.stands.Goals as goal
+
+pub replaced-requires-clause-changes : goal.replaced-requires-clause-changes
+replaced-requires-clause-changes c = in_file c.args.self.now.workspace.now c.args.self.now.range (changes_of c.args.changes.now) c.requires
+
+pub old_ranges_from-requires : goal.old_ranges_from-requires
+old_ranges_from-requires c =
+    let part = c.args.self.now in
+    old_short part.workspace.now part.range (changes_of c.args.changes.now) c.requires part.ends (1 + length part.front.now) (omega (arith, part.short))
+
+pub new_ranges_from-requires : goal.new_ranges_from-requires
+new_ranges_from-requires c =
+    let part = c.args.self.now in
+    let cs : List Change = changes_of c.args.changes.now in
+    let text : List ℕ = text_around part.workspace.now part.range in
+    let made : c.as_str.result.now ≡ replaced text part.range.range.start part.range.range.end cs = c.as_str.ensures.value ∙ c.in_ok-text.ensures in
+    let short : 2 + length part.front.now + length c.as_str.result.now < 2 ^ 32 =
+    subst (λ (o : Option Syntax). IfSome o (λ _. 2 + length part.front.now + length c.as_str.result.now < 2 ^ 32)) c.in-Some.is c.in_ok-read.ensures.short in
+    part_short text (1 + length part.front.now) part.range.range.start part.range.range.end cs (begin_in part.workspace.now part.range cs c.requires)
+    (omega (arith, ap length made, short))
+
+pub returns-in_default : goal.returns-in_default
+returns-in_default c =
+    let part = c.args.self.now in
+    let cs : List Change = changes_of c.args.changes.now in
+    let text : List ℕ = text_around part.workspace.now part.range in
+    let made : c.as_str.result.now ≡ replaced text part.range.range.start part.range.range.end cs = c.as_str.ensures.value ∙ c.in_ok-text.ensures in
+    stands_as part.front.now text part.range.range.start part.range.range.end cs part.tree None part.read
+    (sym c.in_default.is ∙ c.in_ok-read.ensures.tree ∙ ap (expression_of part.front.now) made)
+
+pub returns : goal.returns
+returns c =
+    let part = c.args.self.now in
+    let cs : List Change = changes_of c.args.changes.now in
+    let text : List ℕ = text_around part.workspace.now part.range in
+    let from : ℕ = part.range.range.start in
+    let at : ℕ = 1 + length part.front.now in
+    let made : c.as_str.result.now ≡ replaced text from part.range.range.end cs = c.as_str.ensures.value ∙ c.in_ok-text.ensures in
+    let olds : map span_of c.deref.result.now ≡ old_places at from cs =
+    ap (map span_of) c.deref.ensures.value ∙ c.in_ok-olds.ensures in
+    let news : map span_of c.deref-2.result.now ≡ new_places at from cs =
+    ap (map span_of) c.deref-2.ensures.value ∙ c.in_ok-news.ensures in
+    if_ok_same c.agree.result (agree part.tree (map span_of c.deref.result.now) c.in-Some.new (map span_of c.deref-2.result.now))
+    (stands_in part.workspace.now part.front.now part.range cs) c.agree.ensures.value
+    (ap (λ (places : List Span). agree part.tree places c.in-Some.new (map span_of c.deref-2.result.now)) olds
+    ∙ ap (λ (places : List Span). agree part.tree (old_places at from cs) c.in-Some.new places) news
+    ∙ stands_as part.front.now text from part.range.range.end cs part.tree (Some c.in-Some.new) part.read
+    (sym c.in-Some.is ∙ c.in_ok-read.ensures.tree ∙ ap (expression_of part.front.now) made))

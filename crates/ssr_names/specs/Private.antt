@@ -1,0 +1,3 @@
+-- Words of how private fields are seen. No public clause cites them.
+pub mod Complete
+pub mod Scopes

@@ -1,0 +1,132 @@
+//! Paths of the code as they are spelled.
+ghost use Rattle.ssr_syntax_tree.specs.Places.{HasNode};
+
+use ide_ssr_resolved_rule::{first_child, last_segment};
+use ssr_names_items::{Name, Names, Start};
+use ssr_syntax_kinds::SyntaxKind;
+use ssr_syntax_tree::{NodeNo, TokenNo, Tree};
+use std::alloc::{AllocError, Global};
+
+/// How deep paths are read.
+const MOST_SEGMENTS: u32 = 1024;
+
+/// What a segment of a path is.
+#[derive(Clone, Copy, PartialEq, Eq)]
+enum Segment {
+    Name(Name),
+    Crate,
+    SelfWord,
+    Super,
+    /// A type in angle brackets, or what can't stand there.
+    Other,
+}
+
+/// A path as it is spelled: how it begins, and the names behind that.
+#[derive(Debug, Drop)]
+pub(crate) struct CodePath {
+    pub(crate) start: Start,
+    pub(crate) names: Vec<Name>,
+}
+
+/// The name of a path's last segment.
+pub(crate) fn last_text(tree: &Tree, path: NodeNo) -> Option<&str>
+    requires { HasNode tree.now path.0 }
+{
+    let segment = last_segment(tree, path)?;
+    let name = first_child(tree, segment, SyntaxKind::NAME_REF)?;
+    Some(tree.text(name))
+}
+
+/// What a path's last segment is. A name that nothing of the run has is as good as any other such name.
+fn segment_of(tree: &Tree, path: NodeNo, names: &Names, stranger: Name) -> Segment
+    requires { HasNode tree.now path.0 }
+{
+    match last_text(tree, path) {
+        Some("crate") => Segment::Crate,
+        Some("self") => Segment::SelfWord,
+        Some("super") => Segment::Super,
+        Some(text) => Segment::Name(names.number(text).unwrap_or(stranger)),
+        None => Segment::Other,
+    }
+}
+
+/// Whether `::` stands at the beginning of a segment.
+fn begins_with_colons(tree: &Tree, path: NodeNo) -> bool
+    requires { HasNode tree.now path.0 }
+{
+    let tokens = tree.tokens_below(path);
+    tokens.start < tokens.end
+        && tree
+            .token_kind(TokenNo(tokens.start))
+            .is(SyntaxKind::COLON2)
+}
+
+/// The segments of a path from the last one on, and whether `::` stands in front of the first.
+fn segments(
+    alloc: Global,
+    tree: &Tree,
+    path: NodeNo,
+    names: &Names,
+    stranger: Name,
+) -> Result<Vec<Segment>, AllocError>
+    requires { HasNode tree.now path.0 }
+{
+    let mut found = Vec::new(alloc);
+    let mut at = path;
+    for _ in 0..MOST_SEGMENTS {
+        found.push(segment_of(tree, at, names, stranger))?;
+        match first_child(tree, at, SyntaxKind::PATH) {
+            Some(front) => at = front,
+            None => return Ok(found),
+        }
+    }
+    found.clear();
+    Ok(found)
+}
+
+/// How a path begins, where one more segment follows; none, where that can't be.
+fn continued(start: Start, segment: Segment) -> Option<Start> {
+    match (start, segment) {
+        (Start::Plain, Segment::Crate) => Some(Start::Crate),
+        (Start::Plain, Segment::SelfWord) => Some(Start::SelfModule),
+        (Start::Plain | Start::SelfModule, Segment::Super) => Some(Start::Super(1)),
+        (Start::Super(count), Segment::Super) => Some(Start::Super(count.saturating_add(1))),
+        _ => None,
+    }
+}
+
+/// A path as it is spelled; none, where it has a type in angle brackets.
+pub(crate) fn code_path(
+    alloc: Global,
+    tree: &Tree,
+    path: NodeNo,
+    names: &Names,
+    stranger: Name,
+) -> Result<Option<CodePath>, AllocError>
+    requires { HasNode tree.now path.0 }
+{
+    let mut spelled = segments(alloc, tree, path, names, stranger)?;
+    spelled.reverse();
+    let mut read = CodePath {
+        start: if begins_with_colons(tree, path) {
+            Start::Global
+        } else {
+            Start::Plain
+        },
+        names: Vec::with_capacity(alloc, spelled.len())?,
+    };
+    for segment in &spelled {
+        if let Segment::Name(name) = segment {
+            read.names.push(*name)?;
+            continue;
+        }
+        if !read.names.is_empty() {
+            return Ok(None);
+        }
+        let Some(start) = continued(read.start, *segment) else {
+            return Ok(None);
+        };
+        read.start = start;
+    }
+    Ok(Some(read))
+}

@@ -1,0 +1,219 @@
+//! What the names of macros stand for.
+
+use crate::definitions::{Definition, Meaning};
+use crate::lookup::{PathAnswer, PathQuestion};
+use crate::outside::OutsidePaths;
+use crate::space::{Space, known_all};
+use crate::std_names::{has_no_std_macros, is_std_macro};
+use ssr_base_trees::NodeId;
+use ssr_names_items::{ItemNo, ModuleNo, Name, Namespace, Start, Thing};
+use std::alloc::{AllocError, Global};
+
+/// The macros of a run with a name.
+#[derive(Clone, Copy)]
+enum OwnMacros {
+    None,
+    One(ItemNo),
+    Several,
+}
+
+impl<'a> Space<'a> {
+    /// The macros of the run with a name.
+    fn own_macros(&self, name: Name) -> OwnMacros {
+        match known_all(&self.macros, name) {
+            [] => OwnMacros::None,
+            [known] => match known.definition {
+                Definition::Item(item) => OwnMacros::One(item),
+                _ => OwnMacros::Several,
+            },
+            _ => OwnMacros::Several,
+        }
+    }
+
+    /// Whether some import brings in this name.
+    fn is_brought_in(&self, name: Name) -> bool {
+        self.brought_in.binary_search(&name).is_ok()
+    }
+
+    /// A macro of a crate that isn't read.
+    fn crate_macro(
+        &self,
+        outside: &mut OutsidePaths,
+        of: Option<Definition>,
+        name: Name,
+    ) -> Result<Meaning, AllocError> {
+        let Some(Definition::Outside(root)) = of else {
+            return Ok(Meaning::Unknown);
+        };
+        let number = outside.child(Some(root), name)?;
+        Ok(Meaning::One(Definition::Outside(number)))
+    }
+
+    /// Whether no crate of which `#[macro_use]` brings in the macros has one that the standard library has too: it would hide
+    /// that.
+    fn are_std_macros_seen(&self) -> bool {
+        self.table
+            .macro_crates
+            .iter()
+            .all(|name| has_no_std_macros(self.text(*name)))
+    }
+
+    /// What a macro's name stands for that no file defines or brings in.
+    fn foreign_macro(&self, outside: &mut OutsidePaths, name: Name) -> Result<Meaning, AllocError> {
+        if is_std_macro(self.text(name)) {
+            if !self.are_std_macros_seen() {
+                return Ok(Meaning::Unknown);
+            }
+            return self.crate_macro(outside, Some(Definition::Outside(self.std)), name);
+        }
+        match self.table.macro_crates.as_slice() {
+            [only] => self.crate_macro(outside, self.crate_named(*only), name),
+            _ => Ok(Meaning::Unknown),
+        }
+    }
+
+    /// What a macro's name alone stands for in a module.
+    fn macro_named(
+        &self,
+        alloc: Global,
+        outside: &mut OutsidePaths,
+        path: PathQuestion<'_>,
+        name: Name,
+    ) -> Result<Meaning, AllocError> {
+        if self.may_be_declared(path.module, name) {
+            return Ok(Meaning::Unknown);
+        }
+        match self.own_macros(name) {
+            OwnMacros::None => {
+                let answer = self.path(alloc, outside, path)?;
+                if self.is_brought_in(name) {
+                    return Ok(self.imported_macro(outside, answer.meaning, name));
+                }
+                // A glob beats what comes with the language. What is found for sure of a glob needs not be a macro.
+                match answer.meaning {
+                    Meaning::Unknown => Ok(Meaning::Unknown),
+                    _ => self.foreign_macro(outside, name),
+                }
+            }
+            OwnMacros::One(item) if !self.is_brought_in(name) => {
+                Ok(self.one_macro(item, path.module))
+            }
+            _ => Ok(Meaning::Unknown),
+        }
+    }
+
+    /// Whether what isn't read may declare a macro of this name in a module or above it: macros are seen in the modules below.
+    fn may_be_declared(&self, module: ModuleNo, name: Name) -> bool {
+        let mut at = module;
+        for _ in 0..self.table.modules.len() {
+            let Some(row) = self.module(at) else {
+                return true;
+            };
+            if row.is_open || self.has_unknown_macro(at, name) {
+                return true;
+            }
+            match row.parent {
+                Some(parent) => at = parent,
+                None => return false,
+            }
+        }
+        false
+    }
+
+    /// Whether a module may have a macro of this name that isn't read.
+    fn has_unknown_macro(&self, module: ModuleNo, name: Name) -> bool {
+        self.entries(module, name, Namespace::Macro)
+            .iter()
+            .any(|entry| entry.thing == Thing::Unknown)
+    }
+
+    /// What a macro's name stands for that some import brings in: an import of another crate's function or module brings in no
+    /// macro, and leaves the standard library's.
+    fn imported_macro(&self, outside: &OutsidePaths, meaning: Meaning, name: Name) -> Meaning {
+        match meaning {
+            Meaning::One(definition)
+                if is_std_macro(self.text(name)) && !self.is_of_std(outside, definition) => {
+                Meaning::Unknown
+            }
+            _ => known(meaning),
+        }
+    }
+
+    /// Whether a definition has a path of two names that begins with the standard library.
+    fn is_of_std(&self, outside: &OutsidePaths, definition: Definition) -> bool {
+        match definition {
+            Definition::Outside(path) => match outside.path(path) {
+                Some(row) => row.parent == Some(self.std),
+                None => false,
+            },
+            _ => false,
+        }
+    }
+
+    /// What the name of a macro of the run stands for in a module, where there is only that one: it is seen in its own module
+    /// and below.
+    fn one_macro(&self, item: ItemNo, module: ModuleNo) -> Meaning {
+        match self.item(item) {
+            Some(row) if self.is_within(module, row.module) => {
+                Meaning::One(Definition::Item(item))
+            }
+            _ => Meaning::Unknown,
+        }
+    }
+
+    /// What a macro's name stands for where a node is, if it stands for this in the module: a macro of the run isn't seen in front of
+    /// its own item, and where the standard library has one of its name that is seen there.
+    pub(crate) fn macro_at(&self, node: NodeId, meaning: Meaning) -> Meaning {
+        let Meaning::One(Definition::Item(item)) = meaning else {
+            return meaning;
+        };
+        match self.item(item) {
+            Some(row) if !is_std_macro(self.text(row.name)) => meaning,
+            Some(row) if row.node.tree == node.tree && row.node < node => meaning,
+            _ => Meaning::Unknown,
+        }
+    }
+
+    /// What a path stands for: the name of a macro alone is looked up otherwise than others, and a module where a type is wanted
+    /// is the builtin type of its name.
+    pub(crate) fn whole_path(
+        &self,
+        alloc: Global,
+        outside: &mut OutsidePaths,
+        path: PathQuestion<'_>,
+    ) -> Result<PathAnswer, AllocError> {
+        if let (Start::Plain, Namespace::Macro, [name]) = (path.start, path.namespace, path.names) {
+            return Ok(PathAnswer {
+                meaning: self.macro_named(alloc, outside, path, *name)?,
+                name: Some(*name),
+            });
+        }
+        let answer = self.path(alloc, outside, path)?;
+        if path.namespace != Namespace::Type {
+            return Ok(answer);
+        }
+        Ok(PathAnswer {
+            meaning: self.as_type(outside, answer.meaning),
+            ..answer
+        })
+    }
+
+    /// What stands for a type where a definition does.
+    pub(crate) fn as_type(&self, outside: &OutsidePaths, meaning: Meaning) -> Meaning {
+        match meaning {
+            Meaning::One(Definition::Outside(path)) => match self.type_of_module(outside, path) {
+                Some(builtin) => Meaning::One(Definition::Outside(builtin)),
+                None => meaning,
+            },
+            _ => meaning,
+        }
+    }
+}
+
+/// A meaning that is there: what is found nowhere is unknown.
+fn known(meaning: Meaning) -> Meaning {
+    match meaning {
+        Meaning::Nothing => Meaning::Unknown,
+        _ => meaning,
+    }
+}

@@ -1,0 +1,320 @@
+//! The provider of a run, read of its sources.
+
+use crate::definitions::Meaning;
+use crate::imports::settle;
+use crate::no_std::roots_without_std;
+use crate::outside::OutsidePaths;
+use crate::preparing::add_std_names;
+use crate::printed::Printer;
+use crate::provider::{Names, PrintedKey, Undecided};
+use crate::resolving::{BoundIn, ImplType, Resolver, Row, by_nodes};
+use crate::rule_paths::{RulePath, add_names};
+use crate::scopes::Scopes;
+use crate::space::Space;
+use crate::types::{Source, add_inherent, follow_aliases, is_alias};
+use crate::wanted::Wanted;
+use crate::words::{Word, Words};
+use ssr_base_trees::{NodeId, Res, ScopeId, Trees};
+use ssr_names_items::{ModuleNo, Name, Table};
+use std::alloc::{AllocError, Global};
+use std::collections::BTreeMap;
+
+/// Names that stand for themselves.
+#[derive(Clone, Copy)]
+struct Special {
+    /// A name that nothing of the run has.
+    stranger: Name,
+    self_type: Name,
+    core: Name,
+}
+
+/// What paths of the code stand for, as rows of a provider.
+#[derive(Drop)]
+struct PathRows {
+    known: BTreeMap<NodeId, Res>,
+    believed: BTreeMap<NodeId, Res>,
+    undecided: Vec<Undecided>,
+}
+
+/// Adds the names of crates, of rules and of the standard library, so that they have numbers.
+fn add_all_names(
+    alloc: Global,
+    table: &mut Table,
+    crates: &[String],
+    rules: &[RulePath],
+) -> Result<Vec<Name>, AllocError> {
+    let mut manifests = Vec::with_capacity(alloc, crates.len())?;
+    for name in crates {
+        manifests.push(table.names.add(name.as_str())?)?;
+    }
+    for path in rules {
+        add_names(&mut table.names, path)?;
+    }
+    add_std_names(&mut table.names)?;
+    for name in ["std", "core", "alloc"] {
+        manifests.push(table.names.add(name)?)?;
+    }
+    Ok(manifests)
+}
+
+/// The names that stand for themselves.
+fn special_names(table: &mut Table) -> Result<Special, AllocError> {
+    Ok(Special {
+        stranger: table.names.add("?")?,
+        self_type: table.names.add("Self")?,
+        core: table.names.add("core")?,
+    })
+}
+
+/// Finds what imports, aliases and types of `impl`s stand for.
+fn settle_all(
+    source: &Source<'_>,
+    space: &mut Space<'_>,
+    outside: &mut OutsidePaths,
+) -> Result<Vec<ImplType>, AllocError> {
+    let unsure = source.unsure_variants(space)?;
+    space.unsure_variants = unsure;
+    settle(source.alloc, space, outside)?;
+    let aliases = source.aliases(space, outside)?;
+    space.aliases = aliases;
+    follow_aliases(space);
+    let types = source.impl_types(space, outside)?;
+    space.impl_types = types;
+    add_inherent(space)?;
+    by_nodes(source.alloc, &space.table.impls, &space.impl_types)
+}
+
+/// What the paths of rules stand for where they are looked up.
+fn all_wanted(
+    alloc: Global,
+    space: &Space<'_>,
+    outside: &mut OutsidePaths,
+    scope: Option<ScopeId>,
+    rules: &[RulePath],
+    self_type: Name,
+) -> Result<Wanted, AllocError> {
+    let mut wanted = Wanted::new(alloc);
+    let Some(scope) = scope else {
+        return Ok(wanted);
+    };
+    for path in rules {
+        wanted.add_path(space, outside, scope, path)?;
+    }
+    wanted.add_aliases(space)?;
+    wanted.add_type_aliases(space)?;
+    wanted.add_doubtful_aliases(space)?;
+    wanted.add_ways(space)?;
+    wanted.add_self(self_type)?;
+    wanted.add_types(space, outside)?;
+    Ok(wanted)
+}
+
+/// Adds what a path stands for to the rows of a provider.
+fn add_row(
+    alloc: Global,
+    space: &Space<'_>,
+    wanted: &Wanted,
+    row: Row,
+    rows: &mut PathRows,
+) -> Result<(), AllocError> {
+    let Meaning::One(definition) = row.meaning else {
+        return add_undecided(alloc, space, wanted, row, rows);
+    };
+    if let Some(number) = wanted.number(definition) {
+        rows.known.insert(row.node, Res::Def(number))?;
+        rows.believed.insert(row.node, Res::Def(number))?;
+        return Ok(());
+    }
+    // What an alias has behind it may be that of a type with arguments of its own.
+    if row.is_front && is_alias(space, row.meaning) {
+        return add_undecided(alloc, space, wanted, row, rows);
+    }
+    Ok(())
+}
+
+/// Adds a path of which it isn't known what it stands for. Since the code compiles, one that is found nowhere isn't known either.
+fn add_undecided(
+    alloc: Global,
+    space: &Space<'_>,
+    wanted: &Wanted,
+    row: Row,
+    rows: &mut PathRows,
+) -> Result<(), AllocError> {
+    if let Some(number) = wanted.believed_at(row.word, row.namespace) {
+        rows.believed.insert(row.node, Res::Def(number))?;
+        rows.undecided.push(Undecided {
+            path: row.node,
+            name: String::from_str(alloc, space.text(row.name))?,
+        })?;
+    }
+    Ok(())
+}
+
+/// What paths of the code stand for, as rows of a provider.
+fn path_rows(
+    alloc: Global,
+    space: &Space<'_>,
+    wanted: &Wanted,
+    found: &[Row],
+) -> Result<PathRows, AllocError> {
+    let mut rows = PathRows {
+        known: BTreeMap::new(alloc),
+        believed: BTreeMap::new(alloc),
+        undecided: Vec::new(alloc),
+    };
+    for row in found {
+        add_row(alloc, space, wanted, *row, &mut rows)?;
+    }
+    Ok(rows)
+}
+
+/// Adds method calls of a name that rules ask for: what they call isn't known.
+fn add_calls(
+    alloc: Global,
+    space: &Space<'_>,
+    wanted: &Wanted,
+    calls: &[Word],
+    rows: &mut PathRows,
+) -> Result<(), AllocError> {
+    for call in calls {
+        if let Some(function) = wanted.called(call.name) {
+            rows.believed.insert(call.node, Res::Def(function))?;
+            rows.undecided.push(Undecided {
+                path: call.node,
+                name: String::from_str(alloc, space.text(call.name))?,
+            })?;
+        }
+    }
+    Ok(())
+}
+
+/// The paths by which a module reaches what is written.
+fn add_printed(
+    printer: &Printer<'_>,
+    outside: &mut OutsidePaths,
+    wanted: &Wanted,
+    scope: ScopeId,
+    printed: &mut BTreeMap<PrintedKey, String>,
+) -> Result<(), AllocError> {
+    for (def, template) in wanted.written.iter() {
+        let key = PrintedKey { scope, def: *def };
+        if let Some(text) = printer.path_from(outside, ModuleNo(scope.0), template)? {
+            printed.insert(key, text)?;
+        }
+    }
+    Ok(())
+}
+
+/// The paths by which all modules reach what is written.
+fn all_printed(
+    printer: &Printer<'_>,
+    outside: &mut OutsidePaths,
+    wanted: &Wanted,
+) -> Result<BTreeMap<PrintedKey, String>, AllocError> {
+    let mut printed = BTreeMap::new(printer.alloc);
+    if wanted.written.is_empty() {
+        return Ok(printed);
+    }
+    for place in 0..printer.space.table.modules.len() {
+        if place <= u32::MAX as usize {
+            let scope = ScopeId(place as u32);
+            add_printed(printer, outside, wanted, scope, &mut printed)?;
+        }
+    }
+    Ok(printed)
+}
+
+/// What the paths of the code stand for that may be what rules ask for, and what functions of modules bind.
+fn found_rows(
+    resolver: Resolver<'_>,
+    outside: &mut OutsidePaths,
+    words: &Words,
+) -> Result<(Vec<Row>, Vec<BoundIn>), AllocError> {
+    let (bound, bound_in) = resolver.bound(outside, &words.binders)?;
+    let rows = Resolver {
+        bound: &bound,
+        ..resolver
+    }
+    .rows(outside, &words.paths)?;
+    Ok((rows, bound_in))
+}
+
+/// The names that the code is searched for.
+fn asked(
+    alloc: Global,
+    space: &Space<'_>,
+    trees: &Trees,
+    wanted: &Wanted,
+) -> Result<Words, AllocError> {
+    let mut words = Words::new(alloc);
+    wanted.ask(space, &mut words)?;
+    words.add_trees(trees)?;
+    Ok(words)
+}
+
+/// What is known of the paths of a run's code that rules ask for. `crates` are the names of the crates that the manifests
+/// name, `rules` the paths of the rules, and these are looked up where the node `position` stands.
+pub fn read_names(
+    alloc: Global,
+    mut table: Table,
+    trees: &Trees,
+    crates: &[String],
+    rules: &[RulePath],
+    position: NodeId,
+) -> Result<Names, AllocError> {
+    let manifests = add_all_names(alloc, &mut table, crates, rules)?;
+    let special = special_names(&mut table)?;
+    let scopes = Scopes::new(alloc, &table, trees)?;
+    let mut outside = OutsidePaths::new(alloc);
+    let mut space = Space::new(alloc, &mut outside, &table, &manifests)?;
+    let source = Source {
+        alloc,
+        trees,
+        stranger: special.stranger,
+    };
+    let impls = settle_all(&source, &mut space, &mut outside)?;
+    let scope = scopes.scope(position);
+    let wanted = all_wanted(alloc, &space, &mut outside, scope, rules, special.self_type)?;
+    let words = asked(alloc, &space, trees, &wanted)?;
+    let resolver = Resolver {
+        source: &source,
+        space: &space,
+        scopes: &scopes,
+        bound: &[],
+        impls: &impls,
+        self_type: special.self_type,
+    };
+    let (found, bound_in) = found_rows(resolver, &mut outside, &words)?;
+    let mut rows = path_rows(alloc, &space, &wanted, &found)?;
+    add_calls(alloc, &space, &wanted, &words.calls, &mut rows)?;
+    let bare_roots = roots_without_std(alloc, &table, trees)?;
+    let printer = Printer {
+        alloc,
+        space: &space,
+        bound_in: &bound_in,
+        bare_roots: &bare_roots,
+        core: special.core,
+    };
+    let printed = all_printed(&printer, &mut outside, &wanted)?;
+    let Wanted {
+        lookups,
+        infos,
+        types,
+        ..
+    } = wanted;
+    let PathRows {
+        known,
+        believed,
+        undecided,
+    } = rows;
+    Ok(Names {
+        scopes,
+        lookups,
+        definitions: infos,
+        known,
+        believed,
+        types,
+        printed,
+        undecided,
+    })
+}

@@ -1,0 +1,266 @@
+//! What types of `impl`s and type aliases stand for.
+ghost use Rattle.ssr_syntax_tree.specs.Places.{HasNode};
+
+use crate::code_paths::code_path;
+use crate::definitions::{Definition, Meaning};
+use crate::lookup::PathQuestion;
+use crate::outside::OutsidePaths;
+use crate::places::{kind_at, place_of};
+use crate::space::{Alias, Member, Space};
+use ide_ssr_resolved_rule::first_child;
+use ssr_base_trees::{NodeId, Trees};
+use ssr_names_items::{ImplNo, Item, ItemKind, ItemNo, ModuleNo, Name, Namespace, Owner, Start};
+use ssr_syntax_kinds::SyntaxKind;
+use ssr_syntax_tree::{Element, NodeNo, TokenNo, Tree};
+use std::alloc::{AllocError, Global};
+
+/// How many aliases of aliases are followed.
+const MOST_ALIASES: u32 = 16;
+
+/// The code that is looked up in.
+#[derive(Clone, Copy)]
+pub(crate) struct Source<'s> {
+    pub(crate) alloc: Global,
+    pub(crate) trees: &'s Trees,
+    /// A name that nothing of the run has.
+    pub(crate) stranger: Name,
+}
+
+/// The path that a type alias is an alias of, if its type is one.
+fn aliased_path(trees: &Trees, item: NodeId) -> Option<NodeId> {
+    if !kind_at(trees, item)?.is(SyntaxKind::TYPE_ALIAS) {
+        return None;
+    }
+    let tree = trees.tree(item.tree)?;
+    if !tree.has(Element::Node(item.node)) {
+        return None;
+    }
+    let ty = first_child(tree, item.node, SyntaxKind::PATH_TYPE)?;
+    let path = first_child(tree, ty, SyntaxKind::PATH)?;
+    Some(NodeId {
+        tree: item.tree,
+        node: path,
+    })
+}
+
+/// Whether an attribute is a condition.
+fn is_condition(tree: &Tree, attribute: NodeNo) -> bool
+    requires { HasNode tree.now attribute.0 }
+{
+    let tokens = tree.tokens_below(attribute);
+    for number in tokens.start..tokens.end {
+        let token = TokenNo(number);
+        if tree.token_kind(token).is(SyntaxKind::IDENT) {
+            return matches!(tree.token_text(token), "cfg" | "cfg_attr" | "rustversion");
+        }
+    }
+    false
+}
+
+impl<'s> Source<'s> {
+    /// What the path of a type stands for that is written in a module.
+    pub(crate) fn type_at(
+        &self,
+        space: &Space<'_>,
+        outside: &mut OutsidePaths,
+        path: NodeId,
+        module: ModuleNo,
+    ) -> Result<Meaning, AllocError> {
+        let Some(tree) = self.trees.tree(path.tree) else {
+            return Ok(Meaning::Unknown);
+        };
+        if !tree.has(Element::Node(path.node)) {
+            return Ok(Meaning::Unknown);
+        }
+        let names = &space.table.names;
+        let Some(read) = code_path(self.alloc, tree, path.node, names, self.stranger)? else {
+            return Ok(Meaning::Unknown);
+        };
+        if self.begins_with_parameter(space, path, read.start, &read.names) {
+            return Ok(Meaning::Unknown);
+        }
+        let question = PathQuestion {
+            start: read.start,
+            names: &read.names,
+            namespace: Namespace::Type,
+            module,
+            import: None,
+        };
+        let answer = space.whole_path(self.alloc, outside, question)?;
+        Ok(answer.meaning)
+    }
+
+    /// Whether the first name of a path is that of a generic parameter there.
+    fn begins_with_parameter(
+        &self,
+        space: &Space<'_>,
+        path: NodeId,
+        start: Start,
+        names: &[Name],
+    ) -> bool {
+        match names.first() {
+            Some(first) if start == Start::Plain => {
+                place_of(self.trees, path, space.text(*first)).is_generic
+            }
+            _ => false,
+        }
+    }
+
+    /// Whether a variant isn't there in each configuration.
+    fn is_conditional(&self, node: NodeId) -> bool {
+        let Some(tree) = self.trees.tree(node.tree) else {
+            return false;
+        };
+        if !tree.has(Element::Node(node.node)) {
+            return false;
+        }
+        for child in tree.children(node.node) {
+            if tree.has(child)
+                && let Element::Node(attribute) = child
+                && tree.kind(attribute).is(SyntaxKind::ATTR)
+                && is_condition(tree, attribute)
+            {
+                return true;
+            }
+        }
+        false
+    }
+
+    /// The variants that aren't there in each configuration, sorted.
+    pub(crate) fn unsure_variants(&self, space: &Space<'_>) -> Result<Vec<ItemNo>, AllocError> {
+        let mut unsure = Vec::new(self.alloc);
+        for (place, item) in space.table.items.iter().enumerate() {
+            if item.kind == ItemKind::Variant
+                && place <= u32::MAX as usize
+                && self.is_conditional(item.node)
+            {
+                unsure.push(space.first_item(ItemNo(place as u32)))?;
+            }
+        }
+        unsure.sort()?;
+        Ok(unsure)
+    }
+
+    /// What type aliases are aliases of.
+    pub(crate) fn aliases(
+        &self,
+        space: &Space<'_>,
+        outside: &mut OutsidePaths,
+    ) -> Result<Vec<Alias>, AllocError> {
+        let mut aliases = Vec::new(self.alloc);
+        for (place, item) in space.table.items.iter().enumerate() {
+            if item.kind == ItemKind::TypeAlias
+                && item.owner == Owner::Module
+                && place <= u32::MAX as usize
+            {
+                aliases.push(Alias {
+                    item: ItemNo(place as u32),
+                    meaning: self.alias_at(space, outside, item)?,
+                })?;
+            }
+        }
+        Ok(aliases)
+    }
+
+    /// What a type alias is an alias of.
+    fn alias_at(
+        &self,
+        space: &Space<'_>,
+        outside: &mut OutsidePaths,
+        item: &Item,
+    ) -> Result<Meaning, AllocError> {
+        match aliased_path(self.trees, item.node) {
+            Some(path) => self.type_at(space, outside, path, item.module),
+            None => Ok(Meaning::Unknown),
+        }
+    }
+
+    /// What the type of each `impl` stands for.
+    pub(crate) fn impl_types(
+        &self,
+        space: &Space<'_>,
+        outside: &mut OutsidePaths,
+    ) -> Result<Vec<Meaning>, AllocError> {
+        let mut types = Vec::new(self.alloc);
+        for block in &space.table.impls {
+            let meaning = match block.self_type {
+                Some(path) => self.type_at(space, outside, path, block.module)?,
+                None => Meaning::Unknown,
+            };
+            types.push(followed(space, meaning))?;
+        }
+        Ok(types)
+    }
+}
+
+/// Whether a meaning is a type alias of a module.
+pub(crate) fn is_alias(space: &Space<'_>, meaning: Meaning) -> bool {
+    match meaning {
+        Meaning::One(Definition::Item(item)) => match space.item(item) {
+            Some(row) => row.kind == ItemKind::TypeAlias && row.owner == Owner::Module,
+            None => false,
+        },
+        _ => false,
+    }
+}
+
+/// What a meaning is behind all aliases.
+pub(crate) fn followed(space: &Space<'_>, meaning: Meaning) -> Meaning {
+    let mut at = meaning;
+    for _ in 0..MOST_ALIASES {
+        let Meaning::One(definition) = at else {
+            return at;
+        };
+        let next = space.unaliased(definition);
+        if next == at {
+            return at;
+        }
+        at = next;
+    }
+    Meaning::Unknown
+}
+
+/// Lets each alias be what it is behind all aliases.
+pub(crate) fn follow_aliases(space: &mut Space<'_>) {
+    for place in 0..space.aliases.len() {
+        let Some(alias) = space.aliases.get(place).copied() else {
+            break;
+        };
+        let meaning = followed(space, alias.meaning);
+        if let Some(held) = space.aliases.get_mut(place) {
+            held.meaning = meaning;
+        }
+    }
+}
+
+/// An item of an inherent `impl` as a member of its type.
+fn inherent_member(space: &Space<'_>, item: &Item, place: usize) -> Option<Member> {
+    let Owner::Impl(ImplNo(number)) = item.owner else {
+        return None;
+    };
+    let block = space.table.impls.get(number as usize)?;
+    if block.of_trait || place > u32::MAX as usize {
+        return None;
+    }
+    match space.impl_types.get(number as usize) {
+        Some(Meaning::One(Definition::Item(of))) => Some(Member {
+            of: *of,
+            name: item.name,
+            item: space.first_item(ItemNo(place as u32)),
+        }),
+        _ => None,
+    }
+}
+
+/// Adds the items of inherent `impl`s to the members of their types.
+pub(crate) fn add_inherent(space: &mut Space<'_>) -> Result<(), AllocError> {
+    let table = space.table;
+    for (place, item) in table.items.iter().enumerate() {
+        if let Some(member) = inherent_member(space, item, place) {
+            space.members.push(member)?;
+        }
+    }
+    space.members.sort()?;
+    space.members.dedup();
+    Ok(())
+}

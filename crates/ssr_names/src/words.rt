@@ -1,0 +1,248 @@
+//! Where the code has the names that are asked for.
+ghost use Rattle.ssr_syntax_tree.specs.Places.{HasNode};
+
+use crate::code_paths::last_text;
+use crate::places::bare;
+use crate::std_names::is_std_macro;
+use ide_ssr_resolved_rule::first_child;
+use ssr_base_trees::{NodeId, Trees};
+use ssr_names_items::{Name, Namespace};
+use ssr_syntax_kinds::SyntaxKind;
+use ssr_syntax_tree::{Element, NodeNo, TokenNo, Tree};
+use std::alloc::{AllocError, Global};
+use std::collections::BTreeMap;
+
+/// A node with one of the names that are asked for.
+#[derive(Clone, Copy, Debug)]
+pub(crate) struct Word {
+    pub(crate) node: NodeId,
+    pub(crate) name: Name,
+}
+
+/// A pattern, a generic parameter or an argument of a macro that may bind a name.
+#[derive(Clone, Copy, Debug)]
+pub(crate) struct Binder {
+    pub(crate) node: NodeId,
+    pub(crate) name: Name,
+    /// The namespace in which it binds the name.
+    pub(crate) namespace: Namespace,
+    /// Whether it may be that of a constant, which a name alone in a pattern is compared with.
+    pub(crate) is_plain: bool,
+}
+
+/// Where the code has the names that are asked for.
+#[derive(Drop)]
+pub(crate) struct Words {
+    asked: BTreeMap<String, Name>,
+    /// The names that are asked for as those of generic parameters.
+    parameters: BTreeMap<String, Name>,
+    /// The paths that end in one of them.
+    pub(crate) paths: Vec<Word>,
+    /// The method calls of that name.
+    pub(crate) calls: Vec<Word>,
+    /// What may bind one of them.
+    pub(crate) binders: Vec<Binder>,
+}
+
+/// Whether a call of this macro may bind what its arguments name.
+fn may_bind(tree: &Tree, call: NodeNo) -> bool
+    requires { HasNode tree.now call.0 }
+{
+    let Some(path) = first_child(tree, call, SyntaxKind::PATH) else {
+        return false;
+    };
+    match last_text(tree, path) {
+        Some("matches") => true,
+        Some(name) if is_std_macro(name) => false,
+        _ => is_statement(tree, call),
+    }
+}
+
+/// Whether a macro call is a statement.
+fn is_statement(tree: &Tree, call: NodeNo) -> bool
+    requires { HasNode tree.now call.0 }
+{
+    let Some(parent) = tree.parent(call) else {
+        return false;
+    };
+    if !tree.kind(parent).is(SyntaxKind::MACRO_EXPR) {
+        return true;
+    }
+    match tree.parent(parent) {
+        Some(above) => matches!(
+            tree.kind(above),
+            SyntaxKind::EXPR_STMT | SyntaxKind::STMT_LIST
+        ),
+        None => false,
+    }
+}
+
+/// Whether a node is the arguments of a macro call that may bind what they name.
+fn are_binding_arguments(tree: &Tree, node: NodeNo) -> bool
+    requires { HasNode tree.now node.0 }
+{
+    match tree.parent(node) {
+        Some(parent) => { tree.kind(parent).is(SyntaxKind::MACRO_CALL) && may_bind(tree, parent) }
+        None => false,
+    }
+}
+
+impl Words {
+    pub(crate) fn new(alloc: Global) -> Words {
+        Words {
+            asked: BTreeMap::new(alloc),
+            parameters: BTreeMap::new(alloc),
+            paths: Vec::new(alloc),
+            calls: Vec::new(alloc),
+            binders: Vec::new(alloc),
+        }
+    }
+
+    /// Asks for a name too.
+    pub(crate) fn ask(&mut self, alloc: Global, text: &str, name: Name) -> Result<(), AllocError> {
+        self.asked.insert(String::from_str(alloc, text)?, name)?;
+        Ok(())
+    }
+
+    /// Asks for a name as that of a generic parameter.
+    pub(crate) fn ask_parameter(
+        &mut self,
+        alloc: Global,
+        text: &str,
+        name: Name,
+    ) -> Result<(), AllocError> {
+        self.parameters
+            .insert(String::from_str(alloc, text)?, name)?;
+        Ok(())
+    }
+
+    fn asked(&self, text: &str) -> Option<Name> {
+        self.asked.get(bare(text)).copied()
+    }
+
+    /// Adds a path, if it ends in a name that is asked for.
+    fn add_path(&mut self, tree: &Tree, node: NodeId) -> Result<(), AllocError>
+        requires { HasNode tree.now node.node.0 }
+    {
+        if let Some(text) = last_text(tree, node.node)
+            && let Some(name) = self.asked(text)
+        {
+            self.paths.push(Word { node, name })?;
+        }
+        Ok(())
+    }
+
+    /// Adds a method call, if the method's name is asked for.
+    fn add_call(&mut self, tree: &Tree, node: NodeId) -> Result<(), AllocError>
+        requires { HasNode tree.now node.node.0 }
+    {
+        if let Some(child) = first_child(tree, node.node, SyntaxKind::NAME_REF)
+            && let Some(name) = self.asked(tree.text(child))
+        {
+            self.calls.push(Word { node, name })?;
+        }
+        Ok(())
+    }
+
+    /// Adds a pattern, if its name is asked for.
+    fn add_pattern(&mut self, tree: &Tree, node: NodeId) -> Result<(), AllocError>
+        requires { HasNode tree.now node.node.0 }
+    {
+        if let Some(child) = first_child(tree, node.node, SyntaxKind::NAME)
+            && let Some(name) = self.asked(tree.text(child))
+        {
+            let tokens = tree.tokens_below(node.node);
+            self.binders.push(Binder {
+                node,
+                name,
+                namespace: Namespace::Value,
+                is_plain: tokens.end - tokens.start == 1,
+            })?;
+        }
+        Ok(())
+    }
+
+    /// Adds a generic parameter, if its name is asked for.
+    fn add_parameter(
+        &mut self,
+        tree: &Tree,
+        node: NodeId,
+        namespace: Namespace,
+    ) -> Result<(), AllocError>
+        requires { HasNode tree.now node.node.0 }
+    {
+        if let Some(child) = first_child(tree, node.node, SyntaxKind::NAME)
+            && let Some(name) = self.parameters.get(bare(tree.text(child))).copied()
+        {
+            self.binders.push(Binder {
+                node,
+                name,
+                namespace,
+                is_plain: false,
+            })?;
+        }
+        Ok(())
+    }
+
+    /// Adds the words of a macro's arguments that are asked for: whatever the macro, no pattern binds the name of a constant.
+    fn add_arguments(&mut self, tree: &Tree, node: NodeId) -> Result<(), AllocError>
+        requires { HasNode tree.now node.node.0 }
+    {
+        if !are_binding_arguments(tree, node.node) {
+            return Ok(());
+        }
+        let tokens = tree.tokens_below(node.node);
+        for number in tokens.start..tokens.end {
+            let token = TokenNo(number);
+            if tree.token_kind(token).is(SyntaxKind::IDENT)
+                && let Some(name) = self.asked(tree.token_text(token))
+            {
+                self.binders.push(Binder {
+                    node,
+                    name,
+                    namespace: Namespace::Value,
+                    is_plain: true,
+                })?;
+            }
+        }
+        Ok(())
+    }
+
+    /// Adds what a node has.
+    fn add_node(&mut self, tree: &Tree, node: NodeId) -> Result<(), AllocError>
+        requires { HasNode tree.now node.node.0 }
+    {
+        match tree.kind(node.node) {
+            SyntaxKind::PATH => self.add_path(tree, node),
+            SyntaxKind::METHOD_CALL_EXPR => self.add_call(tree, node),
+            SyntaxKind::IDENT_PAT => self.add_pattern(tree, node),
+            SyntaxKind::TYPE_PARAM => self.add_parameter(tree, node, Namespace::Type),
+            SyntaxKind::CONST_PARAM => self.add_parameter(tree, node, Namespace::Value),
+            SyntaxKind::TOKEN_TREE => self.add_arguments(tree, node),
+            _ => Ok(()),
+        }
+    }
+
+    /// Adds what a tree has.
+    pub(crate) fn add_tree(&mut self, tree: &Tree, number: u32) -> Result<(), AllocError> {
+        for place in 0..tree.node_count() {
+            let node = NodeId {
+                tree: number,
+                node: NodeNo(place),
+            };
+            self.add_node(tree, node)?;
+        }
+        Ok(())
+    }
+
+    /// Adds what all trees have.
+    pub(crate) fn add_trees(&mut self, trees: &Trees) -> Result<(), AllocError> {
+        let count = trees.file_count().saturating_add(trees.expansion_count());
+        for number in 0..count {
+            if let Some(tree) = trees.tree(number) {
+                self.add_tree(tree, number)?;
+            }
+        }
+        Ok(())
+    }
+}

@@ -1,0 +1,16 @@
+-- A change that stands alone, in parentheses where it stands only so.
+use Rattle.std.specs.Prelude.{Bool, if◌then◌else◌, ℕ, List, [], ◌∷◌, ◌++◌, codes}
+use Rattle.ssr_syntax_kinds.specs.declared.range.TextRange.{TextRange}
+use Rattle.ssr_base_trees.specs.Changes.{Change}
+
+-- the change that puts a text in the place of a range
+abbrev pub change_with : TextRange → List ℕ → Change
+change_with range text = record { start = range.start; end = range.end; text = text }
+
+-- a change with its text in parentheses
+abbrev pub in_parentheses : Change → Change
+in_parentheses c = record { start = c.start; end = c.end; text = codes "(" ++ (c.text ++ codes ")") }
+
+-- a change as it is, if it stands alone, else in parentheses
+abbrev pub fitted : (List Change → Bool) → Change → Change
+fitted stands c = if stands (c ∷ []) then c else in_parentheses c
