@@ -296,7 +296,17 @@ fn what_is_set_aside_of_items_is_read(rt: HostRuntime) -> Result<(), Fail> {
         text: "fn f<Job: A, I: B<Item: C>>() {} mod m { #![cfg(a)] fn g() {} }",
         searched: "fn f                       () {} mod m {            fn g() {} }",
     }];
-    let parts = [(4, 27), (41, 42), (42, 43), (43, 44), (44, 47), (47, 48), (48, 49), (49, 50), (50, 51)];
+    let parts = [
+        (4, 27),
+        (41, 42),
+        (42, 43),
+        (43, 44),
+        (44, 47),
+        (47, 48),
+        (48, 49),
+        (49, 50),
+        (50, 51),
+    ];
     let mut aside = Vec::new(alloc);
     for (start, end) in parts {
         aside.push((TextRange::new(start, end), String::new(alloc)))?;
