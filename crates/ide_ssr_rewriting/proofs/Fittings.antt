@@ -11,16 +11,18 @@ use Rattle.std.proofs.lemmas.List.Elements.{All-map, All-weaker}
 use Rattle.ssr_syntax_kinds.specs.declared.range.TextRange.{TextRange}
 use Rattle.ssr_base_trees.specs.declared.ids.FileRange.{FileRange}
 use Rattle.ssr_base_trees.specs.Applied.{change_of, changes_of}
-use Rattle.ssr_base_trees.specs.Changes.{Change, replaced}
+use Rattle.ssr_base_trees.specs.Changes.{Change, ChangesInOrder, replaced}
 use Rattle.ssr_base_trees.proofs.Changes.{change_at}
 use Rattle.ssr_base_trees.specs.Texts.{is_boundary}
 use Rattle.ssr_base_trees.specs.Workspace.{Workspace, file_span_of}
-use Rattle.ssr_standing.specs.Fitted.{fitted, in_parentheses}
+use Rattle.ssr_standing.specs.Expansions.{stands_in}
+use Rattle.ssr_standing.specs.Fitted.{IsFitted, fitted, in_parentheses}
 use Rattle.ssr_standing.specs.Ranges.{IsShort, old_places, place_from}
 use Rattle.ssr_standing.proofs.Shared.{BeginsIn}
-use Rattle.ide_ssr_rewriting.specs.Fitting.{agrees_after, all_fitted, expression_of, fitted_alone, fitted_between, is_alone, stands_between}
+use Rattle.ide_ssr_rewriting.specs.Fitting.{agrees_after, all_fitted, expression_of, fitted_alone, fitted_between, fitted_in, is_alone, stands_between}
 use Rattle.ide_ssr_rewriting.specs.Clashes.{Rewrite}
 use Rattle.ide_ssr_rewriting.specs.Replacements.{held_text}
+use Rattle.ide_ssr_rewriting.specs.Private.Files.{FitsIn}
 use Rattle.ide_ssr_rewriting.specs.Private.Fitting.{ChangeFits, text_around}
 use Rattle.ide_ssr_rewriting.specs.Private.Replacements.{FitsFile}
 
@@ -54,6 +56,61 @@ fits_between front text from to cs all = by (is_alone front from to cs)
     by : (b : Bool) → All (FitsFile text) (if b then cs else all_fitted stands cs)
     by true = all
     by false = or_each (stands cs)
+
+-- ** Changes of a file.
+
+module _ (stands : List Change → Bool) where
+  pub order_alone : (at : ℕ) (cs : List Change) → ChangesInOrder at cs → ChangesInOrder at (map (fitted_alone stands) cs)
+  order_alone at [] order = tt
+  order_alone at (c ∷ cs) order = by (stands (fitted stands c ∷ [])) (stands (c ∷ [])) (order_alone c.end cs order.2)
+    where
+      by : (b d : Bool) → ChangesInOrder c.end (map (fitted_alone stands) cs)
+          → ChangesInOrder at ((if b then (if d then c else in_parentheses c) else c) ∷ map (fitted_alone stands) cs)
+      by true true rest = (order.0, order.1, rest)
+      by true false rest = (order.0, order.1, rest)
+      by false d rest = (order.0, order.1, rest)
+
+  fits_in_alone : (w : Workspace) (file : ℕ) (c : Change) → FitsIn w file c → FitsIn w file (fitted_alone stands c)
+  fits_in_alone w file c fit = by (stands (fitted stands c ∷ [])) (stands (c ∷ []))
+    where
+      by : (b d : Bool) → FitsIn w file (if b then (if d then c else in_parentheses c) else c)
+      by true true = fit
+      by true false = fit
+      by false d = fit
+
+  -- what is told of one change is what is made of it
+  pub as_told : (c : Change) (text : List ℕ) → IsFitted stands c (Some text) → record { start = c.start; end = c.end; text = text } ≡ fitted_alone stands c
+  as_told c text is = sym is.0 ∙ sym (ap (λ b. if b then fitted stands c else c) is.1)
+
+  pub as_it_was : (c : Change) → IsFitted stands c None → c ≡ fitted_alone stands c
+  as_it_was c is = sym (ap (λ b. if b then fitted stands c else c) is)
+
+-- the changes that are made in a file are in order
+pub order_in : (w : Workspace) (file at : ℕ) (cs : List Change) → ChangesInOrder at cs → ChangesInOrder at (fitted_in w file cs)
+unfolding fitted_in
+order_in w file at cs order = by (stands_in w file cs)
+  where
+    by : (b : Bool) → ChangesInOrder at (if b then cs else map (fitted_alone (stands_in w file)) cs)
+    by true = order
+    by false = order_alone (stands_in w file) at cs order
+
+-- and fit it
+pub fits_in_file : (w : Workspace) (file : ℕ) (cs : List Change) → All (FitsIn w file) cs → All (FitsIn w file) (fitted_in w file cs)
+unfolding fitted_in
+fits_in_file w file cs all = by (stands_in w file cs)
+  where
+    by : (b : Bool) → All (FitsIn w file) (if b then cs else map (fitted_alone (stands_in w file)) cs)
+    by true = all
+    by false = All-map (FitsIn w file) (fitted_alone (stands_in w file)) cs (λ k d less. fits_in_alone (stands_in w file) w file (get_or cs k d) (all k d less))
+
+-- they stay as they are, or each is made as it stands alone
+pub all_stay : (w : Workspace) (file : ℕ) (cs : List Change) → stands_in w file cs ≡ true → cs ≡ fitted_in w file cs
+unfolding fitted_in
+all_stay w file cs is = sym (ap (λ b. if b then cs else map (fitted_alone (stands_in w file)) cs) is)
+
+pub each_alone : (w : Workspace) (file : ℕ) (cs : List Change) → stands_in w file cs ≡ false → map (fitted_alone (stands_in w file)) cs ≡ fitted_in w file cs
+unfolding fitted_in
+each_alone w file cs is = sym (ap (λ b. if b then cs else map (fitted_alone (stands_in w file)) cs) is)
 
 -- ** Changes of a range.
 

@@ -1,5 +1,5 @@
 -- The edits of the files, from a list that is in order and has no clash.
-use Rattle.std.proofs.Common.{◌≡◌, ℕ, suc, ◌-◌, ◌<◌, ◌≤◌, ◌==◌, Bool, cond, true, false, inl, inr, ◌⊎◌, List, [], ◌∷◌, ◌++◌, All, get_or, length, map, filter, reverse, Some, refl, sym, ◌∙◌, ap, subst, arith, append-nil, append_assoc}
+use Rattle.std.proofs.Common.{◌≡◌, ℕ, suc, ◌-◌, ◌<◌, ◌≤◌, ◌==◌, Bool, cond, true, false, inl, inr, ◌⊎◌, List, [], ◌∷◌, ◌++◌, All, get_or, length, map, filter, option_map, reverse, Some, refl, sym, ◌∙◌, ap, subst, arith, append-nil, append_assoc}
 use Rattle.std.specs.BTreeMap.{BTreeMap, get, is_at}
 use Rattle.std.specs.Map.{lookup}
 use Rattle.std.specs.Prelude.{if◌then◌else◌}
@@ -10,13 +10,15 @@ use Rattle.std.proofs.lemmas.List.Elements.{All-cons, All-head, All-nil, All-tai
 use Rattle.std.proofs.lemmas.Option.{same_Some}
 use Rattle.ssr_base_trees.specs.declared.ids.FileId.{FileId}
 use Rattle.ssr_base_trees.specs.Changes.{Change, ChangesInOrder}
-use Rattle.ssr_base_trees.specs.Workspace.{FileSpan}
+use Rattle.ssr_base_trees.specs.Workspace.{FileSpan, Workspace}
 use Rattle.ide_ssr_rewriting.specs.Clashes.{Rewrite, Clash, change_of, changes_made, clashes, clashes_with, is_clash, same_range, share_byte}
-use Rattle.ide_ssr_rewriting.specs.Edits.{edit_of, file_cmp, some_changes}
+use Rattle.ide_ssr_rewriting.specs.Edits.{edit_of, file_cmp, made_in, some_changes}
+use Rattle.ide_ssr_rewriting.specs.Fitting.{fitted_in}
 use Rattle.ide_ssr_rewriting.specs.Private.Clashes.{AreInOrder, range_le}
 use Rattle.ide_ssr_rewriting.specs.Private.Groups.{IsGroup, LastElsewhere}
 use Rattle.ide_ssr_rewriting.proofs.FirstClashes.{ComesFirst, InOrder, apart_ranges, comes_first, in_order, less_shared, one_range, pairs, without_second}
 use Rattle.ide_ssr_rewriting.proofs.ChangesMade.{fresh_behind, fresh_from}
+use Rattle.ide_ssr_rewriting.proofs.Fittings.{order_in}
 
 -- ** Lists without a clash.
 
@@ -118,6 +120,10 @@ All-front : {X : Type 0} (P : X → Type 0) (xs ys : List X) → All P (xs ++ ys
 All-front P [] ys h = All-nil P
 All-front P (x ∷ xs) ys h = All-cons P x xs (All-head P x (xs ++ ys) h) (All-front P xs ys (All-tail P x (xs ++ ys) h))
 
+All-back : {X : Type 0} (P : X → Type 0) (xs ys : List X) → All P (xs ++ ys) → All P ys
+All-back P [] ys h = h
+All-back P (x ∷ xs) ys h = All-back P xs ys (All-tail P x (xs ++ ys) h)
+
 order-front : (xs ys : List Rewrite) → InOrder (xs ++ ys) → InOrder xs
 order-front [] ys h = tt
 order-front (x ∷ xs) ys h = (h.0, All-front (λ s. range_le x.range s.range ≡ true) xs ys h.1, order-front xs ys h.2)
@@ -162,15 +168,16 @@ order-filter p (x ∷ xs) order =
     by byte first rest false = rest
 
 -- the changes of a file are in order
-pub edit_ordered : (file : ℕ) (list : List Rewrite) (changes : List Change) → AreInOrder list → clashes list ≡ [] → edit_of file list ≡ Some changes → ChangesInOrder 0 changes
-edit_ordered file list changes order none is =
+pub edit_ordered : (w : Workspace) (file : ℕ) (list : List Rewrite) (changes : List Change) → AreInOrder list → clashes list ≡ [] → edit_of w file list ≡ Some changes
+    → ChangesInOrder 0 changes
+edit_ordered w file list changes order none is =
     let here : Rewrite → Bool = λ r. r.range.file == file in
     some_ordered (changes_made (in_file file list)) is
     (changes_ordered file (in_file file list) (λ i d lt. eqb-true _ file (filter_passes here list i d lt)) (order-filter here list (in_order list order)) (clashes-filter here list none))
   where
-    some_ordered : (cs : List Change) → some_changes cs ≡ Some changes → ChangesInOrder 0 cs → ChangesInOrder 0 changes
+    some_ordered : (cs : List Change) → option_map (fitted_in w file) (some_changes cs) ≡ Some changes → ChangesInOrder 0 cs → ChangesInOrder 0 changes
     some_ordered [] is order = absurd (cc is)
-    some_ordered (c ∷ cs) is order = subst (ChangesInOrder 0) (same_Some (c ∷ cs) changes is) order
+    some_ordered (c ∷ cs) is order = subst (ChangesInOrder 0) (same_Some (fitted_in w file (c ∷ cs)) changes is) (order_in w file 0 (c ∷ cs) order)
 
 -- a list of which the last part is taken, with no file in both parts
 pub record AreSplit (all left done : List Rewrite) : Type 0 where
@@ -260,7 +267,7 @@ pub some_of : (cs ds : List Change) (c : Change) → cs ≡ c ∷ ds → some_ch
 some_of cs ds c e = ap some_changes e ∙ ap (λ (cs : List Change). Some cs) (sym e)
 
 pub edit-here : (all old left done : List Rewrite) (f : ℕ) (g : Rewrite) (gs : List Rewrite) → AreSplit all old done → IsGroup f old left (g ∷ gs) → InOrder all
-    → edit_of f ((g ∷ gs) ++ done) ≡ Some (changes_made (g ∷ gs))
+    → made_in f ((g ∷ gs) ++ done) ≡ Some (changes_made (g ∷ gs))
 edit-here all old left done f g gs split group order =
     ap (λ (rs : List Rewrite). some_changes (changes_made rs))
     (filter-append (λ r. r.range.file == f) (g ∷ gs) done
@@ -269,7 +276,7 @@ edit-here all old left done f g gs split group order =
     ∙ some_of (changes_made (g ∷ gs)) (map change_of (fresh_behind g.range gs)) (change_of g) (ap (map change_of) (fresh_from g gs))
 
 pub edit-elsewhere : (old left done : List Rewrite) (f q : ℕ) (g : Rewrite) (gs : List Rewrite) → IsGroup f old left (g ∷ gs) → (q ≡ f → ⊥)
-    → edit_of q ((g ∷ gs) ++ done) ≡ edit_of q done
+    → made_in q ((g ∷ gs) ++ done) ≡ made_in q done
 edit-elsewhere old left done f q g gs group other =
     ap (λ (rs : List Rewrite). some_changes (changes_made rs))
     (filter-append (λ r. r.range.file == q) (g ∷ gs) done
@@ -296,14 +303,17 @@ some_group f old left [] d is lt last =
     absurd (is.last d (subst (λ (rs : List Rewrite). 0 < length rs) same lt) (subst (λ (rs : List Rewrite). (get_or rs (length rs - 1) d).range.file ≡ f) same last))
 some_group f old left (g ∷ gs) d is lt last = record { first = g; rest = gs; is = refl }
 
+pub grouped_some : (f : ℕ) (old left group : List Rewrite) (d : Rewrite) → IsGroup f old left group → 0 < length old → (get_or old (length old - 1) d).range.file ≡ f → 0 < length group
+grouped_some f old left group d is lt last = let some = some_group f old left group d is lt last in omega (arith, ap length some.is)
+
 -- the edits of the files of what is done
-pub record AreDone (all left : List Rewrite) (edits : BTreeMap FileId (List Change)) : Type 0 where
+pub record AreDone (w : Workspace) (all left : List Rewrite) (edits : BTreeMap FileId (List Change)) : Type 0 where
   pub done : List Rewrite
   pub split : AreSplit all left done
-  pub each : (q : FileId) → get file_cmp edits q ≡ edit_of q.0 done
+  pub each : (q : FileId) → get file_cmp edits q ≡ edit_of w q.0 done
 
-pub done-starts : (all left : List Rewrite) (edits : BTreeMap FileId (List Change)) → left ≡ all → edits.entries ≡ [] → AreDone all left edits
-done-starts all left edits is none = record {
+pub done-starts : (w : Workspace) (all left : List Rewrite) (edits : BTreeMap FileId (List Change)) → left ≡ all → edits.entries ≡ [] → AreDone w all left edits
+done-starts w all left edits is none = record {
   done = [];
   split = record { is = append-nil left ∙ is; apart = λ q. inr refl };
   each = λ q. ap (λ (es : List (FileId × List Change)). lookup (is_at (file_cmp q)) es) none;
@@ -312,11 +322,12 @@ done-starts all left edits is none = record {
 pub same_file : (a b : FileId) → is_at (file_cmp a) b ≡ (b.0 == a.0)
 same_file a b = grind (arith, nat_tests)
 
-pub done-more : (all old left group : List Rewrite) (edits more : BTreeMap FileId (List Change)) (f : FileId) (d : Rewrite) (changes : List Change) → AreDone all old edits → IsGroup f.0 old left group
-    → 0 < length old → (get_or old (length old - 1) d).range.file ≡ f.0 → AreInOrder all → changes ≡ changes_made group
+pub done-more : (w : Workspace) (all old left group : List Rewrite) (edits more : BTreeMap FileId (List Change)) (f : FileId) (d : Rewrite) (changes : List Change)
+    → AreDone w all old edits → IsGroup f.0 old left group
+    → 0 < length old → (get_or old (length old - 1) d).range.file ≡ f.0 → AreInOrder all → changes ≡ fitted_in w f.0 (changes_made group)
     → ((q : FileId) → get file_cmp more q ≡ cond (is_at (file_cmp f) q) (Some changes) (get file_cmp edits q))
-    → AreDone all left more
-done-more all old left group edits more f d changes so_far is lt last order made updates =
+    → AreDone w all left more
+done-more w all old left group edits more f d changes so_far is lt last order made updates =
     let some = some_group f.0 old left group d is lt last in
     let group_is : IsGroup f.0 old left (some.first ∷ some.rest) = subst (IsGroup f.0 old left) some.is is in
     let in_line = in_order all order in
@@ -329,18 +340,18 @@ done-more all old left group edits more f d changes so_far is lt last order made
           ∙ elim (cases_eq q.0 f.0) [
             | inl e ↦
                 ap (λ (b : Bool). cond b (Some changes) (get file_cmp edits q)) (eq-eqb q.0 f.0 e)
-                ∙ (ap (λ (cs : List Change). Some cs) (made ∙ ap changes_made some.is)
-                ∙ (sym (edit-here all old left so_far.done f.0 some.first some.rest so_far.split group_is in_line)
-                ∙ ap (λ (n : ℕ). edit_of n ((some.first ∷ some.rest) ++ so_far.done)) (sym e)))
+                ∙ (ap (λ (cs : List Change). Some cs) (made ∙ ap (λ (rs : List Rewrite). fitted_in w f.0 (changes_made rs)) some.is)
+                ∙ (ap (option_map (fitted_in w f.0)) (sym (edit-here all old left so_far.done f.0 some.first some.rest so_far.split group_is in_line))
+                ∙ ap (λ (n : ℕ). edit_of w n ((some.first ∷ some.rest) ++ so_far.done)) (sym e)))
             | inr other ↦
                 ap (λ (b : Bool). cond b (Some changes) (get file_cmp edits q)) (ne_eqb q.0 f.0 other)
-                ∙ (so_far.each q ∙ sym (edit-elsewhere old left so_far.done f.0 q.0 some.first some.rest group_is other))
+                ∙ (so_far.each q ∙ ap (option_map (fitted_in w q.0)) (sym (edit-elsewhere old left so_far.done f.0 q.0 some.first some.rest group_is other)))
           ]);
     }
 
-pub group_fits : (all old left group : List Rewrite) (edits : BTreeMap FileId (List Change)) (f : ℕ) (changes : List Change) → AreDone all old edits → IsGroup f old left group → AreInOrder all → clashes all ≡ []
-    → changes ≡ changes_made group → ChangesInOrder 0 changes
-group_fits all old left group edits f changes so_far is order none made =
+pub group_fits : (w : Workspace) (all old left group : List Rewrite) (edits : BTreeMap FileId (List Change)) (f : ℕ) (changes : List Change) → AreDone w all old edits → IsGroup f old left group
+    → AreInOrder all → clashes all ≡ [] → changes ≡ changes_made group → ChangesInOrder 0 changes
+group_fits w all old left group edits f changes so_far is order none made =
     subst (ChangesInOrder 0) (sym made) (group_ordered all old left so_far.done f group so_far.split is (in_order all order) none)
 
 pub fewer_left : (old left group : List Rewrite) (f : ℕ) (d : Rewrite) → IsGroup f old left group → 0 < length old → (get_or old (length old - 1) d).range.file ≡ f → length left < length old
@@ -348,9 +359,17 @@ fewer_left old left group f d is lt last =
     let some = some_group f old left group d is lt last in
     omega (arith, ap length is.is, length-append left group, ap length some.is)
 
-pub all_done : (all left : List Rewrite) (edits : BTreeMap FileId (List Change)) → AreDone all left edits → left ≡ [] → (q : FileId) → get file_cmp edits q ≡ edit_of q.0 all
-all_done all left edits done none q =
-    done.each q ∙ ap (edit_of q.0) (ap (λ (rs : List Rewrite). rs ++ done.done) (sym none) ∙ done.split.is)
+-- all of a group is among all
+pub all_grouped : {P : Rewrite → Type 0} (w : Workspace) (all old left group : List Rewrite) (edits : BTreeMap FileId (List Change)) (f : ℕ) → AreDone w all old edits → IsGroup f old left group
+    → All P all → All P group
+all_grouped {P = P} w all old left group edits f so_far is each =
+    let whole : All P (old ++ so_far.done) = subst (All P) (sym so_far.split.is) each in
+    let part : All P (left ++ group) = subst (All P) is.is (All-front P old so_far.done whole) in
+    All-back P left group part
+
+pub all_done : (w : Workspace) (all left : List Rewrite) (edits : BTreeMap FileId (List Change)) → AreDone w all left edits → left ≡ [] → (q : FileId) → get file_cmp edits q ≡ edit_of w q.0 all
+all_done w all left edits done none q =
+    done.each q ∙ ap (edit_of w q.0) (ap (λ (rs : List Rewrite). rs ++ done.done) (sym none) ∙ done.split.is)
 
 -- ** Taking a group.
 

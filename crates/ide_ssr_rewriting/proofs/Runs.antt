@@ -113,13 +113,13 @@ first_of_all kept listing by is stored was first now list run taken told noted =
 
 pub edited : (kept : Kept) (listing : Listing) (by : Writing) → IsNest kept listing → (stored : List (Option (String Global))) (was now : Option Clash) (list : List Rewrite) (edits : BTreeMap FileId (List Change))
     → IsRun kept listing by 0 stored was → list ≡ list_at kept (text_in stored) (listed listing None) → IsFirst (all_clashes kept listing (texts_of kept listing by)) now → now ≡ None
-    → ((file : FileId) → get file_cmp edits file ≡ edit_of file.0 list) → Answers kept listing by (Ok edits)
+    → ((file : FileId) → get file_cmp edits file ≡ edit_of kept.workspace file.0 list) → Answers kept listing by (Ok edits)
 edited kept listing by is stored was now list edits run taken first none each = (
   texts_of kept listing by,
   are_texts kept listing by is,
   (
     subst (IsFirst (all_clashes kept listing (texts_of kept listing by))) none first,
-    λ file. each file ∙ ap (edit_of file.0) (taken ∙ outermost_known kept listing by is stored was run),
+    λ file. each file ∙ ap (edit_of kept.workspace file.0) (taken ∙ outermost_known kept listing by is stored was run),
   ),
 )
 

@@ -1,5 +1,5 @@
 -- There is an answer to kept matches, their lists and by: edits, or the first clash.
-use Rattle.std.proofs.Common.{◌≡◌, ℕ, ◌≤◌, true, cond, inl, inr, List, [], ◌∷◌, ◌++◌, All, map, filter, flat_map, slice_get, Option, Some, None, IsSomeAnd, refl, sym, ◌∙◌, ap, arith, eq-eqb, ne_eqb}
+use Rattle.std.proofs.Common.{◌≡◌, ℕ, ◌≤◌, true, cond, inl, inr, List, [], ◌∷◌, ◌++◌, All, map, filter, flat_map, slice_get, Option, Some, None, option_map, IsSomeAnd, refl, sym, ◌∙◌, ap, arith, eq-eqb, ne_eqb}
 use Rattle.std.specs.BTreeMap.{BTreeMap, get, is_at}
 use Rattle.std.specs.Cmp.{IsTotalOrder}
 use Rattle.std.specs.FinMap.{entries, find, from_entries, get-entries, get-from_entries}
@@ -16,13 +16,14 @@ use Rattle.ssr_syntax_tree.proofs.Lists.{all_at, at_front}
 use Rattle.ssr_base_trees.specs.declared.ids.FileId.{FileId}
 use Rattle.ssr_base_trees.specs.declared.ids.FileRange.{FileRange}
 use Rattle.ssr_base_trees.specs.Changes.{Change}
-use Rattle.ssr_base_trees.specs.Workspace.{FileSpan, original_range, trees}
+use Rattle.ssr_base_trees.specs.Workspace.{FileSpan, Workspace, original_range, trees}
 use Rattle.ide_ssr_bindings.specs.Found.{FoundMatch, HasByte, IsMatch}
 use Rattle.ide_ssr_nesting.specs.Holding.{IsKept, Kept}
 use Rattle.ide_ssr_nesting.specs.Lists.{AreLists, Listing, listed, range_of}
 use Rattle.ide_ssr_rewriting.specs.Clashes.{Rewrite, Clash, IsFirst, changes_made, clash_le, clashes, clashes_with, is_clash, range_key}
 use Rattle.ide_ssr_rewriting.specs.Replacements.{Writing}
 use Rattle.ide_ssr_rewriting.specs.Edits.{Texts, AreTexts, all_clashes, clashes_under, edit_of, file_cmp, list_at, list_under, nowhere, outermost_list, range_at, some_changes}
+use Rattle.ide_ssr_rewriting.specs.Fitting.{fitted_in}
 use Rattle.ide_ssr_rewriting.specs.Laws.{AnswerExists}
 use Rattle.ide_ssr_rewriting.specs.Private.Clashes.{lesser}
 use Rattle.ide_ssr_rewriting.specs.Private.Edits.{texts_of}
@@ -35,11 +36,11 @@ use Rattle.ide_ssr_rewriting.proofs.Texts.{are_texts}
 -- ** Edits.
 
 -- the edit of a rewrite's file, beside the file
-abbrev entry_of : List Rewrite → Rewrite → FileId × List Change
-entry_of all r = (record { 0 = r.range.file }, changes_made (in_file r.range.file all))
+abbrev entry_of : Workspace → List Rewrite → Rewrite → FileId × List Change
+entry_of w all r = (record { 0 = r.range.file }, fitted_in w r.range.file (changes_made (in_file r.range.file all)))
 
-abbrev file_entries : List Rewrite → List Rewrite → List (FileId × List Change)
-file_entries all rs = map (entry_of all) rs
+abbrev file_entries : Workspace → List Rewrite → List Rewrite → List (FileId × List Change)
+file_entries w all rs = map (entry_of w all) rs
 
 file_order : IsTotalOrder file_cmp
 file_order = record {
@@ -48,8 +49,8 @@ file_order = record {
   congr = λ a b c. nat_cmp_total.congr a.0 b.0 c.0;
 }
 
-edits_of : List Rewrite → BTreeMap FileId (List Change)
-edits_of all = btree_map (entries (from_entries {R = file_cmp} (file_entries all all))) (inl tt)
+edits_of : Workspace → List Rewrite → BTreeMap FileId (List Change)
+edits_of w all = btree_map (entries (from_entries {R = file_cmp} (file_entries w all all))) (inl tt)
 
 -- what is looked up is what is found
 looked_up : (es : List (FileId × List Change)) (file : FileId) → lookup (is_at (file_cmp file)) es ≡ find file_cmp file es
@@ -61,29 +62,30 @@ abbrev if_some : List Change → List Rewrite → Option (List Change)
 if_some changes [] = None
 if_some changes (r ∷ rs) = Some changes
 
-found_in : (all rs : List Rewrite) (file : FileId) → find file_cmp file (file_entries all rs) ≡ if_some (changes_made (in_file file.0 all)) (in_file file.0 rs)
-found_in all [] file = refl
-found_in all (r ∷ rs) file =
+found_in : (w : Workspace) (all rs : List Rewrite) (file : FileId)
+    → find file_cmp file (file_entries w all rs) ≡ if_some (fitted_in w file.0 (changes_made (in_file file.0 all))) (in_file file.0 rs)
+found_in w all [] file = refl
+found_in w all (r ∷ rs) file =
     let here : FileId = record { 0 = r.range.file } in
-    let own : Option (List Change) = Some (changes_made (in_file r.range.file all)) in
-    ap (λ b. cond b own (find file_cmp file (file_entries all rs))) (same_file file here)
+    let own : Option (List Change) = Some (fitted_in w r.range.file (changes_made (in_file r.range.file all))) in
+    ap (λ b. cond b own (find file_cmp file (file_entries w all rs))) (same_file file here)
     ∙ elim (cases_eq r.range.file file.0) [
-      | inl same ↦ rw (eq-eqb r.range.file file.0 same) (ap (λ q. Some (changes_made (in_file q all))) same)
-      | inr other ↦ rw (ne_eqb r.range.file file.0 other) (found_in all rs file)
+      | inl same ↦ rw (eq-eqb r.range.file file.0 same) (ap (λ q. Some (fitted_in w q (changes_made (in_file q all)))) same)
+      | inr other ↦ rw (ne_eqb r.range.file file.0 other) (found_in w all rs file)
     ]
 
-made_of : (rs : List Rewrite) → if_some (changes_made rs) rs ≡ some_changes (changes_made rs)
-made_of [] = refl
-made_of (r ∷ rs) = sym (some_of (changes_made (r ∷ rs)) _ _ (ap (map _) (fresh_from r rs)))
+made_of : (w : Workspace) (file : ℕ) (rs : List Rewrite) → if_some (fitted_in w file (changes_made rs)) rs ≡ option_map (fitted_in w file) (some_changes (changes_made rs))
+made_of w file [] = refl
+made_of w file (r ∷ rs) = ap (option_map (fitted_in w file)) (sym (some_of (changes_made (r ∷ rs)) _ _ (ap (map _) (fresh_from r rs))))
 
-edits_are : (all : List Rewrite) (file : FileId) → get file_cmp (edits_of all) file ≡ edit_of file.0 all
+edits_are : (w : Workspace) (all : List Rewrite) (file : FileId) → get file_cmp (edits_of w all) file ≡ edit_of w file.0 all
 unfolding edits_of
-edits_are all file =
-    let m = from_entries {R = file_cmp} (file_entries all all) in
+edits_are w all file =
+    let m = from_entries {R = file_cmp} (file_entries w all all) in
     looked_up (entries m) file
     ∙ (sym (get-entries m file)
-    ∙ (get-from_entries file_order (file_entries all all) file
-    ∙ (found_in all all file ∙ made_of (in_file file.0 all))))
+    ∙ (get-from_entries file_order (file_entries w all all) file
+    ∙ (found_in w all all file ∙ made_of w file.0 (in_file file.0 all))))
 
 -- ** The first clash.
 
@@ -158,7 +160,7 @@ module _ (kept : Kept) (known : IsKept kept) where
       with_texts texts of_these = told (first_exists (all_clashes kept lists texts)).0 (first_exists (all_clashes kept lists texts)).1
         where
           told : (first : Option Clash) → IsFirst (all_clashes kept lists texts) first → AnswerExists kept lists by
-          told None none = inl (edits_of (outermost_list kept lists texts), (texts, of_these, (none, edits_are (outermost_list kept lists texts))))
+          told None none = inl (edits_of kept.workspace (outermost_list kept lists texts), (texts, of_these, (none, edits_are kept.workspace (outermost_list kept lists texts))))
           told (Some c) first =
               let forward = All-contains AreForward (all_clashes kept lists texts) c (all_forward lists texts) first.0 in
               inr (range_from c.earlier forward.0, range_from c.later forward.1, (texts, of_these, first))

@@ -2,7 +2,7 @@
 use Rattle.std.specs.Prelude.{ℕ, ◌≡◌, ◌==◌, if◌then◌else◌, List, [], ◌∷◌, ◌++◌, map, filter, flat_map, slice_get, Option, Some, None, Result, Ok, Err, All, ⊤}
 use Rattle.std.specs.BTreeMap.{BTreeMap, get}
 use Rattle.std.specs.List.{enumerate_from, list_all}
-use Rattle.std.specs.Option.{IsSomeAnd, option_map_or}
+use Rattle.std.specs.Option.{IsSomeAnd, option_map, option_map_or}
 use Rattle.std.specs.Ordering.{nat_cmp}
 use Rattle.std.specs.declared.cmp.Ordering.{Ordering}
 use Rattle.ssr_syntax_tree.specs.Syntax.{source_of}
@@ -15,6 +15,7 @@ use Rattle.ide_ssr_nesting.specs.Lists.{Listing, listed, range_of}
 use Rattle.ide_ssr_rewriting.specs.declared.editing.EditError.{EditError}
 use Rattle.ide_ssr_rewriting.specs.declared.editing.EditError.TheVariants as errors
 use Rattle.ide_ssr_rewriting.specs.Clashes.{Rewrite, Clash, IsFirst, changes_made, clash_of, clashes, is_clean}
+use Rattle.ide_ssr_rewriting.specs.Fitting.{fitted_in}
 use Rattle.ide_ssr_rewriting.specs.Replacements.{Writing, piece, prefix_by, text_of_match}
 
 -- texts for the matches by their places, some of which may be missing
@@ -75,9 +76,13 @@ abbrev pub some_changes : List Change → Option (List Change)
 some_changes [] = None
 some_changes (c ∷ cs) = Some (c ∷ cs)
 
--- the edit of a file, which makes the changes of those of a list that lie in it; without them there is none
-abbrev pub edit_of : ℕ → List Rewrite → Option (List Change)
-edit_of file list = some_changes (changes_made (filter (λ r. r.range.file == file) list))
+-- the changes of those of a list that lie in a file; without them there is no edit
+abbrev pub made_in : ℕ → List Rewrite → Option (List Change)
+made_in file list = some_changes (changes_made (filter (λ r. r.range.file == file) list))
+
+-- the edit of a file, which makes these changes, some of them in parentheses so that the file groups as before
+abbrev pub edit_of : Workspace → ℕ → List Rewrite → Option (List Change)
+edit_of w file list = option_map (fitted_in w file) (made_in file list)
 
 -- files are told apart by their numbers
 abbrev pub file_cmp : FileId → FileId → Ordering
@@ -87,7 +92,7 @@ file_cmp a b = nat_cmp a.0 b.0
 -- memory may be told in place of both. That a rule lacks a template is told before.
 abbrev pub IsAnswer : Kept → Listing → Texts → Result (BTreeMap FileId (List Change)) EditError → Type 0
 IsAnswer kept lists texts (Ok edits) =
-    (all_clashes kept lists texts ≡ []) × ((file : FileId) → get file_cmp edits file ≡ edit_of file.0 (outermost_list kept lists texts))
+    (all_clashes kept lists texts ≡ []) × ((file : FileId) → get file_cmp edits file ≡ edit_of kept.workspace file.0 (outermost_list kept lists texts))
 IsAnswer kept lists texts (Err (errors.Clash earlier later)) = IsFirst (all_clashes kept lists texts) (Some (clash_of (earlier, later)))
 IsAnswer kept lists texts (Err errors.NoTemplate) = ⊥
 IsAnswer kept lists texts (Err errors.Memory) = ⊤

@@ -1,4 +1,4 @@
--- Which changes in a part of a text are put in parentheses, so that the part groups as before.
+-- Which changes in a part of a text, and in a file, are put in parentheses, so that it groups as before.
 use Rattle.std.specs.Prelude.{ℕ, ◌+◌, ◌==◌, ◌&&◌, Bool, true, false, if◌then◌else◌, List, [], ◌∷◌, ◌++◌, Option, codes, length, map, slice_range}
 use Rattle.std.specs.Option.{option_map_or}
 use Rattle.std.specs.Result.{result_ok}
@@ -6,7 +6,9 @@ use Rattle.ssr_syntax_kinds.specs.declared.fragment.Fragment.TheVariants as frag
 use Rattle.ssr_syntax_tree.specs.Syntax.{Syntax}
 use Rattle.ssr_syntax.specs.Reading.{fragment_reading}
 use Rattle.ssr_base_trees.specs.Changes.{Change, replaced}
+use Rattle.ssr_base_trees.specs.Workspace.{Workspace}
 use Rattle.ssr_standing.specs.Around.{agree}
+use Rattle.ssr_standing.specs.Expansions.{stands_in}
 use Rattle.ssr_standing.specs.Fitted.{fitted}
 use Rattle.ssr_standing.specs.Ranges.{new_places, old_places}
 
@@ -44,3 +46,8 @@ is_alone front from to (c ∷ d ∷ cs) = false
 -- the changes that are made between two places of a text, behind the text in front
 unfoldable pub fitted_between : List ℕ → List ℕ → ℕ → ℕ → List Change → List Change
 fitted_between front text from to cs = if is_alone front from to cs then cs else all_fitted (stands_between front text from to) cs
+
+-- The changes that are made in a file: as they are, if with all of them the file is read and groups as before, and so does what each
+-- call of a macro in it stands for; else each as it stands alone.
+unfoldable pub fitted_in : Workspace → ℕ → List Change → List Change
+fitted_in w file cs = all_fitted (stands_in w file) cs

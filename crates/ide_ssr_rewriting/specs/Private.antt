@@ -6,3 +6,4 @@ pub mod Edits
 pub mod Pieces
 pub mod Groups
 pub mod Fitting
+pub mod Files

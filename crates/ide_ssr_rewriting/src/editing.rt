@@ -6,6 +6,7 @@ ghost use Rattle.std.specs.List.{list_all};
 ghost use Rattle.std.specs.Ordering.{nat_cmp, ordering_then};
 ghost use Rattle.std.specs.BTreeMap.{get};
 ghost use Rattle.ssr_base_trees.specs.declared.ids.FileId.{FileId as FileIdValue};
+ghost use Rattle.ssr_base_trees.specs.Laws.{LiesInFile};
 ghost use Rattle.ssr_base_trees.specs.Workspace.{file_span_of};
 ghost use Rattle.ide_ssr_rewriting.specs.Clashes.{Clash, IsFirst, Rewrite as RewriteValue, clash_le, clash_of, clashes, is_clean};
 ghost use Rattle.ide_ssr_nesting.specs.Lists.{AreLists};
@@ -19,6 +20,7 @@ ghost use Rattle.ide_ssr_rewriting.specs.Private.Replacements.{IsOf};
 ghost use Rattle.ide_ssr_rewriting.specs.Replacements.{held_text, writing};
 
 use crate::clashes::{Rewrite, changes_made, first_clash};
+use crate::files::fitted_in;
 use crate::prefixes::with_prefix;
 use crate::replacements::held_text;
 use crate::writer::Writer;
@@ -359,27 +361,31 @@ fn take_group(
     Ok(group)
 }
 
-/// The edits of the files that a list changes.
+/// The edits of the files that a list changes, some of whose changes are put in parentheses so that the file groups as before.
 fn file_edits(
     alloc: Global,
+    workspace: &Trees,
     mut list: Vec<Rewrite>,
 ) -> Result<BTreeMap<FileId, TextEdit>, AllocError>
     requires order { AreInOrder list.items }
     requires clean { clashes list.items ≡ [] }
-    ensures { IfOk result (λ edits. (file : FileIdValue) → get file_cmp edits file ≡ edit_of file.0 list.items) }
+    requires fits { All (λ r. LiesInFile workspace.now r.range) list.items }
+    ensures { IfOk result (λ edits. (file : FileIdValue) → get file_cmp edits file ≡ edit_of workspace.now file.0 list.items) }
 {
     let mut edits = BTreeMap::new(alloc);
     while let Some(file) = last_file(&list) {
         let group = take_group(alloc, &mut list, file)?;
         let changes = changes_made(alloc, group)?;
-        edits.insert(file, TextEdit::new(changes))?;
+        let edit = fitted_in(alloc, workspace, file, TextEdit::new(changes))?;
+        edits.insert(file, edit)?;
     }
     Ok(edits)
 }
 
 /// The edits of the files in which kept matches lie: each outermost one becomes its rule's template with what its
-/// placeholders hold, in which the matches are rewritten likewise. `Clash` where two matches of one list share a byte, and
-/// their ranges or what stands for them differ: the first two.
+/// placeholders hold, in which the matches are rewritten likewise. It is put in parentheses where the file, or what a call of
+/// a macro in it stands for, groups as before only so. `Clash` where two matches of one list share a byte, and their ranges
+/// or what stands for them differ: the first two.
 pub fn edits<S: Semantics>(
     alloc: Global,
     semantics: &S,
@@ -402,5 +408,5 @@ pub fn edits<S: Semantics>(
     if let Some((earlier, later)) = pending.clash {
         return Err(EditError::Clash(earlier, later));
     }
-    Ok(file_edits(alloc, outermost)?)
+    Ok(file_edits(alloc, kept.workspace(), outermost)?)
 }

@@ -4,6 +4,7 @@
 mod clashes;
 mod comments;
 mod editing;
+mod files;
 mod fitting;
 pub mod laws;
 mod prefixes;

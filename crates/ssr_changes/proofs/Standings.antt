@@ -7,9 +7,8 @@ use Rattle.std.proofs.lemmas.List.Elements.{All-filter, All-map, All-nil, filter
 use Rattle.ssr_syntax_kinds.specs.declared.range.TextRange.{TextRange}
 use Rattle.ssr_base_trees.specs.Applied.{change_of, changes_of}
 use Rattle.ssr_base_trees.specs.Changes.{Change, ChangesInOrder, FitsText}
-use Rattle.ssr_standing.specs.Fitted.{fitted, in_parentheses}
+use Rattle.ssr_standing.specs.Fitted.{IsFitted, fitted, in_parentheses}
 use Rattle.ssr_changes.specs.Standing.{alone, falling, not_alone, standing}
-use Rattle.ssr_changes.specs.Private.Standing.{IsFitted}
 
 -- ** Order.
 

@@ -3,4 +3,3 @@ pub mod Building
 pub mod Changing
 pub mod Finding
 pub mod Planning
-pub mod Standing

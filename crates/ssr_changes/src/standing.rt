@@ -1,13 +1,10 @@
 //! Which changes of a file are made: those with which it is read and groups as it did.
-ghost use Rattle.std.specs.Prelude.{◌≡◌, ◌≤◌, [], ◌∷◌, All, IfOk, map, string_bytes};
-ghost use Rattle.std.specs.Option.{option_map};
+ghost use Rattle.std.specs.Prelude.{◌≡◌, All, IfOk, map};
 ghost use Rattle.ssr_syntax_tree.specs.Syntax.{source_of};
 ghost use Rattle.ssr_base_trees.specs.Changes.{FitsText};
 ghost use Rattle.ssr_set_aside.specs.Sparing.{bounds, bounds_of};
 ghost use Rattle.ssr_standing.specs.Expansions.{stands_in};
-ghost use Rattle.ssr_standing.specs.Fitted.{change_with};
 ghost use Rattle.ssr_changes.specs.Standing.{alone, falling, not_alone, standing};
-ghost use Rattle.ssr_changes.specs.Private.Standing.{IsFitted};
 
 use ssr_base::TextEdit;
 use ssr_standing::SearchedFile;
@@ -63,7 +60,7 @@ fn standing_alone(
     let mut made = Vec::new(alloc);
     let mut unread = Vec::new(alloc);
     for (range, text) in edit.iter().as_slice() {
-        match fitted(alloc, file, *range, text.as_str())? {
+        match file.fitted(alloc, *range, text.as_str())? {
             Some(text) => made.push((*range, text))?,
             None => unread.push(*range)?,
         }
@@ -72,51 +69,6 @@ fn standing_alone(
         edit: TextEdit::new(made),
         unread,
     })
-}
-
-/// The text of a change as it stands alone, if it does: as it is, or else in parentheses.
-fn fitted(
-    alloc: Global,
-    file: &SearchedFile<'_>,
-    range: TextRange,
-    text: &str,
-) -> Result<Option<String>, AllocError>
-    requires order { range.start ≤ range.end }
-    requires fits { FitsText (source_of file.now.tree.now) (change_with range text.now) }
-    ensures { IfOk result (λ fitted. IsFitted (stands_in file.now.trees.now file.now.number) (change_with range text.now) (option_map string_bytes fitted)) }
-{
-    if stands_with(alloc, file, range, text)? {
-        return Ok(Some(String::from_str(alloc, text)?));
-    }
-    let wrapped = format!(in alloc; "({text})")?;
-    if stands_with(alloc, file, range, wrapped.as_str())? {
-        return Ok(Some(wrapped));
-    }
-    Ok(None)
-}
-
-/// Whether one change stands.
-fn stands_with(
-    alloc: Global,
-    file: &SearchedFile<'_>,
-    range: TextRange,
-    text: &str,
-) -> Result<bool, AllocError>
-    requires order { range.start ≤ range.end }
-    requires fits { FitsText (source_of file.now.tree.now) (change_with range text.now) }
-    ensures { IfOk result (λ answer. answer ≡ stands_in file.now.trees.now file.now.number (change_with range text.now ∷ [])) }
-{
-    file.stands(alloc, &single(alloc, range, text)?)
-}
-
-/// The edit that makes one change.
-fn single(alloc: Global, range: TextRange, text: &str) -> Result<TextEdit, AllocError>
-    requires { range.start ≤ range.end }
-    ensures { IfOk result (λ edit. edit ≡ change_with range text.now ∷ []) }
-{
-    let mut changes = Vec::with_capacity(alloc, 1)?;
-    changes.push((range, String::from_str(alloc, text)?))?;
-    Ok(TextEdit::new(changes))
 }
 
 /// The ranges of an edit's changes.

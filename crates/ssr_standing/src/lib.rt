@@ -5,6 +5,7 @@
 mod agreeing;
 mod argument_names;
 mod expansions;
+mod fitted;
 mod holes;
 mod marks;
 mod passing;

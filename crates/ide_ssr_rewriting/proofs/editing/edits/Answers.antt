@@ -1,14 +1,18 @@
-use Rattle.std.proofs.Common.{◌≢◌, ◌<◌, List, ℕ, All, length, None, Err, option_map, sym, ◌∙◌, ap, subst}
+use Rattle.std.proofs.Common.{◌≡◌, ◌≢◌, ◌<◌, List, ℕ, All, length, None, Err, option_map, sym, ◌∙◌, ap, subst}
 use Rattle.std.specs.Prelude.{AllPairs}
+use Rattle.std.specs.BTreeMap.{get}
 use Rattle.std.proofs.lemmas.Result.{err_from_is_err_and}
+use Rattle.ssr_base_trees.specs.declared.ids.FileId.{FileId}
+use Rattle.ssr_base_trees.specs.Laws.{LiesInFile}
+use Rattle.ssr_base_trees.specs.Workspace.{Workspace}
 use Rattle.ide_ssr_rewriting.specs.Clashes.{clash_of}
 use Rattle.ide_ssr_rewriting.specs.Private.Clashes.{AreInOrder}
-use Rattle.ide_ssr_rewriting.specs.Edits.{list_at}
+use Rattle.ide_ssr_rewriting.specs.Edits.{edit_of, file_cmp, list_at}
 use Rattle.ide_ssr_rewriting.specs.Replacements.{writing}
 use Rattle.ide_ssr_rewriting.specs.Private.Edits.{text_in}
 use Rattle.ide_ssr_rewriting.proofs.Pieces.{list_in_order}
 use Rattle.ide_ssr_rewriting.proofs.Runs.{first_of_all, edited, clashed, no_memory}
-use Rattle.ide_ssr_rewriting.proofs.Answering.{edits_fit, edits_ordered}
+use Rattle.ide_ssr_rewriting.proofs.Answering.{edits_fit, edits_ordered, lie_in_files}
 use Rattle.ide_ssr_rewriting.proofs.editing.edits.Goals as goal
 
 pub returns-in_err-pending-clause-answer : goal.returns-in_err-pending-clause-answer
@@ -44,6 +48,12 @@ file_edits-requires-clause-order g c =
     subst AreInOrder (sym (c.in_ok-outermost.ensures.list ∙ ap (list_at c.args.kept.now (text_in c.in_ok-pending.pending.texts.items)) c.outermost.ensures))
     (list_in_order c.args.kept.now c.args.lists.now c.run.ensures.nest None (text_in c.in_ok-pending.pending.texts.items))
 
+pub file_edits-requires-clause-fits : goal.file_edits-requires-clause-fits
+file_edits-requires-clause-fits g c =
+    subst (λ (w : Workspace). All (λ r. LiesInFile w r.range) c.in_ok-outermost.outermost.items) (sym c.workspace.ensures)
+    (subst (All (λ r. LiesInFile c.args.kept.now.workspace r.range)) (sym (c.in_ok-outermost.ensures.list ∙ ap (list_at c.args.kept.now (text_in c.in_ok-pending.pending.texts.items)) c.outermost.ensures))
+    (lie_in_files c.args.kept.now c.args.lists.now (text_in c.in_ok-pending.pending.texts.items) c.run.ensures.nest))
+
 pub returns-in_err-file_edits-clause-answer : goal.returns-in_err-file_edits-clause-answer
 returns-in_err-file_edits-clause-answer g c =
     let p = err_from_is_err_and c.from_residual-in_err-file_edits.result c.from_residual-in_err-file_edits.ensures.1 in
@@ -56,7 +66,7 @@ returns-clause-answer g c =
     (first_of_all c.args.kept.now c.args.lists.now (writing (g.S.Semantics.meanings c.args.semantics.now) c.args.rules.now) c.run.ensures.nest c.in_ok-pending.pending.texts.items (option_map clash_of c.in_ok-pending.pending.clash) (option_map clash_of c.in_ok-outermost.field-0-1)
     (option_map clash_of c.take_list.new.self.clash) c.in_ok-outermost.outermost.items c.in_ok-pending.ensures.run (c.in_ok-outermost.ensures.list ∙ ap (list_at c.args.kept.now (text_in c.in_ok-pending.pending.texts.items)) c.outermost.ensures) c.in_ok-outermost.ensures.first c.in_ok-outermost.ensures.clash)
     (ap (option_map clash_of) c.in_default.is)
-    c.in_ok-file_edits.ensures
+    (subst (λ (w : Workspace). (file : FileId) → get file_cmp c.in_ok-file_edits.field-0 file ≡ edit_of w file.0 c.in_ok-outermost.outermost.items) c.workspace.ensures c.in_ok-file_edits.ensures)
 
 pub returns-clause-fits : goal.returns-clause-fits
 returns-clause-fits g c = edits_fit c.args.kept.now c.args.lists.now (writing (g.S.Semantics.meanings c.args.semantics.now) c.args.rules.now) c.run.ensures.nest c.in_ok-file_edits.field-0 (returns-clause-answer g c)

@@ -10,9 +10,8 @@ use Rattle.ssr_base_trees.specs.Applied.{change_of, changes_of}
 use Rattle.ssr_base_trees.proofs.Changes.{change_at, fits_here, shown}
 use Rattle.ssr_set_aside.specs.Sparing.{bounds, bounds_of}
 use Rattle.ssr_standing.specs.Expansions.{stands_in}
-use Rattle.ssr_standing.specs.Fitted.{change_with, fitted}
+use Rattle.ssr_standing.specs.Fitted.{IsFitted, change_with, fitted}
 use Rattle.ssr_changes.specs.Standing.{alone, not_alone}
-use Rattle.ssr_changes.specs.Private.Standing.{IsFitted}
 use Rattle.ssr_changes.proofs.Standings.{fitted_made, fitted_stays, order-filter, order-fitted, text_behind, unfit_falls, unfit_left}
 use Rattle.ssr_changes.proofs.standing.standing_alone.Goals as goal
 use Rattle.ssr_changes.proofs.standing.standing_alone.Goals.{in-Some+in_ok-push-in-Some, in-None+in_ok-push-in-None}

@@ -1,0 +1,72 @@
+//! Which replacements in a file are put in parentheses, so that it groups as before.
+
+ghost use Rattle.std.specs.Prelude.{◌≡◌, ◌≤◌, All, IfOk, map, string_bytes};
+ghost use Rattle.ssr_syntax_tree.specs.Syntax.{source_of};
+ghost use Rattle.ssr_base_trees.specs.Changes.{FitsText};
+ghost use Rattle.ssr_standing.specs.Expansions.{stands_in};
+ghost use Rattle.ssr_standing.specs.Fitted.{change_with};
+ghost use Rattle.ide_ssr_rewriting.specs.Fitting.{fitted_alone, fitted_in};
+ghost use Rattle.ide_ssr_rewriting.specs.Private.Files.{FitsTree};
+
+use ssr_base_trees::{FileId, TextEdit, Trees};
+use ssr_standing::SearchedFile;
+use ssr_syntax_kinds::TextRange;
+use std::alloc::{AllocError, Global};
+
+/// The text of a change as it stands alone: as it is, or else in parentheses. What stands neither way stays as it is.
+fn fitted(
+    alloc: Global,
+    file: &SearchedFile<'_>,
+    range: TextRange,
+    text: &str,
+) -> Result<String, AllocError>
+    requires order { range.start ≤ range.end }
+    requires fits { FitsText (source_of file.now.tree.now) (change_with range text.now) }
+    ensures { IfOk result (λ new. change_with range (string_bytes new) ≡ fitted_alone (stands_in file.now.trees.now file.now.number) (change_with range text.now)) }
+{
+    match file.fitted(alloc, range, text)? {
+        Some(new) => Ok(new),
+        None => String::from_str(alloc, text),
+    }
+}
+
+/// Each change of a file as it stands alone.
+fn each_fitted(
+    alloc: Global,
+    file: &SearchedFile<'_>,
+    edit: &TextEdit,
+) -> Result<TextEdit, AllocError>
+    requires { All (FitsText (source_of file.now.tree.now)) edit.now }
+    ensures { IfOk result (λ new. new ≡ map (fitted_alone (stands_in file.now.trees.now file.now.number)) edit.now) }
+{
+    let mut changes = Vec::new(alloc);
+    for (range, text) in edit.iter().as_slice() {
+        let fit = fitted(alloc, file, *range, text.as_str())?;
+        changes.push((*range, fit))?;
+    }
+    Ok(TextEdit::new(changes))
+}
+
+/// The changes that are made in a file: as they are, if it groups as before with all of them, else each as it stands alone.
+pub(crate) fn fitted_in(
+    alloc: Global,
+    workspace: &Trees,
+    file: FileId,
+    edit: TextEdit,
+) -> Result<TextEdit, AllocError>
+    requires { FitsTree workspace.now file.0 edit }
+    ensures { IfOk result (λ new. new ≡ fitted_in workspace.now file.0 edit) }
+{
+    let Some(tree) = workspace.tree(file.0) else {
+        unreachable!()
+    };
+    let searched = SearchedFile {
+        trees: workspace,
+        number: file.0,
+        tree,
+    };
+    if searched.stands(alloc, &edit)? {
+        return Ok(edit);
+    }
+    each_fitted(alloc, &searched, &edit)
+}
