@@ -16,7 +16,7 @@ use Rattle.ssr_base_trees.proofs.Changes.{change_at}
 use Rattle.ssr_base_trees.specs.Texts.{is_boundary}
 use Rattle.ssr_base_trees.specs.Workspace.{Workspace, file_span_of}
 use Rattle.ssr_standing.specs.Expansions.{stands_in}
-use Rattle.ssr_standing.specs.Fitted.{IsFitted, fitted, in_parentheses}
+use Rattle.ssr_standing.specs.Fitted.{fitted, in_parentheses}
 use Rattle.ssr_standing.specs.Ranges.{IsShort, old_places, place_from}
 use Rattle.ssr_standing.proofs.Shared.{BeginsIn}
 use Rattle.ide_ssr_rewriting.specs.Fitting.{agrees_after, all_fitted, expression_of, fitted_alone, fitted_between, fitted_in, is_alone, stands_between}
@@ -77,13 +77,6 @@ module _ (stands : List Change → Bool) where
       by true true = fit
       by true false = fit
       by false d = fit
-
-  -- what is told of one change is what is made of it
-  pub as_told : (c : Change) (text : List ℕ) → IsFitted stands c (Some text) → record { start = c.start; end = c.end; text = text } ≡ fitted_alone stands c
-  as_told c text is = sym is.0 ∙ sym (ap (λ b. if b then fitted stands c else c) is.1)
-
-  pub as_it_was : (c : Change) → IsFitted stands c None → c ≡ fitted_alone stands c
-  as_it_was c is = sym (ap (λ b. if b then fitted stands c else c) is)
 
 -- the changes that are made in a file are in order
 pub order_in : (w : Workspace) (file at : ℕ) (cs : List Change) → ChangesInOrder at cs → ChangesInOrder at (fitted_in w file cs)

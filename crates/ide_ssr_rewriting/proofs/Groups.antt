@@ -360,9 +360,9 @@ fewer_left old left group f d is lt last =
     omega (arith, ap length is.is, length-append left group, ap length some.is)
 
 -- all of a group is among all
-pub all_grouped : {P : Rewrite → Type 0} (w : Workspace) (all old left group : List Rewrite) (edits : BTreeMap FileId (List Change)) (f : ℕ) → AreDone w all old edits → IsGroup f old left group
+pub all_grouped : (P : Rewrite → Type 0) (w : Workspace) (all old left group : List Rewrite) (edits : BTreeMap FileId (List Change)) (f : ℕ) → AreDone w all old edits → IsGroup f old left group
     → All P all → All P group
-all_grouped {P = P} w all old left group edits f so_far is each =
+all_grouped P w all old left group edits f so_far is each =
     let whole : All P (old ++ so_far.done) = subst (All P) (sym so_far.split.is) each in
     let part : All P (left ++ group) = subst (All P) is.is (All-front P old so_far.done whole) in
     All-back P left group part

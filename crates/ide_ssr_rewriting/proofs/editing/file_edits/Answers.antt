@@ -20,7 +20,7 @@ new-requires c =
 pub fitted_in-requires : goal.fitted_in-requires
 fitted_in-requires c =
     group_fits_tree c.args.workspace.now c.in-Some.file.0 c.in_ok-group.group.items c.new.result c.in_ok-group.ensures.file
-    (all_grouped {P = λ r. LiesInFile c.args.workspace.now r.range} c.args.workspace.now c.args.list.items c.loop-file.list.items c.take_group.new.list.items c.in_ok-group.group.items c.loop-file.edits c.in-Some.file.0
+    (all_grouped (λ r. LiesInFile c.args.workspace.now r.range) c.args.workspace.now c.args.list.items c.loop-file.list.items c.take_group.new.list.items c.in_ok-group.group.items c.loop-file.edits c.in-Some.file.0
     c.loop-file.invariant c.in_ok-group.ensures c.requires.fits)
     (grouped_some c.in-Some.file.0 c.loop-file.list.items c.take_group.new.list.items c.in_ok-group.group.items nobody c.in_ok-group.ensures
     (subst (λ (rs : List Rewrite). 0 < length rs) c.deref.ensures.value c.in-Some.ensures.found.0)

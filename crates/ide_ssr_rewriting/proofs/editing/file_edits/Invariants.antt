@@ -3,7 +3,7 @@ use Rattle.ide_ssr_rewriting.proofs.Groups.{AreDone}
 use Rattle.ide_ssr_rewriting.proofs.editing.file_edits.Given as goal
 
 abbrev pub invariant-loop-file : goal.invariant-loop-file
-invariant-loop-file l = AreDone l.fn.workspace.now l.fn.list.items l.list.items l.edits
+invariant-loop-file l = AreDone l.fn.workspace l.fn.list.items l.list.items l.edits
 
 abbrev pub decreases-loop-file : goal.decreases-loop-file
 decreases-loop-file l = vec_len l.list

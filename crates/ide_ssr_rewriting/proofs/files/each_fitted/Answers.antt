@@ -1,4 +1,4 @@
-use Rattle.std.proofs.Common.{◌≡◌, ◌∙◌, List, ℕ, ap, arith, length, map, subst, sym}
+use Rattle.std.proofs.Common.{◌∙◌, List, ℕ, ap, arith, map, subst, sym}
 use Rattle.std.proofs.lemmas.List.{length-map, take_all}
 use Rattle.ssr_syntax_tree.specs.Syntax.{source_of}
 use Rattle.ssr_base_trees.specs.Applied.{change_of, changes_of}
