@@ -108,6 +108,43 @@ IN_OTHERS = [
 ]
 
 
+# A rule, the body of a function, and what becomes of it: the file groups as before around what is replaced.
+FOO = "$x.foo($a) ==>> $a + 1"
+AROUND = [
+    ("7 ==>> 3 + 4", "2 * 7", "2 * (3 + 4)"),
+    ("7 ==>> 3 + 4", "7 + 2 * 7", "3 + 4 + 2 * (3 + 4)"),
+    ("7 ==>> 3 + 4", "g(7, [7])", "g(3 + 4, [3 + 4])"),
+    ("7 ==>> 3 + 4", "m!(2 * 7)", "m!(2 * 7)"),
+    ("($a) ==>> $a", "x&(&y)", "x&(&y)"),
+    ("($a) ==>> $a", "(a.b)(c)", "(a.b)(c)"),
+    ("($a) ==>> $a", "(x) + y", "x + y"),
+    (FOO, "2 * x.foo(3)", "2 * (3 + 1)"),
+    (FOO, "x.foo(3) - 1", "3 + 1 - 1"),
+    (FOO, "2 - x.foo(3)", "2 - (3 + 1)"),
+    (FOO, "x.foo(1).m()", "(1 + 1).m()"),
+    (FOO, "2 * x.foo(3 /* c */)", "2 * (3 + 1/* c */)"),
+    (FOO, "2 * x /* c */.foo(3)", "2 * (3 + 1/* c */)"),
+    ("$x.foo() ==>> &$x", "a &x.foo()", "a &(&x)"),
+    ("$x.foo() ==>> if $x {1} else {2}", "x.foo() + 1;", "(if x {1} else {2}) + 1;"),
+    ("$x.foo() ==>> 1..$x", "for i in x.foo() {}", "for i in 1..x {}"),
+    ("$x.foo() ==>> |y| $x", "x.foo()(1)", "(|y| x)(1)"),
+    ("{ 1 } ==>> 2", "if x { 1 } else { 3 }", "if x 2 else { 3 }"),
+    ("7 ==>> 3 | 4", "let &7 = x;", "let &(3 | 4) = x;"),
+]
+
+
+@example
+def what_stands_around_a_match_groups_as_before(program):
+    for rule, code, new in AROUND:
+        yield gives(program, [rule], f"fn f() {{{code}}}", f"fn f() {{{new}}}")
+    # what is too deep with parentheses gets none
+    file = "fn f() {%s2 * 7%s}"
+    for depth, wanted in [(1017, "(3 + 4)"), (1018, "3 + 4")]:
+        new = f"2 * {wanted}"
+        blocks = "(" * depth, ")" * depth
+        yield gives(program, ["7 ==>> 3 + 4"], file % blocks, file.replace("2 * 7", new) % blocks)
+
+
 @example
 def what_placeholders_hold_groups_as_before(program):
     for rules, code, new in IN_OTHERS:
