@@ -1047,6 +1047,14 @@ TRAPS = [
     ("macro_rules! a { ($n:ident) => { fn $n(_: u8) {} } }\nmacro_rules! b { () => { a!(drop); } }\nb!();\nfn free(a: u8) {}\nfn f() { drop(1) }\n", DROP, [], "0 matches; 1 undecided\n"),
     # what a function in such a macro calls declares nothing around it
     ("struct Job;\nimpl Job { fn a() -> u8 { 1 } }\nmacro_rules! m { ($t:ident) => { impl $t { fn b() { foreign::say!(\"b\") } } } }\nm!(Job);\nfn f() -> u8 { Job::a() }\n", "Job::a() ==>> 7", ["fn f() -> u8 { 7 }"], "1 match in 1 file: 1 edit\n"),
+    # what an `impl`, a module or a macro has in the body of a macro is none of the names around, but what a block of foreign items has is
+    ("macro_rules! m { ($t:ident $n:ident) => { impl $t { fn $n() {} } } }\nstruct Job;\nm!(Job drop);\nfn free(a: u8) {}\nfn f() { drop(1) }\n", DROP, ["fn f() { free(1) }"], "1 match in 1 file: 1 edit\n"),
+    ("macro_rules! put { ($n:ident) => { fn $n() {} } }\nmacro_rules! m { ($t:ident $n:ident) => { impl $t { put!($n); } } }\nstruct Job;\nm!(Job drop);\nfn free(a: u8) {}\nfn f() { drop(1) }\n", DROP, ["fn f() { free(1) }"], "1 match in 1 file: 1 edit\n"),
+    ("macro_rules! tests { () => { mod t { use super::*; fn drop() {} } } }\ntests!();\nfn free(a: u8) {}\nfn f() { drop(1) }\n", DROP, ["fn f() { free(1) }"], "1 match in 1 file: 1 edit\n"),
+    ("macro_rules! m { ($n:ident) => { extern \"C\" { fn $n(a: u8); } } }\nm!(drop);\nfn free(a: u8) {}\nfn f() { drop(1) }\n", DROP, [], "0 matches; 1 undecided\n"),
+    # a macro in the body of another one may declare it later
+    ("macro_rules! m { ($n:ident) => { macro_rules! k { ($a:ident) => { fn $n($a: u8) {} } } } }\nm!(drop);\nk!(a);\nfn free(a: u8) {}\nfn f() { drop(1) }\n", DROP, [], "0 matches; 1 undecided\n"),
+    ("macro_rules! put { ($n:ident) => { fn $n(a: u8) {} } }\nmacro_rules! m { ($n:ident) => { macro_rules! k { ($a:ident) => { put!($n); } } } }\nm!(drop);\nk!(a);\nfn free(a: u8) {}\nfn f() { drop(1) }\n", DROP, [], "0 matches; 1 undecided\n"),
     # a name that a macro puts together
     ("macro_rules! m { ($n:ident) => { foreign::paste! { fn [<dr $n>](a: u8) {} } } }\nm!(op);\nfn free(a: u8) {}\nfn f() { drop(1) }\n", DROP, [], "0 matches; 1 undecided\n"),
     # another crate's macro with the name of one of the package

@@ -172,7 +172,8 @@ impl<'a> Reader<'a> {
             return Ok(());
         }
         let alloc = self.alloc;
-        let found = spelled(alloc, &mut self.names, code, code.tokens(argument))?;
+        let tokens = code.tokens(argument);
+        let found = spelled(alloc, &mut self.names, code, tokens, u32::MAX)?;
         let deepest = if called == Called::Alternatives { 2 } else { 1 };
         self.declare(visit, call, place, &found, deepest)?;
         let has_unread = match deepest_call(called) {
