@@ -1075,6 +1075,8 @@ TRAPS = [
     ("foreign::bindings!(\"p\");\nmod m { fn g() { Vec::new(); } }\nfn f() { Vec::new(); }\n", "Vec::new() ==>> Vec::default()", ["mod m { fn g() { Vec::default(); } }"], "1 match in 1 file: 1 edit; 1 undecided\n"),
     ("foreign::doctest!(\"../README.md\");\nfn f() { Vec::new(); }\n", "Vec::new() ==>> Vec::default()", ["fn f() { Vec::default(); }"], "1 match in 1 file: 1 edit\n"),
     ("union Vec { a: u8 }\nfn f() { Vec::new(); std::vec::Vec::new(); }\n", "std::vec::Vec::new() ==>> 7", ["fn f() { Vec::new(); 7; }"], "1 match in 1 file: 1 edit; 1 undecided; 1 file not searched whole\n"),
+    # of a union that isn't read the name alone is unknown
+    ("pub(crate) union Slot { a: std::mem::ManuallyDrop<Vec<u8>>, b: u8 }\nfn f() { Vec::new(); }\n", "std::vec::Vec::new() ==>> 7", ["fn f() { 7; }"], "1 match in 1 file: 1 edit; 1 file not searched whole\n"),
     # what a function binds is no item there
     ("fn g(a: u8) -> u8 { a }\nfn f(g: fn(u8) -> u8) -> u8 { g(1) }\nfn h() -> u8 { g(2) }\n", "g($a) ==>> $a", ["fn h() -> u8 { 2 }"], "1 match in 1 file: 1 edit; 1 undecided\n"),
     ("fn g(a: u8) -> u8 { a }\nfn f() -> u8 { if let Some(g) = k() { g(1) } else { 0 } }\n", "g($a) ==>> $a", [], "0 matches; 1 undecided\n"),
