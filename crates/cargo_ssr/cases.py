@@ -1084,6 +1084,8 @@ TRAPS = [
     ("fn g(a: u8) -> u8 { a }\nfn f() -> u8 { fn g(a: u8) -> u8 { a + 1 } g(1) }\nfn h() -> u8 { g(2) }\n", "g($a) ==>> $a", ["fn h() -> u8 { 2 }"], "1 match in 1 file: 1 edit\n"),
     # a type, a function and a macro may have one name
     ("mod log { pub fn log(a: u8) -> u8 { a } }\nuse log::log;\nfn f() -> u8 { log(1) + log::log(2) }\n", "log::log($a) ==>> $a", ["fn f() -> u8 { 1 + 2 }"], "2 matches in 1 file: 2 edits\n"),
+    # a module of the standard library is no value, and a builtin type may have its name
+    ("use std::str;\nfn f(a: &str) -> bool { str::from_utf8(b\"a\").is_ok() }\n", "&str ==>> &[u8]", ["fn f(a: &[u8]) -> bool { str::from_utf8(b\"a\").is_ok() }"], "1 match in 1 file: 1 edit\n"),
     # imports in a circle
     ("mod a { pub use crate::b::*; pub fn g(a: u8) -> u8 { a } }\nmod b { pub use crate::a::*; }\nfn f() -> u8 { b::g(1) + a::g(2) }\n", "a::g($a) ==>> $a", ["fn f() -> u8 { 1 + 2 }"], "2 matches in 1 file: 2 edits\n"),
     # an item hides what a glob brings in
