@@ -1104,6 +1104,9 @@ TRAPS = [
     ("fn f(a: u8) { macro_rules! assert { ($e:expr) => {} } assert!(a == 1); }\nfn g(a: u8) { assert!(a == 2); }\n", "std::assert!($a == $b) ==>> std::assert_eq!($a, $b)", None, None),
     # `self` and `Self`
     ("pub struct A;\nimpl A { pub fn new() -> A { A } fn b() -> A { Self::new() } }\nfn f() -> A { A::new() }\n", "A::new() ==>> A", None, "2 matches in 1 file: 2 edits\n"),
+    # of a type of another crate too; in a trait it is no item
+    ("pub trait Make { fn make() -> Self; fn twice(self) -> Self; }\nimpl Make for String { fn make() -> Self { Self::new() } fn twice(self) -> Self { self } }\n", "String ==>> Vec<u8>", ["impl Make for Vec<u8> { fn make() -> Vec<u8> { Self::new() } fn twice(self) -> Vec<u8> { self } }"], "3 matches in 1 file: 3 edits\n"),
+    ("pub trait Make { fn make() -> Self; }\nimpl Make for String { fn make() -> Self { Self::new() } }\n", "String::new() ==>> 7", ["impl Make for String { fn make() -> Self { 7 } }"], "1 match in 1 file: 1 edit\n"),
     # another name for it
     ("use std::mem as m;\nuse m::drop as g;\nfn free(a: u8) {}\nfn f() { g(1); m::drop(2) }\n", DROP, ["fn f() { free(1); free(2) }"], "2 matches in 1 file: 2 edits\n"),
     # another crate may bring in a macro of the standard library's name, but for crates that are known to have none
