@@ -1055,6 +1055,9 @@ TRAPS = [
     # a macro in the body of another one may declare it later
     ("macro_rules! m { ($n:ident) => { macro_rules! k { ($a:ident) => { fn $n($a: u8) {} } } } }\nm!(drop);\nk!(a);\nfn free(a: u8) {}\nfn f() { drop(1) }\n", DROP, [], "0 matches; 1 undecided\n"),
     ("macro_rules! put { ($n:ident) => { fn $n(a: u8) {} } }\nmacro_rules! m { ($n:ident) => { macro_rules! k { ($a:ident) => { put!($n); } } } }\nm!(drop);\nk!(a);\nfn free(a: u8) {}\nfn f() { drop(1) }\n", DROP, [], "0 matches; 1 undecided\n"),
+    # an item in the body of a macro may be there
+    ("macro_rules! make { () => { pub struct Job; } }\nmake!();\npub struct Task;\npub fn f(j: Job) {}\n", "Job ==>> Task", ["pub fn f(j: Task) {}"], "1 match in 1 file: 1 edit\n"),
+    ("macro_rules! make { () => { fn drop(a: u8) {} }; (no) => {} }\nmake!();\nfn free(a: u8) {}\nfn f() { drop(1) }\n", DROP, [], "0 matches; 1 undecided\n"),
     # a name that a macro puts together
     ("macro_rules! m { ($n:ident) => { foreign::paste! { fn [<dr $n>](a: u8) {} } } }\nm!(op);\nfn free(a: u8) {}\nfn f() { drop(1) }\n", DROP, [], "0 matches; 1 undecided\n"),
     # another crate's macro with the name of one of the package

@@ -232,10 +232,10 @@ impl OwnMacros {
         }
     }
 
-    /// Adds the names that the bodies of the macros with a name spell.
-    pub(crate) fn add_names(&self, name: Name, names: &mut Vec<Name>) -> Result<(), AllocError> {
+    /// Adds the heads that the bodies of the macros with a name spell.
+    pub(crate) fn add_heads(&self, name: Name, heads: &mut Vec<Head>) -> Result<(), AllocError> {
         for body in self.bodies_of(name) {
-            add_heads(body.heads.as_slice(), names)?;
+            heads.extend_from_slice(body.heads.as_slice())?;
         }
         Ok(())
     }
@@ -272,14 +272,6 @@ impl OwnMacros {
             Err(_) => true,
         }
     }
-}
-
-/// Adds the names of some heads.
-fn add_heads(heads: &[Head], names: &mut Vec<Name>) -> Result<(), AllocError> {
-    for head in heads {
-        names.push(head.name)?;
-    }
-    Ok(())
 }
 
 /// Adds some names to others.
