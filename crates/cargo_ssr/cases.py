@@ -1194,6 +1194,19 @@ PACKAGES_WITH_TRAPS = [
         [],
         "0 matches; 1 undecided\n",
     ),
+    # what means the same in both
+    (
+        {
+            "tests/a.rs": "mod common;\n",
+            "tests/b.rs": "mod common;\n",
+            "tests/common/mod.rs": "pub mod inner;\nmod names;\n",
+            "tests/common/inner.rs": "use super::names::put;\npub fn f() { put(1) }\n",
+            "tests/common/names.rs": "pub use std::mem::drop as put;\n",
+        },
+        ["std::mem::drop($a) ==>> $a"],
+        ["pub fn f() { 1 }"],
+        "1 match in 1 file: 1 edit\n",
+    ),
     # what is private is reached by an import, or not at all
     (
         {
