@@ -1101,6 +1101,8 @@ TRAPS = [
     ("mod a { pub fn drop(a: u8) {} }\n#[cfg(unix)] use a::drop;\nfn free(a: u8) {}\nfn f() { drop(1) }\n", DROP, [], "0 matches; 1 undecided\n"),
     # a macro of the package may bring in anything by a glob
     ("mod a { pub fn drop(a: u8) {} }\nmacro_rules! all { () => { use a::*; } }\nall!();\nfn free(a: u8) {}\nfn f() { drop(1) }\n", DROP, [], "0 matches; 1 undecided\n"),
+    # but for enums and modules of the standard library of which that is known
+    ("fn free(a: u8) {}\nfn f() { use std::ops::Bound::*; drop(1) }\nfn g() { use std::ops::*; drop(1) }\n", DROP, ["fn f() { use std::ops::Bound::*; free(1) }"], "1 match in 1 file: 1 edit; 1 undecided\n"),
     # so may a file that is included
     ("include!(\"b.rs\");\nfn free(a: u8) {}\nfn f() { drop(1) }\n", DROP, [], "0 matches; 1 undecided\n"),
     # a macro of one function is none of another one
