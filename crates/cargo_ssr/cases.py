@@ -1047,6 +1047,17 @@ TRAPS = [
     ("macro_rules! a { ($n:ident) => { fn $n(_: u8) {} } }\nmacro_rules! b { () => { a!(drop); } }\nb!();\nfn free(a: u8) {}\nfn f() { drop(1) }\n", DROP, [], "0 matches; 1 undecided\n"),
     # what a function in such a macro calls declares nothing around it
     ("struct Job;\nimpl Job { fn a() -> u8 { 1 } }\nmacro_rules! m { ($t:ident) => { impl $t { fn b() { foreign::say!(\"b\") } } } }\nm!(Job);\nfn f() -> u8 { Job::a() }\n", "Job::a() ==>> 7", ["fn f() -> u8 { 7 }"], "1 match in 1 file: 1 edit\n"),
+    # what an `impl`, a module or a macro has in the body of a macro is none of the names around, but what a block of foreign items has is
+    ("macro_rules! m { ($t:ident $n:ident) => { impl $t { fn $n() {} } } }\nstruct Job;\nm!(Job drop);\nfn free(a: u8) {}\nfn f() { drop(1) }\n", DROP, ["fn f() { free(1) }"], "1 match in 1 file: 1 edit\n"),
+    ("macro_rules! put { ($n:ident) => { fn $n() {} } }\nmacro_rules! m { ($t:ident $n:ident) => { impl $t { put!($n); } } }\nstruct Job;\nm!(Job drop);\nfn free(a: u8) {}\nfn f() { drop(1) }\n", DROP, ["fn f() { free(1) }"], "1 match in 1 file: 1 edit\n"),
+    ("macro_rules! tests { () => { mod t { use super::*; fn drop() {} } } }\ntests!();\nfn free(a: u8) {}\nfn f() { drop(1) }\n", DROP, ["fn f() { free(1) }"], "1 match in 1 file: 1 edit\n"),
+    ("macro_rules! m { ($n:ident) => { extern \"C\" { fn $n(a: u8); } } }\nm!(drop);\nfn free(a: u8) {}\nfn f() { drop(1) }\n", DROP, [], "0 matches; 1 undecided\n"),
+    # a macro in the body of another one may declare it later
+    ("macro_rules! m { ($n:ident) => { macro_rules! k { ($a:ident) => { fn $n($a: u8) {} } } } }\nm!(drop);\nk!(a);\nfn free(a: u8) {}\nfn f() { drop(1) }\n", DROP, [], "0 matches; 1 undecided\n"),
+    ("macro_rules! put { ($n:ident) => { fn $n(a: u8) {} } }\nmacro_rules! m { ($n:ident) => { macro_rules! k { ($a:ident) => { put!($n); } } } }\nm!(drop);\nk!(a);\nfn free(a: u8) {}\nfn f() { drop(1) }\n", DROP, [], "0 matches; 1 undecided\n"),
+    # an item in the body of a macro may be there
+    ("macro_rules! make { () => { pub struct Job; } }\nmake!();\npub struct Task;\npub fn f(j: Job) {}\n", "Job ==>> Task", ["pub fn f(j: Task) {}"], "1 match in 1 file: 1 edit\n"),
+    ("macro_rules! make { () => { fn drop(a: u8) {} }; (no) => {} }\nmake!();\nfn free(a: u8) {}\nfn f() { drop(1) }\n", DROP, [], "0 matches; 1 undecided\n"),
     # a name that a macro puts together
     ("macro_rules! m { ($n:ident) => { foreign::paste! { fn [<dr $n>](a: u8) {} } } }\nm!(op);\nfn free(a: u8) {}\nfn f() { drop(1) }\n", DROP, [], "0 matches; 1 undecided\n"),
     # another crate's macro with the name of one of the package
@@ -1067,6 +1078,8 @@ TRAPS = [
     ("foreign::bindings!(\"p\");\nmod m { fn g() { Vec::new(); } }\nfn f() { Vec::new(); }\n", "Vec::new() ==>> Vec::default()", ["mod m { fn g() { Vec::default(); } }"], "1 match in 1 file: 1 edit; 1 undecided\n"),
     ("foreign::doctest!(\"../README.md\");\nfn f() { Vec::new(); }\n", "Vec::new() ==>> Vec::default()", ["fn f() { Vec::default(); }"], "1 match in 1 file: 1 edit\n"),
     ("union Vec { a: u8 }\nfn f() { Vec::new(); std::vec::Vec::new(); }\n", "std::vec::Vec::new() ==>> 7", ["fn f() { Vec::new(); 7; }"], "1 match in 1 file: 1 edit; 1 undecided; 1 file not searched whole\n"),
+    # of a union that isn't read the name alone is unknown
+    ("pub(crate) union Slot { a: std::mem::ManuallyDrop<Vec<u8>>, b: u8 }\nfn f() { Vec::new(); }\n", "std::vec::Vec::new() ==>> 7", ["fn f() { 7; }"], "1 match in 1 file: 1 edit; 1 file not searched whole\n"),
     # what a function binds is no item there
     ("fn g(a: u8) -> u8 { a }\nfn f(g: fn(u8) -> u8) -> u8 { g(1) }\nfn h() -> u8 { g(2) }\n", "g($a) ==>> $a", ["fn h() -> u8 { 2 }"], "1 match in 1 file: 1 edit; 1 undecided\n"),
     ("fn g(a: u8) -> u8 { a }\nfn f() -> u8 { if let Some(g) = k() { g(1) } else { 0 } }\n", "g($a) ==>> $a", [], "0 matches; 1 undecided\n"),
@@ -1074,6 +1087,8 @@ TRAPS = [
     ("fn g(a: u8) -> u8 { a }\nfn f() -> u8 { fn g(a: u8) -> u8 { a + 1 } g(1) }\nfn h() -> u8 { g(2) }\n", "g($a) ==>> $a", ["fn h() -> u8 { 2 }"], "1 match in 1 file: 1 edit\n"),
     # a type, a function and a macro may have one name
     ("mod log { pub fn log(a: u8) -> u8 { a } }\nuse log::log;\nfn f() -> u8 { log(1) + log::log(2) }\n", "log::log($a) ==>> $a", ["fn f() -> u8 { 1 + 2 }"], "2 matches in 1 file: 2 edits\n"),
+    # a module of the standard library is no value, and a builtin type may have its name
+    ("use std::str;\nfn f(a: &str) -> bool { str::from_utf8(b\"a\").is_ok() }\n", "&str ==>> &[u8]", ["fn f(a: &[u8]) -> bool { str::from_utf8(b\"a\").is_ok() }"], "1 match in 1 file: 1 edit\n"),
     # imports in a circle
     ("mod a { pub use crate::b::*; pub fn g(a: u8) -> u8 { a } }\nmod b { pub use crate::a::*; }\nfn f() -> u8 { b::g(1) + a::g(2) }\n", "a::g($a) ==>> $a", ["fn f() -> u8 { 1 + 2 }"], "2 matches in 1 file: 2 edits\n"),
     # an item hides what a glob brings in
@@ -1086,12 +1101,17 @@ TRAPS = [
     ("mod a { pub fn drop(a: u8) {} }\n#[cfg(unix)] use a::drop;\nfn free(a: u8) {}\nfn f() { drop(1) }\n", DROP, [], "0 matches; 1 undecided\n"),
     # a macro of the package may bring in anything by a glob
     ("mod a { pub fn drop(a: u8) {} }\nmacro_rules! all { () => { use a::*; } }\nall!();\nfn free(a: u8) {}\nfn f() { drop(1) }\n", DROP, [], "0 matches; 1 undecided\n"),
+    # but for enums and modules of the standard library of which that is known
+    ("fn free(a: u8) {}\nfn f() { use std::ops::Bound::*; drop(1) }\nfn g() { use std::ops::*; drop(1) }\n", DROP, ["fn f() { use std::ops::Bound::*; free(1) }"], "1 match in 1 file: 1 edit; 1 undecided\n"),
     # so may a file that is included
     ("include!(\"b.rs\");\nfn free(a: u8) {}\nfn f() { drop(1) }\n", DROP, [], "0 matches; 1 undecided\n"),
     # a macro of one function is none of another one
     ("fn f(a: u8) { macro_rules! assert { ($e:expr) => {} } assert!(a == 1); }\nfn g(a: u8) { assert!(a == 2); }\n", "std::assert!($a == $b) ==>> std::assert_eq!($a, $b)", None, None),
     # `self` and `Self`
     ("pub struct A;\nimpl A { pub fn new() -> A { A } fn b() -> A { Self::new() } }\nfn f() -> A { A::new() }\n", "A::new() ==>> A", None, "2 matches in 1 file: 2 edits\n"),
+    # of a type of another crate too; in a trait it is no item
+    ("pub trait Make { fn make() -> Self; fn twice(self) -> Self; }\nimpl Make for String { fn make() -> Self { Self::new() } fn twice(self) -> Self { self } }\n", "String ==>> Vec<u8>", ["impl Make for Vec<u8> { fn make() -> Vec<u8> { Self::new() } fn twice(self) -> Vec<u8> { self } }"], "3 matches in 1 file: 3 edits\n"),
+    ("pub trait Make { fn make() -> Self; }\nimpl Make for String { fn make() -> Self { Self::new() } }\n", "String::new() ==>> 7", ["impl Make for String { fn make() -> Self { 7 } }"], "1 match in 1 file: 1 edit\n"),
     # another name for it
     ("use std::mem as m;\nuse m::drop as g;\nfn free(a: u8) {}\nfn f() { g(1); m::drop(2) }\n", DROP, ["fn f() { free(1); free(2) }"], "2 matches in 1 file: 2 edits\n"),
     # another crate may bring in a macro of the standard library's name, but for crates that are known to have none
@@ -1175,6 +1195,19 @@ PACKAGES_WITH_TRAPS = [
         ["--in", "tests/a.rs:1", "helper($a) ==>> $a"],
         [],
         "0 matches; 1 undecided\n",
+    ),
+    # what means the same in both
+    (
+        {
+            "tests/a.rs": "mod common;\n",
+            "tests/b.rs": "mod common;\n",
+            "tests/common/mod.rs": "pub mod inner;\nmod names;\n",
+            "tests/common/inner.rs": "use super::names::put;\npub fn f() { put(1) }\n",
+            "tests/common/names.rs": "pub use std::mem::drop as put;\n",
+        },
+        ["std::mem::drop($a) ==>> $a"],
+        ["pub fn f() { 1 }"],
+        "1 match in 1 file: 1 edit\n",
     ),
     # what is private is reached by an import, or not at all
     (

@@ -22,6 +22,16 @@ pub(crate) fn source_texts(
     Ok(texts)
 }
 
+/// The most modules of further places whose own modules are added.
+const MOST_COPIES: usize = 65_536;
+
+/// A further place of a file, and the module that the file is at first, by their numbers.
+#[derive(Clone, Copy)]
+struct Place {
+    further: usize,
+    first: usize,
+}
+
 /// The modules that have files, each place of a file for itself. An item that is there twice, as under two conditions, is one place.
 pub(crate) fn file_modules(
     alloc: Global,
@@ -33,16 +43,53 @@ pub(crate) fn file_modules(
         places.insert(module.file.as_str(), number)?;
         modules.push(file_module(module))?;
     }
+    let mut copies = Vec::new(alloc);
     for module in tree.further() {
-        let first = match places.get(&module.file.as_str()) {
-            Some(number) => tree.modules().get(*number),
-            None => None,
+        let number = places.get(&module.file.as_str()).copied().unwrap_or(usize::MAX);
+        let first = tree.modules().get(number);
+        if first.is_some_and(|first| is_same_place(first, module)) {
+            continue;
+        }
+        if first.is_some_and(|first| first.owns_folder == module.owns_folder) {
+            copies.push(Place {
+                further: modules.len(),
+                first: number,
+            })?;
+        }
+        modules.push(file_module(module))?;
+    }
+    add_below(&mut modules, copies)?;
+    Ok(modules)
+}
+
+/// Adds the modules below further places of files: what the first module of a file declares, each further one does as well.
+fn add_below(modules: &mut Vec<FileModule<'_>>, copies: Vec<Place>) -> Result<(), AllocError> {
+    let count = modules.len();
+    let mut copies = copies;
+    for next in 0..MOST_COPIES {
+        let Some(copy) = copies.get(next).copied() else {
+            return Ok(());
         };
-        if !first.is_some_and(|first| is_same_place(first, module)) {
-            modules.push(file_module(module))?;
+        for number in 0..count {
+            if let Some(module) = modules.get(number).copied()
+                && let Source::Declared(item) = module.origin
+                && item.declarer == copy.first
+            {
+                copies.push(Place {
+                    further: modules.len(),
+                    first: number,
+                })?;
+                modules.push(FileModule {
+                    file: module.file,
+                    origin: Source::Declared(Declaration {
+                        declarer: copy.further,
+                        ..item
+                    }),
+                })?;
+            }
         }
     }
-    Ok(modules)
+    Ok(())
 }
 
 /// Whether two modules have one place: one item declares both, or two of one name side by side.

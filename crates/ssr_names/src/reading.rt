@@ -104,7 +104,7 @@ fn all_wanted(
     wanted.add_type_aliases(space)?;
     wanted.add_doubtful_aliases(space)?;
     wanted.add_ways(space)?;
-    wanted.add_self(self_type)?;
+    wanted.add_self(space, outside, self_type)?;
     wanted.add_types(space, outside)?;
     Ok(wanted)
 }

@@ -6,7 +6,7 @@ use crate::copies::ModulePlace;
 use crate::definitions::{Definition, Meaning};
 use crate::lookup::{PathAnswer, PathQuestion, Question};
 use crate::outside::OutsidePaths;
-use crate::places::{Place, is_shorthand, namespace_of, place_of};
+use crate::places::{Place, is_shorthand, kind_at, namespace_of, place_of};
 use crate::scopes::Scopes;
 use crate::sorts::is_capital;
 use crate::space::{Space, between};
@@ -15,6 +15,7 @@ use crate::types::{Source, followed};
 use crate::words::{Binder, Word};
 use ssr_base_trees::NodeId;
 use ssr_names_items::{Impl, ItemKind, ModuleNo, Name, Namespace, Start};
+use ssr_syntax_kinds::SyntaxKind;
 use ssr_syntax_tree::{Element, NodeNo, Tree};
 use std::alloc::AllocError;
 
@@ -101,7 +102,7 @@ fn name_behind(tree: &Tree, path: NodeNo) -> Option<&str>
     requires { HasNode tree.now path.0 }
 {
     let parent = tree.parent(path)?;
-    if !tree.kind(parent).is(ssr_syntax_kinds::SyntaxKind::PATH) {
+    if !tree.kind(parent).is(SyntaxKind::PATH) {
         return None;
     }
     crate::code_paths::last_text(tree, parent)
@@ -201,15 +202,16 @@ impl<'r> Resolver<'r> {
         self.bound.binary_search(&bound).is_ok()
     }
 
-    /// The type that an `impl` is for, if that is one of the run.
+    /// The type that an `impl` is for.
     fn type_of(&self, block: ImplType) -> Meaning {
-        match followed(self.space, block.meaning) {
-            Meaning::One(Definition::Item(item)) => Meaning::One(Definition::Item(item)),
+        let meaning = followed(self.space, block.meaning);
+        match meaning {
+            Meaning::One(Definition::Item(_) | Definition::Outside(_)) => meaning,
             _ => Meaning::Unknown,
         }
     }
 
-    /// What `Self` stands for: the type that the `impl` around is for, at each place where that is, if it is one of the run.
+    /// What `Self` stands for: the type that the `impl` around is for, at each place where that is.
     fn self_meaning(&self, place: Place) -> Meaning {
         let Some(node) = place.within_impl else {
             return Meaning::Unknown;
@@ -223,6 +225,19 @@ impl<'r> Resolver<'r> {
         match meaning {
             Meaning::Nothing => Meaning::Unknown,
             _ => meaning,
+        }
+    }
+
+    /// Whether a path is the `Self` of a trait alone, which is no item.
+    fn is_self_of_trait(&self, path: &CodePath, place: Place) -> bool {
+        let (Start::Plain, [name], Some(node)) =
+            (path.start, path.names.as_slice(), place.within_impl)
+        else {
+            return false;
+        };
+        match kind_at(self.source.trees, node) {
+            Some(kind) => *name == self.self_type && kind.is(SyntaxKind::TRAIT),
+            None => false,
         }
     }
 
@@ -336,7 +351,7 @@ impl<'r> Resolver<'r> {
         };
         let first = path.names.first().copied().unwrap_or(word.name);
         let place = place_of(source.trees, word.node, self.space.text(first));
-        if place.is_aside {
+        if place.is_aside || (behind.is_none() && self.is_self_of_trait(&path, place)) {
             return Ok(None);
         }
         let spelled = Spelled {

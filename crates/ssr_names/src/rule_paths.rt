@@ -92,7 +92,22 @@ pub(crate) fn key_definition(
         known => known,
     };
     match meaning {
-        Meaning::One(definition) => Ok(Some(definition)),
+        Meaning::One(definition) if namespace != Namespace::Value
+            || !is_std_module(space, outside, definition) =>
+        {
+            Ok(Some(definition))
+        }
         _ => Ok(None),
+    }
+}
+
+/// Whether a definition is a module of the standard library, which is no value.
+fn is_std_module(space: &Space<'_>, outside: &OutsidePaths, definition: Definition) -> bool {
+    match definition {
+        Definition::Outside(path) => match outside.path(path) {
+            Some(row) => row.parent == Some(space.std),
+            None => false,
+        },
+        _ => false,
     }
 }

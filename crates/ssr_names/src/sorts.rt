@@ -85,7 +85,7 @@ fn plain_info(name: &str, namespace: Namespace) -> DefInfo {
 
 impl<'a> Space<'a> {
     /// Whether a path that isn't read is that of a type, as its name shows.
-    fn is_type(&self, outside: &OutsidePaths, path: OutsideNo) -> bool {
+    pub(crate) fn is_type(&self, outside: &OutsidePaths, path: OutsideNo) -> bool {
         match outside.path(path) {
             Some(row) => is_capital(self.text(row.name)) || self.is_builtin(outside, path),
             None => false,

@@ -566,6 +566,8 @@ pub(crate) fn brought_by_glob(parent: &str, name: &str) -> Option<&'static [&'st
     match (parent, name) {
         ("io", "prelude") => Some(&IO_PRELUDE[..]),
         ("cmp", "Ordering") => Some(&CMP_ORDERING[..]),
+        ("ops", "Bound") => Some(&OPS_BOUND[..]),
+        ("task", "Poll") => Some(&TASK_POLL[..]),
         ("sync", "atomic") => Some(&SYNC_ATOMIC[..]),
         ("std", "io") => Some(&IO[..]),
         ("std", "fmt") => Some(&FMT[..]),
@@ -577,6 +579,10 @@ pub(crate) fn brought_by_glob(parent: &str, name: &str) -> Option<&'static [&'st
 const IO_PRELUDE: [&str; 4] = ["BufRead", "Read", "Seek", "Write"];
 
 const CMP_ORDERING: [&str; 3] = ["Less", "Equal", "Greater"];
+
+const OPS_BOUND: [&str; 3] = ["Included", "Excluded", "Unbounded"];
+
+const TASK_POLL: [&str; 2] = ["Ready", "Pending"];
 
 const SYNC_ATOMIC: [&str; 29] = [
     "AtomicBool",

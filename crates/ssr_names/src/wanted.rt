@@ -9,7 +9,7 @@ use crate::space::Space;
 use crate::words::Words;
 use ssr_base_trees::{DefId, DefInfo, DefKind, Res, ScopeId, TypeId};
 use ssr_names_items::{
-    Brings, ImplNo, ModuleKind, ModuleNo, Name, Namespace, Owner, Start, Visibility,
+    Brings, ImplNo, ItemKind, ModuleKind, ModuleNo, Name, Namespace, Owner, Start, Visibility,
 };
 use std::alloc::{AllocError, Global};
 use std::collections::{BTreeMap, BTreeSet};
@@ -296,11 +296,16 @@ impl Wanted {
         Ok(())
     }
 
-    /// Adds the name `Self` for the types of the run that rules ask for.
-    pub(crate) fn add_self(&mut self, self_type: Name) -> Result<(), AllocError> {
+    /// Adds the name `Self` for the types that rules ask for.
+    pub(crate) fn add_self(
+        &mut self,
+        space: &Space<'_>,
+        outside: &OutsidePaths,
+        self_type: Name,
+    ) -> Result<(), AllocError> {
         let mut first = None;
         for (definition, number) in self.numbers.iter() {
-            if matches!(definition, Definition::Item(_)) && first.is_none() {
+            if may_be_self(space, outside, *definition) && first.is_none() {
                 first = Some(*number);
             }
         }
@@ -335,6 +340,21 @@ impl Wanted {
             words.ask_parameter(self.alloc, space.text(*name), *name)?;
         }
         Ok(())
+    }
+}
+
+/// Whether `Self` may stand for a definition: it is a type, by its kind or as its name shows.
+fn may_be_self(space: &Space<'_>, outside: &OutsidePaths, definition: Definition) -> bool {
+    match definition {
+        Definition::Item(item) => match space.item(item) {
+            Some(row) => matches!(
+                row.kind,
+                ItemKind::Struct | ItemKind::Enum | ItemKind::Union | ItemKind::TypeAlias
+            ),
+            None => false,
+        },
+        Definition::Outside(path) => space.is_type(outside, path),
+        _ => false,
     }
 }
 

@@ -5,7 +5,8 @@ use crate::heads::{AROUND_BODY, Call, Head, HeadKind, Heads, spelled};
 use crate::macros::Called;
 use crate::plain_macros::is_plain;
 use crate::reader::{Place, Reader, Visit};
-use crate::table::{ModuleNo, Name, Namespace, Owner, Thing, Visibility};
+use crate::table::{ItemKind, ModuleNo, Name, Namespace, Owner, Thing, Visibility};
+use ssr_base_trees::NodeId;
 use ssr_syntax_kinds::SyntaxKind;
 use ssr_syntax_tree::NodeNo;
 use std::alloc::AllocError;
@@ -172,7 +173,8 @@ impl<'a> Reader<'a> {
             return Ok(());
         }
         let alloc = self.alloc;
-        let found = spelled(alloc, &mut self.names, code, code.tokens(argument))?;
+        let tokens = code.tokens(argument);
+        let found = spelled(alloc, &mut self.names, code, tokens, u32::MAX)?;
         let deepest = if called == Called::Alternatives { 2 } else { 1 };
         self.declare(visit, call, place, &found, deepest)?;
         let has_unread = match deepest_call(called) {
@@ -241,25 +243,23 @@ impl<'a> Reader<'a> {
             }
             return self.add_unknown(own.module, head.name);
         };
-        let node = visit.code.id(call);
-        let item = self.add_item(node, head.name, kind, own)?;
-        self.add_entry(
-            own,
-            head.name,
-            kind.namespace(),
-            Thing::Item(item),
-            Visibility::Public,
-        )?;
+        self.declare_item(visit.code.id(call), own, head.name, kind)
+    }
+
+    /// Adds an item that a call may declare.
+    fn declare_item(
+        &mut self,
+        call: NodeId,
+        own: Place,
+        name: Name,
+        kind: ItemKind,
+    ) -> Result<(), AllocError> {
+        let all = Visibility::Public;
+        let item = Thing::Item(self.add_item(call, name, kind, own)?);
+        self.add_entry(own, name, kind.namespace(), item, all)?;
         // its fields aren't read
         if kind.namespace() == Namespace::Type {
-            let unknown = Thing::Unknown;
-            self.add_entry(
-                own,
-                head.name,
-                Namespace::Value,
-                unknown,
-                Visibility::Public,
-            )?;
+            self.add_entry(own, name, Namespace::Value, Thing::Unknown, all)?;
         }
         Ok(())
     }
@@ -286,7 +286,8 @@ impl<'a> Reader<'a> {
             self.modules.open(place.module);
         }
         let names_words = has_unread || effects.names_words || effects.uses_words;
-        self.add_followed(place, effects.followed.as_slice(), names_words)?;
+        let followed = effects.followed.as_slice();
+        self.add_followed(code.id(call), place, followed, names_words)?;
         if names_words && let Some(argument) = code.child(call, SyntaxKind::TOKEN_TREE) {
             self.add_words(code, argument, place, &[])?;
         }
@@ -296,20 +297,44 @@ impl<'a> Reader<'a> {
     /// Adds what the bodies of macros spell that a call leads to: of each once in a module.
     fn add_followed(
         &mut self,
+        call: NodeId,
         place: Place,
         followed: &[Name],
         names_words: bool,
     ) -> Result<(), AllocError> {
-        let mut names = Vec::new(self.alloc);
+        let mut heads = Vec::new(self.alloc);
+        let mut words = Vec::new(self.alloc);
         for name in followed {
             if self.spelled.insert((place.module, *name, false))? {
-                self.macros.add_names(*name, &mut names)?;
+                self.macros.add_heads(*name, &mut heads)?;
             }
             if names_words && self.spelled.insert((place.module, *name, true))? {
-                self.macros.add_words(*name, &mut names)?;
+                self.macros.add_words(*name, &mut words)?;
             }
         }
-        self.add_all_unknown(place.module, names.as_slice())
+        self.declare_all(call, place, heads.as_slice())?;
+        self.add_all_unknown(place.module, words.as_slice())
+    }
+
+    /// Adds what heads in the bodies of macros may declare. Of macros, modules and what is brought in the names alone are known.
+    fn declare_all(
+        &mut self,
+        call: NodeId,
+        place: Place,
+        heads: &[Head],
+    ) -> Result<(), AllocError> {
+        let mut own = place;
+        own.owner = Owner::Module;
+        own.is_sure = false;
+        for head in heads {
+            match head.kind {
+                HeadKind::Item(kind) if kind != ItemKind::Macro => {
+                    self.declare_item(call, own, head.name, kind)?;
+                }
+                _ => self.add_unknown(own.module, head.name)?,
+            }
+        }
+        Ok(())
     }
 
     /// Adds names of which nothing is known but that they may be there.

@@ -128,12 +128,13 @@ fn behind_ref(front: Front) -> Front {
     }
 }
 
-/// What the tokens from the first of a range on may declare.
+/// What the tokens from the first of a range on may declare, with at most so many braces around it.
 pub(crate) fn spelled(
     alloc: Global,
     names: &mut Names,
     code: Code<'_>,
     tokens: Range<u32>,
+    deepest: u32,
 ) -> Result<Heads, AllocError> {
     let mut scan = Scan {
         found: Heads {
@@ -149,6 +150,8 @@ pub(crate) fn spelled(
         depth: 0,
         braces: 0,
         around_call: None,
+        deepest,
+        has_open_braces: false,
     };
     for token in tokens.start..tokens.end {
         let kind = code.token_kind(token);
@@ -170,6 +173,10 @@ struct Scan {
     braces: u32,
     /// How many brackets are open around the outermost call, in its argument.
     around_call: Option<u32>,
+    /// How many braces may be open around what is declared.
+    deepest: u32,
+    /// Whether `extern` or `macro_rules` was met: what stands in the braces behind it may be declared around them.
+    has_open_braces: bool,
 }
 
 impl Scan {
@@ -195,8 +202,14 @@ impl Scan {
                 self.depth = self.depth.saturating_sub(1);
             }
             SyntaxKind::STAR => self.found.has_star = true,
+            SyntaxKind::EXTERN_KW => self.has_open_braces = true,
             _ => {}
         }
+    }
+
+    /// Whether what is declared here isn't a part of an `impl`, a function or a module in the body of a macro.
+    fn is_outer(&self) -> bool {
+        self.braces <= self.deepest || self.has_open_braces
     }
 
     /// Counts a brace that is none of a call's argument.
@@ -242,7 +255,8 @@ impl Scan {
                 self.braces = self.braces.saturating_sub(1);
             }
         }
-        let (is_plain, braces) = (sort == Sort::Plain, self.braces);
+        let is_plain = sort == Sort::Plain;
+        let braces = if self.has_open_braces { 0 } else { self.braces };
         self.found.calls.push(Call {
             name,
             is_plain,
@@ -254,7 +268,9 @@ impl Scan {
 
     fn add(&mut self, kind: HeadKind, name: Name) -> Result<(), AllocError> {
         let depth = self.depth;
-        self.found.heads.push(Head { kind, name, depth })?;
+        if self.is_outer() {
+            self.found.heads.push(Head { kind, name, depth })?;
+        }
         Ok(())
     }
 
@@ -268,7 +284,7 @@ impl Scan {
         self.front = Front::Use;
         match kind {
             SyntaxKind::SEMICOLON => self.front = Front::Other,
-            SyntaxKind::STAR | SyntaxKind::L_BRACK => self.found.has_glob = true,
+            SyntaxKind::STAR | SyntaxKind::L_BRACK => self.found.has_glob |= self.is_outer(),
             SyntaxKind::DOLLAR => self.front = Front::UseDollar,
             SyntaxKind::IDENT if is_behind_dollar => self.found.has_open_use = true,
             SyntaxKind::IDENT => self.add(HeadKind::Used, names.add(text)?)?,
@@ -286,6 +302,7 @@ impl Scan {
         } else if text == "union" {
             self.front = Front::Item(HeadKind::Item(ItemKind::Union));
         } else if text == "macro_rules" {
+            self.has_open_braces = true;
             self.front = Front::MacroRules;
         } else {
             self.front = Front::Word(name, sort_of(text));
@@ -297,9 +314,9 @@ impl Scan {
         let front = self.front;
         self.front = front_behind(front, kind);
         match (front, kind) {
-            (Front::Item(_), SyntaxKind::DOLLAR) => self.found.has_open_head = true,
+            (Front::Item(_), SyntaxKind::DOLLAR) => self.found.has_open_head |= self.is_outer(),
             // a name that is put together, as `paste!` does
-            (Front::Item(_), SyntaxKind::L_BRACK) => self.found.has_glob = true,
+            (Front::Item(_), SyntaxKind::L_BRACK) => self.found.has_glob |= self.is_outer(),
             (Front::MacroRules, SyntaxKind::BANG) => {
                 self.front = Front::Item(HeadKind::Item(ItemKind::Macro));
             }

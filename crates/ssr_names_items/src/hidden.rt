@@ -106,6 +106,41 @@ fn has_condition(pieces: &[&str]) -> bool {
     false
 }
 
+/// Whether pieces end where their first braces do.
+fn ends_with_braces(pieces: &[&str]) -> bool {
+    let mut depth = 0u32;
+    for (place, piece) in pieces.iter().enumerate() {
+        match *piece {
+            "{" => depth = depth.saturating_add(1),
+            "}" => depth = depth.saturating_sub(1),
+            _ => continue,
+        }
+        if depth == 0 {
+            return place.saturating_add(1) == pieces.len();
+        }
+    }
+    false
+}
+
+/// Whether pieces are those of a visibility, or none.
+fn are_visibility(pieces: &[&str]) -> bool {
+    pieces.iter().all(|piece| {
+        matches!(*piece, "pub" | "(" | ")" | "crate" | "super" | "self" | "in" | ":")
+    })
+}
+
+/// The name of the union that pieces are, if they are one alone.
+fn union_name<'t>(pieces: &[&'t str]) -> Option<&'t str> {
+    let at = pieces.iter().position(|piece| *piece == "union")?;
+    match (pieces.get(..at)?, pieces.get(at..)?) {
+        (front, [_, name, ..])
+            if is_word(name) && are_visibility(front) && ends_with_braces(pieces) => {
+            Some(*name)
+        }
+        _ => None,
+    }
+}
+
 /// What stands in front of a piece of a foreign item.
 #[derive(Clone, Copy)]
 struct Foreign {
@@ -288,8 +323,12 @@ impl<'a> Reader<'a> {
         )
     }
 
-    /// Adds the words among pieces that are set aside, but for the `C` of `extern "C"`.
+    /// Adds the words among pieces that are set aside, but for the `C` of `extern "C"`. Of a union that is its name.
     fn add_pieces(&mut self, pieces: &[&str], module: ModuleNo) -> Result<(), AllocError> {
+        if let Some(text) = union_name(pieces) {
+            let name = self.names.add(text)?;
+            return self.add_unknown(module, name);
+        }
         let mut front = "";
         let mut last = "";
         for piece in pieces {

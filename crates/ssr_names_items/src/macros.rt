@@ -95,7 +95,7 @@ impl OwnMacros {
         };
         let name = names.add(text)?;
         let heads = match code.child(item, SyntaxKind::TOKEN_TREE) {
-            Some(body) => spelled(self.alloc, names, code, code.tokens(body))?,
+            Some(body) => spelled(self.alloc, names, code, code.tokens(body), AROUND_BODY)?,
             None => return Ok(()),
         };
         if let Some(bodies) = self.bodies.get_mut(&name) {
@@ -158,27 +158,36 @@ impl OwnMacros {
     fn followed(&self, calls: &[Call]) -> Result<Option<Vec<Name>>, AllocError> {
         let mut known = BTreeSet::new(self.alloc);
         let mut followed = Vec::new(self.alloc);
-        self.add_calls(calls, &mut known, &mut followed)?;
+        self.add_calls(calls, u32::MAX, &mut known, &mut followed)?;
         for place in 0..MOST_MACROS {
             let Some(name) = followed.get(place).copied() else {
                 return Ok(Some(followed));
             };
             for body in self.bodies_of(name) {
-                self.add_calls(body.calls.as_slice(), &mut known, &mut followed)?;
+                self.add_calls(
+                    body.calls.as_slice(),
+                    AROUND_BODY,
+                    &mut known,
+                    &mut followed,
+                )?;
             }
         }
         Ok(None)
     }
 
-    /// Adds those macros of files that weren't met before.
+    /// Adds those macros of files that weren't met before, of calls with at most so many braces around them.
     fn add_calls(
         &self,
         calls: &[Call],
+        deepest: u32,
         known: &mut BTreeSet<Name>,
         followed: &mut Vec<Name>,
     ) -> Result<(), AllocError> {
         for call in calls {
-            if self.bodies.contains_key(&call.name) && known.insert(call.name)? {
+            if call.braces <= deepest
+                && self.bodies.contains_key(&call.name)
+                && known.insert(call.name)?
+            {
                 followed.push(call.name)?;
             }
         }
@@ -223,10 +232,10 @@ impl OwnMacros {
         }
     }
 
-    /// Adds the names that the bodies of the macros with a name spell.
-    pub(crate) fn add_names(&self, name: Name, names: &mut Vec<Name>) -> Result<(), AllocError> {
+    /// Adds the heads that the bodies of the macros with a name spell.
+    pub(crate) fn add_heads(&self, name: Name, heads: &mut Vec<Head>) -> Result<(), AllocError> {
         for body in self.bodies_of(name) {
-            add_heads(body.heads.as_slice(), names)?;
+            heads.extend_from_slice(body.heads.as_slice())?;
         }
         Ok(())
     }
@@ -263,14 +272,6 @@ impl OwnMacros {
             Err(_) => true,
         }
     }
-}
-
-/// Adds the names of some heads.
-fn add_heads(heads: &[Head], names: &mut Vec<Name>) -> Result<(), AllocError> {
-    for head in heads {
-        names.push(head.name)?;
-    }
-    Ok(())
 }
 
 /// Adds some names to others.
