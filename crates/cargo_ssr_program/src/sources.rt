@@ -45,7 +45,10 @@ pub(crate) fn file_modules(
     }
     let mut copies = Vec::new(alloc);
     for module in tree.further() {
-        let number = places.get(&module.file.as_str()).copied().unwrap_or(usize::MAX);
+        let number = places
+            .get(&module.file.as_str())
+            .copied()
+            .unwrap_or(usize::MAX);
         let first = tree.modules().get(number);
         if first.is_some_and(|first| is_same_place(first, module)) {
             continue;
@@ -63,30 +66,42 @@ pub(crate) fn file_modules(
 }
 
 /// Adds the modules below further places of files: what the first module of a file declares, each further one does as well.
-fn add_below(modules: &mut Vec<FileModule<'_>>, copies: Vec<Place>) -> Result<(), AllocError> {
+fn add_below(modules: &mut Vec<FileModule<'_>>, mut copies: Vec<Place>) -> Result<(), AllocError> {
     let count = modules.len();
-    let mut copies = copies;
     for next in 0..MOST_COPIES {
         let Some(copy) = copies.get(next).copied() else {
-            return Ok(());
+            break;
         };
-        for number in 0..count {
-            if let Some(module) = modules.get(number).copied()
-                && let Source::Declared(item) = module.origin
-                && item.declarer == copy.first
-            {
-                copies.push(Place {
-                    further: modules.len(),
-                    first: number,
-                })?;
-                modules.push(FileModule {
-                    file: module.file,
-                    origin: Source::Declared(Declaration {
-                        declarer: copy.further,
-                        ..item
-                    }),
-                })?;
-            }
+        add_declared(modules, count, copy, &mut copies)?;
+    }
+    Ok(())
+}
+
+/// Adds what a further place declares as the first one does, of which the modules are among so many. These are further places too.
+fn add_declared(
+    modules: &mut Vec<FileModule<'_>>,
+    count: usize,
+    place: Place,
+    copies: &mut Vec<Place>,
+) -> Result<(), AllocError> {
+    for number in 0..count {
+        let Some(module) = modules.get(number).copied() else {
+            break;
+        };
+        if let Source::Declared(item) = module.origin
+            && item.declarer == place.first
+        {
+            copies.push(Place {
+                further: modules.len(),
+                first: number,
+            })?;
+            modules.push(FileModule {
+                file: module.file,
+                origin: Source::Declared(Declaration {
+                    declarer: place.further,
+                    ..item
+                }),
+            })?;
         }
     }
     Ok(())
