@@ -1,0 +1,4 @@
+mod Climbing
+mod Naming
+mod Collecting
+mod Binding

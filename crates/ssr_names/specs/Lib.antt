@@ -1,2 +1,3 @@
 pub mod Provider
+pub mod Locals
 pub mod Private

@@ -1,3 +1,4 @@
 -- Words of how private fields are seen. No public clause cites them.
 pub mod Complete
 pub mod Scopes
+pub mod Locals

@@ -1,5 +1,9 @@
 //! Paths of the code as they are spelled.
-ghost use Rattle.ssr_syntax_tree.specs.Places.{HasNode};
+ghost use Rattle.std.specs.Prelude.{◌≡◌};
+ghost use Rattle.std.specs.Option.{option_map};
+ghost use Rattle.ssr_syntax_tree.specs.Places.{HasNode, node_of};
+ghost use Rattle.ide_ssr_resolved_rule.specs.Paths.{last_name};
+ghost use Rattle.ssr_names.specs.Locals.{begins_with_colons, is_alone, text_of_first};
 
 use ide_ssr_resolved_rule::{first_child, last_segment};
 use ssr_names_items::{Name, Names, Start};
@@ -28,13 +32,22 @@ pub(crate) struct CodePath {
     pub(crate) names: Vec<Name>,
 }
 
+/// The text of the first child of a kind.
+pub(crate) fn text_of_first(tree: &Tree, node: NodeNo, kind: SyntaxKind) -> Option<&str>
+    requires { HasNode tree.now node.0 }
+    ensures { option_map (λ text. text.now) result ≡ text_of_first kind (node_of tree.now node.0).children }
+{
+    let child = first_child(tree, node, kind)?;
+    Some(tree.text(child))
+}
+
 /// The name of a path's last segment.
 pub(crate) fn last_text(tree: &Tree, path: NodeNo) -> Option<&str>
     requires { HasNode tree.now path.0 }
+    ensures { option_map (λ text. text.now) result ≡ last_name (node_of tree.now path.0).children }
 {
     let segment = last_segment(tree, path)?;
-    let name = first_child(tree, segment, SyntaxKind::NAME_REF)?;
-    Some(tree.text(name))
+    text_of_first(tree, segment, SyntaxKind::NAME_REF)
 }
 
 /// What a path's last segment is. A name that nothing of the run has is as good as any other such name.
@@ -53,12 +66,21 @@ fn segment_of(tree: &Tree, path: NodeNo, names: &Names, stranger: Name) -> Segme
 /// Whether `::` stands at the beginning of a segment.
 fn begins_with_colons(tree: &Tree, path: NodeNo) -> bool
     requires { HasNode tree.now path.0 }
+    ensures { result ≡ begins_with_colons tree.now (node_of tree.now path.0) }
 {
     let tokens = tree.tokens_below(path);
     tokens.start < tokens.end
         && tree
             .token_kind(TokenNo(tokens.start))
             .is(SyntaxKind::COLON2)
+}
+
+/// Whether a path has one segment, with no `::` in front.
+pub(crate) fn is_alone(tree: &Tree, path: NodeNo) -> bool
+    requires { HasNode tree.now path.0 }
+    ensures { result ≡ is_alone tree.now (node_of tree.now path.0) }
+{
+    first_child(tree, path, SyntaxKind::PATH).is_none() && !begins_with_colons(tree, path)
 }
 
 /// The segments of a path from the last one on, and whether `::` stands in front of the first.

@@ -6,6 +6,7 @@ mod copies;
 mod definitions;
 mod imports;
 mod kinds;
+mod locals;
 mod lookup;
 mod macros;
 mod no_std;

@@ -704,10 +704,21 @@ impl<'a> Space<'a> {
         outside: &mut OutsidePaths,
         path: PathQuestion<'_>,
     ) -> Result<Front, AllocError> {
+        self.front_from(alloc, outside, path, Front::Empty)
+    }
+
+    /// What the names of a path in front of the last one stand for, where those in front of them stand for this.
+    fn front_from(
+        &self,
+        alloc: Global,
+        outside: &mut OutsidePaths,
+        path: PathQuestion<'_>,
+        start: Front,
+    ) -> Result<Front, AllocError> {
         let Some((_, names)) = path.names.split_last() else {
-            return Ok(Front::Empty);
+            return Ok(start);
         };
-        let mut front = Front::Empty;
+        let mut front = start;
         for name in names {
             let step = Step {
                 name: *name,
@@ -778,6 +789,19 @@ impl<'a> Space<'a> {
             Some(base) => Meaning::One(Definition::Module(base)),
             None => Meaning::Nothing,
         }
+    }
+
+    /// What the names of a path stand for behind a definition.
+    pub(crate) fn path_behind(
+        &self,
+        alloc: Global,
+        outside: &mut OutsidePaths,
+        path: PathQuestion<'_>,
+        definition: Definition,
+    ) -> Result<Meaning, AllocError> {
+        let front = self.front_from(alloc, outside, path, Front::Behind(definition))?;
+        let answer = self.end(alloc, outside, path, front)?;
+        Ok(answer.meaning)
     }
 
     /// What a path stands for.

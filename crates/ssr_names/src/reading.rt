@@ -1,7 +1,15 @@
 //! The provider of a run, read of its sources.
+ghost use Rattle.std.specs.Prelude.{◌≡◌, List, None, IfOk, OnOk, All};
+ghost use Rattle.std.specs.BTreeMap.{insert_entry};
+ghost use Rattle.ssr_base_trees.specs.contracts.ids.NodeIdOrd.TheImpl as id_order;
+ghost use Rattle.ssr_base_trees.specs.Built.{IsBuilt};
+ghost use Rattle.ssr_base_trees.specs.Workspace.{PlacedTree, trees as placed};
+ghost use Rattle.ssr_names.specs.Locals.{TellsNoLocal};
+ghost use Rattle.ssr_names.specs.Private.Locals.{CollectsAll, HasNoLocal, IsRight};
 
-use crate::definitions::Meaning;
+use crate::definitions::{Definition, Meaning};
 use crate::imports::settle;
+use crate::locals::Locals;
 use crate::no_std::roots_without_std;
 use crate::outside::OutsidePaths;
 use crate::preparing::add_std_names;
@@ -14,7 +22,7 @@ use crate::space::Space;
 use crate::types::{Source, add_inherent, follow_aliases, is_alias};
 use crate::wanted::Wanted;
 use crate::words::{Word, Words};
-use ssr_base_trees::{NodeId, Res, ScopeId, Trees};
+use ssr_base_trees::{DefId, NodeId, Res, ScopeId, Trees};
 use ssr_names_items::{ModuleNo, Name, Table};
 use std::alloc::{AllocError, Global};
 use std::collections::BTreeMap;
@@ -116,16 +124,48 @@ fn add_row(
     wanted: &Wanted,
     row: Row,
     rows: &mut PathRows,
-) -> Result<(), AllocError> {
-    let Meaning::One(definition) = row.meaning else {
+) -> Result<(), AllocError>
+    ensures { (trees : List PlacedTree) → IsRight trees row → HasNoLocal trees rows.old.known.entries → OnOk result (HasNoLocal trees rows.new.known.entries) }
+{
+    let Some(definition) = definition_of(row) else {
         return add_undecided(alloc, space, wanted, row, rows);
     };
-    if let Some(number) = wanted.number(definition) {
-        rows.known.insert(row.node, Res::Def(number))?;
-        rows.believed.insert(row.node, Res::Def(number))?;
-        return Ok(());
+    match wanted.number(definition) {
+        Some(number) => add_known(row.node, number, rows),
+        None => add_doubtful(alloc, space, wanted, row, rows),
     }
-    // What an alias has behind it may be that of a type with arguments of its own.
+}
+
+/// The definition that a path stands for, if that is known.
+fn definition_of(row: Row) -> Option<Definition>
+    ensures { row.meaning ≡ Meaning.Unknown → result ≡ None }
+{
+    match row.meaning {
+        Meaning::One(definition) => Some(definition),
+        _ => None,
+    }
+}
+
+/// Adds a path that stands for what a rule asks for.
+fn add_known(node: NodeId, number: DefId, rows: &mut PathRows) -> Result<(), AllocError>
+    ensures { OnOk result (rows.new.known.entries ≡ insert_entry ((id_order.ghosts).cmp) rows.old.known.entries node (Res.Def number)) }
+{
+    rows.known.insert(node, Res::Def(number))?;
+    rows.believed.insert(node, Res::Def(number))?;
+    Ok(())
+}
+
+/// Adds a path that stands for what no rule asks for, if it isn't known what is behind it: what an alias has there may be that of a
+/// type with arguments of its own.
+fn add_doubtful(
+    alloc: Global,
+    space: &Space<'_>,
+    wanted: &Wanted,
+    row: Row,
+    rows: &mut PathRows,
+) -> Result<(), AllocError>
+    ensures { rows.new.known ≡ rows.old.known }
+{
     if row.is_front && is_alias(space, row.meaning) {
         return add_undecided(alloc, space, wanted, row, rows);
     }
@@ -139,7 +179,9 @@ fn add_undecided(
     wanted: &Wanted,
     row: Row,
     rows: &mut PathRows,
-) -> Result<(), AllocError> {
+) -> Result<(), AllocError>
+    ensures { rows.new.known ≡ rows.old.known }
+{
     if let Some(number) = wanted.believed_at(row.word, row.namespace) {
         rows.believed.insert(row.node, Res::Def(number))?;
         rows.undecided.push(Undecided {
@@ -156,7 +198,9 @@ fn path_rows(
     space: &Space<'_>,
     wanted: &Wanted,
     found: &[Row],
-) -> Result<PathRows, AllocError> {
+) -> Result<PathRows, AllocError>
+    ensures { (trees : List PlacedTree) → All (IsRight trees) found.now → IfOk result (λ rows. HasNoLocal trees rows.known.entries) }
+{
     let mut rows = PathRows {
         known: BTreeMap::new(alloc),
         believed: BTreeMap::new(alloc),
@@ -175,7 +219,9 @@ fn add_calls(
     wanted: &Wanted,
     calls: &[Word],
     rows: &mut PathRows,
-) -> Result<(), AllocError> {
+) -> Result<(), AllocError>
+    ensures { rows.new.known ≡ rows.old.known }
+{
     for call in calls {
         if let Some(function) = wanted.called(call.name) {
             rows.believed.insert(call.node, Res::Def(function))?;
@@ -229,13 +275,18 @@ fn found_rows(
     resolver: Resolver<'_>,
     outside: &mut OutsidePaths,
     words: &Words,
-) -> Result<(Vec<Row>, Vec<BoundIn>), AllocError> {
+) -> Result<(Vec<Row>, Vec<BoundIn>), AllocError>
+    requires built { IsBuilt resolver.source.now.trees.now }
+    requires collected { CollectsAll (placed resolver.source.now.trees.now) words.now }
+    ensures { IfOk result (λ found. All (IsRight (placed resolver.entry.source.now.trees.now)) found.0.items) }
+{
     let (bound, bound_in) = resolver.bound(outside, &words.binders)?;
-    let rows = Resolver {
+    let locals = Locals {
+        trees: resolver.source.trees,
+        words,
         bound: &bound,
-        ..resolver
-    }
-    .rows(outside, &words.paths)?;
+    };
+    let rows = resolver.rows(outside, locals)?;
     Ok((rows, bound_in))
 }
 
@@ -245,57 +296,43 @@ fn asked(
     space: &Space<'_>,
     trees: &Trees,
     wanted: &Wanted,
-) -> Result<Words, AllocError> {
+) -> Result<Words, AllocError>
+    ensures built { IsBuilt trees.now }
+    ensures collected { IfOk result (λ words. CollectsAll (placed trees.now) words) }
+{
     let mut words = Words::new(alloc);
     wanted.ask(space, &mut words)?;
     words.add_trees(trees)?;
     Ok(words)
 }
 
-/// What is known of the paths of a run's code that rules ask for. `crates` are the names of the crates that the manifests
-/// name, `rules` the paths of the rules, and these are looked up where the node `position` stands.
-pub fn read_names(
-    alloc: Global,
-    mut table: Table,
-    trees: &Trees,
-    crates: &[String],
-    rules: &[RulePath],
-    position: NodeId,
-) -> Result<Names, AllocError> {
-    let manifests = add_all_names(alloc, &mut table, crates, rules)?;
-    let special = special_names(&mut table)?;
-    let scopes = Scopes::new(alloc, &table, trees)?;
-    let mut outside = OutsidePaths::new(alloc);
-    let mut space = Space::new(alloc, &mut outside, &table, &manifests)?;
-    let source = Source {
-        alloc,
-        trees,
-        stranger: special.stranger,
-    };
-    let impls = settle_all(&source, &mut space, &mut outside)?;
-    let scope = scopes.scope(position);
-    let wanted = all_wanted(alloc, &space, &mut outside, scope, rules, special.self_type)?;
-    let words = asked(alloc, &space, trees, &wanted)?;
-    let resolver = Resolver {
-        source: &source,
-        space: &space,
-        scopes: &scopes,
-        bound: &[],
-        impls: &impls,
-        self_type: special.self_type,
-    };
-    let (found, bound_in) = found_rows(resolver, &mut outside, &words)?;
-    let mut rows = path_rows(alloc, &space, &wanted, &found)?;
-    add_calls(alloc, &space, &wanted, &words.calls, &mut rows)?;
-    let bare_roots = roots_without_std(alloc, &table, trees)?;
-    let printer = Printer {
-        alloc,
-        space: &space,
-        bound_in: &bound_in,
-        bare_roots: &bare_roots,
-        core: special.core,
-    };
-    let printed = all_printed(&printer, &mut outside, &wanted)?;
+/// What the paths and the method calls of the code stand for, as rows of a provider, and what functions of modules bind.
+fn all_rows(
+    resolver: Resolver<'_>,
+    outside: &mut OutsidePaths,
+    wanted: &Wanted,
+    words: &Words,
+) -> Result<(PathRows, Vec<BoundIn>), AllocError>
+    requires built { IsBuilt resolver.source.now.trees.now }
+    requires collected { CollectsAll (placed resolver.source.now.trees.now) words.now }
+    ensures { IfOk result (λ all. HasNoLocal (placed resolver.entry.source.now.trees.now) all.0.known.entries) }
+{
+    let (found, bound_in) = found_rows(resolver, outside, words)?;
+    let (alloc, space) = (resolver.source.alloc, resolver.space);
+    let mut rows = path_rows(alloc, space, wanted, found.as_slice())?;
+    add_calls(alloc, space, wanted, &words.calls, &mut rows)?;
+    Ok((rows, bound_in))
+}
+
+/// The provider that answers by these rows.
+fn names_of(
+    scopes: Scopes,
+    wanted: Wanted,
+    rows: PathRows,
+    printed: BTreeMap<PrintedKey, String>,
+) -> Names
+    ensures { (trees : List PlacedTree) → HasNoLocal trees rows.known.entries → TellsNoLocal trees result }
+{
     let Wanted {
         lookups,
         infos,
@@ -307,7 +344,7 @@ pub fn read_names(
         believed,
         undecided,
     } = rows;
-    Ok(Names {
+    Names {
         scopes,
         lookups,
         definitions: infos,
@@ -316,5 +353,57 @@ pub fn read_names(
         types,
         printed,
         undecided,
-    })
+    }
+}
+
+/// What is known of the paths of a run's code that rules ask for. `crates` are the names of the crates that the manifests
+/// name, `rules` the paths of the rules, and these are looked up where the node `position` stands.
+pub fn read_names(
+    alloc: Global,
+    mut table: Table,
+    trees: &Trees,
+    crates: &[String],
+    rules: &[RulePath],
+    position: NodeId,
+) -> Result<Names, AllocError>
+    ensures { IfOk result (λ names. TellsNoLocal (placed trees.now) names) }
+{
+    let manifests = add_all_names(alloc, &mut table, crates, rules)?;
+    let special = special_names(&mut table)?;
+    let scopes = Scopes::new(alloc, &table, trees)?;
+    let mut outside = OutsidePaths::new(alloc);
+    let mut space = Space::new(alloc, &mut outside, &table, &manifests)?;
+    let source = Source {
+        alloc,
+        trees,
+        stranger: special.stranger,
+    };
+    let impls = settle_all(&source, &mut space, &mut outside)?;
+    let wanted = all_wanted(
+        alloc,
+        &space,
+        &mut outside,
+        scopes.scope(position),
+        rules,
+        special.self_type,
+    )?;
+    let words = asked(alloc, &space, trees, &wanted)?;
+    let resolver = Resolver {
+        source: &source,
+        space: &space,
+        scopes: &scopes,
+        impls: &impls,
+        self_type: special.self_type,
+    };
+    let (rows, bound_in) = all_rows(resolver, &mut outside, &wanted, &words)?;
+    let bare_roots = roots_without_std(alloc, &table, trees)?;
+    let printer = Printer {
+        alloc,
+        space: &space,
+        bound_in: &bound_in,
+        bare_roots: &bare_roots,
+        core: special.core,
+    };
+    let printed = all_printed(&printer, &mut outside, &wanted)?;
+    Ok(names_of(scopes, wanted, rows, printed))
 }

@@ -1,9 +1,14 @@
 //! What the paths of the code stand for whose last names are asked for.
+ghost use Rattle.std.specs.Prelude.{◌≡◌, true, false, IfOk, OnOk, All};
 ghost use Rattle.ssr_syntax_tree.specs.Places.{HasNode};
+ghost use Rattle.ssr_base_trees.specs.Built.{IsBuilt};
+ghost use Rattle.ssr_base_trees.specs.Workspace.{trees as placed};
+ghost use Rattle.ssr_names.specs.Private.Locals.{BindAll, BindAround, CollectsAll, IsRight, StaysBound};
 
 use crate::code_paths::{CodePath, code_path};
 use crate::copies::ModulePlace;
 use crate::definitions::{Definition, Meaning};
+use crate::locals::{Bound, Locals, bind_around};
 use crate::lookup::{PathAnswer, PathQuestion, Question};
 use crate::outside::OutsidePaths;
 use crate::places::{Place, is_shorthand, kind_at, namespace_of, place_of};
@@ -18,13 +23,7 @@ use ssr_names_items::{Impl, ItemKind, ModuleNo, Name, Namespace, Start};
 use ssr_syntax_kinds::SyntaxKind;
 use ssr_syntax_tree::{Element, NodeNo, Tree};
 use std::alloc::AllocError;
-
-/// A name that a function binds.
-#[derive(Clone, Copy, Debug, PartialEq, Eq, PartialOrd, Ord)]
-pub(crate) struct Bound {
-    pub(crate) function: NodeId,
-    pub(crate) name: Name,
-}
+use std::collections::BTreeSet;
 
 /// A name that a function of a module binds.
 #[derive(Clone, Copy, Debug, PartialEq, Eq, PartialOrd, Ord)]
@@ -61,8 +60,6 @@ pub(crate) struct Resolver<'r> {
     pub(crate) source: &'r Source<'r>,
     pub(crate) space: &'r Space<'r>,
     pub(crate) scopes: &'r Scopes,
-    /// What functions bind, sorted.
-    pub(crate) bound: &'r [Bound],
     /// The types of `impl`s, sorted by their nodes.
     pub(crate) impls: &'r [ImplType],
     pub(crate) self_type: Name,
@@ -76,7 +73,6 @@ struct Spelled<'p> {
     place: Place,
     module: ModuleNo,
     namespace: Namespace,
-    name: Name,
 }
 
 /// Whether a definition is what a pattern that is its name alone compares with: a constant, a static, or one without fields.
@@ -108,6 +104,20 @@ fn name_behind(tree: &Tree, path: NodeNo) -> Option<&str>
     crate::code_paths::last_text(tree, parent)
 }
 
+/// A path of which nothing is known yet.
+fn unread_row(tree: &Tree, word: Word) -> Row
+    requires { HasNode tree.now word.node.node.0 }
+{
+    Row {
+        node: word.node,
+        namespace: namespace_of(tree, word.node.node),
+        meaning: Meaning::Unknown,
+        is_front: name_behind(tree, word.node.node).is_some(),
+        word: word.name,
+        name: word.name,
+    }
+}
+
 impl<'r> Resolver<'r> {
     /// The module that a node stands in.
     fn module_of(&self, node: NodeId) -> Option<ModuleNo> {
@@ -119,8 +129,13 @@ impl<'r> Resolver<'r> {
         &self,
         outside: &mut OutsidePaths,
         binder: Binder,
-        module: ModuleNo,
-    ) -> Result<bool, AllocError> {
+        module: Option<ModuleNo>,
+    ) -> Result<bool, AllocError>
+        ensures { IfOk result (λ binds. binder.is_plain ≡ false → binds ≡ true) }
+    {
+        let Some(module) = module else {
+            return Ok(true);
+        };
         if !binder.is_plain {
             return Ok(true);
         }
@@ -139,28 +154,39 @@ impl<'r> Resolver<'r> {
         }
     }
 
+    /// Adds what a pattern binds to what the functions around do.
+    fn bind(&self, binder: Binder, bound: &mut BTreeSet<Bound>) -> Result<(), AllocError>
+        requires { IsBuilt self.now.source.now.trees.now }
+        ensures kept { OnOk result (StaysBound bound.old bound.new) }
+        ensures bound { binder.namespace ≡ Namespace.Value → OnOk result (BindAround (placed self.now.source.now.trees.now) bound.new binder.node binder.name) }
+    {
+        if binder.namespace != Namespace::Value {
+            return Ok(());
+        }
+        let source = self.source;
+        bind_around(source.alloc, source.trees, binder.node, binder.name, bound)
+    }
+
     /// Adds what a pattern binds: to what its function does, and to what those of its module do.
     fn add_bound(
         &self,
         outside: &mut OutsidePaths,
         binder: Binder,
-        bound: &mut Vec<Bound>,
+        bound: &mut BTreeSet<Bound>,
         bound_in: &mut Vec<BoundIn>,
-    ) -> Result<(), AllocError> {
-        let Some(module) = self.module_of(binder.node) else {
-            return Ok(());
-        };
+    ) -> Result<(), AllocError>
+        requires { IsBuilt self.now.source.now.trees.now }
+        ensures kept { OnOk result (StaysBound bound.old bound.new) }
+        ensures bound { binder.is_plain ≡ false → binder.namespace ≡ Namespace.Value → OnOk result (BindAround (placed self.now.source.now.trees.now) bound.new binder.node binder.name) }
+    {
+        let module = self.module_of(binder.node);
         if !self.binds(outside, binder, module)? {
             return Ok(());
         }
-        if binder.namespace == Namespace::Value
-            && let Some(function) = place_of(self.source.trees, binder.node, "").function
-        {
-            bound.push(Bound {
-                function,
-                name: binder.name,
-            })?;
-        }
+        self.bind(binder, bound)?;
+        let Some(module) = module else {
+            return Ok(());
+        };
         bound_in.push(BoundIn {
             module: self.space.plain_module(module),
             name: binder.name,
@@ -174,32 +200,17 @@ impl<'r> Resolver<'r> {
         &self,
         outside: &mut OutsidePaths,
         binders: &[Binder],
-    ) -> Result<(Vec<Bound>, Vec<BoundIn>), AllocError> {
-        let mut bound = Vec::new(self.source.alloc);
+    ) -> Result<(BTreeSet<Bound>, Vec<BoundIn>), AllocError>
+        requires { IsBuilt self.now.source.now.trees.now }
+        ensures { IfOk result (λ all. BindAll (placed self.now.source.now.trees.now) all.0 binders.now) }
+    {
+        let mut bound = BTreeSet::new(self.source.alloc);
         let mut bound_in = Vec::new(self.source.alloc);
         for binder in binders {
             self.add_bound(outside, *binder, &mut bound, &mut bound_in)?;
         }
-        bound.sort()?;
         bound_in.sort()?;
         Ok((bound, bound_in))
-    }
-
-    /// Whether the outermost function around binds the name that a path is alone.
-    fn is_bound(&self, spelled: Spelled<'_>) -> bool {
-        let (Start::Plain, Namespace::Value, [name], Some(function)) = (
-            spelled.path.start,
-            spelled.namespace,
-            spelled.path.names.as_slice(),
-            spelled.place.function,
-        ) else {
-            return false;
-        };
-        let bound = Bound {
-            function,
-            name: *name,
-        };
-        self.bound.binary_search(&bound).is_ok()
     }
 
     /// The type that an `impl` is for.
@@ -230,9 +241,11 @@ impl<'r> Resolver<'r> {
 
     /// Whether a path is the `Self` of a trait alone, which is no item.
     fn is_self_of_trait(&self, path: &CodePath, place: Place) -> bool {
-        let (Start::Plain, [name], Some(node)) =
-            (path.start, path.names.as_slice(), place.within_impl)
-        else {
+        let (Start::Plain, [name], Some(node)) = (
+            path.start,
+            path.names.as_slice(),
+            place.within_impl,
+        ) else {
             return false;
         };
         match kind_at(self.source.trees, node) {
@@ -279,7 +292,7 @@ impl<'r> Resolver<'r> {
         let path = spelled.path;
         let first = path.names.first().copied();
         let is_plain = path.start == Start::Plain;
-        if self.is_bound(spelled) || (is_plain && spelled.place.is_generic) {
+        if is_plain && spelled.place.is_generic {
             return Ok(PathAnswer {
                 meaning: Meaning::Unknown,
                 name: first,
@@ -331,26 +344,18 @@ impl<'r> Resolver<'r> {
         requires { HasNode tree.now word.node.node.0 }
     {
         let source = self.source;
-        let namespace = namespace_of(tree, word.node.node);
         let names = &self.space.table.names;
-        let node = word.node.node;
-        let behind = name_behind(tree, node);
-        let unread = Row {
-            node: word.node,
-            namespace,
-            meaning: Meaning::Unknown,
-            is_front: behind.is_some(),
-            word: word.name,
-            name: word.name,
-        };
-        if is_shorthand(tree, node) {
+        let unread = unread_row(tree, word);
+        if is_shorthand(tree, word.node.node) {
             return Ok(Some(unread));
         }
-        let Some(path) = code_path(source.alloc, tree, node, names, source.stranger)? else {
+        let Some(path) = code_path(source.alloc, tree, word.node.node, names, source.stranger)?
+        else {
             return Ok(Some(unread));
         };
         let first = path.names.first().copied().unwrap_or(word.name);
         let place = place_of(source.trees, word.node, self.space.text(first));
+        let behind = name_behind(tree, word.node.node);
         if place.is_aside || (behind.is_none() && self.is_self_of_trait(&path, place)) {
             return Ok(None);
         }
@@ -359,13 +364,12 @@ impl<'r> Resolver<'r> {
             path: &path,
             place,
             module,
-            namespace,
-            name: word.name,
+            namespace: unread.namespace,
         };
         let answer = self.told(outside, spelled, behind)?;
         Ok(Some(Row {
             meaning: answer.meaning,
-            name: answer.name.unwrap_or(spelled.name),
+            name: answer.name.unwrap_or(word.name),
             ..unread
         }))
     }
@@ -448,17 +452,24 @@ impl<'r> Resolver<'r> {
         Ok(first)
     }
 
-    /// What paths stand for.
+    /// What the paths stand for that end in a name that is asked for.
     pub(crate) fn rows(
         &self,
         outside: &mut OutsidePaths,
-        words: &[Word],
-    ) -> Result<Vec<Row>, AllocError> {
-        let mut rows = Vec::new(self.source.alloc);
-        for word in words {
-            if let Some(row) = self.row(outside, *word)? {
-                rows.push(row)?;
-            }
+        locals: Locals<'_>,
+    ) -> Result<Vec<Row>, AllocError>
+        requires built { IsBuilt locals.trees.now }
+        requires collected { CollectsAll (placed locals.trees.now) locals.words.now }
+        requires bound { BindAll (placed locals.trees.now) locals.bound.now locals.words.now.binders.items }
+        ensures { IfOk result (λ rows. All (IsRight (placed locals.entry.trees.now)) rows.items) }
+    {
+        let alloc = self.source.alloc;
+        let mut rows = Vec::new(alloc);
+        for word in &locals.words.paths {
+            let Some(row) = self.row(outside, *word)? else {
+                continue;
+            };
+            rows.push(locals.without_local(alloc, row)?)?;
         }
         Ok(rows)
     }

@@ -92,9 +92,8 @@ pub(crate) fn key_definition(
         known => known,
     };
     match meaning {
-        Meaning::One(definition) if namespace != Namespace::Value
-            || !is_std_module(space, outside, definition) =>
-        {
+        Meaning::One(definition)
+            if namespace != Namespace::Value || !is_std_module(space, outside, definition) => {
             Ok(Some(definition))
         }
         _ => Ok(None),

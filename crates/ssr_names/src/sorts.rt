@@ -1,4 +1,6 @@
 //! What is known of a definition: its sort.
+ghost use Rattle.std.specs.Prelude.{◌≡◌};
+ghost use Rattle.ssr_names.specs.Locals.{is_capital};
 
 use crate::definitions::{Definition, OutsideNo};
 use crate::outside::OutsidePaths;
@@ -8,7 +10,9 @@ use ssr_base_trees::{DefInfo, DefKind};
 use ssr_names_items::{Item, ItemKind, Namespace, Owner};
 
 /// Whether a name begins with a capital letter.
-pub(crate) fn is_capital(name: &str) -> bool {
+pub(crate) fn is_capital(name: &str) -> bool
+    ensures { result ≡ is_capital name.now }
+{
     match name.as_bytes().first() {
         Some(byte) => byte.is_ascii_uppercase(),
         None => false,

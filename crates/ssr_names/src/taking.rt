@@ -20,48 +20,31 @@ impl<'a> Space<'a> {
         let (Start::Plain, Some((first, behind))) = (path.start, path.names.split_first()) else {
             return Ok(Meaning::Unknown);
         };
-        match behind.split_last() {
-            None if path.namespace == Namespace::Macro => {
-                self.macro_taken_for(outside, path.module, *first)
-            }
-            None => self.name_taken_for(outside, path.module, *first, path.namespace),
-            Some((last, between)) => {
-                let start = self.name_taken_for(outside, path.module, *first, Namespace::Type)?;
-                let module = self.behind_all(alloc, outside, path.module, start, between)?;
-                let last = question_for(*last, path.namespace, path.module);
-                self.one_behind(alloc, outside, module, last)
-            }
+        if behind.is_empty() {
+            return self.one_taken_for(outside, path.module, *first, path.namespace);
         }
+        let start = self.name_taken_for(outside, path.module, *first, Namespace::Type)?;
+        let Meaning::One(definition) = start else {
+            return Ok(start);
+        };
+        let rest = PathQuestion {
+            names: behind,
+            ..path
+        };
+        self.path_behind(alloc, outside, rest, definition)
     }
 
-    /// What stands behind something under some names, each in the one in front.
-    fn behind_all(
+    /// What a path of one name is taken for.
+    fn one_taken_for(
         &self,
-        alloc: Global,
         outside: &mut OutsidePaths,
-        viewer: ModuleNo,
-        start: Meaning,
-        names: &[Name],
+        module: ModuleNo,
+        name: Name,
+        namespace: Namespace,
     ) -> Result<Meaning, AllocError> {
-        let mut meaning = start;
-        for name in names {
-            let question = question_for(*name, Namespace::Type, viewer);
-            meaning = self.one_behind(alloc, outside, meaning, question)?;
-        }
-        Ok(meaning)
-    }
-
-    /// What stands behind something under a name.
-    fn one_behind(
-        &self,
-        alloc: Global,
-        outside: &mut OutsidePaths,
-        meaning: Meaning,
-        question: Question,
-    ) -> Result<Meaning, AllocError> {
-        match meaning {
-            Meaning::One(definition) => self.behind(alloc, outside, definition, question),
-            other => Ok(other),
+        match namespace {
+            Namespace::Macro => self.macro_taken_for(outside, module, name),
+            _ => self.name_taken_for(outside, module, name, namespace),
         }
     }
 

@@ -1,12 +1,19 @@
 //! Where the code has the names that are asked for.
-ghost use Rattle.ssr_syntax_tree.specs.Places.{HasNode};
+ghost use Rattle.std.specs.Prelude.{◌≡◌, ℕ, [], ◌∷◌, ◌++◌, OnOk};
+ghost use Rattle.std.specs.BTreeMap.{get_by_text};
+ghost use Rattle.ssr_syntax_tree.specs.Places.{HasNode, node_of};
+ghost use Rattle.ssr_base_trees.specs.Built.{IsBuilt};
+ghost use Rattle.ssr_base_trees.specs.Workspace.{node_id, trees as placed};
+ghost use Rattle.ssr_names_items.specs.Names.{bare};
+ghost use Rattle.ssr_names.specs.Locals.{may_be_constant};
+ghost use Rattle.ssr_names.specs.Private.Locals.{Collects, CollectsAll, Keeps};
 
-use crate::code_paths::last_text;
-use crate::places::bare;
+use crate::code_paths::{last_text, text_of_first};
+use crate::sorts::is_capital;
 use crate::std_names::is_std_macro;
 use ide_ssr_resolved_rule::first_child;
 use ssr_base_trees::{NodeId, Trees};
-use ssr_names_items::{Name, Namespace};
+use ssr_names_items::{Name, Namespace, bare};
 use ssr_syntax_kinds::SyntaxKind;
 use ssr_syntax_tree::{Element, NodeNo, TokenNo, Tree};
 use std::alloc::{AllocError, Global};
@@ -87,6 +94,16 @@ fn are_binding_arguments(tree: &Tree, node: NodeNo) -> bool
     }
 }
 
+/// Whether a pattern may be compared with a constant in place of binding this name: nothing but the name stands in it, and that
+/// begins with a capital letter.
+fn may_be_constant(tree: &Tree, pattern: NodeNo, name: &str) -> bool
+    requires { HasNode tree.now pattern.0 }
+    ensures { result ≡ may_be_constant (node_of tree.now pattern.0).children name.now }
+{
+    let tokens = tree.tokens_below(pattern);
+    tokens.end - tokens.start == 1 && is_capital(name)
+}
+
 impl Words {
     pub(crate) fn new(alloc: Global) -> Words {
         Words {
@@ -116,13 +133,24 @@ impl Words {
         Ok(())
     }
 
-    fn asked(&self, text: &str) -> Option<Name> {
-        self.asked.get(bare(text)).copied()
+    /// The number of a name without `r#` in front, if it is asked for.
+    pub(crate) fn number(&self, name: &str) -> Option<Name>
+        ensures { result ≡ get_by_text self.now.asked name.now }
+    {
+        self.asked.get(name).copied()
+    }
+
+    /// The number of a name, if it is asked for.
+    fn asked(&self, text: &str) -> Option<Name>
+        ensures { result ≡ get_by_text self.now.asked (bare text.now) }
+    {
+        self.number(bare(text))
     }
 
     /// Adds a path, if it ends in a name that is asked for.
     fn add_path(&mut self, tree: &Tree, node: NodeId) -> Result<(), AllocError>
         requires { HasNode tree.now node.node.0 }
+        ensures { OnOk result (Keeps self.old self.new) }
     {
         if let Some(text) = last_text(tree, node.node)
             && let Some(name) = self.asked(text)
@@ -135,6 +163,7 @@ impl Words {
     /// Adds a method call, if the method's name is asked for.
     fn add_call(&mut self, tree: &Tree, node: NodeId) -> Result<(), AllocError>
         requires { HasNode tree.now node.node.0 }
+        ensures { OnOk result (Keeps self.old self.new) }
     {
         if let Some(child) = first_child(tree, node.node, SyntaxKind::NAME_REF)
             && let Some(name) = self.asked(tree.text(child))
@@ -144,22 +173,34 @@ impl Words {
         Ok(())
     }
 
+    /// Adds what may bind a name.
+    fn push_binder(&mut self, binder: Binder) -> Result<(), AllocError>
+        ensures kept { OnOk result (Keeps self.old self.new) }
+        ensures asked { self.new.asked ≡ self.old.asked }
+        ensures pushed { OnOk result (self.new.binders.items ≡ self.old.binders.items ++ binder ∷ []) }
+    {
+        self.binders.push(binder)?;
+        Ok(())
+    }
+
     /// Adds a pattern, if its name is asked for.
     fn add_pattern(&mut self, tree: &Tree, node: NodeId) -> Result<(), AllocError>
         requires { HasNode tree.now node.node.0 }
+        ensures kept { OnOk result (Keeps self.old self.new) }
+        ensures collected { OnOk result (Collects tree.now self.new node) }
     {
-        if let Some(child) = first_child(tree, node.node, SyntaxKind::NAME)
-            && let Some(name) = self.asked(tree.text(child))
-        {
-            let tokens = tree.tokens_below(node.node);
-            self.binders.push(Binder {
-                node,
-                name,
-                namespace: Namespace::Value,
-                is_plain: tokens.end - tokens.start == 1,
-            })?;
-        }
-        Ok(())
+        let Some(text) = text_of_first(tree, node.node, SyntaxKind::NAME) else {
+            return Ok(());
+        };
+        let Some(name) = self.asked(text) else {
+            return Ok(());
+        };
+        self.push_binder(Binder {
+            node,
+            name,
+            namespace: Namespace::Value,
+            is_plain: may_be_constant(tree, node.node, bare(text)),
+        })
     }
 
     /// Adds a generic parameter, if its name is asked for.
@@ -170,6 +211,7 @@ impl Words {
         namespace: Namespace,
     ) -> Result<(), AllocError>
         requires { HasNode tree.now node.node.0 }
+        ensures { OnOk result (Keeps self.old self.new) }
     {
         if let Some(child) = first_child(tree, node.node, SyntaxKind::NAME)
             && let Some(name) = self.parameters.get(bare(tree.text(child))).copied()
@@ -187,6 +229,7 @@ impl Words {
     /// Adds the words of a macro's arguments that are asked for: whatever the macro, no pattern binds the name of a constant.
     fn add_arguments(&mut self, tree: &Tree, node: NodeId) -> Result<(), AllocError>
         requires { HasNode tree.now node.node.0 }
+        ensures { OnOk result (Keeps self.old self.new) }
     {
         if !are_binding_arguments(tree, node.node) {
             return Ok(());
@@ -194,28 +237,30 @@ impl Words {
         let tokens = tree.tokens_below(node.node);
         for number in tokens.start..tokens.end {
             let token = TokenNo(number);
-            if tree.token_kind(token).is(SyntaxKind::IDENT)
-                && let Some(name) = self.asked(tree.token_text(token))
-            {
-                self.binders.push(Binder {
-                    node,
-                    name,
-                    namespace: Namespace::Value,
-                    is_plain: true,
-                })?;
+            if !tree.token_kind(token).is(SyntaxKind::IDENT) {
+                continue;
             }
+            let Some(name) = self.asked(tree.token_text(token)) else {
+                continue;
+            };
+            self.push_binder(Binder {
+                node,
+                name,
+                namespace: Namespace::Value,
+                is_plain: true,
+            })?;
         }
         Ok(())
     }
 
-    /// Adds what a node has.
-    fn add_node(&mut self, tree: &Tree, node: NodeId) -> Result<(), AllocError>
+    /// Adds what a node has that is no pattern.
+    fn add_other(&mut self, tree: &Tree, node: NodeId) -> Result<(), AllocError>
         requires { HasNode tree.now node.node.0 }
+        ensures { OnOk result (Keeps self.old self.new) }
     {
         match tree.kind(node.node) {
             SyntaxKind::PATH => self.add_path(tree, node),
             SyntaxKind::METHOD_CALL_EXPR => self.add_call(tree, node),
-            SyntaxKind::IDENT_PAT => self.add_pattern(tree, node),
             SyntaxKind::TYPE_PARAM => self.add_parameter(tree, node, Namespace::Type),
             SyntaxKind::CONST_PARAM => self.add_parameter(tree, node, Namespace::Value),
             SyntaxKind::TOKEN_TREE => self.add_arguments(tree, node),
@@ -223,8 +268,24 @@ impl Words {
         }
     }
 
+    /// Adds what a node has.
+    fn add_node(&mut self, tree: &Tree, node: NodeId) -> Result<(), AllocError>
+        requires { HasNode tree.now node.node.0 }
+        ensures kept { OnOk result (Keeps self.old self.new) }
+        ensures collected { OnOk result (Collects tree.now self.new node) }
+    {
+        if tree.kind(node.node).is(SyntaxKind::IDENT_PAT) {
+            self.add_pattern(tree, node)
+        } else {
+            self.add_other(tree, node)
+        }
+    }
+
     /// Adds what a tree has.
-    pub(crate) fn add_tree(&mut self, tree: &Tree, number: u32) -> Result<(), AllocError> {
+    fn add_tree(&mut self, tree: &Tree, number: u32) -> Result<(), AllocError>
+        ensures kept { OnOk result (Keeps self.old self.new) }
+        ensures collected { OnOk result ((n : ℕ) → HasNode tree.now n → Collects tree.now self.new (node_id number n)) }
+    {
         for place in 0..tree.node_count() {
             let node = NodeId {
                 tree: number,
@@ -236,12 +297,16 @@ impl Words {
     }
 
     /// Adds what all trees have.
-    pub(crate) fn add_trees(&mut self, trees: &Trees) -> Result<(), AllocError> {
+    pub(crate) fn add_trees(&mut self, trees: &Trees) -> Result<(), AllocError>
+        ensures built { IsBuilt trees.now }
+        ensures collected { OnOk result (CollectsAll (placed trees.now) self.new) }
+    {
         let count = trees.file_count().saturating_add(trees.expansion_count());
         for number in 0..count {
-            if let Some(tree) = trees.tree(number) {
-                self.add_tree(tree, number)?;
-            }
+            let Some(tree) = trees.tree(number) else {
+                continue;
+            };
+            self.add_tree(tree, number)?;
         }
         Ok(())
     }

@@ -125,7 +125,10 @@ fn ends_with_braces(pieces: &[&str]) -> bool {
 /// Whether pieces are those of a visibility, or none.
 fn are_visibility(pieces: &[&str]) -> bool {
     pieces.iter().all(|piece| {
-        matches!(*piece, "pub" | "(" | ")" | "crate" | "super" | "self" | "in" | ":")
+        matches!(
+            *piece,
+            "pub" | "(" | ")" | "crate" | "super" | "self" | "in" | ":"
+        )
     })
 }
 
@@ -134,9 +137,7 @@ fn union_name<'t>(pieces: &[&'t str]) -> Option<&'t str> {
     let at = pieces.iter().position(|piece| *piece == "union")?;
     match (pieces.get(..at)?, pieces.get(at..)?) {
         (front, [_, name, ..])
-            if is_word(name) && are_visibility(front) && ends_with_braces(pieces) => {
-            Some(*name)
-        }
+            if is_word(name) && are_visibility(front) && ends_with_braces(pieces) => { Some(*name) }
         _ => None,
     }
 }

@@ -22,7 +22,7 @@ mod use_items;
 mod uses;
 mod visibility;
 
-pub use names::Names;
+pub use names::{Names, bare};
 pub use reading::read_items;
 pub use sources::{Declaration, FileModule, Origin, SourceText, Sources};
 pub use table::{

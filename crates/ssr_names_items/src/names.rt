@@ -1,5 +1,8 @@
 //! The names of items and paths, numbered.
 
+ghost use Rattle.std.specs.Prelude.{◌≡◌};
+ghost use Rattle.ssr_names_items.specs.Names.{bare};
+
 use crate::table::Name;
 use std::alloc::{AllocError, Global};
 use std::collections::BTreeMap;
@@ -13,7 +16,9 @@ pub struct Names {
 }
 
 /// A name as others are compared with it: without `r#` in front.
-fn bare(text: &str) -> &str {
+pub fn bare(text: &str) -> &str
+    ensures { result.now ≡ bare text.now }
+{
     match text.strip_prefix("r#") {
         Some(rest) => rest,
         None => text,

@@ -1,0 +1,6 @@
+use Rattle.std.proofs.Common.{Contains, sym, subst}
+use Rattle.ssr_names.proofs.locals.is_bound_around.Goals as goal
+
+pub returns : goal.returns
+returns c = λ free node below.
+    c.binds_among.ensures free node (subst (λ ns. Contains ns node) (sym c.as_slice.ensures.value) (c.in_ok-nodes.ensures node below))

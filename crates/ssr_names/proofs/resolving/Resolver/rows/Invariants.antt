@@ -1,0 +1,7 @@
+use Rattle.std.specs.Prelude.{All}
+use Rattle.ssr_base_trees.specs.Workspace.{trees}
+use Rattle.ssr_names.specs.Private.Locals.{IsRight}
+use Rattle.ssr_names.proofs.resolving.Resolver.rows.Given as goal
+
+abbrev pub invariant-loop-word : goal.invariant-loop-word
+invariant-loop-word l = All (IsRight (trees l.locals.trees.now)) l.rows.items
