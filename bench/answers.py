@@ -74,8 +74,9 @@ def closure(packages):
 
 
 def folder_of(registry, name):
-    """The folder of a crate's sources, without its version."""
-    return next(os.path.join(registry, each) for each in os.listdir(registry) if re.fullmatch(re.escape(name) + r"-\d.*", each))
+    """The folder of a crate's sources. Debian's names have `-` where a crate's may have `_`."""
+    form = re.compile(name.replace("-", "[-_]") + r"-\d.*")
+    return next(os.path.join(registry, each) for each in os.listdir(registry) if form.fullmatch(each))
 
 
 def copied(package, folder):

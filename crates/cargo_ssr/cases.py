@@ -1101,6 +1101,9 @@ TRAPS = [
     ("mod a { pub fn drop(a: u8) {} }\n#[cfg(unix)] use a::drop;\nfn free(a: u8) {}\nfn f() { drop(1) }\n", DROP, [], "0 matches; 1 undecided\n"),
     # a macro of the package may bring in anything by a glob
     ("mod a { pub fn drop(a: u8) {} }\nmacro_rules! all { () => { use a::*; } }\nall!();\nfn free(a: u8) {}\nfn f() { drop(1) }\n", DROP, [], "0 matches; 1 undecided\n"),
+    # and a glob of an enum that a macro declares
+    ("macro_rules! same { ($($t:tt)*) => { $($t)* } }\nsame! { pub enum Sort { None, Up } }\nuse Sort::*;\npub fn f() -> Sort { None }\n", "std::option::Option::None ==>> 7", [], "0 matches; 1 undecided\n"),
+    ("macro_rules! make { () => { pub enum Sort { None, Up } } }\nmake!();\nuse Sort::*;\npub fn f() -> Sort { None }\n", "std::option::Option::None ==>> 7", [], "0 matches; 1 undecided\n"),
     # but for enums and modules of the standard library of which that is known
     ("fn free(a: u8) {}\nfn f() { use std::ops::Bound::*; drop(1) }\nfn g() { use std::ops::*; drop(1) }\n", DROP, ["fn f() { use std::ops::Bound::*; free(1) }"], "1 match in 1 file: 1 edit; 1 undecided\n"),
     # so may a file that is included
@@ -1195,6 +1198,16 @@ PACKAGES_WITH_TRAPS = [
         ["--in", "tests/a.rs:1", "helper($a) ==>> $a"],
         [],
         "0 matches; 1 undecided\n",
+    ),
+    # macros of another crate come into the crate that says so
+    (
+        {
+            "src/lib.rs": "pub fn f(a: bool) { assert!(a) }\n",
+            "tests/one.rs": "#[macro_use] extern crate little;\nfn g(a: bool) { assert!(a) }\n",
+        },
+        ["std::assert!($a) ==>> $a"],
+        ["pub fn f(a: bool) { a }"],
+        "1 match in 1 file: 1 edit; 1 undecided\n",
     ),
     # what means the same in both
     (

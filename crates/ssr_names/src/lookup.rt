@@ -2,7 +2,7 @@
 
 use crate::definitions::{Definition, Meaning, OutsideNo};
 use crate::outside::OutsidePaths;
-use crate::space::Space;
+use crate::space::{Space, between};
 use crate::std_names::{brought_by_glob, is_builtin_type, is_in_type_module};
 use ssr_names_items::{
     Edition, Entry, ImportNo, ItemKind, ItemNo, ModuleKind, ModuleNo, Name, Namespace, Owner,
@@ -307,6 +307,9 @@ impl<'a> Space<'a> {
                 let found = explicit.join(self.if_open(module, seen_here));
                 Ok(Found::of(found.meaning, false))
             }
+            Meaning::One(Definition::Item(item)) if !self.has_variants(item) => {
+                Ok(self.unread(question))
+            }
             Meaning::One(Definition::Item(item)) => {
                 let meaning = self.variant(item, question.name);
                 Ok(Found::of(meaning, is_sure && !self.is_unsure_variant(meaning)))
@@ -336,6 +339,14 @@ impl<'a> Space<'a> {
             }
             _ => false,
         }
+    }
+
+    /// Whether an item has variants that are read: those of an enum that a macro declares aren't.
+    fn has_variants(&self, item: ItemNo) -> bool {
+        let first = self.members.partition_point(|member| member.of < item);
+        let past = self.members.partition_point(|member| member.of <= item);
+        between(&self.members, first, past).iter().any(|member| self.kind_of(member.item)
+            == Some(ItemKind::Variant))
     }
 
     /// The variant of an enum with a name.

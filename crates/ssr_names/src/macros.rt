@@ -49,25 +49,29 @@ impl<'a> Space<'a> {
         Ok(Meaning::One(Definition::Outside(number)))
     }
 
-    /// Whether no crate of which `#[macro_use]` brings in the macros has one that the standard library has too: it would hide
-    /// that.
-    fn are_std_macros_seen(&self) -> bool {
-        self.table
-            .macro_crates
-            .iter()
-            .all(|name| has_no_std_macros(self.text(*name)))
+    /// Whether no crate of which `#[macro_use]` brings in the macros where a module is has one that the standard library has too: it
+    /// would hide that.
+    fn are_std_macros_seen(&self, module: ModuleNo) -> bool {
+        let root = self.root_of(module);
+        self.table.macro_crates.iter().all(|of| self.root_of(of.module) != root
+            || has_no_std_macros(self.text(of.name)))
     }
 
-    /// What a macro's name stands for that no file defines or brings in.
-    fn foreign_macro(&self, outside: &mut OutsidePaths, name: Name) -> Result<Meaning, AllocError> {
+    /// What a macro's name stands for in a module that no file defines or brings in.
+    fn foreign_macro(
+        &self,
+        outside: &mut OutsidePaths,
+        module: ModuleNo,
+        name: Name,
+    ) -> Result<Meaning, AllocError> {
         if is_std_macro(self.text(name)) {
-            if !self.are_std_macros_seen() {
+            if !self.are_std_macros_seen(module) {
                 return Ok(Meaning::Unknown);
             }
             return self.crate_macro(outside, Some(Definition::Outside(self.std)), name);
         }
         match self.table.macro_crates.as_slice() {
-            [only] => self.crate_macro(outside, self.crate_named(*only), name),
+            [only] => self.crate_macro(outside, self.crate_named(only.name), name),
             _ => Ok(Meaning::Unknown),
         }
     }
@@ -92,7 +96,7 @@ impl<'a> Space<'a> {
                 // A glob beats what comes with the language. What is found for sure of a glob needs not be a macro.
                 match answer.meaning {
                     Meaning::Unknown => Ok(Meaning::Unknown),
-                    _ => self.foreign_macro(outside, name),
+                    _ => self.foreign_macro(outside, path.module, name),
                 }
             }
             OwnMacros::One(item) if !self.is_brought_in(name) => {

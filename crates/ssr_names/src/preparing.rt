@@ -143,8 +143,8 @@ fn crates(
     for name in manifests {
         known.push(outside_crate(outside, &table.names, std, *name)?)?;
     }
-    for name in &table.macro_crates {
-        known.push(outside_crate(outside, &table.names, std, *name)?)?;
+    for of in &table.macro_crates {
+        known.push(outside_crate(outside, &table.names, std, of.name)?)?;
     }
     for entry in &table.entries {
         if let Thing::Crate(name) = entry.thing {

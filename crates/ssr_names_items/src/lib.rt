@@ -27,7 +27,7 @@ pub use reading::read_items;
 pub use sources::{Declaration, FileModule, Origin, SourceText, Sources};
 pub use table::{
     Brings, CrateKind, CrateNo, Edition, Entry, Impl, ImplNo, Import, ImportNo, Item, ItemKind,
-    ItemNo, Module, ModuleKind, ModuleNo, Name, Namespace, OwnCrate, Owner, Start, Table, Thing,
-    Visibility,
+    ItemNo, MacroCrate, Module, ModuleKind, ModuleNo, Name, Namespace, OwnCrate, Owner, Start,
+    Table, Thing, Visibility,
 };
 pub use text::shown;

@@ -6,8 +6,8 @@ use crate::modules::Modules;
 use crate::names::Names;
 use crate::sources::Sources;
 use crate::table::{
-    Entry, Impl, ImplNo, Import, ImportNo, Item, ItemKind, ItemNo, ModuleKind, ModuleNo, Name,
-    Namespace, OwnCrate, Owner, Thing, Visibility,
+    Entry, Impl, ImplNo, Import, ImportNo, Item, ItemKind, ItemNo, MacroCrate, ModuleKind,
+    ModuleNo, Name, Namespace, OwnCrate, Owner, Thing, Visibility,
 };
 use ssr_base_trees::NodeId;
 use ssr_syntax_tree::NodeNo;
@@ -60,7 +60,7 @@ pub(crate) struct Reader<'a> {
     pub(crate) items: Vec<Item>,
     pub(crate) imports: Vec<Import>,
     pub(crate) impls: Vec<Impl>,
-    pub(crate) macro_crates: Vec<Name>,
+    pub(crate) macro_crates: Vec<MacroCrate>,
     /// The macros of files whose names were added to a module, and those whose words were.
     pub(crate) spelled: BTreeSet<(ModuleNo, Name, bool)>,
     /// The modules with a body, by the module around and their names.

@@ -231,5 +231,12 @@ pub struct Table {
     pub imports: Vec<Import>,
     pub impls: Vec<Impl>,
     /// The crates of which `#[macro_use]` brings in the macros.
-    pub macro_crates: Vec<Name>,
+    pub macro_crates: Vec<MacroCrate>,
+}
+
+/// A crate of which `#[macro_use]` brings in the macros, into the crate that has the module.
+#[derive(Clone, Copy, Debug)]
+pub struct MacroCrate {
+    pub module: ModuleNo,
+    pub name: Name,
 }

@@ -3,7 +3,9 @@
 use crate::attributes::attributes_of;
 use crate::code::Code;
 use crate::reader::{Place, Reader};
-use crate::table::{Brings, Import, ImportNo, Name, Namespace, Owner, Start, Thing, Visibility};
+use crate::table::{
+    Brings, Import, ImportNo, MacroCrate, Name, Namespace, Owner, Start, Thing, Visibility,
+};
 use crate::uses::{UsePath, use_paths};
 use crate::visibility::visibility_of;
 use ssr_syntax_kinds::SyntaxKind;
@@ -51,7 +53,8 @@ impl<'a> Reader<'a> {
             None => None,
         };
         if let (Some(name), true) = (named, uses_macros) {
-            self.macro_crates.push(name)?;
+            let module = own.module;
+            self.macro_crates.push(MacroCrate { module, name })?;
         }
         let thing = match named {
             Some(name) => Thing::Crate(name),
