@@ -130,10 +130,10 @@ fn add_row(
     let Some(definition) = definition_of(row) else {
         return add_undecided(alloc, space, wanted, row, rows);
     };
-    match wanted.number(definition) {
-        Some(number) => add_known(row.node, number, rows),
-        None => add_doubtful(alloc, space, wanted, row, rows),
-    }
+    let Some(number) = wanted.number(definition) else {
+        return add_doubtful(alloc, space, wanted, row, rows);
+    };
+    add_known(row.node, number, rows)
 }
 
 /// The definition that a path stands for, if that is known.
@@ -280,7 +280,7 @@ fn found_rows(
     requires collected { CollectsAll (placed resolver.source.now.trees.now) words.now }
     ensures { IfOk result (λ found. All (IsRight (placed resolver.entry.source.now.trees.now)) found.0.items) }
 {
-    let (bound, bound_in) = resolver.bound(outside, &words.binders)?;
+    let (bound, bound_in) = resolver.bound(outside, words.binders.as_slice())?;
     let locals = Locals {
         trees: resolver.source.trees,
         words,
@@ -297,7 +297,7 @@ fn asked(
     trees: &Trees,
     wanted: &Wanted,
 ) -> Result<Words, AllocError>
-    ensures built { IsBuilt trees.now }
+    ensures built { OnOk result (IsBuilt trees.now) }
     ensures collected { IfOk result (λ words. CollectsAll (placed trees.now) words) }
 {
     let mut words = Words::new(alloc);
