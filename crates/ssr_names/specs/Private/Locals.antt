@@ -1,5 +1,5 @@
 -- Private: what is collected of the patterns that bind names, and what is kept of that for each function.
-use Rattle.std.specs.Prelude.{ℕ, ◌≡◌, ◌&&◌, Bool, true, false, List, Option, Some, Contains, All}
+use Rattle.std.specs.Prelude.{ℕ, ◌≡◌, ◌&&◌, Bool, true, false, List, Some, Contains, All}
 use Rattle.std.specs.BTreeMap.{get_by_text}
 use Rattle.std.specs.BTreeSet.{BTreeSet, contains}
 use Rattle.std.specs.Map.{keys_of}

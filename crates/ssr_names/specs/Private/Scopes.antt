@@ -1,5 +1,5 @@
 -- Private: the scopes that nodes stand in, as they are kept.
-use Rattle.std.specs.Prelude.{ℕ, List, Option, None, slice_get}
+use Rattle.std.specs.Prelude.{ℕ, List, Option, slice_get}
 use Rattle.std.specs.Option.{option_and_then}
 use Rattle.ssr_base_trees.specs.declared.ids.NodeId.{NodeId}
 use Rattle.ssr_base_trees.specs.declared.ids.ScopeId.{ScopeId}

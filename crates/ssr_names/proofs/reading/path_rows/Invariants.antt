@@ -1,4 +1,4 @@
-use Rattle.std.proofs.Common.{take, List}
+use Rattle.std.proofs.Common.{List}
 use Rattle.std.specs.Prelude.{All}
 use Rattle.ssr_base_trees.specs.Workspace.{PlacedTree}
 use Rattle.ssr_names.specs.Private.Locals.{IsRight, HasNoLocal}

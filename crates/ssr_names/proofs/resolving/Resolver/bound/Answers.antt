@@ -1,6 +1,5 @@
 use Rattle.std.proofs.Common.{◌<◌, List, false, length, get_or, ap, subst}
 use Rattle.ssr_base_trees.specs.Workspace.{trees, node_id}
-use Rattle.ssr_names_items.specs.declared.table.Namespace.{Namespace}
 use Rattle.ssr_names_items.specs.declared.table.Namespace.TheVariants as namespace
 use Rattle.ssr_names.specs.declared.words.Binder.{Binder}
 use Rattle.ssr_names.specs.Private.Locals.{BindAll, BindAround, sure_binder}

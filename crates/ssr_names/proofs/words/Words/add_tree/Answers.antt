@@ -1,7 +1,5 @@
 use Rattle.std.proofs.Common.{arith}
-use Rattle.ssr_base_trees.specs.Workspace.{node_id}
-use Rattle.ssr_names.specs.Private.Locals.{Collects}
-use Rattle.ssr_names.proofs.Collecting.{keeps_itself, keeps_on, collected_still}
+use Rattle.ssr_names.proofs.Collecting.{keeps_itself}
 use Rattle.ssr_names.proofs.words.Words.add_tree.Goals as goal
 
 pub loop-place-init : goal.loop-place-init

@@ -1,4 +1,4 @@
-use Rattle.std.proofs.Common.{◌<◌, sym, arith}
+use Rattle.std.proofs.Common.{sym, arith}
 use Rattle.ssr_base_trees.proofs.Shared.{tree_within}
 use Rattle.ssr_names.proofs.Collecting.{all_collected}
 use Rattle.ssr_names.proofs.words.Words.add_trees.Goals as goal
