@@ -273,15 +273,9 @@ fn what_is_set_aside_is_read(rt: HostRuntime) -> Result<(), Fail> {
     assert_eq!(rt;
         text.as_str(),
         "0 crate of 0
-0 Type union: unknown, pub, unsure
-0 Value union: unknown, pub, unsure
-0 Macro union: unknown, pub, unsure
 0 Type Bits: unknown, pub, unsure
 0 Value Bits: unknown, pub, unsure
 0 Macro Bits: unknown, pub, unsure
-0 Type a: unknown, pub, unsure
-0 Value a: unknown, pub, unsure
-0 Macro a: unknown, pub, unsure
 0 Type l: crate log, in 0
 "
     );
