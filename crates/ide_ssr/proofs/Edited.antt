@@ -30,6 +30,17 @@ edits_told finder kept lists meanings rules result same_meanings same have outco
     (subst (λ (meanings : Meanings). Answers kept lists (writing meanings finder.rules) result) same_meanings
     (subst (λ (rules : List ResolvedRule). Answers kept lists (writing meanings rules) result) same answers))
 
+-- edits, and the kept matches that they are for
+pub rewrites_told : (finder : Finder) (kept : Kept) (lists : Listing) (meanings : Meanings) (rules : List ResolvedRule) (edits : BTreeMap FileId (List Change))
+    → meanings ≡ finder.meanings → rules ≡ finder.rules → HaveTemplates rules → IsOutcome finder kept lists → Answers kept lists (writing meanings rules) (Ok edits)
+    → HaveTemplates finder.rules × IsOutcome finder kept lists × Answers kept lists (writing finder.meanings finder.rules) (Ok edits)
+rewrites_told finder kept lists meanings rules edits same_meanings same have outcome answers = (
+  subst HaveTemplates same have,
+  outcome,
+  subst (λ (meanings : Meanings). Answers kept lists (writing meanings finder.rules) (Ok edits)) same_meanings
+      (subst (λ (rules : List ResolvedRule). Answers kept lists (writing meanings rules) (Ok edits)) same answers),
+)
+
 -- equal finders have the same rules
 pub rules_are : {S : Type 0} (one other : FinderWith S) → one ≡ other → one.rules ≡ other.rules
 rules_are {S = S} one other is = ap (λ (f : FinderWith S). f.rules) is

@@ -14,4 +14,5 @@ mod CommentTokens
 mod Entries
 mod SomeOutcome
 mod Edited
+mod EditedTrees
 pub mod Shared

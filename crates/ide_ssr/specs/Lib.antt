@@ -4,6 +4,7 @@ pub mod Making
 pub mod Adding
 pub mod Searching
 pub mod Edits
+pub mod EditedTree
 pub mod Matches
 pub mod Comments
 pub mod Starts

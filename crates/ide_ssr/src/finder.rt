@@ -10,16 +10,19 @@ ghost use Rattle.ide_ssr_search.specs.Making.{Makes, MakesFirst};
 ghost use Rattle.ide_ssr.specs.Adding.{Adds};
 ghost use Rattle.ide_ssr.specs.BindsOnce.{BindOnce};
 ghost use Rattle.ide_ssr.specs.Edits.{Edits, HaveTemplates};
+ghost use Rattle.ide_ssr.specs.EditedTree.{EditsTree};
 ghost use Rattle.ide_ssr.specs.Finder.{finder_of};
 ghost use Rattle.ide_ssr.specs.Making.{MakesFinder, TellsRefusal};
 ghost use Rattle.ide_ssr.specs.Nesting.{ShowKept};
 ghost use Rattle.ide_ssr.specs.Private.Found.{IsEnoughFound};
+ghost use Rattle.ide_ssr.specs.Private.Rewriting.{Rewrites};
 ghost use Rattle.ide_ssr.specs.Searching.{IsOutcome};
 ghost use Rattle.ide_ssr_leading.specs.Tries.{IsMost};
 
 use crate::matches::{Match, SsrMatches};
 use crate::nesting::nested_matches;
 use ide_ssr_bindings::FoundMatch;
+use ide_ssr_edited::{EditedError, edited_tree};
 use ide_ssr_leading::find_led;
 use ide_ssr_matching::Tries;
 use ide_ssr_nesting::{KeptMatches, Lists, keep};
@@ -30,6 +33,7 @@ use ide_ssr_rules::{SsrPattern, SsrRule, resolve_pattern, resolve_rule};
 use ide_ssr_search::{Context, ContextError, find_matches};
 use ssr_base::Workspace;
 use ssr_base_trees::{FileId, FilePosition, FileRange, Semantics, TextEdit, Trees};
+use ssr_syntax_tree::Tree;
 use std::alloc::{AllocError, Global};
 use std::collections::BTreeMap;
 use std::fmt;
@@ -68,6 +72,14 @@ impl<S: Semantics> fmt::Debug for MatchFinder<'_, S> {
             .field("rules", &self.rules.len())
             .finish_non_exhaustive()
     }
+}
+
+/// Kept matches, their lists, and the edits by which they are rewritten.
+#[derive(Drop)]
+struct Rewritten<'a> {
+    kept: KeptMatches<'a>,
+    lists: Lists,
+    edits: BTreeMap<FileId, TextEdit>,
 }
 
 /// The error that tells why there is nothing to make a search for.
@@ -202,12 +214,40 @@ impl<'a, S: Semantics> MatchFinder<'a, S> {
         ensures fits { IfOk result (λ edits. EditsFit self.now.workspace edits) }
         ensures order { IfOk result (λ edits. EditsInOrder edits) }
     {
+        let rewritten = self.rewritten()?;
+        Ok(rewritten.edits)
+    }
+
+    /// The edits, and the kept matches that they are for, with their lists.
+    fn rewritten(&self) -> Result<Rewritten<'a>, EditError>
+        ensures answer { Rewrites (finder_of S.meanings self.now) result }
+        ensures fits { IfOk result (λ rewritten. EditsFit self.now.workspace rewritten.edits) }
+        ensures order { IfOk result (λ rewritten. EditsInOrder rewritten.edits) }
+    {
         if !have_templates(&self.rules) {
             return Err(EditError::NoTemplate);
         }
         let found = self.found_where_led(&mut Tries::none())?;
         let (kept, lists) = self.outcome(found)?;
-        edits(self.alloc, self.semantics, &kept, &lists, &self.rules)
+        let edits = edits(self.alloc, self.semantics, &kept, &lists, &self.rules)?;
+        Ok(Rewritten { kept, lists, edits })
+    }
+
+    /// The tree of a file with its edit made, if there is such a file: the old tree, in which each outermost match has given way to what
+    /// is written for it, in parentheses where it is. White space and comments don't count. `Edit` where `edits` refuses, else
+    /// `Syntax` where the new text isn't read, else `Differs` where it is read as another tree, or where there is no such one: a
+    /// match or what is written for it is no expression, or the match lies in what a call of a macro stands for.
+    pub fn edited_tree(&self, file: FileId) -> Result<Option<Tree>, EditedError>
+        ensures { EditsTree (finder_of S.meanings self.now) file result }
+    {
+        let Rewritten { kept, lists, edits } = self.rewritten()?;
+        match edits.get(&file) {
+            Some(edit) => edited_tree(self.alloc, &kept, &lists, &self.rules, file, edit),
+            None => {
+                let none = TextEdit::new(Vec::new(self.alloc));
+                edited_tree(self.alloc, &kept, &lists, &self.rules, file, &none)
+            }
+        }
     }
 
     /// The kept matches as `edits` replaces them: the outermost ones, each with what its placeholders hold. A match has each

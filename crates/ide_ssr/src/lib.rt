@@ -17,6 +17,7 @@ mod starts;
 pub use finder::MatchFinder;
 pub use from_comment::ssr_from_comment;
 pub use ide_ssr_debugging::MatchDebugInfo;
+pub use ide_ssr_edited::EditedError;
 pub use ide_ssr_matching::Tries;
 pub use ide_ssr_refusals::SsrError;
 pub use ide_ssr_rewriting::EditError;

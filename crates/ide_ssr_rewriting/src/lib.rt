@@ -15,3 +15,4 @@ mod writer;
 
 pub use comments::{kept_comments, push_comments};
 pub use editing::{EditError, edits};
+pub use replacements::push_kept;

@@ -87,7 +87,7 @@ pub(crate) fn held_text<'a>(
 }
 
 /// Adds the comments that a match keeps.
-pub(crate) fn push_kept(
+pub fn push_kept(
     alloc: Global,
     workspace: &Trees,
     m: &FoundMatch,

@@ -1,0 +1,3 @@
+mod Swaps
+mod Outermost
+mod Telling

@@ -1,0 +1,4 @@
+mod Alike
+mod NodeMarks
+mod Left
+mod Tables
