@@ -1,6 +1,11 @@
 mod Passed
-mod Siblings
-mod Outlines
+mod SiblingMarks
+mod Segments
+mod SameForests
+mod Pairwise
+mod ClearRuns
+mod Alike
+mod SameMarks
 mod Places
 mod Standings
 mod Spelled

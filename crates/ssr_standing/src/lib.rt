@@ -8,8 +8,11 @@ mod expansions;
 mod fitted;
 mod holes;
 mod marks;
+mod outlines;
 mod passing;
 mod ranges;
+mod runs;
+mod siblings;
 mod spelling;
 mod standing;
 
