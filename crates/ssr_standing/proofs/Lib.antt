@@ -11,4 +11,5 @@ mod Standings
 mod Spelled
 mod Calls
 mod Below
+mod CodeEnds
 pub mod Shared
