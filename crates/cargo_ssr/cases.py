@@ -330,7 +330,7 @@ GROUPED = [
     ("fn f() { x&(&y); (a.b)(c); ((z)) }\n", "($a) ==>> $a", "fn f() { x&(&y); (a.b)(c); z }\n"),
     ("fn f() { match x { &7 => 2 * 7, _ => 0 } }\n", "7 ==>> 3 | 4", "fn f() { match x { &(3 | 4) => 2 * (3 | 4), _ => 0 } }\n"),
     ("fn f() { 2 * 7 + 7 }\n", "7 ==>> 3 * 4", "fn f() { 2 * (3 * 4) + 3 * 4 }\n"),
-    ("fn f() { 2 * x /* c */.g(); }\n", "$a.g() ==>> $a + 1", "fn f() { 2 * (x + 1/* c */); }\n"),
+    ("fn f() { 2 * x /* c */.g(); }\n", "$a.g() ==>> $a + 1", "fn f() { 2 * (x + 1)/* c */; }\n"),
     # what macros take groups as before
     ("fn f() { assert!(2 * 7 == x); }\n", "7 ==>> 3 + 4", "fn f() { assert!(2 * (3 + 4) == x); }\n"),
     ('fn f() { println!("{:?}", a.set(b)); }\n', "$a.set($b) ==>> $a = $b", 'fn f() { println!("{:?}", (a = b)); }\n'),

@@ -9,7 +9,7 @@ ghost use Rattle.ide_ssr_rewriting.specs.Private.Fitting.{ChangeFits, FitsRange,
 
 use crate::replacements::{between, replaced};
 use ssr_base_trees::{FileRange, Trees};
-use ssr_standing::{agree, new_ranges_from, old_ranges_from};
+use ssr_standing::{agree, in_parentheses, new_ranges_from, old_ranges_from};
 use ssr_syntax::{Fragment, SyntaxError, fragment};
 use ssr_syntax_kinds::TextRange;
 use ssr_syntax_tree::Tree;
@@ -93,7 +93,7 @@ impl<'a> Part<'a> {
         if self.stands_with(alloc, range, text)? {
             return String::from_str(alloc, text);
         }
-        let wrapped = format!(in alloc; "({text})")?;
+        let wrapped = in_parentheses(alloc, text)?;
         if self.stands_with(alloc, range, wrapped.as_str())? {
             return Ok(wrapped);
         }

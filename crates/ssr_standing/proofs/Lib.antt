@@ -1,9 +1,15 @@
 mod Passed
-mod Siblings
-mod Outlines
+mod SiblingMarks
+mod Segments
+mod SameForests
+mod Pairwise
+mod ClearRuns
+mod Alike
+mod SameMarks
 mod Places
 mod Standings
 mod Spelled
 mod Calls
 mod Below
+mod CodeEnds
 pub mod Shared

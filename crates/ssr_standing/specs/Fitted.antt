@@ -1,15 +1,16 @@
 -- A change that stands alone, in parentheses where it stands only so.
-use Rattle.std.specs.Prelude.{◌≡◌, Bool, false, true, if◌then◌else◌, ℕ, List, [], ◌∷◌, ◌++◌, codes, Option, None, Some}
+use Rattle.std.specs.Prelude.{◌≡◌, Bool, false, true, if◌then◌else◌, ℕ, List, [], ◌∷◌, Option, None, Some}
 use Rattle.ssr_syntax_kinds.specs.declared.range.TextRange.{TextRange}
 use Rattle.ssr_base_trees.specs.Changes.{Change}
+use Rattle.ssr_standing.specs.Code.{parenthesized}
 
 -- the change that puts a text in the place of a range
 abbrev pub change_with : TextRange → List ℕ → Change
 change_with range text = record { start = range.start; end = range.end; text = text }
 
--- a change with its text in parentheses
+-- a change with the code of its text in parentheses
 abbrev pub in_parentheses : Change → Change
-in_parentheses c = record { start = c.start; end = c.end; text = codes "(" ++ (c.text ++ codes ")") }
+in_parentheses c = record { start = c.start; end = c.end; text = parenthesized c.text }
 
 -- a change as it is, if it stands alone, else in parentheses
 abbrev pub fitted : (List Change → Bool) → Change → Change

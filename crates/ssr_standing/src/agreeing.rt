@@ -3,7 +3,7 @@ ghost use Rattle.std.specs.Prelude.{◌≡◌, ◌↔◌, IfOk, IsTrue, map};
 ghost use Rattle.ssr_base_trees.specs.Origins.{span_of};
 ghost use Rattle.ssr_standing.specs.Around.{agree, around};
 
-use crate::marks::Outline;
+use crate::outlines::{Outline, are_same};
 use ssr_syntax_kinds::TextRange;
 use ssr_syntax_tree::Tree;
 use std::alloc::{AllocError, Global};
@@ -24,7 +24,5 @@ pub fn agree(
     ensures value { IfOk result (λ same. same ≡ agree old.now (map span_of olds.now) new.now (map span_of news.now)) }
     ensures same { IfOk result (λ same. IsTrue same ↔ (around old.now (map span_of olds.now) ≡ around new.now (map span_of news.now))) }
 {
-    let one = Outline::new(alloc, old, olds)?;
-    let other = Outline::new(alloc, new, news)?;
-    Ok(one.is_same(&other))
+    Ok(are_same(Outline::new(old, olds), Outline::new(new, news)))
 }

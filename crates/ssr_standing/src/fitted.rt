@@ -6,6 +6,7 @@ ghost use Rattle.ssr_base_trees.specs.Changes.{FitsText};
 ghost use Rattle.ssr_standing.specs.Expansions.{stands_in};
 ghost use Rattle.ssr_standing.specs.Fitted.{IsFitted, change_with};
 
+use crate::code::in_parentheses;
 use crate::expansions::SearchedFile;
 use ssr_base_trees::TextEdit;
 use ssr_syntax_kinds::TextRange;
@@ -45,7 +46,7 @@ impl<'a> SearchedFile<'a> {
         if self.stands_with(alloc, range, text)? {
             return Ok(Some(String::from_str(alloc, text)?));
         }
-        let wrapped = format!(in alloc; "({text})")?;
+        let wrapped = in_parentheses(alloc, text)?;
         if self.stands_with(alloc, range, wrapped.as_str())? {
             return Ok(Some(wrapped));
         }

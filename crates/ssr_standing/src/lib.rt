@@ -4,16 +4,21 @@
 
 mod agreeing;
 mod argument_names;
+mod code;
 mod expansions;
 mod fitted;
 mod holes;
 mod marks;
+mod outlines;
 mod passing;
 mod ranges;
+mod runs;
+mod siblings;
 mod spelling;
 mod standing;
 
 pub use agreeing::agree;
+pub use code::in_parentheses;
 pub use expansions::SearchedFile;
 pub use ranges::{new_ranges, new_ranges_from, old_ranges, old_ranges_from};
 pub use standing::stands;

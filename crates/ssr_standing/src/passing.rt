@@ -1,11 +1,14 @@
 //! In which of the places that are replaced bytes lie that are asked for one after the other.
 ghost use Rattle.std.specs.Prelude.{◌≡◌, map};
+ghost use Rattle.ssr_syntax_tree.specs.Places.{HasElement, part_of};
 ghost use Rattle.ssr_base_trees.specs.Origins.{plain_origin, span_of};
-ghost use Rattle.ssr_standing.specs.Around.{passed};
+ghost use Rattle.ssr_standing.specs.Around.{hole_at, hole_of, passed};
 ghost use Rattle.ssr_standing.specs.Expansions.{change_of, has_change, is_inside};
+ghost use Rattle.ssr_standing.specs.Private.Passing.{is_clear};
 
 use crate::holes::{hole_behind, passed_from};
 use ssr_syntax_kinds::TextRange;
+use ssr_syntax_tree::{Element, Tree};
 
 /// Places, and how many of them are passed at a byte.
 #[derive(Clone, Copy)]
@@ -68,9 +71,38 @@ impl<'a> Passing<'a> {
         ensures answer { result ≡ change_of (map span_of self.new.places.now) (plain_origin origin) }
         ensures places { self.new.places.now ≡ self.old.places.now }
     {
-        let range = origin?;
+        self.hole_at(origin?)
+    }
+
+    /// The number of the place in which the bytes of a range lie.
+    pub(crate) fn hole_at(&mut self, range: TextRange) -> Option<usize>
+        ensures answer { result ≡ hole_at (map span_of self.new.places.now) range.start range.end }
+        ensures places { self.new.places.now ≡ self.old.places.now }
+    {
         let number = self.passed(range.start);
         hole_behind(self.places, number, range)
+    }
+
+    /// The number of the place in which a part of a tree lies as a whole.
+    pub(crate) fn hole_of(&mut self, tree: &Tree, part: Element) -> Option<usize>
+        requires { HasElement tree.now part }
+        ensures answer { result ≡ hole_of (map span_of self.new.places.now) tree.now (part_of tree.now part) }
+        ensures places { self.new.places.now ≡ self.old.places.now }
+    {
+        match part {
+            Element::Token(token) => self.hole_at(tree.token_range(token)),
+            Element::Node(node) => self.hole_at(tree.range(node)),
+        }
+    }
+
+    /// Whether no place has bytes of a range, begins where it ends, or ends in it.
+    pub(crate) fn is_clear(&self, range: TextRange) -> bool
+        ensures { result ≡ is_clear (map span_of self.now.places.now) range.start range.end }
+    {
+        match self.places.get(self.counted(range.start)) {
+            Some(place) => range.end < place.start && range.end < place.end,
+            None => true,
+        }
     }
 
     /// Whether a call has one of the places in it, and more.

@@ -1,5 +1,5 @@
--- The marks of an outline as they are kept: a token is named by its number.
-use Rattle.std.specs.Prelude.{◌≡◌, List, ◌++◌, All, map}
+-- The marks of a node's children as they are kept: a token is named by its number.
+use Rattle.std.specs.Prelude.{◌≡◌}
 use Rattle.ssr_syntax_tree.specs.Syntax.{Syntax}
 use Rattle.ssr_syntax_tree.specs.Places.{HasToken, token_of}
 use Rattle.ssr_syntax_tree.specs.declared.number.TokenNo.{TokenNo}
@@ -9,7 +9,6 @@ use Rattle.ssr_standing.specs.Around as around
 
 -- the mark that a stored one stands for
 abbrev pub shown : Syntax → Mark → around.Mark
-shown tree (stored.Node kind) = around.node_mark kind
 shown tree (stored.Token t) = around.token_mark (token_of tree t.0)
 shown tree stored.Child = around.child_mark
 shown tree (stored.Hole n) = around.hole_mark n
@@ -17,8 +16,3 @@ shown tree (stored.Hole n) = around.hole_mark n
 -- a token that is named is there
 abbrev pub IsMarkOf : Syntax → Mark → Type 0
 IsMarkOf tree mark = (t : TokenNo) → mark ≡ stored.Token t → HasToken tree t.0
-
--- behind the stored marks more are stored
-pub record Adds (tree : Syntax) (more : List around.Mark) (old new : List Mark) : Type 0 where
-  pub marks : map (shown tree) new ≡ map (shown tree) old ++ more
-  pub had : All (IsMarkOf tree) old → All (IsMarkOf tree) new
