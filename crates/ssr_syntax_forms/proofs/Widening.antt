@@ -1,0 +1,117 @@
+-- The run of a grammar in a reach is the run of that reach's grammar in the stated language.
+use Rattle.std.proofs.Common.{◌≡◌, ℕ, zero, suc, ◌+◌, Bool, true, false, if◌then◌else◌, List, length, Result, Ok, Err, inl, inr, refl, sym, ap, ◌∙◌}
+use Rattle.std.proofs.lemmas.Bool.{cases_Bool}
+use Rattle.ssr_syntax_kinds.specs.declared.kinds.SyntaxKind.{SyntaxKind}
+use Rattle.ssr_syntax_forms.specs.declared.fault.Fault.{Fault}
+use Rattle.ssr_syntax_forms.specs.declared.fault.Fault.TheVariants as faults
+use Rattle.ssr_syntax_forms.specs.Forms.{Productions, Form, one, child, mark, seal, ◌then◌, nothing, choose, many, look, check, wide, Test, at, also, also_decide, choose_by, look_by, repeated_by, as_long_as_by, comma_by, comma_list_by, widened, in_reach, passes, agrees, holds, repeat, ◌>>=◌}
+use Rattle.ssr_syntax_forms.specs.Parser.{State, Mark, mark_of, since, repeated, comma, comma_separated}
+use Rattle.ssr_syntax_forms.specs.Runs.{RunsBelow, runs_below, run, run_goal}
+use Rattle.ssr_syntax_forms.proofs.Loops.{run_as_long_as, run_comma_list, run_decide}
+
+-- ** Words by the reach.
+pub run_also : {Goal : Type 0} (below : RunsBelow Goal) (first : List SyntaxKind) (f g : Form Goal) (m : Mark) (s : State)
+    → run below (also first f g) m s ≡ (if passes (at first) s.rest then (if below.is_whole then run below f m s else run below g m s) else run below g m s)
+unfolding also
+run_also below first f g m s =
+    elim (cases_Bool below.is_whole) [
+      | inl whole ↦ rw whole (elim (cases_Bool (passes (at first) s.rest)) [ inl hit ↦ rw hit refl | inr miss ↦ rw miss refl ])
+      | inr stated ↦ rw stated (elim (cases_Bool (passes (at first) s.rest)) [ inl hit ↦ rw hit refl | inr miss ↦ rw miss refl ])
+    ]
+
+pub run_also_decide : {Goal : Type 0} (below : RunsBelow Goal) (test : Test) (f g : Form Goal) (m : Mark) (s : State)
+    → run below (also_decide test f g) m s ≡ (if below.is_whole then (if passes test s.rest then run below f m s else run below g m s) else run below g m s)
+unfolding also_decide
+run_also_decide below test f g m s =
+    elim (cases_Bool below.is_whole) [
+      | inl whole ↦ rw whole (run_decide below test f g m s)
+      | inr stated ↦ rw stated refl
+    ]
+
+pub run_choose_by : {Goal : Type 0} (below : RunsBelow Goal) (first : Bool → List SyntaxKind) (f g : Form Goal) (m : Mark) (s : State)
+    → run below (choose_by first f g) m s ≡ (if passes (at (first below.is_whole)) s.rest then run below f m s else run below g m s)
+unfolding choose_by
+run_choose_by below first f g m s = elim (cases_Bool below.is_whole) [ inl whole ↦ rw whole refl | inr stated ↦ rw stated refl ]
+
+pub run_look_by : {Goal : Type 0} (below : RunsBelow Goal) (want : Bool) (first : Bool → List SyntaxKind) (m : Mark) (s : State)
+    → run below (look_by want first) m s ≡ (if agrees want (passes (at (first below.is_whole)) s.rest) then Ok s else Err faults.NoTree)
+unfolding look_by
+run_look_by below want first m s = elim (cases_Bool below.is_whole) [ inl whole ↦ rw whole refl | inr stated ↦ rw stated refl ]
+
+pub run_repeated_by : {Goal : Type 0} (below : RunsBelow Goal) (first : Bool → List SyntaxKind) (f : Form Goal) (m : Mark) (s : State)
+    → run below (repeated_by first f) m s ≡ repeated (at (first below.is_whole)) (run below f m) s
+unfolding repeated_by
+run_repeated_by below first f m s = elim (cases_Bool below.is_whole) [ inl whole ↦ rw whole refl | inr stated ↦ rw stated refl ]
+
+pub run_as_long_as_by : {Goal : Type 0} (below : RunsBelow Goal) (test : Bool → Test) (f : Form Goal) (m : Mark) (s : State)
+    → run below (as_long_as_by test f) m s ≡ repeated (test below.is_whole) (run below f m) s
+unfolding as_long_as_by
+run_as_long_as_by below test f m s =
+    elim (cases_Bool below.is_whole) [
+      | inl whole ↦ rw whole (run_as_long_as below (test true) f m s)
+      | inr stated ↦ rw stated (run_as_long_as below (test false) f m s)
+    ]
+
+pub run_comma_by : {Goal : Type 0} (below : RunsBelow Goal) (first : Bool → List SyntaxKind) (m : Mark) (s : State)
+    → run below (comma_by first) m s ≡ comma (first below.is_whole) s
+unfolding comma_by
+run_comma_by below first m s = elim (cases_Bool below.is_whole) [ inl whole ↦ rw whole refl | inr stated ↦ rw stated refl ]
+
+pub run_comma_list_by : {Goal : Type 0} (below : RunsBelow Goal) (first : Bool → List SyntaxKind) (item : Form Goal) (m : Mark) (s : State)
+    → run below (comma_list_by first item) m s ≡ comma_separated (first below.is_whole) (run below item m) s
+unfolding comma_list_by
+run_comma_list_by below first item m s =
+    elim (cases_Bool below.is_whole) [
+      | inl whole ↦ rw whole (run_comma_list below (first true) item m s)
+      | inr stated ↦ rw stated (run_comma_list below (first false) item m s)
+    ]
+
+-- ** All of Rust is run as its own grammar.
+-- the one runs all of Rust, the other one a stated language, with the same goals
+record IsWidened {Goal : Type 0} (below other : RunsBelow Goal) : Type 0 where
+  whole : below.is_whole ≡ true
+  same : (goal : Goal) (s : State) → below.runs goal s ≡ other.runs goal s
+
+bind_alike : (q r : Result State Fault) (f g : State → Result State Fault) → q ≡ r → ((s : State) → f s ≡ g s) → (q >>= f) ≡ (r >>= g)
+bind_alike (Ok s) r f g e same = same s ∙ ap (λ w. w >>= g) e
+bind_alike (Err x) r f g e same = ap (λ w. w >>= g) e
+
+repeat_alike : (test : Test) (f g : State → Result State Fault) → ((s : State) → f s ≡ g s) → (n : ℕ) (s : State)
+    → repeat (λ z. z.rest) n test f s ≡ repeat (λ z. z.rest) n test g s
+repeat_alike test f g same zero s = refl
+repeat_alike test f g same (suc n) s =
+    elim (cases_Bool (passes test s.rest)) [
+      | inl hit ↦ rw hit (bind_alike (f s) (g s) (repeat (λ z. z.rest) n test f) (repeat (λ z. z.rest) n test g) (same s) (repeat_alike test f g same n))
+      | inr miss ↦ rw miss refl
+    ]
+
+run_widened : {Goal : Type 0} (below other : RunsBelow Goal) → IsWidened below other → (form : Form Goal) (m : Mark) (s : State)
+    → run below form m s ≡ run other (widened form) m s
+unfolding repeated
+run_widened below other h (one whole ks) m s = refl
+run_widened below other h (child goal) m s = h.same goal s
+run_widened below other h (mark f) m s = run_widened below other h f (mark_of s) s
+run_widened below other h (seal kind) m s = refl
+run_widened below other h (f then g) m s =
+    bind_alike (run below f m s) (run other (widened f) m s) (run below g m) (run other (widened g) m)
+    (run_widened below other h f m s) (run_widened below other h g m)
+run_widened below other h nothing m s = refl
+run_widened below other h (choose test f g) m s =
+    elim (cases_Bool (passes test s.rest)) [
+      | inl hit ↦ rw hit (run_widened below other h f m s)
+      | inr miss ↦ rw miss (run_widened below other h g m s)
+    ]
+run_widened below other h (many test f) m s =
+    repeat_alike test (run below f m) (run other (widened f) m) (run_widened below other h f m) (length s.rest + 1) s
+run_widened below other h (look want test) m s = refl
+run_widened below other h (check condition) m s = refl
+run_widened below other h (wide f g) m s = rw h.whole (run_widened below other h f m s)
+
+pub goals_of_reach : {Goal : Type 0} (is_whole : Bool) (grammar : Productions Goal) (n : ℕ) (goal : Goal) (s : State)
+    → run_goal is_whole grammar n goal s ≡ run_goal false (in_reach is_whole grammar) n goal s
+unfolding run_goal
+goals_of_reach false grammar n goal s = refl
+goals_of_reach true grammar zero goal s = refl
+goals_of_reach true grammar (suc n) goal s =
+    run_widened (runs_below true (run_goal true grammar n)) (runs_below false (run_goal false (in_reach true grammar) n))
+    (record { whole = refl; same = goals_of_reach true grammar n }) (grammar goal) (mark_of s) s
