@@ -1,5 +1,5 @@
 -- What the parser's functions write is what the tree that is read writes.
-use Rattle.std.proofs.Common.{◌≡◌, ℕ, zero, suc, ◌+◌, ◌-◌, Bool, false, List, ◌∷◌, ◌++◌, length, take, Result, Ok, Err, ◌⊎◌, inl, inr, refl, sym, ap, subst, ◌∙◌, arith}
+use Rattle.std.proofs.Common.{◌≡◌, ℕ, zero, suc, ◌+◌, ◌-◌, Bool, false, if◌then◌else◌, List, ◌∷◌, ◌++◌, length, take, Result, Ok, Err, ◌⊎◌, inl, inr, refl, sym, ap, subst, ◌∙◌, arith}
 use Rattle.std.proofs.lemmas.Bool.{cases_Bool}
 use Rattle.std.proofs.lemmas.List.{length-append, length-take-le}
 use Rattle.std.proofs.Math.Seq.{take-append_seam}
@@ -110,4 +110,6 @@ agree runs below h k (look want test) out start r e =
 agree runs below h k (check condition) out start r e =
     rw (since start (spell r.made) r.rest e)
     (elim (cases_Bool (holds condition (spell r.made))) [ inl hit ↦ rw hit refl | inr miss ↦ rw miss refl ])
-agree runs below h k (wide f g) out start r e = rw h.stated (agree runs below h k g out start r e)
+agree runs below h k (wide f g) out start r e =
+    ap (λ b. if b then run runs f (mark_at out start) (after out r) else run runs g (mark_at out start) (after out r)) h.stated
+    ∙ agree runs below h k g out start r e
