@@ -1,18 +1,18 @@
 -- Forms of expressions by how tightly they bind.
-use Rattle.std.specs.Prelude.{ℕ, zero, suc, true, false, List, [], ◌∷◌, length}
+use Rattle.std.specs.Prelude.{ℕ, zero, suc, Bool, true, false, List, [], ◌∷◌, length}
 use Rattle.ssr_syntax_kinds.specs.declared.kinds.SyntaxKind.{SyntaxKind}
 use Rattle.ssr_syntax_kinds.specs.declared.kinds.SyntaxKind.TheVariants as k
 use Rattle.ssr_syntax_types.specs.declared.goals.Goal.{Goal}
 use Rattle.ssr_syntax_types.specs.declared.goals.Goal.TheVariants.{Expr, Operand, Unary, Ty, GenericArgs}
 use Rattle.ssr_syntax_types.specs.declared.goals.ExprPlace.{ExprPlace}
 use Rattle.ssr_syntax_types.specs.declared.goals.ExprPlace.TheVariants.{Anywhere, BeforeBlock}
-use Rattle.ssr_syntax_forms.specs.Forms.{Form, ◌then◌, child, mark, seal, choose, decide, look, a, any, part, at, optional, repeated, comma_list}
+use Rattle.ssr_syntax_forms.specs.Forms.{Form, ◌then◌, child, mark, seal, choose, decide, look, also, also_decide, look_by, a, any, part, at, optional, optional_by, repeated, comma_list_by}
 use Rattle.ssr_syntax_types.specs.Literals.{literal, literals}
 use Rattle.ssr_syntax_types.specs.Paths.{colon_angle, name_ref, number_ref, path_first}
 use Rattle.ssr_syntax_types.specs.Types.{ampersands}
 use Rattle.ssr_syntax_types.specs.PatternSets.{ranges}
 use Rattle.ssr_syntax_exprs.specs.Blocks.{block_like}
-use Rattle.ssr_syntax_exprs.specs.Atoms.{array_expr, braceless_first, continue_expr, expr_first, expr_in_parentheses, leaving_expr, leaving_first, operand_first, path_expr}
+use Rattle.ssr_syntax_exprs.specs.Atoms.{array_expr, async_block, async_closure, async_closure_ahead, braceless_first, continue_expr, expr_first, expr_in_parentheses, leaving_expr, leaving_first, operand_first, path_expr, underscore_expr}
 
 abbrev pub prefix_operators : List SyntaxKind
 prefix_operators = k.MINUS ∷ k.BANG ∷ k.STAR ∷ []
@@ -29,6 +29,9 @@ assignments =
 
 -- ** What stands for itself.
 
+unfoldable pub block_or_mark : Form Goal
+block_or_mark = also (k.ASYNC_KW ∷ []) (mark async_block) (also (k.UNDERSCORE ∷ []) (mark underscore_expr) block_like)
+
 unfoldable pub atom : ExprPlace → Form Goal
 atom place =
     choose (at path_first) (mark (path_expr place))
@@ -36,12 +39,12 @@ atom place =
     (choose (at (k.L_PAREN ∷ [])) (mark expr_in_parentheses)
     (choose (at (k.L_BRACK ∷ [])) (mark array_expr)
     (choose (at (k.CONTINUE_KW ∷ [])) (mark continue_expr)
-    block_like))))
+    block_or_mark))))
 
 -- ** What goes on with an expression, which is all since the mark.
 
 unfoldable pub arg_list : Form Goal
-arg_list = a k.L_PAREN then comma_list expr_first (child (Expr Anywhere)) then a k.R_PAREN then seal k.ARG_LIST
+arg_list = a k.L_PAREN then comma_list_by expr_first (child (Expr Anywhere)) then a k.R_PAREN then seal k.ARG_LIST
 
 unfoldable pub call_expr : Form Goal
 call_expr = mark arg_list then seal k.CALL_EXPR
@@ -72,8 +75,14 @@ named_member = mark name_ref then (choose (at (k.L_PAREN ∷ [])) method_call_ex
 unfoldable pub numbered_member : Form Goal
 numbered_member = mark number_ref then seal k.FIELD_EXPR
 
+unfoldable pub field_or_method : Form Goal
+field_or_method = choose (at (k.INT_NUMBER ∷ [])) numbered_member named_member
+
+unfoldable pub await_expr : Form Goal
+await_expr = a k.AWAIT_KW then seal k.AWAIT_EXPR
+
 unfoldable pub member : Form Goal
-member = a k.DOT then (choose (at (k.INT_NUMBER ∷ [])) numbered_member named_member)
+member = a k.DOT then also (k.AWAIT_KW ∷ []) await_expr field_or_method
 
 unfoldable pub postfix : Form Goal
 postfix =
@@ -171,15 +180,15 @@ operand place rank = unary place then climb place rank
 -- ** Ranges.
 
 -- what the right operand of a range begins with: before a block it is no brace
-unfoldable pub ends_first : ExprPlace → List SyntaxKind
-ends_first Anywhere = operand_first
-ends_first BeforeBlock = braceless_first
+unfoldable pub ends_first : ExprPlace → Bool → List SyntaxKind
+ends_first Anywhere is_whole = operand_first is_whole
+ends_first BeforeBlock is_whole = braceless_first is_whole
 
 unfoldable pub range_end : ExprPlace → Form Goal
-range_end place = look true (at (ends_first place)) then child (Operand place all_ranks)
+range_end place = look_by true (ends_first place) then child (Operand place all_ranks)
 
 unfoldable pub to_range : ExprPlace → Form Goal
-to_range place = a k.DOT2 then optional (ends_first place) (range_end place) then seal k.RANGE_EXPR
+to_range place = a k.DOT2 then optional_by (ends_first place) (range_end place) then seal k.RANGE_EXPR
 
 unfoldable pub to_inclusive_range : ExprPlace → Form Goal
 to_inclusive_range place = a k.DOT2EQ then range_end place then seal k.RANGE_EXPR
@@ -204,6 +213,9 @@ unfoldable pub ranked : ExprPlace → Form Goal
 ranked place = choose (at ranges) (leading_range place) (operand place all_ranks then range_or_assignment place)
 
 -- before a block stands no `return`, `break` or closure
+unfoldable pub leaving_or_ranked : Form Goal
+leaving_or_ranked = choose (at leaving_first) leaving_expr (ranked Anywhere)
+
 unfoldable pub expr : ExprPlace → Form Goal
-expr Anywhere = choose (at leaving_first) leaving_expr (ranked Anywhere)
+expr Anywhere = also_decide async_closure_ahead (mark async_closure) leaving_or_ranked
 expr BeforeBlock = ranked BeforeBlock

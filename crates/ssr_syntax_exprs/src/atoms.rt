@@ -1,5 +1,7 @@
 //! The functions that read expressions that stand for themselves, and those that leave.
+ghost use Rattle.std.specs.Prelude.{◌≡◌};
 ghost use Rattle.ssr_syntax_exprs.specs.Atoms as form;
+ghost use Rattle.ssr_syntax_forms.specs.Forms.{passes};
 ghost use Rattle.ssr_syntax_forms.specs.Runs.{Runs, RunsAnywhere, RunsFrom};
 
 use crate::blocks::{BlockWords, block_expr};
@@ -39,15 +41,15 @@ impl TokenSet for Bars {
     }
 }
 
-/// What other operands begin with.
+/// What other operands of the stated language begin with.
 #[derive(Clone, Copy)]
-struct OperandMarks;
+struct StatedMarks;
 
-impl TokenSet for OperandMarks {
-    ghost kinds = { λ _. form.operand_marks };
+impl TokenSet for StatedMarks {
+    ghost kinds = { λ _. form.stated_marks };
 
     #[inline(always)]
-    #[tactic(auto, unfolding(crate::specs::Atoms::operand_marks))]
+    #[tactic(auto, unfolding(crate::specs::Atoms::stated_marks))]
     fn contains(self, kind: SyntaxKind) -> bool {
         matches!(
             kind,
@@ -56,12 +58,39 @@ impl TokenSet for OperandMarks {
     }
 }
 
-/// What an operand begins with, but for `{`.
+/// What else operands of all of Rust begin with.
 #[derive(Clone, Copy)]
-pub(crate) struct BracelessFirst;
+struct WholeMarks;
+
+impl TokenSet for WholeMarks {
+    ghost kinds = { λ _. form.whole_marks };
+
+    #[inline(always)]
+    fn contains(self, kind: SyntaxKind) -> bool {
+        matches!(kind, ASYNC_KW | UNDERSCORE)
+    }
+}
+
+/// What other operands begin with; with `true`, where all of Rust is read.
+#[derive(Clone, Copy)]
+struct OperandMarks(bool);
+
+impl TokenSet for OperandMarks {
+    ghost kinds = { λ s. form.operand_marks s.0 };
+
+    #[inline(always)]
+    #[tactic(auto, using(ssr_syntax_forms::proofs::Shared::mem_append, ssr_syntax_forms::proofs::Shared::mem_where_whole), unfolding(crate::specs::Atoms::operand_marks))]
+    fn contains(self, kind: SyntaxKind) -> bool {
+        StatedMarks.contains(kind) || self.0 && WholeMarks.contains(kind)
+    }
+}
+
+/// What an operand begins with, but for `{`; with `true`, where all of Rust is read.
+#[derive(Clone, Copy)]
+pub(crate) struct BracelessFirst(pub(crate) bool);
 
 impl TokenSet for BracelessFirst {
-    ghost kinds = { λ _. form.braceless_first };
+    ghost kinds = { λ s. form.braceless_first s.0 };
 
     #[inline(always)]
     #[tactic(auto, using(ssr_syntax_forms::proofs::Shared::mem_append), unfolding(crate::specs::Atoms::braceless_first))]
@@ -69,49 +98,53 @@ impl TokenSet for BracelessFirst {
         Literals.contains(kind)
             || PathFirst.contains(kind)
             || BlockWords.contains(kind)
-            || OperandMarks.contains(kind)
+            || OperandMarks(self.0).contains(kind)
     }
 }
 
-/// What an operand begins with.
+/// What an operand begins with; with `true`, where all of Rust is read.
 #[derive(Clone, Copy)]
-pub(crate) struct OperandFirst;
+pub(crate) struct OperandFirst(pub(crate) bool);
 
 impl TokenSet for OperandFirst {
-    ghost kinds = { λ _. form.operand_first };
+    ghost kinds = { λ s. form.operand_first s.0 };
 
     #[inline(always)]
     #[tactic(auto, unfolding(crate::specs::Atoms::operand_first))]
     fn contains(self, kind: SyntaxKind) -> bool {
-        matches!(kind, L_CURLY) || BracelessFirst.contains(kind)
+        matches!(kind, L_CURLY) || BracelessFirst(self.0).contains(kind)
     }
 }
 
-/// What an expression begins with.
+/// What an expression begins with; with `true`, where all of Rust is read.
 #[derive(Clone, Copy)]
-pub struct ExprFirst;
+pub struct ExprFirst(pub bool);
 
 impl TokenSet for ExprFirst {
-    ghost kinds = { λ _. form.expr_first };
+    ghost kinds = { λ s. form.expr_first s.0 };
 
     #[inline(always)]
     #[tactic(auto, using(ssr_syntax_forms::proofs::Shared::mem_append), unfolding(crate::specs::Atoms::expr_first))]
     fn contains(self, kind: SyntaxKind) -> bool {
-        OperandFirst.contains(kind) || Ranges.contains(kind) || LeavingFirst.contains(kind)
+        OperandFirst(self.0).contains(kind)
+            || Ranges.contains(kind)
+            || LeavingFirst.contains(kind)
     }
 }
 
-/// What a field's value or its name begins with.
+/// What a field's value or its name begins with; with `true`, where all of Rust is read.
 #[derive(Clone, Copy)]
-struct FieldValueFirst;
+struct FieldValueFirst(bool);
 
 impl TokenSet for FieldValueFirst {
-    ghost kinds = { λ _. form.field_value_first };
+    ghost kinds = { λ s. form.field_value_first s.0 };
 
     #[inline(always)]
     #[tactic(auto, using(ssr_syntax_forms::proofs::Shared::mem_append), unfolding(crate::specs::Atoms::field_value_first))]
     fn contains(self, kind: SyntaxKind) -> bool {
-        matches!(kind, DOT2EQ) || OperandFirst.contains(kind) || LeavingFirst.contains(kind)
+        matches!(kind, DOT2EQ)
+            || OperandFirst(self.0).contains(kind)
+            || LeavingFirst.contains(kind)
     }
 }
 
@@ -136,14 +169,14 @@ fn paren_expr<R: Reader>(goals: &R, p: &mut Parser<'_>, m: &Mark<'_>) -> Result<
 }
 
 /// TUPLE_EXPR, behind `(` and the first expression.
-#[tactic(auto, using(ssr_syntax_forms::proofs::Shared::run_comma_list), unfolding(crate::specs::Atoms::tuple_expr))]
+#[tactic(auto, using(ssr_syntax_forms::proofs::Shared::run_comma_list_by), unfolding(crate::specs::Atoms::tuple_expr))]
 fn tuple_expr<R: Reader>(goals: &R, p: &mut Parser<'_>, m: &Mark<'_>) -> Result<(), Fault>
     requires { R.can_read goals.now }
     ensures { RunsFrom (R.reads goals.now) form.tuple_expr m.now p.old p.new result }
 {
     p.expect(COMMA)?;
     p.comma_list(
-        ExprFirst,
+        ExprFirst(goals.is_whole()),
         |p| goals.read(p, Goal::Expr(ExprPlace::Anywhere)),
     )?;
     p.expect(R_PAREN)?;
@@ -202,14 +235,14 @@ fn repeated_item<R: Reader>(goals: &R, p: &mut Parser<'_>, m: &Mark<'_>) -> Resu
 }
 
 /// ARRAY_EXPR of items with commas between them, behind the first.
-#[tactic(auto, using(ssr_syntax_forms::proofs::Shared::run_comma_list), unfolding(crate::specs::Atoms::array_items))]
+#[tactic(auto, using(ssr_syntax_forms::proofs::Shared::run_comma_by, ssr_syntax_forms::proofs::Shared::run_comma_list_by), unfolding(crate::specs::Atoms::array_items))]
 fn array_items<R: Reader>(goals: &R, p: &mut Parser<'_>, m: &Mark<'_>) -> Result<(), Fault>
     requires { R.can_read goals.now }
     ensures { RunsFrom (R.reads goals.now) form.array_items m.now p.old p.new result }
 {
-    p.comma(ExprFirst)?;
+    p.comma(ExprFirst(goals.is_whole()))?;
     p.comma_list(
-        ExprFirst,
+        ExprFirst(goals.is_whole()),
         |p| goals.read(p, Goal::Expr(ExprPlace::Anywhere)),
     )?;
     p.expect(R_BRACK)?;
@@ -299,13 +332,26 @@ fn record_expr_field<R: Reader>(goals: &R, p: &mut Parser<'_>) -> Result<(), Fau
 }
 
 /// RECORD_EXPR_FIELD and its comma.
-#[tactic(auto, unfolding(crate::specs::Atoms::record_item))]
+#[tactic(auto, using(ssr_syntax_forms::proofs::Shared::run_comma_by), unfolding(crate::specs::Atoms::record_item))]
 fn record_item<R: Reader>(goals: &R, p: &mut Parser<'_>, m: &Mark<'_>) -> Result<(), Fault>
     requires { R.can_read goals.now }
     ensures { RunsFrom (R.reads goals.now) form.record_item m.now p.old p.new result }
 {
     record_expr_field(goals, p)?;
-    p.comma(ExprFirst)
+    p.comma(ExprFirst(goals.is_whole()))
+}
+
+/// The expression behind the `..` of a record, which may lack where all of Rust is read.
+#[tactic(auto, unfolding(crate::specs::Atoms::base_value))]
+fn base_value<R: Reader>(goals: &R, p: &mut Parser<'_>) -> Result<(), Fault>
+    requires { R.can_read goals.now }
+    ensures { RunsAnywhere (R.reads goals.now) form.base_value p.old p.new result }
+{
+    if goals.is_whole() && !p.at_any(ExprFirst(true)) {
+        Ok(())
+    } else {
+        goals.read(p, Goal::Expr(ExprPlace::Anywhere))
+    }
 }
 
 /// The end of a RECORD_EXPR_FIELD_LIST: perhaps `..` and an expression, and `}`.
@@ -316,14 +362,14 @@ fn record_base<R: Reader>(goals: &R, p: &mut Parser<'_>, m: &Mark<'_>) -> Result
 {
     if p.at(DOT2) {
         p.expect(DOT2)?;
-        goals.read(p, Goal::Expr(ExprPlace::Anywhere))?;
+        base_value(goals, p)?;
     }
     p.expect(R_CURLY)?;
     p.complete(m, RECORD_EXPR_FIELD_LIST)
 }
 
 /// RECORD_EXPR_FIELD_LIST: fields in braces, with commas between them, and perhaps `..` and an expression at the end.
-#[tactic(auto, unfolding(crate::specs::Atoms::record_expr_field_list))]
+#[tactic(auto, using(ssr_syntax_forms::proofs::Shared::run_repeated_by), unfolding(crate::specs::Atoms::record_expr_field_list))]
 fn record_expr_field_list<R: Reader>(
     goals: &R,
     p: &mut Parser<'_>,
@@ -333,7 +379,10 @@ fn record_expr_field_list<R: Reader>(
     ensures { RunsFrom (R.reads goals.now) form.record_expr_field_list m.now p.old p.new result }
 {
     p.expect(L_CURLY)?;
-    p.repeated(FieldValueFirst, |p| record_item(goals, p, m))?;
+    p.repeated(
+        FieldValueFirst(goals.is_whole()),
+        |p| record_item(goals, p, m),
+    )?;
     record_base(goals, p, m)
 }
 
@@ -418,14 +467,14 @@ pub(crate) fn continue_expr<R: Reader>(goals: &R, p: &mut Parser<'_>) -> Result<
 }
 
 /// RETURN_EXPR: `return` and perhaps an expression.
-#[tactic(auto, unfolding(crate::specs::Atoms::return_expr))]
+#[tactic(auto, using(ssr_syntax_forms::proofs::Shared::run_choose_by), unfolding(crate::specs::Atoms::return_expr))]
 fn return_expr<R: Reader>(goals: &R, p: &mut Parser<'_>) -> Result<(), Fault>
     requires { R.can_read goals.now }
     ensures { Runs (R.reads goals.now) form.return_expr p.old p.new result }
 {
     let m = p.start();
     p.expect(RETURN_KW)?;
-    if p.at_any(ExprFirst) {
+    if p.at_any(ExprFirst(goals.is_whole())) {
         goals.read(p, Goal::Expr(ExprPlace::Anywhere))?;
     }
     p.complete(&m, RETURN_EXPR)
@@ -447,14 +496,14 @@ fn break_target<R: Reader>(goals: &R, p: &mut Parser<'_>, m: &Mark<'_>) -> Resul
 }
 
 /// BREAK_EXPR: `break`, perhaps a LIFETIME, and perhaps an expression.
-#[tactic(auto, unfolding(crate::specs::Atoms::break_expr))]
+#[tactic(auto, using(ssr_syntax_forms::proofs::Shared::run_choose_by), unfolding(crate::specs::Atoms::break_expr))]
 fn break_expr<R: Reader>(goals: &R, p: &mut Parser<'_>, m: &Mark<'_>) -> Result<(), Fault>
     requires { R.can_read goals.now }
     ensures { RunsFrom (R.reads goals.now) form.break_expr m.now p.old p.new result }
 {
     p.expect(BREAK_KW)?;
     break_target(goals, p, m)?;
-    if p.at_any(ExprFirst) {
+    if p.at_any(ExprFirst(goals.is_whole())) {
         goals.read(p, Goal::Expr(ExprPlace::Anywhere))?;
     }
     p.complete(m, BREAK_EXPR)
@@ -532,6 +581,51 @@ fn closure_expr<R: Reader>(goals: &R, p: &mut Parser<'_>) -> Result<(), Fault>
     p.eat(MOVE_KW)?;
     closure_param_list(goals, p)?;
     closure_body(goals, p, &m)
+}
+
+/// Whether a closure is next that is `async`.
+#[tactic(auto, using(ssr_syntax_forms::proofs::Shared::first_passes, ssr_syntax_forms::proofs::Shared::others_pass))]
+pub(crate) fn at_async_closure(p: &Parser<'_>) -> bool
+    ensures { result ≡ passes form.async_closure_ahead p.now.rest }
+{
+    p.at_two(ASYNC_KW, Bars) || p.at_three(ASYNC_KW, MOVE_KW, Bars)
+}
+
+/// CLOSURE_EXPR: `async`, perhaps `move`, a PARAM_LIST, and a body.
+#[tactic(auto, unfolding(crate::specs::Atoms::async_closure))]
+pub(crate) fn async_closure<R: Reader>(goals: &R, p: &mut Parser<'_>) -> Result<(), Fault>
+    requires { R.can_read goals.now }
+    ensures { Runs (R.reads goals.now) form.async_closure p.old p.new result }
+{
+    let m = p.start();
+    p.expect(ASYNC_KW)?;
+    p.eat(MOVE_KW)?;
+    closure_param_list(goals, p)?;
+    closure_body(goals, p, &m)
+}
+
+/// BLOCK_EXPR: `async`, perhaps `move`, and a STMT_LIST.
+#[tactic(auto, unfolding(crate::specs::Atoms::async_block))]
+pub(crate) fn async_block<R: Reader>(goals: &R, p: &mut Parser<'_>) -> Result<(), Fault>
+    requires { R.can_read goals.now }
+    ensures { Runs (R.reads goals.now) form.async_block p.old p.new result }
+{
+    let m = p.start();
+    p.expect(ASYNC_KW)?;
+    p.eat(MOVE_KW)?;
+    goals.read(p, Goal::StmtList)?;
+    p.complete(&m, BLOCK_EXPR)
+}
+
+/// UNDERSCORE_EXPR: `_`, to which is assigned.
+#[tactic(auto, unfolding(crate::specs::Atoms::underscore_expr))]
+pub(crate) fn underscore_expr<R: Reader>(goals: &R, p: &mut Parser<'_>) -> Result<(), Fault>
+    requires { R.can_read goals.now }
+    ensures { Runs (R.reads goals.now) form.underscore_expr p.old p.new result }
+{
+    let m = p.start();
+    p.expect(UNDERSCORE)?;
+    p.complete(&m, UNDERSCORE_EXPR)
 }
 
 /// RETURN_EXPR, BREAK_EXPR or CLOSURE_EXPR.

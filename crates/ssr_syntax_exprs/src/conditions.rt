@@ -2,7 +2,7 @@
 ghost use Rattle.ssr_syntax_exprs.specs.Conditions as form;
 ghost use Rattle.ssr_syntax_forms.specs.Runs.{Runs, RunsFrom};
 
-use crate::atoms::{LeavingFirst, OperandFirst, leaving_expr};
+use crate::atoms::{LeavingFirst, OperandFirst, async_closure, at_async_closure, leaving_expr};
 use crate::expressions::{
     AND_RANK, OR_RANK, leading_range, operand, operation, operations, range_or_assignment,
 };
@@ -182,7 +182,7 @@ fn conjunction_end<R: Reader>(
 }
 
 /// A condition that begins with an operand.
-#[tactic(auto, using(ssr_syntax_forms::proofs::Shared::run_as_long_as), unfolding(crate::specs::Conditions::conjunction))]
+#[tactic(auto, using(ssr_syntax_forms::proofs::Shared::run_as_long_as_by), unfolding(crate::specs::Conditions::conjunction))]
 fn conjunction<R: Reader>(
     goals: &R,
     p: &mut Parser<'_>,
@@ -195,7 +195,7 @@ fn conjunction<R: Reader>(
     operand(goals, p, m, place, AND_RANK)?;
     p.repeated_two(
         AMP2,
-        OperandFirst,
+        OperandFirst(goals.is_whole()),
         |p| operation(goals, p, m, place, AND_RANK),
     )?;
     conjunction_end(goals, p, m, place)
@@ -221,8 +221,25 @@ fn condition_of<R: Reader>(
     }
 }
 
+/// RETURN_EXPR, BREAK_EXPR or CLOSURE_EXPR, or a condition that is none of them.
+#[tactic(auto, unfolding(crate::specs::Conditions::leaving_or_condition))]
+fn leaving_or_condition<R: Reader>(
+    goals: &R,
+    p: &mut Parser<'_>,
+    m: &Mark<'_>,
+) -> Result<(), Fault>
+    requires { R.can_read goals.now }
+    ensures { RunsFrom (R.reads goals.now) form.leaving_or_condition m.now p.old p.new result }
+{
+    if p.at_any(LeavingFirst) {
+        leaving_expr(goals, p)
+    } else {
+        condition_of(goals, p, m, ExprPlace::Anywhere)
+    }
+}
+
 /// The condition of `if` and `while`, which stands before a block, or that of an arm.
-#[tactic(auto, unfolding(crate::specs::Conditions::condition))]
+#[tactic(auto, using(ssr_syntax_forms::proofs::Shared::run_also_decide), unfolding(crate::specs::Conditions::condition))]
 pub fn condition<R: Reader>(goals: &R, p: &mut Parser<'_>, place: ExprPlace) -> Result<(), Fault>
     requires { R.can_read goals.now }
     ensures { Runs (R.reads goals.now) (form.condition place) p.old p.new result }
@@ -230,10 +247,10 @@ pub fn condition<R: Reader>(goals: &R, p: &mut Parser<'_>, place: ExprPlace) -> 
     let m = p.start();
     match place {
         ExprPlace::Anywhere => {
-            if p.at_any(LeavingFirst) {
-                leaving_expr(goals, p)
+            if goals.is_whole() && at_async_closure(p) {
+                async_closure(goals, p)
             } else {
-                condition_of(goals, p, &m, ExprPlace::Anywhere)
+                leaving_or_condition(goals, p, &m)
             }
         }
         ExprPlace::BeforeBlock => condition_of(goals, p, &m, ExprPlace::BeforeBlock),

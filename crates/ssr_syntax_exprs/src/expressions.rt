@@ -5,8 +5,8 @@ ghost use Rattle.ssr_syntax_exprs.specs.Private.Ranks.{next_rank, rank_of};
 ghost use Rattle.ssr_syntax_forms.specs.Runs.{Runs, RunsAnywhere, RunsFrom};
 
 use crate::atoms::{
-    BracelessFirst, ExprFirst, LeavingFirst, OperandFirst, array_expr, continue_expr,
-    expr_in_parentheses, leaving_expr, path_expr,
+    BracelessFirst, ExprFirst, LeavingFirst, OperandFirst, array_expr, async_block, async_closure,
+    at_async_closure, continue_expr, expr_in_parentheses, leaving_expr, path_expr, underscore_expr,
 };
 use crate::blocks::block_like;
 use ssr_syntax_forms::{Fault, Mark, Parser, TokenSet};
@@ -105,19 +105,19 @@ impl TokenSet for Operators {
     }
 }
 
-/// What the right operand of a range begins with.
+/// What the right operand of a range begins with; with `true`, where all of Rust is read.
 #[derive(Clone, Copy)]
-struct EndsFirst(ExprPlace);
+struct EndsFirst(ExprPlace, bool);
 
 impl TokenSet for EndsFirst {
-    ghost kinds = { λ e. form.ends_first e.0 };
+    ghost kinds = { λ e. form.ends_first e.0 e.1 };
 
     #[inline(always)]
     #[tactic(auto, unfolding(crate::specs::Expressions::ends_first))]
     fn contains(self, kind: SyntaxKind) -> bool {
         match self.0 {
-            ExprPlace::Anywhere => OperandFirst.contains(kind),
-            ExprPlace::BeforeBlock => BracelessFirst.contains(kind),
+            ExprPlace::Anywhere => OperandFirst(self.1).contains(kind),
+            ExprPlace::BeforeBlock => BracelessFirst(self.1).contains(kind),
         }
     }
 }
@@ -155,6 +155,21 @@ pub fn at_most_all(rank: Rank) -> Rank
     if rank < RANKS { rank } else { RANKS }
 }
 
+/// A block-like expression, or one of all of Rust that its first word tells.
+#[tactic(auto, using(ssr_syntax_forms::proofs::Shared::run_also), unfolding(crate::specs::Expressions::block_or_mark))]
+fn block_or_mark<R: Reader>(goals: &R, p: &mut Parser<'_>) -> Result<(), Fault>
+    requires { R.can_read goals.now }
+    ensures { RunsAnywhere (R.reads goals.now) form.block_or_mark p.old p.new result }
+{
+    if p.at(ASYNC_KW) && goals.is_whole() {
+        async_block(goals, p)
+    } else if p.at(UNDERSCORE) && goals.is_whole() {
+        underscore_expr(goals, p)
+    } else {
+        block_like(goals, p)
+    }
+}
+
 /// An expression without an operator outside brackets.
 #[tactic(auto, unfolding(crate::specs::Expressions::atom))]
 fn atom<R: Reader>(goals: &R, p: &mut Parser<'_>, place: ExprPlace) -> Result<(), Fault>
@@ -172,12 +187,12 @@ fn atom<R: Reader>(goals: &R, p: &mut Parser<'_>, place: ExprPlace) -> Result<()
     } else if p.at(CONTINUE_KW) {
         continue_expr(goals, p)
     } else {
-        block_like(goals, p)
+        block_or_mark(goals, p)
     }
 }
 
 /// ARG_LIST: expressions in parentheses, with commas between them.
-#[tactic(auto, using(ssr_syntax_forms::proofs::Shared::run_comma_list), unfolding(crate::specs::Expressions::arg_list))]
+#[tactic(auto, using(ssr_syntax_forms::proofs::Shared::run_comma_list_by), unfolding(crate::specs::Expressions::arg_list))]
 fn arg_list<R: Reader>(goals: &R, p: &mut Parser<'_>) -> Result<(), Fault>
     requires { R.can_read goals.now }
     ensures { Runs (R.reads goals.now) form.arg_list p.old p.new result }
@@ -185,7 +200,7 @@ fn arg_list<R: Reader>(goals: &R, p: &mut Parser<'_>) -> Result<(), Fault>
     let m = p.start();
     p.expect(L_PAREN)?;
     p.comma_list(
-        ExprFirst,
+        ExprFirst(goals.is_whole()),
         |p| goals.read(p, Goal::Expr(ExprPlace::Anywhere)),
     )?;
     p.expect(R_PAREN)?;
@@ -299,17 +314,40 @@ fn numbered_member<R: Reader>(goals: &R, p: &mut Parser<'_>, m: &Mark<'_>) -> Re
     p.complete(m, FIELD_EXPR)
 }
 
-/// FIELD_EXPR or METHOD_CALL_EXPR: `.`, a NAME_REF, and of a method its ARG_LIST.
-#[tactic(auto, unfolding(crate::specs::Expressions::member))]
+/// FIELD_EXPR or METHOD_CALL_EXPR, behind `.`: a NAME_REF, and of a method its ARG_LIST.
+#[tactic(auto, unfolding(crate::specs::Expressions::field_or_method))]
+fn field_or_method<R: Reader>(goals: &R, p: &mut Parser<'_>, m: &Mark<'_>) -> Result<(), Fault>
+    requires { R.can_read goals.now }
+    ensures { RunsFrom (R.reads goals.now) form.field_or_method m.now p.old p.new result }
+{
+    if p.at(INT_NUMBER) {
+        numbered_member(goals, p, m)
+    } else {
+        named_member(goals, p, m)
+    }
+}
+
+/// AWAIT_EXPR: `await`, behind `.`.
+#[tactic(auto, unfolding(crate::specs::Expressions::await_expr))]
+fn await_expr<R: Reader>(goals: &R, p: &mut Parser<'_>, m: &Mark<'_>) -> Result<(), Fault>
+    requires { R.can_read goals.now }
+    ensures { RunsFrom (R.reads goals.now) form.await_expr m.now p.old p.new result }
+{
+    p.expect(AWAIT_KW)?;
+    p.complete(m, AWAIT_EXPR)
+}
+
+/// FIELD_EXPR, METHOD_CALL_EXPR or AWAIT_EXPR: `.` and what follows it.
+#[tactic(auto, using(ssr_syntax_forms::proofs::Shared::run_also), unfolding(crate::specs::Expressions::member))]
 fn member<R: Reader>(goals: &R, p: &mut Parser<'_>, m: &Mark<'_>) -> Result<(), Fault>
     requires { R.can_read goals.now }
     ensures { RunsFrom (R.reads goals.now) form.member m.now p.old p.new result }
 {
     p.expect(DOT)?;
-    if p.at(INT_NUMBER) {
-        numbered_member(goals, p, m)
+    if p.at(AWAIT_KW) && goals.is_whole() {
+        await_expr(goals, p, m)
     } else {
-        named_member(goals, p, m)
+        field_or_method(goals, p, m)
     }
 }
 
@@ -468,17 +506,17 @@ pub fn operand<R: Reader>(
 }
 
 /// The right operand of a range.
-#[tactic(auto, unfolding(crate::specs::Expressions::range_end))]
+#[tactic(auto, using(ssr_syntax_forms::proofs::Shared::run_look_by), unfolding(crate::specs::Expressions::range_end))]
 fn range_end<R: Reader>(goals: &R, p: &mut Parser<'_>, place: ExprPlace) -> Result<(), Fault>
     requires { R.can_read goals.now }
     ensures { RunsAnywhere (R.reads goals.now) (form.range_end place) p.old p.new result }
 {
-    p.expect_at(EndsFirst(place))?;
+    p.expect_at(EndsFirst(place, goals.is_whole()))?;
     goals.read(p, Goal::Operand(place, RANKS))
 }
 
 /// RANGE_EXPR with `..`, behind its left operand, which is all since the mark, if there is one.
-#[tactic(auto, unfolding(crate::specs::Expressions::to_range))]
+#[tactic(auto, using(ssr_syntax_forms::proofs::Shared::run_choose_by), unfolding(crate::specs::Expressions::to_range))]
 fn to_range<R: Reader>(
     goals: &R,
     p: &mut Parser<'_>,
@@ -489,7 +527,7 @@ fn to_range<R: Reader>(
     ensures { RunsFrom (R.reads goals.now) (form.to_range place) m.now p.old p.new result }
 {
     p.expect(DOT2)?;
-    if p.at_any(EndsFirst(place)) {
+    if p.at_any(EndsFirst(place, goals.is_whole())) {
         range_end(goals, p, place)?;
     }
     p.complete(m, RANGE_EXPR)
@@ -604,8 +642,21 @@ fn ranked<R: Reader>(
     }
 }
 
+/// RETURN_EXPR, BREAK_EXPR or CLOSURE_EXPR, or an expression that is none of them.
+#[tactic(auto, unfolding(crate::specs::Expressions::leaving_or_ranked))]
+fn leaving_or_ranked<R: Reader>(goals: &R, p: &mut Parser<'_>, m: &Mark<'_>) -> Result<(), Fault>
+    requires { R.can_read goals.now }
+    ensures { RunsFrom (R.reads goals.now) form.leaving_or_ranked m.now p.old p.new result }
+{
+    if p.at_any(LeavingFirst) {
+        leaving_expr(goals, p)
+    } else {
+        ranked(goals, p, m, ExprPlace::Anywhere)
+    }
+}
+
 /// Any expression as it stands there.
-#[tactic(auto, unfolding(crate::specs::Expressions::expr))]
+#[tactic(auto, using(ssr_syntax_forms::proofs::Shared::run_also_decide), unfolding(crate::specs::Expressions::expr))]
 pub fn expr<R: Reader>(goals: &R, p: &mut Parser<'_>, place: ExprPlace) -> Result<(), Fault>
     requires { R.can_read goals.now }
     ensures { Runs (R.reads goals.now) (form.expr place) p.old p.new result }
@@ -613,10 +664,10 @@ pub fn expr<R: Reader>(goals: &R, p: &mut Parser<'_>, place: ExprPlace) -> Resul
     let m = p.start();
     match place {
         ExprPlace::Anywhere => {
-            if p.at_any(LeavingFirst) {
-                leaving_expr(goals, p)
+            if goals.is_whole() && at_async_closure(p) {
+                async_closure(goals, p)
             } else {
-                ranked(goals, p, &m, ExprPlace::Anywhere)
+                leaving_or_ranked(goals, p, &m)
             }
         }
         ExprPlace::BeforeBlock => ranked(goals, p, &m, ExprPlace::BeforeBlock),
