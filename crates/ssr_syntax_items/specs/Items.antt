@@ -1,5 +1,5 @@
 -- Forms of items.
-use Rattle.std.specs.Prelude.{List, [], ◌∷◌, ◌++◌}
+use Rattle.std.specs.Prelude.{Bool, List, [], ◌∷◌, ◌++◌}
 use Rattle.ssr_syntax_kinds.specs.declared.kinds.SyntaxKind.{SyntaxKind}
 use Rattle.ssr_syntax_kinds.specs.declared.kinds.SyntaxKind.TheVariants as k
 use Rattle.ssr_syntax_types.specs.declared.goals.Goal.{Goal}
@@ -7,7 +7,8 @@ use Rattle.ssr_syntax_types.specs.declared.goals.Goal.TheVariants.{Expr, Ty, Ite
 use Rattle.ssr_syntax_types.specs.declared.goals.ExprPlace.TheVariants.{Anywhere}
 use Rattle.ssr_syntax_types.specs.declared.goals.ItemPlace.{ItemPlace}
 use Rattle.ssr_syntax_types.specs.declared.goals.ItemPlace.TheVariants.{InModule, AsStmt, InImpl, InTrait}
-use Rattle.ssr_syntax_forms.specs.Forms.{Form, Test, ◌then◌, child, mark, seal, nothing, choose, decide, a, at, optional, repeated, as_long_as}
+use Rattle.ssr_syntax_forms.specs.Kinds.{where_whole}
+use Rattle.ssr_syntax_forms.specs.Forms.{Form, Test, ◌then◌, child, mark, seal, nothing, choose, decide, also, also_decide, a, at, optional, repeated_by, as_long_as}
 use Rattle.ssr_syntax_types.specs.Paths.{name, open_angle, ret_type, simple_path, type_first}
 use Rattle.ssr_syntax_types.specs.Types.{type_bound_list}
 use Rattle.ssr_syntax_types.specs.TokenTrees.{attrs, curly_tree, inner_attr, paren_or_bracket_tree}
@@ -35,9 +36,13 @@ named_item_first =
 unfoldable pub stmt_item_first : List SyntaxKind
 stmt_item_first = k.UNSAFE_KW ∷ named_item_first
 
--- what an item begins with
-unfoldable pub module_item_first : List SyntaxKind
-module_item_first = stmt_item_first ++ macro_path_first
+-- what else an item of all of Rust begins with
+abbrev pub whole_item_words : List SyntaxKind
+whole_item_words = k.ASYNC_KW ∷ []
+
+-- ** What an item begins with. With `true`, where all of Rust is read.
+unfoldable pub module_item_first : Bool → List SyntaxKind
+module_item_first is_whole = stmt_item_first ++ macro_path_first ++ where_whole is_whole whole_item_words
 
 unfoldable pub trait_item_words : List SyntaxKind
 trait_item_words = k.POUND ∷ k.CONST_KW ∷ k.UNSAFE_KW ∷ k.FN_KW ∷ k.TYPE_KW ∷ []
@@ -45,11 +50,11 @@ trait_item_words = k.POUND ∷ k.CONST_KW ∷ k.UNSAFE_KW ∷ k.FN_KW ∷ k.TYPE
 unfoldable pub impl_item_words : List SyntaxKind
 impl_item_words = k.PUB_KW ∷ trait_item_words
 
-unfoldable pub impl_item_first : List SyntaxKind
-impl_item_first = macro_path_first ++ impl_item_words
+unfoldable pub impl_item_first : Bool → List SyntaxKind
+impl_item_first is_whole = macro_path_first ++ impl_item_words ++ where_whole is_whole whole_item_words
 
-unfoldable pub trait_item_first : List SyntaxKind
-trait_item_first = macro_path_first ++ trait_item_words
+unfoldable pub trait_item_first : Bool → List SyntaxKind
+trait_item_first is_whole = macro_path_first ++ trait_item_words ++ where_whole is_whole whole_item_words
 
 -- an identifier, `!` and another one: nothing else begins with these
 abbrev pub macro_rules_ahead : Test
@@ -57,6 +62,10 @@ macro_rules_ahead = ((k.IDENT ∷ []) ∷ (k.BANG ∷ []) ∷ (k.IDENT ∷ []) �
 
 abbrev pub stmt_item_ahead : Test
 stmt_item_ahead = (named_item_first ∷ []) ∷ ((k.UNSAFE_KW ∷ []) ∷ unsafe_item_words ∷ []) ∷ macro_rules_ahead
+
+-- an item `async fn` among statements, where all of Rust is read: else a block begins with `async`
+abbrev pub async_fn_ahead : Test
+async_fn_ahead = ((k.ASYNC_KW ∷ []) ∷ unsafe_or_fn ∷ []) ∷ []
 
 abbrev pub fn_ahead : Test
 fn_ahead = ((k.FN_KW ∷ []) ∷ []) ∷ ((k.CONST_KW ∷ []) ∷ unsafe_or_fn ∷ []) ∷ ((k.UNSAFE_KW ∷ []) ∷ (k.FN_KW ∷ []) ∷ []) ∷ []
@@ -76,19 +85,26 @@ fn_body InModule = mark block_expr
 fn_body AsStmt = mark block_expr
 fn_body InImpl = mark block_expr
 
+-- functions of all of Rust may be `async`
+unfoldable pub async_word : Form Goal
+async_word = also (k.ASYNC_KW ∷ []) (a k.ASYNC_KW) nothing
+
+-- the words in front of a function's name
+unfoldable pub fn_words : Form Goal
+fn_words = optional (k.CONST_KW ∷ []) (a k.CONST_KW) then async_word then optional (k.UNSAFE_KW ∷ []) (a k.UNSAFE_KW) then a k.FN_KW
+
 unfoldable pub function : ItemPlace → Form Goal
 function place =
-    optional (k.CONST_KW ∷ []) (a k.CONST_KW) then optional (k.UNSAFE_KW ∷ []) (a k.UNSAFE_KW) then a k.FN_KW then mark name
-    then generic_params then mark param_list then optional (k.THIN_ARROW ∷ []) (mark ret_type) then wheres
+    fn_words then mark name then generic_params then mark param_list then optional (k.THIN_ARROW ∷ []) (mark ret_type) then wheres
     then fn_body place then seal k.FN
 
 -- ** What belongs to types.
 
 unfoldable pub impl_item_list : Form Goal
-impl_item_list = a k.L_CURLY then repeated impl_item_first (child (Item InImpl)) then a k.R_CURLY then seal k.ASSOC_ITEM_LIST
+impl_item_list = a k.L_CURLY then repeated_by impl_item_first (child (Item InImpl)) then a k.R_CURLY then seal k.ASSOC_ITEM_LIST
 
 unfoldable pub trait_item_list : Form Goal
-trait_item_list = a k.L_CURLY then repeated trait_item_first (child (Item InTrait)) then a k.R_CURLY then seal k.ASSOC_ITEM_LIST
+trait_item_list = a k.L_CURLY then repeated_by trait_item_first (child (Item InTrait)) then a k.R_CURLY then seal k.ASSOC_ITEM_LIST
 
 abbrev pub negative_ahead : Test
 negative_ahead = ((k.BANG ∷ []) ∷ type_first ∷ []) ∷ []
@@ -138,7 +154,7 @@ static_item =
 -- ** Modules.
 
 unfoldable pub item_list : Form Goal
-item_list = a k.L_CURLY then repeated module_item_first (child (Item InModule)) then a k.R_CURLY then seal k.ITEM_LIST
+item_list = a k.L_CURLY then repeated_by module_item_first (child (Item InModule)) then a k.R_CURLY then seal k.ITEM_LIST
 
 unfoldable pub items_or_none : Form Goal
 items_or_none = choose (at (k.SEMICOLON ∷ [])) (a k.SEMICOLON) (mark item_list)
@@ -180,8 +196,11 @@ type_or_value_item =
     (choose (at (k.STATIC_KW ∷ [])) static_item
     type_alias))))))
 
+unfoldable pub stated_named_item : Form Goal
+stated_named_item = decide fn_ahead (function InModule) type_or_value_item
+
 unfoldable pub named_item : Form Goal
-named_item = decide fn_ahead (function InModule) type_or_value_item
+named_item = also_decide (at (k.ASYNC_KW ∷ [])) (function InModule) stated_named_item
 
 unfoldable pub visible_item : Form Goal
 visible_item = optional (k.PUB_KW ∷ []) (mark visibility) then named_item
@@ -189,8 +208,11 @@ visible_item = optional (k.PUB_KW ∷ []) (mark visibility) then named_item
 unfoldable pub assoc_value_or_type : Form Goal
 assoc_value_or_type = choose (at (k.CONST_KW ∷ [])) const_item type_alias
 
+unfoldable pub stated_assoc_item : ItemPlace → Form Goal
+stated_assoc_item place = decide fn_ahead (function place) assoc_value_or_type
+
 unfoldable pub assoc_item : ItemPlace → Form Goal
-assoc_item place = decide fn_ahead (function place) assoc_value_or_type
+assoc_item place = also_decide (at (k.ASYNC_KW ∷ [])) (function place) (stated_assoc_item place)
 
 unfoldable pub visible_assoc_item : Form Goal
 visible_assoc_item = optional (k.PUB_KW ∷ []) (mark visibility) then assoc_item InImpl
@@ -232,8 +254,8 @@ inner_attr_ahead = ((k.POUND ∷ []) ∷ (k.BANG ∷ []) ∷ []) ∷ []
 
 unfoldable pub source_file : Form Goal
 source_file =
-    as_long_as inner_attr_ahead (mark inner_attr) then repeated module_item_first (child (Item InModule)) then seal k.SOURCE_FILE
+    as_long_as inner_attr_ahead (mark inner_attr) then repeated_by module_item_first (child (Item InModule)) then seal k.SOURCE_FILE
 
 -- the items that a macro call stands for
 unfoldable pub macro_items : Form Goal
-macro_items = repeated module_item_first (child (Item InModule)) then seal k.MACRO_ITEMS
+macro_items = repeated_by module_item_first (child (Item InModule)) then seal k.MACRO_ITEMS

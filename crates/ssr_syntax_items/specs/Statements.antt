@@ -1,5 +1,5 @@
 -- Forms of statements and of the arms of `match`.
-use Rattle.std.specs.Prelude.{true, false, List, [], ◌∷◌, ◌++◌}
+use Rattle.std.specs.Prelude.{Bool, true, false, List, [], ◌∷◌, ◌++◌}
 use Rattle.ssr_syntax_kinds.specs.declared.kinds.SyntaxKind.{SyntaxKind}
 use Rattle.ssr_syntax_kinds.specs.declared.kinds.SyntaxKind.TheVariants as k
 use Rattle.ssr_syntax_types.specs.declared.goals.Goal.{Goal}
@@ -10,13 +10,13 @@ use Rattle.ssr_syntax_types.specs.declared.goals.ItemPlace.TheVariants.{AsStmt}
 use Rattle.ssr_syntax_types.specs.declared.goals.StmtPlace.{StmtPlace}
 use Rattle.ssr_syntax_types.specs.declared.goals.StmtPlace.TheVariants.{BlockStmt, LoneStmt, ArmBody, MacroStmt}
 use Rattle.ssr_syntax_types.specs.declared.goals.PathPlace.TheVariants.{InExpr}
-use Rattle.ssr_syntax_forms.specs.Forms.{Form, Test, ◌then◌, child, mark, seal, END, nothing, choose, decide, look, check, none_is, last_isnt, a, at, optional, repeated}
+use Rattle.ssr_syntax_forms.specs.Forms.{Form, Test, ◌then◌, child, mark, seal, END, nothing, choose, decide, also_decide, look, check, none_is, last_isnt, a, at, optional, repeated_by}
 use Rattle.ssr_syntax_types.specs.Paths.{path, path_first}
 use Rattle.ssr_syntax_types.specs.TokenTrees.{attrs, curly_tree, paren_or_bracket_tree}
 use Rattle.ssr_syntax_exprs.specs.Blocks.{block_expr, block_first, block_like}
 use Rattle.ssr_syntax_exprs.specs.Atoms.{expr_first, path_or_record}
 use Rattle.ssr_syntax_exprs.specs.Expressions.{all_ranks, climb, postfixes, range_or_assignment}
-use Rattle.ssr_syntax_items.specs.Items.{item, stmt_item_ahead, stmt_item_first}
+use Rattle.ssr_syntax_items.specs.Items.{async_fn_ahead, item, stmt_item_ahead, stmt_item_first}
 
 unfoldable pub leading_first : List SyntaxKind
 leading_first = block_first ++ path_first
@@ -28,9 +28,9 @@ block_goes_on = k.DOT ∷ k.QUESTION ∷ []
 abbrev pub arm_ends : List SyntaxKind
 arm_ends = k.COMMA ∷ k.R_CURLY ∷ []
 
--- what a statement begins with
-unfoldable pub stmt_first : List SyntaxKind
-stmt_first = k.LET_KW ∷ expr_first ++ stmt_item_first
+-- what a statement begins with; with `true`, where all of Rust is read
+unfoldable pub stmt_first : Bool → List SyntaxKind
+stmt_first is_whole = k.LET_KW ∷ expr_first is_whole ++ stmt_item_first
 
 -- ** How a statement or the body of an arm ends; all since the mark is its expression.
 
@@ -152,20 +152,26 @@ let_stmt place = a k.LET_KW then child (Pat TopLevel) then optional (k.COLON ∷
 
 -- ** Statements.
 
+unfoldable pub stated_expr_or_item : StmtPlace → Form Goal
+stated_expr_or_item place = decide stmt_item_ahead (child (Item AsStmt)) (mark (leading place))
+
 unfoldable pub expr_or_item_stmt : StmtPlace → Form Goal
-expr_or_item_stmt place = decide stmt_item_ahead (child (Item AsStmt)) (mark (leading place))
+expr_or_item_stmt place = also_decide async_fn_ahead (child (Item AsStmt)) (stated_expr_or_item place)
 
 unfoldable pub stmt : StmtPlace → Form Goal
 stmt place = choose (at (k.LET_KW ∷ [])) (mark (let_stmt place)) (expr_or_item_stmt place)
 
 unfoldable pub stmt_list : Form Goal
-stmt_list = a k.L_CURLY then repeated stmt_first (stmt BlockStmt) then a k.R_CURLY then seal k.STMT_LIST
+stmt_list = a k.L_CURLY then repeated_by stmt_first (stmt BlockStmt) then a k.R_CURLY then seal k.STMT_LIST
 
 unfoldable pub macro_stmts : Form Goal
-macro_stmts = repeated stmt_first (stmt MacroStmt) then seal k.MACRO_STMTS
+macro_stmts = repeated_by stmt_first (stmt MacroStmt) then seal k.MACRO_STMTS
+
+unfoldable pub stated_lone : Form Goal
+stated_lone = decide stmt_item_ahead (item AsStmt) (leading LoneStmt)
 
 unfoldable pub lone_expr_or_item : Form Goal
-lone_expr_or_item = decide stmt_item_ahead (item AsStmt) (leading LoneStmt)
+lone_expr_or_item = also_decide async_fn_ahead (item AsStmt) stated_lone
 
 unfoldable pub lone_stmt : Form Goal
 lone_stmt = choose (at (k.LET_KW ∷ [])) (mark (let_stmt LoneStmt)) lone_expr_or_item

@@ -32,7 +32,7 @@ impl TokenSet for TraitFirst {
     }
 }
 
-/// What follows the `const` of a function.
+/// What follows the `const` or the `async` of a function.
 #[derive(Clone, Copy)]
 struct UnsafeOrFn;
 
@@ -100,17 +100,32 @@ impl TokenSet for StmtItemFirst {
     }
 }
 
-/// What an item begins with.
+/// What else an item of all of Rust begins with.
 #[derive(Clone, Copy)]
-struct ModuleItemFirst;
+struct WholeItemWords;
 
-impl TokenSet for ModuleItemFirst {
-    ghost kinds = { λ _. form.module_item_first };
+impl TokenSet for WholeItemWords {
+    ghost kinds = { λ _. form.whole_item_words };
 
     #[inline(always)]
-    #[tactic(auto, using(ssr_syntax_forms::proofs::Shared::mem_append), unfolding(crate::specs::Items::module_item_first))]
     fn contains(self, kind: SyntaxKind) -> bool {
-        StmtItemFirst.contains(kind) || MacroPathFirst.contains(kind)
+        matches!(kind, ASYNC_KW)
+    }
+}
+
+/// What an item begins with; with `true`, where all of Rust is read.
+#[derive(Clone, Copy)]
+struct ModuleItemFirst(bool);
+
+impl TokenSet for ModuleItemFirst {
+    ghost kinds = { λ s. form.module_item_first s.0 };
+
+    #[inline(always)]
+    #[tactic(auto, using(ssr_syntax_forms::proofs::Shared::mem_append, ssr_syntax_forms::proofs::Shared::mem_where_whole), unfolding(crate::specs::Items::module_item_first))]
+    fn contains(self, kind: SyntaxKind) -> bool {
+        StmtItemFirst.contains(kind)
+            || MacroPathFirst.contains(kind)
+            || self.0 && WholeItemWords.contains(kind)
     }
 }
 
@@ -142,31 +157,35 @@ impl TokenSet for ImplItemWords {
     }
 }
 
-/// What an item of an IMPL begins with.
+/// What an item of an IMPL begins with; with `true`, where all of Rust is read.
 #[derive(Clone, Copy)]
-struct ImplItemFirst;
+struct ImplItemFirst(bool);
 
 impl TokenSet for ImplItemFirst {
-    ghost kinds = { λ _. form.impl_item_first };
+    ghost kinds = { λ s. form.impl_item_first s.0 };
 
     #[inline(always)]
-    #[tactic(auto, using(ssr_syntax_forms::proofs::Shared::mem_append), unfolding(crate::specs::Items::impl_item_first))]
+    #[tactic(auto, using(ssr_syntax_forms::proofs::Shared::mem_append, ssr_syntax_forms::proofs::Shared::mem_where_whole), unfolding(crate::specs::Items::impl_item_first))]
     fn contains(self, kind: SyntaxKind) -> bool {
-        MacroPathFirst.contains(kind) || ImplItemWords.contains(kind)
+        MacroPathFirst.contains(kind)
+            || ImplItemWords.contains(kind)
+            || self.0 && WholeItemWords.contains(kind)
     }
 }
 
-/// What an item of a TRAIT begins with.
+/// What an item of a TRAIT begins with; with `true`, where all of Rust is read.
 #[derive(Clone, Copy)]
-struct TraitItemFirst;
+struct TraitItemFirst(bool);
 
 impl TokenSet for TraitItemFirst {
-    ghost kinds = { λ _. form.trait_item_first };
+    ghost kinds = { λ s. form.trait_item_first s.0 };
 
     #[inline(always)]
-    #[tactic(auto, using(ssr_syntax_forms::proofs::Shared::mem_append), unfolding(crate::specs::Items::trait_item_first))]
+    #[tactic(auto, using(ssr_syntax_forms::proofs::Shared::mem_append, ssr_syntax_forms::proofs::Shared::mem_where_whole), unfolding(crate::specs::Items::trait_item_first))]
     fn contains(self, kind: SyntaxKind) -> bool {
-        MacroPathFirst.contains(kind) || TraitItemWords.contains(kind)
+        MacroPathFirst.contains(kind)
+            || TraitItemWords.contains(kind)
+            || self.0 && WholeItemWords.contains(kind)
     }
 }
 
@@ -201,6 +220,13 @@ pub(crate) fn at_stmt_item(p: &Parser<'_>) -> bool
     p.at_any(NamedItemFirst) || p.at_two(UNSAFE_KW, UnsafeItemWords) || at_macro_rules(p)
 }
 
+/// Whether an item `async fn` is next.
+pub(crate) fn at_async_fn(p: &Parser<'_>) -> bool
+    ensures { result ≡ passes form.async_fn_ahead p.now.rest }
+{
+    p.at_two(ASYNC_KW, UnsafeOrFn)
+}
+
 /// A BLOCK_EXPR or `;`.
 #[tactic(auto, unfolding(crate::specs::Items::block_or_none))]
 fn block_or_none<R: Reader>(goals: &R, p: &mut Parser<'_>) -> Result<(), Fault>
@@ -228,7 +254,32 @@ fn fn_body<R: Reader>(goals: &R, p: &mut Parser<'_>, place: ItemPlace) -> Result
     }
 }
 
-/// FN: perhaps `const` and `unsafe`, `fn`, a NAME, parameters, perhaps a RET_TYPE and a WHERE_CLAUSE, and a body.
+/// `async` in front of a function, where all of Rust is read, or nothing.
+#[tactic(auto, using(ssr_syntax_forms::proofs::Shared::run_also), unfolding(crate::specs::Items::async_word))]
+fn async_word<R: Reader>(goals: &R, p: &mut Parser<'_>, m: &Mark<'_>) -> Result<(), Fault>
+    requires { R.can_read goals.now }
+    ensures { RunsFrom (R.reads goals.now) form.async_word m.now p.old p.new result }
+{
+    if p.at(ASYNC_KW) && goals.is_whole() {
+        p.expect(ASYNC_KW)
+    } else {
+        Ok(())
+    }
+}
+
+/// The words in front of a function's name: perhaps `const`, `async` and `unsafe`, and `fn`.
+#[tactic(auto, unfolding(crate::specs::Items::fn_words))]
+fn fn_words<R: Reader>(goals: &R, p: &mut Parser<'_>, m: &Mark<'_>) -> Result<(), Fault>
+    requires { R.can_read goals.now }
+    ensures { RunsFrom (R.reads goals.now) form.fn_words m.now p.old p.new result }
+{
+    p.eat(CONST_KW)?;
+    async_word(goals, p, m)?;
+    p.eat(UNSAFE_KW)?;
+    p.expect(FN_KW)
+}
+
+/// FN: perhaps `const`, `async` and `unsafe`, `fn`, a NAME, parameters, perhaps a RET_TYPE and a WHERE_CLAUSE, and a body.
 #[tactic(auto, unfolding(crate::specs::Items::function))]
 fn function<R: Reader>(
     goals: &R,
@@ -239,9 +290,7 @@ fn function<R: Reader>(
     requires { R.can_read goals.now }
     ensures { RunsFrom (R.reads goals.now) (form.function place) m.now p.old p.new result }
 {
-    p.eat(CONST_KW)?;
-    p.eat(UNSAFE_KW)?;
-    p.expect(FN_KW)?;
+    fn_words(goals, p, m)?;
     name(goals, p)?;
     generic_params(goals, p, m)?;
     param_list(goals, p)?;
@@ -254,7 +303,7 @@ fn function<R: Reader>(
 }
 
 /// ASSOC_ITEM_LIST of an IMPL: items in braces.
-#[tactic(auto, unfolding(crate::specs::Items::impl_item_list))]
+#[tactic(auto, using(ssr_syntax_forms::proofs::Shared::run_repeated_by), unfolding(crate::specs::Items::impl_item_list))]
 fn impl_item_list<R: Reader>(goals: &R, p: &mut Parser<'_>) -> Result<(), Fault>
     requires { R.can_read goals.now }
     ensures { Runs (R.reads goals.now) form.impl_item_list p.old p.new result }
@@ -262,7 +311,7 @@ fn impl_item_list<R: Reader>(goals: &R, p: &mut Parser<'_>) -> Result<(), Fault>
     let m = p.start();
     p.expect(L_CURLY)?;
     p.repeated(
-        ImplItemFirst,
+        ImplItemFirst(goals.is_whole()),
         |p| goals.read(p, Goal::Item(ItemPlace::InImpl)),
     )?;
     p.expect(R_CURLY)?;
@@ -270,7 +319,7 @@ fn impl_item_list<R: Reader>(goals: &R, p: &mut Parser<'_>) -> Result<(), Fault>
 }
 
 /// ASSOC_ITEM_LIST of a TRAIT: items in braces.
-#[tactic(auto, unfolding(crate::specs::Items::trait_item_list))]
+#[tactic(auto, using(ssr_syntax_forms::proofs::Shared::run_repeated_by), unfolding(crate::specs::Items::trait_item_list))]
 fn trait_item_list<R: Reader>(goals: &R, p: &mut Parser<'_>) -> Result<(), Fault>
     requires { R.can_read goals.now }
     ensures { Runs (R.reads goals.now) form.trait_item_list p.old p.new result }
@@ -278,7 +327,7 @@ fn trait_item_list<R: Reader>(goals: &R, p: &mut Parser<'_>) -> Result<(), Fault
     let m = p.start();
     p.expect(L_CURLY)?;
     p.repeated(
-        TraitItemFirst,
+        TraitItemFirst(goals.is_whole()),
         |p| goals.read(p, Goal::Item(ItemPlace::InTrait)),
     )?;
     p.expect(R_CURLY)?;
@@ -439,7 +488,7 @@ fn static_item<R: Reader>(goals: &R, p: &mut Parser<'_>, m: &Mark<'_>) -> Result
 }
 
 /// ITEM_LIST: items in braces.
-#[tactic(auto, unfolding(crate::specs::Items::item_list))]
+#[tactic(auto, using(ssr_syntax_forms::proofs::Shared::run_repeated_by), unfolding(crate::specs::Items::item_list))]
 fn item_list<R: Reader>(goals: &R, p: &mut Parser<'_>) -> Result<(), Fault>
     requires { R.can_read goals.now }
     ensures { Runs (R.reads goals.now) form.item_list p.old p.new result }
@@ -447,7 +496,7 @@ fn item_list<R: Reader>(goals: &R, p: &mut Parser<'_>) -> Result<(), Fault>
     let m = p.start();
     p.expect(L_CURLY)?;
     p.repeated(
-        ModuleItemFirst,
+        ModuleItemFirst(goals.is_whole()),
         |p| goals.read(p, Goal::Item(ItemPlace::InModule)),
     )?;
     p.expect(R_CURLY)?;
@@ -572,16 +621,29 @@ fn type_or_value_item<R: Reader>(goals: &R, p: &mut Parser<'_>, m: &Mark<'_>) ->
     }
 }
 
-/// An item that may have a VISIBILITY in front, behind that.
-#[tactic(auto, using(ssr_syntax_forms::proofs::Shared::run_decide), unfolding(crate::specs::Items::named_item))]
-fn named_item<R: Reader>(goals: &R, p: &mut Parser<'_>, m: &Mark<'_>) -> Result<(), Fault>
+/// An item of the stated language that may have a VISIBILITY in front, behind that.
+#[tactic(auto, using(ssr_syntax_forms::proofs::Shared::run_decide), unfolding(crate::specs::Items::stated_named_item))]
+fn stated_named_item<R: Reader>(goals: &R, p: &mut Parser<'_>, m: &Mark<'_>) -> Result<(), Fault>
     requires { R.can_read goals.now }
-    ensures { RunsFrom (R.reads goals.now) form.named_item m.now p.old p.new result }
+    ensures { RunsFrom (R.reads goals.now) form.stated_named_item m.now p.old p.new result }
 {
     if at_fn(p) {
         function(goals, p, m, ItemPlace::InModule)
     } else {
         type_or_value_item(goals, p, m)
+    }
+}
+
+/// An item that may have a VISIBILITY in front, behind that.
+#[tactic(auto, using(ssr_syntax_forms::proofs::Shared::run_also_decide), unfolding(crate::specs::Items::named_item))]
+fn named_item<R: Reader>(goals: &R, p: &mut Parser<'_>, m: &Mark<'_>) -> Result<(), Fault>
+    requires { R.can_read goals.now }
+    ensures { RunsFrom (R.reads goals.now) form.named_item m.now p.old p.new result }
+{
+    if goals.is_whole() && p.at(ASYNC_KW) {
+        function(goals, p, m, ItemPlace::InModule)
+    } else {
+        stated_named_item(goals, p, m)
     }
 }
 
@@ -610,8 +672,26 @@ fn assoc_value_or_type<R: Reader>(goals: &R, p: &mut Parser<'_>, m: &Mark<'_>) -
     }
 }
 
+/// FN, CONST or TYPE_ALIAS of a TRAIT or an IMPL, as the stated language has them.
+#[tactic(auto, using(ssr_syntax_forms::proofs::Shared::run_decide), unfolding(crate::specs::Items::stated_assoc_item))]
+fn stated_assoc_item<R: Reader>(
+    goals: &R,
+    p: &mut Parser<'_>,
+    m: &Mark<'_>,
+    place: ItemPlace,
+) -> Result<(), Fault>
+    requires { R.can_read goals.now }
+    ensures { RunsFrom (R.reads goals.now) (form.stated_assoc_item place) m.now p.old p.new result }
+{
+    if at_fn(p) {
+        function(goals, p, m, place)
+    } else {
+        assoc_value_or_type(goals, p, m)
+    }
+}
+
 /// FN, CONST or TYPE_ALIAS of a TRAIT or an IMPL.
-#[tactic(auto, using(ssr_syntax_forms::proofs::Shared::run_decide), unfolding(crate::specs::Items::assoc_item))]
+#[tactic(auto, using(ssr_syntax_forms::proofs::Shared::run_also_decide), unfolding(crate::specs::Items::assoc_item))]
 fn assoc_item<R: Reader>(
     goals: &R,
     p: &mut Parser<'_>,
@@ -621,10 +701,10 @@ fn assoc_item<R: Reader>(
     requires { R.can_read goals.now }
     ensures { RunsFrom (R.reads goals.now) (form.assoc_item place) m.now p.old p.new result }
 {
-    if at_fn(p) {
+    if goals.is_whole() && p.at(ASYNC_KW) {
         function(goals, p, m, place)
     } else {
-        assoc_value_or_type(goals, p, m)
+        stated_assoc_item(goals, p, m, place)
     }
 }
 
@@ -774,7 +854,7 @@ pub fn item<R: Reader>(
 }
 
 /// SOURCE_FILE: ATTRs of the file and items.
-#[tactic(auto, using(ssr_syntax_forms::proofs::Shared::run_as_long_as), unfolding(crate::specs::Items::source_file))]
+#[tactic(auto, using(ssr_syntax_forms::proofs::Shared::run_as_long_as, ssr_syntax_forms::proofs::Shared::run_repeated_by), unfolding(crate::specs::Items::source_file))]
 pub fn source_file<R: Reader>(goals: &R, p: &mut Parser<'_>) -> Result<(), Fault>
     requires { R.can_read goals.now }
     ensures { Runs (R.reads goals.now) form.source_file p.old p.new result }
@@ -782,21 +862,21 @@ pub fn source_file<R: Reader>(goals: &R, p: &mut Parser<'_>) -> Result<(), Fault
     let m = p.start();
     p.repeated_two(POUND, BANG, |p| inner_attr(goals, p))?;
     p.repeated(
-        ModuleItemFirst,
+        ModuleItemFirst(goals.is_whole()),
         |p| goals.read(p, Goal::Item(ItemPlace::InModule)),
     )?;
     p.complete(&m, SOURCE_FILE)
 }
 
 /// MACRO_ITEMS: the items that a macro call stands for.
-#[tactic(auto, unfolding(crate::specs::Items::macro_items))]
+#[tactic(auto, using(ssr_syntax_forms::proofs::Shared::run_repeated_by), unfolding(crate::specs::Items::macro_items))]
 pub fn macro_items<R: Reader>(goals: &R, p: &mut Parser<'_>) -> Result<(), Fault>
     requires { R.can_read goals.now }
     ensures { Runs (R.reads goals.now) form.macro_items p.old p.new result }
 {
     let m = p.start();
     p.repeated(
-        ModuleItemFirst,
+        ModuleItemFirst(goals.is_whole()),
         |p| goals.read(p, Goal::Item(ItemPlace::InModule)),
     )?;
     p.complete(&m, MACRO_ITEMS)

@@ -3,7 +3,7 @@ ghost use Rattle.std.specs.Prelude.{◌≡◌};
 ghost use Rattle.ssr_syntax_items.specs.Statements as form;
 ghost use Rattle.ssr_syntax_forms.specs.Runs.{Runs, RunsAnywhere, RunsFrom};
 
-use crate::items::{StmtItemFirst, at_stmt_item, item};
+use crate::items::{StmtItemFirst, at_async_fn, at_stmt_item, item};
 use ssr_syntax_exprs::atoms::{ExprFirst, path_or_record};
 use ssr_syntax_exprs::blocks::{BlockFirst, block_expr, block_like};
 use ssr_syntax_exprs::expressions::{RANKS, climb, postfixes, range_or_assignment};
@@ -55,17 +55,17 @@ impl TokenSet for ArmEnds {
     }
 }
 
-/// What a statement begins with.
+/// What a statement begins with; with `true`, where all of Rust is read.
 #[derive(Clone, Copy)]
-struct StmtFirst;
+struct StmtFirst(bool);
 
 impl TokenSet for StmtFirst {
-    ghost kinds = { λ _. form.stmt_first };
+    ghost kinds = { λ s. form.stmt_first s.0 };
 
     #[inline(always)]
     #[tactic(auto, using(ssr_syntax_forms::proofs::Shared::mem_append), unfolding(crate::specs::Statements::stmt_first))]
     fn contains(self, kind: SyntaxKind) -> bool {
-        matches!(kind, LET_KW) || ExprFirst.contains(kind) || StmtItemFirst.contains(kind)
+        matches!(kind, LET_KW) || ExprFirst(self.0).contains(kind) || StmtItemFirst.contains(kind)
     }
 }
 
@@ -509,8 +509,26 @@ fn let_stmt<R: Reader>(
     let_rest(goals, p, m, place)
 }
 
+/// A statement of the stated language in its list that is no LET_STMT.
+#[tactic(auto, using(ssr_syntax_forms::proofs::Shared::run_decide), unfolding(crate::specs::Statements::stated_expr_or_item))]
+fn stated_expr_or_item<R: Reader>(
+    goals: &R,
+    p: &mut Parser<'_>,
+    place: StmtPlace,
+) -> Result<(), Fault>
+    requires { R.can_read goals.now }
+    ensures { RunsAnywhere (R.reads goals.now) (form.stated_expr_or_item place) p.old p.new result }
+{
+    if at_stmt_item(p) {
+        goals.read(p, Goal::Item(ItemPlace::AsStmt))
+    } else {
+        let n = p.start();
+        leading(goals, p, &n, place)
+    }
+}
+
 /// A statement in its list that is no LET_STMT.
-#[tactic(auto, using(ssr_syntax_forms::proofs::Shared::run_decide), unfolding(crate::specs::Statements::expr_or_item_stmt))]
+#[tactic(auto, using(ssr_syntax_forms::proofs::Shared::run_also_decide), unfolding(crate::specs::Statements::expr_or_item_stmt))]
 fn expr_or_item_stmt<R: Reader>(
     goals: &R,
     p: &mut Parser<'_>,
@@ -519,11 +537,10 @@ fn expr_or_item_stmt<R: Reader>(
     requires { R.can_read goals.now }
     ensures { RunsAnywhere (R.reads goals.now) (form.expr_or_item_stmt place) p.old p.new result }
 {
-    if at_stmt_item(p) {
+    if goals.is_whole() && at_async_fn(p) {
         goals.read(p, Goal::Item(ItemPlace::AsStmt))
     } else {
-        let n = p.start();
-        leading(goals, p, &n, place)
+        stated_expr_or_item(goals, p, place)
     }
 }
 
@@ -542,39 +559,58 @@ fn stmt<R: Reader>(goals: &R, p: &mut Parser<'_>, place: StmtPlace) -> Result<()
 }
 
 /// STMT_LIST: statements in braces, and perhaps an expression at the end.
-#[tactic(auto, unfolding(crate::specs::Statements::stmt_list))]
+#[tactic(auto, using(ssr_syntax_forms::proofs::Shared::run_repeated_by), unfolding(crate::specs::Statements::stmt_list))]
 pub fn stmt_list<R: Reader>(goals: &R, p: &mut Parser<'_>) -> Result<(), Fault>
     requires { R.can_read goals.now }
     ensures { Runs (R.reads goals.now) form.stmt_list p.old p.new result }
 {
     let m = p.start();
     p.expect(L_CURLY)?;
-    p.repeated(StmtFirst, |p| stmt(goals, p, StmtPlace::BlockStmt))?;
+    p.repeated(
+        StmtFirst(goals.is_whole()),
+        |p| stmt(goals, p, StmtPlace::BlockStmt),
+    )?;
     p.expect(R_CURLY)?;
     p.complete(&m, STMT_LIST)
 }
 
 /// MACRO_STMTS: the statements that a macro call stands for, and perhaps an expression at the end.
-#[tactic(auto, unfolding(crate::specs::Statements::macro_stmts))]
+#[tactic(auto, using(ssr_syntax_forms::proofs::Shared::run_repeated_by), unfolding(crate::specs::Statements::macro_stmts))]
 pub fn macro_stmts<R: Reader>(goals: &R, p: &mut Parser<'_>) -> Result<(), Fault>
     requires { R.can_read goals.now }
     ensures { Runs (R.reads goals.now) form.macro_stmts p.old p.new result }
 {
     let m = p.start();
-    p.repeated(StmtFirst, |p| stmt(goals, p, StmtPlace::MacroStmt))?;
+    p.repeated(
+        StmtFirst(goals.is_whole()),
+        |p| stmt(goals, p, StmtPlace::MacroStmt),
+    )?;
     p.complete(&m, MACRO_STMTS)
 }
 
-/// A statement alone that is no LET_STMT.
-#[tactic(auto, using(ssr_syntax_forms::proofs::Shared::run_decide), unfolding(crate::specs::Statements::lone_expr_or_item))]
-fn lone_expr_or_item<R: Reader>(goals: &R, p: &mut Parser<'_>, m: &Mark<'_>) -> Result<(), Fault>
+/// A statement of the stated language alone that is no LET_STMT.
+#[tactic(auto, using(ssr_syntax_forms::proofs::Shared::run_decide), unfolding(crate::specs::Statements::stated_lone))]
+fn stated_lone<R: Reader>(goals: &R, p: &mut Parser<'_>, m: &Mark<'_>) -> Result<(), Fault>
     requires { R.can_read goals.now }
-    ensures { RunsFrom (R.reads goals.now) form.lone_expr_or_item m.now p.old p.new result }
+    ensures { RunsFrom (R.reads goals.now) form.stated_lone m.now p.old p.new result }
 {
     if at_stmt_item(p) {
         item(goals, p, m, ItemPlace::AsStmt)
     } else {
         leading(goals, p, m, StmtPlace::LoneStmt)
+    }
+}
+
+/// A statement alone that is no LET_STMT.
+#[tactic(auto, using(ssr_syntax_forms::proofs::Shared::run_also_decide), unfolding(crate::specs::Statements::lone_expr_or_item))]
+fn lone_expr_or_item<R: Reader>(goals: &R, p: &mut Parser<'_>, m: &Mark<'_>) -> Result<(), Fault>
+    requires { R.can_read goals.now }
+    ensures { RunsFrom (R.reads goals.now) form.lone_expr_or_item m.now p.old p.new result }
+{
+    if goals.is_whole() && at_async_fn(p) {
+        item(goals, p, m, ItemPlace::AsStmt)
+    } else {
+        stated_lone(goals, p, m)
     }
 }
 
