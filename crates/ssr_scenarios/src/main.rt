@@ -44,6 +44,7 @@
 //! | `expr TEXT`, `type TEXT`, `item TEXT`, `pat TEXT`, `stmt TEXT` | the tree of a fragment likewise |
 //! | `call-expr TEXT`, `call-items TEXT`, `call-stmts TEXT` | the tree of what a macro call stands for, if that is the tokens of the text |
 //! | `told-expr ROWS`, `told-items ROWS`, `told-stmts ROWS` | the same of tokens as facts tell them |
+//! | one of these words with `rust-` in front | the same in the whole reach of the grammar |
 //! | `kinds TEXT` | the kinds of a rule, or of a search pattern, where the text has no delimiter, or why it is refused |
 //! | `parts TEXT` | the placeholders of its first kind, its pattern and its template, and which nodes and tokens are placeholders |
 //! | `used TEXT`, `calls TEXT`, `eligible TEXT` | the used paths of its first kind, of the template too, its qualified calls, or its eligible paths |
