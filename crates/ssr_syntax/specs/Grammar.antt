@@ -1,6 +1,6 @@
 -- The form of each goal, and the grammar of a reach.
 use Rattle.ssr_syntax_types.specs.declared.goals.Goal.{Goal}
-use Rattle.ssr_syntax_types.specs.declared.goals.Goal.TheVariants.{File, Expr, Condition, Operand, Unary, Ty, PathType, GenericArgs, TokenTree, Pat, StmtList, Stmt, Arm, If, Item, UseTree, Items, Stmts}
+use Rattle.ssr_syntax_types.specs.declared.goals.Goal.TheVariants.{File, Expr, Condition, Operand, Unary, Ty, PathType, GenericArgs, ForBinder, TokenTree, Pat, StmtList, Stmt, Arm, If, Item, UseTree, Items, Stmts}
 use Rattle.ssr_syntax_kinds.specs.Reach.{is_whole}
 use Rattle.ssr_syntax_kinds.specs.declared.reach.Reach.{Reach}
 use Rattle.ssr_syntax_kinds.specs.declared.reach.Reach.TheVariants.{Whole}
@@ -14,6 +14,7 @@ use Rattle.ssr_syntax_patterns.specs.Patterns as pats
 use Rattle.ssr_syntax_items.specs.Statements as stmts
 use Rattle.ssr_syntax_types.specs.TokenTrees as trees
 use Rattle.ssr_syntax_types.specs.Types as types
+use Rattle.ssr_syntax_item_parts.specs.Params as params
 use Rattle.ssr_syntax_item_parts.specs.Uses as uses
 
 unfoldable pub grammar : Goal → Form Goal
@@ -25,6 +26,7 @@ grammar (Unary place) = expr.unary place
 grammar Ty = types.any_type
 grammar PathType = types.path_type
 grammar GenericArgs = args.generic_arg_list
+grammar ForBinder = params.for_binder
 grammar TokenTree = trees.token_tree
 grammar (Pat place) = pats.pat place
 grammar StmtList = stmts.stmt_list

@@ -11,6 +11,7 @@ use ssr_syntax_exprs::conditions::condition;
 use ssr_syntax_exprs::expressions::{at_most_all, expr, operand, unary};
 use ssr_syntax_exprs::generic_args::generic_arg_list;
 use ssr_syntax_forms::{Fault, Output, Parser, Token};
+use ssr_syntax_item_parts::params::for_binder;
 use ssr_syntax_item_parts::uses::use_tree;
 use ssr_syntax_items::items::{item, macro_items, source_file};
 use ssr_syntax_items::statements::{lone_stmt, macro_stmts, match_arm, stmt_list};
@@ -38,6 +39,7 @@ fn read_form<R: Reader>(goals: &R, p: &mut Parser<'_>, goal: Goal) -> Result<(),
         Goal::Ty => any_type(goals, p),
         Goal::PathType => path_type(goals, p),
         Goal::GenericArgs => generic_arg_list(goals, p),
+        Goal::ForBinder => for_binder(goals, p),
         Goal::TokenTree => token_tree(goals, p),
         Goal::Pat(place) => pat(goals, p, place),
         Goal::StmtList => stmt_list(goals, p),

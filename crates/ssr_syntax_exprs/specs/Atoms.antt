@@ -9,10 +9,11 @@ use Rattle.ssr_syntax_types.specs.declared.goals.ExprPlace.TheVariants.{Anywhere
 use Rattle.ssr_syntax_types.specs.declared.goals.PatPlace.TheVariants.{NoBar}
 use Rattle.ssr_syntax_types.specs.declared.goals.PathPlace.TheVariants.{InExpr}
 use Rattle.ssr_syntax_forms.specs.Kinds.{where_whole}
-use Rattle.ssr_syntax_forms.specs.Forms.{Form, Test, ◌then◌, child, mark, seal, nothing, choose, decide, look, check, wide, none_is, a, part, at, optional, optional_by, repeated_by, comma_by, comma_list, comma_list_by}
+use Rattle.ssr_syntax_forms.specs.Forms.{Form, Test, ◌then◌, child, mark, seal, nothing, choose, decide, also_decide, look, check, wide, none_is, a, part, at, optional, optional_by, repeated_by, comma_by, comma_list_by}
 use Rattle.ssr_syntax_types.specs.Literals.{literals}
 use Rattle.ssr_syntax_types.specs.Paths.{lifetime, name_colon, name_ref, number_ref, path, path_first, ret_type}
-use Rattle.ssr_syntax_types.specs.PatternSets.{ranges, single_pat_first}
+use Rattle.ssr_syntax_types.specs.PatternSets.{param_first, ranges}
+use Rattle.ssr_syntax_types.specs.TokenTrees.{attrs, some_attrs}
 use Rattle.ssr_syntax_exprs.specs.Blocks.{block_expr, block_words}
 
 -- what `return`, `break` and closures begin with
@@ -32,17 +33,18 @@ unfoldable pub stated_marks : List SyntaxKind
 stated_marks = k.AMP ∷ k.AMP2 ∷ k.L_PAREN ∷ k.L_BRACK ∷ k.CONTINUE_KW ∷ k.MINUS ∷ k.BANG ∷ k.STAR ∷ []
 
 abbrev pub whole_marks : List SyntaxKind
-whole_marks = k.ASYNC_KW ∷ k.UNDERSCORE ∷ []
+whole_marks = k.ASYNC_KW ∷ k.UNDERSCORE ∷ k.POUND ∷ []
 
 unfoldable pub operand_marks : Bool → List SyntaxKind
 operand_marks is_whole = stated_marks ++ where_whole is_whole whole_marks
 
 -- what an operand begins with, but for a brace
 unfoldable pub braceless_first : Bool → List SyntaxKind
-braceless_first is_whole = literals ++ path_first ++ block_words ++ operand_marks is_whole
+braceless_first is_whole = literals ++ path_first ++ block_words is_whole ++ operand_marks is_whole
 
+-- in all of Rust an operand may be a closure, `return` or `break`
 unfoldable pub operand_first : Bool → List SyntaxKind
-operand_first is_whole = k.L_CURLY ∷ braceless_first is_whole
+operand_first is_whole = k.L_CURLY ∷ braceless_first is_whole ++ where_whole is_whole leaving_first
 
 -- what an expression begins with
 unfoldable pub expr_first : Bool → List SyntaxKind
@@ -104,8 +106,27 @@ numbered_field = mark number_ref then a k.COLON then child (Expr Anywhere) then 
 unfoldable pub shorthand_field : Form Goal
 shorthand_field = look false (at (k.DOT2 ∷ [])) then child (Expr Anywhere) then seal k.RECORD_EXPR_FIELD
 
+-- behind attributes
+abbrev pub no_bare_field : List SyntaxKind
+no_bare_field = k.POUND ∷ k.DOT2 ∷ []
+
+unfoldable pub bare_field : Form Goal
+bare_field = look false (at no_bare_field) then child (Expr Anywhere) then seal k.RECORD_EXPR_FIELD
+
+unfoldable pub numbered_or_bare : Form Goal
+numbered_or_bare = decide number_colon numbered_field bare_field
+
+unfoldable pub field_behind_attrs : Form Goal
+field_behind_attrs = decide name_colon named_field numbered_or_bare
+
+unfoldable pub attributed_field : Form Goal
+attributed_field = some_attrs then field_behind_attrs
+
 unfoldable pub record_expr_field : Form Goal
-record_expr_field =
+record_expr_field = also_decide (at (k.POUND ∷ [])) (mark attributed_field) stated_record_field
+
+unfoldable pub stated_record_field : Form Goal
+stated_record_field =
     decide name_colon (mark named_field)
     (decide number_colon (mark numbered_field)
     (mark shorthand_field))
@@ -154,10 +175,10 @@ unfoldable pub break_expr : Form Goal
 break_expr = a k.BREAK_KW then break_target then optional_by expr_first (child (Expr Anywhere)) then seal k.BREAK_EXPR
 
 unfoldable pub closure_param : Form Goal
-closure_param = child (Pat NoBar) then optional (k.COLON ∷ []) (a k.COLON then child Ty) then seal k.PARAM
+closure_param = wide attrs nothing then child (Pat NoBar) then optional (k.COLON ∷ []) (a k.COLON then child Ty) then seal k.PARAM
 
 unfoldable pub closure_param_list : Form Goal
-closure_param_list = part bars then comma_list single_pat_first (mark closure_param) then part bars then seal k.PARAM_LIST
+closure_param_list = part bars then comma_list_by param_first (mark closure_param) then part bars then seal k.PARAM_LIST
 
 unfoldable pub typed_closure : Form Goal
 typed_closure = mark ret_type then mark block_expr then seal k.CLOSURE_EXPR

@@ -6,9 +6,9 @@ use Rattle.ssr_syntax_types.specs.declared.goals.Goal.TheVariants.{Operand, Pat}
 use Rattle.ssr_syntax_types.specs.declared.goals.ExprPlace.{ExprPlace}
 use Rattle.ssr_syntax_types.specs.declared.goals.ExprPlace.TheVariants.{Anywhere, BeforeBlock}
 use Rattle.ssr_syntax_types.specs.declared.goals.PatPlace.TheVariants.{TopLevel}
-use Rattle.ssr_syntax_forms.specs.Forms.{Form, Test, ◌then◌, child, mark, seal, choose, decide, also_decide, a, at, repeated, as_long_as_by}
+use Rattle.ssr_syntax_forms.specs.Forms.{Form, Test, ◌then◌, child, mark, seal, choose, decide, wide, a, at, repeated, as_long_as_by}
 use Rattle.ssr_syntax_types.specs.PatternSets.{ranges}
-use Rattle.ssr_syntax_exprs.specs.Atoms.{async_closure, async_closure_ahead, leaving_expr, leaving_first, operand_first}
+use Rattle.ssr_syntax_exprs.specs.Atoms.{leaving_expr, leaving_first, operand_first}
 use Rattle.ssr_syntax_exprs.specs.Expressions.{and_rank, leading_range, operand, operation, operations, or_rank, range_or_assignment}
 
 abbrev pub and_let_ahead : Test
@@ -64,5 +64,5 @@ unfoldable pub leaving_or_condition : Form Goal
 leaving_or_condition = choose (at leaving_first) leaving_expr (condition_of Anywhere)
 
 unfoldable pub condition : ExprPlace → Form Goal
-condition Anywhere = also_decide async_closure_ahead (mark async_closure) leaving_or_condition
+condition Anywhere = wide (condition_of Anywhere) leaving_or_condition
 condition BeforeBlock = condition_of BeforeBlock

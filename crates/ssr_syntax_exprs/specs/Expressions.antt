@@ -1,15 +1,16 @@
 -- Forms of expressions by how tightly they bind.
-use Rattle.std.specs.Prelude.{ℕ, zero, suc, Bool, true, false, List, [], ◌∷◌, length}
+use Rattle.std.specs.Prelude.{ℕ, zero, suc, Bool, true, false, List, [], ◌∷◌, ◌++◌, length}
 use Rattle.ssr_syntax_kinds.specs.declared.kinds.SyntaxKind.{SyntaxKind}
 use Rattle.ssr_syntax_kinds.specs.declared.kinds.SyntaxKind.TheVariants as k
 use Rattle.ssr_syntax_types.specs.declared.goals.Goal.{Goal}
 use Rattle.ssr_syntax_types.specs.declared.goals.Goal.TheVariants.{Expr, Operand, Unary, Ty, GenericArgs}
 use Rattle.ssr_syntax_types.specs.declared.goals.ExprPlace.{ExprPlace}
 use Rattle.ssr_syntax_types.specs.declared.goals.ExprPlace.TheVariants.{Anywhere, BeforeBlock}
-use Rattle.ssr_syntax_forms.specs.Forms.{Form, ◌then◌, child, mark, seal, choose, decide, look, also, also_decide, look_by, a, any, part, at, optional, optional_by, repeated, comma_list_by}
+use Rattle.ssr_syntax_forms.specs.Forms.{Form, ◌then◌, child, mark, seal, choose, decide, look, also, also_decide, wide, look_by, a, any, part, at, optional, optional_by, repeated, comma_list_by}
 use Rattle.ssr_syntax_types.specs.Literals.{literal, literals}
 use Rattle.ssr_syntax_types.specs.Paths.{colon_angle, name_ref, number_ref, path_first}
 use Rattle.ssr_syntax_types.specs.Types.{ampersands}
+use Rattle.ssr_syntax_types.specs.TokenTrees.{some_attrs}
 use Rattle.ssr_syntax_types.specs.PatternSets.{ranges}
 use Rattle.ssr_syntax_exprs.specs.Blocks.{block_like}
 use Rattle.ssr_syntax_exprs.specs.Atoms.{array_expr, async_block, async_closure, async_closure_ahead, braceless_first, continue_expr, expr_first, expr_in_parentheses, leaving_expr, leaving_first, operand_first, path_expr, underscore_expr}
@@ -106,11 +107,37 @@ ref_expr place = part ampersands then optional (k.MUT_KW ∷ []) (a k.MUT_KW) th
 unfoldable pub prefix_expr : ExprPlace → Form Goal
 prefix_expr place = any prefix_operators then child (Unary place) then seal k.PREFIX_EXPR
 
+-- an operand behind attributes, of all of Rust
+unfoldable pub attr_expr : ExprPlace → Form Goal
+attr_expr place = some_attrs then look false (at (k.POUND ∷ [])) then child (Unary place) then seal k.ATTR_EXPR
+
+-- what goes on with any expression: an operator, an assignment, a range or a cast
+unfoldable pub operator_first : List SyntaxKind
+operator_first =
+    k.STAR ∷ k.SLASH ∷ k.PERCENT ∷ k.PLUS ∷ k.MINUS ∷ k.SHL ∷ k.SHR ∷ k.AMP ∷ k.CARET ∷ k.PIPE ∷ k.EQ2 ∷ k.NEQ ∷ k.L_ANGLE ∷
+    k.R_ANGLE ∷ k.LTEQ ∷ k.GTEQ ∷ k.AMP2 ∷ k.PIPE2 ∷ k.DOT2 ∷ k.DOT2EQ ∷ k.AS_KW ∷ assignments
+
+-- a closure, `return` or `break` as an operand: what follows belongs to it, as far as it can
+unfoldable pub leaving_operand : Form Goal
+leaving_operand = leaving_expr then look false (at operator_first)
+
+unfoldable pub async_operand : Form Goal
+async_operand = mark async_closure then look false (at operator_first)
+
+-- before a block stands none
+unfoldable pub leaving_or_postfix : ExprPlace → Form Goal
+leaving_or_postfix Anywhere =
+    also leaving_first leaving_operand (also_decide async_closure_ahead async_operand (postfix_expr Anywhere))
+leaving_or_postfix BeforeBlock = postfix_expr BeforeBlock
+
+unfoldable pub attributed_or_postfix : ExprPlace → Form Goal
+attributed_or_postfix place = also (k.POUND ∷ []) (mark (attr_expr place)) (leaving_or_postfix place)
+
 unfoldable pub unary : ExprPlace → Form Goal
 unary place =
     choose (at ampersands) (mark (ref_expr place))
     (choose (at prefix_operators) (mark (prefix_expr place))
-    (postfix_expr place))
+    (attributed_or_postfix place))
 
 -- ** Casts.
 
@@ -216,6 +243,7 @@ ranked place = choose (at ranges) (leading_range place) (operand place all_ranks
 unfoldable pub leaving_or_ranked : Form Goal
 leaving_or_ranked = choose (at leaving_first) leaving_expr (ranked Anywhere)
 
+-- in all of Rust what leaves is an operand
 unfoldable pub expr : ExprPlace → Form Goal
-expr Anywhere = also_decide async_closure_ahead (mark async_closure) leaving_or_ranked
+expr Anywhere = wide (ranked Anywhere) leaving_or_ranked
 expr BeforeBlock = ranked BeforeBlock

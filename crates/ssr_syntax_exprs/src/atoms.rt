@@ -11,8 +11,9 @@ use ssr_syntax_kinds::SyntaxKind::*;
 use ssr_syntax_types::goals::{ExprPlace, Goal, PatPlace, PathPlace};
 use ssr_syntax_types::literals::Literals;
 use ssr_syntax_types::paths::{PathFirst, lifetime, name_ref, number_ref, path, ret_type};
-use ssr_syntax_types::pattern_sets::{Ranges, SinglePatFirst};
+use ssr_syntax_types::pattern_sets::{ParamFirst, Ranges};
 use ssr_syntax_types::reader::Reader;
+use ssr_syntax_types::token_trees::{attrs, some_attrs};
 
 /// What `return`, `break` and closures begin with.
 #[derive(Clone, Copy)]
@@ -67,7 +68,7 @@ impl TokenSet for WholeMarks {
 
     #[inline(always)]
     fn contains(self, kind: SyntaxKind) -> bool {
-        matches!(kind, ASYNC_KW | UNDERSCORE)
+        matches!(kind, ASYNC_KW | UNDERSCORE | POUND)
     }
 }
 
@@ -97,7 +98,7 @@ impl TokenSet for BracelessFirst {
     fn contains(self, kind: SyntaxKind) -> bool {
         Literals.contains(kind)
             || PathFirst.contains(kind)
-            || BlockWords.contains(kind)
+            || BlockWords(self.0).contains(kind)
             || OperandMarks(self.0).contains(kind)
     }
 }
@@ -110,9 +111,11 @@ impl TokenSet for OperandFirst {
     ghost kinds = { λ s. form.operand_first s.0 };
 
     #[inline(always)]
-    #[tactic(auto, unfolding(crate::specs::Atoms::operand_first))]
+    #[tactic(auto, using(ssr_syntax_forms::proofs::Shared::mem_append, ssr_syntax_forms::proofs::Shared::mem_where_whole), unfolding(crate::specs::Atoms::operand_first))]
     fn contains(self, kind: SyntaxKind) -> bool {
-        matches!(kind, L_CURLY) || BracelessFirst(self.0).contains(kind)
+        matches!(kind, L_CURLY)
+            || BracelessFirst(self.0).contains(kind)
+            || self.0 && LeavingFirst.contains(kind)
     }
 }
 
@@ -280,28 +283,26 @@ pub(crate) fn array_expr<R: Reader>(goals: &R, p: &mut Parser<'_>) -> Result<(),
 
 /// RECORD_EXPR_FIELD: a name, `:` and an expression.
 #[tactic(auto, unfolding(crate::specs::Atoms::named_field))]
-fn named_field<R: Reader>(goals: &R, p: &mut Parser<'_>) -> Result<(), Fault>
+fn named_field<R: Reader>(goals: &R, p: &mut Parser<'_>, m: &Mark<'_>) -> Result<(), Fault>
     requires { R.can_read goals.now }
-    ensures { Runs (R.reads goals.now) form.named_field p.old p.new result }
+    ensures { RunsFrom (R.reads goals.now) form.named_field m.now p.old p.new result }
 {
-    let m = p.start();
     name_ref(goals, p)?;
     p.expect(COLON)?;
     goals.read(p, Goal::Expr(ExprPlace::Anywhere))?;
-    p.complete(&m, RECORD_EXPR_FIELD)
+    p.complete(m, RECORD_EXPR_FIELD)
 }
 
 /// RECORD_EXPR_FIELD: a number, `:` and an expression.
 #[tactic(auto, unfolding(crate::specs::Atoms::numbered_field))]
-fn numbered_field<R: Reader>(goals: &R, p: &mut Parser<'_>) -> Result<(), Fault>
+fn numbered_field<R: Reader>(goals: &R, p: &mut Parser<'_>, m: &Mark<'_>) -> Result<(), Fault>
     requires { R.can_read goals.now }
-    ensures { Runs (R.reads goals.now) form.numbered_field p.old p.new result }
+    ensures { RunsFrom (R.reads goals.now) form.numbered_field m.now p.old p.new result }
 {
-    let m = p.start();
     number_ref(goals, p)?;
     p.expect(COLON)?;
     goals.read(p, Goal::Expr(ExprPlace::Anywhere))?;
-    p.complete(&m, RECORD_EXPR_FIELD)
+    p.complete(m, RECORD_EXPR_FIELD)
 }
 
 /// RECORD_EXPR_FIELD: an expression alone.
@@ -316,16 +317,92 @@ fn shorthand_field<R: Reader>(goals: &R, p: &mut Parser<'_>) -> Result<(), Fault
     p.complete(&m, RECORD_EXPR_FIELD)
 }
 
+/// What an expression that is a field behind ATTRs doesn't begin with.
+#[derive(Clone, Copy)]
+struct NoBareField;
+
+impl TokenSet for NoBareField {
+    ghost kinds = { λ _. form.no_bare_field };
+
+    #[inline(always)]
+    fn contains(self, kind: SyntaxKind) -> bool {
+        matches!(kind, POUND | DOT2)
+    }
+}
+
+/// RECORD_EXPR_FIELD: an expression behind ATTRs.
+#[tactic(auto, unfolding(crate::specs::Atoms::bare_field))]
+fn bare_field<R: Reader>(goals: &R, p: &mut Parser<'_>, m: &Mark<'_>) -> Result<(), Fault>
+    requires { R.can_read goals.now }
+    ensures { RunsFrom (R.reads goals.now) form.bare_field m.now p.old p.new result }
+{
+    p.refuse_at(NoBareField)?;
+    goals.read(p, Goal::Expr(ExprPlace::Anywhere))?;
+    p.complete(m, RECORD_EXPR_FIELD)
+}
+
+/// RECORD_EXPR_FIELD by a number, or an expression, behind ATTRs.
+#[tactic(auto, using(ssr_syntax_forms::proofs::Shared::run_decide), unfolding(crate::specs::Atoms::numbered_or_bare))]
+fn numbered_or_bare<R: Reader>(goals: &R, p: &mut Parser<'_>, m: &Mark<'_>) -> Result<(), Fault>
+    requires { R.can_read goals.now }
+    ensures { RunsFrom (R.reads goals.now) form.numbered_or_bare m.now p.old p.new result }
+{
+    if p.at_two(INT_NUMBER, COLON) {
+        numbered_field(goals, p, m)
+    } else {
+        bare_field(goals, p, m)
+    }
+}
+
+/// RECORD_EXPR_FIELD of any form, behind ATTRs.
+#[tactic(auto, using(ssr_syntax_forms::proofs::Shared::run_decide), unfolding(crate::specs::Atoms::field_behind_attrs))]
+fn field_behind_attrs<R: Reader>(goals: &R, p: &mut Parser<'_>, m: &Mark<'_>) -> Result<(), Fault>
+    requires { R.can_read goals.now }
+    ensures { RunsFrom (R.reads goals.now) form.field_behind_attrs m.now p.old p.new result }
+{
+    if p.at_two(IDENT, COLON) {
+        named_field(goals, p, m)
+    } else {
+        numbered_or_bare(goals, p, m)
+    }
+}
+
+/// RECORD_EXPR_FIELD with ATTRs.
+#[tactic(auto, unfolding(crate::specs::Atoms::attributed_field))]
+fn attributed_field<R: Reader>(goals: &R, p: &mut Parser<'_>) -> Result<(), Fault>
+    requires { R.can_read goals.now }
+    ensures { Runs (R.reads goals.now) form.attributed_field p.old p.new result }
+{
+    let m = p.start();
+    some_attrs(goals, p)?;
+    field_behind_attrs(goals, p, &m)
+}
+
 /// RECORD_EXPR_FIELD of any form.
-#[tactic(auto, using(ssr_syntax_forms::proofs::Shared::run_decide), unfolding(crate::specs::Atoms::record_expr_field))]
+#[tactic(auto, using(ssr_syntax_forms::proofs::Shared::run_also_decide), unfolding(crate::specs::Atoms::record_expr_field))]
 fn record_expr_field<R: Reader>(goals: &R, p: &mut Parser<'_>) -> Result<(), Fault>
     requires { R.can_read goals.now }
     ensures { RunsAnywhere (R.reads goals.now) form.record_expr_field p.old p.new result }
 {
+    if goals.is_whole() && p.at(POUND) {
+        attributed_field(goals, p)
+    } else {
+        stated_record_field(goals, p)
+    }
+}
+
+/// RECORD_EXPR_FIELD of any form of the stated language.
+#[tactic(auto, using(ssr_syntax_forms::proofs::Shared::run_decide), unfolding(crate::specs::Atoms::stated_record_field))]
+fn stated_record_field<R: Reader>(goals: &R, p: &mut Parser<'_>) -> Result<(), Fault>
+    requires { R.can_read goals.now }
+    ensures { RunsAnywhere (R.reads goals.now) form.stated_record_field p.old p.new result }
+{
     if p.at_two(IDENT, COLON) {
-        named_field(goals, p)
+        let n = p.start();
+        named_field(goals, p, &n)
     } else if p.at_two(INT_NUMBER, COLON) {
-        numbered_field(goals, p)
+        let n = p.start();
+        numbered_field(goals, p, &n)
     } else {
         shorthand_field(goals, p)
     }
@@ -516,6 +593,9 @@ fn closure_param<R: Reader>(goals: &R, p: &mut Parser<'_>) -> Result<(), Fault>
     ensures { Runs (R.reads goals.now) form.closure_param p.old p.new result }
 {
     let m = p.start();
+    if goals.is_whole() {
+        attrs(goals, p)?;
+    }
     goals.read(p, Goal::Pat(PatPlace::NoBar))?;
     if p.at(COLON) {
         p.expect(COLON)?;
@@ -525,14 +605,14 @@ fn closure_param<R: Reader>(goals: &R, p: &mut Parser<'_>) -> Result<(), Fault>
 }
 
 /// PARAM_LIST: parameters between bars, also those of `||`.
-#[tactic(auto, using(ssr_syntax_forms::proofs::Shared::run_comma_list), unfolding(crate::specs::Atoms::closure_param_list))]
+#[tactic(auto, using(ssr_syntax_forms::proofs::Shared::run_comma_list_by), unfolding(crate::specs::Atoms::closure_param_list))]
 fn closure_param_list<R: Reader>(goals: &R, p: &mut Parser<'_>) -> Result<(), Fault>
     requires { R.can_read goals.now }
     ensures { Runs (R.reads goals.now) form.closure_param_list p.old p.new result }
 {
     let m = p.start();
     p.expect_part(Bars)?;
-    p.comma_list(SinglePatFirst, |p| closure_param(goals, p))?;
+    p.comma_list(ParamFirst(goals.is_whole()), |p| closure_param(goals, p))?;
     p.expect_part(Bars)?;
     p.complete(&m, PARAM_LIST)
 }

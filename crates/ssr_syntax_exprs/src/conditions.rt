@@ -2,7 +2,7 @@
 ghost use Rattle.ssr_syntax_exprs.specs.Conditions as form;
 ghost use Rattle.ssr_syntax_forms.specs.Runs.{Runs, RunsFrom};
 
-use crate::atoms::{LeavingFirst, OperandFirst, async_closure, at_async_closure, leaving_expr};
+use crate::atoms::{LeavingFirst, OperandFirst, leaving_expr};
 use crate::expressions::{
     AND_RANK, OR_RANK, leading_range, operand, operation, operations, range_or_assignment,
 };
@@ -239,7 +239,7 @@ fn leaving_or_condition<R: Reader>(
 }
 
 /// The condition of `if` and `while`, which stands before a block, or that of an arm.
-#[tactic(auto, using(ssr_syntax_forms::proofs::Shared::run_also_decide), unfolding(crate::specs::Conditions::condition))]
+#[tactic(auto, unfolding(crate::specs::Conditions::condition))]
 pub fn condition<R: Reader>(goals: &R, p: &mut Parser<'_>, place: ExprPlace) -> Result<(), Fault>
     requires { R.can_read goals.now }
     ensures { Runs (R.reads goals.now) (form.condition place) p.old p.new result }
@@ -247,8 +247,8 @@ pub fn condition<R: Reader>(goals: &R, p: &mut Parser<'_>, place: ExprPlace) -> 
     let m = p.start();
     match place {
         ExprPlace::Anywhere => {
-            if goals.is_whole() && at_async_closure(p) {
-                async_closure(goals, p)
+            if goals.is_whole() {
+                condition_of(goals, p, &m, ExprPlace::Anywhere)
             } else {
                 leaving_or_condition(goals, p, &m)
             }

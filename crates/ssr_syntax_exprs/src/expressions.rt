@@ -17,6 +17,7 @@ use ssr_syntax_types::literals::{Literals, literal};
 use ssr_syntax_types::paths::{OpenAngle, PathFirst, name_ref, number_ref};
 use ssr_syntax_types::pattern_sets::Ranges;
 use ssr_syntax_types::reader::Reader;
+use ssr_syntax_types::token_trees::some_attrs;
 use ssr_syntax_types::types::Ampersands;
 
 /// The operators in front of an operand.
@@ -68,6 +69,25 @@ impl TokenSet for Assignments {
                 | SHLEQ
                 | SHREQ
         )
+    }
+}
+
+/// What goes on with any expression: an operator, an assignment, a range or a cast.
+#[derive(Clone, Copy)]
+struct OperatorFirst;
+
+impl TokenSet for OperatorFirst {
+    ghost kinds = { λ _. form.operator_first };
+
+    #[inline(always)]
+    #[tactic(auto, unfolding(crate::specs::Expressions::operator_first))]
+    fn contains(self, kind: SyntaxKind) -> bool {
+        match kind {
+            STAR | SLASH | PERCENT | PLUS | MINUS | SHL | SHR | AMP | CARET | PIPE => true,
+            EQ2 | NEQ | L_ANGLE | R_ANGLE | LTEQ | GTEQ | AMP2 | PIPE2 => true,
+            DOT2 | DOT2EQ | AS_KW => true,
+            _ => Assignments.contains(kind),
+        }
     }
 }
 
@@ -417,6 +437,82 @@ fn prefix_expr<R: Reader>(goals: &R, p: &mut Parser<'_>, place: ExprPlace) -> Re
     p.complete(&m, PREFIX_EXPR)
 }
 
+/// ATTR_EXPR: ATTRs and an operand.
+#[tactic(auto, unfolding(crate::specs::Expressions::attr_expr))]
+fn attr_expr<R: Reader>(goals: &R, p: &mut Parser<'_>, place: ExprPlace) -> Result<(), Fault>
+    requires { R.can_read goals.now }
+    ensures { Runs (R.reads goals.now) (form.attr_expr place) p.old p.new result }
+{
+    let m = p.start();
+    some_attrs(goals, p)?;
+    p.refuse_at(POUND)?;
+    goals.read(p, Goal::Unary(place))?;
+    p.complete(&m, ATTR_EXPR)
+}
+
+/// RETURN_EXPR, BREAK_EXPR or CLOSURE_EXPR as an operand.
+#[tactic(auto, unfolding(crate::specs::Expressions::leaving_operand))]
+fn leaving_operand<R: Reader>(goals: &R, p: &mut Parser<'_>) -> Result<(), Fault>
+    requires { R.can_read goals.now }
+    ensures { RunsAnywhere (R.reads goals.now) form.leaving_operand p.old p.new result }
+{
+    leaving_expr(goals, p)?;
+    p.refuse_at(OperatorFirst)
+}
+
+/// CLOSURE_EXPR with `async` as an operand.
+#[tactic(auto, unfolding(crate::specs::Expressions::async_operand))]
+fn async_operand<R: Reader>(goals: &R, p: &mut Parser<'_>) -> Result<(), Fault>
+    requires { R.can_read goals.now }
+    ensures { RunsAnywhere (R.reads goals.now) form.async_operand p.old p.new result }
+{
+    async_closure(goals, p)?;
+    p.refuse_at(OperatorFirst)
+}
+
+/// An operand that leaves, or what stands for itself, and all that goes on with it.
+#[tactic(auto, using(ssr_syntax_forms::proofs::Shared::run_also, ssr_syntax_forms::proofs::Shared::run_also_decide), unfolding(crate::specs::Expressions::leaving_or_postfix))]
+fn leaving_or_postfix<R: Reader>(
+    goals: &R,
+    p: &mut Parser<'_>,
+    m: &Mark<'_>,
+    place: ExprPlace,
+) -> Result<(), Fault>
+    requires { R.can_read goals.now }
+    ensures { RunsFrom (R.reads goals.now) (form.leaving_or_postfix place) m.now p.old p.new result }
+{
+    match place {
+        ExprPlace::Anywhere => {
+            if p.at_any(LeavingFirst) && goals.is_whole() {
+                leaving_operand(goals, p)
+            } else if goals.is_whole() && at_async_closure(p) {
+                async_operand(goals, p)
+            } else {
+                postfix_expr(goals, p, m, ExprPlace::Anywhere)
+            }
+        }
+        ExprPlace::BeforeBlock => postfix_expr(goals, p, m, ExprPlace::BeforeBlock),
+    }
+}
+
+/// ATTR_EXPR, or what stands for itself, and all that goes on with it.
+#[tactic(auto, using(ssr_syntax_forms::proofs::Shared::run_also), unfolding(crate::specs::Expressions::attributed_or_postfix))]
+fn attributed_or_postfix<R: Reader>(
+    goals: &R,
+    p: &mut Parser<'_>,
+    m: &Mark<'_>,
+    place: ExprPlace,
+) -> Result<(), Fault>
+    requires { R.can_read goals.now }
+    ensures { RunsFrom (R.reads goals.now) (form.attributed_or_postfix place) m.now p.old p.new result }
+{
+    if p.at(POUND) && goals.is_whole() {
+        attr_expr(goals, p, place)
+    } else {
+        leaving_or_postfix(goals, p, m, place)
+    }
+}
+
 /// An expression without a cast or an operator between operands, outside brackets.
 #[tactic(auto, unfolding(crate::specs::Expressions::unary))]
 pub fn unary<R: Reader>(
@@ -433,7 +529,7 @@ pub fn unary<R: Reader>(
     } else if p.at_any(PrefixOperators) {
         prefix_expr(goals, p, place)
     } else {
-        postfix_expr(goals, p, m, place)
+        attributed_or_postfix(goals, p, m, place)
     }
 }
 
@@ -656,7 +752,7 @@ fn leaving_or_ranked<R: Reader>(goals: &R, p: &mut Parser<'_>, m: &Mark<'_>) -> 
 }
 
 /// Any expression as it stands there.
-#[tactic(auto, using(ssr_syntax_forms::proofs::Shared::run_also_decide), unfolding(crate::specs::Expressions::expr))]
+#[tactic(auto, unfolding(crate::specs::Expressions::expr))]
 pub fn expr<R: Reader>(goals: &R, p: &mut Parser<'_>, place: ExprPlace) -> Result<(), Fault>
     requires { R.can_read goals.now }
     ensures { Runs (R.reads goals.now) (form.expr place) p.old p.new result }
@@ -664,8 +760,8 @@ pub fn expr<R: Reader>(goals: &R, p: &mut Parser<'_>, place: ExprPlace) -> Resul
     let m = p.start();
     match place {
         ExprPlace::Anywhere => {
-            if goals.is_whole() && at_async_closure(p) {
-                async_closure(goals, p)
+            if goals.is_whole() {
+                ranked(goals, p, &m, ExprPlace::Anywhere)
             } else {
                 leaving_or_ranked(goals, p, &m)
             }

@@ -23,4 +23,4 @@ pub use Rattle.ssr_syntax_forms.proofs.MemoryFree.{IsFree, no_tree, free-bind, f
 pub use Rattle.ssr_syntax_forms.proofs.Levels.{goals_spell, goals_sound, read_as_run, refused_as_run}
 pub use Rattle.ssr_syntax_forms.proofs.Cuts.{cut_goals}
 pub use Rattle.ssr_syntax_forms.proofs.Loops.{run_as_long_as, run_comma_list, run_decide}
-pub use Rattle.ssr_syntax_forms.proofs.Widening.{run_also, run_also_decide, run_choose_by, run_look_by, run_repeated_by, run_as_long_as_by, run_comma_by, run_comma_list_by}
+pub use Rattle.ssr_syntax_forms.proofs.Widening.{run_also, run_also_decide, run_settle, run_choose_by, run_look_by, run_repeated_by, run_as_long_as_by, run_comma_by, run_comma_list_by}

@@ -4,7 +4,7 @@ use Rattle.std.proofs.lemmas.Bool.{cases_Bool}
 use Rattle.ssr_syntax_kinds.specs.declared.kinds.SyntaxKind.{SyntaxKind}
 use Rattle.ssr_syntax_forms.specs.declared.fault.Fault.{Fault}
 use Rattle.ssr_syntax_forms.specs.declared.fault.Fault.TheVariants as faults
-use Rattle.ssr_syntax_forms.specs.Forms.{Productions, Form, one, child, mark, seal, ◌then◌, nothing, choose, many, look, check, wide, Test, at, also, also_decide, choose_by, look_by, repeated_by, as_long_as, as_long_as_by, comma_by, comma_list, comma_list_by, widened, in_reach, passes, agrees, holds, repeat, ◌>>=◌}
+use Rattle.ssr_syntax_forms.specs.Forms.{Productions, Form, one, child, mark, seal, ◌then◌, nothing, choose, many, look, check, wide, Test, at, also, also_decide, settle, choose_by, look_by, repeated_by, as_long_as, as_long_as_by, comma_by, comma_list, comma_list_by, widened, in_reach, passes, agrees, holds, repeat, ◌>>=◌}
 use Rattle.ssr_syntax_forms.specs.Parser.{State, Mark, mark_of, since, repeated, comma, comma_separated}
 use Rattle.ssr_syntax_forms.specs.Runs.{RunsBelow, runs_below, run, run_goal}
 use Rattle.ssr_syntax_forms.proofs.Loops.{run_as_long_as, run_comma_list, run_decide}
@@ -29,6 +29,17 @@ pub run_also_decide : {Goal : Type 0} (below : RunsBelow Goal) (test : Test) (f 
     → run below (also_decide test f g) m s ≡ (if below.is_whole then (if passes test s.rest then run below f m s else run below g m s) else run below g m s)
 unfolding also_decide
 run_also_decide below test f g m s = ap (λ r. if below.is_whole then r else run below g m s) (run_decide below test f g m s)
+
+either_way : {A : Type 0} (b : Bool) (x : A) → (if b then x else x) ≡ x
+either_way true x = refl
+either_way false x = refl
+
+pub run_settle : {Goal : Type 0} (below : RunsBelow Goal) (first : List SyntaxKind) (f g : Form Goal) (m : Mark) (s : State)
+    → run below (settle first f g) m s ≡ (if passes (at first) s.rest then run below f m s else run below g m s)
+unfolding settle
+run_settle below first f g m s =
+    let told : Result State Fault = if passes (at first) s.rest then run below f m s else run below g m s in
+    ap (λ r. if below.is_whole then r else told) (run_decide below (at first) f g m s) ∙ either_way below.is_whole told
 
 pub run_choose_by : {Goal : Type 0} (below : RunsBelow Goal) (first : Bool → List SyntaxKind) (f g : Form Goal) (m : Mark) (s : State)
     → run below (choose_by first f g) m s ≡ (if passes (at (first below.is_whole)) s.rest then run below f m s else run below g m s)

@@ -97,6 +97,10 @@ also first f g = wide (choose (at first) f g) g
 unfoldable pub also_decide : {Goal : Type 0} → Test → Form Goal → Form Goal → Form Goal
 also_decide test f g = wide (decide test f g) g
 
+-- what these kinds begin is the first form; only in all of Rust may they also stand behind the second one
+unfoldable pub settle : {Goal : Type 0} → List SyntaxKind → Form Goal → Form Goal → Form Goal
+settle first f g = wide (decide (at first) f g) (choose (at first) f g)
+
 unfoldable pub choose_by : {Goal : Type 0} → (Bool → List SyntaxKind) → Form Goal → Form Goal → Form Goal
 choose_by first f g = wide (choose (at (first true)) f g) (choose (at (first false)) f g)
 
