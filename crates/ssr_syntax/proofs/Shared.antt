@@ -1,7 +1,7 @@
 -- The laws of texts and their trees that the crates above may cite. The other files of lemmas here are this crate's own.
 
 -- what is read has a tree that fits, and the tokens of a file's tree are texts
-pub use Rattle.ssr_syntax.proofs.TextLaws.{file_sound, file_texts, file_read, fragment_sound, fragment_sound_of}
+pub use Rattle.ssr_syntax.proofs.TextLaws.{file_sound, file_sound_of, file_texts, file_texts_of, file_read, file_read_of, read_stated, fragment_sound, fragment_sound_of}
 pub use Rattle.ssr_syntax.proofs.ExpansionLaws.{expansion_sound}
 -- why a file isn't read
 pub use Rattle.ssr_syntax.proofs.MemoryFree.{file_needs_none}
