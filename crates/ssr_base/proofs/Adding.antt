@@ -4,7 +4,7 @@ use Rattle.std.specs.Prelude.{All, IsOk, IsErrAnd, IfOk, OnErr, nat_lt, not}
 use Rattle.std.specs.List.{list_all}
 use Rattle.std.specs.Option.{ok_or}
 use Rattle.ssr_syntax_tree.specs.Syntax.{Syntax}
-use Rattle.ssr_syntax.specs.Reading.{IsRead}
+use Rattle.ssr_syntax.specs.Reading.{IsReadOf}
 use Rattle.ssr_base_trees.specs.declared.ids.NodeId.{NodeId}
 use Rattle.ssr_base_trees.specs.Origins.{Span, fits_origin}
 use Rattle.ssr_base_trees.specs.Workspace.{Workspace, trees, text_at_top, nesting}
@@ -17,9 +17,9 @@ use Rattle.ssr_base.specs.Building.{◌>>=◌, unless, free_call, origin_of, che
 
 -- the trees of files stay as they are, whatever is answered
 pub still_read : {E : Type 0} (answer : Result (Unit {0}) E) (old new : Workspace) (call : NodeId) (tree : Syntax) (origins : List (Option Span))
-    → IfOk answer (λ _. new ≡ with_tree old call tree origins) → OnErr answer (new ≡ old) → All IsRead old.files → All IsRead new.files
-still_read (Ok x) old new call tree origins more same read = subst (λ (files : List Syntax). All IsRead files) (sym (ap (λ (w : Workspace). w.files) more)) read
-still_read (Err e) old new call tree origins more same read = subst (λ (files : List Syntax). All IsRead files) (sym (ap (λ (w : Workspace). w.files) same)) read
+    → IfOk answer (λ _. new ≡ with_tree old call tree origins) → OnErr answer (new ≡ old) → All (IsReadOf old.reach) old.files → All (IsReadOf new.reach) new.files
+still_read (Ok x) old new call tree origins more same read = subst (λ (w : Workspace). All (IsReadOf w.reach) w.files) (sym more) read
+still_read (Err e) old new call tree origins more same read = subst (λ (w : Workspace). All (IsReadOf w.reach) w.files) (sym same) read
 
 module _ (w : Workspace) (x : Expansion) where
   -- no call is refused for want of memory

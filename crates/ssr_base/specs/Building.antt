@@ -8,7 +8,7 @@ use Rattle.ssr_syntax_kinds.specs.declared.kinds.SyntaxKind.TheVariants as k
 use Rattle.ssr_syntax_kinds.specs.declared.range.TextRange.{TextRange}
 use Rattle.ssr_syntax_tree.specs.Syntax.{Token, Syntax, tokens_of}
 use Rattle.ssr_syntax_tree.specs.Places.{Node, nodes_of, start_of, end_of}
-use Rattle.ssr_syntax.specs.Reading.{IsRead, file_reading}
+use Rattle.ssr_syntax.specs.Reading.{IsReadOf, file_reading}
 use Rattle.ssr_syntax.specs.Expansions.{expansion_reading}
 use Rattle.ssr_syntax.specs.declared.syntax_error.SyntaxError.{SyntaxError}
 use Rattle.ssr_syntax.specs.declared.syntax_error.SyntaxError.TheVariants as syntax
@@ -46,11 +46,11 @@ in_turn step w (x ∷ xs) = step w x >>= λ grown. in_turn step grown xs
 abbrev pub with_file : Workspace → String Global → Result Workspace WorkspaceError
 with_file w text = do
   tree ← read_as (errors.File (length w.files)) (file_reading (string_bytes text))
-  Ok (record { files = w.files ++ tree ∷ []; expansions = w.expansions })
+  Ok (record { reach = w.reach; files = w.files ++ tree ∷ []; expansions = w.expansions })
 
--- each file's tree is the reading of the file's text
+-- each file's tree is the reading of the file's text, in the workspace's reach
 abbrev pub AreRead : Workspace → Type 0
-AreRead w = All IsRead w.files
+AreRead w = All (IsReadOf w.reach) w.files
 
 -- ** Expansions.
 

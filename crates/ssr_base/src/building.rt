@@ -6,12 +6,12 @@ ghost use Rattle.std.specs.Option.{option_map};
 ghost use Rattle.ssr_syntax_tree.specs.Syntax.{node_count, tokens_of};
 ghost use Rattle.ssr_syntax_tree.specs.Places.{HasNode, node_of};
 ghost use Rattle.ssr_base_trees.specs.Workspace.{trees, text_at_top};
-ghost use Rattle.ssr_syntax.specs.Reading.{IsRead, file_reading};
+ghost use Rattle.ssr_syntax.specs.Reading.{IsRead, IsReadOf, file_reading};
 ghost use Rattle.ssr_syntax.specs.Expansions.{expansion_reading};
 ghost use Rattle.ssr_base_trees.specs.Origins.{covered, fits_origin, plain_origin};
 ghost use Rattle.ssr_base_trees.specs.Built.{most_trees};
 ghost use Rattle.ssr_base.specs.Building.{read_as, with_file, with_expansion, in_turn, is_call, first_call, free_call, checked_call, origin_of, count_in, cover_of_tokens, joined_origins, added, Gives, Answers};
-ghost use Rattle.ssr_base_trees.specs.Growth.{no_tree, only_files};
+ghost use Rattle.ssr_base_trees.specs.Growth.{no_tree, only_files, only_files_of};
 ghost use Rattle.ssr_base.specs.declared.workspace_error.WorkspaceError.TheVariants as errors;
 ghost use Rattle.ssr_base.specs.Private.Finding.{NodesBefore, NodesFrom};
 
@@ -21,7 +21,7 @@ use ssr_base_trees::{Cover, NodeId, Trees};
 use ssr_syntax::{
     ExpToken, ExpansionKind, SyntaxError, SyntaxKind, parse_file_owned, parse_tokens,
 };
-use ssr_syntax_kinds::TextRange;
+use ssr_syntax_kinds::{Reach, TextRange};
 use ssr_syntax_tree::{NodeNo, TokenNo, Tree};
 use std::alloc::{AllocError, Global};
 
@@ -269,8 +269,17 @@ impl Workspace {
         requires read { All IsRead trees.items }
         ensures { result ≡ only_files trees.items }
     {
+        Workspace::of_trees_of(alloc, Reach::Stated, trees)
+    }
+
+    /// The same, where so much of Rust is read.
+    pub fn of_trees_of(alloc: Global, reach: Reach, trees: Vec<Tree>) -> Workspace
+        requires few { length trees.items ≤ most_trees }
+        requires read { All (IsReadOf reach) trees.items }
+        ensures { result ≡ only_files_of reach trees.items }
+    {
         Workspace {
-            trees: Trees::of_files(alloc, trees),
+            trees: Trees::of_files_of(alloc, reach, trees),
         }
     }
 

@@ -62,7 +62,7 @@ in_turn_same row step alike w (x ∷ xs) (y ∷ ys) same =
 file_same : (w : Workspace) (x y : String Global) → string_bytes x ≡ string_bytes y → with_file w x ≡ with_file w y
 file_same w x y same =
     ap (λ bytes. read_as (errors.File (length w.files)) (file_reading bytes)
-    >>= (λ tree. Ok (record { files = w.files ++ tree ∷ []; expansions = w.expansions }))) same
+    >>= (λ tree. Ok (record { reach = w.reach; files = w.files ++ tree ∷ []; expansions = w.expansions }))) same
 
 -- ** Tokens.
 

@@ -16,4 +16,4 @@ mod standing;
 pub use agreeing::agree;
 pub use expansions::SearchedFile;
 pub use ranges::{new_ranges, new_ranges_from, old_ranges, old_ranges_from};
-pub use standing::stands;
+pub use standing::{stands, stands_of};

@@ -188,7 +188,7 @@ fragment_alone_of reach fragment text s (raw, e, outside, fits) =
     (alone_in (is_mixing fits.0) fits.1 ts whole.children_alone, alone-lossless fits.1 behind_front whole.all_alone, tt))
 
 -- the identifiers of a fragment's tree
-fragment_idents_of : (reach : Reach) (fragment : Fragment) (text : List ℕ) (s : Syntax) → FitsFragmentOf reach fragment text s
+pub fragment_idents_of : (reach : Reach) (fragment : Fragment) (text : List ℕ) (s : Syntax) → FitsFragmentOf reach fragment text s
     → (raw : List RawToken) × (tokens (trimmed text) ≡ Some raw) × (idents (tokens_of s) ≡ idents (pieces (trimmed text) raw))
 fragment_idents_of reach fragment text s (raw, e, outside, fits) =
     let inner : List ℕ = trimmed text in

@@ -22,7 +22,7 @@ use Rattle.ssr_syntax_forms.specs.Trees.{Forest, done, tree, height}
 use Rattle.ssr_syntax_rows.specs.Leaves.{leaves}
 use Rattle.ssr_syntax_forms.proofs.Shared.{IsShallow, shallow_of, goals_by_rules}
 use Rattle.ssr_syntax_rows.specs.Lossless.{whole_tree, IsTrimmed}
-use Rattle.ssr_syntax.specs.Reading.{reading, most_levels, IsRead, one_tree, tree_reading, unless_misnamed, lexed_reading, short_reading, file_reading, file_reading_of, fragment_reading, fragment_reading_of, trimmed, goal_of, error_of, Answers, AnswersTrimmed, FitsTokens, FitsFileOf, FitsFragmentOf, IsTreeOfFile, IsTreeOfFileOf, IsTreeOfFragment, IsTreeOfFragmentOf, IsThatOrTooDeep, IsLexFault, Refuses}
+use Rattle.ssr_syntax.specs.Reading.{reading, most_levels, IsRead, IsReadOf, one_tree, tree_reading, unless_misnamed, lexed_reading, short_reading, file_reading, file_reading_of, fragment_reading, fragment_reading_of, trimmed, goal_of, error_of, Answers, AnswersTrimmed, FitsTokens, FitsFileOf, FitsFragmentOf, IsTreeOfFile, IsTreeOfFileOf, IsTreeOfFragment, IsTreeOfFragmentOf, IsThatOrTooDeep, IsLexFault, Refuses}
 use Rattle.ssr_syntax_rows.specs.Solid.{pieces, begins_solid, solid_tokens}
 use Rattle.ssr_syntax_rows.specs.MacroRules.{misnames_macros}
 use Rattle.ssr_syntax_rows.proofs.Shared.{AreSolid, trimmed-whole, trimmed-root, IsUtf8-trim, trim_shorter, whole-depth, whole-source, whole-texts}
@@ -367,6 +367,16 @@ one_fragment reach fragment text a b (raw, e, out, f) (raws, d, outside, g) =
     let same : raws ≡ raw = cc (d, e) in
     one_tokens reach (goal_of fragment) (trimmed text) raw a b f (subst (λ ts. FitsTokens reach (goal_of fragment) (trimmed text) ts b) same g)
 
+pub file_read_of : (reach : Reach) (text : List ℕ) (s : Syntax) → IsUtf8 text → file_reading_of reach text ≡ Ok s → IsReadOf reach s
+file_read_of reach text s utf8 e =
+    let spells = (file_sound_of reach text s utf8 e).spells in
+    record { text = subst IsUtf8 (sym spells) utf8; reading = ap (file_reading_of reach) spells ∙ e }
+
+pub file_answers_read_of : (reach : Reach) (text : List ℕ) (r : Result Syntax SyntaxError) → IsUtf8 text → Answers r (file_reading_of reach text) text
+    → IfOk r (IsReadOf reach)
+file_answers_read_of reach text (Ok s) utf8 h = file_read_of reach text s utf8 h
+file_answers_read_of reach text (Err e) utf8 h = tt
+
 -- ** Of the stated language.
 
 pub file_sound : (text : List ℕ) (s : Syntax) → IsUtf8 text → file_reading text ≡ Ok s → IsTreeOfFile text s
@@ -390,3 +400,7 @@ pub fragment_sound : (fragment : Fragment) (text : List ℕ) (s : Syntax) → Is
     → IsTreeOfFragment fragment text s
 unfolding fragment_reading
 fragment_sound fragment text s utf8 e = fragment_sound_of Stated fragment text s utf8 e
+
+pub read_stated : (s : Syntax) → IsRead s → IsReadOf Stated s
+unfolding file_reading
+read_stated s is = record { text = is.text; reading = is.reading }

@@ -195,6 +195,11 @@ pub record IsTreeOfFragmentOf (reach : Reach) (fragment : Fragment) (text : List
 abbrev pub IsTreeOfFragment : Fragment → List ℕ → Syntax → Type 0
 IsTreeOfFragment fragment text syntax = IsTreeOfFragmentOf Stated fragment text syntax
 
+-- a tree is the reading in a reach of the text that it spells
+pub record IsReadOf (reach : Reach) (syntax : Syntax) : Type 0 where
+  pub text : IsUtf8 (source_of syntax)
+  pub reading : file_reading_of reach (source_of syntax) ≡ Ok syntax
+
 -- a tree is the reading of the text that it spells
 pub record IsRead (syntax : Syntax) : Type 0 where
   pub text : IsUtf8 (source_of syntax)

@@ -2,7 +2,7 @@
 ghost use Rattle.std.specs.Prelude.{◌≡◌, ◌<◌, ◌≤◌, ◌^◌, List, length, Some, IfOk, IfErr, string_bytes};
 ghost use Rattle.ssr_syntax.specs.declared.syntax_error.SyntaxError.TheVariants.{TooLong};
 ghost use Rattle.ssr_syntax_lex.specs.Tokens.{tokens, rows_in};
-ghost use Rattle.ssr_syntax.specs.Reading.{Answers, AnswersTrimmed, tree_reading, file_reading, file_reading_of, fragment_reading, fragment_reading_of, FitsFile, FitsFileOf, FitsFragment, FitsFragmentOf, IsRead, IsTreeOfFile, IsTreeOfFileOf, IsTreeOfFragment, IsTreeOfFragmentOf, IsThatOrTooDeep};
+ghost use Rattle.ssr_syntax.specs.Reading.{Answers, AnswersTrimmed, tree_reading, file_reading, file_reading_of, fragment_reading, fragment_reading_of, FitsFile, FitsFileOf, FitsFragment, FitsFragmentOf, IsRead, IsReadOf, IsTreeOfFile, IsTreeOfFileOf, IsTreeOfFragment, IsTreeOfFragmentOf, IsThatOrTooDeep};
 ghost use Rattle.ssr_syntax.specs.Private.Reading.{IsLexed, IsCut, IsWritten};
 ghost use Rattle.ssr_syntax_lex.specs.declared.tokens.RawToken.{RawToken};
 ghost use Rattle.ssr_syntax_kinds.specs.declared.reach.Reach.{Reach};
@@ -119,6 +119,7 @@ pub fn parse_file(alloc: Global, text: &str) -> Result<Tree, SyntaxError>
 pub fn parse_file_of(alloc: Global, reach: Reach, text: &str) -> Result<Tree, SyntaxError>
     ensures answers { Answers result (file_reading_of reach text.now) text.now }
     ensures sound { IfOk result (λ tree. IsTreeOfFileOf reach text.now tree) }
+    ensures read { IfOk result (IsReadOf reach) }
     ensures complete { (syntax : Syntax) → length text.now < 2 ^ 32 → FitsFileOf reach text.now syntax
         → IsThatOrTooDeep (λ tree. tree) syntax result }
 {
@@ -141,6 +142,7 @@ pub fn parse_file_owned(alloc: Global, text: String) -> Result<Tree, SyntaxError
 pub fn parse_file_owned_of(alloc: Global, reach: Reach, text: String) -> Result<Tree, SyntaxError>
     ensures answers { Answers result (file_reading_of reach (string_bytes text)) (string_bytes text) }
     ensures sound { IfOk result (λ tree. IsTreeOfFileOf reach (string_bytes text) tree) }
+    ensures read { IfOk result (IsReadOf reach) }
     ensures complete { (syntax : Syntax) → length (string_bytes text) < 2 ^ 32 → FitsFileOf reach (string_bytes text) syntax
         → IsThatOrTooDeep (λ tree. tree) syntax result }
 {

@@ -4,7 +4,7 @@ use Rattle.std.proofs.lemmas.Str.{IsUtf8-string_bytes}
 use Rattle.ssr_syntax_lex.specs.Tokens.{rows_in}
 use Rattle.ssr_syntax.specs.Reading.{Answers, file_reading_of}
 use Rattle.ssr_syntax.proofs.Texts.{told_on}
-use Rattle.ssr_syntax.proofs.TextLaws.{file_fault, file_lexed, file_answers, file_complete}
+use Rattle.ssr_syntax.proofs.TextLaws.{file_fault, file_lexed, file_answers, file_answers_read_of, file_complete}
 use Rattle.ssr_syntax.proofs.TextRows.{known_rows}
 use Rattle.ssr_syntax.proofs.reading.parse_file_owned_of.Goals as goal
 use Rattle.ssr_syntax.proofs.reading.parse_file_owned_of.Goals.{After-read_tokens}
@@ -35,6 +35,11 @@ returns-clause-answers c = reads (goal.at.returns-clause-answers c).After-read_t
 pub returns-clause-sound : goal.returns-clause-sound
 returns-clause-sound c =
     file_answers c.args.reach (string_bytes c.args.text) c.read_tokens.result (IsUtf8-string_bytes c.args.text) (reads (goal.at.returns-clause-sound c).After-read_tokens)
+
+pub returns-clause-read : goal.returns-clause-read
+returns-clause-read c =
+    file_answers_read_of c.args.reach (string_bytes c.args.text) c.read_tokens.result (IsUtf8-string_bytes c.args.text)
+    (reads (goal.at.returns-clause-read c).After-read_tokens)
 
 pub returns-clause-complete : goal.returns-clause-complete
 returns-clause-complete c syntax short fits =
