@@ -2,3 +2,11 @@
 pub mod Complete
 pub mod Scopes
 pub mod Locals
+pub mod Meanings
+pub mod Lookup
+pub mod Found
+pub mod Settled
+pub mod WholePaths
+pub mod Printed
+pub mod CodePaths
+pub mod Rows

@@ -1,5 +1,8 @@
 //! By which path a scope reaches a definition.
 
+ghost use Rattle.std.specs.Prelude.{◌≡◌, true, IfOk, IfSome, OnOk, string_bytes};
+ghost use Rattle.ssr_names.specs.Private.Printed.{IsPieceAdded, IsPrinted, IsSpelled, LeadsIn, LeadsTo, is_in, text_of_start};
+
 use crate::definitions::{Definition, Meaning, OutsideNo};
 use crate::lookup::{PathQuestion, Question};
 use crate::outside::OutsidePaths;
@@ -53,7 +56,9 @@ impl Written {
     }
 
     /// Whether it is written in a namespace.
-    fn is_in(self, namespace: Namespace) -> bool {
+    fn is_in(self, namespace: Namespace) -> bool
+        ensures { result ≡ is_in self namespace }
+    {
         match namespace {
             Namespace::Type => self.as_type,
             Namespace::Value => self.as_value,
@@ -98,6 +103,17 @@ fn first_namespace(names: &[Name], namespace: Namespace) -> Namespace {
         Namespace::Type
     } else {
         namespace
+    }
+}
+
+/// What a path begins with as text.
+fn text_of_start(start: Start) -> &'static str
+    ensures { result.now ≡ text_of_start start }
+{
+    match start {
+        Start::Crate => "crate::",
+        Start::Global => "::",
+        _ => "",
     }
 }
 
@@ -207,13 +223,18 @@ impl<'p> Printer<'p> {
         outside: &mut OutsidePaths,
         path: PathQuestion<'_>,
         written: Written,
-    ) -> Result<bool, AllocError> {
+    ) -> Result<bool, AllocError>
+        ensures { IfOk result (λ leads. leads ≡ true → LeadsTo self.now.space.now path.entry written) }
+    {
+        if !self.leads_at(outside, path, written)? {
+            return Ok(false);
+        }
         for copy in self.space.copies(path.module) {
             let there = PathQuestion {
                 module: copy.module,
                 ..path
             };
-            if !self.leads_at(outside, there, written)? {
+            if copy.module != path.module && !self.leads_at(outside, there, written)? {
                 return Ok(false);
             }
         }
@@ -226,14 +247,28 @@ impl<'p> Printer<'p> {
         outside: &mut OutsidePaths,
         path: PathQuestion<'_>,
         written: Written,
-    ) -> Result<bool, AllocError> {
-        for namespace in NAMESPACES {
-            let question = PathQuestion { namespace, ..path };
-            if written.is_in(namespace) && !self.leads_in(outside, question, written)? {
-                return Ok(false);
-            }
+    ) -> Result<bool, AllocError>
+        ensures { IfOk result (λ leads. leads ≡ true → LeadsTo self.now.space.now path.entry written) }
+    {
+        Ok(self.leads_as(outside, path, written, Namespace::Type)?
+            && self.leads_as(outside, path, written, Namespace::Value)?
+            && self.leads_as(outside, path, written, Namespace::Macro)?)
+    }
+
+    /// Whether a path that is written in a module leads to a definition there in a namespace, if it is written in that.
+    fn leads_as(
+        &self,
+        outside: &mut OutsidePaths,
+        path: PathQuestion<'_>,
+        written: Written,
+        namespace: Namespace,
+    ) -> Result<bool, AllocError>
+        ensures { IfOk result (λ leads. leads ≡ true → is_in written namespace ≡ true → LeadsIn self.now.space.now path.entry namespace written.definition) }
+    {
+        if !written.is_in(namespace) {
+            return Ok(true);
         }
-        Ok(true)
+        self.leads_in(outside, PathQuestion { namespace, ..path }, written)
     }
 
     /// Whether a path leads to a definition in one namespace.
@@ -242,9 +277,11 @@ impl<'p> Printer<'p> {
         outside: &mut OutsidePaths,
         path: PathQuestion<'_>,
         written: Written,
-    ) -> Result<bool, AllocError> {
+    ) -> Result<bool, AllocError>
+        ensures { IfOk result (λ leads. leads ≡ true → LeadsIn self.now.space.now path.entry path.entry.namespace written.definition) }
+    {
         let answer = self.space.whole_path(self.alloc, outside, path)?;
-        Ok(answer.meaning == Meaning::One(written.definition) && self.begins_surely(outside, path)?)
+        Ok(answer.meaning.is(written.definition) && self.begins_surely(outside, path)?)
     }
 
     /// Whether the first name of a path is there in each configuration, or nothing around has it and it is one that is there
@@ -312,7 +349,9 @@ impl<'p> Printer<'p> {
         text: &mut String,
         name: &str,
         edition: Option<Edition>,
-    ) -> Result<(), AllocError> {
+    ) -> Result<(), AllocError>
+        ensures { OnOk result (IsPieceAdded text.old text.new name.now) }
+    {
         if is_keyword(name, edition) {
             text.push_str("r#")?;
         }
@@ -320,21 +359,16 @@ impl<'p> Printer<'p> {
     }
 
     /// A path as text that is written in a module.
-    fn text(&self, module: ModuleNo, start: Start, names: &[Name]) -> Result<String, AllocError> {
+    fn text(&self, module: ModuleNo, start: Start, names: &[Name]) -> Result<String, AllocError>
+        ensures { IfOk result (λ text. IsSpelled self.now.space.now start names.now (string_bytes text)) }
+    {
         let edition = self.space.edition(module);
-        let mut text = String::from_str(
-            self.alloc,
-            match start {
-                Start::Crate => "crate::",
-                Start::Global => "::",
-                _ => "",
-            },
-        )?;
-        for (place, name) in names.iter().enumerate() {
+        let mut text = String::from_str(self.alloc, text_of_start(start))?;
+        for place in 0..names.len() {
             if place > 0 {
                 text.push_str("::")?;
             }
-            self.push_name(&mut text, self.space.text(*name), edition)?;
+            self.push_name(&mut text, self.space.text(names[place]), edition)?;
         }
         Ok(text)
     }
@@ -347,7 +381,9 @@ impl<'p> Printer<'p> {
         start: Start,
         names: &[Name],
         written: Written,
-    ) -> Result<Option<String>, AllocError> {
+    ) -> Result<Option<String>, AllocError>
+        ensures { IfOk result (λ text. IfSome text (IsPrinted self.now.space.now «module» written)) }
+    {
         let path = PathQuestion {
             start,
             names,
@@ -368,7 +404,9 @@ impl<'p> Printer<'p> {
         module: ModuleNo,
         path: &[Name],
         written: Written,
-    ) -> Result<Option<String>, AllocError> {
+    ) -> Result<Option<String>, AllocError>
+        ensures { IfOk result (λ text. IfSome text (IsPrinted self.now.space.now «module» written)) }
+    {
         for length in 1..=path.len() {
             let names = last_names(path, length);
             if self.may_be_hidden(module, names, written) {
@@ -403,7 +441,9 @@ impl<'p> Printer<'p> {
         module: ModuleNo,
         whole: &WholePath,
         written: Written,
-    ) -> Result<Option<String>, AllocError> {
+    ) -> Result<Option<String>, AllocError>
+        ensures { IfOk result (λ text. IfSome text (IsPrinted self.now.space.now «module» written)) }
+    {
         let names = self.with_crate(whole)?;
         let text = self.text_if_leads(outside, module, Start::Plain, &names, written)?;
         if text.is_some() {
@@ -423,7 +463,9 @@ impl<'p> Printer<'p> {
         module: ModuleNo,
         names: &[Name],
         written: Written,
-    ) -> Result<Option<String>, AllocError> {
+    ) -> Result<Option<String>, AllocError>
+        ensures { IfOk result (λ text. IfSome text (IsPrinted self.now.space.now «module» written)) }
+    {
         let mut changed = Vec::from_slice(self.alloc, names)?;
         let Some(first) = changed.get_mut(0) else {
             return Ok(None);
@@ -443,7 +485,9 @@ impl<'p> Printer<'p> {
         module: ModuleNo,
         whole: &WholePath,
         written: Written,
-    ) -> Result<Option<String>, AllocError> {
+    ) -> Result<Option<String>, AllocError>
+        ensures { IfOk result (λ text. IfSome text (IsPrinted self.now.space.now «module» written)) }
+    {
         if whole.root.is_some() {
             let names = whole.names.as_slice();
             let text = self.text_if_leads(outside, module, Start::Crate, names, written)?;
@@ -461,7 +505,9 @@ impl<'p> Printer<'p> {
         outside: &mut OutsidePaths,
         module: ModuleNo,
         template: &Template,
-    ) -> Result<Option<String>, AllocError> {
+    ) -> Result<Option<String>, AllocError>
+        ensures { IfOk result (λ text. IfSome text (IsPrinted self.now.space.now «module» template.now.written)) }
+    {
         if !self.space.has_all_copies(module) {
             return Ok(None);
         }
@@ -490,7 +536,9 @@ impl<'p> Printer<'p> {
         outside: &mut OutsidePaths,
         module: ModuleNo,
         template: &Template,
-    ) -> Result<Option<String>, AllocError> {
+    ) -> Result<Option<String>, AllocError>
+        ensures { IfOk result (λ text. IfSome text (IsPrinted self.now.space.now «module» template.now.written)) }
+    {
         for way in &template.ways {
             if let Some(mut path) = self.module_path(way.module)? {
                 path.names.push(way.name)?;
