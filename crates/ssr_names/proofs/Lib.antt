@@ -5,5 +5,3 @@ mod Binding
 mod LookingUp
 mod Following
 mod Settling
-mod Telling
-mod Spelling

@@ -8,5 +8,3 @@ pub mod Found
 pub mod Settled
 pub mod WholePaths
 pub mod Printed
-pub mod CodePaths
-pub mod Rows

@@ -1,7 +1,7 @@
 //! By which path a scope reaches a definition.
 
-ghost use Rattle.std.specs.Prelude.{◌≡◌, true, IfOk, IfSome, OnOk, string_bytes};
-ghost use Rattle.ssr_names.specs.Private.Printed.{IsPieceAdded, IsPrinted, IsSpelled, LeadsIn, LeadsTo, is_in, text_of_start};
+ghost use Rattle.std.specs.Prelude.{◌≡◌, true, IfOk, IfSome};
+ghost use Rattle.ssr_names.specs.Private.Printed.{IsReached, LeadsIn, LeadsTo, is_in};
 
 use crate::definitions::{Definition, Meaning, OutsideNo};
 use crate::lookup::{PathQuestion, Question};
@@ -103,17 +103,6 @@ fn first_namespace(names: &[Name], namespace: Namespace) -> Namespace {
         Namespace::Type
     } else {
         namespace
-    }
-}
-
-/// What a path begins with as text.
-fn text_of_start(start: Start) -> &'static str
-    ensures { result.now ≡ text_of_start start }
-{
-    match start {
-        Start::Crate => "crate::",
-        Start::Global => "::",
-        _ => "",
     }
 }
 
@@ -349,9 +338,7 @@ impl<'p> Printer<'p> {
         text: &mut String,
         name: &str,
         edition: Option<Edition>,
-    ) -> Result<(), AllocError>
-        ensures { OnOk result (IsPieceAdded text.old text.new name.now) }
-    {
+    ) -> Result<(), AllocError> {
         if is_keyword(name, edition) {
             text.push_str("r#")?;
         }
@@ -359,16 +346,21 @@ impl<'p> Printer<'p> {
     }
 
     /// A path as text that is written in a module.
-    fn text(&self, module: ModuleNo, start: Start, names: &[Name]) -> Result<String, AllocError>
-        ensures { IfOk result (λ text. IsSpelled self.now.space.now start names.now (string_bytes text)) }
-    {
+    fn text(&self, module: ModuleNo, start: Start, names: &[Name]) -> Result<String, AllocError> {
         let edition = self.space.edition(module);
-        let mut text = String::from_str(self.alloc, text_of_start(start))?;
-        for place in 0..names.len() {
+        let mut text = String::from_str(
+            self.alloc,
+            match start {
+                Start::Crate => "crate::",
+                Start::Global => "::",
+                _ => "",
+            },
+        )?;
+        for (place, name) in names.iter().enumerate() {
             if place > 0 {
                 text.push_str("::")?;
             }
-            self.push_name(&mut text, self.space.text(names[place]), edition)?;
+            self.push_name(&mut text, self.space.text(*name), edition)?;
         }
         Ok(text)
     }
@@ -382,7 +374,7 @@ impl<'p> Printer<'p> {
         names: &[Name],
         written: Written,
     ) -> Result<Option<String>, AllocError>
-        ensures { IfOk result (λ text. IfSome text (IsPrinted self.now.space.now «module» written)) }
+        ensures { IfOk result (λ text. IfSome text (λ _. IsReached self.now.space.now «module» written)) }
     {
         let path = PathQuestion {
             start,
@@ -405,7 +397,7 @@ impl<'p> Printer<'p> {
         path: &[Name],
         written: Written,
     ) -> Result<Option<String>, AllocError>
-        ensures { IfOk result (λ text. IfSome text (IsPrinted self.now.space.now «module» written)) }
+        ensures { IfOk result (λ text. IfSome text (λ _. IsReached self.now.space.now «module» written)) }
     {
         for length in 1..=path.len() {
             let names = last_names(path, length);
@@ -442,7 +434,7 @@ impl<'p> Printer<'p> {
         whole: &WholePath,
         written: Written,
     ) -> Result<Option<String>, AllocError>
-        ensures { IfOk result (λ text. IfSome text (IsPrinted self.now.space.now «module» written)) }
+        ensures { IfOk result (λ text. IfSome text (λ _. IsReached self.now.space.now «module» written)) }
     {
         let names = self.with_crate(whole)?;
         let text = self.text_if_leads(outside, module, Start::Plain, &names, written)?;
@@ -464,7 +456,7 @@ impl<'p> Printer<'p> {
         names: &[Name],
         written: Written,
     ) -> Result<Option<String>, AllocError>
-        ensures { IfOk result (λ text. IfSome text (IsPrinted self.now.space.now «module» written)) }
+        ensures { IfOk result (λ text. IfSome text (λ _. IsReached self.now.space.now «module» written)) }
     {
         let mut changed = Vec::from_slice(self.alloc, names)?;
         let Some(first) = changed.get_mut(0) else {
@@ -486,7 +478,7 @@ impl<'p> Printer<'p> {
         whole: &WholePath,
         written: Written,
     ) -> Result<Option<String>, AllocError>
-        ensures { IfOk result (λ text. IfSome text (IsPrinted self.now.space.now «module» written)) }
+        ensures { IfOk result (λ text. IfSome text (λ _. IsReached self.now.space.now «module» written)) }
     {
         if whole.root.is_some() {
             let names = whole.names.as_slice();
@@ -506,7 +498,7 @@ impl<'p> Printer<'p> {
         module: ModuleNo,
         template: &Template,
     ) -> Result<Option<String>, AllocError>
-        ensures { IfOk result (λ text. IfSome text (IsPrinted self.now.space.now «module» template.now.written)) }
+        ensures { IfOk result (λ text. IfSome text (λ _. IsReached self.now.space.now «module» template.now.written)) }
     {
         if !self.space.has_all_copies(module) {
             return Ok(None);
@@ -537,7 +529,7 @@ impl<'p> Printer<'p> {
         module: ModuleNo,
         template: &Template,
     ) -> Result<Option<String>, AllocError>
-        ensures { IfOk result (λ text. IfSome text (IsPrinted self.now.space.now «module» template.now.written)) }
+        ensures { IfOk result (λ text. IfSome text (λ _. IsReached self.now.space.now «module» template.now.written)) }
     {
         for way in &template.ways {
             if let Some(mut path) = self.module_path(way.module)? {

@@ -1,15 +1,11 @@
 //! The provider of a run, read of its sources.
-ghost use Rattle.std.specs.Prelude.{◌≡◌, List, None, IfOk, IfSome, OnOk, All};
+ghost use Rattle.std.specs.Prelude.{◌≡◌, List, None, IfOk, OnOk, All};
 ghost use Rattle.std.specs.BTreeMap.{insert_entry};
 ghost use Rattle.ssr_base_trees.specs.contracts.ids.NodeIdOrd.TheImpl as id_order;
 ghost use Rattle.ssr_base_trees.specs.Built.{IsBuilt};
 ghost use Rattle.ssr_base_trees.specs.Workspace.{PlacedTree, trees as placed};
 ghost use Rattle.ssr_names.specs.Locals.{TellsNoLocal};
 ghost use Rattle.ssr_names.specs.Private.Locals.{CollectsAll, HasNoLocal, IsRight};
-ghost use Rattle.ssr_names.specs.Private.Printed.{ArePrinted};
-ghost use Rattle.ssr_names.specs.Private.Rows.{AreKnown, IsAdded, TellsRow};
-ghost use Rattle.ssr_names.specs.declared.scopes.TreeScopes.{TreeScopes};
-ghost use Rattle.ssr_names_items.specs.declared.table.Name.{Name};
 
 use crate::definitions::{Definition, Meaning};
 use crate::imports::settle;
@@ -129,8 +125,7 @@ fn add_row(
     row: Row,
     rows: &mut PathRows,
 ) -> Result<(), AllocError>
-    ensures local { (trees : List PlacedTree) → IsRight trees row → HasNoLocal trees rows.old.known.entries → OnOk result (HasNoLocal trees rows.new.known.entries) }
-    ensures told { (stranger : Name) (scopes : List TreeScopes) (trees : List PlacedTree) → TellsRow space.now stranger scopes trees row → AreKnown space.now stranger scopes trees wanted.now.definitions.items rows.old.known → OnOk result (AreKnown space.now stranger scopes trees wanted.now.definitions.items rows.new.known) }
+    ensures { (trees : List PlacedTree) → IsRight trees row → HasNoLocal trees rows.old.known.entries → OnOk result (HasNoLocal trees rows.new.known.entries) }
 {
     let Some(definition) = definition_of(row) else {
         return add_undecided(alloc, space, wanted, row, rows);
@@ -143,8 +138,7 @@ fn add_row(
 
 /// The definition that a path stands for, if that is known.
 fn definition_of(row: Row) -> Option<Definition>
-    ensures unknown { row.meaning ≡ Meaning.Unknown → result ≡ None }
-    ensures known { IfSome result (λ d. row.meaning ≡ Meaning.One d) }
+    ensures { row.meaning ≡ Meaning.Unknown → result ≡ None }
 {
     match row.meaning {
         Meaning::One(definition) => Some(definition),
@@ -154,8 +148,7 @@ fn definition_of(row: Row) -> Option<Definition>
 
 /// Adds a path that stands for what a rule asks for.
 fn add_known(node: NodeId, number: DefId, rows: &mut PathRows) -> Result<(), AllocError>
-    ensures entries { OnOk result (rows.new.known.entries ≡ insert_entry ((id_order.ghosts).cmp) rows.old.known.entries node (Res.Def number)) }
-    ensures known { OnOk result (IsAdded rows.old.known rows.new.known node (Res.Def number)) }
+    ensures { OnOk result (rows.new.known.entries ≡ insert_entry ((id_order.ghosts).cmp) rows.old.known.entries node (Res.Def number)) }
 {
     rows.known.insert(node, Res::Def(number))?;
     rows.believed.insert(node, Res::Def(number))?;
@@ -206,8 +199,7 @@ fn path_rows(
     wanted: &Wanted,
     found: &[Row],
 ) -> Result<PathRows, AllocError>
-    ensures local { (trees : List PlacedTree) → All (IsRight trees) found.now → IfOk result (λ rows. HasNoLocal trees rows.known.entries) }
-    ensures told { (stranger : Name) (scopes : List TreeScopes) (trees : List PlacedTree) → All (TellsRow space.now stranger scopes trees) found.now → IfOk result (λ rows. AreKnown space.now stranger scopes trees wanted.now.definitions.items rows.known) }
+    ensures { (trees : List PlacedTree) → All (IsRight trees) found.now → IfOk result (λ rows. HasNoLocal trees rows.known.entries) }
 {
     let mut rows = PathRows {
         known: BTreeMap::new(alloc),
@@ -249,36 +241,12 @@ fn add_printed(
     wanted: &Wanted,
     scope: ScopeId,
     printed: &mut BTreeMap<PrintedKey, String>,
-) -> Result<(), AllocError>
-    ensures { ArePrinted printer.now.space.now wanted.now printed.old → OnOk result (ArePrinted printer.now.space.now wanted.now printed.new) }
-{
-    for place in 0..wanted.infos.len() {
-        if place <= u32::MAX as usize {
-            let key = PrintedKey {
-                scope,
-                def: DefId(place as u32),
-            };
-            add_text(printer, outside, wanted, key, printed)?;
+) -> Result<(), AllocError> {
+    for (def, template) in wanted.written.iter() {
+        let key = PrintedKey { scope, def: *def };
+        if let Some(text) = printer.path_from(outside, ModuleNo(scope.0), template)? {
+            printed.insert(key, text)?;
         }
-    }
-    Ok(())
-}
-
-/// The path by which a module reaches a definition that is written.
-fn add_text(
-    printer: &Printer<'_>,
-    outside: &mut OutsidePaths,
-    wanted: &Wanted,
-    key: PrintedKey,
-    printed: &mut BTreeMap<PrintedKey, String>,
-) -> Result<(), AllocError>
-    ensures { ArePrinted printer.now.space.now wanted.now printed.old → OnOk result (ArePrinted printer.now.space.now wanted.now printed.new) }
-{
-    let Some(template) = wanted.written.get(&key.def) else {
-        return Ok(());
-    };
-    if let Some(text) = printer.path_from(outside, ModuleNo(key.scope.0), template)? {
-        printed.insert(key, text)?;
     }
     Ok(())
 }
@@ -288,9 +256,7 @@ fn all_printed(
     printer: &Printer<'_>,
     outside: &mut OutsidePaths,
     wanted: &Wanted,
-) -> Result<BTreeMap<PrintedKey, String>, AllocError>
-    ensures { IfOk result (ArePrinted printer.now.space.now wanted.now) }
-{
+) -> Result<BTreeMap<PrintedKey, String>, AllocError> {
     let mut printed = BTreeMap::new(printer.alloc);
     if wanted.written.is_empty() {
         return Ok(printed);
@@ -312,8 +278,7 @@ fn found_rows(
 ) -> Result<(Vec<Row>, Vec<BoundIn>), AllocError>
     requires built { IsBuilt resolver.source.now.trees.now }
     requires collected { CollectsAll (placed resolver.source.now.trees.now) words.now }
-    ensures local { IfOk result (λ found. All (IsRight (placed resolver.entry.source.now.trees.now)) found.0.items) }
-    ensures told { IfOk result (λ found. All (TellsRow resolver.entry.space.now resolver.entry.source.now.stranger resolver.entry.scopes.now.trees.items (placed resolver.entry.source.now.trees.now)) found.0.items) }
+    ensures { IfOk result (λ found. All (IsRight (placed resolver.entry.source.now.trees.now)) found.0.items) }
 {
     let (bound, bound_in) = resolver.bound(outside, words.binders.as_slice())?;
     let locals = Locals {
@@ -350,8 +315,7 @@ fn all_rows(
 ) -> Result<(PathRows, Vec<BoundIn>), AllocError>
     requires built { IsBuilt resolver.source.now.trees.now }
     requires collected { CollectsAll (placed resolver.source.now.trees.now) words.now }
-    ensures local { IfOk result (λ all. HasNoLocal (placed resolver.entry.source.now.trees.now) all.0.known.entries) }
-    ensures told { IfOk result (λ all. AreKnown resolver.entry.space.now resolver.entry.source.now.stranger resolver.entry.scopes.now.trees.items (placed resolver.entry.source.now.trees.now) wanted.now.definitions.items all.0.known) }
+    ensures { IfOk result (λ all. HasNoLocal (placed resolver.entry.source.now.trees.now) all.0.known.entries) }
 {
     let (found, bound_in) = found_rows(resolver, outside, words)?;
     let (alloc, space) = (resolver.source.alloc, resolver.space);

@@ -2,7 +2,6 @@
 
 ghost use Rattle.std.specs.Prelude.{ℕ, ◌≡◌, ◌≤◌, ◌-◌, true, false, not, take, drop, length, None, All, Contains, IfOk, IfSome};
 ghost use Rattle.ssr_names_items.specs.declared.table.Entry.{Entry};
-ghost use Rattle.ssr_names_items.specs.Names.{text_of};
 ghost use Rattle.std.specs.Option.{option_copied};
 ghost use Rattle.std.specs.List.Sorted.{IsPartitionPoint};
 ghost use Rattle.ssr_names.specs.Private.Meanings.{Means};
@@ -263,9 +262,7 @@ impl<'a> Space<'a> {
         self.table.imports.get(import.0 as usize)
     }
 
-    pub(crate) fn text(&self, name: Name) -> &str
-        ensures { result.now ≡ text_of self.now.table.now.names name }
-    {
+    pub(crate) fn text(&self, name: Name) -> &str {
         self.table.names.text(name)
     }
 
