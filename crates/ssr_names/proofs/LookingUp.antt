@@ -1,10 +1,10 @@
 -- What is found among entries, what comes in by `*`, and what blocks have around them.
-use Rattle.std.proofs.Common.{◌≡◌, ℕ, zero, suc, ◌+◌, ◌-◌, ◌<◌, ◌≤◌, Bool, true, false, true≢false, List, [], ◌∷◌, ◌++◌, length, take, drop, get_or, slice_get, Contains, All, Option, Some, None, refl, sym, ap, ◌∙◌, subst, inl, inr, ◌⊎◌, ltb-true, arith, add-one, length-take, length-drop, get_or-take, get_or-drop}
+use Rattle.std.proofs.Common.{◌≡◌, ℕ, zero, suc, ◌+◌, ◌-◌, ◌<◌, ◌≤◌, Bool, true, false, ◌&&◌, true≢false, List, [], ◌∷◌, ◌++◌, length, take, drop, get_or, slice_get, Contains, All, Option, Some, None, refl, sym, ap, ◌∙◌, subst, inl, inr, ◌⊎◌, ltb-true, arith, add-one, length-take, length-drop, get_or-take, get_or-drop}
 use Rattle.std.proofs.Math.Seq.{take-suc}
 use Rattle.std.proofs.lemmas.Bool.Decides.{nat_tests}
 use Rattle.std.proofs.lemmas.List.Elements.{All-take, All-drop, All-same, All-push, All-contains, All-contains_itself, Contains-append_left, Contains-push}
-use Rattle.std.proofs.lemmas.Option.{none-some, same_Some, slice_get_within}
-use Rattle.std.specs.List.Sorted.{IsPartitionPoint}
+use Rattle.std.proofs.lemmas.Option.{none-some, same_Some, slice_get_within, get_or_from_slice_get}
+use Rattle.std.specs.List.Sorted.{IsNonDecreasingBy, IsPartitionedBy, IsPartitionPoint}
 use Rattle.std.specs.Prelude.{not, nat_lt}
 use Rattle.ssr_names_items.specs.declared.table.Name.{Name}
 use Rattle.ssr_names_items.specs.declared.table.ModuleNo.{ModuleNo}
@@ -20,7 +20,11 @@ use Rattle.ssr_names.specs.declared.lookup.Question.{Question}
 use Rattle.ssr_names.specs.declared.lookup.Found.{Found}
 use Rattle.ssr_names.specs.declared.space.Space.{Space}
 use Rattle.ssr_names.specs.Private.Lookup.{rank_of, is_before, is_behind, is_declared, is_import, Counts, IsDeclared, IsRanked, IsAbove, IsAmong, HasSure, Finds, IsBrought, IsBroughtIn, IsDeclaredAs, IsUnread, IsEverywhere, IsFoundAmong, IsInModule, IsSurelyAround, IsNothing, IsAroundBlock, IsFree, IsOrdered, IsOutermost, IsTop, IsWithin, StandsFor, module_at, within_itself, within_below, found_here, found_around, found_everywhere, surely_here, has_declared, has_brought, surely_declared, surely_brought, Reaches}
-use Rattle.ssr_names.specs.Private.Found.{Adds, Hides, Joins}
+use Rattle.ssr_names_items.specs.declared.table.Namespace.TheVariants as ns
+use Rattle.ssr_names_items.specs.declared.table.Visibility.TheVariants as visible
+use Rattle.ssr_names.specs.declared.definitions.Meaning.{Meaning}
+use Rattle.ssr_names.specs.Private.Meanings.{is_something}
+use Rattle.ssr_names.specs.Private.Found.{Adds, Hides, Joins, found_of}
 use Rattle.ssr_names.proofs.Climbing.{one_more, none_in}
 
 -- ** Parts of lists.
@@ -30,6 +34,17 @@ pub part_all : {X : Type 0} (xs ys : List X) (n m : ℕ) → ys ≡ take n (drop
 part_all xs ys n m is = All-same (Contains xs) ys (take n (drop m xs)) is (All-take (Contains xs) n (drop m xs) (All-drop (Contains xs) m xs (All-contains_itself xs)))
 
 -- ** The entries of a rank.
+
+-- entries that stand in order are parted by each rank
+pub before_parts : (entries : List Entry) → IsNonDecreasingBy rank_of entries → (r : ℕ) → IsPartitionedBy (λ e. is_before e r) entries
+before_parts entries up r i j d le within test =
+    let less : rank_of (get_or entries i d) ≤ rank_of (get_or entries j d) = up i j d le within in
+    grind (arith, nat_tests)
+
+pub behind_parts : (entries : List Entry) → IsNonDecreasingBy rank_of entries → (r : ℕ) → IsPartitionedBy (λ e. not (is_behind e r)) entries
+behind_parts entries up r i j d le within test =
+    let less : rank_of (get_or entries i d) ≤ rank_of (get_or entries j d) = up i j d le within in
+    grind (arith, nat_tests)
 
 module _ (entries : List Entry) (r first past : ℕ)
     (before : IsPartitionPoint (λ e. is_before e r ≡ true) (λ e. is_before e r ≡ false) entries first)
@@ -284,3 +299,23 @@ reached_more space root asked old new i added reaches all =
       | inl same ↦ subst (All (Reaches space root asked)) (sym same) all
       | inr more ↦ subst (All (Reaches space root asked)) (sym more) (All-push (Reaches space root asked) old i all reaches)
     ]
+
+-- ** Small things.
+
+-- an entry, where none is there
+abbrev pub no_entry : Entry
+no_entry = record { «module» = record { 0 = 0 }; name = record { 0 = 0 }; namespace = ns.Type; thing = things.Item (record { 0 = 0 }); visibility = visible.Public; is_sure = false }
+
+both_left : (a b : Bool) → (a && b) ≡ true → a ≡ true
+both_left true b is = refl
+both_left false b is = is
+
+pub of_means : (m : Meaning) (sure : Bool) (found : Found) (d : Definition) → found ≡ found_of m sure → found.meaning ≡ meanings.One d → m ≡ meanings.One d
+of_means m sure found d is means = sym (ap (λ (f : Found). f.meaning) is) ∙ means
+
+pub of_sure : (m : Meaning) (sure : Bool) (found : Found) → found ≡ found_of m sure → found.is_sure ≡ true → sure ≡ true
+of_sure m sure found is surely = both_left sure (is_something m) (sym (ap (λ (f : Found). f.is_sure) is) ∙ surely)
+
+pub all_at : {X : Type 0} (P : X → Type 0) (xs : List X) (k : ℕ) (x : X) → All P xs → Some x ≡ slice_get xs k → P x
+all_at P xs k x all is =
+    subst P (get_or_from_slice_get xs k x x (sym is)) (all k x (slice_get_within xs k x (sym is)))

@@ -6,12 +6,12 @@ ghost use Rattle.ssr_names_items.specs.declared.table.ModuleNo.{ModuleNo};
 ghost use Rattle.ssr_names_items.specs.declared.table.Name.{Name};
 ghost use Rattle.ssr_names.specs.declared.lookup.Question.{Question};
 ghost use Rattle.ssr_names.specs.Private.Meanings.{Means, is_something};
-ghost use Rattle.ssr_names.specs.Private.Lookup.{Begins, Counts, Finds, IsAround, IsAsked, IsBase, IsBehind, IsBrought, IsBroughtIn, IsDeclaredAs, IsEverywhere, IsFoundAmong, IsFront, IsFrontOf, IsGlob, IsInModule, IsInRoot, IsNothing, IsOfCrate, IsOrdered, IsOutside, IsUnaliased, IsUnread, IsVariant, PathStandsFor, Reaches, StandsFor, is_declared, is_import, place_of};
+ghost use Rattle.ssr_names.specs.Private.Lookup.{Begins, Counts, Finds, IsAround, IsAsked, IsBase, IsBehind, IsBrought, IsBroughtIn, IsDeclaredAs, IsEverywhere, IsFoundAmong, IsFront, IsFrontOf, IsGlob, IsInModule, IsInRoot, IsNothing, IsOfCrate, IsOrdered, IsOutside, IsUnaliased, IsUnread, IsVariant, IsVoid, PathStandsFor, Reaches, StandsFor, is_declared, is_import, place_of};
 ghost use Rattle.ssr_names.specs.Private.Found.{Adds, Hides, Joins, found_of};
 
 use crate::definitions::{Definition, Meaning, OutsideNo};
 use crate::outside::OutsidePaths;
-use crate::space::{Member, Space, between};
+use crate::space::{Member, Space, between, is_same};
 use crate::std_names::{brought_by_glob, is_builtin_type, is_in_type_module};
 use ssr_names_items::{
     Brings, Edition, Entry, ImportNo, ItemKind, ItemNo, ModuleKind, ModuleNo, Name, Namespace, Owner,
@@ -217,7 +217,7 @@ impl<'a> Space<'a> {
     pub(crate) fn entry_meaning(&self, entry: &Entry, question: Question) -> Meaning
         ensures stands { Means result (StandsFor self.now question.namespace entry.now.thing) }
         ensures nothing { result ≡ Meaning.Nothing → IsNothing self.now question.namespace entry.now.thing }
-        ensures something { is_something result ≡ true → ¬ IsNothing self.now question.namespace entry.now.thing }
+        ensures something { is_something result ≡ true → ¬ IsVoid self.now question.namespace entry.now.thing }
     {
         match entry.thing {
             Thing::Item(item) => Meaning::One(Definition::Item(self.first_item(item))),
@@ -332,9 +332,10 @@ impl<'a> Space<'a> {
         ensures { (root : ModuleNo) (asked : Question) → All (Reaches self.now root asked) walk.old.imports.items → ((i : ImportNo) → IsGlob self.now «module» question i → Reaches self.now root asked i) → OnOk result (All (Reaches self.now root asked) walk.new.imports.items) }
     {
         for glob in self.globs_of(module) {
-            if self.is_glob(module, glob.import, question) {
-                walk.add(glob.import)?;
+            if !self.is_glob(module, glob.import, question) {
+                continue;
             }
+            walk.add(glob.import)?;
         }
         Ok(())
     }
@@ -346,10 +347,16 @@ impl<'a> Space<'a> {
         let Some(import) = self.import(number) else {
             return false;
         };
-        matches!(import.brings, Brings::Glob)
-            && import.module.0 == module.0
-            && !is_left_out(question.skipped, number)
-            && self.is_seen(import.visibility, question.viewer)
+        if !is_same(import.module, module) {
+            return false;
+        }
+        if is_left_out(question.skipped, number) {
+            return false;
+        }
+        match import.brings {
+            Brings::Glob => self.is_seen(import.visibility, question.viewer),
+            _ => false,
+        }
     }
 
     /// What a name is that comes in by `*`.

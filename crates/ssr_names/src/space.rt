@@ -164,6 +164,14 @@ fn is_behind(entry: &Entry, other: u64) -> bool
     other < rank(entry.module, entry.name)
 }
 
+/// Whether two modules are one.
+pub(crate) fn is_same(one: ModuleNo, other: ModuleNo) -> bool
+    ensures yes { result ≡ true → one ≡ other }
+    ensures no { result ≡ false → ¬ (one ≡ other) }
+{
+    one.0 == other.0
+}
+
 /// What stands in a sorted list from one place on to before another one.
 pub(crate) fn between<T>(list: &[T], first: usize, past: usize) -> &[T]
     ensures part { (n : ℕ) × (m : ℕ) × (result.now ≡ take n (drop m list.now)) }
@@ -419,7 +427,7 @@ impl<'a> Space<'a> {
     {
         let mut at = module;
         for step in 0..self.table.modules.len() {
-            if at.0 == outer.0 {
+            if is_same(at, outer) {
                 return true;
             }
             let Some(up) = self.above(at) else {
@@ -427,7 +435,7 @@ impl<'a> Space<'a> {
             };
             at = up;
         }
-        at.0 == outer.0
+        is_same(at, outer)
     }
 
     /// Whether something with this visibility is seen in a module.

@@ -10,7 +10,7 @@ use Rattle.ssr_names.specs.declared.lookup.Question.{Question}
 use Rattle.ssr_names.specs.declared.lookup.Found.{Found}
 use Rattle.ssr_names.specs.declared.space.Space.{Space}
 use Rattle.ssr_names.specs.Private.Meanings.{is_something}
-use Rattle.ssr_names.specs.Private.Lookup.{Counts, IsNothing, IsOrdered, StandsFor}
+use Rattle.ssr_names.specs.Private.Lookup.{Counts, IsNothing, IsOrdered, IsVoid, StandsFor}
 
 abbrev pub found_of : Meaning → Bool → Found
 found_of m sure = record { meaning = m; is_sure = sure && is_something m }
@@ -30,6 +30,6 @@ pub record Joins (one other found : Found) : Type 0 where
 -- what is found with one entry more
 pub record Adds (space : Space) (m : ModuleNo) (question : Question) (entry : Entry) (picks : Thing → Bool) (old new : Found) : Type 0 where
   pub means : (d : Definition) → new.meaning ≡ meaning.One d → (old.meaning ≡ meaning.One d) ⊎ (Counts space m question entry × StandsFor space question.namespace entry.thing d)
-  pub sure : new.is_sure ≡ true → (old.is_sure ≡ true) ⊎ (Counts space m question entry × (entry.is_sure ≡ true) × (IsNothing space question.namespace entry.thing → ⊥))
+  pub sure : new.is_sure ≡ true → (old.is_sure ≡ true) ⊎ (Counts space m question entry × (entry.is_sure ≡ true) × (IsVoid space question.namespace entry.thing → ⊥))
   pub unsure : new.is_sure ≡ false → (old.is_sure ≡ false) × (IsOrdered space → picks entry.thing ≡ true → Counts space m question entry → entry.is_sure ≡ true
       → IsNothing space question.namespace entry.thing)

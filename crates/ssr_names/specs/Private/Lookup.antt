@@ -40,6 +40,11 @@ use Rattle.ssr_names.specs.declared.space.Space.{Space}
 
 -- ** What is declared.
 
+-- a path of a crate that isn't read
+pub record IsOutside (d : Definition) : Type 0 where
+  pub path : OutsideNo
+  pub is : d ≡ def.Outside path
+
 abbrev pub module_at : Space → ModuleNo → Option Module
 module_at space m = slice_get space.table.now.modules.items m.0
 
@@ -152,6 +157,11 @@ IsNothing space n (things.Import i) = answer_of space i n ≡ meanings.Nothing
 IsNothing space n things.Unknown = Unit {0}
 IsNothing space n t = ⊥
 
+-- an import that has no such name
+abbrev pub IsVoid : Space → Namespace → Thing → Type 0
+IsVoid space n (things.Import i) = answer_of space i n ≡ meanings.Nothing
+IsVoid space n t = ⊥
+
 abbrev pub is_import : Thing → Bool
 is_import (things.Import i) = true
 is_import t = false
@@ -175,7 +185,7 @@ pub record HasSure (space : Space) (m : ModuleNo) (question : Question) (entries
   pub among : Contains entries entry
   pub counts : Counts space m question entry
   pub sure : entry.is_sure ≡ true
-  pub something : IsNothing space question.namespace entry.thing → ⊥
+  pub something : IsVoid space question.namespace entry.thing → ⊥
 
 -- what is found among entries, of which those are looked at that are picked
 pub record IsFoundAmong (space : Space) (m : ModuleNo) (question : Question) (entries : List Entry) (picks : Thing → Bool) (found : Found) : Type 0 where
@@ -275,11 +285,6 @@ pub record IsInModule (space : Space) (m : ModuleNo) (question : Question) (foun
   pub free : found.is_sure ≡ false → IsFree space m question
 
 -- ** What a name stands for in a module.
-
--- a path of a crate that isn't read
-pub record IsOutside (d : Definition) : Type 0 where
-  pub path : OutsideNo
-  pub is : d ≡ def.Outside path
 
 -- what is known under a name everywhere: a crate, a builtin type, or what the prelude has
 pub data IsEverywhere (space : Space) (question : Question) : Definition → Type 0 where

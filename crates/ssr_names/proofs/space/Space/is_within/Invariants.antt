@@ -5,7 +5,7 @@ use Rattle.ssr_names.proofs.space.Space.is_within.Given as goal
 
 abbrev pub invariant-loop-step : goal.invariant-loop-step
 invariant-loop-step l = record {
-  inside : (outer : ModuleNo) → IsWithin l.self l.at outer → IsWithin l.self l.«module» outer;
-  outside : IsWithin l.self l.«module» l.outer → IsWithin l.self l.at l.outer;
-  climbs : Climbs l.self l.«module» l.at l.step;
+  inside : (outer : ModuleNo) → IsWithin l.self l.at outer → IsWithin l.self l.fn.«module» outer;
+  outside : IsWithin l.self l.fn.«module» l.outer → IsWithin l.self l.at l.outer;
+  climbs : Climbs l.self l.fn.«module» l.at l.step;
 }

@@ -5,6 +5,6 @@ use Rattle.ssr_names.proofs.space.Space.plain_module.Given as goal
 
 abbrev pub invariant-loop-step : goal.invariant-loop-step
 invariant-loop-step l = record {
-  inside : (plain : ModuleNo) → IsInBlocks l.self l.at plain → IsInBlocks l.self l.«module» plain;
-  climbs : Climbs l.self l.«module» l.at l.step;
+  inside : (plain : ModuleNo) → IsInBlocks l.self l.at plain → IsInBlocks l.self l.fn.«module» plain;
+  climbs : Climbs l.self l.fn.«module» l.at l.step;
 }

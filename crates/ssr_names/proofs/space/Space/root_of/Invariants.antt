@@ -5,6 +5,6 @@ use Rattle.ssr_names.proofs.space.Space.root_of.Given as goal
 
 abbrev pub invariant-loop-step : goal.invariant-loop-step
 invariant-loop-step l = record {
-  inside : (outer : ModuleNo) → IsWithin l.self l.at outer → IsWithin l.self l.«module» outer;
-  climbs : Climbs l.self l.«module» l.at l.step;
+  inside : (outer : ModuleNo) → IsWithin l.self l.at outer → IsWithin l.self l.fn.«module» outer;
+  climbs : Climbs l.self l.fn.«module» l.at l.step;
 }

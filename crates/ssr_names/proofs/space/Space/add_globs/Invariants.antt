@@ -3,7 +3,7 @@ use Rattle.ssr_names_items.specs.declared.table.ImportNo.{ImportNo}
 use Rattle.ssr_names_items.specs.declared.table.ModuleNo.{ModuleNo}
 use Rattle.ssr_names.specs.declared.lookup.Question.{Question}
 use Rattle.ssr_names.specs.Private.Lookup.{IsGlob, Reaches}
-use Rattle.ssr_names.proofs.lookup.Space.add_globs.Given as goal
+use Rattle.ssr_names.proofs.space.Space.add_globs.Given as goal
 
 abbrev pub invariant-loop-glob : goal.invariant-loop-glob
 invariant-loop-glob l =

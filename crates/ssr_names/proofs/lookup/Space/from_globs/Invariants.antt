@@ -1,9 +1,0 @@
-use Rattle.std.proofs.Common.{All}
-use Rattle.ssr_names.specs.Private.Lookup.{IsBroughtIn, Reaches}
-use Rattle.ssr_names.proofs.lookup.Space.from_globs.Given as goal
-
-abbrev pub invariant-loop-place : goal.invariant-loop-place
-invariant-loop-place l = record {
-  reached : All (Reaches l.self l.«module» l.question) l.walk.imports.items;
-  brought : IsBroughtIn l.self l.«module» l.question l.found;
-}
