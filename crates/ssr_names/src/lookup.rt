@@ -1,12 +1,12 @@
 //! What names and paths stand for where they are written.
 
-ghost use Rattle.std.specs.Prelude.{◌≡◌, ◌⊎◌, true, false, Some, List, [], ◌∷◌, ◌++◌, All, Contains, IfOk, IfSome, OnOk};
+ghost use Rattle.std.specs.Prelude.{◌≡◌, ◌⊎◌, true, false, Some, List, [], ◌∷◌, ◌++◌, slice_get, All, Contains, IfOk, IfSome, OnOk};
 ghost use Rattle.ssr_names_items.specs.declared.table.ImportNo.{ImportNo};
 ghost use Rattle.ssr_names_items.specs.declared.table.ModuleNo.{ModuleNo};
 ghost use Rattle.ssr_names_items.specs.declared.table.Name.{Name};
 ghost use Rattle.ssr_names.specs.declared.lookup.Question.{Question};
 ghost use Rattle.ssr_names.specs.Private.Meanings.{Means, is_something};
-ghost use Rattle.ssr_names.specs.Private.Lookup.{Begins, Counts, Finds, IsAround, IsAsked, IsBase, IsBehind, IsBrought, IsBroughtIn, IsDeclaredAs, IsEverywhere, IsFoundAmong, IsFront, IsFrontOf, IsGlob, IsInModule, IsInRoot, IsNothing, IsOfCrate, IsOrdered, IsOutside, IsUnaliased, IsUnread, IsVariant, IsVoid, PathStandsFor, Reaches, StandsFor, is_declared, is_import, place_of};
+ghost use Rattle.ssr_names.specs.Private.Lookup.{Begins, Counts, Finds, IsAround, IsAsked, IsBase, IsBehind, IsBrought, IsBroughtIn, IsDeclaredAs, IsEverywhere, IsFoundAmong, IsFront, IsFrontOf, IsGlob, IsInModule, IsInRoot, IsNothing, IsOfBuiltin, IsOfCrate, IsOrdered, IsOutside, IsUnaliased, IsUnread, IsUp, IsVariant, IsVoid, PathStandsFor, Reaches, StandsFor, is_declared, is_import, place_of};
 ghost use Rattle.ssr_names.specs.Private.Found.{Adds, Hides, Joins, found_of};
 
 use crate::definitions::{Definition, Meaning, OutsideNo};
@@ -131,6 +131,13 @@ impl GlobWalk {
             imports: Vec::new(alloc),
             seen: BTreeSet::new(alloc),
         }
+    }
+
+    /// The import at a place.
+    fn at(&self, place: usize) -> Option<ImportNo>
+        ensures { result ≡ slice_get self.now.imports.items place }
+    {
+        self.imports.get(place).copied()
     }
 
     fn add(&mut self, import: ImportNo) -> Result<(), AllocError>
@@ -376,7 +383,7 @@ impl<'a> Space<'a> {
         let mut walk = GlobWalk::new(alloc);
         self.add_globs(&mut walk, module, question)?;
         for place in 0..self.globs.len() {
-            let Some(import) = walk.imports.get(place).copied() else {
+            let Some(import) = walk.at(place) else {
                 break;
             };
             let brought = self.brought(outside, &mut walk, import, question)?;
@@ -602,7 +609,7 @@ impl<'a> Space<'a> {
 
     /// The builtin type of a name.
     fn as_builtin(&self, question: Question) -> Meaning
-        ensures { Means result (IsEverywhere self.now question) }
+        ensures { Means result (IsOfBuiltin self.now question) }
     {
         match self.builtin_type(question.name) {
             Some(definition) if question.namespace == Namespace::Type => Meaning::One(definition),

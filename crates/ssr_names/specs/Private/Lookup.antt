@@ -364,6 +364,9 @@ asked_in place n name = record { name = name; namespace = n; viewer = place.with
 abbrev pub IsOfCrate : Space → Question → Definition → Type 0
 IsOfCrate space question d = (question.namespace ≡ ns.Type) × IsKnown space.crates.items question.name d
 
+abbrev pub IsOfBuiltin : Space → Question → Definition → Type 0
+IsOfBuiltin space question d = (question.namespace ≡ ns.Type) × IsKnown space.builtin_types.items question.name d
+
 -- what a name stands for in a root, or as that of a crate
 pub record IsInRoot (space : Space) (m : ModuleNo) (question : Question) (d : Definition) : Type 0 where
   pub root : ModuleNo

@@ -43,14 +43,14 @@ pub returns-after-is_sure-clause-brought : goal.returns-after-is_sure-clause-bro
 returns-after-is_sure-clause-brought c =
     let row = c.in-Some.import.now in
     let is_row : import_at c.args.self.now c.args.number ≡ Some row = sym c.in-Some.ensures in
-    let here : answer_of c.args.self.now c.args.number ns.Type ≡ meanings.One (def.Item c.in-One-Item-2.item) = cc in
+    let here : answer_of c.args.self.now c.args.number ns.Type ≡ meanings.One (def.Item c.in-One-Item.item) = cc in
     let of = c.of-in-One-Item-2 in
     let surely : c.if-is_sure.of ≡ true → row.is_sure ≡ true = λ is. elim c.if-is_sure.branch [
         | then-is_sure w ↦ w.if-is_sure.true
         | else-is_sure w ↦ sym w.of-is ∙ is
       ] in
     record {
-      means = λ d is. brings_of_enum d c.in-One-Item-2.item here (c.variant-meaning.ensures d (of_means _ _ of.result d of.ensures is));
+      means = λ d is. brings_of_enum d c.in-One-Item.item here (c.variant-meaning.ensures d (of_means _ _ of.result d of.ensures is));
       sure = λ sure. (row, is_row, surely (of_sure _ _ of.result of.ensures sure));
     }
 

@@ -20,7 +20,7 @@ loop-place-preserved c =
     let m = c.args.«module» in
     let q = c.args.question in
     let l = c.loop-place in
-    let here = all_at (Reaches space m q) l.walk.imports.items l.place c.in-Some.import l.invariant.reached (c.in-Some.ensures ∙ c.get.ensures.value) in
+    let here = all_at (Reaches space m q) l.walk.imports.items l.place c.in-Some.import l.invariant.reached c.in-Some.ensures in
     record {
       reached = c.in_ok-brought.ensures.reached m l.invariant.reached here;
       brought = brought_more space m q c.in-Some.import l.found c.in_ok-brought.brought c.join-found.result here l.invariant.brought c.in_ok-brought.ensures.brought c.join-found.ensures;
