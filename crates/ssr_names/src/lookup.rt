@@ -942,15 +942,17 @@ impl<'a> Space<'a> {
             viewer: path.module,
             skipped: path.import,
         };
-        let meaning = match front {
-            Front::Empty => self.first(alloc, outside, path, question)?,
-            Front::Behind(definition) => self.behind(alloc, outside, definition, question)?,
-            Front::Ended(answer) => return Ok(answer),
-        };
-        Ok(PathAnswer {
-            meaning,
-            name: Some(step.name),
-        })
+        match front {
+            Front::Empty => Ok(PathAnswer {
+                meaning: self.first(alloc, outside, path, question)?,
+                name: Some(step.name),
+            }),
+            Front::Behind(definition) => Ok(PathAnswer {
+                meaning: self.behind(alloc, outside, definition, question)?,
+                name: Some(step.name),
+            }),
+            Front::Ended(answer) => Ok(answer),
+        }
     }
 
     /// What a path stands for in a namespace, where it is known what the names in front of the last one stand for.

@@ -1,11 +1,11 @@
 //! The names of a run, ready to be looked up.
 
-ghost use Rattle.std.specs.Prelude.{ℕ, ◌≡◌, ◌≤◌, ◌-◌, true, false, not, take, drop, length, None, All, Contains, IfOk, IfSome};
+ghost use Rattle.std.specs.Prelude.{ℕ, ◌≡◌, ◌≤◌, ◌-◌, true, false, not, take, drop, length, slice_get, None, All, Contains, IfOk, IfSome};
 ghost use Rattle.ssr_names_items.specs.declared.table.Entry.{Entry};
 ghost use Rattle.std.specs.Option.{option_copied};
 ghost use Rattle.std.specs.List.Sorted.{IsPartitionPoint};
 ghost use Rattle.ssr_names.specs.Private.Meanings.{Means};
-ghost use Rattle.ssr_names.specs.Private.Lookup.{IsAbove, IsAroundBlock, IsKnown, IsOrdered, IsOutermost, IsOutside, IsParent, IsPlain, IsRanked, IsRoot, IsSeen, IsTop, IsWithin, answer_of, first_of, import_at, in_namespace, is_before, is_behind, item_at, module_at, rank};
+ghost use Rattle.ssr_names.specs.Private.Lookup.{IsAbove, IsAlias, IsAroundBlock, IsKnown, IsOrdered, IsOutermost, IsOutside, IsParent, IsPlain, IsRanked, IsRoot, IsSeen, IsTop, IsWithin, answer_of, first_of, import_at, in_namespace, is_before, is_behind, item_at, module_at, rank};
 
 use crate::copies::{MOST_COPIES, ModulePlace};
 use crate::definitions::{Definition, Meaning, OutsideNo};
@@ -335,12 +335,21 @@ impl<'a> Space<'a> {
     }
 
     /// What a type alias is an alias of.
-    pub(crate) fn aliased(&self, item: ItemNo) -> Meaning {
+    pub(crate) fn aliased(&self, item: ItemNo) -> Meaning
+        ensures { Means result (IsAlias self.now item) }
+    {
         let place = self.aliases.partition_point(|alias| alias.item < item);
-        match self.aliases.get(place) {
-            Some(alias) if alias.item == item => alias.meaning,
+        match self.alias_at(place) {
+            Some(alias) if alias.item.0 == item.0 => alias.meaning,
             _ => Meaning::Unknown,
         }
+    }
+
+    /// The alias at a place.
+    fn alias_at(&self, place: usize) -> Option<Alias>
+        ensures { result ≡ slice_get self.now.aliases.items place }
+    {
+        self.aliases.get(place).copied()
     }
 
     pub(crate) fn crate_named(&self, name: Name) -> Option<Definition>

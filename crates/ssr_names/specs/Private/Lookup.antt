@@ -380,10 +380,14 @@ pub data Begins (space : Space) (place : Place) (question : Question) : Definiti
   begins_globally : (d : Definition) → place.start ≡ starts.Global → IsInRoot space place.within question d ⊎ IsOfCrate space question d → Begins space place question d
   begins_based : (base : ModuleNo) (d : Definition) → IsBase space place.within place.start base → Has space base question d → Begins space place question d
 
+-- an item is an alias of a definition
+abbrev pub IsAlias : Space → ItemNo → Definition → Type 0
+IsAlias space i d = Contains space.aliases.items (record { item = i; meaning = meanings.One d })
+
 -- what a definition is, where that is a type alias what it is an alias of
 pub data IsUnaliased (space : Space) : Definition → Definition → Type 0 where
   no_alias : (d : Definition) → IsUnaliased space d d
-  by_alias : (i : ItemNo) (d : Definition) → Contains space.aliases.items (record { item = i; meaning = meanings.One d }) → IsUnaliased space (def.Item i) d
+  by_alias : (i : ItemNo) (d : Definition) → IsAlias space i d → IsUnaliased space (def.Item i) d
 
 -- what a name behind a definition stands for
 pub data IsBehind (space : Space) (question : Question) (c : Definition) : Definition → Type 0 where
