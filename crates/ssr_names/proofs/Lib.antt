@@ -4,4 +4,3 @@ mod Collecting
 mod Binding
 mod LookingUp
 mod Following
-mod Settling

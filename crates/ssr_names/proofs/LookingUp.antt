@@ -71,8 +71,7 @@ module _ (entries : List Entry) (r first past : ℕ)
       let one : had.0 < first → ⊥ = not_before had.0 had.1 had.2 in
       let other : past ≤ had.0 → ⊥ = not_behind had.0 had.1 had.2 in
       let at : first + (had.0 - first) ≡ had.0 = omega arith in
-      let small : had.0 - first < past - first = omega arith in
-      (
+      let small : had.0 - first < past - first = omega arith in (
         had.0 - first,
         simp (length-take, length-drop) (omega arith),
         rw (get_or-take, get_or-drop) (ap (λ k. get_or entries k e) at ∙ had.2),
@@ -101,18 +100,18 @@ module _ (space : Space) (m : ModuleNo) (question : Question) (entries : List En
       → IsFoundAmong space m question (take (i + 1) entries) picks new
   found_more old new adds so_far = record {
     means = λ d means. elim (adds.means d means) [
-        | inl had ↦ wider d (so_far.means d had)
-        | inr one ↦ record { entry = entry; among = last; counts = one.0; stands = one.1 }
-      ];
+      | inl had ↦ wider d (so_far.means d had)
+      | inr one ↦ record { entry = entry; among = last; counts = one.0; stands = one.1 }
+    ];
     sure = λ sure. elim (adds.sure sure) [
-        | inl had ↦ surer (so_far.sure had)
-        | inr one ↦ record { entry = entry; among = last; counts = one.0; sure = one.1; something = one.2 }
-      ];
+      | inl had ↦ surer (so_far.sure had)
+      | inr one ↦ record { entry = entry; among = last; counts = one.0; sure = one.1; something = one.2 }
+    ];
     free = λ unsure ordered e had. elim (one_more entries i entry e within is had) [
-        | inl before ↦ so_far.free (adds.unsure unsure).0 ordered e before
-        | inr same ↦ subst (λ (e : Entry). picks e.thing ≡ true → Counts space m question e → e.is_sure ≡ true → IsNothing space question.namespace e.thing) same
-            ((adds.unsure unsure).1 ordered)
-      ];
+      | inl before ↦ so_far.free (adds.unsure unsure).0 ordered e before
+      | inr same ↦ subst (λ (e : Entry). picks e.thing ≡ true → Counts space m question e → e.is_sure ≡ true → IsNothing space question.namespace e.thing) same
+          ((adds.unsure unsure).1 ordered)
+    ];
   }
 
 pub found_nothing : (space : Space) (m : ModuleNo) (question : Question) (entries : List Entry) (picks : Thing → Bool) (found : Found)
@@ -151,8 +150,7 @@ pub climbs_on : (space : Space) (m at up : ModuleNo) (step : ℕ) → IsAbove sp
 climbs_on space m at up step above so_far ordered =
     let had = so_far ordered in
     let less : up.0 < at.0 = ordered.nested at up above.row above.is above.parent in
-    let within = above_within space at up above in
-    (
+    let within = above_within space at up above in (
       omega arith,
       elim had.1 [
         | inl known ↦ inl known
@@ -175,7 +173,7 @@ pub climbs_free : (space : Space) (m at : ModuleNo) (step : ℕ) (question : Que
 climbs_free space m at step question all so_far ordered entry among counts sure =
     let had = so_far ordered in
     let housed : at.0 < length space.table.now.modules.items =
-        subst (λ (x : ModuleNo). x.0 < length space.table.now.modules.items) counts.within (ordered.housed entry among) in
+    subst (λ (x : ModuleNo). x.0 < length space.table.now.modules.items) counts.within (ordered.housed entry among) in
     elim had.1 [
       | inl known ↦ absurd (omega arith)
       | inr same ↦ (let number = ap (λ (x : ModuleNo). x.0) same in absurd (omega arith))
@@ -281,13 +279,13 @@ module _ (space : Space) (m : ModuleNo) (question : Question) where
       → IsInModule space m question found
   declared_first explicit globs found is brought hides = record {
     means = λ d one. elim (hides.means d one) [
-        | inl here ↦ has_declared d (is.means d here)
-        | inr by ↦ (let b = brought.means d by.1 in has_brought d b.0 (is.free by.0) b.1 b.2)
-      ];
+      | inl here ↦ has_declared d (is.means d here)
+      | inr by ↦ (let b = brought.means d by.1 in has_brought d b.0 (is.free by.0) b.1 b.2)
+    ];
     sure = λ one. elim (hides.sure one) [
-        | inl here ↦ surely_declared (is.sure here)
-        | inr by ↦ (let b = brought.sure by in surely_brought b.0 b.1 b.2)
-      ];
+      | inl here ↦ surely_declared (is.sure here)
+      | inr by ↦ (let b = brought.sure by in surely_brought b.0 b.1 b.2)
+    ];
     free = λ unsure. is.free (hides.unsure unsure).0;
   }
 

@@ -5,6 +5,3 @@ pub mod Locals
 pub mod Meanings
 pub mod Lookup
 pub mod Found
-pub mod Settled
-pub mod WholePaths
-pub mod Printed

@@ -14,8 +14,8 @@ use crate::outside::OutsidePaths;
 use crate::space::{Member, Space, between, is_same};
 use crate::std_names::{brought_by_glob, is_builtin_type, is_in_type_module};
 use ssr_names_items::{
-    Brings, Edition, Entry, ImportNo, ItemKind, ItemNo, ModuleKind, ModuleNo, Name, Namespace, Owner,
-    Start, Thing,
+    Brings, Edition, Entry, ImportNo, ItemKind, ItemNo, ModuleKind, ModuleNo, Name, Namespace,
+    Owner, Start, Thing,
 };
 use std::alloc::{AllocError, Global};
 use std::collections::BTreeSet;
@@ -281,7 +281,13 @@ impl<'a> Space<'a> {
     }
 
     /// What is found with an entry more, if that is an item.
-    fn with_declared(&self, found: Found, module: ModuleNo, entry: &Entry, question: Question) -> Found
+    fn with_declared(
+        &self,
+        found: Found,
+        module: ModuleNo,
+        entry: &Entry,
+        question: Question,
+    ) -> Found
         ensures { Adds self.now «module» question entry.now is_declared found result }
     {
         if is_import(entry.thing) || !self.counts(module, entry, question) {
@@ -306,7 +312,13 @@ impl<'a> Space<'a> {
     }
 
     /// What is found with an entry more, if that is an import.
-    fn with_imported(&self, found: Found, module: ModuleNo, entry: &Entry, question: Question) -> Found
+    fn with_imported(
+        &self,
+        found: Found,
+        module: ModuleNo,
+        entry: &Entry,
+        question: Question,
+    ) -> Found
         ensures { Adds self.now «module» question entry.now is_import found result }
     {
         if !is_import(entry.thing) || !self.counts(module, entry, question) {
@@ -444,11 +456,9 @@ impl<'a> Space<'a> {
     /// Whether a module has something under a name that isn't seen, which hides what comes in by `*` there.
     fn hides_globs(&self, module: ModuleNo, question: Question) -> bool {
         !self.globs_of(module).is_empty()
-            && self
-                .entries(module, question.name)
-                .iter()
-                .any(|entry| entry.namespace == question.namespace
-                    && !self.is_seen(entry.visibility, question.viewer))
+            && self.entries(module, question.name).iter().any(|entry| entry.namespace
+                == question.namespace
+                && !self.is_seen(entry.visibility, question.viewer))
     }
 
     /// Whether a meaning is a variant that isn't there in each configuration.
@@ -474,8 +484,9 @@ impl<'a> Space<'a> {
         ensures { Means result (IsVariant self.now item name) }
     {
         match self.members_of(item, name).first() {
-            Some(member) if is_member(member, item, name)
-                && self.kind_of(member.item) == Some(ItemKind::Variant) => {
+            Some(member)
+                if is_member(member, item, name)
+                    && self.kind_of(member.item) == Some(ItemKind::Variant) => {
                 Meaning::One(Definition::Item(self.first_item(member.item)))
             }
             _ => Meaning::Nothing,

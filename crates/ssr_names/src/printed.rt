@@ -1,8 +1,5 @@
 //! By which path a scope reaches a definition.
 
-ghost use Rattle.std.specs.Prelude.{◌≡◌, true, IfOk, IfSome};
-ghost use Rattle.ssr_names.specs.Private.Printed.{IsReached, LeadsIn, LeadsTo, is_in};
-
 use crate::definitions::{Definition, Meaning, OutsideNo};
 use crate::lookup::{PathQuestion, Question};
 use crate::outside::OutsidePaths;
@@ -56,9 +53,7 @@ impl Written {
     }
 
     /// Whether it is written in a namespace.
-    fn is_in(self, namespace: Namespace) -> bool
-        ensures { result ≡ is_in self namespace }
-    {
+    fn is_in(self, namespace: Namespace) -> bool {
         match namespace {
             Namespace::Type => self.as_type,
             Namespace::Value => self.as_value,
@@ -212,18 +207,13 @@ impl<'p> Printer<'p> {
         outside: &mut OutsidePaths,
         path: PathQuestion<'_>,
         written: Written,
-    ) -> Result<bool, AllocError>
-        ensures { IfOk result (λ leads. leads ≡ true → LeadsTo self.now.space.now path.entry written) }
-    {
-        if !self.leads_at(outside, path, written)? {
-            return Ok(false);
-        }
+    ) -> Result<bool, AllocError> {
         for copy in self.space.copies(path.module) {
             let there = PathQuestion {
                 module: copy.module,
                 ..path
             };
-            if copy.module != path.module && !self.leads_at(outside, there, written)? {
+            if !self.leads_at(outside, there, written)? {
                 return Ok(false);
             }
         }
@@ -236,28 +226,14 @@ impl<'p> Printer<'p> {
         outside: &mut OutsidePaths,
         path: PathQuestion<'_>,
         written: Written,
-    ) -> Result<bool, AllocError>
-        ensures { IfOk result (λ leads. leads ≡ true → LeadsTo self.now.space.now path.entry written) }
-    {
-        Ok(self.leads_as(outside, path, written, Namespace::Type)?
-            && self.leads_as(outside, path, written, Namespace::Value)?
-            && self.leads_as(outside, path, written, Namespace::Macro)?)
-    }
-
-    /// Whether a path that is written in a module leads to a definition there in a namespace, if it is written in that.
-    fn leads_as(
-        &self,
-        outside: &mut OutsidePaths,
-        path: PathQuestion<'_>,
-        written: Written,
-        namespace: Namespace,
-    ) -> Result<bool, AllocError>
-        ensures { IfOk result (λ leads. leads ≡ true → is_in written namespace ≡ true → LeadsIn self.now.space.now path.entry namespace written.definition) }
-    {
-        if !written.is_in(namespace) {
-            return Ok(true);
+    ) -> Result<bool, AllocError> {
+        for namespace in NAMESPACES {
+            let question = PathQuestion { namespace, ..path };
+            if written.is_in(namespace) && !self.leads_in(outside, question, written)? {
+                return Ok(false);
+            }
         }
-        self.leads_in(outside, PathQuestion { namespace, ..path }, written)
+        Ok(true)
     }
 
     /// Whether a path leads to a definition in one namespace.
@@ -266,11 +242,9 @@ impl<'p> Printer<'p> {
         outside: &mut OutsidePaths,
         path: PathQuestion<'_>,
         written: Written,
-    ) -> Result<bool, AllocError>
-        ensures { IfOk result (λ leads. leads ≡ true → LeadsIn self.now.space.now path.entry path.entry.namespace written.definition) }
-    {
+    ) -> Result<bool, AllocError> {
         let answer = self.space.whole_path(self.alloc, outside, path)?;
-        Ok(answer.meaning.is(written.definition) && self.begins_surely(outside, path)?)
+        Ok(answer.meaning == Meaning::One(written.definition) && self.begins_surely(outside, path)?)
     }
 
     /// Whether the first name of a path is there in each configuration, or nothing around has it and it is one that is there
@@ -373,9 +347,7 @@ impl<'p> Printer<'p> {
         start: Start,
         names: &[Name],
         written: Written,
-    ) -> Result<Option<String>, AllocError>
-        ensures { IfOk result (λ text. IfSome text (λ _. IsReached self.now.space.now «module» written)) }
-    {
+    ) -> Result<Option<String>, AllocError> {
         let path = PathQuestion {
             start,
             names,
@@ -396,9 +368,7 @@ impl<'p> Printer<'p> {
         module: ModuleNo,
         path: &[Name],
         written: Written,
-    ) -> Result<Option<String>, AllocError>
-        ensures { IfOk result (λ text. IfSome text (λ _. IsReached self.now.space.now «module» written)) }
-    {
+    ) -> Result<Option<String>, AllocError> {
         for length in 1..=path.len() {
             let names = last_names(path, length);
             if self.may_be_hidden(module, names, written) {
@@ -433,9 +403,7 @@ impl<'p> Printer<'p> {
         module: ModuleNo,
         whole: &WholePath,
         written: Written,
-    ) -> Result<Option<String>, AllocError>
-        ensures { IfOk result (λ text. IfSome text (λ _. IsReached self.now.space.now «module» written)) }
-    {
+    ) -> Result<Option<String>, AllocError> {
         let names = self.with_crate(whole)?;
         let text = self.text_if_leads(outside, module, Start::Plain, &names, written)?;
         if text.is_some() {
@@ -455,9 +423,7 @@ impl<'p> Printer<'p> {
         module: ModuleNo,
         names: &[Name],
         written: Written,
-    ) -> Result<Option<String>, AllocError>
-        ensures { IfOk result (λ text. IfSome text (λ _. IsReached self.now.space.now «module» written)) }
-    {
+    ) -> Result<Option<String>, AllocError> {
         let mut changed = Vec::from_slice(self.alloc, names)?;
         let Some(first) = changed.get_mut(0) else {
             return Ok(None);
@@ -477,9 +443,7 @@ impl<'p> Printer<'p> {
         module: ModuleNo,
         whole: &WholePath,
         written: Written,
-    ) -> Result<Option<String>, AllocError>
-        ensures { IfOk result (λ text. IfSome text (λ _. IsReached self.now.space.now «module» written)) }
-    {
+    ) -> Result<Option<String>, AllocError> {
         if whole.root.is_some() {
             let names = whole.names.as_slice();
             let text = self.text_if_leads(outside, module, Start::Crate, names, written)?;
@@ -497,9 +461,7 @@ impl<'p> Printer<'p> {
         outside: &mut OutsidePaths,
         module: ModuleNo,
         template: &Template,
-    ) -> Result<Option<String>, AllocError>
-        ensures { IfOk result (λ text. IfSome text (λ _. IsReached self.now.space.now «module» template.now.written)) }
-    {
+    ) -> Result<Option<String>, AllocError> {
         if !self.space.has_all_copies(module) {
             return Ok(None);
         }
@@ -528,9 +490,7 @@ impl<'p> Printer<'p> {
         outside: &mut OutsidePaths,
         module: ModuleNo,
         template: &Template,
-    ) -> Result<Option<String>, AllocError>
-        ensures { IfOk result (λ text. IfSome text (λ _. IsReached self.now.space.now «module» template.now.written)) }
-    {
+    ) -> Result<Option<String>, AllocError> {
         for way in &template.ways {
             if let Some(mut path) = self.module_path(way.module)? {
                 path.names.push(way.name)?;

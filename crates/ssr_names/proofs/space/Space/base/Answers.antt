@@ -16,4 +16,4 @@ pub returns-in-Super : goal.returns-in-Super
 returns-in-Super c =
     IfSome_then c.module_up.result c.module_up.ensures
     (λ up is. subst (λ (s : Start). IsBase c.args.self.now c.args.«module» s up) (sym c.in-Super.is)
-    (by_super c.in-Super.count c.plain_module.result up c.plain_module.ensures is))
+    (by_super c.in-Super.count c.plain_module-in-Super.result up c.plain_module-in-Super.ensures is))

@@ -25,9 +25,9 @@ returns-in_ok-add_globs-in-One-Module-clause-brought c =
     let of = c.of-in-One-Module in
     record {
       means = λ d is. elim (c.join-found.ensures.means d (of_means c.join-found.result.meaning false of.result d of.ensures is)) [
-          | inl one ↦ brings_of_module d row c.in-One-Module.«module» is_row here (c.explicit-explicit.ensures.means d one)
-          | inr two ↦ absurd (c.if_open.ensures.means d two)
-        ];
+        | inl one ↦ brings_of_module d row c.in-One-Module.«module» is_row here (c.explicit-explicit.ensures.means d one)
+        | inr two ↦ absurd (c.if_open.ensures.means d two)
+      ];
       sure = λ sure. absurd (true≢false (sym (of_sure c.join-found.result.meaning false of.result of.ensures sure)));
     }
 
@@ -46,9 +46,9 @@ returns-after-is_sure-clause-brought c =
     let here : answer_of c.args.self.now c.args.number ns.Type ≡ meanings.One (def.Item c.in-One-Item.item) = cc in
     let of = c.of-in-One-Item-2 in
     let surely : c.if-is_sure.of ≡ true → row.is_sure ≡ true = λ is. elim c.if-is_sure.branch [
-        | then-is_sure w ↦ w.if-is_sure.true
-        | else-is_sure w ↦ sym w.of-is ∙ is
-      ] in
+      | then-is_sure w ↦ w.if-is_sure.true
+      | else-is_sure w ↦ sym w.of-is ∙ is
+    ] in
     record {
       means = λ d is. brings_of_enum d c.in-One-Item.item here (c.variant-meaning.ensures d (of_means _ _ of.result d of.ensures is));
       sure = λ sure. (row, is_row, surely (of_sure _ _ of.result of.ensures sure));

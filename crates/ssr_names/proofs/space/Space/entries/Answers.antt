@@ -18,7 +18,7 @@ returns-clause-complete c = λ ordered entry had ranked.
     let behind = c.past_ranked-past.ensures.point ordered in
     let bound = c.past_ranked-past.ensures.bound in
     let at : rank_of entry ≡ c.rank-rank.result =
-        ap (λ m. rank m entry.name) ranked.0 ∙ ap (rank c.args.«module») ranked.1 ∙ sym c.rank-rank.ensures in
+    ap (λ m. rank m entry.name) ranked.0 ∙ ap (rank c.args.«module») ranked.1 ∙ sym c.rank-rank.ensures in
     let ups = first_past es _ first past before behind bound entry had at in
     let is = among_ranked es _ first past before behind bound entry had at in
     let v = c.deref.ensures.value in

@@ -23,13 +23,13 @@ returns c =
     let among = c.entries-entries.ensures.among in
     record {
       means = λ d is. elim (c.join.ensures.means d is) [
-          | inl one ↦ declared_in space m q es among d (c.declared-declared.ensures.means d one)
-          | inr two ↦ declared_in space m q es among d (c.imported.ensures.means d two)
-        ];
+        | inl one ↦ declared_in space m q es among d (c.declared-declared.ensures.means d one)
+        | inr two ↦ declared_in space m q es among d (c.imported.ensures.means d two)
+      ];
       sure = λ sure. elim (c.join.ensures.sure sure) [
-          | inl one ↦ sure_in space m q es among (c.declared-declared.ensures.sure one)
-          | inr two ↦ sure_in space m q es among (c.imported.ensures.sure two)
-        ];
+        | inl one ↦ sure_in space m q es among (c.declared-declared.ensures.sure one)
+        | inr two ↦ sure_in space m q es among (c.imported.ensures.sure two)
+      ];
       free = λ unsure. free_in space m q es among c.entries-entries.ensures.complete c.declared-declared.result c.imported.result c.declared-declared.ensures c.imported.ensures
           (c.join.ensures.unsure unsure).0 (c.join.ensures.unsure unsure).1;
     }
