@@ -31,7 +31,7 @@ IsOfEdits finder file result =
     × Answers kept lists (writing finder.meanings finder.rules) (Ok edits)
     × IsEditedTree kept lists finder.rules file.0 (changes_in edits file) result
 
--- that there are no edits is told before all else
+-- that the edits are refused is told before all else
 abbrev pub EditsTree : Finder → FileId → Result (Option Syntax) EditedError → Type 0
 EditsTree finder file (Err (errors.Edit error)) = Edits finder (Err error)
 EditsTree finder file (Err (errors.Syntax error)) = IsOfEdits finder file (Err (errors.Syntax error))

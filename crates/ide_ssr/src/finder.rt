@@ -235,8 +235,9 @@ impl<'a, S: Semantics> MatchFinder<'a, S> {
 
     /// The tree of a file with its edit made, if there is such a file: the old tree, in which each outermost match has given way to what
     /// is written for it, in parentheses where it is. White space and comments don't count. `Edit` where `edits` refuses, else
-    /// `Syntax` where the new text isn't read, else `Differs` where it is read as another tree, or where there is no such one: a
-    /// match or what is written for it is no expression, or the match lies in what a call of a macro stands for.
+    /// `Syntax` where the new text isn't read, else `Differs` where it is read as another tree. `Differs` also where none is expected:
+    /// a match, its rule's template or what is written for it is no expression, or the match lies in what a call of a macro stands
+    /// for.
     pub fn edited_tree(&self, file: FileId) -> Result<Option<Tree>, EditedError>
         ensures { EditsTree (finder_of S.meanings self.now) file result }
     {

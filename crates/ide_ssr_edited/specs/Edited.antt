@@ -20,7 +20,7 @@ IsExpected None tree = ⊥
 IsExpected (Some want) tree = AreAlike want tree
 
 -- The answer for a file with these changes made, of which the tree is told exactly where it is the expected one. Want of memory may be
--- told in place of each answer; that there are no edits is told before.
+-- told in place of each answer; that the edits are refused is told before.
 abbrev pub IsEditedTree : Kept → Listing → List ResolvedRule → ℕ → List Change → Result (Option Syntax) EditedError → Type 0
 IsEditedTree kept lists rules file cs (Ok None) = slice_get kept.workspace.files file ≡ None
 IsEditedTree kept lists rules file cs (Ok (Some new)) =

@@ -25,8 +25,8 @@ use thiserror::Error;
 /// Why there is no edited tree.
 #[derive(Clone, Copy, Debug, PartialEq, Eq, Error)]
 pub enum EditedError {
-    /// There are no edits.
-    #[error("there are no edits")]
+    /// The edits are refused.
+    #[error("the edits are refused")]
     Edit(EditError),
     /// The text with the edit made isn't read. `Memory` also where the trees could not be compared for want of it.
     #[error("the text with the edit made is not read")]
@@ -115,10 +115,10 @@ fn answered(tree: Tree, is_expected: bool) -> Result<Option<Tree>, EditedError>
     }
 }
 
-/// The tree of a file with these changes of it made, if there is such a file: the old tree, in which each outermost match has given way
-/// to what was written for it, white space and comments aside. `Syntax` where the new text isn't read, and `Differs` where it is read as
-/// another tree, or where there is no such tree: a match or what was written for it is no expression, or the match lies in what a call
-/// of a macro stands for.
+/// The tree of a file with these changes of it made, if there is such a file. It is the old tree, in which each outermost match has given
+/// way to what was written for it, white space and comments aside. `Syntax` where the new text isn't read, and `Differs` where it is
+/// read as another tree. `Differs` also where none is expected: a match, its rule's template or what was written for it is no
+/// expression, or the match lies in what a call of a macro stands for.
 pub fn edited_tree(
     alloc: Global,
     kept: &KeptMatches<'_>,
