@@ -1,9 +1,6 @@
 //! What stands in the places of the outermost matches of a file.
 ghost use Rattle.std.specs.Prelude.{◌≡◌, ◌<◌, All, IfOk, None, length};
 ghost use Rattle.std.specs.Option.{option_copied, option_map};
-ghost use Rattle.std.specs.Result.{result_ok};
-ghost use Rattle.ssr_syntax_kinds.specs.declared.fragment.Fragment.TheVariants as fragments;
-ghost use Rattle.ssr_syntax.specs.Reading.{fragment_reading};
 ghost use Rattle.ssr_base_trees.specs.Applied.{changes_of};
 ghost use Rattle.ssr_base_trees.specs.Workspace.{trees};
 ghost use Rattle.ide_ssr_bindings.specs.Found.{IsMatch};
@@ -17,8 +14,9 @@ use ide_ssr_nesting::{KeptMatches, Lists};
 use ide_ssr_resolved_rule::ResolvedRule;
 use ide_ssr_rewriting::push_kept;
 use ssr_base_trees::{FileId, Trees};
+use ssr_standing::expression;
 use ssr_swaps::Swap;
-use ssr_syntax::{Fragment, SyntaxError, fragment};
+use ssr_syntax::Fragment;
 use ssr_syntax_kinds::TextRange;
 use ssr_syntax_tree::Tree;
 use std::alloc::{AllocError, Global};
@@ -68,17 +66,6 @@ fn in_front_of<'a>(end: &str, text: &'a str) -> Option<&'a str>
         return None;
     }
     Some(&text[..text.len() - end.len()])
-}
-
-/// What is read of an expression, if it is read.
-fn expression(alloc: Global, text: &str) -> Result<Option<Tree>, AllocError>
-    ensures { IfOk result (λ tree. tree ≡ result_ok (fragment_reading fragments.Expr text.now)) }
-{
-    match fragment(alloc, Fragment::Expr, text) {
-        Ok((tree, _)) => Ok(Some(tree)),
-        Err(SyntaxError::Memory) => Err(AllocError),
-        Err(_) => Ok(None),
-    }
 }
 
 /// What a text that is written for a match is read as, the comments aside that the match keeps.

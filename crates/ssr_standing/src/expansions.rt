@@ -113,7 +113,7 @@ fn ranges(alloc: Global, places: &[Place]) -> Result<Vec<TextRange>, AllocError>
 }
 
 /// What is read of an expression, if it is read.
-fn expression(alloc: Global, text: &str) -> Result<Option<Tree>, AllocError>
+pub fn expression(alloc: Global, text: &str) -> Result<Option<Tree>, AllocError>
     ensures tree { IfOk result (λ tree. tree ≡ result_ok (fragment_reading fragments.Expr text.now)) }
     ensures short { IfOk result (λ tree. IfSome tree (λ _. length text.now < 2 ^ 32)) }
 {

@@ -19,6 +19,6 @@ mod standing;
 
 pub use agreeing::agree;
 pub use code::in_parentheses;
-pub use expansions::SearchedFile;
+pub use expansions::{SearchedFile, expression};
 pub use ranges::{new_ranges, new_ranges_from, old_ranges, old_ranges_from};
 pub use standing::stands;
