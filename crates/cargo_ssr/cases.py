@@ -168,21 +168,47 @@ def paths_are_searched(program):
 
 @example
 def what_is_left_out_is_set_aside(program):
-    text = 'extern crate alloc;\nasync fn f() { a.unwrap(); b().await.unwrap(); println!("{}", a.unwrap()) }\n'
+    text = 'impl const T for U {}\nfn f() { a.unwrap(); b::<impl const T>().unwrap(); println!("{}", a.unwrap()) }\n'
     with Package({"one.rs": text}) as package:
         status, _, told = package.run(program, RULE, "--write", "--", "one.rs")
-        yield status == 0 and "one.rs:2:28: left as it is: it holds what is set aside\n" in told
+        yield status == 0 and "one.rs:2:22: left as it is: it holds what is set aside\n" in told
         yield told.endswith("3 matches in 1 file: 2 edits; 1 left as it is\n")
         yield package.read("one.rs") == text.replace("a.unwrap()", 'a.expect("set")')
 
 
 @example
 def what_binds_an_operand_stays_with_it(program):
-    with Package({"one.rs": "async fn f() { let x = 1 + b.await; let y = async { z }; }\n"}) as package:
-        status, out, told = package.run(program, "$a + $b ==>> $b + $a", "--", "one.rs")
-        yield (status, out) == (0, "") and "one.rs:1:24" in told
-        status, out, _ = package.run(program, "{ $a } ==>> $a", "--", "one.rs")
-        yield (status, out) == (0, "")
+    text = "async fn f() { let x = 1 + b.await; let y = async { z } - 2; }\n"
+    with Package({"one.rs": text, "rules": "-$x ==>> !$x"}) as package:
+        for words in [["{ $a } ==>> $a"], ["--rules", "rules"]]:
+            yield package.run(program, *words, "--", "one.rs") == (0, "", "0 matches\n")
+        yield package.run(program, "-q", "--write", "$a + $b ==>> $b + $a", "--", "one.rs") == (0, "", "")
+        yield package.read("one.rs") == text.replace("1 + b.await", "b.await + 1")
+
+
+# A text of all of Rust, a rule, and the text with its matches replaced.
+WHOLE = [
+    ("async fn f() { g().await.unwrap(); }\n", "$a.await.unwrap() ==>> $a.await?", "async fn f() { g().await?; }\n"),
+    ("async fn f() { 1 }\nfn g() { 1 }\n", "fn $f() { $b } ==>> pub fn $f() { $b }", "async fn f() { 1 }\npub fn g() { 1 }\n"),
+    ("async fn f() { 1 }\nfn g() { 1 }\n", "async fn $f() { $b } ==>> pub async fn $f() { $b }", "pub async fn f() { 1 }\nfn g() { 1 }\n"),
+    ("async fn f() { g(2 + FOO!(1)).await; }\n", "$a + $b ==>> $b + $a", "async fn f() { g(FOO!(1) + 2).await; }\n"),
+    ("fn h() { #[cfg(a)] a.f(1); }\n", "$a.f($b) ==>> $a.g($b)", "fn h() { #[cfg(a)] a.g(1); }\n"),
+    ("fn h() { x.map(&|y| y + 1); }\n", "$a.map($f) ==>> $a.for_each($f)", "fn h() { x.for_each(&|y| y + 1); }\n"),
+    ("fn h() -> bool { a && return b }\n", "$a && $b ==>> $b && $a", "fn h() -> bool { (return b) && a }\n"),
+    ("extern crate log;\n#[macro_use] extern crate libc;\n", "extern crate $c; ==>> use $c;", "use log;\n#[macro_use] extern crate libc;\n"),
+    ("extern \"C\" fn h(n: fn(u8) -> *const u8) {}\n", "*const $t ==>> *mut $t", "extern \"C\" fn h(n: fn(u8) -> *mut u8) {}\n"),
+    ("fn t() -> T<P: D> { a.unwrap() }\n", "$a.unwrap() ==>> $a?", "fn t() -> T<P: D> { a? }\n"),
+    ("fn h() { let raw = &raw const raw; &raw }\n", "&raw const $x ==>> $x.addr()", "fn h() { let raw = raw.addr(); &raw }\n"),
+    ("union U { a: u8 }\nfn h(union: u8) { union + raw }\n", "union $n { $f: $t } ==>> struct $n { $f: $t }", "struct U { a: u8 }\nfn h(union: u8) { union + raw }\n"),
+    ('unsafe extern "C" { safe fn f(a: *const u8); unsafe fn g(); }\n', "*const $t ==>> *mut $t", 'unsafe extern "C" { safe fn f(a: *mut u8); unsafe fn g(); }\n'),
+]
+
+
+@example
+def all_of_rust_is_read(program):
+    for text, rule, new in WHOLE:
+        with Package({"one.rs": text}) as package:
+            yield package.run(program, "-q", "--write", rule, "--", "one.rs") == (0, "", "") and package.read("one.rs") == new
 
 
 # What `diff -u` writes, but for the heads, and the colour of each line.
@@ -224,24 +250,23 @@ def a_placeholder_alone_is_replaced_once(program):
 
 
 # A text, the words of a run, where it tells that a match is left as it is and why, and the text then.
-HOLDS, BEHIND, AHEAD = "it holds what is set aside", "what stands behind it belongs to it", "what stands in front of it belongs to it"
-FUNCTIONS = "async fn f() { g() }\nextern \"C\" fn h() { g() }\nfn k() { g() }\n"
+HOLDS, AHEAD = "it holds what is set aside", "what stands in front of it belongs to it"
+FUNCTIONS = "default fn f() { g() }\nextern \"C\" fn h() { g() }\nfn k() { g() }\n"
 BORROWS = "fn f() { x.await; h(&|x| x + 1); k(&raw const a.b) }\n"
-MACRO_TYPES = "fn g(x: *const Token![,], y: *const u8) {}\n"
+MACRO_TYPES = "fn g(x: *const Token![,], y: *const u8, z: &dyn ~const T) {}\n"
 LET = "fn f() { #[cfg(unix)] let x = a.unwrap(); }\n"
 FIELDS = "async fn r(){ x.await; if let S {a, b} = x { a.unwrap(); } }\n"
 BESIDE = [
-    ("async fn f(){ g(2 + FOO!(1)).await }\n", ["$a + $b ==>> $b + $a"], [("1:17", BEHIND)], None),
-    (FUNCTIONS, ["fn $f() { $b } ==>> pub fn $f() { $b }"], [("1:7", AHEAD), ("2:12", AHEAD)], FUNCTIONS.replace("\nfn k", "\npub fn k")),
+    (FUNCTIONS, ["fn $f() { $b } ==>> pub fn $f() { $b }"], [("1:9", AHEAD)], FUNCTIONS.replace("\nfn k", "\npub fn k")),
     ("auto trait T {}\n", ["trait $f {} ==>> pub trait $f {}"], [("1:6", AHEAD)], None),
     ("unsafe mod m {}\n", ["mod $f {} ==>> pub mod $f {}"], [("1:8", AHEAD)], None),
-    ("async fn f() { for<'a> |x| x.len() }\n", ["|$x| $b ==>> move |$x| $b"], [("1:24", AHEAD)], None),
+    ("fn f() { for<'a> |x| x.len() }\n", ["|$x| $b ==>> move |$x| $b"], [("1:18", AHEAD)], None),
     (BORROWS, ["|$x| $b ==>> move |$x| $b", "$a.b ==>> $a.c"], [], BORROWS.replace("|x|", "move |x|").replace("a.b", "a.c")),
-    (LET, ["let $a = $b; ==>> $b;"], [("1:23", AHEAD)], None),
+    (LET, ["let $a = $b; ==>> $b;"], [], None),
     (LET, ["$a.unwrap() ==>> $a?"], [], LET.replace(".unwrap()", "?")),
-    (MACRO_TYPES, ["*const $t ==>> *mut $t"], [("1:9", BEHIND)], MACRO_TYPES.replace("*const u8", "*mut u8")),
+    (MACRO_TYPES, ["*const $t ==>> *mut $t"], [], MACRO_TYPES.replace("*const", "*mut")),
     (FIELDS, ["$a.unwrap() ==>> $a.expect(\"x\")"], [], FIELDS.replace("unwrap()", 'expect("x")')),
-    ("async fn f() { let x = 1 + b.await; }\n", ["$a + $b ==>> $b + $a"], [("1:24", HOLDS)], None),
+    ("fn f() { let x = 1 + b::<impl const T>(); }\n", ["$a + $b ==>> $b + $a"], [("1:18", HOLDS)], None),
 ]
 
 
@@ -399,12 +424,12 @@ def what_cannot_be_read_again_is_told_alone(program):
 
 
 # A text, the words of a run, what is reported of the text as not searched behind its name, and the text then.
-HEAD = "fn t() -> T<P: D> { a.unwrap() }\n"
-BOUNDS = "pub fn t<T: I<P: D>>(t: T) -> u8 where T: I<P: D> { a.unwrap() }\n"
-SIGNATURE = "trait R { fn t() -> T<P: D>; fn u() { a.unwrap() } }\n"
-STATEMENT = "fn f() {\n    (c, _) =\n        b.unwrap();\n    a.unwrap()\n}\n"
-ITEMS = "union U { a: u8 }\n// of it\nunion V { a: u8 }\nfn f() { a.unwrap() }\nunion W { a: u8 }\nfn g() { (c, _) = e; }\n"
-IN_BLOCKS = f"fn f() {{ {'{ ' * 60}(c, _) = b.unwrap(); a.unwrap() {'}' * 60} }}\n"
+HEAD = "fn t() -> unsafe<'a> T { a.unwrap() }\n"
+BOUNDS = "pub fn t<T: [const] I>(t: T) -> u8 where T: [const] I { a.unwrap() }\n"
+SIGNATURE = "trait R { fn t() -> unsafe<'a> T; fn u() { a.unwrap() } }\n"
+STATEMENT = "fn f() {\n    try {\n        b.unwrap() };\n    a.unwrap()\n}\n"
+ITEMS = "macro m() {}\n// of it\nmacro n() {}\nfn f() { a.unwrap() }\nmacro o() {}\nfn g() { yield e; }\n"
+IN_BLOCKS = f"fn f() {{ {'{ ' * 60}try {{ b.unwrap() }}; a.unwrap() {'}' * 60} }}\n"
 NOT_SEARCHED = [
     (HEAD, [RULE], "1:8: not searched: 1 line that isn't read", HEAD),
     (BOUNDS, [RULE], "1:9: not searched: 1 line that isn't read, and 1 more place", BOUNDS),
@@ -412,7 +437,7 @@ NOT_SEARCHED = [
     (STATEMENT, [RULE], "2:5: not searched: 2 lines that aren't read", STATEMENT),
     (ITEMS, [RULE], "1:1: not searched: 3 lines that aren't read, and 2 more places", ITEMS),
     (IN_BLOCKS, [RULE], "1:130: not searched: 1 line that isn't read", IN_BLOCKS),
-    ("async fn f() { async { p } - q; }\n", ["--rules", "rules"], "1:16: not searched: 1 line that isn't read", ""),
+    ("fn f() { yield p - q; }\n", ["--rules", "rules"], "1:10: not searched: 1 line that isn't read", ""),
 ]
 
 
@@ -431,7 +456,7 @@ def what_is_not_searched_is_told(program):
 
 @example
 def what_is_not_searched_is_told_in_each_mode(program):
-    text = STATEMENT + "union U { a: u8 }\n"
+    text = STATEMENT + "macro m() {}\n"
     line = "two.rs:2:5: not searched: 2 lines that aren't read, and 1 more place\n"
     with Package({"one.rs": "fn f() { b.ok() }\n", "two.rs": text}) as package:
         paths = ["--", "one.rs", "two.rs"]
@@ -444,7 +469,7 @@ def what_is_not_searched_is_told_in_each_mode(program):
             lines = [json.loads(one) for one in out.splitlines()]
             ranges = [one["not_searched"] for one in lines[1:-1]]
             yield (status, told) == (0, line) and lines[0]["old"] == "a.unwrap()" and lines[-1]["summary"]["not_searched"] == 1
-            yield [text[one["start"]:one["end"]] for one in ranges] == [text[text.index("(c"):text.index(";") + 1], "union U { a: u8 }"]
+            yield [text[one["start"]:one["end"]] for one in ranges] == [text[text.index("try"):text.index(";") + 1], "macro m() {}"]
             yield [(one["file"], one["line"], one["column"]) for one in ranges] == [("two.rs", 2, 5), ("two.rs", 6, 1)]
     with Package({"one.rs": STATEMENT, "two.rs": STATEMENT}) as package:
         told = package.run(program, "$a.ok() ==>> $a.err()", "--", "one.rs", "two.rs")[2]
@@ -463,7 +488,7 @@ def a_file_of_which_nothing_is_read_is_left_out(program):
 @example
 def code_that_is_not_read_may_stand_deep(program):
     # each of the blocks that hold it is read again
-    text = f"fn f() {{ {'{ ' * 60}(c, _) = e; {'a.unwrap(); ' * 8500}{'}' * 60} }}\n"
+    text = f"fn f() {{ {'{ ' * 60}try {{ c }}; {'a.unwrap(); ' * 8500}{'}' * 60} }}\n"
     with Package({"one.rs": text}) as package:
         before = os.times().children_user
         status, out, told = package.run(program, "--search", "$a.unwrap()", "--", "one.rs")
@@ -506,10 +531,10 @@ def refused_rules_are_named_by_where_they_stand(program):
 @example
 def names_are_quoted_as_git_quotes_them(program):
     name, quoted = "src/a\t\"b\\\x01 é.rs", r"src/a\t\"b\\\001 é.rs"
-    with Package({name: "fn f() { a.unwrap(); }\nasync fn g() { b.await.unwrap(); }\n"}) as package:
+    with Package({name: "fn f() { a.unwrap(); }\nfn g() { b::<impl const T>().unwrap(); }\n"}) as package:
         _, diff, told = package.run(program, "-q", RULE, "--", "src")
         yield diff.startswith(f'--- "a/{quoted}"\t\n+++ "b/{quoted}"\t\n')
-        yield told == f'"{quoted}":2:16: left as it is: it holds what is set aside\n'
+        yield told == f'"{quoted}":2:10: left as it is: it holds what is set aside\n'
         out = package.run(program, "-q", "--search", "$a.unwrap()", "--", "src")[1]
         yield out.splitlines()[0] == f'"{quoted}":1:10: a.unwrap()'
         applied = subprocess.run(["git", "apply", "-"], input=diff.encode(), cwd=package.folder)
@@ -1066,23 +1091,67 @@ TRAPS = [
     ("#[rustversion::since(1.40)] use std::mem::drop as g;\n#[rustversion::before(1.40)] fn g(a: u8) {}\nfn free(a: u8) {}\nfn f() { g(1) }\n", DROP, [], "0 matches; 1 undecided\n"),
     # a module that says inside that it stands under a condition
     ("mod std { #![cfg(unix)] pub mod mem { pub fn drop(_: u8) {} } }\nfn free(a: u8) {}\nfn f() { std::mem::drop(1) }\n", "::std::mem::drop($a) ==>> free($a)", [], "0 matches; 1 undecided\n"),
-    # generics that aren't read hide a name in their function; which functions of a module have such isn't known
+    ("mod std { #![cfg(unix)] macro other() {} pub mod mem { pub fn drop(_: u8) {} } }\nfn free(a: u8) {}\nfn f() { std::mem::drop(1) }\n", "::std::mem::drop($a) ==>> free($a)", [], "0 matches; 1 undecided; 1 file not searched whole\n"),
+    # so may a function, and a block of foreign items
+    ("fn drop(a: u8) { #![cfg(unix)] }\nfn free(a: u8) {}\nfn f() { drop(1) }\n", DROP, [], "0 matches; 1 undecided\n"),
+    ("extern \"C\" { #![cfg(unix)] fn drop(a: u8); }\nfn free(a: u8) {}\nfn f() { unsafe { drop(1) } }\n", DROP, [], "0 matches; 1 undecided\n"),
+    # macros of a module that says inside that they are seen around it
+    ("mod m { #![macro_use] macro_rules! check { ($a:expr) => { $a } } }\nfn f(a: u8) -> u8 { check!(a) }\n", "check!($a) ==>> $a", ["fn f(a: u8) -> u8 { a }"], "1 match in 1 file: 1 edit\n"),
+    # what a foreign block has are items of the module around it
+    ("extern \"C\" { fn drop(a: u8); }\nfn free(a: u8) {}\nfn f() { unsafe { drop(1) } }\n", DROP, [], "0 matches\n"),
+    ("unsafe extern \"C\" { safe fn drop(a: u8); }\nfn free(a: u8) {}\nfn f() { drop(1) }\n", DROP, [], None),
+    ("fn free(a: u8) {}\nfn f() { extern \"C\" { fn drop(a: u8); } unsafe { drop(1) } }\nfn g() { drop(2) }\n", DROP, ["fn g() { free(2) }"], "1 match in 1 file: 1 edit\n"),
+    ("#[cfg(unix)] extern \"C\" { fn drop(a: u8); }\nfn free(a: u8) {}\nfn f() { unsafe { drop(1) } }\n", DROP, [], "0 matches; 1 undecided\n"),
+    ("extern \"C\" { foreign::make!(drop); }\nfn free(a: u8) {}\nfn f() { unsafe { drop(1) } }\n", DROP, [], "0 matches; 1 undecided\n"),
+    ("mod m { extern \"C\" { fn drop(a: u8); } }\nuse m::*;\nfn free(a: u8) {}\nfn f() { drop(1) }\n", DROP, ["fn f() { free(1) }"], "1 match in 1 file: 1 edit\n"),
+    ("pub mod m { extern \"C\" { pub static limit: u8; pub fn take(limit: u8) -> u8; } }\npub mod n { pub static limit: u8 = 1; }\nfn f() -> u8 { unsafe { m::limit + m::take(2) + n::limit } }\n", "m::limit ==>> n::limit", ["fn f() -> u8 { unsafe { n::limit + m::take(2) + n::limit } }"], "1 match in 1 file: 1 edit\n"),
+    # a crate under another name, in its module alone
+    ("extern crate std as base;\nfn free(a: u8) {}\nfn f() { base::mem::drop(1) }\n", DROP, ["fn f() { free(1) }"], "1 match in 1 file: 1 edit\n"),
+    ("mod m { extern crate foreign as std; fn f() { std::mem::drop(1) } }\nfn free(a: u8) {}\nfn f() { std::mem::drop(2) }\n", DROP, ["fn f() { free(2) }"], "1 match in 1 file: 1 edit\n"),
+    ("mod m { #[cfg(unix)] extern crate foreign as std; fn f() { std::mem::drop(1) } }\nfn free(a: u8) {}\n", DROP, [], "0 matches; 1 undecided\n"),
+    ("extern crate foreign as _;\nextern crate self as own;\nfn g(a: u8) -> u8 { a }\nfn f() -> u8 { own::g(1) }\n", "g($a) ==>> $a", ["fn f() -> u8 { 1 }"], "1 match in 1 file: 1 edit\n"),
+    # an item, and a call that may declare one, behind attributes of a statement
+    ("mod m { pub fn drop(a: u8) {} }\nfn free(a: u8) {}\nfn f() { #[cfg(unix)] use m::drop; drop(1) }\n", DROP, [], "0 matches; 1 undecided\n"),
+    ("use std::mem;\nfn free(a: u8) {}\nfn f() { #[allow(unused)] make!(mem); mem::drop(1) }\nfn g() { #[allow(unused)] std::assert!(true); mem::drop(2) }\n", DROP, ["fn g() { #[allow(unused)] std::assert!(true); free(2) }"], "1 match in 1 file: 1 edit; 1 undecided\n"),
+    # generics hide a name in their function
     (
-        "mod m { pub struct Job; impl Job { pub fn make() -> u8 { 1 } } }\nuse m::Job;\ntrait Make { fn make() -> u8; }\nfn load<Job: Make, I: Iterator<Item: Into<u8>>>(i: I) -> u8 { Job::make() }\nfn f() -> u8 { m::Job::make() }\n",
+        "mod m { pub struct Job; impl Job { pub fn make() -> u8 { 1 } } }\nuse m::Job;\ntrait Make { fn make() -> u8; }\nfn load<Job: Make, I: Iterator<Item: Into<u8>>>(i: I) -> u8 { Job::make() }\nfn f() -> u8 { Job::make() + m::Job::make() }\n",
+        "m::Job::make() ==>> 7",
+        ["fn f() -> u8 { 7 + 7 }"],
+        "2 matches in 1 file: 2 edits; 1 undecided\n",
+    ),
+    ("fn f<#[allow(unused)] Vec: Default>() -> Vec { Vec::default() }\nfn g() -> Vec<u8> { Vec::default() }\n", "Vec::default() ==>> Vec::new()", ["fn g() -> Vec<u8> { std::vec::Vec::new() }"], "1 match in 1 file: 1 edit; 1 undecided\n"),
+    # so do those that aren't read; which functions of a module have such isn't known
+    (
+        "mod m { pub struct Job; impl Job { pub fn make() -> u8 { 1 } } }\nuse m::Job;\ntrait Make { fn make() -> u8; }\nfn load<Job: Make, I: Iterator<next(..): Send>>(i: I) -> u8 { Job::make() }\nfn f() -> u8 { m::Job::make() }\n",
         "m::Job::make() ==>> 7",
         ["fn f() -> u8 { 7 }"],
         "1 match in 1 file: 1 edit; 1 undecided; 1 file not searched whole\n",
     ),
+    # types of pointers, of bounds for any lifetime and of macros
+    ("type G = fn(key: String) -> u8;\nfn f(g: fn(String), h: &dyn for<'a> Fn(&'a String), i: t!(String)) where for<'a> &'a String: Into<u8> {}\n", "String ==>> Vec<u8>", ["type G = fn(key: Vec<u8>) -> u8;", "fn f(g: fn(Vec<u8>), h: &dyn for<'a> Fn(&'a Vec<u8>), i: t!(String)) where for<'a> &'a Vec<u8>: Into<u8> {}"], "4 matches in 1 file: 4 edits\n"),
     # an item that isn't read
     # what isn't read hides no name of a rule, but one of the code
     ("foreign::bindings!(\"p\");\nmod m { fn g() { Vec::new(); } }\nfn f() { Vec::new(); }\n", "Vec::new() ==>> Vec::default()", ["mod m { fn g() { Vec::default(); } }"], "1 match in 1 file: 1 edit; 1 undecided\n"),
     ("foreign::doctest!(\"../README.md\");\nfn f() { Vec::new(); }\n", "Vec::new() ==>> Vec::default()", ["fn f() { Vec::default(); }"], "1 match in 1 file: 1 edit\n"),
-    ("union Vec { a: u8 }\nfn f() { Vec::new(); std::vec::Vec::new(); }\n", "std::vec::Vec::new() ==>> 7", ["fn f() { Vec::new(); 7; }"], "1 match in 1 file: 1 edit; 1 undecided; 1 file not searched whole\n"),
+    ("union Vec { a: u8 }\nfn f() { Vec::new(); std::vec::Vec::new(); }\n", "std::vec::Vec::new() ==>> 7", ["fn f() { Vec::new(); 7; }"], "1 match in 1 file: 1 edit\n"),
+    ("union Vec { a: unsafe<'a> T }\nfn f() { Vec::new(); std::vec::Vec::new(); }\n", "std::vec::Vec::new() ==>> 7", ["fn f() { Vec::new(); 7; }"], "1 match in 1 file: 1 edit; 1 undecided; 1 file not searched whole\n"),
     # of a union that isn't read the name alone is unknown
-    ("pub(crate) union Slot { a: std::mem::ManuallyDrop<Vec<u8>>, b: u8 }\nfn f() { Vec::new(); }\n", "std::vec::Vec::new() ==>> 7", ["fn f() { 7; }"], "1 match in 1 file: 1 edit; 1 file not searched whole\n"),
+    ("pub(crate) union Slot { a: std::mem::ManuallyDrop<Vec<u8>>, b: unsafe<'a> T }\nfn f() { Vec::new(); }\n", "std::vec::Vec::new() ==>> 7", ["fn f() { 7; }"], "1 match in 1 file: 1 edit; 1 file not searched whole\n"),
     # what a function binds is no item there
     ("fn g(a: u8) -> u8 { a }\nfn f(g: fn(u8) -> u8) -> u8 { g(1) }\nfn h() -> u8 { g(2) }\n", "g($a) ==>> $a", ["fn h() -> u8 { 2 }"], "1 match in 1 file: 1 edit; 1 undecided\n"),
     ("fn g(a: u8) -> u8 { a }\nfn f() -> u8 { if let Some(g) = k() { g(1) } else { 0 } }\n", "g($a) ==>> $a", [], "0 matches; 1 undecided\n"),
+    ("fn g(a: u8) -> u8 { a }\nfn f(#[allow(unused)] g: fn(u8) -> u8) -> u8 { g(1) }\n", "g($a) ==>> $a", [], "0 matches; 1 undecided\n"),
+    ("fn g(a: u8) -> u8 { a }\nfn f() { let h = async |g: fn(u8) -> u8| g(1); }\n", "g($a) ==>> $a", [], "0 matches; 1 undecided\n"),
+    # a macro in the place of a pattern may bind what its argument names, but for constants
+    ("macro_rules! p { ($n:ident) => { Some($n) } }\nfn g(a: u8) -> u8 { a }\nfn f(a: Option<fn(u8) -> u8>) -> u8 { match a { p!(g) => g(1), _ => g(2) } }\nfn h() -> u8 { g(3) }\n", "g($a) ==>> $a", ["fn h() -> u8 { 3 }"], "1 match in 1 file: 1 edit; 2 undecided\n"),
+    ("fn g(a: u8) -> u8 { a }\nfn f(a: u8) -> u8 { let write!(g) = a else { return 0 }; g(1) }\n", "g($a) ==>> $a", [], "0 matches; 1 undecided\n"),
+    ("fn g(a: Option<u8>) {}\nfn h(a: Option<u8>) {}\nfn f(a: Option<u8>) { if let p!(None) = a { g(None) } }\n", "g(None) ==>> h(None)", ["fn f(a: Option<u8>) { if let p!(None) = a { h(None) } }"], "1 match in 1 file: 1 edit\n"),
+    # the name of an argument of a function without a body binds nothing
+    ("fn g(a: u8) -> u8 { a }\nfn f(h: fn(g: u8) -> u8) -> u8 { h(1) + g(2) }\n", "g($a) ==>> $a", ["fn f(h: fn(g: u8) -> u8) -> u8 { h(1) + 2 }"], "1 match in 1 file: 1 edit\n"),
+    ("fn g(a: u8) -> u8 { a }\nfn f() -> u8 { extern \"C\" { fn h(g: u8); } trait T { fn h(g: u8); } g(1) }\nfn i(h: fn(g: u8), g: fn(u8)) { g(2) }\n", "g($a) ==>> $a", ["fn f() -> u8 { extern \"C\" { fn h(g: u8); } trait T { fn h(g: u8); } 1 }"], "1 match in 1 file: 1 edit; 1 undecided\n"),
+    ("fn g(a: u8) {}\npub mod m { pub fn h(a: u8) {} }\nuse m::h;\ntrait T { fn i(h: u8); }\nfn f() { g(1) }\n", "g($a) ==>> m::h($a)", ["fn f() { h(1) }"], "1 match in 1 file: 1 edit\n"),
+    ("fn g(a: u8) {}\npub mod m { pub fn h(a: u8) {} }\nuse m::h;\ntrait T { fn i(h: u8) {} }\nfn f() { g(1) }\n", "g($a) ==>> m::h($a)", ["fn f() { m::h(1) }"], "1 match in 1 file: 1 edit\n"),
     # a function in a function hides the one around
     ("fn g(a: u8) -> u8 { a }\nfn f() -> u8 { fn g(a: u8) -> u8 { a + 1 } g(1) }\nfn h() -> u8 { g(2) }\n", "g($a) ==>> $a", ["fn h() -> u8 { 2 }"], "1 match in 1 file: 1 edit\n"),
     # a type, a function and a macro may have one name

@@ -181,6 +181,14 @@ def files_are_refused(program):
 
 
 @example
+def the_stated_language_alone_is_read(program):
+    for file in ["async fn f() {}", "fn f() { a.await; }", "extern crate a;", "union U { a: u8 }", "fn f() { &raw const a; }"]:
+        yield gives(program, [SWAP], file, NO_FILE, 1)
+    for rule in ["$a.await ==>> $a", "extern crate $a; ==>> use $a;", "union $a { $b: $c } ==>> struct $a { $b: $c }"]:
+        yield gives(program, [rule], SUM, NO_KIND, 1)
+
+
+@example
 def rules_are_refused(program):
     for rule, message in [
         ("", "Cannot find delimiter `==>>`"),

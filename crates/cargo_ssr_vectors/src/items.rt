@@ -261,22 +261,19 @@ fn what_is_set_aside_is_read(rt: HostRuntime) -> Result<(), Fail> {
     let alloc = rt.alloc();
     let files = [File {
         name: "src/lib.rs",
-        text: "extern crate log as l; union Bits { a: u8 }",
-        searched: "use          log as l;                     ",
+        text: "fn g() {} union Bits { a: u8 }",
+        searched: "fn g() {}                     ",
     }];
-    let parts = [(0, 6), (7, 12), (23, 43)];
-    let mut aside = Vec::new(alloc);
-    for (start, end) in parts {
-        aside.push((TextRange::new(start, end), String::new(alloc)))?;
-    }
-    let text = declared(alloc, &files, aside.as_slice(), &[ROOT])?;
+    let aside = [(TextRange::new(10, 30), String::new(alloc))];
+    let text = declared(alloc, &files, &aside, &[ROOT])?;
     assert_eq!(rt;
         text.as_str(),
         "0 crate of 0
 0 Type Bits: unknown, pub, unsure
 0 Value Bits: unknown, pub, unsure
 0 Macro Bits: unknown, pub, unsure
-0 Type l: crate log, in 0
+0 Value g: item 0, in 0
+item g Function Module
 "
     );
     Ok(())

@@ -1,3 +1,4 @@
+mod Appending
 mod ByStart
 mod Files
 mod Holders

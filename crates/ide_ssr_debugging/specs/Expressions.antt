@@ -14,6 +14,8 @@ is_operand k.ARRAY_EXPR = true
 is_operand k.RECORD_EXPR = true
 is_operand k.MACRO_EXPR = true
 is_operand k.CLOSURE_EXPR = true
+is_operand k.UNDERSCORE_EXPR = true
+is_operand k.ATTR_EXPR = true
 is_operand _ = false
 
 -- calls, accesses, and what is made with an operator
@@ -23,6 +25,7 @@ is_operation k.METHOD_CALL_EXPR = true
 is_operation k.FIELD_EXPR = true
 is_operation k.INDEX_EXPR = true
 is_operation k.TRY_EXPR = true
+is_operation k.AWAIT_EXPR = true
 is_operation k.PREFIX_EXPR = true
 is_operation k.REF_EXPR = true
 is_operation k.CAST_EXPR = true

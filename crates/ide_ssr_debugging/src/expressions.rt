@@ -25,7 +25,9 @@ fn is_operand(kind: SyntaxKind) -> bool
         | SyntaxKind::ARRAY_EXPR
         | SyntaxKind::RECORD_EXPR
         | SyntaxKind::MACRO_EXPR
-        | SyntaxKind::CLOSURE_EXPR => true,
+        | SyntaxKind::CLOSURE_EXPR
+        | SyntaxKind::UNDERSCORE_EXPR
+        | SyntaxKind::ATTR_EXPR => true,
         _ => false,
     }
 }
@@ -40,6 +42,7 @@ fn is_operation(kind: SyntaxKind) -> bool
         | SyntaxKind::FIELD_EXPR
         | SyntaxKind::INDEX_EXPR
         | SyntaxKind::TRY_EXPR
+        | SyntaxKind::AWAIT_EXPR
         | SyntaxKind::PREFIX_EXPR
         | SyntaxKind::REF_EXPR
         | SyntaxKind::CAST_EXPR

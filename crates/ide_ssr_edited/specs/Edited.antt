@@ -2,7 +2,7 @@
 use Rattle.std.specs.Prelude.{ℕ, ◌≡◌, ◌≢◌, List, Option, Some, None, Result, Ok, Err, slice_get}
 use Rattle.std.specs.Option.{IsSomeAnd}
 use Rattle.ssr_syntax_tree.specs.Syntax.{Syntax}
-use Rattle.ssr_syntax.specs.Reading.{file_reading}
+use Rattle.ssr_syntax.specs.Reading.{file_reading_of}
 use Rattle.ssr_syntax.specs.declared.syntax_error.SyntaxError.TheVariants as syntax_errors
 use Rattle.ssr_base_trees.specs.Changes.{Change}
 use Rattle.ssr_standing.specs.Standing.{changed_text}
@@ -24,10 +24,10 @@ IsExpected (Some want) tree = AreAlike want tree
 abbrev pub IsEditedTree : Kept → Listing → List ResolvedRule → ℕ → List Change → Result (Option Syntax) EditedError → Type 0
 IsEditedTree kept lists rules file cs (Ok None) = slice_get kept.workspace.files file ≡ None
 IsEditedTree kept lists rules file cs (Ok (Some new)) =
-    IsSomeAnd (slice_get kept.workspace.files file) (λ tree. (file_reading (changed_text tree cs) ≡ Ok new) × IsExpected (expected kept lists rules file tree cs) new)
+    IsSomeAnd (slice_get kept.workspace.files file) (λ tree. (file_reading_of kept.workspace.reach (changed_text tree cs) ≡ Ok new) × IsExpected (expected kept lists rules file tree cs) new)
 IsEditedTree kept lists rules file cs (Err errors.Differs) =
     IsSomeAnd (slice_get kept.workspace.files file)
-    (λ tree. (new : Syntax) × (file_reading (changed_text tree cs) ≡ Ok new) × (IsExpected (expected kept lists rules file tree cs) new → ⊥))
+    (λ tree. (new : Syntax) × (file_reading_of kept.workspace.reach (changed_text tree cs) ≡ Ok new) × (IsExpected (expected kept lists rules file tree cs) new → ⊥))
 IsEditedTree kept lists rules file cs (Err (errors.Syntax error)) =
-    IsSomeAnd (slice_get kept.workspace.files file) (λ tree. error ≢ syntax_errors.Memory → file_reading (changed_text tree cs) ≡ Err error)
+    IsSomeAnd (slice_get kept.workspace.files file) (λ tree. error ≢ syntax_errors.Memory → file_reading_of kept.workspace.reach (changed_text tree cs) ≡ Err error)
 IsEditedTree kept lists rules file cs (Err (errors.Edit error)) = ⊥

@@ -7,7 +7,7 @@ use Rattle.ssr_syntax_kinds.specs.declared.fragment.Fragment.{Fragment}
 use Rattle.ssr_syntax_kinds.specs.declared.fragment.Fragment.TheVariants as fragments
 use Rattle.ssr_syntax_tree.specs.Places.{node_of}
 use Rattle.ssr_syntax_tree.specs.Syntax.{Syntax}
-use Rattle.ssr_syntax.specs.Reading.{fragment_reading}
+use Rattle.ssr_syntax.specs.Reading.{fragment_reading_of}
 use Rattle.ssr_base_trees.specs.Changes.{Change}
 use Rattle.ssr_base_trees.specs.Workspace.{Workspace, original_range, tree_of, trees}
 use Rattle.ide_ssr_bindings.specs.Found.{FoundMatch}
@@ -56,7 +56,7 @@ in_front_of end text = if ends_with eqb text end then Some (take (length text - 
 
 -- what a change writes for a match, if it is an expression, the comments aside that the match keeps, which stand behind it
 abbrev pub written : Workspace → FoundMatch → Change → Option Syntax
-written w m c = option_and_then (λ text. result_ok (fragment_reading fragments.Expr text)) (in_front_of (comments_kept w m) c.text)
+written w m c = option_and_then (λ text. result_ok (fragment_reading_of w.reach fragments.Expr text)) (in_front_of (comments_kept w m) c.text)
 
 -- what stands in the place of a match's node
 abbrev pub swap_of : Workspace → List ResolvedRule → ℕ → Change → FoundMatch → Option Swap

@@ -1,7 +1,7 @@
 //! The tree of a file with its edit made.
 ghost use Rattle.std.specs.Prelude.{◌≡◌, ◌≢◌, ◌↔◌, false, All, IfOk, IfSome, IsTrue, MatchResult, slice_get};
 ghost use Rattle.ssr_syntax_tree.specs.Syntax.{source_of};
-ghost use Rattle.ssr_syntax.specs.Reading.{file_reading};
+ghost use Rattle.ssr_syntax.specs.Reading.{file_reading_of};
 ghost use Rattle.ssr_syntax.specs.declared.syntax_error.SyntaxError.TheVariants as syntax_errors;
 ghost use Rattle.ssr_base_trees.specs.Changes.{FitsText};
 ghost use Rattle.ssr_standing.specs.Standing.{changed_text};
@@ -17,7 +17,7 @@ use ide_ssr_resolved_rule::ResolvedRule;
 use ide_ssr_rewriting::EditError;
 use ssr_base_trees::{ApplyError, FileId, TextEdit};
 use ssr_swaps::is_swapped;
-use ssr_syntax::{SyntaxError, parse_file_owned};
+use ssr_syntax::{Reach, SyntaxError, parse_file_owned_of};
 use ssr_syntax_tree::Tree;
 use std::alloc::{AllocError, Global};
 use thiserror::Error;
@@ -70,13 +70,13 @@ impl From<AllocError> for EditedError {
     }
 }
 
-/// The tree of a file's text with the edit made.
-fn read_with(alloc: Global, tree: &Tree, edit: &TextEdit) -> Result<Tree, SyntaxError>
+/// The tree of a file's text with the edit made, read in a reach.
+fn read_with(alloc: Global, reach: Reach, tree: &Tree, edit: &TextEdit) -> Result<Tree, SyntaxError>
     requires { All (FitsText (source_of tree.now)) edit.now }
-    ensures { MatchResult result (λ new. file_reading (changed_text tree.now edit.now) ≡ Ok new) (λ error. error ≢ syntax_errors.Memory → file_reading (changed_text tree.now edit.now) ≡ Err error) }
+    ensures { MatchResult result (λ new. file_reading_of reach (changed_text tree.now edit.now) ≡ Ok new) (λ error. error ≢ syntax_errors.Memory → file_reading_of reach (changed_text tree.now edit.now) ≡ Err error) }
 {
     match edit.apply(alloc, tree.source()) {
-        Ok(text) => parse_file_owned(alloc, text),
+        Ok(text) => parse_file_owned_of(alloc, reach, text),
         Err(ApplyError::Memory) => Err(SyntaxError::Memory),
         Err(ApplyError::Range) => unreachable!(),
     }
@@ -139,7 +139,7 @@ pub fn edited_tree(
     let Some(tree) = workspace.tree(file.0) else {
         return Ok(None);
     };
-    let new = read_with(alloc, tree, edit)?;
+    let new = read_with(alloc, workspace.reach(), tree, edit)?;
     let rewritten = RewrittenFile {
         alloc,
         workspace,

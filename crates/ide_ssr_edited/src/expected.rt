@@ -82,7 +82,7 @@ fn written(
     let mut comments = String::new(alloc);
     push_kept(alloc, workspace, m, &mut comments)?;
     match in_front_of(comments.as_str(), text) {
-        Some(front) => expression(alloc, front),
+        Some(front) => expression(alloc, workspace.reach(), front),
         None => Ok(None),
     }
 }

@@ -7,6 +7,7 @@ abbrev pub rule_of : RuleParts → ResolvedRule
 rule_of parts = record {
   names = map string_bytes parts.names.items;
   constraints = parts.constraints.items;
+  reach = parts.reach;
   category = parts.category;
   pattern = parts.pattern;
   template = parts.template;

@@ -3,7 +3,7 @@
 use crate::constraints::ConstraintSet;
 use crate::qualified_calls::QualifiedCall;
 use crate::used_paths::UsedPath;
-use ssr_syntax_kinds::Fragment;
+use ssr_syntax_kinds::{Fragment, Reach};
 use ssr_syntax_tree::Tree;
 
 /// The parts of a resolved rule.
@@ -13,6 +13,8 @@ pub struct RuleParts {
     pub names: Vec<String>,
     /// What each of the placeholders asks, in the order of their names.
     pub constraints: Vec<ConstraintSet>,
+    /// How much of Rust the trees were read in.
+    pub reach: Reach,
     /// What the template was read as, or the pattern, where there is no template.
     pub category: Fragment,
     pub pattern: Tree,

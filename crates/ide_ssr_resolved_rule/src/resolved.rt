@@ -22,7 +22,7 @@ use crate::receivers::receivers;
 use crate::templates::{TemplateToken, template_tokens};
 use crate::used_paths::{UsedPath, res_by_node};
 use ssr_base_trees::Res;
-use ssr_syntax_kinds::{Fragment, SyntaxKind};
+use ssr_syntax_kinds::{Fragment, Reach, SyntaxKind};
 use ssr_syntax_tree::{NodeNo, TokenNo, Tree};
 use std::alloc::{AllocError, Global};
 use std::marker::Model;
@@ -130,6 +130,13 @@ impl ResolvedRule {
         ensures { map string_bytes result.now ≡ self.now.names }
     {
         self.parts.names.as_slice()
+    }
+
+    /// How much of Rust the trees were read in.
+    pub fn reach(&self) -> Reach
+        ensures { result ≡ self.now.reach }
+    {
+        self.parts.reach
     }
 
     /// What the template was read as, or the pattern, where there is no template.

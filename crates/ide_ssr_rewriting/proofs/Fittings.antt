@@ -4,6 +4,7 @@ use Rattle.std.specs.Prelude.{if◌then◌else◌, ◌||◌, nat_le, nat_lt, sli
 use Rattle.std.specs.Global.{Global}
 use Rattle.std.proofs.lemmas.Bool.{and_parts, leb-true}
 use Rattle.std.specs.Option.{option_map_or}
+use Rattle.ssr_syntax_kinds.specs.declared.reach.Reach.{Reach}
 use Rattle.ssr_syntax_tree.specs.Syntax.{Syntax}
 use Rattle.std.proofs.lemmas.Option.{same_Some}
 use Rattle.std.proofs.lemmas.List.{length-drop, length-map, length-take-le, map-append, take_more}
@@ -42,12 +43,12 @@ fits_alone stands text c fit = by (stands (fitted stands c ∷ []))
     by true = fits_fitted stands text c fit
     by false = fit
 
-pub fits_between : (front text : List ℕ) (from to : ℕ) (cs : List Change) → All (FitsFile text) cs → All (FitsFile text) (fitted_between front text from to cs)
+pub fits_between : (reach : Reach) (front text : List ℕ) (from to : ℕ) (cs : List Change) → All (FitsFile text) cs → All (FitsFile text) (fitted_between reach front text from to cs)
 unfolding fitted_between
-fits_between front text from to cs all = by (is_alone front from to cs)
+fits_between reach front text from to cs all = by (is_alone front from to cs)
   where
     stands : List Change → Bool
-    stands cs = stands_between front text from to cs
+    stands cs = stands_between reach front text from to cs
 
     or_each : (b : Bool) → All (FitsFile text) (if b then cs else map (fitted_alone stands) cs)
     or_each true = all
@@ -158,45 +159,45 @@ one_fitted fit pairs i pair text old new h e more is so =
 -- ** Whether changes stand.
 
 -- they stand in a part that is read if what is read with them agrees
-pub stands_as : (front text : List ℕ) (from to : ℕ) (cs : List Change) (old : Syntax) (new : Option Syntax)
-    → expression_of front (slice_range text from to) ≡ Some old → new ≡ expression_of front (replaced text from to cs)
-    → option_map_or (agrees_after (1 + length front) from cs old) new false ≡ stands_between front text from to cs
-stands_as front text from to cs old new read is =
+pub stands_as : (reach : Reach) (front text : List ℕ) (from to : ℕ) (cs : List Change) (old : Syntax) (new : Option Syntax)
+    → expression_of reach front (slice_range text from to) ≡ Some old → new ≡ expression_of reach front (replaced text from to cs)
+    → option_map_or (agrees_after (1 + length front) from cs old) new false ≡ stands_between reach front text from to cs
+stands_as reach front text from to cs old new read is =
     ap (λ (new : Option Syntax). option_map_or (agrees_after (1 + length front) from cs old) new false) is
-    ∙ ap (λ (o : Option Syntax). option_map_or (λ old. option_map_or (agrees_after (1 + length front) from cs old) (expression_of front (replaced text from to cs)) false) o false)
+    ∙ ap (λ (o : Option Syntax). option_map_or (λ old. option_map_or (agrees_after (1 + length front) from cs old) (expression_of reach front (replaced text from to cs)) false) o false)
     (sym read)
 
 -- ** What is made.
 
-pub none_fitted : (front text : List ℕ) (from to : ℕ) → fitted_between front text from to [] ≡ []
+pub none_fitted : (reach : Reach) (front text : List ℕ) (from to : ℕ) → fitted_between reach front text from to [] ≡ []
 unfolding fitted_between
-none_fitted front text from to = refl
+none_fitted reach front text from to = refl
 
 -- what is held, without changes
 pub empty_held : (w : Workspace) (front : List ℕ) (range : FileRange) (o : Option FileRange) (list : List Rewrite) → o ≡ Some range → length list ≡ 0
     → slice_range (text_around w range) range.range.start range.range.end ≡ held_text w front (option_map file_span_of o) list
 empty_held w front range o [] is h =
-    ap (replaced (text_around w range) range.range.start range.range.end) (sym (none_fitted front (text_around w range) range.range.start range.range.end))
+    ap (replaced (text_around w range) range.range.start range.range.end) (sym (none_fitted w.reach front (text_around w range) range.range.start range.range.end))
     ∙ ap (λ (o : Option FileRange). held_text w front (option_map file_span_of o) []) (sym is)
 empty_held w front range o (r ∷ rs) is h = absurd (omega arith)
 
-pub alone_fitted : (front text : List ℕ) (from to : ℕ) (cs : List Change) → is_alone front from to cs ≡ true → fitted_between front text from to cs ≡ cs
+pub alone_fitted : (reach : Reach) (front text : List ℕ) (from to : ℕ) (cs : List Change) → is_alone front from to cs ≡ true → fitted_between reach front text from to cs ≡ cs
 unfolding fitted_between
-alone_fitted front text from to cs whole = ap (λ b. if b then cs else all_fitted (stands_between front text from to) cs) whole
+alone_fitted reach front text from to cs whole = ap (λ b. if b then cs else all_fitted (stands_between reach front text from to) cs) whole
 
-pub standing_fitted : (front text : List ℕ) (from to : ℕ) (cs : List Change) → is_alone front from to cs ≡ false → stands_between front text from to cs ≡ true
-    → fitted_between front text from to cs ≡ cs
+pub standing_fitted : (reach : Reach) (front text : List ℕ) (from to : ℕ) (cs : List Change) → is_alone front from to cs ≡ false → stands_between reach front text from to cs ≡ true
+    → fitted_between reach front text from to cs ≡ cs
 unfolding fitted_between
-standing_fitted front text from to cs whole stand =
-    ap (λ b. if b then cs else all_fitted (stands_between front text from to) cs) whole
-    ∙ ap (λ b. if b then cs else map (fitted_alone (stands_between front text from to)) cs) stand
+standing_fitted reach front text from to cs whole stand =
+    ap (λ b. if b then cs else all_fitted (stands_between reach front text from to) cs) whole
+    ∙ ap (λ b. if b then cs else map (fitted_alone (stands_between reach front text from to)) cs) stand
 
-pub each_fitted : (front text : List ℕ) (from to : ℕ) (cs : List Change) → is_alone front from to cs ≡ false → stands_between front text from to cs ≡ false
-    → fitted_between front text from to cs ≡ map (fitted_alone (stands_between front text from to)) cs
+pub each_fitted : (reach : Reach) (front text : List ℕ) (from to : ℕ) (cs : List Change) → is_alone front from to cs ≡ false → stands_between reach front text from to cs ≡ false
+    → fitted_between reach front text from to cs ≡ map (fitted_alone (stands_between reach front text from to)) cs
 unfolding fitted_between
-each_fitted front text from to cs whole fall =
-    ap (λ b. if b then cs else all_fitted (stands_between front text from to) cs) whole
-    ∙ ap (λ b. if b then cs else map (fitted_alone (stands_between front text from to)) cs) fall
+each_fitted reach front text from to cs whole fall =
+    ap (λ b. if b then cs else all_fitted (stands_between reach front text from to) cs) whole
+    ∙ ap (λ b. if b then cs else map (fitted_alone (stands_between reach front text from to)) cs) fall
 
 -- where nothing stands, all changes stay as they are
 none_stand : (stands : List Change → Bool) (cs : List Change) → ((cs : List Change) → stands cs ≡ false) → map (fitted_alone stands) cs ≡ cs
@@ -205,13 +206,13 @@ none_stand stands (c ∷ cs) none =
     ap (λ b. (if b then fitted stands c else c) ∷ map (fitted_alone stands) cs) (none (fitted stands c ∷ []))
     ∙ ap (λ (cs : List Change). c ∷ cs) (none_stand stands cs none)
 
-pub unread_fitted : (front text : List ℕ) (from to : ℕ) (cs : List Change) → is_alone front from to cs ≡ false → expression_of front (slice_range text from to) ≡ None
-    → fitted_between front text from to cs ≡ cs
-unread_fitted front text from to cs whole unread =
-    each_fitted front text from to cs whole (fall cs) ∙ none_stand (stands_between front text from to) cs fall
+pub unread_fitted : (reach : Reach) (front text : List ℕ) (from to : ℕ) (cs : List Change) → is_alone front from to cs ≡ false → expression_of reach front (slice_range text from to) ≡ None
+    → fitted_between reach front text from to cs ≡ cs
+unread_fitted reach front text from to cs whole unread =
+    each_fitted reach front text from to cs whole (fall cs) ∙ none_stand (stands_between reach front text from to) cs fall
   where
-    fall : (cs : List Change) → stands_between front text from to cs ≡ false
-    fall cs = ap (λ (old : Option Syntax). option_map_or (λ old. option_map_or (agrees_after (1 + length front) from cs old) (expression_of front (replaced text from to cs)) false) old false) unread
+    fall : (cs : List Change) → stands_between reach front text from to cs ≡ false
+    fall cs = ap (λ (old : Option Syntax). option_map_or (λ old. option_map_or (agrees_after (1 + length front) from cs old) (expression_of reach front (replaced text from to cs)) false) old false) unread
 
 -- ** One change alone.
 

@@ -3,8 +3,9 @@ use Rattle.std.specs.Prelude.{ℕ, ◌+◌, ◌==◌, ◌&&◌, Bool, true, fals
 use Rattle.std.specs.Option.{option_map_or}
 use Rattle.std.specs.Result.{result_ok}
 use Rattle.ssr_syntax_kinds.specs.declared.fragment.Fragment.TheVariants as fragments
+use Rattle.ssr_syntax_kinds.specs.declared.reach.Reach.{Reach}
 use Rattle.ssr_syntax_tree.specs.Syntax.{Syntax}
-use Rattle.ssr_syntax.specs.Reading.{fragment_reading}
+use Rattle.ssr_syntax.specs.Reading.{fragment_reading_of}
 use Rattle.ssr_base_trees.specs.Changes.{Change, replaced}
 use Rattle.ssr_base_trees.specs.Workspace.{Workspace}
 use Rattle.ssr_standing.specs.Around.{agree}
@@ -12,9 +13,9 @@ use Rattle.ssr_standing.specs.Expansions.{stands_in}
 use Rattle.ssr_standing.specs.Fitted.{fitted}
 use Rattle.ssr_standing.specs.Ranges.{new_places, old_places}
 
--- What is read of an expression, with a text in front of it: in parentheses, in which comments may stand around it.
-abbrev pub expression_of : List ℕ → List ℕ → Option Syntax
-expression_of front text = result_ok (fragment_reading fragments.Expr (codes "(" ++ (front ++ (text ++ codes ")"))))
+-- What is read of an expression in a reach, with a text in front of it: in parentheses, in which comments may stand around it.
+abbrev pub expression_of : Reach → List ℕ → List ℕ → Option Syntax
+expression_of reach front text = result_ok (fragment_reading_of reach fragments.Expr (codes "(" ++ (front ++ (text ++ codes ")"))))
 
 -- the new tree agrees with the old one around changes, where what stands at the byte `from` of their text stands at `at`
 abbrev pub agrees_after : ℕ → ℕ → List Change → Syntax → Syntax → Bool
@@ -22,11 +23,11 @@ agrees_after at from cs old new = agree old (old_places at from cs) new (new_pla
 
 -- The bytes from one place of a text to another, behind the text in front, are an expression, without the changes made and with them,
 -- and what is read agrees around these.
-abbrev pub stands_between : List ℕ → List ℕ → ℕ → ℕ → List Change → Bool
-stands_between front text from to cs =
+abbrev pub stands_between : Reach → List ℕ → List ℕ → ℕ → ℕ → List Change → Bool
+stands_between reach front text from to cs =
     option_map_or
-    (λ old. option_map_or (agrees_after (1 + length front) from cs old) (expression_of front (replaced text from to cs)) false)
-    (expression_of front (slice_range text from to))
+    (λ old. option_map_or (agrees_after (1 + length front) from cs old) (expression_of reach front (replaced text from to cs)) false)
+    (expression_of reach front (slice_range text from to))
     false
 
 -- a change as it stands alone; what stands neither as it is nor in parentheses stays as it is
@@ -44,8 +45,9 @@ is_alone front from to (c ∷ []) = length front == 0 && (c.start == from && c.e
 is_alone front from to (c ∷ d ∷ cs) = false
 
 -- the changes that are made between two places of a text, behind the text in front
-unfoldable pub fitted_between : List ℕ → List ℕ → ℕ → ℕ → List Change → List Change
-fitted_between front text from to cs = if is_alone front from to cs then cs else all_fitted (stands_between front text from to) cs
+unfoldable pub fitted_between : Reach → List ℕ → List ℕ → ℕ → ℕ → List Change → List Change
+fitted_between reach front text from to cs =
+    if is_alone front from to cs then cs else all_fitted (stands_between reach front text from to) cs
 
 -- The changes that are made in a file: as they are, if with all of them the file is read and groups as before, and so does what each
 -- call of a macro in it stands for; else each as it stands alone.

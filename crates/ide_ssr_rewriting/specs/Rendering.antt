@@ -7,7 +7,7 @@ use Rattle.ssr_syntax_tree.specs.Places.{nodes_of, start_of, end_of, token_of}
 use Rattle.ssr_syntax_kinds.specs.declared.fragment.Fragment.{Fragment}
 use Rattle.ssr_syntax_kinds.specs.declared.fragment.Fragment.TheVariants as fragments
 use Rattle.ssr_syntax.specs.declared.syntax_error.SyntaxError.{SyntaxError}
-use Rattle.ssr_syntax.specs.Reading.{fragment_reading, trimmed_front}
+use Rattle.ssr_syntax.specs.Reading.{fragment_reading_of, trimmed_front}
 use Rattle.ide_ssr_resolved_rule.specs.Resolved.{ResolvedRule}
 use Rattle.ide_ssr_resolved_rule.specs.Templates.{template_token}
 use Rattle.ide_ssr_resolved_rule.specs.declared.templates.TemplateToken.{TemplateToken}
@@ -76,7 +76,7 @@ wrapped tree front rule filling template at (n ∷ tokens) =
     wrapped_text tree front (is_piece rule template n) at text
     ++ wrapped tree front rule filling template (at + length text) tokens
 
--- the filled template, with parentheses if the text without them reads in the template's category
+-- the filled template, with parentheses if the text without them reads in the rule's reach, in the template's category
 abbrev pub rendered_as : Result Syntax SyntaxError → ResolvedRule → Filling → Syntax → List ℕ → List ℕ
 rendered_as (Ok tree) rule filling template tokens =
     wrapped tree (trimmed_front (plain rule filling template tokens)) rule filling template 0 tokens
@@ -93,7 +93,7 @@ abbrev pub rendered_by : ResolvedRule → Filling → Syntax → List ℕ
 rendered_by rule filling template =
     let tokens = token_numbers template in
     let text = plain rule filling template tokens in
-    if takes_parentheses rule.category then rendered_as (fragment_reading rule.category text) rule filling template tokens
+    if takes_parentheses rule.category then rendered_as (fragment_reading_of rule.reach rule.category text) rule filling template tokens
     else text
 
 -- the filled template of a rule; nothing where the rule has no template

@@ -34,7 +34,7 @@ file_text w file = option_map_or source_of (slice_get w.files file) []
 abbrev pub rewritten : Workspace → List ℕ → FileSpan → List Rewrite → List ℕ
 rewritten w front range list =
     let text = file_text w range.file in
-    replaced text range.span.start range.span.end (fitted_between front text range.span.start range.span.end (changes_made list))
+    replaced text range.span.start range.span.end (fitted_between w.reach front text range.span.start range.span.end (changes_made list))
 
 -- what a placeholder holds, which comes from this range, with the changes of a list made; in a match that a search finds,
 -- each has a range

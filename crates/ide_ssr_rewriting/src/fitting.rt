@@ -10,7 +10,7 @@ ghost use Rattle.ide_ssr_rewriting.specs.Private.Fitting.{ChangeFits, FitsRange,
 use crate::replacements::{between, replaced};
 use ssr_base_trees::{FileRange, Trees};
 use ssr_standing::{agree, in_parentheses, new_ranges_from, old_ranges_from};
-use ssr_syntax::{Fragment, SyntaxError, fragment};
+use ssr_syntax::{Fragment, Reach, SyntaxError, fragment_of};
 use ssr_syntax_kinds::TextRange;
 use ssr_syntax_tree::Tree;
 use std::alloc::{AllocError, Global};
@@ -30,14 +30,19 @@ fn is_alone(front: &str, range: TextRange, changes: &[(TextRange, String)]) -> b
     }
 }
 
-/// What is read of an expression, with a text in front of it, if it is read. It is read in parentheses, in which comments may stand
+/// What is read of an expression in a reach, with a text in front of it, if it is read. It is read in parentheses, in which comments may stand
 /// around it.
-fn expression(alloc: Global, front: &str, text: &str) -> Result<Option<Tree>, AllocError>
-    ensures tree { IfOk result (λ tree. tree ≡ expression_of front.now text.now) }
+fn expression(
+    alloc: Global,
+    reach: Reach,
+    front: &str,
+    text: &str,
+) -> Result<Option<Tree>, AllocError>
+    ensures tree { IfOk result (λ tree. tree ≡ expression_of reach front.now text.now) }
     ensures short { IfOk result (λ tree. IfSome tree (λ _. 2 + length front.now + length text.now < 2 ^ 32)) }
 {
     let closed = format!(in alloc; "({front}{text})")?;
-    match fragment(alloc, Fragment::Expr, closed.as_str()) {
+    match fragment_of(alloc, reach, Fragment::Expr, closed.as_str()) {
         Ok((tree, _)) => Ok(Some(tree)),
         Err(SyntaxError::Memory) => Err(AllocError),
         Err(_) => Ok(None),
@@ -53,7 +58,7 @@ struct Part<'a> {
     tree: Tree,
     ghost begins: { is_boundary (text_around workspace.now range) range.range.start ≡ true },
     ghost ends: { is_boundary (text_around workspace.now range) range.range.end ≡ true },
-    ghost read: { expression_of front.now (slice_range (text_around workspace.now range) range.range.start range.range.end) ≡ Some tree },
+    ghost read: { expression_of workspace.now.reach front.now (slice_range (text_around workspace.now range) range.range.start range.range.end) ≡ Some tree },
     ghost short: { 2 + length front.now + length (slice_range (text_around workspace.now range) range.range.start range.range.end) < 2 ^ 32 },
 }
 
@@ -64,7 +69,7 @@ impl<'a> Part<'a> {
         ensures { IfOk result (λ answer. answer ≡ stands_in self.now.workspace.now self.now.front.now self.now.range (changes_of changes.now)) }
     {
         let text = replaced(alloc, self.workspace, self.range, changes)?;
-        let read = expression(alloc, self.front, text.as_str())?;
+        let read = expression(alloc, self.workspace.reach(), self.front, text.as_str())?;
         let Some(new) = read else {
             return Ok(false);
         };
@@ -131,13 +136,13 @@ pub(crate) fn fitted(
     requires begins { is_boundary (text_around workspace.now range) range.range.start ≡ true }
     requires ends { is_boundary (text_around workspace.now range) range.range.end ≡ true }
     requires changes { All (ChangeFits workspace.now range) (changes_of changes.items) }
-    ensures { IfOk result (λ fitted. changes_of fitted.items ≡ fitted_between front.now (text_around workspace.now range) range.range.start range.range.end (changes_of changes.items)) }
+    ensures { IfOk result (λ fitted. changes_of fitted.items ≡ fitted_between workspace.now.reach front.now (text_around workspace.now range) range.range.start range.range.end (changes_of changes.items)) }
 {
     if is_alone(front, range.range, &changes) {
         return Ok(changes);
     }
     let text = between(workspace, range.file_id, range.range.start, range.range.end);
-    let read = expression(alloc, front, text)?;
+    let read = expression(alloc, workspace.reach(), front, text)?;
     let Some(tree) = read else {
         return Ok(changes);
     };

@@ -10,7 +10,7 @@ ghost use Rattle.ide_ssr_rewriting.specs.Rendering.{piece_of, filling_of, text_f
 
 use ide_ssr_bindings::Binding;
 use ide_ssr_resolved_rule::{ResolvedRule, TemplateToken};
-use ssr_syntax::{Fragment, SyntaxError, fragment};
+use ssr_syntax::{Fragment, SyntaxError, fragment_of};
 use ssr_syntax_kinds::TextRange;
 use ssr_syntax_tree::{NodeNo, TokenNo, Tree};
 use std::alloc::{AllocError, Global};
@@ -41,7 +41,7 @@ pub(crate) fn rendered(
     if !takes_parentheses(rule.category()) {
         return Ok(plain);
     }
-    match fragment(alloc, rule.category(), plain.as_str()) {
+    match fragment_of(alloc, rule.reach(), rule.category(), plain.as_str()) {
         Ok((tree, front)) => {
             if rendering.are_nodes(&tree, front) {
                 return Ok(plain);

@@ -8,7 +8,8 @@ use Rattle.std.proofs.lemmas.List.Folds.{list_any-append}
 use Rattle.std.proofs.lemmas.List.Kept.{AllPairs-cons}
 use Rattle.std.proofs.lemmas.Slice.Eq.{bytes_eq-Decides}
 use Rattle.ssr_syntax_kinds.specs.declared.fragment.Fragment.{Fragment}
-use Rattle.ssr_syntax.specs.Reading.{fragment_reading}
+use Rattle.ssr_syntax_kinds.specs.declared.reach.Reach.{Reach}
+use Rattle.ssr_syntax.specs.Reading.{fragment_reading_of}
 use Rattle.ssr_syntax_tree.specs.Syntax.{Syntax}
 use Rattle.ide_ssr_rules.specs.declared.elements.Element.{Element}
 use Rattle.ide_ssr_rules.specs.declared.elements.Element.TheVariants as e
@@ -103,9 +104,9 @@ at_most_from (e.Placeholder placeholder ∷ es) seen names others new none =
     (λ j at. not_again es (seen ++ name ∷ []) names others name j new.1 none (has_last seen name) at)
     (at_most_from es (seen ++ name ∷ []) names others new.1 none)
 
-pub template_at_most : (category : Fragment) (es : List Element) (names : List (List ℕ)) (tree : Syntax) → IsSide (names ++ names_of es) es
-    → fragment_reading category (code_of es) ≡ Ok tree → HasEachAtMostOnce names (Some tree)
-template_at_most category es names tree is read =
-    let fits = side_fits category (names ++ names_of es) es tree is read in
-    subst (AllPairs (λ one other. one ≢ other)) (sym (tree_among category es names tree is.utf8 is.is_trimmed is.same fits))
+pub template_at_most : (reach : Reach) (category : Fragment) (es : List Element) (names : List (List ℕ)) (tree : Syntax) → IsSide (names ++ names_of es) es
+    → fragment_reading_of reach category (code_of es) ≡ Ok tree → HasEachAtMostOnce names (Some tree)
+template_at_most reach category es names tree is read =
+    let fits = side_fits reach category (names ++ names_of es) es tree is read in
+    subst (AllPairs (λ one other. one ≢ other)) (sym (tree_among reach category es names tree is.utf8 is.is_trimmed is.same fits))
     (at_most_from es [] names (names_of es) is.new is.free)

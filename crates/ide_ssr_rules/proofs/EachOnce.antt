@@ -15,10 +15,11 @@ use Rattle.ssr_syntax_kinds.specs.Kinds.{same_kind, is_ident}
 use Rattle.ssr_syntax_kinds.proofs.Shared.{same_kind-equal}
 use Rattle.ssr_syntax_tree.specs.Syntax.{Token, Syntax, tokens_of, spelled, same_token}
 use Rattle.ssr_syntax_kinds.specs.declared.fragment.Fragment.{Fragment}
+use Rattle.ssr_syntax_kinds.specs.declared.reach.Reach.{Reach}
 use Rattle.ssr_syntax_rows.specs.Solid.{pieces}
-use Rattle.ssr_syntax.specs.Reading.{fragment_reading, FitsFragment}
+use Rattle.ssr_syntax.specs.Reading.{fragment_reading_of, FitsFragmentOf}
 use Rattle.ssr_syntax.specs.Identifiers.{idents}
-use Rattle.ssr_syntax.proofs.Shared.{fragment_sound, fragment_idents, fragment_alone, fragment_clear, length-token, tiles_within, spelled-pieces, IsUtf8-trim, trim_shorter}
+use Rattle.ssr_syntax.proofs.Shared.{fragment_sound_of, fragment_idents_of, fragment_alone_of, fragment_clear_of, length-token, tiles_within, spelled-pieces, IsUtf8-trim, trim_shorter}
 use Rattle.ide_ssr_rules.specs.declared.elements.Element.{Element}
 use Rattle.ide_ssr_rules.specs.declared.elements.Element.TheVariants as e
 use Rattle.ide_ssr_resolved_rule.specs.Names.{has, AreNew}
@@ -184,23 +185,23 @@ one_raw : (one other : List RawToken) → ◌≡◌ {A = Option (List RawToken)}
 one_raw one other h = cc
 
 -- the identifiers of the tree are those that are read for the elements
-tree_idents : (category : Fragment) (es : List Element) (tree : Syntax) → IsUtf8 (code_of es) → glued_placeholder es ≡ None
-    → FitsFragment category (code_of es) tree → idents (tokens_of tree) ≡ idents (map read_as es)
-tree_idents category es tree utf8 same fits =
+tree_idents : (reach : Reach) (category : Fragment) (es : List Element) (tree : Syntax) → IsUtf8 (code_of es) → glued_placeholder es ≡ None
+    → FitsFragmentOf reach category (code_of es) tree → idents (tokens_of tree) ≡ idents (map read_as es)
+tree_idents reach category es tree utf8 same fits =
     let text = trim (code_of es) in
     let t = unchanged es utf8 same in
     let r = lexed_raw text t.found t.lexes in
-    let f = fragment_idents category (code_of es) tree fits in
+    let f = fragment_idents_of reach category (code_of es) tree fits in
     let raw : f.0 ≡ r.0 = one_raw f.0 r.0 (sym f.1 ∙ r.1) in
     f.2 ∙ ap idents (ap (pieces text) raw ∙ sym r.2 ∙ t.are_read)
 
 -- the placeholders of the tree are those that are read for the elements
-pub tree_among : (category : Fragment) (es : List Element) (names : List (List ℕ)) (tree : Syntax) → IsUtf8 (code_of es) → trim (code_of es) ≡ code_of es
-    → glued_placeholder es ≡ None → FitsFragment category (code_of es) tree
+pub tree_among : (reach : Reach) (category : Fragment) (es : List Element) (names : List (List ℕ)) (tree : Syntax) → IsUtf8 (code_of es) → trim (code_of es) ≡ code_of es
+    → glued_placeholder es ≡ None → FitsFragmentOf reach category (code_of es) tree
     → placeholders_among names (tokens_of tree) ≡ placeholders_among names (map read_as es)
-tree_among category es names tree utf8 is_trimmed same fits =
+tree_among reach category es names tree utf8 is_trimmed same fits =
     over_idents names (tokens_of tree)
-    ∙ ap (placeholders_among names) (tree_idents category es tree utf8 same fits)
+    ∙ ap (placeholders_among names) (tree_idents reach category es tree utf8 same fits)
     ∙ sym (over_idents names (map read_as es))
 
 -- ** Sides whose placeholders are told apart from the other tokens.
@@ -213,20 +214,20 @@ pub record IsSide (names : List (List ℕ)) (es : List Element) : Type 0 where
   pub same : glued_placeholder es ≡ None
   pub free : spelled_stand_in names es ≡ None
 
-pub side_fits : (category : Fragment) (names : List (List ℕ)) (es : List Element) (tree : Syntax) → IsSide names es
-    → fragment_reading category (code_of es) ≡ Ok tree → FitsFragment category (code_of es) tree
-side_fits category names es tree is read =
-    (fragment_sound category (code_of es) tree (subst IsUtf8 (sym is.is_trimmed) is.utf8) read).fits
+pub side_fits : (reach : Reach) (category : Fragment) (names : List (List ℕ)) (es : List Element) (tree : Syntax) → IsSide names es
+    → fragment_reading_of reach category (code_of es) ≡ Ok tree → FitsFragmentOf reach category (code_of es) tree
+side_fits reach category names es tree is read =
+    (fragment_sound_of reach category (code_of es) tree (subst IsUtf8 (sym is.is_trimmed) is.utf8) read).fits
 
-pub pattern_each : (category : Fragment) (es : List Element) (others : List (List ℕ)) (tree : Syntax) → IsSide (names_of es ++ others) es
-    → fragment_reading category (code_of es) ≡ Ok tree → IsReadOnce (names_of es) tree
-pattern_each category es others tree is read =
+pub pattern_each : (reach : Reach) (category : Fragment) (es : List Element) (others : List (List ℕ)) (tree : Syntax) → IsSide (names_of es ++ others) es
+    → fragment_reading_of reach category (code_of es) ≡ Ok tree → IsReadOnce (names_of es) tree
+pattern_each reach category es others tree is read =
     let text = code_of es in
     let names = names_of es in
-    let fits = side_fits category (names ++ others) es tree is read in
+    let fits = side_fits reach category (names ++ others) es tree is read in
     record {
-      each = tree_among category es names tree is.utf8 is.is_trimmed is.same fits ∙ each_from es [] names others refl is.new is.free;
-      alone = fragment_alone category text tree fits;
-      clear = fragment_clear category text tree fits;
+      each = tree_among reach category es names tree is.utf8 is.is_trimmed is.same fits ∙ each_from es [] names others refl is.new is.free;
+      alone = fragment_alone_of reach category text tree fits;
+      clear = fragment_clear_of reach category text tree fits;
       different = is.new;
     }

@@ -20,6 +20,7 @@ abbrev pub kind_with : ParsedRule → List (List ℕ) → List (List Constraint)
 kind_with kind kept asks in_template in_pattern calls eligible = record {
   names = kept;
   constraints = asks;
+  reach = kind.reach;
   category = kind.category;
   pattern = kind.pattern;
   template = kind.template;

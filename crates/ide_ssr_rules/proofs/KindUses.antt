@@ -4,6 +4,7 @@ use Rattle.std.specs.Option.{IfSome, option_map}
 use Rattle.std.specs.Str.{IsUtf8}
 use Rattle.std.proofs.lemmas.List.Elements.{All-weaker}
 use Rattle.ssr_syntax_kinds.specs.declared.fragment.Fragment.{Fragment}
+use Rattle.ssr_syntax_kinds.specs.declared.reach.Reach.{Reach}
 use Rattle.ssr_syntax_tree.specs.Syntax.{Syntax}
 use Rattle.ide_ssr_rules.specs.declared.elements.Element.{Element}
 use Rattle.ide_ssr_rules.specs.declared.kinds.ParsedRule.{ParsedRule}
@@ -67,31 +68,31 @@ side_of : (names : List (List ℕ)) (side : List Element) → IsRead side → gl
 side_of names side read same free =
     record { utf8 = read.utf8; is_trimmed = stays_trimmed side read.utf8 same; new = read.new; same = same; free = free }
 
-template_once : (pattern : List Element) (template : Option (List Element)) → IfSome template IsRead → AreChecked pattern (written template)
-    → (category : Fragment) (tree : Option Syntax) → IsTemplateFrom (option_map code_of template) category tree
+template_once : (reach : Reach) (pattern : List Element) (template : Option (List Element)) → IfSome template IsRead → AreChecked pattern (written template)
+    → (category : Fragment) (tree : Option Syntax) → IsTemplateFrom reach (option_map code_of template) category tree
     → HasEachAtMostOnce (names_of pattern) tree
-template_once pattern None read c category None is = tt
-template_once pattern None read c category (Some tree) is = absurd is
-template_once pattern (Some template) read c category None is = absurd is
-template_once pattern (Some template) read c category (Some tree) is =
+template_once reach pattern None read c category None is = tt
+template_once reach pattern None read c category (Some tree) is = absurd is
+template_once reach pattern (Some template) read c category None is = absurd is
+template_once reach pattern (Some template) read c category (Some tree) is =
     let all = names_of pattern ++ names_of template in
-    template_at_most category template (names_of pattern) tree (side_of all template read c.template_same c.template_free) is
+    template_at_most reach category template (names_of pattern) tree (side_of all template read c.template_same c.template_free) is
 
-pub kinds_once : (pattern : List Element) (template : Option (List Element)) (names : List (List ℕ)) (kinds : List ParsedRule) → IsRead pattern
+pub kinds_once : (reach : Reach) (pattern : List Element) (template : Option (List Element)) (names : List (List ℕ)) (kinds : List ParsedRule) → IsRead pattern
     → IfSome template IsRead → check_sides pattern (written template) ≡ Ok tt
-    → some_kind (kinds_of (code_of pattern) (option_map code_of template)) ≡ Ok kinds → names ≡ names_of pattern → All (AreReadOnce names) kinds
-kinds_once pattern template names kinds read_pattern read_template sides_checked read are =
+    → some_kind (kinds_of reach (code_of pattern) (option_map code_of template)) ≡ Ok kinds → names ≡ names_of pattern → All (AreReadOnce names) kinds
+kinds_once reach pattern template names kinds read_pattern read_template sides_checked read are =
     let c = checked pattern (written template) sides_checked in
     let own = names_of pattern in
     let others = names_of (written template) in
     let pattern_is = side_of (own ++ others) pattern read_pattern c.pattern_same c.pattern_free in
-    let once : (kind : ParsedRule) → IsKindFrom (code_of pattern) (option_map code_of template) kind → AreReadOnce own kind =
+    let once : (kind : ParsedRule) → IsKindFrom reach (code_of pattern) (option_map code_of template) kind → AreReadOnce own kind =
     λ kind is. (
-      pattern_each is.category pattern others kind.pattern pattern_is is.pattern_read,
-      template_once pattern template read_template c kind.category kind.template is.template_read,
+      pattern_each reach is.category pattern others kind.pattern pattern_is is.pattern_read,
+      template_once reach pattern template read_template c kind.category kind.template is.template_read,
     ) in
-    let found = kinds_of (code_of pattern) (option_map code_of template) in
+    let found = kinds_of reach (code_of pattern) (option_map code_of template) in
     subst (λ ns. All (AreReadOnce ns) kinds) (sym are)
     (subst (All (AreReadOnce own)) (some_kinds found kinds read)
-    (All-weaker (IsKindFrom (code_of pattern) (option_map code_of template)) (AreReadOnce own) once found
-    (kinds_read (code_of pattern) (option_map code_of template))))
+    (All-weaker (IsKindFrom reach (code_of pattern) (option_map code_of template)) (AreReadOnce own) once found
+    (kinds_read reach (code_of pattern) (option_map code_of template))))

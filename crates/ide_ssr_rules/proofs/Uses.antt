@@ -1,6 +1,7 @@
 -- That an accepted rule uses each placeholder once.
 use Rattle.std.proofs.Common.{◌≡◌, ℕ, zero, suc, length, List, [], ◌∷◌, ◌++◌, Bool, true, false, cond, Option, Some, None, Result, Ok, Err, refl, ap, sym, subst, ◌∙◌}
 use Rattle.std.specs.Option.{option_map, option_map_or}
+use Rattle.ssr_syntax_kinds.specs.declared.reach.Reach.{Reach}
 use Rattle.ssr_syntax_tree.specs.Syntax.{Token}
 use Rattle.ide_ssr_rules.specs.declared.elements.Element.{Element}
 use Rattle.ide_ssr_rules.specs.declared.elements.Element.TheVariants as e
@@ -13,7 +14,7 @@ use Rattle.ide_ssr_rules.specs.Kinds.{kinds_of, some_kind}
 use Rattle.ide_ssr_rules.specs.MacroCalls.{untested}
 use Rattle.ide_ssr_refusals.specs.declared.refusals.Refusal.{Refusal}
 use Rattle.ide_ssr_refusals.specs.Refusals.{◌>>=◌, unless}
-use Rattle.ide_ssr_rules.specs.Rules.{Rule, rule_of, rule_reading, check_sides, check_uses, check_defined, unconstrained, none_of, lacking, written}
+use Rattle.ide_ssr_rules.specs.Rules.{Rule, rule_of, rule_reading_of, check_sides, check_uses, check_defined, unconstrained, none_of, lacking, written}
 use Rattle.ide_ssr_rules.specs.Sides.{sides}
 use Rattle.ide_ssr_rules.specs.StandIns.{code_of}
 use Rattle.ide_ssr_rules.specs.Uses.{UsesPlaceholdersOnce}
@@ -83,18 +84,18 @@ uses_defined pattern template kinds is =
     let plain = went (unconstrained template) defined tt tested.next_is in
     none_lack (lacking (names_of pattern) (names_of template)) tt plain.next_is
 
-module _ (pattern : List Element) (template : Option (List Element)) where
+module _ (reach : Reach) (pattern : List Element) (template : Option (List Element)) where
   pub record Uses (rule : Rule) : Type 0 where
     pub names : rule.names ≡ names_of pattern
-    pub kinds : some_kind (kinds_of (code_of pattern) (option_map code_of template)) ≡ Ok rule.kinds
+    pub kinds : some_kind (kinds_of reach (code_of pattern) (option_map code_of template)) ≡ Ok rule.kinds
     pub defined : lacking (names_of pattern) (names_of (written template)) ≡ []
 
-  pub rule_uses : (rule : Rule) → rule_of pattern template ≡ Ok rule → Uses rule
+  pub rule_uses : (rule : Rule) → rule_of reach pattern template ≡ Ok rule → Uses rule
   unfolding rule_of
   rule_uses rule is =
-      let kinds = went (check_sides pattern (written template)) (after_sides pattern template) rule is in
-      let names = went (some_kind (kinds_of (code_of pattern) (option_map code_of template))) (after_kinds pattern template) rule kinds.next_is in
-      let made = went (check_uses pattern (written template) names.found) (rule_with pattern template names.found) rule names.next_is in
+      let kinds = went (check_sides pattern (written template)) (after_sides reach pattern template) rule is in
+      let names = went (some_kind (kinds_of reach (code_of pattern) (option_map code_of template))) (after_kinds reach pattern template) rule kinds.next_is in
+      let made = went (check_uses pattern (written template) names.found) (rule_with reach pattern template names.found) rule names.next_is in
       let same : record { names = names_of pattern; constraints = constraints_of pattern; kinds = names.found } ≡ rule = cc in
       let kinds_are : names.found ≡ rule.kinds = ap (λ (r : Rule). r.kinds) same in
       record {
@@ -104,21 +105,21 @@ module _ (pattern : List Element) (template : Option (List Element)) where
       }
 
 -- the sides of an accepted rule
-pub record Accepted (text : List ℕ) (rule : Rule) : Type 0 where
+pub record Accepted (reach : Reach) (text : List ℕ) (rule : Rule) : Type 0 where
   pub texts : List ℕ × List ℕ
   pub pattern : List Element
   pub template : List Element
   pub split : sides text ≡ Ok texts
   pub pattern_read : side texts.0 ≡ Ok pattern
   pub template_read : side texts.1 ≡ Ok template
-  pub rule_is : rule_of pattern (Some template) ≡ Ok rule
+  pub rule_is : rule_of reach pattern (Some template) ≡ Ok rule
 
-pub accepted : (text : List ℕ) (rule : Rule) → rule_reading text ≡ Ok rule → Accepted text rule
-unfolding rule_reading
-accepted text rule is =
-    let split = went (sides text) (λ texts. side texts.0 >>= (λ pattern. side texts.1 >>= (λ template. rule_of pattern (Some template)))) rule is in
-    let pattern = went (side split.found.0) (λ pattern. side split.found.1 >>= (λ template. rule_of pattern (Some template))) rule split.next_is in
-    let template = went (side split.found.1) (λ template. rule_of pattern.found (Some template)) rule pattern.next_is in
+pub accepted : (reach : Reach) (text : List ℕ) (rule : Rule) → rule_reading_of reach text ≡ Ok rule → Accepted reach text rule
+unfolding rule_reading_of
+accepted reach text rule is =
+    let split = went (sides text) (λ texts. side texts.0 >>= (λ pattern. side texts.1 >>= (λ template. rule_of reach pattern (Some template)))) rule is in
+    let pattern = went (side split.found.0) (λ pattern. side split.found.1 >>= (λ template. rule_of reach pattern (Some template))) rule split.next_is in
+    let template = went (side split.found.1) (λ template. rule_of reach pattern.found (Some template)) rule pattern.next_is in
     record {
       texts = split.found;
       pattern = pattern.found;
@@ -129,10 +130,10 @@ accepted text rule is =
       rule_is = template.next_is;
     }
 
-pub accepted_uses : (text : List ℕ) (rule : Rule) → rule_reading text ≡ Ok rule → UsesPlaceholdersOnce text rule
-accepted_uses text rule is =
-    let a = accepted text rule is in
-    let uses = rule_uses a.pattern (Some a.template) rule a.rule_is in
+pub accepted_uses : (reach : Reach) (text : List ℕ) (rule : Rule) → rule_reading_of reach text ≡ Ok rule → UsesPlaceholdersOnce text rule
+accepted_uses reach text rule is =
+    let a = accepted reach text rule is in
+    let uses = rule_uses reach a.pattern (Some a.template) rule a.rule_is in
     record {
       texts = a.texts;
       pattern = a.pattern;

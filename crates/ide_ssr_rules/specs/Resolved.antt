@@ -37,6 +37,7 @@ module _ (m : Meanings) (scope : ScopeId) (names : List (List ℕ)) (constraints
   resolved_with kind in_template in_pattern = record {
     names = names;
     constraints = constraints;
+    reach = kind.reach;
     category = kind.category;
     pattern = kind.pattern;
     template = kind.template;

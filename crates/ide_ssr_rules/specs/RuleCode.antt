@@ -3,6 +3,8 @@ use Rattle.std.specs.Prelude.{ℕ, List, Option, refl}
 use Rattle.std.specs.Coded.{Coded, code_by, coded×, coded_list, coded_option, coded_ℕ}
 use Rattle.ssr_syntax_kinds.specs.contracts.fragment.Fragment as fragment
 use Rattle.ssr_syntax_kinds.specs.declared.fragment.Fragment.{Fragment}
+use Rattle.ssr_syntax_kinds.specs.contracts.reach.Reach as reaches
+use Rattle.ssr_syntax_kinds.specs.declared.reach.Reach.{Reach}
 use Rattle.ssr_syntax_tree.specs.Syntax.{Syntax}
 use Rattle.ssr_syntax_tree.specs.SyntaxCode.{syntax_code}
 use Rattle.ide_ssr_resolved_rule.specs.contracts.constraints.Constraint as constraint
@@ -12,9 +14,10 @@ use Rattle.ide_ssr_rules.specs.Rules.{Rule}
 
 abbrev pub kind_code : Coded ParsedRule
 kind_code =
-    code_by (Fragment × (Syntax × Option Syntax)) (coded× fragment.the_row.coded (coded× syntax_code (coded_option syntax_code)))
-    (λ kind. (kind.category, (kind.pattern, kind.template)))
-    (λ p. record { category = p.0; pattern = p.1.0; template = p.1.1 }) (λ _. refl)
+    code_by (Reach × (Fragment × (Syntax × Option Syntax)))
+    (coded× reaches.the_row.coded (coded× fragment.the_row.coded (coded× syntax_code (coded_option syntax_code))))
+    (λ kind. (kind.reach, (kind.category, (kind.pattern, kind.template))))
+    (λ p. record { reach = p.0; category = p.1.0; pattern = p.1.1.0; template = p.1.1.1 }) (λ _. refl)
 
 abbrev pub rule_code : Coded Rule
 rule_code =

@@ -4,6 +4,8 @@ use Rattle.std.specs.Prelude.{ℕ, ◌==◌, ◌&&◌, not, Bool, false, List, [
 use Rattle.std.specs.List.{filter, list_any}
 use Rattle.std.specs.Option.{option_map}
 use Rattle.std.specs.Str.{trim}
+use Rattle.ssr_syntax_kinds.specs.declared.reach.Reach.{Reach}
+use Rattle.ssr_syntax_kinds.specs.declared.reach.Reach.TheVariants.{Stated}
 use Rattle.ssr_syntax_tree.specs.Syntax.{token_count}
 use Rattle.ide_ssr_resolved_rule.specs.declared.constraints.Constraint.{Constraint}
 use Rattle.ide_ssr_rules.specs.declared.elements.Element.{Element}
@@ -68,27 +70,35 @@ abbrev pub written : Option (List Element) → List Element
 written template = unwrap_or template []
 
 -- the rule of a pattern and its template, if it has one
-unfoldable pub rule_of : List Element → Option (List Element) → Result Rule Refusal
-rule_of pattern template = do
+unfoldable pub rule_of : Reach → List Element → Option (List Element) → Result Rule Refusal
+rule_of reach pattern template = do
   _ ← check_sides pattern (written template)
-  kinds ← some_kind (kinds_of (code_of pattern) (option_map code_of template))
+  kinds ← some_kind (kinds_of reach (code_of pattern) (option_map code_of template))
   _ ← check_uses pattern (written template) kinds
   Ok (record { names = names_of pattern; constraints = constraints_of pattern; kinds = kinds })
 
--- the rule that a text says, or its first refusal
-unfoldable pub rule_reading : List ℕ → Result Rule Refusal
-rule_reading text = do
+-- the rule that a text says in a reach, or its first refusal
+unfoldable pub rule_reading_of : Reach → List ℕ → Result Rule Refusal
+rule_reading_of reach text = do
   texts ← sides text
   pattern ← side texts.0
   template ← side texts.1
-  rule_of pattern (Some template)
+  rule_of reach pattern (Some template)
 
--- the same rule, as it is searched once
-abbrev pub once_reading : List ℕ → Result Rule Refusal
-once_reading text = rule_reading text >>= λ rule. Ok (once rule)
+-- the rule that a text says in the stated language
+unfoldable pub rule_reading : List ℕ → Result Rule Refusal
+rule_reading text = rule_reading_of Stated text
 
--- the search pattern that a text says, or its first refusal: one side, trimmed, without a template
-unfoldable pub pattern_reading : List ℕ → Result Rule Refusal
-pattern_reading text = do
+-- the rule that a text says in a reach, as it is searched once
+abbrev pub once_reading_of : Reach → List ℕ → Result Rule Refusal
+once_reading_of reach text = rule_reading_of reach text >>= λ rule. Ok (once rule)
+
+-- the search pattern that a text says in a reach, or its first refusal: one side, trimmed, without a template
+unfoldable pub pattern_reading_of : Reach → List ℕ → Result Rule Refusal
+pattern_reading_of reach text = do
   pattern ← side (trim text)
-  rule_of pattern None
+  rule_of reach pattern None
+
+-- the search pattern that a text says in the stated language
+unfoldable pub pattern_reading : List ℕ → Result Rule Refusal
+pattern_reading text = pattern_reading_of Stated text

@@ -6,7 +6,7 @@ ghost use Rattle.ide_ssr_rules.specs.Kinds.{read_in, template_in, kind_with, kin
 ghost use Rattle.ide_ssr_refusals.specs.Refusals.{AnswersBy};
 
 use ide_ssr_refusals::{Refusal, SsrError};
-use ssr_syntax::{Fragment, FragmentText, SyntaxError};
+use ssr_syntax::{Fragment, FragmentText, Reach, SyntaxError};
 use ssr_syntax_kinds::SyntaxKind;
 use ssr_syntax_tree::{NodeNo, Tree};
 use std::alloc::{AllocError, Global};
@@ -23,6 +23,8 @@ const CATEGORIES: [Fragment; 5] = [
 /// A pattern of one kind and its template, which that of a search pattern lacks.
 #[derive(Drop)]
 pub struct ParsedRule {
+    /// How much of Rust the trees were read in.
+    pub reach: Reach,
     /// What the template was read as, or the pattern, where there is none.
     pub category: Fragment,
     pub pattern: Tree,
@@ -36,15 +38,16 @@ struct ReadSide {
     tree: Tree,
 }
 
-/// A side's text read in a category, where it can be.
+/// A side's text read in a reach in a category, where it can be.
 fn read_in(
     alloc: Global,
+    reach: Reach,
     category: Fragment,
     text: &FragmentText,
 ) -> Result<Option<ReadSide>, AllocError>
-    ensures { IfOk result (λ side. side ≡ read_in category text.now) }
+    ensures { IfOk result (λ side. side ≡ read_in reach category text.now) }
 {
-    match text.read(alloc, category) {
+    match text.read_of(alloc, reach, category) {
         Ok(tree) => Ok(Some(ReadSide { category, tree })),
         Err(SyntaxError::Memory) => Err(AllocError),
         Err(_) => Ok(None),
@@ -54,14 +57,15 @@ fn read_in(
 /// The template beside a pattern of a category.
 fn template_in(
     alloc: Global,
+    reach: Reach,
     category: Fragment,
     text: &FragmentText,
 ) -> Result<Option<ReadSide>, AllocError>
-    ensures { IfOk result (λ side. side ≡ template_in category text.now) }
+    ensures { IfOk result (λ side. side ≡ template_in reach category text.now) }
 {
-    let read = read_in(alloc, category, text)?;
+    let read = read_in(alloc, reach, category, text)?;
     if read.is_none() && matches!(category, Fragment::Expr) {
-        return read_in(alloc, Fragment::Stmt, text);
+        return read_in(alloc, reach, Fragment::Stmt, text);
     }
     Ok(read)
 }
@@ -69,23 +73,26 @@ fn template_in(
 /// The kind that a pattern gives, if the template, where there is one, can be read beside it.
 fn kind_with(
     alloc: Global,
+    reach: Reach,
     template: Option<&FragmentText>,
     pattern: ReadSide,
 ) -> Result<Option<ParsedRule>, AllocError>
-    ensures { IfOk result (λ kind. kind ≡ kind_with (option_copied template.entry) pattern) }
+    ensures { IfOk result (λ kind. kind ≡ kind_with reach (option_copied template.entry) pattern) }
 {
     let ReadSide { category, tree } = pattern;
     let Some(template) = template else {
         return Ok(Some(ParsedRule {
+            reach,
             category,
             pattern: tree,
             template: None,
         }));
     };
-    let Some(side) = template_in(alloc, category, template)? else {
+    let Some(side) = template_in(alloc, reach, category, template)? else {
         return Ok(None);
     };
     Ok(Some(ParsedRule {
+        reach,
         category: side.category,
         pattern: tree,
         template: Some(side.tree),
@@ -95,14 +102,15 @@ fn kind_with(
 /// The kind in which the pattern is of a category.
 fn kind_in(
     alloc: Global,
+    reach: Reach,
     pattern: &FragmentText,
     template: Option<&FragmentText>,
     category: Fragment,
 ) -> Result<Option<ParsedRule>, AllocError>
-    ensures { IfOk result (λ kind. kind ≡ kind_in pattern.now (option_copied template.entry) category) }
+    ensures { IfOk result (λ kind. kind ≡ kind_in reach pattern.now (option_copied template.entry) category) }
 {
-    match read_in(alloc, category, pattern)? {
-        Some(side) => kind_with(alloc, template, side),
+    match read_in(alloc, reach, category, pattern)? {
+        Some(side) => kind_with(alloc, reach, template, side),
         None => Ok(None),
     }
 }
@@ -120,14 +128,15 @@ fn push_some(kinds: &mut Vec<ParsedRule>, kind: Option<ParsedRule>) -> Result<()
 /// The kinds in which both sides are read.
 fn read_kinds(
     alloc: Global,
+    reach: Reach,
     pattern: &FragmentText,
     template: Option<&FragmentText>,
 ) -> Result<Vec<ParsedRule>, AllocError>
-    ensures { IfOk result (λ v. v.items ≡ read_kinds pattern.now (option_copied template.entry)) }
+    ensures { IfOk result (λ v. v.items ≡ read_kinds reach pattern.now (option_copied template.entry)) }
 {
     let mut kinds = Vec::new(alloc);
     for category in CATEGORIES {
-        let kind = kind_in(alloc, pattern, template, category)?;
+        let kind = kind_in(alloc, reach, pattern, template, category)?;
         push_some(&mut kinds, kind)?;
     }
     Ok(kinds)
@@ -166,12 +175,13 @@ fn prefer_paths(kinds: &mut Vec<ParsedRule>)
 #[tactic(auto, unfolding(crate::specs::Kinds::kinds_of))]
 fn kinds_of(
     alloc: Global,
+    reach: Reach,
     pattern: &FragmentText,
     template: Option<&FragmentText>,
 ) -> Result<Vec<ParsedRule>, AllocError>
-    ensures { IfOk result (λ v. v.items ≡ kinds_of pattern.now (option_copied template.entry)) }
+    ensures { IfOk result (λ v. v.items ≡ kinds_of reach pattern.now (option_copied template.entry)) }
 {
-    let mut kinds = read_kinds(alloc, pattern, template)?;
+    let mut kinds = read_kinds(alloc, reach, pattern, template)?;
     prefer_paths(&mut kinds);
     Ok(kinds)
 }
@@ -179,12 +189,13 @@ fn kinds_of(
 /// The kinds of a rule, of which there is at least one.
 pub(crate) fn some_kind(
     alloc: Global,
+    reach: Reach,
     pattern: &FragmentText,
     template: Option<&FragmentText>,
 ) -> Result<Vec<ParsedRule>, SsrError>
-    ensures { AnswersBy (λ v. v.items) result (some_kind (kinds_of pattern.now (option_copied template.entry))) }
+    ensures { AnswersBy (λ v. v.items) result (some_kind (kinds_of reach pattern.now (option_copied template.entry))) }
 {
-    let kinds = kinds_of(alloc, pattern, template)?;
+    let kinds = kinds_of(alloc, reach, pattern, template)?;
     if kinds.is_empty() {
         return Err(Refusal::NoKind.told(alloc));
     }

@@ -148,6 +148,7 @@ fn resolved_with<S: Semantics>(
     let parts = RuleParts {
         names,
         constraints,
+        reach: kind.reach,
         category: kind.category,
         pattern: kind.pattern,
         template: kind.template,

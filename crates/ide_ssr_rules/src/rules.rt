@@ -8,7 +8,7 @@ ghost use Rattle.ide_ssr_rules.specs.Elements.{names_of, constraints_of, is_cons
 ghost use Rattle.ide_ssr_refusals.specs.declared.refusals.Refusal.TheVariants as r;
 ghost use Rattle.ide_ssr_rules.specs.MacroCalls.{untested};
 ghost use Rattle.ide_ssr_refusals.specs.Refusals.{Answers, AnswersBy, TellsOf, unless};
-ghost use Rattle.ide_ssr_rules.specs.Rules.{is_placeholder, once, lacking, check_sides, check_uses, check_defined, unconstrained, rule_of, rule_reading, pattern_reading};
+ghost use Rattle.ide_ssr_rules.specs.Rules.{is_placeholder, once, lacking, check_sides, check_uses, check_defined, unconstrained, rule_of, rule_reading, rule_reading_of, pattern_reading, pattern_reading_of};
 ghost use Rattle.ide_ssr_resolved_rule.specs.Names.{AreNew};
 ghost use Rattle.ide_ssr_rules.specs.Uses.{UsesPlaceholdersOnce};
 ghost use Rattle.ide_ssr_rules.specs.Paths.{told_path, paths_of_kinds};
@@ -24,7 +24,7 @@ use crate::sides::{side, sides, with_names};
 use crate::stand_ins::{code_of, first_glued, first_name, spelled_stand_in};
 use ide_ssr_refusals::{Refusal, SsrError, Text};
 use ide_ssr_resolved_rule::{ConstraintSet, Name, Names};
-use ssr_syntax::{FragmentText, SyntaxError};
+use ssr_syntax::{FragmentText, Reach, SyntaxError};
 use std::alloc::{AllocError, Global};
 use std::fmt;
 use std::marker::Model;
@@ -114,7 +114,15 @@ impl SsrRule {
         ensures reads { Answers result (rule_reading text.now) }
         ensures uses { IfOk result (UsesPlaceholdersOnce text.now) }
     {
-        let parsed = rule_of_text(alloc, text)?;
+        SsrRule::parse_of(alloc, Reach::Stated, text)
+    }
+
+    /// The same, where so much of Rust is read. The rule keeps its reach.
+    pub fn parse_of(alloc: Global, reach: Reach, text: &str) -> Result<SsrRule, SsrError>
+        ensures reads { Answers result (rule_reading_of reach text.now) }
+        ensures uses { IfOk result (UsesPlaceholdersOnce text.now) }
+    {
+        let parsed = rule_of_text(alloc, reach, text)?;
         Ok(SsrRule { parsed })
     }
 
@@ -169,7 +177,14 @@ impl SsrPattern {
     pub fn parse(alloc: Global, text: &str) -> Result<SsrPattern, SsrError>
         ensures { Answers result (pattern_reading text.now) }
     {
-        let parsed = pattern_of_text(alloc, text)?;
+        SsrPattern::parse_of(alloc, Reach::Stated, text)
+    }
+
+    /// The same, where so much of Rust is read.
+    pub fn parse_of(alloc: Global, reach: Reach, text: &str) -> Result<SsrPattern, SsrError>
+        ensures { Answers result (pattern_reading_of reach text.now) }
+    {
+        let parsed = pattern_of_text(alloc, reach, text)?;
         Ok(SsrPattern { parsed })
     }
 }
@@ -189,38 +204,44 @@ pub fn pattern_kinds(pattern: SsrPattern) -> ParsedKinds
 }
 
 /// The rule that a text says.
-fn rule_of_text(alloc: Global, text: &str) -> Result<ParsedKinds, SsrError>
-    ensures { Answers result (rule_reading text.now) }
+fn rule_of_text(alloc: Global, reach: Reach, text: &str) -> Result<ParsedKinds, SsrError>
+    ensures { Answers result (rule_reading_of reach text.now) }
 {
     let (pattern, template) = sides(alloc, text)?;
     let pattern = side(alloc, pattern)?;
     let template = side(alloc, template)?;
-    rule_of(alloc, pattern.as_slice(), Some(template.as_slice()))
+    rule_of(alloc, reach, pattern.as_slice(), Some(template.as_slice()))
 }
 
 /// The search pattern that a text says.
-fn pattern_of_text(alloc: Global, text: &str) -> Result<ParsedKinds, SsrError>
-    ensures { Answers result (pattern_reading text.now) }
+fn pattern_of_text(alloc: Global, reach: Reach, text: &str) -> Result<ParsedKinds, SsrError>
+    ensures { Answers result (pattern_reading_of reach text.now) }
 {
     let pattern = side(alloc, text.trim())?;
-    rule_of(alloc, pattern.as_slice(), None)
+    rule_of(alloc, reach, pattern.as_slice(), None)
 }
 
 /// The rule of a pattern and its template, if it has one.
 fn rule_of<'a>(
     alloc: Global,
+    reach: Reach,
     pattern: &[Element<'a>],
     template: Option<&[Element<'a>]>,
 ) -> Result<ParsedKinds, SsrError>
     requires few { length pattern.now < 2 ^ 32 }
     requires pattern_new { AreNew [] (names_of pattern.now) }
     requires template_new { IfSome (option_copied template) (λ side. AreNew [] (names_of side)) }
-    ensures { Answers result (rule_of pattern.now (option_copied template.entry)) }
+    ensures { Answers result (rule_of reach pattern.now (option_copied template.entry)) }
 {
     let written = template.unwrap_or(&[]);
     let kinds = {
         let texts = side_texts(alloc, pattern, written)?;
-        some_kind(alloc, &texts.pattern, template.and(Some(&texts.template)))?
+        some_kind(
+            alloc,
+            reach,
+            &texts.pattern,
+            template.and(Some(&texts.template)),
+        )?
     };
     check_uses(alloc, pattern, written, kinds.as_slice())?;
     let (names, constraints) = asked(alloc, pattern)?;

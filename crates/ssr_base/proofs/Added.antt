@@ -39,11 +39,11 @@ was_read why (Err syntax.Memory) tree is = cc
 pub record AddsFile (w next : Workspace) (text : String Global) : Type 0 where
   pub tree : Syntax
   pub read : file_reading (string_bytes text) ≡ Ok tree
-  pub is : record { files = w.files ++ tree ∷ []; expansions = w.expansions } ≡ next
+  pub is : record { reach = w.reach; files = w.files ++ tree ∷ []; expansions = w.expansions } ≡ next
 
 pub adds_file : (w next : Workspace) (text : String Global) → with_file w text ≡ Ok next → AddsFile w next text
 adds_file w next text is =
-    let grow : Syntax → Result Workspace WorkspaceError = λ tree. Ok (record { files = w.files ++ tree ∷ []; expansions = w.expansions }) in
+    let grow : Syntax → Result Workspace WorkspaceError = λ tree. Ok (record { reach = w.reach; files = w.files ++ tree ∷ []; expansions = w.expansions }) in
     let read = and_then (read_as (errors.File (length w.files)) (file_reading (string_bytes text))) grow next is in
     record {
       tree = read.0;

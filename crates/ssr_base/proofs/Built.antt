@@ -9,11 +9,13 @@ use Rattle.std.specs.Prelude.{nat_lt}
 use Rattle.std.specs.Global.{Global}
 use Rattle.std.specs.List.{list_all}
 use Rattle.std.specs.Str.{IsUtf8}
+use Rattle.ssr_syntax_kinds.specs.declared.reach.Reach.{Reach}
+use Rattle.ssr_syntax_kinds.specs.declared.reach.Reach.TheVariants.{Stated}
 use Rattle.ssr_syntax_tree.specs.Syntax.{Syntax, source_of, tokens_of}
 use Rattle.ssr_syntax_tree.proofs.Shared.{length-tokens_in}
-use Rattle.ssr_syntax.specs.Reading.{IsRead, file_reading}
-use Rattle.ssr_syntax.specs.Expansions.{expansion_reading}
-use Rattle.ssr_syntax.proofs.Shared.{file_sound, file_texts, expansion_sound}
+use Rattle.ssr_syntax.specs.Reading.{IsReadOf, file_reading, file_reading_of}
+use Rattle.ssr_syntax.specs.Expansions.{expansion_reading_of}
+use Rattle.ssr_syntax.proofs.Shared.{file_sound_of, file_texts_of, expansion_sound_of}
 use Rattle.ssr_base_trees.specs.declared.ids.NodeId.{NodeId}
 use Rattle.ssr_base.specs.declared.building.Expansion.{Expansion}
 use Rattle.ssr_base.specs.declared.workspace_error.WorkspaceError.{WorkspaceError}
@@ -25,29 +27,37 @@ use Rattle.ssr_base_trees.specs.Origins.{fits_origin}
 use Rattle.ssr_base.proofs.Joining.{length-joined_origins, fit_joined}
 use Rattle.ssr_base.proofs.Chosen.{IsChosen, chosen_free}
 use Rattle.ssr_base.proofs.Calls.{accepted}
+use Rattle.ssr_base.proofs.Adding.{in_stated}
 use Rattle.ssr_base.proofs.Added.{and_then, adds_file, adds_expansion}
-use Rattle.ssr_base_trees.specs.Growth.{only_files, no_tree, IsOfCall}
-use Rattle.ssr_base_trees.proofs.Shared.{built_none, built_file, built_expansion}
+use Rattle.ssr_base_trees.specs.Growth.{only_files, only_files_of, no_tree, IsOfCall}
+use Rattle.ssr_base_trees.proofs.Shared.{built_none, built_none_of, built_file, built_expansion}
 
 -- ** Files.
 
 -- one file more that is read
+pub built_read_of : (reach : Reach) (files : List Syntax) (text : List ℕ) (tree : Syntax) → length files + 1 ≤ most_trees → IsUtf8 text
+    → file_reading_of reach text ≡ Ok tree → IsBuilt (only_files_of reach files) → IsBuilt (only_files_of reach (files ++ tree ∷ []))
+built_read_of reach files text tree room utf8 read b =
+    built_file reach files tree room b (file_sound_of reach text tree utf8 read).shallow (file_texts_of reach text tree utf8 read)
+
+-- one that is read in the stated language
 pub built_read : (files : List Syntax) (text : List ℕ) (tree : Syntax) → length files + 1 ≤ most_trees → IsUtf8 text → file_reading text ≡ Ok tree
     → IsBuilt (only_files files) → IsBuilt (only_files (files ++ tree ∷ []))
-built_read files text tree room utf8 read b = built_file files tree room b (file_sound text tree utf8 read).shallow (file_texts text tree utf8 read)
+unfolding file_reading
+built_read files text tree room utf8 read b = built_read_of Stated files text tree room utf8 read b
 
-built_from : (files trees : List Syntax) → length files + length trees ≤ most_trees → All IsRead trees → IsBuilt (only_files files)
-    → IsBuilt (only_files (files ++ trees))
-built_from files [] few read b = subst (λ (files : List Syntax). IsBuilt (only_files files)) (sym (append-nil files)) b
-built_from files (tree ∷ trees) few read b =
-    let first = All-head IsRead tree trees read in
-    let next = built_read files (source_of tree) tree (omega arith) first.text first.reading b in
-    subst (λ (files : List Syntax). IsBuilt (only_files files)) (append_assoc files (tree ∷ []) trees)
-    (built_from (files ++ tree ∷ []) trees (omega (arith, length-append files (tree ∷ []))) (All-tail IsRead tree trees read) next)
+built_from : (reach : Reach) (files trees : List Syntax) → length files + length trees ≤ most_trees → All (IsReadOf reach) trees
+    → IsBuilt (only_files_of reach files) → IsBuilt (only_files_of reach (files ++ trees))
+built_from reach files [] few read b = subst (λ (files : List Syntax). IsBuilt (only_files_of reach files)) (sym (append-nil files)) b
+built_from reach files (tree ∷ trees) few read b =
+    let first = All-head (IsReadOf reach) tree trees read in
+    let next = built_read_of reach files (source_of tree) tree (omega arith) first.text first.reading b in
+    subst (λ (files : List Syntax). IsBuilt (only_files_of reach files)) (append_assoc files (tree ∷ []) trees)
+    (built_from reach (files ++ tree ∷ []) trees (omega (arith, length-append files (tree ∷ []))) (All-tail (IsReadOf reach) tree trees read) next)
 
 -- the workspace of trees that are read
-pub built_trees : (trees : List Syntax) → length trees ≤ most_trees → All IsRead trees → IsBuilt (only_files trees)
-built_trees trees few read = built_from [] trees (omega arith) read built_none
+pub built_trees : (reach : Reach) (trees : List Syntax) → length trees ≤ most_trees → All (IsReadOf reach) trees → IsBuilt (only_files_of reach trees)
+built_trees reach trees few read = built_from reach [] trees (omega arith) read (built_none_of reach)
 
 -- the workspace of the files that are read
 record OfFiles (count : ℕ) (w : Workspace) : Type 0 where
@@ -73,7 +83,7 @@ of_files files (text ∷ texts) w few b is =
 -- what is known of an expansion whose call may be expanded and whose tokens are read
 pub is_of_call : (w : Workspace) (x : Expansion) (call : NodeId) (tree : Syntax) → IsChosen w call
     → list_all (fits_origin (text_at_top (trees w) call.tree)) (map origin_of x.tokens.items) ≡ true
-    → expansion_reading x.kind x.tokens.items ≡ Ok tree
+    → (reach : Reach) × (expansion_reading_of reach x.kind x.tokens.items ≡ Ok tree)
     → IsOfCall w (record { call = call; syntax = tree; origins = joined_origins (tokens_of tree) x.tokens.items })
 is_of_call w x call tree chosen fitting read =
     let text = text_at_top (trees w) call.tree in
@@ -87,10 +97,11 @@ is_of_call w x call tree chosen fitting read =
             fit_joined text (tokens_of tree) tokens
             (AllPass-from_list_all (λ token. fits_origin text (origin_of token)) tokens (sym (list_all-map (fits_origin text) origin_of tokens) ∙ fitting));
       };
-      shallow = (expansion_sound x.kind tokens tree read).shallow;
+      shallow = (expansion_sound_of read.0 x.kind tokens tree read.1).shallow;
     }
 
-pub read_of_call : (w : Workspace) (x : Expansion) (call : NodeId) (tree : Syntax) → checked_call w x ≡ Ok call → expansion_reading x.kind x.tokens.items ≡ Ok tree
+pub read_of_call : (w : Workspace) (x : Expansion) (call : NodeId) (tree : Syntax) → checked_call w x ≡ Ok call
+    → (reach : Reach) × (expansion_reading_of reach x.kind x.tokens.items ≡ Ok tree)
     → IsOfCall w (record { call = call; syntax = tree; origins = joined_origins (tokens_of tree) x.tokens.items })
 read_of_call w x call tree checked read =
     let known = accepted w x call checked in
@@ -104,8 +115,8 @@ of_expansions w (x ∷ xs) last few b is =
     let adds = adds_expansion w step.0 x step.1 in
     let e : Expanded = record { call = adds.call; syntax = adds.tree; origins = joined_origins (tokens_of adds.tree) x.tokens.items } in
     let count = length-append w.expansions (e ∷ []) in
-    of_expansions (record { files = w.files; expansions = w.expansions ++ e ∷ [] }) xs last (omega arith)
-    (built_expansion w e (omega arith) b (is_of_call w x adds.call adds.tree adds.chosen adds.fitting adds.read) adds.free adds.nested)
+    of_expansions (record { reach = w.reach; files = w.files; expansions = w.expansions ++ e ∷ [] }) xs last (omega arith)
+    (built_expansion w e (omega arith) b (is_of_call w x adds.call adds.tree adds.chosen adds.fitting (in_stated x.kind x.tokens.items adds.tree adds.read)) adds.free adds.nested)
     (ap (λ grown. in_turn with_expansion grown xs) adds.is ∙ step.2)
 
 -- ** All.

@@ -8,8 +8,8 @@ use Rattle.ssr_syntax_kinds.specs.declared.kinds.SyntaxKind.TheVariants as k
 use Rattle.ssr_syntax_kinds.specs.declared.range.TextRange.{TextRange}
 use Rattle.ssr_syntax_tree.specs.Syntax.{Token, Syntax, tokens_of}
 use Rattle.ssr_syntax_tree.specs.Places.{Node, nodes_of, start_of, end_of}
-use Rattle.ssr_syntax.specs.Reading.{IsRead, file_reading}
-use Rattle.ssr_syntax.specs.Expansions.{expansion_reading}
+use Rattle.ssr_syntax.specs.Reading.{IsReadOf, file_reading}
+use Rattle.ssr_syntax.specs.Expansions.{expansion_reading, expansion_reading_of}
 use Rattle.ssr_syntax.specs.declared.syntax_error.SyntaxError.{SyntaxError}
 use Rattle.ssr_syntax.specs.declared.syntax_error.SyntaxError.TheVariants as syntax
 use Rattle.ssr_syntax.specs.declared.expansions.ExpToken.{ExpToken}
@@ -46,11 +46,11 @@ in_turn step w (x ∷ xs) = step w x >>= λ grown. in_turn step grown xs
 abbrev pub with_file : Workspace → String Global → Result Workspace WorkspaceError
 with_file w text = do
   tree ← read_as (errors.File (length w.files)) (file_reading (string_bytes text))
-  Ok (record { files = w.files ++ tree ∷ []; expansions = w.expansions })
+  Ok (record { reach = w.reach; files = w.files ++ tree ∷ []; expansions = w.expansions })
 
--- each file's tree is the reading of the file's text
+-- each file's tree is the reading of the file's text, in the workspace's reach
 abbrev pub AreRead : Workspace → Type 0
-AreRead w = All IsRead w.files
+AreRead w = All (IsReadOf w.reach) w.files
 
 -- ** Expansions.
 
@@ -100,17 +100,28 @@ checked_call w x = do
   _ ← unless (not (list_all (fits_origin (text_at_top (trees w) call.tree)) (map origin_of x.tokens.items))) (errors.Origin n)
   Ok call
 
-abbrev pub with_expansion : Workspace → Expansion → Result Workspace WorkspaceError
-with_expansion w x = do
+-- with an expansion whose tokens have this reading
+abbrev pub with_reading : Result Syntax SyntaxError → Workspace → Expansion → Result Workspace WorkspaceError
+with_reading reading w x = do
   call ← checked_call w x
-  tree ← read_as (errors.Expansion (length w.expansions)) (expansion_reading x.kind x.tokens.items)
+  tree ← read_as (errors.Expansion (length w.expansions)) reading
   Ok (with_tree w call tree (joined_origins (tokens_of tree) x.tokens.items))
 
--- an expansion is added, unless there are as many trees as there may be
-abbrev pub added : Workspace → Expansion → Result Workspace WorkspaceError
-added w x = do
+abbrev pub with_expansion : Workspace → Expansion → Result Workspace WorkspaceError
+with_expansion w x = with_reading (expansion_reading x.kind x.tokens.items) w x
+
+-- an expansion whose tokens have this reading is added, unless there are as many trees as there may be
+abbrev pub added_reading : Result Syntax SyntaxError → Workspace → Expansion → Result Workspace WorkspaceError
+added_reading reading w x = do
   _ ← unless (nat_lt most_trees (length w.files + length w.expansions + 1)) errors.TooManyTrees
-  with_expansion w x
+  with_reading reading w x
+
+abbrev pub added : Workspace → Expansion → Result Workspace WorkspaceError
+added w x = added_reading (expansion_reading x.kind x.tokens.items) w x
+
+-- the same, where its tokens are read in the workspace's reach
+abbrev pub added_of : Workspace → Expansion → Result Workspace WorkspaceError
+added_of w x = added_reading (expansion_reading_of w.reach x.kind x.tokens.items) w x
 
 -- ** All.
 

@@ -3,15 +3,16 @@
 ghost use Rattle.std.specs.Prelude.{◌≡◌, ◌≢◌, ◌+◌, ◌<◌, ◌≤◌, ◌↔◌, All, Ok, Err, IfOk, IfErr, IsOk, OnErr, length, map, take, drop, string_bytes};
 ghost use Rattle.std.specs.List.{list_all};
 ghost use Rattle.std.specs.Option.{option_map};
+ghost use Rattle.ssr_syntax_kinds.specs.declared.reach.Reach.{Reach};
 ghost use Rattle.ssr_syntax_tree.specs.Syntax.{node_count, tokens_of};
 ghost use Rattle.ssr_syntax_tree.specs.Places.{HasNode, node_of};
 ghost use Rattle.ssr_base_trees.specs.Workspace.{trees, text_at_top};
-ghost use Rattle.ssr_syntax.specs.Reading.{IsRead, file_reading};
-ghost use Rattle.ssr_syntax.specs.Expansions.{expansion_reading};
+ghost use Rattle.ssr_syntax.specs.Reading.{IsRead, IsReadOf, file_reading};
+ghost use Rattle.ssr_syntax.specs.Expansions.{expansion_reading, expansion_reading_of};
 ghost use Rattle.ssr_base_trees.specs.Origins.{covered, fits_origin, plain_origin};
 ghost use Rattle.ssr_base_trees.specs.Built.{most_trees};
-ghost use Rattle.ssr_base.specs.Building.{read_as, with_file, with_expansion, in_turn, is_call, first_call, free_call, checked_call, origin_of, count_in, cover_of_tokens, joined_origins, added, Gives, Answers};
-ghost use Rattle.ssr_base_trees.specs.Growth.{no_tree, only_files};
+ghost use Rattle.ssr_base.specs.Building.{read_as, with_file, with_expansion, with_reading, in_turn, is_call, first_call, free_call, checked_call, origin_of, count_in, cover_of_tokens, joined_origins, added, added_of, added_reading, Gives, Answers};
+ghost use Rattle.ssr_base_trees.specs.Growth.{no_tree, only_files, only_files_of};
 ghost use Rattle.ssr_base.specs.declared.workspace_error.WorkspaceError.TheVariants as errors;
 ghost use Rattle.ssr_base.specs.Private.Finding.{NodesBefore, NodesFrom};
 
@@ -21,7 +22,7 @@ use ssr_base_trees::{Cover, NodeId, Trees};
 use ssr_syntax::{
     ExpToken, ExpansionKind, SyntaxError, SyntaxKind, parse_file_owned, parse_tokens,
 };
-use ssr_syntax_kinds::TextRange;
+use ssr_syntax_kinds::{Reach, TextRange};
 use ssr_syntax_tree::{NodeNo, TokenNo, Tree};
 use std::alloc::{AllocError, Global};
 
@@ -269,8 +270,17 @@ impl Workspace {
         requires read { All IsRead trees.items }
         ensures { result ≡ only_files trees.items }
     {
+        Workspace::of_trees_of(alloc, Reach::Stated, trees)
+    }
+
+    /// The same, where so much of Rust is read.
+    pub fn of_trees_of(alloc: Global, reach: Reach, trees: Vec<Tree>) -> Workspace
+        requires few { length trees.items ≤ most_trees }
+        requires read { All (IsReadOf reach) trees.items }
+        ensures { result ≡ only_files_of reach trees.items }
+    {
         Workspace {
-            trees: Trees::of_files(alloc, trees),
+            trees: Trees::of_files_of(alloc, reach, trees),
         }
     }
 
@@ -288,6 +298,38 @@ impl Workspace {
         ensures added { IfOk result (λ _. added self.old expansion.now ≡ Ok self.new) }
         ensures refused { IfErr result (λ e. e ≢ errors.Memory → added self.old expansion.now ≡ Err e) }
         ensures memory { result ≡ Err errors.Memory → IsOk (added self.old expansion.now) }
+        ensures unchanged { OnErr result (self.new ≡ self.old) }
+    {
+        self.add_as(alloc, expansion, tree)
+    }
+
+    /// The same, where its tokens are read in the workspace's reach.
+    pub fn add_of(
+        &mut self,
+        alloc: Global,
+        expansion: &Expansion,
+        tree: Tree,
+    ) -> Result<(), WorkspaceError>
+        requires { expansion_reading_of self.old.reach expansion.now.kind expansion.now.tokens.items ≡ Ok tree }
+        ensures added { IfOk result (λ _. added_of self.old expansion.now ≡ Ok self.new) }
+        ensures refused { IfErr result (λ e. e ≢ errors.Memory → added_of self.old expansion.now ≡ Err e) }
+        ensures memory { result ≡ Err errors.Memory → IsOk (added_of self.old expansion.now) }
+        ensures unchanged { OnErr result (self.new ≡ self.old) }
+    {
+        self.add_as(alloc, expansion, tree)
+    }
+
+    /// Adds an expansion behind the others, with the tree that its tokens are read as in some reach.
+    fn add_as(
+        &mut self,
+        alloc: Global,
+        expansion: &Expansion,
+        tree: Tree,
+    ) -> Result<(), WorkspaceError>
+        requires { (reach : Reach) × (expansion_reading_of reach expansion.now.kind expansion.now.tokens.items ≡ Ok tree) }
+        ensures added { IfOk result (λ _. added_reading (Ok tree) self.old expansion.now ≡ Ok self.new) }
+        ensures refused { IfErr result (λ e. e ≢ errors.Memory → added_reading (Ok tree) self.old expansion.now ≡ Err e) }
+        ensures memory { result ≡ Err errors.Memory → IsOk (added_reading (Ok tree) self.old expansion.now) }
         ensures unchanged { OnErr result (self.new ≡ self.old) }
     {
         let files = self.trees.file_count() as usize;
@@ -318,8 +360,8 @@ impl Workspace {
     ) -> Result<(), AllocError>
         requires room { length self.old.files + length self.old.expansions < most_trees }
         requires call { checked_call self.old expansion.now ≡ Ok call }
-        requires read { expansion_reading expansion.now.kind expansion.now.tokens.items ≡ Ok tree }
-        ensures added { IfOk result (λ _. with_expansion self.old expansion.now ≡ Ok self.new) }
+        requires read { (reach : Reach) × (expansion_reading_of reach expansion.now.kind expansion.now.tokens.items ≡ Ok tree) }
+        ensures added { IfOk result (λ _. with_reading (Ok tree) self.old expansion.now ≡ Ok self.new) }
         ensures unchanged { OnErr result (self.new ≡ self.old) }
     {
         let origins = joined_origins(alloc, &tree, &expansion.tokens)?;

@@ -6,6 +6,8 @@ use Rattle.std.proofs.lemmas.List.Elements.{All-nil, All-cons, All-push, All-wea
 use Rattle.std.proofs.lemmas.List.Quantifiers.{all_pairs_push}
 use Rattle.std.specs.List.{AllPass, position_from}
 use Rattle.std.specs.Option.{option_map}
+use Rattle.ssr_syntax_kinds.specs.declared.reach.Reach.{Reach}
+use Rattle.ssr_syntax_kinds.specs.declared.reach.Reach.TheVariants.{Stated}
 use Rattle.ssr_syntax_tree.specs.Syntax.{Syntax, depth_of, most_deep}
 use Rattle.ssr_syntax_tree.specs.Places.{node_of}
 use Rattle.ssr_syntax_kinds.specs.declared.kinds.SyntaxKind.TheVariants as k
@@ -15,46 +17,49 @@ use Rattle.ssr_base_trees.specs.Built.{most_trees, most_nested, IsMacroCall, Cal
 use Rattle.ssr_base_trees.specs.Origins.{fits_origin}
 use Rattle.ssr_base_trees.proofs.Numbers.{trees_more, same_id-itself}
 use Rattle.ssr_base_trees.proofs.Placing.{some_and, known_more, text_more, nesting_more}
-use Rattle.ssr_base_trees.specs.Growth.{only_files, no_tree, IsOfCall}
+use Rattle.ssr_base_trees.specs.Growth.{only_files_of, no_tree, IsOfCall}
 
 -- ** Files.
 
-trees_file : (files : List Syntax) (tree : Syntax) → trees (only_files (files ++ tree ∷ [])) ≡ of_file tree ∷ trees (only_files files)
+trees_file : (reach : Reach) (files : List Syntax) (tree : Syntax) → trees (only_files_of reach (files ++ tree ∷ [])) ≡ of_file tree ∷ trees (only_files_of reach files)
 unfolding trees
-trees_file files tree =
+trees_file reach files tree =
     ap reverse (append-nil (map of_file (files ++ tree ∷ [])))
     ∙ ap reverse (map-append of_file files (tree ∷ []))
     ∙ reverse-append (map of_file files) (of_file tree ∷ [])
     ∙ ap (λ ts. of_file tree ∷ reverse ts) (sym (append-nil (map of_file files)))
 
-no_trees : trees no_tree ≡ []
+no_trees : (reach : Reach) → trees (only_files_of reach []) ≡ []
 unfolding trees
-no_trees = refl
+no_trees reach = refl
 
-pub built_none : IsBuilt no_tree
-built_none = record {
+pub built_none_of : (reach : Reach) → IsBuilt (only_files_of reach [])
+built_none_of reach = record {
   few = omega arith;
-  grown = subst CallsAreEarlier (sym no_trees) tt;
-  calls = All-nil (λ e. IsMacroCall (trees no_tree) e.call);
+  grown = subst CallsAreEarlier (sym (no_trees reach)) tt;
+  calls = All-nil (λ e. IsMacroCall (trees (only_files_of reach [])) e.call);
   once = λ i j d before within. absurd (omega arith);
-  nested = λ t. subst (λ ts. nesting ts t ≤ most_nested) (sym no_trees) (omega arith);
-  origins = All-nil (HasOrigins (trees no_tree));
-  shallow = subst (All (λ p. depth_of p.syntax ≤ most_deep)) (sym no_trees) (All-nil (λ p. depth_of p.syntax ≤ most_deep));
+  nested = λ t. subst (λ ts. nesting ts t ≤ most_nested) (sym (no_trees reach)) (omega arith);
+  origins = All-nil (HasOrigins (trees (only_files_of reach [])));
+  shallow = subst (All (λ p. depth_of p.syntax ≤ most_deep)) (sym (no_trees reach)) (All-nil (λ p. depth_of p.syntax ≤ most_deep));
   texts = All-nil HasTexts;
 }
 
-pub built_file : (files : List Syntax) (tree : Syntax) → length files + 1 ≤ most_trees → IsBuilt (only_files files) → depth_of tree ≤ most_deep → HasTexts tree
-    → IsBuilt (only_files (files ++ tree ∷ []))
-built_file files tree room b shallow text =
-    let earlier = trees (only_files files) in
-    let more = trees_file files tree in
+pub built_none : IsBuilt no_tree
+built_none = built_none_of Stated
+
+pub built_file : (reach : Reach) (files : List Syntax) (tree : Syntax) → length files + 1 ≤ most_trees → IsBuilt (only_files_of reach files) → depth_of tree ≤ most_deep → HasTexts tree
+    → IsBuilt (only_files_of reach (files ++ tree ∷ []))
+built_file reach files tree room b shallow text =
+    let earlier = trees (only_files_of reach files) in
+    let more = trees_file reach files tree in
     record {
       few = omega (arith, length-append files (tree ∷ []));
       grown = subst CallsAreEarlier (sym more) (tt, b.grown);
-      calls = All-nil (λ e. IsMacroCall (trees (only_files (files ++ tree ∷ []))) e.call);
+      calls = All-nil (λ e. IsMacroCall (trees (only_files_of reach (files ++ tree ∷ []))) e.call);
       once = λ i j d before within. absurd (omega arith);
       nested = λ t. subst (λ ts. nesting ts t ≤ most_nested) (sym more) (nesting_more (of_file tree) earlier most_nested b.nested (omega arith) t);
-      origins = All-nil (HasOrigins (trees (only_files (files ++ tree ∷ []))));
+      origins = All-nil (HasOrigins (trees (only_files_of reach (files ++ tree ∷ []))));
       shallow =
           subst (All (λ p. depth_of p.syntax ≤ most_deep)) (sym more)
           (All-cons (λ p. depth_of p.syntax ≤ most_deep) (of_file tree) earlier shallow b.shallow);
@@ -97,11 +102,11 @@ has_more q earlier e grown call has =
 
 pub built_expansion : (w : Workspace) (e : Expanded) → length w.files + length w.expansions + 1 ≤ most_trees → IsBuilt w → IsOfCall w e
     → expansion_of w e.call ≡ None → 1 + nesting (trees w) e.call.tree ≤ most_nested
-    → IsBuilt (record { files = w.files; expansions = w.expansions ++ e ∷ [] })
+    → IsBuilt (record { reach = w.reach; files = w.files; expansions = w.expansions ++ e ∷ [] })
 built_expansion w e room b added free deep =
     let earlier = trees w in
     let q = of_expansion e in
-    let more = trees_more w.files w.expansions e in
+    let more = trees_more w.reach w.files w.expansions e in
     let Calls : List PlacedTree → Type 0 = λ ts. All (λ e. IsMacroCall ts e.call) (w.expansions ++ e ∷ []) in
     let Origins : List PlacedTree → Type 0 = λ ts. All (HasOrigins ts) (w.expansions ++ e ∷ []) in
     let call_more : (x : Expanded) → IsMacroCall earlier x.call → IsMacroCall (q ∷ earlier) x.call =

@@ -10,6 +10,7 @@ use Rattle.std.specs.Option.{option_map}
 use Rattle.std.specs.Ordering.{nat_cmp, ordering_then, is_eq}
 use Rattle.std.specs.declared.cmp.Ordering.{Ordering}
 use Rattle.std.specs.declared.cmp.Ordering.TheVariants.{Less, Equal, Greater}
+use Rattle.ssr_syntax_kinds.specs.declared.reach.Reach.{Reach}
 use Rattle.ssr_syntax_tree.specs.Syntax.{Syntax}
 use Rattle.ssr_base_trees.specs.declared.ids.NodeId.{NodeId}
 use Rattle.ssr_base_trees.specs.contracts.ids.NodeIdOrd.TheImpl as id_order
@@ -25,43 +26,43 @@ use Rattle.ssr_base_trees.proofs.Built.{built_expansion}
 use Rattle.ssr_base_trees.proofs.Numbers.{same_nodes, slice_get-append_left, slice_get_push, length-trees, trees_more, file_of-earlier, nesting-earlier}
 
 -- what the stored expansions show
-abbrev pub shown : List Syntax → List Stored → Workspace
-shown files es = record { files = files; expansions = map expanded_of es }
+abbrev pub shown : Reach → List Syntax → List Stored → Workspace
+shown reach files es = record { reach = reach; files = files; expansions = map expanded_of es }
 
-module _ (files : List Syntax) (es : List Stored) (new : Stored) where
-  trees_shown : trees (shown files (es ++ new ∷ [])) ≡ of_expansion (expanded_of new) ∷ trees (shown files es)
+module _ (reach : Reach) (files : List Syntax) (es : List Stored) (new : Stored) where
+  trees_shown : trees (shown reach files (es ++ new ∷ [])) ≡ of_expansion (expanded_of new) ∷ trees (shown reach files es)
   trees_shown =
-      ap (λ (xs : List Expanded). trees (record { files = files; expansions = xs })) (map-append expanded_of es (new ∷ []))
-      ∙ trees_more files (map expanded_of es) (expanded_of new)
+      ap (λ (xs : List Expanded). trees (record { reach = reach; files = files; expansions = xs })) (map-append expanded_of es (new ∷ []))
+      ∙ trees_more reach files (map expanded_of es) (expanded_of new)
 
-  count_shown : length (trees (shown files es)) ≡ length files + length es
-  count_shown = length-trees (shown files es) ∙ ap (λ n. length files + n) (length-map es expanded_of)
+  count_shown : length (trees (shown reach files es)) ≡ length files + length es
+  count_shown = length-trees (shown reach files es) ∙ ap (λ n. length files + n) (length-map es expanded_of)
 
-  file_of-old : (t : ℕ) → t < length files + length es → file_of (trees (shown files (es ++ new ∷ []))) t ≡ file_of (trees (shown files es)) t
+  file_of-old : (t : ℕ) → t < length files + length es → file_of (trees (shown reach files (es ++ new ∷ []))) t ≡ file_of (trees (shown reach files es)) t
   file_of-old t h =
-      ap (λ ts. file_of ts t) trees_shown ∙ file_of-earlier (of_expansion (expanded_of new)) (trees (shown files es)) t (omega (arith, count_shown))
+      ap (λ ts. file_of ts t) trees_shown ∙ file_of-earlier (of_expansion (expanded_of new)) (trees (shown reach files es)) t (omega (arith, count_shown))
 
-  nesting-old : (t : ℕ) → t < length files + length es → nesting (trees (shown files (es ++ new ∷ []))) t ≡ nesting (trees (shown files es)) t
+  nesting-old : (t : ℕ) → t < length files + length es → nesting (trees (shown reach files (es ++ new ∷ []))) t ≡ nesting (trees (shown reach files es)) t
   nesting-old t h =
-      ap (λ ts. nesting ts t) trees_shown ∙ nesting-earlier (of_expansion (expanded_of new)) (trees (shown files es)) t (omega (arith, count_shown))
+      ap (λ ts. nesting ts t) trees_shown ∙ nesting-earlier (of_expansion (expanded_of new)) (trees (shown reach files es)) t (omega (arith, count_shown))
 
-  file_of-new : (t : ℕ) → t ≡ length files + length es → file_of (trees (shown files (es ++ new ∷ []))) t ≡ file_of (trees (shown files es)) new.call.tree
+  file_of-new : (t : ℕ) → t ≡ length files + length es → file_of (trees (shown reach files (es ++ new ∷ []))) t ≡ file_of (trees (shown reach files es)) new.call.tree
   file_of-new t h =
       ap (λ ts. file_of ts t) trees_shown
-      ∙ ap (λ b. cond b (file_of (trees (shown files es)) new.call.tree) (file_of (trees (shown files es)) t))
-      (eq-eqb t (length (trees (shown files es))) (h ∙ sym count_shown))
+      ∙ ap (λ b. cond b (file_of (trees (shown reach files es)) new.call.tree) (file_of (trees (shown reach files es)) t))
+      (eq-eqb t (length (trees (shown reach files es))) (h ∙ sym count_shown))
 
-  nesting-new : (t : ℕ) → t ≡ length files + length es → nesting (trees (shown files (es ++ new ∷ []))) t ≡ 1 + nesting (trees (shown files es)) new.call.tree
+  nesting-new : (t : ℕ) → t ≡ length files + length es → nesting (trees (shown reach files (es ++ new ∷ []))) t ≡ 1 + nesting (trees (shown reach files es)) new.call.tree
   nesting-new t h =
       ap (λ ts. nesting ts t) trees_shown
-      ∙ ap (λ b. cond b (1 + nesting (trees (shown files es)) new.call.tree) (nesting (trees (shown files es)) t))
-      (eq-eqb t (length (trees (shown files es))) (h ∙ sym count_shown))
+      ∙ ap (λ b. cond b (1 + nesting (trees (shown reach files es)) new.call.tree) (nesting (trees (shown reach files es)) t))
+      (eq-eqb t (length (trees (shown reach files es))) (h ∙ sym count_shown))
 
-  pub each_more : ((t : ℕ) (e : Stored) → length files ≤ t → slice_get es (t - length files) ≡ Some e → IsStoredAt (shown files es) t e)
+  pub each_more : ((t : ℕ) (e : Stored) → length files ≤ t → slice_get es (t - length files) ≡ Some e → IsStoredAt (shown reach files es) t e)
       → AreCovers new.tree (map plain_origin new.origins.items) new.covers.items
-      → new.file ≡ file_of (trees (shown files es)) new.call.tree
-      → new.nesting ≡ nesting (trees (shown files es)) new.call.tree + 1
-      → (t : ℕ) (e : Stored) → length files ≤ t → slice_get (es ++ new ∷ []) (t - length files) ≡ Some e → IsStoredAt (shown files (es ++ new ∷ [])) t e
+      → new.file ≡ file_of (trees (shown reach files es)) new.call.tree
+      → new.nesting ≡ nesting (trees (shown reach files es)) new.call.tree + 1
+      → (t : ℕ) (e : Stored) → length files ≤ t → slice_get (es ++ new ∷ []) (t - length files) ≡ Some e → IsStoredAt (shown reach files (es ++ new ∷ [])) t e
   each_more each covers file nested t e behind is =
       elim (cases_lt (t - length files) (length es)) [
         | inl old ↦
@@ -83,7 +84,7 @@ module _ (files : List Syntax) (es : List Stored) (new : Stored) where
               covers = subst (λ (e : Stored). AreCovers e.tree (map plain_origin e.origins.items) e.covers.items) same covers;
               file = ap (λ (e : Stored). e.file) (sym same) ∙ file ∙ sym (file_of-new t (omega arith));
               nesting =
-                  let more : nesting (trees (shown files es)) new.call.tree + 1 ≡ 1 + nesting (trees (shown files es)) new.call.tree = omega arith in
+                  let more : nesting (trees (shown reach files es)) new.call.tree + 1 ≡ 1 + nesting (trees (shown reach files es)) new.call.tree = omega arith in
                   ap (λ (e : Stored). e.nesting) (sym same) ∙ nested ∙ more ∙ sym (nesting-new t (omega arith));
             }
       ]
@@ -176,8 +177,8 @@ calls_more calls more es new number each updates is free q =
     ∙ sym (place_more q es new free)
 
 -- a call without an expansion has no place
-pub no_place : (files : List Syntax) (es : List Stored) (call : NodeId) → expansion_of (shown files es) call ≡ None → place_of call es ≡ None
-no_place files es call none = placed (place_of call es) none
+pub no_place : (reach : Reach) (files : List Syntax) (es : List Stored) (call : NodeId) → expansion_of (shown reach files es) call ≡ None → place_of call es ≡ None
+no_place reach files es call none = placed (place_of call es) none
   where
     placed : (o : Option ℕ) → option_map (λ n. node_id (length files + n) 0) o ≡ None → o ≡ None
     placed None e = refl
@@ -186,16 +187,19 @@ no_place files es call none = placed (place_of call es) none
 -- ** All of it.
 
 -- what holds of what is stored holds where the same is stored
-pub stored_same : (a b : Inside) → IsStored a → b.files.items ≡ a.files.items → b.expansions.items ≡ a.expansions.items → b.calls.entries ≡ a.calls.entries → IsStored b
-stored_same a b stored files expansions calls =
-    let Each : List Syntax → List Stored → Type 0 = λ fs es. (t : ℕ) (e : Stored) → length fs ≤ t → slice_get es (t - length fs) ≡ Some e → IsStoredAt (shown fs es) t e in
-    let view : workspace_of b ≡ workspace_of a = ap (λ (fs : List Syntax). shown fs b.expansions.items) files ∙ ap (shown a.files.items) expansions in
+pub stored_same : (a b : Inside) → IsStored a → b.reach ≡ a.reach → b.files.items ≡ a.files.items → b.expansions.items ≡ a.expansions.items → b.calls.entries ≡ a.calls.entries → IsStored b
+stored_same a b stored reaches files expansions calls =
+    let Each : Reach → List Syntax → List Stored → Type 0 = λ r fs es. (t : ℕ) (e : Stored) → length fs ≤ t → slice_get es (t - length fs) ≡ Some e → IsStoredAt (shown r fs es) t e in
+    let view : workspace_of b ≡ workspace_of a =
+    ap (λ (r : Reach). shown r b.files.items b.expansions.items) reaches
+    ∙ ap (λ (fs : List Syntax). shown a.reach fs b.expansions.items) files ∙ ap (shown a.reach a.files.items) expansions in
     record {
       built = subst IsBuilt (sym view) stored.built;
       few = omega (arith, ap length files, ap length expansions, stored.few);
       each =
-          subst (λ (fs : List Syntax). Each fs b.expansions.items) (sym files)
-          (subst (Each a.files.items) (sym expansions) stored.each);
+          subst (λ (r : Reach). Each r b.files.items b.expansions.items) (sym reaches)
+          (subst (λ (fs : List Syntax). Each a.reach fs b.expansions.items) (sym files)
+          (subst (Each a.reach a.files.items) (sym expansions) stored.each));
       calls = λ q.
           ap (λ (entries : List (NodeId × ℕ)). lookup (is_at ((id_order.ghosts).cmp q)) entries) calls
           ∙ stored.calls q
@@ -203,22 +207,23 @@ stored_same a b stored files expansions calls =
     }
 
 pub stored_more : (a b : Inside) (w : Workspace) (new : Stored) (number : ℕ) → IsStored a → workspace_of a ≡ w
-    → b.files.items ≡ a.files.items → b.expansions.items ≡ a.expansions.items ++ new ∷ []
+    → b.reach ≡ a.reach → b.files.items ≡ a.files.items → b.expansions.items ≡ a.expansions.items ++ new ∷ []
     → ((q : NodeId) → get ((id_order.ghosts).cmp) b.calls q ≡ cond (is_at ((id_order.ghosts).cmp new.call) q) (Some number) (get ((id_order.ghosts).cmp) a.calls q))
     → length w.files + length w.expansions < most_trees → expansion_of w new.call ≡ None → nesting (trees w) new.call.tree < most_nested → IsOfCall w (expanded_of new)
     → AreCovers new.tree (map plain_origin new.origins.items) new.covers.items
     → new.file ≡ file_of (trees w) new.call.tree → new.nesting ≡ nesting (trees w) new.call.tree + 1 → number ≡ length w.expansions → IsStored b
-stored_more a b w new number stored view files expansions updates room free deep of_call covers file nested is = record {
+stored_more a b w new number stored view reaches files expansions updates room free deep of_call covers file nested is = record {
   built = subst IsBuilt (sym grown) (built_expansion w (expanded_of new) (omega arith) (subst IsBuilt view stored.built) of_call free (omega arith));
   few = omega (arith, ap length files, ap length expansions, length-append es (new ∷ []), count, ap (λ w. length w.files) view, room);
   each =
-      subst (λ (fs : List Syntax). Each fs b.expansions.items) (sym files)
-      (subst (Each a.files.items) (sym expansions)
-      (each_more a.files.items es new stored.each covers
+      subst (λ (r : Reach). Each r b.files.items b.expansions.items) (sym reaches)
+      (subst (λ (fs : List Syntax). Each a.reach fs b.expansions.items) (sym files)
+      (subst (Each a.reach a.files.items) (sym expansions)
+      (each_more a.reach a.files.items es new stored.each covers
       (file ∙ ap (λ w. file_of (trees w) new.call.tree) (sym view))
-      (nested ∙ ap (λ w. nesting (trees w) new.call.tree + 1) (sym view))));
+      (nested ∙ ap (λ w. nesting (trees w) new.call.tree + 1) (sym view)))));
   calls = λ q.
-      calls_more a.calls b.calls es new number stored.calls updates (is ∙ sym count) (no_place a.files.items es new.call (ap (λ w. expansion_of w new.call) view ∙ free)) q
+      calls_more a.calls b.calls es new number stored.calls updates (is ∙ sym count) (no_place a.reach a.files.items es new.call (ap (λ w. expansion_of w new.call) view ∙ free)) q
       ∙ ap (place_of q) (sym expansions);
 }
   where
@@ -226,15 +231,16 @@ stored_more a b w new number stored view files expansions updates room free deep
     es = a.expansions.items
 
     -- what is stored then is the workspace with the expansion
-    grown : workspace_of b ≡ record { files = w.files; expansions = w.expansions ++ expanded_of new ∷ [] }
+    grown : workspace_of b ≡ record { reach = w.reach; files = w.files; expansions = w.expansions ++ expanded_of new ∷ [] }
     grown =
-        ap (λ (fs : List Syntax). shown fs b.expansions.items) files
-        ∙ ap (shown a.files.items) expansions
-        ∙ ap (λ (xs : List Expanded). record { files = a.files.items; expansions = xs }) (map-append expanded_of es (new ∷ []))
-        ∙ ap (λ (old : Workspace). record { files = old.files; expansions = old.expansions ++ expanded_of new ∷ [] }) view
+        ap (λ (r : Reach). shown r b.files.items b.expansions.items) reaches
+        ∙ ap (λ (fs : List Syntax). shown a.reach fs b.expansions.items) files
+        ∙ ap (shown a.reach a.files.items) expansions
+        ∙ ap (λ (xs : List Expanded). record { reach = a.reach; files = a.files.items; expansions = xs }) (map-append expanded_of es (new ∷ []))
+        ∙ ap (λ (old : Workspace). record { reach = old.reach; files = old.files; expansions = old.expansions ++ expanded_of new ∷ [] }) view
 
     count : length es ≡ length w.expansions
     count = sym (length-map es expanded_of) ∙ ap (λ w. length w.expansions) view
 
-    Each : List Syntax → List Stored → Type 0
-    Each fs xs = (t : ℕ) (e : Stored) → length fs ≤ t → slice_get xs (t - length fs) ≡ Some e → IsStoredAt (shown fs xs) t e
+    Each : Reach → List Syntax → List Stored → Type 0
+    Each r fs xs = (t : ℕ) (e : Stored) → length fs ≤ t → slice_get xs (t - length fs) ≡ Some e → IsStoredAt (shown r fs xs) t e

@@ -8,6 +8,7 @@ use Rattle.std.specs.BTreeMap.{is_at}
 use Rattle.std.specs.Cmp.{unsigned_ties, both_tied}
 use Rattle.std.specs.Slice.{IsItemAt}
 use Rattle.std.specs.Option.{option_copied, option_map, option_and_then, option_map_or}
+use Rattle.ssr_syntax_kinds.specs.declared.reach.Reach.{Reach}
 use Rattle.ssr_syntax_tree.specs.Syntax.{Syntax}
 use Rattle.ssr_base_trees.specs.declared.ids.NodeId.{NodeId}
 use Rattle.ssr_base_trees.specs.contracts.ids.NodeIdOrd.TheImpl as id_order
@@ -99,10 +100,11 @@ placed-expansion w t h =
 
 -- ** Further trees.
 
-pub trees_more : (files : List Syntax) (expansions : List Expanded) (e : Expanded)
-    → trees (record { files = files; expansions = expansions ++ e ∷ [] }) ≡ of_expansion e ∷ trees (record { files = files; expansions = expansions })
+pub trees_more : (reach : Reach) (files : List Syntax) (expansions : List Expanded) (e : Expanded)
+    → trees (record { reach = reach; files = files; expansions = expansions ++ e ∷ [] })
+    ≡ of_expansion e ∷ trees (record { reach = reach; files = files; expansions = expansions })
 unfolding trees
-trees_more files expansions e =
+trees_more reach files expansions e =
     let front = map of_file files ++ map of_expansion expansions in
     ap (λ ts. reverse (map of_file files ++ ts)) (map-append of_expansion expansions (e ∷ []))
     ∙ ap reverse (sym (append_assoc (map of_file files) (map of_expansion expansions) (of_expansion e ∷ [])))

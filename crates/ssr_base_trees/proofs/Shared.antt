@@ -1,7 +1,7 @@
 -- The laws of workspaces that the crates above may cite. The other files of lemmas here are this crate's own, but for `Changes`.
 
 -- what each workspace keeps that is built
-pub use Rattle.ssr_base_trees.proofs.Built.{built_none, built_file, built_expansion}
+pub use Rattle.ssr_base_trees.proofs.Built.{built_none, built_none_of, built_file, built_expansion}
 -- original ranges
 pub use Rattle.ssr_base_trees.proofs.Ranges.{lies_in_file, run_lies_in_file, spans_nest, boundary_passes, span_of_text}
 -- trees and nodes by their numbers

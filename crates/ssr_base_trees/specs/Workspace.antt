@@ -3,6 +3,7 @@
 use Rattle.std.specs.Prelude.{ℕ, ◌+◌, ◌==◌, ◌&&◌, nat_le, nat_lt, Bool, if◌then◌else◌, List, [], ◌∷◌, ◌++◌, length, map, reverse, take, drop, slice_get, Option, Some, None}
 use Rattle.std.specs.List.{position_from}
 use Rattle.std.specs.Option.{option_map, option_and_then, option_map_or}
+use Rattle.ssr_syntax_kinds.specs.declared.reach.Reach.{Reach}
 use Rattle.ssr_syntax_tree.specs.Syntax.{Syntax, node_count, token_count, source_of}
 use Rattle.ssr_syntax_tree.specs.Places.{Node, node_of, offset_of, start_of, end_of}
 use Rattle.ssr_base_trees.specs.declared.ids.FileRange.{FileRange}
@@ -17,7 +18,9 @@ pub record Expanded : Type 0 where
   pub syntax : Syntax
   pub origins : List (Option Span)
 
+-- all of its texts are read in one reach
 pub record Workspace : Type 0 where
+  pub reach : Reach
   pub files : List Syntax
   pub expansions : List Expanded
 

@@ -1,6 +1,8 @@
 -- For the logic alone: how it stores a workspace. There is nothing to believe here.
 use Rattle.std.specs.Prelude.{ℕ, List, Option, refl}
 use Rattle.std.specs.Coded.{Coded, code_by, coded×, coded_list, coded_option, coded_ℕ}
+use Rattle.ssr_syntax_kinds.specs.contracts.reach.Reach as reaches
+use Rattle.ssr_syntax_kinds.specs.declared.reach.Reach.{Reach}
 use Rattle.ssr_syntax_tree.specs.Syntax.{Syntax}
 use Rattle.ssr_syntax_tree.specs.SyntaxCode.{syntax_code}
 use Rattle.ssr_base_trees.specs.declared.ids.NodeId.{NodeId}
@@ -21,5 +23,5 @@ expanded_code =
 
 abbrev pub workspace_code : Coded Workspace
 workspace_code =
-    code_by (List Syntax × List Expanded) (coded× (coded_list syntax_code) (coded_list expanded_code))
-    (λ w. (w.files, w.expansions)) (λ c. record { files = c.0; expansions = c.1 }) (λ _. refl)
+    code_by (Reach × (List Syntax × List Expanded)) (coded× reaches.the_row.coded (coded× (coded_list syntax_code) (coded_list expanded_code)))
+    (λ w. (w.reach, (w.files, w.expansions))) (λ c. record { reach = c.0; files = c.1.0; expansions = c.1.1 }) (λ _. refl)

@@ -8,12 +8,12 @@ ghost use Rattle.std.specs.Option.{option_copied, option_map, option_and_then};
 ghost use Rattle.ssr_base_trees.specs.Texts.{text_between};
 ghost use Rattle.ssr_base_trees.specs.Workspace.{trees, with_number, tree_of, file_of, nesting, text_of, above, expansion_of, has_node, has_run, own_span, own_run_span, original, original_run, original_range, run_range, file_span_of};
 ghost use Rattle.ssr_base_trees.specs.Built.{IsBuilt, most_trees};
-ghost use Rattle.ssr_base_trees.specs.Growth.{only_files, with_tree, IsFree, IsOfCall};
+ghost use Rattle.ssr_base_trees.specs.Growth.{only_files, only_files_of, with_tree, IsFree, IsOfCall};
 ghost use Rattle.ssr_base_trees.specs.Private.Stored.{IsStoredAt};
 
 use crate::covers::{Cover, cover_all, covers};
 use crate::ids::{FileId, FileRange, NodeId, TokenRun};
-use ssr_syntax_kinds::TextRange;
+use ssr_syntax_kinds::{Reach, TextRange};
 use ssr_syntax_tree::{Element, NodeNo, TokenNo, Tree};
 use std::alloc::{AllocError, Global};
 use std::collections::BTreeMap;
@@ -38,6 +38,8 @@ struct Expanded {
 /// behind those of all files and of j expansions.
 #[derive(Drop)]
 pub struct Trees {
+    /// How much of Rust the texts are read in.
+    reach: Reach,
     files: Vec<Tree>,
     expansions: Vec<Expanded>,
     /// The numbers of the expansions by their calls.
@@ -110,7 +112,16 @@ impl Trees {
         requires { IsBuilt (only_files files.items) }
         ensures { result ≡ only_files files.items }
     {
+        Trees::of_files_of(alloc, Reach::Stated, files)
+    }
+
+    /// The same, where so much of Rust is read.
+    pub fn of_files_of(alloc: Global, reach: Reach, files: Vec<Tree>) -> Trees
+        requires { IsBuilt (only_files_of reach files.items) }
+        ensures { result ≡ only_files_of reach files.items }
+    {
         Trees {
+            reach,
             files,
             expansions: Vec::new(alloc),
             calls: BTreeMap::new(alloc),
@@ -150,6 +161,13 @@ impl Trees {
             Ok(()) => Ok(()),
             Err(_) => unreachable!(),
         }
+    }
+
+    /// How much of Rust the texts are read in.
+    pub fn reach(&self) -> Reach
+        ensures { result ≡ self.now.reach }
+    {
+        self.reach
     }
 
     /// How many files there are.

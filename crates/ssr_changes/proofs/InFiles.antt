@@ -9,6 +9,7 @@ use Rattle.std.specs.Ordering.{is_eq, nat_cmp}
 use Rattle.std.specs.declared.cmp.Ordering.TheVariants as ord
 use Rattle.std.proofs.lemmas.List.{drop_more, drop_all, map-append}
 use Rattle.std.proofs.lemmas.Option.{get_or_from_slice_get}
+use Rattle.ssr_syntax_kinds.specs.declared.reach.Reach.TheVariants.{Whole}
 use Rattle.ssr_syntax_tree.specs.Syntax.{Syntax, source_of}
 use Rattle.ssr_base_trees.specs.Changes.{Change, FitsText, replaced}
 use Rattle.ssr_base_trees.specs.Meanings.{Meanings}
@@ -109,7 +110,7 @@ fits_in files n file c is there fit =
 
 -- ** What is told in their place.
 
-pub why_is : (s : Search) (rules : List (List ℕ)) (e : SearchError) → ReachesOnce s rules (Err e) → IsWhy s rules e
+pub why_is : (s : Search) (rules : List (List ℕ)) (e : SearchError) → ReachesOnce Whole s rules (Err e) → IsWhy s rules e
 why_is s rules (errors.Refused message) comes = comes
 why_is s rules (errors.Clash earlier later) comes = comes
 why_is s rules errors.Memory comes = tt
@@ -120,15 +121,15 @@ abbrev pub search_in : Workspace → Meanings → FilePosition → List FileRang
 search_in w m position ranges = record { workspace = w; meanings = m; position = position; ranges = ranges }
 
 pub are_changes : (w v : Workspace) (m : Meanings) (position : FilePosition) (ranges : List FileRange) (rules : List (List ℕ)) (files : List File)
-    (found : BTreeMap FileId (List Change)) (made : List Changed) → w ≡ v → ReachesOnce (search_in w m position ranges) rules (Ok found)
+    (found : BTreeMap FileId (List Change)) (made : List Changed) → w ≡ v → ReachesOnce Whole (search_in w m position ranges) rules (Ok found)
     → made ≡ all_changed v (changes_in found) files → AreChanges (search_in v m position ranges) rules files made
 are_changes w v m position ranges rules files found made same comes are = record {
   new = changes_in found;
-  comes = subst (λ (w : Workspace). ComesToOnce (search_in w m position ranges) rules (changes (changes_in found))) same comes;
+  comes = subst (λ (w : Workspace). ComesToOnce Whole (search_in w m position ranges) rules (changes (changes_in found))) same comes;
   are = are;
 }
 
 pub why_in : (w v : Workspace) (m : Meanings) (position : FilePosition) (ranges : List FileRange) (rules : List (List ℕ)) (e : SearchError) → w ≡ v
-    → ReachesOnce (search_in w m position ranges) rules (Err e) → IsWhy (search_in v m position ranges) rules e
+    → ReachesOnce Whole (search_in w m position ranges) rules (Err e) → IsWhy (search_in v m position ranges) rules e
 why_in w v m position ranges rules e same comes =
     subst (λ (w : Workspace). IsWhy (search_in w m position ranges) rules e) same (why_is (search_in w m position ranges) rules e comes)

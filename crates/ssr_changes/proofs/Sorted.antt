@@ -4,8 +4,9 @@ use Rattle.std.specs.Prelude.{◌≢◌, ◌⊎◌, OnOk}
 use Rattle.std.specs.declared.alloc.AllocError.{AllocError}
 use Rattle.std.proofs.lemmas.List.{length-append}
 use Rattle.std.proofs.lemmas.List.Elements.{All-push}
+use Rattle.ssr_syntax_kinds.specs.declared.reach.Reach.TheVariants.{Whole}
 use Rattle.ssr_syntax_tree.specs.Syntax.{Syntax}
-use Rattle.ssr_syntax.specs.Reading.{IsRead, file_reading}
+use Rattle.ssr_syntax.specs.Reading.{IsReadOf, file_reading_of}
 use Rattle.ssr_syntax.specs.declared.syntax_error.SyntaxError.{SyntaxError}
 use Rattle.ssr_syntax.specs.declared.syntax_error.SyntaxError.TheVariants as errors
 use Rattle.ssr_base_trees.specs.Built.{most_trees}
@@ -59,8 +60,8 @@ all_sorted all left so_far nothing sorted =
 pub set_aside_is : (source : SourceFile) (now : List ℕ) (made : SetAside) (tree : Syntax) (aside : List Change) (reaches unsearched : List Span) (file : File)
     → now ≡ string_bytes source.text
     → file ≡ record { name = string_bytes source.name; text = string_bytes source.text; aside = aside; reaches = reaches; unsearched = unsearched }
-    → tree ≡ made.tree → aside ≡ made.aside → reaches ≡ made.reaches → unsearched ≡ made.unsearched → IsSetAside now made → IsRead made.tree
-    → ((code : Syntax) → file_reading now ≡ Ok code → made.aside ≡ []) → IsFileOf source file × IsSearched tree file × IsRead tree
+    → tree ≡ made.tree → aside ≡ made.aside → reaches ≡ made.reaches → unsearched ≡ made.unsearched → IsSetAside now made → IsReadOf Whole made.tree
+    → ((code : Syntax) → file_reading_of Whole now ≡ Ok code → made.aside ≡ []) → IsFileOf source file × IsSearched tree file × IsReadOf Whole tree
 set_aside_is source now made tree aside reaches unsearched file its is its_tree its_aside its_reaches its_unsearched set is_read whole =
     let file_text : file.text ≡ now = ap (λ (f : File). f.text) is ∙ sym its in
     let file_aside : file.aside ≡ made.aside = ap (λ (f : File). f.aside) is ∙ its_aside in
@@ -78,15 +79,15 @@ set_aside_is source now made tree aside reaches unsearched file its is its_tree 
       record {
         name = ap (λ (f : File). f.name) is;
         text = ap (λ (f : File). f.text) is;
-        as_it_stands = λ code reads. file_aside ∙ whole code (ap file_reading (sym file_text) ∙ reads);
+        as_it_stands = λ code reads. file_aside ∙ whole code (ap (file_reading_of Whole) (sym file_text) ∙ reads);
       },
       subst (Set file.text tree file.aside file.reaches) (sym file_unsearched) four,
-      subst IsRead (sym its_tree) is_read,
+      subst (IsReadOf Whole) (sym its_tree) is_read,
     )
 
 -- a file that is told
 pub is_told : (old new : Sorted) (source : SourceFile) (why : SyntaxError)
-    → (why ≢ errors.Memory → (file_reading (string_bytes source.text) ≡ Err why) ⊎ ((why ≡ errors.TooLong) × (most_trees ≤ length old.files.items)))
+    → (why ≢ errors.Memory → (file_reading_of Whole (string_bytes source.text) ≡ Err why) ⊎ ((why ≡ errors.TooLong) × (most_trees ≤ length old.files.items)))
     → (result : Result (Unit {0}) AllocError) → OnOk result (why ≢ errors.Memory)
     → OnOk result (new.unread.items ≡ old.unread.items ++ record { name = source.name; text = source.text; why = why } ∷ []) → new.trees ≡ old.trees → new.files ≡ old.files
     → OnOk result (Adds old new source)
@@ -108,10 +109,10 @@ are_searched old new source (as_told one its same_trees same grown) so_far =
     subst (λ (l : List File). AreSearched new.trees.items l) (sym same)
     (subst (λ (l : List Syntax). AreSearched l old.files.items) (sym same_trees) so_far)
 
-pub are_read : (old new : Sorted) (source : SourceFile) → Adds old new source → All IsRead old.trees.items → All IsRead new.trees.items
+pub are_read : (old new : Sorted) (source : SourceFile) → Adds old new source → All (IsReadOf Whole) old.trees.items → All (IsReadOf Whole) new.trees.items
 are_read old new source (as_read tree file its searched is few grown_trees grown same) so_far =
-    subst (All IsRead) (sym grown_trees) (All-push IsRead old.trees.items tree so_far is)
-are_read old new source (as_told one its same_trees same grown) so_far = subst (All IsRead) (sym same_trees) so_far
+    subst (All (IsReadOf Whole)) (sym grown_trees) (All-push (IsReadOf Whole) old.trees.items tree so_far is)
+are_read old new source (as_told one its same_trees same grown) so_far = subst (All (IsReadOf Whole)) (sym same_trees) so_far
 
 pub are_few : (old new : Sorted) (source : SourceFile) → Adds old new source → length old.files.items ≤ most_trees → length new.files.items ≤ most_trees
 are_few old new source (as_read tree file its searched is few grown_trees grown same) so_far =

@@ -2,6 +2,7 @@
 use Rattle.std.specs.Prelude.{ℕ, ◌≡◌, List, [], ◌∷◌, All, map, flat_map, length, slice_get, string_bytes}
 use Rattle.std.specs.List.{enumerate_from}
 use Rattle.std.specs.Option.{IsSomeAnd, option_map_or}
+use Rattle.ssr_syntax_kinds.specs.declared.reach.Reach.TheVariants.{Whole}
 use Rattle.ssr_base_trees.specs.Changes.{Change, FitsText, replaced}
 use Rattle.ssr_base_trees.specs.Workspace.{Workspace}
 use Rattle.ide_ssr_rewriting.specs.Clashes.{clash_of}
@@ -47,16 +48,16 @@ change_in w new numbered = option_map_or (λ cs. changed w numbered.0 numbered.1
 abbrev pub all_changed : Workspace → Changes → List File → List Changed
 all_changed w new files = flat_map (change_in w new) (enumerate_from 0 files)
 
--- the search for the rules comes to changes of the searched texts, and these are what they come to in the files
+-- the search for the rules, read in all of Rust, comes to changes of the searched texts, and these are what they come to in the files
 pub record AreChanges (s : Search) (rules : List (List ℕ)) (files : List File) (made : List Changed) : Type 0 where
   pub new : Changes
-  pub comes : ComesToOnce s rules (changes new)
+  pub comes : ComesToOnce Whole s rules (changes new)
   pub are : made ≡ all_changed s.workspace new files
 
 -- why there are none: what the search comes to; want of memory says nothing
 abbrev pub IsWhy : Search → List (List ℕ) → SearchError → Type 0
-IsWhy s rules (errors.Refused message) = ComesToOnce s rules (refuses (string_bytes message))
-IsWhy s rules (errors.Clash earlier later) = ComesToOnce s rules (clashes (clash_of (earlier, later)))
+IsWhy s rules (errors.Refused message) = ComesToOnce Whole s rules (refuses (string_bytes message))
+IsWhy s rules (errors.Clash earlier later) = ComesToOnce Whole s rules (clashes (clash_of (earlier, later)))
 IsWhy s rules errors.Memory = Unit {0}
 
 -- the file is there, and each change begins and ends between two characters of its text

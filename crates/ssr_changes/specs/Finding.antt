@@ -1,20 +1,21 @@
 -- What is searched for: rules or search patterns, the kinds that they are read as, and which of them a kind comes from.
 use Rattle.std.specs.Prelude.{ℕ, ◌≡◌, ◌+◌, List, [], ◌∷◌, ◌++◌, Result, Ok, Err, length, replicate}
+use Rattle.ssr_syntax_kinds.specs.declared.reach.Reach.TheVariants.{Whole}
 use Rattle.ssr_base_trees.specs.declared.ids.ScopeId.{ScopeId}
 use Rattle.ssr_base_trees.specs.Meanings.{Meanings}
 use Rattle.ide_ssr_refusals.specs.declared.refusals.Refusal.{Refusal}
 use Rattle.ide_ssr_refusals.specs.Refusals.{◌>>=◌}
 use Rattle.ide_ssr_resolved_rule.specs.Resolved.{ResolvedRule}
-use Rattle.ide_ssr_rules.specs.Rules.{Rule, once_reading, pattern_reading}
+use Rattle.ide_ssr_rules.specs.Rules.{Rule, once_reading_of, pattern_reading_of}
 use Rattle.ide_ssr.specs.Finder.{Finder, FinderWith}
 use Rattle.ssr_searching.specs.Searching.{Search, MakesFor, both, resolved}
 use Rattle.ssr_changes.specs.declared.finding.Form.{Form}
 use Rattle.ssr_changes.specs.declared.finding.Form.TheVariants as forms
 
--- what a text is read as: a rule as it is searched once
+-- what a text is read as in all of Rust: a rule as it is searched once
 abbrev pub reading_of : Form → List ℕ → Result Rule Refusal
-reading_of forms.Rules text = once_reading text
-reading_of forms.Patterns text = pattern_reading text
+reading_of forms.Rules text = once_reading_of Whole text
+reading_of forms.Patterns text = pattern_reading_of Whole text
 
 -- what a text says, parsed and resolved
 abbrev pub kinds_of : (List ℕ → Result Rule Refusal) → Meanings → ScopeId → List ℕ → Result (List ResolvedRule) Refusal

@@ -1,11 +1,13 @@
 //! The workspace of trees that are read, and of what macro calls in them stand for.
 ghost use Rattle.std.specs.Prelude.{◌≡◌, ◌+◌, ◌≤◌, All, IfOk, OnOk, Ok, length};
-ghost use Rattle.ssr_syntax.specs.Expansions.{expansion_reading};
-ghost use Rattle.ssr_syntax.specs.Reading.{IsRead};
+ghost use Rattle.ssr_syntax_kinds.specs.declared.reach.Reach.TheVariants.{Whole};
+ghost use Rattle.ssr_syntax.specs.Expansions.{expansion_reading_of};
+ghost use Rattle.ssr_syntax.specs.Reading.{IsReadOf};
 ghost use Rattle.ssr_base_trees.specs.Built.{most_trees};
 ghost use Rattle.ssr_macro_arguments.specs.Arguments.{HasItsTree};
 ghost use Rattle.ssr_changes.specs.Private.Building.{IsAdded, IsOneMore, missing};
 
+use crate::read_in::READ_IN;
 use ssr_base::{Expansion, Workspace, WorkspaceError};
 use ssr_macro_arguments::{ReadExpansion, macro_arguments};
 use ssr_syntax::Tree;
@@ -41,19 +43,19 @@ fn moved(expansion: Expansion, tree: u32) -> Expansion
     }
 }
 
-/// Adds an expansion with its tree, and gives the number of the tree, unless the expansion is refused.
+/// Adds an expansion with its tree, which is read in the workspace's reach, and gives the number of the tree, unless the expansion is refused.
 fn add(
     alloc: Global,
     workspace: &mut Workspace,
     expansion: &Expansion,
     tree: Tree,
 ) -> Result<Option<u32>, AllocError>
-    requires { expansion_reading expansion.now.kind expansion.now.tokens.items ≡ Ok tree }
+    requires { expansion_reading_of workspace.old.reach expansion.now.kind expansion.now.tokens.items ≡ Ok tree }
     ensures { IfOk result (IsAdded workspace.old expansion.now workspace.new) }
 {
     let trees = workspace.trees();
     let number = trees.file_count() + trees.expansion_count();
-    match workspace.add(alloc, expansion, tree) {
+    match workspace.add_of(alloc, expansion, tree) {
         Ok(()) => Ok(Some(number)),
         Err(error) => match error {
             WorkspaceError::Memory => Err(AllocError),
@@ -69,7 +71,8 @@ fn add_there(
     there: Option<u32>,
     made: ReadExpansion,
 ) -> Result<Option<u32>, AllocError>
-    requires { HasItsTree made }
+    requires made { HasItsTree made }
+    requires reach { workspace.old.reach ≡ Whole }
     ensures { IfOk result (IsOneMore workspace.old workspace.new) }
 {
     let Some(number) = there else {
@@ -95,7 +98,9 @@ fn add_all(
     workspace: &mut Workspace,
     made: Vec<ReadExpansion>,
 ) -> Result<usize, AllocError>
-    requires { All HasItsTree made.items }
+    requires made { All HasItsTree made.items }
+    requires reach { workspace.old.reach ≡ Whole }
+    ensures reach { OnOk result (workspace.new.reach ≡ Whole) }
     ensures files { OnOk result (workspace.new.files ≡ workspace.old.files) }
     ensures counted { IfOk result (λ refused. length workspace.new.expansions + refused ≡ length workspace.old.expansions + length made.items) }
 {
@@ -125,12 +130,13 @@ fn expansions(alloc: Global, trees: &[Tree], macros: bool) -> Result<Vec<ReadExp
 /// The workspace of files with these trees. With macros, what the calls of the standard library's macros in them stand for is
 /// searched too. One that is refused is left out, with those in its arguments.
 pub(crate) fn build(alloc: Global, trees: Vec<Tree>, macros: bool) -> Result<Built, AllocError>
-    requires read { All IsRead trees.items }
+    requires read { All (IsReadOf Whole) trees.items }
     requires few { length trees.items ≤ most_trees }
-    ensures { IfOk result (λ built. built.workspace.files ≡ trees.items) }
+    ensures files { IfOk result (λ built. built.workspace.files ≡ trees.items) }
+    ensures reach { IfOk result (λ built. built.workspace.reach ≡ Whole) }
 {
     let made = expansions(alloc, &trees, macros)?;
-    let mut workspace = Workspace::of_trees(alloc, trees);
+    let mut workspace = Workspace::of_trees_of(alloc, READ_IN, trees);
     let refused = add_all(alloc, &mut workspace, made)?;
     Ok(Built { workspace, refused })
 }

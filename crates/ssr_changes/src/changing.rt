@@ -5,10 +5,11 @@ ghost use Rattle.ssr_searching.specs.Searching.{changes_in};
 ghost use Rattle.ssr_changes.specs.Changing.{AreChanges, FitsIn, IsWhy, all_changed, shown};
 ghost use Rattle.ssr_changes.specs.Private.Changing.{FitsTree, IsChangeOf};
 
+use crate::read_in::READ_IN;
 use crate::searchable::Searchable;
 use crate::standing::{Tried, standing};
 use ssr_base::{ApplyError, FileId, FilePosition, FileRange, Semantics, TextEdit};
-use ssr_searching::{SearchError, edits_once};
+use ssr_searching::{Place, SearchError, edits_once};
 use ssr_set_aside::{Spared, spare};
 use ssr_standing::SearchedFile;
 use ssr_syntax::TextRange;
@@ -46,7 +47,8 @@ pub fn changes<S: Semantics>(
     ensures fit { IfOk result (λ made. All (FitsIn files.now.files) made.items) }
     ensures refused { IfErr result (IsWhy (record { workspace = files.now.workspace; meanings = S.meanings semantics.now; position = position; ranges = ranges.items }) (map string_bytes rules.now)) }
 {
-    let edits = edits_once(alloc, files.workspace(), semantics, position, ranges, rules)?;
+    let place = Place { position, ranges };
+    let edits = edits_once(alloc, READ_IN, files.workspace(), semantics, place, rules)?;
     Ok(all_changed(alloc, files, edits)?)
 }
 

@@ -4,6 +4,7 @@ ghost use Rattle.ide_ssr.specs.Adding.{Adds};
 ghost use Rattle.ssr_changes.specs.Finding.{count_of, kinds_of, reading_of};
 ghost use Rattle.ssr_changes.specs.Private.Finding.{AddsTexts};
 
+use crate::read_in::READ_IN;
 use ide_ssr::{MatchFinder, SsrError, SsrPattern, SsrRule};
 use ide_ssr_rules::{pattern_kinds, rule_kinds};
 use ssr_base::Semantics;
@@ -23,8 +24,8 @@ fn kind_count(alloc: Global, form: Form, text: &str) -> Result<usize, SsrError>
     ensures { IfOk result (λ count. count ≡ count_of (reading_of form text.now)) }
 {
     let parsed = match form {
-        Form::Rules => rule_kinds(SsrRule::parse(alloc, text)?.once()),
-        Form::Patterns => pattern_kinds(SsrPattern::parse(alloc, text)?),
+        Form::Rules => rule_kinds(SsrRule::parse_of(alloc, READ_IN, text)?.once()),
+        Form::Patterns => pattern_kinds(SsrPattern::parse_of(alloc, READ_IN, text)?),
     };
     let (_, _, kinds) = parsed.into_parts();
     Ok(kinds.len())
@@ -41,11 +42,11 @@ pub(crate) fn add<S: Semantics>(
 {
     match form {
         Form::Rules => {
-            let rule = SsrRule::parse(alloc, text)?;
+            let rule = SsrRule::parse_of(alloc, READ_IN, text)?;
             finder.add_rule_once(rule)
         }
         Form::Patterns => {
-            let pattern = SsrPattern::parse(alloc, text)?;
+            let pattern = SsrPattern::parse_of(alloc, READ_IN, text)?;
             finder.add_search_pattern(pattern)
         }
     }

@@ -14,6 +14,7 @@ mod naming;
 mod naming_self;
 mod plan_error;
 mod planning;
+mod read_in;
 mod refused;
 mod searchable;
 mod sorting;

@@ -1,6 +1,7 @@
 //! Which rule or search pattern names `self`.
 
 use crate::finding::Form;
+use crate::read_in::READ_IN;
 use ide_ssr::{SsrError, SsrPattern, SsrRule};
 use ide_ssr_rules::{ParsedKinds, ParsedRule, pattern_kinds, rule_kinds};
 use ide_ssr_search::names_self;
@@ -30,7 +31,7 @@ fn kinds(alloc: Global, form: Form, text: &str) -> Result<Vec<ParsedRule>, SsrEr
 /// What a text is read as.
 pub(crate) fn parsed(alloc: Global, form: Form, text: &str) -> Result<ParsedKinds, SsrError> {
     match form {
-        Form::Rules => Ok(rule_kinds(SsrRule::parse(alloc, text)?.once())),
-        Form::Patterns => Ok(pattern_kinds(SsrPattern::parse(alloc, text)?)),
+        Form::Rules => Ok(rule_kinds(SsrRule::parse_of(alloc, READ_IN, text)?.once())),
+        Form::Patterns => Ok(pattern_kinds(SsrPattern::parse_of(alloc, READ_IN, text)?)),
     }
 }

@@ -1,6 +1,7 @@
 //! The files of a package as they are searched.
 ghost use Rattle.std.specs.Prelude.{◌≡◌, ◌<◌, [], IfOk, Some, length, map, slice_get, slice_index_or, string_bytes};
 ghost use Rattle.std.specs.Option.{option_copied, option_map};
+ghost use Rattle.ssr_syntax_kinds.specs.declared.reach.Reach.TheVariants.{Whole};
 ghost use Rattle.ssr_syntax_tree.specs.Syntax.{Syntax};
 ghost use Rattle.ssr_base_trees.specs.Origins.{span_of};
 ghost use Rattle.ssr_changes.specs.Files.{AreSearched, IsSearched, as_they_are};
@@ -16,7 +17,7 @@ use ssr_syntax_kinds::TextRange;
 use std::alloc::{AllocError, Global};
 use std::marker::Model;
 
-/// Files as they are searched: a workspace of their texts with what the language leaves out set aside, and their texts on the
+/// Files as they are searched: a workspace of their texts with what isn't read set aside, and their texts on the
 /// disk. File number i is file i of the workspace.
 #[derive(Drop)]
 pub struct Searchable {
@@ -39,14 +40,15 @@ impl Model for Searchable {
 }
 
 impl Searchable {
-    /// The files that are read, with what the language leaves out set aside, and those that can't be read, both in their order.
+    /// The files that are read in all of Rust, with what isn't read set aside, and those that can't be read, both in their order.
     /// With `macros`, the arguments of the standard library's macros are searched too.
     pub fn of_files(
         alloc: Global,
         files: Vec<SourceFile>,
         macros: bool,
     ) -> Result<(Searchable, Vec<Unread>), AllocError>
-        ensures { IfOk result (λ answer. AreSorted 0 files.items answer.0.files answer.1.items) }
+        ensures sorted { IfOk result (λ answer. AreSorted 0 files.items answer.0.files answer.1.items) }
+        ensures reach { IfOk result (λ answer. answer.0.workspace.reach ≡ Whole) }
     {
         let Sorted {
             trees,

@@ -1,6 +1,7 @@
 //! Which files are read, with what the language leaves out set aside, and which are not.
 ghost use Rattle.std.specs.Prelude.{◌≡◌, ◌≢◌, ◌≤◌, [], ◌∷◌, ◌++◌, All, IfOk, OnOk, length};
-ghost use Rattle.ssr_syntax.specs.Reading.{IsRead};
+ghost use Rattle.ssr_syntax_kinds.specs.declared.reach.Reach.TheVariants.{Whole};
+ghost use Rattle.ssr_syntax.specs.Reading.{IsReadOf};
 ghost use Rattle.ssr_syntax.specs.declared.syntax_error.SyntaxError.TheVariants as errors;
 ghost use Rattle.ssr_base_trees.specs.Built.{most_trees};
 ghost use Rattle.ssr_changes.specs.Files.{AreSearched};
@@ -76,7 +77,7 @@ impl Sorted {
 pub(crate) fn sort_out(alloc: Global, files: Vec<SourceFile>) -> Result<Sorted, AllocError>
     ensures sorted { IfOk result (λ sorted. AreSorted 0 files.items sorted.files.items sorted.unread.items) }
     ensures made { IfOk result (λ sorted. AreSearched sorted.trees.items sorted.files.items) }
-    ensures read { IfOk result (λ sorted. All IsRead sorted.trees.items) }
+    ensures read { IfOk result (λ sorted. All (IsReadOf Whole) sorted.trees.items) }
     ensures few { IfOk result (λ sorted. length sorted.trees.items ≤ most_trees) }
 {
     let mut sorted = Sorted {

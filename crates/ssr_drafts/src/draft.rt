@@ -20,19 +20,11 @@ pub(crate) struct Draft<'a> {
     text: &'a str,
     pub(crate) kinds: Vec<SyntaxKind>,
     tokens: Vec<RawToken>,
-    brackets: Brackets,
+    /// The place of the bracket that pairs with this one; of any other token its own place.
+    partners: Vec<usize>,
     forms: Vec<Form>,
     /// How often a token has come to be part of another form.
     treated: usize,
-}
-
-/// How brackets pair. The columns have an entry a token.
-#[derive(Drop)]
-struct Brackets {
-    /// The place of the bracket that pairs with this one; of any other token its own place.
-    partners: Vec<usize>,
-    /// The place of the bracket that a token stands in directly, if there is one.
-    parents: Vec<Option<usize>>,
 }
 
 /// The tokens of a text without white space and comments; none where it can't be cut into tokens.
@@ -62,10 +54,9 @@ fn is_closing(kind: SyntaxKind) -> bool {
     matches!(kind, R_PAREN | R_BRACK | R_CURLY)
 }
 
-/// How the brackets pair, if each has its own.
-fn paired(alloc: Global, kinds: &[SyntaxKind]) -> Result<Option<Brackets>, AllocError> {
+/// For each token the place of the bracket that pairs with it, if each bracket has its own; of any other token its own place.
+fn paired(alloc: Global, kinds: &[SyntaxKind]) -> Result<Option<Vec<usize>>, AllocError> {
     let mut partners: Vec<usize> = Vec::with_capacity(alloc, kinds.len())?;
-    let mut parents = Vec::with_capacity(alloc, kinds.len())?;
     let mut open: Vec<(usize, SyntaxKind)> = Vec::new(alloc);
     for (place, kind) in kinds.iter().enumerate() {
         let mut partner = place;
@@ -79,13 +70,12 @@ fn paired(alloc: Global, kinds: &[SyntaxKind]) -> Result<Option<Brackets>, Alloc
             }
         }
         partners.push(partner)?;
-        parents.push(open.last().map(|(start, _)| *start))?;
         if let Some(close) = closing(*kind) {
             open.push((place, close))?;
         }
     }
     Ok(if open.is_empty() {
-        Some(Brackets { partners, parents })
+        Some(partners)
     } else {
         None
     })
@@ -96,7 +86,7 @@ impl<'a> Draft<'a> {
     pub(crate) fn new(alloc: Global, text: &'a str) -> Result<Option<Draft<'a>>, AllocError> {
         let tokens = solid_tokens(alloc, text)?;
         let kinds: Vec<SyntaxKind> = tokens.iter().map(|token| token.kind).collect(alloc)?;
-        let Some(brackets) = paired(alloc, &kinds)? else {
+        let Some(partners) = paired(alloc, &kinds)? else {
             return Ok(None);
         };
         let forms = vec![in alloc; Form::Kept; tokens.len()]?;
@@ -104,7 +94,7 @@ impl<'a> Draft<'a> {
             text,
             kinds,
             tokens,
-            brackets,
+            partners,
             forms,
             treated: 0,
         }))
@@ -134,13 +124,8 @@ impl<'a> Draft<'a> {
 
     /// The place behind a token; behind an opening bracket, that behind the one that closes it.
     pub(crate) fn behind(&self, place: usize) -> usize {
-        let partner = self.brackets.partners.get(place).copied().unwrap_or(place);
+        let partner = self.partners.get(place).copied().unwrap_or(place);
         partner.max(place).saturating_add(1)
-    }
-
-    /// The place of the bracket that a token stands in directly.
-    pub(crate) fn parent(&self, place: usize) -> Option<usize> {
-        self.brackets.parents.get(place).copied().flatten()
     }
 
     /// Whether punctuation follows a token directly.
@@ -215,7 +200,6 @@ impl<'a> Draft<'a> {
     pub(crate) fn parts(&self, alloc: Global) -> Result<Parts, AllocError> {
         let nexts = self.next_kept(alloc)?;
         let mut parts = Parts::new(alloc);
-        let mut last = u32::MAX;
         let mut behind = 0;
         for (place, form) in self.forms.iter().enumerate() {
             let (Some(token), Some(next)) = (self.tokens.get(place), nexts.get(place)) else {
@@ -225,16 +209,15 @@ impl<'a> Draft<'a> {
                 continue;
             }
             if *form == Form::Kept {
-                last = token.range.end.saturating_sub(1);
-            } else if form.is_unsearched() {
+                continue;
+            }
+            if form.is_unsearched() {
                 behind = self.behind_unsearched(place);
                 self.push_unsearched(alloc, place, behind, &mut parts)?;
             } else {
                 let new = filled(alloc, form.word(), self.token_text(place))?;
                 parts.changes.push((token.range, new))?;
-                parts
-                    .reaches
-                    .push(reach(form.side(), token.range, last, *next))?;
+                parts.reaches.push(reach(form.side(), token.range, *next))?;
             }
         }
         Ok(parts)
@@ -284,12 +267,11 @@ impl<'a> Draft<'a> {
     }
 }
 
-/// The bytes of a part that no match may touch: its own, and one of the token next to it that the part belongs to. `last` is the
-/// last byte of the token in front that stays, `next` the place behind the first one of the token behind.
-fn reach(side: Side, range: TextRange, last: u32, next: u32) -> TextRange {
+/// The bytes of a part that no match may touch: its own, and the first one of the token behind it that stays, if it belongs to that.
+/// `next` is the place behind that byte.
+fn reach(side: Side, range: TextRange, next: u32) -> TextRange {
     match side {
         Side::Inside => range,
         Side::Ahead => TextRange::new(range.start, range.end.max(next)),
-        Side::Behind => TextRange::new(range.start.min(last), range.end),
     }
 }

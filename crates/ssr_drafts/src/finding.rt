@@ -19,8 +19,8 @@ pub enum Care {
 pub struct Parts {
     /// The changes that set them aside: in order, sharing no byte, and each with a text of as many bytes as it replaces.
     pub changes: Vec<(TextRange, String)>,
-    /// Of each change the bytes that no match may touch: its own, and where the part belongs to what begins behind it or ends in
-    /// front of it, up to the first byte of that or from the last one.
+    /// Of each change the bytes that no match may touch: its own, and where the part belongs to what begins behind it, those up to
+    /// behind the first byte of that.
     pub reaches: Vec<TextRange>,
     /// The ranges of those of the changes that set aside what isn't read, where blanks alone are left to search.
     pub unsearched: Vec<TextRange>,

@@ -3,7 +3,7 @@
 use crate::draft::{Draft, Span};
 use crate::form::Form;
 use crate::units::{Body, UnitKind};
-use ssr_syntax::{SyntaxError, parse_file};
+use ssr_syntax::{Reach, SyntaxError, parse_file_of};
 use ssr_syntax_kinds::SyntaxKind::*;
 use std::alloc::{AllocError, Global};
 
@@ -13,7 +13,7 @@ const MOST_LEVELS: u32 = 64;
 
 /// Whether a text is read as a file.
 fn is_read(alloc: Global, text: &str) -> Result<bool, AllocError> {
-    match parse_file(alloc, text) {
+    match parse_file_of(alloc, Reach::Whole, text) {
         Ok(_) => Ok(true),
         Err(SyntaxError::Memory) => Err(AllocError),
         Err(_) => Ok(false),

@@ -11,6 +11,8 @@ pub(crate) enum UnitKind {
     Items,
     /// Items of a trait, of which functions need no body.
     Members,
+    /// Those of a block of foreign items, which have none.
+    Foreign,
     Statements,
     Arms,
 }
@@ -21,6 +23,7 @@ impl UnitKind {
         match self {
             UnitKind::Items => "use a; ",
             UnitKind::Members => "trait T { ",
+            UnitKind::Foreign => "extern { ",
             UnitKind::Statements => "fn f() { ",
             UnitKind::Arms => "fn f() { match x { ",
         }
@@ -30,7 +33,7 @@ impl UnitKind {
     pub(crate) fn back(self) -> &'static str {
         match self {
             UnitKind::Items => "",
-            UnitKind::Members | UnitKind::Statements => " }",
+            UnitKind::Members | UnitKind::Foreign | UnitKind::Statements => " }",
             UnitKind::Arms => " } }",
         }
     }
@@ -146,7 +149,7 @@ impl Draft<'_> {
         // `=`, `|` and `in` follow the fields of a pattern
         let goes_on = matches!(behind, DOT | QUESTION | ELSE_KW | COMMA | EQ | PIPE | IN_KW);
         match kind {
-            UnitKind::Items | UnitKind::Members => !ends_with_semicolon(head),
+            UnitKind::Items | UnitKind::Members | UnitKind::Foreign => !ends_with_semicolon(head),
             UnitKind::Statements => {
                 !goes_on && (is_block_like(head) || self.kind_before(place, 1) == BANG)
             }
@@ -183,7 +186,8 @@ impl Draft<'_> {
         match head {
             STRUCT_KW | ENUM_KW | USE_KW => None,
             TRAIT_KW => Some(UnitKind::Members),
-            IMPL_KW | MOD_KW | EXTERN_KW => Some(UnitKind::Items),
+            IMPL_KW | MOD_KW => Some(UnitKind::Items),
+            EXTERN_KW => Some(UnitKind::Foreign),
             _ if self.opens_fields(place) => None,
             _ if control == MATCH_KW => Some(UnitKind::Arms),
             _ => Some(UnitKind::Statements),
@@ -220,8 +224,8 @@ impl Draft<'_> {
         Ok(bodies)
     }
 
-    /// The place behind a token; behind the `!` of a macro call, that behind its arguments.
-    fn behind_macro_call(&self, place: usize) -> usize {
+    /// The place behind a token; behind the name of a macro call, that behind its arguments.
+    pub(crate) fn behind_macro_call(&self, place: usize) -> usize {
         match self.rest(place) {
             [IDENT, BANG, L_PAREN | L_BRACK | L_CURLY, ..] => self.behind(place.saturating_add(2)),
             [IDENT, BANG, IDENT, L_PAREN | L_BRACK | L_CURLY, ..] => {

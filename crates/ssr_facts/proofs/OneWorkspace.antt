@@ -13,7 +13,8 @@ use Rattle.ssr_syntax.specs.declared.expansions.ExpToken.{ExpToken}
 use Rattle.ssr_syntax.specs.declared.expansions.ExpansionKind.{ExpansionKind}
 use Rattle.ssr_syntax.specs.declared.expansions.ExpansionKind.TheVariants as kinds
 use Rattle.ssr_syntax.specs.declared.syntax_error.SyntaxError.{SyntaxError}
-use Rattle.ssr_syntax.specs.Expansions.{expansion_text, unless_refused, lone_kind, raw_token, raw_from, goal_of_expansion, expansion_reading}
+use Rattle.ssr_syntax_kinds.specs.declared.reach.Reach.TheVariants.{Stated}
+use Rattle.ssr_syntax.specs.Expansions.{expansion_text, unless_refused, lone_kind, raw_token, raw_from, goal_of_expansion, expansion_reading, expansion_reading_of}
 use Rattle.ssr_syntax.specs.Reading.{tree_reading, short_reading, file_reading}
 use Rattle.ssr_base.specs.declared.building.Expansion.{Expansion}
 use Rattle.ssr_base_trees.specs.declared.ids.NodeId.{NodeId}
@@ -61,7 +62,7 @@ in_turn_same row step alike w (x ∷ xs) (y ∷ ys) same =
 file_same : (w : Workspace) (x y : String Global) → string_bytes x ≡ string_bytes y → with_file w x ≡ with_file w y
 file_same w x y same =
     ap (λ bytes. read_as (errors.File (length w.files)) (file_reading bytes)
-    >>= (λ tree. Ok (record { files = w.files ++ tree ∷ []; expansions = w.expansions }))) same
+    >>= (λ tree. Ok (record { reach = w.reach; files = w.files ++ tree ∷ []; expansions = w.expansions }))) same
 
 -- ** Tokens.
 
@@ -98,10 +99,10 @@ raw_same start (t ∷ ts) (u ∷ us) same =
 
 reading_same : (kind : ExpansionKind) (ts us : List ExpToken) → map row_of_token ts ≡ map row_of_token us
     → expansion_reading kind ts ≡ expansion_reading kind us
-unfolding expansion_reading
+unfolding expansion_reading expansion_reading_of
 reading_same kind ts us same =
-    ap (λ raw. short_reading (unless_refused (tree_reading (goal_of_expansion kind) (expansion_text ts)) raw) (expansion_text ts)) (raw_same 0 ts us same)
-    ∙ ap (λ text. short_reading (unless_refused (tree_reading (goal_of_expansion kind) text) (raw_from 0 us)) text) (texts_same ts us same)
+    ap (λ raw. short_reading (unless_refused (tree_reading Stated (goal_of_expansion kind) (expansion_text ts)) raw) (expansion_text ts)) (raw_same 0 ts us same)
+    ∙ ap (λ text. short_reading (unless_refused (tree_reading Stated (goal_of_expansion kind) text) (raw_from 0 us)) text) (texts_same ts us same)
 
 origin_same : (t u : ExpToken) → row_of_token t ≡ row_of_token u → origin_of t ≡ origin_of u
 origin_same t u same = ap (λ (r : PlainToken). r.origin) same

@@ -8,7 +8,8 @@ use Rattle.std.specs.List.{All}
 use Rattle.std.specs.Option.{IsSomeAnd, option_map}
 use Rattle.ssr_syntax_tree.proofs.Lists.{slice_get-left}
 use Rattle.ssr_base.specs.declared.building.Expansion.{Expansion}
-use Rattle.ssr_syntax.specs.Expansions.{expansion_reading}
+use Rattle.ssr_syntax_kinds.specs.declared.reach.Reach.TheVariants.{Whole}
+use Rattle.ssr_syntax.specs.Expansions.{expansion_reading_of}
 use Rattle.ssr_syntax.specs.declared.expansions.ExpToken.{ExpToken}
 use Rattle.ssr_syntax.specs.declared.expansions.ExpansionKind.TheVariants.{Expr}
 use Rattle.ssr_syntax_tree.specs.Syntax.{Syntax, source_of}
@@ -222,9 +223,9 @@ none_made files made none =
 
 -- the tree that tokens are read as
 pub read_tree : (tokens now : List ExpToken) (found : Option Syntax) (tree : Syntax) → found ≡ Some tree → now ≡ tokens
-    → IfSome found (λ tree. expansion_reading Expr now ≡ Ok tree) → expansion_reading Expr tokens ≡ Ok tree
+    → IfSome found (λ tree. expansion_reading_of Whole Expr now ≡ Ok tree) → expansion_reading_of Whole Expr tokens ≡ Ok tree
 read_tree tokens now found tree is same read =
-    ap (expansion_reading Expr) (sym same) ∙ subst (λ (o : Option Syntax). IfSome o (λ tree. expansion_reading Expr now ≡ Ok tree)) is read
+    ap (expansion_reading_of Whole Expr) (sym same) ∙ subst (λ (o : Option Syntax). IfSome o (λ tree. expansion_reading_of Whole Expr now ≡ Ok tree)) is read
 
 -- ** The expansions with their trees alone.
 

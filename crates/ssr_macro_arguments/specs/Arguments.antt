@@ -1,7 +1,8 @@
 -- The expansions of macro calls whose arguments are expressions, what their tokens spell, and their trees.
 use Rattle.std.specs.Prelude.{ℕ, ◌≡◌, ◌<◌, ◌++◌, Bool, List, [], ◌∷◌, length, map, All, Contains, Option, None, MatchOption, Ok, bytes_eq, slice_index_or, slice_range, string_bytes, codes}
 use Rattle.ssr_syntax_kinds.specs.declared.range.TextRange.{TextRange}
-use Rattle.ssr_syntax.specs.Expansions.{expansion_reading}
+use Rattle.ssr_syntax_kinds.specs.declared.reach.Reach.TheVariants.{Whole}
+use Rattle.ssr_syntax.specs.Expansions.{expansion_reading_of}
 use Rattle.ssr_syntax.specs.declared.expansions.ExpToken.{ExpToken}
 use Rattle.ssr_syntax.specs.declared.expansions.ExpansionKind.TheVariants.{Expr}
 use Rattle.ssr_base.specs.declared.building.Expansion.{Expansion}
@@ -63,6 +64,6 @@ AreArguments tops (x ∷ xs) =
 abbrev pub expansions_of : List ReadExpansion → List Expansion
 expansions_of made = map (λ one. one.expansion) made
 
--- its tree is what its tokens are read as
+-- its tree is what its tokens are read as in all of Rust
 abbrev pub HasItsTree : ReadExpansion → Type 0
-HasItsTree one = expansion_reading one.expansion.kind one.expansion.tokens.items ≡ Ok one.tree
+HasItsTree one = expansion_reading_of Whole one.expansion.kind one.expansion.tokens.items ≡ Ok one.tree

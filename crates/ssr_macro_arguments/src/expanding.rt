@@ -1,8 +1,9 @@
 //! The expansions of the calls in files, and of those in these expansions.
 ghost use Rattle.std.specs.Prelude.{◌≡◌, ◌+◌, ◌<◌, ◌≤◌, ◌^◌, ℕ, List, All, Ok, Some, IfOk, OnOk, IfSome, length, map, slice_get};
+ghost use Rattle.ssr_syntax_kinds.specs.declared.reach.Reach.TheVariants.{Whole};
 ghost use Rattle.ssr_syntax_tree.specs.Syntax.{Syntax, source_of};
 ghost use Rattle.ssr_syntax_tree.specs.Places.{node_of, HasNode};
-ghost use Rattle.ssr_syntax.specs.Expansions.{expansion_text, expansion_reading};
+ghost use Rattle.ssr_syntax.specs.Expansions.{expansion_text, expansion_reading_of};
 ghost use Rattle.ssr_syntax.specs.declared.expansions.ExpansionKind.TheVariants.{Expr};
 ghost use Rattle.ssr_base_trees.specs.Built.{most_trees};
 ghost use Rattle.ssr_macro_arguments.specs.Arguments.{AreArguments, HasItsTree, expansions_of, piece_of};
@@ -19,7 +20,7 @@ use crate::made::{Call, Made};
 use crate::own_names::OwnNames;
 use ide_ssr_resolved_rule::first_child;
 use ssr_base::{Expansion, MOST_NESTED, MOST_TREES};
-use ssr_syntax::{ExpToken, ExpansionKind, SyntaxError, parse_tokens};
+use ssr_syntax::{ExpToken, ExpansionKind, Reach, SyntaxError, parse_tokens_of};
 use ssr_syntax_kinds::{SyntaxKind, TextRange};
 use ssr_syntax_tree::{NodeNo, Tree};
 use std::alloc::{AllocError, Global};
@@ -59,12 +60,12 @@ fn call_at(tree: &Tree, node: NodeNo, own: &OwnNames) -> Option<Call>
     })
 }
 
-/// The tree of tokens that are read as an expression, if they can be.
+/// The tree of tokens that are read as an expression in all of Rust, if they can be.
 fn expression(alloc: Global, tokens: &[ExpToken]) -> Result<Option<Tree>, AllocError>
-    ensures read { IfOk result (λ read. IfSome read (λ tree. expansion_reading Expr tokens.now ≡ Ok tree)) }
+    ensures read { IfOk result (λ read. IfSome read (λ tree. expansion_reading_of Whole Expr tokens.now ≡ Ok tree)) }
     ensures short { IfOk result (λ read. IfSome read (λ _. length (expansion_text tokens.now) < 2 ^ 32)) }
 {
-    match parse_tokens(alloc, ExpansionKind::Expr, tokens) {
+    match parse_tokens_of(alloc, Reach::Whole, ExpansionKind::Expr, tokens) {
         Ok(tree) => Ok(Some(tree)),
         Err(SyntaxError::Memory) => Err(AllocError),
         Err(_) => Ok(None),

@@ -144,6 +144,10 @@ pub on_ok : {T E : Type 0} (r : Result T E) (P : Type 0) → P → OnOk r P
 on_ok (Ok x) P p = p
 on_ok (Err e) P p = tt
 
+pub on_ok_too : {T E : Type 0} (r : Result T E) (P Q : Type 0) → (P → Q) → OnOk r P → OnOk r Q
+on_ok_too (Ok x) P Q follows p = follows p
+on_ok_too (Err e) P Q follows p = tt
+
 module _ (ts : List PlacedTree) where
   pub one_row : (old new : List (NodeId × Res)) (node : NodeId) (thing : Res) → new ≡ insert_entry ((id_order.ghosts).cmp) old node thing
       → (IsBoundName ts node → ⊥) → HasNoLocal ts old → HasNoLocal ts new

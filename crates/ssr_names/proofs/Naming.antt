@@ -10,7 +10,7 @@ use Rattle.ssr_syntax_tree.specs.Syntax.{Forest, Syntax, spelled, tokens_in}
 use Rattle.ssr_syntax_tree.specs.Places.{node_of}
 use Rattle.ide_ssr_resolved_rule.specs.Paths.{below_first, last_segment, last_name}
 use Rattle.ssr_names_items.specs.Names.{bare}
-use Rattle.ssr_names.specs.Locals.{text_of_first, is_alone, lone_name, may_be_constant, bound_name}
+use Rattle.ssr_names.specs.Locals.{text_of_first, is_alone, lone_name, may_be_constant, names_argument, bound_name}
 
 -- ** The name of a path.
 
@@ -53,17 +53,19 @@ not_true false e = refl
 -- what is known of a pattern that binds a name for sure
 pub record BindsSurely (tree : Syntax) (n : ℕ) (name : List ℕ) : Type 0 where
   pub kind : same_kind (node_of tree n).kind k.IDENT_PAT ≡ true
+  pub no_argument : names_argument tree n ≡ false
   pub text : List ℕ
   pub spelled : text_of_first k.NAME (node_of tree n).children ≡ Some text
   pub same : bare text ≡ name
   pub surely : may_be_constant (node_of tree n).children (bare text) ≡ false
 
-from_text : (tree : Syntax) (n : ℕ) (name : List ℕ) → same_kind (node_of tree n).kind k.IDENT_PAT ≡ true
+from_text : (tree : Syntax) (n : ℕ) (name : List ℕ) → same_kind (node_of tree n).kind k.IDENT_PAT ≡ true → names_argument tree n ≡ false
     → (text : Option (List ℕ)) → text_of_first k.NAME (node_of tree n).children ≡ text
     → not (option_map_or (may_be_constant (node_of tree n).children) (option_map bare text) false) ≡ true → option_map bare text ≡ Some name → BindsSurely tree n name
-from_text tree n name kind None is surely named = absurd (none-some name named)
-from_text tree n name kind (Some text) is surely named = record {
+from_text tree n name kind free None is surely named = absurd (none-some name named)
+from_text tree n name kind free (Some text) is surely named = record {
   kind = kind;
+  no_argument = free;
   text = text;
   spelled = is;
   same = same_Some (bare text) name named;
@@ -76,7 +78,9 @@ binds_surely tree n name is =
     let pattern = node_of tree n in
     let text = option_map bare (text_of_first k.NAME pattern.children) in
     let kind = same_kind pattern.kind k.IDENT_PAT in
+    let free = not (names_argument tree n) in
     let sure = not (option_map_or (may_be_constant pattern.children) text false) in
-    let parts = chosen (kind && sure) text name is in
-    let tests = both kind sure parts.0 in
-    from_text tree n name tests.0 (text_of_first k.NAME pattern.children) refl tests.1 parts.1
+    let parts = chosen ((kind && free) && sure) text name is in
+    let tests = both (kind && free) sure parts.0 in
+    let binding = both kind free tests.0 in
+    from_text tree n name binding.0 (not_true (names_argument tree n) binding.1) (text_of_first k.NAME pattern.children) refl tests.1 parts.1

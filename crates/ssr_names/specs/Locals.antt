@@ -1,5 +1,5 @@
 -- Locals: names of the code that a function around them binds. They stand for nothing that is declared.
-use Rattle.std.specs.Prelude.{ℕ, ◌≡◌, ◌⊎◌, ◌==◌, ◌&&◌, Bool, true, false, not, nat_le, nat_lt, is_some, List, [], ◌∷◌, Option, Some, None, if◌then◌else◌, Contains}
+use Rattle.std.specs.Prelude.{ℕ, ◌≡◌, ◌⊎◌, ◌==◌, ◌&&◌, ◌+◌, ◌<◌, ◌≤◌, Bool, true, false, not, nat_le, nat_lt, is_some, List, [], ◌∷◌, Option, Some, None, if◌then◌else◌, Contains}
 use Rattle.std.specs.Option.{IsSomeAnd, option_map, option_map_or}
 use Rattle.ssr_syntax_kinds.specs.Kinds.{same_kind}
 use Rattle.ssr_syntax_kinds.specs.declared.kinds.SyntaxKind.{SyntaxKind}
@@ -70,6 +70,29 @@ is_in_call tree n = nat_lt 0 n && same_kind (node_of tree (node_of tree n).paren
 abbrev pub plain_name : Syntax → ℕ → Option (List ℕ)
 plain_name tree n = if is_in_call tree n then None else lone_name tree n
 
+-- ** A function without a body: the type of a pointer, one that a trait requires, or a foreign one.
+
+-- by its kind, and by whether it has a block
+abbrev pub is_bodiless : SyntaxKind → Bool → Bool
+is_bodiless k.FN_PTR_TYPE has_block = true
+is_bodiless k.FN has_block = not has_block
+is_bodiless _ _ = false
+
+abbrev pub lacks_body : Syntax → ℕ → Bool
+lacks_body tree n = let item = node_of tree n in is_bodiless item.kind (is_some (below_first k.BLOCK_EXPR item.children))
+
+-- whether a node that isn't the root is the list of such a function's parameters
+abbrev pub lists_arguments : Syntax → ℕ → Bool
+lists_arguments tree n = nat_lt 0 n && lacks_body tree (node_of tree n).parent
+
+-- whether it is one of these parameters
+abbrev pub is_argument : Syntax → ℕ → Bool
+is_argument tree n = nat_lt 0 n && lists_arguments tree (node_of tree n).parent
+
+-- whether it is the pattern of such a parameter: that tells what the argument is, and no code has the name
+abbrev pub names_argument : Syntax → ℕ → Bool
+names_argument tree n = nat_lt 0 n && is_argument tree (node_of tree n).parent
+
 -- ** A name that a pattern binds.
 
 -- whether a name begins with a capital letter
@@ -87,7 +110,29 @@ unfoldable pub bound_name : Syntax → ℕ → Option (List ℕ)
 bound_name tree n =
     let pattern = node_of tree n in
     let name = option_map bare (text_of_first k.NAME pattern.children) in
-    if same_kind pattern.kind k.IDENT_PAT && not (option_map_or (may_be_constant pattern.children) name false) then name else None
+    let is_binding = same_kind pattern.kind k.IDENT_PAT && not (names_argument tree n) in
+    if is_binding && not (option_map_or (may_be_constant pattern.children) name false) then name else None
+
+-- a token is a word that is no constant, as its small letter shows
+pub record IsBindingWord (tree : Syntax) (token : ℕ) (name : List ℕ) : Type 0 where
+  pub is_word : same_kind (token_of tree token).kind k.IDENT ≡ true
+  pub named : bare (token_of tree token).text ≡ name
+  pub is_small : is_capital name ≡ false
+
+-- a macro call in the place of a pattern has this word: the macro may make a pattern of it that binds it
+pub record HasBindingWord (tree : Syntax) (n : ℕ) (name : List ℕ) : Type 0 where
+  pub is_call : same_kind (node_of tree n).kind k.MACRO_PAT ≡ true
+  pub token : ℕ
+  pub from : (node_of tree n).first ≤ token
+  pub to : token < (node_of tree n).first + token_count (node_of tree n).children
+  pub is : IsBindingWord tree token name
+
+-- a pattern binds a name, or may
+abbrev pub Binds : Syntax → ℕ → List ℕ → Type 0
+Binds tree n name = (bound_name tree n ≡ Some name) ⊎ HasBindingWord tree n name
+
+abbrev pub BindsAt : List PlacedTree → NodeId → List ℕ → Type 0
+BindsAt trees x name = IsSomeAnd (with_number trees x.tree) (λ p. HasNode p.syntax x.node.0 × Binds p.syntax x.node.0 name)
 
 -- ** A name that is a generic parameter.
 
@@ -117,14 +162,15 @@ HasParameterAt trees x name =
 
 -- ** Locals.
 
--- A path is a name alone in the place of a value, and a function around it has a pattern that binds the name.
+-- A path is a name alone in the place of a value, and a function around it has a pattern that binds the name, or a macro call in the
+-- place of a pattern that may.
 pub record IsLocal (trees : List PlacedTree) (path : NodeId) : Type 0 where
   pub name : List ℕ
   pub function : NodeId
   pub pattern : NodeId
   pub is_function : is_function_at trees function ≡ true
   pub named : told_of (λ p. value_name p.syntax path.node.0) trees path ≡ Some name
-  pub binds : told_of (λ p. bound_name p.syntax pattern.node.0) trees pattern ≡ Some name
+  pub binds : BindsAt trees pattern name
   pub around_path : IsBelow trees path function
   pub around_pattern : IsBelow trees pattern function
 

@@ -1,6 +1,7 @@
 //! What the paths of a run's code stand for, by its sources alone, and the provider that tells it.
 #![tactic(auto)]
 
+mod arguments;
 mod code_paths;
 mod copies;
 mod definitions;

@@ -101,7 +101,11 @@ pub(crate) fn is_generic_at(trees: &Trees, node: NodeId, name: &str) -> bool
 fn around(trees: &Trees, place: Place, node: NodeId, kind: SyntaxKind, name: &str) -> Place {
     let mut wider = place;
     match kind {
-        SyntaxKind::IMPL | SyntaxKind::TRAIT | SyntaxKind::STRUCT | SyntaxKind::ENUM => {
+        SyntaxKind::IMPL
+        | SyntaxKind::TRAIT
+        | SyntaxKind::STRUCT
+        | SyntaxKind::ENUM
+        | SyntaxKind::UNION => {
             wider.within_impl = place.within_impl.or(Some(node));
             wider.is_generic = place.is_generic || is_generic_at(trees, node, name);
         }

@@ -1,13 +1,14 @@
 //! Where the code has the names that are asked for.
 ghost use Rattle.std.specs.Prelude.{◌≡◌, ℕ, [], ◌∷◌, ◌++◌, OnOk};
 ghost use Rattle.std.specs.BTreeMap.{get_by_text};
-ghost use Rattle.ssr_syntax_tree.specs.Places.{HasNode, node_of};
+ghost use Rattle.ssr_syntax_tree.specs.Places.{HasNode, HasToken, node_of};
 ghost use Rattle.ssr_base_trees.specs.Built.{IsBuilt};
 ghost use Rattle.ssr_base_trees.specs.Workspace.{node_id, trees as placed};
 ghost use Rattle.ssr_names_items.specs.Names.{bare};
 ghost use Rattle.ssr_names.specs.Locals.{may_be_constant};
-ghost use Rattle.ssr_names.specs.Private.Locals.{Collects, CollectsAll, Keeps};
+ghost use Rattle.ssr_names.specs.Private.Locals.{Collects, CollectsAll, CollectsCall, CollectsPattern, CollectsWord, Keeps};
 
+use crate::arguments::names_argument;
 use crate::code_paths::{last_text, text_of_first};
 use crate::sorts::is_capital;
 use crate::std_names::is_std_macro;
@@ -65,17 +66,25 @@ fn may_bind(tree: &Tree, call: NodeNo) -> bool
     }
 }
 
-/// Whether a macro call is a statement.
+/// Whether a macro call is a statement or an item.
 fn is_statement(tree: &Tree, call: NodeNo) -> bool
     requires { HasNode tree.now call.0 }
 {
     let Some(parent) = tree.parent(call) else {
         return false;
     };
-    if !tree.kind(parent).is(SyntaxKind::MACRO_EXPR) {
-        return true;
+    match tree.kind(parent) {
+        SyntaxKind::MACRO_PAT | SyntaxKind::MACRO_TYPE => false,
+        SyntaxKind::MACRO_EXPR => stands_as_statement(tree, parent),
+        _ => true,
     }
-    match tree.parent(parent) {
+}
+
+/// Whether an expression is a statement, or the value of a block.
+fn stands_as_statement(tree: &Tree, expression: NodeNo) -> bool
+    requires { HasNode tree.now expression.0 }
+{
+    match tree.parent(expression) {
         Some(above) => matches!(
             tree.kind(above),
             SyntaxKind::EXPR_STMT | SyntaxKind::STMT_LIST
@@ -187,8 +196,11 @@ impl Words {
     fn add_pattern(&mut self, tree: &Tree, node: NodeId) -> Result<(), AllocError>
         requires { HasNode tree.now node.node.0 }
         ensures kept { OnOk result (Keeps self.old self.new) }
-        ensures collected { OnOk result (Collects tree.now self.new node) }
+        ensures collected { OnOk result (CollectsPattern tree.now self.new node) }
     {
+        if names_argument(tree, node.node) {
+            return Ok(());
+        }
         let Some(text) = text_of_first(tree, node.node, SyntaxKind::NAME) else {
             return Ok(());
         };
@@ -201,6 +213,40 @@ impl Words {
             namespace: Namespace::Value,
             is_plain: may_be_constant(tree, node.node, bare(text)),
         })
+    }
+
+    /// Adds a token of a macro call in the place of a pattern, if it is a word that is asked for.
+    fn add_word(&mut self, tree: &Tree, node: NodeId, token: TokenNo) -> Result<(), AllocError>
+        requires { HasToken tree.now token.0 }
+        ensures kept { OnOk result (Keeps self.old self.new) }
+        ensures collected { OnOk result (CollectsWord tree.now self.new node token.0) }
+    {
+        if !tree.token_kind(token).is(SyntaxKind::IDENT) {
+            return Ok(());
+        }
+        let text = tree.token_text(token);
+        let Some(name) = self.asked(text) else {
+            return Ok(());
+        };
+        self.push_binder(Binder {
+            node,
+            name,
+            namespace: Namespace::Value,
+            is_plain: is_capital(bare(text)),
+        })
+    }
+
+    /// Adds the words of a macro call in the place of a pattern that are asked for: the macro may bind them.
+    fn add_called(&mut self, tree: &Tree, node: NodeId) -> Result<(), AllocError>
+        requires { HasNode tree.now node.node.0 }
+        ensures kept { OnOk result (Keeps self.old self.new) }
+        ensures collected { OnOk result (CollectsCall tree.now self.new node) }
+    {
+        let tokens = tree.tokens_below(node.node);
+        for number in tokens.start..tokens.end {
+            self.add_word(tree, node, TokenNo(number))?;
+        }
+        Ok(())
     }
 
     /// Adds a generic parameter, if its name is asked for.
@@ -274,8 +320,13 @@ impl Words {
         ensures kept { OnOk result (Keeps self.old self.new) }
         ensures collected { OnOk result (Collects tree.now self.new node) }
     {
-        if tree.kind(node.node).is(SyntaxKind::IDENT_PAT) {
+        let own = tree.kind(node.node);
+        let is_name = own.is(SyntaxKind::IDENT_PAT);
+        let is_call = own.is(SyntaxKind::MACRO_PAT);
+        if is_name {
             self.add_pattern(tree, node)
+        } else if is_call {
+            self.add_called(tree, node)
         } else {
             self.add_other(tree, node)
         }

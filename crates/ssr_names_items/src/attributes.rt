@@ -73,14 +73,40 @@ fn with_attribute(all: Attributes, code: Code<'_>, attribute: NodeNo) -> Attribu
     all
 }
 
-/// What the attributes of an item say, or those at the beginning of a file.
+/// The braces of an item at whose beginning attributes of the item may stand.
+fn body_of(code: Code<'_>, item: NodeNo) -> Option<NodeNo> {
+    match code.kind(item) {
+        SyntaxKind::MODULE => code.child(item, SyntaxKind::ITEM_LIST),
+        SyntaxKind::EXTERN_BLOCK => code.child(item, SyntaxKind::EXTERN_ITEM_LIST),
+        SyntaxKind::IMPL | SyntaxKind::TRAIT => code.child(item, SyntaxKind::ASSOC_ITEM_LIST),
+        SyntaxKind::FN => {
+            code.child(
+                code.child(item, SyntaxKind::BLOCK_EXPR)?,
+                SyntaxKind::STMT_LIST,
+            )
+        }
+        _ => None,
+    }
+}
+
+/// What the attributes of an item say, or those at the beginning of a file: those in front of the item, and those at the beginning of
+/// its braces.
 pub(crate) fn attributes_of(code: Code<'_>, item: NodeNo) -> Attributes {
-    let mut all = NONE;
+    let outer = with_first(NONE, code, item);
+    match body_of(code, item) {
+        Some(body) => with_first(outer, code, body),
+        None => outer,
+    }
+}
+
+/// What the attributes say that a node begins with, beside those in front.
+fn with_first(all: Attributes, code: Code<'_>, node: NodeNo) -> Attributes {
+    let mut all = all;
     let tree = code.tree;
-    if !tree.has(Element::Node(item)) {
+    if !tree.has(Element::Node(node)) {
         return all;
     }
-    for child in tree.children(item) {
+    for child in tree.children(node) {
         if let Element::Node(attribute) = child {
             if !code.kind(attribute).is(SyntaxKind::ATTR) {
                 return all;

@@ -77,7 +77,10 @@ fn has_calls(code: Code<'_>, call: NodeNo) -> bool {
 fn is_in_module(code: Code<'_>, call: NodeNo) -> bool {
     matches!(
         code.parent_kind(call),
-        SyntaxKind::SOURCE_FILE | SyntaxKind::ITEM_LIST | SyntaxKind::MACRO_ITEMS
+        SyntaxKind::SOURCE_FILE
+            | SyntaxKind::ITEM_LIST
+            | SyntaxKind::EXTERN_ITEM_LIST
+            | SyntaxKind::MACRO_ITEMS
     )
 }
 
@@ -103,8 +106,12 @@ fn has_braces(code: Code<'_>, call: NodeNo) -> bool {
 
 /// Whether a call stands where an item or a statement may.
 fn is_item_place(code: Code<'_>, call: NodeNo) -> bool {
+    if is_in_module(code, call) {
+        return true;
+    }
     match code.parent_kind(call) {
-        SyntaxKind::SOURCE_FILE | SyntaxKind::ITEM_LIST | SyntaxKind::MACRO_ITEMS => true,
+        // it stands behind attributes
+        SyntaxKind::EXPR_STMT => true,
         SyntaxKind::MACRO_EXPR => match code.parent(call) {
             Some(expression) => match code.parent_kind(expression) {
                 SyntaxKind::EXPR_STMT => true,
@@ -126,9 +133,9 @@ impl<'a> Reader<'a> {
         self.names.number(code.token_text(last))
     }
 
-    /// Whether a call that is a statement may make items of its block.
-    pub(crate) fn call_may_make_items(&self, code: Code<'_>, expression: NodeNo) -> bool {
-        let Some(call) = code.child(expression, SyntaxKind::MACRO_CALL) else {
+    /// Whether a call that is a statement, or the expression of one, may make items of its block.
+    pub(crate) fn call_may_make_items(&self, code: Code<'_>, around: NodeNo) -> bool {
+        let Some(call) = code.child(around, SyntaxKind::MACRO_CALL) else {
             return false;
         };
         if !is_item_place(code, call) {

@@ -222,7 +222,7 @@ impl<'a> Reader<'a> {
         if !tree.has(Element::Node(list)) {
             return Ok(());
         }
-        let is_foreign = self.is_foreign(code, list);
+        let is_foreign = code.kind(list).is(SyntaxKind::EXTERN_ITEM_LIST);
         for child in tree.children(list) {
             if let Element::Token(token) = child {
                 if is_foreign {
@@ -280,17 +280,6 @@ impl<'a> Reader<'a> {
             }
         }
         Ok(false)
-    }
-
-    /// Whether a list is that of a block of foreign items, which is read as a module.
-    fn is_foreign(&self, code: Code<'_>, list: NodeNo) -> bool {
-        match code.parent(list) {
-            Some(item) => {
-                let word = code.token(item, SyntaxKind::MOD_KW);
-                code.kind(item).is(SyntaxKind::MODULE) && self.has_word(code, word, "extern")
-            }
-            None => false,
-        }
     }
 
     /// Adds the foreign functions of pieces that are set aside: they have no bodies.

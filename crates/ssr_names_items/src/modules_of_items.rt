@@ -10,17 +10,6 @@ use ssr_syntax_tree::NodeNo;
 use std::alloc::AllocError;
 
 impl<'a> Reader<'a> {
-    /// Whether the file has a word where a token of the searched text begins.
-    pub(crate) fn has_word(&self, code: Code<'_>, token: Option<u32>, word: &str) -> bool {
-        let (Some(token), Some(file)) = (token, self.sources.files.get(code.number as usize)) else {
-            return false;
-        };
-        match file.text.get(code.token_start(token) as usize..) {
-            Some(rest) => rest.starts_with(word),
-            None => false,
-        }
-    }
-
     /// Reads a `mod` item.
     pub(crate) fn read_module(
         &mut self,
@@ -31,10 +20,6 @@ impl<'a> Reader<'a> {
         let code = visit.code;
         let mut own = self.place_of_item(code, node, place);
         own.owner = Owner::Module;
-        // a block of foreign items is read as a module
-        if self.has_word(code, code.token(node, SyntaxKind::MOD_KW), "extern") {
-            return self.enter(code, node, own);
-        }
         let Some(text) = code.name(node) else {
             return Ok(());
         };

@@ -15,7 +15,10 @@ fn holds_items(kind: SyntaxKind) -> bool {
     matches!(
         kind,
         SyntaxKind::SOURCE_FILE | SyntaxKind::ITEM_LIST | SyntaxKind::STMT_LIST
-    ) || matches!(kind, SyntaxKind::MACRO_ITEMS | SyntaxKind::MACRO_STMTS)
+    ) || matches!(
+        kind,
+        SyntaxKind::EXTERN_ITEM_LIST | SyntaxKind::MACRO_ITEMS | SyntaxKind::MACRO_STMTS
+    )
 }
 
 /// Whether a statement of this kind is an item that has a name or brings in names.
@@ -26,7 +29,10 @@ fn is_item(kind: SyntaxKind) -> bool {
     ) || matches!(
         kind,
         SyntaxKind::CONST | SyntaxKind::STATIC | SyntaxKind::TYPE_ALIAS | SyntaxKind::MODULE
-    ) || matches!(kind, SyntaxKind::MACRO_RULES | SyntaxKind::IMPL)
+    ) || matches!(
+        kind,
+        SyntaxKind::MACRO_RULES | SyntaxKind::IMPL | SyntaxKind::UNION
+    ) || matches!(kind, SyntaxKind::EXTERN_CRATE | SyntaxKind::EXTERN_BLOCK)
 }
 
 impl<'a> Reader<'a> {
@@ -55,6 +61,7 @@ impl<'a> Reader<'a> {
             SyntaxKind::STATIC => self.read_item(code, node, ItemKind::Static, place),
             SyntaxKind::TYPE_ALIAS => self.read_item(code, node, ItemKind::TypeAlias, place),
             SyntaxKind::STRUCT => self.read_struct(code, node, place),
+            SyntaxKind::UNION => self.read_item(code, node, ItemKind::Union, place),
             SyntaxKind::ENUM => self.read_owner(code, node, ItemKind::Enum, place),
             SyntaxKind::TRAIT => self.read_owner(code, node, ItemKind::Trait, place),
             SyntaxKind::VARIANT => self.read_variant(code, node, place),
@@ -62,9 +69,13 @@ impl<'a> Reader<'a> {
             SyntaxKind::MACRO_RULES => self.read_macro(code, node, place),
             SyntaxKind::MODULE => self.read_module(visit, node, place),
             SyntaxKind::USE => self.read_use(code, node, place),
+            SyntaxKind::EXTERN_CRATE => self.read_crate(code, node, place),
+            SyntaxKind::EXTERN_BLOCK => self.read_foreign(code, node, place),
             SyntaxKind::STMT_LIST => self.read_block(code, node, place),
             SyntaxKind::MACRO_CALL => self.read_call(visit, node, place),
-            SyntaxKind::SOURCE_FILE | SyntaxKind::ITEM_LIST => self.read_hidden(code, node, place),
+            SyntaxKind::SOURCE_FILE | SyntaxKind::ITEM_LIST | SyntaxKind::EXTERN_ITEM_LIST => {
+                self.read_hidden(code, node, place)
+            }
             _ => Ok(()),
         }
     }
@@ -229,6 +240,18 @@ impl<'a> Reader<'a> {
         Ok(())
     }
 
+    /// Reads the head of a block of foreign items, which are those of the module around.
+    fn read_foreign(
+        &mut self,
+        code: Code<'_>,
+        node: NodeNo,
+        place: Place,
+    ) -> Result<(), AllocError> {
+        let mut own = self.place_of_item(code, node, place);
+        own.owner = Owner::Module;
+        self.enter(code, node, own)
+    }
+
     /// Reads the head of a block: with items it is a module of its own.
     fn read_block(&mut self, code: Code<'a>, node: NodeNo, place: Place) -> Result<(), AllocError> {
         let mut own = place;
@@ -270,9 +293,10 @@ impl<'a> Reader<'a> {
         }
         match kind {
             SyntaxKind::MACRO_EXPR => self.call_may_make_items(code, statement),
+            // behind attributes a call stands in the statement itself
             SyntaxKind::EXPR_STMT => match code.child(statement, SyntaxKind::MACRO_EXPR) {
                 Some(expression) => self.call_may_make_items(code, expression),
-                None => false,
+                None => self.call_may_make_items(code, statement),
             },
             _ => false,
         }

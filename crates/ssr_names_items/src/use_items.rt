@@ -13,7 +13,7 @@ use ssr_syntax_tree::NodeNo;
 use std::alloc::AllocError;
 
 impl<'a> Reader<'a> {
-    /// Reads a `use` item, or the `extern crate` that it stands for.
+    /// Reads a `use` item.
     pub(crate) fn read_use(
         &mut self,
         code: Code<'_>,
@@ -23,35 +23,68 @@ impl<'a> Reader<'a> {
         let mut own = self.place_of_item(code, node, place);
         own.owner = Owner::Module;
         let seen = visibility_of(code, node, &self.modules, place.module);
-        let is_crate = self.has_word(code, code.token(node, SyntaxKind::USE_KW), "extern");
-        let uses_macros = is_crate && attributes_of(code, node).may_use_macros;
         for path in use_paths(self.alloc, &mut self.names, code, node)? {
-            if is_crate {
-                self.add_crate(path, own, seen, uses_macros)?;
-            } else {
-                self.add_use(path, own, seen)?;
-            }
+            self.add_use(path, own, seen)?;
         }
         Ok(())
+    }
+
+    /// Reads an `extern crate` item.
+    pub(crate) fn read_crate(
+        &mut self,
+        code: Code<'_>,
+        node: NodeNo,
+        place: Place,
+    ) -> Result<(), AllocError> {
+        let mut own = self.place_of_item(code, node, place);
+        own.owner = Owner::Module;
+        let seen = visibility_of(code, node, &self.modules, place.module);
+        let uses_macros = attributes_of(code, node).may_use_macros;
+        let named = self.crate_name(code, node)?;
+        let brings = self.crate_brings(code, node, named)?;
+        self.add_crate(named, brings, own, seen, uses_macros)
+    }
+
+    /// The name of the crate that an `extern crate` item names; `None` for `self`, the crate around.
+    fn crate_name(&mut self, code: Code<'_>, node: NodeNo) -> Result<Option<Name>, AllocError> {
+        let Some(named) = code.child(node, SyntaxKind::NAME_REF) else {
+            return Ok(None);
+        };
+        match code.token(named, SyntaxKind::IDENT) {
+            Some(token) => Ok(Some(self.names.add(code.token_text(token))?)),
+            None => Ok(None),
+        }
+    }
+
+    /// What an `extern crate` item brings in: the crate under its own name, or under the one behind `as`.
+    fn crate_brings(
+        &mut self,
+        code: Code<'_>,
+        node: NodeNo,
+        named: Option<Name>,
+    ) -> Result<Brings, AllocError> {
+        let name = match code.child(node, SyntaxKind::RENAME) {
+            Some(rename) => match code.name(rename) {
+                Some(text) => Some(self.names.add(text)?),
+                None => None,
+            },
+            None => named,
+        };
+        Ok(match name {
+            Some(name) => Brings::Name(name),
+            None => Brings::Nothing,
+        })
     }
 
     /// Adds what an `extern crate` names.
     fn add_crate(
         &mut self,
-        path: UsePath,
+        named: Option<Name>,
+        brings: Brings,
         own: Place,
         seen: Visibility,
         uses_macros: bool,
     ) -> Result<(), AllocError> {
-        let UsePath {
-            segments,
-            brings,
-            ..
-        } = path;
-        let named = match segments {
-            Some(segments) => segments.last().copied(),
-            None => None,
-        };
         if let (Some(name), true) = (named, uses_macros) {
             let module = own.module;
             self.macro_crates.push(MacroCrate { module, name })?;

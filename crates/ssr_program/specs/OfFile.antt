@@ -5,6 +5,7 @@ use Rattle.ssr_syntax.specs.Reading.{file_reading}
 use Rattle.ssr_syntax.specs.declared.syntax_error.SyntaxError.{SyntaxError}
 use Rattle.ssr_syntax.specs.declared.syntax_error.SyntaxError.TheVariants as errors
 use Rattle.ssr_base_trees.specs.Changes.{Change}
+use Rattle.ssr_base_trees.specs.Growth.{only_files}
 use Rattle.ssr_base_trees.specs.Workspace.{Workspace}
 use Rattle.ide_ssr_search.specs.Making.{first_position}
 use Rattle.ssr_program.specs.declared.commands.Form.TheVariants as forms
@@ -15,7 +16,7 @@ use Rattle.ssr_searching.specs.Unresolved.{nothing_resolves}
 
 -- the workspace of one file, in which no macro call stands for anything
 abbrev pub one_file : Syntax → Workspace
-one_file code = record { files = code ∷ []; expansions = [] }
+one_file code = only_files (code ∷ [])
 
 -- the search of a whole file
 abbrev pub file_search : Syntax → Search

@@ -44,6 +44,7 @@
 //! | `expr TEXT`, `type TEXT`, `item TEXT`, `pat TEXT`, `stmt TEXT` | the tree of a fragment likewise |
 //! | `call-expr TEXT`, `call-items TEXT`, `call-stmts TEXT` | the tree of what a macro call stands for, if that is the tokens of the text |
 //! | `told-expr ROWS`, `told-items ROWS`, `told-stmts ROWS` | the same of tokens as facts tell them |
+//! | one of these words with `rust-` in front | the same in the whole reach of the grammar |
 //! | `kinds TEXT` | the kinds of a rule, or of a search pattern, where the text has no delimiter, or why it is refused |
 //! | `parts TEXT` | the placeholders of its first kind, its pattern and its template, and which nodes and tokens are placeholders |
 //! | `used TEXT`, `calls TEXT`, `eligible TEXT` | the used paths of its first kind, of the template too, its qualified calls, or its eligible paths |
@@ -68,13 +69,14 @@
 //!
 //! The program tells how many answers of each file are as wanted, and each that isn't.
 //!
-//! It measures, too. Of these words the first two go with names of files on standard input, one a line; times are processor time,
+//! It measures, too. Of these words the first three go with names of files on standard input, one a line; times are processor time,
 //! in nanoseconds:
 //!
 //! | Words | What is told |
 //! |---|---|
 //! | `--times RULE..` | how many files, bytes and outermost matches there are, and the times of building and of searching; the rules have no paths |
 //! | `--asked` | which nodes of the files a provider is asked about |
+//! | `--reads` | in which reach each file is read: `stated`, `whole`, `another` where the two reaches make two trees of it, or `none` |
 //! | `--facts FILE RULE..` | how many files and bytes a facts file has, and the time of reading it; where there are rules, also how many matches, and the time of searching. Behind `--scan` every node is tried; behind `--edits` the matches are rewritten, and files with an edit are counted |
 #![tactic(auto)]
 

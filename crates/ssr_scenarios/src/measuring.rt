@@ -1,11 +1,13 @@
 //! Measures of files that standard input names, and of facts files.
 
 mod asked;
+mod reads;
 mod scopes;
 
 use anyhow::Result;
 use asked::write_asked;
 use ide_ssr::{MatchFinder, SsrRule};
+use reads::reading;
 use scopes::semantics;
 use ssr_base::Workspace;
 use ssr_facts::{Facts, TableSemantics};
@@ -18,6 +20,7 @@ pub(crate) fn measure(rt: &HostRuntime, words: &[String]) -> Result<bool> {
     match words.split_first() {
         Some((first, rules)) if first.as_str() == "--times" => time_search(rt, rules)?,
         Some((first, _)) if first.as_str() == "--asked" => tell_asked(rt)?,
+        Some((first, _)) if first.as_str() == "--reads" => tell_readings(rt)?,
         Some((first, rest)) if first.as_str() == "--facts" => time_facts(rt, rest)?,
         _ => return Ok(false),
     }
@@ -34,6 +37,15 @@ fn tell_asked(rt: &HostRuntime) -> Result<()> {
             write_asked(&mut lines, tree, number)?;
             print!(rt; "{lines}")?;
         }
+    }
+    Ok(())
+}
+
+/// Tells of each file in which reach it is read, a line each.
+fn tell_readings(rt: &HostRuntime) -> Result<()> {
+    for path in rt.lines(rt.alloc()) {
+        let text = fs::read_to_string(rt, path?.as_str())?;
+        println!(rt; "{}", reading(rt.alloc(), text.as_str()))?;
     }
     Ok(())
 }

@@ -7,15 +7,22 @@ use crate::told::Told;
 use anyhow::Result;
 use ssr_facts::TableSemantics;
 use ssr_syntax::{
-    ExpToken, ExpansionKind, Fragment, SyntaxError, fits_file, fits_fragment, fragment, parse_file,
-    parse_tokens,
+    ExpToken, ExpansionKind, Fragment, Reach, SyntaxError, fits_file_of, fits_fragment_of,
+    fragment_of, parse_file_of, parse_tokens_of,
 };
 use ssr_syntax_tree::{NodeNo, TokenNo, Tree};
 use std::alloc::{AllocError, Global};
 
+/// What a text is read as, and how much of Rust is read.
+#[derive(Clone, Copy)]
+pub(crate) struct Goal {
+    reach: Reach,
+    kind: Kind,
+}
+
 /// What a text is read as.
 #[derive(Clone, Copy)]
-pub(crate) enum Goal {
+enum Kind {
     File,
     Fragment(Fragment),
     /// What a macro call stands for, by the tokens of the text but for white space and comments.
@@ -35,19 +42,28 @@ const FRAGMENTS: [(&str, Fragment); 5] = [
 
 /// What a question's word asks to read a text as, if it asks that.
 pub(crate) fn goal_of(word: &str) -> Option<Goal> {
+    let (reach, word) = match word.strip_prefix("rust-") {
+        Some(rest) => (Reach::Whole, rest),
+        None => (Reach::Stated, word),
+    };
+    let kind = kind_of(word)?;
+    Some(Goal { reach, kind })
+}
+
+fn kind_of(word: &str) -> Option<Kind> {
     match word {
-        "whole" => Some(Goal::File),
-        "call-expr" => Some(Goal::Call(ExpansionKind::Expr)),
-        "call-items" => Some(Goal::Call(ExpansionKind::Items)),
-        "call-stmts" => Some(Goal::Call(ExpansionKind::Stmts)),
-        "told-expr" => Some(Goal::Told(ExpansionKind::Expr)),
-        "told-items" => Some(Goal::Told(ExpansionKind::Items)),
-        "told-stmts" => Some(Goal::Told(ExpansionKind::Stmts)),
-        _ => fragment_of(word).map(Goal::Fragment),
+        "whole" => Some(Kind::File),
+        "call-expr" => Some(Kind::Call(ExpansionKind::Expr)),
+        "call-items" => Some(Kind::Call(ExpansionKind::Items)),
+        "call-stmts" => Some(Kind::Call(ExpansionKind::Stmts)),
+        "told-expr" => Some(Kind::Told(ExpansionKind::Expr)),
+        "told-items" => Some(Kind::Told(ExpansionKind::Items)),
+        "told-stmts" => Some(Kind::Told(ExpansionKind::Stmts)),
+        _ => fragment_named(word).map(Kind::Fragment),
     }
 }
 
-fn fragment_of(word: &str) -> Option<Fragment> {
+fn fragment_named(word: &str) -> Option<Fragment> {
     for (name, fragment) in FRAGMENTS {
         if name == word {
             return Some(fragment);
@@ -60,16 +76,17 @@ fn fragment_of(word: &str) -> Option<Fragment> {
 type Read = Result<(Tree, u32), SyntaxError>;
 
 fn read(alloc: Global, goal: Goal, text: &str) -> Result<Read> {
-    match goal {
-        Goal::Fragment(kind) => Ok(fragment(alloc, kind, text)),
-        Goal::File => Ok(in_front(parse_file(alloc, text))),
-        Goal::Call(kind) => Ok(read_tokens(alloc, kind, solid_tokens(alloc, text)?)),
-        Goal::Told(kind) => Ok(read_tokens(alloc, kind, told_tokens(alloc, text)?)),
+    let reach = goal.reach;
+    match goal.kind {
+        Kind::Fragment(kind) => Ok(fragment_of(alloc, reach, kind, text)),
+        Kind::File => Ok(in_front(parse_file_of(alloc, reach, text))),
+        Kind::Call(kind) => Ok(read_tokens(alloc, reach, kind, solid_tokens(alloc, text)?)),
+        Kind::Told(kind) => Ok(read_tokens(alloc, reach, kind, told_tokens(alloc, text)?)),
     }
 }
 
-fn read_tokens(alloc: Global, kind: ExpansionKind, tokens: Vec<ExpToken>) -> Read {
-    in_front(parse_tokens(alloc, kind, &tokens))
+fn read_tokens(alloc: Global, reach: Reach, kind: ExpansionKind, tokens: Vec<ExpToken>) -> Read {
+    in_front(parse_tokens_of(alloc, reach, kind, &tokens))
 }
 
 /// A tree that stands in front.
@@ -97,7 +114,7 @@ pub(crate) fn write_tree(
 ) -> Result<()> {
     match read(alloc, goal, text)? {
         Ok((tree, front)) if way == "source" => write_source(out, &tree, front),
-        Ok((tree, _)) => write_way(alloc, out, semantics, way, &tree),
+        Ok((tree, _)) => write_way(alloc, out, semantics, goal.reach, way, &tree),
         Err(error) => {
             out.debug(&error);
             out.text("\n");
@@ -106,12 +123,19 @@ pub(crate) fn write_tree(
     Ok(())
 }
 
-fn write_way(alloc: Global, out: &mut Told, semantics: &TableSemantics, way: &str, tree: &Tree) {
+fn write_way(
+    alloc: Global,
+    out: &mut Told,
+    semantics: &TableSemantics,
+    reach: Reach,
+    way: &str,
+    tree: &Tree,
+) {
     match way {
         "tokens" => write_leaves(out, tree),
         "ranges" => write_ranges(out, tree),
         "depth" => write_depth(alloc, out, tree),
-        "fits" => write_fitting(alloc, out, tree),
+        "fits" => write_fitting(alloc, out, reach, tree),
         "paths" => write_used(alloc, out, semantics, tree),
         "key" => write_first_key(alloc, out, tree),
         _ => write_outline(alloc, out, tree),
@@ -194,13 +218,13 @@ fn write_leaves(out: &mut Told, tree: &Tree) {
 }
 
 /// As what a tree could have been read.
-fn write_fitting(alloc: Global, out: &mut Told, tree: &Tree) {
-    if out.got(fits_file(alloc, tree)).unwrap_or(false) {
+fn write_fitting(alloc: Global, out: &mut Told, reach: Reach, tree: &Tree) {
+    if out.got(fits_file_of(alloc, reach, tree)).unwrap_or(false) {
         out.line("whole");
     }
     for (name, fragment) in FRAGMENTS {
         if out
-            .got(fits_fragment(alloc, fragment, tree))
+            .got(fits_fragment_of(alloc, reach, fragment, tree))
             .unwrap_or(false)
         {
             out.line(name);

@@ -2,11 +2,12 @@
 use Rattle.std.proofs.Common.{◌≡◌, ℕ, List, [], ◌∷◌, Result, Ok, Err, refl, sym, subst}
 use Rattle.std.specs.Prelude.{IsSome}
 use Rattle.std.proofs.lemmas.List.Elements.{All-nil, All-append}
+use Rattle.ssr_syntax_kinds.specs.declared.reach.Reach.{Reach}
 use Rattle.ide_ssr_refusals.specs.declared.refusals.Refusal.{Refusal}
 use Rattle.ide_ssr_refusals.specs.Refusals.{◌>>=◌}
 use Rattle.ide_ssr_resolved_rule.specs.Resolved.{ResolvedRule}
-use Rattle.ide_ssr_rules.specs.Rules.{Rule, rule_reading, once}
-use Rattle.ide_ssr_rules.proofs.Shared.{have_templates, have_templates_once}
+use Rattle.ide_ssr_rules.specs.Rules.{Rule, rule_reading_of, once}
+use Rattle.ide_ssr_rules.proofs.Shared.{have_templates, have_templates_once_of}
 use Rattle.ide_ssr.specs.Edits.{HaveTemplates}
 use Rattle.ssr_base_trees.specs.declared.ids.ScopeId.{ScopeId}
 use Rattle.ssr_base_trees.specs.Meanings.{Meanings}
@@ -30,16 +31,16 @@ HasTemplates read =
     (meanings : Meanings) (scope : ScopeId) (text : List ℕ) (rule : Rule) (kinds : List ResolvedRule)
     → read text ≡ Ok rule → resolved meanings scope rule ≡ Ok kinds → HaveTemplates kinds
 
-once_has : (text : List ℕ) (reading : Result Rule Refusal) → rule_reading text ≡ reading → (meanings : Meanings) (scope : ScopeId) (rule : Rule) (kinds : List ResolvedRule)
+once_has : (reach : Reach) (text : List ℕ) (reading : Result Rule Refusal) → rule_reading_of reach text ≡ reading → (meanings : Meanings) (scope : ScopeId) (rule : Rule) (kinds : List ResolvedRule)
     → (reading >>= λ rule. Ok (once rule)) ≡ Ok rule → resolved meanings scope rule ≡ Ok kinds → HaveTemplates kinds
-once_has text (Err refusal) is meanings scope rule kinds read resolves = cc
-once_has text (Ok whole) is meanings scope rule kinds read resolves =
+once_has reach text (Err refusal) is meanings scope rule kinds read resolves = cc
+once_has reach text (Ok whole) is meanings scope rule kinds read resolves =
     let same : once whole ≡ rule = cc in
-    have_templates_once meanings scope text whole kinds is (subst (λ rule. resolved meanings scope rule ≡ Ok kinds) (sym same) resolves)
+    have_templates_once_of reach meanings scope text whole kinds is (subst (λ rule. resolved meanings scope rule ≡ Ok kinds) (sym same) resolves)
 
 pub each_has : (kinds : Kinds) → HasTemplates (reading_of kinds)
 each_has searched.Each meanings scope text rule kinds is resolves = have_templates meanings scope text rule kinds is resolves
-each_has searched.Once meanings scope text rule kinds is resolves = once_has text (rule_reading text) refl meanings scope rule kinds is resolves
+each_has (searched.Once reach) meanings scope text rule kinds is resolves = once_has reach text (rule_reading_of reach text) refl meanings scope rule kinds is resolves
 
 module _ (read : Reading) (has : HasTemplates read) (meanings : Meanings) (scope : ScopeId) where
   resolved_replace : (text : List ℕ) (rule : Rule) → read text ≡ Ok rule → (kinds : Result (List ResolvedRule) Refusal)

@@ -1,5 +1,6 @@
 -- Errors that tell refusals.
 use Rattle.std.proofs.Common.{◌≡◌, List, [], ℕ, ◌+◌, ◌<◌, ◌++◌, length, take, get_or, Result, Ok, Err, refl, ap, subst, sym, ◌∙◌, append_assoc}
+use Rattle.ssr_syntax_kinds.specs.declared.reach.Reach.{Reach}
 use Rattle.ide_ssr_refusals.specs.declared.error.SsrError.{SsrError}
 use Rattle.ide_ssr_refusals.specs.declared.error.SsrError.TheVariants as errors
 use Rattle.ide_ssr_refusals.specs.declared.refusals.Refusal.{Refusal}
@@ -7,13 +8,13 @@ use Rattle.ide_ssr_refusals.specs.Refusals.{TellsOf, ◌>>=◌}
 use Rattle.ide_ssr_resolved_rule.specs.Resolved.{ResolvedRule}
 use Rattle.ssr_base_trees.specs.declared.ids.ScopeId.{ScopeId}
 use Rattle.ssr_base_trees.specs.Meanings.{Meanings}
-use Rattle.ide_ssr_rules.specs.Rules.{Rule, rule_reading, once, once_reading}
+use Rattle.ide_ssr_rules.specs.Rules.{Rule, rule_reading, rule_reading_of, once, once_reading_of}
 use Rattle.ssr_searching.specs.Searching.{Reading, resolved, rule_kinds, rules_reading}
 use Rattle.ide_ssr.specs.Finder.{FinderWith}
 use Rattle.ide_ssr.specs.Adding.{Adds}
 use Rattle.ssr_searching.specs.declared.searching.Kinds.{Kinds}
 use Rattle.ssr_searching.specs.declared.searching.Kinds.TheVariants as searched
-use Rattle.ssr_searching.specs.Private.Searching.{reading_of}
+use Rattle.ssr_searching.specs.Private.Searching.{reach_of, reading_of}
 use Rattle.ssr_searching.proofs.RulesRead.{read_more, read_refused}
 
 -- want of memory tells any reading
@@ -30,6 +31,19 @@ tells_as error (Err refusal) b same told =
 tells_as errors.Memory (Ok kinds) b same told = memory_tells b
 tells_as (errors.Message _) (Ok kinds) b same told = elim told [ ]
 
+-- rules of which each kind is searched are read in the stated language
+pub each_read : (text : List ℕ) (rule : Rule) (kinds : Kinds) (reach : Reach) → reach ≡ reach_of kinds → kinds ≡ searched.Each
+    → rule_reading_of reach text ≡ Ok rule → rule_reading text ≡ Ok rule
+unfolding rule_reading
+each_read text rule kinds reach its is read = ap (λ (reach : Reach). rule_reading_of reach text) (sym (its ∙ ap reach_of is)) ∙ read
+
+-- those that are searched once are read in their reach
+pub once_read : (text : List ℕ) (rule : Rule) (kinds : Kinds) (reach own : Reach) → reach ≡ reach_of kinds → kinds ≡ searched.Once own
+    → rule_reading_of reach text ≡ Ok rule → once_reading_of own text ≡ Ok (once rule)
+once_read text rule kinds reach own its is read =
+    ap (λ (reach : Reach). once_reading_of reach text) (sym (its ∙ ap reach_of is))
+    ∙ ap (λ (read : Result Rule Refusal). read >>= λ rule. Ok (once rule)) read
+
 module _ (meanings : Meanings) (scope : ScopeId) where
   -- what tells that a rule is refused tells that it has no kinds
   tells_both : (error : SsrError) (reading : Result Rule Refusal) → TellsOf error reading → TellsOf error (reading >>= resolved meanings scope)
@@ -43,9 +57,10 @@ module _ (meanings : Meanings) (scope : ScopeId) where
   tells_once errors.Memory (Ok rule) told = tt
   tells_once (errors.Message _) (Ok rule) told = elim told [ ]
 
-  pub tells_rule : (error : SsrError) (kinds : Kinds) (text : List ℕ) → TellsOf error (rule_reading text) → TellsOf error (rule_kinds (reading_of kinds) meanings scope text)
+  pub tells_rule : (error : SsrError) (kinds : Kinds) (text : List ℕ) → TellsOf error (rule_reading_of (reach_of kinds) text) → TellsOf error (rule_kinds (reading_of kinds) meanings scope text)
+  unfolding rule_reading
   tells_rule error searched.Each text told = tells_both error (rule_reading text) told
-  tells_rule error searched.Once text told = tells_both error (once_reading text) (tells_once error (rule_reading text) told)
+  tells_rule error (searched.Once reach) text told = tells_both error (once_reading_of reach text) (tells_once error (rule_reading_of reach text) told)
 
   pub adds_rule : {S : Type 0} (read : Reading) (old new : FinderWith S) (rule : Rule) (text : List ℕ) (result : Result (Unit {0}) SsrError)
       → read text ≡ Ok rule → Adds old new (resolved meanings scope rule) result → Adds old new (rule_kinds read meanings scope text) result

@@ -1,6 +1,7 @@
 -- A search for rules: what it is made in, and what it comes to.
 use Rattle.std.specs.Prelude.{ℕ, ◌≡◌, ◌≢◌, List, [], ◌∷◌, ◌++◌, Option, Result, Ok, Err, string_bytes}
 use Rattle.std.specs.BTreeMap.{BTreeMap, get}
+use Rattle.ssr_syntax_kinds.specs.declared.reach.Reach.{Reach}
 use Rattle.ssr_base_trees.specs.declared.ids.FileId.{FileId}
 use Rattle.ssr_base_trees.specs.declared.ids.FilePosition.{FilePosition}
 use Rattle.ssr_base_trees.specs.declared.ids.FileRange.{FileRange}
@@ -12,7 +13,7 @@ use Rattle.ide_ssr_refusals.specs.declared.refusals.Refusal.{Refusal}
 use Rattle.ide_ssr_refusals.specs.Refusals.{words, ◌>>=◌}
 use Rattle.ide_ssr_resolved_rule.specs.Resolved.{ResolvedRule}
 use Rattle.ide_ssr_rules.specs.Resolved.{resolved_kinds}
-use Rattle.ide_ssr_rules.specs.Rules.{Rule, rule_reading, once_reading}
+use Rattle.ide_ssr_rules.specs.Rules.{Rule, rule_reading, once_reading_of}
 use Rattle.ide_ssr_search.specs.declared.context_error.ContextError.{ContextError}
 use Rattle.ide_ssr_search.specs.declared.context_error.ContextError.TheVariants as contexts
 use Rattle.ide_ssr_search.specs.Context.{Context}
@@ -45,7 +46,7 @@ both (Ok first) (Ok second) = Ok (first ++ second)
 abbrev pub resolved : Meanings → ScopeId → Rule → Result (List ResolvedRule) Refusal
 resolved meanings scope rule = resolved_kinds meanings scope rule.names rule.constraints rule.kinds
 
--- how the text of a rule is read: with each of its kinds by `rule_reading`, searched once by `once_reading`
+-- how the text of a rule is read: with each of its kinds by `rule_reading`, searched once by `once_reading_of` a reach
 abbrev pub Reading : Type 0
 Reading = List ℕ → Result Rule Refusal
 
@@ -100,9 +101,9 @@ pub data ComesToBy (read : Reading) (s : Search) (rules : List (List ℕ)) : Out
 abbrev pub ComesTo : Search → List (List ℕ) → Outcome → Type 0
 ComesTo = ComesToBy rule_reading
 
--- what it comes to where a rule whose pattern is a placeholder alone is searched once
-abbrev pub ComesToOnce : Search → List (List ℕ) → Outcome → Type 0
-ComesToOnce = ComesToBy once_reading
+-- what it comes to where rules are read in a reach, and one whose pattern is a placeholder alone is searched once
+abbrev pub ComesToOnce : Reach → Search → List (List ℕ) → Outcome → Type 0
+ComesToOnce reach = ComesToBy (once_reading_of reach)
 
 -- ** What is answered.
 
@@ -116,5 +117,5 @@ ReachesBy read s rules (Err errors.Memory) = Unit {0}
 abbrev pub Reaches : Search → List (List ℕ) → Result (BTreeMap FileId (List Change)) SearchError → Type 0
 Reaches = ReachesBy rule_reading
 
-abbrev pub ReachesOnce : Search → List (List ℕ) → Result (BTreeMap FileId (List Change)) SearchError → Type 0
-ReachesOnce = ReachesBy once_reading
+abbrev pub ReachesOnce : Reach → Search → List (List ℕ) → Result (BTreeMap FileId (List Change)) SearchError → Type 0
+ReachesOnce reach = ReachesBy (once_reading_of reach)

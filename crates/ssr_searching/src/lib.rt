@@ -4,5 +4,5 @@
 mod searching;
 mod unresolved;
 
-pub use searching::{SearchError, edits, edits_once};
+pub use searching::{Place, SearchError, edits, edits_once};
 pub use unresolved::Unresolved;

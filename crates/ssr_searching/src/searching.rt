@@ -3,10 +3,11 @@ ghost use Rattle.std.specs.Prelude.{◌≡◌, IfOk, map, string_bytes};
 ghost use Rattle.ide_ssr.specs.Adding.{Adds};
 ghost use Rattle.ide_ssr_rewriting.specs.Edits.{EditsFit};
 ghost use Rattle.ssr_searching.specs.Searching.{Reaches, ReachesBy, ReachesOnce, rule_kinds, rules_reading};
-ghost use Rattle.ssr_searching.specs.Private.Searching.{reading_of};
+ghost use Rattle.ssr_searching.specs.Private.Searching.{reach_of, reading_of};
 
 use ide_ssr::{EditError, MatchFinder, SsrError, SsrRule};
 use ssr_base::{FileId, FilePosition, FileRange, Semantics, TextEdit, Workspace};
+use ssr_syntax_kinds::Reach;
 use std::alloc::{AllocError, Global};
 use std::collections::BTreeMap;
 
@@ -51,15 +52,27 @@ impl From<AllocError> for SearchError {
 enum Kinds {
     /// Each of them.
     Each,
-    /// The first one alone, where the pattern is a placeholder alone; else each of them.
-    Once,
+    /// The first one alone, where the pattern is a placeholder alone; else each of them. The rules are read in this reach.
+    Once(Reach),
 }
 
-/// Where names of rules are looked up, and the ranges to search in.
+impl Kinds {
+    /// The reach that rules are read in.
+    fn reach(self) -> Reach
+        ensures { result ≡ reach_of self }
+    {
+        match self {
+            Kinds::Each => Reach::Stated,
+            Kinds::Once(reach) => reach,
+        }
+    }
+}
+
+/// Where names of rules are looked up, and the ranges to search in, without any of which all is searched.
 #[derive(Drop)]
-struct Place {
-    position: FilePosition,
-    ranges: Vec<FileRange>,
+pub struct Place {
+    pub position: FilePosition,
+    pub ranges: Vec<FileRange>,
 }
 
 /// Adds the rule that a text says.
@@ -71,10 +84,10 @@ fn add_rule<S: Semantics>(
 ) -> Result<(), SsrError>
     ensures { Adds finder.old finder.new (rule_kinds (reading_of kinds) (S.meanings finder.old.semantics) finder.old.context.scope text.now) result }
 {
-    let rule = SsrRule::parse(alloc, text)?;
+    let rule = SsrRule::parse_of(alloc, kinds.reach(), text)?;
     match kinds {
         Kinds::Each => finder.add_rule(rule),
-        Kinds::Once => finder.add_rule_once(rule),
+        Kinds::Once(_) => finder.add_rule_once(rule),
     }
 }
 
@@ -134,19 +147,25 @@ pub fn edits<S: Semantics>(
     edits_by(alloc, workspace, semantics, place, Kinds::Each, rules)
 }
 
-/// The edits as `edits` gives them, but that a rule whose pattern is a placeholder alone is searched by its first kind alone: by
-/// each of its kinds it matches the same nodes, and one replacement would stand in another.
+/// The edits as `edits` gives them, but that the rules are read in a reach, and one whose pattern is a placeholder alone is searched by
+/// its first kind alone: by each of its kinds it matches the same nodes, and one replacement would stand in another.
 pub fn edits_once<S: Semantics>(
     alloc: Global,
+    reach: Reach,
     workspace: &Workspace,
     semantics: &S,
-    position: FilePosition,
-    ranges: Vec<FileRange>,
+    place: Place,
     rules: &[String],
 ) -> Result<BTreeMap<FileId, TextEdit>, SearchError>
-    ensures answer { ReachesOnce (record { workspace = workspace.now; meanings = S.meanings semantics.now; position = position; ranges = ranges.items }) (map string_bytes rules.now) result }
+    ensures answer { ReachesOnce reach (record { workspace = workspace.now; meanings = S.meanings semantics.now; position = place.position; ranges = place.ranges.items }) (map string_bytes rules.now) result }
     ensures fits { IfOk result (λ edits. EditsFit workspace.now edits) }
 {
-    let place = Place { position, ranges };
-    edits_by(alloc, workspace, semantics, place, Kinds::Once, rules)
+    edits_by(
+        alloc,
+        workspace,
+        semantics,
+        place,
+        Kinds::Once(reach),
+        rules,
+    )
 }

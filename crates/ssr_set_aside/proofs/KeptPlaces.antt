@@ -7,6 +7,7 @@ use Rattle.std.proofs.lemmas.List.{drop_all}
 use Rattle.std.proofs.lemmas.List.Elements.{All-cons, All-nil}
 use Rattle.ssr_base_trees.specs.Changes.{Change, ChangesInOrder, FitsText, IsReplaced, same}
 use Rattle.ssr_syntax_kinds.specs.declared.range.TextRange.{TextRange}
+use Rattle.ssr_syntax_kinds.specs.declared.reach.Reach.TheVariants.{Whole}
 use Rattle.ssr_base_trees.specs.Origins.{Span, span_of}
 use Rattle.ssr_syntax_tree.specs.Syntax.{Syntax, source_of}
 use Rattle.ssr_syntax.specs.Reading as reading
@@ -63,5 +64,5 @@ as_it_stands text made is empty no_reach all = record {
 }
 
 -- what is set aside keeps the tree that is read
-pub is_read : (made : SetAside) (tree : Syntax) → made.tree ≡ tree → reading.IsRead tree → IsRead made
-is_read made tree is read = subst reading.IsRead (sym is) read
+pub is_read : (made : SetAside) (tree : Syntax) → made.tree ≡ tree → reading.IsReadOf Whole tree → IsRead made
+is_read made tree is read = subst (reading.IsReadOf Whole) (sym is) read

@@ -3,6 +3,7 @@ use Rattle.std.specs.Prelude.{ℕ, ◌≡◌, ◌==◌, ◌||◌, ◌+◌, ◌�
 use Rattle.std.specs.List.{list_all}
 use Rattle.ssr_base_trees.specs.Changes.{Change, ChangesInOrder, FitsText, IsReplaced}
 use Rattle.ssr_base_trees.specs.Origins.{Span}
+use Rattle.ssr_syntax_kinds.specs.declared.reach.Reach.TheVariants.{Whole}
 use Rattle.ssr_syntax_tree.specs.Syntax.{Syntax, source_of}
 use Rattle.ssr_syntax.specs.Reading as reading
 
@@ -62,4 +63,4 @@ pub record IsSetAside (text : List ℕ) (made : SetAside) : Type 0 where
 
 -- the tree is what is read of its text
 abbrev pub IsRead : SetAside → Type 0
-IsRead made = reading.IsRead made.tree
+IsRead made = reading.IsReadOf Whole made.tree

@@ -1,7 +1,8 @@
 //! Sets aside what a file has that the language leaves out.
 ghost use Rattle.std.specs.Prelude.{◌≡◌, ◌≢◌, [], Ok, Err, IfOk, IfErr, IfSome};
+ghost use Rattle.ssr_syntax_kinds.specs.declared.reach.Reach.TheVariants.{Whole};
 ghost use Rattle.ssr_syntax_tree.specs.Syntax.{Syntax, source_of};
-ghost use Rattle.ssr_syntax.specs.Reading.{file_reading};
+ghost use Rattle.ssr_syntax.specs.Reading.{file_reading_of};
 ghost use Rattle.ssr_syntax.specs.declared.syntax_error.SyntaxError.TheVariants as errors;
 ghost use Rattle.ssr_set_aside.specs.SetAside.{IsSetAside, IsRead};
 
@@ -10,7 +11,7 @@ use crate::keeping::{are_blanked, cover, keep_places};
 use crate::reaches::Reaches;
 use ssr_base_trees::{ApplyError, TextEdit};
 use ssr_drafts::{Care, Parts, found};
-use ssr_syntax::{SyntaxError, Tree, parse_file, parse_file_owned};
+use ssr_syntax::{Reach, SyntaxError, Tree, parse_file_of, parse_file_owned_of};
 use std::alloc::{AllocError, Global};
 
 /// A file's text with as little set aside as it takes to read it: nothing, where it is read as it stands. The error is that of
@@ -18,10 +19,10 @@ use std::alloc::{AllocError, Global};
 pub fn set_aside(alloc: Global, text: &str) -> Result<SetAside, SyntaxError>
     ensures aside { IfOk result (λ made. IsSetAside text.now made) }
     ensures read { IfOk result IsRead }
-    ensures as_it_stands { (code : Syntax) → file_reading text.now ≡ Ok code → IfOk result (λ made. made.aside ≡ []) }
-    ensures error { IfErr result (λ error. error ≢ errors.Memory → file_reading text.now ≡ Err error) }
+    ensures as_it_stands { (code : Syntax) → file_reading_of Whole text.now ≡ Ok code → IfOk result (λ made. made.aside ≡ []) }
+    ensures error { IfErr result (λ error. error ≢ errors.Memory → file_reading_of Whole text.now ≡ Err error) }
 {
-    let error = match parse_file(alloc, text) {
+    let error = match parse_file_of(alloc, Reach::Whole, text) {
         Ok(tree) => return Ok(as_it_stands(alloc, tree)),
         Err(error) => error,
     };
@@ -74,7 +75,7 @@ fn made_by(alloc: Global, text: &str, parts: Parts) -> Result<Option<SetAside>, 
         Err(ApplyError::Range) => return Ok(None),
         Err(ApplyError::Memory) => return Err(AllocError),
     };
-    match parse_file_owned(alloc, searched) {
+    match parse_file_owned_of(alloc, Reach::Whole, searched) {
         Ok(tree) => Ok(Some(SetAside::new(tree, aside, Reaches::new(reaches), unsearched))),
         Err(SyntaxError::Memory) => Err(AllocError),
         Err(_) => Ok(None),

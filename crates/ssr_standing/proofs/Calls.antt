@@ -7,7 +7,7 @@ use Rattle.ssr_syntax_tree.specs.Syntax.{Syntax}
 use Rattle.ssr_base_trees.specs.Changes.{Change}
 use Rattle.ssr_base_trees.specs.Workspace.{Workspace, tree_of}
 use Rattle.ssr_standing.specs.Expansions.{as_they_are, both_agree, call_of, first_stand, is_changed, read_with, stands_for, stands_in}
-use Rattle.ssr_standing.specs.Standing.{stands}
+use Rattle.ssr_standing.specs.Standing.{stands_of}
 
 and_false : (b : Bool) → (b && false) ≡ false
 and_false true = refl
@@ -50,16 +50,16 @@ module _ (w : Workspace) (n : ℕ) (file : Syntax) (cs : List Change) where
   unchanged_stands t changed is e = told_is t changed false (tree_of w t) (tree_of w t) is e refl refl
 
   -- the file is there
-  at_file : slice_get w.files n ≡ Some file → stands_in w n cs ≡ (stands file cs && first_stand w n file cs (length w.expansions))
-  at_file there = ap (λ (o : Option Syntax). option_map_or (λ one. stands one cs && first_stand w n one cs (length w.expansions)) o false) there
+  at_file : slice_get w.files n ≡ Some file → stands_in w n cs ≡ (stands_of w.reach file cs && first_stand w n file cs (length w.expansions))
+  at_file there = ap (λ (o : Option Syntax). option_map_or (λ one. stands_of w.reach one cs && first_stand w n one cs (length w.expansions)) o false) there
 
   -- its text doesn't stand
-  pub text_falls : (text_stands : Bool) → slice_get w.files n ≡ Some file → text_stands ≡ stands file cs → text_stands ≡ false → false ≡ stands_in w n cs
+  pub text_falls : (text_stands : Bool) → slice_get w.files n ≡ Some file → text_stands ≡ stands_of w.reach file cs → text_stands ≡ false → false ≡ stands_in w n cs
   text_falls text_stands there is e =
       sym (at_file there ∙ ap (λ (b : Bool). b && first_stand w n file cs (length w.expansions)) (sym is ∙ e))
 
   -- its text stands, so the calls decide
-  pub calls_decide : (text_stands : Bool) → slice_get w.files n ≡ Some file → text_stands ≡ stands file cs → text_stands ≡ true
+  pub calls_decide : (text_stands : Bool) → slice_get w.files n ≡ Some file → text_stands ≡ stands_of w.reach file cs → text_stands ≡ true
       → first_stand w n file cs (length w.expansions) ≡ stands_in w n cs
   calls_decide text_stands there is e =
       sym (at_file there ∙ ap (λ (b : Bool). b && first_stand w n file cs (length w.expansions)) (sym is ∙ e))

@@ -7,10 +7,11 @@ use Rattle.std.specs.Global.{Global}
 use Rattle.std.proofs.lemmas.List.{get_or-map, length-map, map-append, take_more}
 use Rattle.std.proofs.lemmas.List.Elements.{All-nil, All-push, All-weaker}
 use Rattle.ssr_syntax_kinds.specs.declared.range.TextRange.{TextRange}
+use Rattle.ssr_syntax_kinds.specs.declared.reach.Reach.{Reach}
 use Rattle.ssr_syntax_tree.specs.Syntax.{Syntax, token_count}
 use Rattle.ssr_syntax_tree.specs.Places.{node_of, token_of}
 use Rattle.ssr_syntax_kinds.specs.declared.fragment.Fragment.TheVariants as fragments
-use Rattle.ssr_syntax.specs.Reading.{fragment_reading}
+use Rattle.ssr_syntax.specs.Reading.{fragment_reading_of}
 use Rattle.ssr_base_trees.specs.Changes.{Change, ChangesInOrder}
 use Rattle.ssr_base_trees.specs.Applied.{change_of as change_in, changes_of}
 use Rattle.ssr_base_trees.specs.Origins.{Span}
@@ -127,14 +128,19 @@ short_spelled w cs t tree s places text is so more short =
     short_places places (length s.text) (omega (arith, short, ap length more, length-append s.text (closing tree.kind)))
     (subst (All (EndsWithin (length s.text))) (sym so) all)
 
+-- it is read in the workspace's reach
+pub reach_is : (w : Workspace) (reach : Reach) (text : List ℕ) → reach ≡ w.reach
+    → result_ok (fragment_reading_of reach fragments.Expr text) ≡ result_ok (fragment_reading_of w.reach fragments.Expr text)
+reach_is w reach text is = ap (λ (r : Reach). result_ok (fragment_reading_of r fragments.Expr text)) is
+
 -- what is read of them
 pub read_is : (w : Workspace) (cs : List Change) (t : ℕ) (tree : Syntax) (s : Spelled) (text : List ℕ) (new : Option Syntax)
-    → s ≡ spelled_with w cs t tree → text ≡ s.text ++ closing tree.kind → new ≡ result_ok (fragment_reading fragments.Expr text)
+    → s ≡ spelled_with w cs t tree → text ≡ s.text ++ closing tree.kind → new ≡ result_ok (fragment_reading_of w.reach fragments.Expr text)
     → option_map (λ n. (n, s.places)) new ≡ read_with w cs t tree
 read_is w cs t tree s text new is more read =
     ap (option_map (λ n. (n, s.places))) read
-    ∙ ap (λ (text : List ℕ). option_map (λ n. (n, s.places)) (result_ok (fragment_reading fragments.Expr text))) more
-    ∙ ap (λ (s : Spelled). option_map (λ n. (n, s.places)) (result_ok (fragment_reading fragments.Expr (s.text ++ closing tree.kind)))) is
+    ∙ ap (λ (text : List ℕ). option_map (λ n. (n, s.places)) (result_ok (fragment_reading_of w.reach fragments.Expr text))) more
+    ∙ ap (λ (s : Spelled). option_map (λ n. (n, s.places)) (result_ok (fragment_reading_of w.reach fragments.Expr (s.text ++ closing tree.kind)))) is
 
 -- ** The changes that put there what stands there.
 

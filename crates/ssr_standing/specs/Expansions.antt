@@ -8,14 +8,14 @@ use Rattle.ssr_syntax_kinds.specs.declared.fragment.Fragment.TheVariants as frag
 use Rattle.ssr_syntax_kinds.specs.Kinds.{same_kind}
 use Rattle.ssr_syntax_tree.specs.Syntax.{Syntax, source_of, token_count}
 use Rattle.ssr_syntax_tree.specs.Places.{token_of}
-use Rattle.ssr_syntax.specs.Reading.{fragment_reading}
+use Rattle.ssr_syntax.specs.Reading.{fragment_reading_of}
 use Rattle.ssr_base_trees.specs.Changes.{Change}
 use Rattle.ssr_base_trees.specs.Origins.{Span}
 use Rattle.ssr_base_trees.specs.Workspace.{FileSpan, Workspace, above, node_id, original_range, run_range, tree_of, trees}
 use Rattle.ssr_standing.specs.ArgumentNames.{names_arguments}
 use Rattle.ssr_standing.specs.Around.{agree, has, hole_at, is_number, passed}
 use Rattle.ssr_standing.specs.Ranges.{old_place}
-use Rattle.ssr_standing.specs.Standing.{stands}
+use Rattle.ssr_standing.specs.Standing.{stands_of}
 
 -- ** The text of what a call stands for.
 
@@ -98,7 +98,7 @@ spelled_with w cs t tree =
 abbrev pub read_with : Workspace → List Change → ℕ → Syntax → Option (Syntax × List Span)
 read_with w cs t tree =
     let s = spelled_with w cs t tree in
-    option_map (λ new. (new, s.places)) (result_ok (fragment_reading fragments.Expr (s.text ++ closing tree.kind)))
+    option_map (λ new. (new, s.places)) (result_ok (fragment_reading_of w.reach fragments.Expr (s.text ++ closing tree.kind)))
 
 -- the changes that put there what stands there
 abbrev pub as_it_is : List ℕ → Change → Change
@@ -145,4 +145,4 @@ first_stand w n file cs (suc i) = first_stand w n file cs i && stands_for w n fi
 
 -- The text of a file is read with the changes made, and groups as it did, and so does what each call of a macro in it stands for.
 abbrev pub stands_in : Workspace → ℕ → List Change → Bool
-stands_in w n cs = option_map_or (λ file. stands file cs && first_stand w n file cs (length w.expansions)) (slice_get w.files n) false
+stands_in w n cs = option_map_or (λ file. stands_of w.reach file cs && first_stand w n file cs (length w.expansions)) (slice_get w.files n) false

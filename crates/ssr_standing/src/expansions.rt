@@ -4,7 +4,7 @@ ghost use Rattle.std.specs.Option.{option_map, option_map_or};
 ghost use Rattle.std.specs.Result.{result_ok};
 ghost use Rattle.ssr_syntax_kinds.specs.declared.fragment.Fragment.TheVariants as fragments;
 ghost use Rattle.ssr_syntax_tree.specs.Syntax.{source_of};
-ghost use Rattle.ssr_syntax.specs.Reading.{fragment_reading};
+ghost use Rattle.ssr_syntax.specs.Reading.{fragment_reading_of};
 ghost use Rattle.ssr_base_trees.specs.Changes.{FitsText};
 ghost use Rattle.ssr_base_trees.specs.Origins.{plain_origin, span_of};
 ghost use Rattle.ssr_standing.specs.Expansions.{as_they_are, both_agree, call_of, closing, first_stand, is_changed, is_in_braces, opening, origin_of, read_with, spelled_with, stands_for, stands_in};
@@ -17,10 +17,10 @@ use crate::argument_names::names_arguments;
 use crate::passing::Passing;
 use crate::ranges::old_ranges;
 use crate::spelling::{Place, Speller};
-use crate::standing::stands;
+use crate::standing::stands_of;
 use ssr_base_trees::{NodeId, TextEdit, TokenRun, Trees};
-use ssr_syntax::{SyntaxError, fragment};
-use ssr_syntax_kinds::{Fragment, SyntaxKind, TextRange};
+use ssr_syntax::{SyntaxError, fragment_of};
+use ssr_syntax_kinds::{Fragment, Reach, SyntaxKind, TextRange};
 use ssr_syntax_tree::{NodeNo, TokenNo, Tree};
 use std::alloc::{AllocError, Global};
 
@@ -112,12 +112,12 @@ fn ranges(alloc: Global, places: &[Place]) -> Result<Vec<TextRange>, AllocError>
     Ok(ranges)
 }
 
-/// What is read of an expression, if it is read.
-pub fn expression(alloc: Global, text: &str) -> Result<Option<Tree>, AllocError>
-    ensures tree { IfOk result (λ tree. tree ≡ result_ok (fragment_reading fragments.Expr text.now)) }
+/// What is read of an expression in a reach, if it is read.
+pub fn expression(alloc: Global, reach: Reach, text: &str) -> Result<Option<Tree>, AllocError>
+    ensures tree { IfOk result (λ tree. tree ≡ result_ok (fragment_reading_of reach fragments.Expr text.now)) }
     ensures short { IfOk result (λ tree. IfSome tree (λ _. length text.now < 2 ^ 32)) }
 {
-    match fragment(alloc, Fragment::Expr, text) {
+    match fragment_of(alloc, reach, Fragment::Expr, text) {
         Ok((tree, _)) => Ok(Some(tree)),
         Err(SyntaxError::Memory) => Err(AllocError),
         Err(_) => Ok(None),
@@ -145,7 +145,7 @@ fn read_with(
 {
     let mut speller = spelled(alloc, trees, number, tree, edit, passing)?;
     speller.text.push_str(closing(tree.kind(NodeNo(0))))?;
-    let read = expression(alloc, speller.text.as_str())?;
+    let read = expression(alloc, trees.reach(), speller.text.as_str())?;
     let Some(new) = read else {
         return Ok(None);
     };
@@ -254,7 +254,7 @@ impl<'a> SearchedFile<'a> {
         requires { All (FitsText (source_of self.now.tree.now)) edit.now }
         ensures { IfOk result (λ answer. answer ≡ stands_in self.now.trees.now self.now.number edit.now) }
     {
-        let text_stands = stands(alloc, self.tree, edit)?;
+        let text_stands = stands_of(alloc, self.trees.reach(), self.tree, edit)?;
         if !text_stands {
             return Ok(false);
         }

@@ -21,4 +21,4 @@ pub use agreeing::agree;
 pub use code::in_parentheses;
 pub use expansions::{SearchedFile, expression};
 pub use ranges::{new_ranges, new_ranges_from, old_ranges, old_ranges_from};
-pub use standing::stands;
+pub use standing::{stands, stands_of};

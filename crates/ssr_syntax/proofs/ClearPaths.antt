@@ -4,6 +4,7 @@ use Rattle.std.proofs.Common.{◌≡◌, ℕ, zero, suc, Bool, true, false, not,
 use Rattle.std.specs.Prelude.{⊤}
 use Rattle.std.specs.Option.{option_and_then}
 use Rattle.std.proofs.lemmas.Bool.{and_parts}
+use Rattle.ssr_syntax_kinds.specs.declared.reach.Reach.{Reach}
 use Rattle.ssr_syntax_kinds.specs.declared.kinds.SyntaxKind.{SyntaxKind}
 use Rattle.ssr_syntax_kinds.specs.declared.kinds.SyntaxKind.TheVariants.{IDENT, TOKEN_TREE}
 use Rattle.ssr_syntax_kinds.specs.Kinds.{same_kind, is_ident}
@@ -12,10 +13,10 @@ use Rattle.ssr_syntax_forms.specs.declared.tokens.Token.{Token}
 use Rattle.ssr_syntax_types.specs.declared.goals.Goal.{Goal}
 use Rattle.ssr_syntax_types.specs.declared.goals.Goal.TheVariants.{TokenTree}
 use Rattle.ssr_syntax_forms.specs.Trees.{Forest, done, leaf, tree, join}
-use Rattle.ssr_syntax_forms.specs.Forms.{Form, one, child, mark, seal, ◌then◌, nothing, choose, many, look, check, taken_as}
+use Rattle.ssr_syntax_forms.specs.Forms.{Form, one, child, mark, seal, ◌then◌, nothing, choose, many, look, check, wide, taken_as}
 use Rattle.ssr_syntax.proofs.Operands.{went}
 use Rattle.ssr_syntax.proofs.Identifiers.{under, not_ident, repeats_at}
-use Rattle.ssr_syntax.specs.Grammar.{grammar}
+use Rattle.ssr_syntax.specs.Grammar.{grammar_of}
 use Rattle.ssr_syntax_forms.proofs.Shared.{FitsBelow, FitsForm, FitsGoal, meets, apart, one_taken}
 
 -- each node among the trees is a token tree
@@ -163,14 +164,15 @@ sketch_behind (many test f) p =
     option_and_then (λ q. stays (wider p q) (sketch_behind f (wider p q))) (sketch_behind f p)
 sketch_behind (look want test) p = Some p
 sketch_behind (check condition) p = Some p
+sketch_behind (wide f g) p = sketch_behind g p
 
 -- what is asked of a goal: its form is clear, and it makes token trees alone, if it is said to
 abbrev pub keeps_goal : Goal → Option Sketch → Bool
 keeps_goal goal None = false
 keeps_goal goal (Some p) = not (is_tree_goal goal) || p.trees
 
-abbrev pub AllKept : Type 0
-AllKept = (goal : Goal) → keeps_goal goal (sketch_behind (grammar goal) nothing_yet) ≡ true
+abbrev pub AllKept : Reach → Type 0
+AllKept reach = (goal : Goal) → keeps_goal goal (sketch_behind (grammar_of reach goal) nothing_yet) ≡ true
 
 -- ** The sketch is right.
 
@@ -347,16 +349,17 @@ keeps fits h (many test g) p q e x z us rest f at =
     subst (λ r. IsAt r z) s.3 (repeats_at (IsAt wide) (FitsForm fits g) turn f.0 x z us rest f.1 (at_left p w.0 x at))
 keeps fits h (look want test) p q e x z us rest f at = at_sketch p q z e (subst (IsAt p) (sym f.1) at)
 keeps fits h (check condition) p q e x z us rest f at = at_sketch p q z e (subst (IsAt p) (sym f.1) at)
+keeps fits h (wide w v) p q e x z us rest f at = keeps fits h v p q e x z us rest f at
 
 kept : (goal : Goal) (o : Option Sketch) → keeps_goal goal o ≡ true
     → (p : Sketch) × (o ≡ Some p) × ((not (is_tree_goal goal) || p.trees) ≡ true)
 kept goal None e = cc
 kept goal (Some p) e = (p, refl, e)
 
-pub goals_clear : AllKept → (n : ℕ) → ClearBelow (FitsGoal grammar n)
+pub goals_clear : (reach : Reach) → AllKept reach → (n : ℕ) → ClearBelow (FitsGoal (grammar_of reach) n)
 unfolding FitsGoal
-goals_clear all zero goal y us rest f = absurd f
-goals_clear all (suc n) goal y us rest f =
-    let c = kept goal (sketch_behind (grammar goal) nothing_yet) (all goal) in
-    let z = keeps (FitsGoal grammar n) (goals_clear all n) (grammar goal) nothing_yet c.0 c.1 done y us rest f nothing_at in
+goals_clear reach all zero goal y us rest f = absurd f
+goals_clear reach all (suc n) goal y us rest f =
+    let c = kept goal (sketch_behind (grammar_of reach goal) nothing_yet) (all goal) in
+    let z = keeps (FitsGoal (grammar_of reach) n) (goals_clear reach all n) (grammar_of reach goal) nothing_yet c.0 c.1 done y us rest f nothing_at in
     record { fronts = tt; trees = λ is. z.trees (needed (is_tree_goal goal) c.0.trees c.2 is); clear = z.clear }

@@ -2,6 +2,8 @@
 -- identifier.
 use Rattle.std.proofs.Common.{◌≡◌, ℕ, true, not, ◌||◌, ◌&&◌, List, [], ◌∷◌, length, refl, sym, ◌∙◌, ap, subst}
 use Rattle.std.proofs.lemmas.Bool.{and_parts}
+use Rattle.ssr_syntax_kinds.specs.declared.reach.Reach.{Reach}
+use Rattle.ssr_syntax_kinds.specs.declared.reach.Reach.TheVariants.{Stated}
 use Rattle.ssr_syntax_kinds.specs.declared.kinds.SyntaxKind.{SyntaxKind}
 use Rattle.ssr_syntax_kinds.specs.declared.kinds.SyntaxKind.TheVariants.{TOKEN_TREE}
 use Rattle.ssr_syntax_kinds.specs.Kinds.{same_kind}
@@ -12,10 +14,10 @@ use Rattle.ssr_syntax_tree.specs.ClearPaths.{is_arguments, are_token_trees, begi
 use Rattle.ssr_syntax_kinds.specs.declared.fragment.Fragment.{Fragment}
 use Rattle.ssr_syntax_types.specs.declared.goals.Goal.{Goal}
 use Rattle.ssr_syntax_forms.specs.Trees as solid
-use Rattle.ssr_syntax.specs.Grammar.{grammar}
+use Rattle.ssr_syntax.specs.Grammar.{grammar_of}
 use Rattle.ssr_syntax_rows.specs.Solid.{solid_tokens, pieces}
 use Rattle.ssr_syntax_rows.specs.Lossless.{gap, behind_gap, upto, past, before, lossless}
-use Rattle.ssr_syntax.specs.Reading.{trimmed, goal_of, FitsTokens, FitsFragment}
+use Rattle.ssr_syntax.specs.Reading.{trimmed, goal_of, FitsTokens, FitsFragment, FitsFragmentOf}
 use Rattle.ssr_syntax_forms.proofs.Shared.{at_some_level}
 use Rattle.ssr_syntax.proofs.Checks.{goal_clear}
 use Rattle.ssr_syntax.proofs.ClearPaths.{are_trees, begins, may_have, AllClear, in_place, both, goals_clear}
@@ -72,21 +74,25 @@ clear-lossless (solid.tree kind kids x) ts h =
 
 -- ** A fragment.
 
-solid_clear : (goal : Goal) (text : List ℕ) (raw : List RawToken) (s : Syntax) (fits : FitsTokens goal text raw s)
+solid_clear : (reach : Reach) (goal : Goal) (text : List ℕ) (raw : List RawToken) (s : Syntax) (fits : FitsTokens reach goal text raw s)
     → (may_have fits.0 fits.1 ≡ true) × AllClear fits.1
-solid_clear goal text raw s (kind, kids, ruled, is, named) =
+solid_clear reach goal text raw s (kind, kids, ruled, is, named) =
     let z : solid.Forest = solid.tree kind kids solid.done in
-    let level = at_some_level grammar goal z (solid_tokens raw) [] ruled in
-    let all = (goals_clear goal_clear level.0 goal z (solid_tokens raw) [] level.1).clear in
+    let level = at_some_level (grammar_of reach) goal z (solid_tokens raw) [] ruled in
+    let all = (goals_clear reach (goal_clear reach) level.0 goal z (solid_tokens raw) [] level.1).clear in
     (all.0, all.1)
 
-pub fragment_clear : (fragment : Fragment) (text : List ℕ) (s : Syntax) → FitsFragment fragment text s → HasClearPaths s
-fragment_clear fragment text s (raw, e, outside, fits) =
+pub fragment_clear_of : (reach : Reach) (fragment : Fragment) (text : List ℕ) (s : Syntax) → FitsFragmentOf reach fragment text s → HasClearPaths s
+fragment_clear_of reach fragment text s (raw, e, outside, fits) =
     let inner : List ℕ = trimmed text in
-    let whole = whole_of (goal_of fragment) inner raw s fits in
-    let clear = solid_clear (goal_of fragment) inner raw s fits in
+    let whole = whole_of reach (goal_of fragment) inner raw s fits in
+    let clear = solid_clear reach (goal_of fragment) inner raw s fits in
     let ts = pieces inner raw in
     let behind_front = behind_gap (length (solid.spell fits.1)) ts in
     subst HasClearPaths (sym fits.3)
     (subst (λ children. (is_clear fits.0 children ≡ true) × HaveClearPaths children) (sym (children_are inner raw fits.0 fits.1 whole outside))
     (clear_node fits.0 fits.1 behind_front clear.0, clear-lossless fits.1 behind_front clear.1))
+
+-- of the stated language
+pub fragment_clear : (fragment : Fragment) (text : List ℕ) (s : Syntax) → FitsFragment fragment text s → HasClearPaths s
+fragment_clear fragment text s fits = fragment_clear_of Stated fragment text s fits

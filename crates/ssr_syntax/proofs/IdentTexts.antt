@@ -3,6 +3,8 @@ use Rattle.std.proofs.Common.{◌≡◌, ℕ, zero, suc, Bool, true, false, not,
 use Rattle.std.specs.Prelude.{⊤, reverse}
 use Rattle.std.proofs.lemmas.Bool.{not-true}
 use Rattle.std.proofs.lemmas.List.{append-nil, reverse-append}
+use Rattle.ssr_syntax_kinds.specs.declared.reach.Reach.{Reach}
+use Rattle.ssr_syntax_kinds.specs.declared.reach.Reach.TheVariants.{Stated}
 use Rattle.ssr_syntax_kinds.specs.declared.kinds.SyntaxKind.{SyntaxKind}
 use Rattle.ssr_syntax_kinds.specs.Kinds.{is_trivia, is_ident}
 use Rattle.ssr_syntax_lex.specs.declared.tokens.RawToken.{RawToken}
@@ -12,11 +14,11 @@ use Rattle.ssr_syntax_tree.specs.Syntax.{Syntax, tokens_of, begins_with_trivia}
 use Rattle.ssr_syntax_kinds.specs.declared.fragment.Fragment.{Fragment}
 use Rattle.ssr_syntax_types.specs.declared.goals.Goal.{Goal}
 use Rattle.ssr_syntax_forms.specs.Trees as solid
-use Rattle.ssr_syntax.specs.Grammar.{grammar}
+use Rattle.ssr_syntax.specs.Grammar.{grammar_of}
 use Rattle.ssr_syntax_rows.specs.Solid.{solid_token, solid_tokens, pieces, begins_solid}
 use Rattle.ssr_syntax_rows.specs.Lossless.{trivia, behind_trivia, gap, behind_gap, upto, past, before, behind, lossless, whole_tree}
 use Rattle.ssr_syntax.specs.Identifiers.{idents, has_ident, stand_alone, is_mixing, IdentsAlone, IdentsAloneIn}
-use Rattle.ssr_syntax.specs.Reading.{trimmed, goal_of, FitsTokens, FitsFragment}
+use Rattle.ssr_syntax.specs.Reading.{trimmed, goal_of, FitsTokens, FitsFragment, FitsFragmentOf}
 use Rattle.ssr_syntax_forms.proofs.Shared.{at_some_level, goals_spell}
 use Rattle.ssr_syntax_rows.proofs.Shared.{AreTaken, goals_taken, AllSolid, leaves_solid, all_solid, by_kind, upto-past, trivia-behind, solid_sides}
 use Rattle.ssr_syntax.proofs.Checks.{goal_clean}
@@ -144,18 +146,18 @@ pub record WholeTree (text : List ℕ) (raw : List RawToken) (kind : SyntaxKind)
   pub children_alone : (is_mixing kind || lone kids) ≡ true
   pub all_alone : AllLone kids
 
-pub whole_of : (goal : Goal) (text : List ℕ) (raw : List RawToken) (s : Syntax) (fits : FitsTokens goal text raw s) → WholeTree text raw fits.0 fits.1
-whole_of goal text raw s (kind, kids, ruled, is, named) =
+pub whole_of : (reach : Reach) (goal : Goal) (text : List ℕ) (raw : List RawToken) (s : Syntax) (fits : FitsTokens reach goal text raw s) → WholeTree text raw fits.0 fits.1
+whole_of reach goal text raw s (kind, kids, ruled, is, named) =
     let us = solid_tokens raw in
     let z : solid.Forest = solid.tree kind kids solid.done in
-    let level = at_some_level grammar goal z us [] ruled in
+    let level = at_some_level (grammar_of reach) goal z us [] ruled in
     let n = level.0 in
     let fits = level.1 in
-    let kids_spell : solid.spell kids ≡ us = sym (append-nil (solid.spell kids)) ∙ goals_spell grammar n goal z us [] fits in
-    let alone = goals_alone goal_clean n goal z us [] fits in
+    let kids_spell : solid.spell kids ≡ us = sym (append-nil (solid.spell kids)) ∙ goals_spell (grammar_of reach) n goal z us [] fits in
+    let alone = goals_alone reach (goal_clean reach) n goal z us [] fits in
     record {
       spells = kids_spell;
-      taken = (goals_taken grammar n goal z us [] fits).0;
+      taken = (goals_taken (grammar_of reach) n goal z us [] fits).0;
       children_alone = alone.1.0;
       all_alone = alone.1.1;
     }
@@ -175,10 +177,10 @@ children_are text raw kind kids whole outside =
     ap (behind (lossless kids ts)) none ∙ behind-nothing (lossless kids ts)
     ∙ ap (lossless kids) (sym (none_first n ts sides.0))
 
-pub fragment_alone : (fragment : Fragment) (text : List ℕ) (s : Syntax) → FitsFragment fragment text s → IdentsAloneIn s
-fragment_alone fragment text s (raw, e, outside, fits) =
+pub fragment_alone_of : (reach : Reach) (fragment : Fragment) (text : List ℕ) (s : Syntax) → FitsFragmentOf reach fragment text s → IdentsAloneIn s
+fragment_alone_of reach fragment text s (raw, e, outside, fits) =
     let inner : List ℕ = trimmed text in
-    let whole = whole_of (goal_of fragment) inner raw s fits in
+    let whole = whole_of reach (goal_of fragment) inner raw s fits in
     let ts = pieces inner raw in
     let behind_front = behind_gap (length (solid.spell fits.1)) ts in
     subst IdentsAloneIn (sym fits.3)
@@ -186,10 +188,19 @@ fragment_alone fragment text s (raw, e, outside, fits) =
     (alone_in (is_mixing fits.0) fits.1 ts whole.children_alone, alone-lossless fits.1 behind_front whole.all_alone, tt))
 
 -- the identifiers of a fragment's tree
-pub fragment_idents : (fragment : Fragment) (text : List ℕ) (s : Syntax) → FitsFragment fragment text s
+pub fragment_idents_of : (reach : Reach) (fragment : Fragment) (text : List ℕ) (s : Syntax) → FitsFragmentOf reach fragment text s
     → (raw : List RawToken) × (tokens (trimmed text) ≡ Some raw) × (idents (tokens_of s) ≡ idents (pieces (trimmed text) raw))
-fragment_idents fragment text s (raw, e, outside, fits) =
+fragment_idents_of reach fragment text s (raw, e, outside, fits) =
     let inner : List ℕ = trimmed text in
-    let whole = whole_of (goal_of fragment) inner raw s fits in
+    let whole = whole_of reach (goal_of fragment) inner raw s fits in
     let are = leaves_solid fits.1 whole.taken (subst AllSolid (sym whole.spells) (all_solid raw)) in
     (raw, e, ap (λ t. idents (tokens_of t)) fits.3 ∙ whole_idents inner raw fits.0 fits.1 are whole.taken whole.spells)
+
+-- ** Of the stated language.
+
+pub fragment_alone : (fragment : Fragment) (text : List ℕ) (s : Syntax) → FitsFragment fragment text s → IdentsAloneIn s
+fragment_alone fragment text s fits = fragment_alone_of Stated fragment text s fits
+
+pub fragment_idents : (fragment : Fragment) (text : List ℕ) (s : Syntax) → FitsFragment fragment text s
+    → (raw : List RawToken) × (tokens (trimmed text) ≡ Some raw) × (idents (tokens_of s) ≡ idents (pieces (trimmed text) raw))
+fragment_idents fragment text s fits = fragment_idents_of Stated fragment text s fits

@@ -3,15 +3,16 @@ use Rattle.std.proofs.Common.{◌≡◌, ℕ, zero, suc, Bool, true, false, not,
 use Rattle.std.specs.Prelude.{⊤}
 use Rattle.std.specs.Option.{option_and_then}
 use Rattle.std.proofs.lemmas.Bool.{cases_Bool, and_parts, or_parts}
+use Rattle.ssr_syntax_kinds.specs.declared.reach.Reach.{Reach}
 use Rattle.ssr_syntax_kinds.specs.declared.kinds.SyntaxKind.{SyntaxKind}
 use Rattle.ssr_syntax_kinds.specs.declared.kinds.SyntaxKind.TheVariants.{IDENT}
 use Rattle.ssr_syntax_forms.specs.Kinds.{mem}
 use Rattle.ssr_syntax_forms.specs.declared.tokens.Token.{Token}
 use Rattle.ssr_syntax_types.specs.declared.goals.Goal.{Goal}
 use Rattle.ssr_syntax_forms.specs.Trees.{Forest, done, leaf, tree, join}
-use Rattle.ssr_syntax_forms.specs.Forms.{Form, one, child, mark, seal, ◌then◌, nothing, choose, many, look, check, taken_as}
+use Rattle.ssr_syntax_forms.specs.Forms.{Form, one, child, mark, seal, ◌then◌, nothing, choose, many, look, check, wide, taken_as}
 use Rattle.ssr_syntax.proofs.Operands.{went}
-use Rattle.ssr_syntax.specs.Grammar.{grammar}
+use Rattle.ssr_syntax.specs.Grammar.{grammar_of}
 use Rattle.ssr_syntax_kinds.specs.Kinds.{is_ident}
 use Rattle.ssr_syntax.specs.Identifiers.{is_mixing}
 use Rattle.ssr_syntax_forms.proofs.Shared.{FitsBelow, Step, Repeats, FitsForm, FitsGoal, meets, apart, one_taken}
@@ -127,6 +128,7 @@ sketch_behind (choose test f g) p = wider_of (sketch_behind f p) (sketch_behind 
 sketch_behind (many test f) p = turned (is_clean (Some p) && is_clean (sketch_behind f clean)) (sketch_behind f crowded)
 sketch_behind (look want test) p = Some p
 sketch_behind (check condition) p = Some p
+sketch_behind (wide f g) p = sketch_behind g p
 
 one_sketch : {p q : Sketch} → ◌≡◌ {A = Option Sketch} (Some p) (Some q) → p ≡ q
 one_sketch e = cc
@@ -283,14 +285,15 @@ keeps fits h (many test g) p q e x z us rest f at =
     ]
 keeps fits h (look want test) p q e x z us rest f at = at_sketch p q z e (subst (IsAt p) (sym f.1) at)
 keeps fits h (check condition) p q e x z us rest f at = at_sketch p q z e (subst (IsAt p) (sym f.1) at)
+keeps fits h (wide w v) p q e x z us rest f at = keeps fits h v p q e x z us rest f at
 
-abbrev pub AllClean : Type 0
-AllClean = (goal : Goal) → is_clean (sketch_behind (grammar goal) empty) ≡ true
+abbrev pub AllClean : Reach → Type 0
+AllClean reach = (goal : Goal) → is_clean (sketch_behind (grammar_of reach goal) empty) ≡ true
 
-pub goals_alone : AllClean → (n : ℕ) → AloneBelow (FitsGoal grammar n)
+pub goals_alone : (reach : Reach) → AllClean reach → (n : ℕ) → AloneBelow (FitsGoal (grammar_of reach) n)
 unfolding FitsGoal
-goals_alone all zero goal y us rest f = absurd f
-goals_alone all (suc n) goal y us rest f =
-    let c = cleaned (sketch_behind (grammar goal) empty) (all goal) in
-    let z = keeps (FitsGoal grammar n) (goals_alone all n) (grammar goal) empty c.0 c.1 done y us rest f (refl, tt) in
+goals_alone reach all zero goal y us rest f = absurd f
+goals_alone reach all (suc n) goal y us rest f =
+    let c = cleaned (sketch_behind (grammar_of reach goal) empty) (all goal) in
+    let z = keeps (FitsGoal (grammar_of reach) n) (goals_alone reach all n) (grammar_of reach goal) empty c.0 c.1 done y us rest f (refl, tt) in
     (c.2 y z.0, z.1)

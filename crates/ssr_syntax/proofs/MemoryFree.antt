@@ -2,6 +2,8 @@
 use Rattle.std.proofs.Common.{◌≡◌, ◌≢◌, ℕ, Bool, true, false, if◌then◌else◌, List, [], ◌∷◌, length, Option, Some, None, Result, Ok, Err, IfErr, refl}
 use Rattle.std.specs.Prelude.{nat_lt, ◌^◌}
 use Rattle.std.proofs.lemmas.Result.{IfErr-at_err}
+use Rattle.ssr_syntax_kinds.specs.declared.reach.Reach.{Reach}
+use Rattle.ssr_syntax_kinds.specs.declared.reach.Reach.TheVariants.{Stated}
 use Rattle.ssr_syntax_lex.specs.declared.tokens.RawToken.{RawToken}
 use Rattle.ssr_syntax_lex.specs.Tokens.{tokens}
 use Rattle.ssr_syntax_tree.specs.Syntax as plain
@@ -16,12 +18,12 @@ use Rattle.ssr_syntax_types.specs.declared.goals.Goal.{Goal}
 use Rattle.ssr_syntax_types.specs.declared.goals.Goal.TheVariants as goals
 use Rattle.ssr_syntax.specs.declared.syntax_error.SyntaxError.{SyntaxError}
 use Rattle.ssr_syntax.specs.declared.syntax_error.SyntaxError.TheVariants as errors
-use Rattle.ssr_syntax.specs.Grammar.{grammar}
+use Rattle.ssr_syntax.specs.Grammar.{grammar_of}
 use Rattle.ssr_syntax_rows.specs.Lossless.{whole_tree}
 use Rattle.ssr_syntax_rows.specs.MacroRules.{misnames_macros}
 use Rattle.ssr_syntax_rows.specs.Solid.{solid_tokens, pieces}
 use Rattle.ssr_syntax_forms.proofs.Shared.{IsFree, no_tree, free-bind, free-goal}
-use Rattle.ssr_syntax.specs.Reading.{most_levels, whole, reading, error_of, unless_misnamed, one_tree, tree_reading, lexed_reading, file_reading}
+use Rattle.ssr_syntax.specs.Reading.{most_levels, whole, reading, error_of, unless_misnamed, one_tree, tree_reading, lexed_reading, file_reading, file_reading_of}
 
 -- ** Goals.
 
@@ -29,10 +31,10 @@ free-rest : (made : Forest) (rest : List Token) → IsFree (whole (so_far made r
 free-rest made [] = tt
 free-rest made (t ∷ ts) = no_tree
 
-free-reading : (goal : Goal) (ts : List Token) → IsFree (reading goal ts)
+free-reading : (reach : Reach) (goal : Goal) (ts : List Token) → IsFree (reading reach goal ts)
 unfolding reading
-free-reading goal ts =
-    free-bind (read_goal grammar most_levels goal ts) whole (free-goal grammar most_levels goal ts) (λ r. free-rest r.made r.rest)
+free-reading reach goal ts =
+    free-bind (read_goal (grammar_of reach) most_levels goal ts) whole (free-goal (grammar_of reach) most_levels goal ts) (λ r. free-rest r.made r.rest)
 
 -- ** Texts.
 
@@ -68,13 +70,14 @@ none-tokens : (read : List RawToken → Result Syntax SyntaxError) (raw : Option
 none-tokens read None none = λ same. cc
 none-tokens read (Some ts) none = none ts
 
-none-file : (text : List ℕ) → NeedsNone (file_reading text)
-unfolding file_reading
-none-file text =
-    none-if (nat_lt (length text) (2 ^ 32)) (lexed_reading (tree_reading goals.File text) text) (Err errors.TooLong)
-    (none-tokens (tree_reading goals.File text) (tokens text)
-    (λ raw. none-read (reading goals.File (solid_tokens raw)) (pieces text raw) (free-reading goals.File (solid_tokens raw))))
+none-file : (reach : Reach) (text : List ℕ) → NeedsNone (file_reading_of reach text)
+unfolding file_reading_of
+none-file reach text =
+    none-if (nat_lt (length text) (2 ^ 32)) (lexed_reading (tree_reading reach goals.File text) text) (Err errors.TooLong)
+    (none-tokens (tree_reading reach goals.File text) (tokens text)
+    (λ raw. none-read (reading reach goals.File (solid_tokens raw)) (pieces text raw) (free-reading reach goals.File (solid_tokens raw))))
     (λ same. cc)
 
 pub file_needs_none : (text : List ℕ) (error : SyntaxError) → file_reading text ≡ Err error → error ≢ errors.Memory
-file_needs_none text error is = IfErr-at_err (λ e. e ≢ errors.Memory) is (none-file text)
+unfolding file_reading
+file_needs_none text error is = IfErr-at_err (λ e. e ≢ errors.Memory) is (none-file Stated text)

@@ -8,16 +8,17 @@ use Rattle.ssr_syntax_kinds.specs.Kinds.{same_kind}
 use Rattle.ssr_syntax_kinds.specs.declared.kinds.SyntaxKind.{SyntaxKind}
 use Rattle.ssr_syntax_kinds.specs.declared.kinds.SyntaxKind.TheVariants.{AMP2, BIN_EXPR, LET_EXPR, RANGE_EXPR}
 use Rattle.ssr_syntax_kinds.proofs.Shared.{same_kind-equal}
+use Rattle.ssr_syntax_kinds.specs.declared.reach.Reach.{Reach}
 use Rattle.ssr_syntax_forms.specs.declared.tokens.Token.{Token}
 use Rattle.ssr_syntax_types.specs.declared.goals.Goal.{Goal}
 use Rattle.ssr_syntax_types.specs.declared.goals.Goal.TheVariants.{Expr, Condition, Operand, Unary}
 use Rattle.ssr_syntax_forms.specs.Kinds.{mem}
 use Rattle.ssr_syntax_forms.specs.Trees.{Forest, done, leaf, tree, join}
-use Rattle.ssr_syntax_forms.specs.Forms.{Form, one, child, mark, seal, ◌then◌, nothing, choose, many, look, check, taken_as}
+use Rattle.ssr_syntax_forms.specs.Forms.{Form, one, child, mark, seal, ◌then◌, nothing, choose, many, look, check, wide, taken_as}
 use Rattle.ssr_syntax_forms.specs.Fitting as rules
 use Rattle.ssr_syntax.specs.Operands.{row_in, of_ranges, of_operator, of_first_token, precedence, FirstHasAtMost, AllHaveLess, Binds, AreOperands, HasOperands, KeepsPrecedence}
 use Rattle.ssr_syntax_exprs.specs.Expressions.{assignments, ranks, at_most}
-use Rattle.ssr_syntax.specs.Grammar.{grammar}
+use Rattle.ssr_syntax.specs.Grammar.{grammar_of}
 use Rattle.ssr_syntax_forms.proofs.Shared.{every, every_mem, one_taken, FitsBelow, Step, Repeats, FitsForm, FitsGoal, at_some_level}
 
 -- ** Sketches of what is made since the mark.
@@ -189,6 +190,7 @@ made bound (choose test f g) p = wider_of (made bound f p) (made bound g p)
 made bound (many test f) p = turns (made bound f) p
 made bound (look want test) p = Some p
 made bound (check condition) p = Some p
+made bound (wide f g) p = made bound g p
 
 -- ** Steps.
 some_one : {p q : Sketch} → ◌≡◌ {A = Option Sketch} (Some p) (Some q) → p ≡ q
@@ -496,6 +498,7 @@ keeps bound fits h (many test g) p q e x z us rest (count, turns_taken) at =
     subst (λ m. IsAt m z) c.1 (repeats_at (FitsForm fits g) w turn count x z us rest turns_taken (wider_left p a.0 x at))
 keeps bound fits h (look want test) p q e x z us rest (_, z_is, _) at = subst (λ m. IsAt m z) (some_one e) (subst (IsAt p) (sym z_is) at)
 keeps bound fits h (check condition) p q e x z us rest (_, z_is, _) at = subst (λ m. IsAt m z) (some_one e) (subst (IsAt p) (sym z_is) at)
+keeps bound fits h (wide f g) p q e x z us rest fit at = keeps bound fits h g p q e x z us rest fit at
 
 -- ** The grammar.
 abbrev pub is_bounded : Option Sketch → ℕ → Bool
@@ -514,16 +517,18 @@ bound (Operand _ r) = 3 + at_most r ranks
 bound (Unary _) = 2
 bound _ = 0
 
-abbrev pub AllBounded : Type 0
-AllBounded = (goal : Goal) → is_bounded (made bound (grammar goal) start) (bound goal) ≡ true
+abbrev pub AllBounded : Reach → Type 0
+AllBounded reach = (goal : Goal) → is_bounded (made bound (grammar_of reach goal) start) (bound goal) ≡ true
 
-goals_bounded : AllBounded → (n : ℕ) → AreBounded bound (FitsGoal grammar n)
+goals_bounded : (reach : Reach) → AllBounded reach → (n : ℕ) → AreBounded bound (FitsGoal (grammar_of reach) n)
 unfolding FitsGoal
-goals_bounded all zero goal y us rest f = absurd f
-goals_bounded all (suc n) goal y us rest f =
-    let b = was_bounded (made bound (grammar goal) start) (bound goal) (all goal) in
+goals_bounded reach all zero goal y us rest f = absurd f
+goals_bounded reach all (suc n) goal y us rest f =
+    let b = was_bounded (made bound (grammar_of reach goal) start) (bound goal) (all goal) in
     within_stands b.0 (of_node (bound goal)) y b.2
-    (keeps bound (FitsGoal grammar n) (goals_bounded all n) (grammar goal) start b.0 b.1 done y us rest f ((tt, tt, refl), tt))
+    (keeps bound (FitsGoal (grammar_of reach) n) (goals_bounded reach all n) (grammar_of reach goal) start b.0 b.1 done y us rest f ((tt, tt, refl), tt))
 
-pub precedence_kept : AllBounded → (goal : Goal) (z : Forest) (us rest : List Token) → rules.Fits grammar (grammar goal) done z us rest → KeepsPrecedence z
-precedence_kept all goal z us rest f = let a = at_some_level grammar goal z us rest f in (goals_bounded all a.0 goal z us rest a.1).1
+pub precedence_kept : (reach : Reach) → AllBounded reach → (goal : Goal) (z : Forest) (us rest : List Token)
+    → rules.Fits (grammar_of reach) (grammar_of reach goal) done z us rest → KeepsPrecedence z
+precedence_kept reach all goal z us rest f =
+    let a = at_some_level (grammar_of reach) goal z us rest f in (goals_bounded reach all a.0 goal z us rest a.1).1

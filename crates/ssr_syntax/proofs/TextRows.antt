@@ -3,6 +3,7 @@ use Rattle.std.proofs.Common.{◌≡◌, ℕ, zero, suc, ◌+◌, ◌∷◌, ◌
 use Rattle.std.specs.Prelude.{Option, Ok, IsCharBoundary, slice_get, slice_range}
 use Rattle.std.specs.Str.{IsUtf8}
 use Rattle.std.proofs.lemmas.List.{length-map}
+use Rattle.ssr_syntax_kinds.specs.declared.reach.Reach.{Reach}
 use Rattle.ssr_syntax_kinds.specs.declared.kinds.SyntaxKind.{SyntaxKind}
 use Rattle.ssr_syntax_kinds.specs.declared.kinds.SyntaxKind.TheVariants as k
 use Rattle.ssr_syntax_kinds.specs.declared.token_rows.TokenRow.{TokenRow}
@@ -149,15 +150,15 @@ pub rows_count : (text : List ℕ) (rows : List TokenRow) (raw : List RawToken) 
 rows_count text rows raw are tiles = omega (arith, tiles_count text 0 raw tiles, ap length are, length-map raw row_of)
 
 -- what is written of tokens, beside the rows of the text
-pub written_of_cut : (goal : Goal) (text : List ℕ) (rows : List TokenRow) (solid given : List Token) (raw : List RawToken) (z : Forest) (out : Output)
-    (kinds : List SyntaxKind) → IsCut text rows solid raw → given ≡ solid → reading goal given ≡ Ok z → kinds ≡ map (λ row. row.kind) rows
-    → HasWritten out (writes z (unwritten kinds)) → IsWritten goal text rows out raw
-written_of_cut goal text rows solid given raw z out kinds cut same read are holds =
+pub written_of_cut : (reach : Reach) (goal : Goal) (text : List ℕ) (rows : List TokenRow) (solid given : List Token) (raw : List RawToken) (z : Forest) (out : Output)
+    (kinds : List SyntaxKind) → IsCut text rows solid raw → given ≡ solid → reading reach goal given ≡ Ok z → kinds ≡ map (λ row. row.kind) rows
+    → HasWritten out (writes z (unwritten kinds)) → IsWritten reach goal text rows out raw
+written_of_cut reach goal text rows solid given raw z out kinds cut same read are holds =
     record {
       are = cut.are;
       tiles = cut.tiles;
       spelled = cut.spelled;
-      reads = (z, ap (reading goal) (sym (same ∙ cut.solid_are)) ∙ read, subst (λ ks. HasWritten out (writes z (unwritten ks))) are holds);
+      reads = (z, ap (reading reach goal) (sym (same ∙ cut.solid_are)) ∙ read, subst (λ ks. HasWritten out (writes z (unwritten ks))) are holds);
     }
 
 -- a text that is the same is cut the same

@@ -15,6 +15,8 @@ use Rattle.ssr_syntax.specs.declared.expansions.ExpansionKind.TheVariants as exp
 use Rattle.ssr_syntax.specs.declared.syntax_error.SyntaxError.{SyntaxError}
 use Rattle.ssr_syntax.specs.declared.syntax_error.SyntaxError.TheVariants as errors
 use Rattle.ssr_syntax_rows.specs.Lossless.{IsTrimmed}
+use Rattle.ssr_syntax_kinds.specs.declared.reach.Reach.{Reach}
+use Rattle.ssr_syntax_kinds.specs.declared.reach.Reach.TheVariants.{Stated}
 use Rattle.ssr_syntax.specs.Reading.{tree_reading, lexed_reading, short_reading, FitsTokens}
 
 -- the text that tokens spell
@@ -54,22 +56,31 @@ goal_of_expansion expansions.Expr = goals.Expr Anywhere
 goal_of_expansion expansions.Items = goals.Items
 goal_of_expansion expansions.Stmts = goals.Stmts
 
-unfoldable pub expansion_reading : ExpansionKind → List ExpToken → Result Syntax SyntaxError
-expansion_reading kind tokens =
+unfoldable pub expansion_reading_of : Reach → ExpansionKind → List ExpToken → Result Syntax SyntaxError
+expansion_reading_of reach kind tokens =
     short_reading
-    (unless_refused (tree_reading (goal_of_expansion kind) (expansion_text tokens)) (raw_from 0 tokens))
+    (unless_refused (tree_reading reach (goal_of_expansion kind) (expansion_text tokens)) (raw_from 0 tokens))
     (expansion_text tokens)
+
+unfoldable pub expansion_reading : ExpansionKind → List ExpToken → Result Syntax SyntaxError
+expansion_reading kind tokens = expansion_reading_of Stated kind tokens
 
 -- ** What fits tokens: no order of reading is in it.
 
+abbrev pub FitsExpansionOf : Reach → ExpansionKind → List ExpToken → Syntax → Type 0
+FitsExpansionOf reach kind tokens syntax =
+    (raw : List RawToken) × (raw_from 0 tokens ≡ Ok raw) × FitsTokens reach (goal_of_expansion kind) (expansion_text tokens) raw syntax
+
 abbrev pub FitsExpansion : ExpansionKind → List ExpToken → Syntax → Type 0
-FitsExpansion kind tokens syntax =
-    (raw : List RawToken) × (raw_from 0 tokens ≡ Ok raw) × FitsTokens (goal_of_expansion kind) (expansion_text tokens) raw syntax
+FitsExpansion kind tokens syntax = FitsExpansionOf Stated kind tokens syntax
 
 -- what is known of the trees of tokens
-pub record IsTreeOfExpansion (kind : ExpansionKind) (tokens : List ExpToken) (syntax : Syntax) : Type 0 where
+pub record IsTreeOfExpansionOf (reach : Reach) (kind : ExpansionKind) (tokens : List ExpToken) (syntax : Syntax) : Type 0 where
   pub short : length (expansion_text tokens) < 2 ^ 32
-  pub fits : FitsExpansion kind tokens syntax
+  pub fits : FitsExpansionOf reach kind tokens syntax
   pub spells : source_of syntax ≡ expansion_text tokens
   pub shallow : depth_of syntax ≤ most_deep
   pub trimmed_nodes : IsTrimmed (plain.branch syntax.kind syntax.children plain.nothing)
+
+abbrev pub IsTreeOfExpansion : ExpansionKind → List ExpToken → Syntax → Type 0
+IsTreeOfExpansion kind tokens syntax = IsTreeOfExpansionOf Stated kind tokens syntax

@@ -29,7 +29,7 @@ of_first_token (tree kind kids x) = of_first_token x
 -- The precedence of a node. What is not named here has 0.
 abbrev pub precedence : SyntaxKind → Forest → ℕ
 precedence kind kids =
-    if mem kind (k.CALL_EXPR ∷ k.METHOD_CALL_EXPR ∷ k.FIELD_EXPR ∷ k.INDEX_EXPR ∷ k.TRY_EXPR ∷ []) then 1
+    if mem kind (k.CALL_EXPR ∷ k.METHOD_CALL_EXPR ∷ k.FIELD_EXPR ∷ k.INDEX_EXPR ∷ k.TRY_EXPR ∷ k.AWAIT_EXPR ∷ []) then 1
     else if mem kind (k.PREFIX_EXPR ∷ k.REF_EXPR ∷ []) then 2
     else if same_kind kind k.CAST_EXPR then 3
     else if same_kind kind k.BIN_EXPR then of_first_token kids

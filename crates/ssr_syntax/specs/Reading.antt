@@ -1,4 +1,4 @@
--- The reading of a list of tokens and of a text, and what fits a text.
+-- The reading of a list of tokens and of a text, and what fits a text. What names no reach is of the stated language.
 use Rattle.std.specs.Prelude.{◌≡◌, ◌≢◌, ℕ, ◌+◌, ◌-◌, ◌^◌, ◌<◌, ◌≤◌, nat_lt, true, false, ◌&&◌, if◌then◌else◌, List, [], ◌∷◌, length, reverse, Some, None, Result, Ok, Err}
 use Rattle.std.specs.Borrow.{Bor}
 use Rattle.std.specs.Str.{IsUtf8, trim, trim_start}
@@ -23,7 +23,9 @@ use Rattle.ssr_syntax_forms.specs.Fitting.{Fits}
 use Rattle.ssr_syntax_forms.specs.Forms.{SoFar, ◌>>=◌}
 use Rattle.ssr_syntax_forms.specs.Levels.{read_goal}
 use Rattle.ssr_syntax_forms.specs.declared.fault.Fault.TheVariants as faults
-use Rattle.ssr_syntax.specs.Grammar.{grammar}
+use Rattle.ssr_syntax_kinds.specs.declared.reach.Reach.{Reach}
+use Rattle.ssr_syntax_kinds.specs.declared.reach.Reach.TheVariants.{Stated}
+use Rattle.ssr_syntax.specs.Grammar.{grammar_of}
 use Rattle.ssr_syntax_rows.specs.Solid.{solid_tokens, pieces, begins_solid}
 use Rattle.ssr_syntax_rows.specs.Lossless.{whole_tree, IsTrimmed}
 use Rattle.ssr_syntax_rows.specs.MacroRules.{misnames_macros}
@@ -40,8 +42,8 @@ most_levels = 1 + most_high
 abbrev pub whole : SoFar → Result Forest Fault
 whole r = elim r.rest [ [] ↦ Ok r.made | t ∷ ts ↦ Err faults.NoTree ]
 
-unfoldable pub reading : Goal → List Token → Result Forest Fault
-reading goal tokens = read_goal grammar most_levels goal tokens >>= whole
+unfoldable pub reading : Reach → Goal → List Token → Result Forest Fault
+reading reach goal tokens = read_goal (grammar_of reach) most_levels goal tokens >>= whole
 
 -- ** The reading of a text.
 
@@ -64,9 +66,9 @@ one_tree (tree kind kids done) ts = unless_too_deep (whole_tree kind kids ts)
 one_tree (tree kind kids (leaf k us next)) ts = Err errors.NoTree
 one_tree (tree kind kids (tree k below next)) ts = Err errors.NoTree
 
-abbrev pub tree_reading : Goal → List ℕ → List RawToken → Result Syntax SyntaxError
-tree_reading goal text raw =
-    elim (reading goal (solid_tokens raw)) [ Ok z ↦ one_tree z (pieces text raw) | Err e ↦ Err (error_of e) ]
+abbrev pub tree_reading : Reach → Goal → List ℕ → List RawToken → Result Syntax SyntaxError
+tree_reading reach goal text raw =
+    elim (reading reach goal (solid_tokens raw)) [ Ok z ↦ one_tree z (pieces text raw) | Err e ↦ Err (error_of e) ]
 
 -- what is read of a text by its tokens; nothing where it has none
 abbrev pub lexed_reading : {A : Type 0} → (List RawToken → Result A SyntaxError) → List ℕ → Result A SyntaxError
@@ -77,8 +79,11 @@ abbrev pub short_reading : Result Syntax SyntaxError → List ℕ → Result Syn
 short_reading read text = if nat_lt (length text) (2 ^ 32) then read else Err errors.TooLong
 
 -- a file: white space and comments around it are children of its root
+unfoldable pub file_reading_of : Reach → List ℕ → Result Syntax SyntaxError
+file_reading_of reach text = short_reading (lexed_reading (tree_reading reach goals.File text) text) text
+
 unfoldable pub file_reading : List ℕ → Result Syntax SyntaxError
-file_reading text = short_reading (lexed_reading (tree_reading goals.File text) text) text
+file_reading text = file_reading_of Stated text
 
 -- a text without the white space around it, and how many bytes of it stood in front
 abbrev pub trimmed : List ℕ → List ℕ
@@ -95,14 +100,17 @@ goal_of fragments.Pat = goals.Pat TopLevel
 goal_of fragments.Stmt = goals.Stmt
 
 -- a fragment, around which no comment stands
-abbrev pub fragment_of : Fragment → List ℕ → Result Syntax SyntaxError
-fragment_of fragment text =
+abbrev pub fragment_of : Reach → Fragment → List ℕ → Result Syntax SyntaxError
+fragment_of reach fragment text =
     lexed_reading
-    (λ raw. if begins_solid raw && begins_solid (reverse raw) then tree_reading (goal_of fragment) text raw else Err errors.NoTree)
+    (λ raw. if begins_solid raw && begins_solid (reverse raw) then tree_reading reach (goal_of fragment) text raw else Err errors.NoTree)
     text
 
+unfoldable pub fragment_reading_of : Reach → Fragment → List ℕ → Result Syntax SyntaxError
+fragment_reading_of reach fragment text = short_reading (fragment_of reach fragment (trimmed text)) text
+
 unfoldable pub fragment_reading : Fragment → List ℕ → Result Syntax SyntaxError
-fragment_reading fragment text = short_reading (fragment_of fragment (trimmed text)) text
+fragment_reading fragment text = fragment_reading_of Stated fragment text
 
 -- ** Texts that are lexed to be read as fragments.
 
@@ -143,37 +151,54 @@ AnswersTrimmed (Err e) read text = Refuses e read text
 
 -- the tree has all tokens of the text, and is one of the goal without white space and comments; the word of each
 -- MACRO_RULES is right
-abbrev pub FitsTokens : Goal → List ℕ → List RawToken → Syntax → Type 0
-FitsTokens goal text raw syntax =
+abbrev pub FitsTokens : Reach → Goal → List ℕ → List RawToken → Syntax → Type 0
+FitsTokens reach goal text raw syntax =
     (kind : SyntaxKind) × (kids : Forest)
-    × Fits grammar (grammar goal) done (tree kind kids done) (solid_tokens raw) []
+    × Fits (grammar_of reach) (grammar_of reach goal) done (tree kind kids done) (solid_tokens raw) []
     × (syntax ≡ whole_tree kind kids (pieces text raw))
     × (misnames_macros syntax ≡ false)
 
-abbrev pub FitsFile : List ℕ → Syntax → Type 0
-FitsFile text syntax = (raw : List RawToken) × (tokens text ≡ Some raw) × FitsTokens goals.File text raw syntax
+abbrev pub FitsFileOf : Reach → List ℕ → Syntax → Type 0
+FitsFileOf reach text syntax = (raw : List RawToken) × (tokens text ≡ Some raw) × FitsTokens reach goals.File text raw syntax
 
-abbrev pub FitsFragment : Fragment → List ℕ → Syntax → Type 0
-FitsFragment fragment text syntax =
+abbrev pub FitsFile : List ℕ → Syntax → Type 0
+FitsFile text syntax = FitsFileOf Stated text syntax
+
+abbrev pub FitsFragmentOf : Reach → Fragment → List ℕ → Syntax → Type 0
+FitsFragmentOf reach fragment text syntax =
     (raw : List RawToken)
     × (tokens (trimmed text) ≡ Some raw)
     × ((begins_solid raw && begins_solid (reverse raw)) ≡ true)
-    × FitsTokens (goal_of fragment) (trimmed text) raw syntax
+    × FitsTokens reach (goal_of fragment) (trimmed text) raw syntax
+
+abbrev pub FitsFragment : Fragment → List ℕ → Syntax → Type 0
+FitsFragment fragment text syntax = FitsFragmentOf Stated fragment text syntax
 
 -- what is known of the trees of texts
-pub record IsTreeOfFile (text : List ℕ) (syntax : Syntax) : Type 0 where
+pub record IsTreeOfFileOf (reach : Reach) (text : List ℕ) (syntax : Syntax) : Type 0 where
   pub short : length text < 2 ^ 32
-  pub fits : FitsFile text syntax
+  pub fits : FitsFileOf reach text syntax
   pub spells : source_of syntax ≡ text
   pub shallow : depth_of syntax ≤ most_deep
   pub trimmed_nodes : IsTrimmed syntax.children
 
-pub record IsTreeOfFragment (fragment : Fragment) (text : List ℕ) (syntax : Syntax) : Type 0 where
+abbrev pub IsTreeOfFile : List ℕ → Syntax → Type 0
+IsTreeOfFile text syntax = IsTreeOfFileOf Stated text syntax
+
+pub record IsTreeOfFragmentOf (reach : Reach) (fragment : Fragment) (text : List ℕ) (syntax : Syntax) : Type 0 where
   pub short : length text < 2 ^ 32
-  pub fits : FitsFragment fragment text syntax
+  pub fits : FitsFragmentOf reach fragment text syntax
   pub spells : source_of syntax ≡ trimmed text
   pub shallow : depth_of syntax ≤ most_deep
   pub trimmed_nodes : IsTrimmed (plain.branch syntax.kind syntax.children plain.nothing)
+
+abbrev pub IsTreeOfFragment : Fragment → List ℕ → Syntax → Type 0
+IsTreeOfFragment fragment text syntax = IsTreeOfFragmentOf Stated fragment text syntax
+
+-- a tree is the reading in a reach of the text that it spells
+pub record IsReadOf (reach : Reach) (syntax : Syntax) : Type 0 where
+  pub text : IsUtf8 (source_of syntax)
+  pub reading : file_reading_of reach (source_of syntax) ≡ Ok syntax
 
 -- a tree is the reading of the text that it spells
 pub record IsRead (syntax : Syntax) : Type 0 where

@@ -2,13 +2,13 @@
 ghost use Rattle.std.specs.Prelude.{◌≡◌, ◌<◌, ◌≤◌, ◌^◌, [], ◌∷◌, ◌++◌, length, IfOk, IfErr};
 ghost use Rattle.ssr_syntax.specs.declared.syntax_error.SyntaxError.TheVariants.{TooLong};
 ghost use Rattle.ssr_syntax.specs.Reading.{Answers, IsThatOrTooDeep};
-ghost use Rattle.ssr_syntax.specs.Expansions.{expansion_text, expansion_reading, goal_of_expansion, FitsExpansion, IsTreeOfExpansion};
+ghost use Rattle.ssr_syntax.specs.Expansions.{expansion_text, expansion_reading, expansion_reading_of, goal_of_expansion, FitsExpansion, FitsExpansionOf, IsTreeOfExpansion, IsTreeOfExpansionOf};
 ghost use Rattle.ssr_syntax.specs.Private.Gathering.{IsLoneKind, AreGathered, behind};
 ghost use Rattle.ssr_syntax_tree.specs.Syntax.{Syntax};
 
 use crate::reading::{read_solid, token_rows};
 use crate::syntax_error::SyntaxError;
-use ssr_syntax_kinds::{SyntaxKind, TextRange, TokenRow, TokenRows};
+use ssr_syntax_kinds::{Reach, SyntaxKind, TextRange, TokenRow, TokenRows};
 use ssr_syntax_rows::solid::solid_tokens;
 use ssr_syntax_tree::Tree;
 use ssr_syntax_types::goals::{ExprPlace, Goal};
@@ -132,9 +132,31 @@ pub fn parse_tokens(
     ensures complete { (syntax : Syntax) → length (expansion_text tokens.now) < 2 ^ 32 → FitsExpansion kind tokens.now syntax
         → IsThatOrTooDeep (λ tree. tree) syntax result }
 {
+    parse_tokens_of(alloc, Reach::Stated, kind, tokens)
+}
+
+/// The same, where so much of Rust is read.
+pub fn parse_tokens_of(
+    alloc: Global,
+    reach: Reach,
+    kind: ExpansionKind,
+    tokens: &[ExpToken],
+) -> Result<Tree, SyntaxError>
+    ensures answers { Answers result (expansion_reading_of reach kind tokens.now) (expansion_text tokens.now) }
+    ensures sound { IfOk result (λ tree. IsTreeOfExpansionOf reach kind tokens.now tree) }
+    ensures complete { (syntax : Syntax) → length (expansion_text tokens.now) < 2 ^ 32 → FitsExpansionOf reach kind tokens.now syntax
+        → IsThatOrTooDeep (λ tree. tree) syntax result }
+{
     check_length(tokens)?;
     let gathered = gather(alloc, tokens)?;
     let solid = solid_tokens(alloc, &gathered.kinds)?;
     drop(gathered.kinds);
-    read_solid(alloc, kind.goal(), gathered.text, gathered.rows, solid)
+    read_solid(
+        alloc,
+        reach,
+        kind.goal(),
+        gathered.text,
+        gathered.rows,
+        solid,
+    )
 }

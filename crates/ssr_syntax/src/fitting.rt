@@ -1,14 +1,14 @@
 //! Whether a tree fits its text.
 ghost use Rattle.std.specs.Prelude.{◌≡◌, ◌≢◌, ◌↔◌, Ok, Err, IsTrue, IfOk};
 ghost use Rattle.ssr_syntax.specs.declared.syntax_error.SyntaxError.TheVariants.{Memory};
-ghost use Rattle.ssr_syntax.specs.Reading.{IsTreeOfFile, IsTreeOfFragment};
-ghost use Rattle.ssr_syntax.specs.Expansions.{IsTreeOfExpansion};
+ghost use Rattle.ssr_syntax.specs.Reading.{IsTreeOfFile, IsTreeOfFileOf, IsTreeOfFragment, IsTreeOfFragmentOf};
+ghost use Rattle.ssr_syntax.specs.Expansions.{IsTreeOfExpansion, IsTreeOfExpansionOf};
 ghost use Rattle.ssr_syntax_tree.specs.Syntax.{source_of};
 
-use crate::expansions::{ExpToken, ExpansionKind, parse_tokens};
-use crate::reading::{fragment, parse_file};
+use crate::expansions::{ExpToken, ExpansionKind, parse_tokens_of};
+use crate::reading::{fragment_of, parse_file_of};
 use crate::syntax_error::SyntaxError;
-use ssr_syntax_kinds::Fragment;
+use ssr_syntax_kinds::{Fragment, Reach};
 use ssr_syntax_tree::Tree;
 use std::alloc::{AllocError, Global};
 
@@ -28,7 +28,14 @@ fn is_answer(read: Result<Tree, SyntaxError>, tree: &Tree) -> Result<bool, Alloc
 pub fn fits_file(alloc: Global, tree: &Tree) -> Result<bool, AllocError>
     ensures { IfOk result (λ fits. IsTrue fits ↔ IsTreeOfFile (source_of tree.now) tree.now) }
 {
-    is_answer(parse_file(alloc, tree.source()), tree)
+    fits_file_of(alloc, Reach::Stated, tree)
+}
+
+/// The same, where so much of Rust is read.
+pub fn fits_file_of(alloc: Global, reach: Reach, tree: &Tree) -> Result<bool, AllocError>
+    ensures { IfOk result (λ fits. IsTrue fits ↔ IsTreeOfFileOf reach (source_of tree.now) tree.now) }
+{
+    is_answer(parse_file_of(alloc, reach, tree.source()), tree)
 }
 
 /// Whether the tree is that of its text as a fragment of this kind, in which no white space stands around it: it fits, and
@@ -36,7 +43,19 @@ pub fn fits_file(alloc: Global, tree: &Tree) -> Result<bool, AllocError>
 pub fn fits_fragment(alloc: Global, kind: Fragment, tree: &Tree) -> Result<bool, AllocError>
     ensures { IfOk result (λ fits. IsTrue fits ↔ IsTreeOfFragment kind (source_of tree.now) tree.now) }
 {
-    match fragment(alloc, kind, tree.source()) {
+    fits_fragment_of(alloc, Reach::Stated, kind, tree)
+}
+
+/// The same, where so much of Rust is read.
+pub fn fits_fragment_of(
+    alloc: Global,
+    reach: Reach,
+    kind: Fragment,
+    tree: &Tree,
+) -> Result<bool, AllocError>
+    ensures { IfOk result (λ fits. IsTrue fits ↔ IsTreeOfFragmentOf reach kind (source_of tree.now) tree.now) }
+{
+    match fragment_of(alloc, reach, kind, tree.source()) {
         Ok((read, _)) => is_answer(Ok(read), tree),
         Err(error) => is_answer(Err(error), tree),
     }
@@ -52,5 +71,18 @@ pub fn fits_tokens(
 ) -> Result<bool, AllocError>
     ensures { IfOk result (λ fits. IsTrue fits ↔ IsTreeOfExpansion kind tokens.now tree.now) }
 {
-    is_answer(parse_tokens(alloc, kind, tokens), tree)
+    fits_tokens_of(alloc, Reach::Stated, kind, tokens, tree)
+}
+
+/// The same, where so much of Rust is read.
+pub fn fits_tokens_of(
+    alloc: Global,
+    reach: Reach,
+    kind: ExpansionKind,
+    tokens: &[ExpToken],
+    tree: &Tree,
+) -> Result<bool, AllocError>
+    ensures { IfOk result (λ fits. IsTrue fits ↔ IsTreeOfExpansionOf reach kind tokens.now tree.now) }
+{
+    is_answer(parse_tokens_of(alloc, reach, kind, tokens), tree)
 }

@@ -5,7 +5,7 @@ ghost use Rattle.ssr_syntax_lex.specs.declared.tokens.RawToken.{RawToken};
 ghost use Rattle.ssr_syntax_lex.specs.Tokens.{tokens};
 ghost use Rattle.ssr_syntax_tree.specs.Syntax.{Syntax};
 ghost use Rattle.ssr_syntax.specs.Private.Reading.{end_before, kinds_begin_solid};
-ghost use Rattle.ssr_syntax.specs.Reading.{Answers, FitsFragment, IsLexedTrimmed, IsThatOrTooDeep, IsTreeOfFragment, as_token, fragment_reading, trimmed};
+ghost use Rattle.ssr_syntax.specs.Reading.{Answers, FitsFragment, FitsFragmentOf, IsLexedTrimmed, IsThatOrTooDeep, IsTreeOfFragment, IsTreeOfFragmentOf, as_token, fragment_reading, fragment_reading_of, trimmed};
 ghost use Rattle.ssr_syntax_rows.specs.Solid.{pieces};
 
 use crate::fragments::goal;
@@ -13,7 +13,7 @@ use crate::grammar::parse_as;
 use crate::reading::{check_length, token_rows, written_tree};
 use crate::syntax_error::SyntaxError;
 use ssr_syntax_forms::Token;
-use ssr_syntax_kinds::{Fragment, SyntaxKind, TokenRow, TokenRows};
+use ssr_syntax_kinds::{Fragment, Reach, SyntaxKind, TokenRow, TokenRows};
 use ssr_syntax_rows::solid::solid_tokens;
 use ssr_syntax_tree::Tree;
 use std::alloc::{AllocError, Global};
@@ -67,11 +67,26 @@ impl FragmentText {
         ensures complete { (syntax : Syntax) → length self.now < 2 ^ 32 → FitsFragment fragment self.now syntax
             → IsThatOrTooDeep (λ tree. tree) syntax result }
     {
+        self.read_of(alloc, Reach::Stated, fragment)
+    }
+
+    /// The same, where so much of Rust is read.
+    pub fn read_of(
+        &self,
+        alloc: Global,
+        reach: Reach,
+        fragment: Fragment,
+    ) -> Result<Tree, SyntaxError>
+        ensures answers { Answers result (fragment_reading_of reach fragment self.now) self.now }
+        ensures sound { IfOk result (λ tree. IsTreeOfFragmentOf reach fragment self.now tree) }
+        ensures complete { (syntax : Syntax) → length self.now < 2 ^ 32 → FitsFragmentOf reach fragment self.now syntax
+            → IsThatOrTooDeep (λ tree. tree) syntax result }
+    {
         check_length(self.text.as_str())?;
         if !is_solid_outside(self.rows.kinds()) {
             return Err(SyntaxError::NoTree);
         }
-        let written = parse_as(alloc, goal(fragment), &self.solid, self.rows.kinds())?;
+        let written = parse_as(alloc, reach, goal(fragment), &self.solid, self.rows.kinds())?;
         // A tree owns its text and its rows. They are copied only where the tokens are those of a tree.
         let text = String::from_str(alloc, self.text.as_str().trim())?;
         let rows = copied(alloc, &self.rows)?;

@@ -2,9 +2,10 @@
 ghost use Rattle.std.specs.Prelude.{◌≡◌, ◌<◌, ◌≤◌, ◌^◌, List, length, Some, IfOk, IfErr, string_bytes};
 ghost use Rattle.ssr_syntax.specs.declared.syntax_error.SyntaxError.TheVariants.{TooLong};
 ghost use Rattle.ssr_syntax_lex.specs.Tokens.{tokens, rows_in};
-ghost use Rattle.ssr_syntax.specs.Reading.{Answers, AnswersTrimmed, tree_reading, file_reading, fragment_reading, FitsFile, FitsFragment, IsRead, IsTreeOfFile, IsTreeOfFragment, IsThatOrTooDeep};
+ghost use Rattle.ssr_syntax.specs.Reading.{Answers, AnswersTrimmed, tree_reading, file_reading, file_reading_of, fragment_reading, fragment_reading_of, FitsFile, FitsFileOf, FitsFragment, FitsFragmentOf, IsRead, IsReadOf, IsTreeOfFile, IsTreeOfFileOf, IsTreeOfFragment, IsTreeOfFragmentOf, IsThatOrTooDeep};
 ghost use Rattle.ssr_syntax.specs.Private.Reading.{IsLexed, IsCut, IsWritten};
 ghost use Rattle.ssr_syntax_lex.specs.declared.tokens.RawToken.{RawToken};
+ghost use Rattle.ssr_syntax_kinds.specs.declared.reach.Reach.{Reach};
 ghost use Rattle.ssr_syntax_types.specs.declared.goals.Goal.{Goal};
 ghost use Rattle.ssr_syntax_tree.specs.Syntax.{Syntax};
 
@@ -13,7 +14,7 @@ use crate::fragments::goal;
 use crate::grammar::parse_as;
 use crate::syntax_error::SyntaxError;
 use ssr_syntax_forms::{Output, Token};
-use ssr_syntax_kinds::{Fragment, TokenRows};
+use ssr_syntax_kinds::{Fragment, Reach, TokenRows};
 use ssr_syntax_lex::{LexError, lex_rows};
 use ssr_syntax_rows::macro_rules::misnames_macros;
 use ssr_syntax_rows::preorder::node_rows;
@@ -46,9 +47,10 @@ pub(crate) fn token_rows(alloc: Global, text: &str) -> Result<TokenRows, SyntaxE
     }
 }
 
-/// The tree that a text with these rows is, read as the goal.
+/// The tree that a text with these rows is, read as the goal in the reach.
 fn read_tokens(
     alloc: Global,
+    reach: Reach,
     goal: Goal,
     text: String,
     rows: TokenRows,
@@ -56,15 +58,16 @@ fn read_tokens(
     requires short { length (string_bytes text) < 2 ^ 32 }
     requires lexed { rows_in (string_bytes text) ≡ Some rows }
     ensures { (raw : List RawToken) → tokens (string_bytes text) ≡ Some raw
-        → Answers result (tree_reading goal (string_bytes text) raw) (string_bytes text) }
+        → Answers result (tree_reading reach goal (string_bytes text) raw) (string_bytes text) }
 {
     let solid = solid_tokens(alloc, rows.kinds())?;
-    read_solid(alloc, goal, text, rows, solid)
+    read_solid(alloc, reach, goal, text, rows, solid)
 }
 
-/// The tree that a text is, read as the goal, of which these are the rows and the solid tokens.
+/// The tree that a text is, read as the goal in the reach, of which these are the rows and the solid tokens.
 pub(crate) fn read_solid(
     alloc: Global,
+    reach: Reach,
     goal: Goal,
     text: String,
     rows: TokenRows,
@@ -73,9 +76,9 @@ pub(crate) fn read_solid(
     requires short { length (string_bytes text) < 2 ^ 32 }
     requires cut { (raw : List RawToken) × IsCut (string_bytes text) rows solid.items raw }
     ensures { (raw : List RawToken) → IsCut (string_bytes text) rows solid.items raw
-        → Answers result (tree_reading goal (string_bytes text) raw) (string_bytes text) }
+        → Answers result (tree_reading reach goal (string_bytes text) raw) (string_bytes text) }
 {
-    let written = parse_as(alloc, goal, &solid, rows.kinds())?;
+    let written = parse_as(alloc, reach, goal, &solid, rows.kinds())?;
     // The solid tokens are dropped as soon as they are read, which keeps the most memory in use low.
     drop(solid);
     written_tree(alloc, text, rows, written)
@@ -89,9 +92,9 @@ pub(crate) fn written_tree(
     written: Output,
 ) -> Result<Tree, SyntaxError>
     requires short { length (string_bytes text) < 2 ^ 32 }
-    requires written { (goal : Goal) × (raw : List RawToken) × IsWritten goal (string_bytes text) rows written raw }
-    ensures { (goal : Goal) (raw : List RawToken) → IsWritten goal (string_bytes text) rows written raw
-        → Answers result (tree_reading goal (string_bytes text) raw) (string_bytes text) }
+    requires written { (reach : Reach) × (goal : Goal) × (raw : List RawToken) × IsWritten reach goal (string_bytes text) rows written raw }
+    ensures { (reach : Reach) (goal : Goal) (raw : List RawToken) → IsWritten reach goal (string_bytes text) rows written raw
+        → Answers result (tree_reading reach goal (string_bytes text) raw) (string_bytes text) }
 {
     let tokens = tree_tokens(rows, &written.joined);
     let nodes = node_rows(alloc, written.rows, tokens.len() as u32)?;
@@ -109,8 +112,19 @@ pub fn parse_file(alloc: Global, text: &str) -> Result<Tree, SyntaxError>
     ensures read { IfOk result IsRead }
     ensures complete { (syntax : Syntax) → length text.now < 2 ^ 32 → FitsFile text.now syntax → IsThatOrTooDeep (λ tree. tree) syntax result }
 {
+    parse_file_of(alloc, Reach::Stated, text)
+}
+
+/// The same, where so much of Rust is read.
+pub fn parse_file_of(alloc: Global, reach: Reach, text: &str) -> Result<Tree, SyntaxError>
+    ensures answers { Answers result (file_reading_of reach text.now) text.now }
+    ensures sound { IfOk result (λ tree. IsTreeOfFileOf reach text.now tree) }
+    ensures read { IfOk result (IsReadOf reach) }
+    ensures complete { (syntax : Syntax) → length text.now < 2 ^ 32 → FitsFileOf reach text.now syntax
+        → IsThatOrTooDeep (λ tree. tree) syntax result }
+{
     check_length(text)?;
-    parse_file_owned(alloc, String::from_str(alloc, text)?)
+    parse_file_owned_of(alloc, reach, String::from_str(alloc, text)?)
 }
 
 /// The syntax tree of a file, of which the text becomes the source: it isn't copied.
@@ -121,8 +135,19 @@ pub fn parse_file_owned(alloc: Global, text: String) -> Result<Tree, SyntaxError
     ensures complete { (syntax : Syntax) → length (string_bytes text) < 2 ^ 32 → FitsFile (string_bytes text) syntax
         → IsThatOrTooDeep (λ tree. tree) syntax result }
 {
+    parse_file_owned_of(alloc, Reach::Stated, text)
+}
+
+/// The same, where so much of Rust is read.
+pub fn parse_file_owned_of(alloc: Global, reach: Reach, text: String) -> Result<Tree, SyntaxError>
+    ensures answers { Answers result (file_reading_of reach (string_bytes text)) (string_bytes text) }
+    ensures sound { IfOk result (λ tree. IsTreeOfFileOf reach (string_bytes text) tree) }
+    ensures read { IfOk result (IsReadOf reach) }
+    ensures complete { (syntax : Syntax) → length (string_bytes text) < 2 ^ 32 → FitsFileOf reach (string_bytes text) syntax
+        → IsThatOrTooDeep (λ tree. tree) syntax result }
+{
     let rows = token_rows(alloc, text.as_str())?;
-    read_tokens(alloc, Goal::File, text, rows)
+    read_tokens(alloc, reach, Goal::File, text, rows)
 }
 
 /// The syntax tree of a text without the white space around it, and how many bytes of that stand in front. The tree's
@@ -133,6 +158,21 @@ pub fn fragment(alloc: Global, fragment: Fragment, text: &str) -> Result<(Tree, 
     ensures complete { (syntax : Syntax) → length text.now < 2 ^ 32 → FitsFragment fragment text.now syntax
         → IsThatOrTooDeep (λ answer. answer.0) syntax result }
 {
+    fragment_of(alloc, Reach::Stated, fragment, text)
+}
+
+/// The same, where so much of Rust is read.
+pub fn fragment_of(
+    alloc: Global,
+    reach: Reach,
+    fragment: Fragment,
+    text: &str,
+) -> Result<(Tree, u32), SyntaxError>
+    ensures answers { AnswersTrimmed result (fragment_reading_of reach fragment text.now) text.now }
+    ensures sound { IfOk result (λ answer. IsTreeOfFragmentOf reach fragment text.now answer.0) }
+    ensures complete { (syntax : Syntax) → length text.now < 2 ^ 32 → FitsFragmentOf reach fragment text.now syntax
+        → IsThatOrTooDeep (λ answer. answer.0) syntax result }
+{
     check_length(text)?;
     let inner = text.trim();
     let rows = token_rows(alloc, inner)?;
@@ -141,6 +181,6 @@ pub fn fragment(alloc: Global, fragment: Fragment, text: &str) -> Result<(Tree, 
     }
     let front = text.len().saturating_sub(text.trim_start().len()) as u32;
     let source = String::from_str(alloc, inner)?;
-    let tree = read_tokens(alloc, goal(fragment), source, rows)?;
+    let tree = read_tokens(alloc, reach, goal(fragment), source, rows)?;
     Ok((tree, front))
 }

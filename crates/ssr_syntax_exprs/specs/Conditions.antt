@@ -1,12 +1,12 @@
 -- Forms of conditions, which may begin with LET_EXPR, or have it behind `&&`.
-use Rattle.std.specs.Prelude.{[], ◌∷◌}
+use Rattle.std.specs.Prelude.{Bool, [], ◌∷◌}
 use Rattle.ssr_syntax_kinds.specs.declared.kinds.SyntaxKind.TheVariants as k
 use Rattle.ssr_syntax_types.specs.declared.goals.Goal.{Goal}
 use Rattle.ssr_syntax_types.specs.declared.goals.Goal.TheVariants.{Operand, Pat}
 use Rattle.ssr_syntax_types.specs.declared.goals.ExprPlace.{ExprPlace}
 use Rattle.ssr_syntax_types.specs.declared.goals.ExprPlace.TheVariants.{Anywhere, BeforeBlock}
 use Rattle.ssr_syntax_types.specs.declared.goals.PatPlace.TheVariants.{TopLevel}
-use Rattle.ssr_syntax_forms.specs.Forms.{Form, Test, ◌then◌, child, mark, seal, choose, decide, a, at, repeated, as_long_as}
+use Rattle.ssr_syntax_forms.specs.Forms.{Form, Test, ◌then◌, child, mark, seal, choose, decide, wide, a, at, repeated, as_long_as_by}
 use Rattle.ssr_syntax_types.specs.PatternSets.{ranges}
 use Rattle.ssr_syntax_exprs.specs.Atoms.{leaving_expr, leaving_first, operand_first}
 use Rattle.ssr_syntax_exprs.specs.Expressions.{and_rank, leading_range, operand, operation, operations, or_rank, range_or_assignment}
@@ -14,8 +14,8 @@ use Rattle.ssr_syntax_exprs.specs.Expressions.{and_rank, leading_range, operand,
 abbrev pub and_let_ahead : Test
 and_let_ahead = ((k.AMP2 ∷ []) ∷ (k.LET_KW ∷ []) ∷ []) ∷ []
 
-abbrev pub and_operand_ahead : Test
-and_operand_ahead = ((k.AMP2 ∷ []) ∷ operand_first ∷ []) ∷ []
+abbrev pub and_operand_ahead : Bool → Test
+and_operand_ahead is_whole = ((k.AMP2 ∷ []) ∷ operand_first is_whole ∷ []) ∷ []
 
 unfoldable pub let_expr : ExprPlace → Form Goal
 let_expr place = a k.LET_KW then child (Pat TopLevel) then a k.EQ then child (Operand place and_rank) then seal k.LET_EXPR
@@ -52,7 +52,7 @@ conjunction_end place = decide and_let_ahead (lets_behind place) (looser place)
 
 unfoldable pub conjunction : ExprPlace → Form Goal
 conjunction place =
-    operand place and_rank then as_long_as and_operand_ahead (operation place and_rank) then conjunction_end place
+    operand place and_rank then as_long_as_by and_operand_ahead (operation place and_rank) then conjunction_end place
 
 unfoldable pub condition_of : ExprPlace → Form Goal
 condition_of place =
@@ -60,6 +60,9 @@ condition_of place =
     (choose (at ranges) (leading_range place)
     (conjunction place))
 
+unfoldable pub leaving_or_condition : Form Goal
+leaving_or_condition = choose (at leaving_first) leaving_expr (condition_of Anywhere)
+
 unfoldable pub condition : ExprPlace → Form Goal
-condition Anywhere = choose (at leaving_first) leaving_expr (condition_of Anywhere)
+condition Anywhere = wide (condition_of Anywhere) leaving_or_condition
 condition BeforeBlock = condition_of BeforeBlock

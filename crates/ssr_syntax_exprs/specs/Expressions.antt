@@ -1,18 +1,19 @@
 -- Forms of expressions by how tightly they bind.
-use Rattle.std.specs.Prelude.{ℕ, zero, suc, true, false, List, [], ◌∷◌, length}
+use Rattle.std.specs.Prelude.{ℕ, zero, suc, Bool, true, false, List, [], ◌∷◌, ◌++◌, length}
 use Rattle.ssr_syntax_kinds.specs.declared.kinds.SyntaxKind.{SyntaxKind}
 use Rattle.ssr_syntax_kinds.specs.declared.kinds.SyntaxKind.TheVariants as k
 use Rattle.ssr_syntax_types.specs.declared.goals.Goal.{Goal}
 use Rattle.ssr_syntax_types.specs.declared.goals.Goal.TheVariants.{Expr, Operand, Unary, Ty, GenericArgs}
 use Rattle.ssr_syntax_types.specs.declared.goals.ExprPlace.{ExprPlace}
 use Rattle.ssr_syntax_types.specs.declared.goals.ExprPlace.TheVariants.{Anywhere, BeforeBlock}
-use Rattle.ssr_syntax_forms.specs.Forms.{Form, ◌then◌, child, mark, seal, choose, decide, look, a, any, part, at, optional, repeated, comma_list}
+use Rattle.ssr_syntax_forms.specs.Forms.{Form, Test, ◌then◌, child, mark, seal, choose, decide, look, also, also_decide, wide, look_by, a, any, part, at, optional, optional_by, repeated, comma_list_by}
 use Rattle.ssr_syntax_types.specs.Literals.{literal, literals}
 use Rattle.ssr_syntax_types.specs.Paths.{colon_angle, name_ref, number_ref, path_first}
-use Rattle.ssr_syntax_types.specs.Types.{ampersands}
+use Rattle.ssr_syntax_types.specs.Types.{ampersands, pointer_words}
+use Rattle.ssr_syntax_types.specs.TokenTrees.{some_attrs}
 use Rattle.ssr_syntax_types.specs.PatternSets.{ranges}
 use Rattle.ssr_syntax_exprs.specs.Blocks.{block_like}
-use Rattle.ssr_syntax_exprs.specs.Atoms.{array_expr, braceless_first, continue_expr, expr_first, expr_in_parentheses, leaving_expr, leaving_first, operand_first, path_expr}
+use Rattle.ssr_syntax_exprs.specs.Atoms.{array_expr, async_block, async_closure, async_closure_ahead, braceless_first, continue_expr, expr_first, expr_in_parentheses, leaving_expr, leaving_first, operand_first, path_expr, underscore_expr}
 
 abbrev pub prefix_operators : List SyntaxKind
 prefix_operators = k.MINUS ∷ k.BANG ∷ k.STAR ∷ []
@@ -29,6 +30,9 @@ assignments =
 
 -- ** What stands for itself.
 
+unfoldable pub block_or_mark : Form Goal
+block_or_mark = also (k.ASYNC_KW ∷ []) (mark async_block) (also (k.UNDERSCORE ∷ []) (mark underscore_expr) block_like)
+
 unfoldable pub atom : ExprPlace → Form Goal
 atom place =
     choose (at path_first) (mark (path_expr place))
@@ -36,12 +40,12 @@ atom place =
     (choose (at (k.L_PAREN ∷ [])) (mark expr_in_parentheses)
     (choose (at (k.L_BRACK ∷ [])) (mark array_expr)
     (choose (at (k.CONTINUE_KW ∷ [])) (mark continue_expr)
-    block_like))))
+    block_or_mark))))
 
 -- ** What goes on with an expression, which is all since the mark.
 
 unfoldable pub arg_list : Form Goal
-arg_list = a k.L_PAREN then comma_list expr_first (child (Expr Anywhere)) then a k.R_PAREN then seal k.ARG_LIST
+arg_list = a k.L_PAREN then comma_list_by expr_first (child (Expr Anywhere)) then a k.R_PAREN then seal k.ARG_LIST
 
 unfoldable pub call_expr : Form Goal
 call_expr = mark arg_list then seal k.CALL_EXPR
@@ -72,8 +76,14 @@ named_member = mark name_ref then (choose (at (k.L_PAREN ∷ [])) method_call_ex
 unfoldable pub numbered_member : Form Goal
 numbered_member = mark number_ref then seal k.FIELD_EXPR
 
+unfoldable pub field_or_method : Form Goal
+field_or_method = choose (at (k.INT_NUMBER ∷ [])) numbered_member named_member
+
+unfoldable pub await_expr : Form Goal
+await_expr = a k.AWAIT_KW then seal k.AWAIT_EXPR
+
 unfoldable pub member : Form Goal
-member = a k.DOT then (choose (at (k.INT_NUMBER ∷ [])) numbered_member named_member)
+member = a k.DOT then also (k.AWAIT_KW ∷ []) await_expr field_or_method
 
 unfoldable pub postfix : Form Goal
 postfix =
@@ -90,18 +100,57 @@ postfix_expr place = atom place then postfixes
 
 -- ** Operators in front.
 
+abbrev pub raw_ahead : Test
+raw_ahead = ((k.IDENT ∷ []) ∷ pointer_words ∷ []) ∷ []
+
+-- an identifier elsewhere: of which one it is, the tree's text is asked
+unfoldable pub raw_word : Form Goal
+raw_word = a k.IDENT then seal k.RAW_KW
+
+unfoldable pub raw_words : Form Goal
+raw_words = mark raw_word then any pointer_words
+
+unfoldable pub ref_words : Form Goal
+ref_words = also_decide raw_ahead raw_words (optional (k.MUT_KW ∷ []) (a k.MUT_KW))
+
 -- of `&&`, the first one alone
 unfoldable pub ref_expr : ExprPlace → Form Goal
-ref_expr place = part ampersands then optional (k.MUT_KW ∷ []) (a k.MUT_KW) then child (Unary place) then seal k.REF_EXPR
+ref_expr place = part ampersands then ref_words then child (Unary place) then seal k.REF_EXPR
 
 unfoldable pub prefix_expr : ExprPlace → Form Goal
 prefix_expr place = any prefix_operators then child (Unary place) then seal k.PREFIX_EXPR
+
+-- an operand behind attributes, of all of Rust
+unfoldable pub attr_expr : ExprPlace → Form Goal
+attr_expr place = some_attrs then look false (at (k.POUND ∷ [])) then child (Unary place) then seal k.ATTR_EXPR
+
+-- what goes on with any expression: an operator, an assignment, a range or a cast
+unfoldable pub operator_first : List SyntaxKind
+operator_first =
+    k.STAR ∷ k.SLASH ∷ k.PERCENT ∷ k.PLUS ∷ k.MINUS ∷ k.SHL ∷ k.SHR ∷ k.AMP ∷ k.CARET ∷ k.PIPE ∷ k.EQ2 ∷ k.NEQ ∷ k.L_ANGLE ∷
+    k.R_ANGLE ∷ k.LTEQ ∷ k.GTEQ ∷ k.AMP2 ∷ k.PIPE2 ∷ k.DOT2 ∷ k.DOT2EQ ∷ k.AS_KW ∷ assignments
+
+-- a closure, `return` or `break` as an operand: what follows belongs to it, as far as it can
+unfoldable pub leaving_operand : Form Goal
+leaving_operand = leaving_expr then look false (at operator_first)
+
+unfoldable pub async_operand : Form Goal
+async_operand = mark async_closure then look false (at operator_first)
+
+-- before a block stands none
+unfoldable pub leaving_or_postfix : ExprPlace → Form Goal
+leaving_or_postfix Anywhere =
+    also leaving_first leaving_operand (also_decide async_closure_ahead async_operand (postfix_expr Anywhere))
+leaving_or_postfix BeforeBlock = postfix_expr BeforeBlock
+
+unfoldable pub attributed_or_postfix : ExprPlace → Form Goal
+attributed_or_postfix place = also (k.POUND ∷ []) (mark (attr_expr place)) (leaving_or_postfix place)
 
 unfoldable pub unary : ExprPlace → Form Goal
 unary place =
     choose (at ampersands) (mark (ref_expr place))
     (choose (at prefix_operators) (mark (prefix_expr place))
-    (postfix_expr place))
+    (attributed_or_postfix place))
 
 -- ** Casts.
 
@@ -171,15 +220,15 @@ operand place rank = unary place then climb place rank
 -- ** Ranges.
 
 -- what the right operand of a range begins with: before a block it is no brace
-unfoldable pub ends_first : ExprPlace → List SyntaxKind
-ends_first Anywhere = operand_first
-ends_first BeforeBlock = braceless_first
+unfoldable pub ends_first : ExprPlace → Bool → List SyntaxKind
+ends_first Anywhere is_whole = operand_first is_whole
+ends_first BeforeBlock is_whole = braceless_first is_whole
 
 unfoldable pub range_end : ExprPlace → Form Goal
-range_end place = look true (at (ends_first place)) then child (Operand place all_ranks)
+range_end place = look_by true (ends_first place) then child (Operand place all_ranks)
 
 unfoldable pub to_range : ExprPlace → Form Goal
-to_range place = a k.DOT2 then optional (ends_first place) (range_end place) then seal k.RANGE_EXPR
+to_range place = a k.DOT2 then optional_by (ends_first place) (range_end place) then seal k.RANGE_EXPR
 
 unfoldable pub to_inclusive_range : ExprPlace → Form Goal
 to_inclusive_range place = a k.DOT2EQ then range_end place then seal k.RANGE_EXPR
@@ -204,6 +253,10 @@ unfoldable pub ranked : ExprPlace → Form Goal
 ranked place = choose (at ranges) (leading_range place) (operand place all_ranks then range_or_assignment place)
 
 -- before a block stands no `return`, `break` or closure
+unfoldable pub leaving_or_ranked : Form Goal
+leaving_or_ranked = choose (at leaving_first) leaving_expr (ranked Anywhere)
+
+-- in all of Rust what leaves is an operand
 unfoldable pub expr : ExprPlace → Form Goal
-expr Anywhere = choose (at leaving_first) leaving_expr (ranked Anywhere)
+expr Anywhere = wide (ranked Anywhere) leaving_or_ranked
 expr BeforeBlock = ranked BeforeBlock

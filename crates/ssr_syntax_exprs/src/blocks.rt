@@ -9,16 +9,17 @@ use ssr_syntax_types::goals::{ExprPlace, Goal, PatPlace};
 use ssr_syntax_types::paths::lifetime;
 use ssr_syntax_types::pattern_sets::PatFirst;
 use ssr_syntax_types::reader::Reader;
+use ssr_syntax_types::token_trees::inner_attrs;
 
-/// What a block-like expression begins with, but for `{`.
+/// What a block-like expression of the stated language begins with, but for `{`.
 #[derive(Clone, Copy)]
-pub(crate) struct BlockWords;
+struct StatedBlockWords;
 
-impl TokenSet for BlockWords {
-    ghost kinds = { λ _. form.block_words };
+impl TokenSet for StatedBlockWords {
+    ghost kinds = { λ _. form.stated_block_words };
 
     #[inline(always)]
-    #[tactic(auto, unfolding(crate::specs::Blocks::block_words))]
+    #[tactic(auto, unfolding(crate::specs::Blocks::stated_block_words))]
     fn contains(self, kind: SyntaxKind) -> bool {
         matches!(
             kind,
@@ -27,17 +28,44 @@ impl TokenSet for BlockWords {
     }
 }
 
-/// What a block-like expression begins with.
+/// What else a block-like expression of all of Rust begins with.
 #[derive(Clone, Copy)]
-pub struct BlockFirst;
+struct WholeBlockWords;
+
+impl TokenSet for WholeBlockWords {
+    ghost kinds = { λ _. form.whole_block_words };
+
+    #[inline(always)]
+    fn contains(self, kind: SyntaxKind) -> bool {
+        matches!(kind, CONST_KW)
+    }
+}
+
+/// What a block-like expression begins with, but for `{`; with `true`, where all of Rust is read.
+#[derive(Clone, Copy)]
+pub(crate) struct BlockWords(pub(crate) bool);
+
+impl TokenSet for BlockWords {
+    ghost kinds = { λ s. form.block_words s.0 };
+
+    #[inline(always)]
+    #[tactic(auto, using(ssr_syntax_forms::proofs::Shared::mem_append, ssr_syntax_forms::proofs::Shared::mem_where_whole), unfolding(crate::specs::Blocks::block_words))]
+    fn contains(self, kind: SyntaxKind) -> bool {
+        StatedBlockWords.contains(kind) || self.0 && WholeBlockWords.contains(kind)
+    }
+}
+
+/// What a block-like expression begins with; with `true`, where all of Rust is read.
+#[derive(Clone, Copy)]
+pub struct BlockFirst(pub bool);
 
 impl TokenSet for BlockFirst {
-    ghost kinds = { λ _. form.block_first };
+    ghost kinds = { λ s. form.block_first s.0 };
 
     #[inline(always)]
     #[tactic(auto, unfolding(crate::specs::Blocks::block_first))]
     fn contains(self, kind: SyntaxKind) -> bool {
-        matches!(kind, L_CURLY) || BlockWords.contains(kind)
+        matches!(kind, L_CURLY) || BlockWords(self.0).contains(kind)
     }
 }
 
@@ -206,6 +234,7 @@ fn match_arm_list<R: Reader>(goals: &R, p: &mut Parser<'_>) -> Result<(), Fault>
 {
     let m = p.start();
     p.expect(L_CURLY)?;
+    inner_attrs(goals, p)?;
     p.repeated(ArmFirst, |p| goals.read(p, Goal::Arm))?;
     p.expect(R_CURLY)?;
     p.complete(&m, MATCH_ARM_LIST)
@@ -224,11 +253,36 @@ fn match_expr<R: Reader>(goals: &R, p: &mut Parser<'_>) -> Result<(), Fault>
     p.complete(&m, MATCH_EXPR)
 }
 
+/// BLOCK_EXPR: `const` and a STMT_LIST.
+#[tactic(auto, unfolding(crate::specs::Blocks::const_block))]
+fn const_block<R: Reader>(goals: &R, p: &mut Parser<'_>) -> Result<(), Fault>
+    requires { R.can_read goals.now }
+    ensures { Runs (R.reads goals.now) form.const_block p.old p.new result }
+{
+    let m = p.start();
+    p.expect(CONST_KW)?;
+    goals.read(p, Goal::StmtList)?;
+    p.complete(&m, BLOCK_EXPR)
+}
+
 /// An expression that ends with a block and needs no `;` as a statement.
-#[tactic(auto, unfolding(crate::specs::Blocks::block_like))]
+#[tactic(auto, using(ssr_syntax_forms::proofs::Shared::run_also), unfolding(crate::specs::Blocks::block_like))]
 pub fn block_like<R: Reader>(goals: &R, p: &mut Parser<'_>) -> Result<(), Fault>
     requires { R.can_read goals.now }
     ensures { RunsAnywhere (R.reads goals.now) form.block_like p.old p.new result }
+{
+    if p.at(CONST_KW) && goals.is_whole() {
+        const_block(goals, p)
+    } else {
+        stated_block_like(goals, p)
+    }
+}
+
+/// The same, as the stated language has it.
+#[tactic(auto, unfolding(crate::specs::Blocks::stated_block_like))]
+fn stated_block_like<R: Reader>(goals: &R, p: &mut Parser<'_>) -> Result<(), Fault>
+    requires { R.can_read goals.now }
+    ensures { RunsAnywhere (R.reads goals.now) form.stated_block_like p.old p.new result }
 {
     if p.at(IF_KW) {
         let n = p.start();

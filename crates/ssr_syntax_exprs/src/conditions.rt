@@ -182,7 +182,7 @@ fn conjunction_end<R: Reader>(
 }
 
 /// A condition that begins with an operand.
-#[tactic(auto, using(ssr_syntax_forms::proofs::Shared::run_as_long_as), unfolding(crate::specs::Conditions::conjunction))]
+#[tactic(auto, using(ssr_syntax_forms::proofs::Shared::run_as_long_as_by), unfolding(crate::specs::Conditions::conjunction))]
 fn conjunction<R: Reader>(
     goals: &R,
     p: &mut Parser<'_>,
@@ -195,7 +195,7 @@ fn conjunction<R: Reader>(
     operand(goals, p, m, place, AND_RANK)?;
     p.repeated_two(
         AMP2,
-        OperandFirst,
+        OperandFirst(goals.is_whole()),
         |p| operation(goals, p, m, place, AND_RANK),
     )?;
     conjunction_end(goals, p, m, place)
@@ -221,6 +221,19 @@ fn condition_of<R: Reader>(
     }
 }
 
+/// RETURN_EXPR, BREAK_EXPR or CLOSURE_EXPR, or a condition that is none of them.
+#[tactic(auto, unfolding(crate::specs::Conditions::leaving_or_condition))]
+fn leaving_or_condition<R: Reader>(goals: &R, p: &mut Parser<'_>, m: &Mark<'_>) -> Result<(), Fault>
+    requires { R.can_read goals.now }
+    ensures { RunsFrom (R.reads goals.now) form.leaving_or_condition m.now p.old p.new result }
+{
+    if p.at_any(LeavingFirst) {
+        leaving_expr(goals, p)
+    } else {
+        condition_of(goals, p, m, ExprPlace::Anywhere)
+    }
+}
+
 /// The condition of `if` and `while`, which stands before a block, or that of an arm.
 #[tactic(auto, unfolding(crate::specs::Conditions::condition))]
 pub fn condition<R: Reader>(goals: &R, p: &mut Parser<'_>, place: ExprPlace) -> Result<(), Fault>
@@ -230,10 +243,10 @@ pub fn condition<R: Reader>(goals: &R, p: &mut Parser<'_>, place: ExprPlace) -> 
     let m = p.start();
     match place {
         ExprPlace::Anywhere => {
-            if p.at_any(LeavingFirst) {
-                leaving_expr(goals, p)
-            } else {
+            if goals.is_whole() {
                 condition_of(goals, p, &m, ExprPlace::Anywhere)
+            } else {
+                leaving_or_condition(goals, p, &m)
             }
         }
         ExprPlace::BeforeBlock => condition_of(goals, p, &m, ExprPlace::BeforeBlock),

@@ -5,8 +5,8 @@ ghost use Rattle.ssr_syntax_exprs.specs.Private.Ranks.{next_rank, rank_of};
 ghost use Rattle.ssr_syntax_forms.specs.Runs.{Runs, RunsAnywhere, RunsFrom};
 
 use crate::atoms::{
-    BracelessFirst, ExprFirst, LeavingFirst, OperandFirst, array_expr, continue_expr,
-    expr_in_parentheses, leaving_expr, path_expr,
+    BracelessFirst, ExprFirst, LeavingFirst, OperandFirst, array_expr, async_block, async_closure,
+    at_async_closure, continue_expr, expr_in_parentheses, leaving_expr, path_expr, underscore_expr,
 };
 use crate::blocks::block_like;
 use ssr_syntax_forms::{Fault, Mark, Parser, TokenSet};
@@ -17,7 +17,8 @@ use ssr_syntax_types::literals::{Literals, literal};
 use ssr_syntax_types::paths::{OpenAngle, PathFirst, name_ref, number_ref};
 use ssr_syntax_types::pattern_sets::Ranges;
 use ssr_syntax_types::reader::Reader;
-use ssr_syntax_types::types::Ampersands;
+use ssr_syntax_types::token_trees::some_attrs;
+use ssr_syntax_types::types::{Ampersands, PointerWords};
 
 /// The operators in front of an operand.
 #[derive(Clone, Copy)]
@@ -71,6 +72,25 @@ impl TokenSet for Assignments {
     }
 }
 
+/// What goes on with any expression: an operator, an assignment, a range or a cast.
+#[derive(Clone, Copy)]
+struct OperatorFirst;
+
+impl TokenSet for OperatorFirst {
+    ghost kinds = { λ _. form.operator_first };
+
+    #[inline(always)]
+    #[tactic(auto, unfolding(crate::specs::Expressions::operator_first))]
+    fn contains(self, kind: SyntaxKind) -> bool {
+        match kind {
+            STAR | SLASH | PERCENT | PLUS | MINUS | SHL | SHR | AMP | CARET | PIPE => true,
+            EQ2 | NEQ | L_ANGLE | R_ANGLE | LTEQ | GTEQ | AMP2 | PIPE2 => true,
+            DOT2 | DOT2EQ | AS_KW => true,
+            _ => Assignments.contains(kind),
+        }
+    }
+}
+
 /// How many ranks of operators between two operands there are.
 pub const RANKS: Rank = 9;
 
@@ -105,19 +125,19 @@ impl TokenSet for Operators {
     }
 }
 
-/// What the right operand of a range begins with.
+/// What the right operand of a range begins with; with `true`, where all of Rust is read.
 #[derive(Clone, Copy)]
-struct EndsFirst(ExprPlace);
+struct EndsFirst(ExprPlace, bool);
 
 impl TokenSet for EndsFirst {
-    ghost kinds = { λ e. form.ends_first e.0 };
+    ghost kinds = { λ e. form.ends_first e.0 e.1 };
 
     #[inline(always)]
     #[tactic(auto, unfolding(crate::specs::Expressions::ends_first))]
     fn contains(self, kind: SyntaxKind) -> bool {
         match self.0 {
-            ExprPlace::Anywhere => OperandFirst.contains(kind),
-            ExprPlace::BeforeBlock => BracelessFirst.contains(kind),
+            ExprPlace::Anywhere => OperandFirst(self.1).contains(kind),
+            ExprPlace::BeforeBlock => BracelessFirst(self.1).contains(kind),
         }
     }
 }
@@ -155,6 +175,21 @@ pub fn at_most_all(rank: Rank) -> Rank
     if rank < RANKS { rank } else { RANKS }
 }
 
+/// A block-like expression, or one of all of Rust that its first word tells.
+#[tactic(auto, using(ssr_syntax_forms::proofs::Shared::run_also), unfolding(crate::specs::Expressions::block_or_mark))]
+fn block_or_mark<R: Reader>(goals: &R, p: &mut Parser<'_>) -> Result<(), Fault>
+    requires { R.can_read goals.now }
+    ensures { RunsAnywhere (R.reads goals.now) form.block_or_mark p.old p.new result }
+{
+    if p.at(ASYNC_KW) && goals.is_whole() {
+        async_block(goals, p)
+    } else if p.at(UNDERSCORE) && goals.is_whole() {
+        underscore_expr(goals, p)
+    } else {
+        block_like(goals, p)
+    }
+}
+
 /// An expression without an operator outside brackets.
 #[tactic(auto, unfolding(crate::specs::Expressions::atom))]
 fn atom<R: Reader>(goals: &R, p: &mut Parser<'_>, place: ExprPlace) -> Result<(), Fault>
@@ -172,12 +207,12 @@ fn atom<R: Reader>(goals: &R, p: &mut Parser<'_>, place: ExprPlace) -> Result<()
     } else if p.at(CONTINUE_KW) {
         continue_expr(goals, p)
     } else {
-        block_like(goals, p)
+        block_or_mark(goals, p)
     }
 }
 
 /// ARG_LIST: expressions in parentheses, with commas between them.
-#[tactic(auto, using(ssr_syntax_forms::proofs::Shared::run_comma_list), unfolding(crate::specs::Expressions::arg_list))]
+#[tactic(auto, using(ssr_syntax_forms::proofs::Shared::run_comma_list_by), unfolding(crate::specs::Expressions::arg_list))]
 fn arg_list<R: Reader>(goals: &R, p: &mut Parser<'_>) -> Result<(), Fault>
     requires { R.can_read goals.now }
     ensures { Runs (R.reads goals.now) form.arg_list p.old p.new result }
@@ -185,7 +220,7 @@ fn arg_list<R: Reader>(goals: &R, p: &mut Parser<'_>) -> Result<(), Fault>
     let m = p.start();
     p.expect(L_PAREN)?;
     p.comma_list(
-        ExprFirst,
+        ExprFirst(goals.is_whole()),
         |p| goals.read(p, Goal::Expr(ExprPlace::Anywhere)),
     )?;
     p.expect(R_PAREN)?;
@@ -299,17 +334,40 @@ fn numbered_member<R: Reader>(goals: &R, p: &mut Parser<'_>, m: &Mark<'_>) -> Re
     p.complete(m, FIELD_EXPR)
 }
 
-/// FIELD_EXPR or METHOD_CALL_EXPR: `.`, a NAME_REF, and of a method its ARG_LIST.
-#[tactic(auto, unfolding(crate::specs::Expressions::member))]
+/// FIELD_EXPR or METHOD_CALL_EXPR, behind `.`: a NAME_REF, and of a method its ARG_LIST.
+#[tactic(auto, unfolding(crate::specs::Expressions::field_or_method))]
+fn field_or_method<R: Reader>(goals: &R, p: &mut Parser<'_>, m: &Mark<'_>) -> Result<(), Fault>
+    requires { R.can_read goals.now }
+    ensures { RunsFrom (R.reads goals.now) form.field_or_method m.now p.old p.new result }
+{
+    if p.at(INT_NUMBER) {
+        numbered_member(goals, p, m)
+    } else {
+        named_member(goals, p, m)
+    }
+}
+
+/// AWAIT_EXPR: `await`, behind `.`.
+#[tactic(auto, unfolding(crate::specs::Expressions::await_expr))]
+fn await_expr<R: Reader>(goals: &R, p: &mut Parser<'_>, m: &Mark<'_>) -> Result<(), Fault>
+    requires { R.can_read goals.now }
+    ensures { RunsFrom (R.reads goals.now) form.await_expr m.now p.old p.new result }
+{
+    p.expect(AWAIT_KW)?;
+    p.complete(m, AWAIT_EXPR)
+}
+
+/// FIELD_EXPR, METHOD_CALL_EXPR or AWAIT_EXPR: `.` and what follows it.
+#[tactic(auto, using(ssr_syntax_forms::proofs::Shared::run_also), unfolding(crate::specs::Expressions::member))]
 fn member<R: Reader>(goals: &R, p: &mut Parser<'_>, m: &Mark<'_>) -> Result<(), Fault>
     requires { R.can_read goals.now }
     ensures { RunsFrom (R.reads goals.now) form.member m.now p.old p.new result }
 {
     p.expect(DOT)?;
-    if p.at(INT_NUMBER) {
-        numbered_member(goals, p, m)
+    if p.at(AWAIT_KW) && goals.is_whole() {
+        await_expr(goals, p, m)
     } else {
-        named_member(goals, p, m)
+        field_or_method(goals, p, m)
     }
 }
 
@@ -354,6 +412,40 @@ fn postfix_expr<R: Reader>(
     postfixes(goals, p, m)
 }
 
+/// RAW_KW: the identifier `raw`.
+#[tactic(auto, unfolding(crate::specs::Expressions::raw_word))]
+fn raw_word<R: Reader>(goals: &R, p: &mut Parser<'_>) -> Result<(), Fault>
+    requires { R.can_read goals.now }
+    ensures { Runs (R.reads goals.now) form.raw_word p.old p.new result }
+{
+    let m = p.start();
+    p.expect(IDENT)?;
+    p.complete(&m, RAW_KW)
+}
+
+/// RAW_KW, and `const` or `mut`.
+#[tactic(auto, unfolding(crate::specs::Expressions::raw_words))]
+fn raw_words<R: Reader>(goals: &R, p: &mut Parser<'_>, m: &Mark<'_>) -> Result<(), Fault>
+    requires { R.can_read goals.now }
+    ensures { RunsFrom (R.reads goals.now) form.raw_words m.now p.old p.new result }
+{
+    raw_word(goals, p)?;
+    p.expect_any(PointerWords)
+}
+
+/// The words behind the `&` of REF_EXPR: perhaps `mut`, or, in all of Rust, those of a raw reference.
+#[tactic(auto, using(ssr_syntax_forms::proofs::Shared::run_also_decide), unfolding(crate::specs::Expressions::ref_words))]
+fn ref_words<R: Reader>(goals: &R, p: &mut Parser<'_>, m: &Mark<'_>) -> Result<(), Fault>
+    requires { R.can_read goals.now }
+    ensures { RunsFrom (R.reads goals.now) form.ref_words m.now p.old p.new result }
+{
+    if goals.is_whole() && p.at_two(IDENT, PointerWords) {
+        raw_words(goals, p, m)
+    } else {
+        p.eat(MUT_KW)
+    }
+}
+
 /// REF_EXPR: `&`, also the first of `&&`, perhaps `mut`, and an operand.
 #[tactic(auto, unfolding(crate::specs::Expressions::ref_expr))]
 fn ref_expr<R: Reader>(goals: &R, p: &mut Parser<'_>, place: ExprPlace) -> Result<(), Fault>
@@ -362,7 +454,7 @@ fn ref_expr<R: Reader>(goals: &R, p: &mut Parser<'_>, place: ExprPlace) -> Resul
 {
     let m = p.start();
     p.expect_part(Ampersands)?;
-    p.eat(MUT_KW)?;
+    ref_words(goals, p, &m)?;
     goals.read(p, Goal::Unary(place))?;
     p.complete(&m, REF_EXPR)
 }
@@ -377,6 +469,82 @@ fn prefix_expr<R: Reader>(goals: &R, p: &mut Parser<'_>, place: ExprPlace) -> Re
     p.expect_any(PrefixOperators)?;
     goals.read(p, Goal::Unary(place))?;
     p.complete(&m, PREFIX_EXPR)
+}
+
+/// ATTR_EXPR: ATTRs and an operand.
+#[tactic(auto, unfolding(crate::specs::Expressions::attr_expr))]
+fn attr_expr<R: Reader>(goals: &R, p: &mut Parser<'_>, place: ExprPlace) -> Result<(), Fault>
+    requires { R.can_read goals.now }
+    ensures { Runs (R.reads goals.now) (form.attr_expr place) p.old p.new result }
+{
+    let m = p.start();
+    some_attrs(goals, p)?;
+    p.refuse_at(POUND)?;
+    goals.read(p, Goal::Unary(place))?;
+    p.complete(&m, ATTR_EXPR)
+}
+
+/// RETURN_EXPR, BREAK_EXPR or CLOSURE_EXPR as an operand.
+#[tactic(auto, unfolding(crate::specs::Expressions::leaving_operand))]
+fn leaving_operand<R: Reader>(goals: &R, p: &mut Parser<'_>) -> Result<(), Fault>
+    requires { R.can_read goals.now }
+    ensures { RunsAnywhere (R.reads goals.now) form.leaving_operand p.old p.new result }
+{
+    leaving_expr(goals, p)?;
+    p.refuse_at(OperatorFirst)
+}
+
+/// CLOSURE_EXPR with `async` as an operand.
+#[tactic(auto, unfolding(crate::specs::Expressions::async_operand))]
+fn async_operand<R: Reader>(goals: &R, p: &mut Parser<'_>) -> Result<(), Fault>
+    requires { R.can_read goals.now }
+    ensures { RunsAnywhere (R.reads goals.now) form.async_operand p.old p.new result }
+{
+    async_closure(goals, p)?;
+    p.refuse_at(OperatorFirst)
+}
+
+/// An operand that leaves, or what stands for itself, and all that goes on with it.
+#[tactic(auto, using(ssr_syntax_forms::proofs::Shared::run_also, ssr_syntax_forms::proofs::Shared::run_also_decide), unfolding(crate::specs::Expressions::leaving_or_postfix))]
+fn leaving_or_postfix<R: Reader>(
+    goals: &R,
+    p: &mut Parser<'_>,
+    m: &Mark<'_>,
+    place: ExprPlace,
+) -> Result<(), Fault>
+    requires { R.can_read goals.now }
+    ensures { RunsFrom (R.reads goals.now) (form.leaving_or_postfix place) m.now p.old p.new result }
+{
+    match place {
+        ExprPlace::Anywhere => {
+            if p.at_any(LeavingFirst) && goals.is_whole() {
+                leaving_operand(goals, p)
+            } else if goals.is_whole() && at_async_closure(p) {
+                async_operand(goals, p)
+            } else {
+                postfix_expr(goals, p, m, ExprPlace::Anywhere)
+            }
+        }
+        ExprPlace::BeforeBlock => postfix_expr(goals, p, m, ExprPlace::BeforeBlock),
+    }
+}
+
+/// ATTR_EXPR, or what stands for itself, and all that goes on with it.
+#[tactic(auto, using(ssr_syntax_forms::proofs::Shared::run_also), unfolding(crate::specs::Expressions::attributed_or_postfix))]
+fn attributed_or_postfix<R: Reader>(
+    goals: &R,
+    p: &mut Parser<'_>,
+    m: &Mark<'_>,
+    place: ExprPlace,
+) -> Result<(), Fault>
+    requires { R.can_read goals.now }
+    ensures { RunsFrom (R.reads goals.now) (form.attributed_or_postfix place) m.now p.old p.new result }
+{
+    if p.at(POUND) && goals.is_whole() {
+        attr_expr(goals, p, place)
+    } else {
+        leaving_or_postfix(goals, p, m, place)
+    }
 }
 
 /// An expression without a cast or an operator between operands, outside brackets.
@@ -395,7 +563,7 @@ pub fn unary<R: Reader>(
     } else if p.at_any(PrefixOperators) {
         prefix_expr(goals, p, place)
     } else {
-        postfix_expr(goals, p, m, place)
+        attributed_or_postfix(goals, p, m, place)
     }
 }
 
@@ -468,17 +636,17 @@ pub fn operand<R: Reader>(
 }
 
 /// The right operand of a range.
-#[tactic(auto, unfolding(crate::specs::Expressions::range_end))]
+#[tactic(auto, using(ssr_syntax_forms::proofs::Shared::run_look_by), unfolding(crate::specs::Expressions::range_end))]
 fn range_end<R: Reader>(goals: &R, p: &mut Parser<'_>, place: ExprPlace) -> Result<(), Fault>
     requires { R.can_read goals.now }
     ensures { RunsAnywhere (R.reads goals.now) (form.range_end place) p.old p.new result }
 {
-    p.expect_at(EndsFirst(place))?;
+    p.expect_at(EndsFirst(place, goals.is_whole()))?;
     goals.read(p, Goal::Operand(place, RANKS))
 }
 
 /// RANGE_EXPR with `..`, behind its left operand, which is all since the mark, if there is one.
-#[tactic(auto, unfolding(crate::specs::Expressions::to_range))]
+#[tactic(auto, using(ssr_syntax_forms::proofs::Shared::run_choose_by), unfolding(crate::specs::Expressions::to_range))]
 fn to_range<R: Reader>(
     goals: &R,
     p: &mut Parser<'_>,
@@ -489,7 +657,7 @@ fn to_range<R: Reader>(
     ensures { RunsFrom (R.reads goals.now) (form.to_range place) m.now p.old p.new result }
 {
     p.expect(DOT2)?;
-    if p.at_any(EndsFirst(place)) {
+    if p.at_any(EndsFirst(place, goals.is_whole())) {
         range_end(goals, p, place)?;
     }
     p.complete(m, RANGE_EXPR)
@@ -604,6 +772,19 @@ fn ranked<R: Reader>(
     }
 }
 
+/// RETURN_EXPR, BREAK_EXPR or CLOSURE_EXPR, or an expression that is none of them.
+#[tactic(auto, unfolding(crate::specs::Expressions::leaving_or_ranked))]
+fn leaving_or_ranked<R: Reader>(goals: &R, p: &mut Parser<'_>, m: &Mark<'_>) -> Result<(), Fault>
+    requires { R.can_read goals.now }
+    ensures { RunsFrom (R.reads goals.now) form.leaving_or_ranked m.now p.old p.new result }
+{
+    if p.at_any(LeavingFirst) {
+        leaving_expr(goals, p)
+    } else {
+        ranked(goals, p, m, ExprPlace::Anywhere)
+    }
+}
+
 /// Any expression as it stands there.
 #[tactic(auto, unfolding(crate::specs::Expressions::expr))]
 pub fn expr<R: Reader>(goals: &R, p: &mut Parser<'_>, place: ExprPlace) -> Result<(), Fault>
@@ -613,10 +794,10 @@ pub fn expr<R: Reader>(goals: &R, p: &mut Parser<'_>, place: ExprPlace) -> Resul
     let m = p.start();
     match place {
         ExprPlace::Anywhere => {
-            if p.at_any(LeavingFirst) {
-                leaving_expr(goals, p)
-            } else {
+            if goals.is_whole() {
                 ranked(goals, p, &m, ExprPlace::Anywhere)
+            } else {
+                leaving_or_ranked(goals, p, &m)
             }
         }
         ExprPlace::BeforeBlock => ranked(goals, p, &m, ExprPlace::BeforeBlock),

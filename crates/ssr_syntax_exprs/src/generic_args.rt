@@ -10,6 +10,7 @@ use ssr_syntax_types::goals::Goal;
 use ssr_syntax_types::literals::{Literals, literal};
 use ssr_syntax_types::paths::{CloseAngle, OpenAngle, TypeFirst, lifetime, name_ref, type_arg};
 use ssr_syntax_types::reader::Reader;
+use ssr_syntax_types::types::bounds_or_none;
 
 /// What a generic argument begins with that is neither a literal nor a type.
 #[derive(Clone, Copy)]
@@ -27,15 +28,17 @@ impl TokenSet for GenericArgMarks {
 
 /// What a generic argument begins with.
 #[derive(Clone, Copy)]
-struct GenericArgFirst;
+struct GenericArgFirst(bool);
 
 impl TokenSet for GenericArgFirst {
-    ghost kinds = { λ _. form.generic_arg_first };
+    ghost kinds = { λ s. form.generic_arg_first s.0 };
 
     #[inline(always)]
     #[tactic(auto, using(ssr_syntax_forms::proofs::Shared::mem_append), unfolding(crate::specs::GenericArgs::generic_arg_first))]
     fn contains(self, kind: SyntaxKind) -> bool {
-        GenericArgMarks.contains(kind) || Literals.contains(kind) || TypeFirst.contains(kind)
+        GenericArgMarks.contains(kind)
+            || Literals.contains(kind)
+            || TypeFirst(self.0).contains(kind)
     }
 }
 
@@ -108,11 +111,37 @@ fn assoc_type_arg<R: Reader>(goals: &R, p: &mut Parser<'_>) -> Result<(), Fault>
     p.complete(&m, ASSOC_TYPE_ARG)
 }
 
+/// ASSOC_TYPE_ARG: a NAME_REF, `:` and perhaps bounds.
+#[tactic(auto, unfolding(crate::specs::GenericArgs::assoc_bound_arg))]
+fn assoc_bound_arg<R: Reader>(goals: &R, p: &mut Parser<'_>) -> Result<(), Fault>
+    requires { R.can_read goals.now }
+    ensures { Runs (R.reads goals.now) form.assoc_bound_arg p.old p.new result }
+{
+    let m = p.start();
+    name_ref(goals, p)?;
+    p.expect(COLON)?;
+    bounds_or_none(goals, p)?;
+    p.complete(&m, ASSOC_TYPE_ARG)
+}
+
 /// Any generic argument.
-#[tactic(auto, using(ssr_syntax_forms::proofs::Shared::run_decide), unfolding(crate::specs::GenericArgs::generic_arg))]
+#[tactic(auto, using(ssr_syntax_forms::proofs::Shared::run_also_decide), unfolding(crate::specs::GenericArgs::generic_arg))]
 fn generic_arg<R: Reader>(goals: &R, p: &mut Parser<'_>) -> Result<(), Fault>
     requires { R.can_read goals.now }
     ensures { RunsAnywhere (R.reads goals.now) form.generic_arg p.old p.new result }
+{
+    if goals.is_whole() && p.at_two(IDENT, COLON) {
+        assoc_bound_arg(goals, p)
+    } else {
+        stated_generic_arg(goals, p)
+    }
+}
+
+/// Any generic argument of the stated language.
+#[tactic(auto, using(ssr_syntax_forms::proofs::Shared::run_decide), unfolding(crate::specs::GenericArgs::stated_generic_arg))]
+fn stated_generic_arg<R: Reader>(goals: &R, p: &mut Parser<'_>) -> Result<(), Fault>
+    requires { R.can_read goals.now }
+    ensures { RunsAnywhere (R.reads goals.now) form.stated_generic_arg p.old p.new result }
 {
     if p.at(LIFETIME_IDENT) {
         lifetime_arg(goals, p)
@@ -130,7 +159,7 @@ fn generic_arg<R: Reader>(goals: &R, p: &mut Parser<'_>) -> Result<(), Fault>
 }
 
 /// GENERIC_ARG_LIST: generic arguments in angle brackets, with commas between them, perhaps with `::` in front.
-#[tactic(auto, using(ssr_syntax_forms::proofs::Shared::run_comma_list), unfolding(crate::specs::GenericArgs::generic_arg_list))]
+#[tactic(auto, using(ssr_syntax_forms::proofs::Shared::run_comma_list_by), unfolding(crate::specs::GenericArgs::generic_arg_list))]
 pub fn generic_arg_list<R: Reader>(goals: &R, p: &mut Parser<'_>) -> Result<(), Fault>
     requires { R.can_read goals.now }
     ensures { Runs (R.reads goals.now) form.generic_arg_list p.old p.new result }
@@ -138,7 +167,7 @@ pub fn generic_arg_list<R: Reader>(goals: &R, p: &mut Parser<'_>) -> Result<(), 
     let m = p.start();
     p.eat(COLON2)?;
     p.expect_part(OpenAngle)?;
-    p.comma_list(GenericArgFirst, |p| generic_arg(goals, p))?;
+    p.comma_list(GenericArgFirst(goals.is_whole()), |p| generic_arg(goals, p))?;
     p.expect_part(CloseAngle)?;
     p.complete(&m, GENERIC_ARG_LIST)
 }

@@ -1,5 +1,5 @@
 -- What the parser's functions write is what the tree that is read writes.
-use Rattle.std.proofs.Common.{◌≡◌, ℕ, zero, suc, ◌+◌, ◌-◌, Bool, List, ◌∷◌, ◌++◌, length, take, Result, Ok, Err, ◌⊎◌, inl, inr, refl, sym, ap, subst, ◌∙◌, arith}
+use Rattle.std.proofs.Common.{◌≡◌, ℕ, zero, suc, ◌+◌, ◌-◌, Bool, false, if◌then◌else◌, List, ◌∷◌, ◌++◌, length, take, Result, Ok, Err, ◌⊎◌, inl, inr, refl, sym, ap, subst, ◌∙◌, arith}
 use Rattle.std.proofs.lemmas.Bool.{cases_Bool}
 use Rattle.std.proofs.lemmas.List.{length-append, length-take-le}
 use Rattle.std.proofs.Math.Seq.{take-append_seam}
@@ -9,7 +9,7 @@ use Rattle.ssr_syntax_forms.specs.declared.fault.Fault.{Fault}
 use Rattle.ssr_syntax_forms.specs.Trees.{Forest, done, spell}
 use Rattle.ssr_syntax_forms.specs.Parser.{Written, token_written, State, state_of, Mark, mark_at, took, repeated}
 use Rattle.ssr_syntax_forms.specs.Written.{writes}
-use Rattle.ssr_syntax_forms.specs.Forms.{Form, one, child, mark, seal, ◌then◌, nothing, choose, many, look, check, Test, more, taken_as, passes, agrees, holds, SoFar, so_far, ReadsBelow, read, past, first_leaf, repeat, beside, ◌>>=◌}
+use Rattle.ssr_syntax_forms.specs.Forms.{Form, one, child, mark, seal, ◌then◌, nothing, choose, many, look, check, wide, Test, more, taken_as, passes, agrees, holds, SoFar, so_far, ReadsBelow, read, past, first_leaf, repeat, beside, ◌>>=◌}
 use Rattle.ssr_syntax_forms.specs.Runs.{RunsBelow, run}
 use Rattle.ssr_syntax_forms.proofs.Joins.{writes-join}
 use Rattle.ssr_syntax_forms.proofs.Soundness.{past_ok}
@@ -20,8 +20,10 @@ abbrev pub emit : Written → Result SoFar Fault → Result State Fault
 emit out (Ok r) = Ok (state_of (writes r.made out) r.rest)
 emit out (Err e) = Err e
 
-abbrev pub RunsAsRead : {Goal : Type 0} → RunsBelow Goal → ReadsBelow Goal → Type 0
-RunsAsRead {Goal = Goal} runs below = (goal : Goal) (out : Written) (ts : List Token) → runs goal (state_of out ts) ≡ emit out (below goal ts)
+-- what is run in the stated language is what is read
+pub record RunsAsRead {Goal : Type 0} (runs : RunsBelow Goal) (below : ReadsBelow Goal) : Type 0 where
+  pub stated : runs.is_whole ≡ false
+  pub as_read : (goal : Goal) (out : Written) (ts : List Token) → runs.runs goal (state_of out ts) ≡ emit out (below goal ts)
 
 -- either answer
 pub answer : {A : Type 0} (r : Result A Fault) → ((x : A) × (r ≡ Ok x)) ⊎ ((e : Fault) × (r ≡ Err e))
@@ -84,7 +86,7 @@ agree runs below h k (one whole ks) out start r e =
       | inr p ↦ rw p.1 refl
     ]
 agree runs below h k (child goal) out start r e =
-    h goal (writes r.made out) r.rest ∙ emit-beside out r.made (below goal r.rest)
+    h.as_read goal (writes r.made out) r.rest ∙ emit-beside out r.made (below goal r.rest)
 agree runs below h k (mark f) out start r e =
     agree runs below h k f (writes r.made out) r.rest (so_far done r.rest) refl
     ∙ emit-beside out r.made (read below f (so_far done r.rest))
@@ -108,3 +110,6 @@ agree runs below h k (look want test) out start r e =
 agree runs below h k (check condition) out start r e =
     rw (since start (spell r.made) r.rest e)
     (elim (cases_Bool (holds condition (spell r.made))) [ inl hit ↦ rw hit refl | inr miss ↦ rw miss refl ])
+agree runs below h k (wide f g) out start r e =
+    ap (λ b. if b then run runs f (mark_at out start) (after out r) else run runs g (mark_at out start) (after out r)) h.stated
+    ∙ agree runs below h k g out start r e

@@ -5,7 +5,7 @@ use Rattle.std.proofs.Common.{ℕ, Bool, true, false, not, ◌||◌, ◌&&◌, i
 use Rattle.ssr_syntax_kinds.specs.declared.kinds.SyntaxKind.{SyntaxKind}
 use Rattle.ssr_syntax_kinds.specs.Kinds.{same_kind}
 use Rattle.ssr_syntax_forms.specs.Kinds.{mem}
-use Rattle.ssr_syntax_forms.specs.Forms.{Form, one, child, mark, seal, ◌then◌, nothing, choose, many, look, check, Test, agrees}
+use Rattle.ssr_syntax_forms.specs.Forms.{Form, one, child, mark, seal, ◌then◌, nothing, choose, many, look, check, wide, Test, agrees}
 
 -- ** Lists of kinds.
 abbrev pub subset : List SyntaxKind → List SyntaxKind → Bool
@@ -67,6 +67,7 @@ empty t (choose test f g) = empty t f || empty t g
 empty t (many test f) = true
 empty t (look want test) = true
 empty t (check condition) = true
+empty t (wide f g) = empty t g
 
 -- which of these kinds may stand behind the form, where it takes no token
 abbrev pub passing : {Goal : Type 0} → Tables Goal → Form Goal → List SyntaxKind → List SyntaxKind
@@ -80,6 +81,7 @@ passing t (choose test f g) follow = passing t f follow ++ passing t g follow
 passing t (many test f) follow = follow
 passing t (look want test) follow = those (may_be want test) follow
 passing t (check condition) follow = follow
+passing t (wide f g) follow = passing t g follow
 
 -- the kinds of the first token, if there is one
 abbrev pub firsts : {Goal : Type 0} → Tables Goal → Form Goal → List SyntaxKind
@@ -93,6 +95,7 @@ firsts t (choose test f g) = firsts t f ++ firsts t g
 firsts t (many test f) = firsts t f
 firsts t (look want test) = []
 firsts t (check condition) = []
+firsts t (wide f g) = firsts t g
 
 -- the kind of the next token, where these may stand behind the form
 abbrev pub starts : {Goal : Type 0} → Tables Goal → Form Goal → List SyntaxKind → List SyntaxKind
@@ -130,6 +133,7 @@ same_test _ _ = false
 abbrev pub asks : {Goal : Type 0} → Bool → Test → Form Goal → Bool
 asks want test (look w other) = agrees want w && same_test test other
 asks want test (f then g) = asks want test f
+asks want test (wide f g) = asks want test g
 asks want test _ = false
 
 -- The look-ahead decides, where one of these kinds stands behind the form, and what stands there fails each test that
@@ -150,6 +154,7 @@ decides_before t stops (many test f) follow =
     && ((decides_before t (λ other. false) f (firsts t f ++ follow) && not (empty t f)) && (asks true test f || decides_on test (firsts t f)))
 decides_before t stops (look want test) follow = true
 decides_before t stops (check condition) follow = true
+decides_before t stops (wide f g) follow = decides_before t stops g follow
 
 abbrev pub decides : {Goal : Type 0} → Tables Goal → Form Goal → List SyntaxKind → Bool
 decides t form follow = decides_before t (λ test. false) form follow
@@ -171,6 +176,7 @@ remembers t (choose test f g) = every (may_pass test) (firsts t f) && (remembers
 remembers t (many test f) = every (may_pass test) (firsts t f) && remembers t f
 remembers t (look want test) = true
 remembers t (check condition) = true
+remembers t (wide f g) = remembers t g
 
 -- ** One node.
 -- the form ends with a seal
@@ -185,6 +191,7 @@ ends_sealed (choose test f g) = ends_sealed f && ends_sealed g
 ends_sealed (many test f) = false
 ends_sealed (look want test) = false
 ends_sealed (check condition) = false
+ends_sealed (wide f g) = ends_sealed g
 
 -- the form leads from one node to one node
 abbrev pub stays_node : {Goal : Type 0} → Form Goal → Bool
@@ -198,10 +205,12 @@ stays_node (choose test f g) = stays_node f && stays_node g
 stays_node (many test f) = ends_sealed f
 stays_node (look want test) = true
 stays_node (check condition) = true
+stays_node (wide f g) = stays_node g
 
 -- the form looks at the next tokens, and does nothing
 abbrev pub only_looks : {Goal : Type 0} → Form Goal → Bool
 only_looks (look want test) = true
+only_looks (wide f g) = only_looks g
 only_looks _ = false
 
 -- the form leads from nothing to one node
@@ -216,6 +225,7 @@ makes_node (choose test f g) = makes_node f && makes_node g
 makes_node (many test f) = false
 makes_node (look want test) = false
 makes_node (check condition) = false
+makes_node (wide f g) = makes_node g
 
 -- ** Forms. A mark makes one node.
 abbrev pub lone_marks : {Goal : Type 0} → Form Goal → Bool
@@ -229,3 +239,4 @@ lone_marks (choose test f g) = lone_marks f && lone_marks g
 lone_marks (many test f) = lone_marks f
 lone_marks (look want test) = true
 lone_marks (check condition) = true
+lone_marks (wide f g) = lone_marks g

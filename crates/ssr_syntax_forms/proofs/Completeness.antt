@@ -9,7 +9,7 @@ use Rattle.ssr_syntax_kinds.proofs.Shared.{same_kind-equal}
 use Rattle.ssr_syntax_forms.specs.declared.tokens.Token.{Token}
 use Rattle.ssr_syntax_forms.specs.Kinds.{mem}
 use Rattle.ssr_syntax_forms.specs.Trees.{Forest, done, leaf}
-use Rattle.ssr_syntax_forms.specs.Forms.{Form, one, child, mark, seal, ◌then◌, nothing, choose, many, look, check, Test, more, taken_as, is_one, next, passes, agrees, SoFar, so_far, ReadsBelow, read, past, first_leaf, repeat}
+use Rattle.ssr_syntax_forms.specs.Forms.{Form, one, child, mark, seal, ◌then◌, nothing, choose, many, look, check, wide, Test, more, taken_as, is_one, next, passes, agrees, SoFar, so_far, ReadsBelow, read, past, first_leaf, repeat}
 use Rattle.ssr_syntax_forms.proofs.Nested.{FitsBelow, Repeats, FitsForm}
 use Rattle.ssr_syntax_forms.proofs.Check.{Tables, empty, firsts, starts, decides_on, decides_off, settles, decides_before, same_kinds, same_string, same_test, asks}
 use Rattle.ssr_syntax_forms.proofs.Members.{subset_mem, on, off}
@@ -92,6 +92,7 @@ asked fits want test nothing a x z us rest f = cc
 asked fits want test (choose other g j) a x z us rest f = cc
 asked fits want test (many other g) a x z us rest f = cc
 asked fits want test (check condition) a x z us rest f = cc
+asked fits want test (wide w v) a x z us rest f = asked fits want test v a x z us rest f
 
 turns : {Goal : Type 0} (t : Tables Goal) (fits : FitsBelow Goal) (below : ReadsBelow Goal) → Claims t fits → (test : Test) (form : Form Goal) (follow : List SyntaxKind)
     → empty t form ≡ false → (asks true test form || decides_on test (firsts t form)) ≡ true
@@ -183,3 +184,4 @@ complete t fits below c k stops (look want test) follow d x z us rest (no_tokens
     subst (λ w. read below (look want test) w ≡ Ok (so_far z rest)) (sym (stay x z us rest no_tokens_taken z_is)) (rw passed refl)
 complete t fits below c k stops (check condition) follow d x z us rest (no_tokens_taken, z_is, passed) m s =
     rw (passed, no_tokens_taken, z_is) refl
+complete t fits below c k stops (wide f g) follow d x z us rest fit m s = complete t fits below c k stops g follow d x z us rest fit m s

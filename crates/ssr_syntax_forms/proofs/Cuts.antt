@@ -5,7 +5,7 @@ use Rattle.ssr_syntax_forms.specs.declared.tokens.Token.{Token}
 use Rattle.ssr_syntax_forms.specs.declared.fault.Fault.{Fault}
 use Rattle.ssr_syntax_forms.specs.declared.fault.Fault.TheVariants as faults
 use Rattle.ssr_syntax_forms.specs.Trees.{done}
-use Rattle.ssr_syntax_forms.specs.Forms.{Productions, Form, one, child, mark, seal, ◌then◌, nothing, choose, many, look, check, Test, passes, SoFar, so_far, ReadsBelow, read, repeat, beside, ◌>>=◌}
+use Rattle.ssr_syntax_forms.specs.Forms.{Productions, Form, one, child, mark, seal, ◌then◌, nothing, choose, many, look, check, wide, Test, passes, SoFar, so_far, ReadsBelow, read, repeat, beside, ◌>>=◌}
 use Rattle.ssr_syntax_forms.specs.Levels.{read_goal}
 
 abbrev pub IsCut : Result SoFar Fault → Result SoFar Fault → Type 0
@@ -55,6 +55,7 @@ read_cut fewer more h (many test f) r =
     repeat_cut test (read fewer f) (read more f) (read_cut fewer more h f) (length r.rest + 1) r
 read_cut fewer more h (look want test) r = inr refl
 read_cut fewer more h (check condition) r = inr refl
+read_cut fewer more h (wide f g) r = read_cut fewer more h g r
 
 pub cut_goals : {Goal : Type 0} (grammar : Productions Goal) (n m : ℕ) → n ≤ m → Cuts (read_goal grammar n) (read_goal grammar m)
 unfolding read_goal

@@ -7,7 +7,7 @@ use Rattle.ssr_syntax_kinds.specs.declared.kinds.SyntaxKind.{SyntaxKind}
 use Rattle.ssr_syntax_kinds.proofs.Shared.{same_kind-equal, equal-same_kind}
 use Rattle.ssr_syntax_forms.specs.declared.tokens.Token.{Token}
 use Rattle.ssr_syntax_forms.specs.Trees.{Forest, done, leaf, tree, join, spell, height}
-use Rattle.ssr_syntax_forms.specs.Forms.{Productions, Form, one, child, mark, seal, ◌then◌, nothing, choose, many, look, check, is_one, more, taken_as, holds, SoFar, so_far}
+use Rattle.ssr_syntax_forms.specs.Forms.{Productions, Form, one, child, mark, seal, ◌then◌, nothing, choose, many, look, check, wide, is_one, more, taken_as, holds, SoFar, so_far}
 use Rattle.ssr_syntax_forms.specs.Fitting as rules
 use Rattle.ssr_syntax_forms.specs.Decision.{size, behind_first, last_cut, Stages, is_empty, is_token, at_cut, cut_off, unsealed, steps_back, reached, decide_at}
 use Rattle.ssr_syntax_forms.proofs.Check.{makes_node, lone_marks}
@@ -299,6 +299,7 @@ module _ {Goal : Type 0} (fit : FitsBelow Goal) (below : Goal → Stages) (d : I
       let b = and_parts _ _ h in record { from = r.made; taken = []; leads = (refl, refl, b.0); starts = b.1 }
   was_there (check condition) start r h =
       let b = and_parts _ _ h in record { from = r.made; taken = []; leads = (refl, refl, b.0); starts = b.1 }
+  was_there (wide f g) start r h = was_there g start r h
 
   mark_alone : (f : Form Goal) → makes_node (mark f) ≡ true → (y : Forest) (us rest : List Token) → FitsForm fit f done y us rest → IsAlone y
   mark_alone f m y us rest y_fits = node_alone y (makes fit d.nodes (mark f) m y us rest (y, y_fits, refl))
@@ -333,6 +334,7 @@ module _ {Goal : Type 0} (fit : FitsBelow Goal) (below : Goal → Stages) (d : I
       and_from _ _ looked (stays_start start x z us rest none z_is s)
   is_found (check condition) l start x z us rest (none, z_is, checked) s =
       and_from _ _ (subst (λ w. holds condition (spell w) ≡ true) (sym z_is) checked) (stays_start start x z us rest none z_is s)
+  is_found (wide f g) l start x z us rest fit s = is_found g l start x z us rest fit s
 
   -- a goal's form is decided
   form_right : (form : Form Goal) (r : SoFar) → reached below form is_empty r ≡ true → FitsForm fit form done r.made (spell r.made) r.rest

@@ -4,7 +4,7 @@ use Rattle.std.specs.Prelude.{⊤}
 use Rattle.std.proofs.lemmas.Bool.{ltb-true, and_parts, cases_Bool, or_cases}
 use Rattle.ssr_syntax_forms.specs.declared.tokens.Token.{Token}
 use Rattle.ssr_syntax_forms.specs.Trees.{Forest, done, leaf, tree, join, height}
-use Rattle.ssr_syntax_forms.specs.Forms.{Productions, Form, one, child, mark, seal, ◌then◌, nothing, choose, many, look, check, taken_as}
+use Rattle.ssr_syntax_forms.specs.Forms.{Productions, Form, one, child, mark, seal, ◌then◌, nothing, choose, many, look, check, wide, taken_as}
 use Rattle.ssr_syntax_forms.proofs.Nested.{FitsBelow, Step, Repeats, FitsForm, FitsGoal}
 use Rattle.ssr_syntax_forms.proofs.Walks.{IsKept, walk}
 
@@ -20,6 +20,7 @@ seals (choose test f g) = seals f && seals g
 seals (many test f) = false
 seals (look want test) = false
 seals (check condition) = false
+seals (wide f g) = seals g
 
 -- each goal in the form, but those that are free, is put into a node: here, or, with `later`, behind the form
 abbrev pub covered : {Goal : Type 0} → (Goal → Bool) → Bool → Form Goal → Bool
@@ -33,6 +34,7 @@ covered free later (choose test f g) = covered free later f && covered free late
 covered free later (many test f) = covered free later f
 covered free later (look want test) = true
 covered free later (check condition) = true
+covered free later (wide f g) = covered free later g
 
 -- at most `high` nodes stand above one another
 abbrev pub IsShallow : ℕ → Forest → Type 0
@@ -120,6 +122,7 @@ low_inside n fits (choose test g k) s x z us rest (inr f) h = low_inside n fits 
 low_inside n fits (many test g) s x z us rest f h = cc
 low_inside n fits (look want test) s x z us rest f h = cc
 low_inside n fits (check condition) s x z us rest f h = cc
+low_inside n fits (wide w v) s x z us rest f h = low_inside n fits v s x z us rest f h
 
 -- how low the whole must be, for goals in it to be lower than n
 abbrev room : Bool → ℕ → ℕ
@@ -189,6 +192,7 @@ lower n free fits fewer b (many test g) later c x z us rest (count, turns_taken)
     (count, repeats_lower n (room later n) fits g (FitsForm fewer g) (lower n free fits fewer b g later c) count x z us rest turns_taken h)
 lower n free fits fewer b (look want test) later c x z us rest f h = f
 lower n free fits fewer b (check condition) later c x z us rest f h = f
+lower n free fits fewer b (wide w v) later c x z us rest f h = lower n free fits fewer b v later c x z us rest f h
 
 -- the goals that a goal may name as they are
 abbrev pub lower_ranks : {Goal : Type 0} → (Goal → ℕ) → Goal → Goal → Bool

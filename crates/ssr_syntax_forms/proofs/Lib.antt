@@ -10,6 +10,7 @@ mod Loops
 mod Soundness
 mod Spelling
 mod Agreement
+mod Widening
 mod Levels
 mod Check
 mod Members

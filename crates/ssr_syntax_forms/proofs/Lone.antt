@@ -4,7 +4,7 @@ use Rattle.std.proofs.lemmas.Bool.{and_parts, or_cases}
 use Rattle.ssr_syntax_kinds.specs.declared.kinds.SyntaxKind.{SyntaxKind}
 use Rattle.ssr_syntax_forms.specs.declared.tokens.Token.{Token}
 use Rattle.ssr_syntax_forms.specs.Trees.{Forest, done, tree}
-use Rattle.ssr_syntax_forms.specs.Forms.{Productions, Form, one, child, mark, seal, ◌then◌, nothing, choose, many, look, check}
+use Rattle.ssr_syntax_forms.specs.Forms.{Productions, Form, one, child, mark, seal, ◌then◌, nothing, choose, many, look, check, wide}
 use Rattle.ssr_syntax_forms.proofs.Nested.{FitsBelow, Step, Repeats, FitsForm, FitsGoal}
 use Rattle.ssr_syntax_forms.proofs.Check.{ends_sealed, stays_node, only_looks, makes_node}
 
@@ -23,6 +23,7 @@ sealed fits (choose test g k) e x z us rest (inr f) = sealed fits k (and_parts (
 sealed fits (many test form) e x z us rest f = cc
 sealed fits (look want test) e x z us rest f = cc
 sealed fits (check condition) e x z us rest f = cc
+sealed fits (wide w v) e x z us rest f = sealed fits v e x z us rest f
 
 repeats_node : (step : Step) → ((x z : Forest) (us rest : List Token) → step x z us rest → IsNode z)
     → (n : ℕ) (x z : Forest) (us rest : List Token) → IsNode x → Repeats n step x z us rest → IsNode z
@@ -46,6 +47,7 @@ stays fits (choose test g k) e x z us rest node (inr f) = stays fits k (and_part
 stays fits (many test form) e x z us rest node f = repeats_node (FitsForm fits form) (sealed fits form e) f.0 x z us rest node f.1
 stays fits (look want test) e x z us rest node f = subst IsNode (sym f.1) node
 stays fits (check condition) e x z us rest node f = subst IsNode (sym f.1) node
+stays fits (wide w v) e x z us rest node f = stays fits v e x z us rest node f
 
 -- a tree of a goal is one node
 abbrev pub AreNodes : {Goal : Type 0} → FitsBelow Goal → Type 0
@@ -62,6 +64,7 @@ looked fits nothing e x z us rest f = cc
 looked fits (choose test g k) e x z us rest f = cc
 looked fits (many test form) e x z us rest f = cc
 looked fits (check condition) e x z us rest f = cc
+looked fits (wide w v) e x z us rest f = looked fits v e x z us rest f
 
 pub makes : {Goal : Type 0} (fits : FitsBelow Goal) → AreNodes fits → (form : Form Goal) → makes_node form ≡ true → (z : Forest) (us rest : List Token) → FitsForm fits form done z us rest → IsNode z
 makes fits h (one whole ks) e z us rest f = cc
@@ -89,6 +92,7 @@ makes fits h (choose test g k) e z us rest (inr f) = makes fits h k (and_parts (
 makes fits h (many test form) e z us rest f = cc
 makes fits h (look want test) e z us rest f = cc
 makes fits h (check condition) e z us rest f = cc
+makes fits h (wide w v) e z us rest f = makes fits h v e z us rest f
 
 pub goals_lone : {Goal : Type 0} (grammar : Productions Goal) → ((goal : Goal) → makes_node (grammar goal) ≡ true) → (n : ℕ)
     → AreNodes (FitsGoal grammar n)

@@ -1,12 +1,12 @@
 -- Kinds in lists.
-use Rattle.std.proofs.Common.{◌≡◌, Bool, true, false, not, ◌||◌, List, [], ◌∷◌, ◌++◌, inl, inr, refl, sym, ap, subst, ◌∙◌}
+use Rattle.std.proofs.Common.{◌≡◌, Bool, true, false, not, ◌||◌, ◌&&◌, List, [], ◌∷◌, ◌++◌, inl, inr, refl, sym, ap, subst, ◌∙◌}
 use Rattle.std.proofs.lemmas.Bool.{and_parts, cases_Bool, not-true, or_cases, or_left, or_parts, or_right}
 use Rattle.std.proofs.Math.Bool.{and-true, or-false, or_assoc}
 use Rattle.ssr_syntax_kinds.specs.declared.kinds.SyntaxKind.{SyntaxKind}
 use Rattle.ssr_syntax_kinds.specs.Kinds.{same_kind}
 use Rattle.ssr_syntax_kinds.proofs.Shared.{same_kind-equal}
 use Rattle.ssr_syntax_forms.specs.declared.tokens.Token.{Token}
-use Rattle.ssr_syntax_forms.specs.Kinds.{mem}
+use Rattle.ssr_syntax_forms.specs.Kinds.{mem, where_whole}
 use Rattle.ssr_syntax_forms.specs.Forms.{Test, is_one, taken_as, are_next, passes, agrees, at, next, END}
 use Rattle.ssr_syntax_forms.proofs.Check.{subset, meets, every, those, must_pass, may_pass, may_be, decides_on, decides_off}
 
@@ -82,6 +82,11 @@ those_mem p k (l ∷ ks) is h =
 pub mem_append : (k : SyntaxKind) (ks ls : List SyntaxKind) → mem k (ks ++ ls) ≡ (mem k ks || mem k ls)
 mem_append k [] ls = refl
 mem_append k (l ∷ ks) ls = ap (λ b. same_kind k l || b) (mem_append k ks ls) ∙ sym (or_assoc (same_kind k l) (mem k ks) (mem k ls))
+
+pub mem_where_whole : (k : SyntaxKind) (is_whole : Bool) (ks : List SyntaxKind) → mem k (where_whole is_whole ks) ≡ (is_whole && mem k ks)
+unfolding where_whole
+mem_where_whole k true ks = refl
+mem_where_whole k false ks = refl
 
 -- ** Tests, by the next token.
 next_one : (ks : List SyntaxKind) (ts : List Token) → are_next (ks ∷ []) ts ≡ mem (next ts) ks

@@ -6,7 +6,7 @@ use Rattle.ssr_syntax_forms.specs.declared.fault.Fault.{Fault}
 use Rattle.ssr_syntax_forms.specs.declared.fault.Fault.TheVariants as faults
 use Rattle.ssr_syntax_forms.specs.declared.tokens.Token.{Token}
 use Rattle.ssr_syntax_forms.specs.Trees.{done, join, spell}
-use Rattle.ssr_syntax_forms.specs.Forms.{Form, one, child, mark, seal, ◌then◌, nothing, choose, many, look, check, Test, Productions, ReadsBelow, SoFar, so_far, ◌>>=◌, behind, past, more, is_one, first_leaf, passes, agrees, holds, repeat, read}
+use Rattle.ssr_syntax_forms.specs.Forms.{Form, one, child, mark, seal, ◌then◌, nothing, choose, many, look, check, wide, Test, Productions, ReadsBelow, SoFar, so_far, ◌>>=◌, behind, past, more, is_one, first_leaf, passes, agrees, holds, repeat, read}
 use Rattle.ssr_syntax_forms.specs.Levels.{read_goal}
 
 abbrev pub IsFree : {A : Type 0} → Result A Fault → Type 0
@@ -55,6 +55,7 @@ free-read below free (choose test f g) r =
 free-read below free (many test f) r = free-repeat (λ s. s.rest) (length r.rest + 1) test (read below f) (free-read below free f) r
 free-read below free (look want test) r = free-if (agrees want (passes test r.rest)) (Ok r) (Err faults.NoTree) tt no_tree
 free-read below free (check condition) r = free-if (holds condition (spell r.made)) (Ok r) (Err faults.NoTree) tt no_tree
+free-read below free (wide f g) r = free-read below free g r
 
 pub free-goal : {Goal : Type 0} (productions : Productions Goal) (n : ℕ) (goal : Goal) (ts : List Token) → IsFree (read_goal productions n goal ts)
 unfolding read_goal

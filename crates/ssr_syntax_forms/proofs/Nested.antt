@@ -3,8 +3,8 @@ use Rattle.std.proofs.Common.{◌≡◌, ℕ, zero, suc, ◌+◌, ◌≤◌, tru
 use Rattle.ssr_syntax_forms.specs.declared.tokens.Token.{Token}
 use Rattle.ssr_syntax_forms.specs.Trees.{Forest, done, leaf, tree, join, spell}
 use Rattle.ssr_syntax_forms.specs.Fitting as rules
-use Rattle.ssr_syntax_forms.specs.Forms.{Form, one, child, mark, seal, ◌then◌, nothing, choose, many, look, check, is_one, more, taken_as, passes, agrees, holds, Productions}
-use Rattle.ssr_syntax_forms.specs.Fitting.{token, goal, marked, sealed, behind, none, first, second, stop, turn, looked, checked}
+use Rattle.ssr_syntax_forms.specs.Forms.{Form, one, child, mark, seal, ◌then◌, nothing, choose, many, look, check, wide, is_one, more, taken_as, passes, agrees, holds, Productions}
+use Rattle.ssr_syntax_forms.specs.Fitting.{token, goal, marked, sealed, behind, none, first, second, stop, turn, looked, checked, stated}
 
 abbrev pub FitsBelow : Type 0 → Type 1
 FitsBelow Goal = Goal → Forest → List Token → List Token → Type 0
@@ -35,6 +35,7 @@ FitsForm below (choose test f g) x z us rest = FitsForm below f x z us rest ⊎ 
 FitsForm below (many test f) x z us rest = (n : ℕ) × Repeats n (FitsForm below f) x z us rest
 FitsForm below (look want test) x z us rest = (us ≡ []) × (z ≡ x) × (agrees want (passes test rest) ≡ true)
 FitsForm below (check condition) x z us rest = (us ≡ []) × (z ≡ x) × (holds condition (spell x) ≡ true)
+FitsForm below (wide f g) x z us rest = FitsForm below g x z us rest
 
 -- the forest is one of the goal, with at most so many levels of goals
 unfoldable pub FitsGoal : {Goal : Type 0} → Productions Goal → ℕ → FitsBelow Goal
@@ -76,6 +77,7 @@ by_rules grammar fits h (choose test g k) x z us rest (inr f) = second (by_rules
 by_rules grammar fits h (many test g) x z us rest (count, turns_taken) = repeats_ruled grammar test g (FitsForm fits g) (by_rules grammar fits h g) count x z us rest turns_taken
 by_rules grammar fits h (look want test) x z us rest (no_tokens_taken, z_is, passed) = ends_at (Ruled grammar (look want test)) x z x us [] rest no_tokens_taken z_is (looked passed)
 by_rules grammar fits h (check condition) x z us rest (no_tokens_taken, z_is, passed) = ends_at (Ruled grammar (check condition)) x z x us [] rest no_tokens_taken z_is (checked passed)
+by_rules grammar fits h (wide f g) x z us rest fit = stated (by_rules grammar fits h g x z us rest fit)
 
 pub goals_by_rules : {Goal : Type 0} (grammar : Productions Goal) (n : ℕ) (asked : Goal) (y : Forest) (us rest : List Token)
     → FitsGoal grammar n asked y us rest → Ruled grammar (grammar asked) done y us rest
@@ -108,6 +110,7 @@ widen fits wider h (choose test g k) x z us rest (inr f) = inr (widen fits wider
 widen fits wider h (many test g) x z us rest (count, turns_taken) = (count, repeats_widen (FitsForm fits g) (FitsForm wider g) (widen fits wider h g) count x z us rest turns_taken)
 widen fits wider h (look want test) x z us rest f = f
 widen fits wider h (check condition) x z us rest f = f
+widen fits wider h (wide w v) x z us rest f = widen fits wider h v x z us rest f
 
 pub more_levels : {Goal : Type 0} (grammar : Productions Goal) (n m : ℕ) → n ≤ m → IsWider (FitsGoal grammar n) (FitsGoal grammar m)
 unfolding FitsGoal
@@ -173,6 +176,7 @@ by_levels grammar (many test f) x z _ rest (turn {y = y} {us = us} {vs = vs} h k
     turn_levels grammar test f x y z us vs rest (by_levels grammar f x y us (vs ++ rest) h) (by_levels grammar (many test f) y z vs rest k)
 by_levels grammar (look want test) x _ _ rest (looked h) = (0, (refl, refl, h))
 by_levels grammar (check condition) x _ _ rest (checked h) = (0, (refl, refl, h))
+by_levels grammar (wide f g) x z us rest (stated h) = by_levels grammar g x z us rest h
 
 pub at_some_level : {Goal : Type 0} (grammar : Productions Goal) (asked : Goal) (y : Forest) (us rest : List Token)
     → Ruled grammar (grammar asked) done y us rest → (n : ℕ) × FitsGoal grammar n asked y us rest

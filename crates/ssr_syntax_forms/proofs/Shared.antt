@@ -4,7 +4,7 @@
 pub use Rattle.ssr_syntax_forms.proofs.Results.{bind_ok, ok_one}
 -- kinds in lists
 pub use Rattle.ssr_syntax_forms.proofs.Check.{every, meets}
-pub use Rattle.ssr_syntax_forms.proofs.Members.{apart, at_next, every_mem, mem_append, one_taken}
+pub use Rattle.ssr_syntax_forms.proofs.Members.{apart, at_next, every_mem, mem_append, mem_where_whole, one_taken}
 -- tests of several strings
 pub use Rattle.ssr_syntax_forms.proofs.Tests.{first_passes, others_pass}
 -- what fits a form, with goals by levels
@@ -23,3 +23,4 @@ pub use Rattle.ssr_syntax_forms.proofs.MemoryFree.{IsFree, no_tree, free-bind, f
 pub use Rattle.ssr_syntax_forms.proofs.Levels.{goals_spell, goals_sound, read_as_run, refused_as_run}
 pub use Rattle.ssr_syntax_forms.proofs.Cuts.{cut_goals}
 pub use Rattle.ssr_syntax_forms.proofs.Loops.{run_as_long_as, run_comma_list, run_decide}
+pub use Rattle.ssr_syntax_forms.proofs.Widening.{run_also, run_also_decide, run_settle, run_choose_by, run_look_by, run_repeated_by, run_as_long_as_by, run_comma_by, run_comma_list_by}

@@ -6,7 +6,7 @@ use Rattle.ssr_syntax_kinds.specs.declared.kinds.SyntaxKind.{SyntaxKind}
 use Rattle.ssr_syntax_forms.specs.declared.tokens.Token.{Token}
 use Rattle.ssr_syntax_forms.specs.declared.fault.Fault.{Fault}
 use Rattle.ssr_syntax_forms.specs.Trees.{Forest, done, join, spell}
-use Rattle.ssr_syntax_forms.specs.Forms.{Form, one, child, mark, seal, ◌then◌, nothing, choose, many, look, check, Test, more, is_one, passes, agrees, holds, SoFar, so_far, ReadsBelow, read, past, first_leaf, repeat}
+use Rattle.ssr_syntax_forms.specs.Forms.{Form, one, child, mark, seal, ◌then◌, nothing, choose, many, look, check, wide, Test, more, is_one, passes, agrees, holds, SoFar, so_far, ReadsBelow, read, past, first_leaf, repeat}
 use Rattle.ssr_syntax_forms.proofs.Nested.{FitsBelow, Step, Repeats, FitsForm}
 use Rattle.ssr_syntax_forms.proofs.Results.{bind_ok, ok_one}
 
@@ -108,3 +108,4 @@ sound fits below h (check condition) r s e =
       | inl hit ↦ subst (λ z. Takes (FitsForm fits (check condition)) r z) (ok_one (rw hit at e)) ([], refl, (refl, refl, hit))
       | inr miss ↦ absurd (cc (rw miss at e))
     ]
+sound fits below h (wide f g) r s e = sound fits below h g r s e

@@ -5,7 +5,7 @@ use Rattle.ssr_syntax_kinds.specs.declared.kinds.SyntaxKind.{SyntaxKind}
 use Rattle.ssr_syntax_forms.specs.declared.tokens.Token.{Token}
 use Rattle.ssr_syntax_forms.specs.Kinds.{mem}
 use Rattle.ssr_syntax_forms.specs.Trees.{Forest, done}
-use Rattle.ssr_syntax_forms.specs.Forms.{Form, one, child, mark, seal, ◌then◌, nothing, choose, many, look, check, next}
+use Rattle.ssr_syntax_forms.specs.Forms.{Form, one, child, mark, seal, ◌then◌, nothing, choose, many, look, check, wide, next}
 use Rattle.ssr_syntax_forms.proofs.Nested.{FitsBelow, Repeats, FitsForm}
 use Rattle.ssr_syntax_forms.proofs.Check.{Tables, empty, firsts, passing, starts}
 use Rattle.ssr_syntax_forms.proofs.Members.{mem_left, mem_right, looked_mem, one_joined}
@@ -40,6 +40,7 @@ no_tokens t fits c (choose test g k) x z us rest (inr f) n = or_right (empty t g
 no_tokens t fits c (many test g) x z us rest f n = refl
 no_tokens t fits c (look want test) x z us rest f n = refl
 no_tokens t fits c (check condition) x z us rest f n = refl
+no_tokens t fits c (wide w v) x z us rest f n = no_tokens t fits c v x z us rest f n
 
 -- none, or a first one
 pub ends : (us : List Token) → (us ≡ []) ⊎ ((v : Token) × (vs : List Token) × (us ≡ v ∷ vs))
@@ -75,6 +76,7 @@ next_passes t fits c (choose test g k) follow x z us rest (inr f) n m =
 next_passes t fits c (many test g) follow x z us rest f n m = m
 next_passes t fits c (look want test) follow x z us rest (_, _, passed) n m = looked_mem want test rest follow passed m
 next_passes t fits c (check condition) follow x z us rest f n m = m
+next_passes t fits c (wide w v) follow x z us rest f n m = next_passes t fits c v follow x z us rest f n m
 
 two_parts : (v : Token) (first second : List SyntaxKind) (vs ws us us' : List Token) → us ≡ vs ++ ws → us ≡ v ∷ us'
     → ((w : Token) (ws' : List Token) → vs ≡ w ∷ ws' → mem w.joined first ≡ true)
@@ -124,6 +126,7 @@ first_token t fits c (many test g) x z us rest v vs (count, turns_taken) n =
     repeats_first t fits c g (first_token t fits c g) count x z us rest v vs turns_taken n
 first_token t fits c (look want test) x z us rest v vs (no_tokens_taken, _, _) n = cc (no_tokens_taken, n)
 first_token t fits c (check condition) x z us rest v vs (no_tokens_taken, _, _) n = cc (no_tokens_taken, n)
+first_token t fits c (wide f g) x z us rest v vs fit n = first_token t fits c g x z us rest v vs fit n
 
 -- the next token, before what fits the form
 pub begins : {Goal : Type 0} (t : Tables Goal) (fits : FitsBelow Goal) → Claims t fits → (form : Form Goal) (follow : List SyntaxKind)

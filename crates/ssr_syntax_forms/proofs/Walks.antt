@@ -3,7 +3,7 @@ use Rattle.std.proofs.Common.{◌≡◌, ℕ, zero, suc, Bool, true, List, [], �
 use Rattle.ssr_syntax_kinds.specs.declared.kinds.SyntaxKind.{SyntaxKind}
 use Rattle.ssr_syntax_forms.specs.declared.tokens.Token.{Token}
 use Rattle.ssr_syntax_forms.specs.Trees.{Forest, done, leaf, tree, join}
-use Rattle.ssr_syntax_forms.specs.Forms.{Form, one, child, mark, seal, ◌then◌, nothing, choose, many, look, check, is_one, more, taken_as, Productions}
+use Rattle.ssr_syntax_forms.specs.Forms.{Form, one, child, mark, seal, ◌then◌, nothing, choose, many, look, check, wide, is_one, more, taken_as, Productions}
 use Rattle.ssr_syntax_forms.proofs.Nested.{FitsBelow, Step, Repeats, FitsForm, FitsGoal, ends_at}
 
 -- The law relates what was made before, what is made then, the tokens that are taken, and those behind them.
@@ -45,6 +45,7 @@ walk law k fits h (many test g) x z us rest (count, turns_taken) =
     repeats_walk law k (FitsForm fits g) (walk law k fits h g) count x z us rest turns_taken
 walk law k fits h (look want test) x z us rest (no_tokens_taken, z_is, _) = ends_at law x z x us [] rest no_tokens_taken z_is (k.stay x rest)
 walk law k fits h (check condition) x z us rest (no_tokens_taken, z_is, _) = ends_at law x z x us [] rest no_tokens_taken z_is (k.stay x rest)
+walk law k fits h (wide f g) x z us rest fit = walk law k fits h g x z us rest fit
 
 pub walk_goals : {Goal : Type 0} (law : Step) → IsKept law → (grammar : Productions Goal)
     → (n : ℕ) (asked : Goal) (y : Forest) (us rest : List Token) → FitsGoal grammar n asked y us rest → law done y us rest

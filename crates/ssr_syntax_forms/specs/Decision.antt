@@ -4,7 +4,7 @@ use Rattle.ssr_syntax_kinds.specs.declared.kinds.SyntaxKind.{SyntaxKind}
 use Rattle.ssr_syntax_kinds.specs.Kinds.{same_kind}
 use Rattle.ssr_syntax_forms.specs.declared.tokens.Token.{Token}
 use Rattle.ssr_syntax_forms.specs.Trees.{Forest, done, leaf, tree, join, spell}
-use Rattle.ssr_syntax_forms.specs.Forms.{Productions, Form, one, child, mark, seal, ◌then◌, nothing, choose, many, look, check, is_one, more, taken_as, passes, agrees, holds, SoFar, so_far}
+use Rattle.ssr_syntax_forms.specs.Forms.{Productions, Form, one, child, mark, seal, ◌then◌, nothing, choose, many, look, check, wide, is_one, more, taken_as, passes, agrees, holds, SoFar, so_far}
 
 -- how many nodes and tokens a forest has
 abbrev pub size : Forest → ℕ
@@ -65,6 +65,7 @@ reached below (choose test f g) start r = reached below f start r || reached bel
 reached below (many test f) start r = steps_back (reached below f) (size r.made) start r
 reached below (look want test) start r = agrees want (passes test r.rest) && start r
 reached below (check condition) start r = holds condition (spell r.made) && start r
+reached below (wide f g) start r = reached below g start r
 
 -- what is made is one of the goal, with at most so many levels of goals
 abbrev pub decide_at : {Goal : Type 0} → Productions Goal → ℕ → Goal → Stages

@@ -3,7 +3,7 @@ use Rattle.std.specs.Prelude.{◌≡◌, Bool, true, List, [], ◌∷◌, ◌++�
 use Rattle.ssr_syntax_kinds.specs.declared.kinds.SyntaxKind.{SyntaxKind}
 use Rattle.ssr_syntax_forms.specs.declared.tokens.Token.{Token}
 use Rattle.ssr_syntax_forms.specs.Trees.{Forest, done, leaf, tree, join, spell}
-use Rattle.ssr_syntax_forms.specs.Forms.{Form, one, child, mark, seal, ◌then◌, nothing, choose, many, look, check, Test, Condition, Productions, is_one, more, taken_as, agrees, passes, holds}
+use Rattle.ssr_syntax_forms.specs.Forms.{Form, one, child, mark, seal, ◌then◌, nothing, choose, many, look, check, wide, Test, Condition, Productions, is_one, more, taken_as, agrees, passes, holds}
 
 -- `Fits grammar form x z us rest`: with x made since the mark, the form takes the tokens us, makes x into z, and the
 -- tokens behind us are rest. Each rule is one constructor of forms.
@@ -30,3 +30,5 @@ pub data Fits {Goal : Type 0} (grammar : Productions Goal) : Form Goal → Fores
       → agrees want (passes test rest) ≡ true → Fits grammar (look want test) x x [] rest
   checked : {condition : Condition} {x : Forest} {rest : List Token}
       → holds condition (spell x) ≡ true → Fits grammar (check condition) x x [] rest
+  stated : {f g : Form Goal} {x z : Forest} {us rest : List Token}
+      → Fits grammar g x z us rest → Fits grammar (wide f g) x z us rest

@@ -46,6 +46,8 @@ pub data Form (Goal : Type 0) : Type 0 where
   look : Bool → Test → Form Goal
   -- no token; the tokens since the mark meet the condition
   check : Condition → Form Goal
+  -- the first form where all of Rust is read, and the second one in the stated language
+  wide : Form Goal → Form Goal → Form Goal
 
 -- ** Words to write forms with.
 abbrev pub a : {Goal : Type 0} → SyntaxKind → Form Goal
@@ -84,6 +86,62 @@ comma first = choose (at (COMMA ∷ [])) (a COMMA) (look false (at first))
 -- items with commas between them, and one behind the last or not; each item begins with one of these kinds
 unfoldable pub comma_list : {Goal : Type 0} → List SyntaxKind → Form Goal → Form Goal
 comma_list first item = repeated first (item then comma first)
+
+-- ** Words by the reach. Of what is asked for by a `Bool`, `true` stands for all of Rust.
+
+-- where all of Rust is read, and one of these kinds is next, the first form; else the second one
+unfoldable pub also : {Goal : Type 0} → List SyntaxKind → Form Goal → Form Goal → Form Goal
+also first f g = wide (choose (at first) f g) g
+
+-- the same where the test passes, which tells which of both it is
+unfoldable pub also_decide : {Goal : Type 0} → Test → Form Goal → Form Goal → Form Goal
+also_decide test f g = wide (decide test f g) g
+
+-- what these kinds begin is the first form; only in all of Rust may they also stand behind the second one
+unfoldable pub settle : {Goal : Type 0} → List SyntaxKind → Form Goal → Form Goal → Form Goal
+settle first f g = wide (decide (at first) f g) (choose (at first) f g)
+
+unfoldable pub choose_by : {Goal : Type 0} → (Bool → List SyntaxKind) → Form Goal → Form Goal → Form Goal
+choose_by first f g = wide (choose (at (first true)) f g) (choose (at (first false)) f g)
+
+abbrev pub optional_by : {Goal : Type 0} → (Bool → List SyntaxKind) → Form Goal → Form Goal
+optional_by first f = choose_by first f nothing
+
+unfoldable pub look_by : {Goal : Type 0} → Bool → (Bool → List SyntaxKind) → Form Goal
+look_by want first = wide (look want (at (first true))) (look want (at (first false)))
+
+unfoldable pub repeated_by : {Goal : Type 0} → (Bool → List SyntaxKind) → Form Goal → Form Goal
+repeated_by first f = wide (repeated (first true) f) (repeated (first false) f)
+
+unfoldable pub as_long_as_by : {Goal : Type 0} → (Bool → Test) → Form Goal → Form Goal
+as_long_as_by test f = wide (as_long_as (test true) f) (as_long_as (test false) f)
+
+unfoldable pub comma_by : {Goal : Type 0} → (Bool → List SyntaxKind) → Form Goal
+comma_by first = wide (comma (first true)) (comma (first false))
+
+unfoldable pub comma_list_by : {Goal : Type 0} → (Bool → List SyntaxKind) → Form Goal → Form Goal
+comma_list_by first item = wide (comma_list (first true) item) (comma_list (first false) item)
+
+-- ** The grammar of a reach.
+
+-- the form of all of Rust
+abbrev pub widened : {Goal : Type 0} → Form Goal → Form Goal
+widened (one whole ks) = one whole ks
+widened (child goal) = child goal
+widened (mark f) = mark (widened f)
+widened (seal kind) = seal kind
+widened (f then g) = widened f then widened g
+widened nothing = nothing
+widened (choose test f g) = choose test (widened f) (widened g)
+widened (many test f) = many test (widened f)
+widened (look want test) = look want test
+widened (check condition) = check condition
+widened (wide f g) = widened f
+
+-- the form of all of Rust, or, with `false`, of the stated language
+abbrev pub of_reach : {Goal : Type 0} → Bool → Form Goal → Form Goal
+of_reach true f = widened f
+of_reach false f = f
 
 -- ** Tokens.
 -- how many tokens the one in front is joined from, beside itself
@@ -128,6 +186,9 @@ agrees false b = not b
 -- The form of each goal.
 abbrev pub Productions : Type 0 → Type 0
 Productions Goal = Goal → Form Goal
+
+abbrev pub in_reach : {Goal : Type 0} → Bool → Productions Goal → Productions Goal
+in_reach is_whole grammar goal = of_reach is_whole (grammar goal)
 
 -- ** Reading: what is made since the mark, and the tokens that are left.
 pub record SoFar : Type 0 where
@@ -179,3 +240,4 @@ read below (choose test f g) r = if passes test r.rest then read below f r else 
 read below (many test f) r = repeat (λ s. s.rest) (length r.rest + 1) test (read below f) r
 read below (look want test) r = if agrees want (passes test r.rest) then Ok r else Err faults.NoTree
 read below (check condition) r = if holds condition (spell r.made) then Ok r else Err faults.NoTree
+read below (wide f g) r = read below g r

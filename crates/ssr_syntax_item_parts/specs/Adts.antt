@@ -1,11 +1,11 @@
 -- Forms of structures and enumerations.
-use Rattle.std.specs.Prelude.{List, [], ◌∷◌}
+use Rattle.std.specs.Prelude.{Bool, List, [], ◌∷◌}
 use Rattle.ssr_syntax_kinds.specs.declared.kinds.SyntaxKind.{SyntaxKind}
 use Rattle.ssr_syntax_kinds.specs.declared.kinds.SyntaxKind.TheVariants as k
 use Rattle.ssr_syntax_types.specs.declared.goals.Goal.{Goal}
 use Rattle.ssr_syntax_types.specs.declared.goals.Goal.TheVariants.{Expr, Ty}
 use Rattle.ssr_syntax_types.specs.declared.goals.ExprPlace.TheVariants.{Anywhere}
-use Rattle.ssr_syntax_forms.specs.Forms.{Form, ◌then◌, child, mark, seal, choose, a, at, optional, comma_list}
+use Rattle.ssr_syntax_forms.specs.Forms.{Form, ◌then◌, child, mark, seal, choose, a, at, optional, comma_list, comma_list_by}
 use Rattle.ssr_syntax_types.specs.Paths.{name, type_first}
 use Rattle.ssr_syntax_types.specs.TokenTrees.{attrs}
 use Rattle.ssr_syntax_item_parts.specs.Params.{field_visibility, generic_params, visibility, wheres}
@@ -13,8 +13,8 @@ use Rattle.ssr_syntax_item_parts.specs.Params.{field_visibility, generic_params,
 abbrev pub record_field_first : List SyntaxKind
 record_field_first = k.IDENT ∷ k.POUND ∷ k.PUB_KW ∷ []
 
-unfoldable pub tuple_field_first : List SyntaxKind
-tuple_field_first = k.POUND ∷ k.PUB_KW ∷ type_first
+unfoldable pub tuple_field_first : Bool → List SyntaxKind
+tuple_field_first is_whole = k.POUND ∷ k.PUB_KW ∷ type_first is_whole
 
 abbrev pub variant_first : List SyntaxKind
 variant_first = k.IDENT ∷ k.POUND ∷ []
@@ -35,7 +35,7 @@ tuple_field = attrs then optional (k.PUB_KW ∷ []) (mark field_visibility) then
 
 unfoldable pub tuple_field_list : Form Goal
 tuple_field_list =
-    a k.L_PAREN then comma_list tuple_field_first (mark tuple_field) then a k.R_PAREN then seal k.TUPLE_FIELD_LIST
+    a k.L_PAREN then comma_list_by tuple_field_first (mark tuple_field) then a k.R_PAREN then seal k.TUPLE_FIELD_LIST
 
 unfoldable pub tuple_struct : Form Goal
 tuple_struct = mark tuple_field_list then wheres then a k.SEMICOLON

@@ -24,17 +24,17 @@ impl TokenSet for RecordFieldFirst {
     }
 }
 
-/// What a field without a name begins with.
+/// What a field without a name begins with; with `true`, where all of Rust is read.
 #[derive(Clone, Copy)]
-struct TupleFieldFirst;
+struct TupleFieldFirst(bool);
 
 impl TokenSet for TupleFieldFirst {
-    ghost kinds = { λ _. form.tuple_field_first };
+    ghost kinds = { λ s. form.tuple_field_first s.0 };
 
     #[inline(always)]
     #[tactic(auto, unfolding(crate::specs::Adts::tuple_field_first))]
     fn contains(self, kind: SyntaxKind) -> bool {
-        matches!(kind, POUND | PUB_KW) || TypeFirst.contains(kind)
+        matches!(kind, POUND | PUB_KW) || TypeFirst(self.0).contains(kind)
     }
 }
 
@@ -70,7 +70,7 @@ fn record_field<R: Reader>(goals: &R, p: &mut Parser<'_>) -> Result<(), Fault>
 
 /// RECORD_FIELD_LIST: fields in braces, with commas between them.
 #[tactic(auto, using(ssr_syntax_forms::proofs::Shared::run_comma_list), unfolding(crate::specs::Adts::record_field_list))]
-fn record_field_list<R: Reader>(goals: &R, p: &mut Parser<'_>) -> Result<(), Fault>
+pub fn record_field_list<R: Reader>(goals: &R, p: &mut Parser<'_>) -> Result<(), Fault>
     requires { R.can_read goals.now }
     ensures { Runs (R.reads goals.now) form.record_field_list p.old p.new result }
 {
@@ -97,14 +97,14 @@ fn tuple_field<R: Reader>(goals: &R, p: &mut Parser<'_>) -> Result<(), Fault>
 }
 
 /// TUPLE_FIELD_LIST: fields in parentheses, with commas between them.
-#[tactic(auto, using(ssr_syntax_forms::proofs::Shared::run_comma_list), unfolding(crate::specs::Adts::tuple_field_list))]
+#[tactic(auto, using(ssr_syntax_forms::proofs::Shared::run_comma_list_by), unfolding(crate::specs::Adts::tuple_field_list))]
 fn tuple_field_list<R: Reader>(goals: &R, p: &mut Parser<'_>) -> Result<(), Fault>
     requires { R.can_read goals.now }
     ensures { Runs (R.reads goals.now) form.tuple_field_list p.old p.new result }
 {
     let m = p.start();
     p.expect(L_PAREN)?;
-    p.comma_list(TupleFieldFirst, |p| tuple_field(goals, p))?;
+    p.comma_list(TupleFieldFirst(goals.is_whole()), |p| tuple_field(goals, p))?;
     p.expect(R_PAREN)?;
     p.complete(&m, TUPLE_FIELD_LIST)
 }

@@ -8,51 +8,51 @@ use ssr_syntax_forms::{Fault, Mark, Parser, TokenSet};
 use ssr_syntax_kinds::SyntaxKind;
 use ssr_syntax_kinds::SyntaxKind::*;
 use ssr_syntax_types::goals::{Goal, PatPlace};
-use ssr_syntax_types::paths::{
-    CloseAngle, OpenAngle, PathFirst, TypeFirst, lifetime, name, simple_path,
-};
-use ssr_syntax_types::pattern_sets::SinglePatFirst;
+use ssr_syntax_types::paths::{CloseAngle, OpenAngle, TypeFirst, lifetime, name, simple_path};
+use ssr_syntax_types::pattern_sets::ParamFirst;
 use ssr_syntax_types::reader::Reader;
-use ssr_syntax_types::types::type_bound_list;
+use ssr_syntax_types::token_trees::{attrs, some_attrs};
+use ssr_syntax_types::types::{bounds_or_none, type_bound_list, variadic, variadic_or_type};
 
-/// What a generic parameter begins with.
+/// What a generic parameter of the stated language begins with.
 #[derive(Clone, Copy)]
-struct GenericParamFirst;
+struct StatedParamFirst;
 
-impl TokenSet for GenericParamFirst {
-    ghost kinds = { λ _. form.generic_param_first };
+impl TokenSet for StatedParamFirst {
+    ghost kinds = { λ _. form.stated_param_first };
 
     #[inline(always)]
+    #[tactic(auto, unfolding(crate::specs::Params::stated_param_first))]
     fn contains(self, kind: SyntaxKind) -> bool {
         matches!(kind, IDENT | LIFETIME_IDENT | CONST_KW)
     }
 }
 
-/// What a bound begins with.
+/// What a generic parameter begins with; with `true`, where all of Rust is read.
 #[derive(Clone, Copy)]
-struct TypeBoundFirst;
+struct GenericParamFirst(bool);
 
-impl TokenSet for TypeBoundFirst {
-    ghost kinds = { λ _. form.type_bound_first };
+impl TokenSet for GenericParamFirst {
+    ghost kinds = { λ s. form.generic_param_first s.0 };
 
     #[inline(always)]
-    #[tactic(auto, unfolding(crate::specs::Params::type_bound_first))]
+    #[tactic(auto, using(ssr_syntax_forms::proofs::Shared::mem_append, ssr_syntax_forms::proofs::Shared::mem_where_whole), unfolding(crate::specs::Params::generic_param_first))]
     fn contains(self, kind: SyntaxKind) -> bool {
-        matches!(kind, LIFETIME_IDENT | QUESTION) || PathFirst.contains(kind)
+        StatedParamFirst.contains(kind) || self.0 && POUND.contains(kind)
     }
 }
 
-/// What a predicate of a `where` begins with.
+/// What a predicate of a `where` begins with; with `true`, where all of Rust is read.
 #[derive(Clone, Copy)]
-struct WherePredFirst;
+struct WherePredFirst(bool);
 
 impl TokenSet for WherePredFirst {
-    ghost kinds = { λ _. form.where_pred_first };
+    ghost kinds = { λ s. form.where_pred_first s.0 };
 
     #[inline(always)]
     #[tactic(auto, unfolding(crate::specs::Params::where_pred_first))]
     fn contains(self, kind: SyntaxKind) -> bool {
-        matches!(kind, LIFETIME_IDENT) || TypeFirst.contains(kind)
+        matches!(kind, LIFETIME_IDENT) || TypeFirst(self.0).contains(kind)
     }
 }
 
@@ -117,53 +117,37 @@ fn at_restriction(p: &Parser<'_>) -> bool
 
 /// LIFETIME_PARAM: a LIFETIME, and perhaps `:` and bounds.
 #[tactic(auto, unfolding(crate::specs::Params::lifetime_param))]
-fn lifetime_param<R: Reader>(goals: &R, p: &mut Parser<'_>) -> Result<(), Fault>
+fn lifetime_param<R: Reader>(goals: &R, p: &mut Parser<'_>, m: &Mark<'_>) -> Result<(), Fault>
     requires { R.can_read goals.now }
-    ensures { Runs (R.reads goals.now) form.lifetime_param p.old p.new result }
+    ensures { RunsFrom (R.reads goals.now) form.lifetime_param m.now p.old p.new result }
 {
-    let m = p.start();
     lifetime(goals, p)?;
     if p.at(COLON) {
         p.expect(COLON)?;
         type_bound_list(goals, p)?;
     }
-    p.complete(&m, LIFETIME_PARAM)
+    p.complete(m, LIFETIME_PARAM)
 }
 
 /// CONST_PARAM: `const`, a NAME, `:` and a type.
 #[tactic(auto, unfolding(crate::specs::Params::const_param))]
-fn const_param<R: Reader>(goals: &R, p: &mut Parser<'_>) -> Result<(), Fault>
+fn const_param<R: Reader>(goals: &R, p: &mut Parser<'_>, m: &Mark<'_>) -> Result<(), Fault>
     requires { R.can_read goals.now }
-    ensures { Runs (R.reads goals.now) form.const_param p.old p.new result }
+    ensures { RunsFrom (R.reads goals.now) form.const_param m.now p.old p.new result }
 {
-    let m = p.start();
     p.expect(CONST_KW)?;
     name(goals, p)?;
     p.expect(COLON)?;
     goals.read(p, Goal::Ty)?;
-    p.complete(&m, CONST_PARAM)
-}
-
-/// A TYPE_BOUND_LIST, or nothing.
-#[tactic(auto, unfolding(crate::specs::Params::bounds_or_none))]
-fn bounds_or_none<R: Reader>(goals: &R, p: &mut Parser<'_>) -> Result<(), Fault>
-    requires { R.can_read goals.now }
-    ensures { RunsAnywhere (R.reads goals.now) form.bounds_or_none p.old p.new result }
-{
-    if p.at_any(TypeBoundFirst) {
-        type_bound_list(goals, p)
-    } else {
-        Ok(())
-    }
+    p.complete(m, CONST_PARAM)
 }
 
 /// TYPE_PARAM: a NAME, perhaps `:` and bounds, and perhaps `=` and a type.
 #[tactic(auto, unfolding(crate::specs::Params::type_param))]
-fn type_param<R: Reader>(goals: &R, p: &mut Parser<'_>) -> Result<(), Fault>
+fn type_param<R: Reader>(goals: &R, p: &mut Parser<'_>, m: &Mark<'_>) -> Result<(), Fault>
     requires { R.can_read goals.now }
-    ensures { Runs (R.reads goals.now) form.type_param p.old p.new result }
+    ensures { RunsFrom (R.reads goals.now) form.type_param m.now p.old p.new result }
 {
-    let m = p.start();
     name(goals, p)?;
     if p.at(COLON) {
         p.expect(COLON)?;
@@ -173,35 +157,84 @@ fn type_param<R: Reader>(goals: &R, p: &mut Parser<'_>) -> Result<(), Fault>
         p.expect(EQ)?;
         goals.read(p, Goal::Ty)?;
     }
-    p.complete(&m, TYPE_PARAM)
+    p.complete(m, TYPE_PARAM)
+}
+
+/// Any generic parameter, behind its ATTRs.
+#[tactic(auto, unfolding(crate::specs::Params::bare_generic_param))]
+fn bare_generic_param<R: Reader>(goals: &R, p: &mut Parser<'_>, m: &Mark<'_>) -> Result<(), Fault>
+    requires { R.can_read goals.now }
+    ensures { RunsFrom (R.reads goals.now) form.bare_generic_param m.now p.old p.new result }
+{
+    if p.at(LIFETIME_IDENT) {
+        lifetime_param(goals, p, m)
+    } else if p.at(CONST_KW) {
+        const_param(goals, p, m)
+    } else {
+        type_param(goals, p, m)
+    }
+}
+
+/// A generic parameter with ATTRs.
+#[tactic(auto, unfolding(crate::specs::Params::attributed_generic_param))]
+fn attributed_generic_param<R: Reader>(goals: &R, p: &mut Parser<'_>) -> Result<(), Fault>
+    requires { R.can_read goals.now }
+    ensures { Runs (R.reads goals.now) form.attributed_generic_param p.old p.new result }
+{
+    let m = p.start();
+    some_attrs(goals, p)?;
+    bare_generic_param(goals, p, &m)
 }
 
 /// Any generic parameter.
-#[tactic(auto, unfolding(crate::specs::Params::generic_param))]
+#[tactic(auto, using(ssr_syntax_forms::proofs::Shared::run_also), unfolding(crate::specs::Params::generic_param))]
 fn generic_param<R: Reader>(goals: &R, p: &mut Parser<'_>) -> Result<(), Fault>
     requires { R.can_read goals.now }
     ensures { RunsAnywhere (R.reads goals.now) form.generic_param p.old p.new result }
 {
-    if p.at(LIFETIME_IDENT) {
-        lifetime_param(goals, p)
-    } else if p.at(CONST_KW) {
-        const_param(goals, p)
+    if p.at(POUND) && goals.is_whole() {
+        attributed_generic_param(goals, p)
     } else {
-        type_param(goals, p)
+        stated_generic_param(goals, p)
     }
 }
 
+/// Any generic parameter of the stated language.
+#[tactic(auto, unfolding(crate::specs::Params::stated_generic_param))]
+fn stated_generic_param<R: Reader>(goals: &R, p: &mut Parser<'_>) -> Result<(), Fault>
+    requires { R.can_read goals.now }
+    ensures { RunsAnywhere (R.reads goals.now) form.stated_generic_param p.old p.new result }
+{
+    let n = p.start();
+    bare_generic_param(goals, p, &n)
+}
+
 /// GENERIC_PARAM_LIST: parameters in angle brackets, with commas between them.
-#[tactic(auto, using(ssr_syntax_forms::proofs::Shared::run_comma_list), unfolding(crate::specs::Params::generic_param_list))]
+#[tactic(auto, using(ssr_syntax_forms::proofs::Shared::run_comma_list_by), unfolding(crate::specs::Params::generic_param_list))]
 pub fn generic_param_list<R: Reader>(goals: &R, p: &mut Parser<'_>) -> Result<(), Fault>
     requires { R.can_read goals.now }
     ensures { Runs (R.reads goals.now) form.generic_param_list p.old p.new result }
 {
     let m = p.start();
     p.expect_part(OpenAngle)?;
-    p.comma_list(GenericParamFirst, |p| generic_param(goals, p))?;
+    p.comma_list(
+        GenericParamFirst(goals.is_whole()),
+        |p| generic_param(goals, p),
+    )?;
     p.expect_part(CloseAngle)?;
     p.complete(&m, GENERIC_PARAM_LIST)
+}
+
+/// FOR_BINDER: `for` and a GENERIC_PARAM_LIST.
+#[tactic(auto, unfolding(crate::specs::Params::for_binder))]
+pub fn for_binder<R: Reader>(goals: &R, p: &mut Parser<'_>) -> Result<(), Fault>
+    requires { R.can_read goals.now }
+    ensures { Runs (R.reads goals.now) form.for_binder p.old p.new result }
+{
+    let m = p.start();
+    p.expect(FOR_KW)?;
+    generic_param_list(goals, p)?;
+    p.complete(&m, FOR_BINDER)
 }
 
 /// A GENERIC_PARAM_LIST, or nothing.
@@ -244,14 +277,14 @@ fn where_pred<R: Reader>(goals: &R, p: &mut Parser<'_>) -> Result<(), Fault>
 }
 
 /// WHERE_CLAUSE: `where` and WHERE_PREDs, with commas between them.
-#[tactic(auto, using(ssr_syntax_forms::proofs::Shared::run_comma_list), unfolding(crate::specs::Params::where_clause))]
+#[tactic(auto, using(ssr_syntax_forms::proofs::Shared::run_comma_list_by), unfolding(crate::specs::Params::where_clause))]
 fn where_clause<R: Reader>(goals: &R, p: &mut Parser<'_>) -> Result<(), Fault>
     requires { R.can_read goals.now }
     ensures { Runs (R.reads goals.now) form.where_clause p.old p.new result }
 {
     let m = p.start();
     p.expect(WHERE_KW)?;
-    p.comma_list(WherePredFirst, |p| where_pred(goals, p))?;
+    p.comma_list(WherePredFirst(goals.is_whole()), |p| where_pred(goals, p))?;
     p.complete(&m, WHERE_CLAUSE)
 }
 
@@ -295,11 +328,10 @@ fn self_reference<R: Reader>(goals: &R, p: &mut Parser<'_>) -> Result<(), Fault>
 
 /// SELF_PARAM: perhaps `&` and a LIFETIME, perhaps `mut`, `self`, and perhaps `:` and a type.
 #[tactic(auto, unfolding(crate::specs::Params::self_param))]
-fn self_param<R: Reader>(goals: &R, p: &mut Parser<'_>) -> Result<(), Fault>
+fn self_param<R: Reader>(goals: &R, p: &mut Parser<'_>, m: &Mark<'_>) -> Result<(), Fault>
     requires { R.can_read goals.now }
-    ensures { Runs (R.reads goals.now) form.self_param p.old p.new result }
+    ensures { RunsFrom (R.reads goals.now) form.self_param m.now p.old p.new result }
 {
-    let m = p.start();
     if p.at(AMP) {
         self_reference(goals, p)?;
     }
@@ -309,29 +341,78 @@ fn self_param<R: Reader>(goals: &R, p: &mut Parser<'_>) -> Result<(), Fault>
         p.expect(COLON)?;
         goals.read(p, Goal::Ty)?;
     }
-    p.complete(&m, SELF_PARAM)
+    p.complete(m, SELF_PARAM)
+}
+
+/// The type of a parameter, which in all of Rust may be `...`.
+#[tactic(auto, unfolding(crate::specs::Params::param_type))]
+fn param_type<R: Reader>(goals: &R, p: &mut Parser<'_>) -> Result<(), Fault>
+    requires { R.can_read goals.now }
+    ensures { RunsAnywhere (R.reads goals.now) form.param_type p.old p.new result }
+{
+    if goals.is_whole() {
+        variadic_or_type(goals, p)
+    } else {
+        goals.read(p, Goal::Ty)
+    }
+}
+
+/// PARAM: `...`.
+#[tactic(auto, unfolding(crate::specs::Params::variadic_param))]
+fn variadic_param<R: Reader>(goals: &R, p: &mut Parser<'_>) -> Result<(), Fault>
+    requires { R.can_read goals.now }
+    ensures { Runs (R.reads goals.now) form.variadic_param p.old p.new result }
+{
+    let m = p.start();
+    variadic(goals, p)?;
+    p.complete(&m, PARAM)
+}
+
+/// PARAM of any form.
+#[tactic(auto, using(ssr_syntax_forms::proofs::Shared::run_also_decide), unfolding(crate::specs::Params::any_param))]
+fn any_param<R: Reader>(goals: &R, p: &mut Parser<'_>) -> Result<(), Fault>
+    requires { R.can_read goals.now }
+    ensures { RunsAnywhere (R.reads goals.now) form.any_param p.old p.new result }
+{
+    if goals.is_whole() && p.at_two(DOT2, DOT) {
+        variadic_param(goals, p)
+    } else {
+        param(goals, p)
+    }
 }
 
 /// PARAM: a pattern, `:` and a type.
+#[tactic(auto, unfolding(crate::specs::Params::bare_param))]
+fn bare_param<R: Reader>(goals: &R, p: &mut Parser<'_>, m: &Mark<'_>) -> Result<(), Fault>
+    requires { R.can_read goals.now }
+    ensures { RunsFrom (R.reads goals.now) form.bare_param m.now p.old p.new result }
+{
+    goals.read(p, Goal::Pat(PatPlace::NoBar))?;
+    p.expect(COLON)?;
+    param_type(goals, p)?;
+    p.complete(m, PARAM)
+}
+
+/// PARAM, in all of Rust perhaps with ATTRs.
 #[tactic(auto, unfolding(crate::specs::Params::param))]
 fn param<R: Reader>(goals: &R, p: &mut Parser<'_>) -> Result<(), Fault>
     requires { R.can_read goals.now }
     ensures { Runs (R.reads goals.now) form.param p.old p.new result }
 {
     let m = p.start();
-    goals.read(p, Goal::Pat(PatPlace::NoBar))?;
-    p.expect(COLON)?;
-    goals.read(p, Goal::Ty)?;
-    p.complete(&m, PARAM)
+    if goals.is_whole() {
+        attrs(goals, p)?;
+    }
+    bare_param(goals, p, &m)
 }
 
 /// PARAMs with commas between them.
-#[tactic(auto, using(ssr_syntax_forms::proofs::Shared::run_comma_list), unfolding(crate::specs::Params::params))]
+#[tactic(auto, using(ssr_syntax_forms::proofs::Shared::run_comma_list_by), unfolding(crate::specs::Params::params))]
 fn params<R: Reader>(goals: &R, p: &mut Parser<'_>) -> Result<(), Fault>
     requires { R.can_read goals.now }
     ensures { RunsAnywhere (R.reads goals.now) form.params p.old p.new result }
 {
-    p.comma_list(SinglePatFirst, |p| param(goals, p))
+    p.comma_list(ParamFirst(goals.is_whole()), |p| any_param(goals, p))
 }
 
 /// SELF_PARAM, and perhaps PARAMs behind a comma.
@@ -340,7 +421,8 @@ fn params_behind_self<R: Reader>(goals: &R, p: &mut Parser<'_>) -> Result<(), Fa
     requires { R.can_read goals.now }
     ensures { RunsAnywhere (R.reads goals.now) form.params_behind_self p.old p.new result }
 {
-    self_param(goals, p)?;
+    let n = p.start();
+    self_param(goals, p, &n)?;
     if p.at(COMMA) {
         p.expect(COMMA)?;
         params(goals, p)
@@ -349,11 +431,63 @@ fn params_behind_self<R: Reader>(goals: &R, p: &mut Parser<'_>) -> Result<(), Fa
     }
 }
 
-/// All parameters of a function.
-#[tactic(auto, using(ssr_syntax_forms::proofs::Shared::run_decide), unfolding(crate::specs::Params::any_params))]
+/// SELF_PARAM or PARAM, behind its ATTRs.
+#[tactic(auto, using(ssr_syntax_forms::proofs::Shared::run_decide), unfolding(crate::specs::Params::self_or_param))]
+fn self_or_param<R: Reader>(goals: &R, p: &mut Parser<'_>, m: &Mark<'_>) -> Result<(), Fault>
+    requires { R.can_read goals.now }
+    ensures { RunsFrom (R.reads goals.now) form.self_or_param m.now p.old p.new result }
+{
+    if at_self(p) {
+        self_param(goals, p, m)
+    } else {
+        bare_param(goals, p, m)
+    }
+}
+
+/// The first parameter with its ATTRs: SELF_PARAM or PARAM.
+#[tactic(auto, unfolding(crate::specs::Params::attributed_first))]
+fn attributed_first<R: Reader>(goals: &R, p: &mut Parser<'_>) -> Result<(), Fault>
+    requires { R.can_read goals.now }
+    ensures { Runs (R.reads goals.now) form.attributed_first p.old p.new result }
+{
+    let m = p.start();
+    some_attrs(goals, p)?;
+    self_or_param(goals, p, &m)
+}
+
+/// Parameters, the first one with ATTRs.
+#[tactic(auto, unfolding(crate::specs::Params::params_behind_attributed))]
+fn params_behind_attributed<R: Reader>(goals: &R, p: &mut Parser<'_>) -> Result<(), Fault>
+    requires { R.can_read goals.now }
+    ensures { RunsAnywhere (R.reads goals.now) form.params_behind_attributed p.old p.new result }
+{
+    attributed_first(goals, p)?;
+    if p.at(COMMA) {
+        p.expect(COMMA)?;
+        params(goals, p)
+    } else {
+        Ok(())
+    }
+}
+
+/// Parameters, perhaps with SELF_PARAM in front.
+#[tactic(auto, using(ssr_syntax_forms::proofs::Shared::run_also_decide), unfolding(crate::specs::Params::any_params))]
 fn any_params<R: Reader>(goals: &R, p: &mut Parser<'_>) -> Result<(), Fault>
     requires { R.can_read goals.now }
     ensures { RunsAnywhere (R.reads goals.now) form.any_params p.old p.new result }
+{
+    if goals.is_whole() && p.at(POUND) {
+        params_behind_attributed(goals, p)
+    } else {
+        stated_params(goals, p)
+    }
+}
+
+/// All parameters of a function.
+#[tactic(auto, using(ssr_syntax_forms::proofs::Shared::run_decide), unfolding(crate::specs::Params::stated_params))]
+fn stated_params<R: Reader>(goals: &R, p: &mut Parser<'_>) -> Result<(), Fault>
+    requires { R.can_read goals.now }
+    ensures { RunsAnywhere (R.reads goals.now) form.stated_params p.old p.new result }
 {
     if at_self(p) {
         params_behind_self(goals, p)

@@ -62,7 +62,7 @@ pub fn name_or_underscore<R: Reader>(goals: &R, p: &mut Parser<'_>) -> Result<()
 
 /// RENAME: `as` and a NAME or `_`.
 #[tactic(auto, unfolding(crate::specs::Uses::rename))]
-fn rename<R: Reader>(goals: &R, p: &mut Parser<'_>) -> Result<(), Fault>
+pub fn rename<R: Reader>(goals: &R, p: &mut Parser<'_>) -> Result<(), Fault>
     requires { R.can_read goals.now }
     ensures { Runs (R.reads goals.now) form.rename p.old p.new result }
 {

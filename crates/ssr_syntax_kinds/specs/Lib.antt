@@ -1,3 +1,4 @@
 pub mod Kinds
+pub mod Reach
 pub mod TokenRows
 pub mod Private

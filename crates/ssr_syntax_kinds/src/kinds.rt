@@ -73,6 +73,10 @@ pub enum SyntaxKind {
     UNSIZED_KW,
     VIRTUAL_KW,
     YIELD_KW,
+    // Identifiers that are keywords in some places, where all of Rust is read.
+    RAW_KW,
+    SAFE_KW,
+    UNION_KW,
     // Punctuation of one character.
     SEMICOLON,
     COMMA,
@@ -243,6 +247,22 @@ pub enum SyntaxKind {
     CONST_PARAM,
     WHERE_CLAUSE,
     WHERE_PRED,
+    // Nodes of all of Rust, beyond the stated language.
+    AWAIT_EXPR,
+    UNDERSCORE_EXPR,
+    ATTR_EXPR,
+    EMPTY_STMT,
+    FN_PTR_TYPE,
+    FOR_TYPE,
+    FOR_BINDER,
+    MACRO_TYPE,
+    MACRO_PAT,
+    USE_BOUND_GENERIC_ARGS,
+    ABI,
+    EXTERN_CRATE,
+    EXTERN_BLOCK,
+    EXTERN_ITEM_LIST,
+    UNION,
 }
 
 /// The text at a place of a list.
@@ -254,7 +274,7 @@ fn text_at(texts: &[&'static str], place: usize) -> &'static str
 }
 
 /// The names of all kinds, in their order.
-const NAMES: [&str; 230] = [
+const NAMES: [&str; 248] = [
     "WHITESPACE",
     "COMMENT",
     "STRING",
@@ -318,6 +338,9 @@ const NAMES: [&str; 230] = [
     "UNSIZED_KW",
     "VIRTUAL_KW",
     "YIELD_KW",
+    "RAW_KW",
+    "SAFE_KW",
+    "UNION_KW",
     "SEMICOLON",
     "COMMA",
     "L_PAREN",
@@ -485,6 +508,21 @@ const NAMES: [&str; 230] = [
     "CONST_PARAM",
     "WHERE_CLAUSE",
     "WHERE_PRED",
+    "AWAIT_EXPR",
+    "UNDERSCORE_EXPR",
+    "ATTR_EXPR",
+    "EMPTY_STMT",
+    "FN_PTR_TYPE",
+    "FOR_TYPE",
+    "FOR_BINDER",
+    "MACRO_TYPE",
+    "MACRO_PAT",
+    "USE_BOUND_GENERIC_ARGS",
+    "ABI",
+    "EXTERN_CRATE",
+    "EXTERN_BLOCK",
+    "EXTERN_ITEM_LIST",
+    "UNION",
 ];
 
 impl SyntaxKind {

@@ -4,9 +4,11 @@
 mod fragment;
 mod kinds;
 mod range;
+mod reach;
 mod token_rows;
 
 pub use fragment::Fragment;
 pub use kinds::SyntaxKind;
 pub use range::TextRange;
+pub use reach::Reach;
 pub use token_rows::{TokenRow, TokenRows};

@@ -98,14 +98,14 @@ unfolding mark_kind
 marks_apart c kind e = mark_apart marks c kind refl e
 
 -- the kinds of punctuation stand side by side
-marks_between : (kind : SyntaxKind) → (nat_le 63 (tag_of the_type kind) && nat_le (tag_of the_type kind) 89) ≡ is_punctuation kind
+marks_between : (kind : SyntaxKind) → (nat_le 66 (tag_of the_type kind) && nat_le (tag_of the_type kind) 92) ≡ is_punctuation kind
 marks_between k.WHITESPACE = refl
 marks_between _ = refl
 
-pub marks_from : (kind : SyntaxKind) → 63 ≤ tag_of the_type kind → nat_le (tag_of the_type kind) 89 ≡ is_punctuation kind
-marks_from kind above = ap (λ b. b && nat_le (tag_of the_type kind) 89) (sym (le-leb 63 (tag_of the_type kind) above)) ∙ marks_between kind
+pub marks_from : (kind : SyntaxKind) → 66 ≤ tag_of the_type kind → nat_le (tag_of the_type kind) 92 ≡ is_punctuation kind
+marks_from kind above = ap (λ b. b && nat_le (tag_of the_type kind) 92) (sym (le-leb 66 (tag_of the_type kind) above)) ∙ marks_between kind
 
-pub no_marks_below : (kind : SyntaxKind) → tag_of the_type kind < 63 → false ≡ is_punctuation kind
-no_marks_below kind under = ap (λ b. b && nat_le (tag_of the_type kind) 89) (sym (lt-leb 63 (tag_of the_type kind) under)) ∙ marks_between kind
+pub no_marks_below : (kind : SyntaxKind) → tag_of the_type kind < 66 → false ≡ is_punctuation kind
+no_marks_below kind under = ap (λ b. b && nat_le (tag_of the_type kind) 92) (sym (lt-leb 66 (tag_of the_type kind) under)) ∙ marks_between kind
 
 pub ruleset mark_places = (marks_from, no_marks_below)

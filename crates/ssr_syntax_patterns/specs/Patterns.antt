@@ -1,13 +1,15 @@
 -- Forms of patterns.
-use Rattle.std.specs.Prelude.{false, List, [], ◌∷◌}
+use Rattle.std.specs.Prelude.{Bool, false, List, [], ◌∷◌, ◌++◌}
 use Rattle.ssr_syntax_kinds.specs.declared.kinds.SyntaxKind.{SyntaxKind}
 use Rattle.ssr_syntax_kinds.specs.declared.kinds.SyntaxKind.TheVariants as k
 use Rattle.ssr_syntax_types.specs.declared.goals.Goal.{Goal}
-use Rattle.ssr_syntax_types.specs.declared.goals.Goal.TheVariants.{Pat}
+use Rattle.ssr_syntax_types.specs.declared.goals.Goal.TheVariants.{Pat, TokenTree}
 use Rattle.ssr_syntax_types.specs.declared.goals.PatPlace.{PatPlace}
 use Rattle.ssr_syntax_types.specs.declared.goals.PatPlace.TheVariants.{TopLevel, NoBar, BehindAmp}
 use Rattle.ssr_syntax_types.specs.declared.goals.PathPlace.TheVariants.{InExpr}
-use Rattle.ssr_syntax_forms.specs.Forms.{Form, Test, ◌then◌, child, mark, seal, nothing, choose, decide, look, a, part, at, optional, repeated, comma, comma_list}
+use Rattle.ssr_syntax_forms.specs.Forms.{Form, Test, ◌then◌, child, mark, seal, nothing, choose, decide, also, also_decide, look, check, none_is, a, part, at, optional, repeated, repeated_by, comma_by, comma_list}
+use Rattle.ssr_syntax_forms.specs.Kinds.{where_whole}
+use Rattle.ssr_syntax_types.specs.TokenTrees.{some_attrs}
 use Rattle.ssr_syntax_types.specs.Literals.{literal}
 use Rattle.ssr_syntax_types.specs.Paths.{name, name_colon, name_ref, number_ref, path}
 use Rattle.ssr_syntax_types.specs.PatternSets.{bound_first, literal_pat_first, pat_first, ranges}
@@ -16,11 +18,15 @@ use Rattle.ssr_syntax_types.specs.Types.{ampersands}
 abbrev pub ident_pat_first : List SyntaxKind
 ident_pat_first = k.IDENT ∷ k.REF_KW ∷ k.MUT_KW ∷ []
 
-unfoldable pub pat_field_first : List SyntaxKind
-pat_field_first = k.IDENT ∷ k.INT_NUMBER ∷ k.REF_KW ∷ k.MUT_KW ∷ []
+unfoldable pub stated_field_first : List SyntaxKind
+stated_field_first = k.IDENT ∷ k.INT_NUMBER ∷ k.REF_KW ∷ k.MUT_KW ∷ []
 
-unfoldable pub pat_field_or_rest : List SyntaxKind
-pat_field_or_rest = k.DOT2 ∷ pat_field_first
+-- with `true`, where all of Rust is read
+unfoldable pub pat_field_first : Bool → List SyntaxKind
+pat_field_first is_whole = stated_field_first ++ where_whole is_whole (k.POUND ∷ [])
+
+unfoldable pub pat_field_or_rest : Bool → List SyntaxKind
+pat_field_or_rest is_whole = k.DOT2 ∷ pat_field_first is_whole
 
 -- behind a name, what makes it a path
 abbrev pub path_pat_next : List SyntaxKind
@@ -28,6 +34,10 @@ path_pat_next = k.COLON2 ∷ k.L_PAREN ∷ k.L_CURLY ∷ k.DOT2 ∷ k.DOT2EQ ∷
 
 abbrev pub path_ahead : Test
 path_ahead = ((k.IDENT ∷ []) ∷ path_pat_next ∷ []) ∷ []
+
+-- a name and `!`
+abbrev pub macro_pat_ahead : Test
+macro_pat_ahead = ((k.IDENT ∷ []) ∷ (k.BANG ∷ []) ∷ []) ∷ []
 
 -- ** In parentheses: none, one, or some with commas.
 
@@ -129,20 +139,29 @@ numbered_pat_field = mark number_ref then a k.COLON then child (Pat TopLevel) th
 unfoldable pub shorthand_pat_field : Form Goal
 shorthand_pat_field = mark ident_pat then seal k.RECORD_PAT_FIELD
 
+unfoldable pub numbered_or_shorthand : Form Goal
+numbered_or_shorthand = choose (at (k.INT_NUMBER ∷ [])) numbered_pat_field shorthand_pat_field
+
+unfoldable pub bare_pat_field : Form Goal
+bare_pat_field = decide name_colon named_pat_field numbered_or_shorthand
+
+unfoldable pub attributed_pat_field : Form Goal
+attributed_pat_field = some_attrs then bare_pat_field
+
+unfoldable pub stated_pat_field : Form Goal
+stated_pat_field = mark bare_pat_field
+
 unfoldable pub record_pat_field : Form Goal
-record_pat_field =
-    decide name_colon (mark named_pat_field)
-    (choose (at (k.INT_NUMBER ∷ [])) (mark numbered_pat_field)
-    (mark shorthand_pat_field))
+record_pat_field = also (k.POUND ∷ []) (mark attributed_pat_field) stated_pat_field
 
 unfoldable pub record_pat_item : Form Goal
-record_pat_item = record_pat_field then comma pat_field_or_rest
+record_pat_item = record_pat_field then comma_by pat_field_or_rest
 
 unfoldable pub record_pat_rest : Form Goal
 record_pat_rest = optional (k.DOT2 ∷ []) (mark rest_pat) then a k.R_CURLY then seal k.RECORD_PAT_FIELD_LIST
 
 unfoldable pub record_pat_field_list : Form Goal
-record_pat_field_list = a k.L_CURLY then repeated pat_field_first record_pat_item then record_pat_rest
+record_pat_field_list = a k.L_CURLY then repeated_by pat_field_first record_pat_item then record_pat_rest
 
 unfoldable pub record_pat : Form Goal
 record_pat = mark record_pat_field_list then seal k.RECORD_PAT
@@ -150,11 +169,18 @@ record_pat = mark record_pat_field_list then seal k.RECORD_PAT
 unfoldable pub bare_path_pat : PatPlace → Form Goal
 bare_path_pat place = seal k.PATH_PAT then range_pat_end place
 
-unfoldable pub path_pat_end : PatPlace → Form Goal
-path_pat_end place =
+-- all since the mark is the path, which has no generic arguments
+unfoldable pub macro_pat : Form Goal
+macro_pat = check (none_is (k.L_ANGLE ∷ [])) then a k.BANG then child TokenTree then seal k.MACRO_CALL then seal k.MACRO_PAT
+
+unfoldable pub stated_pat_end : PatPlace → Form Goal
+stated_pat_end place =
     choose (at (k.L_PAREN ∷ [])) tuple_struct_pat
     (choose (at (k.L_CURLY ∷ [])) record_pat
     (bare_path_pat place))
+
+unfoldable pub path_pat_end : PatPlace → Form Goal
+path_pat_end place = also (k.BANG ∷ []) macro_pat (stated_pat_end place)
 
 unfoldable pub path_pat : PatPlace → Form Goal
 path_pat place = mark (path InExpr) then path_pat_end place
@@ -166,8 +192,11 @@ path_but_no_name place = look false (at (k.IDENT ∷ [])) then path_pat place
 unfoldable pub name_or_path_pat : PatPlace → Form Goal
 name_or_path_pat place = choose (at ident_pat_first) (mark ident_pat) (path_but_no_name place)
 
+unfoldable pub stated_named_pat : PatPlace → Form Goal
+stated_named_pat place = decide path_ahead (path_pat place) (name_or_path_pat place)
+
 unfoldable pub named_pat : PatPlace → Form Goal
-named_pat place = decide path_ahead (path_pat place) (name_or_path_pat place)
+named_pat place = also_decide macro_pat_ahead (path_pat place) (stated_named_pat place)
 
 -- ** All of them.
 

@@ -10,6 +10,7 @@ use ssr_syntax_types::literals::literal;
 use ssr_syntax_types::paths::{name, name_ref, number_ref, path};
 use ssr_syntax_types::pattern_sets::{BoundFirst, LiteralPatFirst, PatFirst, Ranges};
 use ssr_syntax_types::reader::Reader;
+use ssr_syntax_types::token_trees::some_attrs;
 use ssr_syntax_types::types::Ampersands;
 
 /// What an IDENT_PAT begins with.
@@ -25,31 +26,45 @@ impl TokenSet for IdentPatFirst {
     }
 }
 
-/// What a field's pattern begins with.
+/// What a field's pattern of the stated language begins with.
 #[derive(Clone, Copy)]
-struct PatFieldFirst;
+struct StatedFieldFirst;
 
-impl TokenSet for PatFieldFirst {
-    ghost kinds = { λ _. form.pat_field_first };
+impl TokenSet for StatedFieldFirst {
+    ghost kinds = { λ _. form.stated_field_first };
 
     #[inline(always)]
-    #[tactic(auto, unfolding(crate::specs::Patterns::pat_field_first))]
+    #[tactic(auto, unfolding(crate::specs::Patterns::stated_field_first))]
     fn contains(self, kind: SyntaxKind) -> bool {
         matches!(kind, IDENT | INT_NUMBER | REF_KW | MUT_KW)
     }
 }
 
-/// What a field's pattern begins with, or `..`.
+/// What a field's pattern begins with; with `true`, where all of Rust is read.
 #[derive(Clone, Copy)]
-struct PatFieldOrRest;
+struct PatFieldFirst(bool);
+
+impl TokenSet for PatFieldFirst {
+    ghost kinds = { λ s. form.pat_field_first s.0 };
+
+    #[inline(always)]
+    #[tactic(auto, using(ssr_syntax_forms::proofs::Shared::mem_append, ssr_syntax_forms::proofs::Shared::mem_where_whole), unfolding(crate::specs::Patterns::pat_field_first))]
+    fn contains(self, kind: SyntaxKind) -> bool {
+        StatedFieldFirst.contains(kind) || self.0 && POUND.contains(kind)
+    }
+}
+
+/// What a field's pattern begins with, or `..`; with `true`, where all of Rust is read.
+#[derive(Clone, Copy)]
+struct PatFieldOrRest(bool);
 
 impl TokenSet for PatFieldOrRest {
-    ghost kinds = { λ _. form.pat_field_or_rest };
+    ghost kinds = { λ s. form.pat_field_or_rest s.0 };
 
     #[inline(always)]
     #[tactic(auto, unfolding(crate::specs::Patterns::pat_field_or_rest))]
     fn contains(self, kind: SyntaxKind) -> bool {
-        matches!(kind, DOT2) || PatFieldFirst.contains(kind)
+        matches!(kind, DOT2) || PatFieldFirst(self.0).contains(kind)
     }
 }
 
@@ -398,64 +413,110 @@ fn tuple_struct_pat<R: Reader>(goals: &R, p: &mut Parser<'_>, m: &Mark<'_>) -> R
 
 /// RECORD_PAT_FIELD: a name, `:` and a pattern.
 #[tactic(auto, unfolding(crate::specs::Patterns::named_pat_field))]
-fn named_pat_field<R: Reader>(goals: &R, p: &mut Parser<'_>) -> Result<(), Fault>
+fn named_pat_field<R: Reader>(goals: &R, p: &mut Parser<'_>, m: &Mark<'_>) -> Result<(), Fault>
     requires { R.can_read goals.now }
-    ensures { Runs (R.reads goals.now) form.named_pat_field p.old p.new result }
+    ensures { RunsFrom (R.reads goals.now) form.named_pat_field m.now p.old p.new result }
 {
-    let m = p.start();
     name_ref(goals, p)?;
     p.expect(COLON)?;
     goals.read(p, Goal::Pat(PatPlace::TopLevel))?;
-    p.complete(&m, RECORD_PAT_FIELD)
+    p.complete(m, RECORD_PAT_FIELD)
 }
 
 /// RECORD_PAT_FIELD: a number, `:` and a pattern.
 #[tactic(auto, unfolding(crate::specs::Patterns::numbered_pat_field))]
-fn numbered_pat_field<R: Reader>(goals: &R, p: &mut Parser<'_>) -> Result<(), Fault>
+fn numbered_pat_field<R: Reader>(goals: &R, p: &mut Parser<'_>, m: &Mark<'_>) -> Result<(), Fault>
     requires { R.can_read goals.now }
-    ensures { Runs (R.reads goals.now) form.numbered_pat_field p.old p.new result }
+    ensures { RunsFrom (R.reads goals.now) form.numbered_pat_field m.now p.old p.new result }
 {
-    let m = p.start();
     number_ref(goals, p)?;
     p.expect(COLON)?;
     goals.read(p, Goal::Pat(PatPlace::TopLevel))?;
-    p.complete(&m, RECORD_PAT_FIELD)
+    p.complete(m, RECORD_PAT_FIELD)
 }
 
 /// RECORD_PAT_FIELD: an IDENT_PAT.
 #[tactic(auto, unfolding(crate::specs::Patterns::shorthand_pat_field))]
-fn shorthand_pat_field<R: Reader>(goals: &R, p: &mut Parser<'_>) -> Result<(), Fault>
+fn shorthand_pat_field<R: Reader>(goals: &R, p: &mut Parser<'_>, m: &Mark<'_>) -> Result<(), Fault>
     requires { R.can_read goals.now }
-    ensures { Runs (R.reads goals.now) form.shorthand_pat_field p.old p.new result }
+    ensures { RunsFrom (R.reads goals.now) form.shorthand_pat_field m.now p.old p.new result }
 {
-    let m = p.start();
     ident_pat(goals, p)?;
-    p.complete(&m, RECORD_PAT_FIELD)
+    p.complete(m, RECORD_PAT_FIELD)
+}
+
+/// RECORD_PAT_FIELD by a number, or an IDENT_PAT.
+#[tactic(auto, unfolding(crate::specs::Patterns::numbered_or_shorthand))]
+fn numbered_or_shorthand<R: Reader>(
+    goals: &R,
+    p: &mut Parser<'_>,
+    m: &Mark<'_>,
+) -> Result<(), Fault>
+    requires { R.can_read goals.now }
+    ensures { RunsFrom (R.reads goals.now) form.numbered_or_shorthand m.now p.old p.new result }
+{
+    if p.at(INT_NUMBER) {
+        numbered_pat_field(goals, p, m)
+    } else {
+        shorthand_pat_field(goals, p, m)
+    }
 }
 
 /// RECORD_PAT_FIELD of any form.
-#[tactic(auto, using(ssr_syntax_forms::proofs::Shared::run_decide), unfolding(crate::specs::Patterns::record_pat_field))]
+#[tactic(auto, using(ssr_syntax_forms::proofs::Shared::run_decide), unfolding(crate::specs::Patterns::bare_pat_field))]
+fn bare_pat_field<R: Reader>(goals: &R, p: &mut Parser<'_>, m: &Mark<'_>) -> Result<(), Fault>
+    requires { R.can_read goals.now }
+    ensures { RunsFrom (R.reads goals.now) form.bare_pat_field m.now p.old p.new result }
+{
+    if p.at_two(IDENT, COLON) {
+        named_pat_field(goals, p, m)
+    } else {
+        numbered_or_shorthand(goals, p, m)
+    }
+}
+
+/// RECORD_PAT_FIELD with ATTRs.
+#[tactic(auto, unfolding(crate::specs::Patterns::attributed_pat_field))]
+fn attributed_pat_field<R: Reader>(goals: &R, p: &mut Parser<'_>) -> Result<(), Fault>
+    requires { R.can_read goals.now }
+    ensures { Runs (R.reads goals.now) form.attributed_pat_field p.old p.new result }
+{
+    let m = p.start();
+    some_attrs(goals, p)?;
+    bare_pat_field(goals, p, &m)
+}
+
+/// RECORD_PAT_FIELD, in all of Rust perhaps with ATTRs.
+#[tactic(auto, using(ssr_syntax_forms::proofs::Shared::run_also), unfolding(crate::specs::Patterns::record_pat_field))]
 fn record_pat_field<R: Reader>(goals: &R, p: &mut Parser<'_>) -> Result<(), Fault>
     requires { R.can_read goals.now }
     ensures { RunsAnywhere (R.reads goals.now) form.record_pat_field p.old p.new result }
 {
-    if p.at_two(IDENT, COLON) {
-        named_pat_field(goals, p)
-    } else if p.at(INT_NUMBER) {
-        numbered_pat_field(goals, p)
+    if p.at(POUND) && goals.is_whole() {
+        attributed_pat_field(goals, p)
     } else {
-        shorthand_pat_field(goals, p)
+        stated_pat_field(goals, p)
     }
 }
 
+/// RECORD_PAT_FIELD of the stated language.
+#[tactic(auto, using(ssr_syntax_forms::proofs::Shared::run_decide), unfolding(crate::specs::Patterns::stated_pat_field))]
+fn stated_pat_field<R: Reader>(goals: &R, p: &mut Parser<'_>) -> Result<(), Fault>
+    requires { R.can_read goals.now }
+    ensures { RunsAnywhere (R.reads goals.now) form.stated_pat_field p.old p.new result }
+{
+    let n = p.start();
+    bare_pat_field(goals, p, &n)
+}
+
 /// RECORD_PAT_FIELD and its comma.
-#[tactic(auto, unfolding(crate::specs::Patterns::record_pat_item))]
+#[tactic(auto, using(ssr_syntax_forms::proofs::Shared::run_comma_by), unfolding(crate::specs::Patterns::record_pat_item))]
 fn record_pat_item<R: Reader>(goals: &R, p: &mut Parser<'_>, m: &Mark<'_>) -> Result<(), Fault>
     requires { R.can_read goals.now }
     ensures { RunsFrom (R.reads goals.now) form.record_pat_item m.now p.old p.new result }
 {
     record_pat_field(goals, p)?;
-    p.comma(PatFieldOrRest)
+    p.comma(PatFieldOrRest(goals.is_whole()))
 }
 
 /// The end of a RECORD_PAT_FIELD_LIST: perhaps `..`, and `}`.
@@ -473,7 +534,7 @@ fn record_pat_rest<R: Reader>(goals: &R, p: &mut Parser<'_>, m: &Mark<'_>) -> Re
 }
 
 /// RECORD_PAT_FIELD_LIST: fields in braces, with commas between them, and perhaps `..` at the end.
-#[tactic(auto, unfolding(crate::specs::Patterns::record_pat_field_list))]
+#[tactic(auto, using(ssr_syntax_forms::proofs::Shared::run_repeated_by), unfolding(crate::specs::Patterns::record_pat_field_list))]
 fn record_pat_field_list<R: Reader>(
     goals: &R,
     p: &mut Parser<'_>,
@@ -483,7 +544,10 @@ fn record_pat_field_list<R: Reader>(
     ensures { RunsFrom (R.reads goals.now) form.record_pat_field_list m.now p.old p.new result }
 {
     p.expect(L_CURLY)?;
-    p.repeated(PatFieldFirst, |p| record_pat_item(goals, p, m))?;
+    p.repeated(
+        PatFieldFirst(goals.is_whole()),
+        |p| record_pat_item(goals, p, m),
+    )?;
     record_pat_rest(goals, p, m)
 }
 
@@ -514,7 +578,7 @@ fn bare_path_pat<R: Reader>(
 }
 
 /// What a pattern is that begins with a PATH, by what follows that.
-#[tactic(auto, unfolding(crate::specs::Patterns::path_pat_end))]
+#[tactic(auto, using(ssr_syntax_forms::proofs::Shared::run_also), unfolding(crate::specs::Patterns::path_pat_end))]
 fn path_pat_end<R: Reader>(
     goals: &R,
     p: &mut Parser<'_>,
@@ -523,6 +587,37 @@ fn path_pat_end<R: Reader>(
 ) -> Result<(), Fault>
     requires { R.can_read goals.now }
     ensures { RunsFrom (R.reads goals.now) (form.path_pat_end place) m.now p.old p.new result }
+{
+    if p.at(BANG) && goals.is_whole() {
+        macro_pat(goals, p, m)
+    } else {
+        stated_pat_end(goals, p, m, place)
+    }
+}
+
+/// MACRO_PAT: a MACRO_CALL, behind its PATH.
+#[tactic(auto, unfolding(crate::specs::Patterns::macro_pat))]
+fn macro_pat<R: Reader>(goals: &R, p: &mut Parser<'_>, m: &Mark<'_>) -> Result<(), Fault>
+    requires { R.can_read goals.now }
+    ensures { RunsFrom (R.reads goals.now) form.macro_pat m.now p.old p.new result }
+{
+    p.refuse_since(m, L_ANGLE)?;
+    p.expect(BANG)?;
+    goals.read(p, Goal::TokenTree)?;
+    p.complete(m, MACRO_CALL)?;
+    p.complete(m, MACRO_PAT)
+}
+
+/// What follows the PATH of a pattern of the stated language.
+#[tactic(auto, unfolding(crate::specs::Patterns::stated_pat_end))]
+fn stated_pat_end<R: Reader>(
+    goals: &R,
+    p: &mut Parser<'_>,
+    m: &Mark<'_>,
+    place: PatPlace,
+) -> Result<(), Fault>
+    requires { R.can_read goals.now }
+    ensures { RunsFrom (R.reads goals.now) (form.stated_pat_end place) m.now p.old p.new result }
 {
     if p.at(L_PAREN) {
         tuple_struct_pat(goals, p, m)
@@ -582,7 +677,7 @@ fn name_or_path_pat<R: Reader>(
 }
 
 /// A pattern that begins with a name or a PATH.
-#[tactic(auto, using(ssr_syntax_forms::proofs::Shared::run_decide), unfolding(crate::specs::Patterns::named_pat))]
+#[tactic(auto, using(ssr_syntax_forms::proofs::Shared::run_also_decide), unfolding(crate::specs::Patterns::named_pat))]
 fn named_pat<R: Reader>(
     goals: &R,
     p: &mut Parser<'_>,
@@ -591,6 +686,24 @@ fn named_pat<R: Reader>(
 ) -> Result<(), Fault>
     requires { R.can_read goals.now }
     ensures { RunsFrom (R.reads goals.now) (form.named_pat place) m.now p.old p.new result }
+{
+    if goals.is_whole() && p.at_two(IDENT, BANG) {
+        path_pat(goals, p, m, place)
+    } else {
+        stated_named_pat(goals, p, m, place)
+    }
+}
+
+/// The same in the stated language.
+#[tactic(auto, using(ssr_syntax_forms::proofs::Shared::run_decide), unfolding(crate::specs::Patterns::stated_named_pat))]
+fn stated_named_pat<R: Reader>(
+    goals: &R,
+    p: &mut Parser<'_>,
+    m: &Mark<'_>,
+    place: PatPlace,
+) -> Result<(), Fault>
+    requires { R.can_read goals.now }
+    ensures { RunsFrom (R.reads goals.now) (form.stated_named_pat place) m.now p.old p.new result }
 {
     if p.at_two(IDENT, PathPatNext) {
         path_pat(goals, p, m, place)

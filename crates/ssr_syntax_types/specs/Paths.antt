@@ -1,12 +1,13 @@
 -- Forms of names and of paths.
-use Rattle.std.specs.Prelude.{List, [], ◌∷◌, ◌++◌}
+use Rattle.std.specs.Prelude.{Bool, List, [], ◌∷◌, ◌++◌}
 use Rattle.ssr_syntax_kinds.specs.declared.kinds.SyntaxKind.{SyntaxKind}
 use Rattle.ssr_syntax_kinds.specs.declared.kinds.SyntaxKind.TheVariants as k
 use Rattle.ssr_syntax_types.specs.declared.goals.Goal.{Goal}
 use Rattle.ssr_syntax_types.specs.declared.goals.Goal.TheVariants.{Ty, PathType, GenericArgs}
 use Rattle.ssr_syntax_types.specs.declared.goals.PathPlace.{PathPlace}
 use Rattle.ssr_syntax_types.specs.declared.goals.PathPlace.TheVariants.{InExpr, InType, NamesAlone}
-use Rattle.ssr_syntax_forms.specs.Forms.{Form, Test, child, mark, seal, ◌then◌, nothing, choose, decide, a, any, part, at, optional, as_long_as, comma_list}
+use Rattle.ssr_syntax_forms.specs.Kinds.{where_whole}
+use Rattle.ssr_syntax_forms.specs.Forms.{Form, Test, child, mark, seal, ◌then◌, nothing, choose, decide, a, any, part, at, optional, as_long_as, comma_list_by}
 
 -- ** Names.
 
@@ -52,8 +53,16 @@ colon_angle = ((k.COLON2 ∷ []) ∷ open_angle ∷ []) ∷ []
 unfoldable pub path_first : List SyntaxKind
 path_first = path_names ++ k.COLON2 ∷ open_angle
 
-unfoldable pub type_first : List SyntaxKind
-type_first = k.AMP ∷ k.AMP2 ∷ k.STAR ∷ k.L_PAREN ∷ k.L_BRACK ∷ k.BANG ∷ k.UNDERSCORE ∷ k.DYN_KW ∷ k.IMPL_KW ∷ path_first
+unfoldable pub stated_type_first : List SyntaxKind
+stated_type_first = k.AMP ∷ k.AMP2 ∷ k.STAR ∷ k.L_PAREN ∷ k.L_BRACK ∷ k.BANG ∷ k.UNDERSCORE ∷ k.DYN_KW ∷ k.IMPL_KW ∷ path_first
+
+-- what else a type of all of Rust begins with
+abbrev pub whole_type_words : List SyntaxKind
+whole_type_words = k.FOR_KW ∷ k.FN_KW ∷ k.UNSAFE_KW ∷ k.EXTERN_KW ∷ []
+
+-- what a type begins with; with `true`, where all of Rust is read
+unfoldable pub type_first : Bool → List SyntaxKind
+type_first is_whole = stated_type_first ++ where_whole is_whole whole_type_words
 
 -- ** Generic arguments behind a name. In an expression they begin with `::`.
 
@@ -65,7 +74,7 @@ type_arg = child Ty then seal k.TYPE_ARG
 
 unfoldable pub parenthesized_arg_list : Form Goal
 parenthesized_arg_list =
-    a k.L_PAREN then comma_list type_first (mark type_arg) then a k.R_PAREN then seal k.PARENTHESIZED_ARG_LIST
+    a k.L_PAREN then comma_list_by type_first (mark type_arg) then a k.R_PAREN then seal k.PARENTHESIZED_ARG_LIST
 
 unfoldable pub ret_type : Form Goal
 ret_type = a k.THIN_ARROW then child Ty then seal k.RET_TYPE

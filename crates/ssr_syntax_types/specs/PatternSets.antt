@@ -1,7 +1,8 @@
 -- What patterns begin with, and the operators of ranges.
-use Rattle.std.specs.Prelude.{List, [], ◌∷◌, ◌++◌}
+use Rattle.std.specs.Prelude.{Bool, List, [], ◌∷◌, ◌++◌}
 use Rattle.ssr_syntax_kinds.specs.declared.kinds.SyntaxKind.{SyntaxKind}
 use Rattle.ssr_syntax_kinds.specs.declared.kinds.SyntaxKind.TheVariants as k
+use Rattle.ssr_syntax_forms.specs.Kinds.{where_whole}
 use Rattle.ssr_syntax_types.specs.Literals.{literals}
 use Rattle.ssr_syntax_types.specs.Paths.{path_first}
 
@@ -28,3 +29,7 @@ single_pat_first = bound_first ++ pat_marks
 -- what a pattern begins with
 unfoldable pub pat_first : List SyntaxKind
 pat_first = k.PIPE ∷ single_pat_first
+
+-- what a parameter begins with; with `true`, where all of Rust is read
+unfoldable pub param_first : Bool → List SyntaxKind
+param_first is_whole = single_pat_first ++ where_whole is_whole (k.POUND ∷ [])

@@ -4,7 +4,7 @@ use Rattle.ssr_syntax_kinds.specs.declared.kinds.SyntaxKind.{SyntaxKind}
 use Rattle.ssr_syntax_kinds.specs.declared.kinds.SyntaxKind.TheVariants as k
 use Rattle.ssr_syntax_types.specs.declared.goals.Goal.{Goal}
 use Rattle.ssr_syntax_types.specs.declared.goals.Goal.TheVariants.{TokenTree}
-use Rattle.ssr_syntax_forms.specs.Forms.{Form, ◌then◌, child, mark, seal, choose, a, part, at, repeated}
+use Rattle.ssr_syntax_forms.specs.Forms.{Form, Test, ◌then◌, nothing, child, mark, seal, choose, wide, a, part, at, repeated, as_long_as}
 use Rattle.ssr_syntax_types.specs.Literals.{literals}
 
 -- the brackets that open
@@ -72,3 +72,14 @@ inner_attr = a k.POUND then a k.BANG then child TokenTree then seal k.ATTR
 
 unfoldable pub attrs : Form Goal
 attrs = repeated (k.POUND ∷ []) (mark attr)
+
+-- one or more
+unfoldable pub some_attrs : Form Goal
+some_attrs = mark attr then attrs
+
+abbrev pub inner_attr_ahead : Test
+inner_attr_ahead = ((k.POUND ∷ []) ∷ (k.BANG ∷ []) ∷ []) ∷ []
+
+-- at the beginning of braces, of all of Rust
+unfoldable pub inner_attrs : Form Goal
+inner_attrs = wide (as_long_as inner_attr_ahead (mark inner_attr)) nothing

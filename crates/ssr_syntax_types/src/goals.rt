@@ -19,6 +19,8 @@ pub enum Goal {
     PathType,
     /// Generic arguments in angle brackets.
     GenericArgs,
+    /// `for` and lifetimes in angle brackets, which all of Rust has.
+    ForBinder,
     /// Tokens in brackets.
     TokenTree,
     /// A pattern.
@@ -91,6 +93,8 @@ pub enum ItemPlace {
     AsStmt,
     InImpl,
     InTrait,
+    /// In an EXTERN_BLOCK, which all of Rust has.
+    InExtern,
 }
 
 /// How tightly an operator binds, its precedence or binding power: 0 is the tightest.

@@ -64,20 +64,47 @@ impl TokenSet for PathFirst {
     }
 }
 
-/// What a type begins with.
+/// What a type of the stated language begins with.
 #[derive(Clone, Copy)]
-pub struct TypeFirst;
+struct StatedTypeFirst;
 
-impl TokenSet for TypeFirst {
-    ghost kinds = { λ _. form.type_first };
+impl TokenSet for StatedTypeFirst {
+    ghost kinds = { λ _. form.stated_type_first };
 
     #[inline(always)]
-    #[tactic(auto, unfolding(crate::specs::Paths::type_first))]
+    #[tactic(auto, unfolding(crate::specs::Paths::stated_type_first))]
     fn contains(self, kind: SyntaxKind) -> bool {
         matches!(
             kind,
             AMP | AMP2 | STAR | L_PAREN | L_BRACK | BANG | UNDERSCORE | DYN_KW | IMPL_KW
         ) || PathFirst.contains(kind)
+    }
+}
+
+/// What else a type of all of Rust begins with.
+#[derive(Clone, Copy)]
+struct WholeTypeWords;
+
+impl TokenSet for WholeTypeWords {
+    ghost kinds = { λ _. form.whole_type_words };
+
+    #[inline(always)]
+    fn contains(self, kind: SyntaxKind) -> bool {
+        matches!(kind, FOR_KW | FN_KW | UNSAFE_KW | EXTERN_KW)
+    }
+}
+
+/// What a type begins with; with `true`, where all of Rust is read.
+#[derive(Clone, Copy)]
+pub struct TypeFirst(pub bool);
+
+impl TokenSet for TypeFirst {
+    ghost kinds = { λ s. form.type_first s.0 };
+
+    #[inline(always)]
+    #[tactic(auto, using(ssr_syntax_forms::proofs::Shared::mem_append, ssr_syntax_forms::proofs::Shared::mem_where_whole), unfolding(crate::specs::Paths::type_first))]
+    fn contains(self, kind: SyntaxKind) -> bool {
+        StatedTypeFirst.contains(kind) || self.0 && WholeTypeWords.contains(kind)
     }
 }
 
@@ -129,7 +156,7 @@ pub fn number_ref<R: Reader>(goals: &R, p: &mut Parser<'_>) -> Result<(), Fault>
 
 /// NAME_REF in a path: an identifier, `self`, `Self`, `super` or `crate`.
 #[tactic(auto, unfolding(crate::specs::Paths::path_name))]
-fn path_name<R: Reader>(goals: &R, p: &mut Parser<'_>) -> Result<(), Fault>
+pub(crate) fn path_name<R: Reader>(goals: &R, p: &mut Parser<'_>) -> Result<(), Fault>
     requires { R.can_read goals.now }
     ensures { Runs (R.reads goals.now) form.path_name p.old p.new result }
 {
@@ -161,14 +188,14 @@ pub fn type_arg<R: Reader>(goals: &R, p: &mut Parser<'_>) -> Result<(), Fault>
 }
 
 /// PARENTHESIZED_ARG_LIST: types in parentheses, with commas between them.
-#[tactic(auto, using(ssr_syntax_forms::proofs::Shared::run_comma_list), unfolding(crate::specs::Paths::parenthesized_arg_list))]
+#[tactic(auto, using(ssr_syntax_forms::proofs::Shared::run_comma_list_by), unfolding(crate::specs::Paths::parenthesized_arg_list))]
 fn parenthesized_arg_list<R: Reader>(goals: &R, p: &mut Parser<'_>) -> Result<(), Fault>
     requires { R.can_read goals.now }
     ensures { Runs (R.reads goals.now) form.parenthesized_arg_list p.old p.new result }
 {
     let m = p.start();
     p.expect(L_PAREN)?;
-    p.comma_list(TypeFirst, |p| type_arg(goals, p))?;
+    p.comma_list(TypeFirst(goals.is_whole()), |p| type_arg(goals, p))?;
     p.expect(R_PAREN)?;
     p.complete(&m, PARENTHESIZED_ARG_LIST)
 }

@@ -93,3 +93,17 @@ impl TokenSet for PatFirst {
         matches!(kind, PIPE) || SinglePatFirst.contains(kind)
     }
 }
+
+/// What a parameter begins with; with `true`, where all of Rust is read.
+#[derive(Clone, Copy)]
+pub struct ParamFirst(pub bool);
+
+impl TokenSet for ParamFirst {
+    ghost kinds = { λ s. form.param_first s.0 };
+
+    #[inline(always)]
+    #[tactic(auto, using(ssr_syntax_forms::proofs::Shared::mem_append, ssr_syntax_forms::proofs::Shared::mem_where_whole), unfolding(crate::specs::PatternSets::param_first))]
+    fn contains(self, kind: SyntaxKind) -> bool {
+        SinglePatFirst.contains(kind) || self.0 && POUND.contains(kind)
+    }
+}

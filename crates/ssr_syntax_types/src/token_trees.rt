@@ -243,3 +243,26 @@ pub fn attrs<R: Reader>(goals: &R, p: &mut Parser<'_>) -> Result<(), Fault>
 {
     p.repeated(POUND, |p| attr(goals, p))
 }
+
+/// One ATTR or more.
+#[tactic(auto, unfolding(crate::specs::TokenTrees::some_attrs))]
+pub fn some_attrs<R: Reader>(goals: &R, p: &mut Parser<'_>) -> Result<(), Fault>
+    requires { R.can_read goals.now }
+    ensures { RunsAnywhere (R.reads goals.now) form.some_attrs p.old p.new result }
+{
+    attr(goals, p)?;
+    attrs(goals, p)
+}
+
+/// ATTRs of what stands in braces, of all of Rust.
+#[tactic(auto, using(ssr_syntax_forms::proofs::Shared::run_as_long_as), unfolding(crate::specs::TokenTrees::inner_attrs))]
+pub fn inner_attrs<R: Reader>(goals: &R, p: &mut Parser<'_>) -> Result<(), Fault>
+    requires { R.can_read goals.now }
+    ensures { RunsAnywhere (R.reads goals.now) form.inner_attrs p.old p.new result }
+{
+    if goals.is_whole() {
+        p.repeated_two(POUND, BANG, |p| inner_attr(goals, p))
+    } else {
+        Ok(())
+    }
+}

@@ -13,7 +13,7 @@ text_around w range = file_text w range.file_id.0
 
 -- the changes stand in the range, behind the text in front
 abbrev pub stands_in : Workspace → List ℕ → FileRange → List Change → Bool
-stands_in w front range cs = stands_between front (text_around w range) range.range.start range.range.end cs
+stands_in w front range cs = stands_between w.reach front (text_around w range) range.range.start range.range.end cs
 
 -- bytes of the file begin and end between characters, and end in the range
 pub record FitsRange (w : Workspace) (range : FileRange) (start end : ℕ) : Type 0 where

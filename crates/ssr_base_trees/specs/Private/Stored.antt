@@ -15,7 +15,7 @@ abbrev pub expanded_of : Stored → Expanded
 expanded_of e = record { call = e.call; syntax = e.tree; origins = map plain_origin e.origins.items }
 
 abbrev pub workspace_of : Inside → Workspace
-workspace_of w = record { files = w.files.items; expansions = map expanded_of w.expansions.items }
+workspace_of w = record { reach = w.reach; files = w.files.items; expansions = map expanded_of w.expansions.items }
 
 -- what is stored of the expansion that has a tree
 pub record IsStoredAt (w : Workspace) (tree : ℕ) (e : Stored) : Type 0 where

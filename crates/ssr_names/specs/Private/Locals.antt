@@ -6,7 +6,7 @@ use Rattle.std.specs.Map.{keys_of}
 use Rattle.ssr_syntax_tree.specs.Syntax.{Syntax}
 use Rattle.ssr_base_trees.specs.declared.ids.NodeId.{NodeId}
 use Rattle.ssr_base_trees.specs.declared.semantics.Res.{Res}
-use Rattle.ssr_base_trees.specs.Workspace.{PlacedTree, told_of}
+use Rattle.ssr_base_trees.specs.Workspace.{PlacedTree}
 use Rattle.ssr_base_trees.specs.Laws.{IsBelow}
 use Rattle.ssr_names_items.specs.declared.table.Name.{Name}
 use Rattle.ssr_names_items.specs.declared.table.Namespace.TheVariants as namespace
@@ -16,7 +16,7 @@ use Rattle.ssr_names.specs.declared.resolving.Row.{Row}
 use Rattle.ssr_names.specs.declared.words.Words.{Words}
 use Rattle.ssr_names.specs.declared.words.Binder.{Binder}
 use Rattle.ssr_names.specs.contracts.locals.BoundOrd.TheImpl as bound_order
-use Rattle.ssr_names.specs.Locals.{bound_name, is_function_at, IsBoundName}
+use Rattle.ssr_names.specs.Locals.{bound_name, is_function_at, BindsAt, HasBindingWord, IsBindingWord, IsBoundName}
 
 -- a pattern that binds a name for sure
 abbrev pub sure_binder : NodeId → Name → Binder
@@ -28,16 +28,32 @@ pub record Keeps (old new : Words) : Type 0 where
   pub binders : (b : Binder) → Contains old.binders.items b → Contains new.binders.items b
 
 -- a node of a tree is among the binders, if it binds a name that is asked for
-abbrev pub Collects : Syntax → Words → NodeId → Type 0
-Collects tree words node =
+abbrev pub CollectsPattern : Syntax → Words → NodeId → Type 0
+CollectsPattern tree words node =
     (text : List ℕ) (name : Name) → bound_name tree node.node.0 ≡ Some text → get_by_text words.asked text ≡ Some name
     → Contains words.binders.items (sure_binder node name)
+
+-- a node is among them with a token, if that is a word that is asked for
+abbrev pub CollectsWord : Syntax → Words → NodeId → ℕ → Type 0
+CollectsWord tree words node token =
+    (text : List ℕ) (name : Name) → IsBindingWord tree token text → get_by_text words.asked text ≡ Some name
+    → Contains words.binders.items (sure_binder node name)
+
+-- a node is among them with each of its words that is asked for, if it is a macro call in the place of a pattern
+abbrev pub CollectsCall : Syntax → Words → NodeId → Type 0
+CollectsCall tree words node =
+    (text : List ℕ) (name : Name) → HasBindingWord tree node.node.0 text → get_by_text words.asked text ≡ Some name
+    → Contains words.binders.items (sure_binder node name)
+
+pub record Collects (tree : Syntax) (words : Words) (node : NodeId) : Type 0 where
+  pub pattern : CollectsPattern tree words node
+  pub call : CollectsCall tree words node
 
 -- each node that binds a name that is asked for is among the binders
 abbrev pub CollectsAll : List PlacedTree → Words → Type 0
 CollectsAll trees words =
-    (node : NodeId) (text : List ℕ) (name : Name) → told_of (λ p. bound_name p.syntax node.node.0) trees node ≡ Some text
-    → get_by_text words.asked text ≡ Some name → Contains words.binders.items (sure_binder node name)
+    (node : NodeId) (text : List ℕ) (name : Name) → BindsAt trees node text → get_by_text words.asked text ≡ Some name
+    → Contains words.binders.items (sure_binder node name)
 
 abbrev pub is_bound : BTreeSet Bound → NodeId → Name → Bool
 is_bound bound function name = contains ((bound_order.ghosts).cmp) bound (record { function = function; name = name })

@@ -6,6 +6,7 @@ use Rattle.ssr_syntax_kinds.specs.declared.token_rows.TokenRow.{TokenRow}
 use Rattle.ssr_syntax_lex.specs.Tokens.{row_of, rows_in, spell, Tiles}
 use Rattle.ssr_syntax_lex.specs.declared.tokens.RawToken.{RawToken}
 use Rattle.ssr_syntax_forms.specs.declared.tokens.Token.{Token}
+use Rattle.ssr_syntax_kinds.specs.declared.reach.Reach.{Reach}
 use Rattle.ssr_syntax.specs.Reading.{IsLexFault, reading, trimmed}
 use Rattle.ssr_syntax_rows.specs.SolidKinds.{solid_kinds}
 use Rattle.ssr_syntax_rows.specs.Solid.{solid_tokens}
@@ -37,11 +38,11 @@ pub record IsCut (text : List ℕ) (rows : List TokenRow) (solid : List Token) (
   pub solid_are : solid ≡ solid_tokens raw
 
 -- a text is cut into these tokens, and this is written of what they are read as
-pub record IsWritten (goal : Goal) (text : List ℕ) (rows : List TokenRow) (out : Output) (raw : List RawToken) : Type 0 where
+pub record IsWritten (reach : Reach) (goal : Goal) (text : List ℕ) (rows : List TokenRow) (out : Output) (raw : List RawToken) : Type 0 where
   pub are : rows ≡ map row_of raw
   pub tiles : Tiles text raw
   pub spelled : spell text raw ≡ text
-  pub reads : (z : Forest) × (reading goal (solid_tokens raw) ≡ Ok z) × HasWritten out (writes z (unwritten (map (λ row. row.kind) rows)))
+  pub reads : (z : Forest) × (reading reach goal (solid_tokens raw) ≡ Ok z) × HasWritten out (writes z (unwritten (map (λ row. row.kind) rows)))
 
 -- the rows and the solid tokens of a text without the white space around it
 pub record AreTokensOf (text : List ℕ) (rows : List TokenRow) (solid : List Token) : Type 0 where

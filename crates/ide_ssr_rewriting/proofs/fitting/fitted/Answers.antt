@@ -2,6 +2,7 @@ use Rattle.std.proofs.Common.{◌≡◌, ◌∙◌, List, ℕ, Vec, String, ap, 
 use Rattle.std.specs.Global.{Global}
 use Rattle.std.proofs.lemmas.Result.{IfOk-weaker}
 use Rattle.ssr_syntax_kinds.specs.declared.range.TextRange.{TextRange}
+use Rattle.ssr_syntax_kinds.specs.declared.reach.Reach.{Reach}
 use Rattle.ssr_base_trees.specs.Applied.{changes_of}
 use Rattle.ssr_base_trees.specs.Changes.{Change}
 use Rattle.ide_ssr_rewriting.specs.Fitting.{expression_of, fitted_alone, fitted_between, is_alone, stands_between}
@@ -11,55 +12,60 @@ use Rattle.ide_ssr_rewriting.proofs.fitting.fitted.Goals as goal
 
 pub returns-then-is_alone : goal.returns-then-is_alone
 returns-then-is_alone c =
+    let reach : Reach = c.args.workspace.now.reach in
     let front : List ℕ = c.args.front.now in
     let text : List ℕ = text_around c.args.workspace.now c.args.range in
     let from : ℕ = c.args.range.range.start in
     let to : ℕ = c.args.range.range.end in
     sym
-    (alone_fitted front text from to (changes_of c.args.changes.items)
+    (alone_fitted reach front text from to (changes_of c.args.changes.items)
     (ap (λ (ps : List (TextRange × String Global)). is_alone front from to (changes_of ps)) (sym c.deref.ensures.value)
     ∙ sym c.is_alone.ensures ∙ c.if-is_alone.true))
 
 pub returns-in_default : goal.returns-in_default
 returns-in_default c =
+    let reach : Reach = c.args.workspace.now.reach in
     let front : List ℕ = c.args.front.now in
     let text : List ℕ = text_around c.args.workspace.now c.args.range in
     let from : ℕ = c.args.range.range.start in
     let to : ℕ = c.args.range.range.end in
     sym
-    (unread_fitted front text from to (changes_of c.args.changes.items)
+    (unread_fitted reach front text from to (changes_of c.args.changes.items)
     (ap (λ (ps : List (TextRange × String Global)). is_alone front from to (changes_of ps)) (sym c.deref.ensures.value)
     ∙ sym c.is_alone.ensures ∙ c.if-is_alone.false)
-    (ap (expression_of front) (sym c.between-text.ensures) ∙ sym c.in_ok-read.ensures.tree ∙ c.in_default.is))
+    (ap (expression_of reach front) (sym c.between-text.ensures)
+    ∙ ap (λ (r : Reach). expression_of r front c.between-text.result.now) (sym c.reach.ensures) ∙ sym c.in_ok-read.ensures.tree ∙ c.in_default.is))
 
 pub returns-then-branch : goal.returns-then-branch
 returns-then-branch c =
+    let reach : Reach = c.args.workspace.now.reach in
     let front : List ℕ = c.args.front.now in
     let text : List ℕ = text_around c.args.workspace.now c.args.range in
     let from : ℕ = c.args.range.range.start in
     let to : ℕ = c.args.range.range.end in
     sym
-    (standing_fitted front text from to (changes_of c.args.changes.items)
+    (standing_fitted reach front text from to (changes_of c.args.changes.items)
     (ap (λ (ps : List (TextRange × String Global)). is_alone front from to (changes_of ps)) (sym c.deref.ensures.value)
     ∙ sym c.is_alone.ensures ∙ c.if-is_alone.false)
-    (ap (λ (ps : List (TextRange × String Global)). stands_between front text from to (changes_of ps)) (sym c.deref-2.ensures.value)
+    (ap (λ (ps : List (TextRange × String Global)). stands_between reach front text from to (changes_of ps)) (sym c.deref-2.ensures.value)
     ∙ sym c.in_ok-stands.ensures ∙ c.if-branch.true))
 
 pub returns : goal.returns
 returns c =
+    let reach : Reach = c.args.workspace.now.reach in
     let front : List ℕ = c.args.front.now in
     let text : List ℕ = text_around c.args.workspace.now c.args.range in
     let from : ℕ = c.args.range.range.start in
     let to : ℕ = c.args.range.range.end in
-    let each : List Change → List Change = map (fitted_alone (stands_between front text from to)) in
+    let each : List Change → List Change = map (fitted_alone (stands_between reach front text from to)) in
     let made =
     sym
-    (each_fitted front text from to (changes_of c.args.changes.items)
+    (each_fitted reach front text from to (changes_of c.args.changes.items)
     (ap (λ (ps : List (TextRange × String Global)). is_alone front from to (changes_of ps)) (sym c.deref.ensures.value)
     ∙ sym c.is_alone.ensures ∙ c.if-is_alone.false)
-    (ap (λ (ps : List (TextRange × String Global)). stands_between front text from to (changes_of ps)) (sym c.deref-2.ensures.value)
+    (ap (λ (ps : List (TextRange × String Global)). stands_between reach front text from to (changes_of ps)) (sym c.deref-2.ensures.value)
     ∙ sym c.in_ok-stands.ensures ∙ c.if-branch.false)) in
     IfOk-weaker c.each_fitted.result (λ (fitted : Vec (TextRange × String Global) Global). changes_of fitted.items ≡ each (changes_of c.deref-3.result.now))
-    (λ (fitted : Vec (TextRange × String Global) Global). changes_of fitted.items ≡ fitted_between front text from to (changes_of c.args.changes.items))
+    (λ (fitted : Vec (TextRange × String Global) Global). changes_of fitted.items ≡ fitted_between reach front text from to (changes_of c.args.changes.items))
     (λ fitted is. is ∙ ap (λ (ps : List (TextRange × String Global)). each (changes_of ps)) c.deref-3.ensures.value ∙ made)
     c.each_fitted.ensures

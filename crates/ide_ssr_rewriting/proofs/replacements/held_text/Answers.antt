@@ -18,7 +18,7 @@ replaced-requires-clause-changes c =
     let text = file_text c.args.workspace.now c.in-Some.range.file_id.0 in
     let made : List Change = changes_of c.in_ok-made.made.items in
     subst (All (FitsFile text)) (sym (ap changes_of c.deref.ensures.value ∙ c.in_ok-changes.ensures))
-    (fits_between c.args.front.now text c.in-Some.range.range.start c.in-Some.range.range.end made (in_file c.args.workspace.now c.in-Some.range made
+    (fits_between c.args.workspace.now.reach c.args.front.now text c.in-Some.range.range.start c.in-Some.range.range.end made (in_file c.args.workspace.now c.in-Some.range made
     (changes_fit c.args.workspace.now c.in-Some.range c.args.range c.args.list.items made c.in-Some.is c.requires c.in_ok-made.ensures)))
 
 pub returns-then-is_empty : goal.returns-then-is_empty

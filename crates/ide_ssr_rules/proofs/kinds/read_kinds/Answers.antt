@@ -23,5 +23,5 @@ next_read f i d old new o small is so_far pushed =
 
 pub loop-category-preserved : goal.loop-category-preserved
 loop-category-preserved c =
-    next_read (kind_in c.args.pattern.now (option_copied c.args.template)) _ _ _ _ _ c.loop-category-test.true c.in_ok-kind.ensures
+    next_read (kind_in c.args.reach c.args.pattern.now (option_copied c.args.template)) _ _ _ _ _ c.loop-category-test.true c.in_ok-kind.ensures
     c.loop-category.invariant c.in_ok-push_some.ensures

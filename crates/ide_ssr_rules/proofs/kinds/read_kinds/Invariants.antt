@@ -5,4 +5,4 @@ use Rattle.ide_ssr_rules.specs.Kinds.{kind_in, categories}
 use Rattle.ide_ssr_rules.proofs.kinds.read_kinds.Given as goal
 
 abbrev pub invariant-loop-category : goal.invariant-loop-category
-invariant-loop-category l = l.kinds.items ≡ filter_map (kind_in l.pattern (option_copied l.template)) (take l.category-index categories)
+invariant-loop-category l = l.kinds.items ≡ filter_map (kind_in l.reach l.pattern (option_copied l.template)) (take l.category-index categories)

@@ -4,6 +4,7 @@ use Rattle.std.specs.Prelude.{unwrap_or}
 use Rattle.std.specs.Borrow.{Bor}
 use Rattle.std.specs.Option.{IfSome, option_and, option_copied, option_map}
 use Rattle.std.specs.Str.{IsUtf8}
+use Rattle.ssr_syntax_kinds.specs.declared.reach.Reach.{Reach}
 use Rattle.ide_ssr_rules.specs.declared.elements.Element.{Element}
 use Rattle.ide_ssr_rules.specs.Kinds.{kinds_of}
 use Rattle.ide_ssr_rules.specs.Private.Texts.{IsTextOf}
@@ -31,18 +32,18 @@ template_utf8 None text is = tt
 template_utf8 (Some side) text is = subst IsUtf8 is.0 is.1
 
 -- the kinds are those of both texts
-kinds_are : (pattern : List Element) (template : Option (Bor (List Element))) (text : List ℕ) (given : Bor (List ℕ)) (beside : Option (Bor (List ℕ)))
+kinds_are : (reach : Reach) (pattern : List Element) (template : Option (Bor (List Element))) (text : List ℕ) (given : Bor (List ℕ)) (beside : Option (Bor (List ℕ)))
     → IsTextOf pattern text → IsTextOf (written (option_copied template)) given.now → beside ≡ option_and template (Some given)
-    → kinds_of text (option_copied beside) ≡ kinds_of (code_of pattern) (option_map code_of (option_copied template))
-kinds_are pattern template text given beside is too same =
-    ap (λ t. kinds_of t (option_copied beside)) is.0
-    ∙ ap (kinds_of (code_of pattern)) (ap (λ o. option_copied o) same ∙ text_beside template given too)
+    → kinds_of reach text (option_copied beside) ≡ kinds_of reach (code_of pattern) (option_map code_of (option_copied template))
+kinds_are reach pattern template text given beside is too same =
+    ap (λ t. kinds_of reach t (option_copied beside)) is.0
+    ∙ ap (kinds_of reach (code_of pattern)) (ap (λ o. option_copied o) same ∙ text_beside template given too)
 
 pub returns-in_err-texts : goal.returns-in_err-texts
 returns-in_err-texts c =
     let p = err_from_is_err_and c.from_residual.result c.from_residual.ensures.1 in
     let refused = rw (ap (λ r. r.now) c.unwrap_or-written.ensures ∙ written_is c.args.template _ refl) at c.in_err-texts.ensures.refused in
-    rw (p.1, p.2) (sides_refused _ (option_copied c.args.template) _ refused)
+    rw (p.1, p.2) (sides_refused c.args.reach _ (option_copied c.args.template) _ refused)
 
 -- the texts are those of both sides
 record Texts (c : In_ok-texts) : Type 0 where
@@ -59,17 +60,17 @@ texts_are c =
     }
 
 -- and the kinds those of both texts
-kinds_here : (c : After-and) → kinds_of c.in_ok-texts.texts.pattern (option_copied c.and.result)
-    ≡ kinds_of (code_of c.args.pattern.now) (option_map code_of (option_copied c.args.template))
+kinds_here : (c : After-and) → kinds_of c.args.reach c.in_ok-texts.texts.pattern (option_copied c.and.result)
+    ≡ kinds_of c.args.reach (code_of c.args.pattern.now) (option_map code_of (option_copied c.args.template))
 kinds_here c =
     let texts = texts_are (goal.at.After-and c).In_ok-texts in
-    kinds_are c.args.pattern.now c.args.template c.in_ok-texts.texts.pattern _ c.and.result texts.pattern texts.template c.and.ensures
+    kinds_are c.args.reach c.args.pattern.now c.args.template c.in_ok-texts.texts.pattern _ c.and.result texts.pattern texts.template c.and.ensures
 
 pub returns-in_err-kinds : goal.returns-in_err-kinds
 returns-in_err-kinds c =
     let p = err_from_is_err_and c.from_residual-in_err-kinds.result c.from_residual-in_err-kinds.ensures.1 in
     let texts = texts_are (goal.at.returns-in_err-kinds c).In_ok-texts in
-    rw (p.1, p.2) (kinds_refused _ (option_copied c.args.template) _ texts.checked (rw (kinds_here (goal.at.returns-in_err-kinds c).After-and) at c.in_err-kinds.ensures))
+    rw (p.1, p.2) (kinds_refused c.args.reach _ (option_copied c.args.template) _ texts.checked (rw (kinds_here (goal.at.returns-in_err-kinds c).After-and) at c.in_err-kinds.ensures))
 
 pub returns-in_err-check_uses : goal.returns-in_err-check_uses
 returns-in_err-check_uses c =
@@ -78,7 +79,7 @@ returns-in_err-check_uses c =
     let texts = texts_are (goal.at.returns-in_err-check_uses c).In_ok-texts in
     let read = rw (kinds_here (goal.at.returns-in_err-check_uses c).After-and) at c.in_ok-kinds.ensures in
     let refused = rw is at c.in_err-check_uses.ensures in
-    rw (p.1, p.2) (uses_refused _ (option_copied c.args.template) _ _ _ texts.checked read c.as_slice.ensures.value refused)
+    rw (p.1, p.2) (uses_refused c.args.reach _ (option_copied c.args.template) _ _ _ texts.checked read c.as_slice.ensures.value refused)
 
 pub returns : goal.returns
 returns c =
@@ -86,7 +87,7 @@ returns c =
     let texts = texts_are (goal.at.returns c).In_ok-texts in
     let read = rw (kinds_here (goal.at.returns c).After-and) at c.in_ok-kinds.ensures in
     let uses = rw is at c.in_ok-check_uses.ensures in
-    rule_made _ (option_copied c.args.template) _ _ _ _ _ texts.checked read c.as_slice.ensures.value uses refl c.in_ok-names.ensures.names
+    rule_made c.args.reach _ (option_copied c.args.template) _ _ _ _ _ texts.checked read c.as_slice.ensures.value uses refl c.in_ok-names.ensures.names
     c.in_ok-names.ensures.constraints
 
 pub invariant_of-result : goal.invariant_of-result
@@ -96,7 +97,7 @@ invariant_of-result c =
     let kept = c.in_ok-names.ensures.names in record {
       few = names_few c.args.pattern.now _ _ c.requires.few kept refl;
       once =
-          kinds_once c.args.pattern.now (option_copied c.args.template) _ _
+          kinds_once c.args.reach c.args.pattern.now (option_copied c.args.template) _ _
           (record { utf8 = subst IsUtf8 texts.pattern.0 texts.pattern.1; new = c.requires.pattern_new })
           (are_read (option_copied c.args.template) (template_utf8 (option_copied c.args.template) _ texts.template) c.requires.template_new)
           texts.checked read kept;

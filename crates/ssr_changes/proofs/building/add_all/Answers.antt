@@ -12,6 +12,7 @@ loop-one-preserved c =
     let more = c.in_ok-added.ensures in
     let longer = length-append c.loop-one.yielded (one ∷ []) in
     let known = c.loop-one.invariant in record {
+      reach = more.reach ∙ known.reach;
       files = more.files ∙ known.files;
       counted = omega (arith, more.counted, c.missing-refused.ensures, known.counted, longer);
       few = omega (arith, c.missing-refused.ensures, few_missing c.in_ok-added.added, known.few, longer);

@@ -5,7 +5,7 @@ use Rattle.ssr_base_trees.specs.Origins.{Span}
 use Rattle.ssr_standing.specs.Expansions.{Spelled, closing}
 use Rattle.ssr_standing.specs.Private.Spelling.{place_of, shown}
 use Rattle.ssr_standing.specs.declared.spelling.Place.{Place}
-use Rattle.ssr_standing.proofs.Spelled.{read_is, root_kind, short_spelled}
+use Rattle.ssr_standing.proofs.Spelled.{reach_is, read_is, root_kind, short_spelled}
 use Rattle.ssr_standing.proofs.expansions.read_with.Goals as goal
 
 pub ranges-requires : goal.ranges-requires
@@ -28,7 +28,7 @@ returns-in_default c =
     c.as_str.ensures.value ∙ c.in_ok-push_str.ensures.bytes
     ∙ ap (λ (bracket : List ℕ). s.text ++ bracket) (c.closing.ensures ∙ ap closing (c.kind.ensures ∙ root_kind tree)) in
     read_is c.args.trees.now c.args.edit.now c.args.number tree s c.as_str.result.now None c.in_ok-speller.ensures closed
-    (sym c.in_default.is ∙ c.in_ok-read.ensures.tree)
+    (sym c.in_default.is ∙ c.in_ok-read.ensures.tree ∙ reach_is c.args.trees.now c.reach.result c.as_str.result.now c.reach.ensures)
 
 pub returns : goal.returns
 returns c =
@@ -40,4 +40,5 @@ returns c =
     let with_places : List Span → Option (Syntax × List Span) = λ places. Some (c.in-Some.new, places) in
     ap with_places (c.in_ok-places.ensures ∙ ap (λ (places : List Place). map place_of places) c.deref.ensures.value)
     ∙ read_is c.args.trees.now c.args.edit.now c.args.number tree s c.as_str.result.now (Some c.in-Some.new)
-    c.in_ok-speller.ensures closed (sym c.in-Some.is ∙ c.in_ok-read.ensures.tree)
+    c.in_ok-speller.ensures closed
+    (sym c.in-Some.is ∙ c.in_ok-read.ensures.tree ∙ reach_is c.args.trees.now c.reach.result c.as_str.result.now c.reach.ensures)

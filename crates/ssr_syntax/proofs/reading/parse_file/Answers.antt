@@ -1,16 +1,17 @@
-use Rattle.std.proofs.Common.{subst, length, ◌<◌, ◌^◌}
-use Rattle.ssr_syntax.specs.Reading.{file_reading, FitsFile, IsThatOrTooDeep}
-use Rattle.ssr_syntax.proofs.Texts.{told_on}
-use Rattle.ssr_syntax.proofs.TextLaws.{file_too_long}
+-- It is the reading of the stated language.
+use Rattle.ssr_syntax.specs.Reading.{file_reading}
+use Rattle.ssr_syntax.proofs.TextLaws.{file_answers_read}
 use Rattle.ssr_syntax.proofs.reading.parse_file.Goals as goal
 
-pub returns-in_err-check_length-clause-answers : goal.returns-in_err-check_length-clause-answers
-returns-in_err-check_length-clause-answers c =
-    told_on c.in_err-check_length.field-0.0 c.from_residual.result (file_reading c.args.text.now) c.args.text.now
-    c.from_residual.ensures.0 c.from_residual.ensures.1
-    (file_too_long c.args.text.now c.in_err-check_length.field-0.0 c.in_err-check_length.ensures.long)
+pub returns-clause-answers : goal.returns-clause-answers
+unfolding file_reading
+returns-clause-answers c = c.parse_file_of.ensures.answers
+
+pub returns-clause-sound : goal.returns-clause-sound
+returns-clause-sound c = c.parse_file_of.ensures.sound
+
+pub returns-clause-read : goal.returns-clause-read
+returns-clause-read c = file_answers_read c.args.text.now c.parse_file_of.result c.utf8.text (returns-clause-answers c)
 
 pub returns-clause-complete : goal.returns-clause-complete
-returns-clause-complete c syntax =
-    subst (λ t. length t < 2 ^ 32 → FitsFile t syntax → IsThatOrTooDeep (λ tree. tree) syntax c.parse_file_owned.result)
-    c.in_ok-from_str.ensures.ok (c.parse_file_owned.ensures.complete syntax)
+returns-clause-complete c = c.parse_file_of.ensures.complete

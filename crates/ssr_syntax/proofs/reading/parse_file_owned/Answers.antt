@@ -1,45 +1,20 @@
+-- It is the reading of the stated language.
 use Rattle.std.specs.Prelude.{string_bytes}
-use Rattle.std.proofs.Common.{ap, refl, sym, ◌∙◌, ◌<◌, ◌^◌, length, subst}
 use Rattle.std.proofs.lemmas.Str.{IsUtf8-string_bytes}
-use Rattle.ssr_syntax_lex.specs.Tokens.{rows_in}
-use Rattle.ssr_syntax.specs.Reading.{Answers, file_reading}
-use Rattle.ssr_syntax.proofs.Texts.{told_on}
-use Rattle.ssr_syntax.proofs.TextLaws.{file_fault, file_lexed, file_answers, file_answers_read, file_complete}
-use Rattle.ssr_syntax.proofs.TextRows.{known_rows}
+use Rattle.ssr_syntax.specs.Reading.{file_reading}
+use Rattle.ssr_syntax.proofs.TextLaws.{file_answers_read}
 use Rattle.ssr_syntax.proofs.reading.parse_file_owned.Goals as goal
-use Rattle.ssr_syntax.proofs.reading.parse_file_owned.Goals.{After-read_tokens}
-
-pub returns-in_err-rows-clause-answers : goal.returns-in_err-rows-clause-answers
-returns-in_err-rows-clause-answers c =
-    let text = string_bytes c.args.text in
-    told_on c.in_err-rows.field-0.0 c.from_residual.result (file_reading text) text c.from_residual.ensures.0 c.from_residual.ensures.1
-    (file_fault text c.as_str.result.now c.in_err-rows.field-0.0 c.as_str.ensures.value c.in_err-rows.ensures)
-
-pub read_tokens-requires : goal.read_tokens-requires
-read_tokens-requires c = record {
-  short = subst (λ text. length text < 2 ^ 32) c.as_str.ensures.value c.in_ok-rows.ensures.0;
-  lexed = ap rows_in (sym c.as_str.ensures.value) ∙ c.in_ok-rows.ensures.1;
-}
-
--- the text is read as its tokens are
-reads : (c : After-read_tokens) → Answers c.read_tokens.result (file_reading (string_bytes c.args.text)) (string_bytes c.args.text)
-reads c =
-    let text = string_bytes c.args.text in
-    let known = known_rows text c.in_ok-rows.rows (IsUtf8-string_bytes c.args.text) (ap rows_in (sym c.as_str.ensures.value) ∙ c.in_ok-rows.ensures.1) in
-    file_lexed text text known.0 c.read_tokens.result refl (subst (λ text. length text < 2 ^ 32) c.as_str.ensures.value c.in_ok-rows.ensures.0)
-    known.1.lexed (c.read_tokens.ensures known.0 known.1.lexed)
 
 pub returns-clause-answers : goal.returns-clause-answers
-returns-clause-answers c = reads (goal.at.returns-clause-answers c).After-read_tokens
+unfolding file_reading
+returns-clause-answers c = c.parse_file_owned_of.ensures.answers
 
 pub returns-clause-sound : goal.returns-clause-sound
-returns-clause-sound c =
-    file_answers (string_bytes c.args.text) c.read_tokens.result (IsUtf8-string_bytes c.args.text) (reads (goal.at.returns-clause-sound c).After-read_tokens)
+returns-clause-sound c = c.parse_file_owned_of.ensures.sound
 
 pub returns-clause-read : goal.returns-clause-read
 returns-clause-read c =
-    file_answers_read (string_bytes c.args.text) c.read_tokens.result (IsUtf8-string_bytes c.args.text) (reads (goal.at.returns-clause-read c).After-read_tokens)
+    file_answers_read (string_bytes c.args.text) c.parse_file_owned_of.result (IsUtf8-string_bytes c.args.text) (returns-clause-answers c)
 
 pub returns-clause-complete : goal.returns-clause-complete
-returns-clause-complete c syntax short fits =
-    file_complete (string_bytes c.args.text) syntax c.read_tokens.result short fits (reads (goal.at.returns-clause-complete c).After-read_tokens)
+returns-clause-complete c = c.parse_file_owned_of.ensures.complete

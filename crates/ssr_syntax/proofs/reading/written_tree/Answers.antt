@@ -5,6 +5,7 @@ use Rattle.ssr_syntax_lex.specs.declared.tokens.RawToken.{RawToken}
 use Rattle.ssr_syntax_lex.specs.Tokens.{row_of}
 use Rattle.ssr_syntax_tree.specs.Parts.{AreParts}
 use Rattle.ssr_syntax_rows.specs.Leaves.{leaves}
+use Rattle.ssr_syntax_kinds.specs.declared.reach.Reach.{Reach}
 use Rattle.ssr_syntax_types.specs.declared.goals.Goal.{Goal}
 use Rattle.ssr_syntax_rows.specs.Lossless.{whole_tree}
 use Rattle.ssr_syntax_rows.specs.MacroRules.{misnames_macros}
@@ -22,42 +23,42 @@ use Rattle.ssr_syntax.proofs.reading.written_tree.Goals.{After-deref, In_ok-node
 
 pub overflow_cast-len : goal.overflow_cast-len
 overflow_cast-len c =
-    let is = c.requires.written.2 in
+    let is = c.requires.written.3 in
     omega (
       arith,
-      rows_count (string_bytes c.args.text) c.args.rows c.requires.written.1 is.are is.tiles,
+      rows_count (string_bytes c.args.text) c.args.rows c.requires.written.2 is.are is.tiles,
       c.requires.short,
       c.tree_tokens-tokens.ensures.count,
       c.len.ensures,
     )
 
 -- what was written
-written_is : (c : After-deref) (g : Goal) (raw : List RawToken) → IsWritten g (string_bytes c.args.text) c.args.rows c.args.written raw
-    → WrittenOfText g (string_bytes c.args.text) raw c.args.written
-written_is c g raw is =
+written_is : (c : After-deref) (reach : Reach) (g : Goal) (raw : List RawToken) → IsWritten reach g (string_bytes c.args.text) c.args.rows c.args.written raw
+    → WrittenOfText reach g (string_bytes c.args.text) raw c.args.written
+written_is c reach g raw is =
     let reads = is.reads in
-    written_read g (string_bytes c.args.text) raw reads.0 c.args.rows c.args.written reads.1 is.are reads.2
+    written_read reach g (string_bytes c.args.text) raw reads.0 c.args.rows c.args.written reads.1 is.are reads.2
 
 pub returns-in_err-nodes : goal.returns-in_err-nodes
-returns-in_err-nodes c g raw are =
+returns-in_err-nodes c reach g raw are =
     let text = string_bytes c.args.text in
-    let w = written_is (goal.at.returns-in_err-nodes c).After-deref g raw are in
-    told_on (error_of c.in_err-nodes.field-0.0) c.from_residual.result (tree_reading g text raw) text
+    let w = written_is (goal.at.returns-in_err-nodes c).After-deref reach g raw are in
+    told_on (error_of c.in_err-nodes.field-0.0) c.from_residual.result (tree_reading reach g text raw) text
     c.from_residual.ensures.0 c.from_residual.ensures.1
-    (depth_fault g text raw w.kind w.kids c.in_err-nodes.field-0.0 c.requires.short w.read
+    (depth_fault reach g text raw w.kind w.kids c.in_err-nodes.field-0.0 c.requires.short w.read
     (c.in_err-nodes.ensures w.kind w.kids (start_of raw) w.rows))
 
 -- the parts of the flat tree
-parts_are : (c : In_ok-nodes) (g : Goal) (raw : List RawToken) (are : IsWritten g (string_bytes c.args.text) c.args.rows c.args.written raw)
-    (w : WrittenOfText g (string_bytes c.args.text) raw c.args.written)
+parts_are : (c : In_ok-nodes) (reach : Reach) (g : Goal) (raw : List RawToken) (are : IsWritten reach g (string_bytes c.args.text) c.args.rows c.args.written raw)
+    (w : WrittenOfText reach g (string_bytes c.args.text) raw c.args.written)
     → AreParts (string_bytes c.args.text) c.tree_tokens-tokens.result c.in_ok-nodes.nodes
     (whole_tree w.kind w.kids (pieces (string_bytes c.args.text) raw))
-parts_are c g raw are w =
+parts_are c reach g raw are w =
     let text = string_bytes c.args.text in
     let n = c.in_ok-nodes.ensures w.kind w.kids (start_of raw) w.rows in
     let rows_are : c.tree_tokens-tokens.result ≡ taken_rows 0 (leaves w.kids) (map row_of raw) =
     c.tree_tokens-tokens.ensures.rows ∙ ap (λ js. joined_rows 0 0 js c.args.rows) c.deref.ensures.value
-    ∙ tokens_told g text raw c.args.rows c.args.written w are.are in
+    ∙ tokens_told reach g text raw c.args.rows c.args.written w are.are in
     let count : c.len.result ≡ length (taken_rows 0 (leaves w.kids) (map row_of raw)) = c.len.ensures ∙ ap length rows_are in
     whole_parts text raw w.kind w.kids text c.tree_tokens-tokens.result c.in_ok-nodes.nodes
     (IsUtf8-string_bytes c.args.text) c.requires.short are.tiles are.spelled w.read.are_solid w.read.few
@@ -68,25 +69,25 @@ pub from_parts-tree-requires : goal.from_parts-tree-requires
 from_parts-tree-requires c =
     let text = string_bytes c.args.text in
     let known = c.requires.written in
-    let w = written_is (goal.at.from_parts-tree-requires c).After-deref known.0 known.1 known.2 in (
-      whole_tree w.kind w.kids (pieces text known.1),
-      parts_are (goal.at.from_parts-tree-requires c).In_ok-nodes known.0 known.1 known.2 w,
+    let w = written_is (goal.at.from_parts-tree-requires c).After-deref known.0 known.1 known.2 known.3 in (
+      whole_tree w.kind w.kids (pieces text known.2),
+      parts_are (goal.at.from_parts-tree-requires c).In_ok-nodes known.0 known.1 known.2 known.3 w,
     )
 
 pub returns-then-misnames_macros : goal.returns-then-misnames_macros
-returns-then-misnames_macros c g raw are =
+returns-then-misnames_macros c reach g raw are =
     let text = string_bytes c.args.text in
-    let w = written_is (goal.at.returns-then-misnames_macros c).After-deref g raw are in
-    let is = c.from_parts-tree.ensures (whole_tree w.kind w.kids (pieces text raw)) (parts_are (goal.at.returns-then-misnames_macros c).In_ok-nodes g raw are w) in
-    refused errors.NoTree (tree_reading g text raw) text c.requires.short
-    (read_misnamed g text raw w.kind w.kids w.read (c.in_ok-nodes.ensures w.kind w.kids (start_of raw) w.rows).0
+    let w = written_is (goal.at.returns-then-misnames_macros c).After-deref reach g raw are in
+    let is = c.from_parts-tree.ensures (whole_tree w.kind w.kids (pieces text raw)) (parts_are (goal.at.returns-then-misnames_macros c).In_ok-nodes reach g raw are w) in
+    refused errors.NoTree (tree_reading reach g text raw) text c.requires.short
+    (read_misnamed reach g text raw w.kind w.kids w.read (c.in_ok-nodes.ensures w.kind w.kids (start_of raw) w.rows).0
     (ap misnames_macros (sym is) ∙ sym c.misnames_macros.ensures ∙ c.if-misnames_macros.true))
 
 pub returns : goal.returns
-returns c g raw are =
+returns c reach g raw are =
     let text = string_bytes c.args.text in
-    let w = written_is (goal.at.returns c).After-deref g raw are in
-    let is = c.from_parts-tree.ensures (whole_tree w.kind w.kids (pieces text raw)) (parts_are (goal.at.returns c).In_ok-nodes g raw are w) in
-    read_ok g text raw w.kind w.kids w.read (c.in_ok-nodes.ensures w.kind w.kids (start_of raw) w.rows).0
+    let w = written_is (goal.at.returns c).After-deref reach g raw are in
+    let is = c.from_parts-tree.ensures (whole_tree w.kind w.kids (pieces text raw)) (parts_are (goal.at.returns c).In_ok-nodes reach g raw are w) in
+    read_ok reach g text raw w.kind w.kids w.read (c.in_ok-nodes.ensures w.kind w.kids (start_of raw) w.rows).0
     (ap misnames_macros (sym is) ∙ sym c.misnames_macros.ensures ∙ c.if-misnames_macros.false)
     ∙ ap Ok (sym is)

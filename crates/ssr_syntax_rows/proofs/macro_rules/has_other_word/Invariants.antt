@@ -7,6 +7,6 @@ use Rattle.ssr_syntax_rows.proofs.macro_rules.has_other_word.Given as goal
 
 abbrev pub invariant-loop-child : goal.invariant-loop-child
 invariant-loop-child l = record {
-  so_far : list_any is_other_word (map (part_of l.tree) l.child-iterator) ≡ list_any is_other_word (parts_of (node_of l.tree l.fn.node.0));
+  so_far : list_any (is_other_word l.word) (map (part_of l.tree) l.child-iterator) ≡ list_any (is_other_word l.word) (parts_of (node_of l.tree l.fn.node.0));
   had : All (HasElement l.tree) l.child-iterator;
 }

@@ -1,5 +1,6 @@
 use Rattle.std.proofs.Common.{◌≡◌, ◌∙◌, ◌+◌, ◌<◌, ◌^◌, List, ℕ, ap, length, map, subst, sym, arith}
 use Rattle.std.specs.Prelude.{IfSome, Option, Some, None}
+use Rattle.ssr_syntax_kinds.specs.declared.reach.Reach.{Reach}
 use Rattle.ssr_syntax_tree.specs.Syntax.{Syntax}
 use Rattle.ssr_base_trees.specs.Applied.{changes_of}
 use Rattle.ssr_base_trees.specs.Changes.{Change, replaced}
@@ -37,8 +38,9 @@ returns-in_default c =
     let cs : List Change = changes_of c.args.changes.now in
     let text : List ℕ = text_around part.workspace.now part.range in
     let made : c.as_str.result.now ≡ replaced text part.range.range.start part.range.range.end cs = c.as_str.ensures.value ∙ c.in_ok-text.ensures in
-    stands_as part.front.now text part.range.range.start part.range.range.end cs part.tree None part.read
-    (sym c.in_default.is ∙ c.in_ok-read.ensures.tree ∙ ap (expression_of part.front.now) made)
+    stands_as part.workspace.now.reach part.front.now text part.range.range.start part.range.range.end cs part.tree None part.read
+    (sym c.in_default.is ∙ c.in_ok-read.ensures.tree ∙ ap (λ (r : Reach). expression_of r part.front.now c.as_str.result.now) c.reach.ensures
+    ∙ ap (expression_of part.workspace.now.reach part.front.now) made)
 
 pub returns : goal.returns
 returns c =
@@ -56,5 +58,6 @@ returns c =
     (stands_in part.workspace.now part.front.now part.range cs) c.agree.ensures.value
     (ap (λ (places : List Span). agree part.tree places c.in-Some.new (map span_of c.deref-2.result.now)) olds
     ∙ ap (λ (places : List Span). agree part.tree (old_places at from cs) c.in-Some.new places) news
-    ∙ stands_as part.front.now text from part.range.range.end cs part.tree (Some c.in-Some.new) part.read
-    (sym c.in-Some.is ∙ c.in_ok-read.ensures.tree ∙ ap (expression_of part.front.now) made))
+    ∙ stands_as part.workspace.now.reach part.front.now text from part.range.range.end cs part.tree (Some c.in-Some.new) part.read
+    (sym c.in-Some.is ∙ c.in_ok-read.ensures.tree ∙ ap (λ (r : Reach). expression_of r part.front.now c.as_str.result.now) c.reach.ensures
+    ∙ ap (expression_of part.workspace.now.reach part.front.now) made))

@@ -1,10 +1,7 @@
-use Rattle.std.proofs.lemmas.Result.{err_from_is_err_and}
+-- It is the reading of the stated language.
+use Rattle.ide_ssr_rules.specs.Rules.{pattern_reading}
 use Rattle.ide_ssr_rules.proofs.rules.SsrPattern.parse.Goals as goal
 
 pub returns : goal.returns
-returns c = c.in_ok-parsed.ensures
-
-pub returns-in_err-parsed : goal.returns-in_err-parsed
-returns-in_err-parsed c =
-    let p = err_from_is_err_and c.from_residual.result c.from_residual.ensures.1 in
-    rw (p.1, p.2) c.in_err-parsed.ensures
+unfolding pattern_reading
+returns c = c.parse_of.ensures

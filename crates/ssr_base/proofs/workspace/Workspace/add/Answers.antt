@@ -1,14 +1,21 @@
-use Rattle.std.proofs.Common.{◌≡◌, Err, sym, ap, ◌∙◌}
-use Rattle.ssr_base_trees.specs.Workspace.{Workspace}
-use Rattle.ssr_base.specs.Building.{checked_call}
-use Rattle.ssr_base.proofs.Adding.{other_refusal}
+use Rattle.ssr_syntax.specs.Expansions.{expansion_reading}
+use Rattle.ssr_base.proofs.Adding.{added_so, in_stated, refused_so, memory_so}
 use Rattle.ssr_base.proofs.workspace.Workspace.add.Goals as goal
 
-pub returns-in_err-call-clause-memory : goal.returns-in_err-call-clause-memory
-returns-in_err-call-clause-memory c =
-    let w = c.args.self.now in
-    let x = c.args.expansion.now in
-    let e = c.in_err-call.field-0.0 in
-    let view : c.self.inside.trees ≡ w = c.self.view_is in
-    let is : checked_call w x ≡ Err e = sym (c.in_err-call.ensures ∙ ap (λ (w : Workspace). checked_call w x) view) in
-    other_refusal w x c.from_residual-in_err-call.result e c.from_residual-in_err-call.ensures.1 is
+pub add_as-requires : goal.add_as-requires
+add_as-requires c = in_stated c.args.expansion.now.kind c.args.expansion.now.tokens.items c.args.tree c.requires
+
+pub returns-clause-added : goal.returns-clause-added
+returns-clause-added c =
+    added_so c.args.self.now c.add_as.new.self c.args.expansion.now c.add_as.result
+    (expansion_reading c.args.expansion.now.kind c.args.expansion.now.tokens.items) c.args.tree c.requires c.add_as.ensures.added
+
+pub returns-clause-refused : goal.returns-clause-refused
+returns-clause-refused c =
+    refused_so c.args.self.now c.add_as.new.self c.args.expansion.now c.add_as.result
+    (expansion_reading c.args.expansion.now.kind c.args.expansion.now.tokens.items) c.args.tree c.requires c.add_as.ensures.refused
+
+pub returns-clause-memory : goal.returns-clause-memory
+returns-clause-memory c =
+    memory_so c.args.self.now c.add_as.new.self c.args.expansion.now c.add_as.result
+    (expansion_reading c.args.expansion.now.kind c.args.expansion.now.tokens.items) c.args.tree c.requires c.add_as.ensures.memory

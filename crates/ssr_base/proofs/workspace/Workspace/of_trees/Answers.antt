@@ -1,11 +1,9 @@
-use Rattle.std.proofs.Common.{All, sym, subst}
-use Rattle.ssr_syntax.specs.Reading.{IsRead}
-use Rattle.ssr_base_trees.specs.Workspace.{Workspace}
-use Rattle.ssr_base.proofs.Built.{built_trees}
+-- They are read in the stated language.
+use Rattle.std.proofs.lemmas.List.Elements.{All-weaker}
+use Rattle.ssr_syntax_kinds.specs.declared.reach.Reach.TheVariants.{Stated}
+use Rattle.ssr_syntax.specs.Reading.{IsRead, IsReadOf}
+use Rattle.ssr_syntax.proofs.Shared.{read_stated}
 use Rattle.ssr_base.proofs.workspace.Workspace.of_trees.Goals as goal
 
-pub of_files-requires : goal.of_files-requires
-of_files-requires c = built_trees c.args.trees.items c.requires.few c.requires.read
-
-pub invariant_of-result : goal.invariant_of-result
-invariant_of-result c = subst (λ (w : Workspace). All IsRead w.files) (sym c.of_files.ensures) c.requires.read
+pub of_trees_of-requires-clause-read : goal.of_trees_of-requires-clause-read
+of_trees_of-requires-clause-read c = All-weaker IsRead (IsReadOf Stated) read_stated c.args.trees.items c.requires.read

@@ -1,7 +1,7 @@
-use Rattle.std.proofs.Common.{All, subst}
-use Rattle.ssr_syntax.specs.Reading.{IsRead}
+use Rattle.std.proofs.Common.{subst}
 use Rattle.ssr_base_trees.specs.Workspace.{Workspace}
+use Rattle.ssr_base.specs.Building.{AreRead}
 use Rattle.ssr_base.proofs.workspace.Workspace.trees.Goals as goal
 
 pub returns-clause-read : goal.returns-clause-read
-returns-clause-read c = subst (λ (w : Workspace). All IsRead w.files) c.self.view_is c.self.invariant
+returns-clause-read c = subst (λ (w : Workspace). AreRead w) c.self.view_is c.self.invariant

@@ -1,6 +1,7 @@
 use Rattle.std.proofs.Common.{◌<◌, ◌≤◌, length, map, sym, ap, ◌∙◌, inl, inr, refl, arith}
 use Rattle.std.proofs.lemmas.Grind.{common_steps}
-use Rattle.ssr_syntax.specs.Reading.{file_reading}
+use Rattle.ssr_syntax_kinds.specs.declared.reach.Reach.TheVariants.{Whole}
+use Rattle.ssr_syntax.specs.Reading.{file_reading_of}
 use Rattle.ssr_syntax.specs.declared.syntax_error.SyntaxError.TheVariants as errors
 use Rattle.ssr_base_trees.specs.Built.{most_trees}
 use Rattle.ssr_base_trees.specs.Origins.{span_of}
@@ -23,5 +24,5 @@ returns-in_ok-push-in-Ok-2 c =
 
 pub returns-in-Err : goal.returns-in-Err
 returns-in-Err c =
-    is_told c.args.self.now _ c.args.file c.in-Err.why (λ other. inl (ap file_reading (sym c.as_str.ensures.value) ∙ c.in-Err.ensures.error other))
+    is_told c.args.self.now _ c.args.file c.in-Err.why (λ other. inl (ap (file_reading_of Whole) (sym c.as_str.ensures.value) ∙ c.in-Err.ensures.error other))
     c.tell-in-Err.result c.tell-in-Err.ensures.why c.tell-in-Err.ensures.told c.tell-in-Err.ensures.trees c.tell-in-Err.ensures.files

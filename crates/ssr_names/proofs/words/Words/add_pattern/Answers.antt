@@ -1,9 +1,13 @@
-use Rattle.std.proofs.Common.{ap, ◌∙◌}
+use Rattle.std.proofs.Common.{sym, ap, ◌∙◌}
 use Rattle.std.proofs.lemmas.Result.{IfOk-weaker}
 use Rattle.ssr_syntax_tree.specs.Places.{node_of}
 use Rattle.ssr_names.specs.Locals.{may_be_constant}
-use Rattle.ssr_names.proofs.Collecting.{collects_unnamed, collects_unasked, collects_pushed}
+use Rattle.ssr_names.proofs.Collecting.{collects_argument, collects_unnamed, collects_unasked, collects_pushed}
 use Rattle.ssr_names.proofs.words.Words.add_pattern.Goals as goal
+
+pub returns-then-names_argument-clause-collected : goal.returns-then-names_argument-clause-collected
+returns-then-names_argument-clause-collected c =
+    collects_argument c.args.tree.now c.args.node c.args.self.now (sym c.names_argument.ensures ∙ c.if-names_argument.true)
 
 pub returns-in_default-clause-collected : goal.returns-in_default-clause-collected
 returns-in_default-clause-collected c = collects_unnamed c.args.tree.now c.args.node c.args.self.now c.in_default.ensures

@@ -1,7 +1,0 @@
-use Rattle.std.proofs.Common.{rules}
-use Rattle.ssr_syntax_exprs.specs.Blocks.{block_like}
-use Rattle.ssr_syntax_exprs.proofs.blocks.block_like.Goals as goal
-
-pub returns-then-at-2 : goal.returns-then-at-2
-unfolding block_like
-returns-then-at-2 g c = search rules steps 3000000
