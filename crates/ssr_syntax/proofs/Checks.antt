@@ -1,5 +1,5 @@
 -- The check of the whole grammar: each goal keeps what the tables claim of it.
-use Rattle.std.proofs.Common.{◌≡◌, ℕ, zero, suc, ◌<◌, nat_lt, Bool, true, false, ◌&&◌, ◌||◌, List, [], ◌∷◌, ◌++◌, refl}
+use Rattle.std.proofs.Common.{◌≡◌, ℕ, zero, suc, ◌<◌, nat_lt, Bool, true, false, ◌&&◌, List, [], ◌∷◌, ◌++◌, refl}
 use Rattle.std.proofs.lemmas.Bool.{ltb-true, and_parts}
 use Rattle.ssr_syntax_kinds.specs.declared.kinds.SyntaxKind.{SyntaxKind}
 use Rattle.ssr_syntax_kinds.specs.declared.kinds.SyntaxKind.TheVariants.{IDENT, AS_KW, BANG, ELSE_KW, FOR_KW, IF_KW, IN_KW, LET_KW, WHERE_KW, COLON, COLON2, EQ, FAT_ARROW, L_CURLY, R_PAREN, R_CURLY, R_BRACK, SEMICOLON, COMMA, QUESTION}
@@ -41,7 +41,7 @@ use Rattle.ssr_syntax_items.specs.Statements as stmts
 use Rattle.ssr_syntax_items.specs.Statements.{stmt_first}
 use Rattle.ssr_syntax.specs.Grammar.{grammar, grammar_of}
 use Rattle.ssr_syntax_forms.proofs.Shared.{Tables, keeps, makes_node, lone_marks, remembers, covered, lower_ranks}
-use Rattle.ssr_syntax.proofs.Operands as operands
+use Rattle.ssr_syntax.proofs.Sketches as operands
 use Rattle.ssr_syntax.proofs.Identifiers as idents
 use Rattle.ssr_syntax.proofs.ClearPaths as paths
 
@@ -136,7 +136,6 @@ tables reach = record {
 }
 
 -- All that is asked of a goal and its form. A new form or goal adds no line.
--- Precedence is asked of the stated language alone.
 abbrev checks : Reach → Goal → Form Goal → Bool
 checks reach goal form =
     let t : Tables Goal = tables reach in
@@ -147,7 +146,7 @@ checks reach goal form =
     && mem END (t.follow goal)
     && remembers t form
     && lone_marks form
-    && (is_whole reach || operands.is_bounded (operands.made operands.bound form operands.start) (operands.bound goal))
+    && operands.is_bounded reach goal form
     && idents.is_clean (idents.sketch_behind form idents.empty)
     && paths.keeps_goal goal (paths.sketch_behind form paths.nothing_yet)
 
@@ -238,7 +237,7 @@ record Passed (reach : Reach) (goal : Goal) : Type 0 where
   -- each mark in it makes one node
   lone : lone_marks (grammar_of reach goal) ≡ true
   -- its operands bind as tightly as they must
-  bounded : (is_whole reach || operands.is_bounded (operands.made operands.bound (grammar_of reach goal) operands.start) (operands.bound goal)) ≡ true
+  bounded : operands.is_bounded reach goal (grammar_of reach goal) ≡ true
   -- its identifiers stand alone
   clean : idents.is_clean (idents.sketch_behind (grammar_of reach goal) idents.empty) ≡ true
   -- its paths can be told
@@ -285,8 +284,8 @@ goal_may_end reach goal = (passed reach goal).may_end
 pub goal_lone_marks : (reach : Reach) (goal : Goal) → lone_marks (grammar_of reach goal) ≡ true
 goal_lone_marks reach goal = (passed reach goal).lone
 
-pub goal_bounded : operands.AllBounded Stated
-goal_bounded goal = (passed Stated goal).bounded
+pub goal_bounded : (reach : Reach) → operands.AllBounded reach
+goal_bounded reach goal = (passed reach goal).bounded
 
 pub goal_clean : (reach : Reach) → idents.AllClean reach
 goal_clean reach goal = (passed reach goal).clean

@@ -3,6 +3,7 @@ mod Finished
 mod Checks
 mod Whole
 mod Operands
+mod Sketches
 mod FitsHere
 mod Texts
 mod TextRows

@@ -14,12 +14,12 @@ ghost use Rattle.ssr_syntax.specs.Decision.{decide_fits};
 ghost use Rattle.ssr_syntax_forms.specs.Decision.{is_empty, reached};
 ghost use Rattle.ssr_syntax_forms.specs.Fitting.{Fits};
 ghost use Rattle.ssr_syntax_forms.specs.Forms.{SoFar};
-ghost use Rattle.ssr_syntax.specs.Grammar.{grammar};
+ghost use Rattle.ssr_syntax.specs.Grammar.{grammar, grammar_of};
 ghost use Rattle.ssr_syntax.specs.Identifiers.{IdentsAloneIn, idents};
 ghost use Rattle.ssr_syntax.specs.Expansions.{FitsExpansion, FitsExpansionOf};
 ghost use Rattle.ssr_syntax.specs.Reading.{FitsFile, FitsFileOf, FitsFragment, FitsFragmentOf, trimmed};
 ghost use Rattle.ssr_syntax_rows.specs.Solid.{pieces};
-ghost use Rattle.ssr_syntax.specs.Operands.{KeepsPrecedence};
+ghost use Rattle.ssr_syntax.specs.Operands.{KeepsPrecedence, KeepsPrecedenceOf};
 ghost use Rattle.ssr_syntax_forms.specs.Trees.{Forest, done, spell};
 ghost use Rattle.ssr_syntax_forms.specs.declared.tokens.Token.{Token};
 
@@ -62,6 +62,11 @@ pub fn fitting()
 /// whole, and the right one of such an operator tighter. Each operand of a range binds tighter than a range, the left one
 /// of an assignment tighter than an assignment, and what `let` compares with tighter than `&&`. `return`, `break` and
 /// closures bind least.
+///
+/// In all of Rust an operand may also be `return`, `break` or a closure, which takes all that follows: so it stands at the
+/// right end, and no operator, call or cast goes on with what ends with it.
 pub fn operands()
-    ensures { (goal : Goal) (z : Forest) (us rest : List Token) → Fits grammar (grammar goal) done z us rest → KeepsPrecedence z }
+    ensures stated { (goal : Goal) (z : Forest) (us rest : List Token) → Fits grammar (grammar goal) done z us rest → KeepsPrecedence z }
+    ensures of_reach { (reach : Reach) (goal : Goal) (z : Forest) (us rest : List Token) → Fits (grammar_of reach) (grammar_of reach goal) done z us rest
+        → KeepsPrecedenceOf reach z }
 {}
