@@ -1,4 +1,4 @@
-use Rattle.std.proofs.Common.{rules, ◌≡◌, sym, ◌∙◌}
+use Rattle.std.proofs.Common.{sym, ◌∙◌}
 use Rattle.ssr_set_aside.proofs.PartLaws.{got_token, ok_map}
 use Rattle.ssr_set_aside.proofs.parts.is_token.Goals as goal
 

@@ -1,4 +1,3 @@
-use Rattle.std.proofs.Common.{rules}
 use Rattle.ssr_set_aside.proofs.PartLaws.{unit_from, units_to}
 use Rattle.ssr_set_aside.proofs.units.are_units.Goals as goal
 

@@ -1,4 +1,4 @@
-use Rattle.std.proofs.Common.{rules, arith}
+use Rattle.std.proofs.Common.{rules}
 use Rattle.ssr_set_aside.proofs.PartLaws.{got_token}
 use Rattle.ssr_set_aside.proofs.units.bytes_of.Goals as goal
 
