@@ -2,3 +2,5 @@ mod Climbing
 mod Naming
 mod Collecting
 mod Binding
+mod LookingUp
+mod Following

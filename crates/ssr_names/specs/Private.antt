@@ -2,3 +2,6 @@
 pub mod Complete
 pub mod Scopes
 pub mod Locals
+pub mod Meanings
+pub mod Lookup
+pub mod Found

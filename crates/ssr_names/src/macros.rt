@@ -126,9 +126,8 @@ impl<'a> Space<'a> {
 
     /// Whether a module may have a macro of this name that isn't read.
     fn has_unknown_macro(&self, module: ModuleNo, name: Name) -> bool {
-        self.entries(module, name, Namespace::Macro)
-            .iter()
-            .any(|entry| entry.thing == Thing::Unknown)
+        self.entries(module, name).iter().any(|entry| entry.namespace == Namespace::Macro
+            && entry.thing == Thing::Unknown)
     }
 
     /// What a macro's name stands for that some import brings in: an import of another crate's function or module brings in no
