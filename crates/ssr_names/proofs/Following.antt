@@ -7,7 +7,8 @@ use Rattle.ssr_names_items.specs.declared.table.Namespace.{Namespace}
 use Rattle.ssr_names.specs.declared.definitions.Definition.{Definition}
 use Rattle.ssr_names.specs.declared.lookup.Front.{Front}
 use Rattle.ssr_names.specs.declared.space.Space.{Space}
-use Rattle.ssr_names.specs.Private.Lookup.{Begins, IsFront, IsFrontOf, PathStandsFor, Place, asked_in, path_first}
+use Rattle.ssr_names.specs.Lookup.{Begins, PathStandsFor, Place, asked_in, path_first}
+use Rattle.ssr_names.specs.Private.Answered.{IsFront, IsFrontOf}
 
 -- ** The last of a list.
 

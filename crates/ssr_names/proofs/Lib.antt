@@ -4,3 +4,6 @@ mod Collecting
 mod Binding
 mod LookingUp
 mod Following
+mod Settling
+mod Telling
+mod Spelling

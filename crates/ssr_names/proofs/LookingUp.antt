@@ -19,7 +19,8 @@ use Rattle.ssr_names.specs.declared.definitions.Meaning.TheVariants as meanings
 use Rattle.ssr_names.specs.declared.lookup.Question.{Question}
 use Rattle.ssr_names.specs.declared.lookup.Found.{Found}
 use Rattle.ssr_names.specs.declared.space.Space.{Space}
-use Rattle.ssr_names.specs.Private.Lookup.{rank_of, is_before, is_behind, is_declared, is_import, Counts, IsDeclared, IsRanked, IsAbove, IsAmong, HasSure, Finds, IsBrought, IsBroughtIn, IsDeclaredAs, IsUnread, IsEverywhere, IsFoundAmong, IsInModule, IsSurelyAround, IsNothing, IsAroundBlock, IsFree, IsOrdered, IsOutermost, IsTop, IsWithin, StandsFor, module_at, within_itself, within_below, found_here, found_around, found_everywhere, surely_here, has_declared, has_brought, surely_declared, surely_brought, Reaches}
+use Rattle.ssr_names.specs.Lookup.{rank_of, Counts, IsDeclared, IsAbove, IsAmong, Finds, IsEverywhere, IsNothing, IsAroundBlock, IsFree, IsOrdered, IsOutermost, IsTop, IsWithin, StandsFor, module_at, within_itself, within_below, found_here, found_around, found_everywhere, has_declared, has_brought, Reaches}
+use Rattle.ssr_names.specs.Private.Answered.{is_before, is_behind, is_declared, is_import, IsRanked, HasSure, IsBrought, IsBroughtIn, IsDeclaredAs, IsUnread, IsFoundAmong, IsInModule, IsSurelyAround, surely_here, surely_declared, surely_brought}
 use Rattle.ssr_names_items.specs.declared.table.Namespace.TheVariants as ns
 use Rattle.ssr_names_items.specs.declared.table.Visibility.TheVariants as visible
 use Rattle.ssr_names.specs.declared.definitions.Meaning.{Meaning}

@@ -3,5 +3,8 @@ pub mod Complete
 pub mod Scopes
 pub mod Locals
 pub mod Meanings
-pub mod Lookup
 pub mod Found
+pub mod Answered
+pub mod Settling
+pub mod Macros
+pub mod Rows

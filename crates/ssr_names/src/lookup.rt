@@ -6,7 +6,8 @@ ghost use Rattle.ssr_names_items.specs.declared.table.ModuleNo.{ModuleNo};
 ghost use Rattle.ssr_names_items.specs.declared.table.Name.{Name};
 ghost use Rattle.ssr_names.specs.declared.lookup.Question.{Question};
 ghost use Rattle.ssr_names.specs.Private.Meanings.{Means, is_something};
-ghost use Rattle.ssr_names.specs.Private.Lookup.{Begins, Counts, Finds, IsAround, IsAsked, IsBase, IsBehind, IsBrought, IsBroughtIn, IsDeclaredAs, IsEverywhere, IsFoundAmong, IsFront, IsFrontOf, IsGlob, IsInModule, IsInRoot, IsNothing, IsOfBuiltin, IsOfCrate, IsOrdered, IsOutside, IsUnaliased, IsUnread, IsUp, IsVariant, IsVoid, PathStandsFor, Reaches, StandsFor, is_declared, is_import, place_of};
+ghost use Rattle.ssr_names.specs.Lookup.{Begins, Counts, Finds, IsAsked, IsBase, IsBehind, IsEverywhere, IsGlob, IsInRoot, IsNothing, IsOfBuiltin, IsOfCrate, IsOrdered, IsOutside, IsUnaliased, IsUp, IsVariant, IsVoid, PathStandsFor, Reaches, StandsFor};
+ghost use Rattle.ssr_names.specs.Private.Answered.{IsAround, IsBrought, IsBroughtIn, IsDeclaredAs, IsFoundAmong, IsFront, IsFrontOf, IsInModule, IsUnread, is_declared, is_import, place_of};
 ghost use Rattle.ssr_names.specs.Private.Found.{Adds, Hides, Joins, found_of};
 
 use crate::definitions::{Definition, Meaning, OutsideNo};

@@ -1,11 +1,14 @@
 //! The provider of a run, read of its sources.
-ghost use Rattle.std.specs.Prelude.{◌≡◌, List, None, IfOk, OnOk, All};
+ghost use Rattle.std.specs.Prelude.{◌≡◌, List, None, IfOk, IfSome, OnOk, All};
 ghost use Rattle.std.specs.BTreeMap.{insert_entry};
 ghost use Rattle.ssr_base_trees.specs.contracts.ids.NodeIdOrd.TheImpl as id_order;
 ghost use Rattle.ssr_base_trees.specs.Built.{IsBuilt};
 ghost use Rattle.ssr_base_trees.specs.Workspace.{PlacedTree, trees as placed};
 ghost use Rattle.ssr_names.specs.Locals.{TellsNoLocal};
 ghost use Rattle.ssr_names.specs.Private.Locals.{CollectsAll, HasNoLocal, IsRight};
+ghost use Rattle.ssr_names.specs.Private.Rows.{AreKnown, IsAdded, TellsRow};
+ghost use Rattle.ssr_names.specs.declared.scopes.TreeScopes.{TreeScopes};
+ghost use Rattle.ssr_names_items.specs.declared.table.Name.{Name};
 
 use crate::definitions::{Definition, Meaning};
 use crate::imports::settle;
@@ -125,7 +128,8 @@ fn add_row(
     row: Row,
     rows: &mut PathRows,
 ) -> Result<(), AllocError>
-    ensures { (trees : List PlacedTree) → IsRight trees row → HasNoLocal trees rows.old.known.entries → OnOk result (HasNoLocal trees rows.new.known.entries) }
+    ensures local { (trees : List PlacedTree) → IsRight trees row → HasNoLocal trees rows.old.known.entries → OnOk result (HasNoLocal trees rows.new.known.entries) }
+    ensures told { (stranger : Name) (scopes : List TreeScopes) (trees : List PlacedTree) → TellsRow space.now stranger scopes trees row → AreKnown space.now stranger scopes trees wanted.now.definitions.items rows.old.known → OnOk result (AreKnown space.now stranger scopes trees wanted.now.definitions.items rows.new.known) }
 {
     let Some(definition) = definition_of(row) else {
         return add_undecided(alloc, space, wanted, row, rows);
@@ -138,7 +142,8 @@ fn add_row(
 
 /// The definition that a path stands for, if that is known.
 fn definition_of(row: Row) -> Option<Definition>
-    ensures { row.meaning ≡ Meaning.Unknown → result ≡ None }
+    ensures unknown { row.meaning ≡ Meaning.Unknown → result ≡ None }
+    ensures known { IfSome result (λ d. row.meaning ≡ Meaning.One d) }
 {
     match row.meaning {
         Meaning::One(definition) => Some(definition),
@@ -148,7 +153,8 @@ fn definition_of(row: Row) -> Option<Definition>
 
 /// Adds a path that stands for what a rule asks for.
 fn add_known(node: NodeId, number: DefId, rows: &mut PathRows) -> Result<(), AllocError>
-    ensures { OnOk result (rows.new.known.entries ≡ insert_entry ((id_order.ghosts).cmp) rows.old.known.entries node (Res.Def number)) }
+    ensures entries { OnOk result (rows.new.known.entries ≡ insert_entry ((id_order.ghosts).cmp) rows.old.known.entries node (Res.Def number)) }
+    ensures known { OnOk result (IsAdded rows.old.known rows.new.known node (Res.Def number)) }
 {
     rows.known.insert(node, Res::Def(number))?;
     rows.believed.insert(node, Res::Def(number))?;
@@ -199,7 +205,8 @@ fn path_rows(
     wanted: &Wanted,
     found: &[Row],
 ) -> Result<PathRows, AllocError>
-    ensures { (trees : List PlacedTree) → All (IsRight trees) found.now → IfOk result (λ rows. HasNoLocal trees rows.known.entries) }
+    ensures local { (trees : List PlacedTree) → All (IsRight trees) found.now → IfOk result (λ rows. HasNoLocal trees rows.known.entries) }
+    ensures told { (stranger : Name) (scopes : List TreeScopes) (trees : List PlacedTree) → All (TellsRow space.now stranger scopes trees) found.now → IfOk result (λ rows. AreKnown space.now stranger scopes trees wanted.now.definitions.items rows.known) }
 {
     let mut rows = PathRows {
         known: BTreeMap::new(alloc),
@@ -278,7 +285,8 @@ fn found_rows(
 ) -> Result<(Vec<Row>, Vec<BoundIn>), AllocError>
     requires built { IsBuilt resolver.source.now.trees.now }
     requires collected { CollectsAll (placed resolver.source.now.trees.now) words.now }
-    ensures { IfOk result (λ found. All (IsRight (placed resolver.entry.source.now.trees.now)) found.0.items) }
+    ensures local { IfOk result (λ found. All (IsRight (placed resolver.entry.source.now.trees.now)) found.0.items) }
+    ensures told { IfOk result (λ found. All (TellsRow resolver.entry.space.now resolver.entry.source.now.stranger resolver.entry.scopes.now.trees.items (placed resolver.entry.source.now.trees.now)) found.0.items) }
 {
     let (bound, bound_in) = resolver.bound(outside, words.binders.as_slice())?;
     let locals = Locals {
@@ -315,7 +323,8 @@ fn all_rows(
 ) -> Result<(PathRows, Vec<BoundIn>), AllocError>
     requires built { IsBuilt resolver.source.now.trees.now }
     requires collected { CollectsAll (placed resolver.source.now.trees.now) words.now }
-    ensures { IfOk result (λ all. HasNoLocal (placed resolver.entry.source.now.trees.now) all.0.known.entries) }
+    ensures local { IfOk result (λ all. HasNoLocal (placed resolver.entry.source.now.trees.now) all.0.known.entries) }
+    ensures told { IfOk result (λ all. AreKnown resolver.entry.space.now resolver.entry.source.now.stranger resolver.entry.scopes.now.trees.items (placed resolver.entry.source.now.trees.now) wanted.now.definitions.items all.0.known) }
 {
     let (found, bound_in) = found_rows(resolver, outside, words)?;
     let (alloc, space) = (resolver.source.alloc, resolver.space);

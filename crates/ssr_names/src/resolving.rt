@@ -1,8 +1,13 @@
 //! What the paths of the code stand for whose last names are asked for.
-ghost use Rattle.std.specs.Prelude.{◌≡◌, true, false, IfOk, OnOk, All};
+ghost use Rattle.std.specs.Prelude.{◌≡◌, true, false, Some, IfOk, IfSome, OnOk, All};
 ghost use Rattle.ssr_syntax_tree.specs.Places.{HasNode};
 ghost use Rattle.ssr_base_trees.specs.Built.{IsBuilt};
 ghost use Rattle.ssr_base_trees.specs.Workspace.{trees as placed};
+ghost use Rattle.ssr_names.specs.Private.Meanings.{Means};
+ghost use Rattle.ssr_base_trees.specs.declared.ids.ScopeId.{ScopeId};
+ghost use Rattle.ssr_names.specs.Told.{BeginsWithSelf, IsTold, IsToldIn, namespace_of};
+ghost use Rattle.ssr_names.specs.Private.Rows.{TellsRow};
+ghost use Rattle.ssr_names.specs.Private.Scopes.{scope_in};
 ghost use Rattle.ssr_names.specs.Private.Locals.{BindAll, BindAround, CollectsAll, IsRight, StaysBound};
 
 use crate::code_paths::{CodePath, code_path};
@@ -107,6 +112,9 @@ fn name_behind(tree: &Tree, path: NodeNo) -> Option<&str>
 /// A path of which nothing is known yet.
 fn unread_row(tree: &Tree, word: Word) -> Row
     requires { HasNode tree.now word.node.node.0 }
+    ensures node { result.node ≡ word.node }
+    ensures namespace { result.namespace ≡ namespace_of tree.now word.node.node.0 }
+    ensures unknown { result.meaning ≡ Meaning.Unknown }
 {
     Row {
         node: word.node,
@@ -120,7 +128,9 @@ fn unread_row(tree: &Tree, word: Word) -> Row
 
 impl<'r> Resolver<'r> {
     /// The module that a node stands in.
-    fn module_of(&self, node: NodeId) -> Option<ModuleNo> {
+    fn module_of(&self, node: NodeId) -> Option<ModuleNo>
+        ensures { IfSome result (λ found. (scope : ScopeId) × (scope_in self.now.scopes.now.trees.items node ≡ Some scope) × (found.0 ≡ scope.0)) }
+    {
         Some(ModuleNo(self.scopes.scope(node)?.0))
     }
 
@@ -283,12 +293,24 @@ impl<'r> Resolver<'r> {
         Ok(answer)
     }
 
+    /// Whether the first name of a path is `Self`.
+    fn begins_with_self(&self, path: &CodePath) -> bool
+        ensures { result ≡ true → path.now.start ≡ Start.Plain → BeginsWithSelf self.now.space.now path.now.start path.now.names.items }
+    {
+        match path.names.first() {
+            Some(first) => self.space.text(*first) == "Self",
+            None => false,
+        }
+    }
+
     /// What a path stands for that is spelled in a place.
     fn meaning_of(
         &self,
         outside: &mut OutsidePaths,
         spelled: Spelled<'_>,
-    ) -> Result<PathAnswer, AllocError> {
+    ) -> Result<PathAnswer, AllocError>
+        ensures { IfOk result (λ answer. Means answer.meaning (IsTold self.now.space.now spelled.entry.«module» spelled.entry.path.now.start spelled.entry.path.now.names.items spelled.entry.namespace)) }
+    {
         let path = spelled.path;
         let first = path.names.first().copied();
         let is_plain = path.start == Start::Plain;
@@ -298,7 +320,7 @@ impl<'r> Resolver<'r> {
                 name: first,
             });
         }
-        if is_plain && first == Some(self.self_type) {
+        if is_plain && self.begins_with_self(path) {
             return self.behind_self(outside, spelled);
         }
         let question = PathQuestion {
@@ -319,7 +341,9 @@ impl<'r> Resolver<'r> {
         spelled: Spelled<'_>,
         answer: PathAnswer,
         behind: Option<&str>,
-    ) -> PathAnswer {
+    ) -> PathAnswer
+        ensures { Means answer.meaning (IsTold self.now.space.now spelled.entry.«module» spelled.entry.path.now.start spelled.entry.path.now.names.items spelled.entry.namespace) → Means result.meaning (IsTold self.now.space.now spelled.entry.«module» spelled.entry.path.now.start spelled.entry.path.now.names.items spelled.entry.namespace) }
+    {
         let is_module = match behind {
             Some(name) => is_in_type_module(name),
             None => false,
@@ -342,6 +366,7 @@ impl<'r> Resolver<'r> {
         module: ModuleNo,
     ) -> Result<Option<Row>, AllocError>
         requires { HasNode tree.now word.node.node.0 }
+        ensures { IfOk result (λ row. IfSome row (λ row. (row.node ≡ word.node) × Means row.meaning (IsToldIn self.now.space.now self.now.source.now.stranger tree.now word.node.node.0 «module»))) }
     {
         let source = self.source;
         let names = &self.space.table.names;
@@ -380,7 +405,9 @@ impl<'r> Resolver<'r> {
         outside: &mut OutsidePaths,
         spelled: Spelled<'_>,
         behind: Option<&str>,
-    ) -> Result<PathAnswer, AllocError> {
+    ) -> Result<PathAnswer, AllocError>
+        ensures { IfOk result (λ answer. Means answer.meaning (IsTold self.now.space.now spelled.entry.«module» spelled.entry.path.now.start spelled.entry.path.now.names.items spelled.entry.namespace)) }
+    {
         if spelled.namespace == Namespace::Macro {
             let question = PathQuestion {
                 start: spelled.path.start,
@@ -400,7 +427,9 @@ impl<'r> Resolver<'r> {
     }
 
     /// What a path stands for; nothing is told of one that is a part of a `use` item, a visibility or an attribute.
-    fn row(&self, outside: &mut OutsidePaths, word: Word) -> Result<Option<Row>, AllocError> {
+    fn row(&self, outside: &mut OutsidePaths, word: Word) -> Result<Option<Row>, AllocError>
+        ensures { IfOk result (λ row. IfSome row (TellsRow self.now.space.now self.now.source.now.stranger self.now.scopes.now.trees.items (placed self.now.source.now.trees.now))) }
+    {
         let Some(tree) = self.source.trees.tree(word.node.tree) else {
             return Ok(None);
         };
@@ -438,6 +467,7 @@ impl<'r> Resolver<'r> {
         first: Row,
     ) -> Result<Row, AllocError>
         requires { HasNode tree.now word.node.node.0 }
+        ensures { IfOk result (λ row. (row.node ≡ first.node) × Means row.meaning (λ d. first.meaning ≡ Meaning.One d)) }
     {
         let unknown = Row {
             meaning: Meaning::Unknown,
@@ -461,7 +491,8 @@ impl<'r> Resolver<'r> {
         requires built { IsBuilt locals.trees.now }
         requires collected { CollectsAll (placed locals.trees.now) locals.words.now }
         requires bound { BindAll (placed locals.trees.now) locals.bound.now locals.words.now.binders.items }
-        ensures { IfOk result (λ rows. All (IsRight (placed locals.entry.trees.now)) rows.items) }
+        ensures local { IfOk result (λ rows. All (IsRight (placed locals.entry.trees.now)) rows.items) }
+        ensures told { IfOk result (λ rows. All (TellsRow self.now.space.now self.now.source.now.stranger self.now.scopes.now.trees.items (placed self.now.source.now.trees.now)) rows.items) }
     {
         let alloc = self.source.alloc;
         let mut rows = Vec::new(alloc);

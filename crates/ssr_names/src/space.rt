@@ -2,10 +2,12 @@
 
 ghost use Rattle.std.specs.Prelude.{ℕ, ◌≡◌, ◌≤◌, ◌-◌, true, false, not, take, drop, length, slice_get, None, All, Contains, IfOk, IfSome};
 ghost use Rattle.ssr_names_items.specs.declared.table.Entry.{Entry};
+ghost use Rattle.ssr_names_items.specs.Names.{text_of};
 ghost use Rattle.std.specs.Option.{option_copied};
 ghost use Rattle.std.specs.List.Sorted.{IsPartitionPoint};
 ghost use Rattle.ssr_names.specs.Private.Meanings.{Means};
-ghost use Rattle.ssr_names.specs.Private.Lookup.{IsAbove, IsAlias, IsAroundBlock, IsKnown, IsOrdered, IsOutermost, IsOutside, IsParent, IsPlain, IsRanked, IsRoot, IsSeen, IsTop, IsWithin, answer_of, first_of, import_at, in_namespace, is_before, is_behind, item_at, module_at, rank};
+ghost use Rattle.ssr_names.specs.Lookup.{IsAbove, IsAlias, IsAroundBlock, IsKnown, IsOrdered, IsOutermost, IsOutside, IsParent, IsPlain, IsRoot, IsSeen, IsTop, IsWithin, answer_of, first_of, import_at, in_namespace, item_at, module_at, rank};
+ghost use Rattle.ssr_names.specs.Private.Answered.{IsRanked, is_before, is_behind};
 
 use crate::copies::{MOST_COPIES, ModulePlace};
 use crate::definitions::{Definition, Meaning, OutsideNo};
@@ -270,7 +272,9 @@ impl<'a> Space<'a> {
         self.table.imports.get(import.0 as usize)
     }
 
-    pub(crate) fn text(&self, name: Name) -> &str {
+    pub(crate) fn text(&self, name: Name) -> &str
+        ensures { result.now ≡ text_of self.now.table.now.names name }
+    {
         self.table.names.text(name)
     }
 

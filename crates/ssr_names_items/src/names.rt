@@ -1,7 +1,7 @@
 //! The names of items and paths, numbered.
 
 ghost use Rattle.std.specs.Prelude.{◌≡◌};
-ghost use Rattle.ssr_names_items.specs.Names.{bare};
+ghost use Rattle.ssr_names_items.specs.Names.{bare, number_of, text_of};
 
 use crate::table::Name;
 use std::alloc::{AllocError, Global};
@@ -36,7 +36,9 @@ impl Names {
     }
 
     /// The number of a name, if it is one of these.
-    pub fn number(&self, text: &str) -> Option<Name> {
+    pub fn number(&self, text: &str) -> Option<Name>
+        ensures { result ≡ number_of self.now text.now }
+    {
         match self.numbers.get(bare(text)) {
             Some(name) => Some(*name),
             None => None,
@@ -44,7 +46,9 @@ impl Names {
     }
 
     /// The text of a name; an empty one where the number is none of these.
-    pub fn text(&self, name: Name) -> &str {
+    pub fn text(&self, name: Name) -> &str
+        ensures { result.now ≡ text_of self.now name }
+    {
         match self.texts.get(name.0 as usize) {
             Some(text) => text.as_str(),
             None => "",

@@ -10,7 +10,7 @@ use Rattle.ssr_names.specs.declared.lookup.Question.{Question}
 use Rattle.ssr_names.specs.declared.lookup.Found.{Found}
 use Rattle.ssr_names.specs.declared.space.Space.{Space}
 use Rattle.ssr_names.specs.Private.Meanings.{is_something}
-use Rattle.ssr_names.specs.Private.Lookup.{Counts, IsNothing, IsOrdered, IsVoid, StandsFor}
+use Rattle.ssr_names.specs.Lookup.{Counts, IsNothing, IsOrdered, IsVoid, StandsFor}
 
 abbrev pub found_of : Meaning → Bool → Found
 found_of m sure = record { meaning = m; is_sure = sure && is_something m }

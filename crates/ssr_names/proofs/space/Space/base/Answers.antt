@@ -1,7 +1,7 @@
 use Rattle.std.proofs.Common.{sym, subst}
 use Rattle.std.proofs.lemmas.Option.{IfSome_then}
 use Rattle.ssr_names_items.specs.declared.table.Start.{Start}
-use Rattle.ssr_names.specs.Private.Lookup.{IsBase, by_crate, by_self, by_super}
+use Rattle.ssr_names.specs.Lookup.{IsBase, by_crate, by_self, by_super}
 use Rattle.ssr_names.proofs.space.Space.base.Goals as goal
 
 pub returns-in-Crate : goal.returns-in-Crate

@@ -1,6 +1,7 @@
 use Rattle.std.proofs.Common.{◌≡◌, [], subst}
 use Rattle.ssr_names.specs.declared.definitions.Definition.TheVariants as def
-use Rattle.ssr_names.specs.Private.Lookup.{PathStandsFor, path_alone, place_of}
+use Rattle.ssr_names.specs.Lookup.{PathStandsFor, path_alone}
+use Rattle.ssr_names.specs.Private.Answered.{place_of}
 use Rattle.ssr_names.proofs.space.Space.base_meaning.Goals as goal
 
 pub returns-in-Some : goal.returns-in-Some

@@ -2,7 +2,7 @@ use Rattle.std.proofs.Common.{◌≡◌, Bool, true, false, true≢false, Some, 
 use Rattle.ssr_names_items.specs.declared.table.Namespace.TheVariants as ns
 use Rattle.ssr_names.specs.declared.definitions.Definition.TheVariants as def
 use Rattle.ssr_names.specs.declared.definitions.Meaning.TheVariants as meanings
-use Rattle.ssr_names.specs.Private.Lookup.{import_at, answer_of, brings_of_module, brings_of_enum, brings_outside, reaches_through}
+use Rattle.ssr_names.specs.Lookup.{import_at, answer_of, brings_of_module, brings_of_enum, brings_outside, reaches_through}
 use Rattle.ssr_names.proofs.LookingUp.{of_means, of_sure}
 use Rattle.ssr_names.proofs.space.Space.brought.Goals as goal
 use Rattle.ssr_names.proofs.space.Space.brought.Goals.{then-is_sure, else-is_sure}

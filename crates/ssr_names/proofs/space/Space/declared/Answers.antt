@@ -1,5 +1,5 @@
 use Rattle.std.proofs.Common.{◌<◌, length, get_or}
-use Rattle.ssr_names.specs.Private.Lookup.{is_declared}
+use Rattle.ssr_names.specs.Private.Answered.{is_declared}
 use Rattle.ssr_names.proofs.Climbing.{get_again}
 use Rattle.ssr_names.proofs.LookingUp.{found_more, no_entry}
 use Rattle.ssr_names.proofs.space.Space.declared.Goals as goal

@@ -1,7 +1,8 @@
 use Rattle.std.proofs.Common.{List, sym, subst}
 use Rattle.std.proofs.lemmas.Result.{IfOk-weaker}
 use Rattle.ssr_names_items.specs.declared.table.Name.{Name}
-use Rattle.ssr_names.specs.Private.Lookup.{PathStandsFor, place_of}
+use Rattle.ssr_names.specs.Lookup.{PathStandsFor}
+use Rattle.ssr_names.specs.Private.Answered.{place_of}
 use Rattle.ssr_names.proofs.Following.{some_last, none_last}
 use Rattle.ssr_names.proofs.space.Space.end.Goals as goal
 

@@ -1,6 +1,6 @@
 use Rattle.std.proofs.Common.{◌≡◌, ◌≤◌, ◌-◌, List, length, take, drop, All, Contains, subst, sym, ap, ◌∙◌}
 use Rattle.ssr_names_items.specs.declared.table.Entry.{Entry}
-use Rattle.ssr_names.specs.Private.Lookup.{rank, rank_of}
+use Rattle.ssr_names.specs.Lookup.{rank, rank_of}
 use Rattle.ssr_names.proofs.LookingUp.{part_all, first_past, among_ranked}
 use Rattle.ssr_names.proofs.space.Space.entries.Goals as goal
 

@@ -1,4 +1,4 @@
-use Rattle.ssr_names.specs.Private.Lookup.{as_crate, as_builtin, as_prelude}
+use Rattle.ssr_names.specs.Lookup.{as_crate, as_builtin, as_prelude}
 use Rattle.ssr_names.proofs.space.Space.everywhere.Goals as goal
 
 pub returns-then-is_something : goal.returns-then-is_something

@@ -2,7 +2,7 @@ use Rattle.std.proofs.Common.{◌≡◌, true, false, Option, Some, None, refl, 
 use Rattle.std.specs.Prelude.{is_some}
 use Rattle.std.proofs.lemmas.Result.{IfOk-weaker}
 use Rattle.ssr_names_items.specs.declared.table.ImportNo.{ImportNo}
-use Rattle.ssr_names.specs.Private.Lookup.{begins_plain, begins_in_root, begins_globally, begins_based}
+use Rattle.ssr_names.specs.Lookup.{begins_plain, begins_in_root, begins_globally, begins_based}
 use Rattle.ssr_names.proofs.space.Space.first.Goals as goal
 
 some_of : (o : Option ImportNo) → is_some o ≡ true → (i : ImportNo) × (o ≡ Some i)

@@ -1,6 +1,6 @@
 use Rattle.std.proofs.Common.{All, sym, subst, ◌∙◌}
 use Rattle.std.proofs.lemmas.List.Elements.{All-nil}
-use Rattle.ssr_names.specs.Private.Lookup.{Reaches, reaches_directly}
+use Rattle.ssr_names.specs.Lookup.{Reaches, reaches_directly}
 use Rattle.ssr_names.proofs.LookingUp.{brought_none, brought_more, all_at}
 use Rattle.ssr_names.proofs.space.Space.from_globs.Goals as goal
 

@@ -1,5 +1,6 @@
 use Rattle.std.proofs.Common.{All}
-use Rattle.ssr_names.specs.Private.Lookup.{IsBroughtIn, Reaches}
+use Rattle.ssr_names.specs.Lookup.{Reaches}
+use Rattle.ssr_names.specs.Private.Answered.{IsBroughtIn}
 use Rattle.ssr_names.proofs.space.Space.from_globs.Given as goal
 
 abbrev pub invariant-loop-place : goal.invariant-loop-place

@@ -1,6 +1,6 @@
 use Rattle.std.proofs.Common.{◌<◌, length, get_or, List, subst, sym}
 use Rattle.ssr_names_items.specs.declared.table.Name.{Name}
-use Rattle.ssr_names.specs.Private.Lookup.{IsFront, place_of}
+use Rattle.ssr_names.specs.Private.Answered.{IsFront, place_of}
 use Rattle.ssr_names.proofs.Climbing.{get_again}
 use Rattle.ssr_names.proofs.Following.{name_more}
 use Rattle.ssr_names.proofs.space.Space.front_from.Goals as goal

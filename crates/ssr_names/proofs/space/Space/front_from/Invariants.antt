@@ -1,5 +1,5 @@
 use Rattle.std.proofs.Common.{take, []}
-use Rattle.ssr_names.specs.Private.Lookup.{IsFront, place_of}
+use Rattle.ssr_names.specs.Private.Answered.{IsFront, place_of}
 use Rattle.ssr_names.proofs.space.Space.front_from.Given as goal
 
 abbrev pub invariant-loop-name : goal.invariant-loop-name

@@ -1,5 +1,5 @@
 use Rattle.std.proofs.Common.{take}
-use Rattle.ssr_names.specs.Private.Lookup.{IsFoundAmong, is_import}
+use Rattle.ssr_names.specs.Private.Answered.{IsFoundAmong, is_import}
 use Rattle.ssr_names.proofs.space.Space.imported.Given as goal
 
 abbrev pub invariant-loop-entry : goal.invariant-loop-entry

@@ -1,5 +1,5 @@
 use Rattle.std.proofs.Common.{◌≤◌, length, subst, refl, arith}
-use Rattle.ssr_names.specs.Private.Lookup.{IsWithin, within_itself, within_below}
+use Rattle.ssr_names.specs.Lookup.{IsWithin, within_itself, within_below}
 use Rattle.ssr_names.proofs.LookingUp.{climbs_first, climbs_on, climbs_none, within_up, within_top}
 use Rattle.ssr_names.proofs.space.Space.is_within.Goals as goal
 

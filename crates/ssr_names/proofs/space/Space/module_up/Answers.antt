@@ -1,4 +1,4 @@
-use Rattle.ssr_names.specs.Private.Lookup.{up_none, up_one}
+use Rattle.ssr_names.specs.Lookup.{up_none, up_one}
 use Rattle.ssr_names.proofs.space.Space.module_up.Goals as goal
 
 pub loop-step-init : goal.loop-step-init

@@ -1,4 +1,4 @@
-use Rattle.ssr_names.specs.Private.Lookup.{IsUp}
+use Rattle.ssr_names.specs.Lookup.{IsUp}
 use Rattle.ssr_names.proofs.space.Space.module_up.Given as goal
 
 abbrev pub invariant-loop-step : goal.invariant-loop-step

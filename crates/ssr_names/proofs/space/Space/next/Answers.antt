@@ -1,5 +1,6 @@
 use Rattle.std.proofs.Common.{subst}
-use Rattle.ssr_names.specs.Private.Lookup.{IsFront, path_behind, place_of}
+use Rattle.ssr_names.specs.Lookup.{path_behind}
+use Rattle.ssr_names.specs.Private.Answered.{IsFront, place_of}
 use Rattle.ssr_names.proofs.Following.{one_name}
 use Rattle.ssr_names.proofs.space.Space.next.Goals as goal
 

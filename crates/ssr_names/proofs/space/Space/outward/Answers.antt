@@ -1,5 +1,6 @@
 use Rattle.std.proofs.Common.{◌≤◌, length, true≢false, sym, ◌∙◌, refl, arith}
-use Rattle.ssr_names.specs.Private.Lookup.{surely_around, found_everywhere}
+use Rattle.ssr_names.specs.Lookup.{found_everywhere}
+use Rattle.ssr_names.specs.Private.Answered.{surely_around}
 use Rattle.ssr_names.proofs.LookingUp.{means_on, sure_on, out_on, everywhere_on, climbs_on, climbs_none, climbs_free, block_above, top_outermost}
 use Rattle.ssr_names.proofs.space.Space.outward.Goals as goal
 

@@ -1,7 +1,8 @@
 use Rattle.std.proofs.Common.{◌≡◌, true, false}
 use Rattle.ssr_names.specs.declared.definitions.Definition.{Definition}
 use Rattle.ssr_names.specs.declared.definitions.Meaning.TheVariants as meanings
-use Rattle.ssr_names.specs.Private.Lookup.{Finds, IsSurelyAround}
+use Rattle.ssr_names.specs.Lookup.{Finds}
+use Rattle.ssr_names.specs.Private.Answered.{IsSurelyAround}
 use Rattle.ssr_names.proofs.LookingUp.{Climbs}
 use Rattle.ssr_names.proofs.space.Space.outward.Given as goal
 

@@ -1,5 +1,5 @@
 use Rattle.ssr_names_items.specs.declared.table.ModuleNo.{ModuleNo}
-use Rattle.ssr_names.specs.Private.Lookup.{IsInBlocks}
+use Rattle.ssr_names.specs.Lookup.{IsInBlocks}
 use Rattle.ssr_names.proofs.LookingUp.{Climbs}
 use Rattle.ssr_names.proofs.space.Space.plain_module.Given as goal
 

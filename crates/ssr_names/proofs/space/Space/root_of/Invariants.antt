@@ -1,5 +1,5 @@
 use Rattle.ssr_names_items.specs.declared.table.ModuleNo.{ModuleNo}
-use Rattle.ssr_names.specs.Private.Lookup.{IsWithin}
+use Rattle.ssr_names.specs.Lookup.{IsWithin}
 use Rattle.ssr_names.proofs.LookingUp.{Climbs}
 use Rattle.ssr_names.proofs.space.Space.root_of.Given as goal
 

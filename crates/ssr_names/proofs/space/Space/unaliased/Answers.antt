@@ -1,6 +1,6 @@
 use Rattle.std.proofs.Common.{◌≡◌, sym, subst}
 use Rattle.ssr_names.specs.declared.definitions.Definition.{Definition}
-use Rattle.ssr_names.specs.Private.Lookup.{IsUnaliased, no_alias, by_alias}
+use Rattle.ssr_names.specs.Lookup.{IsUnaliased, no_alias, by_alias}
 use Rattle.ssr_names.proofs.space.Space.unaliased.Goals as goal
 
 pub returns-in-Some : goal.returns-in-Some

@@ -1,5 +1,5 @@
--- Private: what names and paths stand for, by what modules declare and by what imports are taken to stand for.
-use Rattle.std.specs.Prelude.{ℕ, ◌≡◌, ◌+◌, ◌*◌, ◌<◌, ◌⊎◌, Bool, true, false, nat_lt, List, [], ◌∷◌, ◌++◌, Option, Some, None, slice_get, unwrap_or, length, Contains}
+-- What names and paths stand for, by what modules declare and by what each import is taken to stand for.
+use Rattle.std.specs.Prelude.{ℕ, ◌≡◌, ◌+◌, ◌*◌, ◌<◌, ◌⊎◌, true, List, [], ◌∷◌, ◌++◌, Option, Some, slice_get, unwrap_or, length, Contains}
 use Rattle.std.specs.List.Sorted.{IsNonDecreasingBy}
 use Rattle.std.specs.Option.{option_map_or}
 use Rattle.ssr_names_items.specs.declared.table.Name.{Name}
@@ -16,7 +16,6 @@ use Rattle.ssr_names_items.specs.declared.table.Visibility.{Visibility}
 use Rattle.ssr_names_items.specs.declared.table.Visibility.TheVariants as seen
 use Rattle.ssr_names_items.specs.declared.table.Entry.{Entry}
 use Rattle.ssr_names_items.specs.declared.table.Item.{Item}
-use Rattle.ssr_names_items.specs.declared.table.ItemKind.TheVariants as item_kinds
 use Rattle.ssr_names_items.specs.declared.table.Start.{Start}
 use Rattle.ssr_names_items.specs.declared.table.Start.TheVariants as starts
 use Rattle.ssr_names_items.specs.declared.table.Brings.TheVariants as brought
@@ -28,15 +27,11 @@ use Rattle.ssr_names.specs.declared.definitions.Definition.TheVariants as def
 use Rattle.ssr_names.specs.declared.definitions.Meaning.{Meaning}
 use Rattle.ssr_names.specs.declared.definitions.Meaning.TheVariants as meanings
 use Rattle.ssr_names.specs.declared.lookup.Question.{Question}
-use Rattle.ssr_names.specs.declared.lookup.Found.{Found}
-use Rattle.ssr_names.specs.declared.lookup.PathQuestion.{PathQuestion}
-use Rattle.ssr_names.specs.declared.lookup.Front.{Front}
-use Rattle.ssr_names.specs.declared.lookup.Front.TheVariants as fronts
 use Rattle.ssr_names.specs.declared.space.Answers.{Answers}
 use Rattle.ssr_names.specs.declared.space.Member.{Member}
-use Rattle.ssr_names.specs.declared.space.Alias.{Alias}
 use Rattle.ssr_names.specs.declared.space.Known.{Known}
 use Rattle.ssr_names.specs.declared.space.Space.{Space}
+
 
 -- ** What is declared.
 
@@ -73,16 +68,6 @@ rank m name = m.0 * 4294967296 + name.0
 
 abbrev pub rank_of : Entry → ℕ
 rank_of entry = rank entry.«module» entry.name
-
-abbrev pub is_before : Entry → ℕ → Bool
-is_before entry other = nat_lt (rank_of entry) other
-
-abbrev pub is_behind : Entry → ℕ → Bool
-is_behind entry other = nat_lt other (rank_of entry)
-
--- an entry is one of a name in a module
-abbrev pub IsRanked : ModuleNo → Name → Entry → Type 0
-IsRanked m name entry = (entry.«module» ≡ m) × (entry.name ≡ name)
 
 -- The entries stand in the order of their modules and names, and each module behind the one around it.
 pub record IsOrderly (table : Table) : Type 0 where
@@ -162,14 +147,6 @@ abbrev pub IsVoid : Space → Namespace → Thing → Type 0
 IsVoid space n (things.Import i) = answer_of space i n ≡ meanings.Nothing
 IsVoid space n t = ⊥
 
-abbrev pub is_import : Thing → Bool
-is_import (things.Import i) = true
-is_import t = false
-
-abbrev pub is_declared : Thing → Bool
-is_declared (things.Import i) = false
-is_declared t = true
-
 -- ** What a module has under a name but for what comes in by `*`.
 
 -- an entry of these is of the name, is seen, and stands for this
@@ -178,21 +155,6 @@ pub record IsAmong (space : Space) (m : ModuleNo) (question : Question) (entries
   pub among : Contains entries entry
   pub counts : Counts space m question entry
   pub stands : StandsFor space question.namespace entry.thing d
-
--- an entry of these is of the name, is seen, and is there in each configuration
-pub record HasSure (space : Space) (m : ModuleNo) (question : Question) (entries : List Entry) : Type 0 where
-  pub entry : Entry
-  pub among : Contains entries entry
-  pub counts : Counts space m question entry
-  pub sure : entry.is_sure ≡ true
-  pub something : IsVoid space question.namespace entry.thing → ⊥
-
--- what is found among entries, of which those are looked at that are picked
-pub record IsFoundAmong (space : Space) (m : ModuleNo) (question : Question) (entries : List Entry) (picks : Thing → Bool) (found : Found) : Type 0 where
-  pub means : (d : Definition) → found.meaning ≡ meanings.One d → IsAmong space m question entries d
-  pub sure : found.is_sure ≡ true → HasSure space m question entries
-  pub free : found.is_sure ≡ false → IsOrdered space → (entry : Entry) → Contains entries entry → picks entry.thing ≡ true → Counts space m question entry
-      → entry.is_sure ≡ true → IsNothing space question.namespace entry.thing
 
 abbrev pub IsDeclared : Space → ModuleNo → Question → Definition → Type 0
 IsDeclared space m question d = IsAmong space m question space.table.now.entries.items d
@@ -203,17 +165,6 @@ abbrev pub IsFree : Space → ModuleNo → Question → Type 0
 IsFree space m question =
     IsOrdered space → (entry : Entry) → Contains space.table.now.entries.items entry → Counts space m question entry → entry.is_sure ≡ true
     → IsNothing space question.namespace entry.thing
-
--- what a module has under a name but for what comes in by `*`
-pub record IsDeclaredAs (space : Space) (m : ModuleNo) (question : Question) (found : Found) : Type 0 where
-  pub means : (d : Definition) → found.meaning ≡ meanings.One d → IsDeclared space m question d
-  pub sure : found.is_sure ≡ true → HasSure space m question space.table.now.entries.items
-  pub free : found.is_sure ≡ false → IsFree space m question
-
--- what isn't read is no definition, and hides nothing
-pub record IsUnread (found : Found) : Type 0 where
-  pub means : (d : Definition) → found.meaning ≡ meanings.One d → ⊥
-  pub unsure : found.is_sure ≡ false
 
 -- ** What comes in by `*`.
 
@@ -253,36 +204,11 @@ pub data Brings (space : Space) (question : Question) (i : ImportNo) : Definitio
       → Brings space question i d
   brings_outside : (d : Definition) (path : OutsideNo) → answer_of space i ns.Type ≡ meanings.One (def.Outside path) → IsOutside d → Brings space question i d
 
--- an import by `*` is there in each configuration
-abbrev pub IsSureImport : Space → ImportNo → Type 0
-IsSureImport space i = (row : Import) × (import_at space i ≡ Some row) × (row.is_sure ≡ true)
-
--- what one import is found to bring in under a name
-pub record IsBrought (space : Space) (question : Question) (i : ImportNo) (found : Found) : Type 0 where
-  pub means : (d : Definition) → found.meaning ≡ meanings.One d → Brings space question i d
-  pub sure : found.is_sure ≡ true → IsSureImport space i
-
--- what all imports by `*` of a module are found to bring in
-pub record IsBroughtIn (space : Space) (m : ModuleNo) (question : Question) (found : Found) : Type 0 where
-  pub means : (d : Definition) → found.meaning ≡ meanings.One d → (i : ImportNo) × Reaches space m question i × Brings space question i d
-  pub sure : found.is_sure ≡ true → (i : ImportNo) × Reaches space m question i × IsSureImport space i
-
 -- ** What a module has under a name.
 
 pub data Has (space : Space) (m : ModuleNo) (question : Question) : Definition → Type 0 where
   has_declared : (d : Definition) → IsDeclared space m question d → Has space m question d
   has_brought : (d : Definition) (i : ImportNo) → IsFree space m question → Reaches space m question i → Brings space question i d → Has space m question d
-
--- a module has something under a name that is there in each configuration
-pub data IsSurely (space : Space) (m : ModuleNo) (question : Question) : Type 0 where
-  surely_declared : HasSure space m question space.table.now.entries.items → IsSurely space m question
-  surely_brought : (i : ImportNo) → Reaches space m question i → IsSureImport space i → IsSurely space m question
-
--- what is found in a module
-pub record IsInModule (space : Space) (m : ModuleNo) (question : Question) (found : Found) : Type 0 where
-  pub means : (d : Definition) → found.meaning ≡ meanings.One d → Has space m question d
-  pub sure : found.is_sure ≡ true → IsSurely space m question
-  pub free : found.is_sure ≡ false → IsFree space m question
 
 -- ** What a name stands for in a module.
 
@@ -298,17 +224,6 @@ pub data Finds (space : Space) (question : Question) : ModuleNo → Definition �
   found_around : (m up : ModuleNo) (d : Definition) → IsAroundBlock space m up → IsFree space m question → Finds space question up d → Finds space question m d
   found_everywhere : (m : ModuleNo) (d : Definition) → IsFree space m question → (IsOrdered space → IsOutermost space m) → IsEverywhere space question d
       → Finds space question m d
-
--- a block around or the module has something under a name that is there in each configuration
-pub data IsSurelyAround (space : Space) (question : Question) : ModuleNo → Type 0 where
-  surely_here : (m : ModuleNo) → IsSurely space m question → IsSurelyAround space question m
-  surely_around : (m up : ModuleNo) → IsAroundBlock space m up → IsSurelyAround space question up → IsSurelyAround space question m
-
--- what is found outward
-pub record IsAround (space : Space) (question : Question) (m : ModuleNo) (found : Found) : Type 0 where
-  pub means : (d : Definition) → found.meaning ≡ meanings.One d → Finds space question m d
-  pub sure : found.is_sure ≡ true → IsSurelyAround space question m
-  pub free : found.is_sure ≡ false → (d : Definition) → IsEverywhere space question d → Finds space question m d
 
 -- ** Where a path begins.
 
@@ -353,9 +268,6 @@ pub record Place : Type 0 where
   pub start : Start
   pub within : ModuleNo
   pub import : Option ImportNo
-
-abbrev pub place_of : PathQuestion → Place
-place_of path = record { start = path.start; within = path.«module»; import = path.import }
 
 -- what is asked for one of its names
 abbrev pub asked_in : Place → Namespace → Name → Question
@@ -402,13 +314,3 @@ pub data PathStandsFor (space : Space) (place : Place) : Namespace → List Name
   path_first : (n : Namespace) (name : Name) (d : Definition) → Begins space place (asked_in place n name) d → PathStandsFor space place n (name ∷ []) d
   path_behind : (n : Namespace) (names : List Name) (name : Name) (c d : Definition) → PathStandsFor space place ns.Type names c
       → IsBehind space (asked_in place n name) c d → PathStandsFor space place n (names ++ name ∷ []) d
-
--- what the first names of a path are found to stand for
-abbrev pub IsFront : Space → Place → List Name → Front → Type 0
-IsFront space place names fronts.Empty = names ≡ []
-IsFront space place names (fronts.Behind d) = PathStandsFor space place ns.Type names d
-IsFront space place names (fronts.Ended answer) = (d : Definition) → answer.meaning ≡ meanings.One d → ⊥
-
--- the same, of all names of a path but the last
-abbrev pub IsFrontOf : Space → Place → List Name → Front → Type 0
-IsFrontOf space place names front = (first : List Name) (last : Name) → names ≡ first ++ last ∷ [] → IsFront space place first front

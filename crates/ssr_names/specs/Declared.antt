@@ -1,0 +1,97 @@
+-- What names are looked up in, as far as it follows from what is declared.
+use Rattle.std.specs.Prelude.{ℕ, ◌≡◌, ◌⊎◌, false, List, Some, slice_get, All, Contains}
+use Rattle.ssr_names_items.specs.declared.table.Name.{Name}
+use Rattle.ssr_names_items.specs.declared.table.ItemNo.{ItemNo}
+use Rattle.ssr_names_items.specs.declared.table.Item.{Item}
+use Rattle.ssr_names_items.specs.declared.table.ItemKind.TheVariants as item_kinds
+use Rattle.ssr_names_items.specs.declared.table.Owner.{Owner}
+use Rattle.ssr_names_items.specs.declared.table.Owner.TheVariants as owners
+use Rattle.ssr_names_items.specs.declared.table.OwnCrate.{OwnCrate}
+use Rattle.ssr_names_items.specs.declared.table.CrateKind.TheVariants as crate_kinds
+use Rattle.ssr_names_items.specs.declared.table.Impl.{Impl}
+use Rattle.ssr_names_items.specs.declared.table.Table.{Table}
+use Rattle.ssr_names_items.specs.Names.{number_of}
+use Rattle.ssr_names.specs.declared.definitions.Definition.TheVariants as def
+use Rattle.ssr_names.specs.declared.space.Alias.{Alias}
+use Rattle.ssr_names.specs.declared.space.Known.{Known}
+use Rattle.ssr_names.specs.declared.space.Member.{Member}
+use Rattle.ssr_names.specs.declared.space.Space.{Space}
+use Rattle.ssr_names.specs.Lookup.{IsOutside}
+
+-- another table declares the same, and has each name by the number that it had
+pub record Declares (old new : Table) : Type 0 where
+  pub crates : new.crates ≡ old.crates
+  pub modules : new.modules ≡ old.modules
+  pub entries : new.entries ≡ old.entries
+  pub items : new.items ≡ old.items
+  pub imports : new.imports ≡ old.imports
+  pub impls : new.impls ≡ old.impls
+  pub named : (text : List ℕ) (name : Name) → number_of old.names text ≡ Some name → number_of new.names text ≡ Some name
+
+-- Two items are one: they have one name, and stand at one place. So an item is there once for each place where its file is a module.
+pub record IsSameItem (table : Table) (i j : ItemNo) : Type 0 where
+  pub row : Item
+  pub same : Item
+  pub is_row : slice_get table.items.items i.0 ≡ Some row
+  pub is_same : slice_get table.items.items j.0 ≡ Some same
+  pub node : same.node ≡ row.node
+  pub name : same.name ≡ row.name
+
+-- a name is known as that of a library of the run, by its root
+pub record IsLibrary (table : Table) (known : Known) : Type 0 where
+  pub own : OwnCrate
+  pub among : Contains table.crates.items own
+  pub kind : own.kind ≡ crate_kinds.Library
+  pub named : known.name ≡ own.name
+  pub root : known.definition ≡ def.Module own.root
+
+-- a name is known as that of a crate: of a library of the run, or of a crate that isn't read
+abbrev pub IsCrate : Table → Known → Type 0
+IsCrate table known = IsLibrary table known ⊎ IsOutside known.definition
+
+-- what has this owner is a part of an item: a variant of an enum, an item of a trait, or one of an `impl` that is of no trait
+abbrev pub IsPart : Table → Owner → ItemNo → Type 0
+IsPart table owners.Module of = ⊥
+IsPart table (owners.Item i) of = IsSameItem table i of
+IsPart table (owners.Impl i) of = (block : Impl) × (slice_get table.impls.items i.0 ≡ Some block) × (block.of_trait ≡ false)
+
+-- an item is a part of another one
+pub record IsMember (table : Table) (member : Member) : Type 0 where
+  pub part : ItemNo
+  pub row : Item
+  pub is : slice_get table.items.items part.0 ≡ Some row
+  pub named : member.name ≡ row.name
+  pub same : IsSameItem table part member.item
+  pub of : IsPart table row.owner member.of
+
+-- a name is known as that of a macro of the run
+pub record IsMacroItem (table : Table) (known : Known) : Type 0 where
+  pub item : ItemNo
+  pub first : ItemNo
+  pub row : Item
+  pub is : slice_get table.items.items item.0 ≡ Some row
+  pub kind : row.kind ≡ item_kinds.Macro
+  pub named : known.name ≡ row.name
+  pub same : IsSameItem table item first
+  pub stands : known.definition ≡ def.Item first
+
+-- an alias is a `type` item
+abbrev pub IsTypeAlias : Table → Alias → Type 0
+IsTypeAlias table alias = (row : Item) × (slice_get table.items.items alias.item.0 ≡ Some row) × (row.kind ≡ item_kinds.TypeAlias)
+
+-- What is looked up in is what its table declares. What a `type` item is an alias of, and which type an `impl` is for, isn't said.
+pub record IsOfTable (space : Space) : Type 0 where
+  pub items : (i j : ItemNo) → slice_get space.first_items.items i.0 ≡ Some j → IsSameItem space.table.now i j
+  pub crates : All (IsCrate space.table.now) space.crates.items
+  pub builtin : All (λ known. IsOutside known.definition) space.builtin_types.items
+  pub members : All (IsMember space.table.now) space.members.items
+  pub macros : All (IsMacroItem space.table.now) space.macros.items
+  pub aliases : All (IsTypeAlias space.table.now) space.aliases.items
+
+-- what is looked up in later has the same answers, and may have further aliases and members
+pub record IsLater (old new : Space) : Type 0 where
+  pub table : new.table ≡ old.table
+  pub answers : new.answers ≡ old.answers
+  pub items : new.first_items ≡ old.first_items
+  pub crates : new.crates ≡ old.crates
+  pub builtin : new.builtin_types ≡ old.builtin_types
