@@ -7,3 +7,4 @@ mod Following
 mod Settling
 mod Telling
 mod Spelling
+mod Copying

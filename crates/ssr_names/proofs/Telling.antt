@@ -1,18 +1,27 @@
 -- What rows tell of paths.
-use Rattle.std.proofs.Common.{◌≡◌, List, Option, Some, None, slice_get, refl, sym, ap, ◌∙◌, subst, inl, inr, ◌⊎◌}
+use Rattle.std.proofs.Common.{ℕ, ◌≡◌, List, codes, Option, Some, None, slice_get, refl, sym, ap, ◌∙◌, subst, inl, inr, ◌⊎◌}
 use Rattle.std.specs.BTreeMap.{BTreeMap, get}
 use Rattle.ssr_base_trees.specs.declared.ids.NodeId.{NodeId}
 use Rattle.ssr_base_trees.specs.declared.ids.DefId.{DefId}
 use Rattle.ssr_base_trees.specs.declared.semantics.Res.{Res}
 use Rattle.ssr_base_trees.specs.declared.semantics.Res.TheVariants as res
-use Rattle.ssr_base_trees.specs.Workspace.{PlacedTree}
+use Rattle.ssr_syntax_tree.specs.Syntax.{Syntax}
+use Rattle.ssr_base_trees.specs.declared.ids.ScopeId.{ScopeId}
+use Rattle.ssr_base_trees.specs.Workspace.{PlacedTree, Workspace, trees, tree_of, with_number}
+use Rattle.std.proofs.lemmas.Option.{none-some, same_Some}
+use Rattle.std.specs.Option.{option_map}
+use Rattle.ssr_names_items.specs.declared.table.ModuleNo.{ModuleNo}
+use Rattle.ssr_names_items.specs.declared.table.Table.{Table}
+use Rattle.ssr_names_items.specs.Names.{number_of}
+use Rattle.ssr_names.specs.declared.provider.Names.{Names}
 use Rattle.ssr_names_items.specs.declared.table.Name.{Name}
 use Rattle.ssr_names.specs.declared.definitions.Definition.{Definition}
 use Rattle.ssr_names.specs.declared.definitions.Meaning.TheVariants as meanings
 use Rattle.ssr_names.specs.declared.resolving.Row.{Row}
 use Rattle.ssr_names.specs.declared.scopes.TreeScopes.{TreeScopes}
 use Rattle.ssr_names.specs.declared.space.Space.{Space}
-use Rattle.ssr_names.specs.Told.{IsNumbered, StandsAt}
+use Rattle.ssr_names.specs.Declarations.{Declares}
+use Rattle.ssr_names.specs.Told.{IsNumbered, IsReady, IsToldIn, StandsAt, TellsWhatStands}
 use Rattle.ssr_names.specs.Private.Rows.{AreKnown, IsAdded, TellsRow}
 use Rattle.ssr_names.specs.Private.Scopes.{scope_in}
 
@@ -30,8 +39,59 @@ module _ (space : Space) (stranger : Name) (scopes : List TreeScopes) (ts : List
       elim (added path r told) [
         | inl had ↦ all path r had
         | inr one ↦ (
-            d,
-            subst (λ (x : Res). IsNumbered definitions x d) (sym one.1) numbered,
-            subst (λ (x : NodeId). StandsAt space stranger (scope_in scopes) ts x d) (sym one.0) (tells d is),
-          )
+          d,
+          subst (λ (x : Res). IsNumbered definitions x d) (sym one.1) numbered,
+          subst (λ (x : NodeId). StandsAt space stranger (scope_in scopes) ts x d) (sym one.0) (tells d is),
+        )
       ]
+
+-- the tree of a number, with what is known of where it stands
+pub placed_at : (w : Workspace) (t : ℕ) (tree : Syntax) → Some tree ≡ tree_of w t → (p : PlacedTree) × (with_number (trees w) t ≡ Some p) × (p.syntax ≡ tree)
+placed_at w t tree is = from (with_number (trees w) t) refl (sym is)
+  where
+    from : (o : Option PlacedTree) → with_number (trees w) t ≡ o → option_map (λ p. p.syntax) o ≡ Some tree → (p : PlacedTree) × (with_number (trees w) t ≡ Some p) × (p.syntax ≡ tree)
+    from None held told = absurd (none-some tree told)
+    from (Some p) held told = (p, held, same_Some p.syntax tree told)
+
+-- what a path of a tree stands for in the module of its scope, it stands for there
+pub stands_in : (space : Space) (stranger : Name) (scopes : List TreeScopes) (w : Workspace) (node : NodeId) (tree : Syntax) (m : ModuleNo) (scope : ScopeId) (d : Definition)
+    → Some tree ≡ tree_of w node.tree → scope_in scopes node ≡ Some scope → m.0 ≡ scope.0 → IsToldIn space stranger tree node.node.0 m d
+    → StandsAt space stranger (scope_in scopes) (trees w) node d
+stands_in space stranger scopes w node tree m scope d is within same told =
+    let placed = placed_at w node.tree tree is in
+    let module_of : ℕ → ModuleNo = λ n. record { 0 = n } in
+    record {
+      placed = placed.0;
+      is = placed.1;
+      scope = scope;
+      within = within;
+      told = subst (λ (t : Syntax). IsToldIn space stranger t node.node.0 (module_of scope.0) d) (sym placed.2)
+          (subst (λ (n : ℕ). IsToldIn space stranger tree node.node.0 (module_of n) d) same told);
+    }
+
+-- what declares the same as what declares the same
+pub declares_on : (a b c : Table) → Declares a b → Declares b c → Declares a c
+declares_on a b c first then = record {
+  crates = then.crates ∙ first.crates;
+  modules = then.modules ∙ first.modules;
+  entries = then.entries ∙ first.entries;
+  items = then.items ∙ first.items;
+  imports = then.imports ∙ first.imports;
+  impls = then.impls ∙ first.impls;
+  names = λ text name had. then.names text name (first.names text name had);
+}
+
+-- what rows tell, the provider by these rows tells
+pub tells_rows : (table mid final : Table) (ts : List PlacedTree) (names : Names) (space : Space) (stranger : Name) (definitions : List Definition) (scopes : List TreeScopes) (known : BTreeMap NodeId Res)
+    → Declares table mid → Declares mid final → space.table.now ≡ final → number_of final.names (codes "?") ≡ Some stranger → IsReady space
+    → names.scopes.trees.items ≡ scopes → names.known ≡ known → AreKnown space stranger scopes ts definitions known → TellsWhatStands table ts names
+tells_rows table mid final ts names space stranger definitions scopes known first then held unknown ready scopes_are known_are are = record {
+  space = space;
+  stranger = stranger;
+  is_stranger = subst (λ (t : Table). number_of t.names (codes "?") ≡ Some stranger) (sym held) unknown;
+  definitions = definitions;
+  declared = subst (λ (t : Table). Declares table t) (sym held) (declares_on table mid final first then);
+  ready = ready;
+  stands = subst (λ (k : BTreeMap NodeId Res). AreKnown space stranger names.scopes.trees.items ts definitions k) (sym known_are)
+      (subst (λ (s : List TreeScopes). AreKnown space stranger s ts definitions known) (sym scopes_are) are);
+}

@@ -4,6 +4,6 @@ pub mod Lookup
 pub mod WholePaths
 pub mod Settled
 pub mod CodePaths
-pub mod Declared
+pub mod Declarations
 pub mod Told
 pub mod Private

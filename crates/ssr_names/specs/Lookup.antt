@@ -32,7 +32,6 @@ use Rattle.ssr_names.specs.declared.space.Member.{Member}
 use Rattle.ssr_names.specs.declared.space.Known.{Known}
 use Rattle.ssr_names.specs.declared.space.Space.{Space}
 
-
 -- ** What is declared.
 
 -- a path of a crate that isn't read

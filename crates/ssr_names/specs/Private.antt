@@ -8,3 +8,4 @@ pub mod Answered
 pub mod Settling
 pub mod Macros
 pub mod Rows
+pub mod Copies

@@ -16,12 +16,12 @@ use Rattle.ssr_names_items.specs.declared.table.Namespace.TheVariants as ns
 use Rattle.ssr_names_items.specs.declared.table.Start.{Start}
 use Rattle.ssr_names_items.specs.declared.table.Start.TheVariants as starts
 use Rattle.ssr_names_items.specs.declared.table.Table.{Table}
-use Rattle.ssr_names_items.specs.Names.{text_of}
+use Rattle.ssr_names_items.specs.Names.{number_of, text_of}
 use Rattle.ssr_names.specs.declared.definitions.Definition.{Definition}
 use Rattle.ssr_names.specs.declared.provider.Names.{Names}
 use Rattle.ssr_names.specs.declared.space.Space.{Space}
 use Rattle.ssr_names.specs.CodePaths.{IsSpelledAs}
-use Rattle.ssr_names.specs.Declared.{Declares, IsOfTable, IsLater}
+use Rattle.ssr_names.specs.Declarations.{Declares, IsLater, IsOfTable}
 use Rattle.ssr_names.specs.Lookup.{Place}
 use Rattle.ssr_names.specs.Provider.{told}
 use Rattle.ssr_names.specs.Settled.{IsSettled}
@@ -72,18 +72,26 @@ abbrev pub IsNumbered : List Definition → Res → Definition → Type 0
 IsNumbered definitions (res.Def n) d = slice_get definitions n.0 ≡ Some d
 IsNumbered definitions r d = ⊥
 
--- Each path that is told to stand for a thing stands for the definition of that number, by the names of the table and by what
--- each import stands for.
-pub record TellsWhatStands (table : Table) (trees : List PlacedTree) (names : Names) : Type 0 where
-  -- what imports are looked up in, and what the paths of the code are
-  pub first : Space
-  pub space : Space
-  pub stranger : Name
-  pub definitions : List Definition
-  pub declared : Declares table space.table.now
+-- What is looked up in is ready: it is what its table declares, and imports are settled. They were looked up in what there was
+-- before it was known what `type` items are aliases of, and which types `impl`s are for.
+pub record IsReady (space : Space) : Type 0 where
   pub of_table : IsOfTable space
+  pub first : Space
   pub first_of_table : IsOfTable first
   pub later : IsLater first space
   pub settled : IsSettled first
+
+-- Each path that is told to stand for a thing stands for the definition of that number, by the names of the table and by what
+-- each import stands for.
+pub record TellsWhatStands (table : Table) (trees : List PlacedTree) (names : Names) : Type 0 where
+  -- what the paths of the code are looked up in
+  pub space : Space
+  -- what stands for each name that none of the run is
+  pub stranger : Name
+  pub is_stranger : number_of space.table.now.names (codes "?") ≡ Some stranger
+  -- the definitions by their numbers
+  pub definitions : List Definition
+  pub declared : Declares table space.table.now
+  pub ready : IsReady space
   pub stands : (path : NodeId) (r : Res) → (told names).path path ≡ Some r
       → (d : Definition) × IsNumbered definitions r d × StandsAt space stranger (told names).scope trees path d

@@ -6,7 +6,7 @@ ghost use Rattle.ssr_names.specs.Private.Meanings.{Means};
 ghost use Rattle.ssr_names.specs.Lookup.{PathStandsFor};
 ghost use Rattle.ssr_names.specs.Private.Answered.{IsFrontOf, place_of};
 ghost use Rattle.ssr_names.specs.Settled.{AreAnswers, IsSettled, IsSettledAt, import_no};
-ghost use Rattle.ssr_names.specs.Private.Settling.{KeepsTaken, turned};
+ghost use Rattle.ssr_names.specs.Private.Settling.{IsAnswered, KeepsTaken, turned};
 
 use crate::definitions::Meaning;
 use crate::lookup::{Front, PathQuestion};
@@ -86,6 +86,7 @@ fn import_no(place: usize) -> ImportNo
 
 /// Sets what an import stands for; whether that is new.
 fn set(space: &mut Space<'_>, place: usize, answers: Answers) -> bool
+    ensures answered { IsAnswered space.old space.new }
     ensures same { result ≡ false → space.new ≡ space.old }
     ensures held { result ≡ false → (had : Answers) → slice_get space.old.answers.items place ≡ Some had → had ≡ answers }
 {
@@ -106,7 +107,8 @@ fn renew(
     outside: &mut OutsidePaths,
     place: usize,
 ) -> Result<bool, AllocError>
-    ensures { IfOk result (λ is_new. is_new ≡ false → (space.new ≡ space.old) × IsSettledAt space.old place) }
+    ensures answered { OnOk result (IsAnswered space.old space.new) }
+    ensures settled { IfOk result (λ is_new. is_new ≡ false → (space.new ≡ space.old) × IsSettledAt space.old place) }
 {
     let table = space.table;
     let Some(import) = table.imports.get(place) else {
@@ -126,7 +128,8 @@ fn pass(
     outside: &mut OutsidePaths,
     is_backward: bool,
 ) -> Result<bool, AllocError>
-    ensures { IfOk result (λ is_changed. is_changed ≡ false → (space.new ≡ space.old) × IsSettled space.old) }
+    ensures answered { OnOk result (IsAnswered space.old space.new) }
+    ensures settled { IfOk result (λ is_changed. is_changed ≡ false → (space.new ≡ space.old) × IsSettled space.old) }
 {
     let count = space.answers.len();
     let mut is_changed = false;
@@ -147,7 +150,8 @@ fn turned(is_backward: bool, count: usize, step: usize) -> usize
 
 /// Takes each import without an answer as unknown; whether there is one.
 fn doubt_unanswered(space: &mut Space<'_>) -> bool
-    ensures { result ≡ false → space.new ≡ space.old }
+    ensures answered { IsAnswered space.old space.new }
+    ensures same { result ≡ false → space.new ≡ space.old }
 {
     if space.answers.iter().all(|answers| answers.is_something()) {
         return false;
@@ -167,7 +171,8 @@ fn doubt(
     outside: &mut OutsidePaths,
     place: usize,
 ) -> Result<bool, AllocError>
-    ensures { IfOk result (λ is_new. is_new ≡ false → (space.new ≡ space.old) × IsSettledAt space.old place) }
+    ensures answered { OnOk result (IsAnswered space.old space.new) }
+    ensures settled { IfOk result (λ is_new. is_new ≡ false → (space.new ≡ space.old) × IsSettledAt space.old place) }
 {
     let table = space.table;
     let Some(import) = table.imports.get(place) else {
@@ -189,7 +194,8 @@ fn doubt_unsettled(
     space: &mut Space<'_>,
     outside: &mut OutsidePaths,
 ) -> Result<bool, AllocError>
-    ensures { IfOk result (λ is_changed. is_changed ≡ false → (space.new ≡ space.old) × IsSettled space.old) }
+    ensures answered { OnOk result (IsAnswered space.old space.new) }
+    ensures settled { IfOk result (λ is_changed. is_changed ≡ false → (space.new ≡ space.old) × IsSettled space.old) }
 {
     let mut is_changed = false;
     for place in 0..space.answers.len() {
@@ -206,7 +212,8 @@ pub(crate) fn settle(
     space: &mut Space<'_>,
     outside: &mut OutsidePaths,
 ) -> Result<(), AllocError>
-    ensures { OnOk result (IsSettled space.new) }
+    ensures answered { OnOk result (IsAnswered space.old space.new) }
+    ensures settled { OnOk result (IsSettled space.new) }
 {
     for number in 0..MOST_PASSES {
         let is_backward = number % 2 == 1;

@@ -5,6 +5,7 @@ mod arguments;
 mod code_paths;
 mod copies;
 mod definitions;
+mod following;
 mod imports;
 mod kinds;
 mod locals;

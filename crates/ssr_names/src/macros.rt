@@ -10,7 +10,7 @@ ghost use Rattle.ssr_names.specs.Private.Macros.{IsAsType, IsMacro, IsOwnMacro};
 use crate::definitions::{Definition, Meaning};
 use crate::lookup::{PathAnswer, PathQuestion};
 use crate::outside::OutsidePaths;
-use crate::space::{Space, known_all};
+use crate::space::{Space, known_all, known_as};
 use crate::std_names::{has_no_std_macros, is_std_macro};
 use ssr_base_trees::NodeId;
 use ssr_names_items::{ItemNo, ModuleNo, Name, Namespace, Start, Thing};
@@ -29,10 +29,10 @@ impl<'a> Space<'a> {
     fn own_macros(&self, name: Name) -> OwnMacros
         ensures { IsOwnMacro self.now name result }
     {
-        match known_all(&self.macros, name) {
-            [] => OwnMacros::None,
-            [known] if known.name.0 == name.0 => match known.definition {
-                Definition::Item(item) => OwnMacros::One(item),
+        match known_all(&self.macros, name).len() {
+            0 => OwnMacros::None,
+            1 => match known_as(&self.macros, name) {
+                Some(Definition::Item(item)) => OwnMacros::One(item),
                 _ => OwnMacros::Several,
             },
             _ => OwnMacros::Several,
@@ -141,9 +141,8 @@ impl<'a> Space<'a> {
 
     /// Whether a module may have a macro of this name that isn't read.
     fn has_unknown_macro(&self, module: ModuleNo, name: Name) -> bool {
-        self.entries(module, name)
-            .iter()
-            .any(|entry| entry.namespace == Namespace::Macro && entry.thing == Thing::Unknown)
+        self.entries(module, name).iter().any(|entry| entry.namespace == Namespace::Macro
+            && entry.thing == Thing::Unknown)
     }
 
     /// What a macro's name stands for that some import brings in: an import of another crate's function or module brings in no

@@ -1,10 +1,13 @@
 //! The provider of a run, read of its sources.
-ghost use Rattle.std.specs.Prelude.{◌≡◌, List, None, IfOk, IfSome, OnOk, All};
+ghost use Rattle.std.specs.Prelude.{◌≡◌, List, Some, None, IfOk, IfSome, OnOk, All, codes};
+ghost use Rattle.ssr_names_items.specs.Names.{number_of};
 ghost use Rattle.std.specs.BTreeMap.{insert_entry};
 ghost use Rattle.ssr_base_trees.specs.contracts.ids.NodeIdOrd.TheImpl as id_order;
 ghost use Rattle.ssr_base_trees.specs.Built.{IsBuilt};
 ghost use Rattle.ssr_base_trees.specs.Workspace.{PlacedTree, trees as placed};
 ghost use Rattle.ssr_names.specs.Locals.{TellsNoLocal};
+ghost use Rattle.ssr_names.specs.Declarations.{Declares, IsOfTable};
+ghost use Rattle.ssr_names.specs.Told.{IsReady, TellsWhatStands};
 ghost use Rattle.ssr_names.specs.Private.Locals.{CollectsAll, HasNoLocal, IsRight};
 ghost use Rattle.ssr_names.specs.Private.Rows.{AreKnown, IsAdded, TellsRow};
 ghost use Rattle.ssr_names.specs.declared.scopes.TreeScopes.{TreeScopes};
@@ -53,11 +56,10 @@ fn add_all_names(
     table: &mut Table,
     crates: &[String],
     rules: &[RulePath],
-) -> Result<Vec<Name>, AllocError> {
-    let mut manifests = Vec::with_capacity(alloc, crates.len())?;
-    for name in crates {
-        manifests.push(table.names.add(name.as_str())?)?;
-    }
+) -> Result<Vec<Name>, AllocError>
+    ensures { OnOk result (Declares table.old table.new) }
+{
+    let mut manifests = added_names(alloc, table, crates)?;
     for path in rules {
         add_names(&mut table.names, path)?;
     }
@@ -68,8 +70,22 @@ fn add_all_names(
     Ok(manifests)
 }
 
+/// The numbers of names, which are added.
+fn added_names(alloc: Global, table: &mut Table, texts: &[String]) -> Result<Vec<Name>, AllocError>
+    ensures { OnOk result (Declares table.old table.new) }
+{
+    let mut names = Vec::with_capacity(alloc, texts.len())?;
+    for text in texts {
+        names.push(table.names.add(text.as_str())?)?;
+    }
+    Ok(names)
+}
+
 /// The names that stand for themselves.
-fn special_names(table: &mut Table) -> Result<Special, AllocError> {
+fn special_names(table: &mut Table) -> Result<Special, AllocError>
+    ensures declared { OnOk result (Declares table.old table.new) }
+    ensures stranger { IfOk result (λ special. number_of table.new.names (codes "?") ≡ Some special.stranger) }
+{
     Ok(Special {
         stranger: table.names.add("?")?,
         self_type: table.names.add("Self")?,
@@ -82,7 +98,10 @@ fn settle_all(
     source: &Source<'_>,
     space: &mut Space<'_>,
     outside: &mut OutsidePaths,
-) -> Result<Vec<ImplType>, AllocError> {
+) -> Result<Vec<ImplType>, AllocError>
+    ensures table { OnOk result (space.new.table ≡ space.old.table) }
+    ensures ready { IsOfTable space.old → OnOk result (IsReady space.new) }
+{
     let unsure = source.unsure_variants(space)?;
     space.unsure_variants = unsure;
     settle(source.alloc, space, outside)?;
@@ -340,7 +359,9 @@ fn names_of(
     rows: PathRows,
     printed: BTreeMap<PrintedKey, String>,
 ) -> Names
-    ensures { (trees : List PlacedTree) → HasNoLocal trees rows.known.entries → TellsNoLocal trees result }
+    ensures local { (trees : List PlacedTree) → HasNoLocal trees rows.known.entries → TellsNoLocal trees result }
+    ensures known { result.known ≡ rows.known }
+    ensures scopes { result.scopes ≡ scopes }
 {
     let Wanted {
         lookups,
@@ -375,7 +396,8 @@ pub fn read_names(
     rules: &[RulePath],
     position: NodeId,
 ) -> Result<Names, AllocError>
-    ensures { IfOk result (λ names. TellsNoLocal (placed trees.now) names) }
+    ensures local { IfOk result (λ names. TellsNoLocal (placed trees.now) names) }
+    ensures stands { IfOk result (λ names. TellsWhatStands table (placed trees.now) names) }
 {
     let manifests = add_all_names(alloc, &mut table, crates, rules)?;
     let special = special_names(&mut table)?;

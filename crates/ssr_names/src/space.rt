@@ -196,7 +196,7 @@ pub(crate) fn known_all(list: &[Known], name: Name) -> &[Known]
 }
 
 /// What a name is known as.
-fn known_as(list: &[Known], name: Name) -> Option<Definition>
+pub(crate) fn known_as(list: &[Known], name: Name) -> Option<Definition>
     ensures { IfSome result (IsKnown list.now name) }
 {
     match known_all(list, name).first() {

@@ -1,7 +1,7 @@
 //! The names of items and paths, numbered.
 
-ghost use Rattle.std.specs.Prelude.{◌≡◌};
-ghost use Rattle.ssr_names_items.specs.Names.{bare, number_of, text_of};
+ghost use Rattle.std.specs.Prelude.{◌≡◌, Some, IfOk, OnOk};
+ghost use Rattle.ssr_names_items.specs.Names.{KeepsNumbers, bare, number_of, text_of};
 
 use crate::table::Name;
 use std::alloc::{AllocError, Global};
@@ -56,7 +56,10 @@ impl Names {
     }
 
     /// The number of a name, which is added if it is none of these.
-    pub fn add(&mut self, text: &str) -> Result<Name, AllocError> {
+    pub fn add(&mut self, text: &str) -> Result<Name, AllocError>
+        ensures kept { OnOk result (KeepsNumbers self.old self.new) }
+        ensures numbered { IfOk result (λ name. number_of self.new text.now ≡ Some name) }
+    {
         if let Some(name) = self.number(text) {
             return Ok(name);
         }

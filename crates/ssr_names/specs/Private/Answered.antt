@@ -110,4 +110,3 @@ IsFront space place names (fronts.Ended answer) = (d : Definition) → answer.me
 -- the same, of all names of a path but the last
 abbrev pub IsFrontOf : Space → Place → List Name → Front → Type 0
 IsFrontOf space place names front = (first : List Name) (last : Name) → names ≡ first ++ last ∷ [] → IsFront space place first front
-

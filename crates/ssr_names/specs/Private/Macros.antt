@@ -1,5 +1,5 @@
 -- Private: how what is found of a macro's name agrees with what it stands for.
-use Rattle.std.specs.Prelude.{◌≡◌, Unit}
+use Rattle.std.specs.Prelude.{◌≡◌}
 use Rattle.ssr_names_items.specs.declared.table.Name.{Name}
 use Rattle.ssr_names_items.specs.declared.table.ItemNo.{ItemNo}
 use Rattle.ssr_names.specs.declared.definitions.Definition.{Definition}

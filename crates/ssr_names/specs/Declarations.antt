@@ -1,6 +1,5 @@
 -- What names are looked up in, as far as it follows from what is declared.
 use Rattle.std.specs.Prelude.{ℕ, ◌≡◌, ◌⊎◌, false, List, Some, slice_get, All, Contains}
-use Rattle.ssr_names_items.specs.declared.table.Name.{Name}
 use Rattle.ssr_names_items.specs.declared.table.ItemNo.{ItemNo}
 use Rattle.ssr_names_items.specs.declared.table.Item.{Item}
 use Rattle.ssr_names_items.specs.declared.table.ItemKind.TheVariants as item_kinds
@@ -10,7 +9,7 @@ use Rattle.ssr_names_items.specs.declared.table.OwnCrate.{OwnCrate}
 use Rattle.ssr_names_items.specs.declared.table.CrateKind.TheVariants as crate_kinds
 use Rattle.ssr_names_items.specs.declared.table.Impl.{Impl}
 use Rattle.ssr_names_items.specs.declared.table.Table.{Table}
-use Rattle.ssr_names_items.specs.Names.{number_of}
+use Rattle.ssr_names_items.specs.Names.{KeepsNumbers}
 use Rattle.ssr_names.specs.declared.definitions.Definition.TheVariants as def
 use Rattle.ssr_names.specs.declared.space.Alias.{Alias}
 use Rattle.ssr_names.specs.declared.space.Known.{Known}
@@ -26,7 +25,7 @@ pub record Declares (old new : Table) : Type 0 where
   pub items : new.items ≡ old.items
   pub imports : new.imports ≡ old.imports
   pub impls : new.impls ≡ old.impls
-  pub named : (text : List ℕ) (name : Name) → number_of old.names text ≡ Some name → number_of new.names text ≡ Some name
+  pub names : KeepsNumbers old.names new.names
 
 -- Two items are one: they have one name, and stand at one place. So an item is there once for each place where its file is a module.
 pub record IsSameItem (table : Table) (i j : ItemNo) : Type 0 where
@@ -36,6 +35,10 @@ pub record IsSameItem (table : Table) (i j : ItemNo) : Type 0 where
   pub is_same : slice_get table.items.items j.0 ≡ Some same
   pub node : same.node ≡ row.node
   pub name : same.name ≡ row.name
+
+-- each item is the one that is told to be the first of those that are the same
+abbrev pub AreFirst : Table → List ItemNo → Type 0
+AreFirst table firsts = (i j : ItemNo) → slice_get firsts i.0 ≡ Some j → IsSameItem table i j
 
 -- a name is known as that of a library of the run, by its root
 pub record IsLibrary (table : Table) (known : Known) : Type 0 where
@@ -81,7 +84,7 @@ IsTypeAlias table alias = (row : Item) × (slice_get table.items.items alias.ite
 
 -- What is looked up in is what its table declares. What a `type` item is an alias of, and which type an `impl` is for, isn't said.
 pub record IsOfTable (space : Space) : Type 0 where
-  pub items : (i j : ItemNo) → slice_get space.first_items.items i.0 ≡ Some j → IsSameItem space.table.now i j
+  pub items : AreFirst space.table.now space.first_items.items
   pub crates : All (IsCrate space.table.now) space.crates.items
   pub builtin : All (λ known. IsOutside known.definition) space.builtin_types.items
   pub members : All (IsMember space.table.now) space.members.items
