@@ -1,5 +1,5 @@
 -- Items that are one, as each is told of in a list.
-use Rattle.std.proofs.Common.{◌≡◌, ℕ, zero, suc, ◌<◌, List, [], ◌∷◌, ◌++◌, length, set, slice_get, Some, None, refl, sym, ap, ◌∙◌, subst, inl, inr, ◌⊎◌, arith}
+use Rattle.std.proofs.Common.{◌≡◌, ℕ, zero, suc, ◌+◌, ◌<◌, List, [], ◌∷◌, ◌++◌, length, length-append, set, slice_get, Some, None, refl, sym, ap, ◌∙◌, subst, inl, inr, ◌⊎◌, arith}
 use Rattle.std.proofs.lemmas.Option.{none-some, same_Some}
 use Rattle.ssr_names_items.specs.declared.table.Item.{Item}
 use Rattle.ssr_names_items.specs.declared.table.ItemNo.{ItemNo}
@@ -28,6 +28,10 @@ some_within (x ∷ xs) (suc i) within = some_within xs i (omega arith)
 
 pub same_number : (i j : ItemNo) → i.0 ≡ j.0 → i ≡ j
 same_number i j is = let of : ℕ → ItemNo = λ n. record { 0 = n } in ap of is
+
+-- one more
+pub one_longer : {A : Type 0} (xs new : List A) (x : A) (n : ℕ) → new ≡ xs ++ x ∷ [] → length xs ≡ n → length new ≡ n + 1
+one_longer xs new x n added count = ap length added ∙ length-append xs (x ∷ []) ∙ ap (λ k. k + 1) count
 
 -- an item is the same as itself
 pub itself : (table : Table) (i : ItemNo) (row : Item) → slice_get table.items.items i.0 ≡ Some row → IsSameItem table i i

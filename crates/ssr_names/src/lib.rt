@@ -5,7 +5,6 @@ mod arguments;
 mod code_paths;
 mod copies;
 mod definitions;
-mod following;
 mod imports;
 mod kinds;
 mod locals;
