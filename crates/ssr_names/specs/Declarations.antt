@@ -1,5 +1,5 @@
 -- What names are looked up in, as far as it follows from what is declared.
-use Rattle.std.specs.Prelude.{ℕ, ◌≡◌, ◌⊎◌, false, List, Some, slice_get, All, Contains}
+use Rattle.std.specs.Prelude.{◌≡◌, ◌⊎◌, false, List, Some, slice_get, All, Contains}
 use Rattle.ssr_names_items.specs.declared.table.ItemNo.{ItemNo}
 use Rattle.ssr_names_items.specs.declared.table.Item.{Item}
 use Rattle.ssr_names_items.specs.declared.table.ItemKind.TheVariants as item_kinds
@@ -82,19 +82,26 @@ pub record IsMacroItem (table : Table) (known : Known) : Type 0 where
 abbrev pub IsTypeAlias : Table → Alias → Type 0
 IsTypeAlias table alias = (row : Item) × (slice_get table.items.items alias.item.0 ≡ Some row) × (row.kind ≡ item_kinds.TypeAlias)
 
--- What is looked up in is what its table declares. What a `type` item is an alias of, and which type an `impl` is for, isn't said.
-pub record IsOfTable (space : Space) : Type 0 where
-  pub items : AreFirst space.table.now space.first_items.items
-  pub crates : All (IsCrate space.table.now) space.crates.items
-  pub builtin : All (λ known. IsOutside known.definition) space.builtin_types.items
-  pub members : All (IsMember space.table.now) space.members.items
-  pub macros : All (IsMacroItem space.table.now) space.macros.items
-  pub aliases : All (IsTypeAlias space.table.now) space.aliases.items
+-- What is looked up in is what its table declares.
+pub record AreOfTable (table : Table) (firsts : List ItemNo) (crates builtin macros : List Known) : Type 0 where
+  pub items : AreFirst table firsts
+  pub crates : All (IsCrate table) crates
+  pub builtin : All (λ known. IsOutside known.definition) builtin
+  pub macros : All (IsMacroItem table) macros
 
--- what is looked up in later has the same answers, and may have further aliases and members
-pub record IsLater (old new : Space) : Type 0 where
-  pub table : new.table ≡ old.table
-  pub answers : new.answers ≡ old.answers
-  pub items : new.first_items ≡ old.first_items
-  pub crates : new.crates ≡ old.crates
-  pub builtin : new.builtin_types ≡ old.builtin_types
+abbrev pub IsOfTable : Space → Type 0
+IsOfTable space = AreOfTable space.table.now space.first_items.items space.crates.items space.builtin_types.items space.macros.items
+
+-- which type an `impl` is for isn't said
+abbrev pub HasMembers : Space → Type 0
+HasMembers space = All (IsMember space.table.now) space.members.items
+
+-- what a `type` item is an alias of isn't said
+abbrev pub HasAliases : Space → Type 0
+HasAliases space = All (IsTypeAlias space.table.now) space.aliases.items
+
+-- what is looked up in later has the same table and answers, and may have further aliases and members
+abbrev pub IsLater : Space → Space → Type 0
+IsLater old new =
+    (new.table ≡ old.table) × (new.answers ≡ old.answers) × (new.first_items ≡ old.first_items) × (new.crates ≡ old.crates)
+    × (new.builtin_types ≡ old.builtin_types) × (new.macros ≡ old.macros)

@@ -1,5 +1,5 @@
 -- What the sources say of each path of the code that is told to stand for something.
-use Rattle.std.specs.Prelude.{ℕ, ◌≡◌, ◌⊎◌, Bool, true, false, nat_lt, List, [], ◌∷◌, Option, Some, None, codes, slice_get, if◌then◌else◌}
+use Rattle.std.specs.Prelude.{ℕ, ◌≡◌, ◌⊎◌, Bool, true, false, nat_lt, List, [], Option, Some, None, bytes_eq, codes, slice_get, if◌then◌else◌}
 use Rattle.ssr_syntax_kinds.specs.declared.kinds.SyntaxKind.{SyntaxKind}
 use Rattle.ssr_syntax_kinds.specs.declared.kinds.SyntaxKind.TheVariants as k
 use Rattle.ssr_syntax_tree.specs.Syntax.{Syntax}
@@ -21,7 +21,7 @@ use Rattle.ssr_names.specs.declared.definitions.Definition.{Definition}
 use Rattle.ssr_names.specs.declared.provider.Names.{Names}
 use Rattle.ssr_names.specs.declared.space.Space.{Space}
 use Rattle.ssr_names.specs.CodePaths.{IsSpelledAs}
-use Rattle.ssr_names.specs.Declarations.{Declares, IsLater, IsOfTable}
+use Rattle.ssr_names.specs.Declarations.{Declares, HasAliases, HasMembers, IsLater, IsOfTable}
 use Rattle.ssr_names.specs.Lookup.{Place}
 use Rattle.ssr_names.specs.Provider.{told}
 use Rattle.ssr_names.specs.Settled.{IsSettled}
@@ -42,10 +42,9 @@ namespace_of tree n = if nat_lt 0 n then namespace_in (node_of tree (node_of tre
 -- a path begins with `Self`
 pub record BeginsWithSelf (space : Space) (start : Start) (names : List Name) : Type 0 where
   pub first : Name
-  pub rest : List Name
-  pub is : names ≡ first ∷ rest
+  pub is : slice_get names 0 ≡ Some first
   pub plain : start ≡ starts.Plain
-  pub named : text_of space.table.now.names first ≡ codes "Self"
+  pub named : bytes_eq (text_of space.table.now.names first) (codes "Self") ≡ true
 
 -- what a path stands for that is spelled in a module; of one that begins with `Self` nothing is said
 abbrev pub IsTold : Space → ModuleNo → Start → List Name → Namespace → Definition → Type 0
@@ -76,8 +75,12 @@ IsNumbered definitions r d = ⊥
 -- before it was known what `type` items are aliases of, and which types `impl`s are for.
 pub record IsReady (space : Space) : Type 0 where
   pub of_table : IsOfTable space
+  pub members : HasMembers space
+  pub aliases : HasAliases space
   pub first : Space
   pub first_of_table : IsOfTable first
+  pub first_members : HasMembers first
+  pub first_aliases : first.aliases.items ≡ []
   pub later : IsLater first space
   pub settled : IsSettled first
 

@@ -1,12 +1,12 @@
 //! Files that are modules at several places: what they declare is there once for each, and is one thing.
 
-ghost use Rattle.std.specs.Prelude.{◌≡◌, ◌≤◌, true, length, IfOk, IfSome, All};
+ghost use Rattle.std.specs.Prelude.{◌≡◌, ◌≤◌, true, length, slice_get, IfOk, IfSome, All};
 ghost use Rattle.ssr_names_items.specs.declared.table.Table.{Table};
 ghost use Rattle.ssr_names.specs.Declarations.{AreFirst};
 ghost use Rattle.ssr_names.specs.Private.Copies.{IsItemPlace, IsSamePlace};
 
 use ssr_base_trees::NodeId;
-use ssr_names_items::{ItemNo, ModuleNo, Name, Table};
+use ssr_names_items::{Item, ItemNo, ModuleNo, Name, Table};
 use std::alloc::{AllocError, Global};
 
 /// At how many places a file is looked at that is a module there.
@@ -27,32 +27,6 @@ pub(crate) struct ModulePlace {
     pub(crate) module: ModuleNo,
 }
 
-/// Where an item stands.
-fn item_place(table: &Table, number: u32) -> Option<ItemPlace>
-    ensures { IfSome result (IsItemPlace table.now) }
-{
-    let item = table.items.get(number as usize).copied()?;
-    Some(ItemPlace {
-        node: item.node,
-        name: item.name,
-        item: ItemNo(number),
-    })
-}
-
-/// The items by where they stand.
-fn item_places(alloc: Global, table: &Table) -> Result<Vec<ItemPlace>, AllocError>
-    ensures { IfOk result (λ places. All (IsItemPlace table.now) places.items) }
-{
-    let mut places = Vec::new(alloc);
-    for number in 0..item_count(table) {
-        if let Some(place) = item_place(table, number) {
-            places.push(place)?;
-        }
-    }
-    places.sort()?;
-    Ok(places)
-}
-
 /// How many items have a number.
 pub(crate) fn item_count(table: &Table) -> u32
     ensures { result ≤ length table.now.items.items }
@@ -65,15 +39,39 @@ pub(crate) fn item_count(table: &Table) -> u32
     }
 }
 
-/// Each item, as the first one that stands where it does.
-fn own_items(alloc: Global, table: &Table) -> Result<Vec<ItemNo>, AllocError>
-    ensures { IfOk result (λ firsts. AreFirst table.now firsts.items) }
+/// The item of a number.
+pub(crate) fn item_row(table: &Table, item: ItemNo) -> Option<Item>
+    ensures { result ≡ slice_get table.now.items.items item.0 }
 {
-    let mut firsts = Vec::new(alloc);
+    table.items.get(item.0 as usize).copied()
+}
+
+/// Where an item stands.
+fn item_place(table: &Table, item: ItemNo) -> Option<ItemPlace>
+    ensures place { IfSome result (IsItemPlace table.now) }
+    ensures item { IfSome result (λ place. place.item ≡ item) }
+{
+    let row = item_row(table, item)?;
+    Some(ItemPlace {
+        node: row.node,
+        name: row.name,
+        item,
+    })
+}
+
+/// The items by where they stand.
+fn item_places(alloc: Global, table: &Table) -> Result<Vec<ItemPlace>, AllocError>
+    ensures { IfOk result (λ places. All (IsItemPlace table.now) places.items) }
+{
+    let mut places = Vec::new(alloc);
     for number in 0..item_count(table) {
-        firsts.push(ItemNo(number))?;
+        let Some(place) = item_place(table, ItemNo(number)) else {
+            break;
+        };
+        places.push(place)?;
     }
-    Ok(firsts)
+    places.sort()?;
+    Ok(places)
 }
 
 /// Whether an item has the name of another one, and stands where that does.
@@ -85,13 +83,17 @@ fn is_same_place(one: ItemPlace, other: ItemPlace) -> bool
         && one.name.0 == other.name.0
 }
 
-/// The first item of those that stand where an item does, if the first one so far is this.
-fn first_at(first: Option<ItemPlace>, place: ItemPlace) -> ItemPlace
-    ensures same { IsSamePlace place result }
-    ensures place { (table : Table) → IfSome first (IsItemPlace table) → IsItemPlace table place → IsItemPlace table result }
+/// The first of the items that stand where an item does, among all by where they stand.
+fn first_at(places: &[ItemPlace], place: ItemPlace) -> ItemPlace
+    ensures { (table : Table) → All (IsItemPlace table) places.now → IsItemPlace table place → IsItemPlace table result × IsSamePlace place result }
 {
-    match first {
-        Some(had) if is_same_place(place, had) => had,
+    let lowest = ItemPlace {
+        item: ItemNo(0),
+        ..place
+    };
+    let first = places.partition_point(|other| *other < lowest);
+    match places.get(first).copied() {
+        Some(found) if is_same_place(place, found) => found,
         _ => place,
     }
 }
@@ -101,14 +103,13 @@ pub(crate) fn first_items(alloc: Global, table: &Table) -> Result<Vec<ItemNo>, A
     ensures { IfOk result (λ firsts. AreFirst table.now firsts.items) }
 {
     let places = item_places(alloc, table)?;
-    let mut firsts = own_items(alloc, table)?;
-    let mut first: Option<ItemPlace> = None;
-    for place in &places {
-        let found = first_at(first, *place);
-        first = Some(found);
-        if let Some(held) = firsts.get_mut(place.item.0 as usize) {
-            *held = found.item;
-        }
+    let mut firsts = Vec::new(alloc);
+    for number in 0..item_count(table) {
+        let Some(place) = item_place(table, ItemNo(number)) else {
+            break;
+        };
+        let first = first_at(&places, place);
+        firsts.push(first.item)?;
     }
     Ok(firsts)
 }

@@ -1,17 +1,18 @@
 //! The names of a run, made ready to be looked up.
 
-ghost use Rattle.std.specs.Prelude.{◌≡◌, slice_get, IfOk, IfSome, OnOk, All};
+ghost use Rattle.std.specs.Prelude.{◌≡◌, true, [], slice_get, IfOk, IfSome, OnOk, All};
 ghost use Rattle.ssr_names_items.specs.Names.{KeepsNumbers};
 ghost use Rattle.ssr_names.specs.Lookup.{IsOutside};
-ghost use Rattle.ssr_names.specs.Declarations.{AreFirst, IsCrate, IsMacroItem, IsMember, IsOfTable};
+ghost use Rattle.ssr_names.specs.Declarations.{AreFirst, IsCrate, IsMacroItem, HasMembers, IsMember, IsOfTable};
 
-use crate::copies::{first_items, item_count, module_places};
+use crate::copies::{first_items, item_count, item_row, module_places};
 use crate::definitions::{Definition, Meaning, OutsideNo};
 use crate::outside::OutsidePaths;
 use crate::space::{Answers, Glob, Known, Member, Space};
 use crate::std_names::{BUILTIN_TYPES, PRELUDE, PreludeName, SECOND_PATHS, SecondPath, is_std};
 use ssr_names_items::{
-    Brings, CrateKind, ImportNo, ItemKind, ItemNo, Name, Names, Namespace, Owner, Table, Thing,
+    Brings, CrateKind, ImportNo, Item, ItemKind, ItemNo, Name, Names, Namespace, Owner, Table,
+    Thing,
 };
 use std::alloc::{AllocError, Global};
 
@@ -259,14 +260,16 @@ fn member_at(table: &Table, firsts: &[ItemNo], number: u32) -> Option<Member>
     requires { AreFirst table.now firsts.now }
     ensures { IfSome result (IsMember table.now) }
 {
-    let item = table.items.get(number as usize).copied()?;
-    let Owner::Item(of) = item.owner else {
+    let item = item_row(table, ItemNo(number))?;
+    let Owner::Item(owner) = item.owner else {
         return None;
     };
+    let of = first_of(firsts, owner)?;
+    let first = first_of(firsts, ItemNo(number))?;
     Some(Member {
-        of: first_of(firsts, of)?,
+        of,
         name: item.name,
-        item: first_of(firsts, ItemNo(number))?,
+        item: first,
     })
 }
 
@@ -286,18 +289,26 @@ fn members(alloc: Global, table: &Table, firsts: &[ItemNo]) -> Result<Vec<Member
     Ok(members)
 }
 
+/// Whether an item is a macro.
+fn is_macro(item: Item) -> bool
+    ensures { result ≡ true → item.kind ≡ ItemKind.Macro }
+{
+    item.kind == ItemKind::Macro
+}
+
 /// An item as a macro of the run, if it is one.
 fn macro_at(table: &Table, firsts: &[ItemNo], number: u32) -> Option<Known>
     requires { AreFirst table.now firsts.now }
     ensures { IfSome result (IsMacroItem table.now) }
 {
-    let item = table.items.get(number as usize).copied()?;
-    if item.kind != ItemKind::Macro {
+    let item = item_row(table, ItemNo(number))?;
+    if !is_macro(item) {
         return None;
     }
+    let first = first_of(firsts, ItemNo(number))?;
     Some(Known {
         name: item.name,
-        definition: Definition::Item(first_of(firsts, ItemNo(number))?),
+        definition: Definition::Item(first),
     })
 }
 
@@ -327,6 +338,8 @@ impl<'a> Space<'a> {
     ) -> Result<Space<'a>, AllocError>
         ensures table { IfOk result (λ space. space.table ≡ table.entry) }
         ensures of_table { IfOk result IsOfTable }
+        ensures members { IfOk result HasMembers }
+        ensures aliases { IfOk result (λ space. space.aliases.items ≡ []) }
     {
         let std = outside.child(None, number(&table.names, "std"))?;
         add_seconds(outside, &table.names, std, &SECOND_PATHS[..])?;

@@ -1,12 +1,12 @@
 //! The provider of a run, read of its sources.
-ghost use Rattle.std.specs.Prelude.{◌≡◌, List, Some, None, IfOk, IfSome, OnOk, All, codes};
+ghost use Rattle.std.specs.Prelude.{◌≡◌, List, [], Some, None, IfOk, IfSome, OnOk, All, codes};
 ghost use Rattle.ssr_names_items.specs.Names.{number_of};
 ghost use Rattle.std.specs.BTreeMap.{insert_entry};
 ghost use Rattle.ssr_base_trees.specs.contracts.ids.NodeIdOrd.TheImpl as id_order;
 ghost use Rattle.ssr_base_trees.specs.Built.{IsBuilt};
 ghost use Rattle.ssr_base_trees.specs.Workspace.{PlacedTree, trees as placed};
 ghost use Rattle.ssr_names.specs.Locals.{TellsNoLocal};
-ghost use Rattle.ssr_names.specs.Declarations.{Declares, IsOfTable};
+ghost use Rattle.ssr_names.specs.Declarations.{Declares, HasMembers, IsOfTable};
 ghost use Rattle.ssr_names.specs.Told.{IsReady, TellsWhatStands};
 ghost use Rattle.ssr_names.specs.Private.Locals.{CollectsAll, HasNoLocal, IsRight};
 ghost use Rattle.ssr_names.specs.Private.Rows.{AreKnown, IsAdded, TellsRow};
@@ -25,7 +25,7 @@ use crate::resolving::{BoundIn, ImplType, Resolver, Row, by_nodes};
 use crate::rule_paths::{RulePath, add_names};
 use crate::scopes::Scopes;
 use crate::space::Space;
-use crate::types::{Source, add_inherent, follow_aliases, is_alias};
+use crate::types::{Source, followed_aliases, is_alias, with_inherent};
 use crate::wanted::Wanted;
 use crate::words::{Word, Words};
 use ssr_base_trees::{DefId, NodeId, Res, ScopeId, Trees};
@@ -99,18 +99,23 @@ fn settle_all(
     space: &mut Space<'_>,
     outside: &mut OutsidePaths,
 ) -> Result<Vec<ImplType>, AllocError>
+    requires of_table { IsOfTable space.old }
+    requires members { HasMembers space.old }
+    requires aliases { space.old.aliases.items ≡ [] }
     ensures table { OnOk result (space.new.table ≡ space.old.table) }
-    ensures ready { IsOfTable space.old → OnOk result (IsReady space.new) }
+    ensures ready { OnOk result (IsReady space.new) }
 {
     let unsure = source.unsure_variants(space)?;
     space.unsure_variants = unsure;
     settle(source.alloc, space, outside)?;
     let aliases = source.aliases(space, outside)?;
     space.aliases = aliases;
-    follow_aliases(space);
+    let followed = followed_aliases(source.alloc, space)?;
+    space.aliases = followed;
     let types = source.impl_types(space, outside)?;
     space.impl_types = types;
-    add_inherent(space)?;
+    let members = with_inherent(source.alloc, space)?;
+    space.members = members;
     by_nodes(source.alloc, &space.table.impls, &space.impl_types)
 }
 

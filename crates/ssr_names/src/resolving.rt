@@ -297,10 +297,10 @@ impl<'r> Resolver<'r> {
     fn begins_with_self(&self, path: &CodePath) -> bool
         ensures { result ≡ true → path.now.start ≡ Start.Plain → BeginsWithSelf self.now.space.now path.now.start path.now.names.items }
     {
-        match path.names.first() {
-            Some(first) => self.space.text(*first) == "Self",
-            None => false,
-        }
+        let Some(first) = path.names.get(0).copied() else {
+            return false;
+        };
+        self.space.text(first) == "Self"
     }
 
     /// What a path stands for that is spelled in a place.

@@ -1,7 +1,7 @@
 //! What types of `impl`s and type aliases stand for.
-ghost use Rattle.std.specs.Prelude.{IfOk, IfSome, OnOk, All};
+ghost use Rattle.std.specs.Prelude.{IfOk, IfSome, All};
 ghost use Rattle.ssr_syntax_tree.specs.Places.{HasNode};
-ghost use Rattle.ssr_names.specs.Declarations.{IsLater, IsMember, IsOfTable, IsPart, IsTypeAlias};
+ghost use Rattle.ssr_names.specs.Declarations.{HasAliases, HasMembers, IsMember, IsOfTable, IsPart, IsTypeAlias};
 
 use crate::code_paths::code_path;
 use crate::copies::item_count;
@@ -240,19 +240,25 @@ pub(crate) fn followed(space: &Space<'_>, meaning: Meaning) -> Meaning {
     Meaning::Unknown
 }
 
-/// Lets each alias be what it is behind all aliases.
-pub(crate) fn follow_aliases(space: &mut Space<'_>)
-    ensures of_table { IsOfTable space.old → IsOfTable space.new }
-    ensures later { IsLater space.old space.new }
+/// The aliases, each as what it is behind all aliases.
+pub(crate) fn followed_aliases(alloc: Global, space: &Space<'_>) -> Result<Vec<Alias>, AllocError>
+    requires { HasAliases space.now }
+    ensures { IfOk result (λ aliases. All (IsTypeAlias space.now.table.now) aliases.items) }
 {
-    for place in 0..space.aliases.len() {
-        let Some(alias) = space.aliases.get(place).copied() else {
-            break;
-        };
-        let meaning = followed(space, alias.meaning);
-        if let Some(held) = space.aliases.get_mut(place) {
-            held.meaning = meaning;
-        }
+    let mut aliases = Vec::with_capacity(alloc, space.aliases.len())?;
+    for alias in &space.aliases {
+        aliases.push(followed_alias(space, *alias))?;
+    }
+    Ok(aliases)
+}
+
+/// An alias as what it is behind all aliases.
+fn followed_alias(space: &Space<'_>, alias: Alias) -> Alias
+    ensures { IsTypeAlias space.now.table.now alias → IsTypeAlias space.now.table.now result }
+{
+    Alias {
+        item: alias.item,
+        meaning: followed(space, alias.meaning),
     }
 }
 
@@ -272,30 +278,35 @@ fn inherent_type(space: &Space<'_>, block: ImplNo) -> Option<ItemNo>
 
 /// An item of an inherent `impl` as a member of its type.
 fn inherent_member(space: &Space<'_>, number: ItemNo) -> Option<Member>
-    ensures { IsOfTable space.now → IfSome result (IsMember space.now.table.now) }
+    requires { IsOfTable space.now }
+    ensures { IfSome result (IsMember space.now.table.now) }
 {
     let item = space.item(number)?;
     let Owner::Impl(block) = item.owner else {
         return None;
     };
+    let of = inherent_type(space, block)?;
     Some(Member {
-        of: inherent_type(space, block)?,
+        of,
         name: item.name,
         item: space.first_item(number),
     })
 }
 
-/// Adds the items of inherent `impl`s to the members of their types.
-pub(crate) fn add_inherent(space: &mut Space<'_>) -> Result<(), AllocError>
-    ensures of_table { IsOfTable space.old → OnOk result (IsOfTable space.new) }
-    ensures later { OnOk result (IsLater space.old space.new) }
+/// The members, and with them the items of inherent `impl`s as those of their types.
+pub(crate) fn with_inherent(alloc: Global, space: &Space<'_>) -> Result<Vec<Member>, AllocError>
+    requires of_table { IsOfTable space.now }
+    requires members { HasMembers space.now }
+    ensures { IfOk result (λ members. All (IsMember space.now.table.now) members.items) }
 {
+    let mut members = Vec::from_slice(alloc, &space.members)?;
     for number in 0..item_count(space.table) {
-        if let Some(member) = inherent_member(space, ItemNo(number)) {
-            space.members.push(member)?;
-        }
+        let Some(member) = inherent_member(space, ItemNo(number)) else {
+            continue;
+        };
+        members.push(member)?;
     }
-    space.members.sort()?;
-    space.members.dedup();
-    Ok(())
+    members.sort()?;
+    members.dedup();
+    Ok(members)
 }
