@@ -1,6 +1,6 @@
 -- The segments of a path, read from the last one on.
 use Rattle.std.proofs.Common.{◌≡◌, ℕ, List, [], ◌∷◌, ◌++◌, Some, None, refl, sym, ap, ◌∙◌, subst, append_assoc}
-use Rattle.std.proofs.lemmas.List.{reverse-append}
+use Rattle.std.proofs.lemmas.List.{append-nil, reverse-append}
 use Rattle.std.specs.Prelude.{reverse}
 use Rattle.ssr_syntax_kinds.specs.declared.kinds.SyntaxKind.TheVariants as k
 use Rattle.ssr_syntax_tree.specs.Syntax.{Syntax}
@@ -26,3 +26,8 @@ module _ (names : Names) (stranger : Name) (tree : Syntax) (path at : Node) (fou
   pub segments_end : first_of_kind k.PATH (parts_of at) ≡ None → AreSegments names stranger tree path (reverse new)
   segments_end none =
       subst (AreSegments names stranger tree path) (sym turned) (so_far (segment ∷ []) (segments_one at segment none is))
+
+-- before any is read
+pub segments_none : (names : Names) (stranger : Name) (tree : Syntax) (path : Node) (first : List Segment) → AreSegments names stranger tree path first
+    → AreSegments names stranger tree path (first ++ [])
+segments_none names stranger tree path first are = subst (AreSegments names stranger tree path) (sym (append-nil first)) are

@@ -21,7 +21,10 @@ use Rattle.ssr_names.specs.declared.resolving.Row.{Row}
 use Rattle.ssr_names.specs.declared.scopes.TreeScopes.{TreeScopes}
 use Rattle.ssr_names.specs.declared.space.Space.{Space}
 use Rattle.ssr_names.specs.Declarations.{Declares}
-use Rattle.ssr_names.specs.Told.{IsNumbered, IsReady, IsToldIn, StandsAt, TellsWhatStands}
+use Rattle.ssr_names.specs.Told.{IsNumbered, IsReady, IsTold, IsToldIn, StandsAt, TellsWhatStands, namespace_of}
+use Rattle.ssr_names.specs.CodePaths.{IsSpelledAs}
+use Rattle.ssr_names_items.specs.declared.table.Namespace.{Namespace}
+use Rattle.ssr_names_items.specs.declared.table.Start.{Start}
 use Rattle.ssr_names.specs.Private.Rows.{AreKnown, IsAdded, TellsRow}
 use Rattle.ssr_names.specs.Private.Scopes.{scope_in}
 
@@ -95,3 +98,17 @@ tells_rows table mid final ts names space stranger definitions scopes known firs
   stands = subst (λ (k : BTreeMap NodeId Res). AreKnown space stranger names.scopes.trees.items ts definitions k) (sym known_are)
       (subst (λ (s : List TreeScopes). AreKnown space stranger s ts definitions known) (sym scopes_are) are);
 }
+
+-- a row of a path tells what that stands for in the module of its scope
+pub tells_in : (space : Space) (stranger : Name) (scopes : List TreeScopes) (w : Workspace) (node : NodeId) (tree : Syntax) (m : ModuleNo) (row : Row)
+    → Some tree ≡ tree_of w node.tree → (scope : ScopeId) × (scope_in scopes node ≡ Some scope) × (m.0 ≡ scope.0) → row.node ≡ node
+    → ((d : Definition) → row.meaning ≡ meanings.One d → IsToldIn space stranger tree node.node.0 m d) → TellsRow space stranger scopes (trees w) row
+tells_in space stranger scopes w node tree m row is scope same told d means =
+    subst (λ (x : NodeId). StandsAt space stranger (scope_in scopes) (trees w) x d) (sym same)
+    (stands_in space stranger scopes w node tree m scope.0 d is scope.1 scope.2 (told d means))
+
+-- what is found of the names of a path as it is spelled
+pub told_in : (space : Space) (stranger : Name) (tree : Syntax) (path : ℕ) (m : ModuleNo) (start : Start) (names : List Name) (n : Namespace) (d : Definition)
+    → IsSpelledAs space.table.now.names stranger tree path start names → n ≡ namespace_of tree path → IsTold space m start names n d → IsToldIn space stranger tree path m d
+told_in space stranger tree path m start names n d spelled same told =
+    record { start = start; names = names; spelled = spelled; told = subst (λ (k : Namespace). IsTold space m start names k d) same told }

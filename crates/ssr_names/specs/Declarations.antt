@@ -83,11 +83,11 @@ abbrev pub IsTypeAlias : Table → Alias → Type 0
 IsTypeAlias table alias = (row : Item) × (slice_get table.items.items alias.item.0 ≡ Some row) × (row.kind ≡ item_kinds.TypeAlias)
 
 -- What is looked up in is what its table declares.
-pub record AreOfTable (table : Table) (firsts : List ItemNo) (crates builtin macros : List Known) : Type 0 where
+pub record AreOfTable (table : Table) (firsts : List ItemNo) (libraries types declared : List Known) : Type 0 where
   pub items : AreFirst table firsts
-  pub crates : All (IsCrate table) crates
-  pub builtin : All (λ known. IsOutside known.definition) builtin
-  pub macros : All (IsMacroItem table) macros
+  pub crates : All (IsCrate table) libraries
+  pub builtin : All (λ known. IsOutside known.definition) types
+  pub macros : All (IsMacroItem table) declared
 
 abbrev pub IsOfTable : Space → Type 0
 IsOfTable space = AreOfTable space.table.now space.first_items.items space.crates.items space.builtin_types.items space.macros.items

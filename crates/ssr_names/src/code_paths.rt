@@ -99,7 +99,8 @@ fn segments(
     let mut found = Vec::new(alloc);
     let mut at = path;
     for _ in 0..MOST_SEGMENTS {
-        found.push(segment_of(tree, at, names, stranger))?;
+        let segment = segment_of(tree, at, names, stranger);
+        found.push(segment)?;
         match first_child(tree, at, SyntaxKind::PATH) {
             Some(front) => at = front,
             None => return Ok(found),

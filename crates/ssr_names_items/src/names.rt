@@ -67,8 +67,8 @@ impl Names {
             return Err(AllocError);
         }
         let name = Name(self.texts.len() as u32);
-        self.numbers
-            .insert(String::from_str(self.alloc, bare(text))?, name)?;
+        let key = String::from_str(self.alloc, bare(text))?;
+        self.numbers.insert(key, name)?;
         self.texts.push(String::from_str(self.alloc, bare(text))?)?;
         Ok(name)
     }

@@ -9,5 +9,5 @@ abbrev pub invariant-loop : goal.invariant-loop
 invariant-loop l = record {
   has : HasNode l.tree l.at.0;
   so_far : (first : List Segment) → AreSegments l.names l.stranger l.tree (node_of l.tree l.at.0) first
-      → AreSegments l.names l.stranger l.tree (node_of l.tree l.path.0) (first ++ reverse l.found.items);
+      → AreSegments l.names l.stranger l.tree (node_of l.tree l.fn.path.0) (first ++ reverse l.found.items);
 }
