@@ -1,4 +1,5 @@
 -- What rows tell of paths.
+use Rattle.std.specs.Prelude.{IfOk, Result, Ok, Err}
 use Rattle.std.proofs.Common.{ℕ, ◌≡◌, List, codes, Option, Some, None, slice_get, refl, sym, ap, ◌∙◌, subst, inl, inr, ◌⊎◌}
 use Rattle.std.specs.BTreeMap.{BTreeMap, get}
 use Rattle.ssr_base_trees.specs.declared.ids.NodeId.{NodeId}
@@ -23,6 +24,11 @@ use Rattle.ssr_names.specs.declared.space.Space.{Space}
 use Rattle.ssr_names.specs.Declarations.{Declares}
 use Rattle.ssr_names.specs.Told.{IsNumbered, IsReady, IsTold, IsToldIn, StandsAt, TellsWhatStands, namespace_of}
 use Rattle.ssr_names.specs.CodePaths.{IsSpelledAs}
+use Rattle.ssr_names.specs.Lookup.{IsOutside, Place}
+use Rattle.ssr_names.specs.WholePaths.{WholeStandsFor, whole_path, whole_type, whole_own_macro, whole_macro}
+use Rattle.ssr_names.specs.Private.Macros.{IsAsType, type_itself, type_outside}
+use Rattle.ssr_names.specs.declared.definitions.Meaning.{Meaning}
+use Rattle.ssr_names_items.specs.declared.table.Namespace.TheVariants as ns
 use Rattle.ssr_names_items.specs.declared.table.Namespace.{Namespace}
 use Rattle.ssr_names_items.specs.declared.table.Start.{Start}
 use Rattle.ssr_names.specs.Private.Rows.{AreKnown, IsAdded, TellsRow}
@@ -112,3 +118,25 @@ pub told_in : (space : Space) (stranger : Name) (tree : Syntax) (path : ℕ) (m 
     → IsSpelledAs space.table.now.names stranger tree path start names → n ≡ namespace_of tree path → IsTold space m start names n d → IsToldIn space stranger tree path m d
 told_in space stranger tree path m start names n d spelled same told =
     record { start = start; names = names; spelled = spelled; told = subst (λ (k : Namespace). IsTold space m start names k d) same told }
+
+-- a type that isn't read stands for another one, where a path stands for the first
+as_whole_type : (space : Space) (place : Place) (n : Namespace) (names : List Name) (c d : Definition) → n ≡ ns.Type → IsOutside c → IsOutside d → WholeStandsFor space place n names c
+    → WholeStandsFor space place n names d
+as_whole_type space place n names c d type outside other (whole_path _ is) = whole_type c d type is outside other
+as_whole_type space place n names c d type outside other (whole_type b _ type_too is first _) = whole_type b d type is first other
+as_whole_type space place n names c d type outside other (whole_own_macro _ _ _ _ macro _ _ _) = let e : ns.Type ≡ ns.Macro = sym type ∙ macro in cc
+as_whole_type space place n names c d type outside other (whole_macro _ _ _ macro _ _) = let e : ns.Type ≡ ns.Macro = sym type ∙ macro in cc
+
+-- what stands for a type where something does is told as that is
+pub as_told : (space : Space) (m : ModuleNo) (start : Start) (names : List Name) (n : Namespace) (meaning : Meaning) → n ≡ ns.Type
+    → ((d : Definition) → meaning ≡ meanings.One d → IsTold space m start names n d) → (d : Definition) → IsAsType meaning d → IsTold space m start names n d
+as_told space m start names n meaning type had d (type_itself _ is) = had d is
+as_told space m start names n meaning type had d (type_outside c _ is outside other) = elim (had c is) [
+  | inl whole ↦ inl (as_whole_type space _ n names c d type outside other whole)
+  | inr own ↦ inr own
+]
+
+-- what holds of each value holds where there is one
+pub if_ok_all : {T E : Type 0} (r : Result T E) (P : T → Type 0) → ((x : T) → P x) → IfOk r P
+if_ok_all (Ok x) P all = all x
+if_ok_all (Err e) P all = tt

@@ -1,5 +1,6 @@
 -- What the sources say of each path of the code that is told to stand for something.
 use Rattle.std.specs.Prelude.{ℕ, ◌≡◌, ◌⊎◌, Bool, true, false, nat_lt, List, [], Option, Some, None, bytes_eq, codes, slice_get, if◌then◌else◌}
+use Rattle.std.specs.Option.{option_map_or}
 use Rattle.ssr_syntax_kinds.specs.declared.kinds.SyntaxKind.{SyntaxKind}
 use Rattle.ssr_syntax_kinds.specs.declared.kinds.SyntaxKind.TheVariants as k
 use Rattle.ssr_syntax_tree.specs.Syntax.{Syntax}
@@ -39,12 +40,13 @@ namespace_in kind = ns.Type
 abbrev pub namespace_of : Syntax → ℕ → Namespace
 namespace_of tree n = if nat_lt 0 n then namespace_in (node_of tree (node_of tree n).parent).kind else ns.Type
 
+-- whether the first one of some names is `Self`
+abbrev pub begins_with_self : Space → List Name → Bool
+begins_with_self space names = option_map_or (λ first. bytes_eq (text_of space.table.now.names first) (codes "Self")) (slice_get names 0) false
+
 -- a path begins with `Self`
-pub record BeginsWithSelf (space : Space) (start : Start) (names : List Name) : Type 0 where
-  pub first : Name
-  pub is : slice_get names 0 ≡ Some first
-  pub plain : start ≡ starts.Plain
-  pub named : bytes_eq (text_of space.table.now.names first) (codes "Self") ≡ true
+abbrev pub BeginsWithSelf : Space → Start → List Name → Type 0
+BeginsWithSelf space start names = (start ≡ starts.Plain) × (begins_with_self space names ≡ true)
 
 -- what a path stands for that is spelled in a module; of one that begins with `Self` nothing is said
 abbrev pub IsTold : Space → ModuleNo → Start → List Name → Namespace → Definition → Type 0

@@ -5,7 +5,7 @@ ghost use Rattle.ssr_base_trees.specs.Built.{IsBuilt};
 ghost use Rattle.ssr_base_trees.specs.Workspace.{trees as placed};
 ghost use Rattle.ssr_names.specs.Private.Meanings.{Means};
 ghost use Rattle.ssr_base_trees.specs.declared.ids.ScopeId.{ScopeId};
-ghost use Rattle.ssr_names.specs.Told.{BeginsWithSelf, IsTold, IsToldIn, namespace_of};
+ghost use Rattle.ssr_names.specs.Told.{BeginsWithSelf, IsTold, IsToldIn, begins_with_self, namespace_of};
 ghost use Rattle.ssr_names.specs.Private.Rows.{TellsRow};
 ghost use Rattle.ssr_names.specs.Private.Scopes.{scope_in};
 ghost use Rattle.ssr_names.specs.Private.Locals.{BindAll, BindAround, CollectsAll, IsRight, StaysBound};
@@ -293,14 +293,24 @@ impl<'r> Resolver<'r> {
         Ok(answer)
     }
 
-    /// Whether the first name of a path is `Self`.
-    fn begins_with_self(&self, path: &CodePath) -> bool
-        ensures { result ≡ true → path.now.start ≡ Start.Plain → BeginsWithSelf self.now.space.now path.now.start path.now.names.items }
+    /// Whether the first one of some names is `Self`.
+    fn begins_with_self(&self, names: &[Name]) -> bool
+        ensures { result ≡ begins_with_self self.now.space.now names.now }
     {
-        let Some(first) = path.names.get(0).copied() else {
-            return false;
-        };
-        self.space.text(first) == "Self"
+        match names.get(0).copied() {
+            Some(first) => self.space.text(first) == "Self",
+            None => false,
+        }
+    }
+
+    /// Whether a path begins with `Self`.
+    fn is_behind_self(&self, path: &CodePath) -> bool
+        ensures { result ≡ true → BeginsWithSelf self.now.space.now path.now.start path.now.names.items }
+    {
+        match path.start {
+            Start::Plain => self.begins_with_self(&path.names),
+            _ => false,
+        }
     }
 
     /// What a path stands for that is spelled in a place.
@@ -311,21 +321,19 @@ impl<'r> Resolver<'r> {
     ) -> Result<PathAnswer, AllocError>
         ensures { IfOk result (λ answer. Means answer.meaning (IsTold self.now.space.now spelled.entry.«module» spelled.entry.path.now.start spelled.entry.path.now.names.items spelled.entry.namespace)) }
     {
-        let path = spelled.path;
-        let first = path.names.first().copied();
-        let is_plain = path.start == Start::Plain;
-        if is_plain && spelled.place.is_generic {
+        let code = spelled.path;
+        if code.start == Start::Plain && spelled.place.is_generic {
             return Ok(PathAnswer {
                 meaning: Meaning::Unknown,
-                name: first,
+                name: code.names.first().copied(),
             });
         }
-        if is_plain && self.begins_with_self(path) {
+        if self.is_behind_self(code) {
             return self.behind_self(outside, spelled);
         }
         let question = PathQuestion {
-            start: path.start,
-            names: &path.names,
+            start: code.start,
+            names: &code.names,
             namespace: spelled.namespace,
             module: spelled.module,
             import: None,
@@ -348,12 +356,12 @@ impl<'r> Resolver<'r> {
             Some(name) => is_in_type_module(name),
             None => false,
         };
-        if is_module || spelled.namespace != Namespace::Type {
-            return answer;
-        }
-        PathAnswer {
-            meaning: self.space.as_type(outside, answer.meaning),
-            ..answer
+        match spelled.namespace {
+            Namespace::Type if !is_module => PathAnswer {
+                meaning: self.space.as_type(outside, answer.meaning),
+                ..answer
+            },
+            _ => answer,
         }
     }
 
@@ -399,6 +407,28 @@ impl<'r> Resolver<'r> {
         }))
     }
 
+    /// What is told of a macro's path.
+    fn macro_told(
+        &self,
+        outside: &mut OutsidePaths,
+        spelled: Spelled<'_>,
+    ) -> Result<PathAnswer, AllocError>
+        ensures { IfOk result (λ answer. Means answer.meaning (IsTold self.now.space.now spelled.entry.«module» spelled.entry.path.now.start spelled.entry.path.now.names.items spelled.entry.namespace)) }
+    {
+        let question = PathQuestion {
+            start: spelled.path.start,
+            names: &spelled.path.names,
+            namespace: spelled.namespace,
+            module: spelled.module,
+            import: None,
+        };
+        let answer = self.space.whole_path(self.source.alloc, outside, question)?;
+        Ok(PathAnswer {
+            meaning: self.space.macro_at(spelled.node, answer.meaning),
+            ..answer
+        })
+    }
+
     /// What is told of a path.
     fn told(
         &self,
@@ -409,18 +439,7 @@ impl<'r> Resolver<'r> {
         ensures { IfOk result (λ answer. Means answer.meaning (IsTold self.now.space.now spelled.entry.«module» spelled.entry.path.now.start spelled.entry.path.now.names.items spelled.entry.namespace)) }
     {
         if spelled.namespace == Namespace::Macro {
-            let question = PathQuestion {
-                start: spelled.path.start,
-                names: &spelled.path.names,
-                namespace: Namespace::Macro,
-                module: spelled.module,
-                import: None,
-            };
-            let answer = self.space.whole_path(self.source.alloc, outside, question)?;
-            return Ok(PathAnswer {
-                meaning: self.space.macro_at(spelled.node, answer.meaning),
-                ..answer
-            });
+            return self.macro_told(outside, spelled);
         }
         let answer = self.meaning_of(outside, spelled)?;
         Ok(self.with_behind(outside, spelled, answer, behind))

@@ -1,7 +1,6 @@
 //! What the paths of rules stand for, and under which names the code may have it.
 
-ghost use Rattle.std.specs.Prelude.{◌≡◌, Some, IfOk, IfSome, OnOk, slice_get};
-ghost use Rattle.ssr_names.specs.Private.Meanings.{Keeps};
+ghost use Rattle.std.specs.Prelude.{◌≡◌, Some, IfSome, slice_get};
 
 use crate::definitions::{Definition, Meaning};
 use crate::outside::OutsidePaths;
@@ -94,12 +93,17 @@ impl Wanted {
         ensures { IfSome result (λ number. slice_get self.now.definitions.items number.0 ≡ Some definition) }
     {
         let number = self.numbers.get(&definition).copied()?;
-        let held = self.definitions.get(number.0 as usize).copied()?;
-        if held.is(definition) {
-            Some(number)
-        } else {
-            None
+        match self.definition_at(number) {
+            Some(held) if held.is(definition) => Some(number),
+            _ => None,
         }
+    }
+
+    /// The definition of a number.
+    fn definition_at(&self, number: DefId) -> Option<Definition>
+        ensures { result ≡ slice_get self.now.definitions.items number.0 }
+    {
+        self.definitions.get(number.0 as usize).copied()
     }
 
     /// What a path with this last name is taken to stand for where that isn't known.
@@ -124,10 +128,7 @@ impl Wanted {
         outside: &OutsidePaths,
         definition: Definition,
         namespace: Namespace,
-    ) -> Result<DefId, AllocError>
-        ensures numbered { IfOk result (λ number. slice_get self.new.definitions.items number.0 ≡ Some definition) }
-        ensures kept { OnOk result (Keeps self.old.definitions.items self.new.definitions.items) }
-    {
+    ) -> Result<DefId, AllocError> {
         if let Some(number) = self.number(definition) {
             return Ok(number);
         }
