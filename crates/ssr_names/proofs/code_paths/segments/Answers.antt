@@ -1,13 +1,19 @@
-use Rattle.std.proofs.Common.{sym, inr}
+use Rattle.std.proofs.Common.{◌++◌, subst, sym, inr}
+use Rattle.std.specs.Prelude.{reverse}
 use Rattle.ssr_syntax_tree.specs.Places.{node_of}
+use Rattle.ssr_names.specs.CodePaths.{AreSegments}
 use Rattle.ssr_names.proofs.Spelling.{segments_on, segments_end, segments_none}
 use Rattle.ssr_names.proofs.code_paths.segments.Goals as goal
 
 pub loop-init : goal.loop-init
-loop-init c = record {
-  has = c.requires;
-  so_far = λ first are. segments_none c.args.names.now c.args.stranger c.args.tree.now (node_of c.args.tree.now c.args.path.0) first are;
-}
+loop-init c =
+    let tree = c.args.tree.now in
+    let path = node_of tree c.args.path.0 in
+    record {
+      has = c.requires;
+      so_far = λ first are. subst (λ xs. AreSegments c.args.names.now c.args.stranger tree path (first ++ reverse xs)) (sym c.new-found.ensures.items)
+          (segments_none c.args.names.now c.args.stranger tree path first are);
+    }
 
 pub loop-preserved : goal.loop-preserved
 loop-preserved c =
