@@ -15,5 +15,6 @@ still_numbered old new added n none updates text name had = tested (bytes_eq add
     tested true is = absurd (none-some name (sym none ∙ ap old ((bytes_eq-Decides added text).0 is) ∙ had))
     tested false is = updates text ∙ ap (λ b. cond b (Some n) (old text)) is ∙ had
 
+-- a name that is added has the number that it is given
 pub now_numbered : (old new : List ℕ → Option Name) (added : List ℕ) (n : Name) → ((text : List ℕ) → new text ≡ update bytes_eq old added (Some n) text) → new added ≡ Some n
 now_numbered old new added n updates = updates added ∙ ap (λ b. cond b (Some n) (old added)) ((bytes_eq-Decides added added).1 refl)
